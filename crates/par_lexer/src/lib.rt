@@ -1,1 +1,12 @@
+//! The words of a Paragon source: its bytes are cut into tokens, with their places.
+//!
+//! The crate also has the list and the name that every later layer builds its trees of. It knows
+//! no grammar and no name that a program declares, and it never repairs a faulty source.
 #![tactic(auto)]
+
+mod bytes;
+pub mod list;
+pub mod name;
+pub mod sign;
+pub mod token;
+pub mod word;
