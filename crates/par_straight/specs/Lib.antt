@@ -1,0 +1,4 @@
+pub mod Grammar
+pub mod Values
+pub mod Sentence
+pub mod Names
