@@ -16,7 +16,7 @@ module _ {Names Builders Values : Type 0} {g : Grammar Names Builders Values} wh
   decided {b = b} (more t e c) (more u f d) = let same_state : t ≡ u = cc in decided c (subst (λ x. Comes g x b) (sym same_state) d)
 
 -- the number, or 0
-abbrev unless : Bool → ℕ → ℕ
+abbrev pub unless : Bool → ℕ → ℕ
 unless true n = 0
 unless false n = n
 
@@ -45,15 +45,15 @@ module _ {Names : Type 0} (weight : Names → ℕ) (solid : Names → Bool) wher
   holds (_ ∷ s) = holds s
 
   -- what an alternative of a name has to meet
-  abbrev Lighter : {Builders : Type 0} → Bool → ℕ → Symbols Names Builders → Type 0
+  abbrev pub Lighter : {Builders : Type 0} → Bool → ℕ → Symbols Names Builders → Type 0
   Lighter false w symbols = lead symbols < w
   Lighter true w symbols = (lead symbols < w) × (holds symbols ≡ true)
 
-  abbrev LightIfAny : {Builders : Type 0} → Bool → ℕ → Option (Symbols Names Builders) → Type 0
+  abbrev pub LightIfAny : {Builders : Type 0} → Bool → ℕ → Option (Symbols Names Builders) → Type 0
   LightIfAny b w None = Unit {0}
   LightIfAny b w (Some symbols) = Lighter b w symbols
 
-  abbrev AllLight : {Builders : Type 0} → Bool → ℕ → List (Choice Names Builders) → Type 0
+  abbrev pub AllLight : {Builders : Type 0} → Bool → ℕ → List (Choice Names Builders) → Type 0
   AllLight b w [] = Unit {0}
   AllLight b w (c ∷ cs) = Lighter b w c.symbols × AllLight b w cs
 

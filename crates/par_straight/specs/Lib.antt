@@ -2,3 +2,4 @@ pub mod Grammar
 pub mod Values
 pub mod Sentence
 pub mod Names
+pub mod Conditions

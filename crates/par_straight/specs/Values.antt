@@ -16,8 +16,11 @@ use Rattle.par_straight.specs.declared.tree.Source.{Source}
 use Rattle.par_straight.specs.Grammar.{Names, Builders, NoIdents, NextIdent, NoClauses, NextClause, NoMembers, NextMember, NoTerms, NextTerm, Constant, Variable, Reading, NoStatements, NextLocal, NextAssign, NextCall, NextOpen, Whole, choices, otherwise}
 
 pub data Value : Type 0 where
-  read : Token → Value
-  idents : List Ident → Value
+  -- a token that is kept: a name, a number, or one that nothing is built of
+  id : Ident → Value
+  number : ℕ → Value
+  other : Value
+  ids : List Ident → Value
   clauses : List ClauseTree → Value
   members : List Member → Value
   term : Term → Value
@@ -28,74 +31,71 @@ pub data Value : Type 0 where
 abbrev pub Values : Type 0
 Values = List Value
 
-abbrev pub text : Kind → List ℕ
-text (kind.Name name) = name
-text _ = []
+abbrev pub read_kind : Kind → ℕ → Value
+read_kind (kind.Name name) at = id (record { name = name; at = at })
+read_kind (kind.Number n) at = number n
+read_kind _ at = other
 
-abbrev pub number : Kind → ℕ
-number (kind.Number n) = n
-number _ = 0
+abbrev pub read : Token → Value
+read token = read_kind token.kind token.from
 
-abbrev pub ident : Token → Ident
-ident x = record { name = text x.kind; at = x.from }
-
--- The last values are the first of the list. A builder leaves values that it does not fit.
+-- The last value is the first of the list. A builder leaves values that it does not fit.
 abbrev pub next_ident : Values → Values
-next_ident (read x ∷ idents xs ∷ vs) = idents (xs ++ ident x ∷ []) ∷ vs
+next_ident (id x ∷ ids xs ∷ vs) = ids (xs ++ x ∷ []) ∷ vs
 next_ident vs = vs
 
 abbrev pub next_clause : Values → Values
-next_clause (idents locks ∷ read actor ∷ clauses cs ∷ vs) = clauses (cs ++ record { actor = ident actor; locks = locks } ∷ []) ∷ vs
+next_clause (ids needed ∷ id actor ∷ clauses cs ∷ vs) = clauses (cs ++ record { actor = actor; locks = needed } ∷ []) ∷ vs
 next_clause vs = vs
 
 abbrev pub next_member : MemberKind → Values → Values
-next_member kind (read x ∷ clauses policy ∷ members ms ∷ vs) = members (ms ++ record { kind = kind; id = ident x; policy = policy } ∷ []) ∷ vs
-next_member kind vs = vs
+next_member k (id x ∷ clauses policy ∷ members ms ∷ vs) = members (ms ++ record { kind = k; id = x; policy = policy } ∷ []) ∷ vs
+next_member k vs = vs
 
 abbrev pub next_term : Values → Values
 next_term (term t ∷ sum ts ∷ vs) = sum (ts ++ t ∷ []) ∷ vs
 next_term vs = vs
 
 abbrev pub constant : Values → Values
-constant (read x ∷ vs) = term (leaf.Constant (number x.kind)) ∷ vs
+constant (number n ∷ vs) = term (leaf.Constant n) ∷ vs
 constant vs = vs
 
 abbrev pub variable : Values → Values
-variable (read x ∷ vs) = term (leaf.Variable (ident x)) ∷ vs
+variable (id x ∷ vs) = term (leaf.Variable x) ∷ vs
 variable vs = vs
 
 abbrev pub reading : Values → Values
-reading (read x ∷ vs) = term (leaf.Input (ident x)) ∷ vs
+reading (id x ∷ vs) = term (leaf.Input x) ∷ vs
 reading vs = vs
 
 abbrev pub next_local : Values → Values
-next_local (sum ts ∷ read x ∷ statements ss ∷ vs) = statements (ss ++ statement.Local (ident x) ts ∷ []) ∷ vs
+next_local (sum ts ∷ id x ∷ statements ss ∷ vs) = statements (ss ++ statement.Local x ts ∷ []) ∷ vs
 next_local vs = vs
 
 abbrev pub next_assign : Values → Values
-next_assign (sum ts ∷ read x ∷ statements ss ∷ vs) = statements (ss ++ statement.Assign (ident x) ts ∷ []) ∷ vs
+next_assign (sum ts ∷ id x ∷ statements ss ∷ vs) = statements (ss ++ statement.Assign x ts ∷ []) ∷ vs
 next_assign vs = vs
 
 abbrev pub next_call : Values → Values
-next_call (sum ts ∷ read x ∷ statements ss ∷ vs) = statements (ss ++ statement.Call (ident x) ts ∷ []) ∷ vs
+next_call (sum ts ∷ id x ∷ statements ss ∷ vs) = statements (ss ++ statement.Call x ts ∷ []) ∷ vs
 next_call vs = vs
 
 abbrev pub next_open : Values → Values
-next_open (read x ∷ statements ss ∷ vs) = statements (ss ++ statement.Open (ident x) ∷ []) ∷ vs
+next_open (id x ∷ statements ss ∷ vs) = statements (ss ++ statement.Open x ∷ []) ∷ vs
 next_open vs = vs
 
 abbrev pub build_whole : Values → Values
-build_whole (statements ss ∷ read method ∷ members ms ∷ read class ∷ idents locks ∷ idents actors ∷ vs) =
-    whole (record { actors = actors; locks = locks; class = ident class; members = ms; method = ident method; statements = ss }) ∷ vs
+build_whole (statements ss ∷ id method ∷ members ms ∷ id class ∷ ids locks ∷ ids actors ∷ vs) =
+    whole (record { actors = actors; locks = locks; class = class; members = ms; method = method; statements = ss }) ∷ vs
 build_whole vs = vs
 
 abbrev pub built : Builders → Values → Values
-built NoIdents vs = idents [] ∷ vs
+built NoIdents vs = ids [] ∷ vs
 built NextIdent vs = next_ident vs
 built NoClauses vs = clauses [] ∷ vs
 built NextClause vs = next_clause vs
 built NoMembers vs = members [] ∷ vs
-built (NextMember kind) vs = next_member kind vs
+built (NextMember k) vs = next_member k vs
 built NoTerms vs = sum [] ∷ vs
 built NextTerm vs = next_term vs
 built Constant vs = constant vs

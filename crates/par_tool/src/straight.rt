@@ -1,0 +1,4 @@
+//! Straight-line sources: their reader, what their names mean, and their check.
+
+pub mod cursor;
+pub mod reader;
