@@ -1,0 +1,4 @@
+pub mod Numbers
+pub mod Sees
+pub mod Order
+pub mod Normal

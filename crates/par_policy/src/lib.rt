@@ -1,1 +1,19 @@
+//! Paralocks policies over fixed actors and ground locks: who sees what, and which policy is at
+//! least as restrictive as which. Every contract here speaks of observers, an actor with a set of
+//! locks, and of plain sets; a layer above never looks into clause lists.
+//! This crate knows no names: actors, locks and policies of a program are numbers.
 #![tactic(auto)]
+
+mod clauses;
+mod locks;
+mod memory;
+mod normal;
+mod numbers;
+mod order;
+mod policies;
+
+pub use clauses::{Clause, clause_leq};
+pub use locks::Lockset;
+pub use memory::NoMemory;
+pub use order::{leq, leq_at, sees};
+pub use policies::Policy;

@@ -1,0 +1,5 @@
+pub mod Members
+pub mod Inserted
+pub mod Seen
+pub mod Below
+pub mod Kept

@@ -1,0 +1,82 @@
+// A finite set of numbers, which sets of locks and sets of policies are made of.
+ghost use Rattle.std.specs.Prelude.{◌≡◌, ◌||◌, [], OnOk, OnErr};
+ghost use Rattle.std.specs.List.{list_all};
+ghost use Rattle.par_policy.specs.Numbers.{IsAscending, has, within, Gains};
+
+use crate::memory::NoMemory;
+use std::alloc::{AllocError, Global};
+use std::marker::Model;
+
+#[derive(Drop)]
+pub(crate) struct NumberSet {
+    numbers: Vec<u16>,
+}
+
+impl Model for NumberSet {
+    ghost use Rattle.std.specs.Prelude.{ℕ, List};
+    ghost use Rattle.par_policy.specs.Numbers.{IsAscending};
+
+    ghost Value = { List ℕ };
+
+    ghost view = { λ s. s.numbers.items };
+
+    ghost invariant = { λ s. IsAscending s.numbers.items };
+}
+
+impl NumberSet {
+    pub(crate) fn new(alloc: Global) -> NumberSet
+        ensures { result ≡ [] }
+    {
+        NumberSet {
+            numbers: Vec::new(alloc),
+        }
+    }
+
+    pub(crate) fn as_slice(&self) -> &[u16]
+        ensures numbers { result.now ≡ self.now }
+        ensures ascending { IsAscending self.now }
+    {
+        self.numbers.as_slice()
+    }
+
+    pub(crate) fn has(&self, number: u16) -> bool
+        ensures { result ≡ has self.now number }
+    {
+        self.numbers.contains(&number)
+    }
+
+    pub(crate) fn within(&self, other: &NumberSet) -> bool
+        ensures { result ≡ within self.now other.now }
+    {
+        self.numbers.iter().all(|number| other.has(*number))
+    }
+
+    pub(crate) fn within_both(&self, one: &NumberSet, other: &NumberSet) -> bool
+        ensures { result ≡ list_all (λ n. has one.now n || has other.now n) self.now }
+    {
+        self.numbers
+            .iter()
+            .all(|number| one.has(*number) || other.has(*number))
+    }
+
+    pub(crate) fn insert(&mut self, number: u16) -> Result<(), NoMemory>
+        ensures ok { OnOk result (Gains self.old self.new number) }
+        ensures err { OnErr result (self.new ≡ self.old) }
+        ensures ascending { IsAscending self.new }
+    {
+        if let Err(place) = self.numbers.binary_search(&number) {
+            self.numbers.insert(place, number)?;
+        }
+        Ok(())
+    }
+}
+
+impl Clone for NumberSet {
+    ghost is_clone = { λ x y. y ≡ x };
+
+    fn clone(&self) -> Result<NumberSet, AllocError> {
+        Ok(NumberSet {
+            numbers: self.numbers.clone()?,
+        })
+    }
+}

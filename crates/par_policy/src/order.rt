@@ -1,0 +1,57 @@
+// The order of policies, and who sees them.
+ghost use Rattle.std.specs.Prelude.{◌≡◌, ◌↔◌, IsTrue};
+ghost use Rattle.std.specs.List.{list_all};
+ghost use Rattle.par_policy.specs.Sees.{sees, sees_at};
+ghost use Rattle.par_policy.specs.Order.{IsBelow, IsBelowAt};
+
+use crate::clauses::{allows, allows_at};
+use crate::locks::Lockset;
+use crate::policies::Policy;
+
+/// Whether the second policy is at least as restrictive as the first.
+pub fn leq(p: &Policy, q: &Policy) -> bool
+    ensures { IsTrue result ↔ IsBelow p.now q.now }
+{
+    each_clause_sees(q, p)
+}
+
+/// Whether the second policy is at least as restrictive as the first, specialised to these locks.
+pub fn leq_at(p: &Policy, locks: &Lockset, q: &Policy) -> bool
+    ensures { IsTrue result ↔ IsBelowAt p.now locks.now q.now }
+{
+    each_clause_sees_at(q, p, locks)
+}
+
+/// Whether the observer, this actor with these locks, sees the policy.
+pub fn sees(p: &Policy, actor: u8, locks: &Lockset) -> bool
+    ensures { result ≡ sees p.now actor locks.now }
+{
+    p.clauses()
+        .iter()
+        .any(|clause| allows(clause, actor, locks))
+}
+
+fn sees_at(p: &Policy, opened: &Lockset, actor: u8, locks: &Lockset) -> bool
+    ensures { result ≡ sees_at p.now opened.now actor locks.now }
+{
+    p.clauses()
+        .iter()
+        .any(|clause| allows_at(clause, opened, actor, locks))
+}
+
+// Whether each clause of the first policy, taken as an observer, sees the second.
+fn each_clause_sees(q: &Policy, p: &Policy) -> bool
+    ensures { result ≡ list_all (λ d. sees p.now d.actor d.locks) q.now }
+{
+    q.clauses()
+        .iter()
+        .all(|clause| sees(p, clause.actor, &clause.locks))
+}
+
+fn each_clause_sees_at(q: &Policy, p: &Policy, opened: &Lockset) -> bool
+    ensures { result ≡ list_all (λ d. sees_at p.now opened.now d.actor d.locks) q.now }
+{
+    q.clauses()
+        .iter()
+        .all(|clause| sees_at(p, opened, clause.actor, &clause.locks))
+}

@@ -1,0 +1,61 @@
+// Policies in normal form.
+ghost use Rattle.std.specs.Prelude.{◌≡◌, ◌++◌, [], ◌∷◌, IfOk, OnOk};
+ghost use Rattle.par_policy.specs.Sees.{IsSeenAlike};
+ghost use Rattle.par_policy.specs.Normal.{IsNormal};
+
+use crate::clauses::Clause;
+use crate::memory::NoMemory;
+use crate::normal::keep;
+use std::alloc::{AllocError, Global};
+use std::marker::Model;
+
+/// A policy, which contracts see as its list of clauses in normal form: no clause covers another
+/// one, and they ascend by actor and then by lock list.
+#[derive(Drop)]
+pub struct Policy {
+    clauses: Vec<Clause>,
+}
+
+impl Model for Policy {
+    ghost use Rattle.std.specs.Prelude.{List};
+    ghost use Rattle.par_policy.specs.declared.clauses.Clause.{Clause};
+    ghost use Rattle.par_policy.specs.Normal.{IsNormal};
+
+    ghost Value = { List Clause };
+
+    ghost view = { λ p. p.clauses.items };
+
+    ghost invariant = { λ p. IsNormal p.clauses.items };
+}
+
+impl Policy {
+    /// The policy of these clauses, in whatever order and however often they are listed.
+    pub fn of(alloc: Global, clauses: &[Clause]) -> Result<Policy, NoMemory>
+        ensures alike { IfOk result (λ p. IsSeenAlike p clauses.now) }
+        ensures normal { IfOk result (λ p. IsNormal p) }
+    {
+        let mut kept = Vec::new(alloc);
+        for clause in clauses {
+            keep(&mut kept, clause)?;
+        }
+        Ok(Policy { clauses: kept })
+    }
+
+    /// The clauses of the normal form. It takes no memory.
+    pub fn clauses(&self) -> &[Clause]
+        ensures list { result.now ≡ self.now }
+        ensures normal { IsNormal self.now }
+    {
+        self.clauses.as_slice()
+    }
+}
+
+impl Clone for Policy {
+    ghost is_clone = { λ x y. y ≡ x };
+
+    fn clone(&self) -> Result<Policy, AllocError> {
+        Ok(Policy {
+            clauses: self.clauses.clone()?,
+        })
+    }
+}
