@@ -8,5 +8,7 @@ mod bytes;
 pub mod list;
 pub mod name;
 pub mod sign;
+#[cfg(test)]
+mod tests;
 pub mod token;
 pub mod word;
