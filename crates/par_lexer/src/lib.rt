@@ -7,7 +7,9 @@
 mod bytes;
 pub mod list;
 pub mod name;
+pub mod piece;
 pub mod sign;
+mod table;
 #[cfg(test)]
 mod tests;
 pub mod token;
