@@ -1,11 +1,16 @@
 -- The reserved words and the signs of the language, each with its number.
-use Rattle.std.specs.Prelude.{ℕ, List, [], ◌∷◌, codes}
+use Rattle.std.specs.Prelude.{ℕ, List, [], ◌∷◌, map, codes}
+use Rattle.std.specs.Borrow.{Bor}
 use Rattle.par_lexer.specs.declared.word.TheConstants as word
 use Rattle.par_lexer.specs.declared.sign.TheConstants as sign
 
 -- a number, and the text that it stands for
 abbrev pub Row : Type 0
 Row = ℕ × List ℕ
+
+-- the rows of a table of the code
+abbrev pub rows : List (ℕ × Bor (List ℕ)) → List Row
+rows table = map (λ row. (row.0, row.1.now)) table
 
 -- the reserved words
 abbrev pub words : List Row

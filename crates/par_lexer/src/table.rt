@@ -1,5 +1,11 @@
 // The reserved words and the signs with their numbers, to look a text up in.
 
+ghost use Rattle.std.specs.Prelude.{◌≡◌, find, length};
+ghost use Rattle.std.specs.Option.{option_map};
+ghost use Rattle.std.specs.Str.{bytes_eq};
+ghost use Rattle.par_lexer.specs.Tables.{words, rows};
+ghost use Rattle.par_lexer.specs.Pieces.{begins, longest_sign};
+
 use crate::{sign, word};
 
 // The reserved words.
@@ -74,3 +80,41 @@ pub const SIGNS: [(u8, &[u8]); 31] = [
     (sign::OR, b"|"),
     (sign::XOR, b"^"),
 ];
+
+// The number of the first row with exactly this text.
+fn number_of(table: &[(u8, &[u8])], text: &[u8]) -> Option<u8>
+    ensures { result ≡ option_map (λ row. row.0) (find (λ row. bytes_eq row.1 text.now) (rows table.now)) }
+{
+    for (number, spelling) in table {
+        if *spelling == text {
+            return Some(*number);
+        }
+    }
+    None
+}
+
+// The number and the length of the first row with whose text the bytes begin.
+fn first_begun(table: &[(u8, &[u8])], bytes: &[u8]) -> Option<(u8, usize)>
+    ensures { result ≡ option_map (λ row. (row.0, length row.1)) (find (λ row. begins row.1 bytes.now) (rows table.now)) }
+{
+    for (number, spelling) in table {
+        if bytes.starts_with(*spelling) {
+            return Some((*number, spelling.len()));
+        }
+    }
+    None
+}
+
+// The number of a reserved word, or none where the text is no word.
+pub fn word_of(text: &[u8]) -> Option<u8>
+    ensures { result ≡ option_map (λ row. row.0) (find (λ row. bytes_eq row.1 text.now) words) }
+{
+    number_of(&WORDS, text)
+}
+
+// The number and the length of the longest sign that the bytes begin with.
+pub fn sign_of(bytes: &[u8]) -> Option<(u8, usize)>
+    ensures { result ≡ option_map (λ row. (row.0, length row.1)) (longest_sign bytes.now) }
+{
+    first_begun(&SIGNS, bytes)
+}
