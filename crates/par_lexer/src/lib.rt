@@ -8,6 +8,7 @@ mod bytes;
 pub mod list;
 pub mod name;
 pub mod piece;
+mod runs;
 pub mod sign;
 mod table;
 #[cfg(test)]
