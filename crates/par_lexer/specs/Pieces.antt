@@ -1,9 +1,9 @@
 -- What stands at the head of some bytes: nothing, a blank, a comment, a token or a fault.
-use Rattle.std.specs.Prelude.{ℕ, ◌+◌, ◌-◌, ◌*◌, List, [], ◌∷◌, ◌++◌, Bool, false, not, ◌||◌, ◌&&◌, ◌==◌, nat_eq, nat_lt, if◌then◌else◌, length, take, drop, fold, find, filter, Option, Some, None, codes}
+use Rattle.std.specs.Prelude.{ℕ, ◌+◌, ◌-◌, ◌*◌, List, [], ◌∷◌, ◌++◌, Bool, not, ◌&&◌, ◌==◌, nat_eq, nat_lt, if◌then◌else◌, length, take, drop, fold, find, filter, Option, Some, None, codes}
 use Rattle.std.specs.List.{starts_with, prefix_len}
 use Rattle.std.specs.Option.{option_map}
 use Rattle.std.specs.Str.{bytes_eq}
-use Rattle.par_lexer.specs.Names.{is_letter, is_digit, goes_on}
+use Rattle.par_lexer.specs.Names.{is_letter, is_digit, is_blank, goes_on, first_is}
 use Rattle.par_lexer.specs.Tables.{Row, words, signs}
 use Rattle.par_lexer.specs.declared.token.Kind.{Kind}
 use Rattle.par_lexer.specs.declared.token.Kind.TheVariants.{Word, Name, Number, Sign}
@@ -11,18 +11,9 @@ use Rattle.par_lexer.specs.declared.token.LexError.TheVariants.{BadByte, NumberT
 use Rattle.par_lexer.specs.declared.piece.Piece.{Piece}
 use Rattle.par_lexer.specs.declared.piece.Piece.TheVariants.{End, Gap, Token, Fault}
 
--- a tab, a line's end, a form feed, a carriage return or a space
-abbrev pub is_blank : ℕ → Bool
-is_blank byte = byte == 9 || byte == 10 || byte == 12 || byte == 13 || byte == 32
-
 -- whether the bytes begin with this text
 abbrev pub begins : List ℕ → List ℕ → Bool
 begins text bytes = starts_with nat_eq bytes text
-
--- whether the bytes begin with a letter or `_`
-abbrev pub begins_name : List ℕ → Bool
-begins_name [] = false
-begins_name (byte ∷ rest) = is_letter byte
 
 -- how many bytes of a line stand before its end
 abbrev pub line_length : List ℕ → ℕ
@@ -49,9 +40,13 @@ name_at at text =
     if nat_lt 64 (length text) then Fault (NameTooLong at)
     else Token (named text (find (λ row. bytes_eq row.1 text) words)) (length text)
 
+-- a number with one more decimal digit behind it
+abbrev pub with_digit : ℕ → ℕ → ℕ
+with_digit n digit = 10 * n + (digit - 48)
+
 -- the number that decimal digits write
 abbrev pub value : List ℕ → ℕ
-value digits = fold (λ n digit. 10 * n + (digit - 48)) 0 digits
+value digits = fold with_digit 0 digits
 
 -- whether more than one digit stands there, the first of which is 0
 abbrev pub has_leading_zero : List ℕ → Bool
@@ -62,7 +57,7 @@ abbrev pub number_at : ℕ → List ℕ → List ℕ → Piece
 number_at at digits behind =
     if has_leading_zero digits then Fault (BadByte at)
     else if nat_lt 2147483648 (value digits) then Fault (NumberTooLarge at)
-    else if begins_name behind then Fault (BadByte (at + length digits))
+    else if first_is is_letter behind then Fault (BadByte (at + length digits))
     else Token (Number (value digits)) (length digits)
 
 -- the signs of so many bytes
@@ -79,12 +74,11 @@ sign_at at (Some row) = Token (Sign row.0) (length row.1)
 
 -- the piece at the head of bytes of which the first stands at a place of the source
 unfoldable pub piece_at : ℕ → List ℕ → Piece
-piece_at at [] = End
-piece_at at (byte ∷ rest) =
-    let bytes = byte ∷ rest in
-    if is_blank byte then Gap 1
+piece_at at bytes =
+    if length bytes == 0 then End
+    else if first_is is_blank bytes then Gap 1
     else if begins (codes "//") bytes then Gap (line_length bytes)
     else if begins (codes "/*") bytes then comment_at at (through_close (drop 2 bytes))
-    else if is_letter byte then name_at at (take (prefix_len goes_on bytes) bytes)
-    else if is_digit byte then number_at at (take (prefix_len is_digit bytes) bytes) (drop (prefix_len is_digit bytes) bytes)
+    else if first_is is_letter bytes then name_at at (take (prefix_len goes_on bytes) bytes)
+    else if first_is is_digit bytes then number_at at (take (prefix_len is_digit bytes) bytes) (drop (prefix_len is_digit bytes) bytes)
     else sign_at at (longest_sign bytes)

@@ -13,7 +13,7 @@ abbrev pub rows : List (ℕ × Bor (List ℕ)) → List Row
 rows table = map (λ row. (row.0, row.1.now)) table
 
 -- the reserved words
-abbrev pub words : List Row
+unfoldable pub words : List Row
 words =
     (word.ACTOR, codes "actor") ∷
     (word.LOCK, codes "lock") ∷
@@ -52,7 +52,7 @@ words =
     []
 
 -- the signs
-abbrev pub signs : List Row
+unfoldable pub signs : List Row
 signs =
     (sign.LEFT_BRACE, codes "{") ∷
     (sign.RIGHT_BRACE, codes "}") ∷

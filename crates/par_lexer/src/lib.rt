@@ -7,8 +7,10 @@
 mod bytes;
 pub mod list;
 pub mod name;
+mod number;
 pub mod piece;
 mod runs;
+mod scan;
 pub mod sign;
 mod table;
 #[cfg(test)]

@@ -106,6 +106,7 @@ fn first_begun(table: &[(u8, &[u8])], bytes: &[u8]) -> Option<(u8, usize)>
 }
 
 // The number of a reserved word, or none where the text is no word.
+#[tactic(auto, unfolding(crate::specs::Tables::words))]
 pub fn word_of(text: &[u8]) -> Option<u8>
     ensures { result ≡ option_map (λ row. row.0) (find (λ row. bytes_eq row.1 text.now) words) }
 {
@@ -113,6 +114,7 @@ pub fn word_of(text: &[u8]) -> Option<u8>
 }
 
 // The number and the length of the longest sign that the bytes begin with.
+#[tactic(auto, unfolding(crate::specs::Tables::signs))]
 pub fn sign_of(bytes: &[u8]) -> Option<(u8, usize)>
     ensures { result ≡ option_map (λ row. (row.0, length row.1)) (longest_sign bytes.now) }
 {
