@@ -1,2 +1,5 @@
 pub mod Names
+pub mod Tables
+pub mod Pieces
+pub mod Tokens
 pub mod formers

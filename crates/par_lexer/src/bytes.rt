@@ -1,6 +1,6 @@
 ghost use Rattle.std.specs.Prelude.{◌≡◌};
 ghost use Rattle.std.specs.List.{list_all};
-ghost use Rattle.par_lexer.specs.Names.{is_letter, is_digit, goes_on, is_spelled};
+ghost use Rattle.par_lexer.specs.Names.{is_letter, is_digit, is_blank, goes_on, first_is, is_spelled};
 
 // A letter of ASCII, or `_`.
 pub fn is_letter(byte: u8) -> bool
@@ -14,6 +14,13 @@ pub fn is_digit(byte: u8) -> bool
     ensures { result ≡ is_digit byte }
 {
     byte.is_ascii_digit()
+}
+
+// A blank of ASCII.
+pub fn is_blank(byte: u8) -> bool
+    ensures { result ≡ is_blank byte }
+{
+    matches!(byte, b'\t' | b'\n' | 12 | b'\r' | b' ')
 }
 
 // A byte that a name may go on with.
@@ -38,4 +45,25 @@ pub fn is_spelled(bytes: &[u8]) -> bool
         [] => false,
         [first, rest @ ..] => is_letter(*first) && all_go_on(rest),
     }
+}
+
+// Whether a blank comes first.
+pub fn begins_gap(bytes: &[u8]) -> bool
+    ensures { result ≡ first_is is_blank bytes.now }
+{
+    bytes.first().is_some_and(|byte| is_blank(*byte))
+}
+
+// Whether a letter or `_` comes first.
+pub fn begins_name(bytes: &[u8]) -> bool
+    ensures { result ≡ first_is is_letter bytes.now }
+{
+    bytes.first().is_some_and(|byte| is_letter(*byte))
+}
+
+// Whether a digit comes first.
+pub fn begins_number(bytes: &[u8]) -> bool
+    ensures { result ≡ first_is is_digit bytes.now }
+{
+    bytes.first().is_some_and(|byte| is_digit(*byte))
 }

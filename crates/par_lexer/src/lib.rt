@@ -7,6 +7,13 @@
 mod bytes;
 pub mod list;
 pub mod name;
+mod number;
+pub mod piece;
+mod runs;
+mod scan;
 pub mod sign;
+mod table;
+#[cfg(test)]
+mod tests;
 pub mod token;
 pub mod word;

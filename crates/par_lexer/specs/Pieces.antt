@@ -1,0 +1,84 @@
+-- What stands at the head of some bytes: nothing, a blank, a comment, a token or a fault.
+use Rattle.std.specs.Prelude.{ℕ, ◌+◌, ◌-◌, ◌*◌, List, [], ◌∷◌, ◌++◌, Bool, not, ◌&&◌, ◌==◌, nat_eq, nat_lt, if◌then◌else◌, length, take, drop, fold, find, filter, Option, Some, None, codes}
+use Rattle.std.specs.List.{starts_with, prefix_len}
+use Rattle.std.specs.Option.{option_map}
+use Rattle.std.specs.Str.{bytes_eq}
+use Rattle.par_lexer.specs.Names.{is_letter, is_digit, is_blank, goes_on, first_is}
+use Rattle.par_lexer.specs.Tables.{Row, words, signs}
+use Rattle.par_lexer.specs.declared.token.Kind.{Kind}
+use Rattle.par_lexer.specs.declared.token.Kind.TheVariants.{Word, Name, Number, Sign}
+use Rattle.par_lexer.specs.declared.token.LexError.TheVariants.{BadByte, NumberTooLarge, OpenComment, NameTooLong}
+use Rattle.par_lexer.specs.declared.piece.Piece.{Piece}
+use Rattle.par_lexer.specs.declared.piece.Piece.TheVariants.{End, Gap, Token, Fault}
+
+-- whether the bytes begin with this text
+abbrev pub begins : List ℕ → List ℕ → Bool
+begins text bytes = starts_with nat_eq bytes text
+
+-- how many bytes of a line stand before its end
+abbrev pub line_length : List ℕ → ℕ
+line_length bytes = prefix_len (λ byte. not (byte == 10)) bytes
+
+-- how many bytes there are up to and with the first `*/`
+abbrev pub through_close : List ℕ → Option ℕ
+through_close [] = None
+through_close (byte ∷ rest) = if begins (codes "*/") (byte ∷ rest) then Some 2 else option_map (λ n. n + 1) (through_close rest)
+
+-- a comment from `/*` on, given how many bytes close it
+abbrev pub comment_at : ℕ → Option ℕ → Piece
+comment_at at None = Fault (OpenComment at)
+comment_at at (Some n) = Gap (n + 2)
+
+-- a reserved word, or else a name
+abbrev pub named : List ℕ → Option Row → Kind
+named text None = Name text
+named text (Some row) = Word row.0
+
+-- the longest run of letters, digits and `_`
+abbrev pub name_at : ℕ → List ℕ → Piece
+name_at at text =
+    if nat_lt 64 (length text) then Fault (NameTooLong at)
+    else Token (named text (find (λ row. bytes_eq row.1 text) words)) (length text)
+
+-- a number with one more decimal digit behind it
+abbrev pub with_digit : ℕ → ℕ → ℕ
+with_digit n digit = 10 * n + (digit - 48)
+
+-- the number that decimal digits write
+abbrev pub value : List ℕ → ℕ
+value digits = fold with_digit 0 digits
+
+-- whether more than one digit stands there, the first of which is 0
+abbrev pub has_leading_zero : List ℕ → Bool
+has_leading_zero digits = begins (codes "0") digits && nat_lt 1 (length digits)
+
+-- the longest run of digits, and the bytes behind it
+abbrev pub number_at : ℕ → List ℕ → List ℕ → Piece
+number_at at digits behind =
+    if has_leading_zero digits then Fault (BadByte at)
+    else if nat_lt 2147483648 (value digits) then Fault (NumberTooLarge at)
+    else if first_is is_letter behind then Fault (BadByte (at + length digits))
+    else Token (Number (value digits)) (length digits)
+
+-- the signs of so many bytes
+abbrev pub signs_of : ℕ → List Row
+signs_of n = filter (λ row. length row.1 == n) signs
+
+-- the longest sign that stands there
+abbrev pub longest_sign : List ℕ → Option Row
+longest_sign bytes = find (λ row. begins row.1 bytes) (signs_of 3 ++ signs_of 2 ++ signs_of 1)
+
+abbrev pub sign_at : ℕ → Option Row → Piece
+sign_at at None = Fault (BadByte at)
+sign_at at (Some row) = Token (Sign row.0) (length row.1)
+
+-- the piece at the head of bytes of which the first stands at a place of the source
+unfoldable pub piece_at : ℕ → List ℕ → Piece
+piece_at at bytes =
+    if length bytes == 0 then End
+    else if first_is is_blank bytes then Gap 1
+    else if begins (codes "//") bytes then Gap (line_length bytes)
+    else if begins (codes "/*") bytes then comment_at at (through_close (drop 2 bytes))
+    else if first_is is_letter bytes then name_at at (take (prefix_len goes_on bytes) bytes)
+    else if first_is is_digit bytes then number_at at (take (prefix_len is_digit bytes) bytes) (drop (prefix_len is_digit bytes) bytes)
+    else sign_at at (longest_sign bytes)
