@@ -6,6 +6,8 @@
 //! No call here ends the process, waits for another thread, or keeps a file open after it returns.
 #![tactic(auto)]
 
+mod mem_folder;
 mod outside;
 
+pub use mem_folder::MemFolder;
 pub use outside::{Folder, NoMemory, PutFailed, ReadFail, Sink, WriteFail};
