@@ -1,5 +1,5 @@
 -- What an answer of the outside tells of it.
-use Rattle.std.specs.Prelude.{◌≡◌, ◌≢◌, ℕ, ◌+◌, ◌-◌, ◌^◌, ◌<◌, ◌⊎◌, List, ◌++◌, Option, Some, None}
+use Rattle.std.specs.Prelude.{◌≡◌, ◌≢◌, ℕ, ◌+◌, ◌-◌, ◌^◌, ◌<◌, ◌⊎◌, List, ◌++◌, Option, Some, None, if◌then◌else◌, ◌==◌}
 
 -- the last value of a count
 abbrev pub last_count : ℕ
@@ -8,6 +8,10 @@ last_count = 2 ^ 64 - 1
 -- a count is greater after a call than before it, or stands at its last value
 abbrev pub Rose : ℕ → ℕ → Type 0
 Rose before after = (before < after) ⊎ (after ≡ last_count)
+
+-- a count after one more answer of its kind: its last value stays
+abbrev pub raised : ℕ → ℕ
+raised count = if count == last_count then last_count else count + 1
 
 -- files by their names
 abbrev pub Files : Type 0

@@ -7,7 +7,9 @@
 #![tactic(auto)]
 
 mod mem_folder;
+mod mem_sink;
 mod outside;
 
 pub use mem_folder::MemFolder;
+pub use mem_sink::MemSink;
 pub use outside::{Folder, NoMemory, PutFailed, ReadFail, Sink, WriteFail};

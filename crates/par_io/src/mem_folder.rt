@@ -1,4 +1,4 @@
-ghost use Rattle.std.specs.Prelude.{◌≡◌, ◌≢◌, ℕ, ◌+◌, ◌-◌, ◌^◌, ◌<◌, ◌≤◌, ◌↔◌, List, Option, Some, None, IfOk, IsTrue, IsErrOf, OnOk, OnErr, length, take, min, option_copied, true, false};
+ghost use Rattle.std.specs.Prelude.{◌≡◌, ◌≢◌, ℕ, ◌+◌, ◌-◌, ◌^◌, ◌<◌, ◌≤◌, ◌↔◌, List, Option, Some, None, IfOk, IsTrue, IsErrOf, MatchResult, OnOk, OnErr, length, take, min, option_copied, true, false};
 ghost use Rattle.std.specs.Ordering.{nat_cmp};
 ghost use Rattle.std.specs.BTreeMap.{get};
 ghost use Rattle.std.specs.BTreeSet.{contains};
@@ -28,7 +28,7 @@ pub struct MemFolder {
 }
 
 impl MemFolder {
-    ghost use Rattle.par_io.specs.MemFolder.{files_of, is_read_set, write_keeps, next_read, next_write, SameCalls, SameCounts, SameReadsSet, SameWritesSet};
+    ghost use Rattle.par_io.specs.MemFolder.{files_of, is_read_set, write_keeps, next_read, next_write, SameCalls, SameCounts, faults_of, absents_of, longs_of, SameReadsSet, SameWritesSet};
 
     /// A folder without files, none of whose calls is set to fail.
     pub fn new(alloc: Global) -> MemFolder
@@ -36,9 +36,9 @@ impl MemFolder {
         ensures no_read_set { (call : ℕ) → is_read_set result call ≡ false }
         ensures no_write_set { (call : ℕ) → write_keeps result call ≡ None }
         ensures no_calls { (next_read result ≡ 1) × (next_write result ≡ 1) }
-        ensures no_faults { result.faults ≡ 0 }
-        ensures no_absents { result.absents ≡ 0 }
-        ensures no_longs { result.longs ≡ 0 }
+        ensures no_faults { faults_of result ≡ 0 }
+        ensures no_absents { absents_of result ≡ 0 }
+        ensures no_longs { longs_of result ≡ 0 }
     {
         MemFolder {
             alloc,
@@ -74,7 +74,7 @@ impl MemFolder {
 
     fn set(&mut self, alloc: Global, name: &str, bytes: &[u8]) -> Result<(), NoMemory>
         ensures set { OnOk result (Sets name.now bytes.now (files_of self.old) (files_of self.new)) }
-        ensures unchanged { OnErr result (files_of self.new ≡ files_of self.old) }
+        ensures unchanged { OnErr result (self.new.files.entries ≡ self.old.files.entries) }
         ensures reads_set { SameReadsSet self.old self.new }
         ensures writes_set { SameWritesSet self.old self.new }
         ensures calls { SameCalls self.old self.new }
@@ -124,9 +124,9 @@ impl MemFolder {
         ensures fails { result ≡ is_read_set self.old (next_read self.old) }
         ensures counted { next_read self.new ≡ min (next_read self.old + 1) (2 ^ 64) }
         ensures writes { next_write self.new ≡ next_write self.old }
-        ensures files { files_of self.new ≡ files_of self.old }
-        ensures reads_set { SameReadsSet self.old self.new }
-        ensures writes_set { SameWritesSet self.old self.new }
+        ensures files { self.new.files ≡ self.old.files }
+        ensures failing_reads { self.new.failing_reads ≡ self.old.failing_reads }
+        ensures failing_writes { self.new.failing_writes ≡ self.old.failing_writes }
         ensures counts { SameCounts self.old self.new }
     {
         let Some(call) = self.reads.checked_add(1) else {
@@ -141,13 +141,89 @@ impl MemFolder {
         ensures fails { result ≡ write_keeps self.old (next_write self.old) }
         ensures counted { next_write self.new ≡ min (next_write self.old + 1) (2 ^ 64) }
         ensures reads { next_read self.new ≡ next_read self.old }
-        ensures files { files_of self.new ≡ files_of self.old }
-        ensures reads_set { SameReadsSet self.old self.new }
-        ensures writes_set { SameWritesSet self.old self.new }
+        ensures files { self.new.files ≡ self.old.files }
+        ensures failing_reads { self.new.failing_reads ≡ self.old.failing_reads }
+        ensures failing_writes { self.new.failing_writes ≡ self.old.failing_writes }
         ensures counts { SameCounts self.old self.new }
     {
         let call = self.writes.checked_add(1)?;
         self.writes = call;
         self.failing_writes.get(&call).copied()
+    }
+}
+
+impl Folder for MemFolder {
+    ghost use Rattle.par_io.specs.MemFolder.{files_of, is_read_set, write_keeps, next_read, next_write, faults_of, absents_of, longs_of, CountsRead, CountsWrite, SameCounts, SameReadsSet, SameWritesSet};
+
+    ghost files = { λ s. Some (files_of s) };
+
+    ghost faults = { faults_of };
+
+    ghost absents = { absents_of };
+
+    ghost longs = { longs_of };
+
+    fn read(&mut self, alloc: Global, name: &str, limit: u64) -> Result<Vec<u8>, ReadFail>
+        ensures kept { files_of self.new ≡ files_of self.old }
+        ensures found { IfOk result (λ bytes. files_of self.old name.now ≡ Some bytes.items) }
+        ensures short { IfOk result (λ bytes. length bytes.items ≤ limit) }
+        ensures absent { IsErrOf result ReadFail.Absent → files_of self.old name.now ≡ None }
+        ensures long {
+            IsErrOf result ReadFail.TooLong →
+            (bytes : List ℕ) × (files_of self.old name.now ≡ Some bytes) × (limit < length bytes)
+        }
+        ensures failed { IsErrOf result ReadFail.Failed ↔ IsTrue (is_read_set self.old (next_read self.old)) }
+        ensures counts { MatchResult result (λ _. SameCounts self.old self.new) (λ fail. CountsRead fail self.old self.new) }
+        ensures counted { next_read self.new ≡ min (next_read self.old + 1) (2 ^ 64) }
+        ensures writes { next_write self.new ≡ next_write self.old }
+        ensures reads_set { SameReadsSet self.old self.new }
+        ensures writes_set { SameWritesSet self.old self.new }
+    {
+        if self.begin_read() {
+            self.faults = self.faults.saturating_add(1);
+            return Err(ReadFail::Failed);
+        }
+        let Some(bytes) = self.files.get(name) else {
+            self.absents = self.absents.saturating_add(1);
+            return Err(ReadFail::Absent);
+        };
+        if bytes.len() as u64 > limit {
+            self.longs = self.longs.saturating_add(1);
+            return Err(ReadFail::TooLong);
+        }
+        Ok(Vec::from_slice(alloc, bytes.as_slice())?)
+    }
+
+    /// Want of memory comes before a fault that is set.
+    fn write(&mut self, alloc: Global, name: &str, bytes: &[u8]) -> Result<(), WriteFail>
+        ensures written { OnOk result (Sets name.now bytes.now (files_of self.old) (files_of self.new)) }
+        ensures not_set { OnOk result (write_keeps self.old (next_write self.old) ≡ None) }
+        ensures failed {
+            IsErrOf result WriteFail.Failed →
+            (keep : ℕ) × (write_keeps self.old (next_write self.old) ≡ Some keep) ×
+            Sets name.now (take keep bytes.now) (files_of self.old) (files_of self.new)
+        }
+        ensures memory { IsErrOf result WriteFail.Memory → files_of self.new ≡ files_of self.old }
+        ensures counts {
+            MatchResult result
+                (λ _. faults_of self.new ≡ faults_of self.old)
+                (λ fail. CountsWrite fail self.old self.new)
+        }
+        ensures absents { absents_of self.new ≡ absents_of self.old }
+        ensures longs { longs_of self.new ≡ longs_of self.old }
+        ensures counted { next_write self.new ≡ min (next_write self.old + 1) (2 ^ 64) }
+        ensures reads { next_read self.new ≡ next_read self.old }
+        ensures reads_set { SameReadsSet self.old self.new }
+        ensures writes_set { SameWritesSet self.old self.new }
+    {
+        match self.begin_write() {
+            None => Ok(self.set(alloc, name, bytes)?),
+            Some(keep) => {
+                let kept = bytes.len().min(usize::try_from(keep).unwrap_or(usize::MAX));
+                self.set(alloc, name, &bytes[..kept])?;
+                self.faults = self.faults.saturating_add(1);
+                Err(WriteFail::Failed)
+            }
+        }
     }
 }

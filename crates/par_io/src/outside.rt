@@ -1,5 +1,7 @@
 ghost use Rattle.std.specs.Prelude.{◌≡◌, ℕ, ◌<◌, ◌≤◌, List, Option, Some, None, IfOk, IsErrOf, OnOk, OnErr, length};
 ghost use Rattle.par_io.specs.Causes.{Rose, Files, Told, ToldBoth, StandBut, Sets, appended, AppendsFront};
+ghost use Rattle.par_io.specs.declared.outside.ReadFail.{ReadFail};
+ghost use Rattle.par_io.specs.declared.outside.WriteFail.{WriteFail};
 
 use std::alloc::{AllocError, AllocFailed, Global};
 
@@ -32,6 +34,14 @@ pub enum ReadFail {
     Memory,
 }
 
+impl From<AllocError> for ReadFail {
+    ghost from_gives = { λ _ fail. fail ≡ ReadFail.Memory };
+
+    fn from(_error: AllocError) -> ReadFail {
+        ReadFail::Memory
+    }
+}
+
 /// Why a file was not written.
 #[derive(Clone, Copy, Debug, PartialEq, Eq)]
 pub enum WriteFail {
@@ -39,6 +49,14 @@ pub enum WriteFail {
     Failed,
     /// Memory is lacking.
     Memory,
+}
+
+impl From<NoMemory> for WriteFail {
+    ghost from_gives = { λ _ fail. fail ≡ WriteFail.Memory };
+
+    fn from(_error: NoMemory) -> WriteFail {
+        WriteFail::Memory
+    }
 }
 
 /// Files by their names, read and written whole.

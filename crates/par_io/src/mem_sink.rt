@@ -1,0 +1,66 @@
+ghost use Rattle.std.specs.Prelude.{◌≡◌, ◌≢◌, ℕ, ◌+◌, ◌-◌, ◌^◌, ◌<◌, ◌≤◌, ◌↔◌, ◌⊎◌, [], ◌++◌, List, Some, None, IfOk, IsSome, IsErr, OnOk, OnErr, length, take, min, vec_capacity, vec_len};
+ghost use Rattle.par_io.specs.Causes.{raised};
+
+use crate::outside::{NoMemory, PutFailed, Sink};
+use std::alloc::Global;
+
+// A put that is set to fail, and how many of its bytes it is to keep.
+#[derive(Clone, Copy, Drop)]
+struct FailingPut {
+    call: u64,
+    keep: u64,
+}
+
+/// Bytes in memory, as many as its room, with one put that can be set to fail.
+#[derive(Drop)]
+pub struct MemSink {
+    held: Vec<u8>,
+    room: u64,
+    failing: Option<FailingPut>,
+    // Puts made so far, up to the last number that can be set to fail.
+    puts: u64,
+    faults: u64,
+    ghost reserved: { room ≤ vec_capacity held },
+    ghost within: { vec_len held ≤ room },
+}
+
+impl MemSink {
+    ghost use Rattle.par_io.specs.MemSink.{bytes_of, room_left, next_put, faults_of, put_keeps, taken};
+
+    /// An empty sink with room for that many bytes, none of whose puts is set to fail.
+    pub fn new(alloc: Global, room: u64) -> Result<MemSink, NoMemory>
+        ensures empty { IfOk result (λ sink. bytes_of sink ≡ []) }
+        ensures room { IfOk result (λ sink. room_left sink ≡ room) }
+        ensures no_puts { IfOk result (λ sink. next_put sink ≡ 1) }
+        ensures none_set { IfOk result (λ sink. (call : ℕ) → put_keeps sink call ≡ None) }
+        ensures no_faults { IfOk result (λ sink. faults_of sink ≡ 0) }
+    {
+        Ok(MemSink {
+            held: Vec::with_capacity(alloc, room as usize)?,
+            room,
+            failing: None,
+            puts: 0,
+            faults: 0,
+        })
+    }
+
+    /// The bytes put so far.
+    pub fn bytes(&self) -> &[u8]
+        ensures { result.now ≡ bytes_of self.now }
+    {
+        self.held.as_slice()
+    }
+
+    /// Lets one put fail, counted from 1 since the sink was made, and keep the first `keep` of its
+    /// bytes, or as many as fit. No other put is set to fail from then on.
+    pub fn fail_put(&mut self, call: u64, keep: u64)
+        ensures set { put_keeps self.new call ≡ Some keep }
+        ensures others { (other : ℕ) → other ≢ call → put_keeps self.new other ≡ None }
+        ensures held { bytes_of self.new ≡ bytes_of self.old }
+        ensures room { room_left self.new ≡ room_left self.old }
+        ensures puts { next_put self.new ≡ next_put self.old }
+        ensures faults { faults_of self.new ≡ faults_of self.old }
+    {
+        self.failing = Some(FailingPut { call, keep });
+    }
+}
