@@ -1,5 +1,5 @@
-ghost use Rattle.std.specs.Prelude.{◌≡◌, ◌≢◌, ℕ, ◌+◌, ◌-◌, ◌^◌, ◌<◌, ◌≤◌, ◌↔◌, ◌⊎◌, [], ◌++◌, List, Some, None, IfOk, IsSome, IsErr, OnOk, OnErr, length, take, min, vec_capacity, vec_len};
-ghost use Rattle.par_io.specs.Causes.{raised};
+ghost use Rattle.std.specs.Prelude.{◌≡◌, ◌≢◌, ℕ, ◌+◌, ◌-◌, ◌^◌, ◌<◌, ◌≤◌, ◌↔◌, ◌⊎◌, [], ◌++◌, List, Some, None, IfOk, IsSome, IsErr, IsTrue, OnOk, OnErr, length, take, min, vec_capacity, vec_len, false};
+ghost use Rattle.par_io.specs.Causes.{AppendsFront, raised};
 
 use crate::outside::{NoMemory, PutFailed, Sink};
 use std::alloc::Global;
@@ -62,5 +62,87 @@ impl MemSink {
         ensures faults { faults_of self.new ≡ faults_of self.old }
     {
         self.failing = Some(FailingPut { call, keep });
+    }
+
+    // Counts a put, and tells how many of its bytes it is to keep where it is set to fail.
+    fn begin_put(&mut self) -> Option<u64>
+        ensures fails { result ≡ put_keeps self.old (next_put self.old) }
+        ensures counted { next_put self.new ≡ min (next_put self.old + 1) (2 ^ 64) }
+        ensures failing { self.new.failing ≡ self.old.failing }
+        ensures held { bytes_of self.new ≡ bytes_of self.old }
+        ensures room { self.new.room ≡ self.old.room }
+        ensures faults { faults_of self.new ≡ faults_of self.old }
+    {
+        let before = self.puts;
+        self.puts = before.saturating_add(1);
+        match self.failing {
+            Some(set) if before < set.call && set.call - before == 1 => Some(set.keep),
+            _ => None,
+        }
+    }
+
+    // Lets in as many of the bytes as fit, and tells whether all did.
+    fn fill(&mut self, bytes: &[u8]) -> bool
+        ensures held { bytes_of self.new ≡ bytes_of self.old ++ take (room_left self.old) bytes.now }
+        ensures fits { IsTrue result ↔ (length bytes.now ≤ room_left self.old) }
+        ensures failing { self.new.failing ≡ self.old.failing }
+        ensures puts { next_put self.new ≡ next_put self.old }
+        ensures room { self.new.room ≡ self.old.room }
+        ensures faults { faults_of self.new ≡ faults_of self.old }
+    {
+        let left = self.room as usize - self.held.len();
+        let count = bytes.len().min(left);
+        self.held.extend_from_slice(&bytes[..count]).unwrap();
+        count == bytes.len()
+    }
+
+    // Lets in the bytes that the next put takes, and tells whether it is to succeed.
+    fn let_in(&mut self, bytes: &[u8]) -> bool
+        ensures held { bytes_of self.new ≡ bytes_of self.old ++ taken self.old bytes.now }
+        ensures fails {
+            (result ≡ false) ↔
+            (IsSome (put_keeps self.old (next_put self.old)) ⊎ (room_left self.old < length bytes.now))
+        }
+        ensures counted { next_put self.new ≡ min (next_put self.old + 1) (2 ^ 64) }
+        ensures failing { self.new.failing ≡ self.old.failing }
+        ensures room { self.new.room ≡ self.old.room }
+        ensures faults { faults_of self.new ≡ faults_of self.old }
+    {
+        match self.begin_put() {
+            None => self.fill(bytes),
+            Some(keep) => {
+                let kept = bytes.len().min(usize::try_from(keep).unwrap_or(usize::MAX));
+                self.fill(&bytes[..kept]);
+                false
+            }
+        }
+    }
+}
+
+impl Sink for MemSink {
+    ghost use Rattle.par_io.specs.MemSink.{bytes_of, room_left, next_put, faults_of, put_keeps, taken};
+
+    ghost held = { λ s. Some (bytes_of s) };
+
+    ghost faults = { faults_of };
+
+    fn put(&mut self, bytes: &[u8]) -> Result<(), PutFailed>
+        ensures held { bytes_of self.new ≡ bytes_of self.old ++ taken self.old bytes.now }
+        ensures failed {
+            IsErr result ↔
+            (IsSome (put_keeps self.old (next_put self.old)) ⊎ (room_left self.old < length bytes.now))
+        }
+        ensures front { OnErr result (AppendsFront (Some (bytes_of self.old)) (Some (bytes_of self.new)) bytes.now) }
+        ensures room { room_left self.new + length (bytes_of self.new) ≡ room_left self.old + length (bytes_of self.old) }
+        ensures counted { next_put self.new ≡ min (next_put self.old + 1) (2 ^ 64) }
+        ensures setting { (call : ℕ) → put_keeps self.new call ≡ put_keeps self.old call }
+        ensures no_fault { OnOk result (faults_of self.new ≡ faults_of self.old) }
+        ensures fault { OnErr result (faults_of self.new ≡ raised (faults_of self.old)) }
+    {
+        if !self.let_in(bytes) {
+            self.faults = self.faults.saturating_add(1);
+            return Err(PutFailed);
+        }
+        Ok(())
     }
 }
