@@ -1,5 +1,7 @@
 -- What an answer of the outside tells of it.
 use Rattle.std.specs.Prelude.{◌≡◌, ◌≢◌, ℕ, ◌+◌, ◌-◌, ◌^◌, ◌<◌, ◌⊎◌, List, ◌++◌, Option, Some, None, if◌then◌else◌, ◌==◌}
+use Rattle.par_io.specs.declared.outside.ReadFail.{ReadFail}
+use Rattle.par_io.specs.declared.outside.WriteFail.{WriteFail}
 
 -- the last value of a count
 abbrev pub last_count : ℕ
@@ -12,6 +14,29 @@ Rose before after = (before < after) ⊎ (after ≡ last_count)
 -- a count after one more answer of its kind: its last value stays
 abbrev pub raised : ℕ → ℕ
 raised count = if count == last_count then last_count else count + 1
+
+-- how many reads and writes failed, how many reads found no file, and how many found one that is
+-- longer than their limit
+pub record Counts : Type 0 where
+  pub faults : ℕ
+  pub absents : ℕ
+  pub longs : ℕ
+
+-- each count stands
+abbrev pub SameCounts : Counts → Counts → Type 0
+SameCounts old new = (new.faults ≡ old.faults) × (new.absents ≡ old.absents) × (new.longs ≡ old.longs)
+
+-- a read that failed so raises the count of its kind, and no other
+abbrev pub CountsRead : ReadFail → Counts → Counts → Type 0
+CountsRead ReadFail.Absent old new = (new.absents ≡ raised old.absents) × (new.faults ≡ old.faults) × (new.longs ≡ old.longs)
+CountsRead ReadFail.TooLong old new = (new.longs ≡ raised old.longs) × (new.faults ≡ old.faults) × (new.absents ≡ old.absents)
+CountsRead ReadFail.Failed old new = (new.faults ≡ raised old.faults) × (new.absents ≡ old.absents) × (new.longs ≡ old.longs)
+CountsRead ReadFail.Memory old new = SameCounts old new
+
+-- a write that failed so raises the count of faults, and want of memory raises none
+abbrev pub CountsWrite : WriteFail → Counts → Counts → Type 0
+CountsWrite WriteFail.Failed old new = (new.faults ≡ raised old.faults) × (new.absents ≡ old.absents) × (new.longs ≡ old.longs)
+CountsWrite WriteFail.Memory old new = SameCounts old new
 
 -- files by their names
 abbrev pub Files : Type 0

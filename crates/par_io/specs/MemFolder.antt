@@ -4,10 +4,7 @@ use Rattle.std.specs.Ordering.{nat_cmp}
 use Rattle.std.specs.BTreeMap.{get_by_text}
 use Rattle.std.specs.BTreeMap as map
 use Rattle.std.specs.BTreeSet as set
-use Rattle.par_io.specs.Causes.{Files, raised}
-use Rattle.par_io.specs.declared.outside.ReadFail.{ReadFail}
-use Rattle.par_io.specs.declared.outside.ReadFail.TheVariants.{Absent, TooLong, Failed, Memory}
-use Rattle.par_io.specs.declared.outside.WriteFail.{WriteFail}
+use Rattle.par_io.specs.Causes.{Files, Counts}
 use Rattle.par_io.specs.declared.mem_folder.MemFolder.{MemFolder}
 
 -- the files by their names
@@ -34,21 +31,9 @@ next_write f = f.writes + 1
 abbrev pub SameCalls : MemFolder → MemFolder → Type 0
 SameCalls f g = (next_read g ≡ next_read f) × (next_write g ≡ next_write f)
 
--- how many reads and writes failed
-abbrev pub faults_of : MemFolder → ℕ
-faults_of f = f.faults
-
--- how many reads found no file
-abbrev pub absents_of : MemFolder → ℕ
-absents_of f = f.absents
-
--- how many reads found a file longer than their limit
-abbrev pub longs_of : MemFolder → ℕ
-longs_of f = f.longs
-
--- both count the same answers of each kind
-abbrev pub SameCounts : MemFolder → MemFolder → Type 0
-SameCounts f g = (faults_of g ≡ faults_of f) × (absents_of g ≡ absents_of f) × (longs_of g ≡ longs_of f)
+-- how many answers of each kind there were
+abbrev pub counts_of : MemFolder → Counts
+counts_of f = record { faults = f.faults; absents = f.absents; longs = f.longs }
 
 -- in both the same reads are set to fail
 abbrev pub SameReadsSet : MemFolder → MemFolder → Type 0
@@ -57,15 +42,3 @@ SameReadsSet f g = (call : ℕ) → is_read_set g call ≡ is_read_set f call
 -- in both the same writes are set to fail, and leave as many bytes
 abbrev pub SameWritesSet : MemFolder → MemFolder → Type 0
 SameWritesSet f g = (call : ℕ) → write_keeps g call ≡ write_keeps f call
-
--- a read that failed so raised the count of its kind, and no other
-abbrev pub CountsRead : ReadFail → MemFolder → MemFolder → Type 0
-CountsRead Absent f g = (absents_of g ≡ raised (absents_of f)) × (faults_of g ≡ faults_of f) × (longs_of g ≡ longs_of f)
-CountsRead TooLong f g = (longs_of g ≡ raised (longs_of f)) × (faults_of g ≡ faults_of f) × (absents_of g ≡ absents_of f)
-CountsRead Failed f g = (faults_of g ≡ raised (faults_of f)) × (absents_of g ≡ absents_of f) × (longs_of g ≡ longs_of f)
-CountsRead Memory f g = SameCounts f g
-
--- a write that failed so raised the count of faults, or lacked memory
-abbrev pub CountsWrite : WriteFail → MemFolder → MemFolder → Type 0
-CountsWrite WriteFail.Failed f g = faults_of g ≡ raised (faults_of f)
-CountsWrite WriteFail.Memory f g = faults_of g ≡ faults_of f

@@ -6,10 +6,14 @@
 //! No call here ends the process, waits for another thread, or keeps a file open after it returns.
 #![tactic(auto)]
 
+mod host_folder;
+mod host_sink;
 mod mem_folder;
 mod mem_sink;
 mod outside;
 
+pub use host_folder::HostFolder;
+pub use host_sink::HostSink;
 pub use mem_folder::MemFolder;
 pub use mem_sink::MemSink;
 pub use outside::{Folder, NoMemory, PutFailed, ReadFail, Sink, WriteFail};

@@ -2,7 +2,7 @@ ghost use Rattle.std.specs.Prelude.{◌≡◌, ◌≢◌, ℕ, ◌+◌, ◌-◌,
 ghost use Rattle.std.specs.Ordering.{nat_cmp};
 ghost use Rattle.std.specs.BTreeMap.{get};
 ghost use Rattle.std.specs.BTreeSet.{contains};
-ghost use Rattle.par_io.specs.Causes.{Rose, Files, Told, ToldBoth, StandBut, Sets};
+ghost use Rattle.par_io.specs.Causes.{Sets, SameCounts, CountsRead, CountsWrite};
 
 use crate::outside::{Folder, NoMemory, ReadFail, WriteFail};
 use std::alloc::Global;
@@ -28,7 +28,7 @@ pub struct MemFolder {
 }
 
 impl MemFolder {
-    ghost use Rattle.par_io.specs.MemFolder.{files_of, is_read_set, write_keeps, next_read, next_write, SameCalls, SameCounts, faults_of, absents_of, longs_of, SameReadsSet, SameWritesSet};
+    ghost use Rattle.par_io.specs.MemFolder.{files_of, is_read_set, write_keeps, next_read, next_write, counts_of, SameCalls, SameReadsSet, SameWritesSet};
 
     /// A folder without files, none of whose calls is set to fail.
     pub fn new(alloc: Global) -> MemFolder
@@ -36,9 +36,7 @@ impl MemFolder {
         ensures no_read_set { (call : ℕ) → is_read_set result call ≡ false }
         ensures no_write_set { (call : ℕ) → write_keeps result call ≡ None }
         ensures no_calls { (next_read result ≡ 1) × (next_write result ≡ 1) }
-        ensures no_faults { faults_of result ≡ 0 }
-        ensures no_absents { absents_of result ≡ 0 }
-        ensures no_longs { longs_of result ≡ 0 }
+        ensures counts { counts_of result ≡ record { faults = 0; absents = 0; longs = 0 } }
     {
         MemFolder {
             alloc,
@@ -67,7 +65,7 @@ impl MemFolder {
         ensures reads_set { SameReadsSet self.old self.new }
         ensures writes_set { SameWritesSet self.old self.new }
         ensures calls { SameCalls self.old self.new }
-        ensures counts { SameCounts self.old self.new }
+        ensures counts { SameCounts (counts_of self.old) (counts_of self.new) }
     {
         self.set(self.alloc, name, bytes)
     }
@@ -78,7 +76,7 @@ impl MemFolder {
         ensures reads_set { SameReadsSet self.old self.new }
         ensures writes_set { SameWritesSet self.old self.new }
         ensures calls { SameCalls self.old self.new }
-        ensures counts { SameCounts self.old self.new }
+        ensures counts { SameCounts (counts_of self.old) (counts_of self.new) }
     {
         let name = String::from_str(alloc, name)?;
         let bytes = Vec::from_slice(alloc, bytes)?;
@@ -96,7 +94,7 @@ impl MemFolder {
         ensures files { files_of self.new ≡ files_of self.old }
         ensures writes_set { SameWritesSet self.old self.new }
         ensures calls { SameCalls self.old self.new }
-        ensures counts { SameCounts self.old self.new }
+        ensures counts { SameCounts (counts_of self.old) (counts_of self.new) }
     {
         self.failing_reads.insert(call)?;
         Ok(())
@@ -113,7 +111,7 @@ impl MemFolder {
         ensures files { files_of self.new ≡ files_of self.old }
         ensures reads_set { SameReadsSet self.old self.new }
         ensures calls { SameCalls self.old self.new }
-        ensures counts { SameCounts self.old self.new }
+        ensures counts { SameCounts (counts_of self.old) (counts_of self.new) }
     {
         self.failing_writes.insert(call, keep)?;
         Ok(())
@@ -127,7 +125,7 @@ impl MemFolder {
         ensures files { self.new.files ≡ self.old.files }
         ensures failing_reads { self.new.failing_reads ≡ self.old.failing_reads }
         ensures failing_writes { self.new.failing_writes ≡ self.old.failing_writes }
-        ensures counts { SameCounts self.old self.new }
+        ensures counts { SameCounts (counts_of self.old) (counts_of self.new) }
     {
         let Some(call) = self.reads.checked_add(1) else {
             return false;
@@ -144,7 +142,7 @@ impl MemFolder {
         ensures files { self.new.files ≡ self.old.files }
         ensures failing_reads { self.new.failing_reads ≡ self.old.failing_reads }
         ensures failing_writes { self.new.failing_writes ≡ self.old.failing_writes }
-        ensures counts { SameCounts self.old self.new }
+        ensures counts { SameCounts (counts_of self.old) (counts_of self.new) }
     {
         let call = self.writes.checked_add(1)?;
         self.writes = call;
@@ -153,15 +151,15 @@ impl MemFolder {
 }
 
 impl Folder for MemFolder {
-    ghost use Rattle.par_io.specs.MemFolder.{files_of, is_read_set, write_keeps, next_read, next_write, faults_of, absents_of, longs_of, CountsRead, CountsWrite, SameCounts, SameReadsSet, SameWritesSet};
+    ghost use Rattle.par_io.specs.MemFolder.{files_of, is_read_set, write_keeps, next_read, next_write, counts_of, SameReadsSet, SameWritesSet};
 
     ghost files = { λ s. Some (files_of s) };
 
-    ghost faults = { faults_of };
+    ghost faults = { λ s. s.faults };
 
-    ghost absents = { absents_of };
+    ghost absents = { λ s. s.absents };
 
-    ghost longs = { longs_of };
+    ghost longs = { λ s. s.longs };
 
     fn read(&mut self, alloc: Global, name: &str, limit: u64) -> Result<Vec<u8>, ReadFail>
         ensures kept { files_of self.new ≡ files_of self.old }
@@ -173,7 +171,11 @@ impl Folder for MemFolder {
             (bytes : List ℕ) × (files_of self.old name.now ≡ Some bytes) × (limit < length bytes)
         }
         ensures failed { IsErrOf result ReadFail.Failed ↔ IsTrue (is_read_set self.old (next_read self.old)) }
-        ensures counts { MatchResult result (λ _. SameCounts self.old self.new) (λ fail. CountsRead fail self.old self.new) }
+        ensures counts {
+            MatchResult result
+                (λ _. SameCounts (counts_of self.old) (counts_of self.new))
+                (λ fail. CountsRead fail (counts_of self.old) (counts_of self.new))
+        }
         ensures counted { next_read self.new ≡ min (next_read self.old + 1) (2 ^ 64) }
         ensures writes { next_write self.new ≡ next_write self.old }
         ensures reads_set { SameReadsSet self.old self.new }
@@ -206,11 +208,9 @@ impl Folder for MemFolder {
         ensures memory { IsErrOf result WriteFail.Memory → files_of self.new ≡ files_of self.old }
         ensures counts {
             MatchResult result
-                (λ _. faults_of self.new ≡ faults_of self.old)
-                (λ fail. CountsWrite fail self.old self.new)
+                (λ _. SameCounts (counts_of self.old) (counts_of self.new))
+                (λ fail. CountsWrite fail (counts_of self.old) (counts_of self.new))
         }
-        ensures absents { absents_of self.new ≡ absents_of self.old }
-        ensures longs { longs_of self.new ≡ longs_of self.old }
         ensures counted { next_write self.new ≡ min (next_write self.old + 1) (2 ^ 64) }
         ensures reads { next_read self.new ≡ next_read self.old }
         ensures reads_set { SameReadsSet self.old self.new }
