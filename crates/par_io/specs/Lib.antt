@@ -1,0 +1,5 @@
+pub mod Causes
+pub mod MemFolder
+pub mod MemSink
+pub mod HostFolder
+pub mod HostSink

@@ -1,0 +1,77 @@
+-- What an answer of the outside tells of it.
+use Rattle.std.specs.Prelude.{◌≡◌, ◌≢◌, ℕ, ◌+◌, ◌-◌, ◌^◌, ◌<◌, ◌⊎◌, List, ◌++◌, Option, Some, None, if◌then◌else◌, ◌==◌}
+use Rattle.par_io.specs.declared.outside.ReadFail.{ReadFail}
+use Rattle.par_io.specs.declared.outside.WriteFail.{WriteFail}
+
+-- the last value of a count
+abbrev pub last_count : ℕ
+last_count = 2 ^ 64 - 1
+
+-- a count is greater after a call than before it, or stands at its last value
+abbrev pub Rose : ℕ → ℕ → Type 0
+Rose before after = (before < after) ⊎ (after ≡ last_count)
+
+-- a count after one more answer of its kind: its last value stays
+abbrev pub raised : ℕ → ℕ
+raised count = if count == last_count then last_count else count + 1
+
+-- how many reads and writes failed, how many reads found no file, and how many found one that is
+-- longer than their limit
+pub record Counts : Type 0 where
+  pub faults : ℕ
+  pub absents : ℕ
+  pub longs : ℕ
+
+-- each count stands
+abbrev pub SameCounts : Counts → Counts → Type 0
+SameCounts old new = (new.faults ≡ old.faults) × (new.absents ≡ old.absents) × (new.longs ≡ old.longs)
+
+-- a read that failed so raises the count of its kind, and no other
+abbrev pub CountsRead : ReadFail → Counts → Counts → Type 0
+CountsRead ReadFail.Absent old new = (new.absents ≡ raised old.absents) × (new.faults ≡ old.faults) × (new.longs ≡ old.longs)
+CountsRead ReadFail.TooLong old new = (new.longs ≡ raised old.longs) × (new.faults ≡ old.faults) × (new.absents ≡ old.absents)
+CountsRead ReadFail.Failed old new = (new.faults ≡ raised old.faults) × (new.absents ≡ old.absents) × (new.longs ≡ old.longs)
+CountsRead ReadFail.Memory old new = SameCounts old new
+
+-- a write that failed so raises the count of faults, and want of memory raises none
+abbrev pub CountsWrite : WriteFail → Counts → Counts → Type 0
+CountsWrite WriteFail.Failed old new = (new.faults ≡ raised old.faults) × (new.absents ≡ old.absents) × (new.longs ≡ old.longs)
+CountsWrite WriteFail.Memory old new = SameCounts old new
+
+-- files by their names
+abbrev pub Files : Type 0
+Files = List ℕ → Option (List ℕ)
+
+-- a fact about the files, where they are told
+abbrev pub Told : Option Files → (Files → Type 0) → Type 0
+Told None P = Unit {0}
+Told (Some files) P = P files
+
+-- a fact about the files before and after a call: both are told, or neither is
+abbrev pub ToldBoth : Option Files → Option Files → (Files → Files → Type 0) → Type 0
+ToldBoth None None R = Unit {0}
+ToldBoth None (Some new) R = ⊥
+ToldBoth (Some old) None R = ⊥
+ToldBoth (Some old) (Some new) R = R old new
+
+-- all files but that of this name stand
+abbrev pub StandBut : List ℕ → Files → Files → Type 0
+StandBut name old new = (other : List ℕ) → other ≢ name → new other ≡ old other
+
+-- this name has these bytes, and all other files stand
+abbrev pub Sets : List ℕ → List ℕ → Files → Files → Type 0
+Sets name bytes old new = (new name ≡ Some bytes) × StandBut name old new
+
+-- a fact about the bytes put so far, where they are told
+abbrev pub ToldBytes : Option (List ℕ) → (List ℕ → Type 0) → Type 0
+ToldBytes None P = Unit {0}
+ToldBytes (Some bytes) P = P bytes
+
+-- the bytes put so far and then these, where they are told
+abbrev pub appended : Option (List ℕ) → List ℕ → Option (List ℕ)
+appended None more = None
+appended (Some bytes) more = Some (bytes ++ more)
+
+-- what is held after a call is what was held before it and a front of these bytes
+abbrev pub AppendsFront : Option (List ℕ) → Option (List ℕ) → List ℕ → Type 0
+AppendsFront old new more = (front back : List ℕ) × (front ++ back ≡ more) × (new ≡ appended old front)
