@@ -1,1 +1,17 @@
+//! The instructions of the Java virtual machine that this product writes and runs.
+//!
+//! Compiler and runner share one table of opcodes, so neither can read what the other did not
+//! write. The crate knows single instructions: how one is spelled in bytes (Java Virtual Machine
+//! Specification, Java SE 7, section 6.5) and how it changes the length of the operand list. It
+//! never looks into a constant pool, follows a branch or runs anything.
+//!
+//! An opcode is added by one line of the table `opcodes!` in opcodes.rt and one row of `listed` in
+//! specs/Spelling.antt. Nothing else changes: `Instr` and its rows there are whole already, and
+//! what is not yet listed has no spelling and is refused.
 #![tactic(auto)]
+
+mod instr;
+mod opcodes;
+
+pub use instr::{Instr, InstrError, NoMemory};
+pub use opcodes::{decode, encode, stack_effect};
