@@ -116,33 +116,41 @@ module _ (s : Symbols) (i : Input) (vs : Values) where
   unfolding run
   more_idents_else n0 = general.run_name straight founded s i vs g.MoreIdents ([]) (rw n0)
 
-  pub locks_lock : same (next i) (sort.Word word.LOCK) ≡ true → run (name g.Locks ∷ s) i vs ≡ run (token (sort.Word word.LOCK) ∷ kept sort.Name ∷ token (sort.Sign sign.SEMICOLON) ∷ builds g.NextIdent ∷ name g.Locks ∷ s) i vs
+  pub locks_opens : run (name g.Locks ∷ s) i vs ≡ run (builds g.NoIdents ∷ name g.MoreLocks ∷ s) i vs
   unfolding run
-  locks_lock h = general.run_name straight founded s i vs g.Locks (token (sort.Word word.LOCK) ∷ kept sort.Name ∷ token (sort.Sign sign.SEMICOLON) ∷ builds g.NextIdent ∷ name g.Locks ∷ []) (rw h)
+  locks_opens = general.run_name straight founded s i vs g.Locks (builds g.NoIdents ∷ name g.MoreLocks ∷ []) (refl)
 
-  pub locks_else : same (next i) (sort.Word word.LOCK) ≡ false → run (name g.Locks ∷ s) i vs ≡ run (s) i vs
+  pub more_locks_lock : same (next i) (sort.Word word.LOCK) ≡ true → run (name g.MoreLocks ∷ s) i vs ≡ run (token (sort.Word word.LOCK) ∷ kept sort.Name ∷ token (sort.Sign sign.SEMICOLON) ∷ builds g.NextIdent ∷ name g.MoreLocks ∷ s) i vs
   unfolding run
-  locks_else n0 = general.run_name straight founded s i vs g.Locks ([]) (rw n0)
+  more_locks_lock h = general.run_name straight founded s i vs g.MoreLocks (token (sort.Word word.LOCK) ∷ kept sort.Name ∷ token (sort.Sign sign.SEMICOLON) ∷ builds g.NextIdent ∷ name g.MoreLocks ∷ []) (rw h)
 
-  pub members_question : same (next i) (sort.Sign sign.QUESTION) ≡ true → run (name g.Members ∷ s) i vs ≡ run (token (sort.Sign sign.QUESTION) ∷ name g.Policy ∷ name g.Kind ∷ name g.Members ∷ s) i vs
+  pub more_locks_else : same (next i) (sort.Word word.LOCK) ≡ false → run (name g.MoreLocks ∷ s) i vs ≡ run (s) i vs
   unfolding run
-  members_question h = general.run_name straight founded s i vs g.Members (token (sort.Sign sign.QUESTION) ∷ name g.Policy ∷ name g.Kind ∷ name g.Members ∷ []) (rw h)
+  more_locks_else n0 = general.run_name straight founded s i vs g.MoreLocks ([]) (rw n0)
 
-  pub members_else : same (next i) (sort.Sign sign.QUESTION) ≡ false → run (name g.Members ∷ s) i vs ≡ run (s) i vs
+  pub members_opens : run (name g.Members ∷ s) i vs ≡ run (builds g.NoMembers ∷ name g.MoreMembers ∷ s) i vs
   unfolding run
-  members_else n0 = general.run_name straight founded s i vs g.Members ([]) (rw n0)
+  members_opens = general.run_name straight founded s i vs g.Members (builds g.NoMembers ∷ name g.MoreMembers ∷ []) (refl)
 
-  pub policy_opens : run (name g.Policy ∷ s) i vs ≡ run (token (sort.Sign sign.LEFT_BRACE) ∷ builds g.NoClauses ∷ name g.Clauses ∷ token (sort.Sign sign.RIGHT_BRACE) ∷ s) i vs
+  pub more_members_question : same (next i) (sort.Sign sign.QUESTION) ≡ true → run (name g.MoreMembers ∷ s) i vs ≡ run (token (sort.Sign sign.QUESTION) ∷ name g.Policy ∷ name g.Kind ∷ name g.MoreMembers ∷ s) i vs
   unfolding run
-  policy_opens = general.run_name straight founded s i vs g.Policy (token (sort.Sign sign.LEFT_BRACE) ∷ builds g.NoClauses ∷ name g.Clauses ∷ token (sort.Sign sign.RIGHT_BRACE) ∷ []) (refl)
+  more_members_question h = general.run_name straight founded s i vs g.MoreMembers (token (sort.Sign sign.QUESTION) ∷ name g.Policy ∷ name g.Kind ∷ name g.MoreMembers ∷ []) (rw h)
 
-  pub clauses_name : same (next i) (sort.Name) ≡ true → run (name g.Clauses ∷ s) i vs ≡ run (name g.Clause ∷ name g.MoreClauses ∷ s) i vs
+  pub more_members_else : same (next i) (sort.Sign sign.QUESTION) ≡ false → run (name g.MoreMembers ∷ s) i vs ≡ run (s) i vs
   unfolding run
-  clauses_name h = general.run_name straight founded s i vs g.Clauses (name g.Clause ∷ name g.MoreClauses ∷ []) (rw h)
+  more_members_else n0 = general.run_name straight founded s i vs g.MoreMembers ([]) (rw n0)
 
-  pub clauses_else : same (next i) (sort.Name) ≡ false → run (name g.Clauses ∷ s) i vs ≡ run (s) i vs
+  pub policy_opens : run (name g.Policy ∷ s) i vs ≡ run (token (sort.Sign sign.LEFT_BRACE) ∷ name g.Clauses ∷ token (sort.Sign sign.RIGHT_BRACE) ∷ s) i vs
   unfolding run
-  clauses_else n0 = general.run_name straight founded s i vs g.Clauses ([]) (rw n0)
+  policy_opens = general.run_name straight founded s i vs g.Policy (token (sort.Sign sign.LEFT_BRACE) ∷ name g.Clauses ∷ token (sort.Sign sign.RIGHT_BRACE) ∷ []) (refl)
+
+  pub clauses_name : same (next i) (sort.Name) ≡ true → run (name g.Clauses ∷ s) i vs ≡ run (builds g.NoClauses ∷ name g.Clause ∷ name g.MoreClauses ∷ s) i vs
+  unfolding run
+  clauses_name h = general.run_name straight founded s i vs g.Clauses (builds g.NoClauses ∷ name g.Clause ∷ name g.MoreClauses ∷ []) (rw h)
+
+  pub clauses_else : same (next i) (sort.Name) ≡ false → run (name g.Clauses ∷ s) i vs ≡ run (builds g.NoClauses ∷ s) i vs
+  unfolding run
+  clauses_else n0 = general.run_name straight founded s i vs g.Clauses (builds g.NoClauses ∷ []) (rw n0)
 
   pub more_clauses_semicolon : same (next i) (sort.Sign sign.SEMICOLON) ≡ true → run (name g.MoreClauses ∷ s) i vs ≡ run (token (sort.Sign sign.SEMICOLON) ∷ name g.Clause ∷ name g.MoreClauses ∷ s) i vs
   unfolding run
@@ -152,17 +160,17 @@ module _ (s : Symbols) (i : Input) (vs : Values) where
   unfolding run
   more_clauses_else n0 = general.run_name straight founded s i vs g.MoreClauses ([]) (rw n0)
 
-  pub clause_opens : run (name g.Clause ∷ s) i vs ≡ run (kept sort.Name ∷ token (sort.Sign sign.COLON) ∷ builds g.NoIdents ∷ name g.Needed ∷ builds g.NextClause ∷ s) i vs
+  pub clause_opens : run (name g.Clause ∷ s) i vs ≡ run (kept sort.Name ∷ token (sort.Sign sign.COLON) ∷ name g.Needed ∷ builds g.NextClause ∷ s) i vs
   unfolding run
-  clause_opens = general.run_name straight founded s i vs g.Clause (kept sort.Name ∷ token (sort.Sign sign.COLON) ∷ builds g.NoIdents ∷ name g.Needed ∷ builds g.NextClause ∷ []) (refl)
+  clause_opens = general.run_name straight founded s i vs g.Clause (kept sort.Name ∷ token (sort.Sign sign.COLON) ∷ name g.Needed ∷ builds g.NextClause ∷ []) (refl)
 
-  pub needed_name : same (next i) (sort.Name) ≡ true → run (name g.Needed ∷ s) i vs ≡ run (kept sort.Name ∷ builds g.NextIdent ∷ name g.MoreIdents ∷ s) i vs
+  pub needed_name : same (next i) (sort.Name) ≡ true → run (name g.Needed ∷ s) i vs ≡ run (builds g.NoIdents ∷ kept sort.Name ∷ builds g.NextIdent ∷ name g.MoreIdents ∷ s) i vs
   unfolding run
-  needed_name h = general.run_name straight founded s i vs g.Needed (kept sort.Name ∷ builds g.NextIdent ∷ name g.MoreIdents ∷ []) (rw h)
+  needed_name h = general.run_name straight founded s i vs g.Needed (builds g.NoIdents ∷ kept sort.Name ∷ builds g.NextIdent ∷ name g.MoreIdents ∷ []) (rw h)
 
-  pub needed_else : same (next i) (sort.Name) ≡ false → run (name g.Needed ∷ s) i vs ≡ run (s) i vs
+  pub needed_else : same (next i) (sort.Name) ≡ false → run (name g.Needed ∷ s) i vs ≡ run (builds g.NoIdents ∷ s) i vs
   unfolding run
-  needed_else n0 = general.run_name straight founded s i vs g.Needed ([]) (rw n0)
+  needed_else n0 = general.run_name straight founded s i vs g.Needed (builds g.NoIdents ∷ []) (rw n0)
 
   pub kind_input : same (next i) (sort.Word word.INPUT) ≡ true → run (name g.Kind ∷ s) i vs ≡ run (token (sort.Word word.INPUT) ∷ token (sort.Word word.INT) ∷ kept sort.Name ∷ token (sort.Sign sign.LEFT_PAREN) ∷ token (sort.Sign sign.RIGHT_PAREN) ∷ token (sort.Sign sign.SEMICOLON) ∷ builds (g.NextMember InputKind) ∷ s) i vs
   unfolding run
@@ -180,21 +188,25 @@ module _ (s : Symbols) (i : Input) (vs : Values) where
   unfolding run
   kind_else n0 n1 n2 = general.run_no_name straight founded s i vs g.Kind (rw (n0, n1, n2))
 
-  pub statements_int : same (next i) (sort.Word word.INT) ≡ true → run (name g.Statements ∷ s) i vs ≡ run (restarts ∷ token (sort.Word word.INT) ∷ kept sort.Name ∷ token (sort.Sign sign.ASSIGN) ∷ name g.Sum ∷ token (sort.Sign sign.SEMICOLON) ∷ builds g.NextLocal ∷ name g.Statements ∷ s) i vs
+  pub statements_opens : run (name g.Statements ∷ s) i vs ≡ run (builds g.NoStatements ∷ name g.MoreStatements ∷ s) i vs
   unfolding run
-  statements_int h = general.run_name straight founded s i vs g.Statements (restarts ∷ token (sort.Word word.INT) ∷ kept sort.Name ∷ token (sort.Sign sign.ASSIGN) ∷ name g.Sum ∷ token (sort.Sign sign.SEMICOLON) ∷ builds g.NextLocal ∷ name g.Statements ∷ []) (rw h)
+  statements_opens = general.run_name straight founded s i vs g.Statements (builds g.NoStatements ∷ name g.MoreStatements ∷ []) (refl)
 
-  pub statements_open : same (next i) (sort.Word word.INT) ≡ false → same (next i) (sort.Word word.OPEN) ≡ true → run (name g.Statements ∷ s) i vs ≡ run (restarts ∷ token (sort.Word word.OPEN) ∷ kept sort.Name ∷ token (sort.Sign sign.SEMICOLON) ∷ builds g.NextOpen ∷ name g.Statements ∷ s) i vs
+  pub more_statements_int : same (next i) (sort.Word word.INT) ≡ true → run (name g.MoreStatements ∷ s) i vs ≡ run (restarts ∷ token (sort.Word word.INT) ∷ kept sort.Name ∷ token (sort.Sign sign.ASSIGN) ∷ name g.Sum ∷ token (sort.Sign sign.SEMICOLON) ∷ builds g.NextLocal ∷ name g.MoreStatements ∷ s) i vs
   unfolding run
-  statements_open n0 h = general.run_name straight founded s i vs g.Statements (restarts ∷ token (sort.Word word.OPEN) ∷ kept sort.Name ∷ token (sort.Sign sign.SEMICOLON) ∷ builds g.NextOpen ∷ name g.Statements ∷ []) (rw (n0, h))
+  more_statements_int h = general.run_name straight founded s i vs g.MoreStatements (restarts ∷ token (sort.Word word.INT) ∷ kept sort.Name ∷ token (sort.Sign sign.ASSIGN) ∷ name g.Sum ∷ token (sort.Sign sign.SEMICOLON) ∷ builds g.NextLocal ∷ name g.MoreStatements ∷ []) (rw h)
 
-  pub statements_name : same (next i) (sort.Word word.INT) ≡ false → same (next i) (sort.Word word.OPEN) ≡ false → same (next i) (sort.Name) ≡ true → run (name g.Statements ∷ s) i vs ≡ run (restarts ∷ kept sort.Name ∷ name g.Effect ∷ token (sort.Sign sign.SEMICOLON) ∷ name g.Statements ∷ s) i vs
+  pub more_statements_open : same (next i) (sort.Word word.INT) ≡ false → same (next i) (sort.Word word.OPEN) ≡ true → run (name g.MoreStatements ∷ s) i vs ≡ run (restarts ∷ token (sort.Word word.OPEN) ∷ kept sort.Name ∷ token (sort.Sign sign.SEMICOLON) ∷ builds g.NextOpen ∷ name g.MoreStatements ∷ s) i vs
   unfolding run
-  statements_name n0 n1 h = general.run_name straight founded s i vs g.Statements (restarts ∷ kept sort.Name ∷ name g.Effect ∷ token (sort.Sign sign.SEMICOLON) ∷ name g.Statements ∷ []) (rw (n0, n1, h))
+  more_statements_open n0 h = general.run_name straight founded s i vs g.MoreStatements (restarts ∷ token (sort.Word word.OPEN) ∷ kept sort.Name ∷ token (sort.Sign sign.SEMICOLON) ∷ builds g.NextOpen ∷ name g.MoreStatements ∷ []) (rw (n0, h))
 
-  pub statements_else : same (next i) (sort.Word word.INT) ≡ false → same (next i) (sort.Word word.OPEN) ≡ false → same (next i) (sort.Name) ≡ false → run (name g.Statements ∷ s) i vs ≡ run (s) i vs
+  pub more_statements_name : same (next i) (sort.Word word.INT) ≡ false → same (next i) (sort.Word word.OPEN) ≡ false → same (next i) (sort.Name) ≡ true → run (name g.MoreStatements ∷ s) i vs ≡ run (restarts ∷ kept sort.Name ∷ name g.Effect ∷ token (sort.Sign sign.SEMICOLON) ∷ name g.MoreStatements ∷ s) i vs
   unfolding run
-  statements_else n0 n1 n2 = general.run_name straight founded s i vs g.Statements ([]) (rw (n0, n1, n2))
+  more_statements_name n0 n1 h = general.run_name straight founded s i vs g.MoreStatements (restarts ∷ kept sort.Name ∷ name g.Effect ∷ token (sort.Sign sign.SEMICOLON) ∷ name g.MoreStatements ∷ []) (rw (n0, n1, h))
+
+  pub more_statements_else : same (next i) (sort.Word word.INT) ≡ false → same (next i) (sort.Word word.OPEN) ≡ false → same (next i) (sort.Name) ≡ false → run (name g.MoreStatements ∷ s) i vs ≡ run (s) i vs
+  unfolding run
+  more_statements_else n0 n1 n2 = general.run_name straight founded s i vs g.MoreStatements ([]) (rw (n0, n1, n2))
 
   pub effect_assign : same (next i) (sort.Sign sign.ASSIGN) ≡ true → run (name g.Effect ∷ s) i vs ≡ run (token (sort.Sign sign.ASSIGN) ∷ name g.Sum ∷ builds g.NextAssign ∷ s) i vs
   unfolding run
@@ -240,4 +252,16 @@ module _ (s : Symbols) (i : Input) (vs : Values) where
   unfolding run
   called_else n0 = general.run_name straight founded s i vs g.Called (builds g.Variable ∷ []) (rw n0)
 
-pub ruleset alternatives = (source_opens, idents_opens, more_idents_comma, more_idents_else, locks_lock, locks_else, members_question, members_else, policy_opens, clauses_name, clauses_else, more_clauses_semicolon, more_clauses_else, clause_opens, needed_name, needed_else, kind_input, kind_output, kind_static, kind_else, statements_int, statements_open, statements_name, statements_else, effect_assign, effect_call, effect_else, sum_opens, more_terms_plus, more_terms_else, term_number, term_name, term_else, called_paren, called_else, run_builds, run_restarts, run_leaves)
+pub ruleset ident_rules = (idents_opens, more_idents_comma, more_idents_else, run_builds)
+
+pub ruleset lock_rules = (locks_opens, more_locks_lock, more_locks_else, run_builds)
+
+pub ruleset clause_rules = (policy_opens, clauses_name, clauses_else, more_clauses_semicolon, more_clauses_else, clause_opens, needed_name, needed_else, run_builds)
+
+pub ruleset member_rules = (kind_input, kind_output, kind_static, kind_else, members_opens, more_members_question, more_members_else, run_builds)
+
+pub ruleset term_rules = (sum_opens, more_terms_plus, more_terms_else, term_number, term_name, term_else, called_paren, called_else, run_builds)
+
+pub ruleset statement_rules = (effect_assign, effect_call, effect_else, statements_opens, more_statements_int, more_statements_open, more_statements_name, more_statements_else, run_builds, run_restarts)
+
+pub ruleset source_rules = (source_opens, run_builds)

@@ -15,7 +15,9 @@ pub data Names : Type 0 where
   Idents : Names
   MoreIdents : Names
   Locks : Names
+  MoreLocks : Names
   Members : Names
+  MoreMembers : Names
   Policy : Names
   Clauses : Names
   MoreClauses : Names
@@ -23,6 +25,7 @@ pub data Names : Type 0 where
   Needed : Names
   Kind : Names
   Statements : Names
+  MoreStatements : Names
   Effect : Names
   Sum : Names
   MoreTerms : Names
@@ -67,29 +70,29 @@ on first symbols = record { first = first; symbols = symbols }
 -- 'actor' Idents ';' Locks 'class' NAME '{' Members 'static' 'void' NAME '(' ')' '!' 'bottom' '{' Statements '}' '}' end
 abbrev pub source : Symbols
 source =
-    word_ word.ACTOR ∷ name Idents ∷ sign_ sign.SEMICOLON ∷ builds NoIdents ∷ name Locks
-    ∷ word_ word.CLASS ∷ ident ∷ sign_ sign.LEFT_BRACE ∷ builds NoMembers ∷ name Members
+    word_ word.ACTOR ∷ name Idents ∷ sign_ sign.SEMICOLON ∷ name Locks
+    ∷ word_ word.CLASS ∷ ident ∷ sign_ sign.LEFT_BRACE ∷ name Members
     ∷ word_ word.STATIC ∷ word_ word.VOID ∷ ident ∷ sign_ sign.LEFT_PAREN ∷ sign_ sign.RIGHT_PAREN ∷ sign_ sign.BANG ∷ word_ word.BOTTOM
-    ∷ enters ∷ sign_ sign.LEFT_BRACE ∷ builds NoStatements ∷ name Statements ∷ sign_ sign.RIGHT_BRACE ∷ leaves
+    ∷ enters ∷ sign_ sign.LEFT_BRACE ∷ name Statements ∷ sign_ sign.RIGHT_BRACE ∷ leaves
     ∷ sign_ sign.RIGHT_BRACE ∷ finish ∷ builds Whole ∷ []
 
 -- the alternatives of each name, by the token that they begin with
 abbrev pub choices : Names → List (Choice Names Builders)
 choices MoreIdents = on (sort.Sign sign.COMMA) (sign_ sign.COMMA ∷ ident ∷ builds NextIdent ∷ name MoreIdents ∷ []) ∷ []
-choices Locks = on (sort.Word word.LOCK) (word_ word.LOCK ∷ ident ∷ sign_ sign.SEMICOLON ∷ builds NextIdent ∷ name Locks ∷ []) ∷ []
-choices Members = on (sort.Sign sign.QUESTION) (sign_ sign.QUESTION ∷ name Policy ∷ name Kind ∷ name Members ∷ []) ∷ []
-choices Clauses = on sort.Name (name Clause ∷ name MoreClauses ∷ []) ∷ []
+choices MoreLocks = on (sort.Word word.LOCK) (word_ word.LOCK ∷ ident ∷ sign_ sign.SEMICOLON ∷ builds NextIdent ∷ name MoreLocks ∷ []) ∷ []
+choices MoreMembers = on (sort.Sign sign.QUESTION) (sign_ sign.QUESTION ∷ name Policy ∷ name Kind ∷ name MoreMembers ∷ []) ∷ []
+choices Clauses = on sort.Name (builds NoClauses ∷ name Clause ∷ name MoreClauses ∷ []) ∷ []
 choices MoreClauses = on (sort.Sign sign.SEMICOLON) (sign_ sign.SEMICOLON ∷ name Clause ∷ name MoreClauses ∷ []) ∷ []
-choices Needed = on sort.Name (ident ∷ builds NextIdent ∷ name MoreIdents ∷ []) ∷ []
+choices Needed = on sort.Name (builds NoIdents ∷ ident ∷ builds NextIdent ∷ name MoreIdents ∷ []) ∷ []
 choices Kind =
     on (sort.Word word.INPUT) (word_ word.INPUT ∷ word_ word.INT ∷ ident ∷ sign_ sign.LEFT_PAREN ∷ sign_ sign.RIGHT_PAREN ∷ sign_ sign.SEMICOLON ∷ builds (NextMember Input) ∷ [])
     ∷ on (sort.Word word.OUTPUT)
       (word_ word.OUTPUT ∷ word_ word.VOID ∷ ident ∷ sign_ sign.LEFT_PAREN ∷ word_ word.INT ∷ token sort.Name ∷ sign_ sign.RIGHT_PAREN ∷ sign_ sign.SEMICOLON ∷ builds (NextMember Output) ∷ [])
     ∷ on (sort.Word word.STATIC) (word_ word.STATIC ∷ word_ word.INT ∷ ident ∷ sign_ sign.SEMICOLON ∷ builds (NextMember Field) ∷ []) ∷ []
-choices Statements =
-    on (sort.Word word.INT) (restarts ∷ word_ word.INT ∷ ident ∷ sign_ sign.ASSIGN ∷ name Sum ∷ sign_ sign.SEMICOLON ∷ builds NextLocal ∷ name Statements ∷ [])
-    ∷ on (sort.Word word.OPEN) (restarts ∷ word_ word.OPEN ∷ ident ∷ sign_ sign.SEMICOLON ∷ builds NextOpen ∷ name Statements ∷ [])
-    ∷ on sort.Name (restarts ∷ ident ∷ name Effect ∷ sign_ sign.SEMICOLON ∷ name Statements ∷ []) ∷ []
+choices MoreStatements =
+    on (sort.Word word.INT) (restarts ∷ word_ word.INT ∷ ident ∷ sign_ sign.ASSIGN ∷ name Sum ∷ sign_ sign.SEMICOLON ∷ builds NextLocal ∷ name MoreStatements ∷ [])
+    ∷ on (sort.Word word.OPEN) (restarts ∷ word_ word.OPEN ∷ ident ∷ sign_ sign.SEMICOLON ∷ builds NextOpen ∷ name MoreStatements ∷ [])
+    ∷ on sort.Name (restarts ∷ ident ∷ name Effect ∷ sign_ sign.SEMICOLON ∷ name MoreStatements ∷ []) ∷ []
 choices Effect =
     on (sort.Sign sign.ASSIGN) (sign_ sign.ASSIGN ∷ name Sum ∷ builds NextAssign ∷ [])
     ∷ on (sort.Sign sign.LEFT_PAREN) (counts ∷ sign_ sign.LEFT_PAREN ∷ name Sum ∷ sign_ sign.RIGHT_PAREN ∷ builds NextCall ∷ []) ∷ []
@@ -103,15 +106,18 @@ abbrev pub otherwise : Names → Option Symbols
 otherwise Source = Some source
 otherwise Idents = Some (builds NoIdents ∷ ident ∷ builds NextIdent ∷ name MoreIdents ∷ [])
 otherwise MoreIdents = Some []
-otherwise Locks = Some []
-otherwise Members = Some []
-otherwise Policy = Some (sign_ sign.LEFT_BRACE ∷ builds NoClauses ∷ name Clauses ∷ sign_ sign.RIGHT_BRACE ∷ [])
-otherwise Clauses = Some []
+otherwise Locks = Some (builds NoIdents ∷ name MoreLocks ∷ [])
+otherwise MoreLocks = Some []
+otherwise Members = Some (builds NoMembers ∷ name MoreMembers ∷ [])
+otherwise MoreMembers = Some []
+otherwise Policy = Some (sign_ sign.LEFT_BRACE ∷ name Clauses ∷ sign_ sign.RIGHT_BRACE ∷ [])
+otherwise Clauses = Some (builds NoClauses ∷ [])
 otherwise MoreClauses = Some []
-otherwise Clause = Some (ident ∷ sign_ sign.COLON ∷ builds NoIdents ∷ name Needed ∷ builds NextClause ∷ [])
-otherwise Needed = Some []
+otherwise Clause = Some (ident ∷ sign_ sign.COLON ∷ name Needed ∷ builds NextClause ∷ [])
+otherwise Needed = Some (builds NoIdents ∷ [])
 otherwise Kind = None
-otherwise Statements = Some []
+otherwise Statements = Some (builds NoStatements ∷ name MoreStatements ∷ [])
+otherwise MoreStatements = Some []
 otherwise Effect = None
 otherwise Sum = Some (builds NoTerms ∷ name Term ∷ builds NextTerm ∷ name MoreTerms ∷ [])
 otherwise MoreTerms = Some []

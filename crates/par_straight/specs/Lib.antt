@@ -3,3 +3,5 @@ pub mod Values
 pub mod Sentence
 pub mod Names
 pub mod Conditions
+pub mod Rules
+pub mod Judged

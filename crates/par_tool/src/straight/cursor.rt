@@ -112,7 +112,7 @@ impl<'a> Cursor<'a> {
     pub fn finish(&self) -> Result<(), ParseError>
         ensures { Reads (g.finish ∷ []) [] nothing (input self.now) result (input self.now) }
     {
-        if self.left.is_empty() {
+        if self.sees(Sort::End) {
             Ok(())
         } else {
             Err(ParseError::Syntax(self.at))
