@@ -1,3 +1,5 @@
 pub mod Comments
 pub mod Numbers
 pub mod Prefixes
+pub mod Finds
+pub mod Reach

@@ -2,4 +2,5 @@ pub mod Names
 pub mod Tables
 pub mod Pieces
 pub mod Tokens
+pub mod Spans
 pub mod formers
