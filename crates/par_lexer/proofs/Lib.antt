@@ -3,3 +3,4 @@ pub mod Numbers
 pub mod Prefixes
 pub mod Finds
 pub mod Reach
+pub mod Cuts
