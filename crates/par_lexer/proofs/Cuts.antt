@@ -37,7 +37,7 @@ decided (breaks error e a) (passes n f d) = cc
 decided (breaks error e a) (takes kind n rest f d b) = cc
 decided (breaks error e a) (breaks error' f b) = cc
 
-cut_on : (at : ℕ) (bytes : List ℕ) (p : Piece) → piece_at at bytes ≡ p → Reaches bytes p → ((n : ℕ) → 0 < n → n ≤ length bytes → (outcome : Outcome) × Cut (at + n) (drop n bytes) outcome) → (outcome : Outcome) × Cut at bytes outcome
+cut_on : (at : ℕ) (bytes : List ℕ) (p : Piece) → piece_at at bytes ≡ p → Reaches at bytes p → ((n : ℕ) → 0 < n → n ≤ length bytes → (outcome : Outcome) × Cut (at + n) (drop n bytes) outcome) → (outcome : Outcome) × Cut at bytes outcome
 cut_on at bytes piece.End e reach later = (Ok [], ends e refl)
 cut_on at bytes (piece.Gap n) e reach later = let rest = later n reach.0 reach.1 in (rest.0, passes n e rest.1)
 cut_on at bytes (piece.Token kind n) e reach later = let rest = later n reach.0 reach.1 in (before (token_at kind at n) rest.0, takes kind n rest.0 e rest.1 refl)

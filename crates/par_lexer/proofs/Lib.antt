@@ -4,3 +4,5 @@ pub mod Prefixes
 pub mod Finds
 pub mod Reach
 pub mod Cuts
+pub mod Progress
+pub mod Refusals

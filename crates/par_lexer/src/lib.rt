@@ -5,6 +5,7 @@
 #![tactic(auto)]
 
 mod bytes;
+mod cut;
 pub mod list;
 pub mod name;
 mod number;
@@ -17,3 +18,5 @@ mod table;
 mod tests;
 pub mod token;
 pub mod word;
+
+pub use cut::lex;
