@@ -6,3 +6,4 @@ pub mod Reach
 pub mod Cuts
 pub mod Progress
 pub mod Refusals
+pub mod Laying

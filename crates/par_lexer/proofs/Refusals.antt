@@ -28,7 +28,7 @@ fault_within (takes kind n (Ok tokens) e cut is) error broken = cc
 fault_within {at = at} {bytes = bytes} (takes kind n (Err fault) e cut is) error broken =
     let Reach : Piece → Type 0 = Reaches at bytes in
     let reach : Reaches at bytes (piece.Token kind n) = subst Reach e (reaches at bytes) in
-    let same : Err fault ≡ Err error = cc in
+    let same : ◌≡◌ {A = Outcome} (Err fault) (Err error) = cc in
     wider _ _ _ _ error (omega arith) (omega (arith, reach.1, length-drop n bytes)) (fault_within cut error same)
 fault_within {at = at} {bytes = bytes} (breaks fault e is) error broken =
     let Reach : Piece → Type 0 = Reaches at bytes in

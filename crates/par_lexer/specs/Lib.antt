@@ -3,4 +3,5 @@ pub mod Tables
 pub mod Pieces
 pub mod Tokens
 pub mod Spans
+pub mod Places
 pub mod formers

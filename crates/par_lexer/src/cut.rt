@@ -1,6 +1,6 @@
-ghost use Rattle.std.specs.Prelude.{◌≡◌, ◌≤◌, IfOk, IfErr, OnOk, length, drop};
+ghost use Rattle.std.specs.Prelude.{◌≡◌, ◌↔◌, ◌<◌, ◌≤◌, IfOk, IfErr, IsErrOf, length, drop};
 ghost use Rattle.par_lexer.specs.Pieces.{piece_at};
-ghost use Rattle.par_lexer.specs.Spans.{Reaches};
+ghost use Rattle.par_lexer.specs.Spans.{Reaches, IsLaid};
 ghost use Rattle.par_lexer.specs.Tokens.{HasTokens, IsRefusal, IsPlaced};
 
 use crate::list::{List, NoMemory};
@@ -27,7 +27,8 @@ fn next_piece(alloc: Global, source: &[u8], at: u32) -> Result<Piece, NoMemory>
 /// none, and the empty source has no token.
 pub fn lex(alloc: Global, source: &[u8]) -> Result<List<Token>, LexError>
     ensures ok { IfOk result (HasTokens source.now) }
-    ensures short { OnOk result (length source.now ≤ 262144) }
+    ensures laid { IfOk result (IsLaid source.now) }
+    ensures too_long { IsErrOf result (LexError.SourceTooLong (length source.now)) ↔ (262144 < length source.now) }
     ensures refused { IfErr result (IsRefusal source.now) }
     ensures placed { IfErr result (IsPlaced source.now) }
 {

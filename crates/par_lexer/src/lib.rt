@@ -10,6 +10,7 @@ pub mod list;
 pub mod name;
 mod number;
 pub mod piece;
+mod place;
 mod runs;
 mod scan;
 pub mod sign;
@@ -20,3 +21,4 @@ pub mod token;
 pub mod word;
 
 pub use cut::lex;
+pub use place::place_of;

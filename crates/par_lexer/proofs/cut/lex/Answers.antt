@@ -3,6 +3,7 @@ use Rattle.par_lexer.specs.declared.token.Token.{Token}
 use Rattle.par_lexer.specs.declared.piece.Piece.TheVariants as piece
 use Rattle.par_lexer.specs.Pieces.{piece_at}
 use Rattle.par_lexer.proofs.Progress.{SoFar, gap_passed, token_taken, all_taken, broken_at}
+use Rattle.par_lexer.proofs.Laying.{laid}
 use Rattle.par_lexer.proofs.Refusals.{refusal}
 use Rattle.par_lexer.proofs.cut.lex.Goals as goal
 
@@ -10,6 +11,9 @@ pub returns-in-End-clause-ok : goal.returns-in-End-clause-ok
 returns-in-End-clause-ok c =
     let stands : piece_at c.pieces.at (drop c.pieces.at c.args.source.now) ≡ piece.End = sym c.in_ok-next_piece.ensures.piece ∙ c.in-End.is in
     all_taken _ _ _ c.pieces.invariant.1 stands
+
+pub returns-in-End-clause-laid : goal.returns-in-End-clause-laid
+returns-in-End-clause-laid c = laid _ _ (returns-in-End-clause-ok c)
 
 pub returns-in-Fault-clause-refused : goal.returns-in-Fault-clause-refused
 returns-in-Fault-clause-refused c =
