@@ -20,5 +20,5 @@ mod tests;
 pub mod token;
 pub mod word;
 
-pub use cut::lex;
+pub use cut::{LONGEST_SOURCE, lex};
 pub use place::place_of;
