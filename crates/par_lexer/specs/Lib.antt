@@ -2,4 +2,6 @@ pub mod Names
 pub mod Tables
 pub mod Pieces
 pub mod Tokens
+pub mod Spans
+pub mod Places
 pub mod formers

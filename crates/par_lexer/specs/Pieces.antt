@@ -1,5 +1,5 @@
 -- What stands at the head of some bytes: nothing, a blank, a comment, a token or a fault.
-use Rattle.std.specs.Prelude.{ℕ, ◌+◌, ◌-◌, ◌*◌, List, [], ◌∷◌, ◌++◌, Bool, not, ◌&&◌, ◌==◌, nat_eq, nat_lt, if◌then◌else◌, length, take, drop, fold, find, filter, Option, Some, None, codes}
+use Rattle.std.specs.Prelude.{ℕ, ◌+◌, ◌-◌, ◌*◌, List, [], ◌∷◌, ◌++◌, Bool, not, ◌&&◌, ◌==◌, nat_eq, nat_lt, if◌then◌else◌, length, take_while, drop, fold, find, filter, Option, Some, None, codes}
 use Rattle.std.specs.List.{starts_with, prefix_len}
 use Rattle.std.specs.Option.{option_map}
 use Rattle.std.specs.Str.{bytes_eq}
@@ -34,7 +34,7 @@ abbrev pub named : List ℕ → Option Row → Kind
 named text None = Name text
 named text (Some row) = Word row.0
 
--- the longest run of letters, digits and `_`
+-- the token of a longest run of letters, digits and `_`
 abbrev pub name_at : ℕ → List ℕ → Piece
 name_at at text =
     if nat_lt 64 (length text) then Fault (NameTooLong at)
@@ -52,7 +52,7 @@ value digits = fold with_digit 0 digits
 abbrev pub has_leading_zero : List ℕ → Bool
 has_leading_zero digits = begins (codes "0") digits && nat_lt 1 (length digits)
 
--- the longest run of digits, and the bytes behind it
+-- the token of a longest run of digits, given the bytes behind it
 abbrev pub number_at : ℕ → List ℕ → List ℕ → Piece
 number_at at digits behind =
     if has_leading_zero digits then Fault (BadByte at)
@@ -68,6 +68,7 @@ signs_of n = filter (λ row. length row.1 == n) signs
 abbrev pub longest_sign : List ℕ → Option Row
 longest_sign bytes = find (λ row. begins row.1 bytes) (signs_of 3 ++ signs_of 2 ++ signs_of 1)
 
+-- the token of a sign
 abbrev pub sign_at : ℕ → Option Row → Piece
 sign_at at None = Fault (BadByte at)
 sign_at at (Some row) = Token (Sign row.0) (length row.1)
@@ -79,6 +80,6 @@ piece_at at bytes =
     else if first_is is_blank bytes then Gap 1
     else if begins (codes "//") bytes then Gap (line_length bytes)
     else if begins (codes "/*") bytes then comment_at at (through_close (drop 2 bytes))
-    else if first_is is_letter bytes then name_at at (take (prefix_len goes_on bytes) bytes)
-    else if first_is is_digit bytes then number_at at (take (prefix_len is_digit bytes) bytes) (drop (prefix_len is_digit bytes) bytes)
+    else if first_is is_letter bytes then name_at at (take_while goes_on bytes)
+    else if first_is is_digit bytes then number_at at (take_while is_digit bytes) (drop (prefix_len is_digit bytes) bytes)
     else sign_at at (longest_sign bytes)

@@ -3,7 +3,7 @@ use Rattle.std.specs.Prelude.{◌≡◌, ℕ, ◌+◌, ◌<◌, ◌≤◌, List,
 use Rattle.par_lexer.specs.declared.token.Kind.{Kind}
 use Rattle.par_lexer.specs.declared.token.Token.{Token}
 use Rattle.par_lexer.specs.declared.token.LexError.{LexError}
-use Rattle.par_lexer.specs.declared.token.LexError.TheVariants.{SourceTooLong, Memory}
+use Rattle.par_lexer.specs.declared.token.LexError.TheVariants.{BadByte, NumberTooLarge, OpenComment, NameTooLong, SourceTooLong, Memory}
 use Rattle.par_lexer.specs.declared.piece.Piece.TheVariants as piece
 use Rattle.par_lexer.specs.Pieces.{piece_at}
 
@@ -44,3 +44,11 @@ abbrev pub IsRefusal : List ℕ → LexError → Type 0
 IsRefusal source (SourceTooLong n) = (262144 < length source) × (n ≡ length source)
 IsRefusal source Memory = Unit {0}
 IsRefusal source error = (length source ≤ 262144) × LexBroken source error
+
+-- a place that the error carries stands within the source
+abbrev pub IsPlaced : List ℕ → LexError → Type 0
+IsPlaced source (BadByte at) = at < length source
+IsPlaced source (NumberTooLarge at) = at < length source
+IsPlaced source (OpenComment at) = at < length source
+IsPlaced source (NameTooLong at) = at < length source
+IsPlaced source _ = Unit {0}

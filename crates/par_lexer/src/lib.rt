@@ -5,10 +5,12 @@
 #![tactic(auto)]
 
 mod bytes;
+mod cut;
 pub mod list;
 pub mod name;
 mod number;
 pub mod piece;
+mod place;
 mod runs;
 mod scan;
 pub mod sign;
@@ -17,3 +19,6 @@ mod table;
 mod tests;
 pub mod token;
 pub mod word;
+
+pub use cut::{LONGEST_SOURCE, lex};
+pub use place::place_of;

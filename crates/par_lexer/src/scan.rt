@@ -1,4 +1,4 @@
-ghost use Rattle.std.specs.Prelude.{◌≡◌, ◌+◌, ◌≤◌, IfOk, IsTrue, find, length, take, drop};
+ghost use Rattle.std.specs.Prelude.{◌≡◌, ◌+◌, ◌≤◌, IfOk, IsTrue, find, length, take, take_while, drop};
 ghost use Rattle.std.specs.List.{prefix_len};
 ghost use Rattle.std.specs.Str.{bytes_eq};
 ghost use Rattle.par_lexer.specs.Names.{IsName, is_letter, is_digit, is_blank, goes_on, first_is};
@@ -41,7 +41,7 @@ fn kind_of(alloc: Global, text: &[u8]) -> Result<Kind, NoMemory>
 // The name or word that the bytes begin with.
 fn name_at(alloc: Global, at: u32, bytes: &[u8]) -> Result<Piece, NoMemory>
     requires { IsTrue (first_is is_letter bytes.now) }
-    ensures { IfOk result (λ piece. piece ≡ name_at at (take (prefix_len goes_on bytes.now) bytes.now)) }
+    ensures { IfOk result (λ piece. piece ≡ name_at at (take_while goes_on bytes.now)) }
 {
     let (text, _) = bytes.split_at(name_length(bytes));
     if text.len() > LONGEST {
@@ -53,7 +53,8 @@ fn name_at(alloc: Global, at: u32, bytes: &[u8]) -> Result<Piece, NoMemory>
 // The number that the bytes begin with.
 fn number_at(at: u32, bytes: &[u8]) -> Piece
     requires { at + length bytes.now ≤ 262144 }
-    ensures { result ≡ number_at at (take (prefix_len is_digit bytes.now) bytes.now) (drop (prefix_len is_digit bytes.now) bytes.now) }
+    ensures { let digits = prefix_len is_digit bytes.now in
+        result ≡ number_at at (take digits bytes.now) (drop digits bytes.now) }
 {
     let (digits, behind) = bytes.split_at(digits_length(bytes));
     if digits.starts_with(b"0") && digits.len() > 1 {

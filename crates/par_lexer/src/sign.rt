@@ -1,4 +1,4 @@
-// The signs of the language, numbered in one order.
+//! The numbers of the signs: `Kind::Sign` carries one.
 
 /// `{`
 pub const LEFT_BRACE: u8 = 0;

@@ -95,7 +95,8 @@ fn number_of(table: &[(u8, &[u8])], text: &[u8]) -> Option<u8>
 
 // The number and the length of the first row with whose text the bytes begin.
 fn first_begun(table: &[(u8, &[u8])], bytes: &[u8]) -> Option<(u8, usize)>
-    ensures { result ≡ option_map (λ row. (row.0, length row.1)) (find (λ row. begins row.1 bytes.now) (rows table.now)) }
+    ensures { let first = find (λ row. begins row.1 bytes.now) (rows table.now) in
+        result ≡ option_map (λ row. (row.0, length row.1)) first }
 {
     for (number, spelling) in table {
         if bytes.starts_with(*spelling) {

@@ -1,4 +1,4 @@
-// The reserved words of the language, numbered in one order.
+//! The numbers of the reserved words: `Kind::Word` carries one.
 
 pub const ACTOR: u8 = 0;
 
