@@ -9,7 +9,7 @@ use Rattle.par_policy.specs.Numbers.{within}
 use Rattle.par_policy.specs.Sees.{allows, sees, sees_at, sees_join_at}
 use Rattle.par_policy.specs.Order.{IsBelow, IsBelowAt, IsJoinBelowAt}
 use Rattle.par_policy.specs.Normal.{covers}
-use Rattle.par_policy.proofs.Seen.{covers_itself, sees_more, sees_at_more}
+use Rattle.par_policy.proofs.Seen.{covers_itself, sees_more, sees_at_more, within_front}
 
 -- what an observer with more locks passes too
 abbrev Grows : (ℕ → List ℕ → Bool) → Type 0
@@ -64,3 +64,7 @@ each_below-from_join at (n ∷ ns) opened q h =
     (λ actor locks seen. (and_parts (sees_at (at n) opened actor locks) (sees_join_at (map at ns) opened actor locks) (h actor locks seen)).0)
     (each_below-from_join at ns opened q
     (λ actor locks seen. (and_parts (sees_at (at n) opened actor locks) (sees_join_at (map at ns) opened actor locks) (h actor locks seen)).1))
+
+-- open locks let more observers see
+pub special_below : (p : List Clause) (opened : List ℕ) → IsBelowAt p opened p
+special_below p opened actor locks seen = sees_more p actor locks (locks ++ opened) (within_front locks opened) seen

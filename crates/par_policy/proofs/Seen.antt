@@ -53,3 +53,7 @@ pub same_tests : (a b : Bool) → (IsTrue a → IsTrue b) → (IsTrue b → IsTr
 same_tests true b h k = sym (h refl)
 same_tests false true h k = k refl
 same_tests false false h k = refl
+
+pub within_front : (xs more : List ℕ) → IsTrue (within xs (xs ++ more))
+within_front xs more =
+    within-from_All xs (xs ++ more) (All-weaker (Contains xs) (Contains (xs ++ more)) (λ x h. Contains-append_left xs more x h) xs (All-contains_itself xs))

@@ -2,3 +2,4 @@ pub mod Numbers
 pub mod Sees
 pub mod Order
 pub mod Normal
+pub mod Laws

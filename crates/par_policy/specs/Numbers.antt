@@ -17,3 +17,7 @@ within inner outer = list_all (has outer) inner
 -- the new set has exactly the old numbers and this one
 abbrev pub Gains : List ℕ → List ℕ → ℕ → Type 0
 Gains old new number = (n : ℕ) → Contains new n ↔ (Contains old n ⊎ (n ≡ number))
+
+-- the new set has exactly the numbers of both
+abbrev pub GainsAll : List ℕ → List ℕ → List ℕ → Type 0
+GainsAll old new more = (n : ℕ) → Contains new n ↔ (Contains old n ⊎ Contains more n)

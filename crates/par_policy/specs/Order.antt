@@ -1,5 +1,5 @@
 -- The order of policies, by tests over all observers.
-use Rattle.std.specs.Prelude.{ℕ, List, IsTrue}
+use Rattle.std.specs.Prelude.{ℕ, List, [], IsTrue, map, slice_index_or}
 use Rattle.par_policy.specs.declared.clauses.Clause.{Clause}
 use Rattle.par_policy.specs.Sees.{sees, sees_at, sees_join_at}
 
@@ -16,3 +16,7 @@ IsBelowAt p opened q =
 abbrev pub IsJoinBelowAt : List (List Clause) → List ℕ → List Clause → Type 0
 IsJoinBelowAt ps opened q =
     (actor : ℕ) (locks : List ℕ) → IsTrue (sees q actor locks) → IsTrue (sees_join_at ps opened actor locks)
+
+-- the policies of these numbers in a table's list
+abbrev pub policies_of : List (List Clause) → List ℕ → List (List Clause)
+policies_of table numbers = map (λ n. slice_index_or table n []) numbers

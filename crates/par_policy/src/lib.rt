@@ -5,6 +5,8 @@
 #![tactic(auto)]
 
 mod clauses;
+mod joins;
+mod laws;
 mod locks;
 mod memory;
 mod normal;
@@ -13,6 +15,8 @@ mod order;
 mod policies;
 
 pub use clauses::{Clause, clause_leq};
+pub use joins::PolicySet;
+pub use laws::{open_locks_lower, order_is_antisymmetric, order_is_reflexive, order_is_transitive};
 pub use locks::Lockset;
 pub use memory::NoMemory;
 pub use order::{leq, leq_at, sees};

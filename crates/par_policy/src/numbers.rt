@@ -1,7 +1,7 @@
 // A finite set of numbers, which sets of locks and sets of policies are made of.
-ghost use Rattle.std.specs.Prelude.{◌≡◌, ◌||◌, [], OnOk, OnErr};
+ghost use Rattle.std.specs.Prelude.{◌≡◌, ◌||◌, [], IfOk, OnOk, OnErr};
 ghost use Rattle.std.specs.List.{list_all};
-ghost use Rattle.par_policy.specs.Numbers.{IsAscending, has, within, Gains};
+ghost use Rattle.par_policy.specs.Numbers.{IsAscending, has, within, Gains, GainsAll};
 
 use crate::memory::NoMemory;
 use std::alloc::{AllocError, Global};
@@ -69,12 +69,29 @@ impl NumberSet {
         }
         Ok(())
     }
+
+    // The set is copied first, so that a refusal leaves it as it is.
+    pub(crate) fn insert_all(&mut self, other: &NumberSet) -> Result<(), NoMemory>
+        ensures ok { OnOk result (GainsAll self.old self.new other.now) }
+        ensures err { OnErr result (self.new ≡ self.old) }
+        ensures ascending { IsAscending self.new }
+    {
+        let mut both = self.clone()?;
+        for number in other.as_slice() {
+            both.insert(*number)?;
+        }
+        *self = both;
+        Ok(())
+    }
 }
 
 impl Clone for NumberSet {
     ghost is_clone = { λ x y. y ≡ x };
 
-    fn clone(&self) -> Result<NumberSet, AllocError> {
+    fn clone(&self) -> Result<NumberSet, AllocError>
+        ensures same { IfOk result (λ s. s ≡ self.now) }
+        ensures ascending { IsAscending self.now }
+    {
         Ok(NumberSet {
             numbers: self.numbers.clone()?,
         })
