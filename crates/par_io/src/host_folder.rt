@@ -141,19 +141,17 @@ fn write_file<R: Files>(rt: &R, name: &str, bytes: &[u8]) -> Result<(), WriteFai
 impl<R: Files> Folder for HostFolder<'_, R> {
     ghost files = { λ _. None };
 
-    ghost faults = { λ s. s.faults };
+    ghost faults = { λ s. (counts_of s).faults };
 
-    ghost absents = { λ s. s.absents };
+    ghost absents = { λ s. (counts_of s).absents };
 
-    ghost longs = { λ s. s.longs };
+    ghost longs = { λ s. (counts_of s).longs };
 
     fn read(&mut self, alloc: Global, name: &str, limit: u64) -> Result<Vec<u8>, ReadFail>
         ensures short { IfOk result (λ bytes. length bytes.items ≤ limit) }
-        ensures counts {
-            MatchResult result
-                (λ _. SameCounts (counts_of self.old) (counts_of self.new))
-                (λ fail. CountsRead fail (counts_of self.old) (counts_of self.new))
-        }
+        ensures counts { MatchResult result
+            (λ _. SameCounts (counts_of self.old) (counts_of self.new))
+            (λ fail. CountsRead fail (counts_of self.old) (counts_of self.new)) }
     {
         let answer = read_file(self.rt, alloc, name, limit);
         if let Err(fail) = &answer {
@@ -163,11 +161,9 @@ impl<R: Files> Folder for HostFolder<'_, R> {
     }
 
     fn write(&mut self, _alloc: Global, name: &str, bytes: &[u8]) -> Result<(), WriteFail>
-        ensures counts {
-            MatchResult result
-                (λ _. SameCounts (counts_of self.old) (counts_of self.new))
-                (λ fail. CountsWrite fail (counts_of self.old) (counts_of self.new))
-        }
+        ensures counts { MatchResult result
+            (λ _. SameCounts (counts_of self.old) (counts_of self.new))
+            (λ fail. CountsWrite fail (counts_of self.old) (counts_of self.new)) }
     {
         let answer = write_file(self.rt, name, bytes);
         if let Err(WriteFail::Failed) = &answer {

@@ -41,7 +41,7 @@ fn write_whole<R: Print>(rt: &R, bytes: &[u8]) -> Result<(), PutFailed> {
 impl<R: Print> Sink for HostSink<'_, R> {
     ghost held = { λ _. None };
 
-    ghost faults = { λ s. s.faults };
+    ghost faults = { faults_of };
 
     fn put(&mut self, bytes: &[u8]) -> Result<(), PutFailed>
         ensures no_fault { OnOk result (faults_of self.new ≡ faults_of self.old) }
