@@ -11,6 +11,7 @@ mod host_sink;
 mod mem_folder;
 mod mem_sink;
 mod outside;
+mod whole;
 
 pub use host_folder::HostFolder;
 pub use host_sink::HostSink;

@@ -207,7 +207,7 @@ impl Folder for MemFolder {
         match self.begin_write() {
             None => Ok(self.set(alloc, name, bytes)?),
             Some(keep) => {
-                let kept = bytes.len().min(usize::try_from(keep).unwrap_or(usize::MAX));
+                let kept = bytes.len().min(keep as usize);
                 self.set(alloc, name, &bytes[..kept])?;
                 self.faults = self.faults.saturating_add(1);
                 Err(WriteFail::Failed)

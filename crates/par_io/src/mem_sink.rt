@@ -109,7 +109,7 @@ impl MemSink {
         match self.begin_put() {
             None => self.fill(bytes),
             Some(keep) => {
-                let kept = bytes.len().min(usize::try_from(keep).unwrap_or(usize::MAX));
+                let kept = bytes.len().min(keep as usize);
                 self.fill(&bytes[..kept]);
                 false
             }
