@@ -1,7 +1,7 @@
 -- What exact counts of the answers tell of the causes.
-use Rattle.std.proofs.Common.{◌≡◌, ℕ, ◌≤◌, ◌<◌, refl, inl, inr, arith, List, Option, None, Result, Ok, Err, IfOk, IsErrOf, OnOk, OnErr, MatchResult, rules}
+use Rattle.std.proofs.Common.{◌≡◌, ℕ, ◌≤◌, arith, Result, Ok, Err, IfOk, IsErrOf, OnOk, OnErr, MatchResult, rules}
 use Rattle.std.proofs.lemmas.Bool.Decides.{nat_tests}
-use Rattle.par_io.specs.Causes.{Rose, Counts, SameCounts, CountsRead, CountsWrite, raised, last_count}
+use Rattle.par_io.specs.Causes.{Rose, Counts, SameCounts, CountsRead, CountsWrite, raised}
 use Rattle.par_io.specs.declared.outside.ReadFail.{ReadFail}
 use Rattle.par_io.specs.declared.outside.WriteFail.{WriteFail}
 

@@ -1,5 +1,5 @@
 -- What a sink in memory lets in of the bytes of a put is a front of them.
-use Rattle.std.proofs.Common.{◌≡◌, ◌∙◌, [], ◌++◌, ap, sym, append_assoc, List, ℕ, Option, Some, None, take, drop, take-append-drop, append-nil}
+use Rattle.std.proofs.Common.{◌≡◌, ◌∙◌, [], ◌++◌, ap, sym, append_assoc, List, ℕ, Option, Some, None, drop, take-append-drop, append-nil}
 use Rattle.par_io.specs.MemSink.{let_in, put_keeps, next_put, room_left, taken}
 use Rattle.par_io.specs.declared.mem_sink.MemSink.{MemSink}
 

@@ -1,5 +1,4 @@
 -- What a folder of the system counts.
-use Rattle.std.specs.Prelude.{ℕ}
 use Rattle.par_io.specs.Causes.{Counts}
 use Rattle.par_io.specs.declared.host_folder.HostFolder.{HostFolder}
 

@@ -1,5 +1,5 @@
 -- What a sink in memory holds, and what its next put lets in.
-use Rattle.std.specs.Prelude.{◌≡◌, ℕ, ◌+◌, ◌-◌, List, Option, Some, None, take, length, if◌then◌else◌, ◌==◌}
+use Rattle.std.specs.Prelude.{ℕ, ◌+◌, ◌-◌, List, Option, Some, None, take, length, if◌then◌else◌, ◌==◌}
 use Rattle.par_io.specs.declared.mem_sink.FailingPut.{FailingPut}
 use Rattle.par_io.specs.declared.mem_sink.MemSink.{MemSink}
 
@@ -7,9 +7,13 @@ use Rattle.par_io.specs.declared.mem_sink.MemSink.{MemSink}
 abbrev pub bytes_of : MemSink → List ℕ
 bytes_of s = s.held.items
 
+-- how many bytes fit in all
+abbrev pub room_of : MemSink → ℕ
+room_of s = s.room
+
 -- how many more bytes fit
 abbrev pub room_left : MemSink → ℕ
-room_left s = s.room - length s.held.items
+room_left s = room_of s - length (bytes_of s)
 
 -- the number of the next put, counted from 1
 abbrev pub next_put : MemSink → ℕ

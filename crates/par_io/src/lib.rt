@@ -11,9 +11,13 @@ mod host_sink;
 mod mem_folder;
 mod mem_sink;
 mod outside;
+mod whole;
 
 pub use host_folder::HostFolder;
 pub use host_sink::HostSink;
 pub use mem_folder::MemFolder;
 pub use mem_sink::MemSink;
 pub use outside::{Folder, NoMemory, PutFailed, ReadFail, Sink, WriteFail};
+
+#[cfg(test)]
+mod tests;

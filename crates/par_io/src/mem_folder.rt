@@ -87,9 +87,7 @@ impl MemFolder {
     /// Lets a read fail, counted from 1 since the folder was made.
     pub fn fail_read(&mut self, call: u64) -> Result<(), NoMemory>
         ensures set { OnOk result (is_read_set self.new call ≡ true) }
-        ensures others_stand {
-            OnOk result ((other : ℕ) → other ≢ call → is_read_set self.new other ≡ is_read_set self.old other)
-        }
+        ensures others_stand { OnOk result ((other : ℕ) → other ≢ call → is_read_set self.new other ≡ is_read_set self.old other) }
         ensures unchanged { OnErr result (SameReadsSet self.old self.new) }
         ensures files { files_of self.new ≡ files_of self.old }
         ensures writes_set { SameWritesSet self.old self.new }
@@ -104,9 +102,7 @@ impl MemFolder {
     /// its bytes under its name.
     pub fn fail_write(&mut self, call: u64, keep: u64) -> Result<(), NoMemory>
         ensures set { OnOk result (write_keeps self.new call ≡ Some keep) }
-        ensures others_stand {
-            OnOk result ((other : ℕ) → other ≢ call → write_keeps self.new other ≡ write_keeps self.old other)
-        }
+        ensures others_stand { OnOk result ((other : ℕ) → other ≢ call → write_keeps self.new other ≡ write_keeps self.old other) }
         ensures unchanged { OnErr result (SameWritesSet self.old self.new) }
         ensures files { files_of self.new ≡ files_of self.old }
         ensures reads_set { SameReadsSet self.old self.new }
@@ -155,27 +151,23 @@ impl Folder for MemFolder {
 
     ghost files = { λ s. Some (files_of s) };
 
-    ghost faults = { λ s. s.faults };
+    ghost faults = { λ s. (counts_of s).faults };
 
-    ghost absents = { λ s. s.absents };
+    ghost absents = { λ s. (counts_of s).absents };
 
-    ghost longs = { λ s. s.longs };
+    ghost longs = { λ s. (counts_of s).longs };
 
     fn read(&mut self, alloc: Global, name: &str, limit: u64) -> Result<Vec<u8>, ReadFail>
         ensures kept { files_of self.new ≡ files_of self.old }
         ensures found { IfOk result (λ bytes. files_of self.old name.now ≡ Some bytes.items) }
         ensures short { IfOk result (λ bytes. length bytes.items ≤ limit) }
         ensures absent { IsErrOf result ReadFail.Absent → files_of self.old name.now ≡ None }
-        ensures long {
-            IsErrOf result ReadFail.TooLong →
-            (bytes : List ℕ) × (files_of self.old name.now ≡ Some bytes) × (limit < length bytes)
-        }
+        ensures long { IsErrOf result ReadFail.TooLong →
+            (bytes : List ℕ) × (files_of self.old name.now ≡ Some bytes) × (limit < length bytes) }
         ensures failed { IsErrOf result ReadFail.Failed ↔ IsTrue (is_read_set self.old (next_read self.old)) }
-        ensures counts {
-            MatchResult result
-                (λ _. SameCounts (counts_of self.old) (counts_of self.new))
-                (λ fail. CountsRead fail (counts_of self.old) (counts_of self.new))
-        }
+        ensures counts { MatchResult result
+            (λ _. SameCounts (counts_of self.old) (counts_of self.new))
+            (λ fail. CountsRead fail (counts_of self.old) (counts_of self.new)) }
         ensures counted { next_read self.new ≡ min (next_read self.old + 1) (2 ^ 64) }
         ensures writes { next_write self.new ≡ next_write self.old }
         ensures reads_set { SameReadsSet self.old self.new }
@@ -200,17 +192,13 @@ impl Folder for MemFolder {
     fn write(&mut self, alloc: Global, name: &str, bytes: &[u8]) -> Result<(), WriteFail>
         ensures written { OnOk result (Sets name.now bytes.now (files_of self.old) (files_of self.new)) }
         ensures not_set { OnOk result (write_keeps self.old (next_write self.old) ≡ None) }
-        ensures failed {
-            IsErrOf result WriteFail.Failed →
+        ensures failed { IsErrOf result WriteFail.Failed →
             (keep : ℕ) × (write_keeps self.old (next_write self.old) ≡ Some keep) ×
-            Sets name.now (take keep bytes.now) (files_of self.old) (files_of self.new)
-        }
+            Sets name.now (take keep bytes.now) (files_of self.old) (files_of self.new) }
         ensures memory { IsErrOf result WriteFail.Memory → files_of self.new ≡ files_of self.old }
-        ensures counts {
-            MatchResult result
-                (λ _. SameCounts (counts_of self.old) (counts_of self.new))
-                (λ fail. CountsWrite fail (counts_of self.old) (counts_of self.new))
-        }
+        ensures counts { MatchResult result
+            (λ _. SameCounts (counts_of self.old) (counts_of self.new))
+            (λ fail. CountsWrite fail (counts_of self.old) (counts_of self.new)) }
         ensures counted { next_write self.new ≡ min (next_write self.old + 1) (2 ^ 64) }
         ensures reads { next_read self.new ≡ next_read self.old }
         ensures reads_set { SameReadsSet self.old self.new }
@@ -219,7 +207,7 @@ impl Folder for MemFolder {
         match self.begin_write() {
             None => Ok(self.set(alloc, name, bytes)?),
             Some(keep) => {
-                let kept = bytes.len().min(usize::try_from(keep).unwrap_or(usize::MAX));
+                let kept = bytes.len().min(keep as usize);
                 self.set(alloc, name, &bytes[..kept])?;
                 self.faults = self.faults.saturating_add(1);
                 Err(WriteFail::Failed)

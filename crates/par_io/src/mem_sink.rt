@@ -25,12 +25,12 @@ pub struct MemSink {
 }
 
 impl MemSink {
-    ghost use Rattle.par_io.specs.MemSink.{bytes_of, room_left, next_put, faults_of, put_keeps, taken};
+    ghost use Rattle.par_io.specs.MemSink.{bytes_of, room_of, room_left, next_put, faults_of, put_keeps, taken};
 
     /// An empty sink with room for that many bytes, none of whose puts is set to fail.
     pub fn new(alloc: Global, room: u64) -> Result<MemSink, NoMemory>
         ensures empty { IfOk result (λ sink. bytes_of sink ≡ []) }
-        ensures room { IfOk result (λ sink. room_left sink ≡ room) }
+        ensures room { IfOk result (λ sink. room_of sink ≡ room) }
         ensures no_puts { IfOk result (λ sink. next_put sink ≡ 1) }
         ensures none_set { IfOk result (λ sink. (call : ℕ) → put_keeps sink call ≡ None) }
         ensures no_faults { IfOk result (λ sink. faults_of sink ≡ 0) }
@@ -57,7 +57,7 @@ impl MemSink {
         ensures set { put_keeps self.new call ≡ Some keep }
         ensures others { (other : ℕ) → other ≢ call → put_keeps self.new other ≡ None }
         ensures held { bytes_of self.new ≡ bytes_of self.old }
-        ensures room { room_left self.new ≡ room_left self.old }
+        ensures room { room_of self.new ≡ room_of self.old }
         ensures puts { next_put self.new ≡ next_put self.old }
         ensures faults { faults_of self.new ≡ faults_of self.old }
     {
@@ -70,7 +70,7 @@ impl MemSink {
         ensures counted { next_put self.new ≡ min (next_put self.old + 1) (2 ^ 64) }
         ensures failing { self.new.failing ≡ self.old.failing }
         ensures held { bytes_of self.new ≡ bytes_of self.old }
-        ensures room { self.new.room ≡ self.old.room }
+        ensures room { room_of self.new ≡ room_of self.old }
         ensures faults { faults_of self.new ≡ faults_of self.old }
     {
         let before = self.puts;
@@ -87,7 +87,7 @@ impl MemSink {
         ensures fits { IsTrue result ↔ (length bytes.now ≤ room_left self.old) }
         ensures failing { self.new.failing ≡ self.old.failing }
         ensures puts { next_put self.new ≡ next_put self.old }
-        ensures room { self.new.room ≡ self.old.room }
+        ensures room { room_of self.new ≡ room_of self.old }
         ensures faults { faults_of self.new ≡ faults_of self.old }
     {
         let left = self.room as usize - self.held.len();
@@ -99,19 +99,17 @@ impl MemSink {
     // Lets in the bytes that the next put takes, and tells whether it is to succeed.
     fn let_in(&mut self, bytes: &[u8]) -> bool
         ensures held { bytes_of self.new ≡ bytes_of self.old ++ taken self.old bytes.now }
-        ensures fails {
-            (result ≡ false) ↔
-            (IsSome (put_keeps self.old (next_put self.old)) ⊎ (room_left self.old < length bytes.now))
-        }
+        ensures fails { (result ≡ false) ↔
+            (IsSome (put_keeps self.old (next_put self.old)) ⊎ (room_left self.old < length bytes.now)) }
         ensures counted { next_put self.new ≡ min (next_put self.old + 1) (2 ^ 64) }
         ensures failing { self.new.failing ≡ self.old.failing }
-        ensures room { self.new.room ≡ self.old.room }
+        ensures room { room_of self.new ≡ room_of self.old }
         ensures faults { faults_of self.new ≡ faults_of self.old }
     {
         match self.begin_put() {
             None => self.fill(bytes),
             Some(keep) => {
-                let kept = bytes.len().min(usize::try_from(keep).unwrap_or(usize::MAX));
+                let kept = bytes.len().min(keep as usize);
                 self.fill(&bytes[..kept]);
                 false
             }
@@ -120,7 +118,7 @@ impl MemSink {
 }
 
 impl Sink for MemSink {
-    ghost use Rattle.par_io.specs.MemSink.{bytes_of, room_left, next_put, faults_of, put_keeps, taken};
+    ghost use Rattle.par_io.specs.MemSink.{bytes_of, room_of, room_left, next_put, faults_of, put_keeps, taken};
 
     ghost held = { λ s. Some (bytes_of s) };
 
@@ -128,12 +126,10 @@ impl Sink for MemSink {
 
     fn put(&mut self, bytes: &[u8]) -> Result<(), PutFailed>
         ensures held { bytes_of self.new ≡ bytes_of self.old ++ taken self.old bytes.now }
-        ensures failed {
-            IsErr result ↔
-            (IsSome (put_keeps self.old (next_put self.old)) ⊎ (room_left self.old < length bytes.now))
-        }
+        ensures failed { IsErr result ↔
+            (IsSome (put_keeps self.old (next_put self.old)) ⊎ (room_left self.old < length bytes.now)) }
         ensures front { OnErr result (AppendsFront (Some (bytes_of self.old)) (Some (bytes_of self.new)) bytes.now) }
-        ensures room { room_left self.new + length (bytes_of self.new) ≡ room_left self.old + length (bytes_of self.old) }
+        ensures room { room_of self.new ≡ room_of self.old }
         ensures counted { next_put self.new ≡ min (next_put self.old + 1) (2 ^ 64) }
         ensures setting { (call : ℕ) → put_keeps self.new call ≡ put_keeps self.old call }
         ensures no_fault { OnOk result (faults_of self.new ≡ faults_of self.old) }

@@ -84,10 +84,8 @@ pub trait Folder {
         ensures absent_counts { IsErrOf result ReadFail.Absent → Rose (absents self.old) (absents self.new) }
         ensures absent { IsErrOf result ReadFail.Absent → Told (files self.old) (λ m. m name.now ≡ None) }
         ensures long_counts { IsErrOf result ReadFail.TooLong → Rose (longs self.old) (longs self.new) }
-        ensures long {
-            IsErrOf result ReadFail.TooLong →
-            Told (files self.old) (λ m. (bytes : List ℕ) × (m name.now ≡ Some bytes) × (limit < length bytes))
-        }
+        ensures long { IsErrOf result ReadFail.TooLong →
+            Told (files self.old) (λ m. (bytes : List ℕ) × (m name.now ≡ Some bytes) × (limit < length bytes)) }
         ensures failed { IsErrOf result ReadFail.Failed → Rose (faults self.old) (faults self.new) };
 
     /// Gives a name these bytes, in place of any that it had.
@@ -97,10 +95,8 @@ pub trait Folder {
         ensures longs_never_fall { longs self.old ≤ longs self.new }
         ensures written { OnOk result (ToldBoth (files self.old) (files self.new) (Sets name.now bytes.now)) }
         ensures failed_counts { IsErrOf result WriteFail.Failed → Rose (faults self.old) (faults self.new) }
-        ensures failed {
-            IsErrOf result WriteFail.Failed →
-            ToldBoth (files self.old) (files self.new) (StandBut name.now)
-        }
+        ensures failed { IsErrOf result WriteFail.Failed →
+            ToldBoth (files self.old) (files self.new) (StandBut name.now) }
         ensures memory { IsErrOf result WriteFail.Memory → files self.new ≡ files self.old };
 }
 

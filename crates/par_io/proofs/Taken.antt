@@ -1,0 +1,19 @@
+-- What a writer took piece by piece, it took as a whole.
+use Rattle.std.proofs.Common.{◌≡◌, ◌∙◌, ap, ℕ, ◌-◌, List, ◌++◌, Option, Some, None, length, take, drop, append_assoc, take-append-drop}
+use Rattle.std.proofs.lemmas.List.{take_rest}
+use Rattle.std.specs.Io.KnownBytes.{Appends}
+
+-- two pieces taken one after the other
+pub both_pieces : (old between now : Option (List ℕ)) (first second : List ℕ) → Appends old between first → Appends between now second → Appends old now (first ++ second)
+both_pieces None between now first second _ _ = tt
+both_pieces (Some xs) None now first second impossible _ = absurd impossible
+both_pieces (Some xs) (Some ys) None first second _ impossible = absurd impossible
+both_pieces (Some xs) (Some ys) (Some zs) first second one two = two ∙ ap (λ l. l ++ second) one ∙ append_assoc xs first second
+
+-- the rest behind a piece is what was there behind the pieces before it and this one
+pub rest_behind : (front rest whole : List ℕ) (n : ℕ) → front ++ rest ≡ whole → (front ++ take n rest) ++ take (length rest - n) (drop n rest) ≡ whole
+rest_behind front rest whole n split =
+    append_assoc front (take n rest) (take (length rest - n) (drop n rest))
+    ∙ ap (λ back. front ++ (take n rest ++ back)) (take_rest rest n)
+    ∙ ap (λ back. front ++ back) (take-append-drop n rest)
+    ∙ split

@@ -1,0 +1,10 @@
+use Rattle.std.proofs.Common.{◌++◌, take}
+use Rattle.par_io.proofs.Taken.{both_pieces, rest_behind}
+use Rattle.par_io.proofs.whole.write_whole.Goals as goal
+
+pub loop-rest-preserved : goal.loop-rest-preserved
+loop-rest-preserved g c =
+    let (front, split, taken) = c.loop-rest.invariant in
+    let rest = c.loop-rest.rest.now in
+    let count = c.in_ok-count.count in
+    (front ++ take count rest, rest_behind front rest _ count split, both_pieces _ _ _ front (take count rest) taken c.in_ok-count.ensures.taken)

@@ -1,0 +1,112 @@
+// Bytes read or written whole, by any reader or writer of the system.
+ghost use Rattle.std.specs.Prelude.{◌≡◌, ◌≢◌, ◌≤◌, ◌<◌, ◌↔◌, IfOk, IfErr, IfSome, IsErrOf, OnOk, length, take};
+ghost use Rattle.std.specs.Io.KnownBytes.{Appends, Consumes, IsAtEnd};
+ghost use Rattle.std.specs.IoError.{error_kind};
+
+use crate::outside::{ReadFail, WriteFail};
+use std::alloc::Global;
+use std::io;
+use std::io::{ErrorKind, Read, Write};
+
+// The most bytes that one read asks for.
+const CHUNK: usize = 4096;
+
+fn is_interrupted(error: &io::Error) -> bool {
+    matches!(error.kind(), ErrorKind::Interrupted)
+}
+
+pub(crate) fn read_fail(error: &io::Error) -> ReadFail
+    ensures absent { result ≡ ReadFail.Absent ↔ (error_kind error.now ≡ ErrorKind.NotFound) }
+    ensures memory { result ≡ ReadFail.Memory ↔ (error_kind error.now ≡ ErrorKind.OutOfMemory) }
+    ensures not_long { result ≢ ReadFail.TooLong }
+{
+    match error.kind() {
+        ErrorKind::NotFound => ReadFail::Absent,
+        ErrorKind::OutOfMemory => ReadFail::Memory,
+        _ => ReadFail::Failed,
+    }
+}
+
+pub(crate) fn write_fail(error: &io::Error) -> WriteFail
+    ensures memory { result ≡ WriteFail.Memory ↔ (error_kind error.now ≡ ErrorKind.OutOfMemory) }
+{
+    match error.kind() {
+        ErrorKind::OutOfMemory => WriteFail::Memory,
+        _ => WriteFail::Failed,
+    }
+}
+
+// One read, tried again where it is interrupted.
+fn read_some<F: Read>(file: &mut F, buffer: &mut [u8]) -> Result<usize, ReadFail>
+    ensures bound { IfOk result (λ count. count ≤ length buffer.new) }
+    ensures given { IfOk result (λ count.
+        Consumes (F.remaining file.old) (F.remaining file.new) (take count buffer.new)) }
+    ensures ended { IfOk result (λ count. count ≡ 0 → 0 < length buffer.new → IsAtEnd (F.remaining file.new)) }
+    ensures not_long { IfErr result (λ fail. fail ≢ ReadFail.TooLong) }
+{
+    for _ in 0..u64::MAX {
+        match file.read(buffer) {
+            Ok(count) => return Ok(count),
+            Err(error) if is_interrupted(&error) => {}
+            Err(error) => return Err(read_fail(&error)),
+        }
+    }
+    Err(ReadFail::Failed)
+}
+
+// Reads to the end, or up to the byte behind the limit. Where the file tells its bytes, these are
+// all that it had left.
+pub(crate) fn read_whole<F: Read>(
+    file: &mut F,
+    alloc: Global,
+    limit: u64,
+) -> Result<Vec<u8>, ReadFail>
+    ensures short { IfOk result (λ bytes. length bytes.items ≤ limit) }
+    ensures whole { IfOk result (λ bytes. IfSome (F.remaining file.old) (λ told. bytes.items ≡ told)) }
+    ensures long { IsErrOf result ReadFail.TooLong → IfSome (F.remaining file.old) (λ told. limit < length told) }
+{
+    let mut bytes = Vec::new(alloc);
+    let mut chunk = [0u8; CHUNK];
+    loop {
+        let left = limit - bytes.len() as u64;
+        let wanted = left.min(CHUNK as u64 - 1) as usize + 1;
+        let count = read_some(file, &mut chunk[..wanted])?;
+        if count == 0 {
+            return Ok(bytes);
+        }
+        if count as u64 > left {
+            return Err(ReadFail::TooLong);
+        }
+        bytes.extend_from_slice(&chunk[..count])?;
+    }
+}
+
+// One write, tried again where it is interrupted. Taking nothing is a fault.
+fn write_some<F: Write>(file: &mut F, bytes: &[u8]) -> Result<usize, WriteFail>
+    ensures some { IfOk result (λ count. 0 < count) }
+    ensures bound { IfOk result (λ count. count ≤ length bytes.now) }
+    ensures taken { IfOk result (λ count.
+        Appends (F.contents file.old) (F.contents file.new) (take count bytes.now)) }
+{
+    for _ in 0..u64::MAX {
+        match file.write(bytes) {
+            Ok(0) => return Err(WriteFail::Failed),
+            Ok(count) => return Ok(count),
+            Err(error) if is_interrupted(&error) => {}
+            Err(error) => return Err(write_fail(&error)),
+        }
+    }
+    Err(WriteFail::Failed)
+}
+
+// Writes all of the bytes.
+pub(crate) fn write_whole<F: Write>(file: &mut F, bytes: &[u8]) -> Result<(), WriteFail>
+    ensures { OnOk result (Appends (F.contents file.old) (F.contents file.new) bytes.now) }
+{
+    let mut rest = bytes;
+    while !rest.is_empty() {
+        let count = write_some(file, rest)?;
+        rest = &rest[count..];
+    }
+    Ok(())
+}
