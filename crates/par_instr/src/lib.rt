@@ -11,7 +11,11 @@
 #![tactic(auto)]
 
 mod instr;
+mod laws;
 mod opcodes;
+#[cfg(test)]
+mod tests;
 
 pub use instr::{Instr, InstrError, NoMemory};
+pub use laws::{spelling_ends_itself, spelling_is_one, spelling_is_read_again};
 pub use opcodes::{decode, encode, stack_effect};
