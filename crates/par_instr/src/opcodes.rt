@@ -176,6 +176,7 @@ fn instruction(op: u8, operands: &[u8]) -> Instr
 pub fn encode(instr: &Instr, out: &mut Vec<u8>) -> Result<(), NoMemory>
     requires { IsTrue (has_spelling instr.now) }
     ensures ok { OnOk result (out.new.items ≡ out.old.items ++ spelling instr.now) }
+    ensures spelled { OnOk result (IsSpelled (spelling instr.now) instr.now) }
     ensures err { OnErr result (out.new.items ≡ out.old.items) }
 {
     opcodes!(encoded instr out)
