@@ -1,5 +1,6 @@
-ghost use Rattle.std.specs.Prelude.{◌≡◌, ℕ, ◌≤◌, ◌↔◌, ◌∷◌, ◌++◌, length, drop, nat_le, ◌&&◌, OnOk, OnErr, IfOk, IsErrOf, IsTrue};
-ghost use Rattle.par_instr.specs.Spelling.{operand_bytes, spelling, has_spelling, effect, IsSpelled, Stands, IsUnlisted, IsCut};
+ghost use Rattle.std.specs.Prelude.{◌≡◌, ℕ, ◌+◌, ◌≤◌, ◌↔◌, [], ◌∷◌, ◌++◌, length, drop, nat_le, ◌&&◌, OnOk, OnErr, IfOk, IsErrOf, IsTrue};
+ghost use Rattle.std.specs.Int.{w8, cast_unsigned};
+ghost use Rattle.par_instr.specs.Spelling.{index, signed, operand_bytes, spelling, has_spelling, effect, IsSpelled, Stands, IsUnlisted, IsCut};
 
 use crate::instr::{Instr, InstrError, NoMemory};
 
@@ -58,26 +59,24 @@ macro_rules! size {
 
 // The instruction of an opcode and the bytes of its operands.
 macro_rules! decoded {
-    ($op:ident $bytes:ident $([$first:literal $last:literal $kind:ident $name:ident ($($change:tt)*)])*) => {
-        match $op {
-            $($first..=$last => read!($kind $name ($op - $first) $bytes),)*
-            _ => unreachable!(),
-        }
-    };
+    ($op:ident $bytes:ident $([$first:literal $last:literal $kind:ident $name:ident ($($change:tt)*)])*) => {{
+        $(if is_between($op, $first, $last) {
+            return read!($kind $name ($op - $first) $bytes);
+        })*
+        unreachable!()
+    }};
 }
 
 macro_rules! read {
     (none $name:ident $place:tt $bytes:ident) => { Instr::$name };
-    (constant $name:ident $place:tt $bytes:ident) => { Instr::$name($place as i8 - 1) };
+    (constant $name:ident $place:tt $bytes:ident) => { constant($place) };
     (short $name:ident $place:tt $bytes:ident) => { Instr::$name($place) };
     (u1 $name:ident $place:tt $bytes:ident) => { Instr::$name($bytes[0]) };
-    (i1 $name:ident $place:tt $bytes:ident) => { Instr::$name($bytes[0].cast_signed()) };
-    (u2 $name:ident $place:tt $bytes:ident) => { Instr::$name(u16::from_be_bytes([$bytes[0], $bytes[1]])) };
-    (i2 $name:ident $place:tt $bytes:ident) => { Instr::$name(i16::from_be_bytes([$bytes[0], $bytes[1]])) };
-    (u1i1 $name:ident $place:tt $bytes:ident) => { Instr::$name($bytes[0], $bytes[1].cast_signed()) };
-    (test $name:ident $place:tt $bytes:ident) => {
-        Instr::$name($place, i16::from_be_bytes([$bytes[0], $bytes[1]]))
-    };
+    (i1 $name:ident $place:tt $bytes:ident) => { Instr::$name(signed_byte($bytes[0])) };
+    (u2 $name:ident $place:tt $bytes:ident) => { Instr::$name(unsigned_pair($bytes)) };
+    (i2 $name:ident $place:tt $bytes:ident) => { Instr::$name(signed_pair($bytes)) };
+    (u1i1 $name:ident $place:tt $bytes:ident) => { Instr::$name($bytes[0], signed_byte($bytes[1])) };
+    (test $name:ident $place:tt $bytes:ident) => { Instr::$name($place, signed_pair($bytes)) };
 }
 
 macro_rules! encoded {
@@ -160,7 +159,8 @@ fn operand_size(op: u8) -> Option<usize>
 }
 
 fn is_between(op: u8, first: u8, last: u8) -> bool
-    ensures { result ≡ (nat_le first op && nat_le op last) }
+    ensures test { result ≡ (nat_le first op && nat_le op last) }
+    ensures within { IsTrue result ↔ ((first ≤ op) × (op ≤ last)) }
 {
     first <= op && op <= last
 }
@@ -188,4 +188,31 @@ fn append(out: &mut Vec<u8>, bytes: &[u8]) -> Result<(), NoMemory>
 {
     out.extend_from_slice(bytes)?;
     Ok(())
+}
+
+fn constant(place: u8) -> Instr
+    requires { place ≤ 6 }
+    ensures { IsSpelled ((0x02 + place) ∷ []) result }
+{
+    Instr::Iconst(place as i8 - 1)
+}
+
+fn signed_byte(byte: u8) -> i8
+    ensures { cast_unsigned w8 result ≡ byte }
+{
+    byte.cast_signed()
+}
+
+fn unsigned_pair(bytes: &[u8]) -> u16
+    requires { length bytes.now ≡ 2 }
+    ensures { index result ≡ bytes.now }
+{
+    u16::from_be_bytes([bytes[0], bytes[1]])
+}
+
+fn signed_pair(bytes: &[u8]) -> i16
+    requires { length bytes.now ≡ 2 }
+    ensures { signed result ≡ bytes.now }
+{
+    i16::from_be_bytes([bytes[0], bytes[1]])
 }
