@@ -1,11 +1,15 @@
-ghost use Rattle.std.specs.Prelude.{◌≡◌, ℕ, ◌+◌, ◌≤◌, ◌↔◌, [], ◌∷◌, ◌++◌, length, drop, nat_le, ◌&&◌, OnOk, OnErr, IfOk, IsErrOf, IsTrue};
-ghost use Rattle.std.specs.Int.{w8, cast_unsigned};
-ghost use Rattle.par_instr.specs.Spelling.{index, signed, operand_bytes, spelling, has_spelling, effect, IsSpelled, Stands, IsUnlisted, IsCut};
+ghost use Rattle.std.specs.Prelude.{◌≡◌, ℕ, ◌≤◌, ◌↔◌, ◌∷◌, ◌++◌, length, drop, nat_le, ◌&&◌, OnOk, OnErr, IfOk, IsErrOf, IsTrue};
+ghost use Rattle.par_instr.specs.Spelling.{operand_bytes, spelling, has_spelling, effect, IsSpelled, Stands, IsUnlisted, IsCut};
 
 use crate::instr::{Instr, InstrError, NoMemory};
+use crate::operands::{constant, signed_byte, signed_pair, unsigned_pair};
 
-// The opcodes: the first and the last, how the operands are written, the variant, and the change
-// of the operand list.
+// The table, a line for the neighbouring opcodes of a variant: the first and the last, how the
+// numbers are written, the variant, and the change of the operand list.
+//
+// Numbers are written in no place at all (none); in the opcode, from 0 (short) or from -1
+// (constant); in bytes behind it, as one or two of them (u1, u2), signed (i1, i2) or one of each
+// kind (u1i1); or the first in the opcode and the second as i2 (test).
 macro_rules! opcodes {
     ($then:ident $($given:tt)*) => {
         $then! { $($given)*
@@ -29,6 +33,7 @@ macro_rules! opcodes {
     };
 }
 
+// The change of the operand list that an instruction makes.
 macro_rules! effects {
     ($instr:ident $([$first:literal $last:literal $kind:ident $name:ident ($($change:tt)*)])*) => {
         match $instr {
@@ -36,6 +41,14 @@ macro_rules! effects {
             _ => None,
         }
     };
+}
+
+// An instruction's pattern, whatever its numbers.
+macro_rules! any_form {
+    (none $name:ident) => { Instr::$name };
+    (u1i1 $name:ident) => { Instr::$name(_, _) };
+    (test $name:ident) => { Instr::$name(_, _) };
+    ($kind:ident $name:ident) => { Instr::$name(_) };
 }
 
 // How many bytes of operands follow an opcode.
@@ -54,7 +67,10 @@ macro_rules! size {
     (short) => { 0 };
     (u1) => { 1 };
     (i1) => { 1 };
-    ($kind:ident) => { 2 };
+    (u2) => { 2 };
+    (i2) => { 2 };
+    (u1i1) => { 2 };
+    (test) => { 2 };
 }
 
 // The instruction of an opcode and the bytes of its operands.
@@ -67,6 +83,7 @@ macro_rules! decoded {
     }};
 }
 
+// The variant with the numbers that are in the opcode's place among its neighbours and the bytes.
 macro_rules! read {
     (none $name:ident $place:tt $bytes:ident) => { Instr::$name };
     (constant $name:ident $place:tt $bytes:ident) => { constant($place) };
@@ -79,6 +96,7 @@ macro_rules! read {
     (test $name:ident $place:tt $bytes:ident) => { Instr::$name($place, signed_pair($bytes)) };
 }
 
+// Adds the bytes of an instruction.
 macro_rules! encoded {
     ($instr:ident $out:ident $([$first:literal $last:literal $kind:ident $name:ident ($($change:tt)*)])*) => {
         match $instr {
@@ -118,21 +136,9 @@ macro_rules! spelled {
     }};
 }
 
-macro_rules! any_form {
-    (none $name:ident) => { Instr::$name };
-    (u1i1 $name:ident) => { Instr::$name(_, _) };
-    (test $name:ident) => { Instr::$name(_, _) };
-    ($kind:ident $name:ident) => { Instr::$name(_) };
-}
-
-/// How the operand list's length changes, where the instruction alone tells.
-pub fn stack_effect(instr: &Instr) -> Option<i8>
-    ensures { result ≡ effect instr.now }
-{
-    opcodes!(effects instr)
-}
-
-/// The instruction at a place, and the place behind it.
+/// The instruction at an offset of the code, and the offset behind it.
+///
+/// Unsupported comes before Cut: it looks at the opcode alone.
 pub fn decode(code: &[u8], at: usize) -> Result<(Instr, usize), InstrError>
     requires { at ≤ length code.now }
     ensures found { IfOk result (λ r. Stands code.now at r.0 r.1) }
@@ -173,6 +179,9 @@ fn instruction(op: u8, operands: &[u8]) -> Instr
 }
 
 /// Adds the one spelling of the instruction.
+///
+/// It has one where its variant is listed, the number of an `Iconst` is -1 to 5, that of a `Short`
+/// one 0 to 3 and the first one of `If` and `IfIcmp` 0 to 5.
 pub fn encode(instr: &Instr, out: &mut Vec<u8>) -> Result<(), NoMemory>
     requires { IsTrue (has_spelling instr.now) }
     ensures ok { OnOk result (out.new.items ≡ out.old.items ++ spelling instr.now) }
@@ -190,29 +199,12 @@ fn append(out: &mut Vec<u8>, bytes: &[u8]) -> Result<(), NoMemory>
     Ok(())
 }
 
-fn constant(place: u8) -> Instr
-    requires { place ≤ 6 }
-    ensures { IsSpelled ((0x02 + place) ∷ []) result }
+/// How much longer the operand list is behind the instruction, where it throws nothing.
+///
+/// None for the invokes and the instructions on fields, whose change depends on a descriptor, and
+/// for a variant that is not listed.
+pub fn stack_effect(instr: &Instr) -> Option<i8>
+    ensures { result ≡ effect instr.now }
 {
-    Instr::Iconst(place as i8 - 1)
-}
-
-fn signed_byte(byte: u8) -> i8
-    ensures { cast_unsigned w8 result ≡ byte }
-{
-    byte.cast_signed()
-}
-
-fn unsigned_pair(bytes: &[u8]) -> u16
-    requires { length bytes.now ≡ 2 }
-    ensures { index result ≡ bytes.now }
-{
-    u16::from_be_bytes([bytes[0], bytes[1]])
-}
-
-fn signed_pair(bytes: &[u8]) -> i16
-    requires { length bytes.now ≡ 2 }
-    ensures { signed result ≡ bytes.now }
-{
-    i16::from_be_bytes([bytes[0], bytes[1]])
+    opcodes!(effects instr)
 }
