@@ -1,3 +1,4 @@
 pub mod Listed
-pub mod Places
 pub mod Back
+pub mod Spellings
+pub mod Places

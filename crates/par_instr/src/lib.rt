@@ -7,11 +7,17 @@
 //!
 //! An opcode is added by one line of the table `opcodes!` in opcodes.rt and one row of `listed` in
 //! specs/Spelling.antt. Nothing else changes: `Instr` and its rows there are whole already, and
-//! what is not yet listed has no spelling and is refused.
+//! what is not yet listed has no spelling and is refused. Only with the last variant of all the
+//! two arms go that stand for those not listed.
 #![tactic(auto)]
 
 mod instr;
+mod laws;
 mod opcodes;
+mod operands;
+#[cfg(test)]
+mod tests;
 
 pub use instr::{Instr, InstrError, NoMemory};
+pub use laws::{spelling_ends_itself, spelling_is_one, spelling_is_read_again};
 pub use opcodes::{decode, encode, stack_effect};

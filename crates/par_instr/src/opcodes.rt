@@ -2,9 +2,14 @@ ghost use Rattle.std.specs.Prelude.{◌≡◌, ℕ, ◌≤◌, ◌↔◌, ◌∷
 ghost use Rattle.par_instr.specs.Spelling.{operand_bytes, spelling, has_spelling, effect, IsSpelled, Stands, IsUnlisted, IsCut};
 
 use crate::instr::{Instr, InstrError, NoMemory};
+use crate::operands::{constant, signed_byte, signed_pair, unsigned_pair};
 
-// The opcodes: the first and the last, how the operands are written, the variant, and the change
-// of the operand list.
+// The table, a line for the neighbouring opcodes of a variant: the first and the last, how the
+// numbers are written, the variant, and the change of the operand list.
+//
+// Numbers are written in no place at all (none); in the opcode, from 0 (short) or from -1
+// (constant); in bytes behind it, as one or two of them (u1, u2), signed (i1, i2) or one of each
+// kind (u1i1); or the first in the opcode and the second as i2 (test).
 macro_rules! opcodes {
     ($then:ident $($given:tt)*) => {
         $then! { $($given)*
@@ -28,6 +33,7 @@ macro_rules! opcodes {
     };
 }
 
+// The change of the operand list that an instruction makes.
 macro_rules! effects {
     ($instr:ident $([$first:literal $last:literal $kind:ident $name:ident ($($change:tt)*)])*) => {
         match $instr {
@@ -35,6 +41,14 @@ macro_rules! effects {
             _ => None,
         }
     };
+}
+
+// An instruction's pattern, whatever its numbers.
+macro_rules! any_form {
+    (none $name:ident) => { Instr::$name };
+    (u1i1 $name:ident) => { Instr::$name(_, _) };
+    (test $name:ident) => { Instr::$name(_, _) };
+    ($kind:ident $name:ident) => { Instr::$name(_) };
 }
 
 // How many bytes of operands follow an opcode.
@@ -53,33 +67,36 @@ macro_rules! size {
     (short) => { 0 };
     (u1) => { 1 };
     (i1) => { 1 };
-    ($kind:ident) => { 2 };
+    (u2) => { 2 };
+    (i2) => { 2 };
+    (u1i1) => { 2 };
+    (test) => { 2 };
 }
 
 // The instruction of an opcode and the bytes of its operands.
 macro_rules! decoded {
-    ($op:ident $bytes:ident $([$first:literal $last:literal $kind:ident $name:ident ($($change:tt)*)])*) => {
-        match $op {
-            $($first..=$last => read!($kind $name ($op - $first) $bytes),)*
-            _ => unreachable!(),
-        }
-    };
+    ($op:ident $bytes:ident $([$first:literal $last:literal $kind:ident $name:ident ($($change:tt)*)])*) => {{
+        $(if is_between($op, $first, $last) {
+            return read!($kind $name ($op - $first) $bytes);
+        })*
+        unreachable!()
+    }};
 }
 
+// The variant with the numbers that are in the opcode's place among its neighbours and the bytes.
 macro_rules! read {
     (none $name:ident $place:tt $bytes:ident) => { Instr::$name };
-    (constant $name:ident $place:tt $bytes:ident) => { Instr::$name($place as i8 - 1) };
+    (constant $name:ident $place:tt $bytes:ident) => { constant($place) };
     (short $name:ident $place:tt $bytes:ident) => { Instr::$name($place) };
     (u1 $name:ident $place:tt $bytes:ident) => { Instr::$name($bytes[0]) };
-    (i1 $name:ident $place:tt $bytes:ident) => { Instr::$name($bytes[0].cast_signed()) };
-    (u2 $name:ident $place:tt $bytes:ident) => { Instr::$name(u16::from_be_bytes([$bytes[0], $bytes[1]])) };
-    (i2 $name:ident $place:tt $bytes:ident) => { Instr::$name(i16::from_be_bytes([$bytes[0], $bytes[1]])) };
-    (u1i1 $name:ident $place:tt $bytes:ident) => { Instr::$name($bytes[0], $bytes[1].cast_signed()) };
-    (test $name:ident $place:tt $bytes:ident) => {
-        Instr::$name($place, i16::from_be_bytes([$bytes[0], $bytes[1]]))
-    };
+    (i1 $name:ident $place:tt $bytes:ident) => { Instr::$name(signed_byte($bytes[0])) };
+    (u2 $name:ident $place:tt $bytes:ident) => { Instr::$name(unsigned_pair($bytes)) };
+    (i2 $name:ident $place:tt $bytes:ident) => { Instr::$name(signed_pair($bytes)) };
+    (u1i1 $name:ident $place:tt $bytes:ident) => { Instr::$name($bytes[0], signed_byte($bytes[1])) };
+    (test $name:ident $place:tt $bytes:ident) => { Instr::$name($place, signed_pair($bytes)) };
 }
 
+// Adds the bytes of an instruction.
 macro_rules! encoded {
     ($instr:ident $out:ident $([$first:literal $last:literal $kind:ident $name:ident ($($change:tt)*)])*) => {
         match $instr {
@@ -119,24 +136,13 @@ macro_rules! spelled {
     }};
 }
 
-macro_rules! any_form {
-    (none $name:ident) => { Instr::$name };
-    (u1i1 $name:ident) => { Instr::$name(_, _) };
-    (test $name:ident) => { Instr::$name(_, _) };
-    ($kind:ident $name:ident) => { Instr::$name(_) };
-}
-
-/// How the operand list's length changes, where the instruction alone tells.
-pub fn stack_effect(instr: &Instr) -> Option<i8>
-    ensures { result ≡ effect instr.now }
-{
-    opcodes!(effects instr)
-}
-
-/// The instruction at a place, and the place behind it.
+/// The instruction at an offset of the code, and the offset behind it.
+///
+/// Unsupported comes before Cut: it looks at the opcode alone.
 pub fn decode(code: &[u8], at: usize) -> Result<(Instr, usize), InstrError>
     requires { at ≤ length code.now }
     ensures found { IfOk result (λ r. Stands code.now at r.0 r.1) }
+    ensures whole { (i : Instr) (next : ℕ) → Stands code.now at i next → result ≡ Ok (i, next) }
     ensures unsupported { (b : ℕ) → IsErrOf result (InstrError.Unsupported b) ↔ IsUnlisted (drop at code.now) b }
     ensures cut { IsErrOf result InstrError.Cut ↔ IsCut (drop at code.now) }
 {
@@ -159,7 +165,8 @@ fn operand_size(op: u8) -> Option<usize>
 }
 
 fn is_between(op: u8, first: u8, last: u8) -> bool
-    ensures { result ≡ (nat_le first op && nat_le op last) }
+    ensures test { result ≡ (nat_le first op && nat_le op last) }
+    ensures within { IsTrue result ↔ ((first ≤ op) × (op ≤ last)) }
 {
     first <= op && op <= last
 }
@@ -172,9 +179,13 @@ fn instruction(op: u8, operands: &[u8]) -> Instr
 }
 
 /// Adds the one spelling of the instruction.
+///
+/// It has one where its variant is listed, the number of an `Iconst` is -1 to 5, that of a `Short`
+/// one 0 to 3 and the first one of `If` and `IfIcmp` 0 to 5.
 pub fn encode(instr: &Instr, out: &mut Vec<u8>) -> Result<(), NoMemory>
     requires { IsTrue (has_spelling instr.now) }
     ensures ok { OnOk result (out.new.items ≡ out.old.items ++ spelling instr.now) }
+    ensures spelled { OnOk result (IsSpelled (spelling instr.now) instr.now) }
     ensures err { OnErr result (out.new.items ≡ out.old.items) }
 {
     opcodes!(encoded instr out)
@@ -186,4 +197,14 @@ fn append(out: &mut Vec<u8>, bytes: &[u8]) -> Result<(), NoMemory>
 {
     out.extend_from_slice(bytes)?;
     Ok(())
+}
+
+/// How much longer the operand list is behind the instruction, where it throws nothing.
+///
+/// None for the invokes and the instructions on fields, whose change depends on a descriptor, and
+/// for a variant that is not listed.
+pub fn stack_effect(instr: &Instr) -> Option<i8>
+    ensures { result ≡ effect instr.now }
+{
+    opcodes!(effects instr)
 }
