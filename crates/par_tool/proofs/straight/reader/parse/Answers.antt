@@ -20,8 +20,7 @@ module _ (tokens : List Token) (j : Input) where
 
   no_tree : (r : Result Source ParseError) → Reads (name g.Source ∷ []) [] source (whole tokens) r j → IfErr r (λ e. e ≢ Memory → (tree : Source) → HasTree tokens tree → ⊥)
   no_tree (Ok tree) read = tt
-  no_tree (Err e) read told tree has =
-      let fails = read.err told [] [] in let succeeds = run_comes _ _ _ _ has.1 in cc (fails, succeeds)
+  no_tree (Err e) read = λ told tree has. let fails = read.err told [] [] in let succeeds = run_comes _ _ _ _ has.1 in cc (fails, succeeds)
 
 pub returns-clause-ok : goal.returns-clause-ok
 returns-clause-ok c = parsed c.args.tokens.now _ _ c.whole.ensures
