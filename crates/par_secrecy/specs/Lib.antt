@@ -1,0 +1,5 @@
+pub mod Subject
+pub mod Shown
+pub mod Secure
+pub mod Longer
+pub mod Laws
