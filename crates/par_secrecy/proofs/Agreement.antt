@@ -2,7 +2,7 @@
 use Rattle.std.proofs.Common.{◌≡◌, ℕ, zero, suc, Bool, true, false, cond, List, [], ◌∷◌, refl, sym, subst, take}
 use Rattle.std.specs.Prelude.{IsTrue}
 use Rattle.par_policy.specs.Numbers.{within}
-use Rattle.par_secrecy.specs.Subject.{Witnessed}
+use Rattle.par_secrecy.specs.Runs.{Witnessed}
 use Rattle.par_secrecy.specs.Shown.{Observer}
 use Rattle.par_secrecy.specs.Secure.{events, NextAgree}
 

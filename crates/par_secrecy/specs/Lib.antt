@@ -1,3 +1,4 @@
+pub mod Runs
 pub mod Subject
 pub mod Shown
 pub mod Secure

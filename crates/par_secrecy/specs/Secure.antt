@@ -3,7 +3,8 @@ use Rattle.std.specs.Prelude.{◌≡◌, ℕ, ◌<◌, List, map, take, slice_ge
 use Rattle.par_policy.specs.Numbers.{within}
 use Rattle.par_values.specs.declared.run.Event.{Event}
 use Rattle.par_values.specs.declared.inputs.Inputs.{Inputs}
-use Rattle.par_secrecy.specs.Subject.{Witnessed, Subject, Fits}
+use Rattle.par_secrecy.specs.Runs.{Witnessed}
+use Rattle.par_secrecy.specs.Subject.{Subject, Fits}
 use Rattle.par_secrecy.specs.Shown.{Observer, shown, Alike}
 
 -- the events alone

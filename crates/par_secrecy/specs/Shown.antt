@@ -3,7 +3,8 @@ use Rattle.std.specs.Prelude.{◌≡◌, ℕ, Bool, List, All, IsTrue}
 use Rattle.std.specs.List.{filter}
 use Rattle.par_policy.specs.Sees as policy
 use Rattle.par_values.specs.declared.inputs.Inputs.{Inputs}
-use Rattle.par_secrecy.specs.Subject.{Policy, Witnessed, Run, Subject, given}
+use Rattle.par_secrecy.specs.Runs.{Witnessed, Run}
+use Rattle.par_secrecy.specs.Subject.{Policy, Subject, given}
 
 -- an actor, with a list of ground locks
 pub record Observer : Type 0 where

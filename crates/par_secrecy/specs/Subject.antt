@@ -5,24 +5,15 @@ use Rattle.std.specs.Int.{w32}
 use Rattle.std.specs.Str.{bytes_eq}
 use Rattle.par_policy.specs.declared.clauses.Clause.{Clause}
 use Rattle.par_values.specs.declared.run.Event.{Event}
-use Rattle.par_values.specs.declared.run.Ending.{Ending}
 use Rattle.par_values.specs.declared.inputs.Inputs.{Inputs}
 use Rattle.par_values.specs.declared.inputs.ChannelInput.{ChannelInput}
+use Rattle.par_secrecy.specs.Runs.{Run}
 
 abbrev pub Name : Type 0
 Name = List ℕ
 
 abbrev pub Policy : Type 0
 Policy = List Clause
-
--- an event, with the locks that are open when it happens
-pub record Witnessed : Type 0 where
-  pub event : Event
-  pub locks : List ℕ
-
-pub record Run : Type 0 where
-  pub events : List Witnessed
-  pub ending : Ending
 
 -- an input channel, with its read policy
 pub record InputChannel : Type 0 where

@@ -3,9 +3,9 @@ use Rattle.std.proofs.Common.{◌≡◌, true, false, [], ◌∷◌, pos, negsuc
 use Rattle.std.specs.Int.{int_wrap}
 use Rattle.par_values.specs.declared.run.Event.TheVariants.{Out, Set}
 use Rattle.par_values.specs.declared.run.Val.TheVariants.{Int}
-use Rattle.par_values.specs.declared.run.Ending.TheVariants.{End, Stopped}
+use Rattle.par_values.specs.declared.run.Ending.TheVariants.{End}
 use Rattle.par_values.specs.declared.inputs.Inputs.{Inputs}
-use Rattle.par_secrecy.specs.Subject.{Run}
+use Rattle.par_secrecy.specs.Runs.{Run, stopped}
 use Rattle.par_straight.specs.declared.program.Program.{Program}
 use Rattle.par_straight.specs.declared.program.Operand.TheVariants as operand
 use Rattle.par_straight.specs.declared.program.Action.TheVariants.{SetField, Output, Open}
@@ -32,9 +32,6 @@ one_key = record { channels = record { class = codes "Shop"; channel = codes "ke
 abbrev shown_key : Run
 shown_key = record { events = record { event = Out (codes "Shop") (codes "show") (pos 42); locks = 0 ∷ [] } ∷ []; ending = End }
 
-abbrev cut_off : Run
-cut_off = record { events = []; ending = Stopped }
-
 -- Shop's key is added to the greatest number, and one more, into a field.
 abbrev adding : Program
 adding = record {
@@ -56,10 +53,10 @@ whole_at_five = refl
 stays_at_six : source_run shop one_key 6 ≡ shown_key
 stays_at_six = refl
 
-stopped_at_four : source_run shop one_key 4 ≡ cut_off
+stopped_at_four : source_run shop one_key 4 ≡ stopped
 stopped_at_four = refl
 
-stopped_at_one : source_run shop one_key 1 ≡ cut_off
+stopped_at_one : source_run shop one_key 1 ≡ stopped
 stopped_at_one = refl
 
 -- the body, the assignment, two signs and three terms
@@ -67,7 +64,7 @@ wraps_at_seven : source_run adding one_key 7 ≡ got_wrapped
 unfolding int_wrap
 wraps_at_seven = refl
 
-cut_off_at_six : source_run adding one_key 6 ≡ cut_off
+cut_off_at_six : source_run adding one_key 6 ≡ stopped
 cut_off_at_six = refl
 
 -- a spent input gives 0

@@ -1,3 +1,4 @@
 pub mod Founded
 pub mod Run
 pub mod Examples
+pub mod Longer

@@ -5,9 +5,9 @@ use Rattle.std.specs.Int.{int_wrap, w32}
 use Rattle.par_values.specs.declared.run.Event.{Event}
 use Rattle.par_values.specs.declared.run.Event.TheVariants.{Out, Set}
 use Rattle.par_values.specs.declared.run.Val.TheVariants.{Int}
-use Rattle.par_values.specs.declared.run.Ending.TheVariants.{End, Stopped}
 use Rattle.par_values.specs.declared.inputs.Inputs.{Inputs}
-use Rattle.par_secrecy.specs.Subject.{Name, Witnessed, Run, given}
+use Rattle.par_secrecy.specs.Runs.{Run, over, stopped, with_first}
+use Rattle.par_secrecy.specs.Subject.{Name, given}
 use Rattle.par_straight.specs.declared.program.Field.{Field}
 use Rattle.par_straight.specs.declared.program.Channel.{Channel}
 use Rattle.par_straight.specs.declared.program.Operand.{Operand}
@@ -30,10 +30,7 @@ Rest = State → ℕ → Run
 
 -- the program is over
 abbrev pub ends : Rest
-ends s n = record { events = []; ending = End }
-
-abbrev pub stopped : Run
-stopped = record { events = []; ending = Stopped }
+ends s n = over
 
 -- Where no step is left the run is stopped before the node.
 abbrev pub enter : Rest → Rest
@@ -45,12 +42,9 @@ abbrev pub enter_all : ℕ → Rest → Rest
 enter_all zero rest = rest
 enter_all (suc k) rest = enter (enter_all k rest)
 
-abbrev pub first : Witnessed → Run → Run
-first w run = record { events = w ∷ run.events; ending = run.ending }
-
 -- The event happens, with the locks that are open.
 abbrev pub happen : Event → Rest → Rest
-happen e rest s n = first (record { event = e; locks = s.locks }) (rest s n)
+happen e rest s n = with_first (record { event = e; locks = s.locks }) (rest s n)
 
 abbrev pub change : (State → State) → Rest → Rest
 change f rest s n = rest (f s) n
