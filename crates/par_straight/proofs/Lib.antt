@@ -2,3 +2,6 @@ pub mod Founded
 pub mod Run
 pub mod Examples
 pub mod Longer
+pub mod Opened
+pub mod Targets
+pub mod TwoRuns
