@@ -1,5 +1,5 @@
 -- Runs that extend each other.
-use Rattle.std.proofs.Common.{◌≡◌, List, [], ◌∷◌, ◌++◌, refl, sym, ap}
+use Rattle.std.proofs.Common.{[], ◌∷◌, refl, sym, ap}
 use Rattle.std.proofs.lemmas.List.{append-nil}
 use Rattle.par_secrecy.specs.Runs.{Witnessed, Run, stopped, with_first}
 use Rattle.par_secrecy.specs.Longer.{Extends}
