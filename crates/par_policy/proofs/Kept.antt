@@ -1,14 +1,14 @@
 -- One more clause among those of a normal form.
-use Rattle.std.proofs.Common.{◌≡◌, ◌≢◌, ℕ, zero, suc, ◌+◌, ◌<◌, ◌≤◌, Bool, true, false, not, cond, ◌||◌, List, [], ◌∷◌, ◌++◌, length, take, drop, get_or, All, refl, sym, ap, ◌∙◌, subst, inl, inr, ⊎_elim, arith}
-use Rattle.std.specs.Prelude.{IsTrue, nat_eq}
-use Rattle.std.specs.List.{list_any, filter, insert, AllPairs, AllWithin, HoldsAt, Contains}
+use Rattle.std.proofs.Common.{◌≡◌, ◌≢◌, ℕ, ◌+◌, ◌<◌, ◌≤◌, Bool, true, false, not, ◌||◌, List, [], ◌∷◌, ◌++◌, length, take, drop, get_or, All, refl, sym, ap, ◌∙◌, subst, inl, inr, ⊎_elim, arith}
+use Rattle.std.specs.Prelude.{IsTrue}
+use Rattle.std.specs.List.{list_any, filter, insert, AllWithin, HoldsAt}
 use Rattle.std.specs.Ordering.{nat_cmp, ordering_then, ordering_reverse}
 use Rattle.std.specs.declared.cmp.Ordering.{Ordering}
 use Rattle.std.specs.declared.cmp.Ordering.TheVariants.{Less, Equal, Greater}
 use Rattle.std.specs.Cmp.Lexicographic.{slice_cmp}
 use Rattle.std.specs.Cmp.{IsTotalOrder}
 use Rattle.std.proofs.lemmas.Cmp.{ranked, nat_cmp_total, nat_list_cmp_total, then_total, on_total}
-use Rattle.std.proofs.lemmas.Bool.{or_cases, or_left, or_right, false≢true, cond_both, cases_Bool, cases_order, not-true, not-false, both_ways, or_parts, and_from, eq-eqb}
+use Rattle.std.proofs.lemmas.Bool.{or_cases, or_left, or_right, false≢true, cond_both, cases_order, not-true, not-false, both_ways, or_parts, and_from, eq-eqb}
 use Rattle.std.proofs.lemmas.Map.Lookups.{exact_bytes}
 use Rattle.std.proofs.lemmas.List.{take-append-drop}
 use Rattle.std.proofs.lemmas.List.Folds.{list_any-append, list_any_more}
@@ -19,7 +19,7 @@ use Rattle.par_policy.specs.Numbers.{IsAscending, within}
 use Rattle.par_policy.specs.Sees.{allows, sees, IsSeenAlike}
 use Rattle.par_policy.specs.Normal.{IsNormal, clause_cmp, covers}
 use Rattle.par_policy.proofs.Inserted.{AllPairs-insert}
-use Rattle.par_policy.proofs.Seen.{allows_by_cover, within_itself, covers_itself, same_tests}
+use Rattle.par_policy.proofs.Seen.{allows_by_cover, within_itself, same_tests}
 
 pub clause_cmp_total : IsTotalOrder clause_cmp
 clause_cmp_total = then_total (on_total (λ c. c.actor) nat_cmp_total) (on_total (λ c. c.locks) nat_list_cmp_total)
