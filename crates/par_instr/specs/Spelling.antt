@@ -10,6 +10,7 @@ pub record Opcodes : Type 0 where
   pub last : ℕ
   pub operands : ℕ
 
+-- from the first to the last, with so many bytes of operands
 abbrev pub opcodes : ℕ → ℕ → ℕ → Opcodes
 opcodes f l n = record { first = f; last = l; operands = n }
 
@@ -34,6 +35,7 @@ listed =
     ∷ opcodes 0xb8 0xb8 2
     ∷ []
 
+-- the byte is one of them
 abbrev pub has_opcode : Opcodes → ℕ → Bool
 has_opcode o b = nat_le o.first b && nat_le b o.last
 
@@ -42,6 +44,7 @@ abbrev pub find_opcode : List Opcodes → ℕ → Option Opcodes
 find_opcode [] b = None
 find_opcode (o ∷ os) b = if has_opcode o b then Some o else find_opcode os b
 
+-- how many bytes of operands follow each, if there are any
 abbrev pub size_of : Option Opcodes → Option ℕ
 size_of None = None
 size_of (Some o) = Some o.operands
@@ -58,18 +61,23 @@ pub record Row : Type 0 where
   pub operands : List ℕ
   pub change : Option ℤ
 
+-- a row by its parts, in this order
 abbrev pub row_of : ℕ → ℕ → List ℕ → Option ℤ → Row
 row_of f k bytes c = record { first = f; place = k; operands = bytes; change = c }
 
+-- the list gets one longer
 abbrev pub pushes : Option ℤ
 pushes = Some (pos 1)
 
+-- it keeps its length
 abbrev pub keeps : Option ℤ
 keeps = Some (pos 0)
 
+-- it gets one shorter
 abbrev pub pops : Option ℤ
 pops = Some (negsuc 0)
 
+-- it gets two shorter
 abbrev pub pops_two : Option ℤ
 pops_two = Some (negsuc 1)
 
@@ -78,13 +86,15 @@ abbrev pub above_minus_one : ℤ → ℕ
 above_minus_one (pos n) = n + 1
 above_minus_one (negsuc n) = 0
 
--- the big-endian bytes of an index and of a signed number
+-- the big-endian bytes of an index
 abbrev pub index : ℕ → List ℕ
 index n = to_be_bytes w16 n
 
+-- the big-endian bytes of a signed number
 abbrev pub signed : ℤ → List ℕ
 signed n = to_be_bytes w16 (cast_unsigned w16 n)
 
+-- the row of each instruction
 abbrev pub row : Instr → Row
 row AconstNull = row_of 0x01 0 [] pushes
 row (Iconst n) = row_of 0x02 (above_minus_one n) [] pushes
@@ -155,12 +165,12 @@ is_in_range (If test to) = nat_lt test 6
 is_in_range (IfIcmp test to) = nat_lt test 6
 is_in_range _ = true
 
--- the byte is one of them
+-- the byte is not behind the last of these
 abbrev pub is_among : ℕ → Option Opcodes → Bool
 is_among b None = false
 is_among b (Some o) = nat_le b o.last
 
--- its numbers are in range and its opcode is listed
+-- its numbers are in range, and its opcode is listed with the first one of its variant
 abbrev pub has_spelling : Instr → Bool
 has_spelling i =
     is_in_range i && is_among ((row i).first + (row i).place) (find_opcode listed (row i).first)

@@ -143,7 +143,8 @@ pub fn decode(code: &[u8], at: usize) -> Result<(Instr, usize), InstrError>
     requires { at ≤ length code.now }
     ensures found { IfOk result (λ r. Stands code.now at r.0 r.1) }
     ensures whole { (i : Instr) (next : ℕ) → Stands code.now at i next → result ≡ Ok (i, next) }
-    ensures unsupported { (b : ℕ) → IsErrOf result (InstrError.Unsupported b) ↔ IsUnlisted (drop at code.now) b }
+    ensures unsupported { (b : ℕ) →
+        IsErrOf result (InstrError.Unsupported b) ↔ IsUnlisted (drop at code.now) b }
     ensures cut { IsErrOf result InstrError.Cut ↔ IsCut (drop at code.now) }
 {
     let Some((&op, behind)) = code[at..].split_first() else {

@@ -28,7 +28,8 @@ fn next_piece(alloc: Global, source: &[u8], at: u32) -> Result<Piece, NoMemory>
 pub fn lex(alloc: Global, source: &[u8]) -> Result<List<Token>, LexError>
     ensures ok { IfOk result (HasTokens source.now) }
     ensures laid { IfOk result (IsLaid source.now) }
-    ensures too_long { IsErrOf result (LexError.SourceTooLong (length source.now)) ↔ (262144 < length source.now) }
+    ensures too_long { IsErrOf result (LexError.SourceTooLong (length source.now))
+        ↔ (262144 < length source.now) }
     ensures refused { IfErr result (IsRefusal source.now) }
     ensures placed { IfErr result (IsPlaced source.now) }
 {

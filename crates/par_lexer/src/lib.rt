@@ -9,7 +9,7 @@ mod cut;
 pub mod list;
 pub mod name;
 mod number;
-pub mod piece;
+mod piece;
 mod place;
 mod runs;
 mod scan;

@@ -1,5 +1,5 @@
 -- What an element put into a list in order leaves of the order.
-use Rattle.std.proofs.Common.{◌≡◌, ℕ, ◌+◌, ◌-◌, ◌<◌, ◌≤◌, ◌⊎◌, ◌↔◌, suc, zero, Err, List, [], ◌∷◌, ◌++◌, length, take, drop, get_or, Contains, refl, sym, ap, subst, inl, inr, ⊎_elim, arith}
+use Rattle.std.proofs.Common.{◌≡◌, ℕ, ◌+◌, ◌-◌, ◌<◌, ◌≤◌, ◌⊎◌, ◌↔◌, suc, zero, Err, List, [], ◌∷◌, ◌++◌, length, take, drop, get_or, Contains, sym, subst, inl, inr, ⊎_elim, arith}
 use Rattle.std.specs.List.{AllPairs, insert}
 use Rattle.std.proofs.lemmas.Bool.{cases_order}
 use Rattle.std.proofs.lemmas.List.{take-append-drop, get_or_default}

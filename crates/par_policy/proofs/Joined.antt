@@ -1,9 +1,9 @@
 -- Steps of the loops over sets of numbers.
-use Rattle.std.proofs.Common.{◌≡◌, ℕ, ◌+◌, ◌<◌, ◌≤◌, ◌⊎◌, ◌↔◌, Bool, true, false, List, [], ◌∷◌, ◌++◌, length, take, get_or, Contains, All, refl, sym, subst, inl, inr, ⊎_elim, arith}
+use Rattle.std.proofs.Common.{◌≡◌, ℕ, ◌+◌, ◌<◌, ◌≤◌, ◌↔◌, true, false, List, [], ◌∷◌, ◌++◌, length, take, get_or, Contains, All, refl, sym, subst, inl, inr, ⊎_elim}
 use Rattle.std.specs.Prelude.{IsTrue}
 use Rattle.std.proofs.lemmas.Bool.{false≢true}
 use Rattle.std.proofs.lemmas.List.{take_more, take_all}
-use Rattle.std.proofs.lemmas.List.Elements.{All-get_or, Contains-append_left, Contains-push, Contains-push_cases}
+use Rattle.std.proofs.lemmas.List.Elements.{All-get_or, All-contains, Contains-get_or, Contains-append_left, Contains-push, Contains-push_cases}
 use Rattle.par_policy.specs.declared.clauses.Clause.{Clause}
 use Rattle.par_policy.specs.Numbers.{Gains, GainsAll}
 use Rattle.par_policy.specs.Order.{IsBelowAt, IsJoinBelowAt, policies_of}
@@ -42,3 +42,14 @@ join_not_below table ns opened q i inside not = (
 pub join_below : (table : List (List Clause)) (ns : List ℕ) (opened : List ℕ) (q : List Clause) → All (λ n. IsBelowAt (get_or table n []) opened q) ns
     → IsTrue true ↔ IsJoinBelowAt (policies_of table ns) opened q
 join_below table ns opened q h = (λ _. join_below-from_each (λ n. get_or table n []) ns opened q h, λ _. refl)
+
+-- what holds of a set and of what it gains holds of the new set, as that numbers are in range
+pub All-gains : (P : ℕ → Type 0) (old new : List ℕ) (number : ℕ) → Gains old new number → All P old → P number → All P new
+All-gains P old new number gains all one k d inside =
+    let x = get_or new k d in
+    ⊎_elim (λ in_old. All-contains P old x all in_old) (λ same. subst P (sym same) one) ((gains x).0 (Contains-get_or new k d inside))
+
+pub All-gains_all : (P : ℕ → Type 0) (old new more : List ℕ) → GainsAll old new more → All P old → All P more → All P new
+All-gains_all P old new more gains all others k d inside =
+    let x = get_or new k d in
+    ⊎_elim (λ in_old. All-contains P old x all in_old) (λ in_more. All-contains P more x others in_more) ((gains x).0 (Contains-get_or new k d inside))

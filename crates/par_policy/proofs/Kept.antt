@@ -1,17 +1,17 @@
 -- One more clause among those of a normal form.
-use Rattle.std.proofs.Common.{◌≡◌, ◌≢◌, ℕ, zero, suc, ◌+◌, ◌<◌, ◌≤◌, Bool, true, false, not, cond, ◌||◌, List, [], ◌∷◌, ◌++◌, length, take, drop, get_or, All, refl, sym, ap, ◌∙◌, subst, inl, inr, ⊎_elim, arith}
-use Rattle.std.specs.Prelude.{IsTrue, nat_eq}
-use Rattle.std.specs.List.{list_any, filter, insert, AllPairs, AllWithin, HoldsAt, Contains}
+use Rattle.std.proofs.Common.{◌≡◌, ◌≢◌, ℕ, ◌<◌, ◌≤◌, Bool, true, false, not, ◌||◌, List, [], ◌∷◌, ◌++◌, length, take, drop, get_or, All, refl, sym, ap, ◌∙◌, subst, inl, inr, ⊎_elim, arith}
+use Rattle.std.specs.Prelude.{IsTrue}
+use Rattle.std.specs.List.{list_any, filter, insert, AllWithin, HoldsAt}
 use Rattle.std.specs.Ordering.{nat_cmp, ordering_then, ordering_reverse}
 use Rattle.std.specs.declared.cmp.Ordering.{Ordering}
 use Rattle.std.specs.declared.cmp.Ordering.TheVariants.{Less, Equal, Greater}
 use Rattle.std.specs.Cmp.Lexicographic.{slice_cmp}
 use Rattle.std.specs.Cmp.{IsTotalOrder}
 use Rattle.std.proofs.lemmas.Cmp.{ranked, nat_cmp_total, nat_list_cmp_total, then_total, on_total}
-use Rattle.std.proofs.lemmas.Bool.{or_cases, or_left, or_right, false≢true, cond_both, cases_Bool, cases_order, not-true, not-false, both_ways, or_parts, and_from, eq-eqb}
+use Rattle.std.proofs.lemmas.Bool.{or_cases, or_left, or_right, false≢true, cond_both, cases_order, not-true, not-false, both_ways, or_parts, and_from, eq-eqb}
 use Rattle.std.proofs.lemmas.Map.Lookups.{exact_bytes}
 use Rattle.std.proofs.lemmas.List.{take-append-drop}
-use Rattle.std.proofs.lemmas.List.Folds.{list_any-append, list_any_more}
+use Rattle.std.proofs.lemmas.List.Folds.{list_any-append}
 use Rattle.std.proofs.lemmas.List.Kept.{AllPairs-filter}
 use Rattle.std.proofs.lemmas.List.Elements.{All-nil, All-cons, All-weaker, All-append, All-take, All-drop, All-filter, filter_passes}
 use Rattle.par_policy.specs.declared.clauses.Clause.{Clause}
@@ -19,7 +19,7 @@ use Rattle.par_policy.specs.Numbers.{IsAscending, within}
 use Rattle.par_policy.specs.Sees.{allows, sees, IsSeenAlike}
 use Rattle.par_policy.specs.Normal.{IsNormal, clause_cmp, covers}
 use Rattle.par_policy.proofs.Inserted.{AllPairs-insert}
-use Rattle.par_policy.proofs.Seen.{allows_by_cover, within_itself, covers_itself, same_tests}
+use Rattle.par_policy.proofs.Seen.{allows_by_cover, within_itself, same_tests}
 
 pub clause_cmp_total : IsTotalOrder clause_cmp
 clause_cmp_total = then_total (on_total (λ c. c.actor) nat_cmp_total) (on_total (λ c. c.locks) nat_list_cmp_total)
@@ -175,12 +175,3 @@ alike-kept p n c actor locks =
     (λ h. ⊎_elim (λ by_new. or_right old new by_new) (λ by_rest. or_left old new (sees-from_filter p (λ k. not (covers c k)) actor locks by_rest)) (or_cases new rest h))
     (λ h. ⊎_elim (λ by_old. sees-from_left p c actor locks by_old) (λ by_new. or_left new rest by_new) (or_cases old new h))
     ∙ sym (sees_push p c actor locks)
-
--- a step over the given clauses
-pub alike-more : (kept next given : List Clause) (i : ℕ) (d : Clause) → i < length given → IsSeenAlike kept (take i given)
-    → IsSeenAlike next (kept ++ get_or given i d ∷ []) → IsSeenAlike next (take (i + 1) given)
-alike-more kept next given i d inside before step actor locks =
-    step actor locks ∙ sees_push kept (get_or given i d) actor locks ∙ ap (λ b. b || allows actor locks (get_or given i d)) (before actor locks) ∙ sym (list_any_more (allows actor locks) given i d inside)
-
-pub IsNormal-nil : IsNormal []
-IsNormal-nil = record { lock_sets = All-nil (λ c. IsAscending c.locks); ascending = λ i j d lt short. absurd (omega arith); minimal = λ i j d lt short. absurd (omega arith) }

@@ -1,7 +1,7 @@
 -- The tests of sets of numbers, and std's words for what they test.
-use Rattle.std.proofs.Common.{◌≡◌, ℕ, Bool, true, ◌||◌, ◌↔◌, List, [], ◌∷◌, ◌++◌, All, Contains, refl, sym, ap, ◌∙◌, subst}
+use Rattle.std.proofs.Common.{◌≡◌, ℕ, ◌||◌, ◌↔◌, List, [], ◌∷◌, ◌++◌, All, Contains, refl, subst}
 use Rattle.std.specs.Prelude.{IsTrue, nat_eq}
-use Rattle.std.specs.List.{list_all, list_any}
+use Rattle.std.specs.List.{list_all}
 use Rattle.std.proofs.lemmas.Bool.{and_parts, and_from, eqb-true, eq-eqb}
 use Rattle.std.proofs.lemmas.List.Elements.{All-nil, All-cons, All-head, All-tail}
 use Rattle.std.proofs.lemmas.List.Folds.{Any-from_list_any, list_any-append, list_any_at}

@@ -1,11 +1,10 @@
 -- Observers with more locks see more.
-use Rattle.std.proofs.Common.{◌≡◌, ℕ, Bool, true, false, ◌&&◌, ◌||◌, List, [], ◌∷◌, ◌++◌, All, Contains, refl, sym, ap, ◌∙◌, subst, inl, inr, ⊎_elim}
+use Rattle.std.proofs.Common.{◌≡◌, ℕ, Bool, true, false, List, [], ◌∷◌, ◌++◌, Contains, refl, sym, ◌∙◌, ⊎_elim}
 use Rattle.std.specs.Prelude.{IsTrue, nat_eq}
-use Rattle.std.specs.List.{list_all, list_any}
-use Rattle.std.proofs.lemmas.Bool.{and_parts, and_from, or_cases, or_left, or_right, eqb-true, eq-eqb, false≢true, cases_Bool}
+use Rattle.std.proofs.lemmas.Bool.{and_parts, and_from, or_cases, or_left, or_right, eqb-true, eq-eqb}
 use Rattle.std.proofs.lemmas.List.Elements.{All-contains, All-weaker, All-append, All-contains_itself, Contains-append_left, Contains-append_right}
 use Rattle.par_policy.specs.declared.clauses.Clause.{Clause}
-use Rattle.par_policy.specs.Numbers.{has, within}
+use Rattle.par_policy.specs.Numbers.{within}
 use Rattle.par_policy.specs.Sees.{allows, sees, sees_at}
 use Rattle.par_policy.specs.Normal.{covers}
 use Rattle.par_policy.proofs.Members.{All-from_within, within-from_All}

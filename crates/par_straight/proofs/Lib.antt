@@ -1,5 +1,6 @@
 pub mod Founded
 pub mod Run
+pub mod One
 pub mod Examples
 pub mod Longer
 pub mod Opened

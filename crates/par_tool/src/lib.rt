@@ -6,4 +6,7 @@
 //! the layers of the whole language take its place.
 #![tactic(auto)]
 
+pub mod answer;
 pub mod straight;
+pub mod tool;
+pub mod words;

@@ -1,4 +1,4 @@
-use Rattle.std.proofs.Common.{◌≡◌, true, false, rules, sym, subst}
+use Rattle.std.proofs.Common.{◌≡◌, true, false, rules}
 use Rattle.std.specs.List.{list_any}
 use Rattle.par_policy.specs.Normal.{covers}
 use Rattle.par_policy.proofs.Kept.{alike-from_covered, IsNormal-kept, alike-kept}

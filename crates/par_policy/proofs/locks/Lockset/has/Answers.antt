@@ -1,4 +1,3 @@
-use Rattle.std.proofs.Common.{rules}
 use Rattle.par_policy.proofs.Members.{has_iff}
 use Rattle.par_policy.proofs.locks.Lockset.has.Goals as goal
 

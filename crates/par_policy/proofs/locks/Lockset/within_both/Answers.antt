@@ -1,4 +1,4 @@
-use Rattle.std.proofs.Common.{sym, ◌∙◌}
+use Rattle.std.proofs.Common.{sym}
 use Rattle.par_policy.proofs.Members.{within-append}
 use Rattle.par_policy.proofs.locks.Lockset.within_both.Goals as goal
 
