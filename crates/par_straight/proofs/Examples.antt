@@ -1,5 +1,5 @@
 -- Runs and observers that the definitions are checked against.
-use Rattle.std.proofs.Common.{◌≡◌, ℕ, ◌<◌, ◌^◌, ◌||◌, true, false, Some, List, [], ◌∷◌, ℤ, pos, negsuc, All, refl, codes, lit<, arith}
+use Rattle.std.proofs.Common.{◌≡◌, ℕ, ◌<◌, ◌^◌, ◌||◌, true, false, List, [], ◌∷◌, pos, negsuc, All, refl, codes, lit<, arith}
 use Rattle.std.specs.Prelude.{IsTrue, FitsSigned}
 use Rattle.std.specs.Int.{int_wrap, w32}
 use Rattle.std.proofs.lemmas.Int.{fits_signed_from_abs}
@@ -35,7 +35,7 @@ shop steps = record {
   channels =
       record { name = codes "key"; is_input = true; policy = anyway 0 ∷ record { actor = 1; locks = 0 ∷ [] } ∷ [] }
       ∷ record { name = codes "show"; is_input = false; policy = anyway 0 ∷ anyway 1 ∷ [] } ∷ [];
-  steps = steps
+  steps = steps;
 }
 
 -- open Paid;

@@ -4,7 +4,7 @@ use Rattle.std.specs.Int.{int_wrap, w32}
 use Rattle.par_values.specs.declared.run.Event.{Event}
 use Rattle.par_values.specs.declared.run.Event.TheVariants.{Out, Set}
 use Rattle.par_values.specs.declared.run.Val.TheVariants.{Int}
-use Rattle.par_secrecy.specs.Runs.{stopped, over}
+use Rattle.par_secrecy.specs.Runs.{over}
 use Rattle.par_secrecy.specs.Longer.{Extends}
 use Rattle.par_secrecy.proofs.Extension.{extends_itself, extends_stopped, extends_behind}
 use Rattle.par_straight.specs.declared.program.Operand.{Operand}

@@ -1,5 +1,5 @@
 -- One more open lock.
-use Rattle.std.proofs.Common.{◌≡◌, ℕ, Bool, true, false, inl, inr, List, [], ◌∷◌, refl, subst}
+use Rattle.std.proofs.Common.{ℕ, false, inl, inr, List, [], ◌∷◌, refl}
 use Rattle.std.specs.Prelude.{IsTrue, nat_eq, nat_lt, ◌==◌}
 use Rattle.std.proofs.lemmas.Bool.{and_parts, and_from, or_left, or_right, cond_both, or_cases, eq-eqb, eqb-true}
 use Rattle.par_policy.specs.Numbers.{has, within}

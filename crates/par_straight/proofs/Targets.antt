@@ -1,7 +1,7 @@
 -- What the two-run proof uses of a program: its targets are declared, and their names find their policies.
-use Rattle.std.proofs.Common.{◌≡◌, ℕ, zero, suc, ◌<◌, Bool, true, false, not, cond, ◌||◌, inl, inr, List, [], ◌∷◌, length, map, Option, refl, sym, ap, ◌∙◌, subst, arith}
+use Rattle.std.proofs.Common.{◌≡◌, ℕ, zero, suc, ◌<◌, Bool, true, false, not, cond, ◌||◌, inl, inr, List, [], ◌∷◌, length, map, refl, sym, ap, ◌∙◌, subst, arith}
 use Rattle.std.specs.Prelude.{IsTrue, slice_get}
-use Rattle.std.specs.List.{filter, list_any}
+use Rattle.std.specs.List.{filter}
 use Rattle.std.specs.Str.{bytes_eq}
 use Rattle.std.proofs.lemmas.Bool.{and_parts, cond_both, not-true, or_parts, or_cases, or_right, or_left, false_from_ne_true}
 use Rattle.std.proofs.lemmas.List.{length-map}
@@ -9,7 +9,6 @@ use Rattle.std.proofs.lemmas.Slice.Eq.{bytes_eq-Decides}
 use Rattle.par_straight.specs.declared.tree.Member.{Member}
 use Rattle.par_straight.specs.declared.tree.MemberKind.{MemberKind}
 use Rattle.par_straight.specs.declared.tree.MemberKind.TheVariants as kind
-use Rattle.par_straight.specs.declared.tree.Term.{Term}
 use Rattle.par_straight.specs.declared.tree.Statement.{Statement}
 use Rattle.par_straight.specs.declared.tree.Statement.TheVariants as statement
 use Rattle.par_straight.specs.declared.tree.Source.{Source}
@@ -20,9 +19,9 @@ use Rattle.par_straight.specs.declared.program.Action.{Action}
 use Rattle.par_straight.specs.declared.program.Action.TheVariants.{SetLocal, SetField, Output, Open}
 use Rattle.par_straight.specs.declared.program.Step.{Step}
 use Rattle.par_straight.specs.declared.program.Program.{Program}
-use Rattle.par_straight.specs.Names.{Name, names, among, place_of, kind_is_field, kind_is_input, kind_is_output, fields_of, channels_of, member_names, Scope, scope_of, numbered, numbered_field, numbered_channel, numbered_sum, numbered_action, numbered_steps, declares}
+use Rattle.par_straight.specs.Names.{Name, names, among, place_of, kind_is_field, kind_is_output, fields_of, channels_of, member_names, Scope, scope_of, numbered, numbered_field, numbered_channel, numbered_action, numbered_steps, declares}
 use Rattle.par_straight.specs.Conditions.{IsNamed, differ, sum_named, statement_named, statements_named}
-use Rattle.par_straight.specs.Rules.{Policy, policy_of, field_policy_of, channel_policy_of, field_policy, channel_policy}
+use Rattle.par_straight.specs.Rules.{field_policy_of, channel_policy_of, field_policy, channel_policy}
 use Rattle.par_straight.specs.Meaning.{field_name_of, channel_name_of, field_name, channel_name}
 use Rattle.par_straight.specs.Subject.{policy_of_field, policy_of_channel}
 use Rattle.par_straight.specs.Judged.{HasProgram}

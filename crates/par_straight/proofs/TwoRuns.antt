@@ -1,5 +1,5 @@
 -- An accepted program is secure: two runs that an observer cannot tell apart go in step.
-use Rattle.std.proofs.Common.{◌≡◌, ℕ, zero, suc, Bool, true, false, cond, Option, Some, None, List, [], ◌∷◌, ◌++◌, length, All, ℤ, pos, ◌+ℤ◌, refl, sym, ap, ◌∙◌, subst}
+use Rattle.std.proofs.Common.{◌≡◌, ℕ, zero, suc, Bool, true, false, cond, Some, List, [], ◌∷◌, ◌++◌, length, All, ℤ, pos, ◌+ℤ◌, refl, sym, ap, ◌∙◌, subst}
 use Rattle.std.specs.Prelude.{IsTrue, ◌==◌, slice_get, map}
 use Rattle.std.specs.List.{filter}
 use Rattle.std.specs.Int.{int_wrap, w32}
@@ -19,7 +19,7 @@ use Rattle.par_secrecy.specs.Runs.{Witnessed, Run, with_first}
 use Rattle.par_secrecy.specs.Subject.{Name, InputChannel, given}
 use Rattle.par_secrecy.specs.Shown.{Observer, sees, shown, Alike}
 use Rattle.par_secrecy.proofs.Agreement.{Agree, agree_nothing, agree_both, next_agree}
-use Rattle.par_secrecy.proofs.Seeing.{Seen, seen_left, seen_right, seen_both, seen_alone, seen_source}
+use Rattle.par_secrecy.proofs.Seeing.{Seen, seen_left, seen_right, seen_source}
 use Rattle.par_straight.specs.declared.program.Channel.{Channel}
 use Rattle.par_straight.specs.declared.program.Operand.{Operand}
 use Rattle.par_straight.specs.declared.program.Operand.TheVariants.{Constant, Local, Field, Input}
@@ -28,7 +28,7 @@ use Rattle.par_straight.specs.declared.program.Action.TheVariants.{SetLocal, Set
 use Rattle.par_straight.specs.declared.program.Step.{Step}
 use Rattle.par_straight.specs.declared.program.Program.{Program}
 use Rattle.par_straight.specs.Rules.{Policy, policy_of, Join, field_policy, channel_policy, channel_policy_of, operand_policy, sum_policy, put, Facts, first_facts, facts_after, Passes, AllPass}
-use Rattle.par_straight.specs.Meaning.{State, Rest, ends, enter, enter_all, happen, change, next, left, set_local, set_field, take_input, open_lock, term, added, sum, field_name, channel_name, act, all, input_list, start}
+use Rattle.par_straight.specs.Meaning.{State, Rest, ends, enter, enter_all, next, left, set_local, set_field, take_input, open_lock, term, added, sum, field_name, channel_name, act, all, input_list, start}
 use Rattle.par_straight.specs.Subject.{policy_of_field, policy_of_channel, event_policy, subject}
 use Rattle.par_straight.specs.Theorems.{AcceptedIsSecure}
 use Rattle.par_straight.proofs.Opened.{within_opened}
