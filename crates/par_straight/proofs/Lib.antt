@@ -6,3 +6,4 @@ pub mod Longer
 pub mod Opened
 pub mod Targets
 pub mod TwoRuns
+pub mod Telling
