@@ -9,3 +9,4 @@ pub mod Meaning
 pub mod Subject
 pub mod Theorems
 pub mod Alike
+pub mod Progress

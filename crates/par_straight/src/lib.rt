@@ -8,10 +8,11 @@
 #![tactic(auto)]
 
 mod law;
-mod law;
 mod lines;
 mod observers;
 pub mod program;
+mod progress;
+pub mod source_run;
 pub mod tree;
 
 pub use law::{accepted_is_secure, more_steps_extend};
