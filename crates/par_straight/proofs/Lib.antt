@@ -7,3 +7,4 @@ pub mod Opened
 pub mod Targets
 pub mod TwoRuns
 pub mod Telling
+pub mod Written

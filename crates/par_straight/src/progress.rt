@@ -1,6 +1,7 @@
 // How far a source run has come.
-ghost use Rattle.std.specs.Prelude.{◌≡◌, ◌==◌, ◌+◌, [], ◌∷◌, ◌++◌, IfOk, OnOk, if◌then◌else◌, ℕ, slice_get};
+ghost use Rattle.std.specs.Prelude.{◌≡◌, ◌==◌, ◌+◌, [], ◌∷◌, ◌++◌, IfOk, OnOk, if◌then◌else◌, ℕ, slice_get, ◌+ℤ◌};
 ghost use Rattle.std.specs.List.{fold, count_by};
+ghost use Rattle.std.specs.Int.{int_wrap, w32};
 ghost use Rattle.par_straight.specs.Meaning.{next, input_list};
 ghost use Rattle.par_straight.specs.Progress.{written, untaken, state_of, value_of, after_term, added_value, after_terms, sum_value};
 
@@ -33,7 +34,12 @@ pub struct Progress {
 
 impl Progress {
     pub fn start(alloc: Global, bound: u64) -> Progress
-        ensures { result.locals.items ≡ [] }
+        ensures locals { result.locals.items ≡ [] }
+        ensures fields { result.fields.items ≡ [] }
+        ensures taken { result.taken.items ≡ [] }
+        ensures locks { result.locks ≡ [] }
+        ensures events { result.events ≡ [] }
+        ensures left { result.left ≡ bound }
     {
         Progress {
             locals: Vec::new(alloc),
@@ -44,6 +50,62 @@ impl Progress {
             left: bound,
         }
     }
+
+    /// The value of a sum, for which the inputs that it reads give their next numbers.
+    pub fn sum(&mut self, program: &Program, inputs: &Inputs, operands: &[Operand]) -> Result<i32, NoMemory>
+        ensures value { IfOk result (λ v. v ≡ sum_value operands.now (state_of program.now inputs.now self.old)) }
+        ensures state { OnOk result (
+            state_of program.now inputs.now self.new ≡ after_terms operands.now (state_of program.now inputs.now self.old)) }
+        ensures kept { self.new ≡ record self.old { taken = self.new.taken } }
+    {
+        match operands {
+            [] => Ok(0),
+            [first, more @ ..] => {
+                let number = self.term(program, inputs, first)?;
+                self.added(program, inputs, more, number)
+            }
+        }
+    }
+
+    // The value of a sum whose terms before these have this value.
+    fn added(&mut self, program: &Program, inputs: &Inputs, more: &[Operand], first: i32) -> Result<i32, NoMemory>
+        ensures value { IfOk result (λ v. v ≡ added_value more.now first (state_of program.now inputs.now self.old)) }
+        ensures state { OnOk result (
+            state_of program.now inputs.now self.new ≡ after_terms more.now (state_of program.now inputs.now self.old)) }
+        ensures kept { self.new ≡ record self.old { taken = self.new.taken } }
+    {
+        let mut sum = first;
+        for operand in more {
+            let number = self.term(program, inputs, operand)?;
+            sum = plus(sum, number);
+        }
+        Ok(sum)
+    }
+
+    fn term(&mut self, program: &Program, inputs: &Inputs, operand: &Operand) -> Result<i32, NoMemory>
+        ensures value { IfOk result (λ v. v ≡ value_of operand.now (state_of program.now inputs.now self.old)) }
+        ensures state { OnOk result (
+            state_of program.now inputs.now self.new ≡ after_term operand.now (state_of program.now inputs.now self.old)) }
+        ensures kept { self.new ≡ record self.old { taken = self.new.taken } }
+    {
+        match operand {
+            Operand::Constant(number) => Ok(*number),
+            Operand::Local(x) => Ok(last_written(&self.locals, *x)),
+            Operand::Field(f) => Ok(last_written(&self.fields, *f)),
+            Operand::Input(c) => {
+                let number = next_number(program, inputs, &self.taken, *c);
+                self.taken.push(*c)?;
+                Ok(number)
+            }
+        }
+    }
+}
+
+// The sum of two numbers, wrapped to 32 bits.
+fn plus(one: i32, other: i32) -> i32
+    ensures { result ≡ int_wrap w32 (one +ℤ other) }
+{
+    one.wrapping_add(other)
 }
 
 // The last number that was written to the place, and 0 before.
