@@ -8,3 +8,5 @@ pub mod Targets
 pub mod TwoRuns
 pub mod Telling
 pub mod Written
+pub mod Paid
+pub mod Going

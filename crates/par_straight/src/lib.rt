@@ -9,12 +9,16 @@
 
 mod law;
 mod lines;
+mod memory;
 mod observers;
 pub mod program;
 mod progress;
+mod runner;
 pub mod source_run;
 pub mod tree;
 
 pub use law::{accepted_is_secure, more_steps_extend};
 pub use lines::given;
+pub use memory::NoMemory;
 pub use observers::alike;
+pub use runner::run_source;

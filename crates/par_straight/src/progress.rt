@@ -6,10 +6,11 @@ ghost use Rattle.par_straight.specs.Meaning.{next, input_list};
 ghost use Rattle.par_straight.specs.Progress.{written, untaken, state_of, value_of, after_term, added_value, after_terms, sum_value};
 
 use crate::lines::given;
+use crate::memory::NoMemory;
 use crate::program::{Operand, Program};
 use crate::source_run::SourceEvent;
 use par_lexer::list::List;
-use par_policy::{Lockset, NoMemory};
+use par_policy::Lockset;
 use par_values::inputs::Inputs;
 use std::alloc::Global;
 
