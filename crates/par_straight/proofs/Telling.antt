@@ -7,11 +7,11 @@ use Rattle.std.specs.Cmp.Lexicographic.{pointwise}
 use Rattle.std.specs.Ordering.{int_eq}
 use Rattle.std.proofs.lemmas.Bool.{and_parts, and_from, cond_both, false≢true}
 use Rattle.std.proofs.lemmas.Bool.Decides.{Decides-int_eq}
-use Rattle.std.proofs.lemmas.List.Elements.{All-nil, All-cons, All-head, All-tail}
+use Rattle.std.proofs.lemmas.List.Elements.{All-nil, All-cons}
 use Rattle.std.proofs.lemmas.Slice.Eq.{slice_eq-Decides}
 use Rattle.par_policy.specs.Sees as policy
 use Rattle.par_values.specs.declared.inputs.Inputs.{Inputs}
-use Rattle.par_secrecy.specs.Subject.{Name, InputChannel, given}
+use Rattle.par_secrecy.specs.Subject.{Name, given}
 use Rattle.par_secrecy.specs.Shown.{Observer, sees, Alike}
 use Rattle.par_straight.specs.declared.program.Permission.{Permission}
 use Rattle.par_straight.specs.declared.program.Channel.{Channel}

@@ -1,5 +1,5 @@
 -- A source run in hand: how far it has come, and what each statement makes of it.
-use Rattle.std.specs.Prelude.{ℕ, ◌<◌, All, zero, suc, ◌+◌, ◌*◌, ◌-◌, ◌==◌, if◌then◌else◌, nat_le, List, [], ◌∷◌, ◌++◌, length, map, drop, slice_get, ℤ, pos, ◌+ℤ◌}
+use Rattle.std.specs.Prelude.{ℕ, ◌<◌, All, ◌+◌, ◌*◌, ◌==◌, if◌then◌else◌, List, [], ◌∷◌, ◌++◌, length, map, drop, slice_get, ℤ, pos, ◌+ℤ◌}
 use Rattle.std.specs.List.{fold, count_by}
 use Rattle.std.specs.Int.{int_wrap, w32}
 use Rattle.par_values.specs.declared.run.Event.TheVariants.{Out, Set}
@@ -37,7 +37,7 @@ state_of p inputs m = record {
   locals = written m.locals.items;
   fields = written m.fields.items;
   inputs = untaken p inputs m.taken.items;
-  locks = m.locks
+  locks = m.locks;
 }
 
 abbrev pub value_of : Operand → State → ℤ

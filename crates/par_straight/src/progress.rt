@@ -53,7 +53,12 @@ impl Progress {
     }
 
     /// The value of a sum, for which the inputs that it reads give their next numbers.
-    pub fn sum(&mut self, program: &Program, inputs: &Inputs, operands: &[Operand]) -> Result<i32, NoMemory>
+    pub fn sum(
+        &mut self,
+        program: &Program,
+        inputs: &Inputs,
+        operands: &[Operand],
+    ) -> Result<i32, NoMemory>
         ensures value { IfOk result (λ v. v ≡ sum_value operands.now (state_of program.now inputs.now self.old)) }
         ensures state { OnOk result (
             state_of program.now inputs.now self.new ≡ after_terms operands.now (state_of program.now inputs.now self.old)) }
@@ -69,7 +74,13 @@ impl Progress {
     }
 
     // The value of a sum whose terms before these have this value.
-    fn added(&mut self, program: &Program, inputs: &Inputs, more: &[Operand], first: i32) -> Result<i32, NoMemory>
+    fn added(
+        &mut self,
+        program: &Program,
+        inputs: &Inputs,
+        more: &[Operand],
+        first: i32,
+    ) -> Result<i32, NoMemory>
         ensures value { IfOk result (λ v. v ≡ added_value more.now first (state_of program.now inputs.now self.old)) }
         ensures state { OnOk result (
             state_of program.now inputs.now self.new ≡ after_terms more.now (state_of program.now inputs.now self.old)) }
@@ -83,7 +94,12 @@ impl Progress {
         Ok(sum)
     }
 
-    fn term(&mut self, program: &Program, inputs: &Inputs, operand: &Operand) -> Result<i32, NoMemory>
+    fn term(
+        &mut self,
+        program: &Program,
+        inputs: &Inputs,
+        operand: &Operand,
+    ) -> Result<i32, NoMemory>
         ensures value { IfOk result (λ v. v ≡ value_of operand.now (state_of program.now inputs.now self.old)) }
         ensures state { OnOk result (
             state_of program.now inputs.now self.new ≡ after_term operand.now (state_of program.now inputs.now self.old)) }
@@ -113,7 +129,14 @@ fn plus(one: i32, other: i32) -> i32
 fn last_written(writes: &[Write], place: u16) -> i32
     ensures { result ≡ written writes.now place }
 {
-    writes.iter().fold(0, |number, write| if place == write.place { write.number } else { number })
+    writes.iter().fold(
+        0,
+        |number, write| if place == write.place {
+            write.number
+        } else {
+            number
+        },
+    )
 }
 
 // The numbers that an input channel gives.

@@ -14,7 +14,12 @@ use std::alloc::Global;
 
 /// The source run of the program on these inputs, with at most so many steps. Condition: each
 /// field and channel of a statement is declared.
-pub fn run_source(alloc: Global, program: &Program, inputs: &Inputs, bound: u64) -> Result<SourceRun, NoMemory>
+pub fn run_source(
+    alloc: Global,
+    program: &Program,
+    inputs: &Inputs,
+    bound: u64,
+) -> Result<SourceRun, NoMemory>
     requires { AreInRange program.now }
     ensures { IfOk result (λ run. run_of run ≡ source_run program.now inputs.now bound) }
 {
@@ -87,7 +92,13 @@ impl Progress {
     }
 
     // Does what the action says, whose steps are paid.
-    fn perform(&mut self, alloc: Global, program: &Program, inputs: &Inputs, action: &Action) -> Result<(), NoMemory>
+    fn perform(
+        &mut self,
+        alloc: Global,
+        program: &Program,
+        inputs: &Inputs,
+        action: &Action,
+    ) -> Result<(), NoMemory>
         requires { IsInRange program.now action.now }
         ensures state { OnOk result (
             state_of program.now inputs.now self.new ≡ after_action action.now (state_of program.now inputs.now self.old)) }
@@ -116,7 +127,13 @@ impl Progress {
         }
     }
 
-    fn write_local(&mut self, program: &Program, inputs: &Inputs, place: u16, number: i32) -> Result<(), NoMemory>
+    fn write_local(
+        &mut self,
+        program: &Program,
+        inputs: &Inputs,
+        place: u16,
+        number: i32,
+    ) -> Result<(), NoMemory>
         ensures state { OnOk result (
             state_of program.now inputs.now self.new ≡ set_local place number (state_of program.now inputs.now self.old)) }
         ensures kept { self.new ≡ record self.old { locals = self.new.locals } }
@@ -125,7 +142,13 @@ impl Progress {
         Ok(())
     }
 
-    fn write_field(&mut self, program: &Program, inputs: &Inputs, place: u16, number: i32) -> Result<(), NoMemory>
+    fn write_field(
+        &mut self,
+        program: &Program,
+        inputs: &Inputs,
+        place: u16,
+        number: i32,
+    ) -> Result<(), NoMemory>
         ensures state { OnOk result (
             state_of program.now inputs.now self.new ≡ set_field place number (state_of program.now inputs.now self.old)) }
         ensures kept { self.new ≡ record self.old { fields = self.new.fields } }
@@ -158,7 +181,12 @@ fn write_event(alloc: Global, program: &Program, place: u16, number: i32) -> Res
     Ok(Event::Set(class, name, Val::Int(number)))
 }
 
-fn output_event(alloc: Global, program: &Program, channel: u16, number: i32) -> Result<Event, NoMemory>
+fn output_event(
+    alloc: Global,
+    program: &Program,
+    channel: u16,
+    number: i32,
+) -> Result<Event, NoMemory>
     requires { channel < length program.now.channels }
     ensures { IfOk result (λ e. e ≡ Event.Out program.now.class (channel_name program.now channel) number) }
 {

@@ -100,7 +100,10 @@ fn is_shown(run: &SourceRun, number: i32) -> bool {
             let Event::Out(class, channel, value) = &shown.event else {
                 return false;
             };
-            class.bytes() == b"Shop" && channel.bytes() == b"show" && *value == number && shown.locks.has(PAID)
+            class.bytes() == b"Shop".as_slice()
+                && channel.bytes() == b"show".as_slice()
+                && *value == number
+                && shown.locks.has(PAID)
         }
         _ => false,
     }

@@ -1,4 +1,4 @@
-use Rattle.std.proofs.Common.{◌≡◌, ◌↔◌, subst, sym}
+use Rattle.std.proofs.Common.{◌↔◌, subst, sym}
 use Rattle.std.specs.Prelude.{IsTrue, Bool}
 use Rattle.par_secrecy.specs.Shown.{Alike}
 use Rattle.par_straight.specs.Alike.{observer}

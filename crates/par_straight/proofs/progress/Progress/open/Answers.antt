@@ -1,4 +1,4 @@
-use Rattle.std.proofs.Common.{◌≡◌, ap, List, ℕ, refl}
+use Rattle.std.proofs.Common.{ap, List, ℕ, refl}
 use Rattle.par_values.specs.declared.inputs.Inputs.{Inputs}
 use Rattle.par_straight.specs.declared.program.Program.{Program}
 use Rattle.par_straight.specs.declared.progress.Progress.{Progress}

@@ -1,6 +1,6 @@
-use Rattle.std.proofs.Common.{◌≡◌, ap, ◌∙◌, ℕ, List, ℤ}
+use Rattle.std.proofs.Common.{ap, ◌∙◌, ℕ, List, ℤ}
 use Rattle.par_straight.specs.Meaning.{State}
-use Rattle.par_straight.specs.Progress.{state_of, untaken, written}
+use Rattle.par_straight.specs.Progress.{untaken, written}
 use Rattle.par_straight.proofs.Written.{untaken_push}
 use Rattle.par_straight.proofs.progress.Progress.term.Goals as goal
 
