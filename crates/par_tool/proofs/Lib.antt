@@ -1,2 +1,4 @@
 pub mod Kept
 pub mod Failing
+pub mod Joins
+pub mod Worths

@@ -1,4 +1,9 @@
 //! Straight-line sources: their reader, what their names mean, and their check.
 
+pub mod check;
 pub mod cursor;
+mod known;
+mod lists;
 pub mod reader;
+mod table;
+mod worth;
