@@ -1,4 +1,5 @@
 pub mod Kept
 pub mod Failing
+pub mod Policies
 pub mod Joins
 pub mod Worths

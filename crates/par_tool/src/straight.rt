@@ -4,6 +4,7 @@ pub mod check;
 pub mod cursor;
 mod known;
 mod lists;
+pub mod policies;
 pub mod reader;
 mod table;
 mod worth;
