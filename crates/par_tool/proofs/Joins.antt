@@ -1,11 +1,10 @@
 -- Joins as observers see them.
-use Rattle.std.proofs.Common.{◌≡◌, ℕ, ◌+◌, ◌<◌, ◌⊎◌, ◌↔◌, Bool, true, false, ◌&&◌, List, [], ◌∷◌, ◌++◌, zero, suc, length, take, get_or, Contains, All, map, refl, sym, ap, ◌∙◌, subst, inl, inr, ⊎_elim, arith}
+use Rattle.std.proofs.Common.{◌≡◌, ℕ, ◌↔◌, Bool, true, ◌&&◌, List, [], ◌∷◌, ◌++◌, zero, suc, Contains, All, refl, sym, ap, ◌∙◌, subst, inl, inr, ⊎_elim, arith}
 use Rattle.std.specs.Prelude.{IsTrue}
 use Rattle.std.specs.List.{list_all}
 use Rattle.std.proofs.lemmas.Bool.{and_parts, and_from}
 use Rattle.std.proofs.lemmas.List.Elements.{All-nil, All-cons, All-head, All-tail, All-contains, All-weaker, All-append, All-contains_itself, Contains-append_left, Contains-append_right}
 use Rattle.std.proofs.lemmas.List.Folds.{list_all-append, list_all-map}
-use Rattle.par_policy.specs.declared.clauses.Clause.{Clause}
 use Rattle.par_policy.specs.Numbers.{within, Gains, GainsAll}
 use Rattle.par_policy.specs.Sees.{sees, sees_at, sees_join_at, IsSeenAlike}
 use Rattle.par_policy.specs.Order.{IsJoinBelowAt, policies_of}
@@ -85,7 +84,10 @@ sees_gained table old new more gains opened actor locks =
     ∙ sym (ap (λ b. b && sees_join_at (policies_of table more) opened actor locks) (sees_numbers table old opened actor locks)
     ∙ ap (λ b. list_all test old && b) (sees_numbers table more opened actor locks)))
 
-lone : (n m : ℕ) → Contains (n ∷ []) m → m ≡ n
+pub all_alone : (P : ℕ → Type 0) (n : ℕ) → P n → All P (n ∷ [])
+all_alone P n h = All-cons P n [] h (All-nil P)
+
+pub lone : (n m : ℕ) → Contains (n ∷ []) m → m ≡ n
 lone n m (zero, inside, at) = sym at
 lone n m (suc k, inside, at) = absurd (omega arith)
 

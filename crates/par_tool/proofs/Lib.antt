@@ -3,3 +3,5 @@ pub mod Failing
 pub mod Policies
 pub mod Joins
 pub mod Worths
+pub mod Steps
+pub mod Reached

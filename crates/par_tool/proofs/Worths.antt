@@ -1,10 +1,9 @@
 -- What is joined to a worth is joined to the policies that it stands for.
-use Rattle.std.proofs.Common.{◌≡◌, ℕ, ◌↔◌, ◌<◌, Bool, true, false, ◌&&◌, ◌||◌, List, [], ◌∷◌, ◌++◌, All, refl, sym, ap, ◌∙◌, subst, length}
-use Rattle.std.specs.Prelude.{IsTrue}
+use Rattle.std.proofs.Common.{◌≡◌, ℕ, Bool, true, false, ◌&&◌, ◌||◌, List, [], ◌∷◌, ◌++◌, refl, sym, ap, ◌∙◌}
 use Rattle.par_policy.specs.Numbers.{Gains, GainsAll}
 use Rattle.par_policy.specs.Sees.{sees_join_at}
-use Rattle.par_policy.specs.Order.{IsBelowAt, IsJoinBelowAt, policies_of}
-use Rattle.par_straight.specs.Rules.{Policy, Join}
+use Rattle.par_policy.specs.Order.{policies_of}
+use Rattle.par_straight.specs.Rules.{Join}
 use Rattle.par_tool.specs.declared.straight.table.Table.{Table}
 use Rattle.par_tool.specs.declared.straight.worth.Worth.{Worth}
 use Rattle.par_tool.specs.Ends.{policy_at}
@@ -122,3 +121,12 @@ all_joined t one other new constant fields inputs opened actor locks =
     ∙ (ap (λ z. whole (b one && b other) (f one && f other) z) (sees_gained t.channels.items one.inputs new.inputs other.inputs inputs opened actor locks)
     ∙ (both_last (b one) (b other) (f one) (f other) (i one) (i other)
     ∙ sym (sees_joined_more t one (joined t other) opened actor locks ∙ ap (λ x. whole (b one) (f one) (i one) && x) (sees_joined t other opened actor locks))))))
+
+-- a constant among the other terms is one among all
+pub constant_set : (old other : Bool) → other ≡ true → true ≡ (old || other)
+constant_set true other h = refl
+constant_set false other h = sym h
+
+pub constant_kept : (old other : Bool) → other ≡ false → old ≡ (old || other)
+constant_kept true other h = refl
+constant_kept false other h = sym h

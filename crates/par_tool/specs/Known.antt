@@ -7,7 +7,7 @@ use Rattle.std.specs.BTreeMap as tree
 use Rattle.par_policy.specs.Sees.{IsSeenAlike, sees_join_at}
 use Rattle.par_policy.specs.Order.{policies_of}
 use Rattle.par_straight.specs.declared.program.Program.{Program}
-use Rattle.par_straight.specs.Rules.{Policy, Join, Facts, bottom, field_policy, channel_policy}
+use Rattle.par_straight.specs.Rules.{Join, Facts, bottom, field_policy, channel_policy}
 use Rattle.par_tool.specs.Ends.{policy_at}
 use Rattle.par_tool.specs.declared.straight.table.Table.{Table}
 use Rattle.par_tool.specs.declared.straight.worth.Worth.{Worth}

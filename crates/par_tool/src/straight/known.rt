@@ -22,7 +22,12 @@ pub(crate) struct Known {
 
 impl Known {
     // Whether the statement keeps the flow rules.
-    pub(crate) fn passes(&self, alloc: Global, table: &Table, action: &Action) -> Result<bool, NoMemory>
+    pub(crate) fn passes(
+        &self,
+        alloc: Global,
+        table: &Table,
+        action: &Action,
+    ) -> Result<bool, NoMemory>
         requires { AreWithin table.now self.now.locals }
         ensures { IfOk result (λ passes. (p : Program) (facts : Facts) → StandsFor p table.now self.now facts → (IsTrue passes ↔ Passes p facts action.now)) }
     {
@@ -40,7 +45,13 @@ impl Known {
     }
 
     // Whether the sum may go to where this policy guards.
-    fn may_go(&self, alloc: Global, table: &Table, sum: &[Operand], policy: &Policy) -> Result<bool, NoMemory>
+    fn may_go(
+        &self,
+        alloc: Global,
+        table: &Table,
+        sum: &[Operand],
+        policy: &Policy,
+    ) -> Result<bool, NoMemory>
         requires { AreWithin table.now self.now.locals }
         ensures { IfOk result (λ may. (p : Program) (facts : Facts) → StandsFor p table.now self.now facts → (IsTrue may ↔ IsJoinBelowAt (sum_policy p facts.env sum.now) facts.locks policy.now)) }
     {
@@ -49,7 +60,12 @@ impl Known {
     }
 
     // Takes in what the statement changes.
-    pub(crate) fn learn(&mut self, alloc: Global, table: &Table, action: &Action) -> Result<(), NoMemory>
+    pub(crate) fn learn(
+        &mut self,
+        alloc: Global,
+        table: &Table,
+        action: &Action,
+    ) -> Result<(), NoMemory>
         requires { AreWithin table.now self.old.locals }
         ensures locals { OnOk result (AreWithin table.now self.new.locals) }
         ensures after { OnOk result ((p : Program) (facts : Facts) → StandsFor p table.now self.old facts → StandsFor p table.now self.new (facts_after p facts action.now)) }
