@@ -1,5 +1,5 @@
 -- The grammar of straight-line sources is founded: no name is replaced for ever before a token is taken.
-use Rattle.std.proofs.Common.{ℕ, ◌≡◌, Bool, true, false, refl, lit<}
+use Rattle.std.proofs.Common.{ℕ, Bool, true, false, refl, lit<}
 use Rattle.par_grammar.proofs.Total.{Founded, AllLight, LightIfAny}
 use Rattle.par_straight.specs.Grammar.{Names}
 use Rattle.par_straight.specs.Grammar as g
@@ -82,5 +82,5 @@ founded = record {
   weight = weight;
   solid = solid;
   choices = choices_light;
-  otherwise = otherwise_light
+  otherwise = otherwise_light;
 }

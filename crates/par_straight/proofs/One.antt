@@ -1,5 +1,5 @@
 -- A source has one program at most, and no program is both accepted and refused.
-use Rattle.std.proofs.Common.{◌≡◌, ℕ, List, [], ◌∷◌, Ok, refl, ap, subst, sym, ◌∙◌}
+use Rattle.std.proofs.Common.{◌≡◌, ℕ, List, [], ◌∷◌, ap, subst, sym, ◌∙◌}
 use Rattle.par_lexer.specs.declared.token.Token.{Token}
 use Rattle.par_lexer.specs.Tokens.{HasTokens}
 use Rattle.par_lexer.proofs.Cuts as cuts
@@ -12,7 +12,7 @@ use Rattle.par_straight.specs.Values.{Value}
 use Rattle.par_straight.specs.Values as value
 use Rattle.par_straight.specs.Sentence.{HasTree}
 use Rattle.par_straight.specs.Names.{numbered}
-use Rattle.par_straight.specs.Rules.{Facts, AllPass, FirstBroken, here, later, IsAccepted, IsRefused, first_facts}
+use Rattle.par_straight.specs.Rules.{Facts, AllPass, FirstBroken, here, later, IsAccepted, IsRefused}
 use Rattle.par_straight.specs.Judged.{HasProgram}
 
 pub one_cut : (source : List ℕ) (a b : List Token) → HasTokens source a → HasTokens source b → a ≡ b

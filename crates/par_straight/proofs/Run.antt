@@ -1,10 +1,10 @@
 -- What the derivation of a straight-line source comes to, and what each symbol and each alternative changes of it.
-use Rattle.std.proofs.Common.{◌≡◌, ℕ, ◌+◌, ◌-◌, ◌<◌, ◌≤◌, Bool, true, false, List, [], ◌∷◌, ◌++◌, length, Option, Some, None, Ok, Err, refl, ap, subst, ◌∙◌, if◌then◌else◌}
+use Rattle.std.proofs.Common.{◌≡◌, ◌+◌, ◌-◌, ◌<◌, ◌≤◌, true, false, List, [], ◌∷◌, ◌++◌, length, Ok, Err, refl, subst}
 use Rattle.par_lexer.specs.declared.token.Token.{Token}
 use Rattle.par_grammar.specs.declared.sort.Sort.{Sort}
 use Rattle.par_grammar.specs.declared.sort.Sort.TheVariants as sort
 use Rattle.par_grammar.specs.Sorts.{same}
-use Rattle.par_grammar.specs.Grammar.{Choice, chosen, token, kept, finish, counts, restarts, enters, leaves, name, builds}
+use Rattle.par_grammar.specs.Grammar.{token, kept, finish, counts, restarts, enters, leaves, name, builds}
 use Rattle.par_grammar.specs.Derivation.{Input, next, behind, Syntax, TooDeep, Outcome, state, Comes}
 use Rattle.par_grammar.proofs.Run as general
 use Rattle.par_lexer.specs.declared.word.TheConstants as word

@@ -1,15 +1,13 @@
 -- The conditions beside its grammar that a straight-line source meets.
-use Rattle.std.specs.Prelude.{◌≡◌, ℕ, ◌+◌, ◌*◌, ◌-◌, ◌≤◌, Bool, true, false, not, ◌&&◌, ◌||◌, nat_le, List, [], ◌∷◌, length, map, codes, IsTrue}
+use Rattle.std.specs.Prelude.{◌≡◌, ℕ, ◌+◌, ◌*◌, ◌-◌, ◌≤◌, Bool, true, false, not, ◌&&◌, ◌||◌, nat_le, List, [], ◌∷◌, length, codes, IsTrue}
 use Rattle.std.specs.List.{list_all}
-use Rattle.std.specs.Str.{bytes_eq}
 use Rattle.par_straight.specs.declared.tree.ClauseTree.{ClauseTree}
-use Rattle.par_straight.specs.declared.tree.Member.{Member}
 use Rattle.par_straight.specs.declared.tree.Term.{Term}
 use Rattle.par_straight.specs.declared.tree.Term.TheVariants as term
 use Rattle.par_straight.specs.declared.tree.Statement.{Statement}
 use Rattle.par_straight.specs.declared.tree.Statement.TheVariants as statement
 use Rattle.par_straight.specs.declared.tree.Source.{Source}
-use Rattle.par_straight.specs.Names.{Name, names, among, Scope, scope_of, fields_of, channels_of, member_names, declares, numbered_policy}
+use Rattle.par_straight.specs.Names.{Name, names, among, Scope, scope_of, fields_of, channels_of, member_names, declares}
 
 -- no two of the names are the same
 abbrev pub differ : List Name → Bool

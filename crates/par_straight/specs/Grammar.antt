@@ -3,7 +3,6 @@ use Rattle.std.specs.Prelude.{ℕ, List, [], ◌∷◌, Option, Some, None}
 use Rattle.par_grammar.specs.declared.sort.Sort.{Sort}
 use Rattle.par_grammar.specs.declared.sort.Sort.TheVariants as sort
 use Rattle.par_grammar.specs.Grammar.{Symbol, Choice, token, kept, finish, counts, restarts, enters, leaves, name, builds}
-use Rattle.par_grammar.specs.Grammar as grammar
 use Rattle.par_lexer.specs.declared.word.TheConstants as word
 use Rattle.par_lexer.specs.declared.sign.TheConstants as sign
 use Rattle.par_straight.specs.declared.tree.MemberKind.{MemberKind}
@@ -87,7 +86,7 @@ choices Needed = on sort.Name (builds NoIdents ∷ ident ∷ builds NextIdent �
 choices Kind =
     on (sort.Word word.INPUT) (word_ word.INPUT ∷ word_ word.INT ∷ ident ∷ sign_ sign.LEFT_PAREN ∷ sign_ sign.RIGHT_PAREN ∷ sign_ sign.SEMICOLON ∷ builds (NextMember Input) ∷ [])
     ∷ on (sort.Word word.OUTPUT)
-      (word_ word.OUTPUT ∷ word_ word.VOID ∷ ident ∷ sign_ sign.LEFT_PAREN ∷ word_ word.INT ∷ token sort.Name ∷ sign_ sign.RIGHT_PAREN ∷ sign_ sign.SEMICOLON ∷ builds (NextMember Output) ∷ [])
+    (word_ word.OUTPUT ∷ word_ word.VOID ∷ ident ∷ sign_ sign.LEFT_PAREN ∷ word_ word.INT ∷ token sort.Name ∷ sign_ sign.RIGHT_PAREN ∷ sign_ sign.SEMICOLON ∷ builds (NextMember Output) ∷ [])
     ∷ on (sort.Word word.STATIC) (word_ word.STATIC ∷ word_ word.INT ∷ ident ∷ sign_ sign.SEMICOLON ∷ builds (NextMember Field) ∷ []) ∷ []
 choices MoreStatements =
     on (sort.Word word.INT) (restarts ∷ word_ word.INT ∷ ident ∷ sign_ sign.ASSIGN ∷ name Sum ∷ sign_ sign.SEMICOLON ∷ builds NextLocal ∷ name MoreStatements ∷ [])

@@ -5,3 +5,6 @@ pub mod Names
 pub mod Conditions
 pub mod Rules
 pub mod Judged
+pub mod Meaning
+pub mod Subject
+pub mod Theorems

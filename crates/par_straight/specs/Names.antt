@@ -76,7 +76,7 @@ scope_of tree = record {
   channels = member_names (channels_of tree.members);
   inputs = member_names (filter (λ m. kind_is_input m.kind) tree.members);
   outputs = member_names (filter (λ m. kind_is_output m.kind) tree.members);
-  locks = names tree.locks
+  locks = names tree.locks;
 }
 
 abbrev pub numbered_clause : List Name → List Name → ClauseTree → Permission
@@ -135,5 +135,5 @@ numbered tree =
       class = tree.class.name;
       fields = map (numbered_field actors locks) (fields_of tree.members);
       channels = map (numbered_channel actors locks) (channels_of tree.members);
-      steps = numbered_steps (scope_of tree) [] tree.statements
+      steps = numbered_steps (scope_of tree) [] tree.statements;
     }

@@ -1,5 +1,5 @@
 -- Which tokens are a straight-line source, and which tree they have.
-use Rattle.std.specs.Prelude.{List, [], ◌∷◌, Ok, Err}
+use Rattle.std.specs.Prelude.{List, [], ◌∷◌, Ok}
 use Rattle.par_lexer.specs.declared.token.Token.{Token}
 use Rattle.par_grammar.specs.Grammar.{name}
 use Rattle.par_grammar.specs.Derivation.{Input, whole, state, Comes}

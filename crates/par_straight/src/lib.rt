@@ -7,5 +7,8 @@
 //! has taken its place.
 #![tactic(auto)]
 
+mod law;
 pub mod program;
 pub mod tree;
+
+pub use law::{accepted_is_secure, more_steps_extend};

@@ -1,0 +1,147 @@
+-- What the two-run proof uses of a program: its targets are declared, and their names find their policies.
+use Rattle.std.proofs.Common.{◌≡◌, ℕ, zero, suc, ◌<◌, Bool, true, false, not, cond, ◌||◌, inl, inr, List, [], ◌∷◌, length, map, refl, sym, ap, ◌∙◌, subst, arith}
+use Rattle.std.specs.Prelude.{IsTrue, slice_get}
+use Rattle.std.specs.List.{filter}
+use Rattle.std.specs.Str.{bytes_eq}
+use Rattle.std.proofs.lemmas.Bool.{and_parts, cond_both, not-true, or_parts, or_cases, or_right, or_left, false_from_ne_true}
+use Rattle.std.proofs.lemmas.List.{length-map}
+use Rattle.std.proofs.lemmas.Slice.Eq.{bytes_eq-Decides}
+use Rattle.par_straight.specs.declared.tree.Member.{Member}
+use Rattle.par_straight.specs.declared.tree.MemberKind.{MemberKind}
+use Rattle.par_straight.specs.declared.tree.MemberKind.TheVariants as kind
+use Rattle.par_straight.specs.declared.tree.Statement.{Statement}
+use Rattle.par_straight.specs.declared.tree.Statement.TheVariants as statement
+use Rattle.par_straight.specs.declared.tree.Source.{Source}
+use Rattle.par_straight.specs.declared.program.Field.{Field}
+use Rattle.par_straight.specs.declared.program.Channel.{Channel}
+use Rattle.par_straight.specs.declared.program.Operand.{Operand}
+use Rattle.par_straight.specs.declared.program.Action.{Action}
+use Rattle.par_straight.specs.declared.program.Action.TheVariants.{SetLocal, SetField, Output, Open}
+use Rattle.par_straight.specs.declared.program.Step.{Step}
+use Rattle.par_straight.specs.declared.program.Program.{Program}
+use Rattle.par_straight.specs.Names.{Name, names, among, place_of, kind_is_field, kind_is_output, fields_of, channels_of, member_names, Scope, scope_of, numbered, numbered_field, numbered_channel, numbered_action, numbered_steps, declares}
+use Rattle.par_straight.specs.Conditions.{IsNamed, differ, sum_named, statement_named, statements_named}
+use Rattle.par_straight.specs.Rules.{field_policy_of, channel_policy_of, field_policy, channel_policy}
+use Rattle.par_straight.specs.Meaning.{field_name_of, channel_name_of, field_name, channel_name}
+use Rattle.par_straight.specs.Subject.{policy_of_field, policy_of_channel}
+use Rattle.par_straight.specs.Judged.{HasProgram}
+
+abbrev pub HasTarget : Program → Action → Type 0
+HasTarget p (SetLocal x os) = Unit {0}
+HasTarget p (SetField f os) = policy_of_field p.fields (field_name p f) ≡ field_policy p f
+HasTarget p (Output c os) = policy_of_channel p.channels (channel_name p c) ≡ channel_policy p c
+HasTarget p (Open l) = Unit {0}
+
+abbrev pub HasTargets : Program → List Step → Type 0
+HasTargets p [] = Unit {0}
+HasTargets p (s ∷ ss) = HasTarget p s.action × HasTargets p ss
+
+same_bytes : (n : Name) → bytes_eq n n ≡ true
+same_bytes n = (bytes_eq-Decides n n).1 refl
+
+other_bytes : (m n : Name) → bytes_eq m n ≡ false → bytes_eq n m ≡ false
+other_bytes m n h = false_from_ne_true (bytes_eq n m) (λ e. cc (h, (bytes_eq-Decides m n).1 (sym ((bytes_eq-Decides n m).0 e))))
+
+-- the name at a place is not one that is not among them
+field_apart : (fs : List Field) (f : ℕ) (n : Name) → among (map (λ f. f.name) fs) n ≡ false → f < length fs → bytes_eq (field_name_of (slice_get fs f)) n ≡ false
+field_apart [] f n h lt = absurd (omega arith)
+field_apart (x ∷ fs) zero n h lt = (or_parts (bytes_eq x.name n) _ h).0
+field_apart (x ∷ fs) (suc f) n h lt = field_apart fs f n (or_parts (bytes_eq x.name n) _ h).1 (omega arith)
+
+channel_apart : (cs : List Channel) (c : ℕ) (n : Name) → among (map (λ c. c.name) cs) n ≡ false → c < length cs → bytes_eq (channel_name_of (slice_get cs c)) n ≡ false
+channel_apart [] c n h lt = absurd (omega arith)
+channel_apart (x ∷ cs) zero n h lt = (or_parts (bytes_eq x.name n) _ h).0
+channel_apart (x ∷ cs) (suc c) n h lt = channel_apart cs c n (or_parts (bytes_eq x.name n) _ h).1 (omega arith)
+
+field_found : (fs : List Field) (f : ℕ) → IsTrue (differ (map (λ f. f.name) fs)) → f < length fs → policy_of_field fs (field_name_of (slice_get fs f)) ≡ field_policy_of (slice_get fs f)
+field_found [] f h lt = absurd (omega arith)
+field_found (x ∷ fs) zero h lt = rw (same_bytes x.name) refl
+field_found (x ∷ fs) (suc f) h lt =
+    let both = and_parts (not (among (map (λ f. f.name) fs) x.name)) _ h in
+    let apart = field_apart fs f x.name (not-true _ both.0) (omega arith) in
+    rw (other_bytes (field_name_of (slice_get fs f)) x.name apart) (field_found fs f both.1 (omega arith))
+
+channel_found : (cs : List Channel) (c : ℕ) → IsTrue (differ (map (λ c. c.name) cs)) → c < length cs → policy_of_channel cs (channel_name_of (slice_get cs c)) ≡ channel_policy_of (slice_get cs c)
+channel_found [] c h lt = absurd (omega arith)
+channel_found (x ∷ cs) zero h lt = rw (same_bytes x.name) refl
+channel_found (x ∷ cs) (suc c) h lt =
+    let both = and_parts (not (among (map (λ c. c.name) cs) x.name)) _ h in
+    let apart = channel_apart cs c x.name (not-true _ both.0) (omega arith) in
+    rw (other_bytes (channel_name_of (slice_get cs c)) x.name apart) (channel_found cs c both.1 (omega arith))
+
+-- the numbered fields and channels keep their names
+field_names : (actors locks : List Name) (ms : List Member) → map (λ f. f.name) (map (numbered_field actors locks) ms) ≡ member_names ms
+field_names actors locks [] = refl
+field_names actors locks (m ∷ ms) = ap (λ ns. m.id.name ∷ ns) (field_names actors locks ms)
+
+channel_names : (actors locks : List Name) (ms : List Member) → map (λ c. c.name) (map (numbered_channel actors locks) ms) ≡ member_names ms
+channel_names actors locks [] = refl
+channel_names actors locks (m ∷ ms) = ap (λ ns. m.id.name ∷ ns) (channel_names actors locks ms)
+
+place_below : (ns : List Name) (n : Name) → IsTrue (among ns n) → place_of ns n < length ns
+place_below [] n h = cc
+place_below (m ∷ ns) n h =
+    cond_both (bytes_eq m n) 0 (suc (place_of ns n)) (λ k. k < suc (length ns)) (λ e. omega arith)
+    (λ e. let later : IsTrue (among ns n) = cc in let below = place_below ns n later in omega (arith, below))
+
+-- an output is a channel
+output_or_later : (k : MemberKind) (m : Member) (outputs channels : List Member) (n : Name) → (IsTrue (among (member_names outputs) n) → IsTrue (among (member_names channels) n))
+    → IsTrue (among (member_names (cond (kind_is_output k) (m ∷ outputs) outputs)) n) → IsTrue (among (member_names (cond (not (kind_is_field k)) (m ∷ channels) channels)) n)
+output_or_later kind.Input m outputs channels n later h = or_right (bytes_eq m.id.name n) _ (later h)
+output_or_later kind.Output m outputs channels n later h =
+    elim (or_cases (bytes_eq m.id.name n) (among (member_names outputs) n) h) [ inl e ↦ or_left (bytes_eq m.id.name n) _ e | inr e ↦ or_right (bytes_eq m.id.name n) _ (later e) ]
+output_or_later kind.Field m outputs channels n later h = later h
+
+output_among : (ms : List Member) (n : Name) → IsTrue (among (member_names (filter (λ m. kind_is_output m.kind) ms)) n) → IsTrue (among (member_names (channels_of ms)) n)
+output_among [] n h = h
+output_among (m ∷ ms) n h = output_or_later m.kind m _ (channels_of ms) n (output_among ms n) h
+
+-- the names of a scope are found in the program
+record Finds (p : Program) (scope : Scope) : Type 0 where
+  fields : (n : Name) → IsTrue (among scope.fields n) → policy_of_field p.fields (field_name p (place_of scope.fields n)) ≡ field_policy p (place_of scope.fields n)
+  outputs : (n : Name) → IsTrue (among scope.outputs n) → policy_of_channel p.channels (channel_name p (place_of scope.channels n)) ≡ channel_policy p (place_of scope.channels n)
+
+-- what is no local is a field
+assigned : (p : Program) (b : Bool) (x f : ℕ) (os : List Operand) → (b ≡ false → HasTarget p (SetField f os)) → HasTarget p (cond b (SetLocal x os) (SetField f os))
+assigned p true x f os h = tt
+assigned p false x f os h = h refl
+
+action_has_target : (p : Program) (scope : Scope) (locals : List Name) (s : Statement) → Finds p scope → IsTrue (statement_named scope locals s) → HasTarget p (numbered_action scope locals s)
+action_has_target p scope locals (statement.Local id ts) finds h = tt
+action_has_target p scope locals (statement.Assign id ts) finds h =
+    let known = (and_parts (among locals id.name || among scope.fields id.name) (sum_named scope locals ts) h).0 in
+    assigned p (among locals id.name) _ _ _ (λ e. finds.fields id.name (cc (e, known)))
+action_has_target p scope locals (statement.Call id ts) finds h = finds.outputs id.name (and_parts (among scope.outputs id.name) (sum_named scope locals ts) h).0
+action_has_target p scope locals (statement.Open id) finds h = tt
+
+steps_have_targets : (p : Program) (scope : Scope) (locals : List Name) (ss : List Statement) → Finds p scope → IsTrue (statements_named scope locals ss) → HasTargets p (numbered_steps scope locals ss)
+steps_have_targets p scope locals [] finds h = tt
+steps_have_targets p scope locals (s ∷ ss) finds h =
+    let both = and_parts (statement_named scope locals s) (statements_named scope (declares s locals) ss) h in
+    (action_has_target p scope locals s finds both.0, steps_have_targets p scope (declares s locals) ss finds both.1)
+
+-- a place among the names of members is one among what is made of them
+same_length : {A : Type 0} (make : Member → A) (ms : List Member) (k : ℕ) → k < length (member_names ms) → k < length (map make ms)
+same_length make ms k h = subst (λ n. k < n) (length-map ms (λ m. m.id.name) ∙ sym (length-map ms make)) h
+
+finds_all : (tree : Source) → IsNamed tree → Finds (numbered tree) (scope_of tree)
+finds_all tree named =
+    let actors = names tree.actors in
+    let locks = names tree.locks in
+    let fields = fields_of tree.members in
+    let channels = channels_of tree.members in
+    record {
+      fields = λ n h.
+          field_found (map (numbered_field actors locks) fields) (place_of (member_names fields) n)
+          (subst (λ ns. IsTrue (differ ns)) (sym (field_names actors locks fields)) named.fields)
+          (same_length (numbered_field actors locks) fields _ (place_below (member_names fields) n h));
+      outputs = λ n h.
+          channel_found (map (numbered_channel actors locks) channels) (place_of (member_names channels) n)
+          (subst (λ ns. IsTrue (differ ns)) (sym (channel_names actors locks channels)) named.channels)
+          (same_length (numbered_channel actors locks) channels _ (place_below (member_names channels) n (output_among tree.members n h)));
+    }
+
+pub has_targets : (source : List ℕ) (p : Program) → HasProgram source p → HasTargets p p.steps
+has_targets source p h =
+    subst (λ q. HasTargets q q.steps) (sym h.program_is)
+    (steps_have_targets (numbered h.tree) (scope_of h.tree) [] h.tree.statements (finds_all h.tree h.straight.named) h.straight.named.statements)
