@@ -1,3 +1,6 @@
 pub mod Kept
 pub mod Failing
 pub mod Policies
+pub mod Distinct
+pub mod Numbered
+pub mod Declared
