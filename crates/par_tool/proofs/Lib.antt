@@ -6,3 +6,6 @@ pub mod Joins
 pub mod Worths
 pub mod Steps
 pub mod Reached
+pub mod Distinct
+pub mod Numbered
+pub mod Declared
