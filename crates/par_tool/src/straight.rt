@@ -1,12 +1,12 @@
 //! Straight-line sources: their reader, what their names mean, and their check.
 
 pub mod cursor;
-pub mod declared;
-pub mod distinct;
-pub mod limits;
-pub mod numbered;
+mod declared;
+mod distinct;
+mod limits;
+mod numbered;
 pub mod policies;
 pub mod reader;
 pub mod resolve;
-pub mod scope;
-pub mod steps;
+mod scope;
+mod steps;

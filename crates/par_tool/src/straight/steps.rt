@@ -38,11 +38,7 @@ pub fn steps(
 }
 
 // Puts the local that the statement declares, if it does, behind those declared before.
-fn declare(
-    alloc: Global,
-    locals: &mut List<Name>,
-    statement: &Statement,
-) -> Result<(), NoMemory>
+fn declare(alloc: Global, locals: &mut List<Name>, statement: &Statement) -> Result<(), NoMemory>
     ensures { OnOk result (locals.new ≡ declares statement.now locals.old) }
 {
     if let Statement::Local(id, _) = statement {
