@@ -10,3 +10,5 @@ pub mod reader;
 pub mod resolve;
 mod scope;
 mod steps;
+#[cfg(test)]
+mod tests;

@@ -89,7 +89,8 @@ fn declaration(
     requires locals { length locals.now ≤ 256 }
     ensures { let s = statement.Local id.now terms.now in Resolves (statement_named (shown scope.now) locals.now s) (numbered_action (shown scope.now) locals.now s) result }
 {
-    if is_among(locals, &id.name) {
+    let is_taken = is_among(locals, &id.name);
+    if is_taken {
         return Err(ResolveError::NotStraight);
     }
     let sum = sum(alloc, scope, locals, terms)?;
