@@ -1,19 +1,20 @@
 -- The policies of a source, as a table of them is made and counted.
-use Rattle.std.proofs.Common.{◌≡◌, ℕ, ◌+◌, ◌<◌, ◌≤◌, List, [], ◌∷◌, ◌++◌, length, take, get_or, map, sym, ap, ◌∙◌, subst, arith}
+use Rattle.std.proofs.Common.{◌≡◌, ℕ, not, ◌+◌, ◌<◌, ◌≤◌, List, [], ◌∷◌, ◌++◌, length, take, get_or, map, refl, sym, ap, ◌∙◌, subst, arith}
 use Rattle.std.specs.Prelude.{IsTrue}
-use Rattle.std.specs.List.{list_all}
 use Rattle.std.proofs.lemmas.Bool.{and_from}
 use Rattle.std.proofs.lemmas.List.{map_more, length-map}
+use Rattle.std.proofs.lemmas.List.Filters.{length-filter_both}
 use Rattle.std.proofs.lemmas.List.Elements.{AllZip-push}
 use Rattle.std.proofs.lemmas.List.Folds.{list_all_more}
 use Rattle.par_policy.specs.Sees.{IsSeenAlike}
 use Rattle.par_straight.specs.declared.tree.Member.{Member}
 use Rattle.par_straight.specs.declared.tree.Source.{Source}
-use Rattle.par_straight.specs.Names.{names}
+use Rattle.par_straight.specs.Names.{names, member_names, fields_of, channels_of, kind_is_field}
+use Rattle.par_straight.specs.Conditions.{WithinLimits}
 use Rattle.par_straight.specs.Rules.{Policy, bottom}
-use Rattle.par_straight.specs.Judged.{Distinct, HasAtMost, policies}
+use Rattle.par_straight.specs.Judged.{Distinct, policies}
 use Rattle.par_tool.specs.declared.straight.scope.Scope.{Scope}
-use Rattle.par_tool.specs.Resolves.{names_of, policy_declared, members_declared, member_policy, all_policies, SeenAlike, HasFewPolicies}
+use Rattle.par_tool.specs.Resolves.{IsFew, names_of, policy_declared, members_declared, member_policy, all_policies, SeenAlike, HasFewPolicies}
 use Rattle.par_tool.proofs.Distinct.{same_count, distinct_along}
 
 module _ (s : Scope) (ms : List Member) (i : ℕ) (m : Member) where
@@ -43,3 +44,14 @@ module _ (tree : Source) (ps : List Policy) (count : ℕ) (alike : SeenAlike ps 
       let same : count ≡ has.few.0 = same_count ps (policies tree) count has.few.0 alike counted has.few.1 in
       let few : has.few.0 ≤ 256 = has.few.2 in
       absurd (omega arith)
+
+-- within the limits, few names are declared
+pub few_names : (tree : Source) (s : Scope) → s ≡ names_of tree → WithinLimits tree → IsFew s
+few_names tree s e limits =
+    let actors : length (names tree.actors) ≡ length tree.actors = length-map tree.actors (λ id. id.name) in
+    let locks : length (names tree.locks) ≡ length tree.locks = length-map tree.locks (λ id. id.name) in
+    let fields : length (member_names (fields_of tree.members)) ≡ length (fields_of tree.members) = length-map (fields_of tree.members) (λ m. m.id.name) in
+    let channels : length (member_names (channels_of tree.members)) ≡ length (channels_of tree.members) = length-map (channels_of tree.members) (λ m. m.id.name) in
+    let both : length (fields_of tree.members) + length (channels_of tree.members) ≡ length tree.members
+    = length-filter_both (λ m. kind_is_field m.kind) (λ m. not (kind_is_field m.kind)) (λ m. refl) tree.members in
+    subst IsFew (sym e) (record { actors = omega arith; locks = omega arith; fields = omega arith; channels = omega arith })

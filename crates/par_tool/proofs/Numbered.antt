@@ -1,7 +1,9 @@
 -- Tests of the members of one kind.
 use Rattle.std.proofs.Common.{◌≡◌, ℕ, zero, suc, ◌<◌, Bool, true, false, ◌&&◌, cond, List, [], ◌∷◌, length, get_or, Result, Ok, Err, refl, sym, ap, ◌∙◌, arith}
 use Rattle.std.specs.List.{list_all, filter}
+use Rattle.std.specs.Prelude.{IsTrue}
 use Rattle.std.specs.Result.{IsErrAnd}
+use Rattle.std.proofs.lemmas.Bool.{and_parts, and_from, false≢true}
 use Rattle.par_tool.specs.declared.straight.resolve.ResolveError.{ResolveError}
 use Rattle.par_tool.specs.declared.straight.resolve.ResolveError.TheVariants.{NotStraight}
 use Rattle.par_tool.specs.Resolves.{Resolves}
@@ -25,3 +27,18 @@ filter_fails p q (x ∷ xs) (suc i) d inside kept fails = later p x (q x) (filte
 pub handed_on : {A : Type 0} (test : Bool) (value : A) (r : Result A ResolveError) (e : ResolveError) → IsErrAnd r (λ y. y ≡ e) → (e ≡ NotStraight → test ≡ false) → Resolves test value r
 handed_on test value (Ok a) e same h = elim same [ ]
 handed_on test value (Err y) e same h = λ told. h (sym same ∙ told)
+
+all_later : {X : Type 0} (p : X → Bool) (x : X) (kept : Bool) (xs : List X) → IsTrue (p x) → IsTrue (list_all p xs) → IsTrue (list_all p (cond kept (x ∷ xs) xs))
+all_later p x true xs one all = and_from _ _ one all
+all_later p x false xs one all = all
+
+-- where all pass, those that are kept do
+pub filter_passing : {X : Type 0} (p q : X → Bool) (xs : List X) → IsTrue (list_all p xs) → IsTrue (list_all p (filter q xs))
+filter_passing p q [] all = refl
+filter_passing p q (x ∷ xs) all =
+    let both = and_parts (p x) (list_all p xs) all in
+    all_later p x (q x) (filter q xs) both.0 (filter_passing p q xs both.1)
+
+-- A part that is refused although its test holds: that can't be.
+pub never_refused : {A : Type 0} (part whole : Bool) (value : A) (r : Result A ResolveError) (e : ResolveError) → IsErrAnd r (λ y. y ≡ e) → (e ≡ NotStraight → part ≡ false) → IsTrue part → Resolves whole value r
+never_refused part whole value r e same h holds = handed_on whole value r e same (λ told. absurd (false≢true (sym (h told) ∙ holds)))

@@ -16,3 +16,14 @@ pub mod scope;
 pub mod steps;
 mod table;
 mod worth;
+mod declared;
+mod distinct;
+mod limits;
+mod numbered;
+pub mod policies;
+pub mod reader;
+pub mod resolve;
+mod scope;
+mod steps;
+#[cfg(test)]
+mod tests;

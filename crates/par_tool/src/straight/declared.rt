@@ -67,11 +67,7 @@ pub fn check_policies(alloc: Global, scope: &Scope, tree: &Source) -> Result<(),
 }
 
 // Bottom, and the policies of the members.
-fn policies(
-    alloc: Global,
-    scope: &Scope,
-    members: &[Member],
-) -> Result<Vec<Policy>, ResolveError>
+fn policies(alloc: Global, scope: &Scope, members: &[Member]) -> Result<Vec<Policy>, ResolveError>
     requires { IsFew scope.now }
     ensures declared { IfOk result (λ _. IsTrue (members_declared scope.now members.now)) }
     ensures alike { IfOk result (λ found. SeenAlike found.items (all_policies scope.now (length scope.now.actors) members.now)) }

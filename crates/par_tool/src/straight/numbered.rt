@@ -68,11 +68,7 @@ pub fn permissions(
 }
 
 /// The static fields of a class, in source order.
-pub fn fields(
-    alloc: Global,
-    scope: &Scope,
-    members: &[Member],
-) -> Result<List<Field>, ResolveError>
+pub fn fields(alloc: Global, scope: &Scope, members: &[Member]) -> Result<List<Field>, ResolveError>
     requires { IsFew scope.now }
     ensures { Resolves (list_all (λ m. policy_declared scope.now m.policy) (fields_of members.now)) (map (numbered_field scope.now.actors scope.now.locks) (fields_of members.now)) result }
 {

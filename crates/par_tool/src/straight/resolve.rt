@@ -5,6 +5,7 @@ ghost use Rattle.std.specs.Result.{IsErrOf};
 ghost use Rattle.par_straight.specs.Names.{numbered};
 ghost use Rattle.par_straight.specs.Conditions.{WithinLimits, statements_named};
 ghost use Rattle.par_straight.specs.Judged.{IsStraight};
+ghost use Rattle.par_tool.specs.declared.straight.resolve.ResolveError.TheVariants.{Memory};
 ghost use Rattle.par_tool.specs.Resolves.{names_of, shown, members_declared, Resolves};
 
 use crate::straight::declared::{are_apart, check_policies};
@@ -19,7 +20,7 @@ use par_straight::tree::Source;
 use std::alloc::{AllocError, AllocFailed, Global};
 
 /// Why a tree has no program.
-#[derive(Clone, Copy, Debug, PartialEq, Eq)]
+#[derive(Clone, Copy, Debug)]
 pub enum ResolveError {
     /// A condition beside the grammar is not met, or a limit is exceeded.
     NotStraight,
@@ -27,10 +28,7 @@ pub enum ResolveError {
 }
 
 impl From<NoMemory> for ResolveError {
-    ghost use Rattle.std.specs.Prelude.{◌≡◌};
-    ghost use Rattle.par_tool.specs.declared.straight.resolve.ResolveError.TheVariants.{Memory};
-
-    ghost from_gives = { λ _ e. e ≡ Memory };
+    ghost from_gives = { λ _ error. error ≡ Memory };
 
     fn from(_: NoMemory) -> ResolveError {
         ResolveError::Memory
@@ -38,10 +36,7 @@ impl From<NoMemory> for ResolveError {
 }
 
 impl From<NoPolicyMemory> for ResolveError {
-    ghost use Rattle.std.specs.Prelude.{◌≡◌};
-    ghost use Rattle.par_tool.specs.declared.straight.resolve.ResolveError.TheVariants.{Memory};
-
-    ghost from_gives = { λ _ e. e ≡ Memory };
+    ghost from_gives = { λ _ error. error ≡ Memory };
 
     fn from(_: NoPolicyMemory) -> ResolveError {
         ResolveError::Memory
@@ -49,10 +44,7 @@ impl From<NoPolicyMemory> for ResolveError {
 }
 
 impl From<AllocError> for ResolveError {
-    ghost use Rattle.std.specs.Prelude.{◌≡◌};
-    ghost use Rattle.par_tool.specs.declared.straight.resolve.ResolveError.TheVariants.{Memory};
-
-    ghost from_gives = { λ _ e. e ≡ Memory };
+    ghost from_gives = { λ _ error. error ≡ Memory };
 
     fn from(_: AllocError) -> ResolveError {
         ResolveError::Memory
@@ -60,10 +52,7 @@ impl From<AllocError> for ResolveError {
 }
 
 impl<T: Drop> From<AllocFailed<T>> for ResolveError {
-    ghost use Rattle.std.specs.Prelude.{◌≡◌};
-    ghost use Rattle.par_tool.specs.declared.straight.resolve.ResolveError.TheVariants.{Memory};
-
-    ghost from_gives = { λ _ e. e ≡ Memory };
+    ghost from_gives = { λ _ error. error ≡ Memory };
 
     fn from(_: AllocFailed<T>) -> ResolveError {
         ResolveError::Memory

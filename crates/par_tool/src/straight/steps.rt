@@ -38,11 +38,7 @@ pub fn steps(
 }
 
 // Puts the local that the statement declares, if it does, behind those declared before.
-fn declare(
-    alloc: Global,
-    locals: &mut List<Name>,
-    statement: &Statement,
-) -> Result<(), NoMemory>
+fn declare(alloc: Global, locals: &mut List<Name>, statement: &Statement) -> Result<(), NoMemory>
     ensures { OnOk result (locals.new ≡ declares statement.now locals.old) }
 {
     if let Statement::Local(id, _) = statement {
@@ -93,7 +89,8 @@ fn declaration(
     requires locals { length locals.now ≤ 256 }
     ensures { let s = statement.Local id.now terms.now in Resolves (statement_named (shown scope.now) locals.now s) (numbered_action (shown scope.now) locals.now s) result }
 {
-    if is_among(locals, &id.name) {
+    let is_taken = is_among(locals, &id.name);
+    if is_taken {
         return Err(ResolveError::NotStraight);
     }
     let sum = sum(alloc, scope, locals, terms)?;

@@ -1,4 +1,4 @@
-use Rattle.std.proofs.Common.{length, subst}
+use Rattle.std.proofs.Common.{subst}
 use Rattle.std.specs.Prelude.{IsTrue}
 use Rattle.par_straight.specs.Judged.{Distinct}
 use Rattle.par_tool.specs.Resolves.{SeenAlike, names_of, members_declared}

@@ -10,7 +10,7 @@ loop-place-preserved c =
     let i = c.loop-place.place in
     let p = c.index-policies-place.result in
     elim c.if-not-is_among.branch [
-      then-not-is_among w ↦ record {
+      | then-not-is_among w ↦ record {
         counted = subst (Counts ps (i + 1)) (sym w.count-is)
             (counts_another ps i p c.loop-place.count c.loop-place-test.true c.index-policies-place.is c.loop-place.invariant.counted
             (λ here. false≢true (sym w.if-not-is_among.true ∙ c.is_among.ensures.1 here)));

@@ -1,8 +1,7 @@
-use Rattle.std.proofs.Common.{◌≡◌, ◌+◌, [], ◌∷◌, ◌++◌, List, refl, sym, subst, take, get_or, ⊎_elim}
+use Rattle.std.proofs.Common.{◌≡◌, ◌+◌, [], ◌∷◌, ◌++◌, refl, sym, subst, take, get_or, ⊎_elim}
 use Rattle.std.proofs.lemmas.Bool.{false≢true}
 use Rattle.std.proofs.lemmas.List.{take_more}
 use Rattle.par_policy.specs.Sees.{IsSeenAlike}
-use Rattle.par_straight.specs.Rules.{Policy}
 use Rattle.par_straight.specs.Judged.{IsAmong}
 use Rattle.par_tool.proofs.Distinct.{among_here, among_more}
 use Rattle.par_tool.proofs.straight.distinct.is_among.Goals as goal

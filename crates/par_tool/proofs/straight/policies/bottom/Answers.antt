@@ -1,4 +1,4 @@
-use Rattle.std.proofs.Common.{sym, subst, arith, ◌≡◌, ◌∙◌, ap}
+use Rattle.std.proofs.Common.{subst, arith, ◌≡◌, ◌∙◌, ap}
 use Rattle.std.proofs.lemmas.Result.{IfOk-weaker}
 use Rattle.par_policy.specs.Sees.{IsSeenAlike}
 use Rattle.par_straight.specs.Rules.{bottom}
