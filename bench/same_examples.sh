@@ -1,5 +1,5 @@
 #!/usr/bin/env bash
-# Compares each example, and each source in docs/REFUSALS.md, with the text that a test checks.
+# Compares each example, and each source that a page shows, with the text that a test checks.
 cd "$(dirname "$0")/.." || exit 1
 rows=$(<crates/par_rows/src/examples.rt)
 status=0
@@ -14,7 +14,9 @@ compare() {
 for example in examples/*.par; do
   compare "$example" "$(<"$example")"
 done
-while IFS= read -r -d '' source; do
-  compare docs/REFUSALS.md "${source%$'\n'}"
-done < <(awk '/^```paragon$/ { inside = 1; next } /^```$/ { if (inside) printf "%c", 0; inside = 0; next } inside' docs/REFUSALS.md)
+for page in README.md docs/*.md; do
+  while IFS= read -r -d '' source; do
+    compare "$page" "${source%$'\n'}"
+  done < <(awk '/^```paragon$/ { inside = 1; next } /^```$/ { if (inside) printf "%c", 0; inside = 0; next } inside' "$page")
+done
 exit $status

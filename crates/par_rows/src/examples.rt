@@ -1,10 +1,23 @@
-//! The examples of the repository, and the sources that its page of refusals shows.
+//! The examples of the repository, and the sources that its pages show.
 //!
-//! A test reads no file, so each text stands here and in `examples/` or `docs/REFUSALS.md`. They
+//! A test reads no file, so each text stands here and in `examples/`, `README.md` or `docs/`. They
 //! are kept equal, and `bench/same_examples.sh` compares them.
 
 use crate::call::{ACCEPTED, Expected, NOT_BUILT, checks_as, refused};
 use std::test::Fail;
+
+const SHOP_IN_BRIEF: &str = "\
+actor alice, bob;
+lock Paid;
+class Shop {
+  ?{alice:; bob: Paid} input int key();
+  ?{alice:; bob:} output void show(int v);
+  static void main() !bottom {
+    open Paid;
+    show(key());
+  }
+}
+";
 
 const SHOP: &str = "\
 // A shop sells a key. alice, who runs it, may see the key at any time. bob may see it once he
@@ -178,7 +191,7 @@ class Gift {
 
 #[test]
 fn examples_are_accepted(rt: HostRuntime) -> Result<(), Fail> {
-    for source in [SHOP, AUCTION, PAID_CONTENT] {
+    for source in [SHOP_IN_BRIEF, SHOP, AUCTION, PAID_CONTENT] {
         assert!(rt; checks_as(rt.alloc(), source, ACCEPTED)?, "{source}");
     }
     Ok(())
