@@ -9,3 +9,4 @@ pub mod Reached
 pub mod Distinct
 pub mod Numbered
 pub mod Declared
+pub mod Judging

@@ -2,28 +2,19 @@
 
 pub mod check;
 pub mod cursor;
-pub mod declared;
-pub mod distinct;
-pub mod judge;
-mod known;
-pub mod limits;
-mod lists;
-pub mod numbered;
-pub mod policies;
-pub mod reader;
-pub mod resolve;
-pub mod scope;
-pub mod steps;
-mod table;
-mod worth;
 mod declared;
 mod distinct;
+pub mod judge;
+mod known;
 mod limits;
+mod lists;
 mod numbered;
 pub mod policies;
 pub mod reader;
 pub mod resolve;
 mod scope;
 mod steps;
+mod table;
 #[cfg(test)]
 mod tests;
+mod worth;
