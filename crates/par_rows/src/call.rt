@@ -74,6 +74,12 @@ pub fn checks_as(alloc: Global, source: &str, expected: Expected) -> Result<bool
     folder.add("shop.par", source.as_bytes())?;
     let mut out = MemSink::new(alloc, 100)?;
     let words = words(alloc, &["--check", "shop.par"])?;
-    let status = tool(alloc, Which::Compiler, words.as_slice(), &mut folder, &mut out);
+    let status = tool(
+        alloc,
+        Which::Compiler,
+        words.as_slice(),
+        &mut folder,
+        &mut out,
+    );
     Ok(status == expected.status && out.bytes() == expected.text.as_bytes())
 }

@@ -36,9 +36,30 @@ fn other_words_are_told_the_usage(rt: HostRuntime) -> Result<(), Fail> {
 #[test]
 fn files_may_be_absent_or_fail(rt: HostRuntime) -> Result<(), Fail> {
     let rows = [
-        ("none.par", 0, Expected { text: "absent\n", status: 3 }),
-        ("shop.par", 1, Expected { text: "read fault\n", status: 4 }),
-        ("shop.par", 2, Expected { text: "accepted\n", status: 0 }),
+        (
+            "none.par",
+            0,
+            Expected {
+                text: "absent\n",
+                status: 3,
+            },
+        ),
+        (
+            "shop.par",
+            1,
+            Expected {
+                text: "read fault\n",
+                status: 4,
+            },
+        ),
+        (
+            "shop.par",
+            2,
+            Expected {
+                text: "accepted\n",
+                status: 0,
+            },
+        ),
     ];
     for (name, failing, expected) in rows {
         let source = with_body(rt.alloc(), "open Paid; show(key());")?;
@@ -47,7 +68,13 @@ fn files_may_be_absent_or_fail(rt: HostRuntime) -> Result<(), Fail> {
         folder.fail_read(failing)?;
         let mut out = MemSink::new(rt.alloc(), 100)?;
         let words = words(rt.alloc(), &["--check", name])?;
-        let status = tool(rt.alloc(), Which::Compiler, words.as_slice(), &mut folder, &mut out);
+        let status = tool(
+            rt.alloc(),
+            Which::Compiler,
+            words.as_slice(),
+            &mut folder,
+            &mut out,
+        );
         assert_eq!(rt; status, expected.status);
         assert!(rt; out.bytes() == expected.text.as_bytes());
     }
@@ -58,8 +85,20 @@ fn files_may_be_absent_or_fail(rt: HostRuntime) -> Result<(), Fail> {
 #[test]
 fn sources_have_up_to_262144_bytes(rt: HostRuntime) -> Result<(), Fail> {
     let rows = [
-        (262_144, Expected { text: "accepted\n", status: 0 }),
-        (262_145, Expected { text: "too long\n", status: 8 }),
+        (
+            262_144,
+            Expected {
+                text: "accepted\n",
+                status: 0,
+            },
+        ),
+        (
+            262_145,
+            Expected {
+                text: "too long\n",
+                status: 8,
+            },
+        ),
     ];
     for (length, expected) in rows {
         let mut source = with_body(rt.alloc(), "show(1);")?;
@@ -70,7 +109,13 @@ fn sources_have_up_to_262144_bytes(rt: HostRuntime) -> Result<(), Fail> {
         folder.add("shop.par", source.as_bytes())?;
         let mut out = MemSink::new(rt.alloc(), 100)?;
         let words = words(rt.alloc(), &["--check", "shop.par"])?;
-        let status = tool(rt.alloc(), Which::Compiler, words.as_slice(), &mut folder, &mut out);
+        let status = tool(
+            rt.alloc(),
+            Which::Compiler,
+            words.as_slice(),
+            &mut folder,
+            &mut out,
+        );
         assert_eq!(rt; status, expected.status);
         assert!(rt; out.bytes() == expected.text.as_bytes());
     }
@@ -86,7 +131,13 @@ fn puts_may_fail(rt: HostRuntime) -> Result<(), Fail> {
         let mut out = MemSink::new(rt.alloc(), 100)?;
         out.fail_put(1, keep);
         let words = words(rt.alloc(), &["--check", "shop.par"])?;
-        let status = tool(rt.alloc(), Which::Compiler, words.as_slice(), &mut folder, &mut out);
+        let status = tool(
+            rt.alloc(),
+            Which::Compiler,
+            words.as_slice(),
+            &mut folder,
+            &mut out,
+        );
         assert_eq!(rt; status, 6);
         assert!(rt; out.bytes() == held.as_bytes());
     }

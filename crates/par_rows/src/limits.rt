@@ -37,7 +37,10 @@ fn tokens_nest_up_to_64_deep(rt: HostRuntime) -> Result<(), Fail> {
         let more = repeated(rt.alloc(), " + 1", plus_signs)?;
         let body = format!(in rt.alloc(); "show(1{more});")?;
         let source = with_body(rt.alloc(), body.as_str())?;
-        assert!(rt; checks_as(rt.alloc(), source.as_str(), expected)?, "{plus_signs}");
+        assert!(rt;
+            checks_as(rt.alloc(), source.as_str(), expected)?,
+            "{plus_signs}"
+        );
     }
     Ok(())
 }
@@ -49,7 +52,10 @@ fn statements_nest_alone(rt: HostRuntime) -> Result<(), Fail> {
         let more = repeated(rt.alloc(), " + 1", plus_signs)?;
         let body = format!(in rt.alloc(); "int x = 1{more}; got = 1{more};")?;
         let source = with_body(rt.alloc(), body.as_str())?;
-        assert!(rt; checks_as(rt.alloc(), source.as_str(), expected)?, "{plus_signs}");
+        assert!(rt;
+            checks_as(rt.alloc(), source.as_str(), expected)?,
+            "{plus_signs}"
+        );
     }
     Ok(())
 }
@@ -58,7 +64,10 @@ fn statements_nest_alone(rt: HostRuntime) -> Result<(), Fail> {
 #[test]
 fn methods_have_up_to_2000_nodes(rt: HostRuntime) -> Result<(), Fail> {
     let writes = repeated(rt.alloc(), "got = 1; ", 666)?;
-    for (more, expected) in [("open Paid;", ACCEPTED), ("open Paid; open Paid;", NOT_BUILT)] {
+    for (more, expected) in [
+        ("open Paid;", ACCEPTED),
+        ("open Paid; open Paid;", NOT_BUILT),
+    ] {
         let body = format!(in rt.alloc(); "{writes}{more}")?;
         let source = with_body(rt.alloc(), body.as_str())?;
         assert!(rt; checks_as(rt.alloc(), source.as_str(), expected)?, "{more}");
@@ -71,7 +80,10 @@ fn methods_have_up_to_200_locals(rt: HostRuntime) -> Result<(), Fail> {
     for (count, expected) in [(200, ACCEPTED), (201, NOT_BUILT)] {
         let body = numbered(rt.alloc(), "int x", " = 0; int x", " = 0;", count)?;
         let source = with_body(rt.alloc(), body.as_str())?;
-        assert!(rt; checks_as(rt.alloc(), source.as_str(), expected)?, "{count}");
+        assert!(rt;
+            checks_as(rt.alloc(), source.as_str(), expected)?,
+            "{count}"
+        );
     }
     Ok(())
 }
@@ -80,9 +92,18 @@ fn methods_have_up_to_200_locals(rt: HostRuntime) -> Result<(), Fail> {
 #[test]
 fn classes_have_up_to_256_members(rt: HostRuntime) -> Result<(), Fail> {
     for (count, expected) in [(254, ACCEPTED), (255, NOT_BUILT)] {
-        let fields = numbered(rt.alloc(), "?{} static int f", "; ?{} static int f", ";", count)?;
+        let fields = numbered(
+            rt.alloc(),
+            "?{} static int f",
+            "; ?{} static int f",
+            ";",
+            count,
+        )?;
         let source = with_line(rt.alloc(), 6, fields.as_str())?;
-        assert!(rt; checks_as(rt.alloc(), source.as_str(), expected)?, "{count}");
+        assert!(rt;
+            checks_as(rt.alloc(), source.as_str(), expected)?,
+            "{count}"
+        );
     }
     Ok(())
 }
@@ -93,12 +114,18 @@ fn actors_and_locks_are_few(rt: HostRuntime) -> Result<(), Fail> {
     for (count, expected) in [(14, ACCEPTED), (15, NOT_BUILT)] {
         let line = numbered(rt.alloc(), "actor alice, bob, a", ", a", ";", count)?;
         let source = with_line(rt.alloc(), 1, line.as_str())?;
-        assert!(rt; checks_as(rt.alloc(), source.as_str(), expected)?, "{count}");
+        assert!(rt;
+            checks_as(rt.alloc(), source.as_str(), expected)?,
+            "{count}"
+        );
     }
     for (count, expected) in [(255, ACCEPTED), (256, NOT_BUILT)] {
         let line = numbered(rt.alloc(), "lock Paid; lock l", "; lock l", ";", count)?;
         let source = with_line(rt.alloc(), 2, line.as_str())?;
-        assert!(rt; checks_as(rt.alloc(), source.as_str(), expected)?, "{count}");
+        assert!(rt;
+            checks_as(rt.alloc(), source.as_str(), expected)?,
+            "{count}"
+        );
     }
     Ok(())
 }
@@ -110,13 +137,19 @@ fn policies_have_few_clauses_and_locks(rt: HostRuntime) -> Result<(), Fail> {
         let clauses = repeated(rt.alloc(), "alice:; ", count)?;
         let line = format!(in rt.alloc(); "?{{{clauses}bob:}} static int got;")?;
         let source = with_line(rt.alloc(), 6, line.as_str())?;
-        assert!(rt; checks_as(rt.alloc(), source.as_str(), expected)?, "{count}");
+        assert!(rt;
+            checks_as(rt.alloc(), source.as_str(), expected)?,
+            "{count}"
+        );
     }
     for (count, expected) in [(15, ACCEPTED), (16, NOT_BUILT)] {
         let locks = repeated(rt.alloc(), "Paid, ", count)?;
         let line = format!(in rt.alloc(); "?{{bob: {locks}Paid}} static int got;")?;
         let source = with_line(rt.alloc(), 6, line.as_str())?;
-        assert!(rt; checks_as(rt.alloc(), source.as_str(), expected)?, "{count}");
+        assert!(rt;
+            checks_as(rt.alloc(), source.as_str(), expected)?,
+            "{count}"
+        );
     }
     Ok(())
 }
@@ -127,7 +160,10 @@ fn names_have_up_to_64_bytes(rt: HostRuntime) -> Result<(), Fail> {
         let name = repeated(rt.alloc(), "n", count)?;
         let line = format!(in rt.alloc(); "?{{}} static int {name};")?;
         let source = with_line(rt.alloc(), 6, line.as_str())?;
-        assert!(rt; checks_as(rt.alloc(), source.as_str(), expected)?, "{count}");
+        assert!(rt;
+            checks_as(rt.alloc(), source.as_str(), expected)?,
+            "{count}"
+        );
     }
     Ok(())
 }
@@ -143,7 +179,9 @@ fn sources_have_up_to_256_policies(rt: HostRuntime) -> Result<(), Fail> {
         for set in 1..256u32 {
             source.push_str(field_of(rt.alloc(), set)?.as_str())?;
         }
-        let end = format!(in rt.alloc(); "?{{{last}}} static int f0; static void main() !bottom {{ }} }}")?;
+        let end = format!(in rt.alloc();
+            "?{{{last}}} static int f0; static void main() !bottom {{ }} }}"
+        )?;
         source.push_str(end.as_str())?;
         assert!(rt; checks_as(rt.alloc(), source.as_str(), expected)?, "{last}");
     }

@@ -59,8 +59,16 @@ fn members_are_read(rt: HostRuntime) -> Result<(), Fail> {
         (5, "?{alice:; bob:} output int show(int v);", NOT_BUILT),
         (5, "?{alice:; bob:} output void show();", NOT_BUILT),
         (5, "?{alice:; bob:} output void show(int show);", ACCEPTED),
-        (6, "?{alice:} static int got; ?{bob:} static int got;", NOT_BUILT),
-        (6, "?{alice:} static int got; ?{bob:} static int more;", ACCEPTED),
+        (
+            6,
+            "?{alice:} static int got; ?{bob:} static int got;",
+            NOT_BUILT,
+        ),
+        (
+            6,
+            "?{alice:} static int got; ?{bob:} static int more;",
+            ACCEPTED,
+        ),
         (6, "?{alice:} static int show;", ACCEPTED),
         (6, "?{alice:} static boolean got;", NOT_BUILT),
         (6, "?{alice:} int got;", NOT_BUILT),
@@ -91,11 +99,19 @@ fn policies_are_ordered_by_who_sees_them(rt: HostRuntime) -> Result<(), Fail> {
         ("?{}", ACCEPTED),
         ("?{bob:}", refused("refused 403 at 8:1\n")),
         ("?{bob: Gold}", refused("refused 403 at 8:1\n")),
-        ("?{alice:; bob: Paid; bob: Gold}", refused("refused 403 at 8:1\n")),
+        (
+            "?{alice:; bob: Paid; bob: Gold}",
+            refused("refused 403 at 8:1\n"),
+        ),
     ];
     for (policy, expected) in rows {
-        let source = format!(in rt.alloc(); "actor alice, bob; lock Paid; lock Gold; class Shop {{\n?{{alice:; bob: Paid}} input int key();\n{policy} output void show(int v);\n\n\n\nstatic void main() !bottom {{\nshow(key()); }} }}")?;
-        assert!(rt; checks_as(rt.alloc(), source.as_str(), expected)?, "{policy}");
+        let source = format!(in rt.alloc();
+            "actor alice, bob; lock Paid; lock Gold; class Shop {{\n?{{alice:; bob: Paid}} input int key();\n{policy} output void show(int v);\n\n\n\nstatic void main() !bottom {{\nshow(key()); }} }}"
+        )?;
+        assert!(rt;
+            checks_as(rt.alloc(), source.as_str(), expected)?,
+            "{policy}"
+        );
     }
     Ok(())
 }

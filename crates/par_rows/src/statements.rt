@@ -12,7 +12,10 @@ fn writes_are_checked_at_the_open_locks(rt: HostRuntime) -> Result<(), Fail> {
         ("open Paid; got = key();", ACCEPTED),
         ("show(key()); open Paid;", refused("refused 403 at 8:1\n")),
         ("show(1);\n  show(key());", refused("refused 403 at 9:3\n")),
-        ("show(1); got = key(); show(key());", refused("refused 401 at 8:10\n")),
+        (
+            "show(1); got = key(); show(key());",
+            refused("refused 401 at 8:10\n"),
+        ),
         ("show(key()); got = key();", refused("refused 403 at 8:1\n")),
         ("", ACCEPTED),
     ];
@@ -28,16 +31,31 @@ fn locals_have_the_policy_of_what_they_were_set_to(rt: HostRuntime) -> Result<()
     let rows = [
         ("int x = key(); x = 3; show(x);", ACCEPTED),
         ("int x = key(); show(x);", refused("refused 403 at 8:16\n")),
-        ("int x = 3; x = key(); show(x);", refused("refused 403 at 8:23\n")),
+        (
+            "int x = 3; x = key(); show(x);",
+            refused("refused 403 at 8:23\n"),
+        ),
         ("int x = key(); open Paid; show(x);", ACCEPTED),
-        ("int x = 1 + key(); show(x);", refused("refused 403 at 8:20\n")),
-        ("int x = key() + 1; show(x);", refused("refused 403 at 8:20\n")),
+        (
+            "int x = 1 + key(); show(x);",
+            refused("refused 403 at 8:20\n"),
+        ),
+        (
+            "int x = key() + 1; show(x);",
+            refused("refused 403 at 8:20\n"),
+        ),
         ("int x = got + 1; show(x + got);", ACCEPTED),
         // a local hides the field of its name, and its first value does not see it
         ("int got = key(); got = 3; show(got);", ACCEPTED),
-        ("int got = key(); show(got);", refused("refused 403 at 8:18\n")),
+        (
+            "int got = key(); show(got);",
+            refused("refused 403 at 8:18\n"),
+        ),
         ("int got = got; show(got);", ACCEPTED),
-        ("int x = key(); int y = x; x = 1; show(y);", refused("refused 403 at 8:34\n")),
+        (
+            "int x = key(); int y = x; x = 1; show(y);",
+            refused("refused 403 at 8:34\n"),
+        ),
     ];
     for (body, expected) in rows {
         let source = with_body(rt.alloc(), body)?;
@@ -78,7 +96,10 @@ fn other_bodies_are_not_built(rt: HostRuntime) -> Result<(), Fail> {
     ];
     for body in bodies {
         let source = with_body(rt.alloc(), body)?;
-        assert!(rt; checks_as(rt.alloc(), source.as_str(), NOT_BUILT)?, "{body}");
+        assert!(rt;
+            checks_as(rt.alloc(), source.as_str(), NOT_BUILT)?,
+            "{body}"
+        );
     }
     Ok(())
 }
