@@ -3,12 +3,16 @@ use Rattle.std.specs.Prelude.{◌≡◌, ℕ, ◌≤◌, Bool, false, not, List,
 use Rattle.std.specs.List.{list_all, filter, AllZip}
 use Rattle.par_policy.specs.Sees.{IsSeenAlike}
 use Rattle.par_straight.specs.declared.tree.Source.{Source}
+use Rattle.par_straight.specs.declared.tree.Term.{Term}
+use Rattle.par_straight.specs.declared.tree.Statement.{Statement}
+use Rattle.par_straight.specs.declared.program.Operand.{Operand}
+use Rattle.par_straight.specs.declared.program.Action.{Action}
 use Rattle.par_straight.specs.declared.tree.Member.{Member}
 use Rattle.par_straight.specs.declared.tree.ClauseTree.{ClauseTree}
 use Rattle.par_straight.specs.declared.tree.MemberKind.{MemberKind}
-use Rattle.par_straight.specs.Names.{Name, names, among, member_names, fields_of, channels_of, numbered_policy, kind_is_field, kind_is_input, kind_is_output}
+use Rattle.par_straight.specs.Names.{Name, names, among, member_names, fields_of, channels_of, numbered_policy, numbered_term, numbered_action, kind_is_field, kind_is_input, kind_is_output}
 use Rattle.par_straight.specs.Names as declared_names
-use Rattle.par_straight.specs.Conditions.{differ, clause_declared}
+use Rattle.par_straight.specs.Conditions.{differ, clause_declared, term_named, statement_named}
 use Rattle.par_straight.specs.Rules.{Policy, policy_of, bottom}
 use Rattle.par_straight.specs.Judged.{HasAtMost, policies}
 use Rattle.par_tool.specs.declared.straight.scope.Scope.{Scope}
@@ -43,6 +47,14 @@ shown s = record { fields = s.fields; channels = s.channels; inputs = s.inputs; 
 abbrev pub Resolves : {A : Type 0} → Bool → A → Result A ResolveError → Type 0
 Resolves test value (Ok a) = IsTrue test × (a ≡ value)
 Resolves test value (Err e) = e ≡ NotStraight → test ≡ false
+
+-- a term is resolved
+abbrev pub ResolvesTerm : Scope → List Name → Term → Result Operand ResolveError → Type 0
+ResolvesTerm s locals t r = Resolves (term_named (shown s) locals t) (numbered_term (shown s) locals t) r
+
+-- a statement is resolved
+abbrev pub ResolvesStatement : Scope → List Name → Statement → Result Action ResolveError → Type 0
+ResolvesStatement s locals x r = Resolves (statement_named (shown s) locals x) (numbered_action (shown s) locals x) r
 
 -- few enough names are declared, so that the numbers of actors and of all others fit
 pub record IsFew (s : Scope) : Type 0 where

@@ -1,11 +1,11 @@
 //! The statements of a straight-line source, with numbers in place of names.
 
-ghost use Rattle.std.specs.Prelude.{◌≡◌, ◌≤◌, [], Bool, not, ◌&&◌, ◌||◌, nat_le, pos, if◌then◌else◌, length, OnOk};
+ghost use Rattle.std.specs.Prelude.{◌≡◌, ◌≤◌, [], nat_le, pos, length, OnOk};
 ghost use Rattle.par_straight.specs.declared.tree.Term.TheVariants as term;
 ghost use Rattle.par_straight.specs.declared.tree.Statement.TheVariants as statement;
-ghost use Rattle.par_straight.specs.Names.{place, place_of, declares, numbered_term, numbered_sum, numbered_action, numbered_steps};
-ghost use Rattle.par_straight.specs.Conditions.{term_named, sum_named, statement_named, statements_named, locals_declared};
-ghost use Rattle.par_tool.specs.Resolves.{shown, Resolves, IsFew};
+ghost use Rattle.par_straight.specs.Names.{place, place_of, declares, numbered_sum, numbered_steps};
+ghost use Rattle.par_straight.specs.Conditions.{sum_named, statements_named, locals_declared};
+ghost use Rattle.par_tool.specs.Resolves.{shown, Resolves, ResolvesTerm, ResolvesStatement, IsFew};
 
 use crate::straight::numbered::number_of;
 use crate::straight::resolve::ResolveError;
@@ -68,7 +68,7 @@ fn action(
 ) -> Result<Action, ResolveError>
     requires scope { IsFew scope.now }
     requires locals { length locals.now ≤ 256 }
-    ensures { Resolves (statement_named (shown scope.now) locals.now statement.now) (numbered_action (shown scope.now) locals.now statement.now) result }
+    ensures { ResolvesStatement scope.now locals.now statement.now result }
 {
     match statement {
         Statement::Local(id, terms) => declaration(alloc, scope, locals, id, terms.as_slice()),
@@ -87,7 +87,7 @@ fn declaration(
 ) -> Result<Action, ResolveError>
     requires scope { IsFew scope.now }
     requires locals { length locals.now ≤ 256 }
-    ensures { let s = statement.Local id.now terms.now in Resolves (statement_named (shown scope.now) locals.now s) (numbered_action (shown scope.now) locals.now s) result }
+    ensures { ResolvesStatement scope.now locals.now (statement.Local id.now terms.now) result }
 {
     let is_taken = is_among(locals, &id.name);
     if is_taken {
@@ -106,7 +106,7 @@ fn assignment(
 ) -> Result<Action, ResolveError>
     requires scope { IsFew scope.now }
     requires locals { length locals.now ≤ 256 }
-    ensures { let s = statement.Assign id.now terms.now in Resolves (statement_named (shown scope.now) locals.now s) (numbered_action (shown scope.now) locals.now s) result }
+    ensures { ResolvesStatement scope.now locals.now (statement.Assign id.now terms.now) result }
 {
     let fields = scope.fields.as_slice();
     if is_among(locals, &id.name) {
@@ -129,7 +129,7 @@ fn output(
 ) -> Result<Action, ResolveError>
     requires scope { IsFew scope.now }
     requires locals { length locals.now ≤ 256 }
-    ensures { let s = statement.Call id.now terms.now in Resolves (statement_named (shown scope.now) locals.now s) (numbered_action (shown scope.now) locals.now s) result }
+    ensures { ResolvesStatement scope.now locals.now (statement.Call id.now terms.now) result }
 {
     if !is_among(scope.outputs.as_slice(), &id.name) {
         return Err(ResolveError::NotStraight);
@@ -141,7 +141,7 @@ fn output(
 
 fn opening(scope: &Scope, locals: &[Name], id: &Ident) -> Result<Action, ResolveError>
     requires { IsFew scope.now }
-    ensures { let s = statement.Open id.now in Resolves (statement_named (shown scope.now) locals.now s) (numbered_action (shown scope.now) locals.now s) result }
+    ensures { ResolvesStatement scope.now locals.now (statement.Open id.now) result }
 {
     let locks = scope.locks.as_slice();
     if !is_among(locks, &id.name) {
@@ -171,7 +171,7 @@ fn sum(
 fn operand(scope: &Scope, locals: &[Name], term: &Term) -> Result<Operand, ResolveError>
     requires scope { IsFew scope.now }
     requires locals { length locals.now ≤ 256 }
-    ensures { Resolves (term_named (shown scope.now) locals.now term.now) (numbered_term (shown scope.now) locals.now term.now) result }
+    ensures { ResolvesTerm scope.now locals.now term.now result }
 {
     match term {
         Term::Constant(number) => constant(*number),
@@ -193,7 +193,7 @@ fn constant(number: u32) -> Result<Operand, ResolveError>
 fn variable(scope: &Scope, locals: &[Name], id: &Ident) -> Result<Operand, ResolveError>
     requires scope { IsFew scope.now }
     requires locals { length locals.now ≤ 256 }
-    ensures { let t = term.Variable id.now in Resolves (term_named (shown scope.now) locals.now t) (numbered_term (shown scope.now) locals.now t) result }
+    ensures { ResolvesTerm scope.now locals.now (term.Variable id.now) result }
 {
     let fields = scope.fields.as_slice();
     if is_among(locals, &id.name) {
@@ -207,7 +207,7 @@ fn variable(scope: &Scope, locals: &[Name], id: &Ident) -> Result<Operand, Resol
 
 fn input(scope: &Scope, locals: &[Name], id: &Ident) -> Result<Operand, ResolveError>
     requires { IsFew scope.now }
-    ensures { let t = term.Input id.now in Resolves (term_named (shown scope.now) locals.now t) (numbered_term (shown scope.now) locals.now t) result }
+    ensures { ResolvesTerm scope.now locals.now (term.Input id.now) result }
 {
     if !is_among(scope.inputs.as_slice(), &id.name) {
         return Err(ResolveError::NotStraight);
