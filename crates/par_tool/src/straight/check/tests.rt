@@ -53,34 +53,67 @@ fn sum(alloc: Global, term: Operand) -> Result<List<Operand>, Fail> {
     Ok(List::wrap(vec![in alloc; term]?))
 }
 
-fn step(action: Action, at: u32) -> Step {
-    Step { action, at }
+fn set(alloc: Global, local: u16, term: Operand, at: u32) -> Result<Step, Fail> {
+    Ok(Step {
+        action: Action::SetLocal(local, sum(alloc, term)?),
+        at,
+    })
+}
+
+fn show(alloc: Global, term: Operand, at: u32) -> Result<Step, Fail> {
+    Ok(Step {
+        action: Action::Output(1, sum(alloc, term)?),
+        at,
+    })
+}
+
+fn answer(alloc: Global, steps: Vec<Step>) -> Result<Option<Broken>, Fail> {
+    Ok(check(alloc, &shop(alloc, steps)?)?)
 }
 
 #[test]
-fn a_broken_rule_is_told_with_its_place(rt: HostRuntime) -> Result<(), Fail> {
-    let alloc = rt.alloc();
-    let key = Operand::Input(0);
-    let opened = vec![in alloc;
-        step(Action::Open(0), 3),
-        step(Action::Output(1, sum(alloc, key)?), 9),
-    ]?;
-    assert_eq!(rt; check(alloc, &shop(alloc, opened)?)?, None);
-    let shut = vec![in alloc; step(Action::Output(1, sum(alloc, key)?), 3)]?;
+fn an_input_is_shown_once_the_lock_is_open(rt: HostRuntime) -> Result<(), Fail> {
+    let mut steps = Vec::new(rt.alloc());
+    steps.push(Step {
+        action: Action::Open(0),
+        at: 3,
+    })?;
+    steps.push(show(rt.alloc(), Operand::Input(0), 9)?)?;
+    assert_eq!(rt; answer(rt.alloc(), steps)?, None);
+    Ok(())
+}
+
+#[test]
+fn an_output_is_refused_by_403(rt: HostRuntime) -> Result<(), Fail> {
+    let mut steps = Vec::new(rt.alloc());
+    steps.push(show(rt.alloc(), Operand::Input(0), 3)?)?;
     assert_eq!(rt;
-        check(alloc, &shop(alloc, shut)?)?,
+        answer(rt.alloc(), steps)?,
         Some(Broken { rule: 403, at: 3 })
     );
-    let kept = vec![in alloc; step(Action::SetField(0, sum(alloc, key)?), 3)]?;
+    Ok(())
+}
+
+#[test]
+fn a_field_is_refused_by_401(rt: HostRuntime) -> Result<(), Fail> {
+    let mut steps = Vec::new(rt.alloc());
+    steps.push(Step {
+        action: Action::SetField(0, sum(rt.alloc(), Operand::Input(0))?),
+        at: 3,
+    })?;
     assert_eq!(rt;
-        check(alloc, &shop(alloc, kept)?)?,
+        answer(rt.alloc(), steps)?,
         Some(Broken { rule: 401, at: 3 })
     );
-    let lowered = vec![in alloc;
-        step(Action::SetLocal(0, sum(alloc, key)?), 3),
-        step(Action::SetLocal(0, sum(alloc, Operand::Constant(3))?), 9),
-        step(Action::Output(1, sum(alloc, Operand::Local(0))?), 12),
-    ]?;
-    assert_eq!(rt; check(alloc, &shop(alloc, lowered)?)?, None);
+    Ok(())
+}
+
+#[test]
+fn a_local_takes_the_policy_of_its_last_value(rt: HostRuntime) -> Result<(), Fail> {
+    let mut steps = Vec::new(rt.alloc());
+    steps.push(set(rt.alloc(), 0, Operand::Input(0), 3)?)?;
+    steps.push(set(rt.alloc(), 0, Operand::Constant(3), 9)?)?;
+    steps.push(show(rt.alloc(), Operand::Local(0), 12)?)?;
+    assert_eq!(rt; answer(rt.alloc(), steps)?, None);
     Ok(())
 }
