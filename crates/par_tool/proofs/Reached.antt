@@ -11,7 +11,7 @@ use Rattle.par_straight.specs.Rules.{Facts, first_facts, facts_after, Passes, Al
 use Rattle.par_straight.specs.Rules.FirstBroken.{here, later}
 use Rattle.par_tool.specs.declared.straight.table.Table.{Table}
 use Rattle.par_tool.specs.declared.straight.known.Known.{Known}
-use Rattle.par_tool.specs.Known.{IsTableOf, IsJoinAlike, StandsFor, joined_at}
+use Rattle.par_tool.specs.Known.{IsTableOf, IsJoinAlike, StandsFor, TellsWhether, IsAfter, joined_at}
 use Rattle.par_tool.proofs.Joins.{alike_alone}
 
 -- What is kept stands for facts after which the statements from here on tell the whole answer.
@@ -33,24 +33,20 @@ at_first p t known table none shut = record {
   refused = λ number at h. h;
 }
 
--- what `passes` says of a statement, whatever the facts
-abbrev pub Tells : Program → Table → Known → Action → Bool → Type 0
-Tells p t known action b = (facts : Facts) → StandsFor p t known facts → IsTrue b ↔ Passes p facts action
-
-pub at_next : (p : Program) (t : Table) (known next : Known) (step : Step) (left : List Step) → Reached p t known (step ∷ left) → Tells p t known step.action true
-    → ((facts : Facts) → StandsFor p t known facts → StandsFor p t next (facts_after p facts step.action)) → Reached p t next left
+pub at_next : (p : Program) (t : Table) (known next : Known) (step : Step) (left : List Step) → Reached p t known (step ∷ left) → TellsWhether t known step.action true
+    → IsAfter t known step.action next → Reached p t next left
 at_next p t known next step left reached tells learns =
-    let passes : Passes p reached.facts step.action = (tells reached.facts reached.stands).0 refl in
+    let passes : Passes p reached.facts step.action = (tells p reached.facts reached.stands).0 refl in
     record {
       facts = facts_after p reached.facts step.action;
-      stands = learns reached.facts reached.stands;
+      stands = learns p reached.facts reached.stands;
       accepted = λ h. reached.accepted (passes, h);
       refused = λ number at h. reached.refused number at (later passes h);
     }
 
-pub at_fault : (p : Program) (t : Table) (known : Known) (step : Step) (left : List Step) → Reached p t known (step ∷ left) → Tells p t known step.action false → IsRefused p (rule step.action) step.at
+pub at_fault : (p : Program) (t : Table) (known : Known) (step : Step) (left : List Step) → Reached p t known (step ∷ left) → TellsWhether t known step.action false → IsRefused p (rule step.action) step.at
 at_fault p t known step left reached tells =
-    reached.refused (rule step.action) step.at (here (λ h. both_ways false refl ((tells reached.facts reached.stands).1 h)))
+    reached.refused (rule step.action) step.at (here (λ h. both_ways false refl ((tells p reached.facts reached.stands).1 h)))
 
 pub at_end : (p : Program) (t : Table) (known : Known) → Reached p t known [] → IsAccepted p
 at_end p t known reached = reached.accepted tt

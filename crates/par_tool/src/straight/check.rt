@@ -3,6 +3,9 @@
 ghost use Rattle.std.specs.Prelude.{◌≡◌, IfOk, IfSome, Ok, None};
 ghost use Rattle.par_straight.specs.Rules.{IsAccepted, IsRefused, rule};
 
+#[cfg(test)]
+mod tests;
+
 use crate::straight::known::Known;
 use crate::straight::table::Table;
 use par_policy::{Lockset, NoMemory};

@@ -1,14 +1,11 @@
 //! What is known before a statement: what each local is worth, and which locks are open.
 
-ghost use Rattle.std.specs.Prelude.{◌≡◌, ◌↔◌, ◌++◌, IsTrue, OnOk, IfOk};
-ghost use Rattle.par_policy.specs.Order.{IsJoinBelowAt};
-ghost use Rattle.par_straight.specs.declared.program.Program.{Program};
-ghost use Rattle.par_straight.specs.Rules.{Facts, Passes, facts_after, operand_policy, sum_policy};
-ghost use Rattle.par_tool.specs.Known.{IsWithin, AreWithin, IsJoinAlike, StandsFor, joined};
+ghost use Rattle.std.specs.Prelude.{OnOk, IfOk};
+ghost use Rattle.par_tool.specs.Known.{IsWithin, AreWithin, JoinsTerm, IsWorthOf, TellsWhether, IsAfter};
 
 use crate::straight::table::Table;
 use crate::straight::worth::Worth;
-use par_policy::{Lockset, NoMemory, Policy};
+use par_policy::{Lockset, NoMemory};
 use par_straight::program::{Action, Operand};
 use std::alloc::Global;
 use std::collections::BTreeMap;
@@ -29,34 +26,19 @@ impl Known {
         action: &Action,
     ) -> Result<bool, NoMemory>
         requires { AreWithin table.now self.now.locals }
-        ensures { IfOk result (λ passes. (p : Program) (facts : Facts) → StandsFor p table.now self.now facts → (IsTrue passes ↔ Passes p facts action.now)) }
+        ensures { IfOk result (TellsWhether table.now self.now action.now) }
     {
         match action {
             Action::SetField(field, sum) => {
-                let policy = &table.fields[usize::from(table.field_place(*field))];
-                self.may_go(alloc, table, sum.as_slice(), policy)
+                let worth = self.worth_of(alloc, table, sum.as_slice())?;
+                Ok(worth.below(table, &self.opened, table.policy_of_field(*field)))
             }
             Action::Output(channel, sum) => {
-                let policy = &table.channels[usize::from(table.channel_place(*channel))];
-                self.may_go(alloc, table, sum.as_slice(), policy)
+                let worth = self.worth_of(alloc, table, sum.as_slice())?;
+                Ok(worth.below(table, &self.opened, table.policy_of_channel(*channel)))
             }
             Action::SetLocal(..) | Action::Open(_) => Ok(true),
         }
-    }
-
-    // Whether the sum may go to where this policy guards.
-    fn may_go(
-        &self,
-        alloc: Global,
-        table: &Table,
-        sum: &[Operand],
-        policy: &Policy,
-    ) -> Result<bool, NoMemory>
-        requires { AreWithin table.now self.now.locals }
-        ensures { IfOk result (λ may. (p : Program) (facts : Facts) → StandsFor p table.now self.now facts → (IsTrue may ↔ IsJoinBelowAt (sum_policy p facts.env sum.now) facts.locks policy.now)) }
-    {
-        let worth = self.worth_of(alloc, table, sum)?;
-        Ok(worth.below(table, &self.opened, policy))
     }
 
     // Takes in what the statement changes.
@@ -68,7 +50,7 @@ impl Known {
     ) -> Result<(), NoMemory>
         requires { AreWithin table.now self.old.locals }
         ensures locals { OnOk result (AreWithin table.now self.new.locals) }
-        ensures after { OnOk result ((p : Program) (facts : Facts) → StandsFor p table.now self.old facts → StandsFor p table.now self.new (facts_after p facts action.now)) }
+        ensures after { OnOk result (IsAfter table.now self.old action.now self.new) }
     {
         match action {
             Action::SetLocal(local, sum) => {
@@ -85,7 +67,7 @@ impl Known {
     fn worth_of(&self, alloc: Global, table: &Table, sum: &[Operand]) -> Result<Worth, NoMemory>
         requires { AreWithin table.now self.now.locals }
         ensures within { IfOk result (IsWithin table.now) }
-        ensures joined { IfOk result (λ w. (p : Program) (facts : Facts) → StandsFor p table.now self.now facts → IsJoinAlike (joined table.now w) (sum_policy p facts.env sum.now)) }
+        ensures worth { IfOk result (IsWorthOf table.now self.now sum.now) }
     {
         let mut worth = Worth::new(alloc);
         for term in sum {
@@ -99,7 +81,7 @@ impl Known {
         requires locals { AreWithin table.now self.now.locals }
         requires worth { IsWithin table.now worth.old }
         ensures within { OnOk result (IsWithin table.now worth.new) }
-        ensures joined { OnOk result ((p : Program) (facts : Facts) → StandsFor p table.now self.now facts → IsJoinAlike (joined table.now worth.new) (joined table.now worth.old ++ operand_policy p facts.env term)) }
+        ensures joined { OnOk result (JoinsTerm table.now self.now term worth.old worth.new) }
     {
         match term {
             Operand::Constant(_) => worth.add_constant(),
@@ -107,8 +89,8 @@ impl Known {
                 Some(held) => worth.add_all(held)?,
                 None => worth.add_constant(),
             },
-            Operand::Field(field) => worth.add_field(table.field_place(field))?,
-            Operand::Input(channel) => worth.add_input(table.channel_place(channel))?,
+            Operand::Field(field) => worth.add_field(table.place_of_field(field))?,
+            Operand::Input(channel) => worth.add_input(table.place_of_channel(channel))?,
         }
         Ok(())
     }

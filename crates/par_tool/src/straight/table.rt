@@ -35,7 +35,7 @@ impl Table {
     }
 
     // The place of the policy of the field with this number.
-    pub(crate) fn field_place(&self, number: u16) -> u16
+    pub(crate) fn place_of_field(&self, number: u16) -> u16
         ensures bound { result < length self.now.fields.items }
         ensures alike { IsSeenAlike (policy_at self.now.fields.items result) (policy_at self.now.fields.items number) }
     {
@@ -43,10 +43,24 @@ impl Table {
     }
 
     // The place of the policy of the channel with this number.
-    pub(crate) fn channel_place(&self, number: u16) -> u16
+    pub(crate) fn place_of_channel(&self, number: u16) -> u16
         ensures bound { result < length self.now.channels.items }
         ensures alike { IsSeenAlike (policy_at self.now.channels.items result) (policy_at self.now.channels.items number) }
     {
         place_in(&self.channels, number)
+    }
+
+    // The policy of the field with this number.
+    pub(crate) fn policy_of_field(&self, number: u16) -> &Policy
+        ensures { IsSeenAlike result.now (policy_at self.now.fields.items number) }
+    {
+        &self.fields[usize::from(self.place_of_field(number))]
+    }
+
+    // The policy of the channel with this number.
+    pub(crate) fn policy_of_channel(&self, number: u16) -> &Policy
+        ensures { IsSeenAlike result.now (policy_at self.now.channels.items number) }
+    {
+        &self.channels[usize::from(self.place_of_channel(number))]
     }
 }

@@ -7,8 +7,8 @@ use Rattle.std.specs.BTreeMap as tree
 use Rattle.par_straight.specs.declared.program.Step.{Step}
 use Rattle.par_straight.specs.Rules.{Passes, IsRefused}
 use Rattle.par_tool.specs.declared.straight.worth.Worth.{Worth}
-use Rattle.par_tool.specs.Known.{IsWithin}
-use Rattle.par_tool.proofs.Reached.{Reached, Tells, at_first, at_next, at_fault, left_first}
+use Rattle.par_tool.specs.Known.{IsWithin, TellsWhether}
+use Rattle.par_tool.proofs.Reached.{Reached, at_first, at_next, at_fault, left_first}
 use Rattle.par_tool.proofs.straight.check.check.Goals as goal
 
 pub steps-init : goal.steps-init
@@ -26,8 +26,8 @@ returns-then-not-branch-clause-refused c =
     let at : step ≡ get_or c.args.program.now.steps c.steps.step-index step = subst (λ (l : List Step). step ≡ get_or l c.steps.step-index step) c.as_slice-step-items.ensures c.step-item.is in
     let here : Reached c.args.program.now c.in_ok-table.table c.steps.known (step ∷ drop (c.steps.step-index + 1) c.args.program.now.steps) =
     left_first c.args.program.now c.in_ok-table.table c.steps.known c.args.program.now.steps c.steps.step-index step inside at c.steps.invariant.reached in
-    let tells : Tells c.args.program.now c.in_ok-table.table c.steps.known step.action false = λ facts stands.
-    subst (λ b. IsTrue b ↔ Passes c.args.program.now facts step.action) c.if-not-branch.true (c.in_ok-passes.ensures c.args.program.now facts stands) in
+    let tells : TellsWhether c.in_ok-table.table c.steps.known step.action false =
+    subst (TellsWhether c.in_ok-table.table c.steps.known step.action) c.if-not-branch.true c.in_ok-passes.ensures in
     subst (λ n. IsRefused c.args.program.now n step.at) (sym c.rule_of.ensures)
     (at_fault c.args.program.now c.in_ok-table.table c.steps.known step (drop (c.steps.step-index + 1) c.args.program.now.steps) here tells)
 
@@ -38,10 +38,10 @@ steps-preserved c =
     let at : step ≡ get_or c.args.program.now.steps c.steps.step-index step = subst (λ (l : List Step). step ≡ get_or l c.steps.step-index step) c.as_slice-step-items.ensures c.step-item.is in
     let here : Reached c.args.program.now c.in_ok-table.table c.steps.known (step ∷ drop (c.steps.step-index + 1) c.args.program.now.steps) =
     left_first c.args.program.now c.in_ok-table.table c.steps.known c.args.program.now.steps c.steps.step-index step inside at c.steps.invariant.reached in
-    let tells : Tells c.args.program.now c.in_ok-table.table c.steps.known step.action true = λ facts stands.
-    subst (λ b. IsTrue b ↔ Passes c.args.program.now facts step.action) c.if-not-branch.false (c.in_ok-passes.ensures c.args.program.now facts stands) in
+    let tells : TellsWhether c.in_ok-table.table c.steps.known step.action true =
+    subst (TellsWhether c.in_ok-table.table c.steps.known step.action) c.if-not-branch.false c.in_ok-passes.ensures in
     record {
       within = c.in_ok-learn.ensures.locals;
       reached = at_next c.args.program.now c.in_ok-table.table c.steps.known c.learn.new.self step (drop (c.steps.step-index + 1) c.args.program.now.steps) here tells
-          (λ facts stands. c.in_ok-learn.ensures.after c.args.program.now facts stands);
+          c.in_ok-learn.ensures.after;
     }
