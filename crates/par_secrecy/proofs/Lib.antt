@@ -1,3 +1,4 @@
 pub mod Agreement
 pub mod Extension
 pub mod Seeing
+pub mod Examples

@@ -17,7 +17,7 @@ use Rattle.par_straight.specs.declared.program.Permission.{Permission}
 use Rattle.par_straight.specs.declared.program.Program.{Program}
 use Rattle.par_straight.specs.declared.program.Step.{Step}
 use Rattle.par_straight.specs.declared.program.Operand.TheVariants as operand
-use Rattle.par_straight.specs.declared.program.Action.TheVariants.{SetField, Output, Open}
+use Rattle.par_straight.specs.declared.program.Action.TheVariants.{SetLocal, SetField, Output, Open}
 use Rattle.par_straight.specs.Meaning.{source_run}
 use Rattle.par_straight.specs.Subject.{subject}
 
@@ -56,6 +56,10 @@ one_line n = record { class = codes "Shop"; channel = codes "key"; numbers = pos
 abbrev key : ℕ → Inputs
 key n = record { channels = one_line n ∷ [] }
 
+-- a number is shown, and no lock is open
+abbrev shows : ℕ → Witnessed
+shows n = record { event = Out (codes "Shop") (codes "show") (pos n); locks = [] }
+
 -- 42 is shown where Paid is open.
 abbrev shown_key : Run
 shown_key = record { events = record { event = Out (codes "Shop") (codes "show") (pos 42); locks = 0 ∷ [] } ∷ []; ending = End }
@@ -78,8 +82,26 @@ opened_twice : source_run (shop (pays ∷ pays ∷ shows_key ∷ [])) (key 42) 6
 opened_twice = refl
 
 -- a spent input gives 0
-spent_gives_zero : source_run (shop (shows_key ∷ [])) (record { channels = [] }) 4 ≡ record { events = record { event = Out (codes "Shop") (codes "show") (pos 0); locks = [] } ∷ []; ending = End }
+spent_gives_zero : source_run (shop (shows_key ∷ [])) (record { channels = [] }) 4 ≡ record { events = shows 0 ∷ []; ending = End }
 spent_gives_zero = refl
+
+-- int x = key(); x = 3; show(x);
+abbrev shows_three : List Step
+shows_three =
+    record { action = SetLocal 0 (operand.Input 0 ∷ []); at = 0 }
+    ∷ record { action = SetLocal 0 (operand.Constant (pos 3) ∷ []); at = 0 }
+    ∷ record { action = Output 1 (operand.Local 0 ∷ []); at = 0 } ∷ []
+
+three_at_eight : source_run (shop shows_three) (key 42) 8 ≡ record { events = shows 3 ∷ []; ending = End }
+three_at_eight = refl
+
+-- show(key() + key());
+abbrev shows_two_keys : List Step
+shows_two_keys = record { action = Output 1 (operand.Input 0 ∷ operand.Input 0 ∷ []); at = 0 } ∷ []
+
+reads_in_order : source_run (shop shows_two_keys) (record { channels = record { class = codes "Shop"; channel = codes "key"; numbers = pos 40 ∷ pos 2 ∷ [] } ∷ [] }) 6 ≡ record { events = shows 42 ∷ []; ending = End }
+unfolding int_wrap
+reads_in_order = refl
 
 -- the body, the assignment, two signs and three terms; the sum wraps to 32 bits
 abbrev got_wrapped : Run
@@ -131,9 +153,6 @@ key_fits steps n fits = record {
 -- Without the opening, bob is shown the key.
 abbrev unpaid : Program
 unpaid = shop (shows_key ∷ [])
-
-abbrev shows : ℕ → Witnessed
-shows n = record { event = Out (codes "Shop") (codes "show") (pos n); locks = [] }
 
 leaks_unpaid : Secure (subject unpaid) → ⊥
 leaks_unpaid secure =

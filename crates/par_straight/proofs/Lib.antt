@@ -6,3 +6,7 @@ pub mod Longer
 pub mod Opened
 pub mod Targets
 pub mod TwoRuns
+pub mod Telling
+pub mod Written
+pub mod Paid
+pub mod Going

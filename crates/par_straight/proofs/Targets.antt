@@ -1,5 +1,5 @@
 -- What the two-run proof uses of a program: its targets are declared, and their names find their policies.
-use Rattle.std.proofs.Common.{◌≡◌, ℕ, zero, suc, ◌<◌, Bool, true, false, not, cond, ◌||◌, inl, inr, List, [], ◌∷◌, length, map, refl, sym, ap, ◌∙◌, subst, arith}
+use Rattle.std.proofs.Common.{All, ◌≡◌, ℕ, zero, suc, ◌<◌, Bool, true, false, not, cond, ◌||◌, inl, inr, List, [], ◌∷◌, length, map, refl, sym, ap, ◌∙◌, subst, arith}
 use Rattle.std.specs.Prelude.{IsTrue, slice_get}
 use Rattle.std.specs.List.{filter}
 use Rattle.std.specs.Str.{bytes_eq}
@@ -19,12 +19,14 @@ use Rattle.par_straight.specs.declared.program.Action.{Action}
 use Rattle.par_straight.specs.declared.program.Action.TheVariants.{SetLocal, SetField, Output, Open}
 use Rattle.par_straight.specs.declared.program.Step.{Step}
 use Rattle.par_straight.specs.declared.program.Program.{Program}
-use Rattle.par_straight.specs.Names.{Name, names, among, place_of, kind_is_field, kind_is_output, fields_of, channels_of, member_names, Scope, scope_of, numbered, numbered_field, numbered_channel, numbered_action, numbered_steps, declares}
+use Rattle.par_straight.specs.Names.{place, Name, names, among, place_of, kind_is_field, kind_is_output, fields_of, channels_of, member_names, Scope, scope_of, numbered, numbered_field, numbered_channel, numbered_action, numbered_steps, declares}
 use Rattle.par_straight.specs.Conditions.{IsNamed, differ, sum_named, statement_named, statements_named}
 use Rattle.par_straight.specs.Rules.{field_policy_of, channel_policy_of, field_policy, channel_policy}
 use Rattle.par_straight.specs.Meaning.{field_name_of, channel_name_of, field_name, channel_name}
 use Rattle.par_straight.specs.Subject.{policy_of_field, policy_of_channel}
 use Rattle.par_straight.specs.Judged.{HasProgram}
+use Rattle.par_straight.specs.Progress.{IsInRange, AreInRange}
+use Rattle.std.proofs.lemmas.List.Elements.{All-nil, All-cons, All-head, All-tail}
 
 abbrev pub HasTarget : Program → Action → Type 0
 HasTarget p (SetLocal x os) = Unit {0}
@@ -96,52 +98,78 @@ output_among : (ms : List Member) (n : Name) → IsTrue (among (member_names (fi
 output_among [] n h = h
 output_among (m ∷ ms) n h = output_or_later m.kind m _ (channels_of ms) n (output_among ms n) h
 
--- the names of a scope are found in the program
+-- the places of a scope's names are those of the program
 record Finds (p : Program) (scope : Scope) : Type 0 where
-  fields : (n : Name) → IsTrue (among scope.fields n) → policy_of_field p.fields (field_name p (place_of scope.fields n)) ≡ field_policy p (place_of scope.fields n)
-  outputs : (n : Name) → IsTrue (among scope.outputs n) → policy_of_channel p.channels (channel_name p (place_of scope.channels n)) ≡ channel_policy p (place_of scope.channels n)
+  fields : (n : Name) → IsTrue (among scope.fields n) → place_of scope.fields n < length p.fields
+  outputs : (n : Name) → IsTrue (among scope.outputs n) → place_of scope.channels n < length p.channels
 
 -- what is no local is a field
-assigned : (p : Program) (b : Bool) (x f : ℕ) (os : List Operand) → (b ≡ false → HasTarget p (SetField f os)) → HasTarget p (cond b (SetLocal x os) (SetField f os))
+assigned : (p : Program) (b : Bool) (x f : ℕ) (os : List Operand) → (b ≡ false → f < length p.fields) → IsInRange p (cond b (SetLocal x os) (SetField f os))
 assigned p true x f os h = tt
 assigned p false x f os h = h refl
 
-action_has_target : (p : Program) (scope : Scope) (locals : List Name) (s : Statement) → Finds p scope → IsTrue (statement_named scope locals s) → HasTarget p (numbered_action scope locals s)
-action_has_target p scope locals (statement.Local id ts) finds h = tt
-action_has_target p scope locals (statement.Assign id ts) finds h =
+action_in_range : (p : Program) (scope : Scope) (locals : List Name) (s : Statement) → Finds p scope → IsTrue (statement_named scope locals s) → IsInRange p (numbered_action scope locals s)
+action_in_range p scope locals (statement.Local id ts) finds h = tt
+action_in_range p scope locals (statement.Assign id ts) finds h =
     let known = (and_parts (among locals id.name || among scope.fields id.name) (sum_named scope locals ts) h).0 in
     assigned p (among locals id.name) _ _ _ (λ e. finds.fields id.name (cc (e, known)))
-action_has_target p scope locals (statement.Call id ts) finds h = finds.outputs id.name (and_parts (among scope.outputs id.name) (sum_named scope locals ts) h).0
-action_has_target p scope locals (statement.Open id) finds h = tt
+action_in_range p scope locals (statement.Call id ts) finds h = finds.outputs id.name (and_parts (among scope.outputs id.name) (sum_named scope locals ts) h).0
+action_in_range p scope locals (statement.Open id) finds h = tt
 
-steps_have_targets : (p : Program) (scope : Scope) (locals : List Name) (ss : List Statement) → Finds p scope → IsTrue (statements_named scope locals ss) → HasTargets p (numbered_steps scope locals ss)
-steps_have_targets p scope locals [] finds h = tt
-steps_have_targets p scope locals (s ∷ ss) finds h =
+steps_in_range : (p : Program) (scope : Scope) (locals : List Name) (ss : List Statement) → Finds p scope → IsTrue (statements_named scope locals ss)
+    → All (λ s. IsInRange p s.action) (numbered_steps scope locals ss)
+steps_in_range p scope locals [] finds h = All-nil (λ s. IsInRange p s.action)
+steps_in_range p scope locals (s ∷ ss) finds h =
     let both = and_parts (statement_named scope locals s) (statements_named scope (declares s locals) ss) h in
-    (action_has_target p scope locals s finds both.0, steps_have_targets p scope (declares s locals) ss finds both.1)
+    let step : Step = record { action = numbered_action scope locals s; at = place s } in
+    All-cons (λ s. IsInRange p s.action) step (numbered_steps scope (declares s locals) ss)
+    (action_in_range p scope locals s finds both.0) (steps_in_range p scope (declares s locals) ss finds both.1)
 
 -- a place among the names of members is one among what is made of them
 same_length : {A : Type 0} (make : Member → A) (ms : List Member) (k : ℕ) → k < length (member_names ms) → k < length (map make ms)
 same_length make ms k h = subst (λ n. k < n) (length-map ms (λ m. m.id.name) ∙ sym (length-map ms make)) h
 
-finds_all : (tree : Source) → IsNamed tree → Finds (numbered tree) (scope_of tree)
-finds_all tree named =
+finds_all : (tree : Source) → Finds (numbered tree) (scope_of tree)
+finds_all tree =
     let actors = names tree.actors in
     let locks = names tree.locks in
     let fields = fields_of tree.members in
     let channels = channels_of tree.members in
     record {
-      fields = λ n h.
-          field_found (map (numbered_field actors locks) fields) (place_of (member_names fields) n)
-          (subst (λ ns. IsTrue (differ ns)) (sym (field_names actors locks fields)) named.fields)
-          (same_length (numbered_field actors locks) fields _ (place_below (member_names fields) n h));
-      outputs = λ n h.
-          channel_found (map (numbered_channel actors locks) channels) (place_of (member_names channels) n)
-          (subst (λ ns. IsTrue (differ ns)) (sym (channel_names actors locks channels)) named.channels)
-          (same_length (numbered_channel actors locks) channels _ (place_below (member_names channels) n (output_among tree.members n h)));
+      fields = λ n h. same_length (numbered_field actors locks) fields _ (place_below (member_names fields) n h);
+      outputs = λ n h. same_length (numbered_channel actors locks) channels _ (place_below (member_names channels) n (output_among tree.members n h));
     }
 
+-- the fields and channels that the statements of a source's program name are declared
+pub in_range : (source : List ℕ) (p : Program) → HasProgram source p → AreInRange p
+in_range source p h =
+    subst AreInRange (sym h.program_is)
+    (steps_in_range (numbered h.tree) (scope_of h.tree) [] h.tree.statements (finds_all h.tree) h.straight.named.statements)
+
+-- no two fields, and no two channels, have one name
+record Differ (p : Program) : Type 0 where
+  fields : IsTrue (differ (map (λ f. f.name) p.fields))
+  channels : IsTrue (differ (map (λ c. c.name) p.channels))
+
+names_differ : (tree : Source) → IsNamed tree → Differ (numbered tree)
+names_differ tree named =
+    let actors = names tree.actors in
+    let locks = names tree.locks in
+    record {
+      fields = subst (λ ns. IsTrue (differ ns)) (sym (field_names actors locks (fields_of tree.members))) named.fields;
+      channels = subst (λ ns. IsTrue (differ ns)) (sym (channel_names actors locks (channels_of tree.members))) named.channels;
+    }
+
+has_target : (p : Program) (a : Action) → Differ p → IsInRange p a → HasTarget p a
+has_target p (SetLocal x os) apart inside = tt
+has_target p (SetField f os) apart inside = field_found p.fields f apart.fields inside
+has_target p (Output c os) apart inside = channel_found p.channels c apart.channels inside
+has_target p (Open l) apart inside = tt
+
+targets_of : (p : Program) (ss : List Step) → Differ p → All (λ s. IsInRange p s.action) ss → HasTargets p ss
+targets_of p [] apart h = tt
+targets_of p (s ∷ ss) apart h =
+    (has_target p s.action apart (All-head (λ s. IsInRange p s.action) s ss h), targets_of p ss apart (All-tail (λ s. IsInRange p s.action) s ss h))
+
 pub has_targets : (source : List ℕ) (p : Program) → HasProgram source p → HasTargets p p.steps
-has_targets source p h =
-    subst (λ q. HasTargets q q.steps) (sym h.program_is)
-    (steps_have_targets (numbered h.tree) (scope_of h.tree) [] h.tree.statements (finds_all h.tree h.straight.named) h.straight.named.statements)
+has_targets source p h = targets_of p p.steps (subst Differ (sym h.program_is) (names_differ h.tree h.straight.named)) (in_range source p h)

@@ -197,14 +197,14 @@ module _ (p : Program) (o : Observer) where
       by_kind true k = k refl
       by_kind false k = refl
 
-  abbrev inputs_of : Name → List Channel → List InputChannel
+  abbrev pub inputs_of : Name → List Channel → List InputChannel
   inputs_of class cs = map (λ c. record { class = class; name = c.name; policy = policy_of c.policy }) (filter (λ c. c.is_input) cs)
 
-  abbrev AlikeOn : Inputs → Inputs → InputChannel → Type 0
+  abbrev pub AlikeOn : Inputs → Inputs → InputChannel → Type 0
   AlikeOn one other c = IsTrue (sees o c.policy) → given one.channels c.class c.name ≡ given other.channels c.class c.name
 
   -- the first of the channels, where it is an input, and the channels behind it
-  split_alike : (class : Name) (one other : Inputs) (c : Channel) (cs : List Channel) → All (AlikeOn one other) (inputs_of class (c ∷ cs))
+  pub split_alike : (class : Name) (one other : Inputs) (c : Channel) (cs : List Channel) → All (AlikeOn one other) (inputs_of class (c ∷ cs))
       → (IsTrue c.is_input → AlikeOn one other (record { class = class; name = c.name; policy = policy_of c.policy })) × All (AlikeOn one other) (inputs_of class cs)
   split_alike class one other c cs = by_kind c.is_input
     where

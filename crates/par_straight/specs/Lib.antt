@@ -8,3 +8,5 @@ pub mod Judged
 pub mod Meaning
 pub mod Subject
 pub mod Theorems
+pub mod Alike
+pub mod Progress
