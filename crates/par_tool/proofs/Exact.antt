@@ -13,7 +13,7 @@ use Rattle.par_tool.specs.declared.words.Which.{Which}
 use Rattle.par_tool.specs.declared.words.Which.TheVariants.{Compiler, Runner}
 use Rattle.par_tool.specs.Words.{Asks, IsCheck}
 use Rattle.par_tool.specs.Texts.{status}
-use Rattle.par_tool.specs.Answers.{Cause, WasRead, IsBroken, IsAcceptedSource, Said, whole, cut, unsaid, Ends, answers, lacks_memory, IsThere, IsStatus, IsVerdict, Judges}
+use Rattle.par_tool.specs.Answers.{Cause, WasRead, IsBroken, IsAcceptedSource, Said, whole, cut, unsaid, Ends, answers, lacks_memory, IsThere, IsStatus, IsVerdict, Passes, Judges}
 
 one_check : (words : List (String Global)) (f g : List ℕ) → IsCheck words f → IsCheck words g → f ≡ g
 one_check [] f g x y = absurd x
@@ -32,7 +32,7 @@ read_source None f g a b e there read = absurd there
 read_source (Some m) f g a b e there read = let here = ap m e in let found = read.found in let same : Some a ≡ Some b = sym there.0 ∙ here ∙ found in cc
 
 -- a verdict has the status that the source asks for
-accepted_is_0 : (source : List ℕ) (a : Answer) → IsVerdict source a → IsAcceptedSource source → status a ≡ 0
+accepted_is_0 : (source : List ℕ) (a : Answer) → IsVerdict source a → Passes source → status a ≡ 0
 accepted_is_0 source answer.Accepted v h = refl
 accepted_is_0 source (answer.Refused rule line column) v h =
     let same : v.program ≡ h.0 = one_program source v.program h.0 v.has h.1 in

@@ -15,5 +15,5 @@ pub failing : {A : Type 0} (xs : Symbols) (old : Values) (show : A → Values) (
 failing xs old show i j (Ok a) e same h = elim same [ ]
 failing xs old show i j (Err y) e same h = record {
   ok = tt;
-  err = subst (λ q. q ≢ Memory → (s : Symbols) (vs : Values) → run (xs ++ s) i (old ++ vs) ≡ Err (fault_of q)) (sym same) h
+  err = subst (λ q. q ≢ Memory → (s : Symbols) (vs : Values) → run (xs ++ s) i (old ++ vs) ≡ Err (fault_of q)) (sym same) h;
 }

@@ -4,7 +4,9 @@ use Rattle.std.specs.declared.string.String.{String}
 use Rattle.std.specs.declared.alloc.Global.{Global}
 use Rattle.par_io.specs.Causes.{Rose, Files, Told, Counts, appended, AppendsFront}
 use Rattle.par_lexer.specs.Places.{line_at, column_at}
+use Rattle.par_secrecy.specs.Secure.{Secure}
 use Rattle.par_straight.specs.declared.program.Program.{Program}
+use Rattle.par_straight.specs.Subject.{subject}
 use Rattle.par_straight.specs.Rules.{IsAccepted, IsRefused}
 use Rattle.par_straight.specs.Judged.{HasProgram, IsStraightLine}
 use Rattle.par_tool.specs.declared.answer.Answer.{Answer}
@@ -31,9 +33,9 @@ pub record IsBroken (source : List ℕ) (rule line column : ℕ) : Type 0 where
   pub line_is : line ≡ line_at source at
   pub column_is : column ≡ column_at source at
 
--- a straight-line source whose program passes every rule
+-- a straight-line source whose program passes every rule, and is secure
 abbrev pub IsAcceptedSource : List ℕ → Type 0
-IsAcceptedSource source = (p : Program) × HasProgram source p × IsAccepted p
+IsAcceptedSource source = (p : Program) × HasProgram source p × IsAccepted p × Secure (subject p)
 
 -- the folder's counts
 abbrev pub counts : ℕ → ℕ → ℕ → Counts
@@ -82,8 +84,12 @@ IsThere (Some m) file source = (m file ≡ Some source) × (length source ≤ lo
 abbrev pub IsStatus : ℕ → ℕ → Type 0
 IsStatus result number = (result ≡ number) ⊎ (result ≡ 4) ⊎ (result ≡ 6) ⊎ (result ≡ 7)
 
+-- a straight-line source whose program passes every rule
+abbrev pub Passes : List ℕ → Type 0
+Passes source = (p : Program) × HasProgram source p × IsAccepted p
+
 -- Which status a source has that is there: 0 exactly where it is accepted, 1 where a rule is broken, 9 where it is no straight-line source.
 pub record Judges (source : List ℕ) (result : ℕ) : Type 0 where
-  pub accepted : IsAcceptedSource source → IsStatus result 0
+  pub accepted : Passes source → IsStatus result 0
   pub refused : (rule line column : ℕ) → IsBroken source rule line column → IsStatus result 1
   pub not_built : (IsStraightLine source → ⊥) → IsStatus result 9

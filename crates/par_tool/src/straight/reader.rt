@@ -15,9 +15,8 @@ ghost use Rattle.par_tool.specs.Reads.{Reads, input, nothing, an_ident, idents, 
 use crate::straight::cursor::{Cursor, ParseError};
 use par_grammar::sort::Sort;
 use par_lexer::list::List;
-use par_lexer::sign;
 use par_lexer::token::Token;
-use par_lexer::word;
+use par_lexer::{sign, word};
 use par_straight::tree::{ClauseTree, Ident, Member, MemberKind, Source, Statement, Term};
 use std::alloc::Global;
 
@@ -414,10 +413,7 @@ fn ended_effect(
 
 /// The statements of the method.
 #[tactic(auto, using(par_straight::proofs::Run::statement_rules))]
-fn all_statements(
-    alloc: Global,
-    cursor: &mut Cursor<'_>,
-) -> Result<List<Statement>, ParseError>
+fn all_statements(alloc: Global, cursor: &mut Cursor<'_>) -> Result<List<Statement>, ParseError>
     ensures read { Reads (symbol.name g.Statements ∷ []) [] statements (input cursor.old) result (input cursor.new) }
     ensures shorter { OnOk result (length cursor.new.left.now ≤ length cursor.old.left.now) }
 {
@@ -497,10 +493,7 @@ fn end(cursor: &mut Cursor<'_>) -> Result<(), ParseError>
 }
 
 /// The method, and the end of the class and of the source.
-fn method(
-    alloc: Global,
-    cursor: &mut Cursor<'_>,
-) -> Result<(Ident, List<Statement>), ParseError>
+fn method(alloc: Global, cursor: &mut Cursor<'_>) -> Result<(Ident, List<Statement>), ParseError>
     ensures { Reads method_symbols [] a_method (input cursor.old) result (input cursor.new) }
 {
     let id = method_name(alloc, cursor)?;

@@ -10,5 +10,5 @@ returns-else-sees-3-clause-read c =
     record {
       ok = tt;
       err = λ told s vs. kind_else s (input c.args.cursor.now) (value.clauses c.args.policy ∷ value.members c.args.found ∷ vs)
-        (sym c.sees.ensures ∙ c.if-sees.false) (sym c.sees-else-sees.ensures ∙ c.if-sees-2.false) (sym c.sees-else-sees-2.ensures ∙ c.if-sees-3.false)
+          (sym c.sees.ensures ∙ c.if-sees.false) (sym c.sees-else-sees.ensures ∙ c.if-sees-2.false) (sym c.sees-else-sees-2.ensures ∙ c.if-sees-3.false);
     }

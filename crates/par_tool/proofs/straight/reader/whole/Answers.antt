@@ -13,6 +13,6 @@ returns-in_err-read c =
 pub returns : goal.returns
 returns c = record {
   ok = λ s vs. source_opens s (input c.args.cursor.now) vs ∙ c.in_ok-actors.ensures.ok _ _ ∙ c.in_ok-locks.ensures.read.ok _ _ ∙ c.in_ok-class.ensures.ok _ _ ∙ c.in_ok-members.ensures.read.ok _ _
-    ∙ c.in_ok-read.ensures.ok _ _ ∙ run_builds _ _ _ _;
-  err = tt
+      ∙ c.in_ok-read.ensures.ok _ _ ∙ run_builds _ _ _ _;
+  err = tt;
 }

@@ -1,0 +1,17 @@
+//! Worked rows: sources and words with the answers that they must have, over files and output in
+//! memory. The expected answers were worked out by hand from the language's rules. The crate is
+//! tests alone, and nothing stands on it.
+#![tactic(auto)]
+
+#[cfg(test)]
+mod call;
+#[cfg(test)]
+mod examples;
+#[cfg(test)]
+mod faults;
+#[cfg(test)]
+mod limits;
+#[cfg(test)]
+mod sources;
+#[cfg(test)]
+mod statements;
