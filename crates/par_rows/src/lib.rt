@@ -12,6 +12,8 @@ mod faults;
 #[cfg(test)]
 mod limits;
 #[cfg(test)]
+mod names;
+#[cfg(test)]
 mod sources;
 #[cfg(test)]
 mod statements;

@@ -1,12 +1,2 @@
-pub mod Kept
-pub mod Failing
-pub mod Exact
-pub mod Policies
-pub mod Joins
-pub mod Worths
-pub mod Steps
-pub mod Reached
-pub mod Distinct
-pub mod Numbered
-pub mod Declared
 pub mod Judging
+pub mod Exact

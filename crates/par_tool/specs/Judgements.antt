@@ -6,8 +6,8 @@ use Rattle.par_straight.specs.declared.program.Program.{Program}
 use Rattle.par_straight.specs.Rules.{IsAccepted, IsRefused}
 use Rattle.par_straight.specs.Subject.{subject}
 use Rattle.par_straight.specs.Judged.{HasProgram, IsStraightLine}
-use Rattle.par_tool.specs.declared.straight.judge.Judgement.{Judgement}
-use Rattle.par_tool.specs.declared.straight.judge.Judgement.TheVariants.{Accepted, Broken, NotStraight}
+use Rattle.par_tool.specs.declared.judge.Judgement.{Judgement}
+use Rattle.par_tool.specs.declared.judge.Judgement.TheVariants.{Accepted, Broken, NotStraight}
 
 abbrev pub Tokens : Type 0
 Tokens = List Token

@@ -2,11 +2,10 @@
 //! came of it.
 //!
 //! The call composes what the layers below promise, and holds no reasoning of its own about
-//! tokens, trees or policies. What stands in `straight` serves straight-line sources alone, until
-//! the layers of the whole language take its place.
+//! tokens, trees or policies.
 #![tactic(auto)]
 
 pub mod answer;
-pub mod straight;
+pub mod judge;
 pub mod tool;
 pub mod words;

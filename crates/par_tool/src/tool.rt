@@ -5,7 +5,7 @@ ghost use Rattle.par_tool.specs.Answers.{Cause, Said, Ends, IsThere, IsVerdict, 
 ghost use Rattle.par_tool.specs.Words.{Asks};
 
 use crate::answer::{Answer, line_of, status_of};
-use crate::straight::judge::{Judgement, judge};
+use crate::judge::{Judgement, judge};
 use crate::words::{Which, checked_file};
 use par_io::{Folder, ReadFail, Sink};
 use par_lexer::list::NoMemory;

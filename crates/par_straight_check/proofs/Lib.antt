@@ -1,0 +1,4 @@
+pub mod Joins
+pub mod Worths
+pub mod Steps
+pub mod Reached

@@ -1,0 +1,4 @@
+pub mod Counting
+pub mod Numbering
+pub mod Declarations
+pub mod Permissions

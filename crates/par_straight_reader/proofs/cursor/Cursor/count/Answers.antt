@@ -1,0 +1,22 @@
+use Rattle.std.proofs.Common.{◌≡◌, true, false, [], ◌∷◌, arith, rules, ap, ◌∙◌, sym, length, ◌<◌, ℕ}
+use Rattle.std.proofs.lemmas.Bool.Decides.{nat_tests}
+use Rattle.std.proofs.lemmas.Grind.{common_steps}
+use Rattle.par_grammar.specs.Sorts.{same}
+use Rattle.par_grammar.specs.Derivation.{next}
+use Rattle.par_grammar.specs.declared.sort.Sort.TheVariants as sort
+use Rattle.par_straight.proofs.Run.{run_counts, run_counts_at_end, run_counts_too_deep}
+use Rattle.par_straight_reader.specs.Reads.{input}
+use Rattle.par_straight_reader.proofs.cursor.Cursor.count.Goals as goal
+
+pub returns-then-is_empty-clause-read : goal.returns-then-is_empty-clause-read
+returns-then-is_empty-clause-read c = record { ok = tt; err = λ told s vs. run_counts_at_end s (input c.args.self.now) vs (grind (arith, common_steps)) }
+
+pub returns-then-self-ge64-clause-read : goal.returns-then-self-ge64-clause-read
+returns-then-self-ge64-clause-read c =
+    let some_left : 0 < length c.args.self.now.left.now = grind (arith, common_steps, nat_tests) in
+    record { ok = tt; err = λ told s vs. run_counts_too_deep s (input c.args.self.now) vs some_left c.if-self-ge64.true }
+
+pub returns-clause-read : goal.returns-clause-read
+returns-clause-read c =
+    let some_left : 0 < length c.args.self.now.left.now = grind (arith, common_steps, nat_tests) in
+    record { ok = λ s vs. run_counts s (input c.args.self.now) vs some_left c.if-self-ge64.false; err = tt }

@@ -1,0 +1,22 @@
+use Rattle.std.proofs.Common.{◌≡◌, true, false, [], ◌∷◌, arith, rules, ap, ◌∙◌, sym, length, ◌<◌, ℕ}
+use Rattle.std.proofs.lemmas.Bool.Decides.{nat_tests}
+use Rattle.std.proofs.lemmas.Grind.{common_steps}
+use Rattle.par_grammar.specs.Sorts.{same}
+use Rattle.par_grammar.specs.Derivation.{next}
+use Rattle.par_grammar.specs.declared.sort.Sort.TheVariants as sort
+use Rattle.par_straight_reader.proofs.Kept.{number_at_end, number_missing, number_taken}
+use Rattle.par_straight_reader.specs.Reads.{input}
+use Rattle.par_straight_reader.proofs.cursor.Cursor.number.Goals as goal
+
+pub returns-in_default-clause-read : goal.returns-in_default-clause-read
+returns-in_default-clause-read c =
+    let none_left : c.args.self.now.left.now ≡ [] = grind (arith, common_steps) in
+    record { ok = tt; err = λ told s vs. number_at_end s (input c.args.self.now) vs none_left }
+
+pub returns-in_default-kind-clause-read : goal.returns-in_default-kind-clause-read
+returns-in_default-kind-clause-read c =
+    record { ok = tt; err = λ told s vs. number_missing s (input c.args.self.now) vs c.in-Some.first.now c.in-Some.left.now c.in-Some.ensures.cases.0 c.in_default-kind.not-Number }
+
+pub returns-clause-read : goal.returns-clause-read
+returns-clause-read c =
+    record { ok = λ s vs. number_taken s (input c.args.self.now) vs c.in-Some.first.now c.in-Some.left.now c.in-Some.ensures.cases.0 c.in-Number.number c.in-Number.is; err = tt }

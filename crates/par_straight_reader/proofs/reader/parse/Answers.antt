@@ -1,0 +1,29 @@
+use Rattle.std.proofs.Common.{◌≡◌, ◌≢◌, List, ◌∷◌, [], Result, Ok, Err, ◌∙◌, sym}
+use Rattle.std.specs.Result.{IfOk, IfErr}
+use Rattle.par_lexer.specs.declared.token.Token.{Token}
+use Rattle.par_grammar.specs.Grammar.{name}
+use Rattle.par_grammar.specs.Derivation.{Input, whole}
+use Rattle.par_straight.specs.declared.tree.Source.{Source}
+use Rattle.par_straight.specs.Grammar as g
+use Rattle.par_straight.specs.Values as value
+use Rattle.par_straight.specs.Sentence.{HasTree}
+use Rattle.par_straight.proofs.Run.{comes_run, run_comes, run_done}
+use Rattle.par_straight_reader.specs.declared.cursor.ParseError.{ParseError}
+use Rattle.par_straight_reader.specs.declared.cursor.ParseError.TheVariants.{Memory}
+use Rattle.par_straight_reader.specs.Reads.{Reads, source}
+use Rattle.par_straight_reader.proofs.reader.parse.Goals as goal
+
+module _ (tokens : List Token) (j : Input) where
+  parsed : (r : Result Source ParseError) → Reads (name g.Source ∷ []) [] source (whole tokens) r j → IfOk r (HasTree tokens)
+  parsed (Ok tree) read = (j, comes_run _ _ _ _ (read.ok [] [] ∙ run_done _ _))
+  parsed (Err e) read = tt
+
+  no_tree : (r : Result Source ParseError) → Reads (name g.Source ∷ []) [] source (whole tokens) r j → IfErr r (λ e. e ≢ Memory → (tree : Source) → HasTree tokens tree → ⊥)
+  no_tree (Ok tree) read = tt
+  no_tree (Err e) read = λ told tree has. let fails = read.err told [] [] in let succeeds = run_comes _ _ _ _ has.1 in cc (fails, succeeds)
+
+pub returns-clause-ok : goal.returns-clause-ok
+returns-clause-ok c = parsed c.args.tokens.now _ _ c.whole.ensures
+
+pub returns-clause-none : goal.returns-clause-none
+returns-clause-none c = no_tree c.args.tokens.now _ _ c.whole.ensures

@@ -1,0 +1,539 @@
+//! The reader of straight-line sources, a function for each name of the grammar.
+
+ghost use Rattle.std.specs.Prelude.{◌≡◌, ◌<◌, ◌≤◌, [], ◌∷◌, ◌≢◌, length, OnOk, IfOk, IfErr};
+ghost use Rattle.par_straight.specs.declared.tree.Source.{Source as Tree};
+ghost use Rattle.par_straight.specs.Sentence.{HasTree};
+ghost use Rattle.par_grammar.specs.Grammar as symbol;
+ghost use Rattle.par_grammar.specs.declared.sort.Sort.TheVariants as sort;
+ghost use Rattle.par_lexer.specs.declared.word.TheConstants as words;
+ghost use Rattle.par_lexer.specs.declared.sign.TheConstants as signs;
+ghost use Rattle.par_straight.specs.declared.tree.MemberKind.TheVariants as member;
+ghost use Rattle.par_straight.specs.Grammar as g;
+ghost use Rattle.par_straight.specs.Values as value;
+ghost use Rattle.par_straight_reader.specs.Reads.{Reads, input, nothing, an_ident, idents, clauses, members, a_term, sum, statements, source, a_method, method_symbols};
+
+use crate::cursor::{Cursor, ParseError};
+use par_grammar::sort::Sort;
+use par_lexer::list::List;
+use par_lexer::token::Token;
+use par_lexer::{sign, word};
+use par_straight::tree::{ClauseTree, Ident, Member, MemberKind, Source, Statement, Term};
+use std::alloc::Global;
+
+/// Names with commas between them.
+#[tactic(auto, using(par_straight::proofs::Run::ident_rules))]
+fn idents(alloc: Global, cursor: &mut Cursor<'_>) -> Result<List<Ident>, ParseError>
+    ensures read { Reads (symbol.name g.Idents ∷ []) [] idents (input cursor.old) result (input cursor.new) }
+    ensures shorter { OnOk result (length cursor.new.left.now < length cursor.old.left.now) }
+{
+    let mut found = List::new(alloc);
+    let first = cursor.name(alloc)?;
+    found.push(first)?;
+    more_idents(alloc, cursor, found)
+}
+
+#[tactic(auto, using(par_straight::proofs::Run::ident_rules))]
+fn more_idents(
+    alloc: Global,
+    cursor: &mut Cursor<'_>,
+    mut found: List<Ident>,
+) -> Result<List<Ident>, ParseError>
+    ensures read { Reads (symbol.name g.MoreIdents ∷ []) (idents found) idents (input cursor.old) result (input cursor.new) }
+    ensures shorter { OnOk result (length cursor.new.left.now ≤ length cursor.old.left.now) }
+{
+    'more: while cursor.sees(Sort::Sign(sign::COMMA)) {
+        cursor.take(Sort::Sign(sign::COMMA))?;
+        let next = cursor.name(alloc)?;
+        found.push(next)?;
+    }
+    Ok(found)
+}
+
+/// The locks that are declared.
+#[tactic(auto, using(par_straight::proofs::Run::lock_rules))]
+fn locks(alloc: Global, cursor: &mut Cursor<'_>) -> Result<List<Ident>, ParseError>
+    ensures read { Reads (symbol.name g.Locks ∷ []) [] idents (input cursor.old) result (input cursor.new) }
+    ensures shorter { OnOk result (length cursor.new.left.now ≤ length cursor.old.left.now) }
+{
+    let mut found = List::new(alloc);
+    'more: while cursor.sees(Sort::Word(word::LOCK)) {
+        cursor.take(Sort::Word(word::LOCK))?;
+        let next = ended_name(alloc, cursor)?;
+        found.push(next)?;
+    }
+    Ok(found)
+}
+
+/// A name with a semicolon behind it.
+fn ended_name(alloc: Global, cursor: &mut Cursor<'_>) -> Result<Ident, ParseError>
+    ensures read { Reads (symbol.kept sort.Name ∷ symbol.token (sort.Sign signs.SEMICOLON) ∷ []) [] an_ident (input cursor.old) result (input cursor.new) }
+    ensures shorter { OnOk result (length cursor.new.left.now < length cursor.old.left.now) }
+{
+    let id = cursor.name(alloc)?;
+    cursor.take(Sort::Sign(sign::SEMICOLON))?;
+    Ok(id)
+}
+
+/// The locks that a clause needs.
+#[tactic(auto, using(par_straight::proofs::Run::clause_rules))]
+fn needed(alloc: Global, cursor: &mut Cursor<'_>) -> Result<List<Ident>, ParseError>
+    ensures read { Reads (symbol.name g.Needed ∷ []) [] idents (input cursor.old) result (input cursor.new) }
+    ensures shorter { OnOk result (length cursor.new.left.now ≤ length cursor.old.left.now) }
+{
+    let mut found = List::new(alloc);
+    if cursor.sees(Sort::Name) {
+        let first = cursor.name(alloc)?;
+        found.push(first)?;
+        more_idents(alloc, cursor, found)
+    } else {
+        Ok(found)
+    }
+}
+
+/// One more clause behind those that were found.
+#[tactic(auto, using(par_straight::proofs::Run::clause_rules))]
+fn clause(
+    alloc: Global,
+    cursor: &mut Cursor<'_>,
+    mut found: List<ClauseTree>,
+) -> Result<List<ClauseTree>, ParseError>
+    ensures read { Reads (symbol.name g.Clause ∷ []) (clauses found) clauses (input cursor.old) result (input cursor.new) }
+    ensures shorter { OnOk result (length cursor.new.left.now < length cursor.old.left.now) }
+{
+    let actor = cursor.name(alloc)?;
+    cursor.take(Sort::Sign(sign::COLON))?;
+    let locks = needed(alloc, cursor)?;
+    found.push(ClauseTree { actor, locks })?;
+    Ok(found)
+}
+
+#[tactic(auto, using(par_straight::proofs::Run::clause_rules))]
+fn more_clauses(
+    alloc: Global,
+    cursor: &mut Cursor<'_>,
+    mut found: List<ClauseTree>,
+) -> Result<List<ClauseTree>, ParseError>
+    ensures read { Reads (symbol.name g.MoreClauses ∷ []) (clauses found) clauses (input cursor.old) result (input cursor.new) }
+    ensures shorter { OnOk result (length cursor.new.left.now ≤ length cursor.old.left.now) }
+{
+    'more: while cursor.sees(Sort::Sign(sign::SEMICOLON)) {
+        cursor.take(Sort::Sign(sign::SEMICOLON))?;
+        found = clause(alloc, cursor, found)?;
+    }
+    Ok(found)
+}
+
+/// A policy in braces.
+#[tactic(auto, using(par_straight::proofs::Run::clause_rules))]
+fn policy(alloc: Global, cursor: &mut Cursor<'_>) -> Result<List<ClauseTree>, ParseError>
+    ensures read { Reads (symbol.name g.Policy ∷ []) [] clauses (input cursor.old) result (input cursor.new) }
+    ensures shorter { OnOk result (length cursor.new.left.now < length cursor.old.left.now) }
+{
+    cursor.take(Sort::Sign(sign::LEFT_BRACE))?;
+    let found = some_clauses(alloc, cursor)?;
+    cursor.take(Sort::Sign(sign::RIGHT_BRACE))?;
+    Ok(found)
+}
+
+#[tactic(auto, using(par_straight::proofs::Run::clause_rules))]
+fn some_clauses(alloc: Global, cursor: &mut Cursor<'_>) -> Result<List<ClauseTree>, ParseError>
+    ensures read { Reads (symbol.name g.Clauses ∷ []) [] clauses (input cursor.old) result (input cursor.new) }
+    ensures shorter { OnOk result (length cursor.new.left.now ≤ length cursor.old.left.now) }
+{
+    let found = List::new(alloc);
+    if cursor.sees(Sort::Name) {
+        let found = clause(alloc, cursor, found)?;
+        more_clauses(alloc, cursor, found)
+    } else {
+        Ok(found)
+    }
+}
+
+/// The member that a read policy stands before.
+#[tactic(auto, using(par_straight::proofs::Run::member_rules))]
+fn member(
+    alloc: Global,
+    cursor: &mut Cursor<'_>,
+    found: List<Member>,
+    policy: List<ClauseTree>,
+) -> Result<List<Member>, ParseError>
+    ensures read { Reads (symbol.name g.Kind ∷ []) (value.clauses policy ∷ value.members found ∷ []) members (input cursor.old) result (input cursor.new) }
+    ensures shorter { OnOk result (length cursor.new.left.now < length cursor.old.left.now) }
+{
+    if cursor.sees(Sort::Word(word::INPUT)) {
+        input_channel(alloc, cursor, found, policy)
+    } else if cursor.sees(Sort::Word(word::OUTPUT)) {
+        output_channel(alloc, cursor, found, policy)
+    } else if cursor.sees(Sort::Word(word::STATIC)) {
+        static_field(alloc, cursor, found, policy)
+    } else {
+        Err(ParseError::Syntax(cursor.at))
+    }
+}
+
+#[tactic(auto, using(par_straight::proofs::Run::member_rules))]
+fn input_channel(
+    alloc: Global,
+    cursor: &mut Cursor<'_>,
+    mut found: List<Member>,
+    policy: List<ClauseTree>,
+) -> Result<List<Member>, ParseError>
+    ensures read { Reads (symbol.token (sort.Word words.INPUT) ∷ symbol.token (sort.Word words.INT) ∷ symbol.kept sort.Name ∷ symbol.token (sort.Sign signs.LEFT_PAREN) ∷ symbol.token (sort.Sign signs.RIGHT_PAREN) ∷ symbol.token (sort.Sign signs.SEMICOLON) ∷ symbol.builds (g.NextMember member.Input) ∷ []) (value.clauses policy ∷ value.members found ∷ []) members (input cursor.old) result (input cursor.new) }
+    ensures shorter { OnOk result (length cursor.new.left.now < length cursor.old.left.now) }
+{
+    cursor.take(Sort::Word(word::INPUT))?;
+    cursor.take(Sort::Word(word::INT))?;
+    let id = cursor.name(alloc)?;
+    cursor.take(Sort::Sign(sign::LEFT_PAREN))?;
+    cursor.take(Sort::Sign(sign::RIGHT_PAREN))?;
+    cursor.take(Sort::Sign(sign::SEMICOLON))?;
+    found.push(Member {
+        kind: MemberKind::Input,
+        id,
+        policy,
+    })?;
+    Ok(found)
+}
+
+#[tactic(auto, using(par_straight::proofs::Run::member_rules))]
+fn output_channel(
+    alloc: Global,
+    cursor: &mut Cursor<'_>,
+    mut found: List<Member>,
+    policy: List<ClauseTree>,
+) -> Result<List<Member>, ParseError>
+    ensures read { Reads (symbol.token (sort.Word words.OUTPUT) ∷ symbol.token (sort.Word words.VOID) ∷ symbol.kept sort.Name ∷ symbol.token (sort.Sign signs.LEFT_PAREN) ∷ symbol.token (sort.Word words.INT) ∷ symbol.token sort.Name ∷ symbol.token (sort.Sign signs.RIGHT_PAREN) ∷ symbol.token (sort.Sign signs.SEMICOLON) ∷ symbol.builds (g.NextMember member.Output) ∷ []) (value.clauses policy ∷ value.members found ∷ []) members (input cursor.old) result (input cursor.new) }
+    ensures shorter { OnOk result (length cursor.new.left.now < length cursor.old.left.now) }
+{
+    cursor.take(Sort::Word(word::OUTPUT))?;
+    cursor.take(Sort::Word(word::VOID))?;
+    let id = cursor.name(alloc)?;
+    cursor.take(Sort::Sign(sign::LEFT_PAREN))?;
+    cursor.take(Sort::Word(word::INT))?;
+    cursor.take(Sort::Name)?;
+    cursor.take(Sort::Sign(sign::RIGHT_PAREN))?;
+    cursor.take(Sort::Sign(sign::SEMICOLON))?;
+    found.push(Member {
+        kind: MemberKind::Output,
+        id,
+        policy,
+    })?;
+    Ok(found)
+}
+
+#[tactic(auto, using(par_straight::proofs::Run::member_rules))]
+fn static_field(
+    alloc: Global,
+    cursor: &mut Cursor<'_>,
+    mut found: List<Member>,
+    policy: List<ClauseTree>,
+) -> Result<List<Member>, ParseError>
+    ensures read { Reads (symbol.token (sort.Word words.STATIC) ∷ symbol.token (sort.Word words.INT) ∷ symbol.kept sort.Name ∷ symbol.token (sort.Sign signs.SEMICOLON) ∷ symbol.builds (g.NextMember member.Field) ∷ []) (value.clauses policy ∷ value.members found ∷ []) members (input cursor.old) result (input cursor.new) }
+    ensures shorter { OnOk result (length cursor.new.left.now < length cursor.old.left.now) }
+{
+    cursor.take(Sort::Word(word::STATIC))?;
+    cursor.take(Sort::Word(word::INT))?;
+    let id = cursor.name(alloc)?;
+    cursor.take(Sort::Sign(sign::SEMICOLON))?;
+    found.push(Member {
+        kind: MemberKind::Field,
+        id,
+        policy,
+    })?;
+    Ok(found)
+}
+
+#[tactic(auto, using(par_straight::proofs::Run::member_rules))]
+fn all_members(alloc: Global, cursor: &mut Cursor<'_>) -> Result<List<Member>, ParseError>
+    ensures read { Reads (symbol.name g.Members ∷ []) [] members (input cursor.old) result (input cursor.new) }
+    ensures shorter { OnOk result (length cursor.new.left.now ≤ length cursor.old.left.now) }
+{
+    let mut found = List::new(alloc);
+    'more: while cursor.sees(Sort::Sign(sign::QUESTION)) {
+        cursor.take(Sort::Sign(sign::QUESTION))?;
+        let policy = policy(alloc, cursor)?;
+        found = member(alloc, cursor, found, policy)?;
+    }
+    Ok(found)
+}
+
+/// A term of a sum.
+#[tactic(auto, using(par_straight::proofs::Run::term_rules))]
+fn term(alloc: Global, cursor: &mut Cursor<'_>) -> Result<Term, ParseError>
+    ensures read { Reads (symbol.name g.Term ∷ []) [] a_term (input cursor.old) result (input cursor.new) }
+    ensures shorter { OnOk result (length cursor.new.left.now < length cursor.old.left.now) }
+{
+    if cursor.sees(Sort::Number) {
+        let number = cursor.number()?;
+        Ok(Term::Constant(number))
+    } else if cursor.sees(Sort::Name) {
+        let id = cursor.name(alloc)?;
+        called(cursor, id)
+    } else {
+        Err(ParseError::Syntax(cursor.at))
+    }
+}
+
+#[tactic(auto, using(par_straight::proofs::Run::term_rules))]
+fn called(cursor: &mut Cursor<'_>, id: Ident) -> Result<Term, ParseError>
+    ensures read { Reads (symbol.name g.Called ∷ []) (value.id id ∷ []) a_term (input cursor.old) result (input cursor.new) }
+    ensures shorter { OnOk result (length cursor.new.left.now ≤ length cursor.old.left.now) }
+{
+    if cursor.sees(Sort::Sign(sign::LEFT_PAREN)) {
+        open_parenthesis(cursor)?;
+        cursor.take(Sort::Sign(sign::RIGHT_PAREN))?;
+        Ok(Term::Input(id))
+    } else {
+        Ok(Term::Variable(id))
+    }
+}
+
+/// The terms of a sum.
+#[tactic(auto, using(par_straight::proofs::Run::term_rules))]
+fn terms(alloc: Global, cursor: &mut Cursor<'_>) -> Result<List<Term>, ParseError>
+    ensures read { Reads (symbol.name g.Sum ∷ []) [] sum (input cursor.old) result (input cursor.new) }
+    ensures shorter { OnOk result (length cursor.new.left.now < length cursor.old.left.now) }
+{
+    let mut found = List::new(alloc);
+    let first = term(alloc, cursor)?;
+    found.push(first)?;
+    more_terms(alloc, cursor, found)
+}
+
+#[tactic(auto, using(par_straight::proofs::Run::term_rules))]
+fn more_terms(
+    alloc: Global,
+    cursor: &mut Cursor<'_>,
+    mut found: List<Term>,
+) -> Result<List<Term>, ParseError>
+    ensures read { Reads (symbol.name g.MoreTerms ∷ []) (sum found) sum (input cursor.old) result (input cursor.new) }
+    ensures shorter { OnOk result (length cursor.new.left.now ≤ length cursor.old.left.now) }
+{
+    'more: while cursor.sees(Sort::Sign(sign::PLUS)) {
+        cursor.count()?;
+        cursor.take(Sort::Sign(sign::PLUS))?;
+        let next = term(alloc, cursor)?;
+        found.push(next)?;
+    }
+    Ok(found)
+}
+
+/// The parenthesis of a call, which counts in its expression.
+fn open_parenthesis(cursor: &mut Cursor<'_>) -> Result<(), ParseError>
+    ensures read { Reads (symbol.counts ∷ symbol.token (sort.Sign signs.LEFT_PAREN) ∷ []) [] nothing (input cursor.old) result (input cursor.new) }
+    ensures shorter { OnOk result (length cursor.new.left.now < length cursor.old.left.now) }
+{
+    cursor.count()?;
+    cursor.take(Sort::Sign(sign::LEFT_PAREN))
+}
+
+/// The argument of a call.
+fn argument(alloc: Global, cursor: &mut Cursor<'_>) -> Result<List<Term>, ParseError>
+    ensures read { Reads (symbol.counts ∷ symbol.token (sort.Sign signs.LEFT_PAREN) ∷ symbol.name g.Sum ∷ symbol.token (sort.Sign signs.RIGHT_PAREN) ∷ []) [] sum (input cursor.old) result (input cursor.new) }
+    ensures shorter { OnOk result (length cursor.new.left.now < length cursor.old.left.now) }
+{
+    open_parenthesis(cursor)?;
+    let sum = terms(alloc, cursor)?;
+    cursor.take(Sort::Sign(sign::RIGHT_PAREN))?;
+    Ok(sum)
+}
+
+/// A statement that begins with a name: an assignment or a call.
+#[tactic(auto, using(par_straight::proofs::Run::statement_rules))]
+fn effect(
+    alloc: Global,
+    cursor: &mut Cursor<'_>,
+    mut found: List<Statement>,
+    id: Ident,
+) -> Result<List<Statement>, ParseError>
+    ensures read { Reads (symbol.name g.Effect ∷ []) (value.id id ∷ value.statements found ∷ []) statements (input cursor.old) result (input cursor.new) }
+    ensures shorter { OnOk result (length cursor.new.left.now < length cursor.old.left.now) }
+{
+    if cursor.sees(Sort::Sign(sign::ASSIGN)) {
+        cursor.take(Sort::Sign(sign::ASSIGN))?;
+        let sum = terms(alloc, cursor)?;
+        found.push(Statement::Assign(id, sum))?;
+        Ok(found)
+    } else if cursor.sees(Sort::Sign(sign::LEFT_PAREN)) {
+        let sum = argument(alloc, cursor)?;
+        found.push(Statement::Call(id, sum))?;
+        Ok(found)
+    } else {
+        Err(ParseError::Syntax(cursor.at))
+    }
+}
+
+/// The declaration of a local, behind the word `int`.
+#[tactic(auto, using(par_straight::proofs::Run::statement_rules))]
+fn local(
+    alloc: Global,
+    cursor: &mut Cursor<'_>,
+    mut found: List<Statement>,
+) -> Result<List<Statement>, ParseError>
+    ensures read { Reads (symbol.kept sort.Name ∷ symbol.token (sort.Sign signs.ASSIGN) ∷ symbol.name g.Sum ∷ symbol.token (sort.Sign signs.SEMICOLON) ∷ symbol.builds g.NextLocal ∷ []) (value.statements found ∷ []) statements (input cursor.old) result (input cursor.new) }
+    ensures shorter { OnOk result (length cursor.new.left.now < length cursor.old.left.now) }
+{
+    let id = cursor.name(alloc)?;
+    cursor.take(Sort::Sign(sign::ASSIGN))?;
+    let sum = terms(alloc, cursor)?;
+    cursor.take(Sort::Sign(sign::SEMICOLON))?;
+    found.push(Statement::Local(id, sum))?;
+    Ok(found)
+}
+
+/// The name of a lock that is opened, behind the word `open`.
+#[tactic(auto, using(par_straight::proofs::Run::statement_rules))]
+fn opened(
+    alloc: Global,
+    cursor: &mut Cursor<'_>,
+    mut found: List<Statement>,
+) -> Result<List<Statement>, ParseError>
+    ensures read { Reads (symbol.kept sort.Name ∷ symbol.token (sort.Sign signs.SEMICOLON) ∷ symbol.builds g.NextOpen ∷ []) (value.statements found ∷ []) statements (input cursor.old) result (input cursor.new) }
+    ensures shorter { OnOk result (length cursor.new.left.now < length cursor.old.left.now) }
+{
+    let id = ended_name(alloc, cursor)?;
+    found.push(Statement::Open(id))?;
+    Ok(found)
+}
+
+/// An assignment or a call, with its semicolon.
+fn ended_effect(
+    alloc: Global,
+    cursor: &mut Cursor<'_>,
+    found: List<Statement>,
+) -> Result<List<Statement>, ParseError>
+    ensures read { Reads (symbol.kept sort.Name ∷ symbol.name g.Effect ∷ symbol.token (sort.Sign signs.SEMICOLON) ∷ []) (value.statements found ∷ []) statements (input cursor.old) result (input cursor.new) }
+    ensures shorter { OnOk result (length cursor.new.left.now < length cursor.old.left.now) }
+{
+    let id = cursor.name(alloc)?;
+    let found = effect(alloc, cursor, found, id)?;
+    cursor.take(Sort::Sign(sign::SEMICOLON))?;
+    Ok(found)
+}
+
+/// The statements of the method.
+#[tactic(auto, using(par_straight::proofs::Run::statement_rules))]
+fn all_statements(alloc: Global, cursor: &mut Cursor<'_>) -> Result<List<Statement>, ParseError>
+    ensures read { Reads (symbol.name g.Statements ∷ []) [] statements (input cursor.old) result (input cursor.new) }
+    ensures shorter { OnOk result (length cursor.new.left.now ≤ length cursor.old.left.now) }
+{
+    let mut found = List::new(alloc);
+    'more: loop {
+        if cursor.sees(Sort::Word(word::INT)) {
+            cursor.restart();
+            cursor.take(Sort::Word(word::INT))?;
+            found = local(alloc, cursor, found)?;
+        } else if cursor.sees(Sort::Word(word::OPEN)) {
+            cursor.restart();
+            cursor.take(Sort::Word(word::OPEN))?;
+            found = opened(alloc, cursor, found)?;
+        } else if cursor.sees(Sort::Name) {
+            cursor.restart();
+            found = ended_effect(alloc, cursor, found)?;
+        } else {
+            return Ok(found);
+        }
+    }
+}
+
+fn actors(alloc: Global, cursor: &mut Cursor<'_>) -> Result<List<Ident>, ParseError>
+    ensures { Reads (symbol.token (sort.Word words.ACTOR) ∷ symbol.name g.Idents ∷ symbol.token (sort.Sign signs.SEMICOLON) ∷ []) [] idents (input cursor.old) result (input cursor.new) }
+{
+    cursor.take(Sort::Word(word::ACTOR))?;
+    let found = idents(alloc, cursor)?;
+    cursor.take(Sort::Sign(sign::SEMICOLON))?;
+    Ok(found)
+}
+
+fn class_name(alloc: Global, cursor: &mut Cursor<'_>) -> Result<Ident, ParseError>
+    ensures { Reads (symbol.token (sort.Word words.CLASS) ∷ symbol.kept sort.Name ∷ symbol.token (sort.Sign signs.LEFT_BRACE) ∷ []) [] an_ident (input cursor.old) result (input cursor.new) }
+{
+    cursor.take(Sort::Word(word::CLASS))?;
+    let id = cursor.name(alloc)?;
+    cursor.take(Sort::Sign(sign::LEFT_BRACE))?;
+    Ok(id)
+}
+
+fn method_name(alloc: Global, cursor: &mut Cursor<'_>) -> Result<Ident, ParseError>
+    ensures { Reads (symbol.token (sort.Word words.STATIC) ∷ symbol.token (sort.Word words.VOID) ∷ symbol.kept sort.Name ∷ symbol.token (sort.Sign signs.LEFT_PAREN) ∷ symbol.token (sort.Sign signs.RIGHT_PAREN) ∷ []) [] an_ident (input cursor.old) result (input cursor.new) }
+{
+    cursor.take(Sort::Word(word::STATIC))?;
+    cursor.take(Sort::Word(word::VOID))?;
+    let id = cursor.name(alloc)?;
+    cursor.take(Sort::Sign(sign::LEFT_PAREN))?;
+    cursor.take(Sort::Sign(sign::RIGHT_PAREN))?;
+    Ok(id)
+}
+
+#[tactic(auto, using(par_straight::proofs::Run::run_leaves))]
+fn block(alloc: Global, cursor: &mut Cursor<'_>) -> Result<List<Statement>, ParseError>
+    ensures { Reads (symbol.enters ∷ symbol.token (sort.Sign signs.LEFT_BRACE) ∷ symbol.name g.Statements ∷ symbol.token (sort.Sign signs.RIGHT_BRACE) ∷ symbol.leaves ∷ []) [] statements (input cursor.old) result (input cursor.new) }
+{
+    cursor.enter()?;
+    cursor.take(Sort::Sign(sign::LEFT_BRACE))?;
+    let found = all_statements(alloc, cursor)?;
+    cursor.take(Sort::Sign(sign::RIGHT_BRACE))?;
+    cursor.leave();
+    Ok(found)
+}
+
+/// The effect of the method: none that is seen below `bottom`.
+fn bottom_effect(cursor: &mut Cursor<'_>) -> Result<(), ParseError>
+    ensures { Reads (symbol.token (sort.Sign signs.BANG) ∷ symbol.token (sort.Word words.BOTTOM) ∷ []) [] nothing (input cursor.old) result (input cursor.new) }
+{
+    cursor.take(Sort::Sign(sign::BANG))?;
+    cursor.take(Sort::Word(word::BOTTOM))
+}
+
+fn end(cursor: &mut Cursor<'_>) -> Result<(), ParseError>
+    ensures { Reads (symbol.token (sort.Sign signs.RIGHT_BRACE) ∷ symbol.finish ∷ []) [] nothing (input cursor.old) result (input cursor.new) }
+{
+    cursor.take(Sort::Sign(sign::RIGHT_BRACE))?;
+    cursor.finish()
+}
+
+/// The method, and the end of the class and of the source.
+fn method(alloc: Global, cursor: &mut Cursor<'_>) -> Result<(Ident, List<Statement>), ParseError>
+    ensures { Reads method_symbols [] a_method (input cursor.old) result (input cursor.new) }
+{
+    let id = method_name(alloc, cursor)?;
+    bottom_effect(cursor)?;
+    let statements = block(alloc, cursor)?;
+    end(cursor)?;
+    Ok((id, statements))
+}
+
+#[tactic(auto, using(par_straight::proofs::Run::source_rules))]
+fn whole(alloc: Global, cursor: &mut Cursor<'_>) -> Result<Source, ParseError>
+    ensures { Reads (symbol.name g.Source ∷ []) [] source (input cursor.old) result (input cursor.new) }
+{
+    let actors = actors(alloc, cursor)?;
+    let locks = locks(alloc, cursor)?;
+    let class = class_name(alloc, cursor)?;
+    let members = all_members(alloc, cursor)?;
+    let read = method(alloc, cursor)?;
+    let (method, statements) = read;
+    Ok(Source {
+        actors,
+        locks,
+        class,
+        members,
+        method,
+        statements,
+    })
+}
+
+/// Reads all tokens of a straight-line source.
+pub fn parse(alloc: Global, tokens: &[Token]) -> Result<Source, ParseError>
+    requires { length tokens.now ≤ 262144 }
+    ensures ok { IfOk result (HasTree tokens.now) }
+    ensures none { IfErr result (λ e. e ≢ ParseError.Memory → (tree : Tree) → HasTree tokens.now tree → ⊥) }
+{
+    let mut cursor = Cursor {
+        left: tokens,
+        at: 0,
+        blocks: 0,
+        counted: 0,
+    };
+    whole(alloc, &mut cursor)
+}
