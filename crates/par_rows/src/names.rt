@@ -1,7 +1,7 @@
-use par_straight_reader::reader::parse;
-use par_straight_names::resolve::{ResolveError, resolve};
 use par_lexer::lex;
 use par_straight::program::{Action, Operand};
+use par_straight_names::resolve::{ResolveError, resolve};
+use par_straight_reader::reader::parse;
 use std::test::Fail;
 
 const SHOP: &[u8] = b"actor alice, bob;

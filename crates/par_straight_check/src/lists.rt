@@ -5,9 +5,9 @@ ghost use Rattle.par_policy.specs.Sees.{IsSeenAlike};
 ghost use Rattle.par_straight.specs.Rules.{bottom, field_policy_of, channel_policy_of};
 ghost use Rattle.par_straight_check.specs.Ends.{EndsEmpty, policy_at};
 
-use par_straight_names::policies::policy_of;
 use par_policy::{Clause, Lockset, NoMemory, Policy};
 use par_straight::program::{Channel, Field};
+use par_straight_names::policies::policy_of;
 use std::alloc::Global;
 
 // The policy that each actor may see, whatever locks are open.

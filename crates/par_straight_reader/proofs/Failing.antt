@@ -1,5 +1,5 @@
 -- A reader that hands on the error of a part.
-use Rattle.std.proofs.Common.{◌≡◌, ◌≢◌, List, ◌++◌, Result, Ok, Err, subst, sym}
+use Rattle.std.proofs.Common.{◌≡◌, ◌≢◌, ◌++◌, Result, Ok, Err, subst, sym}
 use Rattle.std.specs.Result.{IsErrAnd}
 use Rattle.par_grammar.specs.Derivation.{Input}
 use Rattle.par_straight.specs.Grammar.{Symbols}
@@ -7,7 +7,7 @@ use Rattle.par_straight.specs.Values.{Values}
 use Rattle.par_straight.proofs.Run.{run}
 use Rattle.par_straight_reader.specs.declared.cursor.ParseError.{ParseError}
 use Rattle.par_straight_reader.specs.declared.cursor.ParseError.TheVariants.{Memory}
-use Rattle.par_straight_reader.specs.Reads.{Reads, Passes, Fails, fault_of}
+use Rattle.par_straight_reader.specs.Reads.{Reads, fault_of}
 
 -- the error is that of the whole, where the derivation comes to its fault
 pub failing : {A : Type 0} (xs : Symbols) (old : Values) (show : A → Values) (i j : Input) (r : Result A ParseError) (e : ParseError) → IsErrAnd r (λ y. y ≡ e)

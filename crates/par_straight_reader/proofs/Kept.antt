@@ -1,5 +1,5 @@
 -- What a name or a number that has to come changes of a derivation.
-use Rattle.std.proofs.Common.{◌≡◌, ℕ, true, false, List, [], ◌∷◌, Err, refl, ap, ◌∙◌}
+use Rattle.std.proofs.Common.{◌≡◌, ℕ, false, List, [], ◌∷◌, Err, refl, ap, ◌∙◌}
 use Rattle.par_lexer.specs.declared.token.Kind.{Kind}
 use Rattle.par_lexer.specs.declared.token.Kind.TheVariants as kind
 use Rattle.par_lexer.specs.declared.token.Token.{Token}

@@ -1,11 +1,10 @@
 -- The status of a source that is there is the one that its judgement asks for.
-use Rattle.std.proofs.Common.{◌≡◌, ℕ, ◌<◌, ◌≤◌, ◌⊎◌, inl, inr, List, [], ◌∷◌, length, Option, Some, None, refl, ap, subst, sym, ◌∙◌, arith}
+use Rattle.std.proofs.Common.{◌≡◌, ℕ, ◌<◌, ◌≤◌, inl, inr, List, [], ◌∷◌, length, Option, Some, None, refl, ap, subst, sym, ◌∙◌, arith}
 use Rattle.std.specs.declared.string.String.{String}
 use Rattle.std.specs.declared.alloc.Global.{Global}
 use Rattle.par_io.specs.Causes.{Files, Told, Counts}
-use Rattle.par_straight.specs.declared.program.Program.{Program}
-use Rattle.par_straight.specs.Rules.{IsAccepted, IsRefused}
-use Rattle.par_straight.specs.Judged.{HasProgram, IsStraightLine}
+use Rattle.par_straight.specs.Rules.{IsRefused}
+use Rattle.par_straight.specs.Judged.{IsStraightLine}
 use Rattle.par_straight.proofs.One.{one_program, accepted_or_refused}
 use Rattle.par_tool.specs.declared.answer.Answer.{Answer}
 use Rattle.par_tool.specs.declared.answer.Answer.TheVariants as answer
@@ -99,5 +98,5 @@ module _ (which : Which) (words : List (String Global)) (files : Option Files) (
   judges result old new f g ends = record {
     accepted = λ h. status_of 0 result old new f g (λ a v. accepted_is_0 source a v h) ends;
     refused = λ rule line column h. status_of 1 result old new f g (λ a v. broken_is_1 source a v rule line column h) ends;
-    not_built = λ h. status_of 9 result old new f g (λ a v. other_is_9 source a v h) ends
+    not_built = λ h. status_of 9 result old new f g (λ a v. other_is_9 source a v h) ends;
   }

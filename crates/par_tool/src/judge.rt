@@ -8,15 +8,15 @@ ghost use Rattle.par_straight.specs.Names.{numbered};
 ghost use Rattle.par_straight.specs.Judged.{HasProgram, IsStraight, IsStraightLine};
 ghost use Rattle.par_tool.specs.Judgements.{IsJudgement, Tokens};
 
-use par_straight_check::check::check;
-use par_straight_reader::cursor::ParseError;
-use par_straight_reader::reader::parse;
-use par_straight_names::resolve::{ResolveError, resolve};
 use par_lexer::lex;
 use par_lexer::list::{List, NoMemory};
 use par_lexer::token::{LexError, Token};
 use par_straight::program::Program;
 use par_straight::tree::Source;
+use par_straight_check::check::check;
+use par_straight_names::resolve::{ResolveError, resolve};
+use par_straight_reader::cursor::ParseError;
+use par_straight_reader::reader::parse;
 use std::alloc::Global;
 
 /// What is said of a source.

@@ -24,11 +24,9 @@ pub fn tool<F: Folder, S: Sink>(
     folder: &mut F,
     out: &mut S,
 ) -> u8
-    ensures ends {
-        let before = counts (F.faults folder.old) (F.absents folder.old) (F.longs folder.old) in
+    ensures ends { let before = counts (F.faults folder.old) (F.absents folder.old) (F.longs folder.old) in
         let after = counts (F.faults folder.new) (F.absents folder.new) (F.longs folder.new) in
-        Ends (Cause which words.now (F.files folder.old) before after) result (S.held out.old) (S.held out.new) (S.faults out.old) (S.faults out.new)
-    }
+        Ends (Cause which words.now (F.files folder.old) before after) result (S.held out.old) (S.held out.new) (S.faults out.old) (S.faults out.new) }
     ensures kept { F.files folder.new ≡ F.files folder.old }
     ensures judges { (file source : List ℕ) → Asks which words.now file → IsThere (F.files folder.old) file source → Judges source result }
 {
@@ -45,11 +43,9 @@ fn answer<F: Folder>(
     words: &[String],
     folder: &mut F,
 ) -> Result<Answer, NoMemory>
-    ensures cause {
-        let before = counts (F.faults folder.old) (F.absents folder.old) (F.longs folder.old) in
+    ensures cause { let before = counts (F.faults folder.old) (F.absents folder.old) (F.longs folder.old) in
         let after = counts (F.faults folder.new) (F.absents folder.new) (F.longs folder.new) in
-        IfOk result (Cause which words.now (F.files folder.old) before after)
-    }
+        IfOk result (Cause which words.now (F.files folder.old) before after) }
     ensures kept { F.files folder.new ≡ F.files folder.old }
 {
     let Some(file) = checked_file(which, words) else {

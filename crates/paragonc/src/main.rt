@@ -5,9 +5,8 @@
 use par_io::{HostFolder, HostSink};
 use par_tool::tool::tool;
 use par_tool::words::Which;
-use std::env;
-use std::io;
 use std::process::ExitCode;
+use std::{env, io};
 
 /// The status where memory is wanting for the words.
 const NO_MEMORY: u8 = 7;

@@ -1,4 +1,4 @@
-use Rattle.std.proofs.Common.{◌≡◌, ◌∷◌, [], sym, ◌∙◌}
+use Rattle.std.proofs.Common.{◌∷◌, sym, ◌∙◌}
 use Rattle.par_straight.specs.Values as value
 use Rattle.par_straight.proofs.Run.{kind_else}
 use Rattle.par_straight_reader.specs.Reads.{input}

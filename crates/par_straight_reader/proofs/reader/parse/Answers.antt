@@ -1,11 +1,10 @@
-use Rattle.std.proofs.Common.{◌≡◌, ◌≢◌, List, ◌∷◌, [], Result, Ok, Err, ◌∙◌, sym}
+use Rattle.std.proofs.Common.{◌≢◌, List, ◌∷◌, [], Result, Ok, Err, ◌∙◌}
 use Rattle.std.specs.Result.{IfOk, IfErr}
 use Rattle.par_lexer.specs.declared.token.Token.{Token}
 use Rattle.par_grammar.specs.Grammar.{name}
 use Rattle.par_grammar.specs.Derivation.{Input, whole}
 use Rattle.par_straight.specs.declared.tree.Source.{Source}
 use Rattle.par_straight.specs.Grammar as g
-use Rattle.par_straight.specs.Values as value
 use Rattle.par_straight.specs.Sentence.{HasTree}
 use Rattle.par_straight.proofs.Run.{comes_run, run_comes, run_done}
 use Rattle.par_straight_reader.specs.declared.cursor.ParseError.{ParseError}

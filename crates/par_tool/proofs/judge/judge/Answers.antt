@@ -1,4 +1,4 @@
-use Rattle.std.proofs.Common.{◌≡◌, Ok, ap}
+use Rattle.std.proofs.Common.{Ok, ap}
 use Rattle.par_straight.specs.Judged.{HasProgram}
 use Rattle.par_straight.specs.Rules.{IsAccepted}
 use Rattle.par_straight.proofs.TwoRuns.{accepted_is_secure}

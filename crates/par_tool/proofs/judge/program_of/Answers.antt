@@ -1,4 +1,4 @@
-use Rattle.std.proofs.Common.{◌≡◌, subst, sym}
+use Rattle.std.proofs.Common.{subst, sym}
 use Rattle.par_lexer.specs.Tokens.{HasTokens}
 use Rattle.par_tool.proofs.Judging.{without_tree, programs_of_result}
 use Rattle.par_tool.proofs.judge.program_of.Goals as goal

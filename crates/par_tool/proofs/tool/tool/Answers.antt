@@ -1,4 +1,4 @@
-use Rattle.par_tool.specs.Answers.{answers, lacks_memory}
+use Rattle.par_tool.specs.Answers.{answers}
 use Rattle.par_tool.proofs.Exact.{judges}
 use Rattle.par_tool.proofs.tool.tool.Goals as goal
 

@@ -1,9 +1,6 @@
-use Rattle.std.proofs.Common.{◌≡◌, true, false, [], ◌∷◌, arith, rules, ap, ◌∙◌, sym, length, ◌<◌, ℕ}
+use Rattle.std.proofs.Common.{arith, length, ◌<◌}
 use Rattle.std.proofs.lemmas.Bool.Decides.{nat_tests}
 use Rattle.std.proofs.lemmas.Grind.{common_steps}
-use Rattle.par_grammar.specs.Sorts.{same}
-use Rattle.par_grammar.specs.Derivation.{next}
-use Rattle.par_grammar.specs.declared.sort.Sort.TheVariants as sort
 use Rattle.par_straight.proofs.Run.{run_enters, run_enters_at_end, run_enters_too_deep}
 use Rattle.par_straight_reader.specs.Reads.{input}
 use Rattle.par_straight_reader.proofs.cursor.Cursor.enter.Goals as goal

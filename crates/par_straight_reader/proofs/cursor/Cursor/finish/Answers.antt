@@ -1,9 +1,4 @@
-use Rattle.std.proofs.Common.{◌≡◌, true, false, [], ◌∷◌, arith, rules, ap, ◌∙◌, sym, length, ◌<◌, ℕ}
-use Rattle.std.proofs.lemmas.Bool.Decides.{nat_tests}
-use Rattle.std.proofs.lemmas.Grind.{common_steps}
-use Rattle.par_grammar.specs.Sorts.{same}
-use Rattle.par_grammar.specs.Derivation.{next}
-use Rattle.par_grammar.specs.declared.sort.Sort.TheVariants as sort
+use Rattle.std.proofs.Common.{◌∙◌, sym}
 use Rattle.par_straight.proofs.Run.{run_finish, run_finish_differs}
 use Rattle.par_straight_reader.specs.Reads.{input}
 use Rattle.par_straight_reader.proofs.cursor.Cursor.finish.Goals as goal

@@ -1,10 +1,6 @@
-use Rattle.std.proofs.Common.{◌≡◌, true, false, [], ◌∷◌, arith, rules, ap, ◌∙◌, sym, length, ◌<◌, ℕ}
-use Rattle.std.proofs.lemmas.Bool.Decides.{nat_tests}
+use Rattle.std.proofs.Common.{◌≡◌, [], arith, ap, ◌∙◌, sym}
 use Rattle.std.proofs.lemmas.Grind.{common_steps}
 use Rattle.par_lexer.specs.declared.token.Kind.TheVariants as kind
-use Rattle.par_grammar.specs.Sorts.{same}
-use Rattle.par_grammar.specs.Derivation.{next}
-use Rattle.par_grammar.specs.declared.sort.Sort.TheVariants as sort
 use Rattle.par_straight_reader.proofs.Kept.{name_at_end, name_missing, name_taken}
 use Rattle.par_straight_reader.specs.Reads.{input}
 use Rattle.par_straight_reader.proofs.cursor.Cursor.name.Goals as goal

@@ -1,9 +1,5 @@
-use Rattle.std.proofs.Common.{◌≡◌, true, false, [], ◌∷◌, arith, rules, ap, ◌∙◌, sym, length, ◌<◌, ℕ}
-use Rattle.std.proofs.lemmas.Bool.Decides.{nat_tests}
+use Rattle.std.proofs.Common.{◌≡◌, [], arith}
 use Rattle.std.proofs.lemmas.Grind.{common_steps}
-use Rattle.par_grammar.specs.Sorts.{same}
-use Rattle.par_grammar.specs.Derivation.{next}
-use Rattle.par_grammar.specs.declared.sort.Sort.TheVariants as sort
 use Rattle.par_straight_reader.proofs.Kept.{number_at_end, number_missing, number_taken}
 use Rattle.par_straight_reader.specs.Reads.{input}
 use Rattle.par_straight_reader.proofs.cursor.Cursor.number.Goals as goal
