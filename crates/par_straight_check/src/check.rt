@@ -3,9 +3,6 @@
 ghost use Rattle.std.specs.Prelude.{◌≡◌, IfOk, IfSome, Ok, None};
 ghost use Rattle.par_straight.specs.Rules.{IsAccepted, IsRefused, rule};
 
-#[cfg(test)]
-mod tests;
-
 use crate::known::Known;
 use crate::table::Table;
 use par_policy::{Lockset, NoMemory};
