@@ -1,0 +1,5 @@
+pub mod Lines
+pub mod Numbers
+pub mod Entries
+pub mod Rules
+pub mod Seen
