@@ -1,1 +1,5 @@
 pub mod Values
+pub mod Sets
+pub mod Words
+pub mod FileLines
+pub mod Spelling

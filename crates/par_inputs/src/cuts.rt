@@ -1,6 +1,6 @@
 // Where bytes are cut.
 
-ghost use Rattle.std.specs.Prelude.{◌≡◌, ◌+◌, ◌<◌, ◌≤◌, ◌==◌, Some, None, MatchOption, IfSome, length};
+ghost use Rattle.std.specs.Prelude.{◌≡◌, ◌+◌, ◌<◌, ◌≤◌, ◌==◌, Some, None, MatchOption, IfSome, length, drop};
 ghost use Rattle.std.specs.List.{position, position_or_len, before_first, after_first};
 ghost use Rattle.par_inputs.specs.Entries.{cut_at};
 
@@ -31,6 +31,15 @@ pub fn length_before(text: &[u8], byte: u8) -> usize
     ensures within { result ≤ length text.now }
 {
     text.iter().take_while(|other| **other != byte).count()
+}
+
+// What stands before the first space, and what is left from that space on.
+pub fn first_word(text: &[u8]) -> (&[u8], &[u8])
+    ensures word { result.0.now ≡ before_first (λ byte. byte == 32) text.now }
+    ensures left { result.1.now ≡ drop (position_or_len (λ byte. byte == 32) text.now) text.now }
+    ensures shorter { length result.1.now ≤ length text.now }
+{
+    text.split_at(length_before(text, b' '))
 }
 
 // The first line, without its end, and what stands behind that end.

@@ -3,7 +3,7 @@ ghost use Rattle.std.specs.List.{before_first};
 ghost use Rattle.par_inputs.specs.Entries.{is_name, line_of};
 ghost use Rattle.par_inputs.specs.Numbers.{numbers_of};
 
-use crate::cuts::{cut_at, length_before};
+use crate::cuts::{cut_at, first_word};
 use crate::number::number_of;
 use par_lexer::list::{List, NoMemory};
 use par_lexer::name::Name;
@@ -23,11 +23,11 @@ fn numbers_of(alloc: Global, text: &[u8]) -> Result<Option<List<i32>>, NoMemory>
 {
     let mut numbers = List::new(alloc);
     let mut rest = text;
-    while let [first, behind @ ..] = rest {
+    'words: while let Some((first, behind)) = rest.split_first() {
         if *first != b' ' {
             return Ok(None);
         }
-        let (word, more) = behind.split_at(length_before(behind, b' '));
+        let (word, more) = first_word(behind);
         let Some(number) = number_of(word) else {
             return Ok(None);
         };
