@@ -3,3 +3,5 @@ pub mod Sets
 pub mod Words
 pub mod FileLines
 pub mod Spelling
+pub mod Fitting
+pub mod Laws

@@ -11,19 +11,20 @@ use Rattle.par_lexer.specs.Names.{IsName, is_letter, is_digit, goes_on, is_spell
 use Rattle.par_values.specs.declared.inputs.ChannelInput.{ChannelInput}
 use Rattle.par_inputs.specs.Lines.{Text}
 use Rattle.par_inputs.specs.Numbers.{numbers_of}
-use Rattle.par_inputs.specs.Entries.{cut_at, is_name, entry_of, line_of}
+use Rattle.par_inputs.specs.Entries.{halves_at, cut_at, is_name, entry_of, line_of}
 
 -- a text is cut into these two at the first of a byte
 pub record IsCut (byte : ℕ) (text before behind : Text) : Type 0 where
   pub spelled : text ≡ before ++ byte ∷ behind
   pub first : before ≡ before_first (λ other. other == byte) text
 
-cut_by : (byte : ℕ) (text before behind : Text) (inside : Bool) → let at = position_or_len (λ other. other == byte) text in nat_lt at (length text) ≡ inside → option_map (λ n. (take n text, drop (n + 1) text)) (cond inside (Some at) None) ≡ Some (before, behind) → IsCut byte text before behind
+cut_by : (byte : ℕ) (text before behind : Text) (inside : Bool) → let at = position_or_len (λ other. other == byte) text in nat_lt at (length text) ≡ inside → option_map (halves_at text) (cond inside (Some at) None) ≡ Some (before, behind) → IsCut byte text before behind
 cut_by byte text before behind true inside is =
     let at : ℕ = position_or_len (λ other. other == byte) text in
     let found : at < length text = grind (arith, nat_tests) in
-    let front : take at text ≡ before = cc in
-    let back : drop (at + 1) text ≡ behind = cc in
+    let halves : halves_at text at ≡ (before, behind) = same_Some _ _ is in
+    let front : take at text ≡ before = ap (λ (both : Text × Text). both.0) halves in
+    let back : drop (at + 1) text ≡ behind = ap (λ (both : Text × Text). both.1) halves in
     let cut : get_or text at 0 ≡ byte = grind (arith, nat_tests, passes_at_first (λ other. other == byte) text 0 found) in
     let parts : text ≡ take at text ++ (get_or text at 0 ∷ drop (at + 1) text) = split_at_first (λ other. other == byte) text 0 found in
     record { spelled = parts ∙ ap (λ t. t ++ (get_or text at 0 ∷ drop (at + 1) text)) front ∙ ap (λ b. before ++ (b ∷ drop (at + 1) text)) cut ∙ ap (λ t. before ++ (byte ∷ t)) back; first = sym front }
@@ -33,9 +34,9 @@ pub cut_at-Some : (byte : ℕ) (text before behind : Text) → cut_at byte text 
 cut_at-Some byte text before behind is = cut_by byte text before behind (nat_lt (position_or_len (λ other. other == byte) text) (length text)) refl is
 
 -- an entry is made of these two names and these numbers
-pub record IsMade (names : Option (Text × Text)) (numbers : Option (List ℤ)) (entry : ChannelInput) : Type 0 where
-  pub names : names ≡ Some (entry.class, entry.channel)
-  pub numbers : numbers ≡ Some entry.numbers
+pub record IsMade (cut : Option (Text × Text)) (read : Option (List ℤ)) (entry : ChannelInput) : Type 0 where
+  pub names : cut ≡ Some (entry.class, entry.channel)
+  pub numbers : read ≡ Some entry.numbers
   pub class : is_name entry.class ≡ true
   pub channel : is_name entry.channel ≡ true
 
@@ -96,7 +97,7 @@ dot_by : (byte : ℕ) (dot : Bool) → (byte == 46) ≡ dot → goes_on byte ≡
 dot_by byte true is goes =
     let same : byte ≡ 46 = grind (arith, nat_tests) in
     let dot_goes : goes_on 46 ≡ true = ap goes_on (sym same) ∙ goes in
-    dot_goes
+    sym dot_goes
 dot_by byte false is goes = refl
 
 -- a byte of a name is no dot
@@ -118,3 +119,8 @@ bytes_eq-names (first ∷ class) [] channel others goes go =
 bytes_eq-names (first ∷ class) (second ∷ other) channel others goes go =
     ap (λ same. (first == second) && same) (bytes_eq-names class other channel others (and_parts _ _ goes).1 (and_parts _ _ go).1)
     ∙ grouped (first == second) (bytes_eq class other) (bytes_eq channel others)
+
+-- the empty line gives no entry
+pub line_of-nil : line_of [] ≡ None
+unfolding line_of
+line_of-nil = refl

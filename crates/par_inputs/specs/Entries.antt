@@ -7,9 +7,13 @@ use Rattle.par_values.specs.declared.inputs.ChannelInput.{ChannelInput}
 use Rattle.par_inputs.specs.Lines.{Text}
 use Rattle.par_inputs.specs.Numbers.{numbers_of}
 
+-- what stands before a place, and what stands behind the byte there
+abbrev pub halves_at : Text → ℕ → Text × Text
+halves_at text at = (take at text, drop (at + 1) text)
+
 -- what stands before the first of a byte, and what stands behind it
 abbrev pub cut_at : ℕ → Text → Option (Text × Text)
-cut_at byte text = option_map (λ at. (take at text, drop (at + 1) text)) (position (λ other. other == byte) text)
+cut_at byte text = option_map (halves_at text) (position (λ other. other == byte) text)
 
 -- whether the text is a name
 abbrev pub is_name : Text → Bool

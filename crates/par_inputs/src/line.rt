@@ -1,4 +1,4 @@
-ghost use Rattle.std.specs.Prelude.{◌≡◌, IfOk, IsTrue};
+ghost use Rattle.std.specs.Prelude.{◌≡◌, ◌&&◌, IfOk, IsTrue};
 ghost use Rattle.std.specs.List.{before_first};
 ghost use Rattle.par_inputs.specs.Entries.{is_name, line_of};
 ghost use Rattle.par_inputs.specs.Numbers.{numbers_of};
@@ -15,6 +15,13 @@ fn is_name(text: &[u8]) -> bool
     ensures { result ≡ is_name text.now }
 {
     Name::is_name(text)
+}
+
+// Whether both texts are names.
+fn are_names(class: &[u8], channel: &[u8]) -> bool
+    ensures { result ≡ (is_name class.now && is_name channel.now) }
+{
+    is_name(class) && is_name(channel)
 }
 
 // The numbers behind a colon, or none where something else stands there.
@@ -37,6 +44,7 @@ fn numbers_of(alloc: Global, text: &[u8]) -> Result<Option<List<i32>>, NoMemory>
     Ok(Some(numbers))
 }
 
+#[tactic(auto, unfolding(crate::specs::Entries::line_of))]
 // The channel that a line names and its numbers, or none where it is not so built.
 pub fn line_of(alloc: Global, line: &[u8]) -> Result<Option<ChannelInput>, NoMemory>
     ensures { IfOk result (λ entry. entry ≡ line_of line.now) }
@@ -47,7 +55,7 @@ pub fn line_of(alloc: Global, line: &[u8]) -> Result<Option<ChannelInput>, NoMem
     let Some((class, channel)) = cut_at(names, b'.') else {
         return Ok(None);
     };
-    if !is_name(class) || !is_name(channel) {
+    if !are_names(class, channel) {
         return Ok(None);
     }
     let Some(numbers) = numbers_of(alloc, text)? else {
