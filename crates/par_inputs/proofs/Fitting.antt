@@ -1,11 +1,10 @@
 -- Numbers that are read have 32 bits.
-use Rattle.std.proofs.Common.{◌≡◌, ℕ, zero, suc, ◌≤◌, ℤ, pos, neg_ℤ, List, [], ◌∷◌, Bool, true, false, ◌&&◌, ◌==◌, cond, nat_le, Option, Some, None, length, FitsSigned, refl, subst, sym, arith, rules}
+use Rattle.std.proofs.Common.{◌≡◌, ℕ, zero, suc, ◌≤◌, ℤ, pos, neg_ℤ, List, [], ◌∷◌, Bool, true, false, ◌&&◌, ◌==◌, cond, nat_le, Option, Some, None, length, FitsSigned, refl, subst, arith, rules}
 use Rattle.std.specs.Int.{w32}
 use Rattle.std.specs.List.{All, slice_split}
-use Rattle.std.specs.Option.{option_map, option_and_then}
+use Rattle.std.specs.Option.{option_map}
 use Rattle.std.proofs.lemmas.Bool.{and_parts}
 use Rattle.std.proofs.lemmas.Bool.Decides.{nat_tests}
-use Rattle.std.proofs.lemmas.Int.{ints}
 use Rattle.std.proofs.lemmas.List.Elements.{All-cons}
 use Rattle.std.proofs.lemmas.Option.{option_and_then_some, none-some, same_Some}
 use Rattle.par_lexer.specs.Pieces.{value}
@@ -15,8 +14,8 @@ use Rattle.par_inputs.specs.Numbers.{is_decimal, magnitude_of, number_of, before
 magnitude_by : (greatest n : ℕ) (text : Text) (right : Bool) → (is_decimal text && nat_le (value text) greatest) ≡ right → cond right (Some (value text)) None ≡ Some n → n ≤ greatest
 magnitude_by greatest n text true right is =
     let same : value text ≡ n = same_Some _ _ is in
-    let small : nat_le (value text) greatest ≡ true = (and_parts _ _ right).1 in
-    grind (arith, nat_tests, small, same)
+    let small : nat_le (value text) greatest ≡ true = (and_parts (is_decimal text) (nat_le (value text) greatest) right).1 in
+    grind (arith, nat_tests)
 magnitude_by greatest n text false right is = absurd (none-some n is)
 
 magnitude_of-le : (greatest n : ℕ) (text : Text) → magnitude_of greatest text ≡ Some n → n ≤ greatest

@@ -1,6 +1,6 @@
 -- What holds of all entries of right lines.
-use Rattle.std.proofs.Common.{◌≡◌, ℕ, zero, suc, ◌+◌, ◌<◌, ◌≤◌, List, [], ◌∷◌, ◌++◌, Bool, true, false, not, ◌&&◌, ◌==◌, Option, Some, None, length, take, get_or, refl, ap, sym, ◌∙◌, subst, arith, append-nil, add-one}
-use Rattle.std.specs.List.{All, AllPairs, cons_option, filter_map, list_any, list_all}
+use Rattle.std.proofs.Common.{◌≡◌, ℕ, zero, suc, ◌<◌, ◌≤◌, List, [], ◌∷◌, ◌++◌, Bool, true, false, not, ◌&&◌, ◌==◌, Option, Some, None, length, take, get_or, refl, ap, sym, ◌∙◌, subst, arith, append-nil}
+use Rattle.std.specs.List.{All, cons_option, list_any}
 use Rattle.std.specs.Option.{option_map_or}
 use Rattle.std.specs.Str.{bytes_eq}
 use Rattle.std.proofs.lemmas.Bool.{false_from_ne_true, true≢false}
@@ -10,11 +10,11 @@ use Rattle.std.proofs.lemmas.List.Elements.{All-cons, filter_map-append}
 use Rattle.std.proofs.lemmas.Option.{none-some}
 use Rattle.std.proofs.lemmas.List.Folds.{list_any_at}
 use Rattle.std.proofs.lemmas.List.Quantifiers.{all_pairs_push}
-use Rattle.std.proofs.Math.Seq.{take-suc}
+use Rattle.std.proofs.Math.Seq.{take-suc, take-length}
 use Rattle.par_values.specs.declared.inputs.ChannelInput.{ChannelInput}
-use Rattle.par_inputs.specs.Lines.{Text}
-use Rattle.par_inputs.specs.Entries.{is_name, line_of}
-use Rattle.par_inputs.specs.Rules.{entries, is_same_channel, is_taken, is_broken, breaks, AreRight, IsEntry, IsOnce}
+use Rattle.par_inputs.specs.Lines.{Text, lines_of}
+use Rattle.par_inputs.specs.Entries.{line_of}
+use Rattle.par_inputs.specs.Rules.{entries, is_same_channel, is_taken, is_broken, AreRight, IsRight, IsEntry, IsOnce}
 use Rattle.par_inputs.proofs.Fitting.{numbers_of-fit}
 use Rattle.par_inputs.proofs.Spelling.{Spells, names_of, line_of-Some, line_of-nil, is_name-IsName, goes_on-name, bytes_eq-names}
 
@@ -73,6 +73,13 @@ IsOnce-entries lines (suc n) inside right =
     let pushed : entries (take (suc n) lines) ≡ entries (take n lines) ++ cons_option (line_of line) [] = ap entries more ∙ entries-push (take n lines) line (line_of line) refl in
     subst IsOnce (sym pushed) (once_by (take n lines) line (line_of line) refl (right.right n (omega arith)) once)
 
+-- no two entries of a right file name one channel
+pub IsOnce-right : (bytes : Text) → IsRight bytes → IsOnce (entries (lines_of bytes))
+IsOnce-right bytes right =
+    let lines : List Text = lines_of bytes in
+    let Once : List Text → Type 0 = λ read. IsOnce (entries read) in
+    subst Once (take-length lines) (IsOnce-entries lines (length lines) (omega arith) right)
+
 -- ---- texts of names
 
 alike_more : (test other : ChannelInput → Bool) (line : Text) (entry : Option ChannelInput) (xs : List ChannelInput) → line_of line ≡ entry → ((l : Text) (e : ChannelInput) → line_of l ≡ Some e → test e ≡ other e) → list_any test xs ≡ list_any other xs → list_any test (cons_option entry xs) ≡ list_any other (cons_option entry xs)
@@ -90,5 +97,5 @@ is_taken-names lines line entry is =
     let named : Spells line entry = line_of-Some line entry is in
     alike (λ earlier. bytes_eq (names_of entry) (names_of earlier)) (λ earlier. is_same_channel earlier entry) lines
     (λ l e gives.
-        let other : Spells l e = line_of-Some l e gives in
-        bytes_eq-names entry.class e.class entry.channel e.channel (goes_on-name entry.class named.class) (goes_on-name e.class other.class))
+    let other : Spells l e = line_of-Some l e gives in
+    bytes_eq-names entry.class e.class entry.channel e.channel (goes_on-name entry.class named.class) (goes_on-name e.class other.class))

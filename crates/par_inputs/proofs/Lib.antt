@@ -5,3 +5,4 @@ pub mod FileLines
 pub mod Spelling
 pub mod Fitting
 pub mod Laws
+pub mod Progress

@@ -1,13 +1,13 @@
 -- What a line that gives an entry looks like.
-use Rattle.std.proofs.Common.{◌≡◌, ℕ, ◌+◌, ◌<◌, ◌≤◌, ℤ, List, [], ◌∷◌, ◌++◌, Bool, true, false, ◌&&◌, ◌||◌, ◌==◌, cond, nat_lt, nat_le, IsTrue, Option, Some, None, length, take, drop, get_or, refl, ap, sym, ◌∙◌, subst, arith}
-use Rattle.std.specs.List.{position_or_len, before_first, after_first, list_all}
-use Rattle.std.specs.Option.{option_map, option_and_then}
+use Rattle.std.proofs.Common.{◌≡◌, ℕ, ◌+◌, ◌<◌, ℤ, List, [], ◌∷◌, ◌++◌, Bool, true, false, ◌&&◌, ◌==◌, cond, nat_lt, nat_le, Option, Some, None, length, take, drop, get_or, refl, ap, sym, ◌∙◌, subst, arith}
+use Rattle.std.specs.List.{position_or_len, before_first, list_all}
+use Rattle.std.specs.Option.{option_map}
 use Rattle.std.specs.Str.{bytes_eq}
 use Rattle.std.proofs.lemmas.Bool.{and_parts, and_from}
 use Rattle.std.proofs.lemmas.Bool.Decides.{nat_tests}
 use Rattle.std.proofs.lemmas.List.Sums.{split_at_first, passes_at_first}
 use Rattle.std.proofs.lemmas.Option.{option_and_then_some, none-some, same_Some}
-use Rattle.par_lexer.specs.Names.{IsName, is_letter, is_digit, goes_on, is_spelled}
+use Rattle.par_lexer.specs.Names.{IsName, is_letter, goes_on, is_spelled}
 use Rattle.par_values.specs.declared.inputs.ChannelInput.{ChannelInput}
 use Rattle.par_inputs.specs.Lines.{Text}
 use Rattle.par_inputs.specs.Numbers.{numbers_of}
@@ -71,10 +71,10 @@ unfolding line_of
 line_of-Some line entry is =
     option_and_then_some (λ halves. entry_of (cut_at 46 halves.0) (numbers_of halves.1)) (cut_at 58 line) entry is
     (λ halves cut made.
-        let made : IsMade (cut_at 46 halves.0) (numbers_of halves.1) entry = entry_of-Some _ _ entry made in
-        let colon : IsCut 58 line halves.0 halves.1 = cut_at-Some 58 line halves.0 halves.1 cut in
-        let dot : IsCut 46 halves.0 entry.class entry.channel = cut_at-Some 46 halves.0 entry.class entry.channel made.names in
-        record { names = sym colon.first ∙ dot.spelled; class = made.class; channel = made.channel; behind = halves.1; numbers = made.numbers })
+    let made : IsMade (cut_at 46 halves.0) (numbers_of halves.1) entry = entry_of-Some _ _ entry made in
+    let colon : IsCut 58 line halves.0 halves.1 = cut_at-Some 58 line halves.0 halves.1 cut in
+    let dot : IsCut 46 halves.0 entry.class entry.channel = cut_at-Some 46 halves.0 entry.class entry.channel made.names in
+    record { names = sym colon.first ∙ dot.spelled; class = made.class; channel = made.channel; behind = halves.1; numbers = made.numbers })
 
 -- a text that is a name
 pub is_name-IsName : (text : Text) → is_name text ≡ true → IsName text

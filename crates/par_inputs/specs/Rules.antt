@@ -1,5 +1,5 @@
 -- Which lines of a file are right, and what the file gives.
-use Rattle.std.specs.Prelude.{◌≡◌, ℕ, ◌+◌, ◌-◌, ◌<◌, ◌≤◌, List, [], ◌∷◌, ◌&&◌, ◌==◌, Bool, true, false, not, take, length, IsTrue, slice_index_or, FitsSigned, filter}
+use Rattle.std.specs.Prelude.{◌≡◌, ℕ, ◌-◌, ◌<◌, ◌≤◌, List, [], ◌&&◌, ◌==◌, Bool, true, false, not, take, length, slice_index_or, FitsSigned}
 use Rattle.std.specs.Int.{w32}
 use Rattle.std.specs.List.{All, AllPairs, filter_map, list_any}
 use Rattle.std.specs.Option.{option_map_or}

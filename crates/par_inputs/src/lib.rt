@@ -10,6 +10,7 @@ mod line;
 mod number;
 mod read;
 mod seen;
-
+#[cfg(test)]
+mod tests;
 
 pub use read::{LONGEST_FILE, read_inputs};

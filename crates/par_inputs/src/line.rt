@@ -44,8 +44,8 @@ fn numbers_of(alloc: Global, text: &[u8]) -> Result<Option<List<i32>>, NoMemory>
     Ok(Some(numbers))
 }
 
-#[tactic(auto, unfolding(crate::specs::Entries::line_of))]
 // The channel that a line names and its numbers, or none where it is not so built.
+#[tactic(auto, unfolding(crate::specs::Entries::line_of))]
 pub fn line_of(alloc: Global, line: &[u8]) -> Result<Option<ChannelInput>, NoMemory>
     ensures { IfOk result (λ entry. entry ≡ line_of line.now) }
 {

@@ -6,6 +6,7 @@ ghost use Rattle.par_inputs.specs.Numbers.{is_decimal, magnitude_of, number_of};
 
 // The greatest number behind a minus sign, and that of the numbers without one.
 const GREATEST_BELOW_ZERO: u32 = 2_147_483_648;
+
 const GREATEST: u32 = 2_147_483_647;
 
 // More than one byte, of which the first is 0.

@@ -1,4 +1,4 @@
-use Rattle.std.proofs.Common.{◌≡◌, ℕ, List, ℤ, ◌++◌, ◌∷◌, [], Some, None, false, FitsSigned, w32, rules, arith, sym, ap, ◌∙◌}
+use Rattle.std.proofs.Common.{◌≡◌, ◌++◌, ◌∷◌, [], Some, None, false, FitsSigned, w32, rules, arith, sym, ap, ◌∙◌}
 use Rattle.std.specs.List.{before_first}
 use Rattle.std.proofs.lemmas.Bool.Decides.{nat_tests}
 use Rattle.std.proofs.lemmas.Int.{to_z-of_z}
@@ -21,8 +21,8 @@ pub words-preserved : goal.words-preserved
 words-preserved c =
     let is : number_of (before_first is_space c.in-Some.behind.now) ≡ Some c.in-Some-number_of.number = ap number_of (sym c.first_word.ensures.word) ∙ sym c.number_of.ensures ∙ c.in-Some-number_of.is in
     let pushed : c.push.new.self ≡ c.words.numbers ++ c.in-Some-number_of.number ∷ [] =
-        let fits : FitsSigned w32 c.in-Some-number_of.number = search rules in
-        c.in_ok-push.ensures.ok ∙ ap (λ number. c.words.numbers ++ number ∷ []) (to_z-of_z w32 _ fits) in
+    let fits : FitsSigned w32 c.in-Some-number_of.number = search rules in
+    c.in_ok-push.ensures.ok ∙ ap (λ number. c.words.numbers ++ number ∷ []) (to_z-of_z w32 _ fits) in
     word_read _ _ _ _ _ _ c.words.invariant c.in-Some.ensures.cases.0 c.if-first-ne32.false is ∙ ap (λ left. behind_these (c.words.numbers ++ c.in-Some-number_of.number ∷ []) (numbers_of left)) (sym c.first_word.ensures.left) ∙ ap (λ numbers. behind_these numbers (numbers_of c.first_word.result.1.now)) (sym pushed)
 
 pub returns : goal.returns
