@@ -1,5 +1,5 @@
 -- The lines of a file, one by one.
-use Rattle.std.proofs.Common.{◌≡◌, ℕ, ◌+◌, ◌<◌, ◌⊎◌, inl, inr, List, [], ◌∷◌, Bool, false, ◌==◌, length, take, refl, ap, ◌∙◌, arith, length-drop}
+use Rattle.std.proofs.Common.{◌≡◌, ℕ, ◌+◌, ◌<◌, ◌≤◌, ◌⊎◌, inl, inr, List, [], ◌∷◌, Bool, false, ◌==◌, length, take, refl, ap, ◌∙◌, arith, length-drop}
 use Rattle.std.specs.List.{slice_split, position_or_len, before_first, after_first}
 use Rattle.std.proofs.lemmas.List.{nil_from_length}
 use Rattle.std.proofs.lemmas.List.Sums.{prefix_len-le-length}
@@ -40,3 +40,7 @@ lines_of-first bytes some = by_end bytes some (eq-or-lt_of_le (prefix_len-le-len
 pub lines_of-nil : lines_of [] ≡ []
 unfolding lines_of
 lines_of-nil = refl
+
+-- behind the first line fewer bytes are left
+pub fewer_left : (rest : Text) → 0 < length rest → length (after_first is_end rest) + 1 ≤ length rest
+fewer_left rest some = omega (arith, length-drop (position_or_len is_end rest + 1) rest)

@@ -6,3 +6,5 @@ pub mod Spelling
 pub mod Fitting
 pub mod Laws
 pub mod Progress
+pub mod Standing
+pub mod Counting

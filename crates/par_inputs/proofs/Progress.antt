@@ -5,7 +5,7 @@ use Rattle.std.specs.BTreeSet.{BTreeSet}
 use Rattle.std.specs.BTreeMap.{is_at}
 use Rattle.std.specs.Cmp.Lexicographic.{slice_cmp}
 use Rattle.std.specs.Ordering.{nat_cmp}
-use Rattle.std.specs.List.{list_any, position_or_len, before_first, after_first}
+use Rattle.std.specs.List.{list_any, before_first, after_first}
 use Rattle.std.specs.Option.{option_map_or}
 use Rattle.std.specs.Str.{bytes_eq}
 use Rattle.std.proofs.lemmas.Bool.Decides.{nat_tests}
@@ -16,7 +16,7 @@ use Rattle.par_inputs.specs.Lines.{Text, lines_of}
 use Rattle.par_inputs.specs.Entries.{line_of}
 use Rattle.par_inputs.specs.Rules.{entries, is_taken, is_broken, breaks, AreRight, IsRight, IsFirstBroken}
 use Rattle.par_inputs.specs.Seen.{has}
-use Rattle.par_inputs.proofs.FileLines.{is_end, lines_of-first, lines_of-nil}
+use Rattle.par_inputs.proofs.FileLines.{is_end, lines_of-first, lines_of-nil, fewer_left}
 use Rattle.par_inputs.proofs.Spelling.{Spells, names_of, line_of-Some, line_of-nil}
 use Rattle.par_inputs.proofs.Laws.{entries-push, is_taken-names}
 
@@ -59,9 +59,6 @@ breaks_next lines number line more answer next is = ap (λ l. is_broken (take nu
 
 right_more : (lines : List Text) (number : ℕ) → AreRight lines number → breaks lines number ≡ false → AreRight lines (number + 1)
 right_more lines number so_far is = record { right = below_more (λ place. breaks lines place ≡ false) number so_far.right is }
-
-fewer_left : (rest : Text) → 0 < length rest → length (after_first is_end rest) + 1 ≤ length rest
-fewer_left rest some = omega (arith, length-drop (position_or_len is_end rest + 1) rest)
 
 -- ---- a line more is read
 

@@ -3,3 +3,4 @@ pub mod Numbers
 pub mod Entries
 pub mod Rules
 pub mod Seen
+pub mod Places

@@ -8,9 +8,11 @@ mod cuts;
 pub mod error;
 mod line;
 mod number;
+mod place;
 mod read;
 mod seen;
 #[cfg(test)]
 mod tests;
 
+pub use place::line_of_entry;
 pub use read::{LONGEST_FILE, read_inputs};

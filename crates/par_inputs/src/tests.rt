@@ -1,5 +1,5 @@
 use crate::error::BadInput;
-use crate::read_inputs;
+use crate::{line_of_entry, read_inputs};
 use std::test::Fail;
 
 #[test]
@@ -59,5 +59,15 @@ fn a_line_gives_its_channel_and_numbers(rt: HostRuntime) -> Result<(), Fail> {
     assert_eq!(rt; entry.channel.bytes(), b"key".as_slice());
     let numbers = [42, 0, -2147483648, 2147483647, 0];
     assert_eq!(rt; entry.numbers.as_slice(), numbers.as_slice());
+    Ok(())
+}
+
+#[test]
+fn an_entry_stands_on_its_line(rt: HostRuntime) -> Result<(), Fail> {
+    let bytes = b"\nint.void: 1\n\nvoid.int: 2";
+    let inputs = read_inputs(rt.alloc(), bytes)?;
+    assert_eq!(rt; inputs.channels.len(), 2);
+    assert_eq!(rt; line_of_entry(bytes, 0), 2);
+    assert_eq!(rt; line_of_entry(bytes, 1), 4);
     Ok(())
 }
