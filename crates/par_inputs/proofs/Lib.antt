@@ -8,3 +8,4 @@ pub mod Laws
 pub mod Progress
 pub mod Standing
 pub mod Counting
+pub mod Refusals
