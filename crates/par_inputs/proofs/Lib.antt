@@ -1,0 +1,11 @@
+pub mod Values
+pub mod Sets
+pub mod Words
+pub mod FileLines
+pub mod Spelling
+pub mod Fitting
+pub mod Laws
+pub mod Progress
+pub mod Standing
+pub mod Counting
+pub mod Refusals

@@ -1,0 +1,40 @@
+-- The numbers of a line.
+use Rattle.std.specs.Prelude.{ℕ, ℤ, pos, neg_ℤ, List, [], ◌∷◌, ◌&&◌, ◌==◌, not, nat_lt, nat_le, Bool, Option, Some, None, length, if◌then◌else◌}
+use Rattle.std.specs.List.{list_all, slice_split}
+use Rattle.std.specs.Option.{option_map, option_and_then}
+use Rattle.par_lexer.specs.Names.{is_digit}
+use Rattle.par_lexer.specs.Pieces.{value, has_leading_zero}
+use Rattle.par_inputs.specs.Lines.{Text}
+
+-- digits, at least one, of which the first is no 0 that stands before others
+abbrev pub is_decimal : Text → Bool
+is_decimal text = nat_lt 0 (length text) && list_all is_digit text && not (has_leading_zero text)
+
+-- the number that digits write, at most the greatest
+abbrev pub magnitude_of : ℕ → Text → Option ℕ
+magnitude_of greatest text = if is_decimal text && nat_le (value text) greatest then Some (value text) else None
+
+-- A number of 32 bits: digits, which may stand behind a minus sign.
+unfoldable pub number_of : Text → Option ℤ
+number_of [] = None
+number_of (byte ∷ text) =
+    if byte == 45 then option_map (λ n. neg_ℤ (pos n)) (magnitude_of 2147483648 text)
+    else option_map pos (magnitude_of 2147483647 (byte ∷ text))
+
+-- the number of a word before those of the words behind it
+abbrev pub before_others : Option (List ℤ) → ℤ → Option (List ℤ)
+before_others others number = option_map (λ numbers. number ∷ numbers) others
+
+-- the numbers that the words write, where each writes one
+abbrev pub numbers_in : List Text → Option (List ℤ)
+numbers_in [] = Some []
+numbers_in (word ∷ words) = option_and_then (before_others (numbers_in words)) (number_of word)
+
+-- the numbers, where nothing stands before the first space
+abbrev pub numbers_behind : List Text → Option (List ℤ)
+numbers_behind [] = None
+numbers_behind (first ∷ words) = if length first == 0 then numbers_in words else None
+
+-- Any number of times one space and a number.
+unfoldable pub numbers_of : Text → Option (List ℤ)
+numbers_of text = numbers_behind (slice_split (λ byte. byte == 32) text)
