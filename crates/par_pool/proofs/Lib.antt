@@ -1,3 +1,5 @@
 pub mod Growth
 pub mod Made
 pub mod Parts
+pub mod Exact
+pub mod Items

@@ -9,6 +9,8 @@
 mod builder;
 pub mod constant;
 pub mod error;
+pub mod item;
+mod reading;
 mod same;
 
 pub use builder::PoolBuilder;
