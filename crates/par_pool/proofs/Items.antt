@@ -77,3 +77,12 @@ unfolding items
 is_done {A = A} r front left index bytes total k so_far =
     let one : with_front front (items r left index bytes) ≡ Ok (front, bytes) = rw k (ap (λ (xs : List A). Ok (xs, bytes)) (append-nil front)) in
     sym so_far ∙ one
+
+-- as many items are read as are asked for
+pub items_length : {A : Type 0} (r : ℕ → Reader A) (n index : ℕ) (bytes : List ℕ) (x : List A × List ℕ) → items r n index bytes ≡ Ok x → length x.0 ≡ n
+unfolding items
+items_length {A = A} r zero index bytes x e = sym (ap (λ (y : List A × List ℕ). length y.0) (ok_is ([], bytes) x e))
+items_length {A = A} r (suc n) index bytes x e =
+    let a = bind_ok (r index bytes) (λ a. items r n (index + 1) a.1 >>= λ rest. Ok (a.0 ∷ rest.0, rest.1)) x e in
+    let b = bind_ok (items r n (index + 1) a.0.1) (λ rest. Ok (a.0.0 ∷ rest.0, rest.1)) x a.2 in
+    sym (ap (λ (y : List A × List ℕ). length y.0) (ok_is (a.0.0 ∷ b.0.0, b.0.1) x b.2)) ∙ ap suc (items_length r n (index + 1) a.0.1 b.0 b.1)

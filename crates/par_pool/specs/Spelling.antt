@@ -1,5 +1,5 @@
 -- How constants are spelled (Java Virtual Machine Specification, Java SE 7, section 4.4), and which pools have a spelling.
-use Rattle.std.specs.Prelude.{ℕ, ◌+◌, ◌<◌, ◌^◌, Bool, true, false, ◌&&◌, nat_lt, List, [], ◌∷◌, ◌++◌, length, Option, Some, None, IsTrue, FitsSigned}
+use Rattle.std.specs.Prelude.{◌≡◌, ℕ, ◌+◌, ◌<◌, ◌^◌, Bool, true, false, ◌&&◌, nat_lt, List, [], ◌∷◌, ◌++◌, length, Option, Some, None, IsTrue, FitsSigned}
 use Rattle.std.specs.List.{flat_map, list_all, AllByRecursion}
 use Rattle.std.specs.Int.{w32, cast_unsigned}
 use Rattle.byteorder.specs.Endian.{big_bytes}
@@ -86,3 +86,8 @@ pub record IsPool (entries : List Constant) : Type 0 where
 pub record IsMade (entries : List Constant) : Type 0 where
   pub distinct : IsDistinct entries
   pub is_pool : IsPool entries
+
+-- the bytes begin with the spelling of a pool, and what is left behind it
+pub record IsPoolAt (bytes : List ℕ) (entries : List Constant) (rest : List ℕ) : Type 0 where
+  pub is_pool : IsPool entries
+  pub spelled : bytes ≡ pool entries ++ rest

@@ -10,9 +10,11 @@ mod builder;
 pub mod constant;
 pub mod error;
 pub mod item;
+pub mod kind;
 mod reading;
 mod same;
 
 pub use builder::PoolBuilder;
 pub use constant::{Constant, Pool};
 pub use error::ClassError;
+pub use reading::read_pool;
