@@ -143,11 +143,11 @@ exact_made {A = A} {B = B} {F = F} {p = p} {r = r} G to from there back one = re
 }
 
 -- an item that passes a test
-pub exact_tested : {A : Type 0} {F : A → Type 0} {p : A → List ℕ} {r : Reader A} (test : A → Bool) (fault : List ℕ → ClassError) → Exact F p r → Exact (λ a. F a × IsTrue (test a)) p (tested test fault r)
+pub exact_tested : {A : Type 0} {F : A → Type 0} {p : A → List ℕ} {r : Reader A} (test : A → Bool) (fault : A → List ℕ → ClassError) → Exact F p r → Exact (λ a. F a × IsTrue (test a)) p (tested test fault r)
 exact_tested {A = A} {F = F} {p = p} {r = r} test fault one = record {
   takes = λ bytes x fits e.
-      let a = bind_ok (r bytes) (λ a. cond (test a.0) (Ok a) (Err (fault bytes))) x e in
-      let g = passed_ok (test a.0.0) (fault bytes) a.0 x a.2 in
+      let a = bind_ok (r bytes) (λ a. cond (test a.0) (Ok a) (Err (fault a.0 bytes))) x e in
+      let g = passed_ok (test a.0.0) (fault a.0.0 bytes) a.0 x a.2 in
       let t = one.takes bytes a.0 fits a.1 in
       let P : A × List ℕ → Type 0 = λ y. Takes bytes (p y.0) y.1 × (F y.0 × IsTrue (test y.0)) in
       subst P g.1 (t.0, (t.1, g.0));

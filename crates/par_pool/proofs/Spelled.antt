@@ -118,7 +118,7 @@ exact-text : (short : ClassError) (index : ℕ) → Exact (IsTagged 1) body (tex
 unfolding text_at
 exact-text short index =
     exact-form 1 (λ text. Utf8 text) text-in (λ text h. (refl, (refl, record { short = h.0.0; plain = h.1 })), text-back)
-    (exact_tested is_plain (λ _. Pool index)
+    (exact_tested is_plain (λ _ _. Pool index)
     (exact_keyed {G = λ _. Unit {0}} length (exact_u2 short) (λ n h. exact_same (λ text. (length text ≡ n) × Unit {0}) (λ text. text) (λ text e. (e, tt)) (λ text e. (e.0, refl)) (exact_bytes short n))))
 
 exact-integer : (short : ClassError) → Exact (IsTagged 3) body (integer_at short)

@@ -10,7 +10,7 @@ use Rattle.par_pool.specs.Reading.{Reader, both, made, tested, keyed, items, u1_
 
 -- a text, whose bytes are looked at when all of them are there
 unfoldable pub text_at : ClassError → ℕ → Reader Constant
-text_at short index = made Utf8 (tested is_plain (λ _. Pool index) (keyed (u2_at short) (bytes_at short)))
+text_at short index = made Utf8 (tested is_plain (λ _ _. Pool index) (keyed (u2_at short) (bytes_at short)))
 
 -- a number
 unfoldable pub integer_at : ClassError → Reader Constant

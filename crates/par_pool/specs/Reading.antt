@@ -24,9 +24,9 @@ both first second bytes = first bytes >>= λ a. second a.1 >>= λ b. Ok ((a.0, b
 abbrev pub made : {A B : Type 0} → (A → B) → Reader A → Reader B
 made to read bytes = read bytes >>= λ a. Ok (to a.0, a.1)
 
--- an item that passes a test, or else a refusal that may name its place
-abbrev pub tested : {A : Type 0} → (A → Bool) → (List ℕ → ClassError) → Reader A → Reader A
-tested test fault read bytes = read bytes >>= λ a. if test a.0 then Ok a else Err (fault bytes)
+-- an item that passes a test, or else a refusal that may name the value and its place
+abbrev pub tested : {A : Type 0} → (A → Bool) → (A → List ℕ → ClassError) → Reader A → Reader A
+tested test fault read bytes = read bytes >>= λ a. if test a.0 then Ok a else Err (fault a.0 bytes)
 
 -- an item that says how the next one is read
 abbrev pub keyed : {K A : Type 0} → Reader K → (K → Reader A) → Reader A

@@ -17,4 +17,4 @@ mod same;
 pub use builder::PoolBuilder;
 pub use constant::{Constant, Pool};
 pub use error::ClassError;
-pub use reading::read_pool;
+pub use reading::{entries_of, read_pool};

@@ -126,9 +126,9 @@ fn first_astray(entries: &[Constant]) -> Option<usize>
         .position(|constant| !refers(entries, constant))
 }
 
-/// The constants of a pool, and the bytes behind it.
+/// The constants of a pool at the head of some bytes, and the bytes behind it.
 #[tactic(auto, unfolding(crate::specs::Constants::pool_at))]
-fn entries_of(
+pub fn entries_of(
     alloc: Global,
     short: ClassError,
     bytes: &[u8],
