@@ -21,7 +21,7 @@ use Rattle.par_class.specs.declared.file.Piece.TheVariants.{Plain, Code}
 use Rattle.par_class.specs.Layout.{Method, Layout, file_of}
 use Rattle.par_class.specs.Spelling.{counted, attribute, code, piece, field, method, layout, names_code, is_super, is_coded, is_version, IsTextIndex, IsClassIndex, AllFit, FitsAttribute, FitsCode, FitsPiece, FitsField, FitsMethod, IsLayout, Spells}
 use Rattle.par_class.specs.Reading.{place, at, ended, inside, looked_into, code_at, attribute_at, piece_at, pieces_at, method_at, methods_at, super_at, interfaces_at, magic_at, major_at, front_at, back_at, laid_at, alone, file_at}
-use Rattle.par_class.proofs.Laws.{exact_list, exact_text_index, exact_class_index, exact_attribute, exact_attributes, exact_code, exact_fields}
+use Rattle.par_class.proofs.Members.{exact_list, exact_text_index, exact_class_index, exact_attribute, exact_attributes, exact_code, exact_fields}
 
 if-ok : {A : Type 0} (b : Bool) (d : ClassError) (x y : A) → cond b (Ok x) (Err d) ≡ Ok y → (b ≡ true) × (x ≡ y)
 if-ok true d x y e = (refl, cc)
@@ -244,3 +244,13 @@ file_only bytes file h =
     let end = length bytes in
     let read : laid_at (Cut end) end bytes ≡ Ok (h.laid, []) = ap (laid_at (Cut end) end) (h.spelled ∙ sym (append-nil (layout h.laid))) ∙ (exact_laid (Cut end) end).again h.laid [] h.fits in
     rw (read, h.is_file) refl
+
+abbrev read-file : ClassFile → Result ClassFile ClassError
+read-file f = Ok f
+
+ok-file : (one other : ClassFile) → read-file one ≡ read-file other → one ≡ other
+ok-file one other e = ok_is one other e
+
+-- bytes spell at most one file
+pub one_file : (bytes : List ℕ) (one other : ClassFile) → Spells bytes one → Spells bytes other → one ≡ other
+one_file bytes one other p q = ok-file one other (sym (file_only bytes one p) ∙ file_only bytes other q)

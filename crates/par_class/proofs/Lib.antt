@@ -1,4 +1,5 @@
 pub mod Lists
 pub mod Pieces
-pub mod Laws
+pub mod Members
 pub mod Files
+pub mod Written

@@ -9,10 +9,15 @@
 mod attribute;
 mod code;
 pub mod file;
+mod laws;
 mod member;
 mod name;
 mod place;
 mod reading;
+mod whole;
+mod writing;
 
 pub use file::{Attribute, Catch, ClassFile, CodeAttr, FieldFile, MethodFile};
+pub use laws::{spelling_is_one, written_is_read_again};
 pub use reading::read_class;
+pub use whole::write_class;

@@ -13,6 +13,9 @@ pub mod item;
 pub mod kind;
 mod reading;
 mod same;
+#[cfg(test)]
+mod tests;
+pub mod writing;
 
 pub use builder::PoolBuilder;
 pub use constant::{Constant, Pool};
