@@ -1,5 +1,5 @@
 -- Methods and whole files are read exactly.
-use Rattle.std.proofs.Common.{◌≡◌, ℕ, suc, ◌+◌, ◌^◌, ◌<◌, ◌≤◌, Bool, true, false, cond, eqb, List, [], ◌∷◌, ◌++◌, length, get_or, Result, Ok, Err, refl, sym, ap, subst, ◌∙◌, append_assoc, inl, inr, arith}
+use Rattle.std.proofs.Common.{◌≡◌, ℕ, suc, ◌^◌, ◌<◌, Bool, true, false, cond, eqb, List, [], ◌++◌, length, get_or, Result, Ok, Err, refl, sym, ap, subst, ◌∙◌, inl, inr, arith}
 use Rattle.std.specs.Prelude.{IsTrue, IfOk}
 use Rattle.std.proofs.lemmas.Bool.{cases_Bool, cases_lt, eqb-true}
 use Rattle.std.proofs.lemmas.List.{append-nil, nil_from_length, get_or_append_left, get_or_past}
@@ -8,7 +8,7 @@ use Rattle.par_pool.specs.declared.error.ClassError.{ClassError}
 use Rattle.par_pool.specs.declared.error.ClassError.TheVariants.{Shape, Extra, Cut, Magic, Version}
 use Rattle.par_pool.specs.Spelling.{u2, u4, IsPool}
 use Rattle.par_pool.specs.Spelling as pools
-use Rattle.par_pool.specs.Reading.{Reader, Outcome, ◌>>=◌, both, made, tested, keyed, u2_at, u4_at, Gives}
+use Rattle.par_pool.specs.Reading.{made, Gives}
 use Rattle.par_pool.proofs.Exact.{IsBytes, Takes, Exact, bind_ok, ok_is, exact_u2, exact_u4, exact_both, exact_made, exact_tested, exact_keyed}
 use Rattle.par_pool.proofs.Pools.{exact_pool}
 use Rattle.par_pool.proofs.Spelled.{exact_same}
@@ -20,7 +20,7 @@ use Rattle.par_class.specs.declared.file.Piece.{Piece}
 use Rattle.par_class.specs.declared.file.Piece.TheVariants.{Plain, Code}
 use Rattle.par_class.specs.Layout.{Method, Layout, file_of}
 use Rattle.par_class.specs.Spelling.{counted, attribute, code, piece, field, method, layout, names_code, is_super, is_coded, is_version, IsTextIndex, IsClassIndex, AllFit, FitsAttribute, FitsCode, FitsPiece, FitsField, FitsMethod, IsLayout, Spells}
-use Rattle.par_class.specs.Reading.{place, at, ended, inside, looked_into, code_at, attribute_at, piece_at, pieces_at, method_at, methods_at, super_at, interfaces_at, magic_at, major_at, front_at, back_at, laid_at, alone, file_at}
+use Rattle.par_class.specs.Reading.{place, at, ended, inside, looked_into, code_at, attribute_at, piece_at, pieces_at, method_at, methods_at, super_at, interfaces_at, magic_at, major_at, front_at, back_at, laid_at, file_at}
 use Rattle.par_class.proofs.Members.{exact_list, exact_text_index, exact_class_index, exact_attribute, exact_attributes, exact_code, exact_fields}
 
 if-ok : {A : Type 0} (b : Bool) (d : ClassError) (x y : A) → cond b (Ok x) (Err d) ≡ Ok y → (b ≡ true) × (x ≡ y)

@@ -1,23 +1,20 @@
 -- Each item of a class file is read exactly.
-use Rattle.std.proofs.Common.{◌≡◌, ℕ, zero, suc, ◌+◌, ◌^◌, ◌<◌, ◌≤◌, Bool, true, false, cond, eqb, List, [], ◌∷◌, ◌++◌, length, Result, Ok, Err, refl, sym, ap, subst, ◌∙◌, append_assoc, inl, inr, arith}
+use Rattle.std.proofs.Common.{◌≡◌, ℕ, ◌^◌, ◌<◌, List, ◌++◌, length, refl, sym, ap, subst, arith}
 use Rattle.std.specs.Prelude.{IsTrue}
 use Rattle.std.specs.List.{flat_map, AllByRecursion}
-use Rattle.std.proofs.lemmas.Bool.{cases_Bool, eqb-true, leb-true, and_parts}
-use Rattle.std.proofs.lemmas.List.{append-nil, nil_from_length}
+use Rattle.std.proofs.lemmas.Bool.{leb-true, and_parts}
 use Rattle.par_pool.specs.declared.constant.Constant.{Constant}
 use Rattle.par_pool.specs.declared.error.ClassError.{ClassError}
 use Rattle.par_pool.specs.declared.error.ClassError.TheVariants.{Shape, Index}
 use Rattle.par_pool.specs.Entries.{entry_at}
 use Rattle.par_pool.specs.Spelling.{u2, u4, is_text, is_class}
-use Rattle.par_pool.specs.Reading.{Reader, ◌>>=◌, both, made, tested, keyed, items, u2_at, u4_at, bytes_at}
-use Rattle.par_pool.proofs.Exact.{IsBytes, Takes, Exact, bind_ok, ok_is, exact_u2, exact_u4, exact_bytes, exact_both, exact_made, exact_tested, exact_keyed}
+use Rattle.par_pool.specs.Reading.{Reader}
+use Rattle.par_pool.proofs.Exact.{Exact, exact_u2, exact_u4, exact_bytes, exact_both, exact_made, exact_tested, exact_keyed}
 use Rattle.par_pool.proofs.Items.{exact_items}
 use Rattle.par_pool.proofs.Spelled.{exact_same}
 use Rattle.par_class.specs.declared.file.Attribute.{Attribute}
 use Rattle.par_class.specs.declared.file.Catch.{Catch}
 use Rattle.par_class.specs.declared.file.CodeAttr.{CodeAttr}
-use Rattle.par_class.specs.declared.file.FieldFile.{FieldFile}
-use Rattle.par_class.specs.Layout.{Method}
 use Rattle.par_class.specs.Spelling.{counted, sized, attribute, catch, code, field, covers, catches_class, is_code_length, IsTextIndex, IsClassIndex, AllFit, FitsAttribute, FitsCatch, FitsCode, FitsField}
 use Rattle.par_class.specs.Reading.{at, list_at, sized_at, text_index_at, class_index_at, attribute_at, attributes_at, caught_at, catch_at, catches_at, code_length_at, instructions_at, handled_at, code_at, field_at, fields_at}
 

@@ -1,5 +1,5 @@
 -- What is written spells the file: code may come first, under the least index of its name.
-use Rattle.std.proofs.Common.{◌≡◌, ℕ, zero, suc, ◌+◌, ◌^◌, ◌<◌, ◌≤◌, Bool, true, false, cond, eqb, List, [], ◌∷◌, ◌++◌, length, map, get_or, Option, Some, None, refl, sym, ap, subst, ◌∙◌, length-append, append_assoc, add-one, inl, inr, arith}
+use Rattle.std.proofs.Common.{◌≡◌, ℕ, zero, suc, ◌+◌, ◌^◌, ◌<◌, ◌≤◌, Bool, true, false, cond, eqb, List, [], ◌∷◌, ◌++◌, length, map, get_or, Option, Some, None, refl, sym, ap, subst, ◌∙◌, add-one, inl, inr, arith}
 use Rattle.std.specs.Prelude.{IsTrue, IfSome, count_by, codes, slice_get}
 use Rattle.std.specs.List.{flat_map, All, AllByRecursion, position_or_len}
 use Rattle.par_pool.specs.declared.constant.Constant.{Constant}
@@ -15,11 +15,11 @@ use Rattle.par_class.specs.declared.file.Piece.{Piece}
 use Rattle.par_class.specs.declared.file.Piece.TheVariants.{Plain, Code}
 use Rattle.par_class.specs.Layout as laid
 use Rattle.par_class.specs.Layout.{Layout, later, code_in, others_in, method_of, file_of}
-use Rattle.par_class.specs.Spelling.{counted, attribute, code, piece, field, method, front, back, layout, is_named, names_code, is_code, is_coded, is_native, IsTextIndex, AllFit, FitsAttribute, FitsCode, FitsPiece, FitsField, FitsMethod, IsLayout, Spells}
+use Rattle.par_class.specs.Spelling.{counted, attribute, piece, field, method, front, back, layout, is_named, names_code, is_code, is_native, IsTextIndex, FitsAttribute, FitsPiece, FitsField, FitsMethod, IsLayout, Spells}
 use Rattle.par_class.specs.Writing.{least_code, code_piece, pieces_of, method_laid, layout_of, parts, each_method, back_with, IsSized, SizedCode, SizedField, SizedMethod, SizedFile}
 use Rattle.std.proofs.lemmas.List.Concat.{flat_map-cons, flat_map-append}
 use Rattle.std.proofs.lemmas.List.Sums.{sum_by-cons}
-use Rattle.std.proofs.lemmas.List.Elements.{All-from_recursion, recursion_from_All, All-weaker}
+use Rattle.std.proofs.lemmas.List.Elements.{All-from_recursion, All-weaker}
 use Rattle.std.proofs.lemmas.Bool.{cases_Bool, false≢true, eqb-true, leb-true, and_parts}
 use Rattle.std.proofs.lemmas.Option.{none-some, same_Some, slice_get_within, slice_get-get_or, get_or_from_slice_get}
 

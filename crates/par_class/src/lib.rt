@@ -14,6 +14,8 @@ mod member;
 mod name;
 mod place;
 mod reading;
+#[cfg(test)]
+mod tests;
 mod whole;
 mod writing;
 

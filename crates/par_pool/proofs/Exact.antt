@@ -1,15 +1,13 @@
 -- A reader that is exact: what it reads is spelled so, and what is spelled so it reads again.
-use Rattle.std.proofs.Common.{◌≡◌, ℕ, zero, suc, ◌+◌, ◌^◌, ◌<◌, ◌≤◌, Bool, true, false, cond, ltb, List, [], ◌∷◌, ◌++◌, length, get_or, take, drop, Result, Ok, Err, refl, sym, ap, subst, ◌∙◌, append_assoc, length-append, arith, inl, inr}
+use Rattle.std.proofs.Common.{◌≡◌, ℕ, suc, ◌+◌, ◌^◌, ◌<◌, ◌≤◌, Bool, true, false, cond, ltb, List, [], ◌∷◌, ◌++◌, length, get_or, take, drop, Result, Ok, Err, refl, sym, ap, subst, ◌∙◌, append_assoc, length-append, arith, inl, inr}
 use Rattle.std.specs.Prelude.{IsTrue}
-use Rattle.std.specs.List.{flat_map, AllByRecursion}
 use Rattle.std.proofs.lemmas.Bool.{cases_lt, ltb-false, le-ltb}
 use Rattle.std.proofs.lemmas.List.{take_at, drop_at, take-append-drop, length-take, get_or-drop, get_or-take, get_or_past}
-use Rattle.std.proofs.lemmas.List.Concat.{flat_map-cons}
 use Rattle.std.proofs.lemmas.Nat.{be_bytes_2, be_bytes_4}
 use Rattle.byteorder.specs.Endian.{big_number, big_bytes}
 use Rattle.byteorder.specs.Numbers.{big_number-reads_back, big_from-lt, length-bytes_high_first}
 use Rattle.par_pool.specs.declared.error.ClassError.{ClassError}
-use Rattle.par_pool.specs.Reading.{Reader, Outcome, ◌>>=◌, both, made, tested, keyed, items, u1_at, number_at, u2_at, u4_at, bytes_at}
+use Rattle.par_pool.specs.Reading.{Reader, ◌>>=◌, both, made, tested, keyed, u1_at, number_at, u2_at, u4_at, bytes_at}
 use Rattle.par_pool.specs.Spelling.{u2, u4}
 
 -- the numbers are bytes

@@ -1,8 +1,8 @@
 -- A pool in the making keeps its spelling and names nothing twice when a new entry is put behind it.
-use Rattle.std.proofs.Common.{◌≡◌, ℕ, zero, suc, ◌+◌, ◌^◌, ◌<◌, ◌≤◌, Bool, true, false, List, [], ◌∷◌, ◌++◌, length, get_or, Option, Some, None, refl, sym, ap, subst, ◌∙◌, inl, inr, length-append, add-one, arith}
+use Rattle.std.proofs.Common.{◌≡◌, ℕ, zero, suc, ◌+◌, ◌<◌, Bool, true, false, List, [], ◌∷◌, ◌++◌, length, get_or, Option, Some, None, refl, sym, ap, subst, ◌∙◌, inl, inr, length-append, add-one, arith}
 use Rattle.std.specs.Prelude.{◌≢◌, ◌⊎◌, ◌&&◌, slice_get, IsTrue}
-use Rattle.std.specs.List.{list_all, AllByRecursion}
-use Rattle.std.proofs.lemmas.Bool.{false≢true, and_parts, and_from, cases_lt, cases_eq}
+use Rattle.std.specs.List.{list_all}
+use Rattle.std.proofs.lemmas.Bool.{false≢true, and_parts, and_from, cases_lt}
 use Rattle.std.proofs.lemmas.Option.{none-some, same_Some, slice_get_within, slice_get-get_or, get_or_from_slice_get}
 use Rattle.std.proofs.lemmas.List.{get_or_append_left, get_or-append-add}
 use Rattle.std.proofs.lemmas.List.Elements.{All-from_recursion, recursion_from_All, All-push}
@@ -10,7 +10,7 @@ use Rattle.std.proofs.lemmas.List.Folds.{list_all-append}
 use Rattle.par_pool.specs.declared.constant.Constant.{Constant}
 use Rattle.par_pool.specs.declared.constant.Constant.TheVariants.{Utf8, Integer, Class, Text, Field, Method, NameType}
 use Rattle.par_pool.specs.Entries.{entry_at, IsAt, IsDistinct}
-use Rattle.par_pool.specs.Spelling.{is_text, is_class, is_member, refers, Fits, IsPool, IsMade}
+use Rattle.par_pool.specs.Spelling.{is_text, is_class, is_member, refers, Fits, IsMade}
 use Rattle.par_pool.proofs.Growth.{at-append}
 
 -- the index of a place

@@ -1,5 +1,5 @@
 -- Offsets into a file, by how many bytes are left.
-use Rattle.std.proofs.Common.{◌≡◌, ℕ, ◌+◌, ◌-◌, ◌≤◌, List, ◌++◌, length, take, drop, Result, Ok, Err, refl, sym, ap, ◌∙◌, append_assoc, length-append, arith}
+use Rattle.std.proofs.Common.{◌≡◌, ℕ, ◌+◌, ◌-◌, ◌≤◌, List, ◌++◌, length, take, drop, Result, Ok, Err, sym, ap, ◌∙◌, append_assoc, length-append, arith}
 use Rattle.std.specs.Prelude.{IfOk}
 use Rattle.std.proofs.lemmas.List.{drop_at, take-append-drop, get_or-drop}
 use Rattle.par_pool.specs.declared.constant.Constant.{Constant}
@@ -7,7 +7,7 @@ use Rattle.par_pool.specs.declared.error.ClassError.{ClassError}
 use Rattle.par_pool.specs.Reading.{Gives}
 use Rattle.par_pool.specs.Spelling.{IsPoolAt}
 use Rattle.par_pool.specs.Constants.{pool_at}
-use Rattle.par_pool.proofs.Exact.{IsBytes, Exact}
+use Rattle.par_pool.proofs.Exact.{IsBytes}
 use Rattle.par_pool.proofs.Pools.{exact_pool}
 
 -- where so many bytes are left, these are what the bytes from that offset on are

@@ -1,16 +1,16 @@
 -- A constant pool is read exactly.
-use Rattle.std.proofs.Common.{◌≡◌, ℕ, zero, suc, ◌+◌, ◌-◌, ◌^◌, ◌<◌, ◌≤◌, Bool, true, false, cond, ltb, eqb, List, [], ◌∷◌, ◌++◌, length, Option, Some, None, Result, Ok, Err, refl, sym, ap, subst, ◌∙◌, inl, inr, arith}
-use Rattle.std.specs.Prelude.{IsTrue, not, ◌&&◌, position}
+use Rattle.std.proofs.Common.{◌≡◌, ℕ, zero, suc, ◌+◌, ◌-◌, ◌^◌, ◌<◌, ◌≤◌, Bool, true, cond, ltb, eqb, List, [], ◌∷◌, length, Option, Some, None, Ok, Err, refl, sym, ap, subst, ◌∙◌, inl, inr, arith}
+use Rattle.std.specs.Prelude.{IsTrue, not}
 use Rattle.std.specs.List.{flat_map, list_all, AllByRecursion, position_or_len}
 use Rattle.std.proofs.lemmas.Bool.{cases_Bool, and_parts, and_from, ltb-false, le-ltb, eqb-true, eqb-false}
 use Rattle.std.proofs.lemmas.Option.{none-some}
 use Rattle.par_pool.specs.declared.constant.Constant.{Constant}
 use Rattle.par_pool.specs.declared.error.ClassError.{ClassError}
 use Rattle.par_pool.specs.declared.error.ClassError.TheVariants.{Pool}
-use Rattle.par_pool.specs.Reading.{Reader, ◌>>=◌, keyed, items, u2_at}
-use Rattle.par_pool.specs.Spelling.{u2, constant, pool, refers, Fits, IsPool}
+use Rattle.par_pool.specs.Reading.{keyed, items, u2_at}
+use Rattle.par_pool.specs.Spelling.{constant, pool, refers, Fits, IsPool}
 use Rattle.par_pool.specs.Constants.{constant_at, first_astray, checked, counted, pool_at}
-use Rattle.par_pool.proofs.Exact.{IsBytes, Takes, Exact, bind_ok, ok_is, exact_u2, exact_keyed}
+use Rattle.par_pool.proofs.Exact.{Takes, Exact, bind_ok, ok_is, exact_u2, exact_keyed}
 use Rattle.par_pool.proofs.Items.{exact_items}
 use Rattle.par_pool.proofs.Spelled.{exact_same, exact_constant}
 

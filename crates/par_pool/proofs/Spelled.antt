@@ -1,6 +1,6 @@
 -- Constants are read exactly.
-use Rattle.std.proofs.Common.{◌≡◌, ℕ, zero, suc, ◌+◌, ◌^◌, ◌<◌, ◌≤◌, ℤ, Bool, true, false, cond, eqb, List, [], ◌∷◌, ◌++◌, length, Result, Ok, Err, refl, sym, ap, subst, ◌∙◌, inl, inr, arith}
-use Rattle.std.specs.Prelude.{IsTrue, FitsSigned, pos}
+use Rattle.std.proofs.Common.{◌≡◌, ℕ, ◌^◌, ◌<◌, ℤ, Bool, cond, eqb, List, [], ◌∷◌, ◌++◌, length, Ok, refl, sym, ap, subst, inl, inr, arith}
+use Rattle.std.specs.Prelude.{IsTrue, pos}
 use Rattle.std.specs.Int.{w32, cast_unsigned, cast_signed}
 use Rattle.std.proofs.lemmas.Bool.{cases_Bool, eqb-true, eqb-false}
 use Rattle.std.proofs.lemmas.Int.{of_z-to_z, to_z-of_z}
@@ -9,10 +9,10 @@ use Rattle.par_pool.specs.declared.constant.Constant.{Constant}
 use Rattle.par_pool.specs.declared.constant.Constant.TheVariants.{Utf8, Integer, Class, Text, Field, Method, NameType}
 use Rattle.par_pool.specs.declared.error.ClassError.{ClassError}
 use Rattle.par_pool.specs.declared.error.ClassError.TheVariants.{Pool}
-use Rattle.par_pool.specs.Reading.{Reader, both, made, tested, keyed, u1_at, u2_at, u4_at, bytes_at}
-use Rattle.par_pool.specs.Spelling.{u2, u4, constant, is_plain, IsText, Fits}
+use Rattle.par_pool.specs.Reading.{Reader, made}
+use Rattle.par_pool.specs.Spelling.{u2, u4, constant, is_plain, Fits}
 use Rattle.par_pool.specs.Constants.{text_at, integer_at, one_at, two_at, behind_tag, constant_at}
-use Rattle.par_pool.proofs.Exact.{IsBytes, Takes, Exact, exact_u1, exact_u2, exact_u4, exact_bytes, exact_both, exact_made, exact_tested, exact_keyed}
+use Rattle.par_pool.proofs.Exact.{Takes, Exact, exact_u1, exact_u2, exact_u4, exact_bytes, exact_both, exact_made, exact_tested, exact_keyed}
 
 -- the same said of the same values, spelled the same
 pub exact_same : {A : Type 0} {F : A → Type 0} {p : A → List ℕ} {r : Reader A} (G : A → Type 0) (q : A → List ℕ) → ((a : A) → F a → G a) → ((a : A) → G a → F a × (p a ≡ q a)) → Exact F p r → Exact G q r

@@ -1,8 +1,8 @@
 -- How a pool grows by an entry and its parts.
-use Rattle.std.specs.Prelude.{◌≡◌, ℕ, ◌+◌, ◌≤◌, List, ◌++◌, length, Any, ◌⊎◌}
+use Rattle.std.specs.Prelude.{◌≡◌, ℕ, ◌≤◌, List, ◌++◌, length, ◌⊎◌}
 use Rattle.std.specs.List.{All}
 use Rattle.par_pool.specs.declared.constant.Constant.{Constant}
-use Rattle.par_pool.specs.declared.constant.Constant.TheVariants.{Utf8, Integer, Class, Field, Method, NameType}
+use Rattle.par_pool.specs.declared.constant.Constant.TheVariants.{Utf8, Class, NameType}
 use Rattle.par_pool.specs.Entries.{IsUtf8At, IsClassAt, IsNameTypeAt}
 
 -- Each earlier index keeps its entry; behind these stand at most `few` more, each of the stated sort.

@@ -1,4 +1,3 @@
-use Rattle.std.proofs.Common.{ℕ, List}
 use Rattle.std.proofs.lemmas.Result.{err_from_is_err_and}
 use Rattle.par_pool.specs.Reading.{items}
 use Rattle.par_class.specs.Reading.{attribute_at, attributes_at}

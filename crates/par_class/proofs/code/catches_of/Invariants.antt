@@ -1,4 +1,3 @@
-use Rattle.std.proofs.Common.{◌≡◌, ◌-◌}
 use Rattle.par_pool.specs.Reading.{items}
 use Rattle.par_class.specs.Reading.{catch_at}
 use Rattle.par_class.proofs.Lists.{Reads}

@@ -1,4 +1,3 @@
-use Rattle.std.proofs.Common.{◌≡◌, ◌-◌}
 use Rattle.par_pool.specs.Reading.{items, made}
 use Rattle.par_class.specs.Layout as layout
 use Rattle.par_class.specs.Reading.{method_at}

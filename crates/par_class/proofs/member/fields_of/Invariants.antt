@@ -1,6 +1,4 @@
-use Rattle.std.proofs.Common.{◌≡◌, ◌-◌}
-use Rattle.par_pool.specs.Reading.{items, made}
-use Rattle.par_class.specs.Layout as layout
+use Rattle.par_pool.specs.Reading.{items}
 use Rattle.par_class.specs.Reading.{field_at}
 use Rattle.par_class.proofs.Lists.{Reads}
 use Rattle.par_class.proofs.member.fields_of.Given as goal

@@ -1,5 +1,3 @@
-use Rattle.std.proofs.Common.{subst}
-use Rattle.par_pool.specs.Reading.{Gives}
 use Rattle.par_class.specs.Layout as layout
 use Rattle.par_class.specs.Reading.{method_at, methods_at}
 use Rattle.par_class.proofs.Lists.{list_made}

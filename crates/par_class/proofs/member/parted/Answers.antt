@@ -1,4 +1,4 @@
-use Rattle.std.proofs.Common.{◌≡◌, ◌∙◌, ◌∷◌, ◌++◌, [], List, ap, sym, refl}
+use Rattle.std.proofs.Common.{◌∙◌, ◌∷◌, ◌++◌, [], List, ap, sym, refl}
 use Rattle.par_class.specs.declared.file.Attribute.{Attribute}
 use Rattle.par_class.specs.Layout.{code_in, others_in}
 use Rattle.par_class.proofs.Pieces.{code_in-plain, code_in-code, others_in-plain, others_in-code}

@@ -1,7 +1,5 @@
-use Rattle.std.proofs.Common.{ℕ, List}
 use Rattle.std.proofs.lemmas.Result.{err_from_is_err_and}
-use Rattle.par_pool.specs.Reading.{items, made}
-use Rattle.par_class.specs.Layout as layout
+use Rattle.par_pool.specs.Reading.{items}
 use Rattle.par_class.specs.Reading.{piece_at, pieces_at}
 use Rattle.par_class.proofs.Lists.{loop_goes, loop_ends, loop_done, list_fails, list_is}
 use Rattle.par_class.proofs.member.pieces_of.Goals as goal

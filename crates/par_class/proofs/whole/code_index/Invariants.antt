@@ -1,4 +1,4 @@
-use Rattle.std.proofs.Common.{◌≡◌, ◌<◌, ℕ, false, Some}
+use Rattle.std.proofs.Common.{◌≡◌, false, Some}
 use Rattle.std.specs.Prelude.{codes}
 use Rattle.std.specs.List.{AllWithin}
 use Rattle.par_class.specs.Spelling.{is_named}

@@ -1,7 +1,5 @@
-use Rattle.std.proofs.Common.{List, ℕ, drop, length, Ok, subst, sym, arith}
-use Rattle.par_pool.specs.declared.constant.Constant.{Constant}
+use Rattle.std.proofs.Common.{drop, length, arith}
 use Rattle.par_pool.specs.declared.error.ClassError.TheVariants.{Cut}
-use Rattle.par_pool.specs.Reading.{Gives}
 use Rattle.par_pool.proofs.Offsets.{pool_found, pool_only, pool_bytes}
 use Rattle.par_pool.proofs.reading.read_pool.Goals as goal
 
