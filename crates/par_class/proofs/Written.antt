@@ -295,3 +295,7 @@ file_sized bytes f there =
 -- what is written spells the file
 pub written_spells : (bytes : List ℕ) (f : ClassFile) (text : List ℕ) → Spells bytes f → text ≡ layout (layout_of f) → Spells text f
 written_spells bytes f text there e = record { laid = layout_of f; is_file = file-again f; fits = fits-again bytes f there; spelled = e }
+
+-- a file whose layout fits has a spelling, as it is to be written
+pub has_spelling : (f : ClassFile) → IsLayout (layout_of f) → (bytes : List ℕ) × Spells bytes f
+has_spelling f h = (layout (layout_of f), record { laid = layout_of f; is_file = file-again f; fits = h; spelled = refl })
