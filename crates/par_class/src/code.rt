@@ -1,0 +1,141 @@
+ghost use Rattle.std.specs.Prelude.{◌≡◌, length};
+ghost use Rattle.par_pool.specs.Reading.{Gives};
+ghost use Rattle.par_class.specs.Reading as reading;
+ghost use Rattle.par_class.specs.Reading.{inside};
+
+use crate::attribute::attributes_of;
+use crate::file::{Catch, CodeAttr};
+use crate::place::place;
+use par_lexer::list::List;
+use par_pool::constant::Constant;
+use par_pool::error::ClassError;
+use par_pool::item::{taken, u2, u4};
+use par_pool::kind::is_class;
+use std::alloc::Global;
+
+/// The index of the class that a handler catches, or 0 where it catches all.
+#[tactic(auto, unfolding(crate::specs::Reading::caught_at))]
+fn caught<'b>(
+    entries: &[Constant],
+    short: ClassError,
+    end: u32,
+    bytes: &'b [u8],
+) -> Result<(u16, &'b [u8]), ClassError>
+    ensures { Gives (λ x. (x.0, x.1.now)) result (reading.caught_at entries.now short end bytes.now) }
+{
+    let (class, rest) = u2(short, bytes)?;
+    if class != 0 && !is_class(entries, class) {
+        return Err(ClassError::Index(place(end, bytes)));
+    }
+    Ok((class, rest))
+}
+
+/// A handler of code of this length.
+#[tactic(auto, unfolding(crate::specs::Reading::catch_at))]
+fn catch_of<'b>(
+    entries: &[Constant],
+    short: ClassError,
+    end: u32,
+    len: usize,
+    bytes: &'b [u8],
+) -> Result<(Catch, &'b [u8]), ClassError>
+    ensures { Gives (λ x. (x.0, x.1.now)) result (reading.catch_at entries.now short end len bytes.now) }
+{
+    let (from, rest) = u2(short, bytes)?;
+    let (to, rest) = u2(short, rest)?;
+    let (handler, rest) = u2(short, rest)?;
+    let (class, rest) = caught(entries, short, end, rest)?;
+    if from >= to || to as usize > len || handler as usize >= len {
+        return Err(ClassError::Shape(place(end, bytes)));
+    }
+    let catch = Catch {
+        start: from,
+        end: to,
+        handler,
+        class,
+    };
+    Ok((catch, rest))
+}
+
+/// The handlers behind their number.
+#[tactic(auto, unfolding(crate::specs::Reading::catches_at))]
+fn catches_of<'b>(
+    alloc: Global,
+    entries: &[Constant],
+    short: ClassError,
+    end: u32,
+    len: usize,
+    bytes: &'b [u8],
+) -> Result<(List<Catch>, &'b [u8]), ClassError>
+    ensures { Gives (λ x. (x.0, x.1.now)) result (reading.catches_at entries.now short end len bytes.now) }
+{
+    let (count, mut rest) = u2(short, bytes)?;
+    let mut catches = List::new(alloc);
+    for _ in 0..count {
+        let (catch, after) = catch_of(entries, short, end, len, rest)?;
+        catches.push(catch)?;
+        rest = after;
+    }
+    Ok((catches, rest))
+}
+
+/// The number of code bytes, from 1 to 65535.
+#[tactic(auto, unfolding(crate::specs::Reading::code_length_at))]
+fn code_length<'b>(
+    short: ClassError,
+    end: u32,
+    bytes: &'b [u8],
+) -> Result<(u32, &'b [u8]), ClassError>
+    ensures { Gives (λ x. (x.0, x.1.now)) result (reading.code_length_at short end bytes.now) }
+{
+    let (len, rest) = u4(short, bytes)?;
+    if len == 0 || len > 65535 {
+        return Err(ClassError::Shape(place(end, bytes)));
+    }
+    Ok((len, rest))
+}
+
+/// Code, with its limits, handlers and attributes.
+#[tactic(auto, unfolding(crate::specs::Reading::instructions_at, crate::specs::Reading::handled_at, crate::specs::Reading::code_at))]
+fn code_of<'b>(
+    alloc: Global,
+    entries: &[Constant],
+    short: ClassError,
+    end: u32,
+    bytes: &'b [u8],
+) -> Result<(CodeAttr, &'b [u8]), ClassError>
+    ensures { Gives (λ x. (x.0, x.1.now)) result (reading.code_at entries.now short end bytes.now) }
+{
+    let (max_stack, rest) = u2(short, bytes)?;
+    let (max_locals, rest) = u2(short, rest)?;
+    let (len, rest) = code_length(short, end, rest)?;
+    let (code, rest) = taken(short, len as usize, rest)?;
+    let (catches, rest) = catches_of(alloc, entries, short, end, code.len(), rest)?;
+    let (attributes, rest) = attributes_of(alloc, entries, short, end, rest)?;
+    let code = List::wrap(Vec::from_slice(alloc, code)?);
+    let attribute = CodeAttr {
+        max_stack,
+        max_locals,
+        code,
+        catches,
+        attributes,
+    };
+    Ok((attribute, rest))
+}
+
+/// The code that is all of the inside of an attribute, which ends at `end`.
+pub fn code_inside(
+    alloc: Global,
+    entries: &[Constant],
+    end: u32,
+    bytes: &[u8],
+) -> Result<CodeAttr, ClassError>
+    ensures { Gives (λ x. x) result (inside entries.now end bytes.now) }
+{
+    let shape = ClassError::Shape(place(end, bytes));
+    let (code, rest) = code_of(alloc, entries, shape, end, bytes)?;
+    if !rest.is_empty() {
+        return Err(shape);
+    }
+    Ok(code)
+}

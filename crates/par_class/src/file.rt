@@ -1,0 +1,73 @@
+use par_lexer::list::List;
+use par_pool::constant::Pool;
+
+/// An attribute that is not looked into (Java Virtual Machine Specification, Java SE 7, section
+/// 4.7). The name is the index of a text.
+#[derive(Drop)]
+pub struct Attribute {
+    pub name: u16,
+    pub bytes: List<u8>,
+}
+
+/// A handler of a method's code: the range that it covers, where it begins, and the index of the
+/// class that it catches, or 0 where it catches all (section 4.7.3).
+#[derive(Drop)]
+pub struct Catch {
+    pub start: u16,
+    pub end: u16,
+    pub handler: u16,
+    pub class: u16,
+}
+
+/// A method's code (section 4.7.3).
+#[derive(Drop)]
+pub struct CodeAttr {
+    pub max_stack: u16,
+    pub max_locals: u16,
+    pub code: List<u8>,
+    pub catches: List<Catch>,
+    pub attributes: List<Attribute>,
+}
+
+/// A field (section 4.5).
+#[derive(Drop)]
+pub struct FieldFile {
+    pub access: u16,
+    pub name: u16,
+    pub descriptor: u16,
+    pub attributes: List<Attribute>,
+}
+
+/// A method (section 4.6). Its code stands apart from its other attributes; a native method has
+/// none.
+#[derive(Drop)]
+pub struct MethodFile {
+    pub access: u16,
+    pub name: u16,
+    pub descriptor: u16,
+    pub code: Option<CodeAttr>,
+    pub attributes: List<Attribute>,
+}
+
+/// A class file (section 4.1).
+#[derive(Drop)]
+pub struct ClassFile {
+    pub minor: u16,
+    pub major: u16,
+    pub pool: Pool,
+    pub access: u16,
+    pub this_class: u16,
+    pub super_class: u16,
+    pub fields: List<FieldFile>,
+    pub methods: List<MethodFile>,
+    pub attributes: List<Attribute>,
+}
+
+/// An attribute of a method, in the order of the file.
+#[derive(Drop)]
+pub enum Piece {
+    /// One that is not looked into.
+    Plain(Attribute),
+    /// The method's code, under the index of a text `Code`.
+    Code(u16, CodeAttr),
+}
