@@ -2,3 +2,4 @@ pub mod Listed
 pub mod Back
 pub mod Spellings
 pub mod Places
+pub mod Decodings

@@ -1,4 +1,5 @@
-ghost use Rattle.std.specs.Prelude.{◌≡◌, ℕ, ◌≤◌, ◌↔◌, ◌∷◌, ◌++◌, length, drop, nat_le, ◌&&◌, OnOk, OnErr, IfOk, IsErrOf, IsTrue};
+ghost use Rattle.std.specs.Prelude.{◌≡◌, ℕ, ◌-◌, ◌<◌, ◌≤◌, ◌↔◌, ◌∷◌, ◌++◌, length, drop, nat_le, ◌&&◌, OnOk, OnErr, IfOk, IsErrOf, IsTrue};
+ghost use Rattle.par_instr.specs.Decoding.{decoded_at};
 ghost use Rattle.par_instr.specs.Spelling.{operand_bytes, spelling, has_spelling, effect, IsSpelled, Stands, IsUnlisted, IsCut};
 
 use crate::instr::{Instr, InstrError, NoMemory};
@@ -146,6 +147,10 @@ pub fn decode(code: &[u8], at: usize) -> Result<(Instr, usize), InstrError>
     ensures unsupported { (b : ℕ) →
         IsErrOf result (InstrError.Unsupported b) ↔ IsUnlisted (drop at code.now) b }
     ensures cut { IsErrOf result InstrError.Cut ↔ IsCut (drop at code.now) }
+    ensures decoded { IfOk result (λ r.
+        decoded_at code.now at ≡ Some (record { instr = r.0; size = r.1 - at })) }
+    ensures within { IfOk result (λ r. (at < r.1) × (r.1 ≤ length code.now)) }
+    ensures nothing { OnErr result (decoded_at code.now at ≡ None) }
 {
     let Some((&op, behind)) = code[at..].split_first() else {
         return Err(InstrError::Cut);

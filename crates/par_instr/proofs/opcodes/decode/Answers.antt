@@ -1,4 +1,5 @@
 use Rattle.std.proofs.Common.{rules, arith, ◌+◌}
+use Rattle.par_instr.proofs.Decodings.{decoded_at-stands}
 use Rattle.par_instr.proofs.Places.{stands, begins, one_stands, Begins}
 use Rattle.par_instr.specs.Spelling.{Stands}
 use Rattle.par_instr.proofs.opcodes.decode.Goals as goal
@@ -17,6 +18,12 @@ returns-clause-whole c = λ i next s.
     returns-clause-found c in
     let same = one_stands c.args.code.now c.args.at c.instruction.result i (c.args.at + 1 + c.in-Some-operand_size.size) next found s in
     cc (same.0, same.1)
+
+-- it is what is decoded there
+pub returns-clause-decoded : goal.returns-clause-decoded
+returns-clause-decoded c =
+    decoded_at-stands c.args.code.now c.args.at c.instruction.result (c.args.at + 1 + c.in-Some-operand_size.size)
+    (returns-clause-found c)
 
 -- nothing stands where the opcode is not listed
 pub returns-in_default-operand_size-clause-whole :
