@@ -5,4 +5,7 @@
 #![tactic(auto)]
 
 pub mod inputs;
+pub mod kind;
+pub mod link;
 pub mod run;
+pub mod value;

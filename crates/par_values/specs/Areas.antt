@@ -1,0 +1,116 @@
+-- What an instruction reads and writes: locals and operands of its frame, static fields and input
+-- lists of the program (Java Virtual Machine Specification, Java SE 7, sections 2.5 and 2.6).
+use Rattle.std.specs.Prelude.{ℕ, Bool, true, false, ◌&&◌, not, if◌then◌else◌, ℤ, pos, List, [], ◌∷◌, ◌++◌, Option, Some, None, slice_get, slice_set, map, replicate, length, ◌-◌, drop}
+use Rattle.std.specs.Str.{bytes_eq}
+use Rattle.par_values.specs.declared.value.MVal.{MVal}
+use Rattle.par_values.specs.declared.value.MVal.TheVariants.{Int, Null, Ref}
+use Rattle.par_values.specs.declared.kind.Kind.{Kind}
+use Rattle.par_values.specs.declared.kind.Kind.TheVariants.{Number, Object, AnyObject, Anything}
+use Rattle.par_values.specs.declared.run.Val.{Val}
+use Rattle.par_values.specs.declared.run.Val.TheVariants as shown
+
+abbrev pub Name : Type 0
+Name = List ℕ
+
+-- the numbers that an input channel, by its class and name, has left
+abbrev pub InputLists : Type 0
+InputLists = Name → Name → List ℤ
+
+pub record Areas : Type 0 where
+  -- a local holds nothing until it is set
+  pub locals : List (Option MVal)
+  -- the operand that was pushed last comes first
+  pub operands : List MVal
+  pub statics : List MVal
+  pub inputs : InputLists
+
+-- a name, or no bytes where there is none
+abbrev pub name_or_none : Option Name → Name
+name_or_none None = []
+name_or_none (Some name) = name
+
+-- the name of the class of this number
+abbrev pub class_named : List Name → ℕ → Name
+class_named classes c = name_or_none (slice_get classes c)
+
+-- whether a value is of a kind, where the classes have these names
+abbrev pub fits : List Name → Kind → MVal → Bool
+fits classes Anything v = true
+fits classes Number (Int n) = true
+fits classes Number Null = false
+fits classes Number (Ref c n) = false
+fits classes (Object name) (Int n) = false
+fits classes (Object name) Null = true
+fits classes (Object name) (Ref c n) = bytes_eq (class_named classes c) name
+fits classes AnyObject (Int n) = false
+fits classes AnyObject Null = true
+fits classes AnyObject (Ref c n) = true
+
+-- a value as a run shows it
+abbrev pub shown_value : List Name → MVal → Val
+shown_value classes (Int n) = shown.Int n
+shown_value classes Null = shown.Null
+shown_value classes (Ref c n) = shown.Ref (class_named classes c) n
+
+-- what a field holds before it is written
+abbrev pub first_value : Kind → MVal
+first_value Number = Int (pos 0)
+first_value (Object name) = Null
+first_value AnyObject = Null
+first_value Anything = Null
+
+abbrev pub push : MVal → Areas → Areas
+push v a = record a { operands = v ∷ a.operands }
+
+-- without the operands that were pushed last, so many
+abbrev pub pop : ℕ → Areas → Areas
+pop n a = record a { operands = drop n a.operands }
+
+-- a value, or null where there is none
+abbrev pub value_or_null : Option MVal → MVal
+value_or_null None = Null
+value_or_null (Some v) = v
+
+-- the operand with so many pushed after it
+abbrev pub operand : ℕ → Areas → MVal
+operand n a = value_or_null (slice_get a.operands n)
+
+-- the number of a value
+abbrev pub number_of : MVal → ℤ
+number_of (Int n) = n
+number_of Null = pos 0
+number_of (Ref c n) = pos 0
+
+abbrev pub set_local : ℕ → MVal → Areas → Areas
+set_local x v a = record a { locals = slice_set a.locals x (Some v) }
+
+-- what a local holds
+abbrev pub local_value : Option (Option MVal) → Option MVal
+local_value None = None
+local_value (Some held) = held
+
+abbrev pub local_at : ℕ → Areas → Option MVal
+local_at x a = local_value (slice_get a.locals x)
+
+abbrev pub set_static : ℕ → MVal → Areas → Areas
+set_static place v a = record a { statics = slice_set a.statics place v }
+
+-- the number that is taken from a list, 0 from a spent one
+abbrev pub next : List ℤ → ℤ
+next [] = pos 0
+next (n ∷ ns) = n
+
+abbrev pub left : List ℤ → List ℤ
+left [] = []
+left (n ∷ ns) = ns
+
+-- the input lists after a number is taken from one
+abbrev pub taken_from : Name → Name → InputLists → InputLists
+taken_from class name inputs c n = if bytes_eq c class && bytes_eq n name then left (inputs c n) else inputs c n
+
+abbrev pub take_input : Name → Name → Areas → Areas
+take_input class name a = record a { inputs = taken_from class name a.inputs }
+
+-- the locals of a called method: its arguments, and so many in all
+abbrev pub first_locals : ℕ → List MVal → List (Option MVal)
+first_locals many arguments = map Some arguments ++ replicate (many - length arguments) None

@@ -1,0 +1,5 @@
+pub mod Areas
+pub mod Operations
+pub mod Reasons
+pub mod Effects
+pub mod Ran
