@@ -2,3 +2,4 @@ pub mod Agreement
 pub mod Extension
 pub mod Seeing
 pub mod Examples
+pub mod Carried

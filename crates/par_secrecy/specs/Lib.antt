@@ -4,3 +4,7 @@ pub mod Shown
 pub mod Secure
 pub mod Longer
 pub mod Laws
+pub mod Target
+pub mod Shows
+pub mod SecureFiles
+pub mod ShownFiles
