@@ -124,9 +124,10 @@ named-is_text text (NameType m n) h = absurd (false≢true h)
 abbrev is_code_text : Constant → Bool
 is_code_text c = is_named (codes "Code") (Some c)
 
-least-is : (entries : List Constant) (n : ℕ) → length entries + 1 < 2 ^ 16 → names_code entries n ≡ true → IsTextIndex entries (least_code entries) × IsTrue (names_code entries (least_code entries))
-least-is entries zero few h = absurd (false≢true h)
-least-is entries (suc i) few h =
+-- where some index names `Code`, the least one names it too
+pub least_named : (entries : List Constant) (n : ℕ) → length entries + 1 < 2 ^ 16 → names_code entries n ≡ true → IsTextIndex entries (least_code entries) × IsTrue (names_code entries (least_code entries))
+least_named entries zero few h = absurd (false≢true h)
+least_named entries (suc i) few h =
     let at-place : (o : Option Constant) → slice_get entries i ≡ o → is_named (codes "Code") o ≡ true → IsTextIndex entries (least_code entries) × IsTrue (names_code entries (least_code entries)) = λ o.
     elim o as (λ o. slice_get entries i ≡ o → is_named (codes "Code") o ≡ true → IsTextIndex entries (least_code entries) × IsTrue (names_code entries (least_code entries))) [
       | None ↦ λ _ t. absurd (false≢true t)
@@ -197,7 +198,7 @@ module _ (entries : List Constant) where
       (omega (arith, others-number ps), (others-fit ps h, omega (arith, plain-number (others_in ps), none-number ps is)))
   pieces-written ps few h once (Some c) is =
       let old = code-fits ps c h is in
-      let name = least-is entries old.0 few old.1.2 in (
+      let name = least_named entries old.0 few old.1.2 in (
         omega (arith, others-number ps, some-number ps c is),
         (((record { name = name.0; size = old.1.0.size }, old.1.1, name.1), others-fit ps h), omega (arith, code-number (least_code entries) c (map (λ a. Plain a) (others_in ps)), plain-number (others_in ps), some-number ps c is, once)),
       )

@@ -72,15 +72,16 @@ channel_found (x ∷ cs) (suc c) h lt =
     rw (other_bytes (channel_name_of (slice_get cs c)) x.name apart) (channel_found cs c both.1 (omega arith))
 
 -- the numbered fields and channels keep their names
-field_names : (actors locks : List Name) (ms : List Member) → map (λ f. f.name) (map (numbered_field actors locks) ms) ≡ member_names ms
+pub field_names : (actors locks : List Name) (ms : List Member) → map (λ f. f.name) (map (numbered_field actors locks) ms) ≡ member_names ms
 field_names actors locks [] = refl
 field_names actors locks (m ∷ ms) = ap (λ ns. m.id.name ∷ ns) (field_names actors locks ms)
 
-channel_names : (actors locks : List Name) (ms : List Member) → map (λ c. c.name) (map (numbered_channel actors locks) ms) ≡ member_names ms
+pub channel_names : (actors locks : List Name) (ms : List Member) → map (λ c. c.name) (map (numbered_channel actors locks) ms) ≡ member_names ms
 channel_names actors locks [] = refl
 channel_names actors locks (m ∷ ms) = ap (λ ns. m.id.name ∷ ns) (channel_names actors locks ms)
 
-place_below : (ns : List Name) (n : Name) → IsTrue (among ns n) → place_of ns n < length ns
+-- the place of a name that is among them
+pub place_below : (ns : List Name) (n : Name) → IsTrue (among ns n) → place_of ns n < length ns
 place_below [] n h = cc
 place_below (m ∷ ns) n h =
     cond_both (bytes_eq m n) 0 (suc (place_of ns n)) (λ k. k < suc (length ns)) (λ e. omega arith)
