@@ -1,0 +1,13 @@
+pub mod Listed
+pub mod Constants
+pub mod Stays
+pub mod Emitting
+pub mod Sequences
+pub mod Naming
+pub mod Declared
+pub mod Given
+pub mod Most
+pub mod Whole
+pub mod Laid
+pub mod Examples
+pub mod Shop
