@@ -1,0 +1,4 @@
+pub mod Walks
+pub mod Following
+pub mod Owned
+pub mod Alone

@@ -1,0 +1,5 @@
+pub mod Descriptors
+pub mod Members
+pub mod Links
+pub mod Walk
+pub mod Single

@@ -1,0 +1,68 @@
+//! Whether the members of a class have the names and the descriptors that they need.
+
+ghost use Rattle.std.specs.Prelude.{◌≡◌};
+ghost use Rattle.std.specs.List.{list_all};
+ghost use Rattle.par_class.specs.Spelling.{is_native};
+ghost use Rattle.par_single.specs.Single.{is_field_right, is_of_channel, is_channel_right, is_method_right, is_described};
+
+use crate::descriptor::{field_said, is_name, method_gives};
+use crate::member::{is_native, is_static, text_at};
+use par_class::file::{ClassFile, FieldFile, MethodFile};
+use par_pool::constant::Constant;
+
+/// Whether a field has a name and the descriptor of a field.
+fn is_field_right(entries: &[Constant], field: &FieldFile) -> bool
+    ensures { result ≡ is_field_right entries.now field.now }
+{
+    is_name(text_at(entries, field.name))
+        && field_said(text_at(entries, field.descriptor)).is_some()
+}
+
+/// Whether a descriptor is that of an input or of an output channel.
+fn is_of_channel(descriptor: &[u8]) -> bool
+    ensures { result ≡ is_of_channel descriptor.now }
+{
+    descriptor == b"()I".as_slice() || descriptor == b"(I)V".as_slice()
+}
+
+/// Whether a native method is a channel.
+fn is_channel_right(entries: &[Constant], method: &MethodFile) -> bool
+    ensures { result ≡ is_channel_right entries.now method.now }
+{
+    is_name(text_at(entries, method.name))
+        && is_static(method.access)
+        && is_of_channel(text_at(entries, method.descriptor))
+}
+
+/// Whether a method has the descriptor of a method, and is a channel where it is native.
+fn is_method_right(entries: &[Constant], method: &MethodFile) -> bool
+    ensures { result ≡ is_method_right entries.now method.now }
+{
+    method_gives(text_at(entries, method.descriptor)).is_some()
+        && (!is_native(method.access) || is_channel_right(entries, method))
+}
+
+/// Whether all fields are right.
+fn are_fields_right(entries: &[Constant], fields: &[FieldFile]) -> bool
+    ensures { result ≡ list_all (is_field_right entries.now) fields.now }
+{
+    fields.iter().all(|field| is_field_right(entries, field))
+}
+
+/// Whether all methods are right.
+fn are_methods_right(entries: &[Constant], methods: &[MethodFile]) -> bool
+    ensures { result ≡ list_all (is_method_right entries.now) methods.now }
+{
+    methods
+        .iter()
+        .all(|method| is_method_right(entries, method))
+}
+
+/// Whether fields and methods have descriptors, and the names that they need.
+pub fn is_described(file: &ClassFile) -> bool
+    ensures { result ≡ is_described file.now }
+{
+    let entries = file.pool.entries.as_slice();
+    are_fields_right(entries, file.fields.as_slice())
+        && are_methods_right(entries, file.methods.as_slice())
+}

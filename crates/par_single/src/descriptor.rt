@@ -1,0 +1,172 @@
+//! What descriptors say (Java Virtual Machine Specification, Java SE 7, section 4.3).
+
+ghost use Rattle.std.specs.Prelude.{◌≡◌, option_map, is_some, is_none, IfOk, IfSome, position};
+ghost use Rattle.par_single.specs.Descriptors.{Text, is_name, kind_at, alone, field_kind, kinds_at, result_kind, result_at, method_signature, kind_of, IsSaid, ends_name, object_to};
+ghost use Rattle.par_single.specs.Links.{signature_said};
+
+use par_lexer::list::{List, NoMemory};
+use par_lexer::name::Name;
+use par_values::kind::Kind;
+use std::alloc::Global;
+
+/// A kind of value as it stands in a descriptor.
+#[derive(Clone, Copy)]
+pub enum Said<'t> {
+    /// An `int` or a `boolean`.
+    Number,
+    /// An object of the class of this name.
+    Object(&'t [u8]),
+}
+
+/// What the descriptor of a method says.
+#[derive(Drop)]
+pub struct Signature {
+    /// The kinds of the arguments, in their order.
+    pub takes: List<Kind>,
+    /// The kind of the result, none where there is no result.
+    pub gives: Option<Kind>,
+}
+
+/// Whether some bytes are a name.
+pub fn is_name(text: &[u8]) -> bool
+    ensures { result ≡ is_name text.now }
+{
+    Name::is_name(text)
+}
+
+impl Said<'_> {
+    /// The kind, with a name of its own.
+    pub fn to_kind(self, alloc: Global) -> Result<Kind, NoMemory>
+        requires { IsSaid self }
+        ensures { IfOk result (λ kind. kind ≡ kind_of self.entry) }
+    {
+        match self {
+            Said::Number => Ok(Kind::Number),
+            Said::Object(name) => Ok(Kind::Object(Name::new(alloc, name)?)),
+        }
+    }
+}
+
+/// The place of the `;` that ends the name with which a text begins.
+fn name_end(text: &[u8]) -> Option<usize>
+    ensures { result ≡ position ends_name text.now }
+{
+    text.iter().position(|byte| *byte == b';')
+}
+
+/// An object of the class whose name a text begins with, and the text behind the `;`.
+fn object_at(text: &[u8]) -> Option<(Said, &[u8])>
+    ensures found { option_map (λ found. (kind_of found.0, found.1.now)) result
+        ≡ object_to text.now (position ends_name text.now) }
+    ensures named { IfSome result (λ found. IsSaid found.0) }
+{
+    let end = name_end(text)?;
+    let name = &text[..end];
+    if !is_name(name) {
+        return None;
+    }
+    Some((Said::Object(name), &text[end + 1..]))
+}
+
+/// The kind that a text begins with, and the text behind it.
+#[tactic(auto, unfolding(crate::specs::Descriptors::kind_at))]
+pub fn kind_at(text: &[u8]) -> Option<(Said, &[u8])>
+    ensures found { option_map (λ found. (kind_of found.0, found.1.now)) result ≡ kind_at text.now }
+    ensures named { IfSome result (λ found. IsSaid found.0) }
+{
+    match text {
+        [b'I' | b'Z', rest @ ..] => Some((Said::Number, rest)),
+        [b'L', rest @ ..] => object_at(rest),
+        _ => None,
+    }
+}
+
+/// The kind that the descriptor of a field says.
+pub fn field_said(text: &[u8]) -> Option<Said>
+    ensures found { option_map kind_of result ≡ field_kind text.now }
+    ensures named { IfSome result IsSaid }
+{
+    let (said, rest) = kind_at(text)?;
+    rest.is_empty().then_some(said)
+}
+
+/// The kind that the descriptor of a field says, with a name of its own.
+pub fn field_kind(alloc: Global, text: &[u8]) -> Result<Option<Kind>, NoMemory>
+    ensures { IfOk result (λ kind. kind ≡ field_kind text.now) }
+{
+    match field_said(text) {
+        None => Ok(None),
+        Some(said) => Ok(Some(said.to_kind(alloc)?)),
+    }
+}
+
+/// What stands behind the kinds that a text begins with.
+fn behind_kinds(text: &[u8]) -> &[u8]
+    ensures { result.now ≡ (kinds_at text.now).1 }
+{
+    let mut rest = text;
+    while let Some((_, behind)) = kind_at(rest) {
+        rest = behind;
+    }
+    rest
+}
+
+/// The kinds that a text begins with, each with a name of its own.
+fn kinds(alloc: Global, text: &[u8]) -> Result<List<Kind>, NoMemory>
+    ensures { IfOk result (λ kinds. kinds ≡ (kinds_at text.now).0) }
+{
+    let mut kinds = List::new(alloc);
+    let mut rest = text;
+    while let Some((said, behind)) = kind_at(rest) {
+        kinds.push(said.to_kind(alloc)?)?;
+        rest = behind;
+    }
+    Ok(kinds)
+}
+
+/// The kind of a result behind `)`.
+fn result_at(text: &[u8]) -> Option<Option<Said>>
+    ensures found { option_map (option_map kind_of) result ≡ result_at text.now }
+    ensures named { IfSome result (λ gives. IfSome gives IsSaid) }
+{
+    match text {
+        [b')', b'V'] => Some(None),
+        [b')', rest @ ..] => field_said(rest).map(Some),
+        _ => None,
+    }
+}
+
+/// The kind of the result that the descriptor of a method says: none where it is no descriptor of
+/// a method, and `Some(None)` where the method gives no result.
+pub fn method_gives(text: &[u8]) -> Option<Option<Said>>
+    ensures found { option_map (option_map kind_of) result
+        ≡ option_map (λ signature. signature.gives) (method_signature text.now) }
+    ensures named { IfSome result (λ gives. IfSome gives IsSaid) }
+{
+    match text {
+        [b'(', rest @ ..] => result_at(behind_kinds(rest)),
+        _ => None,
+    }
+}
+
+/// What the descriptor of a method says, with names of its own.
+pub fn method_signature(alloc: Global, text: &[u8]) -> Result<Option<Signature>, NoMemory>
+    ensures { IfOk result (λ signature. signature ≡ method_signature text.now) }
+{
+    let Some(said) = method_gives(text) else {
+        return Ok(None);
+    };
+    let gives = match said {
+        None => None,
+        Some(said) => Some(said.to_kind(alloc)?),
+    };
+    let takes = kinds(alloc, &text[1..])?;
+    Ok(Some(Signature { takes, gives }))
+}
+
+/// Whether a method of this descriptor gives no result.
+pub fn gives_nothing(descriptor: &[u8]) -> bool
+    ensures { result ≡ is_none (signature_said descriptor.now).gives }
+{
+    !matches!(method_gives(descriptor), Some(Some(_)))
+}
