@@ -1,0 +1,12 @@
+-- The areas that an instruction works on, as the program holds them.
+use Rattle.par_values.specs.Areas as plain
+use Rattle.par_machine.specs.declared.areas.Areas.{Areas}
+use Rattle.par_machine.specs.State.{whole_inputs}
+
+abbrev pub areas_of : Areas → plain.Areas
+areas_of a = record {
+  locals = a.locals.items;
+  operands = a.operands.values;
+  statics = a.statics.items;
+  inputs = whole_inputs a.inputs;
+}

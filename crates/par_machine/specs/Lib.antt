@@ -1,0 +1,17 @@
+pub mod State
+pub mod Step
+pub mod Run
+pub mod Target
+pub mod OperandList
+pub mod Channels
+pub mod Links
+pub mod Operation
+pub mod Areas
+pub mod Reason
+pub mod Slot
+pub mod Effect
+pub mod Program
+pub mod Running
+pub mod Turn
+pub mod Owning
+pub mod Machine

@@ -1,0 +1,145 @@
+ghost use Rattle.std.specs.Prelude.{◌≤◌, length};
+
+use crate::inputs_fit;
+use crate::machine::Machine;
+use crate::turn::{Stuck, Turn};
+use par_class::read_class;
+use par_lexer::list::List;
+use par_lexer::name::Name;
+use par_single::runs_alone;
+use par_values::inputs::{ChannelInput, Inputs};
+use par_values::run::{Ending, Event, Val};
+use std::alloc::Global;
+use std::test::Fail;
+
+// A class `Shop` up to the code of its method `main`. Its pool names the static field `got` of
+// type int by 11, the output channel `show` by 15, the input channel `ask` by 19, the method
+// `more` by 22 and the number 2147483647 by 23.
+const HEAD: &[u8] =
+    b"\xca\xfe\xba\xbe\0\0\01\0\x18\x01\0\x04Shop\x07\0\x01\x01\0\x10java/lang/Object\x07\0\x03\x01\0\x04main\x01\0\x03()V\x01\0\x04Code\x01\0\x03got\x01\0\x01I\x0c\0\x08\0\x09\x09\0\x02\0\x0a\x01\0\x04show\x01\0\x04(I)V\x0c\0\x0c\0\x0d\x0a\0\x02\0\x0e\x01\0\x03ask\x01\0\x03()I\x0c\0\x10\0\x11\x0a\0\x02\0\x12\x01\0\x04more\x0c\0\x14\0\x06\x0a\0\x02\0\x15\x03\x7f\xff\xff\xff\0\x01\0\x02\0\x04\0\0\0\x01\0\x09\0\x08\0\x09\0\0\0\x04\0\x09\0\x05\0\x06\0\x01\0\x07\0\0\0";
+
+// What stands behind it: the channels, and `more`, which adds 2 to `got`.
+const TAIL: &[u8] =
+    b"\0\0\0\0\x01\x09\0\x0c\0\x0d\0\0\x01\x09\0\x10\0\x11\0\0\0\x09\0\x14\0\x06\0\x01\0\x07\0\0\0\x15\0\x02\0\0\0\0\0\x09\xb2\0\x0b\x05\x60\xb3\0\x0b\xb1\0\0\0\0\0\0";
+
+// The code of `main`, the numbers of the events that it makes, and where bad code is met, with the
+// number of the reason (Java Virtual Machine Specification, Java SE 7, section 6.5).
+const RUNS: [(&[u8], &[i32], Option<(u32, u8)>); 8] = [
+    // iconst_2 iconst_3 iadd putstatic return
+    (b"\x05\x06\x60\xb3\0\x0b\xb1", &[5], None),
+    // ldc iconst_1 iadd and a call of `show`: the sum wraps
+    (b"\x12\x17\x04\x60\xb8\0\x0f\xb1", &[-2147483648], None),
+    // `ask` and `show` twice: a spent list gives 0
+    (
+        b"\xb8\0\x13\xb8\0\x0f\xb8\0\x13\xb8\0\x0f\xb1",
+        &[7, 0],
+        None,
+    ),
+    // `more` twice, then getstatic and `show`
+    (
+        b"\xb8\0\x16\xb8\0\x16\xb2\0\x0b\xb8\0\x0f\xb1",
+        &[2, 4, 4],
+        None,
+    ),
+    // istore_0 iload_0: the local is kept
+    (b"\x08\x3b\x07\x1a\x60\xb8\0\x0f\xb1", &[9], None),
+    // iadd of nothing
+    (b"\x60\xb1", &[], Some((0, 1))),
+    // three operands, where there is room for two
+    (b"\x03\x03\x03\xb1", &[], Some((2, 3))),
+    // no return
+    (b"\x03\xb3\0\x0b", &[], Some((1, 5))),
+];
+
+// The bytes of `Shop` with this code of `main`.
+fn bytes_with(alloc: Global, code: &[u8]) -> Result<Vec<u8>, Fail> {
+    let mut bytes = Vec::from_slice(alloc, HEAD)?;
+    let many = code.len().min(200) as u8;
+    bytes.extend_from_slice(&[many + 12, 0, 2, 0, 1, 0, 0, 0, many])?;
+    bytes.extend_from_slice(code)?;
+    bytes.extend_from_slice(TAIL)?;
+    Ok(bytes)
+}
+
+// The number 7 for a channel of `Shop`.
+fn inputs(alloc: Global, channel: Name) -> Result<Inputs, Fail> {
+    let mut numbers = List::new(alloc);
+    numbers.push(7)?;
+    let mut channels = List::new(alloc);
+    channels.push(ChannelInput {
+        class: Name::new(alloc, b"Shop")?,
+        channel,
+        numbers,
+    })?;
+    Ok(Inputs { channels })
+}
+
+// A machine for these bytes, where they are a class file that runs by itself.
+fn machine(alloc: Global, bytes: &[u8]) -> Result<Machine, Fail>
+    requires { length bytes.now ≤ 1048576 }
+{
+    let Ok(file) = read_class(alloc, bytes) else {
+        return Err(Fail::from("the bytes are a class file"));
+    };
+    if !runs_alone(&file, b"Shop") {
+        return Err(Fail::from("the file runs by itself"));
+    }
+    let inputs = inputs(alloc, Name::new(alloc, b"ask")?)?;
+    Ok(Machine::start_one(alloc, file, inputs)?)
+}
+
+// The number that an event shows.
+fn number_of(event: &Event) -> Option<i32> {
+    match event {
+        Event::Out(_, _, number) => Some(*number),
+        Event::Set(_, _, Val::Int(number)) => Some(*number),
+        _ => None,
+    }
+}
+
+// Runs to the end, and answers where bad code is met.
+fn run(machine: &mut Machine, numbers: &mut Vec<i32>) -> Result<Option<(u32, u8)>, Fail> {
+    for _step in 0..100 {
+        match machine.step() {
+            Ok(Turn::Silent) => {}
+            Ok(Turn::Happened(event)) => {
+                numbers.push(number_of(&event).ok_or("an event has a number")?)?;
+            }
+            Ok(Turn::Ended(Ending::End)) => return Ok(None),
+            Err(Stuck::BadCode { offset, reason, .. }) => return Ok(Some((offset, reason))),
+            _ => return Err(Fail::from("the run ends")),
+        }
+    }
+    Err(Fail::from("the run is short"))
+}
+
+#[test]
+fn code_runs(rt: HostRuntime) -> Result<(), Fail> {
+    let alloc = rt.alloc();
+    for (code, expected, bad) in RUNS {
+        let bytes = bytes_with(alloc, code)?;
+        assert!(rt; bytes.len() < 1000);
+        let mut machine = machine(alloc, &bytes)?;
+        let mut numbers = Vec::new(alloc);
+        assert_eq!(rt; run(&mut machine, &mut numbers)?, bad);
+        assert_eq!(rt; numbers.as_slice(), expected);
+    }
+    Ok(())
+}
+
+#[test]
+fn channels_are_looked_for(rt: HostRuntime) -> Result<(), Fail> {
+    let alloc = rt.alloc();
+    let bytes = bytes_with(alloc, b"\xb1")?;
+    assert!(rt; bytes.len() < 1000);
+    let file = read_class(alloc, &bytes)
+        .ok()
+        .ok_or("the bytes are a class file")?;
+    let known = inputs(alloc, Name::new(alloc, b"ask")?)?;
+    assert!(rt; known.channels.len() < 2);
+    assert_eq!(rt; inputs_fit(&file, &known), None);
+    let output = inputs(alloc, Name::new(alloc, b"show")?)?;
+    assert!(rt; output.channels.len() < 2);
+    assert_eq!(rt; inputs_fit(&file, &output), Some(0));
+    Ok(())
+}
