@@ -1,0 +1,43 @@
+-- Code that is spelled by items, and that of the initializer, is a walk.
+use Rattle.std.proofs.Common.{◌≡◌, ℕ, ◌<◌, true, List, [], ◌∷◌, ◌++◌, length, refl, ap, ◌∙◌, length-append, arith}
+use Rattle.std.proofs.lemmas.List.{drop_at}
+use Rattle.par_instr.specs.declared.instr.Instr.{Instr}
+use Rattle.par_instr.specs.declared.instr.Instr.TheVariants.{AloadShort, Invokespecial, Return}
+use Rattle.par_instr.specs.Spelling.{spelling, IsSpelled}
+use Rattle.par_instr.proofs.Decodings.{decoded-spelled}
+use Rattle.par_pool.specs.declared.constant.Constant.{Constant}
+use Rattle.par_straight.specs.Names.{Name}
+use Rattle.par_straight_compile.specs.Code.{Item}
+use Rattle.par_straight_compile.specs.Bytes.{IsCode}
+use Rattle.par_single.specs.Walk.{walks_in, walks, behind}
+use Rattle.par_single.proofs.Walks.{walks-behind}
+
+spelled_some : (bytes : List ℕ) (i : Instr) → IsSpelled bytes i → 0 < length bytes
+spelled_some [] i s = absurd (cc (s.bytes_are))
+spelled_some (byte ∷ bytes) i s = omega arith
+
+walks_before : (bytes rest : List ℕ) (i : Instr) → IsSpelled bytes i → walks rest ≡ true → walks (bytes ++ rest) ≡ true
+walks_before [] rest i s h = h
+walks_before (byte ∷ bytes) rest i s h =
+    walks-behind byte (bytes ++ rest)
+    ∙ ap (behind walks (byte ∷ (bytes ++ rest))) (decoded-spelled (byte ∷ bytes) rest i s)
+    ∙ ap walks (drop_at (byte ∷ bytes) rest (length (byte ∷ bytes)) refl) ∙ h
+
+module _ (entries : List Constant) (class : Name) where
+  pub code_walks : (items : List Item) (bytes : List ℕ) → IsCode entries class items bytes → walks bytes ≡ true
+  unfolding walks_in
+  code_walks [] bytes is = ap walks is
+  code_walks (item ∷ items) bytes is =
+      let first = is.1 in
+      ap walks first.before ∙ walks_before first.spelling is.0 first.instr first.spelled (code_walks items is.0 is.2)
+
+  -- items are spelled by some bytes
+  pub code_some : (items : List Item) (bytes : List ℕ) → IsCode entries class items bytes → 0 < length items → 0 < length bytes
+  code_some [] bytes is some = absurd (omega arith)
+  code_some (item ∷ items) bytes is some =
+      let first = is.1 in
+      omega (arith, ap length first.before, length-append first.spelling is.0, spelled_some first.spelling first.instr first.spelled)
+
+pub super_walks : (index : ℕ) → walks (spelling (AloadShort 0) ++ (spelling (Invokespecial index) ++ spelling Return)) ≡ true
+unfolding walks_in
+super_walks index = refl
