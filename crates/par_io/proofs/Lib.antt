@@ -1,3 +1,4 @@
+pub mod Appending
 pub mod Counted
 pub mod Front
 pub mod Taken

@@ -1,4 +1,5 @@
 pub mod Causes
+pub mod Saying
 pub mod MemFolder
 pub mod MemSink
 pub mod HostFolder
