@@ -14,5 +14,6 @@ mod seen;
 #[cfg(test)]
 mod tests;
 
+pub use number::magnitude_of;
 pub use place::line_of_entry;
 pub use read::{LONGEST_FILE, read_inputs};

@@ -47,8 +47,9 @@ fn value_of(digits: &[u8], greatest: u32) -> Option<u32>
     Some(number)
 }
 
-// The number that a text of digits writes, at most the greatest.
-fn magnitude_of(text: &[u8], greatest: u32) -> Option<u32>
+/// The number that a text of decimal digits writes, at most the greatest. A first digit 0 stands
+/// alone.
+pub fn magnitude_of(text: &[u8], greatest: u32) -> Option<u32>
     requires { greatest ≤ 2147483648 }
     ensures { result ≡ magnitude_of greatest text.now }
 {
