@@ -1,0 +1,7 @@
+use Rattle.par_machine.specs.Machine.{files_of, state_of}
+use Rattle.par_runner.proofs.Loop.{IsTelling}
+use Rattle.par_runner.proofs.run.tell_events.Given as goal
+
+abbrev pub invariant-loop-done : goal.invariant-loop-done
+invariant-loop-done g l =
+    IsTelling (files_of l.fn.machine) l.fn.steps l._done (state_of l.fn.machine) l.machine (g.S.Sink.held l.fn.out) (g.S.Sink.held l.out) (g.S.Sink.faults l.fn.out) (g.S.Sink.faults l.out)

@@ -1,0 +1,14 @@
+//! Tells of a run: runs a machine for so many instructions, and puts a line for each event as it
+//! happens and one for the ending.
+//!
+//! The crate knows no file and no word of a command line, and reads nothing.
+#![tactic(auto)]
+
+mod memory;
+mod run;
+mod telling;
+mod text;
+
+pub use memory::NoMemory;
+pub use run::tell_run;
+pub use text::{bad_code_line, ending_line, event_line};

@@ -1,0 +1,107 @@
+//! A run, told as it goes.
+
+ghost use Rattle.std.specs.Prelude.{◌≡◌, ◌≤◌, IfOk, IfErr, MatchOption};
+ghost use Rattle.par_io.specs.Saying.{Said};
+ghost use Rattle.par_machine.specs.Run.{run};
+ghost use Rattle.par_machine.specs.Step.{turn};
+ghost use Rattle.par_machine.specs.Machine.{files_of, state_of};
+ghost use Rattle.par_runner.specs.Texts.{lines, status};
+ghost use Rattle.par_runner.specs.Telling.{GoesOn, ClosesBy, IsUntoldTurn, IsTold, IsCutOff, Closes, status_of_untold};
+
+use crate::telling::{Closing, Untold, put_closing, put_event, status_of};
+use par_io::Sink;
+use par_machine::machine::Machine;
+use par_machine::turn::{Stuck, Turn};
+use par_values::run::Ending;
+use std::alloc::Global;
+
+/// Runs one instruction, and puts the line of its event. It gives how the run closes where it does.
+fn advance<S: Sink>(
+    alloc: Global,
+    machine: &mut Machine,
+    out: &mut S,
+) -> Result<Option<Closing>, Untold>
+    ensures files { files_of machine.new ≡ files_of machine.old }
+    ensures faults_never_fall { S.faults out.old ≤ S.faults out.new }
+    ensures told { let t = turn (files_of machine.old) (state_of machine.old) in
+        IfOk result (λ closing. MatchOption closing (GoesOn t (state_of machine.new) (S.held out.old) (S.held out.new)) (λ c. ClosesBy t c (S.held out.old) (S.held out.new))) }
+    ensures untold { let t = turn (files_of machine.old) (state_of machine.old) in
+        IfErr result (IsUntoldTurn t (S.held out.old) (S.held out.new) (S.faults out.old) (S.faults out.new)) }
+{
+    match machine.step() {
+        Ok(Turn::Silent) => Ok(None),
+        Ok(Turn::Happened(event)) => {
+            put_event(alloc, &event, out)?;
+            Ok(None)
+        }
+        Ok(Turn::Ended(ending)) => Ok(Some(Closing::Ended(ending))),
+        Err(
+            Stuck::BadCode {
+                class,
+                method,
+                offset,
+                reason,
+            },
+        ) => Ok(Some(Closing::BadCode {
+            class,
+            method,
+            offset,
+            reason,
+        })),
+        Err(Stuck::Memory) => Err(Untold::Memory),
+    }
+}
+
+/// Runs a machine for at most so many instructions, and puts a line for each event as it happens.
+fn tell_events<S: Sink>(
+    alloc: Global,
+    machine: &mut Machine,
+    steps: u32,
+    out: &mut S,
+) -> Result<Closing, Untold>
+    ensures faults_never_fall { S.faults out.old ≤ S.faults out.new }
+    ensures told { IfOk result (IsTold (files_of machine.old) steps (state_of machine.old) (S.held out.old) (S.held out.new)) }
+    ensures cut { IfErr result (IsCutOff (run (files_of machine.old) steps (state_of machine.old)) (S.held out.old) (S.held out.new) (S.faults out.old) (S.faults out.new)) }
+{
+    for _done in 0..steps {
+        match advance(alloc, machine, out) {
+            Ok(None) => {}
+            Ok(Some(closing)) => return Ok(closing),
+            Err(untold) => return Err(untold),
+        }
+    }
+    Ok(Closing::Ended(Ending::Stopped))
+}
+
+/// The status of a call that could not put a line.
+fn untold_status(untold: Untold) -> u8
+    ensures { result ≡ status_of_untold untold }
+{
+    match untold {
+        Untold::Fault => 6,
+        Untold::Memory => 7,
+    }
+}
+
+/// Puts the line of a closing, and gives the status of the call.
+fn close<S: Sink>(alloc: Global, closing: &Closing, out: &mut S) -> u8
+    ensures { Closes closing.now result (S.held out.old) (S.held out.new) (S.faults out.old) (S.faults out.new) }
+{
+    match put_closing(alloc, closing, out) {
+        Ok(()) => status_of(closing),
+        Err(untold) => untold_status(untold),
+    }
+}
+
+/// Runs a machine for at most so many instructions, and puts a line for each event as it happens
+/// and one for how the run closes. The number is the status of a call that tells so.
+pub fn tell_run<S: Sink>(alloc: Global, machine: Machine, steps: u32, out: &mut S) -> u8
+    ensures { let ran = run (files_of machine) steps (state_of machine) in
+        Said (status ran.ending) (lines ran) result (S.held out.old) (S.held out.new) (S.faults out.old) (S.faults out.new) }
+{
+    let mut machine = machine;
+    match tell_events(alloc, &mut machine, steps, out) {
+        Ok(closing) => close(alloc, &closing, out),
+        Err(untold) => untold_status(untold),
+    }
+}

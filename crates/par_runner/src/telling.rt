@@ -1,0 +1,105 @@
+//! Lines that are put, and what comes of one that is not.
+
+ghost use Rattle.std.specs.Prelude.{◌≡◌, ◌≤◌, OnOk, IfOk, IfErr};
+ghost use Rattle.par_io.specs.Causes.{appended};
+ghost use Rattle.par_runner.specs.Telling.{IsUntold, outcome};
+ghost use Rattle.par_runner.specs.Texts.{line, event_text, ending_text, status};
+ghost use Rattle.par_runner.specs.declared.telling.Untold.TheVariants.{Memory};
+
+use crate::memory::NoMemory;
+use crate::text::{bad_code_line, ending_line, event_line};
+use par_io::Sink;
+use par_lexer::list::List;
+use par_lexer::name::Name;
+use par_values::run::{Ending, Event};
+use std::alloc::Global;
+
+/// Why a line is not put whole.
+#[derive(Clone, Copy)]
+pub enum Untold {
+    /// The put failed.
+    Fault,
+    /// Memory is wanting for the line, and nothing of it is put.
+    Memory,
+}
+
+impl From<NoMemory> for Untold {
+    ghost from_gives = { λ _ e. e ≡ Memory };
+
+    fn from(_: NoMemory) -> Untold {
+        Untold::Memory
+    }
+}
+
+/// How a run closes.
+#[derive(Drop)]
+pub enum Closing {
+    /// It ends, or has no instruction left.
+    Ended(Ending),
+    /// The instruction at an offset of a method cannot be run, for a reason by its number.
+    BadCode {
+        class: Name,
+        method: List<u8>,
+        offset: u32,
+        reason: u8,
+    },
+}
+
+/// The status of a call that tells of a run that closes so.
+pub fn status_of(closing: &Closing) -> u8
+    ensures { result ≡ status (outcome closing.now) }
+{
+    match closing {
+        Closing::Ended(Ending::End) => 0,
+        Closing::Ended(Ending::Uncaught(_)) => 10,
+        Closing::Ended(Ending::Stopped) => 11,
+        Closing::BadCode { .. } => 14,
+    }
+}
+
+/// Puts a line.
+fn put_line<S: Sink>(line: &[u8], out: &mut S) -> Result<(), Untold>
+    ensures faults_never_fall { S.faults out.old ≤ S.faults out.new }
+    ensures put { OnOk result (S.held out.new ≡ appended (S.held out.old) line.now) }
+    ensures untold { IfErr result (IsUntold line.now (S.held out.old) (S.held out.new) (S.faults out.old) (S.faults out.new)) }
+{
+    match out.put(line) {
+        Ok(()) => Ok(()),
+        Err(_) => Err(Untold::Fault),
+    }
+}
+
+/// Puts the line of an event.
+pub fn put_event<S: Sink>(alloc: Global, event: &Event, out: &mut S) -> Result<(), Untold>
+    ensures faults_never_fall { S.faults out.old ≤ S.faults out.new }
+    ensures put { OnOk result (S.held out.new ≡ appended (S.held out.old) (line (event_text event.now))) }
+    ensures untold { IfErr result (IsUntold (line (event_text event.now)) (S.held out.old) (S.held out.new) (S.faults out.old) (S.faults out.new)) }
+{
+    let text = event_line(alloc, event)?;
+    put_line(text.as_slice(), out)
+}
+
+/// The line of a closing.
+fn closing_line(alloc: Global, closing: &Closing) -> Result<Vec<u8>, NoMemory>
+    ensures { IfOk result (λ text. text.items ≡ line (ending_text (outcome closing.now))) }
+{
+    match closing {
+        Closing::Ended(ending) => ending_line(alloc, ending),
+        Closing::BadCode {
+            class,
+            method,
+            offset,
+            reason,
+        } => bad_code_line(alloc, class, method.as_slice(), *offset, *reason),
+    }
+}
+
+/// Puts the line of a closing.
+pub fn put_closing<S: Sink>(alloc: Global, closing: &Closing, out: &mut S) -> Result<(), Untold>
+    ensures faults_never_fall { S.faults out.old ≤ S.faults out.new }
+    ensures put { OnOk result (S.held out.new ≡ appended (S.held out.old) (line (ending_text (outcome closing.now)))) }
+    ensures untold { IfErr result (IsUntold (line (ending_text (outcome closing.now))) (S.held out.old) (S.held out.new) (S.faults out.old) (S.faults out.new)) }
+{
+    let text = closing_line(alloc, closing)?;
+    put_line(text.as_slice(), out)
+}
