@@ -2,7 +2,7 @@
 
 use par_io::{MemFolder, MemSink, NoMemory};
 use par_tool::tool::tool;
-use par_tool::words::Which;
+use par_words::Which;
 use std::alloc::{AllocError, Global};
 
 /// What a row expects: the text that is put, and the status.
@@ -22,10 +22,19 @@ pub const NOT_BUILT: Expected = Expected {
     status: 9,
 };
 
+pub const COMPILED: Expected = Expected {
+    text: "accepted 1\n",
+    status: 0,
+};
+
 pub const USAGE: Expected = Expected {
     text: "usage\n",
     status: 2,
 };
+
+pub const fn ended(text: &'static str) -> Expected {
+    Expected { text, status: 0 }
+}
 
 pub const fn refused(text: &'static str) -> Expected {
     Expected { text, status: 1 }
@@ -68,18 +77,55 @@ const LINES: [&str; 10] = [
     "}",
 ];
 
+/// Makes one call, and tells whether the answer is the expected one.
+pub fn answers(
+    alloc: Global,
+    which: Which,
+    texts: &[&str],
+    folder: &mut MemFolder,
+    expected: Expected,
+) -> Result<bool, NoMemory> {
+    let mut out = MemSink::new(alloc, 1000)?;
+    let words = words(alloc, texts)?;
+    let status = tool(alloc, which, words.as_slice(), folder, &mut out);
+    Ok(status == expected.status && out.bytes() == expected.text.as_bytes())
+}
+
 /// Checks a source, and tells whether the answer is the expected one.
 pub fn checks_as(alloc: Global, source: &str, expected: Expected) -> Result<bool, NoMemory> {
     let mut folder = MemFolder::new(alloc);
     folder.add("shop.par", source.as_bytes())?;
+    let words = ["--check", "shop.par"];
+    answers(alloc, Which::Compiler, &words, &mut folder, expected)
+}
+
+/// A folder with a source, once it was compiled.
+pub fn compiled(alloc: Global, source: &str) -> Result<MemFolder, NoMemory> {
+    let mut folder = MemFolder::new(alloc);
+    folder.add("shop.par", source.as_bytes())?;
     let mut out = MemSink::new(alloc, 100)?;
-    let words = words(alloc, &["--check", "shop.par"])?;
-    let status = tool(
+    let words = words(alloc, &["shop.par"])?;
+    tool(
         alloc,
         Which::Compiler,
         words.as_slice(),
         &mut folder,
         &mut out,
     );
-    Ok(status == expected.status && out.bytes() == expected.text.as_bytes())
+    Ok(folder)
+}
+
+/// Compiles a source and runs its class `Shop` on these inputs, and tells whether the run is the
+/// expected one.
+pub fn runs_as(
+    alloc: Global,
+    source: &str,
+    inputs: &str,
+    steps: &str,
+    expected: Expected,
+) -> Result<bool, NoMemory> {
+    let mut folder = compiled(alloc, source)?;
+    folder.add("in.txt", inputs.as_bytes())?;
+    let words = ["Shop", "in.txt", steps];
+    answers(alloc, Which::Runner, &words, &mut folder, expected)
 }

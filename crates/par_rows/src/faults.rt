@@ -1,17 +1,37 @@
 //! Words, absent and long files, and faults of the folder and the sink.
 
-use crate::call::{Expected, USAGE, with_body, words};
+use crate::call::{ACCEPTED, COMPILED, Expected, USAGE, answers, with_body, words};
 use par_io::{MemFolder, MemSink};
 use par_tool::tool::tool;
-use par_tool::words::Which;
+use par_words::Which;
 use std::test::Fail;
+
+const ABSENT: Expected = Expected {
+    text: "absent\n",
+    status: 3,
+};
+
+const READ_FAULT: Expected = Expected {
+    text: "read fault\n",
+    status: 4,
+};
+
+const WRITE_FAULT: Expected = Expected {
+    text: "write fault\n",
+    status: 5,
+};
+
+const TOO_LONG: Expected = Expected {
+    text: "too long\n",
+    status: 8,
+};
 
 #[test]
 fn other_words_are_told_the_usage(rt: HostRuntime) -> Result<(), Fail> {
-    let rows: [(Which, &[&str]); 10] = [
+    let rows: [(Which, &[&str]); 17] = [
         (Which::Compiler, &[]),
         (Which::Compiler, &["--check"]),
-        (Which::Compiler, &["shop.par"]),
+        (Which::Compiler, &["-shop.par"]),
         (Which::Compiler, &["shop.par", "--check"]),
         (Which::Compiler, &["--check", "shop.par", "more.par"]),
         (Which::Compiler, &["--trace", "shop.par"]),
@@ -19,64 +39,38 @@ fn other_words_are_told_the_usage(rt: HostRuntime) -> Result<(), Fail> {
         (Which::Compiler, &["--check", "-shop.par"]),
         (Which::Compiler, &["--check", "--check"]),
         (Which::Runner, &["--check", "shop.par"]),
+        (Which::Runner, &["Shop", "in.txt"]),
+        (Which::Runner, &["Shop", "in.txt", "0"]),
+        (Which::Runner, &["Shop", "in.txt", "01"]),
+        (Which::Runner, &["Shop", "in.txt", "+1"]),
+        (Which::Runner, &["Shop", "in.txt", "1000000001"]),
+        (Which::Runner, &["Shop", "-in.txt", "1"]),
+        (Which::Runner, &["2Shop", "in.txt", "1"]),
     ];
     for (which, texts) in rows {
         let source = with_body(rt.alloc(), "show(1);")?;
         let mut folder = MemFolder::new(rt.alloc());
         folder.add("shop.par", source.as_bytes())?;
-        let mut out = MemSink::new(rt.alloc(), 100)?;
-        let words = words(rt.alloc(), texts)?;
-        let status = tool(rt.alloc(), which, words.as_slice(), &mut folder, &mut out);
-        assert_eq!(rt; status, USAGE.status);
-        assert!(rt; out.bytes() == USAGE.text.as_bytes());
+        assert!(rt; answers(rt.alloc(), which, texts, &mut folder, USAGE)?);
     }
     Ok(())
 }
 
 #[test]
 fn files_may_be_absent_or_fail(rt: HostRuntime) -> Result<(), Fail> {
-    let rows = [
-        (
-            "none.par",
-            0,
-            Expected {
-                text: "absent\n",
-                status: 3,
-            },
-        ),
-        (
-            "shop.par",
-            1,
-            Expected {
-                text: "read fault\n",
-                status: 4,
-            },
-        ),
-        (
-            "shop.par",
-            2,
-            Expected {
-                text: "accepted\n",
-                status: 0,
-            },
-        ),
+    let rows: [(&[&str], u64, Expected); 5] = [
+        (&["--check", "none.par"], 0, ABSENT),
+        (&["--check", "shop.par"], 1, READ_FAULT),
+        (&["--check", "shop.par"], 2, ACCEPTED),
+        (&["none.par"], 0, ABSENT),
+        (&["shop.par"], 1, READ_FAULT),
     ];
-    for (name, failing, expected) in rows {
+    for (texts, failing, expected) in rows {
         let source = with_body(rt.alloc(), "open Paid; show(key());")?;
         let mut folder = MemFolder::new(rt.alloc());
         folder.add("shop.par", source.as_bytes())?;
         folder.fail_read(failing)?;
-        let mut out = MemSink::new(rt.alloc(), 100)?;
-        let words = words(rt.alloc(), &["--check", name])?;
-        let status = tool(
-            rt.alloc(),
-            Which::Compiler,
-            words.as_slice(),
-            &mut folder,
-            &mut out,
-        );
-        assert_eq!(rt; status, expected.status);
-        assert!(rt; out.bytes() == expected.text.as_bytes());
+        assert!(rt; answers(rt.alloc(), Which::Compiler, texts, &mut folder, expected)?);
     }
     Ok(())
 }
@@ -84,41 +78,61 @@ fn files_may_be_absent_or_fail(rt: HostRuntime) -> Result<(), Fail> {
 /// Blanks behind the source make it as long as this.
 #[test]
 fn sources_have_up_to_262144_bytes(rt: HostRuntime) -> Result<(), Fail> {
-    let rows = [
-        (
-            262_144,
-            Expected {
-                text: "accepted\n",
-                status: 0,
-            },
-        ),
-        (
-            262_145,
-            Expected {
-                text: "too long\n",
-                status: 8,
-            },
-        ),
-    ];
-    for (length, expected) in rows {
+    for (length, expected) in [(262_144, ACCEPTED), (262_145, TOO_LONG)] {
         let mut source = with_body(rt.alloc(), "show(1);")?;
         for _ in source.len()..length {
             source.push_str(" ")?;
         }
         let mut folder = MemFolder::new(rt.alloc());
         folder.add("shop.par", source.as_bytes())?;
-        let mut out = MemSink::new(rt.alloc(), 100)?;
-        let words = words(rt.alloc(), &["--check", "shop.par"])?;
-        let status = tool(
-            rt.alloc(),
-            Which::Compiler,
-            words.as_slice(),
-            &mut folder,
-            &mut out,
-        );
-        assert_eq!(rt; status, expected.status);
-        assert!(rt; out.bytes() == expected.text.as_bytes());
+        let words = ["--check", "shop.par"];
+        assert!(rt; answers(rt.alloc(), Which::Compiler, &words, &mut folder, expected)?);
     }
+    Ok(())
+}
+
+/// A file that stood there is kept but for what the failed write leaves.
+#[test]
+fn writes_may_fail(rt: HostRuntime) -> Result<(), Fail> {
+    for (call, keep, expected) in [(1, 0, WRITE_FAULT), (1, 5, WRITE_FAULT), (2, 5, COMPILED)] {
+        let source = with_body(rt.alloc(), "open Paid; show(key());")?;
+        let mut folder = MemFolder::new(rt.alloc());
+        folder.add("shop.par", source.as_bytes())?;
+        folder.add("Other.class", b"kept")?;
+        folder.fail_write(call, keep)?;
+        assert!(rt;
+            answers(
+                rt.alloc(),
+                Which::Compiler,
+                &["shop.par"],
+                &mut folder,
+                expected
+            )?
+        );
+        assert!(rt; folder.get("Other.class") == Some(b"kept".as_slice()));
+    }
+    Ok(())
+}
+
+/// The class file is there though the line that says so is not put.
+#[test]
+fn class_files_stay_where_a_put_fails(rt: HostRuntime) -> Result<(), Fail> {
+    let source = with_body(rt.alloc(), "open Paid; show(key());")?;
+    let mut folder = MemFolder::new(rt.alloc());
+    folder.add("shop.par", source.as_bytes())?;
+    let mut out = MemSink::new(rt.alloc(), 100)?;
+    out.fail_put(1, 3);
+    let words = words(rt.alloc(), &["shop.par"])?;
+    let status = tool(
+        rt.alloc(),
+        Which::Compiler,
+        words.as_slice(),
+        &mut folder,
+        &mut out,
+    );
+    assert_eq!(rt; status, 6);
+    assert!(rt; out.bytes() == b"acc".as_slice());
+    assert!(rt; folder.get("Shop.class").is_some());
     Ok(())
 }
 

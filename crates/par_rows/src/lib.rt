@@ -6,6 +6,8 @@
 #[cfg(test)]
 mod call;
 #[cfg(test)]
+mod compiled;
+#[cfg(test)]
 mod examples;
 #[cfg(test)]
 mod faults;
@@ -13,6 +15,8 @@ mod faults;
 mod limits;
 #[cfg(test)]
 mod names;
+#[cfg(test)]
+mod runs;
 #[cfg(test)]
 mod sources;
 #[cfg(test)]

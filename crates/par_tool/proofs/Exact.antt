@@ -1,102 +1,137 @@
--- The status of a source that is there is the one that its judgement asks for.
-use Rattle.std.proofs.Common.{◌≡◌, ℕ, ◌<◌, ◌≤◌, inl, inr, List, [], ◌∷◌, length, Option, Some, None, refl, ap, subst, sym, ◌∙◌, arith}
+-- Each call whose files the folder tells of has the status that they ask for.
+use Rattle.std.proofs.Common.{◌≡◌, ℕ, List, [], ◌∷◌, Option, Some, sym, subst, ◌∙◌, ap}
+use Rattle.std.specs.Prelude.{string_bytes}
 use Rattle.std.specs.declared.string.String.{String}
 use Rattle.std.specs.declared.alloc.Global.{Global}
-use Rattle.par_io.specs.Causes.{Files, Told, Counts}
-use Rattle.par_straight.specs.Rules.{IsRefused}
-use Rattle.par_straight.specs.Judged.{IsStraightLine}
-use Rattle.par_straight.proofs.One.{one_program, accepted_or_refused}
+use Rattle.par_io.specs.Causes.{Files}
+use Rattle.par_values.specs.Ran.{Ran}
+use Rattle.par_runner.specs.Texts as told
+use Rattle.par_words.specs.declared.words.Which.{Which}
+use Rattle.par_words.specs.declared.words.Which.TheVariants.{Compiler, Runner}
+use Rattle.par_words.specs.Words.{Text, Wanted, Check, Compile, Run, Asks, IsCheck, IsCompile, IsRun, AskRun, AreRun}
 use Rattle.par_tool.specs.declared.answer.Answer.{Answer}
-use Rattle.par_tool.specs.declared.answer.Answer.TheVariants as answer
-use Rattle.par_tool.specs.declared.words.Which.{Which}
-use Rattle.par_tool.specs.declared.words.Which.TheVariants.{Compiler, Runner}
-use Rattle.par_tool.specs.Words.{Asks, IsCheck}
-use Rattle.par_tool.specs.Texts.{status}
-use Rattle.par_tool.specs.Answers.{Cause, WasRead, IsBroken, IsAcceptedSource, Said, whole, cut, unsaid, Ends, answers, lacks_memory, IsThere, IsStatus, IsVerdict, Passes, Judges}
+use Rattle.par_tool.specs.Texts.{status, text}
+use Rattle.par_tool.specs.Answers.{Scene, Cause, RunCause, Ends, misses, answers, runs, lacks_memory}
+use Rattle.par_tool.specs.Exactly as exactly
+use Rattle.par_tool.specs.Exactly.{IsStatus, IsExact, TellsSource, TellsClass}
+use Rattle.par_tool.proofs.Statuses.{said_status}
+use Rattle.par_tool.proofs.ExactSources.{checked_found, compiled_found, tells_source}
+use Rattle.par_tool.proofs.ExactRuns.{instead, tells_instead, tells_ran}
 
-one_check : (words : List (String Global)) (f g : List ℕ) → IsCheck words f → IsCheck words g → f ≡ g
+-- ---- words ask for one thing
+
+one_check : (words : List (String Global)) (f g : Text) → IsCheck words f → IsCheck words g → Check f ≡ Check g
 one_check [] f g x y = absurd x
 one_check (w ∷ []) f g x y = absurd x
-one_check (w ∷ v ∷ []) f g x y = sym x.1 ∙ y.1
+one_check (w ∷ v ∷ []) f g x y = ap Check (sym x.1.0 ∙ y.1.0)
 one_check (w ∷ v ∷ u ∷ ws) f g x y = absurd x
 
--- the words ask for one file
-one_file : (which : Which) (words : List (String Global)) (f g : List ℕ) → Asks which words f → Asks which words g → f ≡ g
-one_file Compiler words f g x y = one_check words f g x y
-one_file Runner words f g x y = absurd x
+one_compile : (words : List (String Global)) (f g : Text) → IsCompile words f → IsCompile words g → Compile f ≡ Compile g
+one_compile [] f g x y = absurd x
+one_compile (w ∷ []) f g x y = ap Compile (sym x.0 ∙ y.0)
+one_compile (w ∷ v ∷ ws) f g x y = absurd x
 
--- a file that is there is the source that was read
-read_source : (files : Option Files) (f g a b : List ℕ) → f ≡ g → IsThere files f a → WasRead files g b → a ≡ b
-read_source None f g a b e there read = absurd there
-read_source (Some m) f g a b e there read = let here = ap m e in let found = read.found in let same : Some a ≡ Some b = sym there.0 ∙ here ∙ found in cc
+check_or_compile : (words : List (String Global)) (f g : Text) → IsCheck words f → IsCompile words g → ⊥
+check_or_compile [] f g x y = x
+check_or_compile (w ∷ []) f g x y = x
+check_or_compile (w ∷ v ∷ []) f g x y = y
+check_or_compile (w ∷ v ∷ u ∷ ws) f g x y = x
 
--- a verdict has the status that the source asks for
-accepted_is_0 : (source : List ℕ) (a : Answer) → IsVerdict source a → Passes source → status a ≡ 0
-accepted_is_0 source answer.Accepted v h = refl
-accepted_is_0 source (answer.Refused rule line column) v h =
-    let same : v.program ≡ h.0 = one_program source v.program h.0 v.has h.1 in
-    absurd (accepted_or_refused h.0 rule v.at h.2 (subst (λ p. IsRefused p rule v.at) same v.refused))
-accepted_is_0 source answer.NotBuilt v h = absurd (v (h.0, h.1))
-accepted_is_0 source _ v h = absurd v
+run_is : (a b c m n i j : Text) (s t : ℕ) → AreRun a b c m i s → AreRun a b c n j t → Run m i s ≡ Run n j t
+run_is a b c m n i j s t x y =
+    let main : m ≡ n = sym x.main_is ∙ y.main_is in
+    let inputs : i ≡ j = sym x.inputs_are ∙ y.inputs_are in
+    let both : Some s ≡ Some t = sym x.number.0 ∙ y.number.0 in
+    let steps : s ≡ t = cc in
+    cc
 
-broken_is_1 : (source : List ℕ) (a : Answer) → IsVerdict source a → (rule line column : ℕ) → IsBroken source rule line column → status a ≡ 1
-broken_is_1 source answer.Accepted v rule line column h =
-    let same : h.program ≡ v.0 = one_program source h.program v.0 h.has v.1 in
-    absurd (accepted_or_refused v.0 rule h.at v.2 (subst (λ p. IsRefused p rule h.at) same h.refused))
-broken_is_1 source (answer.Refused rule line column) v r l c h = refl
-broken_is_1 source answer.NotBuilt v rule line column h = absurd (v (h.program, h.has))
-broken_is_1 source _ v rule line column h = absurd v
+one_run : (a b c : Text) (v w : Wanted) → AskRun a b c v → AskRun a b c w → v ≡ w
+one_run a b c (Run m i s) (Run n j t) x y = run_is a b c m n i j s t x y
+one_run a b c (Check f) w x y = absurd x
+one_run a b c (Compile f) w x y = absurd x
+one_run a b c (Run m i s) (Check f) x y = absurd y
+one_run a b c (Run m i s) (Compile f) x y = absurd y
 
-other_is_9 : (source : List ℕ) (a : Answer) → IsVerdict source a → (IsStraightLine source → ⊥) → status a ≡ 9
-other_is_9 source answer.Accepted v h = absurd (h (v.0, v.1))
-other_is_9 source (answer.Refused rule line column) v h = absurd (h (v.program, v.has))
-other_is_9 source answer.NotBuilt v h = refl
-other_is_9 source _ v h = absurd v
+runs_once : (words : List (String Global)) (v w : Wanted) → IsRun words v → IsRun words w → v ≡ w
+runs_once [] v w x y = absurd x
+runs_once (a ∷ []) v w x y = absurd x
+runs_once (a ∷ b ∷ []) v w x y = absurd x
+runs_once (a ∷ b ∷ c ∷ []) v w x y = one_run (string_bytes a) (string_bytes b) (string_bytes c) v w x y
+runs_once (a ∷ b ∷ c ∷ d ∷ ws) v w x y = absurd x
 
-module _ (which : Which) (words : List (String Global)) (files : Option Files) (before after : Counts) (file source : List ℕ) (asked : Asks which words file) (there : IsThere files file source) where
-  -- the answer is the source's verdict, or a read failed
-  data Is (a : Answer) : Type 0 where
-    verdict : IsVerdict source a → Is a
-    fault : status a ≡ 4 → Is a
+compiler_once : (words : List (String Global)) (v w : Wanted) → Asks Compiler words v → Asks Compiler words w → v ≡ w
+compiler_once words (Check f) (Check g) x y = one_check words f g x y
+compiler_once words (Check f) (Compile g) x y = absurd (check_or_compile words f g x y)
+compiler_once words (Compile f) (Check g) x y = absurd (check_or_compile words g f y x)
+compiler_once words (Compile f) (Compile g) x y = one_compile words f g x y
+compiler_once words (Run m i s) w x y = absurd x
+compiler_once words (Check f) (Run m i s) x y = absurd y
+compiler_once words (Compile f) (Run m i s) x y = absurd y
 
-  absent_or_there : (fs : Option Files) (f : List ℕ) → f ≡ file → IsThere fs file source → Told fs (λ m. m f ≡ None) → ⊥
-  absent_or_there None f e there absent = there
-  absent_or_there (Some m) f e there absent = let here = ap m e in let is = there.0 in cc
+one_wanted : (which : Which) (words : List (String Global)) (v w : Wanted) → Asks which words v → Asks which words w → v ≡ w
+one_wanted Compiler words v w x y = compiler_once words v w x y
+one_wanted Runner words v w x y = runs_once words v w x y
 
-  long_or_there : (fs : Option Files) (f : List ℕ) → f ≡ file → IsThere fs file source → Told fs (λ m. (bytes : List ℕ) × (m f ≡ Some bytes) × (262144 < length bytes)) → ⊥
-  long_or_there None f e there long = there
-  long_or_there (Some m) f e there long =
-      let here = ap m e in let is = there.0 in let found = long.1 in
-      let same : long.0 ≡ source = cc in
-      let more : 262144 < length source = subst (λ b. 262144 < length b) same long.2 in
-      let few : length source ≤ 262144 = there.1 in omega arith
+-- ---- the status
 
-  is_read : (f s : List ℕ) → Asks which words f → WasRead files f s → source ≡ s
-  is_read f s asks read = read_source files file f source s (one_file which words file f asked asks) there read
+answer_is_exact : (s : Scene) (w : Wanted) (a : Answer) (result : ℕ) → Cause s w a → IsStatus result (status a) → IsExact s.files w result
+answer_is_exact s (Check file) a result cause said = tells_source s.files s.before s.after file result a (checked_found s.files s.before s.after file a cause.0) said
+answer_is_exact s (Compile file) a result cause said = tells_source s.files s.before s.after file result a (compiled_found s.files s.before s.after file s.later a cause) said
+answer_is_exact s (Run main inputs steps) a result cause said =
+    tells_instead s.files s.before s.after main inputs steps result a (instead s.files s.before s.after main inputs a cause.0) said
 
-  is_of_cause : (a : Answer) → Cause which words files before after a → Is a
-  is_of_cause answer.Usage c = absurd (c file asked)
-  is_of_cause answer.Absent c = absurd (absent_or_there files c.0 (one_file which words c.0 file c.1 asked) there c.3)
-  is_of_cause answer.ReadFault c = fault refl
-  is_of_cause answer.TooLong c = absurd (long_or_there files c.0 (one_file which words c.0 file c.1 asked) there c.3)
-  is_of_cause answer.Accepted c = verdict (subst IsAcceptedSource (sym (is_read c.0 c.1 c.2 c.3)) c.4)
-  is_of_cause (answer.Refused rule line column) c = verdict (subst (λ s. IsBroken s rule line column) (sym (is_read c.0 c.1 c.2 c.3)) c.4)
-  is_of_cause answer.NotBuilt c = verdict (subst (λ s. IsStraightLine s → ⊥) (sym (is_read c.0 c.1 c.2 c.3)) c.4)
+run_is_exact : (s : Scene) (w : Wanted) (ran : Ran) (result : ℕ) → RunCause s w ran → IsStatus result (told.status ran.ending) → IsExact s.files w result
+run_is_exact s (Check file) ran result cause said = absurd cause
+run_is_exact s (Compile file) ran result cause said = absurd cause
+run_is_exact s (Run main inputs steps) ran result cause said = tells_ran s.files s.before s.after main inputs steps result ran cause.0 said
 
-  -- where the verdict has this status, the call has it, but for faults and want of memory
-  said_status : (a : Answer) (n result : ℕ) (old new : Option (List ℕ)) (f g : ℕ) → (IsVerdict source a → status a ≡ n) → Is a → Said a result old new f g → IsStatus result n
-  said_status a n result old new f g h (verdict v) (whole e put) = inl (e ∙ h v)
-  said_status a n result old new f g h (fault e) (whole s put) = inr (inl (s ∙ e))
-  said_status a n result old new f g h is (cut e rose put) = inr (inr (inl e))
-  said_status a n result old new f g h is (unsaid e put) = inr (inr (inr e))
+-- want of memory comes in the place of any status
+source_wants : (files : Option Files) (file : Text) (result : ℕ) → result ≡ 7 → TellsSource files file result
+source_wants files file result seven = record {
+  missing = λ h. exactly.lacks_memory seven;
+  overlong = λ h. exactly.lacks_memory seven;
+  there = λ source there. record {
+    accepted = λ h. exactly.lacks_memory seven;
+    refused = λ rule line column h. exactly.lacks_memory seven;
+    not_built = λ h. exactly.lacks_memory seven;
+  };
+}
 
-  status_of : (n result : ℕ) (old new : Option (List ℕ)) (f g : ℕ) → ((a : Answer) → IsVerdict source a → status a ≡ n) → Ends (Cause which words files before after) result old new f g → IsStatus result n
-  status_of n result old new f g h (answers a cause said) = said_status a n result old new f g (h a) (is_of_cause a cause) said
-  status_of n result old new f g h (lacks_memory e put) = inr (inr (inr e))
+class_wants : (files : Option Files) (main inputs : Text) (steps result : ℕ) → result ≡ 7 → TellsClass files main inputs steps result
+class_wants files main inputs steps result seven = record {
+  missing = λ h. exactly.lacks_memory seven;
+  overlong = λ h. exactly.lacks_memory seven;
+  there = λ bytes file at alone. record {
+    missing = λ h. exactly.lacks_memory seven;
+    overlong = λ h. exactly.lacks_memory seven;
+    there = λ text here. record {
+      ran = λ lists right are fit. exactly.lacks_memory seven;
+      bad_inputs = λ number bad. exactly.lacks_memory seven;
+    };
+  };
+  not_built = λ bytes at none. exactly.lacks_memory seven;
+}
 
-  pub judges : (result : ℕ) (old new : Option (List ℕ)) (f g : ℕ) → Ends (Cause which words files before after) result old new f g → Judges source result
-  judges result old new f g ends = record {
-    accepted = λ h. status_of 0 result old new f g (λ a v. accepted_is_0 source a v h) ends;
-    refused = λ rule line column h. status_of 1 result old new f g (λ a v. broken_is_1 source a v rule line column h) ends;
-    not_built = λ h. status_of 9 result old new f g (λ a v. other_is_9 source a v h) ends;
-  }
+wants : (files : Option Files) (w : Wanted) (result : ℕ) → result ≡ 7 → IsExact files w result
+wants files (Check file) result seven = source_wants files file result seven
+wants files (Compile file) result seven = source_wants files file result seven
+wants files (Run main inputs steps) result seven = class_wants files main inputs steps result seven
+
+pub exact : (which : Which) (words : List (String Global)) (s : Scene) (result : ℕ) (old new : Option Text) (f g : ℕ)
+    → Ends which words s result old new f g → (w : Wanted) → Asks which words w → IsExact s.files w result
+exact which words s result old new f g (misses none stand said) w asked = absurd (none w asked)
+exact which words s result old new f g (answers v a asks cause said) w asked =
+    subst (λ (x : Wanted). IsExact s.files x result) (one_wanted which words v w asks asked)
+    (answer_is_exact s v a result cause (said_status (status a) result (text a ∷ []) old new f g said.said))
+exact which words s result old new f g (runs v ran asks cause said) w asked =
+    subst (λ (x : Wanted). IsExact s.files x result) (one_wanted which words v w asks asked)
+    (run_is_exact s v ran result cause (said_status (told.status ran.ending) result (told.lines ran) old new f g said))
+exact which words s result old new f g (lacks_memory seven put stand) w asked = wants s.files w result seven
+
+-- words of no form
+pub usage : (which : Which) (words : List (String Global)) (s : Scene) (result : ℕ) (old new : Option Text) (f g : ℕ)
+    → Ends which words s result old new f g → ((w : Wanted) → Asks which words w → ⊥) → IsStatus result 2
+usage which words s result old new f g (misses none stand said) h = said_status 2 result _ old new f g said.said
+usage which words s result old new f g (answers v a asks cause said) h = absurd (h v asks)
+usage which words s result old new f g (runs v ran asks cause said) h = absurd (h v asks)
+usage which words s result old new f g (lacks_memory seven put stand) h = exactly.lacks_memory seven

@@ -1,2 +1,11 @@
 pub mod Judging
+pub mod Ascii
+pub mod Statuses
+pub mod ExactSources
+pub mod ExactRuns
 pub mod Exact
+pub mod Compiling
+pub mod Alone
+pub mod Calls
+pub mod Few
+pub mod Saying

@@ -13,6 +13,6 @@ abbrev pub Tokens : Type 0
 Tokens = List Token
 
 abbrev pub IsJudgement : List ℕ → Judgement → Type 0
-IsJudgement source Accepted = (p : Program) × HasProgram source p × IsAccepted p × Secure (subject p)
+IsJudgement source (Accepted p) = HasProgram source p × IsAccepted p × Secure (subject p)
 IsJudgement source (Broken rule at) = (p : Program) × HasProgram source p × IsRefused p rule at
 IsJudgement source NotStraight = IsStraightLine source → ⊥

@@ -1,28 +1,48 @@
 -- The status and the line of each answer.
-use Rattle.std.specs.Prelude.{ℕ, List, ◌++◌, codes}
+use Rattle.std.specs.Prelude.{ℕ, Bool, true, false, List, ◌++◌, codes}
 use Rattle.std.specs.Fmt.{decimal}
 use Rattle.par_tool.specs.declared.answer.Answer.{Answer}
-use Rattle.par_tool.specs.declared.answer.Answer.TheVariants.{Accepted, Refused, Usage, Absent, ReadFault, TooLong, NotBuilt}
+use Rattle.par_tool.specs.declared.answer.Answer.TheVariants.{Accepted, Compiled, Refused, Usage, Absent, ReadFault, WriteFault, TooLong, NotBuilt, BadInputs}
 
 abbrev pub status : Answer → ℕ
 status Accepted = 0
+status (Compiled files) = 0
 status (Refused rule line column) = 1
 status Usage = 2
 status Absent = 3
 status ReadFault = 4
+status WriteFault = 5
 status TooLong = 8
 status NotBuilt = 9
+status (BadInputs line) = 13
+
+-- the number of class files that are written
+abbrev pub compiled_text : ℕ → List ℕ
+compiled_text files = codes "accepted " ++ (decimal files ++ codes "\n")
 
 -- the rule that is broken, and the line and the column of its place
 abbrev pub refused_text : ℕ → ℕ → ℕ → List ℕ
 refused_text rule line column = codes "refused " ++ (decimal rule ++ (codes " at " ++ (decimal line ++ (codes ":" ++ (decimal column ++ codes "\n")))))
 
+-- the line of an input file that is wrong
+abbrev pub inputs_text : ℕ → List ℕ
+inputs_text line = codes "bad inputs line " ++ (decimal line ++ codes "\n")
+
 -- the line, which ends with byte 10
 abbrev pub text : Answer → List ℕ
 text Accepted = codes "accepted\n"
+text (Compiled files) = compiled_text files
 text (Refused rule line column) = refused_text rule line column
 text Usage = codes "usage\n"
 text Absent = codes "absent\n"
 text ReadFault = codes "read fault\n"
+text WriteFault = codes "write fault\n"
 text TooLong = codes "too long\n"
 text NotBuilt = codes "not built\n"
+text (BadInputs line) = inputs_text line
+
+-- whether the answer tells of a fault that has happened
+abbrev pub is_fault : Answer → Bool
+is_fault ReadFault = true
+is_fault WriteFault = true
+is_fault _ = false

@@ -1,15 +1,22 @@
 //! What a call of the tool comes to: a status, and the line that is put.
 
-ghost use Rattle.std.specs.Prelude.{◌≡◌, IfOk, string_bytes};
-ghost use Rattle.par_tool.specs.Texts.{status, text, refused_text};
+ghost use Rattle.std.specs.Prelude.{◌≡◌, IfOk, IsOk, IsTrue, string_bytes};
+ghost use Rattle.par_tool.specs.Answers.{IsSaid};
+ghost use Rattle.par_tool.specs.Lines.{bytes_of};
+ghost use Rattle.par_tool.specs.Texts as spec;
+ghost use Rattle.par_tool.specs.Texts.{status, text, is_fault};
 
+use par_io::Sink;
 use std::alloc::{AllocError, Global};
 
-/// An answer that has a line of text, want of memory and a failed put aside.
+/// An answer of one line. A run is told by the lines of its events and its ending; want of memory
+/// and a failed put have no line.
 #[derive(Clone, Copy, Debug)]
 pub enum Answer {
     /// The source is accepted.
     Accepted,
+    /// The source is accepted, and so many class files are written.
+    Compiled(u32),
     /// The source breaks a rule at a line and a column, both counted from 1.
     Refused { rule: u16, line: u32, column: u32 },
     /// The words are of none of the forms.
@@ -18,10 +25,14 @@ pub enum Answer {
     Absent,
     /// A read failed.
     ReadFault,
+    /// A write failed.
+    WriteFault,
     /// A file is too long.
     TooLong,
-    /// The source is of a form that is not built yet.
+    /// The source, or the class file, is of a form that is not built yet.
     NotBuilt,
+    /// A line of the input file, counted from 1, is wrong.
+    BadInputs(u32),
 }
 
 /// The status of an answer.
@@ -30,32 +41,86 @@ pub fn status_of(answer: Answer) -> u8
 {
     match answer {
         Answer::Accepted => 0,
+        Answer::Compiled(_) => 0,
         Answer::Refused { .. } => 1,
         Answer::Usage => 2,
         Answer::Absent => 3,
         Answer::ReadFault => 4,
+        Answer::WriteFault => 5,
         Answer::TooLong => 8,
         Answer::NotBuilt => 9,
+        Answer::BadInputs(_) => 13,
     }
 }
 
-/// The line of an answer, with its end.
-pub fn line_of(alloc: Global, answer: Answer) -> Result<String, AllocError>
-    ensures { IfOk result (λ line. string_bytes line ≡ text answer) }
+/// A line of text, with its end.
+#[derive(Drop)]
+enum Line {
+    /// One that is always the same.
+    Fixed(&'static [u8]),
+    /// One that has numbers in it.
+    Made(String),
+}
+
+impl Line {
+    fn bytes(&self) -> &[u8]
+        ensures { result.now ≡ bytes_of self.now }
+    {
+        match self {
+            Line::Fixed(bytes) => bytes,
+            Line::Made(text) => text.as_bytes(),
+        }
+    }
+}
+
+/// The line of an answer. That of a fault takes no memory.
+fn line_of(alloc: Global, answer: Answer) -> Result<Line, AllocError>
+    ensures line { IfOk result (λ line. bytes_of line ≡ text answer) }
+    ensures firm { IsTrue (is_fault answer) → IsOk result }
 {
     match answer {
-        Answer::Accepted => String::from_str(alloc, "accepted\n"),
-        Answer::Refused { rule, line, column } => refused_line(alloc, rule, line, column),
-        Answer::Usage => String::from_str(alloc, "usage\n"),
-        Answer::Absent => String::from_str(alloc, "absent\n"),
-        Answer::ReadFault => String::from_str(alloc, "read fault\n"),
-        Answer::TooLong => String::from_str(alloc, "too long\n"),
-        Answer::NotBuilt => String::from_str(alloc, "not built\n"),
+        Answer::Accepted => Ok(Line::Fixed(b"accepted\n")),
+        Answer::Compiled(files) => Ok(Line::Made(compiled_line(alloc, files)?)),
+        Answer::Refused { rule, line, column } => {
+            Ok(Line::Made(refused_line(alloc, rule, line, column)?))
+        }
+        Answer::Usage => Ok(Line::Fixed(b"usage\n")),
+        Answer::Absent => Ok(Line::Fixed(b"absent\n")),
+        Answer::ReadFault => Ok(Line::Fixed(b"read fault\n")),
+        Answer::WriteFault => Ok(Line::Fixed(b"write fault\n")),
+        Answer::TooLong => Ok(Line::Fixed(b"too long\n")),
+        Answer::NotBuilt => Ok(Line::Fixed(b"not built\n")),
+        Answer::BadInputs(line) => Ok(Line::Made(inputs_line(alloc, line)?)),
     }
+}
+
+fn compiled_line(alloc: Global, files: u32) -> Result<String, AllocError>
+    ensures { IfOk result (λ text. string_bytes text ≡ spec.compiled_text files) }
+{
+    format!(in alloc; "accepted {files}\n")
 }
 
 fn refused_line(alloc: Global, rule: u16, line: u32, column: u32) -> Result<String, AllocError>
-    ensures { IfOk result (λ text. string_bytes text ≡ refused_text rule line column) }
+    ensures { IfOk result (λ text. string_bytes text ≡ spec.refused_text rule line column) }
 {
     format!(in alloc; "refused {rule} at {line}:{column}\n")
+}
+
+fn inputs_line(alloc: Global, line: u32) -> Result<String, AllocError>
+    ensures { IfOk result (λ text. string_bytes text ≡ spec.inputs_text line) }
+{
+    format!(in alloc; "bad inputs line {line}\n")
+}
+
+/// Puts the line of an answer, and gives the status of the call.
+pub fn say<S: Sink>(alloc: Global, answer: Answer, out: &mut S) -> u8
+    ensures { IsSaid answer result (S.held out.old) (S.held out.new) (S.faults out.old) (S.faults out.new) }
+{
+    let Ok(line) = line_of(alloc, answer) else {
+        return 7;
+    };
+    match out.put(line.bytes()) {
+        Ok(()) => status_of(answer),
+        Err(_) => 6,
+    }
 }

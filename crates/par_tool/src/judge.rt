@@ -20,10 +20,10 @@ use par_straight_reader::reader::parse;
 use std::alloc::Global;
 
 /// What is said of a source.
-#[derive(Clone, Copy, Debug)]
+#[derive(Drop)]
 pub enum Judgement {
-    /// It passes every rule.
-    Accepted,
+    /// Its program passes every rule.
+    Accepted(Program),
     /// It breaks a rule at a place, an offset into the source.
     Broken { rule: u16, at: u32 },
     /// It is no straight-line source.
@@ -39,7 +39,7 @@ pub fn judge(alloc: Global, source: &[u8]) -> Result<Judgement, NoMemory>
         return Ok(Judgement::NotStraight);
     };
     match check(alloc, &program) {
-        Ok(None) => Ok(Judgement::Accepted),
+        Ok(None) => Ok(Judgement::Accepted(program)),
         Ok(Some(broken)) => Ok(Judgement::Broken {
             rule: broken.rule,
             at: broken.at,

@@ -1,11 +1,16 @@
-//! The one call that both programs make: it reads the words and the files, judges, and says what
-//! came of it.
+//! The one call that both programs make: it reads the words and the files, judges, compiles or
+//! runs, and says what came of it.
 //!
 //! The call composes what the layers below promise, and holds no reasoning of its own about
-//! tokens, trees or policies.
+//! tokens, trees, policies, instructions or constant pools.
 #![tactic(auto)]
 
 pub mod answer;
+mod classes;
 pub mod judge;
+mod naming;
+mod reading;
+mod sources;
 pub mod tool;
-pub mod words;
+
+pub use par_words::Which;

@@ -1,22 +1,22 @@
 //! The top call.
 
-ghost use Rattle.std.specs.Prelude.{◌≡◌, ◌≤◌, ℕ, List, IfOk, length};
-ghost use Rattle.par_tool.specs.Answers.{Cause, Said, Ends, IsThere, IsVerdict, Judges, counts};
-ghost use Rattle.par_tool.specs.Words.{Asks};
+ghost use Rattle.std.specs.Prelude.{◌≡◌, ℕ};
+ghost use Rattle.par_tool.specs.Answers.{Scene, Ends, Concludes, Breaks};
+ghost use Rattle.par_tool.specs.Exactly.{IsExact, IsStatus};
+ghost use Rattle.par_tool.specs.Outside.{counts};
+ghost use Rattle.par_words.specs.Words.{Asks, Wanted};
 
-use crate::answer::{Answer, line_of, status_of};
-use crate::judge::{Judgement, judge};
-use crate::words::{Which, checked_file};
-use par_io::{Folder, ReadFail, Sink};
-use par_lexer::list::NoMemory;
-use par_lexer::place_of;
+use crate::answer::{Answer, say};
+use crate::classes::started;
+use crate::reading::Failure;
+use crate::sources::{check, compile_file};
+use par_io::{Folder, Sink};
+use par_runner::tell_run;
+use par_words::{Request, Which, read_words};
 use std::alloc::Global;
 
-/// The most bytes that a source may have.
-const LONGEST_SOURCE: u64 = 262_144;
-
-/// Does what the words behind a program's name ask for, and puts one line that says what came of
-/// it. The number is the status that the program ends with.
+/// Does what the words behind a program's name ask for, and puts lines that say what came of it.
+/// The number is the status that the program ends with.
 pub fn tool<F: Folder, S: Sink>(
     alloc: Global,
     which: Which,
@@ -26,65 +26,44 @@ pub fn tool<F: Folder, S: Sink>(
 ) -> u8
     ensures ends { let before = counts (F.faults folder.old) (F.absents folder.old) (F.longs folder.old) in
         let after = counts (F.faults folder.new) (F.absents folder.new) (F.longs folder.new) in
-        Ends (Cause which words.now (F.files folder.old) before after) result (S.held out.old) (S.held out.new) (S.faults out.old) (S.faults out.new) }
-    ensures kept { F.files folder.new ≡ F.files folder.old }
-    ensures judges { (file source : List ℕ) → Asks which words.now file → IsThere (F.files folder.old) file source → Judges source result }
+        let scene : Scene = record { files = F.files folder.old; later = F.files folder.new; before = before; after = after } in
+        Ends which words.now scene result (S.held out.old) (S.held out.new) (S.faults out.old) (S.faults out.new) }
+    ensures usage { ((w : Wanted) → Asks which words.now w → ⊥) → IsStatus result 2 }
+    ensures exact { (w : Wanted) → Asks which words.now w → IsExact (F.files folder.old) w result }
 {
-    match answer(alloc, which, words, folder) {
+    let Some(request) = read_words(which, words) else {
+        return say(alloc, Answer::Usage, out);
+    };
+    match request {
+        Request::Check(file) => conclude(alloc, check(alloc, folder, file), out),
+        Request::Compile(file) => conclude(alloc, compile_file(alloc, folder, file), out),
+        Request::Run {
+            main,
+            inputs,
+            steps,
+        } => match started(alloc, folder, main, inputs) {
+            Ok(machine) => tell_run(alloc, machine, steps, out),
+            Err(failure) => break_off(alloc, failure, out),
+        },
+    }
+}
+
+/// Says what a job came to.
+fn conclude<S: Sink>(alloc: Global, outcome: Result<Answer, Failure>, out: &mut S) -> u8
+    ensures { Concludes outcome result (S.held out.old) (S.held out.new) (S.faults out.old) (S.faults out.new) }
+{
+    match outcome {
         Ok(answer) => say(alloc, answer, out),
-        Err(NoMemory) => 7,
+        Err(failure) => break_off(alloc, failure, out),
     }
 }
 
-/// The answer, before it is said.
-fn answer<F: Folder>(
-    alloc: Global,
-    which: Which,
-    words: &[String],
-    folder: &mut F,
-) -> Result<Answer, NoMemory>
-    ensures cause { let before = counts (F.faults folder.old) (F.absents folder.old) (F.longs folder.old) in
-        let after = counts (F.faults folder.new) (F.absents folder.new) (F.longs folder.new) in
-        IfOk result (Cause which words.now (F.files folder.old) before after) }
-    ensures kept { F.files folder.new ≡ F.files folder.old }
+/// Says what stands in the place of a job's end.
+fn break_off<S: Sink>(alloc: Global, failure: Failure, out: &mut S) -> u8
+    ensures { Breaks failure result (S.held out.old) (S.held out.new) (S.faults out.old) (S.faults out.new) }
 {
-    let Some(file) = checked_file(which, words) else {
-        return Ok(Answer::Usage);
-    };
-    match folder.read(alloc, file, LONGEST_SOURCE) {
-        Ok(source) => verdict(alloc, source.as_slice()),
-        Err(ReadFail::Absent) => Ok(Answer::Absent),
-        Err(ReadFail::TooLong) => Ok(Answer::TooLong),
-        Err(ReadFail::Failed) => Ok(Answer::ReadFault),
-        Err(ReadFail::Memory) => Err(NoMemory),
-    }
-}
-
-/// What is said of a source.
-fn verdict(alloc: Global, source: &[u8]) -> Result<Answer, NoMemory>
-    requires { length source.now ≤ 262144 }
-    ensures { IfOk result (IsVerdict source.now) }
-{
-    match judge(alloc, source)? {
-        Judgement::Accepted => Ok(Answer::Accepted),
-        Judgement::Broken { rule, at } => {
-            let inside = at.min(source.len() as u32);
-            let (line, column) = place_of(source, inside);
-            Ok(Answer::Refused { rule, line, column })
-        }
-        Judgement::NotStraight => Ok(Answer::NotBuilt),
-    }
-}
-
-/// Puts the line of an answer, and gives the status of the call.
-fn say<S: Sink>(alloc: Global, answer: Answer, out: &mut S) -> u8
-    ensures { Said answer result (S.held out.old) (S.held out.new) (S.faults out.old) (S.faults out.new) }
-{
-    let Ok(line) = line_of(alloc, answer) else {
-        return 7;
-    };
-    match out.put(line.as_bytes()) {
-        Ok(()) => status_of(answer),
-        Err(_) => 6,
+    match failure {
+        Failure::Answered(answer) => say(alloc, answer, out),
+        Failure::Memory => 7,
     }
 }

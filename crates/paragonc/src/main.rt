@@ -1,39 +1,9 @@
-//! `paragonc`, the compiler's program: it hands the words, the real files and the real output to
-//! the one call that does the work, and ends with its status.
+//! `paragonc`, the compiler.
 #![tactic(auto)]
 
-use par_io::{HostFolder, HostSink};
-use par_tool::tool::tool;
-use par_tool::words::Which;
+use par_words::Which;
 use std::process::ExitCode;
-use std::{env, io};
-
-/// The status where memory is wanting for the words.
-const NO_MEMORY: u8 = 7;
-
-/// The status where the words cannot be taken from the system.
-const NO_WORDS: u8 = 16;
 
 fn main(rt: HostRuntime) -> ExitCode {
-    match words(&rt) {
-        Ok(words) => {
-            let mut folder = HostFolder::new(&rt);
-            let mut out = HostSink::new(&rt);
-            let words = words.as_slice();
-            ExitCode::from(tool(rt.alloc(), Which::Compiler, words, &mut folder, &mut out))
-        }
-        Err(error) => match error.kind() {
-            io::ErrorKind::OutOfMemory => ExitCode::from(NO_MEMORY),
-            _ => ExitCode::from(NO_WORDS),
-        },
-    }
-}
-
-/// The words behind the program's name.
-fn words<R: env::Env + AllocGlobal>(rt: &R) -> io::Result<Vec<String>> {
-    let mut words = Vec::new(rt.alloc());
-    for word in env::args(rt)?.skip(1) {
-        words.push(word)?;
-    }
-    Ok(words)
+    par_main::run(&rt, Which::Compiler)
 }

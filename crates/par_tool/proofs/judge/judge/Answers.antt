@@ -9,4 +9,4 @@ pub returns-in-Ok-None : goal.returns-in-Ok-None
 returns-in-Ok-None c =
     let has : HasProgram c.args.source.now c.in-Some.program = rw c.in-Some.is at c.in_ok-program.ensures in
     let passes : IsAccepted c.in-Some.program = c.in-Ok-None.ensures.accepted (ap Ok c.in-Ok-None.field-0-is) in
-    (c.in-Some.program, has, passes, accepted_is_secure c.args.source.now c.in-Some.program has passes)
+    (has, passes, accepted_is_secure c.args.source.now c.in-Some.program has passes)

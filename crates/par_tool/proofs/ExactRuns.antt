@@ -1,0 +1,163 @@
+-- The status of a run is the one that its files ask for.
+use Rattle.std.proofs.Common.{◌≡◌, ℕ, ◌-◌, ◌<◌, [], ◌∷◌, length, Option, Some, None, refl, sym, ap, subst, ◌∙◌, inl, inr, arith}
+use Rattle.std.proofs.lemmas.Bool.{false≢true}
+use Rattle.par_io.specs.Causes.{Files, Counts}
+use Rattle.par_values.specs.declared.inputs.Inputs.{Inputs}
+use Rattle.par_values.specs.Ran.{Ran}
+use Rattle.par_inputs.specs.Lines.{lines_of}
+use Rattle.par_inputs.specs.Rules.{entries, IsRight}
+use Rattle.par_class.specs.declared.file.ClassFile.{ClassFile}
+use Rattle.par_class.specs.Spelling.{Spells}
+use Rattle.par_class.proofs.Files.{one_file}
+use Rattle.par_machine.specs.Run.{machine_run}
+use Rattle.par_runner.specs.Texts as told
+use Rattle.par_tool.specs.declared.answer.Answer.{Answer}
+use Rattle.par_tool.specs.declared.answer.Answer.TheVariants.{Accepted, Compiled, Refused, Usage, Absent, ReadFault, WriteFault, TooLong, NotBuilt, BadInputs}
+use Rattle.par_tool.specs.Texts.{status}
+use Rattle.par_tool.specs.Outside.{Text, NotRead, IsThere, IsMissing, IsOverlong, longest_class, longest_inputs, class_file}
+use Rattle.par_tool.specs.Classes.{IsAlone, IsLoaded, IsOther, IsBad, broken, misfit, first_misfit, HasBadLine, NotHad, NotRun, IsRunOf}
+use Rattle.par_tool.specs.Exactly.{IsStatus, TellsRun, TellsClass}
+use Rattle.par_tool.proofs.Statuses.{IsNear, same, near_status, renumbered, read_there, missing_read, overlong_read, missing_not_read, overlong_not_read, there_not_read}
+
+-- no line is wrong where all are right and each has its channel
+right_or_bad : (file : ClassFile) (text : Text) (number : ℕ) → IsRight text → first_misfit file text ≡ None → IsBad file text number → ⊥
+right_or_bad file text number right fit (broken h) =
+    let inside : number - 1 < length (lines_of text) = let c = h.counted in let s = h.stands in omega arith in
+    false≢true (sym (right.right (number - 1) inside) ∙ h.broken)
+right_or_bad file text number right fit (misfit h) = let e : None ≡ Some h.place = sym fit ∙ h.first in cc
+
+-- the same bytes are one class file
+same_file : (main a b : Text) (one other : ClassFile) → a ≡ b → IsAlone main a one → IsAlone main b other → one ≡ other
+same_file main a b one other e x y = one_file b one other (subst (λ (t : Text). Spells t one) e x.spells) y.spells
+
+-- inputs are their channels
+inputs_are : (a b : Inputs) → a.channels ≡ b.channels → a ≡ b
+inputs_are a b e = ap (λ cs. let x : Inputs = record { channels = cs } in x) e
+
+module _ (files : Option Files) (before after : Counts) (main inputs : Text) where
+  -- what stands in the place of a run: the class file was not had, or is none that runs by itself; or the input file was not had, or has a wrong line
+  pub data Instead (a : Answer) : Type 0 where
+    no_class : NotRead files before after longest_class (class_file main) a → Instead a
+    other : a ≡ NotBuilt → IsOther files main → Instead a
+    no_inputs : (file : ClassFile) → IsLoaded files main file → NotRead files before after longest_inputs inputs a → Instead a
+    bad_line : (number : ℕ) → a ≡ BadInputs number → (file : ClassFile) → IsLoaded files main file → HasBadLine files file inputs number → Instead a
+
+  had : (a : Answer) → NotHad files before after main inputs a → Instead a
+  had a (inl h) = no_class h
+  had a (inr h) = no_inputs h.0 h.1 h.2
+
+  pub instead : (a : Answer) → NotRun files before after main inputs a → Instead a
+  instead NotBuilt h = other refl h
+  instead (BadInputs number) h = bad_line number refl h.0 h.1 h.2
+  instead Accepted h = had Accepted h
+  instead (Compiled many) h = had (Compiled many) h
+  instead (Refused rule line column) h = had (Refused rule line column) h
+  instead Usage h = had Usage h
+  instead Absent h = had Absent h
+  instead ReadFault h = had ReadFault h
+  instead WriteFault h = had WriteFault h
+  instead TooLong h = had TooLong h
+
+  class_missing : IsMissing files (class_file main) → (a : Answer) → Instead a → IsNear 3 a
+  class_missing missing a (no_class h) = missing_not_read files before after longest_class (class_file main) missing a h
+  class_missing missing a (other e h) = absurd (missing_read files longest_class (class_file main) h.bytes missing h.read)
+  class_missing missing a (no_inputs file h read) = absurd (missing_read files longest_class (class_file main) h.bytes missing h.read)
+  class_missing missing a (bad_line number e file h bad) = absurd (missing_read files longest_class (class_file main) h.bytes missing h.read)
+
+  class_overlong : IsOverlong files longest_class (class_file main) → (a : Answer) → Instead a → IsNear 8 a
+  class_overlong long a (no_class h) = overlong_not_read files before after longest_class (class_file main) long a h
+  class_overlong long a (other e h) = absurd (overlong_read files longest_class (class_file main) h.bytes long h.read)
+  class_overlong long a (no_inputs file h read) = absurd (overlong_read files longest_class (class_file main) h.bytes long h.read)
+  class_overlong long a (bad_line number e file h bad) = absurd (overlong_read files longest_class (class_file main) h.bytes long h.read)
+
+  class_other : (bytes : Text) → IsThere files longest_class (class_file main) bytes → ((file : ClassFile) → IsAlone main bytes file → ⊥) → (a : Answer) → Instead a → IsNear 9 a
+  class_other bytes there none a (no_class h) = there_not_read files before after longest_class (class_file main) 9 bytes there a h
+  class_other bytes there none a (other e h) = same (ap status e)
+  class_other bytes there none a (no_inputs file h read) =
+      let e : h.bytes ≡ bytes = sym (read_there files longest_class (class_file main) bytes h.bytes there h.read) in
+      absurd (none file (subst (λ (t : Text). IsAlone main t file) e h.alone))
+  class_other bytes there none a (bad_line number is file h bad) =
+      let e : h.bytes ≡ bytes = sym (read_there files longest_class (class_file main) bytes h.bytes there h.read) in
+      absurd (none file (subst (λ (t : Text). IsAlone main t file) e h.alone))
+
+  module _ (bytes : Text) (file : ClassFile) (there : IsThere files longest_class (class_file main) bytes) (alone : IsAlone main bytes file) where
+    not_other : IsOther files main → ⊥
+    not_other h =
+        let e : bytes ≡ h.bytes = read_there files longest_class (class_file main) bytes h.bytes there h.read in
+        h.other file (subst (λ (t : Text). IsAlone main t file) e alone)
+
+    is_file : (f : ClassFile) → IsLoaded files main f → f ≡ file
+    is_file f h = same_file main h.bytes bytes f file (sym (read_there files longest_class (class_file main) bytes h.bytes there h.read)) h.alone alone
+
+    inputs_missing : IsMissing files inputs → (a : Answer) → Instead a → IsNear 3 a
+    inputs_missing missing a (no_class h) = there_not_read files before after longest_class (class_file main) 3 bytes there a h
+    inputs_missing missing a (other e h) = absurd (not_other h)
+    inputs_missing missing a (no_inputs f h read) = missing_not_read files before after longest_inputs inputs missing a read
+    inputs_missing missing a (bad_line number e f h bad) = absurd (missing_read files longest_inputs inputs bad.text missing bad.read)
+
+    inputs_overlong : IsOverlong files longest_inputs inputs → (a : Answer) → Instead a → IsNear 8 a
+    inputs_overlong long a (no_class h) = there_not_read files before after longest_class (class_file main) 8 bytes there a h
+    inputs_overlong long a (other e h) = absurd (not_other h)
+    inputs_overlong long a (no_inputs f h read) = overlong_not_read files before after longest_inputs inputs long a read
+    inputs_overlong long a (bad_line number e f h bad) = absurd (overlong_read files longest_inputs inputs bad.text long bad.read)
+
+    -- what of a wrong line decides the answer's number
+    inputs_there : (wanted : ℕ) (text : Text) → IsThere files longest_inputs inputs text
+        → ((number : ℕ) → IsBad file text number → wanted ≡ 13) → (a : Answer) → Instead a → IsNear wanted a
+    inputs_there wanted text at decides a (no_class h) = there_not_read files before after longest_class (class_file main) wanted bytes there a h
+    inputs_there wanted text at decides a (other e h) = absurd (not_other h)
+    inputs_there wanted text at decides a (no_inputs f h read) = there_not_read files before after longest_inputs inputs wanted text at a read
+    inputs_there wanted text at decides a (bad_line number e f h bad) =
+        let is : bad.text ≡ text = sym (read_there files longest_inputs inputs text bad.text at bad.read) in
+        let here : IsBad file text number = subst (λ (t : Text). IsBad file t number) is (subst (λ (c : ClassFile). IsBad c bad.text number) (is_file f h) bad.bad) in
+        same (ap status e ∙ sym (decides number here))
+
+    tells_run : (steps result : ℕ) (a : Answer) → Instead a → IsStatus result (status a) → TellsRun files file main inputs steps result
+    tells_run steps result a h said = record {
+      missing = λ m. near_status 3 result a (inputs_missing m a h) said;
+      overlong = λ m. near_status 8 result a (inputs_overlong m a h) said;
+      there = λ text at. record {
+        ran = λ lists right are fit. near_status _ result a (inputs_there _ text at (λ number bad. absurd (right_or_bad file text number right fit bad)) a h) said;
+        bad_inputs = λ number bad. near_status 13 result a (inputs_there 13 text at (λ n b. refl) a h) said;
+      };
+    }
+
+    ran_tells : (steps result : ℕ) (ran : Ran) → IsRunOf files main inputs steps ran → IsStatus result (told.status ran.ending) → TellsRun files file main inputs steps result
+    ran_tells steps result ran h said = record {
+      missing = λ m. absurd (missing_read files longest_inputs inputs h.given.text m h.given.read);
+      overlong = λ m. absurd (overlong_read files longest_inputs inputs h.given.text m h.given.read);
+      there = λ text at.
+          let is : h.given.text ≡ text = sym (read_there files longest_inputs inputs text h.given.text at h.given.read) in
+          let same_class : h.file ≡ file = is_file h.file h.loaded in
+          record {
+            ran = λ lists right are fit.
+                let same_lists : h.lists ≡ lists = inputs_are h.lists lists (h.given.entries_are ∙ ap (λ (t : Text). entries (lines_of t)) is ∙ sym are) in
+                let run_is : ran ≡ machine_run (file ∷ []) main lists steps =
+                h.is_run ∙ ap (λ (f : ClassFile). machine_run (f ∷ []) main h.lists steps) same_class ∙ ap (λ (l : Inputs). machine_run (file ∷ []) main l steps) same_lists in
+                renumbered _ _ result (ap (λ (r : Ran). told.status r.ending) run_is) said;
+            bad_inputs = λ number bad.
+                let right : IsRight text = subst IsRight is h.given.right in
+                let fit : first_misfit file text ≡ None = subst (λ (t : Text). first_misfit file t ≡ None) is (subst (λ (f : ClassFile). first_misfit f h.given.text ≡ None) same_class h.given.fit) in
+                absurd (right_or_bad file text number right fit bad);
+          };
+    }
+
+  -- where an answer stands in the place of the run
+  pub tells_instead : (steps result : ℕ) (a : Answer) → Instead a → IsStatus result (status a) → TellsClass files main inputs steps result
+  tells_instead steps result a h said = record {
+    missing = λ m. near_status 3 result a (class_missing m a h) said;
+    overlong = λ m. near_status 8 result a (class_overlong m a h) said;
+    there = λ bytes file at alone. tells_run bytes file at alone steps result a h said;
+    not_built = λ bytes at none. near_status 9 result a (class_other bytes at none a h) said;
+  }
+
+  -- where the run is told
+  pub tells_ran : (steps result : ℕ) (ran : Ran) → IsRunOf files main inputs steps ran → IsStatus result (told.status ran.ending) → TellsClass files main inputs steps result
+  tells_ran steps result ran h said = record {
+    missing = λ m. absurd (missing_read files longest_class (class_file main) h.loaded.bytes m h.loaded.read);
+    overlong = λ m. absurd (overlong_read files longest_class (class_file main) h.loaded.bytes m h.loaded.read);
+    there = λ bytes file at alone. ran_tells bytes file at alone steps result ran h said;
+    not_built = λ bytes at none.
+        let e : h.loaded.bytes ≡ bytes = sym (read_there files longest_class (class_file main) bytes h.loaded.bytes at h.loaded.read) in
+        absurd (none h.file (subst (λ (t : Text). IsAlone main t h.file) e h.loaded.alone));
+  }

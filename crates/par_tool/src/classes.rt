@@ -1,0 +1,119 @@
+//! What is done with a class: its file and its inputs are read, and a machine is made to run it.
+
+ghost use Rattle.std.specs.Prelude.{◌≡◌, ◌≤◌, ℕ, [], ◌∷◌, List, IfOk, IfErr, MatchOption, length};
+ghost use Rattle.par_class.specs.declared.file.ClassFile.{ClassFile as File};
+ghost use Rattle.par_tool.specs.Classes.{IsAlone, IsLoaded, AreInputs, IsUnloaded, IsUngiven, NotRun, IsStarted};
+ghost use Rattle.par_tool.specs.Failures.{IsFailure};
+ghost use Rattle.par_tool.specs.Outside.{counts};
+
+use crate::answer::Answer;
+use crate::naming::class_file_name;
+use crate::reading::{Failure, read};
+use par_class::{ClassFile, read_class};
+use par_inputs::error::BadInput;
+use par_inputs::{line_of_entry, read_inputs};
+use par_io::Folder;
+use par_lexer::list::NoMemory;
+use par_machine::inputs_fit;
+use par_machine::machine::Machine;
+use par_pool::error::ClassError;
+use par_single::runs_alone;
+use par_values::inputs::Inputs;
+use std::alloc::Global;
+
+/// The most bytes of a class file.
+const LONGEST_CLASS: u64 = 1_048_576;
+
+/// The most bytes of an input file.
+const LONGEST_INPUTS: u64 = 1_048_576;
+
+/// The class file that the bytes spell, where it is of this class and runs by itself.
+fn alone(alloc: Global, bytes: &[u8], main: &str) -> Result<Option<ClassFile>, NoMemory>
+    requires { length bytes.now ≤ 1048576 }
+    ensures { IfOk result (λ found. MatchOption found ((file : File) → IsAlone main.now bytes.now file → ⊥) (IsAlone main.now bytes.now)) }
+{
+    match read_class(alloc, bytes) {
+        Ok(file) => {
+            if runs_alone(&file, main.as_bytes()) {
+                Ok(Some(file))
+            } else {
+                Ok(None)
+            }
+        }
+        Err(error) => match error {
+            ClassError::Memory => Err(NoMemory),
+            _ => Ok(None),
+        },
+    }
+}
+
+/// The class file of a class, which runs by itself.
+fn class<F: Folder>(alloc: Global, folder: &mut F, main: &str) -> Result<ClassFile, Failure>
+    ensures kept { F.files folder.new ≡ F.files folder.old }
+    ensures faults_never_fall { F.faults folder.old ≤ F.faults folder.new }
+    ensures absents_never_fall { F.absents folder.old ≤ F.absents folder.new }
+    ensures longs_never_fall { F.longs folder.old ≤ F.longs folder.new }
+    ensures loaded { IfOk result (IsLoaded (F.files folder.old) main.now) }
+    ensures failed { let before = counts (F.faults folder.old) (F.absents folder.old) (F.longs folder.old) in
+        let after = counts (F.faults folder.new) (F.absents folder.new) (F.longs folder.new) in
+        IfErr result (IsFailure (IsUnloaded (F.files folder.old) before after main.now)) }
+{
+    let name = class_file_name(alloc, main)?;
+    let bytes = read(alloc, folder, name.as_str(), LONGEST_CLASS)?;
+    match alone(alloc, bytes.as_slice(), main)? {
+        Some(file) => Ok(file),
+        None => Err(Failure::Answered(Answer::NotBuilt)),
+    }
+}
+
+/// The inputs in an input file, all of which the class file has channels for.
+fn inputs<F: Folder>(
+    alloc: Global,
+    folder: &mut F,
+    file: &ClassFile,
+    name: &str,
+) -> Result<Inputs, Failure>
+    ensures kept { F.files folder.new ≡ F.files folder.old }
+    ensures faults_never_fall { F.faults folder.old ≤ F.faults folder.new }
+    ensures absents_never_fall { F.absents folder.old ≤ F.absents folder.new }
+    ensures longs_never_fall { F.longs folder.old ≤ F.longs folder.new }
+    ensures given { IfOk result (AreInputs (F.files folder.old) file.now name.now) }
+    ensures failed { let before = counts (F.faults folder.old) (F.absents folder.old) (F.longs folder.old) in
+        let after = counts (F.faults folder.new) (F.absents folder.new) (F.longs folder.new) in
+        IfErr result (IsFailure (IsUngiven (F.files folder.old) before after file.now name.now)) }
+{
+    let text = read(alloc, folder, name, LONGEST_INPUTS)?;
+    let inputs = match read_inputs(alloc, text.as_slice()) {
+        Ok(inputs) => inputs,
+        Err(BadInput::Line(line)) => return Err(Failure::Answered(Answer::BadInputs(line))),
+        Err(BadInput::Memory) => return Err(Failure::Memory),
+    };
+    match inputs_fit(file, &inputs) {
+        None => Ok(inputs),
+        Some(place) => {
+            let line = line_of_entry(text.as_slice(), place as usize);
+            Err(Failure::Answered(Answer::BadInputs(line)))
+        }
+    }
+}
+
+/// A machine before its first instruction, for a class and the inputs in a file.
+pub fn started<F: Folder>(
+    alloc: Global,
+    folder: &mut F,
+    main: &str,
+    name: &str,
+) -> Result<Machine, Failure>
+    ensures kept { F.files folder.new ≡ F.files folder.old }
+    ensures started { IfOk result (IsStarted (F.files folder.old) main.now name.now) }
+    ensures failed { let before = counts (F.faults folder.old) (F.absents folder.old) (F.longs folder.old) in
+        let after = counts (F.faults folder.new) (F.absents folder.new) (F.longs folder.new) in
+        IfErr result (IsFailure (NotRun (F.files folder.old) before after main.now name.now)) }
+{
+    let file = class(alloc, folder, main)?;
+    let inputs = inputs(alloc, folder, &file, name)?;
+    match Machine::start_one(alloc, file, inputs) {
+        Ok(machine) => Ok(machine),
+        Err(_) => Err(Failure::Memory),
+    }
+}

@@ -1,0 +1,62 @@
+//! Reads of files, with why one was not had.
+
+ghost use Rattle.std.specs.Prelude.{◌≡◌, ◌≤◌, IfOk, IfErr, length};
+ghost use Rattle.par_tool.specs.Outside.{WasRead, NotRead, counts};
+ghost use Rattle.par_tool.specs.Failures.{IsFailure};
+ghost use Rattle.par_tool.specs.declared.reading.Failure.TheVariants.{Memory};
+
+use crate::answer::Answer;
+use par_io::{Folder, ReadFail};
+use par_lexer::list::NoMemory;
+use std::alloc::{AllocError, Global};
+
+/// Why a job does not come to its end.
+#[derive(Clone, Copy)]
+pub enum Failure {
+    /// This is answered in its place.
+    Answered(Answer),
+    /// Memory is wanting.
+    Memory,
+}
+
+impl From<NoMemory> for Failure {
+    ghost from_gives = { λ _ e. e ≡ Memory };
+
+    fn from(_: NoMemory) -> Failure {
+        Failure::Memory
+    }
+}
+
+impl From<AllocError> for Failure {
+    ghost from_gives = { λ _ e. e ≡ Memory };
+
+    fn from(_: AllocError) -> Failure {
+        Failure::Memory
+    }
+}
+
+/// The bytes of a file of at most `limit` bytes, or why they were not had.
+pub fn read<F: Folder>(
+    alloc: Global,
+    folder: &mut F,
+    name: &str,
+    limit: u64,
+) -> Result<Vec<u8>, Failure>
+    ensures kept { F.files folder.new ≡ F.files folder.old }
+    ensures faults_never_fall { F.faults folder.old ≤ F.faults folder.new }
+    ensures absents_never_fall { F.absents folder.old ≤ F.absents folder.new }
+    ensures longs_never_fall { F.longs folder.old ≤ F.longs folder.new }
+    ensures short { IfOk result (λ bytes. length bytes.items ≤ limit) }
+    ensures read { IfOk result (λ bytes. WasRead (F.files folder.old) limit name.now bytes.items) }
+    ensures failed { let before = counts (F.faults folder.old) (F.absents folder.old) (F.longs folder.old) in
+        let after = counts (F.faults folder.new) (F.absents folder.new) (F.longs folder.new) in
+        IfErr result (IsFailure (NotRead (F.files folder.old) before after limit name.now)) }
+{
+    match folder.read(alloc, name, limit) {
+        Ok(bytes) => Ok(bytes),
+        Err(ReadFail::Absent) => Err(Failure::Answered(Answer::Absent)),
+        Err(ReadFail::TooLong) => Err(Failure::Answered(Answer::TooLong)),
+        Err(ReadFail::Failed) => Err(Failure::Answered(Answer::ReadFault)),
+        Err(ReadFail::Memory) => Err(Failure::Memory),
+    }
+}

@@ -1,0 +1,97 @@
+//! What is done with a source: it is read and judged, and its program is compiled.
+
+ghost use Rattle.std.specs.Prelude.{◌≡◌, ◌≤◌, ◌^◌, ◌<◌, IfOk, IfErr, length, string_bytes};
+ghost use Rattle.par_io.specs.Causes.{ToldBoth, Sets};
+ghost use Rattle.par_lexer.specs.Names.{IsName};
+ghost use Rattle.par_tool.specs.Failures.{IsFailure};
+ghost use Rattle.par_tool.specs.Outside.{Text, counts, class_file};
+ghost use Rattle.par_tool.specs.Sources.{IsAcceptedAs, ReadSource, Rejected, Checked, CompiledSo, IsUnaccepted, IsClassOf};
+
+use crate::answer::Answer;
+use crate::judge::{Judgement, judge};
+use crate::naming::{class_file_name, text_of};
+use crate::reading::{Failure, read};
+use par_io::{Folder, WriteFail};
+use par_lexer::place_of;
+use par_straight::program::Program;
+use par_straight_compile::compile;
+use std::alloc::{AllocError, Global};
+
+/// The most bytes of a source.
+const LONGEST_SOURCE: u64 = 262_144;
+
+/// The program of a source that is accepted.
+fn accepted(alloc: Global, source: &[u8]) -> Result<Program, Failure>
+    requires { length source.now ≤ 262144 }
+    ensures accepted { IfOk result (IsAcceptedAs source.now) }
+    ensures failed { IfErr result (IsFailure (IsUnaccepted source.now)) }
+{
+    match judge(alloc, source)? {
+        Judgement::Accepted(program) => Ok(program),
+        Judgement::Broken { rule, at } => {
+            let inside = at.min(source.len() as u32);
+            let (line, column) = place_of(source, inside);
+            Err(Failure::Answered(Answer::Refused { rule, line, column }))
+        }
+        Judgement::NotStraight => Err(Failure::Answered(Answer::NotBuilt)),
+    }
+}
+
+/// The program of an accepted source in a file.
+fn program<F: Folder>(alloc: Global, folder: &mut F, file: &str) -> Result<Program, Failure>
+    ensures kept { F.files folder.new ≡ F.files folder.old }
+    ensures faults_never_fall { F.faults folder.old ≤ F.faults folder.new }
+    ensures accepted { IfOk result (λ p. ReadSource (F.files folder.old) file.now (λ source. IsAcceptedAs source p)) }
+    ensures failed { let before = counts (F.faults folder.old) (F.absents folder.old) (F.longs folder.old) in
+        let after = counts (F.faults folder.new) (F.absents folder.new) (F.longs folder.new) in
+        IfErr result (IsFailure (Rejected (F.files folder.old) before after file.now)) }
+{
+    let source = read(alloc, folder, file, LONGEST_SOURCE)?;
+    accepted(alloc, source.as_slice())
+}
+
+/// Checks the source in a file.
+pub fn check<F: Folder>(alloc: Global, folder: &mut F, file: &str) -> Result<Answer, Failure>
+    ensures kept { F.files folder.new ≡ F.files folder.old }
+    ensures checked { let before = counts (F.faults folder.old) (F.absents folder.old) (F.longs folder.old) in
+        let after = counts (F.faults folder.new) (F.absents folder.new) (F.longs folder.new) in
+        IfOk result (Checked (F.files folder.old) before after file.now) }
+    ensures failed { let before = counts (F.faults folder.old) (F.absents folder.old) (F.longs folder.old) in
+        let after = counts (F.faults folder.new) (F.absents folder.new) (F.longs folder.new) in
+        IfErr result (IsFailure (Checked (F.files folder.old) before after file.now)) }
+{
+    program(alloc, folder, file)?;
+    Ok(Answer::Accepted)
+}
+
+/// The class file of the program of a source.
+fn class_bytes(alloc: Global, program: &Program) -> Result<Vec<u8>, Failure>
+    requires { (source : Text) × IsAcceptedAs source program.now }
+    ensures class { IfOk result (λ bytes. IsClassOf program.now bytes.items) }
+    ensures memory { IfErr result (λ e. e ≡ Failure.Memory) }
+{
+    match compile(alloc, program) {
+        Ok(bytes) => Ok(bytes),
+        Err(_) => Err(Failure::Memory),
+    }
+}
+
+/// Compiles the source in a file, and writes its class file.
+pub fn compile_file<F: Folder>(alloc: Global, folder: &mut F, file: &str) -> Result<Answer, Failure>
+    ensures compiled { let before = counts (F.faults folder.old) (F.absents folder.old) (F.longs folder.old) in
+        let after = counts (F.faults folder.new) (F.absents folder.new) (F.longs folder.new) in
+        IfOk result (CompiledSo (F.files folder.old) (F.files folder.new) before after file.now) }
+    ensures failed { let before = counts (F.faults folder.old) (F.absents folder.old) (F.longs folder.old) in
+        let after = counts (F.faults folder.new) (F.absents folder.new) (F.longs folder.new) in
+        IfErr result (IsFailure (CompiledSo (F.files folder.old) (F.files folder.new) before after file.now)) }
+    ensures memory { IfErr result (λ e. e ≡ Failure.Memory → F.files folder.new ≡ F.files folder.old) }
+{
+    let program = program(alloc, folder, file)?;
+    let bytes = class_bytes(alloc, &program)?;
+    let name = class_file_name(alloc, text_of(&program.class))?;
+    match folder.write(alloc, name.as_str(), bytes.as_slice()) {
+        Ok(()) => Ok(Answer::Compiled(1)),
+        Err(WriteFail::Failed) => Ok(Answer::WriteFault),
+        Err(WriteFail::Memory) => Err(Failure::Memory),
+    }
+}
