@@ -19,3 +19,4 @@ pub mod Allowed
 pub mod Sources
 pub mod Differing
 pub mod RunsAlone
+pub mod Ending

@@ -7,4 +7,7 @@
 
 mod law;
 
-pub use law::{compiled_is_secure, compiled_runs_alone, compiled_shows, programs_are_runnable};
+pub use law::{
+    compiled_is_secure, compiled_runs_alone, compiled_shows, compiled_shows_whole,
+    programs_are_runnable,
+};

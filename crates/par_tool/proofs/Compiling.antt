@@ -7,6 +7,7 @@ use Rattle.par_straight_compile.specs.Files.{IsCompiled}
 use Rattle.par_straight_shows.proofs.Sources.{runnable}
 use Rattle.par_straight_shows.proofs.RunsAlone.{alone}
 use Rattle.par_straight_shows.proofs.Whole.{shows}
+use Rattle.par_straight_shows.proofs.Ending.{shows_whole}
 use Rattle.par_machine.specs.Target.{target}
 use Rattle.par_tool.specs.Outside.{Text}
 use Rattle.par_tool.specs.Sources.{IsAcceptedAs, IsClassOf}
@@ -21,5 +22,6 @@ class_of source p bytes accepted compiled =
       is = compiled.is;
       alone = alone p compiled.file compiled.is runs;
       shows = shown;
+      whole = shows_whole (compiled.file ∷ []) p shown;
       secure = shown_files_are_secure (target (compiled.file ∷ []) p.class) (subject p) shown accepted.secure;
     }

@@ -12,6 +12,7 @@ use Rattle.par_straight.specs.Subject.{subject}
 use Rattle.par_straight.specs.Rules.{IsAccepted, IsRefused}
 use Rattle.par_straight.specs.Judged.{HasProgram, IsStraightLine}
 use Rattle.par_straight_compile.specs.Files.{IsFileOf}
+use Rattle.par_straight_shows.specs.Theorems.{ShowsWhole}
 use Rattle.par_single.specs.Single.{runs_alone}
 use Rattle.par_machine.specs.Target.{target}
 use Rattle.par_tool.specs.declared.answer.Answer.{Answer}
@@ -68,6 +69,7 @@ pub record IsClassOf (p : Program) (bytes : Text) : Type 0 where
   pub is : IsFileOf p file
   pub alone : IsTrue (runs_alone file p.class)
   pub shows : Shows (target (file ∷ []) p.class) (subject p)
+  pub whole : ShowsWhole (file ∷ []) p
   pub secure : SecureFiles (target (file ∷ []) p.class) (subject p)
 
 -- One class file was written, and all other files stand.
