@@ -223,7 +223,6 @@ fn bad_code_is_told(rt: HostRuntime) -> Result<(), Fail> {
         ),
         // pop is not listed
         (b"\x57\xb1", NOT_BUILT),
-        // iconst_0, return
         (b"\x03\xb1", ended("end\n")),
     ];
     for (code, expected) in rows {

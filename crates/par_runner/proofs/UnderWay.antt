@@ -1,7 +1,7 @@
 -- What is told of a run on its way, event by event up to its end.
 use Rattle.std.proofs.Common.{◌≡◌, ℕ, suc, ◌<◌, List, [], ◌∷◌, ◌++◌, length, take, Option, Some, None, refl, sym, ap, subst, ◌∙◌, arith}
 use Rattle.std.specs.List.{concat}
-use Rattle.std.proofs.lemmas.List.{append-nil}
+use Rattle.std.proofs.lemmas.List.{append-nil, append_assoc}
 use Rattle.std.proofs.lemmas.List.Folds.{concat-append}
 use Rattle.par_io.specs.Causes.{appended, AppendsFront}
 use Rattle.par_io.proofs.Appending.{appended-nothing}
@@ -17,21 +17,9 @@ use Rattle.par_runner.specs.Progress.{after, event_lines, IsUnderWay}
 
 -- ---- lists and what is held
 
-join_assoc : (a b c : List ℕ) → (a ++ b) ++ c ≡ a ++ (b ++ c)
-join_assoc [] b c = refl
-join_assoc (x ∷ a) b c = ap (λ (t : List ℕ). x ∷ t) (join_assoc a b c)
-
-lines_assoc : (a b c : List Text) → (a ++ b) ++ c ≡ a ++ (b ++ c)
-lines_assoc [] b c = refl
-lines_assoc (x ∷ a) b c = ap (λ (t : List Text). x ∷ t) (lines_assoc a b c)
-
-events_assoc : (a b c : List Event) → (a ++ b) ++ c ≡ a ++ (b ++ c)
-events_assoc [] b c = refl
-events_assoc (x ∷ a) b c = ap (λ (t : List Event). x ∷ t) (events_assoc a b c)
-
 appended-appended : (old : Option Text) (a b : Text) → appended (appended old a) b ≡ appended old (a ++ b)
 appended-appended None a b = refl
-appended-appended (Some bytes) a b = ap Some (join_assoc bytes a b)
+appended-appended (Some bytes) a b = ap Some (append_assoc bytes a b)
 
 -- the lines of events, and then those of what follows
 lines-after : (es : List Event) (r : Ran) → lines (after es r) ≡ event_lines es ++ lines r
@@ -51,7 +39,7 @@ one_more es e =
     ∙ ap (λ (t : Text). concat (event_lines es) ++ t) (append-nil (line (event_text e)))
 
 after-more : (es : List Event) (e : Event) (r : Ran) → after es (with_event e r) ≡ after (es ++ e ∷ []) r
-after-more es e r = ap (λ (t : List Event). let x : Ran = record { events = t; ending = r.ending } in x) (sym (events_assoc es (e ∷ []) r.events))
+after-more es e r = ap (λ (t : List Event). let x : Ran = record { events = t; ending = r.ending } in x) (sym (append_assoc es (e ∷ []) r.events))
 
 take-all : (a b : List Text) → take (length a) (a ++ b) ≡ a
 take-all [] b = refl
@@ -67,7 +55,7 @@ front-of : (old held held' : Option Text) (a b rest : Text) → held ≡ appende
 front-of old held held' a b rest told front = (
   a ++ front.0,
   front.1 ++ rest,
-  join_assoc a front.0 (front.1 ++ rest) ∙ ap (λ (t : Text). a ++ t) (sym (join_assoc front.0 front.1 rest) ∙ ap (λ (t : Text). t ++ rest) front.2),
+  append_assoc a front.0 (front.1 ++ rest) ∙ ap (λ (t : Text). a ++ t) (sym (append_assoc front.0 front.1 rest) ∙ ap (λ (t : Text). t ++ rest) front.2),
   front.3 ∙ ap (λ (h : Option Text). appended h front.0) told ∙ appended-appended old a front.0,
 )
 

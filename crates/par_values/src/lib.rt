@@ -1,7 +1,8 @@
-//! What a run of a program gives and takes: values, events, endings and inputs.
+//! What a run of a program gives and takes: values, events, endings and inputs; and, as
+//! definitions, what one instruction does to a frame and a program.
 //!
-//! These types carry names, and are made where a run is handed out or where inputs are read. The
-//! crate is plain data: it runs nothing, and knows no policy and no lock.
+//! Types with names are made where a run is handed out, where inputs are read or where names are
+//! looked up. The crate is plain data: it runs nothing, and knows no policy and no lock.
 #![tactic(auto)]
 
 pub mod inputs;
