@@ -1,5 +1,5 @@
 -- Each source is cut in one way.
-use Rattle.std.proofs.Common.{◌≡◌, ℕ, zero, suc, ◌+◌, ◌<◌, ◌≤◌, List, [], length, drop, Ok, Err, refl, subst, arith}
+use Rattle.std.proofs.Common.{◌≡◌, ◌⊎◌, inl, inr, ℕ, zero, suc, ◌+◌, ◌<◌, ◌≤◌, List, [], length, drop, Ok, Err, refl, subst, arith}
 use Rattle.std.proofs.lemmas.List.{length-drop}
 use Rattle.par_lexer.specs.declared.token.Token.{Token}
 use Rattle.par_lexer.specs.declared.token.LexError.{LexError}
@@ -58,3 +58,15 @@ one_reading source tokens others one other = let same : Ok tokens ≡ Ok others 
 -- a source with tokens has no fault
 pub no_fault : (source : List ℕ) (tokens : List Token) (error : LexError) → HasTokens source tokens → LexBroken source error → ⊥
 no_fault source tokens error one other = let same : Ok tokens ≡ Err error = decided one other in cc
+
+-- a source has one first fault
+pub one_fault : (source : List ℕ) (error other : LexError) → LexBroken source error → LexBroken source other → error ≡ other
+one_fault source error other broken again = let same : ◌≡◌ {A = Outcome} (Err error) (Err other) = decided broken again in cc
+
+outcome_of : (source : List ℕ) (outcome : Outcome) → Cut 0 source outcome → ((tokens : List Token) × HasTokens source tokens) ⊎ ((error : LexError) × LexBroken source error)
+outcome_of source (Ok tokens) cut = inl (tokens, cut)
+outcome_of source (Err error) cut = inr (error, cut)
+
+-- a source has tokens or a first fault
+pub tokens_or_fault : (source : List ℕ) → ((tokens : List Token) × HasTokens source tokens) ⊎ ((error : LexError) × LexBroken source error)
+tokens_or_fault source = let whole = total 0 source in outcome_of source whole.0 whole.1

@@ -7,3 +7,4 @@ pub mod Cuts
 pub mod Progress
 pub mod Refusals
 pub mod Laying
+pub mod NameTests

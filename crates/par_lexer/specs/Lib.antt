@@ -4,4 +4,5 @@ pub mod Pieces
 pub mod Tokens
 pub mod Spans
 pub mod Places
+pub mod Laws
 pub mod formers

@@ -32,3 +32,7 @@ is_spelled (byte ∷ rest) = is_letter byte && list_all goes_on rest
 pub record IsName (bytes : List ℕ) : Type 0 where
   pub spelled : IsTrue (is_spelled bytes)
   pub short : length bytes ≤ 64
+
+-- the test whether bytes are a name
+abbrev pub is_name : List ℕ → Bool
+is_name bytes = is_spelled bytes && nat_le (length bytes) 64

@@ -6,6 +6,7 @@
 
 mod bytes;
 mod cut;
+mod laws;
 pub mod list;
 pub mod name;
 mod number;
@@ -21,4 +22,5 @@ pub mod token;
 pub mod word;
 
 pub use cut::{LONGEST_SOURCE, lex};
+pub use laws::sources_are_cut_one_way;
 pub use place::place_of;

@@ -1,5 +1,5 @@
 ghost use Rattle.std.specs.Prelude.{◌≡◌, ◌↔◌, IsTrue, IfOk};
-ghost use Rattle.par_lexer.specs.Names.{IsName};
+ghost use Rattle.par_lexer.specs.Names.{IsName, is_name};
 
 use crate::bytes::is_spelled;
 use crate::list::NoMemory;
@@ -39,7 +39,8 @@ impl Name {
 
     /// Whether these bytes spell a name.
     pub fn is_name(bytes: &[u8]) -> bool
-        ensures { IsTrue result ↔ IsName bytes.now }
+        ensures named { IsTrue result ↔ IsName bytes.now }
+        ensures test { result ≡ is_name bytes.now }
     {
         bytes.len() <= LONGEST && is_spelled(bytes)
     }
