@@ -4,7 +4,7 @@ pub mod Words
 pub mod FileLines
 pub mod Spelling
 pub mod Fitting
-pub mod Laws
+pub mod RightEntries
 pub mod Progress
 pub mod Standing
 pub mod Counting

@@ -18,7 +18,7 @@ use Rattle.par_inputs.specs.Rules.{entries, is_taken, is_broken, breaks, AreRigh
 use Rattle.par_inputs.specs.Seen.{has}
 use Rattle.par_inputs.proofs.FileLines.{is_end, lines_of-first, lines_of-nil, fewer_left}
 use Rattle.par_inputs.proofs.Spelling.{Spells, names_of, line_of-Some, line_of-nil}
-use Rattle.par_inputs.proofs.Laws.{entries-push, is_taken-names}
+use Rattle.par_inputs.proofs.RightEntries.{entries-push, is_taken-names}
 
 -- the byte stands behind the names of a line
 abbrev pub is_colon : ℕ → Bool

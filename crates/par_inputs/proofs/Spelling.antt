@@ -1,5 +1,5 @@
 -- What a line that gives an entry looks like.
-use Rattle.std.proofs.Common.{◌≡◌, ℕ, ◌+◌, ◌<◌, ℤ, List, [], ◌∷◌, ◌++◌, Bool, true, false, ◌&&◌, ◌==◌, cond, nat_lt, nat_le, Option, Some, None, length, take, drop, get_or, refl, ap, sym, ◌∙◌, subst, arith}
+use Rattle.std.proofs.Common.{◌≡◌, ℕ, ◌+◌, ◌<◌, ℤ, List, [], ◌∷◌, ◌++◌, Bool, true, false, ◌&&◌, ◌==◌, cond, nat_lt, Option, Some, None, length, take, drop, get_or, refl, ap, sym, ◌∙◌, subst, arith}
 use Rattle.std.specs.List.{position_or_len, before_first, list_all}
 use Rattle.std.specs.Option.{option_map}
 use Rattle.std.specs.Str.{bytes_eq}
@@ -7,11 +7,11 @@ use Rattle.std.proofs.lemmas.Bool.{and_parts, and_from}
 use Rattle.std.proofs.lemmas.Bool.Decides.{nat_tests}
 use Rattle.std.proofs.lemmas.List.Sums.{split_at_first, passes_at_first}
 use Rattle.std.proofs.lemmas.Option.{option_and_then_some, none-some, same_Some}
-use Rattle.par_lexer.specs.Names.{IsName, is_letter, goes_on, is_spelled}
+use Rattle.par_lexer.specs.Names.{is_letter, goes_on, is_name}
 use Rattle.par_values.specs.declared.inputs.ChannelInput.{ChannelInput}
 use Rattle.par_inputs.specs.Lines.{Text}
 use Rattle.par_inputs.specs.Numbers.{numbers_of}
-use Rattle.par_inputs.specs.Entries.{halves_at, cut_at, is_name, entry_of, line_of}
+use Rattle.par_inputs.specs.Entries.{halves_at, cut_at, entry_of, line_of}
 
 -- a text is cut into these two at the first of a byte
 pub record IsCut (byte : ℕ) (text before behind : Text) : Type 0 where
@@ -75,12 +75,6 @@ line_of-Some line entry is =
     let colon : IsCut 58 line halves.0 halves.1 = cut_at-Some 58 line halves.0 halves.1 cut in
     let dot : IsCut 46 halves.0 entry.class entry.channel = cut_at-Some 46 halves.0 entry.class entry.channel made.names in
     record { names = sym colon.first ∙ dot.spelled; class = made.class; channel = made.channel; behind = halves.1; numbers = made.numbers })
-
--- a text that is a name
-pub is_name-IsName : (text : Text) → is_name text ≡ true → IsName text
-is_name-IsName text named =
-    let both : (is_spelled text ≡ true) × (nat_le (length text) 64 ≡ true) = and_parts _ _ named in
-    record { spelled = both.0; short = grind (arith, nat_tests) }
 
 letter_goes_on : (byte : ℕ) → is_letter byte ≡ true → goes_on byte ≡ true
 letter_goes_on byte letter = rw letter refl

@@ -1,8 +1,8 @@
 -- What a line gives: a channel and its numbers.
-use Rattle.std.specs.Prelude.{ℕ, ◌+◌, ℤ, List, ◌&&◌, ◌==◌, nat_le, Bool, Option, Some, None, length, take, drop, if◌then◌else◌}
+use Rattle.std.specs.Prelude.{ℕ, ◌+◌, ℤ, List, ◌&&◌, ◌==◌, Option, Some, None, take, drop, if◌then◌else◌}
 use Rattle.std.specs.List.{position}
 use Rattle.std.specs.Option.{option_map, option_and_then}
-use Rattle.par_lexer.specs.Names.{is_spelled}
+use Rattle.par_lexer.specs.Names.{is_name}
 use Rattle.par_values.specs.declared.inputs.ChannelInput.{ChannelInput}
 use Rattle.par_inputs.specs.Lines.{Text}
 use Rattle.par_inputs.specs.Numbers.{numbers_of}
@@ -14,10 +14,6 @@ halves_at text at = (take at text, drop (at + 1) text)
 -- what stands before the first of a byte, and what stands behind it
 abbrev pub cut_at : ℕ → Text → Option (Text × Text)
 cut_at byte text = option_map (halves_at text) (position (λ other. other == byte) text)
-
--- whether the text is a name
-abbrev pub is_name : Text → Bool
-is_name text = is_spelled text && nat_le (length text) 64
 
 -- the entry of two names and of numbers
 abbrev pub entry_of : Option (Text × Text) → Option (List ℤ) → Option ChannelInput

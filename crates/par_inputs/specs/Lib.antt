@@ -4,3 +4,4 @@ pub mod Entries
 pub mod Rules
 pub mod Seen
 pub mod Places
+pub mod Laws

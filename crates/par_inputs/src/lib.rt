@@ -6,6 +6,7 @@
 
 mod cuts;
 pub mod error;
+mod laws;
 mod line;
 mod number;
 mod place;
@@ -14,6 +15,7 @@ mod seen;
 #[cfg(test)]
 mod tests;
 
+pub use laws::{entries_stand_on_their_lines, files_are_right_or_broken};
 pub use number::magnitude_of;
 pub use place::line_of_entry;
 pub use read::{LONGEST_FILE, read_inputs};

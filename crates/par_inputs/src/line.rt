@@ -1,6 +1,7 @@
 ghost use Rattle.std.specs.Prelude.{◌≡◌, ◌&&◌, IfOk, IsTrue};
 ghost use Rattle.std.specs.List.{before_first};
-ghost use Rattle.par_inputs.specs.Entries.{is_name, line_of};
+ghost use Rattle.par_lexer.specs.Names.{is_name};
+ghost use Rattle.par_inputs.specs.Entries.{line_of};
 ghost use Rattle.par_inputs.specs.Numbers.{numbers_of};
 
 use crate::cuts::{cut_at, first_word};
@@ -10,18 +11,11 @@ use par_lexer::name::Name;
 use par_values::inputs::ChannelInput;
 use std::alloc::Global;
 
-// Whether the text is a name.
-fn is_name(text: &[u8]) -> bool
-    ensures { result ≡ is_name text.now }
-{
-    Name::is_name(text)
-}
-
 // Whether both texts are names.
 fn are_names(class: &[u8], channel: &[u8]) -> bool
     ensures { result ≡ (is_name class.now && is_name channel.now) }
 {
-    is_name(class) && is_name(channel)
+    Name::is_name(class) && Name::is_name(channel)
 }
 
 // The numbers behind a colon, or none where something else stands there.

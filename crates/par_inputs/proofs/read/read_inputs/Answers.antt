@@ -9,7 +9,7 @@ use Rattle.par_inputs.specs.Entries.{line_of}
 use Rattle.par_inputs.specs.Rules.{IsEntry, IsOnce}
 use Rattle.par_inputs.specs.Seen.{has}
 use Rattle.par_inputs.proofs.FileLines.{is_end}
-use Rattle.par_inputs.proofs.Laws.{All-entries, IsOnce-right}
+use Rattle.par_inputs.proofs.RightEntries.{All-entries, IsOnce-right}
 use Rattle.par_inputs.proofs.Progress.{SoFar, is_colon, passed, taken_in, no_entry, again, all_right, all_given, was_known, was_new}
 use Rattle.par_inputs.proofs.read.read_inputs.Goals as goal
 

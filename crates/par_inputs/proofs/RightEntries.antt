@@ -11,12 +11,13 @@ use Rattle.std.proofs.lemmas.Option.{none-some}
 use Rattle.std.proofs.lemmas.List.Folds.{list_any_at}
 use Rattle.std.proofs.lemmas.List.Quantifiers.{all_pairs_push}
 use Rattle.std.proofs.Math.Seq.{take-suc, take-length}
+use Rattle.par_lexer.proofs.NameTests.{is_name-IsName}
 use Rattle.par_values.specs.declared.inputs.ChannelInput.{ChannelInput}
 use Rattle.par_inputs.specs.Lines.{Text, lines_of}
 use Rattle.par_inputs.specs.Entries.{line_of}
 use Rattle.par_inputs.specs.Rules.{entries, is_same_channel, is_taken, is_broken, AreRight, IsRight, IsEntry, IsOnce}
 use Rattle.par_inputs.proofs.Fitting.{numbers_of-fit}
-use Rattle.par_inputs.proofs.Spelling.{Spells, names_of, line_of-Some, line_of-nil, is_name-IsName, goes_on-name, bytes_eq-names}
+use Rattle.par_inputs.proofs.Spelling.{Spells, names_of, line_of-Some, line_of-nil, goes_on-name, bytes_eq-names}
 
 -- ---- each entry
 
