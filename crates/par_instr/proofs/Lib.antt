@@ -3,3 +3,4 @@ pub mod Back
 pub mod Spellings
 pub mod Places
 pub mod Decodings
+pub mod Standing

@@ -16,20 +16,22 @@ spelled_at : (code : List ℕ) (at n op : ℕ) (behind : List ℕ)
     → slice_range code at (at + 1 + n) ≡ op ∷ slice_range behind 0 n
 spelled_at code at n op behind rest = grind (arith, common_steps)
 
--- what is spelled by an opcode and the operands behind it stands there
-pub stands : (code : List ℕ) (at n op : ℕ) (behind operands : List ℕ) (i : Instr)
+-- what is spelled by an opcode and the operands behind it stands there, up to behind these
+pub stands : (code : List ℕ) (at n next op : ℕ) (behind operands : List ℕ) (i : Instr)
+    → next ≡ at + 1 + n
     → at ≤ length code
     → take (length code - at) (drop at code) ≡ op ∷ behind
     → n ≤ length behind
     → operands ≡ slice_range behind 0 n
     → IsSpelled (op ∷ operands) i
-    → Stands code at i (at + 1 + n)
-stands code at n op behind operands i within rest room are spelled = record {
+    → Stands code at i next
+stands code at n next op behind operands i ends within rest room are spelled = record {
   begins = omega arith;
   ends = grind (arith, common_steps, ap length rest);
   spelled =
       subst (λ (bytes : List ℕ). IsSpelled bytes i)
-      (ap (λ (bytes : List ℕ). op ∷ bytes) are ∙ sym (spelled_at code at n op behind rest))
+      (ap (λ (bytes : List ℕ). op ∷ bytes) are ∙ sym (spelled_at code at n op behind rest)
+      ∙ ap (λ (end : ℕ). slice_range code at end) (sym ends))
       spelled;
 }
 

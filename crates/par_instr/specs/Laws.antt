@@ -1,5 +1,7 @@
 -- What holds of all spellings.
-use Rattle.std.specs.Prelude.{◌≡◌, ℕ, ◌+◌, List, [], ◌∷◌, ◌++◌, length, slice_range, Some, IsTrue}
+use Rattle.std.specs.Prelude.{◌≡◌, ℕ, ◌+◌, ◌^◌, ◌<◌, ◌↔◌, List, [], ◌∷◌, ◌++◌, length, slice_range, Some, IsTrue}
+use Rattle.std.specs.List.{All}
+use Rattle.par_instr.specs.Decoding.{Decoded, decoded_at}
 use Rattle.par_instr.specs.Spelling.{spelling, has_spelling, operand_bytes, NumbersFit, IsSpelled, Stands}
 use Rattle.par_instr.specs.declared.instr.Instr.{Instr}
 
@@ -48,3 +50,13 @@ abbrev pub OneStands : Type 0
 OneStands =
     (code : List ℕ) (at : ℕ) (i j : Instr) (next end : ℕ)
     → Stands code at i next → Stands code at j end → (i ≡ j) × (next ≡ end)
+
+-- each number is that of a byte
+abbrev pub AreBytes : List ℕ → Type 0
+AreBytes bytes = All (λ b. b < 2 ^ 8) bytes
+
+-- an instruction is decoded exactly where it stands, and with so many bytes
+abbrev pub DecodedStands : Type 0
+DecodedStands =
+    (code : List ℕ) (at : ℕ) (d : Decoded) → AreBytes code
+    → (decoded_at code at ≡ Some d) ↔ Stands code at d.instr (at + d.size)

@@ -1,4 +1,4 @@
-ghost use Rattle.par_instr.specs.Laws.{EachHasOneSpelling, NoOtherHasOne, EachIsListed, NoneBeginsAnother, ReadIsWrittenAgain, WrittenIsReadAgain, OneStands};
+ghost use Rattle.par_instr.specs.Laws.{EachHasOneSpelling, NoOtherHasOne, EachIsListed, NoneBeginsAnother, ReadIsWrittenAgain, WrittenIsReadAgain, OneStands, DecodedStands};
 
 /// The law that an instruction has exactly one spelling where its numbers are in range and its
 /// opcode is listed, and none elsewhere.
@@ -20,4 +20,10 @@ pub fn spelling_is_read_again()
     ensures read { ReadIsWrittenAgain }
     ensures written { WrittenIsReadAgain }
     ensures one { OneStands }
+{}
+
+/// The law that the two ways to say which instruction is at an offset agree: an instruction is
+/// decoded there exactly where its spelling stands there.
+pub fn decoded_is_what_stands()
+    ensures { DecodedStands }
 {}

@@ -19,5 +19,7 @@ mod operands;
 mod tests;
 
 pub use instr::{Instr, InstrError, NoMemory};
-pub use laws::{spelling_ends_itself, spelling_is_one, spelling_is_read_again};
+pub use laws::{
+    decoded_is_what_stands, spelling_ends_itself, spelling_is_one, spelling_is_read_again,
+};
 pub use opcodes::{decode, encode, stack_effect};
