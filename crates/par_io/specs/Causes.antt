@@ -1,5 +1,5 @@
 -- What an answer of the outside tells of it.
-use Rattle.std.specs.Prelude.{◌≡◌, ◌≢◌, ℕ, ◌+◌, ◌-◌, ◌^◌, ◌<◌, ◌⊎◌, List, ◌++◌, Option, Some, None, if◌then◌else◌, ◌==◌}
+use Rattle.std.specs.Prelude.{◌≡◌, ◌≢◌, ℕ, ◌+◌, ◌-◌, ◌^◌, ◌<◌, ◌⊎◌, List, ◌++◌, Option, Some, None, Result, Ok, Err, if◌then◌else◌, ◌==◌}
 use Rattle.par_io.specs.declared.outside.ReadFail.{ReadFail}
 use Rattle.par_io.specs.declared.outside.WriteFail.{WriteFail}
 
@@ -37,6 +37,16 @@ CountsRead ReadFail.Memory old new = SameCounts old new
 abbrev pub CountsWrite : WriteFail → Counts → Counts → Type 0
 CountsWrite WriteFail.Failed old new = (new.faults ≡ raised old.faults) × (new.absents ≡ old.absents) × (new.longs ≡ old.longs)
 CountsWrite WriteFail.Memory old new = SameCounts old new
+
+-- the count of faults stands, unless the read failed
+abbrev pub ReadFaultsStand : {T : Type 0} → Result T ReadFail → ℕ → ℕ → Type 0
+ReadFaultsStand (Err ReadFail.Failed) old new = Unit {0}
+ReadFaultsStand _ old new = new ≡ old
+
+-- the count of faults stands, unless the write failed
+abbrev pub WriteFaultsStand : {T : Type 0} → Result T WriteFail → ℕ → ℕ → Type 0
+WriteFaultsStand (Err WriteFail.Failed) old new = Unit {0}
+WriteFaultsStand _ old new = new ≡ old
 
 -- files by their names
 abbrev pub Files : Type 0

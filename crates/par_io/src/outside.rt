@@ -1,5 +1,5 @@
 ghost use Rattle.std.specs.Prelude.{◌≡◌, ℕ, ◌<◌, ◌≤◌, List, Option, Some, None, IfOk, IsErrOf, OnOk, OnErr, length};
-ghost use Rattle.par_io.specs.Causes.{Rose, Files, Told, ToldBoth, StandBut, Sets, appended, AppendsFront};
+ghost use Rattle.par_io.specs.Causes.{Rose, ReadFaultsStand, WriteFaultsStand, Files, Told, ToldBoth, StandBut, Sets, appended, AppendsFront};
 ghost use Rattle.par_io.specs.declared.outside.ReadFail.{ReadFail};
 ghost use Rattle.par_io.specs.declared.outside.WriteFail.{WriteFail};
 
@@ -86,7 +86,8 @@ pub trait Folder {
         ensures long_counts { IsErrOf result ReadFail.TooLong → Rose (longs self.old) (longs self.new) }
         ensures long { IsErrOf result ReadFail.TooLong →
             Told (files self.old) (λ m. (bytes : List ℕ) × (m name.now ≡ Some bytes) × (limit < length bytes)) }
-        ensures failed { IsErrOf result ReadFail.Failed → Rose (faults self.old) (faults self.new) };
+        ensures failed { IsErrOf result ReadFail.Failed → Rose (faults self.old) (faults self.new) }
+        ensures faults_stand { ReadFaultsStand result (faults self.old) (faults self.new) };
 
     /// Gives a name these bytes, in place of any that it had.
     fn write(&mut self, alloc: Global, name: &str, bytes: &[u8]) -> Result<(), WriteFail>
@@ -97,6 +98,7 @@ pub trait Folder {
         ensures failed_counts { IsErrOf result WriteFail.Failed → Rose (faults self.old) (faults self.new) }
         ensures failed { IsErrOf result WriteFail.Failed →
             ToldBoth (files self.old) (files self.new) (StandBut name.now) }
+        ensures faults_stand { WriteFaultsStand result (faults self.old) (faults self.new) }
         ensures memory { IsErrOf result WriteFail.Memory → files self.new ≡ files self.old };
 }
 
@@ -117,5 +119,6 @@ pub trait Sink {
         ensures faults_never_fall { faults self.old ≤ faults self.new }
         ensures put { OnOk result (held self.new ≡ appended (held self.old) bytes.now) }
         ensures failed_counts { OnErr result (Rose (faults self.old) (faults self.new)) }
+        ensures faults_stand { OnOk result (faults self.new ≡ faults self.old) }
         ensures failed { OnErr result (AppendsFront (held self.old) (held self.new) bytes.now) };
 }

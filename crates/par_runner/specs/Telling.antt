@@ -1,5 +1,5 @@
 -- What telling of a run comes to, line by line.
-use Rattle.std.specs.Prelude.{◌≡◌, ℕ, ◌<◌, List, take, length, Option}
+use Rattle.std.specs.Prelude.{◌≡◌, ℕ, ◌<◌, List, take, length, Option, Result, Ok, Err}
 use Rattle.std.specs.List.{concat}
 use Rattle.par_io.specs.Causes.{Rose, appended, AppendsFront}
 use Rattle.par_values.specs.declared.run.Event.{Event}
@@ -24,6 +24,11 @@ outcome (closing.BadCode class method offset reason) = BadCode class method offs
 abbrev pub IsUntold : Text → (old new : Option Text) → (before after : ℕ) → Untold → Type 0
 IsUntold text old new before after Fault = Rose before after × AppendsFront old new text
 IsUntold text old new before after Memory = new ≡ old
+
+-- No put failed, unless what came of it tells of one.
+abbrev pub PutsAreTold : {T : Type 0} → Result T Untold → (before after : ℕ) → Type 0
+PutsAreTold (Err Fault) before after = Unit {0}
+PutsAreTold _ before after = after ≡ before
 
 -- The machine's turn leads to this state, and its event, if there is one, is told.
 pub data GoesOn (t : Turn) (later : State) (old new : Option Text) : Type 0 where

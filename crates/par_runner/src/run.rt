@@ -1,12 +1,12 @@
 //! A run, told as it goes.
 
-ghost use Rattle.std.specs.Prelude.{◌≡◌, ◌≤◌, IfOk, IfErr, MatchOption};
+ghost use Rattle.std.specs.Prelude.{◌≡◌, ◌≢◌, ◌≤◌, IfOk, IfErr, MatchOption};
 ghost use Rattle.par_io.specs.Saying.{Said};
 ghost use Rattle.par_machine.specs.Run.{run};
 ghost use Rattle.par_machine.specs.Step.{turn};
 ghost use Rattle.par_machine.specs.Machine.{files_of, state_of};
 ghost use Rattle.par_runner.specs.Texts.{lines, status};
-ghost use Rattle.par_runner.specs.Telling.{GoesOn, ClosesBy, IsUntoldTurn, IsTold, IsCutOff, Closes, status_of_untold};
+ghost use Rattle.par_runner.specs.Telling.{GoesOn, ClosesBy, IsUntoldTurn, PutsAreTold, IsTold, IsCutOff, Closes, status_of_untold};
 
 use crate::telling::{Closing, Untold, put_closing, put_event, status_of};
 use par_io::Sink;
@@ -23,6 +23,7 @@ fn advance<S: Sink>(
 ) -> Result<Option<Closing>, Untold>
     ensures files { files_of machine.new ≡ files_of machine.old }
     ensures faults_never_fall { S.faults out.old ≤ S.faults out.new }
+    ensures faults_stand { PutsAreTold result (S.faults out.old) (S.faults out.new) }
     ensures told { let t = turn (files_of machine.old) (state_of machine.old) in
         IfOk result (λ closing. MatchOption closing (GoesOn t (state_of machine.new) (S.held out.old) (S.held out.new)) (λ c. ClosesBy t c (S.held out.old) (S.held out.new))) }
     ensures untold { let t = turn (files_of machine.old) (state_of machine.old) in
@@ -60,6 +61,7 @@ fn tell_events<S: Sink>(
     out: &mut S,
 ) -> Result<Closing, Untold>
     ensures faults_never_fall { S.faults out.old ≤ S.faults out.new }
+    ensures faults_stand { PutsAreTold result (S.faults out.old) (S.faults out.new) }
     ensures told { IfOk result (IsTold (files_of machine.old) steps (state_of machine.old) (S.held out.old) (S.held out.new)) }
     ensures cut { IfErr result (IsCutOff (run (files_of machine.old) steps (state_of machine.old)) (S.held out.old) (S.held out.new) (S.faults out.old) (S.faults out.new)) }
 {
@@ -85,7 +87,9 @@ fn untold_status(untold: Untold) -> u8
 
 /// Puts the line of a closing, and gives the status of the call.
 fn close<S: Sink>(alloc: Global, closing: &Closing, out: &mut S) -> u8
-    ensures { Closes closing.now result (S.held out.old) (S.held out.new) (S.faults out.old) (S.faults out.new) }
+    ensures closes { Closes closing.now result (S.held out.old) (S.held out.new)
+        (S.faults out.old) (S.faults out.new) }
+    ensures faults_stand { result ≢ 6 → S.faults out.new ≡ S.faults out.old }
 {
     match put_closing(alloc, closing, out) {
         Ok(()) => status_of(closing),
@@ -96,8 +100,10 @@ fn close<S: Sink>(alloc: Global, closing: &Closing, out: &mut S) -> u8
 /// Runs a machine for at most so many instructions, and puts a line for each event as it happens
 /// and one for how the run closes. The number is the status of a call that tells so.
 pub fn tell_run<S: Sink>(alloc: Global, machine: Machine, steps: u32, out: &mut S) -> u8
-    ensures { let ran = run (files_of machine) steps (state_of machine) in
-        Said (status ran.ending) (lines ran) result (S.held out.old) (S.held out.new) (S.faults out.old) (S.faults out.new) }
+    ensures said { let ran = run (files_of machine) steps (state_of machine) in
+        Said (status ran.ending) (lines ran) result (S.held out.old) (S.held out.new)
+        (S.faults out.old) (S.faults out.new) }
+    ensures failed_puts_are_told { result ≢ 6 → S.faults out.new ≡ S.faults out.old }
 {
     let mut machine = machine;
     match tell_events(alloc, &mut machine, steps, out) {

@@ -2,7 +2,7 @@
 
 ghost use Rattle.std.specs.Prelude.{◌≡◌, ◌≤◌, OnOk, IfOk, IfErr};
 ghost use Rattle.par_io.specs.Causes.{appended};
-ghost use Rattle.par_runner.specs.Telling.{IsUntold, outcome};
+ghost use Rattle.par_runner.specs.Telling.{IsUntold, PutsAreTold, outcome};
 ghost use Rattle.par_runner.specs.Texts.{line, event_text, ending_text, status};
 ghost use Rattle.par_runner.specs.declared.telling.Untold.TheVariants.{Memory};
 
@@ -60,6 +60,7 @@ pub fn status_of(closing: &Closing) -> u8
 /// Puts a line.
 fn put_line<S: Sink>(line: &[u8], out: &mut S) -> Result<(), Untold>
     ensures faults_never_fall { S.faults out.old ≤ S.faults out.new }
+    ensures faults_stand { PutsAreTold result (S.faults out.old) (S.faults out.new) }
     ensures put { OnOk result (S.held out.new ≡ appended (S.held out.old) line.now) }
     ensures untold { IfErr result (IsUntold line.now (S.held out.old) (S.held out.new) (S.faults out.old) (S.faults out.new)) }
 {
@@ -72,6 +73,7 @@ fn put_line<S: Sink>(line: &[u8], out: &mut S) -> Result<(), Untold>
 /// Puts the line of an event.
 pub fn put_event<S: Sink>(alloc: Global, event: &Event, out: &mut S) -> Result<(), Untold>
     ensures faults_never_fall { S.faults out.old ≤ S.faults out.new }
+    ensures faults_stand { PutsAreTold result (S.faults out.old) (S.faults out.new) }
     ensures put { OnOk result (S.held out.new ≡ appended (S.held out.old) (line (event_text event.now))) }
     ensures untold { IfErr result (IsUntold (line (event_text event.now)) (S.held out.old) (S.held out.new) (S.faults out.old) (S.faults out.new)) }
 {
@@ -97,6 +99,7 @@ fn closing_line(alloc: Global, closing: &Closing) -> Result<Vec<u8>, NoMemory>
 /// Puts the line of a closing.
 pub fn put_closing<S: Sink>(alloc: Global, closing: &Closing, out: &mut S) -> Result<(), Untold>
     ensures faults_never_fall { S.faults out.old ≤ S.faults out.new }
+    ensures faults_stand { PutsAreTold result (S.faults out.old) (S.faults out.new) }
     ensures put { OnOk result (S.held out.new ≡ appended (S.held out.old) (line (ending_text (outcome closing.now)))) }
     ensures untold { IfErr result (IsUntold (line (ending_text (outcome closing.now))) (S.held out.old) (S.held out.new) (S.faults out.old) (S.faults out.new)) }
 {

@@ -8,6 +8,7 @@ ghost use Rattle.par_straight_compile.specs.Compilable.{IsActionOf, IsCompilable
 ghost use Rattle.par_straight_compile.specs.Files.{AreMethodsOf, IsFileOf, IsCompiled};
 ghost use Rattle.par_straight_compile.specs.Growing.{Grows, Stays};
 
+use crate::access::PUBLIC_FINAL_SUPER;
 use crate::body::put_main;
 use crate::draft::{Draft, class_name};
 use crate::members::{channel_files, class, field_files, text};
@@ -74,7 +75,7 @@ fn class_file(alloc: Global, program: &Program) -> Result<ClassFile, NoMemory>
         minor: 0,
         major: 49,
         pool: pool.finish(),
-        access: 0x0031,
+        access: PUBLIC_FINAL_SUPER,
         this_class,
         super_class,
         fields,

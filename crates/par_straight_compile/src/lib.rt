@@ -8,6 +8,7 @@
 //! and never says what a machine does with the file.
 #![tactic(auto)]
 
+mod access;
 mod body;
 mod draft;
 mod file;

@@ -8,17 +8,13 @@ ghost use Rattle.par_straight_compile.specs.Constants.{texts, channel_descriptor
 ghost use Rattle.par_straight_compile.specs.Files.{IsFieldOf, IsChannelOf};
 ghost use Rattle.par_straight_compile.specs.Growing.{Grows, Stays};
 
+use crate::access::{PUBLIC_STATIC, PUBLIC_STATIC_NATIVE};
 use crate::memory::NoMemory;
 use par_class::{FieldFile, MethodFile};
 use par_lexer::list::List;
 use par_pool::PoolBuilder;
 use par_straight::program::{Channel, Field, Program};
 use std::alloc::Global;
-
-/// Public and static (Java Virtual Machine Specification, Java SE 7, table 4.5-A).
-const PUBLIC_STATIC: u16 = 0x0009;
-/// Public, static and native (table 4.6-A).
-const PUBLIC_STATIC_NATIVE: u16 = 0x0109;
 
 /// The index of a text that the file may have.
 #[tactic(auto, using(crate::proofs::Naming::text_grows, crate::proofs::Stays::text_stays))]

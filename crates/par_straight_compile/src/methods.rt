@@ -10,6 +10,7 @@ ghost use Rattle.par_straight_compile.specs.Compilable.{IsActionOf};
 ghost use Rattle.par_straight_compile.specs.Files.{IsInitializer, IsMain};
 ghost use Rattle.par_straight_compile.specs.Growing.{Grows, Stays};
 
+use crate::access::{PUBLIC, PUBLIC_STATIC};
 use crate::limits::{max_locals, max_stack};
 use crate::members::text;
 use crate::memory::NoMemory;
@@ -19,11 +20,6 @@ use par_lexer::list::List;
 use par_pool::PoolBuilder;
 use par_straight::program::Program;
 use std::alloc::Global;
-
-/// Public (Java Virtual Machine Specification, Java SE 7, table 4.6-A).
-const PUBLIC: u16 = 0x0001;
-/// Public and static.
-const PUBLIC_STATIC: u16 = 0x0009;
 
 /// Code that calls the initializer of this index on the object itself, and returns.
 fn super_call(alloc: Global, index: u16) -> Result<List<u8>, NoMemory>

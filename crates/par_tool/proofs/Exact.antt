@@ -1,5 +1,5 @@
 -- Each call whose files the folder tells of has the status that they ask for.
-use Rattle.std.proofs.Common.{◌≡◌, ℕ, List, [], ◌∷◌, Option, Some, sym, subst, ◌∙◌, ap}
+use Rattle.std.proofs.Common.{◌≡◌, ℕ, List, [], ◌∷◌, Option, Some, sym, subst, ◌∙◌, ap, inl}
 use Rattle.std.specs.Prelude.{string_bytes}
 use Rattle.std.specs.declared.string.String.{String}
 use Rattle.std.specs.declared.alloc.Global.{Global}
@@ -13,9 +13,9 @@ use Rattle.par_tool.specs.declared.answer.Answer.{Answer}
 use Rattle.par_tool.specs.Texts.{status, text}
 use Rattle.par_tool.specs.Answers.{Scene, Cause, RunCause, Ends, misses, answers, runs, lacks_memory}
 use Rattle.par_tool.specs.Exactly as exactly
-use Rattle.par_tool.specs.Exactly.{IsStatus, IsExact, TellsSource, TellsClass}
-use Rattle.par_tool.proofs.Statuses.{said_status}
-use Rattle.par_tool.proofs.ExactSources.{checked_found, compiled_found, tells_source}
+use Rattle.par_tool.specs.Exactly.{IsSaidBy, IsStatus, Checks, Compiles, IsExact, TellsSource, TellsClass}
+use Rattle.par_tool.proofs.Statuses.{said_status, checks, compiles}
+use Rattle.par_tool.proofs.ExactSources.{checked_found, compiled_found, never_written, tells_source}
 use Rattle.par_tool.proofs.ExactRuns.{instead, tells_instead, tells_ran}
 
 -- ---- words ask for one thing
@@ -74,47 +74,53 @@ one_wanted Runner words v w x y = runs_once words v w x y
 
 -- ---- the status
 
-answer_is_exact : (s : Scene) (w : Wanted) (a : Answer) (result : ℕ) → Cause s w a → IsStatus result (status a) → IsExact s.files w result
-answer_is_exact s (Check file) a result cause said = tells_source s.files s.before s.after file result a (checked_found s.files s.before s.after file a cause.0) said
-answer_is_exact s (Compile file) a result cause said = tells_source s.files s.before s.after file result a (compiled_found s.files s.before s.after file s.later a cause) said
+answer_is_exact : (s : Scene) (w : Wanted) (a : Answer) (result : ℕ) → Cause s w a → IsSaidBy result (status a) → IsExact s.files w result
+answer_is_exact s (Check file) a result cause said =
+    let never = never_written s.files s.before s.after file a cause.0 in
+    tells_source s.files s.before s.after file Checks result a (checked_found s.files s.before s.after file a cause.0) (checks result a never said) said
+answer_is_exact s (Compile file) a result cause said =
+    tells_source s.files s.before s.after file Compiles result a (compiled_found s.files s.before s.after file s.later a cause) (compiles result a said) said
 answer_is_exact s (Run main inputs steps) a result cause said =
     tells_instead s.files s.before s.after main inputs steps result a (instead s.files s.before s.after main inputs a cause.0) said
 
-run_is_exact : (s : Scene) (w : Wanted) (ran : Ran) (result : ℕ) → RunCause s w ran → IsStatus result (told.status ran.ending) → IsExact s.files w result
+run_is_exact : (s : Scene) (w : Wanted) (ran : Ran) (result : ℕ) → RunCause s w ran → IsSaidBy result (told.status ran.ending) → IsExact s.files w result
 run_is_exact s (Check file) ran result cause said = absurd cause
 run_is_exact s (Compile file) ran result cause said = absurd cause
 run_is_exact s (Run main inputs steps) ran result cause said = tells_ran s.files s.before s.after main inputs steps result ran cause.0 said
 
 -- want of memory comes in the place of any status
-source_wants : (files : Option Files) (file : Text) (result : ℕ) → result ≡ 7 → TellsSource files file result
-source_wants files file result seven = record {
-  missing = λ h. exactly.lacks_memory seven;
-  overlong = λ h. exactly.lacks_memory seven;
+wanting : (result number : ℕ) → result ≡ 7 → IsStatus result number
+wanting result number seven = exactly.said (exactly.lacks_memory seven)
+
+source_wants : (Accepts : ℕ → Type 0) (files : Option Files) (file : Text) (result : ℕ) → result ≡ 7 → Accepts result → TellsSource Accepts files file result
+source_wants Accepts files file result seven accepts = record {
+  missing = λ h. wanting result 3 seven;
+  overlong = λ h. wanting result 8 seven;
   there = λ source there. record {
-    accepted = λ h. exactly.lacks_memory seven;
-    refused = λ rule line column h. exactly.lacks_memory seven;
-    not_built = λ h. exactly.lacks_memory seven;
+    accepted = λ h. accepts;
+    refused = λ rule line column h. wanting result 1 seven;
+    not_built = λ h. wanting result 9 seven;
   };
 }
 
 class_wants : (files : Option Files) (main inputs : Text) (steps result : ℕ) → result ≡ 7 → TellsClass files main inputs steps result
 class_wants files main inputs steps result seven = record {
-  missing = λ h. exactly.lacks_memory seven;
-  overlong = λ h. exactly.lacks_memory seven;
+  missing = λ h. wanting result 3 seven;
+  overlong = λ h. wanting result 8 seven;
   there = λ bytes file at alone. record {
-    missing = λ h. exactly.lacks_memory seven;
-    overlong = λ h. exactly.lacks_memory seven;
+    missing = λ h. wanting result 3 seven;
+    overlong = λ h. wanting result 8 seven;
     there = λ text here. record {
-      ran = λ lists right are fit. exactly.lacks_memory seven;
-      bad_inputs = λ number bad. exactly.lacks_memory seven;
+      ran = λ lists right are fit. wanting result _ seven;
+      bad_inputs = λ number bad. wanting result 13 seven;
     };
   };
-  not_built = λ bytes at none. exactly.lacks_memory seven;
+  not_built = λ bytes at none. wanting result 9 seven;
 }
 
 wants : (files : Option Files) (w : Wanted) (result : ℕ) → result ≡ 7 → IsExact files w result
-wants files (Check file) result seven = source_wants files file result seven
-wants files (Compile file) result seven = source_wants files file result seven
+wants files (Check file) result seven = source_wants Checks files file result seven (wanting result 0 seven)
+wants files (Compile file) result seven = source_wants Compiles files file result seven (inl (wanting result 0 seven))
 wants files (Run main inputs steps) result seven = class_wants files main inputs steps result seven
 
 pub exact : (which : Which) (words : List (String Global)) (s : Scene) (result : ℕ) (old new : Option Text) (f g : ℕ)
@@ -130,7 +136,7 @@ exact which words s result old new f g (lacks_memory seven put stand) w asked = 
 
 -- words of no form
 pub usage : (which : Which) (words : List (String Global)) (s : Scene) (result : ℕ) (old new : Option Text) (f g : ℕ)
-    → Ends which words s result old new f g → ((w : Wanted) → Asks which words w → ⊥) → IsStatus result 2
+    → Ends which words s result old new f g → ((w : Wanted) → Asks which words w → ⊥) → IsSaidBy result 2
 usage which words s result old new f g (misses none stand said) h = said_status 2 result _ old new f g said.said
 usage which words s result old new f g (answers v a asks cause said) h = absurd (h v asks)
 usage which words s result old new f g (runs v ran asks cause said) h = absurd (h v asks)

@@ -16,8 +16,8 @@ use Rattle.par_tool.specs.declared.answer.Answer.TheVariants.{Accepted, Compiled
 use Rattle.par_tool.specs.Texts.{status}
 use Rattle.par_tool.specs.Outside.{Text, NotRead, IsThere, IsMissing, IsOverlong, longest_class, longest_inputs, class_file}
 use Rattle.par_tool.specs.Classes.{IsAlone, IsLoaded, IsOther, IsBad, broken, misfit, first_misfit, HasBadLine, NotHad, NotRun, IsRunOf}
-use Rattle.par_tool.specs.Exactly.{IsStatus, TellsRun, TellsClass}
-use Rattle.par_tool.proofs.Statuses.{IsNear, same, near_status, renumbered, read_there, missing_read, overlong_read, missing_not_read, overlong_not_read, there_not_read}
+use Rattle.par_tool.specs.Exactly.{IsSaidBy, TellsRun, TellsClass}
+use Rattle.par_tool.proofs.Statuses.{IsNear, same, near_status, same_status, read_there, missing_read, overlong_read, missing_not_read, overlong_not_read, there_not_read}
 
 -- no line is wrong where all are right and each has its channel
 right_or_bad : (file : ClassFile) (text : Text) (number : ℕ) → IsRight text → first_misfit file text ≡ None → IsBad file text number → ⊥
@@ -112,7 +112,7 @@ module _ (files : Option Files) (before after : Counts) (main inputs : Text) whe
         let here : IsBad file text number = subst (λ (t : Text). IsBad file t number) is (subst (λ (c : ClassFile). IsBad c bad.text number) (is_file f h) bad.bad) in
         same (ap status e ∙ sym (decides number here))
 
-    tells_run : (steps result : ℕ) (a : Answer) → Instead a → IsStatus result (status a) → TellsRun files file main inputs steps result
+    tells_run : (steps result : ℕ) (a : Answer) → Instead a → IsSaidBy result (status a) → TellsRun files file main inputs steps result
     tells_run steps result a h said = record {
       missing = λ m. near_status 3 result a (inputs_missing m a h) said;
       overlong = λ m. near_status 8 result a (inputs_overlong m a h) said;
@@ -122,7 +122,7 @@ module _ (files : Option Files) (before after : Counts) (main inputs : Text) whe
       };
     }
 
-    ran_tells : (steps result : ℕ) (ran : Ran) → IsRunOf files main inputs steps ran → IsStatus result (told.status ran.ending) → TellsRun files file main inputs steps result
+    ran_tells : (steps result : ℕ) (ran : Ran) → IsRunOf files main inputs steps ran → IsSaidBy result (told.status ran.ending) → TellsRun files file main inputs steps result
     ran_tells steps result ran h said = record {
       missing = λ m. absurd (missing_read files longest_inputs inputs h.given.text m h.given.read);
       overlong = λ m. absurd (overlong_read files longest_inputs inputs h.given.text m h.given.read);
@@ -134,7 +134,7 @@ module _ (files : Option Files) (before after : Counts) (main inputs : Text) whe
                 let same_lists : h.lists ≡ lists = inputs_are h.lists lists (h.given.entries_are ∙ ap (λ (t : Text). entries (lines_of t)) is ∙ sym are) in
                 let run_is : ran ≡ machine_run (file ∷ []) main lists steps =
                 h.is_run ∙ ap (λ (f : ClassFile). machine_run (f ∷ []) main h.lists steps) same_class ∙ ap (λ (l : Inputs). machine_run (file ∷ []) main l steps) same_lists in
-                renumbered _ _ result (ap (λ (r : Ran). told.status r.ending) run_is) said;
+                same_status _ _ result (ap (λ (r : Ran). told.status r.ending) run_is) said;
             bad_inputs = λ number bad.
                 let right : IsRight text = subst IsRight is h.given.right in
                 let fit : first_misfit file text ≡ None = subst (λ (t : Text). first_misfit file t ≡ None) is (subst (λ (f : ClassFile). first_misfit f h.given.text ≡ None) same_class h.given.fit) in
@@ -143,7 +143,7 @@ module _ (files : Option Files) (before after : Counts) (main inputs : Text) whe
     }
 
   -- where an answer stands in the place of the run
-  pub tells_instead : (steps result : ℕ) (a : Answer) → Instead a → IsStatus result (status a) → TellsClass files main inputs steps result
+  pub tells_instead : (steps result : ℕ) (a : Answer) → Instead a → IsSaidBy result (status a) → TellsClass files main inputs steps result
   tells_instead steps result a h said = record {
     missing = λ m. near_status 3 result a (class_missing m a h) said;
     overlong = λ m. near_status 8 result a (class_overlong m a h) said;
@@ -152,7 +152,7 @@ module _ (files : Option Files) (before after : Counts) (main inputs : Text) whe
   }
 
   -- where the run is told
-  pub tells_ran : (steps result : ℕ) (ran : Ran) → IsRunOf files main inputs steps ran → IsStatus result (told.status ran.ending) → TellsClass files main inputs steps result
+  pub tells_ran : (steps result : ℕ) (ran : Ran) → IsRunOf files main inputs steps ran → IsSaidBy result (told.status ran.ending) → TellsClass files main inputs steps result
   tells_ran steps result ran h said = record {
     missing = λ m. absurd (missing_read files longest_class (class_file main) h.loaded.bytes m h.loaded.read);
     overlong = λ m. absurd (overlong_read files longest_class (class_file main) h.loaded.bytes m h.loaded.read);

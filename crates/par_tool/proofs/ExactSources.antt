@@ -11,8 +11,8 @@ use Rattle.par_tool.specs.declared.answer.Answer.TheVariants.{Accepted, Compiled
 use Rattle.par_tool.specs.Texts.{status}
 use Rattle.par_tool.specs.Outside.{Text, NotRead, IsThere, IsMissing, IsOverlong, longest_source}
 use Rattle.par_tool.specs.Sources.{IsBroken, IsAcceptedAs, ReadSource, ReadAccepted, Rejected, Checked, CompiledSo}
-use Rattle.par_tool.specs.Exactly.{IsStatus, Passes, TellsSource}
-use Rattle.par_tool.proofs.Statuses.{IsNear, same, writes, near_status, read_there, missing_read, overlong_read, missing_not_read, overlong_not_read, there_not_read}
+use Rattle.par_tool.specs.Exactly.{IsSaidBy, Passes, TellsSource}
+use Rattle.par_tool.proofs.Statuses.{IsNear, same, near_status, read_there, missing_read, overlong_read, missing_not_read, overlong_not_read, there_not_read}
 
 -- what an answer says of a source
 abbrev Verdict : Text → Answer → Type 0
@@ -32,10 +32,10 @@ clash source rule line column h broken =
     let same : broken.program ≡ h.0 = one_program source broken.program h.0 broken.has h.1 in
     accepted_or_refused h.0 rule broken.at h.2 (subst (λ p. IsRefused p rule broken.at) same broken.refused)
 
-accepted_near : (source : Text) (a : Answer) → Verdict source a → Passes source → IsNear 0 a
-accepted_near source Accepted v h = same refl
-accepted_near source (Compiled many) v h = same refl
-accepted_near source WriteFault v h = writes refl
+accepted_near : (source : Text) (a : Answer) → Verdict source a → Passes source → IsNear 0 a ⊎ (a ≡ WriteFault)
+accepted_near source Accepted v h = inl (same refl)
+accepted_near source (Compiled many) v h = inl (same refl)
+accepted_near source WriteFault v h = inr refl
 accepted_near source (Refused rule line column) v h = absurd (clash source rule line column h v)
 accepted_near source NotBuilt v h = absurd (v (h.0, h.1))
 accepted_near source _ v h = absurd v
@@ -81,6 +81,10 @@ module _ (files : Option Files) (before after : Counts) (file : Text) where
   checked_found TooLong h = inr h
   checked_found _ h = absurd h
 
+  -- a check writes nothing
+  pub never_written : (a : Answer) → Checked files before after file a → a ≡ WriteFault → ⊥
+  never_written a h is = subst (Checked files before after file) is h
+
   pub compiled_found : (later : Option Files) (a : Answer) → CompiledSo files later before after file a → Found a
   compiled_found later (Compiled many) h = inl (read_accepted _ h.1)
   compiled_found later WriteFault h = inl (read_accepted _ h.1)
@@ -105,13 +109,20 @@ module _ (files : Option Files) (before after : Counts) (file : Text) where
       near (subst (λ (s : Text). Verdict s a) same h.2)
   there_near number source there a near (inr h) = there_not_read files before after longest_source file number source there a h
 
+  accepted_there : (source : Text) → IsThere files longest_source file source → Passes source → (a : Answer) → Found a → IsNear 0 a ⊎ (a ≡ WriteFault)
+  accepted_there source there passes a (inl h) =
+      let same : h.0 ≡ source = sym (read_there files longest_source file source h.0 there h.1) in
+      accepted_near source a (subst (λ (s : Text). Verdict s a) same h.2) passes
+  accepted_there source there passes a (inr h) = inl (there_not_read files before after longest_source file 0 source there a h)
+
   -- the answer's status is that of the source, in a call with this status
-  pub tells_source : (result : ℕ) (a : Answer) → Found a → IsStatus result (status a) → TellsSource files file result
-  tells_source result a found said = record {
+  pub tells_source : (Accepts : ℕ → Type 0) (result : ℕ) (a : Answer) → Found a → (IsNear 0 a ⊎ (a ≡ WriteFault) → Accepts result)
+      → IsSaidBy result (status a) → TellsSource Accepts files file result
+  tells_source Accepts result a found accepts said = record {
     missing = λ h. near_status 3 result a (missing_near h a found) said;
     overlong = λ h. near_status 8 result a (overlong_near h a found) said;
     there = λ source there. record {
-      accepted = λ h. near_status 0 result a (there_near 0 source there a (λ v. accepted_near source a v h) found) said;
+      accepted = λ h. accepts (accepted_there source there h a found);
       refused = λ rule line column h. near_status 1 result a (there_near 1 source there a (λ v. refused_near source a v rule line column h) found) said;
       not_built = λ h. near_status 9 result a (there_near 9 source there a (λ v. other_near source a v h) found) said;
     };

@@ -9,3 +9,4 @@ pub mod Alone
 pub mod Calls
 pub mod Few
 pub mod Saying
+pub mod Faults

@@ -1,46 +1,54 @@
 -- From what is said to the status of the call; and what a file that the folder tells of says of its reads.
-use Rattle.std.proofs.Common.{◌≡◌, ℕ, ◌<◌, ◌≤◌, List, length, Option, Some, None, refl, sym, subst, ◌∙◌, arith}
+use Rattle.std.proofs.Common.{◌≡◌, ℕ, ◌<◌, ◌≤◌, List, length, Option, Some, None, refl, sym, ap, subst, ◌∙◌, inl, inr, arith}
+use Rattle.std.specs.Prelude.{◌⊎◌}
 use Rattle.par_io.specs.Causes.{Files, Told, Counts}
 use Rattle.par_io.specs.Saying.{Said, whole, cut, unsaid}
 use Rattle.par_tool.specs.declared.answer.Answer.{Answer}
-use Rattle.par_tool.specs.declared.answer.Answer.TheVariants.{Absent, ReadFault, TooLong}
+use Rattle.par_tool.specs.declared.answer.Answer.TheVariants.{Absent, ReadFault, TooLong, WriteFault}
 use Rattle.par_tool.specs.Texts.{status}
 use Rattle.par_tool.specs.Outside.{Text, WasRead, NotRead, IsThere, IsMissing, IsOverlong}
-use Rattle.par_tool.specs.Exactly.{IsStatus, comes, read_fails, write_fails, put_fails, lacks_memory}
+use Rattle.par_tool.specs.Exactly.{IsSaidBy, comes, put_fails, lacks_memory, IsStatus, said, read_fails}
 
--- the answer has the status, or tells of a failed read or write
+-- the answer has the status, or tells of a failed read
 pub data IsNear (number : ℕ) (a : Answer) : Type 0 where
   same : status a ≡ number → IsNear number a
   reads : status a ≡ 4 → IsNear number a
-  writes : status a ≡ 5 → IsNear number a
 
 -- what is said has its status, but for a failed put and want of memory
-pub said_status : (number result : ℕ) (lines : List Text) (old new : Option Text) (f g : ℕ) → Said number lines result old new f g → IsStatus result number
+pub said_status : (number result : ℕ) (lines : List Text) (old new : Option Text) (f g : ℕ) → Said number lines result old new f g → IsSaidBy result number
 said_status number result lines old new f g (whole is put) = comes is
 said_status number result lines old new f g (cut is rose put) = put_fails is
 said_status number result lines old new f g (unsaid many few is put) = lacks_memory is
 
-pub renumbered : (one other result : ℕ) → one ≡ other → IsStatus result one → IsStatus result other
-renumbered one other result e h = subst (IsStatus result) e h
+renumbered : (one other result : ℕ) → one ≡ other → IsSaidBy result one → IsSaidBy result other
+renumbered one other result e h = subst (IsSaidBy result) e h
 
-as_read_fault : (number result : ℕ) → IsStatus result 4 → IsStatus result number
+as_read_fault : (number result : ℕ) → IsSaidBy result 4 → IsStatus result number
 as_read_fault number result (comes is) = read_fails is
-as_read_fault number result (read_fails is) = read_fails is
-as_read_fault number result (write_fails is) = write_fails is
-as_read_fault number result (put_fails is) = put_fails is
-as_read_fault number result (lacks_memory is) = lacks_memory is
+as_read_fault number result (put_fails is) = said (put_fails is)
+as_read_fault number result (lacks_memory is) = said (lacks_memory is)
 
-as_write_fault : (number result : ℕ) → IsStatus result 5 → IsStatus result number
-as_write_fault number result (comes is) = write_fails is
-as_write_fault number result (read_fails is) = read_fails is
-as_write_fault number result (write_fails is) = write_fails is
-as_write_fault number result (put_fails is) = put_fails is
-as_write_fault number result (lacks_memory is) = lacks_memory is
+as_write_fault : (result : ℕ) → IsSaidBy result 5 → IsStatus result 0 ⊎ (result ≡ 5)
+as_write_fault result (comes is) = inr is
+as_write_fault result (put_fails is) = inl (said (put_fails is))
+as_write_fault result (lacks_memory is) = inl (said (lacks_memory is))
 
-pub near_status : (number result : ℕ) (a : Answer) → IsNear number a → IsStatus result (status a) → IsStatus result number
-near_status number result a (same e) h = renumbered (status a) number result e h
+-- what is said has the status that it is equal to
+pub same_status : (one other result : ℕ) → one ≡ other → IsSaidBy result one → IsStatus result other
+same_status one other result e h = said (renumbered one other result e h)
+
+pub near_status : (number result : ℕ) (a : Answer) → IsNear number a → IsSaidBy result (status a) → IsStatus result number
+near_status number result a (same e) h = same_status (status a) number result e h
 near_status number result a (reads e) h = as_read_fault number result (renumbered (status a) 4 result e h)
-near_status number result a (writes e) h = as_write_fault number result (renumbered (status a) 5 result e h)
+
+-- an accepted source that is only checked, and one that is compiled
+pub checks : (result : ℕ) (a : Answer) → (a ≡ WriteFault → ⊥) → IsSaidBy result (status a) → IsNear 0 a ⊎ (a ≡ WriteFault) → IsStatus result 0
+checks result a never h (inl near) = near_status 0 result a near h
+checks result a never h (inr is) = absurd (never is)
+
+pub compiles : (result : ℕ) (a : Answer) → IsSaidBy result (status a) → IsNear 0 a ⊎ (a ≡ WriteFault) → IsStatus result 0 ⊎ (result ≡ 5)
+compiles result a h (inl near) = inl (near_status 0 result a near h)
+compiles result a h (inr is) = as_write_fault result (renumbered (status a) 5 result (ap status is) h)
 
 -- ---- files that the folder tells of
 

@@ -1,5 +1,5 @@
 -- Which status a call has whose files are there.
-use Rattle.std.specs.Prelude.{◌≡◌, ℕ, [], ◌∷◌, Option, None}
+use Rattle.std.specs.Prelude.{◌≡◌, ℕ, ◌⊎◌, [], ◌∷◌, Option, None}
 use Rattle.par_io.specs.Causes.{Files}
 use Rattle.par_values.specs.declared.inputs.Inputs.{Inputs}
 use Rattle.par_class.specs.declared.file.ClassFile.{ClassFile}
@@ -15,33 +15,49 @@ use Rattle.par_tool.specs.Outside.{Text, IsThere, IsMissing, IsOverlong, longest
 use Rattle.par_tool.specs.Sources.{IsBroken}
 use Rattle.par_tool.specs.Classes.{IsAlone, IsBad, first_misfit}
 
--- the status comes, but for a failed read or write, a failed put or want of memory
+-- what has this status is said, but for a failed put or want of memory
+pub data IsSaidBy (result number : ℕ) : Type 0 where
+  comes : result ≡ number → IsSaidBy result number
+  put_fails : result ≡ 6 → IsSaidBy result number
+  lacks_memory : result ≡ 7 → IsSaidBy result number
+
+-- the same of a call that reads: a read may have failed
 pub data IsStatus (result number : ℕ) : Type 0 where
-  comes : result ≡ number → IsStatus result number
+  said : IsSaidBy result number → IsStatus result number
   read_fails : result ≡ 4 → IsStatus result number
-  write_fails : result ≡ 5 → IsStatus result number
-  put_fails : result ≡ 6 → IsStatus result number
-  lacks_memory : result ≡ 7 → IsStatus result number
+
+-- an accepted source that is checked: nothing is written that could fail
+abbrev pub Checks : ℕ → Type 0
+Checks result = IsStatus result 0
+
+-- an accepted source that is compiled: the write may have failed
+abbrev pub Compiles : ℕ → Type 0
+Compiles result = IsStatus result 0 ⊎ (result ≡ 5)
 
 -- a straight-line source whose program passes every rule
 abbrev pub Passes : Text → Type 0
 Passes source = (p : Program) × HasProgram source p × IsAccepted p
 
--- Which status a source has: 0 exactly where it is accepted, 1 where a rule is broken, 9 where it is no straight-line source.
-pub record Judges (source : Text) (result : ℕ) : Type 0 where
-  pub accepted : Passes source → IsStatus result 0
+-- Which status a call on a source has: 1 where a rule is broken, 9 where it is no straight-line
+-- source, and what the call makes of an accepted one.
+pub record Judges (Accepts : ℕ → Type 0) (source : Text) (result : ℕ) : Type 0 where
+  pub accepted : Passes source → Accepts result
   pub refused : (rule line column : ℕ) → IsBroken source rule line column → IsStatus result 1
   pub not_built : (IsStraightLine source → ⊥) → IsStatus result 9
 
--- Which status a source has that the folder tells of: 3 where its file is missing, 8 where it is too long.
-pub record TellsSource (files : Option Files) (file : Text) (result : ℕ) : Type 0 where
+-- Which status it has where the folder tells of the source: 3 where its file is missing, 8 where it
+-- is too long.
+pub record TellsSource (Accepts : ℕ → Type 0) (files : Option Files) (file : Text) (result : ℕ) : Type 0 where
   pub missing : IsMissing files file → IsStatus result 3
   pub overlong : IsOverlong files longest_source file → IsStatus result 8
-  pub there : (source : Text) → IsThere files longest_source file source → Judges source result
+  pub there : (source : Text) → IsThere files longest_source file source
+      → Judges Accepts source result
 
--- Which status the run of a class has on an input file that is there: that of its ending where all is right, 13 exactly where a line is wrong.
+-- Which status the run of a class has on an input file that is there: that of its ending where all
+-- is right, 13 exactly where a line is wrong.
 pub record RunsOn (file : ClassFile) (main text : Text) (steps result : ℕ) : Type 0 where
-  pub ran : (inputs : Inputs) → IsRight text → inputs.channels ≡ entries (lines_of text) → first_misfit file text ≡ None
+  pub ran : (inputs : Inputs) → IsRight text → inputs.channels ≡ entries (lines_of text)
+      → first_misfit file text ≡ None
       → IsStatus result (told.status (machine_run (file ∷ []) main inputs steps).ending)
   pub bad_inputs : (number : ℕ) → IsBad file text number → IsStatus result 13
 
@@ -49,18 +65,21 @@ pub record RunsOn (file : ClassFile) (main text : Text) (steps result : ℕ) : T
 pub record TellsRun (files : Option Files) (file : ClassFile) (main inputs : Text) (steps result : ℕ) : Type 0 where
   pub missing : IsMissing files inputs → IsStatus result 3
   pub overlong : IsOverlong files longest_inputs inputs → IsStatus result 8
-  pub there : (text : Text) → IsThere files longest_inputs inputs text → RunsOn file main text steps result
+  pub there : (text : Text) → IsThere files longest_inputs inputs text
+      → RunsOn file main text steps result
 
 -- Which status a class has that the folder tells of: 9 exactly where its file does not run by itself.
 pub record TellsClass (files : Option Files) (main inputs : Text) (steps result : ℕ) : Type 0 where
   pub missing : IsMissing files (class_file main) → IsStatus result 3
   pub overlong : IsOverlong files longest_class (class_file main) → IsStatus result 8
-  pub there : (bytes : Text) (file : ClassFile) → IsThere files longest_class (class_file main) bytes → IsAlone main bytes file → TellsRun files file main inputs steps result
-  pub not_built : (bytes : Text) → IsThere files longest_class (class_file main) bytes → ((file : ClassFile) → IsAlone main bytes file → ⊥) → IsStatus result 9
+  pub there : (bytes : Text) (file : ClassFile) → IsThere files longest_class (class_file main) bytes
+      → IsAlone main bytes file → TellsRun files file main inputs steps result
+  pub not_built : (bytes : Text) → IsThere files longest_class (class_file main) bytes
+      → ((file : ClassFile) → IsAlone main bytes file → ⊥) → IsStatus result 9
 
 -- The status of a call, where the folder tells its files.
 module _ (files : Option Files) where
   abbrev pub IsExact : Wanted → ℕ → Type 0
-  IsExact (Check file) result = TellsSource files file result
-  IsExact (Compile file) result = TellsSource files file result
+  IsExact (Check file) result = TellsSource Checks files file result
+  IsExact (Compile file) result = TellsSource Compiles files file result
   IsExact (Run main inputs steps) result = TellsClass files main inputs steps result

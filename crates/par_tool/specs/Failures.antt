@@ -1,9 +1,19 @@
 -- What an answer in place of a job's end says.
+use Rattle.std.specs.Prelude.{◌≡◌, ℕ, Result, Ok, Err}
+use Rattle.std.specs.Bool.{OnFalse}
 use Rattle.par_tool.specs.declared.answer.Answer.{Answer}
 use Rattle.par_tool.specs.declared.reading.Failure.{Failure}
 use Rattle.par_tool.specs.declared.reading.Failure.TheVariants.{Answered, Memory}
+use Rattle.par_tool.specs.Texts.{is_fault}
 
 -- the answer has a cause; memory may be wanting at any time
 abbrev pub IsFailure : (Answer → Type 0) → Failure → Type 0
 IsFailure Cause (Answered answer) = Cause answer
 IsFailure Cause Memory = Unit {0}
+
+-- No read and no write failed, unless what came of the job tells of it: want of memory does not come
+-- in the place of a fault.
+abbrev pub FaultsAreTold : {A : Type 0} → Result A Failure → (before after : ℕ) → Type 0
+FaultsAreTold (Ok value) before after = after ≡ before
+FaultsAreTold (Err (Answered answer)) before after = OnFalse (is_fault answer) (after ≡ before)
+FaultsAreTold (Err Memory) before after = after ≡ before

@@ -1,6 +1,6 @@
 //! What a call of the tool comes to: a status, and the line that is put.
 
-ghost use Rattle.std.specs.Prelude.{◌≡◌, IfOk, IsOk, IsTrue, string_bytes};
+ghost use Rattle.std.specs.Prelude.{◌≡◌, ◌≢◌, IfOk, IsOk, IsTrue, string_bytes};
 ghost use Rattle.par_tool.specs.Answers.{IsSaid};
 ghost use Rattle.par_tool.specs.Lines.{bytes_of};
 ghost use Rattle.par_tool.specs.Texts as spec;
@@ -114,7 +114,9 @@ fn inputs_line(alloc: Global, line: u32) -> Result<String, AllocError>
 
 /// Puts the line of an answer, and gives the status of the call.
 pub fn say<S: Sink>(alloc: Global, answer: Answer, out: &mut S) -> u8
-    ensures { IsSaid answer result (S.held out.old) (S.held out.new) (S.faults out.old) (S.faults out.new) }
+    ensures said { IsSaid answer result (S.held out.old) (S.held out.new)
+        (S.faults out.old) (S.faults out.new) }
+    ensures failed_puts_are_told { result ≢ 6 → S.faults out.new ≡ S.faults out.old }
 {
     let Ok(line) = line_of(alloc, answer) else {
         return 7;

@@ -3,7 +3,7 @@
 ghost use Rattle.std.specs.Prelude.{◌≡◌, ◌≤◌, ℕ, [], ◌∷◌, List, IfOk, IfErr, MatchOption, length};
 ghost use Rattle.par_class.specs.declared.file.ClassFile.{ClassFile as File};
 ghost use Rattle.par_tool.specs.Classes.{IsAlone, IsLoaded, AreInputs, IsUnloaded, IsUngiven, NotRun, IsStarted};
-ghost use Rattle.par_tool.specs.Failures.{IsFailure};
+ghost use Rattle.par_tool.specs.Failures.{IsFailure, FaultsAreTold};
 ghost use Rattle.par_tool.specs.Outside.{counts};
 
 use crate::answer::Answer;
@@ -30,7 +30,9 @@ const LONGEST_INPUTS: u64 = 1_048_576;
 /// The class file that the bytes spell, where it is of this class and runs by itself.
 fn alone(alloc: Global, bytes: &[u8], main: &str) -> Result<Option<ClassFile>, NoMemory>
     requires { length bytes.now ≤ 1048576 }
-    ensures { IfOk result (λ found. MatchOption found ((file : File) → IsAlone main.now bytes.now file → ⊥) (IsAlone main.now bytes.now)) }
+    ensures { IfOk result (λ found. MatchOption found
+        ((file : File) → IsAlone main.now bytes.now file → ⊥)
+        (IsAlone main.now bytes.now)) }
 {
     match read_class(alloc, bytes) {
         Ok(file) => {
@@ -51,10 +53,12 @@ fn alone(alloc: Global, bytes: &[u8], main: &str) -> Result<Option<ClassFile>, N
 fn class<F: Folder>(alloc: Global, folder: &mut F, main: &str) -> Result<ClassFile, Failure>
     ensures kept { F.files folder.new ≡ F.files folder.old }
     ensures faults_never_fall { F.faults folder.old ≤ F.faults folder.new }
+    ensures faults_are_told { FaultsAreTold result (F.faults folder.old) (F.faults folder.new) }
     ensures absents_never_fall { F.absents folder.old ≤ F.absents folder.new }
     ensures longs_never_fall { F.longs folder.old ≤ F.longs folder.new }
     ensures loaded { IfOk result (IsLoaded (F.files folder.old) main.now) }
-    ensures failed { let before = counts (F.faults folder.old) (F.absents folder.old) (F.longs folder.old) in
+    ensures failed { let before =
+        counts (F.faults folder.old) (F.absents folder.old) (F.longs folder.old) in
         let after = counts (F.faults folder.new) (F.absents folder.new) (F.longs folder.new) in
         IfErr result (IsFailure (IsUnloaded (F.files folder.old) before after main.now)) }
 {
@@ -75,10 +79,12 @@ fn inputs<F: Folder>(
 ) -> Result<Inputs, Failure>
     ensures kept { F.files folder.new ≡ F.files folder.old }
     ensures faults_never_fall { F.faults folder.old ≤ F.faults folder.new }
+    ensures faults_are_told { FaultsAreTold result (F.faults folder.old) (F.faults folder.new) }
     ensures absents_never_fall { F.absents folder.old ≤ F.absents folder.new }
     ensures longs_never_fall { F.longs folder.old ≤ F.longs folder.new }
     ensures given { IfOk result (AreInputs (F.files folder.old) file.now name.now) }
-    ensures failed { let before = counts (F.faults folder.old) (F.absents folder.old) (F.longs folder.old) in
+    ensures failed { let before =
+        counts (F.faults folder.old) (F.absents folder.old) (F.longs folder.old) in
         let after = counts (F.faults folder.new) (F.absents folder.new) (F.longs folder.new) in
         IfErr result (IsFailure (IsUngiven (F.files folder.old) before after file.now name.now)) }
 {
@@ -105,8 +111,10 @@ pub fn started<F: Folder>(
     name: &str,
 ) -> Result<Machine, Failure>
     ensures kept { F.files folder.new ≡ F.files folder.old }
+    ensures faults_are_told { FaultsAreTold result (F.faults folder.old) (F.faults folder.new) }
     ensures started { IfOk result (IsStarted (F.files folder.old) main.now name.now) }
-    ensures failed { let before = counts (F.faults folder.old) (F.absents folder.old) (F.longs folder.old) in
+    ensures failed { let before =
+        counts (F.faults folder.old) (F.absents folder.old) (F.longs folder.old) in
         let after = counts (F.faults folder.new) (F.absents folder.new) (F.longs folder.new) in
         IfErr result (IsFailure (NotRun (F.files folder.old) before after main.now name.now)) }
 {

@@ -51,7 +51,9 @@ pub fn judge(alloc: Global, source: &[u8]) -> Result<Judgement, NoMemory>
 /// The program of a straight-line source, or none.
 fn program_of(alloc: Global, source: &[u8]) -> Result<Option<Program>, NoMemory>
     requires { length source.now ≤ 262144 }
-    ensures { IfOk result (λ found. MatchOption found (IsStraightLine source.now → ⊥) (HasProgram source.now)) }
+    ensures { IfOk result (λ found. MatchOption found
+        (IsStraightLine source.now → ⊥)
+        (HasProgram source.now)) }
 {
     let Some(tokens) = tokens_of(alloc, source)? else {
         return Ok(None);
@@ -66,7 +68,9 @@ fn program_of(alloc: Global, source: &[u8]) -> Result<Option<Program>, NoMemory>
 /// The tokens of a source, where it has some.
 fn tokens_of(alloc: Global, source: &[u8]) -> Result<Option<List<Token>>, NoMemory>
     requires { length source.now ≤ 262144 }
-    ensures exact { IfOk result (λ found. MatchOption found ((tokens : Tokens) → HasTokens source.now tokens → ⊥) (HasTokens source.now)) }
+    ensures exact { IfOk result (λ found. MatchOption found
+        ((tokens : Tokens) → HasTokens source.now tokens → ⊥)
+        (HasTokens source.now)) }
     ensures few { IfOk result (λ found. IfSome found (λ tokens. length tokens ≤ 262144)) }
 {
     match lex(alloc, source) {
@@ -81,7 +85,9 @@ fn tokens_of(alloc: Global, source: &[u8]) -> Result<Option<List<Token>>, NoMemo
 /// The tree of tokens, where they have one.
 fn tree_of(alloc: Global, tokens: &[Token]) -> Result<Option<Source>, NoMemory>
     requires { length tokens.now ≤ 262144 }
-    ensures { IfOk result (λ found. MatchOption found ((tree : Tree) → HasTree tokens.now tree → ⊥) (HasTree tokens.now)) }
+    ensures { IfOk result (λ found. MatchOption found
+        ((tree : Tree) → HasTree tokens.now tree → ⊥)
+        (HasTree tokens.now)) }
 {
     match parse(alloc, tokens) {
         Ok(tree) => Ok(Some(tree)),
@@ -94,7 +100,9 @@ fn tree_of(alloc: Global, tokens: &[Token]) -> Result<Option<Source>, NoMemory>
 
 /// The program of a tree, where it meets the conditions.
 fn resolved(alloc: Global, tree: &Source) -> Result<Option<Program>, NoMemory>
-    ensures { IfOk result (λ found. MatchOption found (IsStraight tree.now → ⊥) (λ program. IsStraight tree.now × (program ≡ numbered tree.now))) }
+    ensures { IfOk result (λ found. MatchOption found
+        (IsStraight tree.now → ⊥)
+        (λ program. IsStraight tree.now × (program ≡ numbered tree.now))) }
 {
     match resolve(alloc, tree) {
         Ok(program) => Ok(Some(program)),

@@ -2,7 +2,7 @@
 
 ghost use Rattle.std.specs.Prelude.{◌≡◌, ◌≤◌, IfOk, IfErr, length};
 ghost use Rattle.par_tool.specs.Outside.{WasRead, NotRead, counts};
-ghost use Rattle.par_tool.specs.Failures.{IsFailure};
+ghost use Rattle.par_tool.specs.Failures.{IsFailure, FaultsAreTold};
 ghost use Rattle.par_tool.specs.declared.reading.Failure.TheVariants.{Memory};
 
 use crate::answer::Answer;
@@ -44,11 +44,13 @@ pub fn read<F: Folder>(
 ) -> Result<Vec<u8>, Failure>
     ensures kept { F.files folder.new ≡ F.files folder.old }
     ensures faults_never_fall { F.faults folder.old ≤ F.faults folder.new }
+    ensures faults_are_told { FaultsAreTold result (F.faults folder.old) (F.faults folder.new) }
     ensures absents_never_fall { F.absents folder.old ≤ F.absents folder.new }
     ensures longs_never_fall { F.longs folder.old ≤ F.longs folder.new }
     ensures short { IfOk result (λ bytes. length bytes.items ≤ limit) }
     ensures read { IfOk result (λ bytes. WasRead (F.files folder.old) limit name.now bytes.items) }
-    ensures failed { let before = counts (F.faults folder.old) (F.absents folder.old) (F.longs folder.old) in
+    ensures failed { let before =
+        counts (F.faults folder.old) (F.absents folder.old) (F.longs folder.old) in
         let after = counts (F.faults folder.new) (F.absents folder.new) (F.longs folder.new) in
         IfErr result (IsFailure (NotRead (F.files folder.old) before after limit name.now)) }
 {

@@ -3,7 +3,7 @@
 ghost use Rattle.std.specs.Prelude.{◌≡◌, ◌≤◌, ◌^◌, ◌<◌, IfOk, IfErr, length, string_bytes};
 ghost use Rattle.par_io.specs.Causes.{ToldBoth, Sets};
 ghost use Rattle.par_lexer.specs.Names.{IsName};
-ghost use Rattle.par_tool.specs.Failures.{IsFailure};
+ghost use Rattle.par_tool.specs.Failures.{IsFailure, FaultsAreTold};
 ghost use Rattle.par_tool.specs.Outside.{Text, counts, class_file};
 ghost use Rattle.par_tool.specs.Sources.{IsAcceptedAs, ReadSource, Rejected, Checked, CompiledSo, IsUnaccepted, IsClassOf};
 
@@ -41,8 +41,11 @@ fn accepted(alloc: Global, source: &[u8]) -> Result<Program, Failure>
 fn program<F: Folder>(alloc: Global, folder: &mut F, file: &str) -> Result<Program, Failure>
     ensures kept { F.files folder.new ≡ F.files folder.old }
     ensures faults_never_fall { F.faults folder.old ≤ F.faults folder.new }
-    ensures accepted { IfOk result (λ p. ReadSource (F.files folder.old) file.now (λ source. IsAcceptedAs source p)) }
-    ensures failed { let before = counts (F.faults folder.old) (F.absents folder.old) (F.longs folder.old) in
+    ensures faults_are_told { FaultsAreTold result (F.faults folder.old) (F.faults folder.new) }
+    ensures accepted { IfOk result (λ p.
+        ReadSource (F.files folder.old) file.now (λ source. IsAcceptedAs source p)) }
+    ensures failed { let before =
+        counts (F.faults folder.old) (F.absents folder.old) (F.longs folder.old) in
         let after = counts (F.faults folder.new) (F.absents folder.new) (F.longs folder.new) in
         IfErr result (IsFailure (Rejected (F.files folder.old) before after file.now)) }
 {
@@ -53,10 +56,13 @@ fn program<F: Folder>(alloc: Global, folder: &mut F, file: &str) -> Result<Progr
 /// Checks the source in a file.
 pub fn check<F: Folder>(alloc: Global, folder: &mut F, file: &str) -> Result<Answer, Failure>
     ensures kept { F.files folder.new ≡ F.files folder.old }
-    ensures checked { let before = counts (F.faults folder.old) (F.absents folder.old) (F.longs folder.old) in
+    ensures faults_are_told { FaultsAreTold result (F.faults folder.old) (F.faults folder.new) }
+    ensures checked { let before =
+        counts (F.faults folder.old) (F.absents folder.old) (F.longs folder.old) in
         let after = counts (F.faults folder.new) (F.absents folder.new) (F.longs folder.new) in
         IfOk result (Checked (F.files folder.old) before after file.now) }
-    ensures failed { let before = counts (F.faults folder.old) (F.absents folder.old) (F.longs folder.old) in
+    ensures failed { let before =
+        counts (F.faults folder.old) (F.absents folder.old) (F.longs folder.old) in
         let after = counts (F.faults folder.new) (F.absents folder.new) (F.longs folder.new) in
         IfErr result (IsFailure (Checked (F.files folder.old) before after file.now)) }
 {
@@ -78,20 +84,25 @@ fn class_bytes(alloc: Global, program: &Program) -> Result<Vec<u8>, Failure>
 
 /// Compiles the source in a file, and writes its class file.
 pub fn compile_file<F: Folder>(alloc: Global, folder: &mut F, file: &str) -> Result<Answer, Failure>
-    ensures compiled { let before = counts (F.faults folder.old) (F.absents folder.old) (F.longs folder.old) in
+    ensures faults_are_told { FaultsAreTold result (F.faults folder.old) (F.faults folder.new) }
+    ensures compiled { let before =
+        counts (F.faults folder.old) (F.absents folder.old) (F.longs folder.old) in
         let after = counts (F.faults folder.new) (F.absents folder.new) (F.longs folder.new) in
         IfOk result (CompiledSo (F.files folder.old) (F.files folder.new) before after file.now) }
-    ensures failed { let before = counts (F.faults folder.old) (F.absents folder.old) (F.longs folder.old) in
+    ensures failed { let before =
+        counts (F.faults folder.old) (F.absents folder.old) (F.longs folder.old) in
         let after = counts (F.faults folder.new) (F.absents folder.new) (F.longs folder.new) in
-        IfErr result (IsFailure (CompiledSo (F.files folder.old) (F.files folder.new) before after file.now)) }
-    ensures memory { IfErr result (λ e. e ≡ Failure.Memory → F.files folder.new ≡ F.files folder.old) }
+        let cause = CompiledSo (F.files folder.old) (F.files folder.new) before after file.now in
+        IfErr result (IsFailure cause) }
+    ensures memory { IfErr result (λ e.
+        e ≡ Failure.Memory → F.files folder.new ≡ F.files folder.old) }
 {
     let program = program(alloc, folder, file)?;
     let bytes = class_bytes(alloc, &program)?;
     let name = class_file_name(alloc, text_of(&program.class))?;
     match folder.write(alloc, name.as_str(), bytes.as_slice()) {
         Ok(()) => Ok(Answer::Compiled(1)),
-        Err(WriteFail::Failed) => Ok(Answer::WriteFault),
+        Err(WriteFail::Failed) => Err(Failure::Answered(Answer::WriteFault)),
         Err(WriteFail::Memory) => Err(Failure::Memory),
     }
 }

@@ -1,4 +1,4 @@
-use Rattle.par_runner.proofs.Loop.{keeps, cuts, closes}
+use Rattle.par_runner.proofs.Loop.{keeps, cuts, closes, told_since}
 use Rattle.par_runner.proofs.run.tell_events.Goals as goal
 
 pub returns-in-Ok-Some-clause-told : goal.returns-in-Ok-Some-clause-told
@@ -10,7 +10,13 @@ pub returns-in-Err-clause-cut : goal.returns-in-Err-clause-cut
 returns-in-Err-clause-cut g c =
     cuts _ _ _ _ _ c.loop-done._done c.loop-done.machine _ _ c.loop-done.invariant c.in-Err.untold _ _ c.loop-done-test.true c.in-Err.ensures.untold
 
+pub returns-in-Err-clause-faults_stand : goal.returns-in-Err-clause-faults_stand
+returns-in-Err-clause-faults_stand g c =
+    let way = c.loop-done.invariant in
+    told_since c.in-Err.untold _ _ _ way.faults c.in-Err.ensures.faults_stand
+
 pub loop-done-preserved : goal.loop-done-preserved
 loop-done-preserved g c =
     let on = rw c.in-Ok-None.field-0-is at c.in-Ok-None.ensures.told in
-    keeps _ _ _ _ _ c.loop-done._done c.loop-done.machine _ _ c.loop-done.invariant c.advance.new.machine _ _ c.loop-done-test.true c.in-Ok-None.ensures.files c.in-Ok-None.ensures.faults_never_fall on
+    let stand = c.in-Ok-None.ensures.faults_stand in
+    keeps _ _ _ _ _ c.loop-done._done c.loop-done.machine _ _ c.loop-done.invariant c.advance.new.machine _ _ c.loop-done-test.true c.in-Ok-None.ensures.files stand on
