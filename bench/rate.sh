@@ -9,7 +9,7 @@ trap 'rm -rf "$folder"' EXIT
 cd "$folder" || exit 1
 python3 "$bench/many_instructions.py"
 : > in.txt
-time "$paragon" Many in.txt 1000000000
+time "$paragon" Many in.txt 1000000000 || exit 1
 if ! command -v javac > /dev/null; then
   echo "java is left out: there is no javac"
   exit 0
