@@ -81,19 +81,21 @@ pub(crate) fn read_whole<F: Read>(
     }
 }
 
-// One write, tried again where it is interrupted. Taking nothing is a fault.
+// One write, tried again where it is interrupted. Taking nothing is a fault. So is memory that the
+// system lacks for it, since the file is no longer as it was.
 fn write_some<F: Write>(file: &mut F, bytes: &[u8]) -> Result<usize, WriteFail>
     ensures some { IfOk result (λ count. 0 < count) }
     ensures bound { IfOk result (λ count. count ≤ length bytes.now) }
     ensures taken { IfOk result (λ count.
         Appends (F.contents file.old) (F.contents file.new) (take count bytes.now)) }
+    ensures failed { IfErr result (λ fail. fail ≡ WriteFail.Failed) }
 {
     for _ in 0..u64::MAX {
         match file.write(bytes) {
             Ok(0) => return Err(WriteFail::Failed),
             Ok(count) => return Ok(count),
             Err(error) if is_interrupted(&error) => {}
-            Err(error) => return Err(write_fail(&error)),
+            Err(_) => return Err(WriteFail::Failed),
         }
     }
     Err(WriteFail::Failed)
@@ -101,7 +103,8 @@ fn write_some<F: Write>(file: &mut F, bytes: &[u8]) -> Result<usize, WriteFail>
 
 // Writes all of the bytes.
 pub(crate) fn write_whole<F: Write>(file: &mut F, bytes: &[u8]) -> Result<(), WriteFail>
-    ensures { OnOk result (Appends (F.contents file.old) (F.contents file.new) bytes.now) }
+    ensures written { OnOk result (Appends (F.contents file.old) (F.contents file.new) bytes.now) }
+    ensures failed { IfErr result (λ fail. fail ≡ WriteFail.Failed) }
 {
     let mut rest = bytes;
     while !rest.is_empty() {
