@@ -38,7 +38,8 @@ const MOST_STEPS: u32 = 1_000_000_000;
 
 /// What the words ask for, where they are of a form of that program.
 pub fn read_words<'a>(which: Which, words: &'a [String]) -> Option<Request<'a>>
-    ensures { MatchOption result ((w : Wanted) → Asks which words.now w → ⊥) (λ request. Asks which words.now (wanted request)) }
+    ensures { MatchOption result ((w : Wanted) → Asks which words.now w → ⊥)
+        (λ request. Asks which words.now (wanted request)) }
 {
     match which {
         Which::Compiler => compiler_request(words),
@@ -47,7 +48,8 @@ pub fn read_words<'a>(which: Which, words: &'a [String]) -> Option<Request<'a>>
 }
 
 fn compiler_request<'a>(words: &'a [String]) -> Option<Request<'a>>
-    ensures { MatchOption result ((w : Wanted) → Asks Which.Compiler words.now w → ⊥) (λ request. Asks Which.Compiler words.now (wanted request)) }
+    ensures { MatchOption result ((w : Wanted) → Asks Which.Compiler words.now w → ⊥)
+        (λ request. Asks Which.Compiler words.now (wanted request)) }
 {
     match words {
         [file] => Some(Request::Compile(file_in(file.as_str())?)),
@@ -62,7 +64,8 @@ fn compiler_request<'a>(words: &'a [String]) -> Option<Request<'a>>
 }
 
 fn runner_request<'a>(words: &'a [String]) -> Option<Request<'a>>
-    ensures { MatchOption result ((w : Wanted) → spec.IsRun words.now w → ⊥) (λ request. spec.IsRun words.now (wanted request)) }
+    ensures { MatchOption result ((w : Wanted) → spec.IsRun words.now w → ⊥)
+        (λ request. spec.IsRun words.now (wanted request)) }
 {
     match words {
         [main, inputs, steps] => run_request(main.as_str(), inputs.as_str(), steps.as_str()),
@@ -72,7 +75,8 @@ fn runner_request<'a>(words: &'a [String]) -> Option<Request<'a>>
 
 /// A run, where the words are a name, a file and a number.
 fn run_request<'a>(main: &'a str, inputs: &'a str, steps: &str) -> Option<Request<'a>>
-    ensures { MatchOption result ((w : Wanted) → spec.AskRun main.now inputs.now steps.now w → ⊥) (λ request. spec.AskRun main.now inputs.now steps.now (wanted request)) }
+    ensures { MatchOption result ((w : Wanted) → spec.AskRun main.now inputs.now steps.now w → ⊥)
+        (λ request. spec.AskRun main.now inputs.now steps.now (wanted request)) }
 {
     let steps = steps_in(steps.as_bytes())?;
     let inputs = file_in(inputs)?;
@@ -88,7 +92,8 @@ fn run_request<'a>(main: &'a str, inputs: &'a str, steps: &str) -> Option<Reques
 
 /// The word, where it does not begin with `-`.
 fn file_in(word: &str) -> Option<&str>
-    ensures { MatchOption result (spec.is_flag word.now ≡ true) (λ file. (file.now ≡ word.now) × (spec.is_flag word.now ≡ false)) }
+    ensures { MatchOption result (spec.is_flag word.now ≡ true)
+        (λ file. (file.now ≡ word.now) × (spec.is_flag word.now ≡ false)) }
 {
     if is_flag(word.as_bytes()) {
         return None;
