@@ -1,22 +1,23 @@
 -- Each item of a class file is read exactly.
-use Rattle.std.proofs.Common.{◌≡◌, ℕ, ◌^◌, ◌<◌, List, ◌++◌, length, refl, sym, ap, subst, arith}
+use Rattle.std.proofs.Common.{◌≡◌, ℕ, ◌+◌, ◌^◌, ◌<◌, ◌≤◌, List, ◌++◌, length, length-drop, drop, ltb, Ok, refl, sym, ap, subst, arith}
 use Rattle.std.specs.Prelude.{IsTrue}
 use Rattle.std.specs.List.{flat_map, AllByRecursion}
-use Rattle.std.proofs.lemmas.Bool.{leb-true, and_parts}
+use Rattle.std.proofs.lemmas.Bool.{leb-true, ltb-false, and_parts}
+use Rattle.byteorder.specs.Endian.{big_number}
 use Rattle.par_pool.specs.declared.constant.Constant.{Constant}
 use Rattle.par_pool.specs.declared.error.ClassError.{ClassError}
 use Rattle.par_pool.specs.declared.error.ClassError.TheVariants.{Shape, Index}
 use Rattle.par_pool.specs.Entries.{entry_at}
 use Rattle.par_pool.specs.Spelling.{u2, u4, is_text, is_class}
-use Rattle.par_pool.specs.Reading.{Reader}
-use Rattle.par_pool.proofs.Exact.{Exact, exact_u2, exact_u4, exact_bytes, exact_both, exact_made, exact_tested, exact_keyed}
+use Rattle.par_pool.specs.Reading.{Reader, number_at, u2_at}
+use Rattle.par_pool.proofs.Exact.{Exact, guard_ok, exact_u2, exact_u4, exact_bytes, exact_both, exact_made, exact_tested, exact_keyed}
 use Rattle.par_pool.proofs.Items.{exact_items}
 use Rattle.par_pool.proofs.Spelled.{exact_same}
 use Rattle.par_class.specs.declared.file.Attribute.{Attribute}
 use Rattle.par_class.specs.declared.file.Catch.{Catch}
 use Rattle.par_class.specs.declared.file.CodeAttr.{CodeAttr}
 use Rattle.par_class.specs.Spelling.{counted, sized, attribute, catch, code, field, covers, catches_class, is_code_length, IsTextIndex, IsClassIndex, AllFit, FitsAttribute, FitsCatch, FitsCode, FitsField}
-use Rattle.par_class.specs.Reading.{at, list_at, sized_at, text_index_at, class_index_at, attribute_at, attributes_at, caught_at, catch_at, catches_at, code_length_at, instructions_at, handled_at, code_at, field_at, fields_at}
+use Rattle.par_class.specs.Reading.{place, at, list_at, sized_at, text_index_at, class_index_at, attribute_at, attributes_at, numbers_at, catch_at, catches_at, code_length_at, instructions_at, handled_at, code_at, field_at, fields_at}
 
 pub exact_list : {A : Type 0} {F : A → Type 0} {p : A → List ℕ} {r : Reader A} (short : ClassError) → Exact F p r → Exact (AllFit F) (λ xs. counted p xs) (list_at short r)
 exact_list {F = F} {p = p} short one = exact_keyed {G = λ xs. AllByRecursion F xs} {q = λ xs. flat_map p xs} (λ xs. length xs) (exact_u2 short) (λ n h. exact_items (λ _. one) n 0)
@@ -47,21 +48,22 @@ module _ (entries : List Constant) (short : ClassError) (end : ℕ) where
   unfolding attributes_at
   exact_attributes = exact_list short exact_attribute
 
-  exact-caught : Exact (λ class. (class < 2 ^ 16) × IsTrue (catches_class entries class)) u2 (caught_at entries short end)
-  unfolding caught_at
-  exact-caught = exact_tested (catches_class entries) (at Index end) (exact_u2 short)
-
-  exact-catch : (len : ℕ) → Exact (FitsCatch entries len) catch (catch_at entries short end len)
-  unfolding catch_at catch
-  exact-catch len =
-      exact_same (FitsCatch entries len) catch
-      (λ c h. record { start = h.0.0; end = h.0.1.0; handler = h.0.1.1.0; class = h.0.1.1.1; range = h.1 })
-      (λ c h. (((h.start, (h.end, (h.handler, h.class))), h.range), refl))
-      (exact_tested (covers len) (at Shape end)
-      (exact_made (λ c. (c.start < 2 ^ 16) × ((c.end < 2 ^ 16) × ((c.handler < 2 ^ 16) × ((c.class < 2 ^ 16) × IsTrue (catches_class entries c.class)))))
+  exact-numbers : Exact (λ c. (c.start < 2 ^ 16) × ((c.end < 2 ^ 16) × ((c.handler < 2 ^ 16) × (c.class < 2 ^ 16)))) catch (numbers_at short)
+  unfolding numbers_at catch
+  exact-numbers =
+      exact_made (λ c. (c.start < 2 ^ 16) × ((c.end < 2 ^ 16) × ((c.handler < 2 ^ 16) × (c.class < 2 ^ 16))))
       (λ c. record { start = c.0; end = c.1.0; handler = c.1.1.0; class = c.1.1.1 }) (λ c. (c.start, (c.end, (c.handler, c.class))))
       (λ c h. (refl, h)) (λ c h. (refl, h))
-      (exact_both (exact_u2 short) (exact_both (exact_u2 short) (exact_both (exact_u2 short) exact-caught)))))
+      (exact_both (exact_u2 short) (exact_both (exact_u2 short) (exact_both (exact_u2 short) (exact_u2 short))))
+
+  exact-catch : (len : ℕ) → Exact (FitsCatch entries len) catch (catch_at entries short end len)
+  unfolding catch_at
+  exact-catch len =
+      exact_same (FitsCatch entries len) catch
+      (λ c h. record { start = h.0.0.0; end = h.0.0.1.0; handler = h.0.0.1.1.0; class = (h.0.0.1.1.1, h.1); range = h.0.1 })
+      (λ c h. ((((h.start, (h.end, (h.handler, h.class.0))), h.range), h.class.1), refl))
+      (exact_tested (λ c. catches_class entries c.class) (λ _ bytes. Index (place end bytes + 6))
+      (exact_tested (covers len) (at Shape end) exact-numbers))
 
   exact-catches : (len : ℕ) → Exact (AllFit (FitsCatch entries len)) (λ xs. counted catch xs) (catches_at entries short end len)
   unfolding catches_at
@@ -126,3 +128,12 @@ module _ (entries : List Constant) (short : ClassError) (end : ℕ) where
   pub exact_fields : Exact (AllFit (FitsField entries)) (λ xs. counted field xs) (fields_at entries short end)
   unfolding fields_at
   exact_fields = exact_list short exact_field
+
+-- a number of two bytes that was read stood before what is left
+pub u2-long : (short : ClassError) (bytes : List ℕ) (x : ℕ × List ℕ) → u2_at short bytes ≡ Ok x → length bytes ≡ 2 + length x.1
+unfolding number_at
+u2-long short bytes x e =
+    let g = guard_ok (ltb (length bytes) 2) short (big_number 2 bytes, drop 2 bytes) x e in
+    let long : 2 ≤ length bytes = ltb-false _ _ g.0 in
+    let rest : length x.1 ≡ length (drop 2 bytes) = ap (λ (y : ℕ × List ℕ). length y.1) (sym g.1) in
+    omega (arith, rest, length-drop 2 bytes)

@@ -1,5 +1,5 @@
 -- Reading the items of a class file from left to right, with a refusal.
-use Rattle.std.specs.Prelude.{ℕ, ◌-◌, ◌==◌, if◌then◌else◌, List, length, Result, Ok, Err}
+use Rattle.std.specs.Prelude.{ℕ, ◌+◌, ◌-◌, ◌==◌, if◌then◌else◌, List, length, Result, Ok, Err}
 use Rattle.par_pool.specs.declared.constant.Constant.{Constant}
 use Rattle.par_pool.specs.declared.error.ClassError.{ClassError}
 use Rattle.par_pool.specs.declared.error.ClassError.TheVariants.{Magic, Version, Cut, Index, Extra, Shape}
@@ -41,6 +41,12 @@ code_length_at short end = tested is_code_length (at Shape end) (u4_at short)
 unfoldable pub instructions_at : ClassError → ℕ → Reader (ℕ × (ℕ × List ℕ))
 instructions_at short end = both (u2_at short) (both (u2_at short) (keyed (code_length_at short end) (bytes_at short)))
 
+-- the four numbers of a handler
+unfoldable pub numbers_at : ClassError → Reader Catch
+numbers_at short =
+    made (λ c. record { start = c.0; end = c.1.0; handler = c.1.1.0; class = c.1.1.1 })
+    (both (u2_at short) (both (u2_at short) (both (u2_at short) (u2_at short))))
+
 -- What follows reads from bytes that end at an offset, where short is the refusal of bytes that end too early.
 module _ (entries : List Constant) (short : ClassError) (end : ℕ) where
   -- the index of a text
@@ -57,15 +63,11 @@ module _ (entries : List Constant) (short : ClassError) (end : ℕ) where
   unfoldable pub attributes_at : Reader (List Attribute)
   attributes_at = list_at short attribute_at
 
-  -- the index of the class that a handler catches, or 0
-  unfoldable pub caught_at : Reader ℕ
-  caught_at = tested (catches_class entries) (at Index end) (u2_at short)
-
-  -- a handler of code of this length
+  -- a handler of code of this length: first the range is looked at, then the class, six bytes on
   unfoldable pub catch_at : ℕ → Reader Catch
   catch_at len =
-      tested (covers len) (at Shape end)
-      (made (λ c. record { start = c.0; end = c.1.0; handler = c.1.1.0; class = c.1.1.1 }) (both (u2_at short) (both (u2_at short) (both (u2_at short) caught_at))))
+      tested (λ c. catches_class entries c.class) (λ _ bytes. Index (place end bytes + 6))
+      (tested (covers len) (at Shape end) (numbers_at short))
 
   unfoldable pub catches_at : ℕ → Reader (List Catch)
   catches_at len = list_at short (catch_at len)

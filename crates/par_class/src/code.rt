@@ -1,4 +1,4 @@
-ghost use Rattle.std.specs.Prelude.{◌≡◌, length};
+ghost use Rattle.std.specs.Prelude.{◌≡◌, ◌≤◌, length, IfOk};
 ghost use Rattle.par_pool.specs.Reading.{Gives};
 ghost use Rattle.par_class.specs.Reading as reading;
 ghost use Rattle.par_class.specs.Reading.{inside};
@@ -13,24 +13,27 @@ use par_pool::item::{taken, u2, u4};
 use par_pool::kind::is_class;
 use std::alloc::Global;
 
-/// The index of the class that a handler catches, or 0 where it catches all.
-#[tactic(auto, unfolding(crate::specs::Reading::caught_at))]
-fn caught<'b>(
-    entries: &[Constant],
-    short: ClassError,
-    end: u32,
-    bytes: &'b [u8],
-) -> Result<(u16, &'b [u8]), ClassError>
-    ensures { Gives (λ x. (x.0, x.1.now)) result (reading.caught_at entries.now short end bytes.now) }
+/// The four numbers of a handler.
+#[tactic(auto, unfolding(crate::specs::Reading::numbers_at))]
+fn numbers(short: ClassError, bytes: &[u8]) -> Result<(Catch, &[u8]), ClassError>
+    ensures read { Gives (λ x. (x.0, x.1.now)) result (reading.numbers_at short bytes.now) }
+    ensures long { IfOk result (λ _. 8 ≤ length bytes.now) }
 {
-    let (class, rest) = u2(short, bytes)?;
-    if class != 0 && !is_class(entries, class) {
-        return Err(ClassError::Index(place(end, bytes)));
-    }
-    Ok((class, rest))
+    let (start, rest) = u2(short, bytes)?;
+    let (end, rest) = u2(short, rest)?;
+    let (handler, rest) = u2(short, rest)?;
+    let (class, rest) = u2(short, rest)?;
+    let catch = Catch {
+        start,
+        end,
+        handler,
+        class,
+    };
+    Ok((catch, rest))
 }
 
-/// A handler of code of this length.
+/// A handler of code of this length, which is looked at when all of it is there: first the range
+/// that it covers, then the class, whose index stands six bytes behind the head.
 #[tactic(auto, unfolding(crate::specs::Reading::catch_at))]
 fn catch_of<'b>(
     entries: &[Constant],
@@ -39,21 +42,16 @@ fn catch_of<'b>(
     len: usize,
     bytes: &'b [u8],
 ) -> Result<(Catch, &'b [u8]), ClassError>
-    ensures { Gives (λ x. (x.0, x.1.now)) result (reading.catch_at entries.now short end len bytes.now) }
+    ensures { Gives (λ x. (x.0, x.1.now)) result
+        (reading.catch_at entries.now short end len bytes.now) }
 {
-    let (from, rest) = u2(short, bytes)?;
-    let (to, rest) = u2(short, rest)?;
-    let (handler, rest) = u2(short, rest)?;
-    let (class, rest) = caught(entries, short, end, rest)?;
-    if from >= to || to as usize > len || handler as usize >= len {
+    let (catch, rest) = numbers(short, bytes)?;
+    if catch.start >= catch.end || catch.end as usize > len || catch.handler as usize >= len {
         return Err(ClassError::Shape(place(end, bytes)));
     }
-    let catch = Catch {
-        start: from,
-        end: to,
-        handler,
-        class,
-    };
+    if catch.class != 0 && !is_class(entries, catch.class) {
+        return Err(ClassError::Index(place(end, bytes) + 6));
+    }
     Ok((catch, rest))
 }
 

@@ -7,7 +7,7 @@ use Rattle.par_class.specs.declared.file.MethodFile.{MethodFile}
 use Rattle.par_instr.specs.Decoding.{Decoded, decoded_at}
 use Rattle.par_single.specs.Descriptors.{Text}
 use Rattle.par_single.specs.Single.{none, is_bare, runs_alone}
-use Rattle.par_single.specs.Walk.{walks_in, walks, starts_in, starts_at}
+use Rattle.par_single.specs.Walk.{walks_after, walks, starts_after, starts_at}
 use Rattle.par_single.proofs.Walks.{starts-first, starts-decoded, starts-next, decoded_at-within}
 use Rattle.par_single.proofs.Alone.{code_bare}
 use Rattle.par_machine.specs.State.{code_or_none, code_in, method_code}
@@ -15,13 +15,13 @@ use Rattle.par_machine.specs.Step.{size_of}
 use Rattle.par_machine.specs.Running.{is_boundary}
 
 bare_walks : (o : Option CodeAttr) → is_bare o ≡ true → walks (code_or_none o).code ≡ true
-unfolding walks_in
+unfolding walks_after
 bare_walks None bare = refl
 bare_walks (Some c) bare = (and_parts (none c.catches && none c.attributes) (walks c.code) bare).1
 
 found_walks : (file : ClassFile) (name : Text) (method : ℕ) (o : Option MethodFile) → IsTrue (runs_alone file name)
     → slice_get file.methods method ≡ o → walks (code_in o).code ≡ true
-unfolding walks_in
+unfolding walks_after
 found_walks file name method None runs is = refl
 found_walks file name method (Some m) runs is = bare_walks m.code (code_bare file name method m runs is)
 
@@ -32,9 +32,10 @@ code_walks file name method runs = found_walks file name method (slice_get file.
 
 -- the first offset is a boundary
 pub boundary_first : (code : List ℕ) → walks code ≡ true → is_boundary code 0 ≡ true
-unfolding starts_in
+unfolding starts_after
 boundary_first [] w = refl
-boundary_first (byte ∷ bytes) w = or_left _ _ (starts-first (byte ∷ bytes) w (omega arith))
+boundary_first (byte ∷ bytes) w =
+    or_left (starts_at (byte ∷ bytes) 0) (0 == length (byte ∷ bytes)) (starts-first (byte ∷ bytes) w (omega arith))
 
 -- a boundary is not past the end
 pub boundary_within : (code : List ℕ) (at : ℕ) → walks code ≡ true → is_boundary code at ≡ true → at ≤ length code

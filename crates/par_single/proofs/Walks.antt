@@ -1,70 +1,75 @@
 -- What a walk through code tells: where instructions start, and that one follows the other.
-use Rattle.std.proofs.Common.{◌≡◌, ℕ, zero, suc, ◌+◌, ◌-◌, ◌<◌, ◌≤◌, Bool, true, false, nat_lt, ◌==◌, if◌then◌else◌, List, [], ◌∷◌, length, drop, Some, None, Option, arith, refl, sym, ap, ◌∙◌, inl, inr}
+use Rattle.std.proofs.Common.{◌≡◌, ℕ, zero, suc, ◌+◌, ◌-◌, ◌<◌, ◌≤◌, Bool, true, false, nat_lt, List, [], ◌∷◌, length, drop, Some, None, Option, arith, refl, sym, ap, ◌∙◌, inl, inr}
 use Rattle.std.proofs.lemmas.Bool.{cases_lt, lt-ltb, le-ltb}
 use Rattle.std.proofs.lemmas.Bool.Decides.{nat_tests}
 use Rattle.std.proofs.lemmas.Grind.{common_steps}
 use Rattle.par_instr.proofs.Decodings.{IsWithin, decoded-within}
-use Rattle.par_instr.specs.Decoding.{Decoded, decoded, decoded_at}
+use Rattle.par_instr.specs.Decoding.{Decoded, sized, decoded, decoded_at}
+use Rattle.par_instr.specs.Spelling.{operand_bytes}
 use Rattle.par_instr.specs.declared.instr.Instr.{Instr}
-use Rattle.par_single.specs.Walk.{behind, walks_in, walks, starts_from, starts_in, starts_at}
+use Rattle.par_single.specs.Walk.{if_listed, walks_after, walks, starts_after, starts_at}
 
 -- what is left behind an instruction has fewer bytes
 left : (n : ℕ) (bytes : List ℕ) (d : Decoded) → IsWithin bytes d → length bytes ≤ suc n → length (drop d.size bytes) ≤ n
 left n bytes d w few = grind (arith, common_steps, w.some, w.all)
 
--- ---- the number of instructions that are allowed is enough where it is not below that of bytes
+-- ---- operand bytes are passed over
 
-behind-same : (one other : List ℕ → Bool) (bytes : List ℕ) (o : Option Decoded)
-    → ((d : Decoded) → o ≡ Some d → one (drop d.size bytes) ≡ other (drop d.size bytes))
-    → behind one bytes o ≡ behind other bytes o
-behind-same one other bytes None each = refl
-behind-same one other bytes (Some d) each = each d refl
+walks_after-room : (bytes : List ℕ) (n : ℕ) → n ≤ length bytes → walks_after bytes n ≡ walks (drop n bytes)
+unfolding walks_after
+walks_after-room [] zero room = refl
+walks_after-room [] (suc n) room = absurd (omega arith)
+walks_after-room (byte ∷ bytes) zero room = refl
+walks_after-room (byte ∷ bytes) (suc n) room = walks_after-room bytes n (omega arith)
 
-walks_in-enough : (m n : ℕ) (bytes : List ℕ) → length bytes ≤ m → length bytes ≤ n → walks_in m bytes ≡ walks_in n bytes
-unfolding walks_in
-walks_in-enough m n [] enough too = refl
-walks_in-enough zero n (byte ∷ bytes) enough too = absurd (omega arith)
-walks_in-enough (suc m) zero (byte ∷ bytes) enough too = absurd (omega arith)
-walks_in-enough (suc m) (suc n) (byte ∷ bytes) enough too =
-    behind-same (walks_in m) (walks_in n) (byte ∷ bytes) (decoded (byte ∷ bytes))
-    (λ d found. let w = decoded-within (byte ∷ bytes) d found in
-    walks_in-enough m n (drop d.size (byte ∷ bytes)) (left m (byte ∷ bytes) d w enough) (left n (byte ∷ bytes) d w too))
+walks_after-short : (bytes : List ℕ) (n : ℕ) → length bytes < n → walks_after bytes n ≡ false
+unfolding walks_after
+walks_after-short [] zero short = absurd (omega arith)
+walks_after-short [] (suc n) short = refl
+walks_after-short (byte ∷ bytes) zero short = absurd (omega arith)
+walks_after-short (byte ∷ bytes) (suc n) short = walks_after-short bytes n (omega arith)
 
-starts_from-same : (one other : List ℕ → ℕ → Bool) (bytes : List ℕ) (at : ℕ) (o : Option Decoded)
-    → ((d : Decoded) → o ≡ Some d → one (drop d.size bytes) (at - d.size) ≡ other (drop d.size bytes) (at - d.size))
-    → starts_from one bytes at o ≡ starts_from other bytes at o
-starts_from-same one other bytes at None each = refl
-starts_from-same one other bytes at (Some d) each =
-    ap (λ (later : Bool). if at == 0 then true else (if nat_lt at d.size then false else later)) (each d refl)
+starts_after-inside : (bytes : List ℕ) (at n : ℕ) → at < n → starts_after bytes at n ≡ false
+unfolding starts_after
+starts_after-inside [] at n inside = refl
+starts_after-inside (byte ∷ bytes) at zero inside = absurd (omega arith)
+starts_after-inside (byte ∷ bytes) zero (suc n) inside = refl
+starts_after-inside (byte ∷ bytes) (suc at) (suc n) inside = starts_after-inside bytes at n (omega arith)
 
-starts_in-enough : (m n : ℕ) (bytes : List ℕ) (at : ℕ) → length bytes ≤ m → length bytes ≤ n → starts_in m bytes at ≡ starts_in n bytes at
-unfolding starts_in
-starts_in-enough m n [] at enough too = refl
-starts_in-enough zero n (byte ∷ bytes) at enough too = absurd (omega arith)
-starts_in-enough (suc m) zero (byte ∷ bytes) at enough too = absurd (omega arith)
-starts_in-enough (suc m) (suc n) (byte ∷ bytes) at enough too =
-    starts_from-same (starts_in m) (starts_in n) (byte ∷ bytes) at (decoded (byte ∷ bytes))
-    (λ d found. let w = decoded-within (byte ∷ bytes) d found in
-    starts_in-enough m n (drop d.size (byte ∷ bytes)) (at - d.size) (left m (byte ∷ bytes) d w enough) (left n (byte ∷ bytes) d w too))
+starts_after-past : (bytes : List ℕ) (at n : ℕ) → n ≤ at → starts_after bytes at n ≡ starts_at (drop n bytes) (at - n)
+unfolding starts_after
+starts_after-past [] at zero past = refl
+starts_after-past [] at (suc n) past = refl
+starts_after-past (byte ∷ bytes) at zero past =
+    let same : at ≡ at - 0 = omega arith in ap (starts_at (byte ∷ bytes)) same
+starts_after-past (byte ∷ bytes) zero (suc n) past = absurd (omega arith)
+starts_after-past (byte ∷ bytes) (suc at) (suc n) past =
+    let same : at - n ≡ suc at - suc n = omega arith in
+    starts_after-past bytes at n (omega arith) ∙ ap (starts_at (drop n bytes)) same
 
 -- ---- so a walk and its starts go on behind the instruction at the head
 
-pub walks-behind : (byte : ℕ) (bytes : List ℕ) → walks (byte ∷ bytes) ≡ behind walks (byte ∷ bytes) (decoded (byte ∷ bytes))
-unfolding walks_in
-walks-behind byte bytes =
-    behind-same (walks_in (length bytes)) walks (byte ∷ bytes) (decoded (byte ∷ bytes))
-    (λ d found. let w = decoded-within (byte ∷ bytes) d found in
-    walks_in-enough (length bytes) (length (drop d.size (byte ∷ bytes))) (drop d.size (byte ∷ bytes))
-    (left (length bytes) (byte ∷ bytes) d w (omega arith)) (omega arith))
+-- what holds of the bytes behind an instruction that stands at their head
+abbrev pub behind : (List ℕ → Bool) → List ℕ → Option Decoded → Bool
+behind test bytes None = false
+behind test bytes (Some d) = test (drop d.size bytes)
 
-starts_at-behind : (byte : ℕ) (bytes : List ℕ) (at : ℕ)
-    → starts_at (byte ∷ bytes) at ≡ starts_from starts_at (byte ∷ bytes) at (decoded (byte ∷ bytes))
-unfolding starts_in
-starts_at-behind byte bytes at =
-    starts_from-same (starts_in (length bytes)) starts_at (byte ∷ bytes) at (decoded (byte ∷ bytes))
-    (λ d found. let w = decoded-within (byte ∷ bytes) d found in
-    starts_in-enough (length bytes) (length (drop d.size (byte ∷ bytes))) (drop d.size (byte ∷ bytes)) (at - d.size)
-    (left (length bytes) (byte ∷ bytes) d w (omega arith)) (omega arith))
+walks-sized : (op : ℕ) (bytes : List ℕ) (o : Option ℕ) → if_listed (walks_after bytes) o ≡ behind walks (op ∷ bytes) (sized op bytes o)
+walks-sized op bytes None = refl
+walks-sized op bytes (Some n) =
+    elim (cases_lt (length bytes) n) as (λ _. walks_after bytes n ≡ behind walks (op ∷ bytes) (sized op bytes (Some n))) [
+      | inl short ↦ grind (arith, nat_tests, walks_after-short bytes n short)
+      | inr room ↦ grind (arith, nat_tests, common_steps, walks_after-room bytes n room)
+    ]
+
+pub walks-behind : (byte : ℕ) (bytes : List ℕ) → walks (byte ∷ bytes) ≡ behind walks (byte ∷ bytes) (decoded (byte ∷ bytes))
+unfolding walks_after
+walks-behind byte bytes = walks-sized byte bytes (operand_bytes byte)
+
+-- an instruction that is decoded is an opcode and so many operand bytes
+sized-some : (op : ℕ) (bytes : List ℕ) (o : Option ℕ) (d : Decoded) → sized op bytes o ≡ Some d → (n : ℕ) × ((o ≡ Some n) × (d.size ≡ suc n))
+sized-some op bytes None d found = absurd (cc found)
+sized-some op bytes (Some n) d found = (n, (refl, grind (arith, nat_tests)))
 
 walks-some : (bytes : List ℕ) (o : Option Decoded) → behind walks bytes o ≡ true → (d : Decoded) × ((o ≡ Some d) × (walks (drop d.size bytes) ≡ true))
 walks-some bytes None w = absurd (cc w)
@@ -76,31 +81,42 @@ head : (code : List ℕ) → walks code ≡ true → 0 < length code
 head [] w some = absurd (omega arith)
 head (byte ∷ bytes) w some = walks-some (byte ∷ bytes) (decoded (byte ∷ bytes)) (sym (walks-behind byte bytes) ∙ w)
 
-starts-head : (code : List ℕ) (at : ℕ) (d : Decoded) → decoded code ≡ Some d → starts_at code at ≡ starts_from starts_at code at (Some d)
-starts-head [] at d found = absurd (cc found)
-starts-head (byte ∷ bytes) at d found = starts_at-behind byte bytes at ∙ ap (starts_from starts_at (byte ∷ bytes) at) found
+-- what starts behind the opcode at the head starts behind its operand bytes
+starts-head : (op : ℕ) (bytes : List ℕ) (at n : ℕ) → operand_bytes op ≡ Some n → starts_at (op ∷ bytes) (suc at) ≡ starts_after bytes at n
+unfolding starts_after
+starts-head op bytes at n listed = ap (if_listed (starts_after bytes at)) listed
 
 -- what starts past the first instruction starts in what is left
 starts-past : (code : List ℕ) (at : ℕ) (d : Decoded) → decoded code ≡ Some d → d.size ≤ at
     → starts_at code at ≡ starts_at (drop d.size code) (at - d.size)
-starts-past code at d found past =
-    let w = decoded-within code d found in
-    let some : 1 ≤ d.size = w.some in
-    starts-head code at d found ∙ grind (arith, nat_tests)
+starts-past [] at d found past = absurd (cc found)
+starts-past (op ∷ bytes) zero d found past = let w = decoded-within (op ∷ bytes) d found in absurd (omega (arith, w.some))
+starts-past (op ∷ bytes) (suc at) d found past =
+    let s = sized-some op bytes (operand_bytes op) d found in
+    let rest : drop s.0 bytes ≡ drop d.size (op ∷ bytes) = ap (λ (n : ℕ). drop n (op ∷ bytes)) (sym s.1.1) in
+    let far : at - s.0 ≡ suc at - d.size = omega (arith, s.1.1) in
+    starts-head op bytes at s.0 s.1.0 ∙ starts_after-past bytes at s.0 (omega (arith, s.1.1))
+    ∙ ap (λ (code : List ℕ). starts_at code (at - s.0)) rest ∙ ap (starts_at (drop d.size (op ∷ bytes))) far
 
 -- nothing starts within it
 starts-inside : (code : List ℕ) (at : ℕ) (d : Decoded) → decoded code ≡ Some d → 0 < at → at < d.size → starts_at code at ≡ false
-starts-inside code at d found begun inside = starts-head code at d found ∙ grind (arith, nat_tests)
+starts-inside [] at d found begun inside = absurd (cc found)
+starts-inside (op ∷ bytes) zero d found begun inside = absurd (omega arith)
+starts-inside (op ∷ bytes) (suc at) d found begun inside =
+    let s = sized-some op bytes (operand_bytes op) d found in
+    starts-head op bytes at s.0 s.1.0 ∙ starts_after-inside bytes at s.0 (omega (arith, s.1.1))
 
 -- ---- what a machine needs to know of code that is a walk
 
 -- the first instruction starts at offset 0
 pub starts-first : (code : List ℕ) → walks code ≡ true → 0 < length code → starts_at code 0 ≡ true
-starts-first code w some = let h = head code w some in starts-head code 0 h.0 h.1.0
+unfolding starts_after
+starts-first [] w some = absurd (omega arith)
+starts-first (op ∷ bytes) w some = refl
 
 -- nothing starts where the code has ended
 starts-none : (code : List ℕ) (at : ℕ) → length code ≤ 0 → starts_at code at ≡ false
-unfolding starts_in
+unfolding starts_after
 starts-none [] at ended = refl
 starts-none (byte ∷ bytes) at ended = absurd (omega arith)
 
@@ -221,7 +237,7 @@ walks-stuck code at inside none = stuck (drop at code) (grind (arith, common_ste
 
 -- it is one where nothing is left
 pub walks-end : (code : List ℕ) (at : ℕ) → length code ≤ at → walks (drop at code) ≡ true
-unfolding walks_in
+unfolding walks_after
 walks-end code at ended = let nothing : drop at code ≡ [] = grind (arith, common_steps) in ap walks nothing
 
 -- ---- the same of each offset that a frame comes to

@@ -1,34 +1,31 @@
--- The walk through code: instruction behind instruction, from offset 0 on.
-use Rattle.std.specs.Prelude.{ℕ, zero, suc, ◌-◌, Bool, true, false, nat_lt, ◌==◌, if◌then◌else◌, List, [], ◌∷◌, length, drop, Option, Some, None}
-use Rattle.par_instr.specs.Decoding.{Decoded, decoded}
+-- The walk through code, from offset 0 on: opcodes, each with its operand bytes behind it.
+use Rattle.std.specs.Prelude.{ℕ, zero, suc, Bool, true, false, List, [], ◌∷◌, Option, Some, None}
+use Rattle.par_instr.specs.Spelling.{operand_bytes}
 
--- what holds of the bytes behind an instruction that stands at their head
-abbrev pub behind : (List ℕ → Bool) → List ℕ → Option Decoded → Bool
-behind test bytes None = false
-behind test bytes (Some d) = test (drop d.size bytes)
+-- what is asked of the number of an opcode's operand bytes; only a listed opcode passes
+abbrev pub if_listed : (ℕ → Bool) → Option ℕ → Bool
+if_listed test None = false
+if_listed test (Some operands) = test operands
 
--- Whether bytes are spellings of listed instructions, one behind the other, at most so many.
-unfoldable pub walks_in : ℕ → List ℕ → Bool
-walks_in fuel [] = true
-walks_in zero (byte ∷ bytes) = false
-walks_in (suc fuel) (byte ∷ bytes) = behind (walks_in fuel) (byte ∷ bytes) (decoded (byte ∷ bytes))
+-- Whether bytes are so many operand bytes, and behind them listed opcodes with theirs.
+unfoldable pub walks_after : List ℕ → ℕ → Bool
+walks_after [] zero = true
+walks_after [] (suc operands) = false
+walks_after (op ∷ bytes) zero = if_listed (walks_after bytes) (operand_bytes op)
+walks_after (operand ∷ bytes) (suc operands) = walks_after bytes operands
 
--- whether code is spellings of listed instructions, one behind the other
+-- whether code is listed instructions, one behind the other, to its end
 abbrev pub walks : List ℕ → Bool
-walks code = walks_in (length code) code
+walks code = walks_after code 0
 
--- whether an offset is that of the instruction at the head, or one that starts behind it
-abbrev pub starts_from : (List ℕ → ℕ → Bool) → List ℕ → ℕ → Option Decoded → Bool
-starts_from later bytes at None = false
-starts_from later bytes at (Some d) =
-    if at == 0 then true else if nat_lt at d.size then false else later (drop d.size bytes) (at - d.size)
-
--- Whether an instruction of the walk starts at an offset, within at most so many instructions.
-unfoldable pub starts_in : ℕ → List ℕ → ℕ → Bool
-starts_in fuel [] at = false
-starts_in zero (byte ∷ bytes) at = false
-starts_in (suc fuel) (byte ∷ bytes) at = starts_from (starts_in fuel) (byte ∷ bytes) at (decoded (byte ∷ bytes))
+-- Whether an opcode stands at an offset of bytes that begin with so many operand bytes.
+unfoldable pub starts_after : List ℕ → ℕ → ℕ → Bool
+starts_after [] at operands = false
+starts_after (op ∷ bytes) zero zero = true
+starts_after (operand ∷ bytes) zero (suc operands) = false
+starts_after (op ∷ bytes) (suc at) zero = if_listed (starts_after bytes at) (operand_bytes op)
+starts_after (operand ∷ bytes) (suc at) (suc operands) = starts_after bytes at operands
 
 -- whether an instruction of the walk starts at an offset
 abbrev pub starts_at : List ℕ → ℕ → Bool
-starts_at code at = starts_in (length code) code at
+starts_at code at = starts_after code at 0

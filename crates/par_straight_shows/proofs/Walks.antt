@@ -9,8 +9,8 @@ use Rattle.par_pool.specs.declared.constant.Constant.{Constant}
 use Rattle.par_straight.specs.Names.{Name}
 use Rattle.par_straight_compile.specs.Code.{Item}
 use Rattle.par_straight_compile.specs.Bytes.{IsCode}
-use Rattle.par_single.specs.Walk.{walks_in, walks, behind}
-use Rattle.par_single.proofs.Walks.{walks-behind}
+use Rattle.par_single.specs.Walk.{walks_after, walks}
+use Rattle.par_single.proofs.Walks.{behind, walks-behind}
 
 spelled_some : (bytes : List ℕ) (i : Instr) → IsSpelled bytes i → 0 < length bytes
 spelled_some [] i s = absurd (cc (s.bytes_are))
@@ -25,7 +25,7 @@ walks_before (byte ∷ bytes) rest i s h =
 
 module _ (entries : List Constant) (class : Name) where
   pub code_walks : (items : List Item) (bytes : List ℕ) → IsCode entries class items bytes → walks bytes ≡ true
-  unfolding walks_in
+  unfolding walks_after
   code_walks [] bytes is = ap walks is
   code_walks (item ∷ items) bytes is =
       let first = is.1 in
@@ -39,5 +39,5 @@ module _ (entries : List Constant) (class : Name) where
       omega (arith, ap length first.before, length-append first.spelling is.0, spelled_some first.spelling first.instr first.spelled)
 
 pub super_walks : (index : ℕ) → walks (spelling (AloadShort 0) ++ (spelling (Invokespecial index) ++ spelling Return)) ≡ true
-unfolding walks_in
+unfolding walks_after
 super_walks index = refl
