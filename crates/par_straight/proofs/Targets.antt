@@ -25,8 +25,17 @@ use Rattle.par_straight.specs.Rules.{field_policy_of, channel_policy_of, field_p
 use Rattle.par_straight.specs.Meaning.{field_name_of, channel_name_of, field_name, channel_name}
 use Rattle.par_straight.specs.Subject.{policy_of_field, policy_of_channel}
 use Rattle.par_straight.specs.Judged.{HasProgram}
-use Rattle.par_straight.specs.Progress.{IsInRange, AreInRange}
 use Rattle.std.proofs.lemmas.List.Elements.{All-nil, All-cons, All-head, All-tail}
+
+-- The field or the channel of the action is declared.
+abbrev IsInRange : Program → Action → Type 0
+IsInRange p (SetLocal x os) = Unit {0}
+IsInRange p (SetField f os) = f < length p.fields
+IsInRange p (Output c os) = c < length p.channels
+IsInRange p (Open l) = Unit {0}
+
+abbrev AreInRange : Program → Type 0
+AreInRange p = All (λ s. IsInRange p s.action) p.steps
 
 abbrev pub HasTarget : Program → Action → Type 0
 HasTarget p (SetLocal x os) = Unit {0}
@@ -142,7 +151,7 @@ finds_all tree =
     }
 
 -- the fields and channels that the statements of a source's program name are declared
-pub in_range : (source : List ℕ) (p : Program) → HasProgram source p → AreInRange p
+in_range : (source : List ℕ) (p : Program) → HasProgram source p → AreInRange p
 in_range source p h =
     subst AreInRange (sym h.program_is)
     (steps_in_range (numbered h.tree) (scope_of h.tree) [] h.tree.statements (finds_all h.tree) h.straight.named.statements)

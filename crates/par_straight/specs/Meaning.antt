@@ -1,6 +1,6 @@
 -- What a straight-line program does. A rest is what happens from a state on, within the steps that
 -- are left; each form takes the rest that follows it. Entering a node costs one step.
-use Rattle.std.specs.Prelude.{ℕ, zero, suc, ◌==◌, nat_lt, if◌then◌else◌, List, [], ◌∷◌, length, Option, Some, None, slice_get, ℤ, pos, ◌+ℤ◌}
+use Rattle.std.specs.Prelude.{ℕ, zero, suc, ◌==◌, nat_lt, if◌then◌else◌, List, [], ◌∷◌, length, Option, Some, None, slice_get, codes, ℤ, pos, ◌+ℤ◌}
 use Rattle.std.specs.Int.{int_wrap, w32}
 use Rattle.par_values.specs.declared.run.Event.{Event}
 use Rattle.par_values.specs.declared.run.Event.TheVariants.{Out, Set}
@@ -90,12 +90,13 @@ abbrev pub sum : List Operand → (ℤ → Rest) → Rest
 sum [] rest = rest (pos 0)
 sum (o ∷ os) rest = enter_all (length os) (term o (λ v. added os v rest))
 
+-- A field or a channel that is not declared goes by `_`, a reserved word, so that no source has it.
 abbrev pub field_name_of : Option Field → Name
-field_name_of None = []
+field_name_of None = codes "_"
 field_name_of (Some field) = field.name
 
 abbrev pub channel_name_of : Option Channel → Name
-channel_name_of None = []
+channel_name_of None = codes "_"
 channel_name_of (Some channel) = channel.name
 
 abbrev pub field_name : Program → ℕ → Name

@@ -1,5 +1,5 @@
 -- A source run in hand: how far it has come, and what each statement makes of it.
-use Rattle.std.specs.Prelude.{ℕ, ◌<◌, All, ◌+◌, ◌*◌, ◌==◌, if◌then◌else◌, List, [], ◌∷◌, ◌++◌, length, map, drop, slice_get, ℤ, pos, ◌+ℤ◌}
+use Rattle.std.specs.Prelude.{ℕ, ◌+◌, ◌*◌, ◌==◌, if◌then◌else◌, List, [], ◌∷◌, ◌++◌, length, map, drop, slice_get, ℤ, pos, ◌+ℤ◌}
 use Rattle.std.specs.List.{fold, count_by}
 use Rattle.std.specs.Int.{int_wrap, w32}
 use Rattle.par_values.specs.declared.run.Event.TheVariants.{Out, Set}
@@ -86,16 +86,6 @@ events_of p (SetLocal x os) s = []
 events_of p (SetField f os) s = record { event = Set p.class (field_name p f) (Int (sum_value os s)); locks = s.locks } ∷ []
 events_of p (Output c os) s = record { event = Out p.class (channel_name p c) (sum_value os s); locks = s.locks } ∷ []
 events_of p (Open l) s = []
-
--- The field or the channel of the action is declared.
-abbrev pub IsInRange : Program → Action → Type 0
-IsInRange p (SetLocal x os) = Unit {0}
-IsInRange p (SetField f os) = f < length p.fields
-IsInRange p (Output c os) = c < length p.channels
-IsInRange p (Open l) = Unit {0}
-
-abbrev pub AreInRange : Program → Type 0
-AreInRange p = All (λ s. IsInRange p s.action) p.steps
 
 -- the events first, and then the run
 abbrev pub follow : List Witnessed → Run → Run

@@ -1,26 +1,25 @@
 // A plain slow run of a straight-line program.
-ghost use Rattle.std.specs.Prelude.{◌≡◌, ◌<◌, ◌^◌, ◌+◌, ◌-◌, ◌≤◌, [], ◌∷◌, ◌++◌, All, IfOk, OnOk, IsTrue, IsFalse, nat_le, length};
+ghost use Rattle.std.specs.Prelude.{◌≡◌, ◌<◌, ◌^◌, ◌+◌, ◌-◌, [], ◌∷◌, ◌++◌, IfOk, OnOk, IsTrue, IsFalse, nat_le, length};
 ghost use Rattle.par_straight.specs.Meaning.{source_run, set_local, set_field, open_lock, field_name, channel_name};
-ghost use Rattle.par_straight.specs.Progress.{run_of, witnesses, state_of, sum_value, sum_steps, steps_of, after_action, events_of, IsInRange, AreInRange};
+ghost use Rattle.par_straight.specs.Progress.{run_of, witnesses, state_of, sum_value, sum_steps, steps_of, after_action, events_of};
 
 use crate::memory::NoMemory;
 use crate::program::{Action, Operand, Program};
 use crate::progress::{Progress, Write};
 use crate::source_run::{SourceEvent, SourceRun};
 use par_lexer::list::List;
+use par_lexer::name::Name;
 use par_values::inputs::Inputs;
 use par_values::run::{Ending, Event, Val};
 use std::alloc::Global;
 
-/// The source run of the program on these inputs, with at most so many steps. Condition: each
-/// field and channel of a statement is declared.
+/// The source run of the program on these inputs, with at most so many steps.
 pub fn run_source(
     alloc: Global,
     program: &Program,
     inputs: &Inputs,
     bound: u64,
 ) -> Result<SourceRun, NoMemory>
-    requires { AreInRange program.now }
     ensures { IfOk result (λ run. run_of run ≡ source_run program.now inputs.now bound) }
 {
     let mut progress = Progress::start(alloc, bound);
@@ -99,7 +98,6 @@ impl Progress {
         inputs: &Inputs,
         action: &Action,
     ) -> Result<(), NoMemory>
-        requires { IsInRange program.now action.now }
         ensures state { OnOk result (
             state_of program.now inputs.now self.new ≡ after_action action.now (state_of program.now inputs.now self.old)) }
         ensures events { OnOk result (
@@ -170,14 +168,11 @@ impl Progress {
 }
 
 fn write_event(alloc: Global, program: &Program, place: u16, number: i32) -> Result<Event, NoMemory>
-    requires { place < length program.now.fields }
-    ensures { IfOk result (λ e. e ≡ Event.Set program.now.class (field_name program.now place) (Val.Int number)) }
+    ensures { IfOk result (λ e.
+        e ≡ Event.Set program.now.class (field_name program.now place) (Val.Int number)) }
 {
-    let Some(field) = program.fields.get(place as usize) else {
-        unreachable!()
-    };
     let class = program.class.copy(alloc)?;
-    let name = field.name.copy(alloc)?;
+    let name = field_name(alloc, program, place)?;
     Ok(Event::Set(class, name, Val::Int(number)))
 }
 
@@ -187,13 +182,28 @@ fn output_event(
     channel: u16,
     number: i32,
 ) -> Result<Event, NoMemory>
-    requires { channel < length program.now.channels }
-    ensures { IfOk result (λ e. e ≡ Event.Out program.now.class (channel_name program.now channel) number) }
+    ensures { IfOk result (λ e.
+        e ≡ Event.Out program.now.class (channel_name program.now channel) number) }
 {
-    let Some(channel) = program.channels.get(channel as usize) else {
-        unreachable!()
-    };
     let class = program.class.copy(alloc)?;
-    let name = channel.name.copy(alloc)?;
+    let name = channel_name(alloc, program, channel)?;
     Ok(Event::Out(class, name, number))
+}
+
+fn field_name(alloc: Global, program: &Program, place: u16) -> Result<Name, NoMemory>
+    ensures { IfOk result (λ name. name ≡ field_name program.now place) }
+{
+    match program.fields.get(place as usize) {
+        Some(field) => Ok(field.name.copy(alloc)?),
+        None => Ok(Name::new(alloc, b"_")?),
+    }
+}
+
+fn channel_name(alloc: Global, program: &Program, channel: u16) -> Result<Name, NoMemory>
+    ensures { IfOk result (λ name. name ≡ channel_name program.now channel) }
+{
+    match program.channels.get(channel as usize) {
+        Some(channel) => Ok(channel.name.copy(alloc)?),
+        None => Ok(Name::new(alloc, b"_")?),
+    }
 }

@@ -1,6 +1,4 @@
 // One shop whose key is for alice, and for bob where Paid is open, with ample memory.
-ghost use Rattle.std.specs.Prelude.{◌≡◌, IfOk, length};
-ghost use Rattle.par_straight.specs.Progress.{AreInRange};
 
 use crate::observers::alike;
 use crate::program::{Action, Channel, Operand, Permission, Program, Step};
@@ -45,9 +43,7 @@ fn channel(alloc: Global, text: &[u8], is_input: bool, for_bob: &[u16]) -> Resul
     })
 }
 
-fn channels(alloc: Global) -> Result<List<Channel>, Fail>
-    ensures { IfOk result (λ cs. length cs ≡ 2) }
-{
+fn channels(alloc: Global) -> Result<List<Channel>, Fail> {
     let mut channels = List::new(alloc);
     channels.push(channel(alloc, b"key", true, &[PAID])?)?;
     channels.push(channel(alloc, b"show", false, &[])?)?;
@@ -55,9 +51,7 @@ fn channels(alloc: Global) -> Result<List<Channel>, Fail>
 }
 
 // open Paid; show(key());
-fn shop(alloc: Global) -> Result<Program, Fail>
-    ensures { IfOk result (λ p. AreInRange p) }
-{
+fn shop(alloc: Global) -> Result<Program, Fail> {
     let mut operands = List::new(alloc);
     operands.push(Operand::Input(0))?;
     let mut steps = List::new(alloc);

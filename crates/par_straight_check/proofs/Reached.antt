@@ -1,10 +1,8 @@
 -- Where the check has come to: its answer is that for the statements that are left.
-use Rattle.std.proofs.Common.{◌≡◌, ℕ, suc, ◌+◌, ◌<◌, ◌↔◌, Bool, true, false, List, [], ◌∷◌, None, length, drop, get_or, Contains, refl, sym, ap, ◌∙◌, subst, add-one, drop-cons}
-use Rattle.std.specs.Prelude.{IsTrue}
+use Rattle.std.proofs.Common.{◌≡◌, ℕ, suc, ◌+◌, ◌<◌, true, false, List, [], ◌∷◌, None, length, drop, get_or, Contains, refl, sym, ap, ◌∙◌, subst, add-one, drop-cons}
 use Rattle.std.specs.Ordering.{nat_cmp}
 use Rattle.std.specs.BTreeMap as tree
 use Rattle.std.proofs.lemmas.Bool.{both_ways}
-use Rattle.par_straight.specs.declared.program.Action.{Action}
 use Rattle.par_straight.specs.declared.program.Step.{Step}
 use Rattle.par_straight.specs.declared.program.Program.{Program}
 use Rattle.par_straight.specs.Rules.{Facts, first_facts, facts_after, Passes, AllPass, FirstBroken, IsAccepted, IsRefused, rule, bottom}

@@ -2,27 +2,13 @@
 
 ghost use Rattle.std.specs.Prelude.{ℕ, ◌<◌, length, IfOk, slice_get};
 ghost use Rattle.par_policy.specs.Sees.{IsSeenAlike};
-ghost use Rattle.par_straight.specs.Rules.{bottom, field_policy_of, channel_policy_of};
+ghost use Rattle.par_straight.specs.Rules.{field_policy_of, channel_policy_of};
 ghost use Rattle.par_straight_check.specs.Ends.{EndsEmpty, policy_at};
 
-use par_policy::{Clause, Lockset, NoMemory, Policy};
+use par_policy::{NoMemory, Policy};
 use par_straight::program::{Channel, Field};
 use par_straight_names::policies::policy_of;
 use std::alloc::Global;
-
-// The policy that each actor may see, whatever locks are open.
-pub(crate) fn bottom_of(alloc: Global, actors: u8) -> Result<Policy, NoMemory>
-    ensures { IfOk result (λ p. IsSeenAlike p (bottom actors)) }
-{
-    let mut clauses = Vec::new(alloc);
-    for actor in 0..actors {
-        clauses.push(Clause {
-            actor,
-            locks: Lockset::new(alloc),
-        })?;
-    }
-    Policy::of(alloc, &clauses)
-}
 
 // The policies of the fields, and the empty one behind them.
 pub(crate) fn field_policies(alloc: Global, fields: &[Field]) -> Result<Vec<Policy>, NoMemory>

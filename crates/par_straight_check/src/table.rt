@@ -2,9 +2,10 @@
 
 ghost use Rattle.par_straight_check.specs.Ends.{EndsEmpty};
 
-use crate::lists::{bottom_of, channel_policies, field_policies, place_in};
+use crate::lists::{channel_policies, field_policies, place_in};
 use par_policy::{NoMemory, Policy};
 use par_straight::program::Program;
+use par_straight_names::policies::bottom;
 use std::alloc::Global;
 
 // The bottom policy, and those of the fields and of the channels by their numbers. Each list has
@@ -28,7 +29,7 @@ impl Table {
         ensures { IfOk result (IsTableOf program.now) }
     {
         Ok(Table {
-            bottom: bottom_of(alloc, program.actors)?,
+            bottom: bottom(alloc, program.actors)?,
             fields: field_policies(alloc, program.fields.as_slice())?,
             channels: channel_policies(alloc, program.channels.as_slice())?,
         })

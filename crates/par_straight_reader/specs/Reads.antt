@@ -2,9 +2,11 @@
 use Rattle.std.specs.Prelude.{◌≡◌, ◌≢◌, ℕ, List, [], ◌∷◌, ◌++◌, Result, Ok, Err}
 use Rattle.par_lexer.specs.declared.word.TheConstants as word
 use Rattle.par_lexer.specs.declared.sign.TheConstants as sign
+use Rattle.par_grammar.specs.declared.sort.Sort.{Sort}
 use Rattle.par_grammar.specs.declared.sort.Sort.TheVariants as sort
 use Rattle.par_grammar.specs.Grammar.{token, kept, finish, enters, leaves, name}
-use Rattle.par_grammar.specs.Derivation.{Input, Fault, Syntax, TooDeep}
+use Rattle.par_lexer.specs.declared.token.Token.{Token}
+use Rattle.par_grammar.specs.Derivation.{Input, whole, state, Comes, Fault, Syntax, TooDeep}
 use Rattle.par_straight.specs.declared.tree.Ident.{Ident}
 use Rattle.par_straight.specs.declared.tree.ClauseTree.{ClauseTree}
 use Rattle.par_straight.specs.declared.tree.Member.{Member}
@@ -13,7 +15,7 @@ use Rattle.par_straight.specs.declared.tree.Statement.{Statement}
 use Rattle.par_straight.specs.declared.tree.Source.{Source}
 use Rattle.par_straight.specs.Grammar.{Symbols}
 use Rattle.par_straight.specs.Grammar as grammar
-use Rattle.par_straight.specs.Values.{Values}
+use Rattle.par_straight.specs.Values.{Values, straight}
 use Rattle.par_straight.specs.Values as value
 use Rattle.par_straight.proofs.Run.{run}
 use Rattle.par_straight_reader.specs.declared.cursor.Cursor.{Cursor}
@@ -34,6 +36,10 @@ fault_of (error.Syntax n) = Syntax n
 fault_of (error.TooDeep n) = TooDeep n
 fault_of error.Memory = Syntax 0
 
+-- The derivation of the tokens ends at this fault, so that they have no tree.
+abbrev pub HasFault : List Token → Fault → Type 0
+HasFault all fault = Comes straight (state (name grammar.Source ∷ []) (whole all) []) (Err fault)
+
 -- The fault is that of the derivation.
 abbrev pub Fails : {A : Type 0} → Symbols → Values → Input → Result A ParseError → Type 0
 Fails xs old i (Ok a) = Unit {0}
@@ -47,6 +53,11 @@ pub record Reads {A : Type 0} (xs : Symbols) (old : Values) (show : A → Values
 -- the symbols are read, with no value
 abbrev pub Steps : Symbols → Input → Input → Type 0
 Steps xs i j = (s : Symbols) (vs : Values) → run (xs ++ s) i vs ≡ run s j vs
+
+-- tokens of these sorts have to come
+abbrev pub tokens : List Sort → Symbols
+tokens [] = []
+tokens (k ∷ ks) = token k ∷ tokens ks
 
 abbrev pub nothing : Unit {0} → Values
 nothing u = []

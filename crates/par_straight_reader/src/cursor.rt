@@ -27,6 +27,9 @@ impl From<NoMemory> for ParseError {
     }
 }
 
+/// The deepest nesting that a token may have.
+const DEEPEST: u32 = 64;
+
 /// The tokens that are left, the number of those before, and the nesting.
 #[derive(Drop)]
 pub struct Cursor<'a> {
@@ -39,12 +42,12 @@ pub struct Cursor<'a> {
 }
 
 impl<'a> Cursor<'a> {
-    ghost use Rattle.std.specs.Prelude.{◌≡◌, ◌<◌, [], ◌∷◌, OnOk};
+    ghost use Rattle.std.specs.Prelude.{◌≡◌, ◌<◌, [], ◌∷◌, ◌++◌, OnOk};
     ghost use Rattle.par_grammar.specs.Sorts as spec;
     ghost use Rattle.par_grammar.specs.Derivation.{next};
     ghost use Rattle.par_grammar.specs.Grammar as g;
     ghost use Rattle.par_grammar.specs.declared.sort.Sort.TheVariants as sort;
-    ghost use Rattle.par_straight_reader.specs.Reads.{Reads, Steps, input, nothing, an_ident, a_number};
+    ghost use Rattle.par_straight_reader.specs.Reads.{Reads, Steps, input, tokens, nothing, an_ident, a_number};
 
     /// Whether the next token is of this sort.
     pub fn sees(&self, sort: Sort) -> bool
@@ -70,6 +73,34 @@ impl<'a> Cursor<'a> {
         self.left = left;
         self.at += 1;
         Ok(())
+    }
+
+    /// Takes tokens of these sorts, one after the other.
+    pub fn take_all(&mut self, sorts: &[Sort]) -> Result<(), ParseError>
+        ensures read { Reads (tokens sorts.now) [] nothing (input self.old) result (input self.new) }
+        ensures shorter { OnOk result (length self.new.left.now ≤ length self.old.left.now) }
+    {
+        'more: for sort in sorts {
+            self.take(*sort)?;
+        }
+        Ok(())
+    }
+
+    /// Takes a name that stands between tokens of these sorts, and gives it with its place.
+    pub fn name_between(
+        &mut self,
+        alloc: Global,
+        before: &[Sort],
+        behind: &[Sort],
+    ) -> Result<Ident, ParseError>
+        ensures read { Reads (tokens before.now ++ g.kept sort.Name ∷ tokens behind.now) []
+            an_ident (input self.old) result (input self.new) }
+        ensures shorter { OnOk result (length self.new.left.now < length self.old.left.now) }
+    {
+        self.take_all(before)?;
+        let id = self.name(alloc)?;
+        self.take_all(behind)?;
+        Ok(id)
     }
 
     /// Takes a name, and gives it with its place.
@@ -127,11 +158,20 @@ impl<'a> Cursor<'a> {
         if self.left.is_empty() {
             return Err(ParseError::Syntax(self.at));
         }
-        if self.blocks + self.counted >= 64 {
+        if self.blocks + self.counted >= DEEPEST {
             return Err(ParseError::TooDeep(self.at));
         }
         self.counted += 1;
         Ok(())
+    }
+
+    /// Takes a token of this sort, which counts in its expression.
+    pub fn take_counted(&mut self, sort: Sort) -> Result<(), ParseError>
+        ensures read { Reads (g.counts ∷ g.token sort ∷ []) [] nothing (input self.old) result (input self.new) }
+        ensures shorter { OnOk result (length self.new.left.now < length self.old.left.now) }
+    {
+        self.count()?;
+        self.take(sort)
     }
 
     /// Begins the count of an expression again.
@@ -150,7 +190,7 @@ impl<'a> Cursor<'a> {
         if self.left.is_empty() {
             return Err(ParseError::Syntax(self.at));
         }
-        if self.blocks + self.counted >= 64 {
+        if self.blocks + self.counted >= DEEPEST {
             return Err(ParseError::TooDeep(self.at));
         }
         self.blocks += 1;

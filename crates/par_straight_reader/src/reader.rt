@@ -10,7 +10,7 @@ ghost use Rattle.par_lexer.specs.declared.sign.TheConstants as signs;
 ghost use Rattle.par_straight.specs.declared.tree.MemberKind.TheVariants as member;
 ghost use Rattle.par_straight.specs.Grammar as g;
 ghost use Rattle.par_straight.specs.Values as value;
-ghost use Rattle.par_straight_reader.specs.Reads.{Reads, input, nothing, an_ident, idents, clauses, members, a_term, sum, statements, source, a_method, method_symbols};
+ghost use Rattle.par_straight_reader.specs.Reads.{Reads, input, nothing, an_ident, idents, clauses, members, a_term, sum, statements, source, a_method, method_symbols, fault_of, HasFault};
 
 use crate::cursor::{Cursor, ParseError};
 use par_grammar::sort::Sort;
@@ -21,7 +21,7 @@ use par_straight::tree::{ClauseTree, Ident, Member, MemberKind, Source, Statemen
 use std::alloc::Global;
 
 /// Names with commas between them.
-#[tactic(auto, using(par_straight::proofs::Run::ident_rules))]
+#[tactic(auto, using(par_straight::proofs::Run::idents_opens, par_straight::proofs::Run::run_builds))]
 fn idents(alloc: Global, cursor: &mut Cursor<'_>) -> Result<List<Ident>, ParseError>
     ensures read { Reads (symbol.name g.Idents ∷ []) [] idents (input cursor.old) result (input cursor.new) }
     ensures shorter { OnOk result (length cursor.new.left.now < length cursor.old.left.now) }
@@ -32,7 +32,6 @@ fn idents(alloc: Global, cursor: &mut Cursor<'_>) -> Result<List<Ident>, ParseEr
     more_idents(alloc, cursor, found)
 }
 
-#[tactic(auto, using(par_straight::proofs::Run::ident_rules))]
 fn more_idents(
     alloc: Global,
     cursor: &mut Cursor<'_>,
@@ -42,40 +41,31 @@ fn more_idents(
     ensures shorter { OnOk result (length cursor.new.left.now ≤ length cursor.old.left.now) }
 {
     'more: while cursor.sees(Sort::Sign(sign::COMMA)) {
-        cursor.take(Sort::Sign(sign::COMMA))?;
-        let next = cursor.name(alloc)?;
+        let next = cursor.name_between(alloc, &[Sort::Sign(sign::COMMA)], &[])?;
         found.push(next)?;
     }
     Ok(found)
 }
 
 /// The locks that are declared.
-#[tactic(auto, using(par_straight::proofs::Run::lock_rules))]
+#[tactic(auto, using(par_straight::proofs::Run::locks_opens, par_straight::proofs::Run::run_builds))]
 fn locks(alloc: Global, cursor: &mut Cursor<'_>) -> Result<List<Ident>, ParseError>
     ensures read { Reads (symbol.name g.Locks ∷ []) [] idents (input cursor.old) result (input cursor.new) }
     ensures shorter { OnOk result (length cursor.new.left.now ≤ length cursor.old.left.now) }
 {
     let mut found = List::new(alloc);
     'more: while cursor.sees(Sort::Word(word::LOCK)) {
-        cursor.take(Sort::Word(word::LOCK))?;
-        let next = ended_name(alloc, cursor)?;
+        let next = cursor.name_between(
+            alloc,
+            &[Sort::Word(word::LOCK)],
+            &[Sort::Sign(sign::SEMICOLON)],
+        )?;
         found.push(next)?;
     }
     Ok(found)
 }
 
-/// A name with a semicolon behind it.
-fn ended_name(alloc: Global, cursor: &mut Cursor<'_>) -> Result<Ident, ParseError>
-    ensures read { Reads (symbol.kept sort.Name ∷ symbol.token (sort.Sign signs.SEMICOLON) ∷ []) [] an_ident (input cursor.old) result (input cursor.new) }
-    ensures shorter { OnOk result (length cursor.new.left.now < length cursor.old.left.now) }
-{
-    let id = cursor.name(alloc)?;
-    cursor.take(Sort::Sign(sign::SEMICOLON))?;
-    Ok(id)
-}
-
 /// The locks that a clause needs.
-#[tactic(auto, using(par_straight::proofs::Run::clause_rules))]
 fn needed(alloc: Global, cursor: &mut Cursor<'_>) -> Result<List<Ident>, ParseError>
     ensures read { Reads (symbol.name g.Needed ∷ []) [] idents (input cursor.old) result (input cursor.new) }
     ensures shorter { OnOk result (length cursor.new.left.now ≤ length cursor.old.left.now) }
@@ -91,7 +81,7 @@ fn needed(alloc: Global, cursor: &mut Cursor<'_>) -> Result<List<Ident>, ParseEr
 }
 
 /// One more clause behind those that were found.
-#[tactic(auto, using(par_straight::proofs::Run::clause_rules))]
+#[tactic(auto, using(par_straight::proofs::Run::clause_opens, par_straight::proofs::Run::run_builds))]
 fn clause(
     alloc: Global,
     cursor: &mut Cursor<'_>,
@@ -100,14 +90,12 @@ fn clause(
     ensures read { Reads (symbol.name g.Clause ∷ []) (clauses found) clauses (input cursor.old) result (input cursor.new) }
     ensures shorter { OnOk result (length cursor.new.left.now < length cursor.old.left.now) }
 {
-    let actor = cursor.name(alloc)?;
-    cursor.take(Sort::Sign(sign::COLON))?;
+    let actor = cursor.name_between(alloc, &[], &[Sort::Sign(sign::COLON)])?;
     let locks = needed(alloc, cursor)?;
     found.push(ClauseTree { actor, locks })?;
     Ok(found)
 }
 
-#[tactic(auto, using(par_straight::proofs::Run::clause_rules))]
 fn more_clauses(
     alloc: Global,
     cursor: &mut Cursor<'_>,
@@ -124,7 +112,7 @@ fn more_clauses(
 }
 
 /// A policy in braces.
-#[tactic(auto, using(par_straight::proofs::Run::clause_rules))]
+#[tactic(auto, using(par_straight::proofs::Run::policy_opens))]
 fn policy(alloc: Global, cursor: &mut Cursor<'_>) -> Result<List<ClauseTree>, ParseError>
     ensures read { Reads (symbol.name g.Policy ∷ []) [] clauses (input cursor.old) result (input cursor.new) }
     ensures shorter { OnOk result (length cursor.new.left.now < length cursor.old.left.now) }
@@ -135,7 +123,7 @@ fn policy(alloc: Global, cursor: &mut Cursor<'_>) -> Result<List<ClauseTree>, Pa
     Ok(found)
 }
 
-#[tactic(auto, using(par_straight::proofs::Run::clause_rules))]
+#[tactic(auto, using(par_straight::proofs::Run::clauses_name, par_straight::proofs::Run::clauses_else, par_straight::proofs::Run::run_builds))]
 fn some_clauses(alloc: Global, cursor: &mut Cursor<'_>) -> Result<List<ClauseTree>, ParseError>
     ensures read { Reads (symbol.name g.Clauses ∷ []) [] clauses (input cursor.old) result (input cursor.new) }
     ensures shorter { OnOk result (length cursor.new.left.now ≤ length cursor.old.left.now) }
@@ -150,7 +138,7 @@ fn some_clauses(alloc: Global, cursor: &mut Cursor<'_>) -> Result<List<ClauseTre
 }
 
 /// The member that a read policy stands before.
-#[tactic(auto, using(par_straight::proofs::Run::member_rules))]
+#[tactic(auto, using(par_straight::proofs::Run::kind_input, par_straight::proofs::Run::kind_output, par_straight::proofs::Run::kind_static))]
 fn member(
     alloc: Global,
     cursor: &mut Cursor<'_>,
@@ -171,7 +159,7 @@ fn member(
     }
 }
 
-#[tactic(auto, using(par_straight::proofs::Run::member_rules))]
+#[tactic(auto, using(par_straight::proofs::Run::run_builds))]
 fn input_channel(
     alloc: Global,
     cursor: &mut Cursor<'_>,
@@ -181,12 +169,15 @@ fn input_channel(
     ensures read { Reads (symbol.token (sort.Word words.INPUT) ∷ symbol.token (sort.Word words.INT) ∷ symbol.kept sort.Name ∷ symbol.token (sort.Sign signs.LEFT_PAREN) ∷ symbol.token (sort.Sign signs.RIGHT_PAREN) ∷ symbol.token (sort.Sign signs.SEMICOLON) ∷ symbol.builds (g.NextMember member.Input) ∷ []) (value.clauses policy ∷ value.members found ∷ []) members (input cursor.old) result (input cursor.new) }
     ensures shorter { OnOk result (length cursor.new.left.now < length cursor.old.left.now) }
 {
-    cursor.take(Sort::Word(word::INPUT))?;
-    cursor.take(Sort::Word(word::INT))?;
-    let id = cursor.name(alloc)?;
-    cursor.take(Sort::Sign(sign::LEFT_PAREN))?;
-    cursor.take(Sort::Sign(sign::RIGHT_PAREN))?;
-    cursor.take(Sort::Sign(sign::SEMICOLON))?;
+    let id = cursor.name_between(
+        alloc,
+        &[Sort::Word(word::INPUT), Sort::Word(word::INT)],
+        &[
+            Sort::Sign(sign::LEFT_PAREN),
+            Sort::Sign(sign::RIGHT_PAREN),
+            Sort::Sign(sign::SEMICOLON),
+        ],
+    )?;
     found.push(Member {
         kind: MemberKind::Input,
         id,
@@ -195,7 +186,7 @@ fn input_channel(
     Ok(found)
 }
 
-#[tactic(auto, using(par_straight::proofs::Run::member_rules))]
+#[tactic(auto, using(par_straight::proofs::Run::run_builds))]
 fn output_channel(
     alloc: Global,
     cursor: &mut Cursor<'_>,
@@ -205,14 +196,17 @@ fn output_channel(
     ensures read { Reads (symbol.token (sort.Word words.OUTPUT) ∷ symbol.token (sort.Word words.VOID) ∷ symbol.kept sort.Name ∷ symbol.token (sort.Sign signs.LEFT_PAREN) ∷ symbol.token (sort.Word words.INT) ∷ symbol.token sort.Name ∷ symbol.token (sort.Sign signs.RIGHT_PAREN) ∷ symbol.token (sort.Sign signs.SEMICOLON) ∷ symbol.builds (g.NextMember member.Output) ∷ []) (value.clauses policy ∷ value.members found ∷ []) members (input cursor.old) result (input cursor.new) }
     ensures shorter { OnOk result (length cursor.new.left.now < length cursor.old.left.now) }
 {
-    cursor.take(Sort::Word(word::OUTPUT))?;
-    cursor.take(Sort::Word(word::VOID))?;
-    let id = cursor.name(alloc)?;
-    cursor.take(Sort::Sign(sign::LEFT_PAREN))?;
-    cursor.take(Sort::Word(word::INT))?;
-    cursor.take(Sort::Name)?;
-    cursor.take(Sort::Sign(sign::RIGHT_PAREN))?;
-    cursor.take(Sort::Sign(sign::SEMICOLON))?;
+    let id = cursor.name_between(
+        alloc,
+        &[Sort::Word(word::OUTPUT), Sort::Word(word::VOID)],
+        &[
+            Sort::Sign(sign::LEFT_PAREN),
+            Sort::Word(word::INT),
+            Sort::Name,
+            Sort::Sign(sign::RIGHT_PAREN),
+            Sort::Sign(sign::SEMICOLON),
+        ],
+    )?;
     found.push(Member {
         kind: MemberKind::Output,
         id,
@@ -221,7 +215,7 @@ fn output_channel(
     Ok(found)
 }
 
-#[tactic(auto, using(par_straight::proofs::Run::member_rules))]
+#[tactic(auto, using(par_straight::proofs::Run::run_builds))]
 fn static_field(
     alloc: Global,
     cursor: &mut Cursor<'_>,
@@ -231,10 +225,11 @@ fn static_field(
     ensures read { Reads (symbol.token (sort.Word words.STATIC) ∷ symbol.token (sort.Word words.INT) ∷ symbol.kept sort.Name ∷ symbol.token (sort.Sign signs.SEMICOLON) ∷ symbol.builds (g.NextMember member.Field) ∷ []) (value.clauses policy ∷ value.members found ∷ []) members (input cursor.old) result (input cursor.new) }
     ensures shorter { OnOk result (length cursor.new.left.now < length cursor.old.left.now) }
 {
-    cursor.take(Sort::Word(word::STATIC))?;
-    cursor.take(Sort::Word(word::INT))?;
-    let id = cursor.name(alloc)?;
-    cursor.take(Sort::Sign(sign::SEMICOLON))?;
+    let id = cursor.name_between(
+        alloc,
+        &[Sort::Word(word::STATIC), Sort::Word(word::INT)],
+        &[Sort::Sign(sign::SEMICOLON)],
+    )?;
     found.push(Member {
         kind: MemberKind::Field,
         id,
@@ -243,7 +238,7 @@ fn static_field(
     Ok(found)
 }
 
-#[tactic(auto, using(par_straight::proofs::Run::member_rules))]
+#[tactic(auto, using(par_straight::proofs::Run::members_opens, par_straight::proofs::Run::run_builds))]
 fn all_members(alloc: Global, cursor: &mut Cursor<'_>) -> Result<List<Member>, ParseError>
     ensures read { Reads (symbol.name g.Members ∷ []) [] members (input cursor.old) result (input cursor.new) }
     ensures shorter { OnOk result (length cursor.new.left.now ≤ length cursor.old.left.now) }
@@ -258,7 +253,7 @@ fn all_members(alloc: Global, cursor: &mut Cursor<'_>) -> Result<List<Member>, P
 }
 
 /// A term of a sum.
-#[tactic(auto, using(par_straight::proofs::Run::term_rules))]
+#[tactic(auto, using(par_straight::proofs::Run::term_number, par_straight::proofs::Run::term_name, par_straight::proofs::Run::term_else, par_straight::proofs::Run::run_builds))]
 fn term(alloc: Global, cursor: &mut Cursor<'_>) -> Result<Term, ParseError>
     ensures read { Reads (symbol.name g.Term ∷ []) [] a_term (input cursor.old) result (input cursor.new) }
     ensures shorter { OnOk result (length cursor.new.left.now < length cursor.old.left.now) }
@@ -274,13 +269,13 @@ fn term(alloc: Global, cursor: &mut Cursor<'_>) -> Result<Term, ParseError>
     }
 }
 
-#[tactic(auto, using(par_straight::proofs::Run::term_rules))]
+#[tactic(auto, using(par_straight::proofs::Run::called_paren, par_straight::proofs::Run::called_else, par_straight::proofs::Run::run_builds))]
 fn called(cursor: &mut Cursor<'_>, id: Ident) -> Result<Term, ParseError>
     ensures read { Reads (symbol.name g.Called ∷ []) (value.id id ∷ []) a_term (input cursor.old) result (input cursor.new) }
     ensures shorter { OnOk result (length cursor.new.left.now ≤ length cursor.old.left.now) }
 {
     if cursor.sees(Sort::Sign(sign::LEFT_PAREN)) {
-        open_parenthesis(cursor)?;
+        cursor.take_counted(Sort::Sign(sign::LEFT_PAREN))?;
         cursor.take(Sort::Sign(sign::RIGHT_PAREN))?;
         Ok(Term::Input(id))
     } else {
@@ -289,7 +284,7 @@ fn called(cursor: &mut Cursor<'_>, id: Ident) -> Result<Term, ParseError>
 }
 
 /// The terms of a sum.
-#[tactic(auto, using(par_straight::proofs::Run::term_rules))]
+#[tactic(auto, using(par_straight::proofs::Run::sum_opens, par_straight::proofs::Run::run_builds))]
 fn terms(alloc: Global, cursor: &mut Cursor<'_>) -> Result<List<Term>, ParseError>
     ensures read { Reads (symbol.name g.Sum ∷ []) [] sum (input cursor.old) result (input cursor.new) }
     ensures shorter { OnOk result (length cursor.new.left.now < length cursor.old.left.now) }
@@ -300,7 +295,6 @@ fn terms(alloc: Global, cursor: &mut Cursor<'_>) -> Result<List<Term>, ParseErro
     more_terms(alloc, cursor, found)
 }
 
-#[tactic(auto, using(par_straight::proofs::Run::term_rules))]
 fn more_terms(
     alloc: Global,
     cursor: &mut Cursor<'_>,
@@ -310,21 +304,11 @@ fn more_terms(
     ensures shorter { OnOk result (length cursor.new.left.now ≤ length cursor.old.left.now) }
 {
     'more: while cursor.sees(Sort::Sign(sign::PLUS)) {
-        cursor.count()?;
-        cursor.take(Sort::Sign(sign::PLUS))?;
+        cursor.take_counted(Sort::Sign(sign::PLUS))?;
         let next = term(alloc, cursor)?;
         found.push(next)?;
     }
     Ok(found)
-}
-
-/// The parenthesis of a call, which counts in its expression.
-fn open_parenthesis(cursor: &mut Cursor<'_>) -> Result<(), ParseError>
-    ensures read { Reads (symbol.counts ∷ symbol.token (sort.Sign signs.LEFT_PAREN) ∷ []) [] nothing (input cursor.old) result (input cursor.new) }
-    ensures shorter { OnOk result (length cursor.new.left.now < length cursor.old.left.now) }
-{
-    cursor.count()?;
-    cursor.take(Sort::Sign(sign::LEFT_PAREN))
 }
 
 /// The argument of a call.
@@ -332,14 +316,14 @@ fn argument(alloc: Global, cursor: &mut Cursor<'_>) -> Result<List<Term>, ParseE
     ensures read { Reads (symbol.counts ∷ symbol.token (sort.Sign signs.LEFT_PAREN) ∷ symbol.name g.Sum ∷ symbol.token (sort.Sign signs.RIGHT_PAREN) ∷ []) [] sum (input cursor.old) result (input cursor.new) }
     ensures shorter { OnOk result (length cursor.new.left.now < length cursor.old.left.now) }
 {
-    open_parenthesis(cursor)?;
+    cursor.take_counted(Sort::Sign(sign::LEFT_PAREN))?;
     let sum = terms(alloc, cursor)?;
     cursor.take(Sort::Sign(sign::RIGHT_PAREN))?;
     Ok(sum)
 }
 
 /// A statement that begins with a name: an assignment or a call.
-#[tactic(auto, using(par_straight::proofs::Run::statement_rules))]
+#[tactic(auto, using(par_straight::proofs::Run::effect_assign, par_straight::proofs::Run::effect_call, par_straight::proofs::Run::effect_else, par_straight::proofs::Run::run_builds))]
 fn effect(
     alloc: Global,
     cursor: &mut Cursor<'_>,
@@ -363,35 +347,38 @@ fn effect(
     }
 }
 
-/// The declaration of a local, behind the word `int`.
-#[tactic(auto, using(par_straight::proofs::Run::statement_rules))]
+/// The declaration of a local.
+#[tactic(auto, using(par_straight::proofs::Run::run_builds))]
 fn local(
     alloc: Global,
     cursor: &mut Cursor<'_>,
     mut found: List<Statement>,
 ) -> Result<List<Statement>, ParseError>
-    ensures read { Reads (symbol.kept sort.Name ∷ symbol.token (sort.Sign signs.ASSIGN) ∷ symbol.name g.Sum ∷ symbol.token (sort.Sign signs.SEMICOLON) ∷ symbol.builds g.NextLocal ∷ []) (value.statements found ∷ []) statements (input cursor.old) result (input cursor.new) }
+    ensures read { Reads (symbol.token (sort.Word words.INT) ∷ symbol.kept sort.Name ∷ symbol.token (sort.Sign signs.ASSIGN) ∷ symbol.name g.Sum ∷ symbol.token (sort.Sign signs.SEMICOLON) ∷ symbol.builds g.NextLocal ∷ []) (value.statements found ∷ []) statements (input cursor.old) result (input cursor.new) }
     ensures shorter { OnOk result (length cursor.new.left.now < length cursor.old.left.now) }
 {
-    let id = cursor.name(alloc)?;
-    cursor.take(Sort::Sign(sign::ASSIGN))?;
+    let id = cursor.name_between(alloc, &[Sort::Word(word::INT)], &[Sort::Sign(sign::ASSIGN)])?;
     let sum = terms(alloc, cursor)?;
     cursor.take(Sort::Sign(sign::SEMICOLON))?;
     found.push(Statement::Local(id, sum))?;
     Ok(found)
 }
 
-/// The name of a lock that is opened, behind the word `open`.
-#[tactic(auto, using(par_straight::proofs::Run::statement_rules))]
+/// The opening of a lock.
+#[tactic(auto, using(par_straight::proofs::Run::run_builds))]
 fn opened(
     alloc: Global,
     cursor: &mut Cursor<'_>,
     mut found: List<Statement>,
 ) -> Result<List<Statement>, ParseError>
-    ensures read { Reads (symbol.kept sort.Name ∷ symbol.token (sort.Sign signs.SEMICOLON) ∷ symbol.builds g.NextOpen ∷ []) (value.statements found ∷ []) statements (input cursor.old) result (input cursor.new) }
+    ensures read { Reads (symbol.token (sort.Word words.OPEN) ∷ symbol.kept sort.Name ∷ symbol.token (sort.Sign signs.SEMICOLON) ∷ symbol.builds g.NextOpen ∷ []) (value.statements found ∷ []) statements (input cursor.old) result (input cursor.new) }
     ensures shorter { OnOk result (length cursor.new.left.now < length cursor.old.left.now) }
 {
-    let id = ended_name(alloc, cursor)?;
+    let id = cursor.name_between(
+        alloc,
+        &[Sort::Word(word::OPEN)],
+        &[Sort::Sign(sign::SEMICOLON)],
+    )?;
     found.push(Statement::Open(id))?;
     Ok(found)
 }
@@ -412,7 +399,7 @@ fn ended_effect(
 }
 
 /// The statements of the method.
-#[tactic(auto, using(par_straight::proofs::Run::statement_rules))]
+#[tactic(auto, using(par_straight::proofs::Run::statements_opens, par_straight::proofs::Run::more_statements_int, par_straight::proofs::Run::more_statements_open, par_straight::proofs::Run::more_statements_name, par_straight::proofs::Run::more_statements_else, par_straight::proofs::Run::run_builds, par_straight::proofs::Run::run_restarts))]
 fn all_statements(alloc: Global, cursor: &mut Cursor<'_>) -> Result<List<Statement>, ParseError>
     ensures read { Reads (symbol.name g.Statements ∷ []) [] statements (input cursor.old) result (input cursor.new) }
     ensures shorter { OnOk result (length cursor.new.left.now ≤ length cursor.old.left.now) }
@@ -421,11 +408,9 @@ fn all_statements(alloc: Global, cursor: &mut Cursor<'_>) -> Result<List<Stateme
     'more: loop {
         if cursor.sees(Sort::Word(word::INT)) {
             cursor.restart();
-            cursor.take(Sort::Word(word::INT))?;
             found = local(alloc, cursor, found)?;
         } else if cursor.sees(Sort::Word(word::OPEN)) {
             cursor.restart();
-            cursor.take(Sort::Word(word::OPEN))?;
             found = opened(alloc, cursor, found)?;
         } else if cursor.sees(Sort::Name) {
             cursor.restart();
@@ -445,26 +430,6 @@ fn actors(alloc: Global, cursor: &mut Cursor<'_>) -> Result<List<Ident>, ParseEr
     Ok(found)
 }
 
-fn class_name(alloc: Global, cursor: &mut Cursor<'_>) -> Result<Ident, ParseError>
-    ensures { Reads (symbol.token (sort.Word words.CLASS) ∷ symbol.kept sort.Name ∷ symbol.token (sort.Sign signs.LEFT_BRACE) ∷ []) [] an_ident (input cursor.old) result (input cursor.new) }
-{
-    cursor.take(Sort::Word(word::CLASS))?;
-    let id = cursor.name(alloc)?;
-    cursor.take(Sort::Sign(sign::LEFT_BRACE))?;
-    Ok(id)
-}
-
-fn method_name(alloc: Global, cursor: &mut Cursor<'_>) -> Result<Ident, ParseError>
-    ensures { Reads (symbol.token (sort.Word words.STATIC) ∷ symbol.token (sort.Word words.VOID) ∷ symbol.kept sort.Name ∷ symbol.token (sort.Sign signs.LEFT_PAREN) ∷ symbol.token (sort.Sign signs.RIGHT_PAREN) ∷ []) [] an_ident (input cursor.old) result (input cursor.new) }
-{
-    cursor.take(Sort::Word(word::STATIC))?;
-    cursor.take(Sort::Word(word::VOID))?;
-    let id = cursor.name(alloc)?;
-    cursor.take(Sort::Sign(sign::LEFT_PAREN))?;
-    cursor.take(Sort::Sign(sign::RIGHT_PAREN))?;
-    Ok(id)
-}
-
 #[tactic(auto, using(par_straight::proofs::Run::run_leaves))]
 fn block(alloc: Global, cursor: &mut Cursor<'_>) -> Result<List<Statement>, ParseError>
     ensures { Reads (symbol.enters ∷ symbol.token (sort.Sign signs.LEFT_BRACE) ∷ symbol.name g.Statements ∷ symbol.token (sort.Sign signs.RIGHT_BRACE) ∷ symbol.leaves ∷ []) [] statements (input cursor.old) result (input cursor.new) }
@@ -475,14 +440,6 @@ fn block(alloc: Global, cursor: &mut Cursor<'_>) -> Result<List<Statement>, Pars
     cursor.take(Sort::Sign(sign::RIGHT_BRACE))?;
     cursor.leave();
     Ok(found)
-}
-
-/// The effect of the method: none that is seen below `bottom`.
-fn bottom_effect(cursor: &mut Cursor<'_>) -> Result<(), ParseError>
-    ensures { Reads (symbol.token (sort.Sign signs.BANG) ∷ symbol.token (sort.Word words.BOTTOM) ∷ []) [] nothing (input cursor.old) result (input cursor.new) }
-{
-    cursor.take(Sort::Sign(sign::BANG))?;
-    cursor.take(Sort::Word(word::BOTTOM))
 }
 
 fn end(cursor: &mut Cursor<'_>) -> Result<(), ParseError>
@@ -496,20 +453,32 @@ fn end(cursor: &mut Cursor<'_>) -> Result<(), ParseError>
 fn method(alloc: Global, cursor: &mut Cursor<'_>) -> Result<(Ident, List<Statement>), ParseError>
     ensures { Reads method_symbols [] a_method (input cursor.old) result (input cursor.new) }
 {
-    let id = method_name(alloc, cursor)?;
-    bottom_effect(cursor)?;
+    let id = cursor.name_between(
+        alloc,
+        &[Sort::Word(word::STATIC), Sort::Word(word::VOID)],
+        &[
+            Sort::Sign(sign::LEFT_PAREN),
+            Sort::Sign(sign::RIGHT_PAREN),
+            Sort::Sign(sign::BANG),
+            Sort::Word(word::BOTTOM),
+        ],
+    )?;
     let statements = block(alloc, cursor)?;
     end(cursor)?;
     Ok((id, statements))
 }
 
-#[tactic(auto, using(par_straight::proofs::Run::source_rules))]
+#[tactic(auto, using(par_straight::proofs::Run::source_opens))]
 fn whole(alloc: Global, cursor: &mut Cursor<'_>) -> Result<Source, ParseError>
     ensures { Reads (symbol.name g.Source ∷ []) [] source (input cursor.old) result (input cursor.new) }
 {
     let actors = actors(alloc, cursor)?;
     let locks = locks(alloc, cursor)?;
-    let class = class_name(alloc, cursor)?;
+    let class = cursor.name_between(
+        alloc,
+        &[Sort::Word(word::CLASS)],
+        &[Sort::Sign(sign::LEFT_BRACE)],
+    )?;
     let members = all_members(alloc, cursor)?;
     let read = method(alloc, cursor)?;
     let (method, statements) = read;
@@ -527,6 +496,7 @@ fn whole(alloc: Global, cursor: &mut Cursor<'_>) -> Result<Source, ParseError>
 pub fn parse(alloc: Global, tokens: &[Token]) -> Result<Source, ParseError>
     requires { length tokens.now ≤ 262144 }
     ensures ok { IfOk result (HasTree tokens.now) }
+    ensures fault { IfErr result (λ e. e ≢ ParseError.Memory → HasFault tokens.now (fault_of e)) }
     ensures none { IfErr result (λ e. e ≢ ParseError.Memory → (tree : Tree) → HasTree tokens.now tree → ⊥) }
 {
     let mut cursor = Cursor {

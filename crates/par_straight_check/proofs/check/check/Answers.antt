@@ -1,11 +1,11 @@
-use Rattle.std.proofs.Common.{◌≡◌, ◌↔◌, ap, ℕ, ◌+◌, ◌<◌, List, ◌∷◌, true, false, None, length, drop, get_or, sym, subst}
+use Rattle.std.proofs.Common.{◌≡◌, ap, ℕ, ◌+◌, ◌<◌, List, ◌∷◌, true, false, None, length, drop, get_or, sym, subst}
 use Rattle.std.specs.Option.{IfSome}
-use Rattle.std.specs.Prelude.{IsTrue, Option}
+use Rattle.std.specs.Prelude.{Option}
 use Rattle.std.specs.Ordering.{nat_cmp}
 use Rattle.std.specs.Map.{lookup}
 use Rattle.std.specs.BTreeMap as tree
 use Rattle.par_straight.specs.declared.program.Step.{Step}
-use Rattle.par_straight.specs.Rules.{Passes, IsRefused}
+use Rattle.par_straight.specs.Rules.{IsRefused}
 use Rattle.par_straight_check.specs.declared.worth.Worth.{Worth}
 use Rattle.par_straight_check.specs.Known.{IsWithin, TellsWhether}
 use Rattle.par_straight_check.proofs.Reached.{Reached, at_first, at_next, at_fault, left_first}
