@@ -11,8 +11,6 @@ mod number;
 mod place;
 mod read;
 mod seen;
-#[cfg(test)]
-mod tests;
 
 pub use number::magnitude_of;
 pub use place::line_of_entry;
