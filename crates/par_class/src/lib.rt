@@ -14,8 +14,6 @@ mod member;
 mod name;
 mod place;
 mod reading;
-#[cfg(test)]
-mod tests;
 mod whole;
 mod writing;
 

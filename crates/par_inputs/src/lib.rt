@@ -12,8 +12,6 @@ mod number;
 mod place;
 mod read;
 mod seen;
-#[cfg(test)]
-mod tests;
 
 pub use laws::{entries_stand_on_their_lines, files_are_right_or_broken};
 pub use number::magnitude_of;

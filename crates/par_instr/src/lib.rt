@@ -15,8 +15,6 @@ mod instr;
 mod laws;
 mod opcodes;
 mod operands;
-#[cfg(test)]
-mod tests;
 
 pub use instr::{Instr, InstrError, NoMemory};
 pub use laws::{

@@ -18,6 +18,3 @@ pub use host_sink::HostSink;
 pub use mem_folder::MemFolder;
 pub use mem_sink::MemSink;
 pub use outside::{Folder, NoMemory, PutFailed, ReadFail, Sink, WriteFail};
-
-#[cfg(test)]
-mod tests;

@@ -16,8 +16,6 @@ mod runs;
 mod scan;
 pub mod sign;
 mod table;
-#[cfg(test)]
-mod tests;
 pub mod token;
 pub mod word;
 

@@ -24,8 +24,6 @@ mod reason;
 mod running;
 mod slot;
 mod step;
-#[cfg(test)]
-mod tests;
 pub mod turn;
 
 pub use fit::inputs_fit;

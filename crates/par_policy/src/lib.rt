@@ -21,6 +21,3 @@ pub use locks::Lockset;
 pub use memory::NoMemory;
 pub use order::{leq, leq_at, sees};
 pub use policies::Policy;
-
-#[cfg(test)]
-mod tests;

@@ -13,8 +13,6 @@ pub mod item;
 pub mod kind;
 mod reading;
 mod same;
-#[cfg(test)]
-mod tests;
 pub mod writing;
 
 pub use builder::PoolBuilder;

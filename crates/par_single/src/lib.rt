@@ -18,8 +18,6 @@ mod link;
 pub mod member;
 mod plain;
 mod single;
-#[cfg(test)]
-mod tests;
 pub mod walk;
 
 pub use link::links_of;

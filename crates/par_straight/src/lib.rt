@@ -15,8 +15,6 @@ pub mod program;
 mod progress;
 mod runner;
 pub mod source_run;
-#[cfg(test)]
-mod tests;
 pub mod tree;
 
 pub use law::{accepted_is_secure, more_steps_extend};

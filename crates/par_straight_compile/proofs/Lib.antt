@@ -10,4 +10,3 @@ pub mod Most
 pub mod Whole
 pub mod Laid
 pub mod Examples
-pub mod Shop

@@ -18,8 +18,6 @@ mod members;
 mod memory;
 mod methods;
 mod number;
-#[cfg(test)]
-mod tests;
 
 pub use file::compile;
 pub use law::programs_are_compilable;

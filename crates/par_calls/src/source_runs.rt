@@ -1,12 +1,11 @@
 // One shop whose key is for alice, and for bob where Paid is open, with ample memory.
 
-use crate::observers::alike;
-use crate::program::{Action, Channel, Operand, Permission, Program, Step};
-use crate::runner::run_source;
-use crate::source_run::SourceRun;
 use par_lexer::list::List;
 use par_lexer::name::Name;
 use par_policy::Lockset;
+use par_straight::program::{Action, Channel, Operand, Permission, Program, Step};
+use par_straight::source_run::SourceRun;
+use par_straight::{alike, run_source};
 use par_values::inputs::{ChannelInput, Inputs};
 use par_values::run::{Ending, Event};
 use std::alloc::Global;

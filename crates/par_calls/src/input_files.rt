@@ -1,5 +1,5 @@
-use crate::error::BadInput;
-use crate::{line_of_entry, read_inputs};
+use par_inputs::error::BadInput;
+use par_inputs::{line_of_entry, read_inputs};
 use std::test::Fail;
 
 #[test]

@@ -1,6 +1,6 @@
 ghost use Rattle.std.specs.Prelude.{◌≤◌, length};
 
-use crate::{read_class, write_class};
+use par_class::{read_class, write_class};
 use par_pool::error::ClassError;
 use std::alloc::Global;
 use std::test::Fail;

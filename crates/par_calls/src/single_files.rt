@@ -1,8 +1,8 @@
 ghost use Rattle.std.specs.Prelude.{◌≤◌, length};
 
-use crate::{links_of, runs_alone};
 use par_class::read_class;
 use par_pool::error::ClassError;
+use par_single::{links_of, runs_alone};
 use par_values::link::{FieldLink, Link, MethodLink, Target};
 use std::alloc::Global;
 use std::test::Fail;

@@ -1,11 +1,11 @@
 ghost use Rattle.std.specs.Prelude.{◌≤◌, length};
 
-use crate::inputs_fit;
-use crate::machine::Machine;
-use crate::turn::{Stuck, Turn};
 use par_class::read_class;
 use par_lexer::list::List;
 use par_lexer::name::Name;
+use par_machine::inputs_fit;
+use par_machine::machine::Machine;
+use par_machine::turn::{Stuck, Turn};
 use par_single::runs_alone;
 use par_values::inputs::{ChannelInput, Inputs};
 use par_values::run::{Ending, Event, Val};

@@ -1,5 +1,5 @@
-use crate::writing::put_pool;
-use crate::{ClassError, PoolBuilder, read_pool};
+use par_pool::writing::put_pool;
+use par_pool::{ClassError, PoolBuilder, read_pool};
 use std::test::Fail;
 
 #[test]

@@ -1,4 +1,4 @@
-use crate::{Instr, InstrError, decode, encode, stack_effect};
+use par_instr::{Instr, InstrError, decode, encode, stack_effect};
 use std::test::Fail;
 
 // The bytes and the instruction of some rows of the Java Virtual Machine Specification.

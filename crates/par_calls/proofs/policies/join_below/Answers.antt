@@ -1,6 +1,6 @@
 use Rattle.std.proofs.Common.{◌<◌, length, rules}
 use Rattle.par_policy.proofs.Joined.{All-gains}
-use Rattle.par_policy.proofs.tests.join_below.Goals as goal
+use Rattle.par_calls.proofs.policies.join_below.Goals as goal
 
 pub loop-number-preserved : goal.loop-number-preserved
 loop-number-preserved c =

@@ -1,4 +1,4 @@
-use crate::{
+use par_io::{
     Folder, HostFolder, HostSink, MemFolder, MemSink, PutFailed, ReadFail, Sink, WriteFail,
 };
 use std::test::Fail;

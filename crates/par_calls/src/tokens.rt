@@ -1,7 +1,7 @@
-use crate::list::List;
-use crate::name::Name;
-use crate::token::{Kind, LexError};
-use crate::{lex, place_of, sign, word};
+use par_lexer::list::List;
+use par_lexer::name::Name;
+use par_lexer::token::{Kind, LexError};
+use par_lexer::{lex, place_of, sign, word};
 use std::test::Fail;
 
 // A tree that holds lists of trees.

@@ -4,11 +4,11 @@ ghost use Rattle.par_straight.specs.declared.program.Action.TheVariants as actio
 ghost use Rattle.par_straight.specs.declared.program.Operand.TheVariants as operand;
 ghost use Rattle.par_straight_compile.specs.Compilable.{IsCompilable};
 
-use crate::compile;
 use par_class::{ClassFile, read_class};
 use par_lexer::list::List;
 use par_lexer::name::Name;
 use par_straight::program::{Action, Channel, Field, Operand, Program, Step};
+use par_straight_compile::compile;
 use std::alloc::Global;
 use std::test::Fail;
 

@@ -1,5 +1,5 @@
-use Rattle.par_straight_compile.proofs.Shop.{shop_compilable}
-use Rattle.par_straight_compile.proofs.tests.shop.Goals as goal
+use Rattle.par_calls.proofs.Shop.{shop_compilable}
+use Rattle.par_calls.proofs.compiling.shop.Goals as goal
 
 pub returns : goal.returns
 returns c = shop_compilable _ c.in_ok-fields.ensures c.in_ok-channels.ensures c.in_ok-steps.ensures

@@ -1,0 +1,28 @@
+//! Public calls of single crates, each run once with ample memory, and rows from outside: what a
+//! contract leaves open, as that a call which may lack memory does not give up. The crate is tests
+//! alone, and nothing stands on it. They stand here and not beside the calls, since a crate with
+//! tests of its own is proved twice.
+#![tactic(auto)]
+
+#[cfg(test)]
+mod class_files;
+#[cfg(test)]
+mod compiling;
+#[cfg(test)]
+mod input_files;
+#[cfg(test)]
+mod instructions;
+#[cfg(test)]
+mod machine_runs;
+#[cfg(test)]
+mod outside;
+#[cfg(test)]
+mod policies;
+#[cfg(test)]
+mod pools;
+#[cfg(test)]
+mod single_files;
+#[cfg(test)]
+mod source_runs;
+#[cfg(test)]
+mod tokens;
