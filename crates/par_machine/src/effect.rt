@@ -163,7 +163,8 @@ fn called_on(
 ) -> Result<Effect, NoMemory>
     requires { 0 < count }
     ensures memory { HasRoom target.now (length areas.old.operands.values - count) areas.old.operands.room
-        → OnErr result (NeedsMemory (called_on receiver (count - 1) target.now (areas_of areas.old))) }
+        → OnErr result
+        (NeedsMemory (called_on receiver (count - 1) target.now (areas_of areas.old))) }
     ensures room { areas.new.operands.room ≡ areas.old.operands.room }
     ensures done { Does result
         (called_on receiver (count - 1) target.now (areas_of areas.old)) areas.old areas.new }
@@ -210,7 +211,8 @@ impl Operation<'_> {
             (NeedsMemory (effect (own.now ∷ []) (operation_of self.entry) (areas_of areas.old))) }
         ensures room { areas.new.operands.room ≡ areas.old.operands.room }
         ensures done { Does result
-            (effect (own.now ∷ []) (operation_of self.entry) (areas_of areas.old)) areas.old areas.new }
+            (effect (own.now ∷ []) (operation_of self.entry) (areas_of areas.old))
+            areas.old areas.new }
     {
         match self {
             Operation::Push(number) => push(Slot::int(number), areas),

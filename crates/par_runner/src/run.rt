@@ -24,9 +24,12 @@ fn advance<S: Sink>(
     ensures files { files_of machine.new ≡ files_of machine.old }
     ensures faults_never_fall { S.faults out.old ≤ S.faults out.new }
     ensures told { let t = turn (files_of machine.old) (state_of machine.old) in
-        IfOk result (λ closing. MatchOption closing (GoesOn t (state_of machine.new) (S.held out.old) (S.held out.new)) (λ c. ClosesBy t c (S.held out.old) (S.held out.new))) }
+        IfOk result (λ closing. MatchOption closing
+        (GoesOn t (state_of machine.new) (S.held out.old) (S.held out.new))
+        (λ c. ClosesBy t c (S.held out.old) (S.held out.new))) }
     ensures untold { let t = turn (files_of machine.old) (state_of machine.old) in
-        IfErr result (IsUntoldTurn t (S.held out.old) (S.held out.new) (S.faults out.old) (S.faults out.new)) }
+        IfErr result (IsUntoldTurn t
+        (S.held out.old) (S.held out.new) (S.faults out.old) (S.faults out.new)) }
 {
     match machine.step() {
         Ok(Turn::Silent) => Ok(None),
@@ -60,8 +63,10 @@ fn tell_events<S: Sink>(
     out: &mut S,
 ) -> Result<Closing, Untold>
     ensures faults_never_fall { S.faults out.old ≤ S.faults out.new }
-    ensures told { IfOk result (IsTold (files_of machine.old) steps (state_of machine.old) (S.held out.old) (S.held out.new)) }
-    ensures cut { IfErr result (IsCutOff (run (files_of machine.old) steps (state_of machine.old)) (S.held out.old) (S.held out.new) (S.faults out.old) (S.faults out.new)) }
+    ensures told { IfOk result (IsTold (files_of machine.old) steps (state_of machine.old)
+        (S.held out.old) (S.held out.new)) }
+    ensures cut { IfErr result (IsCutOff (run (files_of machine.old) steps (state_of machine.old))
+        (S.held out.old) (S.held out.new) (S.faults out.old) (S.faults out.new)) }
 {
     for _done in 0..steps {
         match advance(alloc, machine, out) {
@@ -85,7 +90,8 @@ fn untold_status(untold: Untold) -> u8
 
 /// Puts the line of a closing, and gives the status of the call.
 fn close<S: Sink>(alloc: Global, closing: &Closing, out: &mut S) -> u8
-    ensures { Closes closing.now result (S.held out.old) (S.held out.new) (S.faults out.old) (S.faults out.new) }
+    ensures { Closes closing.now result
+        (S.held out.old) (S.held out.new) (S.faults out.old) (S.faults out.new) }
 {
     match put_closing(alloc, closing, out) {
         Ok(()) => status_of(closing),
@@ -97,7 +103,8 @@ fn close<S: Sink>(alloc: Global, closing: &Closing, out: &mut S) -> u8
 /// and one for how the run closes. The number is the status of a call that tells so.
 pub fn tell_run<S: Sink>(alloc: Global, machine: Machine, steps: u32, out: &mut S) -> u8
     ensures { let ran = run (files_of machine) steps (state_of machine) in
-        Said (status ran.ending) (lines ran) result (S.held out.old) (S.held out.new) (S.faults out.old) (S.faults out.new) }
+        Said (status ran.ending) (lines ran) result
+        (S.held out.old) (S.held out.new) (S.faults out.old) (S.faults out.new) }
 {
     let mut machine = machine;
     match tell_events(alloc, &mut machine, steps, out) {

@@ -61,7 +61,8 @@ pub fn status_of(closing: &Closing) -> u8
 fn put_line<S: Sink>(line: &[u8], out: &mut S) -> Result<(), Untold>
     ensures faults_never_fall { S.faults out.old ≤ S.faults out.new }
     ensures put { OnOk result (S.held out.new ≡ appended (S.held out.old) line.now) }
-    ensures untold { IfErr result (IsUntold line.now (S.held out.old) (S.held out.new) (S.faults out.old) (S.faults out.new)) }
+    ensures untold { IfErr result (IsUntold line.now
+        (S.held out.old) (S.held out.new) (S.faults out.old) (S.faults out.new)) }
 {
     match out.put(line) {
         Ok(()) => Ok(()),
@@ -73,7 +74,8 @@ fn put_line<S: Sink>(line: &[u8], out: &mut S) -> Result<(), Untold>
 pub fn put_event<S: Sink>(alloc: Global, event: &Event, out: &mut S) -> Result<(), Untold>
     ensures faults_never_fall { S.faults out.old ≤ S.faults out.new }
     ensures put { OnOk result (S.held out.new ≡ appended (S.held out.old) (line (event_text event.now))) }
-    ensures untold { IfErr result (IsUntold (line (event_text event.now)) (S.held out.old) (S.held out.new) (S.faults out.old) (S.faults out.new)) }
+    ensures untold { IfErr result (IsUntold (line (event_text event.now))
+        (S.held out.old) (S.held out.new) (S.faults out.old) (S.faults out.new)) }
 {
     let text = event_line(alloc, event)?;
     put_line(text.as_slice(), out)
@@ -97,8 +99,10 @@ fn closing_line(alloc: Global, closing: &Closing) -> Result<Vec<u8>, NoMemory>
 /// Puts the line of a closing.
 pub fn put_closing<S: Sink>(alloc: Global, closing: &Closing, out: &mut S) -> Result<(), Untold>
     ensures faults_never_fall { S.faults out.old ≤ S.faults out.new }
-    ensures put { OnOk result (S.held out.new ≡ appended (S.held out.old) (line (ending_text (outcome closing.now)))) }
-    ensures untold { IfErr result (IsUntold (line (ending_text (outcome closing.now))) (S.held out.old) (S.held out.new) (S.faults out.old) (S.faults out.new)) }
+    ensures put { OnOk result
+        (S.held out.new ≡ appended (S.held out.old) (line (ending_text (outcome closing.now)))) }
+    ensures untold { IfErr result (IsUntold (line (ending_text (outcome closing.now)))
+        (S.held out.old) (S.held out.new) (S.faults out.old) (S.faults out.new)) }
 {
     let text = closing_line(alloc, closing)?;
     put_line(text.as_slice(), out)
