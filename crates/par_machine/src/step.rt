@@ -65,7 +65,8 @@ impl Running {
         requires further { self.old.at ≤ next }
         requires counted { length (takes (operation_of operation)) < 2 ^ 64 }
         requires own { CallsOwn (operation_of operation) }
-        requires roomy { exceeds self.old.areas.operands.room (operation_of operation) (areas_of self.old.areas)
+        requires roomy { exceeds self.old.areas.operands.room
+            (operation_of operation) (areas_of self.old.areas)
             ≡ false }
         ensures turn { IsTurn result
             (performed program.now.file (operation_of operation.entry) next self.old)
