@@ -8,3 +8,4 @@ pub mod Standing
 pub mod Owning
 pub mod Turns
 pub mod Extending
+pub mod Misfits

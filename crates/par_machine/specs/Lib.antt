@@ -2,6 +2,7 @@ pub mod State
 pub mod Step
 pub mod Run
 pub mod Target
+pub mod Misfits
 pub mod OperandList
 pub mod Channels
 pub mod Links

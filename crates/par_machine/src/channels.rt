@@ -76,7 +76,8 @@ impl Channels {
     /// Takes the next number of a channel, 0 where it has none left.
     pub(crate) fn take(&mut self, class: &[u8], channel: &[u8]) -> i32
         ensures number { result ≡ next (given self.old class.now channel.now) }
-        ensures left { whole_inputs self.new ≡ taken_from class.now channel.now (whole_inputs self.old) }
+        ensures left { whole_inputs self.new
+            ≡ taken_from class.now channel.now (whole_inputs self.old) }
     {
         take_next(
             self.inputs.channels.as_slice(),

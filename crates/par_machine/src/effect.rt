@@ -123,7 +123,8 @@ fn called(
     target: &Target,
     areas: &mut Areas,
 ) -> Result<Effect, NoMemory>
-    ensures memory { HasRoom target.now (length areas.old.operands.values - count) areas.old.operands.room
+    ensures memory { HasRoom target.now
+        (length areas.old.operands.values - count) areas.old.operands.room
         → OnErr result (NeedsMemory (called count target.now (areas_of areas.old))) }
     ensures room { areas.new.operands.room ≡ areas.old.operands.room }
     ensures done { Does result (called count target.now (areas_of areas.old)) areas.old areas.new }
@@ -162,8 +163,10 @@ fn called_on(
     areas: &mut Areas,
 ) -> Result<Effect, NoMemory>
     requires { 0 < count }
-    ensures memory { HasRoom target.now (length areas.old.operands.values - count) areas.old.operands.room
-        → OnErr result (NeedsMemory (called_on receiver (count - 1) target.now (areas_of areas.old))) }
+    ensures memory { HasRoom target.now
+        (length areas.old.operands.values - count) areas.old.operands.room
+        → OnErr result
+        (NeedsMemory (called_on receiver (count - 1) target.now (areas_of areas.old))) }
     ensures room { areas.new.operands.room ≡ areas.old.operands.room }
     ensures done { Does result
         (called_on receiver (count - 1) target.now (areas_of areas.old)) areas.old areas.new }
@@ -205,12 +208,14 @@ impl Operation<'_> {
     ) -> Result<Effect, NoMemory>
         requires counted { length (takes (operation_of self)) < 2 ^ 64 }
         requires own { CallsOwn (operation_of self) }
-        requires roomy { exceeds areas.old.operands.room (operation_of self) (areas_of areas.old) ≡ false }
+        requires roomy { exceeds areas.old.operands.room (operation_of self) (areas_of areas.old)
+            ≡ false }
         ensures memory { OnErr result
             (NeedsMemory (effect (own.now ∷ []) (operation_of self.entry) (areas_of areas.old))) }
         ensures room { areas.new.operands.room ≡ areas.old.operands.room }
         ensures done { Does result
-            (effect (own.now ∷ []) (operation_of self.entry) (areas_of areas.old)) areas.old areas.new }
+            (effect (own.now ∷ []) (operation_of self.entry) (areas_of areas.old))
+            areas.old areas.new }
     {
         match self {
             Operation::Push(number) => push(Slot::int(number), areas),

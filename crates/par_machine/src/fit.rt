@@ -1,8 +1,9 @@
 //! Which channels inputs may name.
 
-ghost use Rattle.std.specs.Prelude.{◌≡◌, ◌<◌, ◌^◌, [], ◌∷◌, length, not, IfSome};
-ghost use Rattle.std.specs.List.{list_any, position};
+ghost use Rattle.std.specs.Prelude.{◌≡◌, [], ◌∷◌, not, option_map};
+ghost use Rattle.std.specs.List.{list_any};
 ghost use Rattle.par_machine.specs.Target.{is_input_of, has_input};
+ghost use Rattle.par_machine.specs.Misfits.{first_misfit, told_place};
 
 use par_class::file::{ClassFile, MethodFile};
 use par_pool::constant::Constant;
@@ -43,22 +44,15 @@ fn is_unfit(file: &ClassFile, line: &ChannelInput) -> bool
 
 // The place of the first line that is for no input channel of a file.
 fn first_unfit(file: &ClassFile, lines: &[ChannelInput]) -> Option<usize>
-    ensures first { result
-        ≡ position (λ line. not (has_input (file.now ∷ []) line.class line.channel)) lines.now }
-    ensures within { IfSome result (λ place. place < length lines.now) }
+    ensures { result ≡ first_misfit (file.now ∷ []) lines.now }
 {
     lines.iter().position(|line| is_unfit(file, line))
 }
 
 /// The place of the first channel of the inputs that is no input channel of a file, none where all
-/// are.
+/// are. A place beyond 4294967295 is told as that number.
 pub fn inputs_fit(file: &ClassFile, inputs: &Inputs) -> Option<u32>
-    requires { length inputs.now.channels < 2 ^ 32 }
-    ensures { result
-        ≡ position (λ line. not (has_input (file.now ∷ []) line.class line.channel)) inputs.now.channels }
+    ensures { result ≡ option_map told_place (first_misfit (file.now ∷ []) inputs.now.channels) }
 {
-    match first_unfit(file, inputs.channels.as_slice()) {
-        Some(place) => Some(place as u32),
-        None => None,
-    }
+    first_unfit(file, inputs.channels.as_slice()).map(|place| place.min(4294967295) as u32)
 }

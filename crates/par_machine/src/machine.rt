@@ -52,7 +52,8 @@ impl Machine {
     ///
     /// After want of memory nothing is said of the state.
     pub fn step(&mut self) -> Result<Turn, Stuck>
-        ensures turn { IsTurn result (turn (files_of self.old) (state_of self.old)) (state_of self.new) }
+        ensures turn { IsTurn result
+            (turn (files_of self.old) (state_of self.old)) (state_of self.new) }
         ensures memory { IsErrOf result Stuck.Memory
             → TakesMemory (turn (files_of self.old) (state_of self.old)) (state_of self.old) }
         // A further step answers the same.

@@ -44,7 +44,8 @@ fn constant(named: Option<&Link>) -> Operation<'_>
 }
 
 fn get_static(named: Option<&Link>) -> Operation<'_>
-    ensures { operation_of result ≡ of_field GetStatic (Misnamed 0 1) (link_or_other (option_copied named.entry)) }
+    ensures { operation_of result
+        ≡ of_field GetStatic (Misnamed 0 1) (link_or_other (option_copied named.entry)) }
 {
     match named {
         Some(Link::Field(field)) => Operation::GetStatic(field),
@@ -53,7 +54,8 @@ fn get_static(named: Option<&Link>) -> Operation<'_>
 }
 
 fn put_static(named: Option<&Link>) -> Operation<'_>
-    ensures { operation_of result ≡ of_field PutStatic (Misnamed 1 0) (link_or_other (option_copied named.entry)) }
+    ensures { operation_of result
+        ≡ of_field PutStatic (Misnamed 1 0) (link_or_other (option_copied named.entry)) }
 {
     match named {
         Some(Link::Field(field)) => Operation::PutStatic(field),
@@ -62,7 +64,8 @@ fn put_static(named: Option<&Link>) -> Operation<'_>
 }
 
 fn invoke_special(named: Option<&Link>) -> Operation<'_>
-    ensures { operation_of result ≡ of_method InvokeSpecial (Misnamed 1 0) (link_or_other (option_copied named.entry)) }
+    ensures { operation_of result
+        ≡ of_method InvokeSpecial (Misnamed 1 0) (link_or_other (option_copied named.entry)) }
 {
     match named {
         Some(Link::Method(method)) => Operation::InvokeSpecial(method),
@@ -71,7 +74,8 @@ fn invoke_special(named: Option<&Link>) -> Operation<'_>
 }
 
 fn invoke_static(named: Option<&Link>) -> Operation<'_>
-    ensures { operation_of result ≡ of_method InvokeStatic (Misnamed 0 0) (link_or_other (option_copied named.entry)) }
+    ensures { operation_of result
+        ≡ of_method InvokeStatic (Misnamed 0 0) (link_or_other (option_copied named.entry)) }
 {
     match named {
         Some(Link::Method(method)) => Operation::InvokeStatic(method),

@@ -130,7 +130,8 @@ impl Program {
 
     /// Whether a method gives no result.
     pub(crate) fn gives_nothing(&self, method: u16) -> bool
-        ensures { result ≡ is_none (signature_said (method_descriptor (self.now.file ∷ []) 0 method)).gives }
+        ensures { result
+            ≡ is_none (signature_said (method_descriptor (self.now.file ∷ []) 0 method)).gives }
     {
         let entries = self.file.pool.entries.as_slice();
         match self.file.methods.get(method as usize) {

@@ -110,7 +110,8 @@ impl Running {
     /// Goes on with the frame that called, and answers whether there was one.
     pub(crate) fn leave(&mut self, program: &Program) -> bool
         requires { IsSound program.now.file self.old }
-        ensures left { returned (program.now.file ∷ []) (frames_of self.old.callers.items) (state_of self.old)
+        ensures left { returned (program.now.file ∷ [])
+            (frames_of self.old.callers.items) (state_of self.old)
             ≡ (if result then Silent (state_of self.new) else Ends End) }
         ensures last { OnFalse result (state_of self.new ≡ state_of self.old) }
         ensures sound { IsSound program.now.file self.new }

@@ -65,12 +65,15 @@ impl Running {
         requires further { self.old.at ≤ next }
         requires counted { length (takes (operation_of operation)) < 2 ^ 64 }
         requires own { CallsOwn (operation_of operation) }
-        requires roomy { exceeds self.old.areas.operands.room (operation_of operation) (areas_of self.old.areas)
+        requires roomy { exceeds self.old.areas.operands.room
+            (operation_of operation) (areas_of self.old.areas)
             ≡ false }
         ensures turn { IsTurn result
-            (performed program.now.file (operation_of operation.entry) next self.old) (state_of self.new) }
+            (performed program.now.file (operation_of operation.entry) next self.old)
+            (state_of self.new) }
         ensures memory { IsErrOf result Stuck.Memory → TakesMemory
-            (performed program.now.file (operation_of operation.entry) next self.old) (state_of self.old) }
+            (performed program.now.file (operation_of operation.entry) next self.old)
+            (state_of self.old) }
         ensures over { IsTrue (is_over result) → state_of self.new ≡ state_of self.old }
         ensures sound { IsSound program.now.file self.new }
     {
@@ -101,7 +104,8 @@ impl Running {
     /// Runs one instruction, and answers what it comes to.
     pub(crate) fn advance(&mut self, alloc: Global, program: &Program) -> Result<Turn, Stuck>
         requires { IsSound program.now.file self.old }
-        ensures turn { IsTurn result (turn (program.now.file ∷ []) (state_of self.old)) (state_of self.new) }
+        ensures turn { IsTurn result
+            (turn (program.now.file ∷ []) (state_of self.old)) (state_of self.new) }
         ensures memory { IsErrOf result Stuck.Memory
             → TakesMemory (turn (program.now.file ∷ []) (state_of self.old)) (state_of self.old) }
         ensures over { IsTrue (is_over result) → state_of self.new ≡ state_of self.old }

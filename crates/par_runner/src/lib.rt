@@ -4,11 +4,13 @@
 //! The crate knows no file and no word of a command line, and reads nothing.
 #![tactic(auto)]
 
+mod laws;
 mod memory;
 mod run;
 mod telling;
 mod text;
 
+pub use laws::equal_lines_are_equal_events;
 pub use memory::NoMemory;
 pub use run::tell_run;
 pub use text::{bad_code_line, ending_line, event_line};

@@ -25,9 +25,12 @@ fn advance<S: Sink>(
     ensures faults_never_fall { S.faults out.old ≤ S.faults out.new }
     ensures faults_stand { PutsAreTold result (S.faults out.old) (S.faults out.new) }
     ensures told { let t = turn (files_of machine.old) (state_of machine.old) in
-        IfOk result (λ closing. MatchOption closing (GoesOn t (state_of machine.new) (S.held out.old) (S.held out.new)) (λ c. ClosesBy t c (S.held out.old) (S.held out.new))) }
+        IfOk result (λ closing. MatchOption closing
+        (GoesOn t (state_of machine.new) (S.held out.old) (S.held out.new))
+        (λ c. ClosesBy t c (S.held out.old) (S.held out.new))) }
     ensures untold { let t = turn (files_of machine.old) (state_of machine.old) in
-        IfErr result (IsUntoldTurn t (S.held out.old) (S.held out.new) (S.faults out.old) (S.faults out.new)) }
+        IfErr result (IsUntoldTurn t
+        (S.held out.old) (S.held out.new) (S.faults out.old) (S.faults out.new)) }
 {
     match machine.step() {
         Ok(Turn::Silent) => Ok(None),
@@ -62,8 +65,10 @@ fn tell_events<S: Sink>(
 ) -> Result<Closing, Untold>
     ensures faults_never_fall { S.faults out.old ≤ S.faults out.new }
     ensures faults_stand { PutsAreTold result (S.faults out.old) (S.faults out.new) }
-    ensures told { IfOk result (IsTold (files_of machine.old) steps (state_of machine.old) (S.held out.old) (S.held out.new)) }
-    ensures cut { IfErr result (IsCutOff (run (files_of machine.old) steps (state_of machine.old)) (S.held out.old) (S.held out.new) (S.faults out.old) (S.faults out.new)) }
+    ensures told { IfOk result (IsTold (files_of machine.old) steps (state_of machine.old)
+        (S.held out.old) (S.held out.new)) }
+    ensures cut { IfErr result (IsCutOff (run (files_of machine.old) steps (state_of machine.old))
+        (S.held out.old) (S.held out.new) (S.faults out.old) (S.faults out.new)) }
 {
     for _done in 0..steps {
         match advance(alloc, machine, out) {

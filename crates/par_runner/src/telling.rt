@@ -62,7 +62,8 @@ fn put_line<S: Sink>(line: &[u8], out: &mut S) -> Result<(), Untold>
     ensures faults_never_fall { S.faults out.old ≤ S.faults out.new }
     ensures faults_stand { PutsAreTold result (S.faults out.old) (S.faults out.new) }
     ensures put { OnOk result (S.held out.new ≡ appended (S.held out.old) line.now) }
-    ensures untold { IfErr result (IsUntold line.now (S.held out.old) (S.held out.new) (S.faults out.old) (S.faults out.new)) }
+    ensures untold { IfErr result (IsUntold line.now
+        (S.held out.old) (S.held out.new) (S.faults out.old) (S.faults out.new)) }
 {
     match out.put(line) {
         Ok(()) => Ok(()),
@@ -75,7 +76,8 @@ pub fn put_event<S: Sink>(alloc: Global, event: &Event, out: &mut S) -> Result<(
     ensures faults_never_fall { S.faults out.old ≤ S.faults out.new }
     ensures faults_stand { PutsAreTold result (S.faults out.old) (S.faults out.new) }
     ensures put { OnOk result (S.held out.new ≡ appended (S.held out.old) (line (event_text event.now))) }
-    ensures untold { IfErr result (IsUntold (line (event_text event.now)) (S.held out.old) (S.held out.new) (S.faults out.old) (S.faults out.new)) }
+    ensures untold { IfErr result (IsUntold (line (event_text event.now))
+        (S.held out.old) (S.held out.new) (S.faults out.old) (S.faults out.new)) }
 {
     let text = event_line(alloc, event)?;
     put_line(text.as_slice(), out)
@@ -100,8 +102,10 @@ fn closing_line(alloc: Global, closing: &Closing) -> Result<Vec<u8>, NoMemory>
 pub fn put_closing<S: Sink>(alloc: Global, closing: &Closing, out: &mut S) -> Result<(), Untold>
     ensures faults_never_fall { S.faults out.old ≤ S.faults out.new }
     ensures faults_stand { PutsAreTold result (S.faults out.old) (S.faults out.new) }
-    ensures put { OnOk result (S.held out.new ≡ appended (S.held out.old) (line (ending_text (outcome closing.now)))) }
-    ensures untold { IfErr result (IsUntold (line (ending_text (outcome closing.now))) (S.held out.old) (S.held out.new) (S.faults out.old) (S.faults out.new)) }
+    ensures put { OnOk result
+        (S.held out.new ≡ appended (S.held out.old) (line (ending_text (outcome closing.now)))) }
+    ensures untold { IfErr result (IsUntold (line (ending_text (outcome closing.now)))
+        (S.held out.old) (S.held out.new) (S.faults out.old) (S.faults out.new)) }
 {
     let text = closing_line(alloc, closing)?;
     put_line(text.as_slice(), out)

@@ -54,7 +54,8 @@ fn put_value(alloc: Global, text: &mut Vec<u8>, value: &Val) -> Result<(), NoMem
 
 /// Adds a word, a member of a class, and a space.
 fn put_member(text: &mut Vec<u8>, word: &[u8], class: &[u8], member: &[u8]) -> Result<(), NoMemory>
-    ensures { OnOk result (text.new.items ≡ text.old.items ++ (word.now ++ (class.now ++ (codes "." ++ (member.now ++ codes " "))))) }
+    ensures { OnOk result (text.new.items
+        ≡ text.old.items ++ (word.now ++ (class.now ++ (codes "." ++ (member.now ++ codes " "))))) }
 {
     text.extend_from_slice(word)?;
     text.extend_from_slice(class)?;
@@ -139,7 +140,8 @@ pub fn bad_code_line(
     offset: u32,
     reason: u8,
 ) -> Result<Vec<u8>, NoMemory>
-    ensures { IfOk result (λ text. text.items ≡ line (spec.ending_text (BadCode class.now method.now offset reason))) }
+    ensures { IfOk result (λ text.
+        text.items ≡ line (spec.ending_text (BadCode class.now method.now offset reason))) }
 {
     let mut text = Vec::new(alloc);
     put_member(&mut text, b"bad code ", class.bytes(), method)?;

@@ -2,4 +2,5 @@ pub mod Agreement
 pub mod Extension
 pub mod Seeing
 pub mod Examples
+pub mod FileExamples
 pub mod Carried
