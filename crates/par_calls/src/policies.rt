@@ -39,11 +39,7 @@ fn same(one: &Lockset, other: &Lockset) -> bool {
 }
 
 // Whether the clauses are exactly these, in this order.
-fn lists(
-    alloc: Global,
-    clauses: &[Clause],
-    want: &[(u8, &[u16])],
-) -> Result<bool, NoMemory> {
+fn lists(alloc: Global, clauses: &[Clause], want: &[(u8, &[u16])]) -> Result<bool, NoMemory> {
     for (have, (actor, locks)) in clauses.iter().zip(want) {
         if have.actor != *actor || !same(&have.locks, &lock_set(alloc, locks)?) {
             return Ok(false);

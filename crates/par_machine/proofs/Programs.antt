@@ -1,12 +1,13 @@
 -- What is known of a class file that a machine runs.
-use Rattle.std.proofs.Common.{◌≡◌, ℕ, zero, suc, ◌<◌, ◌≤◌, ◌^◌, true, List, [], ◌∷◌, length, map, Some, None, Option, IsTrue, refl, sym, ap, subst, ◌∙◌, arith, slice_get, option_map, nat_le}
+use Rattle.std.proofs.Common.{◌≡◌, ℕ, zero, suc, ◌<◌, ◌≤◌, ◌^◌, true, List, [], ◌∷◌, length, map, Some, None, Option, IsTrue, refl, sym, ap, subst, ◌∙◌, arith, slice_get, option_map}
 use mathlib.Core.Path.{fun_ext}
 use Rattle.std.proofs.lemmas.Bool.{and_parts, leb-true}
 use Rattle.std.proofs.lemmas.List.{length-map}
 use Rattle.std.proofs.lemmas.Option.{slice_get-map}
 use Rattle.std.proofs.lemmas.Slice.Eq.{bytes_eq-Decides}
 use Rattle.std.specs.List.{AllByRecursion}
-use Rattle.par_lexer.specs.Names.{IsName, is_spelled}
+use Rattle.par_lexer.specs.Names.{IsName}
+use Rattle.par_lexer.proofs.NameTests.{is_name-IsName}
 use Rattle.par_pool.specs.declared.constant.Constant.{Constant}
 use Rattle.par_class.specs.declared.file.ClassFile.{ClassFile}
 use Rattle.par_class.specs.declared.file.CodeAttr.{CodeAttr}
@@ -19,7 +20,7 @@ use Rattle.par_instr.specs.declared.instr.Instr.{Instr}
 use Rattle.par_values.specs.declared.link.Link.{Link}
 use Rattle.par_values.specs.declared.link.Link.TheVariants as link
 use Rattle.par_values.specs.Operations.{operation}
-use Rattle.par_single.specs.Descriptors.{Text, is_name}
+use Rattle.par_single.specs.Descriptors.{Text}
 use Rattle.par_single.specs.Members.{own_name, method_place}
 use Rattle.par_single.specs.Links.{link_of, link_at}
 use Rattle.par_single.specs.Single.{is_begun_with, method_in, main_member, runs_alone}
@@ -35,11 +36,6 @@ pub runs_alone-own : (file : ClassFile) (main : Text) → IsTrue (runs_alone fil
 runs_alone-own file main runs =
     let same : own_name file ≡ main = (bytes_eq-Decides (own_name file) main).0 (alone file main runs).own in
     subst (λ name. IsTrue (runs_alone file name)) (sym same) runs
-
-is_name-IsName : (text : Text) → is_name text ≡ true → IsName text
-is_name-IsName text is =
-    let parts = and_parts (is_spelled text) (nat_le (length text) 64) is in
-    record { spelled = parts.0; short = leb-true _ _ parts.1 }
 
 pub own_name-IsName : (file : ClassFile) (main : Text) → IsTrue (runs_alone file main) → IsName (own_name file)
 own_name-IsName file main runs =

@@ -1,6 +1,6 @@
 //! Words, absent and long files, and faults of the folder and the sink.
 
-use crate::call::{ACCEPTED, COMPILED, Expected, USAGE, answers, with_body, words};
+use crate::call::{ACCEPTED, COMPILED, Expected, USAGE, answers, compiled, with_body, words};
 use par_io::{MemFolder, MemSink};
 use par_tool::tool::tool;
 use par_words::Which;
@@ -110,6 +110,10 @@ fn writes_may_fail(rt: HostRuntime) -> Result<(), Fail> {
             )?
         );
         assert!(rt; folder.get("Other.class") == Some(b"kept".as_slice()));
+        let left = folder
+            .get("Shop.class")
+            .ok_or("a front of the file is written")?;
+        assert!(rt; call == 2 || left.len() as u64 == keep);
     }
     Ok(())
 }
@@ -136,24 +140,33 @@ fn class_files_stay_where_a_put_fails(rt: HostRuntime) -> Result<(), Fail> {
     Ok(())
 }
 
+/// Each put of each form in turn, of which nothing is kept, or some bytes.
 #[test]
 fn puts_may_fail(rt: HostRuntime) -> Result<(), Fail> {
-    for (keep, held) in [(5, "accep"), (0, ""), (100, "accepted\n")] {
+    let check: &[&str] = &["--check", "shop.par"];
+    let compile: &[&str] = &["shop.par"];
+    let run: &[&str] = &["Shop", "in.txt", "1000"];
+    let rows = [
+        (Which::Compiler, check, 1, 0, ""),
+        (Which::Compiler, check, 1, 5, "accep"),
+        (Which::Compiler, check, 1, 100, "accepted\n"),
+        (Which::Compiler, compile, 1, 0, ""),
+        (Which::Compiler, compile, 1, 5, "accep"),
+        (Which::Runner, run, 1, 0, ""),
+        (Which::Runner, run, 1, 5, "out S"),
+        (Which::Runner, run, 2, 0, "out Shop.show 42\n"),
+        (Which::Runner, run, 2, 5, "out Shop.show 42\nend\n"),
+    ];
+    for (which, texts, put, keep, held) in rows {
         let source = with_body(rt.alloc(), "open Paid; show(key());")?;
-        let mut folder = MemFolder::new(rt.alloc());
-        folder.add("shop.par", source.as_bytes())?;
+        let mut folder = compiled(rt.alloc(), source.as_str())?;
+        folder.add("in.txt", b"Shop.key: 42\n")?;
         let mut out = MemSink::new(rt.alloc(), 100)?;
-        out.fail_put(1, keep);
-        let words = words(rt.alloc(), &["--check", "shop.par"])?;
-        let status = tool(
-            rt.alloc(),
-            Which::Compiler,
-            words.as_slice(),
-            &mut folder,
-            &mut out,
-        );
+        out.fail_put(put, keep);
+        let words = words(rt.alloc(), texts)?;
+        let status = tool(rt.alloc(), which, words.as_slice(), &mut folder, &mut out);
         assert_eq!(rt; status, 6);
-        assert!(rt; out.bytes() == held.as_bytes());
+        assert!(rt; out.bytes() == held.as_bytes(), "{held}");
     }
     Ok(())
 }

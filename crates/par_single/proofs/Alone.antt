@@ -1,11 +1,11 @@
 -- What is known of a file that runs by itself.
-use Rattle.std.proofs.Common.{◌≡◌, ℕ, Bool, true, false, not, ◌&&◌, ◌||◌, if◌then◌else◌, List, Some, None, Option, slice_get, is_some, IsTrue, arith, refl, sym, ap, ◌∙◌, length, subst, nat_le}
+use Rattle.std.proofs.Common.{◌≡◌, ℕ, Bool, true, false, not, ◌&&◌, ◌||◌, if◌then◌else◌, List, Some, None, Option, slice_get, is_some, IsTrue, refl, sym, ap, ◌∙◌, subst}
 use Rattle.std.proofs.lemmas.Bool.{and_parts, not-true}
-use Rattle.std.proofs.lemmas.Bool.Decides.{nat_tests}
 use Rattle.std.proofs.lemmas.Slice.Eq.{bytes_eq-Decides}
 use Rattle.std.specs.List.{list_all}
 use Rattle.std.specs.Str.{bytes_eq}
-use Rattle.par_lexer.specs.Names.{IsName, is_spelled}
+use Rattle.par_lexer.specs.Names.{IsName, is_name}
+use Rattle.par_lexer.proofs.NameTests.{is_name-IsName}
 use Rattle.par_pool.specs.declared.constant.Constant.{Constant}
 use Rattle.par_class.specs.declared.file.CodeAttr.{CodeAttr}
 use Rattle.par_class.specs.declared.file.FieldFile.{FieldFile}
@@ -13,7 +13,7 @@ use Rattle.par_class.specs.declared.file.MethodFile.{MethodFile}
 use Rattle.par_class.specs.declared.file.ClassFile.{ClassFile}
 use Rattle.par_class.specs.Spelling.{is_native}
 use Rattle.par_single.proofs.Owned.{found_at, each_passes}
-use Rattle.par_single.specs.Descriptors.{Text, is_name, field_kind, method_signature}
+use Rattle.par_single.specs.Descriptors.{Text, field_kind, method_signature}
 use Rattle.par_single.specs.Members.{text_at, own_name, own_field, own_method, Member, field_place, method_place, is_static, is_field_of, is_method_of}
 use Rattle.par_single.specs.Single.{none, is_bare, is_plain_method, is_plain, is_taken, members_differ, is_field_right, is_method_right, is_channel_right, is_of_channel, is_described, is_found, is_begun_with, method_in, main_member, runs_alone}
 use Rattle.par_single.specs.Walk.{walks}
@@ -57,12 +57,6 @@ alone file main runs =
       found = tests.6;
       begun = tests.7;
     }
-
--- bytes that are tested to be a name are one
-is_name-IsName : (text : Text) → is_name text ≡ true → IsName text
-is_name-IsName text is =
-    let parts = and_parts (is_spelled text) (nat_le (length text) 64) is in
-    record { spelled = parts.0; short = grind (arith, nat_tests, parts.1) }
 
 if-some : (test : Bool) (o : Option ℕ) (place : ℕ) → (if test then o else None) ≡ Some place → (test ≡ true) × (o ≡ Some place)
 if-some true o place is = (refl, is)

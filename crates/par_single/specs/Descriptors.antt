@@ -1,9 +1,9 @@
 -- What descriptors say: kinds of values, and of arguments and results (Java Virtual Machine
 -- Specification, Java SE 7, section 4.3), for `I`, `Z`, `V` and `LName;` alone.
-use Rattle.std.specs.Prelude.{ℕ, zero, suc, ◌+◌, Bool, ◌&&◌, ◌||◌, ◌==◌, nat_le, if◌then◌else◌, List, [], ◌∷◌, length, take, drop, Option, Some, None, option_map, codes}
+use Rattle.std.specs.Prelude.{ℕ, zero, suc, ◌+◌, Bool, ◌||◌, ◌==◌, if◌then◌else◌, List, [], ◌∷◌, length, take, drop, Option, Some, None, option_map, codes}
 use Rattle.std.specs.List.{position}
 use Rattle.std.specs.Str.{bytes_eq}
-use Rattle.par_lexer.specs.Names.{is_spelled, IsName}
+use Rattle.par_lexer.specs.Names.{IsName, is_name}
 use Rattle.par_values.specs.declared.kind.Kind.{Kind}
 use Rattle.par_values.specs.declared.kind.Kind.TheVariants.{Number, Object}
 use Rattle.par_single.specs.declared.descriptor.Said.{Said}
@@ -12,10 +12,6 @@ use Rattle.par_single.specs.declared.descriptor.Signature.{Signature}
 
 abbrev pub Text : Type 0
 Text = List ℕ
-
--- whether some bytes are a name
-abbrev pub is_name : Text → Bool
-is_name text = is_spelled text && nat_le (length text) 64
 
 -- whether the byte is `I` or `Z`
 abbrev pub is_number : ℕ → Bool

@@ -12,7 +12,8 @@ use Rattle.par_class.specs.declared.file.ClassFile.{ClassFile}
 use Rattle.par_class.specs.Spelling.{is_native}
 use Rattle.par_values.specs.declared.link.Link.{Link}
 use Rattle.par_values.specs.declared.link.Link.TheVariants as link
-use Rattle.par_single.specs.Descriptors.{Text, is_name, field_kind, method_signature}
+use Rattle.par_lexer.specs.Names.{is_name}
+use Rattle.par_single.specs.Descriptors.{Text, field_kind, method_signature}
 use Rattle.par_single.specs.Members.{text_at, own_name, Member, member_at, is_field_of, is_method_of, method_place, is_static}
 use Rattle.par_single.specs.Links.{is_object, field_among, method_of}
 use Rattle.par_single.specs.Walk.{walks}

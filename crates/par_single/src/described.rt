@@ -5,16 +5,17 @@ ghost use Rattle.std.specs.List.{list_all};
 ghost use Rattle.par_class.specs.Spelling.{is_native};
 ghost use Rattle.par_single.specs.Single.{is_field_right, is_of_channel, is_channel_right, is_method_right, is_described};
 
-use crate::descriptor::{field_said, is_name, method_gives};
+use crate::descriptor::{field_said, method_gives};
 use crate::member::{is_native, is_static, text_at};
 use par_class::file::{ClassFile, FieldFile, MethodFile};
+use par_lexer::name::Name;
 use par_pool::constant::Constant;
 
 /// Whether a field has a name and the descriptor of a field.
 fn is_field_right(entries: &[Constant], field: &FieldFile) -> bool
     ensures { result ≡ is_field_right entries.now field.now }
 {
-    is_name(text_at(entries, field.name))
+    Name::is_name(text_at(entries, field.name))
         && field_said(text_at(entries, field.descriptor)).is_some()
 }
 
@@ -29,7 +30,7 @@ fn is_of_channel(descriptor: &[u8]) -> bool
 fn is_channel_right(entries: &[Constant], method: &MethodFile) -> bool
     ensures { result ≡ is_channel_right entries.now method.now }
 {
-    is_name(text_at(entries, method.name))
+    Name::is_name(text_at(entries, method.name))
         && is_static(method.access)
         && is_of_channel(text_at(entries, method.descriptor))
 }

@@ -1,7 +1,7 @@
 //! What descriptors say (Java Virtual Machine Specification, Java SE 7, section 4.3).
 
 ghost use Rattle.std.specs.Prelude.{◌≡◌, option_map, is_some, is_none, IfOk, IfSome, position};
-ghost use Rattle.par_single.specs.Descriptors.{Text, is_name, kind_at, alone, field_kind, kinds_at, result_kind, result_at, method_signature, kind_of, IsSaid, ends_name, object_to};
+ghost use Rattle.par_single.specs.Descriptors.{Text, kind_at, alone, field_kind, kinds_at, result_kind, result_at, method_signature, kind_of, IsSaid, ends_name, object_to};
 ghost use Rattle.par_single.specs.Links.{signature_said};
 
 use par_lexer::list::{List, NoMemory};
@@ -25,13 +25,6 @@ pub struct Signature {
     pub takes: List<Kind>,
     /// The kind of the result, none where there is no result.
     pub gives: Option<Kind>,
-}
-
-/// Whether some bytes are a name.
-pub fn is_name(text: &[u8]) -> bool
-    ensures { result ≡ is_name text.now }
-{
-    Name::is_name(text)
 }
 
 impl Said<'_> {
@@ -62,7 +55,7 @@ fn object_at(text: &[u8]) -> Option<(Said, &[u8])>
 {
     let end = name_end(text)?;
     let name = &text[..end];
-    if !is_name(name) {
+    if !Name::is_name(name) {
         return None;
     }
     Some((Said::Object(name), &text[end + 1..]))

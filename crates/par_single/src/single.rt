@@ -6,12 +6,12 @@ ghost use Rattle.par_single.specs.Members.{own_name, method_place};
 ghost use Rattle.par_single.specs.Single.{is_taken, is_begun_with, method_in, main_member, is_found, runs_alone};
 
 use crate::described::is_described;
-use crate::descriptor::is_name;
 use crate::differing::members_differ;
 use crate::found::is_all_found;
 use crate::member::{is_native, is_static, method_place, own_name};
 use crate::plain::is_plain;
 use par_class::file::{ClassFile, MethodFile};
+use par_lexer::name::Name;
 
 /// Whether a name is that of a class that every program has.
 fn is_taken(name: &[u8]) -> bool
@@ -40,7 +40,7 @@ pub fn runs_alone(file: &ClassFile, main: &[u8]) -> bool
     ensures { result ≡ runs_alone file.now main.now }
 {
     own_name(file) == main
-        && is_name(main)
+        && Name::is_name(main)
         && !is_taken(main)
         && is_plain(file)
         && members_differ(file)

@@ -1,14 +1,15 @@
 -- The file of a program runs by itself.
-use Rattle.std.proofs.Common.{◌≡◌, ℕ, Bool, true, false, not, ◌&&◌, ◌||◌, List, [], ◌∷◌, ◌++◌, length, map, Option, Some, All, inl, inr, refl, ap, ◌∙◌}
-use Rattle.std.specs.Prelude.{IsTrue, slice_get, codes, is_some, nat_le}
+use Rattle.std.proofs.Common.{◌≡◌, ℕ, Bool, true, false, not, ◌&&◌, ◌||◌, List, [], ◌∷◌, ◌++◌, map, Option, Some, All, inl, inr, refl, ap, ◌∙◌}
+use Rattle.std.specs.Prelude.{IsTrue, slice_get, codes, is_some}
 use Rattle.std.specs.List.{list_all}
 use Rattle.std.specs.Str.{bytes_eq}
-use Rattle.std.proofs.lemmas.Bool.{and_from, and_left, or_from, or_left, or_right, or_parts, not_from_false, le-leb}
+use Rattle.std.proofs.lemmas.Bool.{and_from, and_left, or_from, or_left, or_right, or_parts, not_from_false}
 use Rattle.std.proofs.lemmas.List.{map-append}
 use Rattle.std.proofs.lemmas.List.Elements.{All-head, All-tail}
 use Rattle.std.proofs.lemmas.List.Folds.{list_all-append}
 use Rattle.std.proofs.lemmas.Option.{slice_get-get_or}
-use Rattle.par_lexer.specs.Names.{is_spelled, IsName}
+use Rattle.par_lexer.specs.Names.{is_spelled, IsName, is_name}
+use Rattle.par_lexer.proofs.NameTests.{IsName-is_name}
 use Rattle.par_pool.specs.declared.constant.Constant.{Constant}
 use Rattle.par_pool.specs.declared.constant.Constant.TheVariants as constant
 use Rattle.par_class.specs.declared.file.CodeAttr.{CodeAttr}
@@ -25,7 +26,7 @@ use Rattle.par_straight_compile.specs.Code.{code_of}
 use Rattle.par_straight_compile.specs.Constants.{channel_names, descriptor_of, channel_descriptor, NamesField, IsConstantOf}
 use Rattle.par_straight_compile.specs.Files.{IsFieldOf, HasCode, IsChannelOf, IsFileOf}
 use Rattle.par_secrecy.proofs.Carried.{bytes_swapped}
-use Rattle.par_single.specs.Descriptors.{kind_at, kinds_in, is_name, field_kind, method_signature}
+use Rattle.par_single.specs.Descriptors.{kind_at, kinds_in, field_kind, method_signature}
 use Rattle.par_single.specs.Members.{text_at, own_name, is_static, method_place}
 use Rattle.par_single.specs.Links.{signature_said, is_object, field_among, method_of}
 use Rattle.par_single.specs.Walk.{walks}
@@ -46,9 +47,6 @@ joined a b c d e f g h is_a is_b is_c is_d is_e is_f is_g is_h =
     (and_from (a && b && c && d) e
     (and_from (a && b && c) d
     (and_from (a && b) c (and_from a b is_a is_b) is_c) is_d) is_e) is_f) is_g) is_h
-
-named : (n : Name) → IsName n → is_name n ≡ true
-named n h = and_from (is_spelled n) (nat_le (length n) 64) h.spelled (le-leb (length n) 64 h.short)
 
 -- descriptors that files have say what they have to
 int_right : is_some (field_kind (codes "I")) ≡ true
@@ -181,7 +179,7 @@ module _ (p : Program) (file : ClassFile) (h : IsFileOf p file) (r : IsRunnable 
   field_described : (d : Field) (x : FieldFile) → IsName d.name → IsFieldOf entries d x → is_field_right entries x ≡ true
   field_described d x name is =
       and_from (is_name (text_at entries x.name)) (is_some (field_kind (text_at entries x.descriptor)))
-      (ap is_name (text_is entries x.name d.name is.name) ∙ named d.name name)
+      (ap is_name (text_is entries x.name d.name is.name) ∙ IsName-is_name d.name name)
       (ap (λ (n : Name). is_some (field_kind n)) (text_is entries x.descriptor (codes "I") is.descriptor) ∙ int_right)
 
   -- a method that is not native, of which nothing is taken and given
@@ -199,7 +197,7 @@ module _ (p : Program) (file : ClassFile) (h : IsFileOf p file) (r : IsRunnable 
       (ap (λ (n : Name). is_some (method_signature n)) descriptor ∙ channel_right d.is_input)
       (or_right (not (is_native x.access)) (is_channel_right entries x)
       (and_from (is_name (text_at entries x.name) && is_static x.access) (is_of_channel (text_at entries x.descriptor))
-      (and_from (is_name (text_at entries x.name)) (is_static x.access) (ap is_name (text_is entries x.name d.name is.name) ∙ named d.name name) (ap is_static is.access))
+      (and_from (is_name (text_at entries x.name)) (is_static x.access) (ap is_name (text_is entries x.name d.name is.name) ∙ IsName-is_name d.name name) (ap is_static is.access))
       (ap is_of_channel descriptor ∙ of_channel d.is_input)))
 
   described : is_described file ≡ true
@@ -260,4 +258,4 @@ module _ (p : Program) (file : ClassFile) (h : IsFileOf p file) (r : IsRunnable 
   alone =
       joined (bytes_eq (own_name file) p.class) (is_name p.class) (not (is_taken p.class)) (is_plain file) (members_differ file) (is_described file)
       (list_all (is_found file) entries) (is_begun_with (method_in file (method_place file (main_member p.class))))
-      own (named p.class r.class) free plain differ described (all_pass (IsConstantOf p entries) (is_found file) entries h.constants constant_there) begun
+      own (IsName-is_name p.class r.class) free plain differ described (all_pass (IsConstantOf p entries) (is_found file) entries h.constants constant_there) begun
