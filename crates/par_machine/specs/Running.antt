@@ -47,8 +47,9 @@ state_of r = record {
 -- what an operation comes to that can be run, where the next instruction stands at an offset
 abbrev pub performed : ClassFile → Operation → (next : ℕ) → Running → Turn
 performed file o next r =
-    applied (file ∷ []) (effect (own_name file ∷ []) o (areas_of r.areas)) (next - r.at)
-    (running_frame r) (frames_of r.callers.items) (state_of r)
+    let done = effect (own_name file ∷ []) o (areas_of r.areas) in
+    let callers = frames_of r.callers.items in
+    applied (file ∷ []) done (next - r.at) (running_frame r) callers (state_of r)
 
 -- whether an instruction starts at an offset, or the code ends there
 abbrev pub is_boundary : List ℕ → ℕ → Bool

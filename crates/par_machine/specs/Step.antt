@@ -66,8 +66,8 @@ applied files (Goes a) size f frames s = Silent (state_with (moved (f.at + size)
 applied files (Happens e a) size f frames s =
     Shows e (state_with (moved (f.at + size) a f ∷ frames) a)
 applied files (Calls class method locals arguments a) size f frames s =
-    Silent (state_with
-    (entered class method (first_locals locals arguments) ∷ moved f.at a f ∷ frames) a)
+    let called = entered class method (first_locals locals arguments) in
+    Silent (state_with (called ∷ moved f.at a f ∷ frames) a)
 applied files (Throws class) size f frames s = Ends (Uncaught class)
 applied files Returns size f frames s = returned files frames s
 

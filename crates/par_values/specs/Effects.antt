@@ -50,8 +50,8 @@ effect classes Add a =
     Goes (push (Int (int_wrap w32 (number_of (operand 1 a) +ℤ number_of (operand 0 a)))) (pop 2 a))
 effect classes (GetStatic f) a = Goes (push (value_or_null (slice_get a.statics f.place)) a)
 effect classes (PutStatic f) a =
-    Happens (Set f.class f.name (shown_value classes (operand 0 a)))
-    (set_static f.place (operand 0 a) (pop 1 a))
+    let event = Set f.class f.name (shown_value classes (operand 0 a)) in
+    Happens event (set_static f.place (operand 0 a) (pop 1 a))
 effect classes (InvokeStatic m) a = called (length m.takes) m.target a
 effect classes (InvokeSpecial m) a =
     called_on (operand (length m.takes) a) (length m.takes) m.target a
