@@ -33,10 +33,10 @@ all_fit-append classes (k ∷ ks) ls (v ∷ vs) ws same =
     ∙ and-assoc (fits classes k v) (all_fit classes ks vs) (all_fit classes ls ws)
 
 -- one operand
-pub all_fit_one : (classes : List Name) (k : Kind) (vs : List MVal) → 1 ≤ length vs
+pub one_fits : (classes : List Name) (k : Kind) (vs : List MVal) → 1 ≤ length vs
     → all_fit classes (k ∷ []) vs ≡ fits classes k (value_or_null (slice_get vs 0))
-all_fit_one classes k [] some = absurd (omega arith)
-all_fit_one classes k (v ∷ vs) some = and-true (fits classes k v)
+one_fits classes k [] some = absurd (omega arith)
+one_fits classes k (v ∷ vs) some = and-true (fits classes k v)
 
 -- two operands
 pub all_fit_two : (classes : List Name) (k l : Kind) (vs : List MVal) → 2 ≤ length vs
@@ -91,10 +91,10 @@ all_fit-receiver classes ks k vs some =
     ∙ ap (λ n. all_fit classes (reverse ks) vs && fits classes k (value_or_null (slice_get vs n))) (length-reverse ks)
 
 -- any value is of any kind
-pub all_fit_anything : (classes : List Name) (n : ℕ) (vs : List MVal) → all_fit classes (replicate n Anything) vs ≡ true
-all_fit_anything classes zero vs = refl
-all_fit_anything classes (suc n) [] = refl
-all_fit_anything classes (suc n) (v ∷ vs) = all_fit_anything classes n vs
+pub any_fit : (classes : List Name) (n : ℕ) (vs : List MVal) → all_fit classes (replicate n Anything) vs ≡ true
+any_fit classes zero vs = refl
+any_fit classes (suc n) [] = refl
+any_fit classes (suc n) (v ∷ vs) = any_fit classes n vs
 
 -- what a test of two parts answers, where the first holds and where it does not
 pub and-second : (first x second y : Bool) → first ≡ true → first ≡ x → second ≡ y → second ≡ (x && y)

@@ -6,4 +6,5 @@ use Rattle.par_values.specs.declared.inputs.ChannelInput.{ChannelInput}
 abbrev pub left_of : List ChannelInput → List ℕ → List ChannelInput
 left_of [] taken = []
 left_of (line ∷ lines) [] = line ∷ lines
-left_of (line ∷ lines) (n ∷ taken) = record line { numbers = drop n line.numbers } ∷ left_of lines taken
+left_of (line ∷ lines) (n ∷ taken) =
+    record line { numbers = drop n line.numbers } ∷ left_of lines taken

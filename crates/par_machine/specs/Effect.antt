@@ -18,7 +18,8 @@ abbrev pub added : Areas → Areas
 added a = push (Int (int_wrap w32 (number_of (operand 1 a) +ℤ number_of (operand 0 a)))) (pop 2 a)
 
 -- Some method is called on arguments that stand in these locals.
-pub record IsCall (class method : ℕ) (locals : List (Option MVal)) (after : Areas) (done : plain.Effect) : Type 0 where
+pub record IsCall (class method : ℕ) (locals : List (Option MVal)) (after : Areas)
+    (done : plain.Effect) : Type 0 where
   pub many : ℕ
   pub arguments : List MVal
   pub called : done ≡ plain.Calls class method many arguments after
@@ -34,7 +35,8 @@ IsEffect Returns done before after = (done ≡ plain.Returns) × (after ≡ befo
 
 -- The answer says what was done with the areas, unless memory ran out.
 abbrev pub Does : Result Effect NoMemory → plain.Effect → (before after : held.Areas) → Type 0
-Does result done before after = IfOk result (λ did. IsEffect did done (areas_of before) (areas_of after))
+Does result done before after =
+    IfOk result (λ did. IsEffect did done (areas_of before) (areas_of after))
 
 -- Memory is taken for an event, for the locals of a method and for the name of an exception.
 abbrev pub NeedsMemory : plain.Effect → Type 0

@@ -4,7 +4,8 @@ use Rattle.par_values.specs.declared.link.Target.{Target}
 use Rattle.par_values.specs.declared.link.Target.TheVariants.{Input, Code}
 use Rattle.par_values.specs.Operations.{Operation, InvokeStatic, InvokeSpecial}
 
--- code that is run is of the class of number 0, and what takes a number from a channel gives a result
+-- code that is run is of the class of number 0, and what takes a number from a channel gives a
+-- result
 abbrev pub RunsOwn : Target → Bool → Type 0
 RunsOwn (Code class method locals) gives = class ≡ 0
 RunsOwn (Input class name) gives = gives ≡ true

@@ -7,7 +7,8 @@ use Rattle.par_machine.specs.State.{method_code}
 
 -- the links say what each entry of the pool names
 abbrev pub AreLinks : ClassFile → List Link → Type 0
-AreLinks file links = links ≡ map (λ c. link_of (file ∷ []) file.pool.entries (Some c)) file.pool.entries
+AreLinks file links =
+    links ≡ map (λ c. link_of (file ∷ []) file.pool.entries (Some c)) file.pool.entries
 
 -- no method's code is longer than a class file has it
 abbrev pub HasShortCode : ClassFile → Type 0

@@ -15,7 +15,13 @@ use Rattle.par_machine.specs.State.{method_code, whole_inputs}
 
 -- a frame that waits for one that it called
 abbrev pub frame_of : Frame → plain.Frame
-frame_of f = record { class = 0; method = f.method; at = f.at; locals = f.locals.items; operands = f.operands.values }
+frame_of f = record {
+  class = 0;
+  method = f.method;
+  at = f.at;
+  locals = f.locals.items;
+  operands = f.operands.values;
+}
 
 -- the frames that wait, the one that called last first
 abbrev pub frames_of : List Frame → List plain.Frame
@@ -23,8 +29,13 @@ frames_of callers = reverse (map frame_of callers)
 
 -- the frame that runs
 abbrev pub running_frame : Running → plain.Frame
-running_frame r =
-    record { class = 0; method = r.method; at = r.at; locals = r.areas.locals.items; operands = r.areas.operands.values }
+running_frame r = record {
+  class = 0;
+  method = r.method;
+  at = r.at;
+  locals = r.areas.locals.items;
+  operands = r.areas.operands.values;
+}
 
 abbrev pub state_of : Running → plain.State
 state_of r = record {
@@ -36,7 +47,9 @@ state_of r = record {
 -- what an operation comes to that can be run, where the next instruction stands at an offset
 abbrev pub performed : ClassFile → Operation → (next : ℕ) → Running → Turn
 performed file o next r =
-    applied (file ∷ []) (effect (own_name file ∷ []) o (areas_of r.areas)) (next - r.at) (running_frame r) (frames_of r.callers.items) (state_of r)
+    let done = effect (own_name file ∷ []) o (areas_of r.areas) in
+    let callers = frames_of r.callers.items in
+    applied (file ∷ []) done (next - r.at) (running_frame r) callers (state_of r)
 
 -- whether an instruction starts at an offset, or the code ends there
 abbrev pub is_boundary : List ℕ → ℕ → Bool
@@ -45,7 +58,8 @@ is_boundary code at = starts_at code at || at == length code
 -- whether a frame of a method may stand at an offset, with so much room for operands
 abbrev pub is_standing : ClassFile → (method at room : ℕ) → Bool
 is_standing file method at room =
-    let code = method_code (file ∷ []) 0 method in is_boundary code.code at && room == code.max_stack
+    let code = method_code (file ∷ []) 0 method in
+    is_boundary code.code at && room == code.max_stack
 
 abbrev pub stands : ClassFile → Frame → Bool
 stands file f = is_standing file f.method f.at f.operands.room

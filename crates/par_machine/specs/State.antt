@@ -73,15 +73,18 @@ abbrev pub method_name : List ClassFile → ℕ → ℕ → List ℕ
 method_name files class method = name_of (class_pool files class) (method_file files class method)
 
 abbrev pub method_descriptor : List ClassFile → ℕ → ℕ → List ℕ
-method_descriptor files class method = descriptor_of (class_pool files class) (method_file files class method)
+method_descriptor files class method =
+    descriptor_of (class_pool files class) (method_file files class method)
 
 -- a frame at the start of a method's code
 abbrev pub entered : (class method : ℕ) → List (Option MVal) → Frame
-entered class method locals = record { class = class; method = method; at = 0; locals = locals; operands = [] }
+entered class method locals =
+    record { class = class; method = method; at = 0; locals = locals; operands = [] }
 
 -- the fields of a class before they are written
 abbrev pub first_statics : ClassFile → List MVal
-first_statics file = map (λ f. first_value (kind_said (text_at file.pool.entries f.descriptor))) file.fields
+first_statics file =
+    map (λ f. first_value (kind_said (text_at file.pool.entries f.descriptor))) file.fields
 
 -- the fields of all classes
 abbrev pub all_statics : List ClassFile → List MVal
@@ -95,11 +98,13 @@ whole_inputs lines class name = given lines class name
 -- the frame of the method `main` of a class
 abbrev pub main_frame : List ClassFile → ℕ → Option ℕ → List Frame
 main_frame files class None = []
-main_frame files class (Some method) = entered class method (replicate (method_code files class method).max_locals None) ∷ []
+main_frame files class (Some method) =
+    entered class method (replicate (method_code files class method).max_locals None) ∷ []
 
 abbrev pub begun : List ClassFile → ℕ → Option ClassFile → List Frame
 begun files class None = []
-begun files class (Some file) = main_frame files class (method_place file (main_member (own_name file)))
+begun files class (Some file) =
+    main_frame files class (method_place file (main_member (own_name file)))
 
 -- before the first instruction of `main` of the class of this number
 abbrev pub start : List ClassFile → ℕ → Inputs → State

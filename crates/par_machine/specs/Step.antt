@@ -24,7 +24,8 @@ pub data Turn : Type 0 where
 
 -- the areas that the first frame's instruction works on
 abbrev pub areas_of : Frame → State → Areas
-areas_of f s = record { locals = f.locals; operands = f.operands; statics = s.statics; inputs = s.inputs }
+areas_of f s =
+    record { locals = f.locals; operands = f.operands; statics = s.statics; inputs = s.inputs }
 
 -- what the place of an instruction decides: where the next one starts is told by the walk
 abbrev pub spot : List ClassFile → Frame → ℕ → Spot
@@ -38,7 +39,7 @@ spot files f size =
 
 -- the frame with these areas, at another offset
 abbrev pub moved : ℕ → Areas → Frame → Frame
-moved at a f = record { class = f.class; method = f.method; at = at; locals = a.locals; operands = a.operands }
+moved at a f = record f { at = at; locals = a.locals; operands = a.operands }
 
 abbrev pub state_with : List Frame → Areas → State
 state_with frames a = record { frames = frames; statics = a.statics; inputs = a.inputs }
@@ -50,7 +51,8 @@ size_of (Some d) = d.size
 
 -- the frame goes on behind the instruction at which it stands
 abbrev pub past : List ClassFile → Frame → Frame
-past files f = record f { at = f.at + size_of (decoded_at (method_code files f.class f.method).code f.at) }
+past files f =
+    record f { at = f.at + size_of (decoded_at (method_code files f.class f.method).code f.at) }
 
 -- A return from the last frame ends the run.
 abbrev pub returned : List ClassFile → List Frame → State → Turn
@@ -61,32 +63,39 @@ returned files (f ∷ frames) s = Silent (record s { frames = past files f ∷ f
 -- handlers, so that an exception leaves all frames.
 abbrev pub applied : List ClassFile → Effect → (size : ℕ) → Frame → List Frame → State → Turn
 applied files (Goes a) size f frames s = Silent (state_with (moved (f.at + size) a f ∷ frames) a)
-applied files (Happens e a) size f frames s = Shows e (state_with (moved (f.at + size) a f ∷ frames) a)
+applied files (Happens e a) size f frames s =
+    Shows e (state_with (moved (f.at + size) a f ∷ frames) a)
 applied files (Calls class method locals arguments a) size f frames s =
-    Silent (state_with (entered class method (first_locals locals arguments) ∷ moved f.at a f ∷ frames) a)
+    let called = entered class method (first_locals locals arguments) in
+    Silent (state_with (called ∷ moved f.at a f ∷ frames) a)
 applied files (Throws class) size f frames s = Ends (Uncaught class)
 applied files Returns size f frames s = returned files frames s
 
 -- bad code at which a frame stands
 abbrev pub bad : List ClassFile → Frame → ℕ → Turn
-bad files f r = IsBad (class_named (own_names files) f.class) (method_name files f.class f.method) f.at r
+bad files f r =
+    IsBad (class_named (own_names files) f.class) (method_name files f.class f.method) f.at r
 
 -- The operation is run where no reason stands against it.
-abbrev pub decided : List ClassFile → Operation → Option ℕ → (size : ℕ) → Frame → List Frame → State → Turn
+abbrev pub decided : List ClassFile → Operation → Option ℕ → (size : ℕ)
+    → Frame → List Frame → State → Turn
 decided files o (Some r) size f frames s = bad files f r
-decided files o None size f frames s = applied files (effect (own_names files) o (areas_of f s)) size f frames s
+decided files o None size f frames s =
+    applied files (effect (own_names files) o (areas_of f s)) size f frames s
 
 -- No instruction starts where none is found.
 abbrev pub turn_at : List ClassFile → Option Decoded → Frame → List Frame → State → Turn
 turn_at files None f frames s = bad files f 5
 turn_at files (Some d) f frames s =
     let o = operation (link_at files (class_pool files f.class)) d.instr in
-    decided files o (reason (own_names files) (spot files f d.size) o (areas_of f s)) d.size f frames s
+    let r = reason (own_names files) (spot files f d.size) o (areas_of f s) in
+    decided files o r d.size f frames s
 
 -- one instruction of the first frame
 abbrev pub turn_of : List ClassFile → List Frame → State → Turn
 turn_of files [] s = Ends End
-turn_of files (f ∷ frames) s = turn_at files (decoded_at (method_code files f.class f.method).code f.at) f frames s
+turn_of files (f ∷ frames) s =
+    turn_at files (decoded_at (method_code files f.class f.method).code f.at) f frames s
 
 unfoldable pub turn : List ClassFile → State → Turn
 turn files s = turn_of files s.frames s

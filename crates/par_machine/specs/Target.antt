@@ -14,10 +14,12 @@ use Rattle.par_machine.specs.Run.{machine_run}
 -- a static native method of this name that takes nothing and gives an int
 abbrev pub is_input_of : List Constant → Name → MethodFile → Bool
 is_input_of entries name m =
-    is_native m.access && is_static m.access && bytes_eq (text_at entries m.name) name && bytes_eq (text_at entries m.descriptor) (codes "()I")
+    is_native m.access && is_static m.access && bytes_eq (text_at entries m.name) name
+    && bytes_eq (text_at entries m.descriptor) (codes "()I")
 
 abbrev pub has_input_in : Name → Name → ClassFile → Bool
-has_input_in class name file = bytes_eq (own_name file) class && list_any (is_input_of file.pool.entries name) file.methods
+has_input_in class name file =
+    bytes_eq (own_name file) class && list_any (is_input_of file.pool.entries name) file.methods
 
 -- one of the files has an input channel of this class and name
 abbrev pub has_input : List ClassFile → Name → Name → Bool

@@ -8,12 +8,14 @@ use Rattle.par_machine.specs.declared.turn.Turn.TheVariants.{Silent, Happened, E
 use Rattle.par_machine.specs.declared.turn.Stuck.{Stuck}
 use Rattle.par_machine.specs.declared.turn.Stuck.TheVariants.{BadCode, Memory}
 
--- The answer says this turn, which leaves this state where the run goes on. Want of memory says nothing.
+-- The answer says this turn, which leaves this state where the run goes on. Want of memory says
+-- nothing.
 abbrev pub IsTurn : Result Turn Stuck → plain.Turn → State → Type 0
 IsTurn (Ok Silent) turn after = turn ≡ plain.Silent after
 IsTurn (Ok (Happened event)) turn after = turn ≡ plain.Shows event after
 IsTurn (Ok (Ended ending)) turn after = turn ≡ plain.Ends ending
-IsTurn (Err (BadCode class method offset reason)) turn after = turn ≡ plain.IsBad class method offset reason
+IsTurn (Err (BadCode class method offset reason)) turn after =
+    turn ≡ plain.IsBad class method offset reason
 IsTurn (Err Memory) turn after = Unit {0}
 
 -- Memory is taken where a method is entered, and where names are handed out.

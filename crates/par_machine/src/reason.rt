@@ -132,7 +132,7 @@ fn takes_receiver(own: &[u8], method: &MethodLink, areas: &Areas) -> bool
 }
 
 // The operands, of which there are enough, are not all of their kinds.
-#[tactic(auto, using(crate::proofs::Fitting::all_fit_one, crate::proofs::Fitting::all_fit_anything))]
+#[tactic(auto, using(crate::proofs::Fitting::one_fits, crate::proofs::Fitting::any_fit))]
 fn unfit(own: &[u8], operation: Operation<'_>, areas: &Areas) -> bool
     requires { lacks (operation_of operation) (areas_of areas.now) ≡ false }
     ensures { result ≡ unfit (own.now ∷ []) (operation_of operation.entry) (areas_of areas.now) }

@@ -1,6 +1,6 @@
 -- What descriptors say: kinds of values, and of arguments and results (Java Virtual Machine
 -- Specification, Java SE 7, section 4.3), for `I`, `Z`, `V` and `LName;` alone.
-use Rattle.std.specs.Prelude.{ℕ, zero, suc, ◌+◌, Bool, ◌||◌, ◌==◌, if◌then◌else◌, List, [], ◌∷◌, length, take, drop, Option, Some, None, option_map, codes}
+use Rattle.std.specs.Prelude.{ℕ, zero, suc, ◌+◌, ◌-◌, Bool, ◌||◌, ◌==◌, if◌then◌else◌, List, [], ◌∷◌, length, take, drop, Option, Some, None, option_map, codes}
 use Rattle.std.specs.List.{position}
 use Rattle.std.specs.Str.{bytes_eq}
 use Rattle.par_lexer.specs.Names.{IsName, is_name}
@@ -24,7 +24,8 @@ ends_name byte = byte == 59
 -- an object of the class whose name ends at a place, and what stands behind the `;` there
 abbrev pub object_to : Text → Option ℕ → Option (Kind × Text)
 object_to text None = None
-object_to text (Some end) = if is_name (take end text) then Some (Object (take end text), drop (end + 1) text) else None
+object_to text (Some end) =
+    if is_name (take end text) then Some (Object (take end text), drop (end + 1) text) else None
 
 -- the kind that a text begins with, and what stands behind it
 unfoldable pub kind_at : Text → Option (Kind × Text)
@@ -43,38 +44,54 @@ alone (Some found) = if length found.1 == 0 then Some found.0 else None
 abbrev pub field_kind : Text → Option Kind
 field_kind text = alone (kind_at text)
 
--- a kind before those that the rest begins with
-abbrev pub kinds_from : (Text → List Kind × Text) → Text → Option (Kind × Text) → List Kind × Text
-kinds_from later text None = ([], text)
-kinds_from later text (Some found) = (found.0 ∷ (later found.1).0, (later found.1).1)
+-- one more kind before others
+abbrev pub kind_before : Kind → Option (List Kind × Text) → Option (List Kind × Text)
+kind_before kind None = None
+kind_before kind (Some later) = Some (kind ∷ later.0, later.1)
 
--- The kinds that a text begins with, at most so many, and what stands behind them.
-unfoldable pub kinds_in : ℕ → Text → List Kind × Text
-kinds_in zero text = ([], text)
-kinds_in (suc fuel) text = kinds_from (kinds_in fuel) text (kind_at text)
+-- where no kind is left `)` stands
+abbrev pub no_kinds : Text → Option (List Kind × Text)
+no_kinds [] = None
+no_kinds (byte ∷ text) = if byte == 41 then Some ([], text) else None
 
--- all kinds that a text begins with, and what stands behind them
-abbrev pub kinds_at : Text → List Kind × Text
-kinds_at text = kinds_in (length text) text
+-- A kind is followed by others, once the rest of its descriptor is passed.
+abbrev pub kinds_from : (ℕ → Option (List Kind × Text)) → ℕ → Text → Option (Kind × Text)
+    → Option (List Kind × Text)
+kinds_from later byte text None = no_kinds (byte ∷ text)
+kinds_from later byte text (Some found) =
+    kind_before found.0 (later (length text - length found.1))
+
+-- The kinds of descriptors one behind the other up to `)`, and what stands behind that, where so
+-- many bytes come first that belong to an earlier descriptor.
+unfoldable pub kinds_in : Text → ℕ → Option (List Kind × Text)
+kinds_in [] earlier = None
+kinds_in (byte ∷ text) zero = kinds_from (kinds_in text) byte text (kind_at (byte ∷ text))
+kinds_in (byte ∷ text) (suc earlier) = kinds_in text earlier
+
+-- the kinds of the arguments, and what stands behind `)`
+abbrev pub kinds_at : Text → Option (List Kind × Text)
+kinds_at text = kinds_in text 0
 
 -- the kind of a result: none for `V`, or that of a field
 abbrev pub result_kind : Text → Option (Option Kind)
-result_kind text = if bytes_eq text (codes "V") then Some None else option_map Some (field_kind text)
-
--- the kind of a result behind `)`
-abbrev pub result_at : Text → Option (Option Kind)
-result_at [] = None
-result_at (byte ∷ text) = if byte == 41 then result_kind text else None
+result_kind text =
+    if bytes_eq text (codes "V") then Some None else option_map Some (field_kind text)
 
 -- what arguments of these kinds and a result make
 abbrev pub signature_with : List Kind → Option (Option Kind) → Option Signature
 signature_with takes None = None
 signature_with takes (Some gives) = Some (record { takes = takes; gives = gives })
 
--- what the descriptor of a method says: the kinds between `(` and `)`, and that behind them
+-- what arguments make with the result behind them
+abbrev pub signature_of : Option (List Kind × Text) → Option Signature
+signature_of None = None
+signature_of (Some found) = signature_with found.0 (result_kind found.1)
+
+-- What the descriptor of a method says: `(`, the descriptors of its arguments, `)` and that of its
+-- result.
 abbrev pub method_signature : Text → Option Signature
 method_signature [] = None
-method_signature (byte ∷ text) = if byte == 40 then signature_with (kinds_at text).0 (result_at (kinds_at text).1) else None
+method_signature (byte ∷ text) = if byte == 40 then signature_of (kinds_at text) else None
 
 -- ---- kinds as they stand in a text
 

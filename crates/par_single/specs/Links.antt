@@ -39,7 +39,13 @@ signature_said text = signature_or_none (method_signature text)
 abbrev pub field_link : ℕ → Member → ℕ → Option FieldFile → Link
 field_link earlier m place None = link.Other
 field_link earlier m place (Some f) =
-    link.Field (record { class = m.class; name = m.name; is_static = is_static f.access; kind = kind_said m.descriptor; place = earlier + place })
+    link.Field (record {
+      class = m.class;
+      name = m.name;
+      is_static = is_static f.access;
+      kind = kind_said m.descriptor;
+      place = earlier + place;
+    })
 
 abbrev pub field_found : ℕ → Member → ClassFile → Option ℕ → Link
 field_found earlier m file None = link.Other
@@ -63,7 +69,8 @@ channel_of m [] = Input m.class m.name
 channel_of m (kind ∷ kinds) = Output m.class m.name
 
 abbrev pub target_of : Member → List Kind → ℕ → ℕ → MethodFile → Target
-target_of m takes class place f = if is_native f.access then channel_of m takes else Code class place (locals_of f.code)
+target_of m takes class place f =
+    if is_native f.access then channel_of m takes else Code class place (locals_of f.code)
 
 abbrev pub method_link : Member → ℕ → ℕ → Option MethodFile → Link
 method_link m class place None = link.Other
@@ -88,10 +95,18 @@ method_among class (file ∷ files) m =
     if bytes_eq (own_name file) m.class then method_found m class file (method_place file m)
     else method_among (suc class) files m
 
--- the initializer of the class of all objects, which takes an object of every class and does nothing
+-- the initializer of the class of all objects, which takes an object of every class and does
+-- nothing
 abbrev pub object_initializer : Link
 object_initializer =
-    link.Method (record { is_static = false; is_initializer = true; receiver = AnyObject; takes = []; gives = false; target = Nothing })
+    link.Method (record {
+      is_static = false;
+      is_initializer = true;
+      receiver = AnyObject;
+      takes = [];
+      gives = false;
+      target = Nothing;
+    })
 
 -- whether a name is that of the class of all objects
 abbrev pub is_object : Text → Bool
@@ -106,8 +121,10 @@ method_of files m =
 -- what an entry names
 unfoldable pub link_of : List ClassFile → List Constant → Option Constant → Link
 link_of files entries (Some (Integer n)) = link.Number n
-link_of files entries (Some (Field class member)) = field_among 0 files (member_at entries class member)
-link_of files entries (Some (Method class member)) = method_of files (member_at entries class member)
+link_of files entries (Some (Field class member)) =
+    field_among 0 files (member_at entries class member)
+link_of files entries (Some (Method class member)) =
+    method_of files (member_at entries class member)
 link_of files entries _ = link.Other
 
 -- what an index of a pool names

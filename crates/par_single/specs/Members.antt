@@ -49,8 +49,13 @@ named n = record { class = n.class.now; name = n.name.now; descriptor = n.descri
 -- a member of a class, by the entry of its name and descriptor
 abbrev pub member_of : List Constant → ℕ → Option Constant → Member
 member_of entries class (Some (NameType name descriptor)) =
-    record { class = class_name_at entries class; name = text_at entries name; descriptor = text_at entries descriptor }
-member_of entries class _ = record { class = class_name_at entries class; name = []; descriptor = [] }
+    record {
+      class = class_name_at entries class;
+      name = text_at entries name;
+      descriptor = text_at entries descriptor;
+    }
+member_of entries class _ =
+    record { class = class_name_at entries class; name = []; descriptor = [] }
 
 abbrev pub member_at : List Constant → ℕ → ℕ → Member
 member_at entries class index = member_of entries class (entry_at entries index)

@@ -1,7 +1,7 @@
 //! What descriptors say (Java Virtual Machine Specification, Java SE 7, section 4.3).
 
 ghost use Rattle.std.specs.Prelude.{◌≡◌, option_map, is_some, is_none, IfOk, IfSome, position};
-ghost use Rattle.par_single.specs.Descriptors.{Text, kind_at, alone, field_kind, kinds_at, result_kind, result_at, method_signature, kind_of, IsSaid, ends_name, object_to};
+ghost use Rattle.par_single.specs.Descriptors.{Text, kind_at, alone, field_kind, no_kinds, kinds_at, result_kind, method_signature, kind_of, IsSaid, ends_name, object_to};
 ghost use Rattle.par_single.specs.Links.{signature_said};
 
 use par_lexer::list::{List, NoMemory};
@@ -93,20 +93,32 @@ pub fn field_kind(alloc: Global, text: &[u8]) -> Result<Option<Kind>, NoMemory>
     }
 }
 
-/// What stands behind the kinds that a text begins with.
-fn behind_kinds(text: &[u8]) -> &[u8]
-    ensures { result.now ≡ (kinds_at text.now).1 }
+/// What stands behind the `)` that a text begins with.
+fn behind_end(text: &[u8]) -> Option<&[u8]>
+    ensures { option_map (λ behind. behind.now) result
+        ≡ option_map (λ found. found.1) (no_kinds text.now) }
+{
+    match text {
+        [b')', behind @ ..] => Some(behind),
+        _ => None,
+    }
+}
+
+/// What stands behind the kinds that a text begins with and the `)` that ends them.
+fn behind_kinds(text: &[u8]) -> Option<&[u8]>
+    ensures { option_map (λ behind. behind.now) result
+        ≡ option_map (λ found. found.1) (kinds_at text.now) }
 {
     let mut rest = text;
     while let Some((_, behind)) = kind_at(rest) {
         rest = behind;
     }
-    rest
+    behind_end(rest)
 }
 
-/// The kinds that a text begins with, each with a name of its own.
+/// The kinds that a text begins with, each with a name of its own, where `)` ends them.
 fn kinds(alloc: Global, text: &[u8]) -> Result<List<Kind>, NoMemory>
-    ensures { IfOk result (λ kinds. kinds ≡ (kinds_at text.now).0) }
+    ensures { IfOk result (λ kinds. IfSome (kinds_at text.now) (λ found. kinds ≡ found.0)) }
 {
     let mut kinds = List::new(alloc);
     let mut rest = text;
@@ -117,27 +129,27 @@ fn kinds(alloc: Global, text: &[u8]) -> Result<List<Kind>, NoMemory>
     Ok(kinds)
 }
 
-/// The kind of a result behind `)`.
-fn result_at(text: &[u8]) -> Option<Option<Said>>
-    ensures found { option_map (option_map kind_of) result ≡ result_at text.now }
+/// The kind of a result, `Some(None)` where there is no result.
+fn result_kind(text: &[u8]) -> Option<Option<Said>>
+    ensures found { option_map (option_map kind_of) result ≡ result_kind text.now }
     ensures named { IfSome result (λ gives. IfSome gives IsSaid) }
 {
-    match text {
-        [b')', b'V'] => Some(None),
-        [b')', rest @ ..] => field_said(rest).map(Some),
-        _ => None,
+    if text == b"V".as_slice() {
+        return Some(None);
     }
+    field_said(text).map(Some)
 }
 
 /// The kind of the result that the descriptor of a method says: none where it is no descriptor of
 /// a method, and `Some(None)` where the method gives no result.
+#[tactic(auto, using(crate::proofs::Following::signature_gives))]
 pub fn method_gives(text: &[u8]) -> Option<Option<Said>>
     ensures found { option_map (option_map kind_of) result
         ≡ option_map (λ signature. signature.gives) (method_signature text.now) }
     ensures named { IfSome result (λ gives. IfSome gives IsSaid) }
 {
     match text {
-        [b'(', rest @ ..] => result_at(behind_kinds(rest)),
+        [b'(', rest @ ..] => result_kind(behind_kinds(rest)?),
         _ => None,
     }
 }

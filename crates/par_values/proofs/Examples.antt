@@ -1,21 +1,23 @@
 -- Single instructions that the definitions are checked against: each reason by itself, which comes
 -- where several stand together, and what is done where none does.
 use Rattle.std.specs.Int.{int_wrap}
-use Rattle.std.proofs.Common.{◌≡◌, ℕ, Bool, true, false, List, [], ◌∷◌, Option, Some, None, pos, negsuc, refl, codes}
+use Rattle.std.proofs.Common.{◌≡◌, ℕ, ℤ, Bool, true, false, List, [], ◌∷◌, Option, Some, None, pos, negsuc, refl, codes}
 use Rattle.par_values.specs.declared.value.MVal.{MVal}
 use Rattle.par_values.specs.declared.value.MVal.TheVariants.{Int, Null, Ref}
 use Rattle.par_values.specs.declared.kind.Kind.{Kind}
-use Rattle.par_values.specs.declared.kind.Kind.TheVariants.{Number, Object}
-use Rattle.par_values.specs.declared.run.Event.TheVariants.{Set}
+use Rattle.par_values.specs.declared.kind.Kind.TheVariants.{Number, Object, AnyObject}
+use Rattle.par_values.specs.declared.run.Event.TheVariants.{Out, Set}
 use Rattle.par_values.specs.declared.run.Val.TheVariants as shown
 use Rattle.par_values.specs.declared.link.FieldLink.{FieldLink}
 use Rattle.par_values.specs.declared.link.MethodLink.{MethodLink}
 use Rattle.par_values.specs.declared.link.Target.{Target}
-use Rattle.par_values.specs.declared.link.Target.TheVariants.{Code}
-use Rattle.par_values.specs.Areas.{Name, Areas}
-use Rattle.par_values.specs.Operations.{Operation, Push, Load, Store, Add, GetStatic, PutStatic, InvokeStatic, InvokeSpecial, Leave, Misnamed}
+use Rattle.par_values.specs.declared.link.Target.TheVariants.{Input, Output, Code, Nothing}
+use Rattle.par_values.specs.declared.link.Link.TheVariants as link
+use Rattle.par_instr.specs.declared.instr.Instr.TheVariants.{AloadShort, IloadShort, Ldc, LdcW, Getstatic, Putstatic, Invokespecial, Invokestatic}
+use Rattle.par_values.specs.Areas.{Name, Areas, next, first_locals, first_value, shown_value}
+use Rattle.par_values.specs.Operations.{Operation, Push, Load, Store, Add, GetStatic, PutStatic, InvokeStatic, InvokeSpecial, Leave, Misnamed, operation}
 use Rattle.par_values.specs.Reasons.{Spot, reason}
-use Rattle.par_values.specs.Effects.{Goes, Happens, Calls, Throws, effect}
+use Rattle.par_values.specs.Effects.{Effect, Goes, Happens, Calls, Throws, effect}
 
 -- two classes, and a frame of a method without a result that has room for two operands
 abbrev classes : List Name
@@ -111,6 +113,50 @@ result_is_owed : reason classes (record plain { gives_nothing = false }) Leave (
 unfolding reason
 result_is_owed = refl
 
+receiver_below_its_arguments : why (InvokeSpecial (method false (Number ∷ []) false (Code 0 0 2))) [] (Null ∷ Int (pos 1) ∷ []) ≡ Some 2
+unfolding reason
+receiver_below_its_arguments = refl
+
+number_as_an_object : why (Load 0 AnyObject) (Some (Int (pos 1)) ∷ []) [] ≡ Some 4
+unfolding reason
+number_as_an_object = refl
+
+object_as_a_number : why (Store 0) (None ∷ []) (Ref 0 0 ∷ []) ≡ Some 2
+unfolding reason
+object_as_a_number = refl
+
+load_out_of_range : why (Load 1 Number) (Some (Int (pos 1)) ∷ []) [] ≡ Some 4
+unfolding reason
+load_out_of_range = refl
+
+more_arguments_than_locals : why (InvokeStatic (method true (Number ∷ []) false (Code 0 0 0))) [] (Int (pos 1) ∷ []) ≡ Some 4
+unfolding reason
+more_arguments_than_locals = refl
+
+no_room_for_a_result : why (InvokeStatic (method true [] true (Code 0 0 0))) [] (Null ∷ Null ∷ []) ≡ Some 3
+unfolding reason
+no_room_for_a_result = refl
+
+no_room_for_a_special_result : why (InvokeSpecial (method false [] true (Code 0 0 1))) [] (Null ∷ Null ∷ Null ∷ []) ≡ Some 3
+unfolding reason
+no_room_for_a_special_result = refl
+
+no_room_for_a_sum : reason classes (record plain { room = 0 }) Add (areas [] (Int (pos 1) ∷ Int (pos 2) ∷ [])) ≡ Some 3
+unfolding reason
+no_room_for_a_sum = refl
+
+no_room_for_a_local : why (Load 0 Number) (Some (Int (pos 1)) ∷ []) (Null ∷ Null ∷ []) ≡ Some 3
+unfolding reason
+no_room_for_a_local = refl
+
+no_room_for_a_field : why (GetStatic (field true Number)) [] (Null ∷ Null ∷ []) ≡ Some 3
+unfolding reason
+no_room_for_a_field = refl
+
+write_of_a_field_of_an_object : why (PutStatic (field false Number)) [] (Int (pos 1) ∷ []) ≡ Some 7
+unfolding reason
+write_of_a_field_of_an_object = refl
+
 -- ---- several together: the least is told, also before null is acted on
 
 missing_first : reason classes (record plain { stands = false }) (Misnamed 1 0) (areas [] []) ≡ Some 1
@@ -135,7 +181,144 @@ return_at_the_end : reason classes (record plain { stands = false }) Leave (area
 unfolding reason
 return_at_the_end = refl
 
+objects_of_every_class : why (Load 0 AnyObject) (Some (Ref 1 3) ∷ []) [] ≡ None
+unfolding reason
+objects_of_every_class = refl
+
+null_of_every_class : why (Load 0 AnyObject) (Some Null ∷ []) [] ≡ None
+unfolding reason
+null_of_every_class = refl
+
+null_of_one_class : why (PutStatic (field true (Object (codes "A")))) [] (Null ∷ []) ≡ None
+unfolding reason
+null_of_one_class = refl
+
+object_of_its_class : why (PutStatic (field true (Object (codes "B")))) [] (Ref 1 0 ∷ []) ≡ None
+unfolding reason
+object_of_its_class = refl
+
+any_value_where_none_is_named : why (Misnamed 1 0) [] (Int (pos 1) ∷ []) ≡ Some 6
+unfolding reason
+any_value_where_none_is_named = refl
+
+push_into_the_last_room : why (Push (pos 1)) [] (Null ∷ []) ≡ None
+unfolding reason
+push_into_the_last_room = refl
+
+sum_in_the_room_of_its_parts : why Add [] (Int (pos 1) ∷ Int (pos 2) ∷ []) ≡ None
+unfolding reason
+sum_in_the_room_of_its_parts = refl
+
+write_makes_room : reason classes (record plain { room = 0 }) (PutStatic (field true Number)) (areas [] (Int (pos 1) ∷ [])) ≡ None
+unfolding reason
+write_makes_room = refl
+
+store_makes_room : reason classes (record plain { room = 0 }) (Store 0) (areas (None ∷ []) (Int (pos 1) ∷ [])) ≡ None
+unfolding reason
+store_makes_room = refl
+
+channel_needs_no_locals : why (InvokeStatic (method true (Number ∷ []) false (Output (codes "A") (codes "out")))) [] (Int (pos 1) ∷ []) ≡ None
+unfolding reason
+channel_needs_no_locals = refl
+
+-- ---- what an instruction is to do
+
+object_local : operation (λ n. link.Other) (AloadShort 2) ≡ Load 2 AnyObject
+object_local = refl
+
+number_local : operation (λ n. link.Other) (IloadShort 2) ≡ Load 2 Number
+number_local = refl
+
+constant_of_a_field : operation (λ n. link.Field (field true Number)) (Ldc 1) ≡ Misnamed 0 1
+constant_of_a_field = refl
+
+read_of_a_number : operation (λ n. link.Number (pos 5)) (Getstatic 1) ≡ Misnamed 0 1
+read_of_a_number = refl
+
+write_of_a_number : operation (λ n. link.Number (pos 5)) (Putstatic 1) ≡ Misnamed 1 0
+write_of_a_number = refl
+
+special_call_of_a_field : operation (λ n. link.Field (field true Number)) (Invokespecial 1) ≡ Misnamed 1 0
+special_call_of_a_field = refl
+
+call_of_a_field : operation (λ n. link.Field (field true Number)) (Invokestatic 1) ≡ Misnamed 0 0
+call_of_a_field = refl
+
+named_number : operation (λ n. link.Number (pos n)) (LdcW 300) ≡ Push (pos 300)
+named_number = refl
+
 -- ---- what is done
+
+number_is_pushed : effect classes (Push (pos 3)) (areas [] (Null ∷ [])) ≡ Goes (areas [] (Int (pos 3) ∷ Null ∷ []))
+unfolding effect
+number_is_pushed = refl
+
+local_is_pushed : effect classes (Load 1 Number) (areas (None ∷ Some (Int (pos 4)) ∷ []) []) ≡ Goes (areas (None ∷ Some (Int (pos 4)) ∷ []) (Int (pos 4) ∷ []))
+unfolding effect
+local_is_pushed = refl
+
+local_is_set : effect classes (Store 1) (areas (None ∷ None ∷ []) (Int (pos 4) ∷ Null ∷ [])) ≡ Goes (areas (None ∷ Some (Int (pos 4)) ∷ []) (Null ∷ []))
+unfolding effect
+local_is_set = refl
+
+field_is_pushed : effect classes (GetStatic (field true Number)) (areas [] []) ≡ Goes (areas [] (Int (pos 7) ∷ []))
+unfolding effect
+field_is_pushed = refl
+
+number_is_put_out : effect classes (InvokeStatic (method true (Number ∷ []) false (Output (codes "A") (codes "out")))) (areas [] (Int (pos 4) ∷ Null ∷ []))
+    ≡ Happens (Out (codes "A") (codes "out") (pos 4)) (areas [] (Null ∷ []))
+unfolding effect
+number_is_put_out = refl
+
+nothing_takes_its_object : effect classes (InvokeSpecial (method false [] false Nothing)) (areas [] (Ref 0 9 ∷ Null ∷ [])) ≡ Goes (areas [] (Null ∷ []))
+unfolding effect
+nothing_takes_its_object = refl
+
+-- the input list of a channel after a number is taken from the channel `in` of `A`
+abbrev left_after : Effect → Name → Name → List ℤ
+left_after (Goes a) class name = a.inputs class name
+left_after _ class name = []
+
+abbrev operands_after : Effect → List MVal
+operands_after (Goes a) = a.operands
+operands_after _ = []
+
+abbrev input : Effect
+input = effect classes (InvokeStatic (method true [] true (Input (codes "A") (codes "in")))) (areas [] (Null ∷ []))
+
+number_is_taken : operands_after input ≡ Int (pos 5) ∷ Null ∷ []
+unfolding effect
+number_is_taken = refl
+
+taken_number_is_gone : left_after input (codes "A") (codes "in") ≡ pos 6 ∷ []
+unfolding effect
+taken_number_is_gone = refl
+
+other_channel_is_whole : left_after input (codes "A") (codes "more") ≡ pos 5 ∷ pos 6 ∷ []
+unfolding effect
+other_channel_is_whole = refl
+
+channel_of_another_class_is_whole : left_after input (codes "B") (codes "in") ≡ pos 5 ∷ pos 6 ∷ []
+unfolding effect
+channel_of_another_class_is_whole = refl
+
+spent_list_gives_0 : next [] ≡ pos 0
+spent_list_gives_0 = refl
+
+arguments_stand_first : first_locals 3 (Int (pos 1) ∷ Null ∷ []) ≡ Some (Int (pos 1)) ∷ Some Null ∷ None ∷ []
+arguments_stand_first = refl
+
+number_begins_as_0 : first_value Number ≡ Int (pos 0)
+number_begins_as_0 = refl
+
+object_begins_as_null : first_value (Object (codes "A")) ≡ Null
+object_begins_as_null = refl
+
+numbers_are_shown : shown_value classes (Int (pos 4)) ≡ shown.Int (pos 4)
+numbers_are_shown = refl
+
+null_is_shown : shown_value classes Null ≡ shown.Null
+null_is_shown = refl
 
 sum_wraps : effect classes Add (areas [] (Int (pos 1) ∷ Int (pos 2147483647) ∷ [])) ≡ Goes (areas [] (Int (negsuc 2147483647) ∷ []))
 unfolding effect int_wrap

@@ -1,6 +1,6 @@
 -- What an instruction reads and writes: locals and operands of its frame, static fields and input
 -- lists of the program (Java Virtual Machine Specification, Java SE 7, sections 2.5 and 2.6).
-use Rattle.std.specs.Prelude.{ℕ, Bool, true, false, ◌&&◌, not, if◌then◌else◌, ℤ, pos, List, [], ◌∷◌, ◌++◌, Option, Some, None, slice_get, slice_set, map, replicate, length, ◌-◌, drop}
+use Rattle.std.specs.Prelude.{ℕ, Bool, true, false, ◌&&◌, if◌then◌else◌, ℤ, pos, List, [], ◌∷◌, ◌++◌, Option, Some, None, slice_get, slice_set, map, replicate, length, ◌-◌, drop}
 use Rattle.std.specs.Str.{bytes_eq}
 use Rattle.par_values.specs.declared.value.MVal.{MVal}
 use Rattle.par_values.specs.declared.value.MVal.TheVariants.{Int, Null, Ref}
@@ -106,7 +106,8 @@ left (n ∷ ns) = ns
 
 -- the input lists after a number is taken from one
 abbrev pub taken_from : Name → Name → InputLists → InputLists
-taken_from class name inputs c n = if bytes_eq c class && bytes_eq n name then left (inputs c n) else inputs c n
+taken_from class name inputs c n =
+    if bytes_eq c class && bytes_eq n name then left (inputs c n) else inputs c n
 
 abbrev pub take_input : Name → Name → Areas → Areas
 take_input class name a = record a { inputs = taken_from class name a.inputs }

@@ -2,11 +2,10 @@
 use Rattle.std.specs.Prelude.{ℕ, suc, ◌+◌, ◌-◌, Bool, true, false, not, ◌&&◌, nat_lt, List, [], ◌∷◌, length, Option, Some, None}
 use Rattle.par_values.specs.declared.value.MVal.{MVal}
 use Rattle.par_values.specs.declared.kind.Kind.{Kind}
-use Rattle.par_values.specs.declared.link.MethodLink.{MethodLink}
 use Rattle.par_values.specs.declared.link.Target.{Target}
-use Rattle.par_values.specs.declared.link.Target.TheVariants.{Input, Output, Code, Nothing}
+use Rattle.par_values.specs.declared.link.Target.TheVariants.{Code}
 use Rattle.par_values.specs.Areas.{Name, Areas, fits, local_at}
-use Rattle.par_values.specs.Operations.{Operation, Push, Load, Store, Add, GetStatic, PutStatic, InvokeStatic, InvokeSpecial, Leave, Misnamed, takes, gives}
+use Rattle.par_values.specs.Operations.{Operation, Load, Store, GetStatic, PutStatic, InvokeStatic, InvokeSpecial, Leave, Misnamed, takes, gives}
 
 -- 1: an operand is missing
 abbrev pub lacks : Operation → Areas → Bool
