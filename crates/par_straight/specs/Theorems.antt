@@ -11,7 +11,8 @@ use Rattle.par_straight.specs.Subject.{subject}
 
 -- the program of an accepted source is secure
 abbrev pub AcceptedIsSecure : Type 0
-AcceptedIsSecure = (source : List ℕ) (p : Program) → HasProgram source p → IsAccepted p → Secure (subject p)
+AcceptedIsSecure =
+    (source : List ℕ) (p : Program) → HasProgram source p → IsAccepted p → Secure (subject p)
 
 -- a run with a greater bound goes on where one with a smaller bound was stopped
 abbrev pub MoreStepsExtend : Type 0
