@@ -10,3 +10,4 @@ pub mod Telling
 pub mod Written
 pub mod Paid
 pub mod Going
+pub mod Places

@@ -20,4 +20,6 @@ clause_of p = record { actor = p.actor; locks = p.locks }
 -- the channel is no input, or not seen, or both inputs give it the same
 abbrev pub gives_alike : Inputs → Inputs → Name → Observer → Channel → Bool
 gives_alike a b class o c =
-    if c.is_input && list_any (λ p. allows o.actor o.locks (clause_of p)) c.policy then pointwise int_eq (given a.channels class c.name) (given b.channels class c.name) else true
+    if c.is_input && list_any (λ p. allows o.actor o.locks (clause_of p)) c.policy
+    then pointwise int_eq (given a.channels class c.name) (given b.channels class c.name)
+    else true

@@ -18,12 +18,17 @@ IsAmong (q ∷ qs) p = IsSeenAlike p q ⊎ IsAmong qs p
 -- So many of the policies differ, where policies that the same observers see are one.
 pub data Distinct : List Policy → ℕ → Type 0 where
   none : Distinct [] 0
-  again : {p : Policy} {ps : List Policy} {n : ℕ} → IsAmong ps p → Distinct ps n → Distinct (p ∷ ps) n
-  another : {p : Policy} {ps : List Policy} {n : ℕ} → (IsAmong ps p → ⊥) → Distinct ps n → Distinct (p ∷ ps) (suc n)
+  again : {p : Policy} {ps : List Policy} {n : ℕ}
+      → IsAmong ps p → Distinct ps n → Distinct (p ∷ ps) n
+  another : {p : Policy} {ps : List Policy} {n : ℕ}
+      → (IsAmong ps p → ⊥) → Distinct ps n → Distinct (p ∷ ps) (suc n)
 
 -- the policies of a source: bottom, and those of its members
 abbrev pub policies : Source → List Policy
-policies tree = bottom (length tree.actors) ∷ map (λ m. policy_of (numbered_policy (names tree.actors) (names tree.locks) m.policy)) tree.members
+policies tree =
+    bottom (length tree.actors)
+    ∷ map (λ m. policy_of (numbered_policy (names tree.actors) (names tree.locks) m.policy))
+    tree.members
 
 -- at most so many of the policies differ
 abbrev pub HasAtMost : ℕ → List Policy → Type 0

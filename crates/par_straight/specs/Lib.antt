@@ -7,6 +7,7 @@ pub mod Rules
 pub mod Judged
 pub mod Meaning
 pub mod Subject
+pub mod Places
 pub mod Theorems
 pub mod Alike
 pub mod Progress

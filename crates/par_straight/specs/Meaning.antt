@@ -1,6 +1,7 @@
 -- What a straight-line program does. A rest is what happens from a state on, within the steps that
 -- are left; each form takes the rest that follows it. Entering a node costs one step.
-use Rattle.std.specs.Prelude.{ℕ, zero, suc, ◌==◌, nat_lt, if◌then◌else◌, List, [], ◌∷◌, length, Option, Some, None, slice_get, codes, ℤ, pos, ◌+ℤ◌}
+use Rattle.std.specs.Prelude.{ℕ, zero, suc, ◌==◌, nat_lt, if◌then◌else◌, List, [], ◌∷◌, length}
+use Rattle.std.specs.Prelude.{Option, Some, None, slice_get, codes, ℤ, pos, ◌+ℤ◌}
 use Rattle.std.specs.Int.{int_wrap, w32}
 use Rattle.par_values.specs.declared.run.Event.{Event}
 use Rattle.par_values.specs.declared.run.Event.TheVariants.{Out, Set}
@@ -108,8 +109,11 @@ channel_name p c = channel_name_of (slice_get p.channels c)
 -- A call of an output is a node below its statement; the target of an assignment is none.
 abbrev pub act : Program → Action → Rest → Rest
 act p (SetLocal x os) rest = enter (sum os (λ v. change (set_local x v) rest))
-act p (SetField f os) rest = enter (sum os (λ v. happen (Set p.class (field_name p f) (Int v)) (change (set_field f v) rest)))
-act p (Output c os) rest = enter (enter (sum os (λ v. happen (Out p.class (channel_name p c) v) rest)))
+act p (SetField f os) rest =
+    enter (sum os
+    (λ v. happen (Set p.class (field_name p f) (Int v)) (change (set_field f v) rest)))
+act p (Output c os) rest =
+    enter (enter (sum os (λ v. happen (Out p.class (channel_name p c) v) rest)))
 act p (Open l) rest = enter (change (open_lock l) rest)
 
 abbrev pub all : Program → List Step → Rest → Rest
@@ -119,7 +123,8 @@ all p (s ∷ ss) rest = act p s.action (all p ss rest)
 -- what an input channel gives, by its class and name
 abbrev pub input_list : Name → Inputs → Option Channel → List ℤ
 input_list class inputs None = []
-input_list class inputs (Some channel) = if channel.is_input then given inputs.channels class channel.name else []
+input_list class inputs (Some channel) =
+    if channel.is_input then given inputs.channels class channel.name else []
 
 -- all locals and fields 0, each input list whole, no lock open
 abbrev pub start : Program → Inputs → State

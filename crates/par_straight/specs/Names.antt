@@ -1,5 +1,6 @@
 -- What each name of a straight-line source stands for: the program with numbers in place of names.
-use Rattle.std.specs.Prelude.{ℕ, pos, suc, Bool, true, false, not, if◌then◌else◌, List, [], ◌∷◌, ◌++◌, map, filter, length}
+use Rattle.std.specs.Prelude.{ℕ, pos, suc, Bool, true, false, not, if◌then◌else◌, List, [], ◌∷◌}
+use Rattle.std.specs.Prelude.{◌++◌, map, filter, length}
 use Rattle.std.specs.List.{list_any}
 use Rattle.std.specs.Str.{bytes_eq}
 use Rattle.par_straight.specs.declared.tree.Ident.{Ident}
@@ -80,31 +81,47 @@ scope_of tree = record {
 }
 
 abbrev pub numbered_clause : List Name → List Name → ClauseTree → Permission
-numbered_clause actors locks c = record { actor = place_of actors c.actor.name; locks = map (λ l. place_of locks l.name) c.locks }
+numbered_clause actors locks c = record {
+  actor = place_of actors c.actor.name;
+  locks = map (λ l. place_of locks l.name) c.locks;
+}
 
 abbrev pub numbered_policy : List Name → List Name → List ClauseTree → List Permission
 numbered_policy actors locks cs = map (numbered_clause actors locks) cs
 
 abbrev pub numbered_field : List Name → List Name → Member → Field
-numbered_field actors locks m = record { name = m.id.name; policy = numbered_policy actors locks m.policy }
+numbered_field actors locks m = record {
+  name = m.id.name;
+  policy = numbered_policy actors locks m.policy;
+}
 
 abbrev pub numbered_channel : List Name → List Name → Member → Channel
-numbered_channel actors locks m = record { name = m.id.name; is_input = kind_is_input m.kind; policy = numbered_policy actors locks m.policy }
+numbered_channel actors locks m = record {
+  name = m.id.name;
+  is_input = kind_is_input m.kind;
+  policy = numbered_policy actors locks m.policy;
+}
 
 -- The locals are those declared so far; a local hides a field of its name.
 abbrev pub numbered_term : Scope → List Name → Term → Operand
 numbered_term scope locals (term.Constant n) = operand.Constant (pos n)
-numbered_term scope locals (term.Variable id) = if among locals id.name then operand.Local (place_of locals id.name) else operand.Field (place_of scope.fields id.name)
+numbered_term scope locals (term.Variable id) =
+    if among locals id.name then operand.Local (place_of locals id.name)
+    else operand.Field (place_of scope.fields id.name)
 numbered_term scope locals (term.Input id) = operand.Input (place_of scope.channels id.name)
 
 abbrev pub numbered_sum : Scope → List Name → List Term → List Operand
 numbered_sum scope locals ts = map (numbered_term scope locals) ts
 
 abbrev pub numbered_action : Scope → List Name → Statement → Action
-numbered_action scope locals (statement.Local id ts) = action.SetLocal (length locals) (numbered_sum scope locals ts)
+numbered_action scope locals (statement.Local id ts) =
+    action.SetLocal (length locals) (numbered_sum scope locals ts)
 numbered_action scope locals (statement.Assign id ts) =
-    if among locals id.name then action.SetLocal (place_of locals id.name) (numbered_sum scope locals ts) else action.SetField (place_of scope.fields id.name) (numbered_sum scope locals ts)
-numbered_action scope locals (statement.Call id ts) = action.Output (place_of scope.channels id.name) (numbered_sum scope locals ts)
+    if among locals id.name
+    then action.SetLocal (place_of locals id.name) (numbered_sum scope locals ts)
+    else action.SetField (place_of scope.fields id.name) (numbered_sum scope locals ts)
+numbered_action scope locals (statement.Call id ts) =
+    action.Output (place_of scope.channels id.name) (numbered_sum scope locals ts)
 numbered_action scope locals (statement.Open id) = action.Open (place_of scope.locks id.name)
 
 -- the place that a refusal of the statement names
@@ -123,7 +140,9 @@ declares (statement.Open id) locals = locals
 
 abbrev pub numbered_steps : Scope → List Name → List Statement → List Step
 numbered_steps scope locals [] = []
-numbered_steps scope locals (s ∷ ss) = record { action = numbered_action scope locals s; at = place s } ∷ numbered_steps scope (declares s locals) ss
+numbered_steps scope locals (s ∷ ss) =
+    record { action = numbered_action scope locals s; at = place s }
+    ∷ numbered_steps scope (declares s locals) ss
 
 abbrev pub numbered : Source → Program
 numbered tree =

@@ -1,5 +1,6 @@
 -- A source run in hand: how far it has come, and what each statement makes of it.
-use Rattle.std.specs.Prelude.{ℕ, ◌+◌, ◌*◌, ◌==◌, if◌then◌else◌, List, [], ◌∷◌, ◌++◌, length, map, drop, slice_get, ℤ, pos, ◌+ℤ◌}
+use Rattle.std.specs.Prelude.{ℕ, ◌+◌, ◌*◌, ◌==◌, if◌then◌else◌, List, [], ◌∷◌, ◌++◌, length, map}
+use Rattle.std.specs.Prelude.{drop, slice_get, ℤ, pos, ◌+ℤ◌}
 use Rattle.std.specs.List.{fold, count_by}
 use Rattle.std.specs.Int.{int_wrap, w32}
 use Rattle.par_values.specs.declared.run.Event.TheVariants.{Out, Set}
@@ -15,7 +16,8 @@ use Rattle.par_straight.specs.declared.source_run.SourceEvent.{SourceEvent}
 use Rattle.par_straight.specs.declared.source_run.SourceRun.{SourceRun}
 use Rattle.par_straight.specs.declared.progress.Write.{Write}
 use Rattle.par_straight.specs.declared.progress.Progress.{Progress}
-use Rattle.par_straight.specs.Meaning.{State, next, set_local, set_field, take_input, open_lock, field_name, channel_name, input_list}
+use Rattle.par_straight.specs.Meaning.{State, next, set_local, set_field, take_input, open_lock}
+use Rattle.par_straight.specs.Meaning.{field_name, channel_name, input_list}
 
 abbrev pub witnesses : List SourceEvent → List Witnessed
 witnesses es = map (λ e. record { event = e.event; locks = e.locks }) es
@@ -30,7 +32,8 @@ written ws x = fold (λ n w. if x == w.place then w.number else n) (pos 0) ws
 
 -- an input list without the numbers that were taken
 abbrev pub untaken : Program → Inputs → List ℕ → ℕ → List ℤ
-untaken p inputs taken c = drop (count_by (λ d. d == c) taken) (input_list p.class inputs (slice_get p.channels c))
+untaken p inputs taken c =
+    drop (count_by (λ d. d == c) taken) (input_list p.class inputs (slice_get p.channels c))
 
 abbrev pub state_of : Program → Inputs → Progress → State
 state_of p inputs m = record {
@@ -83,8 +86,10 @@ after_action (Open l) s = open_lock l s
 
 abbrev pub events_of : Program → Action → State → List Witnessed
 events_of p (SetLocal x os) s = []
-events_of p (SetField f os) s = record { event = Set p.class (field_name p f) (Int (sum_value os s)); locks = s.locks } ∷ []
-events_of p (Output c os) s = record { event = Out p.class (channel_name p c) (sum_value os s); locks = s.locks } ∷ []
+events_of p (SetField f os) s =
+    record { event = Set p.class (field_name p f) (Int (sum_value os s)); locks = s.locks } ∷ []
+events_of p (Output c os) s =
+    record { event = Out p.class (channel_name p c) (sum_value os s); locks = s.locks } ∷ []
 events_of p (Open l) s = []
 
 -- the events first, and then the run

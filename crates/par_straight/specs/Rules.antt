@@ -1,5 +1,6 @@
 -- The flow rules of straight-line programs: what each sum is worth, and where it may go.
-use Rattle.std.specs.Prelude.{ℕ, zero, suc, ◌==◌, if◌then◌else◌, List, [], ◌∷◌, ◌++◌, map, Option, Some, None}
+use Rattle.std.specs.Prelude.{ℕ, zero, suc, ◌==◌, if◌then◌else◌, List, [], ◌∷◌, ◌++◌, map, Option}
+use Rattle.std.specs.Prelude.{Some, None}
 use Rattle.std.specs.List.{slice_get}
 use Rattle.par_policy.specs.declared.clauses.Clause.{Clause}
 use Rattle.par_policy.specs.Order.{IsJoinBelowAt}
@@ -60,7 +61,8 @@ sum_policy p env (o ∷ os) = operand_policy p env o ++ sum_policy p env os
 abbrev pub put : {A : Type 0} → (ℕ → A) → ℕ → A → ℕ → A
 put f x value y = if y == x then value else f y
 
--- What is known before a statement: the value policies of the locals, and the locks that earlier statements opened.
+-- What is known before a statement: the value policies of the locals, and the locks that earlier
+-- statements opened.
 pub record Facts : Type 0 where
   pub env : Environment
   pub locks : List ℕ
@@ -69,16 +71,20 @@ abbrev pub first_facts : Program → Facts
 first_facts p = record { env = λ x. bottom p.actors ∷ []; locks = [] }
 
 abbrev pub facts_after : Program → Facts → Action → Facts
-facts_after p facts (SetLocal x os) = record { env = put facts.env x (sum_policy p facts.env os); locks = facts.locks }
+facts_after p facts (SetLocal x os) =
+    record { env = put facts.env x (sum_policy p facts.env os); locks = facts.locks }
 facts_after p facts (SetField f os) = facts
 facts_after p facts (Output c os) = facts
 facts_after p facts (Open l) = record { env = facts.env; locks = l ∷ facts.locks }
 
--- The value of what is written, specialised to the open locks, is below the policy of the field or the channel.
+-- The value of what is written, specialised to the open locks, is below the policy of the field or
+-- the channel.
 abbrev pub Passes : Program → Facts → Action → Type 0
 Passes p facts (SetLocal x os) = Unit {0}
-Passes p facts (SetField f os) = IsJoinBelowAt (sum_policy p facts.env os) facts.locks (field_policy p f)
-Passes p facts (Output c os) = IsJoinBelowAt (sum_policy p facts.env os) facts.locks (channel_policy p c)
+Passes p facts (SetField f os) =
+    IsJoinBelowAt (sum_policy p facts.env os) facts.locks (field_policy p f)
+Passes p facts (Output c os) =
+    IsJoinBelowAt (sum_policy p facts.env os) facts.locks (channel_policy p c)
 Passes p facts (Open l) = Unit {0}
 
 -- the rule that a statement can break, by its number
@@ -94,9 +100,11 @@ AllPass p facts (s ∷ ss) = Passes p facts s.action × AllPass p (facts_after p
 
 -- the first statement that does not pass breaks this rule, at this place
 pub data FirstBroken (p : Program) : Facts → List Step → ℕ → ℕ → Type 0 where
-  here : {facts : Facts} {s : Step} {ss : List Step} → (Passes p facts s.action → ⊥) → FirstBroken p facts (s ∷ ss) (rule s.action) s.at
+  here : {facts : Facts} {s : Step} {ss : List Step} → (Passes p facts s.action → ⊥)
+      → FirstBroken p facts (s ∷ ss) (rule s.action) s.at
   later : {facts : Facts} {s : Step} {ss : List Step} {number at : ℕ} → Passes p facts s.action
-      → FirstBroken p (facts_after p facts s.action) ss number at → FirstBroken p facts (s ∷ ss) number at
+      → FirstBroken p (facts_after p facts s.action) ss number at
+      → FirstBroken p facts (s ∷ ss) number at
 
 abbrev pub IsAccepted : Program → Type 0
 IsAccepted p = AllPass p (first_facts p) p.steps

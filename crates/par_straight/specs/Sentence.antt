@@ -10,4 +10,7 @@ use Rattle.par_straight.specs.Values as value
 
 -- the tokens are derived, and this is their tree
 abbrev pub HasTree : List Token → Source → Type 0
-HasTree tokens tree = (i : Input) × Comes straight (state (name grammar.Source ∷ []) (whole tokens) []) (Ok (value.whole tree ∷ [], i))
+HasTree tokens tree =
+    (i : Input)
+    × Comes straight (state (name grammar.Source ∷ []) (whole tokens) [])
+    (Ok (value.whole tree ∷ [], i))

@@ -14,23 +14,29 @@ use Rattle.par_straight.specs.Meaning.{source_run}
 -- the policy of the channel of this name
 abbrev pub policy_of_channel : List Channel → Name → Policy
 policy_of_channel [] name = []
-policy_of_channel (c ∷ cs) name = if bytes_eq c.name name then policy_of c.policy else policy_of_channel cs name
+policy_of_channel (c ∷ cs) name =
+    if bytes_eq c.name name then policy_of c.policy else policy_of_channel cs name
 
 -- the policy of the field of this name
 abbrev pub policy_of_field : List Field → Name → Policy
 policy_of_field [] name = []
-policy_of_field (f ∷ fs) name = if bytes_eq f.name name then policy_of f.policy else policy_of_field fs name
+policy_of_field (f ∷ fs) name =
+    if bytes_eq f.name name then policy_of f.policy else policy_of_field fs name
 
--- An event has the policy of its channel or its static field; a straight-line program makes no other event.
+-- An event has the policy of its channel or its static field; a straight-line program makes no
+-- other event.
 abbrev pub event_policy : Program → Event → Policy
-event_policy p (Out class channel v) = if bytes_eq class p.class then policy_of_channel p.channels channel else []
-event_policy p (Set class field v) = if bytes_eq class p.class then policy_of_field p.fields field else []
+event_policy p (Out class channel v) =
+    if bytes_eq class p.class then policy_of_channel p.channels channel else []
+event_policy p (Set class field v) =
+    if bytes_eq class p.class then policy_of_field p.fields field else []
 event_policy p (Put class n field v) = []
 event_policy p (Born class n) = []
 
 abbrev pub input_channels : Program → List InputChannel
 input_channels p =
-    map (λ c. record { class = p.class; name = c.name; policy = policy_of c.policy }) (filter (λ c. c.is_input) p.channels)
+    map (λ c. record { class = p.class; name = c.name; policy = policy_of c.policy })
+    (filter (λ c. c.is_input) p.channels)
 
 abbrev pub subject : Program → Subject
 subject p = record {

@@ -13,7 +13,10 @@ use Rattle.par_straight.specs.declared.tree.Term.TheVariants as leaf
 use Rattle.par_straight.specs.declared.tree.Statement.{Statement}
 use Rattle.par_straight.specs.declared.tree.Statement.TheVariants as statement
 use Rattle.par_straight.specs.declared.tree.Source.{Source}
-use Rattle.par_straight.specs.Grammar.{Names, Builders, NoIdents, NextIdent, NoClauses, NextClause, NoMembers, NextMember, NoTerms, NextTerm, Constant, Variable, Reading, NoStatements, NextLocal, NextAssign, NextCall, NextOpen, Whole, choices, otherwise}
+use Rattle.par_straight.specs.Grammar.{Names, Builders, NoIdents, NextIdent, NoClauses, NextClause}
+use Rattle.par_straight.specs.Grammar.{NoMembers, NextMember, NoTerms, NextTerm, Constant, Variable}
+use Rattle.par_straight.specs.Grammar.{Reading, NoStatements, NextLocal, NextAssign, NextCall}
+use Rattle.par_straight.specs.Grammar.{NextOpen, Whole, choices, otherwise}
 
 pub data Value : Type 0 where
   -- a token that is kept: a name, a number, or one that nothing is built of
@@ -45,11 +48,13 @@ next_ident (id x ∷ ids xs ∷ vs) = ids (xs ++ x ∷ []) ∷ vs
 next_ident vs = vs
 
 abbrev pub next_clause : Values → Values
-next_clause (ids needed ∷ id actor ∷ clauses cs ∷ vs) = clauses (cs ++ record { actor = actor; locks = needed } ∷ []) ∷ vs
+next_clause (ids needed ∷ id actor ∷ clauses cs ∷ vs) =
+    clauses (cs ++ record { actor = actor; locks = needed } ∷ []) ∷ vs
 next_clause vs = vs
 
 abbrev pub next_member : MemberKind → Values → Values
-next_member k (id x ∷ clauses policy ∷ members ms ∷ vs) = members (ms ++ record { kind = k; id = x; policy = policy } ∷ []) ∷ vs
+next_member k (id x ∷ clauses policy ∷ members ms ∷ vs) =
+    members (ms ++ record { kind = k; id = x; policy = policy } ∷ []) ∷ vs
 next_member k vs = vs
 
 abbrev pub next_term : Values → Values
@@ -73,7 +78,8 @@ next_local (sum ts ∷ id x ∷ statements ss ∷ vs) = statements (ss ++ statem
 next_local vs = vs
 
 abbrev pub next_assign : Values → Values
-next_assign (sum ts ∷ id x ∷ statements ss ∷ vs) = statements (ss ++ statement.Assign x ts ∷ []) ∷ vs
+next_assign (sum ts ∷ id x ∷ statements ss ∷ vs) =
+    statements (ss ++ statement.Assign x ts ∷ []) ∷ vs
 next_assign vs = vs
 
 abbrev pub next_call : Values → Values
@@ -86,7 +92,14 @@ next_open vs = vs
 
 abbrev pub build_whole : Values → Values
 build_whole (statements ss ∷ id method ∷ members ms ∷ id class ∷ ids locks ∷ ids actors ∷ vs) =
-    whole (record { actors = actors; locks = locks; class = class; members = ms; method = method; statements = ss }) ∷ vs
+    whole (record {
+      actors = actors;
+      locks = locks;
+      class = class;
+      members = ms;
+      method = method;
+      statements = ss;
+    }) ∷ vs
 build_whole vs = vs
 
 abbrev pub built : Builders → Values → Values

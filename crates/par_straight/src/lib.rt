@@ -17,7 +17,10 @@ mod runner;
 pub mod source_run;
 pub mod tree;
 
-pub use law::{accepted_is_secure, more_steps_extend};
+pub use law::{
+    accepted_is_secure, more_steps_extend, refusals_are_at_the_least_place,
+    statements_stand_in_order,
+};
 pub use lines::given;
 pub use memory::NoMemory;
 pub use observers::alike;

@@ -23,7 +23,9 @@ pub fn alike(a: &Inputs, b: &Inputs, program: &Program, actor: u8, locks: &Locks
 }
 
 fn give_alike(a: &Inputs, b: &Inputs, program: &Program, actor: u8, locks: &Lockset) -> bool
-    ensures { result ≡ list_all (λ c. gives_alike a.now b.now program.now.class (observer actor locks.now) c) program.now.channels }
+    ensures { result
+        ≡ list_all (λ c. gives_alike a.now b.now program.now.class (observer actor locks.now) c)
+        program.now.channels }
 {
     program.channels.as_slice().iter().all(|channel| gives_alike(
         a,
@@ -53,7 +55,8 @@ fn gives_alike(
 }
 
 fn sees(channel: &Channel, actor: u8, locks: &Lockset) -> bool
-    ensures { result ≡ list_any (λ p. policy.allows actor locks.now (clause_of p)) channel.now.policy }
+    ensures { result
+        ≡ list_any (λ p. policy.allows actor locks.now (clause_of p)) channel.now.policy }
 {
     channel
         .policy

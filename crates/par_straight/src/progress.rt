@@ -1,9 +1,11 @@
 // How far a source run has come.
-ghost use Rattle.std.specs.Prelude.{◌≡◌, ◌==◌, ◌+◌, [], ◌∷◌, ◌++◌, IfOk, OnOk, if◌then◌else◌, ℕ, slice_get, ◌+ℤ◌};
+ghost use Rattle.std.specs.Prelude.{◌≡◌, ◌==◌, ◌+◌, [], ◌∷◌, ◌++◌, IfOk, OnOk, if◌then◌else◌, ℕ};
+ghost use Rattle.std.specs.Prelude.{slice_get, ◌+ℤ◌};
 ghost use Rattle.std.specs.List.{fold, count_by};
 ghost use Rattle.std.specs.Int.{int_wrap, w32};
 ghost use Rattle.par_straight.specs.Meaning.{next, input_list};
-ghost use Rattle.par_straight.specs.Progress.{written, untaken, state_of, value_of, after_term, added_value, after_terms, sum_value};
+ghost use Rattle.par_straight.specs.Progress.{written, untaken, state_of, value_of, after_term};
+ghost use Rattle.par_straight.specs.Progress.{added_value, after_terms, sum_value};
 
 use crate::lines::given;
 use crate::memory::NoMemory;
@@ -59,9 +61,11 @@ impl Progress {
         inputs: &Inputs,
         operands: &[Operand],
     ) -> Result<i32, NoMemory>
-        ensures value { IfOk result (λ v. v ≡ sum_value operands.now (state_of program.now inputs.now self.old)) }
+        ensures value { IfOk result (λ v.
+            v ≡ sum_value operands.now (state_of program.now inputs.now self.old)) }
         ensures state { OnOk result (
-            state_of program.now inputs.now self.new ≡ after_terms operands.now (state_of program.now inputs.now self.old)) }
+            state_of program.now inputs.now self.new
+            ≡ after_terms operands.now (state_of program.now inputs.now self.old)) }
         ensures kept { self.new ≡ record self.old { taken = self.new.taken } }
     {
         match operands {
@@ -81,9 +85,11 @@ impl Progress {
         more: &[Operand],
         first: i32,
     ) -> Result<i32, NoMemory>
-        ensures value { IfOk result (λ v. v ≡ added_value more.now first (state_of program.now inputs.now self.old)) }
+        ensures value { IfOk result (λ v.
+            v ≡ added_value more.now first (state_of program.now inputs.now self.old)) }
         ensures state { OnOk result (
-            state_of program.now inputs.now self.new ≡ after_terms more.now (state_of program.now inputs.now self.old)) }
+            state_of program.now inputs.now self.new
+            ≡ after_terms more.now (state_of program.now inputs.now self.old)) }
         ensures kept { self.new ≡ record self.old { taken = self.new.taken } }
     {
         let mut sum = first;
@@ -100,9 +106,11 @@ impl Progress {
         inputs: &Inputs,
         operand: &Operand,
     ) -> Result<i32, NoMemory>
-        ensures value { IfOk result (λ v. v ≡ value_of operand.now (state_of program.now inputs.now self.old)) }
+        ensures value { IfOk result (λ v.
+            v ≡ value_of operand.now (state_of program.now inputs.now self.old)) }
         ensures state { OnOk result (
-            state_of program.now inputs.now self.new ≡ after_term operand.now (state_of program.now inputs.now self.old)) }
+            state_of program.now inputs.now self.new
+            ≡ after_term operand.now (state_of program.now inputs.now self.old)) }
         ensures kept { self.new ≡ record self.old { taken = self.new.taken } }
     {
         match operand {
@@ -141,7 +149,8 @@ fn last_written(writes: &[Write], place: u16) -> i32
 
 // The numbers that an input channel gives.
 fn numbers_of<'a>(program: &Program, inputs: &'a Inputs, channel: u16) -> &'a [i32]
-    ensures { result.now ≡ input_list program.now.class inputs.now (slice_get program.now.channels channel) }
+    ensures { result.now
+        ≡ input_list program.now.class inputs.now (slice_get program.now.channels channel) }
 {
     match program.channels.get(channel as usize) {
         Some(channel) if channel.is_input => given(inputs, &program.class, &channel.name),

@@ -1,7 +1,10 @@
 // A plain slow run of a straight-line program.
-ghost use Rattle.std.specs.Prelude.{◌≡◌, ◌<◌, ◌^◌, ◌+◌, ◌-◌, [], ◌∷◌, ◌++◌, IfOk, OnOk, IsTrue, IsFalse, nat_le, length};
-ghost use Rattle.par_straight.specs.Meaning.{source_run, set_local, set_field, open_lock, field_name, channel_name};
-ghost use Rattle.par_straight.specs.Progress.{run_of, witnesses, state_of, sum_value, sum_steps, steps_of, after_action, events_of};
+ghost use Rattle.std.specs.Prelude.{◌≡◌, ◌<◌, ◌^◌, ◌+◌, ◌-◌, [], ◌∷◌, ◌++◌, IfOk, OnOk, IsTrue};
+ghost use Rattle.std.specs.Prelude.{IsFalse, nat_le, length};
+ghost use Rattle.par_straight.specs.Meaning.{source_run, set_local, set_field, open_lock};
+ghost use Rattle.par_straight.specs.Meaning.{field_name, channel_name};
+ghost use Rattle.par_straight.specs.Progress.{run_of, witnesses, state_of, sum_value, sum_steps};
+ghost use Rattle.par_straight.specs.Progress.{steps_of, after_action, events_of};
 
 use crate::memory::NoMemory;
 use crate::program::{Action, Operand, Program};
@@ -60,7 +63,8 @@ impl Progress {
     // Takes so many steps, where they are left.
     fn enter(&mut self, steps: u64) -> bool
         ensures enough { result ≡ nat_le steps self.old.left }
-        ensures taken { IsTrue result → self.new ≡ record self.old { left = self.old.left - steps } }
+        ensures taken { IsTrue result
+            → self.new ≡ record self.old { left = self.old.left - steps } }
         ensures kept { IsFalse result → self.new ≡ self.old }
     {
         if steps <= self.left {
@@ -83,7 +87,9 @@ impl Progress {
     // Makes the event happen, with the locks that are open.
     fn happen(&mut self, event: Event) -> Result<(), NoMemory>
         ensures { OnOk result (
-            self.new ≡ record self.old { events = self.old.events ++ (record { event = event; locks = self.old.locks }) ∷ [] }) }
+            self.new ≡ record self.old {
+              events = self.old.events ++ (record { event = event; locks = self.old.locks }) ∷ [];
+            }) }
     {
         let locks = self.locks.clone()?;
         self.events.push(SourceEvent { event, locks })?;
@@ -99,10 +105,12 @@ impl Progress {
         action: &Action,
     ) -> Result<(), NoMemory>
         ensures state { OnOk result (
-            state_of program.now inputs.now self.new ≡ after_action action.now (state_of program.now inputs.now self.old)) }
+            state_of program.now inputs.now self.new
+            ≡ after_action action.now (state_of program.now inputs.now self.old)) }
         ensures events { OnOk result (
             witnesses self.new.events
-            ≡ witnesses self.old.events ++ events_of program.now action.now (state_of program.now inputs.now self.old)) }
+            ≡ witnesses self.old.events
+            ++ events_of program.now action.now (state_of program.now inputs.now self.old)) }
         ensures left { OnOk result (self.new.left ≡ self.old.left) }
     {
         match action {
@@ -133,7 +141,8 @@ impl Progress {
         number: i32,
     ) -> Result<(), NoMemory>
         ensures state { OnOk result (
-            state_of program.now inputs.now self.new ≡ set_local place number (state_of program.now inputs.now self.old)) }
+            state_of program.now inputs.now self.new
+            ≡ set_local place number (state_of program.now inputs.now self.old)) }
         ensures kept { self.new ≡ record self.old { locals = self.new.locals } }
     {
         self.locals.push(Write { place, number })?;
@@ -148,7 +157,8 @@ impl Progress {
         number: i32,
     ) -> Result<(), NoMemory>
         ensures state { OnOk result (
-            state_of program.now inputs.now self.new ≡ set_field place number (state_of program.now inputs.now self.old)) }
+            state_of program.now inputs.now self.new
+            ≡ set_field place number (state_of program.now inputs.now self.old)) }
         ensures kept { self.new ≡ record self.old { fields = self.new.fields } }
     {
         self.fields.push(Write { place, number })?;
@@ -157,7 +167,8 @@ impl Progress {
 
     fn open(&mut self, program: &Program, inputs: &Inputs, lock: u16) -> Result<(), NoMemory>
         ensures state { OnOk result (
-            state_of program.now inputs.now self.new ≡ open_lock lock (state_of program.now inputs.now self.old)) }
+            state_of program.now inputs.now self.new
+            ≡ open_lock lock (state_of program.now inputs.now self.old)) }
         ensures kept { self.new ≡ record self.old { locks = self.new.locks } }
     {
         if !self.locks.has(lock) {

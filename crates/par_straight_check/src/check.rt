@@ -22,7 +22,8 @@ pub struct Broken {
 /// that breaks a flow rule.
 pub fn check(alloc: Global, program: &Program) -> Result<Option<Broken>, NoMemory>
     ensures accepted { result ≡ Ok None → IsAccepted program.now }
-    ensures refused { IfOk result (λ answer. IfSome answer (λ broken. IsRefused program.now broken.rule broken.at)) }
+    ensures refused { IfOk result (λ answer.
+        IfSome answer (λ broken. IsRefused program.now broken.rule broken.at)) }
 {
     let table = Table::of(alloc, program)?;
     let mut known = Known {

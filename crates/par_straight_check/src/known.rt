@@ -1,7 +1,8 @@
 //! What is known before a statement: what each local is worth, and which locks are open.
 
 ghost use Rattle.std.specs.Prelude.{OnOk, IfOk};
-ghost use Rattle.par_straight_check.specs.Known.{IsWithin, AreWithin, JoinsTerm, IsWorthOf, TellsWhether, IsAfter};
+ghost use Rattle.par_straight_check.specs.Known.{IsWithin, AreWithin, JoinsTerm, IsWorthOf};
+ghost use Rattle.par_straight_check.specs.Known.{TellsWhether, IsAfter};
 
 use crate::table::Table;
 use crate::worth::Worth;

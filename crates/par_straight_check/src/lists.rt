@@ -13,7 +13,8 @@ use std::alloc::Global;
 // The policies of the fields, and the empty one behind them.
 pub(crate) fn field_policies(alloc: Global, fields: &[Field]) -> Result<Vec<Policy>, NoMemory>
     ensures ends { IfOk result (λ ps. EndsEmpty ps.items) }
-    ensures each { IfOk result (λ ps. (n : ℕ) → IsSeenAlike (policy_at ps.items n) (field_policy_of (slice_get fields.now n))) }
+    ensures each { IfOk result (λ ps. (n : ℕ)
+        → IsSeenAlike (policy_at ps.items n) (field_policy_of (slice_get fields.now n))) }
 {
     let mut policies = Vec::new(alloc);
     for field in fields {
@@ -26,7 +27,8 @@ pub(crate) fn field_policies(alloc: Global, fields: &[Field]) -> Result<Vec<Poli
 // The policies of the channels, and the empty one behind them.
 pub(crate) fn channel_policies(alloc: Global, channels: &[Channel]) -> Result<Vec<Policy>, NoMemory>
     ensures ends { IfOk result (λ ps. EndsEmpty ps.items) }
-    ensures each { IfOk result (λ ps. (n : ℕ) → IsSeenAlike (policy_at ps.items n) (channel_policy_of (slice_get channels.now n))) }
+    ensures each { IfOk result (λ ps. (n : ℕ)
+        → IsSeenAlike (policy_at ps.items n) (channel_policy_of (slice_get channels.now n))) }
 {
     let mut policies = Vec::new(alloc);
     for channel in channels {

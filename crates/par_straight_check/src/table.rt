@@ -38,7 +38,8 @@ impl Table {
     // The place of the policy of the field with this number.
     pub(crate) fn place_of_field(&self, number: u16) -> u16
         ensures bound { result < length self.now.fields.items }
-        ensures alike { IsSeenAlike (policy_at self.now.fields.items result) (policy_at self.now.fields.items number) }
+        ensures alike { IsSeenAlike (policy_at self.now.fields.items result)
+            (policy_at self.now.fields.items number) }
     {
         place_in(&self.fields, number)
     }
@@ -46,7 +47,8 @@ impl Table {
     // The place of the policy of the channel with this number.
     pub(crate) fn place_of_channel(&self, number: u16) -> u16
         ensures bound { result < length self.now.channels.items }
-        ensures alike { IsSeenAlike (policy_at self.now.channels.items result) (policy_at self.now.channels.items number) }
+        ensures alike { IsSeenAlike (policy_at self.now.channels.items result)
+            (policy_at self.now.channels.items number) }
     {
         place_in(&self.channels, number)
     }

@@ -34,7 +34,8 @@ impl Worth {
     }
 
     pub(crate) fn add_constant(&mut self)
-        ensures joined { (t : Policies) → IsJoinAlike (joined t self.new) (joined t self.old ++ t.bottom ∷ []) }
+        ensures joined { (t : Policies)
+            → IsJoinAlike (joined t self.new) (joined t self.old ++ t.bottom ∷ []) }
         ensures within { (t : Policies) → IsWithin t self.old → IsWithin t self.new }
     {
         self.constant = true;
@@ -42,24 +43,32 @@ impl Worth {
 
     // Joins the policy of the field at this place of the table.
     pub(crate) fn add_field(&mut self, field: u16) -> Result<(), NoMemory>
-        ensures joined { OnOk result ((t : Policies) → IsJoinAlike (joined t self.new) (joined t self.old ++ policy_at t.fields.items field ∷ [])) }
-        ensures within { OnOk result ((t : Policies) → field < length t.fields.items → IsWithin t self.old → IsWithin t self.new) }
+        ensures joined { OnOk result ((t : Policies)
+            → IsJoinAlike (joined t self.new)
+            (joined t self.old ++ policy_at t.fields.items field ∷ [])) }
+        ensures within { OnOk result ((t : Policies)
+            → field < length t.fields.items → IsWithin t self.old → IsWithin t self.new) }
     {
         self.fields.add(field)
     }
 
     // Joins the policy of the input channel at this place of the table.
     pub(crate) fn add_input(&mut self, channel: u16) -> Result<(), NoMemory>
-        ensures joined { OnOk result ((t : Policies) → IsJoinAlike (joined t self.new) (joined t self.old ++ policy_at t.channels.items channel ∷ [])) }
-        ensures within { OnOk result ((t : Policies) → channel < length t.channels.items → IsWithin t self.old → IsWithin t self.new) }
+        ensures joined { OnOk result ((t : Policies)
+            → IsJoinAlike (joined t self.new)
+            (joined t self.old ++ policy_at t.channels.items channel ∷ [])) }
+        ensures within { OnOk result ((t : Policies)
+            → channel < length t.channels.items → IsWithin t self.old → IsWithin t self.new) }
     {
         self.inputs.add(channel)
     }
 
     // Joins what another value is worth.
     pub(crate) fn add_all(&mut self, other: &Worth) -> Result<(), NoMemory>
-        ensures joined { OnOk result ((t : Policies) → IsJoinAlike (joined t self.new) (joined t self.old ++ joined t other.now)) }
-        ensures within { OnOk result ((t : Policies) → IsWithin t other.now → IsWithin t self.old → IsWithin t self.new) }
+        ensures joined { OnOk result ((t : Policies)
+            → IsJoinAlike (joined t self.new) (joined t self.old ++ joined t other.now)) }
+        ensures within { OnOk result ((t : Policies)
+            → IsWithin t other.now → IsWithin t self.old → IsWithin t self.new) }
     {
         if other.constant {
             self.constant = true;

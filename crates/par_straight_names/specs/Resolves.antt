@@ -1,5 +1,6 @@
 -- How the parts of a tree are resolved.
-use Rattle.std.specs.Prelude.{◌≡◌, ℕ, ◌≤◌, Bool, false, not, List, [], ◌∷◌, codes, length, map, Result, Ok, Err, IsTrue}
+use Rattle.std.specs.Prelude.{◌≡◌, ℕ, ◌≤◌, Bool, false, not, List, [], ◌∷◌, codes, length, map}
+use Rattle.std.specs.Prelude.{Result, Ok, Err, IsTrue}
 use Rattle.std.specs.List.{list_all, filter, AllZip}
 use Rattle.par_policy.specs.Sees.{IsSeenAlike}
 use Rattle.par_straight.specs.declared.tree.Source.{Source}
@@ -10,7 +11,9 @@ use Rattle.par_straight.specs.declared.program.Action.{Action}
 use Rattle.par_straight.specs.declared.tree.Member.{Member}
 use Rattle.par_straight.specs.declared.tree.ClauseTree.{ClauseTree}
 use Rattle.par_straight.specs.declared.tree.MemberKind.{MemberKind}
-use Rattle.par_straight.specs.Names.{Name, names, among, member_names, fields_of, channels_of, numbered_policy, numbered_term, numbered_action, kind_is_field, kind_is_input, kind_is_output}
+use Rattle.par_straight.specs.Names.{Name, names, among, member_names, fields_of, channels_of}
+use Rattle.par_straight.specs.Names.{numbered_policy, numbered_term, numbered_action, kind_is_field}
+use Rattle.par_straight.specs.Names.{kind_is_input, kind_is_output}
 use Rattle.par_straight.specs.Names as declared_names
 use Rattle.par_straight.specs.Conditions.{differ, clause_declared, term_named, statement_named}
 use Rattle.par_straight.specs.Rules.{Policy, policy_of, bottom}
@@ -41,7 +44,13 @@ names_of tree = record {
 
 -- the names that a statement can use
 abbrev pub shown : Scope → declared_names.Scope
-shown s = record { fields = s.fields; channels = s.channels; inputs = s.inputs; outputs = s.outputs; locks = s.locks }
+shown s = record {
+  fields = s.fields;
+  channels = s.channels;
+  inputs = s.inputs;
+  outputs = s.outputs;
+  locks = s.locks;
+}
 
 -- The value where the test holds, and a refusal only where it does not. Want of memory is free.
 abbrev pub Resolves : {A : Type 0} → Bool → A → Result A ResolveError → Type 0
@@ -50,11 +59,13 @@ Resolves test value (Err e) = e ≡ NotStraight → test ≡ false
 
 -- a term is resolved
 abbrev pub ResolvesTerm : Scope → List Name → Term → Result Operand ResolveError → Type 0
-ResolvesTerm s locals t r = Resolves (term_named (shown s) locals t) (numbered_term (shown s) locals t) r
+ResolvesTerm s locals t r =
+    Resolves (term_named (shown s) locals t) (numbered_term (shown s) locals t) r
 
 -- a statement is resolved
 abbrev pub ResolvesStatement : Scope → List Name → Statement → Result Action ResolveError → Type 0
-ResolvesStatement s locals x r = Resolves (statement_named (shown s) locals x) (numbered_action (shown s) locals x) r
+ResolvesStatement s locals x r =
+    Resolves (statement_named (shown s) locals x) (numbered_action (shown s) locals x) r
 
 -- few enough names are declared, so that the numbers of actors and of all others fit
 pub record IsFew (s : Scope) : Type 0 where
@@ -74,7 +85,9 @@ pub record AreApart (tree : Source) : Type 0 where
   pub fields : IsTrue (differ (member_names (fields_of tree.members)))
   pub channels : IsTrue (differ (member_names (channels_of tree.members)))
   pub no_channel_main : among (member_names (channels_of tree.members)) (codes "main") ≡ false
-  pub class : among (codes "ArithmeticException" ∷ codes "NullPointerException" ∷ []) tree.class.name ≡ false
+  pub class :
+      among (codes "ArithmeticException" ∷ codes "NullPointerException" ∷ []) tree.class.name
+      ≡ false
   pub method : tree.method.name ≡ codes "main"
 
 -- each policy names declared actors and locks

@@ -1,9 +1,11 @@
 //! The conditions on the names and the policies that a straight-line source declares.
 
-ghost use Rattle.std.specs.Prelude.{◌≡◌, ◌≤◌, ◌↔◌, [], ◌∷◌, codes, false, IsTrue, IfOk, OnOk, length};
+ghost use Rattle.std.specs.Prelude.{◌≡◌, ◌≤◌, ◌↔◌, [], ◌∷◌, codes, false, IsTrue, IfOk, OnOk};
+ghost use Rattle.std.specs.Prelude.{length};
 ghost use Rattle.std.specs.Result.{IsErrOf};
 ghost use Rattle.par_straight.specs.Names.{among};
-ghost use Rattle.par_straight_names.specs.Resolves.{names_of, AreApart, IsFew, SeenAlike, HasFewPolicies, members_declared, all_policies};
+ghost use Rattle.par_straight_names.specs.Resolves.{names_of, AreApart, IsFew, SeenAlike};
+ghost use Rattle.par_straight_names.specs.Resolves.{HasFewPolicies, members_declared, all_policies};
 
 use crate::distinct::count_distinct;
 use crate::numbered::permissions;
@@ -46,7 +48,8 @@ fn has_main(names: &[Name]) -> bool
 
 // Whether the name is that of an exception that every program has.
 fn is_exception(name: &Name) -> bool
-    ensures { result ≡ among (codes "ArithmeticException" ∷ codes "NullPointerException" ∷ []) name.now }
+    ensures { result
+        ≡ among (codes "ArithmeticException" ∷ codes "NullPointerException" ∷ []) name.now }
 {
     b"ArithmeticException".as_slice() == name.bytes()
         || b"NullPointerException".as_slice() == name.bytes()
@@ -70,8 +73,10 @@ pub fn check_policies(alloc: Global, scope: &Scope, tree: &Source) -> Result<(),
 fn policies(alloc: Global, scope: &Scope, members: &[Member]) -> Result<Vec<Policy>, ResolveError>
     requires { IsFew scope.now }
     ensures declared { IfOk result (λ _. IsTrue (members_declared scope.now members.now)) }
-    ensures alike { IfOk result (λ found. SeenAlike found.items (all_policies scope.now (length scope.now.actors) members.now)) }
-    ensures refused { IsErrOf result ResolveError.NotStraight → members_declared scope.now members.now ≡ false }
+    ensures alike { IfOk result (λ found.
+        SeenAlike found.items (all_policies scope.now (length scope.now.actors) members.now)) }
+    ensures refused { IsErrOf result ResolveError.NotStraight
+        → members_declared scope.now members.now ≡ false }
 {
     let mut found = Vec::new(alloc);
     found.push(bottom(alloc, scope.actors.len() as u8)?)?;

@@ -2,7 +2,8 @@
 
 ghost use Rattle.std.specs.Prelude.{◌≡◌, ◌+◌, ◌<◌, ◌≤◌, ◌↔◌, IsTrue, MatchOption, length};
 ghost use Rattle.std.specs.List.{list_all};
-ghost use Rattle.par_straight.specs.Conditions.{WithinLimits, clause_small, policy_small, sum_nodes, statement_nodes, nodes, locals_declared};
+ghost use Rattle.par_straight.specs.Conditions.{WithinLimits, clause_small, policy_small};
+ghost use Rattle.par_straight.specs.Conditions.{sum_nodes, statement_nodes, nodes, locals_declared};
 
 use par_straight::tree::{ClauseTree, Member, Source, Statement, Term};
 
@@ -76,7 +77,8 @@ fn have_few_nodes(statements: &[Statement]) -> bool
 // So many nodes without those of the statement, or none where it has more.
 fn left_behind(left: usize, statement: &Statement) -> Option<usize>
     requires { left ≤ 2000 }
-    ensures { MatchOption result (left < statement_nodes statement.now) (λ rest. rest + statement_nodes statement.now ≡ left) }
+    ensures { MatchOption result (left < statement_nodes statement.now)
+        (λ rest. rest + statement_nodes statement.now ≡ left) }
 {
     match statement {
         Statement::Local(_, sum) => left_behind_sum(left, 1, sum.as_slice()),
@@ -91,7 +93,8 @@ fn left_behind_sum(left: usize, beside: usize, sum: &[Term]) -> Option<usize>
     requires few { left ≤ 2000 }
     requires some { 1 ≤ beside }
     requires small { beside ≤ 2 }
-    ensures { MatchOption result (left < beside + sum_nodes sum.now) (λ rest. rest + (beside + sum_nodes sum.now) ≡ left) }
+    ensures { MatchOption result (left < beside + sum_nodes sum.now)
+        (λ rest. rest + (beside + sum_nodes sum.now) ≡ left) }
 {
     if sum.len() > left {
         return None;

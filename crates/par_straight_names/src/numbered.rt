@@ -2,7 +2,9 @@
 
 ghost use Rattle.std.specs.Prelude.{◌≡◌, ◌≤◌, length, map};
 ghost use Rattle.std.specs.List.{list_all};
-ghost use Rattle.par_straight.specs.Names.{among, place_of, kind_is_field, kind_is_input, fields_of, channels_of, numbered_clause, numbered_policy, numbered_field, numbered_channel};
+ghost use Rattle.par_straight.specs.Names.{among, place_of, kind_is_field, kind_is_input};
+ghost use Rattle.par_straight.specs.Names.{fields_of, channels_of, numbered_clause};
+ghost use Rattle.par_straight.specs.Names.{numbered_policy, numbered_field, numbered_channel};
 ghost use Rattle.par_straight.specs.Conditions.{clause_declared};
 ghost use Rattle.par_straight_names.specs.Resolves.{shown, Resolves, IsFew, policy_declared};
 
@@ -24,7 +26,8 @@ pub fn number_of(names: &[Name], name: &Name) -> u16
 
 fn locks_of_clause(alloc: Global, scope: &Scope, ids: &[Ident]) -> Result<List<u16>, ResolveError>
     requires { IsFew scope.now }
-    ensures { Resolves (list_all (λ l. among scope.now.locks l.name) ids.now) (map (λ l. place_of scope.now.locks l.name) ids.now) result }
+    ensures { Resolves (list_all (λ l. among scope.now.locks l.name) ids.now)
+        (map (λ l. place_of scope.now.locks l.name) ids.now) result }
 {
     let names = scope.locks.as_slice();
     let mut locks = List::new(alloc);
@@ -39,7 +42,8 @@ fn locks_of_clause(alloc: Global, scope: &Scope, ids: &[Ident]) -> Result<List<u
 
 fn permission(alloc: Global, scope: &Scope, clause: &ClauseTree) -> Result<Permission, ResolveError>
     requires { IsFew scope.now }
-    ensures { Resolves (clause_declared scope.now.actors scope.now.locks clause.now) (numbered_clause scope.now.actors scope.now.locks clause.now) result }
+    ensures { Resolves (clause_declared scope.now.actors scope.now.locks clause.now)
+        (numbered_clause scope.now.actors scope.now.locks clause.now) result }
 {
     let actors = scope.actors.as_slice();
     if !is_among(actors, &clause.actor.name) {
@@ -57,7 +61,8 @@ pub fn permissions(
     clauses: &[ClauseTree],
 ) -> Result<List<Permission>, ResolveError>
     requires { IsFew scope.now }
-    ensures { Resolves (policy_declared scope.now clauses.now) (numbered_policy scope.now.actors scope.now.locks clauses.now) result }
+    ensures { Resolves (policy_declared scope.now clauses.now)
+        (numbered_policy scope.now.actors scope.now.locks clauses.now) result }
 {
     let mut found = List::new(alloc);
     for clause in clauses {
@@ -70,7 +75,9 @@ pub fn permissions(
 /// The static fields of a class, in source order.
 pub fn fields(alloc: Global, scope: &Scope, members: &[Member]) -> Result<List<Field>, ResolveError>
     requires { IsFew scope.now }
-    ensures { Resolves (list_all (λ m. policy_declared scope.now m.policy) (fields_of members.now)) (map (numbered_field scope.now.actors scope.now.locks) (fields_of members.now)) result }
+    ensures { Resolves
+        (list_all (λ m. policy_declared scope.now m.policy) (fields_of members.now))
+        (map (numbered_field scope.now.actors scope.now.locks) (fields_of members.now)) result }
 {
     let mut found = List::new(alloc);
     for member in members {
@@ -90,7 +97,9 @@ pub fn channels(
     members: &[Member],
 ) -> Result<List<Channel>, ResolveError>
     requires { IsFew scope.now }
-    ensures { Resolves (list_all (λ m. policy_declared scope.now m.policy) (channels_of members.now)) (map (numbered_channel scope.now.actors scope.now.locks) (channels_of members.now)) result }
+    ensures { Resolves
+        (list_all (λ m. policy_declared scope.now m.policy) (channels_of members.now))
+        (map (numbered_channel scope.now.actors scope.now.locks) (channels_of members.now)) result }
 {
     let mut found = List::new(alloc);
     for member in members {

@@ -80,7 +80,8 @@ fn program(alloc: Global, scope: &Scope, tree: &Source) -> Result<Program, Resol
     requires scope { scope.now ≡ names_of tree.now }
     requires limits { WithinLimits tree.now }
     requires policies { IsTrue (members_declared (names_of tree.now) tree.now.members) }
-    ensures { Resolves (statements_named (shown (names_of tree.now)) [] tree.now.statements) (numbered tree.now) result }
+    ensures { Resolves (statements_named (shown (names_of tree.now)) [] tree.now.statements)
+        (numbered tree.now) result }
 {
     let members = tree.members.as_slice();
     let locks = names(alloc, tree.locks.as_slice())?;

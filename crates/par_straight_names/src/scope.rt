@@ -69,7 +69,8 @@ pub fn names(alloc: Global, ids: &[Ident]) -> Result<List<Name>, NoMemory>
 
 // The names of the members that have the role.
 fn names_as(alloc: Global, members: &[Member], role: Role) -> Result<List<Name>, NoMemory>
-    ensures { IfOk result (λ found. found ≡ member_names (filter (λ m. plays role m.kind) members.now)) }
+    ensures { IfOk result (λ found.
+        found ≡ member_names (filter (λ m. plays role m.kind) members.now)) }
 {
     let mut found = List::new(alloc);
     for member in members {

@@ -5,7 +5,8 @@ ghost use Rattle.par_straight.specs.declared.tree.Term.TheVariants as term;
 ghost use Rattle.par_straight.specs.declared.tree.Statement.TheVariants as statement;
 ghost use Rattle.par_straight.specs.Names.{place, place_of, declares, numbered_sum, numbered_steps};
 ghost use Rattle.par_straight.specs.Conditions.{sum_named, statements_named, locals_declared};
-ghost use Rattle.par_straight_names.specs.Resolves.{shown, Resolves, ResolvesTerm, ResolvesStatement, IsFew};
+ghost use Rattle.par_straight_names.specs.Resolves.{shown, Resolves, ResolvesTerm};
+ghost use Rattle.par_straight_names.specs.Resolves.{ResolvesStatement, IsFew};
 
 use crate::numbered::number_of;
 use crate::resolve::ResolveError;
@@ -24,7 +25,8 @@ pub fn steps(
 ) -> Result<List<Step>, ResolveError>
     requires scope { IsFew scope.now }
     requires locals { locals_declared statements.now ≤ 200 }
-    ensures { Resolves (statements_named (shown scope.now) [] statements.now) (numbered_steps (shown scope.now) [] statements.now) result }
+    ensures { Resolves (statements_named (shown scope.now) [] statements.now)
+        (numbered_steps (shown scope.now) [] statements.now) result }
 {
     let mut locals = List::new(alloc);
     let mut steps = List::new(alloc);
@@ -158,7 +160,8 @@ fn sum(
 ) -> Result<List<Operand>, ResolveError>
     requires scope { IsFew scope.now }
     requires locals { length locals.now ≤ 256 }
-    ensures { Resolves (sum_named (shown scope.now) locals.now terms.now) (numbered_sum (shown scope.now) locals.now terms.now) result }
+    ensures { Resolves (sum_named (shown scope.now) locals.now terms.now)
+        (numbered_sum (shown scope.now) locals.now terms.now) result }
 {
     let mut sum = List::new(alloc);
     for term in terms {
