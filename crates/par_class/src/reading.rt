@@ -170,6 +170,8 @@ pub fn read_class(alloc: Global, bytes: &[u8]) -> Result<ClassFile, ClassError>
     ensures found { IfOk result (λ file. Spells bytes.now file) }
     // What is spelled so is read, unless memory runs out.
     ensures only { (file : File) → Spells bytes.now file → Gives (λ file. file) result (Ok file) }
+    // What is refused is the first that reading from the left refuses, unless memory runs out.
+    ensures exact { Gives (λ file. file) result (file_at bytes.now) }
 {
     whole(alloc, bytes)
 }
