@@ -1,7 +1,7 @@
 ghost use Rattle.std.specs.Prelude.{◌≡◌, ◌≢◌, ℕ, ◌+◌, ◌<◌, ◌≤◌, [], length, slice_get, Some, IfOk, IfSome, IfNone, OnErr, IsTrue};
 ghost use Rattle.std.specs.Int.{w32};
 ghost use Rattle.par_pool.specs.declared.constant.Constant.TheVariants.{Utf8, Integer, Class, Field, Method, NameType};
-ghost use Rattle.par_pool.specs.Entries.{IsAt, IsUtf8At, IsClassAt, IsNameTypeAt, IsFieldAt, IsMethodAt};
+ghost use Rattle.par_pool.specs.Entries.{IsAt, IsUtf8At, IsClassAt, IsNameTypeAt, IsFieldAt, IsMethodAt, IsDistinct};
 ghost use Rattle.par_pool.specs.Growth.{Adds, IsClassPart, IsNameTypePart, IsNamingPart, IsMemberPart};
 ghost use Rattle.par_pool.specs.Spelling.{IsText, Fits, refers, IsPool};
 
@@ -187,9 +187,10 @@ impl PoolBuilder {
         self.put(Constant::Method(owner, member))
     }
 
-    /// The pool of all entries, which has a spelling.
+    /// The pool of all entries, which has a spelling, and in which none stands twice.
     pub fn finish(self) -> Pool
         ensures same { result.entries ≡ self }
+        ensures distinct { IsDistinct result.entries }
         ensures spelled { IsPool result.entries }
     {
         Pool {
