@@ -46,7 +46,13 @@ others_in (Code name code ∷ pieces) = others_in pieces
 
 -- the method without the order of its attributes
 abbrev pub method_of : Method → MethodFile
-method_of m = record { access = m.access; name = m.name; descriptor = m.descriptor; code = code_in m.pieces; attributes = others_in m.pieces }
+method_of m = record {
+  access = m.access;
+  name = m.name;
+  descriptor = m.descriptor;
+  code = code_in m.pieces;
+  attributes = others_in m.pieces;
+}
 
 -- the file without that order
 abbrev pub file_of : Layout → ClassFile

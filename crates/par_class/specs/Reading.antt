@@ -39,7 +39,8 @@ code_length_at short end = tested is_code_length (at Shape end) (u4_at short)
 
 -- the two limits, and the code itself
 unfoldable pub instructions_at : ClassError → ℕ → Reader (ℕ × (ℕ × List ℕ))
-instructions_at short end = both (u2_at short) (both (u2_at short) (keyed (code_length_at short end) (bytes_at short)))
+instructions_at short end =
+    both (u2_at short) (both (u2_at short) (keyed (code_length_at short end) (bytes_at short)))
 
 -- the four numbers of a handler
 unfoldable pub numbers_at : ClassError → Reader Catch
@@ -58,7 +59,8 @@ module _ (entries : List Constant) (short : ClassError) (end : ℕ) where
   class_index_at = tested (λ index. is_class (entry_at entries index)) (at Index end) (u2_at short)
 
   unfoldable pub attribute_at : Reader Attribute
-  attribute_at = made (λ a. record { name = a.0; bytes = a.1 }) (both text_index_at (sized_at short))
+  attribute_at =
+      made (λ a. record { name = a.0; bytes = a.1 }) (both text_index_at (sized_at short))
 
   unfoldable pub attributes_at : Reader (List Attribute)
   attributes_at = list_at short attribute_at
@@ -75,7 +77,14 @@ module _ (entries : List Constant) (short : ClassError) (end : ℕ) where
   -- code, behind its limits and its bytes
   unfoldable pub handled_at : ℕ × (ℕ × List ℕ) → Reader CodeAttr
   handled_at head =
-      made (λ c. record { max_stack = head.0; max_locals = head.1.0; code = head.1.1; catches = c.0; attributes = c.1 }) (both (catches_at (length head.1.1)) attributes_at)
+      made (λ c. record {
+        max_stack = head.0;
+        max_locals = head.1.0;
+        code = head.1.1;
+        catches = c.0;
+        attributes = c.1;
+      })
+      (both (catches_at (length head.1.1)) attributes_at)
 
   unfoldable pub code_at : Reader CodeAttr
   code_at = keyed (instructions_at short end) handled_at
@@ -85,13 +94,15 @@ abbrev pub ended : ClassError → Result (CodeAttr × List ℕ) ClassError → R
 ended fault read = read >>= λ c. if length c.1 == 0 then Ok c.0 else Err fault
 
 abbrev pub inside : List Constant → ℕ → List ℕ → Result CodeAttr ClassError
-inside entries end bytes = ended (Shape (place end bytes)) (code_at entries (Shape (place end bytes)) end bytes)
+inside entries end bytes =
+    ended (Shape (place end bytes)) (code_at entries (Shape (place end bytes)) end bytes)
 
 module _ (entries : List Constant) (short : ClassError) (end : ℕ) where
   -- an attribute of a method, which is code where its name says so
   abbrev pub looked_into : Attribute × List ℕ → Outcome Piece
   looked_into a =
-      if names_code entries a.0.name then (inside entries (place end a.1) a.0.bytes >>= (λ c. Ok (Code a.0.name c, a.1)))
+      if names_code entries a.0.name
+      then (inside entries (place end a.1) a.0.bytes >>= (λ c. Ok (Code a.0.name c, a.1)))
       else Ok (Plain a.0, a.1)
 
   unfoldable pub piece_at : Reader Piece
@@ -103,7 +114,8 @@ module _ (entries : List Constant) (short : ClassError) (end : ℕ) where
   unfoldable pub field_at : Reader FieldFile
   field_at =
       made (λ f. record { access = f.0; name = f.1.0; descriptor = f.1.1.0; attributes = f.1.1.1 })
-      (both (u2_at short) (both (text_index_at entries short end) (both (text_index_at entries short end) (attributes_at entries short end))))
+      (both (u2_at short) (both (text_index_at entries short end)
+      (both (text_index_at entries short end) (attributes_at entries short end))))
 
   unfoldable pub fields_at : Reader (List FieldFile)
   fields_at = list_at short field_at
@@ -113,7 +125,8 @@ module _ (entries : List Constant) (short : ClassError) (end : ℕ) where
   method_at =
       tested (λ m. is_coded m.access m.pieces) (at Shape end)
       (made (λ m. record { access = m.0; name = m.1.0; descriptor = m.1.1.0; pieces = m.1.1.1 })
-      (both (u2_at short) (both (text_index_at entries short end) (both (text_index_at entries short end) pieces_at))))
+      (both (u2_at short) (both (text_index_at entries short end)
+      (both (text_index_at entries short end) pieces_at))))
 
   unfoldable pub methods_at : Reader (List Method)
   methods_at = list_at short method_at
@@ -152,8 +165,10 @@ back_at short end head =
       methods = b.1.1.1.1.1.0;
       attributes = b.1.1.1.1.1.1;
     })
-    (both (u2_at short) (both (class_index_at head.1.1.1 short end) (both (super_at head.1.1.1 short end) (both (interfaces_at short end)
-    (both (fields_at head.1.1.1 short end) (both (methods_at head.1.1.1 short end) (attributes_at head.1.1.1 short end)))))))
+    (both (u2_at short) (both (class_index_at head.1.1.1 short end)
+    (both (super_at head.1.1.1 short end) (both (interfaces_at short end)
+    (both (fields_at head.1.1.1 short end)
+    (both (methods_at head.1.1.1 short end) (attributes_at head.1.1.1 short end)))))))
 
 -- a class file as it stands in its bytes
 abbrev pub laid_at : ClassError → ℕ → Reader Layout
@@ -165,4 +180,5 @@ alone end read = read >>= λ x. if length x.1 == 0 then Ok x.0 else Err (Extra (
 
 -- the whole file, without the order of its methods' attributes
 unfoldable pub file_at : List ℕ → Result ClassFile ClassError
-file_at bytes = alone (length bytes) (made file_of (laid_at (Cut (length bytes)) (length bytes)) bytes)
+file_at bytes =
+    alone (length bytes) (made file_of (laid_at (Cut (length bytes)) (length bytes)) bytes)

@@ -32,7 +32,9 @@ unfoldable pub catch : Catch → List ℕ
 catch c = u2 c.start ++ (u2 c.end ++ (u2 c.handler ++ u2 c.class))
 
 unfoldable pub code : CodeAttr → List ℕ
-code c = (u2 c.max_stack ++ (u2 c.max_locals ++ sized c.code)) ++ (counted catch c.catches ++ counted attribute c.attributes)
+code c =
+    (u2 c.max_stack ++ (u2 c.max_locals ++ sized c.code))
+    ++ (counted catch c.catches ++ counted attribute c.attributes)
 
 -- an attribute of a method; code is the inside of an attribute
 unfoldable pub piece : Piece → List ℕ
@@ -51,7 +53,9 @@ front l = u4 0xCAFEBABE ++ (u2 l.minor ++ (u2 l.major ++ pool l.entries))
 
 -- behind the constant pool; there are no interfaces
 abbrev pub back : Layout → List ℕ
-back l = u2 l.access ++ (u2 l.this_class ++ (u2 l.super_class ++ (u2 0 ++ (counted field l.fields ++ (counted method l.methods ++ counted attribute l.attributes)))))
+back l =
+    u2 l.access ++ (u2 l.this_class ++ (u2 l.super_class ++ (u2 0
+    ++ (counted field l.fields ++ (counted method l.methods ++ counted attribute l.attributes)))))
 
 unfoldable pub layout : Layout → List ℕ
 layout l = front l ++ back l
@@ -77,7 +81,8 @@ names_code entries index = is_named (codes "Code") (entry_at entries index)
 -- whether the index names one of the two superclasses
 abbrev pub is_super : List Constant → ℕ → Bool
 is_super entries index =
-    is_class_named (codes "java/lang/Object") entries (entry_at entries index) || is_class_named (codes "java/lang/Exception") entries (entry_at entries index)
+    is_class_named (codes "java/lang/Object") entries (entry_at entries index)
+    || is_class_named (codes "java/lang/Exception") entries (entry_at entries index)
 
 -- an index of two bytes that names a text
 abbrev pub IsTextIndex : List Constant → ℕ → Type 0
@@ -124,7 +129,9 @@ pub record FitsCode (entries : List Constant) (c : CodeAttr) : Type 0 where
 -- the attribute of a method is code exactly where its name is `Code`
 abbrev pub FitsPiece : List Constant → Piece → Type 0
 FitsPiece entries (Plain a) = FitsAttribute entries a × (names_code entries a.name ≡ false)
-FitsPiece entries (Code name c) = FitsAttribute entries (record { name = name; bytes = code c }) × FitsCode entries c × IsTrue (names_code entries name)
+FitsPiece entries (Code name c) =
+    FitsAttribute entries (record { name = name; bytes = code c })
+    × FitsCode entries c × IsTrue (names_code entries name)
 
 pub record FitsField (entries : List Constant) (f : FieldFile) : Type 0 where
   pub access : f.access < 2 ^ 16

@@ -15,7 +15,8 @@ use Rattle.par_class.specs.Spelling.{counted, is_named, attribute, code, piece, 
 
 -- the least index of a text `Code`, or the index behind the pool where there is none
 abbrev pub least_code : List Constant → ℕ
-least_code entries = position_or_len (λ constant. is_named (codes "Code") (Some constant)) entries + 1
+least_code entries =
+    position_or_len (λ constant. is_named (codes "Code") (Some constant)) entries + 1
 
 -- the code, if there is any, as an attribute under this name
 abbrev pub code_piece : ℕ → Option CodeAttr → List Piece
@@ -27,7 +28,12 @@ abbrev pub pieces_of : ℕ → MethodFile → List Piece
 pieces_of name m = code_piece name m.code ++ map (λ a. Plain a) m.attributes
 
 abbrev pub method_laid : ℕ → MethodFile → Method
-method_laid name m = record { access = m.access; name = m.name; descriptor = m.descriptor; pieces = pieces_of name m }
+method_laid name m = record {
+  access = m.access;
+  name = m.name;
+  descriptor = m.descriptor;
+  pieces = pieces_of name m;
+}
 
 -- a file as it is written
 abbrev pub layout_of : ClassFile → Layout
@@ -45,16 +51,21 @@ layout_of f = record {
 
 -- the attributes of a method as they are put
 abbrev pub parts : ℕ → MethodFile → List ℕ
-parts name m = u2 (length (pieces_of 0 m)) ++ (flat_map piece (code_piece name m.code) ++ flat_map attribute m.attributes)
+parts name m =
+    u2 (length (pieces_of 0 m))
+    ++ (flat_map piece (code_piece name m.code) ++ flat_map attribute m.attributes)
 
 -- methods as they are put
 abbrev pub each_method : ℕ → List MethodFile → List ℕ
-each_method name methods = u2 (length methods) ++ flat_map (λ m. method (method_laid name m)) methods
+each_method name methods =
+    u2 (length methods) ++ flat_map (λ m. method (method_laid name m)) methods
 
 -- what stands behind the constant pool, as it is put
 unfoldable pub back_with : ℕ → ClassFile → List ℕ
 back_with name f =
-    u2 f.access ++ (u2 f.this_class ++ (u2 f.super_class ++ (u2 0 ++ (counted field f.fields ++ (each_method name f.methods ++ counted attribute f.attributes)))))
+    u2 f.access ++ (u2 f.this_class ++ (u2 f.super_class ++ (u2 0
+    ++ (counted field f.fields
+    ++ (each_method name f.methods ++ counted attribute f.attributes)))))
 
 -- ---- what is few enough to be written
 

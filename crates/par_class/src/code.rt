@@ -65,7 +65,8 @@ fn catches_of<'b>(
     len: usize,
     bytes: &'b [u8],
 ) -> Result<(List<Catch>, &'b [u8]), ClassError>
-    ensures { Gives (λ x. (x.0, x.1.now)) result (reading.catches_at entries.now short end len bytes.now) }
+    ensures { Gives (λ x. (x.0, x.1.now)) result
+        (reading.catches_at entries.now short end len bytes.now) }
 {
     let (count, mut rest) = u2(short, bytes)?;
     let mut catches = List::new(alloc);

@@ -26,7 +26,8 @@ fn field_of<'b>(
     end: u32,
     bytes: &'b [u8],
 ) -> Result<(FieldFile, &'b [u8]), ClassError>
-    ensures { Gives (λ x. (x.0, x.1.now)) result (reading.field_at entries.now short end bytes.now) }
+    ensures { Gives (λ x. (x.0, x.1.now)) result
+        (reading.field_at entries.now short end bytes.now) }
 {
     let (access, rest) = u2(short, bytes)?;
     let (name, rest) = text_index(entries, short, end, rest)?;
@@ -50,7 +51,8 @@ pub fn fields_of<'b>(
     end: u32,
     bytes: &'b [u8],
 ) -> Result<(List<FieldFile>, &'b [u8]), ClassError>
-    ensures { Gives (λ x. (x.0, x.1.now)) result (reading.fields_at entries.now short end bytes.now) }
+    ensures { Gives (λ x. (x.0, x.1.now)) result
+        (reading.fields_at entries.now short end bytes.now) }
 {
     let (count, mut rest) = u2(short, bytes)?;
     let mut fields = List::new(alloc);
@@ -71,7 +73,8 @@ fn piece_of<'b>(
     end: u32,
     bytes: &'b [u8],
 ) -> Result<(Piece, &'b [u8]), ClassError>
-    ensures { Gives (λ x. (x.0, x.1.now)) result (reading.piece_at entries.now short end bytes.now) }
+    ensures { Gives (λ x. (x.0, x.1.now)) result
+        (reading.piece_at entries.now short end bytes.now) }
 {
     let (attribute, rest) = attribute_of(alloc, entries, short, end, bytes)?;
     if !names_code(entries, attribute.name) {
@@ -90,7 +93,8 @@ fn pieces_of<'b>(
     end: u32,
     bytes: &'b [u8],
 ) -> Result<(Vec<Piece>, &'b [u8]), ClassError>
-    ensures { Gives (λ x. (x.0.items, x.1.now)) result (reading.pieces_at entries.now short end bytes.now) }
+    ensures { Gives (λ x. (x.0.items, x.1.now)) result
+        (reading.pieces_at entries.now short end bytes.now) }
 {
     let (count, mut rest) = u2(short, bytes)?;
     let mut pieces = Vec::new(alloc);
@@ -133,7 +137,8 @@ fn parted(
     alloc: Global,
     pieces: Vec<Piece>,
 ) -> Result<(Option<CodeAttr>, List<Attribute>), ClassError>
-    ensures parts { IfOk result (λ parts. (parts.0 ≡ layout.code_in pieces.items) × (parts.1 ≡ layout.others_in pieces.items)) }
+    ensures parts { IfOk result (λ parts.
+        (parts.0 ≡ layout.code_in pieces.items) × (parts.1 ≡ layout.others_in pieces.items)) }
     ensures memory { IfErr result (λ e. e ≡ Memory) }
 {
     let mut code = None;
@@ -156,7 +161,8 @@ fn method_of<'b>(
     end: u32,
     bytes: &'b [u8],
 ) -> Result<(MethodFile, &'b [u8]), ClassError>
-    ensures { Gives (λ x. (x.0, x.1.now)) result (made layout.method_of (reading.method_at entries.now short end) bytes.now) }
+    ensures { Gives (λ x. (x.0, x.1.now)) result
+        (made layout.method_of (reading.method_at entries.now short end) bytes.now) }
 {
     let (access, rest) = u2(short, bytes)?;
     let (name, rest) = text_index(entries, short, end, rest)?;
@@ -184,7 +190,9 @@ fn each_method<'b>(
     end: u32,
     bytes: &'b [u8],
 ) -> Result<(List<MethodFile>, &'b [u8]), ClassError>
-    ensures { Gives (λ x. (x.0, x.1.now)) result (list_at short (made layout.method_of (reading.method_at entries.now short end)) bytes.now) }
+    ensures { Gives (λ x. (x.0, x.1.now)) result
+        (list_at short
+        (made layout.method_of (reading.method_at entries.now short end)) bytes.now) }
 {
     let (count, mut rest) = u2(short, bytes)?;
     let mut methods = List::new(alloc);
@@ -204,7 +212,9 @@ pub fn methods_of<'b>(
     end: u32,
     bytes: &'b [u8],
 ) -> Result<(List<MethodFile>, &'b [u8]), ClassError>
-    ensures { Gives (λ x. (x.0, x.1.now)) result (made (λ methods. map layout.method_of methods) (reading.methods_at entries.now short end) bytes.now) }
+    ensures { Gives (λ x. (x.0, x.1.now)) result
+        (made (λ methods. map layout.method_of methods)
+        (reading.methods_at entries.now short end) bytes.now) }
 {
     each_method(alloc, entries, short, end, bytes)
 }

@@ -57,7 +57,8 @@ fn front_of(
     short: ClassError,
     bytes: &[u8],
 ) -> Result<(u32, Front, &[u8]), ClassError>
-    ensures { Gives (λ x. ((x.0, (x.1.minor, (x.1.major, x.1.entries.items))), x.2.now)) result (reading.front_at short bytes.now) }
+    ensures { Gives (λ x. ((x.0, (x.1.minor, (x.1.major, x.1.entries.items))), x.2.now)) result
+        (reading.front_at short bytes.now) }
 {
     let (number, rest) = magic(short, bytes)?;
     let (minor, rest) = u2(short, rest)?;
@@ -79,7 +80,8 @@ fn super_index<'b>(
     end: u32,
     bytes: &'b [u8],
 ) -> Result<(u16, &'b [u8]), ClassError>
-    ensures { Gives (λ x. (x.0, x.1.now)) result (reading.super_at entries.now short end bytes.now) }
+    ensures { Gives (λ x. (x.0, x.1.now)) result
+        (reading.super_at entries.now short end bytes.now) }
 {
     let (index, rest) = class_index(entries, short, end, bytes)?;
     if !is_super(entries, index) {
@@ -110,7 +112,10 @@ fn back_of<'b>(
     front: Front,
     bytes: &'b [u8],
 ) -> Result<(ClassFile, &'b [u8]), ClassError>
-    ensures { Gives (λ x. (x.0, x.1.now)) result (made file_of (reading.back_at short end (number, (front.minor, (front.major, front.entries.items)))) bytes.now) }
+    ensures { Gives (λ x. (x.0, x.1.now)) result
+        (made file_of
+        (reading.back_at short end (number, (front.minor, (front.major, front.entries.items))))
+        bytes.now) }
 {
     let entries = front.entries.as_slice();
     let (access, rest) = u2(short, bytes)?;
@@ -170,6 +175,8 @@ pub fn read_class(alloc: Global, bytes: &[u8]) -> Result<ClassFile, ClassError>
     ensures found { IfOk result (λ file. Spells bytes.now file) }
     // What is spelled so is read, unless memory runs out.
     ensures only { (file : File) → Spells bytes.now file → Gives (λ file. file) result (Ok file) }
+    // What is refused is the first that reading from the left refuses, unless memory runs out.
+    ensures exact { Gives (λ file. file) result (file_at bytes.now) }
 {
     whole(alloc, bytes)
 }

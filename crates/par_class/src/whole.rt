@@ -44,7 +44,8 @@ fn put_code_of(
     code: &Option<CodeAttr>,
 ) -> Result<(), NoMemory>
     requires { IfSome code.now SizedCode }
-    ensures { OnOk result (out.new.items ≡ out.old.items ++ flat_map spelling.piece (code_piece name code.now)) }
+    ensures { OnOk result
+        (out.new.items ≡ out.old.items ++ flat_map spelling.piece (code_piece name code.now)) }
 {
     match code {
         Some(code) => put_code_attribute(alloc, out, name, code),
@@ -87,7 +88,8 @@ fn put_pieces(
     method: &MethodFile,
 ) -> Result<(), NoMemory>
     requires { SizedMethod method.now }
-    ensures { OnOk result (out.new.items ≡ out.old.items ++ counted spelling.piece (pieces_of name method.now)) }
+    ensures { OnOk result
+        (out.new.items ≡ out.old.items ++ counted spelling.piece (pieces_of name method.now)) }
 {
     put_parts(alloc, out, name, method)
 }
@@ -100,7 +102,8 @@ fn put_method(
     method: &MethodFile,
 ) -> Result<(), NoMemory>
     requires { SizedMethod method.now }
-    ensures { OnOk result (out.new.items ≡ out.old.items ++ spelling.method (method_laid name method.now)) }
+    ensures { OnOk result
+        (out.new.items ≡ out.old.items ++ spelling.method (method_laid name method.now)) }
 {
     put_u2(out, method.access)?;
     put_u2(out, method.name)?;
@@ -115,7 +118,9 @@ fn put_each_method(
     methods: &[MethodFile],
 ) -> Result<(), NoMemory>
     requires { All SizedMethod methods.now }
-    ensures { OnOk result (out.new.items ≡ out.old.items ++ flat_map (λ method. spelling.method (method_laid name method)) methods.now) }
+    ensures { OnOk result
+        (out.new.items ≡ out.old.items
+        ++ flat_map (λ method. spelling.method (method_laid name method)) methods.now) }
 {
     for method in methods {
         put_method(alloc, out, name, method)?;
@@ -168,7 +173,9 @@ fn put_front(out: &mut Vec<u8>, file: &ClassFile) -> Result<(), NoMemory>
 /// The bytes of a file that is few enough to be written.
 fn written(alloc: Global, file: &ClassFile) -> Result<Vec<u8>, NoMemory>
     requires { SizedFile file.now }
-    ensures { IfOk result (λ bytes. bytes.items ≡ spelling.front (layout_of file.now) ++ back_with (least_code file.now.pool.entries) file.now) }
+    ensures { IfOk result (λ bytes.
+        bytes.items ≡ spelling.front (layout_of file.now)
+        ++ back_with (least_code file.now.pool.entries) file.now) }
 {
     let name = code_index(file.pool.entries.as_slice());
     let mut out = Vec::new(alloc);

@@ -32,7 +32,8 @@ fn put_attribute(out: &mut Vec<u8>, attribute: &Attribute) -> Result<(), NoMemor
 /// Puts attributes, one after the other.
 pub fn put_each(out: &mut Vec<u8>, attributes: &[Attribute]) -> Result<(), NoMemory>
     requires { All IsSized attributes.now }
-    ensures { OnOk result (out.new.items ≡ out.old.items ++ flat_map spelling.attribute attributes.now) }
+    ensures { OnOk result
+        (out.new.items ≡ out.old.items ++ flat_map spelling.attribute attributes.now) }
 {
     for attribute in attributes {
         put_attribute(out, attribute)?;
@@ -44,7 +45,8 @@ pub fn put_each(out: &mut Vec<u8>, attributes: &[Attribute]) -> Result<(), NoMem
 pub fn put_attributes(out: &mut Vec<u8>, attributes: &[Attribute]) -> Result<(), NoMemory>
     requires few { length attributes.now < 2 ^ 16 }
     requires each { All IsSized attributes.now }
-    ensures { OnOk result (out.new.items ≡ out.old.items ++ counted spelling.attribute attributes.now) }
+    ensures { OnOk result
+        (out.new.items ≡ out.old.items ++ counted spelling.attribute attributes.now) }
 {
     put_u2(out, attributes.len() as u16)?;
     put_each(out, attributes)
@@ -92,7 +94,8 @@ pub fn put_code_attribute(
     code: &CodeAttr,
 ) -> Result<(), NoMemory>
     requires { SizedCode code.now }
-    ensures { OnOk result (out.new.items ≡ out.old.items ++ spelling.piece (pieces.Code name code.now)) }
+    ensures { OnOk result
+        (out.new.items ≡ out.old.items ++ spelling.piece (pieces.Code name code.now)) }
 {
     let mut inside = Vec::new(alloc);
     put_code(&mut inside, code)?;

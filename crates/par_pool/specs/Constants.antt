@@ -10,7 +10,8 @@ use Rattle.par_pool.specs.Reading.{Reader, both, made, tested, keyed, items, u1_
 
 -- a text, whose bytes are looked at when all of them are there
 unfoldable pub text_at : ClassError → ℕ → Reader Constant
-text_at short index = made Utf8 (tested is_plain (λ _ _. Pool index) (keyed (u2_at short) (bytes_at short)))
+text_at short index =
+    made Utf8 (tested is_plain (λ _ _. Pool index) (keyed (u2_at short) (bytes_at short)))
 
 -- a number
 unfoldable pub integer_at : ClassError → Reader Constant
@@ -55,4 +56,6 @@ counted short n bytes = if n == 0 then Err (Pool 0) else items (constant_at shor
 
 -- a constant pool
 unfoldable pub pool_at : ClassError → Reader (List Constant)
-pool_at short bytes = keyed (u2_at short) (counted short) bytes >>= λ read. checked read.0 read.1 (first_astray read.0)
+pool_at short bytes =
+    keyed (u2_at short) (counted short) bytes >>= λ read.
+    checked read.0 read.1 (first_astray read.0)

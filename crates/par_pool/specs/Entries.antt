@@ -31,7 +31,8 @@ pub record IsNameTypeAt (pool : List Constant) (index : ℕ) (name descriptor : 
   pub is_descriptor : IsUtf8At pool second descriptor
 
 -- the index names a member of a class, by an entry of the given form
-pub record IsMemberAt (form : ℕ → ℕ → Constant) (pool : List Constant) (index : ℕ) (class name descriptor : List ℕ) : Type 0 where
+pub record IsMemberAt (form : ℕ → ℕ → Constant) (pool : List Constant) (index : ℕ)
+    (class name descriptor : List ℕ) : Type 0 where
   pub owner : ℕ
   pub member : ℕ
   pub entry : IsAt pool index (form owner member)
@@ -48,4 +49,5 @@ IsMethodAt pool index class name descriptor = IsMemberAt Method pool index class
 
 -- no constant has two indices
 abbrev pub IsDistinct : List Constant → Type 0
-IsDistinct pool = (i j : ℕ) (constant : Constant) → IsAt pool i constant → IsAt pool j constant → i ≡ j
+IsDistinct pool =
+    (i j : ℕ) (constant : Constant) → IsAt pool i constant → IsAt pool j constant → i ≡ j

@@ -14,18 +14,27 @@ pub record Adds (old new : List Constant) (few : ℕ) (IsPart : Constant → Typ
 
 -- a part of the entry of a class: its text, or the entry itself
 abbrev pub IsClassPart : List Constant → List ℕ → Constant → Type 0
-IsClassPart pool name constant = (constant ≡ Utf8 name) ⊎ ((text : ℕ) × (constant ≡ Class text) × IsUtf8At pool text name)
+IsClassPart pool name constant =
+    (constant ≡ Utf8 name)
+    ⊎ ((text : ℕ) × (constant ≡ Class text) × IsUtf8At pool text name)
 
 -- a part of the entry of a name and a descriptor: one of the texts, or the entry itself
 abbrev pub IsNameTypePart : List Constant → List ℕ → List ℕ → Constant → Type 0
 IsNameTypePart pool name descriptor constant =
-    (constant ≡ Utf8 name) ⊎ ((constant ≡ Utf8 descriptor) ⊎ ((first second : ℕ) × (constant ≡ NameType first second) × IsUtf8At pool first name × IsUtf8At pool second descriptor))
+    (constant ≡ Utf8 name)
+    ⊎ ((constant ≡ Utf8 descriptor)
+    ⊎ ((first second : ℕ) × (constant ≡ NameType first second)
+    × IsUtf8At pool first name × IsUtf8At pool second descriptor))
 
 -- a part of what names a member: one of its class, or one of its name and descriptor
 abbrev pub IsNamingPart : List Constant → List ℕ → List ℕ → List ℕ → Constant → Type 0
-IsNamingPart pool class name descriptor constant = IsClassPart pool class constant ⊎ IsNameTypePart pool name descriptor constant
+IsNamingPart pool class name descriptor constant =
+    IsClassPart pool class constant ⊎ IsNameTypePart pool name descriptor constant
 
 -- a part of the entry of a member: one of what names it, or the entry itself, of the given form
-abbrev pub IsMemberPart : (ℕ → ℕ → Constant) → List Constant → List ℕ → List ℕ → List ℕ → Constant → Type 0
+abbrev pub IsMemberPart :
+    (ℕ → ℕ → Constant) → List Constant → List ℕ → List ℕ → List ℕ → Constant → Type 0
 IsMemberPart form pool class name descriptor constant =
-    IsNamingPart pool class name descriptor constant ⊎ ((owner member : ℕ) × (constant ≡ form owner member) × IsClassAt pool owner class × IsNameTypeAt pool member name descriptor)
+    IsNamingPart pool class name descriptor constant
+    ⊎ ((owner member : ℕ) × (constant ≡ form owner member)
+    × IsClassAt pool owner class × IsNameTypeAt pool member name descriptor)

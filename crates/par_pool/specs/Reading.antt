@@ -12,7 +12,8 @@ abbrev pub Reader : Type 0 → Type 0
 Reader A = List ℕ → Outcome A
 
 infixl 10 ◌>>=◌
-abbrev pub ◌>>=◌ : {A B : Type 0} → Result A ClassError → (A → Result B ClassError) → Result B ClassError
+abbrev pub ◌>>=◌ :
+    {A B : Type 0} → Result A ClassError → (A → Result B ClassError) → Result B ClassError
 (Ok x) >>= f = f x
 (Err e) >>= f = Err e
 
@@ -35,7 +36,9 @@ keyed key read bytes = key bytes >>= λ k. read k.0 k.1
 -- so many items, the first of which has a number that the reader may use
 unfoldable pub items : {A : Type 0} → (ℕ → Reader A) → ℕ → ℕ → Reader (List A)
 items read zero index bytes = Ok ([], bytes)
-items read (suc left) index bytes = read index bytes >>= λ a. items read left (index + 1) a.1 >>= λ rest. Ok (a.0 ∷ rest.0, rest.1)
+items read (suc left) index bytes =
+    read index bytes >>= λ a.
+    items read left (index + 1) a.1 >>= λ rest. Ok (a.0 ∷ rest.0, rest.1)
 
 -- a byte, or the refusal of bytes that end too early
 unfoldable pub u1_at : ClassError → Reader ℕ
@@ -44,7 +47,8 @@ u1_at short (byte ∷ rest) = Ok (byte, rest)
 
 -- a number of so many bytes, the highest first
 unfoldable pub number_at : ℕ → ClassError → Reader ℕ
-number_at n short bytes = if nat_lt (length bytes) n then Err short else Ok (big_number n bytes, drop n bytes)
+number_at n short bytes =
+    if nat_lt (length bytes) n then Err short else Ok (big_number n bytes, drop n bytes)
 
 abbrev pub u2_at : ClassError → Reader ℕ
 u2_at short = number_at 2 short
@@ -54,7 +58,8 @@ u4_at short = number_at 4 short
 
 -- so many bytes
 unfoldable pub bytes_at : ClassError → ℕ → Reader (List ℕ)
-bytes_at short n bytes = if nat_lt (length bytes) n then Err short else Ok (take n bytes, drop n bytes)
+bytes_at short n bytes =
+    if nat_lt (length bytes) n then Err short else Ok (take n bytes, drop n bytes)
 
 -- What a function returned, seen by view, is what reading gives, unless memory ran out.
 abbrev pub Fails : {Y : Type 0} → ClassError → Result Y ClassError → Type 0

@@ -62,9 +62,12 @@ refers entries (Utf8 text) = true
 refers entries (Integer n) = true
 refers entries (Class name) = is_text (entry_at entries name)
 refers entries (Text text) = is_text (entry_at entries text)
-refers entries (Field class member) = is_class (entry_at entries class) && is_member (entry_at entries member)
-refers entries (Method class member) = is_class (entry_at entries class) && is_member (entry_at entries member)
-refers entries (NameType name descriptor) = is_text (entry_at entries name) && is_text (entry_at entries descriptor)
+refers entries (Field class member) =
+    is_class (entry_at entries class) && is_member (entry_at entries member)
+refers entries (Method class member) =
+    is_class (entry_at entries class) && is_member (entry_at entries member)
+refers entries (NameType name descriptor) =
+    is_text (entry_at entries name) && is_text (entry_at entries descriptor)
 
 -- the numbers of a constant fit their bytes, and its text is plain
 abbrev pub Fits : Constant → Type 0

@@ -1,7 +1,7 @@
 ghost use Rattle.std.specs.Prelude.{◌≡◌, ◌≢◌, ℕ, ◌+◌, ◌<◌, ◌≤◌, [], length, slice_get, Some, IfOk, IfSome, IfNone, OnErr, IsTrue};
 ghost use Rattle.std.specs.Int.{w32};
 ghost use Rattle.par_pool.specs.declared.constant.Constant.TheVariants.{Utf8, Integer, Class, Field, Method, NameType};
-ghost use Rattle.par_pool.specs.Entries.{IsAt, IsUtf8At, IsClassAt, IsNameTypeAt, IsFieldAt, IsMethodAt};
+ghost use Rattle.par_pool.specs.Entries.{IsAt, IsUtf8At, IsClassAt, IsNameTypeAt, IsFieldAt, IsMethodAt, IsDistinct};
 ghost use Rattle.par_pool.specs.Growth.{Adds, IsClassPart, IsNameTypePart, IsNamingPart, IsMemberPart};
 ghost use Rattle.par_pool.specs.Spelling.{IsText, Fits, refers, IsPool};
 
@@ -65,7 +65,8 @@ impl PoolBuilder {
         requires fits { Fits wanted }
         requires refer { IsTrue (refers self.old wanted) }
         ensures named { IfOk result (λ index. IsAt self.new index wanted) }
-        ensures again { (i : ℕ) → IsAt self.old i wanted → IfOk result (λ index. (index ≡ i) × (self.new ≡ self.old)) }
+        ensures again { (i : ℕ) → IsAt self.old i wanted →
+            IfOk result (λ index. (index ≡ i) × (self.new ≡ self.old)) }
         ensures added { Adds self.old self.new 1 (λ constant. constant ≡ wanted) }
     {
         if let Some(place) = place_of(self.entries.as_slice(), &wanted) {
@@ -80,7 +81,8 @@ impl PoolBuilder {
         requires room { length self.old + 1 < 65535 }
         requires text { IsText bytes.now }
         ensures named { IfOk result (λ index. IsUtf8At self.new index bytes.now) }
-        ensures again { (i : ℕ) → IsUtf8At self.old i bytes.now → IfOk result (λ index. (index ≡ i) × (self.new ≡ self.old)) }
+        ensures again { (i : ℕ) → IsUtf8At self.old i bytes.now →
+            IfOk result (λ index. (index ≡ i) × (self.new ≡ self.old)) }
         ensures added { Adds self.old self.new 1 (λ constant. constant ≡ Utf8 bytes.now) }
     {
         let text = Vec::from_slice(self.alloc, bytes)?;
@@ -91,7 +93,8 @@ impl PoolBuilder {
     pub fn integer(&mut self, number: i32) -> Result<u16, NoMemory>
         requires { length self.old + 1 < 65535 }
         ensures named { IfOk result (λ index. IsAt self.new index (Integer number)) }
-        ensures again { (i : ℕ) → IsAt self.old i (Integer number) → IfOk result (λ index. (index ≡ i) × (self.new ≡ self.old)) }
+        ensures again { (i : ℕ) → IsAt self.old i (Integer number) →
+            IfOk result (λ index. (index ≡ i) × (self.new ≡ self.old)) }
         ensures added { Adds self.old self.new 1 (λ constant. constant ≡ Integer number) }
     {
         self.put(Constant::Integer(number))
@@ -102,7 +105,8 @@ impl PoolBuilder {
         requires room { length self.old + 2 < 65535 }
         requires text { IsText name.now }
         ensures named { IfOk result (λ index. IsClassAt self.new index name.now) }
-        ensures again { (i : ℕ) → IsClassAt self.old i name.now → IfOk result (λ index. (index ≡ i) × (self.new ≡ self.old)) }
+        ensures again { (i : ℕ) → IsClassAt self.old i name.now →
+            IfOk result (λ index. (index ≡ i) × (self.new ≡ self.old)) }
         ensures added { Adds self.old self.new 2 (IsClassPart self.new name.now) }
     {
         let text = self.utf8(name)?;
@@ -115,7 +119,8 @@ impl PoolBuilder {
         requires name { IsText name.now }
         requires descriptor { IsText descriptor.now }
         ensures named { IfOk result (λ index. IsNameTypeAt self.new index name.now descriptor.now) }
-        ensures again { (i : ℕ) → IsNameTypeAt self.old i name.now descriptor.now → IfOk result (λ index. (index ≡ i) × (self.new ≡ self.old)) }
+        ensures again { (i : ℕ) → IsNameTypeAt self.old i name.now descriptor.now →
+            IfOk result (λ index. (index ≡ i) × (self.new ≡ self.old)) }
         ensures added { Adds self.old self.new 3 (IsNameTypePart self.new name.now descriptor.now) }
     {
         let first = self.utf8(name)?;
@@ -135,10 +140,13 @@ impl PoolBuilder {
         requires name { IsText name.now }
         requires descriptor { IsText descriptor.now }
         ensures owner { IfOk result (λ pair. IsClassAt self.new pair.0 class.now) }
-        ensures member { IfOk result (λ pair. IsNameTypeAt self.new pair.1 name.now descriptor.now) }
-        ensures again { (i j : ℕ) → IsClassAt self.old i class.now → IsNameTypeAt self.old j name.now descriptor.now →
+        ensures member { IfOk result (λ pair.
+            IsNameTypeAt self.new pair.1 name.now descriptor.now) }
+        ensures again { (i j : ℕ) → IsClassAt self.old i class.now →
+            IsNameTypeAt self.old j name.now descriptor.now →
             IfOk result (λ pair. (pair.0 ≡ i) × (pair.1 ≡ j) × (self.new ≡ self.old)) }
-        ensures added { Adds self.old self.new 5 (IsNamingPart self.new class.now name.now descriptor.now) }
+        ensures added { Adds self.old self.new 5
+            (IsNamingPart self.new class.now name.now descriptor.now) }
     {
         let owner = self.class(class)?;
         let member = self.name_type(name, descriptor)?;
@@ -151,9 +159,12 @@ impl PoolBuilder {
         requires class { IsText class.now }
         requires name { IsText name.now }
         requires descriptor { IsText descriptor.now }
-        ensures named { IfOk result (λ index. IsFieldAt self.new index class.now name.now descriptor.now) }
-        ensures again { (i : ℕ) → IsFieldAt self.old i class.now name.now descriptor.now → IfOk result (λ index. (index ≡ i) × (self.new ≡ self.old)) }
-        ensures added { Adds self.old self.new 6 (IsMemberPart Field self.new class.now name.now descriptor.now) }
+        ensures named { IfOk result (λ index.
+            IsFieldAt self.new index class.now name.now descriptor.now) }
+        ensures again { (i : ℕ) → IsFieldAt self.old i class.now name.now descriptor.now →
+            IfOk result (λ index. (index ≡ i) × (self.new ≡ self.old)) }
+        ensures added { Adds self.old self.new 6
+            (IsMemberPart Field self.new class.now name.now descriptor.now) }
     {
         let (owner, member) = self.naming(class, name, descriptor)?;
         self.put(Constant::Field(owner, member))
@@ -165,17 +176,21 @@ impl PoolBuilder {
         requires class { IsText class.now }
         requires name { IsText name.now }
         requires descriptor { IsText descriptor.now }
-        ensures named { IfOk result (λ index. IsMethodAt self.new index class.now name.now descriptor.now) }
-        ensures again { (i : ℕ) → IsMethodAt self.old i class.now name.now descriptor.now → IfOk result (λ index. (index ≡ i) × (self.new ≡ self.old)) }
-        ensures added { Adds self.old self.new 6 (IsMemberPart Method self.new class.now name.now descriptor.now) }
+        ensures named { IfOk result (λ index.
+            IsMethodAt self.new index class.now name.now descriptor.now) }
+        ensures again { (i : ℕ) → IsMethodAt self.old i class.now name.now descriptor.now →
+            IfOk result (λ index. (index ≡ i) × (self.new ≡ self.old)) }
+        ensures added { Adds self.old self.new 6
+            (IsMemberPart Method self.new class.now name.now descriptor.now) }
     {
         let (owner, member) = self.naming(class, name, descriptor)?;
         self.put(Constant::Method(owner, member))
     }
 
-    /// The pool of all entries, which has a spelling.
+    /// The pool of all entries, which has a spelling, and in which none stands twice.
     pub fn finish(self) -> Pool
         ensures same { result.entries ≡ self }
+        ensures distinct { IsDistinct result.entries }
         ensures spelled { IsPool result.entries }
     {
         Pool {

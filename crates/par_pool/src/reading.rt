@@ -103,7 +103,8 @@ fn constants_of(
     number: u16,
     bytes: &[u8],
 ) -> Result<(Vec<Constant>, &[u8]), ClassError>
-    ensures read { Gives (λ x. (x.0.items, x.1.now)) result (items (constant_at short) (number - 1) 1 bytes.now) }
+    ensures read { Gives (λ x. (x.0.items, x.1.now)) result
+        (items (constant_at short) (number - 1) 1 bytes.now) }
     ensures few { IfOk result (λ x. length x.0.items < 65535) }
 {
     let mut constants = Vec::new(alloc);
@@ -151,7 +152,9 @@ fn located(alloc: Global, bytes: &[u8], from: usize) -> Result<(Pool, usize), Cl
     requires placed { from ≤ length bytes.now }
     requires small { length bytes.now ≤ 1048576 }
     ensures within { IfOk result (λ read. read.1 ≤ length bytes.now) }
-    ensures exact { Gives {Y = Items Entry × Items ℕ} (λ read. (read.0.entries, drop read.1 bytes.now)) result (pool_at (Cut (length bytes.now)) (drop from bytes.now)) }
+    ensures exact { Gives {Y = Items Entry × Items ℕ}
+        (λ read. (read.0.entries, drop read.1 bytes.now)) result
+        (pool_at (Cut (length bytes.now)) (drop from bytes.now)) }
 {
     let short = ClassError::Cut(bytes.len() as u32);
     let (_, behind) = bytes.split_at(from);
@@ -170,11 +173,16 @@ fn located(alloc: Global, bytes: &[u8], from: usize) -> Result<(Pool, usize), Cl
 pub fn read_pool(alloc: Global, bytes: &[u8], from: usize) -> Result<(Pool, usize), ClassError>
     requires placed { from ≤ length bytes.now }
     requires small { length bytes.now ≤ 1048576 }
-    ensures found { IfOk result (λ read. IsPoolAt (drop from bytes.now) read.0.entries (drop read.1 bytes.now)) }
+    ensures found { IfOk result (λ read.
+        IsPoolAt (drop from bytes.now) read.0.entries (drop read.1 bytes.now)) }
     ensures within { IfOk result (λ read. read.1 ≤ length bytes.now) }
-    ensures only { (entries : Items Entry) (rest : Items ℕ) → IsPoolAt (drop from bytes.now) entries rest →
-        Gives {Y = Items Entry × Items ℕ} (λ read. (read.0.entries, drop read.1 bytes.now)) result (Ok (entries, rest)) }
-    ensures exact { Gives (λ read. (read.0.entries, drop read.1 bytes.now)) result (pool_at (Cut (length bytes.now)) (drop from bytes.now)) }
+    ensures only { (entries : Items Entry) (rest : Items ℕ) →
+        IsPoolAt (drop from bytes.now) entries rest →
+        Gives {Y = Items Entry × Items ℕ}
+        (λ read. (read.0.entries, drop read.1 bytes.now)) result
+        (Ok (entries, rest)) }
+    ensures exact { Gives (λ read. (read.0.entries, drop read.1 bytes.now)) result
+        (pool_at (Cut (length bytes.now)) (drop from bytes.now)) }
 {
     located(alloc, bytes, from)
 }

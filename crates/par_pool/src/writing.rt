@@ -72,7 +72,8 @@ fn put_two(out: &mut Vec<u8>, tag: u8, first: u16, second: u16) -> Result<(), No
 
 fn put_each(out: &mut Vec<u8>, constants: &[Constant]) -> Result<(), NoMemory>
     requires { All Fits constants.now }
-    ensures { OnOk result (out.new.items ≡ out.old.items ++ flat_map spelling.constant constants.now) }
+    ensures { OnOk result
+        (out.new.items ≡ out.old.items ++ flat_map spelling.constant constants.now) }
 {
     for constant in constants {
         put_constant(out, constant)?;

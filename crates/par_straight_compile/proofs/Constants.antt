@@ -12,8 +12,8 @@ use Rattle.par_straight.specs.declared.program.Program.{Program}
 use Rattle.par_straight.specs.Names.{Name}
 use Rattle.par_straight.specs.Meaning.{field_name_of, channel_name_of, field_name, channel_name}
 use Rattle.par_straight_compile.specs.Compilable.{HasChannel}
-use Rattle.par_straight_compile.specs.Constants.{texts, descriptor_of, IsClassName, NamesField, NamesChannel, IsConstantOf}
-use Rattle.par_straight_compile.proofs.Listed.{there, known_listed, field_listed, channel_listed, init_listed, int_listed, nothing_listed, channel_kind_listed}
+use Rattle.par_straight_compile.specs.Constants.{texts, members, descriptor_of, IsClassName, NamesField, NamesChannel, NamesMember, IsConstantOf}
+use Rattle.par_straight_compile.proofs.Listed.{there, known_listed, field_listed, channel_listed, init_listed, int_listed, field_member, channel_member, init_member, nothing_listed, channel_kind_listed}
 
 -- ---- what is added
 
@@ -29,15 +29,15 @@ pub class_part : (p : Program) (pool : List Constant) (name : Name) → IsClassN
 class_part p pool name known c (inl e) = text-is p pool name c (known_listed p name known) e
 class_part p pool name known c (inr t) = subst (IsConstantOf p pool) (sym t.1) (class-is p pool t.0 name t.2 known)
 
-name-type-part : (p : Program) (pool : List Constant) (name kind : Name) → Contains (texts p) name → Contains (texts p) kind → (c : Constant) → IsNameTypePart pool name kind c → IsConstantOf p pool c
-name-type-part p pool name kind h k c (inl e) = text-is p pool name c h e
-name-type-part p pool name kind h k c (inr (inl e)) = text-is p pool kind c k e
-name-type-part p pool name kind h k c (inr (inr t)) = subst (IsConstantOf p pool) (sym t.2) tt
+name-type-part : (p : Program) (pool : List Constant) (name kind : Name) → Contains (texts p) name → Contains (texts p) kind → Contains (members p) (name, kind) → (c : Constant) → IsNameTypePart pool name kind c → IsConstantOf p pool c
+name-type-part p pool name kind h k m c (inl e) = text-is p pool name c h e
+name-type-part p pool name kind h k m c (inr (inl e)) = text-is p pool kind c k e
+name-type-part p pool name kind h k m c (inr (inr t)) = subst (IsConstantOf p pool) (sym t.2) (record { member = (name, kind); listed = m; is_name = t.3; is_descriptor = t.4 })
 
-naming-part : (p : Program) (pool : List Constant) (class name kind : Name) → IsClassName p class → Contains (texts p) name → Contains (texts p) kind
+naming-part : (p : Program) (pool : List Constant) (class name kind : Name) → IsClassName p class → Contains (texts p) name → Contains (texts p) kind → Contains (members p) (name, kind)
     → (c : Constant) → IsNamingPart pool class name kind c → IsConstantOf p pool c
-naming-part p pool class name kind g h k c (inl e) = class_part p pool class g c e
-naming-part p pool class name kind g h k c (inr e) = name-type-part p pool name kind h k c e
+naming-part p pool class name kind g h k m c (inl e) = class_part p pool class g c e
+naming-part p pool class name kind g h k m c (inr e) = name-type-part p pool name kind h k m c e
 
 field-at : (fs : List declared.Field) (f : ℕ) → f < length fs → (field : declared.Field) × Contains fs field × (field_name_of (slice_get fs f) ≡ field.name)
 field-at [] f lt = absurd (omega arith)
@@ -54,7 +54,8 @@ pub field_part : (p : Program) (pool : List Constant) (f : ℕ) → f < length p
 field_part p pool f lt c (inl e) =
     let at = field-at p.fields f lt in
     let listed : Contains (texts p) (field_name p f) = subst (λ (n : Name). Contains (texts p) n) (sym at.2) (field_listed p at.0 at.1) in
-    naming-part p pool p.class (field_name p f) (codes "I") (inl refl) listed (int_listed p at.0 at.1) c e
+    let member : Contains (members p) (field_name p f, codes "I") = subst (λ (n : Name). Contains (members p) (n, codes "I")) (sym at.2) (field_member p at.0 at.1) in
+    naming-part p pool p.class (field_name p f) (codes "I") (inl refl) listed (int_listed p at.0 at.1) member c e
 field_part p pool f lt c (inr t) = subst (IsConstantOf p pool) (sym t.2) (names-field p pool f t.0 t.1 lt t.3 t.4)
 
 -- the number of a declared channel
@@ -73,6 +74,12 @@ channel-name p i is_input h = subst (λ (n : Name). Contains (texts p) n) (sym (
 channel-kind : (p : Program) (i : ℕ) (is_input : Bool) → HasChannel p i is_input → Contains (texts p) (descriptor_of is_input)
 channel-kind p i is_input h = subst (λ (b : Bool). Contains (texts p) (descriptor_of b)) h.direction (channel_kind_listed p h.channel (channel-at p i is_input h))
 
+-- both
+channel-pair : (p : Program) (i : ℕ) (is_input : Bool) → HasChannel p i is_input → Contains (members p) (channel_name p i, descriptor_of is_input)
+channel-pair p i is_input h =
+    subst (λ (n : Name). Contains (members p) (n, descriptor_of is_input)) (sym (ap channel_name_of h.stands))
+    (subst (λ (b : Bool). Contains (members p) (h.channel.name, descriptor_of b)) h.direction (channel_member p h.channel (channel-at p i is_input h)))
+
 names-channel : (p : Program) (pool : List Constant) (i : ℕ) (is_input : Bool) (owner member : ℕ) → HasChannel p i is_input → IsClassAt pool owner p.class
     → IsNameTypeAt pool member (channel_name p i) (descriptor_of is_input) → NamesChannel p pool owner member
 names-channel p pool i is_input owner member h is_class is_member = record {
@@ -88,12 +95,12 @@ names-channel p pool i is_input owner member h is_class is_member = record {
 pub channel_part : (p : Program) (pool : List Constant) (i : ℕ) (is_input : Bool) → HasChannel p i is_input
     → (c : Constant) → IsMemberPart Method pool p.class (channel_name p i) (descriptor_of is_input) c → IsConstantOf p pool c
 channel_part p pool i is_input h c (inl e) =
-    naming-part p pool p.class (channel_name p i) (descriptor_of is_input) (inl refl) (channel-name p i is_input h) (channel-kind p i is_input h) c e
+    naming-part p pool p.class (channel_name p i) (descriptor_of is_input) (inl refl) (channel-name p i is_input h) (channel-kind p i is_input h) (channel-pair p i is_input h) c e
 channel_part p pool i is_input h c (inr t) = subst (IsConstantOf p pool) (sym t.2) (inl (names-channel p pool i is_input t.0 t.1 h t.3 t.4))
 
 -- of the initializer of the superclass
 pub super_part : (p : Program) (pool : List Constant) (c : Constant) → IsMemberPart Method pool (codes "java/lang/Object") (codes "<init>") (codes "()V") c → IsConstantOf p pool c
-super_part p pool c (inl e) = naming-part p pool (codes "java/lang/Object") (codes "<init>") (codes "()V") (inr refl) (init_listed p) (nothing_listed p) c e
+super_part p pool c (inl e) = naming-part p pool (codes "java/lang/Object") (codes "<init>") (codes "()V") (inr refl) (init_listed p) (nothing_listed p) (init_member p) c e
 super_part p pool c (inr t) = subst (IsConstantOf p pool) (sym t.2) (inr (record { is_class = t.3; is_member = t.4 }))
 
 -- ---- what stays
@@ -125,12 +132,20 @@ module _ (p : Program) (old new : List Constant) (few : ℕ) (P : Constant → T
         is_member = name_type_kept old new few P adds member (codes "<init>") (codes "()V") h.is_member;
       })
 
+  member-stays : (name descriptor : ℕ) → NamesMember p old name descriptor → NamesMember p new name descriptor
+  member-stays name descriptor h = record {
+    member = h.member;
+    listed = h.listed;
+    is_name = at_kept old new few P adds name (Utf8 h.member.0) h.is_name;
+    is_descriptor = at_kept old new few P adds descriptor (Utf8 h.member.1) h.is_descriptor;
+  }
+
   -- a constant of the file stays one
   pub constant_stays : (c : Constant) → IsConstantOf p old c → IsConstantOf p new c
   constant_stays (Utf8 text) h = h
-  constant_stays (Integer n) h = tt
+  constant_stays (Integer n) h = h
   constant_stays (Class name) h = class-stays name h
   constant_stays (Text text) h = h
   constant_stays (Field owner member) h = field-stays owner member h
   constant_stays (Method owner member) h = method-stays owner member h
-  constant_stays (NameType name descriptor) h = tt
+  constant_stays (NameType name descriptor) h = member-stays name descriptor h

@@ -1,6 +1,6 @@
 -- Items one after another.
 use Rattle.std.proofs.Common.{◌≡◌, ℕ, ◌+◌, ◌<◌, ◌≤◌, Bool, true, false, List, [], ◌∷◌, ◌++◌, length, refl, sym, ap, subst, ◌∙◌, append_assoc, length-append, arith}
-use Rattle.std.specs.Prelude.{ℤ, codes}
+use Rattle.std.specs.Prelude.{ℤ, Contains, codes}
 use Rattle.std.proofs.lemmas.List.{append-nil}
 use Rattle.par_instr.specs.declared.instr.Instr.{Instr}
 use Rattle.par_instr.specs.declared.instr.Instr.TheVariants.{Sipush, LdcW, If, IfIcmp, IfAcmpeq, IfAcmpne, Goto, Getstatic, Putstatic, Getfield, Putfield, Invokevirtual, Invokespecial, Invokestatic, New, Ifnull, Ifnonnull}
@@ -13,8 +13,8 @@ use Rattle.par_straight.specs.declared.program.Program.{Program}
 use Rattle.par_straight.specs.Names.{Name}
 use Rattle.par_straight.specs.Meaning.{field_name, channel_name}
 use Rattle.par_straight_compile.specs.declared.draft.Draft.{Draft}
-use Rattle.par_straight_compile.specs.Code.{Item, plain, push, get, put, read, write}
-use Rattle.par_straight_compile.specs.Bytes.{IsPush, IsItem, IsCode}
+use Rattle.par_straight_compile.specs.Code.{Item, plain, push, get, put, read, write, code_of}
+use Rattle.par_straight_compile.specs.Bytes.{within, IsPush, IsItem, IsCode}
 use Rattle.par_straight_compile.specs.Compilable.{HasChannel}
 use Rattle.par_straight_compile.specs.Constants.{descriptor_of, IsConstantOf}
 use Rattle.par_straight_compile.specs.Growing.{Grows, Stays, Emits}
@@ -81,10 +81,10 @@ pub plain_emits : (p : Program) (instr : Instr) (old new : Draft) → new.code.i
 plain_emits p instr old new behind spelled same = item_emits p (plain instr) instr old new behind spelled (grows_not p 1 old.pool new.pool same) (λ n later g. refl)
 
 pub push_emits : (p : Program) (v : ℤ) (instr : Instr) (old new : Draft) (pool : List Constant) → new.pool ≡ pool → new.code.items ≡ old.code.items ++ spelling instr → IsSpelled (spelling instr) instr
-    → Adds old.pool pool 1 (λ c. c ≡ Integer v) → IsPush pool v instr → Emits p 1 (λ k. push v ∷ k) old new
-push_emits p v instr old new pool same behind spelled adds is =
+    → Adds old.pool pool 1 (λ c. (c ≡ Integer v) × (within 32768 v ≡ false)) → IsPush pool v instr → Contains (code_of p) (push v) → Emits p 1 (λ k. push v ∷ k) old new
+push_emits p v instr old new pool same behind spelled adds is coded =
     item_emits p (push v) instr old new behind spelled
-    (subst (λ (q : List Constant). Grows p 1 old.pool q) (sym same) (grows_by p 1 old.pool pool (λ c. c ≡ Integer v) adds (omega arith) (λ c e. subst (IsConstantOf p pool) (sym e) tt)))
+    (subst (λ (q : List Constant). Grows p 1 old.pool q) (sym same) (grows_by p 1 old.pool pool (λ c. (c ≡ Integer v) × (within 32768 v ≡ false)) adds (omega arith) (λ c e. subst (IsConstantOf p pool) (sym e.0) (record { wide = e.1; pushed = coded }))))
     (subst (λ (q : List Constant). Stays p q (λ r. IsPush r v instr)) (sym same) (push_stays p pool v instr is))
 
 -- an item that names a field, where the pool has its entry by now

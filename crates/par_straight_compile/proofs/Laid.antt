@@ -33,11 +33,20 @@ use Rattle.par_straight_compile.specs.Files.{IsFieldOf, IsMethodOf, HasCode, IsS
 use Rattle.par_straight_compile.proofs.Most.{stack_few, locals_few, super_length, main_length}
 
 -- code without handlers and attributes has twelve bytes beside its instructions
-code-length : (c : CodeAttr) → c.catches ≡ [] → c.attributes ≡ [] → length (code c) ≡ length c.code + 12
+pub code_length : (c : CodeAttr) → c.catches ≡ [] → c.attributes ≡ [] → length (code c) ≡ length c.code + 12
 unfolding code
-code-length c catches attributes =
+code_length c catches attributes =
     let bare : length (code (record c { catches = []; attributes = [] })) ≡ length c.code + 12 = omega (arith, length-append c.code (0 ∷ 0 ∷ 0 ∷ 0 ∷ [])) in
     ap (λ (xs : List Catch). length (code (record c { catches = xs }))) catches ∙ ap (λ (xs : List Attribute). length (code (record c { catches = []; attributes = xs }))) attributes ∙ bare
+
+-- a channel has no pieces
+pub no_pieces : (entries : List Constant) (least : ℕ) (d : Channel) (m : MethodFile) → IsChannelOf entries d m → pieces_of least m ≡ []
+no_pieces entries least d m h = ap (λ o. code_piece least o ++ map (λ a. Plain a) m.attributes) h.native ∙ ap (λ (xs : List Attribute). map (λ a. Plain a) xs) h.is_method.attributes
+
+-- the pieces of a method with this code alone
+pub coded_pieces : (least : ℕ) (operands locals : ℕ) (IsBody : List ℕ → Type 0) (m : MethodFile) (h : HasCode operands locals IsBody m) → m.attributes ≡ [] → pieces_of least m ≡ Code least h.code ∷ []
+coded_pieces least operands locals IsBody m h attributes =
+    ap (λ o. code_piece least o ++ map (λ a. Plain a) m.attributes) h.has ∙ ap (λ (xs : List Attribute). Code least h.code ∷ map (λ a. Plain a) xs) attributes
 
 module _ (entries : List Constant) (few : length entries + 1 < 2 ^ 16) where
   -- ---- indices
@@ -96,8 +105,7 @@ module _ (entries : List Constant) (few : length entries + 1 < 2 ^ 16) where
 
   channel-fits : (d : Channel) (m : MethodFile) → IsChannelOf entries d m → FitsMethod entries (method_laid least m)
   channel-fits d m h =
-      let pieces : pieces_of least m ≡ [] = ap (λ o. code_piece least o ++ map (λ a. Plain a) m.attributes) h.native ∙ ap (λ (xs : List Attribute). map (λ a. Plain a) xs) h.is_method.attributes in
-      laid-fits 0x0109 d.name (channel_descriptor d) m [] h.is_method (omega arith) pieces (omega arith, tt) refl
+      laid-fits 0x0109 d.name (channel_descriptor d) m [] h.is_method (omega arith) (no_pieces entries least d m h) (omega arith, tt) refl
 
   -- ---- methods with code
 
@@ -108,7 +116,7 @@ module _ (entries : List Constant) (few : length entries + 1 < 2 ^ 16) where
         omega arith,
         (
           (
-            record { name = name.0; size = omega (arith, code-length h.code h.catches h.attributes, long.1) },
+            record { name = name.0; size = omega (arith, code_length h.code h.catches h.attributes, long.1) },
             record {
               max_stack = omega (arith, h.max_stack, stack);
               max_locals = omega (arith, h.max_locals, local);
@@ -122,20 +130,15 @@ module _ (entries : List Constant) (few : length entries + 1 < 2 ^ 16) where
         ),
       )
 
-  -- the pieces of a method with this code alone
-  coded-pieces : (operands locals : ℕ) (IsBody : List ℕ → Type 0) (m : MethodFile) (h : HasCode operands locals IsBody m) → m.attributes ≡ [] → pieces_of least m ≡ Code least h.code ∷ []
-  coded-pieces operands locals IsBody m h attributes =
-      ap (λ o. code_piece least o ++ map (λ a. Plain a) m.attributes) h.has ∙ ap (λ (xs : List Attribute). Code least h.code ∷ map (λ a. Plain a) xs) attributes
-
   initializer-fits : (code : ℕ) (m : MethodFile) → IsUtf8At entries code (codes "Code") → IsInitializer entries m → FitsMethod entries (method_laid least m)
   initializer-fits code m named h =
-      laid-fits 0x0001 (codes "<init>") (codes "()V") m (Code least h.has_code.code ∷ []) h.is_method (omega arith) (coded-pieces 1 1 (IsSuperCall entries) m h.has_code h.is_method.attributes)
+      laid-fits 0x0001 (codes "<init>") (codes "()V") m (Code least h.has_code.code ∷ []) h.is_method (omega arith) (coded_pieces least 1 1 (IsSuperCall entries) m h.has_code h.is_method.attributes)
       (code-fits code 1 1 (IsSuperCall entries) m h.has_code named (omega arith) (omega arith) (super_length entries h.has_code.code.code h.has_code.body)) refl
 
   main-fits : (p : Program) (code : ℕ) (m : MethodFile) → IsCompilable p → IsUtf8At entries code (codes "Code") → IsMain p entries m → FitsMethod entries (method_laid least m)
   main-fits p code m fine named h =
       let Body : List ℕ → Type 0 = IsCode entries p.class (code_of p) in
-      laid-fits 0x0009 (codes "main") (codes "()V") m (Code least h.has_code.code ∷ []) h.is_method (omega arith) (coded-pieces (max_stack p.steps) (max_locals p.steps) Body m h.has_code h.is_method.attributes)
+      laid-fits 0x0009 (codes "main") (codes "()V") m (Code least h.has_code.code ∷ []) h.is_method (omega arith) (coded_pieces least (max_stack p.steps) (max_locals p.steps) Body m h.has_code h.is_method.attributes)
       (code-fits code (max_stack p.steps) (max_locals p.steps) Body m h.has_code named (omega (arith, stack_few p.steps)) (omega (arith, locals_few p p.steps fine.actions))
       (main_length p entries h.has_code.code.code fine.items h.has_code.body)) refl
 

@@ -2,6 +2,7 @@ pub mod Listed
 pub mod Constants
 pub mod Stays
 pub mod Emitting
+pub mod Pushed
 pub mod Sequences
 pub mod Naming
 pub mod Declared
@@ -9,4 +10,6 @@ pub mod Given
 pub mod Most
 pub mod Whole
 pub mod Laid
+pub mod Texts
+pub mod Short
 pub mod Examples

@@ -11,7 +11,7 @@ use Rattle.par_straight.specs.declared.program.Field.{Field}
 use Rattle.par_straight.specs.declared.program.Channel.{Channel}
 use Rattle.par_straight.specs.declared.program.Program.{Program}
 use Rattle.par_straight.specs.Names.{Name}
-use Rattle.par_straight_compile.specs.Constants.{fixed_texts, field_names, channel_names, declared_names, descriptors, texts, descriptor_of, channel_descriptor, IsClassName}
+use Rattle.par_straight_compile.specs.Constants.{fixed_texts, field_names, channel_names, declared_names, descriptors, texts, members, descriptor_of, channel_descriptor, IsClassName}
 
 letter_plain : (b : ℕ) → is_letter b ≡ true → (nat_lt 0 b && nat_lt b 128) ≡ true
 letter_plain b h = grind arith
@@ -87,6 +87,26 @@ field_text_listed p f fields d text lt same e =
 pub channel_text_listed : (p : Program) (c : ℕ) (channels : List Channel) (d : Channel) (text : Name) → c < length p.channels → channels ≡ p.channels → text ≡ (get_or channels c d).name → Contains (texts p) text
 channel_text_listed p c channels d text lt same e =
     subst (λ (t : Name). Contains (texts p) t) (sym e) (channel_listed p (get_or channels c d) (stands_in channels p.channels c d (get_or channels c d) lt same refl))
+
+-- the name and the descriptor of a declared field
+pub field_member : (p : Program) (field : Field) → Contains p.fields field → Contains (members p) (field.name, codes "I")
+field_member p field h =
+    let fields = map (λ f. (f.name, codes "I")) p.fields in
+    let channels = map (λ c. (c.name, channel_descriptor c)) p.channels in
+    let pair : Name × Name = (field.name, codes "I") in
+    there (codes "<init>", codes "()V") pair (fields ++ channels) (Contains-append_left fields channels pair (mapped (λ f. (f.name, codes "I")) p.fields field h))
+
+-- the name and the descriptor of a declared channel
+pub channel_member : (p : Program) (channel : Channel) → Contains p.channels channel → Contains (members p) (channel.name, channel_descriptor channel)
+channel_member p channel h =
+    let fields = map (λ f. (f.name, codes "I")) p.fields in
+    let channels = map (λ c. (c.name, channel_descriptor c)) p.channels in
+    let pair : Name × Name = (channel.name, channel_descriptor channel) in
+    there (codes "<init>", codes "()V") pair (fields ++ channels) (Contains-append_right fields channels pair (mapped (λ c. (c.name, channel_descriptor c)) p.channels channel h))
+
+-- those of an initializer
+pub init_member : (p : Program) → Contains (members p) (codes "<init>", codes "()V")
+init_member p = (0, omega arith, refl)
 
 pub code_listed : (p : Program) → Contains (texts p) (codes "Code")
 unfolding texts

@@ -1,9 +1,11 @@
 -- Members whose names and descriptors the pool has.
 use Rattle.std.proofs.Common.{◌≡◌, ℕ, ◌+◌, ◌<◌, List, [], ◌∷◌, ◌++◌, length, get_or, take, sym, ap, subst, ◌∙◌, arith}
-use Rattle.std.specs.Prelude.{Contains, codes, Some, None}
+use Rattle.std.specs.Prelude.{All, Contains, codes, Some, None}
+use Rattle.std.proofs.lemmas.List.Elements.{All-cons, All-append, All-push, All-map}
 use Rattle.std.proofs.Math.Seq.{take-length}
 use Rattle.std.specs.List.{AllZip}
 use Rattle.std.proofs.lemmas.List.{take_more}
+use Rattle.par_lexer.specs.Names.{IsName}
 use Rattle.par_pool.specs.declared.constant.Constant.{Constant}
 use Rattle.par_instr.specs.declared.instr.Instr.TheVariants.{AloadShort, Invokespecial, Return}
 use Rattle.par_instr.specs.Spelling.{spelling}
@@ -17,7 +19,7 @@ use Rattle.par_straight.specs.declared.program.Field.{Field}
 use Rattle.par_straight.specs.declared.program.Channel.{Channel}
 use Rattle.par_straight.specs.declared.program.Program.{Program}
 use Rattle.par_straight.specs.Names.{Name}
-use Rattle.par_straight_compile.specs.Constants.{texts, channel_descriptor, IsConstantOf}
+use Rattle.par_straight_compile.specs.Constants.{texts, field_names, channel_names, declared_names, channel_descriptor, IsConstantOf}
 use Rattle.par_straight_compile.specs.Files.{IsFieldOf, IsChannelOf, IsInitializer, IsMain}
 use Rattle.par_straight_compile.specs.Code.{code_of, max_stack, max_locals}
 use Rattle.par_straight_compile.specs.Bytes.{IsCode}
@@ -58,6 +60,24 @@ pub zip_done : {A B : Type 0} (R : List Constant → A → B → Type 0) (p : Pr
 zip_done {A} {B} R p xs zs i ys a e same s = λ m later g.
     let all : take i xs ≡ zs = ap (λ (n : ℕ). take n xs) e ∙ (take-length xs ∙ same) in
     subst (λ (ws : List A). AllZip (R later) ws ys) all (s m later g)
+
+-- one more that has a property
+pub names_more : {A : Type 0} (P : A → Type 0) (xs : List A) (i : ℕ) (x : A) → i < length xs → get_or xs i x ≡ x → All P (take i xs) → P x → All P (take (i + 1) xs)
+names_more {A} P xs i x lt is so-far h =
+    let more : take (i + 1) xs ≡ take i xs ++ x ∷ [] = take_more xs i x lt ∙ ap (λ (e : A). take i xs ++ e ∷ []) is in
+    subst (λ (zs : List A). All P zs) (sym more) (All-push P (take i xs) x so-far h)
+
+-- all have it
+pub names_done : {A : Type 0} (P : A → Type 0) (xs zs : List A) (i : ℕ) → i ≡ length xs → xs ≡ zs → All P (take i xs) → All P zs
+names_done {A} P xs zs i e same h =
+    let all : take i xs ≡ zs = ap (λ (n : ℕ). take n xs) e ∙ (take-length xs ∙ same) in
+    subst (λ (ws : List A). All P ws) all h
+
+-- each declared name is one
+pub all_named : (p : Program) → IsName p.class → All (λ f. IsName f.name) p.fields → All (λ c. IsName c.name) p.channels → All IsName (declared_names p)
+all_named p class fields channels =
+    All-cons IsName p.class (field_names p ++ channel_names p) class
+    (All-append IsName (field_names p) (channel_names p) (All-map IsName (λ f. f.name) p.fields fields) (All-map IsName (λ c. c.name) p.channels channels))
 
 -- a channel whose name and descriptor the pool has
 pub channel_is : (p : Program) (declared : Channel) (file : MethodFile) (a b : List Constant) (text kind : Name) → file.access ≡ 0x0109 → file.attributes ≡ [] → file.code ≡ None → text ≡ declared.name → kind ≡ channel_descriptor declared

@@ -5,7 +5,7 @@ use Rattle.std.specs.List.{AllZip}
 use Rattle.std.proofs.lemmas.List.{append-nil}
 use Rattle.par_instr.specs.declared.instr.Instr.TheVariants.{Return}
 use Rattle.par_pool.specs.declared.constant.Constant.{Constant}
-use Rattle.par_pool.specs.Entries.{IsUtf8At, IsClassAt}
+use Rattle.par_pool.specs.Entries.{IsUtf8At, IsClassAt, IsDistinct}
 use Rattle.par_class.specs.declared.file.MethodFile.{MethodFile}
 use Rattle.par_class.specs.declared.file.ClassFile.{ClassFile}
 use Rattle.par_straight.specs.Names.{Name}
@@ -47,10 +47,10 @@ methods_are p first last channels methods a b c all each more initializer then m
 }
 
 -- the file, whose parts the pool has kept
-pub file_is : (p : Program) (file : ClassFile) (a b c d e f : List Constant) (m l text : ℕ) (name : Name) → file.minor ≡ 0 → file.major ≡ 49 → file.access ≡ 0x0031 → file.attributes ≡ [] → file.pool.entries ≡ f
+pub file_is : (p : Program) (file : ClassFile) (a b c d e f : List Constant) (m l text : ℕ) (name : Name) → file.minor ≡ 0 → file.major ≡ 49 → file.access ≡ 0x0031 → file.attributes ≡ [] → file.pool.entries ≡ f → IsDistinct file.pool.entries
     → Grows p 4001 [] a → Grows p 1 a b → Stays p b (λ q. IsUtf8At q text (codes "Code")) → Grows p 1 b c → Stays p c (λ q. IsClassAt q file.this_class name) → name ≡ p.class → Grows p 1 c d → Stays p d (λ q. IsClassAt q file.super_class (codes "java/lang/Object"))
     → Grows p m d e → Stays p e (λ q. AllZip (IsFieldOf q) p.fields file.fields) → Grows p l e f → Stays p f (λ q. AreMethodsOf p q file.methods) → IsFileOf p file
-file_is p file a b c d e f m l text name minor major access attributes pool start ab code bc this is cd super de fields ef methods =
+file_is p file a b c d e f m l text name minor major access attributes pool distinct start ab code bc this is cd super de fields ef methods =
     let df = grows_then p m l (m + l) d e f de ef (omega arith) in
     let cf = grows_then p 1 (m + l) (1 + (m + l)) c d f cd df (omega arith) in
     let bf = grows_then p 1 (1 + (m + l)) (2 + (m + l)) b c f bc cf (omega arith) in
@@ -59,6 +59,7 @@ file_is p file a b c d e f m l text name minor major access attributes pool star
     record {
       minor = minor;
       major = major;
+      distinct = distinct;
       constants = subst (λ (q : List Constant). All (IsConstantOf p q) q) (sym pool) (subst (λ (q : List Constant). All (IsConstantOf p f) q) (sym all.behind) all.parts);
       code_named =
           (text, subst (λ (q : List Constant). IsUtf8At q text (codes "Code")) (sym pool) (stays_now p f (λ q. IsUtf8At q text (codes "Code")) (stays_later p (2 + (m + l)) b f (λ q. IsUtf8At q text (codes "Code")) bf code)));

@@ -30,7 +30,8 @@ abbrev pub IsPush : List Constant → ℤ → Instr → Type 0
 IsPush pool v i = cond (within 32768 v) (i ≡ pushed v) (IsWide pool v i)
 
 -- the instruction names a static field of type int
-pub record OfField (form : ℕ → Instr) (pool : List Constant) (class name : Name) (i : Instr) : Type 0 where
+pub record OfField (form : ℕ → Instr) (pool : List Constant) (class name : Name) (i : Instr)
+    : Type 0 where
   pub index : ℕ
   pub names : IsFieldAt pool index class name (codes "I")
   pub is : i ≡ form index
@@ -51,7 +52,8 @@ IsItem pool class (read name) i = Calls pool class name (codes "()I") i
 IsItem pool class (write name) i = Calls pool class name (codes "(I)V") i
 
 -- the bytes spell an item, and other bytes are left behind it
-pub record IsItemBefore (pool : List Constant) (class : Name) (item : Item) (bytes rest : List ℕ) : Type 0 where
+pub record IsItemBefore (pool : List Constant) (class : Name) (item : Item) (bytes rest : List ℕ)
+    : Type 0 where
   pub instr : Instr
   pub spelling : List ℕ
   pub is_item : IsItem pool class item instr
@@ -61,4 +63,5 @@ pub record IsItemBefore (pool : List Constant) (class : Name) (item : Item) (byt
 -- The bytes spell the items one after another.
 abbrev pub IsCode : List Constant → Name → List Item → List ℕ → Type 0
 IsCode pool class [] bytes = bytes ≡ []
-IsCode pool class (item ∷ items) bytes = (rest : List ℕ) × IsItemBefore pool class item bytes rest × IsCode pool class items rest
+IsCode pool class (item ∷ items) bytes =
+    (rest : List ℕ) × IsItemBefore pool class item bytes rest × IsCode pool class items rest

@@ -1,5 +1,5 @@
 -- What each constant of the class file of a program is (Java Virtual Machine Specification, Java SE 7, section 4.4).
-use Rattle.std.specs.Prelude.{◌≡◌, ℕ, Bool, ◌⊎◌, List, [], ◌∷◌, ◌++◌, map, codes, Contains, if◌then◌else◌}
+use Rattle.std.specs.Prelude.{◌≡◌, ℕ, ℤ, Bool, false, ◌⊎◌, List, [], ◌∷◌, ◌++◌, map, codes, Contains, if◌then◌else◌}
 use Rattle.par_pool.specs.declared.constant.Constant.{Constant}
 use Rattle.par_pool.specs.declared.constant.Constant.TheVariants as constant
 use Rattle.par_pool.specs.Entries.{IsUtf8At, IsClassAt, IsNameTypeAt}
@@ -7,10 +7,13 @@ use Rattle.par_straight.specs.declared.program.Field.{Field}
 use Rattle.par_straight.specs.declared.program.Channel.{Channel}
 use Rattle.par_straight.specs.declared.program.Program.{Program}
 use Rattle.par_straight.specs.Names.{Name}
+use Rattle.par_straight_compile.specs.Code.{push, code_of}
+use Rattle.par_straight_compile.specs.Bytes.{within}
 
 -- the texts that every file may have
 abbrev pub fixed_texts : List Name
-fixed_texts = codes "Code" ∷ codes "<init>" ∷ codes "java/lang/Object" ∷ codes "main" ∷ codes "()V" ∷ []
+fixed_texts =
+    codes "Code" ∷ codes "<init>" ∷ codes "java/lang/Object" ∷ codes "main" ∷ codes "()V" ∷ []
 
 abbrev pub field_names : Program → List Name
 field_names p = map (λ f. f.name) p.fields
@@ -37,6 +40,13 @@ descriptors p = map (λ f. codes "I") p.fields ++ map (λ c. channel_descriptor 
 unfoldable pub texts : Program → List Name
 texts p = fixed_texts ++ (declared_names p ++ descriptors p)
 
+-- the name and the descriptor of each member that the file may name: of the initializer, the fields and the channels
+abbrev pub members : Program → List (Name × Name)
+members p =
+    (codes "<init>", codes "()V")
+    ∷ (map (λ f. (f.name, codes "I")) p.fields
+    ++ map (λ c. (c.name, channel_descriptor c)) p.channels)
+
 -- the class of the program, or the superclass
 abbrev pub IsClassName : Program → Name → Type 0
 IsClassName p name = (name ≡ p.class) ⊎ (name ≡ codes "java/lang/Object")
@@ -60,12 +70,26 @@ pub record NamesSuper (pool : List Constant) (owner member : ℕ) : Type 0 where
   pub is_class : IsClassAt pool owner (codes "java/lang/Object")
   pub is_member : IsNameTypeAt pool member (codes "<init>") (codes "()V")
 
--- A constant of the file of a program: a text that it may have, its class or the superclass, or a member of one of these. No string is there.
+-- the two indices name the name and the descriptor of such a member
+pub record NamesMember (p : Program) (pool : List Constant) (name descriptor : ℕ) : Type 0 where
+  pub member : Name × Name
+  pub listed : Contains (members p) member
+  pub is_name : IsUtf8At pool name member.0
+  pub is_descriptor : IsUtf8At pool descriptor member.1
+
+-- a number of more than 16 bits that the code of `main` pushes
+pub record IsPushed (p : Program) (n : ℤ) : Type 0 where
+  pub wide : within 32768 n ≡ false
+  pub pushed : Contains (code_of p) (push n)
+
+-- A constant of the file of a program: a text that it may have, a number that its code pushes, its class or the superclass, or a member of one of these. No string is there.
 abbrev pub IsConstantOf : Program → List Constant → Constant → Type 0
 IsConstantOf p pool (constant.Utf8 text) = Contains (texts p) text
-IsConstantOf p pool (constant.Integer n) = Unit {0}
-IsConstantOf p pool (constant.Class name) = IsUtf8At pool name p.class ⊎ IsUtf8At pool name (codes "java/lang/Object")
+IsConstantOf p pool (constant.Integer n) = IsPushed p n
+IsConstantOf p pool (constant.Class name) =
+    IsUtf8At pool name p.class ⊎ IsUtf8At pool name (codes "java/lang/Object")
 IsConstantOf p pool (constant.Text text) = ⊥
 IsConstantOf p pool (constant.Field owner member) = NamesField p pool owner member
-IsConstantOf p pool (constant.Method owner member) = NamesChannel p pool owner member ⊎ NamesSuper pool owner member
-IsConstantOf p pool (constant.NameType name descriptor) = Unit {0}
+IsConstantOf p pool (constant.Method owner member) =
+    NamesChannel p pool owner member ⊎ NamesSuper pool owner member
+IsConstantOf p pool (constant.NameType name descriptor) = NamesMember p pool name descriptor

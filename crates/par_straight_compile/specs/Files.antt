@@ -1,10 +1,10 @@
 -- The class file of a straight-line program (Java Virtual Machine Specification, Java SE 7, chapter 4).
-use Rattle.std.specs.Prelude.{◌≡◌, ℕ, List, [], ◌∷◌, ◌++◌, codes, Some, None, All}
+use Rattle.std.specs.Prelude.{◌≡◌, ℕ, ◌≤◌, List, [], ◌∷◌, ◌++◌, length, codes, Some, None, All}
 use Rattle.std.specs.List.{AllZip}
 use Rattle.par_instr.specs.declared.instr.Instr.TheVariants.{AloadShort, Invokespecial, Return}
 use Rattle.par_instr.specs.Spelling.{spelling}
 use Rattle.par_pool.specs.declared.constant.Constant.{Constant}
-use Rattle.par_pool.specs.Entries.{IsUtf8At, IsClassAt, IsMethodAt}
+use Rattle.par_pool.specs.Entries.{IsUtf8At, IsClassAt, IsMethodAt, IsDistinct}
 use Rattle.par_class.specs.declared.file.CodeAttr.{CodeAttr}
 use Rattle.par_class.specs.declared.file.FieldFile.{FieldFile}
 use Rattle.par_class.specs.declared.file.MethodFile.{MethodFile}
@@ -26,7 +26,8 @@ pub record IsFieldOf (pool : List Constant) (declared : Field) (field : FieldFil
   pub attributes : field.attributes ≡ []
 
 -- a method of this access, name and descriptor, without attributes but its code
-pub record IsMethodOf (pool : List Constant) (flags : ℕ) (text kind : Name) (m : MethodFile) : Type 0 where
+pub record IsMethodOf (pool : List Constant) (flags : ℕ) (text kind : Name) (m : MethodFile)
+    : Type 0 where
   pub access : m.access ≡ flags
   pub name : IsUtf8At pool m.name text
   pub descriptor : IsUtf8At pool m.descriptor kind
@@ -46,7 +47,8 @@ pub record HasCode (operands locals : ℕ) (IsBody : List ℕ → Type 0) (m : M
 pub record IsSuperCall (pool : List Constant) (bytes : List ℕ) : Type 0 where
   pub index : ℕ
   pub names : IsMethodAt pool index (codes "java/lang/Object") (codes "<init>") (codes "()V")
-  pub spelled : bytes ≡ spelling (AloadShort 0) ++ (spelling (Invokespecial index) ++ spelling Return)
+  pub spelled : bytes ≡
+      spelling (AloadShort 0) ++ (spelling (Invokespecial index) ++ spelling Return)
 
 -- the initializer: public, of an instance
 pub record IsInitializer (pool : List Constant) (m : MethodFile) : Type 0 where
@@ -61,10 +63,12 @@ pub record IsChannelOf (pool : List Constant) (declared : Channel) (m : MethodFi
 -- the method `main`: public, static
 pub record IsMain (p : Program) (pool : List Constant) (m : MethodFile) : Type 0 where
   pub is_method : IsMethodOf pool 0x0009 (codes "main") (codes "()V") m
-  pub has_code : HasCode (max_stack p.steps) (max_locals p.steps) (IsCode pool p.class (code_of p)) m
+  pub has_code :
+      HasCode (max_stack p.steps) (max_locals p.steps) (IsCode pool p.class (code_of p)) m
 
 -- the initializer, the channels in source order, and `main`
-pub record AreMethodsOf (p : Program) (pool : List Constant) (methods : List MethodFile) : Type 0 where
+pub record AreMethodsOf (p : Program) (pool : List Constant) (methods : List MethodFile)
+    : Type 0 where
   pub first : MethodFile
   pub channels : List MethodFile
   pub last : MethodFile
@@ -77,6 +81,8 @@ pub record AreMethodsOf (p : Program) (pool : List Constant) (methods : List Met
 pub record IsFileOf (p : Program) (file : ClassFile) : Type 0 where
   pub minor : file.minor ≡ 0
   pub major : file.major ≡ 49
+  -- no constant stands twice
+  pub distinct : IsDistinct file.pool.entries
   pub constants : All (IsConstantOf p file.pool.entries) file.pool.entries
   -- the name of the attribute that a method's code is
   pub code_named : (index : ℕ) × IsUtf8At file.pool.entries index (codes "Code")
@@ -88,8 +94,13 @@ pub record IsFileOf (p : Program) (file : ClassFile) : Type 0 where
   pub methods : AreMethodsOf p file.pool.entries file.methods
   pub attributes : file.attributes ≡ []
 
--- The bytes are a class file of the program.
+-- the most bytes that a class file may have to be read
+abbrev pub longest_class : ℕ
+longest_class = 1048576
+
+-- The bytes are a class file of the program, few enough to be read again.
 pub record IsCompiled (p : Program) (bytes : List ℕ) : Type 0 where
   pub file : ClassFile
   pub is : IsFileOf p file
   pub spells : Spells bytes file
+  pub short : length bytes ≤ longest_class

@@ -2,9 +2,10 @@
 
 ghost use Rattle.std.specs.Prelude.{◌≡◌, ℕ, ◌+◌, ◌*◌, ◌<◌, ◌≤◌, ◌^◌, ◌∷◌, ◌++◌, true, false, length, Contains, IfOk, OnOk, IsTrue};
 ghost use Rattle.par_instr.specs.Spelling.{spelling, has_spelling, IsSpelled};
+ghost use Rattle.par_lexer.specs.Names.{IsName};
 ghost use Rattle.par_pool.specs.Spelling.{IsText};
 ghost use Rattle.par_straight.specs.Meaning as meaning;
-ghost use Rattle.par_straight_compile.specs.Code.{plain, push, get, put, read, write, operand_item};
+ghost use Rattle.par_straight_compile.specs.Code.{plain, push, get, put, read, write, operand_item, code_of};
 ghost use Rattle.par_straight_compile.specs.Compilable.{HasChannel, IsOperandOf};
 ghost use Rattle.par_straight_compile.specs.Constants.{texts};
 ghost use Rattle.par_straight_compile.specs.Growing.{Emits};
@@ -45,7 +46,8 @@ pub fn put_plain(draft: &mut Draft, program: &Program, instr: Instr) -> Result<(
 
 /// Pushes a number.
 pub fn put_number(draft: &mut Draft, program: &Program, number: &i32) -> Result<(), NoMemory>
-    requires { length draft.old.pool + 6 < 65535 }
+    requires coded { Contains (code_of program.now) (push number.now) }
+    requires room { length draft.old.pool + 6 < 65535 }
     ensures { OnOk result (Emits program.now 1 (λ k. push number.now ∷ k) draft.old draft.new) }
 {
     let instr = push_of(&mut draft.pool, *number)?;
@@ -79,6 +81,7 @@ pub fn channel_name(program: &Program, channel: u16) -> &[u8]
 #[tactic(auto, using(crate::proofs::Listed::name_text))]
 pub fn class_name(program: &Program) -> &[u8]
     ensures name { result.now ≡ program.now.class }
+    ensures spelled { IsName program.now.class }
     ensures listed { Contains (texts program.now) result.now }
     ensures text { IsText result.now }
 {
@@ -89,7 +92,9 @@ pub fn class_name(program: &Program) -> &[u8]
 pub fn put_get(draft: &mut Draft, program: &Program, field: u16) -> Result<(), NoMemory>
     requires declared { field < length program.now.fields }
     requires room { length draft.old.pool + 6 < 65535 }
-    ensures { OnOk result (Emits program.now 1 (λ k. get (meaning.field_name program.now field) ∷ k) draft.old draft.new) }
+    ensures { OnOk result
+        (Emits program.now 1
+        (λ k. get (meaning.field_name program.now field) ∷ k) draft.old draft.new) }
 {
     let index = draft
         .pool
@@ -102,7 +107,9 @@ pub fn put_get(draft: &mut Draft, program: &Program, field: u16) -> Result<(), N
 pub fn put_put(draft: &mut Draft, program: &Program, field: u16) -> Result<(), NoMemory>
     requires declared { field < length program.now.fields }
     requires room { length draft.old.pool + 6 < 65535 }
-    ensures { OnOk result (Emits program.now 1 (λ k. put (meaning.field_name program.now field) ∷ k) draft.old draft.new) }
+    ensures { OnOk result
+        (Emits program.now 1
+        (λ k. put (meaning.field_name program.now field) ∷ k) draft.old draft.new) }
 {
     let index = draft
         .pool
@@ -116,7 +123,9 @@ pub fn put_put(draft: &mut Draft, program: &Program, field: u16) -> Result<(), N
 pub fn put_read(draft: &mut Draft, program: &Program, channel: u16) -> Result<(), NoMemory>
     requires declared { HasChannel program.now channel true }
     requires room { length draft.old.pool + 6 < 65535 }
-    ensures { OnOk result (Emits program.now 1 (λ k. read (meaning.channel_name program.now channel) ∷ k) draft.old draft.new) }
+    ensures { OnOk result
+        (Emits program.now 1
+        (λ k. read (meaning.channel_name program.now channel) ∷ k) draft.old draft.new) }
 {
     let index = draft.pool.method(class_name(program), channel_name(program, channel), b"()I")?;
     append(draft, Instr::Invokestatic(index))?;
@@ -128,7 +137,9 @@ pub fn put_read(draft: &mut Draft, program: &Program, channel: u16) -> Result<()
 pub fn put_write(draft: &mut Draft, program: &Program, channel: u16) -> Result<(), NoMemory>
     requires declared { HasChannel program.now channel false }
     requires room { length draft.old.pool + 6 < 65535 }
-    ensures { OnOk result (Emits program.now 1 (λ k. write (meaning.channel_name program.now channel) ∷ k) draft.old draft.new) }
+    ensures { OnOk result
+        (Emits program.now 1
+        (λ k. write (meaning.channel_name program.now channel) ∷ k) draft.old draft.new) }
 {
     let index = draft.pool.method(class_name(program), channel_name(program, channel), b"(I)V")?;
     append(draft, Instr::Invokestatic(index))?;
@@ -138,8 +149,10 @@ pub fn put_write(draft: &mut Draft, program: &Program, channel: u16) -> Result<(
 /// Pushes an operand.
 pub fn put_operand(draft: &mut Draft, program: &Program, operand: &Operand) -> Result<(), NoMemory>
     requires declared { IsOperandOf program.now operand.now }
+    requires coded { Contains (code_of program.now) (operand_item program.now operand.now) }
     requires room { length draft.old.pool + 6 < 65535 }
-    ensures { OnOk result (Emits program.now 1 (λ k. operand_item program.now operand.now ∷ k) draft.old draft.new) }
+    ensures { OnOk result
+        (Emits program.now 1 (λ k. operand_item program.now operand.now ∷ k) draft.old draft.new) }
 {
     match operand {
         Operand::Constant(number) => put_number(draft, program, number),

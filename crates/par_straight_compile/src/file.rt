@@ -1,10 +1,12 @@
 //! The class file of a program, from its pool to its methods.
 
 ghost use Rattle.std.specs.Prelude.{◌≡◌, ◌+◌, ◌*◌, ◌<◌, ◌≤◌, [], All, length, IfOk, OnOk, sum_by};
+ghost use Rattle.par_lexer.specs.Names.{IsName};
 ghost use Rattle.par_pool.specs.Spelling.{IsPool};
 ghost use Rattle.par_straight_compile.specs.Bytes.{IsCode};
 ghost use Rattle.par_straight_compile.specs.Code.{code_of};
 ghost use Rattle.par_straight_compile.specs.Compilable.{IsActionOf, IsCompilable};
+ghost use Rattle.par_straight_compile.specs.Constants.{declared_names};
 ghost use Rattle.par_straight_compile.specs.Files.{AreMethodsOf, IsFileOf, IsCompiled};
 ghost use Rattle.par_straight_compile.specs.Growing.{Grows, Stays};
 
@@ -25,7 +27,9 @@ fn main_code(alloc: Global, program: &Program) -> Result<Draft, NoMemory>
     requires { IsCompilable program.now }
     ensures grows { IfOk result (λ draft. Grows program.now 4001 [] draft.pool) }
     ensures few { IfOk result (λ draft. length draft.code.items ≤ 12003) }
-    ensures coded { IfOk result (λ draft. Stays program.now draft.pool (λ q. IsCode q program.now.class (code_of program.now) draft.code.items)) }
+    ensures coded { IfOk result (λ draft.
+        Stays program.now draft.pool
+        (λ q. IsCode q program.now.class (code_of program.now) draft.code.items)) }
 {
     let mut draft = Draft {
         pool: PoolBuilder::new(alloc),
@@ -43,10 +47,14 @@ fn methods(
     code: List<u8>,
 ) -> Result<List<MethodFile>, NoMemory>
     requires declared { All (λ s. IsActionOf program.now s.action) program.now.steps }
-    requires coded { Stays program.now pool.old (λ q. IsCode q program.now.class (code_of program.now) code) }
+    requires coded { Stays program.now pool.old
+        (λ q. IsCode q program.now.class (code_of program.now) code) }
     requires room { length pool.old + 12 * length program.now.channels + 30 < 65535 }
-    ensures grows { OnOk result (Grows program.now (2 * length program.now.channels + 5) pool.old pool.new) }
-    ensures are { IfOk result (λ methods. Stays program.now pool.new (λ q. AreMethodsOf program.now q methods)) }
+    ensures grows { OnOk result
+        (Grows program.now (2 * length program.now.channels + 5) pool.old pool.new) }
+    ensures are { IfOk result (λ methods.
+        Stays program.now pool.new (λ q. AreMethodsOf program.now q methods)) }
+    ensures spelled { OnOk result (All (λ c. IsName c.name) program.now.channels) }
 {
     let mut methods = channel_files(alloc, pool, program)?;
     let first = initializer(alloc, pool, program)?;
@@ -62,6 +70,7 @@ fn class_file(alloc: Global, program: &Program) -> Result<ClassFile, NoMemory>
     requires { IsCompilable program.now }
     ensures is { IfOk result (λ file. IsFileOf program.now file) }
     ensures pool { IfOk result (λ file. IsPool file.pool.entries) }
+    ensures named { OnOk result (All IsName (declared_names program.now)) }
 {
     let draft = main_code(alloc, program)?;
     let code = List::wrap(draft.code);
@@ -84,7 +93,7 @@ fn class_file(alloc: Global, program: &Program) -> Result<ClassFile, NoMemory>
     })
 }
 
-/// The bytes of the class file of a program.
+/// The bytes of the class file of a program, few enough to be read again.
 pub fn compile(alloc: Global, program: &Program) -> Result<Vec<u8>, NoMemory>
     requires { IsCompilable program.now }
     ensures { IfOk result (λ bytes. IsCompiled program.now bytes.items) }

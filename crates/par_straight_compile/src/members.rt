@@ -1,7 +1,8 @@
 //! The fields and the channels of a class file, in the order of the source.
 
-ghost use Rattle.std.specs.Prelude.{◌≡◌, ◌+◌, ◌*◌, ◌<◌, ◌≤◌, length, codes, Contains, IfOk, OnOk};
+ghost use Rattle.std.specs.Prelude.{◌≡◌, ◌+◌, ◌*◌, ◌<◌, ◌≤◌, length, codes, All, Contains, IfOk, OnOk};
 ghost use Rattle.std.specs.List.{AllZip};
+ghost use Rattle.par_lexer.specs.Names.{IsName};
 ghost use Rattle.par_pool.specs.Entries.{IsUtf8At, IsClassAt};
 ghost use Rattle.par_pool.specs.Spelling.{IsText};
 ghost use Rattle.par_straight_compile.specs.Constants.{texts, channel_descriptor, IsClassName};
@@ -23,7 +24,8 @@ pub fn text(pool: &mut PoolBuilder, program: &Program, bytes: &[u8]) -> Result<u
     requires text { IsText bytes.now }
     requires listed { Contains (texts program.now) bytes.now }
     ensures grows { OnOk result (Grows program.now 1 pool.old pool.new) }
-    ensures named { IfOk result (λ index. Stays program.now pool.new (λ q. IsUtf8At q index bytes.now)) }
+    ensures named { IfOk result (λ index.
+        Stays program.now pool.new (λ q. IsUtf8At q index bytes.now)) }
 {
     let index = pool.utf8(bytes)?;
     Ok(index)
@@ -36,7 +38,8 @@ pub fn class(pool: &mut PoolBuilder, program: &Program, name: &[u8]) -> Result<u
     requires text { IsText name.now }
     requires known { IsClassName program.now name.now }
     ensures grows { OnOk result (Grows program.now 1 pool.old pool.new) }
-    ensures named { IfOk result (λ index. Stays program.now pool.new (λ q. IsClassAt q index name.now)) }
+    ensures named { IfOk result (λ index.
+        Stays program.now pool.new (λ q. IsClassAt q index name.now)) }
 {
     let index = pool.class(name)?;
     Ok(index)
@@ -53,7 +56,9 @@ fn field_file(
     requires room { length pool.old + 12 < 65535 }
     requires declared { Contains program.now.fields field.now }
     ensures grows { OnOk result (Grows program.now 2 pool.old pool.new) }
-    ensures is { IfOk result (λ file. Stays program.now pool.new (λ q. IsFieldOf q field.now file)) }
+    ensures is { IfOk result (λ file.
+        Stays program.now pool.new (λ q. IsFieldOf q field.now file)) }
+    ensures spelled { IsName field.now.name }
 {
     let name = text(pool, program, field.name.bytes())?;
     let descriptor = text(pool, program, b"I")?;
@@ -72,8 +77,11 @@ pub fn field_files(
     program: &Program,
 ) -> Result<List<FieldFile>, NoMemory>
     requires room { length pool.old + 12 * length program.now.fields < 65535 }
-    ensures grows { OnOk result (Grows program.now (2 * length program.now.fields) pool.old pool.new) }
-    ensures are { IfOk result (λ files. Stays program.now pool.new (λ q. AllZip (IsFieldOf q) program.now.fields files)) }
+    ensures grows { OnOk result
+        (Grows program.now (2 * length program.now.fields) pool.old pool.new) }
+    ensures are { IfOk result (λ files.
+        Stays program.now pool.new (λ q. AllZip (IsFieldOf q) program.now.fields files)) }
+    ensures spelled { OnOk result (All (λ f. IsName f.name) program.now.fields) }
 {
     let fields = program.fields.as_slice();
     let mut files = List::new(alloc);
@@ -108,7 +116,9 @@ fn channel_file(
     requires room { length pool.old + 12 < 65535 }
     requires declared { Contains program.now.channels channel.now }
     ensures grows { OnOk result (Grows program.now 2 pool.old pool.new) }
-    ensures is { IfOk result (λ file. Stays program.now pool.new (λ q. IsChannelOf q channel.now file)) }
+    ensures is { IfOk result (λ file.
+        Stays program.now pool.new (λ q. IsChannelOf q channel.now file)) }
+    ensures spelled { IsName channel.now.name }
 {
     let name = text(pool, program, channel.name.bytes())?;
     let kind = text(pool, program, descriptor(channel))?;
@@ -128,8 +138,11 @@ pub fn channel_files(
     program: &Program,
 ) -> Result<Vec<MethodFile>, NoMemory>
     requires room { length pool.old + 12 * length program.now.channels < 65535 }
-    ensures grows { OnOk result (Grows program.now (2 * length program.now.channels) pool.old pool.new) }
-    ensures are { IfOk result (λ files. Stays program.now pool.new (λ q. AllZip (IsChannelOf q) program.now.channels files.items)) }
+    ensures grows { OnOk result
+        (Grows program.now (2 * length program.now.channels) pool.old pool.new) }
+    ensures are { IfOk result (λ files.
+        Stays program.now pool.new (λ q. AllZip (IsChannelOf q) program.now.channels files.items)) }
+    ensures spelled { OnOk result (All (λ c. IsName c.name) program.now.channels) }
 {
     let channels = program.channels.as_slice();
     let mut files = Vec::new(alloc);

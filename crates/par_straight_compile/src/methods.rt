@@ -23,7 +23,8 @@ use std::alloc::Global;
 
 /// Code that calls the initializer of this index on the object itself, and returns.
 fn super_call(alloc: Global, index: u16) -> Result<List<u8>, NoMemory>
-    ensures { IfOk result (λ code. code ≡ spelling (AloadShort 0) ++ (spelling (Invokespecial index) ++ spelling Return)) }
+    ensures { IfOk result (λ code.
+        code ≡ spelling (AloadShort 0) ++ (spelling (Invokespecial index) ++ spelling Return)) }
 {
     let mut code = Vec::new(alloc);
     encode(&Instr::AloadShort(0), &mut code)?;
@@ -36,7 +37,9 @@ fn super_call(alloc: Global, index: u16) -> Result<List<u8>, NoMemory>
 fn super_initializer(pool: &mut PoolBuilder, program: &Program) -> Result<u16, NoMemory>
     requires room { length pool.old + 6 < 65535 }
     ensures grows { OnOk result (Grows program.now 1 pool.old pool.new) }
-    ensures named { IfOk result (λ index. Stays program.now pool.new (λ q. IsMethodAt q index (codes "java/lang/Object") (codes "<init>") (codes "()V"))) }
+    ensures named { IfOk result (λ index.
+        Stays program.now pool.new
+        (λ q. IsMethodAt q index (codes "java/lang/Object") (codes "<init>") (codes "()V"))) }
 {
     let index = pool.method(b"java/lang/Object", b"<init>", b"()V")?;
     Ok(index)
@@ -75,7 +78,8 @@ pub fn main_method(
     code: List<u8>,
 ) -> Result<MethodFile, NoMemory>
     requires declared { All (λ s. IsActionOf program.now s.action) program.now.steps }
-    requires coded { Stays program.now pool.old (λ q. IsCode q program.now.class (code_of program.now) code) }
+    requires coded { Stays program.now pool.old
+        (λ q. IsCode q program.now.class (code_of program.now) code) }
     requires room { length pool.old + 12 < 65535 }
     ensures grows { OnOk result (Grows program.now 2 pool.old pool.new) }
     ensures is { IfOk result (λ file. Stays program.now pool.new (λ q. IsMain program.now q file)) }
@@ -96,7 +100,13 @@ pub fn main_method(
 
 /// Code without handlers and attributes.
 fn bare(alloc: Global, max_stack: u16, max_locals: u16, code: List<u8>) -> CodeAttr
-    ensures { result ≡ record { max_stack = max_stack; max_locals = max_locals; code = code; catches = []; attributes = [] } }
+    ensures { result ≡ record {
+      max_stack = max_stack;
+      max_locals = max_locals;
+      code = code;
+      catches = [];
+      attributes = [];
+    } }
 {
     CodeAttr {
         max_stack,

@@ -1,6 +1,6 @@
 //! Which instruction pushes a number, and which one loads or stores a local.
 
-ghost use Rattle.std.specs.Prelude.{◌≡◌, ◌+◌, ◌<◌, ◌^◌, true, length, IfOk, IsTrue};
+ghost use Rattle.std.specs.Prelude.{◌≡◌, ◌+◌, ◌<◌, ◌^◌, true, false, length, IfOk, IsTrue};
 ghost use Rattle.par_instr.specs.Spelling.{has_spelling};
 ghost use Rattle.par_pool.specs.declared.constant.Constant.TheVariants.{Integer};
 ghost use Rattle.par_pool.specs.Growth.{Adds};
@@ -77,7 +77,8 @@ pub fn push_of(pool: &mut PoolBuilder, number: i32) -> Result<Instr, NoMemory>
     requires { length pool.old + 1 < 65535 }
     ensures is { IfOk result (λ instr. IsPush pool.new number instr) }
     ensures spelled { IfOk result (λ instr. IsTrue (has_spelling instr)) }
-    ensures added { Adds pool.old pool.new 1 (λ constant. constant ≡ Integer number) }
+    ensures added { Adds pool.old pool.new 1
+        (λ constant. (constant ≡ Integer number) × (within 32768 number ≡ false)) }
 {
     if is_short(number) {
         return Ok(pushed(number));

@@ -1,11 +1,9 @@
 -- A run that ends is shown whole, however many more instructions are allowed.
-use Rattle.std.proofs.Common.{◌≡◌, ℕ, ◌+◌, ◌*◌, ◌≤◌, List, [], ◌∷◌, sym, ap, ◌∙◌, arith}
-use Rattle.par_values.specs.declared.inputs.Inputs.{Inputs}
+use Rattle.std.proofs.Common.{◌≡◌, ℕ, ◌+◌, ◌*◌, ◌≤◌, List, sym, ap, ◌∙◌, arith}
 use Rattle.par_values.specs.declared.run.Ending.{Ending}
 use Rattle.par_values.specs.declared.run.Ending.TheVariants.{Stopped}
 use Rattle.par_values.specs.Ran.{Fine}
 use Rattle.par_class.specs.declared.file.ClassFile.{ClassFile}
-use Rattle.par_secrecy.specs.Subject.{Fits}
 use Rattle.par_secrecy.specs.Shows.{Shows, shown_run}
 use Rattle.par_secrecy.specs.Target.{fitting}
 use Rattle.par_straight.specs.declared.program.Program.{Program}

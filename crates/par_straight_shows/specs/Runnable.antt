@@ -42,7 +42,8 @@ AreAllowed p set (s ∷ ss) = IsAllowed p set s.action × AreAllowed p (set_afte
 -- each local is set before it is read. Each program of a straight-line source is so.
 pub record IsRunnable (p : Program) : Type 0 where
   pub class : IsName p.class
-  pub not_taken : among (codes "ArithmeticException" ∷ codes "NullPointerException" ∷ []) p.class ≡ false
+  pub not_taken :
+      among (codes "ArithmeticException" ∷ codes "NullPointerException" ∷ []) p.class ≡ false
   pub fields_named : All (λ f. IsName f.name) p.fields
   pub channels_named : All (λ c. IsName c.name) p.channels
   pub fields_differ : IsTrue (differ (field_names p))

@@ -24,7 +24,9 @@ ProgramsAreRunnable = (source : List ℕ) (p : Program) → HasProgram source p 
 
 -- its class file runs by itself
 abbrev pub CompiledRunsAlone : Type 0
-CompiledRunsAlone = (source : List ℕ) (p : Program) (file : ClassFile) → HasProgram source p → IsFileOf p file → IsTrue (runs_alone file p.class)
+CompiledRunsAlone =
+    (source : List ℕ) (p : Program) (file : ClassFile) → HasProgram source p → IsFileOf p file
+    → IsTrue (runs_alone file p.class)
 
 -- the runs of its class file show its own
 abbrev pub CompiledShows : Type 0
@@ -35,15 +37,20 @@ CompiledShows =
 -- the class file of an accepted source is secure
 abbrev pub CompiledIsSecure : Type 0
 CompiledIsSecure =
-    (source : List ℕ) (p : Program) (file : ClassFile) → HasProgram source p → IsAccepted p → IsFileOf p file
+    (source : List ℕ) (p : Program) (file : ClassFile)
+    → HasProgram source p → IsAccepted p → IsFileOf p file
     → SecureFiles (target (file ∷ []) p.class) (subject p)
 
 -- A run of the program that ends within n steps is shown whole within 16 n + 16 instructions.
 abbrev pub ShowsWhole : List ClassFile → Program → Type 0
 ShowsWhole files p =
-    (inputs : Inputs) → Fits (subject p) inputs → (n steps : ℕ) → ((source_run p inputs n).ending ≡ Stopped → ⊥) → 16 * n + 16 ≤ steps
-    → machine_run files p.class (fitting (target files p.class) inputs) steps ≡ shown_run (source_run p inputs n)
+    (inputs : Inputs) → Fits (subject p) inputs → (n steps : ℕ)
+    → ((source_run p inputs n).ending ≡ Stopped → ⊥) → 16 * n + 16 ≤ steps
+    → machine_run files p.class (fitting (target files p.class) inputs) steps
+    ≡ shown_run (source_run p inputs n)
 
 -- the class file of a program shows its whole runs
 abbrev pub CompiledShowsWhole : Type 0
-CompiledShowsWhole = (source : List ℕ) (p : Program) (file : ClassFile) → HasProgram source p → IsFileOf p file → ShowsWhole (file ∷ []) p
+CompiledShowsWhole =
+    (source : List ℕ) (p : Program) (file : ClassFile) → HasProgram source p → IsFileOf p file
+    → ShowsWhole (file ∷ []) p

@@ -4,6 +4,7 @@ use Rattle.par_straight.specs.Meaning.{field_name, channel_name}
 use Rattle.par_straight_compile.specs.Code.{plain, put, write, store}
 use Rattle.par_straight_compile.specs.Growing.{Emits}
 use Rattle.par_straight_compile.proofs.Sequences.{action_emits}
+use Rattle.par_straight_compile.proofs.Pushed.{sum_stands}
 use Rattle.par_straight_compile.proofs.body.put_action.Goals as goal
 
 pub returns-in_ok-put_plain-in-SetLocal : goal.returns-in_ok-put_plain-in-SetLocal
@@ -24,3 +25,15 @@ returns-in_ok-put_write-in-Output c =
     rw c.in-Output.is
     (action_emits c.args.program.now (write (channel_name c.args.program.now c.in-Output.channel)) c.in-Output.sum c.as_slice-in-Output.result.now c.args.draft.now c.put_sum-in-Output.new.draft c.put_write.new.draft
     c.as_slice-in-Output.ensures c.in_ok-put_sum-in-Output.ensures c.in_ok-put_write-in-Output.ensures)
+
+pub put_sum-requires-clause-coded : goal.put_sum-requires-clause-coded
+put_sum-requires-clause-coded c =
+    sum_stands c.args.program.now c.in-SetLocal.sum c.as_slice.result.now (plain (store c.in-SetLocal.local)) c.as_slice.ensures (rw c.in-SetLocal.is at c.requires.coded)
+
+pub put_sum-requires-in-SetField-clause-coded : goal.put_sum-requires-in-SetField-clause-coded
+put_sum-requires-in-SetField-clause-coded c =
+    sum_stands c.args.program.now c.in-SetField.sum c.as_slice-in-SetField.result.now (put (field_name c.args.program.now c.in-SetField.field)) c.as_slice-in-SetField.ensures (rw c.in-SetField.is at c.requires.coded)
+
+pub put_sum-requires-in-Output-clause-coded : goal.put_sum-requires-in-Output-clause-coded
+put_sum-requires-in-Output-clause-coded c =
+    sum_stands c.args.program.now c.in-Output.sum c.as_slice-in-Output.result.now (write (channel_name c.args.program.now c.in-Output.channel)) c.as_slice-in-Output.ensures (rw c.in-Output.is at c.requires.coded)

@@ -1,5 +1,6 @@
 use Rattle.std.proofs.Common.{sym, arith}
 use Rattle.par_straight_compile.proofs.Sequences.{steps_more, steps_done}
+use Rattle.par_straight_compile.proofs.Pushed.{step_stands}
 use Rattle.par_straight_compile.proofs.body.put_steps.Goals as goal
 
 pub loop-step-preserved : goal.loop-step-preserved
@@ -8,3 +9,6 @@ loop-step-preserved c =
 
 pub returns : goal.returns
 returns c = steps_done c.args.program.now c.args.steps.now c.loop-step.step-index c.args.draft.now c.loop-step.draft (omega (arith, c.loop-step-test.false, c.loop-step.auto.step-index-end)) c.loop-step.invariant
+
+pub put_action-requires-clause-coded : goal.put_action-requires-clause-coded
+put_action-requires-clause-coded c = step_stands c.args.program.now c.args.steps.now c.loop-step.step-index c.step-item.result c.loop-step-test.true (sym c.step-item.is) c.requires.coded
