@@ -125,6 +125,18 @@ object_as_a_number : why (Store 0) (None ∷ []) (Ref 0 0 ∷ []) ≡ Some 2
 unfolding reason
 object_as_a_number = refl
 
+object_as_a_field_of_a_number : why (PutStatic (field true Number)) [] (Ref 0 0 ∷ []) ≡ Some 2
+unfolding reason
+object_as_a_field_of_a_number = refl
+
+sum_of_an_object : why Add [] (Ref 0 0 ∷ Int (pos 1) ∷ []) ≡ Some 2
+unfolding reason
+sum_of_an_object = refl
+
+sum_with_an_object : why Add [] (Int (pos 1) ∷ Ref 0 0 ∷ []) ≡ Some 2
+unfolding reason
+sum_with_an_object = refl
+
 load_out_of_range : why (Load 1 Number) (Some (Int (pos 1)) ∷ []) [] ≡ Some 4
 unfolding reason
 load_out_of_range = refl
@@ -205,9 +217,9 @@ push_into_the_last_room : why (Push (pos 1)) [] (Null ∷ []) ≡ None
 unfolding reason
 push_into_the_last_room = refl
 
-sum_in_the_room_of_its_parts : why Add [] (Int (pos 1) ∷ Int (pos 2) ∷ []) ≡ None
+sum_needs_room_for_one : reason classes (record plain { room = 1 }) Add (areas [] (Int (pos 1) ∷ Int (pos 2) ∷ [])) ≡ None
 unfolding reason
-sum_in_the_room_of_its_parts = refl
+sum_needs_room_for_one = refl
 
 write_makes_room : reason classes (record plain { room = 0 }) (PutStatic (field true Number)) (areas [] (Int (pos 1) ∷ [])) ≡ None
 unfolding reason
