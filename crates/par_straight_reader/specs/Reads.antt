@@ -25,9 +25,12 @@ use Rattle.par_straight_reader.specs.declared.cursor.ParseError.TheVariants as e
 abbrev pub input : Cursor → Input
 input c = record { left = c.left.now; at = c.at; blocks = c.blocks; counted = c.counted }
 
--- Whatever else is pending, and whatever values there are below old, the symbols are read: what show gives takes the place of old, and j is left.
-abbrev pub Passes : {A : Type 0} → Symbols → Values → (A → Values) → Input → Result A ParseError → Input → Type 0
-Passes xs old show i (Ok a) j = (s : Symbols) (vs : Values) → run (xs ++ s) i (old ++ vs) ≡ run s j (show a ++ vs)
+-- Whatever else is pending, and whatever values there are below old, the symbols are read: what
+-- show gives takes the place of old, and j is left.
+abbrev pub Passes : {A : Type 0} → Symbols → Values → (A → Values) → Input → Result A ParseError
+    → Input → Type 0
+Passes xs old show i (Ok a) j =
+    (s : Symbols) (vs : Values) → run (xs ++ s) i (old ++ vs) ≡ run s j (show a ++ vs)
 Passes xs old show i (Err e) j = Unit {0}
 
 -- the fault that an error other than want of memory stands for
@@ -43,10 +46,13 @@ HasFault all fault = Comes straight (state (name grammar.Source ∷ []) (whole a
 -- The fault is that of the derivation.
 abbrev pub Fails : {A : Type 0} → Symbols → Values → Input → Result A ParseError → Type 0
 Fails xs old i (Ok a) = Unit {0}
-Fails xs old i (Err e) = e ≢ error.Memory → (s : Symbols) (vs : Values) → run (xs ++ s) i (old ++ vs) ≡ Err (fault_of e)
+Fails xs old i (Err e) =
+    e ≢ error.Memory
+    → (s : Symbols) (vs : Values) → run (xs ++ s) i (old ++ vs) ≡ Err (fault_of e)
 
 -- what a reader of these symbols answers
-pub record Reads {A : Type 0} (xs : Symbols) (old : Values) (show : A → Values) (i : Input) (r : Result A ParseError) (j : Input) : Type 0 where
+pub record Reads {A : Type 0} (xs : Symbols) (old : Values) (show : A → Values) (i : Input)
+    (r : Result A ParseError) (j : Input) : Type 0 where
   pub ok : Passes xs old show i r j
   pub err : Fails xs old i r
 
@@ -96,7 +102,9 @@ a_method m = value.statements m.1 ∷ value.id m.0 ∷ []
 -- what stands behind the members of the class
 abbrev pub method_symbols : Symbols
 method_symbols =
-    token (sort.Word word.STATIC) ∷ token (sort.Word word.VOID) ∷ kept sort.Name ∷ token (sort.Sign sign.LEFT_PAREN) ∷ token (sort.Sign sign.RIGHT_PAREN)
+    token (sort.Word word.STATIC) ∷ token (sort.Word word.VOID) ∷ kept sort.Name
+    ∷ token (sort.Sign sign.LEFT_PAREN) ∷ token (sort.Sign sign.RIGHT_PAREN)
     ∷ token (sort.Sign sign.BANG) ∷ token (sort.Word word.BOTTOM)
-    ∷ enters ∷ token (sort.Sign sign.LEFT_BRACE) ∷ name grammar.Statements ∷ token (sort.Sign sign.RIGHT_BRACE) ∷ leaves
+    ∷ enters ∷ token (sort.Sign sign.LEFT_BRACE) ∷ name grammar.Statements
+    ∷ token (sort.Sign sign.RIGHT_BRACE) ∷ leaves
     ∷ token (sort.Sign sign.RIGHT_BRACE) ∷ finish ∷ []

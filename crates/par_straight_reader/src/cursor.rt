@@ -47,7 +47,8 @@ impl<'a> Cursor<'a> {
     ghost use Rattle.par_grammar.specs.Derivation.{next};
     ghost use Rattle.par_grammar.specs.Grammar as g;
     ghost use Rattle.par_grammar.specs.declared.sort.Sort.TheVariants as sort;
-    ghost use Rattle.par_straight_reader.specs.Reads.{Reads, Steps, input, tokens, nothing, an_ident, a_number};
+    ghost use Rattle.par_straight_reader.specs.Reads.{Reads, Steps, input, tokens, nothing};
+    ghost use Rattle.par_straight_reader.specs.Reads.{an_ident, a_number};
 
     /// Whether the next token is of this sort.
     pub fn sees(&self, sort: Sort) -> bool
@@ -61,7 +62,8 @@ impl<'a> Cursor<'a> {
 
     /// Takes a token of this sort.
     pub fn take(&mut self, sort: Sort) -> Result<(), ParseError>
-        ensures read { Reads (g.token sort ∷ []) [] nothing (input self.old) result (input self.new) }
+        ensures read { Reads (g.token sort ∷ []) [] nothing
+            (input self.old) result (input self.new) }
         ensures shorter { OnOk result (length self.new.left.now < length self.old.left.now) }
     {
         if !self.sees(sort) {
@@ -77,7 +79,8 @@ impl<'a> Cursor<'a> {
 
     /// Takes tokens of these sorts, one after the other.
     pub fn take_all(&mut self, sorts: &[Sort]) -> Result<(), ParseError>
-        ensures read { Reads (tokens sorts.now) [] nothing (input self.old) result (input self.new) }
+        ensures read { Reads (tokens sorts.now) [] nothing
+            (input self.old) result (input self.new) }
         ensures shorter { OnOk result (length self.new.left.now ≤ length self.old.left.now) }
     {
         'more: for sort in sorts {
@@ -105,7 +108,8 @@ impl<'a> Cursor<'a> {
 
     /// Takes a name, and gives it with its place.
     pub fn name(&mut self, alloc: Global) -> Result<Ident, ParseError>
-        ensures read { Reads (g.kept sort.Name ∷ []) [] an_ident (input self.old) result (input self.new) }
+        ensures read { Reads (g.kept sort.Name ∷ []) [] an_ident
+            (input self.old) result (input self.new) }
         ensures shorter { OnOk result (length self.new.left.now < length self.old.left.now) }
     {
         let Some((first, left)) = self.left.split_first() else {
@@ -125,7 +129,8 @@ impl<'a> Cursor<'a> {
 
     /// Takes a number, and gives it.
     pub fn number(&mut self) -> Result<u32, ParseError>
-        ensures read { Reads (g.kept sort.Number ∷ []) [] a_number (input self.old) result (input self.new) }
+        ensures read { Reads (g.kept sort.Number ∷ []) [] a_number
+            (input self.old) result (input self.new) }
         ensures shorter { OnOk result (length self.new.left.now < length self.old.left.now) }
     {
         let Some((first, left)) = self.left.split_first() else {
@@ -167,7 +172,8 @@ impl<'a> Cursor<'a> {
 
     /// Takes a token of this sort, which counts in its expression.
     pub fn take_counted(&mut self, sort: Sort) -> Result<(), ParseError>
-        ensures read { Reads (g.counts ∷ g.token sort ∷ []) [] nothing (input self.old) result (input self.new) }
+        ensures read { Reads (g.counts ∷ g.token sort ∷ []) [] nothing
+            (input self.old) result (input self.new) }
         ensures shorter { OnOk result (length self.new.left.now < length self.old.left.now) }
     {
         self.count()?;

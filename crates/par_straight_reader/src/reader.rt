@@ -10,7 +10,9 @@ ghost use Rattle.par_lexer.specs.declared.sign.TheConstants as signs;
 ghost use Rattle.par_straight.specs.declared.tree.MemberKind.TheVariants as member;
 ghost use Rattle.par_straight.specs.Grammar as g;
 ghost use Rattle.par_straight.specs.Values as value;
-ghost use Rattle.par_straight_reader.specs.Reads.{Reads, input, nothing, an_ident, idents, clauses, members, a_term, sum, statements, source, a_method, method_symbols, fault_of, HasFault};
+ghost use Rattle.par_straight_reader.specs.Reads.{Reads, input, nothing, an_ident, idents, clauses};
+ghost use Rattle.par_straight_reader.specs.Reads.{members, a_term, sum, statements, source};
+ghost use Rattle.par_straight_reader.specs.Reads.{a_method, method_symbols, fault_of, HasFault};
 
 use crate::cursor::{Cursor, ParseError};
 use par_grammar::sort::Sort;
@@ -21,9 +23,9 @@ use par_straight::tree::{ClauseTree, Ident, Member, MemberKind, Source, Statemen
 use std::alloc::Global;
 
 /// Names with commas between them.
-#[tactic(auto, using(par_straight::proofs::Run::idents_opens, par_straight::proofs::Run::run_builds))]
 fn idents(alloc: Global, cursor: &mut Cursor<'_>) -> Result<List<Ident>, ParseError>
-    ensures read { Reads (symbol.name g.Idents ∷ []) [] idents (input cursor.old) result (input cursor.new) }
+    ensures read { Reads (symbol.name g.Idents ∷ []) [] idents
+        (input cursor.old) result (input cursor.new) }
     ensures shorter { OnOk result (length cursor.new.left.now < length cursor.old.left.now) }
 {
     let mut found = List::new(alloc);
@@ -37,7 +39,8 @@ fn more_idents(
     cursor: &mut Cursor<'_>,
     mut found: List<Ident>,
 ) -> Result<List<Ident>, ParseError>
-    ensures read { Reads (symbol.name g.MoreIdents ∷ []) (idents found) idents (input cursor.old) result (input cursor.new) }
+    ensures read { Reads (symbol.name g.MoreIdents ∷ []) (idents found) idents
+        (input cursor.old) result (input cursor.new) }
     ensures shorter { OnOk result (length cursor.new.left.now ≤ length cursor.old.left.now) }
 {
     'more: while cursor.sees(Sort::Sign(sign::COMMA)) {
@@ -50,7 +53,8 @@ fn more_idents(
 /// The locks that are declared.
 #[tactic(auto, using(par_straight::proofs::Run::locks_opens, par_straight::proofs::Run::run_builds))]
 fn locks(alloc: Global, cursor: &mut Cursor<'_>) -> Result<List<Ident>, ParseError>
-    ensures read { Reads (symbol.name g.Locks ∷ []) [] idents (input cursor.old) result (input cursor.new) }
+    ensures read { Reads (symbol.name g.Locks ∷ []) [] idents
+        (input cursor.old) result (input cursor.new) }
     ensures shorter { OnOk result (length cursor.new.left.now ≤ length cursor.old.left.now) }
 {
     let mut found = List::new(alloc);
@@ -67,7 +71,8 @@ fn locks(alloc: Global, cursor: &mut Cursor<'_>) -> Result<List<Ident>, ParseErr
 
 /// The locks that a clause needs.
 fn needed(alloc: Global, cursor: &mut Cursor<'_>) -> Result<List<Ident>, ParseError>
-    ensures read { Reads (symbol.name g.Needed ∷ []) [] idents (input cursor.old) result (input cursor.new) }
+    ensures read { Reads (symbol.name g.Needed ∷ []) [] idents
+        (input cursor.old) result (input cursor.new) }
     ensures shorter { OnOk result (length cursor.new.left.now ≤ length cursor.old.left.now) }
 {
     let mut found = List::new(alloc);
@@ -81,13 +86,13 @@ fn needed(alloc: Global, cursor: &mut Cursor<'_>) -> Result<List<Ident>, ParseEr
 }
 
 /// One more clause behind those that were found.
-#[tactic(auto, using(par_straight::proofs::Run::clause_opens, par_straight::proofs::Run::run_builds))]
 fn clause(
     alloc: Global,
     cursor: &mut Cursor<'_>,
     mut found: List<ClauseTree>,
 ) -> Result<List<ClauseTree>, ParseError>
-    ensures read { Reads (symbol.name g.Clause ∷ []) (clauses found) clauses (input cursor.old) result (input cursor.new) }
+    ensures read { Reads (symbol.name g.Clause ∷ []) (clauses found) clauses
+        (input cursor.old) result (input cursor.new) }
     ensures shorter { OnOk result (length cursor.new.left.now < length cursor.old.left.now) }
 {
     let actor = cursor.name_between(alloc, &[], &[Sort::Sign(sign::COLON)])?;
@@ -101,7 +106,8 @@ fn more_clauses(
     cursor: &mut Cursor<'_>,
     mut found: List<ClauseTree>,
 ) -> Result<List<ClauseTree>, ParseError>
-    ensures read { Reads (symbol.name g.MoreClauses ∷ []) (clauses found) clauses (input cursor.old) result (input cursor.new) }
+    ensures read { Reads (symbol.name g.MoreClauses ∷ []) (clauses found) clauses
+        (input cursor.old) result (input cursor.new) }
     ensures shorter { OnOk result (length cursor.new.left.now ≤ length cursor.old.left.now) }
 {
     'more: while cursor.sees(Sort::Sign(sign::SEMICOLON)) {
@@ -112,9 +118,9 @@ fn more_clauses(
 }
 
 /// A policy in braces.
-#[tactic(auto, using(par_straight::proofs::Run::policy_opens))]
 fn policy(alloc: Global, cursor: &mut Cursor<'_>) -> Result<List<ClauseTree>, ParseError>
-    ensures read { Reads (symbol.name g.Policy ∷ []) [] clauses (input cursor.old) result (input cursor.new) }
+    ensures read { Reads (symbol.name g.Policy ∷ []) [] clauses
+        (input cursor.old) result (input cursor.new) }
     ensures shorter { OnOk result (length cursor.new.left.now < length cursor.old.left.now) }
 {
     cursor.take(Sort::Sign(sign::LEFT_BRACE))?;
@@ -123,9 +129,9 @@ fn policy(alloc: Global, cursor: &mut Cursor<'_>) -> Result<List<ClauseTree>, Pa
     Ok(found)
 }
 
-#[tactic(auto, using(par_straight::proofs::Run::clauses_name, par_straight::proofs::Run::clauses_else, par_straight::proofs::Run::run_builds))]
 fn some_clauses(alloc: Global, cursor: &mut Cursor<'_>) -> Result<List<ClauseTree>, ParseError>
-    ensures read { Reads (symbol.name g.Clauses ∷ []) [] clauses (input cursor.old) result (input cursor.new) }
+    ensures read { Reads (symbol.name g.Clauses ∷ []) [] clauses
+        (input cursor.old) result (input cursor.new) }
     ensures shorter { OnOk result (length cursor.new.left.now ≤ length cursor.old.left.now) }
 {
     let found = List::new(alloc);
@@ -145,7 +151,10 @@ fn member(
     found: List<Member>,
     policy: List<ClauseTree>,
 ) -> Result<List<Member>, ParseError>
-    ensures read { Reads (symbol.name g.Kind ∷ []) (value.clauses policy ∷ value.members found ∷ []) members (input cursor.old) result (input cursor.new) }
+    ensures read { Reads
+        (symbol.name g.Kind ∷ [])
+        (value.clauses policy ∷ value.members found ∷ []) members
+        (input cursor.old) result (input cursor.new) }
     ensures shorter { OnOk result (length cursor.new.left.now < length cursor.old.left.now) }
 {
     if cursor.sees(Sort::Word(word::INPUT)) {
@@ -166,7 +175,13 @@ fn input_channel(
     mut found: List<Member>,
     policy: List<ClauseTree>,
 ) -> Result<List<Member>, ParseError>
-    ensures read { Reads (symbol.token (sort.Word words.INPUT) ∷ symbol.token (sort.Word words.INT) ∷ symbol.kept sort.Name ∷ symbol.token (sort.Sign signs.LEFT_PAREN) ∷ symbol.token (sort.Sign signs.RIGHT_PAREN) ∷ symbol.token (sort.Sign signs.SEMICOLON) ∷ symbol.builds (g.NextMember member.Input) ∷ []) (value.clauses policy ∷ value.members found ∷ []) members (input cursor.old) result (input cursor.new) }
+    ensures read { Reads
+        (symbol.token (sort.Word words.INPUT) ∷ symbol.token (sort.Word words.INT)
+        ∷ symbol.kept sort.Name ∷ symbol.token (sort.Sign signs.LEFT_PAREN)
+        ∷ symbol.token (sort.Sign signs.RIGHT_PAREN) ∷ symbol.token (sort.Sign signs.SEMICOLON)
+        ∷ symbol.builds (g.NextMember member.Input) ∷ [])
+        (value.clauses policy ∷ value.members found ∷ []) members
+        (input cursor.old) result (input cursor.new) }
     ensures shorter { OnOk result (length cursor.new.left.now < length cursor.old.left.now) }
 {
     let id = cursor.name_between(
@@ -193,7 +208,14 @@ fn output_channel(
     mut found: List<Member>,
     policy: List<ClauseTree>,
 ) -> Result<List<Member>, ParseError>
-    ensures read { Reads (symbol.token (sort.Word words.OUTPUT) ∷ symbol.token (sort.Word words.VOID) ∷ symbol.kept sort.Name ∷ symbol.token (sort.Sign signs.LEFT_PAREN) ∷ symbol.token (sort.Word words.INT) ∷ symbol.token sort.Name ∷ symbol.token (sort.Sign signs.RIGHT_PAREN) ∷ symbol.token (sort.Sign signs.SEMICOLON) ∷ symbol.builds (g.NextMember member.Output) ∷ []) (value.clauses policy ∷ value.members found ∷ []) members (input cursor.old) result (input cursor.new) }
+    ensures read { Reads
+        (symbol.token (sort.Word words.OUTPUT) ∷ symbol.token (sort.Word words.VOID)
+        ∷ symbol.kept sort.Name ∷ symbol.token (sort.Sign signs.LEFT_PAREN)
+        ∷ symbol.token (sort.Word words.INT) ∷ symbol.token sort.Name
+        ∷ symbol.token (sort.Sign signs.RIGHT_PAREN) ∷ symbol.token (sort.Sign signs.SEMICOLON)
+        ∷ symbol.builds (g.NextMember member.Output) ∷ [])
+        (value.clauses policy ∷ value.members found ∷ []) members
+        (input cursor.old) result (input cursor.new) }
     ensures shorter { OnOk result (length cursor.new.left.now < length cursor.old.left.now) }
 {
     let id = cursor.name_between(
@@ -222,7 +244,12 @@ fn static_field(
     mut found: List<Member>,
     policy: List<ClauseTree>,
 ) -> Result<List<Member>, ParseError>
-    ensures read { Reads (symbol.token (sort.Word words.STATIC) ∷ symbol.token (sort.Word words.INT) ∷ symbol.kept sort.Name ∷ symbol.token (sort.Sign signs.SEMICOLON) ∷ symbol.builds (g.NextMember member.Field) ∷ []) (value.clauses policy ∷ value.members found ∷ []) members (input cursor.old) result (input cursor.new) }
+    ensures read { Reads
+        (symbol.token (sort.Word words.STATIC) ∷ symbol.token (sort.Word words.INT)
+        ∷ symbol.kept sort.Name ∷ symbol.token (sort.Sign signs.SEMICOLON)
+        ∷ symbol.builds (g.NextMember member.Field) ∷ [])
+        (value.clauses policy ∷ value.members found ∷ []) members
+        (input cursor.old) result (input cursor.new) }
     ensures shorter { OnOk result (length cursor.new.left.now < length cursor.old.left.now) }
 {
     let id = cursor.name_between(
@@ -240,7 +267,8 @@ fn static_field(
 
 #[tactic(auto, using(par_straight::proofs::Run::members_opens, par_straight::proofs::Run::run_builds))]
 fn all_members(alloc: Global, cursor: &mut Cursor<'_>) -> Result<List<Member>, ParseError>
-    ensures read { Reads (symbol.name g.Members ∷ []) [] members (input cursor.old) result (input cursor.new) }
+    ensures read { Reads (symbol.name g.Members ∷ []) [] members
+        (input cursor.old) result (input cursor.new) }
     ensures shorter { OnOk result (length cursor.new.left.now ≤ length cursor.old.left.now) }
 {
     let mut found = List::new(alloc);
@@ -253,9 +281,9 @@ fn all_members(alloc: Global, cursor: &mut Cursor<'_>) -> Result<List<Member>, P
 }
 
 /// A term of a sum.
-#[tactic(auto, using(par_straight::proofs::Run::term_number, par_straight::proofs::Run::term_name, par_straight::proofs::Run::term_else, par_straight::proofs::Run::run_builds))]
 fn term(alloc: Global, cursor: &mut Cursor<'_>) -> Result<Term, ParseError>
-    ensures read { Reads (symbol.name g.Term ∷ []) [] a_term (input cursor.old) result (input cursor.new) }
+    ensures read { Reads (symbol.name g.Term ∷ []) [] a_term
+        (input cursor.old) result (input cursor.new) }
     ensures shorter { OnOk result (length cursor.new.left.now < length cursor.old.left.now) }
 {
     if cursor.sees(Sort::Number) {
@@ -269,9 +297,9 @@ fn term(alloc: Global, cursor: &mut Cursor<'_>) -> Result<Term, ParseError>
     }
 }
 
-#[tactic(auto, using(par_straight::proofs::Run::called_paren, par_straight::proofs::Run::called_else, par_straight::proofs::Run::run_builds))]
 fn called(cursor: &mut Cursor<'_>, id: Ident) -> Result<Term, ParseError>
-    ensures read { Reads (symbol.name g.Called ∷ []) (value.id id ∷ []) a_term (input cursor.old) result (input cursor.new) }
+    ensures read { Reads (symbol.name g.Called ∷ []) (value.id id ∷ []) a_term
+        (input cursor.old) result (input cursor.new) }
     ensures shorter { OnOk result (length cursor.new.left.now ≤ length cursor.old.left.now) }
 {
     if cursor.sees(Sort::Sign(sign::LEFT_PAREN)) {
@@ -284,9 +312,9 @@ fn called(cursor: &mut Cursor<'_>, id: Ident) -> Result<Term, ParseError>
 }
 
 /// The terms of a sum.
-#[tactic(auto, using(par_straight::proofs::Run::sum_opens, par_straight::proofs::Run::run_builds))]
 fn terms(alloc: Global, cursor: &mut Cursor<'_>) -> Result<List<Term>, ParseError>
-    ensures read { Reads (symbol.name g.Sum ∷ []) [] sum (input cursor.old) result (input cursor.new) }
+    ensures read { Reads (symbol.name g.Sum ∷ []) [] sum
+        (input cursor.old) result (input cursor.new) }
     ensures shorter { OnOk result (length cursor.new.left.now < length cursor.old.left.now) }
 {
     let mut found = List::new(alloc);
@@ -300,7 +328,8 @@ fn more_terms(
     cursor: &mut Cursor<'_>,
     mut found: List<Term>,
 ) -> Result<List<Term>, ParseError>
-    ensures read { Reads (symbol.name g.MoreTerms ∷ []) (sum found) sum (input cursor.old) result (input cursor.new) }
+    ensures read { Reads (symbol.name g.MoreTerms ∷ []) (sum found) sum
+        (input cursor.old) result (input cursor.new) }
     ensures shorter { OnOk result (length cursor.new.left.now ≤ length cursor.old.left.now) }
 {
     'more: while cursor.sees(Sort::Sign(sign::PLUS)) {
@@ -313,7 +342,10 @@ fn more_terms(
 
 /// The argument of a call.
 fn argument(alloc: Global, cursor: &mut Cursor<'_>) -> Result<List<Term>, ParseError>
-    ensures read { Reads (symbol.counts ∷ symbol.token (sort.Sign signs.LEFT_PAREN) ∷ symbol.name g.Sum ∷ symbol.token (sort.Sign signs.RIGHT_PAREN) ∷ []) [] sum (input cursor.old) result (input cursor.new) }
+    ensures read { Reads
+        (symbol.counts ∷ symbol.token (sort.Sign signs.LEFT_PAREN) ∷ symbol.name g.Sum
+        ∷ symbol.token (sort.Sign signs.RIGHT_PAREN) ∷ [])
+        [] sum (input cursor.old) result (input cursor.new) }
     ensures shorter { OnOk result (length cursor.new.left.now < length cursor.old.left.now) }
 {
     cursor.take_counted(Sort::Sign(sign::LEFT_PAREN))?;
@@ -323,14 +355,16 @@ fn argument(alloc: Global, cursor: &mut Cursor<'_>) -> Result<List<Term>, ParseE
 }
 
 /// A statement that begins with a name: an assignment or a call.
-#[tactic(auto, using(par_straight::proofs::Run::effect_assign, par_straight::proofs::Run::effect_call, par_straight::proofs::Run::effect_else, par_straight::proofs::Run::run_builds))]
 fn effect(
     alloc: Global,
     cursor: &mut Cursor<'_>,
     mut found: List<Statement>,
     id: Ident,
 ) -> Result<List<Statement>, ParseError>
-    ensures read { Reads (symbol.name g.Effect ∷ []) (value.id id ∷ value.statements found ∷ []) statements (input cursor.old) result (input cursor.new) }
+    ensures read { Reads
+        (symbol.name g.Effect ∷ [])
+        (value.id id ∷ value.statements found ∷ []) statements
+        (input cursor.old) result (input cursor.new) }
     ensures shorter { OnOk result (length cursor.new.left.now < length cursor.old.left.now) }
 {
     if cursor.sees(Sort::Sign(sign::ASSIGN)) {
@@ -348,13 +382,16 @@ fn effect(
 }
 
 /// The declaration of a local.
-#[tactic(auto, using(par_straight::proofs::Run::run_builds))]
 fn local(
     alloc: Global,
     cursor: &mut Cursor<'_>,
     mut found: List<Statement>,
 ) -> Result<List<Statement>, ParseError>
-    ensures read { Reads (symbol.token (sort.Word words.INT) ∷ symbol.kept sort.Name ∷ symbol.token (sort.Sign signs.ASSIGN) ∷ symbol.name g.Sum ∷ symbol.token (sort.Sign signs.SEMICOLON) ∷ symbol.builds g.NextLocal ∷ []) (value.statements found ∷ []) statements (input cursor.old) result (input cursor.new) }
+    ensures read { Reads
+        (symbol.token (sort.Word words.INT) ∷ symbol.kept sort.Name
+        ∷ symbol.token (sort.Sign signs.ASSIGN) ∷ symbol.name g.Sum
+        ∷ symbol.token (sort.Sign signs.SEMICOLON) ∷ symbol.builds g.NextLocal ∷ [])
+        (value.statements found ∷ []) statements (input cursor.old) result (input cursor.new) }
     ensures shorter { OnOk result (length cursor.new.left.now < length cursor.old.left.now) }
 {
     let id = cursor.name_between(alloc, &[Sort::Word(word::INT)], &[Sort::Sign(sign::ASSIGN)])?;
@@ -371,7 +408,10 @@ fn opened(
     cursor: &mut Cursor<'_>,
     mut found: List<Statement>,
 ) -> Result<List<Statement>, ParseError>
-    ensures read { Reads (symbol.token (sort.Word words.OPEN) ∷ symbol.kept sort.Name ∷ symbol.token (sort.Sign signs.SEMICOLON) ∷ symbol.builds g.NextOpen ∷ []) (value.statements found ∷ []) statements (input cursor.old) result (input cursor.new) }
+    ensures read { Reads
+        (symbol.token (sort.Word words.OPEN) ∷ symbol.kept sort.Name
+        ∷ symbol.token (sort.Sign signs.SEMICOLON) ∷ symbol.builds g.NextOpen ∷ [])
+        (value.statements found ∷ []) statements (input cursor.old) result (input cursor.new) }
     ensures shorter { OnOk result (length cursor.new.left.now < length cursor.old.left.now) }
 {
     let id = cursor.name_between(
@@ -389,7 +429,10 @@ fn ended_effect(
     cursor: &mut Cursor<'_>,
     found: List<Statement>,
 ) -> Result<List<Statement>, ParseError>
-    ensures read { Reads (symbol.kept sort.Name ∷ symbol.name g.Effect ∷ symbol.token (sort.Sign signs.SEMICOLON) ∷ []) (value.statements found ∷ []) statements (input cursor.old) result (input cursor.new) }
+    ensures read { Reads
+        (symbol.kept sort.Name ∷ symbol.name g.Effect ∷ symbol.token (sort.Sign signs.SEMICOLON)
+        ∷ [])
+        (value.statements found ∷ []) statements (input cursor.old) result (input cursor.new) }
     ensures shorter { OnOk result (length cursor.new.left.now < length cursor.old.left.now) }
 {
     let id = cursor.name(alloc)?;
@@ -401,7 +444,8 @@ fn ended_effect(
 /// The statements of the method.
 #[tactic(auto, using(par_straight::proofs::Run::statements_opens, par_straight::proofs::Run::more_statements_int, par_straight::proofs::Run::more_statements_open, par_straight::proofs::Run::more_statements_name, par_straight::proofs::Run::more_statements_else, par_straight::proofs::Run::run_builds, par_straight::proofs::Run::run_restarts))]
 fn all_statements(alloc: Global, cursor: &mut Cursor<'_>) -> Result<List<Statement>, ParseError>
-    ensures read { Reads (symbol.name g.Statements ∷ []) [] statements (input cursor.old) result (input cursor.new) }
+    ensures read { Reads (symbol.name g.Statements ∷ []) [] statements
+        (input cursor.old) result (input cursor.new) }
     ensures shorter { OnOk result (length cursor.new.left.now ≤ length cursor.old.left.now) }
 {
     let mut found = List::new(alloc);
@@ -422,7 +466,10 @@ fn all_statements(alloc: Global, cursor: &mut Cursor<'_>) -> Result<List<Stateme
 }
 
 fn actors(alloc: Global, cursor: &mut Cursor<'_>) -> Result<List<Ident>, ParseError>
-    ensures { Reads (symbol.token (sort.Word words.ACTOR) ∷ symbol.name g.Idents ∷ symbol.token (sort.Sign signs.SEMICOLON) ∷ []) [] idents (input cursor.old) result (input cursor.new) }
+    ensures { Reads
+        (symbol.token (sort.Word words.ACTOR) ∷ symbol.name g.Idents
+        ∷ symbol.token (sort.Sign signs.SEMICOLON) ∷ [])
+        [] idents (input cursor.old) result (input cursor.new) }
 {
     cursor.take(Sort::Word(word::ACTOR))?;
     let found = idents(alloc, cursor)?;
@@ -432,7 +479,10 @@ fn actors(alloc: Global, cursor: &mut Cursor<'_>) -> Result<List<Ident>, ParseEr
 
 #[tactic(auto, using(par_straight::proofs::Run::run_leaves))]
 fn block(alloc: Global, cursor: &mut Cursor<'_>) -> Result<List<Statement>, ParseError>
-    ensures { Reads (symbol.enters ∷ symbol.token (sort.Sign signs.LEFT_BRACE) ∷ symbol.name g.Statements ∷ symbol.token (sort.Sign signs.RIGHT_BRACE) ∷ symbol.leaves ∷ []) [] statements (input cursor.old) result (input cursor.new) }
+    ensures { Reads
+        (symbol.enters ∷ symbol.token (sort.Sign signs.LEFT_BRACE) ∷ symbol.name g.Statements
+        ∷ symbol.token (sort.Sign signs.RIGHT_BRACE) ∷ symbol.leaves ∷ [])
+        [] statements (input cursor.old) result (input cursor.new) }
 {
     cursor.enter()?;
     cursor.take(Sort::Sign(sign::LEFT_BRACE))?;
@@ -443,7 +493,8 @@ fn block(alloc: Global, cursor: &mut Cursor<'_>) -> Result<List<Statement>, Pars
 }
 
 fn end(cursor: &mut Cursor<'_>) -> Result<(), ParseError>
-    ensures { Reads (symbol.token (sort.Sign signs.RIGHT_BRACE) ∷ symbol.finish ∷ []) [] nothing (input cursor.old) result (input cursor.new) }
+    ensures { Reads (symbol.token (sort.Sign signs.RIGHT_BRACE) ∷ symbol.finish ∷ []) [] nothing
+        (input cursor.old) result (input cursor.new) }
 {
     cursor.take(Sort::Sign(sign::RIGHT_BRACE))?;
     cursor.finish()
@@ -468,9 +519,9 @@ fn method(alloc: Global, cursor: &mut Cursor<'_>) -> Result<(Ident, List<Stateme
     Ok((id, statements))
 }
 
-#[tactic(auto, using(par_straight::proofs::Run::source_opens))]
 fn whole(alloc: Global, cursor: &mut Cursor<'_>) -> Result<Source, ParseError>
-    ensures { Reads (symbol.name g.Source ∷ []) [] source (input cursor.old) result (input cursor.new) }
+    ensures { Reads (symbol.name g.Source ∷ []) [] source
+        (input cursor.old) result (input cursor.new) }
 {
     let actors = actors(alloc, cursor)?;
     let locks = locks(alloc, cursor)?;
@@ -497,7 +548,8 @@ pub fn parse(alloc: Global, tokens: &[Token]) -> Result<Source, ParseError>
     requires { length tokens.now ≤ 262144 }
     ensures ok { IfOk result (HasTree tokens.now) }
     ensures fault { IfErr result (λ e. e ≢ ParseError.Memory → HasFault tokens.now (fault_of e)) }
-    ensures none { IfErr result (λ e. e ≢ ParseError.Memory → (tree : Tree) → HasTree tokens.now tree → ⊥) }
+    ensures none { IfErr result (λ e.
+        e ≢ ParseError.Memory → (tree : Tree) → HasTree tokens.now tree → ⊥) }
 {
     let mut cursor = Cursor {
         left: tokens,
