@@ -13,7 +13,7 @@ use Rattle.par_straight.specs.Names.{Name}
 use Rattle.par_straight.specs.Meaning.{field_name_of, channel_name_of, field_name, channel_name}
 use Rattle.par_straight_compile.specs.Compilable.{HasChannel}
 use Rattle.par_straight_compile.specs.Constants.{texts, members, descriptor_of, IsClassName, NamesField, NamesChannel, NamesMember, IsConstantOf}
-use Rattle.par_straight_compile.proofs.Listed.{there, known_listed, field_listed, channel_listed, init_listed, int_listed, field_member, channel_member, init_member, nothing_listed, channel_kind_listed}
+use Rattle.par_straight_compile.proofs.Listed.{there, known_listed, field_listed, channel_listed, init_listed, int_listed, init_member, nothing_listed, channel_kind_listed}
 
 -- ---- what is added
 
@@ -44,19 +44,18 @@ field-at [] f lt = absurd (omega arith)
 field-at (x ∷ fs) zero lt = (x, (0, omega arith, refl), refl)
 field-at (x ∷ fs) (suc f) lt = let rest = field-at fs f (omega arith) in (rest.0, there x rest.0 fs rest.1, rest.2)
 
-names-field : (p : Program) (pool : List Constant) (f owner member : ℕ) → f < length p.fields → IsClassAt pool owner p.class → IsNameTypeAt pool member (field_name p f) (codes "I") → NamesField p pool owner member
-names-field p pool f owner member lt is_class is_member =
+names-field : (p : Program) (pool : List Constant) (f owner member : ℕ) → f < length p.fields → Contains (members p) (field_name p f, codes "I") → IsClassAt pool owner p.class → IsNameTypeAt pool member (field_name p f) (codes "I") → NamesField p pool owner member
+names-field p pool f owner member lt used is_class is_member =
     let at = field-at p.fields f lt in
-    record { field = at.0; declared = at.1; is_class = is_class; is_member = subst (λ (n : Name). IsNameTypeAt pool member n (codes "I")) at.2 is_member }
+    record { field = at.0; declared = at.1; used = subst (λ (n : Name). Contains (members p) (n, codes "I")) at.2 used; is_class = is_class; is_member = subst (λ (n : Name). IsNameTypeAt pool member n (codes "I")) at.2 is_member }
 
 -- of a declared field
-pub field_part : (p : Program) (pool : List Constant) (f : ℕ) → f < length p.fields → (c : Constant) → IsMemberPart Field pool p.class (field_name p f) (codes "I") c → IsConstantOf p pool c
-field_part p pool f lt c (inl e) =
+pub field_part : (p : Program) (pool : List Constant) (f : ℕ) → f < length p.fields → Contains (members p) (field_name p f, codes "I") → (c : Constant) → IsMemberPart Field pool p.class (field_name p f) (codes "I") c → IsConstantOf p pool c
+field_part p pool f lt used c (inl e) =
     let at = field-at p.fields f lt in
     let listed : Contains (texts p) (field_name p f) = subst (λ (n : Name). Contains (texts p) n) (sym at.2) (field_listed p at.0 at.1) in
-    let member : Contains (members p) (field_name p f, codes "I") = subst (λ (n : Name). Contains (members p) (n, codes "I")) (sym at.2) (field_member p at.0 at.1) in
-    naming-part p pool p.class (field_name p f) (codes "I") (inl refl) listed (int_listed p at.0 at.1) member c e
-field_part p pool f lt c (inr t) = subst (IsConstantOf p pool) (sym t.2) (names-field p pool f t.0 t.1 lt t.3 t.4)
+    naming-part p pool p.class (field_name p f) (codes "I") (inl refl) listed (int_listed p at.0 at.1) used c e
+field_part p pool f lt used c (inr t) = subst (IsConstantOf p pool) (sym t.2) (names-field p pool f t.0 t.1 lt used t.3 t.4)
 
 -- the number of a declared channel
 pub channel_within : (p : Program) (c : ℕ) (is_input : Bool) → HasChannel p c is_input → c < length p.channels
@@ -74,17 +73,14 @@ channel-name p i is_input h = subst (λ (n : Name). Contains (texts p) n) (sym (
 channel-kind : (p : Program) (i : ℕ) (is_input : Bool) → HasChannel p i is_input → Contains (texts p) (descriptor_of is_input)
 channel-kind p i is_input h = subst (λ (b : Bool). Contains (texts p) (descriptor_of b)) h.direction (channel_kind_listed p h.channel (channel-at p i is_input h))
 
--- both
-channel-pair : (p : Program) (i : ℕ) (is_input : Bool) → HasChannel p i is_input → Contains (members p) (channel_name p i, descriptor_of is_input)
-channel-pair p i is_input h =
-    subst (λ (n : Name). Contains (members p) (n, descriptor_of is_input)) (sym (ap channel_name_of h.stands))
-    (subst (λ (b : Bool). Contains (members p) (h.channel.name, descriptor_of b)) h.direction (channel_member p h.channel (channel-at p i is_input h)))
-
-names-channel : (p : Program) (pool : List Constant) (i : ℕ) (is_input : Bool) (owner member : ℕ) → HasChannel p i is_input → IsClassAt pool owner p.class
+names-channel : (p : Program) (pool : List Constant) (i : ℕ) (is_input : Bool) (owner member : ℕ) → HasChannel p i is_input → Contains (members p) (channel_name p i, descriptor_of is_input) → IsClassAt pool owner p.class
     → IsNameTypeAt pool member (channel_name p i) (descriptor_of is_input) → NamesChannel p pool owner member
-names-channel p pool i is_input owner member h is_class is_member = record {
+names-channel p pool i is_input owner member h used is_class is_member = record {
   channel = h.channel;
   declared = channel-at p i is_input h;
+  used =
+      subst (λ (n : Name). Contains (members p) (n, descriptor_of h.channel.is_input)) (ap channel_name_of h.stands)
+      (subst (λ (b : Bool). Contains (members p) (channel_name p i, descriptor_of b)) (sym h.direction) used);
   is_class = is_class;
   is_member =
       subst (λ (n : Name). IsNameTypeAt pool member n (descriptor_of h.channel.is_input)) (ap channel_name_of h.stands)
@@ -92,11 +88,11 @@ names-channel p pool i is_input owner member h is_class is_member = record {
 }
 
 -- of a declared channel
-pub channel_part : (p : Program) (pool : List Constant) (i : ℕ) (is_input : Bool) → HasChannel p i is_input
+pub channel_part : (p : Program) (pool : List Constant) (i : ℕ) (is_input : Bool) → HasChannel p i is_input → Contains (members p) (channel_name p i, descriptor_of is_input)
     → (c : Constant) → IsMemberPart Method pool p.class (channel_name p i) (descriptor_of is_input) c → IsConstantOf p pool c
-channel_part p pool i is_input h c (inl e) =
-    naming-part p pool p.class (channel_name p i) (descriptor_of is_input) (inl refl) (channel-name p i is_input h) (channel-kind p i is_input h) (channel-pair p i is_input h) c e
-channel_part p pool i is_input h c (inr t) = subst (IsConstantOf p pool) (sym t.2) (inl (names-channel p pool i is_input t.0 t.1 h t.3 t.4))
+channel_part p pool i is_input h used c (inl e) =
+    naming-part p pool p.class (channel_name p i) (descriptor_of is_input) (inl refl) (channel-name p i is_input h) (channel-kind p i is_input h) used c e
+channel_part p pool i is_input h used c (inr t) = subst (IsConstantOf p pool) (sym t.2) (inl (names-channel p pool i is_input t.0 t.1 h used t.3 t.4))
 
 -- of the initializer of the superclass
 pub super_part : (p : Program) (pool : List Constant) (c : Constant) → IsMemberPart Method pool (codes "java/lang/Object") (codes "<init>") (codes "()V") c → IsConstantOf p pool c
@@ -114,6 +110,7 @@ module _ (p : Program) (old new : List Constant) (few : ℕ) (P : Constant → T
   field-stays owner member h = record {
     field = h.field;
     declared = h.declared;
+    used = h.used;
     is_class = class_kept old new few P adds owner p.class h.is_class;
     is_member = name_type_kept old new few P adds member h.field.name (codes "I") h.is_member;
   }
@@ -123,6 +120,7 @@ module _ (p : Program) (old new : List Constant) (few : ℕ) (P : Constant → T
       inl (record {
         channel = h.channel;
         declared = h.declared;
+        used = h.used;
         is_class = class_kept old new few P adds owner p.class h.is_class;
         is_member = name_type_kept old new few P adds member h.channel.name (descriptor_of h.channel.is_input) h.is_member;
       })

@@ -16,8 +16,9 @@ use Rattle.par_straight_compile.specs.declared.draft.Draft.{Draft}
 use Rattle.par_straight_compile.specs.Code.{Item, plain, push, get, put, read, write, code_of}
 use Rattle.par_straight_compile.specs.Bytes.{within, IsPush, IsItem, IsCode}
 use Rattle.par_straight_compile.specs.Compilable.{HasChannel}
-use Rattle.par_straight_compile.specs.Constants.{descriptor_of, IsConstantOf}
+use Rattle.par_straight_compile.specs.Constants.{named, descriptor_of, IsConstantOf}
 use Rattle.par_straight_compile.specs.Growing.{Grows, Stays, Emits}
+use Rattle.par_straight_compile.proofs.Listed.{item_member}
 use Rattle.par_straight_compile.proofs.Stays.{grows_by, grows_not, grows_then, push_stays, member_stays}
 use Rattle.par_straight_compile.proofs.Constants.{field_part, channel_part}
 
@@ -88,55 +89,55 @@ push_emits p v instr old new pool same behind spelled adds is coded =
     (subst (λ (q : List Constant). Stays p q (λ r. IsPush r v instr)) (sym same) (push_stays p pool v instr is))
 
 -- an item that names a field, where the pool has its entry by now
-module _ (p : Program) (f : ℕ) (op : ℕ → Instr) (item : Name → Item) (fits : (pool : List Constant) (name : Name) (index : ℕ) → IsFieldAt pool index p.class name (codes "I") → IsItem pool p.class (item name) (op index)) where
-  field_emits : (class name : Name) (index : ℕ) (old new : Draft) (pool : List Constant) → f < length p.fields → class ≡ p.class → name ≡ field_name p f → new.pool ≡ pool
+module _ (p : Program) (f : ℕ) (op : ℕ → Instr) (item : Name → Item) (names-is : (n : Name) → named (item n) ≡ (n, codes "I") ∷ []) (fits : (pool : List Constant) (name : Name) (index : ℕ) → IsFieldAt pool index p.class name (codes "I") → IsItem pool p.class (item name) (op index)) where
+  field_emits : (class name : Name) (index : ℕ) (old new : Draft) (pool : List Constant) → f < length p.fields → Contains (code_of p) (item (field_name p f)) → class ≡ p.class → name ≡ field_name p f → new.pool ≡ pool
       → new.code.items ≡ old.code.items ++ spelling (op index) → IsSpelled (spelling (op index)) (op index)
       → Adds old.pool pool 6 (IsMemberPart Field pool class name (codes "I")) → IsFieldAt pool index class name (codes "I") → Emits p 1 (λ k. item (field_name p f) ∷ k) old new
-  field_emits class name index old new pool lt class-is name-is same behind spelled adds names =
+  field_emits class name index old new pool lt coded class-is name-is same behind spelled adds names =
       let added : Adds old.pool pool 6 (IsMemberPart Field pool p.class (field_name p f) (codes "I")) =
       subst (λ (c : Name). Adds old.pool pool 6 (IsMemberPart Field pool c (field_name p f) (codes "I"))) class-is (subst (λ (n : Name). Adds old.pool pool 6 (IsMemberPart Field pool class n (codes "I"))) name-is adds) in
       let named : IsFieldAt pool index p.class (field_name p f) (codes "I") =
       subst (λ (c : Name). IsFieldAt pool index c (field_name p f) (codes "I")) class-is (subst (λ (n : Name). IsFieldAt pool index class n (codes "I")) name-is names) in
-      let grows = grows_by p 6 old.pool pool (IsMemberPart Field pool p.class (field_name p f) (codes "I")) added (omega arith) (field_part p pool f lt) in
+      let grows = grows_by p 6 old.pool pool (IsMemberPart Field pool p.class (field_name p f) (codes "I")) added (omega arith) (field_part p pool f lt (item_member p (item (field_name p f)) (field_name p f, codes "I") coded (names-is (field_name p f)))) in
       let stays : Stays p pool (λ q. IsItem q p.class (item (field_name p f)) (op index)) = λ n later g. fits later (field_name p f) index (member_stays Field p pool index p.class (field_name p f) (codes "I") named n later g) in
       item_emits p (item (field_name p f)) (op index) old new behind spelled
       (subst (λ (q : List Constant). Grows p 1 old.pool q) (sym same) grows)
       (subst (λ (q : List Constant). Stays p q (λ r. IsItem r p.class (item (field_name p f)) (op index))) (sym same) stays)
 
 -- an item that calls a channel
-module _ (p : Program) (i : ℕ) (is_input : Bool) (item : Name → Item)
+module _ (p : Program) (i : ℕ) (is_input : Bool) (item : Name → Item) (names-is : (n : Name) → named (item n) ≡ (n, descriptor_of is_input) ∷ [])
     (fits : (pool : List Constant) (name : Name) (index : ℕ) → IsMethodAt pool index p.class name (descriptor_of is_input) → IsItem pool p.class (item name) (Invokestatic index)) where
-  channel_emits : (class name : Name) (index : ℕ) (old new : Draft) (pool : List Constant) → HasChannel p i is_input → class ≡ p.class → name ≡ channel_name p i → new.pool ≡ pool
+  channel_emits : (class name : Name) (index : ℕ) (old new : Draft) (pool : List Constant) → HasChannel p i is_input → Contains (code_of p) (item (channel_name p i)) → class ≡ p.class → name ≡ channel_name p i → new.pool ≡ pool
       → new.code.items ≡ old.code.items ++ spelling (Invokestatic index) → IsSpelled (spelling (Invokestatic index)) (Invokestatic index)
       → Adds old.pool pool 6 (IsMemberPart Method pool class name (descriptor_of is_input)) → IsMethodAt pool index class name (descriptor_of is_input) → Emits p 1 (λ k. item (channel_name p i) ∷ k) old new
-  channel_emits class name index old new pool has class-is name-is same behind spelled adds names =
+  channel_emits class name index old new pool has coded class-is name-is same behind spelled adds names =
       let kind = descriptor_of is_input in
       let added : Adds old.pool pool 6 (IsMemberPart Method pool p.class (channel_name p i) kind) =
       subst (λ (c : Name). Adds old.pool pool 6 (IsMemberPart Method pool c (channel_name p i) kind)) class-is (subst (λ (n : Name). Adds old.pool pool 6 (IsMemberPart Method pool class n kind)) name-is adds) in
       let named : IsMethodAt pool index p.class (channel_name p i) kind =
       subst (λ (c : Name). IsMethodAt pool index c (channel_name p i) kind) class-is (subst (λ (n : Name). IsMethodAt pool index class n kind) name-is names) in
-      let grows = grows_by p 6 old.pool pool (IsMemberPart Method pool p.class (channel_name p i) kind) added (omega arith) (channel_part p pool i is_input has) in
+      let grows = grows_by p 6 old.pool pool (IsMemberPart Method pool p.class (channel_name p i) kind) added (omega arith) (channel_part p pool i is_input has (item_member p (item (channel_name p i)) (channel_name p i, kind) coded (names-is (channel_name p i)))) in
       let stays : Stays p pool (λ q. IsItem q p.class (item (channel_name p i)) (Invokestatic index)) = λ n later g. fits later (channel_name p i) index (member_stays Method p pool index p.class (channel_name p i) kind named n later g) in
       item_emits p (item (channel_name p i)) (Invokestatic index) old new behind spelled
       (subst (λ (q : List Constant). Grows p 1 old.pool q) (sym same) grows)
       (subst (λ (q : List Constant). Stays p q (λ r. IsItem r p.class (item (channel_name p i)) (Invokestatic index))) (sym same) stays)
 
-pub get_emits : (p : Program) (f : ℕ) (class name : Name) (index : ℕ) (old new : Draft) (pool : List Constant) → f < length p.fields → class ≡ p.class → name ≡ field_name p f → new.pool ≡ pool
+pub get_emits : (p : Program) (f : ℕ) (class name : Name) (index : ℕ) (old new : Draft) (pool : List Constant) → f < length p.fields → Contains (code_of p) (get (field_name p f)) → class ≡ p.class → name ≡ field_name p f → new.pool ≡ pool
     → new.code.items ≡ old.code.items ++ spelling (Getstatic index) → IsSpelled (spelling (Getstatic index)) (Getstatic index)
     → Adds old.pool pool 6 (IsMemberPart Field pool class name (codes "I")) → IsFieldAt pool index class name (codes "I") → Emits p 1 (λ k. get (field_name p f) ∷ k) old new
-get_emits p f = field_emits p f Getstatic get (λ pool name index h. record { index = index; names = h; is = refl })
+get_emits p f = field_emits p f Getstatic get (λ n. refl) (λ pool name index h. record { index = index; names = h; is = refl })
 
-pub put_emits : (p : Program) (f : ℕ) (class name : Name) (index : ℕ) (old new : Draft) (pool : List Constant) → f < length p.fields → class ≡ p.class → name ≡ field_name p f → new.pool ≡ pool
+pub put_emits : (p : Program) (f : ℕ) (class name : Name) (index : ℕ) (old new : Draft) (pool : List Constant) → f < length p.fields → Contains (code_of p) (put (field_name p f)) → class ≡ p.class → name ≡ field_name p f → new.pool ≡ pool
     → new.code.items ≡ old.code.items ++ spelling (Putstatic index) → IsSpelled (spelling (Putstatic index)) (Putstatic index)
     → Adds old.pool pool 6 (IsMemberPart Field pool class name (codes "I")) → IsFieldAt pool index class name (codes "I") → Emits p 1 (λ k. put (field_name p f) ∷ k) old new
-put_emits p f = field_emits p f Putstatic put (λ pool name index h. record { index = index; names = h; is = refl })
+put_emits p f = field_emits p f Putstatic put (λ n. refl) (λ pool name index h. record { index = index; names = h; is = refl })
 
-pub read_emits : (p : Program) (i : ℕ) (class name : Name) (index : ℕ) (old new : Draft) (pool : List Constant) → HasChannel p i true → class ≡ p.class → name ≡ channel_name p i → new.pool ≡ pool
+pub read_emits : (p : Program) (i : ℕ) (class name : Name) (index : ℕ) (old new : Draft) (pool : List Constant) → HasChannel p i true → Contains (code_of p) (read (channel_name p i)) → class ≡ p.class → name ≡ channel_name p i → new.pool ≡ pool
     → new.code.items ≡ old.code.items ++ spelling (Invokestatic index) → IsSpelled (spelling (Invokestatic index)) (Invokestatic index)
     → Adds old.pool pool 6 (IsMemberPart Method pool class name (codes "()I")) → IsMethodAt pool index class name (codes "()I") → Emits p 1 (λ k. read (channel_name p i) ∷ k) old new
-read_emits p i = channel_emits p i true read (λ pool name index h. record { index = index; names = h; is = refl })
+read_emits p i = channel_emits p i true read (λ n. refl) (λ pool name index h. record { index = index; names = h; is = refl })
 
-pub write_emits : (p : Program) (i : ℕ) (class name : Name) (index : ℕ) (old new : Draft) (pool : List Constant) → HasChannel p i false → class ≡ p.class → name ≡ channel_name p i → new.pool ≡ pool
+pub write_emits : (p : Program) (i : ℕ) (class name : Name) (index : ℕ) (old new : Draft) (pool : List Constant) → HasChannel p i false → Contains (code_of p) (write (channel_name p i)) → class ≡ p.class → name ≡ channel_name p i → new.pool ≡ pool
     → new.code.items ≡ old.code.items ++ spelling (Invokestatic index) → IsSpelled (spelling (Invokestatic index)) (Invokestatic index)
     → Adds old.pool pool 6 (IsMemberPart Method pool class name (codes "(I)V")) → IsMethodAt pool index class name (codes "(I)V") → Emits p 1 (λ k. write (channel_name p i) ∷ k) old new
-write_emits p i = channel_emits p i false write (λ pool name index h. record { index = index; names = h; is = refl })
+write_emits p i = channel_emits p i false write (λ n. refl) (λ pool name index h. record { index = index; names = h; is = refl })

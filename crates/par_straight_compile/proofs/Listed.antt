@@ -1,7 +1,7 @@
 -- Names are texts of a pool, and the file of a program may have those that its constants need.
-use Rattle.std.proofs.Common.{◌≡◌, ℕ, ◌<◌, Bool, true, false, inl, inr, List, [], ◌∷◌, ◌++◌, length, map, get_or, refl, sym, ap, subst, ◌∙◌, arith}
+use Rattle.std.proofs.Common.{◌≡◌, ℕ, zero, suc, ◌<◌, Bool, true, false, inl, inr, List, [], ◌∷◌, ◌++◌, length, map, get_or, refl, sym, ap, subst, ◌∙◌, arith}
 use Rattle.std.specs.Prelude.{◌&&◌, nat_lt, Contains, codes}
-use Rattle.std.specs.List.{list_all}
+use Rattle.std.specs.List.{list_all, flat_map}
 use Rattle.std.proofs.lemmas.Bool.{and_parts, and_from}
 use Rattle.std.proofs.lemmas.List.{length-map, get_or-map}
 use Rattle.std.proofs.lemmas.List.Elements.{Contains-append_left, Contains-append_right, Contains-get_or}
@@ -11,7 +11,8 @@ use Rattle.par_straight.specs.declared.program.Field.{Field}
 use Rattle.par_straight.specs.declared.program.Channel.{Channel}
 use Rattle.par_straight.specs.declared.program.Program.{Program}
 use Rattle.par_straight.specs.Names.{Name}
-use Rattle.par_straight_compile.specs.Constants.{fixed_texts, field_names, channel_names, declared_names, descriptors, texts, members, descriptor_of, channel_descriptor, IsClassName}
+use Rattle.par_straight_compile.specs.Code.{Item, code_of}
+use Rattle.par_straight_compile.specs.Constants.{fixed_texts, field_names, channel_names, declared_names, descriptors, texts, named, members, descriptor_of, channel_descriptor, IsClassName}
 
 letter_plain : (b : ℕ) → is_letter b ≡ true → (nat_lt 0 b && nat_lt b 128) ≡ true
 letter_plain b h = grind arith
@@ -88,21 +89,18 @@ pub channel_text_listed : (p : Program) (c : ℕ) (channels : List Channel) (d :
 channel_text_listed p c channels d text lt same e =
     subst (λ (t : Name). Contains (texts p) t) (sym e) (channel_listed p (get_or channels c d) (stands_in channels p.channels c d (get_or channels c d) lt same refl))
 
--- the name and the descriptor of a declared field
-pub field_member : (p : Program) (field : Field) → Contains p.fields field → Contains (members p) (field.name, codes "I")
-field_member p field h =
-    let fields = map (λ f. (f.name, codes "I")) p.fields in
-    let channels = map (λ c. (c.name, channel_descriptor c)) p.channels in
-    let pair : Name × Name = (field.name, codes "I") in
-    there (codes "<init>", codes "()V") pair (fields ++ channels) (Contains-append_left fields channels pair (mapped (λ f. (f.name, codes "I")) p.fields field h))
+-- what an item of some code names
+named-in : (items : List Item) (i : ℕ) (item : Item) (pair : Name × Name) → i < length items → get_or items i item ≡ item → named item ≡ pair ∷ [] → Contains (flat_map named items) pair
+named-in [] i item pair lt e is = absurd (omega arith)
+named-in (x ∷ xs) zero item pair lt e is =
+    let one : named x ≡ pair ∷ [] = ap named e ∙ is in
+    Contains-append_left (named x) (flat_map named xs) pair (subst (λ (ps : List (Name × Name)). Contains ps pair) (sym one) (0, omega arith, refl))
+named-in (x ∷ xs) (suc i) item pair lt e is =
+    Contains-append_right (named x) (flat_map named xs) pair (named-in xs i item pair (omega arith) e is)
 
--- the name and the descriptor of a declared channel
-pub channel_member : (p : Program) (channel : Channel) → Contains p.channels channel → Contains (members p) (channel.name, channel_descriptor channel)
-channel_member p channel h =
-    let fields = map (λ f. (f.name, codes "I")) p.fields in
-    let channels = map (λ c. (c.name, channel_descriptor c)) p.channels in
-    let pair : Name × Name = (channel.name, channel_descriptor channel) in
-    there (codes "<init>", codes "()V") pair (fields ++ channels) (Contains-append_right fields channels pair (mapped (λ c. (c.name, channel_descriptor c)) p.channels channel h))
+-- what an item of the code of `main` names
+pub item_member : (p : Program) (item : Item) (pair : Name × Name) → Contains (code_of p) item → named item ≡ pair ∷ [] → Contains (members p) pair
+item_member p item pair h is = there (codes "<init>", codes "()V") pair (flat_map named (code_of p)) (named-in (code_of p) h.0 item pair h.1 h.2 is)
 
 -- those of an initializer
 pub init_member : (p : Program) → Contains (members p) (codes "<init>", codes "()V")

@@ -71,6 +71,10 @@ sum_stands p os slice item e h =
     let sum : StandsIn p (sum_code p os) = (item ∷ h.0, h.1) in
     subst (λ (xs : List Operand). StandsIn p (sum_code p xs)) (sym e) sum
 
+-- that item
+pub item_stands : (p : Program) (os : List Operand) (item : Item) → StandsIn p (λ k. sum_code p os (item ∷ k)) → Contains (code_of p) item
+item_stands p os item h = All-head (Contains (code_of p)) item h.0 (behind-sum p (Contains (code_of p)) os (item ∷ h.0) h.1)
+
 -- an action of the steps
 pub step_stands : (p : Program) (ss : List Step) (i : ℕ) (s : Step) → i < length ss → get_or ss i s ≡ s → StandsIn p (steps_code p ss) → StandsIn p (action_code p s.action)
 step_stands p ss i s lt is h =

@@ -1,5 +1,6 @@
 -- What each constant of the class file of a program is (Java Virtual Machine Specification, Java SE 7, section 4.4).
 use Rattle.std.specs.Prelude.{◌≡◌, ℕ, ℤ, Bool, false, ◌⊎◌, List, [], ◌∷◌, ◌++◌, map, codes, Contains, if◌then◌else◌}
+use Rattle.std.specs.List.{flat_map}
 use Rattle.par_pool.specs.declared.constant.Constant.{Constant}
 use Rattle.par_pool.specs.declared.constant.Constant.TheVariants as constant
 use Rattle.par_pool.specs.Entries.{IsUtf8At, IsClassAt, IsNameTypeAt}
@@ -7,7 +8,7 @@ use Rattle.par_straight.specs.declared.program.Field.{Field}
 use Rattle.par_straight.specs.declared.program.Channel.{Channel}
 use Rattle.par_straight.specs.declared.program.Program.{Program}
 use Rattle.par_straight.specs.Names.{Name}
-use Rattle.par_straight_compile.specs.Code.{push, code_of}
+use Rattle.par_straight_compile.specs.Code.{Item, push, get, put, read, write, code_of}
 use Rattle.par_straight_compile.specs.Bytes.{within}
 
 -- the texts that every file may have
@@ -40,28 +41,35 @@ descriptors p = map (λ f. codes "I") p.fields ++ map (λ c. channel_descriptor 
 unfoldable pub texts : Program → List Name
 texts p = fixed_texts ++ (declared_names p ++ descriptors p)
 
--- the name and the descriptor of each member that the file may name: of the initializer, the fields and the channels
+-- the name and the descriptor of the member that an item of code names, if it names one
+abbrev pub named : Item → List (Name × Name)
+named (get name) = (name, codes "I") ∷ []
+named (put name) = (name, codes "I") ∷ []
+named (read name) = (name, codes "()I") ∷ []
+named (write name) = (name, codes "(I)V") ∷ []
+named _ = []
+
+-- the names and descriptors of the members that code of the file names: the initializer of the superclass, and those that `main` names
 abbrev pub members : Program → List (Name × Name)
-members p =
-    (codes "<init>", codes "()V")
-    ∷ (map (λ f. (f.name, codes "I")) p.fields
-    ++ map (λ c. (c.name, channel_descriptor c)) p.channels)
+members p = (codes "<init>", codes "()V") ∷ flat_map named (code_of p)
 
 -- the class of the program, or the superclass
 abbrev pub IsClassName : Program → Name → Type 0
 IsClassName p name = (name ≡ p.class) ⊎ (name ≡ codes "java/lang/Object")
 
--- the two indices name a declared field
+-- the two indices name a declared field that the code of `main` names
 pub record NamesField (p : Program) (pool : List Constant) (owner member : ℕ) : Type 0 where
   pub field : Field
   pub declared : Contains p.fields field
+  pub used : Contains (members p) (field.name, codes "I")
   pub is_class : IsClassAt pool owner p.class
   pub is_member : IsNameTypeAt pool member field.name (codes "I")
 
--- the two indices name a declared channel
+-- the two indices name a declared channel that the code of `main` calls
 pub record NamesChannel (p : Program) (pool : List Constant) (owner member : ℕ) : Type 0 where
   pub channel : Channel
   pub declared : Contains p.channels channel
+  pub used : Contains (members p) (channel.name, channel_descriptor channel)
   pub is_class : IsClassAt pool owner p.class
   pub is_member : IsNameTypeAt pool member channel.name (channel_descriptor channel)
 

@@ -91,6 +91,7 @@ pub fn class_name(program: &Program) -> &[u8]
 /// Pushes a field.
 pub fn put_get(draft: &mut Draft, program: &Program, field: u16) -> Result<(), NoMemory>
     requires declared { field < length program.now.fields }
+    requires coded { Contains (code_of program.now) (get (meaning.field_name program.now field)) }
     requires room { length draft.old.pool + 6 < 65535 }
     ensures { OnOk result
         (Emits program.now 1
@@ -106,6 +107,7 @@ pub fn put_get(draft: &mut Draft, program: &Program, field: u16) -> Result<(), N
 /// Pops into a field.
 pub fn put_put(draft: &mut Draft, program: &Program, field: u16) -> Result<(), NoMemory>
     requires declared { field < length program.now.fields }
+    requires coded { Contains (code_of program.now) (put (meaning.field_name program.now field)) }
     requires room { length draft.old.pool + 6 < 65535 }
     ensures { OnOk result
         (Emits program.now 1
@@ -122,6 +124,8 @@ pub fn put_put(draft: &mut Draft, program: &Program, field: u16) -> Result<(), N
 #[tactic(auto, using(crate::proofs::Constants::channel_within))]
 pub fn put_read(draft: &mut Draft, program: &Program, channel: u16) -> Result<(), NoMemory>
     requires declared { HasChannel program.now channel true }
+    requires coded { Contains (code_of program.now)
+        (read (meaning.channel_name program.now channel)) }
     requires room { length draft.old.pool + 6 < 65535 }
     ensures { OnOk result
         (Emits program.now 1
@@ -136,6 +140,8 @@ pub fn put_read(draft: &mut Draft, program: &Program, channel: u16) -> Result<()
 #[tactic(auto, using(crate::proofs::Constants::channel_within))]
 pub fn put_write(draft: &mut Draft, program: &Program, channel: u16) -> Result<(), NoMemory>
     requires declared { HasChannel program.now channel false }
+    requires coded { Contains (code_of program.now)
+        (write (meaning.channel_name program.now channel)) }
     requires room { length draft.old.pool + 6 < 65535 }
     ensures { OnOk result
         (Emits program.now 1

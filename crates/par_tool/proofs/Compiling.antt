@@ -18,6 +18,7 @@ class_of source p bytes accepted compiled =
     let shown = shows p compiled.file compiled.is runs in
     record {
       file = compiled.file;
+      short = compiled.short;
       spells = compiled.spells;
       is = compiled.is;
       alone = alone p compiled.file compiled.is runs;

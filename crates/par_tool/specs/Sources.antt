@@ -1,5 +1,5 @@
 -- What is said of sources: to check and to compile them.
-use Rattle.std.specs.Prelude.{◌≡◌, ℕ, Option, IsTrue, ◌∷◌, []}
+use Rattle.std.specs.Prelude.{◌≡◌, ℕ, ◌≤◌, Option, IsTrue, ◌∷◌, [], length}
 use Rattle.par_io.specs.Causes.{Rose, Files, ToldBoth, Sets, StandBut, Counts}
 use Rattle.par_lexer.specs.Places.{line_at, column_at}
 use Rattle.par_class.specs.declared.file.ClassFile.{ClassFile}
@@ -17,7 +17,7 @@ use Rattle.par_single.specs.Single.{runs_alone}
 use Rattle.par_machine.specs.Target.{target}
 use Rattle.par_tool.specs.declared.answer.Answer.{Answer}
 use Rattle.par_tool.specs.declared.answer.Answer.TheVariants.{Accepted, Compiled, Refused, WriteFault, NotBuilt}
-use Rattle.par_tool.specs.Outside.{Text, WasRead, NotRead, longest_source, class_file}
+use Rattle.par_tool.specs.Outside.{Text, WasRead, NotRead, longest_source, longest_class, class_file}
 
 -- The rule is broken at the place, whose line and column these are.
 pub record IsBroken (source : Text) (rule line column : ℕ) : Type 0 where
@@ -61,10 +61,11 @@ module _ (files : Option Files) (before after : Counts) (file : Text) where
   Checked Accepted = ReadAccepted files file (λ p. Unit {0})
   Checked answer = Rejected files before after file answer
 
--- The class file that was written for a program: it has the program's members and nothing of its
--- policies, its runs are those of the program, and they are secure.
+-- The class file that was written for a program: it can be read again, it has the program's members
+-- and nothing of its policies, its runs are those of the program, and they are secure.
 pub record IsClassOf (p : Program) (bytes : Text) : Type 0 where
   pub file : ClassFile
+  pub short : length bytes ≤ longest_class
   pub spells : Spells bytes file
   pub is : IsFileOf p file
   pub alone : IsTrue (runs_alone file p.class)

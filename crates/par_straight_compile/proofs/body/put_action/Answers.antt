@@ -4,7 +4,7 @@ use Rattle.par_straight.specs.Meaning.{field_name, channel_name}
 use Rattle.par_straight_compile.specs.Code.{plain, put, write, store}
 use Rattle.par_straight_compile.specs.Growing.{Emits}
 use Rattle.par_straight_compile.proofs.Sequences.{action_emits}
-use Rattle.par_straight_compile.proofs.Pushed.{sum_stands}
+use Rattle.par_straight_compile.proofs.Pushed.{sum_stands, item_stands}
 use Rattle.par_straight_compile.proofs.body.put_action.Goals as goal
 
 pub returns-in_ok-put_plain-in-SetLocal : goal.returns-in_ok-put_plain-in-SetLocal
@@ -37,3 +37,11 @@ put_sum-requires-in-SetField-clause-coded c =
 pub put_sum-requires-in-Output-clause-coded : goal.put_sum-requires-in-Output-clause-coded
 put_sum-requires-in-Output-clause-coded c =
     sum_stands c.args.program.now c.in-Output.sum c.as_slice-in-Output.result.now (write (channel_name c.args.program.now c.in-Output.channel)) c.as_slice-in-Output.ensures (rw c.in-Output.is at c.requires.coded)
+
+pub put_put-requires-clause-coded : goal.put_put-requires-clause-coded
+put_put-requires-clause-coded c =
+    item_stands c.args.program.now c.in-SetField.sum (put (field_name c.args.program.now c.in-SetField.field)) (rw c.in-SetField.is at c.requires.coded)
+
+pub put_write-requires-clause-coded : goal.put_write-requires-clause-coded
+put_write-requires-clause-coded c =
+    item_stands c.args.program.now c.in-Output.sum (write (channel_name c.args.program.now c.in-Output.channel)) (rw c.in-Output.is at c.requires.coded)
