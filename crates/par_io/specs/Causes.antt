@@ -1,5 +1,5 @@
 -- What an answer of the outside tells of it.
-use Rattle.std.specs.Prelude.{◌≡◌, ◌≢◌, ℕ, ◌+◌, ◌-◌, ◌^◌, ◌<◌, ◌⊎◌, List, ◌++◌, Option, Some, None, Result, Ok, Err, if◌then◌else◌, ◌==◌}
+use Rattle.std.specs.Prelude.{◌≡◌, ◌≢◌, ℕ, ◌+◌, ◌-◌, ◌^◌, ◌<◌, ◌⊎◌, List, ◌++◌, Option, Some, None, Result, Err, if◌then◌else◌, ◌==◌}
 use Rattle.par_io.specs.declared.outside.ReadFail.{ReadFail}
 use Rattle.par_io.specs.declared.outside.WriteFail.{WriteFail}
 
@@ -24,18 +24,23 @@ pub record Counts : Type 0 where
 
 -- each count stands
 abbrev pub SameCounts : Counts → Counts → Type 0
-SameCounts old new = (new.faults ≡ old.faults) × (new.absents ≡ old.absents) × (new.longs ≡ old.longs)
+SameCounts old new =
+    (new.faults ≡ old.faults) × (new.absents ≡ old.absents) × (new.longs ≡ old.longs)
 
 -- a read that failed so raises the count of its kind, and no other
 abbrev pub CountsRead : ReadFail → Counts → Counts → Type 0
-CountsRead ReadFail.Absent old new = (new.absents ≡ raised old.absents) × (new.faults ≡ old.faults) × (new.longs ≡ old.longs)
-CountsRead ReadFail.TooLong old new = (new.longs ≡ raised old.longs) × (new.faults ≡ old.faults) × (new.absents ≡ old.absents)
-CountsRead ReadFail.Failed old new = (new.faults ≡ raised old.faults) × (new.absents ≡ old.absents) × (new.longs ≡ old.longs)
+CountsRead ReadFail.Absent old new =
+    (new.absents ≡ raised old.absents) × (new.faults ≡ old.faults) × (new.longs ≡ old.longs)
+CountsRead ReadFail.TooLong old new =
+    (new.longs ≡ raised old.longs) × (new.faults ≡ old.faults) × (new.absents ≡ old.absents)
+CountsRead ReadFail.Failed old new =
+    (new.faults ≡ raised old.faults) × (new.absents ≡ old.absents) × (new.longs ≡ old.longs)
 CountsRead ReadFail.Memory old new = SameCounts old new
 
 -- a write that failed so raises the count of faults, and want of memory raises none
 abbrev pub CountsWrite : WriteFail → Counts → Counts → Type 0
-CountsWrite WriteFail.Failed old new = (new.faults ≡ raised old.faults) × (new.absents ≡ old.absents) × (new.longs ≡ old.longs)
+CountsWrite WriteFail.Failed old new =
+    (new.faults ≡ raised old.faults) × (new.absents ≡ old.absents) × (new.longs ≡ old.longs)
 CountsWrite WriteFail.Memory old new = SameCounts old new
 
 -- the count of faults stands, unless the read failed
@@ -84,4 +89,5 @@ appended (Some bytes) more = Some (bytes ++ more)
 
 -- what is held after a call is what was held before it and a front of these bytes
 abbrev pub AppendsFront : Option (List ℕ) → Option (List ℕ) → List ℕ → Type 0
-AppendsFront old new more = (front back : List ℕ) × (front ++ back ≡ more) × (new ≡ appended old front)
+AppendsFront old new more =
+    (front back : List ℕ) × (front ++ back ≡ more) × (new ≡ appended old front)

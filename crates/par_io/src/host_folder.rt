@@ -1,4 +1,4 @@
-ghost use Rattle.std.specs.Prelude.{◌≡◌, ◌≤◌, None, IfOk, MatchResult, length};
+ghost use Rattle.std.specs.Prelude.{◌≡◌, ◌≤◌, true, None, IfOk, MatchResult, length};
 ghost use Rattle.par_io.specs.Causes.{SameCounts, CountsRead, CountsWrite};
 ghost use Rattle.par_io.specs.HostFolder.{counts_of};
 
@@ -66,6 +66,8 @@ impl<R: Files> Folder for HostFolder<'_, R> {
     ghost absents = { λ s. (counts_of s).absents };
 
     ghost longs = { λ s. (counts_of s).longs };
+
+    ghost counts_faults_alone = { true };
 
     fn read(&mut self, alloc: Global, name: &str, limit: u64) -> Result<Vec<u8>, ReadFail>
         ensures short { IfOk result (λ bytes. length bytes.items ≤ limit) }

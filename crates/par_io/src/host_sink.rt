@@ -1,4 +1,4 @@
-ghost use Rattle.std.specs.Prelude.{◌≡◌, ℕ, None, OnOk, OnErr};
+ghost use Rattle.std.specs.Prelude.{◌≡◌, ℕ, true, None, OnOk, OnErr};
 ghost use Rattle.par_io.specs.Causes.{raised};
 ghost use Rattle.par_io.specs.HostSink.{faults_of};
 
@@ -26,6 +26,8 @@ impl<R: Print> Sink for HostSink<'_, R> {
     ghost held = { λ _. None };
 
     ghost faults = { faults_of };
+
+    ghost counts_faults_alone = { true };
 
     fn put(&mut self, bytes: &[u8]) -> Result<(), PutFailed>
         ensures no_fault { OnOk result (faults_of self.new ≡ faults_of self.old) }

@@ -60,7 +60,8 @@ impl MemFolder {
 
     /// Gives a name these bytes, in place of any that it had.
     pub fn add(&mut self, name: &str, bytes: &[u8]) -> Result<(), NoMemory>
-        ensures set { OnOk result (Sets name.now bytes.now (files_of self.old) (files_of self.new)) }
+        ensures set { OnOk result
+            (Sets name.now bytes.now (files_of self.old) (files_of self.new)) }
         ensures unchanged { OnErr result (files_of self.new ≡ files_of self.old) }
         ensures reads_set { SameReadsSet self.old self.new }
         ensures writes_set { SameWritesSet self.old self.new }
@@ -71,7 +72,8 @@ impl MemFolder {
     }
 
     fn set(&mut self, alloc: Global, name: &str, bytes: &[u8]) -> Result<(), NoMemory>
-        ensures set { OnOk result (Sets name.now bytes.now (files_of self.old) (files_of self.new)) }
+        ensures set { OnOk result
+            (Sets name.now bytes.now (files_of self.old) (files_of self.new)) }
         ensures unchanged { OnErr result (self.new.files.entries ≡ self.old.files.entries) }
         ensures reads_set { SameReadsSet self.old self.new }
         ensures writes_set { SameWritesSet self.old self.new }
@@ -87,7 +89,8 @@ impl MemFolder {
     /// Lets a read fail, counted from 1 since the folder was made.
     pub fn fail_read(&mut self, call: u64) -> Result<(), NoMemory>
         ensures set { OnOk result (is_read_set self.new call ≡ true) }
-        ensures others_stand { OnOk result ((other : ℕ) → other ≢ call → is_read_set self.new other ≡ is_read_set self.old other) }
+        ensures others_stand { OnOk result ((other : ℕ) → other ≢ call →
+            is_read_set self.new other ≡ is_read_set self.old other) }
         ensures unchanged { OnErr result (SameReadsSet self.old self.new) }
         ensures files { files_of self.new ≡ files_of self.old }
         ensures writes_set { SameWritesSet self.old self.new }
@@ -102,7 +105,8 @@ impl MemFolder {
     /// its bytes under its name.
     pub fn fail_write(&mut self, call: u64, keep: u64) -> Result<(), NoMemory>
         ensures set { OnOk result (write_keeps self.new call ≡ Some keep) }
-        ensures others_stand { OnOk result ((other : ℕ) → other ≢ call → write_keeps self.new other ≡ write_keeps self.old other) }
+        ensures others_stand { OnOk result ((other : ℕ) → other ≢ call →
+            write_keeps self.new other ≡ write_keeps self.old other) }
         ensures unchanged { OnErr result (SameWritesSet self.old self.new) }
         ensures files { files_of self.new ≡ files_of self.old }
         ensures reads_set { SameReadsSet self.old self.new }
@@ -157,6 +161,8 @@ impl Folder for MemFolder {
 
     ghost longs = { λ s. (counts_of s).longs };
 
+    ghost counts_faults_alone = { true };
+
     fn read(&mut self, alloc: Global, name: &str, limit: u64) -> Result<Vec<u8>, ReadFail>
         ensures kept { files_of self.new ≡ files_of self.old }
         ensures found { IfOk result (λ bytes. files_of self.old name.now ≡ Some bytes.items) }
@@ -164,7 +170,8 @@ impl Folder for MemFolder {
         ensures absent { IsErrOf result ReadFail.Absent → files_of self.old name.now ≡ None }
         ensures long { IsErrOf result ReadFail.TooLong →
             (bytes : List ℕ) × (files_of self.old name.now ≡ Some bytes) × (limit < length bytes) }
-        ensures failed { IsErrOf result ReadFail.Failed ↔ IsTrue (is_read_set self.old (next_read self.old)) }
+        ensures failed { IsErrOf result ReadFail.Failed ↔
+            IsTrue (is_read_set self.old (next_read self.old)) }
         ensures counts { MatchResult result
             (λ _. SameCounts (counts_of self.old) (counts_of self.new))
             (λ fail. CountsRead fail (counts_of self.old) (counts_of self.new)) }
@@ -190,7 +197,8 @@ impl Folder for MemFolder {
 
     /// Want of memory comes before a fault that is set.
     fn write(&mut self, alloc: Global, name: &str, bytes: &[u8]) -> Result<(), WriteFail>
-        ensures written { OnOk result (Sets name.now bytes.now (files_of self.old) (files_of self.new)) }
+        ensures written { OnOk result
+            (Sets name.now bytes.now (files_of self.old) (files_of self.new)) }
         ensures not_set { OnOk result (write_keeps self.old (next_write self.old) ≡ None) }
         ensures failed { IsErrOf result WriteFail.Failed →
             (keep : ℕ) × (write_keeps self.old (next_write self.old) ≡ Some keep) ×

@@ -1,4 +1,4 @@
-ghost use Rattle.std.specs.Prelude.{◌≡◌, ◌≢◌, ℕ, ◌+◌, ◌-◌, ◌^◌, ◌<◌, ◌≤◌, ◌↔◌, ◌⊎◌, [], ◌++◌, List, Some, None, IfOk, IsSome, IsErr, IsTrue, OnOk, OnErr, length, take, min, vec_capacity, vec_len, false};
+ghost use Rattle.std.specs.Prelude.{◌≡◌, ◌≢◌, ℕ, ◌+◌, ◌-◌, ◌^◌, ◌<◌, ◌≤◌, ◌↔◌, ◌⊎◌, [], ◌++◌, List, Some, None, IfOk, IsSome, IsErr, IsTrue, OnOk, OnErr, length, take, min, vec_capacity, vec_len, true, false};
 ghost use Rattle.par_io.specs.Causes.{AppendsFront, raised};
 
 use crate::outside::{NoMemory, PutFailed, Sink};
@@ -100,7 +100,8 @@ impl MemSink {
     fn let_in(&mut self, bytes: &[u8]) -> bool
         ensures held { bytes_of self.new ≡ bytes_of self.old ++ taken self.old bytes.now }
         ensures fails { (result ≡ false) ↔
-            (IsSome (put_keeps self.old (next_put self.old)) ⊎ (room_left self.old < length bytes.now)) }
+            (IsSome (put_keeps self.old (next_put self.old))
+            ⊎ (room_left self.old < length bytes.now)) }
         ensures counted { next_put self.new ≡ min (next_put self.old + 1) (2 ^ 64) }
         ensures failing { self.new.failing ≡ self.old.failing }
         ensures room { room_of self.new ≡ room_of self.old }
@@ -124,11 +125,15 @@ impl Sink for MemSink {
 
     ghost faults = { faults_of };
 
+    ghost counts_faults_alone = { true };
+
     fn put(&mut self, bytes: &[u8]) -> Result<(), PutFailed>
         ensures held { bytes_of self.new ≡ bytes_of self.old ++ taken self.old bytes.now }
         ensures failed { IsErr result ↔
-            (IsSome (put_keeps self.old (next_put self.old)) ⊎ (room_left self.old < length bytes.now)) }
-        ensures front { OnErr result (AppendsFront (Some (bytes_of self.old)) (Some (bytes_of self.new)) bytes.now) }
+            (IsSome (put_keeps self.old (next_put self.old))
+            ⊎ (room_left self.old < length bytes.now)) }
+        ensures front { OnErr result
+            (AppendsFront (Some (bytes_of self.old)) (Some (bytes_of self.new)) bytes.now) }
         ensures room { room_of self.new ≡ room_of self.old }
         ensures counted { next_put self.new ≡ min (next_put self.old + 1) (2 ^ 64) }
         ensures setting { (call : ℕ) → put_keeps self.new call ≡ put_keeps self.old call }

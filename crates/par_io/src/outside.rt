@@ -1,4 +1,4 @@
-ghost use Rattle.std.specs.Prelude.{◌≡◌, ℕ, ◌<◌, ◌≤◌, List, Option, Some, None, IfOk, IsErrOf, OnOk, OnErr, length};
+ghost use Rattle.std.specs.Prelude.{◌≡◌, ℕ, ◌<◌, ◌≤◌, Bool, false, List, Option, Some, None, IfOk, IsTrue, IsErrOf, OnOk, OnErr, length};
 ghost use Rattle.par_io.specs.Causes.{Rose, ReadFaultsStand, WriteFaultsStand, Files, Told, ToldBoth, StandBut, Sets, appended, AppendsFront};
 ghost use Rattle.par_io.specs.declared.outside.ReadFail.{ReadFail};
 ghost use Rattle.par_io.specs.declared.outside.WriteFail.{WriteFail};
@@ -73,6 +73,10 @@ pub trait Folder {
     /// How many reads found a file longer than their limit.
     ghost longs: { Self → ℕ };
 
+    /// Whether nothing but a fault raises the count of faults. An implementation that leaves this
+    /// out promises nothing of it.
+    ghost counts_faults_alone: { Bool } = { false };
+
     /// The bytes of a file of at most `limit` bytes.
     fn read(&mut self, alloc: Global, name: &str, limit: u64) -> Result<Vec<u8>, ReadFail>
         ensures kept { files self.new ≡ files self.old }
@@ -80,25 +84,34 @@ pub trait Folder {
         ensures absents_never_fall { absents self.old ≤ absents self.new }
         ensures longs_never_fall { longs self.old ≤ longs self.new }
         ensures short { IfOk result (λ bytes. length bytes.items ≤ limit) }
-        ensures found { IfOk result (λ bytes. Told (files self.old) (λ m. m name.now ≡ Some bytes.items)) }
-        ensures absent_counts { IsErrOf result ReadFail.Absent → Rose (absents self.old) (absents self.new) }
-        ensures absent { IsErrOf result ReadFail.Absent → Told (files self.old) (λ m. m name.now ≡ None) }
-        ensures long_counts { IsErrOf result ReadFail.TooLong → Rose (longs self.old) (longs self.new) }
+        ensures found { IfOk result (λ bytes.
+            Told (files self.old) (λ m. m name.now ≡ Some bytes.items)) }
+        ensures absent_counts { IsErrOf result ReadFail.Absent →
+            Rose (absents self.old) (absents self.new) }
+        ensures absent { IsErrOf result ReadFail.Absent →
+            Told (files self.old) (λ m. m name.now ≡ None) }
+        ensures long_counts { IsErrOf result ReadFail.TooLong →
+            Rose (longs self.old) (longs self.new) }
         ensures long { IsErrOf result ReadFail.TooLong →
-            Told (files self.old) (λ m. (bytes : List ℕ) × (m name.now ≡ Some bytes) × (limit < length bytes)) }
+            Told (files self.old) (λ m.
+            (bytes : List ℕ) × (m name.now ≡ Some bytes) × (limit < length bytes)) }
         ensures failed { IsErrOf result ReadFail.Failed → Rose (faults self.old) (faults self.new) }
-        ensures faults_stand { ReadFaultsStand result (faults self.old) (faults self.new) };
+        ensures faults_stand { IsTrue counts_faults_alone →
+            ReadFaultsStand result (faults self.old) (faults self.new) };
 
     /// Gives a name these bytes, in place of any that it had.
     fn write(&mut self, alloc: Global, name: &str, bytes: &[u8]) -> Result<(), WriteFail>
         ensures faults_never_fall { faults self.old ≤ faults self.new }
         ensures absents_never_fall { absents self.old ≤ absents self.new }
         ensures longs_never_fall { longs self.old ≤ longs self.new }
-        ensures written { OnOk result (ToldBoth (files self.old) (files self.new) (Sets name.now bytes.now)) }
-        ensures failed_counts { IsErrOf result WriteFail.Failed → Rose (faults self.old) (faults self.new) }
+        ensures written { OnOk result
+            (ToldBoth (files self.old) (files self.new) (Sets name.now bytes.now)) }
+        ensures failed_counts { IsErrOf result WriteFail.Failed →
+            Rose (faults self.old) (faults self.new) }
         ensures failed { IsErrOf result WriteFail.Failed →
             ToldBoth (files self.old) (files self.new) (StandBut name.now) }
-        ensures faults_stand { WriteFaultsStand result (faults self.old) (faults self.new) }
+        ensures faults_stand { IsTrue counts_faults_alone →
+            WriteFaultsStand result (faults self.old) (faults self.new) }
         ensures memory { IsErrOf result WriteFail.Memory → files self.new ≡ files self.old };
 }
 
@@ -114,11 +127,16 @@ pub trait Sink {
     /// How many puts failed.
     ghost faults: { Self → ℕ };
 
+    /// Whether nothing but a fault raises the count of faults. An implementation that leaves this
+    /// out promises nothing of it.
+    ghost counts_faults_alone: { Bool } = { false };
+
     /// Puts these bytes behind those put so far. Where it fails, a front of them may have been put.
     fn put(&mut self, bytes: &[u8]) -> Result<(), PutFailed>
         ensures faults_never_fall { faults self.old ≤ faults self.new }
         ensures put { OnOk result (held self.new ≡ appended (held self.old) bytes.now) }
         ensures failed_counts { OnErr result (Rose (faults self.old) (faults self.new)) }
-        ensures faults_stand { OnOk result (faults self.new ≡ faults self.old) }
+        ensures faults_stand { IsTrue counts_faults_alone →
+            OnOk result (faults self.new ≡ faults self.old) }
         ensures failed { OnErr result (AppendsFront (held self.old) (held self.new) bytes.now) };
 }

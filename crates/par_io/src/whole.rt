@@ -41,7 +41,8 @@ fn read_some<F: Read>(file: &mut F, buffer: &mut [u8]) -> Result<usize, ReadFail
     ensures bound { IfOk result (λ count. count ≤ length buffer.new) }
     ensures given { IfOk result (λ count.
         Consumes (F.remaining file.old) (F.remaining file.new) (take count buffer.new)) }
-    ensures ended { IfOk result (λ count. count ≡ 0 → 0 < length buffer.new → IsAtEnd (F.remaining file.new)) }
+    ensures ended { IfOk result (λ count.
+        count ≡ 0 → 0 < length buffer.new → IsAtEnd (F.remaining file.new)) }
     ensures not_long { IfErr result (λ fail. fail ≢ ReadFail.TooLong) }
 {
     for _ in 0..u64::MAX {
@@ -62,8 +63,10 @@ pub(crate) fn read_whole<F: Read>(
     limit: u64,
 ) -> Result<Vec<u8>, ReadFail>
     ensures short { IfOk result (λ bytes. length bytes.items ≤ limit) }
-    ensures whole { IfOk result (λ bytes. IfSome (F.remaining file.old) (λ told. bytes.items ≡ told)) }
-    ensures long { IsErrOf result ReadFail.TooLong → IfSome (F.remaining file.old) (λ told. limit < length told) }
+    ensures whole { IfOk result (λ bytes.
+        IfSome (F.remaining file.old) (λ told. bytes.items ≡ told)) }
+    ensures long { IsErrOf result ReadFail.TooLong →
+        IfSome (F.remaining file.old) (λ told. limit < length told) }
 {
     let mut bytes = Vec::new(alloc);
     let mut chunk = [0u8; CHUNK];

@@ -1,5 +1,6 @@
 -- What the loop over instructions keeps: the run is under way, and what is put tells of it.
-use Rattle.std.proofs.Common.{◌≡◌, ℕ, suc, ◌+◌, ◌-◌, ◌<◌, ◌≤◌, List, Option, Err, refl, sym, ap, subst, ◌∙◌, inl, inr, arith, length, take}
+use Rattle.std.proofs.Common.{◌≡◌, ℕ, suc, ◌+◌, ◌-◌, ◌<◌, ◌≤◌, List, Option, Err, Bool, refl, sym, ap, subst, ◌∙◌, inl, inr, arith, length, take}
+use Rattle.std.specs.Prelude.{IsTrue}
 use Rattle.std.specs.List.{concat}
 use Rattle.par_io.specs.Causes.{Rose, appended, AppendsFront}
 use Rattle.par_io.specs.Saying as saying
@@ -20,11 +21,12 @@ use Rattle.par_runner.specs.Progress.{IsUnderWay}
 use Rattle.par_runner.specs.Telling.{GoesOn, silently, shown, ClosesBy, IsCutAt, IsUntoldTurn, PutsAreTold, IsTold, IsCutOff, Closes, closed, unclosed, status_of_untold, outcome}
 use Rattle.par_runner.proofs.UnderWay.{begun, goes_on, happens, cut_short, first_lines, ends, ends_short}
 
-pub record IsTelling (files : List ClassFile) (steps done : ℕ) (first : State) (m : Machine) (old held : Option Text) (before after : ℕ) : Type 0 where
+pub record IsTelling (alone : Bool) (files : List ClassFile) (steps done : ℕ) (first : State) (m : Machine) (old held : Option Text) (before after : ℕ) : Type 0 where
   pub same : files_of m ≡ files
   pub way : IsUnderWay files steps (steps - done) first (state_of m) old held
   pub few : done ≤ steps
-  pub faults : after ≡ before
+  pub grows : before ≤ after
+  pub faults : IsTrue alone → after ≡ before
 
 -- a count that rose behind another point rose behind an earlier one
 pub rose_since : (a b c : ℕ) → a ≤ b → Rose b c → Rose a c
@@ -36,16 +38,17 @@ pub told_since : (u : Untold) (a b c : ℕ) → b ≡ a → PutsAreTold {T = Clo
 told_since Fault a b c stand told = tt
 told_since Memory a b c stand told = told ∙ stand
 
-module _ (files : List ClassFile) (steps : ℕ) (first : State) (old : Option Text) (before : ℕ) where
-  pub begins : (m : Machine) → files_of m ≡ files → state_of m ≡ first → IsTelling files steps 0 first m old old before before
+module _ (alone : Bool) (files : List ClassFile) (steps : ℕ) (first : State) (old : Option Text) (before : ℕ) where
+  pub begins : (m : Machine) → files_of m ≡ files → state_of m ≡ first → IsTelling alone files steps 0 first m old old before before
   begins m same state = record {
     same = same;
     way = let all : steps ≡ steps - 0 = omega arith in subst (λ n. IsUnderWay files steps n first (state_of m) old old) all (subst (λ s. IsUnderWay files steps steps first s old old) (sym state) (begun files steps first old));
     few = omega arith;
-    faults = refl;
+    grows = omega arith;
+    faults = λ only. refl;
   }
 
-  module _ (done : ℕ) (m : Machine) (held : Option Text) (after : ℕ) (h : IsTelling files steps done first m old held before after) where
+  module _ (done : ℕ) (m : Machine) (held : Option Text) (after : ℕ) (h : IsTelling alone files steps done first m old held before after) where
     -- the turn of the machine, over the files of the run
     turned : (t : Turn) → turn (files_of m) (state_of m) ≡ t → turn files (state_of m) ≡ t
     turned t is = subst (λ fs. turn fs (state_of m) ≡ t) h.same is
@@ -55,35 +58,37 @@ module _ (files : List ClassFile) (steps : ℕ) (first : State) (old : Option Te
     more less = let e : steps - done ≡ suc (steps - (done + 1)) = omega arith in subst (λ n. IsUnderWay files steps n first (state_of m) old held) e h.way
 
     silent : (n : Machine) → done < steps → files_of n ≡ files_of m → turn (files_of m) (state_of m) ≡ Silent (state_of n)
-        → (held' : Option Text) (after' : ℕ) → held' ≡ held → after' ≡ after → IsTelling files steps (done + 1) first n old held' before after'
-    silent n less kept is held' after' same stand = record {
+        → (held' : Option Text) (after' : ℕ) → held' ≡ held → after ≤ after' → (IsTrue alone → after' ≡ after) → IsTelling alone files steps (done + 1) first n old held' before after'
+    silent n less kept is held' after' same rises stand = record {
       same = kept ∙ h.same;
       way = subst (λ x. IsUnderWay files steps (steps - (done + 1)) first (state_of n) old x) (sym same)
           (goes_on files steps first old (steps - (done + 1)) (state_of m) (state_of n) held (turned (Silent (state_of n)) is) (more less));
       few = omega arith;
-      faults = stand ∙ h.faults;
+      grows = (let g = h.grows in omega (arith, g, rises));
+      faults = λ only. stand only ∙ h.faults only;
     }
 
     told : (n : Machine) (e : Event) (held' : Option Text) (after' : ℕ) → done < steps → files_of n ≡ files_of m
-        → turn (files_of m) (state_of m) ≡ Shows e (state_of n) → held' ≡ appended held (line (event_text e)) → after' ≡ after
-        → IsTelling files steps (done + 1) first n old held' before after'
-    told n e held' after' less kept is put stand = record {
+        → turn (files_of m) (state_of m) ≡ Shows e (state_of n) → held' ≡ appended held (line (event_text e)) → after ≤ after' → (IsTrue alone → after' ≡ after)
+        → IsTelling alone files steps (done + 1) first n old held' before after'
+    told n e held' after' less kept is put rises stand = record {
       same = kept ∙ h.same;
       way = happens files steps first old (steps - (done + 1)) (state_of m) (state_of n) held held' e (turned (Shows e (state_of n)) is) put (more less);
       few = omega arith;
-      faults = stand ∙ h.faults;
+      grows = (let g = h.grows in omega (arith, g, rises));
+      faults = λ only. stand only ∙ h.faults only;
     }
 
-    pub keeps : (n : Machine) (held' : Option Text) (after' : ℕ) → done < steps → files_of n ≡ files_of m → after' ≡ after
-        → GoesOn (turn (files_of m) (state_of m)) (state_of n) held held' → IsTelling files steps (done + 1) first n old held' before after'
-    keeps n held' after' less kept stand (silently is same) = silent n less kept is held' after' same stand
-    keeps n held' after' less kept stand (shown e is put) = told n e held' after' less kept is put stand
+    pub keeps : (n : Machine) (held' : Option Text) (after' : ℕ) → done < steps → files_of n ≡ files_of m → after ≤ after' → (IsTrue alone → after' ≡ after)
+        → GoesOn (turn (files_of m) (state_of m)) (state_of n) held held' → IsTelling alone files steps (done + 1) first n old held' before after'
+    keeps n held' after' less kept rises stand (silently is same) = silent n less kept is held' after' same rises stand
+    keeps n held' after' less kept rises stand (shown e is put) = told n e held' after' less kept is put rises stand
 
     -- a front of an event's line is put, and no more
     cut : (held' : Option Text) (after' : ℕ) → done < steps → IsCutAt (turn (files_of m) (state_of m)) held held' after after'
         → Rose before after' × AppendsFront old held' (concat (lines (run files steps first)))
     cut held' after' less at = (
-      (let f = h.faults in rose_since before after after' (omega arith) at.rose),
+      rose_since before after after' h.grows at.rose,
       cut_short files steps first old (steps - (done + 1)) (state_of m) at.later held held' at.event (turned (Shows at.event at.later) at.is) at.front (more less),
     )
 

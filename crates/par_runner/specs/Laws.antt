@@ -24,4 +24,5 @@ IsEvent (Born class n) = IsName class × (n < 2 ^ 32)
 -- two events that have one line are the same event
 abbrev pub EqualLinesAreEqualEvents : Type 0
 EqualLinesAreEqualEvents =
-    (one other : Event) → IsEvent one → IsEvent other → line (event_text one) ≡ line (event_text other) → one ≡ other
+    (one other : Event) → IsEvent one → IsEvent other
+    → line (event_text one) ≡ line (event_text other) → one ≡ other

@@ -17,8 +17,10 @@ after events ran = record { events = events ++ ran.events; ending = ran.ending }
 abbrev pub event_lines : List Event → List Text
 event_lines events = map (λ e. line (event_text e)) events
 
--- Of a run of so many instructions from a first state, so many are left from this one on; the events so far are told.
-pub record IsUnderWay (files : List ClassFile) (steps rest : ℕ) (first now : State) (old held : Option Text) : Type 0 where
+-- Of a run of so many instructions from a first state, so many are left from this one on; the
+-- events so far are told.
+pub record IsUnderWay (files : List ClassFile) (steps rest : ℕ) (first now : State)
+    (old held : Option Text) : Type 0 where
   pub events : List Event
   pub is_run : run files steps first ≡ after events (run files rest now)
   pub told : held ≡ appended old (concat (event_lines events))

@@ -1,5 +1,5 @@
 -- What telling of a run comes to, line by line.
-use Rattle.std.specs.Prelude.{◌≡◌, ℕ, ◌<◌, List, take, length, Option, Result, Ok, Err}
+use Rattle.std.specs.Prelude.{◌≡◌, ℕ, ◌<◌, List, take, length, Option, Result, Err}
 use Rattle.std.specs.List.{concat}
 use Rattle.par_io.specs.Causes.{Rose, appended, AppendsFront}
 use Rattle.par_values.specs.declared.run.Event.{Event}
@@ -33,7 +33,8 @@ PutsAreTold _ before after = after ≡ before
 -- The machine's turn leads to this state, and its event, if there is one, is told.
 pub data GoesOn (t : Turn) (later : State) (old new : Option Text) : Type 0 where
   silently : t ≡ Silent later → new ≡ old → GoesOn t later old new
-  shown : (e : Event) → t ≡ Shows e later → new ≡ appended old (line (event_text e)) → GoesOn t later old new
+  shown : (e : Event) → t ≡ Shows e later → new ≡ appended old (line (event_text e))
+      → GoesOn t later old new
 
 -- The machine's turn closes the run, whatever would follow.
 pub record ClosesBy (t : Turn) (c : Closing) (old new : Option Text) : Type 0 where
@@ -54,16 +55,21 @@ IsUntoldTurn t old new before after Fault = IsCutAt t old new before after
 IsUntoldTurn t old new before after Memory = new ≡ old
 
 -- All events of a run are told, and this is how it closes.
-pub record IsTold (files : List ClassFile) (steps : ℕ) (first : State) (old new : Option Text) (c : Closing) : Type 0 where
+pub record IsTold (files : List ClassFile) (steps : ℕ) (first : State) (old new : Option Text)
+    (c : Closing) : Type 0 where
   pub rest : ℕ
   pub now : State
   pub closes : run files rest now ≡ ended (outcome c)
   pub way : IsUnderWay files steps rest first now old new
 
--- what a run that is not told to its end leaves: a front of its text where a put failed, and else its first lines
+-- what a run that is not told to its end leaves: a front of its text where a put failed, and else
+-- its first lines
 abbrev pub IsCutOff : Ran → (old new : Option Text) → (before after : ℕ) → Untold → Type 0
-IsCutOff ran old new before after Fault = Rose before after × AppendsFront old new (concat (lines ran))
-IsCutOff ran old new before after Memory = (many : ℕ) × (many < length (lines ran)) × (new ≡ appended old (concat (take many (lines ran))))
+IsCutOff ran old new before after Fault =
+    Rose before after × AppendsFront old new (concat (lines ran))
+IsCutOff ran old new before after Memory =
+    (many : ℕ) × (many < length (lines ran))
+    × (new ≡ appended old (concat (take many (lines ran))))
 
 -- the status of a call that could not put a line
 abbrev pub status_of_untold : Untold → ℕ
@@ -72,5 +78,8 @@ status_of_untold Memory = 7
 
 -- What putting the line of a closing comes to, with the status of the call.
 pub data Closes (c : Closing) (result : ℕ) (old new : Option Text) (before after : ℕ) : Type 0 where
-  closed : result ≡ status (outcome c) → new ≡ appended old (line (ending_text (outcome c))) → Closes c result old new before after
-  unclosed : (u : Untold) → result ≡ status_of_untold u → IsUntold (line (ending_text (outcome c))) old new before after u → Closes c result old new before after
+  closed : result ≡ status (outcome c) → new ≡ appended old (line (ending_text (outcome c)))
+      → Closes c result old new before after
+  unclosed : (u : Untold) → result ≡ status_of_untold u
+      → IsUntold (line (ending_text (outcome c))) old new before after u
+      → Closes c result old new before after

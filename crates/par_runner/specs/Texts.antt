@@ -22,9 +22,13 @@ value_text (Ref class n) = object_text class n
 
 -- the line of an event, without its end
 abbrev pub event_text : Event → Text
-event_text (Out class channel n) = codes "out " ++ (class ++ (codes "." ++ (channel ++ (codes " " ++ signed_decimal n))))
-event_text (Set class field v) = codes "set " ++ (class ++ (codes "." ++ (field ++ (codes " " ++ value_text v))))
-event_text (Put class n field v) = codes "put " ++ (object_text class n ++ (codes "." ++ (field ++ (codes " " ++ value_text v))))
+event_text (Out class channel n) =
+    codes "out " ++ (class ++ (codes "." ++ (channel ++ (codes " " ++ signed_decimal n))))
+event_text (Set class field v) =
+    codes "set " ++ (class ++ (codes "." ++ (field ++ (codes " " ++ value_text v))))
+event_text (Put class n field v) =
+    codes "put "
+    ++ (object_text class n ++ (codes "." ++ (field ++ (codes " " ++ value_text v))))
 event_text (Born class n) = codes "new " ++ object_text class n
 
 -- the line of an ending, without its end
@@ -33,7 +37,9 @@ ending_text (Fine End) = codes "end"
 ending_text (Fine (Uncaught class)) = codes "uncaught " ++ class
 ending_text (Fine Stopped) = codes "budget"
 ending_text (BadCode class method offset reason) =
-    codes "bad code " ++ (class ++ (codes "." ++ (method ++ (codes " " ++ (decimal offset ++ (codes " " ++ decimal reason))))))
+    codes "bad code "
+    ++ (class ++ (codes "." ++ (method
+    ++ (codes " " ++ (decimal offset ++ (codes " " ++ decimal reason))))))
 
 -- a line ends with byte 10
 abbrev pub line : Text → Text

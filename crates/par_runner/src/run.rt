@@ -1,6 +1,6 @@
 //! A run, told as it goes.
 
-ghost use Rattle.std.specs.Prelude.{◌≡◌, ◌≢◌, ◌≤◌, IfOk, IfErr, MatchOption};
+ghost use Rattle.std.specs.Prelude.{◌≡◌, ◌≢◌, ◌≤◌, IsTrue, IfOk, IfErr, MatchOption};
 ghost use Rattle.par_io.specs.Saying.{Said};
 ghost use Rattle.par_machine.specs.Run.{run};
 ghost use Rattle.par_machine.specs.Step.{turn};
@@ -23,7 +23,8 @@ fn advance<S: Sink>(
 ) -> Result<Option<Closing>, Untold>
     ensures files { files_of machine.new ≡ files_of machine.old }
     ensures faults_never_fall { S.faults out.old ≤ S.faults out.new }
-    ensures faults_stand { PutsAreTold result (S.faults out.old) (S.faults out.new) }
+    ensures faults_stand { IsTrue S.counts_faults_alone →
+        PutsAreTold result (S.faults out.old) (S.faults out.new) }
     ensures told { let t = turn (files_of machine.old) (state_of machine.old) in
         IfOk result (λ closing. MatchOption closing
         (GoesOn t (state_of machine.new) (S.held out.old) (S.held out.new))
@@ -64,7 +65,8 @@ fn tell_events<S: Sink>(
     out: &mut S,
 ) -> Result<Closing, Untold>
     ensures faults_never_fall { S.faults out.old ≤ S.faults out.new }
-    ensures faults_stand { PutsAreTold result (S.faults out.old) (S.faults out.new) }
+    ensures faults_stand { IsTrue S.counts_faults_alone →
+        PutsAreTold result (S.faults out.old) (S.faults out.new) }
     ensures told { IfOk result (IsTold (files_of machine.old) steps (state_of machine.old)
         (S.held out.old) (S.held out.new)) }
     ensures cut { IfErr result (IsCutOff (run (files_of machine.old) steps (state_of machine.old))
@@ -94,7 +96,8 @@ fn untold_status(untold: Untold) -> u8
 fn close<S: Sink>(alloc: Global, closing: &Closing, out: &mut S) -> u8
     ensures closes { Closes closing.now result (S.held out.old) (S.held out.new)
         (S.faults out.old) (S.faults out.new) }
-    ensures faults_stand { result ≢ 6 → S.faults out.new ≡ S.faults out.old }
+    ensures faults_stand { IsTrue S.counts_faults_alone →
+        result ≢ 6 → S.faults out.new ≡ S.faults out.old }
 {
     match put_closing(alloc, closing, out) {
         Ok(()) => status_of(closing),
@@ -108,7 +111,8 @@ pub fn tell_run<S: Sink>(alloc: Global, machine: Machine, steps: u32, out: &mut 
     ensures said { let ran = run (files_of machine) steps (state_of machine) in
         Said (status ran.ending) (lines ran) result (S.held out.old) (S.held out.new)
         (S.faults out.old) (S.faults out.new) }
-    ensures failed_puts_are_told { result ≢ 6 → S.faults out.new ≡ S.faults out.old }
+    ensures failed_puts_are_told { IsTrue S.counts_faults_alone →
+        result ≢ 6 → S.faults out.new ≡ S.faults out.old }
 {
     let mut machine = machine;
     match tell_events(alloc, &mut machine, steps, out) {

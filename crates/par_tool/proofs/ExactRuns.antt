@@ -15,12 +15,12 @@ use Rattle.par_tool.specs.declared.answer.Answer.{Answer}
 use Rattle.par_tool.specs.declared.answer.Answer.TheVariants.{Accepted, Compiled, Refused, Usage, Absent, ReadFault, WriteFault, TooLong, NotBuilt, BadInputs}
 use Rattle.par_tool.specs.Texts.{status}
 use Rattle.par_tool.specs.Outside.{Text, NotRead, IsThere, IsMissing, IsOverlong, longest_class, longest_inputs, class_file}
-use Rattle.par_tool.specs.Classes.{IsAlone, IsLoaded, IsOther, IsBad, broken, misfit, first_misfit, HasBadLine, NotHad, NotRun, IsRunOf}
+use Rattle.par_tool.specs.Classes.{IsAlone, IsLoaded, IsOther, IsBad, broken, misfit, misfit_in, HasBadLine, NotHad, NotRun, IsRunOf}
 use Rattle.par_tool.specs.Exactly.{IsSaidBy, TellsRun, TellsClass}
 use Rattle.par_tool.proofs.Statuses.{IsNear, same, near_status, same_status, read_there, missing_read, overlong_read, missing_not_read, overlong_not_read, there_not_read}
 
 -- no line is wrong where all are right and each has its channel
-right_or_bad : (file : ClassFile) (text : Text) (number : ℕ) → IsRight text → first_misfit file text ≡ None → IsBad file text number → ⊥
+right_or_bad : (file : ClassFile) (text : Text) (number : ℕ) → IsRight text → misfit_in file text ≡ None → IsBad file text number → ⊥
 right_or_bad file text number right fit (broken h) =
     let inside : number - 1 < length (lines_of text) = let c = h.counted in let s = h.stands in omega arith in
     false≢true (sym (right.right (number - 1) inside) ∙ h.broken)
@@ -137,7 +137,7 @@ module _ (files : Option Files) (before after : Counts) (main inputs : Text) whe
                 same_status _ _ result (ap (λ (r : Ran). told.status r.ending) run_is) said;
             bad_inputs = λ number bad.
                 let right : IsRight text = subst IsRight is h.given.right in
-                let fit : first_misfit file text ≡ None = subst (λ (t : Text). first_misfit file t ≡ None) is (subst (λ (f : ClassFile). first_misfit f h.given.text ≡ None) same_class h.given.fit) in
+                let fit : misfit_in file text ≡ None = subst (λ (t : Text). misfit_in file t ≡ None) is (subst (λ (f : ClassFile). misfit_in f h.given.text ≡ None) same_class h.given.fit) in
                 absurd (right_or_bad file text number right fit bad);
           };
     }

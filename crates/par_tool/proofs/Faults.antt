@@ -1,5 +1,5 @@
 -- Faults that have happened are told: no status but 4, 5 and 6 comes where a read or a write failed.
-use Rattle.std.proofs.Common.{◌≡◌, ◌≢◌, ℕ, List, Option, Result, Ok, Err, Bool, false, refl}
+use Rattle.std.proofs.Common.{◌≡◌, ◌≢◌, ℕ, List, Option, Result, Ok, Err, false, refl}
 use Rattle.std.specs.Bool.{OnFalse}
 use Rattle.std.proofs.lemmas.Bool.{OnFalse_at}
 use Rattle.par_io.specs.Saying.{Said, whole, cut, unsaid}
@@ -7,7 +7,7 @@ use Rattle.par_tool.specs.declared.answer.Answer.{Answer}
 use Rattle.par_tool.specs.declared.answer.Answer.TheVariants.{ReadFault, WriteFault}
 use Rattle.par_tool.specs.declared.reading.Failure.{Failure}
 use Rattle.par_tool.specs.declared.reading.Failure.TheVariants.{Answered, Memory}
-use Rattle.par_tool.specs.Texts.{status, is_fault}
+use Rattle.par_tool.specs.Texts.{is_fault}
 use Rattle.par_tool.specs.Outside.{Text}
 use Rattle.par_tool.specs.Failures.{FaultsAreTold}
 use Rattle.par_tool.specs.Answers.{IsSaid, Concludes, Breaks}

@@ -28,16 +28,20 @@ pub record Scene : Type 0 where
 abbrev pub Stand : Scene → Type 0
 Stand s = s.later ≡ s.files
 
--- Saying an answer: its line is put. The line of a fault that has happened needs no memory, so that nothing else comes in its place.
-pub record IsSaid (answer : Answer) (result : ℕ) (old new : Option Text) (before after : ℕ) : Type 0 where
+-- Saying an answer: its line is put. The line of a fault that has happened needs no memory, so that
+-- nothing else comes in its place.
+pub record IsSaid (answer : Answer) (result : ℕ) (old new : Option Text) (before after : ℕ)
+    : Type 0 where
   pub said : Said (status answer) (text answer ∷ []) result old new before after
   pub firm : IsTrue (is_fault answer) → result ≡ 7 → ⊥
 
--- Why an answer comes to what the words want. A run that begins is told by its lines and not by an answer.
+-- Why an answer comes to what the words want. A run that begins is told by its lines and not by an
+-- answer.
 abbrev pub Cause : Scene → Wanted → Answer → Type 0
 Cause s (Check file) answer = Checked s.files s.before s.after file answer × Stand s
 Cause s (Compile file) answer = CompiledSo s.files s.later s.before s.after file answer
-Cause s (Run main inputs steps) answer = NotRun s.files s.before s.after main inputs answer × Stand s
+Cause s (Run main inputs steps) answer =
+    NotRun s.files s.before s.after main inputs answer × Stand s
 
 -- Why a run is told.
 abbrev pub RunCause : Scene → Wanted → Ran → Type 0
@@ -46,12 +50,16 @@ RunCause s (Compile file) ran = ⊥
 RunCause s (Run main inputs steps) ran = IsRunOf s.files main inputs steps ran × Stand s
 
 -- How a call ends that has said something with a cause, or was in want of memory and said nothing.
-module _ (which : Which) (words : List (String Global)) (scene : Scene) (result : ℕ) (old new : Option Text) (before after : ℕ) where
+module _ (which : Which) (words : List (String Global)) (scene : Scene) (result : ℕ)
+    (old new : Option Text) (before after : ℕ) where
   pub data Ends : Type 0 where
     -- the words are of no form
-    misses : ((w : Wanted) → Asks which words w → ⊥) → Stand scene → IsSaid Usage result old new before after → Ends
-    answers : (w : Wanted) (answer : Answer) → Asks which words w → Cause scene w answer → IsSaid answer result old new before after → Ends
-    runs : (w : Wanted) (ran : Ran) → Asks which words w → RunCause scene w ran → Said (told.status ran.ending) (told.lines ran) result old new before after → Ends
+    misses : ((w : Wanted) → Asks which words w → ⊥) → Stand scene
+        → IsSaid Usage result old new before after → Ends
+    answers : (w : Wanted) (answer : Answer) → Asks which words w → Cause scene w answer
+        → IsSaid answer result old new before after → Ends
+    runs : (w : Wanted) (ran : Ran) → Asks which words w → RunCause scene w ran
+        → Said (told.status ran.ending) (told.lines ran) result old new before after → Ends
     lacks_memory : result ≡ 7 → new ≡ old → Stand scene → Ends
 
 -- what saying the answer in the place of a job's end comes to
@@ -59,7 +67,9 @@ abbrev pub Breaks : Failure → (result : ℕ) → (old new : Option Text) → (
 Breaks (Answered answer) result old new before after = IsSaid answer result old new before after
 Breaks Memory result old new before after = (result ≡ 7) × (new ≡ old)
 
--- What saying what a job came to comes to: an answer that it gives, or one in its place; and want of memory says nothing.
-abbrev pub Concludes : Result Answer Failure → (result : ℕ) → (old new : Option Text) → (before after : ℕ) → Type 0
+-- What saying what a job came to comes to: an answer that it gives, or one in its place; and want
+-- of memory says nothing.
+abbrev pub Concludes : Result Answer Failure → (result : ℕ) → (old new : Option Text)
+    → (before after : ℕ) → Type 0
 Concludes (Ok answer) result old new before after = IsSaid answer result old new before after
 Concludes (Err failure) result old new before after = Breaks failure result old new before after

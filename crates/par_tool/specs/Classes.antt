@@ -1,6 +1,5 @@
 -- What is said of class files and input files: to run them.
-use Rattle.std.specs.Prelude.{◌≡◌, ℕ, ◌⊎◌, [], ◌∷◌, not, Option, Some, None, IsTrue}
-use Rattle.std.specs.List.{position}
+use Rattle.std.specs.Prelude.{◌≡◌, ℕ, ◌⊎◌, [], ◌∷◌, Option, Some, None, IsTrue}
 use Rattle.par_io.specs.Causes.{Files, Counts}
 use Rattle.par_values.specs.declared.inputs.Inputs.{Inputs}
 use Rattle.par_values.specs.Ran.{Ran}
@@ -14,7 +13,7 @@ use Rattle.par_machine.specs.declared.machine.Machine.{Machine}
 use Rattle.par_machine.specs.Machine.{files_of, state_of}
 use Rattle.par_machine.specs.State.{start}
 use Rattle.par_machine.specs.Run.{machine_run}
-use Rattle.par_machine.specs.Target.{has_input}
+use Rattle.par_machine.specs.Misfits.{first_misfit}
 use Rattle.par_tool.specs.declared.answer.Answer.{Answer}
 use Rattle.par_tool.specs.declared.answer.Answer.TheVariants.{NotBuilt, BadInputs}
 use Rattle.par_tool.specs.Outside.{Text, WasRead, NotRead, longest_class, longest_inputs, class_file}
@@ -36,32 +35,35 @@ pub record IsOther (files : Option Files) (main : Text) : Type 0 where
   pub read : WasRead files longest_class (class_file main) bytes
   pub other : (file : ClassFile) → IsAlone main bytes file → ⊥
 
--- the place of the first entry whose channel the file does not have
-abbrev pub first_misfit : ClassFile → Text → Option ℕ
-first_misfit file text = position (λ line. not (has_input (file ∷ []) line.class line.channel)) (entries (lines_of text))
+-- the place of the first entry of the text whose channel the file does not have
+abbrev pub misfit_in : ClassFile → Text → Option ℕ
+misfit_in file text = first_misfit (file ∷ []) (entries (lines_of text))
 
 -- the line of the first entry whose channel the file does not have
 pub record IsMisfit (file : ClassFile) (text : Text) (number : ℕ) : Type 0 where
   pub right : IsRight text
   pub place : ℕ
-  pub first : first_misfit file text ≡ Some place
+  pub first : misfit_in file text ≡ Some place
   pub number_is : number ≡ line_of_entry text place
 
--- why a line is wrong: it is the first that breaks the rules, or the first that names no input channel
+-- why a line is wrong: it is the first that breaks the rules, or the first that names no input
+-- channel
 pub data IsBad (file : ClassFile) (text : Text) (number : ℕ) : Type 0 where
   broken : IsFirstBroken text number → IsBad file text number
   misfit : IsMisfit file text number → IsBad file text number
 
 -- the input file was read, and these are its inputs, all of which the file has channels for
-pub record AreInputs (files : Option Files) (file : ClassFile) (name : Text) (inputs : Inputs) : Type 0 where
+pub record AreInputs (files : Option Files) (file : ClassFile) (name : Text) (inputs : Inputs)
+    : Type 0 where
   pub text : Text
   pub read : WasRead files longest_inputs name text
   pub right : IsRight text
   pub entries_are : inputs.channels ≡ entries (lines_of text)
-  pub fit : first_misfit file text ≡ None
+  pub fit : misfit_in file text ≡ None
 
 -- the input file was read, and a line of it is wrong
-pub record HasBadLine (files : Option Files) (file : ClassFile) (name : Text) (number : ℕ) : Type 0 where
+pub record HasBadLine (files : Option Files) (file : ClassFile) (name : Text) (number : ℕ)
+    : Type 0 where
   pub text : Text
   pub read : WasRead files longest_inputs name text
   pub bad : IsBad file text number
@@ -69,12 +71,14 @@ pub record HasBadLine (files : Option Files) (file : ClassFile) (name : Text) (n
 -- why no class file is loaded
 abbrev pub IsUnloaded : Option Files → Counts → Counts → Text → Answer → Type 0
 IsUnloaded files before after main NotBuilt = IsOther files main
-IsUnloaded files before after main answer = NotRead files before after longest_class (class_file main) answer
+IsUnloaded files before after main answer =
+    NotRead files before after longest_class (class_file main) answer
 
 -- why no inputs are given to a class file
 abbrev pub IsUngiven : Option Files → Counts → Counts → ClassFile → Text → Answer → Type 0
 IsUngiven files before after file inputs (BadInputs number) = HasBadLine files file inputs number
-IsUngiven files before after file inputs answer = NotRead files before after longest_inputs inputs answer
+IsUngiven files before after file inputs answer =
+    NotRead files before after longest_inputs inputs answer
 
 -- Why no run begins.
 module _ (files : Option Files) (before after : Counts) (main inputs : Text) where
@@ -82,15 +86,18 @@ module _ (files : Option Files) (before after : Counts) (main inputs : Text) whe
   abbrev pub NotHad : Answer → Type 0
   NotHad answer =
       NotRead files before after longest_class (class_file main) answer
-      ⊎ ((file : ClassFile) × IsLoaded files main file × NotRead files before after longest_inputs inputs answer)
+      ⊎ ((file : ClassFile) × IsLoaded files main file
+      × NotRead files before after longest_inputs inputs answer)
 
   abbrev pub NotRun : Answer → Type 0
   NotRun NotBuilt = IsOther files main
-  NotRun (BadInputs number) = (file : ClassFile) × IsLoaded files main file × HasBadLine files file inputs number
+  NotRun (BadInputs number) =
+      (file : ClassFile) × IsLoaded files main file × HasBadLine files file inputs number
   NotRun answer = NotHad answer
 
 -- The run of the class on its inputs, at most so many instructions.
-pub record IsRunOf (files : Option Files) (main inputs : Text) (steps : ℕ) (ran : Ran) : Type 0 where
+pub record IsRunOf (files : Option Files) (main inputs : Text) (steps : ℕ) (ran : Ran)
+    : Type 0 where
   pub file : ClassFile
   pub lists : Inputs
   pub loaded : IsLoaded files main file

@@ -13,7 +13,7 @@ use Rattle.par_runner.specs.Texts as told
 use Rattle.par_words.specs.Words.{Wanted, Check, Compile, Run}
 use Rattle.par_tool.specs.Outside.{Text, IsThere, IsMissing, IsOverlong, longest_source, longest_class, longest_inputs, class_file}
 use Rattle.par_tool.specs.Sources.{IsBroken}
-use Rattle.par_tool.specs.Classes.{IsAlone, IsBad, first_misfit}
+use Rattle.par_tool.specs.Classes.{IsAlone, IsBad, misfit_in}
 
 -- what has this status is said, but for a failed put or want of memory
 pub data IsSaidBy (result number : ℕ) : Type 0 where
@@ -47,7 +47,8 @@ pub record Judges (Accepts : ℕ → Type 0) (source : Text) (result : ℕ) : Ty
 
 -- Which status it has where the folder tells of the source: 3 where its file is missing, 8 where it
 -- is too long.
-pub record TellsSource (Accepts : ℕ → Type 0) (files : Option Files) (file : Text) (result : ℕ) : Type 0 where
+pub record TellsSource (Accepts : ℕ → Type 0) (files : Option Files) (file : Text) (result : ℕ)
+    : Type 0 where
   pub missing : IsMissing files file → IsStatus result 3
   pub overlong : IsOverlong files longest_source file → IsStatus result 8
   pub there : (source : Text) → IsThere files longest_source file source
@@ -57,22 +58,25 @@ pub record TellsSource (Accepts : ℕ → Type 0) (files : Option Files) (file :
 -- is right, 13 exactly where a line is wrong.
 pub record RunsOn (file : ClassFile) (main text : Text) (steps result : ℕ) : Type 0 where
   pub ran : (inputs : Inputs) → IsRight text → inputs.channels ≡ entries (lines_of text)
-      → first_misfit file text ≡ None
+      → misfit_in file text ≡ None
       → IsStatus result (told.status (machine_run (file ∷ []) main inputs steps).ending)
   pub bad_inputs : (number : ℕ) → IsBad file text number → IsStatus result 13
 
 -- Which status the run of a class has that runs by itself.
-pub record TellsRun (files : Option Files) (file : ClassFile) (main inputs : Text) (steps result : ℕ) : Type 0 where
+pub record TellsRun (files : Option Files) (file : ClassFile) (main inputs : Text)
+    (steps result : ℕ) : Type 0 where
   pub missing : IsMissing files inputs → IsStatus result 3
   pub overlong : IsOverlong files longest_inputs inputs → IsStatus result 8
   pub there : (text : Text) → IsThere files longest_inputs inputs text
       → RunsOn file main text steps result
 
--- Which status a class has that the folder tells of: 9 exactly where its file does not run by itself.
+-- Which status a class has that the folder tells of: 9 exactly where its file does not run by
+-- itself.
 pub record TellsClass (files : Option Files) (main inputs : Text) (steps result : ℕ) : Type 0 where
   pub missing : IsMissing files (class_file main) → IsStatus result 3
   pub overlong : IsOverlong files longest_class (class_file main) → IsStatus result 8
-  pub there : (bytes : Text) (file : ClassFile) → IsThere files longest_class (class_file main) bytes
+  pub there : (bytes : Text) (file : ClassFile)
+      → IsThere files longest_class (class_file main) bytes
       → IsAlone main bytes file → TellsRun files file main inputs steps result
   pub not_built : (bytes : Text) → IsThere files longest_class (class_file main) bytes
       → ((file : ClassFile) → IsAlone main bytes file → ⊥) → IsStatus result 9

@@ -11,8 +11,8 @@ abbrev pub IsFailure : (Answer → Type 0) → Failure → Type 0
 IsFailure Cause (Answered answer) = Cause answer
 IsFailure Cause Memory = Unit {0}
 
--- No read and no write failed, unless what came of the job tells of it: want of memory does not come
--- in the place of a fault.
+-- No read and no write failed, unless what came of the job tells of it: want of memory does not
+-- come in the place of a fault.
 abbrev pub FaultsAreTold : {A : Type 0} → Result A Failure → (before after : ℕ) → Type 0
 FaultsAreTold (Ok value) before after = after ≡ before
 FaultsAreTold (Err (Answered answer)) before after = OnFalse (is_fault answer) (after ≡ before)

@@ -25,7 +25,8 @@ longest_inputs = 1048576
 abbrev pub class_file : Text → Text
 class_file name = name ++ codes ".class"
 
--- The file was read: it has at most so many bytes, and where the folder tells its files, they are these.
+-- The file was read: it has at most so many bytes, and where the folder tells its files, they are
+-- these.
 pub record WasRead (files : Option Files) (limit : ℕ) (file bytes : Text) : Type 0 where
   pub short : length bytes ≤ limit
   pub found : Told files (λ m. m file ≡ Some bytes)
@@ -47,8 +48,10 @@ IsOverlong (Some m) limit file = (bytes : Text) × (m file ≡ Some bytes) × (l
 
 -- Why a file was not had, given the folder's counts before and after the read.
 abbrev pub NotRead : Option Files → Counts → Counts → ℕ → Text → Answer → Type 0
-NotRead files before after limit file Absent = Rose before.absents after.absents × Told files (λ m. m file ≡ None)
+NotRead files before after limit file Absent =
+    Rose before.absents after.absents × Told files (λ m. m file ≡ None)
 NotRead files before after limit file ReadFault = Rose before.faults after.faults
 NotRead files before after limit file TooLong =
-    Rose before.longs after.longs × Told files (λ m. (bytes : Text) × (m file ≡ Some bytes) × (limit < length bytes))
+    Rose before.longs after.longs
+    × Told files (λ m. (bytes : Text) × (m file ≡ Some bytes) × (limit < length bytes))
 NotRead files before after limit file _ = ⊥

@@ -47,13 +47,15 @@ ReadSource files file P = (source : Text) × WasRead files longest_source file s
 -- Why a source in a file has no accepted program.
 module _ (files : Option Files) (before after : Counts) (file : Text) where
   abbrev pub Rejected : Answer → Type 0
-  Rejected (Refused rule line column) = ReadSource files file (λ source. IsBroken source rule line column)
+  Rejected (Refused rule line column) =
+      ReadSource files file (λ source. IsBroken source rule line column)
   Rejected NotBuilt = ReadSource files file (λ source. IsStraightLine source → ⊥)
   Rejected answer = NotRead files before after longest_source file answer
 
 -- the program of a source that was read and accepted
 abbrev pub ReadAccepted : Option Files → Text → (Program → Type 0) → Type 0
-ReadAccepted files file P = (p : Program) × P p × ReadSource files file (λ source. IsAcceptedAs source p)
+ReadAccepted files file P =
+    (p : Program) × P p × ReadSource files file (λ source. IsAcceptedAs source p)
 
 -- Why a check ends with an answer.
 module _ (files : Option Files) (before after : Counts) (file : Text) where
@@ -83,5 +85,7 @@ pub record IsWritten (p : Program) (files later : Option Files) : Type 0 where
 module _ (files later : Option Files) (before after : Counts) (file : Text) where
   abbrev pub CompiledSo : Answer → Type 0
   CompiledSo (Compiled many) = (many ≡ 1) × ReadAccepted files file (λ p. IsWritten p files later)
-  CompiledSo WriteFault = Rose before.faults after.faults × ReadAccepted files file (λ p. ToldBoth files later (StandBut (class_file p.class)))
+  CompiledSo WriteFault =
+      Rose before.faults after.faults
+      × ReadAccepted files file (λ p. ToldBoth files later (StandBut (class_file p.class)))
   CompiledSo answer = (later ≡ files) × Rejected files before after file answer

@@ -22,7 +22,9 @@ compiled_text files = codes "accepted " ++ (decimal files ++ codes "\n")
 
 -- the rule that is broken, and the line and the column of its place
 abbrev pub refused_text : ℕ → ℕ → ℕ → List ℕ
-refused_text rule line column = codes "refused " ++ (decimal rule ++ (codes " at " ++ (decimal line ++ (codes ":" ++ (decimal column ++ codes "\n")))))
+refused_text rule line column =
+    codes "refused " ++ (decimal rule
+    ++ (codes " at " ++ (decimal line ++ (codes ":" ++ (decimal column ++ codes "\n")))))
 
 -- the line of an input file that is wrong
 abbrev pub inputs_text : ℕ → List ℕ

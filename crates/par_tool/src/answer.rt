@@ -116,7 +116,8 @@ fn inputs_line(alloc: Global, line: u32) -> Result<String, AllocError>
 pub fn say<S: Sink>(alloc: Global, answer: Answer, out: &mut S) -> u8
     ensures said { IsSaid answer result (S.held out.old) (S.held out.new)
         (S.faults out.old) (S.faults out.new) }
-    ensures failed_puts_are_told { result ≢ 6 → S.faults out.new ≡ S.faults out.old }
+    ensures failed_puts_are_told { IsTrue S.counts_faults_alone →
+        result ≢ 6 → S.faults out.new ≡ S.faults out.old }
 {
     let Ok(line) = line_of(alloc, answer) else {
         return 7;

@@ -1,6 +1,6 @@
 //! What is done with a class: its file and its inputs are read, and a machine is made to run it.
 
-ghost use Rattle.std.specs.Prelude.{◌≡◌, ◌≤◌, ℕ, [], ◌∷◌, List, IfOk, IfErr, MatchOption, length};
+ghost use Rattle.std.specs.Prelude.{◌≡◌, ◌≤◌, ℕ, [], ◌∷◌, List, IsTrue, IfOk, IfErr, MatchOption, length};
 ghost use Rattle.par_class.specs.declared.file.ClassFile.{ClassFile as File};
 ghost use Rattle.par_tool.specs.Classes.{IsAlone, IsLoaded, AreInputs, IsUnloaded, IsUngiven, NotRun, IsStarted};
 ghost use Rattle.par_tool.specs.Failures.{IsFailure, FaultsAreTold};
@@ -53,7 +53,8 @@ fn alone(alloc: Global, bytes: &[u8], main: &str) -> Result<Option<ClassFile>, N
 fn class<F: Folder>(alloc: Global, folder: &mut F, main: &str) -> Result<ClassFile, Failure>
     ensures kept { F.files folder.new ≡ F.files folder.old }
     ensures faults_never_fall { F.faults folder.old ≤ F.faults folder.new }
-    ensures faults_are_told { FaultsAreTold result (F.faults folder.old) (F.faults folder.new) }
+    ensures faults_are_told { IsTrue F.counts_faults_alone →
+        FaultsAreTold result (F.faults folder.old) (F.faults folder.new) }
     ensures absents_never_fall { F.absents folder.old ≤ F.absents folder.new }
     ensures longs_never_fall { F.longs folder.old ≤ F.longs folder.new }
     ensures loaded { IfOk result (IsLoaded (F.files folder.old) main.now) }
@@ -79,7 +80,8 @@ fn inputs<F: Folder>(
 ) -> Result<Inputs, Failure>
     ensures kept { F.files folder.new ≡ F.files folder.old }
     ensures faults_never_fall { F.faults folder.old ≤ F.faults folder.new }
-    ensures faults_are_told { FaultsAreTold result (F.faults folder.old) (F.faults folder.new) }
+    ensures faults_are_told { IsTrue F.counts_faults_alone →
+        FaultsAreTold result (F.faults folder.old) (F.faults folder.new) }
     ensures absents_never_fall { F.absents folder.old ≤ F.absents folder.new }
     ensures longs_never_fall { F.longs folder.old ≤ F.longs folder.new }
     ensures given { IfOk result (AreInputs (F.files folder.old) file.now name.now) }
@@ -111,7 +113,8 @@ pub fn started<F: Folder>(
     name: &str,
 ) -> Result<Machine, Failure>
     ensures kept { F.files folder.new ≡ F.files folder.old }
-    ensures faults_are_told { FaultsAreTold result (F.faults folder.old) (F.faults folder.new) }
+    ensures faults_are_told { IsTrue F.counts_faults_alone →
+        FaultsAreTold result (F.faults folder.old) (F.faults folder.new) }
     ensures started { IfOk result (IsStarted (F.files folder.old) main.now name.now) }
     ensures failed { let before =
         counts (F.faults folder.old) (F.absents folder.old) (F.longs folder.old) in

@@ -1,6 +1,6 @@
 //! Reads of files, with why one was not had.
 
-ghost use Rattle.std.specs.Prelude.{◌≡◌, ◌≤◌, IfOk, IfErr, length};
+ghost use Rattle.std.specs.Prelude.{◌≡◌, ◌≤◌, IsTrue, IfOk, IfErr, length};
 ghost use Rattle.par_tool.specs.Outside.{WasRead, NotRead, counts};
 ghost use Rattle.par_tool.specs.Failures.{IsFailure, FaultsAreTold};
 ghost use Rattle.par_tool.specs.declared.reading.Failure.TheVariants.{Memory};
@@ -44,7 +44,8 @@ pub fn read<F: Folder>(
 ) -> Result<Vec<u8>, Failure>
     ensures kept { F.files folder.new ≡ F.files folder.old }
     ensures faults_never_fall { F.faults folder.old ≤ F.faults folder.new }
-    ensures faults_are_told { FaultsAreTold result (F.faults folder.old) (F.faults folder.new) }
+    ensures faults_are_told { IsTrue F.counts_faults_alone →
+        FaultsAreTold result (F.faults folder.old) (F.faults folder.new) }
     ensures absents_never_fall { F.absents folder.old ≤ F.absents folder.new }
     ensures longs_never_fall { F.longs folder.old ≤ F.longs folder.new }
     ensures short { IfOk result (λ bytes. length bytes.items ≤ limit) }

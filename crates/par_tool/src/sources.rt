@@ -1,6 +1,6 @@
 //! What is done with a source: it is read and judged, and its program is compiled.
 
-ghost use Rattle.std.specs.Prelude.{◌≡◌, ◌≤◌, ◌^◌, ◌<◌, IfOk, IfErr, length, string_bytes};
+ghost use Rattle.std.specs.Prelude.{◌≡◌, ◌≤◌, ◌^◌, ◌<◌, IsTrue, IfOk, IfErr, length, string_bytes};
 ghost use Rattle.par_io.specs.Causes.{ToldBoth, Sets};
 ghost use Rattle.par_lexer.specs.Names.{IsName};
 ghost use Rattle.par_tool.specs.Failures.{IsFailure, FaultsAreTold};
@@ -41,7 +41,8 @@ fn accepted(alloc: Global, source: &[u8]) -> Result<Program, Failure>
 fn program<F: Folder>(alloc: Global, folder: &mut F, file: &str) -> Result<Program, Failure>
     ensures kept { F.files folder.new ≡ F.files folder.old }
     ensures faults_never_fall { F.faults folder.old ≤ F.faults folder.new }
-    ensures faults_are_told { FaultsAreTold result (F.faults folder.old) (F.faults folder.new) }
+    ensures faults_are_told { IsTrue F.counts_faults_alone →
+        FaultsAreTold result (F.faults folder.old) (F.faults folder.new) }
     ensures accepted { IfOk result (λ p.
         ReadSource (F.files folder.old) file.now (λ source. IsAcceptedAs source p)) }
     ensures failed { let before =
@@ -56,7 +57,8 @@ fn program<F: Folder>(alloc: Global, folder: &mut F, file: &str) -> Result<Progr
 /// Checks the source in a file.
 pub fn check<F: Folder>(alloc: Global, folder: &mut F, file: &str) -> Result<Answer, Failure>
     ensures kept { F.files folder.new ≡ F.files folder.old }
-    ensures faults_are_told { FaultsAreTold result (F.faults folder.old) (F.faults folder.new) }
+    ensures faults_are_told { IsTrue F.counts_faults_alone →
+        FaultsAreTold result (F.faults folder.old) (F.faults folder.new) }
     ensures checked { let before =
         counts (F.faults folder.old) (F.absents folder.old) (F.longs folder.old) in
         let after = counts (F.faults folder.new) (F.absents folder.new) (F.longs folder.new) in
@@ -84,7 +86,8 @@ fn class_bytes(alloc: Global, program: &Program) -> Result<Vec<u8>, Failure>
 
 /// Compiles the source in a file, and writes its class file.
 pub fn compile_file<F: Folder>(alloc: Global, folder: &mut F, file: &str) -> Result<Answer, Failure>
-    ensures faults_are_told { FaultsAreTold result (F.faults folder.old) (F.faults folder.new) }
+    ensures faults_are_told { IsTrue F.counts_faults_alone →
+        FaultsAreTold result (F.faults folder.old) (F.faults folder.new) }
     ensures compiled { let before =
         counts (F.faults folder.old) (F.absents folder.old) (F.longs folder.old) in
         let after = counts (F.faults folder.new) (F.absents folder.new) (F.longs folder.new) in

@@ -1,6 +1,6 @@
 //! The top call.
 
-ghost use Rattle.std.specs.Prelude.{◌≡◌, ◌≢◌, ℕ};
+ghost use Rattle.std.specs.Prelude.{◌≡◌, ◌≢◌, ℕ, IsTrue};
 ghost use Rattle.par_tool.specs.Answers.{Scene, Ends, Concludes, Breaks};
 ghost use Rattle.par_tool.specs.Exactly.{IsExact, IsSaidBy};
 ghost use Rattle.par_tool.specs.Outside.{counts};
@@ -37,9 +37,10 @@ pub fn tool<F: Folder, S: Sink>(
         (S.faults out.old) (S.faults out.new) }
     ensures usage { ((w : Wanted) → Asks which words.now w → ⊥) → IsSaidBy result 2 }
     ensures exact { (w : Wanted) → Asks which words.now w → IsExact (F.files folder.old) w result }
-    ensures faults_are_told { result ≢ 4 → result ≢ 5 → result ≢ 6 →
-        F.faults folder.new ≡ F.faults folder.old }
-    ensures failed_puts_are_told { result ≢ 6 → S.faults out.new ≡ S.faults out.old }
+    ensures faults_are_told { IsTrue F.counts_faults_alone →
+        result ≢ 4 → result ≢ 5 → result ≢ 6 → F.faults folder.new ≡ F.faults folder.old }
+    ensures failed_puts_are_told { IsTrue S.counts_faults_alone →
+        result ≢ 6 → S.faults out.new ≡ S.faults out.old }
 {
     let Some(request) = read_words(which, words) else {
         return say(alloc, Answer::Usage, out);
@@ -62,7 +63,8 @@ pub fn tool<F: Folder, S: Sink>(
 fn conclude<S: Sink>(alloc: Global, outcome: Result<Answer, Failure>, out: &mut S) -> u8
     ensures said { Concludes outcome result (S.held out.old) (S.held out.new)
         (S.faults out.old) (S.faults out.new) }
-    ensures failed_puts_are_told { result ≢ 6 → S.faults out.new ≡ S.faults out.old }
+    ensures failed_puts_are_told { IsTrue S.counts_faults_alone →
+        result ≢ 6 → S.faults out.new ≡ S.faults out.old }
 {
     match outcome {
         Ok(answer) => say(alloc, answer, out),
@@ -74,7 +76,8 @@ fn conclude<S: Sink>(alloc: Global, outcome: Result<Answer, Failure>, out: &mut 
 fn break_off<S: Sink>(alloc: Global, failure: Failure, out: &mut S) -> u8
     ensures said { Breaks failure result (S.held out.old) (S.held out.new)
         (S.faults out.old) (S.faults out.new) }
-    ensures failed_puts_are_told { result ≢ 6 → S.faults out.new ≡ S.faults out.old }
+    ensures failed_puts_are_told { IsTrue S.counts_faults_alone →
+        result ≢ 6 → S.faults out.new ≡ S.faults out.old }
 {
     match failure {
         Failure::Answered(answer) => say(alloc, answer, out),

@@ -37,12 +37,12 @@ returns-in-Err-clause-exact g c = exactly.exact _ _ _ _ _ _ _ _ (returns-in-Err-
 
 pub returns-in-Check-clause-faults_are_told : goal.returns-in-Check-clause-faults_are_told
 returns-in-Check-clause-faults_are_told g c =
-    λ four five six. outcome_said _ _ _ _ _ _ _ four five six c.check.result c.conclude.ensures.said c.check.ensures.faults_are_told
+    λ alone four five six. outcome_said _ _ _ _ _ _ _ four five six c.check.result c.conclude.ensures.said (c.check.ensures.faults_are_told alone)
 
 pub returns-in-Compile-clause-faults_are_told : goal.returns-in-Compile-clause-faults_are_told
 returns-in-Compile-clause-faults_are_told g c =
-    λ four five six. outcome_said _ _ _ _ _ _ _ four five six c.compile_file.result c.conclude-in-Compile.ensures.said c.compile_file.ensures.faults_are_told
+    λ alone four five six. outcome_said _ _ _ _ _ _ _ four five six c.compile_file.result c.conclude-in-Compile.ensures.said (c.compile_file.ensures.faults_are_told alone)
 
 pub returns-in-Err-clause-faults_are_told : goal.returns-in-Err-clause-faults_are_told
 returns-in-Err-clause-faults_are_told g c =
-    λ four five six. failure_said _ _ _ _ _ _ _ four five six c.in-Err.failure c.break_off.ensures.said c.in-Err.ensures.faults_are_told
+    λ alone four five six. failure_said _ _ _ _ _ _ _ four five six c.in-Err.failure c.break_off.ensures.said (c.in-Err.ensures.faults_are_told alone)

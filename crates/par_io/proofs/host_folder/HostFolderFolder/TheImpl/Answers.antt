@@ -18,7 +18,7 @@ read-tells g c =
       long_counts = causes.long;
       long = λ long. tt;
       failed = causes.failed;
-      faults_stand = causes.faults_stand;
+      faults_stand = λ alone. causes.faults_stand;
     }
 
 pub write-tells : goal.write-tells
@@ -31,6 +31,6 @@ write-tells g c =
       written = always_on_ok c.result tt;
       failed_counts = causes.failed;
       failed = λ failed. tt;
-      faults_stand = causes.faults_stand;
+      faults_stand = λ alone. causes.faults_stand;
       memory = λ lacks. refl;
     }

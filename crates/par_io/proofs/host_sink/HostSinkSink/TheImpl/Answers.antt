@@ -9,6 +9,6 @@ put-tells g c =
       faults_never_fall = causes.never_falls;
       put = always_on_ok c.result refl;
       failed_counts = causes.failed;
-      faults_stand = c.ensures.no_fault;
+      faults_stand = λ alone. c.ensures.no_fault;
       failed = always_on_err c.result ([], c.args.bytes.now, refl, refl);
     }
