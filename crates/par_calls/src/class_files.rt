@@ -1,5 +1,6 @@
 ghost use Rattle.std.specs.Prelude.{◌≤◌, length};
 
+use crate::expect::expect;
 use par_class::{read_class, write_class};
 use par_pool::error::ClassError;
 use std::alloc::Global;
@@ -16,22 +17,30 @@ fn again(alloc: Global, bytes: &[u8]) -> Result<Vec<u8>, ClassError>
     Ok(write_class(alloc, &file)?)
 }
 
+// Whether the class file has one method, and its bytes are written again.
+fn is_written_again(alloc: Global) -> Result<bool, ClassError> {
+    let file = read_class(alloc, SHOP)?;
+    Ok(file.methods.len() == 1 && again(alloc, SHOP)?.as_slice() == SHOP)
+}
+
 #[test]
 fn a_class_is_read_and_written(rt: HostRuntime) -> Result<(), Fail> {
-    let alloc = rt.alloc();
-    let file = read_class(alloc, SHOP)
-        .ok()
-        .ok_or("the bytes are a class file")?;
-    assert_eq!(rt; file.methods.len(), 1);
-    let bytes = again(alloc, SHOP).ok().ok_or("the bytes are a class file")?;
-    assert_eq!(rt; bytes.as_slice(), SHOP);
-    Ok(())
+    expect(is_written_again(rt.alloc())?, "the bytes are written again")
+}
+
+fn is_refused(alloc: Global, bytes: &[u8], error: ClassError) -> bool
+    requires { length bytes.now ≤ 1048576 }
+{
+    match read_class(alloc, bytes) {
+        Ok(_) => false,
+        Err(found) => found == error,
+    }
 }
 
 #[test]
 fn what_is_cut_off_is_refused(rt: HostRuntime) -> Result<(), Fail> {
-    let alloc = rt.alloc();
-    assert!(rt; matches!(read_class(alloc, &SHOP[..32]), Err(ClassError::Cut(32))));
-    assert!(rt; matches!(read_class(alloc, b"\0\xFE\xBA\xBE"), Err(ClassError::Magic)));
-    Ok(())
+    let cut = is_refused(rt.alloc(), &SHOP[..32], ClassError::Cut(32));
+    expect(cut, "32 bytes")?;
+    let other = is_refused(rt.alloc(), b"\0\xFE\xBA\xBE", ClassError::Magic);
+    expect(other, "another magic number")
 }

@@ -9,17 +9,23 @@ mod class_files;
 #[cfg(test)]
 mod compiling;
 #[cfg(test)]
+mod expect;
+#[cfg(test)]
 mod input_files;
 #[cfg(test)]
 mod instructions;
 #[cfg(test)]
 mod machine_runs;
 #[cfg(test)]
+mod names;
+#[cfg(test)]
 mod outside;
 #[cfg(test)]
 mod policies;
 #[cfg(test)]
 mod pools;
+#[cfg(test)]
+mod programs;
 #[cfg(test)]
 mod single_files;
 #[cfg(test)]

@@ -1,8 +1,40 @@
-use par_io::{
-    Folder, HostFolder, HostSink, MemFolder, MemSink, PutFailed, ReadFail, Sink, WriteFail,
-};
+use crate::expect::expect;
+use par_io::{Folder, HostFolder, HostSink, MemFolder, MemSink, ReadFail, Sink, WriteFail};
+use std::alloc::Global;
 use std::test::Fail;
 use std::{env, fs, process};
+
+// Whether a file is read so, with this limit.
+fn reads<F: Folder>(alloc: Global, folder: &mut F, name: &str, limit: u64, bytes: &[u8]) -> bool {
+    match folder.read(alloc, name, limit) {
+        Ok(read) => read.as_slice() == bytes,
+        Err(_) => false,
+    }
+}
+
+// Whether no file is read, by this fault.
+fn fails<F: Folder>(
+    alloc: Global,
+    folder: &mut F,
+    name: &str,
+    limit: u64,
+    fault: ReadFail,
+) -> bool {
+    match folder.read(alloc, name, limit) {
+        Ok(_) => false,
+        Err(error) => error == fault,
+    }
+}
+
+// Whether a file is written, and the next write leaves two bytes of its own.
+fn writes_once(alloc: Global, folder: &mut MemFolder) -> bool {
+    folder.write(alloc, "b", b"four").is_ok()
+        && folder.write(alloc, "b", b"five") == Err(WriteFail::Failed)
+}
+
+fn holds(folder: &MemFolder, name: &str, bytes: &[u8]) -> bool {
+    folder.get(name) == Some(bytes)
+}
 
 #[test]
 fn a_folder_in_memory_reads_and_writes(rt: HostRuntime) -> Result<(), Fail> {
@@ -13,27 +45,42 @@ fn a_folder_in_memory_reads_and_writes(rt: HostRuntime) -> Result<(), Fail> {
     folder.fail_read(4)?;
     folder.fail_write(2, 9)?;
     folder.fail_write(2, 2)?;
-    assert_eq!(rt; folder.read(alloc, "a", 5)?.as_slice(), b"three".as_slice());
-    assert!(rt; matches!(folder.read(alloc, "a", 4), Err(ReadFail::TooLong)));
-    assert!(rt; matches!(folder.read(alloc, "b", 4), Err(ReadFail::Absent)));
-    assert!(rt; matches!(folder.read(alloc, "a", 5), Err(ReadFail::Failed)));
-    folder.write(alloc, "b", b"four")?;
-    assert!(rt; matches!(folder.write(alloc, "b", b"five"), Err(WriteFail::Failed)));
-    assert_eq!(rt; folder.get("b"), Some(b"fi".as_slice()));
-    assert_eq!(rt; folder.get("a"), Some(b"three".as_slice()));
-    Ok(())
+    expect(
+        reads(alloc, &mut folder, "a", 5, b"three"),
+        "a file of 5 bytes",
+    )?;
+    expect(
+        fails(alloc, &mut folder, "a", 4, ReadFail::TooLong),
+        "4 bytes",
+    )?;
+    expect(
+        fails(alloc, &mut folder, "b", 4, ReadFail::Absent),
+        "no file",
+    )?;
+    expect(
+        fails(alloc, &mut folder, "a", 5, ReadFail::Failed),
+        "the fourth read",
+    )?;
+    expect(writes_once(alloc, &mut folder), "the second write")?;
+    expect(holds(&folder, "b", b"fi"), "two bytes are left")?;
+    expect(holds(&folder, "a", b"three"), "the other file is kept")
+}
+
+fn puts(sink: &mut MemSink, bytes: &[u8], is_taken: bool, held: &[u8]) -> bool {
+    let is_put = sink.put(bytes).is_ok();
+    is_put == is_taken && sink.bytes() == held
 }
 
 #[test]
 fn a_sink_in_memory_keeps_what_fits(rt: HostRuntime) -> Result<(), Fail> {
     let mut sink = MemSink::new(rt.alloc(), 5)?;
     sink.fail_put(2, 1);
-    assert!(rt; sink.put(b"ab").is_ok());
-    assert!(rt; sink.put(b"cd").is_err());
-    assert_eq!(rt; sink.bytes(), b"abc".as_slice());
-    assert!(rt; sink.put(b"def").is_err());
-    assert_eq!(rt; sink.bytes(), b"abcde".as_slice());
-    Ok(())
+    expect(puts(&mut sink, b"ab", true, b"ab"), "the first put")?;
+    expect(puts(&mut sink, b"cd", false, b"abc"), "the put that fails")?;
+    expect(
+        puts(&mut sink, b"def", false, b"abcde"),
+        "the put without room",
+    )
 }
 
 #[test]
@@ -41,16 +88,18 @@ fn the_system_keeps_a_file_and_takes_a_line(rt: HostRuntime) -> Result<(), Fail>
     let alloc = rt.alloc();
     let place = env::temp_dir(&rt)?;
     let name = format!(in alloc; "{}/par_io_{}", place.as_str(), process::id(rt.process()))?;
+    let name = name.as_str();
     let mut folder = HostFolder::new(&rt);
-    assert!(rt; matches!(folder.read(alloc, name.as_str(), 9), Err(ReadFail::Absent)));
-    folder.write(alloc, name.as_str(), b"some text")?;
-    assert_eq!(rt;
-        folder.read(alloc, name.as_str(), 9)?.as_slice(),
-        b"some text".as_slice()
-    );
-    assert!(rt; matches!(folder.read(alloc, name.as_str(), 8), Err(ReadFail::TooLong)));
-    fs::remove_file(&rt, name.as_str())?;
-    let mut sink = HostSink::new(&rt);
-    sink.put(b"a line\n")?;
-    Ok(())
+    expect(
+        fails(alloc, &mut folder, name, 9, ReadFail::Absent),
+        "no file",
+    )?;
+    expect(folder.write(alloc, name, b"some text").is_ok(), "a write")?;
+    expect(reads(alloc, &mut folder, name, 9, b"some text"), "9 bytes")?;
+    expect(
+        fails(alloc, &mut folder, name, 8, ReadFail::TooLong),
+        "8 bytes",
+    )?;
+    fs::remove_file(&rt, name)?;
+    expect(HostSink::new(&rt).put(b"a line\n").is_ok(), "a line")
 }

@@ -1,56 +1,91 @@
-use par_pool::writing::put_pool;
-use par_pool::{ClassError, PoolBuilder, read_pool};
+use crate::expect::expect;
+use par_lexer::list::NoMemory;
+use par_pool::{ClassError, Pool, PoolBuilder, read_pool};
+use std::alloc::Global;
 use std::test::Fail;
+
+// Whether the first entries have these indices.
+fn are_added(alloc: Global) -> Result<bool, NoMemory> {
+    let mut builder = PoolBuilder::new(alloc);
+    let text = builder.utf8(b"Shop")?;
+    let number = builder.integer(-1)?;
+    Ok((text, number) == (1, 2) && builder.finish().entries.len() == 2)
+}
+
+// Shop, its class, got, I, both, and the field, which is the sixth.
+fn is_field_added(alloc: Global) -> Result<bool, NoMemory> {
+    let mut builder = PoolBuilder::new(alloc);
+    let field = builder.field(b"Shop", b"got", b"I")?;
+    Ok(field == 6 && builder.finish().entries.len() == 6)
+}
+
+// Shop and its class, which is the second, and then main, ()V, both, and the method.
+fn is_method_added(alloc: Global) -> Result<bool, NoMemory> {
+    let mut builder = PoolBuilder::new(alloc);
+    let class = builder.class(b"Shop")?;
+    let method = builder.method(b"Shop", b"main", b"()V")?;
+    Ok((class, method) == (2, 6) && builder.finish().entries.len() == 6)
+}
 
 #[test]
 fn an_entry_is_not_added_again(rt: HostRuntime) -> Result<(), Fail> {
-    let alloc = rt.alloc();
-    let mut builder = PoolBuilder::new(alloc);
-    let text = builder.utf8(b"Shop")?;
-    assert_eq!(rt; text, 1);
-    let number = builder.integer(-1)?;
-    assert_eq!(rt; number, 2);
-    let pool = builder.finish();
-    assert_eq!(rt; pool.entries.len(), 2);
-    Ok(())
+    expect(are_added(rt.alloc())?, "a text and a number")
 }
 
 #[test]
 fn members_name_their_parts(rt: HostRuntime) -> Result<(), Fail> {
-    let alloc = rt.alloc();
-    let mut builder = PoolBuilder::new(alloc);
-    let field = builder.field(b"Shop", b"got", b"I")?;
-    // Shop, its class, got, I, both, the field
-    assert_eq!(rt; field, 6);
-    let pool = builder.finish();
-    assert_eq!(rt; pool.entries.len(), 6);
-    Ok(())
+    expect(is_field_added(rt.alloc())?, "a field")?;
+    expect(is_method_added(rt.alloc())?, "a method")
 }
 
 // A pool of the text `I` and the class of that name.
-const POOL: [u8; 9] = [0, 3, 1, 0, 1, 73, 7, 0, 1];
+const POOL: &[u8] = &[0, 3, 1, 0, 1, 73, 7, 0, 1];
+
+fn is_read(alloc: Global) -> bool {
+    match read_pool(alloc, POOL, 0) {
+        Ok((pool, end)) => end == 9 && has_two(&pool),
+        Err(_) => false,
+    }
+}
+
+fn has_two(pool: &Pool) -> bool {
+    pool.entries.len() == 2
+}
+
+const OTHERS: &[(&str, &[u8], ClassError)] = &[
+    (
+        "a pool cut short",
+        &[0, 3, 1, 0, 1, 73, 7, 0],
+        ClassError::Cut(8),
+    ),
+    (
+        "a class without a name",
+        &[0, 2, 7, 0, 1],
+        ClassError::Pool(1),
+    ),
+    (
+        "a text with a byte 0",
+        &[0, 2, 1, 0, 1, 0],
+        ClassError::Pool(1),
+    ),
+    ("no count", &[0, 0], ClassError::Pool(0)),
+];
+
+fn is_refused(alloc: Global, bytes: &[u8], error: ClassError) -> bool {
+    if bytes.len() > 9 {
+        return false;
+    }
+    match read_pool(alloc, bytes, 0) {
+        Ok(_) => false,
+        Err(found) => found == error,
+    }
+}
 
 #[test]
 fn pools_are_read(rt: HostRuntime) -> Result<(), Fail> {
-    let alloc = rt.alloc();
-    let (pool, end) = read_pool(alloc, &POOL, 0)
-        .ok()
-        .ok_or("the bytes are a pool")?;
-    assert_eq!(rt; end, 9);
-    assert_eq!(rt; pool.entries.len(), 2);
-    assert!(rt; matches!(read_pool(alloc, &POOL[..8], 0), Err(ClassError::Cut(8))));
-    assert!(rt;
-        matches!(
-            read_pool(alloc, &[0, 2, 7, 0, 1], 0),
-            Err(ClassError::Pool(1))
-        )
-    );
-    assert!(rt;
-        matches!(
-            read_pool(alloc, &[0, 2, 1, 0, 1, 0], 0),
-            Err(ClassError::Pool(1))
-        )
-    );
-    assert!(rt; matches!(read_pool(alloc, &[0, 0], 0), Err(ClassError::Pool(0))));
+    expect(is_read(rt.alloc()), "a pool of two entries")?;
+    for (name, bytes, error) in OTHERS {
+        expect(is_refused(rt.alloc(), bytes, *error), name)?;
+    }
     Ok(())
 }

@@ -1,9 +1,10 @@
 ghost use Rattle.std.specs.Prelude.{◌≤◌, length};
 
+use crate::expect::expect;
 use par_class::read_class;
 use par_pool::error::ClassError;
 use par_single::{links_of, runs_alone};
-use par_values::link::{FieldLink, Link, MethodLink, Target};
+use par_values::link::{FieldLink, Link, Target};
 use std::alloc::Global;
 use std::test::Fail;
 
@@ -13,25 +14,28 @@ const SHOP: &[u8] =
     b"\xca\xfe\xba\xbe\0\0\01\0\x10\x01\0\x04Shop\x07\0\x01\x01\0\x10java/lang/Object\x07\0\x03\x01\0\x04main\x01\0\x03()V\x01\0\x04Code\x01\0\x03got\x01\0\x01I\x0c\0\x08\0\x09\x09\0\x02\0\x0a\x01\0\x04show\x01\0\x04(I)V\x0c\0\x0c\0\x0d\x0a\0\x02\0\x0e\01\0\x02\0\x04\0\0\0\x01\0\x09\0\x08\0\x09\0\0\0\x02\0\x09\0\x05\0\x06\0\x01\0\x07\0\0\0\x17\0\x01\0\0\0\0\0\x0b\x04\xb3\0\x0b\xb2\0\x0b\xb8\0\x0f\xb1\0\0\0\0\x01\x09\0\x0c\0\x0d\0\0\0\0";
 
 // A changed byte, by its place, and whether the file then runs by itself.
-const CHANGES: [(usize, u8, bool); 9] = [
-    // a name of a field that is not there
-    (74, 5, false),
-    // the descriptor `V` for a field
-    (71, b'V', false),
-    // `main` without STATIC
-    (127, 1, false),
-    // `main` under another name
-    (129, 8, false),
-    // the channel without STATIC
-    (164, 1, false),
-    // iadd in place of iconst_1: whether it can be run shows only in a run
-    (148, 0x60, true),
-    // pop, which is not listed
-    (148, 0x57, false),
-    // getstatic in place of the last return, without its operand
-    (158, 0xb2, false),
-    // the number of another element of the pool, as the operand of getstatic
-    (154, 2, true),
+const CHANGES: &[(&str, usize, u8, bool)] = &[
+    ("nothing", 148, 4, true),
+    ("a name of a field that is not there", 74, 5, false),
+    ("the descriptor `V` for a field", 71, b'V', false),
+    ("`main` without STATIC", 127, 1, false),
+    ("`main` under another name", 129, 8, false),
+    ("the channel without STATIC", 164, 1, false),
+    // whether it can be run shows only in a run
+    ("iadd in place of iconst_1", 148, 0x60, true),
+    ("pop, which is not listed", 148, 0x57, false),
+    (
+        "getstatic in place of the last return, without its operand",
+        158,
+        0xb2,
+        false,
+    ),
+    (
+        "another element of the pool, as the operand of getstatic",
+        154,
+        2,
+        true,
+    ),
 ];
 
 fn runs(alloc: Global, bytes: &[u8], main: &[u8]) -> Result<bool, ClassError>
@@ -41,52 +45,61 @@ fn runs(alloc: Global, bytes: &[u8], main: &[u8]) -> Result<bool, ClassError>
     Ok(runs_alone(&file, main))
 }
 
+// Whether `Shop` runs by itself with this byte at the place.
+fn runs_changed(alloc: Global, place: usize, byte: u8) -> Result<bool, Fail> {
+    let mut bytes = Vec::from_slice(alloc, SHOP)?;
+    let Some(at) = bytes.get_mut(place) else {
+        return Err(Fail::new("the place is inside"));
+    };
+    *at = byte;
+    Ok(bytes.len() < 1000 && runs(alloc, bytes.as_slice(), b"Shop")?)
+}
+
 #[test]
 fn a_file_runs_by_itself(rt: HostRuntime) -> Result<(), Fail> {
-    let alloc = rt.alloc();
-    assert!(rt; matches!(runs(alloc, SHOP, b"Shop"), Ok(true)));
-    assert!(rt; matches!(runs(alloc, SHOP, b"Bank"), Ok(false)));
-    for (place, byte, expected) in CHANGES {
-        let mut bytes = Vec::from_slice(alloc, SHOP)?;
-        assert!(rt; place < bytes.len());
-        bytes[place] = byte;
-        let answer = runs(alloc, &bytes, b"Shop")
-            .ok()
-            .ok_or("the bytes are a class file")?;
-        assert_eq!(rt; answer, expected, "at {place}");
+    expect(runs(rt.alloc(), SHOP, b"Shop")?, "its own class")?;
+    expect(!runs(rt.alloc(), SHOP, b"Bank")?, "another class")?;
+    for (name, place, byte, expected) in CHANGES {
+        expect(runs_changed(rt.alloc(), *place, *byte)? == *expected, name)?;
     }
     Ok(())
 }
 
+fn is_got(link: &Link) -> bool {
+    let Link::Field(
+        FieldLink {
+            is_static: true,
+            place: 0,
+            ..
+        },
+    ) = link
+    else {
+        return false;
+    };
+    true
+}
+
+fn is_show(link: &Link) -> bool {
+    let Link::Method(link) = link else {
+        return false;
+    };
+    !link.gives && matches!(&link.target, Target::Output(_, _))
+}
+
+// Whether there is a link for each element of the pool, of the field and of the channel among them.
+fn are_linked(links: &[Link]) -> bool {
+    links.len() == 15
+        && matches!(&links[0], Link::Other)
+        && is_got(&links[10])
+        && is_show(&links[14])
+}
+
 #[test]
 fn indices_are_linked(rt: HostRuntime) -> Result<(), Fail> {
-    let alloc = rt.alloc();
-    let file = read_class(alloc, SHOP)
-        .ok()
-        .ok_or("the bytes are a class file")?;
-    assert!(rt; runs_alone(&file, b"Shop"));
-    let links = links_of(alloc, &file).ok().ok_or("there is memory")?;
-    assert_eq!(rt; links.len(), 15);
-    assert!(rt;
-        matches!(
-            &links[10],
-            Link::Field(FieldLink {
-                is_static: true,
-                place: 0,
-                ..
-            })
-        )
-    );
-    assert!(rt;
-        matches!(
-            &links[14],
-            Link::Method(MethodLink {
-                gives: false,
-                target: Target::Output(_, _),
-                ..
-            })
-        )
-    );
-    assert!(rt; matches!(&links[0], Link::Other));
-    Ok(())
+    let file = read_class(rt.alloc(), SHOP)?;
+    if !runs_alone(&file, b"Shop") {
+        return Err(Fail::new("it runs by itself"));
+    }
+    let links = links_of(rt.alloc(), &file)?;
+    expect(are_linked(links.as_slice()), "the field and the channel")
 }

@@ -1,7 +1,9 @@
-use par_lexer::list::List;
+use crate::expect::expect;
+use par_lexer::list::{List, NoMemory};
 use par_lexer::name::Name;
-use par_lexer::token::{Kind, LexError};
+use par_lexer::token::{Kind, LexError, Token};
 use par_lexer::{lex, place_of, sign, word};
+use std::alloc::Global;
 use std::test::Fail;
 
 // A tree that holds lists of trees.
@@ -24,100 +26,155 @@ fn has(tree: &Tree, name: &[u8]) -> bool {
     false
 }
 
+fn named_tree(alloc: Global, name: &[u8], below: List<Tree>) -> Result<Tree, Fail> {
+    if !Name::is_name(name) {
+        return Err(Fail::new("no name"));
+    }
+    Ok(Tree {
+        name: Name::new(alloc, name)?,
+        below,
+    })
+}
+
+fn has_one(trees: &List<Tree>) -> bool {
+    trees.len() == 1 && trees.get(0).is_some() && trees.get(1).is_none()
+}
+
 #[test]
 fn a_tree_holds_lists_of_trees(rt: HostRuntime) -> Result<(), Fail> {
-    let alloc = rt.alloc();
-    let leaf = Tree {
-        name: Name::new(alloc, b"leaf")?,
-        below: List::new(alloc),
-    };
-    let mut below = List::wrap(Vec::new(alloc));
-    below.push(leaf)?;
-    assert_eq!(rt; below.len(), 1);
-    assert!(rt; below.get(0).is_some());
-    assert!(rt; below.get(1).is_none());
-    let root = Tree {
-        name: Name::new(alloc, b"root")?,
-        below,
-    };
-    assert!(rt; has(&root, b"leaf"));
-    assert!(rt; !has(&root, b"stem"));
-    Ok(())
+    let mut below = List::wrap(Vec::new(rt.alloc()));
+    below.push(named_tree(rt.alloc(), b"leaf", List::new(rt.alloc()))?)?;
+    expect(has_one(&below), "a list has what was pushed")?;
+    let root = named_tree(rt.alloc(), b"root", below)?;
+    expect(
+        has(&root, b"leaf") && !has(&root, b"stem"),
+        "a tree has its leaf",
+    )
+}
+
+const NAMES: &[(&str, &[u8], bool)] = &[
+    ("the longest name", &[b'a'; 64], true),
+    ("a name of 65 bytes", &[b'a'; 65], false),
+    ("a line below in front", b"_9", true),
+    ("a digit in front", b"9_", false),
+    ("no byte", b"", false),
+];
+
+fn is_copied(alloc: Global) -> Result<bool, NoMemory> {
+    let name = Name::new(alloc, b"shop_1")?;
+    let copy = name.copy(alloc)?;
+    Ok(copy.bytes() == b"shop_1".as_slice())
 }
 
 #[test]
 fn names_are_told_from_other_bytes(rt: HostRuntime) -> Result<(), Fail> {
-    let alloc = rt.alloc();
-    let longest = [b'a'; 64];
-    assert!(rt; Name::is_name(&longest));
-    assert!(rt; !Name::is_name(&[b'a'; 65]));
-    assert!(rt; Name::is_name(b"_9"));
-    assert!(rt; !Name::is_name(b"9_"));
-    assert!(rt; !Name::is_name(b""));
-    let name = Name::new(alloc, b"shop_1")?;
-    let copy = name.copy(alloc)?;
-    assert_eq!(rt; copy.bytes(), b"shop_1".as_slice());
-    Ok(())
+    for (name, bytes, is_name) in NAMES {
+        expect(Name::is_name(bytes) == *is_name, name)?;
+    }
+    expect(is_copied(rt.alloc())?, "a copy has the bytes")
+}
+
+// The tokens of `open Paid; // for good`, and then of `x>>>=2147483648` on the next line.
+fn are_cut(tokens: &[Token]) -> bool {
+    let [open, paid, semicolon, _, shift, assign, number] = tokens else {
+        return false;
+    };
+    matches!(&open.kind, Kind::Word(word::OPEN))
+        && is_paid(paid)
+        && matches!(&semicolon.kind, Kind::Sign(sign::SEMICOLON))
+        && matches!(&shift.kind, Kind::Sign(sign::SHIFT_RIGHT_ZERO))
+        && matches!(&assign.kind, Kind::Sign(sign::ASSIGN))
+        && is_number(number)
+}
+
+fn is_paid(token: &Token) -> bool {
+    let Kind::Name(name) = &token.kind else {
+        return false;
+    };
+    name.bytes() == b"Paid".as_slice() && (token.from, token.to) == (5, 9)
+}
+
+fn is_number(token: &Token) -> bool {
+    matches!(&token.kind, Kind::Number(2_147_483_648)) && (token.from, token.to) == (28, 38)
 }
 
 #[test]
 fn a_source_is_cut_into_tokens(rt: HostRuntime) -> Result<(), Fail> {
     let tokens = lex(rt.alloc(), b"open Paid; // for good\nx>>>=2147483648")?;
-    let tokens = tokens.as_slice();
-    assert_eq!(rt; tokens.len(), 7);
-    assert!(rt; matches!(&tokens[0].kind, Kind::Word(word::OPEN)));
-    assert!(rt; matches!(&tokens[1].kind, Kind::Name(name) if name.bytes() == b"Paid".as_slice()));
-    assert_eq!(rt; (tokens[1].from, tokens[1].to), (5, 9));
-    assert!(rt; matches!(&tokens[2].kind, Kind::Sign(sign::SEMICOLON)));
-    assert!(rt; matches!(&tokens[4].kind, Kind::Sign(sign::SHIFT_RIGHT_ZERO)));
-    assert!(rt; matches!(&tokens[5].kind, Kind::Sign(sign::ASSIGN)));
-    assert!(rt; matches!(&tokens[6].kind, Kind::Number(2_147_483_648)));
-    assert_eq!(rt; (tokens[6].from, tokens[6].to), (28, 38));
-    Ok(())
+    expect(are_cut(tokens.as_slice()), "each token is cut")
+}
+
+const FAULTS: &[(&str, &[u8], LexError)] = &[
+    ("a zero in front", b"show(01);", LexError::BadByte(5)),
+    ("zeros and a letter", b"0123x", LexError::BadByte(0)),
+    ("a letter behind a number", b" 12x", LexError::BadByte(3)),
+    (
+        "a number above 2147483648",
+        b"2147483649",
+        LexError::NumberTooLarge(0),
+    ),
+    (
+        "a large number and a letter",
+        b"99999999999999999999999x",
+        LexError::NumberTooLarge(0),
+    ),
+    ("an open comment", b"x /*/", LexError::OpenComment(2)),
+    ("the first fault is told", b"a # 01", LexError::BadByte(2)),
+    (
+        "a long name",
+        b"  aaaaaaaaaaaaaaaaaaaaaaaaaaaaaaaaaaaaaaaaaaaaaaaaaaaaaaaaaaaaaaaaa",
+        LexError::NameTooLong(2),
+    ),
+];
+
+// Whether the source is refused so.
+fn has_fault(alloc: Global, source: &[u8], fault: &LexError) -> bool {
+    match lex(alloc, source) {
+        Ok(_) => false,
+        Err(error) => error == *fault,
+    }
 }
 
 #[test]
 fn a_fault_is_told_with_its_place(rt: HostRuntime) -> Result<(), Fail> {
-    let alloc = rt.alloc();
-    let faults: [(&[u8], LexError); 8] = [
-        (b"show(01);", LexError::BadByte(5)),
-        (b"0123x", LexError::BadByte(0)),
-        (b" 12x", LexError::BadByte(3)),
-        (b"2147483649", LexError::NumberTooLarge(0)),
-        (b"99999999999999999999999x", LexError::NumberTooLarge(0)),
-        (b"x /*/", LexError::OpenComment(2)),
-        (b"a # 01", LexError::BadByte(2)),
-        (
-            b"  aaaaaaaaaaaaaaaaaaaaaaaaaaaaaaaaaaaaaaaaaaaaaaaaaaaaaaaaaaaaaaaaa",
-            LexError::NameTooLong(2),
-        ),
-    ];
-    for (source, fault) in faults {
-        assert_eq!(rt; lex(alloc, source).err(), Some(fault));
+    for (name, source, fault) in FAULTS {
+        expect(has_fault(rt.alloc(), source, fault), name)?;
     }
     Ok(())
 }
 
-#[test]
-fn a_source_may_have_262144_bytes(rt: HostRuntime) -> Result<(), Fail> {
-    let alloc = rt.alloc();
-    let mut source = vec![in alloc; b' '; 262_144]?;
-    assert_eq!(rt; lex(alloc, source.as_slice())?.len(), 0);
-    source.push(b'#')?;
-    assert_eq!(rt;
-        lex(alloc, source.as_slice()).err(),
-        Some(LexError::SourceTooLong(262_145))
-    );
-    assert_eq!(rt; lex(alloc, b"")?.len(), 0);
-    Ok(())
+fn has_no_token(alloc: Global, source: &[u8]) -> Result<bool, LexError> {
+    Ok(lex(alloc, source)?.len() == 0)
 }
 
 #[test]
-fn a_place_is_told_by_line_and_column(rt: HostRuntime) {
-    let source = b"one\n\n two";
-    assert_eq!(rt; place_of(source, 0), (1, 1));
-    assert_eq!(rt; place_of(source, 3), (1, 4));
-    assert_eq!(rt; place_of(source, 4), (2, 1));
-    assert_eq!(rt; place_of(source, 6), (3, 2));
-    assert_eq!(rt; place_of(source, 9), (3, 5));
+fn a_source_may_have_262144_bytes(rt: HostRuntime) -> Result<(), Fail> {
+    let mut source = vec![in rt.alloc(); b' '; 262_144]?;
+    expect(
+        has_no_token(rt.alloc(), source.as_slice())?,
+        "262144 blanks",
+    )?;
+    source.push(b'#')?;
+    let fault = LexError::SourceTooLong(262_145);
+    expect(
+        has_fault(rt.alloc(), source.as_slice(), &fault),
+        "a byte more",
+    )?;
+    expect(has_no_token(rt.alloc(), b"")?, "no byte")
+}
+
+const PLACES: &[(&str, u32, (u32, u32))] = &[
+    ("the first byte", 0, (1, 1)),
+    ("the end of a line", 3, (1, 4)),
+    ("an empty line", 4, (2, 1)),
+    ("behind a blank", 6, (3, 2)),
+    ("the end", 9, (3, 5)),
+];
+
+#[test]
+fn a_place_is_told_by_line_and_column(_rt: HostRuntime) -> Result<(), Fail> {
+    for (name, at, place) in PLACES {
+        expect(*at <= 9 && place_of(b"one\n\n two", *at) == *place, name)?;
+    }
+    Ok(())
 }

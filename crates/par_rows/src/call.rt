@@ -1,69 +1,27 @@
-//! One call of the tool over files and output in memory.
+//! Calls of the tool over files and output in memory, and the functions that go over a table.
 
 use par_io::{MemFolder, MemSink, NoMemory};
 use par_tool::tool::tool;
 use par_words::Which;
 use std::alloc::{AllocError, Global};
+use std::test::Fail;
 
-/// What a row expects: the text that is put, and the status.
-#[derive(Clone, Copy)]
-pub struct Expected {
-    pub text: &'static str,
-    pub status: u8,
-}
+/// What a call puts, and the status that it answers.
+pub type Answer = (&'static str, u8);
 
-pub const ACCEPTED: Expected = Expected {
-    text: "accepted\n",
-    status: 0,
-};
+pub const ACCEPTED: Answer = ("accepted\n", 0);
 
-pub const NOT_BUILT: Expected = Expected {
-    text: "not built\n",
-    status: 9,
-};
+pub const COMPILED: Answer = ("accepted 1\n", 0);
 
-pub const COMPILED: Expected = Expected {
-    text: "accepted 1\n",
-    status: 0,
-};
+pub const NOT_BUILT: Answer = ("not built\n", 9);
 
-pub const USAGE: Expected = Expected {
-    text: "usage\n",
-    status: 2,
-};
+/// A body that reads the key and shows it.
+pub const SHOWS_KEY: &str = "open Paid; show(key());";
 
-pub const fn ended(text: &'static str) -> Expected {
-    Expected { text, status: 0 }
-}
+/// An input file with one number for the key.
+pub const KEY_42: &str = "Shop.key: 42\n";
 
-pub const fn refused(text: &'static str) -> Expected {
-    Expected { text, status: 1 }
-}
-
-/// The words as the system hands them over.
-pub fn words(alloc: Global, texts: &[&str]) -> Result<Vec<String>, AllocError> {
-    let mut words = Vec::new(alloc);
-    for text in texts {
-        words.push(String::from_str(alloc, text)?)?;
-    }
-    Ok(words)
-}
-
-/// The common source, whose method has this body.
-pub fn with_body(alloc: Global, body: &str) -> Result<String, AllocError> {
-    with_line(alloc, 8, body)
-}
-
-/// The common source with another line in place of one, counted from 1. Its method puts out 1.
-pub fn with_line(alloc: Global, number: usize, text: &str) -> Result<String, AllocError> {
-    let mut source = String::new(alloc);
-    for (place, line) in LINES.iter().enumerate() {
-        source.push_str(if place + 1 == number { text } else { line })?;
-        source.push_str("\n")?;
-    }
-    Ok(source)
-}
-
+/// The common source. Its method puts out 1.
 const LINES: [&str; 10] = [
     "actor alice, bob;",
     "lock Paid;",
@@ -77,55 +35,140 @@ const LINES: [&str; 10] = [
     "}",
 ];
 
-/// Makes one call, and tells whether the answer is the expected one.
+/// The common source with another line in place of one, counted from 1.
+pub fn with_line(alloc: Global, number: usize, text: &str) -> Result<String, AllocError> {
+    let mut source = String::new(alloc);
+    for (place, line) in LINES.iter().enumerate() {
+        source.push_str(if place + 1 == number { text } else { line })?;
+        source.push_str("\n")?;
+    }
+    Ok(source)
+}
+
+/// The common source, whose method has this body.
+pub fn with_body(alloc: Global, body: &str) -> Result<String, AllocError> {
+    with_line(alloc, 8, body)
+}
+
+/// The row's text as the failure of its test, unless the row holds.
+pub fn expect(holds: bool, row: &'static str) -> Result<(), Fail> {
+    if holds { Ok(()) } else { Err(Fail::new(row)) }
+}
+
+/// The words behind the program's name, as the system hands them over.
+fn words(alloc: Global, command: &str) -> Result<Vec<String>, AllocError> {
+    let mut words = Vec::new(alloc);
+    for word in command.split_ascii_whitespace().skip(1) {
+        words.push(String::from_str(alloc, word)?)?;
+    }
+    Ok(words)
+}
+
+/// Does what the command says, and tells the status.
+pub fn call(
+    alloc: Global,
+    command: &str,
+    folder: &mut MemFolder,
+    out: &mut MemSink,
+) -> Result<u8, AllocError> {
+    let which = if command.starts_with("paragonc") {
+        Which::Compiler
+    } else {
+        Which::Runner
+    };
+    let words = words(alloc, command)?;
+    Ok(tool(alloc, which, words.as_slice(), folder, out))
+}
+
+/// Whether a command has this answer.
 pub fn answers(
     alloc: Global,
-    which: Which,
-    texts: &[&str],
+    command: &str,
     folder: &mut MemFolder,
-    expected: Expected,
+    answer: Answer,
 ) -> Result<bool, NoMemory> {
     let mut out = MemSink::new(alloc, 1000)?;
-    let words = words(alloc, texts)?;
-    let status = tool(alloc, which, words.as_slice(), folder, &mut out);
-    Ok(status == expected.status && out.bytes() == expected.text.as_bytes())
+    let status = call(alloc, command, folder, &mut out)?;
+    Ok((status, out.bytes()) == (answer.1, answer.0.as_bytes()))
 }
 
-/// Checks a source, and tells whether the answer is the expected one.
-pub fn checks_as(alloc: Global, source: &str, expected: Expected) -> Result<bool, NoMemory> {
+/// A folder with a source.
+pub fn folder_of(alloc: Global, source: &str) -> Result<MemFolder, NoMemory> {
     let mut folder = MemFolder::new(alloc);
     folder.add("shop.par", source.as_bytes())?;
-    let words = ["--check", "shop.par"];
-    answers(alloc, Which::Compiler, &words, &mut folder, expected)
-}
-
-/// A folder with a source, once it was compiled.
-pub fn compiled(alloc: Global, source: &str) -> Result<MemFolder, NoMemory> {
-    let mut folder = MemFolder::new(alloc);
-    folder.add("shop.par", source.as_bytes())?;
-    let mut out = MemSink::new(alloc, 100)?;
-    let words = words(alloc, &["shop.par"])?;
-    tool(
-        alloc,
-        Which::Compiler,
-        words.as_slice(),
-        &mut folder,
-        &mut out,
-    );
     Ok(folder)
 }
 
-/// Compiles a source and runs its class `Shop` on these inputs, and tells whether the run is the
-/// expected one.
-pub fn runs_as(
-    alloc: Global,
-    source: &str,
-    inputs: &str,
-    steps: &str,
-    expected: Expected,
-) -> Result<bool, NoMemory> {
-    let mut folder = compiled(alloc, source)?;
+/// A folder with a source, once it was compiled, and an input file.
+pub fn compiled(alloc: Global, source: &str, inputs: &str) -> Result<MemFolder, NoMemory> {
+    let mut folder = folder_of(alloc, source)?;
+    let mut out = MemSink::new(alloc, 100)?;
+    call(alloc, "paragonc shop.par", &mut folder, &mut out)?;
     folder.add("in.txt", inputs.as_bytes())?;
-    let words = ["Shop", "in.txt", steps];
-    answers(alloc, Which::Runner, &words, &mut folder, expected)
+    Ok(folder)
+}
+
+/// Whether a source is checked with this answer.
+pub fn checks_as(alloc: Global, source: &str, answer: Answer) -> Result<bool, NoMemory> {
+    let mut folder = folder_of(alloc, source)?;
+    answers(alloc, "paragonc --check shop.par", &mut folder, answer)
+}
+
+/// Checks the common source with a line in place of that one.
+pub fn line_checks_as(
+    alloc: Global,
+    number: usize,
+    line: &str,
+    answer: Answer,
+) -> Result<bool, NoMemory> {
+    let source = with_line(alloc, number, line)?;
+    checks_as(alloc, source.as_str(), answer)
+}
+
+/// Rows of sources.
+pub fn check_sources(alloc: Global, rows: &[(&'static str, Answer)]) -> Result<(), Fail> {
+    for (source, answer) in rows {
+        expect(checks_as(alloc, source, *answer)?, source)?;
+    }
+    Ok(())
+}
+
+/// Rows of the common source with another line.
+pub fn check_lines(alloc: Global, rows: &[(usize, &'static str, Answer)]) -> Result<(), Fail> {
+    for (number, line, answer) in rows {
+        expect(line_checks_as(alloc, *number, line, *answer)?, line)?;
+    }
+    Ok(())
+}
+
+/// Rows of the common source with another body.
+pub fn check_bodies(alloc: Global, rows: &[(&'static str, Answer)]) -> Result<(), Fail> {
+    for (body, answer) in rows {
+        expect(line_checks_as(alloc, 8, body, *answer)?, body)?;
+    }
+    Ok(())
+}
+
+/// A row's name, the body of the common source, what stands in the input file, a command, and its
+/// answer.
+pub type Row = (
+    &'static str,
+    &'static str,
+    &'static str,
+    &'static str,
+    Answer,
+);
+
+fn row_holds(alloc: Global, row: &Row) -> Result<bool, NoMemory> {
+    let source = with_body(alloc, row.1)?;
+    let mut folder = compiled(alloc, source.as_str(), row.2)?;
+    answers(alloc, row.3, &mut folder, row.4)
+}
+
+/// Rows of commands over the common source, once it was compiled.
+pub fn check_rows(alloc: Global, rows: &[Row]) -> Result<(), Fail> {
+    for row in rows {
+        expect(row_holds(alloc, row)?, row.0)?;
+    }
+    Ok(())
 }

@@ -3,7 +3,7 @@
 //! A test reads no file, so each text stands here and in `examples/`, `README.md` or `docs/`. They
 //! are kept equal, and `bench/same_examples.sh` compares them.
 
-use crate::call::{ACCEPTED, Expected, NOT_BUILT, checks_as, refused};
+use crate::call::{ACCEPTED, Answer, NOT_BUILT, check_sources};
 use std::test::Fail;
 
 const SHOP_IN_BRIEF: &str = "\
@@ -189,28 +189,30 @@ class Gift {
 }
 ";
 
+const EXAMPLES: &[(&str, Answer)] = &[
+    (SHOP_IN_BRIEF, ACCEPTED),
+    (SHOP, ACCEPTED),
+    (AUCTION, ACCEPTED),
+    (PAID_CONTENT, ACCEPTED),
+];
+
 #[test]
 fn examples_are_accepted(rt: HostRuntime) -> Result<(), Fail> {
-    for source in [SHOP_IN_BRIEF, SHOP, AUCTION, PAID_CONTENT] {
-        assert!(rt; checks_as(rt.alloc(), source, ACCEPTED)?, "{source}");
-    }
-    Ok(())
+    check_sources(rt.alloc(), EXAMPLES)
 }
+
+const REFUSALS_AND_THEIR_MENDS: &[(&str, Answer)] = &[
+    (KEY_TO_ALL, ("refused 401 at 7:5\n", 1)),
+    (KEY_BEHIND_PAID, ACCEPTED),
+    (KEY_KEPT, ACCEPTED),
+    (SUM_TOO_EARLY, ("refused 403 at 9:5\n", 1)),
+    (SUM_BEHIND_DONE, ACCEPTED),
+    (BID_FORGOTTEN, ACCEPTED),
+    (GIFT_WITH_TEST, NOT_BUILT),
+    (GIFT, ACCEPTED),
+];
 
 #[test]
 fn refusals_and_their_mends(rt: HostRuntime) -> Result<(), Fail> {
-    let rows: [(&str, Expected); 8] = [
-        (KEY_TO_ALL, refused("refused 401 at 7:5\n")),
-        (KEY_BEHIND_PAID, ACCEPTED),
-        (KEY_KEPT, ACCEPTED),
-        (SUM_TOO_EARLY, refused("refused 403 at 9:5\n")),
-        (SUM_BEHIND_DONE, ACCEPTED),
-        (BID_FORGOTTEN, ACCEPTED),
-        (GIFT_WITH_TEST, NOT_BUILT),
-        (GIFT, ACCEPTED),
-    ];
-    for (source, expected) in rows {
-        assert!(rt; checks_as(rt.alloc(), source, expected)?, "{source}");
-    }
-    Ok(())
+    check_sources(rt.alloc(), REFUSALS_AND_THEIR_MENDS)
 }

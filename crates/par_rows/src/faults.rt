@@ -1,172 +1,181 @@
-//! Words, absent and long files, and faults of the folder and the sink.
+//! Words, absent files, and faults of the folder and the sink.
 
-use crate::call::{ACCEPTED, COMPILED, Expected, USAGE, answers, compiled, with_body, words};
-use par_io::{MemFolder, MemSink};
-use par_tool::tool::tool;
-use par_words::Which;
+use crate::call::{
+    ACCEPTED, Answer, COMPILED, KEY_42, SHOWS_KEY, answers, call, compiled, expect, folder_of,
+    with_body,
+};
+use par_io::{MemFolder, MemSink, NoMemory};
+use std::alloc::Global;
 use std::test::Fail;
 
-const ABSENT: Expected = Expected {
-    text: "absent\n",
-    status: 3,
-};
+const USAGE: Answer = ("usage\n", 2);
 
-const READ_FAULT: Expected = Expected {
-    text: "read fault\n",
-    status: 4,
-};
+const ABSENT: Answer = ("absent\n", 3);
 
-const WRITE_FAULT: Expected = Expected {
-    text: "write fault\n",
-    status: 5,
-};
+const READ_FAULT: Answer = ("read fault\n", 4);
 
-const TOO_LONG: Expected = Expected {
-    text: "too long\n",
-    status: 8,
-};
+const WRITE_FAULT: Answer = ("write fault\n", 5);
+
+/// A folder with a source that shows the key.
+fn source(alloc: Global) -> Result<MemFolder, NoMemory> {
+    let source = with_body(alloc, SHOWS_KEY)?;
+    folder_of(alloc, source.as_str())
+}
+
+/// The same, once it was compiled, with an input file.
+fn class_file(alloc: Global) -> Result<MemFolder, NoMemory> {
+    let source = with_body(alloc, SHOWS_KEY)?;
+    compiled(alloc, source.as_str(), KEY_42)
+}
+
+const OTHER_WORDS: &[&str] = &[
+    "paragonc",
+    "paragonc --check",
+    "paragonc -shop.par",
+    "paragonc shop.par --check",
+    "paragonc --check shop.par more.par",
+    "paragonc --trace shop.par",
+    "paragonc -check shop.par",
+    "paragonc --check -shop.par",
+    "paragonc --check --check",
+    "paragon --check shop.par",
+    "paragon Shop in.txt",
+    "paragon Shop in.txt 0",
+    "paragon Shop in.txt 01",
+    "paragon Shop in.txt +1",
+    "paragon Shop in.txt 1000000001",
+    "paragon Shop -in.txt 1",
+    "paragon 2Shop in.txt 1",
+];
+
+fn is_told_the_usage(alloc: Global, command: &str) -> Result<bool, NoMemory> {
+    let mut folder = source(alloc)?;
+    answers(alloc, command, &mut folder, USAGE)
+}
 
 #[test]
 fn other_words_are_told_the_usage(rt: HostRuntime) -> Result<(), Fail> {
-    let rows: [(Which, &[&str]); 17] = [
-        (Which::Compiler, &[]),
-        (Which::Compiler, &["--check"]),
-        (Which::Compiler, &["-shop.par"]),
-        (Which::Compiler, &["shop.par", "--check"]),
-        (Which::Compiler, &["--check", "shop.par", "more.par"]),
-        (Which::Compiler, &["--trace", "shop.par"]),
-        (Which::Compiler, &["-check", "shop.par"]),
-        (Which::Compiler, &["--check", "-shop.par"]),
-        (Which::Compiler, &["--check", "--check"]),
-        (Which::Runner, &["--check", "shop.par"]),
-        (Which::Runner, &["Shop", "in.txt"]),
-        (Which::Runner, &["Shop", "in.txt", "0"]),
-        (Which::Runner, &["Shop", "in.txt", "01"]),
-        (Which::Runner, &["Shop", "in.txt", "+1"]),
-        (Which::Runner, &["Shop", "in.txt", "1000000001"]),
-        (Which::Runner, &["Shop", "-in.txt", "1"]),
-        (Which::Runner, &["2Shop", "in.txt", "1"]),
-    ];
-    for (which, texts) in rows {
-        let source = with_body(rt.alloc(), "show(1);")?;
-        let mut folder = MemFolder::new(rt.alloc());
-        folder.add("shop.par", source.as_bytes())?;
-        assert!(rt; answers(rt.alloc(), which, texts, &mut folder, USAGE)?);
+    for command in OTHER_WORDS {
+        expect(is_told_the_usage(rt.alloc(), command)?, command)?;
     }
     Ok(())
+}
+
+/// A command, the read that fails, counted from 1 and 0 for none, and the answer. Where the
+/// command runs a class file, the first read was that of its source.
+const READS: &[(&str, u64, Answer)] = &[
+    ("paragonc --check none.par", 0, ABSENT),
+    ("paragonc --check shop.par", 1, READ_FAULT),
+    ("paragonc --check shop.par", 2, ACCEPTED),
+    ("paragonc none.par", 0, ABSENT),
+    ("paragonc shop.par", 1, READ_FAULT),
+    ("paragon Other in.txt 1000", 0, ABSENT),
+    ("paragon Shop none.txt 1000", 0, ABSENT),
+    ("paragon Shop in.txt 1000", 2, READ_FAULT),
+    ("paragon Shop in.txt 1000", 3, READ_FAULT),
+];
+
+/// The folder that a command finds: the compiler the source alone, the runner its class file too.
+fn folder_for(alloc: Global, command: &str) -> Result<MemFolder, NoMemory> {
+    if command.starts_with("paragonc") {
+        source(alloc)
+    } else {
+        class_file(alloc)
+    }
+}
+
+fn read_holds(
+    alloc: Global,
+    command: &str,
+    failing: u64,
+    answer: Answer,
+) -> Result<bool, NoMemory> {
+    let mut folder = folder_for(alloc, command)?;
+    folder.fail_read(failing)?;
+    answers(alloc, command, &mut folder, answer)
 }
 
 #[test]
 fn files_may_be_absent_or_fail(rt: HostRuntime) -> Result<(), Fail> {
-    let rows: [(&[&str], u64, Expected); 5] = [
-        (&["--check", "none.par"], 0, ABSENT),
-        (&["--check", "shop.par"], 1, READ_FAULT),
-        (&["--check", "shop.par"], 2, ACCEPTED),
-        (&["none.par"], 0, ABSENT),
-        (&["shop.par"], 1, READ_FAULT),
-    ];
-    for (texts, failing, expected) in rows {
-        let source = with_body(rt.alloc(), "open Paid; show(key());")?;
-        let mut folder = MemFolder::new(rt.alloc());
-        folder.add("shop.par", source.as_bytes())?;
-        folder.fail_read(failing)?;
-        assert!(rt; answers(rt.alloc(), Which::Compiler, texts, &mut folder, expected)?);
+    for (command, failing, answer) in READS {
+        expect(read_holds(rt.alloc(), command, *failing, *answer)?, command)?;
     }
     Ok(())
 }
 
-/// Blanks behind the source make it as long as this.
-#[test]
-fn sources_have_up_to_262144_bytes(rt: HostRuntime) -> Result<(), Fail> {
-    for (length, expected) in [(262_144, ACCEPTED), (262_145, TOO_LONG)] {
-        let mut source = with_body(rt.alloc(), "show(1);")?;
-        for _ in source.len()..length {
-            source.push_str(" ")?;
-        }
-        let mut folder = MemFolder::new(rt.alloc());
-        folder.add("shop.par", source.as_bytes())?;
-        let words = ["--check", "shop.par"];
-        assert!(rt; answers(rt.alloc(), Which::Compiler, &words, &mut folder, expected)?);
-    }
-    Ok(())
-}
+/// The write that fails, how many bytes it leaves, and the answer.
+const WRITES: &[(&str, u64, u64, Answer)] = &[
+    ("the write fails at once", 1, 0, WRITE_FAULT),
+    ("the write fails behind 5 bytes", 1, 5, WRITE_FAULT),
+    ("no second write is made", 2, 5, COMPILED),
+];
 
 /// A file that stood there is kept but for what the failed write leaves.
+fn write_holds(alloc: Global, call: u64, keep: u64, answer: Answer) -> Result<bool, NoMemory> {
+    let mut folder = source(alloc)?;
+    folder.add("Other.class", b"kept")?;
+    folder.fail_write(call, keep)?;
+    let is_told = answers(alloc, "paragonc shop.par", &mut folder, answer)?;
+    Ok(is_told && leaves(&folder, call, keep))
+}
+
+/// Whether the other file is kept, and the class file has so many bytes where its write failed.
+fn leaves(folder: &MemFolder, call: u64, keep: u64) -> bool {
+    let Some(left) = folder.get("Shop.class") else {
+        return false;
+    };
+    let is_kept = folder.get("Other.class") == Some(b"kept".as_slice());
+    is_kept && (call == 2 || left.len() as u64 == keep)
+}
+
 #[test]
 fn writes_may_fail(rt: HostRuntime) -> Result<(), Fail> {
-    for (call, keep, expected) in [(1, 0, WRITE_FAULT), (1, 5, WRITE_FAULT), (2, 5, COMPILED)] {
-        let source = with_body(rt.alloc(), "open Paid; show(key());")?;
-        let mut folder = MemFolder::new(rt.alloc());
-        folder.add("shop.par", source.as_bytes())?;
-        folder.add("Other.class", b"kept")?;
-        folder.fail_write(call, keep)?;
-        assert!(rt;
-            answers(
-                rt.alloc(),
-                Which::Compiler,
-                &["shop.par"],
-                &mut folder,
-                expected
-            )?
-        );
-        assert!(rt; folder.get("Other.class") == Some(b"kept".as_slice()));
-        let left = folder
-            .get("Shop.class")
-            .ok_or("a front of the file is written")?;
-        assert!(rt; call == 2 || left.len() as u64 == keep);
+    for (name, call, keep, answer) in WRITES {
+        expect(write_holds(rt.alloc(), *call, *keep, *answer)?, name)?;
     }
     Ok(())
+}
+
+/// Each put of each form in turn, how many of its bytes are kept, and what is held then.
+const PUTS: &[(&str, u64, u64, &str)] = &[
+    ("paragonc --check shop.par", 1, 0, ""),
+    ("paragonc --check shop.par", 1, 5, "accep"),
+    ("paragonc --check shop.par", 1, 100, "accepted\n"),
+    ("paragonc shop.par", 1, 0, ""),
+    ("paragonc shop.par", 1, 3, "acc"),
+    ("paragonc shop.par", 1, 5, "accep"),
+    ("paragon Shop in.txt 1000", 1, 0, ""),
+    ("paragon Shop in.txt 1000", 1, 5, "out S"),
+    ("paragon Shop in.txt 1000", 2, 0, "out Shop.show 42\n"),
+    ("paragon Shop in.txt 1000", 2, 2, "out Shop.show 42\nen"),
+    ("paragon Shop in.txt 1000", 2, 5, "out Shop.show 42\nend\n"),
+];
+
+fn put_holds(
+    alloc: Global,
+    command: &str,
+    failing: (u64, u64),
+    held: &str,
+) -> Result<bool, NoMemory> {
+    let mut folder = folder_for(alloc, command)?;
+    let mut out = MemSink::new(alloc, 100)?;
+    out.fail_put(failing.0, failing.1);
+    let status = call(alloc, command, &mut folder, &mut out)?;
+    Ok((status, out.bytes()) == (6, held.as_bytes()) && leaves_a_class_file(&folder, command))
 }
 
 /// The class file is there though the line that says so is not put.
-#[test]
-fn class_files_stay_where_a_put_fails(rt: HostRuntime) -> Result<(), Fail> {
-    let source = with_body(rt.alloc(), "open Paid; show(key());")?;
-    let mut folder = MemFolder::new(rt.alloc());
-    folder.add("shop.par", source.as_bytes())?;
-    let mut out = MemSink::new(rt.alloc(), 100)?;
-    out.fail_put(1, 3);
-    let words = words(rt.alloc(), &["shop.par"])?;
-    let status = tool(
-        rt.alloc(),
-        Which::Compiler,
-        words.as_slice(),
-        &mut folder,
-        &mut out,
-    );
-    assert_eq!(rt; status, 6);
-    assert!(rt; out.bytes() == b"acc".as_slice());
-    assert!(rt; folder.get("Shop.class").is_some());
-    Ok(())
+fn leaves_a_class_file(folder: &MemFolder, command: &str) -> bool {
+    folder.get("Shop.class").is_some() != command.contains("--check")
 }
 
-/// Each put of each form in turn, of which nothing is kept, or some bytes.
 #[test]
 fn puts_may_fail(rt: HostRuntime) -> Result<(), Fail> {
-    let check: &[&str] = &["--check", "shop.par"];
-    let compile: &[&str] = &["shop.par"];
-    let run: &[&str] = &["Shop", "in.txt", "1000"];
-    let rows = [
-        (Which::Compiler, check, 1, 0, ""),
-        (Which::Compiler, check, 1, 5, "accep"),
-        (Which::Compiler, check, 1, 100, "accepted\n"),
-        (Which::Compiler, compile, 1, 0, ""),
-        (Which::Compiler, compile, 1, 5, "accep"),
-        (Which::Runner, run, 1, 0, ""),
-        (Which::Runner, run, 1, 5, "out S"),
-        (Which::Runner, run, 2, 0, "out Shop.show 42\n"),
-        (Which::Runner, run, 2, 5, "out Shop.show 42\nend\n"),
-    ];
-    for (which, texts, put, keep, held) in rows {
-        let source = with_body(rt.alloc(), "open Paid; show(key());")?;
-        let mut folder = compiled(rt.alloc(), source.as_str())?;
-        folder.add("in.txt", b"Shop.key: 42\n")?;
-        let mut out = MemSink::new(rt.alloc(), 100)?;
-        out.fail_put(put, keep);
-        let words = words(rt.alloc(), texts)?;
-        let status = tool(rt.alloc(), which, words.as_slice(), &mut folder, &mut out);
-        assert_eq!(rt; status, 6);
-        assert!(rt; out.bytes() == held.as_bytes(), "{held}");
+    for (command, put, keep, held) in PUTS {
+        expect(
+            put_holds(rt.alloc(), command, (*put, *keep), held)?,
+            command,
+        )?;
     }
     Ok(())
 }

@@ -1,6 +1,9 @@
 //! Worked rows: sources and words with the answers that they must have, over files and output in
 //! memory. The expected answers were worked out by hand from the language's rules. The crate is
 //! tests alone, and nothing stands on it.
+//!
+//! The rows stand in tables, as constant slices that one function of `call` goes over: a check
+//! proves each test function, and one that only hands on a table costs little.
 #![tactic(auto)]
 
 #[cfg(test)]
@@ -14,10 +17,10 @@ mod faults;
 #[cfg(test)]
 mod limits;
 #[cfg(test)]
-mod names;
-#[cfg(test)]
 mod runs;
 #[cfg(test)]
 mod sources;
 #[cfg(test)]
 mod statements;
+#[cfg(test)]
+mod worked;

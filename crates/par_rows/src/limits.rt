@@ -1,206 +1,247 @@
 //! Sources at a limit, and one above it.
 
-use crate::call::{ACCEPTED, NOT_BUILT, checks_as, with_body, with_line};
+use crate::call::{ACCEPTED, Answer, NOT_BUILT, checks_as, expect, line_checks_as, with_body};
+use par_io::NoMemory;
 use std::alloc::{AllocError, Global};
 use std::test::Fail;
 
-/// The text this many times.
-fn repeated(alloc: Global, text: &str, count: u32) -> Result<String, AllocError> {
-    let mut all = String::new(alloc);
-    for _ in 0..count {
-        all.push_str(text)?;
-    }
-    Ok(all)
-}
+/// A line of the common source, by its number, of texts that repeat so many times. In a text a `#`
+/// stands for the number of the repetition, from 0.
+type Row = (&'static str, usize, &'static [(&'static str, u32)], Answer);
 
-/// `before`, then numbers from 0 with `between` in front of each but the first, then `after`.
-fn numbered(
+static ROWS: &[Row] = &[
+    // the block, the parenthesis of the call, and each `+` nest one deeper
+    (
+        "tokens nest 64 deep",
+        8,
+        &[("show(1", 1), (" + 1", 62), (");", 1)],
+        ACCEPTED,
+    ),
+    (
+        "tokens nest 65 deep",
+        8,
+        &[("show(1", 1), (" + 1", 63), (");", 1)],
+        NOT_BUILT,
+    ),
+    // each statement begins a count of its own
+    (
+        "two statements nest 64 deep",
+        8,
+        &[
+            ("int x = 1", 1),
+            (" + 1", 63),
+            ("; got = 1", 1),
+            (" + 1", 63),
+            (";", 1),
+        ],
+        ACCEPTED,
+    ),
+    (
+        "two statements nest 65 deep",
+        8,
+        &[
+            ("int x = 1", 1),
+            (" + 1", 64),
+            ("; got = 1", 1),
+            (" + 1", 64),
+            (";", 1),
+        ],
+        NOT_BUILT,
+    ),
+    // an assignment of a number has 3 nodes, `open` has 1, and the block is one
+    (
+        "a method of 2000 nodes",
+        8,
+        &[("got = 1; ", 666), ("open Paid;", 1)],
+        ACCEPTED,
+    ),
+    (
+        "a method of 2001 nodes",
+        8,
+        &[("got = 1; ", 666), ("open Paid; open Paid;", 1)],
+        NOT_BUILT,
+    ),
+    ("200 locals", 8, &[("int x# = 0; ", 200)], ACCEPTED),
+    ("201 locals", 8, &[("int x# = 0; ", 201)], NOT_BUILT),
+    // beside the two channels
+    ("256 members", 6, &[("?{} static int f#; ", 254)], ACCEPTED),
+    ("257 members", 6, &[("?{} static int f#; ", 255)], NOT_BUILT),
+    (
+        "16 actors",
+        1,
+        &[("actor alice, bob", 1), (", a#", 14), (";", 1)],
+        ACCEPTED,
+    ),
+    (
+        "17 actors",
+        1,
+        &[("actor alice, bob", 1), (", a#", 15), (";", 1)],
+        NOT_BUILT,
+    ),
+    (
+        "256 locks",
+        2,
+        &[("lock Paid; ", 1), ("lock l#; ", 255)],
+        ACCEPTED,
+    ),
+    (
+        "257 locks",
+        2,
+        &[("lock Paid; ", 1), ("lock l#; ", 256)],
+        NOT_BUILT,
+    ),
+    // as they are written: what repeats counts each time
+    (
+        "a policy of 32 clauses",
+        6,
+        &[("?{", 1), ("alice:; ", 31), ("bob:} static int got;", 1)],
+        ACCEPTED,
+    ),
+    (
+        "a policy of 33 clauses",
+        6,
+        &[("?{", 1), ("alice:; ", 32), ("bob:} static int got;", 1)],
+        NOT_BUILT,
+    ),
+    (
+        "a clause of 16 locks",
+        6,
+        &[("?{bob: ", 1), ("Paid, ", 15), ("Paid} static int got;", 1)],
+        ACCEPTED,
+    ),
+    (
+        "a clause of 17 locks",
+        6,
+        &[("?{bob: ", 1), ("Paid, ", 16), ("Paid} static int got;", 1)],
+        NOT_BUILT,
+    ),
+    (
+        "a name of 64 bytes",
+        6,
+        &[("?{} static int ", 1), ("n", 64), (";", 1)],
+        ACCEPTED,
+    ),
+    (
+        "a name of 65 bytes",
+        6,
+        &[("?{} static int ", 1), ("n", 65), (";", 1)],
+        NOT_BUILT,
+    ),
+];
+
+/// Puts a text, with this number in place of its `#`.
+fn push_numbered(
     alloc: Global,
-    before: &str,
-    between: &str,
-    after: &str,
-    count: u32,
-) -> Result<String, AllocError> {
-    let mut all = String::new(alloc);
-    for number in 0..count {
-        all.push_str(if number == 0 { before } else { between })?;
-        all.push_str(number.to_string(alloc)?.as_str())?;
-    }
-    all.push_str(after)?;
-    Ok(all)
-}
-
-/// The block, the parenthesis of the call, and each `+` nest one deeper.
-#[test]
-fn tokens_nest_up_to_64_deep(rt: HostRuntime) -> Result<(), Fail> {
-    for (plus_signs, expected) in [(62, ACCEPTED), (63, NOT_BUILT)] {
-        let more = repeated(rt.alloc(), " + 1", plus_signs)?;
-        let body = format!(in rt.alloc(); "show(1{more});")?;
-        let source = with_body(rt.alloc(), body.as_str())?;
-        assert!(rt;
-            checks_as(rt.alloc(), source.as_str(), expected)?,
-            "{plus_signs}"
-        );
-    }
-    Ok(())
-}
-
-/// Each statement begins a count of its own.
-#[test]
-fn statements_nest_alone(rt: HostRuntime) -> Result<(), Fail> {
-    for (plus_signs, expected) in [(63, ACCEPTED), (64, NOT_BUILT)] {
-        let more = repeated(rt.alloc(), " + 1", plus_signs)?;
-        let body = format!(in rt.alloc(); "int x = 1{more}; got = 1{more};")?;
-        let source = with_body(rt.alloc(), body.as_str())?;
-        assert!(rt;
-            checks_as(rt.alloc(), source.as_str(), expected)?,
-            "{plus_signs}"
-        );
-    }
-    Ok(())
-}
-
-/// An assignment of a number has 3 nodes, `open` has 1, and the block is one.
-#[test]
-fn methods_have_up_to_2000_nodes(rt: HostRuntime) -> Result<(), Fail> {
-    let writes = repeated(rt.alloc(), "got = 1; ", 666)?;
-    for (more, expected) in [
-        ("open Paid;", ACCEPTED),
-        ("open Paid; open Paid;", NOT_BUILT),
-    ] {
-        let body = format!(in rt.alloc(); "{writes}{more}")?;
-        let source = with_body(rt.alloc(), body.as_str())?;
-        assert!(rt; checks_as(rt.alloc(), source.as_str(), expected)?, "{more}");
-    }
-    Ok(())
-}
-
-#[test]
-fn methods_have_up_to_200_locals(rt: HostRuntime) -> Result<(), Fail> {
-    for (count, expected) in [(200, ACCEPTED), (201, NOT_BUILT)] {
-        let body = numbered(rt.alloc(), "int x", " = 0; int x", " = 0;", count)?;
-        let source = with_body(rt.alloc(), body.as_str())?;
-        assert!(rt;
-            checks_as(rt.alloc(), source.as_str(), expected)?,
-            "{count}"
-        );
-    }
-    Ok(())
-}
-
-/// Beside the two channels.
-#[test]
-fn classes_have_up_to_256_members(rt: HostRuntime) -> Result<(), Fail> {
-    for (count, expected) in [(254, ACCEPTED), (255, NOT_BUILT)] {
-        let fields = numbered(
-            rt.alloc(),
-            "?{} static int f",
-            "; ?{} static int f",
-            ";",
-            count,
-        )?;
-        let source = with_line(rt.alloc(), 6, fields.as_str())?;
-        assert!(rt;
-            checks_as(rt.alloc(), source.as_str(), expected)?,
-            "{count}"
-        );
-    }
-    Ok(())
-}
-
-/// Beside alice and bob, and beside the lock `Paid`.
-#[test]
-fn actors_and_locks_are_few(rt: HostRuntime) -> Result<(), Fail> {
-    for (count, expected) in [(14, ACCEPTED), (15, NOT_BUILT)] {
-        let line = numbered(rt.alloc(), "actor alice, bob, a", ", a", ";", count)?;
-        let source = with_line(rt.alloc(), 1, line.as_str())?;
-        assert!(rt;
-            checks_as(rt.alloc(), source.as_str(), expected)?,
-            "{count}"
-        );
-    }
-    for (count, expected) in [(255, ACCEPTED), (256, NOT_BUILT)] {
-        let line = numbered(rt.alloc(), "lock Paid; lock l", "; lock l", ";", count)?;
-        let source = with_line(rt.alloc(), 2, line.as_str())?;
-        assert!(rt;
-            checks_as(rt.alloc(), source.as_str(), expected)?,
-            "{count}"
-        );
-    }
-    Ok(())
-}
-
-/// As they are written: what repeats counts each time.
-#[test]
-fn policies_have_few_clauses_and_locks(rt: HostRuntime) -> Result<(), Fail> {
-    for (count, expected) in [(31, ACCEPTED), (32, NOT_BUILT)] {
-        let clauses = repeated(rt.alloc(), "alice:; ", count)?;
-        let line = format!(in rt.alloc(); "?{{{clauses}bob:}} static int got;")?;
-        let source = with_line(rt.alloc(), 6, line.as_str())?;
-        assert!(rt;
-            checks_as(rt.alloc(), source.as_str(), expected)?,
-            "{count}"
-        );
-    }
-    for (count, expected) in [(15, ACCEPTED), (16, NOT_BUILT)] {
-        let locks = repeated(rt.alloc(), "Paid, ", count)?;
-        let line = format!(in rt.alloc(); "?{{bob: {locks}Paid}} static int got;")?;
-        let source = with_line(rt.alloc(), 6, line.as_str())?;
-        assert!(rt;
-            checks_as(rt.alloc(), source.as_str(), expected)?,
-            "{count}"
-        );
-    }
-    Ok(())
-}
-
-#[test]
-fn names_have_up_to_64_bytes(rt: HostRuntime) -> Result<(), Fail> {
-    for (count, expected) in [(64, ACCEPTED), (65, NOT_BUILT)] {
-        let name = repeated(rt.alloc(), "n", count)?;
-        let line = format!(in rt.alloc(); "?{{}} static int {name};")?;
-        let source = with_line(rt.alloc(), 6, line.as_str())?;
-        assert!(rt;
-            checks_as(rt.alloc(), source.as_str(), expected)?,
-            "{count}"
-        );
-    }
-    Ok(())
-}
-
-/// A field for each set of the locks `l0` to `l7`, the empty one too, which alice needs; with
-/// `bottom` these are 257 policies, unless the last one repeats an earlier one.
-#[test]
-fn sources_have_up_to_256_policies(rt: HostRuntime) -> Result<(), Fail> {
-    for (last, expected) in [("alice:", NOT_BUILT), ("alice: l0", ACCEPTED)] {
-        let mut source = String::from_str(rt.alloc(), "actor alice, bob; ")?;
-        source.push_str(numbered(rt.alloc(), "lock l", "; lock l", "; ", 8)?.as_str())?;
-        source.push_str("class Shop {\n")?;
-        for set in 1..256u32 {
-            source.push_str(field_of(rt.alloc(), set)?.as_str())?;
+    line: &mut String,
+    text: &str,
+    number: u32,
+) -> Result<(), AllocError> {
+    match text.split_once('#') {
+        None => line.push_str(text),
+        Some((before, after)) => {
+            line.push_str(before)?;
+            line.push_str(number.to_string(alloc)?.as_str())?;
+            line.push_str(after)
         }
-        let end = format!(in rt.alloc();
-            "?{{{last}}} static int f0; static void main() !bottom {{ }} }}"
-        )?;
-        source.push_str(end.as_str())?;
-        assert!(rt; checks_as(rt.alloc(), source.as_str(), expected)?, "{last}");
+    }
+}
+
+/// Puts a text this many times.
+fn push_repeated(
+    alloc: Global,
+    line: &mut String,
+    text: &str,
+    times: u32,
+) -> Result<(), AllocError> {
+    for number in 0..times {
+        push_numbered(alloc, line, text, number)?;
     }
     Ok(())
 }
 
-/// A field that alice sees once the locks of the set are open, one bit for each lock.
-fn field_of(alloc: Global, set: u32) -> Result<String, AllocError> {
-    let mut field = String::from_str(alloc, "?{alice:")?;
-    let mut before = " ";
+/// The line of texts that repeat.
+fn repeated(alloc: Global, parts: &[(&str, u32)]) -> Result<String, AllocError> {
+    let mut line = String::new(alloc);
+    for (text, times) in parts {
+        push_repeated(alloc, &mut line, text, *times)?;
+    }
+    Ok(line)
+}
+
+fn row_holds(alloc: Global, row: &Row) -> Result<bool, NoMemory> {
+    let line = repeated(alloc, row.2)?;
+    line_checks_as(alloc, row.1, line.as_str(), row.3)
+}
+
+#[test]
+fn limits_are_kept(rt: HostRuntime) -> Result<(), Fail> {
+    for row in ROWS {
+        expect(row_holds(rt.alloc(), row)?, row.0)?;
+    }
+    Ok(())
+}
+
+/// The common source, with blanks behind it, as many as make it so long.
+fn padded(alloc: Global, length: usize) -> Result<String, AllocError> {
+    let mut source = with_body(alloc, "show(1);")?;
+    for _ in source.len()..length {
+        source.push_str(" ")?;
+    }
+    Ok(source)
+}
+
+const LENGTHS: &[(&str, usize, Answer)] = &[
+    ("a source of 262144 bytes", 262_144, ACCEPTED),
+    ("a source of 262145 bytes", 262_145, ("too long\n", 8)),
+];
+
+#[test]
+fn sources_have_up_to_262144_bytes(rt: HostRuntime) -> Result<(), Fail> {
+    for (name, length, answer) in LENGTHS {
+        let source = padded(rt.alloc(), *length)?;
+        expect(checks_as(rt.alloc(), source.as_str(), *answer)?, name)?;
+    }
+    Ok(())
+}
+
+/// The locks of a set, one bit for each, as a clause of alice names them.
+fn push_locks(alloc: Global, source: &mut String, set: u32) -> Result<(), AllocError> {
+    let mut before = " l";
     for lock in 0..8u32 {
         if set >> lock & 1 == 1 {
-            field.push_str(before)?;
-            field.push_str("l")?;
-            field.push_str(lock.to_string(alloc)?.as_str())?;
-            before = ", ";
+            source.push_str(before)?;
+            source.push_str(lock.to_string(alloc)?.as_str())?;
+            before = ", l";
         }
     }
-    let name = format!(in alloc; "}} static int f{set};\n")?;
-    field.push_str(name.as_str())?;
-    Ok(field)
+    Ok(())
+}
+
+/// A field for each set of the locks `l0` to `l7` but the empty one, which alice needs, and one
+/// with this clause.
+fn with_policies(alloc: Global, last: &str) -> Result<String, AllocError> {
+    let mut source = String::from_str(alloc, "actor alice, bob; ")?;
+    push_repeated(alloc, &mut source, "lock l#; ", 8)?;
+    source.push_str("class Shop {\n")?;
+    for set in 1..256u32 {
+        source.push_str("?{alice:")?;
+        push_locks(alloc, &mut source, set)?;
+        push_numbered(alloc, &mut source, "} static int f#;\n", set)?;
+    }
+    source.push_str("?{")?;
+    source.push_str(last)?;
+    source.push_str("} static int f0; static void main() !bottom { } }")?;
+    Ok(source)
+}
+
+/// With `bottom` these are 257 policies, unless the last clause repeats an earlier one.
+const LAST_CLAUSES: &[(&str, Answer)] = &[("alice:", NOT_BUILT), ("alice: l0", ACCEPTED)];
+
+#[test]
+fn sources_have_up_to_256_policies(rt: HostRuntime) -> Result<(), Fail> {
+    for (last, answer) in LAST_CLAUSES {
+        let source = with_policies(rt.alloc(), last)?;
+        expect(checks_as(rt.alloc(), source.as_str(), *answer)?, last)?;
+    }
+    Ok(())
 }
