@@ -144,7 +144,6 @@ fn some_clauses(alloc: Global, cursor: &mut Cursor<'_>) -> Result<List<ClauseTre
 }
 
 /// The member that a read policy stands before.
-#[tactic(auto, using(par_straight::proofs::Run::kind_input, par_straight::proofs::Run::kind_output, par_straight::proofs::Run::kind_static))]
 fn member(
     alloc: Global,
     cursor: &mut Cursor<'_>,
@@ -442,7 +441,6 @@ fn ended_effect(
 }
 
 /// The statements of the method.
-#[tactic(auto, using(par_straight::proofs::Run::statements_opens, par_straight::proofs::Run::more_statements_int, par_straight::proofs::Run::more_statements_open, par_straight::proofs::Run::more_statements_name, par_straight::proofs::Run::more_statements_else, par_straight::proofs::Run::run_builds, par_straight::proofs::Run::run_restarts))]
 fn all_statements(alloc: Global, cursor: &mut Cursor<'_>) -> Result<List<Statement>, ParseError>
     ensures read { Reads (symbol.name g.Statements ∷ []) [] statements
         (input cursor.old) result (input cursor.new) }
