@@ -51,7 +51,6 @@ fn more_idents(
 }
 
 /// The locks that are declared.
-#[tactic(auto, using(par_straight::proofs::Run::locks_opens, par_straight::proofs::Run::run_builds))]
 fn locks(alloc: Global, cursor: &mut Cursor<'_>) -> Result<List<Ident>, ParseError>
     ensures read { Reads (symbol.name g.Locks ∷ []) [] idents
         (input cursor.old) result (input cursor.new) }
@@ -264,7 +263,6 @@ fn static_field(
     Ok(found)
 }
 
-#[tactic(auto, using(par_straight::proofs::Run::members_opens, par_straight::proofs::Run::run_builds))]
 fn all_members(alloc: Global, cursor: &mut Cursor<'_>) -> Result<List<Member>, ParseError>
     ensures read { Reads (symbol.name g.Members ∷ []) [] members
         (input cursor.old) result (input cursor.new) }
