@@ -51,7 +51,6 @@ fn more_idents(
 }
 
 /// The locks that are declared.
-#[tactic(auto, using(par_straight::proofs::Run::locks_opens, par_straight::proofs::Run::run_builds))]
 fn locks(alloc: Global, cursor: &mut Cursor<'_>) -> Result<List<Ident>, ParseError>
     ensures read { Reads (symbol.name g.Locks ∷ []) [] idents
         (input cursor.old) result (input cursor.new) }
@@ -144,7 +143,6 @@ fn some_clauses(alloc: Global, cursor: &mut Cursor<'_>) -> Result<List<ClauseTre
 }
 
 /// The member that a read policy stands before.
-#[tactic(auto, using(par_straight::proofs::Run::kind_input, par_straight::proofs::Run::kind_output, par_straight::proofs::Run::kind_static))]
 fn member(
     alloc: Global,
     cursor: &mut Cursor<'_>,
@@ -265,7 +263,6 @@ fn static_field(
     Ok(found)
 }
 
-#[tactic(auto, using(par_straight::proofs::Run::members_opens, par_straight::proofs::Run::run_builds))]
 fn all_members(alloc: Global, cursor: &mut Cursor<'_>) -> Result<List<Member>, ParseError>
     ensures read { Reads (symbol.name g.Members ∷ []) [] members
         (input cursor.old) result (input cursor.new) }
@@ -442,7 +439,6 @@ fn ended_effect(
 }
 
 /// The statements of the method.
-#[tactic(auto, using(par_straight::proofs::Run::statements_opens, par_straight::proofs::Run::more_statements_int, par_straight::proofs::Run::more_statements_open, par_straight::proofs::Run::more_statements_name, par_straight::proofs::Run::more_statements_else, par_straight::proofs::Run::run_builds, par_straight::proofs::Run::run_restarts))]
 fn all_statements(alloc: Global, cursor: &mut Cursor<'_>) -> Result<List<Statement>, ParseError>
     ensures read { Reads (symbol.name g.Statements ∷ []) [] statements
         (input cursor.old) result (input cursor.new) }

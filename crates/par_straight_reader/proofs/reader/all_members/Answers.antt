@@ -1,9 +1,15 @@
 use Rattle.std.proofs.Common.{◌∷◌, sym, ◌∙◌, arith}
 use Rattle.par_straight.specs.Values as value
-use Rattle.par_straight.proofs.Run.{more_members_question, more_members_else}
+use Rattle.par_straight.proofs.Run.{members_opens, more_members_question, more_members_else, run_builds}
 use Rattle.par_straight_reader.specs.Reads.{input}
 use Rattle.par_straight_reader.proofs.Failing.{failing}
 use Rattle.par_straight_reader.proofs.reader.all_members.Goals as goal
+
+pub more-init : goal.more-init
+more-init c = record {
+  leads = λ s vs. rw c.new-found.ensures (members_opens s (input c.args.cursor.now) vs ∙ run_builds _ _ _ _);
+  shorter = omega arith;
+}
 
 pub returns-in_err-take-clause-read : goal.returns-in_err-take-clause-read
 returns-in_err-take-clause-read c =

@@ -1,9 +1,15 @@
 use Rattle.std.proofs.Common.{◌∷◌, sym, ◌∙◌, arith}
 use Rattle.par_straight.specs.Values as value
-use Rattle.par_straight.proofs.Run.{more_locks_lock, more_locks_else, run_builds}
+use Rattle.par_straight.proofs.Run.{locks_opens, more_locks_lock, more_locks_else, run_builds}
 use Rattle.par_straight_reader.specs.Reads.{input}
 use Rattle.par_straight_reader.proofs.Failing.{failing}
 use Rattle.par_straight_reader.proofs.reader.locks.Goals as goal
+
+pub more-init : goal.more-init
+more-init c = record {
+  leads = λ s vs. rw c.new-found.ensures (locks_opens s (input c.args.cursor.now) vs ∙ run_builds _ _ _ _);
+  shorter = omega arith;
+}
 
 pub returns-in_err-next-clause-read : goal.returns-in_err-next-clause-read
 returns-in_err-next-clause-read c =
