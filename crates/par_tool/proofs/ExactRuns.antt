@@ -14,7 +14,8 @@ use Rattle.par_runner.specs.Texts as told
 use Rattle.par_tool.specs.declared.answer.Answer.{Answer}
 use Rattle.par_tool.specs.declared.answer.Answer.TheVariants.{Accepted, Compiled, Refused, Usage, Absent, ReadFault, WriteFault, TooLong, NotBuilt, BadInputs}
 use Rattle.par_tool.specs.Texts.{status}
-use Rattle.par_tool.specs.Outside.{Text, NotRead, IsThere, IsMissing, IsOverlong, longest_class, longest_inputs, class_file}
+use Rattle.par_straight_compile.specs.Files.{longest_class}
+use Rattle.par_tool.specs.Outside.{Text, NotRead, IsThere, IsMissing, IsOverlong, longest_inputs, class_file}
 use Rattle.par_tool.specs.Classes.{IsAlone, IsLoaded, IsOther, IsBad, broken, misfit, misfit_in, HasBadLine, NotHad, NotRun, IsRunOf}
 use Rattle.par_tool.specs.Exactly.{IsSaidBy, TellsRun, TellsClass}
 use Rattle.par_tool.proofs.Statuses.{IsNear, same, near_status, same_status, read_there, missing_read, overlong_read, missing_not_read, overlong_not_read, there_not_read}

@@ -16,7 +16,8 @@ use Rattle.par_machine.specs.Run.{machine_run}
 use Rattle.par_machine.specs.Misfits.{first_misfit}
 use Rattle.par_tool.specs.declared.answer.Answer.{Answer}
 use Rattle.par_tool.specs.declared.answer.Answer.TheVariants.{NotBuilt, BadInputs}
-use Rattle.par_tool.specs.Outside.{Text, WasRead, NotRead, longest_class, longest_inputs, class_file}
+use Rattle.par_straight_compile.specs.Files.{longest_class}
+use Rattle.par_tool.specs.Outside.{Text, WasRead, NotRead, longest_inputs, class_file}
 
 -- the bytes spell a class file of this class that runs by itself
 pub record IsAlone (main bytes : Text) (file : ClassFile) : Type 0 where

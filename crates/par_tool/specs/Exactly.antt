@@ -11,7 +11,8 @@ use Rattle.par_inputs.specs.Rules.{entries, IsRight}
 use Rattle.par_machine.specs.Run.{machine_run}
 use Rattle.par_runner.specs.Texts as told
 use Rattle.par_words.specs.Words.{Wanted, Check, Compile, Run}
-use Rattle.par_tool.specs.Outside.{Text, IsThere, IsMissing, IsOverlong, longest_source, longest_class, longest_inputs, class_file}
+use Rattle.par_straight_compile.specs.Files.{longest_class}
+use Rattle.par_tool.specs.Outside.{Text, IsThere, IsMissing, IsOverlong, longest_source, longest_inputs, class_file}
 use Rattle.par_tool.specs.Sources.{IsBroken}
 use Rattle.par_tool.specs.Classes.{IsAlone, IsBad, misfit_in}
 

@@ -11,12 +11,9 @@ Text = List ℕ
 abbrev pub counts : ℕ → ℕ → ℕ → Counts
 counts faults absents longs = record { faults = faults; absents = absents; longs = longs }
 
--- the most bytes of a source, of a class file and of an input file
+-- the most bytes of a source and of an input file
 abbrev pub longest_source : ℕ
 longest_source = 262144
-
-abbrev pub longest_class : ℕ
-longest_class = 1048576
 
 abbrev pub longest_inputs : ℕ
 longest_inputs = 1048576

@@ -11,13 +11,13 @@ use Rattle.par_straight.specs.declared.program.Program.{Program}
 use Rattle.par_straight.specs.Subject.{subject}
 use Rattle.par_straight.specs.Rules.{IsAccepted, IsRefused}
 use Rattle.par_straight.specs.Judged.{HasProgram, IsStraightLine}
-use Rattle.par_straight_compile.specs.Files.{IsFileOf}
+use Rattle.par_straight_compile.specs.Files.{longest_class, IsFileOf}
 use Rattle.par_straight_shows.specs.Theorems.{ShowsWhole}
 use Rattle.par_single.specs.Single.{runs_alone}
 use Rattle.par_machine.specs.Target.{target}
 use Rattle.par_tool.specs.declared.answer.Answer.{Answer}
 use Rattle.par_tool.specs.declared.answer.Answer.TheVariants.{Accepted, Compiled, Refused, WriteFault, NotBuilt}
-use Rattle.par_tool.specs.Outside.{Text, WasRead, NotRead, longest_source, longest_class, class_file}
+use Rattle.par_tool.specs.Outside.{Text, WasRead, NotRead, longest_source, class_file}
 
 -- The rule is broken at the place, whose line and column these are.
 pub record IsBroken (source : Text) (rule line column : ℕ) : Type 0 where
