@@ -7,16 +7,16 @@ use par_straight_compile::compile;
 use std::alloc::Global;
 use std::test::Fail;
 
-fn compiled(alloc: Global) -> Result<ClassFile, Fail> {
+fn compiled(alloc: Global) -> Result<Vec<u8>, Fail> {
     let program = program_of(alloc, SHOP)?;
-    let bytes = compile(alloc, &program)?;
+    Ok(compile(alloc, &program)?)
+}
+
+fn file_of(alloc: Global, bytes: &[u8]) -> Result<ClassFile, Fail> {
     if bytes.len() > 1_048_576 {
         return Err(Fail::new("the file is long"));
     }
-    let Ok(file) = read_class(alloc, bytes.as_slice()) else {
-        return Err(Fail::new("the bytes are no class file"));
-    };
-    Ok(file)
+    Ok(read_class(alloc, bytes)?)
 }
 
 // In Java SE 7, invokestatic is 0xb8 and return is 0xb1 (section 6.5). The constants of `Shop.key`
@@ -45,6 +45,7 @@ fn is_file_of_the_shop(file: &ClassFile) -> bool {
 
 #[test]
 fn the_shop_is_compiled(rt: HostRuntime) -> Result<(), Fail> {
-    let file = compiled(rt.alloc())?;
+    let bytes = compiled(rt.alloc())?;
+    let file = file_of(rt.alloc(), bytes.as_slice())?;
     expect(is_file_of_the_shop(&file), "the file is that of the shop")
 }

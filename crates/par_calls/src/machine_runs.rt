@@ -1,6 +1,7 @@
 ghost use Rattle.std.specs.Prelude.{◌≤◌, length};
 
-use par_class::read_class;
+use crate::expect::expect;
+use par_class::{ClassFile, read_class};
 use par_lexer::list::List;
 use par_lexer::name::Name;
 use par_machine::inputs_fit;
@@ -24,31 +25,45 @@ const TAIL: &[u8] =
 
 // The code of `main`, the numbers of the events that it makes, and where bad code is met, with the
 // number of the reason (Java Virtual Machine Specification, Java SE 7, section 6.5).
-const RUNS: [(&[u8], &[i32], Option<(u32, u8)>); 8] = [
-    // iconst_2 iconst_3 iadd putstatic return
-    (b"\x05\x06\x60\xb3\0\x0b\xb1", &[5], None),
-    // ldc iconst_1 iadd and a call of `show`: the sum wraps
-    (b"\x12\x17\x04\x60\xb8\0\x0f\xb1", &[-2147483648], None),
-    // `ask` and `show` twice: a spent list gives 0
+const RUNS: &[(&str, &[u8], &[i32], Option<(u32, u8)>)] = &[
     (
+        "iconst_2 iconst_3 iadd putstatic return",
+        b"\x05\x06\x60\xb3\0\x0b\xb1",
+        &[5],
+        None,
+    ),
+    (
+        "ldc iconst_1 iadd and a call of `show`: the sum wraps",
+        b"\x12\x17\x04\x60\xb8\0\x0f\xb1",
+        &[-2147483648],
+        None,
+    ),
+    (
+        "`ask` and `show` twice: a spent list gives 0",
         b"\xb8\0\x13\xb8\0\x0f\xb8\0\x13\xb8\0\x0f\xb1",
         &[7, 0],
         None,
     ),
-    // `more` twice, then getstatic and `show`
     (
+        "`more` twice, then getstatic and `show`",
         b"\xb8\0\x16\xb8\0\x16\xb2\0\x0b\xb8\0\x0f\xb1",
         &[2, 4, 4],
         None,
     ),
-    // istore_0 iload_0: the local is kept
-    (b"\x08\x3b\x07\x1a\x60\xb8\0\x0f\xb1", &[9], None),
-    // iadd of nothing
-    (b"\x60\xb1", &[], Some((0, 1))),
-    // three operands, where there is room for two
-    (b"\x03\x03\x03\xb1", &[], Some((2, 3))),
-    // no return
-    (b"\x03\xb3\0\x0b", &[], Some((1, 5))),
+    (
+        "istore_0 iload_0: the local is kept",
+        b"\x08\x3b\x07\x1a\x60\xb8\0\x0f\xb1",
+        &[9],
+        None,
+    ),
+    ("iadd of nothing", b"\x60\xb1", &[], Some((0, 1))),
+    (
+        "three operands, where there is room for two",
+        b"\x03\x03\x03\xb1",
+        &[],
+        Some((2, 3)),
+    ),
+    ("no return", b"\x03\xb3\0\x0b", &[], Some((1, 5))),
 ];
 
 // The bytes of `Shop` with this code of `main`.
@@ -113,31 +128,58 @@ fn run(machine: &mut Machine, numbers: &mut Vec<i32>) -> Result<Option<(u32, u8)
     Err(Fail::from("the run is short"))
 }
 
+// Whether the code makes these events, and bad code is met there.
+fn code_makes(
+    alloc: Global,
+    code: &[u8],
+    expected: &[i32],
+    bad: Option<(u32, u8)>,
+) -> Result<bool, Fail> {
+    let bytes = bytes_with(alloc, code)?;
+    if bytes.len() > 1000 {
+        return Ok(false);
+    }
+    let mut machine = machine(alloc, bytes.as_slice())?;
+    let mut numbers = Vec::new(alloc);
+    let met = run(&mut machine, &mut numbers)?;
+    Ok(met == bad && numbers.as_slice() == expected)
+}
+
 #[test]
 fn code_runs(rt: HostRuntime) -> Result<(), Fail> {
-    let alloc = rt.alloc();
-    for (code, expected, bad) in RUNS {
-        let bytes = bytes_with(alloc, code)?;
-        assert!(rt; bytes.len() < 1000);
-        let mut machine = machine(alloc, &bytes)?;
-        let mut numbers = Vec::new(alloc);
-        assert_eq!(rt; run(&mut machine, &mut numbers)?, bad);
-        assert_eq!(rt; numbers.as_slice(), expected);
+    for (name, code, expected, bad) in RUNS {
+        expect(code_makes(rt.alloc(), code, expected, *bad)?, name)?;
     }
     Ok(())
 }
 
+const CHANNELS: &[(&str, &[u8], Option<u32>)] = &[
+    ("an input fits", b"ask", None),
+    ("an output does not", b"show", Some(0)),
+];
+
+// Whether an input for this channel of the class fits.
+fn fits(alloc: Global, file: &ClassFile, channel: &[u8], unfit: Option<u32>) -> Result<bool, Fail> {
+    if !Name::is_name(channel) {
+        return Ok(false);
+    }
+    let inputs = inputs(alloc, Name::new(alloc, channel)?)?;
+    Ok(inputs_fit(file, &inputs) == unfit)
+}
+
+fn file_of(alloc: Global, bytes: &[u8]) -> Result<ClassFile, Fail> {
+    if bytes.len() > 1000 {
+        return Err(Fail::new("the file is short"));
+    }
+    Ok(read_class(alloc, bytes)?)
+}
+
 #[test]
 fn channels_are_looked_for(rt: HostRuntime) -> Result<(), Fail> {
-    let alloc = rt.alloc();
-    let bytes = bytes_with(alloc, b"\xb1")?;
-    assert!(rt; bytes.len() < 1000);
-    let file = read_class(alloc, &bytes)
-        .ok()
-        .ok_or("the bytes are a class file")?;
-    let known = inputs(alloc, Name::new(alloc, b"ask")?)?;
-    assert_eq!(rt; inputs_fit(&file, &known), None);
-    let output = inputs(alloc, Name::new(alloc, b"show")?)?;
-    assert_eq!(rt; inputs_fit(&file, &output), Some(0));
+    let bytes = bytes_with(rt.alloc(), b"\xb1")?;
+    let file = file_of(rt.alloc(), bytes.as_slice())?;
+    for (name, channel, unfit) in CHANNELS {
+        expect(fits(rt.alloc(), &file, channel, *unfit)?, name)?;
+    }
     Ok(())
 }

@@ -1,7 +1,10 @@
 use crate::expect::expect;
 use crate::programs::{FOUR_STEPS, OUTPUT_IS_READ, program_of};
 use par_lexer::lex;
-use par_straight::program::{Action, Operand, Program, Step};
+use par_lexer::list::List;
+use par_policy::Policy;
+use par_straight::program::{Action, Operand, Permission, Program, Step};
+use par_straight_names::policies::{bottom, policy_of};
 use par_straight_names::resolve::{ResolveError, resolve};
 use par_straight_reader::reader::parse;
 use std::alloc::Global;
@@ -54,4 +57,37 @@ fn is_refused(alloc: Global, source: &[u8]) -> Result<bool, Fail> {
 #[test]
 fn an_output_is_not_read(rt: HostRuntime) -> Result<(), Fail> {
     expect(is_refused(rt.alloc(), OUTPUT_IS_READ)?, "an output is read")
+}
+
+// The policy by which one actor sees where one lock is open.
+fn policy_by(alloc: Global, actor: u8, lock: u16) -> Result<Policy, Fail> {
+    let mut locks = List::new(alloc);
+    locks.push(lock)?;
+    let mut permissions = Vec::new(alloc);
+    permissions.push(Permission { actor, locks })?;
+    Ok(policy_of(alloc, permissions.as_slice())?)
+}
+
+// Whether the policy has one clause, of this actor and this lock.
+fn has_clause(policy: &Policy, actor: u8, lock: u16) -> bool {
+    match policy.clauses() {
+        [clause] => clause.actor == actor && clause.locks.has(lock),
+        _ => false,
+    }
+}
+
+// Whether the policy has a clause for each of two actors.
+fn is_for_two(policy: &Policy) -> bool {
+    match policy.clauses() {
+        [first, second] => (first.actor, second.actor) == (0, 1),
+        _ => false,
+    }
+}
+
+#[test]
+fn clauses_become_policies(rt: HostRuntime) -> Result<(), Fail> {
+    let by_lock = policy_by(rt.alloc(), 1, 7)?;
+    expect(has_clause(&by_lock, 1, 7), "an actor with a lock")?;
+    let bottom = bottom(rt.alloc(), 2)?;
+    expect(is_for_two(&bottom), "bottom of two actors")
 }

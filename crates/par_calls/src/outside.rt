@@ -1,5 +1,7 @@
 use crate::expect::expect;
-use par_io::{Folder, HostFolder, HostSink, MemFolder, MemSink, ReadFail, Sink, WriteFail};
+use par_io::{
+    Folder, HostFolder, HostSink, MemFolder, MemSink, NoMemory, ReadFail, Sink, WriteFail,
+};
 use std::alloc::Global;
 use std::test::Fail;
 use std::{env, fs, process};
@@ -36,32 +38,40 @@ fn holds(folder: &MemFolder, name: &str, bytes: &[u8]) -> bool {
     folder.get(name) == Some(bytes)
 }
 
-#[test]
-fn a_folder_in_memory_reads_and_writes(rt: HostRuntime) -> Result<(), Fail> {
-    let alloc = rt.alloc();
+// A folder whose file was added twice, and whose fourth read and second write fail.
+fn folder_of_one(alloc: Global) -> Result<MemFolder, NoMemory> {
     let mut folder = MemFolder::new(alloc);
     folder.add("a", b"one")?;
     folder.add("a", b"three")?;
     folder.fail_read(4)?;
     folder.fail_write(2, 9)?;
     folder.fail_write(2, 2)?;
+    Ok(folder)
+}
+
+// What fails, by the file, the limit and the fault.
+const FAULTS: &[(&str, &str, u64, ReadFail)] = &[
+    ("4 bytes", "a", 4, ReadFail::TooLong),
+    ("no file", "b", 4, ReadFail::Absent),
+    ("the fourth read", "a", 5, ReadFail::Failed),
+];
+
+fn check_faults(alloc: Global, folder: &mut MemFolder) -> Result<(), Fail> {
+    for (row, name, limit, fault) in FAULTS {
+        expect(fails(alloc, folder, name, *limit, *fault), row)?;
+    }
+    Ok(())
+}
+
+#[test]
+fn a_folder_in_memory_reads_and_writes(rt: HostRuntime) -> Result<(), Fail> {
+    let mut folder = folder_of_one(rt.alloc())?;
     expect(
-        reads(alloc, &mut folder, "a", 5, b"three"),
+        reads(rt.alloc(), &mut folder, "a", 5, b"three"),
         "a file of 5 bytes",
     )?;
-    expect(
-        fails(alloc, &mut folder, "a", 4, ReadFail::TooLong),
-        "4 bytes",
-    )?;
-    expect(
-        fails(alloc, &mut folder, "b", 4, ReadFail::Absent),
-        "no file",
-    )?;
-    expect(
-        fails(alloc, &mut folder, "a", 5, ReadFail::Failed),
-        "the fourth read",
-    )?;
-    expect(writes_once(alloc, &mut folder), "the second write")?;
+    check_faults(rt.alloc(), &mut folder)?;
+    expect(writes_once(rt.alloc(), &mut folder), "the second write")?;
     expect(holds(&folder, "b", b"fi"), "two bytes are left")?;
     expect(holds(&folder, "a", b"three"), "the other file is kept")
 }
@@ -83,22 +93,23 @@ fn a_sink_in_memory_keeps_what_fits(rt: HostRuntime) -> Result<(), Fail> {
     )
 }
 
+// Whether no file of this name is there, and it is read once it was written.
+fn keeps<F: Folder>(alloc: Global, folder: &mut F, name: &str) -> bool {
+    fails(alloc, folder, name, 9, ReadFail::Absent)
+        && folder.write(alloc, name, b"some text").is_ok()
+        && reads(alloc, folder, name, 9, b"some text")
+        && fails(alloc, folder, name, 8, ReadFail::TooLong)
+}
+
 #[test]
 fn the_system_keeps_a_file_and_takes_a_line(rt: HostRuntime) -> Result<(), Fail> {
     let alloc = rt.alloc();
     let place = env::temp_dir(&rt)?;
     let name = format!(in alloc; "{}/par_io_{}", place.as_str(), process::id(rt.process()))?;
     let name = name.as_str();
-    let mut folder = HostFolder::new(&rt);
     expect(
-        fails(alloc, &mut folder, name, 9, ReadFail::Absent),
-        "no file",
-    )?;
-    expect(folder.write(alloc, name, b"some text").is_ok(), "a write")?;
-    expect(reads(alloc, &mut folder, name, 9, b"some text"), "9 bytes")?;
-    expect(
-        fails(alloc, &mut folder, name, 8, ReadFail::TooLong),
-        "8 bytes",
+        keeps(alloc, &mut HostFolder::new(&rt), name),
+        "a file is kept",
     )?;
     fs::remove_file(&rt, name)?;
     expect(HostSink::new(&rt).put(b"a line\n").is_ok(), "a line")

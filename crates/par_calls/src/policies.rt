@@ -99,8 +99,9 @@ const CLAUSES: &[(&str, Part, Part, bool)] = &[
     ("another actor", (ALICE, &[]), (BOB, &[GOLD]), false),
 ];
 
+// Whether a copy of the one is below the other.
 fn is_clause_below(alloc: Global, one: &Part, other: &Part) -> Result<bool, NoMemory> {
-    let one = clause(alloc, one)?;
+    let one = clause(alloc, one)?.clone()?;
     let other = clause(alloc, other)?;
     Ok(clause_leq(&one, &other))
 }

@@ -55,14 +55,28 @@ fn is_cut(run: &SourceRun) -> bool {
     run.events.len() == 0 && matches!(run.ending, Ending::Stopped)
 }
 
+// The run on the key 42, at most so many steps.
+fn run_for(alloc: Global, program: &Program, steps: u64) -> Result<SourceRun, Fail> {
+    let inputs = key(alloc, 42)?;
+    Ok(run_source(alloc, program, &inputs, steps)?)
+}
+
+fn shows_key(alloc: Global, program: &Program) -> Result<bool, Fail> {
+    Ok(is_shown(&run_for(alloc, program, 5)?, 42))
+}
+
+fn shows_nothing(alloc: Global, program: &Program) -> Result<bool, Fail> {
+    Ok(is_cut(&run_for(alloc, program, 4)?))
+}
+
 #[test]
 fn the_key_is_shown(rt: HostRuntime) -> Result<(), Fail> {
     let program = program_of(rt.alloc(), SHOP)?;
-    let inputs = key(rt.alloc(), 42)?;
-    let whole = run_source(rt.alloc(), &program, &inputs, 5)?;
-    expect(is_shown(&whole, 42), "the key is shown")?;
-    let cut = run_source(rt.alloc(), &program, &inputs, 4)?;
-    expect(is_cut(&cut), "four steps put out nothing")
+    expect(shows_key(rt.alloc(), &program)?, "the key is shown")?;
+    expect(
+        shows_nothing(rt.alloc(), &program)?,
+        "four steps put out nothing",
+    )
 }
 
 const OBSERVERS: &[(&str, u8, &[u16], bool)] = &[

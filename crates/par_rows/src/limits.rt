@@ -173,12 +173,16 @@ fn row_holds(alloc: Global, row: &Row) -> Result<bool, NoMemory> {
     line_checks_as(alloc, row.1, line.as_str(), row.3)
 }
 
-#[test]
-fn limits_are_kept(rt: HostRuntime) -> Result<(), Fail> {
-    for row in ROWS {
-        expect(row_holds(rt.alloc(), row)?, row.0)?;
+fn check_limits(alloc: Global, rows: &[Row]) -> Result<(), Fail> {
+    for row in rows {
+        expect(row_holds(alloc, row)?, row.0)?;
     }
     Ok(())
+}
+
+#[test]
+fn limits_are_kept(rt: HostRuntime) -> Result<(), Fail> {
+    check_limits(rt.alloc(), ROWS)
 }
 
 /// The common source, with blanks behind it, as many as make it so long.

@@ -1,6 +1,5 @@
 use Rattle.std.proofs.Common.{subst, sym}
 use Rattle.par_lexer.specs.Tokens.{HasTokens}
-use Rattle.par_straight.specs.Judged.{HasProgram}
 use Rattle.par_calls.proofs.programs.program_of.Goals as goal
 
 -- its tokens, its tree and its program
