@@ -3,12 +3,14 @@
 //!
 //! No contract can say which words, files and output the system has, nor what of them is told. So
 //! the contracts here say only that the words which were taken are those that are asked about, and
-//! that the status is handed on.
+//! that the status is one which has a cause for these words, over some files and some output that
+//! tell nothing.
 #![tactic(auto)]
 
 ghost use Rattle.std.specs.Prelude.{◌≡◌, ◌≢◌, IfOk, IfErr};
 ghost use Rattle.std.specs.IoError.{error_kind};
 ghost use Rattle.std.specs.Process.{exit_status};
+ghost use Rattle.par_main.specs.Causes.{HasCause};
 ghost use Rattle.par_tool.specs.Exactly.{IsSaidBy};
 ghost use Rattle.par_words.specs.Words.{Asks, Wanted};
 
@@ -37,6 +39,9 @@ fn done<R: Files + Print + AllocGlobal>(
     which: Which,
     words: io::Result<Vec<String>>,
 ) -> ExitCode
+    ensures cause { IfOk words (λ taken. HasCause which taken.items (exit_status result)) }
+    ensures form { IfOk words (λ taken.
+        (w : Wanted) → Asks which taken.items w → exit_status result ≢ 2) }
     ensures usage { IfOk words (λ taken.
         ((w : Wanted) → Asks which taken.items w → ⊥) → IsSaidBy (exit_status result) 2) }
     ensures no_memory { IfErr words (λ error.
@@ -55,6 +60,8 @@ fn done<R: Files + Print + AllocGlobal>(
 
 /// Does what the words ask for, over the files and the output of the system.
 fn asked<R: Files + Print + AllocGlobal>(rt: &R, which: Which, words: &[String]) -> u8
+    ensures cause { HasCause which words.now result }
+    ensures form { (w : Wanted) → Asks which words.now w → result ≢ 2 }
     ensures usage { ((w : Wanted) → Asks which words.now w → ⊥) → IsSaidBy result 2 }
 {
     let mut folder = HostFolder::new(rt);

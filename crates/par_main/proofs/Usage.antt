@@ -1,0 +1,52 @@
+-- Words that ask for something have no cause for the status of `usage`.
+use Rattle.std.proofs.Common.{◌≡◌, ℕ, List, Option, refl, sym, subst, ◌∙◌, inl, inr, arith}
+use Rattle.std.specs.declared.string.String.{String}
+use Rattle.std.specs.declared.alloc.Global.{Global}
+use Rattle.par_io.specs.Saying.{Said, whole, cut, unsaid}
+use Rattle.par_values.specs.Ran.{Outcome, Fine, BadCode}
+use Rattle.par_values.specs.declared.run.Ending.TheVariants.{End, Uncaught, Stopped}
+use Rattle.par_words.specs.declared.words.Which.{Which}
+use Rattle.par_words.specs.Words.{Wanted, Check, Compile, Run, Asks}
+use Rattle.par_runner.specs.Texts as told
+use Rattle.par_tool.specs.declared.answer.Answer.{Answer}
+use Rattle.par_tool.specs.declared.answer.Answer.TheVariants.{Accepted, Compiled, Refused, Usage, Absent, ReadFault, WriteFault, TooLong, NotBuilt, BadInputs}
+use Rattle.par_tool.specs.Texts.{status}
+use Rattle.par_tool.specs.Outside.{Text}
+use Rattle.par_tool.specs.Answers.{Scene, Cause, Ends, misses, answers, runs, lacks_memory}
+
+-- no other answer has this status
+usage_alone : (a : Answer) → status a ≡ 2 → a ≡ Usage
+usage_alone Accepted is = absurd (omega (arith, is))
+usage_alone (Compiled files) is = absurd (omega (arith, is))
+usage_alone (Refused rule line column) is = absurd (omega (arith, is))
+usage_alone Usage is = refl
+usage_alone Absent is = absurd (omega (arith, is))
+usage_alone ReadFault is = absurd (omega (arith, is))
+usage_alone WriteFault is = absurd (omega (arith, is))
+usage_alone TooLong is = absurd (omega (arith, is))
+usage_alone NotBuilt is = absurd (omega (arith, is))
+usage_alone (BadInputs line) is = absurd (omega (arith, is))
+
+-- and no ending of a run has it
+no_ending : (o : Outcome) → told.status o ≡ 2 → ⊥
+no_ending (Fine End) is = omega (arith, is)
+no_ending (Fine (Uncaught class)) is = omega (arith, is)
+no_ending (Fine Stopped) is = omega (arith, is)
+no_ending (BadCode class method offset reason) is = omega (arith, is)
+
+no_cause : (s : Scene) (w : Wanted) → Cause s w Usage → ⊥
+no_cause s (Check file) c = c.0
+no_cause s (Compile file) c = c.1
+no_cause s (Run main inputs steps) c = elim c.0 [ inl never ↦ never | inr had ↦ had.2 ]
+
+said_so : (number result : ℕ) (lines : List Text) (old new : Option Text) (f g : ℕ) → Said number lines result old new f g → result ≡ 2 → number ≡ 2
+said_so number result lines old new f g (whole is put) two = sym is ∙ two
+said_so number result lines old new f g (cut is rose put) two = absurd (omega (arith, is, two))
+said_so number result lines old new f g (unsaid many few is put) two = absurd (omega (arith, is, two))
+
+pub no_usage : (which : Which) (words : List (String Global)) (s : Scene) (result : ℕ) (old new : Option Text) (f g : ℕ) (w : Wanted) → Asks which words w → Ends which words s result old new f g → result ≡ 2 → ⊥
+no_usage which words s result old new f g w asks (misses none stand said) two = none w asks
+no_usage which words s result old new f g w asks (answers v a asked cause said) two =
+    no_cause s v (subst (Cause s v) (usage_alone a (said_so _ _ _ _ _ _ _ said.said two)) cause)
+no_usage which words s result old new f g w asks (runs v ran asked cause said) two = no_ending ran.ending (said_so _ _ _ _ _ _ _ said two)
+no_usage which words s result old new f g w asks (lacks_memory is put stand) two = omega (arith, is, two)

@@ -1,0 +1,18 @@
+-- What is said of a status where neither the files nor the output tell what they hold.
+use Rattle.std.specs.Prelude.{ℕ, List, None}
+use Rattle.std.specs.declared.string.String.{String}
+use Rattle.std.specs.declared.alloc.Global.{Global}
+use Rattle.par_io.specs.Causes.{Counts}
+use Rattle.par_words.specs.declared.words.Which.{Which}
+use Rattle.par_tool.specs.Answers.{Scene, Ends}
+use Rattle.par_tool.specs.Outside.{counts}
+
+-- files that tell no content, and all of whose counts are 0 before the call
+abbrev pub untold : Counts → Scene
+untold after = record { files = None; later = None; before = counts 0 0 0; after = after }
+
+-- A call with this status ends as the words say, for some counts of the files and of the output.
+pub record HasCause (which : Which) (words : List (String Global)) (status : ℕ) : Type 0 where
+  pub after : Counts
+  pub faults : ℕ
+  pub ends : Ends which words (untold after) status None None 0 faults
