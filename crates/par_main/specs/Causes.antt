@@ -1,5 +1,5 @@
 -- What is said of a status where neither the files nor the output tell what they hold.
-use Rattle.std.specs.Prelude.{ℕ, List, None}
+use Rattle.std.specs.Prelude.{◌≡◌, ℕ, List, None}
 use Rattle.std.specs.declared.string.String.{String}
 use Rattle.std.specs.declared.alloc.Global.{Global}
 use Rattle.par_io.specs.Causes.{Counts}
@@ -16,3 +16,9 @@ pub record HasCause (which : Which) (words : List (String Global)) (status : ℕ
   pub after : Counts
   pub faults : ℕ
   pub ends : Ends which words (untold after) status None None 0 faults
+
+-- How a program ends: by what its words ask for, or because they could not be taken.
+pub data IsEnd (which : Which) (status : ℕ) : Type 0 where
+  answered : (words : List (String Global)) → HasCause which words status → IsEnd which status
+  lacks_memory : status ≡ 7 → IsEnd which status
+  lacks_words : status ≡ 16 → IsEnd which status

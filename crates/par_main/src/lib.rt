@@ -10,7 +10,7 @@
 ghost use Rattle.std.specs.Prelude.{◌≡◌, ◌≢◌, IfOk, IfErr};
 ghost use Rattle.std.specs.IoError.{error_kind};
 ghost use Rattle.std.specs.Process.{exit_status};
-ghost use Rattle.par_main.specs.Causes.{HasCause};
+ghost use Rattle.par_main.specs.Causes.{HasCause, IsEnd, answered, lacks_memory, lacks_words};
 ghost use Rattle.par_tool.specs.Exactly.{IsSaidBy};
 ghost use Rattle.par_words.specs.Words.{Asks, Wanted};
 
@@ -29,7 +29,9 @@ const NO_MEMORY: u8 = 7;
 const NO_WORDS: u8 = 16;
 
 /// Runs one of the programs, and gives the status that it ends with.
-pub fn run<R: Files + Print + env::Env + AllocGlobal>(rt: &R, which: Which) -> ExitCode {
+pub fn run<R: Files + Print + env::Env + AllocGlobal>(rt: &R, which: Which) -> ExitCode
+    ensures ended { IsEnd which (exit_status result) }
+{
     done(rt, which, words(rt))
 }
 
@@ -39,6 +41,7 @@ fn done<R: Files + Print + AllocGlobal>(
     which: Which,
     words: io::Result<Vec<String>>,
 ) -> ExitCode
+    ensures ended { IsEnd which (exit_status result) }
     ensures cause { IfOk words (λ taken. HasCause which taken.items (exit_status result)) }
     ensures form { IfOk words (λ taken.
         (w : Wanted) → Asks which taken.items w → exit_status result ≢ 2) }
