@@ -17,7 +17,11 @@ mod faults;
 #[cfg(test)]
 mod limits;
 #[cfg(test)]
+mod refusals;
+#[cfg(test)]
 mod runs;
+#[cfg(test)]
+mod sentences;
 #[cfg(test)]
 mod sources;
 #[cfg(test)]

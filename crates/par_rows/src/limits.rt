@@ -21,7 +21,7 @@ static ROWS: &[Row] = &[
         "tokens nest 65 deep",
         8,
         &[("show(1", 1), (" + 1", 63), (");", 1)],
-        NOT_BUILT,
+        ("refused 11 at 8:512\n", 1),
     ),
     // each statement begins a count of its own
     (
@@ -46,7 +46,7 @@ static ROWS: &[Row] = &[
             (" + 1", 64),
             (";", 1),
         ],
-        NOT_BUILT,
+        ("refused 11 at 8:786\n", 1),
     ),
     // an assignment of a number has 3 nodes, `open` has 1, and the block is one
     (
@@ -125,7 +125,7 @@ static ROWS: &[Row] = &[
         "a name of 65 bytes",
         6,
         &[("?{} static int ", 1), ("n", 65), (";", 1)],
-        NOT_BUILT,
+        ("refused 4 at 6:96\n", 1),
     ),
 ];
 
@@ -183,6 +183,153 @@ fn check_limits(alloc: Global, rows: &[Row]) -> Result<(), Fail> {
 #[test]
 fn limits_are_kept(rt: HostRuntime) -> Result<(), Fail> {
     check_limits(rt.alloc(), ROWS)
+}
+
+/// Blocks, each `else`, and the signs, `.` and `(` of an expression nest; the main block is one.
+static NESTING: &[Row] = &[
+    (
+        "a block of 64 braces",
+        8,
+        &[("{ ", 63), ("} ", 63)],
+        NOT_BUILT,
+    ),
+    (
+        "a block of 65 braces",
+        8,
+        &[("{ ", 64), ("} ", 64)],
+        ("refused 11 at 8:127\n", 1),
+    ),
+    (
+        "a chain of 62 else",
+        8,
+        &[("if (true) { } else ", 62), ("{ }", 1)],
+        NOT_BUILT,
+    ),
+    (
+        "a chain of 63 else",
+        8,
+        &[("if (true) { } else ", 63), ("{ }", 1)],
+        ("refused 11 at 8:1198\n", 1),
+    ),
+    (
+        "a chain of 63 else if",
+        8,
+        &[("if (true) { } else ", 62), ("if (true) { }", 1)],
+        NOT_BUILT,
+    ),
+    (
+        "a chain of 64 else if",
+        8,
+        &[("if (true) { } else ", 63), ("if (true) { }", 1)],
+        ("refused 11 at 8:1208\n", 1),
+    ),
+    (
+        "63 signs in a row",
+        8,
+        &[("int x = ", 1), ("- ", 63), ("1;", 1)],
+        NOT_BUILT,
+    ),
+    (
+        "64 signs in a row",
+        8,
+        &[("int x = ", 1), ("- ", 64), ("1;", 1)],
+        ("refused 11 at 8:135\n", 1),
+    ),
+    (
+        "62 parentheses in a call",
+        8,
+        &[("show(", 1), ("(", 62), ("1", 1), (")", 63), (";", 1)],
+        NOT_BUILT,
+    ),
+    (
+        "63 parentheses in a call",
+        8,
+        &[("show(", 1), ("(", 63), ("1", 1), (")", 64), (";", 1)],
+        ("refused 11 at 8:68\n", 1),
+    ),
+    (
+        "a target and a value of 63 together",
+        8,
+        &[("got", 1), (".f", 30), (" = 1", 1), (" + 1", 33), (";", 1)],
+        NOT_BUILT,
+    ),
+    (
+        "a target and a value of 64 together",
+        8,
+        &[("got", 1), (".f", 30), (" = 1", 1), (" + 1", 34), (";", 1)],
+        ("refused 11 at 8:201\n", 1),
+    ),
+    (
+        "blocks, an else and parentheses, 64 together",
+        8,
+        &[
+            ("{ ", 20),
+            ("if (true) { } else { ", 1),
+            ("show(", 1),
+            ("(", 40),
+            ("1", 1),
+            (")", 41),
+            ("; }", 1),
+            (" }", 20),
+        ],
+        NOT_BUILT,
+    ),
+    (
+        "blocks, an else and parentheses, 65 together",
+        8,
+        &[
+            ("{ ", 20),
+            ("if (true) { } else { ", 1),
+            ("show(", 1),
+            ("(", 41),
+            ("1", 1),
+            (")", 42),
+            ("; }", 1),
+            (" }", 20),
+        ],
+        ("refused 11 at 8:107\n", 1),
+    ),
+    (
+        "a test begins a count of its own",
+        8,
+        &[("while (1", 1), (" + 1", 63), (" > 0) { }", 1)],
+        ("refused 11 at 8:262\n", 1),
+    ),
+    (
+        "a test counts its signs",
+        8,
+        &[
+            ("int x = 1", 1),
+            (" + 1", 62),
+            ("; while (1", 1),
+            (" + 1", 62),
+            (" > 0) { }", 1),
+        ],
+        NOT_BUILT,
+    ),
+    (
+        "the parentheses of when count nothing",
+        8,
+        &[("when (Paid) { ", 62), ("} ", 62)],
+        NOT_BUILT,
+    ),
+    (
+        "an else of when counts",
+        8,
+        &[("when (Paid) { } else { ", 31), ("} ", 31)],
+        NOT_BUILT,
+    ),
+    (
+        "an else of when counts, one too many",
+        8,
+        &[("when (Paid) { } else { ", 32), ("} ", 32)],
+        ("refused 11 at 8:735\n", 1),
+    ),
+];
+
+#[test]
+fn tokens_nest_up_to_64_deep(rt: HostRuntime) -> Result<(), Fail> {
+    check_limits(rt.alloc(), NESTING)
 }
 
 /// The common source, with blanks behind it, as many as make it so long.

@@ -7,9 +7,9 @@ use std::test::Fail;
 const DECLARATIONS: &[(usize, &str, Answer)] = &[
     (1, "actor alice;", NOT_BUILT),
     (1, "actor alice, bob, alice;", NOT_BUILT),
-    (1, "actor alice bob;", NOT_BUILT),
+    (1, "actor alice bob;", ("refused 10 at 1:13\n", 1)),
     (1, "", NOT_BUILT),
-    (2, "lock Paid, Gold;", NOT_BUILT),
+    (2, "lock Paid, Gold;", ("refused 10 at 2:10\n", 1)),
     (2, "lock Paid; lock Paid;", NOT_BUILT),
     (2, "lock Paid; lock Gold;", ACCEPTED),
     (2, "lock Paid(actor);", NOT_BUILT),
@@ -19,18 +19,18 @@ const DECLARATIONS: &[(usize, &str, Answer)] = &[
     (3, "class alice {", ACCEPTED),
     (3, "class ArithmeticException {", NOT_BUILT),
     (3, "class NullPointerException {", NOT_BUILT),
-    (3, "class Exception {", NOT_BUILT),
+    (3, "class Exception {", ("refused 10 at 3:7\n", 1)),
     (3, "class Shop ?top {", NOT_BUILT),
     (7, "static void other() !bottom {", NOT_BUILT),
     (7, "static void main() {", NOT_BUILT),
     (7, "static int main() !bottom {", NOT_BUILT),
     (7, "static void main(int x) !bottom {", NOT_BUILT),
     (7, "static void main() !top {", NOT_BUILT),
-    (10, "", NOT_BUILT),
-    (10, "} }", NOT_BUILT),
+    (10, "", ("refused 10 at 11:1\n", 1)),
+    (10, "} }", ("refused 10 at 10:3\n", 1)),
     (10, "} class Other { }", NOT_BUILT),
     (10, "} // the end", ACCEPTED),
-    (10, "} /* the end", NOT_BUILT),
+    (10, "} /* the end", ("refused 3 at 10:3\n", 1)),
 ];
 
 #[test]
@@ -41,19 +41,47 @@ fn declarations_are_read(rt: HostRuntime) -> Result<(), Fail> {
 const MEMBERS: &[(usize, &str, Answer)] = &[
     (4, "?{alice:; bob: Gold} input int key();", NOT_BUILT),
     (4, "?{carol:} input int key();", NOT_BUILT),
-    (4, "?{alice:;} input int key();", NOT_BUILT),
-    (4, "?{alice: Paid,} input int key();", NOT_BUILT),
-    (4, "?{alice bob:} input int key();", NOT_BUILT),
+    (
+        4,
+        "?{alice:;} input int key();",
+        ("refused 10 at 4:10\n", 1),
+    ),
+    (
+        4,
+        "?{alice: Paid,} input int key();",
+        ("refused 10 at 4:15\n", 1),
+    ),
+    (
+        4,
+        "?{alice bob:} input int key();",
+        ("refused 10 at 4:9\n", 1),
+    ),
     (4, "?{alice: Paid, Paid} input int key();", ACCEPTED),
     (4, "?{} input int key();", ACCEPTED),
     (4, "?bottom input int key();", NOT_BUILT),
     (4, "input int key();", NOT_BUILT),
     (4, "?{alice:} input int show();", NOT_BUILT),
     (4, "?{alice:} input int main();", NOT_BUILT),
-    (4, "?{alice:} input void key();", NOT_BUILT),
-    (4, "?{alice:} input int key(int v);", NOT_BUILT),
-    (5, "?{alice:; bob:} output int show(int v);", NOT_BUILT),
-    (5, "?{alice:; bob:} output void show();", NOT_BUILT),
+    (
+        4,
+        "?{alice:} input void key();",
+        ("refused 10 at 4:17\n", 1),
+    ),
+    (
+        4,
+        "?{alice:} input int key(int v);",
+        ("refused 10 at 4:25\n", 1),
+    ),
+    (
+        5,
+        "?{alice:; bob:} output int show(int v);",
+        ("refused 10 at 5:24\n", 1),
+    ),
+    (
+        5,
+        "?{alice:; bob:} output void show();",
+        ("refused 10 at 5:34\n", 1),
+    ),
     (5, "?{alice:; bob:} output void show(int show);", ACCEPTED),
     (
         6,
@@ -80,8 +108,8 @@ const WITHOUT_A_CLASS: &[(&str, Answer)] = &[
     ("", NOT_BUILT),
     ("// nothing\n", NOT_BUILT),
     ("actor alice;", NOT_BUILT),
-    ("#", NOT_BUILT),
-    ("show(1);", NOT_BUILT),
+    ("#", ("refused 1 at 1:1\n", 1)),
+    ("show(1);", ("refused 10 at 1:1\n", 1)),
 ];
 
 #[test]

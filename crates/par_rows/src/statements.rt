@@ -57,29 +57,29 @@ const OTHERS: &[(&str, Answer)] = &[
     ("show(key);", NOT_BUILT),
     ("show(show());", NOT_BUILT),
     ("show();", NOT_BUILT),
-    ("show(1)", NOT_BUILT),
-    ("show(1);;", NOT_BUILT),
-    ("show(1 +);", NOT_BUILT),
+    ("show(1)", ("refused 10 at 9:1\n", 1)),
+    ("show(1);;", ("refused 10 at 8:9\n", 1)),
+    ("show(1 +);", ("refused 10 at 8:9\n", 1)),
     ("show(1 - 1);", NOT_BUILT),
     ("show((1));", NOT_BUILT),
-    ("show(01);", NOT_BUILT),
+    ("show(01);", ("refused 1 at 8:6\n", 1)),
     ("show(2147483648);", NOT_BUILT),
     ("key();", NOT_BUILT),
     ("key(1);", NOT_BUILT),
     ("x = 1;", NOT_BUILT),
     ("key = 1;", NOT_BUILT),
-    ("int x;", NOT_BUILT),
+    ("int x;", ("refused 10 at 8:6\n", 1)),
     ("int x = x;", NOT_BUILT),
     ("int x = 1; int x = 2;", NOT_BUILT),
     ("boolean x = true;", NOT_BUILT),
-    ("got = 1 got = 2;", NOT_BUILT),
+    ("got = 1 got = 2;", ("refused 10 at 8:9\n", 1)),
     ("{ }", NOT_BUILT),
-    ("/* show(1);", NOT_BUILT),
-    ("show(1#2);", NOT_BUILT),
+    ("/* show(1);", ("refused 3 at 8:1\n", 1)),
+    ("show(1#2);", ("refused 1 at 8:7\n", 1)),
 ];
 
 #[test]
-fn other_bodies_are_not_built(rt: HostRuntime) -> Result<(), Fail> {
+fn other_bodies_are_refused_or_not_built(rt: HostRuntime) -> Result<(), Fail> {
     check_bodies(rt.alloc(), OTHERS)
 }
 
