@@ -4,43 +4,48 @@
 use crate::call::{ACCEPTED, Answer, check_sources};
 use std::test::Fail;
 
-const BYTE: &str = r#"actor alice;
+const BYTE: &str = "\
+actor alice;
 class Gift {
   ?{alice:} output void show(int v);
   static void main() !bottom {
     show(01);
   }
 }
-"#;
+";
 
-const BYTE_MENDED: &str = r#"actor alice;
+const BYTE_MENDED: &str = "\
+actor alice;
 class Gift {
   ?{alice:} output void show(int v);
   static void main() !bottom {
     show(1);
   }
 }
-"#;
+";
 
-const NUMBER: &str = r#"actor alice;
+const NUMBER: &str = "\
+actor alice;
 class Gift {
   ?{alice:} output void show(int v);
   static void main() !bottom {
     show(4294967296);
   }
 }
-"#;
+";
 
-const NUMBER_MENDED: &str = r#"actor alice;
+const NUMBER_MENDED: &str = "\
+actor alice;
 class Gift {
   ?{alice:} output void show(int v);
   static void main() !bottom {
     show(2147483647);
   }
 }
-"#;
+";
 
-const COMMENT: &str = r#"actor alice;
+const COMMENT: &str = "\
+actor alice;
 class Gift {
   ?{alice:} output void show(int v);
   static void main() !bottom {
@@ -48,9 +53,10 @@ class Gift {
     show(1);
   }
 }
-"#;
+";
 
-const COMMENT_MENDED: &str = r#"actor alice;
+const COMMENT_MENDED: &str = "\
+actor alice;
 class Gift {
   ?{alice:} output void show(int v);
   static void main() !bottom {
@@ -58,51 +64,58 @@ class Gift {
     show(1);
   }
 }
-"#;
+";
 
-const NAME: &str = r#"actor alice;
+const NAME: &str = "\
+actor alice;
 class Gift {
   ?{alice:} output void showTheNumberThatWasGivenToAliceByWhoeverRunsThisProgramInTheEndOfIt(int v);
   static void main() !bottom { }
 }
-"#;
+";
 
-const NAME_MENDED: &str = r#"actor alice;
+const NAME_MENDED: &str = "\
+actor alice;
 class Gift {
   ?{alice:} output void showTheNumber(int v);
   static void main() !bottom { }
 }
-"#;
+";
 
-const SENTENCE: &str = r#"actor alice;
+const SENTENCE: &str = "\
+actor alice;
 class Gift {
   ?{alice:} output void show(int v);
   static void main() !bottom {
     show(1)
   }
 }
-"#;
+";
 
-const SENTENCE_MENDED: &str = r#"actor alice;
+const SENTENCE_MENDED: &str = "\
+actor alice;
 class Gift {
   ?{alice:} output void show(int v);
   static void main() !bottom {
     show(1);
   }
 }
-"#;
+";
 
-const NESTING: &str = r#"actor alice;
+const NESTING: &str = "\
+actor alice;
 class Gift {
   ?{alice:} output void show(int v);
   static void main() !bottom {
-    int a = 1+1+1+1+1+1+1+1+1+1+1+1+1+1+1+1+1+1+1+1+1+1+1+1+1+1+1+1+1+1+1+1+1+1+1+1+1+1+1+1+1+1+1+1+1+1+1+1+1+1+1+1+1+1+1+1+1+1+1+1+1+1+1+1+1;
+    int a = 1+1+1+1+1+1+1+1+1+1+1+1+1+1+1+1+1+1+1+1+1+1+1+1+1+1+1+1+1+1+1+1
+      +1+1+1+1+1+1+1+1+1+1+1+1+1+1+1+1+1+1+1+1+1+1+1+1+1+1+1+1+1+1+1+1+1;
     show(a);
   }
 }
-"#;
+";
 
-const NESTING_MENDED: &str = r#"actor alice;
+const NESTING_MENDED: &str = "\
+actor alice;
 class Gift {
   ?{alice:} output void show(int v);
   static void main() !bottom {
@@ -111,7 +124,7 @@ class Gift {
     show(a);
   }
 }
-"#;
+";
 
 const ROWS: &[(&str, Answer)] = &[
     (BYTE, ("refused 1 at 5:10\n", 1)),
@@ -124,7 +137,7 @@ const ROWS: &[(&str, Answer)] = &[
     (NAME_MENDED, ACCEPTED),
     (SENTENCE, ("refused 10 at 6:3\n", 1)),
     (SENTENCE_MENDED, ACCEPTED),
-    (NESTING, ("refused 11 at 5:140\n", 1)),
+    (NESTING, ("refused 11 at 6:71\n", 1)),
     (NESTING_MENDED, ACCEPTED),
 ];
 
