@@ -1,7 +1,7 @@
 #!/usr/bin/env bash
 # Compares each example, and each source that a page shows, with the text that a test checks.
 cd "$(dirname "$0")/.." || exit 1
-rows=$(<crates/par_rows/src/examples.rt)
+rows=$(cat crates/par_rows/src/*.rt)
 status=0
 
 compare() {
