@@ -1,0 +1,4 @@
+pub mod Plain
+pub mod Nodes
+pub mod Grammar
+pub mod Values
