@@ -1,7 +1,9 @@
 -- What it means that a function reads some symbols of a grammar.
-use Rattle.std.specs.Prelude.{◌≡◌, ◌≢◌, List, [], ◌∷◌, ◌++◌, Result, Ok, Err}
+use Rattle.std.specs.Prelude.{◌≡◌, ◌≢◌, true, List, [], ◌∷◌, ◌++◌, Result, Ok, Err}
 use Rattle.std.specs.Borrow.{Bor}
 use Rattle.par_lexer.specs.declared.token.Token.{Token}
+use Rattle.par_grammar.specs.declared.sort.Sort.{Sort}
+use Rattle.par_grammar.specs.Sorts.{same, sort_of}
 use Rattle.par_grammar.specs.Grammar.{Grammar, Symbols}
 use Rattle.par_grammar.specs.Derivation.{Input, Fault, Syntax, TooDeep}
 use Rattle.par_grammar.proofs.Total.{Founded}
@@ -23,8 +25,8 @@ fault_of error.Memory = Syntax 0
 module _ {Names Builders Values : Type 0} (g : Grammar Names Builders Values) (f : Founded g) where
   -- The derivation gets past the symbols, whatever is pending behind them and whatever values lie
   -- below old: what the answer shows stands in the place of old, and j is left.
-  abbrev pub Passes : {A : Type 0} → Symbols Names Builders → List Values → (A → List Values) → Input
-      → Result A ParseError → Input → Type 0
+  abbrev pub Passes : {A : Type 0} → Symbols Names Builders → List Values → (A → List Values)
+      → Input → Result A ParseError → Input → Type 0
   Passes xs old show i (Ok a) j = (s : Symbols Names Builders) (vs : List Values)
       → run g f (xs ++ s) i (old ++ vs) ≡ run g f s j (show a ++ vs)
   Passes xs old show i (Err e) j = Unit {0}
@@ -50,6 +52,10 @@ module _ {Names Builders Values : Type 0} (g : Grammar Names Builders Values) (f
 -- no value
 abbrev pub nothing : {Values : Type 0} → Unit {0} → List Values
 nothing u = []
+
+-- the token is of this sort
+abbrev pub IsOf : Sort → Token → Type 0
+IsOf k x = same (sort_of x.kind) k ≡ true
 
 -- the value of a token that is kept
 abbrev pub the_token : {Names Builders Values : Type 0} → Grammar Names Builders Values → Bor Token

@@ -24,11 +24,11 @@ pub struct Cursor<'a, L> {
 }
 
 impl<'a, L: Language> Cursor<'a, L> {
-    ghost use Rattle.std.specs.Prelude.{◌≡◌, ◌<◌, [], ◌∷◌, OnOk, IfOk, true};
+    ghost use Rattle.std.specs.Prelude.{◌≡◌, ◌<◌, [], ◌∷◌, OnOk, IfOk};
     ghost use Rattle.par_grammar.specs.Sorts as spec;
     ghost use Rattle.par_grammar.specs.Derivation.{next};
     ghost use Rattle.par_grammar.specs.Grammar as symbol;
-    ghost use Rattle.par_reader.specs.Reads.{Reads, Steps, input, nothing, the_token};
+    ghost use Rattle.par_reader.specs.Reads.{Reads, Steps, IsOf, input, nothing, the_token};
 
     /// The sort of the next token.
     pub fn peek(&self) -> Sort
@@ -68,8 +68,7 @@ impl<'a, L: Language> Cursor<'a, L> {
     pub fn keep(&mut self, sort: Sort) -> Result<&'a Token, ParseError>
         ensures read { Reads L.grammar L.founded (symbol.kept sort ∷ []) [] (the_token L.grammar)
             (input self.old) result (input self.new) }
-        ensures sort { IfOk result (λ token.
-            spec.same (spec.sort_of token.now.kind) sort ≡ true) }
+        ensures sort { IfOk result (λ token. IsOf sort token.now) }
         ensures shorter { OnOk result (length self.new.left.now < length self.old.left.now) }
     {
         if !self.sees(sort) {
