@@ -10,6 +10,7 @@ mod laws;
 pub mod list;
 pub mod name;
 mod number;
+pub mod operator;
 mod piece;
 mod place;
 mod runs;
