@@ -13,7 +13,7 @@ use crate::name::is_super;
 use crate::place::place;
 use par_lexer::list::List;
 use par_pool::constant::{Constant, Pool};
-use par_pool::entries_of;
+use par_pool::{LONGEST_CLASS, entries_of};
 use par_pool::error::ClassError;
 use par_pool::item::{u2, u4};
 use std::alloc::Global;
@@ -157,7 +157,7 @@ fn laid_of(
 /// The whole file, behind which nothing stands.
 #[tactic(auto, unfolding(crate::specs::Reading::file_at))]
 fn whole(alloc: Global, bytes: &[u8]) -> Result<ClassFile, ClassError>
-    requires { length bytes.now ≤ 1048576 }
+    requires { length bytes.now ≤ LONGEST_CLASS }
     ensures { Gives (λ file. file) result (file_at bytes.now) }
 {
     let end = bytes.len() as u32;
@@ -170,7 +170,7 @@ fn whole(alloc: Global, bytes: &[u8]) -> Result<ClassFile, ClassError>
 
 /// The class file that the bytes spell.
 pub fn read_class(alloc: Global, bytes: &[u8]) -> Result<ClassFile, ClassError>
-    requires { length bytes.now ≤ 1048576 }
+    requires { length bytes.now ≤ LONGEST_CLASS }
     // What is read is spelled so.
     ensures found { IfOk result (λ file. Spells bytes.now file) }
     // What is spelled so is read, unless memory runs out.

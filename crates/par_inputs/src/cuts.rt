@@ -4,9 +4,9 @@ ghost use Rattle.std.specs.Prelude.{◌≡◌, ◌+◌, ◌<◌, ◌≤◌, ◌=
 ghost use Rattle.std.specs.List.{position, position_or_len, before_first, after_first};
 ghost use Rattle.par_inputs.specs.Entries.{cut_at};
 
-// The place of the first of a byte, or none where it is not there.
-fn place_of(text: &[u8], byte: u8) -> Option<usize>
-    ensures place { result ≡ position (λ other. other == byte) text.now }
+// The position of the first of a byte, or none where it is not there.
+fn position_of(text: &[u8], byte: u8) -> Option<usize>
+    ensures position { result ≡ position (λ other. other == byte) text.now }
     ensures within { IfSome result (λ at. at < length text.now) }
 {
     text.iter().position(|other| *other == byte)
@@ -17,7 +17,7 @@ pub fn cut_at(text: &[u8], byte: u8) -> Option<(&[u8], &[u8])>
     ensures { MatchOption result (cut_at byte text.now ≡ None)
         (λ halves. cut_at byte text.now ≡ Some (halves.0.now, halves.1.now)) }
 {
-    let Some(at) = place_of(text, byte) else {
+    let Some(at) = position_of(text, byte) else {
         return None;
     };
     let (before, _) = text.split_at(at);

@@ -16,4 +16,4 @@ mod seen;
 pub use laws::{entries_stand_on_their_lines, files_are_right_or_broken};
 pub use number::magnitude_of;
 pub use place::line_of_entry;
-pub use read::{LONGEST_FILE, read_inputs};
+pub use read::{LONGEST_INPUTS, read_inputs};

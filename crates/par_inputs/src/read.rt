@@ -13,7 +13,7 @@ use std::alloc::Global;
 use std::collections::BTreeSet;
 
 /// The most bytes that an input file may have.
-pub const LONGEST_FILE: usize = 1_048_576;
+pub const LONGEST_INPUTS: usize = 1_048_576;
 
 /// Reads an input file. A line ends at a byte 10, which the last one may lack, and an empty line is
 /// passed over. Each other line is a name, `.`, a name, `:` and then any number of times one space
@@ -24,7 +24,7 @@ pub const LONGEST_FILE: usize = 1_048_576;
 /// The first line that breaks this is refused by its number, where empty lines count too. The time
 /// grows with the bytes, and for each line with the logarithm of the number of lines before it.
 pub fn read_inputs(alloc: Global, bytes: &[u8]) -> Result<Inputs, BadInput>
-    requires { length bytes.now ≤ 1048576 }
+    requires { length bytes.now ≤ LONGEST_INPUTS }
     ensures right { OnOk result (IsRight bytes.now) }
     ensures entries { IfOk result (λ inputs. inputs.channels ≡ entries (lines_of bytes.now)) }
     ensures refused { IfErr result (IsRefusal bytes.now) }

@@ -1,5 +1,5 @@
 -- What an answer of the outside tells of it.
-use Rattle.std.specs.Prelude.{◌≡◌, ◌≢◌, ℕ, ◌+◌, ◌-◌, ◌^◌, ◌<◌, ◌⊎◌, List, ◌++◌, Option, Some, None, Result, Err, if◌then◌else◌, ◌==◌}
+use Rattle.std.specs.Prelude.{◌≡◌, ◌≢◌, ℕ, suc, zero, ◌+◌, ◌-◌, ◌^◌, ◌<◌, ◌≤◌, ◌⊎◌, List, ◌++◌, Option, Some, None, Result, Err, if◌then◌else◌, ◌==◌}
 use Rattle.par_io.specs.declared.outside.ReadFail.{ReadFail}
 use Rattle.par_io.specs.declared.outside.WriteFail.{WriteFail}
 
@@ -15,33 +15,63 @@ Rose before after = (before < after) ⊎ (after ≡ last_count)
 abbrev pub raised : ℕ → ℕ
 raised count = if count == last_count then last_count else count + 1
 
--- how many reads and writes failed, how many reads found no file, and how many found one that is
--- longer than their limit
-pub record Counts : Type 0 where
+-- a count after so many more
+abbrev pub raised_by : ℕ → ℕ → ℕ
+raised_by zero count = count
+raised_by (suc more) count = raised (raised_by more count)
+
+-- how many reads and writes a folder was asked for; how many of them failed, how many reads found
+-- no file, and how many found one that is longer than their limit
+pub record FolderCounts : Type 0 where
+  pub reads : ℕ
+  pub writes : ℕ
   pub faults : ℕ
   pub absents : ℕ
   pub longs : ℕ
 
--- each count stands
-abbrev pub SameCounts : Counts → Counts → Type 0
-SameCounts old new =
+-- how many puts a sink was asked for, and how many of them failed
+pub record SinkCounts : Type 0 where
+  pub puts : ℕ
+  pub faults : ℕ
+
+-- the counts of a folder before its first call
+abbrev pub untouched_folder : FolderCounts
+untouched_folder = record { reads = 0; writes = 0; faults = 0; absents = 0; longs = 0 }
+
+-- the counts of a sink before its first call
+abbrev pub untouched_sink : SinkCounts
+untouched_sink = record { puts = 0; faults = 0 }
+
+-- so many reads and writes were made
+abbrev pub Makes : (reads writes : ℕ) → FolderCounts → FolderCounts → Type 0
+Makes reads writes old new =
+    (new.reads ≡ raised_by reads old.reads) × (new.writes ≡ raised_by writes old.writes)
+
+-- no count of answers falls
+abbrev pub NoneFalls : FolderCounts → FolderCounts → Type 0
+NoneFalls old new =
+    (old.faults ≤ new.faults) × (old.absents ≤ new.absents) × (old.longs ≤ new.longs)
+
+-- each count of answers stands
+abbrev pub SameAnswers : FolderCounts → FolderCounts → Type 0
+SameAnswers old new =
     (new.faults ≡ old.faults) × (new.absents ≡ old.absents) × (new.longs ≡ old.longs)
 
 -- a read that failed so raises the count of its kind, and no other
-abbrev pub CountsRead : ReadFail → Counts → Counts → Type 0
+abbrev pub CountsRead : ReadFail → FolderCounts → FolderCounts → Type 0
 CountsRead ReadFail.Absent old new =
     (new.absents ≡ raised old.absents) × (new.faults ≡ old.faults) × (new.longs ≡ old.longs)
 CountsRead ReadFail.TooLong old new =
     (new.longs ≡ raised old.longs) × (new.faults ≡ old.faults) × (new.absents ≡ old.absents)
 CountsRead ReadFail.Failed old new =
     (new.faults ≡ raised old.faults) × (new.absents ≡ old.absents) × (new.longs ≡ old.longs)
-CountsRead ReadFail.Memory old new = SameCounts old new
+CountsRead ReadFail.Memory old new = SameAnswers old new
 
 -- a write that failed so raises the count of faults, and want of memory raises none
-abbrev pub CountsWrite : WriteFail → Counts → Counts → Type 0
+abbrev pub CountsWrite : WriteFail → FolderCounts → FolderCounts → Type 0
 CountsWrite WriteFail.Failed old new =
     (new.faults ≡ raised old.faults) × (new.absents ≡ old.absents) × (new.longs ≡ old.longs)
-CountsWrite WriteFail.Memory old new = SameCounts old new
+CountsWrite WriteFail.Memory old new = SameAnswers old new
 
 -- the count of faults stands, unless the read failed
 abbrev pub ReadFaultsStand : {T : Type 0} → Result T ReadFail → ℕ → ℕ → Type 0

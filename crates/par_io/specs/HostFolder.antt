@@ -1,7 +1,13 @@
 -- What a folder of the system counts.
-use Rattle.par_io.specs.Causes.{Counts}
+use Rattle.par_io.specs.Causes.{FolderCounts}
 use Rattle.par_io.specs.declared.host_folder.HostFolder.{HostFolder}
 
--- how many answers of each kind there were
-abbrev pub counts_of : {R F D : Type 0} → HostFolder R F D → Counts
-counts_of f = record { faults = f.faults; absents = f.absents; longs = f.longs }
+-- its calls, and its answers of each kind
+abbrev pub counts_of : {R F D : Type 0} → HostFolder R F D → FolderCounts
+counts_of f = record {
+  reads = f.reads;
+  writes = f.writes;
+  faults = f.faults;
+  absents = f.absents;
+  longs = f.longs;
+}

@@ -4,7 +4,7 @@ use Rattle.std.specs.Ordering.{nat_cmp}
 use Rattle.std.specs.BTreeMap.{get_by_text}
 use Rattle.std.specs.BTreeMap as map
 use Rattle.std.specs.BTreeSet as set
-use Rattle.par_io.specs.Causes.{Files, Counts}
+use Rattle.par_io.specs.Causes.{Files, FolderCounts}
 use Rattle.par_io.specs.declared.mem_folder.MemFolder.{MemFolder}
 
 -- the files by their names
@@ -27,13 +27,15 @@ next_read f = f.reads + 1
 abbrev pub next_write : MemFolder → ℕ
 next_write f = f.writes + 1
 
--- both have made as many reads and writes
-abbrev pub SameCalls : MemFolder → MemFolder → Type 0
-SameCalls f g = (next_read g ≡ next_read f) × (next_write g ≡ next_write f)
-
--- how many answers of each kind there were
-abbrev pub counts_of : MemFolder → Counts
-counts_of f = record { faults = f.faults; absents = f.absents; longs = f.longs }
+-- its calls, and its answers of each kind
+abbrev pub counts_of : MemFolder → FolderCounts
+counts_of f = record {
+  reads = f.reads;
+  writes = f.writes;
+  faults = f.faults;
+  absents = f.absents;
+  longs = f.longs;
+}
 
 -- in both the same reads are set to fail
 abbrev pub SameReadsSet : MemFolder → MemFolder → Type 0

@@ -1,5 +1,6 @@
 -- What a sink in memory holds, and what its next put lets in.
 use Rattle.std.specs.Prelude.{ℕ, ◌+◌, ◌-◌, List, Option, Some, None, take, length, if◌then◌else◌, ◌==◌}
+use Rattle.par_io.specs.Causes.{SinkCounts}
 use Rattle.par_io.specs.declared.mem_sink.FailingPut.{FailingPut}
 use Rattle.par_io.specs.declared.mem_sink.MemSink.{MemSink}
 
@@ -19,9 +20,9 @@ room_left s = room_of s - length (bytes_of s)
 abbrev pub next_put : MemSink → ℕ
 next_put s = s.puts + 1
 
--- how many puts failed
-abbrev pub faults_of : MemSink → ℕ
-faults_of s = s.faults
+-- its puts, and those that failed
+abbrev pub counts_of : MemSink → SinkCounts
+counts_of s = record { puts = s.puts; faults = s.faults }
 
 -- how many bytes a put of this number is to keep by a setting, where the setting is of it
 abbrev pub keeps_at : Option FailingPut → ℕ → Option ℕ

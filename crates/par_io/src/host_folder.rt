@@ -1,5 +1,5 @@
 ghost use Rattle.std.specs.Prelude.{◌≡◌, ◌≤◌, true, None, IfOk, MatchResult, length};
-ghost use Rattle.par_io.specs.Causes.{SameCounts, CountsRead, CountsWrite};
+ghost use Rattle.par_io.specs.Causes.{untouched_folder, Makes, SameAnswers, CountsRead, CountsWrite};
 ghost use Rattle.par_io.specs.HostFolder.{counts_of};
 
 use crate::outside::{Folder, ReadFail, WriteFail};
@@ -12,6 +12,8 @@ use std::rt::Files;
 #[derive(Drop)]
 pub struct HostFolder<'a, R: Files> {
     rt: &'a R,
+    reads: u64,
+    writes: u64,
     faults: u64,
     absents: u64,
     longs: u64,
@@ -20,18 +22,21 @@ pub struct HostFolder<'a, R: Files> {
 impl<'a, R: Files> HostFolder<'a, R> {
     /// The files that this runtime gives.
     pub fn new(rt: &'a R) -> HostFolder<'a, R>
-        ensures counts { counts_of result ≡ record { faults = 0; absents = 0; longs = 0 } }
+        ensures counts { counts_of result ≡ untouched_folder }
     {
         HostFolder {
             rt,
+            reads: 0,
+            writes: 0,
             faults: 0,
             absents: 0,
             longs: 0,
         }
     }
 
-    fn count_read(&mut self, fail: ReadFail)
-        ensures counts { CountsRead fail (counts_of self.old) (counts_of self.new) }
+    fn count_fail(&mut self, fail: ReadFail)
+        ensures calls { Makes 0 0 (counts_of self.old) (counts_of self.new) }
+        ensures answers { CountsRead fail (counts_of self.old) (counts_of self.new) }
     {
         match fail {
             ReadFail::Absent => self.absents = self.absents.saturating_add(1),
@@ -61,32 +66,32 @@ fn write_file<R: Files>(rt: &R, name: &str, bytes: &[u8]) -> Result<(), WriteFai
 impl<R: Files> Folder for HostFolder<'_, R> {
     ghost files = { λ _. None };
 
-    ghost faults = { λ s. (counts_of s).faults };
-
-    ghost absents = { λ s. (counts_of s).absents };
-
-    ghost longs = { λ s. (counts_of s).longs };
+    ghost counts = { counts_of };
 
     ghost counts_faults_alone = { true };
 
     fn read(&mut self, alloc: Global, name: &str, limit: u64) -> Result<Vec<u8>, ReadFail>
         ensures short { IfOk result (λ bytes. length bytes.items ≤ limit) }
-        ensures counts { MatchResult result
-            (λ _. SameCounts (counts_of self.old) (counts_of self.new))
+        ensures counted { Makes 1 0 (counts_of self.old) (counts_of self.new) }
+        ensures answers { MatchResult result
+            (λ _. SameAnswers (counts_of self.old) (counts_of self.new))
             (λ fail. CountsRead fail (counts_of self.old) (counts_of self.new)) }
     {
+        self.reads = self.reads.saturating_add(1);
         let answer = read_file(self.rt, alloc, name, limit);
         if let Err(fail) = &answer {
-            self.count_read(*fail);
+            self.count_fail(*fail);
         }
         answer
     }
 
     fn write(&mut self, _alloc: Global, name: &str, bytes: &[u8]) -> Result<(), WriteFail>
-        ensures counts { MatchResult result
-            (λ _. SameCounts (counts_of self.old) (counts_of self.new))
+        ensures counted { Makes 0 1 (counts_of self.old) (counts_of self.new) }
+        ensures answers { MatchResult result
+            (λ _. SameAnswers (counts_of self.old) (counts_of self.new))
             (λ fail. CountsWrite fail (counts_of self.old) (counts_of self.new)) }
     {
+        self.writes = self.writes.saturating_add(1);
         let answer = write_file(self.rt, name, bytes);
         if let Err(WriteFail::Failed) = &answer {
             self.faults = self.faults.saturating_add(1);

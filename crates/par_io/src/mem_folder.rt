@@ -2,7 +2,7 @@ ghost use Rattle.std.specs.Prelude.{◌≡◌, ◌≢◌, ℕ, ◌+◌, ◌-◌,
 ghost use Rattle.std.specs.Ordering.{nat_cmp};
 ghost use Rattle.std.specs.BTreeMap.{get};
 ghost use Rattle.std.specs.BTreeSet.{contains};
-ghost use Rattle.par_io.specs.Causes.{Sets, SameCounts, CountsRead, CountsWrite};
+ghost use Rattle.par_io.specs.Causes.{untouched_folder, Sets, Makes, SameAnswers, CountsRead, CountsWrite};
 
 use crate::outside::{Folder, NoMemory, ReadFail, WriteFail};
 use std::alloc::Global;
@@ -28,15 +28,14 @@ pub struct MemFolder {
 }
 
 impl MemFolder {
-    ghost use Rattle.par_io.specs.MemFolder.{files_of, is_read_set, write_keeps, next_read, next_write, counts_of, SameCalls, SameReadsSet, SameWritesSet};
+    ghost use Rattle.par_io.specs.MemFolder.{files_of, is_read_set, write_keeps, next_read, next_write, counts_of, SameReadsSet, SameWritesSet};
 
     /// A folder without files, none of whose calls is set to fail.
     pub fn new(alloc: Global) -> MemFolder
         ensures empty { (name : List ℕ) → files_of result name ≡ None }
         ensures no_read_set { (call : ℕ) → is_read_set result call ≡ false }
         ensures no_write_set { (call : ℕ) → write_keeps result call ≡ None }
-        ensures no_calls { (next_read result ≡ 1) × (next_write result ≡ 1) }
-        ensures counts { counts_of result ≡ record { faults = 0; absents = 0; longs = 0 } }
+        ensures counts { counts_of result ≡ untouched_folder }
     {
         MemFolder {
             alloc,
@@ -65,8 +64,7 @@ impl MemFolder {
         ensures unchanged { OnErr result (files_of self.new ≡ files_of self.old) }
         ensures reads_set { SameReadsSet self.old self.new }
         ensures writes_set { SameWritesSet self.old self.new }
-        ensures calls { SameCalls self.old self.new }
-        ensures counts { SameCounts (counts_of self.old) (counts_of self.new) }
+        ensures counts { counts_of self.new ≡ counts_of self.old }
     {
         self.set(self.alloc, name, bytes)
     }
@@ -77,8 +75,7 @@ impl MemFolder {
         ensures unchanged { OnErr result (self.new.files.entries ≡ self.old.files.entries) }
         ensures reads_set { SameReadsSet self.old self.new }
         ensures writes_set { SameWritesSet self.old self.new }
-        ensures calls { SameCalls self.old self.new }
-        ensures counts { SameCounts (counts_of self.old) (counts_of self.new) }
+        ensures counts { counts_of self.new ≡ counts_of self.old }
     {
         let name = String::from_str(alloc, name)?;
         let bytes = Vec::from_slice(alloc, bytes)?;
@@ -94,8 +91,7 @@ impl MemFolder {
         ensures unchanged { OnErr result (SameReadsSet self.old self.new) }
         ensures files { files_of self.new ≡ files_of self.old }
         ensures writes_set { SameWritesSet self.old self.new }
-        ensures calls { SameCalls self.old self.new }
-        ensures counts { SameCounts (counts_of self.old) (counts_of self.new) }
+        ensures counts { counts_of self.new ≡ counts_of self.old }
     {
         self.failing_reads.insert(call)?;
         Ok(())
@@ -110,8 +106,7 @@ impl MemFolder {
         ensures unchanged { OnErr result (SameWritesSet self.old self.new) }
         ensures files { files_of self.new ≡ files_of self.old }
         ensures reads_set { SameReadsSet self.old self.new }
-        ensures calls { SameCalls self.old self.new }
-        ensures counts { SameCounts (counts_of self.old) (counts_of self.new) }
+        ensures counts { counts_of self.new ≡ counts_of self.old }
     {
         self.failing_writes.insert(call, keep)?;
         Ok(())
@@ -120,12 +115,11 @@ impl MemFolder {
     // Counts a read, and tells whether it is set to fail.
     fn begin_read(&mut self) -> bool
         ensures fails { result ≡ is_read_set self.old (next_read self.old) }
-        ensures counted { next_read self.new ≡ min (next_read self.old + 1) (2 ^ 64) }
-        ensures writes { next_write self.new ≡ next_write self.old }
+        ensures counted { Makes 1 0 (counts_of self.old) (counts_of self.new) }
+        ensures answers { SameAnswers (counts_of self.old) (counts_of self.new) }
         ensures files { self.new.files ≡ self.old.files }
         ensures failing_reads { self.new.failing_reads ≡ self.old.failing_reads }
         ensures failing_writes { self.new.failing_writes ≡ self.old.failing_writes }
-        ensures counts { SameCounts (counts_of self.old) (counts_of self.new) }
     {
         let Some(call) = self.reads.checked_add(1) else {
             return false;
@@ -137,12 +131,11 @@ impl MemFolder {
     // Counts a write, and tells how many bytes it is to leave where it is set to fail.
     fn begin_write(&mut self) -> Option<u64>
         ensures fails { result ≡ write_keeps self.old (next_write self.old) }
-        ensures counted { next_write self.new ≡ min (next_write self.old + 1) (2 ^ 64) }
-        ensures reads { next_read self.new ≡ next_read self.old }
+        ensures counted { Makes 0 1 (counts_of self.old) (counts_of self.new) }
+        ensures answers { SameAnswers (counts_of self.old) (counts_of self.new) }
         ensures files { self.new.files ≡ self.old.files }
         ensures failing_reads { self.new.failing_reads ≡ self.old.failing_reads }
         ensures failing_writes { self.new.failing_writes ≡ self.old.failing_writes }
-        ensures counts { SameCounts (counts_of self.old) (counts_of self.new) }
     {
         let call = self.writes.checked_add(1)?;
         self.writes = call;
@@ -155,11 +148,7 @@ impl Folder for MemFolder {
 
     ghost files = { λ s. Some (files_of s) };
 
-    ghost faults = { λ s. (counts_of s).faults };
-
-    ghost absents = { λ s. (counts_of s).absents };
-
-    ghost longs = { λ s. (counts_of s).longs };
+    ghost counts = { counts_of };
 
     ghost counts_faults_alone = { true };
 
@@ -172,11 +161,10 @@ impl Folder for MemFolder {
             (bytes : List ℕ) × (files_of self.old name.now ≡ Some bytes) × (limit < length bytes) }
         ensures failed { IsErrOf result ReadFail.Failed ↔
             IsTrue (is_read_set self.old (next_read self.old)) }
-        ensures counts { MatchResult result
-            (λ _. SameCounts (counts_of self.old) (counts_of self.new))
+        ensures answers { MatchResult result
+            (λ _. SameAnswers (counts_of self.old) (counts_of self.new))
             (λ fail. CountsRead fail (counts_of self.old) (counts_of self.new)) }
-        ensures counted { next_read self.new ≡ min (next_read self.old + 1) (2 ^ 64) }
-        ensures writes { next_write self.new ≡ next_write self.old }
+        ensures counted { Makes 1 0 (counts_of self.old) (counts_of self.new) }
         ensures reads_set { SameReadsSet self.old self.new }
         ensures writes_set { SameWritesSet self.old self.new }
     {
@@ -204,11 +192,10 @@ impl Folder for MemFolder {
             (keep : ℕ) × (write_keeps self.old (next_write self.old) ≡ Some keep) ×
             Sets name.now (take keep bytes.now) (files_of self.old) (files_of self.new) }
         ensures memory { IsErrOf result WriteFail.Memory → files_of self.new ≡ files_of self.old }
-        ensures counts { MatchResult result
-            (λ _. SameCounts (counts_of self.old) (counts_of self.new))
+        ensures answers { MatchResult result
+            (λ _. SameAnswers (counts_of self.old) (counts_of self.new))
             (λ fail. CountsWrite fail (counts_of self.old) (counts_of self.new)) }
-        ensures counted { next_write self.new ≡ min (next_write self.old + 1) (2 ^ 64) }
-        ensures reads { next_read self.new ≡ next_read self.old }
+        ensures counted { Makes 0 1 (counts_of self.old) (counts_of self.new) }
         ensures reads_set { SameReadsSet self.old self.new }
         ensures writes_set { SameWritesSet self.old self.new }
     {

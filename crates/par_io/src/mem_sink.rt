@@ -1,5 +1,5 @@
 ghost use Rattle.std.specs.Prelude.{◌≡◌, ◌≢◌, ℕ, ◌+◌, ◌-◌, ◌^◌, ◌<◌, ◌≤◌, ◌↔◌, ◌⊎◌, [], ◌++◌, List, Some, None, IfOk, IsSome, IsErr, IsTrue, OnOk, OnErr, length, take, min, vec_capacity, vec_len, true, false};
-ghost use Rattle.par_io.specs.Causes.{AppendsFront, raised};
+ghost use Rattle.par_io.specs.Causes.{untouched_sink, AppendsFront, raised};
 
 use crate::outside::{NoMemory, PutFailed, Sink};
 use std::alloc::Global;
@@ -25,15 +25,14 @@ pub struct MemSink {
 }
 
 impl MemSink {
-    ghost use Rattle.par_io.specs.MemSink.{bytes_of, room_of, room_left, next_put, faults_of, put_keeps, taken};
+    ghost use Rattle.par_io.specs.MemSink.{bytes_of, room_of, room_left, next_put, counts_of, put_keeps, taken};
 
     /// An empty sink with room for that many bytes, none of whose puts is set to fail.
     pub fn new(alloc: Global, room: u64) -> Result<MemSink, NoMemory>
         ensures empty { IfOk result (λ sink. bytes_of sink ≡ []) }
         ensures room { IfOk result (λ sink. room_of sink ≡ room) }
-        ensures no_puts { IfOk result (λ sink. next_put sink ≡ 1) }
         ensures none_set { IfOk result (λ sink. (call : ℕ) → put_keeps sink call ≡ None) }
-        ensures no_faults { IfOk result (λ sink. faults_of sink ≡ 0) }
+        ensures counts { IfOk result (λ sink. counts_of sink ≡ untouched_sink) }
     {
         Ok(MemSink {
             held: Vec::with_capacity(alloc, room as usize)?,
@@ -58,8 +57,7 @@ impl MemSink {
         ensures others { (other : ℕ) → other ≢ call → put_keeps self.new other ≡ None }
         ensures held { bytes_of self.new ≡ bytes_of self.old }
         ensures room { room_of self.new ≡ room_of self.old }
-        ensures puts { next_put self.new ≡ next_put self.old }
-        ensures faults { faults_of self.new ≡ faults_of self.old }
+        ensures counts { counts_of self.new ≡ counts_of self.old }
     {
         self.failing = Some(FailingPut { call, keep });
     }
@@ -67,11 +65,11 @@ impl MemSink {
     // Counts a put, and tells how many of its bytes it is to keep where it is set to fail.
     fn begin_put(&mut self) -> Option<u64>
         ensures fails { result ≡ put_keeps self.old (next_put self.old) }
-        ensures counted { next_put self.new ≡ min (next_put self.old + 1) (2 ^ 64) }
+        ensures counted { (counts_of self.new).puts ≡ raised (counts_of self.old).puts }
         ensures failing { self.new.failing ≡ self.old.failing }
         ensures held { bytes_of self.new ≡ bytes_of self.old }
         ensures room { room_of self.new ≡ room_of self.old }
-        ensures faults { faults_of self.new ≡ faults_of self.old }
+        ensures faults { (counts_of self.new).faults ≡ (counts_of self.old).faults }
     {
         let before = self.puts;
         self.puts = before.saturating_add(1);
@@ -86,9 +84,8 @@ impl MemSink {
         ensures held { bytes_of self.new ≡ bytes_of self.old ++ take (room_left self.old) bytes.now }
         ensures fits { IsTrue result ↔ (length bytes.now ≤ room_left self.old) }
         ensures failing { self.new.failing ≡ self.old.failing }
-        ensures puts { next_put self.new ≡ next_put self.old }
         ensures room { room_of self.new ≡ room_of self.old }
-        ensures faults { faults_of self.new ≡ faults_of self.old }
+        ensures counts { counts_of self.new ≡ counts_of self.old }
     {
         let left = self.room as usize - self.held.len();
         let count = bytes.len().min(left);
@@ -102,10 +99,10 @@ impl MemSink {
         ensures fails { (result ≡ false) ↔
             (IsSome (put_keeps self.old (next_put self.old))
             ⊎ (room_left self.old < length bytes.now)) }
-        ensures counted { next_put self.new ≡ min (next_put self.old + 1) (2 ^ 64) }
+        ensures counted { (counts_of self.new).puts ≡ raised (counts_of self.old).puts }
         ensures failing { self.new.failing ≡ self.old.failing }
         ensures room { room_of self.new ≡ room_of self.old }
-        ensures faults { faults_of self.new ≡ faults_of self.old }
+        ensures faults { (counts_of self.new).faults ≡ (counts_of self.old).faults }
     {
         match self.begin_put() {
             None => self.fill(bytes),
@@ -119,11 +116,11 @@ impl MemSink {
 }
 
 impl Sink for MemSink {
-    ghost use Rattle.par_io.specs.MemSink.{bytes_of, room_of, room_left, next_put, faults_of, put_keeps, taken};
+    ghost use Rattle.par_io.specs.MemSink.{bytes_of, room_of, room_left, next_put, counts_of, put_keeps, taken};
 
     ghost held = { λ s. Some (bytes_of s) };
 
-    ghost faults = { faults_of };
+    ghost counts = { counts_of };
 
     ghost counts_faults_alone = { true };
 
@@ -135,10 +132,12 @@ impl Sink for MemSink {
         ensures front { OnErr result
             (AppendsFront (Some (bytes_of self.old)) (Some (bytes_of self.new)) bytes.now) }
         ensures room { room_of self.new ≡ room_of self.old }
-        ensures counted { next_put self.new ≡ min (next_put self.old + 1) (2 ^ 64) }
+        ensures counted { (counts_of self.new).puts ≡ raised (counts_of self.old).puts }
         ensures setting { (call : ℕ) → put_keeps self.new call ≡ put_keeps self.old call }
-        ensures no_fault { OnOk result (faults_of self.new ≡ faults_of self.old) }
-        ensures fault { OnErr result (faults_of self.new ≡ raised (faults_of self.old)) }
+        ensures no_fault { OnOk result
+            ((counts_of self.new).faults ≡ (counts_of self.old).faults) }
+        ensures fault { OnErr result
+            ((counts_of self.new).faults ≡ raised (counts_of self.old).faults) }
     {
         if !self.let_in(bytes) {
             self.faults = self.faults.saturating_add(1);

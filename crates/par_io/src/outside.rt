@@ -1,5 +1,5 @@
 ghost use Rattle.std.specs.Prelude.{◌≡◌, ℕ, ◌<◌, ◌≤◌, Bool, false, List, Option, Some, None, IfOk, IsTrue, IsErrOf, OnOk, OnErr, length};
-ghost use Rattle.par_io.specs.Causes.{Rose, ReadFaultsStand, WriteFaultsStand, Files, Told, ToldBoth, StandBut, Sets, appended, AppendsFront};
+ghost use Rattle.par_io.specs.Causes.{FolderCounts, SinkCounts, Makes, NoneFalls, Rose, raised, ReadFaultsStand, WriteFaultsStand, Files, Told, ToldBoth, StandBut, Sets, appended, AppendsFront};
 ghost use Rattle.par_io.specs.declared.outside.ReadFail.{ReadFail};
 ghost use Rattle.par_io.specs.declared.outside.WriteFail.{WriteFail};
 
@@ -64,14 +64,8 @@ pub trait Folder {
     /// The files, where it tells them.
     ghost files: { Self → Option Files };
 
-    /// How many reads and writes failed.
-    ghost faults: { Self → ℕ };
-
-    /// How many reads found no file.
-    ghost absents: { Self → ℕ };
-
-    /// How many reads found a file longer than their limit.
-    ghost longs: { Self → ℕ };
+    /// How many reads and writes it was asked for, and how many answers there were of each kind.
+    ghost counts: { Self → FolderCounts };
 
     /// Whether nothing but a fault raises the count of faults. An implementation that leaves this
     /// out promises nothing of it.
@@ -80,38 +74,37 @@ pub trait Folder {
     /// The bytes of a file of at most `limit` bytes.
     fn read(&mut self, alloc: Global, name: &str, limit: u64) -> Result<Vec<u8>, ReadFail>
         ensures kept { files self.new ≡ files self.old }
-        ensures faults_never_fall { faults self.old ≤ faults self.new }
-        ensures absents_never_fall { absents self.old ≤ absents self.new }
-        ensures longs_never_fall { longs self.old ≤ longs self.new }
+        ensures counted { Makes 1 0 (counts self.old) (counts self.new) }
+        ensures none_falls { NoneFalls (counts self.old) (counts self.new) }
         ensures short { IfOk result (λ bytes. length bytes.items ≤ limit) }
         ensures found { IfOk result (λ bytes.
             Told (files self.old) (λ m. m name.now ≡ Some bytes.items)) }
         ensures absent_counts { IsErrOf result ReadFail.Absent →
-            Rose (absents self.old) (absents self.new) }
+            Rose (counts self.old).absents (counts self.new).absents }
         ensures absent { IsErrOf result ReadFail.Absent →
             Told (files self.old) (λ m. m name.now ≡ None) }
         ensures long_counts { IsErrOf result ReadFail.TooLong →
-            Rose (longs self.old) (longs self.new) }
+            Rose (counts self.old).longs (counts self.new).longs }
         ensures long { IsErrOf result ReadFail.TooLong →
             Told (files self.old) (λ m.
             (bytes : List ℕ) × (m name.now ≡ Some bytes) × (limit < length bytes)) }
-        ensures failed { IsErrOf result ReadFail.Failed → Rose (faults self.old) (faults self.new) }
+        ensures failed { IsErrOf result ReadFail.Failed →
+            Rose (counts self.old).faults (counts self.new).faults }
         ensures faults_stand { IsTrue counts_faults_alone →
-            ReadFaultsStand result (faults self.old) (faults self.new) };
+            ReadFaultsStand result (counts self.old).faults (counts self.new).faults };
 
     /// Gives a name these bytes, in place of any that it had.
     fn write(&mut self, alloc: Global, name: &str, bytes: &[u8]) -> Result<(), WriteFail>
-        ensures faults_never_fall { faults self.old ≤ faults self.new }
-        ensures absents_never_fall { absents self.old ≤ absents self.new }
-        ensures longs_never_fall { longs self.old ≤ longs self.new }
+        ensures counted { Makes 0 1 (counts self.old) (counts self.new) }
+        ensures none_falls { NoneFalls (counts self.old) (counts self.new) }
         ensures written { OnOk result
             (ToldBoth (files self.old) (files self.new) (Sets name.now bytes.now)) }
         ensures failed_counts { IsErrOf result WriteFail.Failed →
-            Rose (faults self.old) (faults self.new) }
+            Rose (counts self.old).faults (counts self.new).faults }
         ensures failed { IsErrOf result WriteFail.Failed →
             ToldBoth (files self.old) (files self.new) (StandBut name.now) }
         ensures faults_stand { IsTrue counts_faults_alone →
-            WriteFaultsStand result (faults self.old) (faults self.new) }
+            WriteFaultsStand result (counts self.old).faults (counts self.new).faults }
         ensures memory { IsErrOf result WriteFail.Memory → files self.new ≡ files self.old };
 }
 
@@ -124,8 +117,8 @@ pub trait Sink {
     /// The bytes put so far, where it tells them.
     ghost held: { Self → Option (List ℕ) };
 
-    /// How many puts failed.
-    ghost faults: { Self → ℕ };
+    /// How many puts it was asked for, and how many of them failed.
+    ghost counts: { Self → SinkCounts };
 
     /// Whether nothing but a fault raises the count of faults. An implementation that leaves this
     /// out promises nothing of it.
@@ -133,10 +126,12 @@ pub trait Sink {
 
     /// Puts these bytes behind those put so far. Where it fails, a front of them may have been put.
     fn put(&mut self, bytes: &[u8]) -> Result<(), PutFailed>
-        ensures faults_never_fall { faults self.old ≤ faults self.new }
+        ensures counted { (counts self.new).puts ≡ raised (counts self.old).puts }
+        ensures faults_never_fall { (counts self.old).faults ≤ (counts self.new).faults }
         ensures put { OnOk result (held self.new ≡ appended (held self.old) bytes.now) }
-        ensures failed_counts { OnErr result (Rose (faults self.old) (faults self.new)) }
+        ensures failed_counts { OnErr result
+            (Rose (counts self.old).faults (counts self.new).faults) }
         ensures faults_stand { IsTrue counts_faults_alone →
-            OnOk result (faults self.new ≡ faults self.old) }
+            OnOk result ((counts self.new).faults ≡ (counts self.old).faults) }
         ensures failed { OnErr result (AppendsFront (held self.old) (held self.new) bytes.now) };
 }

@@ -1,6 +1,6 @@
 // Bytes read or written whole, by any reader or writer of the system.
-ghost use Rattle.std.specs.Prelude.{◌≡◌, ◌≢◌, ◌≤◌, ◌<◌, ◌↔◌, IfOk, IfErr, IfSome, IsErrOf, OnOk, length, take};
-ghost use Rattle.std.specs.Io.KnownBytes.{Appends, Consumes, IsAtEnd};
+ghost use Rattle.std.specs.Prelude.{◌≡◌, ◌≢◌, ℕ, ◌+◌, ◌≤◌, ◌<◌, ◌↔◌, List, IsTrue, IfOk, IfErr, IfSome, IsErrOf, OnOk, OnErr, length, take};
+ghost use Rattle.std.specs.Io.KnownBytes.{Appends, Consumes, Keeps, IsAtEnd};
 ghost use Rattle.std.specs.IoError.{error_kind};
 
 use crate::outside::{ReadFail, WriteFail};
@@ -11,7 +11,9 @@ use std::io::{ErrorKind, Read, Write};
 // The most bytes that one read asks for.
 const CHUNK: usize = 4096;
 
-fn is_interrupted(error: &io::Error) -> bool {
+fn is_interrupted(error: &io::Error) -> bool
+    ensures { IsTrue result ↔ (error_kind error.now ≡ ErrorKind.Interrupted) }
+{
     matches!(error.kind(), ErrorKind::Interrupted)
 }
 
@@ -43,6 +45,7 @@ fn read_some<F: Read>(file: &mut F, buffer: &mut [u8]) -> Result<usize, ReadFail
         Consumes (F.remaining file.old) (F.remaining file.new) (take count buffer.new)) }
     ensures ended { IfOk result (λ count.
         count ≡ 0 → 0 < length buffer.new → IsAtEnd (F.remaining file.new)) }
+    ensures kept { OnErr result (Keeps (F.remaining file.old) (F.remaining file.new)) }
     ensures not_long { IfErr result (λ fail. fail ≢ ReadFail.TooLong) }
 {
     for _ in 0..u64::MAX {
@@ -55,8 +58,8 @@ fn read_some<F: Read>(file: &mut F, buffer: &mut [u8]) -> Result<usize, ReadFail
     Err(ReadFail::Failed)
 }
 
-// Reads to the end, or up to the byte behind the limit. Where the file tells its bytes, these are
-// all that it had left.
+// Reads to the end, or up to the byte behind the limit, and takes no more. Where the file tells its
+// bytes, these are all that it had left.
 pub(crate) fn read_whole<F: Read>(
     file: &mut F,
     alloc: Global,
@@ -67,6 +70,8 @@ pub(crate) fn read_whole<F: Read>(
         IfSome (F.remaining file.old) (λ told. bytes.items ≡ told)) }
     ensures long { IsErrOf result ReadFail.TooLong →
         IfSome (F.remaining file.old) (λ told. limit < length told) }
+    ensures taken { (taken : List ℕ) × (length taken ≤ limit + 1)
+        × Consumes (F.remaining file.old) (F.remaining file.new) taken }
 {
     let mut bytes = Vec::new(alloc);
     let mut chunk = [0u8; CHUNK];

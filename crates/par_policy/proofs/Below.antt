@@ -11,36 +11,36 @@ use Rattle.par_policy.specs.Order.{IsBelow, IsBelowAt, IsJoinBelowAt}
 use Rattle.par_policy.specs.Normal.{covers}
 use Rattle.par_policy.proofs.Seen.{covers_itself, sees_more, sees_at_more, within_front}
 
--- what an observer with more locks passes too
+-- a test that admits an observer with more locks too
 abbrev Grows : (ℕ → List ℕ → Bool) → Type 0
 Grows test = (actor : ℕ) (fewer more : List ℕ) → IsTrue (within fewer more) → IsTrue (test actor fewer) → IsTrue (test actor more)
 
--- each observer of the policy passes the test
-abbrev Passes : (ℕ → List ℕ → Bool) → List Clause → Type 0
-Passes test q = (actor : ℕ) (locks : List ℕ) → IsTrue (sees q actor locks) → IsTrue (test actor locks)
+-- the test admits each observer of the policy
+abbrev AdmitsSeers : (ℕ → List ℕ → Bool) → List Clause → Type 0
+AdmitsSeers test q = (actor : ℕ) (locks : List ℕ) → IsTrue (sees q actor locks) → IsTrue (test actor locks)
 
-passes-from_clauses : (test : ℕ → List ℕ → Bool) → Grows test → (q : List Clause) → IsTrue (list_all (λ d. test d.actor d.locks) q) → Passes test q
-passes-from_clauses test grows [] h actor locks seen = absurd (false≢true seen)
-passes-from_clauses test grows (d ∷ q) h actor locks seen =
+admits-from_clauses : (test : ℕ → List ℕ → Bool) → Grows test → (q : List Clause) → IsTrue (list_all (λ d. test d.actor d.locks) q) → AdmitsSeers test q
+admits-from_clauses test grows [] h actor locks seen = absurd (false≢true seen)
+admits-from_clauses test grows (d ∷ q) h actor locks seen =
     let both = and_parts (test d.actor d.locks) (list_all (λ e. test e.actor e.locks) q) h in
     ⊎_elim
     (λ first.
     let allowed = and_parts (nat_eq d.actor actor) (within d.locks locks) first in
     grows actor d.locks locks allowed.1 (subst (λ a. IsTrue (test a d.locks)) (eqb-true d.actor actor allowed.0) both.0))
-    (λ later. passes-from_clauses test grows q both.1 actor locks later) (or_cases (allows actor locks d) (sees q actor locks) seen)
+    (λ later. admits-from_clauses test grows q both.1 actor locks later) (or_cases (allows actor locks d) (sees q actor locks) seen)
 
-clauses-from_passes : (test : ℕ → List ℕ → Bool) (q : List Clause) → Passes test q → IsTrue (list_all (λ d. test d.actor d.locks) q)
-clauses-from_passes test [] h = refl
-clauses-from_passes test (d ∷ q) h =
+clauses-from_admits : (test : ℕ → List ℕ → Bool) (q : List Clause) → AdmitsSeers test q → IsTrue (list_all (λ d. test d.actor d.locks) q)
+clauses-from_admits test [] h = refl
+clauses-from_admits test (d ∷ q) h =
     and_from _ _ (h d.actor d.locks (or_left (covers d d) (sees q d.actor d.locks) (covers_itself d)))
-    (clauses-from_passes test q (λ actor locks seen. h actor locks (or_right (allows actor locks d) (sees q actor locks) seen)))
+    (clauses-from_admits test q (λ actor locks seen. h actor locks (or_right (allows actor locks d) (sees q actor locks) seen)))
 
 -- p is below q where it is seen by each clause of q as an observer
 pub below_iff : (p q : List Clause) → IsTrue (list_all (λ d. sees p d.actor d.locks) q) ↔ IsBelow p q
-below_iff p q = (passes-from_clauses (sees p) (sees_more p) q, clauses-from_passes (sees p) q)
+below_iff p q = (admits-from_clauses (sees p) (sees_more p) q, clauses-from_admits (sees p) q)
 
 pub below_at_iff : (p : List Clause) (opened : List ℕ) (q : List Clause) → IsTrue (list_all (λ d. sees_at p opened d.actor d.locks) q) ↔ IsBelowAt p opened q
-below_at_iff p opened q = (passes-from_clauses (sees_at p opened) (sees_at_more p opened) q, clauses-from_passes (sees_at p opened) q)
+below_at_iff p opened q = (admits-from_clauses (sees_at p opened) (sees_at_more p opened) q, clauses-from_admits (sees_at p opened) q)
 
 -- one clause is below another where it covers it
 pub clause_below_iff : (c d : Clause) → IsTrue (covers c d) ↔ IsBelow (c ∷ []) (d ∷ [])

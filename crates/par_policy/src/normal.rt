@@ -21,7 +21,7 @@ pub(crate) fn keep(kept: &mut Vec<Clause>, clause: &Clause) -> Result<(), NoMemo
     }
     let copy = clause.clone()?;
     drop_covered(kept, clause);
-    let place = place_of(kept, clause);
+    let place = position_of(kept, clause);
     kept.insert(place, copy)?;
     Ok(())
 }
@@ -41,7 +41,7 @@ fn drop_covered(kept: &mut Vec<Clause>, clause: &Clause)
 }
 
 // How many clauses at the front are before this one.
-fn place_of(kept: &[Clause], clause: &Clause) -> usize
+fn position_of(kept: &[Clause], clause: &Clause) -> usize
     ensures bound { result ≤ length kept.now }
     ensures before { AllWithin (λ c. clause_cmp c clause.now ≡ Less) kept.now 0 result }
     ensures first { result < length kept.now → HoldsAt (λ c. clause_cmp c clause.now ≢ Less) kept.now result }

@@ -35,8 +35,8 @@ impl Model for PoolBuilder {
     ghost invariant = { λ builder. IsMade builder.entries };
 }
 
-/// The place of a constant among the entries, counted from 0.
-fn place_of(entries: &[Constant], wanted: &Constant) -> Option<usize>
+/// The position of a constant among the entries, counted from 0.
+fn position_of(entries: &[Constant], wanted: &Constant) -> Option<usize>
     ensures found { IfSome result (λ place. slice_get entries.now place ≡ Some wanted.now) }
     ensures absent { IfNone result ((place : ℕ) → slice_get entries.now place ≢ Some wanted.now) }
 {
@@ -69,7 +69,7 @@ impl PoolBuilder {
             IfOk result (λ index. (index ≡ i) × (self.new ≡ self.old)) }
         ensures added { Adds self.old self.new 1 (λ constant. constant ≡ wanted) }
     {
-        if let Some(place) = place_of(self.entries.as_slice(), &wanted) {
+        if let Some(place) = position_of(self.entries.as_slice(), &wanted) {
             return Ok(place as u16 + 1);
         }
         self.entries.push(wanted)?;

@@ -18,4 +18,4 @@ pub mod writing;
 pub use builder::PoolBuilder;
 pub use constant::{Constant, Pool};
 pub use error::ClassError;
-pub use reading::{entries_of, read_pool};
+pub use reading::{LONGEST_CLASS, entries_of, read_pool};

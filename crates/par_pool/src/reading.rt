@@ -17,6 +17,9 @@ use byteorder::{BigEndian, ByteOrder};
 use par_lexer::list::List;
 use std::alloc::Global;
 
+/// The most bytes that a class file may have.
+pub const LONGEST_CLASS: usize = 1_048_576;
+
 /// Whether a text has the bytes 1 to 127 alone.
 fn is_plain(text: &[u8]) -> bool
     ensures { result ≡ list_all (λ byte. nat_lt 0 byte && nat_lt byte 128) text.now }
@@ -150,7 +153,7 @@ pub fn entries_of(
 /// The pool from an offset on, with the offset behind it.
 fn located(alloc: Global, bytes: &[u8], from: usize) -> Result<(Pool, usize), ClassError>
     requires placed { from ≤ length bytes.now }
-    requires small { length bytes.now ≤ 1048576 }
+    requires small { length bytes.now ≤ LONGEST_CLASS }
     ensures within { IfOk result (λ read. read.1 ≤ length bytes.now) }
     ensures exact { Gives {Y = Items Entry × Items ℕ}
         (λ read. (read.0.entries, drop read.1 bytes.now)) result
@@ -172,7 +175,7 @@ fn located(alloc: Global, bytes: &[u8], from: usize) -> Result<(Pool, usize), Cl
 /// all of them are read, `Pool` has the first index whose constant refers to a wrong kind.
 pub fn read_pool(alloc: Global, bytes: &[u8], from: usize) -> Result<(Pool, usize), ClassError>
     requires placed { from ≤ length bytes.now }
-    requires small { length bytes.now ≤ 1048576 }
+    requires small { length bytes.now ≤ LONGEST_CLASS }
     ensures found { IfOk result (λ read.
         IsPoolAt (drop from bytes.now) read.0.entries (drop read.1 bytes.now)) }
     ensures within { IfOk result (λ read. read.1 ≤ length bytes.now) }

@@ -1,5 +1,5 @@
 -- The statements of a source stand in order: their places are some of those of its tokens.
-use Rattle.std.proofs.Common.{◌≡◌, ℕ, zero, suc, ◌+◌, ◌<◌, ◌≤◌, Bool, true, false, List, [], ◌∷◌, ◌++◌, map, Option, Some, None, Ok, Err, refl, ap, subst, sym, ◌∙◌, arith, if◌then◌else◌, nat_le}
+use Rattle.std.proofs.Common.{◌≡◌, ℕ, zero, suc, ◌+◌, ◌<◌, ◌≤◌, Bool, true, false, List, [], ◌∷◌, ◌++◌, map, length, Option, Some, None, Ok, Err, refl, ap, subst, sym, ◌∙◌, arith, if◌then◌else◌, nat_le}
 use Rattle.std.specs.List.{All, AllPairs}
 use Rattle.std.proofs.lemmas.List.{map-append, append_assoc, append-nil}
 use Rattle.par_lexer.specs.declared.token.Kind.{Kind}
@@ -100,6 +100,24 @@ tokens_ascend source low (t ∷ ts) stand order above =
           (λ i j d before inside. order (suc i) (suc j) d (omega arith) (omega arith))
           (λ k d inside. omega (arith, starts, order zero (suc k) d (omega arith) (omega arith))),
     )
+
+-- numbers below another
+abbrev AreBelow : ℕ → List ℕ → Type 0
+AreBelow high [] = Unit {0}
+AreBelow high (n ∷ ns) = (n < high) × AreBelow high ns
+
+some_below : {a b : List ℕ} → SomeOf a b → (high : ℕ) → AreBelow high b → AreBelow high a
+some_below none high h = tt
+some_below (with_it n x) high h = (h.0, some_below x high h.1)
+some_below (without_it n x) high h = some_below x high h.1
+
+tokens_below : (source : List ℕ) (ts : List Token) → All (Stands source) ts → AreBelow (length source) (froms ts)
+tokens_below source [] stand = tt
+tokens_below source (t ∷ ts) stand =
+    let first = stand zero t (omega arith) in
+    let starts = first.starts in
+    let ends = first.ends in
+    (omega (arith, starts, ends), tokens_below source ts (λ k d inside. stand (suc k) d (omega arith)))
 
 -- the places of the statements that a value holds, or of the name that a statement may begin with
 abbrev held : Value → List ℕ
@@ -261,19 +279,21 @@ step_leaves (leaves ∷ s) i vs = all_of (ahead vs i)
 step_leaves (name n ∷ s) i vs = replaces_leaves (alternative straight n (next i)) s i vs
 step_leaves (builds b ∷ s) i vs = both_of (built_holds b vs) (all_of (froms i.left))
 
--- Where the places ascend at the beginning of a derivation, they do at its end.
-comes_ascend : {s : derivation.State g.Names g.Builders Value} {o : Outcome Value} → Comes straight s o
-    → (vs : Values) (i : Input) → o ≡ Ok (vs, i)
-    → Ascends 0 (ahead s.values s.input) → Ascends 0 (ahead vs i)
-unfolding step
-comes_ascend {s = s} {o = o} (last e) vs i is h =
-    let Left : derivation.Step g.Names g.Builders Value → Type 0 = Leaves (ahead s.values s.input) in
-    let end : step straight s ≡ ends (Ok (vs, i)) = e ∙ ap ends is in
-    some_ascend (subst Left end (step_leaves s.pending s.input s.values)) 0 h
-comes_ascend {s = s} (more t e c) vs i is h =
-    let Left : derivation.Step g.Names g.Builders Value → Type 0 = Leaves (ahead s.values s.input) in
-    comes_ascend c vs i is
-    (some_ascend (subst Left e (step_leaves s.pending s.input s.values)) 0 h)
+-- What holds of numbers and of some of them holds of the places at the end of a derivation where it
+-- does at its beginning.
+module _ (P : List ℕ → Type 0) (of_some : (a b : List ℕ) → SomeOf a b → P b → P a) where
+  comes_on : {s : derivation.State g.Names g.Builders Value} {o : Outcome Value} → Comes straight s o
+      → (vs : Values) (i : Input) → o ≡ Ok (vs, i)
+      → P (ahead s.values s.input) → P (ahead vs i)
+  unfolding step
+  comes_on {s = s} {o = o} (last e) vs i is h =
+      let Left : derivation.Step g.Names g.Builders Value → Type 0 = Leaves (ahead s.values s.input) in
+      let end : step straight s ≡ ends (Ok (vs, i)) = e ∙ ap ends is in
+      of_some _ _ (subst Left end (step_leaves s.pending s.input s.values)) h
+  comes_on {s = s} (more t e c) vs i is h =
+      let Left : derivation.Step g.Names g.Builders Value → Type 0 = Leaves (ahead s.values s.input) in
+      comes_on c vs i is
+      (of_some _ _ (subst Left e (step_leaves s.pending s.input s.values)) h)
 
 numbered_places : (scope : Scope) (locals : List Name) (ss : List Statement)
     → map place ss ≡ places (numbered_steps scope locals ss)
@@ -281,16 +301,29 @@ numbered_places scope locals [] = refl
 numbered_places scope locals (s ∷ ss) =
     ap (λ ns. place s ∷ ns) (numbered_places scope (declares s locals) ss)
 
+-- and so of the places of a program's statements where it holds of those of the tokens
+program_places : (P : List ℕ → Type 0) → ((a b : List ℕ) → SomeOf a b → P b → P a)
+    → (source : List ℕ) (p : Program) (x : HasProgram source p)
+    → P (froms x.tokens) → P (places p.steps)
+program_places P of_some source p x tokens =
+    let end = comes_on P of_some x.derived.1 (whole x.tree ∷ []) x.derived.0 refl tokens in
+    let own = of_some _ _ (front_of (map place x.tree.statements) (froms x.derived.0.left)) end in
+    let steps = numbered_places (scope_of x.tree) [] x.tree.statements in
+    let all : map place x.tree.statements ≡ places p.steps =
+    steps ∙ sym (ap (λ (p : Program). places p.steps) x.program_is) in
+    subst P all own
+
 program_ascends : (source : List ℕ) (p : Program) → HasProgram source p → Ascends 0 (places p.steps)
 program_ascends source p x =
     let there = laid source x.tokens x.cut in
     let tokens = tokens_ascend source 0 x.tokens there.stand there.in_order (λ k d inside. omega arith) in
-    let end = comes_ascend x.derived.1 (whole x.tree ∷ []) x.derived.0 refl tokens in
-    let own = some_ascend (front_of (map place x.tree.statements) (froms x.derived.0.left)) 0 end in
-    let steps = numbered_places (scope_of x.tree) [] x.tree.statements in
-    let all : map place x.tree.statements ≡ places p.steps =
-    steps ∙ sym (ap (λ (p : Program). places p.steps) x.program_is) in
-    subst (Ascends 0) all own
+    program_places (Ascends 0) (λ a b some h. some_ascend some 0 h) source p x tokens
+
+-- each place lies in the source
+program_within : (source : List ℕ) (p : Program) → HasProgram source p → AreBelow (length source) (places p.steps)
+program_within source p x =
+    program_places (AreBelow (length source)) (λ a b some h. some_below some (length source) h) source p x
+    (tokens_below source x.tokens (laid source x.tokens x.cut).stand)
 
 pub in_order : StatementsStandInOrder
 in_order source p x = ascending 0 (places p.steps) (program_ascends source p x)
@@ -335,3 +368,12 @@ at_least_place source p rule at x refused =
       least = λ other place broken. first_least p refused broken 0 ascends;
       only = λ other broken. first_only p refused broken 0 ascends refl;
     }
+
+broken_below : {p : Program} {facts : Facts} {ss : List Step} {number at : ℕ} → FirstBroken p facts ss number at
+    → (high : ℕ) → AreBelow high (places ss) → at < high
+broken_below (first.here fails) high h = h.0
+broken_below (first.later passes rest) high h = broken_below rest high h.1
+
+-- a refusal's place lies in the source
+pub refused_within : (source : List ℕ) (p : Program) (rule at : ℕ) → HasProgram source p → IsRefused p rule at → at < length source
+refused_within source p rule at x refused = broken_below refused (length source) (program_within source p x)

@@ -5,12 +5,11 @@ use Rattle.par_io.proofs.host_folder.HostFolderFolder.TheImpl.Goals as goal
 
 pub read-tells : goal.read-tells
 read-tells g c =
-    let causes = causes_of_read c.result (counts_of c.args.self.now) (counts_of c.new.self.now) c.ensures.counts in
+    let causes = causes_of_read c.result (counts_of c.args.self.now) (counts_of c.new.self.now) c.ensures.answers in
     record {
       kept = refl;
-      faults_never_fall = causes.faults_never_fall;
-      absents_never_fall = causes.absents_never_fall;
-      longs_never_fall = causes.longs_never_fall;
+      counted = c.ensures.counted;
+      none_falls = causes.none_falls;
       short = c.ensures.short;
       found = always_if_ok _ c.result (λ bytes. tt);
       absent_counts = causes.absent;
@@ -23,11 +22,10 @@ read-tells g c =
 
 pub write-tells : goal.write-tells
 write-tells g c =
-    let causes = causes_of_write c.result (counts_of c.args.self.now) (counts_of c.new.self.now) c.ensures.counts in
+    let causes = causes_of_write c.result (counts_of c.args.self.now) (counts_of c.new.self.now) c.ensures.answers in
     record {
-      faults_never_fall = causes.faults_never_fall;
-      absents_never_fall = causes.absents_never_fall;
-      longs_never_fall = causes.longs_never_fall;
+      counted = c.ensures.counted;
+      none_falls = causes.none_falls;
       written = always_on_ok c.result tt;
       failed_counts = causes.failed;
       failed = λ failed. tt;

@@ -6,6 +6,7 @@ pub put-tells : goal.put-tells
 put-tells g c =
     let causes = causes_of_put c.result c.args.self.now.faults c.new.self.now.faults c.ensures.no_fault c.ensures.fault in
     record {
+      counted = c.ensures.counted;
       faults_never_fall = causes.never_falls;
       put = always_on_ok c.result refl;
       failed_counts = causes.failed;
