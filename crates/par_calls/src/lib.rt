@@ -9,6 +9,8 @@ mod class_files;
 #[cfg(test)]
 mod compiling;
 #[cfg(test)]
+mod event_lines;
+#[cfg(test)]
 mod expect;
 #[cfg(test)]
 mod input_files;

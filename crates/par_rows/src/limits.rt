@@ -1,7 +1,10 @@
 //! Sources at a limit, and one above it.
 
-use crate::call::{ACCEPTED, Answer, NOT_BUILT, checks_as, expect, line_checks_as, with_body};
-use par_io::NoMemory;
+use crate::call::{
+    ACCEPTED, Answer, KEY_42, NOT_BUILT, call, checks_as, compiled, expect, line_checks_as,
+    with_body, with_line,
+};
+use par_io::{MemSink, NoMemory};
 use std::alloc::{AllocError, Global};
 use std::test::Fail;
 
@@ -330,6 +333,49 @@ static NESTING: &[Row] = &[
 #[test]
 fn tokens_nest_up_to_64_deep(rt: HostRuntime) -> Result<(), Fail> {
     check_limits(rt.alloc(), NESTING)
+}
+
+/// Whether a source is compiled, and its class file runs to its end.
+fn runs_to_its_end(alloc: Global, source: &str) -> Result<bool, NoMemory> {
+    let mut folder = compiled(alloc, source, KEY_42)?;
+    let mut out = MemSink::new(alloc, 20_000)?;
+    let status = call(alloc, "paragon Shop in.txt 2000", &mut folder, &mut out)?;
+    Ok(status == 0 && out.bytes().ends_with(b"end\n"))
+}
+
+/// Whether a row that is within the limits is compiled and run to its end.
+fn row_runs(alloc: Global, row: &Row) -> Result<bool, NoMemory> {
+    if row.3.1 != ACCEPTED.1 {
+        return Ok(true);
+    }
+    let line = repeated(alloc, row.2)?;
+    let source = with_line(alloc, row.1, line.as_str())?;
+    runs_to_its_end(alloc, source.as_str())
+}
+
+#[test]
+fn sources_at_a_limit_run(rt: HostRuntime) -> Result<(), Fail> {
+    for row in ROWS {
+        expect(row_runs(rt.alloc(), row)?, row.0)?;
+    }
+    Ok(())
+}
+
+/// Whether a source of so many numbers that need an entry of their own in the constant pool is
+/// compiled, and puts them out. Behind 256 entries the longer form of the instruction is written.
+fn shows_numbers(alloc: Global, many: u32) -> Result<bool, NoMemory> {
+    let body = repeated(alloc, &[("show(40000#); ", many)])?;
+    let source = with_body(alloc, body.as_str())?;
+    let mut folder = compiled(alloc, source.as_str(), KEY_42)?;
+    let mut out = MemSink::new(alloc, 20_000)?;
+    let status = call(alloc, "paragon Shop in.txt 2000", &mut folder, &mut out)?;
+    let lines = repeated(alloc, &[("out Shop.show 40000#\n", many), ("end\n", 1)])?;
+    Ok((status, out.bytes()) == (0, lines.as_bytes()))
+}
+
+#[test]
+fn a_constant_pool_of_more_than_256_entries(rt: HostRuntime) -> Result<(), Fail> {
+    expect(shows_numbers(rt.alloc(), 300)?, "300 numbers")
 }
 
 /// The common source, with blanks behind it, as many as make it so long.
