@@ -127,9 +127,18 @@ all_catch (c ∷ cs) = plain.Catch (handler c) (all_catch cs)
 -- a method as plain data
 abbrev pub method : MethodDecl → Method
 method m = record {
-  id = m.id; is_static = m.is_static; result = m.result; policy = m.policy; params = m.params;
-  effects = m.effects; expects = m.expects; opens = m.opens; closes = m.closes; throws = m.throws;
-  body = braces m.body }
+  id = m.id;
+  is_static = m.is_static;
+  result = m.result;
+  policy = m.policy;
+  params = m.params;
+  effects = m.effects;
+  expects = m.expects;
+  opens = m.opens;
+  closes = m.closes;
+  throws = m.throws;
+  body = braces m.body;
+}
 
 abbrev pub methods : List MethodDecl → List Method
 methods [] = []
@@ -138,8 +147,13 @@ methods (m ∷ ms) = method m ∷ methods ms
 -- a class as plain data
 abbrev pub class_of : ClassDecl → Class
 class_of c = record {
-  id = c.id; exception = c.exception; birth = c.birth; fields = c.fields; channels = c.channels;
-  methods = methods c.methods }
+  id = c.id;
+  exception = c.exception;
+  birth = c.birth;
+  fields = c.fields;
+  channels = c.channels;
+  methods = methods c.methods;
+}
 
 -- a declaration as plain data
 abbrev pub declared : Decl → Declaration
