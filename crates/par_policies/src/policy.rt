@@ -44,7 +44,6 @@ pub fn may_policy(
     }
 }
 
-#[tactic(auto, using(par_tree::proofs::Rules::run_built))]
 fn marked_policy(
     alloc: Global,
     cursor: &mut Cursor<'_, Paragon>,
@@ -56,6 +55,19 @@ fn marked_policy(
     ensures shorter { OnOk result (length cursor.new.left.now < length cursor.old.left.now) }
 {
     cursor.take(Sort::Sign(sign::QUESTION))?;
+    some_policy(alloc, cursor)
+}
+
+/// A policy where one may also be left out.
+#[tactic(auto, using(par_tree::proofs::Rules::run_built))]
+pub fn some_policy(
+    alloc: Global,
+    cursor: &mut Cursor<'_, Paragon>,
+) -> Result<Option<PolicyExpr>, ParseError>
+    ensures read { Reads (symbol.name g.Policy ∷ symbol.builds g.SomePolicy ∷ [])
+        [] may_be_policy (input cursor.old) result (input cursor.new) }
+    ensures shorter { OnOk result (length cursor.new.left.now < length cursor.old.left.now) }
+{
     let policy = policy(alloc, cursor)?;
     Ok(Some(policy))
 }
