@@ -1,0 +1,285 @@
+-- Each name of straight-line sources, and what is pending of the whole grammar meanwhile.
+use Rattle.std.proofs.Common.{◌≡◌, ℕ, zero, suc, [], ◌∷◌, ◌++◌, length, None, Some, refl, arith}
+use Rattle.par_lexer.specs.declared.word.TheConstants.{STATIC, VOID, BOTTOM, INT, ACTOR, CLASS}
+use Rattle.par_lexer.specs.declared.sign.TheConstants.{LEFT_BRACE, RIGHT_BRACE, LEFT_PAREN, RIGHT_PAREN, SEMICOLON, COLON, ASSIGN, PLUS, BANG}
+use Rattle.par_lexer.specs.declared.operator.BinOp.TheVariants as op
+use Rattle.par_grammar.specs.declared.sort.Sort.{Sort}
+use Rattle.par_grammar.specs.declared.sort.Sort.TheVariants.{Word, Name, Number, Sign, End}
+use Rattle.par_grammar.specs.Grammar.{token, kept, finish, restarts, enters, leaves, name, builds}
+use Rattle.par_grammar.specs.Derivation as derivation
+use Rattle.par_tree.specs.Grammar as whole
+use Rattle.par_tree.specs.Values.{paragon}
+use Rattle.par_straight.specs.Grammar as line
+use Rattle.par_straight_sentences.specs.Sentences.{StraightSourcesAreSentences}
+use Rattle.par_straight_sentences.proofs.Pending.{before}
+use Rattle.par_straight_sentences.proofs.Follows.{within, free, Follows, nothing, fewer, known, each, less, at, turns, opens, skips, fade, restarts_first, restarts_then, leaves_both, counts_both, enters_both, reads_on, reads_at, reads, chooses, finishes}
+
+-- sums
+
+-- what is pending behind a sum's first term, for the operators that bind less than '*'
+abbrev lower : whole.Symbols
+lower =
+    name (whole.More 8) ∷ name (whole.More 7) ∷ name (whole.More 6) ∷ name (whole.More 5)
+    ∷ name (whole.More 4) ∷ name (whole.More 3) ∷ name (whole.More 2) ∷ name (whole.More 1)
+    ∷ name (whole.More 0) ∷ []
+
+-- and behind a term: what may be selected of it, and '*'
+abbrev selected : whole.Symbols → whole.Symbols
+selected r = name whole.Tail ∷ name (whole.More 9) ∷ r
+
+abbrev called : whole.Symbols → whole.Symbols
+called r = name whole.Callee ∷ name whole.Tail ∷ name (whole.More 9) ∷ r
+
+-- the operand of '+' is done
+abbrev added : whole.Symbols → whole.Symbols
+added r = builds (whole.Binary op.Add) ∷ r
+
+-- names that have gone before a token of this sort
+abbrev Gone : Sort → whole.Symbols → Type 0
+Gone k q = (n : ℕ) (s : line.Symbols) (p : whole.Symbols)
+    → Follows within n (Some k) s p → Follows within n (Some k) s (q ++ p)
+
+-- a sum ends before a token of this sort
+record Ending (k : Sort) : Type 0 where
+  selected_gone : Gone k (selected [])
+  called_gone : Gone k (called [])
+  selected_added : Gone k (selected (added []))
+  called_added : Gone k (called (added []))
+  lower_gone : Gone k lower
+
+before_semicolon : Ending (Sign SEMICOLON)
+before_semicolon = record {
+  selected_gone = λ n s p. fade (selected []) refl;
+  called_gone = λ n s p. fade (called []) refl;
+  selected_added = λ n s p. fade (selected (added [])) refl;
+  called_added = λ n s p. fade (called (added [])) refl;
+  lower_gone = λ n s p. fade lower refl;
+}
+
+before_parenthesis : Ending (Sign RIGHT_PAREN)
+before_parenthesis = record {
+  selected_gone = λ n s p. fade (selected []) refl;
+  called_gone = λ n s p. fade (called []) refl;
+  selected_added = λ n s p. fade (selected (added [])) refl;
+  called_added = λ n s p. fade (called (added [])) refl;
+  lower_gone = λ n s p. fade lower refl;
+}
+
+module _ {n : ℕ} {s : line.Symbols} {r : whole.Symbols} where
+  constant : Follows within n None (name line.MoreTerms ∷ s) (selected r)
+      → Follows within n (Some Number) (kept Number ∷ builds line.Constant ∷ builds line.NextTerm ∷ name line.MoreTerms ∷ s) (name (whole.Level 9) ∷ r)
+  constant h = reads_at refl h
+
+  variable : Follows within n None (name line.MoreTerms ∷ s) (selected r) → Follows within n None (name line.MoreTerms ∷ s) (called r)
+      → Follows within n (Some Name) (kept Name ∷ name line.Called ∷ builds line.NextTerm ∷ name line.MoreTerms ∷ s) (name (whole.Level 9) ∷ r)
+  variable h v = reads_at refl (chooses (opens (counts_both (reads_at refl (reads (Sign RIGHT_PAREN ∷ []) refl h))), tt) (skips v))
+
+-- what stands behind a sum begins with a token of this sort
+abbrev First : Sort → line.Symbols → Type 0
+First k s = (n : ℕ) (p : whole.Symbols) → Follows within n (Some k) s p → Follows within n None s p
+
+module _ {s : line.Symbols} {p : whole.Symbols} {k : Sort} (ends : Ending k) (first : First k s) where
+  more_terms : (n : ℕ) (q : whole.Symbols) → Gone (Sign PLUS) q → Gone k q
+      → Follows within n (Some k) s p → Follows within n None (name line.MoreTerms ∷ s) (q ++ (lower ++ p))
+  more_terms zero q plus_gone gone h = nothing
+  more_terms (suc n) q plus_gone gone h =
+      let next = more_terms n (selected (added [])) (λ n s p. fade (selected (added [])) refl) ends.selected_added (fewer h) in
+      let next_called = more_terms n (called (added [])) (λ n s p. fade (called (added [])) refl) ends.called_added (fewer h) in
+      let plus = opens (counts_both (reads_on refl (chooses (constant next, (variable next next_called, tt)) tt))) in
+      chooses (plus_gone (suc n) _ (lower ++ p) plus, tt)
+      (first (suc n) (q ++ (lower ++ p)) (gone (suc n) s (lower ++ p) (ends.lower_gone (suc n) s p h)))
+
+  -- A sum, where the next token is no ')'.
+  sum : (n f : ℕ) (e : whole.Symbols) → before paragon f Number e ≡ name (whole.Level 9) ∷ (lower ++ p)
+      → before paragon f Name e ≡ name (whole.Level 9) ∷ (lower ++ p)
+      → Follows within n (Some k) s p → Follows within n None (name line.Sum ∷ s) e
+  sum n f e number_is name_is h =
+      let next = more_terms n (selected []) (λ n s p. fade (selected []) refl) ends.selected_gone h in
+      let next_called = more_terms n (called []) (λ n s p. fade (called []) refl) ends.called_gone h in
+      chooses tt (skips (chooses (
+        turns f number_is (constant next),
+        (turns f name_is (variable next next_called), tt),
+      ) tt))
+
+-- statements
+
+-- what closes the block, the class and the source
+abbrev line_end : line.Symbols
+line_end =
+    token (Sign RIGHT_BRACE) ∷ leaves ∷ token (Sign RIGHT_BRACE) ∷ finish ∷ builds line.Whole ∷ []
+
+abbrev whole_end : whole.Symbols
+whole_end =
+    token (Sign RIGHT_BRACE) ∷ leaves ∷ builds whole.WholeBlock ∷ builds whole.NextMethod
+    ∷ name whole.MoreMembers ∷ token (Sign RIGHT_BRACE) ∷ builds whole.ClassDecl
+    ∷ builds whole.NextDecl ∷ name whole.MoreDecls ∷ finish ∷ []
+
+the_end : (n : ℕ) → Follows free n None line_end (name whole.MoreStmts ∷ whole_end)
+the_end n =
+    reads (Sign RIGHT_BRACE ∷ []) refl (leaves_both (reads (Sign RIGHT_BRACE ∷ []) refl
+    (at End refl (opens finishes))))
+
+abbrev more_statements : line.Symbols
+more_statements = name line.MoreStatements ∷ line_end
+
+abbrev more_stmts : whole.Symbols
+more_stmts = name whole.MoreStmts ∷ whole_end
+
+module _ (n : ℕ) (rest : Follows free n None more_statements more_stmts) where
+  local_set : Follows free n None
+      (name line.Sum ∷ token (Sign SEMICOLON) ∷ builds line.NextLocal ∷ more_statements)
+      (restarts ∷ name (whole.Level 0) ∷ token (Sign SEMICOLON) ∷ builds whole.LocalStmt ∷ builds whole.NextStmt ∷ more_stmts)
+  local_set = restarts_then (sum before_semicolon (λ n p. at (Sign SEMICOLON) refl) n 9 _ refl refl (reads_at refl (less rest)))
+
+  assigned : Follows within n None
+      (name line.Sum ∷ builds line.NextAssign ∷ token (Sign SEMICOLON) ∷ more_statements)
+      (name (whole.Level 0) ∷ token (Sign SEMICOLON) ∷ builds whole.AssignStmt ∷ builds whole.NextStmt ∷ more_stmts)
+  assigned = sum before_semicolon (λ n p. at (Sign SEMICOLON) refl) n 9 _ refl refl (reads_at refl (less rest))
+
+  put_out : Follows within n None
+      (name line.Sum ∷ token (Sign RIGHT_PAREN) ∷ builds line.NextCall ∷ token (Sign SEMICOLON) ∷ more_statements)
+      (name whole.ArgList ∷ token (Sign RIGHT_PAREN) ∷ builds whole.CallOwn ∷ name whole.CallTail ∷ builds whole.NextStmt ∷ more_stmts)
+  put_out =
+      sum before_parenthesis (λ n p. at (Sign RIGHT_PAREN) refl) n 11 _ refl refl
+      (reads_at refl (reads (Sign SEMICOLON ∷ []) refl (less rest)))
+
+statements : (n : ℕ) → Follows free n None more_statements more_stmts
+statements zero = nothing
+statements (suc n) =
+    let rest = statements n in
+    chooses (
+      restarts_first (reads_on refl (reads (Name ∷ Sign ASSIGN ∷ []) refl (local_set n rest))),
+      (
+        restarts_first (reads_on refl (reads (Name ∷ Sign SEMICOLON ∷ []) refl rest)),
+        (
+          opens (restarts_first (restarts_then (reads_on refl (chooses (
+            reads_at refl (assigned n rest),
+            (opens (counts_both (reads_at refl (put_out n rest))), tt),
+          ) tt)))),
+          tt,
+        ),
+      ),
+    )
+    (the_end (suc n))
+
+-- policies
+
+-- names that have gone before a token of this sort, where nothing has been counted
+abbrev Done : Sort → whole.Symbols → Type 0
+Done k q = (n : ℕ) (s : line.Symbols) (p : whole.Symbols)
+    → Follows free n (Some k) s p → Follows free n (Some k) s (q ++ p)
+
+-- what is pending behind a lock that a clause needs
+abbrev needed : whole.Symbols → whole.Symbols
+needed r = name whole.LockActors ∷ builds whole.OneLock ∷ builds whole.NextLock ∷ name whole.MoreNeeds ∷ r
+
+abbrev clause_end : whole.Symbols
+clause_end = builds whole.OneClause ∷ builds whole.NextClause ∷ []
+
+more_locks : {s : line.Symbols} {r : whole.Symbols} (n : ℕ) → Follows free n None s (needed r)
+    → Follows free n None (name line.MoreIdents ∷ s) (needed r)
+more_locks zero h = nothing
+more_locks (suc n) h = chooses (reads_on refl (reads (Name ∷ []) refl (more_locks n (fewer h))), tt) h
+
+abbrev line_clauses : line.Symbols → line.Symbols
+line_clauses s = name line.MoreClauses ∷ token (Sign RIGHT_BRACE) ∷ s
+
+abbrev whole_clauses : whole.Symbols → whole.Symbols
+whole_clauses p = name whole.MoreClauses ∷ token (Sign RIGHT_BRACE) ∷ p
+
+module _ {s : line.Symbols} {p : whole.Symbols} where
+  one_clause : (n : ℕ) → Follows free n None (line_clauses s) (name whole.Needs ∷ (clause_end ++ whole_clauses p))
+      → Follows free n None (line_clauses s) (needed (clause_end ++ whole_clauses p))
+      → Follows free n None (name line.Clause ∷ line_clauses s) (name whole.Clause ∷ builds whole.NextClause ∷ whole_clauses p)
+  one_clause n none some =
+      reads (Name ∷ Sign COLON ∷ []) refl
+      (chooses (reads_at refl (more_locks n (skips some)), tt) (skips none))
+
+  more_clauses : (n : ℕ) (q : whole.Symbols) → Done (Sign SEMICOLON) q → Done (Sign RIGHT_BRACE) q
+      → Follows free n None (token (Sign RIGHT_BRACE) ∷ s) (token (Sign RIGHT_BRACE) ∷ p)
+      → Follows free n None (line_clauses s) (q ++ whole_clauses p)
+  more_clauses zero q semicolon brace h = nothing
+  more_clauses (suc n) q semicolon brace h =
+      let none = more_clauses n (name whole.Needs ∷ clause_end) (λ n s p. fade (name whole.Needs ∷ clause_end) refl)
+      (λ n s p. fade (name whole.Needs ∷ clause_end) refl) (fewer h) in
+      let some = more_clauses n (needed clause_end) (λ n s p. fade (needed clause_end) refl)
+      (λ n s p. fade (needed clause_end) refl) (fewer h) in
+      chooses (semicolon (suc n) _ (whole_clauses p) (reads_on refl (one_clause n none some)), tt)
+      (at (Sign RIGHT_BRACE) refl (brace (suc n) _ (whole_clauses p) (turns 1 refl (known h))))
+
+  clauses : (n : ℕ) → Follows free n None (token (Sign RIGHT_BRACE) ∷ s) (token (Sign RIGHT_BRACE) ∷ p)
+      → Follows free n None (name line.Clauses ∷ token (Sign RIGHT_BRACE) ∷ s) (name whole.Clauses ∷ token (Sign RIGHT_BRACE) ∷ p)
+  clauses n h =
+      let none = more_clauses n (name whole.Needs ∷ clause_end) (λ n s p. fade (name whole.Needs ∷ clause_end) refl)
+      (λ n s p. fade (name whole.Needs ∷ clause_end) refl) h in
+      let some = more_clauses n (needed clause_end) (λ n s p. fade (needed clause_end) refl)
+      (λ n s p. fade (needed clause_end) refl) h in
+      chooses (skips (turns 2 refl (known (one_clause n none some))), tt)
+      (skips (at (Sign RIGHT_BRACE) refl (turns 2 refl (known h))))
+
+-- the class
+
+-- the method, and what stands behind it
+abbrev method : line.Symbols
+method =
+    token (Word STATIC) ∷ token (Word VOID) ∷ kept Name ∷ token (Sign LEFT_PAREN)
+    ∷ token (Sign RIGHT_PAREN) ∷ token (Sign BANG) ∷ token (Word BOTTOM)
+    ∷ enters ∷ token (Sign LEFT_BRACE) ∷ name line.Statements ∷ line_end
+
+abbrev more_members : whole.Symbols
+more_members =
+    name whole.MoreMembers ∷ token (Sign RIGHT_BRACE) ∷ builds whole.ClassDecl
+    ∷ builds whole.NextDecl ∷ name whole.MoreDecls ∷ finish ∷ []
+
+the_method : (n : ℕ) → Follows free n None method more_members
+the_method n =
+    reads (Word STATIC ∷ Word VOID ∷ Name ∷ Sign LEFT_PAREN ∷ Sign RIGHT_PAREN ∷ Sign BANG ∷ Word BOTTOM ∷ []) refl
+    (at (Sign LEFT_BRACE) refl (opens (restarts_then (enters_both (reads_at refl
+    (chooses tt (skips (each (λ k. turns 2 refl (known (less (statements n))))))))))))
+
+-- a member behind its policy
+the_member : (n : ℕ) → Follows free n None (name line.MoreMembers ∷ method) more_members
+    → Follows free n None
+    (token (Sign RIGHT_BRACE) ∷ name line.Kind ∷ name line.MoreMembers ∷ method)
+    (token (Sign RIGHT_BRACE) ∷ builds whole.ClausesTerm ∷ builds whole.FirstTerm ∷ name whole.MoreTerms
+    ∷ builds whole.SomePolicy ∷ name whole.PlainMember ∷ more_members)
+the_member n rest =
+    reads (Sign RIGHT_BRACE ∷ []) refl (chooses (
+      reads_at refl (reads (Word INT ∷ Name ∷ Sign LEFT_PAREN ∷ Sign RIGHT_PAREN ∷ Sign SEMICOLON ∷ []) refl rest),
+      (
+        reads_at refl (reads (Word VOID ∷ Name ∷ Sign LEFT_PAREN ∷ Word INT ∷ Name ∷ Sign RIGHT_PAREN ∷ Sign SEMICOLON ∷ []) refl rest),
+        (reads_at refl (reads (Word INT ∷ Name ∷ Sign SEMICOLON ∷ []) refl rest), tt),
+      ),
+    ) tt)
+
+members : (n : ℕ) → Follows free n None (name line.MoreMembers ∷ method) more_members
+members zero = nothing
+members (suc n) =
+    chooses (reads_on refl (reads (Sign LEFT_BRACE ∷ []) refl (clauses n (the_member n (members n)))), tt)
+    (the_method (suc n))
+
+-- the source
+
+abbrev class : line.Symbols
+class = token (Word CLASS) ∷ kept Name ∷ token (Sign LEFT_BRACE) ∷ name line.Members ∷ method
+
+locks : (n : ℕ) → Follows free n None (name line.MoreLocks ∷ class) (name whole.MoreDecls ∷ finish ∷ [])
+locks zero = nothing
+locks (suc n) =
+    chooses (reads_on refl (reads (Name ∷ Sign SEMICOLON ∷ []) refl (locks n)), tt)
+    (reads (Word CLASS ∷ Name ∷ Sign LEFT_BRACE ∷ []) refl
+    (chooses tt (skips (each (λ k. turns 2 refl (known (members (suc n))))))))
+
+actors : {s : line.Symbols} {p : whole.Symbols} (n : ℕ) → Follows free n None s (name whole.MoreIdents ∷ p)
+    → Follows free n None (name line.MoreIdents ∷ s) (name whole.MoreIdents ∷ p)
+actors zero h = nothing
+actors (suc n) h = chooses (reads_on refl (reads (Name ∷ []) refl (actors n (fewer h))), tt) h
+
+source : (n : ℕ) → Follows free n None (name line.Source ∷ []) (name whole.Program ∷ [])
+source n =
+    reads (Word ACTOR ∷ Name ∷ []) refl
+    (actors n (reads (Sign SEMICOLON ∷ []) refl (chooses tt (skips (locks n)))))
+
+pub sentences : StraightSourcesAreSentences
+sentences tokens tree x =
+    (source (suc (length tokens))).ends (derivation.whole tokens) 0 tt (omega arith) tt [] _ x.1 []
