@@ -4,5 +4,7 @@ pub mod Seen
 pub mod Below
 pub mod Kept
 pub mod Ordered
+pub mod Filtered
 pub mod Antisymmetry
 pub mod Joined
+pub mod Allowed

@@ -18,6 +18,18 @@ within inner outer = list_all (has outer) inner
 abbrev pub Gains : List ℕ → List ℕ → ℕ → Type 0
 Gains old new number = (n : ℕ) → Contains new n ↔ (Contains old n ⊎ (n ≡ number))
 
+-- the set has exactly the numbers of these two
+abbrev pub IsUnion : List ℕ → List ℕ → List ℕ → Type 0
+IsUnion set one other = (n : ℕ) → Contains set n ↔ (Contains one n ⊎ Contains other n)
+
 -- the new set has exactly the numbers of both
 abbrev pub GainsAll : List ℕ → List ℕ → List ℕ → Type 0
-GainsAll old new more = (n : ℕ) → Contains new n ↔ (Contains old n ⊎ Contains more n)
+GainsAll old new more = IsUnion new old more
+
+-- it has exactly the numbers of the first that are not in the second
+abbrev pub IsDifference : List ℕ → List ℕ → List ℕ → Type 0
+IsDifference set one other = (n : ℕ) → Contains set n ↔ (Contains one n × ¬ (Contains other n))
+
+-- it has exactly the numbers that are in both
+abbrev pub IsIntersection : List ℕ → List ℕ → List ℕ → Type 0
+IsIntersection set one other = (n : ℕ) → Contains set n ↔ (Contains one n × Contains other n)

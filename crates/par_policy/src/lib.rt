@@ -6,6 +6,7 @@
 
 mod clauses;
 mod joins;
+mod lattice;
 mod laws;
 mod locks;
 mod memory;
@@ -16,7 +17,11 @@ mod policies;
 
 pub use clauses::{Clause, clause_leq};
 pub use joins::PolicySet;
-pub use laws::{open_locks_lower, order_is_antisymmetric, order_is_reflexive, order_is_transitive};
+pub use lattice::{join, meet, special};
+pub use laws::{
+    join_is_least_upper_bound, meet_is_greatest_lower_bound, open_locks_lower,
+    order_is_antisymmetric, order_is_reflexive, order_is_transitive, specialised_is_below,
+};
 pub use locks::Lockset;
 pub use memory::NoMemory;
 pub use order::{leq, leq_at, sees};

@@ -1,6 +1,7 @@
 // Sets of ground locks.
 ghost use Rattle.std.specs.Prelude.{◌≡◌, ◌↔◌, [], ◌++◌, All, Contains, IsTrue, IfOk, OnOk, OnErr};
 ghost use Rattle.par_policy.specs.Numbers.{IsAscending, has, within, Gains};
+ghost use Rattle.par_policy.specs.Numbers.{IsUnion, IsDifference, IsIntersection};
 
 use crate::memory::NoMemory;
 use crate::numbers::NumberSet;
@@ -64,6 +65,36 @@ impl Lockset {
         ensures ascending { IsAscending self.new }
     {
         self.locks.insert(lock)
+    }
+
+    /// The locks that are in one of the sets.
+    pub fn union(&self, alloc: Global, other: &Lockset) -> Result<Lockset, NoMemory>
+        ensures numbers { IfOk result (λ s. IsUnion s self.now other.now) }
+        ensures ascending { IfOk result (λ s. IsAscending s) }
+    {
+        Ok(Lockset {
+            locks: self.locks.union(alloc, &other.locks)?,
+        })
+    }
+
+    /// The locks of this set that are not in the other one.
+    pub fn minus(&self, alloc: Global, other: &Lockset) -> Result<Lockset, NoMemory>
+        ensures numbers { IfOk result (λ s. IsDifference s self.now other.now) }
+        ensures ascending { IfOk result (λ s. IsAscending s) }
+    {
+        Ok(Lockset {
+            locks: self.locks.minus(alloc, &other.locks)?,
+        })
+    }
+
+    /// The locks that are in both sets.
+    pub fn both(&self, alloc: Global, other: &Lockset) -> Result<Lockset, NoMemory>
+        ensures numbers { IfOk result (λ s. IsIntersection s self.now other.now) }
+        ensures ascending { IfOk result (λ s. IsAscending s) }
+    {
+        Ok(Lockset {
+            locks: self.locks.both(alloc, &other.locks)?,
+        })
     }
 
     pub(crate) fn as_slice(&self) -> &[u16]

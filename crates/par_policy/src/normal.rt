@@ -3,11 +3,24 @@ ghost use Rattle.std.specs.Prelude.{◌≡◌, ℕ, ◌<◌, ◌≤◌, ◌≢�
 ghost use Rattle.std.specs.List.{list_any, filter, AllWithin, HoldsAt};
 ghost use Rattle.std.specs.declared.cmp.Ordering.TheVariants.{Less};
 ghost use Rattle.par_policy.specs.Sees.{IsSeenAlike};
+ghost use Rattle.par_policy.specs.Lattice.{IsMeet};
 ghost use Rattle.par_policy.specs.Normal.{IsNormal, clause_cmp, covers};
 ghost use Rattle.par_policy.specs.Numbers.{IsAscending};
 
 use crate::clauses::{Clause, compare, covers};
 use crate::memory::NoMemory;
+
+// Puts each of the clauses among those that are kept.
+pub(crate) fn keep_all(kept: &mut Vec<Clause>, clauses: &[Clause]) -> Result<(), NoMemory>
+    requires { IsNormal kept.old.items }
+    ensures normal { OnOk result (IsNormal kept.new.items) }
+    ensures seen { OnOk result (IsMeet kept.new.items kept.old.items clauses.now) }
+{
+    for clause in clauses {
+        keep(kept, clause)?;
+    }
+    Ok(())
+}
 
 // Puts the clause among those that are kept, unless one of them covers it, in place of those that
 // it covers.

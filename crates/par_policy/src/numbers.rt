@@ -2,6 +2,7 @@
 ghost use Rattle.std.specs.Prelude.{◌≡◌, ◌||◌, [], IfOk, OnOk, OnErr};
 ghost use Rattle.std.specs.List.{list_all};
 ghost use Rattle.par_policy.specs.Numbers.{IsAscending, has, within, Gains, GainsAll};
+ghost use Rattle.par_policy.specs.Numbers.{IsUnion, IsDifference, IsIntersection};
 
 use crate::memory::NoMemory;
 use std::alloc::{AllocError, Global};
@@ -76,12 +77,47 @@ impl NumberSet {
         ensures err { OnErr result (self.new ≡ self.old) }
         ensures ascending { IsAscending self.new }
     {
-        let mut both = self.clone()?;
-        for number in other.as_slice() {
-            both.insert(*number)?;
-        }
-        *self = both;
+        let copy = self.clone()?;
+        *self = copy.with_all(other)?;
         Ok(())
+    }
+
+    fn with_all(mut self, other: &NumberSet) -> Result<NumberSet, NoMemory>
+        ensures numbers { IfOk result (λ s. IsUnion s self other.now) }
+        ensures ascending { IfOk result (λ s. IsAscending s) }
+    {
+        for number in other.as_slice() {
+            self.insert(*number)?;
+        }
+        Ok(self)
+    }
+
+    pub(crate) fn union(&self, alloc: Global, other: &NumberSet) -> Result<NumberSet, NoMemory>
+        ensures numbers { IfOk result (λ s. IsUnion s self.now other.now) }
+        ensures ascending { IfOk result (λ s. IsAscending s) }
+    {
+        let copy = NumberSet {
+            numbers: Vec::from_slice(alloc, self.numbers.as_slice())?,
+        };
+        copy.with_all(other)
+    }
+
+    pub(crate) fn minus(&self, alloc: Global, other: &NumberSet) -> Result<NumberSet, NoMemory>
+        ensures numbers { IfOk result (λ s. IsDifference s self.now other.now) }
+        ensures ascending { IfOk result (λ s. IsAscending s) }
+    {
+        let rest = self.numbers.iter().copied();
+        let numbers = rest.filter(|number| !other.has(*number)).collect(alloc)?;
+        Ok(NumberSet { numbers })
+    }
+
+    pub(crate) fn both(&self, alloc: Global, other: &NumberSet) -> Result<NumberSet, NoMemory>
+        ensures numbers { IfOk result (λ s. IsIntersection s self.now other.now) }
+        ensures ascending { IfOk result (λ s. IsAscending s) }
+    {
+        let all = self.numbers.iter().copied();
+        let numbers = all.filter(|number| other.has(*number)).collect(alloc)?;
+        Ok(NumberSet { numbers })
     }
 }
 

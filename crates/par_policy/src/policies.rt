@@ -5,7 +5,7 @@ ghost use Rattle.par_policy.specs.Normal.{IsNormal};
 
 use crate::clauses::Clause;
 use crate::memory::NoMemory;
-use crate::normal::keep;
+use crate::normal::keep_all;
 use std::alloc::{AllocError, Global};
 use std::marker::Model;
 
@@ -35,10 +35,15 @@ impl Policy {
         ensures normal { IfOk result (λ p. IsNormal p) }
     {
         let mut kept = Vec::new(alloc);
-        for clause in clauses {
-            keep(&mut kept, clause)?;
-        }
-        Ok(Policy { clauses: kept })
+        keep_all(&mut kept, clauses)?;
+        Ok(Policy::of_normal(kept))
+    }
+
+    pub(crate) fn of_normal(clauses: Vec<Clause>) -> Policy
+        requires { IsNormal clauses.items }
+        ensures { result ≡ clauses.items }
+    {
+        Policy { clauses }
     }
 
     /// The clauses of the normal form. It takes no memory.

@@ -1,0 +1,3 @@
+pub mod Changed
+pub mod Members
+pub mod Sizes
