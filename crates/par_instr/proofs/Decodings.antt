@@ -1,38 +1,12 @@
 -- What is spelled is decoded.
-use Rattle.std.proofs.Common.{◌≡◌, ℕ, pos, negsuc, ◌+◌, ◌-◌, ◌≤◌, List, [], ◌∷◌, ◌++◌, length, take, drop, Some, None, Option, IsTrue, arith, refl, sym, ap, ◌∙◌}
+use Rattle.std.proofs.Common.{◌≡◌, ℕ, ◌+◌, ◌-◌, ◌≤◌, List, [], ◌∷◌, ◌++◌, length, take, drop, Some, None, Option, arith, refl, sym, ap, ◌∙◌}
 use Rattle.std.proofs.lemmas.Bool.Decides.{nat_tests}
 use Rattle.std.proofs.lemmas.Grind.{common_steps}
-use Rattle.std.proofs.lemmas.Int.{to_z-of_z, ints}
-use Rattle.std.proofs.lemmas.Nat.{from_be_bytes-to_be_bytes_2}
 use Rattle.std.specs.List.{slice_range}
-use Rattle.par_instr.proofs.Spellings.{each_is_listed}
+use Rattle.par_instr.proofs.Spellings.{each_is_listed, spelled-made}
 use Rattle.par_instr.specs.Decoding.{instruction, Decoded, sized, decoded, decoded_at}
-use Rattle.par_instr.specs.Spelling.{operand_bytes, row, NumbersFit, has_spelling, IsSpelled, Stands}
+use Rattle.par_instr.specs.Spelling.{operand_bytes, IsSpelled, Stands}
 use Rattle.par_instr.specs.declared.instr.Instr.{Instr}
-use Rattle.par_instr.specs.declared.instr.Instr.TheVariants.{Iconst, Bipush, Sipush, Ldc, LdcW, Iload, IloadShort, AloadShort, Istore, IstoreShort, Iadd, Return, Getstatic, Putstatic, Invokespecial, Invokestatic}
-
--- the opcode and the operands of an instruction are those of no other
-instruction-row : (i : Instr) → NumbersFit i → IsTrue (has_spelling i)
-    → instruction ((row i).first + (row i).place) (row i).operands ≡ i
-unfolding instruction
-instruction-row (Iconst (pos n)) fit has = grind (arith, nat_tests, ints)
-instruction-row (Iconst (negsuc n)) fit has = grind (arith, nat_tests, ints)
-instruction-row (Bipush n) fit has = grind (arith, ints, to_z-of_z)
-instruction-row (Sipush n) fit has = grind (arith, ints, to_z-of_z, from_be_bytes-to_be_bytes_2)
-instruction-row (Ldc n) fit has = refl
-instruction-row (LdcW n) fit has = grind (arith, from_be_bytes-to_be_bytes_2)
-instruction-row (Iload n) fit has = refl
-instruction-row (IloadShort n) fit has = grind (arith, nat_tests)
-instruction-row (AloadShort n) fit has = grind (arith, nat_tests)
-instruction-row (Istore n) fit has = refl
-instruction-row (IstoreShort n) fit has = grind (arith, nat_tests)
-instruction-row Iadd fit has = refl
-instruction-row Return fit has = refl
-instruction-row (Getstatic n) fit has = grind (arith, from_be_bytes-to_be_bytes_2)
-instruction-row (Putstatic n) fit has = grind (arith, from_be_bytes-to_be_bytes_2)
-instruction-row (Invokespecial n) fit has = grind (arith, from_be_bytes-to_be_bytes_2)
-instruction-row (Invokestatic n) fit has = grind (arith, from_be_bytes-to_be_bytes_2)
-instruction-row _ fit has = absurd (grind arith)
 
 -- operands that are all there are read
 sized-whole : (op n : ℕ) (operands rest : List ℕ) (i : Instr) → n ≡ length operands → instruction op operands ≡ i
@@ -52,8 +26,7 @@ pub decoded-spelled : (bytes rest : List ℕ) (i : Instr) → IsSpelled bytes i
     → decoded (bytes ++ rest) ≡ Some (record { instr = i; size = length bytes })
 decoded-spelled [] rest i s = absurd (cc (s.bytes_are))
 decoded-spelled (op ∷ operands) rest i s =
-    let same : instruction op operands ≡ i =
-    cc (instruction-row i s.fit s.has, s.bytes_are) in
+    let same : instruction op operands ≡ i = spelled-made i op operands s in
     let size : 1 + length operands ≡ length (op ∷ operands) = omega arith in
     decoded-row op operands rest i (each_is_listed i op operands s) same
     ∙ ap (λ (n : ℕ). Some (record { instr = i; size = n })) size

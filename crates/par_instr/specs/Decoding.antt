@@ -2,36 +2,50 @@
 use Rattle.std.specs.Prelude.{ℕ, ◌+◌, ◌-◌, pos, ◌-ℤ◌, nat_le, if◌then◌else◌, List, [], ◌∷◌, length, take, drop, Option, Some, None, slice_index_or}
 use Rattle.std.specs.Int.{w8, w16, from_be_bytes, cast_signed}
 use Rattle.par_instr.specs.declared.instr.Instr.{Instr}
-use Rattle.par_instr.specs.declared.instr.Instr.TheVariants.{Iconst, Bipush, Sipush, Ldc, LdcW, Iload, IloadShort, AloadShort, Istore, IstoreShort, Iadd, Return, Getstatic, Putstatic, Invokespecial, Invokestatic}
-use Rattle.par_instr.specs.Spelling.{operand_bytes}
+use Rattle.par_instr.specs.declared.instr.Instr.TheVariants.{AconstNull}
+use Rattle.par_instr.specs.Spelling.{Form, Alone, Constant, Short, Byte, SignedByte, Index, SignedPair, ByteAndSigned, Test, Row, opcode_row, operand_bytes}
 
--- the first operand byte
-abbrev pub byte : List ℕ → ℕ
-byte operands = slice_index_or operands 0 0
+-- an operand byte by its place
+abbrev pub byte_at : List ℕ → ℕ → ℕ
+byte_at operands n = slice_index_or operands n 0
 
 -- the number of two operand bytes, the highest first
 abbrev pub pair : List ℕ → ℕ
 pair operands = from_be_bytes w16 operands
 
--- The instruction of a listed opcode: the first line whose opcode is not below it.
+-- the variant with the numbers of an opcode's place among its neighbours and of operand bytes
+abbrev pub read : Form → ℕ → List ℕ → Form
+read (Alone i) k operands = Alone i
+read (Constant make n) k operands = Constant make (pos k -ℤ pos 1)
+read (Short make n) k operands = Short make k
+read (Byte make n) k operands = Byte make (byte_at operands 0)
+read (SignedByte make n) k operands = SignedByte make (cast_signed w8 (byte_at operands 0))
+read (Index make n) k operands = Index make (pair operands)
+read (SignedPair make n) k operands = SignedPair make (cast_signed w16 (pair operands))
+read (ByteAndSigned make n by) k operands =
+    ByteAndSigned make (byte_at operands 0) (cast_signed w8 (byte_at operands 1))
+read (Test make t n) k operands = Test make k (cast_signed w16 (pair operands))
+
+-- the instruction of a variant with its numbers
+abbrev pub whole : Form → Instr
+whole (Alone i) = i
+whole (Constant make n) = make n
+whole (Short make n) = make n
+whole (Byte make n) = make n
+whole (SignedByte make n) = make n
+whole (Index make n) = make n
+whole (SignedPair make n) = make n
+whole (ByteAndSigned make n by) = make n by
+whole (Test make t n) = make t n
+
+-- the instruction of an opcode of a row; any where there is no row
+abbrev pub made : ℕ → List ℕ → Option Row → Instr
+made op operands None = AconstNull
+made op operands (Some r) = whole (read r.form (op - r.first) operands)
+
+-- the instruction of a listed opcode and its operand bytes
 unfoldable pub instruction : ℕ → List ℕ → Instr
-instruction op operands =
-    if nat_le op 0x08 then Iconst (pos op -ℤ pos 3)
-    else if nat_le op 0x10 then Bipush (cast_signed w8 (byte operands))
-    else if nat_le op 0x11 then Sipush (cast_signed w16 (pair operands))
-    else if nat_le op 0x12 then Ldc (byte operands)
-    else if nat_le op 0x13 then LdcW (pair operands)
-    else if nat_le op 0x15 then Iload (byte operands)
-    else if nat_le op 0x1d then IloadShort (op - 0x1a)
-    else if nat_le op 0x2d then AloadShort (op - 0x2a)
-    else if nat_le op 0x36 then Istore (byte operands)
-    else if nat_le op 0x3e then IstoreShort (op - 0x3b)
-    else if nat_le op 0x60 then Iadd
-    else if nat_le op 0xb1 then Return
-    else if nat_le op 0xb2 then Getstatic (pair operands)
-    else if nat_le op 0xb3 then Putstatic (pair operands)
-    else if nat_le op 0xb7 then Invokespecial (pair operands)
-    else Invokestatic (pair operands)
+instruction op operands = made op operands (opcode_row op)
 
 -- an instruction with the number of its bytes
 pub record Decoded : Type 0 where
@@ -52,3 +66,8 @@ decoded (op ∷ bytes) = sized op bytes (operand_bytes op)
 -- the instruction at an offset of some code
 abbrev pub decoded_at : List ℕ → ℕ → Option Decoded
 decoded_at code at = decoded (drop at code)
+
+-- the instruction of an opcode with operand bytes that are 0
+abbrev pub blank_of : ℕ → Option Row → Option Instr
+blank_of op None = None
+blank_of op (Some r) = Some (whole (read r.form (op - r.first) (0 ∷ 0 ∷ [])))

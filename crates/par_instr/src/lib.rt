@@ -5,19 +5,19 @@
 //! Specification, Java SE 7, section 6.5) and how it changes the length of the operand list. It
 //! never looks into a constant pool, follows a branch or runs anything.
 //!
-//! An opcode is added by one line of the table `opcodes!` in opcodes.rt and one row of `listed` in
-//! specs/Spelling.antt. Nothing else changes: `Instr` and its rows there are whole already, and
-//! what is not yet listed has no spelling and is refused. Only with the last variant of all the
-//! two arms go that stand for those not listed.
+//! An opcode is one line of the table `opcodes!` in opcodes.rt and one row of `row` in
+//! specs/Spelling.antt; a variant that is new is named in `variants` there.
 #![tactic(auto)]
 
 mod instr;
 mod laws;
+mod numbers;
 mod opcodes;
 mod operands;
+mod spelling;
 
 pub use instr::{Instr, InstrError, NoMemory};
 pub use laws::{
     decoded_is_what_stands, spelling_ends_itself, spelling_is_one, spelling_is_read_again,
 };
-pub use opcodes::{decode, encode, stack_effect};
+pub use spelling::{decode, encode, stack_effect};

@@ -1,19 +1,9 @@
-ghost use Rattle.std.specs.Prelude.{◌≡◌, ◌+◌, ◌≤◌, [], ◌∷◌, length};
-ghost use Rattle.std.specs.Int.{w8, cast_unsigned};
-ghost use Rattle.par_instr.specs.Spelling.{index, signed, IsSpelled};
-
-use crate::instr::Instr;
-
-// The iconst whose opcode is this far behind the first, which pushes -1.
-pub(crate) fn constant(place: u8) -> Instr
-    requires { place ≤ 6 }
-    ensures { IsSpelled ((0x02 + place) ∷ []) result }
-{
-    Instr::Iconst(place as i8 - 1)
-}
+ghost use Rattle.std.specs.Prelude.{◌≡◌, length};
+ghost use Rattle.std.specs.Int.{w8, w16, cast_signed};
+ghost use Rattle.par_instr.specs.Decoding.{pair};
 
 pub(crate) fn signed_byte(byte: u8) -> i8
-    ensures { cast_unsigned w8 result ≡ byte }
+    ensures { result ≡ cast_signed w8 byte }
 {
     byte.cast_signed()
 }
@@ -21,7 +11,7 @@ pub(crate) fn signed_byte(byte: u8) -> i8
 // A big-endian index of the constant pool.
 pub(crate) fn unsigned_pair(bytes: &[u8]) -> u16
     requires { length bytes.now ≡ 2 }
-    ensures { index result ≡ bytes.now }
+    ensures { result ≡ pair bytes.now }
 {
     u16::from_be_bytes([bytes[0], bytes[1]])
 }
@@ -29,7 +19,7 @@ pub(crate) fn unsigned_pair(bytes: &[u8]) -> u16
 // A big-endian signed number.
 pub(crate) fn signed_pair(bytes: &[u8]) -> i16
     requires { length bytes.now ≡ 2 }
-    ensures { signed result ≡ bytes.now }
+    ensures { result ≡ cast_signed w16 (pair bytes.now) }
 {
     i16::from_be_bytes([bytes[0], bytes[1]])
 }

@@ -43,7 +43,7 @@ boundary_within code at w is =
     elim (or_cases (starts_at code at) (at == length code) is) [
       | inl starts ↦
           let d = starts-decoded code at w starts in
-          let within = decoded_at-within code at d.0 d.1 in
+          let within = decoded_at-within code at d.0 d.1.0 in
           omega (arith, within.0)
       | inr ends ↦ omega (arith, eqb-true at (length code) ends)
     ]

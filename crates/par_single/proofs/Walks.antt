@@ -1,5 +1,5 @@
 -- What a walk through code tells: where instructions start, and that one follows the other.
-use Rattle.std.proofs.Common.{◌≡◌, ℕ, zero, suc, ◌+◌, ◌-◌, ◌<◌, ◌≤◌, Bool, true, false, nat_lt, List, [], ◌∷◌, length, drop, Some, None, Option, arith, refl, sym, ap, ◌∙◌, inl, inr}
+use Rattle.std.proofs.Common.{◌≡◌, ℕ, zero, suc, ◌+◌, ◌-◌, ◌<◌, ◌≤◌, Bool, true, false, ◌&&◌, nat_lt, List, [], ◌∷◌, length, drop, Some, None, Option, arith, refl, sym, ap, ◌∙◌, inl, inr}
 use Rattle.std.proofs.lemmas.Bool.{cases_lt, lt-ltb, le-ltb}
 use Rattle.std.proofs.lemmas.Bool.Decides.{nat_tests}
 use Rattle.std.proofs.lemmas.Grind.{common_steps}
@@ -7,7 +7,8 @@ use Rattle.par_instr.proofs.Decodings.{IsWithin, decoded-within}
 use Rattle.par_instr.specs.Decoding.{Decoded, sized, decoded, decoded_at}
 use Rattle.par_instr.specs.Spelling.{operand_bytes}
 use Rattle.par_instr.specs.declared.instr.Instr.{Instr}
-use Rattle.par_single.specs.Walk.{if_listed, walks_after, walks, starts_after, starts_at}
+use Rattle.par_single.specs.StraightLine.{is_straight_line}
+use Rattle.par_single.specs.Walk.{if_listed, is_straight, walks_after, walks, starts_after, starts_at}
 
 -- what is left behind an instruction has fewer bytes
 left : (n : ℕ) (bytes : List ℕ) (d : Decoded) → IsWithin bytes d → length bytes ≤ suc n → length (drop d.size bytes) ≤ n
@@ -50,34 +51,50 @@ starts_after-past (byte ∷ bytes) (suc at) (suc n) past =
 -- ---- so a walk and its starts go on behind the instruction at the head
 
 -- what holds of the bytes behind an instruction that stands at their head
+abbrev left_behind : (List ℕ → Bool) → List ℕ → Option Decoded → Bool
+left_behind test bytes None = false
+left_behind test bytes (Some d) = test (drop d.size bytes)
+
+-- the same, where it is one of straight-line code
 abbrev pub behind : (List ℕ → Bool) → List ℕ → Option Decoded → Bool
 behind test bytes None = false
-behind test bytes (Some d) = test (drop d.size bytes)
+behind test bytes (Some d) = is_straight_line d.instr && test (drop d.size bytes)
 
-walks-sized : (op : ℕ) (bytes : List ℕ) (o : Option ℕ) → if_listed (walks_after bytes) o ≡ behind walks (op ∷ bytes) (sized op bytes o)
+walks-sized : (op : ℕ) (bytes : List ℕ) (o : Option ℕ) → if_listed (walks_after bytes) o ≡ left_behind walks (op ∷ bytes) (sized op bytes o)
 walks-sized op bytes None = refl
 walks-sized op bytes (Some n) =
-    elim (cases_lt (length bytes) n) as (λ _. walks_after bytes n ≡ behind walks (op ∷ bytes) (sized op bytes (Some n))) [
+    elim (cases_lt (length bytes) n) as (λ _. walks_after bytes n ≡ left_behind walks (op ∷ bytes) (sized op bytes (Some n))) [
       | inl short ↦ grind (arith, nat_tests, walks_after-short bytes n short)
       | inr room ↦ grind (arith, nat_tests, common_steps, walks_after-room bytes n room)
     ]
 
+straight-behind : (bytes : List ℕ) (o : Option Decoded) → (is_straight o && left_behind walks bytes o) ≡ behind walks bytes o
+straight-behind bytes None = refl
+straight-behind bytes (Some d) = refl
+
 pub walks-behind : (byte : ℕ) (bytes : List ℕ) → walks (byte ∷ bytes) ≡ behind walks (byte ∷ bytes) (decoded (byte ∷ bytes))
 unfolding walks_after
-walks-behind byte bytes = walks-sized byte bytes (operand_bytes byte)
+walks-behind byte bytes =
+    ap (λ (w : Bool). is_straight (decoded (byte ∷ bytes)) && w) (walks-sized byte bytes (operand_bytes byte))
+    ∙ straight-behind (byte ∷ bytes) (decoded (byte ∷ bytes))
 
 -- an instruction that is decoded is an opcode and so many operand bytes
 sized-some : (op : ℕ) (bytes : List ℕ) (o : Option ℕ) (d : Decoded) → sized op bytes o ≡ Some d → (n : ℕ) × ((o ≡ Some n) × (d.size ≡ suc n))
 sized-some op bytes None d found = absurd (cc found)
 sized-some op bytes (Some n) d found = (n, (refl, grind (arith, nat_tests)))
 
-walks-some : (bytes : List ℕ) (o : Option Decoded) → behind walks bytes o ≡ true → (d : Decoded) × ((o ≡ Some d) × (walks (drop d.size bytes) ≡ true))
+both : (one other : Bool) → (one && other) ≡ true → (one ≡ true) × (other ≡ true)
+both true other is = (refl, is)
+both false other is = absurd (cc is)
+
+walks-some : (bytes : List ℕ) (o : Option Decoded) → behind walks bytes o ≡ true
+    → (d : Decoded) × ((o ≡ Some d) × (is_straight_line d.instr ≡ true) × (walks (drop d.size bytes) ≡ true))
 walks-some bytes None w = absurd (cc w)
-walks-some bytes (Some d) w = (d, (refl, w))
+walks-some bytes (Some d) w = let parts = both (is_straight_line d.instr) (walks (drop d.size bytes)) w in (d, (refl, parts.0, parts.1))
 
 -- code that is a walk begins with an instruction, and is a walk behind it
 head : (code : List ℕ) → walks code ≡ true → 0 < length code
-    → (d : Decoded) × ((decoded code ≡ Some d) × (walks (drop d.size code) ≡ true))
+    → (d : Decoded) × ((decoded code ≡ Some d) × (is_straight_line d.instr ≡ true) × (walks (drop d.size code) ≡ true))
 head [] w some = absurd (omega arith)
 head (byte ∷ bytes) w some = walks-some (byte ∷ bytes) (decoded (byte ∷ bytes)) (sym (walks-behind byte bytes) ∙ w)
 
@@ -129,9 +146,9 @@ decoded-past code at d past =
 decoded-first : (code : List ℕ) (at : ℕ) → at ≡ 0 → decoded_at code at ≡ decoded code
 decoded-first code at first = ap (λ (n : ℕ). decoded (drop n code)) first
 
--- where an instruction starts, one is decoded
+-- where an instruction starts, one of straight-line code is decoded
 starts-decoded_in : (n : ℕ) (code : List ℕ) (at : ℕ) → length code ≤ n → walks code ≡ true → starts_at code at ≡ true
-    → (d : Decoded) × (decoded_at code at ≡ Some d)
+    → (d : Decoded) × ((decoded_at code at ≡ Some d) × (is_straight_line d.instr ≡ true))
 starts-decoded_in zero code at few w starts = absurd (cc (starts-none code at few, starts))
 starts-decoded_in (suc n) code at few w starts =
     elim (cases_lt 0 (length code)) [
@@ -143,17 +160,17 @@ starts-decoded_in (suc n) code at few w starts =
             | inl inside ↦
                 elim (cases_lt 0 at) [
                   | inl begun ↦ absurd (cc (starts-inside code at h.0 h.1.0 begun inside, starts))
-                  | inr first ↦ (h.0, decoded-first code at (omega arith) ∙ h.1.0)
+                  | inr first ↦ (h.0, (decoded-first code at (omega arith) ∙ h.1.0, h.1.1))
                 ]
             | inr past ↦
-                let rest = starts-decoded_in n (drop h.0.size code) (at - h.0.size) (left n code h.0 within few) h.1.1
+                let rest = starts-decoded_in n (drop h.0.size code) (at - h.0.size) (left n code h.0 within few) h.1.2
                 (sym (starts-past code at h.0 h.1.0 past) ∙ starts) in
-                (rest.0, decoded-past code at h.0 past ∙ rest.1)
+                (rest.0, (decoded-past code at h.0 past ∙ rest.1.0, rest.1.1))
           ]
     ]
 
 pub starts-decoded : (code : List ℕ) (at : ℕ) → walks code ≡ true → starts_at code at ≡ true
-    → (d : Decoded) × (decoded_at code at ≡ Some d)
+    → (d : Decoded) × ((decoded_at code at ≡ Some d) × (is_straight_line d.instr ≡ true))
 starts-decoded code at w starts = starts-decoded_in (length code) code at (omega arith) w starts
 
 -- the next one starts right behind it, exactly where the code has not ended there
@@ -188,13 +205,13 @@ starts-next_in (suc n) code at d few w starts found =
                   | inr first ↦
                       let same : h.0 ≡ d = cc (decoded-first code at (omega arith), found, h.1.0) in
                       let place : at + d.size ≡ h.0.size = omega (arith, ap (λ (e : Decoded). e.size) same) in
-                      ap (starts_at code) place ∙ starts-next_first code h.0 h.1.1 h.1.0
+                      ap (starts_at code) place ∙ starts-next_first code h.0 h.1.2 h.1.0
                       ∙ ap (λ (m : ℕ). nat_lt m (length code)) (sym place)
                 ]
             | inr past ↦
                 let rest = drop h.0.size code in
                 let there : starts_at rest (at - h.0.size) ≡ true = sym (starts-past code at h.0 h.1.0 past) ∙ starts in
-                let next = starts-next_in n rest (at - h.0.size) d (left n code h.0 within few) h.1.1 there
+                let next = starts-next_in n rest (at - h.0.size) d (left n code h.0 within few) h.1.2 there
                 (sym (decoded-past code at h.0 past) ∙ found) in
                 let place : at + d.size - h.0.size ≡ at - h.0.size + d.size = omega arith in
                 let many : length (drop h.0.size code) ≡ length code - h.0.size = grind (arith, common_steps) in
@@ -217,21 +234,34 @@ decoded_at-within code at d found =
 -- ---- what a loop along the code knows
 
 -- code is a walk where it is one behind its first instruction
-walks-head : (code : List ℕ) (d : Decoded) → decoded code ≡ Some d → walks code ≡ walks (drop d.size code)
+walks-head : (code : List ℕ) (d : Decoded) → decoded code ≡ Some d → walks code ≡ (is_straight_line d.instr && walks (drop d.size code))
 walks-head [] d found = absurd (cc found)
 walks-head (byte ∷ bytes) d found = walks-behind byte bytes ∙ ap (behind walks (byte ∷ bytes)) found
 
-pub walks-on : (code : List ℕ) (at next : ℕ) (i : Instr) → at < next
-    → decoded_at code at ≡ Some (record { instr = i; size = next - at }) → walks (drop next code) ≡ walks (drop at code)
-walks-on code at next i further found =
+walks-at : (code : List ℕ) (at next : ℕ) (i : Instr) → at < next
+    → decoded_at code at ≡ Some (record { instr = i; size = next - at })
+    → walks (drop at code) ≡ (is_straight_line i && walks (drop next code))
+walks-at code at next i further found =
     let same : drop (next - at) (drop at code) ≡ drop next code = grind (arith, common_steps) in
-    sym (walks-head (drop at code) (record { instr = i; size = next - at }) found ∙ ap walks same)
+    walks-head (drop at code) (record { instr = i; size = next - at }) found
+    ∙ ap (λ (bytes : List ℕ). is_straight_line i && walks bytes) same
+
+pub walks-on : (code : List ℕ) (at next : ℕ) (i : Instr) → at < next → is_straight_line i ≡ true
+    → decoded_at code at ≡ Some (record { instr = i; size = next - at }) → walks (drop next code) ≡ walks (drop at code)
+walks-on code at next i further straight found =
+    sym (walks-at code at next i further found ∙ ap (λ (b : Bool). b && walks (drop next code)) straight)
+
+-- it is none where another instruction stands
+pub walks-off : (code : List ℕ) (at next : ℕ) (i : Instr) → at < next → is_straight_line i ≡ false
+    → decoded_at code at ≡ Some (record { instr = i; size = next - at }) → walks (drop at code) ≡ false
+walks-off code at next i further other found =
+    walks-at code at next i further found ∙ ap (λ (b : Bool). b && walks (drop next code)) other
 
 stuck : (bytes : List ℕ) → 0 < length bytes → decoded bytes ≡ None → walks bytes ≡ false
 stuck [] some none = absurd (omega arith)
 stuck (byte ∷ bytes) some none = walks-behind byte bytes ∙ ap (behind walks (byte ∷ bytes)) none
 
--- it is none where no instruction stands before its end
+-- nor where none stands before its end
 pub walks-stuck : (code : List ℕ) (at : ℕ) → at < length code → decoded_at code at ≡ None → walks (drop at code) ≡ false
 walks-stuck code at inside none = stuck (drop at code) (grind (arith, common_steps)) none
 

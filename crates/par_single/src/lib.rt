@@ -1,7 +1,7 @@
 //! Class files that run by themselves: what they name is looked up, and is there.
 //!
 //! A machine needs more of a class file than that its bytes are one: that its descriptors say
-//! kinds, that its code is listed instructions to its end, and that each class, field and method
+//! kinds, that its code is straight-line instructions to its end, and that each class, field and method
 //! that it names is its own. `runs_alone` tells this of one file, and `links_of` then says what
 //! each index of its constant pool names, so that a machine looks nothing up.
 //!

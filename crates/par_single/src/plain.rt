@@ -7,7 +7,7 @@ ghost use Rattle.par_single.specs.Single.{none, is_bare, is_plain_method, is_pla
 use crate::walk::walks;
 use par_class::file::{ClassFile, CodeAttr, FieldFile, MethodFile};
 
-/// Whether code has no handlers and no attributes, and is listed instructions to its end.
+/// Whether code has no handlers and no attributes, and is straight-line instructions to its end.
 fn is_bare(code: &Option<CodeAttr>) -> bool
     ensures { result ≡ is_bare code.now }
 {
