@@ -1,7 +1,7 @@
 -- A run in hand: the events that have happened are told, and the rest is still to come.
-use Rattle.std.specs.Prelude.{◌≡◌, ℕ, List, ◌++◌, map, Option}
+use Rattle.std.specs.Prelude.{◌≡◌, ℕ, List, ◌++◌, map, length, Option}
 use Rattle.std.specs.List.{concat}
-use Rattle.par_io.specs.Causes.{appended}
+use Rattle.par_io.specs.Causes.{appended, raised_by}
 use Rattle.par_values.specs.declared.run.Event.{Event}
 use Rattle.par_values.specs.Ran.{Ran}
 use Rattle.par_class.specs.declared.file.ClassFile.{ClassFile}
@@ -18,9 +18,10 @@ abbrev pub event_lines : List Event → List Text
 event_lines events = map (λ e. line (event_text e)) events
 
 -- Of a run of so many instructions from a first state, so many are left from this one on; the
--- events so far are told.
+-- events so far are told, each by one put.
 pub record IsUnderWay (files : List ClassFile) (steps rest : ℕ) (first now : State)
-    (old held : Option Text) : Type 0 where
+    (old held : Option Text) (puts_before puts : ℕ) : Type 0 where
   pub events : List Event
   pub is_run : run files steps first ≡ after events (run files rest now)
   pub told : held ≡ appended old (concat (event_lines events))
+  pub counted : puts ≡ raised_by (length events) puts_before

@@ -22,16 +22,18 @@ fn advance<S: Sink>(
     out: &mut S,
 ) -> Result<Option<Closing>, Untold>
     ensures files { files_of machine.new ≡ files_of machine.old }
-    ensures faults_never_fall { S.faults out.old ≤ S.faults out.new }
+    ensures faults_never_fall { (S.counts out.old).faults ≤ (S.counts out.new).faults }
     ensures faults_stand { IsTrue S.counts_faults_alone →
-        PutsAreTold result (S.faults out.old) (S.faults out.new) }
+        PutsAreTold result (S.counts out.old).faults (S.counts out.new).faults }
     ensures told { let t = turn (files_of machine.old) (state_of machine.old) in
         IfOk result (λ closing. MatchOption closing
-        (GoesOn t (state_of machine.new) (S.held out.old) (S.held out.new))
-        (λ c. ClosesBy t c (S.held out.old) (S.held out.new))) }
+        (GoesOn t (state_of machine.new) (S.held out.old) (S.held out.new)
+        (S.counts out.old) (S.counts out.new))
+        (λ c. ClosesBy t c (S.held out.old) (S.held out.new)
+        (S.counts out.old) (S.counts out.new))) }
     ensures untold { let t = turn (files_of machine.old) (state_of machine.old) in
         IfErr result (IsUntoldTurn t
-        (S.held out.old) (S.held out.new) (S.faults out.old) (S.faults out.new)) }
+        (S.held out.old) (S.held out.new) (S.counts out.old) (S.counts out.new)) }
 {
     match machine.step() {
         Ok(Turn::Silent) => Ok(None),
@@ -64,13 +66,13 @@ fn tell_events<S: Sink>(
     steps: u32,
     out: &mut S,
 ) -> Result<Closing, Untold>
-    ensures faults_never_fall { S.faults out.old ≤ S.faults out.new }
+    ensures faults_never_fall { (S.counts out.old).faults ≤ (S.counts out.new).faults }
     ensures faults_stand { IsTrue S.counts_faults_alone →
-        PutsAreTold result (S.faults out.old) (S.faults out.new) }
+        PutsAreTold result (S.counts out.old).faults (S.counts out.new).faults }
     ensures told { IfOk result (IsTold (files_of machine.old) steps (state_of machine.old)
-        (S.held out.old) (S.held out.new)) }
+        (S.held out.old) (S.held out.new) (S.counts out.old) (S.counts out.new)) }
     ensures cut { IfErr result (IsCutOff (run (files_of machine.old) steps (state_of machine.old))
-        (S.held out.old) (S.held out.new) (S.faults out.old) (S.faults out.new)) }
+        (S.held out.old) (S.held out.new) (S.counts out.old) (S.counts out.new)) }
 {
     for _done in 0..steps {
         match advance(alloc, machine, out) {
@@ -95,9 +97,9 @@ fn untold_status(untold: Untold) -> u8
 /// Puts the line of a closing, and gives the status of the call.
 fn close<S: Sink>(alloc: Global, closing: &Closing, out: &mut S) -> u8
     ensures closes { Closes closing.now result (S.held out.old) (S.held out.new)
-        (S.faults out.old) (S.faults out.new) }
+        (S.counts out.old) (S.counts out.new) }
     ensures faults_stand { IsTrue S.counts_faults_alone →
-        result ≢ 6 → S.faults out.new ≡ S.faults out.old }
+        result ≢ 6 → (S.counts out.new).faults ≡ (S.counts out.old).faults }
 {
     match put_closing(alloc, closing, out) {
         Ok(()) => status_of(closing),
@@ -110,9 +112,9 @@ fn close<S: Sink>(alloc: Global, closing: &Closing, out: &mut S) -> u8
 pub fn tell_run<S: Sink>(alloc: Global, machine: Machine, steps: u32, out: &mut S) -> u8
     ensures said { let ran = run (files_of machine) steps (state_of machine) in
         Said (status ran.ending) (lines ran) result (S.held out.old) (S.held out.new)
-        (S.faults out.old) (S.faults out.new) }
+        (S.counts out.old) (S.counts out.new) }
     ensures failed_puts_are_told { IsTrue S.counts_faults_alone →
-        result ≢ 6 → S.faults out.new ≡ S.faults out.old }
+        result ≢ 6 → (S.counts out.new).faults ≡ (S.counts out.old).faults }
 {
     let mut machine = machine;
     match tell_events(alloc, &mut machine, steps, out) {

@@ -1,7 +1,7 @@
 //! Lines that are put, and what comes of one that is not.
 
 ghost use Rattle.std.specs.Prelude.{◌≡◌, ◌≤◌, IsTrue, OnOk, IfOk, IfErr};
-ghost use Rattle.par_io.specs.Causes.{appended};
+ghost use Rattle.par_io.specs.Causes.{raised, appended};
 ghost use Rattle.par_runner.specs.Telling.{IsUntold, PutsAreTold, outcome};
 ghost use Rattle.par_runner.specs.Texts.{line, event_text, ending_text, status};
 ghost use Rattle.par_runner.specs.declared.telling.Untold.TheVariants.{Memory};
@@ -59,12 +59,13 @@ pub fn status_of(closing: &Closing) -> u8
 
 /// Puts a line.
 fn put_line<S: Sink>(line: &[u8], out: &mut S) -> Result<(), Untold>
-    ensures faults_never_fall { S.faults out.old ≤ S.faults out.new }
+    ensures faults_never_fall { (S.counts out.old).faults ≤ (S.counts out.new).faults }
     ensures faults_stand { IsTrue S.counts_faults_alone →
-        PutsAreTold result (S.faults out.old) (S.faults out.new) }
+        PutsAreTold result (S.counts out.old).faults (S.counts out.new).faults }
+    ensures counted { OnOk result ((S.counts out.new).puts ≡ raised (S.counts out.old).puts) }
     ensures put { OnOk result (S.held out.new ≡ appended (S.held out.old) line.now) }
     ensures untold { IfErr result (IsUntold line.now
-        (S.held out.old) (S.held out.new) (S.faults out.old) (S.faults out.new)) }
+        (S.held out.old) (S.held out.new) (S.counts out.old) (S.counts out.new)) }
 {
     match out.put(line) {
         Ok(()) => Ok(()),
@@ -74,13 +75,14 @@ fn put_line<S: Sink>(line: &[u8], out: &mut S) -> Result<(), Untold>
 
 /// Puts the line of an event.
 pub fn put_event<S: Sink>(alloc: Global, event: &Event, out: &mut S) -> Result<(), Untold>
-    ensures faults_never_fall { S.faults out.old ≤ S.faults out.new }
+    ensures faults_never_fall { (S.counts out.old).faults ≤ (S.counts out.new).faults }
     ensures faults_stand { IsTrue S.counts_faults_alone →
-        PutsAreTold result (S.faults out.old) (S.faults out.new) }
+        PutsAreTold result (S.counts out.old).faults (S.counts out.new).faults }
+    ensures counted { OnOk result ((S.counts out.new).puts ≡ raised (S.counts out.old).puts) }
     ensures put { OnOk result
         (S.held out.new ≡ appended (S.held out.old) (line (event_text event.now))) }
     ensures untold { IfErr result (IsUntold (line (event_text event.now))
-        (S.held out.old) (S.held out.new) (S.faults out.old) (S.faults out.new)) }
+        (S.held out.old) (S.held out.new) (S.counts out.old) (S.counts out.new)) }
 {
     let text = event_line(alloc, event)?;
     put_line(text.as_slice(), out)
@@ -103,13 +105,14 @@ fn closing_line(alloc: Global, closing: &Closing) -> Result<Vec<u8>, NoMemory>
 
 /// Puts the line of a closing.
 pub fn put_closing<S: Sink>(alloc: Global, closing: &Closing, out: &mut S) -> Result<(), Untold>
-    ensures faults_never_fall { S.faults out.old ≤ S.faults out.new }
+    ensures faults_never_fall { (S.counts out.old).faults ≤ (S.counts out.new).faults }
     ensures faults_stand { IsTrue S.counts_faults_alone →
-        PutsAreTold result (S.faults out.old) (S.faults out.new) }
+        PutsAreTold result (S.counts out.old).faults (S.counts out.new).faults }
+    ensures counted { OnOk result ((S.counts out.new).puts ≡ raised (S.counts out.old).puts) }
     ensures put { OnOk result
         (S.held out.new ≡ appended (S.held out.old) (line (ending_text (outcome closing.now)))) }
     ensures untold { IfErr result (IsUntold (line (ending_text (outcome closing.now)))
-        (S.held out.old) (S.held out.new) (S.faults out.old) (S.faults out.new)) }
+        (S.held out.old) (S.held out.new) (S.counts out.old) (S.counts out.new)) }
 {
     let text = closing_line(alloc, closing)?;
     put_line(text.as_slice(), out)

@@ -4,7 +4,7 @@ use Rattle.par_runner.proofs.run.tell_events.Goals as goal
 pub returns-in-Ok-Some-clause-told : goal.returns-in-Ok-Some-clause-told
 returns-in-Ok-Some-clause-told g c =
     let by = rw c.in-Ok-Some.field-0-is at c.in-Ok-Some.ensures.told in
-    closes _ _ _ _ _ _ c.loop-done._done c.loop-done.machine _ _ c.loop-done.invariant c.in-Ok-Some.closing _ c.loop-done-test.true by
+    closes _ _ _ _ _ _ c.loop-done._done c.loop-done.machine _ _ c.loop-done.invariant c.in-Ok-Some.closing _ _ c.loop-done-test.true by
 
 pub returns-in-Err-clause-cut : goal.returns-in-Err-clause-cut
 returns-in-Err-clause-cut g c =

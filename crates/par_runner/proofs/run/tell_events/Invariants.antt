@@ -4,4 +4,4 @@ use Rattle.par_runner.proofs.run.tell_events.Given as goal
 
 abbrev pub invariant-loop-done : goal.invariant-loop-done
 invariant-loop-done g l =
-    IsTelling g.S.Sink.counts_faults_alone (files_of l.fn.machine) l.fn.steps l._done (state_of l.fn.machine) l.machine (g.S.Sink.held l.fn.out) (g.S.Sink.held l.out) (g.S.Sink.faults l.fn.out) (g.S.Sink.faults l.out)
+    IsTelling g.S.Sink.counts_faults_alone (files_of l.fn.machine) l.fn.steps l._done (state_of l.fn.machine) l.machine (g.S.Sink.held l.fn.out) (g.S.Sink.held l.out) (g.S.Sink.counts l.fn.out) (g.S.Sink.counts l.out)
