@@ -16,6 +16,10 @@ use Rattle.par_straight.specs.Values as value
 use Rattle.par_straight.specs.Grammar as line
 use Rattle.par_straight_sentences.proofs.Pending.{Leads, leads, comes, same_sort, both, before, bare, opened, bared, Ends, closed, bared_back, begins, begun, nested, nested_back, starts, behind_head, taken, taken_back}
 
+-- more steps than there are here before a token
+abbrev enough : ℕ
+enough = 20
+
 -- whether the whole grammar has counted no more than the other, or it does not matter
 pub data Count : Type 0 where
   within : Count
@@ -32,12 +36,14 @@ Is (Some l) k = k ≡ l
 
 -- With s pending in the one and p in the other, and less than n tokens left: where the first
 -- ends well, so does the second.
-pub record Follows (c : Count) (n : ℕ) (k : Option Sort) (s : line.Symbols) (p : whole.Symbols) : Type 0 where
+pub record Follows (c : Count) (n : ℕ) (k : Option Sort)
+    (s : line.Symbols) (p : whole.Symbols) : Type 0 where
   pub ends : (i : Input) (d : ℕ) → Covers c i.counted d → length i.left < n → Is k (next i)
       → (vs : value.Values) (o : value.Values × Input) → Comes straight (state s i vs) (Ok o)
       → (ws : tree.Values) → Ends paragon p (record i { counted = d }) ws
 
-pub nothing : {c : Count} {k : Option Sort} {s : line.Symbols} {p : whole.Symbols} → Follows c zero k s p
+pub nothing : {c : Count} {k : Option Sort} {s : line.Symbols} {p : whole.Symbols}
+    → Follows c zero k s p
 nothing = record { ends = λ i d cov l e vs o x ws. absurd (omega arith) }
 
 module _ {c : Count} {n : ℕ} {s : line.Symbols} {p : whole.Symbols} where
@@ -54,10 +60,11 @@ module _ {c : Count} {n : ℕ} {s : line.Symbols} {p : whole.Symbols} where
   each h = record { ends = λ i d cov l e vs o x ws. (h (next i)).ends i d cov l refl vs o x ws }
 
   -- the next token has the sort that a straight-line source has to go on with
-  pub at : (k : Sort) → begins straight 9 k s ≡ true → Follows c n (Some k) s p → Follows c n None s p
+  pub at : (k : Sort) → begins straight enough k s ≡ true → Follows c n (Some k) s p
+      → Follows c n None s p
   at k b h = record {
     ends = λ i d cov l e vs o x ws.
-        h.ends i d cov l (begun straight 9 k s i vs o b x) vs o x ws;
+        h.ends i d cov l (begun straight enough k s i vs o b x) vs o x ws;
   }
 
   -- what is pending of the whole grammar comes to q in so many steps
@@ -71,12 +78,14 @@ module _ {c : Count} {n : ℕ} {s : line.Symbols} {p : whole.Symbols} where
   }
 
   -- what is pending of both comes to what takes a token, counts or nests
-  pub opens : {k : Sort} → Follows c n (Some k) (before straight 40 k s) (before paragon 40 k p)
+  pub opens : {k : Sort}
+      → Follows c n (Some k) (before straight enough k s) (before paragon enough k p)
       → Follows c n (Some k) s p
   opens {k = k} h = record {
     ends = λ i d cov l e vs o x ws.
-        let r = opened straight 40 k s i vs (Ok o) e x in
-        closed paragon 40 k p (record i { counted = d }) e (λ us. h.ends i d cov l e r.0 o r.1 us) ws;
+        let r = opened straight enough k s i vs (Ok o) e x in
+        closed paragon enough k p (record i { counted = d }) e
+        (λ us. h.ends i d cov l e r.0 o r.1 us) ws;
   }
 
   -- builders are left out
@@ -128,7 +137,8 @@ module _ {n : ℕ} {k : Option Sort} {s : line.Symbols} {p : whole.Symbols} wher
         let t = nested straight s j vs i.left o (leads straight x) in
         let r = h.ends j (d + 1) (omega arith) l e vs o t.4 ws in
         let fits = t.3 in
-        let back = nested_back paragon p there ws i.left t.0 t.1 (Ok (r.0, r.1)) t.2 (omega arith) r.2 in
+        let back = nested_back paragon p there ws i.left t.0 t.1 (Ok (r.0, r.1)) t.2
+        (omega arith) r.2 in
         (r.0, r.1, comes paragon back, r.3);
   }
 
@@ -141,25 +151,27 @@ module _ {n : ℕ} {k : Option Sort} {s : line.Symbols} {p : whole.Symbols} wher
         let t = nested straight s j vs i.left o (leads straight x) in
         let r = h.ends j d cov l e vs o t.4 ws in
         let fits = t.3 in
-        let back = nested_back paragon p there ws i.left t.0 t.1 (Ok (r.0, r.1)) t.2 (omega arith) r.2 in
+        let back = nested_back paragon p there ws i.left t.0 t.1 (Ok (r.0, r.1)) t.2
+        (omega arith) r.2 in
         (r.0, r.1, comes paragon back, r.3);
   }
 
 -- both take the next token, and this is pending then
 abbrev take : Sort → line.Symbols → whole.Symbols → Bool
-take k s p = starts straight k (before straight 40 k s) && starts paragon k (before paragon 40 k p)
+take k s p =
+    starts straight k (before straight enough k s) && starts paragon k (before paragon enough k p)
 
 abbrev line_behind : Sort → line.Symbols → line.Symbols
-line_behind k s = bare straight (behind_head straight (before straight 40 k s))
+line_behind k s = bare straight (behind_head straight (before straight enough k s))
 
 abbrev whole_behind : Sort → whole.Symbols → whole.Symbols
-whole_behind k p = bare paragon (behind_head paragon (before paragon 40 k p))
+whole_behind k p = bare paragon (behind_head paragon (before paragon enough k p))
 
 -- the same for several tokens, one behind the other
 abbrev take_all : List Sort → line.Symbols → whole.Symbols → Bool
 take_all [] s p = true
 take_all (k ∷ ks) s p =
-    begins straight 9 k s && (take k s p && take_all ks (line_behind k s) (whole_behind k p))
+    begins straight enough k s && (take k s p && take_all ks (line_behind k s) (whole_behind k p))
 
 abbrev lines_behind : List Sort → line.Symbols → line.Symbols
 lines_behind [] s = s
@@ -186,7 +198,8 @@ module _ {c : Count} {n : ℕ} where
   pub reads_on : {s : line.Symbols} {p : whole.Symbols} {k : Sort} → take k s p ≡ true
       → Follows c n None (line_behind k s) (whole_behind k p) → Follows c (suc n) (Some k) s p
   reads_on {s} {p} {k} t h =
-      let r = both (starts straight k (before straight 40 k s)) (starts paragon k (before paragon 40 k p)) t in
+      let r = both (starts straight k (before straight enough k s))
+      (starts paragon k (before paragon enough k p)) t in
       opens {s = s} {p = p} (takes_both r.0 r.1 (skips (skips_then refl h)))
 
   pub reads_at : {s : line.Symbols} {p : whole.Symbols} {k : Sort} → take k s p ≡ true
@@ -198,13 +211,16 @@ module _ {c : Count} {n : ℕ} where
   reads [] t h = h
   reads (k ∷ ks) {s} {p} t h =
       let others = take_all ks (line_behind k s) (whole_behind k p) in
-      let first = both (begins straight 9 k s) (take k s p && others) t in
+      let first = both (begins straight enough k s) (take k s p && others) t in
       let next = both (take k s p) others first.1 in
       let rest = reads ks {s = line_behind k s} {p = whole_behind k p} next.1 h in
       at {s = s} {p = p} k first.0 (reads_at {s = s} {p = p} next.0 rest)
 
 -- the alternatives of a name of straight-line sources, each with the token that chooses it
-abbrev Branches : Count → ℕ → line.Symbols → whole.Symbols → List (Choice line.Names line.Builders) → Type 0
+abbrev Choices : Type 0
+Choices = List (Choice line.Names line.Builders)
+
+abbrev Branches : Count → ℕ → line.Symbols → whole.Symbols → Choices → Type 0
 Branches c n s p [] = Unit {0}
 Branches c n s p (x ∷ xs) =
     Follows c n (Some x.first) (x.symbols ++ s) p × Branches c n s p xs
@@ -222,7 +238,7 @@ by_test true a other s i vs o Q f g x = f refl x
 by_test false a other s i vs o Q f g x = g x
 
 module _ (c : Count) (n : ℕ) (s : line.Symbols) (p : whole.Symbols) where
-  chosen_ends : (cs : List (Choice line.Names line.Builders)) (a : Option line.Symbols)
+  chosen_ends : (cs : Choices) (a : Option line.Symbols)
       → Branches c n s p cs → Otherwise c n s p a
       → (i : Input) (d : ℕ) → Covers c i.counted d → length i.left < n
       → (vs : value.Values) (o : value.Values × Input)
@@ -243,7 +259,8 @@ pub chooses : {c : Count} {n : ℕ} {m : line.Names} {s : line.Symbols} {p : who
 unfolding step
 chooses {c} {n} {m} {s} {p} b h = record {
   ends = λ i d cov l e vs o x ws.
-      chosen_ends c n s p (line.choices m) (line.otherwise m) b h i d cov l vs o (leads straight x) ws;
+      let y = leads straight x in
+      chosen_ends c n s p (line.choices m) (line.otherwise m) b h i d cov l vs o y ws;
 }
 
 none_left : (ts : List Token) → first_sort ts ≡ End → ts ≡ []
@@ -263,6 +280,8 @@ finishes = record {
   ends = λ i d cov l e vs o x ws.
       let j : Input = record i { counted = d } in
       let done : Comes paragon (state [] j ws) (Ok (ws, j)) = comes paragon refl in
-      let at_end = subst (λ k. Leads paragon (if same k End then goes (state [] j ws) else stops (Syntax j.at)) (Ok (ws, j))) (sym e) done in
+      let At : Sort → Type 0 = λ k. Leads paragon
+      (if same k End then goes (state [] j ws) else stops (Syntax j.at)) (Ok (ws, j)) in
+      let at_end = subst At (sym e) done in
       (ws, j, comes paragon at_end, none_left i.left e);
 }

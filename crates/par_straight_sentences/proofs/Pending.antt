@@ -65,8 +65,8 @@ module _ {Names Builders Value : Type 0} (g : Grammar Names Builders Value) wher
   replaced None n s = name n ∷ s
   replaced (Some a) n s = a ++ s
 
-  turned : (a : Option Symbols) (n : Names) (s : Symbols) (i : Input) (vs : Values) (o : Outcome Value)
-      → alternative g n (next i) ≡ a
+  turned : (a : Option Symbols) (n : Names) (s : Symbols) (i : Input) (vs : Values)
+      (o : Outcome Value) → alternative g n (next i) ≡ a
       → Comes g (state (name n ∷ s) i vs) o ↔ Comes g (state (replaced a n s) i vs) o
   unfolding step
   turned None n s i vs o e = (λ c. c, λ c. c)
@@ -74,7 +74,8 @@ module _ {Names Builders Value : Type 0} (g : Grammar Names Builders Value) wher
       let On : Option Symbols → Type 0 = λ x. Leads (replaces x s i vs) o in
       (λ c. subst On e (leads c), λ c. comes (subst On (sym e) c))
 
-  -- The symbols before a token of this sort: in so many steps names are replaced, builders left out.
+  -- The symbols before a token of this sort: names are replaced and builders left out, in so many
+  -- steps.
   abbrev pub before : ℕ → Sort → Symbols → Symbols
   before zero k s = s
   before (suc f) k (name n ∷ s) = before f k (replaced (alternative g n k) n s)
@@ -100,7 +101,8 @@ module _ {Names Builders Value : Type 0} (g : Grammar Names Builders Value) wher
   closed (suc f) k (name n ∷ s) i e h vs =
       let a = alternative g n k in
       let r = closed f k (replaced a n s) i e h vs in
-      let c = (turned a n s i vs (Ok (r.0, r.1)) (ap (alternative g n) e)).1 r.2 in (r.0, r.1, c, r.3)
+      let c = (turned a n s i vs (Ok (r.0, r.1)) (ap (alternative g n) e)).1 r.2 in
+      (r.0, r.1, c, r.3)
   closed (suc f) k (builds b ∷ s) i e h vs =
       let r = closed f k s i e h (g.built b vs) in (r.0, r.1, comes r.2, r.3)
   closed (suc f) k s i e h vs = h vs
@@ -140,8 +142,9 @@ module _ {Names Builders Value : Type 0} (g : Grammar Names Builders Value) wher
   held true s i vs (x ∷ rest) o c = (x, rest, refl, refl, c)
   held false s i vs ts o c = cc
 
-  goes_on : (b : Bool) (s : Symbols) (i : Input) (vs : Values) (f : derivation.Fault) (o : Values × Input)
-      → Leads (if b then goes (state s i vs) else stops f) (Ok o) → (b ≡ true) × Comes g (state s i vs) (Ok o)
+  goes_on : (b : Bool) (s : Symbols) (i : Input) (vs : Values) (f : derivation.Fault)
+      (o : Values × Input) → Leads (if b then goes (state s i vs) else stops f) (Ok o)
+      → (b ≡ true) × Comes g (state s i vs) (Ok o)
   goes_on true s i vs f o c = (refl, c)
   goes_on false s i vs f o c = cc
 
@@ -233,10 +236,12 @@ module _ {Names Builders Value : Type 0} (g : Grammar Names Builders Value) wher
   taken k (token l ∷ s) i vs o b c =
       let r = took (same (next i) l) s i vs i.left o (leads c) in (vs, r.0, r.1, r.3, r.4)
   taken k (kept l ∷ s) i vs o b c =
-      let r = held (same (next i) l) s i vs i.left o (leads c) in (g.read r.0 ∷ vs, r.0, r.1, r.3, r.4)
+      let r = held (same (next i) l) s i vs i.left o (leads c) in
+      (g.read r.0 ∷ vs, r.0, r.1, r.3, r.4)
   taken k s i vs o b c = cc
 
-  by_test : (b : Bool) (x y : Step) (o : Outcome Value) → b ≡ true → Leads x o → Leads (if b then x else y) o
+  by_test : (b : Bool) (x y : Step) (o : Outcome Value)
+      → b ≡ true → Leads x o → Leads (if b then x else y) o
   by_test true x y o e l = l
   by_test false x y o e l = cc
 

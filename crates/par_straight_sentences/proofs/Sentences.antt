@@ -44,14 +44,14 @@ parenthesis : Ending (Sign RIGHT_PAREN)
 parenthesis = record { of_selected = λ r. refl; of_called = λ r. refl; of_operators = λ p. refl }
 
 -- what stands behind a term
-record Behind (n : ℕ) (s : line.Symbols) (r : whole.Symbols) : Type 0 where
+record AfterTerm (n : ℕ) (s : line.Symbols) (r : whole.Symbols) : Type 0 where
   at_selected : Follows within n None (name line.MoreTerms ∷ s) (selected r)
   at_called : Follows within n None (name line.MoreTerms ∷ s) (called r)
 
 abbrev behind_term : line.Symbols → line.Symbols
 behind_term s = builds line.NextTerm ∷ name line.MoreTerms ∷ s
 
-module _ {n : ℕ} {s : line.Symbols} {r : whole.Symbols} (next : Behind n s r) where
+module _ {n : ℕ} {s : line.Symbols} {r : whole.Symbols} (next : AfterTerm n s r) where
   constant : Follows within n (Some Number) (kept Number ∷ builds line.Constant ∷ behind_term s)
       (name (whole.Level 9) ∷ r)
   constant = reads_at refl next.at_selected
@@ -64,9 +64,10 @@ module _ {n : ℕ} {s : line.Symbols} {r : whole.Symbols} (next : Behind n s r) 
 
 -- a sum that is followed by a token of the sort k
 module _ {s : line.Symbols} {p : whole.Symbols} {k : Sort} (ending : Ending k)
-    (first : (n : ℕ) (q : whole.Symbols) → Follows within n (Some k) s q → Follows within n None s q) where
+    (first : (n : ℕ) (q : whole.Symbols)
+    → Follows within n (Some k) s q → Follows within n None s q) where
   more_terms : (n : ℕ) (r : whole.Symbols) → bare paragon r ≡ operators p
-      → Follows within n (Some k) s p → Behind n s r
+      → Follows within n (Some k) s p → AfterTerm n s r
   more_terms zero r is h = record { at_selected = nothing; at_called = nothing }
   more_terms (suc n) r is h =
       let next = more_terms n (builds (whole.Binary op.Add) ∷ operators p) refl (fewer h) in
@@ -80,7 +81,7 @@ module _ {s : line.Symbols} {p : whole.Symbols} {k : Sort} (ending : Ending k)
             (first (suc n) (called r) (turns 4 (ending.of_called r) end));
       }
 
-  -- e is what is pending at the sum: an expression comes next, if the next token is a number or a name
+  -- e is pending at the sum: an expression, where the next token is a number or a name
   sum : (n f : ℕ) (e : whole.Symbols)
       → before paragon f Number e ≡ name (whole.Level 9) ∷ operators p
       → before paragon f Name e ≡ name (whole.Level 9) ∷ operators p
@@ -114,21 +115,29 @@ more_statements = name line.MoreStatements ∷ line_end
 abbrev more_stmts : whole.Symbols
 more_stmts = name whole.MoreStmts ∷ whole_end
 
+-- the sum of each statement, and what is pending there
 module _ (n : ℕ) (rest : Follows free n None more_statements more_stmts) where
-  local_set : Follows free n None
+  of_local : Follows free n None
       (name line.Sum ∷ token (Sign SEMICOLON) ∷ builds line.NextLocal ∷ more_statements)
-      (restarts ∷ name (whole.Level 0) ∷ token (Sign SEMICOLON) ∷ builds whole.LocalStmt ∷ builds whole.NextStmt ∷ more_stmts)
-  local_set = restarts_then (sum semicolon (λ n p. at (Sign SEMICOLON) refl) n 9 _ refl refl (reads_at refl (less rest)))
+      (restarts ∷ name (whole.Level 0) ∷ token (Sign SEMICOLON)
+      ∷ builds whole.LocalStmt ∷ builds whole.NextStmt ∷ more_stmts)
+  of_local =
+      restarts_then (sum semicolon (λ n p. at (Sign SEMICOLON) refl) n 9 _ refl refl
+      (reads_at refl (less rest)))
 
-  assigned : Follows within n None
+  of_assignment : Follows within n None
       (name line.Sum ∷ builds line.NextAssign ∷ token (Sign SEMICOLON) ∷ more_statements)
-      (name (whole.Level 0) ∷ token (Sign SEMICOLON) ∷ builds whole.AssignStmt ∷ builds whole.NextStmt ∷ more_stmts)
-  assigned = sum semicolon (λ n p. at (Sign SEMICOLON) refl) n 9 _ refl refl (reads_at refl (less rest))
+      (name (whole.Level 0) ∷ token (Sign SEMICOLON)
+      ∷ builds whole.AssignStmt ∷ builds whole.NextStmt ∷ more_stmts)
+  of_assignment =
+      sum semicolon (λ n p. at (Sign SEMICOLON) refl) n 9 _ refl refl (reads_at refl (less rest))
 
-  put_out : Follows within n None
-      (name line.Sum ∷ token (Sign RIGHT_PAREN) ∷ builds line.NextCall ∷ token (Sign SEMICOLON) ∷ more_statements)
-      (name whole.ArgList ∷ token (Sign RIGHT_PAREN) ∷ builds whole.CallOwn ∷ name whole.CallTail ∷ builds whole.NextStmt ∷ more_stmts)
-  put_out =
+  of_output : Follows within n None
+      (name line.Sum ∷ token (Sign RIGHT_PAREN) ∷ builds line.NextCall
+      ∷ token (Sign SEMICOLON) ∷ more_statements)
+      (name whole.ArgList ∷ token (Sign RIGHT_PAREN) ∷ builds whole.CallOwn
+      ∷ name whole.CallTail ∷ builds whole.NextStmt ∷ more_stmts)
+  of_output =
       sum parenthesis (λ n p. at (Sign RIGHT_PAREN) refl) n 11 _ refl refl
       (reads_at refl (reads (Sign SEMICOLON ∷ []) refl (less rest)))
 
@@ -136,17 +145,15 @@ statements : (n : ℕ) → Follows free n None more_statements more_stmts
 statements zero = nothing
 statements (suc n) =
     let rest = statements n in
+    let declared = reads (Name ∷ Sign ASSIGN ∷ []) refl (of_local n rest) in
+    let opened = reads (Name ∷ Sign SEMICOLON ∷ []) refl rest in
+    let put_out = opens (counts_both (reads_at refl (of_output n rest))) in
+    let effect = chooses (reads_at refl (of_assignment n rest), (put_out, tt)) tt in
     chooses (
-      restarts_first (reads_on refl (reads (Name ∷ Sign ASSIGN ∷ []) refl (local_set n rest))),
+      restarts_first (reads_on refl declared),
       (
-        restarts_first (reads_on refl (reads (Name ∷ Sign SEMICOLON ∷ []) refl rest)),
-        (
-          opens (restarts_first (restarts_then (reads_on refl (chooses (
-            reads_at refl (assigned n rest),
-            (opens (counts_both (reads_at refl (put_out n rest))), tt),
-          ) tt)))),
-          tt,
-        ),
+        restarts_first (reads_on refl opened),
+        (opens (restarts_first (restarts_then (reads_on refl effect))), tt),
       ),
     )
     (the_end (suc n))
@@ -174,12 +181,12 @@ abbrev clause_end : whole.Symbols → whole.Symbols
 clause_end p = builds whole.OneClause ∷ builds whole.NextClause ∷ whole_clauses p
 
 -- what stands behind a clause, which needs no lock or some
-record Clauses (n : ℕ) (s : line.Symbols) (p : whole.Symbols) : Type 0 where
+record AfterClause (n : ℕ) (s : line.Symbols) (p : whole.Symbols) : Type 0 where
   no_lock : Follows free n None (line_clauses s) (name whole.Needs ∷ clause_end p)
   some_locks : Follows free n None (line_clauses s) (needed (clause_end p))
 
 module _ {s : line.Symbols} {p : whole.Symbols} where
-  one_clause : (n : ℕ) → Clauses n s p → Follows free n None (name line.Clause ∷ line_clauses s)
+  one_clause : (n : ℕ) → AfterClause n s p → Follows free n None (name line.Clause ∷ line_clauses s)
       (name whole.Clause ∷ builds whole.NextClause ∷ whole_clauses p)
   one_clause n next =
       reads (Name ∷ Sign COLON ∷ []) refl (chooses
@@ -187,13 +194,15 @@ module _ {s : line.Symbols} {p : whole.Symbols} where
 
   more_clauses : (n : ℕ)
       → Follows free n None (token (Sign RIGHT_BRACE) ∷ s) (token (Sign RIGHT_BRACE) ∷ p)
-      → Clauses n s p
+      → AfterClause n s p
   more_clauses zero h = record { no_lock = nothing; some_locks = nothing }
   more_clauses (suc n) h =
       let more = reads_on refl (one_clause n (more_clauses n (fewer h))) in
       record {
-        no_lock = chooses (turns 4 refl more, tt) (at (Sign RIGHT_BRACE) refl (turns 5 refl (known h)));
-        some_locks = chooses (turns 7 refl more, tt) (at (Sign RIGHT_BRACE) refl (turns 8 refl (known h)));
+        no_lock = chooses (turns 4 refl more, tt)
+            (at (Sign RIGHT_BRACE) refl (turns 5 refl (known h)));
+        some_locks = chooses (turns 7 refl more, tt)
+            (at (Sign RIGHT_BRACE) refl (turns 8 refl (known h)));
       }
 
   clauses : (n : ℕ)
@@ -220,7 +229,8 @@ more_members =
 
 the_method : (n : ℕ) → Follows free n None method more_members
 the_method n =
-    reads (Word STATIC ∷ Word VOID ∷ Name ∷ Sign LEFT_PAREN ∷ Sign RIGHT_PAREN ∷ Sign BANG ∷ Word BOTTOM ∷ []) refl
+    reads (Word STATIC ∷ Word VOID ∷ Name ∷ Sign LEFT_PAREN ∷ Sign RIGHT_PAREN ∷ Sign BANG
+    ∷ Word BOTTOM ∷ []) refl
     (at (Sign LEFT_BRACE) refl (opens (restarts_then (enters_both (reads_at refl
     (chooses tt (skips (each (λ k. turns 2 refl (known (less (statements n))))))))))))
 
@@ -228,36 +238,38 @@ the_method n =
 the_member : (n : ℕ) → Follows free n None (name line.MoreMembers ∷ method) more_members
     → Follows free n None
     (token (Sign RIGHT_BRACE) ∷ name line.Kind ∷ name line.MoreMembers ∷ method)
-    (token (Sign RIGHT_BRACE) ∷ builds whole.ClausesTerm ∷ builds whole.FirstTerm ∷ name whole.MoreTerms
-    ∷ builds whole.SomePolicy ∷ name whole.PlainMember ∷ more_members)
+    (token (Sign RIGHT_BRACE) ∷ builds whole.ClausesTerm ∷ builds whole.FirstTerm
+    ∷ name whole.MoreTerms ∷ builds whole.SomePolicy ∷ name whole.PlainMember ∷ more_members)
 the_member n rest =
-    reads (Sign RIGHT_BRACE ∷ []) refl (chooses (
-      reads_at refl (reads (Word INT ∷ Name ∷ Sign LEFT_PAREN ∷ Sign RIGHT_PAREN ∷ Sign SEMICOLON ∷ []) refl rest),
-      (
-        reads_at refl (reads (Word VOID ∷ Name ∷ Sign LEFT_PAREN ∷ Word INT ∷ Name ∷ Sign RIGHT_PAREN ∷ Sign SEMICOLON ∷ []) refl rest),
-        (reads_at refl (reads (Word INT ∷ Name ∷ Sign SEMICOLON ∷ []) refl rest), tt),
-      ),
-    ) tt)
+    let input = reads (Word INT ∷ Name ∷ Sign LEFT_PAREN ∷ Sign RIGHT_PAREN ∷ Sign SEMICOLON ∷ [])
+    refl rest in
+    let output = reads (Word VOID ∷ Name ∷ Sign LEFT_PAREN ∷ Word INT ∷ Name ∷ Sign RIGHT_PAREN
+    ∷ Sign SEMICOLON ∷ []) refl rest in
+    let field = reads (Word INT ∷ Name ∷ Sign SEMICOLON ∷ []) refl rest in
+    reads (Sign RIGHT_BRACE ∷ []) refl
+    (chooses (reads_at refl input, (reads_at refl output, (reads_at refl field, tt))) tt)
 
 members : (n : ℕ) → Follows free n None (name line.MoreMembers ∷ method) more_members
 members zero = nothing
 members (suc n) =
-    chooses (reads_on refl (reads (Sign LEFT_BRACE ∷ []) refl (clauses n (the_member n (members n)))), tt)
-    (the_method (suc n))
+    let policy = clauses n (the_member n (members n)) in
+    chooses (reads_on refl (reads (Sign LEFT_BRACE ∷ []) refl policy), tt) (the_method (suc n))
 
 -- the source
 
 abbrev class : line.Symbols
 class = token (Word CLASS) ∷ kept Name ∷ token (Sign LEFT_BRACE) ∷ name line.Members ∷ method
 
-locks : (n : ℕ) → Follows free n None (name line.MoreLocks ∷ class) (name whole.MoreDecls ∷ finish ∷ [])
+locks : (n : ℕ)
+    → Follows free n None (name line.MoreLocks ∷ class) (name whole.MoreDecls ∷ finish ∷ [])
 locks zero = nothing
 locks (suc n) =
     chooses (reads_on refl (reads (Name ∷ Sign SEMICOLON ∷ []) refl (locks n)), tt)
     (reads (Word CLASS ∷ Name ∷ Sign LEFT_BRACE ∷ []) refl
     (chooses tt (skips (each (λ k. turns 2 refl (known (members (suc n))))))))
 
-actors : {s : line.Symbols} {p : whole.Symbols} (n : ℕ) → Follows free n None s (name whole.MoreIdents ∷ p)
+actors : {s : line.Symbols} {p : whole.Symbols} (n : ℕ)
+    → Follows free n None s (name whole.MoreIdents ∷ p)
     → Follows free n None (name line.MoreIdents ∷ s) (name whole.MoreIdents ∷ p)
 actors zero h = nothing
 actors (suc n) h = chooses (reads_on refl (reads (Name ∷ []) refl (actors n (fewer h))), tt) h
