@@ -1,4 +1,5 @@
 pub mod Plain
+pub mod Shown
 pub mod Nodes
 pub mod Grammar
 pub mod Values

@@ -107,14 +107,25 @@ policy_decl vs = vs
 abbrev pub exception_decl : Values → Values
 exception_decl (tok x ∷ vs) =
     decl (plain.Declared (record {
-      id = ident x; exception = true; birth = None; fields = []; channels = []; methods = [] })) ∷ vs
+      id = ident x;
+      exception = true;
+      birth = None;
+      fields = [];
+      channels = [];
+      methods = [];
+    })) ∷ vs
 exception_decl vs = vs
 
 abbrev pub class_decl : Values → Values
 class_decl (members m ∷ may_whole p ∷ tok x ∷ vs) =
     decl (plain.Declared (record {
-      id = ident x; exception = false; birth = p;
-      fields = m.fields; channels = m.channels; methods = m.methods })) ∷ vs
+      id = ident x;
+      exception = false;
+      birth = p;
+      fields = m.fields;
+      channels = m.channels;
+      methods = m.methods;
+    })) ∷ vs
 class_decl vs = vs
 
 abbrev pub next_ident : Values → Values
@@ -137,13 +148,23 @@ with_method m x = record m { methods = m.methods ++ x ∷ [] }
 abbrev pub inferred_field : Values → Values
 inferred_field (tok x ∷ typed t ∷ flag s ∷ members m ∷ vs) =
     members (with_field m (record {
-      id = ident x; is_static = s; ty = t; policy = None; inferred = true })) ∷ vs
+      id = ident x;
+      is_static = s;
+      ty = t;
+      policy = None;
+      inferred = true;
+    })) ∷ vs
 inferred_field vs = vs
 
 abbrev pub field : Values → Values
 field (tok x ∷ typed t ∷ flag s ∷ may_whole p ∷ members m ∷ vs) =
     members (with_field m (record {
-      id = ident x; is_static = s; ty = t; policy = p; inferred = false })) ∷ vs
+      id = ident x;
+      is_static = s;
+      ty = t;
+      policy = p;
+      inferred = false;
+    })) ∷ vs
 field vs = vs
 
 abbrev pub channel : Bool → Values → Values
@@ -159,8 +180,18 @@ abbrev pub next_method : Values → Values
 next_method
     (braces b ∷ says e ∷ listed ps ∷ tok x ∷ gives r ∷ flag s ∷ may_whole p ∷ members m ∷ vs) =
     members (with_method m (record {
-      id = ident x; is_static = s; result = r; policy = p; params = ps; effects = e.writes;
-      expects = e.expects; opens = e.opens; closes = e.closes; throws = e.throws; body = b })) ∷ vs
+      id = ident x;
+      is_static = s;
+      result = r;
+      policy = p;
+      params = ps;
+      effects = e.writes;
+      expects = e.expects;
+      opens = e.opens;
+      closes = e.closes;
+      throws = e.throws;
+      body = b;
+    })) ∷ vs
 next_method vs = vs
 
 abbrev pub one_param : Values → Values

@@ -8,6 +8,7 @@
 pub mod decl;
 pub mod expr;
 pub mod ident;
+pub mod nodes;
 pub mod policy;
 pub mod stmt;
 pub mod types;
