@@ -10,9 +10,11 @@ use Rattle.par_grammar.specs.Derivation as derivation
 use Rattle.par_tree.specs.Grammar as whole
 use Rattle.par_tree.specs.Values.{paragon}
 use Rattle.par_straight.specs.Grammar as line
+use Rattle.par_straight.specs.Values.{straight}
 use Rattle.par_straight_sentences.specs.Sentences.{StraightSourcesAreSentences}
+use Rattle.par_straight_sentences.proofs.Passes.{passes, derives}
 use Rattle.par_straight_sentences.proofs.Pending.{before, bare}
-use Rattle.par_straight_sentences.proofs.Follows.{within, free, Follows, nothing, fewer, known, each, less, at, turns, opens, skips, skips_then, restarts_first, restarts_then, leaves_both, counts_both, enters_both, reads_on, reads_at, reads, chooses, finishes}
+use Rattle.par_straight_sentences.proofs.Follows.{within, free, Follows, nothing, fewer, known, each, less, at, turns, opens, skips, skips_then, restarts_first, restarts_then, leaves_both, counts_both, enters_both, reads_on, reads_at, reads, chooses, ends}
 
 -- sums
 
@@ -107,7 +109,7 @@ whole_end =
 the_end : (n : ℕ) → Follows free n None line_end (name whole.MoreStmts ∷ whole_end)
 the_end n =
     reads (Sign RIGHT_BRACE ∷ []) refl (leaves_both (reads (Sign RIGHT_BRACE ∷ []) refl
-    (at End refl (opens finishes))))
+    (at End refl (opens ends))))
 
 abbrev more_statements : line.Symbols
 more_statements = name line.MoreStatements ∷ line_end
@@ -281,4 +283,7 @@ source n =
 
 pub sentences : StraightSourcesAreSentences
 sentences tokens tree x =
-    (source (suc (length tokens))).ends (derivation.whole tokens) 0 tt (omega arith) tt [] _ x.1 []
+    let all = derivation.whole tokens in
+    let line = passes straight (λ j. Unit {0}) x.1 tt in
+    derives paragon (λ j. j.left ≡ [])
+    ((source (suc (length tokens))).on all 0 tt (omega arith) tt line) []
