@@ -1,5 +1,6 @@
 -- Each name of straight-line sources, and what is pending of the whole grammar meanwhile.
-use Rattle.std.proofs.Common.{◌≡◌, ℕ, zero, suc, [], ◌∷◌, length, None, Some, refl, arith}
+use Rattle.std.proofs.Common.{◌≡◌, ℕ, zero, suc, List, [], ◌∷◌, length, None, Some, Ok, Err, refl, arith}
+use Rattle.par_lexer.specs.declared.token.Token.{Token}
 use Rattle.par_lexer.specs.declared.word.TheConstants.{STATIC, VOID, BOTTOM, INT, ACTOR, CLASS}
 use Rattle.par_lexer.specs.declared.sign.TheConstants.{LEFT_BRACE, RIGHT_BRACE, LEFT_PAREN, RIGHT_PAREN, SEMICOLON, COLON, ASSIGN, BANG}
 use Rattle.par_lexer.specs.declared.operator.BinOp.TheVariants as op
@@ -7,8 +8,11 @@ use Rattle.par_grammar.specs.declared.sort.Sort.{Sort}
 use Rattle.par_grammar.specs.declared.sort.Sort.TheVariants.{Word, Name, Number, Sign, End}
 use Rattle.par_grammar.specs.Grammar.{token, kept, finish, restarts, enters, leaves, name, builds}
 use Rattle.par_grammar.specs.Derivation as derivation
+use Rattle.par_grammar.proofs.Total.{decided}
 use Rattle.par_tree.specs.Grammar as whole
-use Rattle.par_tree.specs.Values.{paragon}
+use Rattle.par_tree.specs.Values.{Value, paragon}
+use Rattle.par_straight.specs.declared.tree.Source.{Source}
+use Rattle.par_straight.specs.Sentence.{HasTree}
 use Rattle.par_straight.specs.Grammar as line
 use Rattle.par_straight.specs.Values.{straight}
 use Rattle.par_straight_sentences.specs.Sentences.{StraightSourcesAreSentences}
@@ -287,3 +291,12 @@ sentences tokens tree x =
     let line = passes straight (λ j. Unit {0}) x.1 tt in
     derives paragon (λ j. j.left ≡ [])
     ((source (suc (length tokens))).on all 0 tt (omega arith) tt line) []
+
+-- so the whole grammar ends at no fault
+pub faultless : (tokens : List Token) (tree : Source) (f : derivation.Fault) → HasTree tokens tree
+    → derivation.Comes paragon
+    (derivation.state (name whole.Program ∷ []) (derivation.whole tokens) []) (Err f) → ⊥
+faultless tokens tree f x fails =
+    let r = sentences tokens tree x in
+    let well : derivation.Outcome Value = Ok (r.0, r.1) in
+    let same : well ≡ Err f = decided r.2 fails in cc
