@@ -1,3 +1,4 @@
+pub mod Passes
 pub mod Pending
 pub mod Follows
 pub mod Sentences
