@@ -3,6 +3,7 @@ use Rattle.std.proofs.Common.{◌≡◌, ℕ, List, [], ◌∷◌, Option, Resul
 use Rattle.std.specs.declared.string.String.{String}
 use Rattle.std.specs.declared.alloc.Global.{Global}
 use Rattle.std.specs.Prelude.{IfOk, IfErr}
+use Rattle.par_io.specs.Causes.{SinkCounts, Makes}
 use Rattle.par_io.specs.Saying.{Said}
 use Rattle.par_class.specs.declared.file.ClassFile.{ClassFile}
 use Rattle.par_machine.specs.declared.machine.Machine.{Machine}
@@ -15,44 +16,45 @@ use Rattle.par_words.specs.Words.{Check, Compile, Run, Asks}
 use Rattle.par_tool.specs.declared.answer.Answer.{Answer}
 use Rattle.par_tool.specs.declared.reading.Failure.{Failure}
 use Rattle.par_tool.specs.declared.reading.Failure.TheVariants.{Answered, Memory}
-use Rattle.par_tool.specs.Outside.{Text}
+use Rattle.par_tool.specs.Outside.{Text, MakesAtMost}
 use Rattle.par_tool.specs.Failures.{IsFailure}
 use Rattle.par_tool.specs.Sources.{Checked, CompiledSo}
 use Rattle.par_tool.specs.Classes.{NotRun, IsStarted}
-use Rattle.par_tool.specs.Answers.{Scene, Stand, Ends, answers, runs, lacks_memory, Concludes, Breaks}
+use Rattle.par_tool.specs.Answers.{Scene, Stand, Ends, answers, runs, lacks_memory, Concludes, BreaksOff}
 use Rattle.par_tool.proofs.Alone.{own_number}
+use Rattle.par_tool.proofs.Spending.{at_most}
 
-module _ (which : Which) (words : List (String Global)) (s : Scene) (result : ℕ) (old new : Option Text) (before after : ℕ) where
-  pub check_ends : (file : Text) (outcome : Result Answer Failure) → Asks which words (Check file) → Stand s
+module _ (which : Which) (words : List (String Global)) (s : Scene) (result : ℕ) (old new : Option Text) (before after : SinkCounts) where
+  pub check_ends : (file : Text) (outcome : Result Answer Failure) → Asks which words (Check file) → Makes 1 0 s.before s.after → Stand s
       → IfOk outcome (Checked s.files s.before s.after file) → IfErr outcome (IsFailure (Checked s.files s.before s.after file))
       → Concludes outcome result old new before after → Ends which words s result old new before after
-  check_ends file (Ok answer) asks stand checked failed said = answers (Check file) answer asks (checked, stand) said
-  check_ends file (Err (Answered answer)) asks stand checked failed said = answers (Check file) answer asks (failed, stand) said
-  check_ends file (Err Memory) asks stand checked failed said = lacks_memory said.0 said.1 stand
+  check_ends file (Ok answer) asks makes stand checked failed said = answers (Check file) answer asks (checked, (makes, stand)) said
+  check_ends file (Err (Answered answer)) asks makes stand checked failed said = answers (Check file) answer asks (failed, (makes, stand)) said
+  check_ends file (Err Memory) asks makes stand checked failed said = lacks_memory (Check file) asks said.0 said.1 (at_most 1 0 s.before s.after makes) stand
 
   pub compile_ends : (file : Text) (outcome : Result Answer Failure) → Asks which words (Compile file)
       → IfOk outcome (CompiledSo s.files s.later s.before s.after file) → IfErr outcome (IsFailure (CompiledSo s.files s.later s.before s.after file))
-      → IfErr outcome (λ e. e ≡ Memory → Stand s)
+      → IfErr outcome (λ e. e ≡ Memory → Stand s × MakesAtMost 1 1 s.before s.after)
       → Concludes outcome result old new before after → Ends which words s result old new before after
   compile_ends file (Ok answer) asks compiled failed kept said = answers (Compile file) answer asks compiled said
   compile_ends file (Err (Answered answer)) asks compiled failed kept said = answers (Compile file) answer asks failed said
-  compile_ends file (Err Memory) asks compiled failed kept said = lacks_memory said.0 said.1 (kept refl)
+  compile_ends file (Err Memory) asks compiled failed kept said = lacks_memory (Compile file) asks said.0 said.1 (kept refl).1 (kept refl).0
 
   pub run_fails : (main inputs : Text) (steps : ℕ) (failure : Failure) → Asks which words (Run main inputs steps) → Stand s
-      → IsFailure (NotRun s.files s.before s.after main inputs) failure
-      → Breaks failure result old new before after → Ends which words s result old new before after
-  run_fails main inputs steps (Answered answer) asks stand failed said = answers (Run main inputs steps) answer asks (failed, stand) said
-  run_fails main inputs steps Memory asks stand failed said = lacks_memory said.0 said.1 stand
+      → IsFailure (NotRun s.files s.before s.after main inputs) failure → (failure ≡ Memory → MakesAtMost 2 0 s.before s.after)
+      → BreaksOff failure result old new before after → Ends which words s result old new before after
+  run_fails main inputs steps (Answered answer) asks stand failed few said = answers (Run main inputs steps) answer asks (failed, stand) said
+  run_fails main inputs steps Memory asks stand failed few said = lacks_memory (Run main inputs steps) asks said.0 said.1 (few refl) stand
 
-  pub run_ends : (main inputs : Text) (steps : ℕ) (m : Machine) → Asks which words (Run main inputs steps) → Stand s
+  pub run_ends : (main inputs : Text) (steps : ℕ) (m : Machine) → Asks which words (Run main inputs steps) → Makes 2 0 s.before s.after → Stand s
       → IsStarted s.files main inputs m
       → Said (told.status (run (files_of m) steps (state_of m)).ending) (told.lines (run (files_of m) steps (state_of m))) result old new before after
       → Ends which words s result old new before after
-  run_ends main inputs steps m asks stand h said =
+  run_ends main inputs steps m asks makes stand h said =
       let number : class_number (h.file ∷ []) main ≡ 0 = own_number main h.loaded.bytes h.file h.loaded.alone in
       let same : run (files_of m) steps (state_of m) ≡ machine_run (h.file ∷ []) main h.lists steps =
       ap (λ (fs : List ClassFile). run fs steps (state_of m)) h.runs
       ∙ ap (λ (st : State). run (h.file ∷ []) steps st) h.begun
       ∙ ap (λ (n : ℕ). run (h.file ∷ []) steps (start (h.file ∷ []) n h.lists)) (sym number) in
       runs (Run main inputs steps) (run (files_of m) steps (state_of m)) asks
-      (record { file = h.file; lists = h.lists; loaded = h.loaded; given = h.given; is_run = same }, stand) said
+      (record { file = h.file; lists = h.lists; loaded = h.loaded; given = h.given; is_run = same }, (makes, stand)) said

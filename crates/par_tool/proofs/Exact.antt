@@ -3,7 +3,7 @@ use Rattle.std.proofs.Common.{◌≡◌, ℕ, List, [], ◌∷◌, Option, Some,
 use Rattle.std.specs.Prelude.{string_bytes}
 use Rattle.std.specs.declared.string.String.{String}
 use Rattle.std.specs.declared.alloc.Global.{Global}
-use Rattle.par_io.specs.Causes.{Files}
+use Rattle.par_io.specs.Causes.{SinkCounts, Files}
 use Rattle.par_values.specs.Ran.{Ran}
 use Rattle.par_runner.specs.Texts as told
 use Rattle.par_words.specs.declared.words.Which.{Which}
@@ -123,7 +123,7 @@ wants files (Check file) result seven = source_wants Checks files file result se
 wants files (Compile file) result seven = source_wants Compiles files file result seven (inl (wanting result 0 seven))
 wants files (Run main inputs steps) result seven = class_wants files main inputs steps result seven
 
-pub exact : (which : Which) (words : List (String Global)) (s : Scene) (result : ℕ) (old new : Option Text) (f g : ℕ)
+pub exact : (which : Which) (words : List (String Global)) (s : Scene) (result : ℕ) (old new : Option Text) (f g : SinkCounts)
     → Ends which words s result old new f g → (w : Wanted) → Asks which words w → IsExact s.files w result
 exact which words s result old new f g (misses none stand said) w asked = absurd (none w asked)
 exact which words s result old new f g (answers v a asks cause said) w asked =
@@ -132,12 +132,12 @@ exact which words s result old new f g (answers v a asks cause said) w asked =
 exact which words s result old new f g (runs v ran asks cause said) w asked =
     subst (λ (x : Wanted). IsExact s.files x result) (one_wanted which words v w asks asked)
     (run_is_exact s v ran result cause (said_status (told.status ran.ending) result (told.lines ran) old new f g said))
-exact which words s result old new f g (lacks_memory seven put stand) w asked = wants s.files w result seven
+exact which words s result old new f g (lacks_memory v asks seven put few stand) w asked = wants s.files w result seven
 
 -- words of no form
-pub usage : (which : Which) (words : List (String Global)) (s : Scene) (result : ℕ) (old new : Option Text) (f g : ℕ)
+pub usage : (which : Which) (words : List (String Global)) (s : Scene) (result : ℕ) (old new : Option Text) (f g : SinkCounts)
     → Ends which words s result old new f g → ((w : Wanted) → Asks which words w → ⊥) → IsSaidBy result 2
 usage which words s result old new f g (misses none stand said) h = said_status 2 result _ old new f g said.said
 usage which words s result old new f g (answers v a asks cause said) h = absurd (h v asks)
 usage which words s result old new f g (runs v ran asks cause said) h = absurd (h v asks)
-usage which words s result old new f g (lacks_memory seven put stand) h = exactly.lacks_memory seven
+usage which words s result old new f g (lacks_memory v asks seven put few stand) h = exactly.lacks_memory seven

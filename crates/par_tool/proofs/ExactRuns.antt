@@ -1,7 +1,7 @@
 -- The status of a run is the one that its files ask for.
 use Rattle.std.proofs.Common.{◌≡◌, ℕ, ◌-◌, ◌<◌, [], ◌∷◌, length, Option, Some, None, refl, sym, ap, subst, ◌∙◌, inl, inr, arith}
 use Rattle.std.proofs.lemmas.Bool.{false≢true}
-use Rattle.par_io.specs.Causes.{Files, Counts}
+use Rattle.par_io.specs.Causes.{FolderCounts, Files}
 use Rattle.par_values.specs.declared.inputs.Inputs.{Inputs}
 use Rattle.par_values.specs.Ran.{Ran}
 use Rattle.par_inputs.specs.Lines.{lines_of}
@@ -11,11 +11,12 @@ use Rattle.par_class.specs.Spelling.{Spells}
 use Rattle.par_class.proofs.Files.{one_file}
 use Rattle.par_machine.specs.Run.{machine_run}
 use Rattle.par_runner.specs.Texts as told
+use Rattle.par_inputs.specs.declared.read.TheConstants.{LONGEST_INPUTS}
+use Rattle.par_pool.specs.declared.reading.TheConstants.{LONGEST_CLASS}
 use Rattle.par_tool.specs.declared.answer.Answer.{Answer}
 use Rattle.par_tool.specs.declared.answer.Answer.TheVariants.{Accepted, Compiled, Refused, Usage, Absent, ReadFault, WriteFault, TooLong, NotBuilt, BadInputs}
 use Rattle.par_tool.specs.Texts.{status}
-use Rattle.par_straight_compile.specs.Files.{longest_class}
-use Rattle.par_tool.specs.Outside.{Text, NotRead, IsThere, IsMissing, IsOverlong, longest_inputs, class_file}
+use Rattle.par_tool.specs.Outside.{Text, NotRead, IsThere, IsMissing, IsOverlong, class_file}
 use Rattle.par_tool.specs.Classes.{IsAlone, IsLoaded, IsOther, IsBad, broken, misfit, misfit_in, HasBadLine, NotHad, NotRun, IsRunOf}
 use Rattle.par_tool.specs.Exactly.{IsSaidBy, TellsRun, TellsClass}
 use Rattle.par_tool.proofs.Statuses.{IsNear, same, near_status, same_status, read_there, missing_read, overlong_read, missing_not_read, overlong_not_read, there_not_read}
@@ -35,21 +36,21 @@ same_file main a b one other e x y = one_file b one other (subst (λ (t : Text).
 inputs_are : (a b : Inputs) → a.channels ≡ b.channels → a ≡ b
 inputs_are a b e = ap (λ cs. let x : Inputs = record { channels = cs } in x) e
 
-module _ (files : Option Files) (before after : Counts) (main inputs : Text) where
+module _ (files : Option Files) (before after : FolderCounts) (main inputs : Text) where
   -- what stands in the place of a run: the class file was not had, or is none that runs by itself; or the input file was not had, or has a wrong line
   pub data Instead (a : Answer) : Type 0 where
-    no_class : NotRead files before after longest_class (class_file main) a → Instead a
+    no_class : NotRead files before after LONGEST_CLASS (class_file main) a → Instead a
     other : a ≡ NotBuilt → IsOther files main → Instead a
-    no_inputs : (file : ClassFile) → IsLoaded files main file → NotRead files before after longest_inputs inputs a → Instead a
+    no_inputs : (file : ClassFile) → IsLoaded files main file → NotRead files before after LONGEST_INPUTS inputs a → Instead a
     bad_line : (number : ℕ) → a ≡ BadInputs number → (file : ClassFile) → IsLoaded files main file → HasBadLine files file inputs number → Instead a
 
   had : (a : Answer) → NotHad files before after main inputs a → Instead a
-  had a (inl h) = no_class h
-  had a (inr h) = no_inputs h.0 h.1 h.2
+  had a (inl h) = no_class h.1
+  had a (inr h) = no_inputs h.1.0 h.1.1 h.1.2
 
   pub instead : (a : Answer) → NotRun files before after main inputs a → Instead a
-  instead NotBuilt h = other refl h
-  instead (BadInputs number) h = bad_line number refl h.0 h.1 h.2
+  instead NotBuilt h = other refl h.1
+  instead (BadInputs number) h = bad_line number refl h.1.0 h.1.1 h.1.2
   instead Accepted h = had Accepted h
   instead (Compiled many) h = had (Compiled many) h
   instead (Refused rule line column) h = had (Refused rule line column) h
@@ -60,56 +61,56 @@ module _ (files : Option Files) (before after : Counts) (main inputs : Text) whe
   instead TooLong h = had TooLong h
 
   class_missing : IsMissing files (class_file main) → (a : Answer) → Instead a → IsNear 3 a
-  class_missing missing a (no_class h) = missing_not_read files before after longest_class (class_file main) missing a h
-  class_missing missing a (other e h) = absurd (missing_read files longest_class (class_file main) h.bytes missing h.read)
-  class_missing missing a (no_inputs file h read) = absurd (missing_read files longest_class (class_file main) h.bytes missing h.read)
-  class_missing missing a (bad_line number e file h bad) = absurd (missing_read files longest_class (class_file main) h.bytes missing h.read)
+  class_missing missing a (no_class h) = missing_not_read files before after LONGEST_CLASS (class_file main) missing a h
+  class_missing missing a (other e h) = absurd (missing_read files LONGEST_CLASS (class_file main) h.bytes missing h.read)
+  class_missing missing a (no_inputs file h read) = absurd (missing_read files LONGEST_CLASS (class_file main) h.bytes missing h.read)
+  class_missing missing a (bad_line number e file h bad) = absurd (missing_read files LONGEST_CLASS (class_file main) h.bytes missing h.read)
 
-  class_overlong : IsOverlong files longest_class (class_file main) → (a : Answer) → Instead a → IsNear 8 a
-  class_overlong long a (no_class h) = overlong_not_read files before after longest_class (class_file main) long a h
-  class_overlong long a (other e h) = absurd (overlong_read files longest_class (class_file main) h.bytes long h.read)
-  class_overlong long a (no_inputs file h read) = absurd (overlong_read files longest_class (class_file main) h.bytes long h.read)
-  class_overlong long a (bad_line number e file h bad) = absurd (overlong_read files longest_class (class_file main) h.bytes long h.read)
+  class_overlong : IsOverlong files LONGEST_CLASS (class_file main) → (a : Answer) → Instead a → IsNear 8 a
+  class_overlong long a (no_class h) = overlong_not_read files before after LONGEST_CLASS (class_file main) long a h
+  class_overlong long a (other e h) = absurd (overlong_read files LONGEST_CLASS (class_file main) h.bytes long h.read)
+  class_overlong long a (no_inputs file h read) = absurd (overlong_read files LONGEST_CLASS (class_file main) h.bytes long h.read)
+  class_overlong long a (bad_line number e file h bad) = absurd (overlong_read files LONGEST_CLASS (class_file main) h.bytes long h.read)
 
-  class_other : (bytes : Text) → IsThere files longest_class (class_file main) bytes → ((file : ClassFile) → IsAlone main bytes file → ⊥) → (a : Answer) → Instead a → IsNear 9 a
-  class_other bytes there none a (no_class h) = there_not_read files before after longest_class (class_file main) 9 bytes there a h
+  class_other : (bytes : Text) → IsThere files LONGEST_CLASS (class_file main) bytes → ((file : ClassFile) → IsAlone main bytes file → ⊥) → (a : Answer) → Instead a → IsNear 9 a
+  class_other bytes there none a (no_class h) = there_not_read files before after LONGEST_CLASS (class_file main) 9 bytes there a h
   class_other bytes there none a (other e h) = same (ap status e)
   class_other bytes there none a (no_inputs file h read) =
-      let e : h.bytes ≡ bytes = sym (read_there files longest_class (class_file main) bytes h.bytes there h.read) in
+      let e : h.bytes ≡ bytes = sym (read_there files LONGEST_CLASS (class_file main) bytes h.bytes there h.read) in
       absurd (none file (subst (λ (t : Text). IsAlone main t file) e h.alone))
   class_other bytes there none a (bad_line number is file h bad) =
-      let e : h.bytes ≡ bytes = sym (read_there files longest_class (class_file main) bytes h.bytes there h.read) in
+      let e : h.bytes ≡ bytes = sym (read_there files LONGEST_CLASS (class_file main) bytes h.bytes there h.read) in
       absurd (none file (subst (λ (t : Text). IsAlone main t file) e h.alone))
 
-  module _ (bytes : Text) (file : ClassFile) (there : IsThere files longest_class (class_file main) bytes) (alone : IsAlone main bytes file) where
+  module _ (bytes : Text) (file : ClassFile) (there : IsThere files LONGEST_CLASS (class_file main) bytes) (alone : IsAlone main bytes file) where
     not_other : IsOther files main → ⊥
     not_other h =
-        let e : bytes ≡ h.bytes = read_there files longest_class (class_file main) bytes h.bytes there h.read in
+        let e : bytes ≡ h.bytes = read_there files LONGEST_CLASS (class_file main) bytes h.bytes there h.read in
         h.other file (subst (λ (t : Text). IsAlone main t file) e alone)
 
     is_file : (f : ClassFile) → IsLoaded files main f → f ≡ file
-    is_file f h = same_file main h.bytes bytes f file (sym (read_there files longest_class (class_file main) bytes h.bytes there h.read)) h.alone alone
+    is_file f h = same_file main h.bytes bytes f file (sym (read_there files LONGEST_CLASS (class_file main) bytes h.bytes there h.read)) h.alone alone
 
     inputs_missing : IsMissing files inputs → (a : Answer) → Instead a → IsNear 3 a
-    inputs_missing missing a (no_class h) = there_not_read files before after longest_class (class_file main) 3 bytes there a h
+    inputs_missing missing a (no_class h) = there_not_read files before after LONGEST_CLASS (class_file main) 3 bytes there a h
     inputs_missing missing a (other e h) = absurd (not_other h)
-    inputs_missing missing a (no_inputs f h read) = missing_not_read files before after longest_inputs inputs missing a read
-    inputs_missing missing a (bad_line number e f h bad) = absurd (missing_read files longest_inputs inputs bad.text missing bad.read)
+    inputs_missing missing a (no_inputs f h read) = missing_not_read files before after LONGEST_INPUTS inputs missing a read
+    inputs_missing missing a (bad_line number e f h bad) = absurd (missing_read files LONGEST_INPUTS inputs bad.text missing bad.read)
 
-    inputs_overlong : IsOverlong files longest_inputs inputs → (a : Answer) → Instead a → IsNear 8 a
-    inputs_overlong long a (no_class h) = there_not_read files before after longest_class (class_file main) 8 bytes there a h
+    inputs_overlong : IsOverlong files LONGEST_INPUTS inputs → (a : Answer) → Instead a → IsNear 8 a
+    inputs_overlong long a (no_class h) = there_not_read files before after LONGEST_CLASS (class_file main) 8 bytes there a h
     inputs_overlong long a (other e h) = absurd (not_other h)
-    inputs_overlong long a (no_inputs f h read) = overlong_not_read files before after longest_inputs inputs long a read
-    inputs_overlong long a (bad_line number e f h bad) = absurd (overlong_read files longest_inputs inputs bad.text long bad.read)
+    inputs_overlong long a (no_inputs f h read) = overlong_not_read files before after LONGEST_INPUTS inputs long a read
+    inputs_overlong long a (bad_line number e f h bad) = absurd (overlong_read files LONGEST_INPUTS inputs bad.text long bad.read)
 
     -- what of a wrong line decides the answer's number
-    inputs_there : (wanted : ℕ) (text : Text) → IsThere files longest_inputs inputs text
+    inputs_there : (wanted : ℕ) (text : Text) → IsThere files LONGEST_INPUTS inputs text
         → ((number : ℕ) → IsBad file text number → wanted ≡ 13) → (a : Answer) → Instead a → IsNear wanted a
-    inputs_there wanted text at decides a (no_class h) = there_not_read files before after longest_class (class_file main) wanted bytes there a h
+    inputs_there wanted text at decides a (no_class h) = there_not_read files before after LONGEST_CLASS (class_file main) wanted bytes there a h
     inputs_there wanted text at decides a (other e h) = absurd (not_other h)
-    inputs_there wanted text at decides a (no_inputs f h read) = there_not_read files before after longest_inputs inputs wanted text at a read
+    inputs_there wanted text at decides a (no_inputs f h read) = there_not_read files before after LONGEST_INPUTS inputs wanted text at a read
     inputs_there wanted text at decides a (bad_line number e f h bad) =
-        let is : bad.text ≡ text = sym (read_there files longest_inputs inputs text bad.text at bad.read) in
+        let is : bad.text ≡ text = sym (read_there files LONGEST_INPUTS inputs text bad.text at bad.read) in
         let here : IsBad file text number = subst (λ (t : Text). IsBad file t number) is (subst (λ (c : ClassFile). IsBad c bad.text number) (is_file f h) bad.bad) in
         same (ap status e ∙ sym (decides number here))
 
@@ -125,10 +126,10 @@ module _ (files : Option Files) (before after : Counts) (main inputs : Text) whe
 
     ran_tells : (steps result : ℕ) (ran : Ran) → IsRunOf files main inputs steps ran → IsSaidBy result (told.status ran.ending) → TellsRun files file main inputs steps result
     ran_tells steps result ran h said = record {
-      missing = λ m. absurd (missing_read files longest_inputs inputs h.given.text m h.given.read);
-      overlong = λ m. absurd (overlong_read files longest_inputs inputs h.given.text m h.given.read);
+      missing = λ m. absurd (missing_read files LONGEST_INPUTS inputs h.given.text m h.given.read);
+      overlong = λ m. absurd (overlong_read files LONGEST_INPUTS inputs h.given.text m h.given.read);
       there = λ text at.
-          let is : h.given.text ≡ text = sym (read_there files longest_inputs inputs text h.given.text at h.given.read) in
+          let is : h.given.text ≡ text = sym (read_there files LONGEST_INPUTS inputs text h.given.text at h.given.read) in
           let same_class : h.file ≡ file = is_file h.file h.loaded in
           record {
             ran = λ lists right are fit.
@@ -155,10 +156,10 @@ module _ (files : Option Files) (before after : Counts) (main inputs : Text) whe
   -- where the run is told
   pub tells_ran : (steps result : ℕ) (ran : Ran) → IsRunOf files main inputs steps ran → IsSaidBy result (told.status ran.ending) → TellsClass files main inputs steps result
   tells_ran steps result ran h said = record {
-    missing = λ m. absurd (missing_read files longest_class (class_file main) h.loaded.bytes m h.loaded.read);
-    overlong = λ m. absurd (overlong_read files longest_class (class_file main) h.loaded.bytes m h.loaded.read);
+    missing = λ m. absurd (missing_read files LONGEST_CLASS (class_file main) h.loaded.bytes m h.loaded.read);
+    overlong = λ m. absurd (overlong_read files LONGEST_CLASS (class_file main) h.loaded.bytes m h.loaded.read);
     there = λ bytes file at alone. ran_tells bytes file at alone steps result ran h said;
     not_built = λ bytes at none.
-        let e : h.loaded.bytes ≡ bytes = sym (read_there files longest_class (class_file main) bytes h.loaded.bytes at h.loaded.read) in
+        let e : h.loaded.bytes ≡ bytes = sym (read_there files LONGEST_CLASS (class_file main) bytes h.loaded.bytes at h.loaded.read) in
         absurd (none h.file (subst (λ (t : Text). IsAlone main t h.file) e h.loaded.alone));
   }

@@ -10,3 +10,4 @@ pub mod Calls
 pub mod Few
 pub mod Saying
 pub mod Faults
+pub mod Spending

@@ -1,7 +1,7 @@
 -- From what is said to the status of the call; and what a file that the folder tells of says of its reads.
 use Rattle.std.proofs.Common.{◌≡◌, ℕ, ◌<◌, ◌≤◌, List, length, Option, Some, None, refl, sym, ap, subst, ◌∙◌, inl, inr, arith}
 use Rattle.std.specs.Prelude.{◌⊎◌}
-use Rattle.par_io.specs.Causes.{Files, Told, Counts}
+use Rattle.par_io.specs.Causes.{FolderCounts, SinkCounts, Files, Told}
 use Rattle.par_io.specs.Saying.{Said, whole, cut, unsaid}
 use Rattle.par_tool.specs.declared.answer.Answer.{Answer}
 use Rattle.par_tool.specs.declared.answer.Answer.TheVariants.{Absent, ReadFault, TooLong, WriteFault}
@@ -15,10 +15,10 @@ pub data IsNear (number : ℕ) (a : Answer) : Type 0 where
   reads : status a ≡ 4 → IsNear number a
 
 -- what is said has its status, but for a failed put and want of memory
-pub said_status : (number result : ℕ) (lines : List Text) (old new : Option Text) (f g : ℕ) → Said number lines result old new f g → IsSaidBy result number
-said_status number result lines old new f g (whole is put) = comes is
-said_status number result lines old new f g (cut is rose put) = put_fails is
-said_status number result lines old new f g (unsaid many few is put) = lacks_memory is
+pub said_status : (number result : ℕ) (lines : List Text) (old new : Option Text) (f g : SinkCounts) → Said number lines result old new f g → IsSaidBy result number
+said_status number result lines old new f g (whole is counts put) = comes is
+said_status number result lines old new f g (cut is at) = put_fails is
+said_status number result lines old new f g (unsaid is at) = lacks_memory is
 
 renumbered : (one other result : ℕ) → one ≡ other → IsSaidBy result one → IsSaidBy result other
 renumbered one other result e h = subst (IsSaidBy result) e h
@@ -70,7 +70,7 @@ overlong_read (Some m) limit file b long read =
     let few : length b ≤ limit = read.short in
     omega arith
 
-module _ (files : Option Files) (before after : Counts) (limit : ℕ) (file : Text) where
+module _ (files : Option Files) (before after : FolderCounts) (limit : ℕ) (file : Text) where
   missing_long : (fs : Option Files) → IsMissing fs file → Told fs (λ m. (bytes : Text) × (m file ≡ Some bytes) × (limit < length bytes)) → ⊥
   missing_long None missing long = missing
   missing_long (Some m) missing long = let e : None ≡ Some long.0 = sym missing ∙ long.1 in cc

@@ -2,7 +2,7 @@
 use Rattle.std.specs.Prelude.{◌≡◌, ℕ, List, [], ◌∷◌, Option, Result, Ok, Err, IsTrue}
 use Rattle.std.specs.declared.string.String.{String}
 use Rattle.std.specs.declared.alloc.Global.{Global}
-use Rattle.par_io.specs.Causes.{Files, Counts}
+use Rattle.par_io.specs.Causes.{FolderCounts, SinkCounts, Makes, Files}
 use Rattle.par_io.specs.Saying.{Said}
 use Rattle.par_values.specs.Ran.{Ran}
 use Rattle.par_words.specs.declared.words.Which.{Which}
@@ -13,7 +13,7 @@ use Rattle.par_tool.specs.declared.answer.Answer.TheVariants.{Usage}
 use Rattle.par_tool.specs.declared.reading.Failure.{Failure}
 use Rattle.par_tool.specs.declared.reading.Failure.TheVariants.{Answered, Memory}
 use Rattle.par_tool.specs.Texts.{status, text, is_fault}
-use Rattle.par_tool.specs.Outside.{Text}
+use Rattle.par_tool.specs.Outside.{Text, MakesAtMost}
 use Rattle.par_tool.specs.Sources.{Checked, CompiledSo}
 use Rattle.par_tool.specs.Classes.{NotRun, IsRunOf}
 
@@ -21,24 +21,44 @@ use Rattle.par_tool.specs.Classes.{NotRun, IsRunOf}
 pub record Scene : Type 0 where
   pub files : Option Files
   pub later : Option Files
-  pub before : Counts
-  pub after : Counts
+  pub before : FolderCounts
+  pub after : FolderCounts
 
 -- the files stand
 abbrev pub Stand : Scene → Type 0
 Stand s = s.later ≡ s.files
 
--- Saying an answer: its line is put. The line of a fault that has happened needs no memory, so that
+-- so many files are read, none is written, and the files stand
+abbrev pub ReadsOnly : ℕ → Scene → Type 0
+ReadsOnly reads s = Makes reads 0 s.before s.after × Stand s
+
+-- the most files that are read for what the words want: a source; a class file and an input file
+abbrev pub most_reads : Wanted → ℕ
+most_reads (Check file) = 1
+most_reads (Compile file) = 1
+most_reads (Run main inputs steps) = 2
+
+-- and the most that are written: the class file of a source
+abbrev pub most_writes : Wanted → ℕ
+most_writes (Check file) = 0
+most_writes (Compile file) = 1
+most_writes (Run main inputs steps) = 0
+
+-- nothing was put
+abbrev pub IsUnput : (old new : Option Text) → (before after : SinkCounts) → Type 0
+IsUnput old new before after = (new ≡ old) × (after.puts ≡ before.puts)
+
+-- Saying an answer: its line is put, by one put. The line of a fault that has happened needs no memory, so that
 -- nothing else comes in its place.
-pub record IsSaid (answer : Answer) (result : ℕ) (old new : Option Text) (before after : ℕ)
-    : Type 0 where
+pub record IsSaid (answer : Answer) (result : ℕ) (old new : Option Text)
+    (before after : SinkCounts) : Type 0 where
   pub said : Said (status answer) (text answer ∷ []) result old new before after
   pub firm : IsTrue (is_fault answer) → result ≡ 7 → ⊥
 
 -- Why an answer comes to what the words want. A run that begins is told by its lines and not by an
 -- answer.
 abbrev pub Cause : Scene → Wanted → Answer → Type 0
-Cause s (Check file) answer = Checked s.files s.before s.after file answer × Stand s
+Cause s (Check file) answer = Checked s.files s.before s.after file answer × ReadsOnly 1 s
 Cause s (Compile file) answer = CompiledSo s.files s.later s.before s.after file answer
 Cause s (Run main inputs steps) answer =
     NotRun s.files s.before s.after main inputs answer × Stand s
@@ -47,29 +67,33 @@ Cause s (Run main inputs steps) answer =
 abbrev pub RunCause : Scene → Wanted → Ran → Type 0
 RunCause s (Check file) ran = ⊥
 RunCause s (Compile file) ran = ⊥
-RunCause s (Run main inputs steps) ran = IsRunOf s.files main inputs steps ran × Stand s
+RunCause s (Run main inputs steps) ran = IsRunOf s.files main inputs steps ran × ReadsOnly 2 s
 
 -- How a call ends that has said something with a cause, or was in want of memory and said nothing.
 module _ (which : Which) (words : List (String Global)) (scene : Scene) (result : ℕ)
-    (old new : Option Text) (before after : ℕ) where
+    (old new : Option Text) (before after : SinkCounts) where
   pub data Ends : Type 0 where
-    -- the words are of no form
-    misses : ((w : Wanted) → Asks which words w → ⊥) → Stand scene
+    -- the words are of no form: no file is read and none is written
+    misses : ((w : Wanted) → Asks which words w → ⊥) → ReadsOnly 0 scene
         → IsSaid Usage result old new before after → Ends
     answers : (w : Wanted) (answer : Answer) → Asks which words w → Cause scene w answer
         → IsSaid answer result old new before after → Ends
     runs : (w : Wanted) (ran : Ran) → Asks which words w → RunCause scene w ran
         → Said (told.status ran.ending) (told.lines ran) result old new before after → Ends
-    lacks_memory : result ≡ 7 → new ≡ old → Stand scene → Ends
+    lacks_memory : (w : Wanted) → Asks which words w → result ≡ 7 → IsUnput old new before after
+        → MakesAtMost (most_reads w) (most_writes w) scene.before scene.after → Stand scene
+        → Ends
 
 -- what saying the answer in the place of a job's end comes to
-abbrev pub Breaks : Failure → (result : ℕ) → (old new : Option Text) → (before after : ℕ) → Type 0
-Breaks (Answered answer) result old new before after = IsSaid answer result old new before after
-Breaks Memory result old new before after = (result ≡ 7) × (new ≡ old)
+abbrev pub BreaksOff : Failure → (result : ℕ) → (old new : Option Text)
+    → (before after : SinkCounts) → Type 0
+BreaksOff (Answered answer) result old new before after = IsSaid answer result old new before after
+BreaksOff Memory result old new before after = (result ≡ 7) × IsUnput old new before after
 
 -- What saying what a job came to comes to: an answer that it gives, or one in its place; and want
 -- of memory says nothing.
 abbrev pub Concludes : Result Answer Failure → (result : ℕ) → (old new : Option Text)
-    → (before after : ℕ) → Type 0
+    → (before after : SinkCounts) → Type 0
 Concludes (Ok answer) result old new before after = IsSaid answer result old new before after
-Concludes (Err failure) result old new before after = Breaks failure result old new before after
+Concludes (Err failure) result old new before after =
+    BreaksOff failure result old new before after

@@ -11,8 +11,10 @@ use Rattle.par_inputs.specs.Rules.{entries, IsRight}
 use Rattle.par_machine.specs.Run.{machine_run}
 use Rattle.par_runner.specs.Texts as told
 use Rattle.par_words.specs.Words.{Wanted, Check, Compile, Run}
-use Rattle.par_straight_compile.specs.Files.{longest_class}
-use Rattle.par_tool.specs.Outside.{Text, IsThere, IsMissing, IsOverlong, longest_source, longest_inputs, class_file}
+use Rattle.par_lexer.specs.declared.cut.TheConstants.{LONGEST_SOURCE}
+use Rattle.par_inputs.specs.declared.read.TheConstants.{LONGEST_INPUTS}
+use Rattle.par_pool.specs.declared.reading.TheConstants.{LONGEST_CLASS}
+use Rattle.par_tool.specs.Outside.{Text, IsThere, IsMissing, IsOverlong, class_file}
 use Rattle.par_tool.specs.Sources.{IsBroken}
 use Rattle.par_tool.specs.Classes.{IsAlone, IsBad, misfit_in}
 
@@ -35,14 +37,14 @@ Checks result = IsStatus result 0
 abbrev pub Compiles : ℕ → Type 0
 Compiles result = IsStatus result 0 ⊎ (result ≡ 5)
 
--- a straight-line source whose program passes every rule
-abbrev pub Passes : Text → Type 0
-Passes source = (p : Program) × HasProgram source p × IsAccepted p
+-- a straight-line source whose program is accepted
+abbrev pub HasAccepted : Text → Type 0
+HasAccepted source = (p : Program) × HasProgram source p × IsAccepted p
 
 -- Which status a call on a source has: 1 where a rule is broken, 9 where it is no straight-line
 -- source, and what the call makes of an accepted one.
 pub record Judges (Accepts : ℕ → Type 0) (source : Text) (result : ℕ) : Type 0 where
-  pub accepted : Passes source → Accepts result
+  pub accepted : HasAccepted source → Accepts result
   pub refused : (rule line column : ℕ) → IsBroken source rule line column → IsStatus result 1
   pub not_built : (IsStraightLine source → ⊥) → IsStatus result 9
 
@@ -51,8 +53,8 @@ pub record Judges (Accepts : ℕ → Type 0) (source : Text) (result : ℕ) : Ty
 pub record TellsSource (Accepts : ℕ → Type 0) (files : Option Files) (file : Text) (result : ℕ)
     : Type 0 where
   pub missing : IsMissing files file → IsStatus result 3
-  pub overlong : IsOverlong files longest_source file → IsStatus result 8
-  pub there : (source : Text) → IsThere files longest_source file source
+  pub overlong : IsOverlong files LONGEST_SOURCE file → IsStatus result 8
+  pub there : (source : Text) → IsThere files LONGEST_SOURCE file source
       → Judges Accepts source result
 
 -- Which status the run of a class has on an input file that is there: that of its ending where all
@@ -67,19 +69,19 @@ pub record RunsOn (file : ClassFile) (main text : Text) (steps result : ℕ) : T
 pub record TellsRun (files : Option Files) (file : ClassFile) (main inputs : Text)
     (steps result : ℕ) : Type 0 where
   pub missing : IsMissing files inputs → IsStatus result 3
-  pub overlong : IsOverlong files longest_inputs inputs → IsStatus result 8
-  pub there : (text : Text) → IsThere files longest_inputs inputs text
+  pub overlong : IsOverlong files LONGEST_INPUTS inputs → IsStatus result 8
+  pub there : (text : Text) → IsThere files LONGEST_INPUTS inputs text
       → RunsOn file main text steps result
 
 -- Which status a class has that the folder tells of: 9 exactly where its file does not run by
 -- itself.
 pub record TellsClass (files : Option Files) (main inputs : Text) (steps result : ℕ) : Type 0 where
   pub missing : IsMissing files (class_file main) → IsStatus result 3
-  pub overlong : IsOverlong files longest_class (class_file main) → IsStatus result 8
+  pub overlong : IsOverlong files LONGEST_CLASS (class_file main) → IsStatus result 8
   pub there : (bytes : Text) (file : ClassFile)
-      → IsThere files longest_class (class_file main) bytes
+      → IsThere files LONGEST_CLASS (class_file main) bytes
       → IsAlone main bytes file → TellsRun files file main inputs steps result
-  pub not_built : (bytes : Text) → IsThere files longest_class (class_file main) bytes
+  pub not_built : (bytes : Text) → IsThere files LONGEST_CLASS (class_file main) bytes
       → ((file : ClassFile) → IsAlone main bytes file → ⊥) → IsStatus result 9
 
 -- The status of a call, where the folder tells its files.

@@ -1,22 +1,19 @@
--- What a call sees of files, and why a file was not had.
+-- What a call sees of files, how often it asks for one, and why a file was not had.
 use Rattle.std.specs.Prelude.{◌≡◌, ℕ, ◌<◌, ◌≤◌, List, ◌++◌, length, Option, Some, None, codes}
-use Rattle.par_io.specs.Causes.{Rose, Files, Told, Counts}
+use Rattle.par_io.specs.Causes.{FolderCounts, Makes, Rose, Files, Told}
 use Rattle.par_tool.specs.declared.answer.Answer.{Answer}
 use Rattle.par_tool.specs.declared.answer.Answer.TheVariants.{Absent, ReadFault, TooLong}
 
 abbrev pub Text : Type 0
 Text = List ℕ
 
--- the folder's counts
-abbrev pub counts : ℕ → ℕ → ℕ → Counts
-counts faults absents longs = record { faults = faults; absents = absents; longs = longs }
-
--- the most bytes of a source and of an input file
-abbrev pub longest_source : ℕ
-longest_source = 262144
-
-abbrev pub longest_inputs : ℕ
-longest_inputs = 1048576
+-- At most so many reads and writes were made.
+pub record MakesAtMost (reads writes : ℕ) (before after : FolderCounts) : Type 0 where
+  pub read : ℕ
+  pub written : ℕ
+  pub few_reads : read ≤ reads
+  pub few_writes : written ≤ writes
+  pub makes : Makes read written before after
 
 -- the file of a class
 abbrev pub class_file : Text → Text
@@ -44,7 +41,7 @@ IsOverlong None limit file = ⊥
 IsOverlong (Some m) limit file = (bytes : Text) × (m file ≡ Some bytes) × (limit < length bytes)
 
 -- Why a file was not had, given the folder's counts before and after the read.
-abbrev pub NotRead : Option Files → Counts → Counts → ℕ → Text → Answer → Type 0
+abbrev pub NotRead : Option Files → FolderCounts → FolderCounts → ℕ → Text → Answer → Type 0
 NotRead files before after limit file Absent =
     Rose before.absents after.absents × Told files (λ m. m file ≡ None)
 NotRead files before after limit file ReadFault = Rose before.faults after.faults

@@ -1,6 +1,6 @@
 -- What is said of sources: to check and to compile them.
-use Rattle.std.specs.Prelude.{◌≡◌, ℕ, ◌≤◌, Option, IsTrue, ◌∷◌, [], length}
-use Rattle.par_io.specs.Causes.{Rose, Files, ToldBoth, Sets, StandBut, Counts}
+use Rattle.std.specs.Prelude.{◌≡◌, ℕ, ◌<◌, ◌≤◌, Option, IsTrue, ◌∷◌, [], length}
+use Rattle.par_io.specs.Causes.{FolderCounts, Makes, Rose, Files, ToldBoth, Sets, StandBut}
 use Rattle.par_lexer.specs.Places.{line_at, column_at}
 use Rattle.par_class.specs.declared.file.ClassFile.{ClassFile}
 use Rattle.par_class.specs.Spelling.{Spells}
@@ -11,20 +11,23 @@ use Rattle.par_straight.specs.declared.program.Program.{Program}
 use Rattle.par_straight.specs.Subject.{subject}
 use Rattle.par_straight.specs.Rules.{IsAccepted, IsRefused}
 use Rattle.par_straight.specs.Judged.{HasProgram, IsStraightLine}
-use Rattle.par_straight_compile.specs.Files.{longest_class, IsFileOf}
+use Rattle.par_straight_compile.specs.Files.{IsFileOf}
 use Rattle.par_straight_shows.specs.Theorems.{ShowsWhole}
 use Rattle.par_single.specs.Single.{runs_alone}
 use Rattle.par_machine.specs.Target.{target}
+use Rattle.par_lexer.specs.declared.cut.TheConstants.{LONGEST_SOURCE}
+use Rattle.par_pool.specs.declared.reading.TheConstants.{LONGEST_CLASS}
 use Rattle.par_tool.specs.declared.answer.Answer.{Answer}
 use Rattle.par_tool.specs.declared.answer.Answer.TheVariants.{Accepted, Compiled, Refused, WriteFault, NotBuilt}
-use Rattle.par_tool.specs.Outside.{Text, WasRead, NotRead, longest_source, class_file}
+use Rattle.par_tool.specs.Outside.{Text, WasRead, NotRead, class_file}
 
--- The rule is broken at the place, whose line and column these are.
+-- The rule is broken at the place, which lies in the source; these are its line and its column.
 pub record IsBroken (source : Text) (rule line column : ℕ) : Type 0 where
   pub program : Program
   pub at : ℕ
   pub has : HasProgram source program
   pub refused : IsRefused program rule at
+  pub within : at < length source
   pub line_is : line ≡ line_at source at
   pub column_is : column ≡ column_at source at
 
@@ -42,15 +45,15 @@ IsUnaccepted source _ = ⊥
 
 -- a source that was read
 abbrev pub ReadSource : Option Files → Text → (Text → Type 0) → Type 0
-ReadSource files file P = (source : Text) × WasRead files longest_source file source × P source
+ReadSource files file P = (source : Text) × WasRead files LONGEST_SOURCE file source × P source
 
 -- Why a source in a file has no accepted program.
-module _ (files : Option Files) (before after : Counts) (file : Text) where
+module _ (files : Option Files) (before after : FolderCounts) (file : Text) where
   abbrev pub Rejected : Answer → Type 0
   Rejected (Refused rule line column) =
       ReadSource files file (λ source. IsBroken source rule line column)
   Rejected NotBuilt = ReadSource files file (λ source. IsStraightLine source → ⊥)
-  Rejected answer = NotRead files before after longest_source file answer
+  Rejected answer = NotRead files before after LONGEST_SOURCE file answer
 
 -- the program of a source that was read and accepted
 abbrev pub ReadAccepted : Option Files → Text → (Program → Type 0) → Type 0
@@ -58,7 +61,7 @@ ReadAccepted files file P =
     (p : Program) × P p × ReadSource files file (λ source. IsAcceptedAs source p)
 
 -- Why a check ends with an answer.
-module _ (files : Option Files) (before after : Counts) (file : Text) where
+module _ (files : Option Files) (before after : FolderCounts) (file : Text) where
   abbrev pub Checked : Answer → Type 0
   Checked Accepted = ReadAccepted files file (λ p. Unit {0})
   Checked answer = Rejected files before after file answer
@@ -67,7 +70,7 @@ module _ (files : Option Files) (before after : Counts) (file : Text) where
 -- and nothing of its policies, its runs are those of the program, and they are secure.
 pub record IsClassOf (p : Program) (bytes : Text) : Type 0 where
   pub file : ClassFile
-  pub short : length bytes ≤ longest_class
+  pub short : length bytes ≤ LONGEST_CLASS
   pub spells : Spells bytes file
   pub is : IsFileOf p file
   pub alone : IsTrue (runs_alone file p.class)
@@ -81,11 +84,15 @@ pub record IsWritten (p : Program) (files later : Option Files) : Type 0 where
   pub is_class : IsClassOf p bytes
   pub sets : ToldBoth files later (Sets (class_file p.class) bytes)
 
--- Why a compilation ends with an answer, and what of the files it changes.
-module _ (files later : Option Files) (before after : Counts) (file : Text) where
+-- Why a compilation ends with an answer, and what of the files it changes: one read of the source,
+-- and one write for each class file that is made, up to the one that fails.
+module _ (files later : Option Files) (before after : FolderCounts) (file : Text) where
   abbrev pub CompiledSo : Answer → Type 0
-  CompiledSo (Compiled many) = (many ≡ 1) × ReadAccepted files file (λ p. IsWritten p files later)
+  CompiledSo (Compiled many) =
+      (many ≡ 1) × Makes 1 many before after
+      × ReadAccepted files file (λ p. IsWritten p files later)
   CompiledSo WriteFault =
-      Rose before.faults after.faults
+      Rose before.faults after.faults × Makes 1 1 before after
       × ReadAccepted files file (λ p. ToldBoth files later (StandBut (class_file p.class)))
-  CompiledSo answer = (later ≡ files) × Rejected files before after file answer
+  CompiledSo answer =
+      (later ≡ files) × Makes 1 0 before after × Rejected files before after file answer

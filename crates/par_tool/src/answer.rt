@@ -115,9 +115,9 @@ fn inputs_line(alloc: Global, line: u32) -> Result<String, AllocError>
 /// Puts the line of an answer, and gives the status of the call.
 pub fn say<S: Sink>(alloc: Global, answer: Answer, out: &mut S) -> u8
     ensures said { IsSaid answer result (S.held out.old) (S.held out.new)
-        (S.faults out.old) (S.faults out.new) }
+        (S.counts out.old) (S.counts out.new) }
     ensures failed_puts_are_told { IsTrue S.counts_faults_alone →
-        result ≢ 6 → S.faults out.new ≡ S.faults out.old }
+        result ≢ 6 → (S.counts out.new).faults ≡ (S.counts out.old).faults }
 {
     let Ok(line) = line_of(alloc, answer) else {
         return 7;

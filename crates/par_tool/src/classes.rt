@@ -1,17 +1,18 @@
 //! What is done with a class: its file and its inputs are read, and a machine is made to run it.
 
-ghost use Rattle.std.specs.Prelude.{◌≡◌, ◌≤◌, ℕ, [], ◌∷◌, List, IsTrue, IfOk, IfErr, MatchOption, length};
+ghost use Rattle.std.specs.Prelude.{◌≡◌, ◌≤◌, ℕ, [], ◌∷◌, List, IsTrue, IfOk, IfErr, OnOk, MatchOption, length};
+ghost use Rattle.par_io.specs.Causes.{Makes, NoneFalls};
 ghost use Rattle.par_class.specs.declared.file.ClassFile.{ClassFile as File};
 ghost use Rattle.par_tool.specs.Classes.{IsAlone, IsLoaded, AreInputs, IsUnloaded, IsUngiven, NotRun, IsStarted};
-ghost use Rattle.par_tool.specs.Failures.{IsFailure, FaultsAreTold};
-ghost use Rattle.par_tool.specs.Outside.{counts};
+ghost use Rattle.par_tool.specs.Failures.{IsFailure, Spends, FaultsAreTold};
+ghost use Rattle.par_tool.specs.Outside.{MakesAtMost};
 
 use crate::answer::Answer;
 use crate::naming::class_file_name;
 use crate::reading::{Failure, read};
-use par_class::{ClassFile, read_class};
+use par_class::{ClassFile, LONGEST_CLASS, read_class};
 use par_inputs::error::BadInput;
-use par_inputs::{line_of_entry, read_inputs};
+use par_inputs::{LONGEST_INPUTS, line_of_entry, read_inputs};
 use par_io::Folder;
 use par_lexer::list::NoMemory;
 use par_machine::inputs_fit;
@@ -21,15 +22,9 @@ use par_single::runs_alone;
 use par_values::inputs::Inputs;
 use std::alloc::Global;
 
-/// The most bytes of a class file.
-const LONGEST_CLASS: u64 = 1_048_576;
-
-/// The most bytes of an input file.
-const LONGEST_INPUTS: u64 = 1_048_576;
-
 /// The class file that the bytes spell, where it is of this class and runs by itself.
 fn alone(alloc: Global, bytes: &[u8], main: &str) -> Result<Option<ClassFile>, NoMemory>
-    requires { length bytes.now ≤ 1048576 }
+    requires { length bytes.now ≤ LONGEST_CLASS }
     ensures { IfOk result (λ found. MatchOption found
         ((file : File) → IsAlone main.now bytes.now file → ⊥)
         (IsAlone main.now bytes.now)) }
@@ -52,19 +47,16 @@ fn alone(alloc: Global, bytes: &[u8], main: &str) -> Result<Option<ClassFile>, N
 /// The class file of a class, which runs by itself.
 fn class<F: Folder>(alloc: Global, folder: &mut F, main: &str) -> Result<ClassFile, Failure>
     ensures kept { F.files folder.new ≡ F.files folder.old }
-    ensures faults_never_fall { F.faults folder.old ≤ F.faults folder.new }
+    ensures counted { Spends 1 0 result (F.counts folder.old) (F.counts folder.new) }
+    ensures none_falls { NoneFalls (F.counts folder.old) (F.counts folder.new) }
     ensures faults_are_told { IsTrue F.counts_faults_alone →
-        FaultsAreTold result (F.faults folder.old) (F.faults folder.new) }
-    ensures absents_never_fall { F.absents folder.old ≤ F.absents folder.new }
-    ensures longs_never_fall { F.longs folder.old ≤ F.longs folder.new }
+        FaultsAreTold result (F.counts folder.old).faults (F.counts folder.new).faults }
     ensures loaded { IfOk result (IsLoaded (F.files folder.old) main.now) }
-    ensures failed { let before =
-        counts (F.faults folder.old) (F.absents folder.old) (F.longs folder.old) in
-        let after = counts (F.faults folder.new) (F.absents folder.new) (F.longs folder.new) in
-        IfErr result (IsFailure (IsUnloaded (F.files folder.old) before after main.now)) }
+    ensures failed { IfErr result (IsFailure (IsUnloaded (F.files folder.old)
+        (F.counts folder.old) (F.counts folder.new) main.now)) }
 {
     let name = class_file_name(alloc, main)?;
-    let bytes = read(alloc, folder, name.as_str(), LONGEST_CLASS)?;
+    let bytes = read(alloc, folder, name.as_str(), LONGEST_CLASS as u64)?;
     match alone(alloc, bytes.as_slice(), main)? {
         Some(file) => Ok(file),
         None => Err(Failure::Answered(Answer::NotBuilt)),
@@ -79,18 +71,15 @@ fn inputs<F: Folder>(
     name: &str,
 ) -> Result<Inputs, Failure>
     ensures kept { F.files folder.new ≡ F.files folder.old }
-    ensures faults_never_fall { F.faults folder.old ≤ F.faults folder.new }
+    ensures counted { Makes 1 0 (F.counts folder.old) (F.counts folder.new) }
+    ensures none_falls { NoneFalls (F.counts folder.old) (F.counts folder.new) }
     ensures faults_are_told { IsTrue F.counts_faults_alone →
-        FaultsAreTold result (F.faults folder.old) (F.faults folder.new) }
-    ensures absents_never_fall { F.absents folder.old ≤ F.absents folder.new }
-    ensures longs_never_fall { F.longs folder.old ≤ F.longs folder.new }
+        FaultsAreTold result (F.counts folder.old).faults (F.counts folder.new).faults }
     ensures given { IfOk result (AreInputs (F.files folder.old) file.now name.now) }
-    ensures failed { let before =
-        counts (F.faults folder.old) (F.absents folder.old) (F.longs folder.old) in
-        let after = counts (F.faults folder.new) (F.absents folder.new) (F.longs folder.new) in
-        IfErr result (IsFailure (IsUngiven (F.files folder.old) before after file.now name.now)) }
+    ensures failed { IfErr result (IsFailure (IsUngiven (F.files folder.old)
+        (F.counts folder.old) (F.counts folder.new) file.now name.now)) }
 {
-    let text = read(alloc, folder, name, LONGEST_INPUTS)?;
+    let text = read(alloc, folder, name, LONGEST_INPUTS as u64)?;
     let inputs = match read_inputs(alloc, text.as_slice()) {
         Ok(inputs) => inputs,
         Err(BadInput::Line(line)) => return Err(Failure::Answered(Answer::BadInputs(line))),
@@ -113,13 +102,14 @@ pub fn started<F: Folder>(
     name: &str,
 ) -> Result<Machine, Failure>
     ensures kept { F.files folder.new ≡ F.files folder.old }
+    ensures counted { OnOk result (Makes 2 0 (F.counts folder.old) (F.counts folder.new)) }
     ensures faults_are_told { IsTrue F.counts_faults_alone →
-        FaultsAreTold result (F.faults folder.old) (F.faults folder.new) }
+        FaultsAreTold result (F.counts folder.old).faults (F.counts folder.new).faults }
     ensures started { IfOk result (IsStarted (F.files folder.old) main.now name.now) }
-    ensures failed { let before =
-        counts (F.faults folder.old) (F.absents folder.old) (F.longs folder.old) in
-        let after = counts (F.faults folder.new) (F.absents folder.new) (F.longs folder.new) in
-        IfErr result (IsFailure (NotRun (F.files folder.old) before after main.now name.now)) }
+    ensures failed { IfErr result (IsFailure (NotRun (F.files folder.old)
+        (F.counts folder.old) (F.counts folder.new) main.now name.now)) }
+    ensures memory { IfErr result (λ e. e ≡ Failure.Memory →
+        MakesAtMost 2 0 (F.counts folder.old) (F.counts folder.new)) }
 {
     let file = class(alloc, folder, main)?;
     let inputs = inputs(alloc, folder, &file, name)?;

@@ -8,7 +8,7 @@ ghost use Rattle.par_straight.specs.Names.{numbered};
 ghost use Rattle.par_straight.specs.Judged.{HasProgram, IsStraight, IsStraightLine};
 ghost use Rattle.par_tool.specs.Judgements.{IsJudgement, Tokens};
 
-use par_lexer::lex;
+use par_lexer::{LONGEST_SOURCE, lex};
 use par_lexer::list::{List, NoMemory};
 use par_lexer::token::{LexError, Token};
 use par_straight::program::Program;
@@ -32,7 +32,7 @@ pub enum Judgement {
 
 /// Reads a source, and checks it.
 pub fn judge(alloc: Global, source: &[u8]) -> Result<Judgement, NoMemory>
-    requires { length source.now ≤ 262144 }
+    requires { length source.now ≤ LONGEST_SOURCE }
     ensures { IfOk result (IsJudgement source.now) }
 {
     let Some(program) = program_of(alloc, source)? else {
@@ -50,7 +50,7 @@ pub fn judge(alloc: Global, source: &[u8]) -> Result<Judgement, NoMemory>
 
 /// The program of a straight-line source, or none.
 fn program_of(alloc: Global, source: &[u8]) -> Result<Option<Program>, NoMemory>
-    requires { length source.now ≤ 262144 }
+    requires { length source.now ≤ LONGEST_SOURCE }
     ensures { IfOk result (λ found. MatchOption found
         (IsStraightLine source.now → ⊥)
         (HasProgram source.now)) }
@@ -67,11 +67,11 @@ fn program_of(alloc: Global, source: &[u8]) -> Result<Option<Program>, NoMemory>
 
 /// The tokens of a source, where it has some.
 fn tokens_of(alloc: Global, source: &[u8]) -> Result<Option<List<Token>>, NoMemory>
-    requires { length source.now ≤ 262144 }
+    requires { length source.now ≤ LONGEST_SOURCE }
     ensures exact { IfOk result (λ found. MatchOption found
         ((tokens : Tokens) → HasTokens source.now tokens → ⊥)
         (HasTokens source.now)) }
-    ensures few { IfOk result (λ found. IfSome found (λ tokens. length tokens ≤ 262144)) }
+    ensures few { IfOk result (λ found. IfSome found (λ tokens. length tokens ≤ LONGEST_SOURCE)) }
 {
     match lex(alloc, source) {
         Ok(tokens) => Ok(Some(tokens)),
@@ -84,7 +84,7 @@ fn tokens_of(alloc: Global, source: &[u8]) -> Result<Option<List<Token>>, NoMemo
 
 /// The tree of tokens, where they have one.
 fn tree_of(alloc: Global, tokens: &[Token]) -> Result<Option<Source>, NoMemory>
-    requires { length tokens.now ≤ 262144 }
+    requires { length tokens.now ≤ LONGEST_SOURCE }
     ensures { IfOk result (λ found. MatchOption found
         ((tree : Tree) → HasTree tokens.now tree → ⊥)
         (HasTree tokens.now)) }

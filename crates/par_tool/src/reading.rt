@@ -1,7 +1,8 @@
 //! Reads of files, with why one was not had.
 
 ghost use Rattle.std.specs.Prelude.{◌≡◌, ◌≤◌, IsTrue, IfOk, IfErr, length};
-ghost use Rattle.par_tool.specs.Outside.{WasRead, NotRead, counts};
+ghost use Rattle.par_io.specs.Causes.{Makes, NoneFalls};
+ghost use Rattle.par_tool.specs.Outside.{WasRead, NotRead};
 ghost use Rattle.par_tool.specs.Failures.{IsFailure, FaultsAreTold};
 ghost use Rattle.par_tool.specs.declared.reading.Failure.TheVariants.{Memory};
 
@@ -43,17 +44,14 @@ pub fn read<F: Folder>(
     limit: u64,
 ) -> Result<Vec<u8>, Failure>
     ensures kept { F.files folder.new ≡ F.files folder.old }
-    ensures faults_never_fall { F.faults folder.old ≤ F.faults folder.new }
+    ensures counted { Makes 1 0 (F.counts folder.old) (F.counts folder.new) }
+    ensures none_falls { NoneFalls (F.counts folder.old) (F.counts folder.new) }
     ensures faults_are_told { IsTrue F.counts_faults_alone →
-        FaultsAreTold result (F.faults folder.old) (F.faults folder.new) }
-    ensures absents_never_fall { F.absents folder.old ≤ F.absents folder.new }
-    ensures longs_never_fall { F.longs folder.old ≤ F.longs folder.new }
+        FaultsAreTold result (F.counts folder.old).faults (F.counts folder.new).faults }
     ensures short { IfOk result (λ bytes. length bytes.items ≤ limit) }
     ensures read { IfOk result (λ bytes. WasRead (F.files folder.old) limit name.now bytes.items) }
-    ensures failed { let before =
-        counts (F.faults folder.old) (F.absents folder.old) (F.longs folder.old) in
-        let after = counts (F.faults folder.new) (F.absents folder.new) (F.longs folder.new) in
-        IfErr result (IsFailure (NotRead (F.files folder.old) before after limit name.now)) }
+    ensures failed { IfErr result (IsFailure (NotRead (F.files folder.old)
+        (F.counts folder.old) (F.counts folder.new) limit name.now)) }
 {
     match folder.read(alloc, name, limit) {
         Ok(bytes) => Ok(bytes),

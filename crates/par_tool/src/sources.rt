@@ -1,10 +1,10 @@
 //! What is done with a source: it is read and judged, and its program is compiled.
 
 ghost use Rattle.std.specs.Prelude.{◌≡◌, ◌≤◌, ◌^◌, ◌<◌, IsTrue, IfOk, IfErr, length, string_bytes};
-ghost use Rattle.par_io.specs.Causes.{ToldBoth, Sets};
+ghost use Rattle.par_io.specs.Causes.{Makes, NoneFalls};
 ghost use Rattle.par_lexer.specs.Names.{IsName};
 ghost use Rattle.par_tool.specs.Failures.{IsFailure, FaultsAreTold};
-ghost use Rattle.par_tool.specs.Outside.{Text, counts, class_file};
+ghost use Rattle.par_tool.specs.Outside.{Text, MakesAtMost};
 ghost use Rattle.par_tool.specs.Sources.{IsAcceptedAs, ReadSource, Rejected, Checked, CompiledSo, IsUnaccepted, IsClassOf};
 
 use crate::answer::Answer;
@@ -12,25 +12,21 @@ use crate::judge::{Judgement, judge};
 use crate::naming::{class_file_name, text_of};
 use crate::reading::{Failure, read};
 use par_io::{Folder, WriteFail};
-use par_lexer::place_of;
+use par_lexer::{LONGEST_SOURCE, place_of};
 use par_straight::program::Program;
 use par_straight_compile::compile;
 use std::alloc::{AllocError, Global};
 
-/// The most bytes of a source.
-const LONGEST_SOURCE: u64 = 262_144;
-
 /// The program of a source that is accepted.
 fn accepted(alloc: Global, source: &[u8]) -> Result<Program, Failure>
-    requires { length source.now ≤ 262144 }
+    requires { length source.now ≤ LONGEST_SOURCE }
     ensures accepted { IfOk result (IsAcceptedAs source.now) }
     ensures failed { IfErr result (IsFailure (IsUnaccepted source.now)) }
 {
     match judge(alloc, source)? {
         Judgement::Accepted(program) => Ok(program),
         Judgement::Broken { rule, at } => {
-            let inside = at.min(source.len() as u32);
-            let (line, column) = place_of(source, inside);
+            let (line, column) = place_of(source, at);
             Err(Failure::Answered(Answer::Refused { rule, line, column }))
         }
         Judgement::NotStraight => Err(Failure::Answered(Answer::NotBuilt)),
@@ -40,33 +36,29 @@ fn accepted(alloc: Global, source: &[u8]) -> Result<Program, Failure>
 /// The program of an accepted source in a file.
 fn program<F: Folder>(alloc: Global, folder: &mut F, file: &str) -> Result<Program, Failure>
     ensures kept { F.files folder.new ≡ F.files folder.old }
-    ensures faults_never_fall { F.faults folder.old ≤ F.faults folder.new }
+    ensures counted { Makes 1 0 (F.counts folder.old) (F.counts folder.new) }
+    ensures none_falls { NoneFalls (F.counts folder.old) (F.counts folder.new) }
     ensures faults_are_told { IsTrue F.counts_faults_alone →
-        FaultsAreTold result (F.faults folder.old) (F.faults folder.new) }
+        FaultsAreTold result (F.counts folder.old).faults (F.counts folder.new).faults }
     ensures accepted { IfOk result (λ p.
         ReadSource (F.files folder.old) file.now (λ source. IsAcceptedAs source p)) }
-    ensures failed { let before =
-        counts (F.faults folder.old) (F.absents folder.old) (F.longs folder.old) in
-        let after = counts (F.faults folder.new) (F.absents folder.new) (F.longs folder.new) in
-        IfErr result (IsFailure (Rejected (F.files folder.old) before after file.now)) }
+    ensures failed { IfErr result (IsFailure (Rejected (F.files folder.old)
+        (F.counts folder.old) (F.counts folder.new) file.now)) }
 {
-    let source = read(alloc, folder, file, LONGEST_SOURCE)?;
+    let source = read(alloc, folder, file, LONGEST_SOURCE as u64)?;
     accepted(alloc, source.as_slice())
 }
 
 /// Checks the source in a file.
 pub fn check<F: Folder>(alloc: Global, folder: &mut F, file: &str) -> Result<Answer, Failure>
     ensures kept { F.files folder.new ≡ F.files folder.old }
+    ensures counted { Makes 1 0 (F.counts folder.old) (F.counts folder.new) }
     ensures faults_are_told { IsTrue F.counts_faults_alone →
-        FaultsAreTold result (F.faults folder.old) (F.faults folder.new) }
-    ensures checked { let before =
-        counts (F.faults folder.old) (F.absents folder.old) (F.longs folder.old) in
-        let after = counts (F.faults folder.new) (F.absents folder.new) (F.longs folder.new) in
-        IfOk result (Checked (F.files folder.old) before after file.now) }
-    ensures failed { let before =
-        counts (F.faults folder.old) (F.absents folder.old) (F.longs folder.old) in
-        let after = counts (F.faults folder.new) (F.absents folder.new) (F.longs folder.new) in
-        IfErr result (IsFailure (Checked (F.files folder.old) before after file.now)) }
+        FaultsAreTold result (F.counts folder.old).faults (F.counts folder.new).faults }
+    ensures checked { IfOk result (Checked (F.files folder.old)
+        (F.counts folder.old) (F.counts folder.new) file.now) }
+    ensures failed { IfErr result (IsFailure (Checked (F.files folder.old)
+        (F.counts folder.old) (F.counts folder.new) file.now)) }
 {
     program(alloc, folder, file)?;
     Ok(Answer::Accepted)
@@ -87,18 +79,14 @@ fn class_bytes(alloc: Global, program: &Program) -> Result<Vec<u8>, Failure>
 /// Compiles the source in a file, and writes its class file.
 pub fn compile_file<F: Folder>(alloc: Global, folder: &mut F, file: &str) -> Result<Answer, Failure>
     ensures faults_are_told { IsTrue F.counts_faults_alone →
-        FaultsAreTold result (F.faults folder.old) (F.faults folder.new) }
-    ensures compiled { let before =
-        counts (F.faults folder.old) (F.absents folder.old) (F.longs folder.old) in
-        let after = counts (F.faults folder.new) (F.absents folder.new) (F.longs folder.new) in
-        IfOk result (CompiledSo (F.files folder.old) (F.files folder.new) before after file.now) }
-    ensures failed { let before =
-        counts (F.faults folder.old) (F.absents folder.old) (F.longs folder.old) in
-        let after = counts (F.faults folder.new) (F.absents folder.new) (F.longs folder.new) in
-        let cause = CompiledSo (F.files folder.old) (F.files folder.new) before after file.now in
-        IfErr result (IsFailure cause) }
-    ensures memory { IfErr result (λ e.
-        e ≡ Failure.Memory → F.files folder.new ≡ F.files folder.old) }
+        FaultsAreTold result (F.counts folder.old).faults (F.counts folder.new).faults }
+    ensures compiled { IfOk result (CompiledSo (F.files folder.old) (F.files folder.new)
+        (F.counts folder.old) (F.counts folder.new) file.now) }
+    ensures failed { IfErr result (IsFailure (CompiledSo (F.files folder.old) (F.files folder.new)
+        (F.counts folder.old) (F.counts folder.new) file.now)) }
+    ensures memory { IfErr result (λ e. e ≡ Failure.Memory →
+        (F.files folder.new ≡ F.files folder.old)
+        × MakesAtMost 1 1 (F.counts folder.old) (F.counts folder.new)) }
 {
     let program = program(alloc, folder, file)?;
     let bytes = class_bytes(alloc, &program)?;

@@ -1,9 +1,8 @@
 //! The top call.
 
 ghost use Rattle.std.specs.Prelude.{◌≡◌, ◌≢◌, ℕ, IsTrue};
-ghost use Rattle.par_tool.specs.Answers.{Scene, Ends, Concludes, Breaks};
+ghost use Rattle.par_tool.specs.Answers.{Scene, Ends, Concludes, BreaksOff};
 ghost use Rattle.par_tool.specs.Exactly.{IsExact, IsSaidBy};
-ghost use Rattle.par_tool.specs.Outside.{counts};
 ghost use Rattle.par_words.specs.Words.{Asks, Wanted};
 
 use crate::answer::{Answer, say};
@@ -24,23 +23,21 @@ pub fn tool<F: Folder, S: Sink>(
     folder: &mut F,
     out: &mut S,
 ) -> u8
-    ensures ends { let before =
-        counts (F.faults folder.old) (F.absents folder.old) (F.longs folder.old) in
-        let after = counts (F.faults folder.new) (F.absents folder.new) (F.longs folder.new) in
-        let scene : Scene = record {
+    ensures ends { let scene : Scene = record {
           files = F.files folder.old;
           later = F.files folder.new;
-          before = before;
-          after = after;
+          before = F.counts folder.old;
+          after = F.counts folder.new;
         } in
         Ends which words.now scene result (S.held out.old) (S.held out.new)
-        (S.faults out.old) (S.faults out.new) }
+        (S.counts out.old) (S.counts out.new) }
     ensures usage { ((w : Wanted) → Asks which words.now w → ⊥) → IsSaidBy result 2 }
     ensures exact { (w : Wanted) → Asks which words.now w → IsExact (F.files folder.old) w result }
     ensures faults_are_told { IsTrue F.counts_faults_alone →
-        result ≢ 4 → result ≢ 5 → result ≢ 6 → F.faults folder.new ≡ F.faults folder.old }
+        result ≢ 4 → result ≢ 5 → result ≢ 6 →
+        (F.counts folder.new).faults ≡ (F.counts folder.old).faults }
     ensures failed_puts_are_told { IsTrue S.counts_faults_alone →
-        result ≢ 6 → S.faults out.new ≡ S.faults out.old }
+        result ≢ 6 → (S.counts out.new).faults ≡ (S.counts out.old).faults }
 {
     let Some(request) = read_words(which, words) else {
         return say(alloc, Answer::Usage, out);
@@ -62,9 +59,9 @@ pub fn tool<F: Folder, S: Sink>(
 /// Says what a job came to.
 fn conclude<S: Sink>(alloc: Global, outcome: Result<Answer, Failure>, out: &mut S) -> u8
     ensures said { Concludes outcome result (S.held out.old) (S.held out.new)
-        (S.faults out.old) (S.faults out.new) }
+        (S.counts out.old) (S.counts out.new) }
     ensures failed_puts_are_told { IsTrue S.counts_faults_alone →
-        result ≢ 6 → S.faults out.new ≡ S.faults out.old }
+        result ≢ 6 → (S.counts out.new).faults ≡ (S.counts out.old).faults }
 {
     match outcome {
         Ok(answer) => say(alloc, answer, out),
@@ -74,10 +71,10 @@ fn conclude<S: Sink>(alloc: Global, outcome: Result<Answer, Failure>, out: &mut 
 
 /// Says what stands in the place of a job's end.
 fn break_off<S: Sink>(alloc: Global, failure: Failure, out: &mut S) -> u8
-    ensures said { Breaks failure result (S.held out.old) (S.held out.new)
-        (S.faults out.old) (S.faults out.new) }
+    ensures said { BreaksOff failure result (S.held out.old) (S.held out.new)
+        (S.counts out.old) (S.counts out.new) }
     ensures failed_puts_are_told { IsTrue S.counts_faults_alone →
-        result ≢ 6 → S.faults out.new ≡ S.faults out.old }
+        result ≢ 6 → (S.counts out.new).faults ≡ (S.counts out.old).faults }
 {
     match failure {
         Failure::Answered(answer) => say(alloc, answer, out),

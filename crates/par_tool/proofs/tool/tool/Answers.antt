@@ -6,7 +6,7 @@ use Rattle.par_tool.proofs.tool.tool.Goals as goal
 pub returns-in-Check-clause-ends : goal.returns-in-Check-clause-ends
 returns-in-Check-clause-ends g c =
     let asks = rw c.in-Check.is at c.in-Some.ensures in
-    check_ends _ _ _ _ _ _ _ _ c.in-Check.file.now c.check.result asks c.check.ensures.kept c.check.ensures.checked c.check.ensures.failed c.conclude.ensures.said
+    check_ends _ _ _ _ _ _ _ _ c.in-Check.file.now c.check.result asks c.check.ensures.counted c.check.ensures.kept c.check.ensures.checked c.check.ensures.failed c.conclude.ensures.said
 
 pub returns-in-Compile-clause-ends : goal.returns-in-Compile-clause-ends
 returns-in-Compile-clause-ends g c =
@@ -16,12 +16,12 @@ returns-in-Compile-clause-ends g c =
 pub returns-in-Ok-clause-ends : goal.returns-in-Ok-clause-ends
 returns-in-Ok-clause-ends g c =
     let asks = rw c.in-Run.is at c.in-Some.ensures in
-    run_ends _ _ _ _ _ _ _ _ c.in-Run.main.now c.in-Run.inputs.now c.in-Run.steps c.in-Ok.machine asks c.in-Ok.ensures.kept c.in-Ok.ensures.started c.tell_run.ensures.said
+    run_ends _ _ _ _ _ _ _ _ c.in-Run.main.now c.in-Run.inputs.now c.in-Run.steps c.in-Ok.machine asks c.in-Ok.ensures.counted c.in-Ok.ensures.kept c.in-Ok.ensures.started c.tell_run.ensures.said
 
 pub returns-in-Err-clause-ends : goal.returns-in-Err-clause-ends
 returns-in-Err-clause-ends g c =
     let asks = rw c.in-Run.is at c.in-Some.ensures in
-    run_fails _ _ _ _ _ _ _ _ c.in-Run.main.now c.in-Run.inputs.now c.in-Run.steps c.in-Err.failure asks c.in-Err.ensures.kept c.in-Err.ensures.failed c.break_off.ensures.said
+    run_fails _ _ _ _ _ _ _ _ c.in-Run.main.now c.in-Run.inputs.now c.in-Run.steps c.in-Err.failure asks c.in-Err.ensures.kept c.in-Err.ensures.failed c.in-Err.ensures.memory c.break_off.ensures.said
 
 pub returns-in-Check-clause-exact : goal.returns-in-Check-clause-exact
 returns-in-Check-clause-exact g c = exactly.exact _ _ _ _ _ _ _ _ (returns-in-Check-clause-ends g c)
