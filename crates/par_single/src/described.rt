@@ -12,7 +12,7 @@ use par_lexer::name::Name;
 use par_pool::constant::Constant;
 
 /// Whether a field has a name and the descriptor of a field.
-fn is_field_right(entries: &[Constant], field: &FieldFile) -> bool
+pub fn is_field_right(entries: &[Constant], field: &FieldFile) -> bool
     ensures { result ≡ is_field_right entries.now field.now }
 {
     Name::is_name(text_at(entries, field.name))
@@ -36,7 +36,7 @@ fn is_channel_right(entries: &[Constant], method: &MethodFile) -> bool
 }
 
 /// Whether a method has the descriptor of a method, and is a channel where it is native.
-fn is_method_right(entries: &[Constant], method: &MethodFile) -> bool
+pub fn is_method_right(entries: &[Constant], method: &MethodFile) -> bool
     ensures { result ≡ is_method_right entries.now method.now }
 {
     method_gives(text_at(entries, method.descriptor)).is_some()

@@ -10,7 +10,7 @@
 //! file: a program of several has to be linked elsewhere.
 #![tactic(auto)]
 
-mod described;
+pub mod described;
 pub mod descriptor;
 mod differing;
 mod found;
@@ -21,4 +21,4 @@ mod single;
 pub mod walk;
 
 pub use link::links_of;
-pub use single::runs_alone;
+pub use single::{is_taken, runs_alone};

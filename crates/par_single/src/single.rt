@@ -14,7 +14,7 @@ use par_class::file::{ClassFile, MethodFile};
 use par_lexer::name::Name;
 
 /// Whether a name is that of a class that every program has.
-fn is_taken(name: &[u8]) -> bool
+pub fn is_taken(name: &[u8]) -> bool
     ensures { result ≡ is_taken name.now }
 {
     name == b"ArithmeticException".as_slice() || name == b"NullPointerException".as_slice()

@@ -1,0 +1,9 @@
+pub mod FirstPlaces
+pub mod Indices
+pub mod Kept
+pub mod Made
+pub mod Ordering
+pub mod Places
+pub mod Placing
+pub mod Smallness
+pub mod Stopping

@@ -1,0 +1,21 @@
+-- Where each item of a list stands first, and which is the first that stands there again.
+use Rattle.std.specs.Prelude.{◌≡◌, ℕ, Bool, if◌then◌else◌, List, [], ◌∷◌, ◌++◌, length, Option, Some, None}
+use Rattle.std.specs.List.{list_any, position}
+use Rattle.indexmap.specs.IndexMap.{get}
+use Rattle.par_link.specs.declared.firsts.Firsts.{Firsts}
+
+module _ {A : Type 0} (same : A → A → Bool) where
+  -- the place of the first item that is the same as an earlier one, where some stand before all
+  unfoldable pub repeated_after : List A → List A → Option ℕ
+  repeated_after before [] = None
+  repeated_after before (x ∷ xs) =
+      if list_any (same x) before then Some (length before)
+      else repeated_after (before ++ x ∷ []) xs
+
+  abbrev pub first_repeated : List A → Option ℕ
+  first_repeated xs = repeated_after [] xs
+
+  -- what is known of each item of a list
+  pub record AreFirst (xs : List A) (firsts : Firsts A) : Type 0 where
+    pub places : (x : A) → get same firsts.places x ≡ position (same x) xs
+    pub repeated : firsts.repeated ≡ first_repeated xs

@@ -1,0 +1,11 @@
+pub mod Builtins
+pub mod Conditions
+pub mod Firsts
+pub mod Inputs
+pub mod Linked
+pub mod Named
+pub mod Order
+pub mod Placed
+pub mod Rules
+pub mod Stops
+pub mod Told

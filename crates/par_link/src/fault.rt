@@ -1,0 +1,118 @@
+//! The rules of one file.
+
+ghost use Rattle.std.specs.Prelude.{◌≡◌};
+ghost use Rattle.par_link.specs.Named.{names_of};
+ghost use Rattle.par_link.specs.Rules.{absent, wrong_field, wrong_method, is_nothing};
+ghost use Rattle.par_link.specs.Order.{at, member_fault, description_fault, constant_fault, code_fault, file_fault};
+
+use crate::entry::Named;
+use crate::members::Members;
+use crate::sort::Sort;
+use crate::tables::Tables;
+use crate::walk::{first_cut, first_unlisted};
+use par_class::file::ClassFile;
+use par_single::described::{is_field_right, is_method_right};
+
+/// A rule that a file breaks: its number, and the index of what breaks it.
+#[derive(Clone, Copy)]
+pub(crate) struct Fault {
+    pub(crate) number: u16,
+    pub(crate) index: usize,
+}
+
+/// The rule of this number is broken at an index.
+fn at(number: u16, index: Option<usize>) -> Option<Fault>
+    ensures { result ≡ at number index }
+{
+    index.map(|index| Fault { number, index })
+}
+
+/// A field or a method that is there twice.
+#[tactic(auto, unfolding(crate::specs::Order::member_fault))]
+fn member_fault(members: &Members) -> Option<Fault>
+    ensures { result ≡ member_fault members.now.file.now }
+{
+    at(43, members.repeated_field()).or(at(43, members.repeated_method()))
+}
+
+/// The place of the first field without the name or the descriptor that it needs.
+fn wrong_field(file: &ClassFile) -> Option<usize>
+    ensures { result ≡ wrong_field file.now }
+{
+    let entries = file.pool.entries.as_slice();
+    file.fields
+        .as_slice()
+        .iter()
+        .position(|field| !is_field_right(entries, field))
+}
+
+/// The place of the first method without the name or the descriptor that it needs.
+fn wrong_method(file: &ClassFile) -> Option<usize>
+    ensures { result ≡ wrong_method file.now }
+{
+    let entries = file.pool.entries.as_slice();
+    file.methods
+        .as_slice()
+        .iter()
+        .position(|method| !is_method_right(entries, method))
+}
+
+/// A field or a method without the name or the descriptor that it needs.
+#[tactic(auto, unfolding(crate::specs::Order::description_fault))]
+fn description_fault(file: &ClassFile) -> Option<Fault>
+    ensures { result ≡ description_fault file.now }
+{
+    at(44, wrong_field(file)).or(at(44, wrong_method(file)))
+}
+
+/// Whether no class, field or method is named.
+fn is_nothing(named: &Named) -> bool
+    ensures { result ≡ is_nothing named.now }
+{
+    matches!(named, Named::Nothing)
+}
+
+/// The index of the first constant of a sort that names nothing.
+fn absent(sort: Sort, tables: &Tables, file: &ClassFile, names: &[Named]) -> Option<usize>
+    requires { names.now ≡ names_of tables.now.files.now file.now }
+    ensures { result ≡ absent sort tables.now.files.now file.now }
+{
+    for (place, constant) in file.pool.entries.as_slice().iter().enumerate() {
+        if sort.is_of(constant) && is_nothing(&names[place]) {
+            return Some(place + 1);
+        }
+    }
+    None
+}
+
+/// A class, a field or a method that is named and is not there.
+#[tactic(auto, unfolding(crate::specs::Order::constant_fault))]
+fn constant_fault(tables: &Tables, file: &ClassFile, names: &[Named]) -> Option<Fault>
+    requires { names.now ≡ names_of tables.now.files.now file.now }
+    ensures { result ≡ constant_fault tables.now.files.now file.now }
+{
+    at(40, absent(Sort::Class, tables, file, names))
+        .or(at(41, absent(Sort::Field, tables, file, names)))
+        .or(at(42, absent(Sort::Method, tables, file, names)))
+}
+
+/// Code whose walk stops before its end.
+#[tactic(auto, unfolding(crate::specs::Order::code_fault))]
+fn code_fault(file: &ClassFile) -> Option<Fault>
+    ensures { result ≡ code_fault file.now }
+{
+    let methods = file.methods.as_slice();
+    at(20, first_unlisted(methods)).or(at(21, first_cut(methods)))
+}
+
+/// The first rule that a file breaks.
+pub(crate) fn file_fault(tables: &Tables, members: &Members, names: &[Named]) -> Option<Fault>
+    requires { names.now ≡ names_of tables.now.files.now members.now.file.now }
+    ensures { result ≡ file_fault tables.now.files.now members.now.file.now }
+{
+    let file = members.file;
+    member_fault(members)
+        .or(description_fault(file))
+        .or(constant_fault(tables, file, names))
+        .or(code_fault(file))
+}

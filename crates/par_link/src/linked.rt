@@ -1,0 +1,65 @@
+ghost use Rattle.std.specs.Prelude.{◌≡◌, ◌≤◌, ◌↔◌, List as Items, length, slice_get, IsNone};
+ghost use Rattle.std.specs.Option.{option_copied};
+ghost use Rattle.par_link.specs.Linked.{name_at, named_at};
+
+use crate::entry::Named;
+use par_class::file::ClassFile;
+use par_lexer::list::List;
+use std::marker::Model;
+
+/// Class files that break no rule of linking, in their order. Contracts see them as the list of
+/// the files.
+#[derive(Drop)]
+pub struct Linked {
+    pub(crate) files: List<ClassFile>,
+    pub(crate) names: List<List<Named>>,
+}
+
+impl Model for Linked {
+    ghost use Rattle.std.specs.Prelude.{List as Items};
+    ghost use Rattle.par_class.specs.declared.file.ClassFile.{ClassFile as File};
+    ghost use Rattle.par_link.specs.Linked.{IsLinked};
+
+    ghost Value = { Items File };
+
+    ghost view = { λ linked. linked.files };
+
+    ghost invariant = { λ linked. IsLinked linked.files linked.names };
+}
+
+impl Linked {
+    /// The file at this place of the list.
+    pub fn file(&self, class: u16) -> Option<&ClassFile>
+        ensures item { option_copied result ≡ slice_get self.now class }
+        ensures none { IsNone result ↔ (length self.now ≤ class) }
+    {
+        self.files.get(class as usize)
+    }
+
+    /// All files, in their order.
+    pub fn files(&self) -> &[ClassFile]
+        ensures { result.now ≡ self.now }
+    {
+        self.files.as_slice()
+    }
+
+    /// What an index of the constant pool of a file names.
+    pub fn named(&self, class: u16, index: u16) -> Named
+        ensures { result ≡ named_at self.now class index }
+    {
+        match self.names.get(class as usize) {
+            Some(names) => name_at(names, index),
+            None => Named::Nothing,
+        }
+    }
+}
+
+/// The name of an index of a constant pool whose constants name these.
+fn name_at(names: &List<Named>, index: u16) -> Named
+    ensures { result ≡ name_at names.now index }
+{
+    match index.checked_sub(1) {
+        Some(place) => names.get(place as usize).copied().unwrap_or(Named::Nothing),
+        None => Named::Nothing,
+    }
+}
