@@ -15,6 +15,7 @@ use Rattle.par_exprs.proofs.Made.{made}
 use Rattle.par_exprs.proofs.Lines.{level_low, level_high, more_row, more_none, part}
 use Rattle.par_exprs.proofs.expr.+expr.Goals as goal
 
+-- A line of operators: its alternative is the next line and what follows, or that of what binds most.
 pub level-returns-then-line-lt-LINES-clause-read : goal.level-returns-then-line-lt-LINES-clause-read
 level-returns-then-line-lt-LINES-clause-read t c =
     opens paragon founded (level_low c.args.line (next (input c.args.cursor.now)) c.if-line-lt-LINES.true) c.chain.ensures.read
@@ -23,6 +24,7 @@ pub level-returns-else-line-lt-LINES-clause-read : goal.level-returns-else-line-
 level-returns-else-line-lt-LINES-clause-read t c =
     opens paragon founded (level_high c.args.line (next (input c.args.cursor.now)) c.if-line-lt-LINES.false) c.unary.ensures.read
 
+-- The operators of a line, as a loop: a row that fits chooses its alternative, and none chooses nothing.
 pub more-returns-in_err-left-in-Some-clause-read : goal.more-returns-in_err-left-in-Some-clause-read
 more-returns-in_err-left-in-Some-clause-read t c =
     handed paragon founded (symbol.name (g.More c.args.line) ∷ []) (exp (shown c.more.left) ∷ []) (input c.more.cursor) c.from_residual.ensures.1 c.more.invariant.leads
@@ -41,6 +43,7 @@ more-returns-in-None-clause-read t c =
     continued paragon founded (symbol.name (g.More c.args.line) ∷ []) (exp (shown c.more.left) ∷ []) c.more.invariant.leads
     (opens paragon founded (more_none c.args.line (next (input c.more.cursor)) (rw (← c.peek.ensures) (sym c.operator.ensures ∙ c.in-None.is))) (keeping paragon founded (λ vs. refl)))
 
+-- A choice: what the tests saw chooses the alternative, and its reader is the reader of the name.
 pub unary-returns-then-sees-clause-read : goal.unary-returns-then-sees-clause-read
 unary-returns-then-sees-clause-read t c =
     opens paragon founded (rw (sym c.sees.ensures ∙ c.if-sees.true)) c.negation.ensures.read
@@ -53,6 +56,7 @@ pub unary-returns-else-sees-2-clause-read : goal.unary-returns-else-sees-2-claus
 unary-returns-else-sees-2-clause-read t c =
     opens paragon founded (rw (sym c.sees.ensures ∙ c.if-sees.false, sym c.sees-else-sees.ensures ∙ c.if-sees-2.false)) c.postfix.ensures.read
 
+-- A loop hands on the error of its body, goes on where its body has read, and ends at another token.
 pub tail-returns-in_err-of-clause-read : goal.tail-returns-in_err-of-clause-read
 tail-returns-in_err-of-clause-read t c =
     handed paragon founded (symbol.name g.Tail ∷ []) (exp (shown c.more.of) ∷ []) (input c.more.cursor) c.from_residual.ensures.1 c.more.invariant.leads
@@ -157,6 +161,7 @@ more_args-returns-clause-read t c =
     continued paragon founded (symbol.name g.MoreArgs ∷ []) (exps (all_shown c.more.found) ∷ []) c.more.invariant.leads
     (opens paragon founded (rw (sym c.sees.ensures ∙ c.more-test.false)) (keeping paragon founded (λ vs. refl)))
 
+-- The empty list that is built before the first argument is the list that it is put into.
 pub first_arg-returns-clause-read : goal.first_arg-returns-clause-read
 first_arg-returns-clause-read t c =
     continued paragon founded (symbol.name (g.Level 0) ∷ symbol.builds g.NextArg ∷ []) (exps (all_shown c.new-none.result) ∷ [])
