@@ -12,13 +12,13 @@ pub IsAscending-filter : (kept set : List ℕ) (test : ℕ → Bool) → kept �
 IsAscending-filter kept set test e up = subst IsAscending (sym e) (AllPairs-filter (λ x y. x < y) test set up)
 
 -- an element that is kept is one of the set, and passes
-Contains-from_filter : (test : ℕ → Bool) (set : List ℕ) (n : ℕ) → Contains (filter test set) n → Contains set n × (test n ≡ true)
+pub Contains-from_filter : (test : ℕ → Bool) (set : List ℕ) (n : ℕ) → Contains (filter test set) n → Contains set n × (test n ≡ true)
 Contains-from_filter test set n h = (
   All-contains (Contains set) (filter test set) n (All-filter test (Contains set) set (All-contains_itself set)) h,
   All-contains (λ x. test x ≡ true) (filter test set) n (filter_passes test set) h,
 )
 
-Contains-filter : (test : ℕ → Bool) (set : List ℕ) (n : ℕ) → Contains set n → test n ≡ true → Contains (filter test set) n
+pub Contains-filter : (test : ℕ → Bool) (set : List ℕ) (n : ℕ) → Contains set n → test n ≡ true → Contains (filter test set) n
 Contains-filter test [] n h passes = h
 Contains-filter test (x ∷ set) n h passes =
     let rest = filter test set in

@@ -6,6 +6,7 @@ ghost use Rattle.par_policy.specs.Order.{IsBelow};
 ghost use Rattle.par_policy.specs.Normal.{clause_cmp, covers};
 
 use crate::locks::Lockset;
+use crate::open::OpenLocks;
 use std::alloc::AllocError;
 use std::cmp::Ordering;
 
@@ -49,8 +50,13 @@ pub(crate) fn allows(clause: &Clause, actor: u8, locks: &Lockset) -> bool
     clause.actor == actor && clause.locks.within(locks)
 }
 
-pub(crate) fn allows_at(clause: &Clause, opened: &Lockset, actor: u8, locks: &Lockset) -> bool
-    ensures { result ≡ allows actor (locks.now ++ opened.now) clause.now }
+pub(crate) fn allows_at<L: OpenLocks>(
+    clause: &Clause,
+    opened: &L,
+    actor: u8,
+    locks: &Lockset,
+) -> bool
+    ensures { result ≡ allows actor (locks.now ++ L.locks opened.now) clause.now }
 {
     clause.actor == actor && clause.locks.within_both(locks, opened)
 }

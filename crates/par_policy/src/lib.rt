@@ -12,6 +12,7 @@ mod locks;
 mod memory;
 mod normal;
 mod numbers;
+mod open;
 mod order;
 mod policies;
 
@@ -24,5 +25,6 @@ pub use laws::{
 };
 pub use locks::Lockset;
 pub use memory::NoMemory;
-pub use order::{leq, leq_at, sees};
+pub use open::OpenLocks;
+pub use order::{leq, leq_at, leq_where, sees};
 pub use policies::Policy;

@@ -5,6 +5,7 @@ ghost use Rattle.par_policy.specs.Numbers.{IsUnion, IsDifference, IsIntersection
 
 use crate::memory::NoMemory;
 use crate::numbers::NumberSet;
+use crate::open::OpenLocks;
 use std::alloc::{AllocError, Global};
 use std::marker::Model;
 
@@ -52,10 +53,16 @@ impl Lockset {
         self.locks.within(&other.locks)
     }
 
-    pub(crate) fn within_both(&self, one: &Lockset, other: &Lockset) -> bool
-        ensures { result ≡ within self.now (one.now ++ other.now) }
+    // Whether each lock of this set is in the other one, or open.
+    pub(crate) fn within_both<L: OpenLocks>(&self, one: &Lockset, opened: &L) -> bool
+        ensures { result ≡ within self.now (one.now ++ L.locks opened.now) }
     {
-        self.locks.within_both(&one.locks, &other.locks)
+        for lock in self.locks.as_slice() {
+            if !one.has(*lock) && !opened.is_open(*lock) {
+                return false;
+            }
+        }
+        true
     }
 
     /// Puts the lock into the set, which stays as it is where the lock is there already.

@@ -52,14 +52,6 @@ impl NumberSet {
         self.numbers.iter().all(|number| other.has(*number))
     }
 
-    pub(crate) fn within_both(&self, one: &NumberSet, other: &NumberSet) -> bool
-        ensures { result ≡ list_all (λ n. has one.now n || has other.now n) self.now }
-    {
-        self.numbers
-            .iter()
-            .all(|number| one.has(*number) || other.has(*number))
-    }
-
     pub(crate) fn insert(&mut self, number: u16) -> Result<(), NoMemory>
         ensures ok { OnOk result (Gains self.old self.new number) }
         ensures err { OnErr result (self.new ≡ self.old) }

@@ -6,6 +6,7 @@ ghost use Rattle.par_policy.specs.Order.{IsBelow, IsBelowAt};
 
 use crate::clauses::{allows, allows_at};
 use crate::locks::Lockset;
+use crate::open::OpenLocks;
 use crate::policies::Policy;
 
 /// Whether the second policy is at least as restrictive as the first.
@@ -19,7 +20,15 @@ pub fn leq(p: &Policy, q: &Policy) -> bool
 pub fn leq_at(p: &Policy, locks: &Lockset, q: &Policy) -> bool
     ensures { IsTrue result ↔ IsBelowAt p.now locks.now q.now }
 {
-    each_clause_sees_at(q, p, locks)
+    leq_where(p, locks, q)
+}
+
+/// Whether the second policy is at least as restrictive as the first, specialised to the locks
+/// that are open. It takes no memory, however they are kept.
+pub fn leq_where<L: OpenLocks>(p: &Policy, opened: &L, q: &Policy) -> bool
+    ensures { IsTrue result ↔ IsBelowAt p.now (L.locks opened.now) q.now }
+{
+    each_clause_sees_at(q, p, opened)
 }
 
 /// Whether the observer, this actor with these locks, sees the policy.
@@ -31,8 +40,8 @@ pub fn sees(p: &Policy, actor: u8, locks: &Lockset) -> bool
         .any(|clause| allows(clause, actor, locks))
 }
 
-fn sees_at(p: &Policy, opened: &Lockset, actor: u8, locks: &Lockset) -> bool
-    ensures { result ≡ sees_at p.now opened.now actor locks.now }
+fn sees_at<L: OpenLocks>(p: &Policy, opened: &L, actor: u8, locks: &Lockset) -> bool
+    ensures { result ≡ sees_at p.now (L.locks opened.now) actor locks.now }
 {
     p.clauses()
         .iter()
@@ -48,8 +57,8 @@ fn each_clause_sees(q: &Policy, p: &Policy) -> bool
         .all(|clause| sees(p, clause.actor, &clause.locks))
 }
 
-fn each_clause_sees_at(q: &Policy, p: &Policy, opened: &Lockset) -> bool
-    ensures { result ≡ list_all (λ d. sees_at p.now opened.now d.actor d.locks) q.now }
+fn each_clause_sees_at<L: OpenLocks>(q: &Policy, p: &Policy, opened: &L) -> bool
+    ensures { result ≡ list_all (λ d. sees_at p.now (L.locks opened.now) d.actor d.locks) q.now }
 {
     q.clauses()
         .iter()
