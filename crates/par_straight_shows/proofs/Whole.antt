@@ -79,6 +79,7 @@ module _ (p : Program) (file : ClassFile) (h : IsFileOf p file) (r : IsRunnable 
       ap (λ (found : Option ℕ). record {
         frames = machine.main_frame the_files 0 found;
         statics = machine.all_statics the_files;
+        objects = [] ∷ [];
         inputs = machine.whole_inputs inputs.channels;
       }) (main_at p file h r (own_name file))
 
