@@ -1,5 +1,5 @@
 -- Where a frame stands in code that is a walk.
-use Rattle.std.proofs.Common.{◌≡◌, ℕ, ◌+◌, ◌≤◌, true, ◌&&◌, ◌==◌, nat_lt, List, [], ◌∷◌, length, Some, None, Option, IsTrue, refl, ◌∙◌, arith, add-zero, inl, inr, slice_get}
+use Rattle.std.proofs.Common.{◌≡◌, ℕ, ◌+◌, ◌≤◌, true, ◌&&◌, ◌==◌, nat_lt, List, [], ◌∷◌, length, Some, None, Option, IsTrue, refl, sym, ap, ◌∙◌, arith, add-zero, inl, inr, slice_get}
 use Rattle.std.proofs.lemmas.Bool.{and_parts, or_cases, or_left, or_right, eqb-true, eq-eqb, cases_lt, lt-ltb}
 use Rattle.par_class.specs.declared.file.ClassFile.{ClassFile}
 use Rattle.par_class.specs.declared.file.CodeAttr.{CodeAttr}
@@ -7,6 +7,7 @@ use Rattle.par_class.specs.declared.file.MethodFile.{MethodFile}
 use Rattle.par_instr.specs.Decoding.{Decoded, decoded_at}
 use Rattle.par_single.specs.Descriptors.{Text}
 use Rattle.par_single.specs.Single.{none, is_bare, runs_alone}
+use Rattle.par_single.specs.StraightLine.{is_straight_line}
 use Rattle.par_single.specs.Walk.{walks_after, walks, starts_after, starts_at}
 use Rattle.par_single.proofs.Walks.{starts-first, starts-decoded, starts-next, decoded_at-within}
 use Rattle.par_single.proofs.Alone.{code_bare}
@@ -81,3 +82,11 @@ boundary_past_in code at (Some d) w is found = boundary_behind code at d w is fo
 pub boundary_past : (code : List ℕ) (at : ℕ) → walks code ≡ true → is_boundary code at ≡ true
     → is_boundary code (at + size_of (decoded_at code at)) ≡ true
 boundary_past code at w is = boundary_past_in code at (decoded_at code at) w is refl
+
+-- an instruction at a boundary is one of straight-line code
+pub boundary_straight : (code : List ℕ) (at : ℕ) (d : Decoded) → walks code ≡ true → is_boundary code at ≡ true → decoded_at code at ≡ Some d
+    → is_straight_line d.instr ≡ true
+boundary_straight code at d w is found =
+    let there = starts-decoded code at w (boundary_starts code at d is found) in
+    let same : there.0 ≡ d = cc (there.1.0, found) in
+    ap (λ (e : Decoded). is_straight_line e.instr) (sym same) ∙ there.1.1

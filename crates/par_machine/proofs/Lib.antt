@@ -6,6 +6,7 @@ pub mod Programs
 pub mod Boundaries
 pub mod Standing
 pub mod Owning
+pub mod Falling
 pub mod Turns
 pub mod Extending
 pub mod Misfits

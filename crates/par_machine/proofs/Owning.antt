@@ -1,5 +1,5 @@
 -- The code that is called is that of the one class.
-use Rattle.std.proofs.Common.{◌≡◌, ℕ, ◌+◌, Bool, true, false, if◌then◌else◌, List, [], ◌∷◌, length, Some, None, Option, IsTrue, is_some, slice_get, codes, refl, sym, ap, subst, ◌∙◌, inl, inr}
+use Rattle.std.proofs.Common.{◌≡◌, ℕ, ◌+◌, ℤ, pos, Bool, true, false, if◌then◌else◌, List, [], ◌∷◌, length, Some, None, Option, IsTrue, is_some, slice_get, codes, refl, sym, ap, subst, ◌∙◌, inl, inr}
 use Rattle.std.proofs.lemmas.Bool.{and_parts, or_cases}
 use Rattle.std.proofs.lemmas.Option.{same_Some}
 use Rattle.std.proofs.lemmas.Slice.Eq.{bytes_eq-Decides}
@@ -12,7 +12,7 @@ use Rattle.par_class.specs.declared.file.FieldFile.{FieldFile}
 use Rattle.par_class.specs.declared.file.MethodFile.{MethodFile}
 use Rattle.par_class.specs.Spelling.{is_native}
 use Rattle.par_instr.specs.declared.instr.Instr.{Instr}
-use Rattle.par_instr.specs.declared.instr.Instr.TheVariants.{Ldc, LdcW, Getstatic, Putstatic, Invokespecial, Invokestatic}
+use Rattle.par_instr.specs.declared.instr.Instr.TheVariants.{Ldc, LdcW, New, Getstatic, Putstatic, Getfield, Putfield, Invokevirtual, Invokespecial, Invokestatic}
 use Rattle.par_values.specs.declared.kind.Kind.{Kind}
 use Rattle.par_values.specs.declared.link.Link.{Link}
 use Rattle.par_values.specs.declared.link.Link.TheVariants as link
@@ -20,9 +20,13 @@ use Rattle.par_values.specs.declared.link.Target.{Target}
 use Rattle.par_values.specs.declared.link.Target.TheVariants.{Input, Output, Code, Nothing}
 use Rattle.par_values.specs.declared.value.MVal.{MVal}
 use Rattle.par_values.specs.declared.value.MVal.TheVariants.{Int, Null, Ref}
-use Rattle.par_values.specs.Areas.{Name, Areas, operand}
-use Rattle.par_values.specs.Operations.{Operation, Push, Load, Store, Add, GetStatic, PutStatic, InvokeStatic, InvokeSpecial, Leave, Misnamed, operation, constant, of_field, of_method}
-use Rattle.par_values.specs.Effects.{Calls, called, called_on, effect}
+use Rattle.par_values.specs.Areas.{Name, Areas, operand, number_of}
+use Rattle.par_values.specs.Arithmetic.{divides_by_zero, compares}
+use Rattle.par_values.specs.declared.run.Event.{Event}
+use Rattle.par_values.specs.declared.link.FieldLink.{FieldLink}
+use Rattle.par_values.specs.declared.link.MethodLink.{MethodLink}
+use Rattle.par_values.specs.Operations.{Operation, Combine, JumpIf, JumpIfBoth, JumpIfSame, JumpIfNull, GetStatic, PutStatic, GetField, PutField, InvokeStatic, InvokeSpecial, InvokeVirtual, Create, Throw, operation, constant, of_field, of_method, of_class}
+use Rattle.par_values.specs.Effects.{Goes, Happens, Calls, Throws, called, called_on, jumps_if, combines, field_read, field_written, created, thrown, comes, is_same, effect}
 use Rattle.par_single.specs.Descriptors.{kinds_in, kind_at}
 use Rattle.par_single.specs.Members.{Member, own_name, own_method, text_at, member_at, field_place, method_place, is_method_of, is_initializer}
 use Rattle.par_single.specs.Links.{field_link, field_found, field_among, channel_of, method_link, method_among, method_of, link_of, link_at, is_object, object_initializer, locals_of, signature_said}
@@ -125,47 +129,53 @@ link_of-own file main entries (Some (Field class member)) runs = field_among-own
 link_of-own file main entries (Some (Method class member)) runs = method_of-own file main (member_at entries class member) runs
 link_of-own file main entries (Some (NameType n d)) runs = tt
 
-static_own : (l : Link) → NamesOwn l → CallsOwn (of_method InvokeStatic (Misnamed 0 0) l)
-static_own (link.Number n) own = tt
-static_own (link.Field f) own = tt
-static_own (link.Method m) own = own
-static_own link.Other own = tt
-
-special_own : (l : Link) → NamesOwn l → CallsOwn (of_method InvokeSpecial (Misnamed 1 0) l)
-special_own (link.Number n) own = tt
-special_own (link.Field f) own = tt
-special_own (link.Method m) own = own
-special_own link.Other own = tt
-
 constant_own : (l : Link) → CallsOwn (constant l)
 constant_own (link.Number n) = tt
 constant_own (link.Field f) = tt
 constant_own (link.Method m) = tt
+constant_own (link.Class c) = tt
 constant_own link.Other = tt
 
-get_own : (l : Link) → CallsOwn (of_field GetStatic (Misnamed 0 1) l)
-get_own (link.Number n) = tt
-get_own (link.Field f) = tt
-get_own (link.Method m) = tt
-get_own link.Other = tt
+class_own : (l : Link) → CallsOwn (of_class l)
+class_own (link.Number n) = tt
+class_own (link.Field f) = tt
+class_own (link.Method m) = tt
+class_own (link.Class c) = tt
+class_own link.Other = tt
 
-put_own : (l : Link) → CallsOwn (of_field PutStatic (Misnamed 1 0) l)
-put_own (link.Number n) = tt
-put_own (link.Field f) = tt
-put_own (link.Method m) = tt
-put_own link.Other = tt
+field_own : (form : FieldLink → Operation) (other : Operation) (l : Link) → ((f : FieldLink) → CallsOwn (form f)) → CallsOwn other
+    → CallsOwn (of_field form other l)
+field_own form other (link.Number n) each is = is
+field_own form other (link.Field f) each is = each f
+field_own form other (link.Method m) each is = is
+field_own form other (link.Class c) each is = is
+field_own form other link.Other each is = is
+
+method_own : (form : MethodLink → Operation) (other : Operation) (l : Link) → NamesOwn l
+    → ((m : MethodLink) → RunsOwn m.target m.gives → CallsOwn (form m)) → CallsOwn other
+    → CallsOwn (of_method form other l)
+method_own form other (link.Number n) own each is = is
+method_own form other (link.Field f) own each is = is
+method_own form other (link.Method m) own each is = each m own
+method_own form other (link.Class c) own each is = is
+method_own form other link.Other own each is = is
 
 -- each instruction calls code of the one class alone
 pub operation_own : (file : ClassFile) (main : List ℕ) (i : Instr) → IsTrue (runs_alone file main)
     → CallsOwn (operation (link_at (file ∷ []) file.pool.entries) i)
 operation_own file main (Ldc n) runs = constant_own (link_at (file ∷ []) file.pool.entries n)
 operation_own file main (LdcW n) runs = constant_own (link_at (file ∷ []) file.pool.entries n)
-operation_own file main (Getstatic n) runs = get_own (link_at (file ∷ []) file.pool.entries n)
-operation_own file main (Putstatic n) runs = put_own (link_at (file ∷ []) file.pool.entries n)
+operation_own file main (New n) runs = class_own (link_at (file ∷ []) file.pool.entries n)
+operation_own file main (Getstatic n) runs = field_own GetStatic _ (link_at (file ∷ []) file.pool.entries n) (λ f. tt) tt
+operation_own file main (Putstatic n) runs = field_own PutStatic _ (link_at (file ∷ []) file.pool.entries n) (λ f. tt) tt
+operation_own file main (Getfield n) runs = field_own GetField _ (link_at (file ∷ []) file.pool.entries n) (λ f. tt) tt
+operation_own file main (Putfield n) runs = field_own PutField _ (link_at (file ∷ []) file.pool.entries n) (λ f. tt) tt
 operation_own file main (Invokestatic n) runs =
-    static_own (link_at (file ∷ []) file.pool.entries n) (link_of-own file main file.pool.entries (entry_at file.pool.entries n) runs)
+    method_own InvokeStatic _ (link_at (file ∷ []) file.pool.entries n) (link_of-own file main file.pool.entries (entry_at file.pool.entries n) runs) (λ m own. own) tt
 operation_own file main (Invokespecial n) runs =
-    special_own (link_at (file ∷ []) file.pool.entries n) (link_of-own file main file.pool.entries (entry_at file.pool.entries n) runs)
+    method_own InvokeSpecial _ (link_at (file ∷ []) file.pool.entries n) (link_of-own file main file.pool.entries (entry_at file.pool.entries n) runs) (λ m own. own) tt
+operation_own file main (Invokevirtual n) runs =
+    method_own InvokeVirtual _ (link_at (file ∷ []) file.pool.entries n) (link_of-own file main file.pool.entries (entry_at file.pool.entries n) runs) (λ m own. own) tt
 operation_own file main _ runs = tt
 
 -- ---- what is called
@@ -183,6 +193,40 @@ called_on-own Null n target gives a class method locals arguments after own is =
 called_on-own (Int v) n target gives a class method locals arguments after own is = called-own (n + 1) target gives a class method locals arguments after own is
 called_on-own (Ref c k) n target gives a class method locals arguments after own is = called-own (n + 1) target gives a class method locals arguments after own is
 
+-- what goes on calls nothing
+jumps-own : (test : Bool) (to : ℤ) (a : Areas) (class method locals : ℕ) (arguments : List MVal) (after : Areas)
+    → jumps_if test to a ≡ Calls class method locals arguments after → ⊥
+jumps-own true to a class method locals arguments after is = cc is
+jumps-own false to a class method locals arguments after is = cc is
+
+combines-own : (fails : Bool) (name : Name) (a : Areas) (class method locals : ℕ) (arguments : List MVal) (after : Areas)
+    → (if fails then Throws name else Goes a) ≡ Calls class method locals arguments after → ⊥
+combines-own true name a class method locals arguments after is = cc is
+combines-own false name a class method locals arguments after is = cc is
+
+read-own : (v : MVal) (f : FieldLink) (a : Areas) (class method locals : ℕ) (arguments : List MVal) (after : Areas)
+    → field_read v f a ≡ Calls class method locals arguments after → ⊥
+read-own Null f a class method locals arguments after is = cc is
+read-own (Int n) f a class method locals arguments after is = cc is
+read-own (Ref c n) f a class method locals arguments after is = cc is
+
+written-own : (classes : List Name) (v w : MVal) (f : FieldLink) (a : Areas) (class method locals : ℕ) (arguments : List MVal) (after : Areas)
+    → field_written classes v f w a ≡ Calls class method locals arguments after → ⊥
+written-own classes Null w f a class method locals arguments after is = cc is
+written-own classes (Int n) w f a class method locals arguments after is = cc is
+written-own classes (Ref c n) w f a class method locals arguments after is = cc is
+
+created-own : (quiet : Bool) (event : Event) (a : Areas) (class method locals : ℕ) (arguments : List MVal) (after : Areas)
+    → (if quiet then Goes a else Happens event a) ≡ Calls class method locals arguments after → ⊥
+created-own true event a class method locals arguments after is = cc is
+created-own false event a class method locals arguments after is = cc is
+
+thrown-own : (v : MVal) (class method locals : ℕ) (arguments : List MVal) (after : Areas)
+    → thrown v ≡ Calls class method locals arguments after → ⊥
+thrown-own Null class method locals arguments after is = cc is
+thrown-own (Int n) class method locals arguments after is = cc is
+thrown-own (Ref c n) class method locals arguments after is = cc is
+
 -- the method that an operation calls is one of the one class
 pub effect-own : (classes : List Name) (o : Operation) (a : Areas) (class method locals : ℕ) (arguments : List MVal) (after : Areas)
     → CallsOwn o → effect classes o a ≡ Calls class method locals arguments after → class ≡ 0
@@ -190,11 +234,24 @@ unfolding effect
 effect-own classes (InvokeStatic m) a class method locals arguments after own is = called-own (length m.takes) m.target m.gives a class method locals arguments after own is
 effect-own classes (InvokeSpecial m) a class method locals arguments after own is =
     called_on-own (operand (length m.takes) a) (length m.takes) m.target m.gives a class method locals arguments after own is
-effect-own classes (Push v) a class method locals arguments after own is = absurd (cc is)
-effect-own classes (Load x kind) a class method locals arguments after own is = absurd (cc is)
-effect-own classes (Store x) a class method locals arguments after own is = absurd (cc is)
-effect-own classes Add a class method locals arguments after own is = absurd (cc is)
-effect-own classes (GetStatic f) a class method locals arguments after own is = absurd (cc is)
-effect-own classes (PutStatic f) a class method locals arguments after own is = absurd (cc is)
-effect-own classes Leave a class method locals arguments after own is = absurd (cc is)
-effect-own classes (Misnamed n k) a class method locals arguments after own is = absurd (cc is)
+effect-own classes (InvokeVirtual m) a class method locals arguments after own is =
+    called_on-own (operand (length m.takes) a) (length m.takes) m.target m.gives a class method locals arguments after own is
+effect-own classes (Combine operator) a class method locals arguments after own is =
+    absurd (combines-own (divides_by_zero operator (number_of (operand 0 a))) _ _ class method locals arguments after is)
+effect-own classes (JumpIf test to) a class method locals arguments after own is =
+    absurd (jumps-own (compares test (number_of (operand 0 a)) (pos 0)) to _ class method locals arguments after is)
+effect-own classes (JumpIfBoth test to) a class method locals arguments after own is =
+    absurd (jumps-own (compares test (number_of (operand 1 a)) (number_of (operand 0 a))) to _ class method locals arguments after is)
+effect-own classes (JumpIfSame same to) a class method locals arguments after own is =
+    absurd (jumps-own (comes same (is_same (operand 1 a) (operand 0 a))) to _ class method locals arguments after is)
+effect-own classes (JumpIfNull null to) a class method locals arguments after own is =
+    absurd (jumps-own (comes null (is_same (operand 0 a) Null)) to _ class method locals arguments after is)
+effect-own classes (GetField f) a class method locals arguments after own is =
+    absurd (read-own (operand 0 a) f a class method locals arguments after is)
+effect-own classes (PutField f) a class method locals arguments after own is =
+    absurd (written-own classes (operand 1 a) (operand 0 a) f a class method locals arguments after is)
+effect-own classes (Create c) a class method locals arguments after own is =
+    absurd (created-own c.is_exception _ _ class method locals arguments after is)
+effect-own classes Throw a class method locals arguments after own is =
+    absurd (thrown-own (operand 0 a) class method locals arguments after is)
+effect-own classes _ a class method locals arguments after own is = absurd (cc is)

@@ -15,6 +15,9 @@ use Rattle.par_machine.specs.Step.{Turn, Silent, areas_of, spot, moved, state_wi
 use Rattle.par_machine.specs.Effect.{IsCall}
 use Rattle.par_machine.specs.declared.operation.Operation as held
 use Rattle.par_machine.specs.declared.operation.Operation.TheVariants.{Push, LoadNumber, LoadObject, Store, Add, GetStatic, PutStatic, InvokeStatic, InvokeSpecial, Leave, Misnamed}
+use Rattle.par_values.specs.declared.kind.Kind.{Kind}
+use Rattle.par_values.specs.declared.kind.Kind.TheVariants.{Anything}
+use Rattle.par_machine.specs.Reason.{straight_spot}
 use Rattle.par_machine.specs.Operation.{operation_of}
 use Rattle.par_machine.specs.Owning.{CallsOwn}
 use Rattle.par_machine.specs.declared.turn.Turn.{Turn as Answer}
@@ -56,36 +59,47 @@ pub IsTurn-along : (answer : Result Answer Stuck) (one other : Turn) (after : St
 IsTurn-along answer one other after same is = subst (λ t. IsTurn answer t after) (sym same) is
 
 -- only the operation that leaves a method asks whether it gives a result
-pub reason-other : (classes : List Name) (room : ℕ) (stands one other : Bool) (o : held.Operation) (a : Areas) → (o ≡ Leave → ⊥)
-    → reason classes (record { room = room; stands = stands; gives_nothing = one }) (operation_of o) a
-    ≡ reason classes (record { room = room; stands = stands; gives_nothing = other }) (operation_of o) a
+pub reason-other : (classes : List Name) (room : ℕ) (stands one other : Bool) (k l : Kind) (o : held.Operation) (a : Areas) → (o ≡ Leave → ⊥)
+    → reason classes (straight_spot room stands one k) (operation_of o) a ≡ reason classes (straight_spot room stands other l) (operation_of o) a
 unfolding reason
-reason-other classes room stands one other (Push v) a not = refl
-reason-other classes room stands one other (LoadNumber x) a not = refl
-reason-other classes room stands one other (LoadObject x) a not = refl
-reason-other classes room stands one other (Store x) a not = refl
-reason-other classes room stands one other Add a not = refl
-reason-other classes room stands one other (GetStatic f) a not = refl
-reason-other classes room stands one other (PutStatic f) a not = refl
-reason-other classes room stands one other (InvokeStatic m) a not = refl
-reason-other classes room stands one other (InvokeSpecial m) a not = refl
-reason-other classes room stands one other Leave a not = absurd (not refl)
-reason-other classes room stands one other (Misnamed n k) a not = refl
+reason-other classes room stands one other k l (Push v) a not = refl
+reason-other classes room stands one other k l (LoadNumber x) a not = refl
+reason-other classes room stands one other k l (LoadObject x) a not = refl
+reason-other classes room stands one other k l (Store x) a not = refl
+reason-other classes room stands one other k l Add a not = refl
+reason-other classes room stands one other k l (GetStatic f) a not = refl
+reason-other classes room stands one other k l (PutStatic f) a not = refl
+reason-other classes room stands one other k l (InvokeStatic m) a not = refl
+reason-other classes room stands one other k l (InvokeSpecial m) a not = refl
+reason-other classes room stands one other k l Leave a not = absurd (not refl)
+reason-other classes room stands one other k l (Misnamed n m) a not = refl
+
+-- and it does not ask of which kind a result is
+reason-leave : (classes : List Name) (room : ℕ) (stands one other : Bool) (k l : Kind) (a : Areas) → one ≡ other
+    → reason classes (straight_spot room stands one k) (operation_of Leave) a ≡ reason classes (straight_spot room stands other l) (operation_of Leave) a
+unfolding reason
+reason-leave classes room stands one other k l a same = ap (λ gives. reason classes (straight_spot room stands gives k) (operation_of Leave) a) same
+
+pub reason-left : (classes : List Name) (room : ℕ) (stands one other : Bool) (k l : Kind) (o : held.Operation) (a : Areas) → o ≡ Leave → one ≡ other
+    → reason classes (straight_spot room stands one k) (operation_of o) a ≡ reason classes (straight_spot room stands other l) (operation_of o) a
+reason-left classes room stands one other k l o a is same =
+    subst (λ (p : held.Operation). reason classes (straight_spot room stands one k) (operation_of p) a ≡ reason classes (straight_spot room stands other l) (operation_of p) a)
+    (sym is) (reason-leave classes room stands one other k l a same)
 
 -- what a spot in the program decides is what the spot of the definition decides
 pub reason-spot : (file : ClassFile) (f : Frame) (names : List Name) (o : Operation) (a : Areas) (at next room many : ℕ) (gives : Bool) (r : Option ℕ)
-    → r ≡ reason names (record { room = room; stands = nat_lt next many; gives_nothing = gives }) o a
-    → names ≡ own_names (file ∷ []) → ((room : ℕ) (stands : Bool)
-    → reason (own_names (file ∷ [])) (record { room = room; stands = stands; gives_nothing = gives }) o a
-    ≡ reason (own_names (file ∷ [])) (record { room = room; stands = stands; gives_nothing = (spot (file ∷ []) f (next - at)).gives_nothing }) o a)
+    → r ≡ reason names (straight_spot room (nat_lt next many) gives Anything) o a
+    → names ≡ own_names (file ∷ []) → ((room : ℕ) (stands : Bool) (k l : Kind)
+    → reason (own_names (file ∷ [])) (straight_spot room stands gives k) o a
+    ≡ reason (own_names (file ∷ [])) (straight_spot room stands (spot (file ∷ []) f (next - at)).gives_nothing l) o a)
     → room ≡ (spot (file ∷ []) f (next - at)).room → nat_lt next many ≡ (spot (file ∷ []) f (next - at)).stands
     → r ≡ reason (own_names (file ∷ [])) (spot (file ∷ []) f (next - at)) o a
 reason-spot file f names o a at next room many gives r is own given room_is stands_is =
     let names_own = own_names (file ∷ []) in
     let there = spot (file ∷ []) f (next - at) in
-    is ∙ ap (λ ns. reason ns (record { room = room; stands = nat_lt next many; gives_nothing = gives }) o a) own
-    ∙ given room (nat_lt next many)
-    ∙ ap₂ (λ room stands. reason names_own (record { room = room; stands = stands; gives_nothing = there.gives_nothing }) o a) room_is stands_is
+    is ∙ ap (λ ns. reason ns (straight_spot room (nat_lt next many) gives Anything) o a) own
+    ∙ given room (nat_lt next many) Anything there.result
+    ∙ ap₂ (λ room stands. reason names_own (straight_spot room stands there.gives_nothing there.result) o a) room_is stands_is
 
 -- what takes memory takes it where it is said in another way
 pub TakesMemory-along : (one other : Turn) (before : State) → one ≡ other → TakesMemory other before → TakesMemory one before

@@ -42,9 +42,12 @@ Does result done before after =
 abbrev pub NeedsMemory : plain.Effect → Type 0
 NeedsMemory (plain.Goes a) = ⊥
 NeedsMemory (plain.Happens event a) = Unit {0}
+NeedsMemory (plain.Jumps to a) = ⊥
 NeedsMemory (plain.Calls class method locals arguments a) = Unit {0}
 NeedsMemory (plain.Throws class) = Unit {0}
+NeedsMemory (plain.ThrowsObject v) = Unit {0}
 NeedsMemory plain.Returns = ⊥
+NeedsMemory (plain.ReturnsWith v) = ⊥
 
 -- there is room for the number of an input channel, where so many operands are left
 abbrev pub HasRoom : Target → (left room : ℕ) → Type 0

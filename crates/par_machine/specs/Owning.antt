@@ -2,7 +2,7 @@
 use Rattle.std.specs.Prelude.{◌≡◌, Bool, true}
 use Rattle.par_values.specs.declared.link.Target.{Target}
 use Rattle.par_values.specs.declared.link.Target.TheVariants.{Input, Code}
-use Rattle.par_values.specs.Operations.{Operation, InvokeStatic, InvokeSpecial}
+use Rattle.par_values.specs.Operations.{Operation, InvokeStatic, InvokeSpecial, InvokeVirtual}
 
 -- code that is run is of the class of number 0, and what takes a number from a channel gives a
 -- result
@@ -15,4 +15,5 @@ RunsOwn _ gives = Unit {0}
 abbrev pub CallsOwn : Operation → Type 0
 CallsOwn (InvokeStatic m) = RunsOwn m.target m.gives
 CallsOwn (InvokeSpecial m) = RunsOwn m.target m.gives
+CallsOwn (InvokeVirtual m) = RunsOwn m.target m.gives
 CallsOwn _ = Unit {0}

@@ -41,6 +41,7 @@ abbrev pub state_of : Running → plain.State
 state_of r = record {
   frames = running_frame r ∷ frames_of r.callers.items;
   statics = r.areas.statics.items;
+  objects = [] ∷ [];
   inputs = whole_inputs r.areas.inputs;
 }
 

@@ -1,4 +1,4 @@
--- The state of a machine: frames, static fields and input lists (Java Virtual Machine
+-- The state of a machine: frames, static fields, objects and input lists (Java Virtual Machine
 -- Specification, Java SE 7, sections 2.5 and 2.6).
 use Rattle.std.specs.Prelude.{ℕ, List, [], ◌∷◌, ◌++◌, Option, Some, None, slice_get, map, replicate}
 use Rattle.par_pool.specs.declared.constant.Constant.{Constant}
@@ -8,7 +8,7 @@ use Rattle.par_class.specs.declared.file.ClassFile.{ClassFile}
 use Rattle.par_values.specs.declared.value.MVal.{MVal}
 use Rattle.par_values.specs.declared.inputs.Inputs.{Inputs}
 use Rattle.par_values.specs.declared.inputs.ChannelInput.{ChannelInput}
-use Rattle.par_values.specs.Areas.{InputLists, first_value}
+use Rattle.par_values.specs.Areas.{InputLists, Objects, first_value}
 use Rattle.par_single.specs.Members.{text_at, own_name, method_place}
 use Rattle.par_single.specs.Links.{kind_said}
 use Rattle.par_single.specs.Single.{main_member}
@@ -27,6 +27,7 @@ pub record Frame : Type 0 where
 pub record State : Type 0 where
   pub frames : List Frame
   pub statics : List MVal
+  pub objects : Objects
   pub inputs : InputLists
 
 abbrev pub pool_of : Option ClassFile → List Constant
@@ -91,6 +92,10 @@ abbrev pub all_statics : List ClassFile → List MVal
 all_statics [] = []
 all_statics (file ∷ files) = first_statics file ++ all_statics files
 
+-- no object of any class
+abbrev pub no_objects : List ClassFile → Objects
+no_objects files = map (λ file. []) files
+
 -- each input list whole
 abbrev pub whole_inputs : List ChannelInput → InputLists
 whole_inputs lines class name = given lines class name
@@ -111,5 +116,6 @@ abbrev pub start : List ClassFile → ℕ → Inputs → State
 start files class inputs = record {
   frames = begun files class (slice_get files class);
   statics = all_statics files;
+  objects = no_objects files;
   inputs = whole_inputs inputs.channels;
 }

@@ -1,6 +1,7 @@
-ghost use Rattle.std.specs.Prelude.{◌≡◌};
+ghost use Rattle.std.specs.Prelude.{◌≡◌, IsTrue};
 ghost use Rattle.std.specs.Option.{option_copied};
 ghost use Rattle.par_values.specs.Operations.{constant, of_field, of_method, operation, GetStatic, PutStatic, InvokeStatic, InvokeSpecial, Misnamed};
+ghost use Rattle.par_single.specs.StraightLine.{is_straight_line};
 ghost use Rattle.par_machine.specs.Links.{named, link_or_other};
 ghost use Rattle.par_machine.specs.Operation.{operation_of};
 
@@ -86,6 +87,7 @@ fn invoke_static(named: Option<&Link>) -> Operation<'_>
 impl<'l> Operation<'l> {
     /// The operation of an instruction, where each index names what these links say.
     pub(crate) fn of(links: &'l [Link], instr: Instr) -> Operation<'l>
+        requires { IsTrue (is_straight_line instr) }
         ensures { operation_of result ≡ operation (named links.now) instr }
     {
         match instr {
@@ -103,7 +105,7 @@ impl<'l> Operation<'l> {
             Instr::Putstatic(index) => put_static(link(links, index)),
             Instr::Invokespecial(index) => invoke_special(link(links, index)),
             Instr::Invokestatic(index) => invoke_static(link(links, index)),
-            _ => Operation::Misnamed(0, 0),
+            _ => unreachable!(),
         }
     }
 }

@@ -4,6 +4,7 @@ ghost use Rattle.par_class.specs.Spelling.{Spells};
 ghost use Rattle.par_single.specs.Links.{kind_said, signature_said, link_at};
 ghost use Rattle.par_single.specs.Members.{own_name, method_place};
 ghost use Rattle.par_single.specs.Single.{main_member, runs_alone};
+ghost use Rattle.par_single.specs.StraightLine.{is_straight_line};
 ghost use Rattle.par_values.specs.Areas.{first_value};
 ghost use Rattle.par_values.specs.Operations.{operation};
 ghost use Rattle.par_machine.specs.State.{all_statics, code_or_none, method_code, method_name, method_descriptor, class_pool};
@@ -153,6 +154,7 @@ impl Program {
 
     /// What an instruction is to do.
     pub(crate) fn operation(&self, instr: Instr) -> Operation<'_>
+        requires { IsTrue (is_straight_line instr) }
         ensures own { CallsOwn (operation_of result) }
         ensures operation { operation_of result
             ≡ operation (link_at (self.now.file ∷ []) (class_pool (self.now.file ∷ []) 0)) instr }

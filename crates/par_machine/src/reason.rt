@@ -6,6 +6,8 @@ ghost use Rattle.par_values.specs.declared.kind.Kind.TheVariants.{Number, AnyObj
 ghost use Rattle.par_values.specs.Areas.{Name, fits};
 ghost use Rattle.par_values.specs.Operations.{takes, gives};
 ghost use Rattle.par_values.specs.Reasons.{lacks, all_fit, unfit, exceeds, holds, is_crowded, misplaced, falls, misnamed, disagrees, misreturns, reason};
+ghost use Rattle.par_values.specs.declared.value.MVal.TheVariants.{Null};
+ghost use Rattle.par_values.specs.Effects.{is_same, effect};
 ghost use Rattle.par_machine.specs.Areas.{areas_of};
 ghost use Rattle.par_machine.specs.Operation.{operation_of};
 ghost use Rattle.par_machine.specs.Reason.{spot_of};
@@ -209,10 +211,38 @@ fn misplaced(operation: Operation<'_>, areas: &Areas) -> bool
     }
 }
 
-fn falls(stands: bool, operation: Operation<'_>) -> bool
-    ensures { result ≡ falls stands (operation_of operation.entry) }
+// Nothing stands where it goes on; it does not where it leaves a method or throws.
+#[tactic(
+    auto,
+    using(crate::proofs::Falling::falls_called),
+    unfolding(par_values::specs::Effects::effect)
+)]
+fn falls(stands: bool, operation: Operation<'_>, areas: &Areas) -> bool
+    requires { lacks (operation_of operation) (areas_of areas.now) ≡ false }
+    ensures { (classes : List Name) → result
+        ≡ falls stands false (effect classes (operation_of operation.entry) (areas_of areas.now)) }
 {
-    !stands && !matches!(operation, Operation::Leave)
+    match operation {
+        Operation::Leave => false,
+        Operation::InvokeSpecial(method) => {
+            !stands && !is_null(areas.operand(method.takes.len()))
+        }
+        Operation::Push(_)
+        | Operation::LoadNumber(_)
+        | Operation::LoadObject(_)
+        | Operation::Store(_)
+        | Operation::Add
+        | Operation::GetStatic(_)
+        | Operation::PutStatic(_)
+        | Operation::InvokeStatic(_)
+        | Operation::Misnamed(_, _) => !stands,
+    }
+}
+
+fn is_null(value: Slot) -> bool
+    ensures { result ≡ is_same value Null }
+{
+    matches!(value.value(), MVal::Null)
 }
 
 fn misnamed(operation: Operation<'_>) -> bool
@@ -236,14 +266,30 @@ fn disagrees(operation: Operation<'_>) -> bool
     }
 }
 
-fn misreturns(gives_nothing: bool, operation: Operation<'_>) -> bool
-    ensures { result ≡ misreturns gives_nothing (operation_of operation.entry) }
+fn misreturns(spot: Spot, operation: Operation<'_>) -> bool
+    ensures { result ≡ misreturns (spot_of spot) (operation_of operation.entry) }
 {
-    !gives_nothing && matches!(operation, Operation::Leave)
+    match operation {
+        Operation::Leave => !spot.gives_nothing,
+        Operation::Push(_)
+        | Operation::LoadNumber(_)
+        | Operation::LoadObject(_)
+        | Operation::Store(_)
+        | Operation::Add
+        | Operation::GetStatic(_)
+        | Operation::PutStatic(_)
+        | Operation::InvokeStatic(_)
+        | Operation::InvokeSpecial(_)
+        | Operation::Misnamed(_, _) => false,
+    }
 }
 
 /// The number of the least reason why an operation cannot be run, where there is one class.
-#[tactic(auto, unfolding(par_values::specs::Reasons::reason))]
+#[tactic(
+    auto,
+    using(crate::proofs::Falling::never_misgiven, crate::proofs::Falling::never_misused),
+    unfolding(par_values::specs::Reasons::reason)
+)]
 pub(crate) fn reason(own: &[u8], spot: Spot, operation: Operation<'_>, areas: &Areas) -> Option<u8>
     ensures roomy { IfNone result
         (exceeds spot.room (operation_of operation.entry) (areas_of areas.now) ≡ false) }
@@ -259,13 +305,13 @@ pub(crate) fn reason(own: &[u8], spot: Spot, operation: Operation<'_>, areas: &A
         Some(3)
     } else if misplaced(operation, areas) {
         Some(4)
-    } else if falls(spot.stands, operation) {
+    } else if falls(spot.stands, operation, areas) {
         Some(5)
     } else if misnamed(operation) {
         Some(6)
     } else if disagrees(operation) {
         Some(7)
-    } else if misreturns(spot.gives_nothing, operation) {
+    } else if misreturns(spot, operation) {
         Some(8)
     } else {
         None

@@ -9,7 +9,9 @@ use Rattle.par_values.specs.declared.value.MVal.TheVariants.{Int}
 use Rattle.par_values.specs.declared.run.Event.TheVariants.{Out, Set}
 use Rattle.par_values.specs.declared.run.Val.TheVariants as shown
 use Rattle.par_values.specs.Areas as machine
-use Rattle.par_values.specs.Operations.{Push, Load, Store, Add, GetStatic, PutStatic, InvokeStatic}
+use Rattle.par_values.specs.declared.kind.Kind.TheVariants.{Number}
+use Rattle.par_values.specs.Arithmetic.{Plus}
+use Rattle.par_values.specs.Operations.{Push, Load, Store, Combine, GetStatic, PutStatic, InvokeStatic}
 use Rattle.par_straight.specs.declared.program.Channel.{Channel}
 use Rattle.par_straight.specs.declared.program.Program.{Program}
 use Rattle.par_straight.specs.Names.{Name}
@@ -57,13 +59,13 @@ module _ (p : Program) (file : ClassFile) (h : IsFileOf p file) (r : IsRunnable 
   pub stores : (x : ℕ) (v : ℤ) (at : ℕ) (items : List Item) (here : Here at (plain (store x) ∷ items)) (m : Memory) → 0 < length items → x < length m.locals
       → GoesOn at (past p file h r at (plain (store x)) items here) m (with_local x v m) (Int v ∷ []) []
   stores x v at items here m some within =
-      item_silent p file h r at (plain (store x)) items here m (Int v ∷ []) (Store x) (with_local x v m) [] some
+      item_silent p file h r at (plain (store x)) items here m (Int v ∷ []) (Store x Number) (with_local x v m) [] some
       (plain_is p file h r (store x) at items here ∙ store_is (names p file h r) x) (store_can classes most m [] x v within (omega arith)) (store_does classes most m [] x v)
 
   pub adds : (v w : ℤ) (at : ℕ) (items : List Item) (here : Here at (plain Iadd ∷ items)) (m : Memory) → 0 < length items → 1 ≤ most
       → GoesOn at (past p file h r at (plain Iadd) items here) m m (Int w ∷ Int v ∷ []) (Int (int_wrap w32 (v +ℤ w)) ∷ [])
   adds v w at items here m some has_room =
-      item_silent p file h r at (plain Iadd) items here m (Int w ∷ Int v ∷ []) Add m (Int (int_wrap w32 (v +ℤ w)) ∷ []) some
+      item_silent p file h r at (plain Iadd) items here m (Int w ∷ Int v ∷ []) (Combine Plus) m (Int (int_wrap w32 (v +ℤ w)) ∷ []) some
       (plain_is p file h r Iadd at items here) (add_can classes most m [] v w (omega arith)) (add_does classes most m [] v w)
 
   pub gets : (f : ℕ) (v : ℤ) (at : ℕ) (items : List Item) (here : Here at (get (field_name p f) ∷ items)) (m : Memory) (ops : List MVal) → 0 < length items → length ops < most

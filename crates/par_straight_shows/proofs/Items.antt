@@ -1,5 +1,5 @@
 -- What the machine does at each item of the code of `main`.
-use Rattle.std.proofs.Common.{◌≡◌, ℕ, ◌+◌, ◌-◌, ◌<◌, ◌≤◌, Bool, true, false, cond, List, [], ◌∷◌, length, Option, ℤ, refl, sym, ap, ◌∙◌, subst, arith}
+use Rattle.std.proofs.Common.{◌≡◌, ℕ, ◌+◌, ◌-◌, ◌<◌, ◌≤◌, Bool, true, false, cond, List, [], ◌∷◌, length, Option, None, ℤ, refl, sym, ap, ◌∙◌, subst, arith}
 use Rattle.std.specs.Prelude.{codes, is_none, nat_lt, nat_le, if◌then◌else◌}
 use Rattle.std.proofs.lemmas.Bool.{le-ltb}
 use Rattle.par_instr.specs.declared.instr.Instr.{Instr}
@@ -10,7 +10,9 @@ use Rattle.par_pool.specs.declared.constant.Constant.{Constant}
 use Rattle.par_class.specs.declared.file.CodeAttr.{CodeAttr}
 use Rattle.par_class.specs.declared.file.ClassFile.{ClassFile}
 use Rattle.par_values.specs.declared.value.MVal.{MVal}
-use Rattle.par_values.specs.declared.kind.Kind.TheVariants.{Number}
+use Rattle.par_values.specs.declared.kind.Kind.{Kind}
+use Rattle.par_values.specs.declared.kind.Kind.TheVariants.{Number, Anything}
+use Rattle.par_machine.specs.Reason.{straight_spot}
 use Rattle.par_values.specs.declared.link.Link.{Link}
 use Rattle.par_values.specs.declared.run.Event.{Event}
 use Rattle.par_values.specs.declared.run.Ending.TheVariants.{End}
@@ -24,7 +26,7 @@ use Rattle.par_straight_compile.specs.Code.{Item, load, store, max_stack}
 use Rattle.par_straight_compile.specs.Bytes.{within, pushed, IsWide, IsPush}
 use Rattle.par_straight_compile.specs.Files.{IsFileOf}
 use Rattle.par_single.specs.Members.{own_names}
-use Rattle.par_single.specs.Links.{signature_said, link_of, link_at}
+use Rattle.par_single.specs.Links.{kind_or_any, signature_said, link_of, link_at}
 use Rattle.par_single.specs.Walk.{starts_at}
 use Rattle.par_machine.specs.State.{Frame, State, method_code, code_in, code_or_none, method_descriptor, descriptor_of}
 use Rattle.par_machine.specs.Step.{Silent, Shows, Ends, turn, spot, applied}
@@ -52,11 +54,11 @@ load_is_by names x false = refl
 pub load_is : (names : ℕ → Link) (x : ℕ) → operation names (load x) ≡ Load x Number
 load_is names x = load_is_by names x (nat_lt x 4)
 
-store_is_by : (names : ℕ → Link) (x : ℕ) (short : Bool) → operation names (if short then IstoreShort x else Istore x) ≡ Store x
+store_is_by : (names : ℕ → Link) (x : ℕ) (short : Bool) → operation names (if short then IstoreShort x else Istore x) ≡ Store x Number
 store_is_by names x true = refl
 store_is_by names x false = refl
 
-pub store_is : (names : ℕ → Link) (x : ℕ) → operation names (store x) ≡ Store x
+pub store_is : (names : ℕ → Link) (x : ℕ) → operation names (store x) ≡ Store x Number
 store_is names x = store_is_by names x (nat_lt x 4)
 
 module _ (files : List ClassFile) (pool : List Constant) where
@@ -72,7 +74,7 @@ module _ (files : List ClassFile) (pool : List Constant) where
 
 -- the areas of a memory with some operands
 abbrev pub areas : Memory → List MVal → Areas
-areas m ops = record { locals = m.locals; operands = ops; statics = m.statics; inputs = m.inputs }
+areas m ops = record { locals = m.locals; operands = ops; statics = m.statics; objects = [] ∷ []; inputs = m.inputs }
 
 module _ (p : Program) (file : ClassFile) (h : IsFileOf p file) (r : IsRunnable p) where
   abbrev pub files : List ClassFile
@@ -89,7 +91,7 @@ module _ (p : Program) (file : ClassFile) (h : IsFileOf p file) (r : IsRunnable 
   frame at m ops = record { class = 0; method = place; at = at; locals = m.locals; operands = ops }
 
   abbrev pub standing : ℕ → Memory → List MVal → State
-  standing at m ops = record { frames = frame at m ops ∷ []; statics = m.statics; inputs = m.inputs }
+  standing at m ops = record { frames = frame at m ops ∷ []; statics = m.statics; objects = [] ∷ []; inputs = m.inputs }
 
   abbrev pub At : ℕ → List Item → Type 0
   At at items = Here file.pool.entries p.class main_code.code at items
@@ -102,19 +104,22 @@ module _ (p : Program) (file : ClassFile) (h : IsFileOf p file) (r : IsRunnable 
       ap (descriptor_of file.pool.entries) (main_there p file h r)
       ∙ text_is file.pool.entries (last_method p file h r).descriptor (codes "()V") (((h.methods).main).is_method).descriptor
 
+  abbrev spot_by : ℕ → Bool → Option Kind → Spot
+  spot_by room stands gives = straight_spot room stands (is_none gives) (kind_or_any gives)
+
   -- the place of an instruction of `main`
   abbrev pub main_spot : Bool → Spot
-  main_spot stands = record { room = max_stack p.steps; stands = stands; gives_nothing = true }
+  main_spot stands = straight_spot (max_stack p.steps) stands true Anything
 
   spot_is : (at n : ℕ) (m : Memory) (ops : List MVal) → spot files (frame at m ops) n ≡ main_spot (starts_at main_code.code (at + n))
   spot_is at n m ops =
       let room : (method_code files 0 place).max_stack ≡ max_stack p.steps = ap (λ (c : CodeAttr). c.max_stack) code_is ∙ (((h.methods).main).has_code).max_stack in
       let stands : starts_at (method_code files 0 place).code (at + n) ≡ starts_at main_code.code (at + n) = ap (λ (c : CodeAttr). starts_at c.code (at + n)) code_is in
-      let nothing : is_none (signature_said (method_descriptor files 0 place)).gives ≡ true =
-      ap (λ (text : Name). is_none (signature_said text).gives) descriptor_is ∙ ap (λ s. is_none s.gives) takes_nothing in
-      ap (λ (k : ℕ). record { room = k; stands = starts_at (method_code files 0 place).code (at + n); gives_nothing = is_none (signature_said (method_descriptor files 0 place)).gives }) room
-      ∙ ap (λ (b : Bool). record { room = max_stack p.steps; stands = b; gives_nothing = is_none (signature_said (method_descriptor files 0 place)).gives }) stands
-      ∙ ap (λ (b : Bool). record { room = max_stack p.steps; stands = starts_at main_code.code (at + n); gives_nothing = b }) nothing
+      let nothing : (signature_said (method_descriptor files 0 place)).gives ≡ None =
+      ap (λ (text : Name). (signature_said text).gives) descriptor_is ∙ ap (λ s. s.gives) takes_nothing in
+      ap (λ (k : ℕ). spot_by k (starts_at (method_code files 0 place).code (at + n)) (signature_said (method_descriptor files 0 place)).gives) room
+      ∙ ap (λ (b : Bool). spot_by (max_stack p.steps) b (signature_said (method_descriptor files 0 place)).gives) stands
+      ∙ ap (spot_by (max_stack p.steps) (starts_at main_code.code (at + n))) nothing
 
   module _ (at : ℕ) (item : Item) (items : List Item) (here : At at (item ∷ items)) (m : Memory) (ops : List MVal) where
     abbrev pub width : ℕ
@@ -128,7 +133,7 @@ module _ (p : Program) (file : ClassFile) (h : IsFileOf p file) (r : IsRunnable 
         → CanRun (own_names files) (main_spot (starts_at main_code.code (at + width))) o (areas m ops)
         → turn files (standing at m ops) ≡ applied files (effect (own_names files) o (areas m ops)) width (frame at m ops) [] (standing at m ops)
     item_runs o is can =
-        turn_runs files (frame at m ops) [] m.statics m.inputs (record { instr = instruction; size = width }) o
+        turn_runs files (frame at m ops) [] m.statics ([] ∷ []) m.inputs (record { instr = instruction; size = width }) o
         (ap (λ (c : CodeAttr). decoded_at c.code at) code_is ∙ found file.pool.entries p.class main_code.code at item items here) is
         (subst (λ (s : Spot). CanRun (own_names files) s o (areas m ops)) (sym (spot_is at width m ops)) can)
 
@@ -162,4 +167,5 @@ module _ (p : Program) (file : ClassFile) (h : IsFileOf p file) (r : IsRunnable 
       named = refl;
       agrees = refl;
       returns = refl;
+      used = refl;
     })

@@ -1,4 +1,5 @@
 pub mod Rules
+pub mod StraightLine
 pub mod Walks
 pub mod Places
 pub mod Turns

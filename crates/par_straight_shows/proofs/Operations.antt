@@ -5,11 +5,13 @@ use Rattle.std.specs.Int.{int_wrap, w32}
 use Rattle.std.proofs.lemmas.Bool.{le-ltb, lt-ltb}
 use Rattle.par_values.specs.declared.value.MVal.{MVal}
 use Rattle.par_values.specs.declared.value.MVal.TheVariants.{Int}
-use Rattle.par_values.specs.declared.kind.Kind.TheVariants.{Number}
+use Rattle.par_values.specs.declared.kind.Kind.TheVariants.{Number, Anything}
 use Rattle.par_values.specs.declared.run.Event.TheVariants.{Out, Set}
 use Rattle.par_values.specs.declared.run.Val.TheVariants as shown
 use Rattle.par_values.specs.Areas.{Name, push, local_value, value_or_null, next}
-use Rattle.par_values.specs.Operations.{Push, Load, Store, Add, GetStatic, PutStatic, InvokeStatic}
+use Rattle.par_values.specs.Arithmetic.{Plus}
+use Rattle.par_machine.specs.Reason.{straight_spot}
+use Rattle.par_values.specs.Operations.{Push, Load, Store, Combine, GetStatic, PutStatic, InvokeStatic}
 use Rattle.par_values.specs.Reasons.{Spot, holds}
 use Rattle.par_values.specs.Effects.{Goes, Happens, effect}
 use Rattle.par_single.specs.declared.descriptor.Signature.{Signature}
@@ -27,9 +29,10 @@ takes_number = record { takes = Number ∷ []; gives = None }
 
 module _ (classes : List Name) (room : ℕ) (m : Memory) (ops : List MVal) where
   abbrev spot : Spot
-  spot = record { room = room; stands = true; gives_nothing = true }
+  spot = straight_spot room true true Anything
 
   pub push_can : (v : ℤ) → length ops < room → CanRun classes spot (Push v) (areas m ops)
+  unfolding effect
   push_can v has_room = record {
     has = le-ltb (length ops) 0 (omega arith);
     fits = refl;
@@ -39,6 +42,7 @@ module _ (classes : List Name) (room : ℕ) (m : Memory) (ops : List MVal) where
     named = refl;
     agrees = refl;
     returns = refl;
+    used = refl;
   }
 
   pub push_does : (v : ℤ) → effect classes (Push v) (areas m ops) ≡ Goes (areas m (Int v ∷ ops))
@@ -46,6 +50,7 @@ module _ (classes : List Name) (room : ℕ) (m : Memory) (ops : List MVal) where
   push_does v = refl
 
   pub load_can : (x : ℕ) (v : ℤ) → slice_get m.locals x ≡ Some (Some (Int v)) → length ops < room → CanRun classes spot (Load x Number) (areas m ops)
+  unfolding effect
   load_can x v held has_room = record {
     has = le-ltb (length ops) 0 (omega arith);
     fits = refl;
@@ -55,13 +60,15 @@ module _ (classes : List Name) (room : ℕ) (m : Memory) (ops : List MVal) where
     named = refl;
     agrees = refl;
     returns = refl;
+    used = refl;
   }
 
   pub load_does : (x : ℕ) (v : ℤ) → slice_get m.locals x ≡ Some (Some (Int v)) → effect classes (Load x Number) (areas m ops) ≡ Goes (areas m (Int v ∷ ops))
   unfolding effect
   load_does x v held = ap (λ (o : Option (Option MVal)). Goes (push (value_or_null (local_value o)) (areas m ops))) held
 
-  pub store_can : (x : ℕ) (v : ℤ) → x < length m.locals → length ops ≤ room → CanRun classes spot (Store x) (areas m (Int v ∷ ops))
+  pub store_can : (x : ℕ) (v : ℤ) → x < length m.locals → length ops ≤ room → CanRun classes spot (Store x Number) (areas m (Int v ∷ ops))
+  unfolding effect
   store_can x v within has_room = record {
     has = le-ltb (length (Int v ∷ ops)) 1 (omega arith);
     fits = refl;
@@ -71,13 +78,15 @@ module _ (classes : List Name) (room : ℕ) (m : Memory) (ops : List MVal) where
     named = refl;
     agrees = refl;
     returns = refl;
+    used = refl;
   }
 
-  pub store_does : (x : ℕ) (v : ℤ) → effect classes (Store x) (areas m (Int v ∷ ops)) ≡ Goes (areas (with_local x v m) ops)
+  pub store_does : (x : ℕ) (v : ℤ) → effect classes (Store x Number) (areas m (Int v ∷ ops)) ≡ Goes (areas (with_local x v m) ops)
   unfolding effect
   store_does x v = refl
 
-  pub add_can : (v w : ℤ) → suc (length ops) ≤ room → CanRun classes spot Add (areas m (Int w ∷ Int v ∷ ops))
+  pub add_can : (v w : ℤ) → suc (length ops) ≤ room → CanRun classes spot (Combine Plus) (areas m (Int w ∷ Int v ∷ ops))
+  unfolding effect
   add_can v w has_room = record {
     has = le-ltb (length (Int w ∷ Int v ∷ ops)) 2 (omega arith);
     fits = refl;
@@ -87,13 +96,15 @@ module _ (classes : List Name) (room : ℕ) (m : Memory) (ops : List MVal) where
     named = refl;
     agrees = refl;
     returns = refl;
+    used = refl;
   }
 
-  pub add_does : (v w : ℤ) → effect classes Add (areas m (Int w ∷ Int v ∷ ops)) ≡ Goes (areas m (Int (int_wrap w32 (v +ℤ w)) ∷ ops))
+  pub add_does : (v w : ℤ) → effect classes (Combine Plus) (areas m (Int w ∷ Int v ∷ ops)) ≡ Goes (areas m (Int (int_wrap w32 (v +ℤ w)) ∷ ops))
   unfolding effect
   add_does v w = refl
 
   pub get_can : (class name : Name) (f : ℕ) → length ops < room → CanRun classes spot (GetStatic (int_field class name f)) (areas m ops)
+  unfolding effect
   get_can class name f has_room = record {
     has = le-ltb (length ops) 0 (omega arith);
     fits = refl;
@@ -103,6 +114,7 @@ module _ (classes : List Name) (room : ℕ) (m : Memory) (ops : List MVal) where
     named = refl;
     agrees = refl;
     returns = refl;
+    used = refl;
   }
 
   pub get_does : (class name : Name) (f : ℕ) (v : ℤ) → slice_get m.statics f ≡ Some (Int v)
@@ -111,6 +123,7 @@ module _ (classes : List Name) (room : ℕ) (m : Memory) (ops : List MVal) where
   get_does class name f v held = ap (λ (o : Option MVal). Goes (push (value_or_null o) (areas m ops))) held
 
   pub put_can : (class name : Name) (f : ℕ) (v : ℤ) → length ops ≤ room → CanRun classes spot (PutStatic (int_field class name f)) (areas m (Int v ∷ ops))
+  unfolding effect
   put_can class name f v has_room = record {
     has = le-ltb (length (Int v ∷ ops)) 1 (omega arith);
     fits = refl;
@@ -120,6 +133,7 @@ module _ (classes : List Name) (room : ℕ) (m : Memory) (ops : List MVal) where
     named = refl;
     agrees = refl;
     returns = refl;
+    used = refl;
   }
 
   pub put_does : (class name : Name) (f : ℕ) (v : ℤ)
@@ -128,6 +142,7 @@ module _ (classes : List Name) (room : ℕ) (m : Memory) (ops : List MVal) where
   put_does class name f v = refl
 
   pub read_can : (class name descriptor : Name) → length ops < room → CanRun classes spot (InvokeStatic (channel_method (member class name descriptor) gives_number)) (areas m ops)
+  unfolding effect
   read_can class name descriptor has_room = record {
     has = le-ltb (length ops) 0 (omega arith);
     fits = refl;
@@ -137,6 +152,7 @@ module _ (classes : List Name) (room : ℕ) (m : Memory) (ops : List MVal) where
     named = refl;
     agrees = refl;
     returns = refl;
+    used = refl;
   }
 
   pub read_does : (class name descriptor : Name)
@@ -146,6 +162,7 @@ module _ (classes : List Name) (room : ℕ) (m : Memory) (ops : List MVal) where
 
   pub write_can : (class name descriptor : Name) (v : ℤ) → length ops ≤ room
       → CanRun classes spot (InvokeStatic (channel_method (member class name descriptor) takes_number)) (areas m (Int v ∷ ops))
+  unfolding effect
   write_can class name descriptor v has_room = record {
     has = le-ltb (length (Int v ∷ ops)) 1 (omega arith);
     fits = refl;
@@ -155,6 +172,7 @@ module _ (classes : List Name) (room : ℕ) (m : Memory) (ops : List MVal) where
     named = refl;
     agrees = refl;
     returns = refl;
+    used = refl;
   }
 
   pub write_does : (class name descriptor : Name) (v : ℤ)

@@ -11,6 +11,7 @@ use Rattle.par_straight_compile.specs.Code.{Item}
 use Rattle.par_straight_compile.specs.Bytes.{IsItem, IsItemBefore, IsCode}
 use Rattle.par_single.specs.Walk.{walks, starts_at}
 use Rattle.par_single.proofs.Walks.{starts-first, starts-next}
+use Rattle.par_straight_shows.proofs.StraightLine.{AreStraight}
 use Rattle.par_straight_shows.proofs.Walks.{code_walks, code_some}
 
 module _ (entries : List Constant) (class : Name) (code : List ℕ) where
@@ -22,9 +23,9 @@ module _ (entries : List Constant) (class : Name) (code : List ℕ) where
     pub walked : walks code ≡ true
     pub starts : 0 < length items → starts_at code at ≡ true
 
-  pub begin : (items : List Item) → IsCode entries class items code → Here 0 items
-  begin items spelled =
-      let walked = code_walks entries class items code spelled in
+  pub begin : (items : List Item) → IsCode entries class items code → AreStraight items → Here 0 items
+  begin items spelled straight =
+      let walked = code_walks entries class items code spelled straight in
       record {
         bytes = code;
         left = refl;

@@ -33,6 +33,7 @@ use Rattle.par_single.specs.Walk.{walks}
 use Rattle.par_single.specs.Single.{none, is_bare, is_plain_method, is_plain, is_taken, is_same_field, is_same_method, members_differ, is_field_right, is_of_channel, is_channel_right, is_method_right, is_described, is_there, is_found, main_member, is_begun_with, method_in, runs_alone}
 use Rattle.par_straight_shows.specs.Runnable.{IsRunnable}
 use Rattle.par_straight_shows.proofs.Naming.{text_is, member_is, same_name, other_name, not_spelled}
+use Rattle.par_straight_shows.proofs.StraightLine.{code_straight}
 use Rattle.par_straight_shows.proofs.Walks.{code_walks, super_walks}
 use Rattle.par_straight_shows.proofs.Links.{own_is, main_at, main_there, field_among_is, method_among_is, own_method}
 use Rattle.par_straight_shows.proofs.Differing.{all_pass, partners_pass, partners_named, differ_by_name, differ_around}
@@ -132,7 +133,7 @@ module _ (p : Program) (file : ClassFile) (h : IsFileOf p file) (r : IsRunnable 
   plain_last =
       let is = (h.methods).main in
       and_from (none last.attributes) (is_bare last.code) (none_is last.attributes (is.is_method).attributes)
-      (bare _ _ _ last is.has_code (λ bytes body. code_walks entries p.class (code_of p) bytes body))
+      (bare _ _ _ last is.has_code (λ bytes body. code_walks entries p.class (code_of p) bytes body (code_straight p)))
 
   plain : is_plain file ≡ true
   plain =

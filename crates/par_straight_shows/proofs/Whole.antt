@@ -41,6 +41,7 @@ use Rattle.par_straight_shows.proofs.Rules.{Matches, weaken, ending, entered}
 use Rattle.par_straight_shows.proofs.Naming.{text_is, same_name, kind_of_int}
 use Rattle.par_straight_shows.proofs.Positions.{partner_at, get_in_first}
 use Rattle.par_straight_shows.proofs.Places.{begin}
+use Rattle.par_straight_shows.proofs.StraightLine.{code_straight}
 use Rattle.par_straight_shows.proofs.Links.{own_is, main_at}
 use Rattle.par_straight_shows.proofs.Memory.{Memory, Agrees}
 use Rattle.par_straight_shows.proofs.Items.{files, main_code, place, standing, code_is, item_ends}
@@ -78,6 +79,7 @@ module _ (p : Program) (file : ClassFile) (h : IsFileOf p file) (r : IsRunnable 
       ap (λ (found : Option ℕ). record {
         frames = machine.main_frame the_files 0 found;
         statics = machine.all_statics the_files;
+        objects = [] ∷ [];
         inputs = machine.whole_inputs inputs.channels;
       }) (main_at p file h r (own_name file))
 
@@ -136,7 +138,7 @@ module _ (p : Program) (file : ClassFile) (h : IsFileOf p file) (r : IsRunnable 
   all_match : (inputs : Inputs) → Matches the_files 0 (standing p file h r 0 (first_memory inputs) []) (source_run p inputs)
   all_match inputs =
       let s = standing p file h r 0 (first_memory inputs) [] in
-      let body = begin file.pool.entries p.class (main_code p file h r).code (code_of p) (((h.methods).main).has_code).body in
+      let body = begin file.pool.entries p.class (main_code p file h r).code (code_of p) (((h.methods).main).has_code).body (code_straight p) in
       let end : (at : ℕ) (m : Memory) → Stands p file h r at (plain Return ∷ []) → Matches the_files 1 (standing p file h r at m []) (λ n. runs.over) =
       λ at m here. ending the_files 1 (standing p file h r at m []) (item_ends p file h r at (plain Return) [] here m [] (omega arith) (plain_is p file h r Return at [] here)) (omega arith) in
       entered the_files 0 s (all p p.steps ends) (start p inputs)

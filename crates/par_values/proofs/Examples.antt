@@ -15,7 +15,8 @@ use Rattle.par_values.specs.declared.link.Target.TheVariants.{Input, Output, Cod
 use Rattle.par_values.specs.declared.link.Link.TheVariants as link
 use Rattle.par_instr.specs.declared.instr.Instr.TheVariants.{AloadShort, IloadShort, Ldc, LdcW, Getstatic, Putstatic, Invokespecial, Invokestatic}
 use Rattle.par_values.specs.Areas.{Name, Areas, next, first_locals, first_value, shown_value}
-use Rattle.par_values.specs.Operations.{Operation, Push, Load, Store, Add, GetStatic, PutStatic, InvokeStatic, InvokeSpecial, Leave, Misnamed, operation}
+use Rattle.par_values.specs.Arithmetic.{Plus}
+use Rattle.par_values.specs.Operations.{Operation, Push, Load, Store, Combine, GetStatic, PutStatic, InvokeStatic, InvokeSpecial, Leave, Misnamed, operation}
 use Rattle.par_values.specs.Reasons.{Spot, reason}
 use Rattle.par_values.specs.Effects.{Effect, Goes, Happens, Calls, Throws, effect}
 
@@ -24,10 +25,10 @@ abbrev classes : List Name
 classes = codes "A" ∷ codes "B" ∷ []
 
 abbrev plain : Spot
-plain = record { room = 2; stands = true; gives_nothing = true }
+plain = record { room = 2; stands = true; gives_nothing = true; result = Number; exceptions = []; is_lost = false; is_roomless = false }
 
 abbrev areas : List (Option MVal) → List MVal → Areas
-areas locals operands = record { locals = locals; operands = operands; statics = Null ∷ Int (pos 7) ∷ []; inputs = λ class name. pos 5 ∷ pos 6 ∷ [] }
+areas locals operands = record { locals = locals; operands = operands; statics = Null ∷ Int (pos 7) ∷ []; objects = []; inputs = λ class name. pos 5 ∷ pos 6 ∷ [] }
 
 abbrev field : Bool → Kind → FieldLink
 field is_static kind = record { class = codes "A"; name = codes "f"; is_static = is_static; kind = kind; place = 1 }
@@ -45,192 +46,192 @@ why o locals operands = reason classes plain o (areas locals operands)
 
 -- ---- each reason by itself
 
-missing : why Add [] (Int (pos 1) ∷ []) ≡ Some 1
-unfolding reason
+missing : why (Combine Plus) [] (Int (pos 1) ∷ []) ≡ Some 1
+unfolding reason effect
 missing = refl
 
 missing_receiver : why (InvokeSpecial (initializer false 1)) [] [] ≡ Some 1
-unfolding reason
+unfolding reason effect
 missing_receiver = refl
 
 of_another_kind : why (PutStatic (field true (Object (codes "A")))) [] (Int (pos 1) ∷ []) ≡ Some 2
-unfolding reason
+unfolding reason effect
 of_another_kind = refl
 
 of_another_class : why (InvokeSpecial (initializer false 1)) [] (Ref 1 0 ∷ []) ≡ Some 2
-unfolding reason
+unfolding reason effect
 of_another_class = refl
 
 arguments_swapped : why (InvokeStatic (method true (Number ∷ Object (codes "A") ∷ []) false (Code 0 0 2))) [] (Int (pos 1) ∷ Null ∷ []) ≡ Some 2
-unfolding reason
+unfolding reason effect
 arguments_swapped = refl
 
 no_room : why (Push (pos 1)) [] (Null ∷ Null ∷ []) ≡ Some 3
-unfolding reason
+unfolding reason effect
 no_room = refl
 
 unset : why (Load 0 Number) (None ∷ []) [] ≡ Some 4
-unfolding reason
+unfolding reason effect
 unset = refl
 
-out_of_range : why (Store 1) (None ∷ []) (Int (pos 1) ∷ []) ≡ Some 4
-unfolding reason
+out_of_range : why (Store 1 Number) (None ∷ []) (Int (pos 1) ∷ []) ≡ Some 4
+unfolding reason effect
 out_of_range = refl
 
 held_otherwise : why (Load 0 Number) (Some Null ∷ []) [] ≡ Some 4
-unfolding reason
+unfolding reason effect
 held_otherwise = refl
 
 crowded : why (InvokeSpecial (initializer false 0)) [] (Null ∷ []) ≡ Some 4
-unfolding reason
+unfolding reason effect
 crowded = refl
 
 at_the_end : reason classes (record plain { stands = false }) (Push (pos 1)) (areas [] []) ≡ Some 5
-unfolding reason
+unfolding reason effect
 at_the_end = refl
 
 wrong_index : why (Misnamed 0 1) [] [] ≡ Some 6
-unfolding reason
+unfolding reason effect
 wrong_index = refl
 
 no_initializer : why (InvokeSpecial (method false [] false (Code 0 0 1))) [] (Null ∷ []) ≡ Some 6
-unfolding reason
+unfolding reason effect
 no_initializer = refl
 
 field_of_an_object : why (GetStatic (field false Number)) [] [] ≡ Some 7
-unfolding reason
+unfolding reason effect
 field_of_an_object = refl
 
 method_of_an_object : why (InvokeStatic (method false [] false (Code 0 0 1))) [] [] ≡ Some 7
-unfolding reason
+unfolding reason effect
 method_of_an_object = refl
 
 static_initializer : why (InvokeSpecial (initializer true 1)) [] (Null ∷ []) ≡ Some 7
-unfolding reason
+unfolding reason effect
 static_initializer = refl
 
 result_is_owed : reason classes (record plain { gives_nothing = false }) Leave (areas [] []) ≡ Some 8
-unfolding reason
+unfolding reason effect
 result_is_owed = refl
 
 receiver_below_its_arguments : why (InvokeSpecial (method false (Number ∷ []) false (Code 0 0 2))) [] (Null ∷ Int (pos 1) ∷ []) ≡ Some 2
-unfolding reason
+unfolding reason effect
 receiver_below_its_arguments = refl
 
 number_as_an_object : why (Load 0 AnyObject) (Some (Int (pos 1)) ∷ []) [] ≡ Some 4
-unfolding reason
+unfolding reason effect
 number_as_an_object = refl
 
-object_as_a_number : why (Store 0) (None ∷ []) (Ref 0 0 ∷ []) ≡ Some 2
-unfolding reason
+object_as_a_number : why (Store 0 Number) (None ∷ []) (Ref 0 0 ∷ []) ≡ Some 2
+unfolding reason effect
 object_as_a_number = refl
 
 object_as_a_field_of_a_number : why (PutStatic (field true Number)) [] (Ref 0 0 ∷ []) ≡ Some 2
-unfolding reason
+unfolding reason effect
 object_as_a_field_of_a_number = refl
 
-sum_of_an_object : why Add [] (Ref 0 0 ∷ Int (pos 1) ∷ []) ≡ Some 2
-unfolding reason
+sum_of_an_object : why (Combine Plus) [] (Ref 0 0 ∷ Int (pos 1) ∷ []) ≡ Some 2
+unfolding reason effect
 sum_of_an_object = refl
 
-sum_with_an_object : why Add [] (Int (pos 1) ∷ Ref 0 0 ∷ []) ≡ Some 2
-unfolding reason
+sum_with_an_object : why (Combine Plus) [] (Int (pos 1) ∷ Ref 0 0 ∷ []) ≡ Some 2
+unfolding reason effect
 sum_with_an_object = refl
 
 load_out_of_range : why (Load 1 Number) (Some (Int (pos 1)) ∷ []) [] ≡ Some 4
-unfolding reason
+unfolding reason effect
 load_out_of_range = refl
 
 more_arguments_than_locals : why (InvokeStatic (method true (Number ∷ []) false (Code 0 0 0))) [] (Int (pos 1) ∷ []) ≡ Some 4
-unfolding reason
+unfolding reason effect
 more_arguments_than_locals = refl
 
 no_room_for_a_result : why (InvokeStatic (method true [] true (Code 0 0 0))) [] (Null ∷ Null ∷ []) ≡ Some 3
-unfolding reason
+unfolding reason effect
 no_room_for_a_result = refl
 
 no_room_for_a_special_result : why (InvokeSpecial (method false [] true (Code 0 0 1))) [] (Null ∷ Null ∷ Null ∷ []) ≡ Some 3
-unfolding reason
+unfolding reason effect
 no_room_for_a_special_result = refl
 
-no_room_for_a_sum : reason classes (record plain { room = 0 }) Add (areas [] (Int (pos 1) ∷ Int (pos 2) ∷ [])) ≡ Some 3
-unfolding reason
+no_room_for_a_sum : reason classes (record plain { room = 0 }) (Combine Plus) (areas [] (Int (pos 1) ∷ Int (pos 2) ∷ [])) ≡ Some 3
+unfolding reason effect
 no_room_for_a_sum = refl
 
 no_room_for_a_local : why (Load 0 Number) (Some (Int (pos 1)) ∷ []) (Null ∷ Null ∷ []) ≡ Some 3
-unfolding reason
+unfolding reason effect
 no_room_for_a_local = refl
 
 no_room_for_a_field : why (GetStatic (field true Number)) [] (Null ∷ Null ∷ []) ≡ Some 3
-unfolding reason
+unfolding reason effect
 no_room_for_a_field = refl
 
 write_of_a_field_of_an_object : why (PutStatic (field false Number)) [] (Int (pos 1) ∷ []) ≡ Some 7
-unfolding reason
+unfolding reason effect
 write_of_a_field_of_an_object = refl
 
 -- ---- several together: the least is told, also before null is acted on
 
 missing_first : reason classes (record plain { stands = false }) (Misnamed 1 0) (areas [] []) ≡ Some 1
-unfolding reason
+unfolding reason effect
 missing_first = refl
 
 room_first : why (Misnamed 0 1) [] (Null ∷ Null ∷ []) ≡ Some 3
-unfolding reason
+unfolding reason effect
 room_first = refl
 
 locals_before_null : why (InvokeSpecial (method true [] false (Code 0 0 0))) [] (Null ∷ []) ≡ Some 4
-unfolding reason
+unfolding reason effect
 locals_before_null = refl
 
 -- ---- none
 
 result_in_place_of_an_argument : why (InvokeStatic (method true (Number ∷ []) true (Code 0 0 1))) [] (Int (pos 1) ∷ Null ∷ []) ≡ None
-unfolding reason
+unfolding reason effect
 result_in_place_of_an_argument = refl
 
 return_at_the_end : reason classes (record plain { stands = false }) Leave (areas [] []) ≡ None
-unfolding reason
+unfolding reason effect
 return_at_the_end = refl
 
 objects_of_every_class : why (Load 0 AnyObject) (Some (Ref 1 3) ∷ []) [] ≡ None
-unfolding reason
+unfolding reason effect
 objects_of_every_class = refl
 
 null_of_every_class : why (Load 0 AnyObject) (Some Null ∷ []) [] ≡ None
-unfolding reason
+unfolding reason effect
 null_of_every_class = refl
 
 null_of_one_class : why (PutStatic (field true (Object (codes "A")))) [] (Null ∷ []) ≡ None
-unfolding reason
+unfolding reason effect
 null_of_one_class = refl
 
 object_of_its_class : why (PutStatic (field true (Object (codes "B")))) [] (Ref 1 0 ∷ []) ≡ None
-unfolding reason
+unfolding reason effect
 object_of_its_class = refl
 
 any_value_where_none_is_named : why (Misnamed 1 0) [] (Int (pos 1) ∷ []) ≡ Some 6
-unfolding reason
+unfolding reason effect
 any_value_where_none_is_named = refl
 
 push_into_the_last_room : why (Push (pos 1)) [] (Null ∷ []) ≡ None
-unfolding reason
+unfolding reason effect
 push_into_the_last_room = refl
 
-sum_needs_room_for_one : reason classes (record plain { room = 1 }) Add (areas [] (Int (pos 1) ∷ Int (pos 2) ∷ [])) ≡ None
-unfolding reason
+sum_needs_room_for_one : reason classes (record plain { room = 1 }) (Combine Plus) (areas [] (Int (pos 1) ∷ Int (pos 2) ∷ [])) ≡ None
+unfolding reason effect
 sum_needs_room_for_one = refl
 
 write_makes_room : reason classes (record plain { room = 0 }) (PutStatic (field true Number)) (areas [] (Int (pos 1) ∷ [])) ≡ None
-unfolding reason
+unfolding reason effect
 write_makes_room = refl
 
-store_makes_room : reason classes (record plain { room = 0 }) (Store 0) (areas (None ∷ []) (Int (pos 1) ∷ [])) ≡ None
-unfolding reason
+store_makes_room : reason classes (record plain { room = 0 }) (Store 0 Number) (areas (None ∷ []) (Int (pos 1) ∷ [])) ≡ None
+unfolding reason effect
 store_makes_room = refl
 
 channel_needs_no_locals : why (InvokeStatic (method true (Number ∷ []) false (Output (codes "A") (codes "out")))) [] (Int (pos 1) ∷ []) ≡ None
-unfolding reason
+unfolding reason effect
 channel_needs_no_locals = refl
 
 -- ---- what an instruction is to do
@@ -269,7 +270,7 @@ local_is_pushed : effect classes (Load 1 Number) (areas (None ∷ Some (Int (pos
 unfolding effect
 local_is_pushed = refl
 
-local_is_set : effect classes (Store 1) (areas (None ∷ None ∷ []) (Int (pos 4) ∷ Null ∷ [])) ≡ Goes (areas (None ∷ Some (Int (pos 4)) ∷ []) (Null ∷ []))
+local_is_set : effect classes (Store 1 Number) (areas (None ∷ None ∷ []) (Int (pos 4) ∷ Null ∷ [])) ≡ Goes (areas (None ∷ Some (Int (pos 4)) ∷ []) (Null ∷ []))
 unfolding effect
 local_is_set = refl
 
@@ -332,7 +333,7 @@ numbers_are_shown = refl
 null_is_shown : shown_value classes Null ≡ shown.Null
 null_is_shown = refl
 
-sum_wraps : effect classes Add (areas [] (Int (pos 1) ∷ Int (pos 2147483647) ∷ [])) ≡ Goes (areas [] (Int (negsuc 2147483647) ∷ []))
+sum_wraps : effect classes (Combine Plus) (areas [] (Int (pos 1) ∷ Int (pos 2147483647) ∷ [])) ≡ Goes (areas [] (Int (negsuc 2147483647) ∷ []))
 unfolding effect int_wrap
 sum_wraps = refl
 

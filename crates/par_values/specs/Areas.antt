@@ -1,5 +1,5 @@
--- What an instruction reads and writes: locals and operands of its frame, static fields and input
--- lists of the program (Java Virtual Machine Specification, Java SE 7, sections 2.5 and 2.6).
+-- What an instruction reads and writes: locals and operands of its frame, static fields, objects and
+-- input lists of the program (Java Virtual Machine Specification, Java SE 7, sections 2.5 and 2.6).
 use Rattle.std.specs.Prelude.{ℕ, Bool, true, false, ◌&&◌, if◌then◌else◌, ℤ, pos, List, [], ◌∷◌, ◌++◌, Option, Some, None, slice_get, slice_set, map, replicate, length, ◌-◌, drop}
 use Rattle.std.specs.Str.{bytes_eq}
 use Rattle.par_values.specs.declared.value.MVal.{MVal}
@@ -16,12 +16,17 @@ Name = List ℕ
 abbrev pub InputLists : Type 0
 InputLists = Name → Name → List ℤ
 
+-- the objects of each class by its number, in the order of their birth, each the values of its fields
+abbrev pub Objects : Type 0
+Objects = List (List (List MVal))
+
 pub record Areas : Type 0 where
   -- a local holds nothing until it is set
   pub locals : List (Option MVal)
   -- the operand that was pushed last comes first
   pub operands : List MVal
   pub statics : List MVal
+  pub objects : Objects
   pub inputs : InputLists
 
 -- a name, or no bytes where there is none
@@ -94,6 +99,38 @@ local_at x a = local_value (slice_get a.locals x)
 
 abbrev pub set_static : ℕ → MVal → Areas → Areas
 set_static place v a = record a { statics = slice_set a.statics place v }
+
+-- a list, or the empty one where there is none
+abbrev pub list_or_none : {A : Type 0} → Option (List A) → List A
+list_or_none None = []
+list_or_none (Some xs) = xs
+
+-- the objects of a class
+abbrev pub objects_of : ℕ → Areas → List (List MVal)
+objects_of c a = list_or_none (slice_get a.objects c)
+
+-- the fields of an object
+abbrev pub object_at : ℕ → ℕ → Areas → List MVal
+object_at c n a = list_or_none (slice_get (objects_of c a) n)
+
+-- what a field of an object holds, by its place in the object
+abbrev pub field_at : ℕ → ℕ → ℕ → Areas → MVal
+field_at c n place a = value_or_null (slice_get (object_at c n a) place)
+
+abbrev pub set_objects : ℕ → List (List MVal) → Areas → Areas
+set_objects c objects a = record a { objects = slice_set a.objects c objects }
+
+abbrev pub set_field : ℕ → ℕ → ℕ → MVal → Areas → Areas
+set_field c n place v a =
+    set_objects c (slice_set (objects_of c a) n (slice_set (object_at c n a) place v)) a
+
+-- the number of the next object of a class
+abbrev pub next_number : ℕ → Areas → ℕ
+next_number c a = length (objects_of c a)
+
+-- one object more of a class, with these fields
+abbrev pub with_object : ℕ → List MVal → Areas → Areas
+with_object c fields a = set_objects c (objects_of c a ++ fields ∷ []) a
 
 -- the number that is taken from a list, 0 from a spent one
 abbrev pub next : List ℤ → ℤ

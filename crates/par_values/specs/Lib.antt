@@ -1,5 +1,7 @@
 pub mod Areas
+pub mod Arithmetic
 pub mod Operations
-pub mod Reasons
 pub mod Effects
+pub mod Reasons
 pub mod Ran
+pub mod Laws

@@ -7,6 +7,9 @@
 
 pub mod inputs;
 pub mod kind;
+mod laws;
 pub mod link;
 pub mod run;
 pub mod value;
+
+pub use laws::stack_effect_is_what_is_done;

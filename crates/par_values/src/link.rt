@@ -11,8 +11,20 @@ pub struct FieldLink {
     pub name: Name,
     pub is_static: bool,
     pub kind: Kind,
-    /// Its place among the fields of all classes.
+    /// Its place among the static fields of all classes, or among those of an object.
     pub place: u32,
+}
+
+/// A class.
+#[derive(Drop)]
+pub struct ClassLink {
+    pub name: Name,
+    pub number: u16,
+    /// The kinds of the fields of its objects, in their order.
+    pub fields: List<Kind>,
+    pub is_exception: bool,
+    /// Objects of it are made: it is not that of all objects, nor that of all exceptions.
+    pub is_made: bool,
 }
 
 /// What a method does when it is called.
@@ -50,6 +62,7 @@ pub enum Link {
     Number(i32),
     Field(FieldLink),
     Method(MethodLink),
+    Class(ClassLink),
     /// Nothing that an instruction names.
     Other,
 }

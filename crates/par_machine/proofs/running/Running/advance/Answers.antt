@@ -7,7 +7,7 @@ use Rattle.par_machine.specs.Operation.{operation_of}
 use Rattle.par_machine.specs.Running.{running_frame, frames_of, state_of, is_standing}
 use Rattle.par_machine.specs.State.{method_code}
 use Rattle.par_machine.specs.Step.{spot, size_of, turn, bad, decided}
-use Rattle.par_machine.proofs.Boundaries.{code_walks, boundary_next}
+use Rattle.par_machine.proofs.Boundaries.{code_walks, boundary_next, boundary_straight}
 use Rattle.par_machine.proofs.Standing.{boundary, room_is, standing_within, standing_past}
 use Rattle.par_machine.proofs.Turns.{turn-none, turn-decoded, reason-spot, IsTurn-along, TakesMemory-along}
 use Rattle.par_machine.proofs.running.Running.advance.Goals as goal
@@ -45,7 +45,7 @@ against c =
     let file = c.args.program.now.file in
     reason-spot file (running_frame r) _ (operation_of c.operation-operation.result) (areas_of r.areas) r.at c.in-Ok.next _ _ _ _ c.reason.ensures.least
     (ap (λ (name : List ℕ). name ∷ []) (c.bytes.ensures.bytes ∙ c.own.ensures))
-    (λ room stands. c.gives_nothing.ensures (areas_of r.areas) room stands)
+    (λ room stands k l. c.gives_nothing.ensures (areas_of r.areas) room stands k l)
     (c.room.ensures ∙ room_is file r.method r.at r.areas.operands.room c.requires.here)
     (behind c)
 
@@ -80,6 +80,16 @@ perform-requires-clause-behind c =
     subst (λ at. IsTrue (is_standing file r.method at r.areas.operands.room))
     (ap (λ d. r.at + size_of d) (found (goal.at.perform-requires-clause-behind c).After-reason) ∙ past)
     (standing_past file c.args.program.now.own r.method r.at r.areas.operands.room c.args.program.now.alone c.requires.here)
+
+-- a file that runs by itself has straight-line instructions alone
+pub operation-operation-requires : goal.operation-operation-requires
+operation-operation-requires c =
+    let r = c.args.self.now in
+    let file = c.args.program.now.file in
+    let code = (method_code (file ∷ []) 0 r.method).code in
+    boundary_straight code r.at (record { instr = c.in-Ok.instr; size = c.in-Ok.next - r.at }) (code_walks file c.args.program.now.own r.method c.args.program.now.alone)
+    (boundary file r.method r.at r.areas.operands.room c.requires.here)
+    (ap (λ (code : List ℕ). decoded_at code r.at) (sym c.code-code.ensures.code) ∙ c.in-Ok.ensures.decoded)
 
 -- what the turn comes to, where the reason is known
 decides : (c : After-reason) (reason : Option ℕ) → c.reason.result ≡ reason
