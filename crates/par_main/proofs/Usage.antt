@@ -2,6 +2,7 @@
 use Rattle.std.proofs.Common.{◌≡◌, ℕ, List, Option, refl, sym, subst, ◌∙◌, inl, inr, arith}
 use Rattle.std.specs.declared.string.String.{String}
 use Rattle.std.specs.declared.alloc.Global.{Global}
+use Rattle.par_io.specs.Causes.{SinkCounts}
 use Rattle.par_io.specs.Saying.{Said, whole, cut, unsaid}
 use Rattle.par_values.specs.Ran.{Outcome, Fine, BadCode}
 use Rattle.par_values.specs.declared.run.Ending.TheVariants.{End, Uncaught, Stopped}
@@ -36,17 +37,17 @@ no_ending (BadCode class method offset reason) is = omega (arith, is)
 
 no_cause : (s : Scene) (w : Wanted) → Cause s w Usage → ⊥
 no_cause s (Check file) c = c.0
-no_cause s (Compile file) c = c.1
-no_cause s (Run main inputs steps) c = elim c.0 [ inl never ↦ never | inr had ↦ had.2 ]
+no_cause s (Compile file) c = c.2
+no_cause s (Run main inputs steps) c = elim c.0 [ inl never ↦ never.1 | inr had ↦ had.1.2 ]
 
-said_so : (number result : ℕ) (lines : List Text) (old new : Option Text) (f g : ℕ) → Said number lines result old new f g → result ≡ 2 → number ≡ 2
-said_so number result lines old new f g (whole is put) two = sym is ∙ two
-said_so number result lines old new f g (cut is rose put) two = absurd (omega (arith, is, two))
-said_so number result lines old new f g (unsaid many few is put) two = absurd (omega (arith, is, two))
+said_so : (number result : ℕ) (lines : List Text) (old new : Option Text) (f g : SinkCounts) → Said number lines result old new f g → result ≡ 2 → number ≡ 2
+said_so number result lines old new f g (whole is counts put) two = sym is ∙ two
+said_so number result lines old new f g (cut is at) two = absurd (omega (arith, is, two))
+said_so number result lines old new f g (unsaid is at) two = absurd (omega (arith, is, two))
 
-pub no_usage : (which : Which) (words : List (String Global)) (s : Scene) (result : ℕ) (old new : Option Text) (f g : ℕ) (w : Wanted) → Asks which words w → Ends which words s result old new f g → result ≡ 2 → ⊥
+pub no_usage : (which : Which) (words : List (String Global)) (s : Scene) (result : ℕ) (old new : Option Text) (f g : SinkCounts) (w : Wanted) → Asks which words w → Ends which words s result old new f g → result ≡ 2 → ⊥
 no_usage which words s result old new f g w asks (misses none stand said) two = none w asks
 no_usage which words s result old new f g w asks (answers v a asked cause said) two =
     no_cause s v (subst (Cause s v) (usage_alone a (said_so _ _ _ _ _ _ _ said.said two)) cause)
 no_usage which words s result old new f g w asks (runs v ran asked cause said) two = no_ending ran.ending (said_so _ _ _ _ _ _ _ said two)
-no_usage which words s result old new f g w asks (lacks_memory is put stand) two = omega (arith, is, two)
+no_usage which words s result old new f g w asks (lacks_memory v asked is put few stand) two = omega (arith, is, two)

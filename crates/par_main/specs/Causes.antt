@@ -2,20 +2,19 @@
 use Rattle.std.specs.Prelude.{◌≡◌, ℕ, List, None}
 use Rattle.std.specs.declared.string.String.{String}
 use Rattle.std.specs.declared.alloc.Global.{Global}
-use Rattle.par_io.specs.Causes.{Counts}
+use Rattle.par_io.specs.Causes.{FolderCounts, SinkCounts, untouched_folder, untouched_sink}
 use Rattle.par_words.specs.declared.words.Which.{Which}
 use Rattle.par_tool.specs.Answers.{Scene, Ends}
-use Rattle.par_tool.specs.Outside.{counts}
 
--- files that tell no content, and all of whose counts are 0 before the call
-abbrev pub untold : Counts → Scene
-untold after = record { files = None; later = None; before = counts 0 0 0; after = after }
+-- files that tell no content, of which no call was made before
+abbrev pub untold : FolderCounts → Scene
+untold after = record { files = None; later = None; before = untouched_folder; after = after }
 
 -- A call with this status ends as the words say, for some counts of the files and of the output.
 pub record HasCause (which : Which) (words : List (String Global)) (status : ℕ) : Type 0 where
-  pub after : Counts
-  pub faults : ℕ
-  pub ends : Ends which words (untold after) status None None 0 faults
+  pub after : FolderCounts
+  pub put : SinkCounts
+  pub ends : Ends which words (untold after) status None None untouched_sink put
 
 -- How a program ends: by what its words ask for, or because they could not be taken.
 pub data IsEnd (which : Which) (status : ℕ) : Type 0 where
