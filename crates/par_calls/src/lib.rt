@@ -29,6 +29,8 @@ mod pools;
 #[cfg(test)]
 mod programs;
 #[cfg(test)]
+mod sentences;
+#[cfg(test)]
 mod single_files;
 #[cfg(test)]
 mod source_runs;
