@@ -10,7 +10,8 @@ use Rattle.par_atoms.specs.Atoms.{members}
 abbrev pub MembersAreThoseHad : Type 0
 MembersAreThoseHad =
     (set : ℕ)
-    → IsAscending (members set) × ((n : ℕ) → Contains (members set) n ↔ ((n < 256) × IsTrue (has set n)))
+    → IsAscending (members set)
+    × ((n : ℕ) → Contains (members set) n ↔ ((n < 256) × IsTrue (has set n)))
 
 -- a join, specialised to open locks, is below q exactly where each of its policies is
 abbrev pub JoinIsBelowWhereEachIs : Type 0

@@ -1,8 +1,7 @@
 // Joins of policies.
 ghost use Rattle.std.specs.Prelude.{◌≡◌, ℕ, ◌<◌, ◌↔◌, IsTrue, length};
-ghost use Rattle.par_policy.specs.Order.{IsJoinBelowAt, policies_of};
 ghost use Rattle.par_bits.specs.Sets.{has, none, adding, union, IsWithin};
-ghost use Rattle.par_atoms.specs.Atoms.{members};
+ghost use Rattle.par_atoms.specs.Atoms.{IsSetBelowAt};
 
 use crate::opened::Opened;
 use par_bits::Bits;
@@ -75,7 +74,7 @@ impl Atoms {
     /// Whether the join of these policies of the table, specialised to the locks, is below `q`.
     pub fn leq_at(&self, policies: &[Policy], locks: &Bits<4>, q: &Policy) -> bool
         requires { (n : ℕ) → IsTrue (has self.now n) → n < length policies.now }
-        ensures { IsTrue result ↔ IsJoinBelowAt (policies_of policies.now (members self.now)) (members locks.now) q.now }
+        ensures { IsTrue result ↔ IsSetBelowAt policies.now self.now locks.now q.now }
     {
         let opened = Opened { locks };
         for number in 0..POLICIES {

@@ -1,6 +1,6 @@
-//! Joins of policies as sets of policy numbers, a bit for each. Contracts speak of who sees what, in
-//! the words of par_policy, and of sets, in those of par_bits. No call takes memory, and this crate
-//! neither makes policies nor looks into their clauses.
+//! Joins of policies as sets of policy numbers, a bit for each. Contracts speak of who sees what,
+//! in the words of par_policy, and of sets, in those of par_bits. No call takes memory, and this
+//! crate neither makes policies nor looks into their clauses.
 #![tactic(auto)]
 
 mod atoms;

@@ -18,7 +18,8 @@ words_of zero n = []
 words_of (suc count) n = (n % 2 ^ 64) ∷ words_of count (n / 2 ^ 64)
 
 -- the words of a number are those that it was made of
-pub words_of-number : (count : ℕ) (words : List ℕ) → length words ≡ count → AreWords words → words_of count (number words) ≡ words
+pub words_of-number : (count : ℕ) (words : List ℕ) → length words ≡ count → AreWords words
+    → words_of count (number words) ≡ words
 unfolding number words_of
 words_of-number zero [] e h = refl
 words_of-number zero (w ∷ words) e h = absurd (omega (arith, e))

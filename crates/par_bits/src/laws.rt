@@ -1,5 +1,6 @@
 // The laws of sets. Nothing runs here: each contract is a law.
-ghost use Rattle.par_bits.specs.Laws.{SameMembersAreEqual, SizeGrows, SizeGrowsByMember, SizeIsAtMostBound};
+ghost use Rattle.par_bits.specs.Laws.{SameMembersAreEqual, SizeIsAtMostBound};
+ghost use Rattle.par_bits.specs.Laws.{SizeGrows, SizeGrowsByMember};
 
 /// Two sets that have the same members are equal.
 pub fn same_members_are_equal()

@@ -17,6 +17,8 @@ mod input_files;
 #[cfg(test)]
 mod instructions;
 #[cfg(test)]
+mod lattice;
+#[cfg(test)]
 mod machine_runs;
 #[cfg(test)]
 mod names;

@@ -4,18 +4,18 @@ use par_policy::{Clause, Lockset, NoMemory, Policy, PolicySet, clause_leq, leq, 
 use std::alloc::Global;
 use std::test::Fail;
 
-const ALICE: u8 = 0;
+pub const ALICE: u8 = 0;
 
-const BOB: u8 = 1;
+pub const BOB: u8 = 1;
 
-const PAID: u16 = 0;
+pub const PAID: u16 = 0;
 
-const GOLD: u16 = 1;
+pub const GOLD: u16 = 1;
 
 // An actor, and the locks that it needs.
-type Part = (u8, &'static [u16]);
+pub type Part = (u8, &'static [u16]);
 
-fn lock_set(alloc: Global, locks: &[u16]) -> Result<Lockset, NoMemory> {
+pub fn lock_set(alloc: Global, locks: &[u16]) -> Result<Lockset, NoMemory> {
     let mut set = Lockset::new(alloc);
     for lock in locks {
         set.insert(*lock)?;
@@ -30,7 +30,7 @@ fn clause(alloc: Global, part: &Part) -> Result<Clause, NoMemory> {
     })
 }
 
-fn policy(alloc: Global, parts: &[Part]) -> Result<Policy, NoMemory> {
+pub fn policy(alloc: Global, parts: &[Part]) -> Result<Policy, NoMemory> {
     let mut clauses = Vec::new(alloc);
     for part in parts {
         clauses.push(clause(alloc, part)?)?;
@@ -65,7 +65,7 @@ fn is_within(alloc: Global, one: &[u16], other: &[u16]) -> Result<bool, NoMemory
 }
 
 #[test]
-fn lock_sets(rt: HostRuntime) -> Result<(), Fail> {
+pub fn lock_sets(rt: HostRuntime) -> Result<(), Fail> {
     for (name, one, other, within) in LOCK_SETS {
         expect(is_within(rt.alloc(), one, other)? == *within, name)?;
     }
@@ -177,7 +177,7 @@ fn is_part(alloc: Global, clause: &Clause, part: &Part) -> Result<bool, NoMemory
 }
 
 // Whether the clauses are exactly these, in this order.
-fn lists(alloc: Global, clauses: &[Clause], want: &[Part]) -> Result<bool, NoMemory> {
+pub fn lists(alloc: Global, clauses: &[Clause], want: &[Part]) -> Result<bool, NoMemory> {
     for (clause, part) in clauses.iter().zip(want) {
         if !is_part(alloc, clause, part)? {
             return Ok(false);
@@ -230,7 +230,7 @@ fn policy_sets(rt: HostRuntime) -> Result<(), Fail> {
     Ok(())
 }
 
-fn paid_and_gold(alloc: Global) -> Result<Vec<Policy>, NoMemory> {
+pub fn paid_and_gold(alloc: Global) -> Result<Vec<Policy>, NoMemory> {
     let mut table = Vec::new(alloc);
     table.push(policy(alloc, &[(ALICE, &[PAID])])?)?;
     table.push(policy(alloc, &[(ALICE, &[GOLD])])?)?;

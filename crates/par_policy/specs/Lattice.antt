@@ -6,12 +6,14 @@ use Rattle.par_policy.specs.Sees.{allows, sees, sees_at}
 -- the join is seen by exactly those that see both
 abbrev pub IsJoin : List Clause → List Clause → List Clause → Type 0
 IsJoin join p q =
-    (actor : ℕ) (locks : List ℕ) → sees join actor locks ≡ (sees p actor locks && sees q actor locks)
+    (actor : ℕ) (locks : List ℕ)
+    → sees join actor locks ≡ (sees p actor locks && sees q actor locks)
 
 -- the meet is seen by exactly those that see at least one
 abbrev pub IsMeet : List Clause → List Clause → List Clause → Type 0
 IsMeet meet p q =
-    (actor : ℕ) (locks : List ℕ) → sees meet actor locks ≡ (sees p actor locks || sees q actor locks)
+    (actor : ℕ) (locks : List ℕ)
+    → sees meet actor locks ≡ (sees p actor locks || sees q actor locks)
 
 -- specialised to open locks, a policy is seen by exactly those that see it with these locks too
 abbrev pub IsSpecialised : List Clause → List Clause → List ℕ → Type 0
@@ -34,4 +36,5 @@ AllowsWith special c opened =
 abbrev pub GainsJoined : List Clause → List Clause → Clause → List Clause → Type 0
 GainsJoined old new clause others =
     (actor : ℕ) (locks : List ℕ)
-    → sees new actor locks ≡ (sees old actor locks || (allows actor locks clause && sees others actor locks))
+    → sees new actor locks ≡
+    (sees old actor locks || (allows actor locks clause && sees others actor locks))

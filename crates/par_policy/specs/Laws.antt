@@ -19,13 +19,15 @@ OrderIsAntisymmetric = (p q : List Clause) → IsNormal p → IsNormal q → IsB
 abbrev pub JoinIsLeastUpperBound : Type 0
 JoinIsLeastUpperBound =
     (join p q : List Clause) → IsJoin join p q
-    → IsBelow p join × IsBelow q join × ((r : List Clause) → IsBelow p r → IsBelow q r → IsBelow join r)
+    → IsBelow p join × IsBelow q join
+    × ((r : List Clause) → IsBelow p r → IsBelow q r → IsBelow join r)
 
 -- the meet is below both, and above all that is below both
 abbrev pub MeetIsGreatestLowerBound : Type 0
 MeetIsGreatestLowerBound =
     (meet p q : List Clause) → IsMeet meet p q
-    → IsBelow meet p × IsBelow meet q × ((r : List Clause) → IsBelow r p → IsBelow r q → IsBelow r meet)
+    → IsBelow meet p × IsBelow meet q
+    × ((r : List Clause) → IsBelow r p → IsBelow r q → IsBelow r meet)
 
 -- open locks let more observers see
 abbrev pub OpenLocksLower : Type 0
