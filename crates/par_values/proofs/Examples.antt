@@ -6,8 +6,9 @@ use Rattle.par_values.specs.declared.value.MVal.{MVal}
 use Rattle.par_values.specs.declared.value.MVal.TheVariants.{Int, Null, Ref}
 use Rattle.par_values.specs.declared.kind.Kind.{Kind}
 use Rattle.par_values.specs.declared.kind.Kind.TheVariants.{Number, Object, AnyObject}
-use Rattle.par_values.specs.declared.run.Event.TheVariants.{Out, Set}
+use Rattle.par_values.specs.declared.run.Event.TheVariants.{Out, Set, Put, Born}
 use Rattle.par_values.specs.declared.run.Val.TheVariants as shown
+use Rattle.par_values.specs.declared.link.ClassLink.{ClassLink}
 use Rattle.par_values.specs.declared.link.FieldLink.{FieldLink}
 use Rattle.par_values.specs.declared.link.MethodLink.{MethodLink}
 use Rattle.par_values.specs.declared.link.Target.{Target}
@@ -15,10 +16,10 @@ use Rattle.par_values.specs.declared.link.Target.TheVariants.{Input, Output, Cod
 use Rattle.par_values.specs.declared.link.Link.TheVariants as link
 use Rattle.par_instr.specs.declared.instr.Instr.TheVariants.{AloadShort, IloadShort, Ldc, LdcW, Getstatic, Putstatic, Invokespecial, Invokestatic}
 use Rattle.par_values.specs.Areas.{Name, Areas, next, first_locals, first_value, shown_value}
-use Rattle.par_values.specs.Arithmetic.{Plus}
-use Rattle.par_values.specs.Operations.{Operation, Push, Load, Store, Combine, GetStatic, PutStatic, InvokeStatic, InvokeSpecial, Leave, Misnamed, operation}
+use Rattle.par_values.specs.Arithmetic.{Plus, Minus, Quotient, Remainder, ShiftLeft, ShiftRight, ShiftRightUnsigned, Xor, combined}
+use Rattle.par_values.specs.Operations.{Operation, Push, Load, Store, Combine, Increase, Jump, JumpIf, JumpIfBoth, JumpIfSame, JumpIfNull, GetStatic, PutStatic, GetField, PutField, InvokeStatic, InvokeSpecial, Create, Throw, Leave, LeaveWith, Misnamed, operation}
 use Rattle.par_values.specs.Reasons.{Spot, reason}
-use Rattle.par_values.specs.Effects.{Effect, Goes, Happens, Calls, Throws, effect}
+use Rattle.par_values.specs.Effects.{Effect, Goes, Happens, Jumps, Calls, Throws, effect}
 
 -- two classes, and a frame of a method without a result that has room for two operands
 abbrev classes : List Name
@@ -354,3 +355,164 @@ write_is_shown : effect classes (PutStatic (field true (Object (codes "B")))) (a
     ≡ Happens (Set (codes "A") (codes "f") (shown.Ref (codes "B") 3)) (record (areas [] []) { statics = Null ∷ Ref 1 3 ∷ [] })
 unfolding effect
 write_is_shown = refl
+
+-- ---- arithmetic
+
+quotient_is_truncated : combined Quotient (negsuc 6) (pos 2) ≡ negsuc 2
+unfolding int_wrap
+quotient_is_truncated = refl
+
+remainder_has_the_sign_of_the_dividend : combined Remainder (negsuc 6) (pos 2) ≡ negsuc 0
+remainder_has_the_sign_of_the_dividend = refl
+
+least_quotient_wraps : combined Quotient (negsuc 2147483647) (negsuc 0) ≡ negsuc 2147483647
+unfolding int_wrap
+least_quotient_wraps = refl
+
+count_has_five_bits : combined ShiftLeft (pos 1) (pos 33) ≡ pos 2
+count_has_five_bits = refl
+
+shift_keeps_the_sign : combined ShiftRight (negsuc 7) (pos 1) ≡ negsuc 3
+shift_keeps_the_sign = refl
+
+shift_fills_with_zeros : combined ShiftRightUnsigned (negsuc 0) (pos 28) ≡ pos 15
+shift_fills_with_zeros = refl
+
+bits_differ : combined Xor (negsuc 0) (pos 5) ≡ negsuc 5
+bits_differ = refl
+
+zero_divisor_throws : effect classes (Combine Remainder) (areas [] (Int (pos 0) ∷ Int (pos 1) ∷ [])) ≡ Throws (codes "ArithmeticException")
+unfolding effect
+zero_divisor_throws = refl
+
+difference_is_in_order : effect classes (Combine Minus) (areas [] (Int (pos 1) ∷ Int (pos 5) ∷ [])) ≡ Goes (areas [] (Int (pos 4) ∷ []))
+unfolding effect int_wrap
+difference_is_in_order = refl
+
+local_wraps : effect classes (Increase 0 (pos 1)) (areas (Some (Int (pos 2147483647)) ∷ []) []) ≡ Goes (areas (Some (Int (negsuc 2147483647)) ∷ []) [])
+unfolding effect int_wrap
+local_wraps = refl
+
+-- ---- where it goes on
+
+less_is_taken : effect classes (JumpIf 2 (pos 9)) (areas [] (Int (negsuc 0) ∷ Null ∷ [])) ≡ Jumps (pos 9) (areas [] (Null ∷ []))
+unfolding effect
+less_is_taken = refl
+
+equal_is_not_taken : effect classes (JumpIf 0 (pos 9)) (areas [] (Int (pos 1) ∷ [])) ≡ Goes (areas [] [])
+unfolding effect
+equal_is_not_taken = refl
+
+greater_is_taken : effect classes (JumpIfBoth 4 (negsuc 5)) (areas [] (Int (pos 3) ∷ Int (pos 5) ∷ [])) ≡ Jumps (negsuc 5) (areas [] [])
+unfolding effect
+greater_is_taken = refl
+
+same_object_is_taken : effect classes (JumpIfSame true (pos 4)) (areas [] (Ref 0 1 ∷ Ref 0 1 ∷ [])) ≡ Jumps (pos 4) (areas [] [])
+unfolding effect
+same_object_is_taken = refl
+
+object_of_another_class_is_another : effect classes (JumpIfSame true (pos 4)) (areas [] (Ref 1 1 ∷ Ref 0 1 ∷ [])) ≡ Goes (areas [] [])
+unfolding effect
+object_of_another_class_is_another = refl
+
+object_is_not_null : effect classes (JumpIfNull false (pos 4)) (areas [] (Ref 0 0 ∷ [])) ≡ Jumps (pos 4) (areas [] [])
+unfolding effect
+object_is_not_null = refl
+
+-- ---- objects
+
+abbrev class : Bool → Bool → ClassLink
+class is_exception is_made =
+    record { name = codes "B"; number = 1; fields = Number ∷ Object (codes "A") ∷ []; is_exception = is_exception; is_made = is_made }
+
+abbrev with_objects : List MVal → List (List MVal) → Areas
+with_objects operands objects = record (areas [] operands) { objects = [] ∷ objects ∷ [] }
+
+object_is_born : effect classes (Create (class false true)) (with_objects [] ((Int (pos 8) ∷ Null ∷ []) ∷ []))
+    ≡ Happens (Born (codes "B") 1) (with_objects (Ref 1 1 ∷ []) ((Int (pos 8) ∷ Null ∷ []) ∷ (Int (pos 0) ∷ Null ∷ []) ∷ []))
+unfolding effect
+object_is_born = refl
+
+exception_is_not_shown : effect classes (Create (class true true)) (with_objects [] []) ≡ Goes (with_objects (Ref 1 0 ∷ []) ((Int (pos 0) ∷ Null ∷ []) ∷ []))
+unfolding effect
+exception_is_not_shown = refl
+
+field_of_an_object_is_pushed : effect classes (GetField (field false Number)) (with_objects (Ref 1 0 ∷ []) ((Null ∷ Int (pos 8) ∷ []) ∷ []))
+    ≡ Goes (with_objects (Int (pos 8) ∷ []) ((Null ∷ Int (pos 8) ∷ []) ∷ []))
+unfolding effect
+field_of_an_object_is_pushed = refl
+
+field_of_an_object_is_set : effect classes (PutField (field false Number)) (with_objects (Int (pos 9) ∷ Ref 1 0 ∷ []) ((Null ∷ Int (pos 8) ∷ []) ∷ []))
+    ≡ Happens (Put (codes "A") 0 (codes "f") (shown.Int (pos 9))) (with_objects [] ((Null ∷ Int (pos 9) ∷ []) ∷ []))
+unfolding effect
+field_of_an_object_is_set = refl
+
+null_has_no_field : effect classes (GetField (field false Number)) (areas [] (Null ∷ [])) ≡ Throws (codes "NullPointerException")
+unfolding effect
+null_has_no_field = refl
+
+null_is_not_thrown : effect classes Throw (areas [] (Null ∷ [])) ≡ Throws (codes "NullPointerException")
+unfolding effect
+null_is_not_thrown = refl
+
+-- ---- further reasons
+
+abbrev gives_object : Spot
+gives_object = record plain { gives_nothing = false; result = Object (codes "A") }
+
+result_of_another_class : reason classes gives_object (LeaveWith AnyObject) (areas [] (Ref 1 0 ∷ [])) ≡ Some 2
+unfolding reason effect
+result_of_another_class = refl
+
+result_of_its_class : reason classes gives_object (LeaveWith AnyObject) (areas [] (Ref 0 0 ∷ [])) ≡ None
+unfolding reason effect
+result_of_its_class = refl
+
+number_for_an_object : reason classes gives_object (LeaveWith Number) (areas [] (Int (pos 1) ∷ [])) ≡ Some 8
+unfolding reason effect
+number_for_an_object = refl
+
+result_of_nothing : reason classes plain (LeaveWith Number) (areas [] (Int (pos 1) ∷ [])) ≡ Some 8
+unfolding reason effect
+result_of_nothing = refl
+
+no_exception : why Throw [] (Ref 0 0 ∷ []) ≡ Some 9
+unfolding reason effect
+no_exception = refl
+
+an_exception : reason classes (record plain { exceptions = 0 ∷ [] }) Throw (areas [] (Ref 0 0 ∷ [])) ≡ None
+unfolding reason effect
+an_exception = refl
+
+none_is_made : why (Create (class false false)) [] [] ≡ Some 9
+unfolding reason effect
+none_is_made = refl
+
+static_field_of_an_object : why (GetField (field true Number)) [] (Null ∷ []) ≡ Some 7
+unfolding reason effect
+static_field_of_an_object = refl
+
+unset_is_not_increased : why (Increase 0 (pos 1)) (None ∷ []) [] ≡ Some 4
+unfolding reason effect
+unset_is_not_increased = refl
+
+jump_to_no_instruction : reason classes (record plain { stands = false }) (Jump (pos 3)) (areas [] []) ≡ Some 5
+unfolding reason effect
+jump_to_no_instruction = refl
+
+-- what throws does not go on behind itself
+null_at_the_end : reason classes (record plain { stands = false }) (InvokeSpecial (initializer false 1)) (areas [] (Null ∷ [])) ≡ None
+unfolding reason effect
+null_at_the_end = refl
+
+zero_divisor_at_the_end : reason classes (record plain { stands = false }) (Combine Quotient) (areas [] (Int (pos 0) ∷ Int (pos 1) ∷ [])) ≡ None
+unfolding reason effect
+zero_divisor_at_the_end = refl
+
+handler_without_room : reason classes (record plain { is_roomless = true }) (Combine Quotient) (areas [] (Int (pos 0) ∷ Int (pos 1) ∷ [])) ≡ Some 3
+unfolding reason effect
+handler_without_room = refl
+
+handler_without_instruction : reason classes (record plain { is_lost = true }) Throw (areas [] (Null ∷ [])) ≡ Some 5
+unfolding reason effect
+handler_without_instruction = refl
