@@ -30,7 +30,8 @@ lock_or_nothing (Some number) = Lock number
 
 -- `paragon/Locks` has the fields `L0` to `L255` of descriptor `Z`
 abbrev pub lock_field : Member → Named
-lock_field m = if bytes_eq m.descriptor (codes "Z") then lock_or_nothing (lock_number m.name) else Nothing
+lock_field m =
+    if bytes_eq m.descriptor (codes "Z") then lock_or_nothing (lock_number m.name) else Nothing
 
 -- and no other class has a field
 unfoldable pub builtin_field : Builtin → Member → Named

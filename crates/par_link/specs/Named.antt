@@ -60,12 +60,14 @@ place_in members files class m =
     option_and_then (λ file. position (is_same m) (members file)) (slice_get files class)
 
 unfoldable pub field_of : List ClassFile → Member → Named → Named
-field_of files m (named.Class class) = declared named.Field class (place_in fields_of files class m)
+field_of files m (named.Class class) =
+    declared named.Field class (place_in fields_of files class m)
 field_of files m (named.Builtin b) = builtin_field b m
 field_of files m _ = named.Nothing
 
 unfoldable pub method_of : List ClassFile → Member → Named → Named
-method_of files m (named.Class class) = declared named.Method class (place_in methods_of files class m)
+method_of files m (named.Class class) =
+    declared named.Method class (place_in methods_of files class m)
 method_of files m (named.Builtin b) = builtin_method b m
 method_of files m _ = named.Nothing
 

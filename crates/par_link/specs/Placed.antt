@@ -17,7 +17,8 @@ abbrev pub key_named : Key → Member
 key_named k = record { class = []; name = k.name.now; descriptor = k.descriptor.now }
 
 abbrev pub same_key : Key → Key → Bool
-same_key k other = bytes_eq k.name.now other.name.now && bytes_eq k.descriptor.now other.descriptor.now
+same_key k other =
+    bytes_eq k.name.now other.name.now && bytes_eq k.descriptor.now other.descriptor.now
 
 abbrev pub same_text : Bor Text → Bor Text → Bool
 same_text name other = bytes_eq name.now other.now

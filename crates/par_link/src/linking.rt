@@ -43,7 +43,8 @@ fn linked_file(
     members: &Members,
 ) -> Result<List<Named>, LinkError>
     requires { class < 2 ^ 16 }
-    ensures names { IfOk result (λ names. names ≡ names_of tables.now.files.now members.now.file.now) }
+    ensures names { IfOk result
+        (λ names. names ≡ names_of tables.now.files.now members.now.file.now) }
     ensures unbroken { OnOk result (file_fault tables.now.files.now members.now.file.now ≡ None) }
     ensures broken { IfErr result
         (Tells (in_class class (file_fault tables.now.files.now members.now.file.now))) }
