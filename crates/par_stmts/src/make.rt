@@ -19,7 +19,7 @@ use par_tree::stmt::{Block, CatchTree, LocalDecl, Stmt, StmtKind};
 use par_tree::types::TypeTree;
 use std::alloc::Global;
 
-/// Statements in braces, of which the first is given.
+/// Statements in braces, at the first of these.
 #[tactic(auto, using(par_tree::proofs::Shown::doings))]
 pub fn block(brace: &Token, stmts: List<Stmt>) -> Block
     ensures { braces result ≡ plain.In (all_do stmts) brace.now.from }
@@ -30,6 +30,7 @@ pub fn block(brace: &Token, stmts: List<Stmt>) -> Block
     }
 }
 
+/// A block that is a statement, at its brace.
 #[tactic(auto, using(par_tree::proofs::Shown::doings))]
 pub fn block_stmt(body: Block) -> Stmt
     ensures { does result ≡ built.as_stmt (braces body) }
@@ -41,6 +42,7 @@ pub fn block_stmt(body: Block) -> Stmt
     }
 }
 
+/// What stands behind `else`, where a tree can hold it.
 fn boxed(alloc: Global, other: Option<Stmt>) -> Result<Option<Box<Stmt>>, ParseError>
     ensures ok { IfOk result (λ o. otherwise o ≡ other_of other) }
     ensures err { IfErr result (λ error. error ≡ ParseError.Memory) }
@@ -54,6 +56,7 @@ fn boxed(alloc: Global, other: Option<Stmt>) -> Result<Option<Box<Stmt>>, ParseE
     }
 }
 
+/// An `if`, at its word, with what stands behind `else`.
 #[tactic(auto, using(par_tree::proofs::Shown::doings))]
 pub fn if_stmt(
     alloc: Global,
@@ -72,6 +75,7 @@ pub fn if_stmt(
     })
 }
 
+/// A `while`, at its word.
 #[tactic(auto, using(par_tree::proofs::Shown::doings))]
 pub fn while_stmt(word: &Token, test: Expr, body: Block) -> Stmt
     ensures { does result ≡ plain.While (shown test) (braces body) word.now.from }
@@ -82,6 +86,7 @@ pub fn while_stmt(word: &Token, test: Expr, body: Block) -> Stmt
     }
 }
 
+/// A `when`, at its word, with the block behind `else`.
 #[tactic(auto, using(par_tree::proofs::Shown::doings))]
 pub fn when_stmt(word: &Token, lock: LockTree, body: Block, other: Option<Block>) -> Stmt
     ensures { does result ≡ plain.When lock (braces body) (may_braces other) word.now.from }
@@ -92,6 +97,7 @@ pub fn when_stmt(word: &Token, lock: LockTree, body: Block, other: Option<Block>
     }
 }
 
+/// A `try`, at its word, with its catches.
 #[tactic(auto, using(par_tree::proofs::Shown::doings))]
 pub fn try_stmt(word: &Token, body: Block, catches: List<CatchTree>) -> Stmt
     ensures { does result ≡ plain.Try (braces body) (all_catch catches) word.now.from }
@@ -121,6 +127,7 @@ pub fn catch(
     Ok(CatchTree { class, name, body })
 }
 
+/// A `return`, at its word, of a value or of none.
 #[tactic(auto, using(par_tree::proofs::Shown::doings))]
 pub fn return_stmt(word: &Token, value: Option<Expr>) -> Stmt
     ensures { does result ≡ plain.Return (may_shown value) word.now.from }
@@ -131,6 +138,7 @@ pub fn return_stmt(word: &Token, value: Option<Expr>) -> Stmt
     }
 }
 
+/// A `break`, at its word.
 #[tactic(auto, using(par_tree::proofs::Shown::doings))]
 pub fn break_stmt(word: &Token) -> Stmt
     ensures { does result ≡ plain.Break word.now.from }
@@ -141,6 +149,7 @@ pub fn break_stmt(word: &Token) -> Stmt
     }
 }
 
+/// A `continue`, at its word.
 #[tactic(auto, using(par_tree::proofs::Shown::doings))]
 pub fn continue_stmt(word: &Token) -> Stmt
     ensures { does result ≡ plain.Continue word.now.from }
@@ -151,6 +160,7 @@ pub fn continue_stmt(word: &Token) -> Stmt
     }
 }
 
+/// A `throw` of a new object of a class, at its word.
 #[tactic(auto, using(par_tree::proofs::Shown::doings))]
 pub fn throw_stmt(alloc: Global, word: &Token, class: &Token) -> Result<Stmt, ParseError>
     requires { IsOf sort.Name class.now }
@@ -163,6 +173,7 @@ pub fn throw_stmt(alloc: Global, word: &Token, class: &Token) -> Result<Stmt, Pa
     })
 }
 
+/// The opening of a lock, at its word.
 #[tactic(auto, using(par_tree::proofs::Shown::doings))]
 pub fn open_stmt(word: &Token, lock: LockTree) -> Stmt
     ensures { does result ≡ plain.Open lock word.now.from }
@@ -173,6 +184,7 @@ pub fn open_stmt(word: &Token, lock: LockTree) -> Stmt
     }
 }
 
+/// The closing of a lock, at its word.
 #[tactic(auto, using(par_tree::proofs::Shown::doings))]
 pub fn close_stmt(word: &Token, lock: LockTree) -> Stmt
     ensures { does result ≡ plain.Close lock word.now.from }
@@ -227,6 +239,7 @@ pub fn class_local(
     local(alloc, name, TypeTree::Class(class), None, false, value)
 }
 
+/// An assignment, at the place of its target.
 #[tactic(auto, using(par_tree::proofs::Shown::doings, par_tree::proofs::Shown::shown_place))]
 pub fn assignment(target: Expr, value: Expr) -> Stmt
     ensures { does result ≡ plain.Assign (shown target) (shown value) (plain.place (shown target)) }
@@ -238,6 +251,7 @@ pub fn assignment(target: Expr, value: Expr) -> Stmt
     }
 }
 
+/// A call that is a statement, at the place of the call.
 #[tactic(auto, using(par_tree::proofs::Shown::doings, par_tree::proofs::Shown::shown_place))]
 pub fn call_stmt(call: Expr) -> Stmt
     ensures { does result ≡ plain.Do (shown call) (plain.place (shown call)) }
