@@ -101,16 +101,29 @@ fn keeps<F: Folder>(alloc: Global, folder: &mut F, name: &str) -> bool {
         && fails(alloc, folder, name, 8, ReadFail::TooLong)
 }
 
+// One line of 200,000 bytes.
+fn long_line(alloc: Global) -> Result<Vec<u8>, NoMemory> {
+    let mut line = vec![in alloc; b'x'; 199_999]?;
+    line.push(b'\n')?;
+    Ok(line)
+}
+
 #[test]
-fn the_system_keeps_a_file_and_takes_a_line(rt: HostRuntime) -> Result<(), Fail> {
+fn the_system_keeps_a_file_and_takes_lines(rt: HostRuntime) -> Result<(), Fail> {
     let alloc = rt.alloc();
     let place = env::temp_dir(&rt)?;
     let name = format!(in alloc; "{}/par_io_{}", place.as_str(), process::id(rt.process()))?;
     let name = name.as_str();
-    expect(
-        keeps(alloc, &mut HostFolder::new(&rt), name),
-        "a file is kept",
-    )?;
+    let mut folder = HostFolder::new(&rt);
+    expect(keeps(alloc, &mut folder, name), "a file is kept")?;
     fs::remove_file(&rt, name)?;
-    expect(HostSink::new(&rt).put(b"a line\n").is_ok(), "a line")
+    let place = place.as_str();
+    expect(
+        fails(alloc, &mut folder, place, 9, ReadFail::Failed),
+        "a folder in place of a file",
+    )?;
+    let mut out = HostSink::new(&rt);
+    expect(out.put(b"a line\n").is_ok(), "a line")?;
+    let line = long_line(alloc)?;
+    expect(out.put(line.as_slice()).is_ok(), "a line of 200,000 bytes")
 }
