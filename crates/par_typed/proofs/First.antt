@@ -4,11 +4,13 @@ use Rattle.std.proofs.Common.{refl, sym, subst, arith, ⊎_elim}
 use Rattle.std.specs.Prelude.{fold, cond}
 use Rattle.std.proofs.lemmas.List.Sums.{fold-append}
 use Rattle.std.proofs.lemmas.List.Elements.{All-nil, All-cons, All-head, All-tail, All-contains}
-use Rattle.std.proofs.lemmas.List.Elements.{Contains-push, Contains-append_left, Contains-append_right, Contains-append_cases}
+use Rattle.std.proofs.lemmas.List.Elements.{Contains-push, Contains-append_left}
+use Rattle.std.proofs.lemmas.List.Elements.{Contains-append_right, Contains-append_cases}
 use Rattle.std.proofs.lemmas.Bool.Decides.{nat_tests}
 use Rattle.par_policy.proofs.Ordered.{Contains-nil}
 use Rattle.par_typed.specs.declared.refusal.Refusal.{Refusal}
-use Rattle.par_typed.specs.First.{comes_before, earlier, first_of, in_passes, when, IsAnswer, IsFirst, IsLevel}
+use Rattle.par_typed.specs.First.{comes_before, earlier, first_of, in_passes, when, IsAnswer}
+use Rattle.par_typed.specs.First.{IsFirst, IsLevel}
 
 -- nothing more is broken
 pub first_of_none : (o : Option Refusal) → first_of o [] ≡ o
@@ -50,11 +52,13 @@ unfolding in_passes
 stops f fs gs = refl
 
 -- what is before one that r is not behind, r is behind
-skipped : (f g r : Refusal) → comes_before g f ≡ true → comes_before g r ≡ false → comes_before f r ≡ false
+skipped : (f g r : Refusal)
+    → comes_before g f ≡ true → comes_before g r ≡ false → comes_before f r ≡ false
 skipped f g r h k = grind (arith, nat_tests)
 
 -- not to come before goes on from one to the next
-behind : (f g r : Refusal) → comes_before g f ≡ false → comes_before f r ≡ false → comes_before g r ≡ false
+behind : (f g r : Refusal)
+    → comes_before g f ≡ false → comes_before f r ≡ false → comes_before g r ≡ false
 behind f g r h k = grind (arith, nat_tests)
 
 not_itself : (f : Refusal) → comes_before f f ≡ false
@@ -89,12 +93,13 @@ second_place f g gs o k h =
     let right = Contains-append_right (f ∷ g ∷ []) gs k.kept in
     let fits = All-head (NotBefore k.kept) f gs k.first.first in
     let rest = All-tail (NotBefore k.kept) f gs k.first.first in
+    let behind_g = All-cons (NotBefore k.kept) g gs h rest in
     record {
       kept = k.kept;
       is = k.is;
       first = record {
         among = ⊎_elim left right (Contains-append_cases (f ∷ []) gs k.kept k.first.among);
-        first = All-cons (NotBefore k.kept) f (g ∷ gs) fits (All-cons (NotBefore k.kept) g gs h rest);
+        first = All-cons (NotBefore k.kept) f (g ∷ gs) fits behind_g;
       };
     }
 
@@ -102,8 +107,12 @@ second_place f g gs o k h =
 one_more : (f g : Refusal) (gs : List Refusal) (b : Bool) → comes_before g f ≡ b
     → Keeps g gs (fold earlier (Some g) gs) → Keeps f gs (fold earlier (Some f) gs)
     → Keeps f (g ∷ gs) (fold earlier (cond b (Some g) (Some f)) gs)
-one_more f g gs true h k l = in_front f g gs _ k (skipped f g k.kept h (All-head (NotBefore k.kept) g gs k.first.first))
-one_more f g gs false h k l = second_place f g gs _ l (behind f g l.kept h (All-head (NotBefore l.kept) f gs l.first.first))
+one_more f g gs true h k l =
+    let fits = All-head (NotBefore k.kept) g gs k.first.first in
+    in_front f g gs _ k (skipped f g k.kept h fits)
+one_more f g gs false h k l =
+    let fits = All-head (NotBefore l.kept) f gs l.first.first in
+    second_place f g gs _ l (behind f g l.kept h fits)
 
 keeps : (f : Refusal) (fs : List Refusal) → Keeps f fs (fold earlier (Some f) fs)
 keeps f [] = record {
@@ -132,7 +141,9 @@ level f g h k = record {
 -- two first ones of the same broken rules tell the same place, rule and limit
 pub one_first : (fs : List Refusal) (f g : Refusal) → IsFirst fs f → IsFirst fs g → IsLevel f g
 one_first fs f g a b =
-    level f g (All-contains (NotBefore g) fs f b.first a.among) (All-contains (NotBefore f) fs g a.first b.among)
+    let f_not_before = All-contains (NotBefore g) fs f b.first a.among in
+    let g_not_before = All-contains (NotBefore f) fs g a.first b.among in
+    level f g f_not_before g_not_before
 
 -- where the first pass finds something, its first rule is the first of both passes
 pub first_stops : (fs gs : List Refusal) (f : Refusal) → IsFirst fs f → IsFirst (in_passes fs gs) f
@@ -141,6 +152,7 @@ first_stops [] gs f h = absurd (Contains-nil f h.among)
 first_stops (g ∷ fs) gs f h = h
 
 -- where it finds nothing, the answer of the second is that of both
-pub answer_passes_on : (fs gs : List Refusal) (o : Option Refusal) → fs ≡ [] → IsAnswer gs o → IsAnswer (in_passes fs gs) o
+pub answer_passes_on : (fs gs : List Refusal) (o : Option Refusal)
+    → fs ≡ [] → IsAnswer gs o → IsAnswer (in_passes fs gs) o
 unfolding in_passes
 answer_passes_on fs gs o e h = subst (λ xs. IsAnswer (in_passes xs gs) o) (sym e) h

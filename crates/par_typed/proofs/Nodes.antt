@@ -1,6 +1,7 @@
 -- How the counts grow with a list.
 use Rattle.std.proofs.Common.{◌≡◌, ℕ, ◌+◌, arith}
-use Rattle.par_typed.specs.Plain.{TExp, TExps, NoExps, More, TSta, TStas, End, Then, TCatches, NoCatch, Catch}
+use Rattle.par_typed.specs.Plain.{TExp, TExps, NoExps, More, TSta, TStas, End, Then, TCatches}
+use Rattle.par_typed.specs.Plain.{NoCatch, Catch}
 use Rattle.par_typed.specs.Plain.{with_exp, with_sta, with_catch}
 use Rattle.par_typed.specs.Nodes.{nodes, args_nodes, stmt_nodes, all_nodes, catch_nodes}
 
@@ -11,7 +12,8 @@ args_nodes_with NoExps e = omega arith
 args_nodes_with (More x es) e = let more = args_nodes_with es e in omega arith
 
 -- one more statement behind the last
-pub all_nodes_with : (ss : TStas) (s : TSta) → all_nodes (with_sta ss s) ≡ all_nodes ss + stmt_nodes s
+pub all_nodes_with : (ss : TStas) (s : TSta)
+    → all_nodes (with_sta ss s) ≡ all_nodes ss + stmt_nodes s
 unfolding all_nodes with_sta
 all_nodes_with End s = omega arith
 all_nodes_with (Then x ss) s = let more = all_nodes_with ss s in omega arith

@@ -1,13 +1,16 @@
 -- What each form of a typed tree is shown as.
-use Rattle.std.proofs.Common.{◌≡◌, ℕ, ℤ, Bool, List, [], ◌∷◌, ◌++◌, Option, Some, None, refl, ap, ◌∙◌}
+use Rattle.std.proofs.Common.{◌≡◌, ℕ, ℤ, Bool, List, [], ◌∷◌, ◌++◌, Option, Some, None, refl, ap}
+use Rattle.std.proofs.Common.{◌∙◌}
 use Rattle.std.specs.declared.boxed.Box.{Box}
 use Rattle.std.specs.declared.alloc.Global.{Global}
 use Rattle.par_lexer.specs.declared.operator.BinOp.{BinOp}
 use Rattle.par_typed.specs.declared.expr.TExpr.{TExpr}
-use Rattle.par_typed.specs.declared.expr.TExprKind.{TExprKind, Field', Output', Call', Neg', Not', Binary'}
+use Rattle.par_typed.specs.declared.expr.TExprKind.{TExprKind, Field', Output', Call', Neg', Not'}
+use Rattle.par_typed.specs.declared.expr.TExprKind.{Binary'}
 use Rattle.par_typed.specs.declared.expr.TExprKind.{back-TExprKind-Call-2}
 use Rattle.par_typed.specs.declared.expr.TExprKind.{Row_of-TExpr, end_of-TExpr, more_of-TExpr}
-use Rattle.par_typed.specs.declared.expr.TExprKind.{items-the_row-TExpr, items_hidden-the_row-TExpr-0}
+use Rattle.par_typed.specs.declared.expr.TExprKind.{items-the_row-TExpr}
+use Rattle.par_typed.specs.declared.expr.TExprKind.{items_hidden-the_row-TExpr-0}
 use Rattle.par_typed.specs.declared.expr.TExprKind.TheBlock.{hidden-the_row-TExpr-0}
 use Rattle.par_typed.specs.declared.expr.TExprKind.TheVariants as expr
 use Rattle.par_typed.specs.declared.stmt.TStmt.{TStmt}
@@ -15,14 +18,18 @@ use Rattle.par_typed.specs.declared.stmt.TCatch.{TCatch}
 use Rattle.par_typed.specs.declared.stmt.TStmtKind.{TStmtKind, Block', If', While', Try', When'}
 use Rattle.par_typed.specs.declared.stmt.TStmtKind.{back-TStmtKind-If-2}
 use Rattle.par_typed.specs.declared.stmt.TStmtKind.{Row_of-TStmt, end_of-TStmt, more_of-TStmt}
-use Rattle.par_typed.specs.declared.stmt.TStmtKind.{items-the_row-TStmt, items_hidden-the_row-TStmt-0}
+use Rattle.par_typed.specs.declared.stmt.TStmtKind.{items-the_row-TStmt}
+use Rattle.par_typed.specs.declared.stmt.TStmtKind.{items_hidden-the_row-TStmt-0}
 use Rattle.par_typed.specs.declared.stmt.TStmtKind.{Row_of-TCatch, end_of-TCatch, more_of-TCatch}
-use Rattle.par_typed.specs.declared.stmt.TStmtKind.{items-the_row-TCatch, items_hidden-the_row-TCatch-1}
-use Rattle.par_typed.specs.declared.stmt.TStmtKind.TheBlock.{hidden-the_row-TStmt-0, hidden-the_row-TCatch-1}
+use Rattle.par_typed.specs.declared.stmt.TStmtKind.{items-the_row-TCatch}
+use Rattle.par_typed.specs.declared.stmt.TStmtKind.{items_hidden-the_row-TCatch-1}
+use Rattle.par_typed.specs.declared.stmt.TStmtKind.TheBlock.{hidden-the_row-TStmt-0}
+use Rattle.par_typed.specs.declared.stmt.TStmtKind.TheBlock.{hidden-the_row-TCatch-1}
 use Rattle.par_typed.specs.declared.stmt.TStmtKind.TheVariants as stmt
 use Rattle.par_typed.specs.Plain as plain
 use Rattle.par_typed.specs.Plain.{Mark, with_exp, with_sta, with_catch, mark, place, point}
-use Rattle.par_typed.specs.Shown.{marked, kind_at, held, rows, shown, may_shown, receiver, all_shown}
+use Rattle.par_typed.specs.Shown.{marked, kind_at, held, rows, shown, may_shown, receiver}
+use Rattle.par_typed.specs.Shown.{all_shown}
 use Rattle.par_typed.specs.Shown.{does_at, else_of, stmt_rows, catch_rows}
 use Rattle.par_typed.specs.Shown.{does, otherwise, all_do, all_catch}
 
@@ -30,7 +37,8 @@ use Rattle.par_typed.specs.Shown.{does, otherwise, all_do, all_catch}
 row_items : {n : _} (row : Row_of-TExpr n) → rows row ≡ all_shown (items-the_row-TExpr n row)
 unfolding rows
 row_items end_of-TExpr = refl
-row_items (more_of-TExpr k a x t s row) = ap (λ es. plain.More (kind_at k (marked a x t s)) es) (row_items row)
+row_items (more_of-TExpr k a x t s row) =
+    ap (λ es. plain.More (kind_at k (marked a x t s)) es) (row_items row)
 
 row_is : (es : List TExpr) → rows (hidden-the_row-TExpr-0 es) ≡ all_shown es
 row_is es = row_items (hidden-the_row-TExpr-0 es) ∙ ap all_shown (items_hidden-the_row-TExpr-0 es)
@@ -89,11 +97,13 @@ shown_call c i o es m =
     ap (λ x. plain.Call c i x (rows (hidden-the_row-TExpr-0 es)) m) (held_is o)
     ∙ ap (λ x. plain.Call c i (receiver o) x m) (row_is es)
 
-pub shown_neg : (b : Box TExpr Global) (m : Mark) → kind_at (expr.Neg b) m ≡ plain.Neg (shown b.value) m
+pub shown_neg : (b : Box TExpr Global) (m : Mark)
+    → kind_at (expr.Neg b) m ≡ plain.Neg (shown b.value) m
 unfolding kind_at
 shown_neg b m = refl
 
-pub shown_not : (b : Box TExpr Global) (m : Mark) → kind_at (expr.Not b) m ≡ plain.Not (shown b.value) m
+pub shown_not : (b : Box TExpr Global) (m : Mark)
+    → kind_at (expr.Not b) m ≡ plain.Not (shown b.value) m
 unfolding kind_at
 shown_not b m = refl
 
@@ -120,7 +130,8 @@ shown_mark (Not' p k a x t s) m = refl
 shown_mark (Binary' op p j a x t s q k b y u r) m = refl
 
 -- one more argument behind the last
-pub all_with : (es : List TExpr) (e : TExpr) → all_shown (es ++ e ∷ []) ≡ with_exp (all_shown es) (shown e)
+pub all_with : (es : List TExpr) (e : TExpr)
+    → all_shown (es ++ e ∷ []) ≡ with_exp (all_shown es) (shown e)
 unfolding with_exp
 all_with [] e = refl
 all_with (x ∷ es) e = ap (λ xs. plain.More (shown x) xs) (all_with es e)
@@ -131,26 +142,31 @@ pub ruleset shows = (shown_int, shown_bool, shown_null, shown_this, shown_new, s
 stmt_row_items : {n : _} (row : Row_of-TStmt n) → stmt_rows row ≡ all_do (items-the_row-TStmt n row)
 unfolding stmt_rows
 stmt_row_items end_of-TStmt = refl
-stmt_row_items (more_of-TStmt k a x row) = ap (λ ss. plain.Then (does_at k a x) ss) (stmt_row_items row)
+stmt_row_items (more_of-TStmt k a x row) =
+    ap (λ ss. plain.Then (does_at k a x) ss) (stmt_row_items row)
 
 stmt_row_is : (ss : List TStmt) → stmt_rows (hidden-the_row-TStmt-0 ss) ≡ all_do ss
-stmt_row_is ss = stmt_row_items (hidden-the_row-TStmt-0 ss) ∙ ap all_do (items_hidden-the_row-TStmt-0 ss)
+stmt_row_is ss =
+    stmt_row_items (hidden-the_row-TStmt-0 ss) ∙ ap all_do (items_hidden-the_row-TStmt-0 ss)
 
-catch_row_items : {n : _} (row : Row_of-TCatch n) → catch_rows row ≡ all_catch (items-the_row-TCatch n row)
+catch_row_items : {n : _} (row : Row_of-TCatch n)
+    → catch_rows row ≡ all_catch (items-the_row-TCatch n row)
 unfolding catch_rows
 catch_row_items end_of-TCatch = refl
 catch_row_items (more_of-TCatch class k a x row) =
     ap (λ cs. plain.Catch class (does_at k a x) cs) (catch_row_items row)
 
 catch_row_is : (cs : List TCatch) → catch_rows (hidden-the_row-TCatch-1 cs) ≡ all_catch cs
-catch_row_is cs = catch_row_items (hidden-the_row-TCatch-1 cs) ∙ ap all_catch (items_hidden-the_row-TCatch-1 cs)
+catch_row_is cs =
+    catch_row_items (hidden-the_row-TCatch-1 cs) ∙ ap all_catch (items_hidden-the_row-TCatch-1 cs)
 
 else_is : (o : Option (Box TStmt Global)) → else_of (back-TStmtKind-If-2 o) ≡ otherwise o
 unfolding else_of
 else_is None = refl
 else_is (Some b) = refl
 
-pub does_block : (ss : List TStmt) (at p : ℕ) → does_at (stmt.Block ss) at p ≡ plain.Block (all_do ss) at p
+pub does_block : (ss : List TStmt) (at p : ℕ)
+    → does_at (stmt.Block ss) at p ≡ plain.Block (all_do ss) at p
 unfolding does_at
 does_block ss at p = ap (λ x. plain.Block x at p) (stmt_row_is ss)
 
@@ -255,7 +271,8 @@ does_point (stmt.Eval e) at p = refl
 does_point (When' lock q k a x o) at p = refl
 
 -- one more statement behind the last
-pub all_do_with : (ss : List TStmt) (s : TStmt) → all_do (ss ++ s ∷ []) ≡ with_sta (all_do ss) (does s)
+pub all_do_with : (ss : List TStmt) (s : TStmt)
+    → all_do (ss ++ s ∷ []) ≡ with_sta (all_do ss) (does s)
 unfolding with_sta
 all_do_with [] s = refl
 all_do_with (x ∷ ss) s = ap (λ xs. plain.Then (does x) xs) (all_do_with ss s)

@@ -9,7 +9,8 @@ use Rattle.par_typed.specs.declared.refusal.TheConstants.{LIMIT_RULE}
 abbrev pub comes_before : Refusal → Refusal → Bool
 comes_before f g =
     nat_lt f.at g.at
-    || (nat_eq f.at g.at && (nat_lt f.rule g.rule || (nat_eq f.rule g.rule && nat_lt f.limit g.limit)))
+    || (nat_eq f.at g.at
+    && (nat_lt f.rule g.rule || (nat_eq f.rule g.rule && nat_lt f.limit g.limit)))
 
 -- one of these broken rules, which none of them comes before
 pub record IsFirst (fs : List Refusal) (f : Refusal) : Type 0 where

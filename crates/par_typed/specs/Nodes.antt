@@ -1,9 +1,13 @@
 -- How many nodes a typed body has: each expression and each statement is one, and a catch is none.
 use Rattle.std.specs.Prelude.{ℕ, ◌+◌}
-use Rattle.par_typed.specs.Plain.{TExp, Int, Boolean, Null, This, New, Local, Static, Field, Input, Output}
-use Rattle.par_typed.specs.Plain.{Call, Neg, Not, Binary, MayTExp, Absent, Present, TExps, NoExps, More}
-use Rattle.par_typed.specs.Plain.{TSta, Block, If, While, Try, Return, Break, Continue, Throw, Open, Close}
-use Rattle.par_typed.specs.Plain.{SetLocal, SetStatic, SetField, Eval, When, MayTSta, NoElse, Otherwise}
+use Rattle.par_typed.specs.Plain.{TExp, Int, Boolean, Null, This, New, Local, Static, Field, Input}
+use Rattle.par_typed.specs.Plain.{Output}
+use Rattle.par_typed.specs.Plain.{Call, Neg, Not, Binary, MayTExp, Absent, Present, TExps, NoExps}
+use Rattle.par_typed.specs.Plain.{More}
+use Rattle.par_typed.specs.Plain.{TSta, Block, If, While, Try, Return, Break, Continue, Throw, Open}
+use Rattle.par_typed.specs.Plain.{Close}
+use Rattle.par_typed.specs.Plain.{SetLocal, SetStatic, SetField, Eval, When, MayTSta, NoElse}
+use Rattle.par_typed.specs.Plain.{Otherwise}
 use Rattle.par_typed.specs.Plain.{TStas, End, Then, TCatches, NoCatch, Catch}
 
 unfoldable mutual

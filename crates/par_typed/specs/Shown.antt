@@ -5,12 +5,14 @@ use Rattle.std.specs.declared.alloc.Global.{Global}
 use Rattle.par_typed.specs.declared.ty.Ty.{Ty}
 use Rattle.par_typed.specs.declared.expr.TExpr.{TExpr}
 use Rattle.par_typed.specs.declared.expr.TExprKind as expr
-use Rattle.par_typed.specs.declared.expr.TExprKind.{TExprKind, Row_of-TExpr, end_of-TExpr, more_of-TExpr}
+use Rattle.par_typed.specs.declared.expr.TExprKind.{TExprKind, Row_of-TExpr, end_of-TExpr}
+use Rattle.par_typed.specs.declared.expr.TExprKind.{more_of-TExpr}
 use Rattle.par_typed.specs.declared.expr.TExprKind.{Held-TExprKind-Call-2, None', Some'}
 use Rattle.par_typed.specs.declared.stmt.TStmt.{TStmt}
 use Rattle.par_typed.specs.declared.stmt.TCatch.{TCatch}
 use Rattle.par_typed.specs.declared.stmt.TStmtKind as stmt
-use Rattle.par_typed.specs.declared.stmt.TStmtKind.{TStmtKind, Row_of-TStmt, end_of-TStmt, more_of-TStmt}
+use Rattle.par_typed.specs.declared.stmt.TStmtKind.{TStmtKind, Row_of-TStmt, end_of-TStmt}
+use Rattle.par_typed.specs.declared.stmt.TStmtKind.{more_of-TStmt}
 use Rattle.par_typed.specs.declared.stmt.TStmtKind.{Row_of-TCatch, end_of-TCatch, more_of-TCatch}
 use Rattle.par_typed.specs.declared.stmt.TStmtKind.{Held-TStmtKind-If-2}
 use Rattle.par_typed.specs.declared.program.TBody.{TBody}
@@ -70,7 +72,8 @@ unfoldable mutual
   does_at (stmt.Block' shape row) at point = plain.Block (stmt_rows row) at point
   does_at (stmt.If' e p k a x o) at point = plain.If (shown e) (does_at k a x) (else_of o) at point
   does_at (stmt.While' e p k a x) at point = plain.While (shown e) (does_at k a x) at point
-  does_at (stmt.Try' p k a x shape row) at point = plain.Try (does_at k a x) (catch_rows row) at point
+  does_at (stmt.Try' p k a x shape row) at point =
+      plain.Try (does_at k a x) (catch_rows row) at point
   does_at (stmt.Return o) at point = plain.Return (may_shown o) at point
   does_at stmt.Break at point = plain.Break at point
   does_at stmt.Continue at point = plain.Continue at point
@@ -81,7 +84,8 @@ unfoldable mutual
   does_at (stmt.SetStatic c f e) at point = plain.SetStatic c f (shown e) at point
   does_at (stmt.SetField o c f e) at point = plain.SetField (shown o) c f (shown e) at point
   does_at (stmt.Eval e) at point = plain.Eval (shown e) at point
-  does_at (stmt.When' lock p k a x o) at point = plain.When lock (does_at k a x) (else_of o) at point
+  does_at (stmt.When' lock p k a x o) at point =
+      plain.When lock (does_at k a x) (else_of o) at point
 
   pub else_of : Held-TStmtKind-If-2 → MayTSta
   else_of stmt.None' = plain.NoElse

@@ -12,6 +12,7 @@ pub struct TBody {
     pub body: TStmt,
 }
 
+/// A program with the typed bodies of its methods.
 #[derive(Drop)]
 pub struct Typed {
     pub table: Table,

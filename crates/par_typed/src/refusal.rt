@@ -42,7 +42,7 @@ impl Findings {
         Findings { first: None }
     }
 
-    /// Notes a broken rule, unless one that comes before it is kept already.
+    /// Notes a broken rule. It is kept where nothing is yet, and where it comes before what is.
     #[tactic(auto, using(crate::proofs::First::notes))]
     pub fn note(&mut self, refusal: Refusal)
         ensures { self.new ≡ first_of self.old (refusal ∷ []) }
