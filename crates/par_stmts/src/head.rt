@@ -1,0 +1,51 @@
+//! What stands in parentheses behind `if`, `while` and `when`.
+
+ghost use Rattle.std.specs.Prelude.{◌≡◌, ◌<◌, ◌≤◌, [], ◌∷◌, length, OnOk};
+ghost use Rattle.par_grammar.specs.Grammar as symbol;
+ghost use Rattle.par_lexer.specs.declared.sign.TheConstants as signs;
+ghost use Rattle.par_reader.specs.Reads.{input};
+ghost use Rattle.par_tree.specs.Grammar as g;
+ghost use Rattle.par_language.specs.Reads.{Reads};
+ghost use Rattle.par_exprs.specs.Exprs.{tree};
+ghost use Rattle.par_policies.specs.Reads.{a_lock};
+
+use par_exprs::expr::expr;
+use par_grammar::sort::Sort;
+use par_language::Paragon;
+use par_lexer::sign;
+use par_policies::lock::lock;
+use par_reader::cursor::Cursor;
+use par_reader::error::ParseError;
+use par_tree::expr::Expr;
+use par_tree::policy::LockTree;
+use std::alloc::Global;
+
+/// A test in parentheses, which do not count.
+pub fn test_in_parens(alloc: Global, cursor: &mut Cursor<'_, Paragon>) -> Result<Expr, ParseError>
+    ensures read { Reads
+        (g.sign_ signs.LEFT_PAREN ∷ symbol.restarts ∷ g.expr ∷ g.sign_ signs.RIGHT_PAREN ∷ [])
+        [] tree (input cursor.old) result (input cursor.new) }
+    ensures shorter { OnOk result (length cursor.new.left.now < length cursor.old.left.now) }
+{
+    cursor.take(Sort::Sign(sign::LEFT_PAREN))?;
+    cursor.restart();
+    let test = expr(alloc, cursor)?;
+    cursor.take(Sort::Sign(sign::RIGHT_PAREN))?;
+    Ok(test)
+}
+
+/// A lock in parentheses, which do not count.
+pub fn lock_in_parens(
+    alloc: Global,
+    cursor: &mut Cursor<'_, Paragon>,
+) -> Result<LockTree, ParseError>
+    ensures read { Reads
+        (g.sign_ signs.LEFT_PAREN ∷ symbol.name g.Lock ∷ g.sign_ signs.RIGHT_PAREN ∷ [])
+        [] a_lock (input cursor.old) result (input cursor.new) }
+    ensures shorter { OnOk result (length cursor.new.left.now < length cursor.old.left.now) }
+{
+    cursor.take(Sort::Sign(sign::LEFT_PAREN))?;
+    let lock = lock(alloc, cursor)?;
+    cursor.take(Sort::Sign(sign::RIGHT_PAREN))?;
+    Ok(lock)
+}
