@@ -1,0 +1,4 @@
+pub mod Lists
+pub mod Effects
+pub mod Sizes
+pub mod Refusals

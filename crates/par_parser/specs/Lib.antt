@@ -1,0 +1,4 @@
+pub mod Reads
+pub mod Marks
+pub mod Bodies
+pub mod Sentence

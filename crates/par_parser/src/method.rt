@@ -1,0 +1,168 @@
+//! Methods, with their parameters.
+
+ghost use Rattle.std.specs.Prelude.{◌≡◌, ◌<◌, ◌≤◌, [], ◌∷◌, ◌++◌, length, OnOk};
+ghost use Rattle.par_grammar.specs.Grammar as symbol;
+ghost use Rattle.par_grammar.specs.declared.sort.Sort.TheVariants as sort;
+ghost use Rattle.par_language.specs.Reads.{Reads};
+ghost use Rattle.par_lexer.specs.declared.sign.TheConstants as signs;
+ghost use Rattle.par_reader.specs.Reads.{IsOf, input};
+ghost use Rattle.par_tree.specs.Grammar as g;
+ghost use Rattle.par_parser.specs.Reads.{a_head, a_param, the_members, the_params};
+
+use crate::effect::all_effects;
+use crate::member::{Front, Members};
+use par_grammar::sort::Sort;
+use par_language::Paragon;
+use par_lexer::list::List;
+use par_lexer::sign;
+use par_lexer::token::Token;
+use par_policies::ident::ident;
+use par_policies::policy::may_policy;
+use par_policies::types::{any_type, may_notnull};
+use par_reader::cursor::Cursor;
+use par_reader::error::ParseError;
+use par_stmts::stmt::block;
+use par_tree::decl::{MethodDecl, ParamDecl};
+use par_tree::types::TypeTree;
+use std::alloc::Global;
+
+/// A method from its parameters on.
+#[tactic(auto, using(crate::proofs::Lists::a_method))]
+pub fn method(
+    alloc: Global,
+    cursor: &mut Cursor<'_, Paragon>,
+    mut found: Members,
+    front: Front,
+    result_type: Option<TypeTree>,
+    name: &Token,
+) -> Result<Members, ParseError>
+    requires { IsOf sort.Name name.now }
+    ensures read { Reads (symbol.name g.Method ∷ [])
+        (a_head name.now result_type front ++ the_members found) the_members
+        (input cursor.old) result (input cursor.new) }
+    ensures shorter { OnOk result (length cursor.new.left.now < length cursor.old.left.now) }
+{
+    cursor.take(Sort::Sign(sign::LEFT_PAREN))?;
+    let params = params(alloc, cursor)?;
+    cursor.take(Sort::Sign(sign::RIGHT_PAREN))?;
+    let effects = all_effects(alloc, cursor)?;
+    let body = block(alloc, cursor)?;
+    let id = ident(alloc, name)?;
+    found.methods.push(MethodDecl {
+        id,
+        is_static: front.is_static,
+        result: result_type,
+        policy: front.policy,
+        params,
+        effects: effects.writes,
+        expects: effects.expects,
+        opens: effects.opens,
+        closes: effects.closes,
+        throws: effects.throws,
+        body,
+    })?;
+    Ok(found)
+}
+
+fn params(alloc: Global, cursor: &mut Cursor<'_, Paragon>) -> Result<List<ParamDecl>, ParseError>
+    ensures read { Reads (symbol.name g.Params ∷ []) [] the_params
+        (input cursor.old) result (input cursor.new) }
+    ensures shorter { OnOk result (length cursor.new.left.now ≤ length cursor.old.left.now) }
+{
+    if cursor.sees(Sort::Sign(sign::RIGHT_PAREN)) {
+        Ok(List::new(alloc))
+    } else {
+        some_params(alloc, cursor)
+    }
+}
+
+fn some_params(
+    alloc: Global,
+    cursor: &mut Cursor<'_, Paragon>,
+) -> Result<List<ParamDecl>, ParseError>
+    ensures read { Reads
+        (symbol.builds g.NoParams ∷ symbol.name g.Param ∷ symbol.builds g.NextParam
+        ∷ symbol.name g.MoreParams ∷ [])
+        [] the_params (input cursor.old) result (input cursor.new) }
+    ensures shorter { OnOk result (length cursor.new.left.now < length cursor.old.left.now) }
+{
+    let first = first_param(alloc, cursor)?;
+    more_params(alloc, cursor, first)
+}
+
+fn first_param(
+    alloc: Global,
+    cursor: &mut Cursor<'_, Paragon>,
+) -> Result<List<ParamDecl>, ParseError>
+    ensures read { Reads
+        (symbol.builds g.NoParams ∷ symbol.name g.Param ∷ symbol.builds g.NextParam ∷ [])
+        [] the_params (input cursor.old) result (input cursor.new) }
+    ensures shorter { OnOk result (length cursor.new.left.now < length cursor.old.left.now) }
+{
+    let none = List::new(alloc);
+    next_param(alloc, cursor, none)
+}
+
+#[tactic(auto, using(par_tree::proofs::Rules::run_built))]
+fn next_param(
+    alloc: Global,
+    cursor: &mut Cursor<'_, Paragon>,
+    mut found: List<ParamDecl>,
+) -> Result<List<ParamDecl>, ParseError>
+    ensures read { Reads (symbol.name g.Param ∷ symbol.builds g.NextParam ∷ [])
+        (the_params found) the_params (input cursor.old) result (input cursor.new) }
+    ensures shorter { OnOk result (length cursor.new.left.now < length cursor.old.left.now) }
+{
+    let next = param(alloc, cursor)?;
+    found.push(next)?;
+    Ok(found)
+}
+
+fn another_param(
+    alloc: Global,
+    cursor: &mut Cursor<'_, Paragon>,
+    found: List<ParamDecl>,
+) -> Result<List<ParamDecl>, ParseError>
+    ensures read { Reads
+        (symbol.token (sort.Sign signs.COMMA) ∷ symbol.name g.Param
+        ∷ symbol.builds g.NextParam ∷ [])
+        (the_params found) the_params (input cursor.old) result (input cursor.new) }
+    ensures shorter { OnOk result (length cursor.new.left.now < length cursor.old.left.now) }
+{
+    cursor.take(Sort::Sign(sign::COMMA))?;
+    next_param(alloc, cursor, found)
+}
+
+fn more_params(
+    alloc: Global,
+    cursor: &mut Cursor<'_, Paragon>,
+    mut found: List<ParamDecl>,
+) -> Result<List<ParamDecl>, ParseError>
+    ensures read { Reads (symbol.name g.MoreParams ∷ []) (the_params found) the_params
+        (input cursor.old) result (input cursor.new) }
+    ensures shorter { OnOk result (length cursor.new.left.now ≤ length cursor.old.left.now) }
+{
+    'more: while cursor.sees(Sort::Sign(sign::COMMA)) {
+        found = another_param(alloc, cursor, found)?;
+    }
+    Ok(found)
+}
+
+#[tactic(auto, using(par_tree::proofs::Rules::run_built, par_tree::proofs::Rules::param_opens))]
+fn param(alloc: Global, cursor: &mut Cursor<'_, Paragon>) -> Result<ParamDecl, ParseError>
+    ensures read { Reads (symbol.name g.Param ∷ []) [] a_param
+        (input cursor.old) result (input cursor.new) }
+    ensures shorter { OnOk result (length cursor.new.left.now < length cursor.old.left.now) }
+{
+    let policy = may_policy(alloc, cursor)?;
+    let notnull = may_notnull(cursor)?;
+    let ty = any_type(alloc, cursor)?;
+    let name = cursor.keep(Sort::Name)?;
+    let id = ident(alloc, name)?;
+    Ok(ParamDecl {
+        id,
+        ty,
+        policy,
+        notnull,
+    })
+}
