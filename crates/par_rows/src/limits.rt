@@ -24,7 +24,7 @@ static ROWS: &[Row] = &[
         "tokens nest 65 deep",
         8,
         &[("show(1", 1), (" + 1", 63), (");", 1)],
-        ("refused 11 at 8:512\n", 1),
+        ("refused 11 at 8:256\n", 1),
     ),
     // each statement begins a count of its own
     (
@@ -49,7 +49,7 @@ static ROWS: &[Row] = &[
             (" + 1", 64),
             (";", 1),
         ],
-        ("refused 11 at 8:786\n", 1),
+        ("refused 11 at 8:263\n", 1),
     ),
     // an assignment of a number has 3 nodes, `open` has 1, and the block is one
     (
@@ -128,7 +128,7 @@ static ROWS: &[Row] = &[
         "a name of 65 bytes",
         6,
         &[("?{} static int ", 1), ("n", 65), (";", 1)],
-        ("refused 4 at 6:96\n", 1),
+        ("refused 4 at 6:16\n", 1),
     ),
 ];
 
