@@ -1,5 +1,5 @@
 -- Of straight-line code: where its operations go on, and which reasons never stand against them.
-use Rattle.std.proofs.Common.{◌≡◌, ℕ, Bool, false, not, List, [], refl}
+use Rattle.std.proofs.Common.{◌≡◌, ℕ, Bool, false, not, List, refl}
 use Rattle.par_values.specs.declared.link.Target.{Target}
 use Rattle.par_values.specs.declared.link.Target.TheVariants.{Input, Output, Code, Nothing}
 use Rattle.par_values.specs.Areas.{Name, Areas}
@@ -7,7 +7,7 @@ use Rattle.par_values.specs.Effects.{called}
 use Rattle.par_values.specs.Reasons.{Spot, falls, misgiven, misused}
 use Rattle.par_machine.specs.Operation.{operation_of}
 use Rattle.par_machine.specs.declared.operation.Operation.{Operation}
-use Rattle.par_machine.specs.declared.operation.Operation.TheVariants.{Push, LoadNumber, LoadObject, Store, Add, GetStatic, PutStatic, InvokeStatic, InvokeSpecial, Leave, Misnamed}
+use Rattle.par_machine.specs.declared.operation.Operation.TheVariants.{Push}
 
 -- a call goes on behind itself
 pub falls_called : (stands is_lost : Bool) (n : ℕ) (target : Target) (a : Areas) → falls stands is_lost (called n target a) ≡ not stands

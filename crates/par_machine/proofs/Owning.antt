@@ -26,7 +26,7 @@ use Rattle.par_values.specs.declared.run.Event.{Event}
 use Rattle.par_values.specs.declared.link.FieldLink.{FieldLink}
 use Rattle.par_values.specs.declared.link.MethodLink.{MethodLink}
 use Rattle.par_values.specs.Operations.{Operation, Combine, JumpIf, JumpIfBoth, JumpIfSame, JumpIfNull, GetStatic, PutStatic, GetField, PutField, InvokeStatic, InvokeSpecial, InvokeVirtual, Create, Throw, operation, constant, of_field, of_method, of_class}
-use Rattle.par_values.specs.Effects.{Goes, Happens, Calls, Throws, called, called_on, jumps_if, combines, field_read, field_written, created, thrown, comes, is_same, effect}
+use Rattle.par_values.specs.Effects.{Goes, Happens, Calls, Throws, called, called_on, jumps_if, field_read, field_written, thrown, comes, is_same, effect}
 use Rattle.par_single.specs.Descriptors.{kinds_in, kind_at}
 use Rattle.par_single.specs.Members.{Member, own_name, own_method, text_at, member_at, field_place, method_place, is_method_of, is_initializer}
 use Rattle.par_single.specs.Links.{field_link, field_found, field_among, channel_of, method_link, method_among, method_of, link_of, link_at, is_object, object_initializer, locals_of, signature_said}

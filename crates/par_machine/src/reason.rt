@@ -212,11 +212,7 @@ fn misplaced(operation: Operation<'_>, areas: &Areas) -> bool
 }
 
 // Nothing stands where it goes on; it does not where it leaves a method or throws.
-#[tactic(
-    auto,
-    using(crate::proofs::Falling::falls_called),
-    unfolding(par_values::specs::Effects::effect)
-)]
+#[tactic(auto, using(crate::proofs::Falling::falls_called), unfolding(par_values::specs::Effects::effect))]
 fn falls(stands: bool, operation: Operation<'_>, areas: &Areas) -> bool
     requires { lacks (operation_of operation) (areas_of areas.now) ≡ false }
     ensures { (classes : List Name) → result
@@ -285,11 +281,7 @@ fn misreturns(spot: Spot, operation: Operation<'_>) -> bool
 }
 
 /// The number of the least reason why an operation cannot be run, where there is one class.
-#[tactic(
-    auto,
-    using(crate::proofs::Falling::never_misgiven, crate::proofs::Falling::never_misused),
-    unfolding(par_values::specs::Reasons::reason)
-)]
+#[tactic(auto, using(crate::proofs::Falling::never_misgiven, crate::proofs::Falling::never_misused), unfolding(par_values::specs::Reasons::reason))]
 pub(crate) fn reason(own: &[u8], spot: Spot, operation: Operation<'_>, areas: &Areas) -> Option<u8>
     ensures roomy { IfNone result
         (exceeds spot.room (operation_of operation.entry) (areas_of areas.now) ≡ false) }

@@ -1,5 +1,5 @@
 -- The code of `main` is of straight-line instructions alone.
-use Rattle.std.proofs.Common.{◌≡◌, ℕ, ℤ, pos, Bool, true, false, nat_lt, nat_le, if◌then◌else◌, cond, List, [], ◌∷◌, refl, ap, ◌∙◌}
+use Rattle.std.proofs.Common.{◌≡◌, ℕ, ℤ, Bool, true, false, nat_lt, nat_le, if◌then◌else◌, cond, List, [], ◌∷◌, refl, ap, ◌∙◌}
 use Rattle.par_instr.specs.declared.instr.Instr.{Instr}
 use Rattle.par_instr.specs.declared.instr.Instr.TheVariants.{Iconst, Bipush, Sipush, Ldc, LdcW, Iload, IloadShort, Istore, IstoreShort}
 use Rattle.par_instr.specs.Spelling.{is_constant}
@@ -11,7 +11,7 @@ use Rattle.par_straight.specs.declared.program.Action.TheVariants.{SetLocal, Set
 use Rattle.par_straight.specs.declared.program.Step.{Step}
 use Rattle.par_straight.specs.declared.program.Program.{Program}
 use Rattle.par_straight.specs.Names.{Name}
-use Rattle.par_straight_compile.specs.Code.{Item, plain, push, get, put, read, write, load, store, operand_item, added_code, sum_code, action_code, steps_code, code_of}
+use Rattle.par_straight_compile.specs.Code.{Item, plain, push, get, put, read, write, operand_item, added_code, sum_code, action_code, steps_code, code_of}
 use Rattle.par_straight_compile.specs.Bytes.{within, pushed, IsWide, IsItem}
 use Rattle.par_single.specs.StraightLine.{is_straight_line}
 
