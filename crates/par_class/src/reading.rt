@@ -13,9 +13,9 @@ use crate::name::is_super;
 use crate::place::place;
 use par_lexer::list::List;
 use par_pool::constant::{Constant, Pool};
-use par_pool::{LONGEST_CLASS, entries_of};
 use par_pool::error::ClassError;
 use par_pool::item::{u2, u4};
+use par_pool::{LONGEST_CLASS, entries_of};
 use std::alloc::Global;
 
 /// What stands in a class file up to and with its constant pool.

@@ -48,8 +48,8 @@ most_writes (Run main inputs steps) = 0
 abbrev pub IsUnput : (old new : Option Text) → (before after : SinkCounts) → Type 0
 IsUnput old new before after = (new ≡ old) × (after.puts ≡ before.puts)
 
--- Saying an answer: its line is put, by one put. The line of a fault that has happened needs no memory, so that
--- nothing else comes in its place.
+-- Saying an answer: its line is put, by one put. The line of a fault that has happened needs no
+-- memory, so that nothing else comes in its place.
 pub record IsSaid (answer : Answer) (result : ℕ) (old new : Option Text)
     (before after : SinkCounts) : Type 0 where
   pub said : Said (status answer) (text answer ∷ []) result old new before after

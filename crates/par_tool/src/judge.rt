@@ -8,9 +8,9 @@ ghost use Rattle.par_straight.specs.Names.{numbered};
 ghost use Rattle.par_straight.specs.Judged.{HasProgram, IsStraight, IsStraightLine};
 ghost use Rattle.par_tool.specs.Judgements.{IsJudgement, Tokens};
 
-use par_lexer::{LONGEST_SOURCE, lex};
 use par_lexer::list::{List, NoMemory};
 use par_lexer::token::{LexError, Token};
+use par_lexer::{LONGEST_SOURCE, lex};
 use par_straight::program::Program;
 use par_straight::tree::Source;
 use par_straight_check::check::check;

@@ -24,11 +24,11 @@ pub fn tool<F: Folder, S: Sink>(
     out: &mut S,
 ) -> u8
     ensures ends { let scene : Scene = record {
-          files = F.files folder.old;
-          later = F.files folder.new;
-          before = F.counts folder.old;
-          after = F.counts folder.new;
-        } in
+      files = F.files folder.old;
+      later = F.files folder.new;
+      before = F.counts folder.old;
+      after = F.counts folder.new;
+    } in
         Ends which words.now scene result (S.held out.old) (S.held out.new)
         (S.counts out.old) (S.counts out.new) }
     ensures usage { ((w : Wanted) → Asks which words.now w → ⊥) → IsSaidBy result 2 }
