@@ -3,16 +3,15 @@ use Rattle.std.proofs.Common.{◌≡◌, ℕ, Option, refl, sym, subst, inl, inr
 use Rattle.std.specs.Prelude.{◌⊎◌}
 use Rattle.par_io.specs.Causes.{FolderCounts, Files}
 use Rattle.par_straight.specs.declared.program.Program.{Program}
-use Rattle.par_straight.specs.Rules.{IsRefused}
-use Rattle.par_straight.specs.Judged.{IsStraightLine}
-use Rattle.par_straight.proofs.One.{one_program, accepted_or_refused}
 use Rattle.par_lexer.specs.declared.cut.TheConstants.{LONGEST_SOURCE}
 use Rattle.par_tool.specs.declared.answer.Answer.{Answer}
 use Rattle.par_tool.specs.declared.answer.Answer.TheVariants.{Accepted, Compiled, Refused, Absent, ReadFault, WriteFault, TooLong, NotBuilt}
 use Rattle.par_tool.specs.Texts.{status}
+use Rattle.par_tool.specs.Judgements.{IsNotBuilt}
 use Rattle.par_tool.specs.Outside.{Text, NotRead, IsThere, IsMissing, IsOverlong}
 use Rattle.par_tool.specs.Sources.{IsBroken, IsAcceptedAs, ReadSource, ReadAccepted, Rejected, Checked, CompiledSo}
 use Rattle.par_tool.specs.Exactly.{IsSaidBy, HasAccepted, TellsSource}
+use Rattle.par_tool.proofs.Clashes.{accepted_or_broken, broken_or_not_built}
 use Rattle.par_tool.proofs.Statuses.{IsNear, same, near_status, read_there, missing_read, overlong_read, missing_not_read, overlong_not_read, there_not_read}
 
 -- what an answer says of a source
@@ -21,39 +20,33 @@ Verdict source Accepted = HasAccepted source
 Verdict source (Compiled many) = HasAccepted source
 Verdict source WriteFault = HasAccepted source
 Verdict source (Refused rule line column) = IsBroken source rule line column
-Verdict source NotBuilt = IsStraightLine source → ⊥
+Verdict source NotBuilt = IsNotBuilt source
 Verdict source _ = ⊥
 
 has_accepted : (source : Text) (p : Program) → IsAcceptedAs source p → HasAccepted source
 has_accepted source p h = (p, h.has, h.accepted)
 
--- no source is accepted and refused
-clash : (source : Text) (rule line column : ℕ) → HasAccepted source → IsBroken source rule line column → ⊥
-clash source rule line column h broken =
-    let same : broken.program ≡ h.0 = one_program source broken.program h.0 broken.has h.1 in
-    accepted_or_refused h.0 rule broken.at h.2 (subst (λ p. IsRefused p rule broken.at) same broken.refused)
-
 accepted_near : (source : Text) (a : Answer) → Verdict source a → HasAccepted source → IsNear 0 a ⊎ (a ≡ WriteFault)
 accepted_near source Accepted v h = inl (same refl)
 accepted_near source (Compiled many) v h = inl (same refl)
 accepted_near source WriteFault v h = inr refl
-accepted_near source (Refused rule line column) v h = absurd (clash source rule line column h v)
-accepted_near source NotBuilt v h = absurd (v (h.0, h.1))
+accepted_near source (Refused rule line column) v h = absurd (accepted_or_broken source rule v.at h v.breaks)
+accepted_near source NotBuilt v h = absurd (v.1 (h.0, h.1))
 accepted_near source _ v h = absurd v
 
 refused_near : (source : Text) (a : Answer) → Verdict source a → (rule line column : ℕ) → IsBroken source rule line column → IsNear 1 a
-refused_near source Accepted v rule line column h = absurd (clash source rule line column v h)
-refused_near source (Compiled many) v rule line column h = absurd (clash source rule line column v h)
-refused_near source WriteFault v rule line column h = absurd (clash source rule line column v h)
+refused_near source Accepted v rule line column h = absurd (accepted_or_broken source rule h.at v h.breaks)
+refused_near source (Compiled many) v rule line column h = absurd (accepted_or_broken source rule h.at v h.breaks)
+refused_near source WriteFault v rule line column h = absurd (accepted_or_broken source rule h.at v h.breaks)
 refused_near source (Refused r l c) v rule line column h = same refl
-refused_near source NotBuilt v rule line column h = absurd (v (h.program, h.has))
+refused_near source NotBuilt v rule line column h = absurd (broken_or_not_built source rule h.at h.breaks v)
 refused_near source _ v rule line column h = absurd v
 
-other_near : (source : Text) (a : Answer) → Verdict source a → (IsStraightLine source → ⊥) → IsNear 9 a
-other_near source Accepted v h = absurd (h (v.0, v.1))
-other_near source (Compiled many) v h = absurd (h (v.0, v.1))
-other_near source WriteFault v h = absurd (h (v.0, v.1))
-other_near source (Refused rule line column) v h = absurd (h (v.program, v.has))
+other_near : (source : Text) (a : Answer) → Verdict source a → IsNotBuilt source → IsNear 9 a
+other_near source Accepted v h = absurd (h.1 (v.0, v.1))
+other_near source (Compiled many) v h = absurd (h.1 (v.0, v.1))
+other_near source WriteFault v h = absurd (h.1 (v.0, v.1))
+other_near source (Refused rule line column) v h = absurd (broken_or_not_built source rule v.at v.breaks h)
 other_near source NotBuilt v h = same refl
 other_near source _ v h = absurd v
 

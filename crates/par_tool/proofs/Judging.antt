@@ -12,11 +12,7 @@ use Rattle.par_straight.specs.Sentence.{HasTree}
 use Rattle.par_straight.specs.Judged.{IsStraight, IsStraightLine, HasProgram}
 use Rattle.par_straight.proofs.One.{one_cut, one_tree}
 
--- a source without tokens is none
-pub without_tokens : (source : List ℕ) → ((tokens : List Token) → HasTokens source tokens → ⊥) → IsStraightLine source → ⊥
-without_tokens source none found = none found.1.tokens found.1.cut
-
--- one whose tokens have no tree is none
+-- a source whose tokens have no tree is no straight-line one
 pub without_tree : (source : List ℕ) (tokens : List Token) → HasTokens source tokens → ((tree : Source) → HasTree tokens tree → ⊥) → IsStraightLine source → ⊥
 without_tree source tokens cut none found =
     let same : found.1.tokens ≡ tokens = one_cut source found.1.tokens tokens found.1.cut cut in
@@ -36,8 +32,8 @@ has_program source tokens tree None cut derived none = without_names source toke
 has_program source tokens tree (Some p) cut derived is = record { tokens = tokens; tree = tree; cut = cut; derived = derived; straight = is.0; program_is = is.1 }
 
 -- the same of the answer of a call that may lack memory
-pub programs_of_result : (source : List ℕ) (tokens : List Token) (tree : Source) (r : Result (Option Program) NoMemory) → HasTokens source tokens → HasTree tokens tree
+pub programs_of_result : (tokens : List Token) (tree : Source) (r : Result (Option Program) NoMemory) → HasTree tokens tree
     → IfOk r (λ found. MatchOption found (IsStraight tree → ⊥) (λ p. IsStraight tree × (p ≡ numbered tree)))
-    → IfOk r (λ found. MatchOption found (IsStraightLine source → ⊥) (HasProgram source))
-programs_of_result source tokens tree (Ok found) cut derived is = has_program source tokens tree found cut derived is
-programs_of_result source tokens tree (Err e) cut derived is = tt
+    → IfOk r (λ found. (source : List ℕ) → HasTokens source tokens → MatchOption found (IsStraightLine source → ⊥) (HasProgram source))
+programs_of_result tokens tree (Ok found) derived is = λ source cut. has_program source tokens tree found cut derived is
+programs_of_result tokens tree (Err e) derived is = tt

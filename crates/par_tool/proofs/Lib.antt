@@ -1,6 +1,8 @@
 pub mod Judging
 pub mod Ascii
 pub mod Statuses
+pub mod Unread
+pub mod Clashes
 pub mod ExactSources
 pub mod ExactRuns
 pub mod Exact

@@ -1,5 +1,5 @@
 -- What is said of sources: to check and to compile them.
-use Rattle.std.specs.Prelude.{◌≡◌, ℕ, ◌<◌, ◌≤◌, Option, IsTrue, ◌∷◌, [], length}
+use Rattle.std.specs.Prelude.{◌≡◌, ℕ, ◌≤◌, Option, IsTrue, ◌∷◌, [], length}
 use Rattle.par_io.specs.Causes.{FolderCounts, Makes, Rose, Files, ToldBoth, Sets, StandBut}
 use Rattle.par_lexer.specs.Places.{line_at, column_at}
 use Rattle.par_class.specs.declared.file.ClassFile.{ClassFile}
@@ -9,8 +9,8 @@ use Rattle.par_secrecy.specs.Shows.{Shows}
 use Rattle.par_secrecy.specs.SecureFiles.{SecureFiles}
 use Rattle.par_straight.specs.declared.program.Program.{Program}
 use Rattle.par_straight.specs.Subject.{subject}
-use Rattle.par_straight.specs.Rules.{IsAccepted, IsRefused}
-use Rattle.par_straight.specs.Judged.{HasProgram, IsStraightLine}
+use Rattle.par_straight.specs.Rules.{IsAccepted}
+use Rattle.par_straight.specs.Judged.{HasProgram}
 use Rattle.par_straight_compile.specs.Files.{IsFileOf}
 use Rattle.par_straight_shows.specs.Theorems.{ShowsWhole}
 use Rattle.par_single.specs.Single.{runs_alone}
@@ -19,15 +19,15 @@ use Rattle.par_lexer.specs.declared.cut.TheConstants.{LONGEST_SOURCE}
 use Rattle.par_pool.specs.declared.reading.TheConstants.{LONGEST_CLASS}
 use Rattle.par_tool.specs.declared.answer.Answer.{Answer}
 use Rattle.par_tool.specs.declared.answer.Answer.TheVariants.{Accepted, Compiled, Refused, WriteFault, NotBuilt}
+use Rattle.par_tool.specs.Judgements.{Breaks, IsNotBuilt}
 use Rattle.par_tool.specs.Outside.{Text, WasRead, NotRead, class_file}
 
--- The rule is broken at the place, which lies in the source; these are its line and its column.
+-- The rule is broken at the place that has this line and this column; the end of the source may be
+-- that place.
 pub record IsBroken (source : Text) (rule line column : ℕ) : Type 0 where
-  pub program : Program
   pub at : ℕ
-  pub has : HasProgram source program
-  pub refused : IsRefused program rule at
-  pub within : at < length source
+  pub breaks : Breaks source rule at
+  pub within : at ≤ length source
   pub line_is : line ≡ line_at source at
   pub column_is : column ≡ column_at source at
 
@@ -40,7 +40,7 @@ pub record IsAcceptedAs (source : Text) (p : Program) : Type 0 where
 -- what is said of a source that is not accepted
 abbrev pub IsUnaccepted : Text → Answer → Type 0
 IsUnaccepted source (Refused rule line column) = IsBroken source rule line column
-IsUnaccepted source NotBuilt = IsStraightLine source → ⊥
+IsUnaccepted source NotBuilt = IsNotBuilt source
 IsUnaccepted source _ = ⊥
 
 -- a source that was read
@@ -52,7 +52,7 @@ module _ (files : Option Files) (before after : FolderCounts) (file : Text) wher
   abbrev pub Rejected : Answer → Type 0
   Rejected (Refused rule line column) =
       ReadSource files file (λ source. IsBroken source rule line column)
-  Rejected NotBuilt = ReadSource files file (λ source. IsStraightLine source → ⊥)
+  Rejected NotBuilt = ReadSource files file IsNotBuilt
   Rejected answer = NotRead files before after LONGEST_SOURCE file answer
 
 -- the program of a source that was read and accepted

@@ -1,33 +1,69 @@
-//! The judgement of a straight-line source: its reader, its names and its check, one after another.
+//! The judgement of a source: its tokens and its sentence, by the whole grammar, and what a
+//! straight-line one means.
 
-ghost use Rattle.std.specs.Prelude.{◌≡◌, ◌≤◌, IfOk, IfSome, MatchOption, length};
+ghost use Rattle.std.specs.Prelude.{◌≡◌, ◌≤◌, IfOk, IfErr, IsOk, MatchOption, length};
+ghost use Rattle.par_lexer.specs.Spans.{IsLaid};
 ghost use Rattle.par_lexer.specs.Tokens.{HasTokens};
+ghost use Rattle.par_parser.specs.Sentence.{IsSentence, place_of};
 ghost use Rattle.par_straight.specs.declared.tree.Source.{Source as Tree};
 ghost use Rattle.par_straight.specs.Sentence.{HasTree};
 ghost use Rattle.par_straight.specs.Names.{numbered};
 ghost use Rattle.par_straight.specs.Judged.{HasProgram, IsStraight, IsStraightLine};
-ghost use Rattle.par_tool.specs.Judgements.{IsJudgement, Tokens};
+ghost use Rattle.par_tool.specs.Judgements.{IsJudgement, IsUnread};
+ghost use Rattle.par_tool.specs.Outside.{Text};
 
 use par_lexer::list::{List, NoMemory};
 use par_lexer::token::{LexError, Token};
 use par_lexer::{LONGEST_SOURCE, lex};
+use par_parser::{ParseError, parse};
 use par_straight::program::Program;
 use par_straight::tree::Source;
 use par_straight_check::check::check;
 use par_straight_names::resolve::{ResolveError, resolve};
-use par_straight_reader::cursor::ParseError;
-use par_straight_reader::reader::parse;
+use par_straight_reader::cursor::ParseError as StraightError;
+use par_straight_reader::reader::parse as parse_straight;
 use std::alloc::Global;
+
+/// The rules on the tokens of a source, by their numbers.
+const BAD_BYTE: u16 = 1;
+const NUMBER_TOO_LARGE: u16 = 2;
+const OPEN_COMMENT: u16 = 3;
+const NAME_TOO_LONG: u16 = 4;
+
+/// The rules on its sentence.
+const SYNTAX: u16 = 10;
+const TOO_DEEP: u16 = 11;
 
 /// What is said of a source.
 #[derive(Drop)]
 pub enum Judgement {
-    /// Its program passes every rule.
+    /// It is a straight-line source, whose program passes every rule.
     Accepted(Program),
-    /// It breaks a rule at a place, an offset into the source.
+    /// It breaks a rule at a place, an offset into the source that is at most its length.
     Broken { rule: u16, at: u32 },
-    /// It is no straight-line source.
-    NotStraight,
+    /// It is a sentence, and no straight-line source.
+    NotBuilt,
+}
+
+/// Why a source is not judged by its meaning.
+#[derive(Clone, Copy)]
+pub enum Unread {
+    /// It has no tokens, or they are no sentence.
+    Broken {
+        rule: u16,
+        at: u32,
+    },
+    Memory,
+}
+
+impl From<NoMemory> for Unread {
+    ghost use Rattle.par_tool.specs.declared.judge.Unread.TheVariants.{Memory};
+
+    ghost from_gives = { λ _ error. error ≡ Memory };
+
+    fn from(_: NoMemory) -> Unread {
+        Unread::Memory
+    }
 }
 
 /// Reads a source, and checks it.
@@ -35,8 +71,102 @@ pub fn judge(alloc: Global, source: &[u8]) -> Result<Judgement, NoMemory>
     requires { length source.now ≤ LONGEST_SOURCE }
     ensures { IfOk result (IsJudgement source.now) }
 {
-    let Some(program) = program_of(alloc, source)? else {
-        return Ok(Judgement::NotStraight);
+    match read_and_judge(alloc, source) {
+        Ok(judgement) => Ok(judgement),
+        Err(unread) => match unread {
+            Unread::Broken { rule, at } => Ok(Judgement::Broken { rule, at }),
+            Unread::Memory => Err(NoMemory),
+        },
+    }
+}
+
+/// What is said of a source that is a sentence, or why it is none.
+fn read_and_judge(alloc: Global, source: &[u8]) -> Result<Judgement, Unread>
+    requires { length source.now ≤ LONGEST_SOURCE }
+    ensures judged { IfOk result (IsJudgement source.now) }
+    ensures unread { IfErr result (IsUnread source.now) }
+{
+    let tokens = tokens_of(alloc, source)?;
+    let tokens = tokens.as_slice();
+    read_sentence(alloc, source, tokens)?;
+    Ok(judge_sentence(alloc, tokens)?)
+}
+
+/// The tokens of a source, or why it has none.
+fn tokens_of(alloc: Global, source: &[u8]) -> Result<List<Token>, Unread>
+    requires { length source.now ≤ LONGEST_SOURCE }
+    ensures exact { IfOk result (HasTokens source.now) }
+    ensures laid { IfOk result (IsLaid source.now) }
+    ensures unread { IfErr result (IsUnread source.now) }
+{
+    match lex(alloc, source) {
+        Ok(tokens) => Ok(tokens),
+        Err(error) => match error {
+            LexError::BadByte(at) => Err(Unread::Broken { rule: BAD_BYTE, at }),
+            LexError::NumberTooLarge(at) => Err(Unread::Broken {
+                rule: NUMBER_TOO_LARGE,
+                at,
+            }),
+            LexError::OpenComment(at) => Err(Unread::Broken {
+                rule: OPEN_COMMENT,
+                at,
+            }),
+            LexError::NameTooLong(at) => Err(Unread::Broken {
+                rule: NAME_TOO_LONG,
+                at,
+            }),
+            LexError::SourceTooLong(_) => unreachable!(),
+            LexError::Memory => Err(Unread::Memory),
+        },
+    }
+}
+
+/// Sees that the tokens of a source are a sentence.
+fn read_sentence(alloc: Global, source: &[u8], tokens: &[Token]) -> Result<(), Unread>
+    requires short { length source.now ≤ LONGEST_SOURCE }
+    requires cut { HasTokens source.now tokens.now }
+    requires laid { IsLaid source.now tokens.now }
+    ensures sentence { IsOk result → IsSentence tokens.now }
+    ensures unread { IfErr result (IsUnread source.now) }
+{
+    match parse(alloc, tokens) {
+        Ok(_) => Ok(()),
+        Err(error) => match error {
+            ParseError::Syntax(before) => Err(Unread::Broken {
+                rule: SYNTAX,
+                at: position(source, tokens, before),
+            }),
+            ParseError::TooDeep(before) => Err(Unread::Broken {
+                rule: TOO_DEEP,
+                at: position(source, tokens, before),
+            }),
+            ParseError::Memory => Err(Unread::Memory),
+        },
+    }
+}
+
+/// Where the token behind so many begins; behind the last one it is the end of the source.
+fn position(source: &[u8], tokens: &[Token], before: u32) -> u32
+    requires short { length source.now ≤ LONGEST_SOURCE }
+    requires laid { IsLaid source.now tokens.now }
+    ensures exact { result ≡ place_of tokens.now (length source.now) before }
+    ensures within { result ≤ length source.now }
+{
+    match tokens.get(before as usize) {
+        Some(token) => token.from,
+        None => source.len() as u32,
+    }
+}
+
+/// What is said of a source whose tokens are a sentence.
+fn judge_sentence(alloc: Global, tokens: &[Token]) -> Result<Judgement, NoMemory>
+    requires short { length tokens.now ≤ LONGEST_SOURCE }
+    requires sentence { IsSentence tokens.now }
+    ensures { IfOk result (λ judgement.
+        (source : Text) → HasTokens source tokens.now → IsJudgement source judgement) }
+{
+    let Some(program) = program_of(alloc, tokens)? else {
+        return Ok(Judgement::NotBuilt);
     };
     match check(alloc, &program) {
         Ok(None) => Ok(Judgement::Accepted(program)),
@@ -49,50 +179,29 @@ pub fn judge(alloc: Global, source: &[u8]) -> Result<Judgement, NoMemory>
 }
 
 /// The program of a straight-line source, or none.
-fn program_of(alloc: Global, source: &[u8]) -> Result<Option<Program>, NoMemory>
-    requires { length source.now ≤ LONGEST_SOURCE }
-    ensures { IfOk result (λ found. MatchOption found
-        (IsStraightLine source.now → ⊥)
-        (HasProgram source.now)) }
+fn program_of(alloc: Global, tokens: &[Token]) -> Result<Option<Program>, NoMemory>
+    requires { length tokens.now ≤ LONGEST_SOURCE }
+    ensures { IfOk result (λ found.
+        (source : Text) → HasTokens source tokens.now →
+        MatchOption found (IsStraightLine source → ⊥) (HasProgram source)) }
 {
-    let Some(tokens) = tokens_of(alloc, source)? else {
-        return Ok(None);
-    };
-    let tokens = tokens.as_slice();
     let Some(tree) = tree_of(alloc, tokens)? else {
         return Ok(None);
     };
     resolved(alloc, &tree)
 }
 
-/// The tokens of a source, where it has some.
-fn tokens_of(alloc: Global, source: &[u8]) -> Result<Option<List<Token>>, NoMemory>
-    requires { length source.now ≤ LONGEST_SOURCE }
-    ensures exact { IfOk result (λ found. MatchOption found
-        ((tokens : Tokens) → HasTokens source.now tokens → ⊥)
-        (HasTokens source.now)) }
-    ensures few { IfOk result (λ found. IfSome found (λ tokens. length tokens ≤ LONGEST_SOURCE)) }
-{
-    match lex(alloc, source) {
-        Ok(tokens) => Ok(Some(tokens)),
-        Err(error) => match error {
-            LexError::Memory => Err(NoMemory),
-            _ => Ok(None),
-        },
-    }
-}
-
-/// The tree of tokens, where they have one.
+/// The tree of a straight-line source, where the tokens are one by its grammar.
 fn tree_of(alloc: Global, tokens: &[Token]) -> Result<Option<Source>, NoMemory>
     requires { length tokens.now ≤ LONGEST_SOURCE }
     ensures { IfOk result (λ found. MatchOption found
         ((tree : Tree) → HasTree tokens.now tree → ⊥)
         (HasTree tokens.now)) }
 {
-    match parse(alloc, tokens) {
+    match parse_straight(alloc, tokens) {
         Ok(tree) => Ok(Some(tree)),
         Err(error) => match error {
-            ParseError::Memory => Err(NoMemory),
+            StraightError::Memory => Err(NoMemory),
             _ => Ok(None),
         },
     }

@@ -29,7 +29,7 @@ fn accepted(alloc: Global, source: &[u8]) -> Result<Program, Failure>
             let (line, column) = place_of(source, at);
             Err(Failure::Answered(Answer::Refused { rule, line, column }))
         }
-        Judgement::NotStraight => Err(Failure::Answered(Answer::NotBuilt)),
+        Judgement::NotBuilt => Err(Failure::Answered(Answer::NotBuilt)),
     }
 }
 

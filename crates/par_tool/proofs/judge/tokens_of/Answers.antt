@@ -1,8 +1,31 @@
-use Rattle.par_lexer.proofs.Refusals.{no_tokens}
+use Rattle.std.proofs.Common.{refl, arith}
+use Rattle.par_lexer.specs.declared.token.LexError.TheVariants.{BadByte, NumberTooLarge, OpenComment, NameTooLong, SourceTooLong}
+use Rattle.par_lexer.specs.Tokens.{IsRefusal}
+use Rattle.par_tool.proofs.Unread.{without_tokens}
 use Rattle.par_tool.proofs.judge.tokens_of.Goals as goal
 
-pub returns-in_default : goal.returns-in_default
-returns-in_default c = record {
-  exact = λ tokens. no_tokens c.args.source.now c.in-Err.error tokens c.in-Err.ensures.refused c.requires c.in_default.not-Memory;
-  few = tt;
-}
+pub returns-in-BadByte-clause-unread : goal.returns-in-BadByte-clause-unread
+returns-in-BadByte-clause-unread c =
+    let refused : IsRefusal c.args.source.now (BadByte c.in-BadByte.at) = rw c.in-BadByte.is at c.in-Err.ensures.refused in
+    without_tokens c.args.source.now (BadByte c.in-BadByte.at) 1 c.in-BadByte.at refused.1 (refl, refl)
+
+pub returns-in-NumberTooLarge-clause-unread : goal.returns-in-NumberTooLarge-clause-unread
+returns-in-NumberTooLarge-clause-unread c =
+    let refused : IsRefusal c.args.source.now (NumberTooLarge c.in-NumberTooLarge.at) = rw c.in-NumberTooLarge.is at c.in-Err.ensures.refused in
+    without_tokens c.args.source.now (NumberTooLarge c.in-NumberTooLarge.at) 2 c.in-NumberTooLarge.at refused.1 (refl, refl)
+
+pub returns-in-OpenComment-clause-unread : goal.returns-in-OpenComment-clause-unread
+returns-in-OpenComment-clause-unread c =
+    let refused : IsRefusal c.args.source.now (OpenComment c.in-OpenComment.at) = rw c.in-OpenComment.is at c.in-Err.ensures.refused in
+    without_tokens c.args.source.now (OpenComment c.in-OpenComment.at) 3 c.in-OpenComment.at refused.1 (refl, refl)
+
+pub returns-in-NameTooLong-clause-unread : goal.returns-in-NameTooLong-clause-unread
+returns-in-NameTooLong-clause-unread c =
+    let refused : IsRefusal c.args.source.now (NameTooLong c.in-NameTooLong.at) = rw c.in-NameTooLong.is at c.in-Err.ensures.refused in
+    without_tokens c.args.source.now (NameTooLong c.in-NameTooLong.at) 4 c.in-NameTooLong.at refused.1 (refl, refl)
+
+pub unreachable-requires : goal.unreachable-requires
+unreachable-requires c =
+    let length = c.in-SourceTooLong.field-0 in
+    let refused : IsRefusal c.args.source.now (SourceTooLong length) = rw c.in-SourceTooLong.is at c.in-Err.ensures.refused in
+    omega (arith, refused.0, c.requires)
