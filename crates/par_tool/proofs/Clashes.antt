@@ -7,7 +7,7 @@ use Rattle.par_lexer.specs.Tokens.{HasTokens, LexBroken}
 use Rattle.par_lexer.proofs.Cuts as cuts
 use Rattle.par_grammar.specs.Derivation.{Fault, Outcome}
 use Rattle.par_grammar.proofs.Total as total
-use Rattle.par_tree.specs.Values.{Value, source}
+use Rattle.par_tree.specs.Values as whole
 use Rattle.par_parser.specs.Sentence.{IsSentence, HasFault}
 use Rattle.par_straight.specs.declared.program.Program.{Program}
 use Rattle.par_straight.specs.declared.tree.Source.{Source}
@@ -28,7 +28,7 @@ tokens_or_fault source tokens error cut broken =
 -- no tokens are a sentence and at fault
 sentence_or_fault : (tokens : List Token) (fault : Fault) → IsSentence tokens → HasFault tokens fault → ⊥
 sentence_or_fault tokens fault sentence found =
-    let well : Outcome Value = Ok (source sentence.0 ∷ [], sentence.1.0) in
+    let well : Outcome whole.Value = Ok (whole.source sentence.0 ∷ [], sentence.1.0) in
     let same : well ≡ Err fault = total.decided sentence.1.1 found in cc
 
 -- no straight-line source has tokens at fault
