@@ -6,14 +6,11 @@ use crate::expect::expect;
 use par_exprs::parse_expr;
 use par_lexer::lex;
 use par_lexer::list::List;
-use par_lexer::name::Name;
 use par_lexer::token::Token;
 use par_parser::{ParseError, parse};
-use par_tree::decl::{ClassDecl, Decl, MethodDecl, Program};
+use par_tree::decl::{ClassDecl, Decl, Program};
 use par_tree::expr::{BinOp, Expr, ExprKind};
-use par_tree::ident::Ident;
-use par_tree::nodes::nodes;
-use par_tree::stmt::{Block, Stmt, StmtKind};
+use par_tree::stmt::{Stmt, StmtKind};
 use std::alloc::Global;
 use std::test::Fail;
 
@@ -99,7 +96,20 @@ fn is_main(class: &ClassDecl) -> bool {
 }
 
 fn are_statements(stmts: &[Stmt]) -> bool {
-    let [local, test, looped, tried, asked, open, set, call, member, checked, back] = stmts else {
+    let [
+        local,
+        test,
+        looped,
+        tried,
+        asked,
+        open,
+        set,
+        call,
+        member,
+        checked,
+        back,
+    ] = stmts
+    else {
         return false;
     };
     matches!(&local.kind, StmtKind::Local(_))
@@ -130,10 +140,26 @@ fn a_source_of_each_form_is_read(rt: HostRuntime) -> Result<(), Fail> {
 const REFUSED: &[(&str, &[u8], ParseError)] = &[
     ("no declaration", b"Shop { }", ParseError::Syntax(0)),
     ("no semicolon", b"actor alice lock", ParseError::Syntax(2)),
-    ("the end in a class", b"class Shop { int x;", ParseError::Syntax(6)),
-    ("a policy of an inferred field", b"class Shop { ?_ input int key(); }", ParseError::Syntax(5)),
-    ("a third actor", b"lock Both(actor, actor, actor);", ParseError::Syntax(6)),
-    ("a value as a statement", b"class C { void m() { 1; } }", ParseError::Syntax(8)),
+    (
+        "the end in a class",
+        b"class Shop { int x;",
+        ParseError::Syntax(6),
+    ),
+    (
+        "a policy of an inferred field",
+        b"class Shop { ?_ input int key(); }",
+        ParseError::Syntax(5),
+    ),
+    (
+        "a third actor",
+        b"lock Both(actor, actor, actor);",
+        ParseError::Syntax(6),
+    ),
+    (
+        "a value as a statement",
+        b"class C { void m() { 1; } }",
+        ParseError::Syntax(8),
+    ),
 ];
 
 fn is_refused(alloc: Global, source: &[u8], error: ParseError) -> Result<bool, Fail> {
@@ -172,31 +198,4 @@ fn an_expression_is_read(rt: HostRuntime) -> Result<(), Fail> {
     expect(is_sum(&read), "a sum with a product in it")?;
     expect(next == 10, "the semicolon is next")?;
     expect(nesting == 6, "three more count")
-}
-
-// A method without statements.
-fn empty_method(alloc: Global) -> Result<MethodDecl, Fail> {
-    let name = Name::new(alloc, b"main")?;
-    Ok(MethodDecl {
-        id: Ident { name, at: 0 },
-        is_static: true,
-        result: None,
-        policy: None,
-        params: List::new(alloc),
-        effects: List::new(alloc),
-        expects: List::new(alloc),
-        opens: List::new(alloc),
-        closes: List::new(alloc),
-        throws: List::new(alloc),
-        body: Block {
-            stmts: List::new(alloc),
-            at: 6,
-        },
-    })
-}
-
-#[test]
-fn an_empty_method_has_one_node(rt: HostRuntime) -> Result<(), Fail> {
-    let method = empty_method(rt.alloc())?;
-    expect(nodes(&method) == 1, "the block of its body")
 }
