@@ -1,5 +1,5 @@
 -- A source has one verdict at most.
-use Rattle.std.proofs.Common.{◌≡◌, ℕ, List, [], ◌∷◌, Ok, Err, ap, subst}
+use Rattle.std.proofs.Common.{◌≡◌, ℕ, List, [], ◌∷◌, Ok, Err, subst}
 use Rattle.par_lexer.specs.declared.token.Token.{Token}
 use Rattle.par_lexer.specs.declared.token.LexError.{LexError}
 use Rattle.par_lexer.specs.Tokens as lexed
@@ -10,7 +10,6 @@ use Rattle.par_grammar.proofs.Total as total
 use Rattle.par_tree.specs.Values as whole
 use Rattle.par_parser.specs.Sentence.{IsSentence, HasFault}
 use Rattle.par_straight.specs.declared.program.Program.{Program}
-use Rattle.par_straight.specs.declared.tree.Source.{Source}
 use Rattle.par_straight.specs.Rules.{IsRefused}
 use Rattle.par_straight.specs.Sentence.{HasTree}
 use Rattle.par_straight.specs.Judged.{HasProgram}

@@ -1,5 +1,5 @@
 -- How many reads and writes are made, one job after another, and where memory is wanting.
-use Rattle.std.proofs.Common.{◌≡◌, ◌∙◌, ap, ℕ, ◌≤◌, Result, Ok, Err, IfErr, IsErrAnd, refl, arith}
+use Rattle.std.proofs.Common.{◌≡◌, ◌∙◌, ap, ℕ, Result, Ok, Err, IfErr, IsErrAnd, refl, arith}
 use Rattle.par_io.specs.Causes.{FolderCounts, Makes, raised}
 use Rattle.par_tool.specs.declared.reading.Failure.{Failure}
 use Rattle.par_tool.specs.declared.reading.Failure.TheVariants.{Answered, Memory}

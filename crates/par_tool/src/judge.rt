@@ -24,14 +24,18 @@ use par_straight_reader::cursor::ParseError as StraightError;
 use par_straight_reader::reader::parse as parse_straight;
 use std::alloc::Global;
 
-/// The rules on the tokens of a source, by their numbers.
+// The rules on the tokens of a source, by their numbers.
 const BAD_BYTE: u16 = 1;
+
 const NUMBER_TOO_LARGE: u16 = 2;
+
 const OPEN_COMMENT: u16 = 3;
+
 const NAME_TOO_LONG: u16 = 4;
 
-/// The rules on its sentence.
+// The rules on its sentence.
 const SYNTAX: u16 = 10;
+
 const TOO_DEEP: u16 = 11;
 
 /// What is said of a source.
@@ -49,10 +53,7 @@ pub enum Judgement {
 #[derive(Clone, Copy)]
 pub enum Unread {
     /// It has no tokens, or they are no sentence.
-    Broken {
-        rule: u16,
-        at: u32,
-    },
+    Broken { rule: u16, at: u32 },
     Memory,
 }
 

@@ -1,10 +1,9 @@
-use Rattle.std.proofs.Common.{◌≤◌, Ok, ap, length, arith}
-use Rattle.par_lexer.specs.Tokens.{HasTokens}
+use Rattle.std.proofs.Common.{Ok, ap, arith}
 use Rattle.par_straight.specs.Judged.{HasProgram}
 use Rattle.par_straight.specs.Rules.{IsAccepted, IsRefused}
 use Rattle.par_straight.proofs.Places.{refused_within}
 use Rattle.par_straight.proofs.TwoRuns.{accepted_is_secure}
-use Rattle.par_tool.specs.Judgements.{Breaks, has_refused_program}
+use Rattle.par_tool.specs.Judgements.{has_refused_program}
 use Rattle.par_tool.proofs.judge.judge_sentence.Goals as goal
 
 pub returns-in_default : goal.returns-in_default
