@@ -2,11 +2,14 @@
 """Times how long `paragonc --check` takes to read sources of 131,072 and of 262,144 bytes.
 
 Each source is a sentence that is no straight-line source, so that it is read whole and then
-answered with `not built`. paragonc has to be built (README.md, "Commands"). The growth is the
-quotient of both times, the time of an empty source taken off each.
+answered with `not built`. paragonc has to be built (README.md, "Commands"). Where there is
+valgrind, the growth is the quotient of the machine instructions that both take, which other load
+does not change; else that of the times, the time of an empty source taken off each.
 """
 
 import pathlib
+import re
+import shutil
 import subprocess
 import sys
 import tempfile
@@ -79,6 +82,22 @@ def seconds(folder, source):
     return best, answer.strip()
 
 
+def instructions(folder, source):
+    (folder / "a.par").write_text(source)
+    words = ["valgrind", "--tool=callgrind", "--callgrind-out-file=/dev/null", PARAGONC]
+    told = subprocess.run(
+        [*words, "--check", "a.par"], cwd=folder, capture_output=True, text=True
+    ).stderr
+    return int(re.search(r"Collected : (\d+)", told)[1])
+
+
+def growth(folder, source, half, whole):
+    if shutil.which("valgrind"):
+        lesser = instructions(folder, source(LONGEST // 2))
+        return instructions(folder, source(LONGEST)) / lesser
+    return whole / max(half, 1e-6)
+
+
 def main():
     if not PARAGONC.exists():
         sys.exit(f"there is no {PARAGONC}")
@@ -89,8 +108,8 @@ def main():
         for shape, source in SHAPES.items():
             half, _ = seconds(folder, source(LONGEST // 2))
             whole, answer = seconds(folder, source(LONGEST))
-            growth = (whole - start) / max(half - start, 1e-6)
-            print(f"{shape:24} {half:8.3f} {whole:8.3f} {growth:7.2f}  {answer}")
+            times = growth(folder, source, half - start, whole - start)
+            print(f"{shape:24} {half:8.3f} {whole:8.3f} {times:7.2f}  {answer}")
 
 
 if __name__ == "__main__":
