@@ -7,6 +7,7 @@ use Rattle.par_lexer.specs.declared.token.LexError.TheVariants.{BadByte, NumberT
 use Rattle.par_lexer.specs.declared.piece.Piece.{Piece}
 use Rattle.par_lexer.specs.declared.piece.Piece.TheVariants as piece
 use Rattle.par_lexer.specs.Tokens.{Outcome, Cut, ends, passes, takes, breaks, HasTokens, LexBroken, IsRefusal, IsPlaced}
+use Rattle.par_lexer.specs.declared.cut.TheConstants.{LONGEST_SOURCE}
 use Rattle.par_lexer.specs.Spans.{IsFaultWithin, Reaches}
 use Rattle.par_lexer.proofs.Reach.{reaches}
 use Rattle.par_lexer.proofs.Cuts.{no_fault}
@@ -43,10 +44,10 @@ pub broken_within : (source : List ℕ) (error : LexError) → LexBroken source 
 broken_within source error broken = wider 0 (0 + length source) 0 (length source) error (omega arith) (omega arith) (fault_within broken error refl)
 
 -- a source of a length that is read is refused for its first fault
-pub refusal : (source : List ℕ) (error : LexError) → length source ≤ 262144 → LexBroken source error → IsRefusal source error
+pub refusal : (source : List ℕ) (error : LexError) → length source ≤ LONGEST_SOURCE → LexBroken source error → IsRefusal source error
 refusal source error short broken = refused source error short broken (broken_within source error broken)
   where
-    refused : (source : List ℕ) (error : LexError) → length source ≤ 262144 → LexBroken source error → IsFaultWithin 0 (length source) error → IsRefusal source error
+    refused : (source : List ℕ) (error : LexError) → length source ≤ LONGEST_SOURCE → LexBroken source error → IsFaultWithin 0 (length source) error → IsRefusal source error
     refused source (BadByte at) short broken within = (short, broken)
     refused source (NumberTooLarge at) short broken within = (short, broken)
     refused source (OpenComment at) short broken within = (short, broken)
@@ -67,7 +68,7 @@ placed source error broken = in_source source error (broken_within source error 
     in_source source Memory within = tt
 
 -- a source that is refused, but not for its length or want of memory, has no tokens
-pub no_tokens : (source : List ℕ) (error : LexError) (tokens : List Token) → IsRefusal source error → length source ≤ 262144 → error ≢ Memory → HasTokens source tokens → ⊥
+pub no_tokens : (source : List ℕ) (error : LexError) (tokens : List Token) → IsRefusal source error → length source ≤ LONGEST_SOURCE → error ≢ Memory → HasTokens source tokens → ⊥
 no_tokens source (BadByte at) tokens refused short other read = no_fault source tokens _ read refused.1
 no_tokens source (NumberTooLarge at) tokens refused short other read = no_fault source tokens _ read refused.1
 no_tokens source (OpenComment at) tokens refused short other read = no_fault source tokens _ read refused.1

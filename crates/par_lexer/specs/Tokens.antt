@@ -6,6 +6,7 @@ use Rattle.par_lexer.specs.declared.token.LexError.{LexError}
 use Rattle.par_lexer.specs.declared.token.LexError.TheVariants.{BadByte, NumberTooLarge, OpenComment, NameTooLong, SourceTooLong, Memory}
 use Rattle.par_lexer.specs.declared.piece.Piece.TheVariants as piece
 use Rattle.par_lexer.specs.Pieces.{piece_at}
+use Rattle.par_lexer.specs.declared.cut.TheConstants.{LONGEST_SOURCE}
 
 -- tokens, or the fault for which there are none
 abbrev pub Outcome : Type 0
@@ -41,9 +42,9 @@ LexBroken source error = Cut 0 source (Err error)
 
 -- why a source is refused: it is too long, or else its first fault; memory may be wanting at any source
 abbrev pub IsRefusal : List ℕ → LexError → Type 0
-IsRefusal source (SourceTooLong n) = (262144 < length source) × (n ≡ length source)
+IsRefusal source (SourceTooLong n) = (LONGEST_SOURCE < length source) × (n ≡ length source)
 IsRefusal source Memory = Unit {0}
-IsRefusal source error = (length source ≤ 262144) × LexBroken source error
+IsRefusal source error = (length source ≤ LONGEST_SOURCE) × LexBroken source error
 
 -- a place that the error carries stands within the source
 abbrev pub IsPlaced : List ℕ → LexError → Type 0

@@ -15,7 +15,7 @@ pub const LONGEST_SOURCE: usize = 262_144;
 // The piece that stands at a place of a source.
 fn next_piece(alloc: Global, source: &[u8], at: u32) -> Result<Piece, NoMemory>
     requires inside { at ≤ length source.now }
-    requires short { length source.now ≤ 262144 }
+    requires short { length source.now ≤ LONGEST_SOURCE }
     ensures piece { IfOk result (λ piece. piece ≡ piece_at at (drop at source.now)) }
     ensures reach { IfOk result (Reaches at (drop at source.now)) }
 {
@@ -29,7 +29,7 @@ pub fn lex(alloc: Global, source: &[u8]) -> Result<List<Token>, LexError>
     ensures ok { IfOk result (HasTokens source.now) }
     ensures laid { IfOk result (IsLaid source.now) }
     ensures too_long { IsErrOf result (LexError.SourceTooLong (length source.now))
-        ↔ (262144 < length source.now) }
+        ↔ (LONGEST_SOURCE < length source.now) }
     ensures refused { IfErr result (IsRefusal source.now) }
     ensures placed { IfErr result (IsPlaced source.now) }
 {

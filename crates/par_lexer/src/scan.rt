@@ -6,6 +6,7 @@ ghost use Rattle.par_lexer.specs.Tables.{words};
 ghost use Rattle.par_lexer.specs.Pieces.{comment_at, through_close, named, name_at, number_at, sign_at, longest_sign, piece_at};
 
 use crate::bytes::{begins_gap, begins_name, begins_number};
+use crate::cut::LONGEST_SOURCE;
 use crate::list::NoMemory;
 use crate::name::{LONGEST, Name};
 use crate::number::value_of;
@@ -52,7 +53,7 @@ fn name_at(alloc: Global, at: u32, bytes: &[u8]) -> Result<Piece, NoMemory>
 
 // The number that the bytes begin with.
 fn number_at(at: u32, bytes: &[u8]) -> Piece
-    requires { at + length bytes.now ≤ 262144 }
+    requires { at + length bytes.now ≤ LONGEST_SOURCE }
     ensures { let digits = prefix_len is_digit bytes.now in
         result ≡ number_at at (take digits bytes.now) (drop digits bytes.now) }
 {
@@ -82,7 +83,7 @@ fn sign_at(at: u32, bytes: &[u8]) -> Piece
 // What stands at the head of these bytes, the first of which is at a place of the source.
 #[tactic(auto, unfolding(crate::specs::Pieces::piece_at))]
 pub fn piece_at(alloc: Global, at: u32, bytes: &[u8]) -> Result<Piece, NoMemory>
-    requires { at + length bytes.now ≤ 262144 }
+    requires { at + length bytes.now ≤ LONGEST_SOURCE }
     ensures { IfOk result (λ piece. piece ≡ piece_at at bytes.now) }
 {
     if bytes.is_empty() {

@@ -20,7 +20,8 @@ use Rattle.par_straight_compile.specs.Code.{max_stack, max_locals, code_of}
 use Rattle.par_straight_compile.specs.Bytes.{IsCode}
 use Rattle.par_straight_compile.specs.Compilable.{IsCompilable}
 use Rattle.par_straight_compile.specs.Constants.{declared_names}
-use Rattle.par_straight_compile.specs.Files.{longest_class, IsFieldOf, HasCode, IsSuperCall, IsChannelOf, AreMethodsOf, IsFileOf}
+use Rattle.par_pool.specs.declared.reading.TheConstants.{LONGEST_CLASS}
+use Rattle.par_straight_compile.specs.Files.{IsFieldOf, HasCode, IsSuperCall, IsChannelOf, AreMethodsOf, IsFileOf}
 use Rattle.par_straight_compile.proofs.Laid.{code_length, coded_pieces, no_pieces}
 use Rattle.par_straight_compile.proofs.Most.{super_length, main_length}
 use Rattle.par_straight_compile.proofs.Texts.{constants_few}
@@ -72,7 +73,7 @@ methods-size p entries least methods fine h =
     subst (λ (ms : List MethodFile). length (flat_map method (map (method_laid least) ms)) ≤ 133170) (sym h.all) all
 
 -- the file of a program as it is written
-pub file_short : (p : Program) (file : ClassFile) → IsCompilable p → All IsName (declared_names p) → IsPool file.pool.entries → IsFileOf p file → length (layout (layout_of file)) ≤ longest_class
+pub file_short : (p : Program) (file : ClassFile) → IsCompilable p → All IsName (declared_names p) → IsPool file.pool.entries → IsFileOf p file → length (layout (layout_of file)) ≤ LONGEST_CLASS
 unfolding layout pool
 file_short p file fine named is-pool h =
     let entries = file.pool.entries in

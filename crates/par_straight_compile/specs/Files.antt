@@ -3,6 +3,7 @@ use Rattle.std.specs.Prelude.{◌≡◌, ℕ, ◌≤◌, List, [], ◌∷◌, �
 use Rattle.std.specs.List.{AllZip}
 use Rattle.par_instr.specs.declared.instr.Instr.TheVariants.{AloadShort, Invokespecial, Return}
 use Rattle.par_instr.specs.Spelling.{spelling}
+use Rattle.par_pool.specs.declared.reading.TheConstants.{LONGEST_CLASS}
 use Rattle.par_pool.specs.declared.constant.Constant.{Constant}
 use Rattle.par_pool.specs.Entries.{IsUtf8At, IsClassAt, IsMethodAt, IsDistinct}
 use Rattle.par_class.specs.declared.file.CodeAttr.{CodeAttr}
@@ -94,13 +95,9 @@ pub record IsFileOf (p : Program) (file : ClassFile) : Type 0 where
   pub methods : AreMethodsOf p file.pool.entries file.methods
   pub attributes : file.attributes ≡ []
 
--- the most bytes that a class file may have to be read
-abbrev pub longest_class : ℕ
-longest_class = 1048576
-
 -- The bytes are a class file of the program, few enough to be read again.
 pub record IsCompiled (p : Program) (bytes : List ℕ) : Type 0 where
   pub file : ClassFile
   pub is : IsFileOf p file
   pub spells : Spells bytes file
-  pub short : length bytes ≤ longest_class
+  pub short : length bytes ≤ LONGEST_CLASS

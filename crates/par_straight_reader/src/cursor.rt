@@ -4,6 +4,7 @@ ghost use Rattle.std.specs.Prelude.{◌≡◌, ◌+◌, ◌≤◌, length};
 ghost use Rattle.par_straight_reader.specs.declared.cursor.ParseError.TheVariants.{Memory};
 
 use par_grammar::sort::{Sort, same, sort_of};
+use par_lexer::LONGEST_SOURCE;
 use par_lexer::list::NoMemory;
 use par_lexer::token::{Kind, Token};
 use par_straight::tree::Ident;
@@ -37,7 +38,7 @@ pub struct Cursor<'a> {
     pub at: u32,
     pub blocks: u32,
     pub counted: u32,
-    ghost fits: { at + length left.now ≤ 262144 },
+    ghost fits: { at + length left.now ≤ LONGEST_SOURCE },
     ghost shallow: { blocks + counted ≤ 64 },
 }
 

@@ -16,6 +16,7 @@ ghost use Rattle.par_straight_reader.specs.Reads.{a_method, method_symbols, faul
 
 use crate::cursor::{Cursor, ParseError};
 use par_grammar::sort::Sort;
+use par_lexer::LONGEST_SOURCE;
 use par_lexer::list::List;
 use par_lexer::token::Token;
 use par_lexer::{sign, word};
@@ -541,7 +542,7 @@ fn whole(alloc: Global, cursor: &mut Cursor<'_>) -> Result<Source, ParseError>
 
 /// Reads all tokens of a straight-line source.
 pub fn parse(alloc: Global, tokens: &[Token]) -> Result<Source, ParseError>
-    requires { length tokens.now ≤ 262144 }
+    requires { length tokens.now ≤ LONGEST_SOURCE }
     ensures ok { IfOk result (HasTree tokens.now) }
     ensures fault { IfErr result (λ e. e ≢ ParseError.Memory → HasFault tokens.now (fault_of e)) }
     ensures none { IfErr result (λ e.

@@ -1,5 +1,5 @@
 use Rattle.std.proofs.Common.{List, ℕ, ◌≤◌, length, sym, subst}
-use Rattle.par_straight_compile.specs.Files.{longest_class}
+use Rattle.par_pool.specs.declared.reading.TheConstants.{LONGEST_CLASS}
 use Rattle.par_straight_compile.proofs.Laid.{file_spelled}
 use Rattle.par_straight_compile.proofs.Short.{file_short}
 use Rattle.par_straight_compile.proofs.file.compile.Goals as goal
@@ -14,5 +14,5 @@ returns c =
       file = c.in_ok-file.file;
       is = c.in_ok-file.ensures.is;
       spells = c.in_ok-bytes.ensures.spelled;
-      short = subst (λ (bytes : List ℕ). length bytes ≤ longest_class) (sym c.in_ok-bytes.ensures.laid) short;
+      short = subst (λ (bytes : List ℕ). length bytes ≤ LONGEST_CLASS) (sym c.in_ok-bytes.ensures.laid) short;
     }
