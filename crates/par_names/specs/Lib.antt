@@ -1,0 +1,7 @@
+pub mod Declared
+pub mod Members
+pub mod Policies
+pub mod Exprs
+pub mod Stmts
+pub mod Methods
+pub mod Program
