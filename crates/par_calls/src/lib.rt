@@ -13,6 +13,8 @@ mod event_lines;
 #[cfg(test)]
 mod expect;
 #[cfg(test)]
+mod heaps;
+#[cfg(test)]
 mod input_files;
 #[cfg(test)]
 mod instructions;
