@@ -4,3 +4,7 @@ pub mod Callees
 pub mod Least
 pub mod Behind
 pub mod Pushed
+pub mod ExprForms
+pub mod StmtForms
+pub mod Scopes
+pub mod Left

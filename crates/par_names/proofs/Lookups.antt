@@ -21,7 +21,7 @@ at-place : {A : Type 0} (xs : List A) (k : ℕ) (b : Bool) → nat_lt k (length 
 at-place xs k true e = refl
 at-place xs k false e = slice_get_past xs k (grind (arith, nat_tests))
 
-find-place : {A : Type 0} (p : A → Bool) (xs : List A) → find p xs ≡ at xs (position p xs)
+pub find-place : {A : Type 0} (p : A → Bool) (xs : List A) → find p xs ≡ at xs (position p xs)
 find-place p xs = find_at p xs ∙ at-place xs (position_or_len p xs) (nat_lt (position_or_len p xs) (length xs)) refl
 
 -- by a test of what is made of each item

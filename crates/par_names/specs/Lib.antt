@@ -8,3 +8,4 @@ pub mod Program
 pub mod Indexed
 pub mod Seen
 pub mod Earliest
+pub mod Scoped

@@ -38,7 +38,7 @@ abbrev pub selected_named : Class → List ℕ → Option Bool
 selected_named class name = static_of (field_named class name)
 
 -- a static member that is there
-abbrev pub is_static : Option Bool → Bool
+unfoldable pub is_static : Option Bool → Bool
 is_static None = false
 is_static (Some s) = s
 

@@ -5,14 +5,18 @@
 //! broken rules of policies, types and bodies. It numbers nothing and knows no types.
 #![tactic(auto)]
 
+mod body;
 mod builtin;
 mod doubles;
+mod expr;
 mod lookup;
 mod named;
 mod policy;
 mod rule;
+mod scope;
 mod view;
 
+pub use body::check_body;
 pub use builtin::builtin_classes;
 pub use doubles::check_doubles;
 pub use lookup::{ClassNames, Classes, Locks};
