@@ -1,5 +1,5 @@
 -- The rules on names in expressions.
-use Rattle.std.specs.Prelude.{ℕ, Bool, true, false, not, ◌||◌, ◌&&◌, if◌then◌else◌, List, [], ◌∷◌, ◌++◌, Option, Some, None}
+use Rattle.std.specs.Prelude.{ℕ, Bool, true, not, ◌||◌, ◌&&◌, if◌then◌else◌, List, [], ◌++◌, Option, Some, None}
 use Rattle.std.specs.Option.{is_some}
 use Rattle.par_index.specs.Texts.{has}
 use Rattle.par_tree.specs.declared.ident.Ident.{Ident}
