@@ -5,7 +5,7 @@ use Rattle.std.proofs.lemmas.Bool.Decides.{nat_tests}
 use Rattle.par_typed.specs.declared.refusal.Refusal.{Refusal}
 use Rattle.par_typed.specs.First.{when, exceeded}
 use Rattle.par_tree.specs.declared.decl.LockDecl.{LockDecl}
-use Rattle.par_table.specs.Limits.{ground, lock_limit, locks_limit}
+use Rattle.par_table.specs.Limits.{ground, tellable, lock_limit, locks_limit}
 use Rattle.par_table.specs.declared.limit.TheConstants.{LOCKS}
 
 pub locks_end : (actors sum : ℕ) → locks_limit actors sum [] ≡ []
@@ -32,5 +32,9 @@ unfolding locks_limit
 past actors sum [] lt = refl
 past actors sum (lock ∷ locks) lt =
     let rest = past actors (sum + ground actors lock) locks (omega arith) in
-    let none = nothing sum (not (nat_le (sum + ground actors lock) LOCKS.most)) (exceeded LOCKS.number (sum + ground actors lock) lock.id.at) lt in
+    let none = nothing sum (not (nat_le (sum + ground actors lock) LOCKS.most)) (exceeded LOCKS.number (tellable (sum + ground actors lock)) lock.id.at) lt in
     ap (λ fs. fs ++ locks_limit actors (sum + ground actors lock) locks) none ∙ rest
+
+-- what is told as too much is too much
+pub too_much : (told sum : ℕ) → told ≡ tellable sum → LOCKS.most < told → LOCKS.most < sum
+too_much told sum e lt = omega arith

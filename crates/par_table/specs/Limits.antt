@@ -1,5 +1,5 @@
 -- The limits that are counted.
-use Rattle.std.specs.Prelude.{ℕ, Bool, ◌+◌, ◌*◌, not, ◌&&◌, nat_lt, nat_le, nat_eq, if◌then◌else◌, List, [], ◌∷◌, ◌++◌, flat_map, map, take, drop, length, sum_by, Option, Some, None, slice_get}
+use Rattle.std.specs.Prelude.{ℕ, ◌+◌, ◌-◌, ◌^◌, min, not, ◌&&◌, nat_lt, nat_le, List, [], ◌∷◌, ◌++◌, flat_map, map, take, drop, length, sum_by, Option, Some, None, slice_get}
 use Rattle.std.specs.List.{prefix_len}
 use Rattle.par_tree.specs.declared.decl.LockDecl.{LockDecl}
 use Rattle.par_tree.specs.Nodes.{method_nodes}
@@ -45,16 +45,19 @@ member_places class = in_order (map (λ f. f.id.at) class.fields) (map (λ c. c.
 
 -- ---- the limit on locks
 
--- how many locks a declaration has: a family one for each choice of its actors
+-- a family of k actors has (number of actors) to the k locks
 abbrev pub ground : ℕ → LockDecl → ℕ
-ground actors lock =
-    if nat_eq lock.arity 0 then 1 else if nat_eq lock.arity 1 then actors else actors * actors
+ground actors lock = actors ^ lock.arity
+
+-- a count, or the most that a refusal can tell
+abbrev pub tellable : ℕ → ℕ
+tellable count = min count (2 ^ 32 - 1)
 
 -- the lock with which the sum first exceeds
 abbrev pub lock_limit : ℕ → ℕ → LockDecl → List Refusal
 lock_limit actors sum lock =
     when (nat_le sum LOCKS.most && not (nat_le (sum + ground actors lock) LOCKS.most))
-    (exceeded LOCKS.number (sum + ground actors lock) lock.id.at)
+    (exceeded LOCKS.number (tellable (sum + ground actors lock)) lock.id.at)
 
 -- the locks behind others, of which there are this many
 unfoldable pub locks_limit : ℕ → ℕ → List LockDecl → List Refusal
