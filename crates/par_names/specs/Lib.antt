@@ -1,7 +1,10 @@
-pub mod Declared
+pub mod Declarations
 pub mod Members
 pub mod Policies
 pub mod Exprs
 pub mod Stmts
 pub mod Methods
 pub mod Program
+pub mod Indexed
+pub mod Seen
+pub mod Earliest
