@@ -6,7 +6,7 @@ use Rattle.par_tree.specs.declared.decl.Decl.{Decl}
 use Rattle.par_tree.specs.declared.decl.MethodDecl.{MethodDecl}
 use Rattle.par_tree.specs.Nodes.{method_nodes}
 use Rattle.par_tree.specs.Shown.{method, methods, declared, all_declared}
-use Rattle.par_table.specs.Sizes.{method_size, methods_size, declaration_size, source_size}
+use Rattle.par_parser.specs.Bodies.{method_size, methods_size, declaration_size, source_size}
 
 pub nodes_more : (m : MethodDecl) (ms : List MethodDecl)
     → sum_by method_nodes (methods (m ∷ ms)) ≡ method_nodes (method m) + sum_by method_nodes (methods ms)

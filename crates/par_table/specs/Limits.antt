@@ -4,7 +4,7 @@ use Rattle.std.specs.List.{prefix_len}
 use Rattle.par_tree.specs.declared.decl.LockDecl.{LockDecl}
 use Rattle.par_tree.specs.Nodes.{method_nodes}
 use Rattle.par_tree.specs.Plain.{Class, Method, Source}
-use Rattle.par_names.specs.Declared.{actors, locks, classes_in}
+use Rattle.par_names.specs.Declarations.{actors, locks, declared_classes}
 use Rattle.par_typed.specs.declared.refusal.Refusal.{Refusal}
 use Rattle.par_typed.specs.First.{when, exceeded, in_passes}
 use Rattle.par_table.specs.declared.limit.Limit.{Limit}
@@ -27,7 +27,7 @@ actor_places source = map (λ a. a.at) (actors source)
 
 -- where the classes are declared; those that every program has are not
 abbrev pub class_places : Source → List ℕ
-class_places source = map (λ c. c.id.at) (flat_map classes_in source)
+class_places source = map (λ c. c.id.at) (declared_classes source)
 
 -- how many of these places are before another, up to the first that is not
 abbrev pub earlier : List ℕ → ℕ → ℕ
@@ -94,4 +94,4 @@ class_limits class =
 abbrev pub count_faults : Source → List Refusal
 count_faults source =
     declared_limits source ++ one_too_many CLASSES (class_places source)
-    ++ flat_map class_limits (flat_map classes_in source)
+    ++ flat_map class_limits (declared_classes source)

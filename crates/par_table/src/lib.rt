@@ -1,11 +1,14 @@
-//! The table of a program: its names are told apart, and its limits are kept.
+//! The limits of a program that are counted: of its actors, locks and classes, and of the members
+//! and methods of each class.
 //!
-//! The crate looks at a whole tree and tells the first broken rule of the names, or where none is
-//! broken, of the limits. It types no expression, and it changes nothing in the tree.
+//! The crate looks at a whole tree and notes which limits it exceeds. It looks up no name, and it
+//! changes nothing in the tree.
 #![tactic(auto)]
 
 mod counts;
-mod limit;
+pub mod limit;
 mod locals;
 mod locks;
 mod places;
+
+pub use counts::check_counts;

@@ -2,7 +2,7 @@
 
 ghost use Rattle.std.specs.Prelude.{◌≡◌, ◌≤◌, ◌+◌};
 ghost use Rattle.par_tree.specs.Shown.{all_declared};
-ghost use Rattle.par_names.specs.Declared.{locks};
+ghost use Rattle.par_names.specs.Declarations.{locks};
 ghost use Rattle.par_typed.specs.First.{first_of};
 ghost use Rattle.par_table.specs.Limits as limit;
 

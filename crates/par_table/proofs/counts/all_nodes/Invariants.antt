@@ -2,7 +2,7 @@ use Rattle.std.proofs.Common.{◌≡◌, ◌+◌, ◌<◌, ◌^◌, drop}
 use Rattle.std.specs.List.{sum_by}
 use Rattle.par_tree.specs.Nodes.{method_nodes}
 use Rattle.par_tree.specs.Shown.{methods}
-use Rattle.par_table.specs.Sizes.{methods_size}
+use Rattle.par_parser.specs.Bodies.{methods_size}
 use Rattle.par_table.proofs.counts.all_nodes.Given as goal
 
 abbrev pub invariant-loop-method : goal.invariant-loop-method

@@ -1,6 +1,6 @@
 use Rattle.std.proofs.Common.{arith, length, sym}
 use Rattle.par_tree.specs.Shown.{all_declared}
-use Rattle.par_names.specs.Declared.{locks}
+use Rattle.par_names.specs.Declarations.{locks}
 use Rattle.par_table.specs.Limits.{locks_limit}
 use Rattle.par_table.specs.declared.limit.TheConstants.{ACTORS}
 use Rattle.par_table.proofs.Placed.{goes_on, ends}

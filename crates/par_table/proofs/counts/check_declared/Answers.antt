@@ -1,7 +1,7 @@
 use Rattle.std.proofs.Common.{arith, ap, sym, ◌≡◌, length, ◌∙◌}
 use Rattle.std.proofs.lemmas.List.{length-map}
 use Rattle.par_tree.specs.Shown.{all_declared}
-use Rattle.par_names.specs.Declared.{actors}
+use Rattle.par_names.specs.Declarations.{actors}
 use Rattle.par_table.specs.Limits.{actor_places}
 use Rattle.par_table.proofs.counts.check_declared.Goals as goal
 

@@ -2,7 +2,7 @@ use Rattle.std.proofs.Common.{◌≡◌, ◌<◌, ◌^◌, drop, flat_map}
 use Rattle.par_tree.specs.Shown.{methods}
 use Rattle.par_typed.specs.First.{first_of}
 use Rattle.par_table.specs.Limits.{method_limits}
-use Rattle.par_table.specs.Sizes.{methods_size}
+use Rattle.par_parser.specs.Bodies.{methods_size}
 use Rattle.par_table.proofs.counts.check_methods.Given as goal
 
 abbrev pub invariant-loop-method : goal.invariant-loop-method

@@ -1,6 +1,6 @@
 use Rattle.std.proofs.Common.{arith, ◌+◌, drop}
 use Rattle.par_tree.specs.Shown.{all_declared}
-use Rattle.par_names.specs.Declared.{locks}
+use Rattle.par_names.specs.Declarations.{locks}
 use Rattle.par_typed.proofs.First.{firsts}
 use Rattle.par_table.specs.Limits.{ground}
 use Rattle.par_table.proofs.Lists.{left_more, left_none}

@@ -1,6 +1,6 @@
 use Rattle.std.proofs.Common.{◌≡◌, ◌≤◌, drop}
 use Rattle.par_tree.specs.Shown.{all_declared}
-use Rattle.par_names.specs.Declared.{locks}
+use Rattle.par_names.specs.Declarations.{locks}
 use Rattle.par_typed.specs.First.{first_of}
 use Rattle.par_table.specs.Limits.{locks_limit}
 use Rattle.par_table.specs.declared.limit.TheConstants.{LOCKS}
