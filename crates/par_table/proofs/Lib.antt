@@ -1,0 +1,5 @@
+pub mod Lists
+pub mod Placed
+pub mod Sized
+pub mod Sums
+pub mod Locked
