@@ -1,0 +1,6 @@
+pub mod Fits
+pub mod Exprs
+pub mod Stmts
+pub mod Kept
+pub mod Methods
+pub mod Program
