@@ -1,0 +1,4 @@
+pub mod Frames
+pub mod Exprs
+pub mod Stmts
+pub mod Bodies
