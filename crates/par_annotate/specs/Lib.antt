@@ -2,3 +2,4 @@ pub mod Frames
 pub mod Exprs
 pub mod Stmts
 pub mod Bodies
+pub mod Points

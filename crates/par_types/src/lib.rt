@@ -7,8 +7,10 @@
 
 mod exprs;
 mod fits;
+mod inferred;
 mod methods;
 mod program;
 mod stmts;
 
+pub use inferred::first_inferred;
 pub use program::check_bodies;
