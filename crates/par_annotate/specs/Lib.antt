@@ -3,3 +3,4 @@ pub mod Exprs
 pub mod Stmts
 pub mod Bodies
 pub mod Points
+pub mod Laws
