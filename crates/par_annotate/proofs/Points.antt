@@ -1,7 +1,5 @@
 -- The points of a typed tree are the numbers from its own on, each once, in the order of the nodes.
 use Rattle.std.proofs.Common.{◌≡◌, ℕ, zero, suc, ◌+◌, Bool, true, false, List, [], ◌∷◌, ◌++◌, Option, Some, None, refl, sym, ap, subst, ◌∙◌, arith}
-use Rattle.std.specs.Prelude.{slice_get}
-use Rattle.par_lexer.specs.declared.operator.BinOp.{BinOp}
 use Rattle.par_tree.specs.Plain.{Exp, Int, True, False, Null, This, New, Name, Field, Call, Neg, Not, Binary}
 use Rattle.par_tree.specs.Plain.{Exps, NoExps, More, MayExp, Absent, Present}
 use Rattle.par_typed.specs.declared.table.ChannelInfo.{ChannelInfo}
@@ -19,7 +17,7 @@ use Rattle.par_scope.specs.Members.{field_at, channel_at, method_at, field_is_st
 use Rattle.par_scope.specs.Meaning.{type_of, called_on, receiver_of, selected, called, sure}
 use Rattle.par_annotate.specs.Frames.{Frame, Var, var_named}
 use Rattle.par_annotate.specs.Exprs.{own_this, own_field, field_named, name_typed, negation, number_of, selection, own_receiver, method_on}
-use Rattle.par_annotate.specs.Exprs.{callee_on, first, behind, by_way, through, call, typed_exp, typed_may, typed_args, mark_of}
+use Rattle.par_annotate.specs.Exprs.{callee_on, first, by_way, through, call, typed_exp, typed_may, typed_args, mark_of}
 use Rattle.par_annotate.specs.Points.{count_from, points, may_points, args_points}
 
 -- ---- numbers one after another

@@ -1,12 +1,12 @@
 -- The points of typed statements.
-use Rattle.std.proofs.Common.{◌≡◌, ℕ, ◌+◌, Bool, true, false, List, [], ◌∷◌, ◌++◌, Option, Some, None, refl, sym, ap, ◌∙◌, arith}
+use Rattle.std.proofs.Common.{◌≡◌, ℕ, ◌+◌, Bool, true, false, List, ◌∷◌, ◌++◌, Option, Some, None, sym, ap, ◌∙◌, arith}
 use Rattle.par_tree.specs.Plain.{Exp, Int, True, False, Null, This, New, Name, Field, Call, Neg, Not, Binary}
 use Rattle.par_tree.specs.Plain.{Sta, Block, If, While, Try, Return, Break, Continue, Throw, Open, Close}
 use Rattle.par_tree.specs.Plain.{Declare, Assign, Do, When, Braces, In, MayBraces, NoBraces}
 use Rattle.par_tree.specs.Plain.{Else, NoElse, Otherwise, Stas, End, Then, Catches, NoCatch, Catch, Handler, On}
 use Rattle.par_tree.specs.Plain as plain
-use Rattle.par_typed.specs.Plain.{TExp, TSta}
-use Rattle.par_typed.specs.Nodes.{nodes, may_nodes, stmt_nodes, else_nodes, all_nodes, catch_nodes}
+use Rattle.par_typed.specs.Plain.{TExp}
+use Rattle.par_typed.specs.Nodes.{nodes, stmt_nodes, else_nodes, all_nodes, catch_nodes}
 use Rattle.par_scope.specs.declared.members.Place.{Place}
 use Rattle.par_scope.specs.declared.meaning.Receiver.{Receiver}
 use Rattle.par_scope.specs.declared.meaning.Receiver.TheVariants.{Own, Class, Object}
@@ -14,12 +14,12 @@ use Rattle.par_scope.specs.Home.{Home}
 use Rattle.par_scope.specs.Members.{field_at, field_is_static}
 use Rattle.par_scope.specs.Meaning.{type_of, receiver_of, selected}
 use Rattle.par_annotate.specs.Frames.{Frame, Var, var_named, further}
-use Rattle.par_annotate.specs.Exprs.{own_this, typed_exp, typed_may}
+use Rattle.par_annotate.specs.Exprs.{own_this, typed_exp}
 use Rattle.par_annotate.specs.Stmts.{Written, Target, Nowhere, ToLocal, ToStatic, ToField, target, target_nodes, assignment}
 use Rattle.par_annotate.specs.Stmts.{own_target, field_target, name_target, selected_target, behind}
 use Rattle.par_annotate.specs.Stmts.{typed_sta, typed_braces, typed_may_braces, typed_else, typed_stas, typed_catches, typed_handler}
 use Rattle.par_annotate.specs.Stmts.{braces_locals, handler_locals}
-use Rattle.par_annotate.specs.Points.{count_from, points, may_points, stmt_points, else_points, all_points, catch_points}
+use Rattle.par_annotate.specs.Points.{count_from, points, stmt_points, else_points, all_points, catch_points}
 use Rattle.par_annotate.proofs.Points.{count_none, count_one, count_append, one_part, two_parts, this_counts, typed_exp_counts, typed_may_counts}
 
 three_parts : (p a b c : ℕ) (xs ys zs : List ℕ) → xs ≡ count_from (p + 1) a → ys ≡ count_from (p + 1 + a) b
