@@ -1,0 +1,6 @@
+pub mod Frames
+pub mod Exprs
+pub mod Stmts
+pub mod Bodies
+pub mod Points
+pub mod Laws

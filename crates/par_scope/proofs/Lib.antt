@@ -1,0 +1,4 @@
+pub mod Few
+pub mod Forms
+pub mod Numbers
+pub mod Stacked

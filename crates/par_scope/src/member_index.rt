@@ -1,0 +1,67 @@
+//! The names of the members of a class.
+
+ghost use Rattle.std.specs.Prelude.{◌≡◌, IfOk, map};
+ghost use Rattle.par_index.specs.Texts.{texts};
+ghost use Rattle.par_scope.specs.Names.{member_names};
+ghost use Rattle.par_scope.specs.Indexed.{members_indexed};
+
+use par_index::NameIndex;
+use par_lexer::list::NoMemory;
+use par_typed::table::{ChannelInfo, ClassInfo, FieldInfo, MethodInfo};
+use std::alloc::Global;
+
+/// The names of the members of a class: fields have one set of names, channels and methods have
+/// theirs.
+#[derive(Drop)]
+pub struct MemberIndex<'a> {
+    pub(crate) fields: NameIndex<'a>,
+    pub(crate) channels: NameIndex<'a>,
+    pub(crate) methods: NameIndex<'a>,
+}
+
+fn field_names<'a>(alloc: Global, fields: &'a [FieldInfo]) -> Result<Vec<&'a [u8]>, NoMemory>
+    ensures { IfOk result (λ names. texts names.items ≡ map (λ f. f.name) fields.now) }
+{
+    let mut names = Vec::new(alloc);
+    for field in fields {
+        names.push(field.name.bytes())?;
+    }
+    Ok(names)
+}
+
+fn channel_names<'a>(alloc: Global, channels: &'a [ChannelInfo]) -> Result<Vec<&'a [u8]>, NoMemory>
+    ensures { IfOk result (λ names. texts names.items ≡ map (λ c. c.name) channels.now) }
+{
+    let mut names = Vec::new(alloc);
+    for channel in channels {
+        names.push(channel.name.bytes())?;
+    }
+    Ok(names)
+}
+
+fn method_names<'a>(alloc: Global, methods: &'a [MethodInfo]) -> Result<Vec<&'a [u8]>, NoMemory>
+    ensures { IfOk result (λ names. texts names.items ≡ map (λ m. m.name) methods.now) }
+{
+    let mut names = Vec::new(alloc);
+    for method in methods {
+        names.push(method.name.bytes())?;
+    }
+    Ok(names)
+}
+
+/// The names of the members of this class.
+pub(crate) fn members_of_class<'a>(
+    alloc: Global,
+    class: &'a ClassInfo,
+) -> Result<MemberIndex<'a>, NoMemory>
+    ensures { IfOk result (λ index. members_indexed index ≡ member_names class.now) }
+{
+    let fields = field_names(alloc, class.fields.as_slice())?;
+    let channels = channel_names(alloc, class.channels.as_slice())?;
+    let methods = method_names(alloc, class.methods.as_slice())?;
+    Ok(MemberIndex {
+        fields: NameIndex::of(alloc, fields)?,
+        channels: NameIndex::of(alloc, channels)?,
+        methods: NameIndex::of(alloc, methods)?,
+    })
+}

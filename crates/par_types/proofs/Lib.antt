@@ -1,0 +1,4 @@
+pub mod Forms
+pub mod InferredForms
+pub mod MethodForms
+pub mod StmtForms

@@ -1,0 +1,7 @@
+pub mod Fits
+pub mod Exprs
+pub mod Stmts
+pub mod Kept
+pub mod Methods
+pub mod Program
+pub mod Inferred
