@@ -1,0 +1,4 @@
+pub mod Joins
+pub mod Seen
+pub mod Exits
+pub mod Throws
