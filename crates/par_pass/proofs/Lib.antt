@@ -1,0 +1,5 @@
+pub mod Order
+pub mod Ups
+pub mod Under
+pub mod Lies
+pub mod Least

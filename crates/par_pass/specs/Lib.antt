@@ -1,0 +1,4 @@
+pub mod Exits
+pub mod Pass
+pub mod Low
+pub mod Settled
