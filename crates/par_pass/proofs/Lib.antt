@@ -3,3 +3,5 @@ pub mod Ups
 pub mod Under
 pub mod Lies
 pub mod Least
+pub mod Instances
+pub mod Settles

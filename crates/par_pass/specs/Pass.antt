@@ -2,9 +2,9 @@
 use Rattle.std.specs.Prelude.{ℕ, Option, Some, None, List, [], ◌∷◌, ◌++◌}
 use Rattle.par_bits.specs.Sets.{Set, none, union}
 use Rattle.par_rules.specs.Lattice.{numbers}
-use Rattle.par_rules.specs.Kinds.{Normal, normal}
+use Rattle.par_rules.specs.Kinds.{normal, absorbed}
 use Rattle.par_rules.specs.Facts.{Fact, blank}
-use Rattle.par_rules.specs.Rules.{Node, node, Rules, Done, Part, Test, Heads, Ends, Leaves, Worths}
+use Rattle.par_rules.specs.Rules.{Node, node, Rules, Done, Part, Test, Heads, Leaves, Worths}
 use Rattle.par_rules.specs.Rules.{spot, way, worth}
 use Rattle.par_pass.specs.Exits.{Way, Exit, at, all, leaving, restored, leave}
 
@@ -45,39 +45,41 @@ ended p w r =
       events = r.events ++ Row p (record { entry = Some w; value = r.value; exit = at xs }) ∷ [];
     }
 
+-- a way that flows into the head way of a loop, if there is a loop
+abbrev pub into : Option ℕ → Option Way → List Event
+into None o = []
+into (Some test) o = Into test o ∷ []
+
 unfoldable mutual
   pub pass : HeadWays → Node → Way → Found
-  pass h (node p rules) w = ended p w (pass_all h rules w [] nothing)
+  pass h (node p rules) w = ended p w (pass_all h rules w None [] nothing)
 
-  -- behind what was found of the parts before, the latest first
-  pub pass_all : HeadWays → Rules → Way → List (Fact numbers) → Found → Found
-  pass_all h Done w fs r = r
-  pass_all h (Part from absorbs part more) w fs r =
+  -- behind the test of a loop, and the facts of the parts before, the latest first
+  pub pass_all : HeadWays → Rules → Way → Option ℕ → List (Fact numbers) → Found → Found
+  pass_all h Done w head fs r = r
+  pass_all h (Part from absorber part more) w head fs r =
       let o = way numbers (Some w) fs from in
       let q = visited o (spot part) (pass h part) in
-      pass_all h more w (fact o q ∷ fs)
+      pass_all h more w head (fact o q ∷ fs)
       (record {
         value = r.value;
-        exits = all (leaving absorbs q.exits) r.exits;
+        exits = all (leaving (absorbed absorber) q.exits) r.exits;
         events = r.events ++ q.events;
       })
-  pass_all h (Test part more) w fs r =
+  pass_all h (Test part more) w head fs r =
       let o = h (spot part) in
       let q = visited o (spot part) (pass h part) in
-      pass_all h more w (fact o q ∷ fs)
+      pass_all h more w (Some (spot part)) (fact o q ∷ fs)
       (record {
         value = r.value;
         exits = all (leaving normal q.exits) r.exits;
         events = r.events ++ q.events;
       })
-  pass_all h (Heads from test more) w fs r =
-      pass_all h more w fs
-      (record r { events = r.events ++ Into test (way numbers (Some w) fs from) ∷ [] })
-  pass_all h (Ends from more) w fs r =
-      pass_all h more w fs
-      (record r { exits = all (leave (way numbers (Some w) fs from) Normal) r.exits })
-  pass_all h (Leaves from kind more) w fs r =
-      pass_all h more w fs
+  pass_all h (Heads from more) w head fs r =
+      pass_all h more w head fs
+      (record r { events = r.events ++ into head (way numbers (Some w) fs from) })
+  pass_all h (Leaves from kind more) w head fs r =
+      pass_all h more w head fs
       (record r { exits = all (leave (way numbers (Some w) fs from) kind) r.exits })
-  pass_all h (Worths v more) w fs r =
-      pass_all h more w fs (record r { value = union r.value (worth numbers (Some w) fs v) })
+  pass_all h (Worths v more) w head fs r =
+      pass_all h more w head fs (record r { value = union r.value (worth numbers (Some w) fs v) })

@@ -7,12 +7,12 @@ use Rattle.par_lexer.specs.declared.operator.BinOp.TheVariants.{And, Or, Div, Re
 use Rattle.par_typed.specs.Plain as plain
 use Rattle.par_typed.specs.Plain.{TExp, MayTExp, TExps, TSta, MayTSta, TStas, TCatches, Mark, mark, point}
 use Rattle.par_rules.specs.Kinds as kind
-use Rattle.par_rules.specs.Kinds.{Kind, Normal, normal, of_loop, of_try, ARITHMETIC, NULL_POINTER}
+use Rattle.par_rules.specs.Kinds.{Normal, Next, Loop, Catches, ARITHMETIC, NULL_POINTER}
 use Rattle.par_rules.specs.Declares.{Declares, Method, Thrown}
 use Rattle.par_rules.specs.Rules.{From, Entry, After, Tested, Raised, Opened, Shut, Assigned}
 use Rattle.par_rules.specs.Rules.{Given, Held, Value}
-use Rattle.par_rules.specs.Rules.{Node, node, Rules, Done, Part, Test, Heads, Ends, Leaves, Worths}
-use Rattle.par_rules.specs.Rules.{can, spot}
+use Rattle.par_rules.specs.Rules.{Node, node, Rules, Done, Part, Test, Heads, Leaves, Worths, goes_on}
+use Rattle.par_rules.specs.Rules.{can}
 
 -- the way behind the latest part
 abbrev pub past : From
@@ -55,8 +55,8 @@ second _ = past
 
 -- and where it is not reached, the way behind the first goes on
 abbrev pub skips : BinOp → Rules → Rules
-skips And more = Ends (After 1 Normal) more
-skips Or more = Ends (After 1 Normal) more
+skips And more = goes_on (After 1 Normal) more
+skips Or more = goes_on (After 1 Normal) more
 skips _ more = more
 
 -- the classes that are caught
@@ -87,50 +87,50 @@ module _ (declared : Declares) where
   -- a called method throws, or goes on with its locks closed and opened
   abbrev pub called : Method → From → Rules
   called m from =
-      thrown m from m.throws (Ends (Opened m.opens (Shut m.closes from)) (Worths (Given m.result) Done))
+      thrown m from m.throws (goes_on (Opened m.opens (Shut m.closes from)) (Worths (Given m.result) Done))
 
   unfoldable mutual
     pub exp : TExp → Node
-    exp (plain.Int n m) = node m.point (Ends Entry Done)
-    exp (plain.Boolean b m) = node m.point (Ends Entry Done)
-    exp (plain.Null m) = node m.point (Ends Entry Done)
-    exp (plain.This m) = node m.point (Ends Entry Done)
+    exp (plain.Int n m) = node m.point (goes_on Entry Done)
+    exp (plain.Boolean b m) = node m.point (goes_on Entry Done)
+    exp (plain.Null m) = node m.point (goes_on Entry Done)
+    exp (plain.This m) = node m.point (goes_on Entry Done)
     exp (plain.New class m) =
-        node m.point (Ends Entry (Worths (Given (declared.birth class)) Done))
-    exp (plain.Local x m) = node m.point (Ends Entry (Worths (Held x) Done))
+        node m.point (goes_on Entry (Worths (Given (declared.birth class)) Done))
+    exp (plain.Local x m) = node m.point (goes_on Entry (Worths (Held x) Done))
     exp (plain.Static c f m) =
-        node m.point (Ends Entry (Worths (Given (declared.field c f)) Done))
+        node m.point (goes_on Entry (Worths (Given (declared.field c f)) Done))
     exp (plain.Field e c f m) =
         node m.point
-        (Part Entry normal (exp e)
+        (Part Entry Next (exp e)
         (null_test e tested
-        (Ends past (Worths (Value 0) (Worths (Given (declared.field c f)) Done)))))
+        (goes_on past (Worths (Value 0) (Worths (Given (declared.field c f)) Done)))))
     exp (plain.Input c k m) =
-        node m.point (Ends Entry (Worths (Given (declared.channel c k)) Done))
-    exp (plain.Output c k e m) = node m.point (Part Entry normal (exp e) (Ends past Done))
+        node m.point (goes_on Entry (Worths (Given (declared.channel c k)) Done))
+    exp (plain.Output c k e m) = node m.point (Part Entry Next (exp e) (goes_on past Done))
     exp (plain.Call c k plain.Absent es m) =
         node m.point (args Entry es (called (declared.method c k) (args_past Entry es)))
     exp (plain.Call c k (plain.Present e) es m) =
         node m.point
-        (Part Entry normal (exp e)
+        (Part Entry Next (exp e)
         (args past es
         (null_test e (args_tested es)
         (Worths (Value (args_count es)) (called (declared.method c k) (args_tested es))))))
     exp (plain.Neg e m) =
-        node m.point (Part Entry normal (exp e) (Ends past (Worths (Value 0) Done)))
+        node m.point (Part Entry Next (exp e) (goes_on past (Worths (Value 0) Done)))
     exp (plain.Not e m) =
-        node m.point (Part Entry normal (exp e) (Ends past (Worths (Value 0) Done)))
+        node m.point (Part Entry Next (exp e) (goes_on past (Worths (Value 0) Done)))
     exp (plain.Binary op a b m) =
         node m.point
-        (Part Entry normal (exp a)
-        (Part (second op) normal (exp b)
+        (Part Entry Next (exp a)
+        (Part (second op) Next (exp b)
         (divides op b
-        (skips op (Ends past (Worths (Value 1) (Worths (Value 0) Done)))))))
+        (skips op (goes_on past (Worths (Value 1) (Worths (Value 0) Done)))))))
 
     -- the arguments, of which the first is entered from the way
     pub args : From → TExps → Rules → Rules
     args from plain.NoExps more = more
-    args from (plain.More e es) more = Part from normal (exp e) (args past es more)
+    args from (plain.More e es) more = Part from Next (exp e) (args past es more)
 
   -- the way that enters a catch of the class: the throw, or where the block has none, the way that
   -- enters the `try`. The block is the part before as many catches
@@ -143,59 +143,59 @@ module _ (declared : Declares) where
     sta (plain.Block ss at p) = node p (stas Entry ss)
     sta (plain.If e s plain.NoElse at p) =
         node p
-        (Part Entry normal (exp e) (Ends past (Part tested normal (sta s) (Ends past Done))))
+        (Part Entry Next (exp e) (goes_on past (Part tested Next (sta s) (goes_on past Done))))
     sta (plain.If e s (plain.Otherwise t) at p) =
         node p
-        (Part Entry normal (exp e)
-        (Part tested normal (sta s)
-        (Ends past (Part (Tested 1 (After 1 Normal)) normal (sta t) (Ends past Done)))))
+        (Part Entry Next (exp e)
+        (Part tested Next (sta s)
+        (goes_on past (Part (Tested 1 (After 1 Normal)) Next (sta t) (goes_on past Done)))))
     sta (plain.While e s at p) =
         node p
-        (Heads Entry (spot (exp e))
         (Test (exp e)
-        (if_not (is_forever e) (Ends past)
-        (Part tested of_loop (sta s)
-        (Heads past (spot (exp e))
-        (Heads (After 0 kind.Continue) (spot (exp e))
-        (Ends (After 0 kind.Break) Done)))))))
+        (Heads Entry
+        (if_not (is_forever e) (goes_on past)
+        (Part tested Loop (sta s)
+        (Heads past
+        (Heads (After 0 kind.Continue)
+        (goes_on (After 0 kind.Break) Done)))))))
     sta (plain.Try s cs at p) =
         node p
-        (Part Entry (of_try (caught cs)) (sta s) (Ends past (catches (sta s) cs zero)))
+        (Part Entry (Catches (caught cs)) (sta s) (goes_on past (catches (sta s) cs zero)))
     sta (plain.Return plain.Absent at p) = node p (Leaves Entry kind.Return Done)
     sta (plain.Return (plain.Present e) at p) =
-        node p (Part Entry normal (exp e) (Leaves past kind.Return Done))
+        node p (Part Entry Next (exp e) (Leaves past kind.Return Done))
     sta (plain.Break at p) = node p (Leaves Entry kind.Break Done)
     sta (plain.Continue at p) = node p (Leaves Entry kind.Continue Done)
     sta (plain.Throw class at p) = node p (Leaves Entry (kind.Throw class) Done)
-    sta (plain.Open lock at p) = node p (Ends (Opened (adding none lock) Entry) Done)
-    sta (plain.Close lock at p) = node p (Ends (Shut (adding none lock) Entry) Done)
+    sta (plain.Open lock at p) = node p (goes_on (Opened (adding none lock) Entry) Done)
+    sta (plain.Close lock at p) = node p (goes_on (Shut (adding none lock) Entry) Done)
     sta (plain.SetLocal x policy e at p) =
-        node p (Part Entry normal (exp e) (Ends (Assigned x 0 past) Done))
-    sta (plain.SetStatic c f e at p) = node p (Part Entry normal (exp e) (Ends past Done))
+        node p (Part Entry Next (exp e) (goes_on (Assigned x 0 past) Done))
+    sta (plain.SetStatic c f e at p) = node p (Part Entry Next (exp e) (goes_on past Done))
     sta (plain.SetField o c f e at p) =
         node p
-        (Part Entry normal (exp o)
-        (Part past normal (exp e) (null_test o (Tested 1 past) (Ends past Done))))
-    sta (plain.Eval e at p) = node p (Part Entry normal (exp e) (Ends past Done))
+        (Part Entry Next (exp o)
+        (Part past Next (exp e) (null_test o (Tested 1 past) (goes_on past Done))))
+    sta (plain.Eval e at p) = node p (Part Entry Next (exp e) (goes_on past Done))
     sta (plain.When lock s plain.NoElse at p) =
         node p
-        (Ends Entry
-        (Part (Opened (adding none lock) (Raised (declared.lock lock) Entry)) normal (sta s)
-        (Ends past Done)))
+        (goes_on Entry
+        (Part (Opened (adding none lock) (Raised (declared.lock lock) Entry)) Next (sta s)
+        (goes_on past Done)))
     sta (plain.When lock s (plain.Otherwise t) at p) =
         node p
-        (Part (Opened (adding none lock) (Raised (declared.lock lock) Entry)) normal (sta s)
-        (Ends past
-        (Part (Raised (declared.lock lock) Entry) normal (sta t) (Ends past Done))))
+        (Part (Opened (adding none lock) (Raised (declared.lock lock) Entry)) Next (sta s)
+        (goes_on past
+        (Part (Raised (declared.lock lock) Entry) Next (sta t) (goes_on past Done))))
 
     -- statements one after the other, of which the first is entered from the way
     pub stas : From → TStas → Rules
-    stas from plain.End = Ends from Done
-    stas from (plain.Then s ss) = Part from normal (sta s) (stas past ss)
+    stas from plain.End = goes_on from Done
+    stas from (plain.Then s ss) = Part from Next (sta s) (stas past ss)
 
     -- the catches of a `try`, behind as many others
     pub catches : Node → TCatches → ℕ → Rules
     catches block plain.NoCatch before = Done
     catches block (plain.Catch class s cs) before =
-        Part (caught_from block class before) normal (sta s)
-        (Ends past (catches block cs (suc before)))
+        Part (caught_from block class before) Next (sta s)
+        (goes_on past (catches block cs (suc before)))

@@ -37,3 +37,14 @@ ARITHMETIC = 0
 
 abbrev pub NULL_POINTER : ℕ
 NULL_POINTER = 1
+
+-- what takes exits of a part for itself: the next part, the loop around, or catches of these classes
+pub data Absorber : Type 0 where
+  Next : Absorber
+  Loop : Absorber
+  Catches : (classes : List ℕ) → Absorber
+
+abbrev pub absorbed : Absorber → Kind → Bool
+absorbed Next = normal
+absorbed Loop = of_loop
+absorbed (Catches classes) = of_try classes

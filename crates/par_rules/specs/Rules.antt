@@ -2,7 +2,7 @@
 use Rattle.std.specs.Prelude.{◌≡◌, ℕ, zero, suc, Bool, true, false, ◌&&◌, ◌||◌, not, Option, Some, None, List, [], ◌∷◌}
 use Rattle.par_bits.specs.Sets.{Set}
 use Rattle.par_rules.specs.Lattice.{Lattice}
-use Rattle.par_rules.specs.Kinds.{Kind, Normal, same, normal}
+use Rattle.par_rules.specs.Kinds.{Kind, Normal, same, normal, Absorber, absorbed}
 use Rattle.par_rules.specs.Ways.{Way, MayFlow, MayLand, MayRaise, raised, assigned, opened, shut, moved}
 use Rattle.par_rules.specs.Facts.{Fact, Facts, blank}
 
@@ -35,17 +35,19 @@ mutual
   pub data Rules : Type 0 where
     Done : Rules
     -- the way enters the part, whose exits are exits of the node unless they are absorbed
-    Part : (from : From) (absorbs : Kind → Bool) (part : Node) (more : Rules) → Rules
-    -- the same of the test of a loop, which is entered by its head way
+    Part : (from : From) (absorber : Absorber) (part : Node) (more : Rules) → Rules
+    -- the same of the test of a loop, whose entering way is the head way of the loop
     Test : (part : Node) (more : Rules) → Rules
-    -- the way flows into the head way of the loop whose test has this point
-    Heads : (from : From) (test : ℕ) (more : Rules) → Rules
-    -- environment and locks of the way flow into the normal exit
-    Ends : (from : From) (more : Rules) → Rules
-    -- the way is an exit of the kind
+    -- the way flows into the head way of the loop
+    Heads : (from : From) (more : Rules) → Rules
+    -- the way leaves the node; at its normal exit, environment and locks of the way alone
     Leaves : (from : From) (kind : Kind) (more : Rules) → Rules
     -- the value is at least that
     Worths : (worth : Worth) (more : Rules) → Rules
+
+-- environment and locks of the way flow into the normal exit
+abbrev pub goes_on : From → Rules → Rules
+goes_on from more = Leaves from Normal more
 
 abbrev pub spot : Node → ℕ
 spot (node p rules) = p
@@ -76,6 +78,11 @@ module _ (P : Lattice) where
   worth o fs (Held x) = held o x
   worth o fs (Value part) = (part_at fs part).value
 
+  -- the way flows into an exit of the kind, with its context where that is not the normal one
+  abbrev pub MayLeave : Kind → Option (Way P) → Option (Way P) → Type 0
+  MayLeave Normal o e = MayLand P o e
+  MayLeave kind o e = MayFlow P o e
+
   -- what is said of a way, where there is one
   abbrev pub Holds : Option (Way P) → (Way P → Type 0) → Type 0
   Holds None C = Unit {0}
@@ -97,29 +104,33 @@ module _ (P : Lattice) where
     abbrev pub Passes : (Kind → Bool) → ℕ → ℕ → Type 0
     Passes absorbs q p = (k : Kind) → absorbs k ≡ false → MayFlow P ((a q).exit k) ((a p).exit k)
 
+    -- the way flows into the head way of the loop whose test has the point
+    abbrev pub MayHead : Option ℕ → Option (Way P) → Type 0
+    MayHead None o = Unit {0}
+    MayHead (Some test) o = MayFlow P o (a test).entry
+
     unfoldable mutual
       pub Obeys : Node → Type 0
-      Obeys (node p rules) = Restores p × ObeysAll p [] rules
+      Obeys (node p rules) = Restores p × ObeysAll p None [] rules
 
-      pub ObeysAll : ℕ → List (Fact P) → Rules → Type 0
-      ObeysAll p fs Done = Unit {0}
-      ObeysAll p fs (Part from absorbs part more) =
+      -- behind the test of a loop, and the facts of the parts before, the latest first
+      pub ObeysAll : ℕ → Option ℕ → List (Fact P) → Rules → Type 0
+      ObeysAll p head fs Done = Unit {0}
+      ObeysAll p head fs (Part from absorber part more) =
           MayFlow P (way (a p).entry fs from) (a (spot part)).entry
           × WhereReached (a (spot part)).entry (Obeys part)
-          × Passes absorbs (spot part) p
-          × ObeysAll p (a (spot part) ∷ fs) more
-      ObeysAll p fs (Test part more) =
+          × Passes (absorbed absorber) (spot part) p
+          × ObeysAll p head (a (spot part) ∷ fs) more
+      ObeysAll p head fs (Test part more) =
           WhereReached (a (spot part)).entry (Obeys part)
           × Passes normal (spot part) p
-          × ObeysAll p (a (spot part) ∷ fs) more
-      ObeysAll p fs (Heads from test more) =
-          MayFlow P (way (a p).entry fs from) (a test).entry × ObeysAll p fs more
-      ObeysAll p fs (Ends from more) =
-          MayLand P (way (a p).entry fs from) ((a p).exit Normal) × ObeysAll p fs more
-      ObeysAll p fs (Leaves from kind more) =
-          MayFlow P (way (a p).entry fs from) ((a p).exit kind) × ObeysAll p fs more
-      ObeysAll p fs (Worths v more) =
-          P.IsBelow (worth (a p).entry fs v) (a p).value × ObeysAll p fs more
+          × ObeysAll p (Some (spot part)) (a (spot part) ∷ fs) more
+      ObeysAll p head fs (Heads from more) =
+          MayHead head (way (a p).entry fs from) × ObeysAll p head fs more
+      ObeysAll p head fs (Leaves from kind more) =
+          MayLeave kind (way (a p).entry fs from) ((a p).exit kind) × ObeysAll p head fs more
+      ObeysAll p head fs (Worths v more) =
+          P.IsBelow (worth (a p).entry fs v) (a p).value × ObeysAll p head fs more
 
 -- which completions of the parts before are possible, the latest first
 abbrev pub part_can : List (Kind → Bool) → ℕ → Kind → Bool
@@ -144,12 +155,11 @@ unfoldable mutual
 
   pub can_by : List (Kind → Bool) → Rules → Kind → Bool
   can_by fs Done k = false
-  can_by fs (Part from absorbs part more) k =
-      ((comes fs from && can part k) && not (absorbs k))
+  can_by fs (Part from absorber part more) k =
+      ((comes fs from && can part k) && not (absorbed absorber k))
       || can_by ((λ j. comes fs from && can part j) ∷ fs) more k
   can_by fs (Test part more) k =
       (can part k && not (normal k)) || can_by ((λ j. can part j) ∷ fs) more k
-  can_by fs (Heads from test more) k = can_by fs more k
-  can_by fs (Ends from more) k = (comes fs from && normal k) || can_by fs more k
+  can_by fs (Heads from more) k = can_by fs more k
   can_by fs (Leaves from kind more) k = (comes fs from && same kind k) || can_by fs more k
   can_by fs (Worths v more) k = can_by fs more k
