@@ -1,11 +1,11 @@
 -- Sets of numbers below sets of numbers, and below policies by who sees them.
 use Rattle.std.proofs.Common.{◌≡◌, ℕ, Bool, true, false, ◌||◌, ◌&&◌, List, [], refl, sym, subst}
-use Rattle.std.specs.Prelude.{IsTrue, nat_eq, slice_index_or}
+use Rattle.std.specs.Prelude.{IsTrue, nat_eq, slice_get}
 use Rattle.std.proofs.lemmas.Bool.{eqb-true}
 use Rattle.par_policy.specs.declared.clauses.Clause.{Clause}
 use Rattle.par_policy.specs.Sees.{sees}
 use Rattle.par_bits.specs.Sets.{Set, IsWithin, none, union, adding}
-use Rattle.par_rules.specs.Lattice.{Seen, IsSeenBelow, numbers, policies, unseen}
+use Rattle.par_rules.specs.Lattice.{Seen, seen_by, IsSeenBelow, numbers, policies, unseen}
 use Rattle.par_pass.specs.Low.{Stands}
 use Rattle.par_pass.proofs.Order.{sub_trans, union_l, union_r, union_least, sub_refl}
 
@@ -21,7 +21,7 @@ among = record {
 
 -- each policy of the set is below
 abbrev pub AreSeenBelow : List (List Clause) → Set → Seen → Type 0
-AreSeenBelow table s p = (n : ℕ) → IsTrue (s n) → IsSeenBelow (sees (slice_index_or table n [])) p
+AreSeenBelow table s p = (n : ℕ) → IsTrue (s n) → IsSeenBelow (seen_by (slice_get table n)) p
 
 in_either : (b c : Bool) (C : Type 0) → (IsTrue b → C) → (IsTrue c → C) → IsTrue (b || c) → C
 in_either true c C f g h = f refl
@@ -39,12 +39,12 @@ pub seen : (table : List (List Clause)) → Stands (policies table)
 seen table = record {
   IsUnder = AreSeenBelow table;
   least = λ p n h. cc;
-  both = λ s t p f g n. in_either (s n) (t n) (IsSeenBelow (sees (slice_index_or table n [])) p) (f n) (g n);
-  joined = λ s t p q f g n. in_either (s n) (t n) (IsSeenBelow (sees (slice_index_or table n [])) (λ actor locks. p actor locks && q actor locks))
+  both = λ s t p f g n. in_either (s n) (t n) (IsSeenBelow (seen_by (slice_get table n)) p) (f n) (g n);
+  joined = λ s t p q f g n. in_either (s n) (t n) (IsSeenBelow (seen_by (slice_get table n)) (λ actor locks. p actor locks && q actor locks))
       (λ h actor locks k. f n h actor locks (in_both_l (p actor locks) (q actor locks) k))
       (λ h actor locks k. g n h actor locks (in_both_r (p actor locks) (q actor locks) k));
   up = λ s p q f g n h actor locks k. f n h actor locks (g actor locks k);
-  given = λ m n h. subst (λ j. IsSeenBelow (sees (slice_index_or table j [])) (sees (slice_index_or table m []))) (sym (eqb-true n m h)) (λ actor locks k. k);
+  given = λ m n h. subst (λ j. IsSeenBelow (seen_by (slice_get table j)) (seen_by (slice_get table m))) (sym (eqb-true n m h)) (λ actor locks k. k);
 }
 
 pub alone : Stands unseen

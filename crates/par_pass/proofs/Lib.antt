@@ -5,3 +5,7 @@ pub mod Lies
 pub mod Least
 pub mod Instances
 pub mod Settles
+pub mod Points
+pub mod Tables
+pub mod Along
+

@@ -1,5 +1,5 @@
 -- Policies, by what the rules of flow ask of them.
-use Rattle.std.specs.Prelude.{ℕ, Bool, true, ◌&&◌, List, [], IsTrue, slice_index_or}
+use Rattle.std.specs.Prelude.{ℕ, suc, Bool, true, ◌&&◌, ◌||◌, not, Option, Some, None, List, [], ◌∷◌, IsTrue, slice_get}
 use Rattle.par_policy.specs.declared.clauses.Clause.{Clause}
 use Rattle.par_policy.specs.Sees.{sees}
 use Rattle.par_bits.specs.Sets.{Set, none, adding, union, IsWithin}
@@ -21,6 +21,11 @@ Seen = ℕ → List ℕ → Bool
 abbrev pub IsSeenBelow : Seen → Seen → Type 0
 IsSeenBelow p q = (actor : ℕ) (locks : List ℕ) → IsTrue (q actor locks) → IsTrue (p actor locks)
 
+-- what a number stands for where it is that of no policy of the table: nothing, and all see it
+abbrev pub seen_by : Option (List Clause) → Seen
+seen_by None actor locks = true
+seen_by (Some p) actor locks = sees p actor locks
+
 -- the policies of a table, by who sees them
 abbrev pub policies : List (List Clause) → Lattice
 policies table = record {
@@ -28,7 +33,7 @@ policies table = record {
   IsBelow = IsSeenBelow;
   join = λ p q actor locks. p actor locks && q actor locks;
   bottom = λ actor locks. true;
-  given = λ n. sees (slice_index_or table n []);
+  given = λ n. seen_by (slice_get table n);
 }
 
 -- sets of policy numbers, each of which stands for the join of its policies
@@ -40,6 +45,12 @@ numbers = record {
   bottom = none;
   given = adding none;
 }
+
+-- the join of the policies with these numbers
+unfoldable pub joined : List (List Clause) → Set → Seen
+joined [] s actor locks = true
+joined (p ∷ ps) s actor locks =
+    (not (s 0) || sees p actor locks) && joined ps (λ n. s (suc n)) actor locks
 
 -- one policy, where locks alone are asked for
 abbrev pub unseen : Lattice
