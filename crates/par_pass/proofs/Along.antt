@@ -1,5 +1,5 @@
 -- Closed facts over sets of numbers are closed as facts over the policies that the sets stand for.
-use Rattle.std.proofs.Common.{◌≡◌, ℕ, zero, suc, Bool, true, false, cond, ◌||◌, ◌&&◌, not, Option, Some, None, List, [], ◌∷◌, refl, sym, ap, subst}
+use Rattle.std.proofs.Common.{◌≡◌, ℕ, zero, suc, Bool, true, false, cond, ◌||◌, ◌&&◌, not, Option, Some, None, List, [], ◌∷◌, refl, ap}
 use Rattle.std.proofs.lemmas.Bool.{eqb-true}
 use Rattle.std.proofs.Common.{eq-eqb}
 use Rattle.std.specs.Prelude.{nat_eq, IsTrue, slice_get}
@@ -7,17 +7,17 @@ use Rattle.par_policy.specs.declared.clauses.Clause.{Clause}
 use Rattle.par_policy.specs.Sees.{sees}
 use Rattle.par_bits.specs.Sets.{Set, IsWithin, none, adding, union}
 use Rattle.par_typed.specs.Plain.{Body, point}
-use Rattle.par_rules.specs.Lattice.{Lattice, Seen, IsSeenBelow, numbers, policies, unseen, seen_by, joined}
+use Rattle.par_rules.specs.Lattice.{Lattice, numbers, policies, seen_by, joined}
 use Rattle.par_rules.specs.Kinds as kind
 use Rattle.par_rules.specs.Kinds.{Kind, Normal, normal, absorbed}
 use Rattle.par_rules.specs.Ways as rules
 use Rattle.par_rules.specs.Ways.{Flows, Lands, MayFlow, MayLand, MayRaise, raised, assigned, opened, shut, moved, put}
-use Rattle.par_rules.specs.Facts.{Fact, Facts, blank}
-use Rattle.par_rules.specs.Declares.{Declares, Method}
+use Rattle.par_rules.specs.Facts.{Fact, Facts}
+use Rattle.par_rules.specs.Declares.{Declares}
 use Rattle.par_rules.specs.Rules.{From, Entry, After, Tested, Raised, Opened, Shut, Assigned}
 use Rattle.par_rules.specs.Rules.{Worth, Given, Held, Value}
 use Rattle.par_rules.specs.Rules.{Node, node, Rules, Done, Part, Test, Heads, Leaves, Worths, spot}
-use Rattle.par_rules.specs.Rules.{way, worth, held, part_at, Holds, WhereReached, MayLeave, MayHead, Restores, Passes, Obeys, ObeysAll}
+use Rattle.par_rules.specs.Rules.{way, worth, held, part_at, Holds, WhereReached, MayLeave, MayHead, Restores, Obeys, ObeysAll}
 use Rattle.par_rules.specs.Body.{sta}
 use Rattle.par_rules.specs.Closed.{IsClosed, first, arriving, locals}
 use Rattle.par_pass.specs.Exits.{Way}
@@ -171,6 +171,7 @@ module _ (Q : Lattice) (M : StandsFor Q) where
 
     mutual
       unfolding Obeys ObeysAll
+
       pub obeys_along : (n : Node) → Obeys numbers a n → Obeys Q (as_facts a) n
       obeys_along (node p rules) c = (restores_along p c.0, all_along rules p None [] c.1)
 

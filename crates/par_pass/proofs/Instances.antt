@@ -1,9 +1,8 @@
 -- Sets of numbers below sets of numbers, and below policies by who sees them.
-use Rattle.std.proofs.Common.{◌≡◌, ℕ, Bool, true, false, ◌||◌, ◌&&◌, List, [], refl, sym, subst}
-use Rattle.std.specs.Prelude.{IsTrue, nat_eq, slice_get}
+use Rattle.std.proofs.Common.{ℕ, Bool, true, false, ◌||◌, ◌&&◌, List, refl, sym, subst}
+use Rattle.std.specs.Prelude.{IsTrue, slice_get}
 use Rattle.std.proofs.lemmas.Bool.{eqb-true}
 use Rattle.par_policy.specs.declared.clauses.Clause.{Clause}
-use Rattle.par_policy.specs.Sees.{sees}
 use Rattle.par_bits.specs.Sets.{Set, IsWithin, none, union, adding}
 use Rattle.par_rules.specs.Lattice.{Seen, seen_by, IsSeenBelow, numbers, policies, unseen}
 use Rattle.par_pass.specs.Low.{Stands}

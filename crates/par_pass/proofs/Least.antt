@@ -1,16 +1,15 @@
 -- What a pass finds is below all closed facts that are above its heads.
 use Rattle.std.proofs.Common.{◌≡◌, ℕ, Bool, false, Option, Some, None, List, [], ◌∷◌, ◌++◌}
-use Rattle.par_bits.specs.Sets.{Set}
 use Rattle.par_rules.specs.Lattice.{Lattice, numbers}
 use Rattle.par_rules.specs.Kinds as kind
 use Rattle.par_rules.specs.Kinds.{Kind, normal, absorbed}
 use Rattle.par_rules.specs.Ways as rules
-use Rattle.par_rules.specs.Facts.{Fact, Facts, blank}
+use Rattle.par_rules.specs.Facts.{Fact, Facts}
 use Rattle.par_rules.specs.Rules.{Node, node, Rules, Done, Part, Test, Heads, Leaves, Worths}
 use Rattle.par_rules.specs.Rules.{spot, way, worth, WhereReached, MayLeave, MayHead, Restores, Obeys, ObeysAll}
-use Rattle.par_pass.specs.Exits.{Way, Exit, at, all, leaving, restored, leave}
-use Rattle.par_pass.specs.Pass.{HeadWays, Event, Row, Into, Found, nothing, fact, visited, ended, into, pass, pass_all}
-use Rattle.par_pass.specs.Low.{Stands, MayLand, MayFlow, IsLow, AreLow, AreHeadsLow}
+use Rattle.par_pass.specs.Exits.{Way, all, leaving, restored, leave}
+use Rattle.par_pass.specs.Pass.{HeadWays, Event, Found, nothing, fact, visited, ended, into, pass, pass_all}
+use Rattle.par_pass.specs.Low.{Stands, MayFlow, IsLow, AreLow, AreHeadsLow}
 use Rattle.par_pass.proofs.Under.{may_land, land_up, flow_up, blank_low, AreAllLow, way_low, worth_low}
 use Rattle.par_pass.proofs.Lies.{AllLie, Below, lie_all, lie_landed, lie_left, lie_leaving, restored_below, at_below}
 

@@ -8,4 +8,3 @@ pub mod Settles
 pub mod Points
 pub mod Tables
 pub mod Along
-

@@ -1,16 +1,16 @@
 -- Lists of exits, below the exits of a fact over a lattice.
-use Rattle.std.proofs.Common.{◌≡◌, ℕ, Bool, true, false, cond, Option, Some, None, List, [], ◌∷◌, refl, sym, subst}
+use Rattle.std.proofs.Common.{◌≡◌, Bool, true, false, cond, Option, Some, None, List, [], ◌∷◌, refl, sym, subst}
 use Rattle.par_bits.specs.Sets.{Set, union}
-use Rattle.par_rules.specs.Lattice.{Lattice, numbers}
+use Rattle.par_rules.specs.Lattice.{Lattice}
 use Rattle.par_rules.specs.Kinds.{Kind, Normal, same, normal}
 use Rattle.par_rules.specs.Ways as rules
 use Rattle.par_rules.specs.Ways.{MayRaise}
 use Rattle.par_rules.specs.Rules.{Holds}
 use Rattle.par_except.specs.Joins.{join}
-use Rattle.par_pass.specs.Exits.{Way, Exit, one, at, add, all, leaving, contexts, set_context, with_context, restored, leave}
+use Rattle.par_pass.specs.Exits.{Way, Exit, at, add, all, leaving, contexts, with_context, restored, leave}
 use Rattle.par_pass.specs.Low.{Stands, MayLand, MayFlow}
 use Rattle.par_pass.proofs.Order.{same_true}
-use Rattle.par_pass.proofs.Under.{may_land, land_up, flow_up, may_join_land, may_join}
+use Rattle.par_pass.proofs.Under.{may_land, flow_up, may_join_land, may_join}
 
 module _ (Q : Lattice) (S : Stands Q) (f : Kind → Option (rules.Way Q)) where
   -- a normal exit lands, the others flow

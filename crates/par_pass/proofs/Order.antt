@@ -1,12 +1,12 @@
 -- The order of ways over sets of numbers, and of kinds.
-use Rattle.std.proofs.Common.{◌≡◌, ℕ, Bool, true, false, cond, ◌||◌, ◌&&◌, not, Option, Some, None, refl, sym, ap, subst}
-use Rattle.std.specs.Prelude.{nat_eq, IsTrue}
+use Rattle.std.proofs.Common.{◌≡◌, Bool, true, false, ◌||◌, ◌&&◌, not, Option, Some, None, refl, ap}
+use Rattle.std.specs.Prelude.{IsTrue}
 use Rattle.std.proofs.lemmas.Bool.{eqb-true}
 use Rattle.std.proofs.Common.{eq-eqb}
-use Rattle.par_bits.specs.Sets.{Set, IsWithin, none, union, meet, minus}
+use Rattle.par_bits.specs.Sets.{Set, IsWithin, union, meet, minus}
 use Rattle.par_rules.specs.Lattice.{numbers}
 use Rattle.par_rules.specs.Kinds.{Kind, Normal, Return, Break, Continue, Throw, same}
-use Rattle.par_rules.specs.Ways.{Lands, Flows, MayFlow, MayLand, MayRaise}
+use Rattle.par_rules.specs.Ways.{Lands, Flows, MayFlow, MayLand}
 use Rattle.par_except.specs.Joins.{join}
 use Rattle.par_pass.specs.Exits.{Way}
 

@@ -1,12 +1,11 @@
 -- A pass over a numbered body notes each point once at most.
-use Rattle.std.proofs.Common.{◌≡◌, ℕ, suc, ◌+◌, ◌<◌, ◌≤◌, Option, Some, None, List, [], ◌∷◌, ◌++◌, refl, sym, subst, arith}
+use Rattle.std.proofs.Common.{◌≡◌, ℕ, suc, ◌<◌, ◌≤◌, Option, Some, None, List, [], ◌∷◌, ◌++◌, arith}
 use Rattle.par_rules.specs.Lattice.{numbers}
-use Rattle.par_rules.specs.Kinds.{normal, absorbed}
-use Rattle.par_rules.specs.Facts.{Fact, blank}
-use Rattle.par_rules.specs.Rules.{Node, node, Rules, Done, Part, Test, Heads, Leaves, Worths, spot, way, worth}
+use Rattle.par_rules.specs.Facts.{Fact}
+use Rattle.par_rules.specs.Rules.{Node, node, Rules, Done, Part, Test, Heads, Leaves, Worths, spot, way}
 use Rattle.par_rules.specs.Numbered.{next, next_by, IsNumbered, AreNumbered}
-use Rattle.par_pass.specs.Exits.{Way, all, leaving, leave}
-use Rattle.par_pass.specs.Pass.{HeadWays, Event, Row, Into, Found, nothing, fact, visited, ended, into, pass, pass_all}
+use Rattle.par_pass.specs.Exits.{Way}
+use Rattle.par_pass.specs.Pass.{HeadWays, Event, Row, Into, Found, nothing, fact, visited, into, pass, pass_all}
 
 -- the rows are of points from the first number on and below the second
 abbrev pub AreWithin : ℕ → ℕ → List Event → Type 0
@@ -73,6 +72,7 @@ into_spread lo hi (Some t) o = record { within = tt; apart = tt }
 
 mutual
   unfolding next next_by IsNumbered AreNumbered
+
   pub next_above : (n : Node) (lo : ℕ) → IsNumbered lo n → lo < next n
   next_above (node p rules) lo x = let e = x.0 in let j = next_all rules (suc p) x.1 in omega (arith, e, j)
 
@@ -92,6 +92,7 @@ module _ (h : HeadWays) where
 
   mutual
     unfolding next next_by IsNumbered AreNumbered pass pass_all
+
     pub pass_spread : (n : Node) (lo : ℕ) → IsNumbered lo n → (w : Way) → AreSpread lo (next n) (pass h n w).events
     pass_spread (node p rules) lo x w =
         let e = x.0 in

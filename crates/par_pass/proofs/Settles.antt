@@ -1,16 +1,16 @@
 -- Facts that hold what a pass finds are closed, where no head is raised.
-use Rattle.std.proofs.Common.{◌≡◌, ℕ, Bool, true, false, cond, ◌||◌, Option, Some, None, List, [], ◌∷◌, ◌++◌, refl, sym, ap, ◌∙◌, subst}
-use Rattle.par_bits.specs.Sets.{Set, IsWithin, union}
+use Rattle.std.proofs.Common.{◌≡◌, ℕ, Bool, true, false, cond, ◌||◌, Option, Some, None, List, [], ◌∷◌, ◌++◌, refl, sym, ap, subst}
+use Rattle.par_bits.specs.Sets.{IsWithin, union}
 use Rattle.par_rules.specs.Lattice.{numbers}
 use Rattle.par_rules.specs.Kinds as kind
 use Rattle.par_rules.specs.Kinds.{Kind, Normal, same, normal, absorbed, Absorber, Next, Loop, Catches}
 use Rattle.par_rules.specs.Ways.{MayFlow, MayLand, MayRaise}
-use Rattle.par_rules.specs.Facts.{Fact, Facts, blank}
+use Rattle.par_rules.specs.Facts.{Fact, Facts}
 use Rattle.par_rules.specs.Rules.{Node, node, Rules, Done, Part, Test, Heads, Leaves, Worths}
 use Rattle.par_rules.specs.Rules.{spot, way, worth, WhereReached, MayLeave, MayHead, Holds, Restores, Passes, Obeys, ObeysAll}
-use Rattle.par_pass.specs.Exits.{Way, Exit, one, at, all, leaving, restored, leave}
-use Rattle.par_pass.specs.Pass.{HeadWays, Event, Row, Into, Found, nothing, fact, visited, ended, into, pass, pass_all}
-use Rattle.par_pass.specs.Settled.{Says, AllSay}
+use Rattle.par_pass.specs.Exits.{Way, Exit, at, all, leaving, leave}
+use Rattle.par_pass.specs.Pass.{HeadWays, Event, Found, nothing, fact, visited, ended, into, pass, pass_all}
+use Rattle.par_pass.specs.Settled.{AllSay}
 use Rattle.par_pass.proofs.Order.{sub_refl, sub_trans, union_l, union_r, flows_refl, may_refl, may_trans, may_land, land_refl, land_trans, same_refl}
 use Rattle.par_pass.proofs.Ups.{up_l, up_r, at_leaving, up_restored, land_restored, restores}
 

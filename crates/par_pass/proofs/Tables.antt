@@ -1,5 +1,5 @@
 -- The facts of the last pass: below all closed facts, and closed where each point is noted once.
-use Rattle.std.proofs.Common.{◌≡◌, ℕ, zero, suc, Bool, true, false, ◌<◌, ◌≤◌, Option, Some, None, List, [], ◌∷◌, ◌++◌, length, get_or, set, refl, sym, ap, ◌∙◌, subst, arith, ⊎_elim, inl, inr}
+use Rattle.std.proofs.Common.{◌≡◌, ℕ, zero, suc, Bool, true, false, ◌<◌, ◌≤◌, Some, List, [], ◌∷◌, length, set, refl, sym, ap, ◌∙◌, subst, arith, ⊎_elim, inl, inr}
 use Rattle.std.specs.Prelude.{◌⊎◌}
 use Rattle.par_typed.specs.Plain.{Body, TSta, point}
 use Rattle.par_rules.specs.Lattice.{Lattice, numbers}
@@ -7,13 +7,12 @@ use Rattle.par_rules.specs.Ways as rules
 use Rattle.par_pass.specs.Result.{IsSettled}
 use Rattle.par_typed.specs.Plain as plain
 use Rattle.par_pass.specs.Low.{MayFlow}
-use Rattle.par_rules.specs.Facts.{Fact, Facts, blank}
+use Rattle.par_rules.specs.Facts.{Fact, Facts}
 use Rattle.par_rules.specs.Declares.{Declares, Method}
-use Rattle.par_rules.specs.Rules.{Node, node, spot, Obeys}
+use Rattle.par_rules.specs.Rules.{spot}
 use Rattle.par_rules.specs.Body.{sta}
 use Rattle.par_rules.specs.Closed.{IsClosed, first, arriving, locals}
 use Rattle.par_rules.specs.Numbered.{next, IsNumbered}
-use Rattle.par_pass.specs.Exits.{Way}
 use Rattle.par_pass.specs.Pass.{HeadWays, Event, Row, Into, pass}
 use Rattle.par_pass.specs.Low.{Stands, IsLow, AreLow, AreHeadsLow}
 use Rattle.par_pass.specs.Settled.{AllSay}
@@ -22,7 +21,7 @@ use Rattle.par_pass.proofs.Order.{flows_refl, sub_refl}
 use Rattle.par_pass.proofs.Under.{blank_low, flow_up}
 use Rattle.par_pass.proofs.Least.{pass_low}
 use Rattle.par_pass.proofs.Settles.{pass_settled}
-use Rattle.par_pass.proofs.Points.{AreWithin, IsApart, AreApart, AreSpread, pass_spread}
+use Rattle.par_pass.proofs.Points.{AreWithin, IsApart, AreApart, pass_spread}
 
 set_case : (t : List (Fact numbers)) (p q : ℕ) (f : Fact numbers) → ((q ≡ p) × (table (set t p f) q ≡ f)) ⊎ (table (set t p f) q ≡ table t q)
 set_case [] p q f = inr refl

@@ -1,9 +1,8 @@
 -- Ways over sets of numbers, below ways over a lattice.
-use Rattle.std.proofs.Common.{◌≡◌, ℕ, zero, suc, Bool, true, false, cond, Option, Some, None, List, [], ◌∷◌, refl, sym, subst}
+use Rattle.std.proofs.Common.{ℕ, zero, suc, Bool, true, false, cond, Option, Some, None, List, [], ◌∷◌}
 use Rattle.std.specs.Prelude.{nat_eq}
-use Rattle.par_bits.specs.Sets.{Set, IsWithin, none, union, meet, minus}
+use Rattle.par_bits.specs.Sets.{Set}
 use Rattle.par_rules.specs.Lattice.{Lattice, numbers}
-use Rattle.par_rules.specs.Kinds.{Kind, Normal}
 use Rattle.par_rules.specs.Ways as rules
 use Rattle.par_rules.specs.Ways.{raised, assigned, opened, shut, moved, put}
 use Rattle.par_rules.specs.Facts.{Fact, blank}

@@ -1,13 +1,13 @@
 -- Lists of exits: what goes in flows into what comes out.
-use Rattle.std.proofs.Common.{◌≡◌, ℕ, Bool, true, false, cond, ◌||◌, Option, Some, None, List, [], ◌∷◌, refl, sym, ap, ◌∙◌, subst}
+use Rattle.std.proofs.Common.{◌≡◌, Bool, true, false, cond, Option, Some, None, List, [], ◌∷◌, refl, sym, ap, ◌∙◌, subst}
 use Rattle.par_bits.specs.Sets.{Set, IsWithin, union}
 use Rattle.par_rules.specs.Lattice.{numbers}
 use Rattle.par_rules.specs.Kinds.{Kind, Normal, same, normal}
 use Rattle.par_rules.specs.Ways.{MayFlow, MayLand, MayRaise}
 use Rattle.par_rules.specs.Rules.{Holds}
 use Rattle.par_except.specs.Joins.{join}
-use Rattle.par_pass.specs.Exits.{Way, Exit, one, at, add, all, leaving, contexts, set_context, with_context, restored, leave}
-use Rattle.par_pass.proofs.Order.{sub_refl, sub_trans, union_l, union_r, flows_refl, may_refl, may_trans, may_land, land_refl, land_trans, join_l, join_r, same_true, same_refl}
+use Rattle.par_pass.specs.Exits.{Way, Exit, at, add, all, leaving, contexts, with_context, restored}
+use Rattle.par_pass.proofs.Order.{sub_refl, sub_trans, union_l, union_r, flows_refl, may_refl, may_trans, land_trans, join_l, join_r, same_true, same_refl}
 
 -- what a list of exits has, the list that is made of it has
 up_at : (b c : Bool) (x y : Way) (o p : Option Way) → MayFlow numbers o p → MayFlow numbers (cond c (Some x) o) (cond b (cond c (Some (join x y)) o) (cond c (Some x) p))

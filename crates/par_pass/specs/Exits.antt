@@ -1,5 +1,5 @@
 -- Exits as a pass makes them: a list with one way a kind.
-use Rattle.std.specs.Prelude.{ℕ, Bool, cond, Option, Some, None, List, [], ◌∷◌}
+use Rattle.std.specs.Prelude.{Bool, cond, Option, Some, None, List, [], ◌∷◌}
 use Rattle.par_bits.specs.Sets.{Set, union}
 use Rattle.par_rules.specs.Lattice.{numbers}
 use Rattle.par_rules.specs.Kinds.{Kind, Normal, same}

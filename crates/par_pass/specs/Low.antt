@@ -1,8 +1,7 @@
 -- What is found, below facts over any lattice of policies.
-use Rattle.std.specs.Prelude.{ℕ, Option, Some, None, List, [], ◌∷◌, IsTrue}
-use Rattle.par_policy.specs.declared.clauses.Clause.{Clause}
+use Rattle.std.specs.Prelude.{ℕ, Option, Some, None, List, [], ◌∷◌}
 use Rattle.par_bits.specs.Sets.{Set, none, adding, union, IsWithin}
-use Rattle.par_rules.specs.Lattice.{Lattice, numbers, policies, IsSeenBelow}
+use Rattle.par_rules.specs.Lattice.{Lattice, numbers}
 use Rattle.par_rules.specs.Kinds.{Kind}
 use Rattle.par_rules.specs.Ways as rules
 use Rattle.par_rules.specs.Facts.{Fact, Facts}

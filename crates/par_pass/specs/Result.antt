@@ -6,7 +6,7 @@ use Rattle.par_rules.specs.Facts.{Fact, Facts}
 use Rattle.par_rules.specs.Declares.{Declares}
 use Rattle.par_rules.specs.Body.{sta}
 use Rattle.par_rules.specs.Closed.{IsClosed, first}
-use Rattle.par_pass.specs.Low.{Stands, AreHeadsLow, IsLow}
+use Rattle.par_pass.specs.Low.{Stands, IsLow}
 use Rattle.par_pass.specs.Pass.{HeadWays, pass}
 use Rattle.par_pass.specs.Written.{blanks, written, AllFit}
 
