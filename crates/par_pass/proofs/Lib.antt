@@ -8,3 +8,4 @@ pub mod Settles
 pub mod Points
 pub mod Tables
 pub mod Along
+pub mod Rows
