@@ -6,7 +6,7 @@ use Rattle.par_lexer.specs.declared.operator.BinOp.TheVariants.{Gt}
 use Rattle.par_typed.specs.declared.ty.Ty.TheVariants as ty
 use Rattle.par_typed.specs.Plain.{TExp, Int, Local, Static, Input, Output, Call, Binary, Absent, NoExps, Mark}
 use Rattle.par_typed.specs.Plain as plain
-use Rattle.par_typed.specs.Plain.{TSta, Block, If, Try, Throw, Open, SetLocal, Eval, NoElse, Otherwise, TStas, End, Then, NoCatch, Catch}
+use Rattle.par_typed.specs.Plain.{TSta, Block, If, Try, Throw, Open, SetLocal, Eval, When, NoElse, Otherwise, TStas, End, Then, NoCatch, Catch}
 use Rattle.par_rules.specs.Lattice.{numbers}
 use Rattle.par_rules.specs.Declares.{Declares, Method, NO_METHOD}
 use Rattle.par_rules.specs.Rules.{way, worth, can, can_by, comes}
@@ -132,3 +132,15 @@ one_way = Block (Then (If (above_zero (got 3) 2 4) (Block (Then (Open 0 0 6) End
 one_way_may_not : is_open (known one_way 8) 0 ≡ Some false
 unfolding known pass pass_all sta stas exp args way worth can can_by comes catches is_open one_way above_zero got show number at_point shop method SHOP
 one_way_may_not = refl
+
+-- `when (Paid) { show(1); } show(2);`
+asks : TSta
+asks = Block (Then (When 0 (Block (Then (Eval (show (number 1 5) 4) 0 3) End) 0 2) NoElse 0 1) (Then (Eval (show (number 2 8) 7) 0 6) End)) 0 0
+
+inside_it_is_open : is_open (known asks 4) 0 ≡ Some true
+unfolding known pass pass_all sta stas exp args way worth can can_by comes catches is_open asks show number at_point shop method SHOP
+inside_it_is_open = refl
+
+behind_it_may_not : is_open (known asks 7) 0 ≡ Some false
+unfolding known pass pass_all sta stas exp args way worth can can_by comes catches is_open asks show number at_point shop method SHOP
+behind_it_may_not = refl

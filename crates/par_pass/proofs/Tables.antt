@@ -1,17 +1,19 @@
 -- The facts of the last pass: below all closed facts, and closed where each point is noted once.
-use Rattle.std.proofs.Common.{◌≡◌, ℕ, zero, suc, Bool, true, false, ◌<◌, ◌≤◌, Some, List, [], ◌∷◌, length, set, refl, sym, ap, ◌∙◌, subst, arith, ⊎_elim, inl, inr}
+use Rattle.std.proofs.Common.{Option, ◌≡◌, ℕ, zero, suc, Bool, true, false, ◌<◌, ◌≤◌, Some, None, List, [], ◌∷◌, length, set, refl, sym, ap, ◌∙◌, subst, arith, ⊎_elim, inl, inr}
+use Rattle.par_pass.specs.Exits.{Way}
 use Rattle.std.specs.Prelude.{◌⊎◌}
 use Rattle.par_typed.specs.Plain.{Body, TSta, point}
 use Rattle.par_rules.specs.Lattice.{Lattice, numbers}
 use Rattle.par_rules.specs.Ways as rules
-use Rattle.par_pass.specs.Result.{IsSettled}
+use Rattle.par_pass.specs.Result.{IsSettled, AreLeast, AreExact}
+use Rattle.par_pass.proofs.Instances.{among}
 use Rattle.par_typed.specs.Plain as plain
 use Rattle.par_pass.specs.Low.{MayFlow}
 use Rattle.par_rules.specs.Facts.{Fact, Facts}
 use Rattle.par_rules.specs.Declares.{Declares, Method}
 use Rattle.par_rules.specs.Rules.{spot}
 use Rattle.par_rules.specs.Body.{sta}
-use Rattle.par_rules.specs.Closed.{IsClosed, first, arriving, locals}
+use Rattle.par_rules.specs.Closed.{IsClosed, IsThere, first, arriving, locals}
 use Rattle.par_rules.specs.Numbered.{next, IsNumbered}
 use Rattle.par_pass.specs.Pass.{HeadWays, Event, Row, Into, pass}
 use Rattle.par_pass.specs.Low.{Stands, IsLow, AreLow, AreHeadsLow}
@@ -138,3 +140,15 @@ table_closed declared b h points t s n g =
           (subst (λ f. rules.MayFlow numbers (Some m) f.entry) (sym x.is) (flows_refl m));
       obeyed = x.obeyed;
     })
+
+there_up : (o : Option Way) (p : Option (rules.Way numbers)) → MayFlow numbers among o p → IsThere numbers o → IsThere numbers p
+there_up None p h t = absurd t
+there_up (Some w) None h t = absurd h
+there_up (Some w) (Some x) h t = tt
+
+-- closed facts that are at or below all closed facts are exact
+pub exact : (declared : Declares) (b : Body) (f : Facts numbers) → IsClosed numbers declared b f → AreLeast numbers among declared b f → AreExact declared b f
+exact declared b f c l = record {
+  entries = λ p. (λ t a d. there_up (f p).entry (a p).entry (l a d p).entry t, λ r. r f c);
+  exits = λ p k. (λ t a d. there_up ((f p).exit k) ((a p).exit k) ((l a d p).exit k) t, λ r. r f c);
+}

@@ -1,7 +1,8 @@
 -- When facts of a method's body are closed.
-use Rattle.std.specs.Prelude.{ℕ, zero, suc, Bool, true, false, Some, List, [], ◌∷◌}
+use Rattle.std.specs.Prelude.{ℕ, zero, suc, Bool, true, false, Option, Some, None, List, [], ◌∷◌}
 use Rattle.par_typed.specs.Plain.{Body, point}
 use Rattle.par_rules.specs.Lattice.{Lattice}
+use Rattle.par_rules.specs.Kinds.{Kind}
 use Rattle.par_rules.specs.Ways.{Way, MayFlow}
 use Rattle.par_rules.specs.Facts.{Facts}
 use Rattle.par_rules.specs.Declares.{Declares, Method}
@@ -33,3 +34,15 @@ module _ (P : Lattice) where
   pub record IsClosed (declared : Declares) (b : Body) (a : Facts P) : Type 0 where
     pub entered : MayFlow P (Some (first (declared.method b.class b.method))) (a (point b.body)).entry
     pub obeyed : Obeys P a (sta declared b.body)
+
+  abbrev pub IsThere : Option (Way P) → Type 0
+  IsThere None = ⊥
+  IsThere (Some w) = Unit {0}
+
+  -- a point is reached where all closed facts have an entering way for it
+  abbrev pub IsReached : Declares → Body → ℕ → Type 0
+  IsReached declared b p = (a : Facts P) → IsClosed declared b a → IsThere (a p).entry
+
+  -- a completion is possible where all closed facts have a way for it
+  abbrev pub IsPossible : Declares → Body → ℕ → Kind → Type 0
+  IsPossible declared b p k = (a : Facts P) → IsClosed declared b a → IsThere ((a p).exit k)
