@@ -7,3 +7,4 @@ pub mod Rules
 pub mod Body
 pub mod Closed
 pub mod Numbered
+pub mod Ranges
