@@ -1,5 +1,5 @@
 -- The rules, tried on worked bodies without loops: what is known at a point.
-use Rattle.std.proofs.Common.{◌≡◌, ℕ, zero, suc, Bool, true, false, Option, Some, None, List, [], ◌∷◌, refl, cond, nat_eq}
+use Rattle.std.proofs.Common.{◌≡◌, ℕ, zero, suc, Bool, true, false, Option, Some, None, [], ◌∷◌, refl, cond, nat_eq}
 use Rattle.std.specs.Prelude.{pos}
 use Rattle.par_bits.specs.Sets.{Set, none, adding}
 use Rattle.par_lexer.specs.declared.operator.BinOp.TheVariants.{Gt}
