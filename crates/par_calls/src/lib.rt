@@ -11,6 +11,8 @@ mod compiling;
 #[cfg(test)]
 mod event_lines;
 #[cfg(test)]
+mod exits;
+#[cfg(test)]
 mod expect;
 #[cfg(test)]
 mod heaps;
