@@ -67,6 +67,6 @@ close_lock l s = record s { locks = closed l s.locks }
 abbrev pub entered : List MVal → State → State
 entered values s = record s { locals = λ x. value_or_null (slice_get values x); result = Null }
 
--- back in a caller, which called in the first state
-abbrev pub restored : State → State → State
-restored s t = record t { locals = s.locals; result = s.result }
+-- back in a caller, with its locals and what it is to return
+abbrev pub restored : (ℕ → MVal) → MVal → State → State
+restored locals result s = record s { locals = locals; result = result }

@@ -91,17 +91,18 @@ unless_null (Ref k n) c = c
 abbrev pub tested : Bool → MVal → Task → Task
 tested sure r c = if sure then c else unless_null r c
 
--- A method is left with what it is to return, or with what it throws.
-abbrev pub leave : State → Rests → Rests
-leave s rest Normal v t n = rest Normal t.result (restored s t) n
-leave s rest Broken v t n = rest Normal t.result (restored s t) n
-leave s rest Continued v t n = rest Normal t.result (restored s t) n
-leave s rest Returned v t n = rest Normal t.result (restored s t) n
-leave s rest (Thrown c) v t n = rest (Thrown c) nothing (restored s t) n
+-- A method is left with what it is to return, or with what it throws; its caller has these locals,
+-- and is to return this.
+abbrev pub leave : (ℕ → MVal) → MVal → Rests → Rests
+leave locals result rest Normal v s n = rest Normal s.result (restored locals result s) n
+leave locals result rest Broken v s n = rest Normal s.result (restored locals result s) n
+leave locals result rest Continued v s n = rest Normal s.result (restored locals result s) n
+leave locals result rest Returned v s n = rest Normal s.result (restored locals result s) n
+leave locals result rest (Thrown c) v s n = rest (Thrown c) nothing (restored locals result s) n
 
 -- a method's body with these values in its first locals
 abbrev pub enter : Task → List MVal → Task
-enter body values rest s n = body (leave s rest) (entered values s) n
+enter body values rest s n = body (leave s.locals s.result rest) (entered values s) n
 
 -- A loop goes on behind its block and behind `continue`; `break` ends it.
 abbrev pub looped : Task → Rests → Rests
