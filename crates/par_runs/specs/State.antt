@@ -49,12 +49,12 @@ abbrev pub take_input : ℕ → ℕ → State → State
 take_input c k s = record s { inputs = put s.inputs c (put (s.inputs c) k (left (s.inputs c k))) }
 
 -- a set of locks with one more
-unfoldable pub opened : ℕ → List ℕ → List ℕ
+abbrev pub opened : ℕ → List ℕ → List ℕ
 opened l [] = l ∷ []
 opened l (m ∷ ms) = if l == m then m ∷ ms else if nat_lt l m then l ∷ m ∷ ms else m ∷ opened l ms
 
 -- a set of locks without one
-unfoldable pub closed : ℕ → List ℕ → List ℕ
+abbrev pub closed : ℕ → List ℕ → List ℕ
 closed l ms = filter (λ m. not (m == l)) ms
 
 abbrev pub open_lock : ℕ → State → State
