@@ -1,5 +1,5 @@
 -- One open lock more, and one less.
-use Rattle.std.proofs.Common.{◌≡◌, ◌<◌, ◌⊎◌, ℕ, Bool, true, not, false, inl, inr, List, [], ◌∷◌, All, Contains, refl, sym, subst, arith}
+use Rattle.std.proofs.Common.{◌≡◌, ◌<◌, ◌⊎◌, ◌||◌, if◌then◌else◌, ap, ℕ, Bool, true, not, false, inl, inr, List, [], ◌∷◌, All, Contains, refl, sym, subst, arith}
 use Rattle.std.proofs.lemmas.Bool.Decides.{nat_tests}
 use Rattle.std.specs.Prelude.{IsTrue, nat_eq, nat_lt, ◌==◌}
 use Rattle.std.proofs.lemmas.Bool.{or_left, or_right, cond_both, or_cases, eq-eqb, eqb-true}
@@ -91,3 +91,19 @@ closed_is l old other new up also gains less =
     (λ k in_new. let both = (less k).0 in_new in Contains-filter kept old k both.0 (other_number k l (λ is. both.1 ((gains k).1 (inr is)))))
     (λ k in_closed. let both = Contains-from_filter kept old k in_closed in
     (less k).1 (both.0, λ in_other. elim ((gains k).0 in_other) [ inl none ↦ Contains-nil k none | inr is ↦ apart_numbers k l both.1 is ]))
+
+or_false_right : (a b : Bool) → (a || b) ≡ false → b ≡ false
+or_false_right true b e = absurd cc
+or_false_right false b e = e
+
+true_or_false : (a b : Bool) → IsTrue a → (a || b) ≡ false → ⊥
+true_or_false true b t e = absurd cc
+true_or_false false b t e = absurd cc
+
+-- a lock that is closed already changes nothing
+pub closed_again : (l : ℕ) (old : List ℕ) → has old l ≡ false → old ≡ closed l old
+closed_again l [] absent = refl
+closed_again l (m ∷ ms) absent =
+    let rest = closed_again l ms (or_false_right (nat_eq m l) (has ms l) absent) in
+    let kept : not (m == l) ≡ true = other_number m l (λ is. true_or_false (nat_eq m l) (has ms l) (eq-eqb m l is) absent) in
+    subst (λ b. (m ∷ ms) ≡ (if b then m ∷ closed l ms else closed l ms)) (sym kept) (ap (λ ns. m ∷ ns) rest)
