@@ -1,0 +1,10 @@
+pub mod Sets
+pub mod Numbers
+pub mod Policies
+pub mod Statements
+pub mod Written
+pub mod Sizes
+pub mod Births
+pub mod Numbered
+pub mod Limits
+pub mod Resolved

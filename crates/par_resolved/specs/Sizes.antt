@@ -1,0 +1,72 @@
+-- Limits 4 and 5: the clauses of a policy, and the locks of a clause.
+use Rattle.std.specs.Prelude.{ℕ, nat_lt, if◌then◌else◌, List, [], ◌∷◌, ◌++◌, map, flat_map, find, length, Option, None, Some}
+use Rattle.par_policy.specs.declared.clauses.Clause.{Clause}
+use Rattle.par_tree.specs.declared.policy.ClauseTree.{ClauseTree}
+use Rattle.par_tree.specs.declared.policy.PolicyTerm.{PolicyTerm}
+use Rattle.par_tree.specs.declared.policy.PolicyTerm.TheVariants.{Clauses, Named, Bottom, Top}
+use Rattle.par_tree.specs.declared.policy.PolicyExpr.{PolicyExpr}
+use Rattle.par_tree.specs.Plain.{Source}
+use Rattle.par_typed.specs.declared.refusal.Refusal.{Refusal}
+use Rattle.par_typed.specs.First.{exceeded}
+use Rattle.par_resolved.specs.declared.limits.TheConstants.{MOST_CLAUSES, MOST_LOCKS}
+use Rattle.par_resolved.specs.Sets.{joined}
+use Rattle.par_resolved.specs.Policies.{Known, term_values, fits}
+use Rattle.par_resolved.specs.Written.{written}
+
+-- a limit that is exceeded, with this count
+unfoldable pub exceeded_by : ℕ → ℕ → Option ℕ → List Refusal
+exceeded_by limit at None = []
+exceeded_by limit at (Some count) = exceeded limit count at ∷ []
+
+-- the first of the counts of clauses, and the first of the counts of locks, that are too many
+abbrev pub size_faults : ℕ → List ℕ → List ℕ → List Refusal
+size_faults at clauses locks =
+    exceeded_by 4 at (find (λ n. nat_lt MOST_CLAUSES n) clauses)
+    ++ exceeded_by 5 at (find (λ n. nat_lt MOST_LOCKS n) locks)
+
+-- a normal form that is too large
+abbrev pub form_faults : ℕ → List Clause → List Refusal
+form_faults at p = size_faults at (length p ∷ []) (map (λ c. length c.locks) p)
+
+-- ---- literals, as they are written
+
+abbrev pub literals : PolicyTerm → List (List ClauseTree)
+literals (Clauses clauses) = clauses ∷ []
+literals (Named id) = []
+literals Bottom = []
+literals Top = []
+
+abbrev pub written_clauses : PolicyTerm → List ClauseTree
+written_clauses (Clauses clauses) = clauses
+written_clauses (Named id) = []
+written_clauses Bottom = []
+written_clauses Top = []
+
+abbrev pub literal_faults : PolicyExpr → List Refusal
+literal_faults e =
+    size_faults e.at (map (λ cs. length cs) (flat_map literals e.terms))
+    (map (λ c. length c.locks) (flat_map written_clauses e.terms))
+
+-- ---- joins, up to the first that does not fit
+
+unfoldable pub steps_faults : ℕ → List Clause → List (List Clause) → List Refusal
+steps_faults at p [] = []
+steps_faults at p (q ∷ qs) =
+    if fits (joined p q) then steps_faults at (joined p q) qs else form_faults at (joined p q)
+
+-- nothing is joined where a term comes to nothing
+unfoldable pub join_faults : ℕ → Option (List (List Clause)) → List Refusal
+join_faults at None = []
+join_faults at (Some []) = []
+join_faults at (Some (p ∷ ps)) = steps_faults at p ps
+
+abbrev pub expression_faults : Known → PolicyExpr → List Refusal
+expression_faults k e = join_faults e.at (term_values k e.terms)
+
+-- ---- the whole program
+
+abbrev pub all_literal_faults : Source → List Refusal
+all_literal_faults source = flat_map literal_faults (written source)
+
+abbrev pub all_join_faults : Known → Source → List Refusal
+all_join_faults k source = flat_map (expression_faults k) (written source)
