@@ -1,2 +1,6 @@
-pub mod Numbers
+pub mod NumberSets
 pub mod Normal
+pub mod Loops
+pub mod Steps
+pub mod Made
+pub mod Gathers

@@ -18,7 +18,7 @@ use Rattle.par_policy.specs.Lattice.{IsJoin, IsMeet}
 use Rattle.par_policy.proofs.Kept.{IsNormal-kept, alike-kept, alike-from_covered, sees_push}
 use Rattle.par_policy.proofs.Antisymmetry.{same_normal_forms}
 use Rattle.par_resolved.specs.Sets.{with_lock_set, beside, placed, with_clause, normal, with_locks_of, joined, met}
-use Rattle.par_resolved.proofs.Numbers.{set_is_ascending, set_within}
+use Rattle.par_resolved.proofs.NumberSets.{set_is_ascending, set_within}
 
 -- ---- the front of a list
 
@@ -217,3 +217,17 @@ one_join r p q is join =
 pub one_meet : (r p q : List Clause) → IsNormal r → IsMeet r p q → r ≡ met p q
 one_meet r p q is meet =
     one_normal r (p ++ q) is (λ actor locks. meet actor locks ∙ sym (list_any-append (allows actor locks) p q))
+
+-- ---- lock sets
+
+sees_sets : (cs : List Clause) (actor : ℕ) (locks : List ℕ) → sees (map with_lock_set cs) actor locks ≡ sees cs actor locks
+sees_sets [] actor locks = refl
+sees_sets (c ∷ cs) actor locks =
+    ap (λ b. b || sees (map with_lock_set cs) actor locks) (allows_set c actor locks)
+    ∙ ap (λ b. allows actor locks c || b) (sees_sets cs actor locks)
+
+-- the normal form is the same where the locks of each clause are in order before
+pub normal_sets : (cs : List Clause) → normal (map with_lock_set cs) ≡ normal cs
+normal_sets cs =
+    one_normal (normal (map with_lock_set cs)) cs (normal_is (map with_lock_set cs))
+    (λ actor locks. normal_alike (map with_lock_set cs) actor locks ∙ sees_sets cs actor locks)

@@ -1,7 +1,10 @@
 pub mod Sets
+pub mod Few
+pub mod Seen
 pub mod Numbers
 pub mod Policies
 pub mod Statements
+pub mod Gathered
 pub mod Written
 pub mod Sizes
 pub mod Births

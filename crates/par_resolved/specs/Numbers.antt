@@ -1,5 +1,5 @@
 -- The numbers of what a program declares.
-use Rattle.std.specs.Prelude.{ℕ, zero, suc, ◌+◌, ◌*◌, ◌^◌, List, [], ◌∷◌, map, length, unwrap_or, position, sum_by, Option, None, Some, slice_index_or, flat_map}
+use Rattle.std.specs.Prelude.{ℕ, zero, suc, ◌+◌, ◌*◌, ◌^◌, List, [], ◌∷◌, map, length, unwrap_or, position, Option, None, Some, slice_index_or, flat_map}
 use Rattle.std.specs.List.{range_with_len}
 use Rattle.std.specs.Str.{bytes_eq}
 use Rattle.par_tree.specs.declared.ident.Ident.{Ident}
@@ -10,7 +10,7 @@ use Rattle.par_tree.specs.declared.decl.LockDecl.{LockDecl}
 use Rattle.par_tree.specs.Plain.{Source}
 use Rattle.par_typed.specs.declared.ty.Ty.{Ty}
 use Rattle.par_typed.specs.declared.ty.Ty.TheVariants as ty
-use Rattle.par_names.specs.Declared.{actors, locks, classes}
+use Rattle.par_names.specs.Declared.{actors, locks}
 
 -- the place of the first of these names, 0 where it is not there
 abbrev pub number : List (List ℕ) → List ℕ → ℕ
@@ -21,7 +21,6 @@ pub record Numbers : Type 0 where
   pub actors : List (List ℕ)
   pub locks : List (List ℕ)
   pub firsts : List ℕ
-  pub classes : List (List ℕ)
 
 -- a family of k actors has (number of actors) to the k ground locks
 abbrev pub ground_count : ℕ → LockDecl → ℕ
@@ -33,13 +32,12 @@ firsts_from actors first [] = []
 firsts_from actors first (lock ∷ locks) =
     first ∷ firsts_from actors (first + ground_count actors lock) locks
 
--- actors, declarations of locks, and classes in source order
+-- actors and declarations of locks in source order
 abbrev pub numbers : Source → Numbers
 numbers source = record {
   actors = map (λ a. a.name) (actors source);
   locks = map (λ l. l.id.name) (locks source);
   firsts = firsts_from (length (actors source)) 0 (locks source);
-  classes = map (λ c. c.id.name) (classes source);
 }
 
 -- ---- uses
@@ -58,15 +56,16 @@ lock_number n lock =
     slice_index_or n.firsts (number n.locks lock.id.name) 0
     + place_in_family (length n.actors) (map (actor_number n) lock.actors)
 
-unfoldable pub type_of : Numbers → TypeTree → Ty
-type_of n (type.Int at) = ty.Int
-type_of n (type.Boolean at) = ty.Boolean
-type_of n (type.Class class) = ty.Class (number n.classes class.name)
+-- a type, where the classes have these names
+unfoldable pub type_of : List (List ℕ) → TypeTree → Ty
+type_of classes (type.Int at) = ty.Int
+type_of classes (type.Boolean at) = ty.Boolean
+type_of classes (type.Class class) = ty.Class (number classes class.name)
 
 -- a method without a result is `void`
-abbrev pub result_of : Numbers → Option TypeTree → Ty
-result_of n None = ty.Void
-result_of n (Some t) = type_of n t
+unfoldable pub result_of : List (List ℕ) → Option TypeTree → Ty
+result_of classes None = ty.Void
+result_of classes (Some t) = type_of classes t
 
 -- ---- the ground locks of a declaration, each by its actors
 

@@ -46,10 +46,14 @@ and_more None rest = None
 and_more (Some p) None = None
 and_more (Some p) (Some ps) = Some (p ∷ ps)
 
+-- all policies, where none is missing
+unfoldable pub all_some : List (Option (List Clause)) → Option (List (List Clause))
+all_some [] = Some []
+all_some (o ∷ os) = and_more o (all_some os)
+
 -- what all of these come to
-unfoldable pub term_values : Known → List PolicyTerm → Option (List (List Clause))
-term_values k [] = Some []
-term_values k (t ∷ ts) = and_more (term_value k t) (term_values k ts)
+abbrev pub term_values : Known → List PolicyTerm → Option (List (List Clause))
+term_values k terms = all_some (map (term_value k) terms)
 
 -- ---- expressions
 

@@ -31,14 +31,17 @@ use Rattle.par_resolved.specs.Written.{stmt_types, queried}
 use Rattle.par_resolved.specs.Births.{birth_policy}
 use Rattle.par_resolved.specs.Numbered.{entries, distinct, numbered, shared_policies, policy_number}
 
--- What a table is made by: what is known of the program, and the policies that have numbers.
+-- What a table is made by: what is known of the program, the names of its classes, and the
+-- policies that have numbers.
 pub record Resolved : Type 0 where
   pub known : Known
+  pub classes : List (List ℕ)
   pub policies : List (List Clause)
 
 abbrev pub resolved : Source → Resolved
 resolved source = record {
   known = known source;
+  classes = map (λ c. c.id.name) (classes source);
   policies = shared_policies (known source) source;
 }
 
@@ -94,7 +97,7 @@ abbrev pub field_info : Resolved → ℕ → FieldDecl → FieldInfo
 field_info r next f = record {
   name = f.id.name;
   is_static = f.is_static;
-  ty = type_of r.known.numbers f.ty;
+  ty = type_of r.classes f.ty;
   policy = if f.inferred then next else may_number r f.policy;
   inferred = f.inferred;
 }
@@ -114,14 +117,14 @@ channel_info r c = record {
 
 abbrev pub param_info : Resolved → ParamDecl → ParamInfo
 param_info r p = record {
-  ty = type_of r.known.numbers p.ty;
+  ty = type_of r.classes p.ty;
   policy = may_number r p.policy;
   notnull = p.notnull;
 }
 
 abbrev pub throw_info : Resolved → ThrowDecl → ThrowInfo
 throw_info r t = record {
-  class = number r.known.numbers.classes t.class.name;
+  class = number r.classes t.class.name;
   policy = expression_number r t.policy;
 }
 
@@ -133,10 +136,10 @@ abbrev pub this_type : ℕ → Bool → List Ty
 this_type class is_static = if is_static then [] else ty.Class class ∷ []
 
 -- `this`, parameters, and what is declared, in source order
-abbrev pub local_types : Numbers → ℕ → Method → List Ty
-local_types n class m =
-    this_type class m.is_static ++ map (λ p. type_of n p.ty) m.params
-    ++ map (type_of n) (flat_map stmt_types (in_braces m.body))
+abbrev pub local_types : List (List ℕ) → ℕ → Method → List Ty
+local_types classes class m =
+    this_type class m.is_static ++ map (λ p. type_of classes p.ty) m.params
+    ++ map (type_of classes) (flat_map stmt_types (in_braces m.body))
 
 abbrev pub method_info : Resolved → ℕ → Method → MethodInfo
 method_info r class m = record {
@@ -144,10 +147,10 @@ method_info r class m = record {
   at = m.id.at;
   nodes = method_nodes m;
   is_static = m.is_static;
-  result = result_of r.known.numbers m.result;
+  result = result_of r.classes m.result;
   policy = may_number r m.policy;
   params = map (param_info r) m.params;
-  locals = local_types r.known.numbers class m;
+  locals = local_types r.classes class m;
   effect = may_number r (slice_get m.effects 0);
   expects = lock_set r.known.numbers m.expects;
   opens = lock_set r.known.numbers m.opens;

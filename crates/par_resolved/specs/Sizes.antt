@@ -1,5 +1,5 @@
 -- Limits 4 and 5: the clauses of a policy, and the locks of a clause.
-use Rattle.std.specs.Prelude.{ℕ, nat_lt, if◌then◌else◌, List, [], ◌∷◌, ◌++◌, map, flat_map, find, length, Option, None, Some}
+use Rattle.std.specs.Prelude.{ℕ, ◌^◌, ◌-◌, min, nat_lt, if◌then◌else◌, List, [], ◌∷◌, ◌++◌, map, flat_map, find, length, Option, None, Some}
 use Rattle.par_policy.specs.declared.clauses.Clause.{Clause}
 use Rattle.par_tree.specs.declared.policy.ClauseTree.{ClauseTree}
 use Rattle.par_tree.specs.declared.policy.PolicyTerm.{PolicyTerm}
@@ -13,10 +13,10 @@ use Rattle.par_resolved.specs.Sets.{joined}
 use Rattle.par_resolved.specs.Policies.{Known, term_values, fits}
 use Rattle.par_resolved.specs.Written.{written}
 
--- a limit that is exceeded, with this count
+-- a limit that is exceeded, with this count, or with the most that a refusal can tell
 unfoldable pub exceeded_by : ℕ → ℕ → Option ℕ → List Refusal
 exceeded_by limit at None = []
-exceeded_by limit at (Some count) = exceeded limit count at ∷ []
+exceeded_by limit at (Some count) = exceeded limit (min count (2 ^ 32 - 1)) at ∷ []
 
 -- the first of the counts of clauses, and the first of the counts of locks, that are too many
 abbrev pub size_faults : ℕ → List ℕ → List ℕ → List Refusal

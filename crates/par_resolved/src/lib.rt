@@ -5,4 +5,12 @@
 //! limits of policies, and at no rule on names: those are looked at before.
 #![tactic(auto)]
 
+mod forms;
+mod joins;
+mod known;
 pub mod limits;
+mod memory;
+mod numbers;
+mod statements;
+
+pub use memory::NoMemory;

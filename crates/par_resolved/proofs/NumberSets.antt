@@ -1,11 +1,14 @@
 -- Sets of numbers as ascending lists.
-use Rattle.std.proofs.Common.{◌≡◌, ℕ, ◌<◌, ◌≤◌, Bool, true, false, cond, ◌&&◌, ◌⊎◌, List, [], ◌∷◌, ◌++◌, All, Contains, fold, refl, sym, ap, ◌∙◌, subst, inl, inr, arith}
+use Rattle.std.proofs.Common.{◌≡◌, ℕ, ◌<◌, ◌≤◌, Bool, true, false, cond, ◌&&◌, ◌⊎◌, List, [], ◌∷◌, ◌++◌, All, Contains, fold, refl, sym, ap, ◌∙◌, subst, inl, inr, ⊎_elim, arith}
 use Rattle.std.specs.Prelude.{IsTrue, nat_lt, nat_eq, if◌then◌else◌}
-use Rattle.std.proofs.lemmas.Bool.{cases_Bool}
+use Rattle.std.proofs.lemmas.Bool.{and_parts, and_from}
 use Rattle.std.proofs.lemmas.Bool.Decides.{nat_tests}
-use Rattle.std.proofs.lemmas.List.Elements.{All-nil, All-cons, All-head, All-tail, All-weaker, All-contains}
+use Rattle.std.proofs.lemmas.List.Elements.{All-nil, All-cons, All-head, All-tail, All-weaker, All-contains, All-contains_itself}
+use Rattle.std.proofs.lemmas.List.Sums.{fold-append}
 use Rattle.std.proofs.lemmas.List.Kept.{AllPairs-cons}
-use Rattle.par_policy.specs.Numbers.{IsAscending, has, within}
+use Rattle.par_policy.specs.Numbers.{IsAscending, has, within, Gains}
+use Rattle.par_policy.proofs.Members.{All-from_within, within-from_All, Contains-from_has, has-from_Contains}
+use Rattle.par_policy.proofs.Seen.{within_itself}
 use Rattle.par_policy.proofs.Ordered.{AllPairs-head, AllPairs-tail, same_numbers}
 use Rattle.par_resolved.specs.Sets.{with_number, set_of}
 
@@ -91,3 +94,23 @@ within_fold ms (n ∷ ns) outer =
 
 pub set_within : (ns outer : List ℕ) → within (set_of ns) outer ≡ within ns outer
 set_within ns outer = within_fold [] ns outer
+
+-- a set that gains a number is the set with the number in its place
+pub one_set : (old new : List ℕ) (n : ℕ) → IsAscending old → IsAscending new → Gains old new n → new ≡ with_number old n
+one_set old new n before after gains =
+    let w = with_number old n in
+    let whole : IsTrue (has w n && within old w) = subst IsTrue (within_with old n w) (within_itself w) in
+    let parts = and_parts (has w n) (within old w) whole in
+    let kept : All (Contains new) old =
+    All-weaker (Contains old) (Contains new) (λ x h. (gains x).1 (inl h)) old (All-contains_itself old) in
+    let inside : IsTrue (within w new) =
+    subst IsTrue (sym (within_with old n new))
+    (and_from (has new n) (within old new) (has-from_Contains new n ((gains n).1 (inr refl))) (within-from_All old new kept)) in
+    same_numbers new w after (ascending_with old n before)
+    (λ x in_new. ⊎_elim (λ in_old. All-contains (Contains w) old x (All-from_within old w parts.1) in_old)
+    (λ e. subst (Contains w) (sym e) (Contains-from_has w n parts.0)) ((gains x).0 in_new))
+    (λ x in_w. All-contains (Contains new) w x (All-from_within w new inside) in_w)
+
+-- one number more
+pub set_push : (ns : List ℕ) (n : ℕ) → set_of (ns ++ n ∷ []) ≡ with_number (set_of ns) n
+set_push ns n = fold-append with_number [] ns (n ∷ [])

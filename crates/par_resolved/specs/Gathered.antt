@@ -1,0 +1,12 @@
+-- What references to parts of a tree refer to.
+use Rattle.std.specs.Prelude.{List, map}
+use Rattle.std.specs.Borrow.{Bor}
+use Rattle.par_tree.specs.declared.stmt.Stmt.{Stmt}
+use Rattle.par_tree.specs.Plain.{Sta}
+use Rattle.par_tree.specs.Shown.{does}
+
+abbrev pub statements_of : List (Bor Stmt) → List Sta
+statements_of refs = map (λ s. does s.now) refs
+
+abbrev pub all_of : {A : Type 0} → List (Bor A) → List A
+all_of refs = map (λ r. r.now) refs
