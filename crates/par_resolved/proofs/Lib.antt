@@ -4,3 +4,5 @@ pub mod Loops
 pub mod Steps
 pub mod Made
 pub mod Gathers
+pub mod Pushes
+pub mod Found

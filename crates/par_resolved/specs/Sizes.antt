@@ -1,14 +1,13 @@
 -- Limits 4 and 5: the clauses of a policy, and the locks of a clause.
 use Rattle.std.specs.Prelude.{ℕ, ◌^◌, ◌-◌, min, nat_lt, if◌then◌else◌, List, [], ◌∷◌, ◌++◌, map, flat_map, find, length, Option, None, Some}
 use Rattle.par_policy.specs.declared.clauses.Clause.{Clause}
-use Rattle.par_tree.specs.declared.policy.ClauseTree.{ClauseTree}
 use Rattle.par_tree.specs.declared.policy.PolicyTerm.{PolicyTerm}
 use Rattle.par_tree.specs.declared.policy.PolicyTerm.TheVariants.{Clauses, Named, Bottom, Top}
 use Rattle.par_tree.specs.declared.policy.PolicyExpr.{PolicyExpr}
 use Rattle.par_tree.specs.Plain.{Source}
 use Rattle.par_typed.specs.declared.refusal.Refusal.{Refusal}
 use Rattle.par_typed.specs.First.{exceeded}
-use Rattle.par_resolved.specs.declared.limits.TheConstants.{MOST_CLAUSES, MOST_LOCKS}
+use Rattle.par_resolved.specs.declared.limits.TheConstants.{CLAUSE_LIMIT, MOST_CLAUSES, LOCK_LIMIT, MOST_LOCKS}
 use Rattle.par_resolved.specs.Sets.{joined}
 use Rattle.par_resolved.specs.Policies.{Known, term_values, fits}
 use Rattle.par_resolved.specs.Written.{written}
@@ -18,11 +17,11 @@ unfoldable pub exceeded_by : ℕ → ℕ → Option ℕ → List Refusal
 exceeded_by limit at None = []
 exceeded_by limit at (Some count) = exceeded limit (min count (2 ^ 32 - 1)) at ∷ []
 
--- the first of the counts of clauses, and the first of the counts of locks, that are too many
+-- the first of these counts of clauses, and the first of these counts of locks, that is too many
 abbrev pub size_faults : ℕ → List ℕ → List ℕ → List Refusal
 size_faults at clauses locks =
-    exceeded_by 4 at (find (λ n. nat_lt MOST_CLAUSES n) clauses)
-    ++ exceeded_by 5 at (find (λ n. nat_lt MOST_LOCKS n) locks)
+    exceeded_by CLAUSE_LIMIT at (find (λ n. nat_lt MOST_CLAUSES n) clauses)
+    ++ exceeded_by LOCK_LIMIT at (find (λ n. nat_lt MOST_LOCKS n) locks)
 
 -- a normal form that is too large
 abbrev pub form_faults : ℕ → List Clause → List Refusal
@@ -30,22 +29,21 @@ form_faults at p = size_faults at (length p ∷ []) (map (λ c. length c.locks) 
 
 -- ---- literals, as they are written
 
-abbrev pub literals : PolicyTerm → List (List ClauseTree)
-literals (Clauses clauses) = clauses ∷ []
-literals (Named id) = []
-literals Bottom = []
-literals Top = []
+-- the clauses of a literal, and the locks of each of its clauses
+unfoldable pub literal_sizes : PolicyTerm → List ℕ
+literal_sizes (Clauses clauses) = length clauses ∷ []
+literal_sizes (Named id) = []
+literal_sizes Bottom = []
+literal_sizes Top = []
 
-abbrev pub written_clauses : PolicyTerm → List ClauseTree
-written_clauses (Clauses clauses) = clauses
-written_clauses (Named id) = []
-written_clauses Bottom = []
-written_clauses Top = []
+unfoldable pub literal_locks : PolicyTerm → List ℕ
+literal_locks (Clauses clauses) = map (λ c. length c.locks) clauses
+literal_locks (Named id) = []
+literal_locks Bottom = []
+literal_locks Top = []
 
 abbrev pub literal_faults : PolicyExpr → List Refusal
-literal_faults e =
-    size_faults e.at (map (λ cs. length cs) (flat_map literals e.terms))
-    (map (λ c. length c.locks) (flat_map written_clauses e.terms))
+literal_faults e = size_faults e.at (flat_map literal_sizes e.terms) (flat_map literal_locks e.terms)
 
 -- ---- joins, up to the first that does not fit
 

@@ -5,12 +5,16 @@
 //! limits of policies, and at no rule on names: those are looked at before.
 #![tactic(auto)]
 
+mod declared;
 mod forms;
 mod joins;
 mod known;
 pub mod limits;
+mod literals;
 mod memory;
 mod numbers;
+mod queried;
 mod statements;
+mod written;
 
 pub use memory::NoMemory;
