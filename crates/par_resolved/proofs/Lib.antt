@@ -6,3 +6,5 @@ pub mod Made
 pub mod Gathers
 pub mod Pushes
 pub mod Found
+pub mod Counted
+pub mod Behind

@@ -1,6 +1,6 @@
 -- The birth policies of classes: who may learn that an object is made.
 use Rattle.std.specs.Prelude.{not, ◌&&◌, Bool, List, [], ◌∷◌, map, filter, fold, Option, None, Some}
-use Rattle.std.specs.List.{list_all, list_any}
+use Rattle.std.specs.List.{list_all}
 use Rattle.par_policy.specs.declared.clauses.Clause.{Clause}
 use Rattle.par_policy.specs.Sees.{sees}
 use Rattle.par_tree.specs.declared.policy.PolicyExpr.{PolicyExpr}
@@ -41,6 +41,6 @@ is_below p q = list_all (λ d. sees p d.actor d.locks) q
 -- 107: the written one is not below the policy of a field; 106: the meet of fields is too large
 unfoldable pub birth_faults : Known → Class → Option PolicyExpr → List Refusal
 birth_faults k c (Some e) =
-    when (list_any (λ q. not (is_below (policy_of k e) q)) (part_policies k c.fields))
+    when (not (list_all (is_below (policy_of k e)) (part_policies k c.fields)))
     (broken 107 c.id.at)
 birth_faults k c None = form_faults c.id.at (birth_policy k None c.fields)

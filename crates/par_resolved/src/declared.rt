@@ -80,3 +80,30 @@ pub fn classes(alloc: Global, program: &Program) -> Result<Vec<&ClassDecl>, NoMe
     }
     Ok(found)
 }
+
+/// Their names.
+#[tactic(auto, using(crate::proofs::Pushes::pushes))]
+pub fn lock_names<'a>(alloc: Global, decls: &[&'a LockDecl]) -> Result<Vec<&'a [u8]>, NoMemory>
+    ensures { IfOk result (λ found. texts found.items ≡ map (λ l. l.id.name) (all_of decls.now)) }
+{
+    let mut found = Vec::new(alloc);
+    for decl in decls {
+        found.push(decl.id.name.bytes())?;
+    }
+    Ok(found)
+}
+
+/// Their names.
+#[tactic(auto, using(crate::proofs::Pushes::pushes))]
+pub fn policy_names<'a>(
+    alloc: Global,
+    decls: &[&'a PolicyDecl],
+) -> Result<Vec<&'a [u8]>, NoMemory>
+    ensures { IfOk result (λ found. texts found.items ≡ map (λ d. d.id.name) (all_of decls.now)) }
+{
+    let mut found = Vec::new(alloc);
+    for decl in decls {
+        found.push(decl.id.name.bytes())?;
+    }
+    Ok(found)
+}

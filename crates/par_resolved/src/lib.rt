@@ -5,7 +5,9 @@
 //! limits of policies, and at no rule on names: those are looked at before.
 #![tactic(auto)]
 
+mod births;
 mod declared;
+mod firsts;
 mod forms;
 mod joins;
 mod known;
@@ -14,6 +16,7 @@ mod literals;
 mod memory;
 mod numbers;
 mod queried;
+mod scope;
 mod statements;
 mod written;
 

@@ -1,11 +1,17 @@
 // Actors and ground locks by their numbers.
 ghost use Rattle.std.specs.Prelude.{◌≡◌, ◌≤◌, IfOk, map, length};
-ghost use Rattle.par_resolved.specs.Few.{IsFew};
+ghost use Rattle.par_tree.specs.Shown.{source};
+ghost use Rattle.par_resolved.specs.Few.{IsFew, HasFew};
 ghost use Rattle.par_resolved.specs.Numbers.{actor_number, lock_number, place_in_family};
 
+use crate::declared::{actor_names, lock_names, locks};
+use crate::firsts::firsts;
+use crate::memory::NoMemory;
 use par_index::NameIndex;
+use par_tree::decl::Program;
 use par_tree::ident::Ident;
 use par_tree::policy::LockTree;
+use std::alloc::Global;
 
 /// The declared actors and locks of a program that is within their limits, with the numbers of the
 /// first ground locks of each declaration.
@@ -20,6 +26,27 @@ pub struct Numbers<'a> {
 
 impl<'a> Numbers<'a> {
     ghost use Rattle.par_resolved.specs.Seen.{seen};
+    ghost use Rattle.par_resolved.specs.Numbers.{numbers};
+
+    /// The actors and the locks of a program.
+    pub fn of(alloc: Global, program: &'a Program) -> Result<Numbers<'a>, NoMemory>
+        requires { HasFew (source program.now) }
+        ensures { IfOk result (λ n. seen n ≡ numbers (source program.now)) }
+    {
+        let names = actor_names(alloc, program)?;
+        let actor_count = names.as_slice().len() as u8;
+        let actors = NameIndex::of(alloc, names)?;
+        let decls = locks(alloc, program)?;
+        let firsts = firsts(alloc, actor_count, decls.as_slice())?;
+        let names = lock_names(alloc, decls.as_slice())?;
+        let locks = NameIndex::of(alloc, names)?;
+        Ok(Numbers {
+            actors,
+            actor_count,
+            locks,
+            firsts,
+        })
+    }
 
     /// How many actors there are.
     pub fn actor_count(&self) -> u8
