@@ -8,3 +8,4 @@ pub mod Pushes
 pub mod Found
 pub mod Counted
 pub mod Behind
+pub mod Sorted

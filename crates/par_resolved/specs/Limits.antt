@@ -7,7 +7,8 @@ use Rattle.par_resolved.specs.declared.limits.TheConstants.{MOST_POLICIES}
 use Rattle.par_resolved.specs.Policies.{Known, known}
 use Rattle.par_resolved.specs.Sizes.{all_literal_faults, all_join_faults}
 use Rattle.par_resolved.specs.Births.{birth_faults}
-use Rattle.par_resolved.specs.Numbered.{Entry, numbered, declared}
+use Rattle.par_resolved.specs.declared.entries.Entry.{Entry}
+use Rattle.par_resolved.specs.Numbered.{numbered, declared}
 
 -- limit 3: the first policy that is one too many
 unfoldable pub one_too_many : Option Entry → List Refusal

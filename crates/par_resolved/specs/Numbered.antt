@@ -10,14 +10,10 @@ use Rattle.par_tree.specs.declared.decl.LockDecl.{LockDecl}
 use Rattle.par_tree.specs.declared.decl.FieldDecl.{FieldDecl}
 use Rattle.par_tree.specs.Plain.{Class, Source}
 use Rattle.par_names.specs.Declared.{locks, lock_named, classes_in}
+use Rattle.par_resolved.specs.declared.entries.Entry.{Entry}
 use Rattle.par_resolved.specs.Policies.{Known, bottom, policy_of}
 use Rattle.par_resolved.specs.Written.{written, queried}
 use Rattle.par_resolved.specs.Births.{birth_policy}
-
--- a policy of the table, and the place that it is counted at
-pub record Entry : Type 0 where
-  pub at : ℕ
-  pub policy : List Clause
 
 -- ---- equal policies
 

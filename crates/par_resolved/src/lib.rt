@@ -7,6 +7,7 @@
 
 mod births;
 mod declared;
+mod entries;
 mod firsts;
 mod forms;
 mod joins;
@@ -18,6 +19,7 @@ mod numbers;
 mod queried;
 mod scope;
 mod statements;
+mod types;
 mod written;
 
 pub use memory::NoMemory;
