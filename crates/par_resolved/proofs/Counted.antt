@@ -1,12 +1,12 @@
 -- The numbers of ground locks are below their count.
-use Rattle.std.proofs.Common.{◌≡◌, ℕ, ◌+◌, ◌<◌, ◌≤◌, List, [], ◌∷◌, ◌++◌, All, length, drop, get_or, map, sum_by, refl, sym, ap, ◌∙◌, arith}
+use Rattle.std.proofs.Common.{◌≡◌, ℕ, ◌+◌, ◌<◌, ◌≤◌, List, [], ◌∷◌, All, length, drop, get_or, sum_by, ap, ◌∙◌, arith}
 use Rattle.std.specs.Borrow.{Bor}
 use Rattle.std.proofs.lemmas.List.Elements.{All-nil, All-cons}
 use Rattle.std.proofs.lemmas.List.Sums.{sum_by-cons}
 use Rattle.par_tree.specs.declared.decl.LockDecl.{LockDecl}
 use Rattle.par_resolved.specs.Numbers.{ground_count, firsts_from}
 use Rattle.par_resolved.specs.Gathered.{all_of}
-use Rattle.par_resolved.proofs.Loops.{drop_more, none_left}
+use Rattle.par_resolved.proofs.Loops.{drop_more}
 
 pub firsts_small : (n first most : ℕ) (locks : List LockDecl) → first + sum_by (ground_count n) locks ≤ most
     → All (λ f. f ≤ most) (firsts_from n first locks)

@@ -1,7 +1,6 @@
 -- What is made step by step of lists that are written.
-use Rattle.std.proofs.Common.{◌≡◌, ℕ, zero, suc, ◌+◌, ◌<◌, ◌≤◌, List, [], ◌∷◌, ◌++◌, length, take, drop, map, get_or, Option, Some, None, refl, sym, ap, ◌∙◌, subst, arith}
+use Rattle.std.proofs.Common.{◌≡◌, ℕ, zero, suc, ◌+◌, ◌<◌, List, [], ◌∷◌, ◌++◌, length, take, map, get_or, Option, Some, None, refl, sym, ap, ◌∙◌, subst, arith}
 use Rattle.std.specs.List.{range_with_len}
-use Rattle.std.proofs.lemmas.Grind.{common_steps}
 use Rattle.par_policy.specs.declared.clauses.Clause.{Clause}
 use Rattle.par_policy.specs.Numbers.{IsAscending, Gains}
 use Rattle.par_resolved.specs.Sets.{set_of, with_number, with_lock_set, normal}
@@ -9,7 +8,7 @@ use Rattle.par_resolved.specs.Policies.{all_some}
 use Rattle.par_resolved.proofs.NumberSets.{one_set, set_push, set_is_ascending}
 use Rattle.par_resolved.proofs.Normal.{normal_sets}
 use Rattle.par_resolved.proofs.Steps.{all_there, one_missing, one_later}
-use Rattle.par_resolved.proofs.Loops.{take_more, map_more}
+use Rattle.par_resolved.proofs.Loops.{map_more}
 
 -- one item more of a set
 pub set_more : {A : Type 0} (f : A → ℕ) (xs : List A) (i : ℕ) (x : A) (old new : List ℕ) → i < length xs → x ≡ get_or xs i x

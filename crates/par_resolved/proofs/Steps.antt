@@ -1,10 +1,10 @@
 -- Joins from the left, step by step, and policies that are all there.
-use Rattle.std.proofs.Common.{◌≡◌, ℕ, zero, suc, ◌<◌, Bool, true, false, List, [], ◌∷◌, ◌++◌, length, map, get_or, Option, Some, None, refl, sym, ap, ◌∙◌, arith}
+use Rattle.std.proofs.Common.{◌≡◌, ℕ, true, false, List, [], ◌∷◌, ◌++◌, map, Option, Some, None, refl, sym, ap, ◌∙◌}
 use Rattle.par_policy.specs.declared.clauses.Clause.{Clause}
 use Rattle.par_typed.proofs.First.{first_of_none}
 use Rattle.par_resolved.specs.Sets.{joined}
 use Rattle.par_resolved.specs.Policies.{all_some, and_more, fits, join_with, join_of}
-use Rattle.par_resolved.specs.Sizes.{form_faults, steps_faults, join_faults, exceeded_by}
+use Rattle.par_resolved.specs.Sizes.{form_faults, steps_faults, join_faults}
 
 pub all_some_none : all_some [] ≡ Some []
 unfolding all_some

@@ -1,5 +1,5 @@
 -- The limits of policies, and the rule on birth policies.
-use Rattle.std.specs.Prelude.{ℕ, List, [], ◌∷◌, ◌++◌, ◌+◌, flat_map, slice_get, Option, None, Some}
+use Rattle.std.specs.Prelude.{List, [], ◌∷◌, ◌++◌, ◌+◌, flat_map, slice_get, Option, None, Some}
 use Rattle.par_tree.specs.Plain.{Source}
 use Rattle.par_typed.specs.declared.refusal.Refusal.{Refusal}
 use Rattle.par_typed.specs.First.{exceeded, in_passes}

@@ -4,7 +4,6 @@ use Rattle.std.specs.Option.{is_none}
 use Rattle.std.specs.List.{list_any}
 use Rattle.std.specs.Str.{bytes_eq}
 use Rattle.par_policy.specs.declared.clauses.Clause.{Clause}
-use Rattle.par_tree.specs.declared.policy.LockTree.{LockTree}
 use Rattle.par_tree.specs.declared.policy.PolicyExpr.{PolicyExpr}
 use Rattle.par_tree.specs.declared.decl.LockDecl.{LockDecl}
 use Rattle.par_tree.specs.declared.decl.FieldDecl.{FieldDecl}

@@ -1,5 +1,5 @@
 -- The table of a program.
-use Rattle.std.specs.Prelude.{ℕ, ◌+◌, Bool, not, nat_eq, if◌then◌else◌, List, [], ◌∷◌, ◌++◌, map, flat_map, filter, length, slice_get, position, unwrap_or, codes, count_by, Option, None, Some}
+use Rattle.std.specs.Prelude.{ℕ, ◌+◌, Bool, nat_eq, if◌then◌else◌, List, [], ◌∷◌, ◌++◌, map, flat_map, length, slice_get, position, unwrap_or, codes, count_by, Option, None, Some}
 use Rattle.std.specs.List.{list_any}
 use Rattle.std.specs.Str.{bytes_eq}
 use Rattle.par_policy.specs.declared.clauses.Clause.{Clause}
@@ -24,12 +24,12 @@ use Rattle.par_typed.specs.declared.table.ClassInfo.{ClassInfo}
 use Rattle.par_typed.specs.declared.table.Table.{Table}
 use Rattle.par_names.specs.Declared.{locks, classes}
 use Rattle.par_resolved.specs.Sets.{set_of}
-use Rattle.par_resolved.specs.Numbers.{Numbers, numbers, number, actor_number, lock_number, type_of, result_of, ground_count, choices, place_in_family}
+use Rattle.par_resolved.specs.Numbers.{Numbers, number, lock_number, type_of, result_of, ground_count, choices, place_in_family}
 use Rattle.par_resolved.specs.Policies.{Known, known, policy_of}
 use Rattle.par_resolved.specs.Statements.{in_braces}
 use Rattle.par_resolved.specs.Written.{stmt_types, queried}
 use Rattle.par_resolved.specs.Births.{birth_policy}
-use Rattle.par_resolved.specs.Numbered.{entries, distinct, numbered, shared_policies, policy_number}
+use Rattle.par_resolved.specs.Numbered.{numbered, shared_policies, policy_number}
 
 -- What a table is made by: what is known of the program, the names of its classes, and the
 -- policies that have numbers.

@@ -1,5 +1,5 @@
 -- The policy expressions of a program, and the locks that it asks for.
-use Rattle.std.specs.Prelude.{List, [], ◌∷◌, ◌++◌, map, flat_map, Option}
+use Rattle.std.specs.Prelude.{List, [], ◌∷◌, ◌++◌, map, flat_map}
 use Rattle.std.specs.Option.{option_to_list}
 use Rattle.par_tree.specs.declared.types.TypeTree.{TypeTree}
 use Rattle.par_tree.specs.declared.policy.LockTree.{LockTree}

@@ -95,10 +95,7 @@ pub fn lock_names<'a>(alloc: Global, decls: &[&'a LockDecl]) -> Result<Vec<&'a [
 
 /// Their names.
 #[tactic(auto, using(crate::proofs::Pushes::pushes))]
-pub fn policy_names<'a>(
-    alloc: Global,
-    decls: &[&'a PolicyDecl],
-) -> Result<Vec<&'a [u8]>, NoMemory>
+pub fn policy_names<'a>(alloc: Global, decls: &[&'a PolicyDecl]) -> Result<Vec<&'a [u8]>, NoMemory>
     ensures { IfOk result (λ found. texts found.items ≡ map (λ d. d.id.name) (all_of decls.now)) }
 {
     let mut found = Vec::new(alloc);

@@ -32,7 +32,11 @@ pub struct Known<'a> {
 }
 
 /// The numbers of these locks.
-pub fn lock_set(alloc: Global, numbers: &Numbers<'_>, locks: &[LockTree]) -> Result<Lockset, NoMemory>
+pub fn lock_set(
+    alloc: Global,
+    numbers: &Numbers<'_>,
+    locks: &[LockTree],
+) -> Result<Lockset, NoMemory>
     ensures { IfOk result (λ set. set ≡ set_of (map (lock_number (seen numbers.now)) locks.now)) }
 {
     let mut set = Lockset::new(alloc);

@@ -5,21 +5,21 @@
 //! limits of policies, and at no rule on names: those are looked at before.
 #![tactic(auto)]
 
-mod births;
+pub mod births;
 mod declared;
-mod entries;
+pub mod entries;
 mod firsts;
 mod forms;
 mod joins;
-mod known;
+pub mod known;
 pub mod limits;
-mod literals;
+pub mod literals;
 mod memory;
-mod numbers;
-mod queried;
-mod scope;
+pub mod numbers;
+pub mod queried;
+pub mod scope;
 mod statements;
-mod types;
-mod written;
+pub mod types;
+pub mod written;
 
 pub use memory::NoMemory;

@@ -7,8 +7,9 @@ ghost use Rattle.par_resolved.specs.Gathered.{statements_of, all_of};
 
 use crate::memory::NoMemory;
 use crate::statements::statements;
-use par_tree::decl::{ChannelDecl, ClassDecl, Decl, FieldDecl, MethodDecl, ParamDecl, Program};
-use par_tree::decl::ThrowDecl;
+use par_tree::decl::{
+    ChannelDecl, ClassDecl, Decl, FieldDecl, MethodDecl, ParamDecl, Program, ThrowDecl,
+};
 use par_tree::policy::PolicyExpr;
 use par_tree::stmt::{Stmt, StmtKind};
 use std::alloc::Global;
@@ -109,10 +110,7 @@ fn push_may<'a>(
 }
 
 #[tactic(auto, using(crate::proofs::Pushes::pushes))]
-fn push_fields<'a>(
-    found: &mut Vec<&'a PolicyExpr>,
-    items: &'a [FieldDecl],
-) -> Result<(), NoMemory>
+fn push_fields<'a>(found: &mut Vec<&'a PolicyExpr>, items: &'a [FieldDecl]) -> Result<(), NoMemory>
     ensures { OnOk result (all_of found.new.items
         ≡ all_of found.old.items ++ flat_map (λ f. option_to_list f.policy) items.now) }
 {
@@ -137,10 +135,7 @@ fn push_channels<'a>(
 }
 
 #[tactic(auto, using(crate::proofs::Pushes::pushes))]
-fn push_params<'a>(
-    found: &mut Vec<&'a PolicyExpr>,
-    items: &'a [ParamDecl],
-) -> Result<(), NoMemory>
+fn push_params<'a>(found: &mut Vec<&'a PolicyExpr>, items: &'a [ParamDecl]) -> Result<(), NoMemory>
     ensures { OnOk result (all_of found.new.items
         ≡ all_of found.old.items ++ flat_map (λ p. option_to_list p.policy) items.now) }
 {
@@ -164,10 +159,7 @@ fn push_effects<'a>(
 }
 
 #[tactic(auto, using(crate::proofs::Pushes::pushes))]
-fn push_throws<'a>(
-    found: &mut Vec<&'a PolicyExpr>,
-    items: &'a [ThrowDecl],
-) -> Result<(), NoMemory>
+fn push_throws<'a>(found: &mut Vec<&'a PolicyExpr>, items: &'a [ThrowDecl]) -> Result<(), NoMemory>
     ensures { OnOk result (all_of found.new.items
         ≡ all_of found.old.items ++ map (λ t. t.policy) items.now) }
 {
@@ -178,10 +170,7 @@ fn push_throws<'a>(
 }
 
 #[tactic(auto, using(crate::proofs::Pushes::pushes))]
-fn push_locals<'a>(
-    found: &mut Vec<&'a PolicyExpr>,
-    items: &[&'a Stmt],
-) -> Result<(), NoMemory>
+fn push_locals<'a>(found: &mut Vec<&'a PolicyExpr>, items: &[&'a Stmt]) -> Result<(), NoMemory>
     ensures { OnOk result (all_of found.new.items
         ≡ all_of found.old.items ++ flat_map policies.stmt_policies (statements_of items.now)) }
 {

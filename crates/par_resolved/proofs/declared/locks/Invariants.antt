@@ -1,4 +1,4 @@
-use Rattle.std.proofs.Common.{◌≡◌, ◌++◌, drop, map}
+use Rattle.std.proofs.Common.{◌≡◌, ◌++◌, drop}
 use Rattle.par_tree.specs.Shown.{all_declared}
 use Rattle.par_names.specs.Declared.{locks}
 use Rattle.par_resolved.specs.Gathered.{all_of}

@@ -1,4 +1,4 @@
-use Rattle.std.proofs.Common.{◌≡◌, ◌∙◌, ap, sym}
+use Rattle.std.proofs.Common.{◌∙◌, ap, sym}
 use Rattle.par_typed.specs.First.{first_of}
 use Rattle.par_typed.proofs.First.{first_of_none}
 use Rattle.par_resolved.specs.Sizes.{form_faults}

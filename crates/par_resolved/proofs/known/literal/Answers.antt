@@ -1,6 +1,6 @@
 use Rattle.std.proofs.Common.{◌≡◌, ◌∙◌, ap, subst, map, IfOk}
 use Rattle.std.proofs.lemmas.List.{take_all}
-use Rattle.par_resolved.specs.Sets.{normal, with_lock_set}
+use Rattle.par_resolved.specs.Sets.{with_lock_set}
 use Rattle.par_resolved.specs.Policies.{clause_of}
 use Rattle.par_resolved.specs.Seen.{seen}
 use Rattle.par_resolved.proofs.Made.{literal_form}
