@@ -103,7 +103,8 @@ pub fn check_birth(
     findings: &mut Findings,
 ) -> Result<(), NoMemory>
     ensures { OnOk result (findings.new
-        ≡ first_of findings.old (birth_faults (known_seen known.now) (class_of class.now) class.now.birth)) }
+        ≡ first_of findings.old
+            (birth_faults (known_seen known.now) (class_of class.now) class.now.birth)) }
 {
     match &class.birth {
         Some(e) => {

@@ -14,7 +14,8 @@ use std::alloc::Global;
 /// The names of the declared actors.
 #[tactic(auto, using(crate::proofs::Pushes::pushes))]
 pub fn actor_names(alloc: Global, program: &Program) -> Result<Vec<&[u8]>, NoMemory>
-    ensures { IfOk result (λ found. texts found.items ≡ map (λ a. a.name) (names.actors (source program.now))) }
+    ensures { IfOk result (λ found.
+        texts found.items ≡ map (λ a. a.name) (names.actors (source program.now))) }
 {
     let mut found = Vec::new(alloc);
     for decl in program.decls.as_slice() {
@@ -28,7 +29,8 @@ pub fn actor_names(alloc: Global, program: &Program) -> Result<Vec<&[u8]>, NoMem
 
 #[tactic(auto, using(crate::proofs::Pushes::pushes))]
 fn push_names<'a>(found: &mut Vec<&'a [u8]>, ids: &'a [Ident]) -> Result<(), NoMemory>
-    ensures { OnOk result (texts found.new.items ≡ texts found.old.items ++ map (λ a. a.name) ids.now) }
+    ensures { OnOk result (texts found.new.items
+        ≡ texts found.old.items ++ map (λ a. a.name) ids.now) }
 {
     for id in ids {
         found.push(id.name.bytes())?;

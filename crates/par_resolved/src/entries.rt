@@ -24,7 +24,8 @@ pub fn written_entries(
     known: &Known<'_>,
     exprs: &[&PolicyExpr],
 ) -> Result<Vec<Entry>, NoMemory>
-    ensures { IfOk result (λ found. found.items ≡ map (written_entry (known_seen known.now)) (all_of exprs.now)) }
+    ensures { IfOk result (λ found.
+        found.items ≡ map (written_entry (known_seen known.now)) (all_of exprs.now)) }
 {
     let mut found = Vec::new(alloc);
     for e in exprs {

@@ -92,7 +92,8 @@ impl<'a> Known<'a> {
     // What the declared policy of this name comes to.
     fn named(&self, name: &Name) -> Result<Option<Policy>, NoMemory>
         ensures { IfOk result (λ p.
-            p ≡ value_at self.now.values.items (position (bytes_eq name.now) (known_seen self.now).names)) }
+            p ≡ value_at self.now.values.items
+                (position (bytes_eq name.now) (known_seen self.now).names)) }
     {
         match self.names.place(name) {
             None => Ok(None),

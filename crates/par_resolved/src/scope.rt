@@ -43,7 +43,8 @@ fn read_declared(
     known: &mut Known<'_>,
     decls: &[&PolicyDecl],
 ) -> Result<(), NoMemory>
-    ensures { OnOk result (known_seen known.new ≡ known_behind (known_seen known.old) (all_of decls.now)) }
+    ensures { OnOk result (known_seen known.new
+        ≡ known_behind (known_seen known.old) (all_of decls.now)) }
 {
     for decl in decls {
         let mut unread = Findings::new();
@@ -60,7 +61,8 @@ pub fn first_join(
     exprs: &[&PolicyExpr],
 ) -> Result<Option<Refusal>, NoMemory>
     ensures { IfOk result (λ first.
-        first ≡ first_of None (flat_map (expression_faults (known_seen known.now)) (all_of exprs.now))) }
+        first ≡ first_of None
+            (flat_map (expression_faults (known_seen known.now)) (all_of exprs.now))) }
 {
     let mut findings = Findings::new();
     for e in exprs {

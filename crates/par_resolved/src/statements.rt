@@ -11,7 +11,8 @@ use std::alloc::Global;
 /// The statements of a body.
 #[tactic(auto, using(crate::proofs::Gathers::gathers))]
 pub fn statements(alloc: Global, body: &Block) -> Result<Vec<&Stmt>, NoMemory>
-    ensures { IfOk result (λ found. statements_of found.items ≡ statement.in_braces (braces body.now)) }
+    ensures { IfOk result (λ found.
+        statements_of found.items ≡ statement.in_braces (braces body.now)) }
 {
     let mut found = Vec::new(alloc);
     in_block(&mut found, body)?;

@@ -55,7 +55,8 @@ pub fn result_of(classes: &NameIndex<'_>, result_type: &Option<TypeTree>) -> Ty
 /// The types of the locals that a body declares, in source order.
 #[tactic(auto, using(crate::proofs::Pushes::pushes))]
 pub fn declared_types(alloc: Global, body: &Block) -> Result<Vec<&TypeTree>, NoMemory>
-    ensures { IfOk result (λ found. all_of found.items ≡ flat_map stmt_types (in_braces (braces body.now))) }
+    ensures { IfOk result (λ found.
+        all_of found.items ≡ flat_map stmt_types (in_braces (braces body.now))) }
 {
     let stmts = statements(alloc, body)?;
     let mut found = Vec::new(alloc);
