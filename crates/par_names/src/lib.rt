@@ -9,6 +9,7 @@ mod body;
 mod builtin;
 mod doubles;
 mod expr;
+pub mod laws;
 mod lookup;
 mod named;
 mod policy;

@@ -3,7 +3,7 @@ use Rattle.std.specs.Prelude.{◌≡◌, ℕ, ◌≤◌, List, All, length, sum_
 use Rattle.par_index.specs.declared.names.NameIndex.{NameIndex}
 use Rattle.par_index.specs.Texts.{texts}
 use Rattle.par_tree.specs.Plain.{Source}
-use Rattle.par_names.specs.Declared.{actors, locks}
+use Rattle.par_names.specs.Declarations.{actors, locks}
 use Rattle.par_resolved.specs.declared.limits.TheConstants.{MOST_ACTORS, MOST_GROUND_LOCKS}
 use Rattle.par_resolved.specs.Numbers.{ground_count}
 

@@ -8,7 +8,7 @@ use Rattle.par_tree.specs.declared.policy.PolicyExpr.{PolicyExpr}
 use Rattle.par_tree.specs.declared.decl.LockDecl.{LockDecl}
 use Rattle.par_tree.specs.declared.decl.FieldDecl.{FieldDecl}
 use Rattle.par_tree.specs.Plain.{Class, Source}
-use Rattle.par_names.specs.Declared.{locks, lock_named, classes_in}
+use Rattle.par_names.specs.Declarations.{locks, lock_named, classes_in}
 use Rattle.par_resolved.specs.declared.entries.Entry.{Entry}
 use Rattle.par_resolved.specs.Policies.{Known, bottom, policy_of}
 use Rattle.par_resolved.specs.Written.{written, queried}

@@ -10,7 +10,7 @@ use Rattle.par_tree.specs.declared.decl.LockDecl.{LockDecl}
 use Rattle.par_tree.specs.Plain.{Source}
 use Rattle.par_typed.specs.declared.ty.Ty.{Ty}
 use Rattle.par_typed.specs.declared.ty.Ty.TheVariants as ty
-use Rattle.par_names.specs.Declared.{actors, locks}
+use Rattle.par_names.specs.Declarations.{actors, locks}
 
 -- the place of the first of these names, 0 where it is not there
 abbrev pub number : List (List ℕ) → List ℕ → ℕ

@@ -9,7 +9,7 @@ use Rattle.par_tree.specs.declared.policy.PolicyTerm.TheVariants.{Clauses, Named
 use Rattle.par_tree.specs.declared.policy.PolicyExpr.{PolicyExpr}
 use Rattle.par_tree.specs.declared.decl.PolicyDecl.{PolicyDecl}
 use Rattle.par_tree.specs.Plain.{Source}
-use Rattle.par_names.specs.Declared.{policies}
+use Rattle.par_names.specs.Declarations.{policies}
 use Rattle.par_resolved.specs.declared.limits.TheConstants.{MOST_CLAUSES, MOST_LOCKS}
 use Rattle.par_resolved.specs.Sets.{normal, joined}
 use Rattle.par_resolved.specs.Numbers.{Numbers, numbers, actor_number, lock_number}

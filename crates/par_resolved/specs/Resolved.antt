@@ -22,7 +22,7 @@ use Rattle.par_typed.specs.declared.table.ThrowInfo.{ThrowInfo}
 use Rattle.par_typed.specs.declared.table.MethodInfo.{MethodInfo}
 use Rattle.par_typed.specs.declared.table.ClassInfo.{ClassInfo}
 use Rattle.par_typed.specs.declared.table.Table.{Table}
-use Rattle.par_names.specs.Declared.{locks, classes}
+use Rattle.par_names.specs.Declarations.{locks, classes}
 use Rattle.par_resolved.specs.Sets.{set_of}
 use Rattle.par_resolved.specs.Numbers.{Numbers, number, lock_number, type_of, result_of, ground_count, choices, place_in_family}
 use Rattle.par_resolved.specs.Policies.{Known, known, policy_of}

@@ -2,7 +2,7 @@
 ghost use Rattle.std.specs.Prelude.{◌≡◌, ◌++◌, map, IfOk, OnOk};
 ghost use Rattle.par_tree.specs.Shown.{source, class_of};
 ghost use Rattle.par_index.specs.Texts.{texts};
-ghost use Rattle.par_names.specs.Declared as names;
+ghost use Rattle.par_names.specs.Declarations as names;
 ghost use Rattle.par_resolved.specs.Gathered.{all_of, classes_of};
 ghost use Rattle.par_resolved.specs.Numbered.{declared};
 

@@ -5,3 +5,4 @@ pub mod Kept
 pub mod Methods
 pub mod Program
 pub mod Inferred
+pub mod Places

@@ -8,6 +8,7 @@
 mod exprs;
 mod fits;
 mod inferred;
+pub mod laws;
 mod methods;
 mod program;
 mod stmts;

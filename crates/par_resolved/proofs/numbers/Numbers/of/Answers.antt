@@ -5,7 +5,7 @@ use Rattle.par_tree.specs.declared.decl.LockDecl.{LockDecl}
 use Rattle.par_tree.specs.declared.ident.Ident.{Ident}
 use Rattle.par_index.specs.Texts.{texts}
 use Rattle.par_tree.specs.Shown.{source}
-use Rattle.par_names.specs.Declared.{actors, locks}
+use Rattle.par_names.specs.Declarations.{actors, locks}
 use Rattle.par_resolved.specs.Numbers.{Numbers, firsts_from}
 use Rattle.par_resolved.specs.Gathered.{all_of}
 use Rattle.par_resolved.proofs.numbers.Numbers.of.Goals as goal
