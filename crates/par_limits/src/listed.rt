@@ -1,5 +1,5 @@
 // The policies of a program in the order of its table.
-ghost use Rattle.std.specs.Prelude.{◌≡◌, ◌++◌, ◌∷◌, map, IfOk, OnOk};
+ghost use Rattle.std.specs.Prelude.{◌≡◌, ◌++◌, map, IfOk, OnOk};
 ghost use Rattle.par_tree.specs.Shown.{source};
 ghost use Rattle.par_resolved.specs.Seen.{known_seen};
 ghost use Rattle.par_resolved.specs.Gathered.{all_of, classes_of};

@@ -1,7 +1,6 @@
 // The first policy that is one too many.
-ghost use Rattle.std.specs.Prelude.{◌≡◌, ◌++◌, ◌+◌, ◌∷◌, [], map, flat_map, filter, slice_get, Option, OnOk, IfOk};
-ghost use Rattle.par_typed.specs.First.{first_of, exceeded};
-ghost use Rattle.par_resolved.specs.Seen.{known_seen};
+ghost use Rattle.std.specs.Prelude.{◌≡◌, ◌++◌, map, flat_map, slice_get, OnOk};
+ghost use Rattle.par_typed.specs.First.{first_of};
 ghost use Rattle.par_resolved.specs.Gathered.{all_of, classes_of};
 ghost use Rattle.par_limits.specs.Places.{inferred_places, places_of, many_at};
 
