@@ -1,5 +1,5 @@
 // The policies of a table, by the places where they are counted.
-ghost use Rattle.std.specs.Prelude.{◌≡◌, map, IfOk, OnOk};
+ghost use Rattle.std.specs.Prelude.{◌≡◌, ◌++◌, map, OnOk};
 ghost use Rattle.par_resolved.specs.Gathered.{all_of};
 ghost use Rattle.par_resolved.specs.Seen.{known_seen};
 ghost use Rattle.par_resolved.specs.Numbered.{written_entry, by_place};
@@ -17,22 +17,22 @@ pub struct Entry {
     pub policy: Policy,
 }
 
-/// The entries of these expressions.
+/// Pushes the entries of these expressions.
 #[tactic(auto, using(crate::proofs::Pushes::pushes))]
-pub fn written_entries(
+pub fn push_written(
     alloc: Global,
+    found: &mut Vec<Entry>,
     known: &Known<'_>,
     exprs: &[&PolicyExpr],
-) -> Result<Vec<Entry>, NoMemory>
-    ensures { IfOk result (λ found.
-        found.items ≡ map (written_entry (known_seen known.now)) (all_of exprs.now)) }
+) -> Result<(), NoMemory>
+    ensures { OnOk result (found.new.items
+        ≡ found.old.items ++ map (written_entry (known_seen known.now)) (all_of exprs.now)) }
 {
-    let mut found = Vec::new(alloc);
     for e in exprs {
         let policy = known.policy_of(alloc, e)?;
         found.push(Entry { at: e.at, policy })?;
     }
-    Ok(found)
+    Ok(())
 }
 
 /// Puts the entries in the order of their places.

@@ -6,7 +6,7 @@
 #![tactic(auto)]
 
 pub mod births;
-mod declared;
+pub mod declared;
 pub mod entries;
 mod firsts;
 mod forms;

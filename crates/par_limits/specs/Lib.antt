@@ -1,0 +1,4 @@
+pub mod Asked
+pub mod Listed
+pub mod Within
+pub mod Places

@@ -1,0 +1,15 @@
+//! Whether the policies of a program are within their limits.
+//!
+//! The crate lists the policies of a program in the order in which its table numbers them, finds
+//! the first that is one too many, and tells the first limit or birth policy that is broken. It
+//! reads no names: those are looked at before, and so are the limits of actors and of locks.
+#![tactic(auto)]
+
+mod asked;
+mod distinct;
+mod listed;
+mod many;
+mod policies;
+mod same;
+
+pub use policies::first_fault;

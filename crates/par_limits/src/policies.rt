@@ -1,0 +1,126 @@
+// The first limit of policies that a program exceeds.
+ghost use Rattle.std.specs.Prelude.{◌≡◌, None, flat_map, slice_get, IfOk, OnOk};
+ghost use Rattle.par_tree.specs.Shown.{source};
+ghost use Rattle.par_typed.specs.First.{first_of, in_passes};
+ghost use Rattle.par_resolved.specs.Few.{HasFew};
+ghost use Rattle.par_resolved.specs.Policies.{known};
+ghost use Rattle.par_resolved.specs.Sizes.{all_join_faults};
+ghost use Rattle.par_resolved.specs.Seen.{known_seen};
+ghost use Rattle.par_resolved.specs.Gathered.{all_of, classes_of};
+ghost use Rattle.par_resolved.specs.Written as said;
+ghost use Rattle.par_resolved.specs.Numbered.{numbered, declared};
+ghost use Rattle.par_resolved.specs.Births.{birth_faults};
+ghost use Rattle.par_resolved.specs.Limits.{one_too_many, table_faults, policy_faults};
+
+use crate::distinct::distinct;
+use crate::listed::entries;
+use crate::many::check_many;
+use par_resolved::NoMemory;
+use par_resolved::births::check_birth;
+use par_resolved::declared::classes;
+use par_resolved::known::Known;
+use par_resolved::limits::MOST_POLICIES;
+use par_resolved::literals::first_literal;
+use par_resolved::scope::{first_join, known};
+use par_resolved::written::written;
+use par_tree::decl::{ClassDecl, Program};
+use par_tree::policy::PolicyExpr;
+use par_typed::refusal::{Findings, Refusal};
+use std::alloc::Global;
+
+fn check_policies(
+    alloc: Global,
+    known: &Known<'_>,
+    program: &Program,
+    exprs: &[&PolicyExpr],
+    classes: &[&ClassDecl],
+    findings: &mut Findings,
+) -> Result<(), NoMemory>
+    requires written { all_of exprs.now ≡ said.written (source program.now) }
+    requires declared { classes_of classes.now ≡ declared (source program.now) }
+    ensures { OnOk result (findings.new
+        ≡ first_of findings.old
+        (one_too_many (slice_get (numbered (known_seen known.now) (source program.now))
+        MOST_POLICIES))) }
+{
+    let entries = entries(alloc, known, program, exprs, classes)?;
+    let distinct = distinct(alloc, entries.as_slice())?;
+    check_many(alloc, distinct.as_slice(), classes, findings)
+}
+
+fn check_births(
+    alloc: Global,
+    known: &Known<'_>,
+    classes: &[&ClassDecl],
+    findings: &mut Findings,
+) -> Result<(), NoMemory>
+    ensures { OnOk result (findings.new
+        ≡ first_of findings.old
+        (flat_map (λ c. birth_faults (known_seen known.now) c c.birth)
+        (classes_of classes.now))) }
+{
+    for class in classes {
+        check_birth(alloc, known, class, findings)?;
+    }
+    Ok(())
+}
+
+// The first fault of the table, where every policy expression is within its limits.
+#[tactic(auto, using(par_typed::proofs::First::firsts))]
+fn first_of_table(
+    alloc: Global,
+    known: &Known<'_>,
+    program: &Program,
+    exprs: &[&PolicyExpr],
+) -> Result<Option<Refusal>, NoMemory>
+    requires { all_of exprs.now ≡ said.written (source program.now) }
+    ensures { IfOk result (λ first.
+        first ≡ first_of None (table_faults (known_seen known.now) (source program.now))) }
+{
+    let mut findings = Findings::new();
+    let classes = classes(alloc, program)?;
+    check_policies(
+        alloc,
+        known,
+        program,
+        exprs,
+        classes.as_slice(),
+        &mut findings,
+    )?;
+    check_births(alloc, known, classes.as_slice(), &mut findings)?;
+    Ok(findings.first())
+}
+
+// The first fault where every literal is within its limits.
+fn first_known(
+    alloc: Global,
+    program: &Program,
+    exprs: &[&PolicyExpr],
+) -> Result<Option<Refusal>, NoMemory>
+    requires few { HasFew (source program.now) }
+    requires written { all_of exprs.now ≡ said.written (source program.now) }
+    ensures { IfOk result (λ first.
+        first ≡ first_of None
+        (in_passes (all_join_faults (known (source program.now)) (source program.now))
+        (table_faults (known (source program.now)) (source program.now)))) }
+{
+    let known = known(alloc, program)?;
+    match first_join(alloc, &known, exprs)? {
+        None => first_of_table(alloc, &known, program, exprs),
+        Some(first) => Ok(Some(first)),
+    }
+}
+
+/// The first limit of policies that a program exceeds, or the first birth policy that is not below
+/// the policies of fields, where there is one.
+pub fn first_fault(alloc: Global, program: &Program) -> Result<Option<Refusal>, NoMemory>
+    requires { HasFew (source program.now) }
+    ensures { IfOk result (λ first.
+        first ≡ first_of None (policy_faults (source program.now))) }
+{
+    let exprs = written(alloc, program)?;
+    match first_literal(exprs.as_slice()) {
+        None => first_known(alloc, program, exprs.as_slice()),
+        Some(first) => Ok(Some(first)),
+    }
+}
