@@ -1,0 +1,24 @@
+-- The places in the tree of some tokens are those of tokens.
+use Rattle.std.specs.Prelude.{ℕ, ◌≤◌, List, [], ◌∷◌, Ok}
+use Rattle.std.specs.List.{AllByRecursion}
+use Rattle.par_lexer.specs.declared.token.Token.{Token}
+use Rattle.par_tree.specs.Plain.{Source}
+use Rattle.par_grammar.specs.Grammar.{name}
+use Rattle.par_grammar.specs.Derivation.{Input, whole, state, Comes}
+use Rattle.par_tree.specs.Grammar as g
+use Rattle.par_tree.specs.Values.{paragon, source}
+use Rattle.par_places.specs.Within.{IsWithin}
+
+-- each token begins at this place or before
+abbrev pub BeginWithin : ℕ → List Token → Type 0
+BeginWithin m tokens = AllByRecursion (λ token. token.from ≤ m) tokens
+
+-- the derivation of the tokens comes to this tree
+abbrev pub ComesToTree : List Token → Source → Type 0
+ComesToTree tokens tree =
+    (i : Input) × Comes paragon (state (name g.Program ∷ []) (whole tokens) []) (Ok (source tree ∷ [], i))
+
+abbrev pub TreesLieWithin : Type 0
+TreesLieWithin =
+    (m : ℕ) (tokens : List Token) (tree : Source)
+    → BeginWithin m tokens → ComesToTree tokens tree → IsWithin m tree
