@@ -6,4 +6,5 @@ pub mod Ordering
 pub mod Places
 pub mod Placing
 pub mod Smallness
+pub mod Spread
 pub mod Stopping

@@ -10,11 +10,15 @@ use Rattle.par_values.specs.declared.inputs.ChannelInput.{ChannelInput}
 use Rattle.par_single.specs.Descriptors.{Text}
 use Rattle.par_single.specs.Members.{text_at, own_name, is_static}
 
--- a static native method of this name that takes nothing and gives an int
-abbrev pub is_input_of : List Constant → Text → MethodFile → Bool
-is_input_of entries name m =
-    is_native m.access && is_static m.access && bytes_eq (text_at entries m.name) name
+-- a static native method that takes nothing and gives an int
+abbrev pub is_input : List Constant → MethodFile → Bool
+is_input entries m =
+    is_native m.access && is_static m.access
     && bytes_eq (text_at entries m.descriptor) (codes "()I")
+
+-- one of this name
+abbrev pub is_input_of : List Constant → Text → MethodFile → Bool
+is_input_of entries name m = is_input entries m && bytes_eq (text_at entries m.name) name
 
 abbrev pub has_input_in : Text → Text → ClassFile → Bool
 has_input_in class name file =

@@ -1,4 +1,5 @@
 pub mod Builtins
+pub mod Channels
 pub mod Conditions
 pub mod Firsts
 pub mod Inputs

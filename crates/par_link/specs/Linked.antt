@@ -6,8 +6,10 @@ use Rattle.par_lexer.specs.Names.{IsName}
 use Rattle.par_pool.specs.Entries.{entry_at}
 use Rattle.par_class.specs.declared.file.ClassFile.{ClassFile}
 use Rattle.par_single.specs.Members.{own_name}
+use Rattle.par_link.specs.declared.entry.Declared.{Declared}
 use Rattle.par_link.specs.declared.entry.Named.{Named}
 use Rattle.par_link.specs.declared.entry.Named.TheVariants.{Nothing}
+use Rattle.par_link.specs.Channels.{AreSpread}
 use Rattle.par_link.specs.Conditions.{IsSmall}
 use Rattle.par_link.specs.Named.{named_by, names_of}
 use Rattle.par_link.specs.Order.{first_broken}
@@ -26,10 +28,12 @@ abbrev pub name_at : List Named → ℕ → Named
 name_at names zero = Nothing
 name_at names (suc place) = unwrap_or (slice_get names place) Nothing
 
--- no rule is broken, and what each entry names is known
-pub record IsLinked (files : List ClassFile) (names : List (List Named)) : Type 0 where
+-- no rule is broken, what each entry names is known, and so is where each input channel stands
+pub record IsLinked (files : List ClassFile) (names : List (List Named))
+    (buckets : List (List Declared)) : Type 0 where
   pub few : length files < 2 ^ 16
   pub small : All IsSmall files
   pub spelled : All (λ file. IsName (own_name file)) files
   pub unbroken : first_broken files ≡ None
   pub named : names ≡ map (names_of files) files
+  pub spread : AreSpread files buckets

@@ -12,6 +12,7 @@
 #![tactic(auto)]
 
 mod builtin;
+mod channels;
 pub mod entry;
 pub mod error;
 mod fault;

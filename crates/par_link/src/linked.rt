@@ -1,7 +1,9 @@
 ghost use Rattle.std.specs.Prelude.{◌≡◌, ◌≤◌, ◌↔◌, List as Items, length, slice_get, IsNone};
 ghost use Rattle.std.specs.Option.{option_copied};
+ghost use Rattle.par_link.specs.Inputs.{has_input};
 ghost use Rattle.par_link.specs.Linked.{name_at, named_at};
 
+use crate::channels::Channels;
 use crate::entry::Named;
 use par_class::file::ClassFile;
 use par_lexer::list::List;
@@ -13,6 +15,7 @@ use std::marker::Model;
 pub struct Linked {
     pub(crate) files: List<ClassFile>,
     pub(crate) names: List<List<Named>>,
+    pub(crate) channels: Channels,
 }
 
 impl Model for Linked {
@@ -24,7 +27,8 @@ impl Model for Linked {
 
     ghost view = { λ linked. linked.files };
 
-    ghost invariant = { λ linked. IsLinked linked.files linked.names };
+    ghost invariant = { λ linked.
+        IsLinked linked.files linked.names linked.channels.buckets.items };
 }
 
 impl Linked {
@@ -51,6 +55,13 @@ impl Linked {
             Some(names) => name_at(names, index),
             None => Named::Nothing,
         }
+    }
+
+    /// Whether one of the files has an input channel of this class and name.
+    pub(crate) fn has_input(&self, class: &[u8], channel: &[u8]) -> bool
+        ensures { result ≡ has_input self.now class.now channel.now }
+    {
+        self.channels.has(self.files.as_slice(), class, channel)
     }
 }
 

@@ -10,6 +10,7 @@ ghost use Rattle.par_link.specs.Named.{names_of};
 ghost use Rattle.par_link.specs.Order.{in_class, file_fault, first_in, first_broken};
 ghost use Rattle.par_link.specs.Told.{Tells};
 
+use crate::channels::Channels;
 use crate::entry::Named;
 use crate::error::LinkError;
 use crate::fault::file_fault;
@@ -113,5 +114,10 @@ pub fn link(alloc: Global, files: List<ClassFile>) -> Result<Linked, LinkError>
     ensures broken { IfErr result (Tells (first_broken files)) }
 {
     let names = linked_list(alloc, files.as_slice())?;
-    Ok(Linked { files, names })
+    let channels = Channels::of(alloc, files.as_slice())?;
+    Ok(Linked {
+        files,
+        names,
+        channels,
+    })
 }

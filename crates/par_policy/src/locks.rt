@@ -104,7 +104,8 @@ impl Lockset {
         })
     }
 
-    pub(crate) fn as_slice(&self) -> &[u16]
+    /// The locks, ascending. It takes no memory.
+    pub fn as_slice(&self) -> &[u16]
         ensures locks { result.now ≡ self.now }
         ensures ascending { IsAscending self.now }
     {

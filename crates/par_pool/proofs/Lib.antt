@@ -6,3 +6,5 @@ pub mod Items
 pub mod Spelled
 pub mod Pools
 pub mod Offsets
+pub mod Positions
+pub mod Placed

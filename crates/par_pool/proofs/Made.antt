@@ -43,19 +43,19 @@ at-push_cases old c (suc i) x h =
 abbrev pub IsAbsent : List Constant → Constant → Type 0
 IsAbsent pool c = (place : ℕ) → slice_get pool place ≢ Some c
 
-absent-at : (pool : List Constant) (c : Constant) (i : ℕ) → IsAbsent pool c → IsAt pool i c → ⊥
-absent-at pool c zero a h = none-some c h
-absent-at pool c (suc i) a h = a i h
+pub absent_at : (pool : List Constant) (c : Constant) (i : ℕ) → IsAbsent pool c → IsAt pool i c → ⊥
+absent_at pool c zero a h = none-some c h
+absent_at pool c (suc i) a h = a i h
 
 distinct-push : (old : List Constant) (c : Constant) → IsDistinct old → IsAbsent old c → IsDistinct (old ++ c ∷ [])
 distinct-push old c d a = λ i j x hi hj.
     elim (at-push_cases old c i x hi) [
       | inl pi ↦ elim (at-push_cases old c j x hj) [
         | inl pj ↦ d i j x pi pj
-        | inr qj ↦ absurd (absent-at old c i a (subst (λ (y : Constant). IsAt old i y) qj.1 pi))
+        | inr qj ↦ absurd (absent_at old c i a (subst (λ (y : Constant). IsAt old i y) qj.1 pi))
       ]
       | inr qi ↦ elim (at-push_cases old c j x hj) [
-        | inl pj ↦ absurd (absent-at old c j a (subst (λ (y : Constant). IsAt old j y) qi.1 pj))
+        | inl pj ↦ absurd (absent_at old c j a (subst (λ (y : Constant). IsAt old j y) qi.1 pj))
         | inr qj ↦ qi.0 ∙ sym qj.0
       ]
     ]

@@ -3,3 +3,4 @@ pub mod Growth
 pub mod Spelling
 pub mod Reading
 pub mod Constants
+pub mod Placed

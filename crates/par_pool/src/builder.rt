@@ -1,12 +1,13 @@
-ghost use Rattle.std.specs.Prelude.{◌≡◌, ◌≢◌, ℕ, ◌+◌, ◌<◌, ◌≤◌, [], length, slice_get, Some, IfOk, IfSome, IfNone, OnErr, IsTrue};
+ghost use Rattle.std.specs.Prelude.{◌≡◌, ◌≢◌, ℕ, ◌+◌, ◌<◌, [], length, slice_get, Some, IfOk, IfSome, IfNone, IsTrue};
 ghost use Rattle.std.specs.Int.{w32};
 ghost use Rattle.par_pool.specs.declared.constant.Constant.TheVariants.{Utf8, Integer, Class, Field, Method, NameType};
 ghost use Rattle.par_pool.specs.Entries.{IsAt, IsUtf8At, IsClassAt, IsNameTypeAt, IsFieldAt, IsMethodAt, IsDistinct};
 ghost use Rattle.par_pool.specs.Growth.{Adds, IsClassPart, IsNameTypePart, IsNamingPart, IsMemberPart};
-ghost use Rattle.par_pool.specs.Spelling.{IsText, Fits, refers, IsPool};
+ghost use Rattle.par_pool.specs.Spelling.{constant as spelling, IsText, Fits, refers, IsPool};
 
 use crate::constant::{Constant, Pool};
-use crate::same::same;
+use crate::writing::put_constant;
+use indexmap::IndexMap;
 use par_lexer::list::{List, NoMemory};
 use std::alloc::Global;
 use std::marker::Model;
@@ -21,31 +22,30 @@ use std::marker::Model;
 pub struct PoolBuilder {
     alloc: Global,
     entries: List<Constant>,
+    // The place of each entry, by the bytes that spell it.
+    places: IndexMap<Vec<u8>, usize>,
 }
 
 impl Model for PoolBuilder {
     ghost use Rattle.std.specs.Prelude.{List as Items};
     ghost use Rattle.par_pool.specs.declared.constant.Constant.{Constant as Entry};
-    ghost use Rattle.par_pool.specs.Spelling.{IsMade};
+    ghost use Rattle.par_pool.specs.Placed.{IsIndexed};
 
     ghost Value = { Items Entry };
 
     ghost view = { λ builder. builder.entries };
 
-    ghost invariant = { λ builder. IsMade builder.entries };
+    ghost invariant = { λ builder. IsIndexed builder.entries builder.places };
 }
 
-/// The position of a constant among the entries, counted from 0.
-fn position_of(entries: &[Constant], wanted: &Constant) -> Option<usize>
-    ensures found { IfSome result (λ place. slice_get entries.now place ≡ Some wanted.now) }
-    ensures absent { IfNone result ((place : ℕ) → slice_get entries.now place ≢ Some wanted.now) }
+/// The bytes that spell a constant.
+fn spelling_of(alloc: Global, constant: &Constant) -> Result<Vec<u8>, NoMemory>
+    requires { Fits constant.now }
+    ensures { IfOk result (λ bytes. bytes.items ≡ spelling constant.now) }
 {
-    for (place, entry) in entries.iter().enumerate() {
-        if same(entry, wanted) {
-            return Some(place);
-        }
-    }
-    None
+    let mut bytes = Vec::new(alloc);
+    put_constant(&mut bytes, constant)?;
+    Ok(bytes)
 }
 
 impl PoolBuilder {
@@ -56,6 +56,7 @@ impl PoolBuilder {
         PoolBuilder {
             alloc,
             entries: List::new(alloc),
+            places: IndexMap::new(alloc),
         }
     }
 
@@ -69,11 +70,15 @@ impl PoolBuilder {
             IfOk result (λ index. (index ≡ i) × (self.new ≡ self.old)) }
         ensures added { Adds self.old self.new 1 (λ constant. constant ≡ wanted) }
     {
-        if let Some(place) = position_of(self.entries.as_slice(), &wanted) {
-            return Ok(place as u16 + 1);
+        let bytes = spelling_of(self.alloc, &wanted)?;
+        if let Some(place) = self.places.get(&bytes) {
+            return Ok(*place as u16 + 1);
         }
+        let place = self.entries.len();
+        self.places.reserve(1)?;
         self.entries.push(wanted)?;
-        Ok(self.entries.len() as u16)
+        self.places.insert(bytes, place).unwrap();
+        Ok(place as u16 + 1)
     }
 
     /// The index of a text.

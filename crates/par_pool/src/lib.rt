@@ -12,7 +12,6 @@ pub mod error;
 pub mod item;
 pub mod kind;
 mod reading;
-mod same;
 pub mod writing;
 
 pub use builder::PoolBuilder;

@@ -29,8 +29,9 @@ pub fn put_u4(out: &mut Vec<u8>, number: u32) -> Result<(), NoMemory>
     Ok(())
 }
 
+/// Puts a constant.
 #[tactic(auto, unfolding(crate::specs::Spelling::constant))]
-fn put_constant(out: &mut Vec<u8>, constant: &Constant) -> Result<(), NoMemory>
+pub(crate) fn put_constant(out: &mut Vec<u8>, constant: &Constant) -> Result<(), NoMemory>
     requires { Fits constant.now }
     ensures { OnOk result (out.new.items ≡ out.old.items ++ spelling.constant constant.now) }
 {
