@@ -1,7 +1,7 @@
 -- Rules on names are broken at places of the tree.
 use Rattle.std.proofs.Common.{ℕ, ◌+◌, ◌≤◌, Bool, true, false, not, ◌&&◌, ◌||◌, cond, nat_eq, List, [], ◌∷◌, ◌++◌, map, drop, length, Option, Some, None, arith, if◌then◌else◌}
 use Rattle.std.specs.Prelude.{codes}
-use Rattle.std.specs.List.{AllByRecursion, flat_map, filter}
+use Rattle.std.specs.List.{AllByRecursion, flat_map}
 use Rattle.std.specs.Str.{bytes_eq}
 use Rattle.par_index.specs.Texts.{has}
 use Rattle.par_tree.specs.declared.ident.Ident.{Ident}
@@ -21,7 +21,6 @@ use Rattle.par_tree.specs.declared.decl.PolicyDecl.{PolicyDecl}
 use Rattle.par_tree.specs.Plain as plain
 use Rattle.par_tree.specs.Plain.{Exp, Exps, MayExp, Sta, Stas, Braces, In, MayBraces, Else, Catches, Catch, NoCatch, Handler, On, Local, Method, Class, Declaration, Source}
 use Rattle.par_typed.specs.declared.refusal.Refusal.{Refusal}
-use Rattle.par_typed.specs.First.{when, broken}
 use Rattle.par_places.specs.Within.{IdentIn, AreIn, TypeIn, ResultIn, LockIn, LocksIn, ClauseIn, TermIn, PolicyIn, MayPolicyIn, ExpIn, MayExpIn, ExpsIn, LocalIn, StaIn, BracesIn, MayBracesIn, ElseIn, StasIn, CatchesIn, HandlerIn, FieldIn, ChannelIn, ParamIn, ThrowIn, MethodIn, ClassIn, LockDeclIn, PolicyDeclIn, DeclarationIn, IsWithin}
 use Rattle.par_names.specs.Declared.{actors_in, locks_in, policies_in, classes_in, actors, locks, policies, builtin, classes, has_earlier, doubles, class_named}
 use Rattle.par_names.specs.Members.{callee_ids, selected_named, callee_named, is_static}
@@ -30,49 +29,23 @@ use Rattle.par_names.specs.Exprs.{Home, own_fault, name_fault, class_before, sta
 use Rattle.par_names.specs.Stmts.{taken_fault, local_faults, declares, caught, all_caught, stmt_faults, braces_faults, may_braces_faults, else_faults, stmts_faults, catches_faults, handler_faults}
 use Rattle.par_names.specs.Methods.{inferred_fault, field_faults, channel_faults, param_faults, effect_faults, throw_faults, head_faults, method_faults, class_faults}
 use Rattle.par_names.specs.Program.{view_behind, declaration_faults, declarations_faults, mains, main_fault, mains_faults, program_doubles, name_faults}
-use Rattle.par_names.specs.Places.{AreBrokenWithin, NamesAreBrokenWithin}
-
--- ---- lists
-
-pub both : {A : Type 0} (P : A → Type 0) (xs ys : List A) → AllByRecursion P xs → AllByRecursion P ys → AllByRecursion P (xs ++ ys)
-both P [] ys p q = q
-both P (x ∷ xs) ys p q = (p.0, both P xs ys p.1 q)
-
-pub each : {A B : Type 0} (Q : A → Type 0) (P : B → Type 0) (f : A → List B) (xs : List A)
-    → ((x : A) → Q x → AllByRecursion P (f x)) → AllByRecursion Q xs → AllByRecursion P (flat_map f xs)
-each Q P f [] g q = tt
-each Q P f (x ∷ xs) g q = both P (f x) (flat_map f xs) (g x q.0) (each Q P f xs g q.1)
-
-pub mapped : {A B : Type 0} (Q : A → Type 0) (P : B → Type 0) (f : A → B) (xs : List A)
-    → ((x : A) → Q x → P (f x)) → AllByRecursion Q xs → AllByRecursion P (map f xs)
-mapped Q P f [] g q = tt
-mapped Q P f (x ∷ xs) g q = (g x q.0, mapped Q P f xs g q.1)
-
-filtered : {A : Type 0} (P : A → Type 0) (p : A → Bool) (xs : List A) → AllByRecursion P xs → AllByRecursion P (filter p xs)
-filtered P p [] q = tt
-filtered P p (x ∷ xs) q = in_case (p x) (filtered P p xs q.1) where
-  in_case : (b : Bool) → AllByRecursion P (filter p xs) → AllByRecursion P (cond b (x ∷ filter p xs) (filter p xs))
-  in_case true rest = (q.0, rest)
-  in_case false rest = rest
-
-behind_first : {A : Type 0} (P : A → Type 0) (xs : List A) → AllByRecursion P xs → AllByRecursion P (drop 1 xs)
-behind_first P [] q = tt
-behind_first P (x ∷ xs) q = q.1
+use Rattle.par_places.proofs.Broken.{both, each, mapped, filtered, behind_first}
+use Rattle.par_typed.specs.First.{when}
+use Rattle.par_places.proofs.Broken as broken
+use Rattle.par_names.specs.Places.{NamesAreBrokenWithin}
 
 module _ (m : ℕ) where
-  abbrev pub Within : List Refusal → Type 0
-  Within faults = AreBrokenWithin m faults
+  abbrev Within : List Refusal → Type 0
+  Within faults = broken.Within m faults
 
   abbrev P : Refusal → Type 0
-  P f = f.at ≤ m
+  P f = broken.P m f
 
-  pub there : (b : Bool) (f : Refusal) → f.at ≤ m → Within (when b f)
-  unfolding when
-  there true f h = (h, tt)
-  there false f h = tt
+  abbrev there : (b : Bool) (f : Refusal) → f.at ≤ m → Within (when b f)
+  there b f h = broken.there m b f h
 
-  abbrev pub join : (xs ys : List Refusal) → Within xs → Within ys → Within (xs ++ ys)
-  join xs ys p q = both P xs ys p q
+  abbrev join : (xs ys : List Refusal) → Within xs → Within ys → Within (xs ++ ys)
+  join xs ys p q = broken.join m xs ys p q
 
   -- ---- policies, locks, types
 
