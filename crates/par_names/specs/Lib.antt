@@ -5,3 +5,4 @@ pub mod Exprs
 pub mod Stmts
 pub mod Methods
 pub mod Program
+pub mod Places

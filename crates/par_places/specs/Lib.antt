@@ -1,2 +1,3 @@
 pub mod Within
 pub mod Law
+pub mod Broken

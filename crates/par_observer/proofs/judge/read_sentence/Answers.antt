@@ -1,9 +1,9 @@
 use Rattle.std.proofs.Common.{refl}
 use Rattle.par_grammar.specs.Derivation.{Syntax, TooDeep}
 use Rattle.par_parser.specs.Sentence.{HasFault}
-use Rattle.par_tool.proofs.Unread.{without_sentence}
-use Rattle.par_tool.proofs.judge.read_sentence.Goals as goal
-use Rattle.par_tool.proofs.judge.read_sentence.Goals.{in-Ok, in-Err+in-Syntax, in-Err+in-TooDeep, in-Err+in-Memory}
+use Rattle.par_observer.proofs.Unread.{without_sentence}
+use Rattle.par_observer.proofs.judge.read_sentence.Goals as goal
+use Rattle.par_observer.proofs.judge.read_sentence.Goals.{in-Ok, in-Err+in-Syntax, in-Err+in-TooDeep, in-Err+in-Memory}
 
 pub returns-clause-unread : goal.returns-clause-unread
 returns-clause-unread c = elim c.match-parse.branch [

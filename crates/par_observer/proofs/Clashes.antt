@@ -15,8 +15,14 @@ use Rattle.par_straight.specs.Sentence.{HasTree}
 use Rattle.par_straight.specs.Judged.{HasProgram}
 use Rattle.par_straight.proofs.One.{one_cut, one_program, accepted_or_refused}
 use Rattle.par_straight_sentences.proofs.Sentences.{faultless}
-use Rattle.par_tool.specs.Judgements.{Breaks, has_no_tokens, is_no_sentence, has_refused_program, IsNotBuilt}
-use Rattle.par_tool.specs.Exactly.{HasAccepted}
+use Rattle.std.proofs.Common.{ap, ◌∙◌}
+use Rattle.std.specs.Prelude.{Contains}
+use Rattle.par_policy.proofs.Ordered.{Contains-nil}
+use Rattle.par_tree.specs.Plain.{Source}
+use Rattle.par_typed.specs.declared.refusal.Refusal.{Refusal}
+use Rattle.par_table.specs.Faults.{all_faults}
+use Rattle.par_observer.specs.Judgements.{Breaks, has_no_tokens, is_no_sentence, has_wrong_names, has_refused_program, IsNotBuilt, IsTreeOf}
+use Rattle.par_observer.specs.Judgements.{HasAccepted}
 
 -- no source has tokens and a first fault
 tokens_or_fault : (source : List ℕ) (tokens : List Token) (error : LexError) → HasTokens source tokens → LexBroken source error → ⊥
@@ -37,21 +43,30 @@ straight_or_fault source p tokens fault has cut found =
     let same : has.tokens ≡ tokens = one_cut source has.tokens tokens has.cut cut in
     faultless tokens has.tree fault (subst (λ ts. HasTree ts has.tree) same has.derived) found
 
+-- a source has one tree at most
+one_tree : (source : List ℕ) (one other : Source) → IsTreeOf source one → IsTreeOf source other → one ≡ other
+one_tree source one other is was = ?
+
 -- no source is accepted and broken
-pub accepted_or_broken : (source : List ℕ) (rule at : ℕ) → HasAccepted source → Breaks source rule at → ⊥
-accepted_or_broken source rule at accepted (has_no_tokens error broken is) =
+pub accepted_or_broken : (source : List ℕ) (f : Refusal) → HasAccepted source → Breaks source f → ⊥
+accepted_or_broken source f accepted (has_no_tokens error broken is) =
     tokens_or_fault source accepted.1.tokens error accepted.1.cut broken
-accepted_or_broken source rule at accepted (is_no_sentence tokens cut refused) =
+accepted_or_broken source f accepted (is_no_sentence tokens cut refused is) =
     straight_or_fault source accepted.0 tokens refused.fault accepted.1 cut refused.found
-accepted_or_broken source rule at accepted (has_refused_program p has refused) =
+accepted_or_broken source f accepted (has_wrong_names tree is_tree other first) = other (accepted.0, accepted.1)
+accepted_or_broken source f accepted (has_refused_program p has refused is) =
     let same : p ≡ accepted.0 = one_program source p accepted.0 has accepted.1 in
-    accepted_or_refused accepted.0 rule at accepted.2 (subst (λ p. IsRefused p rule at) same refused)
+    accepted_or_refused accepted.0 f.rule f.at accepted.2 (subst (λ p. IsRefused p f.rule f.at) same refused)
 
 -- no source is broken and not built
-pub broken_or_not_built : (source : List ℕ) (rule at : ℕ) → Breaks source rule at → IsNotBuilt source → ⊥
-broken_or_not_built source rule at (has_no_tokens error broken is) other =
-    tokens_or_fault source other.0.0 error other.0.1 broken
-broken_or_not_built source rule at (is_no_sentence tokens cut refused) other =
-    let same : other.0.0 ≡ tokens = one_cut source other.0.0 tokens other.0.1 cut in
-    sentence_or_fault tokens refused.fault (subst IsSentence same other.0.2) refused.found
-broken_or_not_built source rule at (has_refused_program p has refused) other = other.1 (p, has)
+pub broken_or_not_built : (source : List ℕ) (f : Refusal) → Breaks source f → IsNotBuilt source → ⊥
+broken_or_not_built source f (has_no_tokens error broken is) other =
+    tokens_or_fault source other.is_tree.tokens error other.is_tree.cut broken
+broken_or_not_built source f (is_no_sentence tokens cut refused is) other =
+    let same : other.is_tree.tokens ≡ tokens = one_cut source other.is_tree.tokens tokens other.is_tree.cut cut in
+    sentence_or_fault tokens refused.fault (subst IsSentence same (other.tree, other.is_tree.derived)) refused.found
+broken_or_not_built source f (has_wrong_names tree is_tree none first) other =
+    let same : tree ≡ other.tree = one_tree source tree other.tree is_tree other.is_tree in
+    let nothing : all_faults tree ≡ [] = ap all_faults same ∙ other.named in
+    Contains-nil f (subst (λ fs. Contains fs f) nothing first.among)
+broken_or_not_built source f (has_refused_program p has refused is) other = other.other (p, has)

@@ -1,0 +1,10 @@
+-- Where rules on names are broken.
+use Rattle.std.specs.Prelude.{ℕ}
+use Rattle.par_tree.specs.Plain.{Source}
+use Rattle.par_places.specs.Broken.{AreBrokenWithin}
+use Rattle.par_places.specs.Within.{IsWithin}
+use Rattle.par_names.specs.Program.{name_faults}
+
+-- rules on names are broken at places of the tree, or at its beginning
+abbrev pub NamesAreBrokenWithin : Type 0
+NamesAreBrokenWithin = (m : ℕ) (source : Source) → IsWithin m source → AreBrokenWithin m (name_faults source)

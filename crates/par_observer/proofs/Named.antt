@@ -1,0 +1,40 @@
+-- What is said of the names of a tree holds of its source.
+use Rattle.std.proofs.Common.{◌≡◌, ℕ, ◌≤◌, List, [], ◌∷◌, length, subst, arith, zero, suc, ◌+◌, ◌<◌, get_or, Some}
+use Rattle.std.specs.Prelude.{Contains, nat_eq}
+use Rattle.std.specs.List.{AllByRecursion, All}
+use Rattle.std.proofs.lemmas.List.Elements.{recursion_from_All}
+use Rattle.par_lexer.specs.declared.token.Token.{Token}
+use Rattle.par_lexer.specs.Tokens.{HasTokens}
+use Rattle.par_lexer.specs.Spans.{IsLaid, Stands}
+use Rattle.par_tree.specs.Plain.{Source}
+use Rattle.par_typed.specs.declared.refusal.Refusal.{Refusal}
+use Rattle.par_typed.specs.First.{IsFirst}
+use Rattle.par_places.specs.Law.{BeginWithin}
+use Rattle.par_places.specs.Within.{IsWithin}
+use Rattle.par_places.proofs.Trees.{trees_lie}
+use Rattle.par_names.specs.Places.{AreBrokenWithin}
+use Rattle.par_table.specs.Faults.{all_faults}
+use Rattle.par_table.proofs.Places.{all_within}
+use Rattle.par_parser.specs.Sentence as syntax
+use Rattle.par_straight.specs.Judged.{IsStraightLine}
+use Rattle.par_observer.specs.declared.judge.Judgement.{Judgement}
+use Rattle.par_observer.specs.declared.judge.Judgement.TheVariants.{Accepted, Broken, NotBuilt}
+use Rattle.par_observer.specs.Judgements.{IsJudgement, IsNamed, IsTreeOf, has_wrong_names}
+
+-- tokens that stand in a source begin in it
+begin_in : (source : List ℕ) (tokens : List Token) → IsLaid source tokens → BeginWithin (length source) tokens
+begin_in source tokens laid = ?
+
+-- what is among some refusals is broken where they are
+among_in : (m : ℕ) (fs : List Refusal) (f : Refusal) → AreBrokenWithin m fs → Contains fs f → f.at ≤ m
+among_in m fs f within there = ?
+
+pub named_judgement : (source : List ℕ) (tokens : List Token) (tree : Source) (j : Judgement) → HasTokens source tokens → IsLaid source tokens
+    → syntax.HasTree tokens tree → (IsStraightLine source → ⊥) → IsNamed tree j → IsJudgement source j
+named_judgement source tokens tree (Accepted p) cut laid derived other is = absurd is
+named_judgement source tokens tree (Broken f) cut laid derived other is =
+    let is_tree : IsTreeOf source tree = record { tokens = tokens; cut = cut; derived = derived } in
+    let within : IsWithin (length source) tree = trees_lie (length source) tokens tree (begin_in source tokens laid) derived in
+    (has_wrong_names tree is_tree other is, among_in (length source) (all_faults tree) f (all_within (length source) tree within) is.among)
+named_judgement source tokens tree NotBuilt cut laid derived other is =
+    record { tree = tree; is_tree = record { tokens = tokens; cut = cut; derived = derived }; named = is; other = other }

@@ -1,0 +1,4 @@
+//! stub
+#![tactic(auto)]
+mod building;
+pub use building::{NameError, build};
