@@ -75,7 +75,7 @@ module _ (m : ℕ) where
   block_in (In ss at) h = (h, h.1)
 
   -- the place of an expression is one in it
-  place_in : (e : Exp) → ExpIn m e → place e ≤ m
+  pub place_in : (e : Exp) → ExpIn m e → place e ≤ m
   unfolding ExpIn place
   place_in (plain.Int n at) h = h
   place_in (plain.True at) h = h

@@ -1,3 +1,4 @@
 pub mod Forms
 pub mod MethodForms
 pub mod StmtForms
+pub mod Places

@@ -4,3 +4,4 @@ pub mod Stmts
 pub mod Kept
 pub mod Methods
 pub mod Program
+pub mod Places

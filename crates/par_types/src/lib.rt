@@ -7,6 +7,7 @@
 
 mod exprs;
 mod fits;
+pub mod laws;
 mod methods;
 mod program;
 mod stmts;

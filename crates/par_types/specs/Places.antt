@@ -1,0 +1,13 @@
+-- Where rules on types are broken.
+use Rattle.std.specs.Prelude.{ℕ}
+use Rattle.par_tree.specs.Plain.{Source}
+use Rattle.par_typed.specs.declared.table.Table.{Table}
+use Rattle.par_places.specs.Within.{IsWithin}
+use Rattle.par_places.specs.Broken.{AreBrokenWithin}
+use Rattle.par_types.specs.Program.{type_faults}
+
+-- rules on types are broken at places of the tree
+abbrev pub TypesAreBrokenWithin : Type 0
+TypesAreBrokenWithin =
+    (m : ℕ) (table : Table) (source : Source)
+    → IsWithin m source → AreBrokenWithin m (type_faults table source)
