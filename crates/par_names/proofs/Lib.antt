@@ -1,1 +1,11 @@
 pub mod Places
+pub mod Noted
+pub mod Lookups
+pub mod Callees
+pub mod Least
+pub mod Behind
+pub mod Pushed
+pub mod ExprForms
+pub mod StmtForms
+pub mod Scopes
+pub mod Left

@@ -22,7 +22,7 @@ use Rattle.par_tree.specs.Plain as plain
 use Rattle.par_tree.specs.Plain.{Exp, Exps, MayExp, Sta, Stas, Braces, In, MayBraces, Else, Catches, Catch, NoCatch, Handler, On, Local, Method, Class, Declaration, Source}
 use Rattle.par_typed.specs.declared.refusal.Refusal.{Refusal}
 use Rattle.par_places.specs.Within.{IdentIn, AreIn, TypeIn, ResultIn, LockIn, LocksIn, ClauseIn, TermIn, PolicyIn, MayPolicyIn, ExpIn, MayExpIn, ExpsIn, LocalIn, StaIn, BracesIn, MayBracesIn, ElseIn, StasIn, CatchesIn, HandlerIn, FieldIn, ChannelIn, ParamIn, ThrowIn, MethodIn, ClassIn, LockDeclIn, PolicyDeclIn, DeclarationIn, IsWithin}
-use Rattle.par_names.specs.Declared.{actors_in, locks_in, policies_in, classes_in, actors, locks, policies, builtin, classes, has_earlier, doubles, class_named}
+use Rattle.par_names.specs.Declarations.{actors_in, locks_in, policies_in, classes_in, actors, locks, policies, builtin, classes, has_earlier, doubles, class_named}
 use Rattle.par_names.specs.Members.{callee_ids, selected_named, callee_named, is_static}
 use Rattle.par_names.specs.Policies.{View, actor_fault, arity_fault, lock_faults, clause_faults, term_faults, policy_faults, may_policy_faults, class_fault, type_fault, result_fault}
 use Rattle.par_names.specs.Exprs.{Home, own_fault, name_fault, class_before, static_fault, member_faults, expr_faults, callee_faults, args_faults, value_faults}

@@ -4,10 +4,10 @@ use Rattle.std.specs.Option.{is_some}
 use Rattle.par_index.specs.Texts.{has}
 use Rattle.par_tree.specs.declared.ident.Ident.{Ident}
 use Rattle.par_tree.specs.Plain.{Exp, Int, True, False, Null, This, New, Name, Field, Call, Neg, Not, Binary}
-use Rattle.par_tree.specs.Plain.{Exps, NoExps, More, MayExp, Absent, Present, Class}
+use Rattle.par_tree.specs.Plain.{Exps, NoExps, More, MayExp, Absent, Present, Class, place}
 use Rattle.par_typed.specs.declared.refusal.Refusal.{Refusal}
 use Rattle.par_typed.specs.First.{when, broken}
-use Rattle.par_names.specs.Declared.{class_named}
+use Rattle.par_names.specs.Declarations.{class_named}
 use Rattle.par_names.specs.Members.{selected_named, callee_named, is_static}
 use Rattle.par_names.specs.Policies.{View, class_fault}
 
@@ -27,10 +27,9 @@ name_fault home locals name at =
     if has locals name then [] else own_fault home.is_static (selected_named home.own name) at
 
 -- the class that an expression before a member names: a simple name that is neither
-unfoldable pub class_before : Home → List (List ℕ) → Exp → Option Ident
+unfoldable pub class_before : Home → List (List ℕ) → Exp → Option (List ℕ)
 class_before home locals (Name name at) =
-    if has locals name || is_some (selected_named home.own name) then None
-    else Some (record { name = name; at = at })
+    if has locals name || is_some (selected_named home.own name) then None else Some name
 class_before home locals (Int n at) = None
 class_before home locals (True at) = None
 class_before home locals (False at) = None
@@ -43,17 +42,17 @@ class_before home locals (Neg e at) = None
 class_before home locals (Not e at) = None
 class_before home locals (Binary op a b at) = None
 
--- 101: no such class, or no such static member of it
-unfoldable pub static_fault : (Class → List ℕ → Option Bool) → Option Class → Ident → Ident → List Refusal
-static_fault named None class member = when true (broken 101 class.at)
-static_fault named (Some c) class member =
-    when (not (is_static (named c member.name))) (broken 101 member.at)
+-- 101: no such class at this place, or no such static member of it
+unfoldable pub static_fault : (Class → List ℕ → Option Bool) → Option Class → ℕ → Ident → List Refusal
+static_fault named None at member = when true (broken 101 at)
+static_fault named (Some class) at member =
+    when (not (is_static (named class member.name))) (broken 101 member.at)
 
--- what stands before a member: a class, or an expression with these faults
-unfoldable pub member_faults : View → (Class → List ℕ → Option Bool) → Option Ident → Ident → List Refusal → List Refusal
-member_faults v named None member faults = faults
-member_faults v named (Some class) member faults =
-    static_fault named (class_named v.classes class.name) class member
+-- what stands before a member at this place: a class, or an expression with these faults
+unfoldable pub member_faults : View → (Class → List ℕ → Option Bool) → Option (List ℕ) → ℕ → Ident → List Refusal → List Refusal
+member_faults v named None at member faults = faults
+member_faults v named (Some class) at member faults =
+    static_fault named (class_named v.classes class) at member
 
 unfoldable mutual
   pub expr_faults : View → Home → List (List ℕ) → Exp → List Refusal
@@ -65,7 +64,8 @@ unfoldable mutual
   expr_faults v home locals (New class at) = class_fault v class
   expr_faults v home locals (Name name at) = name_fault home locals name at
   expr_faults v home locals (Field e f at) =
-      member_faults v selected_named (class_before home locals e) f (expr_faults v home locals e)
+      member_faults v selected_named (class_before home locals e) (place e) f
+      (expr_faults v home locals e)
   expr_faults v home locals (Call o m es at) =
       callee_faults v home locals o m ++ args_faults v home locals es
   expr_faults v home locals (Neg e at) = expr_faults v home locals e
@@ -78,7 +78,8 @@ unfoldable mutual
   callee_faults v home locals Absent m =
       own_fault home.is_static (callee_named home.own m.name) m.at
   callee_faults v home locals (Present e) m =
-      member_faults v callee_named (class_before home locals e) m (expr_faults v home locals e)
+      member_faults v callee_named (class_before home locals e) (place e) m
+      (expr_faults v home locals e)
 
   pub args_faults : View → Home → List (List ℕ) → Exps → List Refusal
   args_faults v home locals NoExps = []

@@ -1,4 +1,4 @@
-pub mod Declared
+pub mod Declarations
 pub mod Members
 pub mod Policies
 pub mod Exprs
@@ -6,3 +6,7 @@ pub mod Stmts
 pub mod Methods
 pub mod Program
 pub mod Places
+pub mod Indexed
+pub mod Seen
+pub mod Earliest
+pub mod Scoped

@@ -9,16 +9,16 @@ use Rattle.par_tree.specs.declared.decl.ChannelDecl.{ChannelDecl}
 use Rattle.par_tree.specs.Plain.{Class, Method}
 
 abbrev pub field_named : Class → List ℕ → Option FieldDecl
-field_named class name = find (λ field. bytes_eq field.id.name name) class.fields
+field_named class name = find (λ field. bytes_eq name field.id.name) class.fields
 
 abbrev pub channel_named : Class → List ℕ → Option ChannelDecl
-channel_named class name = find (λ channel. bytes_eq channel.id.name name) class.channels
+channel_named class name = find (λ channel. bytes_eq name channel.id.name) class.channels
 
 abbrev pub method_named : Class → List ℕ → Option Method
-method_named class name = find (λ method. bytes_eq method.id.name name) class.methods
+method_named class name = find (λ method. bytes_eq name method.id.name) class.methods
 
 -- of a channel and a method the one that is declared first is called; it is static or not
-abbrev pub earlier_callee : Option ChannelDecl → Option Method → Option Bool
+unfoldable pub earlier_callee : Option ChannelDecl → Option Method → Option Bool
 earlier_callee None None = None
 earlier_callee (Some channel) None = Some true
 earlier_callee None (Some method) = Some method.is_static
@@ -30,7 +30,7 @@ abbrev pub callee_named : Class → List ℕ → Option Bool
 callee_named class name = earlier_callee (channel_named class name) (method_named class name)
 
 -- whether a field of this name is static, where the class has one
-abbrev pub static_of : Option FieldDecl → Option Bool
+unfoldable pub static_of : Option FieldDecl → Option Bool
 static_of None = None
 static_of (Some field) = Some field.is_static
 
@@ -38,7 +38,7 @@ abbrev pub selected_named : Class → List ℕ → Option Bool
 selected_named class name = static_of (field_named class name)
 
 -- a static member that is there
-abbrev pub is_static : Option Bool → Bool
+unfoldable pub is_static : Option Bool → Bool
 is_static None = false
 is_static (Some s) = s
 

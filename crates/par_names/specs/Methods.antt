@@ -9,7 +9,7 @@ use Rattle.par_tree.specs.declared.decl.ThrowDecl.{ThrowDecl}
 use Rattle.par_tree.specs.Plain.{Class, Method}
 use Rattle.par_typed.specs.declared.refusal.Refusal.{Refusal}
 use Rattle.par_typed.specs.First.{when, broken}
-use Rattle.par_names.specs.Declared.{doubles}
+use Rattle.par_names.specs.Declarations.{doubles}
 use Rattle.par_names.specs.Members.{callee_ids}
 use Rattle.par_names.specs.Policies.{View, policy_faults, may_policy_faults, lock_faults, class_fault, type_fault, result_fault}
 use Rattle.par_names.specs.Exprs.{Home}
@@ -52,7 +52,7 @@ abbrev pub method_faults : View → Class → Method → List Refusal
 method_faults v class m =
     head_faults v m
     ++ braces_faults v (record { own = class; is_static = m.is_static })
-        (map (λ p. p.id.name) m.params) m.body
+    (map (λ p. p.id.name) m.params) m.body
 
 abbrev pub class_faults : View → Class → List Refusal
 class_faults v class =

@@ -14,7 +14,7 @@ use Rattle.par_tree.specs.declared.decl.LockDecl.{LockDecl}
 use Rattle.par_tree.specs.Plain.{Class}
 use Rattle.par_typed.specs.declared.refusal.Refusal.{Refusal}
 use Rattle.par_typed.specs.First.{when, broken}
-use Rattle.par_names.specs.Declared.{lock_named, class_named}
+use Rattle.par_names.specs.Declarations.{lock_named, class_named}
 
 -- What a place of the source sees: all actors, locks and classes of the program, and the policies
 -- whose declarations end before it.
@@ -41,16 +41,19 @@ abbrev pub clause_faults : View → ClauseTree → List Refusal
 clause_faults v clause = actor_fault v clause.actor ++ flat_map (lock_faults v) clause.locks
 
 -- 101: no policy of that name whose declaration ends before this use
+abbrev pub named_fault : View → Ident → List Refusal
+named_fault v id = when (not (has v.policies id.name)) (broken 101 id.at)
+
 unfoldable pub term_faults : View → PolicyTerm → List Refusal
 term_faults v (Clauses clauses) = flat_map (clause_faults v) clauses
-term_faults v (Named id) = when (not (has v.policies id.name)) (broken 101 id.at)
+term_faults v (Named id) = named_fault v id
 term_faults v Bottom = []
 term_faults v Top = []
 
 abbrev pub policy_faults : View → PolicyExpr → List Refusal
 policy_faults v policy = flat_map (term_faults v) policy.terms
 
-abbrev pub may_policy_faults : View → Option PolicyExpr → List Refusal
+unfoldable pub may_policy_faults : View → Option PolicyExpr → List Refusal
 may_policy_faults v None = []
 may_policy_faults v (Some policy) = policy_faults v policy
 
@@ -63,6 +66,6 @@ type_fault v (type.Int at) = []
 type_fault v (type.Boolean at) = []
 type_fault v (type.Class class) = class_fault v class
 
-abbrev pub result_fault : View → Option TypeTree → List Refusal
+unfoldable pub result_fault : View → Option TypeTree → List Refusal
 result_fault v None = []
 result_fault v (Some t) = type_fault v t

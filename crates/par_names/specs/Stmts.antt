@@ -7,7 +7,7 @@ use Rattle.par_tree.specs.Plain.{Declare, Assign, Do, When, Braces, In, MayBrace
 use Rattle.par_tree.specs.Plain.{Else, NoElse, Otherwise, Stas, End, Then, Catches, NoCatch, Catch, Handler, On}
 use Rattle.par_typed.specs.declared.refusal.Refusal.{Refusal}
 use Rattle.par_typed.specs.First.{when, broken}
-use Rattle.par_names.specs.Declared.{doubles}
+use Rattle.par_names.specs.Declarations.{doubles}
 use Rattle.par_names.specs.Policies.{View, lock_faults, may_policy_faults, class_fault, type_fault}
 use Rattle.par_names.specs.Exprs.{Home, expr_faults, value_faults}
 

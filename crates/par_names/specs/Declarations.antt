@@ -55,26 +55,36 @@ builtin name = record {
   methods = [];
 }
 
+-- the classes that every program has
+abbrev pub builtins : List Class
+builtins = builtin (codes "ArithmeticException") ∷ builtin (codes "NullPointerException") ∷ []
+
+abbrev pub declared_classes : Source → List Class
+declared_classes source = flat_map classes_in source
+
 -- the classes, those that every program has before the declared ones
 abbrev pub classes : Source → List Class
-classes source =
-    builtin (codes "ArithmeticException") ∷ builtin (codes "NullPointerException")
-    ∷ flat_map classes_in source
+classes source = builtins ++ declared_classes source
 
 -- ---- a name is declared twice
 
 -- another of these stands before it and has its name
 abbrev pub has_earlier : List Ident → Ident → Bool
-has_earlier ids id = list_any (λ other. bytes_eq other.name id.name && nat_lt other.at id.at) ids
+has_earlier ids id =
+    list_any (λ other. bytes_eq other.name id.name && nat_lt other.at id.at) ids
+
+-- 102: another of these stands before this one and has its name
+abbrev pub double_fault : List Ident → Ident → List Refusal
+double_fault ids id = when (has_earlier ids id) (broken 102 id.at)
 
 -- 102: each of these before which another has its name
 abbrev pub doubles : List Ident → List Refusal
-doubles ids = flat_map (λ id. when (has_earlier ids id) (broken 102 id.at)) ids
+doubles ids = flat_map (double_fault ids) ids
 
 -- ---- a use resolves to the first declaration of its name
 
 abbrev pub lock_named : List LockDecl → List ℕ → Option LockDecl
-lock_named locks name = find (λ lock. bytes_eq lock.id.name name) locks
+lock_named locks name = find (λ lock. bytes_eq name lock.id.name) locks
 
 abbrev pub class_named : List Class → List ℕ → Option Class
-class_named classes name = find (λ class. bytes_eq class.id.name name) classes
+class_named classes name = find (λ class. bytes_eq name class.id.name) classes
