@@ -19,16 +19,17 @@ use Rattle.par_tree.specs.declared.decl.ThrowDecl.{ThrowDecl}
 use Rattle.par_tree.specs.declared.decl.LockDecl.{LockDecl}
 use Rattle.par_tree.specs.declared.decl.PolicyDecl.{PolicyDecl}
 use Rattle.par_tree.specs.Plain as plain
-use Rattle.par_tree.specs.Plain.{Exp, Exps, MayExp, Sta, Stas, Braces, In, MayBraces, Else, Catches, Catch, NoCatch, Handler, On, Local, Method, Class, Declaration, Source}
+use Rattle.par_tree.specs.Plain.{Exp, Exps, MayExp, Sta, Stas, Braces, In, MayBraces, Else, Catches, Catch, NoCatch, Handler, On, Local, Method, Class, Declaration, Source, place}
 use Rattle.par_typed.specs.declared.refusal.Refusal.{Refusal}
 use Rattle.par_places.specs.Within.{IdentIn, AreIn, TypeIn, ResultIn, LockIn, LocksIn, ClauseIn, TermIn, PolicyIn, MayPolicyIn, ExpIn, MayExpIn, ExpsIn, LocalIn, StaIn, BracesIn, MayBracesIn, ElseIn, StasIn, CatchesIn, HandlerIn, FieldIn, ChannelIn, ParamIn, ThrowIn, MethodIn, ClassIn, LockDeclIn, PolicyDeclIn, DeclarationIn, IsWithin}
-use Rattle.par_names.specs.Declarations.{actors_in, locks_in, policies_in, classes_in, actors, locks, policies, builtin, classes, has_earlier, doubles, class_named}
+use Rattle.par_names.specs.Declarations.{actors_in, locks_in, policies_in, classes_in, actors, locks, policies, builtin, builtins, declared_classes, classes, has_earlier, double_fault, doubles, class_named}
 use Rattle.par_names.specs.Members.{callee_ids, selected_named, callee_named, is_static}
 use Rattle.par_names.specs.Policies.{View, actor_fault, arity_fault, lock_faults, clause_faults, term_faults, policy_faults, may_policy_faults, class_fault, type_fault, result_fault}
 use Rattle.par_names.specs.Exprs.{Home, own_fault, name_fault, class_before, static_fault, member_faults, expr_faults, callee_faults, args_faults, value_faults}
 use Rattle.par_names.specs.Stmts.{taken_fault, local_faults, declares, caught, all_caught, stmt_faults, braces_faults, may_braces_faults, else_faults, stmts_faults, catches_faults, handler_faults}
 use Rattle.par_names.specs.Methods.{inferred_fault, field_faults, channel_faults, param_faults, effect_faults, throw_faults, head_faults, method_faults, class_faults}
 use Rattle.par_names.specs.Program.{view_behind, declaration_faults, declarations_faults, mains, main_fault, mains_faults, program_doubles, name_faults}
+use Rattle.par_places.proofs.Built.{place_in}
 use Rattle.par_places.proofs.Broken.{both, each, mapped, filtered, behind_first}
 use Rattle.par_typed.specs.First.{when}
 use Rattle.par_places.proofs.Broken as broken
@@ -109,38 +110,16 @@ module _ (m : ℕ) where
     in_case true = tt
     in_case false = own_in home.is_static (selected_named home.own name) at h
 
-  abbrev MayIdentIn : Option Ident → Type 0
-  MayIdentIn None = Unit {0}
-  MayIdentIn (Some id) = IdentIn m id
-
-  before_in : (home : Home) (locals : List (List ℕ)) (e : Exp) → ExpIn m e → MayIdentIn (class_before home locals e)
-  unfolding class_before ExpIn
-  before_in home locals (plain.Name name at) h = in_case _ where
-    in_case : (b : Bool) → MayIdentIn (if b then None else Some (record { name = name; at = at }))
-    in_case true = tt
-    in_case false = h
-  before_in home locals (plain.Int n at) h = tt
-  before_in home locals (plain.True at) h = tt
-  before_in home locals (plain.False at) h = tt
-  before_in home locals (plain.Null at) h = tt
-  before_in home locals (plain.This at) h = tt
-  before_in home locals (plain.New class at) h = tt
-  before_in home locals (plain.Field e f at) h = tt
-  before_in home locals (plain.Call o f es at) h = tt
-  before_in home locals (plain.Neg e at) h = tt
-  before_in home locals (plain.Not e at) h = tt
-  before_in home locals (plain.Binary op a b at) h = tt
-
-  static_in : (named : Class → List ℕ → Option Bool) (o : Option Class) (class member : Ident) → IdentIn m class → IdentIn m member → Within (static_fault named o class member)
+  static_in : (named : Class → List ℕ → Option Bool) (o : Option Class) (at : ℕ) (member : Ident) → at ≤ m → IdentIn m member → Within (static_fault named o at member)
   unfolding static_fault
-  static_in named None class member h k = there _ _ h
-  static_in named (Some c) class member h k = there _ _ k
+  static_in named None at member h k = there _ _ h
+  static_in named (Some c) at member h k = there _ _ k
 
-  member_in : (v : View) (named : Class → List ℕ → Option Bool) (o : Option Ident) (member : Ident) (faults : List Refusal)
-      → MayIdentIn o → IdentIn m member → Within faults → Within (member_faults v named o member faults)
+  member_in : (v : View) (named : Class → List ℕ → Option Bool) (o : Option (List ℕ)) (at : ℕ) (member : Ident) (faults : List Refusal)
+      → at ≤ m → IdentIn m member → Within faults → Within (member_faults v named o at member faults)
   unfolding member_faults
-  member_in v named None member faults h k w = w
-  member_in v named (Some class) member faults h k w = static_in named _ class member h k
+  member_in v named None at member faults h k w = w
+  member_in v named (Some class) at member faults h k w = static_in named _ at member h k
 
   mutual
     unfolding expr_faults ExpIn
@@ -152,7 +131,7 @@ module _ (m : ℕ) where
     exp_in v home locals (plain.This at) h = there _ _ h
     exp_in v home locals (plain.New class at) h = class_in v class h.0
     exp_in v home locals (plain.Name name at) h = name_in home locals name at h
-    exp_in v home locals (plain.Field e f at) h = member_in v selected_named _ f _ (before_in home locals e h.0) h.1 (exp_in v home locals e h.0)
+    exp_in v home locals (plain.Field e f at) h = member_in v selected_named _ (place e) f _ (place_in m e h.0) h.1 (exp_in v home locals e h.0)
     exp_in v home locals (plain.Call o f es at) h = join _ _ (callee_in v home locals o f h.0 h.1) (args_in v home locals es h.2)
     exp_in v home locals (plain.Neg e at) h = exp_in v home locals e h.0
     exp_in v home locals (plain.Not e at) h = exp_in v home locals e h.0
@@ -160,7 +139,7 @@ module _ (m : ℕ) where
 
     callee_in : (v : View) (home : Home) (locals : List (List ℕ)) (o : MayExp) (f : Ident) → MayExpIn m o → IdentIn m f → Within (callee_faults v home locals o f)
     callee_in v home locals plain.Absent f h k = own_in home.is_static _ f.at k
-    callee_in v home locals (plain.Present e) f h k = member_in v callee_named _ f _ (before_in home locals e h) k (exp_in v home locals e h)
+    callee_in v home locals (plain.Present e) f h k = member_in v callee_named _ (place e) f _ (place_in m e h) k (exp_in v home locals e h)
 
     args_in : (v : View) (home : Home) (locals : List (List ℕ)) (es : Exps) → ExpsIn m es → Within (args_faults v home locals es)
     args_in v home locals plain.NoExps h = tt
@@ -308,7 +287,10 @@ module _ (m : ℕ) where
   builtin_in name = record { id = omega arith; birth = tt; fields = tt; channels = tt; methods = tt }
 
   all_classes_in : (source : Source) → IsWithin m source → AllByRecursion (ClassIn m) (classes source)
-  all_classes_in source h = (builtin_in (codes "ArithmeticException"), (builtin_in (codes "NullPointerException"), each (DeclarationIn m) (ClassIn m) _ source classes_are h))
+  all_classes_in source h =
+      both (ClassIn m) builtins (declared_classes source)
+      (builtin_in (codes "ArithmeticException"), (builtin_in (codes "NullPointerException"), tt))
+      (each (DeclarationIn m) (ClassIn m) _ source classes_are h)
 
   mains_in : (source : Source) → IsWithin m source → AllByRecursion (MethodIn m) (mains source)
   mains_in source h = filtered (MethodIn m) _ _ (each (ClassIn m) (MethodIn m) _ (classes source) (λ c h. h.methods) (all_classes_in source h))
