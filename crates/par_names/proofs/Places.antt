@@ -81,6 +81,7 @@ module _ (m : ℕ) where
   policy_in v p h = each (TermIn m) P _ p.terms (term_in v) h.1
 
   may_policy_in : (v : View) (o : Option PolicyExpr) → MayPolicyIn m o → Within (may_policy_faults v o)
+  unfolding may_policy_faults
   may_policy_in v None h = tt
   may_policy_in v (Some p) h = policy_in v p h
 
@@ -94,6 +95,7 @@ module _ (m : ℕ) where
   type_in v (type.Class id) h = class_in v id h
 
   result_in : (v : View) (o : Option TypeTree) → ResultIn m o → Within (result_fault v o)
+  unfolding result_fault
   result_in v None h = tt
   result_in v (Some t) h = type_in v t h
 
