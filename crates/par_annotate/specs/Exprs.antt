@@ -97,8 +97,11 @@ callee_on home receiver (Channel p) written this = typed.Absent
 callee_on home receiver (Method p) written this =
     method_on receiver (method_is_static (method_at home.table p)) written this
 
+abbrev pub behind : Mark → Mark
+behind mark = record { at = mark.at; point = mark.point + 1; ty = ty.Null; sure = false }
+
 abbrev pub first : TExps → Mark → TExp
-first typed.NoExps mark = typed.Null mark
+first typed.NoExps mark = typed.Null (behind mark)
 first (typed.More e es) mark = e
 
 abbrev pub by_way : Bool → Place → TExps → Mark → TExp

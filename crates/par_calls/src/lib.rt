@@ -11,7 +11,11 @@ mod compiling;
 #[cfg(test)]
 mod event_lines;
 #[cfg(test)]
+mod exits;
+#[cfg(test)]
 mod expect;
+#[cfg(test)]
+mod heaps;
 #[cfg(test)]
 mod input_files;
 #[cfg(test)]

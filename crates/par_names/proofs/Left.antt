@@ -1,11 +1,10 @@
 -- What is left of the items of a list, as one more is gone over.
-use Rattle.std.proofs.Common.{◌≡◌, ℕ, suc, ◌+◌, ◌<◌, ◌≤◌, List, [], ◌∷◌, ◌++◌, length, take, drop, get_or, map, refl, sym, ap, ◌∙◌, arith, add-one, drop-cons}
+use Rattle.std.proofs.Common.{◌≡◌, ℕ, suc, ◌+◌, ◌<◌, ◌≤◌, List, [], ◌∷◌, ◌++◌, length, take, drop, get_or, refl, sym, ap, ◌∙◌, arith, drop-cons}
 use Rattle.std.proofs.lemmas.List.{drop_all}
-use Rattle.par_tree.specs.declared.ident.Ident.{Ident}
 use Rattle.par_tree.specs.declared.expr.Expr.{Expr}
 use Rattle.par_tree.specs.declared.stmt.Stmt.{Stmt}
 use Rattle.par_tree.specs.declared.stmt.CatchTree.{CatchTree, out-CatchTree}
-use Rattle.par_tree.specs.Plain.{More, NoExps, Then, End, Catch, NoCatch, Handler, On}
+use Rattle.par_tree.specs.Plain.{More, NoExps, Then, End, Catch, NoCatch}
 use Rattle.par_tree.specs.Shown.{shown, all_shown, does, all_do, handler, all_catch}
 use Rattle.par_tree.proofs.Shown.{handler_is}
 use Rattle.par_names.specs.Stmts.{all_caught, caught}

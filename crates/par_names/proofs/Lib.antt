@@ -9,3 +9,4 @@ pub mod ExprForms
 pub mod StmtForms
 pub mod Scopes
 pub mod Left
+pub mod Places

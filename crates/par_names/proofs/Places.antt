@@ -125,6 +125,7 @@ module _ (m : ℕ) where
 
   mutual
     unfolding expr_faults ExpIn
+
     exp_in : (v : View) (home : Home) (locals : List (List ℕ)) (e : Exp) → ExpIn m e → Within (expr_faults v home locals e)
     exp_in v home locals (plain.Int n at) h = tt
     exp_in v home locals (plain.True at) h = tt
@@ -168,6 +169,7 @@ module _ (m : ℕ) where
 
   mutual
     unfolding stmt_faults StaIn
+
     sta_in : (v : View) (home : Home) (locals : List (List ℕ)) (s : Sta) → StaIn m s → Within (stmt_faults v home locals s)
     sta_in v home locals (plain.Block b at) h = braces_in v home locals b h.0
     sta_in v home locals (plain.If e b o at) h = join _ _ (join _ _ (exp_in v home locals e h.0) (braces_in v home locals b h.1)) (else_in v home locals o h.2)
@@ -226,12 +228,12 @@ module _ (m : ℕ) where
   head_in : (v : View) (f : Method) → MethodIn m f → Within (head_faults v f)
   head_in v f h =
       let first = join _ _ (join _ _ (may_policy_in v f.policy h.policy) (result_in v f.result h.result))
-          (doubles_in _ (mapped (ParamIn m) (IdentIn m) _ f.params (λ p h. h.0) h.params)) in
+      (doubles_in _ (mapped (ParamIn m) (IdentIn m) _ f.params (λ p h. h.0) h.params)) in
       let params = join _ _ first (each (ParamIn m) P _ f.params (param_in v) h.params) in
       let effects = join _ _ (join _ _ params (effects_in f.effects h.effects)) (each (PolicyIn m) P _ f.effects (policy_in v) h.effects) in
       let locks = join _ _ (join _ _ (join _ _ effects (locks_within v f.expects h.expects)) (locks_within v f.opens h.opens)) (locks_within v f.closes h.closes) in
       join _ _ (join _ _ locks (doubles_in _ (mapped (ThrowIn m) (IdentIn m) _ f.throws (λ t h. h.0) h.throws)))
-          (each (ThrowIn m) P _ f.throws (throw_in v) h.throws)
+      (each (ThrowIn m) P _ f.throws (throw_in v) h.throws)
 
   method_in : (v : View) (c : Class) (f : Method) → MethodIn m f → Within (method_faults v c f)
   method_in v c f h = join _ _ (head_in v f h) (braces_in v _ _ f.body h.body)
@@ -244,7 +246,7 @@ module _ (m : ℕ) where
   members_in : (v : View) (c : Class) → ClassIn m c → Within (class_faults v c)
   members_in v c h =
       let fields = join _ _ (join _ _ (may_policy_in v c.birth h.birth) (doubles_in _ (mapped (FieldIn m) (IdentIn m) _ c.fields (λ f h. h.0) h.fields)))
-          (each (FieldIn m) P _ c.fields (field_in v c.birth) h.fields) in
+      (each (FieldIn m) P _ c.fields (field_in v c.birth) h.fields) in
       let channels = join _ _ (join _ _ fields (doubles_in _ (callee_ids_in c h))) (each (ChannelIn m) P _ c.channels (channel_in v) h.channels) in
       join _ _ channels (each (MethodIn m) P _ c.methods (method_in v c) h.methods)
 

@@ -1,5 +1,5 @@
 -- The rules on names in expressions.
-use Rattle.std.specs.Prelude.{ℕ, Bool, true, false, not, ◌||◌, ◌&&◌, if◌then◌else◌, List, [], ◌∷◌, ◌++◌, Option, Some, None}
+use Rattle.std.specs.Prelude.{ℕ, Bool, true, not, ◌||◌, ◌&&◌, if◌then◌else◌, List, [], ◌++◌, Option, Some, None}
 use Rattle.std.specs.Option.{is_some}
 use Rattle.par_index.specs.Texts.{has}
 use Rattle.par_tree.specs.declared.ident.Ident.{Ident}
@@ -43,13 +43,15 @@ class_before home locals (Not e at) = None
 class_before home locals (Binary op a b at) = None
 
 -- 101: no such class at this place, or no such static member of it
-unfoldable pub static_fault : (Class → List ℕ → Option Bool) → Option Class → ℕ → Ident → List Refusal
+unfoldable pub static_fault : (Class → List ℕ → Option Bool) → Option Class → ℕ → Ident
+    → List Refusal
 static_fault named None at member = when true (broken 101 at)
 static_fault named (Some class) at member =
     when (not (is_static (named class member.name))) (broken 101 member.at)
 
 -- what stands before a member at this place: a class, or an expression with these faults
-unfoldable pub member_faults : View → (Class → List ℕ → Option Bool) → Option (List ℕ) → ℕ → Ident → List Refusal → List Refusal
+unfoldable pub member_faults : View → (Class → List ℕ → Option Bool) → Option (List ℕ) → ℕ → Ident
+    → List Refusal → List Refusal
 member_faults v named None at member faults = faults
 member_faults v named (Some class) at member faults =
     static_fault named (class_named v.classes class) at member

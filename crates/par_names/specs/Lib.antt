@@ -10,3 +10,4 @@ pub mod Indexed
 pub mod Seen
 pub mod Earliest
 pub mod Scoped
+pub mod Places

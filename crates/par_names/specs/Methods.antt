@@ -1,5 +1,5 @@
 -- The rules on names in the members of a class.
-use Rattle.std.specs.Prelude.{ℕ, true, not, ◌&&◌, List, [], ◌++◌, flat_map, map, drop, Option}
+use Rattle.std.specs.Prelude.{true, not, ◌&&◌, List, ◌++◌, flat_map, map, drop, Option}
 use Rattle.std.specs.Option.{is_none}
 use Rattle.par_tree.specs.declared.policy.PolicyExpr.{PolicyExpr}
 use Rattle.par_tree.specs.declared.decl.FieldDecl.{FieldDecl}
@@ -12,7 +12,6 @@ use Rattle.par_typed.specs.First.{when, broken}
 use Rattle.par_names.specs.Declarations.{doubles}
 use Rattle.par_names.specs.Members.{callee_ids}
 use Rattle.par_names.specs.Policies.{View, policy_faults, may_policy_faults, lock_faults, class_fault, type_fault, result_fault}
-use Rattle.par_names.specs.Exprs.{Home}
 use Rattle.par_names.specs.Stmts.{braces_faults}
 
 -- 108: an inferred field of the objects of a class whose birth policy is not written

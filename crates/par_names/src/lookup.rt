@@ -46,7 +46,8 @@ impl<'a> Locks<'a> {
 
     /// The lock that the name stands for: the first one of it.
     pub fn named(&self, name: &Name) -> Option<&'a LockDecl>
-        ensures { option_copied result ≡ lock_named (map (λ lock. lock.now) self.now.decls) name.now }
+        ensures { option_copied result
+            ≡ lock_named (map (λ lock. lock.now) self.now.decls) name.now }
     {
         match self.names.place(name) {
             None => None,
@@ -142,7 +143,8 @@ impl<'a> ClassNames<'a> {
 
     #[tactic(auto, using(crate::proofs::Callees::callees))]
     fn method_static(&self, name: &Name) -> Option<bool>
-        ensures { result ≡ earlier_callee None (method_named (class_of self.now.decl.now) name.now) }
+        ensures { result
+            ≡ earlier_callee None (method_named (class_of self.now.decl.now) name.now) }
     {
         match self.method_named(name) {
             None => None,

@@ -120,7 +120,8 @@ pub fn check_policy(view: &View<'_>, policy: &PolicyExpr, findings: &mut Finding
 /// Notes the broken rules of a policy, where one is written.
 #[tactic(auto, using(crate::proofs::Noted::noting), unfolding(crate::specs::Policies::may_policy_faults))]
 pub fn check_may_policy(view: &View<'_>, policy: &Option<PolicyExpr>, findings: &mut Findings)
-    ensures { findings.new ≡ first_of findings.old (may_policy_faults (seen view.now) policy.now) }
+    ensures { findings.new
+        ≡ first_of findings.old (may_policy_faults (seen view.now) policy.now) }
 {
     match policy {
         None => {}
@@ -150,7 +151,8 @@ pub fn check_type(view: &View<'_>, ty: &TypeTree, findings: &mut Findings)
 /// Notes a result that is no class. A void method has none.
 #[tactic(auto, using(crate::proofs::Noted::noting), unfolding(crate::specs::Policies::result_fault))]
 pub fn check_result(view: &View<'_>, result_type: &Option<TypeTree>, findings: &mut Findings)
-    ensures { findings.new ≡ first_of findings.old (result_fault (seen view.now) result_type.now) }
+    ensures { findings.new
+        ≡ first_of findings.old (result_fault (seen view.now) result_type.now) }
 {
     match result_type {
         None => {}

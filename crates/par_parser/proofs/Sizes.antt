@@ -1,6 +1,7 @@
--- The bodies of a source have at most as many nodes as there are tokens.
-use Rattle.std.proofs.Common.{◌≡◌, ℕ, ◌+◌, ◌≤◌, Bool, true, false, ◌∷◌, arith, refl}
+-- A source has at most as many nodes of bodies and parameters as there are tokens.
+use Rattle.std.proofs.Common.{◌≡◌, ℕ, ◌+◌, ◌≤◌, Bool, true, false, [], ◌∷◌, length, arith, refl}
 use Rattle.std.proofs.Math.Nat.{le_refl}
+use Rattle.std.proofs.lemmas.List.{length-append}
 use Rattle.std.proofs.lemmas.List.Sums.{sum_by_push}
 use Rattle.par_lexer.specs.declared.operator.BinOp.{BinOp}
 use Rattle.par_reader.proofs.Sizes as sizes
@@ -18,7 +19,7 @@ use Rattle.par_tree.specs.Values.{if_stmt, some_else, while_stmt, one_catch, nex
 use Rattle.par_tree.specs.Values.{continue_stmt, throw_stmt, open_stmt, close_stmt, when_stmt, some_block, local_stmt, class_local, assign_stmt}
 use Rattle.par_tree.specs.Values.{call_stmt, constant, true_expr, false_expr, null_expr, this_expr, create, variable, select}
 use Rattle.par_tree.specs.Values.{call_own, call_on, negate, invert, binary, next_arg}
-use Rattle.par_parser.specs.Bodies.{declaration_nodes, methods_nodes, source_nodes}
+use Rattle.par_parser.specs.Bodies.{method_size, methods_size, declaration_size, source_size}
 
 -- the nodes in a value; a token that is kept counts as one
 abbrev pub weight : Value → ℕ
@@ -33,9 +34,11 @@ weight (stas ss) = all_nodes ss
 weight (other o) = else_nodes o
 weight (handler h) = handler_nodes h
 weight (catches cs) = catch_nodes cs
-weight (members m) = methods_nodes m.methods
-weight (decl d) = declaration_nodes d
-weight (source ds) = source_nodes ds
+weight (param p) = 1
+weight (listed ps) = length ps
+weight (members m) = methods_size m.methods
+weight (decl d) = declaration_size d
+weight (source ds) = source_size ds
 weight _ = 0
 
 abbrev total : Values → ℕ
@@ -62,7 +65,7 @@ as_stmt_size (In ss at) = refl
 
 -- No builder adds.
 next_decl_size : (vs : Values) → total (next_decl vs) ≤ total vs
-next_decl_size (decl d ∷ source ds ∷ vs) = omega (arith, sum_by_push declaration_nodes ds d)
+next_decl_size (decl d ∷ source ds ∷ vs) = omega (arith, sum_by_push declaration_size ds d)
 next_decl_size vs = le_refl (total vs)
 
 actors_decl_size : (vs : Values) → total (actors_decl vs) ≤ total vs
@@ -108,7 +111,7 @@ some_result_size vs = le_refl (total vs)
 next_method_size : (vs : Values) → total (next_method vs) ≤ total vs
 next_method_size (braces b ∷ says e ∷ listed ps ∷ tok x ∷ gives r ∷ flag s ∷ may_whole p ∷ members m ∷ vs) = omega (
   arith,
-  sum_by_push method_nodes m.methods (record {
+  sum_by_push method_size m.methods (record {
     id = ident x;
     is_static = s;
     result = r;
@@ -129,7 +132,7 @@ one_param_size (tok x ∷ typed t ∷ flag n ∷ may_whole p ∷ vs) = omega ari
 one_param_size vs = le_refl (total vs)
 
 next_param_size : (vs : Values) → total (next_param vs) ≤ total vs
-next_param_size (param p ∷ listed ps ∷ vs) = omega arith
+next_param_size (param p ∷ listed ps ∷ vs) = omega (arith, length-append ps (p ∷ []))
 next_param_size vs = le_refl (total vs)
 
 next_write_size : (vs : Values) → total (next_write vs) ≤ total vs

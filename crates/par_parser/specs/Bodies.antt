@@ -1,17 +1,21 @@
--- How many nodes the bodies of a source have.
-use Rattle.std.specs.Prelude.{ℕ, List, sum_by}
+-- How many nodes the bodies of a source have, and how many parameters its methods.
+use Rattle.std.specs.Prelude.{ℕ, ◌+◌, List, length, sum_by}
 use Rattle.par_tree.specs.Nodes.{method_nodes}
 use Rattle.par_tree.specs.Plain.{Declaration, Actors, Lock, Policy, Declared, Method, Source}
 
-abbrev pub methods_nodes : List Method → ℕ
-methods_nodes methods = sum_by method_nodes methods
+-- the nodes of a method's body, and its parameters
+abbrev pub method_size : Method → ℕ
+method_size method = method_nodes method + length method.params
 
-abbrev pub declaration_nodes : Declaration → ℕ
-declaration_nodes (Declared class) = methods_nodes class.methods
-declaration_nodes (Actors ids) = 0
-declaration_nodes (Lock lock) = 0
-declaration_nodes (Policy policy) = 0
+abbrev pub methods_size : List Method → ℕ
+methods_size methods = sum_by method_size methods
 
--- the nodes of all bodies together
-abbrev pub source_nodes : Source → ℕ
-source_nodes declarations = sum_by declaration_nodes declarations
+abbrev pub declaration_size : Declaration → ℕ
+declaration_size (Declared class) = methods_size class.methods
+declaration_size (Actors ids) = 0
+declaration_size (Lock lock) = 0
+declaration_size (Policy policy) = 0
+
+-- the nodes of all bodies together, with all parameters
+abbrev pub source_size : Source → ℕ
+source_size declarations = sum_by declaration_size declarations

@@ -9,7 +9,7 @@ ghost use Rattle.par_reader.specs.Reads.{fault_of, input};
 ghost use Rattle.par_tree.specs.Grammar as g;
 ghost use Rattle.par_tree.specs.Plain.{Source};
 ghost use Rattle.par_tree.specs.Shown.{source};
-ghost use Rattle.par_parser.specs.Bodies.{source_nodes};
+ghost use Rattle.par_parser.specs.Bodies.{source_size};
 ghost use Rattle.par_parser.specs.Reads.{a_program};
 ghost use Rattle.par_parser.specs.Sentence.{HasFault, HasTree};
 
@@ -37,7 +37,7 @@ fn program(alloc: Global, cursor: &mut Cursor<'_, Paragon>) -> Result<Program, P
 pub fn parse(alloc: Global, tokens: &[Token]) -> Result<Program, ParseError>
     requires { length tokens.now ≤ limit.MOST_TOKENS }
     ensures tree { IfOk result (λ program. HasTree tokens.now (source program)) }
-    ensures nodes { IfOk result (λ program. source_nodes (source program) ≤ length tokens.now) }
+    ensures size { IfOk result (λ program. source_size (source program) ≤ length tokens.now) }
 
     // No other error than these comes, and none of them where there is a tree.
     ensures fault { IfErr result (λ error. error ≢ Memory → HasFault tokens.now (fault_of error)) }

@@ -6,10 +6,14 @@ use Rattle.std.specs.Str.{bytes_eq}
 use Rattle.indexmap.specs.IndexMap.{IndexMap, get}
 use Rattle.par_index.specs.Texts.{texts, same_text}
 
+-- a name that a tree holds
+abbrev pub Text : Type 0
+Text = Bor (List ℕ)
+
 -- each name that is there is kept with its first place
-pub record AreFound {S : Type 0} (names : List (Bor (List ℕ))) (firsts : IndexMap (Bor (List ℕ)) ℕ S) : Type 0 where
-  pub places : (name : Bor (List ℕ)) (i : ℕ) → position (bytes_eq name.now) (texts names) ≡ Some i
-      → get same_text firsts name ≡ Some i
+pub record AreFound {S : Type 0} (names : List Text) (firsts : IndexMap Text ℕ S) : Type 0 where
+  pub places : (name : Text) (i : ℕ)
+      → position (bytes_eq name.now) (texts names) ≡ Some i → get same_text firsts name ≡ Some i
 
 abbrev pub when_same : Bool → ℕ → Option ℕ
 when_same true place = Some place

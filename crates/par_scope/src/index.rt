@@ -56,7 +56,8 @@ impl<'a> TableIndex<'a> {
     }
 
     fn members_of(&self, class: u16) -> Option<&MemberIndex<'a>>
-        ensures seen { option_map members_indexed (option_copied result) ≡ slice_get self.now.members class }
+        ensures seen { option_map members_indexed (option_copied result)
+            ≡ slice_get self.now.members class }
         ensures few { IfSome result (λ members. IsFewMembers (members_indexed members.now)) }
     {
         self.members.get(usize::from(class))

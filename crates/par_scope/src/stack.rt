@@ -55,7 +55,8 @@ impl<'a> NameStack<'a> {
 
     /// Puts a name behind the others. Without memory they are as before.
     pub fn push(&mut self, name: &'a Name) -> Result<(), NoMemory>
-        ensures ok { OnOk result (texts self.new.names.items ≡ texts self.old.names.items ++ name.now ∷ []) }
+        ensures ok { OnOk result (
+            texts self.new.names.items ≡ texts self.old.names.items ++ name.now ∷ []) }
         ensures refused { OnErr result (self.new.names.items ≡ self.old.names.items) }
     {
         if self.place(name).is_none() {

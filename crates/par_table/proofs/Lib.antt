@@ -1,1 +1,5 @@
-pub mod Places
+pub mod Lists
+pub mod Placed
+pub mod Sized
+pub mod Sums
+pub mod Locked

@@ -1,2 +1,2 @@
-pub mod Faults
-pub mod Answered
+pub mod Locals
+pub mod Limits

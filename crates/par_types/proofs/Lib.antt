@@ -1,4 +1,5 @@
 pub mod Forms
+pub mod InferredForms
 pub mod MethodForms
 pub mod StmtForms
 pub mod Places

@@ -78,6 +78,7 @@ module _ (m : ℕ) where
 
   mutual
     unfolding expr_faults ExpIn
+
     exp_in : (home : Home) (scope : Scope) (e : Exp) → ExpIn m e → Within (expr_faults home scope e)
     exp_in home scope (plain.Int n at) h = number_in n at h
     exp_in home scope (plain.True at) h = tt
@@ -147,6 +148,7 @@ module _ (m : ℕ) where
 
   mutual
     unfolding stmt_faults StaIn
+
     sta_in : (home : Home) (looped : Bool) (scope : Scope) (s : Sta) → StaIn m s → Within (stmt_faults home looped scope s)
     sta_in home looped scope (plain.Block b at) h = braces_in home looped scope b h.0
     sta_in home looped scope (plain.If e b o at) h =

@@ -4,4 +4,5 @@ pub mod Stmts
 pub mod Kept
 pub mod Methods
 pub mod Program
+pub mod Inferred
 pub mod Places

@@ -63,24 +63,24 @@ local_faults home scope local =
     type_fault home local.ty ++ value_faults home scope (slot_of home local) local.value
 
 -- a target that is never null: a local that is declared so
-unfoldable pub keeps_out_null : Scope → Exp → Bool
-keeps_out_null scope (Int n at) = false
-keeps_out_null scope (True at) = false
-keeps_out_null scope (False at) = false
-keeps_out_null scope (Null at) = false
-keeps_out_null scope (This at) = false
-keeps_out_null scope (New class at) = false
-keeps_out_null scope (Name n at) = is_notnull (local_named scope n)
-keeps_out_null scope (Field e f at) = false
-keeps_out_null scope (Call o m es at) = false
-keeps_out_null scope (Neg e at) = false
-keeps_out_null scope (Not e at) = false
-keeps_out_null scope (Binary op a b at) = false
+unfoldable pub refuses_null : Scope → Exp → Bool
+refuses_null scope (Int n at) = false
+refuses_null scope (True at) = false
+refuses_null scope (False at) = false
+refuses_null scope (Null at) = false
+refuses_null scope (This at) = false
+refuses_null scope (New class at) = false
+refuses_null scope (Name n at) = is_notnull (local_named scope n)
+refuses_null scope (Field e f at) = false
+refuses_null scope (Call o m es at) = false
+refuses_null scope (Neg e at) = false
+refuses_null scope (Not e at) = false
+refuses_null scope (Binary op a b at) = false
 
 -- what may be assigned to a target
 abbrev pub target_slot : Home → Scope → Exp → Slot
 target_slot home scope target =
-    record { ty = type_of home scope target; notnull = keeps_out_null scope target }
+    record { ty = type_of home scope target; notnull = refuses_null scope target }
 
 abbrev pub assign_faults : Home → Scope → Exp → Exp → List Refusal
 assign_faults home scope target value =

@@ -7,9 +7,11 @@
 
 mod exprs;
 mod fits;
+mod inferred;
 pub mod laws;
 mod methods;
 mod program;
 mod stmts;
 
+pub use inferred::first_inferred;
 pub use program::check_bodies;

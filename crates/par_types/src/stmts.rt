@@ -68,9 +68,9 @@ fn check_local(home: &Home<'_>, locals: &Locals<'_>, decl: &LocalDecl, findings:
     check_value(home, locals, slot_of(home, decl), &decl.value, findings);
 }
 
-#[tactic(auto, using(par_tree::proofs::Shown::shows), unfolding(crate::specs::Stmts::keeps_out_null))]
-fn keeps_out_null(locals: &Locals<'_>, target: &Expr) -> bool
-    ensures { result ≡ is.keeps_out_null locals.now (shown target.now) }
+#[tactic(auto, using(par_tree::proofs::Shown::shows), unfolding(crate::specs::Stmts::refuses_null))]
+fn refuses_null(locals: &Locals<'_>, target: &Expr) -> bool
+    ensures { result ≡ is.refuses_null locals.now (shown target.now) }
 {
     match &target.kind {
         ExprKind::Name(name) => match locals.named(name) {
@@ -104,7 +104,7 @@ fn check_assigned(
         (is.assign_faults (seen home.now) locals.now (shown target.now) (shown value.now)) }
 {
     let ty = check_expr(home, locals, target, findings);
-    let notnull = keeps_out_null(locals, target);
+    let notnull = refuses_null(locals, target);
     check_value(home, locals, Slot { ty, notnull }, value, findings);
 }
 

@@ -1,5 +1,4 @@
 use Rattle.std.proofs.Common.{arith}
-use Rattle.std.proofs.lemmas.Grind.{common_steps}
 use Rattle.par_tree.specs.Shown.{does}
 use Rattle.par_names.proofs.StmtForms.{stmts, declares_keeps}
 use Rattle.par_names.proofs.Left.{more_stmts, no_stmts, more_catches, no_catches}

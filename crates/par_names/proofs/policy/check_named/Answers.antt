@@ -1,9 +1,8 @@
 use Rattle.std.proofs.Common.{◌≡◌, ap, sym, ◌∙◌, not, Some, None}
-use Rattle.std.specs.Str.{bytes_eq}
 use Rattle.par_index.specs.Texts.{has, texts}
 use Rattle.par_typed.specs.First.{first_of, when, broken}
 use Rattle.par_names.specs.Seen.{seen}
-use Rattle.par_names.proofs.Behind.{in_first, is_within}
+use Rattle.par_names.proofs.Behind.{in_first}
 use Rattle.par_names.proofs.policy.check_named.Goals.{in-None, in-Some}
 use Rattle.par_names.proofs.policy.check_named.Goals as goal
 

@@ -1,4 +1,4 @@
-use Rattle.std.proofs.Common.{◌≡◌, sym, ap, ◌∙◌, map}
+use Rattle.std.proofs.Common.{sym, ap, ◌∙◌, map}
 use Rattle.std.specs.Borrow.{Bor}
 use Rattle.par_tree.specs.declared.decl.ClassDecl.{ClassDecl}
 use Rattle.par_tree.specs.Shown.{class_of}

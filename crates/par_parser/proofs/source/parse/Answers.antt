@@ -16,7 +16,7 @@ use Rattle.par_tree.specs.Plain.{Source}
 use Rattle.par_tree.specs.Shown.{source}
 use Rattle.par_tree.specs.Values.{paragon}
 use Rattle.par_tree.proofs.Founded.{founded}
-use Rattle.par_parser.specs.Bodies.{source_nodes}
+use Rattle.par_parser.specs.Bodies.{source_size}
 use Rattle.par_parser.specs.Reads.{a_program}
 use Rattle.par_parser.specs.Sentence.{HasFault, HasTree}
 use Rattle.par_parser.proofs.Sizes.{built_size, weight}
@@ -30,7 +30,7 @@ module _ (tokens : List Token) (j : Input) where
   tree_of (Ok p) read = (j, comes_to paragon founded all a_program (whole tokens) j p read)
   tree_of (Err e) read = tt
 
-  few : (r : Result Program ParseError) → Reads all [] a_program (whole tokens) r j → IfOk r (λ p. source_nodes (source p) ≤ length tokens)
+  few : (r : Result Program ParseError) → Reads all [] a_program (whole tokens) r j → IfOk r (λ p. source_size (source p) ≤ length tokens)
   few (Ok p) read = let taken = sized paragon weight (λ x. omega arith) built_size (comes_to paragon founded all a_program (whole tokens) j p read) in omega (arith, taken)
   few (Err e) read = tt
 
@@ -46,8 +46,8 @@ module _ (tokens : List Token) (j : Input) where
 pub returns-clause-tree : goal.returns-clause-tree
 returns-clause-tree c = tree_of c.args.tokens.now _ _ c.program.ensures
 
-pub returns-clause-nodes : goal.returns-clause-nodes
-returns-clause-nodes c = few c.args.tokens.now _ _ c.program.ensures
+pub returns-clause-size : goal.returns-clause-size
+returns-clause-size c = few c.args.tokens.now _ _ c.program.ensures
 
 pub returns-clause-fault : goal.returns-clause-fault
 returns-clause-fault c = fault_at c.args.tokens.now _ _ c.program.ensures

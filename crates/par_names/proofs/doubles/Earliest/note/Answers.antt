@@ -1,4 +1,4 @@
-use Rattle.std.proofs.Common.{◌≡◌, ◌∙◌, sym, ap, cond, Some}
+use Rattle.std.proofs.Common.{◌∙◌, sym, ap, cond, Some}
 use Rattle.std.specs.Str.{bytes_eq}
 use Rattle.par_names.specs.Earliest.{is_below, place_of}
 use Rattle.par_names.proofs.Least.{kept, put}

@@ -1,0 +1,3 @@
+pub mod Laws
+pub mod Points
+pub mod StmtPoints

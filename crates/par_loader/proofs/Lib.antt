@@ -1,0 +1,10 @@
+pub mod Ascii
+pub mod Counting
+pub mod Finding
+pub mod Unread
+pub mod Seen
+pub mod SoFar
+pub mod Ended
+pub mod Loop
+pub mod Linking
+pub mod Judging

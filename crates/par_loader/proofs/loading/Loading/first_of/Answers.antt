@@ -1,0 +1,17 @@
+use Rattle.std.proofs.Common.{◌≡◌, ◌+◌, List, Some, ap, ◌∙◌, arith}
+use Rattle.std.specs.Option.{option_map}
+use Rattle.std.specs.List.{position}
+use Rattle.par_pool.specs.declared.constant.Constant.{Constant}
+use Rattle.par_single.specs.Members.{class_name_at}
+use Rattle.par_loader.specs.Mentions.{naming_in, names_unread}
+use Rattle.par_loader.proofs.Unread.{naming_is}
+use Rattle.par_loader.proofs.loading.Loading.first_of.Goals as goal
+
+pub returns-in-Some-clause-first : goal.returns-in-Some-clause-first
+returns-in-Some-clause-first c =
+    let file = c.args.file.now in
+    let n = c.in-Some.first in
+    let at : c.class_name_at.result.now ≡ class_name_at file.pool.entries (n + 1) =
+    c.class_name_at.ensures ∙ ap (λ (es : List Constant). class_name_at es (n + 1)) c.as_slice-entries.ensures in
+    ap Some (naming_is file n c.own_name.result.now (n + 1) c.class_name_at.result.now c.own_name.ensures (omega arith) at)
+    ∙ ap (option_map (naming_in file)) (c.in-Some.ensures ∙ ap (λ (es : List Constant). position (names_unread c.args.self.now.files es) es) c.as_slice-entries.ensures)

@@ -1,0 +1,24 @@
+use Rattle.std.proofs.Common.{◌≡◌, ℕ, List, Some, slice_get, sym, subst, ◌∙◌}
+use Rattle.par_lexer.specs.Names.{IsName}
+use Rattle.par_link.specs.Order.{Broken, first_broken}
+use Rattle.par_loader.specs.Judged.{name_of}
+use Rattle.par_loader.specs.Ends.{IsBadAs, main_of}
+use Rattle.par_loader.proofs.Linking.{broken-within, name_is, name_named, broken_is, links_bad}
+use Rattle.par_loader.proofs.program.linked.Goals as goal
+
+pub bad_class-requires-in-Err-Broken : goal.bad_class-requires-in-Err-Broken
+bad_class-requires-in-Err-Broken c =
+    let files = c.args.loading.files in
+    let b : Broken = record { number = c.in-Err-Broken.number; class = c.in-Err-Broken.class; index = c.in-Err-Broken.index } in
+    let is : first_broken files ≡ Some b = rw c.in-Err-Broken.field-0-is at c.in-Err-Broken.ensures.broken in
+    let name = c.name_at-in-Err-Broken.ensures ∙ name_is (λ k. k.items) c.args.loading.names.keys files c.args.loading.names_are c.in-Err-Broken.class in
+    subst IsName (sym name) (name_named files c.in-Err-Broken.class c.args.loading.named (broken-within files b is))
+
+pub returns-in-Err-Broken : goal.returns-in-Err-Broken
+returns-in-Err-Broken c =
+    let files = c.args.loading.files in
+    let b : Broken = record { number = c.in-Err-Broken.number; class = c.in-Err-Broken.class; index = c.in-Err-Broken.index } in
+    let is : first_broken files ≡ Some b = rw c.in-Err-Broken.field-0-is at c.in-Err-Broken.ensures.broken in
+    let name = c.name_at-in-Err-Broken.ensures ∙ name_is (λ k. k.items) c.args.loading.names.keys files c.args.loading.names_are c.in-Err-Broken.class in
+    let told = subst (λ (n : List ℕ). IsBadAs n b.number b.index c.bad_class-in-Err-Broken.result) name c.bad_class-in-Err-Broken.ensures in
+    links_bad _ (name_of (slice_get files b.class)) b.number b.index c.bad_class-in-Err-Broken.result (broken_is (main_of files) files b is) told

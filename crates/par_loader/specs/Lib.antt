@@ -1,0 +1,6 @@
+pub mod Reads
+pub mod Mentions
+pub mod Found
+pub mod Loaded
+pub mod Judged
+pub mod Ends

@@ -1,0 +1,11 @@
+use Rattle.std.proofs.Common.{◌≡◌, None, drop}
+use Rattle.std.specs.List.{flat_map}
+use Rattle.par_typed.specs.First.{first_of}
+use Rattle.par_resolved.specs.Sizes.{literal_faults}
+use Rattle.par_resolved.specs.Gathered.{all_of}
+use Rattle.par_resolved.proofs.literals.first_literal.Given as goal
+
+-- the first found so far, with those of what is left
+abbrev pub invariant-loop-e : goal.invariant-loop-e
+invariant-loop-e l =
+    first_of l.findings (flat_map literal_faults (all_of (drop l.e-index l.exprs))) ≡ first_of None (flat_map literal_faults (all_of l.exprs))

@@ -1,0 +1,13 @@
+pub mod Sets
+pub mod Few
+pub mod Seen
+pub mod Numbers
+pub mod Policies
+pub mod Statements
+pub mod Gathered
+pub mod Written
+pub mod Sizes
+pub mod Births
+pub mod Numbered
+pub mod Limits
+pub mod Resolved

@@ -1,0 +1,44 @@
+// The policies of a table, by the places where they are counted.
+ghost use Rattle.std.specs.Prelude.{◌≡◌, map, IfOk, OnOk};
+ghost use Rattle.par_resolved.specs.Gathered.{all_of};
+ghost use Rattle.par_resolved.specs.Seen.{known_seen};
+ghost use Rattle.par_resolved.specs.Numbered.{written_entry, by_place};
+
+use crate::known::Known;
+use crate::memory::NoMemory;
+use par_policy::Policy;
+use par_tree::policy::PolicyExpr;
+use std::alloc::Global;
+
+/// A policy of the table, and the place that it is counted at.
+#[derive(Drop)]
+pub struct Entry {
+    pub at: u32,
+    pub policy: Policy,
+}
+
+/// The entries of these expressions.
+#[tactic(auto, using(crate::proofs::Pushes::pushes))]
+pub fn written_entries(
+    alloc: Global,
+    known: &Known<'_>,
+    exprs: &[&PolicyExpr],
+) -> Result<Vec<Entry>, NoMemory>
+    ensures { IfOk result (λ found.
+        found.items ≡ map (written_entry (known_seen known.now)) (all_of exprs.now)) }
+{
+    let mut found = Vec::new(alloc);
+    for e in exprs {
+        let policy = known.policy_of(alloc, e)?;
+        found.push(Entry { at: e.at, policy })?;
+    }
+    Ok(found)
+}
+
+/// Puts the entries in the order of their places.
+pub fn sort_entries(entries: &mut Vec<Entry>) -> Result<(), NoMemory>
+    ensures { OnOk result (entries.new.items ≡ by_place entries.old.items) }
+{
+    entries.sort_by_key(|entry| entry.at)?;
+    Ok(())
+}

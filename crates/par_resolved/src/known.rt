@@ -1,0 +1,196 @@
+// What policy expressions come to.
+ghost use Rattle.std.specs.Prelude.{◌≡◌, [], IfOk, OnOk, Some, map, option_map};
+ghost use Rattle.std.specs.List.{position};
+ghost use Rattle.std.specs.Str.{bytes_eq};
+ghost use Rattle.par_resolved.specs.Sets.{set_of, with_lock_set, normal};
+ghost use Rattle.par_resolved.specs.Numbers.{lock_number};
+ghost use Rattle.par_resolved.specs.Policies.{clause_of, bottom, term_value, term_values};
+ghost use Rattle.par_resolved.specs.Policies.{value_at, value_of, policy_of};
+ghost use Rattle.par_resolved.specs.Births.{policy_or_bottom};
+ghost use Rattle.par_resolved.specs.Sizes.{expression_faults};
+ghost use Rattle.par_resolved.specs.Seen.{seen, known_seen};
+ghost use Rattle.par_typed.specs.First.{first_of};
+
+use crate::forms::form;
+use crate::joins::join_all;
+use crate::memory::NoMemory;
+use crate::numbers::Numbers;
+use par_index::NameIndex;
+use par_lexer::name::Name;
+use par_policy::{Clause, Lockset, Policy};
+use par_tree::policy::{ClauseTree, LockTree, PolicyExpr, PolicyTerm};
+use par_typed::refusal::Findings;
+use std::alloc::Global;
+
+/// What a policy expression is read by: numbers, the names of all declared policies, and what the
+/// first of them come to.
+#[derive(Drop)]
+pub struct Known<'a> {
+    pub numbers: Numbers<'a>,
+    pub names: NameIndex<'a>,
+    pub values: Vec<Option<Policy>>,
+}
+
+/// The numbers of these locks.
+pub fn lock_set(
+    alloc: Global,
+    numbers: &Numbers<'_>,
+    locks: &[LockTree],
+) -> Result<Lockset, NoMemory>
+    ensures { IfOk result (λ set. set ≡ set_of (map (lock_number (seen numbers.now)) locks.now)) }
+{
+    let mut set = Lockset::new(alloc);
+    for lock in locks {
+        set.insert(numbers.lock(lock))?;
+    }
+    Ok(set)
+}
+
+fn clause_of(alloc: Global, numbers: &Numbers<'_>, clause: &ClauseTree) -> Result<Clause, NoMemory>
+    ensures { IfOk result (λ c. c ≡ with_lock_set (clause_of (seen numbers.now) clause.now)) }
+{
+    Ok(Clause {
+        actor: numbers.actor(&clause.actor),
+        locks: lock_set(alloc, numbers, clause.locks.as_slice())?,
+    })
+}
+
+// The policy that is written out.
+fn literal(alloc: Global, numbers: &Numbers<'_>, clauses: &[ClauseTree]) -> Result<Policy, NoMemory>
+    ensures { IfOk result (λ p. p ≡ normal (map (clause_of (seen numbers.now)) clauses.now)) }
+{
+    let mut made = Vec::new(alloc);
+    for clause in clauses {
+        made.push(clause_of(alloc, numbers, clause)?)?;
+    }
+    form(alloc, made.as_slice())
+}
+
+/// The policy that all actors may see without a lock.
+pub fn bottom(alloc: Global, numbers: &Numbers<'_>) -> Result<Policy, NoMemory>
+    ensures { IfOk result (λ p. p ≡ bottom (seen numbers.now)) }
+{
+    let mut clauses = Vec::new(alloc);
+    for actor in 0..numbers.actor_count() {
+        clauses.push(Clause {
+            actor,
+            locks: Lockset::new(alloc),
+        })?;
+    }
+    form(alloc, clauses.as_slice())
+}
+
+/// The policy that no actor may see.
+#[tactic(auto, unfolding(crate::specs::Sets::normal))]
+pub fn top(alloc: Global) -> Result<Policy, NoMemory>
+    ensures { IfOk result (λ p. p ≡ []) }
+{
+    form(alloc, &[])
+}
+
+impl<'a> Known<'a> {
+    // What the declared policy of this name comes to.
+    fn named(&self, name: &Name) -> Result<Option<Policy>, NoMemory>
+        ensures { IfOk result (λ p.
+            p ≡ value_at self.now.values.items
+            (position (bytes_eq name.now) (known_seen self.now).names)) }
+    {
+        match self.names.place(name) {
+            None => Ok(None),
+            Some(place) => self.value(place),
+        }
+    }
+
+    fn value(&self, place: usize) -> Result<Option<Policy>, NoMemory>
+        ensures { IfOk result (λ p. p ≡ value_at self.now.values.items (Some place)) }
+    {
+        match self.values.get(place) {
+            None => Ok(None),
+            Some(None) => Ok(None),
+            Some(Some(policy)) => {
+                let policy = policy.clone()?;
+                Ok(Some(policy))
+            }
+        }
+    }
+
+    // What a term comes to.
+    #[tactic(auto, unfolding(crate::specs::Policies::term_value))]
+    fn term(&self, alloc: Global, term: &PolicyTerm) -> Result<Option<Policy>, NoMemory>
+        ensures { IfOk result (λ p. p ≡ term_value (known_seen self.now) term.now) }
+    {
+        match term {
+            PolicyTerm::Clauses(clauses) => {
+                let policy = literal(alloc, &self.numbers, clauses.as_slice())?;
+                Ok(Some(policy))
+            }
+            PolicyTerm::Named(id) => self.named(&id.name),
+            PolicyTerm::Bottom => {
+                let policy = bottom(alloc, &self.numbers)?;
+                Ok(Some(policy))
+            }
+            PolicyTerm::Top => {
+                let policy = top(alloc)?;
+                Ok(Some(policy))
+            }
+        }
+    }
+
+    // What all of these come to.
+    fn terms(&self, alloc: Global, terms: &[PolicyTerm]) -> Result<Option<Vec<Policy>>, NoMemory>
+        ensures { IfOk result (λ found.
+            option_map (λ ps. ps.items) found ≡ term_values (known_seen self.now) terms.now) }
+    {
+        let mut found = Vec::new(alloc);
+        for term in terms {
+            match self.term(alloc, term)? {
+                None => return Ok(None),
+                Some(policy) => found.push(policy)?,
+            }
+        }
+        Ok(Some(found))
+    }
+
+    /// What an expression comes to. Limits that its joins exceed are noted.
+    #[tactic(auto, using(crate::proofs::Steps::joined_terms))]
+    pub fn value_of(
+        &self,
+        alloc: Global,
+        e: &PolicyExpr,
+        findings: &mut Findings,
+    ) -> Result<Option<Policy>, NoMemory>
+        ensures value { IfOk result (λ p. p ≡ value_of (known_seen self.now) e.now) }
+        ensures found { OnOk result (findings.new
+            ≡ first_of findings.old (expression_faults (known_seen self.now) e.now)) }
+    {
+        match self.terms(alloc, e.terms.as_slice())? {
+            None => Ok(None),
+            Some(policies) => join_all(alloc, e.at, policies.as_slice(), findings),
+        }
+    }
+
+    /// The policy of an expression, `top` where it exceeds a limit.
+    pub fn policy_of(&self, alloc: Global, e: &PolicyExpr) -> Result<Policy, NoMemory>
+        ensures { IfOk result (λ p. p ≡ policy_of (known_seen self.now) e.now) }
+    {
+        let mut unread = Findings::new();
+        match self.value_of(alloc, e, &mut unread)? {
+            None => top(alloc),
+            Some(policy) => Ok(policy),
+        }
+    }
+
+    /// The policy of an expression, `bottom` where it is omitted.
+    pub fn policy_or_bottom(
+        &self,
+        alloc: Global,
+        e: &Option<PolicyExpr>,
+    ) -> Result<Policy, NoMemory>
+        ensures { IfOk result (λ p. p ≡ policy_or_bottom (known_seen self.now) e.now) }
+    {
+        match e {
+            None => bottom(alloc, &self.numbers),
+            Some(e) => self.policy_of(alloc, e),
+        }
+    }
+}

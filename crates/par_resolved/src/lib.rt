@@ -1,0 +1,25 @@
+//! What the policies, locks and types of a program come to, by numbers.
+//!
+//! The names of a program that keeps the rules on names become numbers here, its policy
+//! expressions policies in normal form, and its declarations the table. The crate looks at the
+//! limits of policies, and at no rule on names: those are looked at before.
+#![tactic(auto)]
+
+pub mod births;
+mod declared;
+pub mod entries;
+mod firsts;
+mod forms;
+mod joins;
+pub mod known;
+pub mod limits;
+pub mod literals;
+mod memory;
+pub mod numbers;
+pub mod queried;
+pub mod scope;
+mod statements;
+pub mod types;
+pub mod written;
+
+pub use memory::NoMemory;

@@ -1,0 +1,29 @@
+-- Assignments of ways and values to the points of a body.
+use Rattle.std.specs.Prelude.{ℕ, Option, None}
+use Rattle.par_rules.specs.Lattice.{Lattice}
+use Rattle.par_rules.specs.Kinds.{Kind}
+use Rattle.par_rules.specs.Ways.{Way, MayFlow}
+
+module _ (P : Lattice) where
+  -- the entering way of a point that is reached, the value of an expression, and the way of each
+  -- completion that is possible
+  pub record Fact : Type 0 where
+    pub entry : Option (Way P)
+    pub value : P.Policy
+    pub exit : Kind → Option (Way P)
+
+  -- that of a point that is not reached
+  abbrev pub blank : Fact
+  blank = record { entry = None; value = P.bottom; exit = λ k. None }
+
+  abbrev pub Facts : Type 0
+  Facts = ℕ → Fact
+
+  -- the second is at least as high: policies are above, and lock sets lie within
+  pub record IsHigher (f g : Fact) : Type 0 where
+    pub entry : MayFlow P f.entry g.entry
+    pub value : P.IsBelow f.value g.value
+    pub exit : (k : Kind) → MayFlow P (f.exit k) (g.exit k)
+
+  abbrev pub AreHigher : Facts → Facts → Type 0
+  AreHigher a b = (point : ℕ) → IsHigher (a point) (b point)

@@ -1,0 +1,10 @@
+pub mod Kinds
+pub mod Lattice
+pub mod Ways
+pub mod Facts
+pub mod Declares
+pub mod Rules
+pub mod Body
+pub mod Closed
+pub mod Numbered
+pub mod Ranges

@@ -1,0 +1,4 @@
+pub mod Longer
+pub mod Deep
+pub mod Locks
+pub mod Examples

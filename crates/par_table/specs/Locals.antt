@@ -1,0 +1,49 @@
+-- How many locals a method declares.
+use Rattle.std.specs.Prelude.{ℕ, ◌+◌}
+use Rattle.par_tree.specs.Plain.{Sta, Block, If, While, Try, Return, Break, Continue, Throw, Open, Close}
+use Rattle.par_tree.specs.Plain.{Declare, Assign, Do, When, Braces, In, MayBraces, NoBraces, Some, Method}
+use Rattle.par_tree.specs.Plain.{Else, NoElse, Otherwise, Stas, End, Then, Catches, NoCatch, Catch, Handler, On}
+
+unfoldable mutual
+  pub stmt_locals : Sta → ℕ
+  stmt_locals (Block b at) = braces_locals b
+  stmt_locals (If e b o at) = braces_locals b + else_locals o
+  stmt_locals (While e b at) = braces_locals b
+  stmt_locals (Try b cs at) = braces_locals b + catch_locals cs
+  stmt_locals (Return e at) = 0
+  stmt_locals (Break at) = 0
+  stmt_locals (Continue at) = 0
+  stmt_locals (Throw class at) = 0
+  stmt_locals (Open lock at) = 0
+  stmt_locals (Close lock at) = 0
+  stmt_locals (Declare local at) = 1
+  stmt_locals (Assign target value at) = 0
+  stmt_locals (Do call at) = 0
+  stmt_locals (When lock b o at) = braces_locals b + may_braces_locals o
+
+  pub braces_locals : Braces → ℕ
+  braces_locals (In ss at) = all_locals ss
+
+  pub may_braces_locals : MayBraces → ℕ
+  may_braces_locals NoBraces = 0
+  may_braces_locals (Some b) = braces_locals b
+
+  pub else_locals : Else → ℕ
+  else_locals NoElse = 0
+  else_locals (Otherwise s) = stmt_locals s
+
+  pub all_locals : Stas → ℕ
+  all_locals End = 0
+  all_locals (Then s ss) = stmt_locals s + all_locals ss
+
+  pub catch_locals : Catches → ℕ
+  catch_locals NoCatch = 0
+  catch_locals (Catch c cs) = handler_locals c + catch_locals cs
+
+  -- the name of what is caught is no local
+  pub handler_locals : Handler → ℕ
+  handler_locals (On class name b) = braces_locals b
+
+-- the locals that a method declares; its parameters are none of them
+abbrev pub method_locals : Method → ℕ
+method_locals m = braces_locals m.body
