@@ -1,4 +1,3 @@
-pub mod Places
 pub mod Noted
 pub mod Lookups
 pub mod Callees

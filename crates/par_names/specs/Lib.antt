@@ -5,7 +5,6 @@ pub mod Exprs
 pub mod Stmts
 pub mod Methods
 pub mod Program
-pub mod Places
 pub mod Indexed
 pub mod Seen
 pub mod Earliest
