@@ -12,9 +12,9 @@ use Rattle.par_typed.specs.First.{IsFirst}
 use Rattle.par_places.specs.Law.{BeginWithin}
 use Rattle.par_places.specs.Within.{IsWithin}
 use Rattle.par_places.proofs.Trees.{trees_lie}
-use Rattle.par_names.specs.Places.{AreBrokenWithin}
-use Rattle.par_table.specs.Faults.{all_faults}
-use Rattle.par_table.proofs.Places.{all_within}
+use Rattle.par_places.specs.Broken.{AreBrokenWithin}
+use Rattle.par_names.specs.Program.{name_faults}
+use Rattle.par_names.proofs.Places.{names_broken_within}
 use Rattle.par_parser.specs.Sentence as syntax
 use Rattle.par_straight.specs.Judged.{IsStraightLine}
 use Rattle.par_observer.specs.declared.judge.Judgement.{Judgement}
@@ -35,6 +35,6 @@ named_judgement source tokens tree (Accepted p) cut laid derived other is = absu
 named_judgement source tokens tree (Broken f) cut laid derived other is =
     let is_tree : IsTreeOf source tree = record { tokens = tokens; cut = cut; derived = derived } in
     let within : IsWithin (length source) tree = trees_lie (length source) tokens tree (begin_in source tokens laid) derived in
-    (has_wrong_names tree is_tree other is, among_in (length source) (all_faults tree) f (all_within (length source) tree within) is.among)
+    (has_wrong_names tree is_tree other is, among_in (length source) (name_faults tree) f (names_broken_within (length source) tree within) is.among)
 named_judgement source tokens tree NotBuilt cut laid derived other is =
     record { tree = tree; is_tree = record { tokens = tokens; cut = cut; derived = derived }; named = is; other = other }

@@ -1,5 +1,5 @@
-//! The judgement of a source: its tokens and its sentence, by the whole grammar, its names and its
-//! limits, and what a straight-line one means.
+//! The judgement of a source: its tokens and its sentence, by the whole grammar, its names, and what
+//! a straight-line one means.
 
 ghost use Rattle.std.specs.Prelude.{◌≡◌, ◌≤◌, IfOk, IfErr, MatchOption, length};
 ghost use Rattle.par_lexer.specs.Spans.{IsLaid};
@@ -25,7 +25,7 @@ use par_straight_check::check::check;
 use par_straight_names::resolve::{ResolveError, resolve};
 use par_straight_reader::cursor::ParseError as StraightError;
 use par_straight_reader::reader::parse as parse_straight;
-use par_table::{NameError, build};
+use par_table::first_broken_name;
 use par_tree::decl::Program as Tree;
 use par_typed::refusal::Refusal;
 use std::alloc::Global;
@@ -185,16 +185,13 @@ fn judge_sentence(alloc: Global, tokens: &[Token], tree: &Tree) -> Result<Judgem
     }
 }
 
-/// What is said of the names and the limits of a tree.
+/// What is said of the names of a tree.
 fn judge_names(alloc: Global, tree: &Tree) -> Result<Judgement, NoMemory>
     ensures { IfOk result (IsNamed (tree_of_program tree.now)) }
 {
-    match build(alloc, tree) {
-        Ok(_) => Ok(Judgement::NotBuilt),
-        Err(error) => match error {
-            NameError::Broken(refusal) => Ok(Judgement::Broken(refusal)),
-            NameError::Memory => Err(NoMemory),
-        },
+    match first_broken_name(alloc, tree)? {
+        None => Ok(Judgement::NotBuilt),
+        Some(refusal) => Ok(Judgement::Broken(refusal)),
     }
 }
 

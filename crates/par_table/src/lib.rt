@@ -12,3 +12,7 @@ mod locks;
 mod places;
 
 pub use counts::check_counts;
+
+mod names;
+
+pub use names::first_broken_name;
