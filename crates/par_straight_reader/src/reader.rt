@@ -16,10 +16,9 @@ ghost use Rattle.par_straight_reader.specs.Reads.{a_method, method_symbols, faul
 
 use crate::cursor::{Cursor, ParseError};
 use par_grammar::sort::Sort;
-use par_lexer::LONGEST_SOURCE;
 use par_lexer::list::List;
 use par_lexer::token::Token;
-use par_lexer::{sign, word};
+use par_lexer::{LONGEST_SOURCE, sign, word};
 use par_straight::tree::{ClauseTree, Ident, Member, MemberKind, Source, Statement, Term};
 use std::alloc::Global;
 
