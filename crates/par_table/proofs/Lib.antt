@@ -3,3 +3,5 @@ pub mod Placed
 pub mod Sized
 pub mod Sums
 pub mod Locked
+pub mod Listed
+pub mod Headed

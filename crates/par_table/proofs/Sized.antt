@@ -1,6 +1,6 @@
 -- A method declares no more locals than it has nodes.
-use Rattle.std.proofs.Common.{◌≡◌, ℕ, ◌+◌, ◌≤◌, arith}
-use Rattle.par_tree.specs.Nodes.{nodes, stmt_nodes, braces_nodes, may_braces_nodes, else_nodes, all_nodes, catch_nodes, handler_nodes, method_nodes}
+use Rattle.std.proofs.Common.{◌≤◌, arith}
+use Rattle.par_tree.specs.Nodes.{stmt_nodes, braces_nodes, may_braces_nodes, else_nodes, all_nodes, catch_nodes, handler_nodes, method_nodes}
 use Rattle.par_tree.specs.Plain.{Sta, Block, If, While, Try, Return, Break, Continue, Throw, Open, Close}
 use Rattle.par_tree.specs.Plain.{Declare, Assign, Do, When, Braces, In, MayBraces, NoBraces, Some, Method}
 use Rattle.par_tree.specs.Plain.{Else, NoElse, Otherwise, Stas, End, Then, Catches, NoCatch, Catch, Handler, On}

@@ -1,5 +1,5 @@
 -- What the first of some methods or declarations adds.
-use Rattle.std.proofs.Common.{◌≡◌, ℕ, ◌+◌, List, ◌∷◌}
+use Rattle.std.proofs.Common.{◌≡◌, ◌+◌, List, ◌∷◌}
 use Rattle.std.specs.List.{sum_by}
 use Rattle.std.proofs.lemmas.List.Sums.{sum_by-cons}
 use Rattle.par_tree.specs.declared.decl.Decl.{Decl}

@@ -1,2 +1,4 @@
 pub mod Locals
 pub mod Limits
+pub mod Heads
+pub mod Mains

@@ -1,18 +1,21 @@
-//! The limits of a program that are counted: of its actors, locks and classes, and of the members
-//! and methods of each class.
+//! The rules on names and the counted limits, looked at over a whole program.
 //!
-//! The crate looks at a whole tree and notes which limits it exceeds. It looks up no name, and it
-//! changes nothing in the tree.
+//! The crate goes over a whole tree. It tells the first broken rule on names, and it notes which
+//! limits are exceeded: of the actors, locks and classes, and of the members and methods of each
+//! class. It types no expression, and it changes nothing in the tree.
 #![tactic(auto)]
 
+mod classes;
 mod counts;
 pub mod limit;
 mod locals;
 mod locks;
+mod mains;
+mod members;
+mod methods;
+mod names;
 mod places;
+mod rule;
 
 pub use counts::check_counts;
-
-mod names;
-
 pub use names::first_broken_name;

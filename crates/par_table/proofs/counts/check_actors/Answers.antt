@@ -1,4 +1,4 @@
-use Rattle.std.proofs.Common.{arith, length, sym}
+use Rattle.std.proofs.Common.{arith, length}
 use Rattle.par_tree.specs.Shown.{all_declared}
 use Rattle.par_names.specs.Declarations.{locks}
 use Rattle.par_table.specs.Limits.{locks_limit}
