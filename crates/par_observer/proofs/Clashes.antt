@@ -5,7 +5,8 @@ use Rattle.par_lexer.specs.declared.token.LexError.{LexError}
 use Rattle.par_lexer.specs.Tokens as lexed
 use Rattle.par_lexer.specs.Tokens.{HasTokens, LexBroken}
 use Rattle.par_lexer.proofs.Cuts as cuts
-use Rattle.par_grammar.specs.Derivation.{Fault, Outcome}
+use Rattle.par_grammar.specs.Derivation.{Fault, Input, Outcome}
+use Rattle.par_parser.specs.Sentence as syntax
 use Rattle.par_grammar.proofs.Total as total
 use Rattle.par_tree.specs.Values as whole
 use Rattle.par_parser.specs.Sentence.{IsSentence, HasFault}
@@ -45,7 +46,12 @@ straight_or_fault source p tokens fault has cut found =
 
 -- a source has one tree at most
 one_tree : (source : List ℕ) (one other : Source) → IsTreeOf source one → IsTreeOf source other → one ≡ other
-one_tree source one other is was = ?
+one_tree source one other is was =
+    let same : is.tokens ≡ was.tokens = one_cut source is.tokens was.tokens is.cut was.cut in
+    let derived : syntax.HasTree was.tokens one = subst (λ ts. syntax.HasTree ts one) same is.derived in
+    let outcomes = total.decided derived.1 was.derived.1 in
+    let ends : ◌≡◌ {A = List whole.Value × Input} (whole.source one ∷ [], derived.0) (whole.source other ∷ [], was.derived.0) = cc in
+    let values : whole.source one ∷ [] ≡ whole.source other ∷ [] = ap (λ (end : List whole.Value × Input). end.0) ends in cc
 
 -- no source is accepted and broken
 pub accepted_or_broken : (source : List ℕ) (f : Refusal) → HasAccepted source → Breaks source f → ⊥

@@ -1,22 +1,22 @@
-use Rattle.std.proofs.Common.{refl}
+use Rattle.std.proofs.Common.{refl, sym, subst}
 use Rattle.par_grammar.specs.Derivation.{Syntax, TooDeep}
 use Rattle.par_parser.specs.Sentence.{HasFault}
+use Rattle.par_observer.specs.Judgements.{IsBrokenBy}
 use Rattle.par_observer.proofs.Unread.{without_sentence}
 use Rattle.par_observer.proofs.judge.read_sentence.Goals as goal
-use Rattle.par_observer.proofs.judge.read_sentence.Goals.{in-Ok, in-Err+in-Syntax, in-Err+in-TooDeep, in-Err+in-Memory}
 
-pub returns-clause-unread : goal.returns-clause-unread
-returns-clause-unread c = elim c.match-parse.branch [
-  | in-Ok w ↦ rw w.result-is tt
-  | in-Err+in-Syntax w ↦
-      let told = rw w.in-Syntax.is at w.in-Err.ensures.fault in
-      let found : HasFault c.args.tokens.now (Syntax w.in-Syntax.before) = told (λ memory. cc) in
-      rw w.result-is (without_sentence c.args.source.now c.args.tokens.now (Syntax w.in-Syntax.before) 10 w.position.result
-      c.requires.cut found refl w.position.ensures.exact w.position.ensures.within)
-  | in-Err+in-TooDeep w ↦
-      let told = rw w.in-TooDeep.is at w.in-Err.ensures.fault in
-      let found : HasFault c.args.tokens.now (TooDeep w.in-TooDeep.before) = told (λ memory. cc) in
-      rw w.result-is (without_sentence c.args.source.now c.args.tokens.now (TooDeep w.in-TooDeep.before) 11 w.position-in-TooDeep.result
-      c.requires.cut found refl w.position-in-TooDeep.ensures.exact w.position-in-TooDeep.ensures.within)
-  | in-Err+in-Memory w ↦ rw w.result-is tt
-]
+pub returns-in-Syntax-clause-unread : goal.returns-in-Syntax-clause-unread
+returns-in-Syntax-clause-unread c =
+    let told = rw c.in-Syntax.is at c.in-Err.ensures.fault in
+    let found : HasFault c.args.tokens.now (Syntax c.in-Syntax.before) = told (λ memory. cc) in
+    subst (IsBrokenBy c.args.source.now) (sym c.broken.ensures)
+    (without_sentence c.args.source.now c.args.tokens.now (Syntax c.in-Syntax.before) 10 c.position-at.result
+    c.requires.cut found refl c.position-at.ensures.exact c.position-at.ensures.within)
+
+pub returns-in-TooDeep-clause-unread : goal.returns-in-TooDeep-clause-unread
+returns-in-TooDeep-clause-unread c =
+    let told = rw c.in-TooDeep.is at c.in-Err.ensures.fault in
+    let found : HasFault c.args.tokens.now (TooDeep c.in-TooDeep.before) = told (λ memory. cc) in
+    subst (IsBrokenBy c.args.source.now) (sym c.broken-in-TooDeep.ensures)
+    (without_sentence c.args.source.now c.args.tokens.now (TooDeep c.in-TooDeep.before) 11 c.position-at-in-TooDeep.result
+    c.requires.cut found refl c.position-at-in-TooDeep.ensures.exact c.position-at-in-TooDeep.ensures.within)
