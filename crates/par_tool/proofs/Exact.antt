@@ -98,7 +98,7 @@ source_wants Accepts files file result seven accepts = record {
   overlong = λ h. wanting result 8 seven;
   there = λ source there. record {
     accepted = λ h. accepts;
-    refused = λ rule line column h. wanting result 1 seven;
+    refused = λ rule line column limit count h. wanting result 1 seven;
     not_built = λ h. wanting result 9 seven;
   };
 }

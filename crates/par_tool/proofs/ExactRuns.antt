@@ -53,7 +53,7 @@ module _ (files : Option Files) (before after : FolderCounts) (main inputs : Tex
   instead (BadInputs number) h = bad_line number refl h.1.0 h.1.1 h.1.2
   instead Accepted h = had Accepted h
   instead (Compiled many) h = had (Compiled many) h
-  instead (Refused rule line column) h = had (Refused rule line column) h
+  instead (Refused rule line column limit count) h = had (Refused rule line column limit count) h
   instead Usage h = had Usage h
   instead Absent h = had Absent h
   instead ReadFault h = had ReadFault h

@@ -7,11 +7,11 @@ use Rattle.par_lexer.specs.declared.cut.TheConstants.{LONGEST_SOURCE}
 use Rattle.par_tool.specs.declared.answer.Answer.{Answer}
 use Rattle.par_tool.specs.declared.answer.Answer.TheVariants.{Accepted, Compiled, Refused, Absent, ReadFault, WriteFault, TooLong, NotBuilt}
 use Rattle.par_tool.specs.Texts.{status}
-use Rattle.par_tool.specs.Judgements.{IsNotBuilt}
+use Rattle.par_observer.specs.Judgements.{HasAccepted, IsNotBuilt}
 use Rattle.par_tool.specs.Outside.{Text, NotRead, IsThere, IsMissing, IsOverlong}
 use Rattle.par_tool.specs.Sources.{IsBroken, IsAcceptedAs, ReadSource, ReadAccepted, Rejected, Checked, CompiledSo}
-use Rattle.par_tool.specs.Exactly.{IsSaidBy, HasAccepted, TellsSource}
-use Rattle.par_tool.proofs.Clashes.{accepted_or_broken, broken_or_not_built}
+use Rattle.par_tool.specs.Exactly.{IsSaidBy, TellsSource}
+use Rattle.par_observer.proofs.Clashes.{accepted_or_broken, broken_or_not_built}
 use Rattle.par_tool.proofs.Statuses.{IsNear, same, near_status, read_there, missing_read, overlong_read, missing_not_read, overlong_not_read, there_not_read}
 
 -- what an answer says of a source
@@ -19,7 +19,7 @@ abbrev Verdict : Text → Answer → Type 0
 Verdict source Accepted = HasAccepted source
 Verdict source (Compiled many) = HasAccepted source
 Verdict source WriteFault = HasAccepted source
-Verdict source (Refused rule line column) = IsBroken source rule line column
+Verdict source (Refused rule line column limit count) = IsBroken source rule line column limit count
 Verdict source NotBuilt = IsNotBuilt source
 Verdict source _ = ⊥
 
@@ -30,23 +30,23 @@ accepted_near : (source : Text) (a : Answer) → Verdict source a → HasAccepte
 accepted_near source Accepted v h = inl (same refl)
 accepted_near source (Compiled many) v h = inl (same refl)
 accepted_near source WriteFault v h = inr refl
-accepted_near source (Refused rule line column) v h = absurd (accepted_or_broken source rule v.at h v.breaks)
-accepted_near source NotBuilt v h = absurd (v.1 (h.0, h.1))
+accepted_near source (Refused rule line column limit count) v h = absurd (accepted_or_broken source v.refusal h v.breaks)
+accepted_near source NotBuilt v h = absurd (v.other (h.0, h.1))
 accepted_near source _ v h = absurd v
 
-refused_near : (source : Text) (a : Answer) → Verdict source a → (rule line column : ℕ) → IsBroken source rule line column → IsNear 1 a
-refused_near source Accepted v rule line column h = absurd (accepted_or_broken source rule h.at v h.breaks)
-refused_near source (Compiled many) v rule line column h = absurd (accepted_or_broken source rule h.at v h.breaks)
-refused_near source WriteFault v rule line column h = absurd (accepted_or_broken source rule h.at v h.breaks)
-refused_near source (Refused r l c) v rule line column h = same refl
-refused_near source NotBuilt v rule line column h = absurd (broken_or_not_built source rule h.at h.breaks v)
-refused_near source _ v rule line column h = absurd v
+refused_near : (source : Text) (a : Answer) → Verdict source a → (rule line column limit count : ℕ) → IsBroken source rule line column limit count → IsNear 1 a
+refused_near source Accepted v rule line column limit count h = absurd (accepted_or_broken source h.refusal v h.breaks)
+refused_near source (Compiled many) v rule line column limit count h = absurd (accepted_or_broken source h.refusal v h.breaks)
+refused_near source WriteFault v rule line column limit count h = absurd (accepted_or_broken source h.refusal v h.breaks)
+refused_near source (Refused r l c k n) v rule line column limit count h = same refl
+refused_near source NotBuilt v rule line column limit count h = absurd (broken_or_not_built source h.refusal h.breaks v)
+refused_near source _ v rule line column limit count h = absurd v
 
 other_near : (source : Text) (a : Answer) → Verdict source a → IsNotBuilt source → IsNear 9 a
-other_near source Accepted v h = absurd (h.1 (v.0, v.1))
-other_near source (Compiled many) v h = absurd (h.1 (v.0, v.1))
-other_near source WriteFault v h = absurd (h.1 (v.0, v.1))
-other_near source (Refused rule line column) v h = absurd (broken_or_not_built source rule v.at v.breaks h)
+other_near source Accepted v h = absurd (h.other (v.0, v.1))
+other_near source (Compiled many) v h = absurd (h.other (v.0, v.1))
+other_near source WriteFault v h = absurd (h.other (v.0, v.1))
+other_near source (Refused rule line column limit count) v h = absurd (broken_or_not_built source v.refusal v.breaks h)
 other_near source NotBuilt v h = same refl
 other_near source _ v h = absurd v
 
@@ -56,7 +56,7 @@ module _ (files : Option Files) (before after : FolderCounts) (file : Text) wher
   Found a = (ReadSource files file (λ source. Verdict source a)) ⊎ NotRead files before after LONGEST_SOURCE file a
 
   rejected_found : (a : Answer) → Rejected files before after file a → Found a
-  rejected_found (Refused rule line column) h = inl h
+  rejected_found (Refused rule line column limit count) h = inl h
   rejected_found NotBuilt h = inl h
   rejected_found Absent h = inr h
   rejected_found ReadFault h = inr h
@@ -68,7 +68,7 @@ module _ (files : Option Files) (before after : FolderCounts) (file : Text) wher
 
   pub checked_found : (a : Answer) → Checked files before after file a → Found a
   checked_found Accepted h = inl (read_accepted (λ p. Unit {0}) h)
-  checked_found (Refused rule line column) h = inl h
+  checked_found (Refused rule line column limit count) h = inl h
   checked_found NotBuilt h = inl h
   checked_found Absent h = inr h
   checked_found ReadFault h = inr h
@@ -82,7 +82,7 @@ module _ (files : Option Files) (before after : FolderCounts) (file : Text) wher
   pub compiled_found : (later : Option Files) (a : Answer) → CompiledSo files later before after file a → Found a
   compiled_found later (Compiled many) h = inl (read_accepted _ h.2)
   compiled_found later WriteFault h = inl (read_accepted _ h.2)
-  compiled_found later (Refused rule line column) h = inl h.2
+  compiled_found later (Refused rule line column limit count) h = inl h.2
   compiled_found later NotBuilt h = inl h.2
   compiled_found later Absent h = inr h.2
   compiled_found later ReadFault h = inr h.2
@@ -117,7 +117,7 @@ module _ (files : Option Files) (before after : FolderCounts) (file : Text) wher
     overlong = λ h. near_status 8 result a (overlong_near h a found) said;
     there = λ source there. record {
       accepted = λ h. accepts (accepted_there source there h a found);
-      refused = λ rule line column h. near_status 1 result a (there_near 1 source there a (λ v. refused_near source a v rule line column h) found) said;
+      refused = λ rule line column limit count h. near_status 1 result a (there_near 1 source there a (λ v. refused_near source a v rule line column limit count h) found) said;
       not_built = λ h. near_status 9 result a (there_near 9 source there a (λ v. other_near source a v h) found) said;
     };
   }

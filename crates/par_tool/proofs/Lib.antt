@@ -1,8 +1,5 @@
-pub mod Judging
 pub mod Ascii
 pub mod Statuses
-pub mod Unread
-pub mod Clashes
 pub mod ExactSources
 pub mod ExactRuns
 pub mod Exact

@@ -3,9 +3,6 @@ use Rattle.std.specs.Prelude.{◌≡◌, ℕ, ◌⊎◌, [], ◌∷◌, Option, 
 use Rattle.par_io.specs.Causes.{Files}
 use Rattle.par_values.specs.declared.inputs.Inputs.{Inputs}
 use Rattle.par_class.specs.declared.file.ClassFile.{ClassFile}
-use Rattle.par_straight.specs.declared.program.Program.{Program}
-use Rattle.par_straight.specs.Judged.{HasProgram}
-use Rattle.par_straight.specs.Rules.{IsAccepted}
 use Rattle.par_inputs.specs.Lines.{lines_of}
 use Rattle.par_inputs.specs.Rules.{entries, IsRight}
 use Rattle.par_machine.specs.Run.{machine_run}
@@ -14,7 +11,7 @@ use Rattle.par_words.specs.Words.{Wanted, Check, Compile, Run}
 use Rattle.par_lexer.specs.declared.cut.TheConstants.{LONGEST_SOURCE}
 use Rattle.par_inputs.specs.declared.read.TheConstants.{LONGEST_INPUTS}
 use Rattle.par_pool.specs.declared.reading.TheConstants.{LONGEST_CLASS}
-use Rattle.par_tool.specs.Judgements.{IsNotBuilt}
+use Rattle.par_observer.specs.Judgements.{HasAccepted, IsNotBuilt}
 use Rattle.par_tool.specs.Outside.{Text, IsThere, IsMissing, IsOverlong, class_file}
 use Rattle.par_tool.specs.Sources.{IsBroken}
 use Rattle.par_tool.specs.Classes.{IsAlone, IsBad, misfit_in}
@@ -38,15 +35,12 @@ Checks result = IsStatus result 0
 abbrev pub Compiles : ℕ → Type 0
 Compiles result = IsStatus result 0 ⊎ (result ≡ 5)
 
--- a straight-line source whose program is accepted
-abbrev pub HasAccepted : Text → Type 0
-HasAccepted source = (p : Program) × HasProgram source p × IsAccepted p
-
--- Which status a call on a source has: 1 where a rule is broken, 9 where it is a sentence and no
--- straight-line source, and what the call makes of an accepted one.
+-- Which status a call on a source has: 1 where a rule is broken, 9 where it is a sentence whose names
+-- and limits are right and no straight-line source, and what the call makes of an accepted one.
 pub record Judges (Accepts : ℕ → Type 0) (source : Text) (result : ℕ) : Type 0 where
   pub accepted : HasAccepted source → Accepts result
-  pub refused : (rule line column : ℕ) → IsBroken source rule line column → IsStatus result 1
+  pub refused : (rule line column limit count : ℕ) → IsBroken source rule line column limit count
+      → IsStatus result 1
   pub not_built : IsNotBuilt source → IsStatus result 9
 
 -- Which status it has where the folder tells of the source: 3 where its file is missing, 8 where it

@@ -19,17 +19,21 @@ use Rattle.par_lexer.specs.declared.cut.TheConstants.{LONGEST_SOURCE}
 use Rattle.par_pool.specs.declared.reading.TheConstants.{LONGEST_CLASS}
 use Rattle.par_tool.specs.declared.answer.Answer.{Answer}
 use Rattle.par_tool.specs.declared.answer.Answer.TheVariants.{Accepted, Compiled, Refused, WriteFault, NotBuilt}
-use Rattle.par_tool.specs.Judgements.{Breaks, IsNotBuilt}
+use Rattle.par_typed.specs.declared.refusal.Refusal.{Refusal}
+use Rattle.par_observer.specs.Judgements.{Breaks, IsNotBuilt}
 use Rattle.par_tool.specs.Outside.{Text, WasRead, NotRead, class_file}
 
--- The rule is broken at the place that has this line and this column; the end of the source may be
--- that place.
-pub record IsBroken (source : Text) (rule line column : ℕ) : Type 0 where
-  pub at : ℕ
-  pub breaks : Breaks source rule at
-  pub within : at ≤ length source
-  pub line_is : line ≡ line_at source at
-  pub column_is : column ≡ column_at source at
+-- The source is refused by this rule at the place that has this line and this column, with this
+-- limit and this count; the end of the source may be that place.
+pub record IsBroken (source : Text) (rule line column limit count : ℕ) : Type 0 where
+  pub refusal : Refusal
+  pub breaks : Breaks source refusal
+  pub within : refusal.at ≤ length source
+  pub rule_is : rule ≡ refusal.rule
+  pub line_is : line ≡ line_at source refusal.at
+  pub column_is : column ≡ column_at source refusal.at
+  pub limit_is : limit ≡ refusal.limit
+  pub count_is : count ≡ refusal.count
 
 -- the source is a straight-line one, and this is its program, which passes every rule and is secure
 pub record IsAcceptedAs (source : Text) (p : Program) : Type 0 where
@@ -39,7 +43,8 @@ pub record IsAcceptedAs (source : Text) (p : Program) : Type 0 where
 
 -- what is said of a source that is not accepted
 abbrev pub IsUnaccepted : Text → Answer → Type 0
-IsUnaccepted source (Refused rule line column) = IsBroken source rule line column
+IsUnaccepted source (Refused rule line column limit count) =
+    IsBroken source rule line column limit count
 IsUnaccepted source NotBuilt = IsNotBuilt source
 IsUnaccepted source _ = ⊥
 
@@ -50,8 +55,8 @@ ReadSource files file P = (source : Text) × WasRead files LONGEST_SOURCE file s
 -- Why a source in a file has no accepted program.
 module _ (files : Option Files) (before after : FolderCounts) (file : Text) where
   abbrev pub Rejected : Answer → Type 0
-  Rejected (Refused rule line column) =
-      ReadSource files file (λ source. IsBroken source rule line column)
+  Rejected (Refused rule line column limit count) =
+      ReadSource files file (λ source. IsBroken source rule line column limit count)
   Rejected NotBuilt = ReadSource files file IsNotBuilt
   Rejected answer = NotRead files before after LONGEST_SOURCE file answer
 

@@ -1,13 +1,14 @@
 -- The status and the line of each answer.
-use Rattle.std.specs.Prelude.{ℕ, Bool, true, false, List, ◌++◌, codes}
+use Rattle.std.specs.Prelude.{ℕ, Bool, true, false, nat_eq, if◌then◌else◌, List, ◌++◌, codes}
 use Rattle.std.specs.Fmt.{decimal}
+use Rattle.par_typed.specs.declared.refusal.TheConstants.{LIMIT_RULE}
 use Rattle.par_tool.specs.declared.answer.Answer.{Answer}
 use Rattle.par_tool.specs.declared.answer.Answer.TheVariants.{Accepted, Compiled, Refused, Usage, Absent, ReadFault, WriteFault, TooLong, NotBuilt, BadInputs}
 
 abbrev pub status : Answer → ℕ
 status Accepted = 0
 status (Compiled files) = 0
-status (Refused rule line column) = 1
+status (Refused rule line column limit count) = 1
 status Usage = 2
 status Absent = 3
 status ReadFault = 4
@@ -26,6 +27,12 @@ refused_text rule line column =
     codes "refused " ++ (decimal rule
     ++ (codes " at " ++ (decimal line ++ (codes ":" ++ (decimal column ++ codes "\n")))))
 
+-- the place at which a limit is exceeded, its number and the count
+abbrev pub exceeded_text : ℕ → ℕ → ℕ → ℕ → List ℕ
+exceeded_text line column limit count =
+    codes "refused 106 at " ++ (decimal line ++ (codes ":" ++ (decimal column
+    ++ (codes " limit " ++ (decimal limit ++ (codes " count " ++ (decimal count ++ codes "\n")))))))
+
 -- the line of an input file that is wrong
 abbrev pub inputs_text : ℕ → List ℕ
 inputs_text line = codes "bad inputs line " ++ (decimal line ++ codes "\n")
@@ -34,7 +41,9 @@ inputs_text line = codes "bad inputs line " ++ (decimal line ++ codes "\n")
 abbrev pub text : Answer → List ℕ
 text Accepted = codes "accepted\n"
 text (Compiled files) = compiled_text files
-text (Refused rule line column) = refused_text rule line column
+text (Refused rule line column limit count) =
+    if nat_eq rule LIMIT_RULE then exceeded_text line column limit count
+    else refused_text rule line column
 text Usage = codes "usage\n"
 text Absent = codes "absent\n"
 text ReadFault = codes "read fault\n"

@@ -7,6 +7,7 @@ ghost use Rattle.par_tool.specs.Texts as spec;
 ghost use Rattle.par_tool.specs.Texts.{status, text, is_fault};
 
 use par_io::Sink;
+use par_typed::refusal::LIMIT_RULE;
 use std::alloc::{AllocError, Global};
 
 /// An answer of one line. A run is told by the lines of its events and its ending; want of memory
@@ -17,8 +18,15 @@ pub enum Answer {
     Accepted,
     /// The source is accepted, and so many class files are written.
     Compiled(u32),
-    /// The source breaks a rule at a line and a column, both counted from 1.
-    Refused { rule: u16, line: u32, column: u32 },
+    /// The source breaks a rule at a line and a column, both counted from 1. The limit and the count
+    /// are 0 but for an exceeded limit.
+    Refused {
+        rule: u16,
+        line: u32,
+        column: u32,
+        limit: u8,
+        count: u32,
+    },
     /// The words are of none of the forms.
     Usage,
     /// A file is absent.
@@ -81,8 +89,19 @@ fn line_of(alloc: Global, answer: Answer) -> Result<Line, AllocError>
     match answer {
         Answer::Accepted => Ok(Line::Fixed(b"accepted\n")),
         Answer::Compiled(files) => Ok(Line::Made(compiled_line(alloc, files)?)),
-        Answer::Refused { rule, line, column } => {
-            Ok(Line::Made(refused_line(alloc, rule, line, column)?))
+        Answer::Refused {
+            rule,
+            line,
+            column,
+            limit,
+            count,
+        } => {
+            let text = if rule == LIMIT_RULE {
+                exceeded_line(alloc, line, column, limit, count)?
+            } else {
+                refused_line(alloc, rule, line, column)?
+            };
+            Ok(Line::Made(text))
         }
         Answer::Usage => Ok(Line::Fixed(b"usage\n")),
         Answer::Absent => Ok(Line::Fixed(b"absent\n")),
@@ -104,6 +123,19 @@ fn refused_line(alloc: Global, rule: u16, line: u32, column: u32) -> Result<Stri
     ensures { IfOk result (λ text. string_bytes text ≡ spec.refused_text rule line column) }
 {
     format!(in alloc; "refused {rule} at {line}:{column}\n")
+}
+
+fn exceeded_line(
+    alloc: Global,
+    line: u32,
+    column: u32,
+    limit: u8,
+    count: u32,
+) -> Result<String, AllocError>
+    ensures { IfOk result (λ text.
+        string_bytes text ≡ spec.exceeded_text line column limit count) }
+{
+    format!(in alloc; "refused 106 at {line}:{column} limit {limit} count {count}\n")
 }
 
 fn inputs_line(alloc: Global, line: u32) -> Result<String, AllocError>

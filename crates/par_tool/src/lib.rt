@@ -7,7 +7,6 @@
 
 pub mod answer;
 mod classes;
-pub mod judge;
 mod naming;
 mod reading;
 mod sources;

@@ -8,11 +8,11 @@ ghost use Rattle.par_tool.specs.Outside.{Text, MakesAtMost};
 ghost use Rattle.par_tool.specs.Sources.{IsAcceptedAs, ReadSource, Rejected, Checked, CompiledSo, IsUnaccepted, IsClassOf};
 
 use crate::answer::Answer;
-use crate::judge::{Judgement, judge};
 use crate::naming::{class_file_name, text_of};
 use crate::reading::{Failure, read};
 use par_io::{Folder, WriteFail};
 use par_lexer::{LONGEST_SOURCE, place_of};
+use par_observer::judge::{Judgement, judge};
 use par_straight::program::Program;
 use par_straight_compile::compile;
 use std::alloc::{AllocError, Global};
@@ -25,9 +25,15 @@ fn accepted(alloc: Global, source: &[u8]) -> Result<Program, Failure>
 {
     match judge(alloc, source)? {
         Judgement::Accepted(program) => Ok(program),
-        Judgement::Broken { rule, at } => {
-            let (line, column) = place_of(source, at);
-            Err(Failure::Answered(Answer::Refused { rule, line, column }))
+        Judgement::Broken(refusal) => {
+            let (line, column) = place_of(source, refusal.at);
+            Err(Failure::Answered(Answer::Refused {
+                rule: refusal.rule,
+                line,
+                column,
+                limit: refusal.limit,
+                count: refusal.count,
+            }))
         }
         Judgement::NotBuilt => Err(Failure::Answered(Answer::NotBuilt)),
     }

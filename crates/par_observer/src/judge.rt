@@ -1,16 +1,19 @@
-//! The judgement of a source: its tokens and its sentence, by the whole grammar, and what a
-//! straight-line one means.
+//! The judgement of a source: its tokens and its sentence, by the whole grammar, its names, and what
+//! a straight-line one means.
 
-ghost use Rattle.std.specs.Prelude.{◌≡◌, ◌≤◌, IfOk, IfErr, IsOk, MatchOption, length};
+ghost use Rattle.std.specs.Prelude.{◌≡◌, ◌≤◌, IfOk, IfErr, MatchOption, length};
 ghost use Rattle.par_lexer.specs.Spans.{IsLaid};
 ghost use Rattle.par_lexer.specs.Tokens.{HasTokens};
-ghost use Rattle.par_parser.specs.Sentence.{IsSentence, place_of};
-ghost use Rattle.par_straight.specs.declared.tree.Source.{Source as Tree};
+ghost use Rattle.par_tree.specs.Shown.{source as tree_of_program};
+ghost use Rattle.par_parser.specs.Sentence.{place_of};
+ghost use Rattle.par_parser.specs.Sentence as syntax;
+ghost use Rattle.par_straight.specs.declared.tree.Source.{Source as StraightTree};
 ghost use Rattle.par_straight.specs.Sentence.{HasTree};
 ghost use Rattle.par_straight.specs.Names.{numbered};
 ghost use Rattle.par_straight.specs.Judged.{HasProgram, IsStraight, IsStraightLine};
-ghost use Rattle.par_tool.specs.Judgements.{IsJudgement, IsUnread};
-ghost use Rattle.par_tool.specs.Outside.{Text};
+ghost use Rattle.par_typed.specs.First.{broken};
+ghost use Rattle.par_observer.specs.Judgements.{IsJudgement, IsNamed, IsUnread};
+ghost use Rattle.std.specs.Prelude.{List as Items, ℕ};
 
 use par_lexer::list::{List, NoMemory};
 use par_lexer::token::{LexError, Token};
@@ -22,6 +25,9 @@ use par_straight_check::check::check;
 use par_straight_names::resolve::{ResolveError, resolve};
 use par_straight_reader::cursor::ParseError as StraightError;
 use par_straight_reader::reader::parse as parse_straight;
+use par_table::first_broken_name;
+use par_tree::decl::Program as Tree;
+use par_typed::refusal::Refusal;
 use std::alloc::Global;
 
 // The rules on the tokens of a source, by their numbers.
@@ -44,8 +50,8 @@ pub enum Judgement {
     /// It is a straight-line source, whose program passes every rule.
     Accepted(Program),
     /// It breaks a rule at a place, an offset into the source that is at most its length.
-    Broken { rule: u16, at: u32 },
-    /// It is a sentence, and no straight-line source.
+    Broken(Refusal),
+    /// It is a sentence whose names are right, and no straight-line source.
     NotBuilt,
 }
 
@@ -53,17 +59,29 @@ pub enum Judgement {
 #[derive(Clone, Copy)]
 pub enum Unread {
     /// It has no tokens, or they are no sentence.
-    Broken { rule: u16, at: u32 },
+    Broken(Refusal),
     Memory,
 }
 
 impl From<NoMemory> for Unread {
-    ghost use Rattle.par_tool.specs.declared.judge.Unread.TheVariants.{Memory};
+    ghost use Rattle.par_observer.specs.declared.judge.Unread.TheVariants.{Memory};
 
     ghost from_gives = { λ _ error. error ≡ Memory };
 
     fn from(_: NoMemory) -> Unread {
         Unread::Memory
+    }
+}
+
+/// The refusal by a rule that has no limit.
+fn broken(rule: u16, at: u32) -> Refusal
+    ensures { result ≡ broken rule at }
+{
+    Refusal {
+        rule,
+        at,
+        limit: 0,
+        count: 0,
     }
 }
 
@@ -75,7 +93,7 @@ pub fn judge(alloc: Global, source: &[u8]) -> Result<Judgement, NoMemory>
     match read_and_judge(alloc, source) {
         Ok(judgement) => Ok(judgement),
         Err(unread) => match unread {
-            Unread::Broken { rule, at } => Ok(Judgement::Broken { rule, at }),
+            Unread::Broken(refusal) => Ok(Judgement::Broken(refusal)),
             Unread::Memory => Err(NoMemory),
         },
     }
@@ -89,8 +107,8 @@ fn read_and_judge(alloc: Global, source: &[u8]) -> Result<Judgement, Unread>
 {
     let tokens = tokens_of(alloc, source)?;
     let tokens = tokens.as_slice();
-    read_sentence(alloc, source, tokens)?;
-    Ok(judge_sentence(alloc, tokens)?)
+    let tree = read_sentence(alloc, source, tokens)?;
+    Ok(judge_sentence(alloc, tokens, &tree)?)
 }
 
 /// The tokens of a source, or why it has none.
@@ -103,44 +121,35 @@ fn tokens_of(alloc: Global, source: &[u8]) -> Result<List<Token>, Unread>
     match lex(alloc, source) {
         Ok(tokens) => Ok(tokens),
         Err(error) => match error {
-            LexError::BadByte(at) => Err(Unread::Broken { rule: BAD_BYTE, at }),
-            LexError::NumberTooLarge(at) => Err(Unread::Broken {
-                rule: NUMBER_TOO_LARGE,
-                at,
-            }),
-            LexError::OpenComment(at) => Err(Unread::Broken {
-                rule: OPEN_COMMENT,
-                at,
-            }),
-            LexError::NameTooLong(at) => Err(Unread::Broken {
-                rule: NAME_TOO_LONG,
-                at,
-            }),
+            LexError::BadByte(at) => Err(Unread::Broken(broken(BAD_BYTE, at))),
+            LexError::NumberTooLarge(at) => Err(Unread::Broken(broken(NUMBER_TOO_LARGE, at))),
+            LexError::OpenComment(at) => Err(Unread::Broken(broken(OPEN_COMMENT, at))),
+            LexError::NameTooLong(at) => Err(Unread::Broken(broken(NAME_TOO_LONG, at))),
             LexError::SourceTooLong(_) => unreachable!(),
             LexError::Memory => Err(Unread::Memory),
         },
     }
 }
 
-/// Sees that the tokens of a source are a sentence.
-fn read_sentence(alloc: Global, source: &[u8], tokens: &[Token]) -> Result<(), Unread>
+/// The tree of the tokens of a source, or why they are no sentence.
+fn read_sentence(alloc: Global, source: &[u8], tokens: &[Token]) -> Result<Tree, Unread>
     requires short { length source.now ≤ LONGEST_SOURCE }
     requires cut { HasTokens source.now tokens.now }
     requires laid { IsLaid source.now tokens.now }
-    ensures sentence { IsOk result → IsSentence tokens.now }
+    ensures sentence { IfOk result (λ tree. syntax.HasTree tokens.now (tree_of_program tree)) }
     ensures unread { IfErr result (IsUnread source.now) }
 {
     match parse(alloc, tokens) {
-        Ok(_) => Ok(()),
+        Ok(tree) => Ok(tree),
         Err(error) => match error {
-            ParseError::Syntax(before) => Err(Unread::Broken {
-                rule: SYNTAX,
-                at: position(source, tokens, before),
-            }),
-            ParseError::TooDeep(before) => Err(Unread::Broken {
-                rule: TOO_DEEP,
-                at: position(source, tokens, before),
-            }),
+            ParseError::Syntax(before) => {
+                let at = position(source, tokens, before);
+                Err(Unread::Broken(broken(SYNTAX, at)))
+            }
+            ParseError::TooDeep(before) => {
+                let at = position(source, tokens, before);
+                Err(Unread::Broken(broken(TOO_DEEP, at)))
+            }
             ParseError::Memory => Err(Unread::Memory),
         },
     }
@@ -159,23 +168,30 @@ fn position(source: &[u8], tokens: &[Token], before: u32) -> u32
     }
 }
 
-/// What is said of a source whose tokens are a sentence.
-fn judge_sentence(alloc: Global, tokens: &[Token]) -> Result<Judgement, NoMemory>
+/// What is said of a source whose tokens are a sentence with this tree.
+fn judge_sentence(alloc: Global, tokens: &[Token], tree: &Tree) -> Result<Judgement, NoMemory>
     requires short { length tokens.now ≤ LONGEST_SOURCE }
-    requires sentence { IsSentence tokens.now }
-    ensures { IfOk result (λ judgement.
-        (source : Text) → HasTokens source tokens.now → IsJudgement source judgement) }
+    requires sentence { syntax.HasTree tokens.now (tree_of_program tree.now) }
+    ensures { IfOk result (λ judgement. (source : Items ℕ) →
+        HasTokens source tokens.now → IsLaid source tokens.now → IsJudgement source judgement) }
 {
     let Some(program) = program_of(alloc, tokens)? else {
-        return Ok(Judgement::NotBuilt);
+        return judge_names(alloc, tree);
     };
     match check(alloc, &program) {
         Ok(None) => Ok(Judgement::Accepted(program)),
-        Ok(Some(broken)) => Ok(Judgement::Broken {
-            rule: broken.rule,
-            at: broken.at,
-        }),
+        Ok(Some(failed)) => Ok(Judgement::Broken(broken(failed.rule, failed.at))),
         Err(_) => Err(NoMemory),
+    }
+}
+
+/// What is said of the names of a tree.
+fn judge_names(alloc: Global, tree: &Tree) -> Result<Judgement, NoMemory>
+    ensures { IfOk result (IsNamed (tree_of_program tree.now)) }
+{
+    match first_broken_name(alloc, tree)? {
+        None => Ok(Judgement::NotBuilt),
+        Some(refusal) => Ok(Judgement::Broken(refusal)),
     }
 }
 
@@ -183,7 +199,7 @@ fn judge_sentence(alloc: Global, tokens: &[Token]) -> Result<Judgement, NoMemory
 fn program_of(alloc: Global, tokens: &[Token]) -> Result<Option<Program>, NoMemory>
     requires { length tokens.now ≤ LONGEST_SOURCE }
     ensures { IfOk result (λ found.
-        (source : Text) → HasTokens source tokens.now →
+        (source : Items ℕ) → HasTokens source tokens.now →
         MatchOption found (IsStraightLine source → ⊥) (HasProgram source)) }
 {
     let Some(tree) = tree_of(alloc, tokens)? else {
@@ -196,7 +212,7 @@ fn program_of(alloc: Global, tokens: &[Token]) -> Result<Option<Program>, NoMemo
 fn tree_of(alloc: Global, tokens: &[Token]) -> Result<Option<Source>, NoMemory>
     requires { length tokens.now ≤ LONGEST_SOURCE }
     ensures { IfOk result (λ found. MatchOption found
-        ((tree : Tree) → HasTree tokens.now tree → ⊥)
+        ((tree : StraightTree) → HasTree tokens.now tree → ⊥)
         (HasTree tokens.now)) }
 {
     match parse_straight(alloc, tokens) {

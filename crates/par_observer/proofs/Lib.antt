@@ -1,0 +1,4 @@
+pub mod Judging
+pub mod Unread
+pub mod Named
+pub mod Clashes
