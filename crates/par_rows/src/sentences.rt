@@ -33,13 +33,16 @@ const FORMS: &[(&str, Answer)] = &[
     ("f()().g;", ("refused 10 at 8:4\n", 1)),
     ("f(1,);", ("refused 10 at 8:5\n", 1)),
     ("f(,1);", ("refused 10 at 8:3\n", 1)),
-    ("f().g.h(2).i = 3;", NOT_BUILT),
-    ("this.f = this.g().h;", NOT_BUILT),
+    ("f().g.h(2).i = 3;", ("refused 101 at 8:1\n", 1)),
+    ("this.f = this.g().h;", ("refused 101 at 8:1\n", 1)),
     ("int x = a.b(c, d)[0];", ("refused 1 at 8:18\n", 1)),
     ("int x = new Item;", ("refused 10 at 8:17\n", 1)),
     ("int x = 1 >> > 2;", ("refused 10 at 8:14\n", 1)),
     ("int x = 1 >>> 2;", NOT_BUILT),
-    ("boolean b = !(1 < 2) == true && x || y;", NOT_BUILT),
+    (
+        "boolean b = !(1 < 2) == true && x || y;",
+        ("refused 101 at 8:33\n", 1),
+    ),
     ("while true { }", ("refused 10 at 8:7\n", 1)),
     ("for (;;) { }", ("refused 10 at 8:6\n", 1)),
     ("break; continue;", NOT_BUILT),
@@ -56,14 +59,18 @@ const DECLARED: &[(usize, &str, Answer)] = &[
     (6, "?_ static void f() { }", ("refused 10 at 6:11\n", 1)),
     (6, "?_ got;", ("refused 10 at 6:7\n", 1)),
     (2, "lock Paid ?bottom;", NOT_BUILT),
-    (2, "lock Paid(actor, actor);", NOT_BUILT),
+    (2, "lock Paid(actor, actor);", ("refused 104 at 4:16\n", 1)),
     (
         2,
         "lock Paid(actor, actor, actor);",
         ("refused 10 at 2:23\n", 1),
     ),
     (2, "lock Paid ?;", ("refused 10 at 2:12\n", 1)),
-    (2, "policy P = {alice:} * bottom * top;", NOT_BUILT),
+    (
+        2,
+        "policy P = {alice:} * bottom * top;",
+        ("refused 101 at 4:16\n", 1),
+    ),
     (
         2,
         "policy P = {alice:} + bottom;",
@@ -82,7 +89,7 @@ const DECLARED: &[(usize, &str, Answer)] = &[
     (
         6,
         "int f(notnull Item x, ?top boolean b) ~Paid +Paid -Paid throws Bad top !top { return 1; }",
-        NOT_BUILT,
+        ("refused 101 at 6:15\n", 1),
     ),
     (
         6,
@@ -132,7 +139,7 @@ const CUT: &[(&str, Answer)] = &[
         ("refused 10 at 1:38\n", 1),
     ),
     ("/*", ("refused 3 at 1:1\n", 1)),
-    ("actor alice; // end", NOT_BUILT),
+    ("actor alice; // end", ("refused 105 at 1:1\n", 1)),
     (
         "class Shop { void f() { while (true) {",
         ("refused 10 at 1:39\n", 1),

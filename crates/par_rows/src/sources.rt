@@ -5,26 +5,46 @@ use std::alloc::Global;
 use std::test::Fail;
 
 const DECLARATIONS: &[(usize, &str, Answer)] = &[
-    (1, "actor alice;", NOT_BUILT),
-    (1, "actor alice, bob, alice;", NOT_BUILT),
+    (1, "actor alice;", ("refused 103 at 4:11\n", 1)),
+    (1, "actor alice, bob, alice;", ("refused 102 at 1:19\n", 1)),
     (1, "actor alice bob;", ("refused 10 at 1:13\n", 1)),
-    (1, "", NOT_BUILT),
+    (1, "", ("refused 103 at 4:3\n", 1)),
     (2, "lock Paid, Gold;", ("refused 10 at 2:10\n", 1)),
-    (2, "lock Paid; lock Paid;", NOT_BUILT),
+    (2, "lock Paid; lock Paid;", ("refused 102 at 2:17\n", 1)),
     (2, "lock Paid; lock Gold;", ACCEPTED),
-    (2, "lock Paid(actor);", NOT_BUILT),
-    (2, "lock Gold;", NOT_BUILT),
+    (2, "lock Paid(actor);", ("refused 104 at 4:16\n", 1)),
+    (2, "lock Gold;", ("refused 101 at 4:16\n", 1)),
     // names of different kinds may be the same
     (2, "lock Paid; lock alice;", ACCEPTED),
     (3, "class alice {", ACCEPTED),
-    (3, "class ArithmeticException {", NOT_BUILT),
-    (3, "class NullPointerException {", NOT_BUILT),
+    (
+        3,
+        "class ArithmeticException {",
+        ("refused 102 at 3:7\n", 1),
+    ),
+    (
+        3,
+        "class NullPointerException {",
+        ("refused 102 at 3:7\n", 1),
+    ),
     (3, "class Exception {", ("refused 10 at 3:7\n", 1)),
     (3, "class Shop ?top {", NOT_BUILT),
-    (7, "static void other() !bottom {", NOT_BUILT),
+    (
+        7,
+        "static void other() !bottom {",
+        ("refused 105 at 1:1\n", 1),
+    ),
     (7, "static void main() {", NOT_BUILT),
-    (7, "static int main() !bottom {", NOT_BUILT),
-    (7, "static void main(int x) !bottom {", NOT_BUILT),
+    (
+        7,
+        "static int main() !bottom {",
+        ("refused 105 at 7:12\n", 1),
+    ),
+    (
+        7,
+        "static void main(int x) !bottom {",
+        ("refused 105 at 7:13\n", 1),
+    ),
     (7, "static void main() !top {", NOT_BUILT),
     (10, "", ("refused 10 at 11:1\n", 1)),
     (10, "} }", ("refused 10 at 10:3\n", 1)),
@@ -39,8 +59,12 @@ fn declarations_are_read(rt: HostRuntime) -> Result<(), Fail> {
 }
 
 const MEMBERS: &[(usize, &str, Answer)] = &[
-    (4, "?{alice:; bob: Gold} input int key();", NOT_BUILT),
-    (4, "?{carol:} input int key();", NOT_BUILT),
+    (
+        4,
+        "?{alice:; bob: Gold} input int key();",
+        ("refused 101 at 4:16\n", 1),
+    ),
+    (4, "?{carol:} input int key();", ("refused 103 at 4:3\n", 1)),
     (
         4,
         "?{alice:;} input int key();",
@@ -60,8 +84,16 @@ const MEMBERS: &[(usize, &str, Answer)] = &[
     (4, "?{} input int key();", ACCEPTED),
     (4, "?bottom input int key();", NOT_BUILT),
     (4, "input int key();", NOT_BUILT),
-    (4, "?{alice:} input int show();", NOT_BUILT),
-    (4, "?{alice:} input int main();", NOT_BUILT),
+    (
+        4,
+        "?{alice:} input int show();",
+        ("refused 102 at 5:29\n", 1),
+    ),
+    (
+        4,
+        "?{alice:} input int main();",
+        ("refused 102 at 7:13\n", 1),
+    ),
     (
         4,
         "?{alice:} input void key();",
@@ -86,7 +118,7 @@ const MEMBERS: &[(usize, &str, Answer)] = &[
     (
         6,
         "?{alice:} static int got; ?{bob:} static int got;",
-        NOT_BUILT,
+        ("refused 102 at 6:46\n", 1),
     ),
     (
         6,
@@ -105,9 +137,9 @@ fn members_are_read(rt: HostRuntime) -> Result<(), Fail> {
 }
 
 const WITHOUT_A_CLASS: &[(&str, Answer)] = &[
-    ("", NOT_BUILT),
-    ("// nothing\n", NOT_BUILT),
-    ("actor alice;", NOT_BUILT),
+    ("", ("refused 105 at 1:1\n", 1)),
+    ("// nothing\n", ("refused 105 at 1:1\n", 1)),
+    ("actor alice;", ("refused 105 at 1:1\n", 1)),
     ("#", ("refused 1 at 1:1\n", 1)),
     ("show(1);", ("refused 10 at 1:1\n", 1)),
 ];
