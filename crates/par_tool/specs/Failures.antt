@@ -3,6 +3,9 @@ use Rattle.std.specs.Prelude.{◌≡◌, ℕ, Result, Ok, Err}
 use Rattle.std.specs.Bool.{OnFalse}
 use Rattle.par_io.specs.Causes.{FolderCounts, Makes}
 use Rattle.par_tool.specs.declared.answer.Answer.{Answer}
+use Rattle.par_loader.specs.declared.error.Unloaded.{Unloaded}
+use Rattle.par_loader.specs.declared.error.Unloaded.TheVariants as unloaded
+use Rattle.par_tool.specs.declared.answer.Answer.TheVariants.{Absent, TooLong, ReadFault, BadClass}
 use Rattle.par_tool.specs.declared.reading.Failure.{Failure}
 use Rattle.par_tool.specs.declared.reading.Failure.TheVariants.{Answered, Memory}
 use Rattle.par_tool.specs.Outside.{MakesAtMost}
@@ -26,3 +29,11 @@ abbrev pub FaultsAreTold : {A : Type 0} → Result A Failure → (before after :
 FaultsAreTold (Ok value) before after = after ≡ before
 FaultsAreTold (Err (Answered answer)) before after = OnFalse (is_fault answer) (after ≡ before)
 FaultsAreTold (Err Memory) before after = after ≡ before
+
+-- what is answered where a class has no files that link
+abbrev pub failure_of : Unloaded → Failure
+failure_of unloaded.Absent = Answered Absent
+failure_of unloaded.TooLong = Answered TooLong
+failure_of unloaded.Failed = Answered ReadFault
+failure_of (unloaded.BadClass class number value) = Answered (BadClass class number value)
+failure_of unloaded.Memory = Memory

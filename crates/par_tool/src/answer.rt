@@ -7,11 +7,13 @@ ghost use Rattle.par_tool.specs.Texts as spec;
 ghost use Rattle.par_tool.specs.Texts.{status, text, is_fault};
 
 use par_io::Sink;
+use par_lexer::name::Name;
+use par_loader::text_of;
 use std::alloc::{AllocError, Global};
 
 /// An answer of one line. A run is told by the lines of its events and its ending; want of memory
 /// and a failed put have no line.
-#[derive(Clone, Copy, Debug)]
+#[derive(Drop)]
 pub enum Answer {
     /// The source is accepted.
     Accepted,
@@ -31,13 +33,19 @@ pub enum Answer {
     TooLong,
     /// The source, or the class file, is of a form that is not built yet.
     NotBuilt,
+    /// A class file is refused: the class, the number of the refusal, and what it carries.
+    BadClass {
+        class: Name,
+        number: u16,
+        value: u32,
+    },
     /// A line of the input file, counted from 1, is wrong.
     BadInputs(u32),
 }
 
 /// The status of an answer.
-pub fn status_of(answer: Answer) -> u8
-    ensures { result ≡ status answer }
+pub fn status_of(answer: &Answer) -> u8
+    ensures { result ≡ status answer.now }
 {
     match answer {
         Answer::Accepted => 0,
@@ -49,6 +57,7 @@ pub fn status_of(answer: Answer) -> u8
         Answer::WriteFault => 5,
         Answer::TooLong => 8,
         Answer::NotBuilt => 9,
+        Answer::BadClass { .. } => 12,
         Answer::BadInputs(_) => 13,
     }
 }
@@ -74,15 +83,15 @@ impl Line {
 }
 
 /// The line of an answer. That of a fault takes no memory.
-fn line_of(alloc: Global, answer: Answer) -> Result<Line, AllocError>
-    ensures line { IfOk result (λ line. bytes_of line ≡ text answer) }
-    ensures firm { IsTrue (is_fault answer) → IsOk result }
+fn line_of(alloc: Global, answer: &Answer) -> Result<Line, AllocError>
+    ensures line { IfOk result (λ line. bytes_of line ≡ text answer.now) }
+    ensures firm { IsTrue (is_fault answer.now) → IsOk result }
 {
     match answer {
         Answer::Accepted => Ok(Line::Fixed(b"accepted\n")),
-        Answer::Compiled(files) => Ok(Line::Made(compiled_line(alloc, files)?)),
+        Answer::Compiled(files) => Ok(Line::Made(compiled_line(alloc, *files)?)),
         Answer::Refused { rule, line, column } => {
-            Ok(Line::Made(refused_line(alloc, rule, line, column)?))
+            Ok(Line::Made(refused_line(alloc, *rule, *line, *column)?))
         }
         Answer::Usage => Ok(Line::Fixed(b"usage\n")),
         Answer::Absent => Ok(Line::Fixed(b"absent\n")),
@@ -90,7 +99,12 @@ fn line_of(alloc: Global, answer: Answer) -> Result<Line, AllocError>
         Answer::WriteFault => Ok(Line::Fixed(b"write fault\n")),
         Answer::TooLong => Ok(Line::Fixed(b"too long\n")),
         Answer::NotBuilt => Ok(Line::Fixed(b"not built\n")),
-        Answer::BadInputs(line) => Ok(Line::Made(inputs_line(alloc, line)?)),
+        Answer::BadClass {
+            class,
+            number,
+            value,
+        } => Ok(Line::Made(class_line(alloc, class, *number, *value)?)),
+        Answer::BadInputs(line) => Ok(Line::Made(inputs_line(alloc, *line)?)),
     }
 }
 
@@ -106,6 +120,13 @@ fn refused_line(alloc: Global, rule: u16, line: u32, column: u32) -> Result<Stri
     format!(in alloc; "refused {rule} at {line}:{column}\n")
 }
 
+fn class_line(alloc: Global, class: &Name, number: u16, value: u32) -> Result<String, AllocError>
+    ensures { IfOk result (λ text. string_bytes text ≡ spec.class_text class.now number value) }
+{
+    let class = text_of(class.bytes());
+    format!(in alloc; "bad class {class} {number} {value}\n")
+}
+
 fn inputs_line(alloc: Global, line: u32) -> Result<String, AllocError>
     ensures { IfOk result (λ text. string_bytes text ≡ spec.inputs_text line) }
 {
@@ -119,11 +140,11 @@ pub fn say<S: Sink>(alloc: Global, answer: Answer, out: &mut S) -> u8
     ensures failed_puts_are_told { IsTrue S.counts_faults_alone →
         result ≢ 6 → (S.counts out.new).faults ≡ (S.counts out.old).faults }
 {
-    let Ok(line) = line_of(alloc, answer) else {
+    let Ok(line) = line_of(alloc, &answer) else {
         return 7;
     };
     match out.put(line.bytes()) {
-        Ok(()) => status_of(answer),
+        Ok(()) => status_of(&answer),
         Err(_) => 6,
     }
 }

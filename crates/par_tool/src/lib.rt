@@ -8,7 +8,6 @@
 pub mod answer;
 mod classes;
 pub mod judge;
-mod naming;
 mod reading;
 mod sources;
 pub mod tool;
