@@ -68,10 +68,8 @@ fn joins(alloc: Global) -> Result<bool, NoMemory> {
         .normal
         .as_ref()
         .is_some_and(|way| is_way(way, &[10, 20], &[1], &[0]));
-    let thrown = both
-        .throws
-        .get(0)
-        .is_some_and(|throw| throw.0 == BAD && is_way(&throw.1, &[13, 23], &[10, 20], &[0]));
+    let thrown = both.throws.get(0).is_some_and(|throw| throw.0 == BAD
+        && is_way(&throw.1, &[13, 23], &[10, 20], &[0]));
     Ok(normal && thrown && both.ret.is_none() && both.throws.len() == 1)
 }
 

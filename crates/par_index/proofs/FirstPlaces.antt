@@ -47,4 +47,3 @@ module _ {A : Type 0} {same : A → A → Bool} (laws : IsEquivalence same) wher
         in_none : (o : Option ℕ) → option_or o None ≡ o
         in_none None = refl
         in_none (Some n) = refl
-

@@ -104,7 +104,7 @@ pub fn check_birth(
 ) -> Result<(), NoMemory>
     ensures { OnOk result (findings.new
         ≡ first_of findings.old
-            (birth_faults (known_seen known.now) (class_of class.now) class.now.birth)) }
+        (birth_faults (known_seen known.now) (class_of class.now) class.now.birth)) }
 {
     match &class.birth {
         Some(e) => {

@@ -93,7 +93,7 @@ impl<'a> Known<'a> {
     fn named(&self, name: &Name) -> Result<Option<Policy>, NoMemory>
         ensures { IfOk result (λ p.
             p ≡ value_at self.now.values.items
-                (position (bytes_eq name.now) (known_seen self.now).names)) }
+            (position (bytes_eq name.now) (known_seen self.now).names)) }
     {
         match self.names.place(name) {
             None => Ok(None),

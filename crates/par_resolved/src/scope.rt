@@ -62,7 +62,7 @@ pub fn first_join(
 ) -> Result<Option<Refusal>, NoMemory>
     ensures { IfOk result (λ first.
         first ≡ first_of None
-            (flat_map (expression_faults (known_seen known.now)) (all_of exprs.now))) }
+        (flat_map (expression_faults (known_seen known.now)) (all_of exprs.now))) }
 {
     let mut findings = Findings::new();
     for e in exprs {

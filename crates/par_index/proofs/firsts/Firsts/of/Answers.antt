@@ -21,16 +21,16 @@ loop-place-preserved g c =
       | else-not-contains_key w ↦
           let seen : list_any (g.K.PartialEq.eq x) (take i xs) ≡ true = sym there ∙ w.if-not-contains_key.false in
           λ q.
-                ap (λ m. get g.K.PartialEq.eq m q) w.places-is ∙ c.loop-place.invariant q
-                ∙ sym (place-seen laws (take i xs) x q seen) ∙ ap (position (g.K.PartialEq.eq q)) (sym more)
+          ap (λ m. get g.K.PartialEq.eq m q) w.places-is ∙ c.loop-place.invariant q
+          ∙ sym (place-seen laws (take i xs) x q seen) ∙ ap (position (g.K.PartialEq.eq q)) (sym more)
       | then-not-contains_key+in_ok-insert w ↦
           let new : list_any (g.K.PartialEq.eq x) (take i xs) ≡ false = sym there ∙ w.if-not-contains_key.true in
           let many : length (take i xs) ≡ i = grind (arith, common_steps) in
-            λ q.
-                ap (λ m. get g.K.PartialEq.eq m q) w.places-is ∙ w.in_ok-insert.ensures.updates.0 q
-                ∙ ap (cond (g.K.PartialEq.eq x q) (Some i)) (c.loop-place.invariant q)
-                ∙ ap (λ n. cond (g.K.PartialEq.eq x q) (Some n) (position (g.K.PartialEq.eq q) (take i xs))) (sym many)
-                ∙ sym (place-new laws (take i xs) x q new) ∙ ap (position (g.K.PartialEq.eq q)) (sym more)
+          λ q.
+          ap (λ m. get g.K.PartialEq.eq m q) w.places-is ∙ w.in_ok-insert.ensures.updates.0 q
+          ∙ ap (cond (g.K.PartialEq.eq x q) (Some i)) (c.loop-place.invariant q)
+          ∙ ap (λ n. cond (g.K.PartialEq.eq x q) (Some n) (position (g.K.PartialEq.eq q) (take i xs))) (sym many)
+          ∙ sym (place-new laws (take i xs) x q new) ∙ ap (position (g.K.PartialEq.eq q)) (sym more)
     ]
 
 pub returns : goal.returns
