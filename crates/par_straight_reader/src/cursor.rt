@@ -1,10 +1,10 @@
 //! A place among the tokens, and what can be read there.
 
 ghost use Rattle.std.specs.Prelude.{◌≡◌, ◌+◌, ◌≤◌, length};
+ghost use Rattle.par_lexer.specs.declared.cut.TheConstants.{LONGEST_SOURCE};
 ghost use Rattle.par_straight_reader.specs.declared.cursor.ParseError.TheVariants.{Memory};
 
 use par_grammar::sort::{Sort, same, sort_of};
-use par_lexer::LONGEST_SOURCE;
 use par_lexer::list::NoMemory;
 use par_lexer::token::{Kind, Token};
 use par_straight::tree::Ident;

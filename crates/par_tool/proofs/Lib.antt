@@ -1,13 +1,13 @@
 pub mod Judging
-pub mod Ascii
 pub mod Statuses
 pub mod Unread
 pub mod Clashes
+pub mod Alone
+pub mod Loads
 pub mod ExactSources
 pub mod ExactRuns
 pub mod Exact
 pub mod Compiling
-pub mod Alone
 pub mod Calls
 pub mod Few
 pub mod Saying

@@ -1,10 +1,15 @@
 //! What is done with a class: its file and its inputs are read, and a machine is made to run it.
 
-ghost use Rattle.std.specs.Prelude.{◌≡◌, ◌≤◌, ℕ, [], ◌∷◌, List, IsTrue, IfOk, IfErr, OnOk, MatchOption, length};
+ghost use Rattle.std.specs.Prelude.{◌≡◌, ◌≤◌, ℕ, [], ◌∷◌, List, IsTrue, IfOk, IfErr, OnOk, Result, length};
 ghost use Rattle.par_io.specs.Causes.{Makes, NoneFalls};
 ghost use Rattle.par_class.specs.declared.file.ClassFile.{ClassFile as File};
-ghost use Rattle.par_tool.specs.Classes.{IsAlone, IsLoaded, AreInputs, IsUnloaded, IsUngiven, NotRun, IsStarted};
-ghost use Rattle.par_tool.specs.Failures.{IsFailure, Spends, FaultsAreTold};
+ghost use Rattle.par_lexer.specs.Names.{IsName};
+ghost use Rattle.par_single.specs.Members as members;
+ghost use Rattle.par_link.specs.declared.linked.Linked.{Linked};
+ghost use Rattle.par_loader.specs.declared.error.Unloaded.{Unloaded};
+ghost use Rattle.par_loader.specs.Ends.{IsRead, Judges};
+ghost use Rattle.par_tool.specs.Classes.{AreInputs, IsUngiven, NotRun, failure_in, IsStarted};
+ghost use Rattle.par_tool.specs.Failures.{IsFailure, ToldIn, FaultsAreTold};
 ghost use Rattle.par_tool.specs.Outside.{MakesAtMost};
 
 use crate::answer::Answer;
@@ -21,7 +26,16 @@ use par_values::inputs::Inputs;
 use std::alloc::Global;
 
 /// Why a class whose file does not run by itself is not run.
-fn unrun<F: Folder>(alloc: Global, folder: &mut F, file: ClassFile) -> Failure {
+fn unrun<F: Folder>(alloc: Global, folder: &mut F, file: ClassFile) -> Failure
+    requires read { IsRead (F.files folder.now) file }
+    requires named { IsName (members.own_name file) }
+    ensures kept { F.files folder.new ≡ F.files folder.old }
+    ensures faults_are_told { IsTrue F.counts_faults_alone →
+        ToldIn result (F.counts folder.old).faults (F.counts folder.new).faults }
+    ensures judged { (r : Result Linked Unloaded)
+        × Judges (F.files folder.old) (members.own_name file)
+        (F.counts folder.old) (F.counts folder.new) r × (result ≡ failure_in r) }
+{
     match linked_program(alloc, folder, file) {
         Ok(_) => Failure::Answered(Answer::NotBuilt),
         Err(unloaded) => unloaded.into(),
@@ -66,6 +80,7 @@ pub fn started<F: Folder>(
     main: &str,
     name: &str,
 ) -> Result<Machine, Failure>
+    requires { IsName main.now }
     ensures kept { F.files folder.new ≡ F.files folder.old }
     ensures counted { OnOk result (Makes 2 0 (F.counts folder.old) (F.counts folder.new)) }
     ensures faults_are_told { IsTrue F.counts_faults_alone →
@@ -74,7 +89,7 @@ pub fn started<F: Folder>(
     ensures failed { IfErr result (IsFailure (NotRun (F.files folder.old)
         (F.counts folder.old) (F.counts folder.new) main.now name.now)) }
     ensures memory { IfErr result (λ e. e ≡ Failure.Memory →
-        MakesAtMost 2 0 (F.counts folder.old) (F.counts folder.new)) }
+        MakesAtMost 130 0 (F.counts folder.old) (F.counts folder.new)) }
 {
     let file = main_file(alloc, folder, main)?;
     if !runs_alone(&file, main.as_bytes()) {
