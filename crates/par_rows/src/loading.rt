@@ -20,7 +20,13 @@ fn is_told(
 }
 
 fn is_told_of_shop(alloc: Global, bytes: &[u8], answer: Answer) -> Result<bool, NoMemory> {
-    is_told(alloc, "Shop.class", "paragon Shop in.txt 1000", bytes, answer)
+    is_told(
+        alloc,
+        "Shop.class",
+        "paragon Shop in.txt 1000",
+        bytes,
+        answer,
+    )
 }
 
 fn is_told_of_a(alloc: Global, bytes: &[u8], answer: Answer) -> Result<bool, NoMemory> {
@@ -57,11 +63,14 @@ const CUTS: &[(usize, Answer)] = &[
     (9, ("bad class Shop 32 9\n", 12)),
     (10, ("bad class Shop 32 10\n", 12)),
     (100, ("bad class Shop 32 100\n", 12)),
+    (238, ("bad class Shop 32 238\n", 12)),
 ];
 
 fn cut_is_told(alloc: Global, length: usize, answer: Answer) -> Result<bool, NoMemory> {
     let folder = written(alloc)?;
-    let front = folder.get("Shop.class").and_then(|bytes| bytes.get(..length));
+    let front = folder
+        .get("Shop.class")
+        .and_then(|bytes| bytes.get(..length));
     match front {
         Some(front) => is_told_of_shop(alloc, front, answer),
         None => Ok(false),
@@ -81,7 +90,7 @@ fn more_is_told(alloc: Global) -> Result<bool, NoMemory> {
     match folder.get("Shop.class") {
         Some(bytes) => {
             let more = with_more(alloc, bytes)?;
-            is_told_of_shop(alloc, more.as_slice(), ("bad class Shop 35 LENGTH\n", 12))
+            is_told_of_shop(alloc, more.as_slice(), ("bad class Shop 35 239\n", 12))
         }
         None => Ok(false),
     }
@@ -107,8 +116,8 @@ fn written_files_are_told_where_they_are_changed(rt: HostRuntime) -> Result<(), 
 /// A class A without members.
 const A: &[u8] = &[
     0xca, 0xfe, 0xba, 0xbe, 0, 0, 0, 0x31, 0, 5, 1, 0, 1, b'A', 7, 0, 1, 1, 0, 16, b'j', b'a',
-    b'v', b'a', b'/', b'l', b'a', b'n', b'g', b'/', b'O', b'b', b'j', b'e', b'c', b't', 7, 0, 3,
-    0, 0x31, 0, 2, 0, 4, 0, 0, 0, 0, 0, 0, 0, 0,
+    b'v', b'a', b'/', b'l', b'a', b'n', b'g', b'/', b'O', b'b', b'j', b'e', b'c', b't', 7, 0, 3, 0,
+    0x31, 0, 2, 0, 4, 0, 0, 0, 0, 0, 0, 0, 0,
 ];
 
 /// What is told of it with another byte at a place. At place 0 it is itself.
@@ -126,7 +135,10 @@ const CHANGES_OF_A: &[(usize, u8, Answer)] = &[
 fn files_without_members_are_told(rt: HostRuntime) -> Result<(), Fail> {
     for (place, byte, answer) in CHANGES_OF_A {
         let changed = with_byte(rt.alloc(), A, *place, *byte)?;
-        expect(is_told_of_a(rt.alloc(), changed.as_slice(), *answer)?, answer.0)?;
+        expect(
+            is_told_of_a(rt.alloc(), changed.as_slice(), *answer)?,
+            answer.0,
+        )?;
     }
     let more = with_more(rt.alloc(), A)?;
     let answer = ("bad class A 35 53\n", 12);
@@ -137,9 +149,9 @@ fn files_without_members_are_told(rt: HostRuntime) -> Result<(), Fail> {
 const SHOP: &[u8] = &[
     0xca, 0xfe, 0xba, 0xbe, 0, 0, 0, 0x31, 0, 9, 1, 0, 4, b'S', b'h', b'o', b'p', 7, 0, 1, 1, 0,
     16, b'j', b'a', b'v', b'a', b'/', b'l', b'a', b'n', b'g', b'/', b'O', b'b', b'j', b'e', b'c',
-    b't', 7, 0, 3, 1, 0, 4, b'm', b'a', b'i', b'n', 1, 0, 3, b'(', b')', b'V', 1, 0, 4, b'C',
-    b'o', b'd', b'e', 7, 0, 1, 0, 0x31, 0, 2, 0, 4, 0, 0, 0, 0, 0, 1, 0, 9, 0, 5, 0, 6, 0, 1, 0,
-    7, 0, 0, 0, 14, 0, 2, 0, 0, 0, 0, 0, 2, 3, 0xb1, 0, 0, 0, 0, 0, 0,
+    b't', 7, 0, 3, 1, 0, 4, b'm', b'a', b'i', b'n', 1, 0, 3, b'(', b')', b'V', 1, 0, 4, b'C', b'o',
+    b'd', b'e', 7, 0, 1, 0, 0x31, 0, 2, 0, 4, 0, 0, 0, 0, 0, 1, 0, 9, 0, 5, 0, 6, 0, 1, 0, 7, 0, 0,
+    0, 14, 0, 2, 0, 0, 0, 0, 0, 2, 3, 0xb1, 0, 0, 0, 0, 0, 0,
 ];
 
 /// What is told of it with another byte at a place. At place 0 it is itself.
@@ -155,7 +167,10 @@ const CHANGES_OF_SHOP: &[(usize, u8, Answer)] = &[
 fn files_that_do_not_link_are_told(rt: HostRuntime) -> Result<(), Fail> {
     for (place, byte, answer) in CHANGES_OF_SHOP {
         let changed = with_byte(rt.alloc(), SHOP, *place, *byte)?;
-        expect(is_told_of_shop(rt.alloc(), changed.as_slice(), *answer)?, answer.0)?;
+        expect(
+            is_told_of_shop(rt.alloc(), changed.as_slice(), *answer)?,
+            answer.0,
+        )?;
     }
     Ok(())
 }

@@ -1,5 +1,5 @@
 -- A class file that runs by itself is the only one of its bytes, and its class is the first of the list of it alone.
-use Rattle.std.proofs.Common.{◌≡◌, true, false, [], ◌∷◌, Ok, refl, sym, subst, ◌∙◌, arith}
+use Rattle.std.proofs.Common.{◌≡◌, true, false, [], ◌∷◌, sym, subst, ◌∙◌, arith}
 use Rattle.std.specs.Prelude.{IsTrue}
 use Rattle.std.proofs.lemmas.Bool.{false≢true}
 use Rattle.std.specs.Str.{bytes_eq}

@@ -1,5 +1,5 @@
 -- The status of a run is the one that its files ask for.
-use Rattle.std.proofs.Common.{◌≡◌, ℕ, ◌-◌, ◌<◌, [], ◌∷◌, length, true, false, cond, Option, Some, None, refl, sym, ap, subst, ◌∙◌, inl, inr, arith}
+use Rattle.std.proofs.Common.{◌≡◌, ℕ, ◌-◌, ◌<◌, [], ◌∷◌, length, false, cond, Option, Some, None, refl, sym, ap, subst, ◌∙◌, inl, inr, arith}
 use Rattle.std.specs.Prelude.{nat_le}
 use Rattle.std.proofs.lemmas.Bool.{false≢true}
 use Rattle.std.proofs.lemmas.Bool.Decides.{nat_tests}
@@ -20,14 +20,12 @@ use Rattle.par_tool.specs.declared.answer.Answer.{Answer}
 use Rattle.par_tool.specs.declared.answer.Answer.TheVariants.{Accepted, Compiled, Refused, Usage, Absent, ReadFault, WriteFault, TooLong, NotBuilt, BadClass, BadInputs}
 use Rattle.par_tool.specs.Texts.{status}
 use Rattle.par_tool.specs.Outside.{Text, NotRead, IsThere, IsMissing, IsOverlong, class_file}
-use Rattle.par_loader.specs.declared.error.Unloaded.{Unloaded}
-use Rattle.par_loader.specs.declared.error.Unloaded.TheVariants as un
 use Rattle.par_loader.specs.Reads.{Classes, AreOf}
 use Rattle.par_loader.specs.Found as found
 use Rattle.par_loader.specs.Loaded as loaded
 use Rattle.par_loader.specs.Loaded.{Loaded, Load, main_step}
 use Rattle.par_loader.specs.Judged.{judged}
-use Rattle.par_tool.specs.Classes.{IsAlone, IsLoaded, NoneAlone, ends_so, IsUnlinked, IsBad, broken, misfit, misfit_in, HasBadLine, NotRun, IsRunOf}
+use Rattle.par_tool.specs.Classes.{IsAlone, IsLoaded, NoneAlone, ends_so, IsBad, broken, misfit, misfit_in, HasBadLine, NotRun, IsRunOf}
 use Rattle.par_tool.specs.Exactly.{IsSaidBy, status_in, TellsRun, TellsClass}
 use Rattle.par_tool.proofs.Loads.{same_judged, stops_first}
 use Rattle.par_tool.proofs.Statuses as near

@@ -1,10 +1,9 @@
 -- From how class files are loaded and linked to why no run begins.
-use Rattle.std.proofs.Common.{◌≡◌, ◌∙◌, ap, ℕ, zero, suc, ◌+◌, ◌≤◌, List, [], ◌∷◌, ◌++◌, length, Bool, true, false, not, cond, IfErr, IsErrAnd, Option, Some, None, Result, Ok, Err, refl, sym, subst, inl, inr, arith}
-use Rattle.std.specs.Prelude.{nat_le, IsTrue}
+use Rattle.std.proofs.Common.{◌≡◌, ◌∙◌, ap, ℕ, zero, suc, ◌+◌, ◌≤◌, List, [], ◌∷◌, ◌++◌, length, true, false, cond, IfErr, IsErrAnd, Option, Some, None, Result, Ok, Err, refl, sym, subst, inl, inr, arith}
+use Rattle.std.specs.Prelude.{nat_le}
 use Rattle.std.specs.Str.{bytes_eq}
-use Rattle.std.specs.Bool.{OnFalse}
 use Rattle.std.proofs.lemmas.Bool.Decides.{nat_tests}
-use Rattle.par_io.specs.Causes.{FolderCounts, Makes, NoneFalls, Rose, Files, Told}
+use Rattle.par_io.specs.Causes.{FolderCounts, Makes, NoneFalls, Files, Told}
 use Rattle.par_pool.specs.declared.reading.TheConstants.{LONGEST_CLASS}
 use Rattle.par_class.specs.declared.file.ClassFile.{ClassFile}
 use Rattle.par_class.specs.Reading.{file_at}
@@ -22,16 +21,15 @@ use Rattle.par_loader.specs.Found as found
 use Rattle.par_loader.specs.Found.{found_in, taken_as}
 use Rattle.par_loader.specs.Loaded.{Loaded, whole, missing, overlong, refused, absent, Load, Step, goes_on, ends, step, main_step, main_step_of, after, with_next, further, loaded}
 use Rattle.par_loader.specs.Judged.{linked, judged}
-use Rattle.par_loader.specs.Ends.{Reads, Unended, comes_to, IsRead, JudgesAs, Judges, FaultsStand}
+use Rattle.par_loader.specs.Ends.{Unended, IsRead, Judges, FaultsStand}
 use Rattle.par_loader.proofs.Counting.{rose_since, makes_both, most_both}
-use Rattle.par_loader.proofs.Ended.{IsStop, weaker}
+use Rattle.par_loader.proofs.Ended.{IsStop}
 use Rattle.par_loader.proofs.Seen.{seen, seen_of, put, put_of, put_here}
-use Rattle.par_tool.specs.declared.answer.Answer.{Answer}
 use Rattle.par_tool.specs.declared.answer.Answer.TheVariants.{Absent, ReadFault, TooLong, BadInputs}
 use Rattle.par_tool.specs.declared.reading.Failure.{Failure}
 use Rattle.par_tool.specs.declared.reading.Failure.TheVariants.{Answered, Memory}
 use Rattle.par_tool.specs.Failures.{IsFailure, ToldIn, failure_of}
-use Rattle.par_tool.specs.Outside.{Text, MakesAtMost, IsThere, class_file}
+use Rattle.par_tool.specs.Outside.{Text, MakesAtMost, class_file}
 use Rattle.par_tool.specs.Classes.{IsAlone, IsLoaded, NoneAlone, ends_so, IsUngiven, NotRun, failure_in}
 use Rattle.par_tool.proofs.Alone.{not_alone}
 

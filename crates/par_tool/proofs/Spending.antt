@@ -1,8 +1,8 @@
 -- How many reads and writes are made, one job after another, and where memory is wanting.
-use Rattle.std.proofs.Common.{◌≡◌, ◌∙◌, ap, ℕ, Result, Ok, Err, IfErr, IsErrAnd, refl, arith}
+use Rattle.std.proofs.Common.{◌≡◌, ◌∙◌, ap, ℕ, Result, Ok, Err, IfErr, arith}
 use Rattle.par_io.specs.Causes.{FolderCounts, Makes, raised}
 use Rattle.par_tool.specs.declared.reading.Failure.{Failure}
-use Rattle.par_tool.specs.declared.reading.Failure.TheVariants.{Answered, Memory}
+use Rattle.par_tool.specs.declared.reading.Failure.TheVariants.{Memory}
 use Rattle.par_tool.specs.Outside.{MakesAtMost}
 
 pub at_most : (reads writes : ℕ) (before after : FolderCounts) → Makes reads writes before after → MakesAtMost reads writes before after

@@ -20,7 +20,11 @@ pub enum Answer {
     /// The source is accepted, and so many class files are written.
     Compiled(u32),
     /// The source breaks a rule at a line and a column, both counted from 1.
-    Refused { rule: u16, line: u32, column: u32 },
+    Refused {
+        rule: u16,
+        line: u32,
+        column: u32,
+    },
     /// The words are of none of the forms.
     Usage,
     /// A file is absent.

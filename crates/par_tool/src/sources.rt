@@ -9,10 +9,10 @@ ghost use Rattle.par_tool.specs.Sources.{IsAcceptedAs, ReadSource, Rejected, Che
 
 use crate::answer::Answer;
 use crate::judge::{Judgement, judge};
-use par_loader::{class_file_name, text_of};
 use crate::reading::{Failure, read};
 use par_io::{Folder, WriteFail};
 use par_lexer::{LONGEST_SOURCE, place_of};
+use par_loader::{class_file_name, text_of};
 use par_straight::program::Program;
 use par_straight_compile::compile;
 use std::alloc::{AllocError, Global};

@@ -1,7 +1,6 @@
 use Rattle.std.proofs.Common.{◌≡◌, true, false, sym, ap, subst, ◌∙◌}
 use Rattle.std.specs.Prelude.{Option}
 use Rattle.par_io.specs.Causes.{FolderCounts, Files}
-use Rattle.par_link.specs.declared.linked.Linked.{Linked}
 use Rattle.par_single.specs.Members.{own_name}
 use Rattle.par_single.specs.Single.{runs_alone}
 use Rattle.par_loader.specs.Ends.{Judges}
