@@ -17,6 +17,8 @@ mod faults;
 #[cfg(test)]
 mod limits;
 #[cfg(test)]
+mod loading;
+#[cfg(test)]
 mod reasons;
 #[cfg(test)]
 mod refusals;

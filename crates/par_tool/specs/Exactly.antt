@@ -12,6 +12,10 @@ use Rattle.par_lexer.specs.declared.cut.TheConstants.{LONGEST_SOURCE}
 use Rattle.par_inputs.specs.declared.read.TheConstants.{LONGEST_INPUTS}
 use Rattle.par_pool.specs.declared.reading.TheConstants.{LONGEST_CLASS}
 use Rattle.par_observer.specs.Judgements.{HasAccepted, IsNotBuilt}
+use Rattle.par_loader.specs.Reads.{Classes, AreOf}
+use Rattle.par_loader.specs.Loaded as loaded
+use Rattle.par_loader.specs.Loaded.{Loaded}
+use Rattle.par_loader.specs.Judged.{judged}
 use Rattle.par_tool.specs.Outside.{Text, IsThere, IsMissing, IsOverlong, class_file}
 use Rattle.par_tool.specs.Sources.{IsBroken}
 use Rattle.par_tool.specs.Classes.{IsAlone, IsBad, misfit_in}
@@ -68,16 +72,27 @@ pub record TellsRun (files : Option Files) (file : ClassFile) (main inputs : Tex
   pub there : (text : Text) → IsThere files LONGEST_INPUTS inputs text
       → RunsOn file main text steps result
 
--- Which status a class has that the folder tells of: 9 exactly where its file does not run by
--- itself.
+-- The status where no class file runs by itself: 9 where the class files link, and 12 where one is
+-- refused or absent.
+abbrev pub status_in : Loaded → ℕ
+status_in (loaded.whole all) = 9
+status_in loaded.missing = 3
+status_in loaded.overlong = 8
+status_in (loaded.refused class number value) = 12
+status_in (loaded.absent class index) = 12
+
+-- Which status a class has that the folder tells of: that of its run where its file runs by itself,
+-- and else that of what its class files come to.
 pub record TellsClass (files : Option Files) (main inputs : Text) (steps result : ℕ) : Type 0 where
   pub missing : IsMissing files (class_file main) → IsStatus result 3
   pub overlong : IsOverlong files LONGEST_CLASS (class_file main) → IsStatus result 8
   pub there : (bytes : Text) (file : ClassFile)
       → IsThere files LONGEST_CLASS (class_file main) bytes
       → IsAlone main bytes file → TellsRun files file main inputs steps result
-  pub not_built : (bytes : Text) → IsThere files LONGEST_CLASS (class_file main) bytes
-      → ((file : ClassFile) → IsAlone main bytes file → ⊥) → IsStatus result 9
+  pub otherwise : (bytes : Text) → IsThere files LONGEST_CLASS (class_file main) bytes
+      → ((file : ClassFile) → IsAlone main bytes file → ⊥)
+      → (classes : Classes) → AreOf files classes
+      → IsStatus result (status_in (judged classes main).end)
 
 -- The status of a call, where the folder tells its files.
 module _ (files : Option Files) where

@@ -1,11 +1,12 @@
 -- What an answer in place of a job's end says.
 use Rattle.std.specs.Prelude.{◌≡◌, ℕ, Result, Ok, Err}
 use Rattle.std.specs.Bool.{OnFalse}
-use Rattle.par_io.specs.Causes.{FolderCounts, Makes}
 use Rattle.par_tool.specs.declared.answer.Answer.{Answer}
+use Rattle.par_loader.specs.declared.error.Unloaded.{Unloaded}
+use Rattle.par_loader.specs.declared.error.Unloaded.TheVariants as unloaded
+use Rattle.par_tool.specs.declared.answer.Answer.TheVariants.{Absent, TooLong, ReadFault, BadClass}
 use Rattle.par_tool.specs.declared.reading.Failure.{Failure}
 use Rattle.par_tool.specs.declared.reading.Failure.TheVariants.{Answered, Memory}
-use Rattle.par_tool.specs.Outside.{MakesAtMost}
 use Rattle.par_tool.specs.Texts.{is_fault}
 
 -- the answer has a cause; memory may be wanting at any time
@@ -13,16 +14,21 @@ abbrev pub IsFailure : (Answer → Type 0) → Failure → Type 0
 IsFailure Cause (Answered answer) = Cause answer
 IsFailure Cause Memory = Unit {0}
 
--- So many reads and writes were made, and no more where memory is wanting.
-abbrev pub Spends : {A : Type 0} → (reads writes : ℕ) → Result A Failure
-    → (before after : FolderCounts) → Type 0
-Spends reads writes (Ok value) before after = Makes reads writes before after
-Spends reads writes (Err (Answered answer)) before after = Makes reads writes before after
-Spends reads writes (Err Memory) before after = MakesAtMost reads writes before after
+-- No read and no write failed, unless what stands in the place of a job's end tells of it: want of
+-- memory does not come in the place of a fault.
+abbrev pub ToldIn : Failure → (before after : ℕ) → Type 0
+ToldIn (Answered answer) before after = OnFalse (is_fault answer) (after ≡ before)
+ToldIn Memory before after = after ≡ before
 
--- No read and no write failed, unless what came of the job tells of it: want of memory does not
--- come in the place of a fault.
+-- the same of what came of the job
 abbrev pub FaultsAreTold : {A : Type 0} → Result A Failure → (before after : ℕ) → Type 0
 FaultsAreTold (Ok value) before after = after ≡ before
-FaultsAreTold (Err (Answered answer)) before after = OnFalse (is_fault answer) (after ≡ before)
-FaultsAreTold (Err Memory) before after = after ≡ before
+FaultsAreTold (Err failure) before after = ToldIn failure before after
+
+-- what is answered where a class has no files that link
+abbrev pub failure_of : Unloaded → Failure
+failure_of unloaded.Absent = Answered Absent
+failure_of unloaded.TooLong = Answered TooLong
+failure_of unloaded.Failed = Answered ReadFault
+failure_of (unloaded.BadClass class number value) = Answered (BadClass class number value)
+failure_of unloaded.Memory = Memory

@@ -3,7 +3,7 @@ use Rattle.std.specs.Prelude.{ℕ, Bool, true, false, nat_eq, if◌then◌else�
 use Rattle.std.specs.Fmt.{decimal}
 use Rattle.par_typed.specs.declared.refusal.TheConstants.{LIMIT_RULE}
 use Rattle.par_tool.specs.declared.answer.Answer.{Answer}
-use Rattle.par_tool.specs.declared.answer.Answer.TheVariants.{Accepted, Compiled, Refused, Usage, Absent, ReadFault, WriteFault, TooLong, NotBuilt, BadInputs}
+use Rattle.par_tool.specs.declared.answer.Answer.TheVariants.{Accepted, Compiled, Refused, Usage, Absent, ReadFault, WriteFault, TooLong, NotBuilt, BadClass, BadInputs}
 
 abbrev pub status : Answer → ℕ
 status Accepted = 0
@@ -15,6 +15,7 @@ status ReadFault = 4
 status WriteFault = 5
 status TooLong = 8
 status NotBuilt = 9
+status (BadClass class number value) = 12
 status (BadInputs line) = 13
 
 -- the number of class files that are written
@@ -33,6 +34,12 @@ exceeded_text line column limit count =
     codes "refused 106 at " ++ (decimal line ++ (codes ":" ++ (decimal column
     ++ (codes " limit " ++ (decimal limit ++ (codes " count " ++ (decimal count ++ codes "\n")))))))
 
+-- the class file that is refused, the number of the refusal, and what it carries
+abbrev pub class_text : List ℕ → ℕ → ℕ → List ℕ
+class_text class number value =
+    codes "bad class " ++ (class ++ (codes " " ++ (decimal number
+    ++ (codes " " ++ (decimal value ++ codes "\n")))))
+
 -- the line of an input file that is wrong
 abbrev pub inputs_text : ℕ → List ℕ
 inputs_text line = codes "bad inputs line " ++ (decimal line ++ codes "\n")
@@ -50,6 +57,7 @@ text ReadFault = codes "read fault\n"
 text WriteFault = codes "write fault\n"
 text TooLong = codes "too long\n"
 text NotBuilt = codes "not built\n"
+text (BadClass class number value) = class_text class number value
 text (BadInputs line) = inputs_text line
 
 -- whether the answer tells of a fault that has happened

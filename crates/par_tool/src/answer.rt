@@ -7,12 +7,14 @@ ghost use Rattle.par_tool.specs.Texts as spec;
 ghost use Rattle.par_tool.specs.Texts.{status, text, is_fault};
 
 use par_io::Sink;
+use par_lexer::name::Name;
+use par_loader::text_of;
 use par_typed::refusal::LIMIT_RULE;
 use std::alloc::{AllocError, Global};
 
 /// An answer of one line. A run is told by the lines of its events and its ending; want of memory
 /// and a failed put have no line.
-#[derive(Clone, Copy, Debug)]
+#[derive(Drop)]
 pub enum Answer {
     /// The source is accepted.
     Accepted,
@@ -39,13 +41,19 @@ pub enum Answer {
     TooLong,
     /// The source, or the class file, is of a form that is not built yet.
     NotBuilt,
+    /// A class file is refused: the class, the number of the refusal, and what it carries.
+    BadClass {
+        class: Name,
+        number: u16,
+        value: u32,
+    },
     /// A line of the input file, counted from 1, is wrong.
     BadInputs(u32),
 }
 
 /// The status of an answer.
-pub fn status_of(answer: Answer) -> u8
-    ensures { result ≡ status answer }
+pub fn status_of(answer: &Answer) -> u8
+    ensures { result ≡ status answer.now }
 {
     match answer {
         Answer::Accepted => 0,
@@ -57,6 +65,7 @@ pub fn status_of(answer: Answer) -> u8
         Answer::WriteFault => 5,
         Answer::TooLong => 8,
         Answer::NotBuilt => 9,
+        Answer::BadClass { .. } => 12,
         Answer::BadInputs(_) => 13,
     }
 }
@@ -82,13 +91,13 @@ impl Line {
 }
 
 /// The line of an answer. That of a fault takes no memory.
-fn line_of(alloc: Global, answer: Answer) -> Result<Line, AllocError>
-    ensures line { IfOk result (λ line. bytes_of line ≡ text answer) }
-    ensures firm { IsTrue (is_fault answer) → IsOk result }
+fn line_of(alloc: Global, answer: &Answer) -> Result<Line, AllocError>
+    ensures line { IfOk result (λ line. bytes_of line ≡ text answer.now) }
+    ensures firm { IsTrue (is_fault answer.now) → IsOk result }
 {
     match answer {
         Answer::Accepted => Ok(Line::Fixed(b"accepted\n")),
-        Answer::Compiled(files) => Ok(Line::Made(compiled_line(alloc, files)?)),
+        Answer::Compiled(files) => Ok(Line::Made(compiled_line(alloc, *files)?)),
         Answer::Refused {
             rule,
             line,
@@ -96,10 +105,10 @@ fn line_of(alloc: Global, answer: Answer) -> Result<Line, AllocError>
             limit,
             count,
         } => {
-            let text = if rule == LIMIT_RULE {
-                exceeded_line(alloc, line, column, limit, count)?
+            let text = if *rule == LIMIT_RULE {
+                exceeded_line(alloc, *line, *column, *limit, *count)?
             } else {
-                refused_line(alloc, rule, line, column)?
+                refused_line(alloc, *rule, *line, *column)?
             };
             Ok(Line::Made(text))
         }
@@ -109,7 +118,12 @@ fn line_of(alloc: Global, answer: Answer) -> Result<Line, AllocError>
         Answer::WriteFault => Ok(Line::Fixed(b"write fault\n")),
         Answer::TooLong => Ok(Line::Fixed(b"too long\n")),
         Answer::NotBuilt => Ok(Line::Fixed(b"not built\n")),
-        Answer::BadInputs(line) => Ok(Line::Made(inputs_line(alloc, line)?)),
+        Answer::BadClass {
+            class,
+            number,
+            value,
+        } => Ok(Line::Made(class_line(alloc, class, *number, *value)?)),
+        Answer::BadInputs(line) => Ok(Line::Made(inputs_line(alloc, *line)?)),
     }
 }
 
@@ -138,6 +152,13 @@ fn exceeded_line(
     format!(in alloc; "refused 106 at {line}:{column} limit {limit} count {count}\n")
 }
 
+fn class_line(alloc: Global, class: &Name, number: u16, value: u32) -> Result<String, AllocError>
+    ensures { IfOk result (λ text. string_bytes text ≡ spec.class_text class.now number value) }
+{
+    let class = text_of(class.bytes());
+    format!(in alloc; "bad class {class} {number} {value}\n")
+}
+
 fn inputs_line(alloc: Global, line: u32) -> Result<String, AllocError>
     ensures { IfOk result (λ text. string_bytes text ≡ spec.inputs_text line) }
 {
@@ -151,11 +172,11 @@ pub fn say<S: Sink>(alloc: Global, answer: Answer, out: &mut S) -> u8
     ensures failed_puts_are_told { IsTrue S.counts_faults_alone →
         result ≢ 6 → (S.counts out.new).faults ≡ (S.counts out.old).faults }
 {
-    let Ok(line) = line_of(alloc, answer) else {
+    let Ok(line) = line_of(alloc, &answer) else {
         return 7;
     };
     match out.put(line.bytes()) {
-        Ok(()) => status_of(answer),
+        Ok(()) => status_of(&answer),
         Err(_) => 6,
     }
 }

@@ -1,65 +1,44 @@
 //! What is done with a class: its file and its inputs are read, and a machine is made to run it.
 
-ghost use Rattle.std.specs.Prelude.{◌≡◌, ◌≤◌, ℕ, [], ◌∷◌, List, IsTrue, IfOk, IfErr, OnOk, MatchOption, length};
+ghost use Rattle.std.specs.Prelude.{◌≡◌, ◌≤◌, ℕ, [], ◌∷◌, List, IsTrue, IfOk, IfErr, OnOk, Result, length};
 ghost use Rattle.par_io.specs.Causes.{Makes, NoneFalls};
 ghost use Rattle.par_class.specs.declared.file.ClassFile.{ClassFile as File};
-ghost use Rattle.par_tool.specs.Classes.{IsAlone, IsLoaded, AreInputs, IsUnloaded, IsUngiven, NotRun, IsStarted};
-ghost use Rattle.par_tool.specs.Failures.{IsFailure, Spends, FaultsAreTold};
+ghost use Rattle.par_lexer.specs.Names.{IsName};
+ghost use Rattle.par_single.specs.Members as members;
+ghost use Rattle.par_link.specs.declared.linked.Linked.{Linked};
+ghost use Rattle.par_loader.specs.declared.error.Unloaded.{Unloaded};
+ghost use Rattle.par_loader.specs.Ends.{IsRead, Judges};
+ghost use Rattle.par_tool.specs.Classes.{AreInputs, IsUngiven, NotRun, failure_in, IsStarted};
+ghost use Rattle.par_tool.specs.Failures.{IsFailure, ToldIn, FaultsAreTold};
 ghost use Rattle.par_tool.specs.Outside.{MakesAtMost};
 
 use crate::answer::Answer;
-use crate::naming::class_file_name;
 use crate::reading::{Failure, read};
-use par_class::{ClassFile, LONGEST_CLASS, read_class};
+use par_class::ClassFile;
 use par_inputs::error::BadInput;
 use par_inputs::{LONGEST_INPUTS, line_of_entry, read_inputs};
 use par_io::Folder;
-use par_lexer::list::NoMemory;
+use par_loader::{linked_program, main_file};
 use par_machine::inputs_fit;
 use par_machine::machine::Machine;
-use par_pool::error::ClassError;
 use par_single::runs_alone;
 use par_values::inputs::Inputs;
 use std::alloc::Global;
 
-/// The class file that the bytes spell, where it is of this class and runs by itself.
-fn alone(alloc: Global, bytes: &[u8], main: &str) -> Result<Option<ClassFile>, NoMemory>
-    requires { length bytes.now ≤ LONGEST_CLASS }
-    ensures { IfOk result (λ found. MatchOption found
-        ((file : File) → IsAlone main.now bytes.now file → ⊥)
-        (IsAlone main.now bytes.now)) }
-{
-    match read_class(alloc, bytes) {
-        Ok(file) => {
-            if runs_alone(&file, main.as_bytes()) {
-                Ok(Some(file))
-            } else {
-                Ok(None)
-            }
-        }
-        Err(error) => match error {
-            ClassError::Memory => Err(NoMemory),
-            _ => Ok(None),
-        },
-    }
-}
-
-/// The class file of a class, which runs by itself.
-fn class<F: Folder>(alloc: Global, folder: &mut F, main: &str) -> Result<ClassFile, Failure>
+/// Why a class whose file does not run by itself is not run.
+fn unrun<F: Folder>(alloc: Global, folder: &mut F, file: ClassFile) -> Failure
+    requires read { IsRead (F.files folder.now) file }
+    requires named { IsName (members.own_name file) }
     ensures kept { F.files folder.new ≡ F.files folder.old }
-    ensures counted { Spends 1 0 result (F.counts folder.old) (F.counts folder.new) }
-    ensures none_falls { NoneFalls (F.counts folder.old) (F.counts folder.new) }
     ensures faults_are_told { IsTrue F.counts_faults_alone →
-        FaultsAreTold result (F.counts folder.old).faults (F.counts folder.new).faults }
-    ensures loaded { IfOk result (IsLoaded (F.files folder.old) main.now) }
-    ensures failed { IfErr result (IsFailure (IsUnloaded (F.files folder.old)
-        (F.counts folder.old) (F.counts folder.new) main.now)) }
+        ToldIn result (F.counts folder.old).faults (F.counts folder.new).faults }
+    ensures judged { (r : Result Linked Unloaded)
+        × Judges (F.files folder.old) (members.own_name file)
+        (F.counts folder.old) (F.counts folder.new) r × (result ≡ failure_in r) }
 {
-    let name = class_file_name(alloc, main)?;
-    let bytes = read(alloc, folder, name.as_str(), LONGEST_CLASS as u64)?;
-    match alone(alloc, bytes.as_slice(), main)? {
-        Some(file) => Ok(file),
-        None => Err(Failure::Answered(Answer::NotBuilt)),
+    match linked_program(alloc, folder, file) {
+        Ok(_) => Failure::Answered(Answer::NotBuilt),
+        Err(unloaded) => unloaded.into(),
     }
 }
 
@@ -101,6 +80,7 @@ pub fn started<F: Folder>(
     main: &str,
     name: &str,
 ) -> Result<Machine, Failure>
+    requires { IsName main.now }
     ensures kept { F.files folder.new ≡ F.files folder.old }
     ensures counted { OnOk result (Makes 2 0 (F.counts folder.old) (F.counts folder.new)) }
     ensures faults_are_told { IsTrue F.counts_faults_alone →
@@ -109,9 +89,12 @@ pub fn started<F: Folder>(
     ensures failed { IfErr result (IsFailure (NotRun (F.files folder.old)
         (F.counts folder.old) (F.counts folder.new) main.now name.now)) }
     ensures memory { IfErr result (λ e. e ≡ Failure.Memory →
-        MakesAtMost 2 0 (F.counts folder.old) (F.counts folder.new)) }
+        MakesAtMost 130 0 (F.counts folder.old) (F.counts folder.new)) }
 {
-    let file = class(alloc, folder, main)?;
+    let file = main_file(alloc, folder, main)?;
+    if !runs_alone(&file, main.as_bytes()) {
+        return Err(unrun(alloc, folder, file));
+    }
     let inputs = inputs(alloc, folder, &file, name)?;
     match Machine::start_one(alloc, file, inputs) {
         Ok(machine) => Ok(machine),

@@ -7,7 +7,6 @@
 
 pub mod answer;
 mod classes;
-mod naming;
 mod reading;
 mod sources;
 pub mod tool;

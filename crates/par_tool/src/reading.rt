@@ -3,16 +3,17 @@
 ghost use Rattle.std.specs.Prelude.{◌≡◌, ◌≤◌, IsTrue, IfOk, IfErr, length};
 ghost use Rattle.par_io.specs.Causes.{Makes, NoneFalls};
 ghost use Rattle.par_tool.specs.Outside.{WasRead, NotRead};
-ghost use Rattle.par_tool.specs.Failures.{IsFailure, FaultsAreTold};
+ghost use Rattle.par_tool.specs.Failures.{IsFailure, FaultsAreTold, failure_of};
 ghost use Rattle.par_tool.specs.declared.reading.Failure.TheVariants.{Memory};
 
 use crate::answer::Answer;
 use par_io::{Folder, ReadFail};
 use par_lexer::list::NoMemory;
+use par_loader::Unloaded;
 use std::alloc::{AllocError, Global};
 
 /// Why a job does not come to its end.
-#[derive(Clone, Copy)]
+#[derive(Drop)]
 pub enum Failure {
     /// This is answered in its place.
     Answered(Answer),
@@ -33,6 +34,28 @@ impl From<AllocError> for Failure {
 
     fn from(_: AllocError) -> Failure {
         Failure::Memory
+    }
+}
+
+impl From<Unloaded> for Failure {
+    ghost from_gives = { λ unloaded e. e ≡ failure_of unloaded };
+
+    fn from(unloaded: Unloaded) -> Failure {
+        match unloaded {
+            Unloaded::Absent => Failure::Answered(Answer::Absent),
+            Unloaded::TooLong => Failure::Answered(Answer::TooLong),
+            Unloaded::Failed => Failure::Answered(Answer::ReadFault),
+            Unloaded::BadClass {
+                class,
+                number,
+                value,
+            } => Failure::Answered(Answer::BadClass {
+                class,
+                number,
+                value,
+            }),
+            Unloaded::Memory => Failure::Memory,
+        }
     }
 }
 

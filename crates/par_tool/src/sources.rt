@@ -8,10 +8,10 @@ ghost use Rattle.par_tool.specs.Outside.{Text, MakesAtMost};
 ghost use Rattle.par_tool.specs.Sources.{IsAcceptedAs, ReadSource, Rejected, Checked, CompiledSo, IsUnaccepted, IsClassOf};
 
 use crate::answer::Answer;
-use crate::naming::{class_file_name, text_of};
 use crate::reading::{Failure, read};
 use par_io::{Folder, WriteFail};
 use par_lexer::{LONGEST_SOURCE, place_of};
+use par_loader::{class_file_name, text_of};
 use par_observer::judge::{Judgement, judge};
 use par_straight::program::Program;
 use par_straight_compile::compile;
@@ -96,7 +96,7 @@ pub fn compile_file<F: Folder>(alloc: Global, folder: &mut F, file: &str) -> Res
 {
     let program = program(alloc, folder, file)?;
     let bytes = class_bytes(alloc, &program)?;
-    let name = class_file_name(alloc, text_of(&program.class))?;
+    let name = class_file_name(alloc, text_of(program.class.bytes()))?;
     match folder.write(alloc, name.as_str(), bytes.as_slice()) {
         Ok(()) => Ok(Answer::Compiled(1)),
         Err(WriteFail::Failed) => Err(Failure::Answered(Answer::WriteFault)),

@@ -1,7 +1,12 @@
 use Rattle.par_tool.proofs.Exact as exactly
-use Rattle.par_tool.proofs.Calls.{check_ends, compile_ends, run_ends, run_fails}
+use Rattle.par_tool.proofs.Calls.{asks_named, check_ends, compile_ends, run_ends, run_fails}
 use Rattle.par_tool.proofs.Faults.{outcome_said, failure_said}
 use Rattle.par_tool.proofs.tool.tool.Goals as goal
+
+pub started-requires : goal.started-requires
+started-requires g c =
+    let asks = rw c.in-Run.is at c.in-Some.ensures in
+    asks_named _ _ c.in-Run.main.now c.in-Run.inputs.now c.in-Run.steps asks
 
 pub returns-in-Check-clause-ends : goal.returns-in-Check-clause-ends
 returns-in-Check-clause-ends g c =
