@@ -19,6 +19,8 @@ mod limits;
 #[cfg(test)]
 mod loading;
 #[cfg(test)]
+mod name_refusals;
+#[cfg(test)]
 mod reasons;
 #[cfg(test)]
 mod refusals;
