@@ -105,7 +105,8 @@ module _ (files : Option Files) (before after : FolderCounts) (main inputs : Tex
   -- they link
   abbrev pub AreLinked : Type 0
   AreLinked =
-      IsJudged (λ load. Reads (ends_so load) before after (λ is. (all : List ClassFile) × is (whole all)))
+      IsJudged (λ load. Reads (ends_so load) before after
+      (λ is. (all : List ClassFile) × is (whole all)))
 
   -- the class file was had, and the input file was not
   abbrev pub LacksInputs : Answer → Type 0
