@@ -99,7 +99,12 @@ fn check_actors(places: &[u32], decls: &[Decl], findings: &mut Findings)
     }
 }
 
-fn check_declared(alloc: Global, decls: &[Decl], findings: &mut Findings) -> Result<(), NoMemory>
+/// Notes the limits of actors and of locks that these declarations exceed.
+pub fn check_declared(
+    alloc: Global,
+    decls: &[Decl],
+    findings: &mut Findings,
+) -> Result<(), NoMemory>
     ensures { OnOk result (findings.new
         ≡ first_of findings.old (declared_limits (all_declared decls.now))) }
 {

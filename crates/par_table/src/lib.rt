@@ -17,5 +17,5 @@ mod names;
 mod places;
 mod rule;
 
-pub use counts::check_counts;
+pub use counts::{check_counts, check_declared};
 pub use names::first_broken_name;

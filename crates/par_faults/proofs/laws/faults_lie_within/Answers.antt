@@ -1,0 +1,5 @@
+use Rattle.par_faults.proofs.Places.{all_within}
+use Rattle.par_faults.proofs.laws.faults_lie_within.Goals as goal
+
+pub returns : goal.returns
+returns c = all_within

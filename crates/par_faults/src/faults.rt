@@ -1,0 +1,71 @@
+//! The passes over names and limits, one after the other.
+
+ghost use Rattle.std.specs.Prelude.{◌≡◌, ◌≤◌, None, IfOk, OnOk};
+ghost use Rattle.par_lexer.specs.declared.cut.TheConstants.{LONGEST_SOURCE};
+ghost use Rattle.par_tree.specs.Shown.{source};
+ghost use Rattle.par_parser.specs.Bodies.{source_size};
+ghost use Rattle.par_typed.specs.First.{first_of, IsAnswer};
+ghost use Rattle.par_table.specs.Limits.{declared_limits};
+ghost use Rattle.par_faults.specs.Faults.{policies_faults, limit_faults, all_faults};
+
+use par_resolved::NoMemory;
+use par_table::{check_counts, check_declared, first_broken_name};
+use par_tree::decl::Program;
+use par_typed::refusal::{Findings, Refusal};
+use std::alloc::Global;
+
+// The first limit of actors and locks that is exceeded.
+fn first_declared(alloc: Global, program: &Program) -> Result<Option<Refusal>, NoMemory>
+    ensures { IfOk result (λ first.
+        first ≡ first_of None (declared_limits (source program.now))) }
+{
+    let mut findings = Findings::new();
+    check_declared(alloc, program.decls.as_slice(), &mut findings)?;
+    Ok(findings.first())
+}
+
+// The first limit of policies, where there are not too many actors or locks.
+fn first_of_policies(alloc: Global, program: &Program) -> Result<Option<Refusal>, NoMemory>
+    ensures { IfOk result (λ first.
+        first ≡ first_of None (policies_faults (source program.now))) }
+{
+    match first_declared(alloc, program)? {
+        None => par_limits::first_fault(alloc, program),
+        Some(_) => Ok(None),
+    }
+}
+
+fn check_policies(alloc: Global, program: &Program, findings: &mut Findings) -> Result<(), NoMemory>
+    ensures { OnOk result (findings.new
+        ≡ first_of findings.old (policies_faults (source program.now))) }
+{
+    match first_of_policies(alloc, program)? {
+        None => {}
+        Some(first) => findings.note(first),
+    }
+    Ok(())
+}
+
+#[tactic(auto, using(par_typed::proofs::First::firsts))]
+fn first_limit(alloc: Global, program: &Program) -> Result<Option<Refusal>, NoMemory>
+    requires { source_size (source program.now) ≤ LONGEST_SOURCE }
+    ensures { IfOk result (λ first.
+        first ≡ first_of None (limit_faults (source program.now))) }
+{
+    let mut findings = Findings::new();
+    check_counts(alloc, program, &mut findings)?;
+    check_policies(alloc, program, &mut findings)?;
+    Ok(findings.first())
+}
+
+/// The first broken rule on names, and where there is none, the first limit that is exceeded or
+/// birth policy that is not below the policies of fields.
+pub fn first_fault(alloc: Global, program: &Program) -> Result<Option<Refusal>, NoMemory>
+    requires { source_size (source program.now) ≤ LONGEST_SOURCE }
+    ensures { IfOk result (IsAnswer (all_faults (source program.now))) }
+{
+    match first_broken_name(alloc, program)? {
+        None => first_limit(alloc, program),
+        Some(first) => Ok(Some(first)),
+    }
+}
