@@ -21,8 +21,8 @@ use Rattle.std.specs.Prelude.{Contains}
 use Rattle.par_policy.proofs.Ordered.{Contains-nil}
 use Rattle.par_tree.specs.Plain.{Source}
 use Rattle.par_typed.specs.declared.refusal.Refusal.{Refusal}
-use Rattle.par_names.specs.Program.{name_faults}
-use Rattle.par_observer.specs.Judgements.{Breaks, has_no_tokens, is_no_sentence, has_wrong_names, has_refused_program, IsNotBuilt, IsTreeOf}
+use Rattle.par_faults.specs.Faults.{all_faults}
+use Rattle.par_observer.specs.Judgements.{Breaks, has_no_tokens, is_no_sentence, has_faults, has_refused_program, IsNotBuilt, IsTreeOf}
 use Rattle.par_observer.specs.Judgements.{HasAccepted}
 
 -- no source has tokens and a first fault
@@ -59,7 +59,7 @@ accepted_or_broken source f accepted (has_no_tokens error broken is) =
     tokens_or_fault source accepted.1.tokens error accepted.1.cut broken
 accepted_or_broken source f accepted (is_no_sentence tokens cut refused is) =
     straight_or_fault source accepted.0 tokens refused.fault accepted.1 cut refused.found
-accepted_or_broken source f accepted (has_wrong_names tree is_tree other first) = other (accepted.0, accepted.1)
+accepted_or_broken source f accepted (has_faults tree is_tree other first) = other (accepted.0, accepted.1)
 accepted_or_broken source f accepted (has_refused_program p has refused is) =
     let same : p ≡ accepted.0 = one_program source p accepted.0 has accepted.1 in
     accepted_or_refused accepted.0 f.rule f.at accepted.2 (subst (λ p. IsRefused p f.rule f.at) same refused)
@@ -71,8 +71,8 @@ broken_or_not_built source f (has_no_tokens error broken is) other =
 broken_or_not_built source f (is_no_sentence tokens cut refused is) other =
     let same : other.is_tree.tokens ≡ tokens = one_cut source other.is_tree.tokens tokens other.is_tree.cut cut in
     sentence_or_fault tokens refused.fault (subst IsSentence same (other.tree, other.is_tree.derived)) refused.found
-broken_or_not_built source f (has_wrong_names tree is_tree none first) other =
+broken_or_not_built source f (has_faults tree is_tree none first) other =
     let same : tree ≡ other.tree = one_tree source tree other.tree is_tree other.is_tree in
-    let nothing : name_faults tree ≡ [] = ap name_faults same ∙ other.named in
+    let nothing : all_faults tree ≡ [] = ap all_faults same ∙ other.faultless in
     Contains-nil f (subst (λ fs. Contains fs f) nothing first.among)
 broken_or_not_built source f (has_refused_program p has refused is) other = other.other (p, has)

@@ -1,4 +1,4 @@
 pub mod Judging
 pub mod Unread
-pub mod Named
+pub mod OfTree
 pub mod Clashes

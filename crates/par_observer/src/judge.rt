@@ -1,10 +1,11 @@
-//! The judgement of a source: its tokens and its sentence, by the whole grammar, its names, and what
-//! a straight-line one means.
+//! The judgement of a source: its tokens and its sentence, by the whole grammar, its names and limits,
+//! and what a straight-line one means.
 
 ghost use Rattle.std.specs.Prelude.{◌≡◌, ◌≤◌, IfOk, IfErr, MatchOption, length};
 ghost use Rattle.par_lexer.specs.Spans.{IsLaid};
 ghost use Rattle.par_lexer.specs.Tokens.{HasTokens};
 ghost use Rattle.par_tree.specs.Shown.{source as tree_of_program};
+ghost use Rattle.par_parser.specs.Bodies.{source_size};
 ghost use Rattle.par_parser.specs.Sentence.{place_of};
 ghost use Rattle.par_parser.specs.Sentence as syntax;
 ghost use Rattle.par_straight.specs.declared.tree.Source.{Source as StraightTree};
@@ -12,9 +13,10 @@ ghost use Rattle.par_straight.specs.Sentence.{HasTree};
 ghost use Rattle.par_straight.specs.Names.{numbered};
 ghost use Rattle.par_straight.specs.Judged.{HasProgram, IsStraight, IsStraightLine};
 ghost use Rattle.par_typed.specs.First.{broken};
-ghost use Rattle.par_observer.specs.Judgements.{IsJudgement, IsNamed, IsUnread};
+ghost use Rattle.par_observer.specs.Judgements.{IsJudgement, IsSaidOf, IsUnread};
 ghost use Rattle.std.specs.Prelude.{List as Items, ℕ};
 
+use par_faults::first_fault;
 use par_lexer::list::{List, NoMemory};
 use par_lexer::token::{LexError, Token};
 use par_lexer::{LONGEST_SOURCE, lex};
@@ -25,7 +27,6 @@ use par_straight_check::check::check;
 use par_straight_names::resolve::{ResolveError, resolve};
 use par_straight_reader::cursor::ParseError as StraightError;
 use par_straight_reader::reader::parse as parse_straight;
-use par_table::first_broken_name;
 use par_tree::decl::Program as Tree;
 use par_typed::refusal::Refusal;
 use std::alloc::Global;
@@ -51,7 +52,7 @@ pub enum Judgement {
     Accepted(Program),
     /// It breaks a rule at a place, an offset into the source that is at most its length.
     Broken(Refusal),
-    /// It is a sentence whose names are right, and no straight-line source.
+    /// It is a sentence whose names and limits are right, and no straight-line source.
     NotBuilt,
 }
 
@@ -137,6 +138,8 @@ fn read_sentence(alloc: Global, source: &[u8], tokens: &[Token]) -> Result<Tree,
     requires cut { HasTokens source.now tokens.now }
     requires laid { IsLaid source.now tokens.now }
     ensures sentence { IfOk result (λ tree. syntax.HasTree tokens.now (tree_of_program tree)) }
+    ensures size { IfOk result (λ tree.
+        source_size (tree_of_program tree) ≤ length tokens.now) }
     ensures unread { IfErr result (IsUnread source.now) }
 {
     match parse(alloc, tokens) {
@@ -172,11 +175,12 @@ fn position(source: &[u8], tokens: &[Token], before: u32) -> u32
 fn judge_sentence(alloc: Global, tokens: &[Token], tree: &Tree) -> Result<Judgement, NoMemory>
     requires short { length tokens.now ≤ LONGEST_SOURCE }
     requires sentence { syntax.HasTree tokens.now (tree_of_program tree.now) }
+    requires size { source_size (tree_of_program tree.now) ≤ length tokens.now }
     ensures { IfOk result (λ judgement. (source : Items ℕ) →
         HasTokens source tokens.now → IsLaid source tokens.now → IsJudgement source judgement) }
 {
     let Some(program) = program_of(alloc, tokens)? else {
-        return judge_names(alloc, tree);
+        return judge_tree(alloc, tree);
     };
     match check(alloc, &program) {
         Ok(None) => Ok(Judgement::Accepted(program)),
@@ -185,13 +189,15 @@ fn judge_sentence(alloc: Global, tokens: &[Token], tree: &Tree) -> Result<Judgem
     }
 }
 
-/// What is said of the names of a tree.
-fn judge_names(alloc: Global, tree: &Tree) -> Result<Judgement, NoMemory>
-    ensures { IfOk result (IsNamed (tree_of_program tree.now)) }
+/// What is said of the names and the limits of a tree.
+fn judge_tree(alloc: Global, tree: &Tree) -> Result<Judgement, NoMemory>
+    requires { source_size (tree_of_program tree.now) ≤ LONGEST_SOURCE }
+    ensures { IfOk result (IsSaidOf (tree_of_program tree.now)) }
 {
-    match first_broken_name(alloc, tree)? {
-        None => Ok(Judgement::NotBuilt),
-        Some(refusal) => Ok(Judgement::Broken(refusal)),
+    match first_fault(alloc, tree) {
+        Ok(None) => Ok(Judgement::NotBuilt),
+        Ok(Some(refusal)) => Ok(Judgement::Broken(refusal)),
+        Err(_) => Err(NoMemory),
     }
 }
 

@@ -5,13 +5,13 @@ use Rattle.par_straight.specs.Rules.{IsAccepted, IsRefused}
 use Rattle.par_straight.proofs.Places.{refused_within}
 use Rattle.par_straight.proofs.TwoRuns.{accepted_is_secure}
 use Rattle.par_observer.specs.Judgements.{has_refused_program, IsBrokenBy}
-use Rattle.par_observer.proofs.Named.{named_result}
+use Rattle.par_observer.proofs.OfTree.{result_of_tree}
 use Rattle.par_observer.proofs.judge.judge_sentence.Goals as goal
 
 pub returns-in_default : goal.returns-in_default
 returns-in_default c =
     let other = rw c.in_default.is at c.in_ok-program.ensures in
-    named_result c.args.tokens.now (tree_of_program c.args.tree.now) c.judge_names.result c.requires.sentence other c.judge_names.ensures
+    result_of_tree c.args.tokens.now (tree_of_program c.args.tree.now) c.judge_tree.result c.requires.sentence other c.judge_tree.ensures
 
 -- the program that is accepted is secure
 pub returns-in-Ok-None : goal.returns-in-Ok-None

@@ -1,4 +1,4 @@
--- What is said of the names of a tree holds of its source.
+-- What is said of a tree holds of its source.
 use Rattle.std.proofs.Common.{◌≡◌, ℕ, ◌≤◌, List, [], ◌∷◌, length, subst, arith, zero, suc, ◌+◌, ◌<◌, get_or, Some}
 use Rattle.std.specs.Prelude.{Contains, nat_eq}
 use Rattle.std.specs.List.{AllByRecursion, All}
@@ -16,13 +16,13 @@ use Rattle.par_places.specs.Law.{BeginWithin}
 use Rattle.par_places.specs.Within.{IsWithin}
 use Rattle.par_places.proofs.Trees.{trees_lie}
 use Rattle.par_places.specs.Broken.{AreBrokenWithin}
-use Rattle.par_names.specs.Program.{name_faults}
-use Rattle.par_names.proofs.Places.{names_broken_within}
+use Rattle.par_faults.specs.Faults.{all_faults}
+use Rattle.par_faults.proofs.Places.{all_within}
 use Rattle.par_parser.specs.Sentence as syntax
 use Rattle.par_straight.specs.Judged.{IsStraightLine}
 use Rattle.par_observer.specs.declared.judge.Judgement.{Judgement}
 use Rattle.par_observer.specs.declared.judge.Judgement.TheVariants.{Accepted, Broken, NotBuilt}
-use Rattle.par_observer.specs.Judgements.{IsJudgement, IsNamed, IsTreeOf, has_wrong_names}
+use Rattle.par_observer.specs.Judgements.{IsJudgement, IsSaidOf, IsTreeOf, has_faults}
 
 -- tokens that stand in a source begin in it
 begin : (source : List ℕ) (tokens : List Token) → AllByRecursion (Stands source) tokens → BeginWithin (length source) tokens
@@ -37,19 +37,19 @@ among_in : (m : ℕ) (fs : List Refusal) (f : Refusal) → AreBrokenWithin m fs 
 among_in m fs f within there =
     All-contains (λ (f : Refusal). f.at ≤ m) fs f (All-from_recursion (λ (f : Refusal). f.at ≤ m) fs within) there
 
-pub named_judgement : (source : List ℕ) (tokens : List Token) (tree : Source) (j : Judgement) → HasTokens source tokens → IsLaid source tokens
-    → syntax.HasTree tokens tree → (IsStraightLine source → ⊥) → IsNamed tree j → IsJudgement source j
-named_judgement source tokens tree (Accepted p) cut laid derived other is = absurd is
-named_judgement source tokens tree (Broken f) cut laid derived other is =
+pub judgement_of_tree : (source : List ℕ) (tokens : List Token) (tree : Source) (j : Judgement) → HasTokens source tokens → IsLaid source tokens
+    → syntax.HasTree tokens tree → (IsStraightLine source → ⊥) → IsSaidOf tree j → IsJudgement source j
+judgement_of_tree source tokens tree (Accepted p) cut laid derived other is = absurd is
+judgement_of_tree source tokens tree (Broken f) cut laid derived other is =
     let is_tree : IsTreeOf source tree = record { tokens = tokens; cut = cut; derived = derived } in
     let within : IsWithin (length source) tree = trees_lie (length source) tokens tree (begin_in source tokens laid) derived in
-    (has_wrong_names tree is_tree other is, among_in (length source) (name_faults tree) f (names_broken_within (length source) tree within) is.among)
-named_judgement source tokens tree NotBuilt cut laid derived other is =
-    record { tree = tree; is_tree = record { tokens = tokens; cut = cut; derived = derived }; named = is; other = other }
+    (has_faults tree is_tree other is, among_in (length source) (all_faults tree) f (all_within (length source) tree within) is.among)
+judgement_of_tree source tokens tree NotBuilt cut laid derived other is =
+    record { tree = tree; is_tree = record { tokens = tokens; cut = cut; derived = derived }; faultless = is; other = other }
 
 -- the same of the answer of a call that may lack memory
-pub named_result : (tokens : List Token) (tree : Source) (r : Result Judgement NoMemory) → syntax.HasTree tokens tree
-    → ((source : List ℕ) → HasTokens source tokens → IsStraightLine source → ⊥) → IfOk r (IsNamed tree)
+pub result_of_tree : (tokens : List Token) (tree : Source) (r : Result Judgement NoMemory) → syntax.HasTree tokens tree
+    → ((source : List ℕ) → HasTokens source tokens → IsStraightLine source → ⊥) → IfOk r (IsSaidOf tree)
     → IfOk r (λ j. (source : List ℕ) → HasTokens source tokens → IsLaid source tokens → IsJudgement source j)
-named_result tokens tree (Ok j) derived other is = λ source cut laid. named_judgement source tokens tree j cut laid derived (other source cut) is
-named_result tokens tree (Err e) derived other is = tt
+result_of_tree tokens tree (Ok j) derived other is = λ source cut laid. judgement_of_tree source tokens tree j cut laid derived (other source cut) is
+result_of_tree tokens tree (Err e) derived other is = tt
