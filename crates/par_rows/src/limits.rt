@@ -62,13 +62,23 @@ static ROWS: &[Row] = &[
         "a method of 2001 nodes",
         8,
         &[("got = 1; ", 666), ("open Paid; open Paid;", 1)],
-        NOT_BUILT,
+        ("refused 106 at 7:13 limit 9 count 2001\n", 1),
     ),
     ("200 locals", 8, &[("int x# = 0; ", 200)], ACCEPTED),
-    ("201 locals", 8, &[("int x# = 0; ", 201)], NOT_BUILT),
+    (
+        "201 locals",
+        8,
+        &[("int x# = 0; ", 201)],
+        ("refused 106 at 7:13 limit 12 count 201\n", 1),
+    ),
     // beside the two channels
     ("256 members", 6, &[("?{} static int f#; ", 254)], ACCEPTED),
-    ("257 members", 6, &[("?{} static int f#; ", 255)], NOT_BUILT),
+    (
+        "257 members",
+        6,
+        &[("?{} static int f#; ", 255)],
+        ("refused 106 at 6:5240 limit 7 count 257\n", 1),
+    ),
     (
         "16 actors",
         1,
@@ -79,7 +89,7 @@ static ROWS: &[Row] = &[
         "17 actors",
         1,
         &[("actor alice, bob", 1), (", a#", 15), (";", 1)],
-        NOT_BUILT,
+        ("refused 106 at 1:79 limit 1 count 17\n", 1),
     ),
     (
         "256 locks",
@@ -91,7 +101,7 @@ static ROWS: &[Row] = &[
         "257 locks",
         2,
         &[("lock Paid; ", 1), ("lock l#; ", 256)],
-        NOT_BUILT,
+        ("refused 106 at 2:2712 limit 2 count 257\n", 1),
     ),
     // as they are written: what repeats counts each time
     (
@@ -104,7 +114,7 @@ static ROWS: &[Row] = &[
         "a policy of 33 clauses",
         6,
         &[("?{", 1), ("alice:; ", 32), ("bob:} static int got;", 1)],
-        NOT_BUILT,
+        ("refused 106 at 6:2 limit 4 count 33\n", 1),
     ),
     (
         "a clause of 16 locks",
@@ -116,7 +126,7 @@ static ROWS: &[Row] = &[
         "a clause of 17 locks",
         6,
         &[("?{bob: ", 1), ("Paid, ", 16), ("Paid} static int got;", 1)],
-        NOT_BUILT,
+        ("refused 106 at 6:2 limit 5 count 17\n", 1),
     ),
     (
         "a name of 64 bytes",
@@ -186,6 +196,102 @@ fn check_limits(alloc: Global, rows: &[Row]) -> Result<(), Fail> {
 #[test]
 fn limits_are_kept(rt: HostRuntime) -> Result<(), Fail> {
     check_limits(rt.alloc(), ROWS)
+}
+
+/// Limits of what straight-line sources do not have.
+static MORE: &[Row] = &[
+    // those that every program has do not count
+    (
+        "128 classes",
+        2,
+        &[("lock Paid; ", 1), ("class C# { } ", 127)],
+        NOT_BUILT,
+    ),
+    (
+        "129 classes",
+        2,
+        &[("lock Paid; ", 1), ("class C# { } ", 128)],
+        ("refused 106 at 3:7 limit 6 count 129\n", 1),
+    ),
+    (
+        "128 methods",
+        6,
+        &[("static void m#() { } ", 127)],
+        NOT_BUILT,
+    ),
+    (
+        "129 methods",
+        6,
+        &[("static void m#() { } ", 128)],
+        ("refused 106 at 7:13 limit 8 count 129\n", 1),
+    ),
+    (
+        "16 parameters",
+        6,
+        &[("static void m(int a", 1), (", int a#", 15), (") { }", 1)],
+        NOT_BUILT,
+    ),
+    (
+        "17 parameters",
+        6,
+        &[("static void m(int a", 1), (", int a#", 16), (") { }", 1)],
+        ("refused 106 at 6:13 limit 11 count 17\n", 1),
+    ),
+    // a block, and three for each assignment; `main` has 4
+    (
+        "a class of 8000 nodes",
+        6,
+        &[
+            ("static int got; static void a() { ", 1),
+            ("got = 1; ", 666),
+            ("} static void b() { ", 1),
+            ("got = 1; ", 666),
+            ("} static void c() { ", 1),
+            ("got = 1; ", 666),
+            ("} static void d() { ", 1),
+            ("got = 1; ", 666),
+            ("}", 1),
+        ],
+        NOT_BUILT,
+    ),
+    (
+        "a class of 8001 nodes",
+        6,
+        &[
+            ("static int got; static void a() { ", 1),
+            ("got = 1; ", 666),
+            ("} static void b() { ", 1),
+            ("got = 1; ", 666),
+            ("} static void c() { ", 1),
+            ("got = 1; ", 666),
+            ("} static void d() { ", 1),
+            ("got = 1; ", 666),
+            ("open Paid; }", 1),
+        ],
+        ("refused 106 at 3:7 limit 10 count 8001\n", 1),
+    ),
+    // a family of two actors for two, and one lock
+    (
+        "256 ground locks",
+        2,
+        &[("lock Paid; lock L(actor, actor); ", 1), ("lock l#; ", 251)],
+        NOT_BUILT,
+    ),
+    (
+        "257 ground locks",
+        2,
+        &[
+            ("lock Paid; ", 1),
+            ("lock l#; ", 252),
+            ("lock L(actor, actor);", 1),
+        ],
+        ("refused 106 at 2:2679 limit 2 count 257\n", 1),
+    ),
+];
+
+#[test]
+fn limits_of_other_sources_are_kept(rt: HostRuntime) -> Result<(), Fail> {
+    check_limits(rt.alloc(), MORE)
 }
 
 /// Blocks, each `else`, and the signs, `.` and `(` of an expression nest; the main block is one.
@@ -432,7 +538,10 @@ fn with_policies(alloc: Global, last: &str) -> Result<String, AllocError> {
 }
 
 /// With `bottom` these are 257 policies, unless the last clause repeats an earlier one.
-const LAST_CLAUSES: &[(&str, Answer)] = &[("alice:", NOT_BUILT), ("alice: l0", ACCEPTED)];
+const LAST_CLAUSES: &[(&str, Answer)] = &[
+    ("alice:", ("refused 106 at 257:2 limit 3 count 257\n", 1)),
+    ("alice: l0", ACCEPTED),
+];
 
 #[test]
 fn sources_have_up_to_256_policies(rt: HostRuntime) -> Result<(), Fail> {

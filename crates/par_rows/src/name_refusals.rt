@@ -1,4 +1,5 @@
-//! The refusals of names, as docs/REFUSALS.md shows them, each with its mend, and others beside them.
+//! The refusals of names and limits, as docs/REFUSALS.md shows them, each with its mend, and others
+//! beside them.
 
 use crate::call::{ACCEPTED, Answer, NOT_BUILT, check_bodies, check_sources};
 use std::test::Fail;
@@ -110,6 +111,52 @@ class Gift {
 }
 ";
 
+const LIMIT: &str = "\
+actor a1, a2, a3, a4, a5, a6, a7, a8, a9, a10, a11, a12, a13, a14, a15, a16, a17;
+class Gift {
+  ?{a1:} output void show(int v);
+  static void main() !bottom {
+    show(1);
+  }
+}
+";
+
+const LIMIT_MENDED: &str = "\
+actor a1, a2, a3, a4, a5, a6, a7, a8, a9, a10, a11, a12, a13, a14, a15, a16;
+class Gift {
+  ?{a1:} output void show(int v);
+  static void main() !bottom {
+    show(1);
+  }
+}
+";
+
+const ABOVE: &str = "\
+actor alice;
+class Box ?top {
+  ?{alice:} int v;
+}
+class Gift {
+  ?{alice:} output void show(int v);
+  static void main() !bottom {
+    show(1);
+  }
+}
+";
+
+const ABOVE_MENDED: &str = "\
+actor alice;
+class Box ?{alice:} {
+  ?{alice:} int v;
+}
+class Gift {
+  ?{alice:} output void show(int v);
+  static void main() !bottom {
+    show(1);
+  }
+}
+";
+
 const BIRTH: &str = "\
 actor alice;
 class Box {
@@ -147,6 +194,10 @@ const ROWS: &[(&str, Answer)] = &[
     (ARITY_MENDED, ACCEPTED),
     (MAIN, ("refused 105 at 1:1\n", 1)),
     (MAIN_MENDED, ACCEPTED),
+    (LIMIT, ("refused 106 at 1:78 limit 1 count 17\n", 1)),
+    (LIMIT_MENDED, ACCEPTED),
+    (ABOVE, ("refused 107 at 2:7\n", 1)),
+    (ABOVE_MENDED, NOT_BUILT),
     (BIRTH, ("refused 108 at 3:10\n", 1)),
     (BIRTH_MENDED, NOT_BUILT),
 ];
@@ -189,6 +240,6 @@ fn names_in_bodies_are_in_scope(rt: HostRuntime) -> Result<(), Fail> {
 }
 
 #[test]
-fn each_refusal_of_a_name_has_its_mend(rt: HostRuntime) -> Result<(), Fail> {
+fn each_refusal_of_a_tree_has_its_mend(rt: HostRuntime) -> Result<(), Fail> {
     check_sources(rt.alloc(), ROWS)
 }
