@@ -34,9 +34,6 @@ in_turn (Some f) g h = in_case (comes_before g f) (comes_before h g) refl refl w
   in_case false true j k = refl
   in_case false false j k = rw (behind f g h j k) (rw j refl)
 
-step : (o : Option Refusal) (g : Refusal) (gs : List Refusal) → fold earlier (earlier o g) gs ≡ fold earlier o (g ∷ gs)
-step o g gs = refl
-
 -- the first of some, noted behind what was found before
 module _ (o : Option Refusal) where
   joined : (g : Refusal) (gs : List Refusal) (f : Refusal) → fold earlier (Some g) gs ≡ Some f → earlier o f ≡ fold earlier (earlier o g) gs
