@@ -287,6 +287,43 @@ static MORE: &[Row] = &[
         ],
         ("refused 106 at 2:2679 limit 2 count 257\n", 1),
     ),
+    // two, four and five clauses of locks that differ
+    (
+        "a join of 40 clauses, of its first two 8",
+        2,
+        &[
+            ("lock Paid; ", 1),
+            ("lock l#; ", 11),
+            (
+                "policy P = {alice: l0; alice: l1} * {alice: l2; alice: l3; ",
+                1,
+            ),
+            (
+                "alice: l4; alice: l5} * {alice: l6; alice: l7; alice: l8; ",
+                1,
+            ),
+            ("alice: l9; alice: l10};", 1),
+        ],
+        ("refused 106 at 2:123 limit 4 count 40\n", 1),
+    ),
+    (
+        "a join of 32 clauses",
+        2,
+        &[
+            ("lock Paid; ", 1),
+            ("lock l#; ", 11),
+            (
+                "policy P = {alice: l0; alice: l1} * {alice: l2; alice: l3; ",
+                1,
+            ),
+            (
+                "alice: l4; alice: l5} * {alice: l6; alice: l7; alice: l8; ",
+                1,
+            ),
+            ("alice: l9};", 1),
+        ],
+        NOT_BUILT,
+    ),
 ];
 
 #[test]

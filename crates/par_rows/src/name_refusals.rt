@@ -1,7 +1,7 @@
 //! The refusals of names and limits, as docs/REFUSALS.md shows them, each with its mend, and others
 //! beside them.
 
-use crate::call::{ACCEPTED, Answer, NOT_BUILT, check_bodies, check_sources};
+use crate::call::{ACCEPTED, Answer, NOT_BUILT, check_bodies, check_lines, check_sources};
 use std::test::Fail;
 
 const UNKNOWN: &str = "\
@@ -233,6 +233,44 @@ const BODIES: &[(&str, Answer)] = &[
     ("Gold a = null;", ("refused 101 at 8:1\n", 1)),
     ("while (a < 1) { int a = 2; }", ("refused 101 at 8:8\n", 1)),
 ];
+
+/// Other lines of the common source. Where several rules are broken, the least place is told.
+const LINES: &[(usize, &str, Answer)] = &[
+    (
+        10,
+        "}\nclass Box ?top { ?{alice:} int v; }",
+        ("refused 107 at 11:7\n", 1),
+    ),
+    (10, "}\nclass Box ?bottom { ?{alice:} int v; }", NOT_BUILT),
+    (
+        10,
+        "}\nclass Item { ?_ int f; }",
+        ("refused 108 at 11:21\n", 1),
+    ),
+    (
+        7,
+        "static void start() !gone {",
+        ("refused 105 at 1:1\n", 1),
+    ),
+    (
+        8,
+        "show(y); } static void m() { } static void m() { ",
+        ("refused 101 at 8:6\n", 1),
+    ),
+    (2, "policy P = P; lock Paid;", ("refused 101 at 2:12\n", 1)),
+    (
+        2,
+        "policy P = Q; policy Q = bottom; lock Paid;",
+        ("refused 101 at 2:12\n", 1),
+    ),
+    (2, "policy P = bottom; policy Q = P; lock Paid;", NOT_BUILT),
+    (2, "lock Paid(actor, actor);", ("refused 104 at 4:16\n", 1)),
+];
+
+#[test]
+fn rules_are_broken_at_the_least_place(rt: HostRuntime) -> Result<(), Fail> {
+    check_lines(rt.alloc(), LINES)
+}
 
 #[test]
 fn names_in_bodies_are_in_scope(rt: HostRuntime) -> Result<(), Fail> {
