@@ -1,5 +1,5 @@
 -- Words that ask for something have no cause for the status of `usage`.
-use Rattle.std.proofs.Common.{◌≡◌, ℕ, List, Option, refl, sym, subst, ◌∙◌, inl, inr, arith}
+use Rattle.std.proofs.Common.{◌≡◌, ℕ, List, Option, refl, sym, subst, ◌∙◌, arith}
 use Rattle.std.specs.declared.string.String.{String}
 use Rattle.std.specs.declared.alloc.Global.{Global}
 use Rattle.par_io.specs.Causes.{SinkCounts}
@@ -10,7 +10,7 @@ use Rattle.par_words.specs.declared.words.Which.{Which}
 use Rattle.par_words.specs.Words.{Wanted, Check, Compile, Run, Asks}
 use Rattle.par_runner.specs.Texts as told
 use Rattle.par_tool.specs.declared.answer.Answer.{Answer}
-use Rattle.par_tool.specs.declared.answer.Answer.TheVariants.{Accepted, Compiled, Refused, Usage, Absent, ReadFault, WriteFault, TooLong, NotBuilt, BadInputs}
+use Rattle.par_tool.specs.declared.answer.Answer.TheVariants.{Accepted, Compiled, Refused, Usage, Absent, ReadFault, WriteFault, TooLong, NotBuilt, BadClass, BadInputs}
 use Rattle.par_tool.specs.Texts.{status}
 use Rattle.par_tool.specs.Outside.{Text}
 use Rattle.par_tool.specs.Answers.{Scene, Cause, Ends, misses, answers, runs, lacks_memory}
@@ -19,13 +19,14 @@ use Rattle.par_tool.specs.Answers.{Scene, Cause, Ends, misses, answers, runs, la
 usage_alone : (a : Answer) → status a ≡ 2 → a ≡ Usage
 usage_alone Accepted is = absurd (omega (arith, is))
 usage_alone (Compiled files) is = absurd (omega (arith, is))
-usage_alone (Refused rule line column) is = absurd (omega (arith, is))
+usage_alone (Refused rule line column limit count) is = absurd (omega (arith, is))
 usage_alone Usage is = refl
 usage_alone Absent is = absurd (omega (arith, is))
 usage_alone ReadFault is = absurd (omega (arith, is))
 usage_alone WriteFault is = absurd (omega (arith, is))
 usage_alone TooLong is = absurd (omega (arith, is))
 usage_alone NotBuilt is = absurd (omega (arith, is))
+usage_alone (BadClass class number value) is = absurd (omega (arith, is))
 usage_alone (BadInputs line) is = absurd (omega (arith, is))
 
 -- and no ending of a run has it
@@ -38,7 +39,7 @@ no_ending (BadCode class method offset reason) is = omega (arith, is)
 no_cause : (s : Scene) (w : Wanted) → Cause s w Usage → ⊥
 no_cause s (Check file) c = c.0
 no_cause s (Compile file) c = c.2
-no_cause s (Run main inputs steps) c = elim c.0 [ inl never ↦ never.1 | inr had ↦ had.1.2 ]
+no_cause s (Run main inputs steps) c = c.0
 
 said_so : (number result : ℕ) (lines : List Text) (old new : Option Text) (f g : SinkCounts) → Said number lines result old new f g → result ≡ 2 → number ≡ 2
 said_so number result lines old new f g (whole is counts put) two = sym is ∙ two
