@@ -14,7 +14,7 @@ class Shop { static void main() !bottom { } }";
 
 const NO_MAIN: &[u8] = b"actor a;";
 
-// One actor too many, and before it a policy with one clause too many, which is not looked at.
+// One actor too many, and before it a policy with one clause too many, which is looked at too.
 const ACTORS: &[u8] =
     b"class Shop { static void main() !bottom { } ?{a:;a:;a:;a:;a:;a:;a:;a:;a:;a:;a:;a:;a:;a:;
 a:;a:;a:;a:;a:;a:;a:;a:;a:;a:;a:;a:;a:;a:;a:;a:;a:;a:;a:} int many; }
@@ -49,7 +49,11 @@ fn is_refused(alloc: Global, source: &[u8], refusal: Refusal) -> Result<bool, Fa
 // Each source with its first fault: the rule, the place, the limit and the count.
 const REFUSED: &[(&str, &[u8], (u16, u32, u8, u32))] = &[
     ("a main is wanted", NO_MAIN, (105, 0, 0, 0)),
-    ("one actor is too many", ACTORS, (106, 213, 1, 17)),
+    (
+        "one actor is too many, behind one clause",
+        ACTORS,
+        (106, 45, 4, 33),
+    ),
     ("names come before limits", NAME, (101, 107, 0, 0)),
     ("one clause is too many", CLAUSES, (106, 54, 4, 33)),
     ("a birth policy is above a field", BIRTH, (107, 15, 0, 0)),

@@ -16,6 +16,15 @@ unfolding where_none
 where_stopped [] gs f h = absurd (cc (h ∙ first_of_none None))
 where_stopped (g ∷ fs) gs f h = sym (first_of_none None)
 
+pub later_passed : (fs gs : List Refusal) → None ≡ first_of None fs → first_of None gs ≡ first_of None (in_passes fs gs)
+unfolding in_passes
+later_passed fs gs h = ap (λ xs. first_of None (in_passes xs gs)) (sym (none_is_nothing fs h))
+
+pub later_stopped : (fs gs : List Refusal) (f : Refusal) → Some f ≡ first_of None fs → Some f ≡ first_of None (in_passes fs gs)
+unfolding in_passes
+later_stopped [] gs f h = absurd (cc (h ∙ first_of_none None))
+later_stopped (g ∷ fs) gs f h = h
+
 pub stopped : (fs gs : List Refusal) (f : Refusal) → Some f ≡ first_of None fs → IsFirst (in_passes fs gs) f
 stopped fs gs f h = first_stops fs gs f (subst (IsAnswer fs) (sym h) (answered fs))
 

@@ -13,7 +13,7 @@ use Rattle.par_places.proofs.Broken.{both, each, mapped, filtered}
 use Rattle.par_resolved.specs.Sets.{joined}
 use Rattle.par_resolved.specs.Policies.{Known, known, term_values, fits}
 use Rattle.par_resolved.specs.Written.{written, queried}
-use Rattle.par_resolved.specs.Sizes.{exceeded_by, literal_sizes, literal_locks, size_faults, form_faults, literal_faults, steps_faults, join_faults, expression_faults}
+use Rattle.par_resolved.specs.Sizes.{exceeded_by, literal_sizes, literal_locks, size_faults, form_faults, literal_faults, all_literal_faults, steps_faults, join_faults, expression_faults}
 use Rattle.par_resolved.specs.Births.{birth_policy, birth_faults}
 use Rattle.par_resolved.specs.declared.entries.Entry.{Entry}
 use Rattle.par_resolved.specs.Numbered.{same_policy, has_no_policy, written_entry, query_entries, with_entry, by_place, declared, birth_entry, entries, with_new, inferred_fields, inferred_entry, numbered}
@@ -126,8 +126,11 @@ module _ (m : ℕ) where
       join _ _ (many_in _ (got E (numbered k source) _ (numbered_in k source h)))
       (each (ClassIn m) P _ (declared source) (λ c h. birth_in k c c.birth h.id) (classes_are_in m source h))
 
+  pub literals_in : (source : Source) → IsWithin m source → Within (all_literal_faults source)
+  literals_in source h = each (PolicyIn m) P _ (written source) literal_in (written_in m source h)
+
   pub policies_in : (source : Source) → IsWithin m source → Within (policy_faults source)
   policies_in source h =
       let all = written_in m source h in
-      broken.passes_within m _ _ (each (PolicyIn m) P _ (written source) literal_in all)
+      broken.passes_within m _ _ (literals_in source h)
       (broken.passes_within m _ _ (each (PolicyIn m) P _ (written source) (expression_in (known source)) all) (table_in (known source) source h))

@@ -4,6 +4,7 @@ use Rattle.par_tree.specs.Plain.{Source}
 use Rattle.par_typed.specs.declared.refusal.Refusal.{Refusal}
 use Rattle.par_typed.specs.First.{in_passes}
 use Rattle.par_names.specs.Program.{name_faults}
+use Rattle.par_resolved.specs.Sizes.{all_literal_faults}
 use Rattle.par_resolved.specs.Limits.{policy_faults}
 use Rattle.par_table.specs.Limits.{declared_limits, count_faults}
 
@@ -12,9 +13,12 @@ unfoldable pub where_none : List Refusal → List Refusal → List Refusal
 where_none [] faults = faults
 where_none (f ∷ fs) faults = []
 
--- policies are looked at where the actors and locks are within their limits
+-- literals of policies are always looked at; where they are within their limits, joins of policies
+-- and what rests on them, where the actors and locks are
 abbrev pub policies_faults : Source → List Refusal
-policies_faults source = where_none (declared_limits source) (policy_faults source)
+policies_faults source =
+    in_passes (all_literal_faults source)
+    (where_none (declared_limits source) (policy_faults source))
 
 abbrev pub limit_faults : Source → List Refusal
 limit_faults source = count_faults source ++ policies_faults source

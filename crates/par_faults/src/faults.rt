@@ -6,9 +6,13 @@ ghost use Rattle.par_tree.specs.Shown.{source};
 ghost use Rattle.par_parser.specs.Bodies.{source_size};
 ghost use Rattle.par_typed.specs.First.{first_of, IsAnswer};
 ghost use Rattle.par_table.specs.Limits.{declared_limits};
-ghost use Rattle.par_faults.specs.Faults.{policies_faults, limit_faults, all_faults};
+ghost use Rattle.par_resolved.specs.Limits.{policy_faults};
+ghost use Rattle.par_resolved.specs.Sizes.{all_literal_faults};
+ghost use Rattle.par_faults.specs.Faults.{where_none, policies_faults, limit_faults, all_faults};
 
 use par_resolved::NoMemory;
+use par_resolved::literals::first_literal;
+use par_resolved::written::written;
 use par_table::{check_counts, check_declared, first_broken_name};
 use par_tree::decl::Program;
 use par_typed::refusal::{Findings, Refusal};
@@ -24,14 +28,33 @@ fn first_declared(alloc: Global, program: &Program) -> Result<Option<Refusal>, N
     Ok(findings.first())
 }
 
-// The first limit of policies, where there are not too many actors or locks.
-fn first_of_policies(alloc: Global, program: &Program) -> Result<Option<Refusal>, NoMemory>
+// The first limit that a policy exceeds as it is written.
+fn first_written(alloc: Global, program: &Program) -> Result<Option<Refusal>, NoMemory>
     ensures { IfOk result (λ first.
-        first ≡ first_of None (policies_faults (source program.now))) }
+        first ≡ first_of None (all_literal_faults (source program.now))) }
+{
+    let exprs = written(alloc, program)?;
+    Ok(first_literal(exprs.as_slice()))
+}
+
+// The first limit of policies, where there are not too many actors or locks.
+fn first_among_few(alloc: Global, program: &Program) -> Result<Option<Refusal>, NoMemory>
+    ensures { IfOk result (λ first. first ≡ first_of None
+        (where_none (declared_limits (source program.now)) (policy_faults (source program.now)))) }
 {
     match first_declared(alloc, program)? {
         None => par_limits::first_fault(alloc, program),
         Some(_) => Ok(None),
+    }
+}
+
+fn first_of_policies(alloc: Global, program: &Program) -> Result<Option<Refusal>, NoMemory>
+    ensures { IfOk result (λ first.
+        first ≡ first_of None (policies_faults (source program.now))) }
+{
+    match first_written(alloc, program)? {
+        None => first_among_few(alloc, program),
+        Some(exceeded) => Ok(Some(exceeded)),
     }
 }
 

@@ -324,6 +324,40 @@ static MORE: &[Row] = &[
         ],
         NOT_BUILT,
     ),
+    // a policy is looked at as it is written, also beside too many actors
+    (
+        "17 actors behind a policy of 33 clauses",
+        1,
+        &[
+            ("policy P = {", 1),
+            ("alice:; ", 32),
+            ("alice:}; actor alice, bob", 1),
+            (", a#", 15),
+            (";", 1),
+        ],
+        ("refused 106 at 1:12 limit 4 count 33\n", 1),
+    ),
+    // but a join is not
+    (
+        "17 actors behind a join of 36 clauses",
+        2,
+        &[
+            ("lock Paid; ", 1),
+            ("lock l#; ", 12),
+            (
+                "policy P = {alice: l0; alice: l1; alice: l2; alice: l3; ",
+                1,
+            ),
+            (
+                "alice: l4; alice: l5} * {alice: l6; alice: l7; alice: l8; ",
+                1,
+            ),
+            ("alice: l9; alice: l10; alice: l11}; actor a", 1),
+            (", a#", 14),
+            (";", 1),
+        ],
+        ("refused 106 at 2:336 limit 1 count 17\n", 1),
+    ),
 ];
 
 #[test]
