@@ -9,8 +9,8 @@ use Rattle.par_names.specs.Declarations.{actors_in, locks_in, classes_in, actors
 use Rattle.par_places.specs.Within.{IdentIn, AreIn, FieldIn, ChannelIn, MethodIn, ClassIn, LockDeclIn, DeclarationIn, IsWithin}
 use Rattle.par_places.proofs.Broken as broken
 use Rattle.par_places.proofs.Broken.{both, each, mapped}
-use Rattle.par_table.specs.declared.limit.Limit.{Limit}
-use Rattle.par_table.specs.Limits.{told, one_too_many, actor_places, class_places, earlier, in_order, member_places, ground, locks_limit, declared_limits, over, method_limits, class_limits, count_faults}
+use Rattle.par_declarations.specs.declared.limit.Limit.{Limit}
+use Rattle.par_declarations.specs.Limits.{told, one_too_many, actor_places, class_places, earlier, in_order, member_places, ground, locks_limit, declared_limits, over, method_limits, class_limits, count_faults}
 use Rattle.par_faults.proofs.Kept.{May, got, taken, dropped}
 
 module _ (m : ℕ) where

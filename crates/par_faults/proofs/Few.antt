@@ -12,9 +12,9 @@ use Rattle.par_typed.specs.declared.refusal.Refusal.{Refusal}
 use Rattle.par_typed.specs.First.{when, in_passes, first_of, IsAnswer}
 use Rattle.par_typed.proofs.First.{answered}
 use Rattle.par_names.specs.Declarations.{actors, locks}
-use Rattle.par_table.specs.declared.limit.Limit.{Limit}
-use Rattle.par_table.specs.declared.limit.TheConstants.{ACTORS, LOCKS}
-use Rattle.par_table.specs.Limits.{told, one_too_many, actor_places, ground, lock_limit, locks_limit, declared_limits}
+use Rattle.par_declarations.specs.declared.limit.Limit.{Limit}
+use Rattle.par_declarations.specs.declared.limit.TheConstants.{ACTORS, LOCKS}
+use Rattle.par_declarations.specs.Limits.{told, one_too_many, actor_places, ground, lock_limit, locks_limit, declared_limits}
 use Rattle.par_resolved.specs.Few.{HasFew}
 use Rattle.par_resolved.specs.Numbers.{ground_count}
 

@@ -3,7 +3,7 @@ use Rattle.std.proofs.Common.{ℕ, List, [], ◌∷◌}
 use Rattle.par_typed.specs.declared.refusal.Refusal.{Refusal}
 use Rattle.par_places.proofs.Broken.{Within, join, passes_within}
 use Rattle.par_names.proofs.Places.{names_broken_within}
-use Rattle.par_table.specs.Limits.{declared_limits, count_faults}
+use Rattle.par_declarations.specs.Limits.{declared_limits, count_faults}
 use Rattle.par_resolved.specs.Sizes.{all_literal_faults}
 use Rattle.par_resolved.specs.Limits.{policy_faults}
 use Rattle.par_names.specs.Program.{name_faults}

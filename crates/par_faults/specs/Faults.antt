@@ -6,7 +6,7 @@ use Rattle.par_typed.specs.First.{in_passes}
 use Rattle.par_names.specs.Program.{name_faults}
 use Rattle.par_resolved.specs.Sizes.{all_literal_faults}
 use Rattle.par_resolved.specs.Limits.{policy_faults}
-use Rattle.par_table.specs.Limits.{declared_limits, count_faults}
+use Rattle.par_declarations.specs.Limits.{declared_limits, count_faults}
 
 -- these, where none of the first are broken
 unfoldable pub where_none : List Refusal → List Refusal → List Refusal
