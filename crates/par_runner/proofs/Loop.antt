@@ -6,11 +6,11 @@ use Rattle.par_io.specs.Saying.{IsLeftOff, Said, cut, unsaid}
 use Rattle.par_values.specs.declared.run.Event.{Event}
 use Rattle.par_values.specs.Ran.{ended, stopped}
 use Rattle.par_class.specs.declared.file.ClassFile.{ClassFile}
-use Rattle.par_machine.specs.declared.machine.Machine.{Machine}
-use Rattle.par_machine.specs.Machine.{files_of, state_of}
-use Rattle.par_machine.specs.State.{State}
-use Rattle.par_machine.specs.Step.{Turn, Silent, Shows, turn}
-use Rattle.par_machine.specs.Run.{run, followed}
+use Rattle.par_single_machine.specs.declared.machine.Machine.{Machine}
+use Rattle.par_single_machine.specs.Machine.{files_of, state_of}
+use Rattle.par_single_machine.specs.State.{State}
+use Rattle.par_single_machine.specs.Step.{Turn, Silent, Shows, turn}
+use Rattle.par_single_machine.specs.Run.{run, followed}
 use Rattle.par_runner.specs.declared.telling.Closing.{Closing}
 use Rattle.par_runner.specs.declared.telling.Untold.{Untold}
 use Rattle.par_runner.specs.declared.telling.Untold.TheVariants.{Fault, Memory}

@@ -9,9 +9,9 @@ use Rattle.par_io.specs.Saying.{IsCut, IsLeftOff, Said, whole}
 use Rattle.par_values.specs.declared.run.Event.{Event}
 use Rattle.par_values.specs.Ran.{Ran, Outcome, ended, with_event}
 use Rattle.par_class.specs.declared.file.ClassFile.{ClassFile}
-use Rattle.par_machine.specs.State.{State}
-use Rattle.par_machine.specs.Step.{Silent, Shows, turn}
-use Rattle.par_machine.specs.Run.{run, followed}
+use Rattle.par_single_machine.specs.State.{State}
+use Rattle.par_single_machine.specs.Step.{Silent, Shows, turn}
+use Rattle.par_single_machine.specs.Run.{run, followed}
 use Rattle.par_runner.specs.Texts.{Text, line, event_text, ending_text, lines, status}
 use Rattle.par_runner.specs.Progress.{after, event_lines, IsUnderWay}
 

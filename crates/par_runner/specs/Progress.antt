@@ -5,8 +5,8 @@ use Rattle.par_io.specs.Causes.{appended, raised_by}
 use Rattle.par_values.specs.declared.run.Event.{Event}
 use Rattle.par_values.specs.Ran.{Ran}
 use Rattle.par_class.specs.declared.file.ClassFile.{ClassFile}
-use Rattle.par_machine.specs.State.{State}
-use Rattle.par_machine.specs.Run.{run}
+use Rattle.par_single_machine.specs.State.{State}
+use Rattle.par_single_machine.specs.Run.{run}
 use Rattle.par_runner.specs.Texts.{Text, line, event_text}
 
 -- events first, and then a run

@@ -5,9 +5,9 @@ use Rattle.par_io.specs.Saying.{IsCut, IsLeftOff}
 use Rattle.par_values.specs.declared.run.Event.{Event}
 use Rattle.par_values.specs.Ran.{Ran, Outcome, Fine, BadCode, ended}
 use Rattle.par_class.specs.declared.file.ClassFile.{ClassFile}
-use Rattle.par_machine.specs.State.{State}
-use Rattle.par_machine.specs.Step.{Turn, Silent, Shows}
-use Rattle.par_machine.specs.Run.{run, followed}
+use Rattle.par_single_machine.specs.State.{State}
+use Rattle.par_single_machine.specs.Step.{Turn, Silent, Shows}
+use Rattle.par_single_machine.specs.Run.{run, followed}
 use Rattle.par_runner.specs.declared.telling.Untold.{Untold}
 use Rattle.par_runner.specs.declared.telling.Untold.TheVariants.{Fault, Memory}
 use Rattle.par_runner.specs.declared.telling.Closing.{Closing}

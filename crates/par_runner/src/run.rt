@@ -2,16 +2,16 @@
 
 ghost use Rattle.std.specs.Prelude.{◌≡◌, ◌≢◌, ◌≤◌, IsTrue, IfOk, IfErr, MatchOption};
 ghost use Rattle.par_io.specs.Saying.{Said};
-ghost use Rattle.par_machine.specs.Run.{run};
-ghost use Rattle.par_machine.specs.Step.{turn};
-ghost use Rattle.par_machine.specs.Machine.{files_of, state_of};
+ghost use Rattle.par_single_machine.specs.Run.{run};
+ghost use Rattle.par_single_machine.specs.Step.{turn};
+ghost use Rattle.par_single_machine.specs.Machine.{files_of, state_of};
 ghost use Rattle.par_runner.specs.Texts.{lines, status};
 ghost use Rattle.par_runner.specs.Telling.{GoesOn, ClosesBy, IsUntoldTurn, PutsAreTold, IsTold, IsCutOff, Closes, status_of_untold};
 
 use crate::telling::{Closing, Untold, put_closing, put_event, status_of};
 use par_io::Sink;
-use par_machine::machine::Machine;
-use par_machine::turn::{Stuck, Turn};
+use par_single_machine::machine::Machine;
+use par_single_machine::turn::{Stuck, Turn};
 use par_values::run::Ending;
 use std::alloc::Global;
 

@@ -25,7 +25,7 @@ use Rattle.par_straight_compile.specs.Code.{Item, plain, push, get, put, read, w
 use Rattle.par_straight_compile.specs.Compilable.{HasChannel}
 use Rattle.par_straight_compile.specs.Constants.{channel_names}
 use Rattle.par_straight_compile.specs.Files.{IsFileOf}
-use Rattle.par_machine.specs.Step.{Shows, turn}
+use Rattle.par_single_machine.specs.Step.{Shows, turn}
 use Rattle.par_straight_shows.specs.Runnable.{IsReadable, IsAllowed, AreAllowed, set_after, IsRunnable}
 use Rattle.par_straight_shows.proofs.Rules.{Runs, weaken, silent, showing, entered, entered_all}
 use Rattle.par_straight_shows.proofs.Positions.{one_place}

@@ -20,7 +20,7 @@ use Rattle.par_straight.specs.Subject.{subject}
 use Rattle.par_straight_compile.specs.Constants.{descriptor_of, channel_descriptor}
 use Rattle.par_straight_compile.specs.Files.{IsChannelOf, IsFileOf}
 use Rattle.par_single.specs.Members.{text_at, own_name, is_static}
-use Rattle.par_machine.specs.Target.{is_input_of, has_input_in, has_input}
+use Rattle.par_single_machine.specs.Target.{is_input_of, has_input_in, has_input}
 use Rattle.par_straight_shows.specs.Runnable.{IsRunnable}
 use Rattle.par_straight_shows.proofs.Naming.{text_is, same_name}
 use Rattle.par_straight_shows.proofs.Positions.{partner_at, partner_of}

@@ -9,9 +9,9 @@ use Rattle.par_secrecy.specs.Target.{fitting}
 use Rattle.par_straight.specs.declared.program.Program.{Program}
 use Rattle.par_straight.specs.Meaning.{source_run}
 use Rattle.par_straight.specs.Subject.{subject}
-use Rattle.par_machine.specs.Target.{target}
-use Rattle.par_machine.specs.Run.{machine_run}
-use Rattle.par_machine.proofs.Extending.{more_instructions}
+use Rattle.par_single_machine.specs.Target.{target}
+use Rattle.par_single_machine.specs.Run.{machine_run}
+use Rattle.par_single_machine.proofs.Extending.{more_instructions}
 use Rattle.par_straight_shows.specs.Theorems.{ShowsWhole}
 
 -- equal endings of a machine are equal endings of a program

@@ -20,7 +20,7 @@ use Rattle.par_straight_compile.specs.Code.{Item, plain, push, get, put, read, w
 use Rattle.par_straight_compile.specs.Constants.{channel_descriptor}
 use Rattle.par_straight_compile.specs.Files.{IsFileOf}
 use Rattle.par_single.specs.Members.{own_names}
-use Rattle.par_machine.specs.Step.{Silent, Shows, turn}
+use Rattle.par_single_machine.specs.Step.{Silent, Shows, turn}
 use Rattle.par_straight_shows.specs.Runnable.{IsRunnable}
 use Rattle.par_straight_shows.proofs.Places as places
 use Rattle.par_straight_shows.proofs.Links.{int_field, member, channel_method}

@@ -12,7 +12,7 @@ use Rattle.par_class.specs.declared.file.ClassFile.{ClassFile}
 use Rattle.par_values.specs.declared.value.MVal.{MVal}
 use Rattle.par_values.specs.declared.kind.Kind.{Kind}
 use Rattle.par_values.specs.declared.kind.Kind.TheVariants.{Number, Anything}
-use Rattle.par_machine.specs.Reason.{straight_spot}
+use Rattle.par_single_machine.specs.Reason.{straight_spot}
 use Rattle.par_values.specs.declared.link.Link.{Link}
 use Rattle.par_values.specs.declared.run.Event.{Event}
 use Rattle.par_values.specs.declared.run.Ending.TheVariants.{End}
@@ -28,8 +28,8 @@ use Rattle.par_straight_compile.specs.Files.{IsFileOf}
 use Rattle.par_single.specs.Members.{own_names}
 use Rattle.par_single.specs.Links.{kind_or_any, signature_said, link_of, link_at}
 use Rattle.par_single.specs.Walk.{starts_at}
-use Rattle.par_machine.specs.State.{Frame, State, method_code, code_in, code_or_none, method_descriptor, descriptor_of}
-use Rattle.par_machine.specs.Step.{Silent, Shows, Ends, turn, spot, applied}
+use Rattle.par_single_machine.specs.State.{Frame, State, method_code, code_in, code_or_none, method_descriptor, descriptor_of}
+use Rattle.par_single_machine.specs.Step.{Silent, Shows, Ends, turn, spot, applied}
 use Rattle.par_straight_shows.specs.Runnable.{IsRunnable}
 use Rattle.par_straight_shows.proofs.Naming.{text_is, takes_nothing}
 use Rattle.par_straight_shows.proofs.Places.{Here, instr, size, found, starts_behind}

@@ -8,9 +8,9 @@ use Rattle.par_secrecy.specs.Runs.{Run, over, with_first}
 use Rattle.par_secrecy.specs.Secure.{events}
 use Rattle.par_secrecy.specs.Shows.{shown_run, IsFrontOf}
 use Rattle.par_straight.specs.Meaning as meaning
-use Rattle.par_machine.specs.State.{State}
-use Rattle.par_machine.specs.Step.{Silent, Shows, Ends, turn}
-use Rattle.par_machine.specs.Run.{followed, run}
+use Rattle.par_single_machine.specs.State.{State}
+use Rattle.par_single_machine.specs.Step.{Silent, Shows, Ends, turn}
+use Rattle.par_single_machine.specs.Run.{followed, run}
 
 -- runs of a program, by the number of steps that each may take
 abbrev pub Runs : Type 0

@@ -9,8 +9,8 @@ use Rattle.par_values.specs.Reasons.{Spot, reasons, reason, least_from, lacks, m
 use Rattle.par_values.specs.Effects.{effect}
 use Rattle.par_single.specs.Members.{own_names}
 use Rattle.par_single.specs.Links.{link_at}
-use Rattle.par_machine.specs.State.{Frame, State, class_pool, method_code}
-use Rattle.par_machine.specs.Step.{turn, turn_at, decided, applied, areas_of, spot}
+use Rattle.par_single_machine.specs.State.{Frame, State, class_pool, method_code}
+use Rattle.par_single_machine.specs.Step.{turn, turn_at, decided, applied, areas_of, spot}
 
 -- no reason stands against an operation
 pub record CanRun (classes : List Name) (spot : Spot) (o : Operation) (a : Areas) : Type 0 where

@@ -33,9 +33,9 @@ use Rattle.par_straight_compile.specs.Code.{plain, code_of}
 use Rattle.par_straight_compile.specs.Files.{IsFieldOf, IsFileOf}
 use Rattle.par_single.specs.Members.{text_at, own_name}
 use Rattle.par_single.specs.Links.{kind_said}
-use Rattle.par_machine.specs.State as machine
-use Rattle.par_machine.specs.Run.{run, class_number, machine_run}
-use Rattle.par_machine.specs.Target.{has_input, target}
+use Rattle.par_single_machine.specs.State as machine
+use Rattle.par_single_machine.specs.Run.{run, class_number, machine_run}
+use Rattle.par_single_machine.specs.Target.{has_input, target}
 use Rattle.par_straight_shows.specs.Runnable.{IsRunnable}
 use Rattle.par_straight_shows.proofs.Rules.{Matches, weaken, ending, entered}
 use Rattle.par_straight_shows.proofs.Naming.{text_is, same_name, kind_of_int}

@@ -14,8 +14,8 @@ use Rattle.par_straight.specs.Meaning.{source_run}
 use Rattle.par_straight.specs.Subject.{subject}
 use Rattle.par_straight_compile.specs.Files.{IsFileOf}
 use Rattle.par_single.specs.Single.{runs_alone}
-use Rattle.par_machine.specs.Run.{machine_run}
-use Rattle.par_machine.specs.Target.{target}
+use Rattle.par_single_machine.specs.Run.{machine_run}
+use Rattle.par_single_machine.specs.Target.{target}
 use Rattle.par_straight_shows.specs.Runnable.{IsRunnable}
 
 -- each program of a straight-line source is runnable

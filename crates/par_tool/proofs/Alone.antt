@@ -9,7 +9,7 @@ use Rattle.par_class.proofs.Files.{one_file}
 use Rattle.par_single.specs.Members.{own_name}
 use Rattle.par_single.specs.Single.{runs_alone}
 use Rattle.par_single.proofs.Alone as single
-use Rattle.par_machine.specs.Run.{class_number}
+use Rattle.par_single_machine.specs.Run.{class_number}
 use Rattle.std.proofs.lemmas.List.Sums.{position_or_len_is}
 use Rattle.par_tool.specs.Outside.{Text}
 use Rattle.par_tool.specs.Classes.{IsAlone}

@@ -8,7 +8,7 @@ use Rattle.par_straight_shows.proofs.Sources.{runnable}
 use Rattle.par_straight_shows.proofs.RunsAlone.{alone}
 use Rattle.par_straight_shows.proofs.Whole.{shows}
 use Rattle.par_straight_shows.proofs.Ending.{shows_whole}
-use Rattle.par_machine.specs.Target.{target}
+use Rattle.par_single_machine.specs.Target.{target}
 use Rattle.par_tool.specs.Outside.{Text}
 use Rattle.par_tool.specs.Sources.{IsAcceptedAs, IsClassOf}
 

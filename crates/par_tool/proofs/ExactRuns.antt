@@ -12,7 +12,7 @@ use Rattle.par_class.specs.declared.file.ClassFile.{ClassFile}
 use Rattle.par_class.specs.Spelling.{Spells}
 use Rattle.par_class.specs.Reading.{file_at}
 use Rattle.par_class.proofs.Files.{one_file}
-use Rattle.par_machine.specs.Run.{machine_run}
+use Rattle.par_single_machine.specs.Run.{machine_run}
 use Rattle.par_runner.specs.Texts as told
 use Rattle.par_inputs.specs.declared.read.TheConstants.{LONGEST_INPUTS}
 use Rattle.par_pool.specs.declared.reading.TheConstants.{LONGEST_CLASS}

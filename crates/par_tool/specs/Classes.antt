@@ -16,11 +16,11 @@ use Rattle.par_loader.specs.Reads.{Classes, AreOf}
 use Rattle.par_loader.specs.Loaded.{Loaded, whole, Load}
 use Rattle.par_loader.specs.Judged.{judged}
 use Rattle.par_loader.specs.Ends.{Reads, Unended}
-use Rattle.par_machine.specs.declared.machine.Machine.{Machine}
-use Rattle.par_machine.specs.Machine.{files_of, state_of}
-use Rattle.par_machine.specs.State.{start}
-use Rattle.par_machine.specs.Run.{machine_run}
-use Rattle.par_machine.specs.Misfits.{first_misfit}
+use Rattle.par_single_machine.specs.declared.machine.Machine.{Machine}
+use Rattle.par_single_machine.specs.Machine.{files_of, state_of}
+use Rattle.par_single_machine.specs.State.{start}
+use Rattle.par_single_machine.specs.Run.{machine_run}
+use Rattle.par_single_machine.specs.Misfits.{first_misfit}
 use Rattle.par_inputs.specs.declared.read.TheConstants.{LONGEST_INPUTS}
 use Rattle.par_pool.specs.declared.reading.TheConstants.{LONGEST_CLASS}
 use Rattle.par_tool.specs.declared.answer.Answer.{Answer}

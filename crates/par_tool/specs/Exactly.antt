@@ -5,7 +5,7 @@ use Rattle.par_values.specs.declared.inputs.Inputs.{Inputs}
 use Rattle.par_class.specs.declared.file.ClassFile.{ClassFile}
 use Rattle.par_inputs.specs.Lines.{lines_of}
 use Rattle.par_inputs.specs.Rules.{entries, IsRight}
-use Rattle.par_machine.specs.Run.{machine_run}
+use Rattle.par_single_machine.specs.Run.{machine_run}
 use Rattle.par_runner.specs.Texts as told
 use Rattle.par_words.specs.Words.{Wanted, Check, Compile, Run}
 use Rattle.par_lexer.specs.declared.cut.TheConstants.{LONGEST_SOURCE}

@@ -14,7 +14,7 @@ use Rattle.par_straight.specs.Judged.{HasProgram}
 use Rattle.par_straight_compile.specs.Files.{IsFileOf}
 use Rattle.par_straight_shows.specs.Theorems.{ShowsWhole}
 use Rattle.par_single.specs.Single.{runs_alone}
-use Rattle.par_machine.specs.Target.{target}
+use Rattle.par_single_machine.specs.Target.{target}
 use Rattle.par_lexer.specs.declared.cut.TheConstants.{LONGEST_SOURCE}
 use Rattle.par_pool.specs.declared.reading.TheConstants.{LONGEST_CLASS}
 use Rattle.par_tool.specs.declared.answer.Answer.{Answer}

@@ -19,9 +19,9 @@ use par_inputs::error::BadInput;
 use par_inputs::{LONGEST_INPUTS, line_of_entry, read_inputs};
 use par_io::Folder;
 use par_loader::{linked_program, main_file};
-use par_machine::inputs_fit;
-use par_machine::machine::Machine;
 use par_single::runs_alone;
+use par_single_machine::inputs_fit;
+use par_single_machine::machine::Machine;
 use par_values::inputs::Inputs;
 use std::alloc::Global;
 

@@ -1,4 +1,4 @@
-use Rattle.par_machine.specs.Machine.{files_of, state_of}
+use Rattle.par_single_machine.specs.Machine.{files_of, state_of}
 use Rattle.par_runner.proofs.Loop.{IsTelling}
 use Rattle.par_runner.proofs.run.tell_events.Given as goal
 

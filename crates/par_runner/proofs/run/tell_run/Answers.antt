@@ -1,4 +1,4 @@
-use Rattle.par_machine.specs.Machine.{files_of, state_of}
+use Rattle.par_single_machine.specs.Machine.{files_of, state_of}
 use Rattle.par_runner.proofs.Loop.{said_closed, said_untold}
 use Rattle.par_runner.proofs.run.tell_run.Goals as goal
 
