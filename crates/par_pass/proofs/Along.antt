@@ -126,7 +126,7 @@ module _ (Q : Lattice) (M : StandsFor Q) where
   shut_way : (l : Set) (w : Way) (x : rules.Way Q) → Flows Q x (as_way w) → Flows Q (shut Q l x) (as_way (shut numbers l w))
   shut_way l w x h = record { context = h.context; lands = record { env = h.lands.env; locks = minus_mono _ _ _ h.lands.locks } }
 
-  way_lower : (o : Option Way) (fs : List (Fact numbers)) (from : From) → MayFlow Q (way Q (as_may o) (as_all fs) from) (as_may (way numbers o fs from))
+  pub way_lower : (o : Option Way) (fs : List (Fact numbers)) (from : From) → MayFlow Q (way Q (as_may o) (as_all fs) from) (as_may (way numbers o fs from))
   unfolding way
   way_lower o fs Entry = flow_refl (as_may o)
   way_lower o fs (After part k) = (part_lower fs part).exit k
@@ -214,15 +214,15 @@ module _ (Q : Lattice) (M : StandsFor Q) where
         }
 
 -- policies by who sees them
-and_in : (b c : Bool) → IsTrue b → IsTrue c → IsTrue (b && c)
+pub and_in : (b c : Bool) → IsTrue b → IsTrue c → IsTrue (b && c)
 and_in true c h k = k
 and_in false c h k = cc
 
-and_l : (b c : Bool) → IsTrue (b && c) → IsTrue b
+pub and_l : (b c : Bool) → IsTrue (b && c) → IsTrue b
 and_l true c h = refl
 and_l false c h = cc
 
-and_r : (b c : Bool) → IsTrue (b && c) → IsTrue c
+pub and_r : (b c : Bool) → IsTrue (b && c) → IsTrue c
 and_r true c h = h
 and_r false c h = cc
 
@@ -231,7 +231,7 @@ fewer false c d f h = refl
 fewer true true d f h = h
 fewer true false d f h = let e : false ≡ true = f refl in cc
 
-joined_order : (ps : List (List Clause)) (s t : Set) → IsWithin s t → (actor : ℕ) (locks : List ℕ) → IsTrue (joined ps t actor locks) → IsTrue (joined ps s actor locks)
+pub joined_order : (ps : List (List Clause)) (s t : Set) → IsWithin s t → (actor : ℕ) (locks : List ℕ) → IsTrue (joined ps t actor locks) → IsTrue (joined ps s actor locks)
 unfolding joined
 joined_order [] s t f actor locks h = refl
 joined_order (p ∷ ps) s t f actor locks h =
@@ -239,7 +239,7 @@ joined_order (p ∷ ps) s t f actor locks h =
     (fewer (s 0) (t 0) (sees p actor locks) (f 0) (and_l _ _ h))
     (joined_order ps (λ n. s (suc n)) (λ n. t (suc n)) (λ n. f (suc n)) actor locks (and_r (not (t 0) || sees p actor locks) _ h))
 
-joined_given : (ps : List (List Clause)) (n : ℕ) (actor : ℕ) (locks : List ℕ) → IsTrue (joined ps (adding none n) actor locks) → IsTrue (seen_by (slice_get ps n) actor locks)
+pub joined_given : (ps : List (List Clause)) (n : ℕ) (actor : ℕ) (locks : List ℕ) → IsTrue (joined ps (adding none n) actor locks) → IsTrue (seen_by (slice_get ps n) actor locks)
 unfolding joined
 joined_given [] n actor locks h = refl
 joined_given (p ∷ ps) zero actor locks h = and_l (sees p actor locks) _ h
@@ -248,7 +248,7 @@ joined_given (p ∷ ps) (suc n) actor locks h =
     (joined_order ps (adding none n) (λ m. adding none (suc n) (suc m)) (λ m e. eq-eqb (suc m) (suc n) (ap suc (eqb-true m n e))) actor locks
     (and_r (not (adding none (suc n) 0) || sees p actor locks) (joined ps (λ m. adding none (suc n) (suc m)) actor locks) h))
 
-pub stand_for : (table : List (List Clause)) → StandsFor (policies table)
+unfoldable pub stand_for : (table : List (List Clause)) → StandsFor (policies table)
 stand_for table = record {
   meant = joined table;
   refl = λ p actor locks h. h;

@@ -22,19 +22,19 @@ among = record {
 abbrev pub AreSeenBelow : List (List Clause) → Set → Seen → Type 0
 AreSeenBelow table s p = (n : ℕ) → IsTrue (s n) → IsSeenBelow (seen_by (slice_get table n)) p
 
-in_either : (b c : Bool) (C : Type 0) → (IsTrue b → C) → (IsTrue c → C) → IsTrue (b || c) → C
+pub in_either : (b c : Bool) (C : Type 0) → (IsTrue b → C) → (IsTrue c → C) → IsTrue (b || c) → C
 in_either true c C f g h = f refl
 in_either false c C f g h = g h
 
-in_both_l : (b c : Bool) → IsTrue (b && c) → IsTrue b
+pub in_both_l : (b c : Bool) → IsTrue (b && c) → IsTrue b
 in_both_l true c h = refl
 in_both_l false c h = cc
 
-in_both_r : (b c : Bool) → IsTrue (b && c) → IsTrue c
+pub in_both_r : (b c : Bool) → IsTrue (b && c) → IsTrue c
 in_both_r true c h = h
 in_both_r false c h = cc
 
-pub seen : (table : List (List Clause)) → Stands (policies table)
+unfoldable pub seen : (table : List (List Clause)) → Stands (policies table)
 seen table = record {
   IsUnder = AreSeenBelow table;
   least = λ p n h. cc;

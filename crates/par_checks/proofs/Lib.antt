@@ -1,0 +1,3 @@
+pub mod Monotone
+pub mod Kept
+pub mod Failed

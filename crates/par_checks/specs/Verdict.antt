@@ -1,0 +1,44 @@
+-- When a body is accepted, and where it breaks a rule.
+use Rattle.std.specs.Prelude.{◌≡◌, ℕ, Contains}
+use Rattle.par_typed.specs.declared.table.Table.{Table}
+use Rattle.par_typed.specs.Plain.{Body}
+use Rattle.par_rules.specs.Lattice.{Lattice, policies, numbers, joined}
+use Rattle.par_rules.specs.Facts.{Facts}
+use Rattle.par_rules.specs.Declares.{declares}
+use Rattle.par_rules.specs.Closed.{IsClosed}
+use Rattle.par_checks.specs.Asked.{Check}
+use Rattle.par_checks.specs.Checks.{checks}
+use Rattle.par_checks.specs.Keeps.{Keeps}
+
+-- the policies of a table, by who sees them
+abbrev pub among : Table → Lattice
+among table = policies table.policies
+
+abbrev pub Seeing : Table → Type 0
+Seeing table = Facts (among table)
+
+-- facts over policies keep a rule, and facts over sets of their numbers do
+abbrev pub KeepsSeen : (table : Table) → Seeing table → Check → Type 0
+KeepsSeen table a c = Keeps (among table) (λ p. p) table.policies a c
+
+abbrev pub KeepsNumbered : Table → Facts numbers → Check → Type 0
+KeepsNumbered table f c = Keeps numbers (joined table.policies) table.policies f c
+
+-- some closed facts keep all rules
+pub record IsAccepted (table : Table) (b : Body) : Type 0 where
+  pub facts : Seeing table
+  pub closed : IsClosed (among table) (declares table) b facts
+  pub kept : (c : Check) → Contains (checks table b) c → KeepsSeen table facts c
+
+-- the facts do not keep the rule at some node with this place
+pub record Fails (table : Table) (b : Body) (rule at : ℕ) (a : Seeing table) : Type 0 where
+  pub check : Check
+  pub asked : Contains (checks table b) check
+  pub rule_is : check.rule ≡ rule
+  pub at_is : check.at ≡ at
+  pub broken : KeepsSeen table a check → ⊥
+
+-- all closed facts fail the rule at the place
+abbrev pub IsBroken : Table → Body → ℕ → ℕ → Type 0
+IsBroken table b rule at =
+    (a : Seeing table) → IsClosed (among table) (declares table) b a → Fails table b rule at a
