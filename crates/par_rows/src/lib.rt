@@ -20,6 +20,7 @@ mod limits;
 mod loading;
 #[cfg(test)]
 mod name_refusals;
+mod names;
 #[cfg(test)]
 mod reasons;
 #[cfg(test)]

@@ -64,6 +64,12 @@ static ROWS: &[Row] = &[
         &[("got = 1; ", 666), ("open Paid; open Paid;", 1)],
         ("refused 106 at 7:13 limit 9 count 2001\n", 1),
     ),
+    (
+        "2001 nodes with two empty blocks",
+        8,
+        &[("got = 1; ", 666), ("{ } { }", 1)],
+        ("refused 106 at 7:13 limit 9 count 2001\n", 1),
+    ),
     ("200 locals", 8, &[("int x# = 0; ", 200)], ACCEPTED),
     (
         "201 locals",
@@ -200,6 +206,12 @@ fn limits_are_kept(rt: HostRuntime) -> Result<(), Fail> {
 
 /// Limits of what straight-line sources do not have.
 static MORE: &[Row] = &[
+    (
+        "2000 nodes with an empty block",
+        8,
+        &[("got = 1; ", 666), ("{ }", 1)],
+        NOT_BUILT,
+    ),
     // those that every program has do not count
     (
         "128 classes",
@@ -591,9 +603,9 @@ fn push_locks(alloc: Global, source: &mut String, set: u32) -> Result<(), AllocE
     Ok(())
 }
 
-/// A field for each set of the locks `l0` to `l7` but the empty one, which alice needs, and one
-/// with this clause.
-fn with_policies(alloc: Global, last: &str) -> Result<String, AllocError> {
+/// A field for each set of the locks `l0` to `l7` but the empty one, which alice needs, and the
+/// rest of the class on the line behind them.
+fn with_policies(alloc: Global, rest: &str) -> Result<String, AllocError> {
     let mut source = String::from_str(alloc, "actor alice, bob; ")?;
     push_repeated(alloc, &mut source, "lock l#; ", 8)?;
     source.push_str("class Shop {\n")?;
@@ -602,23 +614,39 @@ fn with_policies(alloc: Global, last: &str) -> Result<String, AllocError> {
         push_locks(alloc, &mut source, set)?;
         push_numbered(alloc, &mut source, "} static int f#;\n", set)?;
     }
-    source.push_str("?{")?;
-    source.push_str(last)?;
-    source.push_str("} static int f0; static void main() !bottom { } }")?;
+    source.push_str(rest)?;
     Ok(source)
 }
 
-/// With `bottom` these are 257 policies, unless the last clause repeats an earlier one.
-const LAST_CLAUSES: &[(&str, Answer)] = &[
-    ("alice:", ("refused 106 at 257:2 limit 3 count 257\n", 1)),
-    ("alice: l0", ACCEPTED),
+/// With `bottom` these are 256 policies, and one more unless the rest repeats an earlier one.
+const RESTS: &[(&str, Answer)] = &[
+    (
+        "?{alice:} static int f0; static void main() !bottom { } }",
+        ("refused 106 at 257:2 limit 3 count 257\n", 1),
+    ),
+    (
+        "?{alice: l0} static int f0; static void main() !bottom { } }",
+        ACCEPTED,
+    ),
+    (
+        "static void main() !bottom { when (l0) { } } }",
+        ("refused 106 at 257:36 limit 3 count 257\n", 1),
+    ),
+    (
+        "static void main() !bottom { } } class I { ?{alice: l0} int a; ?{alice: l1} int b; }",
+        ("refused 106 at 257:40 limit 3 count 257\n", 1),
+    ),
+    (
+        "static void main() !bottom { } } class I { ?{alice: l0} int a; ?{alice: l0, l1} int b; }",
+        NOT_BUILT,
+    ),
 ];
 
 #[test]
 fn sources_have_up_to_256_policies(rt: HostRuntime) -> Result<(), Fail> {
-    for (last, answer) in LAST_CLAUSES {
-        let source = with_policies(rt.alloc(), last)?;
-        expect(checks_as(rt.alloc(), source.as_str(), *answer)?, last)?;
+    for (rest, answer) in RESTS {
+        let source = with_policies(rt.alloc(), rest)?;
+        expect(checks_as(rt.alloc(), source.as_str(), *answer)?, rest)?;
     }
     Ok(())
 }

@@ -68,7 +68,9 @@ fn runs_show_their_events(rt: HostRuntime) -> Result<(), Fail> {
 }
 
 const SETS_A_FIELD: &str =
-    "actor alice, bob;\nlock Paid;\nclass Shop {\n?{alice:; bob: Paid} input int key();\n?{alice:; bob:} output void show(int v);\n?{alice:; bob: Paid} static int got;\nstatic void main() !bottom {\ngot = key() + 1; show(7);\n}\n}\n";
+    "actor alice, bob;\nlock Paid;\nclass Shop {\n?{alice:; bob: Paid} input int key();\n\
+     ?{alice:; bob:} output void show(int v);\n?{alice:; bob: Paid} static int got;\n\
+     static void main() !bottom {\ngot = key() + 1; show(7);\n}\n}\n";
 
 fn sets_a_field(alloc: Global) -> Result<bool, NoMemory> {
     let mut folder = compiled(alloc, SETS_A_FIELD, KEY_42)?;

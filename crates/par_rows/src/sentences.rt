@@ -154,11 +154,13 @@ fn sources_that_end_early(rt: HostRuntime) -> Result<(), Fail> {
 /// What asks whether a lock is open, of a lock that says who may ask.
 const QUERIES: &[(&str, Answer)] = &[
     (
-        "actor alice;\nlock Paid ?bottom;\nclass Shop {\nstatic void main() !bottom {\nwhen (Paid) { } else { }\n}\n}\n",
+        "actor alice;\nlock Paid ?bottom;\nclass Shop {\n\
+         static void main() !bottom {\nwhen (Paid) { } else { }\n}\n}\n",
         NOT_BUILT,
     ),
     (
-        "actor alice;\nlock Paid ?bottom;\nclass Shop {\nstatic void main() !bottom {\nwhen (Paid) { } else when (Paid) { }\n}\n}\n",
+        "actor alice;\nlock Paid ?bottom;\nclass Shop {\n\
+         static void main() !bottom {\nwhen (Paid) { } else when (Paid) { }\n}\n}\n",
         ("refused 10 at 5:22\n", 1),
     ),
 ];

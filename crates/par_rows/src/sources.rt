@@ -165,7 +165,9 @@ const POLICIES: &[(&str, Answer)] = &[
 
 fn channel_checks_as(alloc: Global, policy: &str, answer: Answer) -> Result<bool, Fail> {
     let source = format!(in alloc;
-        "actor alice, bob; lock Paid; lock Gold; class Shop {{\n?{{alice:; bob: Paid}} input int key();\n{policy} output void show(int v);\n\n\n\nstatic void main() !bottom {{\nshow(key()); }} }}"
+        "actor alice, bob; lock Paid; lock Gold; class Shop {{\n\
+         ?{{alice:; bob: Paid}} input int key();\n{policy} output void show(int v);\n\n\n\n\
+         static void main() !bottom {{\nshow(key()); }} }}"
     )?;
     Ok(checks_as(alloc, source.as_str(), answer)?)
 }
