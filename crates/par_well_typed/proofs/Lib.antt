@@ -1,0 +1,12 @@
+pub mod Lists
+pub mod Numbered
+pub mod Ranges
+pub mod Orderly
+pub mod Locks
+pub mod Unbroken
+pub mod Policies
+pub mod Entries
+pub mod Bodies
+pub mod Places
+pub mod Programs
+pub mod Whole

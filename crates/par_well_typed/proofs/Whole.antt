@@ -1,0 +1,25 @@
+-- The laws, of whole sources.
+use Rattle.par_resolved.specs.Resolved.{table_of}
+use Rattle.par_well_typed.specs.Laws.{TablesAreInRange, BodiesHaveMethods, SuchBodiesAreOrderly, BodiesAreOrderly}
+use Rattle.par_well_typed.specs.Orderly.{HasMethod, IsOrderlyBody}
+use Rattle.par_well_typed.specs.Typed.{bodies_of}
+use Rattle.par_well_typed.proofs.Lists.{each_is}
+use Rattle.par_well_typed.proofs.Entries as entries
+use Rattle.par_well_typed.proofs.Orderly.{orderly_body}
+use Rattle.par_well_typed.proofs.Programs as programs
+use Rattle.par_well_typed.proofs.Unbroken.{names_kept}
+
+pub tables_are_in_range : TablesAreInRange
+tables_are_in_range source ordered none = entries.tables_are_in_range source ordered none
+
+pub bodies_have_methods : BodiesHaveMethods
+bodies_have_methods source ordered none = programs.bodies_have_methods source ordered (names_kept source none)
+
+pub such_bodies_are_orderly : SuchBodiesAreOrderly
+such_bodies_are_orderly table ok b h = orderly_body table ok b h
+
+pub bodies_are_orderly : BodiesAreOrderly
+bodies_are_orderly source ordered none =
+    each_is (HasMethod (table_of source)) (IsOrderlyBody (table_of source)) (bodies_of source)
+    (orderly_body (table_of source) (tables_are_in_range source ordered none))
+    (bodies_have_methods source ordered none)

@@ -1,0 +1,34 @@
+-- The laws of the tables and bodies of sources that break no rule on names and exceed no limit.
+use Rattle.std.specs.Prelude.{◌≡◌, []}
+use Rattle.std.specs.List.{AllByRecursion}
+use Rattle.par_tree.specs.Plain.{Source}
+use Rattle.par_typed.specs.declared.table.Table.{Table}
+use Rattle.par_typed.specs.Plain.{Body}
+use Rattle.par_resolved.specs.Resolved.{table_of}
+use Rattle.par_faults.specs.Faults.{all_faults}
+use Rattle.par_well_typed.specs.Tables.{IsInRange}
+use Rattle.par_well_typed.specs.Orderly.{HasMethod, IsOrderlyBody}
+use Rattle.par_well_typed.specs.Sources.{IsInOrder}
+use Rattle.par_well_typed.specs.Typed.{bodies_of}
+
+-- the numbers in the table are in range
+abbrev pub TablesAreInRange : Type 0
+TablesAreInRange =
+    (source : Source) → IsInOrder source → all_faults source ≡ [] → IsInRange (table_of source)
+
+-- each body is that of a method of the table; its points are in order, and its numbers in range
+abbrev pub BodiesHaveMethods : Type 0
+BodiesHaveMethods =
+    (source : Source) → IsInOrder source → all_faults source ≡ []
+    → AllByRecursion (HasMethod (table_of source)) (bodies_of source)
+
+-- a body of that kind is orderly, over any table whose numbers are in range
+abbrev pub SuchBodiesAreOrderly : Type 0
+SuchBodiesAreOrderly =
+    (table : Table) → IsInRange table → (b : Body) → HasMethod table b → IsOrderlyBody table b
+
+-- and so is each body of such a source
+abbrev pub BodiesAreOrderly : Type 0
+BodiesAreOrderly =
+    (source : Source) → IsInOrder source → all_faults source ≡ []
+    → AllByRecursion (IsOrderlyBody (table_of source)) (bodies_of source)

@@ -1,0 +1,37 @@
+-- Bodies over a table, as the rules of flow need them.
+use Rattle.std.specs.Prelude.{◌≡◌, ℕ, List, [], Option, Some, None, length, slice_get}
+use Rattle.par_typed.specs.declared.table.MethodInfo.{MethodInfo}
+use Rattle.par_typed.specs.declared.table.ClassInfo.{ClassInfo}
+use Rattle.par_typed.specs.declared.table.Table.{Table}
+use Rattle.par_typed.specs.Plain.{Body}
+use Rattle.par_typed.specs.Nodes.{stmt_nodes}
+use Rattle.par_annotate.specs.Points.{count_from, stmt_points}
+use Rattle.par_rules.specs.Declares.{declares}
+use Rattle.par_rules.specs.Ranges.{IsOrderly}
+use Rattle.par_well_typed.specs.Numbers.{StaInRange}
+
+abbrev pub methods_in : Option ClassInfo → List MethodInfo
+methods_in None = []
+methods_in (Some class) = class.methods
+
+-- a method by the number of its class and its own number there
+abbrev pub method_at : Table → ℕ → ℕ → Option MethodInfo
+method_at table class method = slice_get (methods_in (slice_get table.classes class)) method
+
+-- the body of this method: its points are the numbers below the count of its nodes, each once, in
+-- their order, and its locals, locks and policies are those of the method and the table
+pub record IsBodyOf (table : Table) (b : Body) (m : MethodInfo) : Type 0 where
+  pub method : method_at table b.class b.method ≡ Some m
+  pub points : stmt_points b.body ≡ count_from 0 (stmt_nodes b.body)
+  pub numbers : StaInRange table (length m.locals) b.body
+
+abbrev pub HasMethod : Table → Body → Type 0
+HasMethod table b = (m : MethodInfo) × IsBodyOf table b m
+
+-- the body of a method is orderly over the locals of that method
+pub record IsOrderlyOf (table : Table) (b : Body) (m : MethodInfo) : Type 0 where
+  pub method : method_at table b.class b.method ≡ Some m
+  pub orderly : IsOrderly (declares table) (length m.locals) b
+
+abbrev pub IsOrderlyBody : Table → Body → Type 0
+IsOrderlyBody table b = (m : MethodInfo) × IsOrderlyOf table b m

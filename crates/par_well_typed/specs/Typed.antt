@@ -1,0 +1,19 @@
+-- The typed bodies of a source, over its table.
+use Rattle.std.specs.Prelude.{List}
+use Rattle.par_tree.specs.Plain.{Source}
+use Rattle.par_typed.specs.Plain.{Body}
+use Rattle.par_resolved.specs.Numbers.{lock_number}
+use Rattle.par_resolved.specs.Policies.{known}
+use Rattle.par_resolved.specs.Resolved.{resolved, expression_number, table_of}
+use Rattle.par_annotate.specs.Stmts.{Written}
+use Rattle.par_annotate.specs.Bodies.{typed_program}
+
+-- the numbers of locks and policies that are written in bodies, as the table has them
+abbrev pub written_in : Source → Written
+written_in source = record {
+  lock = lock_number (known source).numbers;
+  policy = expression_number (resolved source);
+}
+
+abbrev pub bodies_of : Source → List Body
+bodies_of source = typed_program (written_in source) (table_of source) source
