@@ -1,0 +1,10 @@
+pub mod Classes
+pub mod Methods
+pub mod Fields
+pub mod Links
+pub mod State
+pub mod Handlers
+pub mod Step
+pub mod Run
+pub mod Target
+pub mod Places
