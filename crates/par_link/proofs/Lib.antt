@@ -8,3 +8,8 @@ pub mod Placing
 pub mod Smallness
 pub mod Spread
 pub mod Stopping
+pub mod Passing
+pub mod Unrepeated
+pub mod Walked
+pub mod There
+pub mod Unbroken
