@@ -9,4 +9,8 @@ pub mod Entries
 pub mod Bodies
 pub mod Places
 pub mod Programs
+pub mod Members
+pub mod Named
+pub mod NamedStatements
 pub mod Whole
+mod Examples

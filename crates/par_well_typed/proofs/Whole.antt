@@ -1,9 +1,11 @@
 -- The laws, of whole sources.
+use Rattle.std.proofs.Common.{arith}
 use Rattle.par_resolved.specs.Resolved.{table_of}
-use Rattle.par_well_typed.specs.Laws.{TablesAreInRange, BodiesHaveMethods, SuchBodiesAreOrderly, BodiesAreOrderly}
+use Rattle.par_well_typed.specs.Laws.{TablesAreInRange, BodiesHaveMethods, SuchBodiesAreOrderly, BodiesAreOrderly, ClassesAndMembersAreNamed}
 use Rattle.par_well_typed.specs.Orderly.{HasMethod, IsOrderlyBody}
-use Rattle.par_well_typed.specs.Typed.{bodies_of}
+use Rattle.par_well_typed.specs.Typed.{bodies_of, written_in}
 use Rattle.par_well_typed.proofs.Lists.{each_is}
+use Rattle.par_well_typed.proofs.NamedStatements.{declarations_named}
 use Rattle.par_well_typed.proofs.Entries as entries
 use Rattle.par_well_typed.proofs.Orderly.{orderly_body}
 use Rattle.par_well_typed.proofs.Programs as programs
@@ -23,3 +25,6 @@ bodies_are_orderly source ordered none =
     each_is (HasMethod (table_of source)) (IsOrderlyBody (table_of source)) (bodies_of source)
     (orderly_body (table_of source) (tables_are_in_range source ordered none))
     (bodies_have_methods source ordered none)
+
+pub classes_and_members_are_named : ClassesAndMembersAreNamed
+classes_and_members_are_named source none = declarations_named (written_in source) (table_of source) (omega arith) source none

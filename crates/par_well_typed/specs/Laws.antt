@@ -5,9 +5,11 @@ use Rattle.par_tree.specs.Plain.{Source}
 use Rattle.par_typed.specs.declared.table.Table.{Table}
 use Rattle.par_typed.specs.Plain.{Body}
 use Rattle.par_resolved.specs.Resolved.{table_of}
+use Rattle.par_types.specs.Program.{type_faults}
 use Rattle.par_faults.specs.Faults.{all_faults}
 use Rattle.par_well_typed.specs.Tables.{IsInRange}
 use Rattle.par_well_typed.specs.Orderly.{HasMethod, IsOrderlyBody}
+use Rattle.par_well_typed.specs.Members.{StaNames}
 use Rattle.par_well_typed.specs.Sources.{IsInOrder}
 use Rattle.par_well_typed.specs.Typed.{bodies_of}
 
@@ -32,3 +34,10 @@ abbrev pub BodiesAreOrderly : Type 0
 BodiesAreOrderly =
     (source : Source) → IsInOrder source → all_faults source ≡ []
     → AllByRecursion (IsOrderlyBody (table_of source)) (bodies_of source)
+
+-- the classes and members that the bodies of a source name are those that they should, where no
+-- rule on types is broken
+abbrev pub ClassesAndMembersAreNamed : Type 0
+ClassesAndMembersAreNamed =
+    (source : Source) → type_faults (table_of source) source ≡ []
+    → AllByRecursion (λ b. StaNames (table_of source) b.body) (bodies_of source)

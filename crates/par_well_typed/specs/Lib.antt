@@ -1,6 +1,7 @@
 pub mod Tables
 pub mod Numbers
 pub mod Orderly
+pub mod Members
 pub mod Sources
 pub mod Typed
 pub mod Laws

@@ -2,6 +2,7 @@
 
 ghost use Rattle.par_well_typed.specs.Laws.{TablesAreInRange, BodiesHaveMethods};
 ghost use Rattle.par_well_typed.specs.Laws.{SuchBodiesAreOrderly, BodiesAreOrderly};
+ghost use Rattle.par_well_typed.specs.Laws.{ClassesAndMembersAreNamed};
 
 /// In the table of a source that breaks no rule on names and exceeds no limit all numbers are in
 /// range, and there are at most 256 policies and 256 ground locks.
@@ -23,4 +24,13 @@ pub fn such_bodies_are_orderly()
 /// Each typed body of such a source does.
 pub fn bodies_are_orderly()
     ensures { BodiesAreOrderly }
+{}
+
+/// Where a source breaks no rule on types, each number of a class or a member in its typed bodies
+/// is that of a class or a member of the kind that stands there: a static field, a field of an
+/// object of the class, a channel into the program or out of it, a method with as many parameters
+/// as there are arguments, called on an object exactly where it is not static, an exception class
+/// that is thrown or caught.
+pub fn classes_and_members_are_named()
+    ensures { ClassesAndMembersAreNamed }
 {}

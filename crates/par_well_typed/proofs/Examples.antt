@@ -1,0 +1,83 @@
+-- Worked bodies, over a table of one class with a static method.
+use Rattle.std.proofs.Common.{ℕ, ◌<◌, pos, true, false, [], ◌∷◌, None, refl, arith}
+use Rattle.std.specs.Prelude.{codes}
+use Rattle.par_typed.specs.declared.ty.Ty.TheVariants as ty
+use Rattle.par_typed.specs.declared.table.FieldInfo.{FieldInfo}
+use Rattle.par_typed.specs.declared.table.MethodInfo.{MethodInfo}
+use Rattle.par_typed.specs.declared.table.ClassInfo.{ClassInfo}
+use Rattle.par_typed.specs.declared.table.Table.{Table}
+use Rattle.par_typed.specs.Plain.{Mark, Int, Local, TSta, Block, SetLocal, SetStatic, Then, End}
+use Rattle.par_well_typed.specs.Orderly.{IsBodyOf}
+use Rattle.par_well_typed.specs.Members.{ExpNames, StaNames}
+use Rattle.par_typed.specs.Nodes.{nodes, stmt_nodes}
+use Rattle.par_annotate.specs.Points.{count_from, points, stmt_points}
+use Rattle.par_well_typed.specs.Numbers.{ExpInRange, StaInRange}
+
+-- `static int got;`
+got : FieldInfo
+got = record { name = codes "got"; is_static = true; ty = ty.Int; policy = 0; inferred = false }
+
+-- `static void main()`, with a local `int x`
+main : MethodInfo
+main = record {
+  name = codes "main";
+  at = 0;
+  nodes = 5;
+  is_static = true;
+  result = ty.Void;
+  policy = 0;
+  params = [];
+  locals = ty.Int ∷ [];
+  effect = 0;
+  expects = [];
+  opens = [];
+  closes = [];
+  throws = [];
+}
+
+shop : ClassInfo
+shop = record {
+  name = codes "Shop";
+  at = 0;
+  exception = false;
+  birth = 0;
+  fields = got ∷ [];
+  channels = [];
+  methods = main ∷ [];
+}
+
+table : Table
+table = record { actors = []; locks = []; policies = [] ∷ []; classes = shop ∷ []; main = 0 }
+
+number : ℕ → Mark
+number point = record { at = 0; point = point; ty = ty.Int; sure = false }
+
+-- `{ int x = 1; got = x; }`, where `got` is the field of the class of this number
+body : ℕ → TSta
+body class =
+    Block (Then (SetLocal 0 None (Int (pos 1) (number 2)) 0 1)
+    (Then (SetStatic class 0 (Local 0 (number 4)) 0 3) End)) 0 0
+
+-- the body of `main`
+right : IsBodyOf table (record { class = 0; method = 0; body = body 0 }) main
+unfolding table body shop main number StaInRange ExpInRange stmt_points points stmt_nodes nodes count_from
+right = record {
+  method = refl;
+  points = refl;
+  numbers = ((omega arith, tt, tt), (omega arith, tt));
+}
+
+-- it names a static field of `Shop`
+named : StaNames table (body 0)
+unfolding table body shop got number StaNames ExpNames
+named = (tt, ((refl, tt), tt))
+
+-- no class has the number 7
+no_class : StaNames table (body 7) → ⊥
+unfolding table body shop got number StaNames ExpNames
+no_class h = h.1.0.0
+
+-- a local that the method does not have is refused
+no_local : StaInRange table 0 (body 0) → ⊥
+unfolding table body shop number StaInRange ExpInRange
+no_local h = let none : 0 < 0 = h.0.0 in omega arith
