@@ -1,0 +1,357 @@
+//! Nodes of expressions.
+
+ghost use Rattle.std.specs.Prelude.{◌≡◌, IfOk};
+ghost use Rattle.par_typed.specs.Shown.{all_shown, receiver, shown};
+ghost use Rattle.par_rules.specs.Kinds.{Next};
+ghost use Rattle.par_rules.specs.Declares.{declares};
+ghost use Rattle.par_rules.specs.Rules as plain;
+ghost use Rattle.par_rules.specs.Body as body;
+ghost use Rattle.par_nodes.specs.Seen.{seen_node, seen_origin, seen_rules, seen_start};
+ghost use Rattle.par_nodes.specs.Starts.{behind, call_does, call_start, start_at};
+
+use crate::call::{Stand, called};
+use crate::declared;
+use crate::make::{self, ENTRY, PAST, TESTED};
+use crate::rule::{Kind, Node, Origin, Rules, Start, Worth};
+use par_lexer::list::NoMemory;
+use par_lexer::operator::BinOp;
+use par_typed::expr::{TExpr, TExprKind};
+use par_typed::table::Table;
+use std::alloc::Global;
+
+const ARITHMETIC: u16 = 0;
+
+const NULL_POINTER: u16 = 1;
+
+#[tactic(auto, using(par_typed::proofs::Shown::shows))]
+fn is_sure(e: &TExpr) -> bool
+    ensures { result ≡ body.is_sure (shown e.now) }
+{
+    match &e.kind {
+        TExprKind::Int(n) => *n != 0,
+        TExprKind::Bool(_)
+        | TExprKind::Null
+        | TExprKind::This
+        | TExprKind::New(_)
+        | TExprKind::Local(_)
+        | TExprKind::Static(_, _)
+        | TExprKind::Field(_, _, _)
+        | TExprKind::Input(_, _)
+        | TExprKind::Output(_, _, _)
+        | TExprKind::Call(_, _, _, _)
+        | TExprKind::Neg(_)
+        | TExprKind::Not(_)
+        | TExprKind::Binary(_, _, _) => false,
+    }
+}
+
+/// The way throws NullPointerException, unless the object is never null.
+#[tactic(auto, using(par_typed::proofs::Shown::shown_mark))]
+pub fn null_test<'a>(
+    alloc: Global,
+    of: &TExpr,
+    from: Origin<'a>,
+    more: Rules<'a>,
+) -> Result<Rules<'a>, NoMemory>
+    ensures { IfOk result (λ r. seen_rules r
+        ≡ body.null_test (shown of.now) (seen_origin from.entry) (seen_rules more.entry)) }
+{
+    if of.sure {
+        Ok(more)
+    } else {
+        make::leaves(alloc, from, Kind::Throw(NULL_POINTER), more)
+    }
+}
+
+// Division and remainder throw where the divisor may be 0.
+fn divides<'a>(
+    alloc: Global,
+    op: BinOp,
+    divisor: &TExpr,
+    more: Rules<'a>,
+) -> Result<Rules<'a>, NoMemory>
+    ensures { IfOk result (λ r. seen_rules r
+        ≡ body.divides op (shown divisor.now) (seen_rules more.entry)) }
+{
+    match op {
+        BinOp::Div | BinOp::Rem => {
+            if is_sure(divisor) {
+                Ok(more)
+            } else {
+                make::leaves(alloc, TESTED, Kind::Throw(ARITHMETIC), more)
+            }
+        }
+        _ => Ok(more),
+    }
+}
+
+// From where the second operand is entered.
+fn second(op: BinOp) -> Origin<'static>
+    ensures { seen_origin result ≡ body.second op }
+{
+    match op {
+        BinOp::And | BinOp::Or => TESTED,
+        _ => PAST,
+    }
+}
+
+// Behind the first operand it may go on.
+fn skips<'a>(alloc: Global, op: BinOp, more: Rules<'a>) -> Result<Rules<'a>, NoMemory>
+    ensures { IfOk result (λ r. seen_rules r ≡ body.skips op (seen_rules more.entry)) }
+{
+    match op {
+        BinOp::And | BinOp::Or => {
+            let from = Origin {
+                start: Start::After(1, Kind::Normal),
+                ..PAST
+            };
+            make::goes_on(alloc, from, more)
+        }
+        _ => Ok(more),
+    }
+}
+
+/// From where the part at the place is entered.
+pub fn start_at(place: usize, from: Start) -> Start
+    ensures { seen_start result ≡ start_at place (seen_start from) }
+{
+    if place == 0 {
+        from
+    } else {
+        Start::After(0, Kind::Normal)
+    }
+}
+
+// A field of an object.
+fn select<'a>(alloc: Global, node: Node<'a>, of: &TExpr, policy: u16) -> Result<Rules<'a>, NoMemory>
+    ensures { IfOk result (λ r. seen_rules r ≡ plain.Part plain.Entry Next (seen_node node.entry)
+        (body.null_test (shown of.now) body.tested (plain.goes_on body.past
+        (plain.Worths (plain.Value 0) (plain.Worths (plain.Given policy) plain.Done))))) }
+{
+    let own = make::worth(alloc, Worth::Given(policy))?;
+    let value = make::worths(alloc, Worth::Value(0), own)?;
+    let goes = make::goes_on(alloc, PAST, value)?;
+    let rest = null_test(alloc, of, TESTED, goes)?;
+    let rules = make::then(alloc, ENTRY, node, rest)?;
+    Ok(rules)
+}
+
+// The value of the part.
+fn unary<'a>(alloc: Global, node: Node<'a>) -> Result<Rules<'a>, NoMemory>
+    ensures { IfOk result (λ r. seen_rules r ≡ plain.Part plain.Entry Next (seen_node node.entry)
+        (plain.goes_on body.past (plain.Worths (plain.Value 0) plain.Done))) }
+{
+    let value = make::worth(alloc, Worth::Value(0))?;
+    let goes = make::goes_on(alloc, PAST, value)?;
+    let rules = make::then(alloc, ENTRY, node, goes)?;
+    Ok(rules)
+}
+
+// The values of both operands.
+fn operands<'a>(alloc: Global) -> Result<Rules<'a>, NoMemory>
+    ensures { IfOk result (λ r. seen_rules r ≡ plain.goes_on body.past
+        (plain.Worths (plain.Value 1) (plain.Worths (plain.Value 0) plain.Done))) }
+{
+    let last = make::worth(alloc, Worth::Value(0))?;
+    let both = make::worths(alloc, Worth::Value(1), last)?;
+    let rules = make::goes_on(alloc, PAST, both)?;
+    Ok(rules)
+}
+
+fn binary<'a>(
+    alloc: Global,
+    op: BinOp,
+    first: Node<'a>,
+    last: Node<'a>,
+    right: &TExpr,
+) -> Result<Rules<'a>, NoMemory>
+    ensures { IfOk result (λ r. seen_rules r ≡ plain.Part plain.Entry Next (seen_node first.entry)
+        (plain.Part (body.second op) Next (seen_node last.entry)
+        (body.divides op (shown right.now) (body.skips op (plain.goes_on body.past
+        (plain.Worths (plain.Value 1) (plain.Worths (plain.Value 0) plain.Done))))))) }
+{
+    let values = operands(alloc)?;
+    let skipped = skips(alloc, op, values)?;
+    let divided = divides(alloc, op, right, skipped)?;
+    let behind = make::then(alloc, second(op), last, divided)?;
+    let rules = make::then(alloc, ENTRY, first, behind)?;
+    Ok(rules)
+}
+
+// The arguments, of which the first is entered from the way.
+#[cycle(exp)]
+fn args<'a>(
+    alloc: Global,
+    table: &'a Table,
+    from: Start,
+    args: &[TExpr],
+    more: Rules<'a>,
+) -> Result<Rules<'a>, NoMemory>
+    ensures { IfOk result (λ r. seen_rules r ≡ body.args (declares table.now) (seen_start from)
+        (all_shown args.now) (seen_rules more.entry)) }
+{
+    let mut rules = more;
+    for place in (0..args.len()).rev() {
+        let node = exp(alloc, table, &args[place])?;
+        rules = make::then(
+            alloc,
+            Origin {
+                start: start_at(place, from),
+                ..ENTRY
+            },
+            node,
+            rules,
+        )?;
+    }
+    Ok(rules)
+}
+
+// The part, and nothing else.
+pub fn before<'a>(alloc: Global, node: Node<'a>) -> Result<Rules<'a>, NoMemory>
+    ensures { IfOk result (λ r. seen_rules r ≡ plain.Part plain.Entry Next (seen_node node.entry)
+        (plain.goes_on body.past plain.Done)) }
+{
+    let goes = make::ends(alloc, PAST)?;
+    let rules = make::then(alloc, ENTRY, node, goes)?;
+    Ok(rules)
+}
+
+// From where the first argument is entered.
+fn call_start(of: &Option<Box<TExpr>>) -> Start
+    ensures { seen_start result ≡ call_start (receiver of.now) }
+{
+    match of {
+        None => Start::Entry,
+        Some(_) => Start::After(0, Kind::Normal),
+    }
+}
+
+// What a call does behind its arguments.
+#[tactic(auto, using(crate::proofs::Rows::past_is, crate::proofs::Rows::count_is))]
+fn call_does<'a>(
+    alloc: Global,
+    table: &'a Table,
+    class: u16,
+    method: u16,
+    of: &Option<Box<TExpr>>,
+    arguments: &[TExpr],
+) -> Result<Rules<'a>, NoMemory>
+    ensures { IfOk result (λ r. seen_rules r
+        ≡ call_does (declares table.now) ((declares table.now).method class method)
+        (receiver of.now) (all_shown arguments.now)) }
+{
+    match of {
+        None => {
+            let stand = Stand {
+                start: start_at(arguments.len(), Start::Entry),
+                receiver: None,
+            };
+            let rules = called(alloc, table, stand, class, method)?;
+            Ok(rules)
+        }
+        Some(of) => {
+            let stand = Stand {
+                start: Start::After(0, Kind::Normal),
+                receiver: Some(arguments.len()),
+            };
+            let does = called(alloc, table, stand, class, method)?;
+            let value = make::worths(alloc, Worth::Value(arguments.len()), does)?;
+            let rules = null_test(alloc, of, stand.way(), value)?;
+            Ok(rules)
+        }
+    }
+}
+
+// Behind the receiver, if there is one.
+#[cycle(exp)]
+fn behind<'a>(
+    alloc: Global,
+    table: &'a Table,
+    of: &Option<Box<TExpr>>,
+    more: Rules<'a>,
+) -> Result<Rules<'a>, NoMemory>
+    ensures { IfOk result (λ r. seen_rules r
+        ≡ behind (declares table.now) (receiver of.now) (seen_rules more.entry)) }
+{
+    match of {
+        None => Ok(more),
+        Some(of) => {
+            let node = exp(alloc, table, of)?;
+            let rules = make::then(alloc, ENTRY, node, more)?;
+            Ok(rules)
+        }
+    }
+}
+
+/// The node of an expression.
+#[cycle(exp)]
+pub fn exp<'a>(alloc: Global, table: &'a Table, e: &TExpr) -> Result<Node<'a>, NoMemory>
+    ensures { IfOk result (λ n. seen_node n ≡ body.exp (declares table.now) (shown e.now)) }
+{
+    let rules = rules_of(alloc, table, e)?;
+    Ok(Node {
+        point: e.point,
+        rules,
+    })
+}
+
+#[cycle(exp)]
+#[tactic(auto, using(crate::proofs::Rows::call_is, par_typed::proofs::Shown::shows), unfolding(par_rules::specs::Body::exp))]
+fn rules_of<'a>(alloc: Global, table: &'a Table, e: &TExpr) -> Result<Rules<'a>, NoMemory>
+    ensures { IfOk result (λ r. plain.node e.now.point (seen_rules r)
+        ≡ body.exp (declares table.now) (shown e.now)) }
+{
+    match &e.kind {
+        TExprKind::Int(_) | TExprKind::Bool(_) | TExprKind::Null | TExprKind::This => {
+            let rules = make::ends(alloc, ENTRY)?;
+            Ok(rules)
+        }
+        TExprKind::New(class) => {
+            let rules = make::gives(alloc, Worth::Given(declared::birth(table, *class)))?;
+            Ok(rules)
+        }
+        TExprKind::Local(local) => {
+            let rules = make::gives(alloc, Worth::Held(*local))?;
+            Ok(rules)
+        }
+        TExprKind::Static(class, field) => {
+            let policy = declared::field(table, *class, *field);
+            let rules = make::gives(alloc, Worth::Given(policy))?;
+            Ok(rules)
+        }
+        TExprKind::Input(class, channel) => {
+            let policy = declared::channel(table, *class, *channel);
+            let rules = make::gives(alloc, Worth::Given(policy))?;
+            Ok(rules)
+        }
+        TExprKind::Field(of, class, field) => {
+            let policy = declared::field(table, *class, *field);
+            let node = exp(alloc, table, of)?;
+            let rules = select(alloc, node, of, policy)?;
+            Ok(rules)
+        }
+        TExprKind::Output(_, _, value) => {
+            let node = exp(alloc, table, value)?;
+            let rules = before(alloc, node)?;
+            Ok(rules)
+        }
+        TExprKind::Call(class, method, of, arguments) => {
+            let arguments = arguments.as_slice();
+            let does = call_does(alloc, table, *class, *method, of, arguments)?;
+            let all = args(alloc, table, call_start(of), arguments, does)?;
+            let rules = behind(alloc, table, of, all)?;
+            Ok(rules)
+        }
+        TExprKind::Neg(of) | TExprKind::Not(of) => {
+            let node = exp(alloc, table, of)?;
+            let rules = unary(alloc, node)?;
+            Ok(rules)
+        }
+        TExprKind::Binary(op, left, right) => {
+            let first = exp(alloc, table, left)?;
+            let last = exp(alloc, table, right)?;
+            let rules = binary(alloc, *op, first, last, right)?;
+            Ok(rules)
+        }
+    }
+}
