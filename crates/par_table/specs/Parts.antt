@@ -13,7 +13,8 @@ use Rattle.par_resolved.specs.Numbered.{same_policy}
 
 -- one more policy, unless it is there
 abbrev pub with_policy : List (List Clause) → List Clause → List (List Clause)
-with_policy policies p = if list_any (same_policy p) policies then policies else policies ++ p ∷ []
+with_policy policies p =
+    if list_any (same_policy p) policies then policies else policies ++ p ∷ []
 
 -- an inferred policy begins as `bottom`
 abbrev pub inferred_policy : Known → FieldDecl → List Clause

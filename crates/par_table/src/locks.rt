@@ -1,6 +1,7 @@
 //! The ground locks of a program, by their numbers.
 
-ghost use Rattle.std.specs.Prelude.{◌≡◌, ◌<◌, ◌≤◌, ◌^◌, ◌++◌, [], ◌∷◌, map, flat_map, sum_by, length, IfOk, OnOk, Some, None, true, if◌then◌else◌};
+ghost use Rattle.std.specs.Prelude.{◌≡◌, ◌<◌, ◌≤◌, ◌^◌, ◌++◌, [], ◌∷◌, map, flat_map, sum_by};
+ghost use Rattle.std.specs.Prelude.{length, IfOk, OnOk, Some, None, true, if◌then◌else◌};
 ghost use Rattle.std.specs.List.{range_with_len};
 ghost use Rattle.par_tree.specs.Shown.{source};
 ghost use Rattle.par_names.specs.Declarations as names;
@@ -124,7 +125,8 @@ fn policy_number(
     resolved: &Resolved<'_>,
     policy: &Option<PolicyExpr>,
 ) -> Result<u16, NoMemory>
-    ensures { IfOk result (λ n. lock_policy (resolved_seen resolved.now) true policy.now ≡ Some n) }
+    ensures { IfOk result (λ n.
+        lock_policy (resolved_seen resolved.now) true policy.now ≡ Some n) }
 {
     match policy {
         None => Ok(resolved.number_of(&top(alloc)?)),
