@@ -43,4 +43,6 @@ mod single_files;
 #[cfg(test)]
 mod source_runs;
 #[cfg(test)]
+mod table;
+#[cfg(test)]
 mod tokens;

@@ -1,0 +1,133 @@
+//! The policies of a table, each once.
+
+ghost use Rattle.std.specs.Prelude.{◌≡◌, ◌++◌, map, flat_map, IfOk, OnOk};
+ghost use Rattle.std.specs.List.{position};
+ghost use Rattle.par_tree.specs.Shown.{source};
+ghost use Rattle.par_resolved.specs.Seen.{known_seen};
+ghost use Rattle.par_resolved.specs.Gathered.{classes_of};
+ghost use Rattle.par_resolved.specs.Numbered.{same_clause, same_policy, distinct, shared_policies};
+ghost use Rattle.par_table.specs.Parts.{with_policy, inferred_policies};
+
+use crate::entries::entries;
+use par_policy::{Clause, Policy};
+use par_resolved::NoMemory;
+use par_resolved::entries::Entry;
+use par_resolved::known::{Known, bottom};
+use par_tree::decl::{ClassDecl, FieldDecl, Program};
+use std::alloc::Global;
+
+fn same_clause(c: &Clause, d: &Clause) -> bool
+    ensures { result ≡ same_clause c.now d.now }
+{
+    c.actor == d.actor && c.locks.as_slice() == d.locks.as_slice()
+}
+
+fn same_clauses(p: &[Clause], q: &[Clause]) -> bool
+    ensures { result ≡ same_policy p.now q.now }
+{
+    if p.len() != q.len() {
+        return false;
+    }
+    for i in 0..p.len() {
+        if !same_clause(&p[i], &q[i]) {
+            return false;
+        }
+    }
+    true
+}
+
+fn same_policy(p: &Policy, q: &Policy) -> bool
+    ensures { result ≡ same_policy p.now q.now }
+{
+    same_clauses(p.clauses(), q.clauses())
+}
+
+/// The place of a policy among others. There are never more than a table may have.
+pub fn place_of(policies: &[Policy], policy: &Policy) -> Option<usize>
+    ensures { result ≡ position (same_policy policy.now) policies.now }
+{
+    policies.iter().position(|other| same_policy(policy, other))
+}
+
+fn push_distinct(found: &mut Vec<Policy>, policy: &Policy) -> Result<(), NoMemory>
+    ensures { OnOk result (found.new.items ≡ with_policy found.old.items policy.now) }
+{
+    if place_of(found.as_slice(), policy).is_some() {
+        return Ok(());
+    }
+    found.push(policy.clone()?)?;
+    Ok(())
+}
+
+fn distinct(alloc: Global, entries: &[Entry]) -> Result<Vec<Policy>, NoMemory>
+    ensures { IfOk result (λ found.
+        found.items ≡ map (λ e. e.policy) (distinct entries.now)) }
+{
+    let mut found = Vec::new(alloc);
+    for entry in entries {
+        push_distinct(&mut found, &entry.policy)?;
+    }
+    Ok(found)
+}
+
+/// The policies that are not inferred, in the order of their numbers.
+pub fn shared_policies(
+    alloc: Global,
+    known: &Known<'_>,
+    program: &Program,
+) -> Result<Vec<Policy>, NoMemory>
+    ensures { IfOk result (λ found.
+        found.items ≡ shared_policies (known_seen known.now) (source program.now)) }
+{
+    let entries = entries(alloc, known, program)?;
+    distinct(alloc, entries.as_slice())
+}
+
+#[tactic(auto, using(par_resolved::proofs::Pushes::pushes))]
+fn push_bottoms(
+    alloc: Global,
+    found: &mut Vec<Policy>,
+    known: &Known<'_>,
+    fields: &[FieldDecl],
+) -> Result<(), NoMemory>
+    ensures { OnOk result (found.new.items
+        ≡ found.old.items ++ inferred_policies (known_seen known.now) fields.now) }
+{
+    for field in fields {
+        if field.inferred {
+            found.push(bottom(alloc, &known.numbers)?)?;
+        }
+    }
+    Ok(())
+}
+
+/// These policies, once more.
+#[tactic(auto, using(par_resolved::proofs::Pushes::pushes))]
+pub fn copies(alloc: Global, policies: &[Policy]) -> Result<Vec<Policy>, NoMemory>
+    ensures { IfOk result (λ made. made.items ≡ policies.now) }
+{
+    let mut made = Vec::new(alloc);
+    for policy in policies {
+        made.push(policy.clone()?)?;
+    }
+    Ok(made)
+}
+
+/// Pushes what the inferred fields of these classes begin as.
+#[tactic(auto, using(par_resolved::proofs::Pushes::pushes))]
+pub fn push_inferred(
+    alloc: Global,
+    found: &mut Vec<Policy>,
+    known: &Known<'_>,
+    classes: &[&ClassDecl],
+) -> Result<(), NoMemory>
+    ensures { OnOk result (found.new.items
+        ≡ found.old.items
+        ++ flat_map (λ c. inferred_policies (known_seen known.now) c.fields)
+        (classes_of classes.now)) }
+{
+    for class in classes {
+        push_bottoms(alloc, found, known, class.fields.as_slice())?;
+    }
+    Ok(())
+}
