@@ -17,4 +17,4 @@ written_in known policies = record {
 }
 
 abbrev pub written_by : Numbering → Written
-written_by n = written_in n.known.now n.policies.now
+written_by n = written_in n.known n.policies.now

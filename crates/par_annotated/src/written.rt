@@ -12,7 +12,7 @@ use std::alloc::Global;
 /// What is known of a program, and the policies of its table, which are few.
 #[derive(Drop)]
 pub struct Numbering<'a> {
-    known: &'a Known<'a>,
+    known: Known<'a>,
     policies: &'a [Policy],
     ghost few: { length policies.now < 2 ^ 16 },
 }
@@ -21,9 +21,9 @@ impl<'a> Numbering<'a> {
     ghost use Rattle.par_annotated.specs.Numbers.{written_by, written_in};
 
     /// Locks by the numbers of the program, and policies by their places among these.
-    pub fn of(known: &'a Known<'a>, policies: &'a [Policy]) -> Numbering<'a>
+    pub fn of(known: Known<'a>, policies: &'a [Policy]) -> Numbering<'a>
         requires { length policies.now < 2 ^ 16 }
-        ensures { written_by result ≡ written_in known.now policies.now }
+        ensures { written_by result ≡ written_in known.entry policies.now }
     {
         Numbering { known, policies }
     }
