@@ -1,0 +1,12 @@
+//! The typed program, or the first broken rule on types.
+//!
+//! The crate puts the pass over the rules on types before the maker of typed trees, for a program
+//! whose names and limits are right and whose table is made. It looks at no rule itself, and makes
+//! no node.
+#![tactic(auto)]
+
+mod error;
+mod program;
+
+pub use error::TypeError;
+pub use program::type_program;

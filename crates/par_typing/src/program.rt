@@ -1,0 +1,86 @@
+//! The typed program of a program that breaks no rule on types.
+
+ghost use Rattle.std.specs.Prelude.{◌≡◌, [], IfOk, IfErr};
+ghost use Rattle.par_tree.specs.Shown.{source};
+ghost use Rattle.par_typed.specs.Shown.{bodies};
+ghost use Rattle.par_types.specs.Program.{type_faults};
+ghost use Rattle.par_annotate.specs.Bodies.{typed_program};
+ghost use Rattle.par_typed.specs.First.{IsAnswer};
+ghost use Rattle.par_resolved.specs.Policies as policies;
+ghost use Rattle.par_resolved.specs.Resolved.{table_of};
+ghost use Rattle.par_resolved.specs.Seen.{known_seen};
+ghost use Rattle.par_faults.specs.Faults.{all_faults};
+ghost use Rattle.par_typing.specs.Numbers.{SourceHasNumbers};
+ghost use Rattle.par_typing.specs.Typed.{IsTyped, IsRefused, written};
+
+use crate::error::TypeError;
+use par_annotated::{Numbering, type_bodies};
+use par_lexer::list::{List, NoMemory};
+use par_resolved::known::Known;
+use par_resolved::scope;
+use par_tree::decl::Program;
+use par_typed::program::{TBody, Typed};
+use par_typed::refusal::Refusal;
+use par_typed::table::Table;
+use par_types::check_bodies;
+use std::alloc::Global;
+
+// What is known of a program that breaks no limit.
+fn known_of(alloc: Global, program: &Program) -> Result<Known<'_>, NoMemory>
+    requires { all_faults (source program.now) ≡ [] }
+    ensures { IfOk result (λ k. known_seen k ≡ policies.known (source program.now)) }
+{
+    match scope::known(alloc, program) {
+        Ok(known) => Ok(known),
+        Err(_) => Err(NoMemory),
+    }
+}
+
+// The typed bodies of a program that breaks no rule.
+fn bodies_of<'a>(
+    alloc: Global,
+    table: &'a Table,
+    program: &'a Program,
+) -> Result<List<TBody>, NoMemory>
+    requires named { all_faults (source program.now) ≡ [] }
+    requires tabled { table.now ≡ table_of (source program.now) }
+    requires numbers { SourceHasNumbers (source program.now) }
+    requires typed { type_faults table.now (source program.now) ≡ [] }
+    ensures { IfOk result (λ found. bodies found
+        ≡ typed_program (written (source program.now)) table.now (source program.now)) }
+{
+    let known = known_of(alloc, program)?;
+    let numbering = Numbering::of(known, table.policies.as_slice());
+    type_bodies(alloc, table, program, &numbering)
+}
+
+// The first broken rule on types, if one is broken.
+fn first_broken(
+    alloc: Global,
+    table: &Table,
+    program: &Program,
+) -> Result<Option<Refusal>, NoMemory>
+    requires named { all_faults (source program.now) ≡ [] }
+    requires tabled { table.now ≡ table_of (source program.now) }
+    ensures { IfOk result (IsAnswer (type_faults table.now (source program.now))) }
+{
+    check_bodies(alloc, table, program)
+}
+
+/// The typed program over this table, exactly where no rule on types is broken. A refusal drops the
+/// table.
+pub fn type_program(alloc: Global, table: Table, program: &Program) -> Result<Typed, TypeError>
+    requires named { all_faults (source program.now) ≡ [] }
+    requires tabled { table ≡ table_of (source program.now) }
+    requires numbers { SourceHasNumbers (source program.now) }
+    ensures typed { IfOk result (IsTyped table (source program.now)) }
+    ensures refused { IfErr result (IsRefused (type_faults table (source program.now))) }
+{
+    match first_broken(alloc, &table, program)? {
+        Some(refusal) => Err(TypeError::Broken(refusal)),
+        None => {
+            let bodies = bodies_of(alloc, &table, program)?;
+            Ok(Typed { table, bodies })
+        }
+    }
+}
