@@ -7,6 +7,7 @@ pub mod Unbroken
 pub mod Policies
 pub mod Entries
 pub mod Bodies
+pub mod SetFirst
 pub mod Places
 pub mod Programs
 pub mod Members

@@ -1,5 +1,6 @@
 pub mod Tables
 pub mod Numbers
+pub mod SetFirst
 pub mod Orderly
 pub mod Members
 pub mod Sources

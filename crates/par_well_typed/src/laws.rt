@@ -11,7 +11,8 @@ pub fn tables_are_in_range()
 {}
 
 /// Each typed body of such a source belongs to a method of its table. Its points are the numbers
-/// below the count of its nodes, and its locals, locks and policies are in range.
+/// below the count of its nodes, its locals, locks and policies are in range, and locals are set
+/// before they are read.
 pub fn bodies_have_methods()
     ensures { BodiesHaveMethods }
 {}
