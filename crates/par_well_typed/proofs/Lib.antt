@@ -13,5 +13,8 @@ pub mod Programs
 pub mod Members
 pub mod Named
 pub mod NamedStatements
+pub mod Sizes
+pub mod BodySizes
+pub mod Small
 pub mod Whole
 mod Examples

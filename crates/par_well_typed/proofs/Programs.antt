@@ -171,13 +171,13 @@ module _ (source : Source) (ordered : IsInOrder source) (none : name_faults sour
   class_names_differ = subst Differ (map-map (λ id. id.name) (λ c. c.id) (classes source)) class_ids_differ
 
   -- the class has its place as its number
-  class_number : (before rest : List Class) (c : Class) → classes source ≡ before ++ c ∷ rest → class_named (names_of t) c.id.name ≡ Some (length before)
+  pub class_number : (before rest : List Class) (c : Class) → classes source ≡ before ++ c ∷ rest → class_named (names_of t) c.id.name ≡ Some (length before)
   class_number before rest c is =
       ap (position (bytes_eq c.id.name)) (names-class_infos r 0 (length r.policies) (classes source))
       ∙ ap (λ cs. position (bytes_eq c.id.name) (map (λ k. k.id.name) cs)) is
       ∙ named_at (λ k. k.id.name) before rest c (subst (λ cs. Differ (map (λ k. k.id.name) cs)) is class_names_differ)
 
-  class_stands : (before rest : List Class) (c : Class) → classes source ≡ before ++ c ∷ rest
+  pub class_stands : (before rest : List Class) (c : Class) → classes source ≡ before ++ c ∷ rest
       → (n : ℕ) × (slice_get t.classes (length before) ≡ Some (class_info r (length before) n c))
   class_stands before rest c is =
       let found = class_at r 0 (length r.policies) before rest c in (
@@ -188,7 +188,7 @@ module _ (source : Source) (ordered : IsInOrder source) (none : name_faults sour
 
   -- ---- one method
 
-  method_names_differ : (c : Class) → IsKeptClass source c → Ascend 0 (map (λ m. m.id.at) c.methods) → Differ (map (λ m. m.id.name) c.methods)
+  pub method_names_differ : (c : Class) → IsKeptClass source c → Ascend 0 (map (λ m. m.id.at) c.methods) → Differ (map (λ m. m.id.name) c.methods)
   method_names_differ c (past, h) up =
       let v = view_behind source past in
       let to_channels = none_left _ (flat_map (channel_faults v) c.channels) (none_left _ (flat_map (method_faults v c) c.methods) h) in
@@ -198,7 +198,7 @@ module _ (source : Source) (ordered : IsInOrder source) (none : name_faults sour
       subst Differ (map-map (λ id. id.name) (λ m. m.id) c.methods)
       (differ 0 ids ups (apart_behind (map (λ k. k.id) c.channels) ids (apart (callee_ids c) twice)))
 
-  method_number : (class n : ℕ) (c : Class) (before after : List Method) (m : Method) → slice_get t.classes class ≡ Some (class_info r class n c)
+  pub method_number : (class n : ℕ) (c : Class) (before after : List Method) (m : Method) → slice_get t.classes class ≡ Some (class_info r class n c)
       → c.methods ≡ before ++ m ∷ after → Differ (map (λ k. k.id.name) c.methods)
       → numbered (number_in (methods_in (slice_get (names_of t).members class)) m.id.name) ≡ length before
   method_number class n c before after m stands is apart_names =
@@ -209,7 +209,7 @@ module _ (source : Source) (ordered : IsInOrder source) (none : name_faults sour
       ∙ ap (λ ms. numbered (position (bytes_eq m.id.name) (map (λ k. k.id.name) ms))) is
       ∙ ap numbered (named_at (λ k. k.id.name) before after m (subst (λ ms. Differ (map (λ k. k.id.name) ms)) is apart_names))
 
-  method_stands : (class n : ℕ) (c : Class) (before after : List Method) (m : Method) → slice_get t.classes class ≡ Some (class_info r class n c)
+  pub method_stands : (class n : ℕ) (c : Class) (before after : List Method) (m : Method) → slice_get t.classes class ≡ Some (class_info r class n c)
       → c.methods ≡ before ++ m ∷ after → method_at t class (length before) ≡ Some (method_info r class m)
   method_stands class n c before after m stands is =
       ap (λ o. slice_get (bodies.methods_in o) (length before)) stands
