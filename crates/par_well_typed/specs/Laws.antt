@@ -19,8 +19,8 @@ abbrev pub TablesAreInRange : Type 0
 TablesAreInRange =
     (source : Source) → IsInOrder source → all_faults source ≡ [] → IsInRange (table_of source)
 
--- each body is that of a method of the table: its points are in order, its numbers are in range, and
--- locals are set before they are read
+-- each body is that of a method of the table: its points are in order, its numbers are in range,
+-- and locals are set before they are read
 abbrev pub BodiesHaveMethods : Type 0
 BodiesHaveMethods =
     (source : Source) → IsInOrder source → all_faults source ≡ []
