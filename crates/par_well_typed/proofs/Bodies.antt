@@ -40,17 +40,17 @@ use Rattle.par_annotate.specs.Stmts.{own_target, name_target, selected_target, b
 use Rattle.par_annotate.specs.Stmts.{typed_sta, typed_braces, typed_may_braces, typed_else, typed_stas, typed_catches, typed_handler}
 use Rattle.par_annotate.specs.Stmts.{locals_in, braces_locals, may_braces_locals, else_locals, all_locals, catches_locals, handler_locals}
 use Rattle.par_well_typed.specs.Tables.{IsLock, MayBePolicy}
-use Rattle.par_well_typed.specs.Numbers.{ExpInRange, MayExpInRange, ExpsInRange, StaInRange, ElseInRange, StasInRange, CatchesInRange}
+use Rattle.par_well_typed.specs.Numbers.{ExpReads, MayExpRead, ExpsRead, StaInRange, ElseInRange, StasInRange, CatchesInRange}
 use Rattle.par_well_typed.specs.Typed.{written_in}
 use Rattle.par_well_typed.proofs.Lists.{none_left, none_right, of_both, each_is}
 use Rattle.par_well_typed.proofs.Ranges.{MayBe, at_place}
 use Rattle.par_well_typed.proofs.Entries as entries
 
--- ---- expressions, in a method with n locals
+-- ---- expressions, where the locals in scope are some of these
 
-module _ (n : ℕ) where
+module _ (P : ℕ → Type 0) where
   abbrev pub IsLocal : Var → Type 0
-  IsLocal x = x.number < n
+  IsLocal x = P x.number
 
   abbrev pub AreLocals : Frame → Type 0
   AreLocals frame = AllByRecursion IsLocal frame.vars
@@ -59,76 +59,76 @@ module _ (n : ℕ) where
   var_in frame None h = tt
   var_in frame (Some place) h = at_place IsLocal frame.vars place h
 
-  own_field_in : (b : Bool) (home : Home) (f : Place) (at p : ℕ) (m : Mark) → ExpInRange n (own_field b home f at p m)
-  unfolding ExpInRange
+  own_field_in : (b : Bool) (home : Home) (f : Place) (at p : ℕ) (m : Mark) → ExpReads P (own_field b home f at p m)
+  unfolding ExpReads
   own_field_in true home f at p m = tt
   own_field_in false home f at p m = tt
 
-  name_in : (home : Home) (x : Option Var) (f : Option Place) (at p : ℕ) (m : Mark) → MayBe IsLocal x → ExpInRange n (name_typed home x f at p m)
-  unfolding ExpInRange
+  name_in : (home : Home) (x : Option Var) (f : Option Place) (at p : ℕ) (m : Mark) → MayBe IsLocal x → ExpReads P (name_typed home x f at p m)
+  unfolding ExpReads
   name_in home None None at p m h = tt
   name_in home None (Some f) at p m h = own_field_in (field_is_static (field_at home.table f)) home f at p m
   name_in home (Some x) f at p m h = h
 
-  negation_in : (o : Option ℕ) (e : TExp) (m : Mark) → ExpInRange n e → ExpInRange n (negation o e m)
-  unfolding ExpInRange
+  negation_in : (o : Option ℕ) (e : TExp) (m : Mark) → ExpReads P e → ExpReads P (negation o e m)
+  unfolding ExpReads
   negation_in None e m h = h
   negation_in (Some k) e m h = tt
 
-  selection_in : (r : Receiver) (f : Option Place) (e : TExp) (m : Mark) → ExpInRange n e → ExpInRange n (selection r f e m)
-  unfolding ExpInRange
+  selection_in : (r : Receiver) (f : Option Place) (e : TExp) (m : Mark) → ExpReads P e → ExpReads P (selection r f e m)
+  unfolding ExpReads
   selection_in r None e m h = tt
   selection_in Own (Some f) e m h = tt
   selection_in (Class class) (Some f) e m h = tt
   selection_in (Object t) (Some f) e m h = h
 
-  own_in : (b : Bool) (this : TExp) → ExpInRange n this → MayExpInRange n (own_receiver b this)
-  unfolding ExpInRange
+  own_in : (b : Bool) (this : TExp) → ExpReads P this → MayExpRead P (own_receiver b this)
+  unfolding ExpReads
   own_in true this h = tt
   own_in false this h = h
 
-  method_on_in : (r : Receiver) (b : Bool) (o : MayTExp) (this : TExp) → MayExpInRange n o → ExpInRange n this → MayExpInRange n (method_on r b o this)
-  unfolding ExpInRange
+  method_on_in : (r : Receiver) (b : Bool) (o : MayTExp) (this : TExp) → MayExpRead P o → ExpReads P this → MayExpRead P (method_on r b o this)
+  unfolding ExpReads
   method_on_in Own b o this h k = own_in b this k
   method_on_in (Class class) b o this h k = tt
   method_on_in (Object t) b o this h k = h
 
-  callee_on_in : (home : Home) (r : Receiver) (c : Callee) (o : MayTExp) (this : TExp) → MayExpInRange n o → ExpInRange n this
-      → MayExpInRange n (callee_on home r c o this)
-  unfolding ExpInRange
+  callee_on_in : (home : Home) (r : Receiver) (c : Callee) (o : MayTExp) (this : TExp) → MayExpRead P o → ExpReads P this
+      → MayExpRead P (callee_on home r c o this)
+  unfolding ExpReads
   callee_on_in home r Unknown o this h k = tt
   callee_on_in home r (Channel p) o this h k = tt
   callee_on_in home r (Method p) o this h k = method_on_in r (method_is_static (method_at home.table p)) o this h k
 
-  first_in : (es : TExps) (m : Mark) → ExpsInRange n es → ExpInRange n (first es m)
-  unfolding ExpInRange
+  first_in : (es : TExps) (m : Mark) → ExpsRead P es → ExpReads P (first es m)
+  unfolding ExpReads
   first_in typed.NoExps m h = tt
   first_in (typed.More e es) m h = h.0
 
-  by_way_in : (b : Bool) (k : Place) (es : TExps) (m : Mark) → ExpsInRange n es → ExpInRange n (by_way b k es m)
-  unfolding ExpInRange
+  by_way_in : (b : Bool) (k : Place) (es : TExps) (m : Mark) → ExpsRead P es → ExpReads P (by_way b k es m)
+  unfolding ExpReads
   by_way_in true k es m h = tt
   by_way_in false k es m h = first_in es m h
 
-  through_in : (o : Option ChannelInfo) (k : Place) (es : TExps) (m : Mark) → ExpsInRange n es → ExpInRange n (through o k es m)
-  unfolding ExpInRange
+  through_in : (o : Option ChannelInfo) (k : Place) (es : TExps) (m : Mark) → ExpsRead P es → ExpReads P (through o k es m)
+  unfolding ExpReads
   through_in None k es m h = tt
   through_in (Some c) k es m h = by_way_in c.is_input k es m h
 
-  call_in : (home : Home) (c : Callee) (o : MayTExp) (es : TExps) (m : Mark) → MayExpInRange n o → ExpsInRange n es → ExpInRange n (call home c o es m)
-  unfolding ExpInRange
+  call_in : (home : Home) (c : Callee) (o : MayTExp) (es : TExps) (m : Mark) → MayExpRead P o → ExpsRead P es → ExpReads P (call home c o es m)
+  unfolding ExpReads
   call_in home Unknown o es m on args = tt
   call_in home (Channel k) o es m on args = through_in (channel_at home.table k) k es m args
   call_in home (Method k) o es m on args = (on, args)
 
-  this_in : (home : Home) (at p : ℕ) → ExpInRange n (own_this home at p)
-  unfolding ExpInRange
+  pub this_in : (home : Home) (at p : ℕ) → ExpReads P (own_this home at p)
+  unfolding ExpReads
   this_in home at p = tt
 
   mutual
-    unfolding ExpInRange typed_exp
+    unfolding ExpReads typed_exp
 
-    pub exp_in : (home : Home) (frame : Frame) (p : ℕ) (e : Exp) → AreLocals frame → ExpInRange n (typed_exp home frame p e)
+    pub exp_in : (home : Home) (frame : Frame) (p : ℕ) (e : Exp) → AreLocals frame → ExpReads P (typed_exp home frame p e)
     exp_in home frame p (Int k at) h = tt
     exp_in home frame p (True at) h = tt
     exp_in home frame p (False at) h = tt
@@ -156,11 +156,11 @@ module _ (n : ℕ) where
     exp_in home frame p (Not e at) h = exp_in home frame (p + 1) e h
     exp_in home frame p (Binary op a b at) h = (exp_in home frame (p + 1) a h, exp_in home frame _ b h)
 
-    pub may_in : (home : Home) (frame : Frame) (p : ℕ) (o : MayExp) → AreLocals frame → MayExpInRange n (typed_may home frame p o)
+    pub may_in : (home : Home) (frame : Frame) (p : ℕ) (o : MayExp) → AreLocals frame → MayExpRead P (typed_may home frame p o)
     may_in home frame p Absent h = tt
     may_in home frame p (Present e) h = exp_in home frame p e h
 
-    args_in : (home : Home) (frame : Frame) (p : ℕ) (es : Exps) → AreLocals frame → ExpsInRange n (typed_args home frame p es)
+    args_in : (home : Home) (frame : Frame) (p : ℕ) (es : Exps) → AreLocals frame → ExpsRead P (typed_args home frame p es)
     args_in home frame p NoExps h = tt
     args_in home frame p (More e es) h = (exp_in home frame p e h, args_in home frame _ es h)
 
@@ -174,13 +174,13 @@ module _ (source : Source) (arities : AllByRecursion (λ lock. lock.arity ≤ 2)
   w = written_in source
 
   abbrev IsVar : Var → Type 0
-  IsVar x = IsLocal n x × MayBePolicy t x.policy
+  IsVar x = IsLocal (λ k. k < n) x × MayBePolicy t x.policy
 
   abbrev pub AreVars : Frame → Type 0
   AreVars frame = AllByRecursion IsVar frame.vars
 
-  numbers_of : (frame : Frame) → AreVars frame → AreLocals n frame
-  numbers_of frame h = each_is IsVar (IsLocal n) frame.vars (λ x is. is.0) h
+  numbers_of : (frame : Frame) → AreVars frame → AreLocals (λ k. k < n) frame
+  numbers_of frame h = each_is IsVar (IsLocal (λ k. k < n)) frame.vars (λ x is. is.0) h
 
   policy_in : (o : Option PolicyExpr) → MayBePolicy t (may_policy w o)
   policy_in None = tt
@@ -200,18 +200,18 @@ module _ (source : Source) (arities : AllByRecursion (λ lock. lock.arity ≤ 2)
   TargetIn Nowhere = Unit {0}
   TargetIn (ToLocal x) = IsVar x
   TargetIn (ToStatic f) = Unit {0}
-  TargetIn (ToField e f) = ExpInRange n e
+  TargetIn (ToField e f) = ExpReads (λ x. x < n) e
 
-  own_target_in : (b : Bool) (this : TExp) (f : Place) → ExpInRange n this → TargetIn (own_target b this f)
+  own_target_in : (b : Bool) (this : TExp) (f : Place) → ExpReads (λ x. x < n) this → TargetIn (own_target b this f)
   own_target_in true this f h = tt
   own_target_in false this f h = h
 
-  name_target_in : (home : Home) (x : Option Var) (f : Option Place) (this : TExp) → MayBe IsVar x → ExpInRange n this → TargetIn (name_target home x f this)
+  name_target_in : (home : Home) (x : Option Var) (f : Option Place) (this : TExp) → MayBe IsVar x → ExpReads (λ x. x < n) this → TargetIn (name_target home x f this)
   name_target_in home None None this h k = tt
   name_target_in home None (Some f) this h k = own_target_in (field_is_static (field_at home.table f)) this f k
   name_target_in home (Some x) f this h k = h
 
-  selected_in : (r : Receiver) (f : Option Place) (e : TExp) → ExpInRange n e → TargetIn (selected_target r f e)
+  selected_in : (r : Receiver) (f : Option Place) (e : TExp) → ExpReads (λ x. x < n) e → TargetIn (selected_target r f e)
   selected_in r None e h = tt
   selected_in Own (Some f) e h = tt
   selected_in (Class class) (Some f) e h = tt
@@ -230,17 +230,17 @@ module _ (source : Source) (arities : AllByRecursion (λ lock. lock.arity ≤ 2)
   target_in home frame p (This at) h = tt
   target_in home frame p (New class at) h = tt
   target_in home frame p (Name x at) h =
-      name_target_in home (var_named frame x) (selected home Own x) (own_this home at p) (may_var frame (number_in frame.scope.names x) h) (this_in n home at p)
+      name_target_in home (var_named frame x) (selected home Own x) (own_this home at p) (may_var frame (number_in frame.scope.names x) h) (this_in (λ k. k < n) home at p)
   target_in home frame p (Field e f at) h =
       selected_in (receiver_of home frame.scope e (type_of home frame.scope e))
       (selected home (receiver_of home frame.scope e (type_of home frame.scope e)) f.name)
-      (typed_exp home frame p e) (exp_in n home frame p e (numbers_of frame h))
+      (typed_exp home frame p e) (exp_in (λ k. k < n) home frame p e (numbers_of frame h))
   target_in home frame p (Call o m es at) h = tt
   target_in home frame p (Neg e at) h = tt
   target_in home frame p (Not e at) h = tt
   target_in home frame p (Binary op a b at) h = tt
 
-  assignment_in : (x : Target) (v : TExp) (at p : ℕ) → TargetIn x → ExpInRange n v → StaInRange t n (assignment x v at p)
+  assignment_in : (x : Target) (v : TExp) (at p : ℕ) → TargetIn x → ExpReads (λ x. x < n) v → StaInRange t n (assignment x v at p)
   unfolding StaInRange
   assignment_in Nowhere v at p h k = k
   assignment_in (ToLocal x) v at p h k = (h.0, h.1, k)
@@ -296,35 +296,35 @@ module _ (source : Source) (arities : AllByRecursion (λ lock. lock.arity ≤ 2)
     second_room next a b room = omega (arith, room)
 
     mutual
-      unfolding StaInRange ExpInRange typed_sta locals_in stmt_faults
+      unfolding StaInRange ExpReads typed_sta locals_in stmt_faults
 
       sta_in : (frame : Frame) (p : ℕ) (scope : List (List ℕ)) (s : Sta) → AreVars frame → frame.next + locals_in s ≤ n
           → stmt_faults (view_behind source before) own scope s ≡ [] → StaInRange t n (typed_sta w home frame p s)
       sta_in frame p scope (Block b at) h room none = braces_in frame p scope b h room none
       sta_in frame p scope (If e b o at) h room none = (
-        exp_in n home frame (p + 1) e (numbers_of frame h),
+        exp_in (λ k. k < n) home frame (p + 1) e (numbers_of frame h),
         braces_in frame _ scope b h (first_room frame.next _ _ room) (none_right _ (braces_faults v own scope b) (none_left _ (else_faults v own scope o) none)),
         else_in (further frame (braces_locals b)) _ scope o h (second_room frame.next _ _ room) (none_right _ (else_faults v own scope o) none),
       )
       sta_in frame p scope (While e b at) h room none =
-          (exp_in n home frame (p + 1) e (numbers_of frame h), braces_in frame _ scope b h room (none_right _ (braces_faults v own scope b) none))
+          (exp_in (λ k. k < n) home frame (p + 1) e (numbers_of frame h), braces_in frame _ scope b h room (none_right _ (braces_faults v own scope b) none))
       sta_in frame p scope (Try b cs at) h room none = (
         braces_in frame _ scope b h (first_room frame.next _ _ room)
             (none_left _ (doubles (all_caught cs)) (none_left _ (catches_faults v own scope cs) none)),
         catches_in (further frame (braces_locals b)) _ scope cs h (second_room frame.next _ _ room) (none_right _ (catches_faults v own scope cs) none),
       )
-      sta_in frame p scope (Return e at) h room none = may_in n home frame (p + 1) e (numbers_of frame h)
+      sta_in frame p scope (Return e at) h room none = may_in (λ k. k < n) home frame (p + 1) e (numbers_of frame h)
       sta_in frame p scope (Break at) h room none = tt
       sta_in frame p scope (Continue at) h room none = tt
       sta_in frame p scope (Throw class at) h room none = tt
       sta_in frame p scope (Open lock at) h room none = lock_in before lock none
       sta_in frame p scope (Close lock at) h room none = lock_in before lock none
       sta_in frame p scope (Declare local at) h room none =
-          (omega (arith, room), policy_in local.policy, exp_in n home frame (p + 1) local.value (numbers_of frame h))
+          (omega (arith, room), policy_in local.policy, exp_in (λ k. k < n) home frame (p + 1) local.value (numbers_of frame h))
       sta_in frame p scope (Assign e value at) h room none =
           assignment_in (target home frame (p + 1) e)
-          (typed_exp home frame (p + 1 + target_nodes (target home frame (p + 1) e)) value) at p (target_in home frame (p + 1) e h) (exp_in n home frame _ value (numbers_of frame h))
-      sta_in frame p scope (Do call at) h room none = exp_in n home frame (p + 1) call (numbers_of frame h)
+          (typed_exp home frame (p + 1 + target_nodes (target home frame (p + 1) e)) value) at p (target_in home frame (p + 1) e h) (exp_in (λ k. k < n) home frame _ value (numbers_of frame h))
+      sta_in frame p scope (Do call at) h room none = exp_in (λ k. k < n) home frame (p + 1) call (numbers_of frame h)
       sta_in frame p scope (When lock b o at) h room none = (
         lock_in before lock (none_left (lock_faults v lock) _ (none_left _ (may_braces_faults v own scope o) none)),
         braces_in frame _ scope b h (first_room frame.next _ _ room) (none_right (lock_faults v lock) _ (none_left _ (may_braces_faults v own scope o) none)),

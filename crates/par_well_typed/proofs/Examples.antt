@@ -11,7 +11,8 @@ use Rattle.par_well_typed.specs.Orderly.{IsBodyOf}
 use Rattle.par_well_typed.specs.Members.{ExpNames, StaNames}
 use Rattle.par_typed.specs.Nodes.{nodes, stmt_nodes}
 use Rattle.par_annotate.specs.Points.{count_from, points, stmt_points}
-use Rattle.par_well_typed.specs.Numbers.{ExpInRange, StaInRange}
+use Rattle.par_well_typed.specs.SetFirst.{SetsFirst, behind}
+use Rattle.par_well_typed.specs.Numbers.{ExpReads, StaInRange}
 
 -- `static int got;`
 got : FieldInfo
@@ -60,11 +61,12 @@ body class =
 
 -- the body of `main`
 right : IsBodyOf table (record { class = 0; method = 0; body = body 0 }) main
-unfolding table body shop main number StaInRange ExpInRange stmt_points points stmt_nodes nodes count_from
+unfolding table body shop main number StaInRange ExpReads SetsFirst behind stmt_points points stmt_nodes nodes count_from
 right = record {
   method = refl;
   points = refl;
   numbers = ((omega arith, tt, tt), (omega arith, tt));
+  set_first = (tt, (refl, tt));
 }
 
 -- it names a static field of `Shop`
@@ -79,5 +81,10 @@ no_class h = h.1.0.0
 
 -- a local that the method does not have is refused
 no_local : StaInRange table 0 (body 0) → ⊥
-unfolding table body shop number StaInRange ExpInRange
+unfolding table body shop number StaInRange ExpReads
 no_local h = let none : 0 < 0 = h.0.0 in omega arith
+
+-- `{ got = x; int x = 1; }` reads a local that is not set
+unset : SetsFirst [] (Block (Then (SetStatic 0 0 (Local 0 (number 2)) 0 1) (Then (SetLocal 0 None (Int (pos 1) (number 4)) 0 3) End)) 0 0) → ⊥
+unfolding number SetsFirst behind ExpReads
+unset h = cc h.0

@@ -7,10 +7,14 @@ pub mod Unbroken
 pub mod Policies
 pub mod Entries
 pub mod Bodies
+pub mod SetFirst
 pub mod Places
 pub mod Programs
 pub mod Members
 pub mod Named
 pub mod NamedStatements
+pub mod Sizes
+pub mod BodySizes
+pub mod Small
 pub mod Whole
 mod Examples

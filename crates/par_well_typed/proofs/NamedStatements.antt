@@ -50,7 +50,7 @@ use Rattle.par_well_typed.proofs.Named.{IsBefore, is_before, type-typed, object_
 
 -- ---- scopes
 
-scope-behind : (w : Written) (home : Home) (s : Sta) (frame : Frame) → (behind w home s frame).scope ≡ declares home s frame.scope
+pub scope-behind : (w : Written) (home : Home) (s : Sta) (frame : Frame) → (behind w home s frame).scope ≡ declares home s frame.scope
 unfolding behind declares
 scope-behind w home (Block b at) frame = refl
 scope-behind w home (If e b o at) frame = refl
@@ -67,7 +67,7 @@ scope-behind w home (Assign target value at) frame = refl
 scope-behind w home (Do call at) frame = refl
 scope-behind w home (When lock b o at) frame = refl
 
-scope-params : (home : Home) (frame : Frame) (ps : List ParamDecl) → (with_params home frame ps).scope ≡ types_methods.with_params home frame.scope ps
+pub scope-params : (home : Home) (frame : Frame) (ps : List ParamDecl) → (with_params home frame ps).scope ≡ types_methods.with_params home frame.scope ps
 unfolding with_params types_methods.with_params
 scope-params home frame [] = refl
 scope-params home frame (p ∷ ps) = scope-params home (with_local frame p.id.name (param_slot home p) None) ps

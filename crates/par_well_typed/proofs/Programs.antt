@@ -1,7 +1,7 @@
 -- Each typed body of a source is the body of a method of its table.
-use Rattle.std.proofs.Common.{◌≡◌, ℕ, suc, ◌+◌, ◌<◌, ◌≤◌, Bool, true, false, List, [], ◌∷◌, ◌++◌, length, Some, None, refl, sym, ap, subst, ◌∙◌, arith, map, append_assoc, add-zero, zero-add}
+use Rattle.std.proofs.Common.{◌≡◌, ℕ, suc, ◌+◌, ◌<◌, ◌≤◌, Bool, true, false, List, [], ◌∷◌, ◌++◌, length, Some, None, refl, sym, ap, subst, ◌∙◌, arith, map, append_assoc, add-zero, zero-add, cond}
 use Rattle.std.specs.Prelude.{flat_map, slice_get, count_by, codes}
-use Rattle.std.specs.List.{AllByRecursion, position}
+use Rattle.std.specs.List.{AllByRecursion, position, range_with_len}
 use Rattle.std.specs.Option.{option_map}
 use Rattle.std.specs.Str.{bytes_eq}
 use Rattle.std.proofs.lemmas.List.{length-map, length-append, map-append}
@@ -26,7 +26,7 @@ use Rattle.par_scope.specs.Names.{names_of, member_names, number_in, methods_in}
 use Rattle.par_scope.specs.Home.{Home, class_named, result_written}
 use Rattle.par_types.specs.Methods.{home_of, param_slot}
 use Rattle.par_resolved.specs.Numbers.{type_of}
-use Rattle.par_resolved.specs.Resolved.{Resolved, resolved, class_info, class_infos, method_info, local_types, this_type, table_of}
+use Rattle.par_resolved.specs.Resolved.{Resolved, resolved, class_info, class_infos, method_info, param_info, local_types, this_type, table_of}
 use Rattle.par_annotate.specs.Frames.{Frame, with_local}
 use Rattle.par_annotate.specs.Exprs.{numbered}
 use Rattle.par_annotate.specs.Stmts.{Written}
@@ -39,6 +39,9 @@ use Rattle.par_well_typed.specs.Orderly as bodies
 use Rattle.par_well_typed.specs.Orderly.{method_at, IsBodyOf, HasMethod}
 use Rattle.par_well_typed.proofs.Lists.{none_left, none_right, of_both, each_is}
 use Rattle.par_well_typed.proofs.Places.{Differ, number_is, Apart, apart, apart_behind, above, others_differ, differ, doubled}
+use Rattle.par_well_typed.specs.Tables.{arrivals}
+use Rattle.par_well_typed.specs.SetFirst.{SetsFirst, set_by_call}
+use Rattle.par_well_typed.proofs.SetFirst.{braces_first, params_set}
 use Rattle.par_well_typed.proofs.Bodies.{AreVars, with_local_in, braces_in}
 use Rattle.par_well_typed.proofs.Unbroken.{IsKept, IsKeptClass, IsKeptMethod, kept, methods_kept, body_kept}
 
@@ -168,13 +171,13 @@ module _ (source : Source) (ordered : IsInOrder source) (none : name_faults sour
   class_names_differ = subst Differ (map-map (λ id. id.name) (λ c. c.id) (classes source)) class_ids_differ
 
   -- the class has its place as its number
-  class_number : (before rest : List Class) (c : Class) → classes source ≡ before ++ c ∷ rest → class_named (names_of t) c.id.name ≡ Some (length before)
+  pub class_number : (before rest : List Class) (c : Class) → classes source ≡ before ++ c ∷ rest → class_named (names_of t) c.id.name ≡ Some (length before)
   class_number before rest c is =
       ap (position (bytes_eq c.id.name)) (names-class_infos r 0 (length r.policies) (classes source))
       ∙ ap (λ cs. position (bytes_eq c.id.name) (map (λ k. k.id.name) cs)) is
       ∙ named_at (λ k. k.id.name) before rest c (subst (λ cs. Differ (map (λ k. k.id.name) cs)) is class_names_differ)
 
-  class_stands : (before rest : List Class) (c : Class) → classes source ≡ before ++ c ∷ rest
+  pub class_stands : (before rest : List Class) (c : Class) → classes source ≡ before ++ c ∷ rest
       → (n : ℕ) × (slice_get t.classes (length before) ≡ Some (class_info r (length before) n c))
   class_stands before rest c is =
       let found = class_at r 0 (length r.policies) before rest c in (
@@ -185,7 +188,7 @@ module _ (source : Source) (ordered : IsInOrder source) (none : name_faults sour
 
   -- ---- one method
 
-  method_names_differ : (c : Class) → IsKeptClass source c → Ascend 0 (map (λ m. m.id.at) c.methods) → Differ (map (λ m. m.id.name) c.methods)
+  pub method_names_differ : (c : Class) → IsKeptClass source c → Ascend 0 (map (λ m. m.id.at) c.methods) → Differ (map (λ m. m.id.name) c.methods)
   method_names_differ c (past, h) up =
       let v = view_behind source past in
       let to_channels = none_left _ (flat_map (channel_faults v) c.channels) (none_left _ (flat_map (method_faults v c) c.methods) h) in
@@ -195,7 +198,7 @@ module _ (source : Source) (ordered : IsInOrder source) (none : name_faults sour
       subst Differ (map-map (λ id. id.name) (λ m. m.id) c.methods)
       (differ 0 ids ups (apart_behind (map (λ k. k.id) c.channels) ids (apart (callee_ids c) twice)))
 
-  method_number : (class n : ℕ) (c : Class) (before after : List Method) (m : Method) → slice_get t.classes class ≡ Some (class_info r class n c)
+  pub method_number : (class n : ℕ) (c : Class) (before after : List Method) (m : Method) → slice_get t.classes class ≡ Some (class_info r class n c)
       → c.methods ≡ before ++ m ∷ after → Differ (map (λ k. k.id.name) c.methods)
       → numbered (number_in (methods_in (slice_get (names_of t).members class)) m.id.name) ≡ length before
   method_number class n c before after m stands is apart_names =
@@ -206,7 +209,7 @@ module _ (source : Source) (ordered : IsInOrder source) (none : name_faults sour
       ∙ ap (λ ms. numbered (position (bytes_eq m.id.name) (map (λ k. k.id.name) ms))) is
       ∙ ap numbered (named_at (λ k. k.id.name) before after m (subst (λ ms. Differ (map (λ k. k.id.name) ms)) is apart_names))
 
-  method_stands : (class n : ℕ) (c : Class) (before after : List Method) (m : Method) → slice_get t.classes class ≡ Some (class_info r class n c)
+  pub method_stands : (class n : ℕ) (c : Class) (before after : List Method) (m : Method) → slice_get t.classes class ≡ Some (class_info r class n c)
       → c.methods ≡ before ++ m ∷ after → method_at t class (length before) ≡ Some (method_info r class m)
   method_stands class n c before after m stands is =
       ap (λ o. slice_get (bodies.methods_in o) (length before)) stands
@@ -258,6 +261,19 @@ module _ (source : Source) (ordered : IsInOrder source) (none : name_faults sour
       (params_in ordered.arities n home (no_frame m.is_static) m.params tt (omega (arith, whole)))
       (omega (arith, whole, next)) (body_kept source past c m h)
 
+  arrivals_are : (class : ℕ) (m : Method) → arrivals (method_info r class m) ≡ first_number m.is_static + length m.params
+  arrivals_are class m = by m.is_static (length (map (param_info r) m.params)) (length m.params) (length-map m.params (param_info r)) where
+    by : (b : Bool) (n k : ℕ) → n ≡ k → cond b n (suc n) ≡ first_number b + k
+    by true n k same = same ∙ sym (zero-add k)
+    by false n k same = let one : suc k ≡ 1 + k = omega arith in ap suc same ∙ one
+
+  body_first : (class : ℕ) (home : Home) (m : Method) → SetsFirst (set_by_call (method_info r class m)) (typed_body w home m).body
+  body_first class home m =
+      let n = arrivals (method_info r class m) in
+      let whole = arrivals_are class m in
+      braces_first w home (range_with_len 0 n) (with_params home (no_frame m.is_static) m.params) 0 m.body
+      (params_set n home (no_frame m.is_static) m.params tt (omega (arith, whole)))
+
   method_body : (class n : ℕ) (c : Class) (before after : List Method) (m : Method) → slice_get t.classes class ≡ Some (class_info r class n c)
       → c.methods ≡ before ++ m ∷ after → Differ (map (λ k. k.id.name) c.methods) → IsKeptMethod source c m
       → HasMethod t (typed_method w t (names_of t) class m)
@@ -269,6 +285,7 @@ module _ (source : Source) (ordered : IsInOrder source) (none : name_faults sour
           method = ap (method_at t class) number ∙ method_stands class n c before after m stands is;
           points = points_count w home m;
           numbers = body_in c home class m keeps;
+          set_first = body_first class home m;
         },
       )
 

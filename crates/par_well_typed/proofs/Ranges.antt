@@ -27,7 +27,7 @@ use Rattle.par_rules.specs.Ranges as rules
 use Rattle.par_rules.specs.Ranges.{MOST, IsFromInRange, IsWorthInRange, IsInRange, AreInRange}
 use Rattle.par_well_typed.specs.Tables as tables
 use Rattle.par_well_typed.specs.Tables.{IsPolicy, IsLock, MayBePolicy, ClassInRange, MethodInRange, LockInRange, FieldInRange, ChannelInRange, ParamInRange, ThrowInRange}
-use Rattle.par_well_typed.specs.Numbers.{ExpInRange, ExpsInRange, StaInRange, StasInRange, CatchesInRange}
+use Rattle.par_well_typed.specs.Numbers.{ExpReads, ExpsRead, StaInRange, StasInRange, CatchesInRange}
 
 -- ---- what is at a place of a list
 
@@ -256,9 +256,9 @@ module _ (locals : ℕ) where
         thrown_within m h from m.throws _ h.throws from_in ((h.opens, (h.closes, from_in)), (h.result, tt))
 
     mutual
-      unfolding ExpInRange exp IsInRange IsFromInRange
+      unfolding ExpReads exp IsInRange IsFromInRange
 
-      exp_within : (e : TExp) → ExpInRange locals e → IsInRange locals (exp d e)
+      exp_within : (e : TExp) → ExpReads (λ x. x < locals) e → IsInRange locals (exp d e)
       exp_within (plain.Int n m) h = (tt, tt)
       exp_within (plain.Boolean b m) h = (tt, tt)
       exp_within (plain.Null m) h = (tt, tt)
@@ -287,7 +287,7 @@ module _ (locals : ℕ) where
         (second_within o, exp_within b h.1, divides_within o b _ (skips_within o _ (tt, (tt, (tt, tt))))),
       )
 
-      args_within : (from : From) (es : TExps) (more : Rules) → IsFromInRange locals from → ExpsInRange locals es
+      args_within : (from : From) (es : TExps) (more : Rules) → IsFromInRange locals from → ExpsRead (λ x. x < locals) es
           → AreInRange locals more → AreInRange locals (args d from es more)
       args_within from plain.NoExps more from_in h rest = rest
       args_within from (plain.More e es) more from_in h rest =
@@ -304,7 +304,7 @@ module _ (table : Table) (ok : tables.IsInRange table) (locals : ℕ) where
   one_lock l h n is = let same : n ≡ l = grind (arith, nat_tests) in subst (λ k. k < MOST) (sym same) (lock table ok l h)
 
   mutual
-    unfolding StaInRange sta IsInRange IsFromInRange ExpInRange
+    unfolding StaInRange sta IsInRange IsFromInRange ExpReads
 
     pub sta_within : (s : TSta) → StaInRange table locals s → IsInRange locals (sta d s)
     sta_within (plain.Block ss at p) h = stas_within Entry ss tt h

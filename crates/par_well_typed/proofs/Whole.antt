@@ -1,7 +1,7 @@
 -- The laws, of whole sources.
 use Rattle.std.proofs.Common.{arith}
 use Rattle.par_resolved.specs.Resolved.{table_of}
-use Rattle.par_well_typed.specs.Laws.{TablesAreInRange, BodiesHaveMethods, SuchBodiesAreOrderly, BodiesAreOrderly, ClassesAndMembersAreNamed}
+use Rattle.par_well_typed.specs.Laws.{TablesAreInRange, BodiesHaveMethods, SuchBodiesAreOrderly, BodiesAreOrderly, ClassesAndMembersAreNamed, BodiesAreSmall}
 use Rattle.par_well_typed.specs.Orderly.{HasMethod, IsOrderlyBody}
 use Rattle.par_well_typed.specs.Typed.{bodies_of, written_in}
 use Rattle.par_well_typed.proofs.Lists.{each_is}
@@ -9,6 +9,7 @@ use Rattle.par_well_typed.proofs.NamedStatements.{declarations_named}
 use Rattle.par_well_typed.proofs.Entries as entries
 use Rattle.par_well_typed.proofs.Orderly.{orderly_body}
 use Rattle.par_well_typed.proofs.Programs as programs
+use Rattle.par_well_typed.proofs.Small as small
 use Rattle.par_well_typed.proofs.Unbroken.{names_kept}
 
 pub tables_are_in_range : TablesAreInRange
@@ -28,3 +29,6 @@ bodies_are_orderly source ordered none =
 
 pub classes_and_members_are_named : ClassesAndMembersAreNamed
 classes_and_members_are_named source none = declarations_named (written_in source) (table_of source) (omega arith) source none
+
+pub bodies_are_small : BodiesAreSmall
+bodies_are_small source ordered none types = small.bodies_are_small source ordered none types

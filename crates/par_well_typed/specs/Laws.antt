@@ -10,6 +10,7 @@ use Rattle.par_faults.specs.Faults.{all_faults}
 use Rattle.par_well_typed.specs.Tables.{IsInRange}
 use Rattle.par_well_typed.specs.Orderly.{HasMethod, IsOrderlyBody}
 use Rattle.par_well_typed.specs.Members.{StaNames}
+use Rattle.par_well_typed.specs.Sizes.{IsSmallBody}
 use Rattle.par_well_typed.specs.Sources.{IsInOrder}
 use Rattle.par_well_typed.specs.Typed.{bodies_of}
 
@@ -18,7 +19,8 @@ abbrev pub TablesAreInRange : Type 0
 TablesAreInRange =
     (source : Source) → IsInOrder source → all_faults source ≡ [] → IsInRange (table_of source)
 
--- each body is that of a method of the table; its points are in order, and its numbers in range
+-- each body is that of a method of the table: its points are in order, its numbers are in range,
+-- and locals are set before they are read
 abbrev pub BodiesHaveMethods : Type 0
 BodiesHaveMethods =
     (source : Source) → IsInOrder source → all_faults source ≡ []
@@ -41,3 +43,11 @@ abbrev pub ClassesAndMembersAreNamed : Type 0
 ClassesAndMembersAreNamed =
     (source : Source) → type_faults (table_of source) source ≡ []
     → AllByRecursion (λ b. StaNames (table_of source) b.body) (bodies_of source)
+
+-- each body has at most as many nodes as its method says, where a `this` that is a receiver is not
+-- counted, and a method says at most 2,000
+abbrev pub BodiesAreSmall : Type 0
+BodiesAreSmall =
+    (source : Source) → IsInOrder source → all_faults source ≡ []
+    → type_faults (table_of source) source ≡ []
+    → AllByRecursion (IsSmallBody (table_of source)) (bodies_of source)

@@ -1,5 +1,7 @@
 pub mod Tables
 pub mod Numbers
+pub mod SetFirst
+pub mod Sizes
 pub mod Orderly
 pub mod Members
 pub mod Sources

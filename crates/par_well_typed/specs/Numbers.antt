@@ -9,51 +9,52 @@ use Rattle.par_typed.specs.Plain.{Close, SetLocal, SetStatic, SetField, Eval, Wh
 use Rattle.par_typed.specs.Plain.{Otherwise, TStas, End, Then, TCatches, NoCatch, Catch}
 use Rattle.par_well_typed.specs.Tables.{IsLock, MayBePolicy}
 
--- in a method with so many locals
-module _ (locals : ℕ) where
+-- each local that an expression reads is one of these
+module _ (P : ℕ → Type 0) where
   unfoldable mutual
-    pub ExpInRange : TExp → Type 0
-    ExpInRange (Int n m) = Unit {0}
-    ExpInRange (Boolean b m) = Unit {0}
-    ExpInRange (Null m) = Unit {0}
-    ExpInRange (This m) = Unit {0}
-    ExpInRange (New class m) = Unit {0}
-    ExpInRange (Local x m) = x < locals
-    ExpInRange (Static c f m) = Unit {0}
-    ExpInRange (Field e c f m) = ExpInRange e
-    ExpInRange (Input c k m) = Unit {0}
-    ExpInRange (Output c k e m) = ExpInRange e
-    ExpInRange (Call c k o es m) = MayExpInRange o × ExpsInRange es
-    ExpInRange (Neg e m) = ExpInRange e
-    ExpInRange (Not e m) = ExpInRange e
-    ExpInRange (Binary op a b m) = ExpInRange a × ExpInRange b
+    pub ExpReads : TExp → Type 0
+    ExpReads (Int n m) = Unit {0}
+    ExpReads (Boolean b m) = Unit {0}
+    ExpReads (Null m) = Unit {0}
+    ExpReads (This m) = Unit {0}
+    ExpReads (New class m) = Unit {0}
+    ExpReads (Local x m) = P x
+    ExpReads (Static c f m) = Unit {0}
+    ExpReads (Field e c f m) = ExpReads e
+    ExpReads (Input c k m) = Unit {0}
+    ExpReads (Output c k e m) = ExpReads e
+    ExpReads (Call c k o es m) = MayExpRead o × ExpsRead es
+    ExpReads (Neg e m) = ExpReads e
+    ExpReads (Not e m) = ExpReads e
+    ExpReads (Binary op a b m) = ExpReads a × ExpReads b
 
-    pub MayExpInRange : MayTExp → Type 0
-    MayExpInRange Absent = Unit {0}
-    MayExpInRange (Present e) = ExpInRange e
+    pub MayExpRead : MayTExp → Type 0
+    MayExpRead Absent = Unit {0}
+    MayExpRead (Present e) = ExpReads e
 
-    pub ExpsInRange : TExps → Type 0
-    ExpsInRange NoExps = Unit {0}
-    ExpsInRange (More e es) = ExpInRange e × ExpsInRange es
+    pub ExpsRead : TExps → Type 0
+    ExpsRead NoExps = Unit {0}
+    ExpsRead (More e es) = ExpReads e × ExpsRead es
 
+-- in a method with so many locals
 module _ (table : Table) (locals : ℕ) where
   unfoldable mutual
     pub StaInRange : TSta → Type 0
     StaInRange (Block ss at p) = StasInRange ss
-    StaInRange (If e s o at p) = ExpInRange locals e × StaInRange s × ElseInRange o
-    StaInRange (While e s at p) = ExpInRange locals e × StaInRange s
+    StaInRange (If e s o at p) = ExpReads (λ x. x < locals) e × StaInRange s × ElseInRange o
+    StaInRange (While e s at p) = ExpReads (λ x. x < locals) e × StaInRange s
     StaInRange (Try s cs at p) = StaInRange s × CatchesInRange cs
-    StaInRange (Return e at p) = MayExpInRange locals e
+    StaInRange (Return e at p) = MayExpRead (λ x. x < locals) e
     StaInRange (Break at p) = Unit {0}
     StaInRange (Continue at p) = Unit {0}
     StaInRange (Throw class at p) = Unit {0}
     StaInRange (Open lock at p) = IsLock table lock
     StaInRange (Close lock at p) = IsLock table lock
     StaInRange (SetLocal x policy e at p) =
-        (x < locals) × MayBePolicy table policy × ExpInRange locals e
-    StaInRange (SetStatic c f e at p) = ExpInRange locals e
-    StaInRange (SetField o c f e at p) = ExpInRange locals o × ExpInRange locals e
-    StaInRange (Eval e at p) = ExpInRange locals e
+        (x < locals) × MayBePolicy table policy × ExpReads (λ x. x < locals) e
+    StaInRange (SetStatic c f e at p) = ExpReads (λ x. x < locals) e
+    StaInRange (SetField o c f e at p) = ExpReads (λ x. x < locals) o × ExpReads (λ x. x < locals) e
+    StaInRange (Eval e at p) = ExpReads (λ x. x < locals) e
     StaInRange (When lock s o at p) = IsLock table lock × StaInRange s × ElseInRange o
 
     pub ElseInRange : MayTSta → Type 0

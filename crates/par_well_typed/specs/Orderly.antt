@@ -9,6 +9,7 @@ use Rattle.par_annotate.specs.Points.{count_from, stmt_points}
 use Rattle.par_rules.specs.Declares.{declares}
 use Rattle.par_rules.specs.Ranges.{IsOrderly}
 use Rattle.par_well_typed.specs.Numbers.{StaInRange}
+use Rattle.par_well_typed.specs.SetFirst.{SetsFirst, set_by_call}
 
 abbrev pub methods_in : Option ClassInfo → List MethodInfo
 methods_in None = []
@@ -19,11 +20,13 @@ abbrev pub method_at : Table → ℕ → ℕ → Option MethodInfo
 method_at table class method = slice_get (methods_in (slice_get table.classes class)) method
 
 -- the body of this method: its points are the numbers below the count of its nodes, each once, in
--- their order, and its locals, locks and policies are those of the method and the table
+-- their order, its locals, locks and policies are those of the method and the table, and locals are
+-- set before they are read
 pub record IsBodyOf (table : Table) (b : Body) (m : MethodInfo) : Type 0 where
   pub method : method_at table b.class b.method ≡ Some m
   pub points : stmt_points b.body ≡ count_from 0 (stmt_nodes b.body)
   pub numbers : StaInRange table (length m.locals) b.body
+  pub set_first : SetsFirst (set_by_call m) b.body
 
 abbrev pub HasMethod : Table → Body → Type 0
 HasMethod table b = (m : MethodInfo) × IsBodyOf table b m

@@ -14,4 +14,5 @@ Ascend before (at ∷ places) = (before < at) × Ascend at places
 pub record IsInOrder (source : Source) : Type 0 where
   pub arities : AllByRecursion (λ lock. lock.arity ≤ 2) (locks source)
   pub classes : Ascend 0 (map (λ c. c.id.at) (declared_classes source))
-  pub methods : AllByRecursion (λ c. Ascend 0 (map (λ m. m.id.at) c.methods)) (declared_classes source)
+  pub methods : AllByRecursion (λ c. Ascend 0 (map (λ m. m.id.at) c.methods))
+      (declared_classes source)

@@ -2,7 +2,7 @@
 
 ghost use Rattle.par_well_typed.specs.Laws.{TablesAreInRange, BodiesHaveMethods};
 ghost use Rattle.par_well_typed.specs.Laws.{SuchBodiesAreOrderly, BodiesAreOrderly};
-ghost use Rattle.par_well_typed.specs.Laws.{ClassesAndMembersAreNamed};
+ghost use Rattle.par_well_typed.specs.Laws.{ClassesAndMembersAreNamed, BodiesAreSmall};
 
 /// In the table of a source that breaks no rule on names and exceeds no limit all numbers are in
 /// range, and there are at most 256 policies and 256 ground locks.
@@ -11,7 +11,8 @@ pub fn tables_are_in_range()
 {}
 
 /// Each typed body of such a source belongs to a method of its table. Its points are the numbers
-/// below the count of its nodes, and its locals, locks and policies are in range.
+/// below the count of its nodes, its locals, locks and policies are in range, and locals are set
+/// before they are read.
 pub fn bodies_have_methods()
     ensures { BodiesHaveMethods }
 {}
@@ -33,4 +34,11 @@ pub fn bodies_are_orderly()
 /// that is thrown or caught.
 pub fn classes_and_members_are_named()
     ensures { ClassesAndMembersAreNamed }
+{}
+
+/// Each typed body of a source that breaks no rule on names and types and exceeds no limit has at
+/// most as many nodes as the table says of its method, and no method more than 2,000. A `this` that
+/// stands before a member is not counted.
+pub fn bodies_are_small()
+    ensures { BodiesAreSmall }
 {}
