@@ -8,3 +8,4 @@ pub mod Ended
 pub mod Loop
 pub mod Linking
 pub mod Judging
+pub mod Alone

@@ -4,3 +4,4 @@ pub mod Found
 pub mod Loaded
 pub mod Judged
 pub mod Ends
+pub mod Alone
