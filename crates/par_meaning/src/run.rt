@@ -1,0 +1,17 @@
+use par_lexer::list::List;
+use par_policy::Lockset;
+use par_values::run::{Ending, Event};
+
+/// An event, with the locks that are open when it happens.
+#[derive(Drop)]
+pub struct SourceEvent {
+    pub event: Event,
+    pub locks: Lockset,
+}
+
+/// The run of a program: its events in their order, and how it ends.
+#[derive(Drop)]
+pub struct SourceRun {
+    pub events: List<SourceEvent>,
+    pub ending: Ending,
+}
