@@ -20,6 +20,7 @@ mod limits;
 mod loading;
 #[cfg(test)]
 mod name_refusals;
+#[cfg(test)]
 mod names;
 #[cfg(test)]
 mod reasons;
@@ -33,5 +34,9 @@ mod sentences;
 mod sources;
 #[cfg(test)]
 mod statements;
+#[cfg(test)]
+mod type_refusals;
+#[cfg(test)]
+mod types;
 #[cfg(test)]
 mod worked;

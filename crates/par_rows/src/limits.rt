@@ -443,7 +443,7 @@ static NESTING: &[Row] = &[
         "a target and a value of 63 together",
         8,
         &[("got", 1), (".f", 30), (" = 1", 1), (" + 1", 33), (";", 1)],
-        NOT_BUILT,
+        ("refused 201 at 8:5\n", 1),
     ),
     (
         "a target and a value of 64 together",

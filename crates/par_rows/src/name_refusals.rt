@@ -199,7 +199,7 @@ const ROWS: &[(&str, Answer)] = &[
     (ABOVE, ("refused 107 at 2:7\n", 1)),
     (ABOVE_MENDED, NOT_BUILT),
     (BIRTH, ("refused 108 at 3:10\n", 1)),
-    (BIRTH_MENDED, NOT_BUILT),
+    (BIRTH_MENDED, ("refused 109 at 3:10\n", 1)),
 ];
 
 const BODIES: &[(&str, Answer)] = &[

@@ -45,7 +45,7 @@ const FORMS: &[(&str, Answer)] = &[
     ),
     ("while true { }", ("refused 10 at 8:7\n", 1)),
     ("for (;;) { }", ("refused 10 at 8:6\n", 1)),
-    ("break; continue;", NOT_BUILT),
+    ("break; continue;", ("refused 205 at 8:1\n", 1)),
 ];
 
 #[test]
@@ -54,7 +54,7 @@ fn statements_are_read(rt: HostRuntime) -> Result<(), Fail> {
 }
 
 const DECLARED: &[(usize, &str, Answer)] = &[
-    (6, "?_ static int got;", NOT_BUILT),
+    (6, "?_ static int got;", ("refused 109 at 6:15\n", 1)),
     (4, "?_ input int key();", ("refused 10 at 4:4\n", 1)),
     (6, "?_ static void f() { }", ("refused 10 at 6:11\n", 1)),
     (6, "?_ got;", ("refused 10 at 6:7\n", 1)),
