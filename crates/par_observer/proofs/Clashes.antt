@@ -21,7 +21,7 @@ use Rattle.std.specs.Prelude.{Contains}
 use Rattle.par_policy.proofs.Ordered.{Contains-nil}
 use Rattle.par_tree.specs.Plain.{Source}
 use Rattle.par_typed.specs.declared.refusal.Refusal.{Refusal}
-use Rattle.par_faults.specs.Faults.{all_faults}
+use Rattle.par_observer.specs.Passes.{tree_faults}
 use Rattle.par_observer.specs.Judgements.{Breaks, has_no_tokens, is_no_sentence, has_faults, has_refused_program, IsNotBuilt, IsTreeOf}
 use Rattle.par_observer.specs.Judgements.{HasAccepted}
 
@@ -73,6 +73,6 @@ broken_or_not_built source f (is_no_sentence tokens cut refused is) other =
     sentence_or_fault tokens refused.fault (subst IsSentence same (other.tree, other.is_tree.derived)) refused.found
 broken_or_not_built source f (has_faults tree is_tree none first) other =
     let same : tree ≡ other.tree = one_tree source tree other.tree is_tree other.is_tree in
-    let nothing : all_faults tree ≡ [] = ap all_faults same ∙ other.faultless in
+    let nothing : tree_faults tree ≡ [] = ap tree_faults same ∙ other.faultless in
     Contains-nil f (subst (λ fs. Contains fs f) nothing first.among)
 broken_or_not_built source f (has_refused_program p has refused is) other = other.other (p, has)

@@ -1,3 +1,5 @@
+pub mod Placed
+pub mod Passing
 pub mod Judging
 pub mod Unread
 pub mod OfTree

@@ -16,8 +16,8 @@ use Rattle.par_places.specs.Law.{BeginWithin}
 use Rattle.par_places.specs.Within.{IsWithin}
 use Rattle.par_places.proofs.Trees.{trees_lie}
 use Rattle.par_places.specs.Broken.{AreBrokenWithin}
-use Rattle.par_faults.specs.Faults.{all_faults}
-use Rattle.par_faults.proofs.Places.{all_within}
+use Rattle.par_observer.specs.Passes.{tree_faults}
+use Rattle.par_observer.proofs.Placed.{tree_within}
 use Rattle.par_parser.specs.Sentence as syntax
 use Rattle.par_straight.specs.Judged.{IsStraightLine}
 use Rattle.par_observer.specs.declared.judge.Judgement.{Judgement}
@@ -43,7 +43,7 @@ judgement_of_tree source tokens tree (Accepted p) cut laid derived other is = ab
 judgement_of_tree source tokens tree (Broken f) cut laid derived other is =
     let is_tree : IsTreeOf source tree = record { tokens = tokens; cut = cut; derived = derived } in
     let within : IsWithin (length source) tree = trees_lie (length source) tokens tree (begin_in source tokens laid) derived in
-    (has_faults tree is_tree other is, among_in (length source) (all_faults tree) f (all_within (length source) tree within) is.among)
+    (has_faults tree is_tree other is, among_in (length source) (tree_faults tree) f (tree_within (length source) tree within) is.among)
 judgement_of_tree source tokens tree NotBuilt cut laid derived other is =
     record { tree = tree; is_tree = record { tokens = tokens; cut = cut; derived = derived }; faultless = is; other = other }
 

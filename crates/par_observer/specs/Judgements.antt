@@ -8,7 +8,7 @@ use Rattle.par_tree.specs.Plain.{Source}
 use Rattle.par_parser.specs.Sentence as syntax
 use Rattle.par_typed.specs.declared.refusal.Refusal.{Refusal}
 use Rattle.par_typed.specs.First.{IsFirst, broken}
-use Rattle.par_faults.specs.Faults.{all_faults}
+use Rattle.par_observer.specs.Passes.{tree_faults}
 use Rattle.par_secrecy.specs.Secure.{Secure}
 use Rattle.par_straight.specs.declared.program.Program.{Program}
 use Rattle.par_straight.specs.Rules.{IsAccepted, IsRefused}
@@ -44,15 +44,15 @@ pub record IsTreeOf (source : List ℕ) (tree : Source) : Type 0 where
   pub derived : syntax.HasTree tokens tree
 
 -- What a source is refused by: it has no tokens, or they are no sentence within the nesting; or a
--- rule on names is broken, or a limit is exceeded; or its program, that of a straight-line source,
--- is refused.
+-- rule on names is broken, a limit is exceeded, a rule on types is broken, or a field has no policy
+-- yet; or its program, that of a straight-line source, is refused.
 pub data Breaks (source : List ℕ) (f : Refusal) : Type 0 where
   has_no_tokens : (error : LexError) → LexBroken source error → IsFaultOf error f
       → Breaks source f
   is_no_sentence : (tokens : Tokens) → HasTokens source tokens
       → syntax.IsRefused tokens (length source) f.rule f.at → IsPlain f → Breaks source f
   has_faults : (tree : Source) → IsTreeOf source tree → (IsStraightLine source → ⊥)
-      → IsFirst (all_faults tree) f → Breaks source f
+      → IsFirst (tree_faults tree) f → Breaks source f
   has_refused_program : (p : Program) → HasProgram source p → IsRefused p f.rule f.at → IsPlain f
       → Breaks source f
 
@@ -62,12 +62,12 @@ IsBrokenBy source f = Breaks source f × (f.at ≤ length source)
 
 -- ---- judgements
 
--- The source is a sentence within the nesting whose names and limits are right, and no straight-line
--- source.
+-- The source is a sentence within the nesting whose names, limits and types are right, all of whose
+-- fields have a policy, and no straight-line source.
 pub record IsNotBuilt (source : List ℕ) : Type 0 where
   pub tree : Source
   pub is_tree : IsTreeOf source tree
-  pub faultless : all_faults tree ≡ []
+  pub faultless : tree_faults tree ≡ []
   pub other : IsStraightLine source → ⊥
 
 -- a straight-line source whose program is accepted
@@ -83,8 +83,8 @@ IsJudgement source NotBuilt = IsNotBuilt source
 -- what is said of the tree of a source that is no straight-line one
 abbrev pub IsSaidOf : Source → Judgement → Type 0
 IsSaidOf tree (Accepted p) = ⊥
-IsSaidOf tree (Broken f) = IsFirst (all_faults tree) f
-IsSaidOf tree NotBuilt = all_faults tree ≡ []
+IsSaidOf tree (Broken f) = IsFirst (tree_faults tree) f
+IsSaidOf tree NotBuilt = tree_faults tree ≡ []
 
 -- why a source is not judged by its meaning; memory may be wanting at any time
 abbrev pub IsUnread : List ℕ → Unread → Type 0

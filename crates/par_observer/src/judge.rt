@@ -1,7 +1,7 @@
-//! The judgement of a source: its tokens and its sentence, by the whole grammar, its names and limits,
-//! and what a straight-line one means.
+//! The judgement of a source: its tokens and its sentence, by the whole grammar, its names, limits
+//! and types, and what a straight-line one means.
 
-ghost use Rattle.std.specs.Prelude.{◌≡◌, ◌≤◌, IfOk, IfErr, MatchOption, length};
+ghost use Rattle.std.specs.Prelude.{◌≡◌, ◌≤◌, [], IfOk, IfErr, MatchOption, length};
 ghost use Rattle.par_lexer.specs.Spans.{IsLaid};
 ghost use Rattle.par_lexer.specs.Tokens.{HasTokens};
 ghost use Rattle.par_tree.specs.Shown.{source as tree_of_program};
@@ -12,11 +12,13 @@ ghost use Rattle.par_straight.specs.declared.tree.Source.{Source as StraightTree
 ghost use Rattle.par_straight.specs.Sentence.{HasTree};
 ghost use Rattle.par_straight.specs.Names.{numbered};
 ghost use Rattle.par_straight.specs.Judged.{HasProgram, IsStraight, IsStraightLine};
-ghost use Rattle.par_typed.specs.First.{broken};
+ghost use Rattle.par_typed.specs.First.{IsAnswer, broken};
+ghost use Rattle.par_resolved.specs.Resolved.{table_of};
+ghost use Rattle.par_faults.specs.Faults.{all_faults};
+ghost use Rattle.par_observer.specs.Passes.{tree_faults};
 ghost use Rattle.par_observer.specs.Judgements.{IsJudgement, IsSaidOf, IsUnread};
 ghost use Rattle.std.specs.Prelude.{List as Items, ℕ};
 
-use par_faults::first_fault;
 use par_lexer::list::{List, NoMemory};
 use par_lexer::token::{LexError, Token};
 use par_lexer::{LONGEST_SOURCE, lex};
@@ -27,8 +29,11 @@ use par_straight_check::check::check;
 use par_straight_names::resolve::{ResolveError, resolve};
 use par_straight_reader::cursor::ParseError as StraightError;
 use par_straight_reader::reader::parse as parse_straight;
+use par_table::{NameError, build};
 use par_tree::decl::Program as Tree;
 use par_typed::refusal::Refusal;
+use par_typed::table::Table;
+use par_types::{check_bodies, first_inferred};
 use std::alloc::Global;
 
 // The rules on the tokens of a source, by their numbers.
@@ -52,7 +57,8 @@ pub enum Judgement {
     Accepted(Program),
     /// It breaks a rule at a place, an offset into the source that is at most its length.
     Broken(Refusal),
-    /// It is a sentence whose names and limits are right, and no straight-line source.
+    /// It is a sentence whose names, limits and types are right, all of whose fields have a policy,
+    /// and no straight-line source.
     NotBuilt,
 }
 
@@ -189,14 +195,41 @@ fn judge_sentence(alloc: Global, tokens: &[Token], tree: &Tree) -> Result<Judgem
     }
 }
 
-/// What is said of the names and the limits of a tree.
+/// What is said of the names, the limits and the types of a tree.
 fn judge_tree(alloc: Global, tree: &Tree) -> Result<Judgement, NoMemory>
     requires { source_size (tree_of_program tree.now) ≤ LONGEST_SOURCE }
     ensures { IfOk result (IsSaidOf (tree_of_program tree.now)) }
 {
-    match first_fault(alloc, tree) {
-        Ok(None) => Ok(Judgement::NotBuilt),
-        Ok(Some(refusal)) => Ok(Judgement::Broken(refusal)),
+    match first_broken(alloc, tree)? {
+        None => Ok(Judgement::NotBuilt),
+        Some(refusal) => Ok(Judgement::Broken(refusal)),
+    }
+}
+
+/// The first rule that a tree breaks, of the earliest pass in which one is broken.
+fn first_broken(alloc: Global, tree: &Tree) -> Result<Option<Refusal>, NoMemory>
+    requires { source_size (tree_of_program tree.now) ≤ LONGEST_SOURCE }
+    ensures { IfOk result (IsAnswer (tree_faults (tree_of_program tree.now))) }
+{
+    match build(alloc, tree) {
+        Ok(table) => first_of_types(alloc, &table, tree),
+        Err(error) => match error {
+            NameError::Broken(refusal) => Ok(Some(refusal)),
+            NameError::Memory => Err(NoMemory),
+        },
+    }
+}
+
+/// The first rule on types that a tree breaks, over its table, or else its first field without a
+/// policy.
+fn first_of_types(alloc: Global, table: &Table, tree: &Tree) -> Result<Option<Refusal>, NoMemory>
+    requires right { all_faults (tree_of_program tree.now) ≡ [] }
+    requires table { table.now ≡ table_of (tree_of_program tree.now) }
+    ensures { IfOk result (IsAnswer (tree_faults (tree_of_program tree.now))) }
+{
+    match check_bodies(alloc, table, tree) {
+        Ok(None) => Ok(first_inferred(tree)),
+        Ok(Some(refusal)) => Ok(Some(refusal)),
         Err(_) => Err(NoMemory),
     }
 }

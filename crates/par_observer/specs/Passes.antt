@@ -1,0 +1,17 @@
+-- The passes over the tree of a source.
+use Rattle.std.specs.Prelude.{List}
+use Rattle.par_tree.specs.Plain.{Source}
+use Rattle.par_typed.specs.declared.refusal.Refusal.{Refusal}
+use Rattle.par_typed.specs.First.{in_passes}
+use Rattle.par_resolved.specs.Resolved.{table_of}
+use Rattle.par_faults.specs.Faults.{all_faults}
+use Rattle.par_types.specs.Program.{type_faults}
+use Rattle.par_types.specs.Inferred.{all_inferred}
+
+-- rules on types, and where they are kept, fields whose policy is left to be inferred
+abbrev pub typed_faults : Source → List Refusal
+typed_faults source = in_passes (type_faults (table_of source) source) (all_inferred source)
+
+-- the rules on names and the limits come first
+abbrev pub tree_faults : Source → List Refusal
+tree_faults source = in_passes (all_faults source) (typed_faults source)
