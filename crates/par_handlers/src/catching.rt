@@ -1,7 +1,4 @@
-ghost use Rattle.std.specs.Prelude.{◌≡◌, ℕ, List as Items};
-ghost use Rattle.par_class.specs.declared.file.ClassFile.{ClassFile as File};
-ghost use Rattle.par_steps.specs.Methods.{code_in};
-ghost use Rattle.par_steps.specs.State.{Frame};
+ghost use Rattle.std.specs.Prelude.{◌≡◌, ℕ};
 ghost use Rattle.par_steps.specs.Handlers.{builtin_takes, named_takes, takes, first_handler, handler_in};
 ghost use Rattle.par_handlers.specs.Standing.{standing};
 
