@@ -1,5 +1,5 @@
 -- What the limits say of a source that breaks none.
-use Rattle.std.proofs.Common.{◌≡◌, ◌≢◌, ℕ, ◌+◌, ◌*◌, ◌^◌, ◌<◌, ◌≤◌, Bool, true, false, not, List, [], ◌∷◌, ◌++◌, map, length, drop, take, get_or, Option, Some, None, refl, sym, ap, subst, ◌∙◌, arith}
+use Rattle.std.proofs.Common.{◌≡◌, ℕ, ◌<◌, ◌≤◌, Bool, true, false, not, List, [], ◌∷◌, ◌++◌, map, length, Option, Some, None, refl, sym, ap, subst, ◌∙◌, arith}
 use Rattle.std.specs.Prelude.{nat_le, slice_get, sum_by}
 use Rattle.std.specs.List.{flat_map, AllByRecursion}
 use Rattle.std.proofs.lemmas.Bool.{leb-true}
@@ -7,19 +7,19 @@ use Rattle.std.proofs.lemmas.Bool.Decides.{nat_tests}
 use Rattle.std.proofs.lemmas.List.{length-map}
 use Rattle.std.proofs.lemmas.Option.{slice_get-get_or}
 use Rattle.par_tree.specs.Nodes.{method_nodes}
-use Rattle.par_tree.specs.Plain.{Method, Class, Declaration, Source, Actors, Lock, Policy, Declared}
+use Rattle.par_tree.specs.Plain.{Method, Class, Source}
 use Rattle.par_typed.specs.declared.refusal.Refusal.{Refusal}
 use Rattle.par_typed.specs.First.{when, in_passes, first_of}
 use Rattle.par_typed.proofs.First.{first_of_none}
 use Rattle.par_names.specs.Program.{name_faults}
-use Rattle.par_names.specs.Declarations.{classes_in, declared_classes}
+use Rattle.par_names.specs.Declarations.{declared_classes}
 use Rattle.par_resolved.specs.declared.entries.Entry.{Entry}
 use Rattle.par_resolved.specs.Few.{HasFew}
 use Rattle.par_resolved.specs.Limits as policies
 use Rattle.par_resolved.specs.Limits.{policy_faults, table_faults}
 use Rattle.par_resolved.specs.Births.{birth_faults}
 use Rattle.par_resolved.specs.Numbered.{numbered, declared}
-use Rattle.par_resolved.specs.Policies.{Known, known}
+use Rattle.par_resolved.specs.Policies.{known}
 use Rattle.par_resolved.specs.Sizes.{all_literal_faults, all_join_faults}
 use Rattle.par_declarations.specs.declared.limit.Limit.{Limit}
 use Rattle.par_declarations.specs.declared.limit.TheConstants.{CLASSES, MEMBERS, METHODS, NODES, CLASS_NODES, PARAMS, LOCALS}

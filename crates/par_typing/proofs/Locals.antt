@@ -1,5 +1,5 @@
 -- A body declares at most as many locals as it has nodes.
-use Rattle.std.proofs.Common.{◌≡◌, ℕ, ◌+◌, ◌≤◌, arith}
+use Rattle.std.proofs.Common.{◌≤◌, arith}
 use Rattle.par_tree.specs.Plain as plain
 use Rattle.par_tree.specs.Plain.{Sta, Stas, Braces, In, MayBraces, Else, Catches, Catch, NoCatch, Handler, On}
 use Rattle.par_tree.specs.Nodes.{stmt_nodes, braces_nodes, may_braces_nodes, else_nodes, all_nodes, catch_nodes, handler_nodes}

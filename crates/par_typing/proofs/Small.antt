@@ -1,24 +1,21 @@
 -- A source that breaks no limit and no rule on types has small methods.
-use Rattle.std.proofs.Common.{◌≡◌, ℕ, ◌+◌, ◌*◌, ◌^◌, ◌<◌, ◌≤◌, Bool, false, not, ◌||◌, List, [], ◌∷◌, ◌++◌, length, Option, Some, None, arith}
+use Rattle.std.proofs.Common.{◌≡◌, ℕ, false, List, [], ◌∷◌, ◌++◌, Option, Some, None, arith}
 use Rattle.std.specs.List.{flat_map, AllByRecursion}
-use Rattle.par_tree.specs.Plain.{Method, Class, Declaration, Source, Actors, Lock, Policy, Declared}
-use Rattle.par_typed.specs.First.{when, broken}
+use Rattle.par_tree.specs.Plain.{Method, Class, Declaration, Actors, Lock, Policy, Declared}
 use Rattle.par_typed.specs.declared.table.Table.{Table}
 use Rattle.par_names.specs.Declarations.{classes_in}
 use Rattle.par_scope.specs.Names.{Names}
 use Rattle.par_scope.specs.Locals.{no_locals}
 use Rattle.par_scope.specs.Home.{Home, class_named, result_written}
-use Rattle.par_types.specs.Fits.{is_void}
-use Rattle.par_completes.specs.Completes.{braces_complete}
 use Rattle.par_types.specs.Stmts.{braces_faults}
 use Rattle.par_types.specs.Methods.{with_params, params_faults, throws_faults, fields_faults, result_fault, end_fault, home_of, body_faults, method_faults, methods_faults, class_faults}
 use Rattle.par_types.specs.Program.{declaration_faults, declarations_faults}
 use Rattle.par_declarations.specs.Limits.{class_limits, method_limits}
-use Rattle.par_annotated.specs.Small.{IsSmall, AreSmall, IsSmallClass, IsSmallDeclaration, IsSmallSource}
-use Rattle.par_typing.specs.Numbers.{HasNumbers, DeclarationHasNumbers, SourceHasNumbers}
+use Rattle.par_annotated.specs.Small.{IsSmall, AreSmall, IsSmallClass, IsSmallSource}
+use Rattle.par_typing.specs.Numbers.{HasNumbers, SourceHasNumbers}
 use Rattle.par_typing.proofs.Ints.{left_none, right_none, braces_ints}
 use Rattle.par_typing.proofs.Locals.{braces_few}
-use Rattle.par_typing.proofs.Limits.{MethodIsWithin, method_within, ClassIsWithin, class_within}
+use Rattle.par_typing.proofs.Limits.{MethodIsWithin, method_within, class_within}
 
 small_method : (home : Home) (m : Method) → MethodIsWithin m → HasNumbers m → body_faults home m ≡ [] → IsSmall m
 small_method home m limits numbers h =

@@ -1,13 +1,12 @@
 -- The table of a source that breaks no limit has few classes, members and policies.
-use Rattle.std.proofs.Common.{◌≡◌, ℕ, ◌+◌, ◌-◌, ◌^◌, ◌<◌, ◌≤◌, Bool, true, false, List, [], ◌∷◌, ◌++◌, map, length, take, drop, Option, Some, None, refl, sym, ap, subst, ◌∙◌, arith}
-use Rattle.std.specs.Prelude.{codes, nat_lt, if◌then◌else◌, count_by}
+use Rattle.std.proofs.Common.{◌≡◌, ℕ, ◌+◌, ◌^◌, ◌<◌, List, [], ◌∷◌, map, length, take, drop, refl, arith}
+use Rattle.std.specs.Prelude.{codes, if◌then◌else◌, count_by}
 use Rattle.std.specs.List.{All, AllByRecursion}
 use Rattle.std.proofs.lemmas.List.{length-map, length-append, length-take, length-drop}
 use Rattle.std.proofs.lemmas.List.Elements.{All-nil, All-cons}
 use Rattle.par_tree.specs.declared.decl.FieldDecl.{FieldDecl}
 use Rattle.par_tree.specs.Plain.{Class, Source}
-use Rattle.par_typed.specs.declared.table.ClassInfo.{ClassInfo}
-use Rattle.par_scope.specs.Names.{MemberNames, member_names, IsFewMembers, IsFewTable}
+use Rattle.par_scope.specs.Names.{member_names, IsFewMembers, IsFewTable}
 use Rattle.par_names.specs.Declarations.{builtin, builtins, declared_classes, classes}
 use Rattle.par_resolved.specs.Policies.{known}
 use Rattle.par_resolved.specs.Numbered.{numbered}
