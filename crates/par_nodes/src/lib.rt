@@ -9,4 +9,5 @@ mod call;
 mod declared;
 pub mod expr;
 mod make;
+pub mod possible;
 pub mod rule;

@@ -1,0 +1,27 @@
+-- Completions in lists.
+use Rattle.std.specs.Prelude.{Bool, false, ◌||◌, ◌&&◌, not, List, [], ◌∷◌}
+use Rattle.par_rules.specs.Kinds.{Kind, same, Absorber, absorbed}
+use Rattle.par_nodes.specs.declared.rule.Kind as code
+use Rattle.par_nodes.specs.Seen.{seen_kind}
+
+-- the completion is one of these
+abbrev pub among : List code.Kind → Kind → Bool
+among [] k = false
+among (j ∷ js) k = same (seen_kind j) k || among js k
+
+-- completions of one or of the other
+abbrev pub either : (Kind → Bool) → (Kind → Bool) → Kind → Bool
+either f g k = f k || g k
+
+-- completions, where that is so
+abbrev pub if_so : Bool → (Kind → Bool) → Kind → Bool
+if_so b f k = b && f k
+
+-- completions that are not absorbed
+abbrev pub apart : Absorber → (Kind → Bool) → Kind → Bool
+apart a f k = f k && not (absorbed a k)
+
+-- what can be of the parts before, the latest first, in front of these
+abbrev pub cans : List (List code.Kind) → List (Kind → Bool) → List (Kind → Bool)
+cans [] fs = fs
+cans (js ∷ parts) fs = cans parts (among js ∷ fs)
