@@ -39,22 +39,25 @@ class Auction {
 }
 ";
 
-// A family of locks, locks that are asked for, inferred fields, and a method with all its marks.
+// Families of locks, locks that are asked for, inferred fields, a method with all its marks, and a
+// birth policy that is met of fields.
 const BOX: &[u8] = b"actor a, b;
 lock Key(actor, actor);
+lock Shut(actor);
 lock Sold ?{a:};
 lock Seen;
 class Lost extends Exception { }
 class Box ?{a:} {
   ?_ int x;
-  ?{a:} int z;
+  ?{a:} Box z;
   ?_ static int y;
-  int take(boolean all) !top ~Sold +Key(b, a) -Seen throws Lost top {
+  int take(boolean all, ?{a:} notnull Box other) !top ~Sold +Key(b, a) -Seen throws Lost top {
     when (Seen) { int n = 1; }
-    return z;
+    return 1;
   }
   static void main() { when (Key(a, b)) { } }
 }
+class Pair { ?{a: Seen} int one; ?{b: Seen} int two; }
 ";
 
 const NO_MAIN: &[u8] = b"actor a;";
@@ -321,9 +324,9 @@ const TAKE: Method = Method {
     is_static: false,
     result: Ty::Int,
     policies: (0, 2),
-    params: &[(Ty::Boolean, 0, false)],
-    locals: &[Ty::Class(3), Ty::Boolean, Ty::Int],
-    locks: [&[4], &[2], &[5]],
+    params: &[(Ty::Boolean, 0, false), (Ty::Class(3), 1, true)],
+    locals: &[Ty::Class(3), Ty::Boolean, Ty::Class(3), Ty::Int],
+    locks: [&[6], &[2], &[7]],
     throws: &[(2, 2)],
 };
 
@@ -344,12 +347,24 @@ const BOX_CLASS: Class = Class {
     exception: false,
     birth: 1,
     fields: &[
-        ("x", false, Ty::Int, 3, true),
-        ("z", false, Ty::Int, 1, false),
-        ("y", true, Ty::Int, 4, true),
+        ("x", false, Ty::Int, 6, true),
+        ("z", false, Ty::Class(3), 1, false),
+        ("y", true, Ty::Int, 7, true),
     ],
     channels: &[],
     methods: &[TAKE, BOX_MAIN],
+};
+
+const PAIR_CLASS: Class = Class {
+    name: "Pair",
+    exception: false,
+    birth: 5,
+    fields: &[
+        ("one", false, Ty::Int, 3, false),
+        ("two", false, Ty::Int, 4, false),
+    ],
+    channels: &[],
+    methods: &[],
 };
 
 // The lock of a family that is asked for has `top`, and so has a lock alone.
@@ -360,6 +375,8 @@ const BOX_TABLE: Wanted = Wanted {
         ("Key", &[0, 1], Some(2)),
         ("Key", &[1, 0], None),
         ("Key", &[1, 1], None),
+        ("Shut", &[0], None),
+        ("Shut", &[1], None),
         ("Sold", &[], Some(1)),
         ("Seen", &[], Some(2)),
     ],
@@ -367,10 +384,13 @@ const BOX_TABLE: Wanted = Wanted {
         &[(0, &[]), (1, &[])],
         &[(0, &[])],
         &[],
+        &[(0, &[7])],
+        &[(1, &[7])],
+        &[(0, &[7]), (1, &[7])],
         &[(0, &[]), (1, &[])],
         &[(0, &[]), (1, &[])],
     ],
-    classes: &[ARITHMETIC, NULL_POINTER, LOST, BOX_CLASS],
+    classes: &[ARITHMETIC, NULL_POINTER, LOST, BOX_CLASS, PAIR_CLASS],
     main: 3,
 };
 
