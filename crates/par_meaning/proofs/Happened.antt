@@ -126,8 +126,8 @@ born_told p n old m store c number k name o is bears number_is k_is named_is unb
     let rest = follows p old in
     let s = state_of p old in
     let Goal : Machine → Type 0 = λ m. store ≡ bear c (holds m.store) → number ≡ (holds m.store).births c
-        → behind m.events (left p m.work m.frames.below m.values Normal (Ref c number) (state p (held_locals m.frames.own) m.result store) n)
-        ≡ behind old.events (named o (born p.table c) rest s n) in
+    → behind m.events (left p m.work m.frames.below m.values Normal (Ref c number) (state p (held_locals m.frames.own) m.result store) n)
+    ≡ behind old.events (named o (born p.table c) rest s n) in
     subst Goal (sym is) (λ bears number_is.
     ap (behind (es ++ record { event = Born name k; locks = (holds old.store).locks } ∷ []))
     (bore p (held_locals old.frames.own) old.result (holds old.store) c n number rest store bears number_is unborn)

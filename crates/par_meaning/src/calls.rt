@@ -8,7 +8,7 @@ ghost use Rattle.par_meaning.specs.Work.{Setting, left, called, last_values, eva
 use crate::machine::Machine;
 use crate::memory::NoMemory;
 use crate::operators::is_there;
-use crate::work::{Completion, Exit, Next, Target, Then, Waiting, NULL_POINTER};
+use crate::work::{Completion, Exit, NULL_POINTER, Next, Target, Then, Waiting};
 use par_typed::expr::TExpr;
 use par_values::value::MVal;
 
@@ -21,10 +21,10 @@ pub(crate) fn arguments<'a>(
 ) -> Result<Then<'a>, NoMemory>
     ensures { IfOk result (λ on. (p : Setting) (n : ℕ) → onward p machine.new on n
         ≡ behind machine.old.events
-            (evaluates_all p (all_shown args.now)
-            (λ more. called p target (last_values count machine.old.values ++ more))
-            (left p machine.old.work machine.old.frames.below (drop count machine.old.values))
-            (state_of p machine.old) n)) }
+        (evaluates_all p (all_shown args.now)
+        (λ more. called p target (last_values count machine.old.values ++ more))
+        (left p machine.old.work machine.old.frames.below (drop count machine.old.values))
+        (state_of p machine.old) n)) }
 {
     match args.split_first() {
         Some((first, others)) => {
@@ -39,9 +39,9 @@ pub(crate) fn arguments<'a>(
 fn call<'a>(machine: &mut Machine<'a>, target: Target, count: usize) -> Then<'a>
     ensures { (p : Setting) (n : ℕ) → onward p machine.new result n
         ≡ behind machine.old.events
-            (called p target (last_values count machine.old.values)
-            (left p machine.old.work machine.old.frames.below (drop count machine.old.values))
-            (state_of p machine.old) n) }
+        (called p target (last_values count machine.old.values)
+        (left p machine.old.work machine.old.frames.below (drop count machine.old.values))
+        (state_of p machine.old) n) }
 {
     if is_there(target.sure, first_of(machine.values.last(count))) {
         Then::Goes(Next::Body(target.class, target.method, count))

@@ -16,7 +16,7 @@ use crate::names::{self, Member};
 use crate::operators::{constant, number};
 use crate::program::Program;
 use crate::run::SourceEvent;
-use crate::work::{Completion, Then, FINE};
+use crate::work::{Completion, FINE, Then};
 use par_typed::table::Table;
 use par_values::run::{Event, Val};
 use par_values::value::MVal;

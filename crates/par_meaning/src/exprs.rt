@@ -80,7 +80,9 @@ fn enter_call<'a>(
                 method,
                 sure: of.sure,
             };
-            machine.work.push(Waiting::Argument(target, 0, args.as_slice()))?;
+            machine
+                .work
+                .push(Waiting::Argument(target, 0, args.as_slice()))?;
             Ok(Then::Goes(Next::Expr(of)))
         }
         None => {

@@ -22,8 +22,8 @@ impl Model for Frames {
     ghost Value = { Frame };
 
     ghost view = { λ frames. record {
-        below = take frames.base frames.locals.items;
-        own = drop frames.base frames.locals.items;
+      below = take frames.base frames.locals.items;
+      own = drop frames.base frames.locals.items;
     } };
 
     ghost invariant = { λ frames. frames.base ≤ length frames.locals.items };
@@ -44,7 +44,10 @@ impl Frames {
     pub(crate) fn get(&self, number: u16) -> MVal
         ensures { result ≡ held self.now.own number }
     {
-        match self.locals.get(self.base.saturating_add(usize::from(number))) {
+        match self
+            .locals
+            .get(self.base.saturating_add(usize::from(number)))
+        {
             Some(value) => *value,
             None => MVal::Null,
         }

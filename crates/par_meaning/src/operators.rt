@@ -143,7 +143,9 @@ fn shift_right(a: i32, b: i32) -> i32
 fn shift_right_unsigned(a: i32, b: i32) -> i32
     ensures { result ≡ combined ShiftRightUnsigned a b }
 {
-    a.cast_unsigned().wrapping_shr(b.cast_unsigned()).cast_signed()
+    a.cast_unsigned()
+        .wrapping_shr(b.cast_unsigned())
+        .cast_signed()
 }
 
 /// What an operator gives for its two parts.

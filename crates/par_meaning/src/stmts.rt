@@ -9,7 +9,7 @@ ghost use Rattle.par_meaning.specs.Work.{performs, performs_else, performs_all, 
 
 use crate::machine::Machine;
 use crate::memory::NoMemory;
-use crate::work::{Completion, Exit, Next, Then, Waiting, FINE};
+use crate::work::{Completion, Exit, FINE, Next, Then, Waiting};
 use par_typed::expr::TExpr;
 use par_typed::stmt::{TStmt, TStmtKind};
 
@@ -55,7 +55,9 @@ pub(crate) fn enter_stmt<'a>(
             Ok(Then::Goes(Next::Expr(value)))
         }
         TStmtKind::SetField(of, class, field, value) => {
-            machine.work.push(Waiting::Object(of.sure, *class, *field, value))?;
+            machine
+                .work
+                .push(Waiting::Object(of.sure, *class, *field, value))?;
             Ok(Then::Goes(Next::Expr(of)))
         }
         TStmtKind::Eval(e) => {

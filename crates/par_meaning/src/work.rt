@@ -26,6 +26,7 @@ pub(crate) const FINE: Completion = Completion::Normal(MVal::Null);
 
 /// The class that a zero divisor throws, and the one that a null receiver throws.
 pub(crate) const ARITHMETIC: u16 = 0;
+
 pub(crate) const NULL_POINTER: u16 = 1;
 
 /// What a call calls. The first of its values needs a null test, unless it is surely an object.

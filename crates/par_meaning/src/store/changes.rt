@@ -13,7 +13,12 @@ impl<'a> Store<'a> {
     /// Nothing is written, no object is born and no lock is open.
     pub(crate) fn new(alloc: Global) -> Store<'a>
         ensures { holds result ≡ record {
-            statics = λ c f. None; births = λ c. 0; fields = λ c n f. None; inputs = λ c k. None; locks = [] } }
+          statics = λ c f. None;
+          births = λ c. 0;
+          fields = λ c n f. None;
+          inputs = λ c k. None;
+          locks = [];
+        } }
     {
         Store {
             alloc,
