@@ -25,6 +25,8 @@ mod instructions;
 #[cfg(test)]
 mod lattice;
 #[cfg(test)]
+mod linked_files;
+#[cfg(test)]
 mod machine_runs;
 #[cfg(test)]
 mod names;

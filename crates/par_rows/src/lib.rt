@@ -17,6 +17,8 @@ mod faults;
 #[cfg(test)]
 mod limits;
 #[cfg(test)]
+mod linking;
+#[cfg(test)]
 mod loading;
 #[cfg(test)]
 mod name_refusals;
