@@ -179,7 +179,8 @@ pub(crate) fn selection(
     }
 }
 
-// The receiver of a member of the own class, where it has one. What is written before it is no node.
+// The receiver of a member of the own class, where it has one. What is written before it is no
+// node.
 #[tactic(auto, using(crate::proofs::NodeForms::node_forms))]
 fn own_receiver(
     alloc: Global,

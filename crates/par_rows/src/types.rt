@@ -313,7 +313,8 @@ fn exceptions_and_literals(rt: HostRuntime) -> Result<(), Fail> {
     check_lines(rt.alloc(), CLASSES)
 }
 
-/// Several rules: names before types, then the least place, there the least rule; then inferred fields.
+/// Several rules: names before types, then the least place, there the least rule; then inferred
+/// fields.
 const ORDER: &[(usize, &str, Answer)] = &[
     (8, "show(true); show(y);", ("refused 101 at 8:18\n", 1)),
     (8, "notnull Shop o = 1;", ("refused 201 at 8:18\n", 1)),
