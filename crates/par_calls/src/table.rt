@@ -9,7 +9,7 @@ use par_policy::{Clause, Policy};
 use par_table::{NameError, build};
 use par_typed::refusal::Refusal;
 use par_typed::table::{
-    ChannelInfo, ClassInfo, FieldInfo, GroundLock, MethodInfo, ParamInfo, Table, ThrowInfo,
+    ChannelInfo, ClassInfo, FieldInfo, GroundLock, MethodInfo, ParamInfo, Table, ThrowInfo, birth,
 };
 use par_typed::ty::Ty;
 use std::alloc::Global;
@@ -404,6 +404,33 @@ fn tables_of_programs(rt: HostRuntime) -> Result<(), Fail> {
     for (row, source, want) in TABLES {
         let table = table(rt.alloc(), source)?;
         expect(is_table(&table, want), row)?;
+    }
+    Ok(())
+}
+
+// Whether these may learn that an object of the class is made.
+fn is_born_for(table: &Table, class: u16, want: &'static [Part]) -> bool {
+    let Some(info) = table.classes.get(usize::from(class)) else {
+        return false;
+    };
+    if usize::from(info.birth) >= table.policies.len() {
+        return false;
+    }
+    birth(table, class).shows(&want)
+}
+
+// The classes of the box program: a policy that is written, one met of fields, and none.
+const BIRTHS: &[(&str, u16, &[Part])] = &[
+    ("the birth of a box", 3, &[(0, &[])]),
+    ("the birth of a pair", 4, &[(0, &[7]), (1, &[7])]),
+    ("the birth of what is lost", 2, &[(0, &[]), (1, &[])]),
+];
+
+#[test]
+fn births_of_classes(rt: HostRuntime) -> Result<(), Fail> {
+    let table = table(rt.alloc(), BOX)?;
+    for (row, class, want) in BIRTHS {
+        expect(is_born_for(&table, *class, want), row)?;
     }
     Ok(())
 }
