@@ -1,3 +1,4 @@
+pub mod Highest
 pub mod Placed
 pub mod Passing
 pub mod Judging

@@ -1,4 +1,13 @@
 -- What is broken in a tree is broken at places of the tree, or at its beginning.
+use Rattle.std.proofs.Common.{◌≤◌, subst}
+use Rattle.par_typed.specs.declared.refusal.Refusal.{Refusal}
+use Rattle.par_typed.specs.declared.table.Table.{Table}
+use Rattle.par_rules.specs.Declares.{declares}
+use Rattle.par_checks.specs.Verdict.{Fails}
+use Rattle.par_check.specs.Judged.{IsFirstBroken}
+use Rattle.par_well_typed.specs.Typed.{bodies_of, written_in}
+use Rattle.par_placed.proofs.Law.{checks_lie}
+use Rattle.par_observer.proofs.Highest.{lowest_told, told_are_closed}
 use Rattle.std.proofs.Common.{ℕ, List, [], ◌∷◌, not}
 use Rattle.std.specs.List.{AllByRecursion}
 use Rattle.par_tree.specs.declared.decl.FieldDecl.{FieldDecl}
@@ -37,3 +46,14 @@ tree_within m source h =
     passes_within m (all_faults source) (typed_faults source) (all_within m source h)
     (passes_within m (type_faults (table_of source) source) (all_inferred source) (types_broken_within m (table_of source) source h)
     (inferred_in m source h))
+
+-- a rule on flows that all closed facts break is one that some facts break, at a place of a check
+pub flow_within : (m : ℕ) (tree : Source) (f : Refusal) → IsWithin m tree
+    → IsFirstBroken (table_of tree) (bodies_of tree) f → f.at ≤ m
+flow_within m tree f within first =
+    let table : Table = table_of tree in
+    let fails : Fails table first.body f.rule f.at (lowest_told table.policies) =
+        first.breaks (lowest_told table.policies)
+        (told_are_closed table.policies (declares table) first.body) in
+    subst (λ (at : ℕ). at ≤ m) fails.at_is
+    (checks_lie m (written_in tree) tree within first.body first.there fails.check fails.asked)

@@ -1,2 +1,4 @@
 pub mod Passes
+pub mod Trees
 pub mod Judgements
+pub mod Straight

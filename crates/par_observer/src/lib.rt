@@ -1,8 +1,17 @@
 //! The judgement of a source: its passes in order, and the first refusal of the earliest pass in
 //! which a rule is broken.
 //!
-//! The crate composes the passes and holds no reasoning of its own about trees, names or policies.
-//! It reads no file and says nothing.
+//! The crate composes the passes and holds no reasoning of its own about trees, names, policies or
+//! facts. It reads no file and says nothing. What it tells of straight-line sources besides is for
+//! those who compile them.
 #![tactic(auto)]
 
-pub mod judge;
+mod error;
+mod judge;
+mod reading;
+mod straight;
+mod tree;
+
+pub use error::JudgeError;
+pub use judge::judge;
+pub use straight::straight_line;

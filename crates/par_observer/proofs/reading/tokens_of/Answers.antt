@@ -2,7 +2,7 @@ use Rattle.std.proofs.Common.{refl, arith}
 use Rattle.par_lexer.specs.declared.token.LexError.TheVariants.{BadByte, NumberTooLarge, OpenComment, NameTooLong, SourceTooLong}
 use Rattle.par_lexer.specs.Tokens.{IsRefusal}
 use Rattle.par_observer.proofs.Unread.{without_tokens}
-use Rattle.par_observer.proofs.judge.tokens_of.Goals as goal
+use Rattle.par_observer.proofs.reading.tokens_of.Goals as goal
 
 pub returns-in-BadByte-clause-unread : goal.returns-in-BadByte-clause-unread
 returns-in-BadByte-clause-unread c =

@@ -3,7 +3,7 @@ use Rattle.par_grammar.specs.Derivation.{Syntax, TooDeep}
 use Rattle.par_parser.specs.Sentence.{HasFault}
 use Rattle.par_observer.specs.Judgements.{IsBrokenBy}
 use Rattle.par_observer.proofs.Unread.{without_sentence}
-use Rattle.par_observer.proofs.judge.read_sentence.Goals as goal
+use Rattle.par_observer.proofs.reading.read_sentence.Goals as goal
 
 pub returns-in-Syntax-clause-unread : goal.returns-in-Syntax-clause-unread
 returns-in-Syntax-clause-unread c =

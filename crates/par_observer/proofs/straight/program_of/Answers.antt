@@ -1,5 +1,5 @@
 use Rattle.par_observer.proofs.Judging.{without_tree, programs_of_result}
-use Rattle.par_observer.proofs.judge.program_of.Goals as goal
+use Rattle.par_observer.proofs.straight.program_of.Goals as goal
 
 pub returns-in_default : goal.returns-in_default
 returns-in_default c =

@@ -1,0 +1,100 @@
+//! The passes over the tree of a source: names, limits, types, fields without a policy, flows.
+
+ghost use Rattle.std.specs.Prelude.{◌≡◌, ◌≤◌, [], IfOk, IfErr, length};
+ghost use Rattle.par_lexer.specs.Spans.{IsLaid};
+ghost use Rattle.par_lexer.specs.Tokens.{HasTokens};
+ghost use Rattle.par_tree.specs.Shown.{source as tree_of_program};
+ghost use Rattle.par_parser.specs.Bodies.{source_size};
+ghost use Rattle.par_parser.specs.Sentence as syntax;
+ghost use Rattle.par_resolved.specs.Resolved.{table_of};
+ghost use Rattle.par_faults.specs.Faults.{all_faults};
+ghost use Rattle.par_sources.specs.Numbers.{SourceHasNumbers};
+ghost use Rattle.par_sources.specs.Order.{IsInOrder};
+ghost use Rattle.par_observer.specs.Judgements.{IsAcceptedAs, IsRefused};
+ghost use Rattle.par_observer.specs.Trees.{IsAcceptedTreeAs, IsTreeRefused, IsTypedTree};
+
+use crate::error::JudgeError;
+use par_check::{Accepted, CheckError, check};
+use par_lexer::LONGEST_SOURCE;
+use par_lexer::token::Token;
+use par_table::{NameError, build};
+use par_tree::decl::Program as Tree;
+use par_typed::program::Typed;
+use par_typed::table::Table;
+use par_types::first_inferred;
+use par_typing::{TypeError, type_program};
+use std::alloc::Global;
+
+/// What is said of a source whose tokens are a sentence with this tree.
+pub(crate) fn judge_tree(
+    alloc: Global,
+    source: &[u8],
+    tokens: &[Token],
+    tree: &Tree,
+) -> Result<Accepted, JudgeError>
+    requires short { length source.now ≤ LONGEST_SOURCE }
+    requires cut { HasTokens source.now tokens.now }
+    requires laid { IsLaid source.now tokens.now }
+    requires sentence { syntax.HasTree tokens.now (tree_of_program tree.now) }
+    requires size { source_size (tree_of_program tree.now) ≤ length tokens.now }
+    ensures accepted { IfOk result (IsAcceptedAs source.now) }
+    ensures refused { IfErr result (IsRefused source.now) }
+{
+    passes(alloc, tree)
+}
+
+/// What the passes say of a tree: it is accepted, or the first broken rule of the earliest pass in
+/// which one is broken.
+fn passes(alloc: Global, tree: &Tree) -> Result<Accepted, JudgeError>
+    requires size { source_size (tree_of_program tree.now) ≤ LONGEST_SOURCE }
+    requires numbers { SourceHasNumbers (tree_of_program tree.now) }
+    requires order { IsInOrder (tree_of_program tree.now) }
+    ensures accepted { IfOk result (IsAcceptedTreeAs (tree_of_program tree.now)) }
+    ensures refused { IfErr result (IsTreeRefused (tree_of_program tree.now)) }
+{
+    let typed = typed_of(alloc, tree)?;
+    if let Some(refusal) = first_inferred(tree) {
+        return Err(JudgeError::Refused(refusal));
+    }
+    match check(alloc, typed) {
+        Ok(accepted) => Ok(accepted),
+        Err(error) => match error {
+            CheckError::Broken(refusal) => Err(JudgeError::Refused(refusal)),
+            CheckError::Memory => Err(JudgeError::Memory),
+        },
+    }
+}
+
+/// The typed program of a tree.
+fn typed_of(alloc: Global, tree: &Tree) -> Result<Typed, JudgeError>
+    requires size { source_size (tree_of_program tree.now) ≤ LONGEST_SOURCE }
+    requires numbers { SourceHasNumbers (tree_of_program tree.now) }
+    requires order { IsInOrder (tree_of_program tree.now) }
+    ensures typed { IfOk result (IsTypedTree (tree_of_program tree.now)) }
+    ensures refused { IfErr result (IsTreeRefused (tree_of_program tree.now)) }
+{
+    let table = table_of(alloc, tree)?;
+    match type_program(alloc, table, tree) {
+        Ok(typed) => Ok(typed),
+        Err(error) => match error {
+            TypeError::Broken(refusal) => Err(JudgeError::Refused(refusal)),
+            TypeError::Memory => Err(JudgeError::Memory),
+        },
+    }
+}
+
+/// The table of a tree that breaks no rule on names and exceeds no limit.
+fn table_of(alloc: Global, tree: &Tree) -> Result<Table, JudgeError>
+    requires { source_size (tree_of_program tree.now) ≤ LONGEST_SOURCE }
+    ensures right { IfOk result (λ table. all_faults (tree_of_program tree.now) ≡ []) }
+    ensures table { IfOk result (λ table. table ≡ table_of (tree_of_program tree.now)) }
+    ensures refused { IfErr result (IsTreeRefused (tree_of_program tree.now)) }
+{
+    match build(alloc, tree) {
+        Ok(table) => Ok(table),
+        Err(error) => match error {
+            NameError::Broken(refusal) => Err(JudgeError::Refused(refusal)),
+            NameError::Memory => Err(JudgeError::Memory),
+        },
+    }
+}
