@@ -1,0 +1,21 @@
+-- The tree of a source has what its tokens and the grammar give.
+use Rattle.std.specs.Prelude.{ℕ, List}
+use Rattle.par_lexer.specs.declared.token.Token.{Token}
+use Rattle.par_lexer.specs.Tokens.{HasTokens}
+use Rattle.par_lexer.specs.Spans.{IsLaid}
+use Rattle.par_tree.specs.Plain.{Source}
+use Rattle.par_places.specs.Law.{ComesToTree}
+use Rattle.par_sources.specs.Numbers.{SourceHasNumbers}
+use Rattle.par_sources.specs.Order.{IsInOrder}
+
+-- its numbers are those of tokens
+abbrev pub TreesHaveNumbers : Type 0
+TreesHaveNumbers =
+    (bytes : List ℕ) (tokens : List Token) (tree : Source)
+    → HasTokens bytes tokens → ComesToTree tokens tree → SourceHasNumbers tree
+
+-- its declarations stand in the order of their names' tokens
+abbrev pub TreesAreInOrder : Type 0
+TreesAreInOrder =
+    (bytes : List ℕ) (tokens : List Token) (tree : Source)
+    → IsLaid bytes tokens → ComesToTree tokens tree → IsInOrder tree
