@@ -1,0 +1,4 @@
+pub mod Asks
+pub mod Forms
+pub mod Left
+pub mod Others
