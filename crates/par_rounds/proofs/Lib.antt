@@ -1,0 +1,16 @@
+pub mod Lists
+pub mod Parts
+pub mod Events
+pub mod Heads
+pub mod Noted
+pub mod Lows
+pub mod Small
+pub mod Trees
+pub mod Arms
+pub mod Firsts
+pub mod Envs
+pub mod Locks
+pub mod Needs
+pub mod Ends
+pub mod Bodies
+pub mod Nexts

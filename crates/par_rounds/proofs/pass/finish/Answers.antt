@@ -1,0 +1,9 @@
+use Rattle.std.proofs.Common.{refl}
+use Rattle.par_except.specs.Seen.{seen}
+use Rattle.par_rounds.proofs.Arms.{finish_goes}
+use Rattle.par_rounds.proofs.pass.finish.Goals as goal
+
+pub returns : goal.returns
+returns c =
+    finish_goes c.args.point (seen c.args.way.now) c.args.found _ c.deref.result.now c.args.notes.now c.row.new.self
+    refl c.restore.ensures.exits c.restore.ensures.locals c.deref.ensures.value c.in_ok-row.ensures

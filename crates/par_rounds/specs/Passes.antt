@@ -1,0 +1,55 @@
+-- What a pass that runs needs, and what it gives.
+use Rattle.std.specs.Prelude.{◌≡◌, ◌<◌, ℕ, Option, Some, None, List, length}
+use Rattle.par_bits.specs.Sets.{has}
+use Rattle.par_rules.specs.Ranges.{IsFromInRange, IsWorthInRange}
+use Rattle.par_rules.specs.Rules.{Node, node, Rules, Done, Part, Test, Heads, Leaves, Worths, spot}
+use Rattle.par_except.specs.declared.way.Way.{Way}
+use Rattle.par_except.specs.Seen.{HasLocals}
+use Rattle.par_pass.specs.Pass as plain
+use Rattle.par_pass.specs.Pass.{Event}
+use Rattle.par_rounds.specs.declared.notes.Notes.{Notes}
+use Rattle.par_rounds.specs.declared.pass.Found.{Found}
+use Rattle.par_rounds.specs.declared.pass.SoFar.{SoFar}
+use Rattle.par_rounds.specs.Seen.{seen_exits, AreWide, AreFactsWide, AreHeadsWide}
+use Rattle.par_rounds.specs.Took.{Took}
+
+module _ (locals points : ℕ) where
+  -- numbers are in range, and so are the points of the tests of loops
+  unfoldable mutual
+    pub IsPassable : Node → Type 0
+    IsPassable (node p rules) = ArePassable rules
+
+    pub ArePassable : Rules → Type 0
+    ArePassable Done = Unit {0}
+    ArePassable (Part from absorber part more) =
+        IsFromInRange locals from × IsPassable part × ArePassable more
+    ArePassable (Test part more) = (spot part < points) × IsPassable part × ArePassable more
+    ArePassable (Heads from more) = IsFromInRange locals from × ArePassable more
+    ArePassable (Leaves from kind more) = IsFromInRange locals from × ArePassable more
+    ArePassable (Worths v more) = IsWorthInRange locals v × ArePassable more
+
+-- what is found, with what has been noted on the way
+abbrev pub found_of : Found → List Event → plain.Found
+found_of r l = record { value = has r.value; exits = seen_exits r.exits.items; events = l }
+
+-- the code has found that, and has noted its events
+pub record Passed (r : Found) (q : plain.Found) (m n : Notes) : Type 0 where
+  pub value : has r.value ≡ q.value
+  pub exits : seen_exits r.exits.items ≡ q.exits
+  pub wide : AreWide m.locals r.exits.items
+  pub noted : Took q.events m n
+
+-- all ways keep policies for as many locals
+pub record IsReady (w : Way) (hs : List (Option Way)) (n : Notes) : Type 0 where
+  pub way : HasLocals n.locals w
+  pub heads : AreHeadsWide n.locals hs
+  pub noted : AreHeadsWide n.locals n.heads.items
+
+abbrev pub IsHeadInRange : ℕ → Option ℕ → Type 0
+IsHeadInRange points None = Unit {0}
+IsHeadInRange points (Some test) = test < points
+
+pub record IsSoFar (notes : Notes) (so : SoFar) : Type 0 where
+  pub head : IsHeadInRange (length notes.heads.items) so.head
+  pub parts : AreFactsWide notes.locals so.parts.items
+  pub exits : AreWide notes.locals so.found.exits.items

@@ -1,0 +1,189 @@
+// The ways at a node: one that enters it or leaves a part, and what becomes of it.
+ghost use Rattle.std.specs.Prelude.{◌≡◌, ◌<◌, ℕ, [], IfOk, IsSome, length};
+ghost use Rattle.std.specs.Option.{option_copied};
+ghost use Rattle.par_policy.specs.Numbers.{has as is_among};
+ghost use Rattle.par_bits.specs.Sets.{has, union, none};
+ghost use Rattle.par_rules.specs.Lattice.{numbers};
+ghost use Rattle.par_rules.specs.Ranges.{AreLocks, IsFromInRange, IsWorthInRange};
+ghost use Rattle.par_rules.specs.Rules.{way as way_from, worth as worth_of};
+ghost use Rattle.par_nodes.specs.Seen.{seen_origin, seen_start, seen_worth};
+ghost use Rattle.par_except.specs.Seen.{may_see, seen, HasLocals, MayHaveLocals};
+ghost use Rattle.par_rounds.specs.Seen.{latest_first, AreFactsWide};
+ghost use Rattle.par_rounds.specs.Changes.{assigned_by, tested_by, raised_by, shut_by, opened_by};
+ghost use Rattle.par_rounds.specs.Changes.{seen_locks, may_have, HaveRange, HasLocal, HasPolicy};
+
+use crate::fact::{Fact, exit_of, value_of};
+use crate::ways::env_with;
+use par_atoms::Atoms;
+use par_bits::Bits;
+use par_except::Way;
+use par_lexer::list::NoMemory;
+use par_nodes::rule::{Locks, Origin, Start, Worth};
+use par_policy::Lockset;
+use std::alloc::Global;
+
+pub fn all_locks(set: &Lockset) -> Bits<4>
+    requires { AreLocks (is_among set.now) }
+    ensures { has result ≡ is_among set.now }
+{
+    let mut bits = Bits::empty();
+    for lock in set.as_slice() {
+        bits = bits.with(u32::from(*lock));
+    }
+    bits
+}
+
+fn bits_of(locks: Locks) -> Option<Bits<4>>
+    requires { HaveRange (seen_locks locks) }
+    ensures { may_have result ≡ seen_locks locks.entry }
+{
+    match locks {
+        Locks::Kept => None,
+        Locks::Nothing => Some(Bits::empty()),
+        Locks::One(lock) => Some(Bits::empty().with(u32::from(lock))),
+        Locks::All(set) => Some(all_locks(set)),
+    }
+}
+
+fn start_of<'a>(way: &'a Way, parts: &'a [Fact], start: Start) -> Option<&'a Way>
+    ensures way { may_see (option_copied result)
+        ≡ way_from numbers (Some (seen way.now)) (latest_first parts.now []) (seen_start start) }
+    ensures locals { AreFactsWide (length way.now.env) parts.now
+        → MayHaveLocals (length way.now.env) (option_copied result) }
+{
+    match start {
+        Start::Entry => Some(way),
+        Start::After(part, kind) => exit_of(parts, part, kind),
+    }
+}
+
+fn assigned(
+    alloc: Global,
+    way: &Way,
+    parts: &[Fact],
+    change: Option<(u16, usize)>,
+) -> Result<Way, NoMemory>
+    requires { HasLocal (length way.now.env) change }
+    ensures way { IfOk result
+        (λ w. seen w ≡ assigned_by change (latest_first parts.now []) (seen way.now)) }
+    ensures locals { IfOk result (λ w. length w.env ≡ length way.now.env) }
+{
+    match change {
+        None => way.copy(alloc),
+        Some((local, part)) => {
+            let policy = value_of(parts, part).union(&way.context);
+            let env = env_with(alloc, way.env.as_slice(), local, policy)?;
+            Ok(Way {
+                context: way.context,
+                env,
+                locks: way.locks,
+            })
+        }
+    }
+}
+
+fn tested(way: Way, parts: &[Fact], part: Option<usize>) -> Way
+    ensures way { seen result ≡ tested_by part (latest_first parts.now []) (seen way) }
+    ensures locals { length result.env ≡ length way.env }
+{
+    match part {
+        None => way,
+        Some(part) => Way {
+            context: way.context.union(&value_of(parts, part)),
+            env: way.env,
+            locks: way.locks,
+        },
+    }
+}
+
+fn raised(way: Way, policy: Option<u16>) -> Way
+    requires { HasPolicy policy }
+    ensures way { seen result ≡ raised_by policy (seen way) }
+    ensures locals { length result.env ≡ length way.env }
+{
+    match policy {
+        None => way,
+        Some(policy) => Way {
+            context: way.context.union(&Atoms::empty().with(policy)),
+            env: way.env,
+            locks: way.locks,
+        },
+    }
+}
+
+fn shut(way: Way, locks: Locks) -> Way
+    requires { HaveRange (seen_locks locks) }
+    ensures way { seen result ≡ shut_by (seen_locks locks.entry) (seen way) }
+    ensures locals { length result.env ≡ length way.env }
+{
+    match bits_of(locks) {
+        None => way,
+        Some(bits) => Way {
+            context: way.context,
+            env: way.env,
+            locks: way.locks.minus(&bits),
+        },
+    }
+}
+
+fn opened(way: Way, locks: Locks) -> Way
+    requires { HaveRange (seen_locks locks) }
+    ensures way { seen result ≡ opened_by (seen_locks locks.entry) (seen way) }
+    ensures locals { length result.env ≡ length way.env }
+{
+    match bits_of(locks) {
+        None => way,
+        Some(bits) => Way {
+            context: way.context,
+            env: way.env,
+            locks: way.locks.union(&bits),
+        },
+    }
+}
+
+fn changed(alloc: Global, start: &Way, parts: &[Fact], from: &Origin) -> Result<Way, NoMemory>
+    requires { IsFromInRange (length start.now.env) (seen_origin from.now) }
+    ensures way { IfOk result (λ w. seen w ≡ opened_by (seen_locks from.now.opened)
+        (shut_by (seen_locks from.now.shut) (raised_by from.now.raised
+        (tested_by from.now.tested (latest_first parts.now [])
+        (assigned_by from.now.assigned (latest_first parts.now []) (seen start.now)))))) }
+    ensures locals { IfOk result (λ w. length w.env ≡ length start.now.env) }
+{
+    let way = assigned(alloc, start, parts, from.assigned)?;
+    let way = tested(way, parts, from.tested);
+    let way = raised(way, from.raised);
+    let way = shut(way, from.shut);
+    Ok(opened(way, from.opened))
+}
+
+/// The way at a node that this way enters, behind these parts.
+pub fn way_at(
+    alloc: Global,
+    way: &Way,
+    parts: &[Fact],
+    from: &Origin,
+) -> Result<Option<Way>, NoMemory>
+    requires locals { AreFactsWide (length way.now.env) parts.now }
+    requires range { IsFromInRange (length way.now.env) (seen_origin from.now) }
+    ensures way { IfOk result (λ o. may_see o
+        ≡ way_from numbers (Some (seen way.now)) (latest_first parts.now []) (seen_origin from.now)) }
+    ensures locals { IfOk result (λ o. MayHaveLocals (length way.now.env) o) }
+{
+    match start_of(way, parts, from.start) {
+        None => Ok(None),
+        Some(start) => Ok(Some(changed(alloc, start, parts, from)?)),
+    }
+}
+
+/// A part of the value of a node that this way enters, behind these parts.
+pub fn worth_at(way: &Way, parts: &[Fact], worth: Worth) -> Atoms
+    requires { IsWorthInRange (length way.now.env) (seen_worth worth) }
+    ensures { has result
+        ≡ worth_of numbers (Some (seen way.now)) (latest_first parts.now []) (seen_worth worth) }
+{
+    match worth {
+        Worth::Given(policy) => Atoms::empty().with(policy),
+        Worth::Held(local) => way.env.as_slice()[usize::from(local)],
+        Worth::Value(part) => value_of(parts, part),
+    }
+}

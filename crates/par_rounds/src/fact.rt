@@ -1,0 +1,46 @@
+// What is known of a node, and of the parts before in it.
+ghost use Rattle.std.specs.Prelude.{◌≡◌, ℕ, [], IfOk};
+ghost use Rattle.std.specs.Option.{option_copied};
+ghost use Rattle.par_bits.specs.Sets.{has};
+ghost use Rattle.par_rules.specs.Lattice.{numbers};
+ghost use Rattle.par_rules.specs.Rules.{part_at};
+ghost use Rattle.par_nodes.specs.Seen.{seen_kind};
+ghost use Rattle.par_except.specs.Seen.{may_see, MayHaveLocals};
+ghost use Rattle.par_rounds.specs.Seen.{latest_first, AreFactsWide};
+
+use crate::exits::{Exit, way_of};
+use par_atoms::Atoms;
+use par_except::Way;
+use par_nodes::rule::Kind;
+
+/// The way that enters a node, if it is reached, its value, and how it is left.
+#[derive(Drop)]
+pub struct Fact {
+    pub entry: Option<Way>,
+    pub value: Atoms,
+    pub exits: Vec<Exit>,
+}
+
+/// The value of a part. Parts are numbered backwards, and the latest is 0.
+pub fn value_of(parts: &[Fact], part: usize) -> Atoms
+    ensures { has result ≡ (part_at numbers (latest_first parts.now []) part).value }
+{
+    if part < parts.len() {
+        parts[parts.len() - 1 - part].value
+    } else {
+        Atoms::empty()
+    }
+}
+
+/// The way that leaves a part, if there is one.
+pub fn exit_of(parts: &[Fact], part: usize, kind: Kind) -> Option<&Way>
+    ensures way { may_see (option_copied result)
+        ≡ (part_at numbers (latest_first parts.now []) part).exit (seen_kind kind) }
+    ensures locals { (n : ℕ) → AreFactsWide n parts.now → MayHaveLocals n (option_copied result) }
+{
+    if part < parts.len() {
+        way_of(&parts[parts.len() - 1 - part].exits, kind)
+    } else {
+        None
+    }
+}

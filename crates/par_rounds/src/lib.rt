@@ -1,0 +1,23 @@
+//! The facts of a tree of rules, found in rounds.
+//!
+//! A pass goes over the whole tree once, from the head ways of its loops as they stand, and raises
+//! the heads of the next pass. Only heads last from round to round; a round that raises none is the
+//! last, and its rows are the facts. This crate knows no program: it is given the tree and the way
+//! that enters it.
+#![tactic(auto)]
+
+mod body;
+mod changes;
+mod exits;
+mod fact;
+mod first;
+mod notes;
+mod pass;
+mod rounds;
+mod ways;
+
+pub use body::{facts_of_body, next};
+pub use exits::Exit;
+pub use fact::Fact;
+pub use first::first_way;
+pub use rounds::settle;

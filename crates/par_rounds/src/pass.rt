@@ -1,0 +1,273 @@
+// One pass over a node.
+ghost use Rattle.std.specs.Prelude.{◌≡◌, ℕ, [], ◌∷◌, ◌++◌, List, OnOk, IfOk, length};
+ghost use Rattle.par_bits.specs.Sets.{has, none};
+ghost use Rattle.par_rules.specs.Kinds.{absorbed};
+ghost use Rattle.par_rules.specs.Lattice.{numbers};
+ghost use Rattle.par_rules.specs.Ranges.{IsFromInRange};
+ghost use Rattle.par_rules.specs.Rules.{spot, way as way_from};
+ghost use Rattle.par_nodes.specs.Seen.{seen_absorber, seen_kind, seen_node, seen_origin, seen_rules};
+ghost use Rattle.par_except.specs.Seen.{may_see, seen, HasLocals, MayHaveLocals};
+ghost use Rattle.par_pass.specs.Exits.{all, leave as left, leaving};
+ghost use Rattle.par_pass.specs.Pass.{Event, ended, into, pass, pass_all, visited};
+ghost use Rattle.par_rounds.specs.Seen.{latest_first, seen_exits, seen_fact, ways_of};
+ghost use Rattle.par_rounds.specs.Seen.{AreWide, AreHeadsWide, AreFactsWide};
+ghost use Rattle.par_rounds.specs.Took.{Took};
+ghost use Rattle.par_rounds.specs.declared.notes.Notes.{Notes as Noted};
+ghost use Rattle.par_rounds.specs.Passes.{found_of, Passed, IsReady, IsSoFar, IsHeadInRange};
+ghost use Rattle.par_rounds.specs.Passes.{IsPassable, ArePassable};
+
+use crate::changes::{way_at, worth_at};
+use crate::exits::{Exit, add, gather, restore};
+use crate::fact::Fact;
+use crate::notes::Notes;
+use crate::ways::may_copy;
+use par_atoms::Atoms;
+use par_except::Way;
+use par_lexer::list::NoMemory;
+use par_nodes::rule::{Absorber, Kind, Node, Origin, Rules};
+use std::alloc::Global;
+
+/// The value of a node, and its exits.
+#[derive(Drop)]
+pub struct Found {
+    pub value: Atoms,
+    pub exits: Vec<Exit>,
+}
+
+impl Found {
+    fn nothing(alloc: Global) -> Found
+        ensures value { has result.value ≡ none }
+        ensures exits { result.exits.items ≡ [] }
+    {
+        Found {
+            value: Atoms::empty(),
+            exits: Vec::new(alloc),
+        }
+    }
+}
+
+/// What is found within a node: the point of the test, behind that of a loop, the parts before, and
+/// what they make of the node.
+#[derive(Drop)]
+pub struct SoFar {
+    pub head: Option<u32>,
+    pub parts: Vec<Fact>,
+    pub found: Found,
+}
+
+// A part that the way entered. Its exits are exits of the node, unless they are absorbed.
+fn take(
+    alloc: Global,
+    so: &mut SoFar,
+    entry: Option<Way>,
+    found: Found,
+    absorber: &Absorber,
+) -> Result<(), NoMemory>
+    requires { (n : ℕ) × AreWide n so.old.found.exits.items × AreWide n found.exits.items }
+    ensures head { OnOk result (so.new.head ≡ so.old.head) }
+    ensures parts { OnOk result (so.new.parts.items ≡ so.old.parts.items
+        ++ record { entry = entry; value = found.value; exits = found.exits } ∷ []) }
+    ensures value { OnOk result (so.new.found.value ≡ so.old.found.value) }
+    ensures exits { OnOk result (seen_exits so.new.found.exits.items
+        ≡ all (leaving (absorbed (seen_absorber absorber.now)) (seen_exits found.exits.items))
+        (seen_exits so.old.found.exits.items)) }
+    ensures locals { OnOk result ((n : ℕ) → AreWide n so.old.found.exits.items
+        → AreWide n found.exits.items → AreWide n so.new.found.exits.items) }
+{
+    gather(alloc, &mut so.found.exits, &found.exits, absorber)?;
+    so.parts.push(Fact {
+        entry,
+        value: found.value,
+        exits: found.exits,
+    })?;
+    Ok(())
+}
+
+// The head way of a loop, by the point of its test.
+fn head_at(alloc: Global, heads: &[Option<Way>], point: u32) -> Result<Option<Way>, NoMemory>
+    ensures way { IfOk result (λ o. may_see o ≡ ways_of heads.now point) }
+    ensures locals { IfOk result (λ o. (n : ℕ) → AreHeadsWide n heads.now → MayHaveLocals n o) }
+{
+    let place = point as usize;
+    if place < heads.len() {
+        let way = may_copy(alloc, &heads[place])?;
+        Ok(way)
+    } else {
+        Ok(None)
+    }
+}
+
+// The way flows into the head of the loop, if there is one.
+fn flow(
+    alloc: Global,
+    way: &Way,
+    from: &Origin,
+    so: &SoFar,
+    notes: &mut Notes,
+) -> Result<(), NoMemory>
+    requires ready { HasLocals notes.old.locals way.now
+        × AreHeadsWide notes.old.locals notes.old.heads.items }
+    requires so_far { IsSoFar notes.old so.now }
+    requires range { IsFromInRange notes.old.locals (seen_origin from.now) }
+    ensures { OnOk result (Took (into so.now.head (way_from numbers (Some (seen way.now))
+        (latest_first so.now.parts.items []) (seen_origin from.now))) notes.old notes.new) }
+{
+    match so.head {
+        None => Ok(()),
+        Some(test) => {
+            let entry = way_at(alloc, way, &so.parts, from)?;
+            notes.flow(alloc, test, &entry)
+        }
+    }
+}
+
+// The way leaves the node.
+fn leave(
+    alloc: Global,
+    way: &Way,
+    from: &Origin,
+    kind: Kind,
+    so: &mut SoFar,
+) -> Result<(), NoMemory>
+    requires parts { AreFactsWide (length way.now.env) so.old.parts.items }
+    requires exits { AreWide (length way.now.env) so.old.found.exits.items }
+    requires range { IsFromInRange (length way.now.env) (seen_origin from.now) }
+    ensures head { OnOk result (so.new.head ≡ so.old.head) }
+    ensures parts { OnOk result (so.new.parts ≡ so.old.parts) }
+    ensures value { OnOk result (so.new.found.value ≡ so.old.found.value) }
+    ensures exits { OnOk result (seen_exits so.new.found.exits.items
+        ≡ all (left (way_from numbers (Some (seen way.now)) (latest_first so.old.parts.items [])
+        (seen_origin from.now)) (seen_kind kind)) (seen_exits so.old.found.exits.items)) }
+    ensures locals { OnOk result (AreWide (length way.now.env) so.new.found.exits.items) }
+{
+    match way_at(alloc, way, &so.parts, from)? {
+        None => Ok(()),
+        Some(way) => add(alloc, &mut so.found.exits, Exit { kind, way }),
+    }
+}
+
+// The end of a node: its normal exit gets its context, and its fact is noted.
+fn finish(
+    alloc: Global,
+    point: u32,
+    way: &Way,
+    found: Found,
+    notes: &mut Notes,
+) -> Result<Found, NoMemory>
+    ensures { IfOk result (λ r. (l : List Event) (m : Noted) → Took l m notes.old
+        → AreWide m.locals found.exits.items
+        → Passed r (ended point (seen way.now) (found_of found l)) m notes.new) }
+{
+    let value = found.value;
+    let mut exits = found.exits;
+    restore(&mut exits, way);
+    notes.row(alloc, point, way, value, &exits)?;
+    Ok(Found { value, exits })
+}
+
+/// Goes through a node that the way enters, with the heads of loops as they stand.
+#[cycle(pass)]
+pub fn pass(
+    alloc: Global,
+    node: &Node,
+    way: &Way,
+    heads: &[Option<Way>],
+    notes: &mut Notes,
+) -> Result<Found, NoMemory>
+    requires ready { IsReady way.now heads.now notes.old }
+    requires node { IsPassable notes.old.locals (length notes.old.heads.items) (seen_node node.now) }
+    ensures { IfOk result (λ r. Passed r
+        (pass (ways_of heads.now) (seen_node node.now) (seen way.now)) notes.old notes.new) }
+{
+    let mut so = SoFar {
+        head: None,
+        parts: Vec::new(alloc),
+        found: Found::nothing(alloc),
+    };
+    pass_rules(alloc, &node.rules, way, heads, &mut so, notes)?;
+    let found = finish(alloc, node.point, way, so.found, notes)?;
+    Ok(found)
+}
+
+// The same where a part may not be reached.
+#[cycle(pass)]
+fn visit(
+    alloc: Global,
+    node: &Node,
+    entry: &Option<Way>,
+    heads: &[Option<Way>],
+    notes: &mut Notes,
+) -> Result<Found, NoMemory>
+    requires entry { MayHaveLocals notes.old.locals entry.now }
+    requires heads { AreHeadsWide notes.old.locals heads.now
+        × AreHeadsWide notes.old.locals notes.old.heads.items }
+    requires node { IsPassable notes.old.locals (length notes.old.heads.items) (seen_node node.now) }
+    ensures { IfOk result (λ r. Passed r (visited (may_see entry.now) (spot (seen_node node.now))
+        (pass (ways_of heads.now) (seen_node node.now))) notes.old notes.new) }
+{
+    match entry {
+        None => {
+            notes.blank(alloc, node.point);
+            Ok(Found::nothing(alloc))
+        }
+        Some(way) => {
+            let found = pass(alloc, node, way, heads, notes)?;
+            Ok(found)
+        }
+    }
+}
+
+// Goes through rules, one after the other.
+#[cycle(pass)]
+fn pass_rules(
+    alloc: Global,
+    rules: &Rules,
+    way: &Way,
+    heads: &[Option<Way>],
+    so: &mut SoFar,
+    notes: &mut Notes,
+) -> Result<(), NoMemory>
+    requires ready { IsReady way.now heads.now notes.old }
+    requires so_far { IsSoFar notes.old so.old }
+    requires rules { ArePassable notes.old.locals (length notes.old.heads.items)
+        (seen_rules rules.now) }
+    ensures { OnOk result ((l : List Event) (m : Noted) → Took l m notes.old
+        → Passed so.new.found (pass_all (ways_of heads.now) (seen_rules rules.now) (seen way.now)
+        so.old.head (latest_first so.old.parts.items []) (found_of so.old.found l))
+        m notes.new) }
+{
+    match rules {
+        Rules::Done => Ok(()),
+        Rules::Part(from, absorber, part, more) => {
+            let entry = way_at(alloc, way, &so.parts, from)?;
+            let found = visit(alloc, part, &entry, heads, notes)?;
+            take(alloc, so, entry, found, absorber)?;
+            pass_rules(alloc, more, way, heads, so, notes)?;
+            Ok(())
+        }
+        Rules::Test(part, more) => {
+            let entry = head_at(alloc, heads, part.point)?;
+            let found = visit(alloc, part, &entry, heads, notes)?;
+            take(alloc, so, entry, found, &Absorber::Next)?;
+            so.head = Some(part.point);
+            pass_rules(alloc, more, way, heads, so, notes)?;
+            Ok(())
+        }
+        Rules::Heads(from, more) => {
+            flow(alloc, way, from, so, notes)?;
+            pass_rules(alloc, more, way, heads, so, notes)?;
+            Ok(())
+        }
+        Rules::Leaves(from, kind, more) => {
+            leave(alloc, way, from, *kind, so)?;
+            pass_rules(alloc, more, way, heads, so, notes)?;
+            Ok(())
+        }
+        Rules::Worths(worth, more) => {
+            let worth = worth_at(way, &so.parts, *worth);
+            so.found.value = so.found.value.union(&worth);
+            pass_rules(alloc, more, way, heads, so, notes)?;
+            Ok(())
+        }
+    }
+}

@@ -1,0 +1,79 @@
+// Rounds of passes, until one raises no head.
+ghost use Rattle.std.specs.Prelude.{◌≡◌, ℕ, IfOk, length};
+ghost use Rattle.par_nodes.specs.Seen.{seen_node};
+ghost use Rattle.par_except.specs.Seen.{seen};
+ghost use Rattle.par_pass.specs.Pass.{pass};
+ghost use Rattle.par_pass.specs.Written.{AllFit};
+ghost use Rattle.par_rounds.specs.Seen.{ways_of, AreHeadsWide};
+ghost use Rattle.par_rounds.specs.Took.{MayBeSmall};
+ghost use Rattle.par_rounds.specs.Passes.{IsPassable};
+ghost use Rattle.par_rounds.specs.Rounds.{AreAfter, IsRound, IsSettled};
+
+use crate::fact::Fact;
+use crate::notes::Notes;
+use crate::pass::pass;
+use par_except::Way;
+use par_lexer::list::NoMemory;
+use par_nodes::rule::Node;
+use std::alloc::Global;
+
+// One pass from the start. Facts are kept of so many points.
+fn round(
+    alloc: Global,
+    node: &Node,
+    way: &Way,
+    heads: &[Option<Way>],
+    points: usize,
+) -> Result<Notes, NoMemory>
+    requires heads { AreHeadsWide (length way.now.env) heads.now }
+    requires node { IsPassable (length way.now.env) (length heads.now) (seen_node node.now) }
+    ensures { IfOk result (λ notes. IsRound (length way.now.env) points heads.now
+        (pass (ways_of heads.now) (seen_node node.now) (seen way.now)).events notes) }
+{
+    let mut notes = Notes::new(alloc, way.env.len(), heads, points)?;
+    let found = pass(alloc, node, way, heads, &mut notes)?;
+    drop(found);
+    Ok(notes)
+}
+
+fn no_heads(alloc: Global, points: usize) -> Result<Vec<Option<Way>>, NoMemory>
+    ensures way { IfOk result (λ heads. (i : ℕ) → ways_of heads.items i ≡ None) }
+    ensures locals { IfOk result (λ heads. (n : ℕ) → AreHeadsWide n heads.items) }
+    ensures size { IfOk result (λ heads. length heads.items ≡ points) }
+{
+    let mut heads = Vec::new(alloc);
+    for _ in 0..points {
+        heads.push(None)?;
+    }
+    Ok(heads)
+}
+
+// The heads after so many rounds that one more would raise none.
+fn quiet(alloc: Global, node: &Node, way: &Way, points: usize) -> Result<Vec<Option<Way>>, NoMemory>
+    requires node { IsPassable (length way.now.env) points (seen_node node.now) }
+    requires small { MayBeSmall (Some (seen way.now)) }
+    ensures after { IfOk result (λ heads. AreAfter (length way.now.env) points
+        (seen_node node.now) (seen way.now) heads.items) }
+    ensures fits { IfOk result (λ heads. AllFit (ways_of heads.items)
+        (pass (ways_of heads.items) (seen_node node.now) (seen way.now)).events) }
+{
+    let mut heads = no_heads(alloc, points)?;
+    loop {
+        let notes = round(alloc, node, way, &heads, 0)?;
+        if !notes.rose {
+            return Ok(heads);
+        }
+        heads = notes.heads;
+    }
+}
+
+/// The facts of a node that the way enters, by points.
+pub fn settle(alloc: Global, node: &Node, way: &Way, points: usize) -> Result<Vec<Fact>, NoMemory>
+    requires node { IsPassable (length way.now.env) points (seen_node node.now) }
+    requires small { MayBeSmall (Some (seen way.now)) }
+    ensures { IfOk result (λ rows. IsSettled (seen_node node.now) (seen way.now) points rows.items) }
+{
+    let heads = quiet(alloc, node, way, points)?;
+    let notes = round(alloc, node, way, &heads, points)?;
+    Ok(notes.rows)
+}
