@@ -5,3 +5,4 @@ pub mod Limits
 pub mod Small
 pub mod Tables
 pub mod Written
+pub mod WellTyped

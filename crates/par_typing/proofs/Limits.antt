@@ -66,7 +66,8 @@ few xs d n h = in_case (nat_le (length xs) n) refl where
   in_case true e = leb-true _ _ e
   in_case false e = absurd (cc (sym (slice_get-get_or xs n d (past _ _ e)) ∙ h))
 
-few_of : (limit : Limit) (places : List ℕ) → one_too_many limit places ≡ [] → length places ≤ limit.most
+few_of : (limit : Limit) (places : List ℕ) → one_too_many limit places ≡ []
+    → length places ≤ limit.most
 few_of limit places h = few places 0 limit.most (none_told limit _ h)
 
 within : (b : Bool) (f : Refusal) → when (not b) f ≡ [] → b ≡ true
@@ -78,9 +79,11 @@ pub under : (limit : Limit) (count at : ℕ) → over limit count at ≡ [] → 
 under limit count at h = leb-true _ _ (within (nat_le count limit.most) _ h)
 
 -- nothing is broken in any of these
-pub each : {A : Type 0} (f : A → List Refusal) (xs : List A) → flat_map f xs ≡ [] → AllByRecursion (λ x. f x ≡ []) xs
+pub each : {A : Type 0} (f : A → List Refusal) (xs : List A) → flat_map f xs ≡ []
+    → AllByRecursion (λ x. f x ≡ []) xs
 each f [] h = tt
-each f (x ∷ xs) h = (left_none (f x) (flat_map f xs) h, each f xs (right_none (f x) (flat_map f xs) h))
+each f (x ∷ xs) h =
+    (left_none (f x) (flat_map f xs) h, each f xs (right_none (f x) (flat_map f xs) h))
 
 -- ---- a source
 
@@ -94,19 +97,32 @@ pub limits_kept : (source : Source) → all_faults source ≡ [] → IsWithinLim
 limits_kept source h =
     let limits = later_pass (name_faults source) (limit_faults source) h in
     let counts = left_none (count_faults source) (policies_faults source) limits in
-    let front = left_none (declared_limits source ++ one_too_many CLASSES (class_places source)) (flat_map class_limits (declared_classes source)) counts in
-    let declared_kept = left_none (declared_limits source) (one_too_many CLASSES (class_places source)) front in
-    let classes_kept : length (class_places source) ≤ 128 = few_of CLASSES (class_places source) (right_none (declared_limits source) (one_too_many CLASSES (class_places source)) front) in
-    let rest = later_pass (all_literal_faults source) (where_none (declared_limits source) (policy_faults source)) (right_none (count_faults source) (policies_faults source) limits) in
+    let front = left_none (declared_limits source ++ one_too_many CLASSES (class_places source))
+        (flat_map class_limits (declared_classes source)) counts in
+    let declared_kept = left_none (declared_limits source)
+        (one_too_many CLASSES (class_places source)) front in
+    let classes_kept : length (class_places source) ≤ 128 = few_of CLASSES (class_places source)
+        (right_none (declared_limits source) (one_too_many CLASSES (class_places source)) front) in
+    let rest = later_pass (all_literal_faults source) (where_none (declared_limits source)
+        (policy_faults source)) (right_none (count_faults source) (policies_faults source) limits)
+        in
     let k = known source in
-    let joins = later_pass (all_literal_faults source) (in_passes (all_join_faults k source) (table_faults k source)) (passed (declared_limits source) (policy_faults source) rest declared_kept) in
+    let joins = later_pass (all_literal_faults source) (in_passes (all_join_faults k source)
+        (table_faults k source)) (passed (declared_limits source) (policy_faults source) rest
+        declared_kept) in
     let of_table = later_pass (all_join_faults k source) (table_faults k source) joins in
-    let one_more = left_none (policies.one_too_many (slice_get (numbered k source) 256)) (flat_map (λ c. birth_faults k c c.birth) (declared source)) of_table in
+    let one_more = left_none (policies.one_too_many (slice_get (numbered k source) 256))
+        (flat_map (λ c. birth_faults k c c.birth) (declared source)) of_table in
     record {
       few = faults.has_few source (sym (ap (first_of None) declared_kept ∙ first_of_none None));
-      few_classes = subst (λ n. n ≤ 128) (length-map (declared_classes source) (λ c. c.id.at)) classes_kept;
-      class_limits_kept = each class_limits (declared_classes source) (right_none (declared_limits source ++ one_too_many CLASSES (class_places source)) (flat_map class_limits (declared_classes source)) counts);
-      few_policies = few (numbered k source) (record { at = 0; policy = [] }) 256 (none_more _ one_more);
+      few_classes =
+          subst (λ n. n ≤ 128) (length-map (declared_classes source) (λ c. c.id.at)) classes_kept;
+      class_limits_kept =
+          each class_limits (declared_classes source)
+          (right_none (declared_limits source ++ one_too_many CLASSES (class_places source))
+          (flat_map class_limits (declared_classes source)) counts);
+      few_policies =
+          few (numbered k source) (record { at = 0; policy = [] }) 256 (none_more _ one_more);
     }
 
 -- ---- a class and a method
@@ -124,9 +140,12 @@ class_within class h =
     let four = flat_map method_limits class.methods in
     let front = left_none (one ++ two ++ three) four h in
     let places : length (map (λ m. m.id.at) class.methods) ≤ 128 =
-    few_of METHODS (map (λ m. m.id.at) class.methods) (right_none one two (left_none (one ++ two) three front)) in
+    few_of METHODS (map (λ m. m.id.at) class.methods)
+    (right_none one two (left_none (one ++ two) three front)) in
     record {
-      members = few_of MEMBERS (member_places class) (left_none one two (left_none (one ++ two) three front));
+      members =
+          few_of MEMBERS (member_places class)
+          (left_none one two (left_none (one ++ two) three front));
       methods = subst (λ n. n ≤ 128) (length-map class.methods (λ m. m.id.at)) places;
       each_method = each method_limits class.methods (right_none (one ++ two ++ three) four h);
     }

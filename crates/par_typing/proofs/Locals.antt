@@ -10,9 +10,11 @@ mutual
 
   stmt_few : (s : Sta) → locals_in s ≤ stmt_nodes s
   stmt_few (plain.Block b at) = braces_few b
-  stmt_few (plain.If e b o at) = let one = braces_few b in let other = else_few o in omega (arith, one, other)
+  stmt_few (plain.If e b o at) = let one = braces_few b in let other =
+      else_few o in omega (arith, one, other)
   stmt_few (plain.While e b at) = let one = braces_few b in omega (arith, one)
-  stmt_few (plain.Try b cs at) = let one = braces_few b in let other = catches_few cs in omega (arith, one, other)
+  stmt_few (plain.Try b cs at) = let one = braces_few b in let other = catches_few cs in omega
+      (arith, one, other)
   stmt_few (plain.Return e at) = omega arith
   stmt_few (plain.Break at) = omega arith
   stmt_few (plain.Continue at) = omega arith
@@ -22,7 +24,8 @@ mutual
   stmt_few (plain.Declare local at) = omega arith
   stmt_few (plain.Assign target value at) = omega arith
   stmt_few (plain.Do call at) = omega arith
-  stmt_few (plain.When lock b o at) = let one = braces_few b in let other = may_braces_few o in omega (arith, one, other)
+  stmt_few (plain.When lock b o at) = let one = braces_few b in let other =
+      may_braces_few o in omega (arith, one, other)
 
   pub braces_few : (b : Braces) → braces_locals b ≤ braces_nodes b
   braces_few (In ss at) = let one = all_few ss in omega (arith, one)
@@ -37,11 +40,13 @@ mutual
 
   all_few : (ss : Stas) → all_locals ss ≤ all_nodes ss
   all_few plain.End = omega arith
-  all_few (plain.Then s ss) = let one = stmt_few s in let other = all_few ss in omega (arith, one, other)
+  all_few (plain.Then s ss) = let one = stmt_few s in let other =
+      all_few ss in omega (arith, one, other)
 
   catches_few : (cs : Catches) → catches_locals cs ≤ catch_nodes cs
   catches_few NoCatch = omega arith
-  catches_few (Catch c cs) = let one = handler_few c in let other = catches_few cs in omega (arith, one, other)
+  catches_few (Catch c cs) = let one = handler_few c in let other = catches_few cs in omega
+      (arith, one, other)
 
   handler_few : (c : Handler) → handler_locals c ≤ handler_nodes c
   handler_few (On class name b) = let one = braces_few b in omega (arith, one)

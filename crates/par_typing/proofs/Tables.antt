@@ -26,19 +26,24 @@ ordered (x ∷ xs) ys =
     let whole = length-append (take n ys) (x ∷ in_order xs (drop n ys)) in
     omega (arith, rest, front, back, whole)
 
-fields_few : (r : Resolved) (next : ℕ) (fs : List FieldDecl) → length (field_infos r next fs) ≡ length fs
+fields_few : (r : Resolved) (next : ℕ) (fs : List FieldDecl)
+    → length (field_infos r next fs) ≡ length fs
 fields_few r next [] = refl
 fields_few r next (f ∷ fs) =
     let more = fields_few r (if f.inferred then next + 1 else next) fs in omega (arith, more)
 
-infos_few : (r : Resolved) (class next : ℕ) (cs : List Class) → length (class_infos r class next cs) ≡ length cs
+infos_few : (r : Resolved) (class next : ℕ) (cs : List Class)
+    → length (class_infos r class next cs) ≡ length cs
 infos_few r class next [] = refl
 infos_few r class next (c ∷ cs) =
-    let more = infos_few r (class + 1) (next + count_by (λ f. f.inferred) c.fields) cs in omega (arith, more)
+    let more = infos_few r (class + 1) (next + count_by (λ f. f.inferred) c.fields) cs in omega
+        (arith, more)
 
-members_few : (r : Resolved) (class next : ℕ) (c : Class) → ClassIsWithin c → IsFewMembers (member_names (class_info r class next c))
+members_few : (r : Resolved) (class next : ℕ) (c : Class) → ClassIsWithin c
+    → IsFewMembers (member_names (class_info r class next c))
 members_few r class next c limits =
-    let places : length (member_places c) ≡ length (map (λ f. f.id.at) c.fields) + length (map (λ h. h.id.at) c.channels) =
+    let places : length (member_places c) ≡ length (map (λ f. f.id.at) c.fields) + length
+        (map (λ h. h.id.at) c.channels) =
     ordered (map (λ f. f.id.at) c.fields) (map (λ h. h.id.at) c.channels) in
     let field_places = length-map c.fields (λ f. f.id.at) in
     let channel_places = length-map c.channels (λ h. h.id.at) in
@@ -50,7 +55,9 @@ members_few r class next c limits =
     let method_infos = length-map c.methods (method_info r class) in
     record {
       fields = omega (arith, limits.members, places, field_places, channel_places, fields, infos);
-      channels = omega (arith, limits.members, places, field_places, channel_places, channels, channel_infos);
+      channels =
+          omega (arith, limits.members, places, field_places, channel_places, channels,
+          channel_infos);
       methods = omega (arith, limits.methods, methods, method_infos);
     }
 
@@ -58,10 +65,13 @@ each_few : (r : Resolved) (class next : ℕ) (cs : List Class) → AllByRecursio
     → All IsFewMembers (map member_names (class_infos r class next cs))
 each_few r class next [] limits = All-nil IsFewMembers
 each_few r class next (c ∷ cs) limits =
-    All-cons IsFewMembers (member_names (class_info r class next c)) (map member_names (class_infos r (class + 1) (next + count_by (λ f. f.inferred) c.fields) cs))
-    (members_few r class next c limits.0) (each_few r (class + 1) (next + count_by (λ f. f.inferred) c.fields) cs limits.1)
+    All-cons IsFewMembers (member_names (class_info r class next c))
+    (map member_names (class_infos r (class + 1) (next + count_by (λ f. f.inferred) c.fields) cs))
+    (members_few r class next c limits.0) (each_few r (class + 1) (next + count_by (λ f. f.inferred)
+    c.fields) cs limits.1)
 
-each_within : (cs : List Class) → AllByRecursion (λ c. class_limits c ≡ []) cs → AllByRecursion ClassIsWithin cs
+each_within : (cs : List Class) → AllByRecursion (λ c. class_limits c ≡ []) cs
+    → AllByRecursion ClassIsWithin cs
 each_within [] h = tt
 each_within (c ∷ cs) h = (class_within c h.0, each_within cs h.1)
 
@@ -70,7 +80,8 @@ builtin_within : (name : List ℕ) → ClassIsWithin (builtin name)
 unfolding in_order
 builtin_within name = record { members = omega arith; methods = omega arith; each_method = tt }
 
-all_within : (source : Source) → IsWithinLimits source → AllByRecursion ClassIsWithin (classes source)
+all_within : (source : Source) → IsWithinLimits source
+    → AllByRecursion ClassIsWithin (classes source)
 all_within source limits = (
   builtin_within (codes "ArithmeticException"),
   (
@@ -92,6 +103,8 @@ few_table source limits =
       members = each_few r 0 next (classes source) (all_within source limits);
     }
 
-pub few_policies : (source : Source) → IsWithinLimits source → length (table_of source).policies < 2 ^ 16
+pub few_policies : (source : Source) → IsWithinLimits source
+    → length (table_of source).policies < 2 ^ 16
 few_policies source limits =
-    let same = length-map (numbered (known source) source) (λ e. e.policy) in omega (arith, limits.few_policies, same)
+    let same = length-map (numbered (known source) source) (λ e. e.policy) in omega
+        (arith, limits.few_policies, same)

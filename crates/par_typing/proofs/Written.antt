@@ -28,9 +28,11 @@ module _ {A : Type 0} (p : A → Bool) where
 
   none_there : (n : ℕ) (ys : List A) → Fail ys → position_from p n ys ≡ None
   none_there n [] h = refl
-  none_there n (y ∷ ys) h = ap (λ b. cond b (Some n) (position_from p (n + 1) ys)) h.0 ∙ none_there (n + 1) ys h.1
+  none_there n (y ∷ ys) h =
+      ap (λ b. cond b (Some n) (position_from p (n + 1) ys)) h.0 ∙ none_there (n + 1) ys h.1
 
-  in_front : (n : ℕ) (xs ys : List A) → Fail ys → position_from p n (xs ++ ys) ≡ position_from p n xs
+  in_front : (n : ℕ) (xs ys : List A) → Fail ys
+      → position_from p n (xs ++ ys) ≡ position_from p n xs
   in_front n [] ys h = none_there n ys h
   in_front n (x ∷ xs) ys h = ap (λ o. cond (p x) (Some n) o) (in_front (n + 1) xs ys h)
 
@@ -51,14 +53,16 @@ module _ {A : Type 0} (p : A → Bool) where
   -- what the first one is like is found in front
   pub found_in_front : (x : A) (xs ys : List A) → AllByRecursion (λ y. y ≡ x) ys
       → position p (x ∷ (xs ++ ys)) ≡ position p (x ∷ xs)
-  found_in_front x xs ys same = position-from p (x ∷ (xs ++ ys)) ∙ by_first x xs ys same ∙ sym (position-from p (x ∷ xs))
+  found_in_front x xs ys same =
+      position-from p (x ∷ (xs ++ ys)) ∙ by_first x xs ys same ∙ sym (position-from p (x ∷ xs))
 
 -- ---- the first of distinct entries is the first of all
 
 abbrev BeginsWith : Entry → List Entry → Type 0
 BeginsWith e es = (rest : List Entry) × (es ≡ e ∷ rest)
 
-one_more : (b : Bool) (e f : Entry) (es : List Entry) → BeginsWith e (if b then e ∷ es else (e ∷ es) ++ f ∷ [])
+one_more : (b : Bool) (e f : Entry) (es : List Entry)
+    → BeginsWith e (if b then e ∷ es else (e ∷ es) ++ f ∷ [])
 one_more true e f es = (es, refl)
 one_more false e f es = (es ++ f ∷ [], refl)
 
@@ -74,7 +78,8 @@ begins e es = all_more e [] es
 
 -- ---- the numbers
 
-all_bottom : (k : Known) (fs : List FieldDecl) → AllByRecursion (λ p. p ≡ bottom k.numbers) (map (λ e. e.policy) (map (inferred_entry k) fs))
+all_bottom : (k : Known) (fs : List FieldDecl)
+    → AllByRecursion (λ p. p ≡ bottom k.numbers) (map (λ e. e.policy) (map (inferred_entry k) fs))
 all_bottom k [] = tt
 all_bottom k (f ∷ fs) = (refl, all_bottom k fs)
 
@@ -85,25 +90,33 @@ number_in_front p x es fs begin same =
     let policies : List Entry → List (List Clause) = λ xs. map (λ e. e.policy) xs in
     ap (λ xs. policy_number (policies (xs ++ fs)) p) begin.1
     ∙ ap (λ ps. policy_number ps p) (map-append (λ e. e.policy) (x ∷ begin.0) fs)
-    ∙ ap (λ o. unwrap_or o 0) (found_in_front (same_policy p) x.policy (policies begin.0) (policies fs) same)
+    ∙ ap (λ o. unwrap_or o 0) (found_in_front (same_policy p) x.policy (policies begin.0)
+    (policies fs) same)
     ∙ ap (λ xs. policy_number (policies xs) p) (sym begin.1)
 
 -- fields whose policy is inferred take no number from what is written
 number_same : (source : Source) (p : List Clause)
-    → policy_number (table_of source).policies p ≡ policy_number (shared_policies (known source) source) p
+    → policy_number (table_of source).policies p ≡ policy_number (shared_policies (known source)
+    source) p
 number_same source p =
     let k = known source in
     let first : Entry = record { at = 0; policy = bottom k.numbers } in
-    let by_places = by_place (map (written_entry k) (said.written source) ++ query_entries source) in
-    number_in_front p first (distinct (entries k source)) (map (inferred_entry k) (inferred_fields source))
-    (begins first (by_places ++ map (birth_entry k) (declared source))) (all_bottom k (inferred_fields source))
+    let by_places = by_place (map (written_entry k) (said.written source) ++ query_entries source)
+        in
+    number_in_front p first (distinct (entries k source))
+    (map (inferred_entry k) (inferred_fields source))
+    (begins first (by_places ++ map (birth_entry k) (declared source)))
+    (all_bottom k (inferred_fields source))
 
 abbrev by_known : Known → List (List Clause) → Written
-by_known k policies = record { lock = lock_number k.numbers; policy = λ e. policy_number policies (policy_of k e) }
+by_known k policies = record { lock = lock_number k.numbers; policy =
+    λ e. policy_number policies (policy_of k e) }
 
-pub written_is : (k : code.Known) (policies : List (List Clause)) (source : Source) → known_seen k ≡ known source
+pub written_is : (k : code.Known) (policies : List (List Clause)) (source : Source)
+    → known_seen k ≡ known source
     → policies ≡ (table_of source).policies → written_in k policies ≡ written source
 written_is k policies source same of_table =
     ap (λ x. by_known x policies) same ∙ ap (by_known (known source)) of_table
-    ∙ ap (λ f. let w : Written = record { lock = lock_number (known source).numbers; policy = f } in w)
+    ∙ ap (λ f. let w : Written = record { lock = lock_number (known source).numbers; policy = f } in
+    w)
     (fun_ext (λ e. number_same source (policy_of (known source) e)))

@@ -10,7 +10,9 @@ ghost use Rattle.par_resolved.specs.Policies as policies;
 ghost use Rattle.par_resolved.specs.Resolved.{table_of};
 ghost use Rattle.par_resolved.specs.Seen.{known_seen};
 ghost use Rattle.par_faults.specs.Faults.{all_faults};
-ghost use Rattle.par_typing.specs.Numbers.{SourceHasNumbers};
+ghost use Rattle.par_sources.specs.Numbers.{SourceHasNumbers};
+ghost use Rattle.par_sources.specs.Order.{IsInOrder};
+ghost use Rattle.par_well_typed.specs.WellTyped.{IsWellTyped};
 ghost use Rattle.par_typing.specs.Typed.{IsTyped, IsRefused, written};
 
 use crate::error::TypeError;
@@ -67,13 +69,15 @@ fn first_broken(
     check_bodies(alloc, table, program)
 }
 
-/// The typed program over this table, exactly where no rule on types is broken. A refusal drops the
-/// table.
+/// The typed program over this table, exactly where no rule on types is broken. It is well typed. A
+/// refusal drops the table.
 pub fn type_program(alloc: Global, table: Table, program: &Program) -> Result<Typed, TypeError>
     requires named { all_faults (source program.now) ≡ [] }
     requires tabled { table ≡ table_of (source program.now) }
     requires numbers { SourceHasNumbers (source program.now) }
+    requires ordered { IsInOrder (source program.now) }
     ensures typed { IfOk result (IsTyped table (source program.now)) }
+    ensures well_typed { IfOk result (λ typed. IsWellTyped typed.table (bodies typed.bodies)) }
     ensures refused { IfErr result (IsRefused (type_faults table (source program.now))) }
 {
     match first_broken(alloc, &table, program)? {

@@ -61,7 +61,8 @@ body class =
 
 -- the body of `main`
 right : IsBodyOf table (record { class = 0; method = 0; body = body 0 }) main
-unfolding table body shop main number StaInRange ExpReads SetsFirst behind stmt_points points stmt_nodes nodes count_from
+unfolding table body shop main number StaInRange ExpReads SetsFirst behind stmt_points points
+    stmt_nodes nodes count_from
 right = record {
   method = refl;
   points = refl;
@@ -85,6 +86,8 @@ unfolding table body shop number StaInRange ExpReads
 no_local h = let none : 0 < 0 = h.0.0 in omega arith
 
 -- `{ got = x; int x = 1; }` reads a local that is not set
-unset : SetsFirst [] (Block (Then (SetStatic 0 0 (Local 0 (number 2)) 0 1) (Then (SetLocal 0 None (Int (pos 1) (number 4)) 0 3) End)) 0 0) → ⊥
+unset : SetsFirst [] (Block (Then (SetStatic 0 0 (Local 0 (number 2)) 0 1)
+        (Then (SetLocal 0 None (Int (pos 1) (number 4)) 0 3) End)) 0 0)
+    → ⊥
 unfolding number SetsFirst behind ExpReads
 unset h = cc h.0

@@ -13,8 +13,12 @@ pub mod Programs
 pub mod Members
 pub mod Named
 pub mod NamedStatements
+pub mod Own
+pub mod Makes
+pub mod MakesStatements
 pub mod Sizes
 pub mod BodySizes
 pub mod Small
+pub mod Objects
 pub mod Whole
 mod Examples

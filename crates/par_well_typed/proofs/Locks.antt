@@ -10,13 +10,16 @@ use Rattle.par_tree.specs.declared.decl.LockDecl.{LockDecl}
 use Rattle.par_resolved.specs.Numbers.{ground_count, firsts_from, place_in_family, choices}
 
 -- the ground locks of a declaration are before the end of all
-pub family_within : (n first : ℕ) (ls : List LockDecl) (i : ℕ) (d : LockDecl) → slice_get ls i ≡ Some d
-    → slice_index_or (firsts_from n first ls) i 0 + ground_count n d ≤ first + sum_by (ground_count n) ls
+pub family_within : (n first : ℕ) (ls : List LockDecl) (i : ℕ) (d : LockDecl)
+    → slice_get ls i ≡ Some d
+    → slice_index_or (firsts_from n first ls) i 0 + ground_count n d ≤ first + sum_by
+    (ground_count n) ls
 family_within n first [] i d is = absurd (cc is)
 family_within n first (l ∷ ls) zero d is =
     let same : l ≡ d = cc in
     let whole = sum_by-cons (ground_count n) l ls in
-    let one : ground_count n l ≡ ground_count n d = ap (ground_count n) same in omega (arith, whole, one)
+    let one : ground_count n l ≡ ground_count n d = ap (ground_count n) same in omega
+        (arith, whole, one)
 family_within n first (l ∷ ls) (suc i) d is =
     let whole = sum_by-cons (ground_count n) l ls in
     let rest = family_within n (first + ground_count n l) ls i d is in omega (arith, whole, rest)
@@ -24,7 +27,8 @@ family_within n first (l ∷ ls) (suc i) d is =
 -- ---- the place in a family
 
 pow-one : (n : ℕ) → n ^ 1 ≡ n
-pow-one n = let e : n ^ 1 ≡ n ^ 0 * n = pow-suc n 0 in let z : n ^ 0 ≡ 1 = pow-zero n in e ∙ ap (λ k. k * n) z ∙ one-mul n
+pow-one n = let e : n ^ 1 ≡ n ^ 0 * n = pow-suc n 0 in let z : n ^ 0 ≡ 1 = pow-zero n in e
+    ∙ ap (λ k. k * n) z ∙ one-mul n
 
 pow-two : (n : ℕ) → n ^ 2 ≡ n * n
 pow-two n = pow-suc n 1 ∙ ap (λ k. k * n) (pow-one n)
@@ -38,10 +42,12 @@ of_two n a b h k =
 
 of_more : (n k : ℕ) → 0 < n → n * n ≤ n ^ (suc (suc k))
 of_more n k h =
-    let two : n ^ 2 ≤ n ^ (suc (suc k)) = pow-le-pow_right h (let le : 2 ≤ suc (suc k) = omega arith in le) in
+    let two : n ^ 2 ≤ n ^ (suc (suc k)) = pow-le-pow_right h (let le : 2 ≤ suc (suc k) =
+        omega arith in le) in
     subst (λ j. j ≤ n ^ (suc (suc k))) (pow-two n) two
 
-pub place_within : (n : ℕ) (actors : List ℕ) → AllByRecursion (λ a. a < n) actors → place_in_family n actors < n ^ length actors
+pub place_within : (n : ℕ) (actors : List ℕ) → AllByRecursion (λ a. a < n) actors
+    → place_in_family n actors < n ^ length actors
 place_within n [] h = let z : n ^ 0 ≡ 1 = pow-zero n in omega (arith, z)
 place_within n (a ∷ []) h = subst (λ k. a < k) (sym (pow-one n)) h.0
 place_within n (a ∷ b ∷ more) h =
@@ -52,14 +58,19 @@ place_within n (a ∷ b ∷ more) h =
 
 -- ---- how many there are
 
-rows : (n : ℕ) (xs ys : List ℕ) → length (flat_map (λ one. map (λ other. one ∷ other ∷ []) ys) xs) ≡ length xs * length ys
+rows : (n : ℕ) (xs ys : List ℕ)
+    → length (flat_map (λ one. map (λ other. one ∷ other ∷ []) ys) xs) ≡ length xs * length ys
 rows n [] ys = sym (zero-mul (length ys))
 rows n (x ∷ xs) ys =
-    length-append (map (λ other. x ∷ other ∷ []) ys) (flat_map (λ one. map (λ other. one ∷ other ∷ []) ys) xs)
-    ∙ ap (λ k. k + length (flat_map (λ one. map (λ other. one ∷ other ∷ []) ys) xs)) (length-map ys (λ other. x ∷ other ∷ []))
+    length-append (map (λ other. x ∷ other ∷ []) ys)
+    (flat_map (λ one. map (λ other. one ∷ other ∷ []) ys) xs)
+    ∙ ap (λ k. k + length (flat_map (λ one. map (λ other. one ∷ other ∷ []) ys) xs))
+    (length-map ys (λ other. x ∷ other ∷ []))
     ∙ ap (λ k. length ys + k) (rows n xs ys)
-    ∙ (let whole : (suc (length xs)) * length ys ≡ length xs * length ys + length ys = suc-mul (length xs) (length ys) in
-    let swap : length ys + length xs * length ys ≡ length xs * length ys + length ys = omega arith in swap ∙ sym whole)
+    ∙ (let whole : (suc (length xs)) * length ys ≡ length xs * length ys + length ys =
+    suc-mul (length xs) (length ys) in
+    let swap : length ys + length xs * length ys ≡ length xs * length ys + length ys =
+        omega arith in swap ∙ sym whole)
 
 pub length-choices : (n k : ℕ) → k ≤ 2 → length (choices n k) ≡ n ^ k
 length-choices n zero h = sym (pow-zero n)

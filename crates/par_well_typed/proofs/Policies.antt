@@ -30,11 +30,13 @@ added es e = in_case (list_any (λ f. same_policy e.policy f.policy) es) where
 
 all_added : (es more : List Entry) → length es ≤ length (fold with_new es more)
 all_added es [] = omega arith
-all_added es (e ∷ more) = let one = added es e in let rest = all_added (with_new es e) more in omega (arith, one, rest)
+all_added es (e ∷ more) = let one = added es e in let rest = all_added (with_new es e) more in omega
+    (arith, one, rest)
 
 some_distinct : (es : List Entry) → 0 < length es → 0 < length (distinct es)
 some_distinct [] h = absurd (omega arith)
-some_distinct (e ∷ es) h = let rest : 1 ≤ length (fold with_new (e ∷ []) es) = all_added (e ∷ []) es in omega (arith, rest)
+some_distinct (e ∷ es) h = let rest : 1 ≤ length (fold with_new (e ∷ []) es) = all_added (e ∷ []) es
+    in omega (arith, rest)
 
 pub some_shared : (source : Source) → 0 < length (shared_policies (known source) source)
 some_shared source =
@@ -43,10 +45,13 @@ some_shared source =
 
 -- ---- numbers
 
-pub number_within : (source : Source) (p : List Clause) → number_of (resolved source) p < length (shared_policies (known source) source)
-number_within source p = found_within (same_policy p) (shared_policies (known source) source) (some_shared source)
+pub number_within : (source : Source) (p : List Clause)
+    → number_of (resolved source) p < length (shared_policies (known source) source)
+number_within source p =
+    found_within (same_policy p) (shared_policies (known source) source) (some_shared source)
 
-pub may_within : (source : Source) (o : Option PolicyExpr) → may_number (resolved source) o < length (shared_policies (known source) source)
+pub may_within : (source : Source) (o : Option PolicyExpr)
+    → may_number (resolved source) o < length (shared_policies (known source) source)
 unfolding may_number
 may_within source None = some_shared source
 may_within source (Some e) = number_within source (policy_of (known source) e)
@@ -61,27 +66,34 @@ abbrev pub inferred_in : List Class → ℕ
 inferred_in [] = 0
 inferred_in (c ∷ cs) = count_by is_inferred c.fields + inferred_in cs
 
-inferred_of : (cs : List Class) → length (filter is_inferred (flat_map (λ c. c.fields) cs)) ≡ inferred_in cs
+inferred_of : (cs : List Class)
+    → length (filter is_inferred (flat_map (λ c. c.fields) cs)) ≡ inferred_in cs
 inferred_of [] = refl
 inferred_of (c ∷ cs) =
     ap length (filter-append is_inferred c.fields (flat_map (λ k. k.fields) cs))
     ∙ length-append (filter is_inferred c.fields) (filter is_inferred (flat_map (λ k. k.fields) cs))
-    ∙ ap (λ n. n + length (filter is_inferred (flat_map (λ k. k.fields) cs))) (length-filter is_inferred c.fields)
+    ∙ ap (λ n. n + length (filter is_inferred (flat_map (λ k. k.fields) cs)))
+    (length-filter is_inferred c.fields)
     ∙ ap (λ n. count_by is_inferred c.fields + n) (inferred_of cs)
 
 -- the policies of the table: the distinct ones, and one for each inferred field
 pub length-numbered : (source : Source)
-    → length (map (λ e. e.policy) (numbered (known source) source)) ≡ length (shared_policies (known source) source) + inferred_in (declared source)
+    → length (map (λ e. e.policy) (numbered (known source) source)) ≡ length
+    (shared_policies (known source) source) + inferred_in (declared source)
 length-numbered source =
     length-map (numbered (known source) source) (λ e. e.policy)
-    ∙ length-append (distinct (entries (known source) source)) (map (inferred_entry (known source)) (inferred_fields source))
-    ∙ ap (λ n. n + length (map (inferred_entry (known source)) (inferred_fields source))) (sym (length-map (distinct (entries (known source) source)) (λ e. e.policy)))
+    ∙ length-append (distinct (entries (known source) source)) (map (inferred_entry (known source))
+    (inferred_fields source))
+    ∙ ap (λ n. n + length (map (inferred_entry (known source)) (inferred_fields source)))
+    (sym (length-map (distinct (entries (known source) source)) (λ e. e.policy)))
     ∙ ap (λ n. length (shared_policies (known source) source) + n)
-    (length-map (inferred_fields source) (inferred_entry (known source)) ∙ inferred_of (declared source))
+    (length-map (inferred_fields source) (inferred_entry (known source)) ∙ inferred_of
+    (declared source))
 
 -- ---- the limit
 
-not_past : (es : List Entry) (o : Option Entry) → slice_get es MOST_POLICIES ≡ o → one_too_many o ≡ [] → o ≡ None
+not_past : (es : List Entry) (o : Option Entry) → slice_get es MOST_POLICIES ≡ o
+    → one_too_many o ≡ [] → o ≡ None
 unfolding one_too_many
 not_past es None is h = refl
 not_past es (Some e) is h = absurd (cc h)
@@ -98,7 +110,9 @@ few_of es h = in_case (nat_le (length es) 256) refl where
       let more : 256 < length es = past e in
       absurd (cc (sym (slice_get-get_or es 256 none more) ∙ not_past es (slice_get es 256) refl h))
 
-pub few_policies : (source : Source) → table_faults (known source) source ≡ [] → length (map (λ e. e.policy) (numbered (known source) source)) ≤ 256
+pub few_policies : (source : Source) → table_faults (known source) source ≡ []
+    → length (map (λ e. e.policy) (numbered (known source) source)) ≤ 256
 few_policies source h =
     subst (λ n. n ≤ 256) (sym (length-map (numbered (known source) source) (λ e. e.policy)))
-    (few_of (numbered (known source) source) (none_left (one_too_many (slice_get (numbered (known source) source) MOST_POLICIES)) _ h))
+    (few_of (numbered (known source) source)
+    (none_left (one_too_many (slice_get (numbered (known source) source) MOST_POLICIES)) _ h))

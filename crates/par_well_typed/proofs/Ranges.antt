@@ -35,7 +35,8 @@ abbrev pub MayBe : {A : Type 0} → (A → Type 0) → Option A → Type 0
 MayBe P None = Unit {0}
 MayBe P (Some x) = P x
 
-pub at_place : {A : Type 0} (P : A → Type 0) (xs : List A) (k : ℕ) → AllByRecursion P xs → MayBe P (slice_get xs k)
+pub at_place : {A : Type 0} (P : A → Type 0) (xs : List A) (k : ℕ) → AllByRecursion P xs
+    → MayBe P (slice_get xs k)
 at_place P [] k h = tt
 at_place P (x ∷ xs) zero h = h.0
 at_place P (x ∷ xs) (suc k) h = at_place P xs k h.1
@@ -76,11 +77,15 @@ module _ (table : Table) (ok : tables.IsInRange table) where
   locks : (xs : List ℕ) → tables.AreLocks table xs → rules.AreLocks (has xs)
   locks xs h n is = lock n (in_list (IsLock table) xs n h is)
 
-  params_within : (ps : List ParamInfo) → AllByRecursion (ParamInRange table) ps → All (λ p. p < MOST) (params_of ps)
+  params_within : (ps : List ParamInfo) → AllByRecursion (ParamInRange table) ps
+      → All (λ p. p < MOST) (params_of ps)
   params_within [] h = All-nil (λ p. p < MOST)
-  params_within (p ∷ ps) h = All-cons (λ q. q < MOST) p.policy (params_of ps) (policy p.policy h.0.1) (params_within ps h.1)
+  params_within (p ∷ ps) h =
+      All-cons (λ q. q < MOST) p.policy (params_of ps) (policy p.policy h.0.1)
+      (params_within ps h.1)
 
-  throws_within : (ts : List ThrowInfo) → AllByRecursion (ThrowInRange table) ts → AllByRecursion (λ t. t.policy < MOST) (throws_of ts)
+  throws_within : (ts : List ThrowInfo) → AllByRecursion (ThrowInRange table) ts
+      → AllByRecursion (λ t. t.policy < MOST) (throws_of ts)
   throws_within [] h = tt
   throws_within (t ∷ ts) h = (policy t.policy h.0.1, throws_within ts h.1)
 
@@ -94,7 +99,8 @@ module _ (table : Table) (ok : tables.IsInRange table) where
     throws = tt;
   }
 
-  method_within : (o : Option MethodInfo) → MayBe (MethodInRange table) o → MethodWithin (method_of o)
+  method_within : (o : Option MethodInfo) → MayBe (MethodInRange table) o
+      → MethodWithin (method_of o)
   method_within None h = no_method
   method_within (Some m) h = record {
     params = params_within m.params h.params;
@@ -120,21 +126,28 @@ module _ (table : Table) (ok : tables.IsInRange table) where
     may_be None k = omega arith
     may_be (Some n) k = policy n k
 
-  fields_within : (o : Option ClassInfo) → MayBe (ClassInRange table) o → (f : ℕ) → fields_of o f < MOST
+  fields_within : (o : Option ClassInfo) → MayBe (ClassInRange table) o → (f : ℕ)
+      → fields_of o f < MOST
   fields_within None h f = omega arith
-  fields_within (Some c) h f = field_within (slice_get c.fields f) (at_place (FieldInRange table) c.fields f h.fields)
+  fields_within (Some c) h f =
+      field_within (slice_get c.fields f) (at_place (FieldInRange table) c.fields f h.fields)
 
-  channels_within : (o : Option ClassInfo) → MayBe (ClassInRange table) o → (k : ℕ) → channels_of o k < MOST
+  channels_within : (o : Option ClassInfo) → MayBe (ClassInRange table) o → (k : ℕ)
+      → channels_of o k < MOST
   channels_within None h k = omega arith
-  channels_within (Some c) h k = channel_within (slice_get c.channels k) (at_place (ChannelInRange table) c.channels k h.channels)
+  channels_within (Some c) h k =
+      channel_within (slice_get c.channels k) (at_place (ChannelInRange table) c.channels k
+      h.channels)
 
   births_within : (o : Option ClassInfo) → MayBe (ClassInRange table) o → birth_of o < MOST
   births_within None h = omega arith
   births_within (Some c) h = policy c.birth h.birth
 
-  methods_within : (o : Option ClassInfo) → MayBe (ClassInRange table) o → (m : ℕ) → MethodWithin (methods_of o m)
+  methods_within : (o : Option ClassInfo) → MayBe (ClassInRange table) o → (m : ℕ)
+      → MethodWithin (methods_of o m)
   methods_within None h m = no_method
-  methods_within (Some c) h m = method_within (slice_get c.methods m) (at_place (MethodInRange table) c.methods m h.methods)
+  methods_within (Some c) h m =
+      method_within (slice_get c.methods m) (at_place (MethodInRange table) c.methods m h.methods)
 
   class_at : (c : ℕ) → MayBe (ClassInRange table) (slice_get table.classes c)
   class_at c = at_place (ClassInRange table) table.classes c ok.classes
@@ -145,14 +158,17 @@ module _ (table : Table) (ok : tables.IsInRange table) where
     field = λ c f. fields_within (slice_get table.classes c) (class_at c) f;
     channel = λ c k. channels_within (slice_get table.classes c) (class_at c) k;
     birth = λ c. births_within (slice_get table.classes c) (class_at c);
-    lock = λ l. lock_within (slice_get table.locks l) (at_place (LockInRange table) table.locks l ok.locks);
+    lock =
+        λ l. lock_within (slice_get table.locks l) (at_place (LockInRange table) table.locks l
+        ok.locks);
     method = λ c m. methods_within (slice_get table.classes c) (class_at c) m;
   }
 
 -- ---- the rules of a body
 
 module _ (locals : ℕ) where
-  unless : (b : Bool) (from : From) (kind : Kind) (more : Rules) → IsFromInRange locals from → AreInRange locals more
+  unless : (b : Bool) (from : From) (kind : Kind) (more : Rules) → IsFromInRange locals from
+      → AreInRange locals more
       → AreInRange locals (if_not b (Leaves from kind) more)
   unfolding IsInRange IsFromInRange
   unless true from kind more h rest = rest
@@ -162,7 +178,8 @@ module _ (locals : ℕ) where
   unfolding IsFromInRange
   tested_within = tt
 
-  divides_within : (o : BinOp) (e : TExp) (more : Rules) → AreInRange locals more → AreInRange locals (divides o e more)
+  divides_within : (o : BinOp) (e : TExp) (more : Rules) → AreInRange locals more
+      → AreInRange locals (divides o e more)
   divides_within op.Div e more h = unless _ tested _ more tested_within h
   divides_within op.Rem e more h = unless _ tested _ more tested_within h
   divides_within op.Or e more h = h
@@ -183,7 +200,8 @@ module _ (locals : ℕ) where
   divides_within op.Sub e more h = h
   divides_within op.Mul e more h = h
 
-  skips_within : (o : BinOp) (more : Rules) → AreInRange locals more → AreInRange locals (skips o more)
+  skips_within : (o : BinOp) (more : Rules) → AreInRange locals more
+      → AreInRange locals (skips o more)
   unfolding IsInRange IsFromInRange
   skips_within op.And more h = (tt, h)
   skips_within op.Or more h = (tt, h)
@@ -236,7 +254,8 @@ module _ (locals : ℕ) where
   unfolding IsFromInRange
   tests_within es = tt
 
-  caught_within : (b : Bool) (class before : ℕ) → IsFromInRange locals (cond b (After before (kind.Throw class)) Entry)
+  caught_within : (b : Bool) (class before : ℕ)
+      → IsFromInRange locals (cond b (After before (kind.Throw class)) Entry)
   unfolding IsFromInRange
   caught_within true class before = tt
   caught_within false class before = tt
@@ -250,10 +269,12 @@ module _ (locals : ℕ) where
     thrown_within m h from (t ∷ ts) more ps from_in rest =
         ((h.closes, (ps.0, from_in)), thrown_within m h from ts more ps.1 from_in rest)
 
-    called_within : (m : Method) → MethodWithin m → (from : From) → IsFromInRange locals from → AreInRange locals (called d m from)
+    called_within : (m : Method) → MethodWithin m → (from : From) → IsFromInRange locals from
+        → AreInRange locals (called d m from)
     unfolding IsInRange IsFromInRange
     called_within m h from from_in =
-        thrown_within m h from m.throws _ h.throws from_in ((h.opens, (h.closes, from_in)), (h.result, tt))
+        thrown_within m h from m.throws _ h.throws from_in ((h.opens, (h.closes, from_in)),
+        (h.result, tt))
 
     mutual
       unfolding ExpReads exp IsInRange IsFromInRange
@@ -267,11 +288,13 @@ module _ (locals : ℕ) where
       exp_within (plain.Local x m) h = (tt, (h, tt))
       exp_within (plain.Static c f m) h = (tt, (ok.field c f, tt))
       exp_within (plain.Field e c f m) h =
-          (tt, exp_within e h, unless (mark e).sure tested _ _ tested_within (tt, (tt, (ok.field c f, tt))))
+          (tt, exp_within e h, unless (mark e).sure tested _ _ tested_within
+          (tt, (tt, (ok.field c f, tt))))
       exp_within (plain.Input c k m) h = (tt, (ok.channel c k, tt))
       exp_within (plain.Output c k e m) h = (tt, exp_within e h, (tt, tt))
       exp_within (plain.Call c k plain.Absent es m) h =
-          args_within Entry es _ tt h.1 (called_within (d.method c k) (ok.method c k) (args_past Entry es) (past_within es))
+          args_within Entry es _ tt h.1 (called_within (d.method c k) (ok.method c k)
+          (args_past Entry es) (past_within es))
       exp_within (plain.Call c k (plain.Present e) es m) h = (
         tt,
         exp_within e h.0,
@@ -284,10 +307,12 @@ module _ (locals : ℕ) where
       exp_within (plain.Binary o a b m) h = (
         tt,
         exp_within a h.0,
-        (second_within o, exp_within b h.1, divides_within o b _ (skips_within o _ (tt, (tt, (tt, tt))))),
+        (second_within o, exp_within b h.1, divides_within o b _
+        (skips_within o _ (tt, (tt, (tt, tt))))),
       )
 
-      args_within : (from : From) (es : TExps) (more : Rules) → IsFromInRange locals from → ExpsRead (λ x. x < locals) es
+      args_within : (from : From) (es : TExps) (more : Rules) → IsFromInRange locals from
+          → ExpsRead (λ x. x < locals) es
           → AreInRange locals more → AreInRange locals (args d from es more)
       args_within from plain.NoExps more from_in h rest = rest
       args_within from (plain.More e es) more from_in h rest =
@@ -301,7 +326,8 @@ module _ (table : Table) (ok : tables.IsInRange table) (locals : ℕ) where
   within = declared_within table ok
 
   one_lock : (l : ℕ) → IsLock table l → rules.AreLocks (adding none l)
-  one_lock l h n is = let same : n ≡ l = grind (arith, nat_tests) in subst (λ k. k < MOST) (sym same) (lock table ok l h)
+  one_lock l h n is = let same : n ≡ l = grind (arith, nat_tests) in subst (λ k. k < MOST)
+      (sym same) (lock table ok l h)
 
   mutual
     unfolding StaInRange sta IsInRange IsFromInRange ExpReads
@@ -311,34 +337,45 @@ module _ (table : Table) (ok : tables.IsInRange table) (locals : ℕ) where
     sta_within (plain.If e s plain.NoElse at p) h =
         (tt, exp_within locals d within e h.0, (tt, (tt, sta_within s h.1, (tt, tt))))
     sta_within (plain.If e s (plain.Otherwise t) at p) h =
-        (tt, exp_within locals d within e h.0, (tt, sta_within s h.1, (tt, (tt, sta_within t h.2, (tt, tt)))))
+        (tt, exp_within locals d within e h.0,
+        (tt, sta_within s h.1, (tt, (tt, sta_within t h.2, (tt, tt)))))
     sta_within (plain.While e s at p) h = (
       exp_within locals d within e h.0,
-      (tt, unless locals (is_forever e) past kind.Normal _ tt (tt, sta_within s h.1, (tt, (tt, (tt, tt))))),
+      (tt, unless locals (is_forever e) past kind.Normal _ tt
+      (tt, sta_within s h.1, (tt, (tt, (tt, tt))))),
     )
-    sta_within (plain.Try s cs at p) h = (tt, sta_within s h.0, (tt, catches_within (sta d s) cs zero h.1))
+    sta_within (plain.Try s cs at p) h =
+        (tt, sta_within s h.0, (tt, catches_within (sta d s) cs zero h.1))
     sta_within (plain.Return plain.Absent at p) h = (tt, tt)
-    sta_within (plain.Return (plain.Present e) at p) h = (tt, exp_within locals d within e h, (tt, tt))
+    sta_within (plain.Return (plain.Present e) at p) h =
+        (tt, exp_within locals d within e h, (tt, tt))
     sta_within (plain.Break at p) h = (tt, tt)
     sta_within (plain.Continue at p) h = (tt, tt)
     sta_within (plain.Throw class at p) h = (tt, tt)
     sta_within (plain.Open l at p) h = ((one_lock l h, tt), tt)
     sta_within (plain.Close l at p) h = ((one_lock l h, tt), tt)
-    sta_within (plain.SetLocal x policy e at p) h = (tt, exp_within locals d within e h.2, ((h.0, tt), tt))
+    sta_within (plain.SetLocal x policy e at p) h =
+        (tt, exp_within locals d within e h.2, ((h.0, tt), tt))
     sta_within (plain.SetStatic c f e at p) h = (tt, exp_within locals d within e h, (tt, tt))
     sta_within (plain.SetField o c f e at p) h =
-        (tt, exp_within locals d within o h.0, (tt, exp_within locals d within e h.1, unless locals (mark o).sure _ _ _ tt (tt, tt)))
+        (tt, exp_within locals d within o h.0, (tt, exp_within locals d within e h.1, unless locals
+        (mark o).sure _ _ _ tt (tt, tt)))
     sta_within (plain.Eval e at p) h = (tt, exp_within locals d within e h, (tt, tt))
     sta_within (plain.When l s plain.NoElse at p) h =
         (tt, ((one_lock l h.0, (within.lock l, tt)), sta_within s h.1, (tt, tt)))
     sta_within (plain.When l s (plain.Otherwise t) at p) h =
-        ((one_lock l h.0, (within.lock l, tt)), sta_within s h.1, (tt, ((within.lock l, tt), sta_within t h.2, (tt, tt))))
+        ((one_lock l h.0, (within.lock l, tt)), sta_within s h.1,
+        (tt, ((within.lock l, tt), sta_within t h.2, (tt, tt))))
 
-    stas_within : (from : From) (ss : TStas) → IsFromInRange locals from → StasInRange table locals ss → AreInRange locals (stas d from ss)
+    stas_within : (from : From) (ss : TStas) → IsFromInRange locals from
+        → StasInRange table locals ss → AreInRange locals (stas d from ss)
     stas_within from plain.End from_in h = (from_in, tt)
-    stas_within from (plain.Then s ss) from_in h = (from_in, sta_within s h.0, stas_within past ss tt h.1)
+    stas_within from (plain.Then s ss) from_in h =
+        (from_in, sta_within s h.0, stas_within past ss tt h.1)
 
-    catches_within : (block : Node) (cs : TCatches) (before : ℕ) → CatchesInRange table locals cs → AreInRange locals (catches d block cs before)
+    catches_within : (block : Node) (cs : TCatches) (before : ℕ) → CatchesInRange table locals cs
+        → AreInRange locals (catches d block cs before)
     catches_within block plain.NoCatch before h = tt
     catches_within block (plain.Catch class s cs) before h =
-        (caught_within locals (can block (kind.Throw class)) class before, sta_within s h.0, (tt, catches_within block cs (suc before) h.1))
+        (caught_within locals (can block (kind.Throw class)) class before, sta_within s h.0,
+        (tt, catches_within block cs (suc before) h.1))

@@ -22,7 +22,7 @@ use Rattle.par_annotate.specs.Bodies.{typed_methods, typed_class, typed_declarat
 use Rattle.par_faults.specs.Faults.{all_faults}
 use Rattle.par_well_typed.specs.Orderly.{method_at}
 use Rattle.par_well_typed.specs.Sizes.{IsSmallBody}
-use Rattle.par_well_typed.specs.Sources.{Ascend, IsInOrder}
+use Rattle.par_sources.specs.Order.{Ascend, IsInOrder}
 use Rattle.par_well_typed.specs.Typed.{written_in, bodies_of}
 use Rattle.par_well_typed.proofs.Lists.{none_left, none_right, none_of, of_both, each_is}
 use Rattle.par_well_typed.proofs.Places.{Differ}
@@ -57,53 +57,81 @@ module _ (source : Source) (ordered : IsInOrder source) (none : all_faults sourc
   limited =
       each_is (λ c. class_limits c ≡ []) AreLimited (declared_classes source)
       (λ c is. none_of method_limits c.methods (none_right _ (flat_map method_limits c.methods) is))
-      (none_of class_limits (declared_classes source) (none_right _ (flat_map class_limits (declared_classes source)) (counts_kept source none)))
+      (none_of class_limits (declared_classes source)
+      (none_right _ (flat_map class_limits (declared_classes source)) (counts_kept source none)))
 
-  small : (class n : ℕ) (c : Class) (before ms : List Method) → slice_get t.classes class ≡ Some (class_info r class n c)
-      → c.methods ≡ before ++ ms → Differ (map (λ k. k.id.name) c.methods) → AllByRecursion (λ m. method_limits m ≡ []) ms
-      → methods_faults t (names_of t) class ms ≡ [] → AllByRecursion (IsSmallBody t) (typed_methods w t (names_of t) class ms)
+  small : (class n : ℕ) (c : Class) (before ms : List Method)
+      → slice_get t.classes class ≡ Some (class_info r class n c)
+      → c.methods ≡ before ++ ms → Differ (map (λ k. k.id.name) c.methods)
+      → AllByRecursion (λ m. method_limits m ≡ []) ms
+      → methods_faults t (names_of t) class ms ≡ []
+      → AllByRecursion (IsSmallBody t) (typed_methods w t (names_of t) class ms)
   unfolding typed_methods methods_faults
   small class n c before [] stands is apart_names few types = tt
   small class n c before (m ∷ ms) stands is apart_names few types =
-      let number = method_number source ordered names class n c before ms m stands is apart_names in (
+      let number = method_number source ordered names class n c before ms m stands is apart_names in
+          (
         (
           method_info r class m,
           record {
-            method = ap (method_at t class) number ∙ method_stands source ordered names class n c before ms m stands is;
-            nodes = method_size w t class m (none_left (method_faults t (names_of t) class m) (methods_faults t (names_of t) class ms) types);
+            method =
+                ap (method_at t class) number ∙ method_stands source ordered names class n c before
+                ms m stands is;
+            nodes =
+                method_size w t class m (none_left (method_faults t (names_of t) class m)
+                (methods_faults t (names_of t) class ms) types);
             few = within m few.0;
           },
         ),
-        small class n c (before ++ m ∷ []) ms stands (is ∙ sym (append_assoc before (m ∷ []) ms)) apart_names few.1
-            (none_right (method_faults t (names_of t) class m) (methods_faults t (names_of t) class ms) types),
+        small class n c (before ++ m ∷ []) ms stands (is ∙ sym (append_assoc before (m ∷ []) ms))
+        apart_names few.1
+            (none_right (method_faults t (names_of t) class m) (methods_faults t (names_of t) class
+            ms) types),
       )
 
-  small_class : (before rest : List Class) (c : Class) → classes source ≡ before ++ c ∷ rest → IsKeptClass source c
-      → Ascend 0 (map (λ m. m.id.at) c.methods) → AreLimited c → class_faults t (names_of t) (class_named (names_of t) c.id.name) c ≡ []
-      → AllByRecursion (IsSmallBody t) (typed_class w t (names_of t) (class_named (names_of t) c.id.name) c)
+  small_class : (before rest : List Class) (c : Class) → classes source ≡ before ++ c ∷ rest
+      → IsKeptClass source c
+      → Ascend 0 (map (λ m. m.id.at) c.methods) → AreLimited c
+      → class_faults t (names_of t) (class_named (names_of t) c.id.name) c ≡ []
+      → AllByRecursion (IsSmallBody t) (typed_class w t (names_of t) (class_named (names_of t)
+      c.id.name) c)
   unfolding typed_class class_faults
   small_class before rest c is keeps up few types =
       let number = class_number source ordered names before rest c is in
       let stands = class_stands source ordered names before rest c is in
-      let numbered : class_faults t (names_of t) (Some (length before)) c ≡ [] = ap (λ o. class_faults t (names_of t) o c) (sym number) ∙ types in
+      let numbered : class_faults t (names_of t) (Some (length before)) c ≡ [] =
+          ap (λ o. class_faults t (names_of t) o c) (sym number) ∙ types in
       subst (λ o. AllByRecursion (IsSmallBody t) (typed_class w t (names_of t) o c)) (sym number)
-      (small (length before) stands.0 c [] c.methods stands.1 refl (method_names_differ source ordered names c keeps up) few
-      (none_right (fields_faults (home_of t (names_of t) (length before) None) c.fields) (methods_faults t (names_of t) (length before) c.methods) numbered))
+      (small (length before) stands.0 c [] c.methods stands.1 refl (method_names_differ source
+      ordered names c keeps up) few
+      (none_right (fields_faults (home_of t (names_of t) (length before) None) c.fields)
+      (methods_faults t (names_of t) (length before) c.methods) numbered))
 
-  small_declarations : (before : List Class) (ds : List Declaration) → classes source ≡ before ++ flat_map classes_in ds
-      → AllByRecursion (IsKept source) ds → AllByRecursion (λ c. Ascend 0 (map (λ m. m.id.at) c.methods)) (flat_map classes_in ds)
-      → AllByRecursion AreLimited (flat_map classes_in ds) → declarations_faults t (names_of t) ds ≡ []
+  small_declarations : (before : List Class) (ds : List Declaration)
+      → classes source ≡ before ++ flat_map classes_in ds
+      → AllByRecursion (IsKept source) ds
+      → AllByRecursion (λ c. Ascend 0 (map (λ m. m.id.at) c.methods)) (flat_map classes_in ds)
+      → AllByRecursion AreLimited (flat_map classes_in ds)
+      → declarations_faults t (names_of t) ds ≡ []
       → AllByRecursion (IsSmallBody t) (typed_declarations w t (names_of t) ds)
   unfolding typed_declarations typed_declaration declarations_faults declaration_faults
   small_declarations before [] is keeps up few types = tt
-  small_declarations before (plain.Actors ids ∷ ds) is keeps up few types = small_declarations before ds is keeps.1 up few types
-  small_declarations before (plain.Lock lock ∷ ds) is keeps up few types = small_declarations before ds is keeps.1 up few types
-  small_declarations before (plain.Policy policy ∷ ds) is keeps up few types = small_declarations before ds is keeps.1 up few types
+  small_declarations before (plain.Actors ids ∷ ds) is keeps up few types =
+      small_declarations before ds is keeps.1 up few types
+  small_declarations before (plain.Lock lock ∷ ds) is keeps up few types =
+      small_declarations before ds is keeps.1 up few types
+  small_declarations before (plain.Policy policy ∷ ds) is keeps up few types =
+      small_declarations before ds is keeps.1 up few types
   small_declarations before (plain.Declared c ∷ ds) is keeps up few types =
       of_both (IsSmallBody t) _ _
-      (small_class before (flat_map classes_in ds) c is keeps.0 up.0 few.0 (none_left _ (declarations_faults t (names_of t) ds) types))
-      (small_declarations (before ++ c ∷ []) ds (is ∙ sym (append_assoc before (c ∷ []) (flat_map classes_in ds))) keeps.1 up.1 few.1
-      (none_right (class_faults t (names_of t) (class_named (names_of t) c.id.name) c) (declarations_faults t (names_of t) ds) types))
+      (small_class before (flat_map classes_in ds) c is keeps.0 up.0 few.0
+      (none_left _ (declarations_faults t (names_of t) ds) types))
+      (small_declarations (before ++ c ∷ []) ds
+      (is ∙ sym (append_assoc before (c ∷ []) (flat_map classes_in ds))) keeps.1 up.1 few.1
+      (none_right (class_faults t (names_of t) (class_named (names_of t) c.id.name) c)
+      (declarations_faults t (names_of t) ds) types))
 
-  pub bodies_are_small : type_faults t source ≡ [] → AllByRecursion (IsSmallBody t) (bodies_of source)
-  bodies_are_small types = small_declarations builtins source refl (kept source names) ordered.methods limited types
+  pub bodies_are_small : type_faults t source ≡ []
+      → AllByRecursion (IsSmallBody t) (bodies_of source)
+  bodies_are_small types =
+      small_declarations builtins source refl (kept source names) ordered.methods limited types

@@ -1,7 +1,7 @@
 -- The laws, of whole sources.
 use Rattle.std.proofs.Common.{arith}
 use Rattle.par_resolved.specs.Resolved.{table_of}
-use Rattle.par_well_typed.specs.Laws.{TablesAreInRange, BodiesHaveMethods, SuchBodiesAreOrderly, BodiesAreOrderly, ClassesAndMembersAreNamed, BodiesAreSmall}
+use Rattle.par_well_typed.specs.Laws.{TablesAreInRange, BodiesHaveMethods, SuchBodiesAreOrderly, BodiesAreOrderly, ClassesAndMembersAreNamed, BodiesAreSmall, BodiesMakeObjects, SourcesAreWellTyped}
 use Rattle.par_well_typed.specs.Orderly.{HasMethod, IsOrderlyBody}
 use Rattle.par_well_typed.specs.Typed.{bodies_of, written_in}
 use Rattle.par_well_typed.proofs.Lists.{each_is}
@@ -10,13 +10,15 @@ use Rattle.par_well_typed.proofs.Entries as entries
 use Rattle.par_well_typed.proofs.Orderly.{orderly_body}
 use Rattle.par_well_typed.proofs.Programs as programs
 use Rattle.par_well_typed.proofs.Small as small
+use Rattle.par_well_typed.proofs.Objects as objects
 use Rattle.par_well_typed.proofs.Unbroken.{names_kept}
 
 pub tables_are_in_range : TablesAreInRange
 tables_are_in_range source ordered none = entries.tables_are_in_range source ordered none
 
 pub bodies_have_methods : BodiesHaveMethods
-bodies_have_methods source ordered none = programs.bodies_have_methods source ordered (names_kept source none)
+bodies_have_methods source ordered none =
+    programs.bodies_have_methods source ordered (names_kept source none)
 
 pub such_bodies_are_orderly : SuchBodiesAreOrderly
 such_bodies_are_orderly table ok b h = orderly_body table ok b h
@@ -28,7 +30,21 @@ bodies_are_orderly source ordered none =
     (bodies_have_methods source ordered none)
 
 pub classes_and_members_are_named : ClassesAndMembersAreNamed
-classes_and_members_are_named source none = declarations_named (written_in source) (table_of source) (omega arith) source none
+classes_and_members_are_named source none =
+    declarations_named (written_in source) (table_of source) (omega arith) source none
 
 pub bodies_are_small : BodiesAreSmall
 bodies_are_small source ordered none types = small.bodies_are_small source ordered none types
+
+pub bodies_make_objects : BodiesMakeObjects
+bodies_make_objects source ordered none types = objects.bodies_make_objects source ordered none types
+
+pub sources_are_well_typed : SourcesAreWellTyped
+sources_are_well_typed source ordered none types = record {
+  in_range = tables_are_in_range source ordered none;
+  have_methods = bodies_have_methods source ordered none;
+  orderly = bodies_are_orderly source ordered none;
+  named = classes_and_members_are_named source types;
+  making = bodies_make_objects source ordered none types;
+  small = bodies_are_small source ordered none types;
+}

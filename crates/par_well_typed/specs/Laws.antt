@@ -9,9 +9,10 @@ use Rattle.par_types.specs.Program.{type_faults}
 use Rattle.par_faults.specs.Faults.{all_faults}
 use Rattle.par_well_typed.specs.Tables.{IsInRange}
 use Rattle.par_well_typed.specs.Orderly.{HasMethod, IsOrderlyBody}
-use Rattle.par_well_typed.specs.Members.{StaNames}
+use Rattle.par_well_typed.specs.WellTyped.{NamesMembers, IsWellTyped}
+use Rattle.par_well_typed.specs.Makes.{MakesObjects}
 use Rattle.par_well_typed.specs.Sizes.{IsSmallBody}
-use Rattle.par_well_typed.specs.Sources.{IsInOrder}
+use Rattle.par_sources.specs.Order.{IsInOrder}
 use Rattle.par_well_typed.specs.Typed.{bodies_of}
 
 -- the numbers in the table are in range
@@ -42,7 +43,7 @@ BodiesAreOrderly =
 abbrev pub ClassesAndMembersAreNamed : Type 0
 ClassesAndMembersAreNamed =
     (source : Source) → type_faults (table_of source) source ≡ []
-    → AllByRecursion (λ b. StaNames (table_of source) b.body) (bodies_of source)
+    → AllByRecursion (NamesMembers (table_of source)) (bodies_of source)
 
 -- each body has at most as many nodes as its method says, where a `this` that is a receiver is not
 -- counted, and a method says at most 2,000
@@ -51,3 +52,16 @@ BodiesAreSmall =
     (source : Source) → IsInOrder source → all_faults source ≡ []
     → type_faults (table_of source) source ≡ []
     → AllByRecursion (IsSmallBody (table_of source)) (bodies_of source)
+
+-- `new` makes objects of classes that are no exceptions, and `this` stands in instance methods alone
+abbrev pub BodiesMakeObjects : Type 0
+BodiesMakeObjects =
+    (source : Source) → IsInOrder source → all_faults source ≡ []
+    → type_faults (table_of source) source ≡ []
+    → AllByRecursion (MakesObjects (table_of source)) (bodies_of source)
+
+-- the bodies of a source that breaks no rule on names and types and exceeds no limit are well typed
+abbrev pub SourcesAreWellTyped : Type 0
+SourcesAreWellTyped =
+    (source : Source) → IsInOrder source → all_faults source ≡ []
+    → type_faults (table_of source) source ≡ [] → IsWellTyped (table_of source) (bodies_of source)

@@ -4,6 +4,7 @@ pub mod SetFirst
 pub mod Sizes
 pub mod Orderly
 pub mod Members
-pub mod Sources
+pub mod Makes
+pub mod WellTyped
 pub mod Typed
 pub mod Laws

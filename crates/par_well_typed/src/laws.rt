@@ -3,6 +3,7 @@
 ghost use Rattle.par_well_typed.specs.Laws.{TablesAreInRange, BodiesHaveMethods};
 ghost use Rattle.par_well_typed.specs.Laws.{SuchBodiesAreOrderly, BodiesAreOrderly};
 ghost use Rattle.par_well_typed.specs.Laws.{ClassesAndMembersAreNamed, BodiesAreSmall};
+ghost use Rattle.par_well_typed.specs.Laws.{BodiesMakeObjects, SourcesAreWellTyped};
 
 /// In the table of a source that breaks no rule on names and exceeds no limit all numbers are in
 /// range, and there are at most 256 policies and 256 ground locks.
@@ -41,4 +42,16 @@ pub fn classes_and_members_are_named()
 /// stands before a member is not counted.
 pub fn bodies_are_small()
     ensures { BodiesAreSmall }
+{}
+
+/// In the typed bodies of such a source `new` makes objects of classes that are no exceptions, and
+/// `this` stands in instance methods alone, also where it is not written.
+pub fn bodies_make_objects()
+    ensures { BodiesMakeObjects }
+{}
+
+/// All of the above holds of the typed bodies of a source that breaks no rule on names and types and
+/// exceeds no limit: they are well typed over its table.
+pub fn sources_are_well_typed()
+    ensures { SourcesAreWellTyped }
 {}

@@ -10,7 +10,9 @@ use Rattle.par_typing.proofs.program.first_broken.Goals as goal
 pub check_bodies-requires : goal.check_bodies-requires
 check_bodies-requires c =
     subst IsFewTable (sym c.requires.tabled)
-    (few_table (source c.args.program.now) (limits_kept (source c.args.program.now) c.requires.named))
+    (few_table (source c.args.program.now) (limits_kept (source c.args.program.now)
+    c.requires.named))
 
 pub returns : goal.returns
-returns c = answers (type_faults c.args.table.now (source c.args.program.now)) _ c.check_bodies.ensures
+returns c =
+    answers (type_faults c.args.table.now (source c.args.program.now)) _ c.check_bodies.ensures
