@@ -1,0 +1,4 @@
+pub mod Standing
+pub mod Spots
+pub mod Told
+pub mod Judged
