@@ -1,5 +1,5 @@
 -- The broken rules of least facts are those that all closed facts break.
-use Rattle.std.proofs.Common.{◌≡◌, ℕ, Bool, true, false, not, ◌⊎◌, Option, Some, None, List, [], ◌∷◌, ◌++◌, refl, sym, ap, subst, ◌∙◌, ⊎_elim}
+use Rattle.std.proofs.Common.{◌≡◌, ℕ, Bool, true, false, not, ◌⊎◌, Option, Some, None, List, [], ◌∷◌, ◌++◌, length, refl, sym, ap, subst, ◌∙◌, ⊎_elim}
 use Rattle.std.specs.Prelude.{Contains, IsTrue}
 use Rattle.std.proofs.lemmas.Bool.{false≢true}
 use Rattle.std.proofs.lemmas.List.Elements.{All-contains, Contains-append_cases, Contains-append_left, Contains-append_right}
@@ -7,6 +7,9 @@ use Rattle.par_policy.proofs.Ordered.{Contains-nil, Contains-cons_cases, Contain
 use Rattle.par_typed.specs.declared.table.Table.{Table}
 use Rattle.par_typed.specs.declared.refusal.Refusal.{Refusal}
 use Rattle.par_typed.specs.First.{broken, comes_before, when, IsAnswer, IsFirst}
+use Rattle.par_typed.specs.declared.program.TBody.{TBody}
+use Rattle.par_typed.specs.declared.program.Typed.{Typed}
+use Rattle.par_typed.specs.Shown.{bodies}
 use Rattle.par_typed.specs.Plain.{Body}
 use Rattle.par_rules.specs.Lattice.{numbers}
 use Rattle.par_rules.specs.Facts.{Facts}
@@ -19,6 +22,7 @@ use Rattle.par_checks.proofs.Kept.{keep_accept, meant, kept}
 use Rattle.par_checks.proofs.Failed.{fail_refuse}
 use Rattle.par_check.specs.Told.{AreBroken, AreAllBroken}
 use Rattle.par_check.specs.Judged.{AreRight, AreAllRight, IsFirstBroken, IsVerdict}
+use Rattle.par_check.specs.Accepted.{AreAllKept, IsAcceptedBy}
 
 -- ---- one list of rules
 
@@ -162,3 +166,22 @@ judged table bs fs told (Some r) h answer right =
       first = λ b rule at there breaks.
           All-contains (λ g. comes_before g r ≡ false) told (broken rule at) answer.first (all_tell table bs fs told h right b rule at there breaks);
     }
+
+-- where nothing is told all facts keep all rules
+pub all_kept : (table : Table) (bs : List Body) (fs : List (Facts numbers)) (told : List Refusal) → AreAllBroken table bs fs told → AreAllRight table bs fs
+    → told ≡ [] → AreAllKept table bs fs
+unfolding AreAllBroken
+all_kept table [] fs told h right none = tt
+all_kept table (b ∷ bs) [] told h right none = absurd right
+all_kept table (b ∷ bs) (f ∷ fs) told (own, of_own, (rest, h, e)) right none =
+    let both = both_none own rest (sym e ∙ none) in
+    (silent (KeepsNumbered table f) (checks table b) own of_own both.0, all_kept table bs fs rest h right.1 both.1)
+
+-- facts of which nothing is told
+pub accepted_by : (typed : Typed) (bs : List TBody) (fs gs : List (Facts numbers)) (told : List Refusal) → bs ≡ typed.bodies → fs ≡ gs
+    → length gs ≡ length typed.bodies → AreAllRight typed.table (bodies typed.bodies) gs → AreAllBroken typed.table (bodies bs) fs told → told ≡ []
+    → IsAcceptedBy typed gs
+accepted_by typed bs fs gs told same alike many right breaks none =
+    let here = subst (λ (hs : List (Facts numbers)). AreAllBroken typed.table (bodies typed.bodies) hs told) alike
+    (subst (λ (xs : List TBody). AreAllBroken typed.table (bodies xs) fs told) same breaks) in
+    record { many = many; right = right; kept = all_kept typed.table (bodies typed.bodies) gs told here right none }

@@ -2,3 +2,4 @@ pub mod Standing
 pub mod Spots
 pub mod Told
 pub mod Judged
+pub mod Accepted
