@@ -1,0 +1,6 @@
+pub mod Spots
+pub mod Joins
+pub mod LockSets
+pub mod Kept
+pub mod Told
+pub mod Judged

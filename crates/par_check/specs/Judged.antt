@@ -1,0 +1,39 @@
+-- The verdict on the bodies of a program.
+use Rattle.std.specs.Prelude.{◌≡◌, ℕ, false, Option, Some, None, List, [], ◌∷◌, Contains}
+use Rattle.par_typed.specs.declared.table.Table.{Table}
+use Rattle.par_typed.specs.declared.refusal.Refusal.{Refusal}
+use Rattle.par_typed.specs.First.{broken, comes_before}
+use Rattle.par_typed.specs.Plain.{Body}
+use Rattle.par_rules.specs.Lattice.{numbers}
+use Rattle.par_rules.specs.Facts.{Facts}
+use Rattle.par_rules.specs.Declares.{declares}
+use Rattle.par_rules.specs.Closed.{IsClosed}
+use Rattle.par_pass.specs.Result.{AreLeast}
+use Rattle.par_pass.proofs.Instances.{seen}
+use Rattle.par_checks.specs.Verdict.{among, IsAccepted, IsBroken}
+
+-- the facts are closed, and at or below all others that are
+pub record AreRight (table : Table) (b : Body) (f : Facts numbers) : Type 0 where
+  pub closed : IsClosed numbers (declares table) b f
+  pub least : AreLeast (among table) (seen table.policies) (declares table) b f
+
+-- those of each body are
+abbrev pub AreAllRight : Table → List Body → List (Facts numbers) → Type 0
+AreAllRight table [] fs = Unit {0}
+AreAllRight table (b ∷ bs) [] = ⊥
+AreAllRight table (b ∷ bs) (f ∷ fs) = AreRight table b f × AreAllRight table bs fs
+
+-- all closed facts of some body break this rule at its place, and no rule that is broken so comes
+-- before it
+pub record IsFirstBroken (table : Table) (bs : List Body) (r : Refusal) : Type 0 where
+  pub body : Body
+  pub there : Contains bs body
+  pub breaks : IsBroken table body r.rule r.at
+  pub alone : r ≡ broken r.rule r.at
+  pub first : (b : Body) (rule at : ℕ) → Contains bs b → IsBroken table b rule at
+      → comes_before (broken rule at) r ≡ false
+
+-- each body is accepted, or this is the first broken rule
+abbrev pub IsVerdict : Table → List Body → Option Refusal → Type 0
+IsVerdict table bs None = (b : Body) → Contains bs b → IsAccepted table b
+IsVerdict table bs (Some r) = IsFirstBroken table bs r

@@ -1,0 +1,27 @@
+-- The broken rules of a list, and of the bodies of a program.
+use Rattle.std.specs.Prelude.{◌≡◌, ◌↔◌, Bool, not, IsTrue, List, [], ◌∷◌, ◌++◌}
+use Rattle.par_typed.specs.declared.table.Table.{Table}
+use Rattle.par_typed.specs.declared.refusal.Refusal.{Refusal}
+use Rattle.par_typed.specs.First.{when, broken}
+use Rattle.par_typed.specs.Plain.{Body}
+use Rattle.par_rules.specs.Lattice.{numbers}
+use Rattle.par_rules.specs.Facts.{Facts}
+use Rattle.par_checks.specs.Asked.{Check}
+use Rattle.par_checks.specs.Checks.{checks}
+use Rattle.par_checks.specs.Verdict.{KeepsNumbered}
+
+-- these are the broken rules of the list, each told at its place
+unfoldable pub AreBroken : (Check → Type 0) → List Check → List Refusal → Type 0
+AreBroken Keeps [] told = told ≡ []
+AreBroken Keeps (c ∷ cs) told =
+    (kept : Bool) × (IsTrue kept ↔ Keeps c)
+    × ((rest : List Refusal) × AreBroken Keeps cs rest
+    × (told ≡ when (not kept) (broken c.rule c.at) ++ rest))
+
+-- and these are those of all bodies, each over its facts
+unfoldable pub AreAllBroken : Table → List Body → List (Facts numbers) → List Refusal → Type 0
+AreAllBroken table [] fs told = told ≡ []
+AreAllBroken table (b ∷ bs) [] told = told ≡ []
+AreAllBroken table (b ∷ bs) (f ∷ fs) told =
+    (own : List Refusal) × AreBroken (KeepsNumbered table f) (checks table b) own
+    × ((rest : List Refusal) × AreAllBroken table bs fs rest × (told ≡ own ++ rest))
