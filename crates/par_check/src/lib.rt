@@ -1,19 +1,10 @@
-//! The verdict on the flows of a program: the first broken rule, if one is broken.
+//! Accepted programs, with the facts of their bodies.
 //!
-//! The crate asks the facts of each body for all rules on locks, flows and exceptions, and tells
-//! the one that is broken at the least place. It finds no facts: whoever finds them says how they
-//! are asked, and that they are closed and least.
+//! The crate puts the verdict over facts before the facts that are found, so that who asks for an
+//! accepted program names no kind of facts. It decides nothing itself.
 #![tactic(auto)]
 
 mod accepted;
-mod below;
-mod error;
-mod first;
-mod keeps;
-pub mod known;
-mod locks;
-mod ways;
 
-pub use accepted::{Accepted, FindsFacts, check};
-pub use error::CheckError;
-pub use first::first_broken;
+pub use accepted::{Accepted, check};
+pub use par_verdict::CheckError;

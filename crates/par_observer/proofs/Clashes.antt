@@ -22,7 +22,7 @@ use Rattle.par_well_typed.specs.Typed.{bodies_of}
 use Rattle.par_checks.specs.Verdict.{IsAccepted, IsBroken, Fails}
 use Rattle.par_straight.proofs.One.{one_cut}
 use Rattle.par_observer.specs.Passes.{tree_faults}
-use Rattle.par_check.specs.Judged.{IsFirstBroken}
+use Rattle.par_verdict.specs.Judged.{IsFirstBroken}
 use Rattle.par_observer.specs.Trees.{IsAcceptedTree, BreaksRule, has_fault, has_flow}
 use Rattle.par_observer.specs.Judgements.{Breaks, has_no_tokens, is_no_sentence, has_tree}
 use Rattle.par_observer.specs.Judgements.{IsTreeOf, IsAcceptedSource}

@@ -15,7 +15,7 @@ use Rattle.par_places.specs.Law.{BeginWithin}
 use Rattle.par_places.specs.Within.{IsWithin}
 use Rattle.par_places.specs.Broken.{AreBrokenWithin}
 use Rattle.par_places.proofs.Trees.{trees_lie}
-use Rattle.par_check.specs.declared.check.Accepted.{Accepted}
+use Rattle.par_check.specs.declared.accepted.Accepted.{Accepted}
 use Rattle.par_observer.specs.declared.error.JudgeError.{JudgeError}
 use Rattle.par_observer.specs.declared.error.JudgeError.TheVariants.{Refused, Memory}
 use Rattle.par_observer.specs.Passes.{tree_faults}

@@ -4,7 +4,7 @@ use Rattle.par_typed.specs.declared.refusal.Refusal.{Refusal}
 use Rattle.par_typed.specs.declared.table.Table.{Table}
 use Rattle.par_rules.specs.Declares.{declares}
 use Rattle.par_checks.specs.Verdict.{Fails}
-use Rattle.par_check.specs.Judged.{IsFirstBroken}
+use Rattle.par_verdict.specs.Judged.{IsFirstBroken}
 use Rattle.par_well_typed.specs.Typed.{bodies_of, written_in}
 use Rattle.par_placed.proofs.Law.{checks_lie}
 use Rattle.par_observer.proofs.Highest.{lowest_told, told_are_closed}

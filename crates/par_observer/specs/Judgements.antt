@@ -9,7 +9,7 @@ use Rattle.par_tree.specs.Plain.{Source}
 use Rattle.par_parser.specs.Sentence as syntax
 use Rattle.par_typed.specs.declared.refusal.Refusal.{Refusal}
 use Rattle.par_typed.specs.First.{broken}
-use Rattle.par_check.specs.declared.check.Accepted.{Accepted}
+use Rattle.par_check.specs.declared.accepted.Accepted.{Accepted}
 use Rattle.par_observer.specs.declared.error.JudgeError.{JudgeError}
 use Rattle.par_observer.specs.declared.error.JudgeError.TheVariants.{Refused, Memory}
 use Rattle.par_observer.specs.Trees.{IsAcceptedTree, IsAcceptedTreeAs, BreaksRule}

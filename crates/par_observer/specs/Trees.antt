@@ -11,7 +11,7 @@ use Rattle.par_faults.specs.Faults.{all_faults}
 use Rattle.par_well_typed.specs.Typed.{bodies_of}
 use Rattle.par_typing.specs.Typed.{IsTyped}
 use Rattle.par_checks.specs.Verdict.{IsAccepted}
-use Rattle.par_check.specs.Judged.{IsFirstBroken}
+use Rattle.par_verdict.specs.Judged.{IsFirstBroken}
 use Rattle.par_flow.specs.declared.table.FactTable.{FactTable}
 use Rattle.par_check.specs.declared.accepted.Accepted.{Accepted}
 use Rattle.par_observer.specs.declared.error.JudgeError.{JudgeError}

@@ -1,0 +1,101 @@
+//! The first broken rule of a program.
+
+ghost use Rattle.std.specs.Prelude.{◌≡◌, ◌≤◌, List as Items, length, map, IfOk, OnOk};
+ghost use Rattle.par_typed.specs.declared.refusal.Refusal.{Refusal as Told};
+ghost use Rattle.par_typed.specs.First.{first_of, IsAnswer};
+ghost use Rattle.par_typed.specs.Shown as shown;
+ghost use Rattle.par_checks.specs.Checks.{checks};
+ghost use Rattle.par_checks.specs.Verdict.{KeepsNumbered};
+ghost use Rattle.par_asked.specs.Seen.{seen_checks};
+ghost use Rattle.par_verdict.specs.Judged.{AreAllRight, IsVerdict};
+ghost use Rattle.par_verdict.specs.Told.{AreBroken, AreAllBroken};
+
+use crate::keeps::keeps;
+use crate::known::KnownFacts;
+use par_asked::body::checks_of;
+use par_asked::check::Check;
+use par_lexer::list::NoMemory;
+use par_typed::program::TBody;
+use par_typed::refusal::{Findings, Refusal};
+use par_typed::table::Table;
+use std::alloc::Global;
+
+// Notes those of the rules that the facts do not keep.
+fn note_broken<F: KnownFacts>(
+    facts: &F,
+    table: &Table,
+    asked: &[Check<'_>],
+    findings: &mut Findings,
+)
+    requires { length table.now.policies ≤ 256 }
+    ensures { (told : Items Told)
+        × AreBroken (KeepsNumbered table.now (F.facts facts.now)) (seen_checks asked.now) told
+        × (findings.new ≡ first_of findings.old told) }
+{
+    for check in asked {
+        findings.expect(keeps(facts, table, check), check.rule, check.at);
+    }
+}
+
+// Notes the broken rules of a body.
+fn note_body<F: KnownFacts>(
+    alloc: Global,
+    facts: &F,
+    table: &Table,
+    body: &TBody,
+    findings: &mut Findings,
+) -> Result<(), NoMemory>
+    requires policies { length table.now.policies ≤ 256 }
+    requires classes { length table.now.classes ≤ 65536 }
+    ensures { OnOk result ((told : Items Told)
+        × AreBroken (KeepsNumbered table.now (F.facts facts.now))
+        (checks table.now (shown.body body.now)) told
+        × (findings.new ≡ first_of findings.old told)) }
+{
+    let asked = checks_of(alloc, table, body)?;
+    note_broken(facts, table, asked.as_slice(), findings);
+    Ok(())
+}
+
+// Notes the broken rules of bodies, each over its facts.
+fn note_bodies<F: KnownFacts>(
+    alloc: Global,
+    facts: &[F],
+    table: &Table,
+    bodies: &[TBody],
+    findings: &mut Findings,
+) -> Result<(), NoMemory>
+    requires policies { length table.now.policies ≤ 256 }
+    requires classes { length table.now.classes ≤ 65536 }
+    requires facts { length facts.now ≡ length bodies.now }
+    ensures { OnOk result ((told : Items Told)
+        × AreAllBroken table.now (shown.bodies bodies.now) (map F.facts facts.now) told
+        × (findings.new ≡ first_of findings.old told)) }
+{
+    for (place, body) in bodies.iter().enumerate() {
+        note_body(alloc, &facts[place], table, body, findings)?;
+    }
+    Ok(())
+}
+
+/// The first broken rule of bodies, each over its facts: the one at the least place, and there the
+/// least rule. None is broken where there is none.
+pub fn first_broken<F: KnownFacts>(
+    alloc: Global,
+    facts: &[F],
+    table: &Table,
+    bodies: &[TBody],
+) -> Result<Option<Refusal>, NoMemory>
+    requires policies { length table.now.policies ≤ 256 }
+    requires classes { length table.now.classes ≤ 65536 }
+    requires facts { length facts.now ≡ length bodies.now }
+    ensures told { IfOk result (λ first. (told : Items Told)
+        × AreAllBroken table.now (shown.bodies bodies.now) (map F.facts facts.now) told
+        × IsAnswer told first) }
+    ensures judged { AreAllRight table.now (shown.bodies bodies.now) (map F.facts facts.now)
+        → IfOk result (IsVerdict table.now (shown.bodies bodies.now)) }
+{
+    let mut findings = Findings::new();
+    note_bodies(alloc, facts, table, bodies, &mut findings)?;
+    Ok(findings.first())
+}
