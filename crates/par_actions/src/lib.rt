@@ -1,0 +1,29 @@
+//! What each instruction does to a running program.
+//!
+//! An instruction is one function, which finds the least reason why it cannot be run, and does it
+//! where there is none. What it came to is told in numbers and is small, so that nothing is named
+//! and no memory is taken before it is handed out.
+//!
+//! The crate knows no constant pool and compares no name. It moves no frame to another offset:
+//! whether an instruction stands where it goes on is told to it.
+#![tactic(auto)]
+
+mod branches;
+mod combining;
+pub mod done;
+pub mod fields;
+pub mod fit;
+mod leaving;
+mod operands;
+mod values;
+
+pub use branches::{jump, jump_if, jump_if_both, jump_if_null, jump_if_same};
+pub use combining::{Operator, combine, increase, negate};
+pub use done::{Done, Ways};
+pub use fields::{Field, get_static, put_static};
+pub use fit::{Fit, accepts};
+pub use leaving::{Gives, leave, leave_number, leave_object, throw};
+pub use values::{
+    copy, discard, load_number, load_object, misnamed, push_null, push_number, store_number,
+    store_object,
+};
