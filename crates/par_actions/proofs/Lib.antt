@@ -5,3 +5,4 @@ pub mod Making
 pub mod Jumping
 pub mod Departing
 pub mod Sharing
+pub mod Reading

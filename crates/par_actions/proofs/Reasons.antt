@@ -137,3 +137,20 @@ unfolding reason
 thrown classes spot o a e nine does throwing five one two three four six seven eight is =
     rw (one, two, three, ap throws does ∙ throwing, four, ap (falls spot.stands spot.is_lost) does ∙ five, six, seven, eight, is)
     (by_handler spot.is_roomless spot.is_lost nine)
+
+by_handler_or_7 : (roomless lost seven : Bool) → least_from 1 (false ∷ false ∷ ((roomless && true) || false) ∷ false ∷ lost ∷ false ∷ seven ∷ false ∷ false ∷ [])
+    ≡ (if roomless then Some 3 else (if lost then Some 5 else (if seven then Some 7 else None)))
+by_handler_or_7 true lost seven = refl
+by_handler_or_7 false true seven = refl
+by_handler_or_7 false false true = refl
+by_handler_or_7 false false false = refl
+
+-- it throws, and what stands against it is of its handler, or that static and instance do not agree
+pub thrown_static : (classes : List Name) (spot : Spot) (o : Operation) (a : Areas) (e : Effect) (seven : Bool) → effect classes o a ≡ e → throws e ≡ true
+    → falls spot.stands spot.is_lost e ≡ spot.is_lost → lacks o a ≡ false → (misgiven classes spot o a || unfit classes o a) ≡ false → exceeds spot.room o a ≡ false
+    → misplaced classes o a ≡ false → misnamed o ≡ false → disagrees o ≡ seven → misreturns spot o ≡ false → misused spot.exceptions o a ≡ false
+    → reason classes spot o a ≡ thrown_reason (if seven then Some 7 else None) spot
+unfolding reason
+thrown_static classes spot o a e seven does throwing five one two three four six is eight nine =
+    rw (one, two, three, ap throws does ∙ throwing, four, ap (falls spot.stands spot.is_lost) does ∙ five, six, is, eight, nine)
+    (by_handler_or_7 spot.is_roomless spot.is_lost seven)

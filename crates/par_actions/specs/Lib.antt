@@ -5,3 +5,4 @@ pub mod Branches
 pub mod Fits
 pub mod Leaving
 pub mod Fields
+pub mod Objects
