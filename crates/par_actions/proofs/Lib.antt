@@ -6,3 +6,4 @@ pub mod Jumping
 pub mod Departing
 pub mod Sharing
 pub mod Reading
+pub mod Writing

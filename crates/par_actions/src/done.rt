@@ -16,6 +16,8 @@ pub enum Done {
     Throws(MVal, Option<u8>),
     /// It writes this value to a static field, and goes on behind itself.
     Sets(MVal),
+    /// It writes this value to a field of the object of this number, and goes on behind itself.
+    Puts(u32, MVal),
     /// It leaves its method.
     Returns,
     /// It leaves its method with this result.
