@@ -183,3 +183,11 @@ module _ (classes : List Name) (spot : Spot) (program : Areas) (f : Frame) where
     misreturns = λ spot. refl;
     misused = λ exceptions. refl;
   }
+
+pub ruleset jumping_if = (jump_if_1, jump_if_2, jump_if_tests)
+
+pub ruleset jumping_both = (jump_if_both_1, jump_if_both_2, jump_if_both_tests)
+
+pub ruleset jumping_same = (jump_if_same_1, jump_if_same_2, jump_if_same_tests)
+
+pub ruleset jumping_null = (jump_if_null_1, jump_if_null_2, jump_if_null_tests)

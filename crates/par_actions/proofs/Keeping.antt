@@ -190,3 +190,11 @@ module _ (classes : List Name) (spot : Spot) (program : Areas) (f : Frame) where
           (ap (λ (h : Option MVal). not (holds classes kind h)) held ∙ ap not fit) refl refl refl refl,
       load_does,
     )
+
+pub ruleset storing = (store_1, store_2)
+
+pub ruleset discarding = (discard_1, discard_5)
+
+pub ruleset copying = (copy_1, copy_3, copy_5)
+
+pub ruleset misnaming = (misnamed_1, misnamed_3, misnamed_5, misnamed_6)

@@ -134,3 +134,7 @@ module _ (classes : List Name) (spot : Spot) (program : Areas) (f : Frame) where
             (ap (λ (h : Option MVal). not (holds classes Number h)) held) refl refl refl refl,
         increase_does n held,
       )
+
+pub ruleset combining = (combine_1, combine_2, combine_5)
+
+pub ruleset negating = (negate_1, negate_2, negate_5)

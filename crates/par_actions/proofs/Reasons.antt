@@ -154,3 +154,8 @@ unfolding reason
 thrown_static classes spot o a e seven does throwing five one two three four six is eight nine =
     rw (one, two, three, ap throws does ∙ throwing, four, ap (falls spot.stands spot.is_lost) does ∙ five, six, is, eight, nine)
     (by_handler_or_7 spot.is_roomless spot.is_lost seven)
+
+-- what may come of a push, and of a push of a local
+pub ruleset pushing = (reason_3, reason_5, no_reason)
+
+pub ruleset loading = (reason_3, reason_4, reason_5, no_reason)

@@ -20,7 +20,6 @@ use par_values::value::MVal;
 
 /// Goes on at its distance or behind itself, where an instruction stands there, without the
 /// operands that were pushed last, so many.
-#[tactic(auto, using(crate::proofs::Jumping::jumps_5, crate::proofs::Jumping::goes_5, crate::proofs::Jumping::branch_jumps, crate::proofs::Jumping::branch_goes))]
 fn branch(stack: &mut Stack, many: usize, goes: bool, ways: Ways) -> Done
     requires { many ≤ length (running stack.old).operands }
     ensures done { (classes : List Name) (spot : Spot) (program : Areas) (o : Operation) →
@@ -49,7 +48,7 @@ pub fn jump(stack: &mut Stack, ways: Ways) -> Done
 }
 
 /// Pops a number, and goes on at its distance where it compares so with 0.
-#[tactic(auto, using(crate::proofs::Jumping::jump_if_1, crate::proofs::Jumping::jump_if_2, crate::proofs::Jumping::jump_if_tests))]
+#[tactic(auto, using(crate::proofs::Jumping::jumping_if))]
 pub fn jump_if(stack: &mut Stack, test: u8, ways: Ways) -> Done
     ensures done { (classes : List Name) (spot : Spot) (program : Areas) (to : ℤ) →
         IsAtFork spot ways classes (JumpIf test to) program stack.old →
@@ -64,7 +63,7 @@ pub fn jump_if(stack: &mut Stack, test: u8, ways: Ways) -> Done
 }
 
 /// Pops two numbers, and goes on at its distance where they compare so.
-#[tactic(auto, using(crate::proofs::Jumping::jump_if_both_1, crate::proofs::Jumping::jump_if_both_2, crate::proofs::Jumping::jump_if_both_tests))]
+#[tactic(auto, using(crate::proofs::Jumping::jumping_both))]
 pub fn jump_if_both(stack: &mut Stack, test: u8, ways: Ways) -> Done
     ensures done { (classes : List Name) (spot : Spot) (program : Areas) (to : ℤ) →
         IsAtFork spot ways classes (JumpIfBoth test to) program stack.old →
@@ -98,7 +97,7 @@ fn comes(asked: bool, test: bool) -> bool
 }
 
 /// Pops two references, and goes on at its distance where they are the same, or are not.
-#[tactic(auto, using(crate::proofs::Jumping::jump_if_same_1, crate::proofs::Jumping::jump_if_same_2, crate::proofs::Jumping::jump_if_same_tests))]
+#[tactic(auto, using(crate::proofs::Jumping::jumping_same))]
 pub fn jump_if_same(stack: &mut Stack, same: bool, ways: Ways) -> Done
     ensures done { (classes : List Name) (spot : Spot) (program : Areas) (to : ℤ) →
         IsAtFork spot ways classes (JumpIfSame same to) program stack.old →
@@ -118,7 +117,7 @@ pub fn jump_if_same(stack: &mut Stack, same: bool, ways: Ways) -> Done
 }
 
 /// Pops a reference, and goes on at its distance where it is null, or is not.
-#[tactic(auto, using(crate::proofs::Jumping::jump_if_null_1, crate::proofs::Jumping::jump_if_null_2, crate::proofs::Jumping::jump_if_null_tests))]
+#[tactic(auto, using(crate::proofs::Jumping::jumping_null))]
 pub fn jump_if_null(stack: &mut Stack, null: bool, ways: Ways) -> Done
     ensures done { (classes : List Name) (spot : Spot) (program : Areas) (to : ℤ) →
         IsAtFork spot ways classes (JumpIfNull null to) program stack.old →

@@ -57,7 +57,7 @@ fn combined(operator: Operator, first: i32, second: i32) -> Option<i32>
 }
 
 /// Pops two numbers and pushes what the operator makes of them.
-#[tactic(auto, using(crate::proofs::Making::combine_1, crate::proofs::Making::combine_2, crate::proofs::Making::combine_throws, crate::proofs::Making::combine_5, crate::proofs::Making::combine_runs))]
+#[tactic(auto, using(crate::proofs::Making::combining))]
 pub fn combine(stack: &mut Stack, operator: Operator, ahead: bool) -> Done
     ensures done { (classes : List Name) (spot : Spot) (program : Areas) →
         IsAt spot ahead stack.old →
@@ -80,7 +80,7 @@ pub fn combine(stack: &mut Stack, operator: Operator, ahead: bool) -> Done
 }
 
 /// Pops a number and pushes its negative.
-#[tactic(auto, using(crate::proofs::Making::negate_1, crate::proofs::Making::negate_2, crate::proofs::Making::negate_5, crate::proofs::Making::negate_runs))]
+#[tactic(auto, using(crate::proofs::Making::negating))]
 pub fn negate(stack: &mut Stack, ahead: bool) -> Done
     ensures done { (classes : List Name) (spot : Spot) (program : Areas) →
         IsAt spot ahead stack.old → Comes result classes spot Negate program stack.old stack.new }

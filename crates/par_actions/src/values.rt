@@ -16,10 +16,11 @@ use par_stack::Stack;
 use par_values::value::MVal;
 
 /// Pushes a number.
-#[tactic(auto, using(crate::proofs::Reasons::reason_3, crate::proofs::Reasons::reason_5, crate::proofs::Reasons::no_reason), unfolding(par_values::specs::Effects::effect))]
+#[tactic(auto, using(crate::proofs::Reasons::pushing), unfolding(par_values::specs::Effects::effect))]
 pub fn push_number(stack: &mut Stack, number: i32, ahead: bool) -> Done
     ensures done { (classes : List Name) (spot : Spot) (program : Areas) →
-        IsAt spot ahead stack.old → Comes result classes spot (Push number) program stack.old stack.new }
+        IsAt spot ahead stack.old →
+        Comes result classes spot (Push number) program stack.old stack.new }
     ensures kept { Keeps stack.old stack.new }
 {
     if stack.free() == 0 {
@@ -33,10 +34,11 @@ pub fn push_number(stack: &mut Stack, number: i32, ahead: bool) -> Done
 }
 
 /// Pushes null.
-#[tactic(auto, using(crate::proofs::Reasons::reason_3, crate::proofs::Reasons::reason_5, crate::proofs::Reasons::no_reason), unfolding(par_values::specs::Effects::effect))]
+#[tactic(auto, using(crate::proofs::Reasons::pushing), unfolding(par_values::specs::Effects::effect))]
 pub fn push_null(stack: &mut Stack, ahead: bool) -> Done
     ensures done { (classes : List Name) (spot : Spot) (program : Areas) →
-        IsAt spot ahead stack.old → Comes result classes spot PushNull program stack.old stack.new }
+        IsAt spot ahead stack.old →
+        Comes result classes spot PushNull program stack.old stack.new }
     ensures kept { Keeps stack.old stack.new }
 {
     if stack.free() == 0 {
@@ -50,7 +52,7 @@ pub fn push_null(stack: &mut Stack, ahead: bool) -> Done
 }
 
 /// Pushes a local that holds a number.
-#[tactic(auto, using(crate::proofs::Reasons::reason_3, crate::proofs::Reasons::reason_4, crate::proofs::Reasons::reason_5, crate::proofs::Reasons::no_reason), unfolding(par_values::specs::Effects::effect))]
+#[tactic(auto, using(crate::proofs::Reasons::loading), unfolding(par_values::specs::Effects::effect))]
 pub fn load_number(stack: &mut Stack, place: u8, ahead: bool) -> Done
     ensures done { (classes : List Name) (spot : Spot) (program : Areas) →
         IsAt spot ahead stack.old →
@@ -71,7 +73,7 @@ pub fn load_number(stack: &mut Stack, place: u8, ahead: bool) -> Done
 }
 
 /// Pushes a local that holds a reference.
-#[tactic(auto, using(crate::proofs::Reasons::reason_3, crate::proofs::Reasons::reason_4, crate::proofs::Reasons::reason_5, crate::proofs::Reasons::no_reason), unfolding(par_values::specs::Effects::effect))]
+#[tactic(auto, using(crate::proofs::Reasons::loading), unfolding(par_values::specs::Effects::effect))]
 pub fn load_object(stack: &mut Stack, place: u8, ahead: bool) -> Done
     ensures done { (classes : List Name) (spot : Spot) (program : Areas) →
         IsAt spot ahead stack.old →
@@ -95,7 +97,6 @@ pub fn load_object(stack: &mut Stack, place: u8, ahead: bool) -> Done
 }
 
 /// Takes the operand that was pushed last, which is of this kind, into a local.
-#[tactic(auto, using(crate::proofs::Keeping::store_4, crate::proofs::Keeping::store_5, crate::proofs::Keeping::store_runs))]
 fn store(stack: &mut Stack, place: u8, value: MVal, ahead: bool) -> Done
     requires { IsLast value (running stack.old).operands }
     ensures done { (classes : List Name) (spot : Spot) (program : Areas) (kind : Kind) →
@@ -115,7 +116,7 @@ fn store(stack: &mut Stack, place: u8, value: MVal, ahead: bool) -> Done
 }
 
 /// Pops a number into a local.
-#[tactic(auto, using(crate::proofs::Keeping::store_1, crate::proofs::Keeping::store_2))]
+#[tactic(auto, using(crate::proofs::Keeping::storing))]
 pub fn store_number(stack: &mut Stack, place: u8, ahead: bool) -> Done
     ensures done { (classes : List Name) (spot : Spot) (program : Areas) →
         IsAt spot ahead stack.old →
@@ -130,7 +131,7 @@ pub fn store_number(stack: &mut Stack, place: u8, ahead: bool) -> Done
 }
 
 /// Pops a reference into a local.
-#[tactic(auto, using(crate::proofs::Keeping::store_1, crate::proofs::Keeping::store_2))]
+#[tactic(auto, using(crate::proofs::Keeping::storing))]
 pub fn store_object(stack: &mut Stack, place: u8, ahead: bool) -> Done
     ensures done { (classes : List Name) (spot : Spot) (program : Areas) →
         IsAt spot ahead stack.old →
@@ -145,7 +146,7 @@ pub fn store_object(stack: &mut Stack, place: u8, ahead: bool) -> Done
 }
 
 /// Pops a value.
-#[tactic(auto, using(crate::proofs::Reasons::reason_1, crate::proofs::Keeping::discard_5, crate::proofs::Keeping::discard_runs))]
+#[tactic(auto, using(crate::proofs::Keeping::discarding))]
 pub fn discard(stack: &mut Stack, ahead: bool) -> Done
     ensures done { (classes : List Name) (spot : Spot) (program : Areas) →
         IsAt spot ahead stack.old → Comes result classes spot Discard program stack.old stack.new }
@@ -162,7 +163,7 @@ pub fn discard(stack: &mut Stack, ahead: bool) -> Done
 }
 
 /// Pushes the value that was pushed last once more.
-#[tactic(auto, using(crate::proofs::Keeping::copy_1, crate::proofs::Keeping::copy_3, crate::proofs::Keeping::copy_5, crate::proofs::Keeping::copy_runs))]
+#[tactic(auto, using(crate::proofs::Keeping::copying))]
 pub fn copy(stack: &mut Stack, ahead: bool) -> Done
     ensures done { (classes : List Name) (spot : Spot) (program : Areas) →
         IsAt spot ahead stack.old → Comes result classes spot Copy program stack.old stack.new }
@@ -183,7 +184,7 @@ pub fn copy(stack: &mut Stack, ahead: bool) -> Done
 
 /// What an index of a wrong kind comes to, where so many operands are taken and pushed whatever the
 /// index names.
-#[tactic(auto, using(crate::proofs::Keeping::misnamed_1, crate::proofs::Keeping::misnamed_3, crate::proofs::Keeping::misnamed_5, crate::proofs::Keeping::misnamed_6))]
+#[tactic(auto, using(crate::proofs::Keeping::misnaming))]
 pub fn misnamed(stack: &Stack, takes: u8, gives: u8, ahead: bool) -> Done
     ensures { (classes : List Name) (spot : Spot) (program : Areas) → IsAt spot ahead stack.now →
         Comes result classes spot (Misnamed takes gives) program stack.now stack.now }
