@@ -14,8 +14,8 @@ abbrev pub AreShown : heap.Objects → Areas → Type 0
 AreShown shown program = (class : ℕ) → objects_of class program ≡ heap.objects_of shown class
 
 -- A write to a field came to this, and the heap shows the objects after it.
-pub record Writes (done : Done) (classes : List Name) (spot : Spot) (f : FieldLink) (program : Areas)
-    (old new : List Frame) (held : heap.Objects) : Type 0 where
+pub record Writes (done : Done) (classes : List Name) (spot : Spot) (f : FieldLink)
+    (program : Areas) (old new : List Frame) (held : heap.Objects) : Type 0 where
   pub after : Areas
   pub shown : AreShown held after
   pub comes :

@@ -25,7 +25,8 @@ pub enum Gives {
 
 /// Leaves a method without a result.
 pub fn leave(stack: &Stack, gives: Gives) -> Done
-    ensures { (classes : List Name) (spot : Spot) (program : Areas) → IsRoomy spot stack.now → HasResult classes spot gives →
+    ensures { (classes : List Name) (spot : Spot) (program : Areas) →
+        IsRoomy spot stack.now → HasResult classes spot gives →
         Comes result classes spot Leave program stack.now stack.now }
 {
     match gives {
@@ -37,7 +38,8 @@ pub fn leave(stack: &Stack, gives: Gives) -> Done
 
 /// Leaves a method with a number.
 pub fn leave_number(stack: &Stack, gives: Gives) -> Done
-    ensures { (classes : List Name) (spot : Spot) (program : Areas) → IsRoomy spot stack.now → HasResult classes spot gives →
+    ensures { (classes : List Name) (spot : Spot) (program : Areas) →
+        IsRoomy spot stack.now → HasResult classes spot gives →
         Comes result classes spot (LeaveWith kind.Number) program stack.now stack.now }
 {
     let number = match last_number(stack) {
@@ -54,7 +56,8 @@ pub fn leave_number(stack: &Stack, gives: Gives) -> Done
 
 /// Leaves a method with a reference.
 pub fn leave_object(stack: &Stack, gives: Gives) -> Done
-    ensures { (classes : List Name) (spot : Spot) (program : Areas) → IsRoomy spot stack.now → HasResult classes spot gives →
+    ensures { (classes : List Name) (spot : Spot) (program : Areas) →
+        IsRoomy spot stack.now → HasResult classes spot gives →
         Comes result classes spot (LeaveWith kind.AnyObject) program stack.now stack.now }
 {
     let value = match last_reference(stack) {
