@@ -4,7 +4,6 @@ use Rattle.std.proofs.lemmas.Bool.{cases_lt}
 use Rattle.std.proofs.lemmas.Bool.Decides.{nat_tests}
 use Rattle.std.proofs.lemmas.Grind.{common_steps}
 use Rattle.std.proofs.lemmas.List.{get_or-set_same, get_or-set_other}
-use Rattle.par_instr.proofs.Decodings.{decoded-within}
 use Rattle.par_instr.specs.Decoding.{Decoded, sized, decoded, decoded_at}
 use Rattle.par_instr.specs.Spelling.{operand_bytes}
 use Rattle.par_single.specs.Walk.{if_listed, starts_after, starts_at}
