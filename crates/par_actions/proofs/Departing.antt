@@ -6,13 +6,13 @@ use Rattle.par_values.specs.declared.value.MVal.TheVariants.{Int, Null, Ref}
 use Rattle.par_values.specs.declared.kind.Kind.{Kind}
 use Rattle.par_values.specs.declared.kind.Kind.TheVariants as kind
 use Rattle.par_values.specs.Areas.{Name, Areas, fits, operand}
-use Rattle.par_values.specs.Operations.{Operation, Leave, LeaveWith, Throw}
+use Rattle.par_values.specs.Operations.{Leave, LeaveWith, Throw}
 use Rattle.par_values.specs.Effects.{Returns, ReturnsWith, ThrowsObject, throws_null, effect}
 use Rattle.par_values.specs.Reasons.{Spot, all_fit, unfit_result, is_result, reason}
 use Rattle.par_stack.specs.Frames.{Frame}
 use Rattle.par_actions.specs.declared.fit.Fit.{Fit}
 use Rattle.par_actions.specs.Done.{areas_in, thrown_reason}
-use Rattle.par_actions.specs.Fits.{accepts, Takes}
+use Rattle.par_actions.specs.Fits.{accepts}
 use Rattle.par_actions.specs.Last.{IsLast, IsWrong, IsLastReference}
 use Rattle.par_actions.specs.Leaving.{GivesNumber, GivesObject, KnowsExceptions}
 use Rattle.par_actions.proofs.Reasons.{reason_1, reason_2, misreturned, free, thrown}

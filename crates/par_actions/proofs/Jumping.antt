@@ -1,13 +1,13 @@
 -- Jumps and tests.
-use Rattle.std.proofs.Common.{◌≡◌, ℕ, ◌+◌, ◌-◌, ◌<◌, ◌≤◌, Bool, true, false, ◌||◌, not, nat_lt, List, length, ℤ, pos, Some, None, refl, ap, ◌∙◌, arith}
+use Rattle.std.proofs.Common.{◌≡◌, ℕ, ◌+◌, ◌-◌, ◌<◌, ◌≤◌, Bool, true, false, not, nat_lt, List, length, ℤ, pos, Some, None, refl, ap, ◌∙◌, arith}
 use Rattle.std.proofs.lemmas.Bool.{le-ltb}
 use Rattle.par_values.specs.declared.value.MVal.{MVal}
 use Rattle.par_values.specs.declared.value.MVal.TheVariants.{Int, Null}
 use Rattle.par_values.specs.declared.kind.Kind.TheVariants.{Number, AnyObject}
 use Rattle.par_values.specs.Areas.{Name, Areas, pop}
 use Rattle.par_values.specs.Arithmetic.{compares}
-use Rattle.par_values.specs.Operations.{Operation, Jump, JumpIf, JumpIfBoth, JumpIfSame, JumpIfNull, takes, gives}
-use Rattle.par_values.specs.Effects.{Effect, Goes, Jumps, jumps_if, comes, is_same, effect}
+use Rattle.par_values.specs.Operations.{Operation, Jump, JumpIf, JumpIfBoth, JumpIfSame, JumpIfNull, gives}
+use Rattle.par_values.specs.Effects.{Goes, Jumps, jumps_if, comes, is_same, effect}
 use Rattle.par_values.specs.Reasons.{Spot, throws, exceeds, falls, reason}
 use Rattle.par_stack.specs.Frames.{Frame, popped}
 use Rattle.par_actions.specs.declared.done.Ways.{Ways}

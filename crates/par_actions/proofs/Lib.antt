@@ -7,3 +7,4 @@ pub mod Departing
 pub mod Sharing
 pub mod Reading
 pub mod Writing
+pub mod Bearing

@@ -1,5 +1,5 @@
 -- What is made of numbers.
-use Rattle.std.proofs.Common.{◌≡◌, ℕ, ◌+◌, ◌-◌, ◌<◌, ℤ, ◌+ℤ◌, codes, true, false, not, nat_lt, List, length, Option, Some, None, slice_get, refl, ap, ◌∙◌, arith}
+use Rattle.std.proofs.Common.{◌≡◌, ℕ, ◌+◌, ◌-◌, ◌<◌, ℤ, ◌+ℤ◌, codes, true, false, not, nat_lt, List, length, Option, Some, None, slice_get, refl, ap, arith}
 use Rattle.std.proofs.lemmas.Bool.{le-ltb}
 use Rattle.std.specs.Int.{int_wrap, w32}
 use Rattle.par_values.specs.declared.value.MVal.{MVal}

@@ -1,5 +1,5 @@
 -- Which reason is the least.
-use Rattle.std.proofs.Common.{◌≡◌, ℕ, Bool, true, false, ◌||◌, ◌&&◌, if◌then◌else◌, List, [], ◌∷◌, Some, None, refl, ap, ◌∙◌}
+use Rattle.std.proofs.Common.{◌≡◌, Bool, true, false, ◌||◌, ◌&&◌, if◌then◌else◌, List, [], ◌∷◌, Some, None, refl, ap, ◌∙◌}
 use Rattle.par_values.specs.Areas.{Name, Areas}
 use Rattle.par_values.specs.Operations.{Operation}
 use Rattle.par_values.specs.Effects.{Effect, effect}
@@ -49,6 +49,13 @@ pub reason_8 : (classes : List Name) (spot : Spot) (o : Operation) (a : Areas) �
     → reason classes spot o a ≡ Some 8
 unfolding reason
 reason_8 classes spot o a one two three four five six seven eight = rw (one, two, three, four, five, six, seven, eight)
+
+pub reason_9 : (classes : List Name) (spot : Spot) (o : Operation) (a : Areas) → lacks o a ≡ false → (misgiven classes spot o a || unfit classes o a) ≡ false
+    → ((spot.is_roomless && throws (effect classes o a)) || exceeds spot.room o a) ≡ false → misplaced classes o a ≡ false
+    → falls spot.stands spot.is_lost (effect classes o a) ≡ false → misnamed o ≡ false → disagrees o ≡ false → misreturns spot o ≡ false
+    → misused spot.exceptions o a ≡ true → reason classes spot o a ≡ Some 9
+unfolding reason
+reason_9 classes spot o a one two three four five six seven eight nine = rw (one, two, three, four, five, six, seven, eight, nine)
 
 pub no_reason : (classes : List Name) (spot : Spot) (o : Operation) (a : Areas) → lacks o a ≡ false → (misgiven classes spot o a || unfit classes o a) ≡ false
     → ((spot.is_roomless && throws (effect classes o a)) || exceeds spot.room o a) ≡ false → misplaced classes o a ≡ false
@@ -112,6 +119,15 @@ pub disagreed : (classes : List Name) (spot : Spot) (o : Operation) (a : Areas) 
 disagreed classes spot o a e does calm five one two three four six seven =
     reason_7 classes spot o a one two (quiet spot.is_roomless (throws (effect classes o a)) (exceeds spot.room o a) (ap throws does ∙ calm) three) four
     (ap (falls spot.stands spot.is_lost) does ∙ five) six seven
+
+-- an object is made of a class of which none is made
+pub misused_9 : (classes : List Name) (spot : Spot) (o : Operation) (a : Areas) (e : Effect) → effect classes o a ≡ e → throws e ≡ false
+    → falls spot.stands spot.is_lost e ≡ false → lacks o a ≡ false → (misgiven classes spot o a || unfit classes o a) ≡ false → exceeds spot.room o a ≡ false
+    → misplaced classes o a ≡ false → misnamed o ≡ false → disagrees o ≡ false → misreturns spot o ≡ false → misused spot.exceptions o a ≡ true
+    → reason classes spot o a ≡ Some 9
+misused_9 classes spot o a e does calm five one two three four six seven eight nine =
+    reason_9 classes spot o a one two (quiet spot.is_roomless (throws (effect classes o a)) (exceeds spot.room o a) (ap throws does ∙ calm) three) four
+    (ap (falls spot.stands spot.is_lost) does ∙ five) six seven eight nine
 
 -- it does not leave its method as that is to be left
 pub misreturned : (classes : List Name) (spot : Spot) (o : Operation) (a : Areas) (e : Effect) → effect classes o a ≡ e → throws e ≡ false

@@ -1,5 +1,5 @@
 -- Fields of objects that are written.
-use Rattle.std.proofs.Common.{◌≡◌, ℕ, zero, suc, ◌+◌, ◌-◌, ◌<◌, ◌≤◌, Bool, true, false, if◌then◌else◌, not, nat_lt, ℤ, List, [], ◌∷◌, length, set, get_or, Option, Some, None, slice_get, refl, ap, ap₂, sym, ◌∙◌, arith, inl, inr}
+use Rattle.std.proofs.Common.{◌≡◌, ℕ, zero, suc, ◌+◌, ◌-◌, ◌<◌, ◌≤◌, true, false, if◌then◌else◌, not, nat_lt, ℤ, List, [], ◌∷◌, length, set, get_or, Some, None, slice_get, refl, ap, sym, ◌∙◌, arith, inl, inr}
 use Rattle.std.proofs.lemmas.Bool.{cases_lt}
 use Rattle.std.proofs.lemmas.List.{get_or-set_same, get_or-set_other, set_past}
 use Rattle.par_values.specs.declared.value.MVal.{MVal}
@@ -25,7 +25,7 @@ use Rattle.par_actions.proofs.Shapes.{two_lack, two_are, roomy}
 -- ---- lists of lists
 
 -- an empty list stands for one that is not there
-or_empty : {A : Type 0} (xss : List (List A)) (i : ℕ) → list_or_none (slice_get xss i) ≡ get_or xss i []
+pub or_empty : {A : Type 0} (xss : List (List A)) (i : ℕ) → list_or_none (slice_get xss i) ≡ get_or xss i []
 or_empty [] i = refl
 or_empty (xs ∷ xss) zero = refl
 or_empty (xs ∷ xss) (suc i) = or_empty xss i

@@ -2,9 +2,9 @@
 use Rattle.std.specs.Prelude.{◌≡◌, ℕ, ◌+◌, ℤ, pos, Bool, if◌then◌else◌, List, [], length, Option, Some, None, codes}
 use Rattle.par_values.specs.declared.value.MVal.{MVal}
 use Rattle.par_values.specs.declared.run.Event.{Event}
-use Rattle.par_values.specs.declared.run.Event.TheVariants.{Set, Put}
+use Rattle.par_values.specs.declared.run.Event.TheVariants.{Set, Put, Born}
 use Rattle.par_values.specs.Areas.{Name, Areas, shown_value}
-use Rattle.par_values.specs.Operations.{Operation, PutStatic, PutField, Jump, JumpIf, JumpIfBoth, JumpIfSame, JumpIfNull}
+use Rattle.par_values.specs.Operations.{Operation, PutStatic, PutField, Create, Jump, JumpIf, JumpIfBoth, JumpIfSame, JumpIfNull}
 use Rattle.par_values.specs.Effects.{Effect, Goes, Happens, Jumps, Throws, ThrowsObject, Returns, ReturnsWith, throws_null, effect}
 use Rattle.par_values.specs.Reasons.{Spot, reason}
 use Rattle.par_stack.specs.Frames.{Frame, running, waiting}
@@ -59,6 +59,11 @@ abbrev pub put_event : List Name → Operation → ℕ → MVal → Event
 put_event classes (PutField f) n v = Put f.class n f.name (shown_value classes v)
 put_event classes _ n v = Put [] n [] (shown_value classes v)
 
+-- the event of an operation that makes the object of this number
+abbrev pub born_event : Operation → ℕ → Event
+born_event (Create c) n = Born c.name n
+born_event _ n = Born [] n
+
 -- It came to this, where the reason and the effect are these, and these the areas after it.
 abbrev pub IsDone : Done → List Name → Operation → Spot → Option ℕ → Effect → Areas → Type 0
 IsDone done.Goes classes o spot r e after = (r ≡ None) × (e ≡ Goes after)
@@ -75,6 +80,8 @@ IsDone (done.Sets v) classes o spot r e after =
     (r ≡ None) × (e ≡ Happens (set_event classes o v) after)
 IsDone (done.Puts n v) classes o spot r e after =
     (r ≡ None) × (e ≡ Happens (put_event classes o n v) after)
+IsDone (done.Born n) classes o spot r e after =
+    (r ≡ None) × (e ≡ Happens (born_event o n) after)
 IsDone (done.Bad n) classes o spot r e after = r ≡ Some n
 
 -- An operation came to this, where these are the areas before it and after it.

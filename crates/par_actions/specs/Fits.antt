@@ -1,5 +1,5 @@
 -- Which values a place takes, by numbers.
-use Rattle.std.specs.Prelude.{◌≡◌, ℕ, Bool, true, false, ◌==◌, List}
+use Rattle.std.specs.Prelude.{◌≡◌, Bool, true, false, ◌==◌, List}
 use Rattle.par_values.specs.declared.value.MVal.{MVal}
 use Rattle.par_values.specs.declared.value.MVal.TheVariants.{Int, Null, Ref}
 use Rattle.par_values.specs.declared.kind.Kind.{Kind}

@@ -1,5 +1,5 @@
 -- The operands that were pushed last, as an instruction needs them.
-use Rattle.std.specs.Prelude.{◌≡◌, ◌<◌, ℤ, Bool, true, false, ◌&&◌, List, [], ◌∷◌, length, Option, Some, None}
+use Rattle.std.specs.Prelude.{◌≡◌, ◌<◌, ℤ, true, false, ◌&&◌, List, ◌∷◌, length, Option, Some, None}
 use Rattle.par_values.specs.declared.value.MVal.{MVal}
 use Rattle.par_values.specs.declared.value.MVal.TheVariants.{Int}
 use Rattle.par_values.specs.declared.kind.Kind.{Kind}

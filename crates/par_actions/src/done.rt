@@ -18,6 +18,8 @@ pub enum Done {
     Sets(MVal),
     /// It writes this value to a field of the object of this number, and goes on behind itself.
     Puts(u32, MVal),
+    /// It makes the object of this number, and goes on behind itself.
+    Born(u32),
     /// It leaves its method.
     Returns,
     /// It leaves its method with this result.

@@ -1,4 +1,4 @@
-use Rattle.std.proofs.Common.{◌≡◌, true, false, ap, sym, ◌∙◌}
+use Rattle.std.proofs.Common.{◌≡◌, true, sym, ◌∙◌}
 use Rattle.par_stack.specs.Frames.{running}
 use Rattle.par_actions.proofs.Jumping.{jumps_5, goes_5, branch_jumps, branch_goes}
 use Rattle.par_actions.proofs.branches.branch.Goals as goal

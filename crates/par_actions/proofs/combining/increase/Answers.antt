@@ -1,4 +1,4 @@
-use Rattle.std.proofs.Common.{rules, FitsSigned, w8, w32, sym, ◌∙◌}
+use Rattle.std.proofs.Common.{rules, FitsSigned, w8, w32, ◌∙◌}
 use Rattle.std.proofs.lemmas.Int.{to_z-of_z}
 use Rattle.par_stack.specs.Frames.{running}
 use Rattle.par_actions.proofs.Shapes.{held_within}

@@ -1,5 +1,4 @@
 use Rattle.std.proofs.Common.{Some, sym, ap, ◌∙◌}
-use Rattle.par_values.specs.declared.value.MVal.TheVariants.{Ref}
 use Rattle.par_values.specs.declared.kind.Kind.TheVariants.{Object}
 use Rattle.par_values.specs.Areas.{fits}
 use Rattle.par_actions.proofs.Shapes.{two_there, first_missing, two_missing}

@@ -1,4 +1,4 @@
-use Rattle.std.proofs.Common.{◌≤◌, length, ap, ◌∙◌, arith}
+use Rattle.std.proofs.Common.{length, ap, ◌∙◌, arith}
 use Rattle.par_stack.specs.Frames.{running}
 use Rattle.par_actions.proofs.Reading.{read_5, read_7, read_runs}
 use Rattle.par_actions.proofs.objects.read.Goals as goal

@@ -1,4 +1,4 @@
-use Rattle.std.proofs.Common.{◌≤◌, length, ap, ◌∙◌, arith}
+use Rattle.std.proofs.Common.{length, ap, ◌∙◌, arith}
 use Rattle.par_values.specs.Areas.{set_field}
 use Rattle.par_stack.specs.Frames.{running}
 use Rattle.par_actions.proofs.Writing.{written_shown, write_5, write_7, write_runs}

@@ -1,6 +1,5 @@
-use Rattle.std.proofs.Common.{rules, ◌≡◌, FitsSigned, w32, Some, sym, ap, ◌∙◌}
+use Rattle.std.proofs.Common.{rules, FitsSigned, w32, Some, sym, ap, ◌∙◌}
 use Rattle.std.proofs.lemmas.Int.{to_z-of_z}
-use Rattle.par_values.specs.declared.value.MVal.TheVariants.{Int}
 use Rattle.par_actions.proofs.Shapes.{one_there, wrong_number}
 use Rattle.par_actions.proofs.operands.last_number.Goals as goal
 

@@ -1,4 +1,4 @@
-use Rattle.std.proofs.Common.{rules, ◌≡◌, FitsSigned, w32, Some, not, sym, ap, ◌∙◌}
+use Rattle.std.proofs.Common.{rules, FitsSigned, w32, Some, sym, ap, ◌∙◌}
 use Rattle.std.proofs.lemmas.Int.{to_z-of_z}
 use Rattle.par_values.specs.declared.kind.Kind.TheVariants.{Number}
 use Rattle.par_values.specs.Reasons.{holds}
