@@ -1,0 +1,8 @@
+pub mod Done
+pub mod Last
+pub mod Combining
+pub mod Branches
+pub mod Fits
+pub mod Leaving
+pub mod Fields
+pub mod Objects

@@ -1,0 +1,38 @@
+use par_values::value::MVal;
+
+/// What an instruction came to.
+#[derive(Clone, Copy, Debug, PartialEq, Eq)]
+pub enum Done {
+    /// It goes on behind itself.
+    Goes,
+    /// It goes on at its distance.
+    Jumps,
+    /// It throws a new exception of division by zero.
+    ThrowsArithmetic,
+    /// It throws a new exception of null, where this reason does not stand against it. Those that
+    /// come of its handler are looked for first.
+    ThrowsNull(Option<u8>),
+    /// It throws this object, in the same way.
+    Throws(MVal, Option<u8>),
+    /// It writes this value to a static field, and goes on behind itself.
+    Sets(MVal),
+    /// It writes this value to a field of the object of this number, and goes on behind itself.
+    Puts(u32, MVal),
+    /// It makes the object of this number, and goes on behind itself.
+    Born(u32),
+    /// It leaves its method.
+    Returns,
+    /// It leaves its method with this result.
+    ReturnsWith(MVal),
+    /// It cannot be run, for the reason of this number, and nothing is changed.
+    Bad(u8),
+}
+
+/// Whether instructions stand where one may go on.
+#[derive(Clone, Copy)]
+pub struct Ways {
+    /// Behind it.
+    pub ahead: bool,
+    /// At its distance.
+    pub aside: bool,
+}

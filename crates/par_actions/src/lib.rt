@@ -1,0 +1,33 @@
+//! What each instruction does to a running program.
+//!
+//! An instruction is one function, which finds the least reason why it cannot be run, and does it
+//! where there is none. What it came to is told in numbers and is small, so that nothing is named
+//! before it is handed out, and memory is taken for a new object alone.
+//!
+//! The crate knows no constant pool and compares no name. It moves no frame to another offset:
+//! whether an instruction stands where it goes on is told to it.
+#![tactic(auto)]
+
+mod branches;
+mod combining;
+pub mod creating;
+pub mod done;
+pub mod fields;
+pub mod fit;
+mod leaving;
+mod objects;
+mod operands;
+mod values;
+
+pub use branches::{jump, jump_if, jump_if_both, jump_if_null, jump_if_same};
+pub use combining::{Operator, combine, increase, negate};
+pub use creating::{Class, create};
+pub use done::{Done, Ways};
+pub use fields::{Field, get_static, put_static};
+pub use fit::{Fit, accepts};
+pub use leaving::{Gives, leave, leave_number, leave_object, throw};
+pub use objects::{get_field, put_field};
+pub use values::{
+    copy, discard, load_number, load_object, misnamed, push_null, push_number, store_number,
+    store_object,
+};
