@@ -105,12 +105,8 @@ fn opens(stmt: &TStmt) -> bool {
 }
 
 fn has_bids(args: &List<TExpr>) -> bool {
-    let first = args
-        .get(0)
-        .is_some_and(|node| is_local(node, 0, (353, 8)));
-    let second = args
-        .get(1)
-        .is_some_and(|node| is_local(node, 1, (356, 9)));
+    let first = args.get(0).is_some_and(|node| is_local(node, 0, (353, 8)));
+    let second = args.get(1).is_some_and(|node| is_local(node, 1, (356, 9)));
     args.len() == 2 && first && second
 }
 
