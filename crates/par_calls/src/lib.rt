@@ -48,3 +48,5 @@ mod source_runs;
 mod table;
 #[cfg(test)]
 mod tokens;
+#[cfg(test)]
+mod typed_trees;

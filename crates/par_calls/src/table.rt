@@ -16,7 +16,7 @@ use std::alloc::Global;
 use std::rt::HostRuntime;
 use std::test::Fail;
 
-const AUCTION: &[u8] = b"actor alice, bob;
+pub(crate) const AUCTION: &[u8] = b"actor alice, bob;
 lock Done;
 policy AliceBid = {alice:; bob: Done};
 policy BobBid = {bob:; alice: Done};
