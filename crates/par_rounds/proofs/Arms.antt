@@ -11,14 +11,13 @@ use Rattle.par_pass.specs.Exits.{Way, Exit, all, at, leaving, leave, restored}
 use Rattle.par_pass.specs.Pass as plain
 use Rattle.par_pass.specs.Pass.{HeadWays, Event, Row, nothing, fact, visited, ended, into, pass, pass_all}
 use Rattle.par_rounds.specs.declared.exits.Exit as code_exit
-use Rattle.par_rounds.specs.declared.fact.Fact as code_fact
 use Rattle.par_rounds.specs.declared.notes.Notes.{Notes}
 use Rattle.par_rounds.specs.declared.pass.Found.{Found}
 use Rattle.par_rounds.specs.declared.pass.SoFar.{SoFar}
-use Rattle.par_rounds.specs.Seen.{seen_exits, seen_fact, latest_first, AreWide}
+use Rattle.par_rounds.specs.Seen.{seen_exits, latest_first, AreWide}
 use Rattle.par_rounds.specs.Took.{Took}
 use Rattle.par_rounds.specs.Passes.{found_of, Passed}
-use Rattle.par_rounds.proofs.Events.{then, took_none, took_as}
+use Rattle.par_rounds.proofs.Events.{then, took_none}
 use Rattle.par_rounds.proofs.Parts.{latest_push}
 
 found_as : (v u : Set) (xs ys : List Exit) (l k : List Event) → v ≡ u → xs ≡ ys → l ≡ k → (let r : plain.Found = record { value = v; exits = xs; events = l } in r) ≡ record { value = u; exits = ys; events = k }

@@ -1,9 +1,9 @@
 -- The facts that rounds leave of a body are closed and least.
-use Rattle.std.proofs.Common.{◌≡◌, ℕ, zero, suc, ◌<◌, ◌≤◌, Bool, true, false, cond, Option, Some, None, List, [], ◌∷◌, length, refl, sym, ap, ◌∙◌, subst, arith}
-use Rattle.std.specs.Prelude.{All, IsTrue, nat_eq}
+use Rattle.std.proofs.Common.{◌≡◌, ℕ, zero, suc, ◌<◌, ◌≤◌, Bool, true, false, Some, List, [], ◌∷◌, sym, subst, arith}
+use Rattle.std.specs.Prelude.{All}
 use Rattle.std.proofs.lemmas.Bool.{eqb-true}
 use Rattle.std.proofs.lemmas.List.Elements.{All-head, All-tail}
-use Rattle.par_bits.specs.Sets.{Set, none, adding}
+use Rattle.par_bits.specs.Sets.{none, adding}
 use Rattle.par_typed.specs.declared.table.Table.{Table}
 use Rattle.par_typed.specs.Plain.{Body}
 use Rattle.par_rules.specs.Lattice.{Lattice, numbers, policies, unseen}
@@ -13,7 +13,7 @@ use Rattle.par_rules.specs.Rules.{Node, node, Rules, Done, Part, Test, Heads, Le
 use Rattle.par_rules.specs.Body.{sta}
 use Rattle.par_rules.specs.Closed.{IsClosed, first, arriving, locals as entering}
 use Rattle.par_rules.specs.Numbered.{next, next_by, IsNumbered, AreNumbered}
-use Rattle.par_rules.specs.Ranges.{MOST, IsInRange, AreInRange, IsOrderly}
+use Rattle.par_rules.specs.Ranges.{MOST, IsInRange, AreInRange}
 use Rattle.par_except.specs.Weight.{IsSmall}
 use Rattle.par_pass.specs.Exits.{Way}
 use Rattle.par_pass.specs.Pass.{pass}

@@ -1,13 +1,11 @@
 -- Rounds, one after the other, and their end.
-use Rattle.std.proofs.Common.{◌≡◌, ℕ, zero, suc, ◌<◌, true, false, Option, Some, None, List, length, refl, sym, ap, ◌∙◌, subst}
+use Rattle.std.proofs.Common.{◌≡◌, ℕ, suc, ◌<◌, true, false, Option, Some, None, List, length, sym, ap, ◌∙◌, subst}
 use Rattle.std.proofs.Math.Path.{fun_ext}
 use Rattle.par_rules.specs.Rules.{Node}
 use Rattle.par_except.specs.declared.way.Way as code
-use Rattle.par_except.specs.Seen.{HasLocals}
 use Rattle.par_pass.specs.Exits.{Way}
-use Rattle.par_pass.specs.Pass.{HeadWays, Event, pass}
+use Rattle.par_pass.specs.Pass.{Event, pass}
 use Rattle.par_pass.specs.Written.{blanks, written, AllFit}
-use Rattle.par_rounds.specs.declared.fact.Fact.{Fact}
 use Rattle.par_rounds.specs.declared.notes.Notes.{Notes}
 use Rattle.par_rounds.specs.Seen.{seen_facts, ways_of, AreHeadsWide}
 use Rattle.par_rounds.specs.Took.{raised, total, AreSmall, MayBeSmall, Took}

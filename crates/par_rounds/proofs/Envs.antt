@@ -1,8 +1,7 @@
 -- Policies of locals, read and written.
-use Rattle.std.proofs.Common.{◌≡◌, ℕ, zero, suc, ◌+◌, ◌<◌, ◌≤◌, List, length, get_or, refl, sym, ap, ◌∙◌, subst, arith, ⊎_elim, below_more}
-use Rattle.std.specs.Prelude.{IsTrue, ◌↔◌, false}
+use Rattle.std.proofs.Common.{◌≡◌, ℕ, ◌+◌, ◌<◌, List, length, get_or, sym, ap, ◌∙◌, subst, arith, ⊎_elim, below_more}
 use Rattle.std.proofs.lemmas.Bool.{cases_lt}
-use Rattle.par_bits.specs.Sets.{has, none, IsWithin}
+use Rattle.par_bits.specs.Sets.{has, IsWithin}
 use Rattle.par_except.specs.Seen.{locals}
 use Rattle.par_except.proofs.Locals.{locals_get, locals_past}
 

@@ -1,20 +1,18 @@
 -- A head that rises.
-use Rattle.std.proofs.Common.{◌≡◌, ℕ, zero, suc, ◌+◌, ◌*◌, ◌<◌, ◌≤◌, Bool, true, false, cond, Option, Some, None, List, [], ◌∷◌, ◌++◌, length, get_or, set, refl, sym, ap, ◌∙◌, subst, arith, ⊎_elim, get_or-set_same, get_or-set_other}
-use Rattle.std.specs.Prelude.{nat_eq, IsTrue}
+use Rattle.std.proofs.Common.{◌≡◌, ℕ, zero, suc, ◌+◌, ◌*◌, ◌<◌, ◌≤◌, cond, Option, Some, None, List, [], ◌∷◌, ◌++◌, length, get_or, set, refl, sym, ap, ◌∙◌, subst, arith, ⊎_elim, get_or-set_same, get_or-set_other}
 use Rattle.std.proofs.Math.Path.{fun_ext}
 use Rattle.std.proofs.lemmas.Bool.Decides.{eqb_tells}
 use Rattle.std.proofs.lemmas.List.Elements.{All-push}
-use Rattle.par_bits.specs.Sets.{has, size}
+use Rattle.par_bits.specs.Sets.{has}
 use Rattle.par_bits.proofs.Sizes.{size_at_most}
 use Rattle.par_rules.specs.Lattice.{numbers}
-use Rattle.par_rules.specs.Ways.{Flows, MayFlow}
+use Rattle.par_rules.specs.Ways.{MayFlow}
 use Rattle.par_except.specs.declared.way.Way as code
 use Rattle.par_except.specs.Joins.{join, may_join}
-use Rattle.par_except.specs.Seen.{seen, may_see, locals, HasLocals, MayHaveLocals}
-use Rattle.par_except.specs.Weight.{IsSmall, left, all_left, weight}
+use Rattle.par_except.specs.Seen.{seen, may_see, MayHaveLocals}
+use Rattle.par_except.specs.Weight.{all_left, weight}
 use Rattle.par_except.proofs.Weights.{weight_falls, same_weight_flows}
 use Rattle.par_pass.specs.Exits.{Way}
-use Rattle.par_pass.specs.Pass.{HeadWays}
 use Rattle.par_rounds.specs.Seen.{ways_of, AreHeadsWide}
 use Rattle.par_rounds.specs.Took.{joined, may_weigh, total, HaveSmallLocks, MayBeSmall}
 

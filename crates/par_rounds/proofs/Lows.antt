@@ -1,8 +1,7 @@
 -- The heads stay below all facts that obey the rules.
-use Rattle.std.proofs.Common.{◌≡◌, ℕ, zero, suc, Bool, true, false, cond, Option, Some, None, List, [], ◌∷◌, refl, sym, ap, ◌∙◌, subst, ⊎_elim}
-use Rattle.std.specs.Prelude.{nat_eq}
+use Rattle.std.proofs.Common.{ℕ, zero, suc, cond, Option, Some, None, List, [], ◌∷◌, sym, subst, ⊎_elim}
 use Rattle.std.proofs.lemmas.Bool.Decides.{eqb_tells}
-use Rattle.par_rules.specs.Lattice.{Lattice, numbers}
+use Rattle.par_rules.specs.Lattice.{Lattice}
 use Rattle.par_rules.specs.Ways as rules
 use Rattle.par_rules.specs.Facts.{Facts}
 use Rattle.par_rules.specs.Rules.{Node, Obeys, spot}

@@ -1,22 +1,18 @@
 -- What each rule needs, from what all of them need.
-use Rattle.std.proofs.Common.{◌≡◌, ℕ, ◌<◌, Option, Some, None, List, [], ◌∷◌, ◌++◌, length, refl, sym, ap, ◌∙◌, subst, arith}
-use Rattle.std.specs.Prelude.{All}
+use Rattle.std.proofs.Common.{◌≡◌, ℕ, ◌<◌, Option, None, List, [], ◌∷◌, ◌++◌, length, sym, subst, arith}
 use Rattle.std.proofs.lemmas.List.Elements.{All-push}
 use Rattle.par_rules.specs.Kinds.{Kind, Absorber}
 use Rattle.par_rules.specs.Ranges.{IsFromInRange, IsWorthInRange}
-use Rattle.par_rules.specs.Rules.{From, Worth, Node, node, Rules, Done, Part, Test, Heads, Leaves, Worths, spot}
+use Rattle.par_rules.specs.Rules.{From, Worth, Node, node, Rules, Part, Test, Heads, Leaves, Worths, spot}
 use Rattle.par_except.specs.declared.way.Way.{Way}
-use Rattle.par_except.specs.Seen.{HasLocals, MayHaveLocals}
+use Rattle.par_except.specs.Seen.{HasLocals}
 use Rattle.par_pass.specs.Pass.{Event}
-use Rattle.par_pass.specs.Pass as plain
 use Rattle.par_rounds.specs.declared.fact.Fact.{Fact}
-use Rattle.par_rounds.specs.declared.exits.Exit.{Exit}
 use Rattle.par_rounds.specs.declared.notes.Notes.{Notes}
-use Rattle.par_rounds.specs.declared.pass.Found.{Found}
 use Rattle.par_rounds.specs.declared.pass.SoFar.{SoFar}
 use Rattle.par_rounds.specs.Seen.{AreWide, AreFactsWide, AreHeadsWide}
 use Rattle.par_rounds.specs.Took.{Took}
-use Rattle.par_rounds.specs.Passes.{IsPassable, ArePassable, IsReady, IsSoFar, IsHeadInRange, Passed}
+use Rattle.par_rounds.specs.Passes.{IsPassable, ArePassable, IsReady, IsSoFar, IsHeadInRange}
 
 module _ (locals points : ℕ) (rules : Rules) where
   pub part_needs : (from : From) (a : Absorber) (n : Node) (more : Rules) → rules ≡ Part from a n more → ArePassable locals points rules

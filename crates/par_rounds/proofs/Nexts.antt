@@ -1,5 +1,5 @@
 -- The first number behind rules.
-use Rattle.std.proofs.Common.{◌≡◌, ℕ, suc, ◌+◌, refl, sym, ap, ◌∙◌, add-one}
+use Rattle.std.proofs.Common.{◌≡◌, ℕ, ◌+◌, sym, ap, ◌∙◌, add-one}
 use Rattle.par_rules.specs.Kinds.{Kind, Absorber}
 use Rattle.par_rules.specs.Rules.{From, Worth, Node, node, Rules, Done, Part, Test, Heads, Leaves, Worths}
 use Rattle.par_rules.specs.Numbered.{next, next_by}

@@ -1,6 +1,6 @@
 -- What one event makes of notes.
 use Rattle.std.proofs.Common.{◌≡◌, ℕ, zero, suc, ◌+◌, ◌<◌, ◌≤◌, Bool, true, false, ◌||◌, ◌&&◌, cond, Option, Some, None, List, [], ◌∷◌, ◌++◌, length, get_or, set, refl, sym, ap, ◌∙◌, subst, arith, ⊎_elim, add-one}
-use Rattle.std.specs.Prelude.{nat_eq, IsTrue}
+use Rattle.std.specs.Prelude.{IsTrue}
 use Rattle.std.proofs.Math.Path.{fun_ext}
 use Rattle.std.proofs.lemmas.List.{length-set}
 use Rattle.std.proofs.lemmas.Bool.Decides.{eqb_tells}
@@ -11,10 +11,10 @@ use Rattle.par_rules.specs.Facts.{Fact, blank}
 use Rattle.par_rules.specs.Ways.{Flows, MayFlow}
 use Rattle.par_except.specs.declared.way.Way as code
 use Rattle.par_except.specs.Joins.{join, may_join}
-use Rattle.par_except.specs.Seen.{seen, may_see, MayHaveLocals}
+use Rattle.par_except.specs.Seen.{may_see, MayHaveLocals}
 use Rattle.par_pass.specs.Exits.{Way}
-use Rattle.par_pass.specs.Pass.{HeadWays, Event, Row, Into}
-use Rattle.par_pass.specs.Written.{blanks}
+use Rattle.par_pass.specs.Pass.{HeadWays, Row, Into}
+use Rattle.par_pass.specs.Written.{blanks, table}
 use Rattle.par_rounds.specs.declared.fact.Fact as code_fact
 use Rattle.par_rounds.specs.declared.notes.Notes.{Notes}
 use Rattle.par_rounds.specs.Seen.{seen_fact, seen_facts, ways_of, AreHeadsWide}
@@ -129,3 +129,14 @@ push_blank xs ys f n e g h = ap seen_facts e ∙ push_fact xs f n g h ∙ ap bla
 
 pub read_wide : (n : ℕ) (xs : List (Option code.Way)) (i : ℕ) (x : Option code.Way) → i < length xs → x ≡ get_or xs i x → AreHeadsWide n xs → MayHaveLocals n x
 read_wide n xs i x h e w = subst (MayHaveLocals n) (sym e) (w i x h)
+
+-- rows by points
+pub row_at : (rows : List code_fact.Fact) (p : ℕ) (d : code_fact.Fact) → p < length rows → table (seen_facts rows) p ≡ seen_fact (get_or rows p d)
+row_at [] p d h = absurd (omega (arith, h))
+row_at (f ∷ rows) zero d h = refl
+row_at (f ∷ rows) (suc p) d h = row_at rows p d (omega (arith, h))
+
+pub row_past : (rows : List code_fact.Fact) (p : ℕ) → length rows ≤ p → table (seen_facts rows) p ≡ blank numbers
+row_past [] p h = refl
+row_past (f ∷ rows) zero h = absurd (omega (arith, h))
+row_past (f ∷ rows) (suc p) h = row_past rows p (omega (arith, h))

@@ -1,14 +1,13 @@
 -- Facts of parts, the latest first, and the ways that come of them.
-use Rattle.std.proofs.Common.{◌≡◌, ℕ, zero, suc, ◌+◌, ◌-◌, ◌<◌, ◌≤◌, Bool, true, false, cond, Option, Some, None, List, [], ◌∷◌, ◌++◌, length, get_or, set, refl, sym, ap, ◌∙◌, subst, arith, ⊎_elim}
-use Rattle.std.specs.Prelude.{nat_eq, IsTrue}
+use Rattle.std.proofs.Common.{◌≡◌, ℕ, zero, suc, ◌+◌, ◌-◌, ◌<◌, ◌≤◌, cond, Option, Some, None, List, [], ◌∷◌, ◌++◌, length, get_or, set, refl, sym, ap, ◌∙◌, arith, ⊎_elim}
 use Rattle.std.proofs.lemmas.Bool.{eq-eqb}
 use Rattle.std.proofs.Math.Path.{fun_ext}
 use Rattle.std.proofs.lemmas.Bool.Decides.{eqb_tells}
-use Rattle.par_bits.specs.Sets.{Set, has, none, adding}
+use Rattle.par_bits.specs.Sets.{has, none, adding}
 use Rattle.par_rules.specs.Lattice.{numbers}
 use Rattle.par_rules.specs.Facts.{Fact, blank}
 use Rattle.par_rules.specs.Ranges.{MOST, AreLocks, IsFromInRange}
-use Rattle.par_rules.specs.Rules.{From, Entry, After, Tested, Raised, Opened, Shut, Assigned, part_at, way, worth}
+use Rattle.par_rules.specs.Rules.{From, part_at, way, worth}
 use Rattle.par_rules.specs.Ways.{Way, moved, put, assigned, raised, shut, opened}
 use Rattle.par_policy.specs.Numbers.{has as is_among}
 use Rattle.par_nodes.specs.declared.rule.Locks.{Locks}

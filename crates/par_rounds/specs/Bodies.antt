@@ -1,6 +1,4 @@
 -- Least facts of a body of a table.
-use Rattle.std.specs.Prelude.{ℕ, List}
-use Rattle.par_policy.specs.declared.clauses.Clause.{Clause}
 use Rattle.par_typed.specs.declared.table.Table.{Table}
 use Rattle.par_typed.specs.Plain.{Body}
 use Rattle.par_rules.specs.Lattice.{numbers, policies, unseen}

@@ -1,5 +1,5 @@
 -- What becomes of a way at a node, one step after the other.
-use Rattle.std.specs.Prelude.{◌≡◌, ◌<◌, ℕ, Option, Some, None, List}
+use Rattle.std.specs.Prelude.{◌<◌, ℕ, Option, Some, None, List}
 use Rattle.par_bits.specs.Sets.{Set, has, none, adding}
 use Rattle.par_policy.specs.Numbers.{has as is_among}
 use Rattle.par_rules.specs.Lattice.{numbers}

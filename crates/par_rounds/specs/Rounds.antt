@@ -16,7 +16,8 @@ heads_after n w zero = λ i. None
 heads_after n w (suc k) = raised (heads_after n w k) (pass (heads_after n w k) n w).events
 
 -- the notes of a pass that met these events
-pub record IsRound (locals points : ℕ) (hs : List (Option code.Way)) (l : List Event) (n : Notes) : Type 0 where
+pub record IsRound (locals points : ℕ) (hs : List (Option code.Way)) (l : List Event) (n : Notes)
+    : Type 0 where
   pub wide : AreHeadsWide locals n.heads.items
   pub size : length n.heads.items ≡ length hs
   pub heads : ways_of n.heads.items ≡ raised (ways_of hs) l
@@ -25,7 +26,8 @@ pub record IsRound (locals points : ℕ) (hs : List (Option code.Way)) (l : List
   pub rows : seen_facts n.rows.items ≡ written l (blanks points)
 
 -- the heads that the code holds after so many rounds
-pub record AreAfter (locals points : ℕ) (n : Node) (w : Way) (hs : List (Option code.Way)) : Type 0 where
+pub record AreAfter (locals points : ℕ) (n : Node) (w : Way) (hs : List (Option code.Way))
+    : Type 0 where
   pub rounds : ℕ
   pub ways : ways_of hs ≡ heads_after n w rounds
   pub wide : AreHeadsWide locals hs

@@ -1,5 +1,5 @@
 -- What the code keeps of exits and of facts, as a pass speaks of them.
-use Rattle.std.specs.Prelude.{◌≡◌, ℕ, All, Option, Some, None, List, [], ◌∷◌, slice_index_or}
+use Rattle.std.specs.Prelude.{ℕ, All, Option, None, List, [], ◌∷◌, slice_index_or}
 use Rattle.par_bits.specs.Sets.{has}
 use Rattle.par_rules.specs.Lattice.{numbers}
 use Rattle.par_rules.specs.Facts as rules

@@ -1,7 +1,6 @@
 -- What the events of a pass make of its notes.
 use Rattle.std.specs.Prelude.{◌≡◌, ◌<◌, ◌≤◌, ◌+◌, ◌*◌, ℕ, suc, true, false, cond, nat_eq, Option, Some, None, List, [], ◌∷◌, length}
 use Rattle.par_bits.specs.Sets.{has}
-use Rattle.par_rules.specs.Lattice.{numbers}
 use Rattle.par_except.specs.declared.way.Way as code
 use Rattle.par_except.specs.Joins.{may_join}
 use Rattle.par_except.specs.Weight.{IsSmall, weight}
@@ -49,9 +48,13 @@ pub record Took (l : List Event) (m n : Notes) : Type 0 where
   pub wide : AreHeadsWide m.locals m.heads.items → AreHeadsWide m.locals n.heads.items
   pub heads : ways_of n.heads.items ≡ raised (ways_of m.heads.items) l
   -- where no head rose, each way fits
-  pub fits : n.rose ≡ false → (m.rose ≡ false) × (ways_of n.heads.items ≡ ways_of m.heads.items) × AllFit (ways_of m.heads.items) l
+  pub fits : n.rose ≡ false
+      → (m.rose ≡ false)
+      × (ways_of n.heads.items ≡ ways_of m.heads.items)
+      × AllFit (ways_of m.heads.items) l
   -- and where one rose, less is left
-  pub falls : AreHeadsWide m.locals m.heads.items → AreSmall l → total m.locals n.heads.items ≤ total m.locals m.heads.items
+  pub falls : AreHeadsWide m.locals m.heads.items → AreSmall l
+      → total m.locals n.heads.items ≤ total m.locals m.heads.items
   pub rises : AreHeadsWide m.locals m.heads.items → AreSmall l → m.rose ≡ false → n.rose ≡ true
       → total m.locals n.heads.items < total m.locals m.heads.items
   pub rows : seen_facts n.rows.items ≡ written l (seen_facts m.rows.items)

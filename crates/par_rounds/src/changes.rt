@@ -165,8 +165,8 @@ pub fn way_at(
 ) -> Result<Option<Way>, NoMemory>
     requires locals { AreFactsWide (length way.now.env) parts.now }
     requires range { IsFromInRange (length way.now.env) (seen_origin from.now) }
-    ensures way { IfOk result (λ o. may_see o
-        ≡ way_from numbers (Some (seen way.now)) (latest_first parts.now []) (seen_origin from.now)) }
+    ensures way { IfOk result (λ o. may_see o ≡ way_from numbers (Some (seen way.now))
+        (latest_first parts.now []) (seen_origin from.now)) }
     ensures locals { IfOk result (λ o. MayHaveLocals (length way.now.env) o) }
 {
     match start_of(way, parts, from.start) {

@@ -6,7 +6,8 @@ ghost use Rattle.par_rules.specs.Lattice.{numbers};
 ghost use Rattle.par_rules.specs.Rules.{part_at};
 ghost use Rattle.par_nodes.specs.Seen.{seen_kind};
 ghost use Rattle.par_except.specs.Seen.{may_see, MayHaveLocals};
-ghost use Rattle.par_rounds.specs.Seen.{latest_first, AreFactsWide};
+ghost use Rattle.par_pass.specs.Written.{table as by_point};
+ghost use Rattle.par_rounds.specs.Seen.{latest_first, seen_facts, AreFactsWide};
 
 use crate::exits::{Exit, way_of};
 use par_atoms::Atoms;
@@ -42,5 +43,45 @@ pub fn exit_of(parts: &[Fact], part: usize, kind: Kind) -> Option<&Way>
         way_of(&parts[parts.len() - 1 - part].exits, kind)
     } else {
         None
+    }
+}
+
+/// The way that enters the node at a point, if it is reached.
+pub fn entry_at(rows: &[Fact], point: u32) -> Option<&Way>
+    ensures { may_see (option_copied result) ≡ (by_point (seen_facts rows.now) point).entry }
+{
+    let place = point as usize;
+    if place < rows.len() {
+        match &rows[place].entry {
+            None => None,
+            Some(way) => Some(way),
+        }
+    } else {
+        None
+    }
+}
+
+/// The way of a completion of the node at a point, if it is possible.
+pub fn exit_at(rows: &[Fact], point: u32, kind: Kind) -> Option<&Way>
+    ensures { may_see (option_copied result)
+        ≡ (by_point (seen_facts rows.now) point).exit (seen_kind kind) }
+{
+    let place = point as usize;
+    if place < rows.len() {
+        way_of(&rows[place].exits, kind)
+    } else {
+        None
+    }
+}
+
+/// The value of the node at a point.
+pub fn value_at(rows: &[Fact], point: u32) -> Atoms
+    ensures { has result ≡ (by_point (seen_facts rows.now) point).value }
+{
+    let place = point as usize;
+    if place < rows.len() {
+        rows[place].value
+    } else {
+        Atoms::empty()
     }
 }

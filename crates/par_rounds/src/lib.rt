@@ -18,6 +18,6 @@ mod ways;
 
 pub use body::{facts_of_body, next};
 pub use exits::Exit;
-pub use fact::Fact;
+pub use fact::{Fact, entry_at, exit_at, value_at};
 pub use first::first_way;
 pub use rounds::settle;

@@ -175,7 +175,8 @@ pub fn pass(
     notes: &mut Notes,
 ) -> Result<Found, NoMemory>
     requires ready { IsReady way.now heads.now notes.old }
-    requires node { IsPassable notes.old.locals (length notes.old.heads.items) (seen_node node.now) }
+    requires node { IsPassable notes.old.locals (length notes.old.heads.items)
+        (seen_node node.now) }
     ensures { IfOk result (λ r. Passed r
         (pass (ways_of heads.now) (seen_node node.now) (seen way.now)) notes.old notes.new) }
 {
@@ -201,7 +202,8 @@ fn visit(
     requires entry { MayHaveLocals notes.old.locals entry.now }
     requires heads { AreHeadsWide notes.old.locals heads.now
         × AreHeadsWide notes.old.locals notes.old.heads.items }
-    requires node { IsPassable notes.old.locals (length notes.old.heads.items) (seen_node node.now) }
+    requires node { IsPassable notes.old.locals (length notes.old.heads.items)
+        (seen_node node.now) }
     ensures { IfOk result (λ r. Passed r (visited (may_see entry.now) (spot (seen_node node.now))
         (pass (ways_of heads.now) (seen_node node.now))) notes.old notes.new) }
 {

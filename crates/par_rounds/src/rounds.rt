@@ -71,7 +71,8 @@ fn quiet(alloc: Global, node: &Node, way: &Way, points: usize) -> Result<Vec<Opt
 pub fn settle(alloc: Global, node: &Node, way: &Way, points: usize) -> Result<Vec<Fact>, NoMemory>
     requires node { IsPassable (length way.now.env) points (seen_node node.now) }
     requires small { MayBeSmall (Some (seen way.now)) }
-    ensures { IfOk result (λ rows. IsSettled (seen_node node.now) (seen way.now) points rows.items) }
+    ensures { IfOk result
+        (λ rows. IsSettled (seen_node node.now) (seen way.now) points rows.items) }
 {
     let heads = quiet(alloc, node, way, points)?;
     let notes = round(alloc, node, way, &heads, points)?;

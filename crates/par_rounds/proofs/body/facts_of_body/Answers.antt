@@ -1,7 +1,6 @@
 use Rattle.std.proofs.Common.{◌≡◌, ◌≤◌, Some, length, subst, sym, ap, ◌∙◌, arith, All, ◌<◌}
 use Rattle.par_typed.specs.Shown.{body as shown}
 use Rattle.par_rules.specs.Lattice.{numbers}
-use Rattle.par_rules.specs.Body.{sta}
 use Rattle.par_rules.specs.Closed.{first}
 use Rattle.par_rules.specs.Declares.{declares, method_of}
 use Rattle.par_rules.specs.Numbered.{IsNumbered, next}

@@ -1,4 +1,4 @@
-use Rattle.std.proofs.Common.{ap, sym, subst, ◌∙◌, Some, [], get_or, rules, arith}
+use Rattle.std.proofs.Common.{ap, sym, ◌∙◌, Some, [], rules}
 use Rattle.par_bits.specs.Sets.{has, adding}
 use Rattle.par_except.specs.Seen.{seen, locals}
 use Rattle.par_except.proofs.Locals.{locals_get}

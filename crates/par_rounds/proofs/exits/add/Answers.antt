@@ -1,4 +1,4 @@
-use Rattle.std.proofs.Common.{◌≡◌, sym, arith, ap, ◌∙◌, subst, length, ◌<◌}
+use Rattle.std.proofs.Common.{◌≡◌, sym, arith, ap, ◌∙◌, subst, length}
 use Rattle.par_nodes.specs.Seen.{seen_kind}
 use Rattle.par_except.specs.Joins.{join}
 use Rattle.par_except.specs.Seen.{seen}

@@ -1,4 +1,4 @@
-use Rattle.std.proofs.Common.{rules, arith, ap, sym, ◌∙◌, ◌-◌, length, []}
+use Rattle.std.proofs.Common.{arith, ap, sym, ◌∙◌, ◌-◌, length, []}
 use Rattle.par_bits.specs.Sets.{has}
 use Rattle.par_rounds.proofs.Parts.{latest_at, latest_past}
 use Rattle.par_rounds.proofs.fact.value_of.Goals as goal

@@ -1,4 +1,4 @@
-use Rattle.std.proofs.Common.{rules, arith, ◌≤◌, Some, ◌≡◌, length, ◌∙◌}
+use Rattle.std.proofs.Common.{rules, arith, Some, ◌≡◌, length}
 use Rattle.par_rules.specs.Lattice.{numbers}
 use Rattle.par_rules.specs.Declares.{method_of, params_of}
 use Rattle.par_rules.specs.Closed.{locals as entering}

@@ -1,4 +1,4 @@
-use Rattle.std.proofs.Common.{rules, arith, sym, ◌∙◌}
+use Rattle.std.proofs.Common.{rules, sym, ◌∙◌}
 use Rattle.par_rounds.proofs.Firsts.{arriving_past, param_made, param_small}
 use Rattle.par_rounds.proofs.first.param_at.Goals as goal
 

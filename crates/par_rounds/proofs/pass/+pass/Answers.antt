@@ -1,5 +1,5 @@
 -- Each rule takes the code one step on, and what it needs stays true.
-use Rattle.std.proofs.Common.{◌≡◌, ℕ, ◌<◌, Option, Some, None, List, [], ◌∷◌, length, refl, sym, ap, ◌∙◌, subst, rules, arith}
+use Rattle.std.proofs.Common.{Some, None, [], length, refl, sym, ap, ◌∙◌, subst, rules}
 use Rattle.par_nodes.specs.declared.rule.Rules.TheViews.{the_lemmas}
 use Rattle.par_rules.specs.Lattice.{numbers}
 use Rattle.par_rules.specs.Ranges.{IsFromInRange, IsWorthInRange}

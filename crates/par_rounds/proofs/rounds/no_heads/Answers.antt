@@ -1,5 +1,4 @@
-use Rattle.std.proofs.Common.{◌≡◌, subst, rules}
-use Rattle.par_rounds.proofs.Heads.{none_yet, none_push, none_of}
+use Rattle.par_rounds.proofs.Heads.{none_push, none_of}
 use Rattle.par_rounds.proofs.rounds.no_heads.Goals as goal
 
 pub loop-preserved : goal.loop-preserved

@@ -1,4 +1,4 @@
-use Rattle.std.proofs.Common.{length, subst, sym, rules}
+use Rattle.std.proofs.Common.{length, subst}
 use Rattle.std.proofs.lemmas.Bool.{not-false}
 use Rattle.par_nodes.specs.Seen.{seen_node}
 use Rattle.par_except.specs.Seen.{seen}

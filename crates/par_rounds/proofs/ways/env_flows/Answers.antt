@@ -1,4 +1,4 @@
-use Rattle.std.proofs.Common.{refl, rules, arith}
+use Rattle.std.proofs.Common.{refl, rules}
 use Rattle.par_rounds.proofs.Envs.{within_more, within_here, within_all}
 use Rattle.par_rounds.proofs.ways.env_flows.Goals as goal
 
