@@ -90,7 +90,7 @@ module _ (alone : Bool) (files : List ClassFile) (steps : ℕ) (first : State) (
     keeps n held' after' less kept rises stand (happened e is counts put) = told n e held' after' less kept is counts put rises stand
 
     pub cuts : (u : Untold) (held' : Option Text) (after' : SinkCounts) → done < steps → IsUntoldTurn (turn (files_of m) (state_of m)) held held' after after' u
-        → IsCutOff (run files steps first) old held' before after' u
+        → IsCutOff (lines (run files steps first)) old held' before after' u
     cuts Fault held' after' less at =
         cut_short files steps first old before after' after.puts (steps - (done + 1)) (state_of m) at.later held held' at.event (turned (Shows at.event at.later) at.is)
         (rose_since before.faults after.faults after'.faults h.grows at.rose) at.puts at.front (more less)
@@ -131,7 +131,7 @@ module _ (files : List ClassFile) (steps : ℕ) (first : State) (old : Option Te
       unsaid is (subst (λ x. IsLeftOff (lines (run files steps first)) old x before after) (sym same.1) front)
 
   pub said_untold : (u : Untold) (new : Option Text) (result : ℕ) (before after : SinkCounts) → result ≡ status_of_untold u
-      → IsCutOff (run files steps first) old new before after u
+      → IsCutOff (lines (run files steps first)) old new before after u
       → Said (status (run files steps first).ending) (lines (run files steps first)) result old new before after
   said_untold Fault new result before after is h = cut is h
   said_untold Memory new result before after is h = unsaid is h

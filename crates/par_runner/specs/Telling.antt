@@ -12,7 +12,7 @@ use Rattle.par_runner.specs.declared.telling.Untold.{Untold}
 use Rattle.par_runner.specs.declared.telling.Untold.TheVariants.{Fault, Memory}
 use Rattle.par_runner.specs.declared.telling.Closing.{Closing}
 use Rattle.par_runner.specs.declared.telling.Closing.TheVariants as closing
-use Rattle.par_runner.specs.Texts.{Text, line, event_text, lines, ending_text, status}
+use Rattle.par_runner.specs.Texts.{Text, line, event_text, ending_text, status}
 use Rattle.par_runner.specs.Progress.{IsUnderWay}
 
 -- how a run closes
@@ -70,11 +70,12 @@ pub record IsTold (files : List ClassFile) (steps : ℕ) (first : State) (old ne
   pub closes : run files rest now ≡ ended (outcome c)
   pub way : IsUnderWay files steps rest first now old new before.puts after.puts
 
--- what a run that is not told to its end leaves: its first lines, and where a put failed a front of
--- the next
-abbrev pub IsCutOff : Ran → (old new : Option Text) → (before after : SinkCounts) → Untold → Type 0
-IsCutOff ran old new before after Fault = IsCut (lines ran) old new before after
-IsCutOff ran old new before after Memory = IsLeftOff (lines ran) old new before after
+-- what lines that are not all put leave: the first of them, and where a put failed a front of the
+-- next
+abbrev pub IsCutOff : List Text → (old new : Option Text) → (before after : SinkCounts) → Untold
+    → Type 0
+IsCutOff lines old new before after Fault = IsCut lines old new before after
+IsCutOff lines old new before after Memory = IsLeftOff lines old new before after
 
 -- the status of a call that could not put a line
 abbrev pub status_of_untold : Untold → ℕ

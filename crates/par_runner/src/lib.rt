@@ -13,4 +13,5 @@ mod text;
 pub use laws::equal_lines_are_equal_events;
 pub use memory::NoMemory;
 pub use run::tell_run;
-pub use text::{bad_code_line, ending_line, event_line};
+pub use telling::{Untold, put_line, untold_status};
+pub use text::{add_event, bad_code_line, ending_line, event_line};

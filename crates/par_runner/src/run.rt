@@ -6,9 +6,9 @@ ghost use Rattle.par_single_machine.specs.Run.{run};
 ghost use Rattle.par_single_machine.specs.Step.{turn};
 ghost use Rattle.par_single_machine.specs.Machine.{files_of, state_of};
 ghost use Rattle.par_runner.specs.Texts.{lines, status};
-ghost use Rattle.par_runner.specs.Telling.{GoesOn, ClosesBy, IsUntoldTurn, PutsAreTold, IsTold, IsCutOff, Closes, status_of_untold};
+ghost use Rattle.par_runner.specs.Telling.{GoesOn, ClosesBy, IsUntoldTurn, PutsAreTold, IsTold, IsCutOff, Closes};
 
-use crate::telling::{Closing, Untold, put_closing, put_event, status_of};
+use crate::telling::{Closing, Untold, put_closing, put_event, status_of, untold_status};
 use par_io::Sink;
 use par_single_machine::machine::Machine;
 use par_single_machine::turn::{Stuck, Turn};
@@ -71,7 +71,7 @@ fn tell_events<S: Sink>(
         PutsAreTold result (S.counts out.old).faults (S.counts out.new).faults }
     ensures told { IfOk result (IsTold (files_of machine.old) steps (state_of machine.old)
         (S.held out.old) (S.held out.new) (S.counts out.old) (S.counts out.new)) }
-    ensures cut { IfErr result (IsCutOff (run (files_of machine.old) steps (state_of machine.old))
+    ensures cut { IfErr result (IsCutOff (lines (run (files_of machine.old) steps (state_of machine.old)))
         (S.held out.old) (S.held out.new) (S.counts out.old) (S.counts out.new)) }
 {
     for _done in 0..steps {
@@ -82,16 +82,6 @@ fn tell_events<S: Sink>(
         }
     }
     Ok(Closing::Ended(Ending::Stopped))
-}
-
-/// The status of a call that could not put a line.
-fn untold_status(untold: Untold) -> u8
-    ensures { result ≡ status_of_untold untold }
-{
-    match untold {
-        Untold::Fault => 6,
-        Untold::Memory => 7,
-    }
 }
 
 /// Puts the line of a closing, and gives the status of the call.

@@ -2,7 +2,7 @@
 
 ghost use Rattle.std.specs.Prelude.{◌≡◌, ◌≤◌, IsTrue, OnOk, IfOk, IfErr};
 ghost use Rattle.par_io.specs.Causes.{raised, appended};
-ghost use Rattle.par_runner.specs.Telling.{IsUntold, PutsAreTold, outcome};
+ghost use Rattle.par_runner.specs.Telling.{IsUntold, PutsAreTold, outcome, status_of_untold};
 ghost use Rattle.par_runner.specs.Texts.{line, event_text, ending_text, status};
 ghost use Rattle.par_runner.specs.declared.telling.Untold.TheVariants.{Memory};
 
@@ -57,8 +57,18 @@ pub fn status_of(closing: &Closing) -> u8
     }
 }
 
+/// The status of a call that could not put a line.
+pub fn untold_status(untold: Untold) -> u8
+    ensures { result ≡ status_of_untold untold }
+{
+    match untold {
+        Untold::Fault => 6,
+        Untold::Memory => 7,
+    }
+}
+
 /// Puts a line.
-fn put_line<S: Sink>(line: &[u8], out: &mut S) -> Result<(), Untold>
+pub fn put_line<S: Sink>(line: &[u8], out: &mut S) -> Result<(), Untold>
     ensures faults_never_fall { (S.counts out.old).faults ≤ (S.counts out.new).faults }
     ensures faults_stand { IsTrue S.counts_faults_alone →
         PutsAreTold result (S.counts out.old).faults (S.counts out.new).faults }

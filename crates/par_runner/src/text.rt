@@ -12,7 +12,7 @@ use par_values::run::{Ending, Event, Val};
 use std::alloc::Global;
 
 /// Adds a number.
-fn put_number(alloc: Global, text: &mut Vec<u8>, number: u32) -> Result<(), NoMemory>
+fn add_number(alloc: Global, text: &mut Vec<u8>, number: u32) -> Result<(), NoMemory>
     ensures { OnOk result (text.new.items ≡ text.old.items ++ decimal number) }
 {
     let digits = format!(in alloc; "{number}")?;
@@ -21,7 +21,7 @@ fn put_number(alloc: Global, text: &mut Vec<u8>, number: u32) -> Result<(), NoMe
 }
 
 /// Adds a number with its sign.
-fn put_signed(alloc: Global, text: &mut Vec<u8>, number: i32) -> Result<(), NoMemory>
+fn add_signed(alloc: Global, text: &mut Vec<u8>, number: i32) -> Result<(), NoMemory>
     ensures { OnOk result (text.new.items ≡ text.old.items ++ signed_decimal number) }
 {
     let digits = format!(in alloc; "{number}")?;
@@ -30,30 +30,30 @@ fn put_signed(alloc: Global, text: &mut Vec<u8>, number: i32) -> Result<(), NoMe
 }
 
 /// Adds an object.
-fn put_object(alloc: Global, text: &mut Vec<u8>, class: &[u8], number: u32) -> Result<(), NoMemory>
+fn add_object(alloc: Global, text: &mut Vec<u8>, class: &[u8], number: u32) -> Result<(), NoMemory>
     ensures { OnOk result (text.new.items ≡ text.old.items ++ spec.object_text class.now number) }
 {
     text.extend_from_slice(class)?;
     text.extend_from_slice(b"#")?;
-    put_number(alloc, text, number)
+    add_number(alloc, text, number)
 }
 
 /// Adds a value.
-fn put_value(alloc: Global, text: &mut Vec<u8>, value: &Val) -> Result<(), NoMemory>
+fn add_value(alloc: Global, text: &mut Vec<u8>, value: &Val) -> Result<(), NoMemory>
     ensures { OnOk result (text.new.items ≡ text.old.items ++ spec.value_text value.now) }
 {
     match value {
-        Val::Int(number) => put_signed(alloc, text, *number),
+        Val::Int(number) => add_signed(alloc, text, *number),
         Val::Null => {
             text.extend_from_slice(b"null")?;
             Ok(())
         }
-        Val::Ref(class, number) => put_object(alloc, text, class.bytes(), *number),
+        Val::Ref(class, number) => add_object(alloc, text, class.bytes(), *number),
     }
 }
 
 /// Adds a word, a member of a class, and a space.
-fn put_member(text: &mut Vec<u8>, word: &[u8], class: &[u8], member: &[u8]) -> Result<(), NoMemory>
+fn add_member(text: &mut Vec<u8>, word: &[u8], class: &[u8], member: &[u8]) -> Result<(), NoMemory>
     ensures { OnOk result (text.new.items
         ≡ text.old.items ++ (word.now ++ (class.now ++ (codes "." ++ (member.now ++ codes " "))))) }
 {
@@ -66,27 +66,27 @@ fn put_member(text: &mut Vec<u8>, word: &[u8], class: &[u8], member: &[u8]) -> R
 }
 
 /// Adds the text of an event.
-fn put_event(alloc: Global, text: &mut Vec<u8>, event: &Event) -> Result<(), NoMemory>
+pub fn add_event(alloc: Global, text: &mut Vec<u8>, event: &Event) -> Result<(), NoMemory>
     ensures { OnOk result (text.new.items ≡ text.old.items ++ spec.event_text event.now) }
 {
     match event {
         Event::Out(class, channel, number) => {
-            put_member(text, b"out ", class.bytes(), channel.bytes())?;
-            put_signed(alloc, text, *number)
+            add_member(text, b"out ", class.bytes(), channel.bytes())?;
+            add_signed(alloc, text, *number)
         }
         Event::Set(class, field, value) => {
-            put_member(text, b"set ", class.bytes(), field.bytes())?;
-            put_value(alloc, text, value)
+            add_member(text, b"set ", class.bytes(), field.bytes())?;
+            add_value(alloc, text, value)
         }
         Event::Put(class, number, field, value) => {
             text.extend_from_slice(b"put ")?;
-            put_object(alloc, text, class.bytes(), *number)?;
-            put_member(text, b"", b"", field.bytes())?;
-            put_value(alloc, text, value)
+            add_object(alloc, text, class.bytes(), *number)?;
+            add_member(text, b"", b"", field.bytes())?;
+            add_value(alloc, text, value)
         }
         Event::Born(class, number) => {
             text.extend_from_slice(b"new ")?;
-            put_object(alloc, text, class.bytes(), *number)
+            add_object(alloc, text, class.bytes(), *number)
         }
     }
 }
@@ -96,13 +96,13 @@ pub fn event_line(alloc: Global, event: &Event) -> Result<Vec<u8>, NoMemory>
     ensures { IfOk result (λ text. text.items ≡ line (spec.event_text event.now)) }
 {
     let mut text = Vec::new(alloc);
-    put_event(alloc, &mut text, event)?;
+    add_event(alloc, &mut text, event)?;
     text.extend_from_slice(b"\n")?;
     Ok(text)
 }
 
 /// Adds the text of an ending.
-fn put_ending(text: &mut Vec<u8>, ending: &Ending) -> Result<(), NoMemory>
+fn add_ending(text: &mut Vec<u8>, ending: &Ending) -> Result<(), NoMemory>
     ensures { OnOk result (text.new.items ≡ text.old.items ++ spec.ending_text (Fine ending.now)) }
 {
     match ending {
@@ -127,7 +127,7 @@ pub fn ending_line(alloc: Global, ending: &Ending) -> Result<Vec<u8>, NoMemory>
     ensures { IfOk result (λ text. text.items ≡ line (spec.ending_text (Fine ending.now))) }
 {
     let mut text = Vec::new(alloc);
-    put_ending(&mut text, ending)?;
+    add_ending(&mut text, ending)?;
     text.extend_from_slice(b"\n")?;
     Ok(text)
 }
@@ -144,10 +144,10 @@ pub fn bad_code_line(
         text.items ≡ line (spec.ending_text (BadCode class.now method.now offset reason))) }
 {
     let mut text = Vec::new(alloc);
-    put_member(&mut text, b"bad code ", class.bytes(), method)?;
-    put_number(alloc, &mut text, offset)?;
+    add_member(&mut text, b"bad code ", class.bytes(), method)?;
+    add_number(alloc, &mut text, offset)?;
     text.extend_from_slice(b" ")?;
-    put_number(alloc, &mut text, u32::from(reason))?;
+    add_number(alloc, &mut text, u32::from(reason))?;
     text.extend_from_slice(b"\n")?;
     Ok(text)
 }

@@ -1,0 +1,4 @@
+pub mod Puts
+pub mod Joined
+pub mod Found
+pub mod Told

@@ -1,0 +1,4 @@
+pub mod Texts
+pub mod Puts
+pub mod Channels
+pub mod Keys
