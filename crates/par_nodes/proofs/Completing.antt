@@ -6,7 +6,6 @@ use Rattle.par_rules.specs.Kinds.{Kind, Normal, Return, Break, Continue, Throw, 
 use Rattle.par_rules.specs.Rules.{From, Worth, Node, node, Rules, Done, Part, Test, Heads, Leaves, Worths, part_can, comes, can, can_by}
 use Rattle.par_nodes.specs.declared.rule.Kind as code
 use Rattle.par_nodes.specs.declared.rule.Origin.{Origin}
-use Rattle.par_nodes.specs.declared.rule.Start.{Start}
 use Rattle.par_nodes.specs.declared.rule.Start.TheVariants as start
 use Rattle.par_nodes.specs.declared.rule.Locks.{Locks}
 use Rattle.par_nodes.specs.declared.rule.Locks.TheVariants as locks

@@ -1,5 +1,5 @@
 -- Lists, from behind.
-use Rattle.std.proofs.Common.{◌≡◌, ℕ, zero, suc, ◌+◌, ◌-◌, ◌<◌, ◌≤◌, List, [], ◌∷◌, length, get_or, drop, refl, sym, subst, ap, ◌∙◌, arith, add-one}
+use Rattle.std.proofs.Common.{◌≡◌, ℕ, zero, suc, ◌-◌, ◌<◌, ◌≤◌, List, [], ◌∷◌, length, get_or, drop, refl, sym, subst, ap, ◌∙◌, arith}
 use Rattle.par_typed.specs.Plain as typed
 use Rattle.par_typed.specs.Plain.{Mark, MayTExp, TExps}
 use Rattle.par_typed.specs.declared.table.ThrowInfo.{ThrowInfo}

@@ -1,8 +1,7 @@
 -- What the tree of nodes and rules means.
 use Rattle.std.specs.Prelude.{ℕ, Option, Some, None}
-use Rattle.std.specs.Borrow.{Bor}
 use Rattle.par_policy.specs.Numbers.{has}
-use Rattle.par_bits.specs.Sets.{Set, none, adding}
+use Rattle.par_bits.specs.Sets.{none, adding}
 use Rattle.par_rules.specs.Kinds as kinds
 use Rattle.par_rules.specs.Rules as plain
 use Rattle.par_nodes.specs.declared.rule.Kind as code_kind

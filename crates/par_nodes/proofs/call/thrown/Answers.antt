@@ -1,4 +1,4 @@
-use Rattle.std.proofs.Common.{rules, ◌-◌, get_or, arith, Some, ap, sym, ◌∙◌}
+use Rattle.std.proofs.Common.{rules, ◌-◌, get_or, Some, ap, sym, ◌∙◌}
 use Rattle.par_rules.specs.Declares.{declares, method_of, throws_of}
 use Rattle.par_rules.specs.Body.{thrown}
 use Rattle.par_nodes.specs.Seen.{seen_rules, seen_start, tested}
