@@ -6,7 +6,6 @@ use Rattle.par_rules.specs.Kinds.{Kind, Normal, Return, Break, Continue, Throw, 
 use Rattle.par_rules.specs.Rules.{From, Worth, Node, node, Rules, Done, Part, Test, Heads, Leaves, Worths, part_can, comes, can, can_by}
 use Rattle.par_nodes.specs.declared.rule.Kind as code
 use Rattle.par_nodes.specs.declared.rule.Origin.{Origin}
-use Rattle.par_nodes.specs.declared.rule.Start.{Start}
 use Rattle.par_nodes.specs.declared.rule.Start.TheVariants as start
 use Rattle.par_nodes.specs.declared.rule.Locks.{Locks}
 use Rattle.par_nodes.specs.declared.rule.Locks.TheVariants as locks
@@ -20,7 +19,7 @@ use Rattle.par_nodes.specs.declared.rule.Rules.TheVariants as rule
 use Rattle.par_nodes.proofs.Forms.{seen_done, seen_part, seen_test, seen_heads, seen_leaves, seen_worths}
 use Rattle.par_nodes.specs.Seen.{seen_absorber, seen_worth, seen_node, seen_rules}
 use Rattle.par_nodes.specs.Seen.{seen_kind, seen_start, seen_origin, assigned, tested, raised, shut, opened}
-use Rattle.par_nodes.specs.Possible.{among, either, if_so, apart, cans}
+use Rattle.par_nodes.specs.Possible.{among, either, if_so, apart, cans, parts_can}
 
 or_false : (a : Bool) → (a || false) ≡ a
 or_false true = refl
@@ -43,26 +42,37 @@ or_assoc : (a b c : Bool) → ((a || b) || c) ≡ (a || (b || c))
 or_assoc true b c = refl
 or_assoc false b c = refl
 
-cans_push : (parts : List (List code.Kind)) (js : List code.Kind) (fs : List (Kind → Bool)) → cans (parts ++ js ∷ []) fs ≡ among js ∷ cans parts fs
+cans_push : (parts : List (List code.Kind)) (js : List code.Kind) (fs : List (Kind → Bool))
+    → cans (parts ++ js ∷ []) fs ≡ among js ∷ cans parts fs
 cans_push [] js fs = refl
 cans_push (x ∷ parts) js fs = cans_push parts js (among x ∷ fs)
 
-cans_behind : (parts : List (List code.Kind)) (fs : List (Kind → Bool)) (n m : ℕ) (k : Kind) → n ≡ length parts + m → part_can (cans parts fs) n k ≡ part_can fs m k
+cans_behind : (parts : List (List code.Kind)) (fs : List (Kind → Bool)) (n m : ℕ) (k : Kind)
+    → n ≡ length parts + m → part_can (cans parts fs) n k ≡ part_can fs m k
 cans_behind [] fs n m k e = let g : n ≡ m = omega (arith, e) in ap (λ i. part_can fs i k) g
-cans_behind (x ∷ parts) fs n m k e = let g : n ≡ length parts + suc m = omega (arith, e) in cans_behind parts (among x ∷ fs) n (suc m) k g
+cans_behind (x ∷ parts) fs n m k e =
+    let g : n ≡ length parts + suc m = omega (arith, e) in
+    cans_behind parts (among x ∷ fs) n (suc m) k g
 
 -- the parts before, the latest first
-pub cans_at : (parts : List (List code.Kind)) (fs : List (Kind → Bool)) (n i : ℕ) (k : Kind) (js : List code.Kind) → n + i + 1 ≡ length parts → js ≡ get_or parts i js
+pub cans_at : (parts : List (List code.Kind)) (fs : List (Kind → Bool)) (n i : ℕ) (k : Kind)
+    (js : List code.Kind) → n + i + 1 ≡ length parts → js ≡ get_or parts i js
     → part_can (cans parts fs) n k ≡ among js k
 cans_at [] fs n i k js e q = absurd (omega (arith, e))
-cans_at (x ∷ parts) fs n zero k js e q = let g : n ≡ length parts + 0 = omega (arith, e) in cans_behind parts (among x ∷ fs) n 0 k g ∙ ap (λ l. among l k) (sym q)
-cans_at (x ∷ parts) fs n (suc i) k js e q = let g : n + i + 1 ≡ length parts = omega (arith, e) in cans_at parts (among x ∷ fs) n i k js g q
+cans_at (x ∷ parts) fs n zero k js e q =
+    let g : n ≡ length parts + 0 = omega (arith, e) in
+    cans_behind parts (among x ∷ fs) n 0 k g ∙ ap (λ l. among l k) (sym q)
+cans_at (x ∷ parts) fs n (suc i) k js e q =
+    let g : n + i + 1 ≡ length parts = omega (arith, e) in cans_at parts (among x ∷ fs) n i k js g q
 
 -- no part is behind the first one
-pub cans_past : (parts : List (List code.Kind)) (n : ℕ) (k : Kind) → length parts < n + 1 → part_can (cans parts []) n k ≡ false
-cans_past parts n k h = let g : n ≡ length parts + (n - length parts) = omega (arith, h) in cans_behind parts [] n (n - length parts) k g ∙ nothing (n - length parts) k where
-  nothing : (m : ℕ) (k : Kind) → part_can [] m k ≡ false
-  nothing m k = refl
+pub cans_past : (parts : List (List code.Kind)) (n : ℕ) (k : Kind) → length parts < n + 1
+    → part_can (cans parts []) n k ≡ false
+cans_past parts n k h =
+    let g : n ≡ length parts + (n - length parts) = omega (arith, h) in
+    cans_behind parts [] n (n - length parts) k g ∙ nothing (n - length parts) k where
+      nothing : (m : ℕ) (k : Kind) → part_can [] m k ≡ false
+      nothing m k = refl
 
 comes_opened : (fs : List (Kind → Bool)) (l : Locks) (f : From) → comes fs (opened l f) ≡ comes fs f
 unfolding comes
@@ -78,31 +88,38 @@ comes_shut fs locks.Nothing f = refl
 comes_shut fs (locks.One n) f = refl
 comes_shut fs (locks.All s) f = refl
 
-comes_raised : (fs : List (Kind → Bool)) (o : Option ℕ) (f : From) → comes fs (raised o f) ≡ comes fs f
+comes_raised : (fs : List (Kind → Bool)) (o : Option ℕ) (f : From)
+    → comes fs (raised o f) ≡ comes fs f
 unfolding comes
 comes_raised fs None f = refl
 comes_raised fs (Some n) f = refl
 
-comes_tested : (fs : List (Kind → Bool)) (o : Option ℕ) (f : From) → comes fs (tested o f) ≡ comes fs f
+comes_tested : (fs : List (Kind → Bool)) (o : Option ℕ) (f : From)
+    → comes fs (tested o f) ≡ comes fs f
 unfolding comes
 comes_tested fs None f = refl
 comes_tested fs (Some n) f = refl
 
-comes_assigned : (fs : List (Kind → Bool)) (o : Option (ℕ × ℕ)) (f : From) → comes fs (assigned o f) ≡ comes fs f
+comes_assigned : (fs : List (Kind → Bool)) (o : Option (ℕ × ℕ)) (f : From)
+    → comes fs (assigned o f) ≡ comes fs f
 unfolding comes
 comes_assigned fs None f = refl
 comes_assigned fs (Some n) f = refl
 
 -- whether a way comes is told by its start
-pub comes_start : (fs : List (Kind → Bool)) (o : Origin) → comes fs (seen_origin o) ≡ comes fs (seen_start o.start)
+pub comes_start : (fs : List (Kind → Bool)) (o : Origin)
+    → comes fs (seen_origin o) ≡ comes fs (seen_start o.start)
 comes_start fs o =
-    comes_opened fs o.opened _ ∙ comes_shut fs o.shut _ ∙ comes_raised fs o.raised _ ∙ comes_tested fs o.tested _ ∙ comes_assigned fs o.assigned (seen_start o.start)
+    comes_opened fs o.opened _ ∙ comes_shut fs o.shut _ ∙ comes_raised fs o.raised _
+    ∙ comes_tested fs o.tested _ ∙ comes_assigned fs o.assigned (seen_start o.start)
 
-pub comes_entry : (fs : List (Kind → Bool)) (o : Origin) → o.start ≡ start.Entry → comes fs (seen_origin o) ≡ true
+pub comes_entry : (fs : List (Kind → Bool)) (o : Origin) → o.start ≡ start.Entry
+    → comes fs (seen_origin o) ≡ true
 unfolding comes
 comes_entry fs o e = comes_start fs o ∙ ap (λ s. comes fs (seen_start s)) e
 
-pub comes_after : (fs : List (Kind → Bool)) (o : Origin) (n : ℕ) (k : code.Kind) → o.start ≡ start.After n k → comes fs (seen_origin o) ≡ part_can fs n (seen_kind k)
+pub comes_after : (fs : List (Kind → Bool)) (o : Origin) (n : ℕ) (k : code.Kind)
+    → o.start ≡ start.After n k → comes fs (seen_origin o) ≡ part_can fs n (seen_kind k)
 unfolding comes
 comes_after fs o n k e = comes_start fs o ∙ ap (λ s. comes fs (seen_start s)) e
 
@@ -115,87 +132,118 @@ same_true (Throw c) (Throw d) e = ap Throw (eqb-true c d e)
 same_true _ _ e = cc
 
 -- an absorbed completion is none
-pub taken : (a : Absorber) (j : Kind) (f : Kind → Bool) → absorbed a j ≡ true → f ≡ either f (apart a (same j))
+pub taken : (a : Absorber) (j : Kind) (f : Kind → Bool) → absorbed a j ≡ true
+    → f ≡ either f (apart a (same j))
 taken a j f e = fun_ext (λ k. by_case k (same j k) refl) where
   by_case : (k : Kind) (b : Bool) → same j k ≡ b → f k ≡ (f k || (same j k && not (absorbed a k)))
   by_case k true h =
       let g : absorbed a k ≡ true = ap (absorbed a) (sym (same_true j k h)) ∙ e in
-      sym (ap (λ b. f k || (same j k && not b)) g ∙ ap (λ b. f k || (b && false)) h ∙ or_false (f k))
+      sym (ap (λ b. f k || (same j k && not b)) g ∙ ap (λ b. f k || (b && false)) h
+      ∙ or_false (f k))
   by_case k false h = sym (ap (λ b. f k || (b && not (absorbed a k))) h ∙ or_false (f k))
 
-among_push : (ks : List code.Kind) (j : code.Kind) → among (ks ++ j ∷ []) ≡ either (among ks) (same (seen_kind j))
+among_push : (ks : List code.Kind) (j : code.Kind) → among (ks ++ j ∷ []) ≡ either (among ks)
+    (same (seen_kind j))
 among_push ks j = fun_ext (λ k. push ks k) where
-  push : (ks : List code.Kind) (k : Kind) → among (ks ++ j ∷ []) k ≡ (among ks k || same (seen_kind j) k)
+  push : (ks : List code.Kind) (k : Kind) → among (ks ++ j ∷ []) k ≡
+      (among ks k || same (seen_kind j) k)
   push [] k = or_false (same (seen_kind j) k)
-  push (x ∷ ks) k = ap (λ b. same (seen_kind x) k || b) (push ks k) ∙ sym (or_assoc (same (seen_kind x) k) (among ks k) (same (seen_kind j) k))
+  push (x ∷ ks) k =
+      ap (λ b. same (seen_kind x) k || b) (push ks k) ∙ sym
+      (or_assoc (same (seen_kind x) k) (among ks k) (same (seen_kind j) k))
 
-pub pushed : (ks js : List code.Kind) (j : code.Kind) → js ≡ ks ++ j ∷ [] → among js ≡ either (among ks) (same (seen_kind j))
+pub pushed : (ks js : List code.Kind) (j : code.Kind) → js ≡ ks ++ j ∷ []
+    → among js ≡ either (among ks) (same (seen_kind j))
 pushed ks js j e = ap among e ∙ among_push ks j
 
 -- another one is kept
-pub left : (a : Absorber) (j : Kind) (f : Kind → Bool) → absorbed a j ≡ false → either f (same j) ≡ either f (apart a (same j))
+pub left : (a : Absorber) (j : Kind) (f : Kind → Bool) → absorbed a j ≡ false
+    → either f (same j) ≡ either f (apart a (same j))
 left a j f e = fun_ext (λ k. by_case k (same j k) refl) where
-  by_case : (k : Kind) (b : Bool) → same j k ≡ b → (f k || same j k) ≡ (f k || (same j k && not (absorbed a k)))
+  by_case : (k : Kind) (b : Bool) → same j k ≡ b → (f k || same j k) ≡
+      (f k || (same j k && not (absorbed a k)))
   by_case k true h =
       let g : absorbed a k ≡ false = ap (absorbed a) (sym (same_true j k h)) ∙ e in
       sym (ap (λ b. f k || (same j k && not b)) g ∙ ap (λ b. f k || b) (and_true (same j k)))
   by_case k false h = ap (λ b. f k || b) (h ∙ sym (ap (λ b. b && not (absorbed a k)) h))
 
 -- one more of those that were found
-pub kept_next : (a : Absorber) (js : List code.Kind) (i : ℕ) (d : code.Kind) (k0 k1 g : Kind → Bool) → i < length js
-    → k1 ≡ either k0 (apart a (same (seen_kind (get_or js i d)))) → either k0 (apart a (among (drop i js))) ≡ g → either k1 (apart a (among (drop (i + 1) js))) ≡ g
+pub kept_next : (a : Absorber) (js : List code.Kind) (i : ℕ) (d : code.Kind)
+    (k0 k1 g : Kind → Bool) → i < length js
+    → k1 ≡ either k0 (apart a (same (seen_kind (get_or js i d))))
+    → either k0 (apart a (among (drop i js))) ≡ g → either k1
+    (apart a (among (drop (i + 1) js))) ≡ g
 kept_next a js i d k0 k1 g h e f =
     ap (λ k. either k (apart a (among (drop (i + 1) js)))) e
-    ∙ fun_ext (λ k. keep_step (k0 k) (same (seen_kind (get_or js i d)) k) (among (drop (i + 1) js) k) (not (absorbed a k)))
-    ∙ ap (λ l. either k0 (apart a (among l))) (sym (drop-cons js i d h ∙ ap (λ n. get_or js i d ∷ drop n js) (sym (add-one i)))) ∙ f
+    ∙ fun_ext (λ k. keep_step (k0 k) (same (seen_kind (get_or js i d)) k)
+    (among (drop (i + 1) js) k) (not (absorbed a k)))
+    ∙ ap (λ l. either k0 (apart a (among l))) (sym (drop-cons js i d h
+    ∙ ap (λ n. get_or js i d ∷ drop n js) (sym (add-one i)))) ∙ f
 
-pub kept_all : (a : Absorber) (js : List code.Kind) (i : ℕ) (k0 g : Kind → Bool) → length js ≤ i → either k0 (apart a (among (drop i js))) ≡ g → k0 ≡ g
-kept_all a js i k0 g h e = fun_ext (λ k. sym (or_false (k0 k))) ∙ ap (λ l. either k0 (apart a (among l))) (sym (drop_past js i h)) ∙ e where
-  drop_past : (js : List code.Kind) (i : ℕ) → length js ≤ i → drop i js ≡ []
-  drop_past [] zero h = refl
-  drop_past [] (suc i) h = refl
-  drop_past (x ∷ js) zero h = absurd (omega (arith, h))
-  drop_past (x ∷ js) (suc i) h = drop_past js i (omega (arith, h))
+pub kept_all : (a : Absorber) (js : List code.Kind) (i : ℕ) (k0 g : Kind → Bool) → length js ≤ i
+    → either k0 (apart a (among (drop i js))) ≡ g → k0 ≡ g
+kept_all a js i k0 g h e =
+    fun_ext (λ k. sym (or_false (k0 k))) ∙ ap (λ l. either k0 (apart a (among l)))
+    (sym (drop_past js i h)) ∙ e where
+      drop_past : (js : List code.Kind) (i : ℕ) → length js ≤ i → drop i js ≡ []
+      drop_past [] zero h = refl
+      drop_past [] (suc i) h = refl
+      drop_past (x ∷ js) zero h = absurd (omega (arith, h))
+      drop_past (x ∷ js) (suc i) h = drop_past js i (omega (arith, h))
 
 -- a part's completions, and those of what is behind
-pub part_step : (parts more_parts : List (List code.Kind)) (js : List code.Kind) (from : From) (a : Absorber) (n : Node) (more : Rules) (k0 k1 k2 : Kind → Bool) (b : Bool)
+pub part_step : (parts more_parts : List (List code.Kind)) (js : List code.Kind) (from : From)
+    (a : Absorber) (n : Node) (more : Rules) (k0 k1 k2 : Kind → Bool) (b : Bool)
     → b ≡ comes (cans parts []) from → among js ≡ if_so b (can n)
     → k1 ≡ either k0 (apart a (among js)) → more_parts ≡ parts ++ js ∷ []
-    → k2 ≡ either k1 (can_by (cans more_parts []) more) → k2 ≡ either k0 (can_by (cans parts []) (Part from a n more))
+    → k2 ≡ either k1 (can_by (cans more_parts []) more) → k2 ≡ either k0
+    (can_by (cans parts []) (Part from a n more))
 unfolding can_by
 part_step parts more_parts js from a n more k0 k1 k2 b e f g q h =
-    let own : among js ≡ if_so (comes (cans parts []) from) (can n) = f ∙ ap (λ c. if_so c (can n)) e in
-    let rest : cans more_parts [] ≡ if_so (comes (cans parts []) from) (can n) ∷ cans parts [] = ap (λ l. cans l []) q ∙ cans_push parts js [] ∙ ap (λ x. x ∷ cans parts []) own in
-    h ∙ ap (λ x. either x (can_by (cans more_parts []) more)) (g ∙ ap (λ x. either k0 (apart a x)) own)
-    ∙ ap (λ x. either (either k0 (apart a (if_so (comes (cans parts []) from) (can n)))) (can_by x more)) rest
+    let own : among js ≡ if_so (comes (cans parts []) from) (can n) = f
+    ∙ ap (λ c. if_so c (can n)) e in
+    let rest : cans more_parts [] ≡ if_so (comes (cans parts []) from) (can n) ∷ cans parts [] = ap
+    (λ l. cans l []) q ∙ cans_push parts js [] ∙ ap (λ x. x ∷ cans parts []) own in
+    h ∙ ap (λ x. either x (can_by (cans more_parts []) more))
+    (g ∙ ap (λ x. either k0 (apart a x)) own)
+    ∙ ap (λ x. either (either k0 (apart a (if_so (comes (cans parts []) from) (can n))))
+    (can_by x more)) rest
     ∙ fun_ext (λ k. or_assoc (k0 k) _ _)
 
-pub test_step : (parts more_parts : List (List code.Kind)) (js : List code.Kind) (n : Node) (more : Rules) (k0 k1 k2 : Kind → Bool)
+pub test_step : (parts more_parts : List (List code.Kind)) (js : List code.Kind) (n : Node)
+    (more : Rules) (k0 k1 k2 : Kind → Bool)
     → among js ≡ can n → k1 ≡ either k0 (apart Next (among js)) → more_parts ≡ parts ++ js ∷ []
-    → k2 ≡ either k1 (can_by (cans more_parts []) more) → k2 ≡ either k0 (can_by (cans parts []) (Test n more))
+    → k2 ≡ either k1 (can_by (cans more_parts []) more) → k2 ≡ either k0
+    (can_by (cans parts []) (Test n more))
 unfolding can_by
 test_step parts more_parts js n more k0 k1 k2 f g q h =
-    let rest : cans more_parts [] ≡ (λ j. can n j) ∷ cans parts [] = ap (λ l. cans l []) q ∙ cans_push parts js [] ∙ ap (λ x. x ∷ cans parts []) f in
-    h ∙ ap (λ x. either x (can_by (cans more_parts []) more)) (g ∙ ap (λ x. either k0 (apart Next x)) f)
+    let rest : cans more_parts [] ≡ (λ j. can n j) ∷ cans parts [] = ap (λ l. cans l []) q
+    ∙ cans_push parts js [] ∙ ap (λ x. x ∷ cans parts []) f in
+    h ∙ ap (λ x. either x (can_by (cans more_parts []) more))
+    (g ∙ ap (λ x. either k0 (apart Next x)) f)
     ∙ ap (λ x. either (either k0 (apart Next (can n))) (can_by x more)) rest
     ∙ fun_ext (λ k. or_assoc (k0 k) _ _)
 
-pub leaves_step : (fs : List (Kind → Bool)) (from : From) (j : Kind) (more : Rules) (k0 k1 k2 : Kind → Bool) (b : Bool)
+pub leaves_step : (fs : List (Kind → Bool)) (from : From) (j : Kind) (more : Rules)
+    (k0 k1 k2 : Kind → Bool) (b : Bool)
     → b ≡ comes fs from → k1 ≡ either k0 (if_so b (same j))
     → k2 ≡ either k1 (can_by fs more) → k2 ≡ either k0 (can_by fs (Leaves from j more))
 unfolding can_by
 leaves_step fs from j more k0 k1 k2 b e g h =
-    h ∙ ap (λ x. either x (can_by fs more)) (g ∙ ap (λ c. either k0 (if_so c (same j))) e) ∙ fun_ext (λ k. or_assoc (k0 k) _ _)
+    h ∙ ap (λ x. either x (can_by fs more)) (g ∙ ap (λ c. either k0 (if_so c (same j))) e)
+    ∙ fun_ext (λ k. or_assoc (k0 k) _ _)
 
 pub done_step : (fs : List (Kind → Bool)) (k0 : Kind → Bool) → k0 ≡ either k0 (can_by fs Done)
 unfolding can_by
 done_step fs k0 = fun_ext (λ k. sym (or_false (k0 k)))
 
-pub heads_step : (fs : List (Kind → Bool)) (from : From) (more : Rules) → can_by fs (Heads from more) ≡ can_by fs more
+pub heads_step : (fs : List (Kind → Bool)) (from : From) (more : Rules)
+    → can_by fs (Heads from more) ≡ can_by fs more
 unfolding can_by
 heads_step fs from more = refl
 
-pub worths_step : (fs : List (Kind → Bool)) (v : Worth) (more : Rules) → can_by fs (Worths v more) ≡ can_by fs more
+pub worths_step : (fs : List (Kind → Bool)) (v : Worth) (more : Rules)
+    → can_by fs (Worths v more) ≡ can_by fs more
 unfolding can_by
 worths_step fs v more = refl
 
@@ -203,50 +251,195 @@ pub node_step : (p : ℕ) (r : Rules) → can (node p r) ≡ can_by [] r
 unfolding can
 node_step p r = refl
 
-pub part_made : (rs : tree.Rules) (o : Origin) (a : tree_absorber.Absorber) (b : Box tree_node.Node Global) (q : Box tree.Rules Global) (parts slice more_parts : List (List code.Kind)) (js xs : List code.Kind) (n : tree_node.Node) (m : tree.Rules) (k0 k1 k2 : Kind → Bool) (reached : Bool)
-    → rs ≡ rule.Part o a b q → slice ≡ parts → reached ≡ comes (cans slice []) (seen_origin o) → n ≡ b.value → among js ≡ if_so reached (can (seen_node n)) → xs ≡ js
-    → k1 ≡ either k0 (apart (seen_absorber a) (among xs)) → more_parts ≡ parts ++ js ∷ [] → m ≡ q.value → k2 ≡ either k1 (can_by (cans more_parts []) (seen_rules m))
+part_known : (rs : tree.Rules) (o : Origin) (a : tree_absorber.Absorber)
+    (b : Box tree_node.Node Global) (q : Box tree.Rules Global)
+    (parts slice more_parts : List (List code.Kind)) (js xs : List code.Kind) (n : tree_node.Node)
+    (m : tree.Rules) (k0 k1 k2 : Kind → Bool) (reached : Bool)
+    → rs ≡ rule.Part o a b q → slice ≡ parts → reached ≡ comes (cans slice []) (seen_origin o)
+    → n ≡ b.value → among js ≡ if_so reached (can (seen_node n)) → xs ≡ js
+    → k1 ≡ either k0 (apart (seen_absorber a) (among xs)) → more_parts ≡ parts ++ js ∷ []
+    → m ≡ q.value → k2 ≡ either k1 (can_by (cans more_parts []) (seen_rules m))
     → k2 ≡ either k0 (can_by (cans parts []) (seen_rules rs))
-part_made rs o a b q parts slice more_parts js xs n m k0 k1 k2 reached is s e d f x g p v h =
-    part_step parts more_parts js (seen_origin o) (seen_absorber a) (seen_node b.value) (seen_rules q.value) k0 k1 k2 reached
-    (e ∙ ap (λ l. comes (cans l []) (seen_origin o)) s) (f ∙ ap (λ y. if_so reached (can (seen_node y))) d)
-    (g ∙ ap (λ y. either k0 (apart (seen_absorber a) (among y))) x) p (h ∙ ap (λ y. either k1 (can_by (cans more_parts []) (seen_rules y))) v)
-    ∙ sym (ap (λ r. either k0 (can_by (cans parts []) (seen_rules r))) is ∙ ap (λ r. either k0 (can_by (cans parts []) r)) (seen_part o a b q))
+part_known rs o a b q parts slice more_parts js xs n m k0 k1 k2 reached is s e d f x g p v h =
+    part_step parts more_parts js (seen_origin o) (seen_absorber a) (seen_node b.value)
+    (seen_rules q.value) k0 k1 k2 reached
+    (e ∙ ap (λ l. comes (cans l []) (seen_origin o)) s) (f
+    ∙ ap (λ y. if_so reached (can (seen_node y))) d)
+    (g ∙ ap (λ y. either k0 (apart (seen_absorber a) (among y))) x) p
+    (h ∙ ap (λ y. either k1 (can_by (cans more_parts []) (seen_rules y))) v)
+    ∙ sym (ap (λ r. either k0 (can_by (cans parts []) (seen_rules r))) is
+    ∙ ap (λ r. either k0 (can_by (cans parts []) r)) (seen_part o a b q))
 
-pub test_made : (rs : tree.Rules) (b : Box tree_node.Node Global) (q : Box tree.Rules Global) (parts more_parts : List (List code.Kind)) (js xs : List code.Kind) (n : tree_node.Node) (m : tree.Rules) (k0 k1 k2 : Kind → Bool)
+test_known : (rs : tree.Rules) (b : Box tree_node.Node Global) (q : Box tree.Rules Global)
+    (parts more_parts : List (List code.Kind)) (js xs : List code.Kind) (n : tree_node.Node)
+    (m : tree.Rules) (k0 k1 k2 : Kind → Bool)
     → rs ≡ rule.Test b q → n ≡ b.value → among js ≡ can (seen_node n) → xs ≡ js
-    → k1 ≡ either k0 (apart Next (among xs)) → more_parts ≡ parts ++ js ∷ [] → m ≡ q.value → k2 ≡ either k1 (can_by (cans more_parts []) (seen_rules m))
+    → k1 ≡ either k0 (apart Next (among xs)) → more_parts ≡ parts ++ js ∷ [] → m ≡ q.value
+    → k2 ≡ either k1 (can_by (cans more_parts []) (seen_rules m))
     → k2 ≡ either k0 (can_by (cans parts []) (seen_rules rs))
-test_made rs b q parts more_parts js xs n m k0 k1 k2 is d f x g p v h =
+test_known rs b q parts more_parts js xs n m k0 k1 k2 is d f x g p v h =
     test_step parts more_parts js (seen_node b.value) (seen_rules q.value) k0 k1 k2
-    (f ∙ ap (λ y. can (seen_node y)) d) (g ∙ ap (λ y. either k0 (apart Next (among y))) x) p (h ∙ ap (λ y. either k1 (can_by (cans more_parts []) (seen_rules y))) v)
-    ∙ sym (ap (λ r. either k0 (can_by (cans parts []) (seen_rules r))) is ∙ ap (λ r. either k0 (can_by (cans parts []) r)) (seen_test b q))
+    (f ∙ ap (λ y. can (seen_node y)) d) (g ∙ ap (λ y. either k0 (apart Next (among y))) x) p
+    (h ∙ ap (λ y. either k1 (can_by (cans more_parts []) (seen_rules y))) v)
+    ∙ sym (ap (λ r. either k0 (can_by (cans parts []) (seen_rules r))) is
+    ∙ ap (λ r. either k0 (can_by (cans parts []) r)) (seen_test b q))
 
-pub leaves_made : (rs : tree.Rules) (o : Origin) (j : code.Kind) (q : Box tree.Rules Global) (parts slice : List (List code.Kind)) (m : tree.Rules) (k0 k1 k2 : Kind → Bool) (reached : Bool)
+pub leaves_made : (rs : tree.Rules) (o : Origin) (j : code.Kind) (q : Box tree.Rules Global)
+    (parts slice : List (List code.Kind)) (m : tree.Rules) (k0 k1 k2 : Kind → Bool) (reached : Bool)
     → rs ≡ rule.Leaves o j q → slice ≡ parts → reached ≡ comes (cans slice []) (seen_origin o)
-    → k1 ≡ either k0 (if_so reached (same (seen_kind j))) → m ≡ q.value → k2 ≡ either k1 (can_by (cans parts []) (seen_rules m))
+    → k1 ≡ either k0 (if_so reached (same (seen_kind j))) → m ≡ q.value
+    → k2 ≡ either k1 (can_by (cans parts []) (seen_rules m))
     → k2 ≡ either k0 (can_by (cans parts []) (seen_rules rs))
 leaves_made rs o j q parts slice m k0 k1 k2 reached is s e g v h =
     leaves_step (cans parts []) (seen_origin o) (seen_kind j) (seen_rules q.value) k0 k1 k2 reached
-    (e ∙ ap (λ l. comes (cans l []) (seen_origin o)) s) g (h ∙ ap (λ y. either k1 (can_by (cans parts []) (seen_rules y))) v)
-    ∙ sym (ap (λ r. either k0 (can_by (cans parts []) (seen_rules r))) is ∙ ap (λ r. either k0 (can_by (cans parts []) r)) (seen_leaves o j q))
+    (e ∙ ap (λ l. comes (cans l []) (seen_origin o)) s) g
+    (h ∙ ap (λ y. either k1 (can_by (cans parts []) (seen_rules y))) v)
+    ∙ sym (ap (λ r. either k0 (can_by (cans parts []) (seen_rules r))) is
+    ∙ ap (λ r. either k0 (can_by (cans parts []) r)) (seen_leaves o j q))
 
-pub done_made : (rs : tree.Rules) (fs : List (Kind → Bool)) (k0 : Kind → Bool) → rs ≡ rule.Done → k0 ≡ either k0 (can_by fs (seen_rules rs))
-done_made rs fs k0 is = done_step fs k0 ∙ sym (ap (λ r. either k0 (can_by fs (seen_rules r))) is ∙ ap (λ r. either k0 (can_by fs r)) seen_done)
+pub done_made : (rs : tree.Rules) (fs : List (Kind → Bool)) (k0 : Kind → Bool) → rs ≡ rule.Done
+    → k0 ≡ either k0 (can_by fs (seen_rules rs))
+done_made rs fs k0 is =
+    done_step fs k0 ∙ sym (ap (λ r. either k0 (can_by fs (seen_rules r))) is
+    ∙ ap (λ r. either k0 (can_by fs r)) seen_done)
 
-pub heads_made : (rs : tree.Rules) (o : Origin) (q : Box tree.Rules Global) (fs : List (Kind → Bool)) (m : tree.Rules) (k0 k2 : Kind → Bool)
-    → rs ≡ rule.Heads o q → m ≡ q.value → k2 ≡ either k0 (can_by fs (seen_rules m)) → k2 ≡ either k0 (can_by fs (seen_rules rs))
+pub heads_made : (rs : tree.Rules) (o : Origin) (q : Box tree.Rules Global)
+    (fs : List (Kind → Bool)) (m : tree.Rules) (k0 k2 : Kind → Bool)
+    → rs ≡ rule.Heads o q → m ≡ q.value → k2 ≡ either k0 (can_by fs (seen_rules m))
+    → k2 ≡ either k0 (can_by fs (seen_rules rs))
 heads_made rs o q fs m k0 k2 is v h =
     h ∙ ap (λ y. either k0 (can_by fs (seen_rules y))) v
-    ∙ sym (ap (λ r. either k0 (can_by fs (seen_rules r))) is ∙ ap (λ r. either k0 (can_by fs r)) (seen_heads o q) ∙ ap (either k0) (heads_step fs (seen_origin o) (seen_rules q.value)))
+    ∙ sym (ap (λ r. either k0 (can_by fs (seen_rules r))) is
+    ∙ ap (λ r. either k0 (can_by fs r)) (seen_heads o q)
+    ∙ ap (either k0) (heads_step fs (seen_origin o) (seen_rules q.value)))
 
-pub worths_made : (rs : tree.Rules) (w : tree_worth.Worth) (q : Box tree.Rules Global) (fs : List (Kind → Bool)) (m : tree.Rules) (k0 k2 : Kind → Bool)
-    → rs ≡ rule.Worths w q → m ≡ q.value → k2 ≡ either k0 (can_by fs (seen_rules m)) → k2 ≡ either k0 (can_by fs (seen_rules rs))
+pub worths_made : (rs : tree.Rules) (w : tree_worth.Worth) (q : Box tree.Rules Global)
+    (fs : List (Kind → Bool)) (m : tree.Rules) (k0 k2 : Kind → Bool)
+    → rs ≡ rule.Worths w q → m ≡ q.value → k2 ≡ either k0 (can_by fs (seen_rules m))
+    → k2 ≡ either k0 (can_by fs (seen_rules rs))
 worths_made rs w q fs m k0 k2 is v h =
     h ∙ ap (λ y. either k0 (can_by fs (seen_rules y))) v
-    ∙ sym (ap (λ r. either k0 (can_by fs (seen_rules r))) is ∙ ap (λ r. either k0 (can_by fs r)) (seen_worths w q) ∙ ap (either k0) (worths_step fs (seen_worth w) (seen_rules q.value)))
+    ∙ sym (ap (λ r. either k0 (can_by fs (seen_rules r))) is
+    ∙ ap (λ r. either k0 (can_by fs r)) (seen_worths w q)
+    ∙ ap (either k0) (worths_step fs (seen_worth w) (seen_rules q.value)))
 
-pub node_made : (n : tree_node.Node) (ks ks0 : List code.Kind) (parts : List (List code.Kind)) → ks0 ≡ [] → parts ≡ [] → among ks ≡ either (among ks0) (can_by (cans parts []) (seen_rules n.rules)) → among ks ≡ can (seen_node n)
-node_made n ks ks0 parts f g e =
-    e ∙ ap (λ l. either (among l) (can_by (cans parts []) (seen_rules n.rules))) f ∙ ap (λ l. either (among []) (can_by (cans l []) (seen_rules n.rules))) g
-    ∙ sym (node_step n.point (seen_rules n.rules))
+-- from no completions and no parts on
+pub rules_made : (r : Rules) (ks ks0 : List code.Kind) (parts : List (List code.Kind)) → ks0 ≡ []
+    → parts ≡ []
+    → among ks ≡ either (among ks0) (can_by (cans parts []) r) → among ks ≡ can_by [] r
+rules_made r ks ks0 parts f g e =
+    e ∙ ap (λ l. either (among l) (can_by (cans parts []) r)) f
+    ∙ ap (λ l. either (among []) (can_by (cans l []) r)) g
+
+-- one that is there already
+pub held : (j : Kind) (f : Kind → Bool) → f j ≡ true → f ≡ either f (same j)
+held j f e = fun_ext (λ k. by_case k (same j k) refl) where
+  by_case : (k : Kind) (b : Bool) → same j k ≡ b → f k ≡ (f k || same j k)
+  by_case k true h =
+      let g : f k ≡ true = ap f (sym (same_true j k h)) ∙ e in g ∙ sym (ap (λ b. b || same j k) g)
+  by_case k false h = sym (ap (λ b. f k || b) h ∙ or_false (f k))
+
+-- the completions of the next part are the last ones
+pub popped : (old new : List (List code.Kind)) (js : List code.Kind) (f : Kind → Bool)
+    (fs : List (Kind → Bool))
+    → old ≡ new ++ js ∷ [] → cans old [] ≡ f ∷ fs → (among js ≡ f) × (cans new [] ≡ fs)
+popped old new js f fs g h =
+    let e : among js ∷ cans new [] ≡ f ∷ fs = sym (ap (λ l. cans l []) g ∙ cans_push new js [])
+    ∙ h in (cc, cc)
+
+pub not_popped : (old : List (List code.Kind)) (f : Kind → Bool) (fs : List (Kind → Bool))
+    → length old ≡ 0 → cans old [] ≡ f ∷ fs → ⊥
+not_popped [] f fs e h = cc
+not_popped (x ∷ xs) f fs e h = omega (arith, e)
+
+pub done_told : (cs : List (List code.Kind)) → cs ≡ [] → cans cs [] ≡ parts_can
+    (seen_rules rule.Done)
+done_told cs e = ap (λ l. cans l []) e ∙ sym (ap parts_can seen_done)
+
+-- a part's completions in front of those behind it
+pub part_told : (o : Origin) (a : tree_absorber.Absorber) (b : Box tree_node.Node Global)
+    (q : Box tree.Rules Global) (old new : List (List code.Kind)) (js : List code.Kind)
+    (n : tree_node.Node) (m : tree.Rules)
+    → cans old [] ≡ parts_can (seen_rules m) → among js ≡ can (seen_node n) → new ≡ old ++ js ∷ []
+    → b.value ≡ n → q.value ≡ m
+    → cans new [] ≡ parts_can (seen_rules (rule.Part o a b q))
+part_told o a b q old new js n m h k g d v =
+    ap (λ l. cans l []) g ∙ cans_push old js [] ∙ ap (λ f. f ∷ cans old [])
+    (k ∙ sym (ap (λ y. can (seen_node y)) d))
+    ∙ ap (λ fs. can (seen_node b.value) ∷ fs) (h ∙ sym (ap (λ y. parts_can (seen_rules y)) v))
+    ∙ sym (ap parts_can (seen_part o a b q))
+
+pub test_told : (b : Box tree_node.Node Global) (q : Box tree.Rules Global)
+    (old new : List (List code.Kind)) (js : List code.Kind) (n : tree_node.Node) (m : tree.Rules)
+    → cans old [] ≡ parts_can (seen_rules m) → among js ≡ can (seen_node n) → new ≡ old ++ js ∷ []
+    → b.value ≡ n → q.value ≡ m
+    → cans new [] ≡ parts_can (seen_rules (rule.Test b q))
+test_told b q old new js n m h k g d v =
+    ap (λ l. cans l []) g ∙ cans_push old js [] ∙ ap (λ f. f ∷ cans old [])
+    (k ∙ sym (ap (λ y. can (seen_node y)) d))
+    ∙ ap (λ fs. can (seen_node b.value) ∷ fs) (h ∙ sym (ap (λ y. parts_can (seen_rules y)) v))
+    ∙ sym (ap parts_can (seen_test b q))
+
+-- the parts behind a rule that has none
+pub leaves_told : (rs : tree.Rules) (o : Origin) (j : code.Kind) (q : Box tree.Rules Global)
+    (m : tree.Rules) → rs ≡ rule.Leaves o j q → m ≡ q.value
+    → parts_can (seen_rules rs) ≡ parts_can (seen_rules m)
+leaves_told rs o j q m is v =
+    ap (λ r. parts_can (seen_rules r)) is ∙ ap parts_can (seen_leaves o j q)
+    ∙ sym (ap (λ y. parts_can (seen_rules y)) v)
+
+pub heads_told : (rs : tree.Rules) (o : Origin) (q : Box tree.Rules Global) (m : tree.Rules)
+    → rs ≡ rule.Heads o q → m ≡ q.value → parts_can (seen_rules rs) ≡ parts_can (seen_rules m)
+heads_told rs o q m is v =
+    ap (λ r. parts_can (seen_rules r)) is ∙ ap parts_can (seen_heads o q)
+    ∙ sym (ap (λ y. parts_can (seen_rules y)) v)
+
+pub worths_told : (rs : tree.Rules) (w : tree_worth.Worth) (q : Box tree.Rules Global)
+    (m : tree.Rules) → rs ≡ rule.Worths w q → m ≡ q.value
+    → parts_can (seen_rules rs) ≡ parts_can (seen_rules m)
+worths_told rs w q m is v =
+    ap (λ r. parts_can (seen_rules r)) is ∙ ap parts_can (seen_worths w q)
+    ∙ sym (ap (λ y. parts_can (seen_rules y)) v)
+
+pub part_made : (rs : tree.Rules) (o : Origin) (a : tree_absorber.Absorber)
+    (b : Box tree_node.Node Global) (q : Box tree.Rules Global)
+    (found rest parts slice more_parts : List (List code.Kind)) (js xs : List code.Kind)
+    (m : tree.Rules) (k0 k1 k2 : Kind → Bool) (reached : Bool)
+    → rs ≡ rule.Part o a b q → slice ≡ parts → reached ≡ comes (cans slice []) (seen_origin o)
+    → ((f : Kind → Bool) (fs : List (Kind → Bool)) → cans found [] ≡ f ∷ fs
+    → among js ≡ if_so reached f)
+    → ((f : Kind → Bool) (fs : List (Kind → Bool)) → cans found [] ≡ f ∷ fs → cans rest [] ≡ fs)
+    → xs ≡ js → k1 ≡ either k0 (apart (seen_absorber a) (among xs)) → more_parts ≡ parts ++ js ∷ []
+    → m ≡ q.value
+    → (cans rest [] ≡ parts_can (seen_rules m) → k2 ≡ either k1
+    (can_by (cans more_parts []) (seen_rules m)))
+    → cans found [] ≡ parts_can (seen_rules rs) → k2 ≡ either k0
+    (can_by (cans parts []) (seen_rules rs))
+part_made rs o a b q found rest parts slice more_parts js xs m k0 k1 k2 reached is s e told left x
+    g p v more h =
+    let e0 : cans found [] ≡ can (seen_node b.value) ∷ parts_can (seen_rules q.value) = h
+    ∙ ap (λ r. parts_can (seen_rules r)) is ∙ ap parts_can (seen_part o a b q) in
+    let r : cans rest [] ≡ parts_can (seen_rules m) = left _ _ e0
+    ∙ sym (ap (λ y. parts_can (seen_rules y)) v) in
+    part_known rs o a b q parts slice more_parts js xs b.value m k0 k1 k2 reached is s e refl
+    (told _ _ e0) x g p v (more r)
+
+pub test_made : (rs : tree.Rules) (b : Box tree_node.Node Global) (q : Box tree.Rules Global)
+    (found rest parts more_parts : List (List code.Kind)) (js xs : List code.Kind) (m : tree.Rules)
+    (k0 k1 k2 : Kind → Bool)
+    → rs ≡ rule.Test b q
+    → ((f : Kind → Bool) (fs : List (Kind → Bool)) → cans found [] ≡ f ∷ fs
+    → among js ≡ if_so true f)
+    → ((f : Kind → Bool) (fs : List (Kind → Bool)) → cans found [] ≡ f ∷ fs → cans rest [] ≡ fs)
+    → xs ≡ js → k1 ≡ either k0 (apart Next (among xs)) → more_parts ≡ parts ++ js ∷ [] → m ≡ q.value
+    → (cans rest [] ≡ parts_can (seen_rules m) → k2 ≡ either k1
+    (can_by (cans more_parts []) (seen_rules m)))
+    → cans found [] ≡ parts_can (seen_rules rs) → k2 ≡ either k0
+    (can_by (cans parts []) (seen_rules rs))
+test_made rs b q found rest parts more_parts js xs m k0 k1 k2 is told left x g p v more h =
+    let e0 : cans found [] ≡ can (seen_node b.value) ∷ parts_can (seen_rules q.value) = h
+    ∙ ap (λ r. parts_can (seen_rules r)) is ∙ ap parts_can (seen_test b q) in
+    let r : cans rest [] ≡ parts_can (seen_rules m) = left _ _ e0
+    ∙ sym (ap (λ y. parts_can (seen_rules y)) v) in
+    test_known rs b q parts more_parts js xs b.value m k0 k1 k2 is refl (told _ _ e0) x g p v
+    (more r)

@@ -1,3 +1,5 @@
 pub mod Forms
 pub mod Rows
 pub mod Completing
+pub mod Branches
+pub mod Statements

@@ -1,5 +1,5 @@
 -- Lists, from behind.
-use Rattle.std.proofs.Common.{◌≡◌, ℕ, zero, suc, ◌+◌, ◌-◌, ◌<◌, ◌≤◌, List, [], ◌∷◌, length, get_or, drop, refl, sym, subst, ap, ◌∙◌, arith, add-one}
+use Rattle.std.proofs.Common.{◌≡◌, ℕ, zero, suc, ◌-◌, ◌<◌, ◌≤◌, List, [], ◌∷◌, length, get_or, drop, refl, sym, subst, ap, ◌∙◌, arith}
 use Rattle.par_typed.specs.Plain as typed
 use Rattle.par_typed.specs.Plain.{Mark, MayTExp, TExps}
 use Rattle.par_typed.specs.declared.table.ThrowInfo.{ThrowInfo}
@@ -10,25 +10,29 @@ use Rattle.std.specs.Prelude.{Option}
 use Rattle.par_typed.specs.declared.expr.TExprKind.{TExprKind}
 use Rattle.par_typed.specs.declared.expr.TExprKind.TheVariants as expr
 use Rattle.par_typed.specs.Shown.{shown, all_shown, kind_at, receiver}
-use Rattle.par_typed.proofs.Shown.{shown_call}
+use Rattle.par_typed.proofs.Shown.{shown_int, shown_bool, shown_null, shown_this, shown_new, shown_local, shown_static, shown_field, shown_input, shown_output, shown_call, shown_neg, shown_not, shown_binary}
 use Rattle.par_rules.specs.Kinds.{Next, Throw}
 use Rattle.par_rules.specs.Declares.{Declares, Method, throws_of}
 use Rattle.par_rules.specs.Rules.{From, Raised, Shut, Node, Rules, Part, Leaves, node}
 use Rattle.par_rules.specs.Body.{past, thrown, exp, args, args_past, args_count}
 use Rattle.par_nodes.specs.Starts.{start_at, call_start, call_does, behind}
 
-ahead : {A : Type 0} (xs : List A) (i : ℕ) (d : A) → i < length xs → drop i xs ≡ get_or xs i d ∷ drop (suc i) xs
+ahead : {A : Type 0} (xs : List A) (i : ℕ) (d : A) → i < length xs
+    → drop i xs ≡ get_or xs i d ∷ drop (suc i) xs
 ahead [] i d h = absurd (omega (arith, h))
 ahead (y ∷ xs) zero d h = refl
 ahead (y ∷ xs) (suc i) d h = ahead xs i d (omega (arith, h))
 
 -- what is left from the place before
-pub drop_or : {A : Type 0} (xs : List A) (p : ℕ) (d : A) → 0 < p → p ≤ length xs → drop (p - 1) xs ≡ get_or xs (p - 1) d ∷ drop p xs
+pub drop_or : {A : Type 0} (xs : List A) (p : ℕ) (d : A) → 0 < p → p ≤ length xs
+    → drop (p - 1) xs ≡ get_or xs (p - 1) d ∷ drop p xs
 drop_or xs p d g h =
     let f : suc (p - 1) ≡ p = omega (arith, g) in
-    subst (λ n. drop (p - 1) xs ≡ get_or xs (p - 1) d ∷ drop n xs) f (ahead xs (p - 1) d (omega (arith, g, h)))
+    subst (λ n. drop (p - 1) xs ≡ get_or xs (p - 1) d ∷ drop n xs) f
+    (ahead xs (p - 1) d (omega (arith, g, h)))
 
-pub drop_at : {A : Type 0} (xs : List A) (p : ℕ) (x : A) → 0 < p → p ≤ length xs → x ≡ get_or xs (p - 1) x → drop (p - 1) xs ≡ x ∷ drop p xs
+pub drop_at : {A : Type 0} (xs : List A) (p : ℕ) (x : A) → 0 < p → p ≤ length xs
+    → x ≡ get_or xs (p - 1) x → drop (p - 1) xs ≡ x ∷ drop p xs
 drop_at xs p x g h e = drop_or xs p x g h ∙ ap (λ z. z ∷ drop p xs) (sym e)
 
 pub drop_zero : {A : Type 0} (xs : List A) (p : ℕ) → p ≤ 0 → drop p xs ≡ xs
@@ -40,24 +44,32 @@ start_past zero from h = absurd (omega (arith, h))
 start_past (suc p) from h = refl
 
 -- what is thrown from a place on
-pub thrown_at : (d : Declares) (m : Method) (from : From) (ts : List ThrowInfo) (p : ℕ) (t : ThrowInfo) (more : Rules) → 0 < p → p ≤ length ts
+pub thrown_at : (d : Declares) (m : Method) (from : From) (ts : List ThrowInfo) (p : ℕ)
+    (t : ThrowInfo) (more : Rules) → 0 < p → p ≤ length ts
     → thrown d m from (throws_of (drop (p - 1) ts)) more
-    ≡ Leaves (Shut m.closes (Raised (get_or ts (p - 1) t).policy from)) (Throw (get_or ts (p - 1) t).class) (thrown d m from (throws_of (drop p ts)) more)
-thrown_at d m from ts p t more g h = ap (λ l. thrown d m from (throws_of l) more) (drop_or ts p t g h)
+    ≡ Leaves (Shut m.closes (Raised (get_or ts (p - 1) t).policy from))
+    (Throw (get_or ts (p - 1) t).class) (thrown d m from (throws_of (drop p ts)) more)
+thrown_at d m from ts p t more g h =
+    ap (λ l. thrown d m from (throws_of l) more) (drop_or ts p t g h)
 
 -- the arguments from a place on
-pub args_at : (d : Declares) (from : From) (es : List TExpr) (p : ℕ) (e : TExpr) (more : Rules) → 0 < p → p ≤ length es → e ≡ get_or es (p - 1) e
-    → args d (start_at (p - 1) from) (all_shown (drop (p - 1) es)) more ≡ Part (start_at (p - 1) from) Next (exp d (shown e)) (args d (start_at p from) (all_shown (drop p es)) more)
+pub args_at : (d : Declares) (from : From) (es : List TExpr) (p : ℕ) (e : TExpr) (more : Rules)
+    → 0 < p → p ≤ length es → e ≡ get_or es (p - 1) e
+    → args d (start_at (p - 1) from) (all_shown (drop (p - 1) es)) more ≡ Part
+    (start_at (p - 1) from) Next (exp d (shown e)) (args d (start_at p from)
+    (all_shown (drop p es)) more)
 unfolding args
 args_at d from es p e more g h q =
     ap (λ l. args d (start_at (p - 1) from) (all_shown l) more) (drop_at es p e g h q)
-    ∙ ap (λ f. Part (start_at (p - 1) from) Next (exp d (shown e)) (args d f (all_shown (drop p es)) more)) (sym (start_past p from g))
+    ∙ ap (λ f. Part (start_at (p - 1) from) Next (exp d (shown e))
+    (args d f (all_shown (drop p es)) more)) (sym (start_past p from g))
 
 pub drop_all : {A : Type 0} (xs : List A) → drop (length xs) xs ≡ []
 drop_all [] = refl
 drop_all (x ∷ xs) = drop_all xs
 
-pub args_none : (d : Declares) (from : From) (es : List TExpr) (more : Rules) → args d from (all_shown (drop (length es) es)) more ≡ more
+pub args_none : (d : Declares) (from : From) (es : List TExpr) (more : Rules)
+    → args d from (all_shown (drop (length es) es)) more ≡ more
 unfolding args
 args_none d from es more = ap (λ l. args d from (all_shown l) more) (drop_all es)
 
@@ -65,28 +77,40 @@ pub count_is : (es : List TExpr) → args_count (all_shown es) ≡ length es
 count_is [] = refl
 count_is (e ∷ es) = ap suc (count_is es)
 
-pub past_is : (es : List TExpr) (from : From) → args_past from (all_shown es) ≡ start_at (length es) from
+pub past_is : (es : List TExpr) (from : From) → args_past from (all_shown es) ≡ start_at
+    (length es) from
 past_is [] from = refl
 past_is (e ∷ es) from = refl
 
 -- a call, taken apart
 pub call_is : (d : Declares) (c k : ℕ) (o : MayTExp) (es : TExps) (m : Mark)
-    → exp d (typed.Call c k o es m) ≡ node m.point (behind d o (args d (call_start o) es (call_does d (d.method c k) o es)))
+    → exp d (typed.Call c k o es m) ≡ node m.point (behind d o
+    (args d (call_start o) es (call_does d (d.method c k) o es)))
 unfolding exp
 call_is d c k typed.Absent es m = refl
 call_is d c k (typed.Present e) es m = refl
 
-pub args_next : (d : Declares) (from : From) (es : List TExpr) (p : ℕ) (e : TExpr) (more r m : Rules) (f : From) (n : Node) → 0 < p → p ≤ length es → e ≡ get_or es (p - 1) e
-    → r ≡ Part f Next n m → f ≡ start_at (p - 1) from → n ≡ exp d (shown e) → m ≡ args d (start_at p from) (all_shown (drop p es)) more
+pub ruleset shows = (call_is, shown_int, shown_bool, shown_null, shown_this, shown_new, shown_local, shown_static, shown_field, shown_input, shown_output, shown_call, shown_neg, shown_not, shown_binary)
+
+pub args_next : (d : Declares) (from : From) (es : List TExpr) (p : ℕ) (e : TExpr)
+    (more r m : Rules) (f : From) (n : Node) → 0 < p → p ≤ length es → e ≡ get_or es (p - 1) e
+    → r ≡ Part f Next n m → f ≡ start_at (p - 1) from → n ≡ exp d (shown e)
+    → m ≡ args d (start_at p from) (all_shown (drop p es)) more
     → r ≡ args d (start_at (p - 1) from) (all_shown (drop (p - 1) es)) more
 args_next d from es p e more r m f n g h q a b x y =
     a ∙ ap (λ k. Part k Next n m) b ∙ ap (λ k. Part (start_at (p - 1) from) Next k m) x
-    ∙ ap (Part (start_at (p - 1) from) Next (exp d (shown e))) y ∙ sym (args_at d from es p e more g h q)
+    ∙ ap (Part (start_at (p - 1) from) Next (exp d (shown e))) y
+    ∙ sym (args_at d from es p e more g h q)
 
-pub call_made : (d : Declares) (k : TExprKind) (m : Mark) (c i : ℕ) (o : Option (Box TExpr Global)) (es xs : List TExpr) (r a s : Rules) (f : From) → k ≡ expr.Call c i o es → xs ≡ es
-    → r ≡ behind d (receiver o) a → a ≡ args d f (all_shown xs) s → f ≡ call_start (receiver o) → s ≡ call_does d (d.method c i) (receiver o) (all_shown xs)
+pub call_made : (d : Declares) (k : TExprKind) (m : Mark) (c i : ℕ) (o : Option (Box TExpr Global))
+    (es xs : List TExpr) (r a s : Rules) (f : From) → k ≡ expr.Call c i o es → xs ≡ es
+    → r ≡ behind d (receiver o) a → a ≡ args d f (all_shown xs) s → f ≡ call_start (receiver o)
+    → s ≡ call_does d (d.method c i) (receiver o) (all_shown xs)
     → node m.point r ≡ exp d (kind_at k m)
 call_made d k m c i o es xs r a s f e x u v w y =
-    ap (node m.point) (u ∙ ap (behind d (receiver o)) (v ∙ ap (λ g. args d g (all_shown xs) s) w ∙ ap (args d (call_start (receiver o)) (all_shown xs)) y
-    ∙ ap (λ l. args d (call_start (receiver o)) (all_shown l) (call_does d (d.method c i) (receiver o) (all_shown l))) x))
-    ∙ sym (ap (exp d) (ap (λ j. kind_at j m) e ∙ shown_call c i o es m) ∙ call_is d c i (receiver o) (all_shown es) m)
+    ap (node m.point) (u ∙ ap (behind d (receiver o)) (v ∙ ap (λ g. args d g (all_shown xs) s) w
+    ∙ ap (args d (call_start (receiver o)) (all_shown xs)) y
+    ∙ ap (λ l. args d (call_start (receiver o)) (all_shown l)
+    (call_does d (d.method c i) (receiver o) (all_shown l))) x))
+    ∙ sym (ap (exp d) (ap (λ j. kind_at j m) e ∙ shown_call c i o es m)
+    ∙ call_is d c i (receiver o) (all_shown es) m)

@@ -1,6 +1,7 @@
 -- Completions in lists.
 use Rattle.std.specs.Prelude.{Bool, false, ◌||◌, ◌&&◌, not, List, [], ◌∷◌}
 use Rattle.par_rules.specs.Kinds.{Kind, same, Absorber, absorbed}
+use Rattle.par_rules.specs.Rules.{Rules, Done, Part, Test, Heads, Leaves, Worths, can}
 use Rattle.par_nodes.specs.declared.rule.Kind as code
 use Rattle.par_nodes.specs.Seen.{seen_kind}
 
@@ -25,3 +26,12 @@ apart a f k = f k && not (absorbed a k)
 abbrev pub cans : List (List code.Kind) → List (Kind → Bool) → List (Kind → Bool)
 cans [] fs = fs
 cans (js ∷ parts) fs = cans parts (among js ∷ fs)
+
+-- the completions of the parts of rules, in their order
+abbrev pub parts_can : Rules → List (Kind → Bool)
+parts_can Done = []
+parts_can (Part from absorber part more) = can part ∷ parts_can more
+parts_can (Test part more) = can part ∷ parts_can more
+parts_can (Heads from more) = parts_can more
+parts_can (Leaves from kind more) = parts_can more
+parts_can (Worths worth more) = parts_can more

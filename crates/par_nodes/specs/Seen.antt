@@ -1,8 +1,7 @@
 -- What the tree of nodes and rules means.
 use Rattle.std.specs.Prelude.{ℕ, Option, Some, None}
-use Rattle.std.specs.Borrow.{Bor}
 use Rattle.par_policy.specs.Numbers.{has}
-use Rattle.par_bits.specs.Sets.{Set, none, adding}
+use Rattle.par_bits.specs.Sets.{none, adding}
 use Rattle.par_rules.specs.Kinds as kinds
 use Rattle.par_rules.specs.Rules as plain
 use Rattle.par_nodes.specs.declared.rule.Kind as code_kind
@@ -57,7 +56,8 @@ opened (locks.All set) from = plain.Opened (has set.now) from
 
 abbrev pub seen_origin : Origin → plain.From
 seen_origin o =
-    opened o.opened (shut o.shut (raised o.raised (tested o.tested (assigned o.assigned (seen_start o.start)))))
+    opened o.opened (shut o.shut (raised o.raised (tested o.tested
+    (assigned o.assigned (seen_start o.start)))))
 
 abbrev pub seen_worth : code_worth.Worth → plain.Worth
 seen_worth (worth.Given policy) = plain.Given policy
@@ -72,8 +72,10 @@ seen_absorber (absorber.Catches classes) = kinds.Catches classes
 unfoldable pub seen_rules : code.Rules → plain.Rules
 seen_rules rule.Done = plain.Done
 seen_rules (code.Part' o a p point rules q more) =
-    plain.Part (seen_origin o) (seen_absorber a) (plain.node point (seen_rules rules)) (seen_rules more)
-seen_rules (code.Test' p point rules q more) = plain.Test (plain.node point (seen_rules rules)) (seen_rules more)
+    plain.Part (seen_origin o) (seen_absorber a) (plain.node point (seen_rules rules))
+    (seen_rules more)
+seen_rules (code.Test' p point rules q more) =
+    plain.Test (plain.node point (seen_rules rules)) (seen_rules more)
 seen_rules (code.Heads' o p more) = plain.Heads (seen_origin o) (seen_rules more)
 seen_rules (code.Leaves' o k p more) = plain.Leaves (seen_origin o) (seen_kind k) (seen_rules more)
 seen_rules (code.Worths' v p more) = plain.Worths (seen_worth v) (seen_rules more)

@@ -1,10 +1,11 @@
 -- Parts in a row, and the parts of a call.
-use Rattle.std.specs.Prelude.{ℕ, zero, suc}
+use Rattle.std.specs.Prelude.{ℕ, zero, suc, cond}
 use Rattle.par_typed.specs.Plain.{MayTExp, Absent, Present, TExps, MayTSta, NoElse, Otherwise}
 use Rattle.par_rules.specs.Kinds as kinds
 use Rattle.par_rules.specs.Kinds.{Next}
 use Rattle.par_rules.specs.Declares.{Declares, Method}
-use Rattle.par_rules.specs.Rules.{From, Entry, Value, Rules, Done, Part, Leaves, Worths, goes_on}
+use Rattle.par_rules.specs.Rules.{From, Entry, After, Value}
+use Rattle.par_rules.specs.Rules.{Node, Rules, Done, Part, Leaves, Worths, goes_on, can}
 use Rattle.par_rules.specs.Body.{past, null_test, called, exp, args_past, args_count, args_tested}
 use Rattle.par_rules.specs.Body.{sta}
 
@@ -44,3 +45,8 @@ goes_first (Otherwise t) from more = more
 abbrev pub else_rules : Declares → MayTSta → From → Rules
 else_rules d NoElse from = Done
 else_rules d (Otherwise t) from = Part from Next (sta d t) (goes_on past Done)
+
+-- from where a catch of the class is entered, behind as many others
+abbrev pub catch_start : Node → ℕ → ℕ → From
+catch_start block class before =
+    cond (can block (kinds.Throw class)) (After before (kinds.Throw class)) Entry

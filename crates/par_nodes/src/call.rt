@@ -8,7 +8,8 @@ ghost use Rattle.par_rules.specs.Rules as plain;
 ghost use Rattle.par_rules.specs.Body.{called, thrown};
 ghost use Rattle.par_nodes.specs.Seen.{seen_origin, seen_rules, seen_start, tested};
 
-use crate::rule::{Kind, Locks, Origin, Rules, Start, Worth};
+use crate::draft::Draft;
+use crate::rule::{Kind, Locks, Origin, Start, Worth};
 use crate::{declared, make};
 use par_lexer::list::NoMemory;
 use par_policy::Lockset;
@@ -57,12 +58,12 @@ fn thrown_by<'a>(
     stand: Stand,
     closes: &'a Lockset,
     throw: &ThrowInfo,
-    more: Rules<'a>,
-) -> Result<Rules<'a>, NoMemory>
-    ensures { IfOk result (λ r. seen_rules r ≡ plain.Leaves
+    more: Draft<'a>,
+) -> Result<Draft<'a>, NoMemory>
+    ensures { IfOk result (λ r. seen_rules r.rules ≡ plain.Leaves
         (plain.Shut (has closes.now) (plain.Raised throw.now.policy
         (tested stand.receiver (seen_start stand.start))))
-        (kinds.Throw throw.now.class) (seen_rules more.entry)) }
+        (kinds.Throw throw.now.class) (seen_rules more.entry.rules)) }
 {
     let from = stand.origin(Some(throw.policy), Locks::All(closes), Locks::Kept);
     let rules = make::leaves(alloc, from, Kind::Throw(throw.class), more)?;
@@ -75,12 +76,12 @@ fn thrown<'a>(
     table: &Table,
     stand: Stand,
     method: &'a MethodInfo,
-    more: Rules<'a>,
-) -> Result<Rules<'a>, NoMemory>
-    ensures { IfOk result (λ r. seen_rules r
+    more: Draft<'a>,
+) -> Result<Draft<'a>, NoMemory>
+    ensures { IfOk result (λ r. seen_rules r.rules
         ≡ thrown (declares table.now) (method_of (Some method.now))
         (tested stand.receiver (seen_start stand.start))
-        (throws_of method.now.throws) (seen_rules more.entry)) }
+        (throws_of method.now.throws) (seen_rules more.entry.rules)) }
 {
     let throws = method.throws.as_slice();
     let mut rules = more;
@@ -96,8 +97,8 @@ fn does<'a>(
     table: &Table,
     stand: Stand,
     method: &'a MethodInfo,
-) -> Result<Rules<'a>, NoMemory>
-    ensures { IfOk result (λ r. seen_rules r
+) -> Result<Draft<'a>, NoMemory>
+    ensures { IfOk result (λ r. seen_rules r.rules
         ≡ called (declares table.now) (method_of (Some method.now))
         (tested stand.receiver (seen_start stand.start))) }
 {
@@ -115,8 +116,8 @@ pub fn called<'a>(
     stand: Stand,
     class: u16,
     method: u16,
-) -> Result<Rules<'a>, NoMemory>
-    ensures { IfOk result (λ r. seen_rules r
+) -> Result<Draft<'a>, NoMemory>
+    ensures { IfOk result (λ r. seen_rules r.rules
         ≡ called (declares table.now) ((declares table.now).method class method)
         (tested stand.receiver (seen_start stand.start))) }
 {

@@ -11,8 +11,9 @@ ghost use Rattle.par_nodes.specs.Starts.{behind, call_does, call_start, start_at
 
 use crate::call::{Stand, called};
 use crate::declared;
+use crate::draft::{Draft, Known};
 use crate::make::{self, ENTRY, PAST, TESTED};
-use crate::rule::{Kind, Node, Origin, Rules, Start, Worth};
+use crate::rule::{Kind, Origin, Start, Worth};
 use par_lexer::list::NoMemory;
 use par_lexer::operator::BinOp;
 use par_typed::expr::{TExpr, TExprKind};
@@ -51,10 +52,10 @@ pub fn null_test<'a>(
     alloc: Global,
     of: &TExpr,
     from: Origin<'a>,
-    more: Rules<'a>,
-) -> Result<Rules<'a>, NoMemory>
-    ensures { IfOk result (λ r. seen_rules r
-        ≡ body.null_test (shown of.now) (seen_origin from.entry) (seen_rules more.entry)) }
+    more: Draft<'a>,
+) -> Result<Draft<'a>, NoMemory>
+    ensures { IfOk result (λ r. seen_rules r.rules
+        ≡ body.null_test (shown of.now) (seen_origin from.entry) (seen_rules more.entry.rules)) }
 {
     if of.sure {
         Ok(more)
@@ -68,10 +69,10 @@ fn divides<'a>(
     alloc: Global,
     op: BinOp,
     divisor: &TExpr,
-    more: Rules<'a>,
-) -> Result<Rules<'a>, NoMemory>
-    ensures { IfOk result (λ r. seen_rules r
-        ≡ body.divides op (shown divisor.now) (seen_rules more.entry)) }
+    more: Draft<'a>,
+) -> Result<Draft<'a>, NoMemory>
+    ensures { IfOk result (λ r. seen_rules r.rules
+        ≡ body.divides op (shown divisor.now) (seen_rules more.entry.rules)) }
 {
     match op {
         BinOp::Div | BinOp::Rem => {
@@ -96,8 +97,8 @@ fn second(op: BinOp) -> Origin<'static>
 }
 
 // Behind the first operand it may go on.
-fn skips<'a>(alloc: Global, op: BinOp, more: Rules<'a>) -> Result<Rules<'a>, NoMemory>
-    ensures { IfOk result (λ r. seen_rules r ≡ body.skips op (seen_rules more.entry)) }
+fn skips<'a>(alloc: Global, op: BinOp, more: Draft<'a>) -> Result<Draft<'a>, NoMemory>
+    ensures { IfOk result (λ r. seen_rules r.rules ≡ body.skips op (seen_rules more.entry.rules)) }
 {
     match op {
         BinOp::And | BinOp::Or => {
@@ -123,8 +124,14 @@ pub fn start_at(place: usize, from: Start) -> Start
 }
 
 // A field of an object.
-fn select<'a>(alloc: Global, node: Node<'a>, of: &TExpr, policy: u16) -> Result<Rules<'a>, NoMemory>
-    ensures { IfOk result (λ r. seen_rules r ≡ plain.Part plain.Entry Next (seen_node node.entry)
+fn select<'a>(
+    alloc: Global,
+    node: Known<'a>,
+    of: &TExpr,
+    policy: u16,
+) -> Result<Draft<'a>, NoMemory>
+    ensures { IfOk result (λ r. seen_rules r.rules
+        ≡ plain.Part plain.Entry Next (seen_node node.entry.node)
         (body.null_test (shown of.now) body.tested (plain.goes_on body.past
         (plain.Worths (plain.Value 0) (plain.Worths (plain.Given policy) plain.Done))))) }
 {
@@ -137,8 +144,9 @@ fn select<'a>(alloc: Global, node: Node<'a>, of: &TExpr, policy: u16) -> Result<
 }
 
 // The value of the part.
-fn unary<'a>(alloc: Global, node: Node<'a>) -> Result<Rules<'a>, NoMemory>
-    ensures { IfOk result (λ r. seen_rules r ≡ plain.Part plain.Entry Next (seen_node node.entry)
+fn unary<'a>(alloc: Global, node: Known<'a>) -> Result<Draft<'a>, NoMemory>
+    ensures { IfOk result (λ r. seen_rules r.rules
+        ≡ plain.Part plain.Entry Next (seen_node node.entry.node)
         (plain.goes_on body.past (plain.Worths (plain.Value 0) plain.Done))) }
 {
     let value = make::worth(alloc, Worth::Value(0))?;
@@ -148,8 +156,8 @@ fn unary<'a>(alloc: Global, node: Node<'a>) -> Result<Rules<'a>, NoMemory>
 }
 
 // The values of both operands.
-fn operands<'a>(alloc: Global) -> Result<Rules<'a>, NoMemory>
-    ensures { IfOk result (λ r. seen_rules r ≡ plain.goes_on body.past
+fn operands<'a>(alloc: Global) -> Result<Draft<'a>, NoMemory>
+    ensures { IfOk result (λ r. seen_rules r.rules ≡ plain.goes_on body.past
         (plain.Worths (plain.Value 1) (plain.Worths (plain.Value 0) plain.Done))) }
 {
     let last = make::worth(alloc, Worth::Value(0))?;
@@ -161,12 +169,13 @@ fn operands<'a>(alloc: Global) -> Result<Rules<'a>, NoMemory>
 fn binary<'a>(
     alloc: Global,
     op: BinOp,
-    first: Node<'a>,
-    last: Node<'a>,
+    first: Known<'a>,
+    last: Known<'a>,
     right: &TExpr,
-) -> Result<Rules<'a>, NoMemory>
-    ensures { IfOk result (λ r. seen_rules r ≡ plain.Part plain.Entry Next (seen_node first.entry)
-        (plain.Part (body.second op) Next (seen_node last.entry)
+) -> Result<Draft<'a>, NoMemory>
+    ensures { IfOk result (λ r. seen_rules r.rules
+        ≡ plain.Part plain.Entry Next (seen_node first.entry.node)
+        (plain.Part (body.second op) Next (seen_node last.entry.node)
         (body.divides op (shown right.now) (body.skips op (plain.goes_on body.past
         (plain.Worths (plain.Value 1) (plain.Worths (plain.Value 0) plain.Done))))))) }
 {
@@ -185,10 +194,11 @@ fn args<'a>(
     table: &'a Table,
     from: Start,
     args: &[TExpr],
-    more: Rules<'a>,
-) -> Result<Rules<'a>, NoMemory>
-    ensures { IfOk result (λ r. seen_rules r ≡ body.args (declares table.now) (seen_start from)
-        (all_shown args.now) (seen_rules more.entry)) }
+    more: Draft<'a>,
+) -> Result<Draft<'a>, NoMemory>
+    ensures { IfOk result (λ r. seen_rules r.rules
+        ≡ body.args (declares table.now) (seen_start from) (all_shown args.now)
+        (seen_rules more.entry.rules)) }
 {
     let mut rules = more;
     for place in (0..args.len()).rev() {
@@ -207,8 +217,9 @@ fn args<'a>(
 }
 
 // The part, and nothing else.
-pub fn before<'a>(alloc: Global, node: Node<'a>) -> Result<Rules<'a>, NoMemory>
-    ensures { IfOk result (λ r. seen_rules r ≡ plain.Part plain.Entry Next (seen_node node.entry)
+pub fn before<'a>(alloc: Global, node: Known<'a>) -> Result<Draft<'a>, NoMemory>
+    ensures { IfOk result (λ r. seen_rules r.rules
+        ≡ plain.Part plain.Entry Next (seen_node node.entry.node)
         (plain.goes_on body.past plain.Done)) }
 {
     let goes = make::ends(alloc, PAST)?;
@@ -235,8 +246,8 @@ fn call_does<'a>(
     method: u16,
     of: &Option<Box<TExpr>>,
     arguments: &[TExpr],
-) -> Result<Rules<'a>, NoMemory>
-    ensures { IfOk result (λ r. seen_rules r
+) -> Result<Draft<'a>, NoMemory>
+    ensures { IfOk result (λ r. seen_rules r.rules
         ≡ call_does (declares table.now) ((declares table.now).method class method)
         (receiver of.now) (all_shown arguments.now)) }
 {
@@ -268,10 +279,10 @@ fn behind<'a>(
     alloc: Global,
     table: &'a Table,
     of: &Option<Box<TExpr>>,
-    more: Rules<'a>,
-) -> Result<Rules<'a>, NoMemory>
-    ensures { IfOk result (λ r. seen_rules r
-        ≡ behind (declares table.now) (receiver of.now) (seen_rules more.entry)) }
+    more: Draft<'a>,
+) -> Result<Draft<'a>, NoMemory>
+    ensures { IfOk result (λ r. seen_rules r.rules
+        ≡ behind (declares table.now) (receiver of.now) (seen_rules more.entry.rules)) }
 {
     match of {
         None => Ok(more),
@@ -285,20 +296,18 @@ fn behind<'a>(
 
 /// The node of an expression.
 #[cycle(exp)]
-pub fn exp<'a>(alloc: Global, table: &'a Table, e: &TExpr) -> Result<Node<'a>, NoMemory>
-    ensures { IfOk result (λ n. seen_node n ≡ body.exp (declares table.now) (shown e.now)) }
+pub fn exp<'a>(alloc: Global, table: &'a Table, e: &TExpr) -> Result<Known<'a>, NoMemory>
+    ensures { IfOk result (λ n. seen_node n.node ≡ body.exp (declares table.now) (shown e.now)) }
 {
     let rules = rules_of(alloc, table, e)?;
-    Ok(Node {
-        point: e.point,
-        rules,
-    })
+    let node = rules.node(alloc, e.point)?;
+    Ok(node)
 }
 
 #[cycle(exp)]
-#[tactic(auto, using(crate::proofs::Rows::call_is, par_typed::proofs::Shown::shows), unfolding(par_rules::specs::Body::exp))]
-fn rules_of<'a>(alloc: Global, table: &'a Table, e: &TExpr) -> Result<Rules<'a>, NoMemory>
-    ensures { IfOk result (λ r. plain.node e.now.point (seen_rules r)
+#[tactic(auto, using(crate::proofs::Rows::shows), unfolding(par_rules::specs::Body::exp))]
+fn rules_of<'a>(alloc: Global, table: &'a Table, e: &TExpr) -> Result<Draft<'a>, NoMemory>
+    ensures { IfOk result (λ r. plain.node e.now.point (seen_rules r.rules)
         ≡ body.exp (declares table.now) (shown e.now)) }
 {
     match &e.kind {

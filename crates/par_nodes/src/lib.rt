@@ -1,13 +1,17 @@
 //! The rules of a typed body as a tree of data.
 //!
-//! The crate takes a typed statement apart, once, into the rules that its flow obeys: which part is
-//! entered from which way, what leaves the node, what its value is made of. It finds no facts:
-//! passes over the tree do.
+//! The crate takes a typed body apart, once, into the rules that its flow obeys: which part is
+//! entered from which way, what leaves the node, what its value is made of. How a node can complete
+//! is known as soon as it is made, from what is known of its parts, so no part is looked at twice.
+//! It finds no facts: passes over the tree do.
 #![tactic(auto)]
 
+pub mod body;
 mod call;
 mod declared;
+pub mod draft;
 pub mod expr;
 mod make;
 pub mod possible;
 pub mod rule;
+pub mod stmt;

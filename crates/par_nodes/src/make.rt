@@ -7,7 +7,8 @@ ghost use Rattle.par_rules.specs.Rules as plain;
 ghost use Rattle.par_nodes.specs.Seen.{seen_absorber, seen_kind, seen_node, seen_origin};
 ghost use Rattle.par_nodes.specs.Seen.{seen_rules, seen_worth};
 
-use crate::rule::{Absorber, Kind, Locks, Node, Origin, Rules, Start, Worth};
+use crate::draft::{Draft, Known};
+use crate::rule::{Absorber, Kind, Locks, Origin, Rules, Start, Worth};
 use par_lexer::list::NoMemory;
 use std::alloc::Global;
 
@@ -41,56 +42,82 @@ pub const TESTED: Origin<'static> = Origin {
     opened: Locks::Kept,
 };
 
+/// No rules.
+#[tactic(auto, using(crate::proofs::Forms::forms))]
+pub fn done<'a>(alloc: Global) -> Draft<'a>
+    ensures { seen_rules result.rules ≡ plain.Done }
+{
+    Draft {
+        rules: Rules::Done,
+        found: Vec::new(alloc),
+    }
+}
+
 /// A part that the way enters.
 #[tactic(auto, using(crate::proofs::Forms::forms))]
 pub fn part<'a>(
     alloc: Global,
     from: Origin<'a>,
     absorber: Absorber,
-    node: Node<'a>,
-    more: Rules<'a>,
-) -> Result<Rules<'a>, NoMemory>
-    ensures { IfOk result (λ r. seen_rules r ≡ plain.Part (seen_origin from.entry)
-        (seen_absorber absorber) (seen_node node.entry) (seen_rules more.entry)) }
+    part: Known<'a>,
+    more: Draft<'a>,
+) -> Result<Draft<'a>, NoMemory>
+    ensures { IfOk result (λ r. seen_rules r.rules ≡ plain.Part (seen_origin from.entry)
+        (seen_absorber absorber) (seen_node part.entry.node) (seen_rules more.entry.rules)) }
 {
+    let Known { node, kinds } = part;
+    let Draft { rules, mut found } = more;
+    found.push(kinds)?;
     let node = Box::new(alloc, node)?;
-    let more = Box::new(alloc, more)?;
-    Ok(Rules::Part(from, absorber, node, more))
+    let more = Box::new(alloc, rules)?;
+    Ok(Draft {
+        rules: Rules::Part(from, absorber, node, more),
+        found,
+    })
 }
 
 /// A part whose exits go on with the next one.
-#[tactic(auto, using(crate::proofs::Forms::forms))]
 pub fn then<'a>(
     alloc: Global,
     from: Origin<'a>,
-    node: Node<'a>,
-    more: Rules<'a>,
-) -> Result<Rules<'a>, NoMemory>
-    ensures { IfOk result (λ r. seen_rules r ≡ plain.Part (seen_origin from.entry)
-        kinds.Next (seen_node node.entry) (seen_rules more.entry)) }
+    part: Known<'a>,
+    more: Draft<'a>,
+) -> Result<Draft<'a>, NoMemory>
+    ensures { IfOk result (λ r. seen_rules r.rules ≡ plain.Part (seen_origin from.entry)
+        kinds.Next (seen_node part.entry.node) (seen_rules more.entry.rules)) }
 {
-    part(alloc, from, Absorber::Next, node, more)
+    self::part(alloc, from, Absorber::Next, part, more)
 }
 
 /// The test of a loop.
 #[tactic(auto, using(crate::proofs::Forms::forms))]
-pub fn test<'a>(alloc: Global, node: Node<'a>, more: Rules<'a>) -> Result<Rules<'a>, NoMemory>
-    ensures { IfOk result (λ r. seen_rules r
-        ≡ plain.Test (seen_node node.entry) (seen_rules more.entry)) }
+pub fn test<'a>(alloc: Global, part: Known<'a>, more: Draft<'a>) -> Result<Draft<'a>, NoMemory>
+    ensures { IfOk result (λ r. seen_rules r.rules
+        ≡ plain.Test (seen_node part.entry.node) (seen_rules more.entry.rules)) }
 {
+    let Known { node, kinds } = part;
+    let Draft { rules, mut found } = more;
+    found.push(kinds)?;
     let node = Box::new(alloc, node)?;
-    let more = Box::new(alloc, more)?;
-    Ok(Rules::Test(node, more))
+    let more = Box::new(alloc, rules)?;
+    Ok(Draft {
+        rules: Rules::Test(node, more),
+        found,
+    })
 }
 
 /// The way flows into the head way of the loop.
 #[tactic(auto, using(crate::proofs::Forms::forms))]
-pub fn heads<'a>(alloc: Global, from: Origin<'a>, more: Rules<'a>) -> Result<Rules<'a>, NoMemory>
-    ensures { IfOk result (λ r. seen_rules r
-        ≡ plain.Heads (seen_origin from.entry) (seen_rules more.entry)) }
+pub fn heads<'a>(alloc: Global, from: Origin<'a>, more: Draft<'a>) -> Result<Draft<'a>, NoMemory>
+    ensures { IfOk result (λ r. seen_rules r.rules
+        ≡ plain.Heads (seen_origin from.entry) (seen_rules more.entry.rules)) }
 {
-    let more = Box::new(alloc, more)?;
-    Ok(Rules::Heads(from, more))
+    let Draft { rules, found } = more;
+    let more = Box::new(alloc, rules)?;
+    Ok(Draft {
+        rules: Rules::Heads(from, more),
+        found,
+    })
 }
 
 /// The way leaves the node.
@@ -99,53 +126,60 @@ pub fn leaves<'a>(
     alloc: Global,
     from: Origin<'a>,
     kind: Kind,
-    more: Rules<'a>,
-) -> Result<Rules<'a>, NoMemory>
-    ensures { IfOk result (λ r. seen_rules r
-        ≡ plain.Leaves (seen_origin from.entry) (seen_kind kind) (seen_rules more.entry)) }
+    more: Draft<'a>,
+) -> Result<Draft<'a>, NoMemory>
+    ensures { IfOk result (λ r. seen_rules r.rules ≡ plain.Leaves (seen_origin from.entry)
+        (seen_kind kind) (seen_rules more.entry.rules)) }
 {
-    let more = Box::new(alloc, more)?;
-    Ok(Rules::Leaves(from, kind, more))
+    let Draft { rules, found } = more;
+    let more = Box::new(alloc, rules)?;
+    Ok(Draft {
+        rules: Rules::Leaves(from, kind, more),
+        found,
+    })
 }
 
 /// Environment and locks of the way go on behind the node.
-pub fn goes_on<'a>(alloc: Global, from: Origin<'a>, more: Rules<'a>) -> Result<Rules<'a>, NoMemory>
-    ensures { IfOk result (λ r. seen_rules r
-        ≡ plain.Leaves (seen_origin from.entry) kinds.Normal (seen_rules more.entry)) }
+pub fn goes_on<'a>(alloc: Global, from: Origin<'a>, more: Draft<'a>) -> Result<Draft<'a>, NoMemory>
+    ensures { IfOk result (λ r. seen_rules r.rules ≡ plain.Leaves (seen_origin from.entry)
+        kinds.Normal (seen_rules more.entry.rules)) }
 {
     leaves(alloc, from, Kind::Normal, more)
 }
 
 /// Nothing comes behind that.
-#[tactic(auto, using(crate::proofs::Forms::forms))]
-pub fn ends<'a>(alloc: Global, from: Origin<'a>) -> Result<Rules<'a>, NoMemory>
-    ensures { IfOk result (λ r. seen_rules r
+pub fn ends<'a>(alloc: Global, from: Origin<'a>) -> Result<Draft<'a>, NoMemory>
+    ensures { IfOk result (λ r. seen_rules r.rules
         ≡ plain.Leaves (seen_origin from.entry) kinds.Normal plain.Done) }
 {
-    goes_on(alloc, from, Rules::Done)
+    goes_on(alloc, from, done(alloc))
 }
 
 /// The value is at least that.
 #[tactic(auto, using(crate::proofs::Forms::forms))]
-pub fn worths<'a>(alloc: Global, worth: Worth, more: Rules<'a>) -> Result<Rules<'a>, NoMemory>
-    ensures { IfOk result (λ r. seen_rules r
-        ≡ plain.Worths (seen_worth worth) (seen_rules more.entry)) }
+pub fn worths<'a>(alloc: Global, worth: Worth, more: Draft<'a>) -> Result<Draft<'a>, NoMemory>
+    ensures { IfOk result (λ r. seen_rules r.rules
+        ≡ plain.Worths (seen_worth worth) (seen_rules more.entry.rules)) }
 {
-    let more = Box::new(alloc, more)?;
-    Ok(Rules::Worths(worth, more))
+    let Draft { rules, found } = more;
+    let more = Box::new(alloc, rules)?;
+    Ok(Draft {
+        rules: Rules::Worths(worth, more),
+        found,
+    })
 }
 
 /// A value that is that and nothing else.
-#[tactic(auto, using(crate::proofs::Forms::forms))]
-pub fn worth<'a>(alloc: Global, worth: Worth) -> Result<Rules<'a>, NoMemory>
-    ensures { IfOk result (λ r. seen_rules r ≡ plain.Worths (seen_worth worth) plain.Done) }
+pub fn worth<'a>(alloc: Global, worth: Worth) -> Result<Draft<'a>, NoMemory>
+    ensures { IfOk result (λ r. seen_rules r.rules
+        ≡ plain.Worths (seen_worth worth) plain.Done) }
 {
-    worths(alloc, worth, Rules::Done)
+    worths(alloc, worth, done(alloc))
 }
 
 /// The way goes on, and the value is that.
-pub fn gives<'a>(alloc: Global, worth: Worth) -> Result<Rules<'a>, NoMemory>
-    ensures { IfOk result (λ r. seen_rules r ≡ plain.Leaves plain.Entry kinds.Normal
+pub fn gives<'a>(alloc: Global, worth: Worth) -> Result<Draft<'a>, NoMemory>
+    ensures { IfOk result (λ r. seen_rules r.rules ≡ plain.Leaves plain.Entry kinds.Normal
         (plain.Worths (seen_worth worth) plain.Done)) }
 {
     let value = self::worth(alloc, worth)?;

@@ -1,13 +1,13 @@
 //! Which completions of a node are possible.
 
-ghost use Rattle.std.specs.Prelude.{◌≡◌, IfOk, OnOk, []};
+ghost use Rattle.std.specs.Prelude.{◌≡◌, Bool, IfOk, OnOk, [], ◌∷◌, List as Items};
 ghost use Rattle.par_policy.specs.Numbers.{has};
 ghost use Rattle.par_rules.specs.Kinds as flow;
 ghost use Rattle.par_rules.specs.Rules as plain;
-ghost use Rattle.par_nodes.specs.Seen.{seen_absorber, seen_kind, seen_node, seen_origin, seen_rules};
-ghost use Rattle.par_nodes.specs.Possible.{among, apart, cans, either, if_so};
+ghost use Rattle.par_nodes.specs.Seen.{seen_absorber, seen_kind, seen_origin, seen_rules};
+ghost use Rattle.par_nodes.specs.Possible.{among, apart, cans, either, if_so, parts_can};
 
-use crate::rule::{Absorber, Kind, Node, Origin, Rules, Start};
+use crate::rule::{Absorber, Kind, Origin, Rules, Start};
 use par_lexer::list::{List, NoMemory};
 use std::alloc::Global;
 
@@ -76,6 +76,18 @@ pub fn takes(absorber: &Absorber, kind: Kind) -> bool
     }
 }
 
+// One more completion, which is held once.
+fn add(kinds: &mut List<Kind>, kind: Kind) -> Result<(), NoMemory>
+    ensures { OnOk result (among kinds.new ≡ either (among kinds.old)
+        (flow.same (seen_kind kind))) }
+{
+    if among(kinds.as_slice(), kind) {
+        return Ok(());
+    }
+    kinds.push(kind)?;
+    Ok(())
+}
+
 // One more completion, unless it is absorbed.
 fn keep(kinds: &mut List<Kind>, absorber: &Absorber, kind: Kind) -> Result<(), NoMemory>
     ensures { OnOk result (among kinds.new ≡ either (among kinds.old)
@@ -84,7 +96,7 @@ fn keep(kinds: &mut List<Kind>, absorber: &Absorber, kind: Kind) -> Result<(), N
     if takes(absorber, kind) {
         return Ok(());
     }
-    kinds.push(kind)?;
+    add(kinds, kind)?;
     Ok(())
 }
 
@@ -105,7 +117,7 @@ fn leaves(kinds: &mut List<Kind>, comes: bool, kind: Kind) -> Result<(), NoMemor
         (if_so comes (flow.same (seen_kind kind)))) }
 {
     if comes {
-        kinds.push(kind)?;
+        add(kinds, kind)?;
     }
     Ok(())
 }
@@ -126,70 +138,76 @@ fn comes(from: &Origin, parts: &[List<Kind>]) -> bool
     }
 }
 
-/// The completions that are possible, where the node is reached.
-#[cycle(possible)]
-pub fn possible(alloc: Global, node: &Node) -> Result<List<Kind>, NoMemory>
-    ensures { IfOk result (λ found. among found ≡ plain.can (seen_node node.now)) }
+// The completions of the next part, where it is entered.
+fn entered(alloc: Global, found: &mut Vec<List<Kind>>, comes: bool) -> List<Kind>
+    ensures told { (f : flow.Kind → Bool) (fs : Items (flow.Kind → Bool))
+        → cans found.old.items [] ≡ f ∷ fs → among result ≡ if_so comes f }
+    ensures left { (f : flow.Kind → Bool) (fs : Items (flow.Kind → Bool))
+        → cans found.old.items [] ≡ f ∷ fs → cans found.new.items [] ≡ fs }
 {
-    let mut parts = List::new(alloc);
-    let mut kinds = List::new(alloc);
-    add_rules(alloc, &node.rules, &mut parts, &mut kinds)?;
-    Ok(kinds)
-}
-
-// The completions of a part, where it is entered.
-#[cycle(possible)]
-fn entered(alloc: Global, node: &Node, comes: bool) -> Result<List<Kind>, NoMemory>
-    ensures { IfOk result (λ found. among found ≡ if_so comes (plain.can (seen_node node.now))) }
-{
-    if comes {
-        let found = possible(alloc, node)?;
-        Ok(found)
-    } else {
-        Ok(List::new(alloc))
+    match found.pop() {
+        None => List::new(alloc),
+        Some(kinds) => { if comes { kinds } else { List::new(alloc) } }
     }
 }
 
-#[cycle(possible)]
 fn add_rules(
     alloc: Global,
     rules: &Rules,
+    found: &mut Vec<List<Kind>>,
     parts: &mut List<List<Kind>>,
     kinds: &mut List<Kind>,
 ) -> Result<(), NoMemory>
-    ensures { OnOk result (among kinds.new ≡ either (among kinds.old)
+    ensures { OnOk result (cans found.old.items [] ≡ parts_can (seen_rules rules.now)
+        → among kinds.new ≡ either (among kinds.old)
         (plain.can_by (cans parts.old []) (seen_rules rules.now))) }
 {
     match rules {
         Rules::Done => Ok(()),
-        Rules::Part(from, absorber, node, more) => {
+        Rules::Part(from, absorber, _, more) => {
             let reached = comes(from, parts.as_slice());
-            let found = entered(alloc, node, reached)?;
-            keep_all(kinds, absorber, found.as_slice())?;
-            parts.push(found)?;
-            add_rules(alloc, more, parts, kinds)?;
+            let part = entered(alloc, found, reached);
+            keep_all(kinds, absorber, part.as_slice())?;
+            parts.push(part)?;
+            add_rules(alloc, more, found, parts, kinds)?;
             Ok(())
         }
-        Rules::Test(node, more) => {
-            let found = possible(alloc, node)?;
-            keep_all(kinds, &Absorber::Next, found.as_slice())?;
-            parts.push(found)?;
-            add_rules(alloc, more, parts, kinds)?;
+        Rules::Test(_, more) => {
+            let part = entered(alloc, found, true);
+            keep_all(kinds, &Absorber::Next, part.as_slice())?;
+            parts.push(part)?;
+            add_rules(alloc, more, found, parts, kinds)?;
             Ok(())
         }
         Rules::Leaves(from, kind, more) => {
             let reached = comes(from, parts.as_slice());
             leaves(kinds, reached, *kind)?;
-            add_rules(alloc, more, parts, kinds)?;
+            add_rules(alloc, more, found, parts, kinds)?;
             Ok(())
         }
         Rules::Heads(_, more) => {
-            add_rules(alloc, more, parts, kinds)?;
+            add_rules(alloc, more, found, parts, kinds)?;
             Ok(())
         }
         Rules::Worths(_, more) => {
-            add_rules(alloc, more, parts, kinds)?;
+            add_rules(alloc, more, found, parts, kinds)?;
             Ok(())
         }
     }
+}
+
+/// The completions that are possible by these rules, of whose parts they are known. The first part
+/// comes last.
+pub fn completions(
+    alloc: Global,
+    rules: &Rules,
+    mut found: Vec<List<Kind>>,
+) -> Result<List<Kind>, NoMemory>
+    requires { cans found.items [] ≡ parts_can (seen_rules rules.now) }
+    ensures { IfOk result (λ kinds. among kinds ≡ plain.can_by [] (seen_rules rules.now)) }
+{
+    let mut parts = List::new(alloc);
+    let mut kinds = List::new(alloc);
+    add_rules(alloc, rules, &mut found, &mut parts, &mut kinds)?;
+    Ok(kinds)
 }

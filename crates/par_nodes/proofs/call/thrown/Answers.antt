@@ -1,4 +1,4 @@
-use Rattle.std.proofs.Common.{rules, ◌-◌, get_or, arith, Some, ap, sym, ◌∙◌}
+use Rattle.std.proofs.Common.{rules, ◌-◌, get_or, Some, ap, sym, ◌∙◌}
 use Rattle.par_rules.specs.Declares.{declares, method_of, throws_of}
 use Rattle.par_rules.specs.Body.{thrown}
 use Rattle.par_nodes.specs.Seen.{seen_rules, seen_start, tested}
@@ -15,11 +15,16 @@ loop-place-preserved c =
     let ts = c.as_slice-throws.result.now in let p = c.loop-place.place in
     let t : ThrowInfo = record { class = 0; policy = 0 } in
     c.in_ok-rules.ensures
-    ∙ ap (Leaves (Shut m.closes (Raised (get_or ts (p - 1) t).policy from)) (Throw (get_or ts (p - 1) t).class)) c.loop-place.invariant
-    ∙ sym (thrown_at (declares c.args.table.now) m from ts p t (seen_rules c.args.more) (search rules) (search rules))
+    ∙ ap (Leaves (Shut m.closes (Raised (get_or ts (p - 1) t).policy from))
+    (Throw (get_or ts (p - 1) t).class)) c.loop-place.invariant
+    ∙ sym (thrown_at (declares c.args.table.now) m from ts p t (seen_rules c.args.more.rules)
+    (search rules) (search rules))
 
 pub returns : goal.returns
 returns c =
     c.loop-place.invariant
-    ∙ ap (λ l. thrown (declares c.args.table.now) (method_of (Some c.args.method.now)) (tested c.args.stand.receiver (seen_start c.args.stand.start)) (throws_of l) (seen_rules c.args.more))
-    (drop_zero c.as_slice-throws.result.now c.loop-place.place (search rules) ∙ c.as_slice-throws.ensures)
+    ∙ ap (λ l. thrown (declares c.args.table.now) (method_of (Some c.args.method.now))
+    (tested c.args.stand.receiver (seen_start c.args.stand.start)) (throws_of l)
+    (seen_rules c.args.more.rules))
+    (drop_zero c.as_slice-throws.result.now c.loop-place.place (search rules)
+    ∙ c.as_slice-throws.ensures)

@@ -6,6 +6,7 @@ use Rattle.par_nodes.proofs.call.thrown.Given as goal
 
 abbrev pub invariant-loop-place : goal.invariant-loop-place
 invariant-loop-place l =
-    seen_rules l.rules
-    ≡ thrown (declares l.table) (method_of (Some l.method)) (tested l.stand.receiver (seen_start l.stand.start))
-    (throws_of (drop l.place l.throws)) (seen_rules l.initial.rules)
+    seen_rules l.rules.rules
+    ≡ thrown (declares l.table) (method_of (Some l.method))
+    (tested l.stand.receiver (seen_start l.stand.start))
+    (throws_of (drop l.place l.throws)) (seen_rules l.initial.rules.rules)

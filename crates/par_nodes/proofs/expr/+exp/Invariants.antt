@@ -8,5 +8,6 @@ use Rattle.par_nodes.proofs.expr.+exp.Given as goal
 
 abbrev pub invariant-args-loop-place : goal.invariant-args-loop-place
 invariant-args-loop-place l =
-    seen_rules l.rules
-    ≡ args (declares l.table) (start_at l.place (seen_start l.from)) (all_shown (drop l.place l.args)) (seen_rules l.initial.rules)
+    seen_rules l.rules.rules
+    ≡ args (declares l.table) (start_at l.place (seen_start l.from))
+    (all_shown (drop l.place l.args)) (seen_rules l.initial.rules.rules)

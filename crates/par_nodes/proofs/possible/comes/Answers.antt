@@ -8,12 +8,15 @@ pub returns-then-part-parts : goal.returns-then-part-parts
 returns-then-part-parts c =
     let parts = c.args.parts.now in let n = c.in-After.part in let k = seen_kind c.in-After.kind in
     c.among.ensures ∙ ap (λ l. among l k) c.as_slice.ensures
-    ∙ sym (comes_after (cans parts []) c.args.from.now n c.in-After.kind c.in-After.is ∙ cans_at parts [] n (length parts - 1 - n) k c.index-parts-parts.result (omega arith) (search rules))
+    ∙ sym (comes_after (cans parts []) c.args.from.now n c.in-After.kind c.in-After.is
+    ∙ cans_at parts [] n (length parts - 1 - n) k c.index-parts-parts.result (omega arith)
+    (search rules))
 
 pub returns-else-part-parts : goal.returns-else-part-parts
 returns-else-part-parts c =
     let parts = c.args.parts.now in let n = c.in-After.part in
-    sym (comes_after (cans parts []) c.args.from.now n c.in-After.kind c.in-After.is ∙ cans_past parts n (seen_kind c.in-After.kind) (omega arith))
+    sym (comes_after (cans parts []) c.args.from.now n c.in-After.kind c.in-After.is
+    ∙ cans_past parts n (seen_kind c.in-After.kind) (omega arith))
 
 pub returns-in-Entry : goal.returns-in-Entry
 returns-in-Entry c = sym (comes_entry (cans c.args.parts.now []) c.args.from.now c.in-Entry.is)

@@ -6,8 +6,11 @@ use Rattle.par_nodes.proofs.possible.keep_all.Goals as goal
 
 pub loop-kind-preserved : goal.loop-kind-preserved
 loop-kind-preserved c =
-    kept_next (seen_absorber c.args.absorber.now) c.args.found.now c.loop-kind.kind-index _ (among c.loop-kind.kinds) (among c.keep.new.kinds) _
+    kept_next (seen_absorber c.args.absorber.now) c.args.found.now c.loop-kind.kind-index _
+    (among c.loop-kind.kinds) (among c.keep.new.kinds) _
     (omega arith) c.in_ok-keep.ensures c.loop-kind.invariant
 
 pub returns : goal.returns
-returns c = kept_all (seen_absorber c.args.absorber.now) c.args.found.now c.loop-kind.kind-index (among c.loop-kind.kinds) _ (omega arith) c.loop-kind.invariant
+returns c =
+    kept_all (seen_absorber c.args.absorber.now) c.args.found.now c.loop-kind.kind-index
+    (among c.loop-kind.kinds) _ (omega arith) c.loop-kind.invariant

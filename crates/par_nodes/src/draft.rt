@@ -1,0 +1,41 @@
+//! Nodes and rules together with their completions, which are known as soon as they are made.
+
+ghost use Rattle.std.specs.Prelude.{◌≡◌, [], IfOk};
+ghost use Rattle.par_rules.specs.Rules as plain;
+ghost use Rattle.par_nodes.specs.Seen.{seen_node, seen_rules};
+ghost use Rattle.par_nodes.specs.Possible.{among, cans, parts_can};
+
+use crate::possible::completions;
+use crate::rule::{Kind, Node, Rules};
+use par_lexer::list::{List, NoMemory};
+use std::alloc::Global;
+
+/// A node with the completions that are possible where it is reached.
+#[derive(Drop)]
+pub struct Known<'a> {
+    pub node: Node<'a>,
+    pub kinds: List<Kind>,
+    ghost known: { among kinds ≡ plain.can (seen_node node) },
+}
+
+/// Rules with the completions of their parts, of which the first comes last.
+#[derive(Drop)]
+pub struct Draft<'a> {
+    pub rules: Rules<'a>,
+    pub found: Vec<List<Kind>>,
+    ghost told: { cans found.items [] ≡ parts_can (seen_rules rules) },
+}
+
+impl<'a> Draft<'a> {
+    /// The node of these rules.
+    #[tactic(auto, using(crate::proofs::Completing::node_step))]
+    pub fn node(self, alloc: Global, point: u32) -> Result<Known<'a>, NoMemory>
+        ensures { IfOk result (λ k. seen_node k.node
+            ≡ plain.node point (seen_rules self.entry.rules)) }
+    {
+        let Draft { rules, found } = self;
+        let kinds = completions(alloc, &rules, found)?;
+        let node = Node { point, rules };
+        Ok(Known { node, kinds })
+    }
+}

@@ -1,0 +1,431 @@
+//! Nodes of statements.
+
+ghost use Rattle.std.specs.Prelude.{◌≡◌, IfOk};
+ghost use Rattle.par_typed.specs.Shown.{all_catch, all_do, does, may_shown, otherwise, shown};
+ghost use Rattle.par_rules.specs.Declares.{declares};
+ghost use Rattle.par_rules.specs.Kinds as kinds;
+ghost use Rattle.par_rules.specs.Rules as plain;
+ghost use Rattle.par_rules.specs.Body as body;
+ghost use Rattle.par_nodes.specs.Seen.{seen_kind, seen_node, seen_origin, seen_rules, seen_start};
+ghost use Rattle.par_nodes.specs.Starts.{behind_value, catch_start, else_rules, goes_first};
+
+use crate::declared;
+use crate::draft::{Draft, Known};
+use crate::expr::{before, exp, null_test, start_at};
+use crate::make::{self, ENTRY, PAST, TESTED};
+use crate::possible::among;
+use crate::rule::{Absorber, Kind, Locks, Origin, Start};
+use par_lexer::list::{List, NoMemory};
+use par_typed::expr::{TExpr, TExprKind};
+use par_typed::stmt::{TCatch, TStmt, TStmtKind};
+use par_typed::table::Table;
+use std::alloc::Global;
+
+// The test of a loop that is left by `break` alone.
+#[tactic(auto, using(par_typed::proofs::Shown::shows))]
+fn is_forever(e: &TExpr) -> bool
+    ensures { result ≡ body.is_forever (shown e.now) }
+{
+    match &e.kind {
+        TExprKind::Bool(value) => *value,
+        TExprKind::Int(_)
+        | TExprKind::Null
+        | TExprKind::This
+        | TExprKind::New(_)
+        | TExprKind::Local(_)
+        | TExprKind::Static(_, _)
+        | TExprKind::Field(_, _, _)
+        | TExprKind::Input(_, _)
+        | TExprKind::Output(_, _, _)
+        | TExprKind::Call(_, _, _, _)
+        | TExprKind::Neg(_)
+        | TExprKind::Not(_)
+        | TExprKind::Binary(_, _, _) => false,
+    }
+}
+
+// The classes that are caught.
+fn caught(alloc: Global, catches: &[TCatch]) -> Result<List<u16>, NoMemory>
+    ensures { IfOk result (λ classes. classes ≡ body.caught (all_catch catches.now)) }
+{
+    let mut classes = List::new(alloc);
+    for catch in catches {
+        classes.push(catch.class)?;
+    }
+    Ok(classes)
+}
+
+// A completion from the entering way.
+#[tactic(auto, using(crate::proofs::Forms::forms))]
+fn completes<'a>(alloc: Global, kind: Kind) -> Result<Draft<'a>, NoMemory>
+    ensures { IfOk result (λ r. seen_rules r.rules
+        ≡ plain.Leaves plain.Entry (seen_kind kind) plain.Done) }
+{
+    let rules = make::leaves(alloc, ENTRY, kind, make::done(alloc))?;
+    Ok(rules)
+}
+
+// A return, with its value before it.
+#[tactic(auto, using(crate::proofs::Forms::forms))]
+fn returns<'a>(
+    alloc: Global,
+    table: &'a Table,
+    value: &Option<TExpr>,
+) -> Result<Draft<'a>, NoMemory>
+    ensures { IfOk result (λ r. seen_rules r.rules
+        ≡ behind_value (declares table.now) (may_shown value.now)) }
+{
+    match value {
+        None => {
+            let rules = completes(alloc, Kind::Return)?;
+            Ok(rules)
+        }
+        Some(value) => {
+            let node = exp(alloc, table, value)?;
+            let leaves = make::leaves(alloc, PAST, Kind::Return, make::done(alloc))?;
+            let rules = make::then(alloc, ENTRY, node, leaves)?;
+            Ok(rules)
+        }
+    }
+}
+
+// Without `else` the way goes on.
+fn goes_first<'a>(
+    alloc: Global,
+    other: &Option<Box<TStmt>>,
+    from: Origin<'a>,
+    more: Draft<'a>,
+) -> Result<Draft<'a>, NoMemory>
+    ensures { IfOk result (λ r. seen_rules r.rules
+        ≡ goes_first (otherwise other.now) (seen_origin from.entry) (seen_rules more.entry.rules)) }
+{
+    match other {
+        None => {
+            let rules = make::goes_on(alloc, from, more)?;
+            Ok(rules)
+        }
+        Some(_) => Ok(more),
+    }
+}
+
+// A block after which the other one may stand.
+fn branches<'a>(
+    alloc: Global,
+    from: Origin<'a>,
+    node: Known<'a>,
+    more: Draft<'a>,
+) -> Result<Draft<'a>, NoMemory>
+    ensures { IfOk result (λ r. seen_rules r.rules
+        ≡ plain.Part (seen_origin from.entry) kinds.Next (seen_node node.entry.node)
+        (plain.goes_on body.past (seen_rules more.entry.rules))) }
+{
+    let goes = make::goes_on(alloc, PAST, more)?;
+    let rules = make::then(alloc, from, node, goes)?;
+    Ok(rules)
+}
+
+// A loop.
+fn repeats<'a>(
+    alloc: Global,
+    forever: bool,
+    test: Known<'a>,
+    block: Known<'a>,
+) -> Result<Draft<'a>, NoMemory>
+    ensures { IfOk result (λ r. seen_rules r.rules
+        ≡ plain.Test (seen_node test.entry.node) (plain.Heads plain.Entry
+        (body.if_not forever (plain.goes_on body.past)
+        (plain.Part body.tested kinds.Loop (seen_node block.entry.node)
+        (plain.Heads body.past (plain.Heads (plain.After 0 kinds.Continue)
+        (plain.goes_on (plain.After 0 kinds.Break) plain.Done))))))) }
+{
+    let broken = make::ends(
+        alloc,
+        Origin {
+            start: Start::After(0, Kind::Break),
+            ..PAST
+        },
+    )?;
+    let continued = Origin {
+        start: Start::After(0, Kind::Continue),
+        ..PAST
+    };
+    let again = make::heads(alloc, continued, broken)?;
+    let heads = make::heads(alloc, PAST, again)?;
+    let part = make::part(alloc, TESTED, Absorber::Loop, block, heads)?;
+    let behind = unless(alloc, forever, part)?;
+    let entered = make::heads(alloc, ENTRY, behind)?;
+    let rules = make::test(alloc, test, entered)?;
+    Ok(rules)
+}
+
+// The way behind the test goes on, unless the loop has no end.
+fn unless<'a>(alloc: Global, forever: bool, more: Draft<'a>) -> Result<Draft<'a>, NoMemory>
+    ensures { IfOk result (λ r. seen_rules r.rules
+        ≡ body.if_not forever (plain.goes_on body.past) (seen_rules more.entry.rules)) }
+{
+    if forever {
+        Ok(more)
+    } else {
+        let rules = make::goes_on(alloc, PAST, more)?;
+        Ok(rules)
+    }
+}
+
+// A part, and then that.
+fn puts<'a>(alloc: Global, node: Known<'a>, from: Origin<'a>) -> Result<Draft<'a>, NoMemory>
+    ensures { IfOk result (λ r. seen_rules r.rules
+        ≡ plain.Part plain.Entry kinds.Next (seen_node node.entry.node)
+        (plain.goes_on (seen_origin from.entry) plain.Done)) }
+{
+    let goes = make::ends(alloc, from)?;
+    let rules = make::then(alloc, ENTRY, node, goes)?;
+    Ok(rules)
+}
+
+// A write of a field of an object.
+fn writes<'a>(
+    alloc: Global,
+    of: &TExpr,
+    object: Known<'a>,
+    value: Known<'a>,
+) -> Result<Draft<'a>, NoMemory>
+    ensures { IfOk result (λ r. seen_rules r.rules
+        ≡ plain.Part plain.Entry kinds.Next (seen_node object.entry.node)
+        (plain.Part body.past kinds.Next (seen_node value.entry.node)
+        (body.null_test (shown of.now) (plain.Tested 1 body.past)
+        (plain.goes_on body.past plain.Done)))) }
+{
+    let goes = make::ends(alloc, PAST)?;
+    let tested = null_test(
+        alloc,
+        of,
+        Origin {
+            tested: Some(1),
+            ..PAST
+        },
+        goes,
+    )?;
+    let written = make::then(alloc, PAST, value, tested)?;
+    let rules = make::then(alloc, ENTRY, object, written)?;
+    Ok(rules)
+}
+
+// Statements one after the other.
+#[cycle(sta)]
+fn stas<'a>(alloc: Global, table: &'a Table, stmts: &[TStmt]) -> Result<Draft<'a>, NoMemory>
+    ensures { IfOk result (λ r. seen_rules r.rules
+        ≡ body.stas (declares table.now) plain.Entry (all_do stmts.now)) }
+{
+    let last = Origin {
+        start: start_at(stmts.len(), Start::Entry),
+        ..ENTRY
+    };
+    let mut rules = make::ends(alloc, last)?;
+    for place in (0..stmts.len()).rev() {
+        let node = sta(alloc, table, &stmts[place])?;
+        let from = Origin {
+            start: start_at(place, Start::Entry),
+            ..ENTRY
+        };
+        rules = make::then(alloc, from, node, rules)?;
+    }
+    Ok(rules)
+}
+
+// From where a catch of the class is entered, behind as many others.
+fn catch_start(block: &Known, class: u16, before: usize) -> Start
+    ensures { seen_start result ≡ catch_start (seen_node block.now.node) class before }
+{
+    let thrown = Kind::Throw(class);
+    if among(block.kinds.as_slice(), thrown) {
+        Start::After(before, thrown)
+    } else {
+        Start::Entry
+    }
+}
+
+// The catches of a `try`.
+#[cycle(sta)]
+fn catches<'a>(
+    alloc: Global,
+    table: &'a Table,
+    catches: &[TCatch],
+    block: &Known,
+) -> Result<Draft<'a>, NoMemory>
+    ensures { IfOk result (λ r. seen_rules r.rules ≡ body.catches (declares table.now)
+        (seen_node block.now.node) (all_catch catches.now) 0) }
+{
+    let mut rules = make::done(alloc);
+    for place in (0..catches.len()).rev() {
+        rules = handles(alloc, table, &catches[place], block, place, rules)?;
+    }
+    Ok(rules)
+}
+
+// A catch behind as many others.
+#[cycle(sta)]
+fn handles<'a>(
+    alloc: Global,
+    table: &'a Table,
+    catch: &TCatch,
+    block: &Known,
+    before: usize,
+    more: Draft<'a>,
+) -> Result<Draft<'a>, NoMemory>
+    ensures { IfOk result (λ r. seen_rules r.rules ≡ plain.Part
+        (catch_start (seen_node block.now.node) catch.now.class before) kinds.Next
+        (body.sta (declares table.now) (does catch.now.body))
+        (plain.goes_on body.past (seen_rules more.entry.rules))) }
+{
+    let node = sta(alloc, table, &catch.body)?;
+    let from = Origin {
+        start: catch_start(block, catch.class, before),
+        ..ENTRY
+    };
+    let rules = branches(alloc, from, node, more)?;
+    Ok(rules)
+}
+
+// What stands behind `else`.
+#[cycle(sta)]
+#[tactic(auto, using(crate::proofs::Forms::forms))]
+fn else_rules<'a>(
+    alloc: Global,
+    table: &'a Table,
+    other: &Option<Box<TStmt>>,
+    from: Origin<'a>,
+) -> Result<Draft<'a>, NoMemory>
+    ensures { IfOk result (λ r. seen_rules r.rules
+        ≡ else_rules (declares table.now) (otherwise other.now) (seen_origin from.entry)) }
+{
+    match other {
+        None => Ok(make::done(alloc)),
+        Some(stmt) => {
+            let node = sta(alloc, table, stmt)?;
+            let rules = branches(alloc, from, node, make::done(alloc))?;
+            Ok(rules)
+        }
+    }
+}
+
+/// The node of a statement.
+#[cycle(sta)]
+pub fn sta<'a>(alloc: Global, table: &'a Table, stmt: &TStmt) -> Result<Known<'a>, NoMemory>
+    ensures { IfOk result (λ n. seen_node n.node ≡ body.sta (declares table.now) (does stmt.now)) }
+{
+    let rules = rules_of(alloc, table, stmt)?;
+    let node = rules.node(alloc, stmt.point)?;
+    Ok(node)
+}
+
+#[cycle(sta)]
+#[tactic(auto, using(par_typed::proofs::Shown::doings, crate::proofs::Branches::taken_apart))]
+fn rules_of<'a>(alloc: Global, table: &'a Table, stmt: &TStmt) -> Result<Draft<'a>, NoMemory>
+    ensures { IfOk result (λ r. plain.node stmt.now.point (seen_rules r.rules)
+        ≡ body.sta (declares table.now) (does stmt.now)) }
+{
+    match &stmt.kind {
+        TStmtKind::Block(stmts) => {
+            let rules = stas(alloc, table, stmts.as_slice())?;
+            Ok(rules)
+        }
+        TStmtKind::If(test, block, other) => {
+            let from = Origin {
+                start: Start::After(1, Kind::Normal),
+                tested: Some(1),
+                ..PAST
+            };
+            let rest = else_rules(alloc, table, other, from)?;
+            let node = sta(alloc, table, block)?;
+            let both = branches(alloc, TESTED, node, rest)?;
+            let behind = goes_first(alloc, other, PAST, both)?;
+            let test = exp(alloc, table, test)?;
+            let rules = make::then(alloc, ENTRY, test, behind)?;
+            Ok(rules)
+        }
+        TStmtKind::While(test, block) => {
+            let forever = is_forever(test);
+            let head = exp(alloc, table, test)?;
+            let node = sta(alloc, table, block)?;
+            let rules = repeats(alloc, forever, head, node)?;
+            Ok(rules)
+        }
+        TStmtKind::Try(block, clauses) => {
+            let clauses = clauses.as_slice();
+            let node = sta(alloc, table, block)?;
+            let handled = catches(alloc, table, clauses, &node)?;
+            let classes = caught(alloc, clauses)?;
+            let goes = make::goes_on(alloc, PAST, handled)?;
+            let rules = make::part(alloc, ENTRY, Absorber::Catches(classes), node, goes)?;
+            Ok(rules)
+        }
+        TStmtKind::Return(value) => {
+            let rules = returns(alloc, table, value)?;
+            Ok(rules)
+        }
+        TStmtKind::Break => {
+            let rules = completes(alloc, Kind::Break)?;
+            Ok(rules)
+        }
+        TStmtKind::Continue => {
+            let rules = completes(alloc, Kind::Continue)?;
+            Ok(rules)
+        }
+        TStmtKind::Throw(class) => {
+            let rules = completes(alloc, Kind::Throw(*class))?;
+            Ok(rules)
+        }
+        TStmtKind::OpenLock(lock) => {
+            let from = Origin {
+                opened: Locks::One(*lock),
+                ..ENTRY
+            };
+            let rules = make::ends(alloc, from)?;
+            Ok(rules)
+        }
+        TStmtKind::CloseLock(lock) => {
+            let from = Origin {
+                shut: Locks::One(*lock),
+                ..ENTRY
+            };
+            let rules = make::ends(alloc, from)?;
+            Ok(rules)
+        }
+        TStmtKind::SetLocal(local, _, value) => {
+            let node = exp(alloc, table, value)?;
+            let from = Origin {
+                assigned: Some((*local, 0)),
+                ..PAST
+            };
+            let rules = puts(alloc, node, from)?;
+            Ok(rules)
+        }
+        TStmtKind::SetStatic(_, _, value) | TStmtKind::Eval(value) => {
+            let node = exp(alloc, table, value)?;
+            let rules = before(alloc, node)?;
+            Ok(rules)
+        }
+        TStmtKind::SetField(of, _, _, value) => {
+            let object = exp(alloc, table, of)?;
+            let node = exp(alloc, table, value)?;
+            let rules = writes(alloc, of, object, node)?;
+            Ok(rules)
+        }
+        TStmtKind::When(lock, block, other) => {
+            let policy = declared::lock(table, *lock);
+            let asked = Origin {
+                raised: Some(policy),
+                ..ENTRY
+            };
+            let opened = Origin {
+                opened: Locks::One(*lock),
+                ..asked
+            };
+            let rest = else_rules(alloc, table, other, asked)?;
+            let node = sta(alloc, table, block)?;
+            let both = branches(alloc, opened, node, rest)?;
+            let rules = goes_first(alloc, other, ENTRY, both)?;
+            Ok(rules)
+        }
+    }
+}
