@@ -4,24 +4,30 @@ use Rattle.std.specs.Prelude.{nat_lt, is_some}
 use Rattle.std.proofs.Math.Path.{fun_ext}
 use Rattle.std.proofs.lemmas.Bool.{cases_eq}
 use Rattle.std.proofs.lemmas.Bool.Decides.{nat_tests}
-use Rattle.par_values.specs.declared.run.Event.TheVariants.{Born}
+use Rattle.par_values.specs.declared.run.Event.{Event}
+use Rattle.par_values.specs.declared.run.Event.TheVariants.{Born, Set, Put}
+use Rattle.par_values.specs.declared.run.Val.{Val}
 use Rattle.par_values.specs.declared.value.MVal.{MVal}
 use Rattle.par_values.specs.declared.value.MVal.TheVariants.{Int, Null, Ref}
 use Rattle.par_values.specs.Areas as areas
 use Rattle.par_secrecy.specs.Runs.{Run, with_first}
 use Rattle.par_runs.specs.Meaning.{inputs, born}
-use Rattle.par_runs.specs.Names.{Name, first_field, made_named, channel_named}
+use Rattle.par_runs.specs.Names.{Name, Member, first_field, channel_named}
 use Rattle.par_runs.specs.Source.{given_to}
-use Rattle.par_runs.specs.State.{State, put, take_input, with_object}
-use Rattle.par_runs.specs.Tasks.{Normal, Rests, change, gives, named}
+use Rattle.par_runs.specs.State.{State, put, take_input, with_object, set_static, set_field}
+use Rattle.par_runs.specs.Tasks.{Normal, Rests, Task, change, gives, fine, happens, named}
+use Rattle.par_runs.specs.Values.{shown_value, object_number}
+use Rattle.par_meaning.specs.declared.work.Completion.TheVariants as normal
+use Rattle.par_meaning.specs.declared.work.Then.{Then}
+use Rattle.par_meaning.specs.declared.work.Then.TheVariants.{Ends}
 use Rattle.par_meaning.specs.declared.run.SourceEvent.{SourceEvent}
 use Rattle.par_meaning.specs.declared.machine.Machine.{Machine}
 use Rattle.par_meaning.specs.Frame.{held as held_locals}
-use Rattle.par_meaning.specs.Held.{Held, keep_input, bear}
+use Rattle.par_meaning.specs.Held.{Held, keep_input, bear, write_static, write_field, write_here}
 use Rattle.par_meaning.specs.Stored.{holds}
-use Rattle.par_meaning.specs.Work.{Setting, left}
-use Rattle.par_meaning.specs.Onward.{state, state_of, follows, behind, witnessed, told}
-use Rattle.par_meaning.proofs.Puts.{put_here, put_other, put_two, below_is}
+use Rattle.par_meaning.specs.Work.{Setting, Follows}
+use Rattle.par_meaning.specs.Onward.{state, state_of, behind, witnessed, goes_on, begins, told}
+use Rattle.par_meaning.proofs.Puts.{put_here, put_other, put_two, put_three, below_is}
 
 unwrapped : {A : Type 0} (b : Bool) (v d : A) (o : Option A) → unwrap_or (cond b (Some v) o) d ≡ cond b v (unwrap_or o d)
 unwrapped true v d o = refl
@@ -106,6 +112,55 @@ bore p locals result h c n number rest h' is number_is unborn =
     ∙ ap (λ (g : ℕ → ℕ → ℕ → MVal). rest Normal (Ref c (s.births c)) (record s { births = put s.births c (s.births c + 1); fields = g }) n)
     (fun_ext (λ a. fun_ext (λ m. fun_ext (λ f. fields_with h.births h.fields (first_field p.table) c unborn a m f))))
 
+-- a static field is written
+wrote_static : (p : Setting) (locals : ℕ → MVal) (result : MVal) (h : Held) (c f : ℕ) (v : MVal) (n : ℕ) (rest : Rests) (h' : Held) → h' ≡ write_static c f v h
+    → rest Normal Null (state p locals result h') n ≡ rest Normal Null (set_static c f v (state p locals result h)) n
+wrote_static p locals result h c f v n rest h' is =
+    let s = state p locals result h in
+    ap (λ (h : Held). rest Normal Null (state p locals result h) n) is
+    ∙ ap (λ (statics : ℕ → ℕ → MVal). rest Normal Null (record s { statics = statics }) n)
+    (fun_ext (λ a. fun_ext (λ b. read_put h.statics (first_field p.table) c f v a b)))
+
+module _ (births : ℕ → ℕ) (fields : ℕ → ℕ → ℕ → Option MVal) (first : ℕ → ℕ → MVal) where
+  read_here : ℕ → ℕ → ℕ → MVal
+  read_here a m b = if nat_lt m (births a) then unwrap_or (fields a m b) (first a b) else Null
+
+  choice : (same there : Bool) (v x : MVal) → (same ≡ true → there ≡ true)
+      → (if there then cond same v x else Null) ≡ cond same v (if there then x else Null)
+  choice true true v x h = refl
+  choice true false v x h = absurd (let e = h refl in cc)
+  choice false true v x h = refl
+  choice false false v x h = refl
+
+  same_object : (c k f a m b : ℕ) → (c == a && k == m && f == b) ≡ true → nat_lt k (births c) ≡ true → nat_lt m (births a) ≡ true
+  same_object c k f a m b same there =
+      let class : c ≡ a = grind (arith, nat_tests) in
+      let number : k ≡ m = grind (arith, nat_tests) in
+      ap (λ c. nat_lt m (births c)) (sym class) ∙ ap (λ k. nat_lt k (births c)) (sym number) ∙ there
+
+  -- a field of an object that is there is written
+  written : (c k f : ℕ) (v : MVal) → nat_lt k (births c) ≡ true → (a m b : ℕ)
+      → (if nat_lt m (births a) then unwrap_or (put fields c (put (fields c) k (put (fields c k) f (Some v))) a m b) (first a b) else Null)
+      ≡ put read_here c (put (read_here c) k (put (read_here c k) f v)) a m b
+  unfolding read_here
+  written c k f v there a m b =
+      let same = c == a && k == m && f == b in
+      ap (λ (o : Option MVal). if nat_lt m (births a) then unwrap_or o (first a b) else Null) (sym (put_three fields c k f (Some v) a m b))
+      ∙ ap (λ (x : MVal). if nat_lt m (births a) then x else Null) (unwrapped same v (first a b) (fields a m b))
+      ∙ choice same (nat_lt m (births a)) v (unwrap_or (fields a m b) (first a b)) (λ e. same_object c k f a m b e there)
+      ∙ put_three read_here c k f v a m b
+
+-- a field of an object is written, where the object is there
+wrote_field : (p : Setting) (locals : ℕ → MVal) (result : MVal) (h : Held) (c k f : ℕ) (v : MVal) (there : Bool) → nat_lt k (h.births c) ≡ there
+    → state p locals result (if there then write_here c k f v h else h)
+    ≡ (let s = state p locals result h in if there then record s { fields = put s.fields c (put (s.fields c) k (put (s.fields c k) f v)) } else s)
+unfolding read_here
+wrote_field p locals result h c k f v true there =
+    let s = state p locals result h in
+    ap (λ (fields : ℕ → ℕ → ℕ → MVal). record s { fields = fields })
+    (fun_ext (λ a. fun_ext (λ m. fun_ext (λ b. written h.births h.fields (first_field p.table) c k f v there a m b))))
+wrote_field p locals result h c k f v false there = refl
+
 -- one event more
 pub behind_more : (es : List SourceEvent) (e : SourceEvent) (run : Run) → behind (es ++ e ∷ []) run ≡ behind es (with_first (witnessed e) run)
 behind_more es e run =
@@ -116,21 +171,63 @@ behind_more es e run =
     map_more [] = refl
     map_more (x ∷ es) = ap (λ ws. witnessed x ∷ ws) (map_more es)
 
-pub born_told : (p : Setting) (n : ℕ) (old m : Machine) (store : Held) (c number k : ℕ) (name : Name) (o : Option Name) → m ≡ told (Born name k) old → store ≡ bear c (holds m.store)
-    → number ≡ (holds m.store).births c → k ≡ (holds old.store).births c → o ≡ Some name
-    → ((f : ℕ) → is_some ((holds old.store).fields c ((holds old.store).births c) f) ≡ false)
-    → behind m.events (left p m.work m.frames.below m.values Normal (Ref c number) (state p (held_locals m.frames.own) m.result store) n)
-    ≡ behind old.events (named o (born p.table c) (follows p old) (state_of p old) n)
-born_told p n old m store c number k name o is bears number_is k_is named_is unborn =
-    let es = old.events in
-    let rest = follows p old in
-    let s = state_of p old in
-    let Goal : Machine → Type 0 = λ m. store ≡ bear c (holds m.store) → number ≡ (holds m.store).births c
-    → behind m.events (left p m.work m.frames.below m.values Normal (Ref c number) (state p (held_locals m.frames.own) m.result store) n)
-    ≡ behind old.events (named o (born p.table c) rest s n) in
-    subst Goal (sym is) (λ bears number_is.
-    ap (behind (es ++ record { event = Born name k; locks = (holds old.store).locks } ∷ []))
-    (bore p (held_locals old.frames.own) old.result (holds old.store) c n number rest store bears number_is unborn)
-    ∙ behind_more es (record { event = Born name k; locks = (holds old.store).locks }) (change (with_object c (first_field p.table c)) (gives (Ref c (s.births c))) rest s n)
-    ∙ ap (λ (k : ℕ). behind es (with_first (record { event = Born name k; locks = s.locks }) (change (with_object c (first_field p.table c)) (gives (Ref c (s.births c))) rest s n))) k_is
-    ∙ ap (λ (o : Option Name). behind es (named o (born p.table c) rest s n)) (sym named_is)) bears number_is
+module _ (p : Setting) (rest : Follows) (n : ℕ) (old m : Machine) where
+  -- what happens comes behind what has happened
+  told_behind : (event : Event) (v : MVal) (store : Held) (task : Task) → m ≡ told event old
+      → rest old.frames.below old.values Normal v (state p (held_locals old.frames.own) old.result store) n
+      ≡ task (rest old.frames.below old.values) (state_of p old) n
+      → behind m.events (rest m.frames.below m.values Normal v (state p (held_locals m.frames.own) m.result store) n)
+      ≡ begins p rest old (happens event task) n
+  told_behind event v store task is same =
+      let w : SourceEvent = record { event = event; locks = (holds old.store).locks } in
+      ap (λ (m : Machine). behind m.events (rest m.frames.below m.values Normal v (state p (held_locals m.frames.own) m.result store) n)) is
+      ∙ behind_more old.events w (rest old.frames.below old.values Normal v (state p (held_locals old.frames.own) old.result store) n)
+      ∙ ap (λ run. behind old.events (with_first (witnessed w) run)) same
+
+  pub born_told : (store : Held) (c number k : ℕ) (name : Name) (o : Option Name) (on : Then) → m ≡ told (Born name k) old → store ≡ bear c (holds m.store)
+      → number ≡ (holds m.store).births c → k ≡ (holds old.store).births c → o ≡ Some name → on ≡ Ends (normal.Normal (Ref c number))
+      → ((f : ℕ) → is_some ((holds old.store).fields c ((holds old.store).births c) f) ≡ false)
+      → behind m.events (goes_on p rest on m.frames.below m.values (state p (held_locals m.frames.own) m.result store) n)
+      ≡ begins p rest old (named o (born p.table c)) n
+  born_told store c number k name o on is bears number_is k_is named_is on_is unborn =
+      let task = change (with_object c (first_field p.table c)) (gives (Ref c ((holds old.store).births c))) in
+      ap (λ on. behind m.events (goes_on p rest on m.frames.below m.values (state p (held_locals m.frames.own) m.result store) n)) on_is
+      ∙ told_behind (Born name k) (Ref c number) store task is
+      (bore p (held_locals old.frames.own) old.result (holds old.store) c n number (rest old.frames.below old.values) store
+      (bears ∙ ap (λ (m : Machine). bear c (holds m.store)) is) (number_is ∙ ap (λ (m : Machine). (holds m.store).births c) is) unborn)
+      ∙ ap (λ k. begins p rest old (happens (Born name k) task) n) k_is
+      ∙ ap (λ (o : Option Name). begins p rest old (named o (born p.table c)) n) (sym named_is)
+
+  pub static_told : (store : Held) (c f : ℕ) (v : MVal) (class name : Name) (val : Val) (member : Member) (o : Option Member)
+      → m ≡ told (Set class name val) old → store ≡ write_static c f v (holds m.store)
+      → class ≡ member.class → name ≡ member.name → val ≡ shown_value p.table v → o ≡ Some member
+      → behind m.events (rest m.frames.below m.values Normal Null (state p (held_locals m.frames.own) m.result store) n)
+      ≡ begins p rest old (named o (λ m. happens (Set m.class m.name (shown_value p.table v)) (change (set_static c f v) fine))) n
+  static_told store c f v class name val member o is writes class_is name_is val_is named_is =
+      let task = change (set_static c f v) fine in
+      told_behind (Set class name val) Null store task is
+      (wrote_static p (held_locals old.frames.own) old.result (holds old.store) c f v n (rest old.frames.below old.values) store
+      (writes ∙ ap (λ (m : Machine). write_static c f v (holds m.store)) is))
+      ∙ ap (λ class. begins p rest old (happens (Set class name val) task) n) class_is
+      ∙ ap (λ name. begins p rest old (happens (Set member.class name val) task) n) name_is
+      ∙ ap (λ val. begins p rest old (happens (Set member.class member.name val) task) n) val_is
+      ∙ ap (λ (o : Option Member). begins p rest old (named o (λ m. happens (Set m.class m.name (shown_value p.table v)) task)) n) (sym named_is)
+
+  pub field_told : (store : Held) (c f k : ℕ) (r v : MVal) (class name : Name) (val : Val) (member : Member) (o : Option Member)
+      → m ≡ told (Put class k name val) old → store ≡ write_field c k f v (holds m.store) → k ≡ object_number r
+      → class ≡ member.class → name ≡ member.name → val ≡ shown_value p.table v → o ≡ Some member
+      → behind m.events (rest m.frames.below m.values Normal Null (state p (held_locals m.frames.own) m.result store) n)
+      ≡ begins p rest old (named o (λ m. happens (Put m.class (object_number r) m.name (shown_value p.table v)) (change (set_field c (object_number r) f v) fine))) n
+  field_told store c f k r v class name val member o is writes k_is class_is name_is val_is named_is =
+      let task : ℕ → Task = λ k. change (set_field c k f v) fine in
+      let shows = shown_value p.table v in
+      told_behind (Put class k name val) Null store (task k) is
+      (ap (λ (h : Held). rest old.frames.below old.values Normal Null (state p (held_locals old.frames.own) old.result h) n)
+      (writes ∙ ap (λ (m : Machine). write_field c k f v (holds m.store)) is)
+      ∙ ap (λ (s : State). rest old.frames.below old.values Normal Null s n)
+      (wrote_field p (held_locals old.frames.own) old.result (holds old.store) c k f v (nat_lt k ((holds old.store).births c)) refl))
+      ∙ ap (λ k. begins p rest old (happens (Put class k name val) (task k)) n) k_is
+      ∙ ap (λ class. begins p rest old (happens (Put class (object_number r) name val) (task (object_number r))) n) class_is
+      ∙ ap (λ name. begins p rest old (happens (Put member.class (object_number r) name val) (task (object_number r))) n) name_is
+      ∙ ap (λ val. begins p rest old (happens (Put member.class (object_number r) member.name val) (task (object_number r))) n) val_is
+      ∙ ap (λ (o : Option Member). begins p rest old (named o (λ m. happens (Put m.class (object_number r) m.name shows) (task (object_number r)))) n) (sym named_is)

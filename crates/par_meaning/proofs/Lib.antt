@@ -2,7 +2,11 @@ pub mod Reversed
 pub mod Puts
 pub mod Locals
 pub mod Stores
+pub mod Placed
 pub mod Entered
 pub mod Called
-pub mod Started
 pub mod Happened
+pub mod Started
+pub mod Taken
+pub mod Runs
+pub mod Settled

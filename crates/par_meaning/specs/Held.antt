@@ -1,5 +1,5 @@
 -- What the program holds but for locals and inputs.
-use Rattle.std.specs.Prelude.{◌≡◌, ℕ, ℤ, ◌+◌, ◌≤◌, Bool, false, is_some, ◌==◌, ◌&&◌, nat_eq, nat_lt, if◌then◌else◌, List, Option, Some, None, unwrap_or}
+use Rattle.std.specs.Prelude.{◌≡◌, ℕ, ℤ, ◌+◌, ◌≤◌, Bool, false, is_some, ◌==◌, ◌&&◌, nat_eq, nat_lt, if◌then◌else◌, List, [], Option, Some, None, unwrap_or}
 use Rattle.std.specs.Borrow.{Bor}
 use Rattle.std.specs.HashMap.{HashMap, get}
 use Rattle.std.specs.declared.hash.FoldHasher.{FoldHasher}
@@ -46,7 +46,18 @@ input_in kept c k = numbers_left (get same_member kept (c, k))
 
 -- no field of an object is written before the object is born
 abbrev pub NoneUnborn : Kept ℕ ℕ → Kept (ℕ × ℕ × ℕ) MVal → Type 0
-NoneUnborn births fields = (c n f : ℕ) → births_in births c ≤ n → is_some (field_in fields c n f) ≡ false
+NoneUnborn births fields =
+    (c n f : ℕ) → births_in births c ≤ n → is_some (field_in fields c n f) ≡ false
+
+-- nothing is written, no object is born and no lock is open
+abbrev pub nothing_held : Held
+nothing_held = record {
+  statics = λ c f. None;
+  births = λ c. 0;
+  fields = λ c n f. None;
+  inputs = λ c k. None;
+  locks = [];
+}
 
 abbrev pub write_static : ℕ → ℕ → MVal → Held → Held
 write_static c f v h = record h { statics = put h.statics c (put (h.statics c) f (Some v)) }
@@ -55,7 +66,8 @@ abbrev pub bear : ℕ → Held → Held
 bear c h = record h { births = put h.births c (h.births c + 1) }
 
 abbrev pub write_here : ℕ → ℕ → ℕ → MVal → Held → Held
-write_here c n f v h = record h { fields = put h.fields c (put (h.fields c) n (put (h.fields c n) f (Some v))) }
+write_here c n f v h =
+    record h { fields = put h.fields c (put (h.fields c) n (put (h.fields c n) f (Some v))) }
 
 -- a write to a field of an object that is there
 abbrev pub write_field : ℕ → ℕ → ℕ → MVal → Held → Held

@@ -2,5 +2,7 @@ pub mod Frame
 pub mod Held
 pub mod Stored
 pub mod Named
+pub mod Bodied
 pub mod Work
 pub mod Onward
+pub mod Whole

@@ -1,4 +1,9 @@
 -- What a store holds.
+use Rattle.std.specs.Prelude.{ℕ, nat_lt, if◌then◌else◌, unwrap_or}
+use Rattle.par_typed.specs.declared.table.Table.{Table}
+use Rattle.par_values.specs.declared.value.MVal.{MVal}
+use Rattle.par_values.specs.declared.value.MVal.TheVariants.{Null}
+use Rattle.par_runs.specs.Names.{first_field}
 use Rattle.par_meaning.specs.declared.store.Store.{Store}
 use Rattle.par_meaning.specs.Held.{Held, static_in, births_in, field_in, input_in}
 
@@ -10,3 +15,8 @@ holds store = record {
   inputs = input_in store.inputs;
   locks = store.locks;
 }
+
+-- what a field of an object holds, null where there is no such object
+abbrev pub field_held : Table → Held → ℕ → ℕ → ℕ → MVal
+field_held table h c n f =
+    if nat_lt n (h.births c) then unwrap_or (h.fields c n f) (first_field table c f) else Null

@@ -1,7 +1,8 @@
 -- What is left to do, as the run from here on.
-use Rattle.std.specs.Prelude.{ℕ, suc, Bool, true, false, not, ◌-◌, if◌then◌else◌, List, [], ◌∷◌, ◌++◌, take, drop, length, reverse, slice_index_or}
+use Rattle.std.specs.Prelude.{ℕ, suc, Bool, true, false, not, if◌then◌else◌, ◌==◌, List, [], ◌∷◌, ◌++◌, take, drop, reverse, slice_index_or, Option, Some, None}
+use Rattle.par_lexer.specs.declared.operator.BinOp.{BinOp}
 use Rattle.par_typed.specs.declared.table.Table.{Table}
-use Rattle.par_typed.specs.Plain.{Body, TExp, MayTExp, Absent, Present, TExps, TSta, MayTSta, TStas, TCatches, mark}
+use Rattle.par_typed.specs.Plain.{Body, TExp, MayTExp, Absent, Present, TExps, TSta, MayTSta, TStas, TCatches, NoCatch, Catch, mark}
 use Rattle.par_typed.specs.Shown.{shown, all_shown, does, otherwise, all_do, all_catch}
 use Rattle.par_values.specs.declared.inputs.ChannelInput.{ChannelInput}
 use Rattle.par_values.specs.declared.value.MVal.{MVal}
@@ -10,11 +11,11 @@ use Rattle.par_values.specs.Areas.{number_of}
 use Rattle.par_values.specs.Arithmetic.{negated}
 use Rattle.par_runs.specs.State.{set_local, set_result}
 use Rattle.par_runs.specs.Tasks as exit
-use Rattle.par_runs.specs.Tasks.{Rest, Rests, Task, nothing, done, gives, fine, change, read, follow, and_then, tested, unless_null, leave, looped, turn, turns, caught}
+use Rattle.par_runs.specs.Tasks.{Rest, Rests, Task, nothing, done, gives, fine, change, read, follow, and_then, tested, leave, looped, turn, turns, caught}
 use Rattle.par_runs.specs.Values.{truth, is_true, object_number, decides}
 use Rattle.par_runs.specs.Meaning.{outputs, operates, writes_static, writes_field, Calls, calls, eval, eval_all, go, go_else, go_all, go_catch, method}
 use Rattle.par_runs.specs.Source.{final}
-use Rattle.par_meaning.specs.Frame.{Frame, held, left_by}
+use Rattle.par_meaning.specs.Frame.{held, left_by}
 use Rattle.par_meaning.specs.declared.work.Completion.{Completion}
 use Rattle.par_meaning.specs.declared.work.Completion.TheVariants.{Normal, Abrupt}
 use Rattle.par_meaning.specs.declared.work.Exit.{Exit}
@@ -24,8 +25,6 @@ use Rattle.par_meaning.specs.declared.work.Next.{Next}
 use Rattle.par_meaning.specs.declared.work.Next.TheVariants as next
 use Rattle.par_meaning.specs.declared.work.Waiting.{Waiting}
 use Rattle.par_meaning.specs.declared.work.Waiting.TheVariants as waiting
-use Rattle.par_meaning.specs.declared.work.Then.{Then}
-use Rattle.par_meaning.specs.declared.work.Then.TheVariants.{Goes, Ends}
 
 -- a program with what its input channels are given, whose calls may be so deep
 pub record Setting : Type 0 where
@@ -91,37 +90,61 @@ Follows = List MVal → List MVal → Rests
 abbrev pub last_values : ℕ → List MVal → List MVal
 last_values count values = reverse (take count values)
 
+-- a turn of a loop where its test gave this
+abbrev pub turned : Setting → TExp → TSta → MVal → Task
+turned p e s v =
+    if is_true v then (λ rest. performs p s (looped (loops p e s) rest)) else fine
+
+-- a field of an object, where it is there
+abbrev pub reads_field : Bool → ℕ → ℕ → MVal → Task
+reads_field sure c f r = tested sure r (read (λ s. s.fields c (object_number r) f))
+
+-- a write to a field of an object, where it is there
+abbrev pub sets_field : Table → Bool → ℕ → ℕ → MVal → MVal → Task
+sets_field t sure c f r v = tested sure r (writes_field t c f r v)
+
+-- an operator that has its first part
+abbrev pub decided : Setting → BinOp → TExp → MVal → Task
+decided p op e u = if decides op u then gives u else and_then (evaluates p e) (operates op u)
+
 -- with what waits on top of what follows
 abbrev pub waits : Setting → Waiting → Follows → Follows
-waits p (waiting.Field sure c f) rest below vs =
-    follow (λ r. tested sure r (read (λ s. s.fields c (object_number r) f))) (rest below vs)
+waits p (waiting.Field sure c f) rest below vs = follow (reads_field sure c f) (rest below vs)
 waits p (waiting.Output c k) rest below vs = follow (outputs p.table c k) (rest below vs)
 waits p (waiting.Argument target count es) rest below vs =
-    follow (λ v. evaluates_all p (all_shown es.now) (λ more. called p target (last_values count vs ++ v ∷ more)))
+    follow (λ v. evaluates_all p (all_shown es.now)
+    (λ more. called p target (last_values count vs ++ v ∷ more)))
     (rest below (drop count vs))
-waits p waiting.Neg rest below vs = follow (λ v. gives (value.Int (negated (number_of v)))) (rest below vs)
+waits p waiting.Neg rest below vs =
+    follow (λ v. gives (value.Int (negated (number_of v)))) (rest below vs)
 waits p waiting.Not rest below vs = follow (λ v. gives (truth (not (is_true v)))) (rest below vs)
-waits p (waiting.Decide op e) rest below vs =
-    follow (λ u. if decides op u then gives u else and_then (evaluates p (shown e.now)) (operates op u)) (rest below vs)
+waits p (waiting.Decide op e) rest below vs = follow (decided p op (shown e.now)) (rest below vs)
 waits p (waiting.Operate op u) rest below vs = follow (operates op u) (rest below vs)
 waits p (waiting.If s o) rest below vs =
-    follow (λ v. if is_true v then performs p (does s.now) else performs_else p (otherwise o.now)) (rest below vs)
-waits p (waiting.Test e s) rest below vs =
-    follow (λ v. if is_true v then (λ rest. performs p (does s.now) (looped (loops p (shown e.now) (does s.now)) rest)) else fine)
+    follow (λ v. if is_true v then performs p (does s.now) else performs_else p (otherwise o.now))
     (rest below vs)
-waits p (waiting.Loop e s) rest below vs = looped (loops p (shown e.now) (does s.now)) (rest below vs)
+waits p (waiting.Test e s) rest below vs =
+    follow (turned p (shown e.now) (does s.now)) (rest below vs)
+waits p (waiting.Loop e s) rest below vs =
+    looped (loops p (shown e.now) (does s.now)) (rest below vs)
 waits p (waiting.Catch cs) rest below vs = caught (handles p (all_catch cs.now)) (rest below vs)
-waits p waiting.Return rest below vs = follow (λ v. change (set_result v) (done exit.Returned nothing)) (rest below vs)
-waits p (waiting.SetLocal x) rest below vs = follow (λ v. change (set_local x v) fine) (rest below vs)
-waits p (waiting.SetStatic c f) rest below vs = follow (writes_static p.table c f) (rest below vs)
+waits p waiting.Return rest below vs =
+    follow (λ v. change (set_result v) (done exit.Returned nothing)) (rest below vs)
+waits p (waiting.SetLocal x) rest below vs =
+    follow (λ v. change (set_local x v) fine) (rest below vs)
+waits p (waiting.SetStatic c f) rest below vs =
+    follow (writes_static p.table c f) (rest below vs)
 waits p (waiting.Object sure c f e) rest below vs =
-    follow (λ r. and_then (evaluates p (shown e.now)) (λ v. tested sure r (writes_field p.table c f r v))) (rest below vs)
+    follow (λ r. and_then (evaluates p (shown e.now)) (sets_field p.table sure c f r))
+    (rest below vs)
 waits p (waiting.SetField sure c f r) rest below vs =
-    follow (λ v. tested sure r (writes_field p.table c f r v)) (rest below vs)
+    follow (sets_field p.table sure c f r) (rest below vs)
 waits p waiting.Eval rest below vs = follow (λ v. fine) (rest below vs)
-waits p (waiting.Block ss) rest below vs = follow (λ v. performs_all p (all_do ss.now)) (rest below vs)
+waits p (waiting.Block ss) rest below vs =
+    follow (λ v. performs_all p (all_do ss.now)) (rest below vs)
 waits p (waiting.Leave size result) rest below vs =
-    let caller = left_by size below in leave (held caller.own) result (rest caller.below vs)
+    let caller = left_by size below in
+    leave (held caller.own) result (rest caller.below vs)
 
 -- what waits, the first on top, and behind it the end of the run
 unfoldable pub left : Setting → List Waiting → Follows
@@ -138,6 +161,11 @@ exit_of (Thrown c) = exit.Thrown c
 abbrev pub completes : Rests → Completion → Rest
 completes rest (Normal v) = rest exit.Normal v
 completes rest (Abrupt e) = rest (exit_of e) nothing
+
+-- the block that catches exactly this class
+abbrev pub catch_of : TCatches → ℕ → Option TSta
+catch_of NoCatch c = None
+catch_of (Catch d s cs) c = if d == c then Some s else catch_of cs c
 
 -- what is done next, and then what follows
 abbrev pub goes : Setting → Next → Follows → List MVal → List MVal → Rest

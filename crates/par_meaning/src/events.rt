@@ -1,36 +1,23 @@
-//! What the fields of a program hold, what its channels give and take, and what happens with it.
+//! What channels give and take, and what happens.
 
 ghost use Rattle.std.specs.Prelude.{◌≡◌, unwrap_or, IfOk, OnOk};
 ghost use Rattle.par_values.specs.declared.run.Event.{Event as Happened};
-ghost use Rattle.par_runs.specs.Meaning.{outputs, inputs, writes_static, writes_field, born};
-ghost use Rattle.par_runs.specs.Names.{first_field, made_named, channel_named};
+ghost use Rattle.par_runs.specs.Meaning.{outputs, inputs, born};
+ghost use Rattle.par_runs.specs.Names.{made_named, channel_named};
 ghost use Rattle.par_runs.specs.Source.{given_to};
 ghost use Rattle.par_runs.specs.Tasks.{named};
-ghost use Rattle.par_runs.specs.Values.{shown_value};
 ghost use Rattle.par_meaning.specs.Stored.{holds};
 ghost use Rattle.par_meaning.specs.Onward.{Does, told};
 
 use crate::machine::Machine;
 use crate::memory::NoMemory;
-use crate::names::{self, Member};
+use crate::names;
 use crate::operators::{constant, number};
 use crate::program::Program;
 use crate::run::SourceEvent;
-use crate::work::{Completion, FINE, Then};
-use par_typed::table::Table;
-use par_values::run::{Event, Val};
+use crate::work::{FINE, Then};
+use par_values::run::Event;
 use par_values::value::MVal;
-
-/// What a static field holds.
-pub(crate) fn static_field(program: &Program, machine: &Machine, class: u16, field: u16) -> MVal
-    ensures { result ≡ unwrap_or ((holds machine.now.store).statics class field)
-        (first_field program.now.typed.now.table class field) }
-{
-    match machine.store.static_field(class, field) {
-        Some(value) => value,
-        None => names::first_field(&program.typed.table, class, field),
-    }
-}
 
 /// What an input channel has left.
 fn numbers<'a>(program: &Program<'a>, machine: &Machine<'a>, class: u16, channel: u16) -> &'a [i32]
@@ -58,17 +45,17 @@ pub(crate) fn input<'a>(
     match numbers.split_first() {
         Some((first, others)) => {
             machine.store.keep_input(class, channel, others)?;
-            Ok(Then::Ends(Completion::Normal(constant(first))))
+            Ok(Then::gives(constant(first)))
         }
         None => {
             machine.store.keep_input(class, channel, numbers)?;
-            Ok(Then::Ends(Completion::Normal(MVal::Int(0))))
+            Ok(Then::gives(MVal::Int(0)))
         }
     }
 }
 
 /// Puts an event behind the others, with the locks that are open now.
-fn tell(machine: &mut Machine, event: Event) -> Result<(), NoMemory>
+pub(crate) fn tell(machine: &mut Machine, event: Event) -> Result<(), NoMemory>
     ensures { OnOk result (machine.new ≡ told event machine.old) }
 {
     let locks = machine.store.locks().clone()?;
@@ -92,7 +79,7 @@ pub(crate) fn born<'a>(
             let number = machine.store.births(class);
             tell(machine, Event::Born(name, number))?;
             let number = machine.store.bear(class)?;
-            Ok(Then::Ends(Completion::Normal(MVal::Ref(class, number))))
+            Ok(Then::gives(MVal::Ref(class, number)))
         }
         None => Ok(Then::Ends(FINE)),
     }

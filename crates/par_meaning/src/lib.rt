@@ -1,15 +1,18 @@
-//! The machine of source runs, as far as it is built: it enters the nodes of a typed tree.
+//! The machine of source runs: what a typed program does on its inputs, event by event, within a
+//! bound on its steps.
 //!
 //! The work that is left lies in a vector, so that neither calls nor deep expressions nest calls of
-//! the machine's own. Members and locals are found by number, and names are made only where an
-//! event is handed out. What waits is not taken up again yet, and no run is told. The crate looks
-//! at no policy and checks no type; where the numbers of a tree name nothing, nothing happens
-//! there.
+//! the machine's own. Members, locals and bodies are found by number, and names are made only where
+//! an event is handed out. The crate looks at no policy and checks no type; where the numbers of a
+//! tree name nothing, nothing happens there.
 #![tactic(auto)]
 
+mod accept;
+mod bodies;
 mod calls;
 mod events;
 mod exprs;
+mod fields;
 mod frames;
 mod machine;
 mod memory;
@@ -17,10 +20,14 @@ mod names;
 mod operators;
 mod program;
 mod run;
+mod source;
 mod stack;
+mod steps;
 mod stmts;
 mod store;
+mod unwind;
 mod work;
 
 pub use memory::NoMemory;
 pub use run::{SourceEvent, SourceRun};
+pub use source::run_source;

@@ -1,18 +1,18 @@
 //! A run between two of its steps.
 
+ghost use Rattle.par_meaning.specs.Whole.{IsNew};
+
 use crate::frames::Frames;
 use crate::run::SourceEvent;
 use crate::stack::Stack;
 use crate::store::Store;
-use crate::work::Waiting;
 use par_lexer::list::List;
 use par_values::value::MVal;
+use std::alloc::Global;
 
-/// What a run remembers between two steps.
+/// What a run remembers between two steps, but for what waits.
 #[derive(Drop)]
 pub(crate) struct Machine<'a> {
-    /// What waits for what is done next.
-    pub(crate) work: Stack<Waiting<'a>>,
     /// The values that calls have so far.
     pub(crate) values: Stack<MVal>,
     pub(crate) frames: Frames,
@@ -20,4 +20,19 @@ pub(crate) struct Machine<'a> {
     pub(crate) result: MVal,
     pub(crate) store: Store<'a>,
     pub(crate) events: List<SourceEvent>,
+}
+
+impl<'a> Machine<'a> {
+    /// Nothing has happened yet.
+    pub(crate) fn new(alloc: Global) -> Machine<'a>
+        ensures { IsNew result }
+    {
+        Machine {
+            values: Stack::new(alloc),
+            frames: Frames::new(alloc),
+            result: MVal::Null,
+            store: Store::new(alloc),
+            events: List::new(alloc),
+        }
+    }
 }

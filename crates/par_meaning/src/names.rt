@@ -1,12 +1,12 @@
 //! What the numbers of a table name.
 
-ghost use Rattle.std.specs.Prelude.{◌≡◌, slice_get};
+ghost use Rattle.std.specs.Prelude.{◌≡◌, codes, slice_get};
 ghost use Rattle.std.specs.Option.{option_copied};
-ghost use Rattle.par_runs.specs.Names.{class_named, made_named, field_named, channel_named, first_field, first_value};
+ghost use Rattle.par_runs.specs.Names.{class_named, made_named, field_named, channel_named, first_field, first_value, place_of, main_of};
 ghost use Rattle.par_meaning.specs.Named.{member, name_of};
 
 use par_lexer::name::Name;
-use par_typed::table::{ClassInfo, Table};
+use par_typed::table::{ClassInfo, MethodInfo, Table};
 use par_typed::ty::Ty;
 use par_values::value::MVal;
 
@@ -95,4 +95,26 @@ pub(crate) fn first_field(table: &Table, class: u16, field: u16) -> MVal
         },
         None => MVal::Null,
     }
+}
+
+/// The number of the method `main`.
+pub(crate) fn main(table: &Table) -> usize
+    ensures { result ≡ main_of table.now }
+{
+    match class_at(table, table.main) {
+        Some(info) => main_place(info.methods.as_slice()),
+        None => 0,
+    }
+}
+
+/// The place of the first method `main`, and else how many methods there are.
+fn main_place(methods: &[MethodInfo]) -> usize
+    ensures { result ≡ place_of (codes "main") methods.now }
+{
+    for (place, method) in methods.iter().enumerate() {
+        if method.name.bytes() == b"main".as_slice() {
+            return place;
+        }
+    }
+    methods.len()
 }

@@ -3,13 +3,13 @@
 ghost use Rattle.std.specs.Prelude.{◌≡◌, IfOk};
 ghost use Rattle.par_policy.specs.Numbers.{has};
 ghost use Rattle.par_runs.specs.Tasks.{asked};
-ghost use Rattle.par_typed.specs.Shown.{shown, may_shown, does, otherwise, all_do};
-ghost use Rattle.par_meaning.specs.Onward.{Costs, Moves};
-ghost use Rattle.par_meaning.specs.Work.{performs, performs_else, performs_all, loops, returned};
+ghost use Rattle.par_typed.specs.Shown.{may_shown, does, otherwise, all_do};
+ghost use Rattle.par_meaning.specs.Onward.{Costs, Moves, Is};
+ghost use Rattle.par_meaning.specs.Work.{performs, performs_else, performs_all, returned};
 
 use crate::machine::Machine;
 use crate::memory::NoMemory;
-use crate::work::{Completion, Exit, FINE, Next, Then, Waiting};
+use crate::work::{Exit, FINE, Next, Then, Waiting};
 use par_typed::expr::TExpr;
 use par_typed::stmt::{TStmt, TStmtKind};
 
@@ -21,23 +21,17 @@ pub(crate) fn enter_stmt<'a>(
     ensures { IfOk result (λ on. Costs (λ p. performs p (does stmt.now)) machine.old machine.new on) }
 {
     match &stmt.kind {
-        TStmtKind::Block(stmts) => statements(machine, stmts.as_slice()),
-        TStmtKind::If(test, body, other) => {
-            machine.work.push(Waiting::If(body, other))?;
-            Ok(Then::Goes(Next::Expr(test)))
-        }
-        TStmtKind::While(test, body) => {
-            machine.work.push(Waiting::Test(test, body))?;
-            Ok(Then::Goes(Next::Expr(test)))
-        }
-        TStmtKind::Try(body, catches) => {
-            machine.work.push(Waiting::Catch(catches.as_slice()))?;
-            Ok(Then::Goes(Next::Stmt(body)))
-        }
-        TStmtKind::Return(value) => enter_return(machine, value),
-        TStmtKind::Break => Ok(Then::Ends(Completion::Abrupt(Exit::Broken))),
-        TStmtKind::Continue => Ok(Then::Ends(Completion::Abrupt(Exit::Continued))),
-        TStmtKind::Throw(class) => Ok(Then::Ends(Completion::Abrupt(Exit::Thrown(*class)))),
+        TStmtKind::Block(stmts) => Ok(statements(stmts.as_slice())),
+        TStmtKind::If(test, body, other) => Ok(Then::part(test, Waiting::If(body, other))),
+        TStmtKind::While(test, body) => Ok(Then::part(test, Waiting::Test(test, body))),
+        TStmtKind::Try(body, catches) => Ok(Then::Waits(
+            Waiting::Catch(catches.as_slice()),
+            Next::Stmt(body),
+        )),
+        TStmtKind::Return(value) => Ok(enter_return(value)),
+        TStmtKind::Break => Ok(Then::leaves(Exit::Broken)),
+        TStmtKind::Continue => Ok(Then::leaves(Exit::Continued)),
+        TStmtKind::Throw(class) => Ok(Then::leaves(Exit::Thrown(*class))),
         TStmtKind::OpenLock(lock) => {
             machine.store.open(*lock)?;
             Ok(Then::Ends(FINE))
@@ -46,42 +40,23 @@ pub(crate) fn enter_stmt<'a>(
             machine.store.close(*lock)?;
             Ok(Then::Ends(FINE))
         }
-        TStmtKind::SetLocal(local, _, value) => {
-            machine.work.push(Waiting::SetLocal(*local))?;
-            Ok(Then::Goes(Next::Expr(value)))
+        TStmtKind::SetLocal(local, _, value) => { Ok(Then::part(value, Waiting::SetLocal(*local))) }
+        TStmtKind::SetStatic(c, f, value) => Ok(Then::part(value, Waiting::SetStatic(*c, *f))),
+        TStmtKind::SetField(of, c, f, value) => {
+            Ok(Then::part(of, Waiting::Object(of.sure, *c, *f, value)))
         }
-        TStmtKind::SetStatic(class, field, value) => {
-            machine.work.push(Waiting::SetStatic(*class, *field))?;
-            Ok(Then::Goes(Next::Expr(value)))
-        }
-        TStmtKind::SetField(of, class, field, value) => {
-            machine
-                .work
-                .push(Waiting::Object(of.sure, *class, *field, value))?;
-            Ok(Then::Goes(Next::Expr(of)))
-        }
-        TStmtKind::Eval(e) => {
-            machine.work.push(Waiting::Eval)?;
-            Ok(Then::Goes(Next::Expr(e)))
-        }
+        TStmtKind::Eval(e) => Ok(Then::part(e, Waiting::Eval)),
         TStmtKind::When(lock, body, other) => Ok(ask(machine, *lock, body, other)),
     }
 }
 
 /// Returns, behind the value where there is one.
-fn enter_return<'a>(
-    machine: &mut Machine<'a>,
-    value: &'a Option<TExpr>,
-) -> Result<Then<'a>, NoMemory>
-    ensures { IfOk result (λ on.
-        Moves (λ p. returned p (may_shown value.now)) machine.old machine.new on) }
+fn enter_return<'a>(value: &'a Option<TExpr>) -> Then<'a>
+    ensures { Is (λ p. returned p (may_shown value.now)) result }
 {
     match value {
-        Some(value) => {
-            machine.work.push(Waiting::Return)?;
-            Ok(Then::Goes(Next::Expr(value)))
-        }
-        None => Ok(Then::Ends(Completion::Abrupt(Exit::Returned))),
+        Some(value) => Then::part(value, Waiting::Return),
+        None => Then::leaves(Exit::Returned),
     }
 }
 
@@ -96,8 +71,16 @@ fn ask<'a>(
         (performs_else p (otherwise other.now))) machine.now machine.now result }
 {
     if machine.store.locks().has(lock) {
-        return Then::Goes(Next::Stmt(body));
+        Then::Goes(Next::Stmt(body))
+    } else {
+        otherwise(other)
     }
+}
+
+/// Goes on with what stands behind `else`.
+pub(crate) fn otherwise<'a>(other: &'a Option<Box<TStmt>>) -> Then<'a>
+    ensures { Is (λ p. performs_else p (otherwise other.now)) result }
+{
     match other {
         Some(stmt) => Then::Goes(Next::Stmt(stmt)),
         None => Then::Ends(FINE),
@@ -105,31 +88,11 @@ fn ask<'a>(
 }
 
 /// Goes on with the statements of a block.
-pub(crate) fn statements<'a>(
-    machine: &mut Machine<'a>,
-    stmts: &'a [TStmt],
-) -> Result<Then<'a>, NoMemory>
-    ensures { IfOk result (λ on.
-        Moves (λ p. performs_all p (all_do stmts.now)) machine.old machine.new on) }
+pub(crate) fn statements<'a>(stmts: &'a [TStmt]) -> Then<'a>
+    ensures { Is (λ p. performs_all p (all_do stmts.now)) result }
 {
     match stmts.split_first() {
-        Some((first, others)) => {
-            machine.work.push(Waiting::Block(others))?;
-            Ok(Then::Goes(Next::Stmt(first)))
-        }
-        None => Ok(Then::Ends(FINE)),
+        Some((first, others)) => Then::Waits(Waiting::Block(others), Next::Stmt(first)),
+        None => Then::Ends(FINE),
     }
-}
-
-/// A test of a loop.
-pub(crate) fn enter_turn<'a>(
-    machine: &mut Machine<'a>,
-    test: &'a TExpr,
-    body: &'a TStmt,
-) -> Result<Then<'a>, NoMemory>
-    ensures { IfOk result (λ on.
-        Costs (λ p. loops p (shown test.now) (does body.now)) machine.old machine.new on) }
-{
-    machine.work.push(Waiting::Test(test, body))?;
-    Ok(Then::Goes(Next::Expr(test)))
 }

@@ -1,5 +1,10 @@
 //! What is left to do, with the nodes of the tree as they are.
 
+ghost use Rattle.std.specs.Prelude.{◌≡◌};
+ghost use Rattle.par_meaning.specs.declared.work.Completion.TheVariants.{Normal, Abrupt};
+ghost use Rattle.par_meaning.specs.declared.work.Next.TheVariants.{Expr};
+ghost use Rattle.par_meaning.specs.declared.work.Then.TheVariants.{Waits, Ends};
+
 use par_lexer::operator::BinOp;
 use par_typed::expr::TExpr;
 use par_typed::stmt::{TCatch, TStmt};
@@ -86,5 +91,30 @@ pub(crate) enum Waiting<'a> {
 #[derive(Clone, Copy)]
 pub(crate) enum Then<'a> {
     Goes(Next<'a>),
+    /// What is done next, and what waits for it.
+    Waits(Waiting<'a>, Next<'a>),
     Ends(Completion),
+}
+
+impl<'a> Then<'a> {
+    /// With this value.
+    pub(crate) fn gives(value: MVal) -> Then<'a>
+        ensures { result ≡ Ends (Normal value) }
+    {
+        Then::Ends(Completion::Normal(value))
+    }
+
+    /// With an exit.
+    pub(crate) fn leaves(exit: Exit) -> Then<'a>
+        ensures { result ≡ Ends (Abrupt exit) }
+    {
+        Then::Ends(Completion::Abrupt(exit))
+    }
+
+    /// With a part, for which this waits.
+    pub(crate) fn part(part: &'a TExpr, waiting: Waiting<'a>) -> Then<'a>
+        ensures { result ≡ Waits waiting.entry (Expr part.entry) }
+    {
+        Then::Waits(waiting, Next::Expr(part))
+    }
 }

@@ -1,5 +1,5 @@
-ghost use Rattle.std.specs.Prelude.{◌≡◌, ◌+◌, [], IfOk, OnOk, None};
-ghost use Rattle.par_meaning.specs.Held.{numbers_left, write_static, bear, write_field, keep_input, opens, closes};
+ghost use Rattle.std.specs.Prelude.{◌≡◌, IfOk, OnOk};
+ghost use Rattle.par_meaning.specs.Held.{nothing_held, numbers_left, write_static, bear, write_field, keep_input, opens, closes};
 ghost use Rattle.par_meaning.specs.Stored.{holds};
 
 use crate::memory::NoMemory;
@@ -12,13 +12,7 @@ use std::collections::HashMap;
 impl<'a> Store<'a> {
     /// Nothing is written, no object is born and no lock is open.
     pub(crate) fn new(alloc: Global) -> Store<'a>
-        ensures { holds result ≡ record {
-          statics = λ c f. None;
-          births = λ c. 0;
-          fields = λ c n f. None;
-          inputs = λ c k. None;
-          locks = [];
-        } }
+        ensures { holds result ≡ nothing_held }
     {
         Store {
             alloc,
