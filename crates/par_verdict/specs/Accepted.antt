@@ -1,6 +1,8 @@
 -- What is kept of an accepted program, and why one is refused.
-use Rattle.std.specs.Prelude.{◌≡◌, ℕ, Some, List, [], ◌∷◌, Contains, length}
+use Rattle.std.specs.Prelude.{◌≡◌, Option, Some, None, List, [], ◌∷◌, Contains, length, slice_get}
 use Rattle.par_typed.specs.declared.table.Table.{Table}
+use Rattle.par_typed.specs.declared.table.ClassInfo.{ClassInfo}
+use Rattle.par_typed.specs.declared.table.MethodInfo.{MethodInfo}
 use Rattle.par_typed.specs.declared.program.Typed.{Typed}
 use Rattle.par_typed.specs.Plain.{Body}
 use Rattle.par_typed.specs.Shown.{bodies}
@@ -15,9 +17,17 @@ use Rattle.par_verdict.specs.Judged.{AreAllRight, IsFirstBroken}
 use Rattle.par_verdict.specs.declared.error.CheckError.{CheckError}
 use Rattle.par_verdict.specs.declared.error.CheckError.TheVariants.{Broken, Memory}
 
--- the numbers of a body are in order and in range
+abbrev pub methods_in : Option ClassInfo → List MethodInfo
+methods_in None = []
+methods_in (Some class) = class.methods
+
+-- the body is that of this method, and its numbers are in order and in range
+pub record IsOrderlyOf (table : Table) (b : Body) (m : MethodInfo) : Type 0 where
+  pub method : slice_get (methods_in (slice_get table.classes b.class)) b.method ≡ Some m
+  pub orderly : IsOrderly (declares table) (length m.locals) b
+
 abbrev pub IsOrderlyBody : Table → Body → Type 0
-IsOrderlyBody table b = (locals : ℕ) × IsOrderly (declares table) locals b
+IsOrderlyBody table b = (m : MethodInfo) × IsOrderlyOf table b m
 
 -- the facts of each body keep all of its rules
 abbrev pub AreAllKept : Table → List Body → List (Facts numbers) → Type 0
