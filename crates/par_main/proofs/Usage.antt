@@ -13,7 +13,7 @@ use Rattle.par_tool.specs.declared.answer.Answer.{Answer}
 use Rattle.par_tool.specs.declared.answer.Answer.TheVariants.{Accepted, Compiled, Refused, Usage, Absent, ReadFault, WriteFault, TooLong, NotBuilt, BadClass, BadInputs}
 use Rattle.par_tool.specs.Texts.{status}
 use Rattle.par_tool.specs.Outside.{Text}
-use Rattle.par_tool.specs.Answers.{Scene, Cause, Ends, misses, answers, runs, lacks_memory}
+use Rattle.par_tool.specs.Answers.{Scene, Cause, Ends, misses, lacks_words, answers, runs, lacks_memory}
 
 -- no other answer has this status
 usage_alone : (a : Answer) → status a ≡ 2 → a ≡ Usage
@@ -48,6 +48,7 @@ said_so number result lines old new f g (unsaid is at) two = absurd (omega (arit
 
 pub no_usage : (which : Which) (words : List (String Global)) (s : Scene) (result : ℕ) (old new : Option Text) (f g : SinkCounts) (w : Wanted) → Asks which words w → Ends which words s result old new f g → result ≡ 2 → ⊥
 no_usage which words s result old new f g w asks (misses none stand said) two = none w asks
+no_usage which words s result old new f g w asks (lacks_words is put stand) two = omega (arith, is, two)
 no_usage which words s result old new f g w asks (answers v a asked cause said) two =
     no_cause s v (subst (Cause s v) (usage_alone a (said_so _ _ _ _ _ _ _ said.said two)) cause)
 no_usage which words s result old new f g w asks (runs v ran asked cause said) two = no_ending ran.ending (said_so _ _ _ _ _ _ _ said two)

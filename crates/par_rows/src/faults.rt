@@ -32,7 +32,12 @@ const OTHER_WORDS: &[&str] = &[
     "paragonc",
     "paragonc --check",
     "paragonc -shop.par",
-    "paragonc shop.par --check",
+    "paragonc --check --trace a b 1",
+    "paragonc --check=yes shop.par",
+    "paragonc --check --check shop.par",
+    "paragonc --help",
+    "paragonc -h",
+    "paragonc --version",
     "paragonc --check shop.par more.par",
     "paragonc --trace shop.par",
     "paragonc -check shop.par",
@@ -46,11 +51,37 @@ const OTHER_WORDS: &[&str] = &[
     "paragon Shop in.txt 1000000001",
     "paragon Shop -in.txt 1",
     "paragon 2Shop in.txt 1",
+    "paragon 9x in.txt 5",
 ];
 
 fn is_told_the_usage(alloc: Global, command: &str) -> Result<bool, NoMemory> {
     let mut folder = source(alloc)?;
     answers(alloc, command, &mut folder, USAGE)
+}
+
+/// Words of a form, over the same source.
+const FORMS: &[(&str, Answer)] = &[
+    ("paragonc --check shop.par", ACCEPTED),
+    ("paragonc shop.par --check", ACCEPTED),
+    ("paragonc --check -- shop.par", ACCEPTED),
+    ("paragonc -- -shop.par", ABSENT),
+    ("paragonc -- --check", ABSENT),
+    ("paragonc -", ABSENT),
+    ("paragonc help", ABSENT),
+    ("paragon -- Shop -in.txt 1", ABSENT),
+];
+
+fn form_is_told(alloc: Global, command: &str, answer: Answer) -> Result<bool, NoMemory> {
+    let mut folder = source(alloc)?;
+    answers(alloc, command, &mut folder, answer)
+}
+
+#[test]
+fn words_of_a_form_are_told_what_they_ask_for(rt: HostRuntime) -> Result<(), Fail> {
+    for (command, answer) in FORMS {
+        expect(form_is_told(rt.alloc(), command, *answer)?, command)?;
+    }
+    Ok(())
 }
 
 #[test]

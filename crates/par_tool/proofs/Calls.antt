@@ -11,31 +11,27 @@ use Rattle.par_single_machine.specs.Machine.{files_of, state_of}
 use Rattle.par_single_machine.specs.State.{State, start}
 use Rattle.par_single_machine.specs.Run.{run, class_number, machine_run}
 use Rattle.par_runner.specs.Texts as told
-use Rattle.par_lexer.specs.Names.{IsName}
 use Rattle.par_words.specs.declared.words.Which.{Which}
-use Rattle.par_words.specs.declared.words.Which.TheVariants.{Compiler, Runner}
-use Rattle.par_words.specs.Words.{Check, Compile, Run, Asks}
+use Rattle.par_words.specs.declared.words.Unread.{Unread}
+use Rattle.par_words.specs.declared.words.Unread.TheVariants as unread
+use Rattle.par_words.specs.Words.{Wanted, Check, Compile, Run, Asks}
 use Rattle.par_tool.specs.declared.answer.Answer.{Answer}
 use Rattle.par_tool.specs.declared.reading.Failure.{Failure}
 use Rattle.par_tool.specs.declared.reading.Failure.TheVariants.{Answered, Memory}
 use Rattle.par_tool.specs.Outside.{Text, MakesAtMost}
-use Rattle.par_tool.specs.Failures.{IsFailure}
+use Rattle.par_tool.specs.Failures.{IsFailure, failure_for}
 use Rattle.par_tool.specs.Sources.{Checked, CompiledSo}
 use Rattle.par_tool.specs.Classes.{NotRun, IsStarted}
-use Rattle.par_tool.specs.Answers.{Scene, Stand, Ends, answers, runs, lacks_memory, Concludes, BreaksOff}
+use Rattle.par_tool.specs.Answers.{Scene, Stand, Ends, misses, lacks_words, answers, runs, lacks_memory, ReadsOnly, Concludes, BreaksOff}
 use Rattle.par_tool.proofs.Alone.{own_number}
 use Rattle.par_tool.proofs.Spending.{at_most}
 
--- the name of the class of a run is one
-pub asks_named : (which : Which) (words : List (String Global)) (main inputs : Text) (steps : ℕ) → Asks which words (Run main inputs steps) → IsName main
-asks_named Compiler words main inputs steps asks = absurd asks
-asks_named Runner [] main inputs steps asks = absurd asks
-asks_named Runner (a ∷ []) main inputs steps asks = absurd asks
-asks_named Runner (a ∷ b ∷ []) main inputs steps asks = absurd asks
-asks_named Runner (a ∷ b ∷ c ∷ []) main inputs steps asks = asks.name
-asks_named Runner (a ∷ b ∷ c ∷ d ∷ words) main inputs steps asks = absurd asks
-
 module _ (which : Which) (words : List (String Global)) (s : Scene) (result : ℕ) (old new : Option Text) (before after : SinkCounts) where
+  pub words_end : (u : Unread) → (u ≡ unread.NoForm → (w : Wanted) → Asks which words w → ⊥) → ReadsOnly 0 s
+      → BreaksOff (failure_for u) result old new before after → Ends which words s result old new before after
+  words_end unread.NoForm none stand said = misses (none refl) stand said
+  words_end unread.Memory none stand said = lacks_words said.0 said.1 stand
+
   pub check_ends : (file : Text) (outcome : Result Answer Failure) → Asks which words (Check file) → Makes 1 0 s.before s.after → Stand s
       → IfOk outcome (Checked s.files s.before s.after file) → IfErr outcome (IsFailure (Checked s.files s.before s.after file))
       → Concludes outcome result old new before after → Ends which words s result old new before after

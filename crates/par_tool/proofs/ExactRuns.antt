@@ -1,5 +1,5 @@
 -- The status of a run is the one that its files ask for.
-use Rattle.std.proofs.Common.{◌≡◌, ℕ, ◌-◌, ◌<◌, [], ◌∷◌, length, false, cond, Option, Some, None, refl, sym, ap, subst, ◌∙◌, inl, inr, arith}
+use Rattle.std.proofs.Common.{◌≡◌, ℕ, ◌-◌, ◌<◌, [], ◌∷◌, length, true, false, cond, Option, Some, None, refl, sym, ap, subst, ◌∙◌, inl, inr, arith}
 use Rattle.std.specs.Prelude.{nat_le}
 use Rattle.std.proofs.lemmas.Bool.{false≢true}
 use Rattle.std.proofs.lemmas.Bool.Decides.{nat_tests}
@@ -11,7 +11,7 @@ use Rattle.par_inputs.specs.Rules.{entries, IsRight}
 use Rattle.par_class.specs.declared.file.ClassFile.{ClassFile}
 use Rattle.par_class.specs.Spelling.{Spells}
 use Rattle.par_class.specs.Reading.{file_at}
-use Rattle.par_class.proofs.Files.{one_file}
+use Rattle.par_class.proofs.Files as class
 use Rattle.par_single_machine.specs.Run.{machine_run}
 use Rattle.par_runner.specs.Texts as told
 use Rattle.par_inputs.specs.declared.read.TheConstants.{LONGEST_INPUTS}
@@ -25,8 +25,10 @@ use Rattle.par_loader.specs.Found as found
 use Rattle.par_loader.specs.Loaded as loaded
 use Rattle.par_loader.specs.Loaded.{Loaded, Load, main_step}
 use Rattle.par_loader.specs.Judged.{judged}
+use Rattle.par_loader.specs.Alone.{one_file}
+use Rattle.par_loader.proofs.Alone.{spelled_alone}
 use Rattle.par_tool.specs.Classes.{IsAlone, IsLoaded, NoneAlone, ends_so, IsBad, broken, misfit, misfit_in, HasBadLine, NotRun, IsRunOf}
-use Rattle.par_tool.specs.Exactly.{IsSaidBy, status_in, TellsRun, TellsClass}
+use Rattle.par_tool.specs.Exactly.{IsSaidBy, status_in, are_whole, TellsRun, TellsClass}
 use Rattle.par_tool.proofs.Loads.{same_judged, stops_first}
 use Rattle.par_tool.proofs.Statuses as near
 use Rattle.par_tool.proofs.Statuses.{IsNear, same, near_status, same_status, read_there, missing_read, overlong_read, missing_not_read, overlong_not_read, there_not_read}
@@ -40,11 +42,18 @@ right_or_bad file text number right fit (misfit h) = let e : None ≡ Some h.pla
 
 -- the same bytes are one class file
 same_file : (main a b : Text) (one other : ClassFile) → a ≡ b → IsAlone main a one → IsAlone main b other → one ≡ other
-same_file main a b one other e x y = one_file b one other (subst (λ (t : Text). Spells t one) e x.spells) y.spells
+same_file main a b one other e x y = class.one_file b one other (subst (λ (t : Text). Spells t one) e x.spells) y.spells
 
 -- inputs are their channels
 inputs_are : (a b : Inputs) → a.channels ≡ b.channels → a ≡ b
 inputs_are a b e = ap (λ cs. let x : Inputs = record { channels = cs } in x) e
+
+whole_status : (end : Loaded) → are_whole end ≡ true → status_in end ≡ 9
+whole_status (loaded.whole all) links = refl
+whole_status loaded.missing links = absurd (false≢true links)
+whole_status loaded.overlong links = absurd (false≢true links)
+whole_status (loaded.refused class number value) links = absurd (false≢true links)
+whole_status (loaded.absent class index) links = absurd (false≢true links)
 
 module _ (files : Option Files) (before after : FolderCounts) (main inputs : Text) where
   -- what stands in the place of a run: a read failed, or the class files do not link, or they do and none runs by itself; or the input file was not had, or has a wrong line
@@ -184,13 +193,30 @@ module _ (files : Option Files) (before after : FolderCounts) (main inputs : Tex
           };
     }
 
+  -- class files that do not link have none that runs by itself
+  unlinked_none : (fs : Option Files) (bytes : Text) → IsThere fs LONGEST_CLASS (class_file main) bytes → (classes : Classes) → AreOf fs classes
+      → are_whole (judged classes main).end ≡ false → (file : ClassFile) → IsAlone main bytes file → ⊥
+  unlinked_none None bytes there classes of fails file alone = there
+  unlinked_none (Some m) bytes there classes of fails file alone =
+      let links : judged classes main ≡ one_file file = spelled_alone classes main bytes file (of main ∙ there.0) there.1 alone.spells alone.alone in
+      false≢true (sym fails ∙ ap (λ (l : Load). are_whole l.end) links)
+
+  -- the file of a run is that of the bytes that are there
+  ran_alone : {steps : ℕ} (bytes : Text) → IsThere files LONGEST_CLASS (class_file main) bytes → (ran : Ran) (h : IsRunOf files main inputs steps ran) → IsAlone main bytes h.file
+  ran_alone bytes at ran h =
+      let e : h.loaded.bytes ≡ bytes = sym (read_there files LONGEST_CLASS (class_file main) bytes h.loaded.bytes at h.loaded.read) in
+      subst (λ (t : Text). IsAlone main t h.file) e h.loaded.alone
+
   -- where an answer stands in the place of the run
   pub tells_instead : (steps result : ℕ) (a : Answer) → Instead a → IsSaidBy result (status a) → TellsClass files main inputs steps result
   tells_instead steps result a h said = record {
     missing = λ m. near_status 3 result a (class_missing m a h) said;
     overlong = λ m. near_status 8 result a (class_overlong m a h) said;
     there = λ bytes file at alone. tells_run bytes file at alone steps result a h said;
-    otherwise = λ bytes at none classes of. near_status _ result a (class_other bytes at none classes of a h) said;
+    unlinked = λ bytes at classes of fails.
+        near_status _ result a (class_other bytes at (unlinked_none files bytes at classes of fails) classes of a h) said;
+    not_alone = λ bytes at none classes of links.
+        near_status 9 result a (subst (λ n. IsNear n a) (whole_status (judged classes main).end links) (class_other bytes at none classes of a h)) said;
   }
 
   -- where the run is told
@@ -199,7 +225,6 @@ module _ (files : Option Files) (before after : FolderCounts) (main inputs : Tex
     missing = λ m. absurd (missing_read files LONGEST_CLASS (class_file main) h.loaded.bytes m h.loaded.read);
     overlong = λ m. absurd (overlong_read files LONGEST_CLASS (class_file main) h.loaded.bytes m h.loaded.read);
     there = λ bytes file at alone. ran_tells bytes file at alone steps result ran h said;
-    otherwise = λ bytes at none classes of.
-        let e : h.loaded.bytes ≡ bytes = sym (read_there files LONGEST_CLASS (class_file main) bytes h.loaded.bytes at h.loaded.read) in
-        absurd (none h.file (subst (λ (t : Text). IsAlone main t h.file) e h.loaded.alone));
+    unlinked = λ bytes at classes of fails. absurd (unlinked_none files bytes at classes of fails h.file (ran_alone bytes at ran h));
+    not_alone = λ bytes at none classes of links. absurd (none h.file (ran_alone bytes at ran h));
   }

@@ -77,6 +77,8 @@ module _ (which : Which) (words : List (String Global)) (scene : Scene) (result 
     -- the words are of no form: no file is read and none is written
     misses : ((w : Wanted) → Asks which words w → ⊥) → ReadsOnly 0 scene
         → IsSaid Usage result old new before after → Ends
+    -- memory was wanting for the words: no file is read and none is written
+    lacks_words : result ≡ 7 → IsUnput old new before after → ReadsOnly 0 scene → Ends
     answers : (w : Wanted) (answer : Answer) → Asks which words w → Cause scene w answer
         → IsSaid answer result old new before after → Ends
     runs : (w : Wanted) (ran : Ran) → Asks which words w → RunCause scene w ran

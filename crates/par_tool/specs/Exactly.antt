@@ -1,5 +1,5 @@
 -- Which status a call has whose files are there.
-use Rattle.std.specs.Prelude.{◌≡◌, ℕ, ◌⊎◌, [], ◌∷◌, Option, None}
+use Rattle.std.specs.Prelude.{◌≡◌, ℕ, ◌⊎◌, Bool, true, false, [], ◌∷◌, Option, None}
 use Rattle.par_io.specs.Causes.{Files}
 use Rattle.par_values.specs.declared.inputs.Inputs.{Inputs}
 use Rattle.par_class.specs.declared.file.ClassFile.{ClassFile}
@@ -72,8 +72,8 @@ pub record TellsRun (files : Option Files) (file : ClassFile) (main inputs : Tex
   pub there : (text : Text) → IsThere files LONGEST_INPUTS inputs text
       → RunsOn file main text steps result
 
--- The status where no class file runs by itself: 9 where the class files link, and 12 where one is
--- refused or absent.
+-- The status that class files come to: 12 where one is refused or absent, and 9 where they link and
+-- that of the class does not run by itself.
 abbrev pub status_in : Loaded → ℕ
 status_in (loaded.whole all) = 9
 status_in loaded.missing = 3
@@ -81,18 +81,28 @@ status_in loaded.overlong = 8
 status_in (loaded.refused class number value) = 12
 status_in (loaded.absent class index) = 12
 
--- Which status a class has that the folder tells of: that of its run where its file runs by itself,
--- and else that of what its class files come to.
+-- the class files link
+abbrev pub are_whole : Loaded → Bool
+are_whole (loaded.whole all) = true
+are_whole _ = false
+
+-- Which status a class has that the folder tells of: that of what its class files come to where
+-- they do not link, whatever its own file is; where they link, that of its run where its file runs
+-- by itself, and else 9.
 pub record TellsClass (files : Option Files) (main inputs : Text) (steps result : ℕ) : Type 0 where
   pub missing : IsMissing files (class_file main) → IsStatus result 3
   pub overlong : IsOverlong files LONGEST_CLASS (class_file main) → IsStatus result 8
+  pub unlinked : (bytes : Text) → IsThere files LONGEST_CLASS (class_file main) bytes
+      → (classes : Classes) → AreOf files classes
+      → are_whole (judged classes main).end ≡ false
+      → IsStatus result (status_in (judged classes main).end)
   pub there : (bytes : Text) (file : ClassFile)
       → IsThere files LONGEST_CLASS (class_file main) bytes
       → IsAlone main bytes file → TellsRun files file main inputs steps result
-  pub otherwise : (bytes : Text) → IsThere files LONGEST_CLASS (class_file main) bytes
+  pub not_alone : (bytes : Text) → IsThere files LONGEST_CLASS (class_file main) bytes
       → ((file : ClassFile) → IsAlone main bytes file → ⊥)
       → (classes : Classes) → AreOf files classes
-      → IsStatus result (status_in (judged classes main).end)
+      → are_whole (judged classes main).end ≡ true → IsStatus result 9
 
 -- The status of a call, where the folder tells its files.
 module _ (files : Option Files) where

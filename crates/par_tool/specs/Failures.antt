@@ -4,7 +4,9 @@ use Rattle.std.specs.Bool.{OnFalse}
 use Rattle.par_tool.specs.declared.answer.Answer.{Answer}
 use Rattle.par_loader.specs.declared.error.Unloaded.{Unloaded}
 use Rattle.par_loader.specs.declared.error.Unloaded.TheVariants as unloaded
-use Rattle.par_tool.specs.declared.answer.Answer.TheVariants.{Absent, TooLong, ReadFault, BadClass}
+use Rattle.par_words.specs.declared.words.Unread.{Unread}
+use Rattle.par_words.specs.declared.words.Unread.TheVariants as unread
+use Rattle.par_tool.specs.declared.answer.Answer.TheVariants.{Usage, Absent, TooLong, ReadFault, BadClass}
 use Rattle.par_tool.specs.declared.reading.Failure.{Failure}
 use Rattle.par_tool.specs.declared.reading.Failure.TheVariants.{Answered, Memory}
 use Rattle.par_tool.specs.Texts.{is_fault}
@@ -32,3 +34,8 @@ failure_of unloaded.TooLong = Answered TooLong
 failure_of unloaded.Failed = Answered ReadFault
 failure_of (unloaded.BadClass class number value) = Answered (BadClass class number value)
 failure_of unloaded.Memory = Memory
+
+-- what is answered where words ask for nothing
+abbrev pub failure_for : Unread → Failure
+failure_for unread.NoForm = Answered Usage
+failure_for unread.Memory = Memory

@@ -3,13 +3,14 @@
 ghost use Rattle.std.specs.Prelude.{◌≡◌, ◌≤◌, IsTrue, IfOk, IfErr, length};
 ghost use Rattle.par_io.specs.Causes.{Makes, NoneFalls};
 ghost use Rattle.par_tool.specs.Outside.{WasRead, NotRead};
-ghost use Rattle.par_tool.specs.Failures.{IsFailure, FaultsAreTold, failure_of};
+ghost use Rattle.par_tool.specs.Failures.{IsFailure, FaultsAreTold, failure_of, failure_for};
 ghost use Rattle.par_tool.specs.declared.reading.Failure.TheVariants.{Memory};
 
 use crate::answer::Answer;
 use par_io::{Folder, ReadFail};
 use par_lexer::list::NoMemory;
 use par_loader::Unloaded;
+use par_words::Unread;
 use std::alloc::{AllocError, Global};
 
 /// Why a job does not come to its end.
@@ -34,6 +35,17 @@ impl From<AllocError> for Failure {
 
     fn from(_: AllocError) -> Failure {
         Failure::Memory
+    }
+}
+
+impl From<Unread> for Failure {
+    ghost from_gives = { λ unread e. e ≡ failure_for unread };
+
+    fn from(unread: Unread) -> Failure {
+        match unread {
+            Unread::NoForm => Failure::Answered(Answer::Usage),
+            Unread::Memory => Failure::Memory,
+        }
     }
 }
 

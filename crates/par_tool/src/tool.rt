@@ -39,8 +39,9 @@ pub fn tool<F: Folder, S: Sink>(
     ensures failed_puts_are_told { IsTrue S.counts_faults_alone →
         result ≢ 6 → (S.counts out.new).faults ≡ (S.counts out.old).faults }
 {
-    let Some(request) = read_words(which, words) else {
-        return say(alloc, Answer::Usage, out);
+    let request = match read_words(alloc, which, words) {
+        Ok(request) => request,
+        Err(unread) => return break_off(alloc, unread.into(), out),
     };
     match request {
         Request::Check(file) => conclude(alloc, check(alloc, folder, file), out),

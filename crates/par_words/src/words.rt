@@ -1,13 +1,16 @@
-//! The words behind a program's name, read by hand.
+//! What words ask for.
 
-ghost use Rattle.std.specs.Prelude.{◌≡◌, ◌≤◌, ℕ, List, true, false, MatchOption, codes, string_bytes};
-ghost use Rattle.par_lexer.specs.Names.{IsName};
-ghost use Rattle.par_words.specs.Words.{Asks, Wanted};
-ghost use Rattle.par_words.specs.Words as spec;
+ghost use Rattle.std.specs.Prelude.{◌≡◌, ◌≤◌, ℕ, MatchOption, MatchResult, map};
+ghost use Rattle.clap.specs.Words.{found_of, rows_of};
+ghost use Rattle.par_words.specs.Commands as spec;
+ghost use Rattle.par_words.specs.Words.{Asks, Wanted, IsForm, IsSource, IsRun, AskRun, CountsSteps};
 ghost use Rattle.par_words.specs.Requests.{wanted};
 
+use crate::commands::{is_checked, taken, values};
+use clap::ArgMatches;
 use par_inputs::magnitude_of;
 use par_lexer::name::Name;
+use std::alloc::{AllocError, Global};
 
 /// Which program was called.
 #[derive(Clone, Copy, Debug, PartialEq, Eq)]
@@ -33,53 +36,88 @@ pub enum Request<'a> {
     },
 }
 
+/// Why words ask for nothing.
+#[derive(Clone, Copy, Debug, PartialEq, Eq)]
+pub enum Unread {
+    /// They are of none of the program's forms.
+    NoForm,
+    /// Memory is wanting.
+    Memory,
+}
+
+impl From<AllocError> for Unread {
+    ghost use Rattle.par_words.specs.declared.words.Unread.TheVariants.{Memory};
+
+    ghost from_gives = { λ _ unread. unread ≡ Memory };
+
+    fn from(_: AllocError) -> Unread {
+        Unread::Memory
+    }
+}
+
 /// The most instructions that a run is given.
 const MOST_STEPS: u32 = 1_000_000_000;
 
 /// What the words ask for, where they are of a form of that program.
-pub fn read_words<'a>(which: Which, words: &'a [String]) -> Option<Request<'a>>
-    ensures { MatchOption result ((w : Wanted) → Asks which words.now w → ⊥)
-        (λ request. Asks which words.now (wanted request)) }
+pub fn read_words<'a>(
+    alloc: Global,
+    which: Which,
+    words: &'a [String],
+) -> Result<Request<'a>, Unread>
+    ensures { MatchResult result (λ request. Asks which words.entry.now (wanted request))
+        (λ unread. unread ≡ Unread.NoForm → (w : Wanted) → Asks which words.entry.now w → ⊥) }
 {
+    let matches = taken(alloc, which, words)?;
+    request_of(which, &matches).ok_or(Unread::NoForm)
+}
+
+/// What the flags and values of a program ask for.
+fn request_of<'a>(which: Which, matches: &ArgMatches<'a>) -> Option<Request<'a>>
+    ensures { let found = rows_of (found_of matches.entry.now) in MatchOption result
+        ((w : Wanted) → IsForm which (spec.is_checked found) (spec.values found) w → ⊥)
+        (λ request. IsForm which (spec.is_checked found) (spec.values found) (wanted request)) }
+{
+    let values = values(matches)?;
     match which {
-        Which::Compiler => compiler_request(words),
-        Which::Runner => runner_request(words),
+        Which::Compiler => source_request(is_checked(matches), values),
+        Which::Runner => run_request(values),
     }
 }
 
-fn compiler_request<'a>(words: &'a [String]) -> Option<Request<'a>>
-    ensures { MatchOption result ((w : Wanted) → Asks Which.Compiler words.now w → ⊥)
-        (λ request. Asks Which.Compiler words.now (wanted request)) }
+/// A check or a compilation, where there is one value.
+fn source_request<'a>(checked: bool, values: &[&'a str]) -> Option<Request<'a>>
+    ensures { MatchOption result
+        ((w : Wanted) → IsSource checked (map (λ text. text.now) values.entry.now) w → ⊥)
+        (λ request. IsSource checked (map (λ text. text.now) values.entry.now) (wanted request)) }
 {
-    match words {
-        [file] => Some(Request::Compile(file_in(file.as_str())?)),
-        [flag, file] => {
-            if flag.as_str() != "--check" {
-                return None;
-            }
-            Some(Request::Check(file_in(file.as_str())?))
-        }
+    match values {
+        [file] => Some(if checked {
+            Request::Check(file)
+        } else {
+            Request::Compile(file)
+        }),
         _ => None,
     }
 }
 
-fn runner_request<'a>(words: &'a [String]) -> Option<Request<'a>>
-    ensures { MatchOption result ((w : Wanted) → spec.IsRun words.now w → ⊥)
-        (λ request. spec.IsRun words.now (wanted request)) }
+/// A run, where there are three values.
+fn run_request<'a>(values: &[&'a str]) -> Option<Request<'a>>
+    ensures { MatchOption result
+        ((w : Wanted) → IsRun (map (λ text. text.now) values.entry.now) w → ⊥)
+        (λ request. IsRun (map (λ text. text.now) values.entry.now) (wanted request)) }
 {
-    match words {
-        [main, inputs, steps] => run_request(main.as_str(), inputs.as_str(), steps.as_str()),
+    match values {
+        [main, inputs, steps] => run_of(main, inputs, steps),
         _ => None,
     }
 }
 
 /// A run, where the words are a name, a file and a number.
-fn run_request<'a>(main: &'a str, inputs: &'a str, steps: &str) -> Option<Request<'a>>
-    ensures { MatchOption result ((w : Wanted) → spec.AskRun main.now inputs.now steps.now w → ⊥)
-        (λ request. spec.AskRun main.now inputs.now steps.now (wanted request)) }
+fn run_of<'a>(main: &'a str, inputs: &'a str, steps: &str) -> Option<Request<'a>>
+    ensures { MatchOption result ((w : Wanted) → AskRun main.now inputs.now steps.now w → ⊥)
+        (λ request. AskRun main.now inputs.now steps.now (wanted request)) }
 {
     let steps = steps_in(steps.as_bytes())?;
-    let inputs = file_in(inputs)?;
     if !Name::is_name(main.as_bytes()) {
         return None;
     }
@@ -90,34 +128,13 @@ fn run_request<'a>(main: &'a str, inputs: &'a str, steps: &str) -> Option<Reques
     })
 }
 
-/// The word, where it does not begin with `-`.
-fn file_in(word: &str) -> Option<&str>
-    ensures { MatchOption result (spec.is_flag word.now ≡ true)
-        (λ file. (file.now ≡ word.now) × (spec.is_flag word.now ≡ false)) }
-{
-    if is_flag(word.as_bytes()) {
-        return None;
-    }
-    Some(word)
-}
-
 /// The number of instructions that a word writes.
 fn steps_in(word: &[u8]) -> Option<u32>
-    ensures { MatchOption result ((n : ℕ) → spec.CountsSteps word.now n → ⊥) (λ n. spec.CountsSteps word.now n) }
+    ensures { MatchOption result ((n : ℕ) → CountsSteps word.now n → ⊥) (CountsSteps word.now) }
 {
     let steps = magnitude_of(word, MOST_STEPS)?;
     if steps == 0 {
         return None;
     }
     Some(steps)
-}
-
-/// Whether a word begins with `-`.
-fn is_flag(word: &[u8]) -> bool
-    ensures { result ≡ spec.is_flag word.now }
-{
-    match word {
-        [first, ..] => *first == b'-',
-        [] => false,
-    }
 }
