@@ -10,11 +10,11 @@ use Rattle.par_straight_shows.proofs.Whole.{shows}
 use Rattle.par_straight_shows.proofs.Ending.{shows_whole}
 use Rattle.par_single_machine.specs.Target.{target}
 use Rattle.par_tool.specs.Outside.{Text}
-use Rattle.par_tool.specs.Sources.{IsAcceptedAs, IsClassOf}
+use Rattle.par_tool.specs.Sources.{IsCompiledAs, IsClassOf}
 
-pub class_of : (source : Text) (p : Program) (bytes : Text) → IsAcceptedAs source p → IsCompiled p bytes → IsClassOf p bytes
+pub class_of : (source : Text) (p : Program) (bytes : Text) → IsCompiledAs source p → IsCompiled p bytes → IsClassOf p bytes
 class_of source p bytes accepted compiled =
-    let runs = runnable source p accepted.has in
+    let runs = runnable source p accepted.passed.has in
     let shown = shows p compiled.file compiled.is runs in
     record {
       file = compiled.file;
@@ -24,5 +24,5 @@ class_of source p bytes accepted compiled =
       alone = alone p compiled.file compiled.is runs;
       shows = shown;
       whole = shows_whole (compiled.file ∷ []) p shown;
-      secure = shown_files_are_secure (target (compiled.file ∷ []) p.class) (subject p) shown accepted.secure;
+      secure = shown_files_are_secure (target (compiled.file ∷ []) p.class) (subject p) shown accepted.passed.secure;
     }

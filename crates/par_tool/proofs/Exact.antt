@@ -15,18 +15,17 @@ use Rattle.par_tool.specs.Texts.{status, text}
 use Rattle.par_tool.specs.Answers.{Scene, Cause, RunCause, Ends, misses, lacks_words, answers, runs, lacks_memory}
 use Rattle.par_tool.specs.Exactly as exactly
 use Rattle.par_tool.specs.Exactly.{IsSaidBy, IsStatus, Checks, Compiles, IsExact, TellsSource, TellsClass}
-use Rattle.par_tool.proofs.Statuses.{said_status, checks, compiles}
-use Rattle.par_tool.proofs.ExactSources.{checked_found, compiled_found, never_written, tells_source}
+use Rattle.par_tool.proofs.Statuses.{said_status}
+use Rattle.par_tool.proofs.ExactSources.{tells_check, tells_compile}
 use Rattle.par_tool.proofs.ExactRuns.{instead, tells_instead, tells_ran}
 
 -- ---- the status
 
 answer_is_exact : (s : Scene) (w : Wanted) (a : Answer) (result : ℕ) → Cause s w a → IsSaidBy result (status a) → IsExact s.files w result
 answer_is_exact s (Check file) a result cause said =
-    let never = never_written s.files s.before s.after file a cause.0 in
-    tells_source s.files s.before s.after file Checks result a (checked_found s.files s.before s.after file a cause.0) (checks result a never said) said
+    tells_check s.files s.before s.after file result a cause.0 said
 answer_is_exact s (Compile file) a result cause said =
-    tells_source s.files s.before s.after file Compiles result a (compiled_found s.files s.before s.after file s.later a cause) (compiles result a said) said
+    tells_compile s.files s.before s.after file s.later result a cause said
 answer_is_exact s (Run main inputs steps) a result cause said =
     tells_instead s.files s.before s.after main inputs steps result a (instead s.files s.before s.after main inputs a cause.0) said
 
@@ -39,14 +38,14 @@ run_is_exact s (Run main inputs steps) ran result cause said = tells_ran s.files
 wanting : (result number : ℕ) → result ≡ 7 → IsStatus result number
 wanting result number seven = exactly.said (exactly.lacks_memory seven)
 
-source_wants : (Accepts : ℕ → Type 0) (files : Option Files) (file : Text) (result : ℕ) → result ≡ 7 → Accepts result → TellsSource Accepts files file result
+source_wants : (Accepts : Text → ℕ → Type 0) (files : Option Files) (file : Text) (result : ℕ) → result ≡ 7
+    → ((source : Text) → Accepts source result) → TellsSource Accepts files file result
 source_wants Accepts files file result seven accepts = record {
   missing = λ h. wanting result 3 seven;
   overlong = λ h. wanting result 8 seven;
   there = λ source there. record {
-    accepted = λ h. accepts;
+    accepted = λ h. accepts source;
     refused = λ rule line column limit count h. wanting result 1 seven;
-    not_built = λ h. wanting result 9 seven;
   };
 }
 
@@ -67,8 +66,9 @@ class_wants files main inputs steps result seven = record {
 }
 
 wants : (files : Option Files) (w : Wanted) (result : ℕ) → result ≡ 7 → IsExact files w result
-wants files (Check file) result seven = source_wants Checks files file result seven (wanting result 0 seven)
-wants files (Compile file) result seven = source_wants Compiles files file result seven (inl (wanting result 0 seven))
+wants files (Check file) result seven = source_wants Checks files file result seven (λ source. wanting result 0 seven)
+wants files (Compile file) result seven = source_wants Compiles files file result seven
+    (λ source. record { compiled = λ h. inl (wanting result 0 seven); not_built = λ h. wanting result 9 seven })
 wants files (Run main inputs steps) result seven = class_wants files main inputs steps result seven
 
 pub exact : (which : Which) (words : List (String Global)) (s : Scene) (result : ℕ) (old new : Option Text) (f g : SinkCounts)

@@ -11,7 +11,8 @@ use Rattle.par_words.specs.Words.{Wanted, Check, Compile, Run}
 use Rattle.par_lexer.specs.declared.cut.TheConstants.{LONGEST_SOURCE}
 use Rattle.par_inputs.specs.declared.read.TheConstants.{LONGEST_INPUTS}
 use Rattle.par_pool.specs.declared.reading.TheConstants.{LONGEST_CLASS}
-use Rattle.par_observer.specs.Judgements.{HasAccepted, IsNotBuilt}
+use Rattle.par_observer.specs.Judgements.{IsAcceptedSource}
+use Rattle.par_observer.specs.Straight.{HasPassed}
 use Rattle.par_loader.specs.Reads.{Classes, AreOf}
 use Rattle.par_loader.specs.Loaded as loaded
 use Rattle.par_loader.specs.Loaded.{Loaded}
@@ -32,24 +33,25 @@ pub data IsStatus (result number : ℕ) : Type 0 where
   read_fails : result ≡ 4 → IsStatus result number
 
 -- an accepted source that is checked: nothing is written that could fail
-abbrev pub Checks : ℕ → Type 0
-Checks result = IsStatus result 0
+abbrev pub Checks : Text → ℕ → Type 0
+Checks source result = IsStatus result 0
 
--- an accepted source that is compiled: the write may have failed
-abbrev pub Compiles : ℕ → Type 0
-Compiles result = IsStatus result 0 ⊎ (result ≡ 5)
+-- An accepted source that is compiled: 0 where it is a straight-line source that its own check lets
+-- pass, unless the write failed, and else 9.
+pub record Compiles (source : Text) (result : ℕ) : Type 0 where
+  pub compiled : HasPassed source → IsStatus result 0 ⊎ (result ≡ 5)
+  pub not_built : (HasPassed source → ⊥) → IsStatus result 9
 
--- Which status a call on a source has: 1 where a rule is broken, 9 where it is a sentence whose names
--- and limits are right and no straight-line source, and what the call makes of an accepted one.
-pub record Judges (Accepts : ℕ → Type 0) (source : Text) (result : ℕ) : Type 0 where
-  pub accepted : HasAccepted source → Accepts result
+-- Which status a call on a source has: 1 where a rule is broken, and what the call makes of an
+-- accepted one.
+pub record Judges (Accepts : Text → ℕ → Type 0) (source : Text) (result : ℕ) : Type 0 where
+  pub accepted : IsAcceptedSource source → Accepts source result
   pub refused : (rule line column limit count : ℕ) → IsBroken source rule line column limit count
       → IsStatus result 1
-  pub not_built : IsNotBuilt source → IsStatus result 9
 
 -- Which status it has where the folder tells of the source: 3 where its file is missing, 8 where it
 -- is too long.
-pub record TellsSource (Accepts : ℕ → Type 0) (files : Option Files) (file : Text) (result : ℕ)
+pub record TellsSource (Accepts : Text → ℕ → Type 0) (files : Option Files) (file : Text) (result : ℕ)
     : Type 0 where
   pub missing : IsMissing files file → IsStatus result 3
   pub overlong : IsOverlong files LONGEST_SOURCE file → IsStatus result 8

@@ -5,54 +5,56 @@ ghost use Rattle.par_io.specs.Causes.{Makes, NoneFalls};
 ghost use Rattle.par_lexer.specs.Names.{IsName};
 ghost use Rattle.par_tool.specs.Failures.{IsFailure, FaultsAreTold};
 ghost use Rattle.par_tool.specs.Outside.{Text, MakesAtMost};
-ghost use Rattle.par_tool.specs.Sources.{IsAcceptedAs, ReadSource, Rejected, Checked, CompiledSo, IsUnaccepted, IsClassOf};
+ghost use Rattle.par_observer.specs.Judgements.{IsAcceptedAs};
+ghost use Rattle.par_tool.specs.Sources.{IsCompiledAs, ReadSource, Uncompiled, Checked, CompiledSo};
+ghost use Rattle.par_tool.specs.Sources.{IsUnaccepted, IsUncompiled, IsClassOf};
 
 use crate::answer::Answer;
 use crate::reading::{Failure, read};
 use par_io::{Folder, WriteFail};
 use par_lexer::{LONGEST_SOURCE, place_of};
 use par_loader::{class_file_name, text_of};
-use par_observer::judge::{Judgement, judge};
+use par_check::Accepted;
+use par_observer::{JudgeError, judge, straight_line};
 use par_straight::program::Program;
 use par_straight_compile::compile;
 use std::alloc::{AllocError, Global};
 
-/// The program of a source that is accepted.
-fn accepted(alloc: Global, source: &[u8]) -> Result<Program, Failure>
+/// What a source is accepted as.
+fn accepted(alloc: Global, source: &[u8]) -> Result<Accepted, Failure>
     requires { length source.now ≤ LONGEST_SOURCE }
     ensures accepted { IfOk result (IsAcceptedAs source.now) }
     ensures failed { IfErr result (IsFailure (IsUnaccepted source.now)) }
 {
-    match judge(alloc, source)? {
-        Judgement::Accepted(program) => Ok(program),
-        Judgement::Broken(refusal) => {
-            let (line, column) = place_of(source, refusal.at);
-            Err(Failure::Answered(Answer::Refused {
-                rule: refusal.rule,
-                line,
-                column,
-                limit: refusal.limit,
-                count: refusal.count,
-            }))
-        }
-        Judgement::NotBuilt => Err(Failure::Answered(Answer::NotBuilt)),
+    match judge(alloc, source) {
+        Ok(accepted) => Ok(accepted),
+        Err(error) => match error {
+            JudgeError::Refused(refusal) => {
+                let (line, column) = place_of(source, refusal.at);
+                Err(Failure::Answered(Answer::Refused {
+                    rule: refusal.rule,
+                    line,
+                    column,
+                    limit: refusal.limit,
+                    count: refusal.count,
+                }))
+            }
+            JudgeError::Memory => Err(Failure::Memory),
+        },
     }
 }
 
-/// The program of an accepted source in a file.
-fn program<F: Folder>(alloc: Global, folder: &mut F, file: &str) -> Result<Program, Failure>
-    ensures kept { F.files folder.new ≡ F.files folder.old }
-    ensures counted { Makes 1 0 (F.counts folder.old) (F.counts folder.new) }
-    ensures none_falls { NoneFalls (F.counts folder.old) (F.counts folder.new) }
-    ensures faults_are_told { IsTrue F.counts_faults_alone →
-        FaultsAreTold result (F.counts folder.old).faults (F.counts folder.new).faults }
-    ensures accepted { IfOk result (λ p.
-        ReadSource (F.files folder.old) file.now (λ source. IsAcceptedAs source p)) }
-    ensures failed { IfErr result (IsFailure (Rejected (F.files folder.old)
-        (F.counts folder.old) (F.counts folder.new) file.now)) }
+/// The program of a source that is accepted and compiled.
+fn compilable(alloc: Global, source: &[u8]) -> Result<Program, Failure>
+    requires { length source.now ≤ LONGEST_SOURCE }
+    ensures compiled { IfOk result (IsCompiledAs source.now) }
+    ensures failed { IfErr result (IsFailure (IsUncompiled source.now)) }
 {
-    let source = read(alloc, folder, file, LONGEST_SOURCE as u64)?;
-    accepted(alloc, source.as_slice())
+    accepted(alloc, source)?;
+    match straight_line(alloc, source)? {
+        Some(program) => Ok(program),
+        None => Err(Failure::Answered(Answer::NotBuilt)),
+    }
 }
 
 /// Checks the source in a file.
@@ -66,13 +68,30 @@ pub fn check<F: Folder>(alloc: Global, folder: &mut F, file: &str) -> Result<Ans
     ensures failed { IfErr result (IsFailure (Checked (F.files folder.old)
         (F.counts folder.old) (F.counts folder.new) file.now)) }
 {
-    program(alloc, folder, file)?;
+    let source = read(alloc, folder, file, LONGEST_SOURCE as u64)?;
+    accepted(alloc, source.as_slice())?;
     Ok(Answer::Accepted)
+}
+
+/// The program of the source in a file, where it is accepted and compiled.
+fn program<F: Folder>(alloc: Global, folder: &mut F, file: &str) -> Result<Program, Failure>
+    ensures kept { F.files folder.new ≡ F.files folder.old }
+    ensures counted { Makes 1 0 (F.counts folder.old) (F.counts folder.new) }
+    ensures none_falls { NoneFalls (F.counts folder.old) (F.counts folder.new) }
+    ensures faults_are_told { IsTrue F.counts_faults_alone →
+        FaultsAreTold result (F.counts folder.old).faults (F.counts folder.new).faults }
+    ensures compiled { IfOk result (λ p.
+        ReadSource (F.files folder.old) file.now (λ source. IsCompiledAs source p)) }
+    ensures failed { IfErr result (IsFailure (Uncompiled (F.files folder.old)
+        (F.counts folder.old) (F.counts folder.new) file.now)) }
+{
+    let source = read(alloc, folder, file, LONGEST_SOURCE as u64)?;
+    compilable(alloc, source.as_slice())
 }
 
 /// The class file of the program of a source.
 fn class_bytes(alloc: Global, program: &Program) -> Result<Vec<u8>, Failure>
-    requires { (source : Text) × IsAcceptedAs source program.now }
+    requires { (source : Text) × IsCompiledAs source program.now }
     ensures class { IfOk result (λ bytes. IsClassOf program.now bytes.items) }
     ensures memory { IfErr result (λ e. e ≡ Failure.Memory) }
 {
