@@ -1,6 +1,6 @@
 //! The method of a body.
 
-ghost use Rattle.std.specs.Prelude.{◌≡◌, Some, length};
+ghost use Rattle.std.specs.Prelude.{◌≡◌, Some, length, slice_get};
 ghost use Rattle.std.specs.Option.{option_copied};
 ghost use Rattle.par_typed.specs.Shown as shown;
 ghost use Rattle.par_rules.specs.Declares.{declares, method_of};
@@ -8,14 +8,15 @@ ghost use Rattle.par_rules.specs.Ranges.{IsOrderly};
 ghost use Rattle.par_verdict.specs.Accepted.{IsOrderlyBody, methods_in};
 
 use par_typed::program::TBody;
-use par_typed::table::{ClassInfo, MethodInfo, Table};
+use par_typed::table::{MethodInfo, Table};
 
-fn methods(class: Option<&ClassInfo>) -> &[MethodInfo]
-    ensures { result.now ≡ methods_in (option_copied class.entry) }
+fn method_at(table: &Table, class: u16, method: u16) -> Option<&MethodInfo>
+    ensures { option_copied result
+        ≡ slice_get (methods_in (slice_get table.now.classes class)) method }
 {
-    match class {
-        None => &[],
-        Some(class) => class.methods.as_slice(),
+    match table.classes.get(usize::from(class)) {
+        None => None,
+        Some(class) => class.methods.get(usize::from(method)),
     }
 }
 
@@ -27,8 +28,7 @@ pub(crate) fn method_of<'a>(table: &'a Table, body: &TBody) -> &'a MethodInfo
     ensures orderly { IsOrderly (declares table.now) (length result.now.locals)
         (shown.body body.now) }
 {
-    let methods = methods(table.classes.get(usize::from(body.class)));
-    match methods.get(usize::from(body.method)) {
+    match method_at(table, body.class, body.method) {
         Some(method) => method,
         None => unreachable!(),
     }

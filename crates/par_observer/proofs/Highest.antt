@@ -51,18 +51,24 @@ module _ (P : Lattice) (top : P.Policy) (below : (p : P.Policy) → P.IsBelow p 
 
   mutual
     unfolding Obeys
+
     obeys : (n : Node) → Obeys P heights n
     obeys (node p rules) = (restores p, obeys_all p None [] rules)
 
     obeys_all : (p : ℕ) (head : Option ℕ) (fs : List (Fact P)) (rules : Rules)
         → ObeysAll P heights p head fs rules
     obeys_all p head fs Done = tt
-    obeys_all p head fs (Part from absorber part more) =
-        (flows (way P (Some highest) fs from), obeys part, λ k h. flows (Some highest),
-        obeys_all p head (heights (spot part) ∷ fs) more)
-    obeys_all p head fs (Test part more) =
-        (obeys part, λ k h. flows (Some highest),
-        obeys_all p (Some (spot part)) (heights (spot part) ∷ fs) more)
+    obeys_all p head fs (Part from absorber part more) = (
+      flows (way P (Some highest) fs from),
+      obeys part,
+      λ k h. flows (Some highest),
+      obeys_all p head (heights (spot part) ∷ fs) more,
+    )
+    obeys_all p head fs (Test part more) = (
+      obeys part,
+      λ k h. flows (Some highest),
+      obeys_all p (Some (spot part)) (heights (spot part) ∷ fs) more,
+    )
     obeys_all p head fs (Heads from more) =
         (heads head (way P (Some highest) fs from), obeys_all p head fs more)
     obeys_all p head fs (Leaves from k more) =

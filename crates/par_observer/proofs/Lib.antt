@@ -5,3 +5,4 @@ pub mod Judging
 pub mod Unread
 pub mod OfTree
 pub mod Clashes
+pub mod Flowing

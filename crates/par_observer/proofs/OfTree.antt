@@ -15,21 +15,22 @@ use Rattle.par_places.specs.Law.{BeginWithin}
 use Rattle.par_places.specs.Within.{IsWithin}
 use Rattle.par_places.specs.Broken.{AreBrokenWithin}
 use Rattle.par_places.proofs.Trees.{trees_lie}
-use Rattle.par_check.specs.declared.accepted.Accepted.{Accepted}
+use Rattle.par_typed.specs.declared.program.Typed.{Typed}
 use Rattle.par_observer.specs.declared.error.JudgeError.{JudgeError}
 use Rattle.par_observer.specs.declared.error.JudgeError.TheVariants.{Refused, Memory}
 use Rattle.par_observer.specs.Passes.{tree_faults}
 use Rattle.par_observer.specs.Trees.{IsAcceptedTreeAs, IsTreeRefused, BreaksRule, has_fault, has_flow}
-use Rattle.par_observer.specs.Judgements.{IsTreeOf, IsAcceptedAs, IsRefused, has_tree, breaks}
+use Rattle.par_observer.specs.Judgements.{IsTreeOf, IsAcceptedAs, IsUnread, IsRefused, has_tree, breaks}
 use Rattle.par_observer.proofs.Placed.{tree_within, flow_within}
 
 -- tokens that stand in a source begin in it
 begin : (source : List ℕ) (tokens : List Token) → AllByRecursion (Stands source) tokens
     → BeginWithin (length source) tokens
 begin source [] h = tt
-begin source (t ∷ ts) h =
-    (let own : Stands source t = h.0 in omega (arith, own.starts, own.ends),
-    begin source ts h.1)
+begin source (t ∷ ts) h = (
+  let own : Stands source t = h.0 in omega (arith, own.starts, own.ends),
+  begin source ts h.1,
+)
 
 begin_in : (source : List ℕ) (tokens : List Token) → IsLaid source tokens
     → BeginWithin (length source) tokens
@@ -49,32 +50,44 @@ breaks_in m tree f within (has_fault first) =
     among_in m (tree_faults tree) f (tree_within m tree within) first.among
 breaks_in m tree f within (has_flow faultless first) = flow_within m tree f within first
 
-pub accepted_of_tree : (source : List ℕ) (tokens : List Token) (tree : Source)
-    (r : Result Accepted JudgeError) → length source ≤ LONGEST_SOURCE → HasTokens source tokens
-    → syntax.HasTree tokens tree → IfOk r (IsAcceptedTreeAs tree) → IfOk r (IsAcceptedAs source)
-accepted_of_tree source tokens tree (Ok a) short cut derived keeps = record {
+pub accepted_of_tree : {A : Type 0} (of : A → Typed) (source : List ℕ) (tokens : List Token)
+    (tree : Source) (r : Result A JudgeError) → length source ≤ LONGEST_SOURCE
+    → HasTokens source tokens → syntax.HasTree tokens tree
+    → IfOk r (λ a. IsAcceptedTreeAs tree (of a)) → IfOk r (λ a. IsAcceptedAs source (of a))
+accepted_of_tree of source tokens tree (Ok a) short cut derived keeps = record {
   tree = tree;
   short = short;
   is_tree = record { tokens = tokens; cut = cut; derived = derived };
   keeps = keeps;
 }
-accepted_of_tree source tokens tree (Err e) short cut derived keeps = tt
+accepted_of_tree of source tokens tree (Err e) short cut derived keeps = tt
 
 refused_so : (source : List ℕ) (tokens : List Token) (tree : Source) (e : JudgeError)
     → length source ≤ LONGEST_SOURCE → HasTokens source tokens → IsLaid source tokens
-    → syntax.HasTree tokens tree → IsTreeRefused tree e → IsRefused source e
+    → syntax.HasTree tokens tree → IsTreeRefused tree e → IsUnread source e
 refused_so source tokens tree (Refused f) short cut laid derived broken =
     let is_tree : IsTreeOf source tree =
-        record { tokens = tokens; cut = cut; derived = derived } in
+    record { tokens = tokens; cut = cut; derived = derived } in
     let within : IsWithin (length source) tree =
-        trees_lie (length source) tokens tree (begin_in source tokens laid) derived in
-    breaks short (has_tree tree is_tree broken, breaks_in (length source) tree f within broken)
+    trees_lie (length source) tokens tree (begin_in source tokens laid) derived in
+    (has_tree tree is_tree broken, breaks_in (length source) tree f within broken)
 refused_so source tokens tree Memory short cut laid derived broken = tt
 
-pub refused_of_tree : (source : List ℕ) (tokens : List Token) (tree : Source)
-    (r : Result Accepted JudgeError) → length source ≤ LONGEST_SOURCE → HasTokens source tokens
+pub refused_of_tree : {A : Type 0} (source : List ℕ) (tokens : List Token) (tree : Source)
+    (r : Result A JudgeError) → length source ≤ LONGEST_SOURCE → HasTokens source tokens
     → IsLaid source tokens → syntax.HasTree tokens tree → IfErr r (IsTreeRefused tree)
-    → IfErr r (IsRefused source)
+    → IfErr r (IsUnread source)
 refused_of_tree source tokens tree (Ok a) short cut laid derived broken = tt
 refused_of_tree source tokens tree (Err e) short cut laid derived broken =
     refused_so source tokens tree e short cut laid derived broken
+
+-- why a source that is short enough is refused
+short_so : (source : List ℕ) (e : JudgeError) → length source ≤ LONGEST_SOURCE
+    → IsUnread source e → IsRefused source e
+short_so source (Refused f) short broken = breaks short broken
+short_so source Memory short broken = tt
+
+pub short_refused : {A : Type 0} (source : List ℕ) (r : Result A JudgeError)
+    → length source ≤ LONGEST_SOURCE → IfErr r (IsUnread source) → IfErr r (IsRefused source)
+short_refused source (Ok a) short broken = tt
+short_refused source (Err e) short broken = short_so source e short broken

@@ -27,6 +27,6 @@ pub inferred_answer : (source : Source) (o : Option Refusal) → all_faults sour
     → IsAnswer (tree_faults source) o
 inferred_answer source o right typed found =
     let last : IsAnswer (all_inferred source) o =
-        subst (IsAnswer (all_inferred source)) (sym found) (answered (all_inferred source)) in
+    subst (IsAnswer (all_inferred source)) (sym found) (answered (all_inferred source)) in
     answer_passes_on (all_faults source) (typed_faults source) o right
     (answer_passes_on (type_faults (table_of source) source) (all_inferred source) o typed last)

@@ -5,7 +5,8 @@ use Rattle.par_typed.specs.declared.table.Table.{Table}
 use Rattle.par_rules.specs.Declares.{declares}
 use Rattle.par_checks.specs.Verdict.{Fails}
 use Rattle.par_verdict.specs.Judged.{IsFirstBroken}
-use Rattle.par_well_typed.specs.Typed.{bodies_of, written_in}
+use Rattle.par_typing.specs.Typed.{written}
+use Rattle.par_observer.specs.Trees.{bodies_of}
 use Rattle.par_placed.proofs.Law.{checks_lie}
 use Rattle.par_observer.proofs.Highest.{lowest_told, told_are_closed}
 use Rattle.std.proofs.Common.{ℕ, List, [], ◌∷◌, not}
@@ -53,7 +54,7 @@ pub flow_within : (m : ℕ) (tree : Source) (f : Refusal) → IsWithin m tree
 flow_within m tree f within first =
     let table : Table = table_of tree in
     let fails : Fails table first.body f.rule f.at (lowest_told table.policies) =
-        first.breaks (lowest_told table.policies)
-        (told_are_closed table.policies (declares table) first.body) in
+    first.breaks (lowest_told table.policies)
+    (told_are_closed table.policies (declares table) first.body) in
     subst (λ (at : ℕ). at ≤ m) fails.at_is
-    (checks_lie m (written_in tree) tree within first.body first.there fails.check fails.asked)
+    (checks_lie m (written tree) tree within first.body first.there fails.check fails.asked)

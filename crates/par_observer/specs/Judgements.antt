@@ -9,7 +9,7 @@ use Rattle.par_tree.specs.Plain.{Source}
 use Rattle.par_parser.specs.Sentence as syntax
 use Rattle.par_typed.specs.declared.refusal.Refusal.{Refusal}
 use Rattle.par_typed.specs.First.{broken}
-use Rattle.par_check.specs.declared.accepted.Accepted.{Accepted}
+use Rattle.par_typed.specs.declared.program.Typed.{Typed}
 use Rattle.par_observer.specs.declared.error.JudgeError.{JudgeError}
 use Rattle.par_observer.specs.declared.error.JudgeError.TheVariants.{Refused, Memory}
 use Rattle.par_observer.specs.Trees.{IsAcceptedTree, IsAcceptedTreeAs, BreaksRule}
@@ -86,8 +86,8 @@ pub record IsAcceptedSource (source : List ℕ) : Type 0 where
   pub accepted : IsAcceptedTree tree
 
 -- the same, and the typed program is that of its tree
-pub record IsAcceptedAs (source : List ℕ) (accepted : Accepted) : Type 0 where
+pub record IsAcceptedAs (source : List ℕ) (typed : Typed) : Type 0 where
   pub tree : Source
   pub short : length source ≤ LONGEST_SOURCE
   pub is_tree : IsTreeOf source tree
-  pub keeps : IsAcceptedTreeAs tree accepted
+  pub keeps : IsAcceptedTreeAs tree typed

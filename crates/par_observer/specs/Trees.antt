@@ -1,6 +1,5 @@
 -- What each judgement of a tree says.
-use Rattle.std.specs.Prelude.{◌≡◌, List, []}
-use Rattle.std.specs.List.{All}
+use Rattle.std.specs.Prelude.{◌≡◌, List, [], Contains}
 use Rattle.par_tree.specs.Plain.{Source}
 use Rattle.par_typed.specs.declared.program.Typed.{Typed}
 use Rattle.par_typed.specs.declared.refusal.Refusal.{Refusal}
@@ -8,29 +7,32 @@ use Rattle.par_typed.specs.First.{IsFirst}
 use Rattle.par_typed.specs.Shown.{bodies}
 use Rattle.par_resolved.specs.Resolved.{table_of}
 use Rattle.par_faults.specs.Faults.{all_faults}
-use Rattle.par_well_typed.specs.Typed.{bodies_of}
-use Rattle.par_typing.specs.Typed.{IsTyped}
+use Rattle.par_annotate.specs.Bodies.{typed_program}
+use Rattle.par_typed.specs.Plain.{Body}
+use Rattle.par_typing.specs.Typed.{IsTyped, written}
 use Rattle.par_checks.specs.Verdict.{IsAccepted}
 use Rattle.par_verdict.specs.Judged.{IsFirstBroken}
-use Rattle.par_flow.specs.declared.table.FactTable.{FactTable}
-use Rattle.par_check.specs.declared.accepted.Accepted.{Accepted}
 use Rattle.par_observer.specs.declared.error.JudgeError.{JudgeError}
 use Rattle.par_observer.specs.declared.error.JudgeError.TheVariants.{Refused, Memory}
 use Rattle.par_observer.specs.Passes.{tree_faults}
+
+-- the typed bodies of a tree, over its table
+abbrev pub bodies_of : Source → List Body
+bodies_of tree = typed_program (written tree) (table_of tree) tree
 
 -- No rule on names or types is broken, no limit is exceeded, each field has a policy, and some
 -- closed facts of each body keep all rules on flows.
 pub record IsAcceptedTree (tree : Source) : Type 0 where
   pub faultless : tree_faults tree ≡ []
-  pub accepted : All (IsAccepted (table_of tree)) (bodies_of tree)
+  pub accepted : (b : Body) → Contains (bodies_of tree) b → IsAccepted (table_of tree) b
 
 -- the program is that of the tree
 pub record IsProgramOf (tree : Source) (typed : Typed) : Type 0 where
   pub table_is : typed.table ≡ table_of tree
   pub bodies_are : bodies typed.bodies ≡ bodies_of tree
 
-abbrev pub IsAcceptedTreeAs : Source → Accepted → Type 0
-IsAcceptedTreeAs tree accepted = IsAcceptedTree tree × IsProgramOf tree accepted.typed
+abbrev pub IsAcceptedTreeAs : Source → Typed → Type 0
+IsAcceptedTreeAs tree typed = IsAcceptedTree tree × IsProgramOf tree typed
 
 -- What a tree is refused by: the first broken rule of the earliest pass in which one is broken.
 pub data BreaksRule (tree : Source) (f : Refusal) : Type 0 where
@@ -47,3 +49,8 @@ IsTreeRefused tree Memory = Unit {0}
 pub record IsTypedTree (tree : Source) (typed : Typed) : Type 0 where
   pub right : all_faults tree ≡ []
   pub typed_is : IsTyped (table_of tree) tree typed
+
+-- the first broken rule on flows, or want of memory
+abbrev pub IsFlowRefused : Typed → JudgeError → Type 0
+IsFlowRefused typed (Refused f) = IsFirstBroken typed.table (bodies typed.bodies) f
+IsFlowRefused typed Memory = Unit {0}

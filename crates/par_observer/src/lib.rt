@@ -7,11 +7,11 @@
 #![tactic(auto)]
 
 mod error;
-mod judge;
 mod reading;
 mod straight;
 mod tree;
+mod verdict;
 
 pub use error::JudgeError;
-pub use judge::judge;
 pub use straight::straight_line;
+pub use verdict::judge;

@@ -1,6 +1,7 @@
 //! The passes over the tree of a source: names, limits, types, fields without a policy, flows.
 
-ghost use Rattle.std.specs.Prelude.{◌≡◌, ◌≤◌, [], IfOk, IfErr, length};
+ghost use Rattle.std.specs.Prelude.{◌≡◌, ◌≤◌, [], None, IfOk, IfErr, length};
+ghost use Rattle.std.specs.List.{AllByRecursion};
 ghost use Rattle.par_lexer.specs.Spans.{IsLaid};
 ghost use Rattle.par_lexer.specs.Tokens.{HasTokens};
 ghost use Rattle.par_tree.specs.Shown.{source as tree_of_program};
@@ -10,8 +11,13 @@ ghost use Rattle.par_resolved.specs.Resolved.{table_of};
 ghost use Rattle.par_faults.specs.Faults.{all_faults};
 ghost use Rattle.par_sources.specs.Numbers.{SourceHasNumbers};
 ghost use Rattle.par_sources.specs.Order.{IsInOrder};
-ghost use Rattle.par_observer.specs.Judgements.{IsAcceptedAs, IsRefused};
+ghost use Rattle.par_observer.specs.Judgements.{IsAcceptedAs, IsUnread};
+ghost use Rattle.par_typed.specs.Shown.{bodies};
+ghost use Rattle.par_well_typed.specs.WellTyped.{IsWellTyped};
+ghost use Rattle.par_verdict.specs.Accepted.{IsOrderlyBody};
+ghost use Rattle.par_verdict.specs.Judged.{IsVerdict};
 ghost use Rattle.par_observer.specs.Trees.{IsAcceptedTreeAs, IsTreeRefused, IsTypedTree};
+ghost use Rattle.par_observer.specs.Trees.{IsFlowRefused};
 
 use crate::error::JudgeError;
 use par_check::{Accepted, CheckError, check};
@@ -37,8 +43,8 @@ pub(crate) fn judge_tree(
     requires laid { IsLaid source.now tokens.now }
     requires sentence { syntax.HasTree tokens.now (tree_of_program tree.now) }
     requires size { source_size (tree_of_program tree.now) ≤ length tokens.now }
-    ensures accepted { IfOk result (IsAcceptedAs source.now) }
-    ensures refused { IfErr result (IsRefused source.now) }
+    ensures accepted { IfOk result (λ accepted. IsAcceptedAs source.now accepted.typed) }
+    ensures refused { IfErr result (IsUnread source.now) }
 {
     passes(alloc, tree)
 }
@@ -49,13 +55,26 @@ fn passes(alloc: Global, tree: &Tree) -> Result<Accepted, JudgeError>
     requires size { source_size (tree_of_program tree.now) ≤ LONGEST_SOURCE }
     requires numbers { SourceHasNumbers (tree_of_program tree.now) }
     requires order { IsInOrder (tree_of_program tree.now) }
-    ensures accepted { IfOk result (IsAcceptedTreeAs (tree_of_program tree.now)) }
+    ensures accepted { IfOk result (λ accepted.
+        IsAcceptedTreeAs (tree_of_program tree.now) accepted.typed) }
     ensures refused { IfErr result (IsTreeRefused (tree_of_program tree.now)) }
 {
     let typed = typed_of(alloc, tree)?;
     if let Some(refusal) = first_inferred(tree) {
         return Err(JudgeError::Refused(refusal));
     }
+    flows(alloc, typed)
+}
+
+/// The program with its facts, or the first rule on flows that is broken.
+fn flows(alloc: Global, typed: Typed) -> Result<Accepted, JudgeError>
+    requires policies { length typed.table.policies ≤ 256 }
+    requires classes { length typed.table.classes ≤ 65536 }
+    requires orderly { AllByRecursion (IsOrderlyBody typed.table) (bodies typed.bodies) }
+    ensures program { IfOk result (λ accepted. accepted.typed ≡ typed) }
+    ensures accepted { IfOk result (λ _. IsVerdict typed.table (bodies typed.bodies) None) }
+    ensures refused { IfErr result (IsFlowRefused typed) }
+{
     match check(alloc, typed) {
         Ok(accepted) => Ok(accepted),
         Err(error) => match error {
@@ -71,6 +90,7 @@ fn typed_of(alloc: Global, tree: &Tree) -> Result<Typed, JudgeError>
     requires numbers { SourceHasNumbers (tree_of_program tree.now) }
     requires order { IsInOrder (tree_of_program tree.now) }
     ensures typed { IfOk result (IsTypedTree (tree_of_program tree.now)) }
+    ensures well_typed { IfOk result (λ typed. IsWellTyped typed.table (bodies typed.bodies)) }
     ensures refused { IfErr result (IsTreeRefused (tree_of_program tree.now)) }
 {
     let table = table_of(alloc, tree)?;

@@ -1,16 +1,18 @@
+use Rattle.std.specs.Prelude.{◌≡◌}
 use Rattle.par_tree.specs.Shown.{source as tree_of_program}
-use Rattle.par_observer.proofs.Passing.{few, types_stop, types_pass}
-use Rattle.par_observer.proofs.judge.first_of_types.Goals as goal
+use Rattle.par_typed.specs.declared.table.Table.{Table}
+use Rattle.par_typed.specs.First.{IsFirst}
+use Rattle.std.proofs.Common.{subst}
+use Rattle.par_types.specs.Program.{type_faults}
+use Rattle.par_observer.specs.Trees.{has_fault}
+use Rattle.par_observer.proofs.Passing.{types_stop}
+use Rattle.par_observer.proofs.tree.typed_of.Goals as goal
 
-pub check_bodies-requires : goal.check_bodies-requires
-check_bodies-requires c = few (tree_of_program c.args.tree.now) c.args.table.now c.requires.right c.requires.table
-
-pub returns-in-Ok-None : goal.returns-in-Ok-None
-returns-in-Ok-None c =
-    let found = rw c.in-Ok-None.field-0-is at c.in-Ok-None.ensures in
-    types_pass (tree_of_program c.args.tree.now) c.args.table.now c.first_inferred.result c.requires.right c.requires.table found c.first_inferred.ensures
-
-pub returns-in-Ok-Some : goal.returns-in-Ok-Some
-returns-in-Ok-Some c =
-    let found = rw c.in-Ok-Some.field-0-is at c.in-Ok-Some.ensures in
-    types_stop (tree_of_program c.args.tree.now) c.args.table.now c.in-Ok-Some.refusal c.requires.right c.requires.table found
+pub returns-in-Broken-clause-refused : goal.returns-in-Broken-clause-refused
+returns-in-Broken-clause-refused c =
+    let tree = tree_of_program c.args.tree.now in
+    let told = rw c.in-Broken.is at c.in-Err.ensures.refused in
+    has_fault
+    (types_stop tree c.in-Broken.refusal c.in_ok-table.ensures.right
+    (subst (λ (t : Table). IsFirst (type_faults t tree) c.in-Broken.refusal)
+    c.in_ok-table.ensures.table told))

@@ -1,7 +1,7 @@
 //! The judgement of a source.
 
 ghost use Rattle.std.specs.Prelude.{◌≡◌, ◌≤◌, ◌<◌, IfOk, IfErr, length};
-ghost use Rattle.par_observer.specs.Judgements.{IsAcceptedAs, IsRefused, overlong};
+ghost use Rattle.par_observer.specs.Judgements.{IsAcceptedAs, IsRefused, IsUnread, overlong};
 
 use crate::error::JudgeError;
 use crate::reading::{read_sentence, tokens_of};
@@ -18,12 +18,21 @@ const TOO_LONG: u16 = 5;
 /// sentence, its names, its limits, its types, fields without a policy, and its flows. What is
 /// accepted has a typed program and facts of each of its bodies.
 pub fn judge(alloc: Global, source: &[u8]) -> Result<Accepted, JudgeError>
-    ensures accepted { IfOk result (IsAcceptedAs source.now) }
+    ensures accepted { IfOk result (λ accepted. IsAcceptedAs source.now accepted.typed) }
     ensures refused { IfErr result (IsRefused source.now) }
 {
     if source.len() > LONGEST_SOURCE {
         return Err(JudgeError::Refused(overlong(source.len())));
     }
+    judge_short(alloc, source)
+}
+
+/// The judgement of a source that is not too long.
+fn judge_short(alloc: Global, source: &[u8]) -> Result<Accepted, JudgeError>
+    requires { length source.now ≤ LONGEST_SOURCE }
+    ensures accepted { IfOk result (λ accepted. IsAcceptedAs source.now accepted.typed) }
+    ensures refused { IfErr result (IsUnread source.now) }
+{
     let tokens = tokens_of(alloc, source)?;
     let tokens = tokens.as_slice();
     let tree = read_sentence(alloc, source, tokens)?;

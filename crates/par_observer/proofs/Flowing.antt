@@ -1,0 +1,92 @@
+-- From a typed tree and the verdict on its flows to what is said of the tree.
+use Rattle.std.proofs.Common.{◌≡◌, ℕ, ◌≤◌, List, [], ◌∷◌, Option, Some, None, Result, Ok, Err}
+use Rattle.std.proofs.Common.{length, sym, subst, arith, refl, ap, ◌∙◌}
+use Rattle.std.specs.Prelude.{slice_get}
+use Rattle.std.proofs.lemmas.List.{length-map}
+use Rattle.std.specs.List.{AllByRecursion}
+use Rattle.std.specs.Result.{IfOk, IfErr}
+use Rattle.par_tree.specs.Plain.{Source}
+use Rattle.par_typed.specs.declared.program.Typed.{Typed}
+use Rattle.par_typed.specs.declared.refusal.Refusal.{Refusal}
+use Rattle.par_typed.specs.declared.table.ClassInfo.{ClassInfo}
+use Rattle.par_typed.specs.declared.table.Table.{Table}
+use Rattle.par_typed.specs.Plain.{Body}
+use Rattle.par_typed.specs.Shown.{bodies}
+use Rattle.par_resolved.specs.Resolved.{table_of}
+use Rattle.par_faults.specs.Faults.{all_faults}
+use Rattle.par_scope.specs.Names.{IsFewTable}
+use Rattle.par_typing.proofs.Limits.{limits_kept}
+use Rattle.par_typing.proofs.Tables.{few_table}
+use Rattle.par_well_typed.specs.Orderly as well
+use Rattle.par_verdict.specs.Accepted as verdict
+use Rattle.par_verdict.specs.Accepted.{IsOrderlyBody}
+use Rattle.par_verdict.specs.Judged.{IsVerdict, IsFirstBroken}
+use Rattle.par_observer.specs.declared.error.JudgeError.{JudgeError}
+use Rattle.par_observer.specs.declared.error.JudgeError.TheVariants.{Refused, Memory}
+use Rattle.par_observer.specs.Passes.{tree_faults}
+use Rattle.par_observer.specs.Trees.{bodies_of, IsTypedTree, IsFlowRefused, IsTreeRefused}
+use Rattle.par_observer.specs.Trees.{IsAcceptedTreeAs, has_flow}
+
+-- what is said of the typed program holds of the tree
+of_tree : (C : Table → List Body → Type 0) (tree : Source) (typed : Typed)
+    → IsTypedTree tree typed → C typed.table (bodies typed.bodies)
+    → C (table_of tree) (bodies_of tree)
+of_tree C tree typed is h =
+    subst (λ (bs : List Body). C (table_of tree) bs) is.typed_is.bodies_are
+    (subst (λ (t : Table). C t (bodies typed.bodies)) is.typed_is.table_is h)
+
+pub accepts : {A : Type 0} (of : A → Typed) (tree : Source) (typed : Typed)
+    (r : Result A JudgeError) → IsTypedTree tree typed → tree_faults tree ≡ []
+    → IfOk r (λ a. of a ≡ typed) → IfOk r (λ a. IsVerdict typed.table (bodies typed.bodies) None)
+    → IfOk r (λ a. IsAcceptedTreeAs tree (of a))
+accepts of tree typed (Ok a) is faultless same kept =
+    subst (IsAcceptedTreeAs tree) (sym same) (
+      record {
+        faultless = faultless;
+        accepted = of_tree (λ t bs. IsVerdict t bs None) tree typed is kept;
+      },
+      record { table_is = is.typed_is.table_is; bodies_are = is.typed_is.bodies_are },
+    )
+accepts of tree typed (Err e) is faultless same kept = tt
+
+refuses_so : (tree : Source) (typed : Typed) (e : JudgeError) → IsTypedTree tree typed
+    → tree_faults tree ≡ [] → IsFlowRefused typed e → IsTreeRefused tree e
+refuses_so tree typed (Refused f) is faultless first =
+    has_flow faultless (of_tree (λ t bs. IsFirstBroken t bs f) tree typed is first)
+refuses_so tree typed Memory is faultless first = tt
+
+pub refuses : {A : Type 0} (tree : Source) (typed : Typed) (r : Result A JudgeError)
+    → IsTypedTree tree typed → tree_faults tree ≡ [] → IfErr r (IsFlowRefused typed)
+    → IfErr r (IsTreeRefused tree)
+refuses tree typed (Ok a) is faultless first = tt
+refuses tree typed (Err e) is faultless first = refuses_so tree typed e is faultless first
+
+same_methods : (o : Option ClassInfo) → verdict.methods_in o ≡ well.methods_in o
+same_methods None = refl
+same_methods (Some class) = refl
+
+orderly_so : (table : Table) (b : Body) → well.IsOrderlyBody table b → IsOrderlyBody table b
+orderly_so table b h = (
+  h.0,
+  record {
+    method =
+        ap (λ ms. slice_get ms b.method) (same_methods (slice_get table.classes b.class))
+        ∙ h.1.method;
+    orderly = h.1.orderly;
+  },
+)
+
+-- bodies are as the verdict needs them
+pub orderly_bodies : (table : Table) (bs : List Body)
+    → AllByRecursion (well.IsOrderlyBody table) bs → AllByRecursion (IsOrderlyBody table) bs
+orderly_bodies table [] h = tt
+orderly_bodies table (b ∷ bs) h = (orderly_so table b h.0, orderly_bodies table bs h.1)
+
+-- and there are few classes
+pub few_classes : (tree : Source) (typed : Typed) → IsTypedTree tree typed
+    → length typed.table.classes ≤ 65536
+few_classes tree typed is =
+    let few : IsFewTable (table_of tree) = few_table tree (limits_kept tree is.right) in
+    let named = length-map (table_of tree).classes (λ c. c.name) in
+    subst (λ (t : Table). length t.classes ≤ 65536) (sym is.typed_is.table_is)
+    (omega (arith, few.classes, named))
