@@ -5,6 +5,7 @@ pub mod ExactSources
 pub mod ExactRuns
 pub mod Exact
 pub mod Compiling
+pub mod Refusals
 pub mod Calls
 pub mod Few
 pub mod Saying

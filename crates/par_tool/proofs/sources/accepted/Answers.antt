@@ -1,13 +1,17 @@
 use Rattle.std.proofs.Common.{refl}
-use Rattle.par_observer.specs.Judgements.{IsBrokenBy}
+use Rattle.par_observer.specs.Judgements.{IsRefusedBy, IsBrokenBy}
+use Rattle.par_tool.proofs.Refusals.{broken_by}
 use Rattle.par_tool.proofs.sources.accepted.Goals as goal
 
 -- the rule that is broken, at its line and its column
-pub returns-in-Broken-clause-failed : goal.returns-in-Broken-clause-failed
-returns-in-Broken-clause-failed c =
-    let broken : IsBrokenBy c.args.source.now c.in-Broken.refusal = rw c.in-Broken.is at c.in_ok-program.ensures in
+pub returns-in-Refused-clause-failed : goal.returns-in-Refused-clause-failed
+returns-in-Refused-clause-failed c =
+    let refused : IsRefusedBy c.args.source.now c.in-Refused.refusal =
+        rw c.in-Refused.is at c.in-Err.ensures.refused in
+    let broken : IsBrokenBy c.args.source.now c.in-Refused.refusal =
+        broken_by c.args.source.now c.in-Refused.refusal c.requires refused in
     record {
-      refusal = c.in-Broken.refusal;
+      refusal = c.in-Refused.refusal;
       breaks = broken.0;
       within = broken.1;
       rule_is = refl;

@@ -40,6 +40,18 @@ returns-in-Err-started-clause-ends g c =
 pub returns-in-Err-clause-usage : goal.returns-in-Err-clause-usage
 returns-in-Err-clause-usage g c = exactly.usage _ _ _ _ _ _ _ _ (returns-in-Err-clause-ends g c)
 
+pub returns-in-Check-clause-usage : goal.returns-in-Check-clause-usage
+returns-in-Check-clause-usage g c = exactly.usage _ _ _ _ _ _ _ _ (returns-in-Check-clause-ends g c)
+
+pub returns-in-Compile-clause-usage : goal.returns-in-Compile-clause-usage
+returns-in-Compile-clause-usage g c = exactly.usage _ _ _ _ _ _ _ _ (returns-in-Compile-clause-ends g c)
+
+pub returns-in-Ok-started-clause-usage : goal.returns-in-Ok-started-clause-usage
+returns-in-Ok-started-clause-usage g c = exactly.usage _ _ _ _ _ _ _ _ (returns-in-Ok-started-clause-ends g c)
+
+pub returns-in-Err-started-clause-usage : goal.returns-in-Err-started-clause-usage
+returns-in-Err-started-clause-usage g c = exactly.usage _ _ _ _ _ _ _ _ (returns-in-Err-started-clause-ends g c)
+
 pub returns-in-Err-clause-exact : goal.returns-in-Err-clause-exact
 returns-in-Err-clause-exact g c = exactly.exact _ _ _ _ _ _ _ _ (returns-in-Err-clause-ends g c)
 
