@@ -1,5 +1,5 @@
 -- A source has one verdict at most.
-use Rattle.std.proofs.Common.{◌≡◌, ℕ, ◌≤◌, List, [], ◌∷◌, Ok, Err, length, subst, ap, arith, refl, ◌∙◌}
+use Rattle.std.proofs.Common.{◌≡◌, ℕ, ◌≤◌, List, [], ◌∷◌, Ok, Err, length, subst, ap, arith, refl}
 use Rattle.std.specs.Prelude.{Contains}
 use Rattle.par_lexer.specs.declared.token.Token.{Token}
 use Rattle.par_lexer.specs.declared.token.LexError.{LexError}
@@ -22,10 +22,8 @@ use Rattle.par_typed.specs.Plain.{Body}
 use Rattle.par_resolved.specs.Resolved.{table_of}
 use Rattle.par_checks.specs.Verdict.{IsAccepted, IsBroken, Fails}
 use Rattle.par_straight.proofs.One.{one_cut}
-use Rattle.par_observer.specs.Passes.{tree_faults}
 use Rattle.par_observer.specs.Straight.{HasPassed}
-use Rattle.par_verdict.specs.Judged.{IsFirstBroken}
-use Rattle.par_observer.specs.Trees.{bodies_of, IsAcceptedTree, BreaksRule, has_fault, has_flow}
+use Rattle.par_observer.specs.Trees.{IsAcceptedTree, BreaksRule, has_fault, has_flow}
 use Rattle.par_observer.specs.Judgements.{Breaks, has_no_tokens, is_no_sentence, has_tree}
 use Rattle.par_observer.specs.Judgements.{IsTreeOf, IsAcceptedSource}
 

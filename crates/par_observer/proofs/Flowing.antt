@@ -1,5 +1,5 @@
 -- From a typed tree and the verdict on its flows to what is said of the tree.
-use Rattle.std.proofs.Common.{◌≡◌, ℕ, ◌≤◌, List, [], ◌∷◌, Option, Some, None, Result, Ok, Err}
+use Rattle.std.proofs.Common.{◌≡◌, ◌≤◌, List, [], ◌∷◌, Option, Some, None, Result, Ok, Err}
 use Rattle.std.proofs.Common.{length, sym, subst, arith, refl, ap, ◌∙◌}
 use Rattle.std.specs.Prelude.{slice_get}
 use Rattle.std.proofs.lemmas.List.{length-map}
@@ -7,13 +7,11 @@ use Rattle.std.specs.List.{AllByRecursion}
 use Rattle.std.specs.Result.{IfOk, IfErr}
 use Rattle.par_tree.specs.Plain.{Source}
 use Rattle.par_typed.specs.declared.program.Typed.{Typed}
-use Rattle.par_typed.specs.declared.refusal.Refusal.{Refusal}
 use Rattle.par_typed.specs.declared.table.ClassInfo.{ClassInfo}
 use Rattle.par_typed.specs.declared.table.Table.{Table}
 use Rattle.par_typed.specs.Plain.{Body}
 use Rattle.par_typed.specs.Shown.{bodies}
 use Rattle.par_resolved.specs.Resolved.{table_of}
-use Rattle.par_faults.specs.Faults.{all_faults}
 use Rattle.par_scope.specs.Names.{IsFewTable}
 use Rattle.par_typing.proofs.Limits.{limits_kept}
 use Rattle.par_typing.proofs.Tables.{few_table}

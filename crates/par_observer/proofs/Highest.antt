@@ -1,15 +1,13 @@
 -- Facts that say as little as there is: nobody sees anything, and no lock is open. They are closed
 -- for each body.
-use Rattle.std.proofs.Common.{◌≡◌, ℕ, List, [], ◌∷◌, Option, Some, None, true, false, not}
-use Rattle.std.specs.Prelude.{Bool, IsTrue, ◌||◌, ◌&&◌}
-use Rattle.par_bits.specs.Sets.{Set, none, IsWithin}
+use Rattle.std.proofs.Common.{ℕ, List, [], ◌∷◌, Option, Some, None, false}
+use Rattle.par_bits.specs.Sets.{none}
 use Rattle.par_policy.specs.declared.clauses.Clause.{Clause}
-use Rattle.par_typed.specs.declared.table.Table.{Table}
 use Rattle.par_typed.specs.Plain.{Body}
 use Rattle.par_rules.specs.Lattice.{Lattice, Seen, IsSeenBelow, policies}
 use Rattle.par_rules.specs.Kinds as kind
 use Rattle.par_rules.specs.Kinds.{Kind}
-use Rattle.par_rules.specs.Ways.{Way, Lands, Flows, MayFlow, MayLand, MayRaise}
+use Rattle.par_rules.specs.Ways.{Way, Lands, MayFlow, MayLand}
 use Rattle.par_rules.specs.Facts.{Fact, Facts}
 use Rattle.par_rules.specs.Declares.{Declares}
 use Rattle.par_rules.specs.Rules.{Node, node, Rules, Done, Part, Test, Heads, Leaves, Worths, spot}

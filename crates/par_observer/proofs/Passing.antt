@@ -1,5 +1,5 @@
 -- The first broken rule of all passes over a tree, from those of each pass.
-use Rattle.std.proofs.Common.{◌≡◌, List, [], Option, Some, None, sym, subst}
+use Rattle.std.proofs.Common.{◌≡◌, [], Option, Some, None, sym, subst}
 use Rattle.par_tree.specs.Plain.{Source}
 use Rattle.par_typed.specs.declared.refusal.Refusal.{Refusal}
 use Rattle.par_typed.specs.First.{IsFirst, IsAnswer, first_of}

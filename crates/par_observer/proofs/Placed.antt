@@ -9,7 +9,7 @@ use Rattle.par_typing.specs.Typed.{written}
 use Rattle.par_observer.specs.Trees.{bodies_of}
 use Rattle.par_placed.proofs.Law.{checks_lie}
 use Rattle.par_observer.proofs.Highest.{lowest_told, told_are_closed}
-use Rattle.std.proofs.Common.{ℕ, List, [], ◌∷◌, not}
+use Rattle.std.proofs.Common.{ℕ, List, [], ◌∷◌}
 use Rattle.std.specs.List.{AllByRecursion}
 use Rattle.par_tree.specs.declared.decl.FieldDecl.{FieldDecl}
 use Rattle.par_tree.specs.Plain as plain

@@ -1,4 +1,4 @@
-use Rattle.std.proofs.Common.{refl, arith}
+use Rattle.std.proofs.Common.{arith}
 use Rattle.par_lexer.specs.declared.token.LexError.TheVariants.{BadByte, NumberTooLarge, OpenComment, NameTooLong, SourceTooLong}
 use Rattle.par_lexer.specs.Tokens.{IsRefusal}
 use Rattle.par_observer.proofs.Unread.{without_tokens}

@@ -1,7 +1,7 @@
 use Rattle.par_tree.specs.Shown.{source as tree_of_program}
 use Rattle.par_sources.proofs.Numbers.{trees_have_numbers}
 use Rattle.par_sources.proofs.Order.{trees_are_in_order}
-use Rattle.par_observer.proofs.OfTree.{accepted_of_tree, refused_of_tree}
+use Rattle.par_observer.proofs.OfTree.{refused_of_tree}
 use Rattle.par_observer.proofs.tree.judge_tree.Goals as goal
 
 pub passes-requires-clause-numbers : goal.passes-requires-clause-numbers
