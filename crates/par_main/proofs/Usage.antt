@@ -1,5 +1,5 @@
 -- Words that ask for something have no cause for the status of `usage`.
-use Rattle.std.proofs.Common.{◌≡◌, ℕ, List, Option, refl, sym, subst, ◌∙◌, arith}
+use Rattle.std.proofs.Common.{◌≡◌, ℕ, List, Option, refl, sym, subst, ◌∙◌, inl, inr, arith}
 use Rattle.std.specs.declared.string.String.{String}
 use Rattle.std.specs.declared.alloc.Global.{Global}
 use Rattle.par_io.specs.Causes.{SinkCounts}
@@ -7,13 +7,13 @@ use Rattle.par_io.specs.Saying.{Said, whole, cut, unsaid}
 use Rattle.par_values.specs.Ran.{Outcome, Fine, BadCode}
 use Rattle.par_values.specs.declared.run.Ending.TheVariants.{End, Uncaught, Stopped}
 use Rattle.par_words.specs.declared.words.Which.{Which}
-use Rattle.par_words.specs.Words.{Wanted, Check, Compile, Run, Asks}
+use Rattle.par_words.specs.Words.{Wanted, Check, Compile, Trace, Run, Asks}
 use Rattle.par_runner.specs.Texts as told
 use Rattle.par_tool.specs.declared.answer.Answer.{Answer}
 use Rattle.par_tool.specs.declared.answer.Answer.TheVariants.{Accepted, Compiled, Refused, Usage, Absent, ReadFault, WriteFault, TooLong, NotBuilt, BadClass, BadInputs}
 use Rattle.par_tool.specs.Texts.{status}
 use Rattle.par_tool.specs.Outside.{Text}
-use Rattle.par_tool.specs.Answers.{Scene, Cause, Ends, misses, lacks_words, answers, runs, lacks_memory}
+use Rattle.par_tool.specs.Answers.{Scene, Cause, Ends, misses, lacks_words, answers, runs, traces, lacks_memory}
 
 -- no other answer has this status
 usage_alone : (a : Answer) → status a ≡ 2 → a ≡ Usage
@@ -39,6 +39,8 @@ no_ending (BadCode class method offset reason) is = omega (arith, is)
 no_cause : (s : Scene) (w : Wanted) → Cause s w Usage → ⊥
 no_cause s (Check file) c = c.0
 no_cause s (Compile file) c = c.2
+no_cause s (Trace file inputs bound) (inl c, stand) = c.1
+no_cause s (Trace file inputs bound) (inr c, stand) = c.1.2
 no_cause s (Run main inputs steps) c = c.0
 
 said_so : (number result : ℕ) (lines : List Text) (old new : Option Text) (f g : SinkCounts) → Said number lines result old new f g → result ≡ 2 → number ≡ 2
@@ -52,4 +54,5 @@ no_usage which words s result old new f g w asks (lacks_words is put stand) two 
 no_usage which words s result old new f g w asks (answers v a asked cause said) two =
     no_cause s v (subst (Cause s v) (usage_alone a (said_so _ _ _ _ _ _ _ said.said two)) cause)
 no_usage which words s result old new f g w asks (runs v ran asked cause said) two = no_ending ran.ending (said_so _ _ _ _ _ _ _ said two)
+no_usage which words s result old new f g w asks (traces v tree run asked cause said) two = no_ending (Fine run.ending) (said_so _ _ _ _ _ _ _ said two)
 no_usage which words s result old new f g w asks (lacks_memory v asked is put few stand) two = omega (arith, is, two)

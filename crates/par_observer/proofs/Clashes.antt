@@ -42,7 +42,7 @@ sentence_or_fault tokens fault sentence found =
     let same : well ≡ Err fault = total.decided sentence.1.1 found in cc
 
 -- a source has one tree at most
-one_tree : (source : List ℕ) (one other : Source) → IsTreeOf source one → IsTreeOf source other
+pub one_tree : (source : List ℕ) (one other : Source) → IsTreeOf source one → IsTreeOf source other
     → one ≡ other
 one_tree source one other is was =
     let same : is.tokens ≡ was.tokens =

@@ -1,5 +1,5 @@
 -- From what a job came to, to how the call ends.
-use Rattle.std.proofs.Common.{◌≡◌, ℕ, List, [], ◌∷◌, Option, Result, Ok, Err, refl, sym, ap, ◌∙◌}
+use Rattle.std.proofs.Common.{◌≡◌, ℕ, List, [], ◌∷◌, Option, Result, Ok, Err, refl, sym, ap, subst, ◌∙◌}
 use Rattle.std.specs.declared.string.String.{String}
 use Rattle.std.specs.declared.alloc.Global.{Global}
 use Rattle.std.specs.Prelude.{IfOk, IfErr}
@@ -10,11 +10,14 @@ use Rattle.par_single_machine.specs.declared.machine.Machine.{Machine}
 use Rattle.par_single_machine.specs.Machine.{files_of, state_of}
 use Rattle.par_single_machine.specs.State.{State, start}
 use Rattle.par_single_machine.specs.Run.{run, class_number, machine_run}
+use Rattle.par_values.specs.Ran.{Fine}
+use Rattle.par_typed.specs.declared.table.Table.{Table}
 use Rattle.par_runner.specs.Texts as told
+use Rattle.par_trace.specs.Texts as traced
 use Rattle.par_words.specs.declared.words.Which.{Which}
 use Rattle.par_words.specs.declared.words.Unread.{Unread}
 use Rattle.par_words.specs.declared.words.Unread.TheVariants as unread
-use Rattle.par_words.specs.Words.{Wanted, Check, Compile, Run, Asks}
+use Rattle.par_words.specs.Words.{Wanted, Check, Compile, Trace, Run, Asks}
 use Rattle.par_tool.specs.declared.answer.Answer.{Answer}
 use Rattle.par_tool.specs.declared.reading.Failure.{Failure}
 use Rattle.par_tool.specs.declared.reading.Failure.TheVariants.{Answered, Memory}
@@ -22,7 +25,9 @@ use Rattle.par_tool.specs.Outside.{Text, MakesAtMost}
 use Rattle.par_tool.specs.Failures.{IsFailure, failure_for}
 use Rattle.par_tool.specs.Sources.{Checked, CompiledSo}
 use Rattle.par_tool.specs.Classes.{NotRun, IsStarted}
-use Rattle.par_tool.specs.Answers.{Scene, Stand, Ends, misses, lacks_words, answers, runs, lacks_memory, ReadsOnly, Concludes, BreaksOff}
+use Rattle.par_tool.specs.declared.traces.Traced.{Traced}
+use Rattle.par_tool.specs.Traces.{Untraced, IsTraced}
+use Rattle.par_tool.specs.Answers.{Scene, Stand, Ends, misses, lacks_words, answers, runs, traces, lacks_memory, ReadsOnly, Concludes, BreaksOff}
 use Rattle.par_tool.proofs.Alone.{own_number}
 use Rattle.par_tool.proofs.Spending.{at_most}
 
@@ -46,6 +51,20 @@ module _ (which : Which) (words : List (String Global)) (s : Scene) (result : �
   compile_ends file (Ok answer) asks compiled failed kept said = answers (Compile file) answer asks compiled said
   compile_ends file (Err (Answered answer)) asks compiled failed kept said = answers (Compile file) answer asks failed said
   compile_ends file (Err Memory) asks compiled failed kept said = lacks_memory (Compile file) asks said.0 said.1 (kept refl).1 (kept refl).0
+
+  pub trace_fails : (file inputs : Text) (bound : ℕ) (failure : Failure) → Asks which words (Trace file inputs bound) → Stand s
+      → IsFailure (Untraced s.files s.before s.after file inputs) failure → (failure ≡ Memory → MakesAtMost 2 0 s.before s.after)
+      → BreaksOff failure result old new before after → Ends which words s result old new before after
+  trace_fails file inputs bound (Answered answer) asks stand failed few said = answers (Trace file inputs bound) answer asks (failed, stand) said
+  trace_fails file inputs bound Memory asks stand failed few said = lacks_memory (Trace file inputs bound) asks said.0 said.1 (few refl) stand
+
+  pub trace_ends : (file inputs : Text) (bound : ℕ) (t : Traced) → Asks which words (Trace file inputs bound) → Makes 2 0 s.before s.after → Stand s
+      → IsTraced s.files file inputs bound t
+      → Said (told.status (Fine (traced.run_of t.run).ending)) (traced.lines t.accepted.typed.table (traced.run_of t.run)) result old new before after
+      → Ends which words s result old new before after
+  trace_ends file inputs bound t asks makes stand h said =
+      traces (Trace file inputs bound) h.tree (traced.run_of t.run) asks (h.is_trace, (makes, stand))
+      (subst (λ (table : Table). Said (told.status (Fine (traced.run_of t.run).ending)) (traced.lines table (traced.run_of t.run)) result old new before after) h.table_is said)
 
   pub run_fails : (main inputs : Text) (steps : ℕ) (failure : Failure) → Asks which words (Run main inputs steps) → Stand s
       → IsFailure (NotRun s.files s.before s.after main inputs) failure → (failure ≡ Memory → MakesAtMost 130 0 s.before s.after)

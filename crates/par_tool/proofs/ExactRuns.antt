@@ -27,18 +27,17 @@ use Rattle.par_loader.specs.Loaded.{Loaded, Load, main_step}
 use Rattle.par_loader.specs.Judged.{judged}
 use Rattle.par_loader.specs.Alone.{one_file}
 use Rattle.par_loader.proofs.Alone.{spelled_alone}
-use Rattle.par_tool.specs.Classes.{IsAlone, IsLoaded, NoneAlone, ends_so, IsBad, broken, misfit, misfit_in, HasBadLine, NotRun, IsRunOf}
+use Rattle.par_tool.specs.Classes.{IsAlone, IsLoaded, NoneAlone, ends_so, IsBad, misfit_in, HasBadLine, NotRun, IsRunOf}
 use Rattle.par_tool.specs.Exactly.{IsSaidBy, status_in, are_whole, TellsRun, TellsClass}
 use Rattle.par_tool.proofs.Loads.{same_judged, stops_first}
+use Rattle.par_single_machine.specs.Misfits.{first_misfit}
+use Rattle.par_tool.proofs.Inputs as lines
 use Rattle.par_tool.proofs.Statuses as near
 use Rattle.par_tool.proofs.Statuses.{IsNear, same, near_status, same_status, read_there, missing_read, overlong_read, missing_not_read, overlong_not_read, there_not_read}
 
 -- no line is wrong where all are right and each has its channel
 right_or_bad : (file : ClassFile) (text : Text) (number : ℕ) → IsRight text → misfit_in file text ≡ None → IsBad file text number → ⊥
-right_or_bad file text number right fit (broken h) =
-    let inside : number - 1 < length (lines_of text) = let c = h.counted in let s = h.stands in omega arith in
-    false≢true (sym (right.right (number - 1) inside) ∙ h.broken)
-right_or_bad file text number right fit (misfit h) = let e : None ≡ Some h.place = sym fit ∙ h.first in cc
+right_or_bad file = lines.right_or_bad (first_misfit (file ∷ []))
 
 -- the same bytes are one class file
 same_file : (main a b : Text) (one other : ClassFile) → a ≡ b → IsAlone main a one → IsAlone main b other → one ≡ other

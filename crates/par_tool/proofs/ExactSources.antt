@@ -39,10 +39,10 @@ CompileVerdict source NotBuilt = IsNotBuilt source
 CompileVerdict source _ = ⊥
 
 -- no read failed that this answer would tell of
-abbrev IsAnyhow : Answer → Type 0
+abbrev pub IsAnyhow : Answer → Type 0
 IsAnyhow a = (number : ℕ) → IsNear number a
 
-clash : (source : Text) (rule line column limit count : ℕ) → IsAcceptedSource source
+pub clash : (source : Text) (rule line column limit count : ℕ) → IsAcceptedSource source
     → IsBroken source rule line column limit count → ⊥
 clash source rule line column limit count is broken =
     accepted_or_broken source broken.refusal is broken.breaks
@@ -99,7 +99,7 @@ compile_refuses source _ v rule line column limit count h = absurd v
 module _ (V : Text → Answer → Type 0) (files : Option Files) (before after : FolderCounts)
     (file : Text) where
   -- a source was read and has this verdict, or none was had
-  abbrev Found : Answer → Type 0
+  abbrev pub Found : Answer → Type 0
   Found a =
       (ReadSource files file (λ source. V source a))
       ⊎ NotRead files before after LONGEST_SOURCE file a
@@ -124,13 +124,13 @@ module _ (V : Text → Answer → Type 0) (files : Option Files) (before after :
   there_found source there a (inr h) =
       inr (λ number. there_not_read files before after LONGEST_SOURCE file number source there a h)
 
-  near_there : (number : ℕ) (source : Text) (a : Answer) → (V source a → IsNear number a)
+  pub near_there : (number : ℕ) (source : Text) (a : Answer) → (V source a → IsNear number a)
       → V source a ⊎ IsAnyhow a → IsNear number a
   near_there number source a near (inl v) = near v
   near_there number source a near (inr reads) = reads number
 
   -- the answer's status is that of the source, in a call with this status
-  tells_source : (Accepts : Text → ℕ → Type 0) (result : ℕ) (a : Answer) → Found a
+  pub tells_source : (Accepts : Text → ℕ → Type 0) (result : ℕ) (a : Answer) → Found a
       → ((source : Text) → V source a ⊎ IsAnyhow a → IsAcceptedSource source
       → Accepts source result)
       → ((source : Text) → V source a → (rule line column limit count : ℕ)

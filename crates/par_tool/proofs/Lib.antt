@@ -1,11 +1,14 @@
 pub mod Statuses
 pub mod Alone
 pub mod Loads
+pub mod Inputs
 pub mod ExactSources
+pub mod ExactTraces
 pub mod ExactRuns
 pub mod Exact
 pub mod Compiling
 pub mod Refusals
+pub mod Traced
 pub mod Calls
 pub mod Few
 pub mod Saying

@@ -4,10 +4,14 @@ use Rattle.std.specs.declared.string.String.{String}
 use Rattle.std.specs.declared.alloc.Global.{Global}
 use Rattle.par_io.specs.Causes.{FolderCounts, SinkCounts, Makes, Files}
 use Rattle.par_io.specs.Saying.{Said}
-use Rattle.par_values.specs.Ran.{Ran}
+use Rattle.par_values.specs.Ran.{Ran, Fine}
 use Rattle.par_words.specs.declared.words.Which.{Which}
-use Rattle.par_words.specs.Words.{Wanted, Check, Compile, Run, Asks}
+use Rattle.par_words.specs.Words.{Wanted, Check, Compile, Trace, Run, Asks}
+use Rattle.par_tree.specs.Plain.{Source}
+use Rattle.par_resolved.specs.Resolved.{table_of}
+use Rattle.par_secrecy.specs.Runs as source
 use Rattle.par_runner.specs.Texts as told
+use Rattle.par_trace.specs.Texts as traced
 use Rattle.par_tool.specs.declared.answer.Answer.{Answer}
 use Rattle.par_tool.specs.declared.answer.Answer.TheVariants.{Usage}
 use Rattle.par_tool.specs.declared.reading.Failure.{Failure}
@@ -16,6 +20,7 @@ use Rattle.par_tool.specs.Texts.{status, text, is_fault}
 use Rattle.par_tool.specs.Outside.{Text, MakesAtMost}
 use Rattle.par_tool.specs.Sources.{Checked, CompiledSo}
 use Rattle.par_tool.specs.Classes.{NotRun, IsRunOf}
+use Rattle.par_tool.specs.Traces.{Untraced, IsTraceOf}
 
 -- What a call sees: the files before and after it, and the folder's counts.
 pub record Scene : Type 0 where
@@ -32,17 +37,19 @@ Stand s = s.later ≡ s.files
 abbrev pub ReadsOnly : ℕ → Scene → Type 0
 ReadsOnly reads s = Makes reads 0 s.before s.after × Stand s
 
--- the most files that are read for what the words want: a source; class files, of which at most 128
--- are linked, and an input file
+-- the most files that are read for what the words want: a source; a source and an input file; class
+-- files, of which at most 128 are linked, and an input file
 abbrev pub most_reads : Wanted → ℕ
 most_reads (Check file) = 1
 most_reads (Compile file) = 1
+most_reads (Trace file inputs bound) = 2
 most_reads (Run main inputs steps) = 130
 
 -- and the most that are written: the class file of a source
 abbrev pub most_writes : Wanted → ℕ
 most_writes (Check file) = 0
 most_writes (Compile file) = 1
+most_writes (Trace file inputs bound) = 0
 most_writes (Run main inputs steps) = 0
 
 -- nothing was put
@@ -61,6 +68,8 @@ pub record IsSaid (answer : Answer) (result : ℕ) (old new : Option Text)
 abbrev pub Cause : Scene → Wanted → Answer → Type 0
 Cause s (Check file) answer = Checked s.files s.before s.after file answer × ReadsOnly 1 s
 Cause s (Compile file) answer = CompiledSo s.files s.later s.before s.after file answer
+Cause s (Trace file inputs bound) answer =
+    Untraced s.files s.before s.after file inputs answer × Stand s
 Cause s (Run main inputs steps) answer =
     NotRun s.files s.before s.after main inputs answer × Stand s
 
@@ -68,7 +77,21 @@ Cause s (Run main inputs steps) answer =
 abbrev pub RunCause : Scene → Wanted → Ran → Type 0
 RunCause s (Check file) ran = ⊥
 RunCause s (Compile file) ran = ⊥
+RunCause s (Trace file inputs bound) ran = ⊥
 RunCause s (Run main inputs steps) ran = IsRunOf s.files main inputs steps ran × ReadsOnly 2 s
+
+-- Why a run of the source with this tree is told.
+abbrev pub TraceCause : Scene → Wanted → Source → source.Run → Type 0
+TraceCause s (Trace file inputs bound) tree run =
+    IsTraceOf s.files file inputs bound tree run × ReadsOnly 2 s
+TraceCause s _ tree run = ⊥
+
+-- the status and the lines that tell of a run of the source with a tree
+abbrev pub IsToldRun : Source → source.Run → (result : ℕ) → (old new : Option Text)
+    → (before after : SinkCounts) → Type 0
+IsToldRun tree run result old new before after =
+    Said (told.status (Fine run.ending)) (traced.lines (table_of tree) run) result old new
+    before after
 
 -- How a call ends that has said something with a cause, or was in want of memory and said nothing.
 module _ (which : Which) (words : List (String Global)) (scene : Scene) (result : ℕ)
@@ -83,6 +106,8 @@ module _ (which : Which) (words : List (String Global)) (scene : Scene) (result 
         → IsSaid answer result old new before after → Ends
     runs : (w : Wanted) (ran : Ran) → Asks which words w → RunCause scene w ran
         → Said (told.status ran.ending) (told.lines ran) result old new before after → Ends
+    traces : (w : Wanted) (tree : Source) (run : source.Run) → Asks which words w
+        → TraceCause scene w tree run → IsToldRun tree run result old new before after → Ends
     lacks_memory : (w : Wanted) → Asks which words w → result ≡ 7 → IsUnput old new before after
         → MakesAtMost (most_reads w) (most_writes w) scene.before scene.after → Stand scene
         → Ends

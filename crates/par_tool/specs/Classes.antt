@@ -4,8 +4,7 @@ use Rattle.par_io.specs.Causes.{FolderCounts, Makes, Rose, Files}
 use Rattle.par_values.specs.declared.inputs.Inputs.{Inputs}
 use Rattle.par_values.specs.Ran.{Ran}
 use Rattle.par_inputs.specs.Lines.{lines_of}
-use Rattle.par_inputs.specs.Rules.{entries, IsRight, IsFirstBroken}
-use Rattle.par_inputs.specs.Places.{line_of_entry}
+use Rattle.par_inputs.specs.Rules.{entries}
 use Rattle.par_class.specs.declared.file.ClassFile.{ClassFile}
 use Rattle.par_class.specs.Spelling.{Spells}
 use Rattle.par_single.specs.Single.{runs_alone}
@@ -28,6 +27,7 @@ use Rattle.par_tool.specs.declared.answer.Answer.TheVariants.{Absent, ReadFault,
 use Rattle.par_tool.specs.declared.reading.Failure.{Failure}
 use Rattle.par_tool.specs.declared.reading.Failure.TheVariants.{Answered}
 use Rattle.par_tool.specs.Failures.{failure_of}
+use Rattle.par_tool.specs.Given as given
 use Rattle.par_tool.specs.Outside.{Text, MakesAtMost, WasRead, NotRead, IsThere, class_file}
 
 -- the bytes spell a class file of this class that runs by itself
@@ -51,41 +51,25 @@ NoneAlone files main =
 abbrev pub misfit_in : ClassFile → Text → Option ℕ
 misfit_in file text = first_misfit (file ∷ []) (entries (lines_of text))
 
--- the line of the first entry whose channel the file does not have
-pub record IsMisfit (file : ClassFile) (text : Text) (number : ℕ) : Type 0 where
-  pub right : IsRight text
-  pub place : ℕ
-  pub first : misfit_in file text ≡ Some place
-  pub number_is : number ≡ line_of_entry text place
-
 -- why a line is wrong: it is the first that breaks the rules, or the first that names no input
--- channel
-pub data IsBad (file : ClassFile) (text : Text) (number : ℕ) : Type 0 where
-  broken : IsFirstBroken text number → IsBad file text number
-  misfit : IsMisfit file text number → IsBad file text number
+-- channel of the file
+abbrev pub IsBad : ClassFile → Text → ℕ → Type 0
+IsBad file text number = given.IsBad (first_misfit (file ∷ [])) text number
 
 -- the input file was read, and these are its inputs, all of which the file has channels for
-pub record AreInputs (files : Option Files) (file : ClassFile) (name : Text) (inputs : Inputs)
-    : Type 0 where
-  pub text : Text
-  pub read : WasRead files LONGEST_INPUTS name text
-  pub right : IsRight text
-  pub entries_are : inputs.channels ≡ entries (lines_of text)
-  pub fit : misfit_in file text ≡ None
+abbrev pub AreInputs : Option Files → ClassFile → Text → Inputs → Type 0
+AreInputs files file name inputs = given.AreInputs (first_misfit (file ∷ [])) files name inputs
 
 -- the input file was read, and a line of it is wrong
-pub record HasBadLine (files : Option Files) (file : ClassFile) (name : Text) (number : ℕ)
-    : Type 0 where
-  pub text : Text
-  pub read : WasRead files LONGEST_INPUTS name text
-  pub bad : IsBad file text number
+abbrev pub HasBadLine : Option Files → ClassFile → Text → ℕ → Type 0
+HasBadLine files file name number =
+    given.HasBadLine (first_misfit (file ∷ [])) files name number
 
 -- why no inputs are given to a class file
 abbrev pub IsUngiven : Option Files → FolderCounts → FolderCounts → ClassFile → Text → Answer
     → Type 0
-IsUngiven files before after file inputs (BadInputs number) = HasBadLine files file inputs number
 IsUngiven files before after file inputs answer =
-    NotRead files before after LONGEST_INPUTS inputs answer
+    given.IsUngiven (first_misfit (file ∷ [])) files before after inputs answer
 
 -- the end of loading and linking, and how many files were asked for
 abbrev pub ends_so : Load → ℕ → Loaded → Type 0

@@ -7,11 +7,13 @@ use Rattle.par_inputs.specs.Lines.{lines_of}
 use Rattle.par_inputs.specs.Rules.{entries, IsRight}
 use Rattle.par_single_machine.specs.Run.{machine_run}
 use Rattle.par_runner.specs.Texts as told
-use Rattle.par_words.specs.Words.{Wanted, Check, Compile, Run}
+use Rattle.par_words.specs.Words.{Wanted, Check, Compile, Trace, Run}
 use Rattle.par_lexer.specs.declared.cut.TheConstants.{LONGEST_SOURCE}
 use Rattle.par_inputs.specs.declared.read.TheConstants.{LONGEST_INPUTS}
 use Rattle.par_pool.specs.declared.reading.TheConstants.{LONGEST_CLASS}
-use Rattle.par_observer.specs.Judgements.{IsAcceptedSource}
+use Rattle.par_values.specs.Ran.{Fine}
+use Rattle.par_tree.specs.Plain.{Source}
+use Rattle.par_observer.specs.Judgements.{IsAcceptedSource, IsTreeOf}
 use Rattle.par_observer.specs.Straight.{HasPassed}
 use Rattle.par_loader.specs.Reads.{Classes, AreOf}
 use Rattle.par_loader.specs.Loaded as loaded
@@ -20,6 +22,8 @@ use Rattle.par_loader.specs.Judged.{judged}
 use Rattle.par_tool.specs.Outside.{Text, IsThere, IsMissing, IsOverlong, class_file}
 use Rattle.par_tool.specs.Sources.{IsBroken}
 use Rattle.par_tool.specs.Classes.{IsAlone, IsBad, misfit_in}
+use Rattle.par_tool.specs.Given as given
+use Rattle.par_tool.specs.Traces.{misfits, source_run}
 
 -- what has this status is said, but for a failed put or want of memory
 pub data IsSaidBy (result number : ℕ) : Type 0 where
@@ -74,6 +78,22 @@ pub record TellsRun (files : Option Files) (file : ClassFile) (main inputs : Tex
   pub there : (text : Text) → IsThere files LONGEST_INPUTS inputs text
       → RunsOn file main text steps result
 
+-- Which status the run of the source with a tree has on an input file that is there: that of its
+-- ending where all is right, 13 exactly where a line is wrong.
+pub record TracesOn (tree : Source) (text : Text) (bound result : ℕ) : Type 0 where
+  pub ran : IsRight text → misfits tree (entries (lines_of text)) ≡ None
+      → IsStatus result
+      (told.status (Fine (source_run tree (entries (lines_of text)) bound).ending))
+  pub bad_inputs : (number : ℕ) → given.IsBad (misfits tree) text number → IsStatus result 13
+
+-- An accepted source whose run is told: which status it has, by the input file.
+pub record Traces (files : Option Files) (inputs : Text) (bound : ℕ) (source : Text) (result : ℕ)
+    : Type 0 where
+  pub missing : IsMissing files inputs → IsStatus result 3
+  pub overlong : IsOverlong files LONGEST_INPUTS inputs → IsStatus result 8
+  pub there : (tree : Source) (text : Text) → IsTreeOf source tree
+      → IsThere files LONGEST_INPUTS inputs text → TracesOn tree text bound result
+
 -- The status that class files come to: 12 where one is refused or absent, and 9 where they link and
 -- that of the class does not run by itself.
 abbrev pub status_in : Loaded → ℕ
@@ -111,4 +131,6 @@ module _ (files : Option Files) where
   abbrev pub IsExact : Wanted → ℕ → Type 0
   IsExact (Check file) result = TellsSource Checks files file result
   IsExact (Compile file) result = TellsSource Compiles files file result
+  IsExact (Trace file inputs bound) result =
+      TellsSource (Traces files inputs bound) files file result
   IsExact (Run main inputs steps) result = TellsClass files main inputs steps result

@@ -10,5 +10,6 @@ mod classes;
 mod reading;
 mod sources;
 pub mod tool;
+mod traces;
 
 pub use par_words::Which;

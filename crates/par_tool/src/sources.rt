@@ -6,8 +6,8 @@ ghost use Rattle.par_lexer.specs.Names.{IsName};
 ghost use Rattle.par_tool.specs.Failures.{IsFailure, FaultsAreTold};
 ghost use Rattle.par_tool.specs.Outside.{Text, MakesAtMost};
 ghost use Rattle.par_observer.specs.Judgements.{IsAcceptedAs};
-ghost use Rattle.par_tool.specs.Sources.{IsCompiledAs, ReadSource, Uncompiled, Checked, CompiledSo};
-ghost use Rattle.par_tool.specs.Sources.{IsUnaccepted, IsUncompiled, IsClassOf};
+ghost use Rattle.par_tool.specs.Sources.{IsCompiledAs, ReadSource, Rejected, Uncompiled, Checked};
+ghost use Rattle.par_tool.specs.Sources.{CompiledSo, IsUnaccepted, IsUncompiled, IsClassOf};
 
 use crate::answer::Answer;
 use crate::reading::{Failure, read};
@@ -57,6 +57,26 @@ fn compilable(alloc: Global, source: &[u8]) -> Result<Program, Failure>
     }
 }
 
+/// What the source in a file is accepted as.
+pub fn accepted_source<F: Folder>(
+    alloc: Global,
+    folder: &mut F,
+    file: &str,
+) -> Result<Accepted, Failure>
+    ensures kept { F.files folder.new ≡ F.files folder.old }
+    ensures counted { Makes 1 0 (F.counts folder.old) (F.counts folder.new) }
+    ensures none_falls { NoneFalls (F.counts folder.old) (F.counts folder.new) }
+    ensures faults_are_told { IsTrue F.counts_faults_alone →
+        FaultsAreTold result (F.counts folder.old).faults (F.counts folder.new).faults }
+    ensures accepted { IfOk result (λ accepted.
+        ReadSource (F.files folder.old) file.now (λ source. IsAcceptedAs source accepted)) }
+    ensures failed { IfErr result (IsFailure (Rejected (F.files folder.old)
+        (F.counts folder.old) (F.counts folder.new) file.now)) }
+{
+    let source = read(alloc, folder, file, LONGEST_SOURCE as u64)?;
+    accepted(alloc, source.as_slice())
+}
+
 /// Checks the source in a file.
 pub fn check<F: Folder>(alloc: Global, folder: &mut F, file: &str) -> Result<Answer, Failure>
     ensures kept { F.files folder.new ≡ F.files folder.old }
@@ -68,8 +88,7 @@ pub fn check<F: Folder>(alloc: Global, folder: &mut F, file: &str) -> Result<Ans
     ensures failed { IfErr result (IsFailure (Checked (F.files folder.old)
         (F.counts folder.old) (F.counts folder.new) file.now)) }
 {
-    let source = read(alloc, folder, file, LONGEST_SOURCE as u64)?;
-    accepted(alloc, source.as_slice())?;
+    accepted_source(alloc, folder, file)?;
     Ok(Answer::Accepted)
 }
 

@@ -1,6 +1,10 @@
 //! The top call.
 
 ghost use Rattle.std.specs.Prelude.{◌≡◌, ◌≢◌, ℕ, IsTrue};
+ghost use Rattle.par_io.specs.Saying.{Said};
+ghost use Rattle.par_values.specs.Ran.{Fine};
+ghost use Rattle.par_runner.specs.Texts as told;
+ghost use Rattle.par_trace.specs.Texts.{run_of, lines};
 ghost use Rattle.par_tool.specs.Answers.{Scene, Ends, Concludes, BreaksOff};
 ghost use Rattle.par_tool.specs.Exactly.{IsExact, IsSaidBy};
 ghost use Rattle.par_words.specs.Words.{Asks, Wanted};
@@ -9,8 +13,10 @@ use crate::answer::{Answer, say};
 use crate::classes::started;
 use crate::reading::Failure;
 use crate::sources::{check, compile_file};
+use crate::traces::{Traced, trace_source};
 use par_io::{Folder, Sink};
 use par_runner::tell_run;
+use par_trace::tell_source;
 use par_words::{Request, Which, read_words};
 use std::alloc::Global;
 
@@ -46,6 +52,14 @@ pub fn tool<F: Folder, S: Sink>(
     match request {
         Request::Check(file) => conclude(alloc, check(alloc, folder, file), out),
         Request::Compile(file) => conclude(alloc, compile_file(alloc, folder, file), out),
+        Request::Trace {
+            file,
+            inputs,
+            bound,
+        } => match trace_source(alloc, folder, file, inputs, bound) {
+            Ok(traced) => tell_trace(alloc, &traced, out),
+            Err(failure) => break_off(alloc, failure, out),
+        },
         Request::Run {
             main,
             inputs,
@@ -55,6 +69,17 @@ pub fn tool<F: Folder, S: Sink>(
             Err(failure) => break_off(alloc, failure, out),
         },
     }
+}
+
+/// Tells of the run of a source.
+fn tell_trace<S: Sink>(alloc: Global, traced: &Traced, out: &mut S) -> u8
+    ensures said { let run = run_of traced.now.run in
+        Said (told.status (Fine run.ending)) (lines traced.now.accepted.typed.table run) result
+        (S.held out.old) (S.held out.new) (S.counts out.old) (S.counts out.new) }
+    ensures failed_puts_are_told { IsTrue S.counts_faults_alone →
+        result ≢ 6 → (S.counts out.new).faults ≡ (S.counts out.old).faults }
+{
+    tell_source(alloc, &traced.accepted.typed().table, &traced.run, out)
 }
 
 /// Says what a job came to.

@@ -15,11 +15,11 @@ Text = List ℕ
 
 -- ---- the commands
 
--- the flag `--check`
-abbrev pub check_flag : Rule
-check_flag =
-    record (new_rule (codes "check")) {
-      long = Some (codes "check");
+-- the flag of a name, as `--check`
+abbrev pub flag : Text → Rule
+flag name =
+    record (new_rule name) {
+      long = Some name;
       action = Some SetTrue;
     }
 
@@ -39,7 +39,10 @@ bare name =
     (new_app name)
 
 abbrev pub compiler : App
-compiler = with_rule (with_rule (bare (codes "paragonc")) check_flag) values_rule
+compiler =
+    with_rule
+    (with_rule (with_rule (bare (codes "paragonc")) (flag (codes "check"))) (flag (codes "trace")))
+    values_rule
 
 abbrev pub runner : App
 runner = with_rule (bare (codes "paragon")) values_rule
@@ -65,7 +68,7 @@ rows which words = matches_of (command_of which) words
 abbrev pub values : List Row → List Text
 values found = unwrap_or (all_of (codes "values") found) []
 
--- whether `--check` is among the words
-abbrev pub is_checked : List Row → Bool
-is_checked found =
-    option_map_or (λ text. bytes_eq text (codes "true")) (first_of (codes "check") found) false
+-- whether the flag of a name is among the words
+abbrev pub has_flag : Text → List Row → Bool
+has_flag name found =
+    option_map_or (λ text. bytes_eq text (codes "true")) (first_of name found) false

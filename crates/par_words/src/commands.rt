@@ -31,11 +31,11 @@ pub(crate) fn taken<'a>(
     }
 }
 
-/// Whether `--check` is among the words.
-pub(crate) fn is_checked(matches: &ArgMatches) -> bool
-    ensures { result ≡ spec.is_checked (rows_of (found_of matches.now)) }
+/// Whether the flag of a name is among the words.
+pub(crate) fn has_flag(matches: &ArgMatches, name: &str) -> bool
+    ensures { result ≡ spec.has_flag name.now (rows_of (found_of matches.now)) }
 {
-    match matches.get_str("check") {
+    match matches.get_str(name) {
         Some(text) => text == "true",
         None => false,
     }
@@ -55,7 +55,8 @@ fn command<'a>(alloc: Global, which: Which) -> Result<Command<'a>, AllocError>
 {
     match which {
         Which::Compiler => bare(alloc, "paragonc")
-            .arg(check_flag(alloc))?
+            .arg(flag(alloc, "check"))?
+            .arg(flag(alloc, "trace"))?
             .arg(every_value(alloc)),
         Which::Runner => bare(alloc, "paragon").arg(every_value(alloc)),
     }
@@ -71,13 +72,13 @@ fn bare<'a>(alloc: Global, name: &'a str) -> Command<'a>
         .disable_version_flag(true)
 }
 
-/// The flag `--check`.
-fn check_flag<'a>(alloc: Global) -> Arg<'a>
-    ensures rule { rule_of result ≡ spec.check_flag }
+/// The flag of a name, as `--check`.
+fn flag<'a>(alloc: Global, name: &'a str) -> Arg<'a>
+    ensures rule { rule_of result ≡ spec.flag name.entry.now }
     ensures own { result.global ≡ false }
 {
-    Arg::new(alloc, "check")
-        .long("check")
+    Arg::new(alloc, name)
+        .long(name)
         .action(ArgAction::SetTrue)
 }
 

@@ -2,11 +2,10 @@
 
 ghost use Rattle.std.specs.Prelude.{◌≡◌, ◌≤◌, ℕ, MatchOption, MatchResult, map};
 ghost use Rattle.clap.specs.Words.{found_of, rows_of};
-ghost use Rattle.par_words.specs.Commands as spec;
-ghost use Rattle.par_words.specs.Words.{Asks, Wanted, IsForm, IsSource, IsRun, AskRun, CountsSteps};
+ghost use Rattle.par_words.specs.Words.{Asks, Wanted, IsForm, IsCompiler, IsSource, IsTrace, AskTrace, IsRun, AskRun, Counts};
 ghost use Rattle.par_words.specs.Requests.{wanted};
 
-use crate::commands::{is_checked, taken, values};
+use crate::commands::{has_flag, taken, values};
 use clap::ArgMatches;
 use par_inputs::magnitude_of;
 use par_lexer::name::Name;
@@ -28,6 +27,12 @@ pub enum Request<'a> {
     Check(&'a str),
     /// To compile the source in a file.
     Compile(&'a str),
+    /// To tell of the run of the source in a file on an input file, at most so many steps.
+    Trace {
+        file: &'a str,
+        inputs: &'a str,
+        bound: u32,
+    },
     /// To run the class of this name on an input file, at most so many instructions.
     Run {
         main: &'a str,
@@ -58,6 +63,9 @@ impl From<AllocError> for Unread {
 /// The most instructions that a run is given.
 const MOST_STEPS: u32 = 1_000_000_000;
 
+/// The most steps that the run of a source is given.
+const MOST_BOUND: u32 = 10_000_000;
+
 /// What the words ask for, where they are of a form of that program.
 pub fn read_words<'a>(
     alloc: Global,
@@ -74,13 +82,27 @@ pub fn read_words<'a>(
 /// What the flags and values of a program ask for.
 fn request_of<'a>(which: Which, matches: &ArgMatches<'a>) -> Option<Request<'a>>
     ensures { let found = rows_of (found_of matches.entry.now) in MatchOption result
-        ((w : Wanted) → IsForm which (spec.is_checked found) (spec.values found) w → ⊥)
-        (λ request. IsForm which (spec.is_checked found) (spec.values found) (wanted request)) }
+        ((w : Wanted) → IsForm which found w → ⊥) (λ request. IsForm which found (wanted request)) }
 {
     let values = values(matches)?;
     match which {
-        Which::Compiler => source_request(is_checked(matches), values),
+        Which::Compiler => {
+            compiler_request(has_flag(matches, "check"), has_flag(matches, "trace"), values)
+        }
         Which::Runner => run_request(values),
+    }
+}
+
+/// What values ask of the compiler, with these flags.
+fn compiler_request<'a>(checked: bool, traced: bool, values: &[&'a str]) -> Option<Request<'a>>
+    ensures { let texts = map (λ text. text.now) values.entry.now in MatchOption result
+        ((w : Wanted) → IsCompiler checked traced texts w → ⊥)
+        (λ request. IsCompiler checked traced texts (wanted request)) }
+{
+    match (checked, traced) {
+        (checked, false) => source_request(checked, values),
+        (false, true) => trace_request(values),
+        (true, true) => None,
     }
 }
 
@@ -100,6 +122,31 @@ fn source_request<'a>(checked: bool, values: &[&'a str]) -> Option<Request<'a>>
     }
 }
 
+/// The run of a source, where there are three values.
+fn trace_request<'a>(values: &[&'a str]) -> Option<Request<'a>>
+    ensures { MatchOption result
+        ((w : Wanted) → IsTrace (map (λ text. text.now) values.entry.now) w → ⊥)
+        (λ request. IsTrace (map (λ text. text.now) values.entry.now) (wanted request)) }
+{
+    match values {
+        [file, inputs, bound] => trace_of(file, inputs, bound),
+        _ => None,
+    }
+}
+
+/// The run of a source, where the last word is a number.
+fn trace_of<'a>(file: &'a str, inputs: &'a str, bound: &str) -> Option<Request<'a>>
+    ensures { MatchOption result ((w : Wanted) → AskTrace file.now inputs.now bound.now w → ⊥)
+        (λ request. AskTrace file.now inputs.now bound.now (wanted request)) }
+{
+    let bound = number_in(bound.as_bytes(), MOST_BOUND)?;
+    Some(Request::Trace {
+        file,
+        inputs,
+        bound,
+    })
+}
+
 /// A run, where there are three values.
 fn run_request<'a>(values: &[&'a str]) -> Option<Request<'a>>
     ensures { MatchOption result
@@ -117,7 +164,7 @@ fn run_of<'a>(main: &'a str, inputs: &'a str, steps: &str) -> Option<Request<'a>
     ensures { MatchOption result ((w : Wanted) → AskRun main.now inputs.now steps.now w → ⊥)
         (λ request. AskRun main.now inputs.now steps.now (wanted request)) }
 {
-    let steps = steps_in(steps.as_bytes())?;
+    let steps = number_in(steps.as_bytes(), MOST_STEPS)?;
     if !Name::is_name(main.as_bytes()) {
         return None;
     }
@@ -128,13 +175,14 @@ fn run_of<'a>(main: &'a str, inputs: &'a str, steps: &str) -> Option<Request<'a>
     })
 }
 
-/// The number of instructions that a word writes.
-fn steps_in(word: &[u8]) -> Option<u32>
-    ensures { MatchOption result ((n : ℕ) → CountsSteps word.now n → ⊥) (CountsSteps word.now) }
+/// The number that a word writes, from 1 to the greatest.
+fn number_in(word: &[u8], most: u32) -> Option<u32>
+    requires { most ≤ 2147483648 }
+    ensures { MatchOption result ((n : ℕ) → Counts most word.now n → ⊥) (Counts most word.now) }
 {
-    let steps = magnitude_of(word, MOST_STEPS)?;
-    if steps == 0 {
+    let number = magnitude_of(word, most)?;
+    if number == 0 {
         return None;
     }
-    Some(steps)
+    Some(number)
 }

@@ -3,7 +3,8 @@ use Rattle.par_inputs.specs.Lines.{lines_of}
 use Rattle.par_inputs.specs.Rules.{entries}
 use Rattle.par_single_machine.specs.Misfits.{first_misfit}
 use Rattle.par_single_machine.proofs.Misfits.{told_of_few}
-use Rattle.par_tool.specs.Classes.{misfit_in, misfit}
+use Rattle.par_tool.specs.Classes.{misfit_in}
+use Rattle.par_tool.specs.Given.{misfit}
 use Rattle.par_tool.proofs.Few.{few}
 use Rattle.par_tool.proofs.classes.inputs.Goals as goal
 

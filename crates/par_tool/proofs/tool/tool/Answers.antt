@@ -3,7 +3,7 @@ use Rattle.par_words.proofs.Asking.{asks_named}
 use Rattle.par_tool.specs.declared.reading.Failure.{Failure}
 use Rattle.par_tool.specs.Answers.{BreaksOff}
 use Rattle.par_tool.proofs.Exact as exactly
-use Rattle.par_tool.proofs.Calls.{words_end, check_ends, compile_ends, run_ends, run_fails}
+use Rattle.par_tool.proofs.Calls.{words_end, check_ends, compile_ends, trace_ends, trace_fails, run_ends, run_fails}
 use Rattle.par_tool.proofs.Faults.{outcome_said, failure_said}
 use Rattle.par_tool.proofs.tool.tool.Goals as goal
 
@@ -27,6 +27,16 @@ returns-in-Compile-clause-ends g c =
     let asks = rw c.in-Compile.is at c.in-Ok.ensures in
     compile_ends _ _ _ _ _ _ _ _ c.in-Compile.file.now c.compile_file.result asks c.compile_file.ensures.compiled c.compile_file.ensures.failed c.compile_file.ensures.memory c.conclude-in-Compile.ensures.said
 
+pub returns-in-Ok-trace_source-clause-ends : goal.returns-in-Ok-trace_source-clause-ends
+returns-in-Ok-trace_source-clause-ends g c =
+    let asks = rw c.in-Trace.is at c.in-Ok.ensures in
+    trace_ends _ _ _ _ _ _ _ _ c.in-Trace.file.now c.in-Trace.inputs.now c.in-Trace.bound c.in-Ok-trace_source.traced asks c.in-Ok-trace_source.ensures.counted c.in-Ok-trace_source.ensures.kept c.in-Ok-trace_source.ensures.traced c.tell_trace.ensures.said
+
+pub returns-in-Err-trace_source-clause-ends : goal.returns-in-Err-trace_source-clause-ends
+returns-in-Err-trace_source-clause-ends g c =
+    let asks = rw c.in-Trace.is at c.in-Ok.ensures in
+    trace_fails _ _ _ _ _ _ _ _ c.in-Trace.file.now c.in-Trace.inputs.now c.in-Trace.bound c.in-Err-trace_source.failure asks c.in-Err-trace_source.ensures.kept c.in-Err-trace_source.ensures.failed c.in-Err-trace_source.ensures.memory c.break_off-in-Err-trace_source.ensures.said
+
 pub returns-in-Ok-started-clause-ends : goal.returns-in-Ok-started-clause-ends
 returns-in-Ok-started-clause-ends g c =
     let asks = rw c.in-Run.is at c.in-Ok.ensures in
@@ -46,6 +56,12 @@ returns-in-Check-clause-usage g c = exactly.usage _ _ _ _ _ _ _ _ (returns-in-Ch
 pub returns-in-Compile-clause-usage : goal.returns-in-Compile-clause-usage
 returns-in-Compile-clause-usage g c = exactly.usage _ _ _ _ _ _ _ _ (returns-in-Compile-clause-ends g c)
 
+pub returns-in-Ok-trace_source-clause-usage : goal.returns-in-Ok-trace_source-clause-usage
+returns-in-Ok-trace_source-clause-usage g c = exactly.usage _ _ _ _ _ _ _ _ (returns-in-Ok-trace_source-clause-ends g c)
+
+pub returns-in-Err-trace_source-clause-usage : goal.returns-in-Err-trace_source-clause-usage
+returns-in-Err-trace_source-clause-usage g c = exactly.usage _ _ _ _ _ _ _ _ (returns-in-Err-trace_source-clause-ends g c)
+
 pub returns-in-Ok-started-clause-usage : goal.returns-in-Ok-started-clause-usage
 returns-in-Ok-started-clause-usage g c = exactly.usage _ _ _ _ _ _ _ _ (returns-in-Ok-started-clause-ends g c)
 
@@ -61,6 +77,12 @@ returns-in-Check-clause-exact g c = exactly.exact _ _ _ _ _ _ _ _ (returns-in-Ch
 pub returns-in-Compile-clause-exact : goal.returns-in-Compile-clause-exact
 returns-in-Compile-clause-exact g c = exactly.exact _ _ _ _ _ _ _ _ (returns-in-Compile-clause-ends g c)
 
+pub returns-in-Ok-trace_source-clause-exact : goal.returns-in-Ok-trace_source-clause-exact
+returns-in-Ok-trace_source-clause-exact g c = exactly.exact _ _ _ _ _ _ _ _ (returns-in-Ok-trace_source-clause-ends g c)
+
+pub returns-in-Err-trace_source-clause-exact : goal.returns-in-Err-trace_source-clause-exact
+returns-in-Err-trace_source-clause-exact g c = exactly.exact _ _ _ _ _ _ _ _ (returns-in-Err-trace_source-clause-ends g c)
+
 pub returns-in-Ok-started-clause-exact : goal.returns-in-Ok-started-clause-exact
 returns-in-Ok-started-clause-exact g c = exactly.exact _ _ _ _ _ _ _ _ (returns-in-Ok-started-clause-ends g c)
 
@@ -74,6 +96,10 @@ returns-in-Check-clause-faults_are_told g c =
 pub returns-in-Compile-clause-faults_are_told : goal.returns-in-Compile-clause-faults_are_told
 returns-in-Compile-clause-faults_are_told g c =
     λ alone four five six. outcome_said _ _ _ _ _ _ _ four five six c.compile_file.result c.conclude-in-Compile.ensures.said (c.compile_file.ensures.faults_are_told alone)
+
+pub returns-in-Err-trace_source-clause-faults_are_told : goal.returns-in-Err-trace_source-clause-faults_are_told
+returns-in-Err-trace_source-clause-faults_are_told g c =
+    λ alone four five six. failure_said _ _ _ _ _ _ _ four five six c.in-Err-trace_source.failure c.break_off-in-Err-trace_source.ensures.said (c.in-Err-trace_source.ensures.faults_are_told alone)
 
 pub returns-in-Err-started-clause-faults_are_told : goal.returns-in-Err-started-clause-faults_are_told
 returns-in-Err-started-clause-faults_are_told g c =

@@ -1,0 +1,32 @@
+use Rattle.std.proofs.Common.{Option}
+use Rattle.par_io.specs.Causes.{FolderCounts, Files}
+use Rattle.par_tool.proofs.Spending.{at_most, two_reads, on_memory}
+use Rattle.par_tool.proofs.Traced.{traced}
+use Rattle.par_tool.proofs.traces.trace_source.Goals as goal
+
+pub returns-in_err-inputs-clause-memory : goal.returns-in_err-inputs-clause-memory
+returns-in_err-inputs-clause-memory g c =
+    let before : FolderCounts = g.F.Folder.counts c.args.folder.now in
+    let between : FolderCounts = g.F.Folder.counts c.accepted_source.new.folder in
+    let after : FolderCounts = g.F.Folder.counts c.inputs.new.folder in
+    on_memory c.from_residual-in_err-inputs.result
+    (at_most 2 0 before after
+    (two_reads before between after c.accepted_source.ensures.counted c.inputs.ensures.counted))
+
+pub returns-in-Ok-clause-traced : goal.returns-in-Ok-clause-traced
+returns-in-Ok-clause-traced g c =
+    let files : Option Files = g.F.Folder.files c.args.folder.now in
+    let given = rw c.accepted_source.ensures.kept at c.in_ok-inputs.ensures.given in
+    let own = rw c.typed.ensures at given in
+    let run = rw c.typed-2.ensures at c.in-Ok.ensures in
+    traced files c.args.file.now c.args.name.now c.args.bound c.from.result
+    c.in_ok-accepted.accepted c.in-Ok.run' c.in_ok-inputs.inputs c.from.ensures
+    c.in_ok-accepted.ensures.accepted own run
+
+pub returns-in-Err-clause-memory : goal.returns-in-Err-clause-memory
+returns-in-Err-clause-memory g c =
+    let before : FolderCounts = g.F.Folder.counts c.args.folder.now in
+    let between : FolderCounts = g.F.Folder.counts c.accepted_source.new.folder in
+    let after : FolderCounts = g.F.Folder.counts c.inputs.new.folder in
+    λ is. at_most 2 0 before after
+    (two_reads before between after c.accepted_source.ensures.counted c.inputs.ensures.counted)

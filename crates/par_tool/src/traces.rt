@@ -1,0 +1,87 @@
+//! What is done to tell of the run of a source: the source is read and judged, its inputs are read,
+//! and the run is made.
+
+ghost use Rattle.std.specs.Prelude.{◌≡◌, IsTrue, IfOk, IfErr, OnOk};
+ghost use Rattle.par_io.specs.Causes.{Makes, NoneFalls};
+ghost use Rattle.par_trace.specs.Channels.{first_misfit};
+ghost use Rattle.par_tool.specs.Failures.{IsFailure, FaultsAreTold};
+ghost use Rattle.par_tool.specs.Given.{AreInputs, IsUngiven};
+ghost use Rattle.par_tool.specs.Outside.{MakesAtMost};
+ghost use Rattle.par_tool.specs.Traces.{IsTraced, Untraced};
+
+use crate::answer::Answer;
+use crate::reading::{Failure, read};
+use crate::sources::accepted_source;
+use par_check::Accepted;
+use par_inputs::error::BadInput;
+use par_inputs::{LONGEST_INPUTS, line_of_entry, read_inputs};
+use par_io::Folder;
+use par_meaning::{SourceRun, run_source};
+use par_trace::inputs_fit;
+use par_typed::table::Table;
+use par_values::inputs::Inputs;
+use std::alloc::Global;
+
+/// An accepted source, and a run of it.
+#[derive(Drop)]
+pub struct Traced {
+    pub accepted: Accepted,
+    pub run: SourceRun,
+}
+
+/// The inputs in an input file, all of which the program has channels for.
+fn inputs<F: Folder>(
+    alloc: Global,
+    folder: &mut F,
+    table: &Table,
+    name: &str,
+) -> Result<Inputs, Failure>
+    ensures kept { F.files folder.new ≡ F.files folder.old }
+    ensures counted { Makes 1 0 (F.counts folder.old) (F.counts folder.new) }
+    ensures none_falls { NoneFalls (F.counts folder.old) (F.counts folder.new) }
+    ensures faults_are_told { IsTrue F.counts_faults_alone →
+        FaultsAreTold result (F.counts folder.old).faults (F.counts folder.new).faults }
+    ensures given { IfOk result (AreInputs (first_misfit table.now) (F.files folder.old) name.now) }
+    ensures failed { IfErr result (IsFailure (IsUngiven (first_misfit table.now)
+        (F.files folder.old) (F.counts folder.old) (F.counts folder.new) name.now)) }
+{
+    let text = read(alloc, folder, name, LONGEST_INPUTS as u64)?;
+    let inputs = match read_inputs(alloc, text.as_slice()) {
+        Ok(inputs) => inputs,
+        Err(BadInput::Line(line)) => return Err(Failure::Answered(Answer::BadInputs(line))),
+        Err(BadInput::Memory) => return Err(Failure::Memory),
+    };
+    match inputs_fit(alloc, table, &inputs)? {
+        None => Ok(inputs),
+        Some(place) => {
+            let line = line_of_entry(text.as_slice(), place);
+            Err(Failure::Answered(Answer::BadInputs(line)))
+        }
+    }
+}
+
+/// The run of the source in a file on the inputs in another, with at most so many steps.
+pub fn trace_source<F: Folder>(
+    alloc: Global,
+    folder: &mut F,
+    file: &str,
+    name: &str,
+    bound: u32,
+) -> Result<Traced, Failure>
+    ensures kept { F.files folder.new ≡ F.files folder.old }
+    ensures counted { OnOk result (Makes 2 0 (F.counts folder.old) (F.counts folder.new)) }
+    ensures faults_are_told { IsTrue F.counts_faults_alone →
+        FaultsAreTold result (F.counts folder.old).faults (F.counts folder.new).faults }
+    ensures traced { IfOk result (IsTraced (F.files folder.old) file.now name.now bound) }
+    ensures failed { IfErr result (IsFailure (Untraced (F.files folder.old)
+        (F.counts folder.old) (F.counts folder.new) file.now name.now)) }
+    ensures memory { IfErr result (λ e. e ≡ Failure.Memory →
+        MakesAtMost 2 0 (F.counts folder.old) (F.counts folder.new)) }
+{
+    let accepted = accepted_source(alloc, folder, file)?;
+    let inputs = inputs(alloc, folder, &accepted.typed().table, name)?;
+    match run_source(alloc, accepted.typed(), &inputs, u64::from(bound)) {
+        Ok(run) => Ok(Traced { accepted, run }),
+        Err(_) => Err(Failure::Memory),
+    }
+}
