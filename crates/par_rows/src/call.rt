@@ -35,6 +35,27 @@ const LINES: [&str; 10] = [
     "}",
 ];
 
+/// Lines by their numbers, counted from 1.
+pub type Lines = &'static [(usize, &'static str)];
+
+/// The line of that number, or this one where there is none.
+fn line_of<'a>(lines: &[(usize, &'a str)], number: usize, line: &'a str) -> &'a str {
+    match lines.iter().find(|row| row.0 == number) {
+        Some(row) => row.1,
+        None => line,
+    }
+}
+
+/// The common source with other lines in place of some.
+pub fn with_lines(alloc: Global, lines: &[(usize, &str)]) -> Result<String, AllocError> {
+    let mut source = String::new(alloc);
+    for (place, line) in LINES.iter().enumerate() {
+        source.push_str(line_of(lines, place + 1, line))?;
+        source.push_str("\n")?;
+    }
+    Ok(source)
+}
+
 /// The common source with another line in place of one, counted from 1.
 pub fn with_line(alloc: Global, number: usize, text: &str) -> Result<String, AllocError> {
     let mut source = String::new(alloc);
@@ -123,6 +144,23 @@ pub fn line_checks_as(
 ) -> Result<bool, NoMemory> {
     let source = with_line(alloc, number, line)?;
     checks_as(alloc, source.as_str(), answer)
+}
+
+/// The last of some lines, which names a row.
+pub fn last_of(lines: Lines) -> &'static str {
+    match lines.last() {
+        Some(line) => line.1,
+        None => "",
+    }
+}
+
+/// Rows of the common source with other lines.
+pub fn check_all(alloc: Global, rows: &[(Lines, Answer)]) -> Result<(), Fail> {
+    for (lines, answer) in rows {
+        let source = with_lines(alloc, lines)?;
+        expect(checks_as(alloc, source.as_str(), *answer)?, last_of(lines))?;
+    }
+    Ok(())
 }
 
 /// Rows of sources.

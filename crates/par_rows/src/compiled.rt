@@ -32,7 +32,11 @@ fn accepted_sources_have_a_class_file(rt: HostRuntime) -> Result<(), Fail> {
 const OTHERS: &[(&str, Answer)] = &[
     ("show(key());", ("refused 403 at 8:1\n", 1)),
     ("got = key();", ("refused 401 at 8:1\n", 1)),
-    ("if (key() > 0) { return; } show(1);", NOT_BUILT),
+    (
+        "if (key() > 0) { return; } show(1);",
+        ("refused 404 at 8:28\n", 1),
+    ),
+    ("if (1 > 0) { show(1); }", NOT_BUILT),
 ];
 
 fn has_none(alloc: Global, body: &str, answer: Answer) -> Result<bool, NoMemory> {

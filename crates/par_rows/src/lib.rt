@@ -15,6 +15,8 @@ mod examples;
 #[cfg(test)]
 mod faults;
 #[cfg(test)]
+mod flow_refusals;
+#[cfg(test)]
 mod limits;
 #[cfg(test)]
 mod linking;
@@ -37,8 +39,12 @@ mod sources;
 #[cfg(test)]
 mod statements;
 #[cfg(test)]
+mod tutorial;
+#[cfg(test)]
 mod type_refusals;
 #[cfg(test)]
 mod types;
+#[cfg(test)]
+mod verdicts;
 #[cfg(test)]
 mod worked;

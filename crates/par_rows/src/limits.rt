@@ -1,8 +1,8 @@
 //! Sources at a limit, and one above it.
 
 use crate::call::{
-    ACCEPTED, Answer, KEY_42, NOT_BUILT, call, checks_as, compiled, expect, line_checks_as,
-    with_body, with_line,
+    ACCEPTED, Answer, KEY_42, call, checks_as, compiled, expect, line_checks_as, with_body,
+    with_line,
 };
 use par_io::{MemSink, NoMemory};
 use std::alloc::{AllocError, Global};
@@ -210,14 +210,14 @@ static MORE: &[Row] = &[
         "2000 nodes with an empty block",
         8,
         &[("got = 1; ", 666), ("{ }", 1)],
-        NOT_BUILT,
+        ACCEPTED,
     ),
     // those that every program has do not count
     (
         "128 classes",
         2,
         &[("lock Paid; ", 1), ("class C# { } ", 127)],
-        NOT_BUILT,
+        ACCEPTED,
     ),
     (
         "129 classes",
@@ -229,7 +229,7 @@ static MORE: &[Row] = &[
         "128 methods",
         6,
         &[("static void m#() { } ", 127)],
-        NOT_BUILT,
+        ACCEPTED,
     ),
     (
         "129 methods",
@@ -241,7 +241,7 @@ static MORE: &[Row] = &[
         "16 parameters",
         6,
         &[("static void m(int a", 1), (", int a#", 15), (") { }", 1)],
-        NOT_BUILT,
+        ACCEPTED,
     ),
     (
         "17 parameters",
@@ -264,7 +264,7 @@ static MORE: &[Row] = &[
             ("got = 1; ", 666),
             ("}", 1),
         ],
-        NOT_BUILT,
+        ACCEPTED,
     ),
     (
         "a class of 8001 nodes",
@@ -287,7 +287,7 @@ static MORE: &[Row] = &[
         "256 ground locks",
         2,
         &[("lock Paid; lock L(actor, actor); ", 1), ("lock l#; ", 251)],
-        NOT_BUILT,
+        ACCEPTED,
     ),
     (
         "257 ground locks",
@@ -334,7 +334,7 @@ static MORE: &[Row] = &[
             ),
             ("alice: l9};", 1),
         ],
-        NOT_BUILT,
+        ACCEPTED,
     ),
     // a policy is looked at as it is written, also beside too many actors
     (
@@ -383,7 +383,7 @@ static NESTING: &[Row] = &[
         "a block of 64 braces",
         8,
         &[("{ ", 63), ("} ", 63)],
-        NOT_BUILT,
+        ACCEPTED,
     ),
     (
         "a block of 65 braces",
@@ -395,7 +395,7 @@ static NESTING: &[Row] = &[
         "a chain of 62 else",
         8,
         &[("if (true) { } else ", 62), ("{ }", 1)],
-        NOT_BUILT,
+        ACCEPTED,
     ),
     (
         "a chain of 63 else",
@@ -407,7 +407,7 @@ static NESTING: &[Row] = &[
         "a chain of 63 else if",
         8,
         &[("if (true) { } else ", 62), ("if (true) { }", 1)],
-        NOT_BUILT,
+        ACCEPTED,
     ),
     (
         "a chain of 64 else if",
@@ -419,7 +419,7 @@ static NESTING: &[Row] = &[
         "63 signs in a row",
         8,
         &[("int x = ", 1), ("- ", 63), ("1;", 1)],
-        NOT_BUILT,
+        ACCEPTED,
     ),
     (
         "64 signs in a row",
@@ -431,7 +431,7 @@ static NESTING: &[Row] = &[
         "62 parentheses in a call",
         8,
         &[("show(", 1), ("(", 62), ("1", 1), (")", 63), (";", 1)],
-        NOT_BUILT,
+        ACCEPTED,
     ),
     (
         "63 parentheses in a call",
@@ -464,7 +464,7 @@ static NESTING: &[Row] = &[
             ("; }", 1),
             (" }", 20),
         ],
-        NOT_BUILT,
+        ACCEPTED,
     ),
     (
         "blocks, an else and parentheses, 65 together",
@@ -497,19 +497,19 @@ static NESTING: &[Row] = &[
             (" + 1", 62),
             (" > 0) { }", 1),
         ],
-        NOT_BUILT,
+        ACCEPTED,
     ),
     (
         "the parentheses of when count nothing",
         8,
         &[("when (Paid) { ", 62), ("} ", 62)],
-        NOT_BUILT,
+        ACCEPTED,
     ),
     (
         "an else of when counts",
         8,
         &[("when (Paid) { } else { ", 31), ("} ", 31)],
-        NOT_BUILT,
+        ACCEPTED,
     ),
     (
         "an else of when counts, one too many",
@@ -638,7 +638,7 @@ const RESTS: &[(&str, Answer)] = &[
     ),
     (
         "static void main() !bottom { } } class I { ?{alice: l0} int a; ?{alice: l0, l1} int b; }",
-        NOT_BUILT,
+        ACCEPTED,
     ),
 ];
 

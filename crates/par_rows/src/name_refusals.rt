@@ -1,7 +1,7 @@
 //! The refusals of names and limits, as docs/REFUSALS.md shows them, each with its mend, and others
 //! beside them.
 
-use crate::call::{ACCEPTED, Answer, NOT_BUILT, check_bodies, check_lines, check_sources};
+use crate::call::{ACCEPTED, Answer, check_bodies, check_lines, check_sources};
 use std::test::Fail;
 
 const UNKNOWN: &str = "\
@@ -197,21 +197,21 @@ const ROWS: &[(&str, Answer)] = &[
     (LIMIT, ("refused 106 at 1:78 limit 1 count 17\n", 1)),
     (LIMIT_MENDED, ACCEPTED),
     (ABOVE, ("refused 107 at 2:7\n", 1)),
-    (ABOVE_MENDED, NOT_BUILT),
+    (ABOVE_MENDED, ACCEPTED),
     (BIRTH, ("refused 108 at 3:10\n", 1)),
     (BIRTH_MENDED, ("refused 109 at 3:10\n", 1)),
 ];
 
 const BODIES: &[(&str, Answer)] = &[
     ("show(this.got);", ("refused 101 at 8:6\n", 1)),
-    ("show(Shop.got);", NOT_BUILT),
-    ("show(Shop.key());", NOT_BUILT),
+    ("show(Shop.got);", ACCEPTED),
+    ("show(Shop.key());", ("refused 403 at 8:1\n", 1)),
     ("show(Shop);", ("refused 101 at 8:6\n", 1)),
     ("show(Shop.gone);", ("refused 101 at 8:11\n", 1)),
     ("gone();", ("refused 101 at 8:1\n", 1)),
     ("{ int a = 1; } show(a);", ("refused 101 at 8:21\n", 1)),
     ("int a = 1; { int a = 2; }", ("refused 102 at 8:18\n", 1)),
-    ("{ int a = 1; } { int a = 2; }", NOT_BUILT),
+    ("{ int a = 1; } { int a = 2; }", ACCEPTED),
     (
         "try { show(1); } catch (ArithmeticException e) { show(e); }",
         ("refused 101 at 8:55\n", 1),
@@ -241,7 +241,7 @@ const LINES: &[(usize, &str, Answer)] = &[
         "}\nclass Box ?top { ?{alice:} int v; }",
         ("refused 107 at 11:7\n", 1),
     ),
-    (10, "}\nclass Box ?bottom { ?{alice:} int v; }", NOT_BUILT),
+    (10, "}\nclass Box ?bottom { ?{alice:} int v; }", ACCEPTED),
     (
         10,
         "}\nclass Item { ?_ int f; }",
@@ -263,7 +263,7 @@ const LINES: &[(usize, &str, Answer)] = &[
         "policy P = Q; policy Q = bottom; lock Paid;",
         ("refused 101 at 2:12\n", 1),
     ),
-    (2, "policy P = bottom; policy Q = P; lock Paid;", NOT_BUILT),
+    (2, "policy P = bottom; policy Q = P; lock Paid;", ACCEPTED),
     (2, "lock Paid(actor, actor);", ("refused 104 at 4:16\n", 1)),
 ];
 

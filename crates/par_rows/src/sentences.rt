@@ -1,6 +1,6 @@
-//! Sources that are no sentences, and sentences that are not built yet: each with its answer.
+//! Sources that are no sentences, and sentences of the whole language: each with its answer.
 
-use crate::call::{Answer, NOT_BUILT, check_bodies, check_lines, check_sources};
+use crate::call::{ACCEPTED, Answer, check_bodies, check_lines, check_sources};
 use std::test::Fail;
 
 const FORMS: &[(&str, Answer)] = &[
@@ -13,7 +13,10 @@ const FORMS: &[(&str, Answer)] = &[
         "when (Paid) { } else when (Paid) { }",
         ("refused 10 at 8:22\n", 1),
     ),
-    ("when (Paid) { show(1); } else { show(0); }", NOT_BUILT),
+    (
+        "when (Paid) { show(1); } else { show(0); }",
+        ("refused 404 at 8:15\n", 1),
+    ),
     ("try { }", ("refused 10 at 9:1\n", 1)),
     ("try { } catch (Bad) { }", ("refused 10 at 8:19\n", 1)),
     ("throw new Bad;", ("refused 10 at 8:14\n", 1)),
@@ -38,7 +41,7 @@ const FORMS: &[(&str, Answer)] = &[
     ("int x = a.b(c, d)[0];", ("refused 1 at 8:18\n", 1)),
     ("int x = new Item;", ("refused 10 at 8:17\n", 1)),
     ("int x = 1 >> > 2;", ("refused 10 at 8:14\n", 1)),
-    ("int x = 1 >>> 2;", NOT_BUILT),
+    ("int x = 1 >>> 2;", ACCEPTED),
     (
         "boolean b = !(1 < 2) == true && x || y;",
         ("refused 101 at 8:33\n", 1),
@@ -58,7 +61,7 @@ const DECLARED: &[(usize, &str, Answer)] = &[
     (4, "?_ input int key();", ("refused 10 at 4:4\n", 1)),
     (6, "?_ static void f() { }", ("refused 10 at 6:11\n", 1)),
     (6, "?_ got;", ("refused 10 at 6:7\n", 1)),
-    (2, "lock Paid ?bottom;", NOT_BUILT),
+    (2, "lock Paid ?bottom;", ACCEPTED),
     (2, "lock Paid(actor, actor);", ("refused 104 at 4:16\n", 1)),
     (
         2,
@@ -76,9 +79,9 @@ const DECLARED: &[(usize, &str, Answer)] = &[
         "policy P = {alice:} + bottom;",
         ("refused 10 at 2:21\n", 1),
     ),
-    (3, "class Shop ?top {", NOT_BUILT),
+    (3, "class Shop ?top {", ACCEPTED),
     (3, "class Shop ? {", ("refused 10 at 4:1\n", 1)),
-    (3, "class Bad extends Exception { } class Shop {", NOT_BUILT),
+    (3, "class Bad extends Exception { } class Shop {", ACCEPTED),
     (
         3,
         "class Bad extends Exception { int x; } class Shop {",
@@ -156,7 +159,7 @@ const QUERIES: &[(&str, Answer)] = &[
     (
         "actor alice;\nlock Paid ?bottom;\nclass Shop {\n\
          static void main() !bottom {\nwhen (Paid) { } else { }\n}\n}\n",
-        NOT_BUILT,
+        ACCEPTED,
     ),
     (
         "actor alice;\nlock Paid ?bottom;\nclass Shop {\n\

@@ -1,6 +1,6 @@
 //! The common source with one line changed: near misses of each condition.
 
-use crate::call::{ACCEPTED, Answer, NOT_BUILT, check_lines, check_sources, checks_as, expect};
+use crate::call::{ACCEPTED, Answer, check_lines, check_sources, checks_as, expect};
 use std::alloc::Global;
 use std::test::Fail;
 
@@ -28,13 +28,13 @@ const DECLARATIONS: &[(usize, &str, Answer)] = &[
         ("refused 102 at 3:7\n", 1),
     ),
     (3, "class Exception {", ("refused 10 at 3:7\n", 1)),
-    (3, "class Shop ?top {", NOT_BUILT),
+    (3, "class Shop ?top {", ACCEPTED),
     (
         7,
         "static void other() !bottom {",
         ("refused 105 at 1:1\n", 1),
     ),
-    (7, "static void main() {", NOT_BUILT),
+    (7, "static void main() {", ACCEPTED),
     (
         7,
         "static int main() !bottom {",
@@ -45,10 +45,10 @@ const DECLARATIONS: &[(usize, &str, Answer)] = &[
         "static void main(int x) !bottom {",
         ("refused 105 at 7:13\n", 1),
     ),
-    (7, "static void main() !top {", NOT_BUILT),
+    (7, "static void main() !top {", ("refused 404 at 8:1\n", 1)),
     (10, "", ("refused 10 at 11:1\n", 1)),
     (10, "} }", ("refused 10 at 10:3\n", 1)),
-    (10, "} class Other { }", NOT_BUILT),
+    (10, "} class Other { }", ACCEPTED),
     (10, "} // the end", ACCEPTED),
     (10, "} /* the end", ("refused 3 at 10:3\n", 1)),
 ];
@@ -82,8 +82,8 @@ const MEMBERS: &[(usize, &str, Answer)] = &[
     ),
     (4, "?{alice: Paid, Paid} input int key();", ACCEPTED),
     (4, "?{} input int key();", ACCEPTED),
-    (4, "?bottom input int key();", NOT_BUILT),
-    (4, "input int key();", NOT_BUILT),
+    (4, "?bottom input int key();", ACCEPTED),
+    (4, "input int key();", ACCEPTED),
     (
         4,
         "?{alice:} input int show();",
@@ -126,8 +126,8 @@ const MEMBERS: &[(usize, &str, Answer)] = &[
         ACCEPTED,
     ),
     (6, "?{alice:} static int show;", ACCEPTED),
-    (6, "?{alice:} static boolean got;", NOT_BUILT),
-    (6, "?{alice:} int got;", NOT_BUILT),
+    (6, "?{alice:} static boolean got;", ACCEPTED),
+    (6, "?{alice:} int got;", ACCEPTED),
     (6, "", ACCEPTED),
 ];
 

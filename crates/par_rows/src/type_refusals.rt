@@ -1,6 +1,6 @@
 //! The refusals of types, as docs/REFUSALS.md shows them, each with its mend.
 
-use crate::call::{ACCEPTED, Answer, NOT_BUILT, check_sources};
+use crate::call::{ACCEPTED, Answer, check_sources};
 use std::test::Fail;
 
 const TYPE: &str = "\
@@ -214,17 +214,17 @@ const ROWS: &[(&str, Answer)] = &[
     (ARGUMENTS, ("refused 202 at 5:5\n", 1)),
     (ARGUMENTS_MENDED, ACCEPTED),
     (RESULT, ("refused 203 at 4:14\n", 1)),
-    (RESULT_MENDED, NOT_BUILT),
+    (RESULT_MENDED, ACCEPTED),
     (UNREACHED, ("refused 204 at 6:5\n", 1)),
-    (UNREACHED_MENDED, NOT_BUILT),
+    (UNREACHED_MENDED, ACCEPTED),
     (BREAK, ("refused 205 at 6:5\n", 1)),
-    (BREAK_MENDED, NOT_BUILT),
+    (BREAK_MENDED, ACCEPTED),
     (NULL, ("refused 206 at 5:25\n", 1)),
-    (NULL_MENDED, NOT_BUILT),
+    (NULL_MENDED, ACCEPTED),
     (EXCEPTION, ("refused 207 at 5:15\n", 1)),
-    (EXCEPTION_MENDED, NOT_BUILT),
+    (EXCEPTION_MENDED, ACCEPTED),
     (GREAT, ("refused 208 at 5:10\n", 1)),
-    (GREAT_MENDED, NOT_BUILT),
+    (GREAT_MENDED, ACCEPTED),
     (OPEN, ("refused 109 at 4:17\n", 1)),
     (OPEN_MENDED, ACCEPTED),
 ];

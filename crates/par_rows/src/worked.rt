@@ -1,6 +1,6 @@
 //! The rows that show what each form of words does, by both programs.
 
-use crate::call::{ACCEPTED, COMPILED, KEY_42, NOT_BUILT, Row, SHOWS_KEY, check_rows};
+use crate::call::{ACCEPTED, COMPILED, KEY_42, Row, SHOWS_KEY, check_rows};
 use std::test::Fail;
 
 const ROWS: &[Row] = &[
@@ -61,11 +61,11 @@ const ROWS: &[Row] = &[
         ("out Shop.show 3\nend\n", 0),
     ),
     (
-        "a branch is not built",
+        "a branch on the key",
         "if (key() > 0) { return; } show(1);",
         KEY_42,
         "paragonc --check shop.par",
-        NOT_BUILT,
+        ("refused 404 at 8:28\n", 1),
     ),
     (
         "a source that is not there",
