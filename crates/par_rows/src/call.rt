@@ -135,6 +135,19 @@ pub fn checks_as(alloc: Global, source: &str, answer: Answer) -> Result<bool, No
     answers(alloc, "paragonc --check shop.par", &mut folder, answer)
 }
 
+/// Whether a command over a source and an input file has this answer.
+pub fn traces_as(
+    alloc: Global,
+    source: &str,
+    inputs: &str,
+    command: &str,
+    answer: Answer,
+) -> Result<bool, NoMemory> {
+    let mut folder = folder_of(alloc, source)?;
+    folder.add("in.txt", inputs.as_bytes())?;
+    answers(alloc, command, &mut folder, answer)
+}
+
 /// Checks the common source with a line in place of that one.
 pub fn line_checks_as(
     alloc: Global,

@@ -3,7 +3,7 @@
 //! A test reads no file, so each text stands here and in `examples/`, `README.md` or `docs/`. They
 //! are kept equal, and `bench/same_examples.sh` compares them.
 
-use crate::call::{ACCEPTED, Answer, check_sources};
+use crate::call::{ACCEPTED, Answer, check_sources, expect, traces_as};
 use std::test::Fail;
 
 const SHOP_IN_BRIEF: &str = "\
@@ -341,6 +341,49 @@ const EXAMPLES: &[(&str, Answer)] = &[
 #[test]
 fn examples_are_accepted(rt: HostRuntime) -> Result<(), Fail> {
     check_sources(rt.alloc(), EXAMPLES)
+}
+
+/// A source, its input file, and what is told of its run.
+const TRACES: &[(&str, &str, Answer)] = &[
+    (
+        SEALED_BIDS,
+        "Auction.aliceBids: 30\nAuction.bobBids: 45\n",
+        (
+            "set Auction.price 45 [Done]\nout Auction.announce 45 [Done]\nend\n",
+            0,
+        ),
+    ),
+    (
+        PAID_ARTICLE,
+        "Shop.bank: 1\nShop.article: 77\n",
+        ("out Shop.show 77 [Paid]\nout Shop.greet 1 [Paid]\nend\n", 0),
+    ),
+    (
+        SURVEY,
+        "Survey.answers: 1 2 1 1 2 1\n",
+        (
+            "set Survey.yes 1 []\nset Survey.no 1 []\nset Survey.yes 2 []\nset Survey.yes 3 []\n\
+             set Survey.no 2 []\nset Survey.yes 4 []\nout Survey.tell 4 [Over]\n\
+             out Survey.tell 2 [Over]\nend\n",
+            0,
+        ),
+    ),
+    (
+        PASSWORD,
+        "Door.password: 4711\nDoor.guess: 4711\n",
+        ("out Door.answer 1 [Checked]\nset Door.tries 1 []\nend\n", 0),
+    ),
+];
+
+const TRACE: &str = "paragonc --trace shop.par in.txt 1000";
+
+#[test]
+fn runs_of_examples_are_told(rt: HostRuntime) -> Result<(), Fail> {
+    for (source, inputs, answer) in TRACES {
+        let told = traces_as(rt.alloc(), source, inputs, TRACE, *answer)?;
+        expect(told, source)?;
+    }
+    Ok(())
 }
 
 const REFUSALS_AND_THEIR_MENDS: &[(&str, Answer)] = &[

@@ -1,9 +1,7 @@
 //! What the rules on locks and flows say of the common source with other lines, and what the
 //! sources that they let pass do.
 
-use crate::call::{
-    ACCEPTED, Answer, Lines, answers, check_all, expect, folder_of, last_of, with_lines,
-};
+use crate::call::{ACCEPTED, Answer, Lines, check_all, expect, last_of, traces_as, with_lines};
 use par_io::NoMemory;
 use std::alloc::Global;
 use std::test::Fail;
@@ -248,7 +246,7 @@ const TRACES: &[(Lines, &str, &str, Answer)] = &[
     ),
 ];
 
-fn traces_as(
+fn is_told(
     alloc: Global,
     lines: Lines,
     inputs: &str,
@@ -256,16 +254,14 @@ fn traces_as(
     answer: Answer,
 ) -> Result<bool, NoMemory> {
     let source = with_lines(alloc, lines)?;
-    let mut folder = folder_of(alloc, source.as_str())?;
-    folder.add("in.txt", inputs.as_bytes())?;
-    answers(alloc, command, &mut folder, answer)
+    traces_as(alloc, source.as_str(), inputs, command, answer)
 }
 
 #[test]
-fn traces(rt: HostRuntime) -> Result<(), Fail> {
+fn runs_of_sources_are_told(rt: HostRuntime) -> Result<(), Fail> {
     for (lines, inputs, command, answer) in TRACES {
         expect(
-            traces_as(rt.alloc(), lines, inputs, command, *answer)?,
+            is_told(rt.alloc(), lines, inputs, command, *answer)?,
             last_of(lines),
         )?;
     }
