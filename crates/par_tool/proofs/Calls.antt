@@ -25,7 +25,7 @@ use Rattle.par_tool.specs.Outside.{Text, MakesAtMost}
 use Rattle.par_tool.specs.Failures.{IsFailure, failure_for}
 use Rattle.par_tool.specs.Sources.{Checked, CompiledSo}
 use Rattle.par_tool.specs.Classes.{NotRun, IsStarted}
-use Rattle.par_tool.specs.declared.traces.Traced.{Traced}
+use Rattle.par_meaning.specs.declared.run.SourceRun.{SourceRun}
 use Rattle.par_tool.specs.Traces.{Untraced, IsTraced}
 use Rattle.par_tool.specs.Answers.{Scene, Stand, Ends, misses, lacks_words, answers, runs, traces, lacks_memory, ReadsOnly, Concludes, BreaksOff}
 use Rattle.par_tool.proofs.Alone.{own_number}
@@ -58,13 +58,13 @@ module _ (which : Which) (words : List (String Global)) (s : Scene) (result : �
   trace_fails file inputs bound (Answered answer) asks stand failed few said = answers (Trace file inputs bound) answer asks (failed, stand) said
   trace_fails file inputs bound Memory asks stand failed few said = lacks_memory (Trace file inputs bound) asks said.0 said.1 (few refl) stand
 
-  pub trace_ends : (file inputs : Text) (bound : ℕ) (t : Traced) → Asks which words (Trace file inputs bound) → Makes 2 0 s.before s.after → Stand s
-      → IsTraced s.files file inputs bound t
-      → Said (told.status (Fine (traced.run_of t.run).ending)) (traced.lines t.accepted.typed.table (traced.run_of t.run)) result old new before after
+  pub trace_ends : (file inputs : Text) (bound : ℕ) (made_over : Table) (t : SourceRun) → Asks which words (Trace file inputs bound) → Makes 2 0 s.before s.after → Stand s
+      → IsTraced s.files file inputs bound made_over t
+      → Said (told.status (Fine (traced.run_of t).ending)) (traced.lines made_over (traced.run_of t)) result old new before after
       → Ends which words s result old new before after
-  trace_ends file inputs bound t asks makes stand h said =
-      traces (Trace file inputs bound) h.tree (traced.run_of t.run) asks (h.is_trace, (makes, stand))
-      (subst (λ (table : Table). Said (told.status (Fine (traced.run_of t.run).ending)) (traced.lines table (traced.run_of t.run)) result old new before after) h.table_is said)
+  trace_ends file inputs bound made_over t asks makes stand h said =
+      traces (Trace file inputs bound) h.tree (traced.run_of t) asks (h.is_trace, (makes, stand))
+      (subst (λ (table : Table). Said (told.status (Fine (traced.run_of t).ending)) (traced.lines table (traced.run_of t)) result old new before after) h.table_is said)
 
   pub run_fails : (main inputs : Text) (steps : ℕ) (failure : Failure) → Asks which words (Run main inputs steps) → Stand s
       → IsFailure (NotRun s.files s.before s.after main inputs) failure → (failure ≡ Memory → MakesAtMost 130 0 s.before s.after)

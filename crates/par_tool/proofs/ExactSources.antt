@@ -13,7 +13,7 @@ use Rattle.par_tool.specs.declared.answer.Answer.TheVariants.{Absent, ReadFault,
 use Rattle.par_tool.specs.Texts.{status}
 use Rattle.par_tool.specs.Outside.{Text, NotRead, IsThere, IsMissing, IsOverlong}
 use Rattle.par_tool.specs.Sources.{IsBroken, IsCompiledAs, IsNotBuilt, ReadSource, ReadCompiled}
-use Rattle.par_tool.specs.Sources.{Rejected, Uncompiled, Checked, CompiledSo}
+use Rattle.par_tool.specs.Sources.{Checked, CompiledSo}
 use Rattle.par_tool.specs.Exactly.{IsSaidBy, IsStatus, TellsSource, Checks, Compiles}
 use Rattle.par_tool.proofs.Statuses.{IsNear, same, near_status, compiles, read_there, missing_read}
 use Rattle.par_tool.proofs.Statuses.{overlong_read, missing_not_read, overlong_not_read, there_not_read}

@@ -11,7 +11,7 @@ pub right_or_bad : (misfits : Misfits) (text : Text) (number : ℕ) → IsRight 
     → misfits (entries (lines_of text)) ≡ None → IsBad misfits text number → ⊥
 right_or_bad misfits text number right fit (broken h) =
     let inside : number - 1 < length (lines_of text) =
-        let c = h.counted in let s = h.stands in omega arith in
+    let c = h.counted in let s = h.stands in omega arith in
     false≢true (sym (right.right (number - 1) inside) ∙ h.broken)
 right_or_bad misfits text number right fit (misfit h) =
     let e : None ≡ Some h.place = sym fit ∙ h.first in cc

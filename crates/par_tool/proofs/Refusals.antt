@@ -1,5 +1,5 @@
 -- A source that is not too long is refused for a rule that it breaks.
-use Rattle.std.proofs.Common.{◌≡◌, ℕ, ◌≤◌, List, length, arith}
+use Rattle.std.proofs.Common.{ℕ, ◌≤◌, List, length, arith}
 use Rattle.par_lexer.specs.declared.cut.TheConstants.{LONGEST_SOURCE}
 use Rattle.par_typed.specs.declared.refusal.Refusal.{Refusal}
 use Rattle.par_observer.specs.Judgements.{IsRefusedBy, IsBrokenBy, too_long, breaks}

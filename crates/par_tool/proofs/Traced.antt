@@ -8,9 +8,9 @@ use Rattle.par_typed.specs.Plain.{Body}
 use Rattle.par_typed.specs.Shown.{bodies}
 use Rattle.par_tree.specs.Plain.{Source}
 use Rattle.par_resolved.specs.Resolved.{table_of}
-use Rattle.par_well_typed.specs.Typed.{bodies_of}
+use Rattle.par_observer.specs.Trees.{bodies_of}
 use Rattle.par_values.specs.declared.inputs.Inputs.{Inputs}
-use Rattle.par_check.specs.declared.accepted.Accepted.{Accepted}
+use Rattle.par_typed.specs.declared.program.Typed.{Typed}
 use Rattle.par_observer.specs.Judgements.{IsAcceptedAs}
 use Rattle.par_secrecy.specs.Runs.{Witnessed, Run}
 use Rattle.par_runs.specs.Source.{run_of, source}
@@ -25,12 +25,12 @@ use Rattle.par_tool.specs.Given.{AreInputs}
 use Rattle.par_tool.specs.Traces.{IsTraced, source_run}
 
 -- the run of a program is that of its tree
-of_tree : (accepted : Accepted) (tree : Source) (lists : Inputs) (bound : ℕ)
-    → accepted.typed.table ≡ table_of tree → bodies accepted.typed.bodies ≡ bodies_of tree
-    → source accepted.typed lists bound ≡ source_run tree lists.channels bound
+of_tree : (typed : Typed) (tree : Source) (lists : Inputs) (bound : ℕ)
+    → typed.table ≡ table_of tree → bodies typed.bodies ≡ bodies_of tree
+    → source typed lists bound ≡ source_run tree lists.channels bound
 unfolding source
-of_tree accepted tree lists bound table_is bodies_are =
-    ap (λ (t : Table). run_of t (bodies accepted.typed.bodies) lists.channels bound) table_is
+of_tree typed tree lists bound table_is bodies_are =
+    ap (λ (t : Table). run_of t (bodies typed.bodies) lists.channels bound) table_is
     ∙ ap (λ (bs : List Body). run_of (table_of tree) bs lists.channels bound) bodies_are
 
 -- what is told of a run is what was made
@@ -39,15 +39,15 @@ as_told run =
     ap (λ (es : List Witnessed). let r : Run = record { events = es; ending = run.ending } in r)
     (sym (append-nil (map witnessed run.events)))
 
-pub traced : (files : Option Files) (file name : Text) (bound n : ℕ) (accepted : Accepted)
+pub traced : (files : Option Files) (file name : Text) (bound n : ℕ) (typed : Typed)
     (run : SourceRun) (lists : Inputs) → n ≡ bound
-    → ReadSource files file (λ source. IsAcceptedAs source accepted)
-    → AreInputs (first_misfit accepted.typed.table) files name lists
-    → as_run run ≡ source accepted.typed lists n
-    → IsTraced files file name bound (record { accepted = accepted; run = run })
-traced files file name bound n accepted run lists same read given is =
-    let own : IsAcceptedAs read.0 accepted = read.2 in
-    let table_is : accepted.typed.table ≡ table_of own.tree = own.keeps.1.table_is in
+    → ReadSource files file (λ source. IsAcceptedAs source typed)
+    → AreInputs (first_misfit typed.table) files name lists
+    → as_run run ≡ source typed lists n
+    → IsTraced files file name bound typed.table run
+traced files file name bound n typed run lists same read given is =
+    let own : IsAcceptedAs read.0 typed = read.2 in
+    let table_is : typed.table ≡ table_of own.tree = own.keeps.1.table_is in
     record {
       tree = own.tree;
       table_is = table_is;
@@ -62,7 +62,7 @@ traced files file name bound n accepted run lists same read given is =
         given = subst (λ (t : Table). AreInputs (first_misfit t) files name lists) table_is given;
         is_run =
             as_told run ∙ is
-            ∙ ap (λ (m : ℕ). source accepted.typed lists m) same
-            ∙ of_tree accepted own.tree lists bound table_is own.keeps.1.bodies_are;
+            ∙ ap (λ (m : ℕ). source typed lists m) same
+            ∙ of_tree typed own.tree lists bound table_is own.keeps.1.bodies_are;
       };
     }

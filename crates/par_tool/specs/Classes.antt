@@ -1,5 +1,5 @@
 -- What is said of class files and input files: to run them.
-use Rattle.std.specs.Prelude.{◌≡◌, ℕ, ◌⊎◌, List, [], ◌∷◌, Option, Some, None, Result, Ok, Err, IsTrue}
+use Rattle.std.specs.Prelude.{◌≡◌, ℕ, ◌⊎◌, List, [], ◌∷◌, Option, Result, Ok, Err, IsTrue}
 use Rattle.par_io.specs.Causes.{FolderCounts, Makes, Rose, Files}
 use Rattle.par_values.specs.declared.inputs.Inputs.{Inputs}
 use Rattle.par_values.specs.Ran.{Ran}

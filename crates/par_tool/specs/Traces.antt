@@ -3,20 +3,20 @@ use Rattle.std.specs.Prelude.{◌≡◌, ℕ, ◌⊎◌, List, Option}
 use Rattle.par_io.specs.Causes.{FolderCounts, Makes, Files}
 use Rattle.par_lexer.specs.declared.cut.TheConstants.{LONGEST_SOURCE}
 use Rattle.par_tree.specs.Plain.{Source}
+use Rattle.par_typed.specs.declared.table.Table.{Table}
+use Rattle.par_meaning.specs.declared.run.SourceRun.{SourceRun}
 use Rattle.par_values.specs.declared.inputs.ChannelInput.{ChannelInput}
 use Rattle.par_values.specs.declared.inputs.Inputs.{Inputs}
 use Rattle.par_inputs.specs.declared.read.TheConstants.{LONGEST_INPUTS}
 use Rattle.par_resolved.specs.Resolved.{table_of}
-use Rattle.par_well_typed.specs.Typed.{bodies_of}
 use Rattle.par_observer.specs.Judgements.{IsTreeOf}
-use Rattle.par_observer.specs.Trees.{IsAcceptedTree}
+use Rattle.par_observer.specs.Trees.{bodies_of, IsAcceptedTree}
 use Rattle.par_secrecy.specs.Runs.{Run}
 use Rattle.par_runs.specs.Source.{run_of}
 use Rattle.par_trace.specs.Channels.{first_misfit}
 use Rattle.par_trace.specs.Texts as told
 use Rattle.par_tool.specs.declared.answer.Answer.{Answer}
 use Rattle.par_tool.specs.declared.answer.Answer.TheVariants.{BadInputs}
-use Rattle.par_tool.specs.declared.traces.Traced.{Traced}
 use Rattle.par_tool.specs.Outside.{Text, WasRead, NotRead}
 use Rattle.par_tool.specs.Sources.{Rejected}
 use Rattle.par_tool.specs.Given.{Misfits, AreInputs, HasBadLine}
@@ -45,11 +45,11 @@ pub record IsTraceOf (files : Option Files) (file inputs : Text) (bound : ℕ) (
   pub is_run : run ≡ source_run tree lists.channels bound
 
 -- the run that was made, with the table of its program
-pub record IsTraced (files : Option Files) (file inputs : Text) (bound : ℕ) (traced : Traced)
-    : Type 0 where
+pub record IsTraced (files : Option Files) (file inputs : Text) (bound : ℕ) (table : Table)
+    (made : SourceRun) : Type 0 where
   pub tree : Source
-  pub table_is : traced.accepted.typed.table ≡ table_of tree
-  pub is_trace : IsTraceOf files file inputs bound tree (told.run_of traced.run)
+  pub table_is : table ≡ table_of tree
+  pub is_trace : IsTraceOf files file inputs bound tree (told.run_of made)
 
 -- Why no run of a source is told: it was not had or is not accepted; or it is, and the input file
 -- was not had or has a wrong line.

@@ -11,10 +11,10 @@ ghost use Rattle.par_tool.specs.Sources.{CompiledSo, IsUnaccepted, IsUncompiled,
 
 use crate::answer::Answer;
 use crate::reading::{Failure, read};
+use par_check::Accepted;
 use par_io::{Folder, WriteFail};
 use par_lexer::{LONGEST_SOURCE, place_of};
 use par_loader::{class_file_name, text_of};
-use par_check::Accepted;
 use par_observer::{JudgeError, judge, straight_line};
 use par_straight::program::Program;
 use par_straight_compile::compile;
@@ -23,7 +23,7 @@ use std::alloc::{AllocError, Global};
 /// What a source is accepted as.
 fn accepted(alloc: Global, source: &[u8]) -> Result<Accepted, Failure>
     requires { length source.now ≤ LONGEST_SOURCE }
-    ensures accepted { IfOk result (IsAcceptedAs source.now) }
+    ensures accepted { IfOk result (λ accepted. IsAcceptedAs source.now accepted.typed) }
     ensures failed { IfErr result (IsFailure (IsUnaccepted source.now)) }
 {
     match judge(alloc, source) {
@@ -69,7 +69,7 @@ pub fn accepted_source<F: Folder>(
     ensures faults_are_told { IsTrue F.counts_faults_alone →
         FaultsAreTold result (F.counts folder.old).faults (F.counts folder.new).faults }
     ensures accepted { IfOk result (λ accepted.
-        ReadSource (F.files folder.old) file.now (λ source. IsAcceptedAs source accepted)) }
+        ReadSource (F.files folder.old) file.now (λ source. IsAcceptedAs source accepted.typed)) }
     ensures failed { IfErr result (IsFailure (Rejected (F.files folder.old)
         (F.counts folder.old) (F.counts folder.new) file.now)) }
 {

@@ -72,7 +72,8 @@ pub fn trace_source<F: Folder>(
     ensures counted { OnOk result (Makes 2 0 (F.counts folder.old) (F.counts folder.new)) }
     ensures faults_are_told { IsTrue F.counts_faults_alone →
         FaultsAreTold result (F.counts folder.old).faults (F.counts folder.new).faults }
-    ensures traced { IfOk result (IsTraced (F.files folder.old) file.now name.now bound) }
+    ensures traced { IfOk result (λ traced. IsTraced (F.files folder.old) file.now name.now bound
+        traced.accepted.typed.table traced.run) }
     ensures failed { IfErr result (IsFailure (Untraced (F.files folder.old)
         (F.counts folder.old) (F.counts folder.new) file.now name.now)) }
     ensures memory { IfErr result (λ e. e ≡ Failure.Memory →

@@ -7,9 +7,9 @@ use Rattle.par_tool.proofs.sources.accepted.Goals as goal
 pub returns-in-Refused-clause-failed : goal.returns-in-Refused-clause-failed
 returns-in-Refused-clause-failed c =
     let refused : IsRefusedBy c.args.source.now c.in-Refused.refusal =
-        rw c.in-Refused.is at c.in-Err.ensures.refused in
+    rw c.in-Refused.is at c.in-Err.ensures.refused in
     let broken : IsBrokenBy c.args.source.now c.in-Refused.refusal =
-        broken_by c.args.source.now c.in-Refused.refusal c.requires refused in
+    broken_by c.args.source.now c.in-Refused.refusal c.requires refused in
     record {
       refusal = c.in-Refused.refusal;
       breaks = broken.0;

@@ -20,7 +20,7 @@ returns-in-Ok-clause-traced g c =
     let own = rw c.typed.ensures at given in
     let run = rw c.typed-2.ensures at c.in-Ok.ensures in
     traced files c.args.file.now c.args.name.now c.args.bound c.from.result
-    c.in_ok-accepted.accepted c.in-Ok.run' c.in_ok-inputs.inputs c.from.ensures
+    c.in_ok-accepted.accepted.typed c.in-Ok.run' c.in_ok-inputs.inputs c.from.ensures
     c.in_ok-accepted.ensures.accepted own run
 
 pub returns-in-Err-clause-memory : goal.returns-in-Err-clause-memory
