@@ -22,7 +22,8 @@ abbrev IsAt : List ℤ → List ChannelInput → ℕ → Option ℕ → Type 0
 IsAt ns lines i None = ns ≡ []
 IsAt ns lines i (Some k) = (j : ℕ) × (k ≡ i + j) × (ns ≡ numbers_of (slice_get lines j))
 
-step : (line : ChannelInput) (lines : List ChannelInput) (i : ℕ) (here : Bool) (ns : List ℤ) (o : Option ℕ)
+step : (line : ChannelInput) (lines : List ChannelInput) (i : ℕ) (here : Bool) (ns : List ℤ)
+    (o : Option ℕ)
     → IsAt ns lines (i + 1) o
     → IsAt (if here then line.numbers else ns) (line ∷ lines) i (cond here (Some i) o)
 step line lines i true ns o later = (0, omega arith, refl)
@@ -44,11 +45,13 @@ module _ (class channel : Name) where
   found (line ∷ lines) i =
       let rest = position_from (is_line class channel) (i + 1) lines in
       let here = is_line class channel line in
-      subst (λ (k : Bool). IsAt (if k then line.numbers else given lines class channel) (line ∷ lines) i (cond here (Some i) rest))
+      subst (λ (k : Bool). IsAt (if k then line.numbers else given lines class channel)
+      (line ∷ lines) i (cond here (Some i) rest))
       (either_way line)
       (step line lines i here (given lines class channel) rest (found lines (i + 1)))
 
-  found_first : (lines : List ChannelInput) (o : Option ℕ) → o ≡ position (is_line class channel) lines
+  found_first : (lines : List ChannelInput) (o : Option ℕ) → o
+      ≡ position (is_line class channel) lines
       → IsAt (given lines class channel) lines 0 o
   found_first lines o is =
       subst (IsAt (given lines class channel) lines 0)
@@ -58,7 +61,8 @@ module _ (class channel : Name) where
       → given lines class channel ≡ []
   no_line lines is = found_first lines None is
 
-  pub line_there : (lines : List ChannelInput) (k : ℕ) → Some k ≡ position (is_line class channel) lines
+  pub line_there : (lines : List ChannelInput) (k : ℕ) → Some k
+      ≡ position (is_line class channel) lines
       → given lines class channel ≡ numbers_of (slice_get lines k)
   line_there lines k is =
       let here = found_first lines (Some k) is in
@@ -73,7 +77,8 @@ module _ (lines : List ChannelInput) where
       ap list_or_none (slice_get-map (λ channel. given lines class channel.name) channels k)
       ∙ at (slice_get channels k)
     where
-      at : (o : Option ChannelInfo) → list_or_none (option_map (λ channel. given lines class channel.name) o)
+      at : (o : Option ChannelInfo) → list_or_none
+          (option_map (λ channel. given lines class channel.name) o)
           ≡ given_to lines (channel_member class o)
       at None = refl
       at (Some channel) = refl
@@ -83,22 +88,27 @@ module _ (lines : List ChannelInput) where
       → list_or_none (slice_get (list_or_none (slice_get (rows_of lines classes) c)) k)
       ≡ given_to lines (channel_of (slice_get classes c) k)
   in_rows classes c k =
-      ap (λ row. list_or_none (slice_get (list_or_none row) k)) (slice_get-map (λ class. row_of lines class.name class.channels) classes c)
+      ap (λ row. list_or_none (slice_get (list_or_none row) k))
+      (slice_get-map (λ class. row_of lines class.name class.channels) classes c)
       ∙ at (slice_get classes c)
     where
       at : (o : Option ClassInfo)
-          → list_or_none (slice_get (list_or_none (option_map (λ class. row_of lines class.name class.channels) o)) k)
+          → list_or_none (slice_get (list_or_none
+          (option_map (λ class. row_of lines class.name class.channels) o)) k)
           ≡ given_to lines (channel_of o k)
       at None = refl
       at (Some class) = in_row class.name class.channels k
 
   -- a row that is there
-  pub row_there : (rows : List (List (Bor (List ℤ)))) (classes : List ClassInfo) (c k : ℕ) (row : List (Bor (List ℤ)))
+  pub row_there : (rows : List (List (Bor (List ℤ)))) (classes : List ClassInfo) (c k : ℕ)
+      (row : List (Bor (List ℤ)))
       → rows_shown rows ≡ rows_of lines classes → Some row ≡ slice_get rows c
-      → list_or_none (slice_get (row_shown row) k) ≡ given_to lines (channel_of (slice_get classes c) k)
+      → list_or_none (slice_get (row_shown row) k)
+      ≡ given_to lines (channel_of (slice_get classes c) k)
   row_there rows classes c k row is found =
       ap (λ o. list_or_none (slice_get (list_or_none o) k))
-      (ap (option_map row_shown) found ∙ sym (slice_get-map row_shown rows c) ∙ ap (λ rows. slice_get rows c) is)
+      (ap (option_map row_shown) found ∙ sym (slice_get-map row_shown rows c)
+      ∙ ap (λ rows. slice_get rows c) is)
       ∙ in_rows classes c k
 
   pub no_row : (rows : List (List (Bor (List ℤ)))) (classes : List ClassInfo) (c k : ℕ)
@@ -106,11 +116,13 @@ module _ (lines : List ChannelInput) where
       → [] ≡ given_to lines (channel_of (slice_get classes c) k)
   no_row rows classes c k is none =
       ap (λ o. list_or_none (slice_get (list_or_none o) k))
-      (ap (option_map row_shown) none ∙ sym (slice_get-map row_shown rows c) ∙ ap (λ rows. slice_get rows c) is)
+      (ap (option_map row_shown) none ∙ sym (slice_get-map row_shown rows c)
+      ∙ ap (λ rows. slice_get rows c) is)
       ∙ in_rows classes c k
 
 -- the first place of names among those of lines
-pub place_of_names : (names : Names) (keys : List Names) (lines : List ChannelInput) → names_shown keys ≡ named lines
+pub place_of_names : (names : Names) (keys : List Names) (lines : List ChannelInput)
+    → names_shown keys ≡ named lines
     → position (same_names names) keys ≡ position (is_line names.0.now names.1.now) lines
 place_of_names names keys lines same =
     let asks : Name × Name → Bool = λ n. bytes_eq names.0.now n.0 && bytes_eq names.1.now n.1 in

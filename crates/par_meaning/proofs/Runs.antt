@@ -94,18 +94,23 @@ stops p ws m n all k none is =
     ∙ ap (behind m.events) (next_zero p n (left p ws) m.frames.below m.values (state_of p m))) ∙ is
 
 -- a run whose `main` has completed
-pub over : (p : Setting) (ws : List Waiting) (m : Machine) (e : Completion) (all : Run) (k : ℕ) (end : Ending)
+pub over : (p : Setting) (ws : List Waiting) (m : Machine) (e : Completion) (all : Run) (k : ℕ)
+    (end : Ending)
     → end ≡ ends p.table e → whole p ws m (rest.Over e) k ≡ all → ended m.events end ≡ all
 over p ws m (Normal v) all k end end_is is = ap (ended m.events) end_is ∙ is
 over p ws m (Abrupt e) all k end end_is is = ap (ended m.events) end_is ∙ is
 
 -- a step, and what is done behind it at no price
-pub stepped : (program : Program) (d : ℕ) (ws ws' : List Waiting) (m m' m'' : Machine) (n : Next) (on : Then) (r : Rest) (k k' : ℕ) (all : Run)
+pub stepped : (program : Program) (d : ℕ) (ws ws' : List Waiting) (m m' m'' : Machine) (n : Next)
+    (on : Then) (r : Rest) (k k' : ℕ) (all : Run)
     → suc k' ≡ k → k' < d
     → ((d : ℕ) (follows : Follows) (n' : ℕ) → n' < d → let p = setting program d in
-    onward p follows m' on n' ≡ behind m.events (goes p n follows m.frames.below m.values (state_of p m) (suc n')))
-    → ((d n' : ℕ) → let p = setting program d in whole p ws' m'' r n' ≡ onward p (left p ws) m' on n')
-    → whole (setting program d) ws m (rest.Next n) k ≡ all → whole (setting program d) ws' m'' r k' ≡ all
+    onward p follows m' on n' ≡ behind m.events
+    (goes p n follows m.frames.below m.values (state_of p m) (suc n')))
+    → ((d n' : ℕ) → let p = setting program d in whole p ws' m'' r n'
+    ≡ onward p (left p ws) m' on n')
+    → whole (setting program d) ws m (rest.Next n) k ≡ all → whole (setting program d) ws' m'' r k'
+    ≡ all
 stepped program d ws ws' m m' m'' n on r k k' all one few steps settles is =
     let p = setting program d in
     settles d k' ∙ steps d (left p ws) k' few ∙ ap (λ k. whole p ws m (rest.Next n) k) one ∙ is
@@ -119,27 +124,34 @@ new_fields t c n f =
     let none : nat_lt n 0 ≡ false = grind (arith, nat_tests) in
     ap (λ (b : Bool). if b then first_field t c f else Null) none
 
-new_state : (p : Setting) (frames : Frame) (result : MVal) (h : Held) → frames ≡ record { below = []; own = [] } → result ≡ Null → h ≡ nothing_held
+new_state : (p : Setting) (frames : Frame) (result : MVal) (h : Held) → frames
+    ≡ record { below = []; own = [] } → result ≡ Null → h ≡ nothing_held
     → state p (held frames.own) result h ≡ start p.table p.lines
 new_state p frames result h frames_are result_is nothing =
     ap (λ (f : Frame). state p (held f.own) result h) frames_are
     ∙ ap (λ result. state p (held []) result h) result_is
     ∙ ap (λ h. state p (held []) Null h) nothing
-    ∙ ap (λ (locals : ℕ → MVal). record (state p (held []) Null nothing_held) { locals = locals }) (fun_ext (λ x. new_held x))
+    ∙ ap (λ (locals : ℕ → MVal). record (state p (held []) Null nothing_held) { locals = locals })
+    (fun_ext (λ x. new_held x))
     ∙ ap (λ (fields : ℕ → ℕ → ℕ → MVal). record (start p.table p.lines) { fields = fields })
     (fun_ext (λ c. fun_ext (λ n. fun_ext (λ f. new_fields p.table c n f))))
 
 -- where nothing has happened yet, the whole run is that of the program
-pub begun : (program : Program) (bound : ℕ) (ws ws' : List Waiting) (m m' : Machine) (on : Then) (r : Rest) → ws ≡ [] → IsNew m
+pub begun : (program : Program) (bound : ℕ) (ws ws' : List Waiting) (m m' : Machine) (on : Then)
+    (r : Rest) → ws ≡ [] → IsNew m
     → Begins (setting program bound) (main_body program.typed.now) on
     → ((d n : ℕ) → let p = setting program d in whole p ws' m' r n ≡ onward p (left p ws) m on n)
-    → whole (setting program bound) ws' m' r bound ≡ source program.typed.now program.inputs.now bound
+    → whole (setting program bound) ws' m' r bound
+    ≡ source program.typed.now program.inputs.now bound
 unfolding source method left
 begun program bound ws ws' m m' on r none new begins settles =
     let p = setting program bound in
     settles bound bound
     ∙ ap (behind m.events) (begins (left p ws) m.frames.below m.values (state_of p m) bound)
-    ∙ ap (λ es. behind es (within p.table (run_calls p) (suc bound) (main_body program.typed.now) (left p ws m.frames.below m.values) (state_of p m) bound)) new.events
-    ∙ ap (λ ws. within p.table (run_calls p) (suc bound) (main_body program.typed.now) (left p ws m.frames.below m.values) (state_of p m) bound) none
-    ∙ ap (λ s. within p.table (run_calls p) (suc bound) (main_body program.typed.now) (final p.table) s bound)
+    ∙ ap (λ es. behind es (within p.table (run_calls p) (suc bound) (main_body program.typed.now)
+    (left p ws m.frames.below m.values) (state_of p m) bound)) new.events
+    ∙ ap (λ ws. within p.table (run_calls p) (suc bound) (main_body program.typed.now)
+    (left p ws m.frames.below m.values) (state_of p m) bound) none
+    ∙ ap (λ s. within p.table (run_calls p) (suc bound) (main_body program.typed.now)
+    (final p.table) s bound)
     (new_state p m.frames m.result (holds m.store) new.frames new.result new.store)

@@ -8,6 +8,8 @@ use Rattle.par_meaning.proofs.bodies.places.Goals as goal
 
 pub returns : goal.returns
 returns c = λ method.
-    let all : take c.loop-body.body-index c.args.all.now ≡ c.args.all.now = grind (arith, common_steps) in
+    let all : take c.loop-body.body-index c.args.all.now
+    ≡ c.args.all.now = grind (arith, common_steps) in
     c.in_ok-firsts.ensures method
-    ∙ ap (position (same_member method)) (c.as_slice.ensures.value ∙ c.loop-body.invariant ∙ ap methods all)
+    ∙ ap (position (same_member method))
+    (c.as_slice.ensures.value ∙ c.loop-body.invariant ∙ ap methods all)

@@ -10,7 +10,8 @@ use Rattle.par_meaning.proofs.steps.step.Goals as goal
 pub returns-in-Stmt : goal.returns-in-Stmt
 returns-in-Stmt c = if_ok c.enter_stmt.result _ _ c.enter_stmt.ensures (λ on costs d rest n few.
     costs (setting c.args.program.now d) rest n few
-    ∙ stepped_so (setting c.args.program.now d) rest c.args.machine.now n c.args.next _ c.in-Stmt.is)
+    ∙ stepped_so (setting c.args.program.now d) rest c.args.machine.now n c.args.next _
+    c.in-Stmt.is)
 
 pub returns-in-Turn : goal.returns-in-Turn
 returns-in-Turn c = λ d rest n few.

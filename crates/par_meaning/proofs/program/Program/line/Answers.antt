@@ -8,7 +8,8 @@ use Rattle.par_meaning.proofs.program.Program.line.Goals as goal
 pub returns-in-Some : goal.returns-in-Some
 returns-in-Some c =
     let program = c.args.self.now in
-    c.at.ensures ∙ ap (λ row. list_or_none (slice_get (row_shown row) c.args.channel)) c.as_slice.ensures
+    c.at.ensures ∙ ap (λ row. list_or_none (slice_get (row_shown row) c.args.channel))
+    c.as_slice.ensures
     ∙ row_there program.inputs.now.channels program.lines program.typed.now.table.classes
     c.args.class c.args.channel c.in-Some.row.now program.lined
     (c.in-Some.ensures.item ∙ ap (slice_get program.lines) c.from.ensures)

@@ -9,4 +9,6 @@ use Rattle.par_meaning.proofs.store.Store.write_static.Goals as goal
 pub returns : goal.returns
 returns c =
     ap (λ (statics : ℕ → ℕ → Option MVal). record (holds c.args.self.now) { statics = statics })
-    (fun_ext (λ a. fun_ext (λ b. c.in_ok-insert.ensures.updates.0 (a, b) ∙ put_two (static_in c.args.self.now.statics) c.args.class c.args.field (Some c.args.value) a b)))
+    (fun_ext (λ a. fun_ext (λ b. c.in_ok-insert.ensures.updates.0 (a, b)
+    ∙ put_two (static_in c.args.self.now.statics) c.args.class c.args.field (Some c.args.value) a
+    b)))
