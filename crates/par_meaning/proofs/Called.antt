@@ -1,5 +1,5 @@
 -- Calls, from the first of their values to their bodies.
-use Rattle.std.proofs.Common.{◌≡◌, ℕ, Bool, suc, ◌+◌, ◌-◌, ◌<◌, List, [], ◌∷◌, ◌++◌, Option, Some, None, length, take, drop, reverse, refl, ap, sym, ◌∙◌, subst, append-nil, append_assoc, add-one, arith, length-append}
+use Rattle.std.proofs.Common.{◌≡◌, ℕ, Bool, suc, ◌+◌, ◌-◌, ◌<◌, List, [], ◌∷◌, ◌++◌, Option, Some, None, length, take, drop, refl, ap, sym, ◌∙◌, subst, append-nil, append_assoc, add-one, arith, length-append}
 use Rattle.std.proofs.Math.Path.{fun_ext}
 use Rattle.std.proofs.lemmas.List.{reverse-append, take_at, drop_at}
 use Rattle.std.specs.Borrow.{Bor}
@@ -7,12 +7,12 @@ use Rattle.std.specs.declared.boxed.Box.{Box}
 use Rattle.std.specs.declared.alloc.Global.{Global}
 use Rattle.par_typed.specs.declared.expr.TExpr.{TExpr}
 use Rattle.par_typed.specs.declared.stmt.TStmt.{TStmt}
-use Rattle.par_typed.specs.Plain.{TExps, TSta, mark}
+use Rattle.par_typed.specs.Plain.{TExps, mark}
 use Rattle.par_typed.specs.Shown.{shown, all_shown, receiver, mark_of, does}
 use Rattle.par_typed.proofs.Shown.{shown_mark}
 use Rattle.par_values.specs.declared.value.MVal.{MVal}
 use Rattle.par_values.specs.declared.value.MVal.TheVariants.{Null}
-use Rattle.par_runs.specs.Meaning.{eval, eval_all, calls, within, method}
+use Rattle.par_runs.specs.Meaning.{eval_all, calls, within}
 use Rattle.par_runs.specs.Names.{body_of}
 use Rattle.par_runs.specs.State.{State, entered, restored}
 use Rattle.par_runs.specs.Tasks.{Normal, Rests, Task, nothing, follow, tested, leave}
@@ -31,7 +31,7 @@ use Rattle.par_meaning.specs.Frame.{Frame, held, left_by}
 use Rattle.par_meaning.specs.Held.{Held}
 use Rattle.par_meaning.specs.Stored.{holds}
 use Rattle.par_meaning.specs.Work.{Setting, Follows, waits, exit_of, completes, evaluates, evaluates_all, called, call_parts, last_values, run_calls}
-use Rattle.par_meaning.specs.Onward.{state, state_of, behind, goes_on, onward, begins}
+use Rattle.par_meaning.specs.Onward.{state, behind, goes_on, onward}
 
 abbrev with_more : Setting → Target → List MVal → List MVal → Task
 with_more p target values more = called p target (values ++ more)

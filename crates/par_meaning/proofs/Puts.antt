@@ -1,8 +1,8 @@
 -- Functions with another value at one place, as maps show them.
-use Rattle.std.proofs.Common.{◌≡◌, ℕ, Bool, true, false, cond, ◌==◌, ◌&&◌, if◌then◌else◌, refl, arith, ap, sym, ◌∙◌, ⊎_elim, ◌⊎◌, inl, inr}
+use Rattle.std.proofs.Common.{◌≡◌, ℕ, Bool, true, false, cond, ◌==◌, ◌&&◌, refl, arith, ap, ◌∙◌, ⊎_elim, ◌⊎◌, inl, inr}
 use Rattle.std.proofs.lemmas.Bool.{cases_eq}
 use Rattle.std.proofs.lemmas.Bool.Decides.{nat_tests}
-use Rattle.std.proofs.Common.{ℤ, List, Option, Some, None, Result, Ok, Err, ◌<◌, ◌≤◌}
+use Rattle.std.proofs.Common.{ℤ, List, Option, Some, Result, Ok, Err, ◌<◌, ◌≤◌}
 use Rattle.std.specs.Prelude.{nat_lt, is_some, OnOk, OnErr}
 use Rattle.std.specs.Borrow.{Bor}
 use Rattle.par_runs.specs.State.{put}

@@ -1,27 +1,24 @@
 -- A run from its first step to its last.
-use Rattle.std.proofs.Common.{◌≡◌, ℕ, zero, suc, ◌+◌, ◌-◌, ◌<◌, ◌≤◌, Bool, true, false, List, [], ◌∷◌, ◌++◌, Option, Some, None, map, append-nil, refl, ap, sym, ◌∙◌, subst, arith, if◌then◌else◌}
-use Rattle.std.specs.Prelude.{nat_lt, slice_get, slice_index_or}
+use Rattle.std.proofs.Common.{◌≡◌, ℕ, suc, ◌<◌, Bool, false, List, [], refl, ap, sym, ◌∙◌, arith, if◌then◌else◌}
+use Rattle.std.specs.Prelude.{nat_lt}
 use Rattle.std.proofs.Math.Path.{fun_ext}
 use Rattle.std.proofs.lemmas.Bool.Decides.{nat_tests}
-use Rattle.par_typed.specs.declared.program.Typed.{Typed}
 use Rattle.par_typed.specs.declared.table.Table.{Table}
-use Rattle.par_typed.specs.Shown.{bodies, shown, does}
+use Rattle.par_typed.specs.Shown.{shown, does}
 use Rattle.par_typed.specs.Plain as plain
 use Rattle.par_typed.specs.Plain.{Body, TExp, TSta}
-use Rattle.par_values.specs.declared.inputs.Inputs.{Inputs}
 use Rattle.par_values.specs.declared.run.Ending.{Ending}
 use Rattle.par_values.specs.declared.run.Ending.TheVariants as ending
 use Rattle.par_values.specs.declared.value.MVal.{MVal}
 use Rattle.par_values.specs.declared.value.MVal.TheVariants.{Null}
 use Rattle.par_secrecy.specs.Runs.{Run, stopped}
-use Rattle.par_runs.specs.Names.{first_field, main_of}
+use Rattle.par_runs.specs.Names.{first_field}
 use Rattle.par_runs.specs.Meaning.{Calls, eval, go, within, method}
-use Rattle.par_runs.specs.Source.{start, final, run_of, source}
+use Rattle.par_runs.specs.Source.{start, final, source}
 use Rattle.par_runs.specs.State.{State}
 use Rattle.par_runs.specs.Tasks.{Rests}
 use Rattle.par_meaning.specs.declared.machine.Machine.{Machine}
 use Rattle.par_meaning.specs.declared.program.Program.{Program}
-use Rattle.par_meaning.specs.declared.run.SourceEvent.{SourceEvent}
 use Rattle.par_meaning.specs.declared.steps.Rest.{Rest}
 use Rattle.par_meaning.specs.declared.steps.Rest.TheVariants as rest
 use Rattle.par_meaning.specs.declared.work.Completion.{Completion}
@@ -34,8 +31,8 @@ use Rattle.par_meaning.specs.Bodied.{main_body}
 use Rattle.par_meaning.specs.Frame.{Frame, held}
 use Rattle.par_meaning.specs.Held.{Held, nothing_held}
 use Rattle.par_meaning.specs.Stored.{holds}
-use Rattle.par_meaning.specs.Work.{Setting, Follows, left, goes, completes, run_calls, loops}
-use Rattle.par_meaning.specs.Onward.{setting, state, state_of, behind, witnessed, goes_on, onward}
+use Rattle.par_meaning.specs.Work.{Setting, Follows, left, goes, run_calls}
+use Rattle.par_meaning.specs.Onward.{setting, state, state_of, behind, onward}
 use Rattle.par_meaning.specs.Whole.{whole, ended, ends, Begins, IsNew}
 
 module _ (t : Table) (run : Calls) (rests : Rests) (s : State) where

@@ -1,6 +1,5 @@
 -- What is done at no price between two steps.
-use Rattle.std.proofs.Common.{◌≡◌, ℕ, suc, List, [], ◌∷◌, refl, ap, sym, ◌∙◌}
-use Rattle.par_values.specs.declared.value.MVal.{MVal}
+use Rattle.std.proofs.Common.{◌≡◌, ℕ, suc, List, [], ◌∷◌, ap, sym, ◌∙◌}
 use Rattle.par_secrecy.specs.Runs.{Run}
 use Rattle.par_meaning.specs.declared.machine.Machine.{Machine}
 use Rattle.par_meaning.specs.declared.program.Program.{Program}

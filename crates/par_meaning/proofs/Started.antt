@@ -1,5 +1,5 @@
 -- What entering a statement leaves to do.
-use Rattle.std.proofs.Common.{◌≡◌, ℕ, Bool, false, suc, ◌<◌, List, [], ◌∷◌, Option, Some, None, length, if◌then◌else◌, refl, ap, sym, ◌∙◌, arith}
+use Rattle.std.proofs.Common.{◌≡◌, ℕ, Bool, suc, ◌<◌, List, [], ◌∷◌, Option, Some, None, length, if◌then◌else◌, refl, ap, sym, ◌∙◌, arith}
 use Rattle.std.specs.Borrow.{Bor}
 use Rattle.std.specs.declared.boxed.Box.{Box}
 use Rattle.std.specs.declared.alloc.Global.{Global}
@@ -20,7 +20,6 @@ use Rattle.par_runs.specs.Values.{is_true}
 use Rattle.par_runs.proofs.Deep.{turns_deep}
 use Rattle.par_meaning.specs.declared.machine.Machine.{Machine}
 use Rattle.par_meaning.specs.declared.work.Completion.TheVariants.{Abrupt}
-use Rattle.par_meaning.specs.declared.work.Exit.{Exit}
 use Rattle.par_meaning.specs.declared.work.Exit.TheVariants.{Broken, Continued, Thrown}
 use Rattle.par_meaning.specs.declared.work.Next.TheVariants as next
 use Rattle.par_meaning.specs.declared.work.Then.{Then}
@@ -30,7 +29,7 @@ use Rattle.par_meaning.specs.declared.work.Waiting.TheVariants as waiting
 use Rattle.par_meaning.specs.Frame.{held}
 use Rattle.par_meaning.specs.Held.{Held, opens, closes}
 use Rattle.par_meaning.specs.Stored.{holds}
-use Rattle.par_meaning.specs.Work.{Setting, Follows, waits, exit_of, evaluates, performs, performs_else, performs_all, handles, loops, turned, returned, sets_field}
+use Rattle.par_meaning.specs.Work.{Setting, Follows, waits, evaluates, performs, performs_else, performs_all, handles, loops, returned, sets_field}
 use Rattle.par_meaning.specs.Onward.{state, state_of, behind, goes_on, Is, Moves}
 use Rattle.par_meaning.specs.Onward as onward
 

@@ -27,7 +27,7 @@ use Rattle.par_meaning.specs.declared.work.Waiting.TheVariants as waiting
 use Rattle.par_meaning.specs.Frame.{Frame, held}
 use Rattle.par_meaning.specs.Stored.{holds}
 use Rattle.par_meaning.specs.Work.{Setting, Follows, waits, exit_of, completes, catch_of, handles, performs}
-use Rattle.par_meaning.specs.Onward.{setting, state, state_of, behind, goes_on, onward, begins, Is, HandsOn, TakesUp}
+use Rattle.par_meaning.specs.Onward.{setting, state, state_of, behind, goes_on, Is, HandsOn, TakesUp}
 
 -- what waits is known
 pub known : (program : Program) (w w' : Waiting) (e : Completion) (old new : Machine) (on : Then)

@@ -1,10 +1,10 @@
-use Rattle.std.proofs.Common.{ap, ◌∙◌, refl}
+use Rattle.std.proofs.Common.{refl}
 use Rattle.par_meaning.specs.declared.work.Completion.TheVariants.{Normal}
 use Rattle.par_values.specs.declared.value.MVal.TheVariants.{Null}
 use Rattle.par_meaning.specs.declared.work.Next.TheVariants as next
 use Rattle.par_meaning.specs.declared.work.Then.TheVariants.{Goes, Ends}
 use Rattle.par_meaning.specs.declared.work.Waiting.TheVariants as waiting
-use Rattle.par_meaning.specs.Onward.{goes_on, setting}
+use Rattle.par_meaning.specs.Onward.{setting}
 use Rattle.par_meaning.proofs.Entered.{if_ok}
 use Rattle.par_meaning.proofs.Taken.{known, goes, local_set}
 use Rattle.par_meaning.proofs.accept.accept.Goals as goal

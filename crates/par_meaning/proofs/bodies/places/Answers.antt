@@ -1,7 +1,6 @@
-use Rattle.std.proofs.Common.{◌≡◌, ap, ◌∙◌, List, take, arith}
+use Rattle.std.proofs.Common.{◌≡◌, ap, ◌∙◌, take, arith}
 use Rattle.std.proofs.lemmas.Grind.{common_steps}
 use Rattle.std.specs.List.{position}
-use Rattle.par_typed.specs.declared.program.TBody.{TBody}
 use Rattle.par_meaning.specs.Held.{same_member}
 use Rattle.par_meaning.specs.Bodied.{methods}
 use Rattle.par_meaning.proofs.bodies.places.Goals as goal

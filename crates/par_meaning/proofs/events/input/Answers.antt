@@ -1,4 +1,4 @@
-use Rattle.std.proofs.Common.{ap, sym, ◌∙◌, refl, List, ℤ, []}
+use Rattle.std.proofs.Common.{ap, sym, ◌∙◌, refl, []}
 use Rattle.par_meaning.specs.Frame.{held as held_locals}
 use Rattle.par_meaning.specs.Stored.{holds}
 use Rattle.par_meaning.specs.Onward.{onward, behind, setting}

@@ -1,5 +1,4 @@
 use Rattle.std.proofs.Common.{◌≡◌, suc, ◌+◌, ◌-◌, ◌<◌, ap, ◌∙◌, sym, arith}
-use Rattle.par_runs.specs.Source.{source}
 use Rattle.par_meaning.specs.Onward.{setting}
 use Rattle.par_meaning.specs.Whole.{whole}
 use Rattle.par_meaning.proofs.Entered.{if_ok}

@@ -1,6 +1,4 @@
-use Rattle.std.proofs.Common.{ap, sym, ◌∙◌}
-use Rattle.par_meaning.specs.declared.work.Next.{Next}
-use Rattle.par_meaning.specs.Work.{goes}
+use Rattle.std.proofs.Common.{ap, ◌∙◌}
 use Rattle.par_meaning.specs.Onward.{setting, state_of, behind, goes_on}
 use Rattle.par_meaning.proofs.Entered.{if_ok}
 use Rattle.par_meaning.proofs.Started.{test_costs}

@@ -1,4 +1,4 @@
-use Rattle.std.proofs.Common.{ap, sym, ◌∙◌, ℕ, Bool, true, false, if◌then◌else◌, List}
+use Rattle.std.proofs.Common.{ap, sym, ◌∙◌, ℕ, Bool, if◌then◌else◌, List}
 use Rattle.par_policy.specs.Numbers.{has}
 use Rattle.par_typed.specs.Shown.{does, otherwise}
 use Rattle.par_meaning.specs.Work.{performs, performs_else}

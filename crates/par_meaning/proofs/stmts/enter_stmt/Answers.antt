@@ -1,4 +1,4 @@
-use Rattle.std.proofs.Common.{ap, ◌∙◌, refl}
+use Rattle.std.proofs.Common.{refl}
 use Rattle.par_meaning.specs.Stored.{holds}
 use Rattle.par_meaning.proofs.Started as started
 use Rattle.par_meaning.proofs.stmts.enter_stmt.Goals as goal

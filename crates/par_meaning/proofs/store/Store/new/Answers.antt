@@ -1,4 +1,3 @@
-use Rattle.std.proofs.Common.{ap, ◌∙◌, ℕ}
 use Rattle.par_meaning.proofs.Stores.{nothing_held}
 use Rattle.par_meaning.proofs.store.Store.new.Goals as goal
 

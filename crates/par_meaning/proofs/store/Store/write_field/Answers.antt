@@ -1,9 +1,9 @@
-use Rattle.std.proofs.Common.{ap, ◌∙◌, ℕ, Option, Some, ◌<◌, Bool, true, false, if◌then◌else◌, sym, refl, arith, subst}
-use Rattle.std.specs.Prelude.{nat_lt, is_some}
+use Rattle.std.proofs.Common.{ap, ◌∙◌, ℕ, Option, Some, ◌<◌, Bool, if◌then◌else◌, sym, subst}
+use Rattle.std.specs.Prelude.{is_some}
 use Rattle.std.specs.Map.{lookup}
 use Rattle.std.proofs.Math.Path.{fun_ext}
 use Rattle.par_values.specs.declared.value.MVal.{MVal}
-use Rattle.par_meaning.specs.Held.{Held, same_field, field_in, births_in, write_here}
+use Rattle.par_meaning.specs.Held.{same_field, field_in, births_in, write_here}
 use Rattle.par_meaning.specs.Stored.{holds}
 use Rattle.par_meaning.proofs.Puts.{put_three, unborn_stays, below_is, either}
 use Rattle.par_meaning.proofs.store.Store.write_field.Goals as goal

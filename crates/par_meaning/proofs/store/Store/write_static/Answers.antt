@@ -1,7 +1,7 @@
 use Rattle.std.proofs.Common.{ap, ◌∙◌, ℕ, Option, Some}
 use Rattle.std.proofs.Math.Path.{fun_ext}
 use Rattle.par_values.specs.declared.value.MVal.{MVal}
-use Rattle.par_meaning.specs.Held.{Held, static_in}
+use Rattle.par_meaning.specs.Held.{static_in}
 use Rattle.par_meaning.specs.Stored.{holds}
 use Rattle.par_meaning.proofs.Puts.{put_two}
 use Rattle.par_meaning.proofs.store.Store.write_static.Goals as goal
