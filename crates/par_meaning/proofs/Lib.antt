@@ -10,3 +10,4 @@ pub mod Started
 pub mod Taken
 pub mod Runs
 pub mod Settled
+pub mod Given

@@ -1,5 +1,5 @@
 -- Locals in a vector that grows.
-use Rattle.std.proofs.Common.{◌≡◌, ℕ, ◌+◌, ◌-◌, ◌<◌, ◌≤◌, List, ◌++◌, length, replicate, get_or, Option, Some, None, unwrap_or, refl, sym, ◌∙◌, ap, arith, ⊎_elim, ◌⊎◌}
+use Rattle.std.proofs.Common.{◌≡◌, ℕ, ◌+◌, ◌-◌, ◌<◌, ◌≤◌, List, ◌++◌, length, replicate, get_or, Option, Some, None, unwrap_or, refl, sym, ◌∙◌, ap, arith, ⊎_elim}
 use Rattle.std.specs.Prelude.{slice_set, slice_get}
 use Rattle.std.proofs.Math.Path.{fun_ext}
 use Rattle.std.proofs.Math.ListN.{get_or-append}
@@ -25,20 +25,23 @@ held_is xs x = or_null (slice_get xs x) ∙ unwrap_or-slice_get xs x Null
 pub set_held : (xs : List MVal) (x : ℕ) (v : MVal) → x < length xs
     → held (slice_set xs x v) ≡ put (held xs) x v
 set_held xs x v there = fun_ext λ y. ⊎_elim
-    (λ (here : y ≡ x). held_is (slice_set xs x v) y ∙ get_or-set_at xs x y v Null here there ∙ sym (put_here (held xs) x v y here))
+    (λ (here : y ≡ x). held_is (slice_set xs x v) y ∙ get_or-set_at xs x y v Null here there
+    ∙ sym (put_here (held xs) x v y here))
     (λ (other : y ≡ x → ⊥). held_is (slice_set xs x v) y ∙ get_or-set_other xs x y v Null other
     ∙ sym (put_other (held xs) x v y other ∙ held_is xs y))
     (cases_eq y x)
 
 nulls : (k n : ℕ) → get_or (replicate k Null) n Null ≡ Null
 nulls k n = ⊎_elim (λ (within : n < k). get_or-replicate k n Null Null within)
-    (λ (past : k ≤ n). get_or_past (replicate k Null) n Null (omega (arith, length-replicate k Null)))
+    (λ (past : k ≤ n). get_or_past (replicate k Null) n Null
+    (omega (arith, length-replicate k Null)))
     (cases_lt n k)
 
 behind : (xs : List MVal) (k y : ℕ) → length xs ≤ y → get_or (xs ++ replicate k Null) y Null ≡ Null
 behind xs k y past =
     let at : y ≡ length xs + (y - length xs) = omega arith in
-    ap (λ n. get_or (xs ++ replicate k Null) n Null) at ∙ get_or-append-add xs (replicate k Null) (y - length xs) Null ∙ nulls k (y - length xs)
+    ap (λ n. get_or (xs ++ replicate k Null) n Null) at
+    ∙ get_or-append-add xs (replicate k Null) (y - length xs) Null ∙ nulls k (y - length xs)
 
 -- locals that are null hold what those hold that are not there yet
 pub grown_held : (xs : List MVal) (k : ℕ) → held (xs ++ replicate k Null) ≡ held xs

@@ -35,7 +35,8 @@ module _ (c m : ℕ) where
   found (b ∷ bs) i =
       let rest = position_from (same_member (c, m)) (i + 1) (methods bs) in
       let here = c == b.class && m == b.method in
-      subst (λ (k : Bool). IsAt (if k then Some (does b.body) else body_of (bodies bs) c m) (b ∷ bs) i (cond here (Some i) rest))
+      subst (λ (k : Bool). IsAt (if k then Some (does b.body) else body_of (bodies bs) c m) (b ∷ bs)
+      i (cond here (Some i) rest))
       (either_way c b.class m b.method)
       (step b bs i here (body_of (bodies bs) c m) rest (found bs (i + 1)))
 

@@ -1,8 +1,8 @@
 -- Functions with another value at one place, as maps show them.
-use Rattle.std.proofs.Common.{◌≡◌, ℕ, Bool, true, false, cond, ◌==◌, ◌&&◌, if◌then◌else◌, refl, arith, ap, sym, ◌∙◌, ⊎_elim, ◌⊎◌, inl, inr}
+use Rattle.std.proofs.Common.{◌≡◌, ℕ, Bool, true, false, cond, ◌==◌, ◌&&◌, refl, arith, ap, ◌∙◌, ⊎_elim, ◌⊎◌, inl, inr}
 use Rattle.std.proofs.lemmas.Bool.{cases_eq}
 use Rattle.std.proofs.lemmas.Bool.Decides.{nat_tests}
-use Rattle.std.proofs.Common.{ℤ, List, Option, Some, None, Result, Ok, Err, ◌<◌, ◌≤◌}
+use Rattle.std.proofs.Common.{ℤ, List, Option, Some, Result, Ok, Err, ◌<◌, ◌≤◌}
 use Rattle.std.specs.Prelude.{nat_lt, is_some, OnOk, OnErr}
 use Rattle.std.specs.Borrow.{Bor}
 use Rattle.par_runs.specs.State.{put}
@@ -26,31 +26,39 @@ pub put_three : {A : Type 0} (f : ℕ → ℕ → ℕ → A) (x y z : ℕ) (v : 
     → cond (x == a && y == b && z == c) v (f a b c) ≡ put f x (put (f x) y (put (f x y) z v)) a b c
 put_three f x y z v a b c = grind (arith, nat_tests)
 
-left_of : (b : Bool) (x : Bor (List ℤ)) (o : Option (Bor (List ℤ))) → numbers_left (cond b (Some x) o) ≡ cond b (Some x.now) (numbers_left o)
+left_of : (b : Bool) (x : Bor (List ℤ)) (o : Option (Bor (List ℤ)))
+    → numbers_left (cond b (Some x) o) ≡ cond b (Some x.now) (numbers_left o)
 left_of true x o = refl
 left_of false x o = refl
 
 -- what an input has left, where one is kept anew
 pub left_put : (kept : Kept (ℕ × ℕ) (Bor (List ℤ))) (x y : ℕ) (left : Bor (List ℤ)) (a b : ℕ)
-    → numbers_left (cond (same_member (x, y) (a, b)) (Some left) (get same_member kept (a, b))) ≡ put (input_in kept) x (put (input_in kept x) y (Some left.now)) a b
+    → numbers_left (cond (same_member (x, y) (a, b)) (Some left) (get same_member kept (a, b)))
+    ≡ put (input_in kept) x (put (input_in kept x) y (Some left.now)) a b
 left_put kept x y left a b =
-    left_of (same_member (x, y) (a, b)) left (get same_member kept (a, b)) ∙ put_two (input_in kept) x y (Some left.now) a b
+    left_of (same_member (x, y) (a, b)) left (get same_member kept (a, b))
+    ∙ put_two (input_in kept) x y (Some left.now) a b
 
 pub below_is : (n b : ℕ) → n < b → nat_lt n b ≡ true
 below_is n b h = grind (arith, nat_tests)
 
-unborn_case : {A : Type 0} (x y z a n f : ℕ) (v : A) (o : Option A) (births : ℕ → ℕ) → y < births x → births a ≤ n → is_some o ≡ false
+unborn_case : {A : Type 0} (x y z a n f : ℕ) (v : A) (o : Option A) (births : ℕ → ℕ) → y < births x
+    → births a ≤ n → is_some o ≡ false
     → (x ≡ a → ⊥) ⊎ (x ≡ a) → is_some (cond (x == a && y == n && z == f) (Some v) o) ≡ false
 unborn_case x y z a n f v o births below few none (inl other) = grind (arith, nat_tests)
 unborn_case x y z a n f v o births below few none (inr same) =
     let lower : y < n = omega (arith, ap births same, below, few) in grind (arith, nat_tests)
 
-pub either : {A E : Type 0} (r : Result A E) (P Q R : Type 0) → OnOk r P → OnErr r Q → (P → R) → (Q → R) → R
+pub either : {A E : Type 0} (r : Result A E) (P Q R : Type 0) → OnOk r P → OnErr r Q → (P → R)
+    → (Q → R) → R
 either (Ok a) P Q R p q f g = f p
 either (Err e) P Q R p q f g = g q
 
 -- a field that is written is none of an object that is not born
-pub unborn_stays : (births : ℕ → ℕ) (fields : ℕ → ℕ → ℕ → Option MVal) (x y z : ℕ) (v : MVal) (a n f : ℕ) → y < births x → births a ≤ n
-    → is_some (fields a n f) ≡ false → is_some (cond (x == a && y == n && z == f) (Some v) (fields a n f)) ≡ false
+pub unborn_stays : (births : ℕ → ℕ) (fields : ℕ → ℕ → ℕ → Option MVal) (x y z : ℕ) (v : MVal)
+    (a n f : ℕ) → y < births x → births a ≤ n
+    → is_some (fields a n f) ≡ false → is_some
+    (cond (x == a && y == n && z == f) (Some v) (fields a n f)) ≡ false
 unborn_stays births fields x y z v a n f below few none =
-    unborn_case x y z a n f v (fields a n f) births below few none (⊎_elim (λ (same : x ≡ a). inr same) (λ (other : x ≡ a → ⊥). inl other) (cases_eq x a))
+    unborn_case x y z a n f v (fields a n f) births below few none
+    (⊎_elim (λ (same : x ≡ a). inr same) (λ (other : x ≡ a → ⊥). inl other) (cases_eq x a))

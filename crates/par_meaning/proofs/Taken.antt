@@ -27,15 +27,18 @@ use Rattle.par_meaning.specs.declared.work.Waiting.TheVariants as waiting
 use Rattle.par_meaning.specs.Frame.{Frame, held}
 use Rattle.par_meaning.specs.Stored.{holds}
 use Rattle.par_meaning.specs.Work.{Setting, Follows, waits, exit_of, completes, catch_of, handles, performs}
-use Rattle.par_meaning.specs.Onward.{setting, state, state_of, behind, goes_on, onward, begins, Is, HandsOn, TakesUp}
+use Rattle.par_meaning.specs.Onward.{setting, state, state_of, behind, goes_on, Is, HandsOn, TakesUp}
 
 -- what waits is known
-pub known : (program : Program) (w w' : Waiting) (e : Completion) (old new : Machine) (on : Then) → w ≡ w'
+pub known : (program : Program) (w w' : Waiting) (e : Completion) (old new : Machine) (on : Then)
+    → w ≡ w'
     → TakesUp program w' e old new on → TakesUp program w e old new on
-known program w w' e old new on is takes = subst (λ w. TakesUp program w e old new on) (sym is) takes
+known program w w' e old new on is takes = subst (λ w. TakesUp program w e old new on) (sym is)
+    takes
 
 -- what goes on so is known
-pub goes : (program : Program) (w w' : Waiting) (e : Completion) (old : Machine) (on on' : Then) → w ≡ w' → on ≡ on'
+pub goes : (program : Program) (w w' : Waiting) (e : Completion) (old : Machine) (on on' : Then) → w
+    ≡ w' → on ≡ on'
     → ((p : Setting) (rest : Follows) (below vs : List MVal) (s : State) (n : ℕ)
     → goes_on p rest on' below vs s n ≡ completes (waits p w' rest below vs) e s n)
     → TakesUp program w e old old on
@@ -45,20 +48,26 @@ goes program w w' e old on on' is on_is same = known program w w' e old old on i
     ∙ same p rest old.frames.below old.values (state_of p old) n))
 
 -- a local is set
-pub local_set : (program : Program) (w : Waiting) (x : ℕ) (v : MVal) (old : Machine) (frames : Frame)
-    → w ≡ waiting.SetLocal x → held frames.own ≡ put (held old.frames.own) x v → frames.below ≡ old.frames.below
+pub local_set : (program : Program) (w : Waiting) (x : ℕ) (v : MVal) (old : Machine)
+    (frames : Frame)
+    → w ≡ waiting.SetLocal x → held frames.own ≡ put (held old.frames.own) x v → frames.below
+    ≡ old.frames.below
     → TakesUp program w (Normal v) old (record old { frames = frames }) (Ends (Normal Null))
 local_set program w x v old frames is own below =
-    known program w (waiting.SetLocal x) (Normal v) old (record old { frames = frames }) (Ends (Normal Null)) is (λ d rest n.
+    known program w (waiting.SetLocal x) (Normal v) old (record old { frames = frames })
+    (Ends (Normal Null)) is (λ d rest n.
     let p = setting program d in ap (behind old.events)
-    (ap (λ below. completes (rest below old.values) (Normal Null) (state p (held frames.own) old.result (holds old.store)) n) below
-    ∙ ap (λ locals. completes (rest old.frames.below old.values) (Normal Null) (state p locals old.result (holds old.store)) n) own))
+    (ap (λ below. completes (rest below old.values) (Normal Null)
+    (state p (held frames.own) old.result (holds old.store)) n) below
+    ∙ ap (λ locals. completes (rest old.frames.below old.values) (Normal Null)
+    (state p locals old.result (holds old.store)) n) own))
 
 -- what waits is known, and what goes on so
 pub handed : (w w' : Waiting) (e : Exit) (old new : Machine) (on on' : Then) → w ≡ w' → on ≡ on'
     → HandsOn w' (Abrupt e) old new on' → HandsOn w (Abrupt e) old new on
 handed w w' e old new on on' is on_is hands =
-    subst (λ w. HandsOn w (Abrupt e) old new on) (sym is) (subst (λ on. HandsOn w' (Abrupt e) old new on) (sym on_is) hands)
+    subst (λ w. HandsOn w (Abrupt e) old new on) (sym is)
+    (subst (λ on. HandsOn w' (Abrupt e) old new on) (sym on_is) hands)
 
 -- what a class that is thrown leads to
 abbrev led : Setting → ℕ → Option TSta → Task
@@ -71,12 +80,14 @@ led_by p NoCatch c = refl
 led_by p (Catch d s cs) c = either (d == c) (led_by p cs c)
   where
     either : (b : Bool) → handles p cs c ≡ led p c (catch_of cs c)
-        → (if b then performs p s else handles p cs c) ≡ led p c (if b then Some s else catch_of cs c)
+        → (if b then performs p s else handles p cs c)
+        ≡ led p c (if b then Some s else catch_of cs c)
     either true later = refl
     either false later = later
 
 -- what holds of each exit
-by_exit : (P : exit.Exit → Type 0) (e : Exit) → P exit.Broken → P exit.Continued → P exit.Returned → ((c : ℕ) → P (exit.Thrown c)) → P (exit_of e)
+by_exit : (P : exit.Exit → Type 0) (e : Exit) → P exit.Broken → P exit.Continued → P exit.Returned
+    → ((c : ℕ) → P (exit.Thrown c)) → P (exit_of e)
 by_exit P Broken b c r t = b
 by_exit P Continued b c r t = c
 by_exit P Returned b c r t = r
@@ -87,10 +98,13 @@ module _ (p : Setting) (rest : Follows) (below vs vs' : List MVal) (s : State) (
   abbrev Passes : Waiting → exit.Exit → Type 0
   Passes w e = rest below vs' e nothing s n ≡ waits p w rest below vs e nothing s n
 
-  pub call_passes : (t : Target) (count : ℕ) (es : Bor (List TExpr)) (e : Exit) → vs' ≡ drop count vs → Passes (waiting.Argument t count es) (exit_of e)
+  pub call_passes : (t : Target) (count : ℕ) (es : Bor (List TExpr)) (e : Exit) → vs'
+      ≡ drop count vs → Passes (waiting.Argument t count es) (exit_of e)
   call_passes t count es e cut =
       ap (λ vs. rest below vs (exit_of e) nothing s n) cut
-      ∙ by_exit (λ e. rest below (drop count vs) e nothing s n ≡ waits p (waiting.Argument t count es) rest below vs e nothing s n) e refl refl refl (λ c. refl)
+      ∙ by_exit (λ e. rest below (drop count vs) e nothing s n
+      ≡ waits p (waiting.Argument t count es) rest below vs e nothing s n) e refl refl refl
+      (λ c. refl)
 
 module _ (p : Setting) (rest : Follows) (below vs : List MVal) (s : State) (n : ℕ) (e : Exit) where
   abbrev Hands : Waiting → exit.Exit → Type 0
@@ -147,16 +161,19 @@ exited w w' e old on on' is on_is same = handed w w' e old old on on' is on_is (
     ap (behind old.events) (same p rest old.frames.below old.values (state_of p old) n))
 
 -- a call drops its values
-pub dropped : (w : Waiting) (t : Target) (count : ℕ) (es : Bor (List TExpr)) (e : Exit) (old : Machine) (values : List MVal) (on : Then)
+pub dropped : (w : Waiting) (t : Target) (count : ℕ) (es : Bor (List TExpr)) (e : Exit)
+    (old : Machine) (values : List MVal) (on : Then)
     → w ≡ waiting.Argument t count es → on ≡ Ends (Abrupt e) → values ≡ drop count old.values
     → HandsOn w (Abrupt e) old (record old { values = values }) on
 dropped w t count es e old values on is on_is cut =
-    handed w (waiting.Argument t count es) e old (record old { values = values }) on (Ends (Abrupt e)) is on_is (λ p rest n.
+    handed w (waiting.Argument t count es) e old (record old { values = values }) on
+    (Ends (Abrupt e)) is on_is (λ p rest n.
     ap (behind old.events)
     (call_passes p rest old.frames.below old.values values (state_of p old) n t count es e cut))
 
 -- a loop is left by what is neither `break` nor `continue`
-pub loop_left : (again : Task) (rests : Rests) (e : Exit) (s : State) (n : ℕ) → (e ≡ Broken → ⊥) → (e ≡ Continued → ⊥)
+pub loop_left : (again : Task) (rests : Rests) (e : Exit) (s : State) (n : ℕ) → (e ≡ Broken → ⊥)
+    → (e ≡ Continued → ⊥)
     → rests (exit_of e) nothing s n ≡ looped again rests (exit_of e) nothing s n
 loop_left again rests Broken s n b c = absurd (b refl)
 loop_left again rests Continued s n b c = absurd (c refl)
@@ -165,28 +182,37 @@ loop_left again rests (Thrown class) s n b c = refl
 
 pub loop_broken : (again : Task) (rests : Rests) (e : Exit) (s : State) (n : ℕ) → e ≡ Broken
     → rests exit.Normal nothing s n ≡ looped again rests (exit_of e) nothing s n
-loop_broken again rests e s n is = subst (λ e. rests exit.Normal nothing s n ≡ looped again rests (exit_of e) nothing s n) (sym is) refl
+loop_broken again rests e s n is = subst
+    (λ e. rests exit.Normal nothing s n ≡ looped again rests (exit_of e) nothing s n) (sym is) refl
 
 pub loop_continued : (again : Task) (rests : Rests) (e : Exit) (s : State) (n : ℕ) → e ≡ Continued
     → again rests s n ≡ looped again rests (exit_of e) nothing s n
-loop_continued again rests e s n is = subst (λ e. again rests s n ≡ looped again rests (exit_of e) nothing s n) (sym is) refl
+loop_continued again rests e s n is = subst
+    (λ e. again rests s n ≡ looped again rests (exit_of e) nothing s n) (sym is) refl
 
 -- a block of `try` is left by what is no exception
-pub try_left : (handle : ℕ → Task) (rests : Rests) (e : Exit) (s : State) (n : ℕ) → ((c : ℕ) → e ≡ Thrown c → ⊥)
+pub try_left : (handle : ℕ → Task) (rests : Rests) (e : Exit) (s : State) (n : ℕ)
+    → ((c : ℕ) → e ≡ Thrown c → ⊥)
     → rests (exit_of e) nothing s n ≡ caught handle rests (exit_of e) nothing s n
 try_left handle rests Broken s n not = refl
 try_left handle rests Continued s n not = refl
 try_left handle rests Returned s n not = refl
 try_left handle rests (Thrown c) s n not = absurd (not c refl)
 
-pub try_thrown : (handle : ℕ → Task) (rests : Rests) (e : Exit) (c : ℕ) (s : State) (n : ℕ) → e ≡ Thrown c
+pub try_thrown : (handle : ℕ → Task) (rests : Rests) (e : Exit) (c : ℕ) (s : State) (n : ℕ) → e
+    ≡ Thrown c
     → handle c rests s n ≡ caught handle rests (exit_of e) nothing s n
-try_thrown handle rests e c s n is = subst (λ e. handle c rests s n ≡ caught handle rests (exit_of e) nothing s n) (sym is) refl
+try_thrown handle rests e c s n is = subst
+    (λ e. handle c rests s n ≡ caught handle rests (exit_of e) nothing s n) (sym is) refl
 
 -- a class is caught, or thrown on
-pub catches : (cs : TCatches) (c : ℕ) (y : Bor TStmt) → Some (does y.now) ≡ catch_of cs c → Is (λ p. handles p cs c) (Goes (next.Stmt y))
-catches cs c y found = λ p rest below vs s n. sym (ap (λ (t : Task). t (rest below vs) s n) (led_by p cs c ∙ ap (led p c) (sym found)))
+pub catches : (cs : TCatches) (c : ℕ) (y : Bor TStmt) → Some (does y.now) ≡ catch_of cs c
+    → Is (λ p. handles p cs c) (Goes (next.Stmt y))
+catches cs c y found = λ p rest below vs s n. sym
+    (ap (λ (t : Task). t (rest below vs) s n) (led_by p cs c ∙ ap (led p c) (sym found)))
 
-pub not_caught : (cs : TCatches) (c : ℕ) (p : Setting) (rests : Rests) (s : State) (n : ℕ) → None ≡ catch_of cs c
+pub not_caught : (cs : TCatches) (c : ℕ) (p : Setting) (rests : Rests) (s : State) (n : ℕ) → None
+    ≡ catch_of cs c
     → rests (exit.Thrown c) nothing s n ≡ handles p cs c rests s n
-not_caught cs c p rests s n none = sym (ap (λ (t : Task). t rests s n) (led_by p cs c ∙ ap (led p c) (sym none)))
+not_caught cs c p rests s n none = sym (ap (λ (t : Task). t rests s n)
+    (led_by p cs c ∙ ap (led p c) (sym none)))

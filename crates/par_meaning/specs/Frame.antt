@@ -14,4 +14,8 @@ held locals x = value_or_null (slice_get locals x)
 
 -- back in a caller, whose locals are the last of these, so many
 abbrev pub left_by : ℕ → List MVal → Frame
-left_by size below = record { below = take (length below - size) below; own = drop (length below - size) below }
+left_by size below = record {
+  below = take (length below - size) below;
+  own = drop
+      (length below - size) below;
+}

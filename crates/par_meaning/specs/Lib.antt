@@ -3,6 +3,7 @@ pub mod Held
 pub mod Stored
 pub mod Named
 pub mod Bodied
+pub mod Lined
 pub mod Work
 pub mod Onward
 pub mod Whole

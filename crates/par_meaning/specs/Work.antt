@@ -74,7 +74,8 @@ called p target values =
 -- the value that is returned, where there is one, and then the return
 abbrev pub returned : Setting → MayTExp → Task
 returned p Absent = done exit.Returned nothing
-returned p (Present e) = and_then (evaluates p e) (λ v. change (set_result v) (done exit.Returned nothing))
+returned p (Present e) = and_then (evaluates p e)
+    (λ v. change (set_result v) (done exit.Returned nothing))
 
 -- the parts of a call, and then the call
 abbrev pub call_parts : Setting → ℕ → ℕ → MayTExp → TExps → Task

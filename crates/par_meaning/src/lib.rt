@@ -14,6 +14,7 @@ mod events;
 mod exprs;
 mod fields;
 mod frames;
+mod lines;
 mod machine;
 mod memory;
 mod names;

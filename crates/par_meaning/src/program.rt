@@ -3,17 +3,17 @@
 ghost use Rattle.std.specs.Prelude.{◌≡◌, IfOk};
 ghost use Rattle.par_runs.specs.Names.{channel_named, body_of};
 ghost use Rattle.par_runs.specs.Source.{given_to};
-ghost use Rattle.par_secrecy.specs.Subject.{given};
 ghost use Rattle.par_typed.specs.Shown.{bodies};
 ghost use Rattle.par_meaning.specs.Bodied.{ArePlaced, body_shown};
+ghost use Rattle.par_meaning.specs.Lined.{rows_of, rows_shown};
 
-use crate::bodies;
 use crate::memory::NoMemory;
-use crate::names::{self, Member};
+use crate::{bodies, lines};
 use par_index::Firsts;
+use par_lexer::list::List;
 use par_typed::program::Typed;
 use par_typed::stmt::TStmt;
-use par_values::inputs::{ChannelInput, Inputs};
+use par_values::inputs::Inputs;
 use std::alloc::Global;
 
 /// A program with its inputs.
@@ -23,7 +23,9 @@ pub(crate) struct Program<'a> {
     pub(crate) typed: &'a Typed,
     pub(crate) inputs: &'a Inputs,
     methods: Firsts<(u16, u16)>,
+    lines: List<List<&'a [i32]>>,
     ghost placed: { ArePlaced typed.now.bodies methods },
+    ghost lined: { rows_shown lines ≡ rows_of inputs.now.channels typed.now.table.classes },
 }
 
 impl<'a> Program<'a> {
@@ -36,11 +38,14 @@ impl<'a> Program<'a> {
         ensures inputs { IfOk result (λ program. program.inputs.now ≡ inputs.now) }
     {
         let methods = bodies::places(alloc, typed.bodies.as_slice())?;
+        let classes = typed.table.classes.as_slice();
+        let lines = lines::rows(alloc, classes, inputs.channels.as_slice())?;
         Ok(Program {
             alloc,
             typed,
             inputs,
             methods,
+            lines,
         })
     }
 
@@ -54,29 +59,14 @@ impl<'a> Program<'a> {
         }
     }
 
-    /// What an input channel is given; nothing where there is no such channel. A channel is looked
-    /// up by its names once, when it is read first.
+    /// What an input channel is given; nothing where there is no such channel.
     pub(crate) fn line(&self, class: u16, channel: u16) -> &'a [i32]
-        ensures { result.now
-            ≡ given_to self.now.inputs.now.channels (channel_named self.now.typed.now.table class channel) }
+        ensures { result.now ≡ given_to self.now.inputs.now.channels
+            (channel_named self.now.typed.now.table class channel) }
     {
-        match names::channel(&self.typed.table, class, channel) {
-            Some(member) => given(self.inputs.channels.as_slice(), member),
+        match self.lines.get(usize::from(class)) {
+            Some(row) => lines::at(row.as_slice(), channel),
             None => &[],
         }
     }
-}
-
-/// What the lines give to a channel.
-fn given<'a>(lines: &'a [ChannelInput], channel: Member) -> &'a [i32]
-    ensures { result.now ≡ given lines.now channel.entry.class.now channel.entry.name.now }
-{
-    for line in lines {
-        if line.class.bytes() == channel.class.bytes()
-            && line.channel.bytes() == channel.name.bytes()
-        {
-            return line.numbers.as_slice();
-        }
-    }
-    &[]
 }

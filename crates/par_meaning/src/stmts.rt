@@ -18,7 +18,8 @@ pub(crate) fn enter_stmt<'a>(
     machine: &mut Machine<'a>,
     stmt: &'a TStmt,
 ) -> Result<Then<'a>, NoMemory>
-    ensures { IfOk result (λ on. Costs (λ p. performs p (does stmt.now)) machine.old machine.new on) }
+    ensures { IfOk result (λ on.
+        Costs (λ p. performs p (does stmt.now)) machine.old machine.new on) }
 {
     match &stmt.kind {
         TStmtKind::Block(stmts) => Ok(statements(stmts.as_slice())),

@@ -76,7 +76,8 @@ impl<'a> Store<'a> {
         field: u16,
         value: MVal,
     ) -> Result<(), NoMemory>
-        ensures { OnOk result (holds self.new ≡ write_field class number field value (holds self.old)) }
+        ensures { OnOk result (holds self.new
+            ≡ write_field class number field value (holds self.old)) }
     {
         if number < self.births(class) {
             self.fields.insert((class, number, field), value)?;
@@ -97,7 +98,8 @@ impl<'a> Store<'a> {
         channel: u16,
         left: &'a [i32],
     ) -> Result<(), NoMemory>
-        ensures { OnOk result (holds self.new ≡ keep_input class channel left.now (holds self.old)) }
+        ensures { OnOk result (holds self.new
+            ≡ keep_input class channel left.now (holds self.old)) }
     {
         self.inputs.insert((class, channel), left)?;
         Ok(())

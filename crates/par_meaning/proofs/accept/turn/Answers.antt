@@ -7,5 +7,6 @@ use Rattle.par_meaning.proofs.accept.turn.Goals as goal
 pub returns-then-is_true : goal.returns-then-is_true
 returns-then-is_true c = λ p rest below vs s n.
     let again = loops p (shown c.args.test.now) (does c.args.body.now) in
-    ap (λ (b : Bool). (if b then (λ rests. performs p (does c.args.body.now) (looped again rests)) else fine) (rest below vs) s n)
+    ap (λ (b : Bool). (if b then (λ rests. performs p (does c.args.body.now) (looped again rests))
+    else fine) (rest below vs) s n)
     (sym (sym c.is_true.ensures ∙ c.if-is_true.true))

@@ -10,10 +10,12 @@ pub returns-in-Thrown : goal.returns-in-Thrown
 returns-in-Thrown c = λ p rest n.
     let old = c.args.machine.now in
     let caller = left_by c.args.size old.frames.below in
-    left_behind p rest old (record old { frames = c.leave.new.self; result = c.args.back }) c.args.size c.args.back
+    left_behind p rest old (record old { frames = c.leave.new.self; result = c.args.back })
+    c.args.size c.args.back
     c.leaves.result n (Abrupt c.args.exit) c.leave.ensures c.leaves.ensures
     ∙ ap (behind old.events)
-    (thrown_out c.args.exit c.in-Thrown.field-0 (rest caller.below old.values) (held caller.own) c.args.back (state_of p old) n c.in-Thrown.is)
+    (thrown_out c.args.exit c.in-Thrown.field-0 (rest caller.below old.values) (held caller.own)
+    c.args.back (state_of p old) n c.in-Thrown.is)
 
 pub returns-in_default : goal.returns-in_default
 returns-in_default c = λ p rest n.
@@ -21,4 +23,5 @@ returns-in_default c = λ p rest n.
     let caller = left_by c.args.size old.frames.below in
     c.leave-in_default.ensures nothing p rest n
     ∙ ap (behind old.events)
-    (let_out c.args.exit (rest caller.below old.values) (held caller.own) c.args.back (state_of p old) n c.in_default.not-Thrown)
+    (let_out c.args.exit (rest caller.below old.values) (held caller.own) c.args.back
+    (state_of p old) n c.in_default.not-Thrown)

@@ -13,4 +13,5 @@ returns c = λ p rest n.
     c.arguments.ensures p rest n
     ∙ ap (behind old.events)
     (with_value p c.args.target c.args.count old.frames.below old.values rest (state_of p old) n
-    c.in_ok-count.count c.push.new.self c.args.value (all_shown c.args.args.now) counted c.in_ok-push.ensures)
+    c.in_ok-count.count c.push.new.self c.args.value (all_shown c.args.args.now) counted
+    c.in_ok-push.ensures)

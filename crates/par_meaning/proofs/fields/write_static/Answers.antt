@@ -9,6 +9,7 @@ pub returns : goal.returns
 returns c = λ d rest n.
     static_told (setting c.args.program.now d) rest n c.args.machine.now c.tell.new.machine
     (holds c.write_static.new.self) c.args.class c.args.field c.args.value
-    c.in_ok-class_name.class_name c.in_ok-name.name c.in_ok-shows.shows (member_is c.in-Some.member) _
+    c.in_ok-class_name.class_name c.in_ok-name.name c.in_ok-shows.shows (member_is c.in-Some.member)
+    _
     c.in_ok-tell.ensures c.in_ok-write_static.ensures
     c.in_ok-class_name.ensures c.in_ok-name.ensures c.in_ok-shows.ensures (sym c.in-Some.ensures)

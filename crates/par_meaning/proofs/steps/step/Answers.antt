@@ -1,6 +1,4 @@
-use Rattle.std.proofs.Common.{ap, sym, ◌∙◌}
-use Rattle.par_meaning.specs.declared.work.Next.{Next}
-use Rattle.par_meaning.specs.Work.{goes}
+use Rattle.std.proofs.Common.{ap, ◌∙◌}
 use Rattle.par_meaning.specs.Onward.{setting, state_of, behind, goes_on}
 use Rattle.par_meaning.proofs.Entered.{if_ok}
 use Rattle.par_meaning.proofs.Started.{test_costs}
@@ -10,7 +8,8 @@ use Rattle.par_meaning.proofs.steps.step.Goals as goal
 pub returns-in-Stmt : goal.returns-in-Stmt
 returns-in-Stmt c = if_ok c.enter_stmt.result _ _ c.enter_stmt.ensures (λ on costs d rest n few.
     costs (setting c.args.program.now d) rest n few
-    ∙ stepped_so (setting c.args.program.now d) rest c.args.machine.now n c.args.next _ c.in-Stmt.is)
+    ∙ stepped_so (setting c.args.program.now d) rest c.args.machine.now n c.args.next _
+    c.in-Stmt.is)
 
 pub returns-in-Turn : goal.returns-in-Turn
 returns-in-Turn c = λ d rest n few.

@@ -1,4 +1,4 @@
-use Rattle.std.proofs.Common.{ap, ◌∙◌, refl}
+use Rattle.std.proofs.Common.{refl}
 use Rattle.par_meaning.specs.Stored.{holds}
 use Rattle.par_meaning.proofs.Started as started
 use Rattle.par_meaning.proofs.stmts.enter_stmt.Goals as goal
@@ -48,12 +48,14 @@ returns-in-Throw c =
 pub returns-in_ok-open-in-OpenLock : goal.returns-in_ok-open-in-OpenLock
 returns-in_ok-open-in-OpenLock c = λ p rest n few.
     started.costs_open c.args.machine.now c.args.stmt.now
-    c.in-OpenLock.lock (holds c.open.new.self) c.in-OpenLock.is c.in_ok-open-in-OpenLock.ensures p rest n
+    c.in-OpenLock.lock (holds c.open.new.self) c.in-OpenLock.is c.in_ok-open-in-OpenLock.ensures p
+    rest n
 
 pub returns-in_ok-close-in-CloseLock : goal.returns-in_ok-close-in-CloseLock
 returns-in_ok-close-in-CloseLock c = λ p rest n few.
     started.costs_close c.args.machine.now c.args.stmt.now
-    c.in-CloseLock.lock (holds c.close.new.self) c.in-CloseLock.is c.in_ok-close-in-CloseLock.ensures
+    c.in-CloseLock.lock (holds c.close.new.self) c.in-CloseLock.is
+    c.in_ok-close-in-CloseLock.ensures
     p rest n
 
 pub returns-in-SetLocal : goal.returns-in-SetLocal

@@ -5,7 +5,8 @@ use Rattle.par_meaning.proofs.Taken.{catches, not_caught}
 use Rattle.par_meaning.proofs.unwind.catch.Goals as goal
 
 pub returns-in-Some : goal.returns-in-Some
-returns-in-Some c = catches (all_catch c.args.catches.now) c.args.class c.in-Some.body c.in-Some.ensures
+returns-in-Some c = catches (all_catch c.args.catches.now) c.args.class c.in-Some.body
+    c.in-Some.ensures
 
 pub returns-in-None : goal.returns-in-None
 returns-in-None c = λ p rest below vs s n.

@@ -7,7 +7,8 @@ use Rattle.par_meaning.proofs.unwind.unwind.Goals as goal
 
 pub returns-in-Argument : goal.returns-in-Argument
 returns-in-Argument c =
-    dropped c.args.waiting c.in-Argument.field-0 c.in-Argument.count c.in-Argument.field-2 c.args.exit
+    dropped c.args.waiting c.in-Argument.field-0 c.in-Argument.count c.in-Argument.field-2
+    c.args.exit
     c.args.machine.now c.cut.new.self _ c.in-Argument.is c.leaves.ensures c.cut.ensures
 
 pub returns-in-Loop : goal.returns-in-Loop
@@ -27,6 +28,7 @@ returns-in-Leave c =
 
 pub returns-in_default : goal.returns-in_default
 returns-in_default c =
-    exited c.args.waiting c.args.waiting c.args.exit c.args.machine.now _ (Ends (Abrupt c.args.exit)) refl c.leaves-in_default.ensures
+    exited c.args.waiting c.args.waiting c.args.exit c.args.machine.now _
+    (Ends (Abrupt c.args.exit)) refl c.leaves-in_default.ensures
     (λ p rest below vs s n. passes p rest below vs s n c.args.exit c.args.waiting
     c.in_default.not-Argument c.in_default.not-Loop c.in_default.not-Catch c.in_default.not-Leave)

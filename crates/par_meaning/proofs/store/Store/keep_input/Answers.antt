@@ -1,8 +1,8 @@
-use Rattle.std.proofs.Common.{ap, ◌∙◌, ℕ, ℤ, List, Option, Some}
+use Rattle.std.proofs.Common.{ap, ◌∙◌, ℕ, ℤ, List, Option}
 use Rattle.std.proofs.Math.Path.{fun_ext}
-use Rattle.par_meaning.specs.Held.{Held, input_in, numbers_left}
+use Rattle.par_meaning.specs.Held.{numbers_left}
 use Rattle.par_meaning.specs.Stored.{holds}
-use Rattle.par_meaning.proofs.Puts.{put_two, left_put}
+use Rattle.par_meaning.proofs.Puts.{left_put}
 use Rattle.par_meaning.proofs.store.Store.keep_input.Goals as goal
 
 pub returns : goal.returns
