@@ -327,8 +327,26 @@ class Door {
 }
 ";
 
+const KEY_BEHIND_A_QUERY: &str = "\
+actor alice, bob;
+lock Paid ?bottom;
+class Shop {
+  ?{alice:; bob: Paid} input int key();
+  output void show(int v);
+  static void main() {
+    when (Paid) {
+      show(key());
+    } else {
+      show(0);
+    }
+    open Paid;
+  }
+}
+";
+
 const EXAMPLES: &[(&str, Answer)] = &[
     (SHOP_IN_BRIEF, ACCEPTED),
+    (KEY_BEHIND_A_QUERY, ACCEPTED),
     (SHOP, ACCEPTED),
     (AUCTION, ACCEPTED),
     (PAID_CONTENT, ACCEPTED),
