@@ -60,7 +60,7 @@ mutual
   exp_ints home scope (plain.Field e f at) k h =
       let receiver = receiver_of home scope e (type_of home scope e) in
       let value = left_none (value_faults home scope any_value e)
-          (member_fault receiver (is_some (selected home receiver f.name)) f.at) h in
+      (member_fault receiver (is_some (selected home receiver f.name)) f.at) h in
       exp_ints home scope e k (left_none (expr_faults home scope e) (misfit home scope any_value e)
       value)
   exp_ints home scope (plain.Call o f es at) k h =
@@ -69,7 +69,7 @@ mutual
       let two = member_fault (called_on home scope o) (is_known callee) f.at in
       let three = args_faults home scope callee 0 es in
       let front = left_none (one ++ two ++ three) (count_fault (arity home.table callee)
-          (how_many es) f.at) h in
+      (how_many es) f.at) h in
       let first = left_none one two (left_none (one ++ two) three front) in
       both_zero (may_no_ints o) (args_no_ints es)
       (receiver_ints home scope o (left_zero (may_too_great o) (args_too_great es) k) first)
@@ -86,7 +86,7 @@ mutual
       let one = value_faults home scope (operand op) a in
       let other = value_faults home scope (operand op) b in
       let front = left_none (one ++ other)
-          (when (not (suits op (type_of home scope a) (type_of home scope b))) (broken 201 at)) h in
+      (when (not (suits op (type_of home scope a) (type_of home scope b))) (broken 201 at)) h in
       both_zero (no_ints a) (no_ints b)
       (exp_ints home scope a (left_zero (too_great a) (too_great b) k)
       (left_none (expr_faults home scope a) (misfit home scope (operand op) a)
@@ -131,7 +131,7 @@ result_ints home scope plain.Absent at k h = refl
 result_ints home scope (plain.Present e) at k h =
     let wanted = result_slot (is_void home.result) home.result in
     let value = left_none (value_faults home scope wanted e) (when (not (not (is_void home.result)))
-        (broken 201 at)) h in
+    (broken 201 at)) h in
     exp_ints home scope e k (left_none (expr_faults home scope e) (misfit home scope wanted e)
     value)
 
@@ -139,7 +139,7 @@ local_ints : (home : Home) (scope : Scope) (l : Local) → too_great l.value ≡
     → local_faults home scope l ≡ [] → no_ints l.value ≡ 0
 local_ints home scope l k h =
     let value = right_none (type_fault home l.ty) (value_faults home scope (slot_of home l) l.value)
-        h in
+    h in
     exp_ints home scope l.value k (left_none (expr_faults home scope l.value)
     (misfit home scope (slot_of home l) l.value) value)
 

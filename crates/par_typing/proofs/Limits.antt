@@ -98,21 +98,21 @@ limits_kept source h =
     let limits = later_pass (name_faults source) (limit_faults source) h in
     let counts = left_none (count_faults source) (policies_faults source) limits in
     let front = left_none (declared_limits source ++ one_too_many CLASSES (class_places source))
-        (flat_map class_limits (declared_classes source)) counts in
+    (flat_map class_limits (declared_classes source)) counts in
     let declared_kept = left_none (declared_limits source)
-        (one_too_many CLASSES (class_places source)) front in
+    (one_too_many CLASSES (class_places source)) front in
     let classes_kept : length (class_places source) ≤ 128 = few_of CLASSES (class_places source)
-        (right_none (declared_limits source) (one_too_many CLASSES (class_places source)) front) in
+    (right_none (declared_limits source) (one_too_many CLASSES (class_places source)) front) in
     let rest = later_pass (all_literal_faults source) (where_none (declared_limits source)
-        (policy_faults source)) (right_none (count_faults source) (policies_faults source) limits)
-        in
+    (policy_faults source)) (right_none (count_faults source) (policies_faults source) limits)
+    in
     let k = known source in
     let joins = later_pass (all_literal_faults source) (in_passes (all_join_faults k source)
-        (table_faults k source)) (passed (declared_limits source) (policy_faults source) rest
-        declared_kept) in
+    (table_faults k source)) (passed (declared_limits source) (policy_faults source) rest
+    declared_kept) in
     let of_table = later_pass (all_join_faults k source) (table_faults k source) joins in
     let one_more = left_none (policies.one_too_many (slice_get (numbered k source) 256))
-        (flat_map (λ c. birth_faults k c c.birth) (declared source)) of_table in
+    (flat_map (λ c. birth_faults k c c.birth) (declared source)) of_table in
     record {
       few = faults.has_few source (sym (ap (first_of None) declared_kept ∙ first_of_none None));
       few_classes =

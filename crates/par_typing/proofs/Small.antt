@@ -25,7 +25,7 @@ small_method home m limits numbers h =
     let three = throws_faults home m.throws in
     let four = braces_faults home false (with_params home no_locals m.params) m.body in
     let body = right_none (one ++ two ++ three) four (left_none (one ++ two ++ three ++ four)
-        (end_fault home m) h) in
+    (end_fault home m) h) in
     let few = braces_few m.body in
     record {
       nodes = omega (arith, limits.nodes);
@@ -42,7 +42,7 @@ small_methods table names class (m ∷ ms) limits numbers h =
     let one = method_faults table names class m in
     let more = methods_faults table names class ms in (
       small_method (home_of table names class (result_written names m.result)) m
-      (method_within m limits.0) numbers.0 (left_none one more h),
+          (method_within m limits.0) numbers.0 (left_none one more h),
       small_methods table names class ms limits.1 numbers.1 (right_none one more h),
     )
 
@@ -61,19 +61,25 @@ pub small_source : (table : Table) (names : Names) (ds : List Declaration)
     → declarations_faults table names ds ≡ [] → IsSmallSource names ds
 unfolding declarations_faults declaration_faults
 small_source table names [] limits numbers h = tt
-small_source table names (Actors ids ∷ ds) limits numbers h =
-    (tt, small_source table names ds limits numbers.1
-    (right_none [] (declarations_faults table names ds) h))
-small_source table names (Lock lock ∷ ds) limits numbers h =
-    (tt, small_source table names ds limits numbers.1
-    (right_none [] (declarations_faults table names ds) h))
-small_source table names (Policy policy ∷ ds) limits numbers h =
-    (tt, small_source table names ds limits numbers.1
-    (right_none [] (declarations_faults table names ds) h))
+small_source table names (Actors ids ∷ ds) limits numbers h = (
+  tt,
+  small_source table names ds limits numbers.1
+      (right_none [] (declarations_faults table names ds) h),
+)
+small_source table names (Lock lock ∷ ds) limits numbers h = (
+  tt,
+  small_source table names ds limits numbers.1
+      (right_none [] (declarations_faults table names ds) h),
+)
+small_source table names (Policy policy ∷ ds) limits numbers h = (
+  tt,
+  small_source table names ds limits numbers.1
+      (right_none [] (declarations_faults table names ds) h),
+)
 small_source table names (Declared class ∷ ds) limits numbers h =
     let one = class_faults table names (class_named names class.id.name) class in
     let more = declarations_faults table names ds in (
       small_class table names (class_named names class.id.name) class limits.0 numbers.0
-      (left_none one more h),
+          (left_none one more h),
       small_source table names ds limits.1 numbers.1 (right_none one more h),
     )

@@ -37,13 +37,13 @@ infos_few : (r : Resolved) (class next : ℕ) (cs : List Class)
 infos_few r class next [] = refl
 infos_few r class next (c ∷ cs) =
     let more = infos_few r (class + 1) (next + count_by (λ f. f.inferred) c.fields) cs in omega
-        (arith, more)
+    (arith, more)
 
 members_few : (r : Resolved) (class next : ℕ) (c : Class) → ClassIsWithin c
     → IsFewMembers (member_names (class_info r class next c))
 members_few r class next c limits =
     let places : length (member_places c) ≡ length (map (λ f. f.id.at) c.fields) + length
-        (map (λ h. h.id.at) c.channels) =
+    (map (λ h. h.id.at) c.channels) =
     ordered (map (λ f. f.id.at) c.fields) (map (λ h. h.id.at) c.channels) in
     let field_places = length-map c.fields (λ f. f.id.at) in
     let channel_places = length-map c.channels (λ h. h.id.at) in
@@ -56,8 +56,15 @@ members_few r class next c limits =
     record {
       fields = omega (arith, limits.members, places, field_places, channel_places, fields, infos);
       channels =
-          omega (arith, limits.members, places, field_places, channel_places, channels,
-          channel_infos);
+          omega (
+            arith,
+            limits.members,
+            places,
+            field_places,
+            channel_places,
+            channels,
+            channel_infos,
+          );
       methods = omega (arith, limits.methods, methods, method_infos);
     }
 
@@ -107,4 +114,4 @@ pub few_policies : (source : Source) → IsWithinLimits source
     → length (table_of source).policies < 2 ^ 16
 few_policies source limits =
     let same = length-map (numbered (known source) source) (λ e. e.policy) in omega
-        (arith, limits.few_policies, same)
+    (arith, limits.few_policies, same)

@@ -102,15 +102,18 @@ number_same source p =
     let k = known source in
     let first : Entry = record { at = 0; policy = bottom k.numbers } in
     let by_places = by_place (map (written_entry k) (said.written source) ++ query_entries source)
-        in
+    in
     number_in_front p first (distinct (entries k source))
     (map (inferred_entry k) (inferred_fields source))
     (begins first (by_places ++ map (birth_entry k) (declared source)))
     (all_bottom k (inferred_fields source))
 
 abbrev by_known : Known → List (List Clause) → Written
-by_known k policies = record { lock = lock_number k.numbers; policy =
-    λ e. policy_number policies (policy_of k e) }
+by_known k policies = record {
+  lock = lock_number k.numbers;
+  policy =
+      λ e. policy_number policies (policy_of k e);
+}
 
 pub written_is : (k : code.Known) (policies : List (List Clause)) (source : Source)
     → known_seen k ≡ known source

@@ -342,19 +342,21 @@ module _ (source : Source) (arities : AllByRecursion (λ lock. lock.arity ≤ 2)
       sta_in frame p scope (If e b o at) h room none = (
         exp_in (λ k. k < n) home frame (p + 1) e (numbers_of frame h),
         braces_in frame _ scope b h (first_room frame.next _ _ room)
-        (none_right _ (braces_faults v own scope b) (none_left _ (else_faults v own scope o) none)),
+            (none_right _ (braces_faults v own scope b) (none_left _ (else_faults v own scope o) none)),
         else_in (further frame (braces_locals b)) _ scope o h (second_room frame.next _ _ room)
-        (none_right _ (else_faults v own scope o) none),
+            (none_right _ (else_faults v own scope o) none),
       )
-      sta_in frame p scope (While e b at) h room none =
-          (exp_in (λ k. k < n) home frame (p + 1) e (numbers_of frame h), braces_in frame _ scope b
-          h room (none_right _ (braces_faults v own scope b) none))
+      sta_in frame p scope (While e b at) h room none = (
+        exp_in (λ k. k < n) home frame (p + 1) e (numbers_of frame h),
+        braces_in frame _ scope b
+            h room (none_right _ (braces_faults v own scope b) none),
+      )
       sta_in frame p scope (Try b cs at) h room none = (
         braces_in frame _ scope b h (first_room frame.next _ _ room)
             (none_left _ (doubles (all_caught cs)) (none_left _ (catches_faults v own scope cs)
             none)),
         catches_in (further frame (braces_locals b)) _ scope cs h (second_room frame.next _ _ room)
-        (none_right _ (catches_faults v own scope cs) none),
+            (none_right _ (catches_faults v own scope cs) none),
       )
       sta_in frame p scope (Return e at) h room none =
           may_in (λ k. k < n) home frame (p + 1) e (numbers_of frame h)
@@ -363,9 +365,12 @@ module _ (source : Source) (arities : AllByRecursion (λ lock. lock.arity ≤ 2)
       sta_in frame p scope (Throw class at) h room none = tt
       sta_in frame p scope (Open lock at) h room none = lock_in before lock none
       sta_in frame p scope (Close lock at) h room none = lock_in before lock none
-      sta_in frame p scope (Declare local at) h room none =
-          (omega (arith, room), policy_in local.policy, exp_in (λ k. k < n) home frame (p + 1)
-          local.value (numbers_of frame h))
+      sta_in frame p scope (Declare local at) h room none = (
+        omega (arith, room),
+        policy_in local.policy,
+        exp_in (λ k. k < n) home frame (p + 1)
+            local.value (numbers_of frame h),
+      )
       sta_in frame p scope (Assign e value at) h room none =
           assignment_in (target home frame (p + 1) e)
           (typed_exp home frame (p + 1 + target_nodes (target home frame (p + 1) e)) value) at p
@@ -375,11 +380,11 @@ module _ (source : Source) (arities : AllByRecursion (λ lock. lock.arity ≤ 2)
           exp_in (λ k. k < n) home frame (p + 1) call (numbers_of frame h)
       sta_in frame p scope (When lock b o at) h room none = (
         lock_in before lock (none_left (lock_faults v lock) _
-        (none_left _ (may_braces_faults v own scope o) none)),
+            (none_left _ (may_braces_faults v own scope o) none)),
         braces_in frame _ scope b h (first_room frame.next _ _ room)
-        (none_right (lock_faults v lock) _ (none_left _ (may_braces_faults v own scope o) none)),
+            (none_right (lock_faults v lock) _ (none_left _ (may_braces_faults v own scope o) none)),
         may_braces_in (further frame (braces_locals b)) _ scope o h (second_room frame.next _ _
-        room) (none_right _ (may_braces_faults v own scope o) none),
+            room) (none_right _ (may_braces_faults v own scope o) none),
       )
 
       pub braces_in : (frame : Frame) (p : ℕ) (scope : List (List ℕ)) (b : Braces) → AreVars frame
@@ -414,7 +419,7 @@ module _ (source : Source) (arities : AllByRecursion (λ lock. lock.arity ≤ 2)
           (second_room frame.next (locals_in s) (all_locals ss) room) in (
             sta_in frame p scope s h here (none_left (stmt_faults v own scope s) _ none),
             stas_in (behind w home s frame) _ (declares s scope) ss (behind_in home s frame h here)
-            on (none_right (stmt_faults v own scope s) _ none),
+                on (none_right (stmt_faults v own scope s) _ none),
           )
 
       catches_in : (frame : Frame) (p : ℕ) (scope : List (List ℕ)) (cs : Catches) → AreVars frame
@@ -424,9 +429,9 @@ module _ (source : Source) (arities : AllByRecursion (λ lock. lock.arity ≤ 2)
       catches_in frame p scope NoCatch h room none = tt
       catches_in frame p scope (Catch c cs) h room none = (
         handler_in frame p scope c h (first_room frame.next _ _ room)
-        (none_left (handler_faults v own scope c) _ none),
+            (none_left (handler_faults v own scope c) _ none),
         catches_in (further frame (handler_locals c)) _ scope cs h (second_room frame.next _ _ room)
-        (none_right (handler_faults v own scope c) _ none),
+            (none_right (handler_faults v own scope c) _ none),
       )
 
       handler_in : (frame : Frame) (p : ℕ) (scope : List (List ℕ)) (c : Handler) → AreVars frame

@@ -121,32 +121,32 @@ module _ (w : Written) (home : Home) where
     sta_size frame p looped (Block b at) none = braces_size frame p looped b none
     sta_size frame p looped (If e b o at) none =
         let front = none_left (test_faults home frame.scope e ++ braces_faults home looped
-            frame.scope b) (else_faults home looped frame.scope o) none in
+        frame.scope b) (else_faults home looped frame.scope o) none in
         let q = p + 1 + nodes (typed_exp home frame (p + 1) e) in
         let test = exp_size home frame (p + 1) e (value_kept frame.scope e _
-            (none_left (test_faults home frame.scope e) (braces_faults home looped frame.scope b)
-            front)) in
+        (none_left (test_faults home frame.scope e) (braces_faults home looped frame.scope b)
+        front)) in
         let body = braces_size frame q looped b (none_right (test_faults home frame.scope e)
-            (braces_faults home looped frame.scope b) front) in
+        (braces_faults home looped frame.scope b) front) in
         let other = else_sizes (further frame (braces_locals b))
-            (q + stmt_nodes (typed_braces w home frame q b)) looped o
+        (q + stmt_nodes (typed_braces w home frame q b)) looped o
         (none_right (test_faults home frame.scope e ++ braces_faults home looped frame.scope b)
         (else_faults home looped frame.scope o) none) in
         omega (arith, test, body, other)
     sta_size frame p looped (While e b at) none =
         let q = p + 1 + nodes (typed_exp home frame (p + 1) e) in
         let test = exp_size home frame (p + 1) e (value_kept frame.scope e _
-            (none_left (test_faults home frame.scope e) (braces_faults home true frame.scope b)
-            none)) in
+        (none_left (test_faults home frame.scope e) (braces_faults home true frame.scope b)
+        none)) in
         let body = braces_size frame q true b (none_right (test_faults home frame.scope e)
-            (braces_faults home true frame.scope b) none) in
+        (braces_faults home true frame.scope b) none) in
         omega (arith, test, body)
     sta_size frame p looped (Try b cs at) none =
         let body = braces_size frame (p + 1) looped b
-            (none_left (braces_faults home looped frame.scope b) (catches_faults home looped
-            frame.scope cs) none) in
+        (none_left (braces_faults home looped frame.scope b) (catches_faults home looped
+        frame.scope cs) none) in
         let rest = catches_sizes (further frame (braces_locals b))
-            (p + 1 + stmt_nodes (typed_braces w home frame (p + 1) b)) looped cs
+        (p + 1 + stmt_nodes (typed_braces w home frame (p + 1) b)) looped cs
         (none_right (braces_faults home looped frame.scope b) (catches_faults home looped
         frame.scope cs) none) in
         omega (arith, body, rest)
@@ -175,10 +175,10 @@ module _ (w : Written) (home : Home) where
         omega (arith, one)
     sta_size frame p looped (When lock b o at) none =
         let body = braces_size frame (p + 1) looped b
-            (none_left (braces_faults home looped frame.scope b) (may_braces_faults home looped
-            frame.scope o) none) in
+        (none_left (braces_faults home looped frame.scope b) (may_braces_faults home looped
+        frame.scope o) none) in
         let other = may_braces_size (further frame (braces_locals b))
-            (p + 1 + stmt_nodes (typed_braces w home frame (p + 1) b)) looped o
+        (p + 1 + stmt_nodes (typed_braces w home frame (p + 1) b)) looped o
         (none_right (braces_faults home looped frame.scope b) (may_braces_faults home looped
         frame.scope o) none) in
         omega (arith, body, other)
@@ -207,16 +207,16 @@ module _ (w : Written) (home : Home) where
     stas_size frame p looped reached End none = omega arith
     stas_size frame p looped reached (Then s ss) none =
         let front = none_left (when (not reached) (broken 204 (types.stmt_place s)) ++ stmt_faults
-            home looped frame.scope s) (stmts_faults home looped (declares home s frame.scope)
-            (completes s) ss) none in
+        home looped frame.scope s) (stmts_faults home looped (declares home s frame.scope)
+        (completes s) ss) none in
         let behind_none = none_right (when (not reached) (broken 204 (types.stmt_place s))
-            ++ stmt_faults home looped frame.scope s) (stmts_faults home looped
-            (declares home s frame.scope) (completes s) ss) none in
+        ++ stmt_faults home looped frame.scope s) (stmts_faults home looped
+        (declares home s frame.scope) (completes s) ss) none in
         let one = sta_size frame p looped s
-            (none_right (when (not reached) (broken 204 (types.stmt_place s)))
-            (stmt_faults home looped frame.scope s) front) in
+        (none_right (when (not reached) (broken 204 (types.stmt_place s)))
+        (stmt_faults home looped frame.scope s) front) in
         let rest = stas_size (behind w home s frame) (p + stmt_nodes (typed_sta w home frame p s))
-            looped (completes s) ss
+        looped (completes s) ss
         (ap (λ scope. stmts_faults home looped scope (completes s) ss) (scope-behind w home s frame)
         ∙ behind_none) in
         omega (arith, one, rest)
@@ -227,11 +227,11 @@ module _ (w : Written) (home : Home) where
     catches_sizes frame p looped NoCatch none = omega arith
     catches_sizes frame p looped (Catch (On id name b) cs) none =
         let here = none_left (handler_faults home looped frame.scope (On id name b))
-            (catches_faults home looped frame.scope cs) none in
+        (catches_faults home looped frame.scope cs) none in
         let one = braces_size frame p looped b (none_right (throw_fault home id)
-            (braces_faults home looped frame.scope b) here) in
+        (braces_faults home looped frame.scope b) here) in
         let rest = catches_sizes (further frame (handler_locals (On id name b)))
-            (p + stmt_nodes (typed_handler w home frame p (On id name b))) looped cs
+        (p + stmt_nodes (typed_handler w home frame p (On id name b))) looped cs
         (none_right (handler_faults home looped frame.scope (On id name b))
         (catches_faults home looped frame.scope cs) none) in
         omega (arith, one, rest)
@@ -243,7 +243,7 @@ pub method_size : (w : Written) (table : Table) (class : ℕ) (m : Method)
 method_size w table class m none =
     let home = home_of table (names_of table) class (result_written (names_of table) m.result) in
     let body = braces_faults home false (types_methods.with_params home no_locals m.params) m.body
-        in
+    in
     let kept : body ≡ [] = none_right _ body (none_left _ (end_fault home m) none) in
     braces_size w home (with_params home (no_frame m.is_static) m.params) 0 false m.body
     (ap (λ scope. braces_faults home false scope m.body) (scope-params home (no_frame m.is_static)

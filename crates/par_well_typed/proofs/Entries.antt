@@ -111,7 +111,7 @@ module _ (source : Source) where
 
   -- the policies of the table
   policies_are : length (map (λ e. e.policy) (numbered (known source) source)) ≡ length
-          (shared_policies (known source) source) + inferred_in (declared source)
+      (shared_policies (known source) source) + inferred_in (declared source)
   policies_are = length-numbered source
 
   shared_is : (n : ℕ) → n < length (shared_policies (known source) source) → IsPolicy t n
@@ -130,9 +130,9 @@ module _ (source : Source) where
   class_names name =
       let some : 0 < length r.classes = omega arith in
       let names : length r.classes ≡ length (classes source) = length-map (classes source)
-          (λ c. c.id.name) in
+      (λ c. c.id.name) in
       let infos : length t.classes ≡ length (classes source) = length-class_infos r 0
-          (length r.policies) (classes source) in
+      (length r.policies) (classes source) in
       let there = found_within (bytes_eq name) r.classes some in
       subst (λ n. number r.classes name < n) (names ∙ sym infos) there
 
@@ -165,7 +165,7 @@ module _ (source : Source) where
   fields_in next (f ∷ fs) room =
       let whole = sum_by-cons (λ g. cond (is_inferred g) 1 0) f fs in
       let split : next + cond f.inferred 1 0 + count_by is_inferred fs ≤ length t.policies =
-          omega (arith, room, whole) in
+      omega (arith, room, whole) in
       let here : next + cond f.inferred 1 0 ≤ length t.policies = omega (arith, split) in (
         (type_in f.ty, field_in next f f.inferred here),
         fields_in (if f.inferred then next + 1 else next) fs
@@ -215,9 +215,12 @@ module _ (source : Source) where
         (all_mapped (AllByRecursion (λ a. a < length r.known.numbers.actors)) (LockInRange t)
         (ground_lock r queries l first)
         (choices (length r.known.numbers.actors) l.arity)
-        (λ chosen is. (is, ground_policy
-        (list_any (nat_eq (first + place_in_family (length r.known.numbers.actors) chosen)) queries)
-        l.policy))
+        (λ chosen is. (
+          is,
+          ground_policy
+              (list_any (nat_eq (first + place_in_family (length r.known.numbers.actors) chosen)) queries)
+              l.policy,
+        ))
         (choices_in (length r.known.numbers.actors) l.arity))
         (ground_in queries (first + ground_count (length r.known.numbers.actors) l) ls)
 
@@ -305,7 +308,7 @@ module _ (source : Source) where
     classes_in class next (c ∷ cs) few room h = (
       class_in class next c (omega (arith, few)) (omega (arith, room)) h.0,
       classes_in (class + 1) (next + count_by is_inferred c.fields) cs (omega (arith, few))
-      (omega (arith, room)) h.1,
+          (omega (arith, room)) h.1,
     )
 
   -- ---- the table
@@ -317,7 +320,7 @@ module _ (source : Source) where
     (
       tt,
       each_is (IsKeptClass source) (λ c. AllByRecursion (KnowsLocks source) c.methods)
-      (declared_classes source) of_class
+          (declared_classes source) of_class
           (classes_kept source h),
     ),
   ) where
@@ -336,12 +339,12 @@ tables_are_in_range source ordered none =
     let policies_few = few_policies source (table_kept source none) in
     let total = length-numbered source in
     let infos : length (class_infos r 0 (length r.policies) (classes source)) ≡ length
-        (classes source) =
+    (classes source) =
     length-class_infos r 0 (length r.policies) (classes source) in
     let fields_same : inferred_in (classes source) ≡ inferred_in (declared source) = omega arith in
     let locks_few = (few source none).few_locks in
     let grounds : length (ground_locks r source) ≡ unbroken.ground_locks source =
-        ground_count_is source ordered.arities in
+    ground_count_is source ordered.arities in
     let main_class = found_within has_main (classes source) (omega arith) in
     record {
       few_policies = policies_few;

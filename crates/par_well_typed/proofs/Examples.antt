@@ -87,7 +87,7 @@ no_local h = let none : 0 < 0 = h.0.0 in omega arith
 
 -- `{ got = x; int x = 1; }` reads a local that is not set
 unset : SetsFirst [] (Block (Then (SetStatic 0 0 (Local 0 (number 2)) 0 1)
-        (Then (SetLocal 0 None (Int (pos 1) (number 4)) 0 3) End)) 0 0)
+    (Then (SetLocal 0 None (Int (pos 1) (number 4)) 0 3) End)) 0 0)
     → ⊥
 unfolding number SetsFirst behind ExpReads
 unset h = cc h.0

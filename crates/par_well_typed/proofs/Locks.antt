@@ -19,7 +19,7 @@ family_within n first (l ∷ ls) zero d is =
     let same : l ≡ d = cc in
     let whole = sum_by-cons (ground_count n) l ls in
     let one : ground_count n l ≡ ground_count n d = ap (ground_count n) same in omega
-        (arith, whole, one)
+    (arith, whole, one)
 family_within n first (l ∷ ls) (suc i) d is =
     let whole = sum_by-cons (ground_count n) l ls in
     let rest = family_within n (first + ground_count n l) ls i d is in omega (arith, whole, rest)
@@ -43,7 +43,7 @@ of_two n a b h k =
 of_more : (n k : ℕ) → 0 < n → n * n ≤ n ^ (suc (suc k))
 of_more n k h =
     let two : n ^ 2 ≤ n ^ (suc (suc k)) = pow-le-pow_right h (let le : 2 ≤ suc (suc k) =
-        omega arith in le) in
+    omega arith in le) in
     subst (λ j. j ≤ n ^ (suc (suc k))) (pow-two n) two
 
 pub place_within : (n : ℕ) (actors : List ℕ) → AllByRecursion (λ a. a < n) actors
@@ -70,7 +70,7 @@ rows n (x ∷ xs) ys =
     ∙ (let whole : (suc (length xs)) * length ys ≡ length xs * length ys + length ys =
     suc-mul (length xs) (length ys) in
     let swap : length ys + length xs * length ys ≡ length xs * length ys + length ys =
-        omega arith in swap ∙ sym whole)
+    omega arith in swap ∙ sym whole)
 
 pub length-choices : (n k : ℕ) → k ≤ 2 → length (choices n k) ≡ n ^ k
 length-choices n zero h = sym (pow-zero n)

@@ -99,9 +99,9 @@ module _ (source : Source) (class n : ℕ) (c : Class) (result : Option Ty)
   new_makes id known ordinary =
       let number = class_named (names_of t) id.name in
       let same =
-          ap (λ ns. class_named (record { classes = ns; members = [] }) id.name)
-          (names-class_infos (resolved source) 0 (length (resolved source).policies)
-          (classes source)) in
+      ap (λ ns. class_named (record { classes = ns; members = [] }) id.name)
+      (names-class_infos (resolved source) 0 (length (resolved source).policies)
+      (classes source)) in
       let one = found (bytes_eq id.name) (λ k. k.id.name) (classes source) number same in
       class_by id.name number refl (sym (ap is_some one) ∙ is_kept _ _ known)
       (is_kept _ _ ordinary)
@@ -186,15 +186,15 @@ module _ (source : Source) (class n : ℕ) (c : Class) (result : Option Ty)
   member_makes frame p locals (New id at) named from m none rest = rest none
   member_makes frame p locals (Name x at) named from m none rest =
       by (has locals x || is_some (selected_named c x)) refl none where
-    by : (b : Bool) → (has locals x || is_some (selected_named c x)) ≡ b
-        → names.member_faults v named (if b then None else Some x) from m
-        (names.expr_faults v own locals (Name x at)) ≡ []
-        → ExpMakes t is_static (typed_exp h frame p (Name x at))
-    by true is kept = rest kept
-    by false is kept =
-        class_name_makes frame x at p
-        (mark_of at p (type_of h frame.scope (Name x at)) (sure frame.scope (Name x at)))
-        (no_value (has locals x) (selected_named c x) is)
+        by : (b : Bool) → (has locals x || is_some (selected_named c x)) ≡ b
+            → names.member_faults v named (if b then None else Some x) from m
+            (names.expr_faults v own locals (Name x at)) ≡ []
+            → ExpMakes t is_static (typed_exp h frame p (Name x at))
+        by true is kept = rest kept
+        by false is kept =
+            class_name_makes frame x at p
+            (mark_of at p (type_of h frame.scope (Name x at)) (sure frame.scope (Name x at)))
+            (no_value (has locals x) (selected_named c x) is)
   member_makes frame p locals (Field e f at) named from m none rest = rest none
   member_makes frame p locals (Call o f es at) named from m none rest = rest none
   member_makes frame p locals (Neg e at) named from m none rest = rest none
@@ -341,9 +341,9 @@ module _ (source : Source) (class n : ℕ) (c : Class) (result : Option Ty)
         (mark_of at p (type_of h frame.scope (Name x at)) (sure frame.scope (Name x at))) knows said
     exp_makes frame p locals (Field e f at) knows said none =
         let own_none =
-            none_left (types.expr_faults h frame.scope e) (misfit h frame.scope any_value e)
-            (none_left (types.expr_faults h frame.scope e ++ misfit h frame.scope any_value e) _
-            none) in
+        none_left (types.expr_faults h frame.scope e) (misfit h frame.scope any_value e)
+        (none_left (types.expr_faults h frame.scope e ++ misfit h frame.scope any_value e) _
+        none) in
         selection_makes (receiver_of h frame.scope e (type_of h frame.scope e))
         (selected h (receiver_of h frame.scope e (type_of h frame.scope e)) f.name)
         (typed_exp h frame (p + 1) e) (mark_of at p (type_of h frame.scope (Field e f at)) false)
@@ -360,7 +360,7 @@ module _ (source : Source) (class n : ℕ) (c : Class) (result : Option Ty)
         let receiver = types.receiver_faults h frame.scope o in
         let front = none_left (receiver ++ member ++ args) count none in
         let called_right = none_left (names.callee_faults v own locals o x)
-            (names.args_faults v own locals es) said in
+        (names.args_faults v own locals es) said in
         call_makes r k w at (p + 1) (typed_args h frame q es)
         (mark_of at p (type_of h frame.scope (Call o x es at)) false)
         (called_is t class result r x.name) (call_fits frame locals o x called_right)
@@ -382,11 +382,11 @@ module _ (source : Source) (class n : ℕ) (c : Class) (result : Option Ty)
         let other = types.value_faults h frame.scope (operand op) b in
         let both = none_left (one ++ other) _ none in (
           exp_makes frame (p + 1) locals a knows
-          (none_left (names.expr_faults v own locals a) (names.expr_faults v own locals b) said)
-          (none_left (types.expr_faults h frame.scope a) _ (none_left one other both)),
+              (none_left (names.expr_faults v own locals a) (names.expr_faults v own locals b) said)
+              (none_left (types.expr_faults h frame.scope a) _ (none_left one other both)),
           exp_makes frame _ locals b knows
-          (none_right (names.expr_faults v own locals a) (names.expr_faults v own locals b) said)
-          (none_left (types.expr_faults h frame.scope b) _ (none_right one other both)),
+              (none_right (names.expr_faults v own locals a) (names.expr_faults v own locals b) said)
+              (none_left (types.expr_faults h frame.scope b) _ (none_right one other both)),
         )
 
     may_makes : (frame : Frame) (p : ℕ) (locals : List (List ℕ)) (o : MayExp) (m : Ident)
@@ -408,9 +408,9 @@ module _ (source : Source) (class n : ℕ) (c : Class) (result : Option Ty)
         let here = types.value_faults h frame.scope (param_at t k i) e in
         let more = types.args_faults h frame.scope k (i + 1) es in (
           exp_makes frame p locals e knows
-          (none_left (names.expr_faults v own locals e) (names.args_faults v own locals es) said)
-          (none_left (types.expr_faults h frame.scope e) _ (none_left here more none)),
+              (none_left (names.expr_faults v own locals e) (names.args_faults v own locals es) said)
+              (none_left (types.expr_faults h frame.scope e) _ (none_left here more none)),
           args_make frame _ locals k (i + 1) es knows
-          (none_right (names.expr_faults v own locals e) (names.args_faults v own locals es) said)
-          (none_right here more none),
+              (none_right (names.expr_faults v own locals e) (names.args_faults v own locals es) said)
+              (none_right here more none),
         )

@@ -186,8 +186,8 @@ module _ (w : Written) (source : Source) (class n : ℕ) (c : Class) (result : O
       name_target_makes frame locals x at p knows said
   target_makes frame p locals (Field e f at) knows said none =
       let own_none =
-          none_left (expr_faults h frame.scope e) (misfit h frame.scope any_value e)
-          (none_left (expr_faults h frame.scope e ++ misfit h frame.scope any_value e) _ none) in
+      none_left (expr_faults h frame.scope e) (misfit h frame.scope any_value e)
+      (none_left (expr_faults h frame.scope e ++ misfit h frame.scope any_value e) _ none) in
       selected_makes (receiver_of h frame.scope e (type_of h frame.scope e))
       (selected h (receiver_of h frame.scope e (type_of h frame.scope e)) f.name)
       (typed_exp h frame p e)
@@ -236,13 +236,13 @@ module _ (w : Written) (source : Source) (class n : ℕ) (c : Class) (result : O
         let front = none_left (test ++ body) other none in
         let said_front = none_left (said_test ++ said_body) said_other said in (
           exp frame (p + 1) locals e knows (none_left said_test said_body said_front)
-          (value_kept frame e _ (none_left test body front)),
+              (value_kept frame e _ (none_left test body front)),
           braces_makes frame _ looped locals b knows (none_right said_test said_body said_front)
-          (none_right test body front),
+              (none_right test body front),
           else_makes (further frame (braces_locals b)) _ looped locals o
-          (further_known frame locals (braces_locals b) knows)
-          (none_right (said_test ++ said_body) said_other said)
-          (none_right (test ++ body) other none),
+              (further_known frame locals (braces_locals b) knows)
+              (none_right (said_test ++ said_body) said_other said)
+              (none_right (test ++ body) other none),
         )
     sta_makes frame p looped locals (While e b at) knows said none =
         let test = test_faults h frame.scope e in
@@ -250,9 +250,9 @@ module _ (w : Written) (source : Source) (class n : ℕ) (c : Class) (result : O
         let said_test = names.expr_faults v own locals e in
         let said_body = rules.braces_faults v own locals b in (
           exp frame (p + 1) locals e knows (none_left said_test said_body said)
-          (value_kept frame e _ (none_left test body none)),
+              (value_kept frame e _ (none_left test body none)),
           braces_makes frame _ true locals b knows (none_right said_test said_body said)
-          (none_right test body none),
+              (none_right test body none),
         )
     sta_makes frame p looped locals (Try b cs at) knows said none =
         let body = braces_faults h looped frame.scope b in
@@ -261,11 +261,11 @@ module _ (w : Written) (source : Source) (class n : ℕ) (c : Class) (result : O
         let twice = doubles (rules.all_caught cs) in
         let said_catches = rules.catches_faults v own locals cs in (
           braces_makes frame _ looped locals b knows
-          (none_left said_body twice (none_left (said_body ++ twice) said_catches said))
-          (none_left body catches none),
+              (none_left said_body twice (none_left (said_body ++ twice) said_catches said))
+              (none_left body catches none),
           catches_make (further frame (braces_locals b)) _ looped locals cs
-          (further_known frame locals (braces_locals b) knows)
-          (none_right (said_body ++ twice) said_catches said) (none_right body catches none),
+              (further_known frame locals (braces_locals b) knows)
+              (none_right (said_body ++ twice) said_catches said) (none_right body catches none),
         )
     sta_makes frame p looped locals (Return e at) knows said none =
         returned frame (p + 1) locals e at knows said none
@@ -303,11 +303,11 @@ module _ (w : Written) (source : Source) (class n : ℕ) (c : Class) (result : O
         let said_body = rules.braces_faults v own locals b in
         let said_other = rules.may_braces_faults v own locals o in (
           braces_makes frame _ looped locals b knows
-          (none_right said_lock said_body (none_left (said_lock ++ said_body) said_other said))
-          (none_left body other none),
+              (none_right said_lock said_body (none_left (said_lock ++ said_body) said_other said))
+              (none_left body other none),
           may_braces_make (further frame (braces_locals b)) _ looped locals o
-          (further_known frame locals (braces_locals b) knows)
-          (none_right (said_lock ++ said_body) said_other said) (none_right body other none),
+              (further_known frame locals (braces_locals b) knows)
+              (none_right (said_lock ++ said_body) said_other said) (none_right body other none),
         )
 
     pub braces_makes : (frame : Frame) (p : ℕ) (looped : Bool) (locals : List (List ℕ)) (b : Braces)
@@ -345,11 +345,11 @@ module _ (w : Written) (source : Source) (class n : ℕ) (c : Class) (result : O
         let said_one = rules.stmt_faults v own locals s in
         let said_more = rules.stmts_faults v own (rules.declares s locals) ss in (
           sta_makes frame p looped locals s knows (none_left said_one said_more said)
-          (none_right late one (none_left (late ++ one) more none)),
+              (none_right late one (none_left (late ++ one) more none)),
           stas_make (behind w h s frame) _ looped (completes s) (rules.declares s locals) ss
-          (behind_known w h s frame locals knows) (none_right said_one said_more said)
-          (ap (λ scope. stmts_faults h looped scope (completes s) ss) (scope-behind w h s frame)
-          ∙ none_right (late ++ one) more none),
+              (behind_known w h s frame locals knows) (none_right said_one said_more said)
+              (ap (λ scope. stmts_faults h looped scope (completes s) ss) (scope-behind w h s frame)
+              ∙ none_right (late ++ one) more none),
         )
 
     catches_make : (frame : Frame) (p : ℕ) (looped : Bool) (locals : List (List ℕ)) (cs : Catches)
@@ -364,11 +364,11 @@ module _ (w : Written) (source : Source) (class n : ℕ) (c : Class) (result : O
         let said_more = rules.catches_faults v own locals cs in
         let taken = class_fault v id ++ rules.taken_fault locals name in (
           braces_makes frame p looped locals b knows
-          (none_right taken (rules.braces_faults v own locals b)
-          (none_left said_one said_more said))
-          (none_right (throw_fault h id) (braces_faults h looped frame.scope b)
-          (none_left one more none)),
+              (none_right taken (rules.braces_faults v own locals b)
+              (none_left said_one said_more said))
+              (none_right (throw_fault h id) (braces_faults h looped frame.scope b)
+              (none_left one more none)),
           catches_make (further frame (handler_locals (On id name b))) _ looped locals cs
-          (further_known frame locals (handler_locals (On id name b)) knows)
-          (none_right said_one said_more said) (none_right one more none),
+              (further_known frame locals (handler_locals (On id name b)) knows)
+              (none_right said_one said_more said) (none_right one more none),
         )

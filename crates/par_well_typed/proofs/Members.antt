@@ -62,7 +62,7 @@ module _ (table : Table) where
 
   members_of : (class : ℕ)
       → slice_get (names_of table).members class ≡ option_map member_names
-          (slice_get table.classes class)
+      (slice_get table.classes class)
   members_of class = slice_get-map member_names table.classes class
 
   field_number : (o : Option ClassInfo) (name : List ℕ) (k : ℕ)
@@ -87,9 +87,11 @@ module _ (table : Table) where
       → number_in (fields_in (slice_get (names_of table).members class)) name ≡ o
       → MayBe (PlaceOf (field_at table) class) (placed class o)
   field_placed class name None is = tt
-  field_placed class name (Some k) is =
-      (refl, field_number (slice_get table.classes class) name k
-      (ap (λ m. number_in (fields_in m) name) (sym (members_of class)) ∙ is))
+  field_placed class name (Some k) is = (
+    refl,
+    field_number (slice_get table.classes class) name k
+        (ap (λ m. number_in (fields_in m) name) (sym (members_of class)) ∙ is),
+  )
 
   pub field_found : (class : ℕ) (name : List ℕ)
       → MayBe (PlaceOf (field_at table) class) (field_in (names_of table) (Some class) name)
@@ -103,12 +105,16 @@ module _ (table : Table) where
       → number_in (methods_in (slice_get (names_of table).members class)) name ≡ p
       → CalleeOf table class (channel_or_method class o p)
   callee_placed class name None None is and = tt
-  callee_placed class name None (Some k) is and =
-      (refl, method_number (slice_get table.classes class) name k
-      (ap (λ m. number_in (methods_in m) name) (sym (members_of class)) ∙ and))
-  callee_placed class name (Some k) p is and =
-      (refl, channel_number (slice_get table.classes class) name k
-      (ap (λ m. number_in (channels_in m) name) (sym (members_of class)) ∙ is))
+  callee_placed class name None (Some k) is and = (
+    refl,
+    method_number (slice_get table.classes class) name k
+        (ap (λ m. number_in (methods_in m) name) (sym (members_of class)) ∙ and),
+  )
+  callee_placed class name (Some k) p is and = (
+    refl,
+    channel_number (slice_get table.classes class) name k
+        (ap (λ m. number_in (channels_in m) name) (sym (members_of class)) ∙ is),
+  )
 
   pub callee_found : (class : ℕ) (name : List ℕ)
       → CalleeOf table class (callee_in (names_of table) (Some class) name)
@@ -170,7 +176,7 @@ module _ (table : Table) where
 
   of_object : (home : Home) (t : Option Ty) (name : List ℕ)
       → MayBe (Selects home (Object t)) (object_field table (field_in (names_of table) (class_of t)
-          name))
+      name))
   unfolding class_of field_in object_field
   of_object home None name = tt
   of_object home (Some ty.Int) name = tt

@@ -184,9 +184,12 @@ module _ (table : Table) (class : ℕ) (result : Option Ty) where
     by : (o : Option FieldInfo) → IsThere o → field_is_static o ≡ true → IsField true o
     by None t e = t
     by (Some i) t e = e
-  own_named f at p k false there is =
-      (this_object at (p + 1) f.class there.0, by (field_at table f) there.1 is, this_named at
-      (p + 1)) where
+  own_named f at p k false there is = (
+    this_object at (p + 1) f.class there.0,
+    by (field_at table f) there.1 is,
+    this_named at
+        (p + 1),
+  ) where
     by : (o : Option FieldInfo) → IsThere o → field_is_static o ≡ false → IsField false o
     by None t e = t
     by (Some i) t e = e
@@ -234,9 +237,9 @@ module _ (table : Table) (class : ℕ) (result : Option Ty) where
   by_way_named true c p es k there is named = subst (IsChannel true) (sym there) is
   by_way_named false c p es k there is named =
       (subst (IsChannel false) (sym there) is, first_named es named) where
-    first_named : (xs : TExps) → ExpsName table xs → ExpNames table (first xs k)
-    first_named typed.NoExps n = tt
-    first_named (typed.More e xs) n = n.0
+        first_named : (xs : TExps) → ExpsName table xs → ExpNames table (first xs k)
+        first_named typed.NoExps n = tt
+        first_named (typed.More e xs) n = n.0
 
   through_named : (o : Option ChannelInfo) (p : Place) (es : TExps) (k : Mark)
       → channel_at table p ≡ o → ExpsName table es → ExpNames table (through o p es k)
@@ -259,25 +262,32 @@ module _ (table : Table) (class : ℕ) (result : Option Ty) where
   unfolding ExpNames
   method_named Own p w at q es k calls on written args many =
       by (method_is_static (method_at table p)) refl where
-    by : (b : Bool) → method_is_static (method_at table p) ≡ b
-        → IsCalled (method_at table p) (own_receiver b (own_this h at q)) es × MayBeObject p.class
-        (own_receiver b (own_this h at q))
-        × MayExpNames table (own_receiver b (own_this h at q)) × ExpsName table es
-    by true is =
-        (called_by (method_at table p) typed.Absent es calls.1 (sym (ap not is)) many, tt, tt, args)
-    by false is =
-        (called_by (method_at table p) (typed.Present (own_this h at q)) es calls.1
-        (sym (ap not is)) many, this_object at q p.class calls.0, this_named at q, args)
-  method_named (Class c) p w at q es k calls on written args many =
-      (called_by (method_at table p) typed.Absent es calls.0 (sym (ap not calls.1)) many, tt, tt,
-      args)
+        by : (b : Bool) → method_is_static (method_at table p) ≡ b
+            → IsCalled (method_at table p) (own_receiver b (own_this h at q)) es × MayBeObject p.class
+            (own_receiver b (own_this h at q))
+            × MayExpNames table (own_receiver b (own_this h at q)) × ExpsName table es
+        by true is =
+            (called_by (method_at table p) typed.Absent es calls.1 (sym (ap not is)) many, tt, tt, args)
+        by false is = (
+          called_by (method_at table p) (typed.Present (own_this h at q)) es calls.1
+              (sym (ap not is)) many,
+          this_object at q p.class calls.0,
+          this_named at q,
+          args,
+        )
+  method_named (Class c) p w at q es k calls on written args many = (
+    called_by (method_at table p) typed.Absent es calls.0 (sym (ap not calls.1)) many,
+    tt,
+    tt,
+    args,
+  )
   method_named (Object None) p w at q es k calls on written args many = absurd calls
   method_named (Object (Some ty.Int)) p w at q es k calls on written args many = absurd calls
   method_named (Object (Some ty.Boolean)) p w at q es k calls on written args many = absurd calls
   method_named (Object (Some (ty.Class c))) p w at q es k calls (e, there, is) written args many = (
     called_by (method_at table p) w es calls.1 (ap is_present there ∙ sym (ap not calls.2)) many,
     subst (MayBeObject p.class) (sym there) (object_is e (Some (ty.Class c)) c p.class is refl
-    calls.0),
+        calls.0),
     written,
     args,
   )
@@ -325,12 +335,12 @@ module _ (table : Table) (class : ℕ) (result : Option Ty) where
   is_on frame p (Present e) =
       by (receiver_of h frame.scope e (type_of h frame.scope e)) (is_before h frame.scope e
       (type_of h frame.scope e)) where
-    by : (r : Receiver) → IsBefore r (type_of h frame.scope e)
-        → IsOn r (typed.Present (typed_exp h frame p e))
-    by Own before = tt
-    by (Class c) before = tt
-    by (Object u) before =
-        (typed_exp h frame p e, refl, type-typed h frame p e ∙ ap known (sym before))
+        by : (r : Receiver) → IsBefore r (type_of h frame.scope e)
+            → IsOn r (typed.Present (typed_exp h frame p e))
+        by Own before = tt
+        by (Class c) before = tt
+        by (Object u) before =
+            (typed_exp h frame p e, refl, type-typed h frame p e ∙ ap known (sym before))
 
   number_named : (frame : Frame) (p : ℕ) (e : Exp) → is_number e ≡ true
       → ExpNames table (typed_exp h frame p e)
@@ -411,13 +421,13 @@ module _ (table : Table) (class : ℕ) (result : Option Ty) where
           exp_named frame (p + 1) e (none_left (expr_faults h frame.scope e) _ none)
       exp_named frame p (Binary op a b at) none =
           let both = none_left (types.value_faults h frame.scope (operand op) a
-              ++ types.value_faults h frame.scope (operand op) b) _ none in (
+          ++ types.value_faults h frame.scope (operand op) b) _ none in (
             exp_named frame (p + 1) a (none_left (expr_faults h frame.scope a) _
-            (none_left (types.value_faults h frame.scope (operand op) a)
-            (types.value_faults h frame.scope (operand op) b) both)),
+                (none_left (types.value_faults h frame.scope (operand op) a)
+                (types.value_faults h frame.scope (operand op) b) both)),
             exp_named frame _ b (none_left (expr_faults h frame.scope b) _
-            (none_right (types.value_faults h frame.scope (operand op) a)
-            (types.value_faults h frame.scope (operand op) b) both)),
+                (none_right (types.value_faults h frame.scope (operand op) a)
+                (types.value_faults h frame.scope (operand op) b) both)),
           )
 
       may_named : (frame : Frame) (p : ℕ) (o : MayExp) → receiver_faults h frame.scope o ≡ []
@@ -432,9 +442,9 @@ module _ (table : Table) (class : ℕ) (result : Option Ty) where
       args_named frame p c k NoExps none = tt
       args_named frame p c k (More e es) none =
           let here = none_left (types.value_faults h frame.scope (param_at table c k) e)
-              (args_faults h frame.scope c (k + 1) es) none in (
+          (args_faults h frame.scope c (k + 1) es) none in (
             exp_named frame p e (none_left (expr_faults h frame.scope e) _ here),
             args_named frame _ c (k + 1) es
-            (none_right (types.value_faults h frame.scope (param_at table c k) e)
-            (args_faults h frame.scope c (k + 1) es) none),
+                (none_right (types.value_faults h frame.scope (param_at table c k) e)
+                (args_faults h frame.scope c (k + 1) es) none),
           )

@@ -114,9 +114,11 @@ module _ (w : Written) (table : Table) (class : ℕ) (result : Option Ty)
     by : (o : Option FieldInfo) → IsThere o → field_is_static o ≡ true → IsField true o
     by None t e = t
     by (Some i) t e = e
-  own_target_named at p f false there is =
-      (this_object table class result at p f.class there.0, by (field_at table f) there.1 is,
-      this_named table class result at p) where
+  own_target_named at p f false there is = (
+    this_object table class result at p f.class there.0,
+    by (field_at table f) there.1 is,
+    this_named table class result at p,
+  ) where
     by : (o : Option FieldInfo) → IsThere o → field_is_static o ≡ false → IsField false o
     by None t e = t
     by (Some i) t e = e
@@ -201,27 +203,27 @@ module _ (w : Written) (table : Table) (class : ℕ) (result : Option Ty)
     sta_named frame p looped (Block b at) none = braces_named frame p looped b none
     sta_named frame p looped (If e b o at) none =
         let front = none_left (test_faults h frame.scope e ++ braces_faults h looped frame.scope b)
-            (else_faults h looped frame.scope o) none in (
+        (else_faults h looped frame.scope o) none in (
           named frame (p + 1) e (value_kept frame.scope e _ (none_left (test_faults h frame.scope e)
-          (braces_faults h looped frame.scope b) front)),
+              (braces_faults h looped frame.scope b) front)),
           braces_named frame _ looped b (none_right (test_faults h frame.scope e)
-          (braces_faults h looped frame.scope b) front),
+              (braces_faults h looped frame.scope b) front),
           else_named (further frame (braces_locals b)) _ looped o
-          (none_right (test_faults h frame.scope e ++ braces_faults h looped frame.scope b)
-          (else_faults h looped frame.scope o) none),
+              (none_right (test_faults h frame.scope e ++ braces_faults h looped frame.scope b)
+              (else_faults h looped frame.scope o) none),
         )
     sta_named frame p looped (While e b at) none = (
       named frame (p + 1) e (value_kept frame.scope e _ (none_left (test_faults h frame.scope e)
-      (braces_faults h true frame.scope b) none)),
+          (braces_faults h true frame.scope b) none)),
       braces_named frame _ true b (none_right (test_faults h frame.scope e)
-      (braces_faults h true frame.scope b) none),
+          (braces_faults h true frame.scope b) none),
     )
     sta_named frame p looped (Try b cs at) none = (
       braces_named frame _ looped b (none_left (braces_faults h looped frame.scope b)
-      (catches_faults h looped frame.scope cs) none),
+          (catches_faults h looped frame.scope cs) none),
       catches_named (further frame (braces_locals b)) _ looped cs
-      (none_right (braces_faults h looped frame.scope b) (catches_faults h looped frame.scope cs)
-      none),
+          (none_right (braces_faults h looped frame.scope b) (catches_faults h looped frame.scope cs)
+          none),
     )
     sta_named frame p looped (Return e at) none = returned frame (p + 1) e at none
     sta_named frame p looped (Break at) none = tt
@@ -244,10 +246,10 @@ module _ (w : Written) (table : Table) (class : ℕ) (result : Option Ty)
     sta_named frame p looped (Do call at) none = named frame (p + 1) call none
     sta_named frame p looped (When lock b o at) none = (
       braces_named frame _ looped b (none_left (braces_faults h looped frame.scope b)
-      (may_braces_faults h looped frame.scope o) none),
+          (may_braces_faults h looped frame.scope o) none),
       may_braces_named (further frame (braces_locals b)) _ looped o
-      (none_right (braces_faults h looped frame.scope b) (may_braces_faults h looped frame.scope o)
-      none),
+          (none_right (braces_faults h looped frame.scope b) (may_braces_faults h looped frame.scope o)
+          none),
     )
 
     pub braces_named : (frame : Frame) (p : ℕ) (looped : Bool) (b : Braces)
@@ -271,14 +273,14 @@ module _ (w : Written) (table : Table) (class : ℕ) (result : Option Ty)
     stas_named frame p looped reached End none = tt
     stas_named frame p looped reached (Then s ss) none =
         let front = none_left (when (not reached) (broken 204 (types.stmt_place s)) ++ stmt_faults h
-            looped frame.scope s) (stmts_faults h looped (declares h s frame.scope) (completes s)
-            ss) none in
+        looped frame.scope s) (stmts_faults h looped (declares h s frame.scope) (completes s)
+        ss) none in
         let rest = none_right (when (not reached) (broken 204 (types.stmt_place s)) ++ stmt_faults h
-            looped frame.scope s) (stmts_faults h looped (declares h s frame.scope) (completes s)
-            ss) none in (
+        looped frame.scope s) (stmts_faults h looped (declares h s frame.scope) (completes s)
+        ss) none in (
           sta_named frame p looped s (none_right
-          (when (not reached) (broken 204 (types.stmt_place s))) (stmt_faults h looped frame.scope
-          s) front),
+              (when (not reached) (broken 204 (types.stmt_place s))) (stmt_faults h looped frame.scope
+              s) front),
           stas_named (behind w h s frame) _ looped (completes s) ss
               (ap (λ scope. stmts_faults h looped scope (completes s) ss) (scope-behind w h s frame)
               ∙ rest),
@@ -290,13 +292,13 @@ module _ (w : Written) (table : Table) (class : ℕ) (result : Option Ty)
     catches_named frame p looped NoCatch none = tt
     catches_named frame p looped (Catch (On id name b) cs) none =
         let here = none_left (handler_faults h looped frame.scope (On id name b))
-            (catches_faults h looped frame.scope cs) none in (
+        (catches_faults h looped frame.scope cs) none in (
           exception id (none_left (throw_fault h id) (braces_faults h looped frame.scope b) here),
           braces_named frame p looped b (none_right (throw_fault h id)
-          (braces_faults h looped frame.scope b) here),
+              (braces_faults h looped frame.scope b) here),
           catches_named (further frame (handler_locals (On id name b))) _ looped cs
-          (none_right (handler_faults h looped frame.scope (On id name b))
-          (catches_faults h looped frame.scope cs) none),
+              (none_right (handler_faults h looped frame.scope (On id name b))
+              (catches_faults h looped frame.scope cs) none),
         )
 
 -- ---- whole sources
@@ -312,7 +314,7 @@ module _ (w : Written) (table : Table) (some : 0 < length table.classes) where
       let home = home_of table (names_of table) class result in
       let frame = with_params home (no_frame m.is_static) m.params in
       let body = braces_faults home false (types_methods.with_params home no_locals m.params) m.body
-          in
+      in
       let kept : body ≡ [] = none_right _ body (none_left _ (end_fault home m) none) in
       braces_named w table class result some frame 0 false m.body
       (ap (λ scope. braces_faults home false scope m.body) (scope-params home (no_frame m.is_static)
@@ -325,9 +327,9 @@ module _ (w : Written) (table : Table) (some : 0 < length table.classes) where
   methods_named class [] none = tt
   methods_named class (m ∷ ms) none = (
     body_named class m (none_left (method_faults table (names_of table) class m)
-    (methods_faults table (names_of table) class ms) none),
+        (methods_faults table (names_of table) class ms) none),
     methods_named class ms (none_right (method_faults table (names_of table) class m)
-    (methods_faults table (names_of table) class ms) none),
+        (methods_faults table (names_of table) class ms) none),
   )
 
   class_is_named : (o : Option ℕ) (c : Class) → class_faults table (names_of table) o c ≡ []

@@ -156,10 +156,13 @@ two_apart : (p q m n : ℕ) (xs ys : List ℕ) → length xs ≡ m
     → (q ≡ p) × (xs ≡ count_from (p + 1) m) × (ys ≡ count_from (p + 1 + m) n)
 two_apart p q m n xs ys l is =
     let grouped : q ∷ (xs ++ ys) ≡ count_from p (1 + (m + n)) = is ∙ ap (count_from p)
-        (sym (first_two m n)) in
-    let rest : xs ++ ys ≡ count_from (p + 1) (m + n) = rest_are p q (m + n) (xs ++ ys) grouped in
-    (first_is p q (m + n) (xs ++ ys) grouped, front_counts (p + 1) m n xs ys l rest, back_counts
-    (p + 1) m n xs ys l rest)
+    (sym (first_two m n)) in
+    let rest : xs ++ ys ≡ count_from (p + 1) (m + n) = rest_are p q (m + n) (xs ++ ys) grouped in (
+      first_is p q (m + n) (xs ++ ys) grouped,
+      front_counts (p + 1) m n xs ys l rest,
+      back_counts
+          (p + 1) m n xs ys l rest,
+    )
 
 three_apart : (p q a b c : ℕ) (xs ys zs : List ℕ) → length xs ≡ a → length ys ≡ b
     → q ∷ (xs ++ ys ++ zs) ≡ count_from p (1 + a + b + c)
@@ -169,9 +172,12 @@ three_apart p q a b c xs ys zs l k is =
     let grouped : 1 + a + b + c ≡ 1 + (a + b) + c = omega arith in
     let on : p + 1 + (a + b) ≡ p + 1 + a + b = omega arith in
     let apart = two_apart p q (a + b) c (xs ++ ys) zs (both_parts xs ys a b l k)
-        (is ∙ ap (count_from p) grouped) in
-    (apart.0, front_counts (p + 1) a b xs ys l apart.1, back_counts (p + 1) a b xs ys l apart.1,
-    apart.2 ∙ ap (λ j. count_from j c) on)
+    (is ∙ ap (count_from p) grouped) in (
+      apart.0,
+      front_counts (p + 1) a b xs ys l apart.1,
+      back_counts (p + 1) a b xs ys l apart.1,
+      apart.2 ∙ ap (λ j. count_from j c) on,
+    )
 
 -- ---- rules whose parts have numbers in order
 
@@ -335,7 +341,7 @@ module _ (d : Declares) where
         (one_inside p (args_nodes es))
     exp_counts p (plain.Call c k (plain.Present e) es m) is =
         let apart = two_apart p m.point (nodes e) (args_nodes es) (points e) (args_points es)
-            (length-points e) is in
+        (length-points e) is in
         whole p (p + 1 + nodes e + args_nodes es) _ m.point _ apart.0
         (part _ _ _ _ _ _ _ (exp_counts (p + 1) e apart.1)
         (args_counts (p + 1 + nodes e) _ past es _ apart.2
@@ -355,7 +361,7 @@ module _ (d : Declares) where
         (one_inside p (nodes e))
     exp_counts p (plain.Binary o a b m) is =
         let apart = two_apart p m.point (nodes a) (nodes b) (points a) (points b) (length-points a)
-            is in
+        is in
         whole p (p + 1 + nodes a + nodes b) _ m.point _ apart.0
         (part _ _ _ _ _ _ _ (exp_counts (p + 1) a apart.1)
         (part _ _ _ _ _ _ _ (exp_counts (p + 1 + nodes a) b apart.2)
@@ -408,7 +414,7 @@ module _ (d : Declares) where
         (one_inside p (all_nodes ss))
     sta_counts p (plain.If e s plain.NoElse at q) is =
         let apart = three_apart p q (nodes e) (stmt_nodes s) 0 (points e) (stmt_points s) []
-            (length-points e) (length-stmt_points s) is in
+        (length-points e) (length-stmt_points s) is in
         whole p (p + 1 + nodes e + stmt_nodes s) _ q _ apart.0
         (part _ _ _ _ _ _ _ (exp_counts (p + 1) e apart.1)
         (leaves _ _ _ _ _ (part _ _ _ _ _ _ _ (sta_counts (p + 1 + nodes e) s apart.2)
@@ -416,7 +422,7 @@ module _ (d : Declares) where
         (none_else p (nodes e) (stmt_nodes s))
     sta_counts p (plain.If e s (plain.Otherwise t) at q) is =
         let apart = three_apart p q (nodes e) (stmt_nodes s) (stmt_nodes t) (points e)
-            (stmt_points s) (stmt_points t) (length-points e) (length-stmt_points s) is in
+        (stmt_points s) (stmt_points t) (length-points e) (length-stmt_points s) is in
         whole p (p + 1 + nodes e + stmt_nodes s + stmt_nodes t) _ q _ apart.0
         (part _ _ _ _ _ _ _ (exp_counts (p + 1) e apart.1)
         (part _ _ _ _ _ _ _ (sta_counts (p + 1 + nodes e) s apart.2)
@@ -425,7 +431,7 @@ module _ (d : Declares) where
         (three_inside p (nodes e) (stmt_nodes s) (stmt_nodes t))
     sta_counts p (plain.While e s at q) is =
         let apart = two_apart p q (nodes e) (stmt_nodes s) (points e) (stmt_points s)
-            (length-points e) is in
+        (length-points e) is in
         whole p (p + 1 + nodes e + stmt_nodes s) _ q _ apart.0
         (test _ _ _ _ _ (exp_counts (p + 1) e apart.1)
         (heads _ _ _ _
@@ -435,7 +441,7 @@ module _ (d : Declares) where
         (two_inside p (nodes e) (stmt_nodes s))
     sta_counts p (plain.Try s cs at q) is =
         let apart = two_apart p q (stmt_nodes s) (catch_nodes cs) (stmt_points s) (catch_points cs)
-            (length-stmt_points s) is in
+        (length-stmt_points s) is in
         whole p (p + 1 + stmt_nodes s + catch_nodes cs) _ q _ apart.0
         (part _ _ _ _ _ _ _ (sta_counts (p + 1) s apart.1)
         (leaves _ _ _ _ _ (catches_counts (p + 1 + stmt_nodes s) (sta d s) cs zero apart.2)))
@@ -468,7 +474,7 @@ module _ (d : Declares) where
         (none_other p (stmt_nodes s))
     sta_counts p (plain.When lock s (plain.Otherwise t) at q) is =
         let apart = two_apart p q (stmt_nodes s) (stmt_nodes t) (stmt_points s) (stmt_points t)
-            (length-stmt_points s) is in
+        (length-stmt_points s) is in
         whole p (p + 1 + stmt_nodes s + stmt_nodes t) _ q _ apart.0
         (part _ _ _ _ _ _ _ (sta_counts (p + 1) s apart.1)
         (leaves _ _ _ _ _ (part _ _ _ _ _ _ _ (sta_counts (p + 1 + stmt_nodes s) t apart.2)
@@ -481,7 +487,7 @@ module _ (d : Declares) where
         (λ k. CountsBy p k (goes_on from Done)) same (goes p from)
     stas_counts p from (plain.Then s ss) is =
         let same : p + stmt_nodes s + all_nodes ss ≡ p + (stmt_nodes s + all_nodes ss) =
-            omega arith in
+        omega arith in
         part _ _ _ _ _ _ _ (sta_counts p s (front_counts p (stmt_nodes s) (all_nodes ss)
         (stmt_points s) (all_points ss) (length-stmt_points s) is))
         (subst (λ k. CountsBy (p + stmt_nodes s) k (stas d past ss)) same
@@ -496,7 +502,7 @@ module _ (d : Declares) where
         (λ k. CountsBy p k Done) same (done p)
     catches_counts p block (plain.Catch class s cs) before is =
         let same : p + stmt_nodes s + catch_nodes cs ≡ p + (stmt_nodes s + catch_nodes cs) =
-            omega arith in
+        omega arith in
         part _ _ _ _ _ _ _ (sta_counts p s (front_counts p (stmt_nodes s) (catch_nodes cs)
         (stmt_points s) (catch_points cs) (length-stmt_points s) is))
         (leaves _ _ _ _ _

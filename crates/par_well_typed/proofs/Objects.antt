@@ -70,8 +70,7 @@ module _ (source : Source) (ordered : IsInOrder source) (none : all_faults sourc
   methods_make class n c before (m ∷ ms) stands is apart_names keeps types =
       let one = method_faults t (names_of t) class m in
       let more = methods_faults t (names_of t) class ms in
-      let number = method_number source ordered names class n c before ms m stands is apart_names in
-          (
+      let number = method_number source ordered names class n c before ms m stands is apart_names in (
         (
           method_info r class m,
           record {
@@ -82,8 +81,8 @@ module _ (source : Source) (ordered : IsInOrder source) (none : all_faults sourc
           },
         ),
         methods_make class n c (before ++ m ∷ []) ms stands
-        (is ∙ sym (append_assoc before (m ∷ []) ms)) apart_names keeps.1
-        (none_right one more types),
+            (is ∙ sym (append_assoc before (m ∷ []) ms)) apart_names keeps.1
+            (none_right one more types),
       )
 
   class_makes : (before rest : List Class) (c : Class) → classes source ≡ before ++ c ∷ rest
@@ -96,7 +95,7 @@ module _ (source : Source) (ordered : IsInOrder source) (none : all_faults sourc
       let number = class_number source ordered names before rest c is in
       let stands = class_stands source ordered names before rest c is in
       let numbered : class_faults t (names_of t) (Some (length before)) c ≡ [] =
-          ap (λ o. class_faults t (names_of t) o c) (sym number) ∙ types in
+      ap (λ o. class_faults t (names_of t) o c) (sym number) ∙ types in
       subst (λ o. AllByRecursion (MakesObjects t) (typed_class w t (names_of t) o c)) (sym number)
       (methods_make (length before) stands.0 c [] c.methods stands.1 refl
       (method_names_differ source ordered names c keeps up) (methods_kept source c keeps)

@@ -48,9 +48,9 @@ pub orderly : (table : Table) → IsInRange table → (b : Body) (m : MethodInfo
     → IsOrderly (declares table) (length m.locals) b
 orderly table ok b m h =
     let within : MethodWithin ((declares table).method b.class b.method) =
-        (declared_within table ok).method b.class b.method in
+    (declared_within table ok).method b.class b.method in
     let known : (declares table).method b.class b.method ≡ method_of (Some m) =
-        method_known table b.class b.method m h.method in
+    method_known table b.class b.method m h.method in
     record {
       numbered = numbered (declares table) b.body h.points;
       in_range = sta_within table ok (length m.locals) b.body h.numbers;

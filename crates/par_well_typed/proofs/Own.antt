@@ -76,7 +76,7 @@ module _ (source : Source) (class n : ℕ) (c : Class) (result : Option Ty) wher
 
   module _ (stands : Stands) where
     members_are : slice_get (names_of t).members class ≡ Some
-            (member_names (class_info r class n c))
+        (member_names (class_info r class n c))
     members_are = slice_get-map member_names t.classes class ∙ ap (option_map member_names) stands
 
     -- ---- fields
@@ -135,9 +135,9 @@ module _ (source : Source) (class n : ℕ) (c : Class) (result : Option Ty) wher
     callee_by x None None is and = tt
     callee_by x None (Some k) is and =
         let channel : channel_named c x ≡ None =
-            found (bytes_eq x) (λ k. k.id.name) c.channels None (sym is ∙ channel_number x) in
+        found (bytes_eq x) (λ k. k.id.name) c.channels None (sym is ∙ channel_number x) in
         let method : method_named c x ≡ slice_get c.methods k =
-            found (bytes_eq x) (λ m. m.id.name) c.methods (Some k) (sym and ∙ method_number x) in
+        found (bytes_eq x) (λ m. m.id.name) c.methods (Some k) (sym and ∙ method_number x) in
         ap (λ o. earlier_callee o (method_named c x)) channel
         ∙ ap (earlier_callee None) method ∙ statics-methods r class (slice_get c.methods k)
         ∙ ap method_static (sym (slice_get-map (method_info r class) c.methods k))
@@ -166,7 +166,7 @@ no_local frame locals x knows none = by (number_in locals x) refl where
       let within : k < length locals = position-within (bytes_eq x) locals k is in
       let item = there frame.vars k (omega (arith, within, knows.vars)) in
       let nothing : slice_get frame.vars k ≡ None =
-          sym (ap (var_at frame.vars) (same (Some k) is)) ∙ none in
+      sym (ap (var_at frame.vars) (same (Some k) is)) ∙ none in
       absurd (subst IsThere nothing item)
 
 -- ---- own members in static methods

@@ -162,8 +162,8 @@ module _ (source : Source) (ordered : IsInOrder source) (none : name_faults sour
       let all = map (λ c. c.id) (classes source) in
       let ids = map (λ c. c.id) (declared_classes source) in
       let up : Ascend 0 (map (λ id. id.at) ids) =
-          subst (Ascend 0) (sym (map-map (λ id. id.at) (λ c. c.id) (declared_classes source)))
-          ordered.classes in
+      subst (Ascend 0) (sym (map-map (λ id. id.at) (λ c. c.id) (declared_classes source)))
+      ordered.classes in
       let one : Ident = record { name = codes "ArithmeticException"; at = 0 } in
       let other : Ident = record { name = codes "NullPointerException"; at = 0 } in
       let behind : AllByRecursion (λ id. 0 < id.at) ids = above 0 0 ids (omega arith) up in (
@@ -211,11 +211,11 @@ module _ (source : Source) (ordered : IsInOrder source) (none : name_faults sour
   method_names_differ c (past, h) up =
       let v = view_behind source past in
       let to_channels = none_left _ (flat_map (channel_faults v) c.channels)
-          (none_left _ (flat_map (method_faults v c) c.methods) h) in
+      (none_left _ (flat_map (method_faults v c) c.methods) h) in
       let twice : doubles (callee_ids c) ≡ [] = none_right _ (doubles (callee_ids c)) to_channels in
       let ids = map (λ m. m.id) c.methods in
       let ups : Ascend 0 (map (λ id. id.at) ids) =
-          subst (Ascend 0) (sym (map-map (λ id. id.at) (λ m. m.id) c.methods)) up in
+      subst (Ascend 0) (sym (map-map (λ id. id.at) (λ m. m.id) c.methods)) up in
       subst Differ (map-map (λ id. id.name) (λ m. m.id) c.methods)
       (differ 0 ids ups (apart_behind (map (λ k. k.id) c.channels) ids
       (apart (callee_ids c) twice)))
@@ -227,7 +227,7 @@ module _ (source : Source) (ordered : IsInOrder source) (none : name_faults sour
       before
   method_number class n c before after m stands is apart_names =
       let members : slice_get (names_of t).members class ≡ Some
-          (member_names (class_info r class n c)) =
+      (member_names (class_info r class n c)) =
       slice_get-map member_names t.classes class ∙ ap (option_map member_names) stands in
       ap (λ o. numbered (number_in (methods_in o) m.id.name)) members
       ∙ ap (λ ns. numbered (position (bytes_eq m.id.name) ns))
@@ -273,7 +273,7 @@ module _ (source : Source) (ordered : IsInOrder source) (none : name_faults sour
 
   length-locals : (class : ℕ) (m : Method)
       → length (local_types r.classes class m) ≡ first_number m.is_static + length m.params
-          + braces_locals m.body
+      + braces_locals m.body
   length-locals class m =
       let params = map (λ p. type_of r.classes p.ty) m.params in
       let types = flat_map stmt_types (in_braces m.body) in
@@ -292,7 +292,7 @@ module _ (source : Source) (ordered : IsInOrder source) (none : name_faults sour
       let whole = length-locals class m in
       let frame = with_params home (no_frame m.is_static) m.params in
       let next : frame.next ≡ first_number m.is_static + length m.params =
-          next_params home (no_frame m.is_static) m.params in
+      next_params home (no_frame m.is_static) m.params in
       braces_in source ordered.arities n past (record { own = c; is_static = m.is_static }) home
       frame 0 (map (λ p. p.id.name) m.params) m.body
       (params_in ordered.arities n home (no_frame m.is_static) m.params tt (omega (arith, whole)))
@@ -303,9 +303,9 @@ module _ (source : Source) (ordered : IsInOrder source) (none : name_faults sour
   arrivals_are class m =
       by m.is_static (length (map (param_info r) m.params)) (length m.params)
       (length-map m.params (param_info r)) where
-    by : (b : Bool) (n k : ℕ) → n ≡ k → cond b n (suc n) ≡ first_number b + k
-    by true n k same = same ∙ sym (zero-add k)
-    by false n k same = let one : suc k ≡ 1 + k = omega arith in ap suc same ∙ one
+        by : (b : Bool) (n k : ℕ) → n ≡ k → cond b n (suc n) ≡ first_number b + k
+        by true n k same = same ∙ sym (zero-add k)
+        by false n k same = let one : suc k ≡ 1 + k = omega arith in ap suc same ∙ one
 
   body_first : (class : ℕ) (home : Home) (m : Method)
       → SetsFirst (set_by_call (method_info r class m)) (typed_body w home m).body
@@ -343,7 +343,7 @@ module _ (source : Source) (ordered : IsInOrder source) (none : name_faults sour
   method_bodies class n c before (m ∷ ms) stands is apart_names keeps = (
     method_body class n c before ms m stands is apart_names keeps.0,
     method_bodies class n c (before ++ m ∷ []) ms stands
-    (is ∙ sym (append_assoc before (m ∷ []) ms)) apart_names keeps.1,
+        (is ∙ sym (append_assoc before (m ∷ []) ms)) apart_names keeps.1,
   )
 
   -- ---- the source

@@ -273,8 +273,10 @@ module _ (locals : ℕ) where
         → AreInRange locals (called d m from)
     unfolding IsInRange IsFromInRange
     called_within m h from from_in =
-        thrown_within m h from m.throws _ h.throws from_in ((h.opens, (h.closes, from_in)),
-        (h.result, tt))
+        thrown_within m h from m.throws _ h.throws from_in (
+          (h.opens, (h.closes, from_in)),
+          (h.result, tt),
+        )
 
     mutual
       unfolding ExpReads exp IsInRange IsFromInRange
@@ -287,9 +289,12 @@ module _ (locals : ℕ) where
       exp_within (plain.New class m) h = (tt, (ok.birth class, tt))
       exp_within (plain.Local x m) h = (tt, (h, tt))
       exp_within (plain.Static c f m) h = (tt, (ok.field c f, tt))
-      exp_within (plain.Field e c f m) h =
-          (tt, exp_within e h, unless (mark e).sure tested _ _ tested_within
-          (tt, (tt, (ok.field c f, tt))))
+      exp_within (plain.Field e c f m) h = (
+        tt,
+        exp_within e h,
+        unless (mark e).sure tested _ _ tested_within
+            (tt, (tt, (ok.field c f, tt))),
+      )
       exp_within (plain.Input c k m) h = (tt, (ok.channel c k, tt))
       exp_within (plain.Output c k e m) h = (tt, exp_within e h, (tt, tt))
       exp_within (plain.Call c k plain.Absent es m) h =
@@ -307,8 +312,12 @@ module _ (locals : ℕ) where
       exp_within (plain.Binary o a b m) h = (
         tt,
         exp_within a h.0,
-        (second_within o, exp_within b h.1, divides_within o b _
-        (skips_within o _ (tt, (tt, (tt, tt))))),
+        (
+          second_within o,
+          exp_within b h.1,
+          divides_within o b _
+              (skips_within o _ (tt, (tt, (tt, tt)))),
+        ),
       )
 
       args_within : (from : From) (es : TExps) (more : Rules) → IsFromInRange locals from
@@ -336,13 +345,18 @@ module _ (table : Table) (ok : tables.IsInRange table) (locals : ℕ) where
     sta_within (plain.Block ss at p) h = stas_within Entry ss tt h
     sta_within (plain.If e s plain.NoElse at p) h =
         (tt, exp_within locals d within e h.0, (tt, (tt, sta_within s h.1, (tt, tt))))
-    sta_within (plain.If e s (plain.Otherwise t) at p) h =
-        (tt, exp_within locals d within e h.0,
-        (tt, sta_within s h.1, (tt, (tt, sta_within t h.2, (tt, tt)))))
+    sta_within (plain.If e s (plain.Otherwise t) at p) h = (
+      tt,
+      exp_within locals d within e h.0,
+      (tt, sta_within s h.1, (tt, (tt, sta_within t h.2, (tt, tt)))),
+    )
     sta_within (plain.While e s at p) h = (
       exp_within locals d within e h.0,
-      (tt, unless locals (is_forever e) past kind.Normal _ tt
-      (tt, sta_within s h.1, (tt, (tt, (tt, tt))))),
+      (
+        tt,
+        unless locals (is_forever e) past kind.Normal _ tt
+            (tt, sta_within s h.1, (tt, (tt, (tt, tt)))),
+      ),
     )
     sta_within (plain.Try s cs at p) h =
         (tt, sta_within s h.0, (tt, catches_within (sta d s) cs zero h.1))
@@ -357,15 +371,24 @@ module _ (table : Table) (ok : tables.IsInRange table) (locals : ℕ) where
     sta_within (plain.SetLocal x policy e at p) h =
         (tt, exp_within locals d within e h.2, ((h.0, tt), tt))
     sta_within (plain.SetStatic c f e at p) h = (tt, exp_within locals d within e h, (tt, tt))
-    sta_within (plain.SetField o c f e at p) h =
-        (tt, exp_within locals d within o h.0, (tt, exp_within locals d within e h.1, unless locals
-        (mark o).sure _ _ _ tt (tt, tt)))
+    sta_within (plain.SetField o c f e at p) h = (
+      tt,
+      exp_within locals d within o h.0,
+      (
+        tt,
+        exp_within locals d within e h.1,
+        unless locals
+            (mark o).sure _ _ _ tt (tt, tt),
+      ),
+    )
     sta_within (plain.Eval e at p) h = (tt, exp_within locals d within e h, (tt, tt))
     sta_within (plain.When l s plain.NoElse at p) h =
         (tt, ((one_lock l h.0, (within.lock l, tt)), sta_within s h.1, (tt, tt)))
-    sta_within (plain.When l s (plain.Otherwise t) at p) h =
-        ((one_lock l h.0, (within.lock l, tt)), sta_within s h.1,
-        (tt, ((within.lock l, tt), sta_within t h.2, (tt, tt))))
+    sta_within (plain.When l s (plain.Otherwise t) at p) h = (
+      (one_lock l h.0, (within.lock l, tt)),
+      sta_within s h.1,
+      (tt, ((within.lock l, tt), sta_within t h.2, (tt, tt))),
+    )
 
     stas_within : (from : From) (ss : TStas) → IsFromInRange locals from
         → StasInRange table locals ss → AreInRange locals (stas d from ss)
@@ -376,6 +399,8 @@ module _ (table : Table) (ok : tables.IsInRange table) (locals : ℕ) where
     catches_within : (block : Node) (cs : TCatches) (before : ℕ) → CatchesInRange table locals cs
         → AreInRange locals (catches d block cs before)
     catches_within block plain.NoCatch before h = tt
-    catches_within block (plain.Catch class s cs) before h =
-        (caught_within locals (can block (kind.Throw class)) class before, sta_within s h.0,
-        (tt, catches_within block cs (suc before) h.1))
+    catches_within block (plain.Catch class s cs) before h = (
+      caught_within locals (can block (kind.Throw class)) class before,
+      sta_within s h.0,
+      (tt, catches_within block cs (suc before) h.1),
+    )

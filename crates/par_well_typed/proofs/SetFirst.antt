@@ -133,8 +133,11 @@ assigned set (ToField e f) v at p frame h = h
 declared : (set : List ℕ) (frame : Frame) (name : List ℕ) (slot : Slot) (policy : Option ℕ)
     → AreSet set frame → AreSet (frame.next ∷ set) (with_local frame name slot policy)
 declared set frame name slot policy h =
-    of_both (IsLocal (IsSet (frame.next ∷ set))) frame.vars (record { number = frame.next; policy =
-    policy } ∷ []) (more_set frame.next set frame h)
+    of_both (IsLocal (IsSet (frame.next ∷ set))) frame.vars (record {
+      number = frame.next;
+      policy =
+          policy;
+    } ∷ []) (more_set frame.next set frame h)
     (itself frame.next set, tt)
 
 module _ (w : Written) (home : Home) where
@@ -170,9 +173,12 @@ module _ (w : Written) (home : Home) where
     sta_first : (set : List ℕ) (frame : Frame) (p : ℕ) (s : Sta) → AreSet set frame
         → SetsFirst set (typed_sta w home frame p s)
     sta_first set frame p (Block b at) h = braces_first set frame p b h
-    sta_first set frame p (If e b o at) h =
-        (exp_in (IsSet set) home frame (p + 1) e h, braces_first set frame _ b h, else_first set
-        (further frame (braces_locals b)) _ o h)
+    sta_first set frame p (If e b o at) h = (
+      exp_in (IsSet set) home frame (p + 1) e h,
+      braces_first set frame _ b h,
+      else_first set
+          (further frame (braces_locals b)) _ o h,
+    )
     sta_first set frame p (While e b at) h =
         (exp_in (IsSet set) home frame (p + 1) e h, braces_first set frame _ b h)
     sta_first set frame p (Try b cs at) h =
@@ -212,15 +218,17 @@ module _ (w : Written) (home : Home) where
     stas_first set frame p (Then s ss) h = (
       sta_first set frame p s h,
       stas_first (set_first.behind set (typed_sta w home frame p s)) (behind w home s frame) _ ss
-      (after set frame p s h),
+          (after set frame p s h),
     )
 
     catches_first : (set : List ℕ) (frame : Frame) (p : ℕ) (cs : Catches) → AreSet set frame
         → CatchesSetFirst set (typed_catches w home frame p cs)
     catches_first set frame p NoCatch h = tt
-    catches_first set frame p (Catch (On class name b) cs) h =
-        (braces_first set frame p b h, catches_first set
-        (further frame (handler_locals (On class name b))) _ cs h)
+    catches_first set frame p (Catch (On class name b) cs) h = (
+      braces_first set frame p b h,
+      catches_first set
+          (further frame (handler_locals (On class name b))) _ cs h,
+    )
 
 -- the parameters are set
 pub params_set : (n : ℕ) (home : Home) (frame : Frame) (ps : List ParamDecl)

@@ -109,7 +109,7 @@ some_nodes (More e es) is = let one = at_least e in omega (arith, one) where
   at_least (Binary op a b at) = omega arith
 
 channel_size : (o : Option ChannelInfo) (p : Place) (typed_es : TExps) (es : Exps) (k : Mark)
-        (place : ℕ)
+    (place : ℕ)
     → count_fault (channel_arity o) (types.how_many es) place ≡ []
     → args_size typed_es ≤ source.args_nodes es
     → size (through o p typed_es k) ≤ 1 + source.args_nodes es
@@ -120,10 +120,10 @@ channel_size (Some c) p ts es k place none h =
     (λ out. some_nodes es (let same = is_kept (nat_eq (types.how_many es) (way_arity c.is_input)) _
     none in
     let one : way_arity c.is_input ≡ 1 = ap way_arity out in let equal : types.how_many
-        es ≡ way_arity c.is_input = grind (arith, nat_tests) in equal ∙ one))
+    es ≡ way_arity c.is_input = grind (arith, nat_tests) in equal ∙ one))
 
 call_size : (home : Home) (r : meaning.Receiver) (c : Callee) (w : MayTExp) (at q n place : ℕ)
-        (ts : TExps) (es : Exps) (k : Mark)
+    (ts : TExps) (es : Exps) (k : Mark)
     → count_fault (arity home.table c) (types.how_many es) place ≡ [] → receiver_size w ≤ n
     → args_size ts ≤ source.args_nodes es
     → size (call home c (callee_on home r c w (own_this home at q)) ts k) ≤ 1 + n
@@ -134,7 +134,7 @@ call_size home r (Channel p) w at q n place ts es k none on args =
     let one = channel_size (channel_at home.table p) p ts es k place none args in omega (arith, one)
 call_size home r (Method p) w at q n place ts es k none on args =
     let one = method_on_size r (method_is_static (method_at home.table p)) w home at q n on in omega
-        (arith, one, args)
+    (arith, one, args)
 
 number_size : (home : Home) (frame : Frame) (p : ℕ) (e : Exp) → is_number e ≡ true
     → size (typed_exp home frame p e) ≤ source.nodes e
@@ -210,10 +210,10 @@ module _ (home : Home) where
         (none_left (expr_faults home frame.scope e) _ none) in omega (arith, one)
     exp_size frame p (Binary op a b at) none =
         let both = none_left (types.value_faults home frame.scope (operand op) a
-            ++ types.value_faults home frame.scope (operand op) b) _ none in
+        ++ types.value_faults home frame.scope (operand op) b) _ none in
         let left = exp_size frame (p + 1) a (none_left (expr_faults home frame.scope a) _
-            (none_left (types.value_faults home frame.scope (operand op) a)
-            (types.value_faults home frame.scope (operand op) b) both)) in
+        (none_left (types.value_faults home frame.scope (operand op) a)
+        (types.value_faults home frame.scope (operand op) b) both)) in
         let right = exp_size frame (p + 1 + nodes (typed_exp home frame (p + 1) a)) b
         (none_left (expr_faults home frame.scope b) _
         (none_right (types.value_faults home frame.scope (operand op) a)
@@ -235,7 +235,7 @@ module _ (home : Home) where
     args_sizes frame p c k NoExps none = omega arith
     args_sizes frame p c k (More e es) none =
         let here = none_left (types.value_faults home frame.scope (param_at home.table c k) e)
-            (args_faults home frame.scope c (k + 1) es) none in
+        (args_faults home frame.scope c (k + 1) es) none in
         let one = exp_size frame p e (none_left (expr_faults home frame.scope e) _ here) in
         let rest = args_sizes frame (p + nodes (typed_exp home frame p e)) c (k + 1) es
         (none_right (types.value_faults home frame.scope (param_at home.table c k) e)

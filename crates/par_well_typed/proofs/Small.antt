@@ -69,8 +69,7 @@ module _ (source : Source) (ordered : IsInOrder source) (none : all_faults sourc
   unfolding typed_methods methods_faults
   small class n c before [] stands is apart_names few types = tt
   small class n c before (m ∷ ms) stands is apart_names few types =
-      let number = method_number source ordered names class n c before ms m stands is apart_names in
-          (
+      let number = method_number source ordered names class n c before ms m stands is apart_names in (
         (
           method_info r class m,
           record {
@@ -84,7 +83,7 @@ module _ (source : Source) (ordered : IsInOrder source) (none : all_faults sourc
           },
         ),
         small class n c (before ++ m ∷ []) ms stands (is ∙ sym (append_assoc before (m ∷ []) ms))
-        apart_names few.1
+            apart_names few.1
             (none_right (method_faults t (names_of t) class m) (methods_faults t (names_of t) class
             ms) types),
       )
@@ -100,7 +99,7 @@ module _ (source : Source) (ordered : IsInOrder source) (none : all_faults sourc
       let number = class_number source ordered names before rest c is in
       let stands = class_stands source ordered names before rest c is in
       let numbered : class_faults t (names_of t) (Some (length before)) c ≡ [] =
-          ap (λ o. class_faults t (names_of t) o c) (sym number) ∙ types in
+      ap (λ o. class_faults t (names_of t) o c) (sym number) ∙ types in
       subst (λ o. AllByRecursion (IsSmallBody t) (typed_class w t (names_of t) o c)) (sym number)
       (small (length before) stands.0 c [] c.methods stands.1 refl (method_names_differ source
       ordered names c keeps up) few

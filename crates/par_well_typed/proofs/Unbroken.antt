@@ -125,7 +125,7 @@ module _ (source : Source) where
       absurd (cc (sym there ∙ found (bytes_eq name) (λ l. l.id.name) (locks source) None (sym is)))
   lock_at name d (Some i) is there =
       let here : slice_get (locks source) i ≡ Some d =
-          sym (found (bytes_eq name) (λ l. l.id.name) (locks source) (Some i) (sym is)) ∙ there in
+      sym (found (bytes_eq name) (λ l. l.id.name) (locks source) (Some i) (sym is)) ∙ there in
       let end = family_within (length (actors source)) 0 (locks source) i d here in
       let same : number (numbers source).locks name ≡ i = ap (λ o. unwrap_or o 0) is in
       subst (λ n. slice_index_or (numbers source).firsts n 0 + ground_count (length (actors source))
@@ -138,15 +138,15 @@ module _ (source : Source) where
       lock.actors) < length (actors source) ^ length lock.actors
   of_family lock h =
       let each : AllByRecursion (λ n. n < length (actors source))
-          (map (actor_number (numbers source)) lock.actors) =
+      (map (actor_number (numbers source)) lock.actors) =
       all_mapped (λ a. actor_fault (view_behind source []) a ≡ []) (λ n. n < length (actors source))
       (actor_number (numbers source)) lock.actors actor_within h in
       let place = place_within (length (actors source)) (map (actor_number (numbers source))
-          lock.actors) each in
+      lock.actors) each in
       let many : length (numbers source).actors ≡ length (actors source) =
-          length-map (actors source) (λ a. a.name) in
+      length-map (actors source) (λ a. a.name) in
       let count : length (map (actor_number (numbers source)) lock.actors) ≡ length lock.actors =
-          length-map lock.actors (actor_number (numbers source)) in
+      length-map lock.actors (actor_number (numbers source)) in
       subst (λ n. place_in_family n (map (actor_number (numbers source)) lock.actors) < length
       (actors source) ^ length lock.actors) (sym many)
       (subst (λ k. place_in_family (length (actors source)) (map (actor_number (numbers source))
@@ -162,7 +162,7 @@ module _ (source : Source) where
       let end = lock_at lock.id.name d _ refl is in
       let place = of_family lock actors_kept in
       let same : length (actors source) ^ length lock.actors ≡ ground_count (length (actors source))
-          d =
+      d =
       ap (λ k. length (actors source) ^ k) (fits d lock h) in
       omega (arith, end, place, same)
 
@@ -188,9 +188,11 @@ kept_from : (source : Source) (before : List (List ℕ)) (ds : List Declaration)
     → AllByRecursion (IsKept source) ds
 unfolding declarations_faults
 kept_from source before [] h = tt
-kept_from source before (d ∷ ds) h =
-    ((before, none_left _ _ h), kept_from source _ ds
-    (none_right (declaration_faults (view_behind source before) d) _ h))
+kept_from source before (d ∷ ds) h = (
+  (before, none_left _ _ h),
+  kept_from source _ ds
+      (none_right (declaration_faults (view_behind source before) d) _ h),
+)
 
 class_kept : (source : Source) (d : Declaration) → IsKept source d
     → AllByRecursion (IsKeptClass source) (classes_in d)
@@ -245,7 +247,7 @@ pub head_locks : (source : Source) (before : List (List ℕ)) (m : Method)
 head_locks source before m h =
     let v = view_behind source before in
     let up_to_closes = none_left _ (doubles (map (λ t. t.class) m.throws))
-        (none_left _ (flat_map (throw_faults v) m.throws) h) in
+    (none_left _ (flat_map (throw_faults v) m.throws) h) in
     let up_to_opens = none_left _ (flat_map (lock_faults v) m.closes) up_to_closes in
     let up_to_expects = none_left _ (flat_map (lock_faults v) m.opens) up_to_opens in
     record {

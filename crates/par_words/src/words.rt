@@ -87,7 +87,11 @@ fn request_of<'a>(which: Which, matches: &ArgMatches<'a>) -> Option<Request<'a>>
     let values = values(matches)?;
     match which {
         Which::Compiler => {
-            compiler_request(has_flag(matches, "check"), has_flag(matches, "trace"), values)
+            compiler_request(
+                has_flag(matches, "check"),
+                has_flag(matches, "trace"),
+                values,
+            )
         }
         Which::Runner => run_request(values),
     }
