@@ -29,7 +29,11 @@ mod linked_files;
 #[cfg(test)]
 mod machine_runs;
 #[cfg(test)]
+mod meaning;
+#[cfg(test)]
 mod names;
+#[cfg(test)]
+mod observers;
 #[cfg(test)]
 mod outside;
 #[cfg(test)]
@@ -48,5 +52,7 @@ mod source_runs;
 mod table;
 #[cfg(test)]
 mod tokens;
+#[cfg(test)]
+mod trace_lines;
 #[cfg(test)]
 mod typed_trees;

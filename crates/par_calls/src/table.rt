@@ -74,7 +74,7 @@ fn made(alloc: Global, source: &[u8]) -> Result<Result<Table, NameError>, Fail> 
     Ok(build(alloc, &program))
 }
 
-fn table(alloc: Global, source: &[u8]) -> Result<Table, Fail> {
+pub(crate) fn table(alloc: Global, source: &[u8]) -> Result<Table, Fail> {
     match made(alloc, source)? {
         Ok(table) => Ok(table),
         Err(_) => Err(Fail::new("a table is made")),

@@ -16,7 +16,7 @@ use std::alloc::Global;
 use std::rt::HostRuntime;
 use std::test::Fail;
 
-fn typed(alloc: Global, source: &[u8]) -> Result<Typed, Fail> {
+pub(crate) fn typed(alloc: Global, source: &[u8]) -> Result<Typed, Fail> {
     let tokens = lex(alloc, source)?;
     if tokens.len() > 262_144 {
         return Err(Fail::new("too many tokens"));

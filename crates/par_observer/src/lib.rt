@@ -13,5 +13,6 @@ mod tree;
 mod verdict;
 
 pub use error::JudgeError;
+pub use par_alike::alike;
 pub use straight::straight_line;
 pub use verdict::judge;
