@@ -1,0 +1,14 @@
+pub mod Plain
+pub mod Shared
+pub mod Whole
+pub mod Placed
+pub mod Effects
+pub mod Reasons
+pub mod Names
+pub mod Links
+pub mod Operations
+pub mod Standing
+pub mod Uncaught
+pub mod Turns
+pub mod Channels
+pub mod Runs
