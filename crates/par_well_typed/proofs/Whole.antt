@@ -1,7 +1,7 @@
 -- The laws, of whole sources.
 use Rattle.std.proofs.Common.{arith}
 use Rattle.par_resolved.specs.Resolved.{table_of}
-use Rattle.par_well_typed.specs.Laws.{TablesAreInRange, BodiesHaveMethods, SuchBodiesAreOrderly, BodiesAreOrderly, ClassesAndMembersAreNamed, BodiesAreSmall, BodiesMakeObjects, SourcesAreWellTyped}
+use Rattle.par_well_typed.specs.Laws.{TablesAreInRange, BodiesHaveMethods, SuchBodiesAreOrderly, BodiesAreOrderly, ClassesAndMembersAreNamed, BodiesAreSmall, BodiesMakeObjects, TypesFit, SourcesAreWellTyped}
 use Rattle.par_well_typed.specs.Orderly.{HasMethod, IsOrderlyBody}
 use Rattle.par_well_typed.specs.Typed.{bodies_of, written_in}
 use Rattle.par_well_typed.proofs.Lists.{each_is}
@@ -11,6 +11,7 @@ use Rattle.par_well_typed.proofs.Orderly.{orderly_body}
 use Rattle.par_well_typed.proofs.Programs as programs
 use Rattle.par_well_typed.proofs.Small as small
 use Rattle.par_well_typed.proofs.Objects as objects
+use Rattle.par_well_typed.proofs.Fitted as fitted
 use Rattle.par_well_typed.proofs.Unbroken.{names_kept}
 
 pub tables_are_in_range : TablesAreInRange
@@ -39,6 +40,9 @@ bodies_are_small source ordered none types = small.bodies_are_small source order
 pub bodies_make_objects : BodiesMakeObjects
 bodies_make_objects source ordered none types = objects.bodies_make_objects source ordered none types
 
+pub types_fit : TypesFit
+types_fit source ordered none types = fitted.values_fit source ordered none types
+
 pub sources_are_well_typed : SourcesAreWellTyped
 sources_are_well_typed source ordered none types = record {
   in_range = tables_are_in_range source ordered none;
@@ -46,5 +50,6 @@ sources_are_well_typed source ordered none types = record {
   orderly = bodies_are_orderly source ordered none;
   named = classes_and_members_are_named source types;
   making = bodies_make_objects source ordered none types;
+  fitting = types_fit source ordered none types;
   small = bodies_are_small source ordered none types;
 }

@@ -11,6 +11,7 @@ use Rattle.par_well_typed.specs.Tables.{IsInRange}
 use Rattle.par_well_typed.specs.Orderly.{HasMethod, IsOrderlyBody}
 use Rattle.par_well_typed.specs.WellTyped.{NamesMembers, IsWellTyped}
 use Rattle.par_well_typed.specs.Makes.{MakesObjects}
+use Rattle.par_well_typed.specs.Fits.{ValuesFit}
 use Rattle.par_well_typed.specs.Sizes.{IsSmallBody}
 use Rattle.par_sources.specs.Order.{IsInOrder}
 use Rattle.par_well_typed.specs.Typed.{bodies_of}
@@ -59,6 +60,13 @@ BodiesMakeObjects =
     (source : Source) → IsInOrder source → all_faults source ≡ []
     → type_faults (table_of source) source ≡ []
     → AllByRecursion (MakesObjects (table_of source)) (bodies_of source)
+
+-- the types of values fit where they stand
+abbrev pub TypesFit : Type 0
+TypesFit =
+    (source : Source) → IsInOrder source → all_faults source ≡ []
+    → type_faults (table_of source) source ≡ []
+    → AllByRecursion (ValuesFit (table_of source)) (bodies_of source)
 
 -- the bodies of a source that breaks no rule on names and types and exceeds no limit are well typed
 abbrev pub SourcesAreWellTyped : Type 0

@@ -5,6 +5,7 @@ pub mod Sizes
 pub mod Orderly
 pub mod Members
 pub mod Makes
+pub mod Fits
 pub mod WellTyped
 pub mod Typed
 pub mod Laws

@@ -7,6 +7,7 @@ use Rattle.par_well_typed.specs.Tables.{IsInRange}
 use Rattle.par_well_typed.specs.Orderly.{HasMethod, IsOrderlyBody}
 use Rattle.par_well_typed.specs.Members.{StaNames}
 use Rattle.par_well_typed.specs.Makes.{MakesObjects}
+use Rattle.par_well_typed.specs.Fits.{ValuesFit}
 use Rattle.par_well_typed.specs.Sizes.{IsSmallBody}
 
 abbrev pub NamesMembers : Table → Body → Type 0
@@ -15,11 +16,12 @@ NamesMembers table b = StaNames table b.body
 -- what later layers may ask of the bodies of a program, over its table: the table's numbers are in
 -- range, each body is that of a method, obeys what the rules of flow ask of numbers, names the
 -- classes and members that it should, makes objects of ordinary classes, has `this` where there is a
--- receiver, and is within the limits
+-- receiver, has values of the types that fit where they stand, and is within the limits
 pub record IsWellTyped (table : Table) (bodies : List Body) : Type 0 where
   pub in_range : IsInRange table
   pub have_methods : AllByRecursion (HasMethod table) bodies
   pub orderly : AllByRecursion (IsOrderlyBody table) bodies
   pub named : AllByRecursion (NamesMembers table) bodies
   pub making : AllByRecursion (MakesObjects table) bodies
+  pub fitting : AllByRecursion (ValuesFit table) bodies
   pub small : AllByRecursion (IsSmallBody table) bodies

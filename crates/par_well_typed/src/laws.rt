@@ -3,7 +3,7 @@
 ghost use Rattle.par_well_typed.specs.Laws.{TablesAreInRange, BodiesHaveMethods};
 ghost use Rattle.par_well_typed.specs.Laws.{SuchBodiesAreOrderly, BodiesAreOrderly};
 ghost use Rattle.par_well_typed.specs.Laws.{ClassesAndMembersAreNamed, BodiesAreSmall};
-ghost use Rattle.par_well_typed.specs.Laws.{BodiesMakeObjects, SourcesAreWellTyped};
+ghost use Rattle.par_well_typed.specs.Laws.{BodiesMakeObjects, TypesFit, SourcesAreWellTyped};
 
 /// In the table of a source that breaks no rule on names and exceeds no limit all numbers are in
 /// range, and there are at most 256 policies and 256 ground locks.
@@ -48,6 +48,14 @@ pub fn bodies_are_small()
 /// `this` stands in instance methods alone, also where it is not written.
 pub fn bodies_make_objects()
     ensures { BodiesMakeObjects }
+{}
+
+/// In the typed bodies of such a source each value has a type that fits where it stands: a test is
+/// a boolean, an operand is what its operator takes, and an assigned value, an argument and a result
+/// are what is declared, where null fits each class. Only what is never null is given to a local or
+/// a parameter that is declared so. The locals of a method begin with `this` and the parameters.
+pub fn types_fit()
+    ensures { TypesFit }
 {}
 
 /// All of the above holds of the typed bodies of a source that breaks no rule on names and types and
