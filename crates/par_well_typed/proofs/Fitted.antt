@@ -105,11 +105,11 @@ module _ (names : List (List ℕ)) (listed : List Ty) (sures : List Bool) where
 -- ---- what stands before a body
 
 -- no rule on names is broken in the types of the result and the parameters
-record KnowsTypes (v : View) (m : Method) : Type 0 where
+pub record KnowsTypes (v : View) (m : Method) : Type 0 where
   pub result : result_fault v m.result ≡ []
   pub params : AllByRecursion (λ p. param_faults v p ≡ []) m.params
 
-head_types : (v : View) (m : Method) → head_faults v m ≡ [] → KnowsTypes v m
+pub head_types : (v : View) (m : Method) → head_faults v m ≡ [] → KnowsTypes v m
 head_types v m h =
     let to_closes = none_left _ (doubles (map (λ t. t.class) m.throws))
     (none_left _ (flat_map (throw_faults v) m.throws) h) in

@@ -24,5 +24,6 @@ pub mod BodySizes
 pub mod Small
 pub mod Objects
 pub mod Fitted
+pub mod Texts
 pub mod Whole
 mod Examples

@@ -2,6 +2,7 @@ pub mod Tables
 pub mod Numbers
 pub mod SetFirst
 pub mod Sizes
+pub mod Texts
 pub mod Orderly
 pub mod Members
 pub mod Makes

@@ -3,7 +3,8 @@
 ghost use Rattle.par_well_typed.specs.Laws.{TablesAreInRange, BodiesHaveMethods};
 ghost use Rattle.par_well_typed.specs.Laws.{SuchBodiesAreOrderly, BodiesAreOrderly};
 ghost use Rattle.par_well_typed.specs.Laws.{ClassesAndMembersAreNamed, BodiesAreSmall};
-ghost use Rattle.par_well_typed.specs.Laws.{BodiesMakeObjects, TypesFit, SourcesAreWellTyped};
+ghost use Rattle.par_well_typed.specs.Laws.{BodiesMakeObjects, TypesFit};
+ghost use Rattle.par_well_typed.specs.Laws.{TablesHaveTexts, SourcesAreWellTyped};
 
 /// In the table of a source that breaks no rule on names and exceeds no limit all numbers are in
 /// range, and there are at most 256 policies and 256 ground locks.
@@ -58,8 +59,15 @@ pub fn types_fit()
     ensures { TypesFit }
 {}
 
+/// The names of the declared classes in the table of a source that breaks no rule on names, those of
+/// their members and the descriptors of these have as many bytes as those of the source.
+pub fn tables_have_texts()
+    ensures { TablesHaveTexts }
+{}
+
 /// All of the above holds of the typed bodies of a source that breaks no rule on names and types and
-/// exceeds no limit: they are well typed over its table.
+/// exceeds no limit: they are well typed over its table, where its names and descriptors have no
+/// more bytes than a source may have.
 pub fn sources_are_well_typed()
     ensures { SourcesAreWellTyped }
 {}
