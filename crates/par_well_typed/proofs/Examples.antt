@@ -7,10 +7,11 @@ use Rattle.par_typed.specs.declared.table.FieldInfo.{FieldInfo}
 use Rattle.par_typed.specs.declared.table.MethodInfo.{MethodInfo}
 use Rattle.par_typed.specs.declared.table.ClassInfo.{ClassInfo}
 use Rattle.par_typed.specs.declared.table.Table.{Table}
-use Rattle.par_typed.specs.Plain.{Mark, mark, Int, Boolean, Null, Local, TSta, Block, SetLocal, SetStatic, Then, End}
+use Rattle.par_typed.specs.Plain.{Mark, mark, Int, Boolean, Null, Local, TSta, Block, Break, SetLocal, SetStatic, Then, End}
 use Rattle.par_well_typed.specs.Orderly.{IsBodyOf}
 use Rattle.par_well_typed.specs.Members.{ExpNames, StaNames}
 use Rattle.par_well_typed.specs.Fits.{ExpFits, StaFits}
+use Rattle.par_well_typed.specs.Control.{StaReached}
 use Rattle.par_typed.specs.Nodes.{nodes, stmt_nodes}
 use Rattle.par_annotate.specs.Points.{count_from, points, stmt_points}
 use Rattle.par_well_typed.specs.SetFirst.{SetsFirst, behind}
@@ -100,6 +101,11 @@ no_null : StaFits table 0 (ty.Class 0 ∷ []) (true ∷ []) ty.Void (SetLocal 0 
     → ⊥
 unfolding StaFits mark
 no_null h = let same : ◌≡◌ {A = Bool} false true = h.0.1 in cc same
+
+-- a break that stands in no loop
+no_loop : StaReached false (Break 0 0) → ⊥
+unfolding StaReached
+no_loop h = cc h
 
 -- a local that the method does not have is refused
 no_local : StaInRange table 0 (body 0) → ⊥

@@ -166,7 +166,7 @@ module _ (source : Source) (ordered : IsInOrder source) (none : all_faults sourc
         → result_written (names_of t) (Some y) ≡ Some (type_of r.classes y)
     type_is y kept = written_is w source class n c gives stands past m.is_static listed sures y kept
 
-    result_by : (o : Option TypeTree) → result_fault v o ≡ []
+    pub result_by : (o : Option TypeTree) → result_fault v o ≡ []
         → result_written (names_of t) o ≡ Some (result_of r.classes o)
     unfolding result_fault result_of
     result_by None kept = refl

@@ -24,6 +24,8 @@ pub mod BodySizes
 pub mod Small
 pub mod Objects
 pub mod Fitted
+pub mod Completing
+pub mod Reached
 pub mod Texts
 pub mod Whole
 mod Examples

@@ -13,6 +13,7 @@ use Rattle.par_well_typed.specs.Orderly.{HasMethod, IsOrderlyBody}
 use Rattle.par_well_typed.specs.WellTyped.{NamesMembers, IsWellTyped}
 use Rattle.par_well_typed.specs.Makes.{MakesObjects}
 use Rattle.par_well_typed.specs.Fits.{ValuesFit}
+use Rattle.par_well_typed.specs.Control.{IsControlled}
 use Rattle.par_well_typed.specs.Sizes.{IsSmallBody}
 use Rattle.par_well_typed.specs.Texts.{table_texts}
 use Rattle.par_sources.specs.Order.{IsInOrder}
@@ -70,6 +71,14 @@ TypesFit =
     (source : Source) → IsInOrder source → all_faults source ≡ []
     → type_faults (table_of source) source ≡ []
     → AllByRecursion (ValuesFit (table_of source)) (bodies_of source)
+
+-- each statement is reached, a break and a continue stand in a loop, and nothing comes to the end
+-- of a body that has a result
+abbrev pub BodiesAreControlled : Type 0
+BodiesAreControlled =
+    (source : Source) → IsInOrder source → all_faults source ≡ []
+    → type_faults (table_of source) source ≡ []
+    → AllByRecursion (IsControlled (table_of source)) (bodies_of source)
 
 -- the names and descriptors of a table have as many bytes as those of its source
 abbrev pub TablesHaveTexts : Type 0

@@ -7,6 +7,7 @@ pub mod Orderly
 pub mod Members
 pub mod Makes
 pub mod Fits
+pub mod Control
 pub mod WellTyped
 pub mod Typed
 pub mod Laws

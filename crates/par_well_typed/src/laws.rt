@@ -4,7 +4,8 @@ ghost use Rattle.par_well_typed.specs.Laws.{TablesAreInRange, BodiesHaveMethods}
 ghost use Rattle.par_well_typed.specs.Laws.{SuchBodiesAreOrderly, BodiesAreOrderly};
 ghost use Rattle.par_well_typed.specs.Laws.{ClassesAndMembersAreNamed, BodiesAreSmall};
 ghost use Rattle.par_well_typed.specs.Laws.{BodiesMakeObjects, TypesFit};
-ghost use Rattle.par_well_typed.specs.Laws.{TablesHaveTexts, SourcesAreWellTyped};
+ghost use Rattle.par_well_typed.specs.Laws.{BodiesAreControlled, TablesHaveTexts};
+ghost use Rattle.par_well_typed.specs.Laws.{SourcesAreWellTyped};
 
 /// In the table of a source that breaks no rule on names and exceeds no limit all numbers are in
 /// range, and there are at most 256 policies and 256 ground locks.
@@ -59,8 +60,14 @@ pub fn types_fit()
     ensures { TypesFit }
 {}
 
-/// The names of the declared classes in the table of a source that breaks no rule on names, those of
-/// their members and the descriptors of these have as many bytes as those of the source.
+/// In the typed bodies of such a source each statement is reached, a break and a continue stand in
+/// a loop, and control does not come to the end of a body that has a result.
+pub fn bodies_are_controlled()
+    ensures { BodiesAreControlled }
+{}
+
+/// The names of the declared classes in the table of a source that breaks no rule on names, those
+/// of their members and the descriptors of these have as many bytes as those of the source.
 pub fn tables_have_texts()
     ensures { TablesHaveTexts }
 {}
