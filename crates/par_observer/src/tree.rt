@@ -11,6 +11,7 @@ ghost use Rattle.par_resolved.specs.Resolved.{table_of};
 ghost use Rattle.par_faults.specs.Faults.{all_faults};
 ghost use Rattle.par_sources.specs.Numbers.{SourceHasNumbers};
 ghost use Rattle.par_sources.specs.Order.{IsInOrder};
+ghost use Rattle.par_sources.specs.Sizes.{source_texts};
 ghost use Rattle.par_observer.specs.Judgements.{IsAcceptedAs, IsUnread};
 ghost use Rattle.par_typed.specs.Shown.{bodies};
 ghost use Rattle.par_well_typed.specs.WellTyped.{IsWellTyped};
@@ -55,6 +56,7 @@ fn passes(alloc: Global, tree: &Tree) -> Result<Accepted, JudgeError>
     requires size { source_size (tree_of_program tree.now) ≤ LONGEST_SOURCE }
     requires numbers { SourceHasNumbers (tree_of_program tree.now) }
     requires order { IsInOrder (tree_of_program tree.now) }
+    requires texts { source_texts (tree_of_program tree.now) ≤ LONGEST_SOURCE }
     ensures accepted { IfOk result (λ accepted.
         IsAcceptedTreeAs (tree_of_program tree.now) accepted.typed) }
     ensures refused { IfErr result (IsTreeRefused (tree_of_program tree.now)) }
@@ -89,6 +91,7 @@ fn typed_of(alloc: Global, tree: &Tree) -> Result<Typed, JudgeError>
     requires size { source_size (tree_of_program tree.now) ≤ LONGEST_SOURCE }
     requires numbers { SourceHasNumbers (tree_of_program tree.now) }
     requires order { IsInOrder (tree_of_program tree.now) }
+    requires texts { source_texts (tree_of_program tree.now) ≤ LONGEST_SOURCE }
     ensures typed { IfOk result (IsTypedTree (tree_of_program tree.now)) }
     ensures well_typed { IfOk result (λ typed. IsWellTyped typed.table (bodies typed.bodies)) }
     ensures refused { IfErr result (IsTreeRefused (tree_of_program tree.now)) }

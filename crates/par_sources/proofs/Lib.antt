@@ -5,3 +5,7 @@ pub mod Places
 pub mod Standing
 pub mod Alternatives
 pub mod Order
+pub mod Gaps
+pub mod Costs
+pub mod Weights
+pub mod Short

@@ -1,5 +1,5 @@
 -- The tree of a source has what its tokens and the grammar give.
-use Rattle.std.specs.Prelude.{ℕ, List}
+use Rattle.std.specs.Prelude.{ℕ, ◌≤◌, List, length}
 use Rattle.par_lexer.specs.declared.token.Token.{Token}
 use Rattle.par_lexer.specs.Tokens.{HasTokens}
 use Rattle.par_lexer.specs.Spans.{IsLaid}
@@ -7,6 +7,7 @@ use Rattle.par_tree.specs.Plain.{Source}
 use Rattle.par_places.specs.Law.{ComesToTree}
 use Rattle.par_sources.specs.Numbers.{SourceHasNumbers}
 use Rattle.par_sources.specs.Order.{IsInOrder}
+use Rattle.par_sources.specs.Sizes.{source_texts}
 
 -- its numbers are those of tokens
 abbrev pub TreesHaveNumbers : Type 0
@@ -19,3 +20,9 @@ abbrev pub TreesAreInOrder : Type 0
 TreesAreInOrder =
     (bytes : List ℕ) (tokens : List Token) (tree : Source)
     → IsLaid bytes tokens → ComesToTree tokens tree → IsInOrder tree
+
+-- its names and descriptors have no more bytes than its source
+abbrev pub TreesAreShort : Type 0
+TreesAreShort =
+    (bytes : List ℕ) (tokens : List Token) (tree : Source)
+    → HasTokens bytes tokens → ComesToTree tokens tree → source_texts tree ≤ length bytes

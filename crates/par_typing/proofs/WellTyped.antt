@@ -1,11 +1,13 @@
 -- The typed program of a source is well typed.
-use Rattle.std.proofs.Common.{◌≡◌, List, [], sym, ap, subst, ◌∙◌}
+use Rattle.std.proofs.Common.{◌≡◌, ◌≤◌, List, [], sym, ap, subst, ◌∙◌}
+use Rattle.par_lexer.specs.declared.cut.TheConstants.{LONGEST_SOURCE}
 use Rattle.par_tree.specs.Plain.{Source}
 use Rattle.par_typed.specs.declared.table.Table.{Table}
 use Rattle.par_typed.specs.Plain.{Body}
 use Rattle.par_types.specs.Program.{type_faults}
 use Rattle.par_annotate.specs.Bodies.{typed_program}
 use Rattle.par_sources.specs.Order.{IsInOrder}
+use Rattle.par_sources.specs.Sizes.{source_texts}
 use Rattle.par_resolved.specs.Resolved.{table_of}
 use Rattle.par_faults.specs.Faults.{all_faults}
 use Rattle.par_well_typed.specs.WellTyped.{IsWellTyped}
@@ -13,11 +15,12 @@ use Rattle.par_well_typed.proofs.Whole.{sources_are_well_typed}
 use Rattle.par_typing.specs.Typed.{written}
 
 pub well_typed : (table : Table) (source : Source) (found : List Body) → all_faults source ≡ []
-    → IsInOrder source → table ≡ table_of source → type_faults table source ≡ []
+    → IsInOrder source → source_texts source ≤ LONGEST_SOURCE → table ≡ table_of source
+    → type_faults table source ≡ []
     → found ≡ typed_program (written source) table source → IsWellTyped table found
-well_typed table source found named ordered is types made =
+well_typed table source found named ordered short is types made =
     let right = subst (λ t. type_faults t source ≡ []) is types in
-    let whole = sources_are_well_typed source ordered named right in
+    let whole = sources_are_well_typed source ordered named right short in
     let same = made ∙ ap (λ t. typed_program (written source) t source) is in
     subst (λ t. IsWellTyped t found) (sym is)
     (subst (IsWellTyped (table_of source)) (sym same) whole)

@@ -1,6 +1,7 @@
 //! The typed program of a program that breaks no rule on types.
 
-ghost use Rattle.std.specs.Prelude.{◌≡◌, [], IfOk, IfErr};
+ghost use Rattle.std.specs.Prelude.{◌≡◌, ◌≤◌, [], IfOk, IfErr};
+ghost use Rattle.par_lexer.specs.declared.cut.TheConstants.{LONGEST_SOURCE};
 ghost use Rattle.par_tree.specs.Shown.{source};
 ghost use Rattle.par_typed.specs.Shown.{bodies};
 ghost use Rattle.par_types.specs.Program.{type_faults};
@@ -12,6 +13,7 @@ ghost use Rattle.par_resolved.specs.Seen.{known_seen};
 ghost use Rattle.par_faults.specs.Faults.{all_faults};
 ghost use Rattle.par_sources.specs.Numbers.{SourceHasNumbers};
 ghost use Rattle.par_sources.specs.Order.{IsInOrder};
+ghost use Rattle.par_sources.specs.Sizes.{source_texts};
 ghost use Rattle.par_well_typed.specs.WellTyped.{IsWellTyped};
 ghost use Rattle.par_typing.specs.Typed.{IsTyped, IsRefused, written};
 
@@ -76,6 +78,7 @@ pub fn type_program(alloc: Global, table: Table, program: &Program) -> Result<Ty
     requires tabled { table ≡ table_of (source program.now) }
     requires numbers { SourceHasNumbers (source program.now) }
     requires ordered { IsInOrder (source program.now) }
+    requires texts { source_texts (source program.now) ≤ LONGEST_SOURCE }
     ensures typed { IfOk result (IsTyped table (source program.now)) }
     ensures well_typed { IfOk result (λ typed. IsWellTyped typed.table (bodies typed.bodies)) }
     ensures refused { IfErr result (IsRefused (type_faults table (source program.now))) }

@@ -188,6 +188,24 @@ module _ (P : ℕ → Type 0) where
 
 -- ---- statements
 
+pub next-behind : (w : Written) (home : Home) (s : Sta) (frame : Frame)
+    → (behind w home s frame).next ≡ frame.next + locals_in s
+unfolding behind locals_in
+next-behind w home (Block b at) frame = refl
+next-behind w home (If e b o at) frame = refl
+next-behind w home (While e b at) frame = refl
+next-behind w home (Try b cs at) frame = refl
+next-behind w home (Return e at) frame = sym (add-zero frame.next)
+next-behind w home (Break at) frame = sym (add-zero frame.next)
+next-behind w home (Continue at) frame = sym (add-zero frame.next)
+next-behind w home (Throw class at) frame = sym (add-zero frame.next)
+next-behind w home (Open lock at) frame = sym (add-zero frame.next)
+next-behind w home (Close lock at) frame = sym (add-zero frame.next)
+next-behind w home (Declare local at) frame = refl
+next-behind w home (Assign target value at) frame = sym (add-zero frame.next)
+next-behind w home (Do call at) frame = sym (add-zero frame.next)
+next-behind w home (When lock b o at) frame = refl
+
 module _ (source : Source) (arities : AllByRecursion (λ lock. lock.arity ≤ 2) (locks source))
     (n : ℕ) where
   abbrev t : Table
@@ -281,24 +299,6 @@ module _ (source : Source) (arities : AllByRecursion (λ lock. lock.arity ≤ 2)
   assignment_in (ToField e f) v at p h k = (h, k)
 
   -- ---- behind a statement
-
-  next-behind : (home : Home) (s : Sta) (frame : Frame)
-      → (behind w home s frame).next ≡ frame.next + locals_in s
-  unfolding behind locals_in
-  next-behind home (Block b at) frame = refl
-  next-behind home (If e b o at) frame = refl
-  next-behind home (While e b at) frame = refl
-  next-behind home (Try b cs at) frame = refl
-  next-behind home (Return e at) frame = sym (add-zero frame.next)
-  next-behind home (Break at) frame = sym (add-zero frame.next)
-  next-behind home (Continue at) frame = sym (add-zero frame.next)
-  next-behind home (Throw class at) frame = sym (add-zero frame.next)
-  next-behind home (Open lock at) frame = sym (add-zero frame.next)
-  next-behind home (Close lock at) frame = sym (add-zero frame.next)
-  next-behind home (Declare local at) frame = refl
-  next-behind home (Assign target value at) frame = sym (add-zero frame.next)
-  next-behind home (Do call at) frame = sym (add-zero frame.next)
-  next-behind home (When lock b o at) frame = refl
 
   behind_in : (home : Home) (s : Sta) (frame : Frame) → AreVars frame → frame.next + locals_in s ≤ n
       → AreVars (behind w home s frame)
@@ -415,7 +415,7 @@ module _ (source : Source) (arities : AllByRecursion (λ lock. lock.arity ≤ 2)
       stas_in frame p scope (Then s ss) h room none =
           let here = first_room frame.next (locals_in s) (all_locals ss) room in
           let on : (behind w home s frame).next + all_locals ss ≤ n =
-          subst (λ k. k + all_locals ss ≤ n) (sym (next-behind home s frame))
+          subst (λ k. k + all_locals ss ≤ n) (sym (next-behind w home s frame))
           (second_room frame.next (locals_in s) (all_locals ss) room) in (
             sta_in frame p scope s h here (none_left (stmt_faults v own scope s) _ none),
             stas_in (behind w home s frame) _ (declares s scope) ss (behind_in home s frame h here)

@@ -1,14 +1,17 @@
 -- Worked bodies, over a table of one class with a static method.
-use Rattle.std.proofs.Common.{ℕ, ◌<◌, pos, true, false, [], ◌∷◌, None, refl, arith}
+use Rattle.std.proofs.Common.{◌≡◌, ℕ, ◌<◌, pos, Bool, true, false, [], ◌∷◌, None, refl, arith}
 use Rattle.std.specs.Prelude.{codes}
+use Rattle.par_typed.specs.declared.ty.Ty.{Ty}
 use Rattle.par_typed.specs.declared.ty.Ty.TheVariants as ty
 use Rattle.par_typed.specs.declared.table.FieldInfo.{FieldInfo}
 use Rattle.par_typed.specs.declared.table.MethodInfo.{MethodInfo}
 use Rattle.par_typed.specs.declared.table.ClassInfo.{ClassInfo}
 use Rattle.par_typed.specs.declared.table.Table.{Table}
-use Rattle.par_typed.specs.Plain.{Mark, Int, Local, TSta, Block, SetLocal, SetStatic, Then, End}
+use Rattle.par_typed.specs.Plain.{Mark, mark, Int, Boolean, Null, Local, TSta, Block, Break, SetLocal, SetStatic, Then, End}
 use Rattle.par_well_typed.specs.Orderly.{IsBodyOf}
 use Rattle.par_well_typed.specs.Members.{ExpNames, StaNames}
+use Rattle.par_well_typed.specs.Fits.{ExpFits, StaFits}
+use Rattle.par_well_typed.specs.Control.{StaReached}
 use Rattle.par_typed.specs.Nodes.{nodes, stmt_nodes}
 use Rattle.par_annotate.specs.Points.{count_from, points, stmt_points}
 use Rattle.par_well_typed.specs.SetFirst.{SetsFirst, behind}
@@ -79,6 +82,30 @@ named = (tt, ((refl, tt), tt))
 no_class : StaNames table (body 7) → ⊥
 unfolding table body shop got number StaNames ExpNames
 no_class h = h.1.0.0
+
+-- its values fit
+fits : StaFits table 0 (ty.Int ∷ []) (false ∷ []) ty.Void (body 0)
+unfolding table body shop got number StaFits ExpFits mark
+fits = (((refl, tt), (refl, refl)), (((refl, tt), (refl, refl)), tt))
+
+-- `got = true;`, and null for a local that is never null
+
+abbrev of : Ty → Mark
+of t = record { at = 0; point = 1; ty = t; sure = false }
+
+no_boolean : StaFits table 0 [] [] ty.Void (SetStatic 0 0 (Boolean true (of ty.Boolean)) 0 0) → ⊥
+unfolding table shop got StaFits mark
+no_boolean h = let same : ◌≡◌ {A = Ty} ty.Boolean ty.Int = h.0.0 in cc same
+
+no_null : StaFits table 0 (ty.Class 0 ∷ []) (true ∷ []) ty.Void (SetLocal 0 None (Null (of ty.Null)) 0 0)
+    → ⊥
+unfolding StaFits mark
+no_null h = let same : ◌≡◌ {A = Bool} false true = h.0.1 in cc same
+
+-- a break that stands in no loop
+no_loop : StaReached false (Break 0 0) → ⊥
+unfolding StaReached
+no_loop h = cc h
 
 -- a local that the method does not have is refused
 no_local : StaInRange table 0 (body 0) → ⊥

@@ -15,10 +15,17 @@ pub mod Named
 pub mod NamedStatements
 pub mod Own
 pub mod Makes
+pub mod Known
+pub mod Fitting
 pub mod MakesStatements
+pub mod FittingStatements
 pub mod Sizes
 pub mod BodySizes
 pub mod Small
 pub mod Objects
+pub mod Fitted
+pub mod Completing
+pub mod Reached
+pub mod Texts
 pub mod Whole
 mod Examples

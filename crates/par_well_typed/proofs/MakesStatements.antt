@@ -64,7 +64,7 @@ pub further_known : (frame : Frame) (locals : List (List ℕ)) (n : ℕ) → Kno
     → Knows (further frame n) locals
 further_known frame locals n knows = record { names = knows.names; vars = knows.vars }
 
-behind_known : (w : Written) (home : Home) (s : Sta) (frame : Frame) (locals : List (List ℕ))
+pub behind_known : (w : Written) (home : Home) (s : Sta) (frame : Frame) (locals : List (List ℕ))
     → Knows frame locals → Knows (behind w home s frame) (rules.declares s locals)
 unfolding behind
 behind_known w home (Block b at) frame locals knows = further_known frame locals _ knows

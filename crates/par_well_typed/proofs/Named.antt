@@ -43,7 +43,7 @@ use Rattle.par_well_typed.proofs.Members.{IsThere, PlaceOf, Selects, Calls, sele
 
 -- ---- marks
 
-mark-name : (home : Home) (x : Option Var) (f : Option Place) (at p : ℕ) (k : Mark)
+pub mark-name : (home : Home) (x : Option Var) (f : Option Place) (at p : ℕ) (k : Mark)
     → mark (name_typed home x f at p k) ≡ k
 unfolding mark
 mark-name home (Some x) f at p k = refl
@@ -53,12 +53,12 @@ mark-name home None (Some f) at p k = by (field_is_static (field_at home.table f
   by true = refl
   by false = refl
 
-mark-negation : (o : Option ℕ) (e : TExp) (k : Mark) → mark (negation o e k) ≡ k
+pub mark-negation : (o : Option ℕ) (e : TExp) (k : Mark) → mark (negation o e k) ≡ k
 unfolding mark
 mark-negation None e k = refl
 mark-negation (Some n) e k = refl
 
-mark-selection : (r : Receiver) (f : Option Place) (e : TExp) (k : Mark)
+pub mark-selection : (r : Receiver) (f : Option Place) (e : TExp) (k : Mark)
     → mark (selection r f e k) ≡ k
 unfolding mark
 mark-selection r None e k = refl
@@ -66,7 +66,7 @@ mark-selection Own (Some f) e k = refl
 mark-selection (Class c) (Some f) e k = refl
 mark-selection (Object t) (Some f) e k = refl
 
-mark-call : (home : Home) (c : Callee) (o : MayTExp) (es : TExps) (k : Mark)
+pub mark-call : (home : Home) (c : Callee) (o : MayTExp) (es : TExps) (k : Mark)
     → mark (call home c o es k) ≡ k
 unfolding mark
 mark-call home Unknown o es k = refl
@@ -142,7 +142,7 @@ is_before home scope (Binary op a b at) t = refl
 
 -- ---- arguments
 
-typed_many : (home : Home) (frame : Frame) (p : ℕ) (es : Exps)
+pub typed_many : (home : Home) (frame : Frame) (p : ℕ) (es : Exps)
     → how_many (typed_args home frame p es) ≡ types.how_many es
 unfolding typed_args
 typed_many home frame p NoExps = refl
@@ -150,7 +150,7 @@ typed_many home frame p (More e es) =
     let rest = typed_many home frame (p + nodes (typed_exp home frame p e)) es in
     let one : suc (types.how_many es) ≡ 1 + types.how_many es = omega arith in ap suc rest ∙ one
 
-many_kept : (o : Option MethodInfo) (n at : ℕ) → IsThere o → count_fault (method_arity o) n at ≡ []
+pub many_kept : (o : Option MethodInfo) (n at : ℕ) → IsThere o → count_fault (method_arity o) n at ≡ []
     → MayBe (λ i. n ≡ length i.params) o
 unfolding count_fault
 many_kept None n at h none = tt

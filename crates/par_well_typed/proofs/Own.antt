@@ -108,9 +108,9 @@ module _ (source : Source) (class n : ℕ) (c : Class) (result : Option Ty) wher
 
     -- ---- methods
 
-    -- a method is as static as the name says
+    -- a method is as static as the name says, and what is unknown is so for names as well
     abbrev pub IsAsStatic : List ℕ → Callee → Type 0
-    IsAsStatic x callee.Unknown = Unit {0}
+    IsAsStatic x callee.Unknown = callee_named c x ≡ None
     IsAsStatic x (callee.Channel p) = Unit {0}
     IsAsStatic x (callee.Method p) = callee_named c x ≡ method_static (method_at t p)
 
@@ -131,8 +131,14 @@ module _ (source : Source) (class n : ℕ) (c : Class) (result : Option Ty) wher
         → number_in (channels_in (slice_get (names_of t).members class)) x ≡ o
         → number_in (methods_in (slice_get (names_of t).members class)) x ≡ p
         → IsAsStatic x (channel_or_method class o p)
+    unfolding earlier_callee
     callee_by x (Some k) p is and = tt
-    callee_by x None None is and = tt
+    callee_by x None None is and =
+        let channel : channel_named c x ≡ None =
+        found (bytes_eq x) (λ k. k.id.name) c.channels None (sym is ∙ channel_number x) in
+        let method : method_named c x ≡ None =
+        found (bytes_eq x) (λ m. m.id.name) c.methods None (sym and ∙ method_number x) in
+        ap (λ o. earlier_callee o (method_named c x)) channel ∙ ap (earlier_callee None) method
     callee_by x None (Some k) is and =
         let channel : channel_named c x ≡ None =
         found (bytes_eq x) (λ k. k.id.name) c.channels None (sym is ∙ channel_number x) in

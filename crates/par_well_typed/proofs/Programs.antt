@@ -61,7 +61,7 @@ both xs ys m n one other = count-append xs ys ∙ ap (λ k. k + count ys) one �
 mutual
   unfolding stmt_types inside locals_in
 
-  counts : (s : Sta) → count (s ∷ inside s) ≡ locals_in s
+  pub counts : (s : Sta) → length (flat_map stmt_types (s ∷ inside s)) ≡ locals_in s
   counts (Block b at) = counts_braces b
   counts (If e b o at) = both (in_braces b) (in_else o) _ _ (counts_braces b) (counts_else o)
   counts (While e b at) = counts_braces b
@@ -99,16 +99,16 @@ mutual
   counts_catches (Catch c cs) =
       both (in_handler c) (in_catches cs) _ _ (counts_handler c) (counts_catches cs)
 
-  counts_handler : (c : Handler) → count (in_handler c) ≡ handler_locals c
+  pub counts_handler : (c : Handler) → length (flat_map stmt_types (in_handler c)) ≡ handler_locals c
   counts_handler (On class name b) = counts_braces b
 
 -- ---- what stands at a place
 
-at_length : {A : Type 0} (xs ys : List A) (y : A) → slice_get (xs ++ y ∷ ys) (length xs) ≡ Some y
+pub at_length : {A : Type 0} (xs ys : List A) (y : A) → slice_get (xs ++ y ∷ ys) (length xs) ≡ Some y
 at_length [] ys y = refl
 at_length (x ∷ xs) ys y = at_length xs ys y
 
-map-map : {A B C : Type 0} (f : B → C) (g : A → B) (xs : List A)
+pub map-map : {A B C : Type 0} (f : B → C) (g : A → B) (xs : List A)
     → map f (map g xs) ≡ map (λ x. f (g x)) xs
 map-map f g [] = refl
 map-map f g (x ∷ xs) = ap (λ ys. f (g x) ∷ ys) (map-map f g xs)
@@ -259,7 +259,7 @@ module _ (source : Source) (ordered : IsInOrder source) (none : name_faults sour
         (with_local_in source arities n frame p.id.name (param_slot home p) None h
         (omega (arith, room))) (omega (arith, room))
 
-  next_params : (home : Home) (frame : Frame) (ps : List ParamDecl)
+  pub next_params : (home : Home) (frame : Frame) (ps : List ParamDecl)
       → (with_params home frame ps).next ≡ frame.next + length ps
   unfolding with_params
   next_params home frame [] = sym (add-zero frame.next)
@@ -267,7 +267,7 @@ module _ (source : Source) (ordered : IsInOrder source) (none : name_faults sour
       let on : frame.next + 1 + length ps ≡ frame.next + suc (length ps) = omega arith in
       next_params home (with_local frame p.id.name (param_slot home p) None) ps ∙ on
 
-  this_count : (class : ℕ) (b : Bool) → length (this_type class b) ≡ first_number b
+  pub this_count : (class : ℕ) (b : Bool) → length (this_type class b) ≡ first_number b
   this_count class true = refl
   this_count class false = refl
 

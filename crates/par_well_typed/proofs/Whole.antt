@@ -1,7 +1,8 @@
 -- The laws, of whole sources.
-use Rattle.std.proofs.Common.{arith}
+use Rattle.std.proofs.Common.{◌≤◌, sym, subst, arith}
+use Rattle.par_lexer.specs.declared.cut.TheConstants.{LONGEST_SOURCE}
 use Rattle.par_resolved.specs.Resolved.{table_of}
-use Rattle.par_well_typed.specs.Laws.{TablesAreInRange, BodiesHaveMethods, SuchBodiesAreOrderly, BodiesAreOrderly, ClassesAndMembersAreNamed, BodiesAreSmall, BodiesMakeObjects, SourcesAreWellTyped}
+use Rattle.par_well_typed.specs.Laws.{TablesAreInRange, BodiesHaveMethods, SuchBodiesAreOrderly, BodiesAreOrderly, ClassesAndMembersAreNamed, BodiesAreSmall, BodiesMakeObjects, TypesFit, BodiesAreControlled, TablesHaveTexts, SourcesAreWellTyped}
 use Rattle.par_well_typed.specs.Orderly.{HasMethod, IsOrderlyBody}
 use Rattle.par_well_typed.specs.Typed.{bodies_of, written_in}
 use Rattle.par_well_typed.proofs.Lists.{each_is}
@@ -11,6 +12,9 @@ use Rattle.par_well_typed.proofs.Orderly.{orderly_body}
 use Rattle.par_well_typed.proofs.Programs as programs
 use Rattle.par_well_typed.proofs.Small as small
 use Rattle.par_well_typed.proofs.Objects as objects
+use Rattle.par_well_typed.proofs.Fitted as fitted
+use Rattle.par_well_typed.proofs.Texts as texts
+use Rattle.par_well_typed.proofs.Reached as reached
 use Rattle.par_well_typed.proofs.Unbroken.{names_kept}
 
 pub tables_are_in_range : TablesAreInRange
@@ -39,12 +43,25 @@ bodies_are_small source ordered none types = small.bodies_are_small source order
 pub bodies_make_objects : BodiesMakeObjects
 bodies_make_objects source ordered none types = objects.bodies_make_objects source ordered none types
 
+pub types_fit : TypesFit
+types_fit source ordered none types = fitted.values_fit source ordered none types
+
+pub bodies_are_controlled : BodiesAreControlled
+bodies_are_controlled source ordered none types =
+    reached.bodies_are_controlled source ordered none types
+
+pub tables_have_texts : TablesHaveTexts
+tables_have_texts source none = texts.tables_have_texts source (names_kept source none)
+
 pub sources_are_well_typed : SourcesAreWellTyped
-sources_are_well_typed source ordered none types = record {
+sources_are_well_typed source ordered none types short = record {
   in_range = tables_are_in_range source ordered none;
   have_methods = bodies_have_methods source ordered none;
   orderly = bodies_are_orderly source ordered none;
   named = classes_and_members_are_named source types;
   making = bodies_make_objects source ordered none types;
+  fitting = types_fit source ordered none types;
+  controlled = bodies_are_controlled source ordered none types;
   small = bodies_are_small source ordered none types;
+  texts = subst (λ n. n ≤ LONGEST_SOURCE) (sym (tables_have_texts source none)) short;
 }

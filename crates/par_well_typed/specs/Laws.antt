@@ -1,6 +1,7 @@
 -- The laws of the tables and bodies of sources that break no rule on names and exceed no limit.
-use Rattle.std.specs.Prelude.{◌≡◌, []}
+use Rattle.std.specs.Prelude.{◌≡◌, ◌≤◌, []}
 use Rattle.std.specs.List.{AllByRecursion}
+use Rattle.par_lexer.specs.declared.cut.TheConstants.{LONGEST_SOURCE}
 use Rattle.par_tree.specs.Plain.{Source}
 use Rattle.par_typed.specs.declared.table.Table.{Table}
 use Rattle.par_typed.specs.Plain.{Body}
@@ -11,8 +12,12 @@ use Rattle.par_well_typed.specs.Tables.{IsInRange}
 use Rattle.par_well_typed.specs.Orderly.{HasMethod, IsOrderlyBody}
 use Rattle.par_well_typed.specs.WellTyped.{NamesMembers, IsWellTyped}
 use Rattle.par_well_typed.specs.Makes.{MakesObjects}
+use Rattle.par_well_typed.specs.Fits.{ValuesFit}
+use Rattle.par_well_typed.specs.Control.{IsControlled}
 use Rattle.par_well_typed.specs.Sizes.{IsSmallBody}
+use Rattle.par_well_typed.specs.Texts.{table_texts}
 use Rattle.par_sources.specs.Order.{IsInOrder}
+use Rattle.par_sources.specs.Sizes.{source_texts}
 use Rattle.par_well_typed.specs.Typed.{bodies_of}
 
 -- the numbers in the table are in range
@@ -60,8 +65,30 @@ BodiesMakeObjects =
     → type_faults (table_of source) source ≡ []
     → AllByRecursion (MakesObjects (table_of source)) (bodies_of source)
 
+-- the types of values fit where they stand
+abbrev pub TypesFit : Type 0
+TypesFit =
+    (source : Source) → IsInOrder source → all_faults source ≡ []
+    → type_faults (table_of source) source ≡ []
+    → AllByRecursion (ValuesFit (table_of source)) (bodies_of source)
+
+-- each statement is reached, a break and a continue stand in a loop, and nothing comes to the end
+-- of a body that has a result
+abbrev pub BodiesAreControlled : Type 0
+BodiesAreControlled =
+    (source : Source) → IsInOrder source → all_faults source ≡ []
+    → type_faults (table_of source) source ≡ []
+    → AllByRecursion (IsControlled (table_of source)) (bodies_of source)
+
+-- the names and descriptors of a table have as many bytes as those of its source
+abbrev pub TablesHaveTexts : Type 0
+TablesHaveTexts =
+    (source : Source) → all_faults source ≡ []
+    → table_texts (table_of source) ≡ source_texts source
+
 -- the bodies of a source that breaks no rule on names and types and exceeds no limit are well typed
 abbrev pub SourcesAreWellTyped : Type 0
 SourcesAreWellTyped =
     (source : Source) → IsInOrder source → all_faults source ≡ []
-    → type_faults (table_of source) source ≡ [] → IsWellTyped (table_of source) (bodies_of source)
+    → type_faults (table_of source) source ≡ [] → source_texts source ≤ LONGEST_SOURCE
+    → IsWellTyped (table_of source) (bodies_of source)

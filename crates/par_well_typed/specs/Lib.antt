@@ -2,9 +2,12 @@ pub mod Tables
 pub mod Numbers
 pub mod SetFirst
 pub mod Sizes
+pub mod Texts
 pub mod Orderly
 pub mod Members
 pub mod Makes
+pub mod Fits
+pub mod Control
 pub mod WellTyped
 pub mod Typed
 pub mod Laws

@@ -1,13 +1,17 @@
 -- Well-typed bodies.
-use Rattle.std.specs.Prelude.{List}
+use Rattle.std.specs.Prelude.{◌≤◌, List}
 use Rattle.std.specs.List.{AllByRecursion}
+use Rattle.par_lexer.specs.declared.cut.TheConstants.{LONGEST_SOURCE}
 use Rattle.par_typed.specs.declared.table.Table.{Table}
 use Rattle.par_typed.specs.Plain.{Body}
 use Rattle.par_well_typed.specs.Tables.{IsInRange}
 use Rattle.par_well_typed.specs.Orderly.{HasMethod, IsOrderlyBody}
 use Rattle.par_well_typed.specs.Members.{StaNames}
 use Rattle.par_well_typed.specs.Makes.{MakesObjects}
+use Rattle.par_well_typed.specs.Fits.{ValuesFit}
+use Rattle.par_well_typed.specs.Control.{IsControlled}
 use Rattle.par_well_typed.specs.Sizes.{IsSmallBody}
+use Rattle.par_well_typed.specs.Texts.{table_texts}
 
 abbrev pub NamesMembers : Table → Body → Type 0
 NamesMembers table b = StaNames table b.body
@@ -15,11 +19,16 @@ NamesMembers table b = StaNames table b.body
 -- what later layers may ask of the bodies of a program, over its table: the table's numbers are in
 -- range, each body is that of a method, obeys what the rules of flow ask of numbers, names the
 -- classes and members that it should, makes objects of ordinary classes, has `this` where there is a
--- receiver, and is within the limits
+-- receiver, has values of the types that fit where they stand, has no statement that is not reached
+-- and no end that is reached without a result, and is within the limits; and the names and
+-- descriptors of the table have no more bytes than a source
 pub record IsWellTyped (table : Table) (bodies : List Body) : Type 0 where
   pub in_range : IsInRange table
   pub have_methods : AllByRecursion (HasMethod table) bodies
   pub orderly : AllByRecursion (IsOrderlyBody table) bodies
   pub named : AllByRecursion (NamesMembers table) bodies
   pub making : AllByRecursion (MakesObjects table) bodies
+  pub fitting : AllByRecursion (ValuesFit table) bodies
+  pub controlled : AllByRecursion (IsControlled table) bodies
   pub small : AllByRecursion (IsSmallBody table) bodies
+  pub texts : table_texts table ≤ LONGEST_SOURCE

@@ -3,7 +3,9 @@
 ghost use Rattle.par_well_typed.specs.Laws.{TablesAreInRange, BodiesHaveMethods};
 ghost use Rattle.par_well_typed.specs.Laws.{SuchBodiesAreOrderly, BodiesAreOrderly};
 ghost use Rattle.par_well_typed.specs.Laws.{ClassesAndMembersAreNamed, BodiesAreSmall};
-ghost use Rattle.par_well_typed.specs.Laws.{BodiesMakeObjects, SourcesAreWellTyped};
+ghost use Rattle.par_well_typed.specs.Laws.{BodiesMakeObjects, TypesFit};
+ghost use Rattle.par_well_typed.specs.Laws.{BodiesAreControlled, TablesHaveTexts};
+ghost use Rattle.par_well_typed.specs.Laws.{SourcesAreWellTyped};
 
 /// In the table of a source that breaks no rule on names and exceeds no limit all numbers are in
 /// range, and there are at most 256 policies and 256 ground locks.
@@ -50,8 +52,29 @@ pub fn bodies_make_objects()
     ensures { BodiesMakeObjects }
 {}
 
+/// In the typed bodies of such a source each value has a type that fits where it stands: a test is
+/// a boolean, an operand is what its operator takes, and an assigned value, an argument and a result
+/// are what is declared, where null fits each class. Only what is never null is given to a local or
+/// a parameter that is declared so. The locals of a method begin with `this` and the parameters.
+pub fn types_fit()
+    ensures { TypesFit }
+{}
+
+/// In the typed bodies of such a source each statement is reached, a break and a continue stand in
+/// a loop, and control does not come to the end of a body that has a result.
+pub fn bodies_are_controlled()
+    ensures { BodiesAreControlled }
+{}
+
+/// The names of the declared classes in the table of a source that breaks no rule on names, those
+/// of their members and the descriptors of these have as many bytes as those of the source.
+pub fn tables_have_texts()
+    ensures { TablesHaveTexts }
+{}
+
 /// All of the above holds of the typed bodies of a source that breaks no rule on names and types and
-/// exceeds no limit: they are well typed over its table.
+/// exceeds no limit: they are well typed over its table, where its names and descriptors have no
+/// more bytes than a source may have.
 pub fn sources_are_well_typed()
     ensures { SourcesAreWellTyped }
 {}

@@ -1,6 +1,8 @@
+use Rattle.std.proofs.Common.{arith}
 use Rattle.par_tree.specs.Shown.{source as tree_of_program}
 use Rattle.par_sources.proofs.Numbers.{trees_have_numbers}
 use Rattle.par_sources.proofs.Order.{trees_are_in_order}
+use Rattle.par_sources.proofs.Short.{trees_are_short}
 use Rattle.par_observer.proofs.OfTree.{refused_of_tree}
 use Rattle.par_observer.proofs.tree.judge_tree.Goals as goal
 
@@ -13,6 +15,14 @@ pub passes-requires-clause-order : goal.passes-requires-clause-order
 passes-requires-clause-order c =
     trees_are_in_order c.args.source.now c.args.tokens.now (tree_of_program c.args.tree.now)
     c.requires.laid c.requires.sentence
+
+pub passes-requires-clause-texts : goal.passes-requires-clause-texts
+passes-requires-clause-texts c =
+    let covered =
+    trees_are_short c.args.source.now c.args.tokens.now (tree_of_program c.args.tree.now)
+    c.requires.cut c.requires.sentence in
+    let short = c.requires.short in
+    omega (arith, covered, short)
 
 pub returns-clause-refused : goal.returns-clause-refused
 returns-clause-refused c =

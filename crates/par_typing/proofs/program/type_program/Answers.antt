@@ -13,4 +13,4 @@ returns-in_ok-bodies-in-None-clause-well_typed c =
     let right = subst (IsAnswer (type_faults c.args.table tree)) c.in-None.is
     c.in_ok-refusal.ensures in
     well_typed c.args.table tree (bodies c.in_ok-bodies-in-None.bodies) c.requires.named
-    c.requires.ordered c.requires.tabled right c.in_ok-bodies-in-None.ensures
+    c.requires.ordered c.requires.texts c.requires.tabled right c.in_ok-bodies-in-None.ensures

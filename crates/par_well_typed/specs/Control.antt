@@ -1,0 +1,62 @@
+-- Control in typed bodies: each statement is reached, a break and a continue stand in a loop, and
+-- nothing comes to the end of a body that has a result.
+use Rattle.std.specs.Prelude.{◌≡◌, Bool, true, false, Some}
+use Rattle.par_typed.specs.declared.ty.Ty.{Ty}
+use Rattle.par_typed.specs.declared.ty.Ty.TheVariants as ty
+use Rattle.par_typed.specs.declared.table.MethodInfo.{MethodInfo}
+use Rattle.par_typed.specs.declared.table.Table.{Table}
+use Rattle.par_typed.specs.Plain.{TSta, Block, If, While, Try, Return, Break, Continue, Throw, Open}
+use Rattle.par_typed.specs.Plain.{Close, SetLocal, SetStatic, SetField, Eval, When, MayTSta, NoElse}
+use Rattle.par_typed.specs.Plain.{Otherwise, TStas, End, Then, TCatches, NoCatch, Catch, Body}
+use Rattle.par_completes.specs.Typed.{completes}
+use Rattle.par_well_typed.specs.Orderly.{method_at}
+
+-- all that stands in a statement, in a loop or in none
+unfoldable mutual
+  pub StaReached : Bool → TSta → Type 0
+  StaReached looped (Block ss at p) = AllReached looped true ss
+  StaReached looped (If e s o at p) = StaReached looped s × ElseReached looped o
+  StaReached looped (While e s at p) = StaReached true s
+  StaReached looped (Try s cs at p) = StaReached looped s × CatchesReached looped cs
+  StaReached looped (Return e at p) = Unit {0}
+  StaReached looped (Break at p) = looped ≡ true
+  StaReached looped (Continue at p) = looped ≡ true
+  StaReached looped (Throw class at p) = Unit {0}
+  StaReached looped (Open lock at p) = Unit {0}
+  StaReached looped (Close lock at p) = Unit {0}
+  StaReached looped (SetLocal x policy e at p) = Unit {0}
+  StaReached looped (SetStatic c f e at p) = Unit {0}
+  StaReached looped (SetField o c f e at p) = Unit {0}
+  StaReached looped (Eval e at p) = Unit {0}
+  StaReached looped (When lock s o at p) = StaReached looped s × ElseReached looped o
+
+  pub ElseReached : Bool → MayTSta → Type 0
+  ElseReached looped NoElse = Unit {0}
+  ElseReached looped (Otherwise s) = StaReached looped s
+
+  -- of which the first is reached or not
+  pub AllReached : Bool → Bool → TStas → Type 0
+  AllReached looped reached End = Unit {0}
+  AllReached looped reached (Then s ss) =
+      (reached ≡ true) × StaReached looped s × AllReached looped (completes s) ss
+
+  pub CatchesReached : Bool → TCatches → Type 0
+  CatchesReached looped NoCatch = Unit {0}
+  CatchesReached looped (Catch class s cs) = StaReached looped s × CatchesReached looped cs
+
+-- with a result of this type control does not come behind a body
+abbrev pub IsEnded : Ty → Bool → Type 0
+IsEnded ty.Int comes = comes ≡ false
+IsEnded ty.Boolean comes = comes ≡ false
+IsEnded (ty.Class class) comes = comes ≡ false
+IsEnded ty.Null comes = comes ≡ false
+IsEnded ty.Void comes = Unit {0}
+
+-- the control in the body of this method
+pub record IsControlledOf (table : Table) (b : Body) (m : MethodInfo) : Type 0 where
+  pub method : method_at table b.class b.method ≡ Some m
+  pub reached : StaReached false b.body
+  pub ended : IsEnded m.result (completes b.body)
+
+abbrev pub IsControlled : Table → Body → Type 0
+IsControlled table b = (m : MethodInfo) × IsControlledOf table b m
