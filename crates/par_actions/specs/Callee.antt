@@ -35,7 +35,8 @@ pub record IsCode (c m l : ℕ) (d n k : ℕ) : Type 0 where
 abbrev pub IsTarget : List Channel → Named → Target → Type 0
 IsTarget channels (named.Input class name) (Input line) = line ≡ line_of channels class name
 IsTarget channels (named.Output class name) Output = Unit {0}
-IsTarget channels (named.Code class method locals) (Code c m l room) = IsCode class method locals c m l
+IsTarget channels (named.Code class method locals) (Code c m l room) =
+    IsCode class method locals c m l
 IsTarget channels named.Nothing Nothing = Unit {0}
 IsTarget channels _ _ = ⊥
 

@@ -48,7 +48,8 @@ acting _ frames = frames
 
 -- It came to this, where the reason and the effect are these, this the program after it and these
 -- the frames.
-abbrev pub IsInvoked : Done → Target → List Name → Operation → Spot → Option ℕ → Effect → Areas → List Frame → Type 0
+abbrev pub IsInvoked : Done → Target → List Name → Operation → Spot → Option ℕ → Effect → Areas
+    → List Frame → Type 0
 IsInvoked done.Calls target classes o spot r e program new =
     (r ≡ None) × IsCalled e target (areas_in program (running (waiting new))) (running new)
 IsInvoked done target classes o spot r e program new =
@@ -67,7 +68,8 @@ pub record Invokes (done : Done) (target : Target) (classes : List Name) (o : Op
   pub comes : IsInvoked done target classes o spot r e (with_inputs inputs program) new
 
 -- A call came to this, where 2 stands against it or does not, beside its own reasons.
-abbrev pub Invoked : Done → Target → List Name → Operation → Spot → (misreceived : Bool) → Areas → (old new : List Frame) → List ChannelInput → Type 0
+abbrev pub Invoked : Done → Target → List Name → Operation → Spot → (misreceived : Bool) → Areas
+    → (old new : List Frame) → List ChannelInput → Type 0
 Invoked done target classes o spot misreceived program old new lines =
     let before = areas_in program (running old) in
     Invokes done target classes o spot (or_2 misreceived (reason classes spot o before))

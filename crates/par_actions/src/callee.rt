@@ -4,7 +4,7 @@ use crate::fit::Fit;
 #[derive(Clone, Copy, Debug, PartialEq, Eq)]
 pub enum Target {
     /// It takes the next number of the line at this place, where its channel has a line.
-    Input(Option<u32>),
+    Input(Option<usize>),
     /// It puts its argument out.
     Output,
     /// It runs its code.

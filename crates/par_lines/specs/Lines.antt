@@ -47,7 +47,8 @@ left_at (Some place) lines = numbers_of (slice_get lines place)
 -- the lines with this one at a place, where there is one
 abbrev pub with_line : ℕ → Option ChannelInput → List ChannelInput → List ChannelInput
 with_line place None lines = lines
-with_line place (Some line) lines = slice_set lines place (record line { numbers = left line.numbers })
+with_line place (Some line) lines =
+    slice_set lines place (record line { numbers = left line.numbers })
 
 -- the lines without the next number of the one at a place
 abbrev pub taken_at : Option ℕ → List ChannelInput → List ChannelInput

@@ -41,14 +41,13 @@ impl Lines {
     }
 
     /// Takes the next number of the line at a place: 0 where it is spent or there is no line.
-    pub fn next(&mut self, line: Option<u32>) -> i32
+    pub fn next(&mut self, line: Option<usize>) -> i32
         ensures number { result ≡ next (left_at line self.old) }
         ensures left { self.new ≡ taken_at line self.old }
     {
-        let Some(line) = line else {
+        let Some(place) = line else {
             return 0;
         };
-        let place = line as usize;
         let Some(channel) = self.channels.get(place) else {
             return 0;
         };
