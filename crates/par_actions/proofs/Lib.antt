@@ -8,3 +8,4 @@ pub mod Sharing
 pub mod Reading
 pub mod Writing
 pub mod Bearing
+pub mod Calling

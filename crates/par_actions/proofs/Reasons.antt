@@ -4,7 +4,7 @@ use Rattle.par_values.specs.Areas.{Name, Areas}
 use Rattle.par_values.specs.Operations.{Operation}
 use Rattle.par_values.specs.Effects.{Effect, effect}
 use Rattle.par_values.specs.Reasons.{Spot, lacks, misgiven, unfit, exceeds, throws, misplaced, falls, misnamed, disagrees, misreturns, misused, least_from, reason}
-use Rattle.par_actions.specs.Done.{thrown_reason}
+use Rattle.par_actions.specs.Done.{lesser, thrown_reason}
 
 pub reason_1 : (classes : List Name) (spot : Spot) (o : Operation) (a : Areas) → lacks o a ≡ true → reason classes spot o a ≡ Some 1
 unfolding reason
@@ -138,9 +138,11 @@ misreturned classes spot o a e does calm five one two three four six seven eight
     (ap (falls spot.stands spot.is_lost) does ∙ five) six seven eight
 
 by_handler : (roomless lost nine : Bool) → least_from 1 (false ∷ false ∷ ((roomless && true) || false) ∷ false ∷ lost ∷ false ∷ false ∷ false ∷ nine ∷ [])
-    ≡ (if roomless then Some 3 else (if lost then Some 5 else (if nine then Some 9 else None)))
-by_handler true lost nine = refl
-by_handler false true nine = refl
+    ≡ lesser (if roomless then Some 3 else (if lost then Some 5 else None)) (if nine then Some 9 else None)
+by_handler true lost true = refl
+by_handler true lost false = refl
+by_handler false true true = refl
+by_handler false true false = refl
 by_handler false false true = refl
 by_handler false false false = refl
 
@@ -155,9 +157,11 @@ thrown classes spot o a e nine does throwing five one two three four six seven e
     (by_handler spot.is_roomless spot.is_lost nine)
 
 by_handler_or_7 : (roomless lost seven : Bool) → least_from 1 (false ∷ false ∷ ((roomless && true) || false) ∷ false ∷ lost ∷ false ∷ seven ∷ false ∷ false ∷ [])
-    ≡ (if roomless then Some 3 else (if lost then Some 5 else (if seven then Some 7 else None)))
-by_handler_or_7 true lost seven = refl
-by_handler_or_7 false true seven = refl
+    ≡ lesser (if roomless then Some 3 else (if lost then Some 5 else None)) (if seven then Some 7 else None)
+by_handler_or_7 true lost true = refl
+by_handler_or_7 true lost false = refl
+by_handler_or_7 false true true = refl
+by_handler_or_7 false true false = refl
 by_handler_or_7 false false true = refl
 by_handler_or_7 false false false = refl
 

@@ -1,10 +1,12 @@
 -- What an instruction came to, against its reason and its effect.
-use Rattle.std.specs.Prelude.{◌≡◌, ℕ, ◌+◌, ℤ, pos, Bool, if◌then◌else◌, List, [], length, Option, Some, None, codes}
+use Rattle.std.specs.Prelude.{◌≡◌, ℕ, ◌+◌, ℤ, pos, Bool, true, false, if◌then◌else◌, min, List, [], length, Option, Some, None, codes}
 use Rattle.par_values.specs.declared.value.MVal.{MVal}
 use Rattle.par_values.specs.declared.run.Event.{Event}
-use Rattle.par_values.specs.declared.run.Event.TheVariants.{Set, Put, Born}
+use Rattle.par_values.specs.declared.run.Event.TheVariants.{Set, Put, Born, Out}
+use Rattle.par_values.specs.declared.link.Target.{Target}
+use Rattle.par_values.specs.declared.link.Target.TheVariants.{Output, Nothing}
 use Rattle.par_values.specs.Areas.{Name, Areas, shown_value}
-use Rattle.par_values.specs.Operations.{Operation, PutStatic, PutField, Create, Jump, JumpIf, JumpIfBoth, JumpIfSame, JumpIfNull}
+use Rattle.par_values.specs.Operations.{Operation, PutStatic, PutField, InvokeStatic, InvokeSpecial, InvokeVirtual, Create, Jump, JumpIf, JumpIfBoth, JumpIfSame, JumpIfNull}
 use Rattle.par_values.specs.Effects.{Effect, Goes, Happens, Jumps, Throws, ThrowsObject, Returns, ReturnsWith, throws_null, effect}
 use Rattle.par_values.specs.Reasons.{Spot, reason}
 use Rattle.par_stack.specs.Frames.{Frame, running, waiting}
@@ -44,10 +46,20 @@ distance (JumpIfSame same to) = to
 distance (JumpIfNull null to) = to
 distance _ = pos 0
 
--- the least reason against a throw: those of its handler come before this one
+-- the lesser of two reasons
+abbrev pub lesser : Option ℕ → Option ℕ → Option ℕ
+lesser None r = r
+lesser (Some n) None = Some n
+lesser (Some n) (Some k) = Some (min n k)
+
+-- the least reason against a throw that comes of its handler
+abbrev pub handler_reason : Spot → Option ℕ
+handler_reason spot =
+    if spot.is_roomless then Some 3 else (if spot.is_lost then Some 5 else None)
+
+-- the least reason against a throw against which this one stands too
 abbrev pub thrown_reason : Option ℕ → Spot → Option ℕ
-thrown_reason later spot =
-    if spot.is_roomless then Some 3 else (if spot.is_lost then Some 5 else later)
+thrown_reason other spot = lesser (handler_reason spot) other
 
 -- the event of an operation that writes a static field
 abbrev pub set_event : List Name → Operation → MVal → Event
@@ -63,6 +75,21 @@ put_event classes _ n v = Put [] n [] (shown_value classes v)
 abbrev pub born_event : Operation → ℕ → Event
 born_event (Create c) n = Born c.name n
 born_event _ n = Born [] n
+
+-- what the method does that an operation calls
+abbrev pub target_of : Operation → Target
+target_of (InvokeStatic m) = m.target
+target_of (InvokeSpecial m) = m.target
+target_of (InvokeVirtual m) = m.target
+target_of _ = Nothing
+
+abbrev pub out_by : Target → ℤ → Event
+out_by (Output class name) n = Out class name n
+out_by _ n = Out [] [] n
+
+-- the event of an operation that puts this number out
+abbrev pub out_event : Operation → ℤ → Event
+out_event o n = out_by (target_of o) n
 
 -- It came to this, where the reason and the effect are these, and these the areas after it.
 abbrev pub IsDone : Done → List Name → Operation → Spot → Option ℕ → Effect → Areas → Type 0
@@ -82,7 +109,21 @@ IsDone (done.Puts n v) classes o spot r e after =
     (r ≡ None) × (e ≡ Happens (put_event classes o n v) after)
 IsDone (done.Born n) classes o spot r e after =
     (r ≡ None) × (e ≡ Happens (born_event o n) after)
+IsDone (done.Outs n) classes o spot r e after =
+    (r ≡ None) × (e ≡ Happens (out_event o n) after)
+-- that of a call is told beside its frame
+IsDone done.Calls classes o spot r e after = ⊥
 IsDone (done.Bad n) classes o spot r e after = r ≡ Some n
+
+-- whether nothing is changed where it came to this
+abbrev pub is_still : Done → Bool
+is_still done.ThrowsArithmetic = true
+is_still (done.ThrowsNull later) = true
+is_still (done.Throws v later) = true
+is_still done.Returns = true
+is_still (done.ReturnsWith v) = true
+is_still (done.Bad n) = true
+is_still _ = false
 
 -- An operation came to this, where these are the areas before it and after it.
 abbrev pub ComesTo : Done → List Name → Spot → Operation → (before after : Areas) → Type 0

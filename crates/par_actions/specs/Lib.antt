@@ -6,3 +6,5 @@ pub mod Fits
 pub mod Leaving
 pub mod Fields
 pub mod Objects
+pub mod Callee
+pub mod Calls

@@ -1,13 +1,13 @@
 //! Where a run goes on: jumps and tests.
 
-ghost use Rattle.std.specs.Prelude.{◌≡◌, ◌≤◌, List, ℤ, length};
+ghost use Rattle.std.specs.Prelude.{◌≡◌, ◌≤◌, List, ℤ, length, IsTrue};
 ghost use Rattle.par_values.specs.Areas.{Name, Areas};
 ghost use Rattle.par_values.specs.Effects.{comes, is_same};
 ghost use Rattle.par_values.specs.Operations.{Operation, Jump, JumpIf, JumpIfBoth, JumpIfSame, JumpIfNull};
 ghost use Rattle.par_values.specs.Reasons.{Spot};
 ghost use Rattle.par_stack.specs.Frames.{running};
 ghost use Rattle.par_actions.specs.Branches.{IsTest};
-ghost use Rattle.par_actions.specs.Done.{IsAtFork, areas_in, Comes, Keeps};
+ghost use Rattle.par_actions.specs.Done.{IsAtFork, areas_in, Comes, Keeps, is_still};
 
 use crate::done::{Done, Ways};
 use crate::operands::{
@@ -27,6 +27,7 @@ fn branch(stack: &mut Stack, many: usize, goes: bool, ways: Ways) -> Done
         IsAtFork spot ways classes o program stack.old →
         Comes result classes spot o program stack.old stack.new }
     ensures kept { Keeps stack.old stack.new }
+    ensures still { IsTrue (is_still result) → stack.new ≡ stack.old }
 {
     let stands = if goes { ways.aside } else { ways.ahead };
     if !stands {
@@ -43,6 +44,7 @@ pub fn jump(stack: &mut Stack, ways: Ways) -> Done
         IsAtFork spot ways classes (Jump to) program stack.old →
         Comes result classes spot (Jump to) program stack.old stack.new }
     ensures kept { Keeps stack.old stack.new }
+    ensures still { IsTrue (is_still result) → stack.new ≡ stack.old }
 {
     branch(stack, 0, true, ways)
 }
@@ -54,6 +56,7 @@ pub fn jump_if(stack: &mut Stack, test: u8, ways: Ways) -> Done
         IsAtFork spot ways classes (JumpIf test to) program stack.old →
         Comes result classes spot (JumpIf test to) program stack.old stack.new }
     ensures kept { Keeps stack.old stack.new }
+    ensures still { IsTrue (is_still result) → stack.new ≡ stack.old }
 {
     match last_number(stack) {
         Number::Missing => Done::Bad(1),
@@ -69,6 +72,7 @@ pub fn jump_if_both(stack: &mut Stack, test: u8, ways: Ways) -> Done
         IsAtFork spot ways classes (JumpIfBoth test to) program stack.old →
         Comes result classes spot (JumpIfBoth test to) program stack.old stack.new }
     ensures kept { Keeps stack.old stack.new }
+    ensures still { IsTrue (is_still result) → stack.new ≡ stack.old }
 {
     match last_numbers(stack) {
         Numbers::Missing => Done::Bad(1),
@@ -103,6 +107,7 @@ pub fn jump_if_same(stack: &mut Stack, same: bool, ways: Ways) -> Done
         IsAtFork spot ways classes (JumpIfSame same to) program stack.old →
         Comes result classes spot (JumpIfSame same to) program stack.old stack.new }
     ensures kept { Keeps stack.old stack.new }
+    ensures still { IsTrue (is_still result) → stack.new ≡ stack.old }
 {
     match last_references(stack) {
         References::Missing => Done::Bad(1),
@@ -123,6 +128,7 @@ pub fn jump_if_null(stack: &mut Stack, null: bool, ways: Ways) -> Done
         IsAtFork spot ways classes (JumpIfNull null to) program stack.old →
         Comes result classes spot (JumpIfNull null to) program stack.old stack.new }
     ensures kept { Keeps stack.old stack.new }
+    ensures still { IsTrue (is_still result) → stack.new ≡ stack.old }
 {
     match last_reference(stack) {
         Reference::Missing => Done::Bad(1),

@@ -7,7 +7,7 @@ ghost use Rattle.par_values.specs.Arithmetic.{combined, divides_by_zero};
 ghost use Rattle.par_values.specs.Operations.{Combine, Negate, Increase};
 ghost use Rattle.par_values.specs.Reasons.{Spot};
 ghost use Rattle.par_actions.specs.Combining.{operator_of};
-ghost use Rattle.par_actions.specs.Done.{IsAt, Comes, Keeps};
+ghost use Rattle.par_actions.specs.Done.{IsAt, Comes, Keeps, is_still};
 
 use crate::done::Done;
 use crate::operands::{Number, Numbers, last_number, last_numbers, local_number, replace};
@@ -63,6 +63,7 @@ pub fn combine(stack: &mut Stack, operator: Operator, ahead: bool) -> Done
         IsAt spot ahead stack.old →
         Comes result classes spot (Combine (operator_of operator)) program stack.old stack.new }
     ensures kept { Keeps stack.old stack.new }
+    ensures still { IsTrue (is_still result) → stack.new ≡ stack.old }
 {
     let (first, second) = match last_numbers(stack) {
         Numbers::Missing => return Done::Bad(1),
@@ -85,6 +86,7 @@ pub fn negate(stack: &mut Stack, ahead: bool) -> Done
     ensures done { (classes : List Name) (spot : Spot) (program : Areas) →
         IsAt spot ahead stack.old → Comes result classes spot Negate program stack.old stack.new }
     ensures kept { Keeps stack.old stack.new }
+    ensures still { IsTrue (is_still result) → stack.new ≡ stack.old }
 {
     let number = match last_number(stack) {
         Number::Missing => return Done::Bad(1),
@@ -112,6 +114,7 @@ pub fn increase(stack: &mut Stack, place: u8, by: i8, ahead: bool) -> Done
         IsAt spot ahead stack.old →
         Comes result classes spot (Increase place by) program stack.old stack.new }
     ensures kept { Keeps stack.old stack.new }
+    ensures still { IsTrue (is_still result) → stack.new ≡ stack.old }
 {
     let Some(number) = local_number(stack, place) else {
         return Done::Bad(4);

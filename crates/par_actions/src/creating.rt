@@ -1,12 +1,12 @@
 //! Instructions that make objects.
 
-ghost use Rattle.std.specs.Prelude.{◌≡◌, ◌<◌, List, length, IfOk, OnErr};
+ghost use Rattle.std.specs.Prelude.{◌≡◌, ◌<◌, List, length, IfOk, OnErr, IsTrue};
 ghost use Rattle.std.specs.List.{All};
 ghost use Rattle.par_values.specs.Areas.{Name, Areas};
 ghost use Rattle.par_values.specs.declared.link.ClassLink.{ClassLink};
 ghost use Rattle.par_values.specs.Reasons.{Spot};
 ghost use Rattle.par_heap.specs.Heap.{objects_of};
-ghost use Rattle.par_actions.specs.Done.{IsAt};
+ghost use Rattle.par_actions.specs.Done.{IsAt, Keeps, is_still};
 ghost use Rattle.par_actions.specs.Objects.{AreShown, IsClass, Creates};
 
 use crate::done::Done;
@@ -34,13 +34,16 @@ pub fn create(
     ahead: bool,
 ) -> Result<Done, NoMemory>
     requires few { length (objects_of heap.old class.number) < 4294967295 }
-    requires same { All (λ object. length object ≡ length class.first.now)
-        (objects_of heap.old class.number) }
+    requires same { IsTrue class.is_made →
+        All (λ object. length object ≡ length class.first.now) (objects_of heap.old class.number) }
     ensures done { IfOk result (λ done.
         (classes : List Name) (spot : Spot) (program : Areas) (c : ClassLink) →
         IsClass c class.entry → AreShown heap.old program →
         class.entry.number < length program.objects → IsAt spot ahead stack.old →
         Creates done classes spot c program stack.old stack.new heap.new) }
+    ensures kept { IfOk result (λ done. Keeps stack.old stack.new) }
+    ensures still { IfOk result (λ done. IsTrue (is_still done) → stack.new ≡ stack.old) }
+    ensures unmade { IfOk result (λ done. IsTrue (is_still done) → heap.new ≡ heap.old) }
     ensures refused { OnErr result (stack.new ≡ stack.old) }
     ensures unborn { OnErr result (heap.new ≡ heap.old) }
 {

@@ -9,8 +9,8 @@ pub enum Done {
     Jumps,
     /// It throws a new exception of division by zero.
     ThrowsArithmetic,
-    /// It throws a new exception of null, where this reason does not stand against it. Those that
-    /// come of its handler are looked for first.
+    /// It throws a new exception of null, where neither this reason stands against it nor a lesser
+    /// one that comes of its handler.
     ThrowsNull(Option<u8>),
     /// It throws this object, in the same way.
     Throws(MVal, Option<u8>),
@@ -20,6 +20,10 @@ pub enum Done {
     Puts(u32, MVal),
     /// It makes the object of this number, and goes on behind itself.
     Born(u32),
+    /// It puts this number out, and goes on behind itself.
+    Outs(i32),
+    /// It calls a method, whose frame runs. The frame that waits for it stands where it stood.
+    Calls,
     /// It leaves its method.
     Returns,
     /// It leaves its method with this result.

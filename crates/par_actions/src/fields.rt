@@ -1,12 +1,12 @@
 //! Instructions on static fields.
 
-ghost use Rattle.std.specs.Prelude.{◌≡◌, List, slice_get};
+ghost use Rattle.std.specs.Prelude.{◌≡◌, List, slice_get, IsTrue};
 ghost use Rattle.par_values.specs.Areas.{Name, Areas, value_or_null};
 ghost use Rattle.par_values.specs.declared.link.FieldLink.{FieldLink};
 ghost use Rattle.par_values.specs.Operations.{GetStatic, PutStatic};
 ghost use Rattle.par_values.specs.Reasons.{Spot};
 ghost use Rattle.par_stack.specs.Frames.{running};
-ghost use Rattle.par_actions.specs.Done.{IsAt, areas_in, Comes, ComesTo, Keeps};
+ghost use Rattle.par_actions.specs.Done.{IsAt, areas_in, Comes, ComesTo, Keeps, is_still};
 ghost use Rattle.par_actions.specs.Fields.{IsField, with_statics};
 
 use crate::done::Done;
@@ -40,6 +40,7 @@ pub fn get_static(stack: &mut Stack, statics: &Statics, field: Field, ahead: boo
         IsField classes f field → program.statics ≡ statics.now → IsAt spot ahead stack.old →
         Comes result classes spot (GetStatic f) program stack.old stack.new }
     ensures kept { Keeps stack.old stack.new }
+    ensures still { IsTrue (is_still result) → stack.new ≡ stack.old }
 {
     if stack.free() == 0 {
         return Done::Bad(3);
@@ -61,6 +62,8 @@ pub fn put_static(stack: &mut Stack, statics: &mut Statics, field: Field, ahead:
         ComesTo result classes spot (PutStatic f) (areas_in program (running stack.old))
         (areas_in (with_statics statics.new program) (running stack.new)) }
     ensures kept { Keeps stack.old stack.new }
+    ensures still { IsTrue (is_still result) → stack.new ≡ stack.old }
+    ensures unset { IsTrue (is_still result) → statics.new ≡ statics.old }
 {
     let value = match stack.operand(0) {
         None => return Done::Bad(1),

@@ -9,6 +9,8 @@
 #![tactic(auto)]
 
 mod branches;
+pub mod callee;
+mod calls;
 mod combining;
 pub mod creating;
 pub mod done;
@@ -20,6 +22,8 @@ mod operands;
 mod values;
 
 pub use branches::{jump, jump_if, jump_if_both, jump_if_null, jump_if_same};
+pub use callee::{Callee, Target};
+pub use calls::{invoke_special, invoke_static, invoke_virtual};
 pub use combining::{Operator, combine, increase, negate};
 pub use creating::{Class, create};
 pub use done::{Done, Ways};

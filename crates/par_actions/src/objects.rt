@@ -1,6 +1,6 @@
 //! Instructions on the fields of objects.
 
-ghost use Rattle.std.specs.Prelude.{◌≡◌, ◌<◌, ◌^◌, List, true, false, if◌then◌else◌};
+ghost use Rattle.std.specs.Prelude.{◌≡◌, ◌<◌, ◌^◌, List, true, false, if◌then◌else◌, IsTrue};
 ghost use Rattle.par_values.specs.Areas.{Name, Areas, value_or_null, fits};
 ghost use Rattle.par_values.specs.declared.kind.Kind.TheVariants.{Object};
 ghost use Rattle.par_values.specs.declared.link.FieldLink.{FieldLink};
@@ -9,7 +9,7 @@ ghost use Rattle.par_values.specs.Operations.{GetField};
 ghost use Rattle.par_values.specs.Reasons.{Spot};
 ghost use Rattle.par_stack.specs.Frames.{running};
 ghost use Rattle.par_heap.specs.Heap.{field_at};
-ghost use Rattle.par_actions.specs.Done.{IsAt, Comes, Keeps};
+ghost use Rattle.par_actions.specs.Done.{IsAt, Comes, Keeps, is_still};
 ghost use Rattle.par_actions.specs.Fields.{IsField};
 ghost use Rattle.par_actions.specs.Fits.{Takes};
 ghost use Rattle.par_actions.specs.Last.{AreLast, IsLast};
@@ -56,6 +56,7 @@ fn read(stack: &mut Stack, heap: &Heap, class: u16, n: u32, field: Field, ahead:
         AreShown heap.now program → IsAt spot ahead stack.old →
         Comes result classes spot (GetField f) program stack.old stack.new }
     ensures kept { Keeps stack.old stack.new }
+    ensures still { IsTrue (is_still result) → stack.new ≡ stack.old }
 {
     if !ahead {
         return Done::Bad(5);
@@ -76,6 +77,7 @@ pub fn get_field(stack: &mut Stack, heap: &Heap, owner: Fit, field: Field, ahead
         AreShown heap.now program → IsAt spot ahead stack.old →
         Comes result classes spot (GetField f) program stack.old stack.new }
     ensures kept { Keeps stack.old stack.new }
+    ensures still { IsTrue (is_still result) → stack.new ≡ stack.old }
 {
     let value = match stack.operand(0) {
         None => return Done::Bad(1),
@@ -109,6 +111,8 @@ fn write(
         AreShown heap.old program → IsAt spot ahead stack.old →
         Writes result classes spot f program stack.old stack.new heap.new }
     ensures kept { Keeps stack.old stack.new }
+    ensures still { IsTrue (is_still result) → stack.new ≡ stack.old }
+    ensures unwritten { IsTrue (is_still result) → heap.new ≡ heap.old }
 {
     if !ahead {
         return Done::Bad(5);
@@ -130,6 +134,8 @@ pub fn put_field(stack: &mut Stack, heap: &mut Heap, owner: Fit, field: Field, a
         AreShown heap.old program → IsAt spot ahead stack.old →
         Writes result classes spot f program stack.old stack.new heap.new }
     ensures kept { Keeps stack.old stack.new }
+    ensures still { IsTrue (is_still result) → stack.new ≡ stack.old }
+    ensures unwritten { IsTrue (is_still result) → heap.new ≡ heap.old }
 {
     let value = match stack.operand(0) {
         None => return Done::Bad(1),

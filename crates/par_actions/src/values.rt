@@ -1,13 +1,13 @@
 //! Values that are pushed, popped and kept: numbers, null and locals.
 
-ghost use Rattle.std.specs.Prelude.{◌≡◌, List, not, true};
+ghost use Rattle.std.specs.Prelude.{◌≡◌, List, not, true, IsTrue};
 ghost use Rattle.par_values.specs.Areas.{Name, Areas, fits};
 ghost use Rattle.par_values.specs.declared.kind.Kind.{Kind};
 ghost use Rattle.par_values.specs.declared.kind.Kind.TheVariants as kind;
 ghost use Rattle.par_values.specs.Operations.{Push, PushNull, Load, Store, Discard, Copy, Misnamed};
 ghost use Rattle.par_values.specs.Reasons.{Spot};
 ghost use Rattle.par_stack.specs.Frames.{running};
-ghost use Rattle.par_actions.specs.Done.{IsAt, Comes, Keeps};
+ghost use Rattle.par_actions.specs.Done.{IsAt, Comes, Keeps, is_still};
 ghost use Rattle.par_actions.specs.Last.{IsLast};
 
 use crate::done::Done;
@@ -22,6 +22,7 @@ pub fn push_number(stack: &mut Stack, number: i32, ahead: bool) -> Done
         IsAt spot ahead stack.old →
         Comes result classes spot (Push number) program stack.old stack.new }
     ensures kept { Keeps stack.old stack.new }
+    ensures still { IsTrue (is_still result) → stack.new ≡ stack.old }
 {
     if stack.free() == 0 {
         return Done::Bad(3);
@@ -40,6 +41,7 @@ pub fn push_null(stack: &mut Stack, ahead: bool) -> Done
         IsAt spot ahead stack.old →
         Comes result classes spot PushNull program stack.old stack.new }
     ensures kept { Keeps stack.old stack.new }
+    ensures still { IsTrue (is_still result) → stack.new ≡ stack.old }
 {
     if stack.free() == 0 {
         return Done::Bad(3);
@@ -58,6 +60,7 @@ pub fn load_number(stack: &mut Stack, place: u8, ahead: bool) -> Done
         IsAt spot ahead stack.old →
         Comes result classes spot (Load place kind.Number) program stack.old stack.new }
     ensures kept { Keeps stack.old stack.new }
+    ensures still { IsTrue (is_still result) → stack.new ≡ stack.old }
 {
     if stack.free() == 0 {
         return Done::Bad(3);
@@ -79,6 +82,7 @@ pub fn load_object(stack: &mut Stack, place: u8, ahead: bool) -> Done
         IsAt spot ahead stack.old →
         Comes result classes spot (Load place kind.AnyObject) program stack.old stack.new }
     ensures kept { Keeps stack.old stack.new }
+    ensures still { IsTrue (is_still result) → stack.new ≡ stack.old }
 {
     if stack.free() == 0 {
         return Done::Bad(3);
@@ -103,6 +107,7 @@ fn store(stack: &mut Stack, place: u8, value: MVal, ahead: bool) -> Done
         fits classes kind value ≡ true → IsAt spot ahead stack.old →
         Comes result classes spot (Store place kind) program stack.old stack.new }
     ensures kept { Keeps stack.old stack.new }
+    ensures still { IsTrue (is_still result) → stack.new ≡ stack.old }
 {
     if place as usize >= stack.locals() {
         return Done::Bad(4);
@@ -122,6 +127,7 @@ pub fn store_number(stack: &mut Stack, place: u8, ahead: bool) -> Done
         IsAt spot ahead stack.old →
         Comes result classes spot (Store place kind.Number) program stack.old stack.new }
     ensures kept { Keeps stack.old stack.new }
+    ensures still { IsTrue (is_still result) → stack.new ≡ stack.old }
 {
     match last_number(stack) {
         Number::Missing => Done::Bad(1),
@@ -137,6 +143,7 @@ pub fn store_object(stack: &mut Stack, place: u8, ahead: bool) -> Done
         IsAt spot ahead stack.old →
         Comes result classes spot (Store place kind.AnyObject) program stack.old stack.new }
     ensures kept { Keeps stack.old stack.new }
+    ensures still { IsTrue (is_still result) → stack.new ≡ stack.old }
 {
     match last_reference(stack) {
         Reference::Missing => Done::Bad(1),
@@ -151,6 +158,7 @@ pub fn discard(stack: &mut Stack, ahead: bool) -> Done
     ensures done { (classes : List Name) (spot : Spot) (program : Areas) →
         IsAt spot ahead stack.old → Comes result classes spot Discard program stack.old stack.new }
     ensures kept { Keeps stack.old stack.new }
+    ensures still { IsTrue (is_still result) → stack.new ≡ stack.old }
 {
     if stack.count() == 0 {
         return Done::Bad(1);
@@ -168,6 +176,7 @@ pub fn copy(stack: &mut Stack, ahead: bool) -> Done
     ensures done { (classes : List Name) (spot : Spot) (program : Areas) →
         IsAt spot ahead stack.old → Comes result classes spot Copy program stack.old stack.new }
     ensures kept { Keeps stack.old stack.new }
+    ensures still { IsTrue (is_still result) → stack.new ≡ stack.old }
 {
     let Some(value) = stack.operand(0) else {
         return Done::Bad(1);

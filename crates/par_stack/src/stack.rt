@@ -209,6 +209,13 @@ impl Stack {
         }
     }
 
+    /// The number of frames.
+    pub fn depth(&self) -> usize
+        ensures { result ≡ length self.now }
+    {
+        1 + self.waiting.len()
+    }
+
     /// Where the frame stands that has so many frames above it, none where there are not so many.
     pub fn point_below(&self, above: usize) -> Option<Point>
         ensures { result ≡ option_map (λ f. f.point) (slice_get self.now above) }

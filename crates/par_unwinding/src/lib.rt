@@ -1,0 +1,11 @@
+//! Where a thrown exception goes through the frames of a running program: to the first frame, from
+//! the one that runs outward, of which a handler takes it.
+//!
+//! The frame is found before anything is changed, so that what stands against its handler can be
+//! told of the instruction that throws. The crate makes no object, compares no name and takes no
+//! memory.
+#![tactic(auto)]
+
+mod unwinding;
+
+pub use unwinding::{Landing, land, landing_of};
