@@ -1,6 +1,7 @@
 pub mod FirstPlaces
 pub mod Indices
 pub mod Kept
+pub mod Few
 pub mod Made
 pub mod Ordering
 pub mod Places

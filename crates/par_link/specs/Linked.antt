@@ -1,5 +1,5 @@
 -- What is known of linked class files.
-use Rattle.std.specs.Prelude.{◌≡◌, ℕ, zero, suc, ◌<◌, ◌^◌, List, length, map, Option, Some, None, slice_get}
+use Rattle.std.specs.Prelude.{◌≡◌, ℕ, zero, suc, ◌<◌, ◌≤◌, ◌^◌, List, length, map, Option, Some, None, slice_get}
 use Rattle.std.specs.List.{All}
 use Rattle.std.specs.Option.{option_map_or, unwrap_or}
 use Rattle.par_lexer.specs.Names.{IsName}
@@ -27,6 +27,13 @@ named_at files class index = named_in files (slice_get files class) index
 abbrev pub name_at : List Named → ℕ → Named
 name_at names zero = Nothing
 name_at names (suc place) = unwrap_or (slice_get names place) Nothing
+
+-- there are few files of named classes, and no rule is broken
+pub record AreLinked (files : List ClassFile) : Type 0 where
+  pub few : length files ≤ 128
+  pub small : All IsSmall files
+  pub spelled : All (λ file. IsName (own_name file)) files
+  pub unbroken : first_broken files ≡ None
 
 -- no rule is broken, what each entry names is known, and so is where each input channel stands
 pub record IsLinked (files : List ClassFile) (names : List (List Named))

@@ -1,7 +1,7 @@
 ghost use Rattle.std.specs.Prelude.{◌≡◌, ◌≤◌, ◌↔◌, List as Items, length, slice_get, IsNone};
 ghost use Rattle.std.specs.Option.{option_copied};
 ghost use Rattle.par_link.specs.Inputs.{has_input};
-ghost use Rattle.par_link.specs.Linked.{name_at, named_at};
+ghost use Rattle.par_link.specs.Linked.{AreLinked, name_at, named_at};
 
 use crate::channels::Channels;
 use crate::entry::Named;
@@ -38,6 +38,14 @@ impl Linked {
         ensures none { IsNone result ↔ (length self.now ≤ class) }
     {
         self.files.get(class as usize)
+    }
+
+    /// How many files there are.
+    pub fn count(&self) -> u16
+        ensures many { result ≡ length self.now }
+        ensures linked { AreLinked self.now }
+    {
+        self.files.len() as u16
     }
 
     /// All files, in their order.

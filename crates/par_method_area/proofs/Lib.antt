@@ -1,0 +1,16 @@
+pub mod Beside
+pub mod Apart
+pub mod Unbroken
+pub mod Taking
+pub mod Saying
+pub mod Linking
+pub mod Numbered
+pub mod Counts
+pub mod Placed
+pub mod Calling
+pub mod Fitting
+pub mod Flags
+pub mod Coded
+pub mod Named
+pub mod Making
+pub mod Lining

@@ -1,0 +1,10 @@
+pub mod Names
+pub mod Fits
+pub mod Rows
+pub mod Channels
+pub mod Fields
+pub mod Methods
+pub mod Classes
+pub mod Area
+pub mod Known
+pub mod Targets

@@ -1,0 +1,121 @@
+ghost use Rattle.std.specs.Prelude.{◌≡◌, map, IfOk};
+ghost use Rattle.par_steps.specs.Classes.{class_names, exceptions};
+ghost use Rattle.par_steps.specs.Fields.{all_statics};
+ghost use Rattle.par_link.specs.Linked.{AreLinked};
+ghost use Rattle.par_values.specs.Reasons.{Spot};
+ghost use Rattle.par_actions.specs.Leaving.{KnowsExceptions};
+ghost use Rattle.par_method_area.specs.Area.{KnowsLines};
+ghost use Rattle.par_lines.specs.Lines.{channels_of};
+ghost use Rattle.par_method_area.specs.Classes.{IsClassRow, lines_in, line_rows};
+ghost use Rattle.par_method_area.specs.Known.{KnowsCode, code_at};
+ghost use Rattle.par_method_area.specs.Rows.{AreRows};
+
+use crate::channels::ChannelLines;
+use crate::classes::{ClassRow, class_rows};
+use crate::exceptions::exception_flags;
+use crate::known::Code;
+use crate::names::ClassNumbers;
+use crate::statics::all_statics;
+use par_lexer::list::{List, NoMemory};
+use par_link::Linked;
+use par_values::inputs::Inputs;
+use par_values::value::MVal;
+use std::alloc::Global;
+use std::marker::Model;
+
+/// Linked class files with what is told once of their classes, fields and methods. Contracts see
+/// the files, and for each method the place of the line of the channel of its name.
+#[derive(Drop)]
+pub struct MethodArea {
+    pub(crate) linked: Linked,
+    pub(crate) rows: List<ClassRow>,
+    pub(crate) exceptions: List<bool>,
+    pub(crate) statics: List<MVal>,
+}
+
+impl Model for MethodArea {
+    ghost use Rattle.par_method_area.specs.Area.{Area, area_of, AreTold};
+
+    ghost Value = { Area };
+
+    ghost view = { λ area. area_of area.linked area.rows };
+
+    ghost invariant = { λ area.
+        AreTold area.linked area.rows area.exceptions area.statics };
+}
+
+/// What is told once of each class of some files, where the input channels have these lines.
+fn told_rows(alloc: Global, linked: &Linked, inputs: &Inputs) -> Result<List<ClassRow>, NoMemory>
+    requires { AreLinked linked.now }
+    ensures rows { IfOk result (λ rows.
+        AreRows (IsClassRow (class_names linked.now) linked.now) linked.now rows) }
+    ensures lines { IfOk result (λ rows.
+        map lines_in rows ≡ line_rows linked.now (channels_of inputs.now.channels)) }
+{
+    let numbers = ClassNumbers::of(alloc, linked.files())?;
+    let lines = ChannelLines::of(alloc, inputs.channels.as_slice())?;
+    class_rows(alloc, &numbers, &lines, linked.files())
+}
+
+impl MethodArea {
+    /// What is told once of linked files, where the input channels have these lines.
+    pub fn of(alloc: Global, linked: Linked, inputs: &Inputs) -> Result<MethodArea, NoMemory>
+        ensures files { IfOk result (λ area. area.files ≡ linked) }
+        ensures lines { IfOk result (λ area. KnowsLines area (channels_of inputs.now.channels)) }
+    {
+        let _ = linked.count();
+        let rows = told_rows(alloc, &linked, inputs)?;
+        let exceptions = exception_flags(alloc, linked.files())?;
+        let statics = all_statics(alloc, linked.files())?;
+        Ok(MethodArea {
+            linked,
+            rows,
+            exceptions,
+            statics,
+        })
+    }
+
+    /// The files.
+    pub fn linked(&self) -> &Linked
+        ensures { result.now ≡ self.now.files }
+    {
+        &self.linked
+    }
+
+    /// What all static fields hold before they are written.
+    pub fn first_statics(&self) -> &[MVal]
+        ensures { result.now ≡ all_statics self.now.files }
+    {
+        self.statics.as_slice()
+    }
+
+    /// Of each class by its number whether it is one of exceptions.
+    pub fn exceptions(&self) -> &[bool]
+        ensures { (spot : Spot) → spot.exceptions ≡ exceptions self.now.files →
+            KnowsExceptions spot result.now }
+    {
+        self.exceptions.as_slice()
+    }
+
+    /// The code of a method, none where it has none.
+    pub fn code(&self, class: u16, method: u16) -> Option<Code<'_>>
+        ensures { KnowsCode self.now.files class method
+            (code_at self.now.files class method) result }
+    {
+        let code = self
+            .linked
+            .file(class)?
+            .methods
+            .get(method as usize)?
+            .code
+            .as_ref()?;
+        let row = self.rows.get(class as usize)?.methods.get(method as usize)?;
+        Some(Code {
+            bytes: code.code.as_slice(),
+            room: code.max_stack,
+            locals: code.max_locals,
+            gives: row.gives,
+            starts: &row.starts,
+        })
+    }
+}
