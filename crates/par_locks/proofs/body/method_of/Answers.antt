@@ -1,0 +1,14 @@
+use Rattle.std.proofs.Common.{sym}
+use Rattle.par_typed.specs.Shown as shown
+use Rattle.par_locks.proofs.Methods.{declared, orderly}
+use Rattle.par_locks.proofs.body.method_of.Goals as goal
+
+pub returns-clause-method : goal.returns-clause-method
+returns-clause-method c =
+    declared c.args.table.now (shown.body c.args.body.now) c.in-Some.method.now
+    (sym (rw c.in-Some.is at c.method_at.ensures))
+
+pub returns-clause-orderly : goal.returns-clause-orderly
+returns-clause-orderly c =
+    orderly c.args.table.now (shown.body c.args.body.now) c.in-Some.method.now
+    (sym (rw c.in-Some.is at c.method_at.ensures)) c.requires
