@@ -24,7 +24,7 @@ use Rattle.par_flow.specs.declared.kept.KeptWay.{KeptWay}
 use Rattle.par_flow.specs.declared.kept.KeptWays.{KeptWays}
 use Rattle.par_flow.specs.declared.table.Row.{Row}
 use Rattle.par_flow.specs.declared.table.FactTable.{FactTable}
-use Rattle.par_flow.specs.Kept.{exit_of, way_with, MayShow}
+use Rattle.par_flow.specs.Kept.{exit_of, way_with, AreOnce, MayShow}
 use Rattle.par_flow.specs.Statements.{points}
 use Rattle.par_flow.specs.Table.{reached, value_in, exits_in, entry_in, row_at, envs_in, entry_at, flags, may_way, fact_in, ShowsFact, AllShow, IsTableOf}
 use Rattle.par_flow.proofs.Ways.{may_still}
@@ -59,6 +59,7 @@ shows_still es gs x r f s = record {
   entry = may_still es gs x r.entry f.entry s.entry;
   value = s.value;
   exits = λ k. may_still es gs x (exit_of r.exits k) (f.exit k) (s.exits k);
+  once = s.once;
 }
 
 all_still : (es gs : List (List ℕ)) → Extends es gs → (rs : List Row) (fs : List (Fact numbers)) → AllShow es rs fs → AllShow gs rs fs
@@ -153,6 +154,10 @@ module _ (t : FactTable) (fs : List (Fact numbers)) (shown : AllShow (envs_in t)
   exits_of p (Some r) e ways h k =
       subst (λ w. MayShow (envs_in t) (exit_of w k) ((fact_in (envs_in t) (Some r)).exit k)) (held r.entry r.exits ways h) ((shown_at (envs_in t) t.rows.items fs shown p r e).exits k)
 
+  once_of : (p : ℕ) (o : Option Row) → slice_get t.rows.items p ≡ o → (ways : KeptWays) → exits_in o ≡ Some ways → AreOnce ways.throws
+  once_of p None e ways h = absurd (let g : None ≡ Some ways = h in cc)
+  once_of p (Some r) e ways h = subst (λ w. AreOnce w.throws) (held r.entry r.exits ways h) (shown_at (envs_in t) t.rows.items fs shown p r e).once
+
   values_of : (o : Option Row) (v : ℕ) → value_in o ≡ Some v → has v ≡ (fact_in (envs_in t) o).value
   values_of None v h = absurd (let g : None ≡ Some v = h in cc)
   values_of (Some r) v h = ap has (sym (held_unless r.entry r.is_statement r.value v h))
@@ -171,6 +176,7 @@ module _ (t : FactTable) (fs : List (Fact numbers)) (shown : AllShow (envs_in t)
     different = different t.numbered.entries.items found;
     entries = λ p. entries_of p (row_at t p) refl;
     exits = λ p. exits_of p (row_at t p) refl;
+    once = λ p. once_of p (row_at t p) refl;
     values = λ p v. values_of (row_at t p) v;
     left = λ p. left_of (row_at t p);
     valued = λ p. valued_of p (row_at t p) refl ∙ ap (λ l. is_some (entry_at t p) && not (is_among l p)) all;

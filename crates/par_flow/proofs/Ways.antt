@@ -3,7 +3,7 @@ use Rattle.std.proofs.Common.{◌≡◌, ℕ, zero, suc, Bool, true, false, not,
 use Rattle.std.specs.Prelude.{is_some, nat_eq}
 use Rattle.std.proofs.Math.Path.{fun_ext}
 use Rattle.std.proofs.lemmas.Nat.Bits.{bit_at-zero}
-use Rattle.std.proofs.lemmas.Bool.{eqb-true}
+use Rattle.std.proofs.lemmas.Bool.{eqb-true, eqb-false, ne_eqb}
 use Rattle.par_bits.specs.Sets.{has, none}
 use Rattle.par_rules.specs.Lattice.{numbers}
 use Rattle.par_rules.specs.Ways.{Way}
@@ -16,7 +16,7 @@ use Rattle.par_envs.specs.Same.{AreSame}
 use Rattle.par_envs.specs.Numbered.{Extends, Names}
 use Rattle.par_flow.specs.declared.kept.KeptWay.{KeptWay}
 use Rattle.par_flow.specs.declared.kept.KeptWays.{KeptWays}
-use Rattle.par_flow.specs.Kept.{exit_of, ShowsWay, ShowThrows, MayShow, thrown}
+use Rattle.par_flow.specs.Kept.{exit_of, ShowsWay, ShowThrows, AreOnce, MayShow, thrown}
 
 none_is : none ≡ has 0
 unfolding has
@@ -128,3 +128,19 @@ all_exits es xs w n r b c t kind.Return = r
 all_exits es xs w n r b c t kind.Break = b
 all_exits es xs w n r b c t kind.Continue = c
 all_exits es xs w n r b c t (kind.Throw class) = t class
+
+apart : (b : Bool) (x : KeptWay) (o : Option KeptWay) → cond b (Some x) o ≡ None → (b ≡ false) × (o ≡ None)
+apart true x o e = absurd (let g : Some x ≡ None = e in cc)
+apart false x o e = (refl, e)
+
+both_none : (o p : Option KeptWay) → o ≡ None → p ≡ None → or_else o p ≡ None
+both_none None p e f = f
+both_none (Some x) p e f = e
+
+-- one more throw, of another class
+pub once_more : (ts : List (ℕ × KeptWay)) (class : ℕ) (k : KeptWay) → thrown ts class ≡ None → AreOnce ts → AreOnce (ts ++ (class, k) ∷ [])
+once_more [] class k n o = (refl, tt)
+once_more (t ∷ ts) class k n o =
+    let h = apart (nat_eq t.0 class) t.1 (thrown ts class) n in
+    let other : nat_eq class t.0 ≡ false = ne_eqb class t.0 (λ e. eqb-false t.0 class h.0 (sym e)) in
+    (thrown_more ts (class, k) t.0 ∙ both_none _ _ o.0 (ap (λ b. cond b (Some k) None) other), once_more ts class k h.1 o.1)

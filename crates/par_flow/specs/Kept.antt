@@ -40,3 +40,8 @@ exit_of ways (kind.Throw class) = thrown ways.throws class
 -- the throws among exits
 abbrev pub ShowThrows : List (List ℕ) → List (ℕ × KeptWay) → List Exit → Type 0
 ShowThrows es ts xs = (class : ℕ) → MayShow es (thrown ts class) (at xs (kind.Throw class))
+
+-- each class stands once at most
+abbrev pub AreOnce : List (ℕ × KeptWay) → Type 0
+AreOnce [] = Unit {0}
+AreOnce (t ∷ ts) = (thrown ts t.0 ≡ None) × AreOnce ts

@@ -15,7 +15,7 @@ use Rattle.par_flow.specs.declared.kept.KeptWay.{KeptWay}
 use Rattle.par_flow.specs.declared.kept.KeptWays.{KeptWays}
 use Rattle.par_flow.specs.declared.table.Row.{Row}
 use Rattle.par_flow.specs.declared.table.FactTable.{FactTable}
-use Rattle.par_flow.specs.Kept.{exit_of, way_with, MayShow}
+use Rattle.par_flow.specs.Kept.{exit_of, way_with, AreOnce, MayShow}
 use Rattle.par_flow.specs.Statements.{points}
 
 abbrev pub entry_in : Option Row → Option KeptWay
@@ -56,6 +56,7 @@ pub record ShowsFact (es : List (List ℕ)) (r : Row) (f : Fact numbers) : Type 
   pub entry : MayShow es r.entry f.entry
   pub value : has r.value ≡ f.value
   pub exits : (k : Kind) → MayShow es (exit_of r.exits k) (f.exit k)
+  pub once : AreOnce r.exits.throws
 
 abbrev pub AllShow : List (List ℕ) → List Row → List (Fact numbers) → Type 0
 AllShow es [] [] = Unit {0}
@@ -97,6 +98,7 @@ pub record IsTableOf (table : Table) (b : Body) (t : FactTable) : Type 0 where
   pub entries : (p : ℕ) → MayShow (envs_in t) (entry_at t p) (facts_in t p).entry
   pub exits : (p : ℕ) (ways : KeptWays) → exits_at t p ≡ Some ways → (k : Kind)
       → MayShow (envs_in t) (exit_of ways k) ((facts_in t p).exit k)
+  pub once : (p : ℕ) (ways : KeptWays) → exits_at t p ≡ Some ways → AreOnce ways.throws
   pub values : (p v : ℕ) → value_at t p ≡ Some v → has v ≡ (facts_in t p).value
   pub left : (p : ℕ) → is_some (exits_at t p) ≡ is_some (entry_at t p)
   pub valued : (p : ℕ) → is_some (value_at t p)

@@ -8,7 +8,7 @@ ghost use Rattle.par_except.specs.Seen.{may_see, seen};
 ghost use Rattle.par_pass.specs.Exits.{at, Exit as Left};
 ghost use Rattle.par_envs.specs.Numbered.{AreFound, Extends, envs};
 ghost use Rattle.par_rounds.specs.Seen.{seen_exit, seen_exits};
-ghost use Rattle.par_flow.specs.Kept.{exit_of, ShowThrows, ShowsWay, MayShow};
+ghost use Rattle.par_flow.specs.Kept.{exit_of, AreOnce, ShowThrows, ShowsWay, MayShow};
 
 use crate::kept::{KeptWay, KeptWays, thrown};
 use par_envs::Envs;
@@ -111,6 +111,7 @@ fn keep_throw(
     ensures throws { OnOk result ((xs : Items Left)
         → ShowThrows (envs numbered.old.entries.items) throws.old xs
         → ShowThrows (envs numbered.new.entries.items) throws.new (xs ++ seen_exit exit.now ∷ [])) }
+    ensures once { OnOk result (AreOnce throws.old → AreOnce throws.new) }
 {
     if let Some(class) = class_of(exit.kind) {
         if thrown(throws.as_slice(), class).is_none() {
@@ -133,6 +134,7 @@ fn keep_throws(
         (Extends (envs numbered.old.entries.items) (envs numbered.new.entries.items)) }
     ensures throws { IfOk result
         (λ kept. ShowThrows (envs numbered.new.entries.items) kept (seen_exits exits.now)) }
+    ensures once { IfOk result AreOnce }
 {
     let mut throws = List::new(alloc);
     for exit in exits {
@@ -149,6 +151,7 @@ pub fn keep_exits(alloc: Global, numbered: &mut Envs, exits: &[Exit]) -> Result<
         (Extends (envs numbered.old.entries.items) (envs numbered.new.entries.items)) }
     ensures exits { IfOk result (λ kept. (k : Completion)
         → MayShow (envs numbered.new.entries.items) (exit_of kept k) (at (seen_exits exits.now) k)) }
+    ensures once { IfOk result (λ kept. AreOnce kept.throws) }
 {
     let normal = keep_exit(alloc, numbered, exits, Kind::Normal)?;
     let ret = keep_exit(alloc, numbered, exits, Kind::Return)?;

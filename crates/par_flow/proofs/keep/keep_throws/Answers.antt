@@ -18,4 +18,5 @@ loop-exit-preserved c =
           subst (λ l. MayShow gs (thrown c.keep_throw.new.throws class) (at l (Throw class)))
           (sym (exits_more c.args.exits.now c.loop-exit.exit-index c.exit-item.result c.loop-exit-test.true c.exit-item.is))
           (c.in_ok-keep_throw.ensures.throws (seen_exits (take c.loop-exit.exit-index c.args.exits.now)) c.loop-exit.invariant.throws class);
+      once = c.in_ok-keep_throw.ensures.once c.loop-exit.invariant.once;
     }
