@@ -1,5 +1,6 @@
 -- Environments by their numbers, and how they are found.
-use Rattle.std.specs.Prelude.{◌≡◌, ℕ, suc, Bool, ◌&&◌, not, cond, nat_eq, Some, List, [], ◌∷◌, map, slice_get}
+use Rattle.std.specs.Prelude.{◌≡◌, ℕ, suc, Bool, ◌&&◌, not, cond, nat_eq, Some}
+use Rattle.std.specs.Prelude.{List, [], ◌∷◌, map, slice_get}
 use Rattle.par_envs.specs.declared.envs.Entry.{Entry}
 use Rattle.par_envs.specs.Same.{policy, AreSame}
 

@@ -1,5 +1,6 @@
 -- What a table of facts says of points.
-use Rattle.std.specs.Prelude.{◌≡◌, ℕ, Bool, ◌&&◌, not, cond, Option, Some, None, is_some, List, [], ◌∷◌, map, slice_get, slice_index_or}
+use Rattle.std.specs.Prelude.{◌≡◌, ℕ, Bool, ◌&&◌, not, cond, Option, Some, None, is_some}
+use Rattle.std.specs.Prelude.{List, [], ◌∷◌, map, slice_get, slice_index_or}
 use Rattle.par_policy.specs.Numbers.{has as is_among}
 use Rattle.par_typed.specs.declared.table.Table.{Table}
 use Rattle.par_typed.specs.Plain.{Body}

@@ -1,5 +1,6 @@
 // What is kept of the facts of a point.
-ghost use Rattle.std.specs.Prelude.{◌≡◌, ◌∷◌, ◌++◌, ℕ, false, [], IfOk, OnOk, MatchOption, List as Items};
+ghost use Rattle.std.specs.Prelude.{◌≡◌, ◌∷◌, ◌++◌, ℕ, false, [], IfOk, OnOk, MatchOption};
+ghost use Rattle.std.specs.Prelude.{List as Items};
 ghost use Rattle.std.specs.Option.{option_copied};
 ghost use Rattle.par_rules.specs.Kinds as kinds;
 ghost use Rattle.par_rules.specs.Kinds.{Kind as Completion};
@@ -88,7 +89,8 @@ fn keep_exit(
 
 // The class of a throw.
 fn class_of(kind: Kind) -> Option<u16>
-    ensures { MatchOption result ((class : ℕ) → kinds.same (seen_kind kind) (kinds.Throw class) ≡ false)
+    ensures { MatchOption result
+        ((class : ℕ) → kinds.same (seen_kind kind) (kinds.Throw class) ≡ false)
         (λ class. seen_kind kind ≡ kinds.Throw class) }
 {
     match kind {
@@ -150,7 +152,8 @@ pub fn keep_exits(alloc: Global, numbered: &mut Envs, exits: &[Exit]) -> Result<
     ensures more { OnOk result
         (Extends (envs numbered.old.entries.items) (envs numbered.new.entries.items)) }
     ensures exits { IfOk result (λ kept. (k : Completion)
-        → MayShow (envs numbered.new.entries.items) (exit_of kept k) (at (seen_exits exits.now) k)) }
+        → MayShow (envs numbered.new.entries.items) (exit_of kept k)
+        (at (seen_exits exits.now) k)) }
     ensures once { IfOk result (λ kept. AreOnce kept.throws) }
 {
     let normal = keep_exit(alloc, numbered, exits, Kind::Normal)?;

@@ -1,5 +1,6 @@
 // The facts of a body.
-ghost use Rattle.std.specs.Prelude.{◌≡◌, ◌<◌, ◌||◌, ℕ, false, nat_eq, Some, IfOk, OnOk, length, slice_get, slice_index_or};
+ghost use Rattle.std.specs.Prelude.{◌≡◌, ◌<◌, ◌||◌, ℕ, false, nat_eq, Some, IfOk, OnOk};
+ghost use Rattle.std.specs.Prelude.{length, slice_get, slice_index_or};
 ghost use Rattle.par_policy.specs.Numbers.{has as is_among};
 ghost use Rattle.std.specs.List.{AllByRecursion};
 ghost use Rattle.std.specs.Option.{option_copied};
@@ -11,7 +12,8 @@ ghost use Rattle.par_rounds.specs.Seen.{seen_fact, seen_facts};
 ghost use Rattle.par_verdict.specs.Accepted.{IsOrderlyBody};
 ghost use Rattle.par_verdict.specs.Standing.{stands};
 ghost use Rattle.par_locks.specs.Open.{open_at, AreOpenOf};
-ghost use Rattle.par_flow.specs.Table.{entry_at, envs_in, exits_at, facts_in, flags, stood, value_at};
+ghost use Rattle.par_flow.specs.Table.{entry_at, envs_in, exits_at, facts_in, flags, stood};
+ghost use Rattle.par_flow.specs.Table.{value_at};
 ghost use Rattle.par_flow.specs.Table.{AllShow, IsTableOf, ShowsFact};
 
 use crate::keep::{keep_exits, may_keep};
