@@ -15,6 +15,8 @@ mod exits;
 #[cfg(test)]
 mod expect;
 #[cfg(test)]
+mod facts;
+#[cfg(test)]
 mod first_faults;
 #[cfg(test)]
 mod heaps;

@@ -1,1 +1,3 @@
-pub mod Methods
+pub mod Points
+pub mod Ways
+pub mod Rows

@@ -1,10 +1,14 @@
 //! The least facts of the bodies of a program, by points.
 //!
-//! The crate finds the facts of a body by the rounds over the tree of its rules, keeps them, and
-//! answers what a verdict asks of them. It knows no rule that can be broken.
+//! The crate keeps what the rounds over the tree of rules find: each different environment once,
+//! and ways with the numbers of theirs. It answers what a verdict asks, and knows no rule that can
+//! be broken.
 #![tactic(auto)]
 
-mod method;
+mod keep;
+mod kept;
+mod statements;
 mod table;
 
-pub use table::FactTable;
+pub use kept::{KeptWay, KeptWays};
+pub use table::{FactTable, facts_of};

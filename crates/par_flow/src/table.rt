@@ -1,34 +1,220 @@
-//! The facts of a body.
-
-ghost use Rattle.std.specs.Prelude.{◌≡◌, IfOk};
+// The facts of a body.
+ghost use Rattle.std.specs.Prelude.{◌≡◌, ◌<◌, ◌||◌, ℕ, false, nat_eq, Some, IfOk, OnOk};
+ghost use Rattle.std.specs.Prelude.{length, slice_get, slice_index_or};
+ghost use Rattle.par_policy.specs.Numbers.{has as is_among};
+ghost use Rattle.std.specs.List.{AllByRecursion};
 ghost use Rattle.std.specs.Option.{option_copied};
+ghost use Rattle.par_typed.specs.Plain.{Body};
+ghost use Rattle.par_typed.specs.Shown as shown;
+ghost use Rattle.par_envs.specs.Numbered.{AreFound, Extends, envs};
 ghost use Rattle.par_except.specs.Seen.{may_see};
-ghost use Rattle.par_pass.specs.Written.{table as by_point};
-ghost use Rattle.par_rounds.specs.Seen.{seen_facts};
-ghost use Rattle.par_verdict.specs.Standing.{standing, stands};
+ghost use Rattle.par_rounds.specs.Seen.{seen_fact, seen_facts};
+ghost use Rattle.par_verdict.specs.Accepted.{IsOrderlyBody};
+ghost use Rattle.par_verdict.specs.Standing.{stands};
+ghost use Rattle.par_locks.specs.Open.{open_at, AreOpenOf};
+ghost use Rattle.par_flow.specs.Table.{entry_at, envs_in, exits_at, facts_in, flags, stood};
+ghost use Rattle.par_flow.specs.Table.{value_at};
+ghost use Rattle.par_flow.specs.Table.{AllShow, IsTableOf, ShowsFact};
 
-use crate::method::method_of;
+use crate::keep::{keep_exits, may_keep};
+use crate::kept::{KeptWay, KeptWays, exit_of};
+use crate::statements::list_points;
 use par_atoms::Atoms;
+use par_envs::Envs;
 use par_except::Way;
 use par_lexer::list::NoMemory;
-use par_nodes::body::body_node;
+use par_locks::{LockFacts, body_at, rows_of};
 use par_nodes::rule::Kind;
-use par_rounds::{Fact, entry_at, exit_at, facts_of_body, value_at};
-use par_typed::program::TBody;
+use par_rounds::Fact;
+use par_typed::program::{TBody, Typed};
 use par_typed::table::Table;
 use par_verdict::FindsFacts;
 use par_verdict::known::{Known, KnownFacts};
 use std::alloc::Global;
 
+/// The way that enters a node, if it is reached, its value if it is an expression, and how it is
+/// left.
+#[derive(Drop)]
+struct Row {
+    entry: Option<KeptWay>,
+    value: Atoms,
+    is_statement: bool,
+    exits: KeptWays,
+}
+
 /// The least facts of a body, by the points of its nodes.
 #[derive(Drop)]
 pub struct FactTable {
-    rows: Vec<Fact>,
+    numbered: Envs,
+    rows: Vec<Row>,
+}
+
+impl FactTable {
+    /// The way that enters the node, if it is reached.
+    pub fn entry(&self, point: u32) -> Option<&KeptWay>
+        ensures { option_copied result ≡ entry_at self.now point }
+    {
+        match self.rows.get(point as usize) {
+            None => None,
+            Some(row) => match &row.entry {
+                None => None,
+                Some(way) => Some(way),
+            },
+        }
+    }
+
+    /// The value of the node, if it is an expression and is reached.
+    pub fn value(&self, point: u32) -> Option<&Atoms>
+        ensures { option_copied result ≡ value_at self.now point }
+    {
+        match self.rows.get(point as usize) {
+            None => None,
+            Some(row) => {
+                if row.entry.is_some() && !row.is_statement {
+                    Some(&row.value)
+                } else {
+                    None
+                }
+            }
+        }
+    }
+
+    /// How the node is left, if it is reached.
+    pub fn exits(&self, point: u32) -> Option<&KeptWays>
+        ensures { option_copied result ≡ exits_at self.now point }
+    {
+        match self.rows.get(point as usize) {
+            None => None,
+            Some(row) => {
+                if row.entry.is_some() {
+                    Some(&row.exits)
+                } else {
+                    None
+                }
+            }
+        }
+    }
+
+    /// The policies of the locals in the environment of a number, if the number names one.
+    pub fn env(&self, number: u32) -> Option<&[Atoms]>
+        ensures { option_copied result ≡ slice_get (envs_in self.now) number }
+    {
+        self.numbered.get(number)
+    }
+}
+
+// What is kept of the fact of a point.
+fn keep_row(
+    alloc: Global,
+    numbered: &mut Envs,
+    fact: &Fact,
+    is_statement: bool,
+) -> Result<Row, NoMemory>
+    requires { AreFound numbered.old.entries.items }
+    ensures found { OnOk result (AreFound numbered.new.entries.items) }
+    ensures more { OnOk result
+        (Extends (envs numbered.old.entries.items) (envs numbered.new.entries.items)) }
+    ensures fact { IfOk result
+        (λ row. ShowsFact (envs numbered.new.entries.items) row (seen_fact fact.now)) }
+    ensures statement { IfOk result (λ row. row.is_statement ≡ is_statement) }
+{
+    let entry = may_keep(alloc, numbered, entry_of(fact))?;
+    let exits = keep_exits(alloc, numbered, &fact.exits)?;
+    Ok(Row {
+        entry,
+        value: fact.value,
+        is_statement,
+        exits,
+    })
+}
+
+fn entry_of(fact: &Fact) -> Option<&Way>
+    ensures { may_see (option_copied result) ≡ may_see fact.now.entry }
+{
+    match &fact.entry {
+        None => None,
+        Some(way) => Some(way),
+    }
+}
+
+// The table of these facts, and of which points are those of statements.
+fn keep_rows(alloc: Global, facts: &[Fact], statements: &[bool]) -> Result<FactTable, NoMemory>
+    requires { length statements.now ≡ length facts.now }
+    ensures found { IfOk result (λ t. AreFound t.numbered.entries.items) }
+    ensures facts { IfOk result (λ t. AllShow (envs_in t) t.rows.items (seen_facts facts.now)) }
+    ensures statements { IfOk result (λ t. flags t.rows.items ≡ statements.now) }
+{
+    let mut numbered = Envs::new(alloc);
+    let mut rows = Vec::new(alloc);
+    for (place, fact) in facts.iter().enumerate() {
+        let row = keep_row(alloc, &mut numbered, fact, statements[place])?;
+        rows.push(row)?;
+    }
+    Ok(FactTable { numbered, rows })
+}
+
+// Notes a point, if it has a place.
+fn mark(flags: &mut [bool], point: u32)
+    ensures size { length flags.new ≡ length flags.old }
+    ensures flags { (p : ℕ) → p < length flags.old → slice_index_or flags.new p false
+        ≡ (slice_index_or flags.old p false || nat_eq point p) }
+{
+    let place = point as usize;
+    if place < flags.len() {
+        flags[place] = true;
+    }
+}
+
+// For each point, whether it is listed.
+fn flags_of(alloc: Global, points: usize, listed: &[u32]) -> Result<Vec<bool>, NoMemory>
+    ensures size { IfOk result (λ fs. length fs.items ≡ points) }
+    ensures flags { IfOk result (λ fs. (p : ℕ) → p < points
+        → slice_index_or fs.items p false ≡ is_among listed.now p) }
+{
+    let mut flags = vec![in alloc; false; points]?;
+    for point in listed {
+        mark(flags.as_mut_slice(), *point);
+    }
+    Ok(flags)
+}
+
+// The table of a body.
+fn table_of(alloc: Global, table: &Table, body: &TBody) -> Result<FactTable, NoMemory>
+    requires { IsOrderlyBody table.now (shown.body body.now) }
+    ensures { IfOk result (λ t. IsTableOf table.now (shown.body body.now) t) }
+{
+    let facts = rows_of(alloc, table, body)?;
+    let mut listed = Vec::new(alloc);
+    list_points(&body.body, &mut listed)?;
+    let statements = flags_of(alloc, facts.len(), &listed)?;
+    let table = keep_rows(alloc, &facts, &statements)?;
+    Ok(table)
+}
+
+/// The least facts of a body of a number, whose open locks these are.
+pub fn facts_of(
+    alloc: Global,
+    typed: &Typed,
+    body: u16,
+    locks: &LockFacts,
+) -> Result<FactTable, NoMemory>
+    requires body { body < length typed.now.bodies }
+    requires orderly { AllByRecursion (IsOrderlyBody typed.now.table)
+        (shown.bodies typed.now.bodies) }
+    requires locks { (b : Body) → slice_get (shown.bodies typed.now.bodies) body ≡ Some b
+        → AreOpenOf typed.now.table b (open_at locks.now) }
+    ensures { IfOk result (λ t. (b : Body) → slice_get (shown.bodies typed.now.bodies) body ≡ Some b
+        → IsTableOf typed.now.table b t) }
+{
+    let _locks = locks;
+    let body = body_at(typed, body);
+    let table = table_of(alloc, &typed.table, body)?;
+    Ok(table)
 }
 
 // What a verdict asks of a way, if there is one.
-fn known(way: Option<&Way>) -> Option<Known>
-    ensures { stands result ≡ standing (may_see (option_copied way.entry)) }
+fn known(way: Option<KeptWay>) -> Option<Known>
+    ensures { stands result ≡ stood way }
 {
     match way {
         None => None,
@@ -40,26 +226,33 @@ fn known(way: Option<&Way>) -> Option<Known>
 }
 
 impl KnownFacts for FactTable {
-    ghost facts = { λ t. by_point (seen_facts t.rows.items) };
+    ghost facts = { facts_in };
 
     fn entry(&self, point: u32) -> Option<Known> {
-        known(entry_at(&self.rows, point))
+        match self.rows.get(point as usize) {
+            None => None,
+            Some(row) => known(row.entry),
+        }
     }
 
     fn exit(&self, point: u32, kind: Kind) -> Option<Known> {
-        known(exit_at(&self.rows, point, kind))
+        match self.rows.get(point as usize) {
+            None => None,
+            Some(row) => known(exit_of(&row.exits, kind)),
+        }
     }
 
     fn value(&self, point: u32) -> Atoms {
-        value_at(&self.rows, point)
+        match self.rows.get(point as usize) {
+            None => Atoms::empty(),
+            Some(row) => row.value,
+        }
     }
 }
 
 impl FindsFacts for FactTable {
     fn facts_of(alloc: Global, table: &Table, body: &TBody) -> Result<FactTable, NoMemory> {
-        let method = method_of(table, body);
-        let node = body_node(alloc, table, body)?;
-        let rows = facts_of_body(alloc, table, body, &node, method)?;
-        Ok(FactTable { rows })
+        let table = table_of(alloc, table, body)?;
+        Ok(table)
     }
 }

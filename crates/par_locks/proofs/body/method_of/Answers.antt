@@ -1,7 +1,7 @@
 use Rattle.std.proofs.Common.{sym}
 use Rattle.par_typed.specs.Shown as shown
-use Rattle.par_flow.proofs.Methods.{declared, orderly}
-use Rattle.par_flow.proofs.method.method_of.Goals as goal
+use Rattle.par_locks.proofs.Methods.{declared, orderly}
+use Rattle.par_locks.proofs.body.method_of.Goals as goal
 
 pub returns-clause-method : goal.returns-clause-method
 returns-clause-method c =

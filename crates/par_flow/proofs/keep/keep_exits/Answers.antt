@@ -1,0 +1,23 @@
+use Rattle.par_envs.specs.Numbered.{envs, Extends}
+use Rattle.par_rounds.specs.Seen.{seen_exits}
+use Rattle.par_flow.proofs.Ways.{all_exits, extends_all, may_still}
+use Rattle.par_flow.proofs.keep.keep_exits.Goals as goal
+
+pub returns-clause-more : goal.returns-clause-more
+returns-clause-more c = λ i e h.
+    c.in_ok-throws.ensures.more i e (c.in_ok-cont.ensures.more i e (c.in_ok-brk.ensures.more i e (c.in_ok-ret.ensures.more i e (c.in_ok-normal.ensures.more i e h))))
+
+pub returns-clause-exits : goal.returns-clause-exits
+returns-clause-exits c =
+    let a = envs c.keep_exit.new.numbered.entries.items in
+    let b = envs c.keep_exit-2.new.numbered.entries.items in
+    let d = envs c.keep_exit-3.new.numbered.entries.items in
+    let e = envs c.keep_exit-4.new.numbered.entries.items in
+    let f = envs c.keep_throws.new.numbered.entries.items in
+    let ef : Extends e f = c.in_ok-throws.ensures.more in
+    let df : Extends d f = extends_all d e f c.in_ok-cont.ensures.more ef in
+    let bf : Extends b f = extends_all b d f c.in_ok-brk.ensures.more df in
+    let af : Extends a f = extends_all a b f c.in_ok-ret.ensures.more bf in
+    all_exits f (seen_exits c.args.exits.now) _
+    (may_still a f af _ _ c.in_ok-normal.ensures.way) (may_still b f bf _ _ c.in_ok-ret.ensures.way) (may_still d f df _ _ c.in_ok-brk.ensures.way) (may_still e f ef _ _ c.in_ok-cont.ensures.way)
+    c.in_ok-throws.ensures.throws

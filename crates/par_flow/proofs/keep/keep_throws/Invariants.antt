@@ -1,0 +1,13 @@
+use Rattle.std.proofs.Common.{take}
+use Rattle.par_envs.specs.Numbered.{envs, AreFound, Extends}
+use Rattle.par_rounds.specs.Seen.{seen_exits}
+use Rattle.par_flow.specs.Kept.{AreOnce, ShowThrows}
+use Rattle.par_flow.proofs.keep.keep_throws.Given as goal
+
+abbrev pub invariant-loop-exit : goal.invariant-loop-exit
+invariant-loop-exit l = record {
+  found : AreFound l.numbered.entries.items;
+  more : Extends (envs l.initial.numbered.entries.items) (envs l.numbered.entries.items);
+  throws : ShowThrows (envs l.numbered.entries.items) l.throws (seen_exits (take l.exit-index l.exits));
+  once : AreOnce l.throws;
+}

@@ -1,0 +1,19 @@
+use Rattle.std.proofs.Common.{ap, ◌∙◌, subst, ◌++◌}
+use Rattle.par_policy.specs.Numbers.{has}
+use Rattle.par_typed.specs.Shown as shown
+use Rattle.par_rounds.specs.Seen.{seen_facts}
+use Rattle.par_flow.specs.Statements.{points}
+use Rattle.par_flow.specs.Table.{envs_in, AllShow}
+use Rattle.par_flow.proofs.Rows.{table_is}
+use Rattle.par_flow.proofs.table.table_of.Goals as goal
+
+pub returns : goal.returns
+returns c =
+    let t = c.in_ok-table.table in let b = shown.body c.args.body.now in
+    table_is t (seen_facts c.in_ok-facts.facts.items)
+    (subst (λ l. AllShow (envs_in t) t.rows.items (seen_facts l)) c.deref-2.ensures.value c.in_ok-table.ensures.facts)
+    c.list_points.new.listed.items c.in_ok-statements.statements.items c.len.result
+    (c.in_ok-table.ensures.statements ∙ c.deref-3.ensures.value) c.in_ok-statements.ensures.size
+    (λ p l. c.in_ok-statements.ensures.flags p l ∙ ap (λ xs. has xs p) c.deref.ensures.value)
+    c.args.table.now b (c.in_ok-list_points.ensures ∙ ap (λ l. l ++ points b.body) c.new-listed.ensures.items)
+    c.in_ok-table.ensures.found c.in_ok-facts.ensures

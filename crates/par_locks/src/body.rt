@@ -1,0 +1,64 @@
+// The least facts of a body.
+
+ghost use Rattle.std.specs.Prelude.{◌≡◌, ◌<◌, IfOk, Some, length, slice_get};
+ghost use Rattle.std.specs.Option.{option_copied};
+ghost use Rattle.par_typed.specs.Shown as shown;
+ghost use Rattle.par_rules.specs.Declares.{declares, method_of};
+ghost use Rattle.par_rules.specs.Ranges.{IsOrderly};
+ghost use Rattle.par_pass.specs.Written.{table as by_point};
+ghost use Rattle.par_rounds.specs.Seen.{seen_facts};
+ghost use Rattle.par_rounds.specs.Bodies.{AreLeastClosed};
+ghost use Rattle.par_verdict.specs.Accepted.{IsOrderlyBody, methods_in};
+
+use par_lexer::list::NoMemory;
+use par_nodes::body::body_node;
+use par_rounds::{Fact, facts_of_body};
+use par_typed::program::{TBody, Typed};
+use par_typed::table::{MethodInfo, Table};
+use std::alloc::Global;
+
+fn method_at(table: &Table, class: u16, method: u16) -> Option<&MethodInfo>
+    ensures { option_copied result
+        ≡ slice_get (methods_in (slice_get table.now.classes class)) method }
+{
+    match table.classes.get(usize::from(class)) {
+        None => None,
+        Some(class) => class.methods.get(usize::from(method)),
+    }
+}
+
+// The method of a body that is one of the table's.
+fn method_of<'a>(table: &'a Table, body: &TBody) -> &'a MethodInfo
+    requires { IsOrderlyBody table.now (shown.body body.now) }
+    ensures method { method_of (Some result.now)
+        ≡ (declares table.now).method body.now.class body.now.method }
+    ensures orderly { IsOrderly (declares table.now) (length result.now.locals)
+        (shown.body body.now) }
+{
+    match method_at(table, body.class, body.method) {
+        Some(method) => method,
+        None => unreachable!(),
+    }
+}
+
+/// The body of a number.
+pub fn body_at(typed: &Typed, body: u16) -> &TBody
+    requires { body < length typed.now.bodies }
+    ensures { slice_get (shown.bodies typed.now.bodies) body ≡ Some (shown.body result.now) }
+{
+    let bodies = typed.bodies.as_slice();
+    let place = usize::from(body);
+    &bodies[place]
+}
+
+/// The least facts of a body of the table, by points.
+pub fn rows_of(alloc: Global, table: &Table, body: &TBody) -> Result<Vec<Fact>, NoMemory>
+    requires { IsOrderlyBody table.now (shown.body body.now) }
+    ensures { IfOk result (λ rows. AreLeastClosed table.now (shown.body body.now)
+        (by_point (seen_facts rows.items))) }
+{
+    let method = method_of(table, body);
+    let node = body_node(alloc, table, body)?;
+    let rows = facts_of_body(alloc, table, body, &node, method)?;
+    Ok(rows)
+}
