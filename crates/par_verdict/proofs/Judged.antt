@@ -1,12 +1,12 @@
 -- The broken rules of least facts are those that all closed facts break.
-use Rattle.std.proofs.Common.{◌≡◌, ℕ, Bool, true, false, not, ◌⊎◌, Option, Some, None, List, [], ◌∷◌, ◌++◌, length, refl, sym, ap, subst, ◌∙◌, ⊎_elim}
+use Rattle.std.proofs.Common.{◌≡◌, ℕ, Bool, true, false, not, Option, Some, None, List, [], ◌∷◌, ◌++◌, length, refl, sym, subst, ◌∙◌, ⊎_elim}
 use Rattle.std.specs.Prelude.{Contains, IsTrue}
 use Rattle.std.proofs.lemmas.Bool.{false≢true}
 use Rattle.std.proofs.lemmas.List.Elements.{All-contains, Contains-append_cases, Contains-append_left, Contains-append_right}
 use Rattle.par_policy.proofs.Ordered.{Contains-nil, Contains-cons_cases, Contains-first, Contains-later}
 use Rattle.par_typed.specs.declared.table.Table.{Table}
 use Rattle.par_typed.specs.declared.refusal.Refusal.{Refusal}
-use Rattle.par_typed.specs.First.{broken, comes_before, when, IsAnswer, IsFirst}
+use Rattle.par_typed.specs.First.{broken, comes_before, when, IsAnswer}
 use Rattle.par_typed.specs.declared.program.TBody.{TBody}
 use Rattle.par_typed.specs.declared.program.Typed.{Typed}
 use Rattle.par_typed.specs.Shown.{bodies}
@@ -21,7 +21,7 @@ use Rattle.par_checks.specs.Verdict.{among, KeepsNumbered, IsAccepted, IsBroken}
 use Rattle.par_checks.proofs.Kept.{keep_accept, meant, kept}
 use Rattle.par_checks.proofs.Failed.{fail_refuse}
 use Rattle.par_verdict.specs.Told.{AreBroken, AreAllBroken}
-use Rattle.par_verdict.specs.Judged.{AreRight, AreAllRight, IsFirstBroken, IsVerdict}
+use Rattle.par_verdict.specs.Judged.{AreRight, AreAllRight, IsVerdict}
 use Rattle.par_verdict.specs.Accepted.{AreAllKept, IsAcceptedBy}
 
 -- ---- one list of rules

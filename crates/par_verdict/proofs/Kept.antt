@@ -11,7 +11,7 @@ use Rattle.par_checks.specs.Verdict.{KeepsNumbered}
 use Rattle.par_asked.specs.declared.check.Check.{Check}
 use Rattle.par_asked.specs.Seen.{seen_check, seen_condition}
 use Rattle.par_verdict.specs.declared.known.Known.{Known}
-use Rattle.par_verdict.specs.Standing.{Standing, standing, stand, stands, Meets, MeetsThere}
+use Rattle.par_verdict.specs.Standing.{standing, stand, stands, Meets, MeetsThere}
 use Rattle.par_verdict.specs.Spots.{at_spot}
 
 meets_iff : (table : Table) (f : Facts numbers) (o : Option (Way numbers)) (c : Condition)

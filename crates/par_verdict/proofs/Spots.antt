@@ -1,8 +1,8 @@
 -- What is known at each form of spot.
-use Rattle.std.proofs.Common.{◌≡◌, ℕ, zero, suc, ◌+◌, ◌-◌, ◌<◌, Bool, true, false, cond, Option, Some, None, List, [], ◌∷◌, length, get_or, refl, sym, ap, subst, ◌∙◌, arith}
+use Rattle.std.proofs.Common.{◌≡◌, ℕ, suc, ◌+◌, ◌-◌, Bool, true, false, cond, Option, Some, None, List, [], ◌∷◌, length, refl, sym, ap, ◌∙◌, arith}
 use Rattle.std.specs.Prelude.{map, slice_get}
 use Rattle.std.specs.Borrow.{Bor}
-use Rattle.par_bits.specs.Sets.{Set, union}
+use Rattle.par_bits.specs.Sets.{Set}
 use Rattle.par_typed.specs.declared.expr.TExpr.{TExpr}
 use Rattle.par_typed.specs.Plain.{TExps, NoExps, More, mark}
 use Rattle.par_typed.specs.Shown.{shown, all_shown}
@@ -10,14 +10,14 @@ use Rattle.par_typed.proofs.Shown.{shown_mark}
 use Rattle.par_rules.specs.Lattice.{numbers}
 use Rattle.par_rules.specs.Kinds.{Normal}
 use Rattle.par_rules.specs.Ways.{Way, raised, moved}
-use Rattle.par_rules.specs.Facts.{Fact, Facts}
-use Rattle.par_rules.specs.Rules.{way, part_at, Entry, After, Tested}
-use Rattle.par_rules.specs.Body.{past, args_past, args_count, args_tested}
+use Rattle.par_rules.specs.Facts.{Facts}
+use Rattle.par_rules.specs.Rules.{way, part_at, Entry}
+use Rattle.par_rules.specs.Body.{past, args_past, args_count}
 use Rattle.par_checks.specs.Checks.{points_past}
 use Rattle.par_nodes.specs.declared.rule.Kind as code
 use Rattle.par_nodes.specs.Seen.{seen_kind}
 use Rattle.par_asked.specs.declared.check.Way.TheVariants as spot
-use Rattle.par_verdict.specs.Standing.{Standing, standing, heightened}
+use Rattle.par_verdict.specs.Standing.{standing, heightened}
 use Rattle.par_verdict.specs.Spots.{at_spot, behind, listed}
 
 pub at_entry : (f : Facts numbers) (p : ℕ) → at_spot f p spot.Entry ≡ standing (f p).entry

@@ -1,4 +1,4 @@
-use Rattle.std.proofs.Common.{List, [], ◌++◌, ◌≤◌, length, subst, sym}
+use Rattle.std.proofs.Common.{List, [], ◌≤◌, length, subst, sym}
 use Rattle.std.specs.Prelude.{map}
 use Rattle.std.proofs.lemmas.List.{append-nil}
 use Rattle.par_typed.specs.declared.program.TBody.{TBody}
