@@ -1,5 +1,7 @@
 -- Joins below policies, policy by policy.
-use Rattle.std.proofs.Common.{◌≡◌, ℕ, zero, suc, ◌+◌, ◌<◌, ◌≤◌, ◌↔◌, Bool, true, false, ◌||◌, not, None, List, [], ◌∷◌, ◌++◌, length, get_or, refl, sym, ap, subst, ◌∙◌, arith}
+use Rattle.std.proofs.Common.{◌≡◌, ℕ, zero, suc, ◌+◌, ◌<◌, ◌≤◌, ◌↔◌, Bool, true, false, ◌||◌, not}
+use Rattle.std.proofs.Common.{None, List, [], ◌∷◌, ◌++◌, length, get_or, refl, sym, ap, subst, ◌∙◌}
+use Rattle.std.proofs.Common.{arith}
 use Rattle.std.specs.Prelude.{IsTrue, IfOk, Result, Ok, Err, slice_get, nat_eq}
 use Rattle.std.specs.List.{filter, range_with_len}
 use Rattle.std.proofs.lemmas.Bool.{and_parts, and_from, eqb-true, false≢true}
@@ -14,15 +16,18 @@ use Rattle.par_rules.specs.Lattice.{Seen, IsSeenBelow, joined, seen_by}
 use Rattle.par_checks.specs.Keeps.{IsSeenBelowAt, locks_in}
 
 -- who sees a join sees each of its policies
-one_of_joined : (table : List (List Clause)) (s : Set) (actor : ℕ) (locks : List ℕ) → IsTrue (joined table s actor locks)
+one_of_joined : (table : List (List Clause)) (s : Set) (actor : ℕ) (locks : List ℕ)
+    → IsTrue (joined table s actor locks)
     → (n : ℕ) → n < length table → IsTrue (s n) → IsTrue (sees (get_or table n []) actor locks)
 unfolding joined
 one_of_joined [] s actor locks h n less held = absurd (omega (arith, less))
 one_of_joined (p ∷ ps) s actor locks h zero less held =
-    let parts = and_parts (not (s 0) || sees p actor locks) (joined ps (λ n. s (suc n)) actor locks) h in
+    let parts = and_parts (not (s 0) || sees p actor locks) (joined ps (λ n. s (suc n)) actor locks)
+    h in
     subst (λ b. IsTrue (not b || sees p actor locks)) held parts.0
 one_of_joined (p ∷ ps) s actor locks h (suc n) less held =
-    let parts = and_parts (not (s 0) || sees p actor locks) (joined ps (λ n. s (suc n)) actor locks) h in
+    let parts = and_parts (not (s 0) || sees p actor locks) (joined ps (λ n. s (suc n)) actor locks)
+    h in
     one_of_joined ps (λ n. s (suc n)) actor locks parts.1 n (omega (arith, less)) held
 
 where_held : (b c : Bool) → (IsTrue b → IsTrue c) → IsTrue (not b || c)
@@ -31,13 +36,15 @@ where_held false c f = refl
 
 -- who sees each of its policies sees a join
 joined_of_all : (table : List (List Clause)) (s : Set) (actor : ℕ) (locks : List ℕ)
-    → ((n : ℕ) → n < length table → IsTrue (s n) → IsTrue (sees (get_or table n []) actor locks)) → IsTrue (joined table s actor locks)
+    → ((n : ℕ) → n < length table → IsTrue (s n) → IsTrue (sees (get_or table n []) actor locks))
+    → IsTrue (joined table s actor locks)
 unfolding joined
 joined_of_all [] s actor locks f = refl
 joined_of_all (p ∷ ps) s actor locks f =
     and_from (not (s 0) || sees p actor locks) (joined ps (λ n. s (suc n)) actor locks)
     (where_held (s 0) (sees p actor locks) (λ held. f 0 (omega arith) held))
-    (joined_of_all ps (λ n. s (suc n)) actor locks (λ n less held. f (suc n) (omega (arith, less)) held))
+    (joined_of_all ps (λ n. s (suc n)) actor locks
+    (λ n less held. f (suc n) (omega (arith, less)) held))
 
 -- the policy of a number
 there : (table : List (List Clause)) (n : ℕ) → n < length table
@@ -55,7 +62,8 @@ each_below table set locks q = (
   λ f actor ls seen. joined_of_all table (has set) actor (ls ++ locks_in (has locks))
       (λ n less held. f n less held actor ls seen),
   λ h n less held actor ls seen.
-      one_of_joined table (has set) actor (ls ++ locks_in (has locks)) (h actor ls seen) n less held,
+      one_of_joined table (has set) actor (ls ++ locks_in (has locks)) (h actor ls seen) n less
+      held,
 )
 
 pub all_below : (table : List (List Clause)) (set locks policy : ℕ) → policy < length table
@@ -67,7 +75,8 @@ all_below table set locks policy less =
     (sym (there table policy less)) (each_below table set locks (get_or table policy []))
 
 -- behind the last policy there is none
-nothing : (table : List (List Clause)) (n : ℕ) → length table ≤ n → seen_by (slice_get table n) ≡ seen_by None
+nothing : (table : List (List Clause)) (n : ℕ) → length table ≤ n
+    → seen_by (slice_get table n) ≡ seen_by None
 nothing [] n le = refl
 nothing (p ∷ ps) zero le = absurd (omega (arith, le))
 nothing (p ∷ ps) (suc n) le = nothing ps n (omega (arith, le))
@@ -93,13 +102,17 @@ unseen (c ∷ p) =
 
 -- what all see is above no policy of the table
 none_below : (table : List (List Clause)) (set locks : ℕ)
-    → ((n : ℕ) → n < length table → IsTrue (has set n) → ⊥) ↔ IsSeenBelowAt (joined table (has set)) (has locks) (seen_by None)
+    → ((n : ℕ) → n < length table → IsTrue (has set n) → ⊥)
+    ↔ IsSeenBelowAt (joined table (has set)) (has locks) (seen_by None)
 none_below table set locks = (
-  λ f actor ls seen. joined_of_all table (has set) actor (ls ++ locks_in (has locks)) (λ n less held. absurd (f n less held)),
+  λ f actor ls seen. joined_of_all table (has set) actor (ls ++ locks_in (has locks))
+      (λ n less held. absurd (f n less held)),
   λ h n less held.
       let hidden = unseen (get_or table n []) in
-      let shown = one_of_joined table (has set) hidden.actor ([] ++ locks_in (has locks)) (h hidden.actor [] refl) n less held in
-      false≢true (sym (hidden.unseen hidden.actor ([] ++ locks_in (has locks)) (omega arith)) ∙ shown),
+      let shown = one_of_joined table (has set) hidden.actor ([] ++ locks_in (has locks))
+      (h hidden.actor [] refl) n less held in
+      false≢true
+      (sym (hidden.unseen hidden.actor ([] ++ locks_in (has locks)) (omega arith)) ∙ shown),
 )
 
 pub none_below_past : (table : List (List Clause)) (set locks policy : ℕ) → length table ≤ policy
@@ -115,17 +128,20 @@ nothing_kept : (a n : ℕ) → filter none (range_with_len a n) ≡ []
 nothing_kept a zero = refl
 nothing_kept a (suc n) = nothing_kept (a + 1) n
 
-pub without_locks : (p q : Seen) (opened : Set) → opened ≡ none → IsSeenBelowAt p opened q ↔ IsSeenBelow p q
+pub without_locks : (p q : Seen) (opened : Set) → opened ≡ none → IsSeenBelowAt p opened q
+    ↔ IsSeenBelow p q
 without_locks p q opened is =
     let same : (ls : List ℕ) → ls ++ locks_in opened ≡ ls =
-    λ ls. ap (λ s. ls ++ locks_in s) is ∙ ap (λ l. ls ++ l) (nothing_kept 0 256) ∙ append-nil ls in (
+    λ ls. ap (λ s. ls ++ locks_in s) is ∙ ap (λ l. ls ++ l) (nothing_kept 0 256)
+    ∙ append-nil ls in (
       λ h actor ls seen. subst (λ l. IsTrue (p actor l)) (same ls) (h actor ls seen),
       λ h actor ls seen. subst (λ l. IsTrue (p actor l)) (sym (same ls)) (h actor ls seen),
     )
 
 -- one policy
 joined_of_one : (table : List (List Clause)) (one actor : ℕ) (locks : List ℕ) → one < length table
-    → IsTrue (seen_by (slice_get table one) actor locks) → IsTrue (joined table (adding none one) actor locks)
+    → IsTrue (seen_by (slice_get table one) actor locks)
+    → IsTrue (joined table (adding none one) actor locks)
 joined_of_one table one actor locks inside h =
     joined_of_all table (adding none one) actor locks
     (λ n less held.
@@ -152,7 +168,8 @@ past_below table one q past actor ls seen =
 -- ---- tests that may end for want of memory
 
 -- a test against a policy of the table
-pub asked_below : {E : Type 0} (order table : List (List Clause)) (set locks policy : ℕ) (r : Result Bool E)
+pub asked_below : {E : Type 0} (order table : List (List Clause)) (set locks policy : ℕ)
+    (r : Result Bool E)
     → order ≡ table → policy < length table
     → IfOk r (λ b. IsTrue b ↔ AreBelowAt order (has set) (members locks) (get_or order policy []))
     → IfOk r (λ b. IsTrue b
@@ -161,7 +178,8 @@ asked_below order table set locks policy (Err e) same inside tests = tests
 asked_below order table set locks policy (Ok b) same inside tests =
     let iff = all_below table set locks policy inside in
     let asked : IsTrue b ↔ AreBelowAt table (has set) (members locks) (get_or table policy []) =
-    subst (λ ps. IsTrue b ↔ AreBelowAt ps (has set) (members locks) (get_or ps policy [])) same tests in
+    subst (λ ps. IsTrue b ↔ AreBelowAt ps (has set) (members locks) (get_or ps policy [])) same
+    tests in
     (λ h. iff.0 (asked.0 h), λ h. asked.1 (iff.1 h))
 
 -- a test against what is no policy of the table
@@ -178,7 +196,8 @@ asked_past ps table set locks policy b same past tests =
     (λ h. iff.0 (asked.0 h), λ h. asked.1 (iff.1 h))
 
 -- a test of one policy
-pub asked_one : {E : Type 0} (table : List (List Clause)) (set one : ℕ) (q : Seen) (r : Result Bool E)
+pub asked_one : {E : Type 0} (table : List (List Clause)) (set one : ℕ) (q : Seen)
+    (r : Result Bool E)
     → has set ≡ adding none one → one < length table
     → IfOk r (λ b. IsTrue b ↔ IsSeenBelow (joined table (has set)) q)
     → IfOk r (λ b. IsTrue b ↔ IsSeenBelow (seen_by (slice_get table one)) q)

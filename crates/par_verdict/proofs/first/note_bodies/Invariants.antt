@@ -10,5 +10,6 @@ abbrev pub invariant-loop-place : goal.invariant-loop-place
 invariant-loop-place g l =
     (l.policies ≡ l.fn.policies)
     × Goes (AreAllBroken l.fn.policies (bodies l.bodies) (map g.F.KnownFacts.facts l.facts))
-    (AreAllBroken l.fn.policies (bodies (drop l.place l.bodies)) (map g.F.KnownFacts.facts (drop l.place l.facts)))
+    (AreAllBroken l.fn.policies (bodies (drop l.place l.bodies))
+    (map g.F.KnownFacts.facts (drop l.place l.facts)))
     l.fn.findings l.findings

@@ -9,6 +9,8 @@ use Rattle.par_verdict.proofs.first.note_broken.Given as goal
 abbrev pub invariant-loop-check : goal.invariant-loop-check
 invariant-loop-check g l =
     (l.policies ≡ l.fn.policies)
-    × Goes (AreBroken (KeepsNumbered l.fn.policies (g.F.KnownFacts.facts l.facts)) (seen_checks l.asked))
-    (AreBroken (KeepsNumbered l.fn.policies (g.F.KnownFacts.facts l.facts)) (seen_checks (drop l.check-index l.asked)))
+    × Goes (AreBroken (KeepsNumbered l.fn.policies (g.F.KnownFacts.facts l.facts))
+    (seen_checks l.asked))
+    (AreBroken (KeepsNumbered l.fn.policies (g.F.KnownFacts.facts l.facts))
+    (seen_checks (drop l.check-index l.asked)))
     l.fn.findings l.findings

@@ -21,7 +21,8 @@ returns-in-Joined-clause-met g c =
     met_joined c.args.policies.now (g.F.KnownFacts.facts c.args.facts.now) (stand c.args.known)
     c.is_below-in-Joined.result c.args.condition c.in-Joined.value c.in-Joined.policy
     (has c.union.result) c.in-Joined.is
-    (c.union.ensures ∙ ap (λ (s : Set). union s (has c.args.known.context)) c.value-in-Joined.ensures)
+    (c.union.ensures ∙ ap (λ (s : Set). union s (has c.args.known.context))
+    c.value-in-Joined.ensures)
     c.is_below-in-Joined.ensures.below
 
 pub returns-in-Context-clause-met : goal.returns-in-Context-clause-met
