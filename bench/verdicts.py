@@ -10,19 +10,18 @@ PARAGONC is the path of the built program. Without more words all kinds are trie
     fields    a value that joins 120 inputs to 120 fields of the same policies
     locks     that value to one field, with other locks open most times
     classes   128 classes, as large as a source allows
-    methods   methods of 2,000 nodes, as many as a source allows
+    half      methods of 2,000 nodes, as many as half a source allows
+    methods   twice as many
     loops     200 locals in 60 nested loops, of which each is copied to the next
     locals    methods of 2,000 nodes and 200 locals, as many as a source allows
-    half      half of the last
-    shapes    what the six shapes before measure in one method: 250, 500, 1,000 and 2,000 nodes
+    doubled   loops and writes of one value, each twice as long as the last
 
-Printed are the kind, the bytes, the answer, the seconds and the most memory.
+Printed are the kind, the bytes, the answer, the processor seconds and the most memory.
 """
 import os
 import subprocess
 import sys
 import tempfile
-import time
 
 MOST_BYTES, MOST_NODES = 262144, 2000
 LOCKS = [letter + digit for letter in "abcdefgh" for digit in "0123456789abcdefghijklmnopqrstuv"]
@@ -105,15 +104,15 @@ def methods():
     return of_methods(MOST_BYTES, "int a=0;", 10)
 
 
+def half():
+    return of_methods(MOST_BYTES // 2, "int a=0;", 10)
+
+
 DECLARED = "int a=0;" + "".join(f"int x{n}=0;" for n in range(199))
 
 
 def locals_():
     return of_methods(MOST_BYTES, DECLARED, 410)
-
-
-def half():
-    return of_methods(MOST_BYTES // 2, DECLARED, 410)
 
 
 def copied(locals_used, deep, wanted):
@@ -131,11 +130,11 @@ def loops():
     return "actor a;" + copied(200, 60, MOST_NODES)
 
 
-def shapes():
-    for wanted in (250, 500, 1000, 2000):
-        yield f"loops of {wanted}", "actor a;" + copied(wanted // 10, wanted // 34, wanted)
-    for wanted in (250, 500, 1000, 2000):
-        yield f"row of {wanted}", "class C{" + method("main", wanted - 10, "int a=0;") + "}"
+def doubled():
+    for nodes in (500, 1000, 2000):
+        yield f"loops of {nodes} nodes", "actor a;" + copied(40, 10, nodes)
+    for writes in (120, 240, 480):
+        yield f"{writes} writes", joined(142, ["Q"], ["f0=x;"] * writes)
 
 
 KINDS = {
@@ -143,10 +142,10 @@ KINDS = {
     "fields": fields,
     "locks": locks,
     "classes": classes,
+    "half": half,
     "methods": methods,
     "loops": loops,
     "locals": locals_,
-    "half": half,
 }
 
 
@@ -154,24 +153,23 @@ def timed(paragonc, kind, source):
     with tempfile.TemporaryDirectory() as folder:
         with open(os.path.join(folder, "long.par"), "w") as out:
             out.write(source)
-        start = time.time()
         run = subprocess.Popen(
             [paragonc, "--check", "long.par"], cwd=folder, stdout=subprocess.PIPE, text=True
         )
         told = run.stdout.read().strip()
         _, _, used = os.wait4(run.pid, 0)
-        seconds = time.time() - start
-    print(f"{kind}: {len(source)} bytes, {told}, {seconds:.2f} s, {used.ru_maxrss // 1024} MB", flush=True)
+    seconds, most = used.ru_utime + used.ru_stime, used.ru_maxrss // 1024
+    print(f"{kind}: {len(source)} bytes, {told}, {seconds:.2f} s, {most} MB", flush=True)
 
 
 def tried(paragonc, kinds):
     for kind in kinds:
-        if kind == "shapes":
-            for name, source in shapes():
+        if kind == "doubled":
+            for name, source in doubled():
                 timed(paragonc, name, source)
         else:
             timed(paragonc, kind, KINDS[kind]())
 
 
 if __name__ == "__main__":
-    tried(os.path.abspath(sys.argv[1]), sys.argv[2:] or [*KINDS, "shapes"])
+    tried(os.path.abspath(sys.argv[1]), sys.argv[2:] or [*KINDS, "doubled"])
