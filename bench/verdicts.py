@@ -4,11 +4,11 @@
 
 PARAGONC is the path of the built program. Without more words all kinds are tried:
 
-    same      480 writes of one value, which joins 144 inputs, to one field, at 224 open locks;
+    same      480 writes of one value, which joins 142 inputs, to one field, at 224 open locks;
               a policy has 32 clauses of 16 locks, and each clause but the last fails at its last
               lock
     fields    a value that joins 120 inputs to 120 fields of the same policies
-    locks     that value to one field, with other locks open most times
+    locks     a value that joins 140 inputs to one field, with other locks open most times
     classes   128 classes, as large as a source allows
     half      methods of 2,000 nodes, as many as half a source allows
     methods   twice as many
