@@ -1,6 +1,8 @@
 //! Whether facts keep a rule.
 
-ghost use Rattle.std.specs.Prelude.{◌≡◌, ◌≤◌, ◌↔◌, length, IfOk, IsTrue};
+ghost use Rattle.std.specs.Prelude.{◌≡◌, ◌≤◌, ◌↔◌, length, slice_get, IfOk, IsTrue};
+ghost use Rattle.par_bits.specs.Sets.{has};
+ghost use Rattle.par_rules.specs.Lattice.{IsSeenBelow, joined, seen_by};
 ghost use Rattle.par_asked.specs.Seen.{seen_check, seen_condition};
 ghost use Rattle.par_checks.specs.Verdict.{KeepsNumbered};
 ghost use Rattle.par_verdict.specs.Standing.{Meets, stand};
@@ -11,6 +13,21 @@ use crate::policies::Policies;
 use crate::ways::known_at;
 use par_asked::check::{Check, Condition};
 use par_lexer::list::NoMemory;
+
+// Whether the context is below the policy, whichever locks are open.
+fn is_context_below(
+    policies: &mut Policies<'_>,
+    known: &Known,
+    policy: u16,
+) -> Result<bool, NoMemory>
+    requires { length policies.old.policies ≤ 256 }
+    ensures table { policies.new ≡ policies.old }
+    ensures below { IfOk result (λ below. IsTrue below
+        ↔ IsSeenBelow (joined policies.old.policies (has known.now.context))
+        (seen_by (slice_get policies.old.policies policy))) }
+{
+    policies.is_below(&known.context, policy)
+}
 
 // Whether the condition holds of what is known at its spot.
 fn is_met<F: KnownFacts>(
@@ -33,7 +50,7 @@ fn is_met<F: KnownFacts>(
         Condition::Joined(value, policy) => {
             policies.is_below(&facts.value(value).union(&known.context), policy)
         }
-        Condition::Context(policy) => policies.is_below(&known.context, policy),
+        Condition::Context(policy) => is_context_below(policies, &known, policy),
         Condition::Effect(effect, policy) => policies.is_number_below(effect, policy),
         Condition::Among(locks, those) => Ok(are_among(locks, those)),
         Condition::Never => Ok(false),

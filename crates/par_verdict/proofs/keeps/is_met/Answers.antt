@@ -28,8 +28,8 @@ returns-in-Joined-clause-met g c =
 pub returns-in-Context-clause-met : goal.returns-in-Context-clause-met
 returns-in-Context-clause-met g c =
     met_context c.args.policies.now (g.F.KnownFacts.facts c.args.facts.now) (stand c.args.known)
-    c.is_below-in-Context.result c.args.condition c.in-Context.policy c.in-Context.is
-    c.is_below-in-Context.ensures.below
+    c.is_context_below.result c.args.condition c.in-Context.policy c.in-Context.is
+    c.is_context_below.ensures.below
 
 pub returns-in-Effect-clause-met : goal.returns-in-Effect-clause-met
 returns-in-Effect-clause-met g c =
