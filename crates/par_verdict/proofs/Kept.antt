@@ -5,17 +5,19 @@ use Rattle.par_rules.specs.Lattice.{numbers, joined}
 use Rattle.par_rules.specs.Ways.{Way}
 use Rattle.par_rules.specs.Facts.{Facts}
 use Rattle.par_rules.specs.Rules.{Holds}
-use Rattle.par_checks.specs.Asked.{Condition, Open, Released, Worth, Joined, Context, Effect, Among, Never}
+use Rattle.par_checks.specs.Asked.{Condition, Open, Released, Worth, Joined, Context, Effect, Among}
+use Rattle.par_checks.specs.Asked.{Never}
 use Rattle.par_checks.specs.Keeps.{Satisfies}
 use Rattle.par_checks.specs.Verdict.{KeepsNumbered}
 use Rattle.par_asked.specs.declared.check.Check.{Check}
 use Rattle.par_asked.specs.Seen.{seen_check, seen_condition}
 use Rattle.par_verdict.specs.declared.known.Known.{Known}
-use Rattle.par_verdict.specs.Standing.{Standing, standing, stand, stands, Meets, MeetsThere}
+use Rattle.par_verdict.specs.Standing.{standing, stand, stands, Meets, MeetsThere}
 use Rattle.par_verdict.specs.Spots.{at_spot}
 
 meets_iff : (table : Table) (f : Facts numbers) (o : Option (Way numbers)) (c : Condition)
-    → MeetsThere table f (standing o) c ↔ Holds numbers o (λ w. Satisfies numbers (joined table.policies) table.policies f w c)
+    → MeetsThere table f (standing o) c
+    ↔ Holds numbers o (λ w. Satisfies numbers (joined table.policies) table.policies f w c)
 meets_iff table f None c = (λ h. h, λ h. h)
 meets_iff table f (Some w) (Open locks) = (λ h. h, λ h. h)
 meets_iff table f (Some w) (Released v p) = (λ h. h, λ h. h)
@@ -29,21 +31,25 @@ meets_iff table f (Some w) Never = (λ h. h, λ h. h)
 abbrev MeetsAt : Table → Facts numbers → Check → Type 0
 MeetsAt table f c = MeetsThere table f (at_spot f c.point c.way) (seen_condition c.condition)
 
-keeps_iff : (table : Table) (f : Facts numbers) (c : Check) → MeetsAt table f c ↔ KeepsNumbered table f (seen_check c)
+keeps_iff : (table : Table) (f : Facts numbers) (c : Check) → MeetsAt table f c
+    ↔ KeepsNumbered table f (seen_check c)
 unfolding at_spot
 keeps_iff table f c = meets_iff table f _ (seen_condition c.condition)
 
 -- where the spot is not reached
-pub kept_unreached : (table : Table) (f : Facts numbers) (c : Check) → stands None ≡ at_spot f c.point c.way → KeepsNumbered table f (seen_check c)
+pub kept_unreached : (table : Table) (f : Facts numbers) (c : Check)
+    → stands None ≡ at_spot f c.point c.way → KeepsNumbered table f (seen_check c)
 kept_unreached table f c e =
     (keeps_iff table f c).0 (subst (λ o. MeetsThere table f o (seen_condition c.condition)) e tt)
 
 -- and where it is
-pub kept_reached : (table : Table) (f : Facts numbers) (c : Check) (k : Known) → stands (Some k) ≡ at_spot f c.point c.way
+pub kept_reached : (table : Table) (f : Facts numbers) (c : Check) (k : Known)
+    → stands (Some k) ≡ at_spot f c.point c.way
     → Meets table f (stand k) (seen_condition c.condition) ↔ KeepsNumbered table f (seen_check c)
 kept_reached table f c k e = (
   λ h. (keeps_iff table f c).0 (subst (λ o. MeetsThere table f o (seen_condition c.condition)) e h),
-  λ h. subst (λ o. MeetsThere table f o (seen_condition c.condition)) (sym e) ((keeps_iff table f c).1 h),
+  λ h. subst (λ o. MeetsThere table f o (seen_condition c.condition)) (sym e)
+      ((keeps_iff table f c).1 h),
 )
 
 pub ruleset kept = (kept_unreached, kept_reached)

@@ -1,5 +1,6 @@
 -- Sets of locks within others.
-use Rattle.std.proofs.Common.{◌≡◌, ℕ, ◌↔◌, Bool, true, false, ◌||◌, ◌&&◌, List, [], ◌∷◌, Contains, refl, sym, ap, subst, ◌∙◌}
+use Rattle.std.proofs.Common.{◌≡◌, ℕ, ◌↔◌, Bool, true, false, ◌||◌, List, [], ◌∷◌, refl, sym, ap}
+use Rattle.std.proofs.Common.{subst, ◌∙◌}
 use Rattle.std.specs.Prelude.{IsTrue, nat_eq}
 use Rattle.std.specs.List.{list_all}
 use Rattle.std.proofs.lemmas.Bool.{and_parts, and_from, eqb-true, eq-eqb}
@@ -29,16 +30,20 @@ right true c h = refl
 right false c h = h
 
 -- the locks of a list
-pub within_list : (s : Set) (locks : List ℕ) → IsTrue (list_all (λ n. s n) locks) ↔ IsWithin (numbers.has locks) s
+pub within_list : (s : Set) (locks : List ℕ) → IsTrue (list_all (λ n. s n) locks)
+    ↔ IsWithin (numbers.has locks) s
 within_list s [] = (λ h n e. absurd (no n e), λ h. refl) where
   no : (n : ℕ) → IsTrue (numbers.has [] n) → ⊥
   no n e = cc
 within_list s (l ∷ ls) = (
   λ h n e.
       let parts = and_parts (s l) (list_all (λ k. s k) ls) h in
-      either (nat_eq l n) (numbers.has ls n) (IsTrue (s n)) (λ x. subst (λ k. IsTrue (s k)) (eqb-true l n x) parts.0) ((within_list s ls).0 parts.1 n) e,
+      either (nat_eq l n) (numbers.has ls n) (IsTrue (s n))
+      (λ x. subst (λ k. IsTrue (s k)) (eqb-true l n x) parts.0) ((within_list s ls).0 parts.1 n)
+      e,
   λ h.
-      and_from (s l) (list_all (λ k. s k) ls) (h l (left (nat_eq l l) (numbers.has ls l) (eq-eqb l l refl)))
+      and_from (s l) (list_all (λ k. s k) ls)
+      (h l (left (nat_eq l l) (numbers.has ls l) (eq-eqb l l refl)))
       ((within_list s ls).1 (λ n e. h n (right (nat_eq l n) (numbers.has ls n) e))),
 )
 

@@ -12,6 +12,7 @@ ghost use Rattle.par_verdict.specs.Told.{AreBroken, AreAllBroken};
 
 use crate::keeps::keeps;
 use crate::known::KnownFacts;
+use crate::policies::Policies;
 use par_asked::body::checks_of;
 use par_asked::check::Check;
 use par_lexer::list::NoMemory;
@@ -23,57 +24,59 @@ use std::alloc::Global;
 // Notes those of the rules that the facts do not keep.
 fn note_broken<F: KnownFacts>(
     facts: &F,
-    table: &Table,
+    policies: &mut Policies<'_>,
     asked: &[Check<'_>],
     findings: &mut Findings,
-)
-    requires { length table.now.policies ≤ 256 }
-    ensures { (told : Items Told)
-        × AreBroken (KeepsNumbered table.now (F.facts facts.now)) (seen_checks asked.now) told
-        × (findings.new ≡ first_of findings.old told) }
+) -> Result<(), NoMemory>
+    requires { length policies.old.policies ≤ 256 }
+    ensures table { policies.new ≡ policies.old }
+    ensures noted { OnOk result ((told : Items Told)
+        × AreBroken (KeepsNumbered policies.old (F.facts facts.now)) (seen_checks asked.now) told
+        × (findings.new ≡ first_of findings.old told)) }
 {
     for check in asked {
-        findings.expect(keeps(facts, table, check), check.rule, check.at);
+        findings.expect(keeps(facts, policies, check)?, check.rule, check.at);
     }
+    Ok(())
 }
 
 // Notes the broken rules of a body.
 fn note_body<F: KnownFacts>(
     alloc: Global,
     facts: &F,
-    table: &Table,
+    policies: &mut Policies<'_>,
     body: &TBody,
     findings: &mut Findings,
 ) -> Result<(), NoMemory>
-    requires policies { length table.now.policies ≤ 256 }
-    requires classes { length table.now.classes ≤ 65536 }
-    ensures { OnOk result ((told : Items Told)
-        × AreBroken (KeepsNumbered table.now (F.facts facts.now))
-        (checks table.now (shown.body body.now)) told
+    requires policies { length policies.old.policies ≤ 256 }
+    requires classes { length policies.old.classes ≤ 65536 }
+    ensures table { policies.new ≡ policies.old }
+    ensures noted { OnOk result ((told : Items Told)
+        × AreBroken (KeepsNumbered policies.old (F.facts facts.now))
+        (checks policies.old (shown.body body.now)) told
         × (findings.new ≡ first_of findings.old told)) }
 {
-    let asked = checks_of(alloc, table, body)?;
-    note_broken(facts, table, asked.as_slice(), findings);
-    Ok(())
+    let asked = checks_of(alloc, policies.table(), body)?;
+    note_broken(facts, policies, asked.as_slice(), findings)
 }
 
 // Notes the broken rules of bodies, each over its facts.
 fn note_bodies<F: KnownFacts>(
     alloc: Global,
     facts: &[F],
-    table: &Table,
+    policies: &mut Policies<'_>,
     bodies: &[TBody],
     findings: &mut Findings,
 ) -> Result<(), NoMemory>
-    requires policies { length table.now.policies ≤ 256 }
-    requires classes { length table.now.classes ≤ 65536 }
+    requires policies { length policies.old.policies ≤ 256 }
+    requires classes { length policies.old.classes ≤ 65536 }
     requires facts { length facts.now ≡ length bodies.now }
     ensures { OnOk result ((told : Items Told)
-        × AreAllBroken table.now (shown.bodies bodies.now) (map F.facts facts.now) told
+        × AreAllBroken policies.old (shown.bodies bodies.now) (map F.facts facts.now) told
         × (findings.new ≡ first_of findings.old told)) }
 {
     for (place, body) in bodies.iter().enumerate() {
-        note_body(alloc, &facts[place], table, body, findings)?;
+        note_body(alloc, &facts[place], policies, body, findings)?;
     }
     Ok(())
 }
@@ -95,7 +98,8 @@ pub fn first_broken<F: KnownFacts>(
     ensures judged { AreAllRight table.now (shown.bodies bodies.now) (map F.facts facts.now)
         → IfOk result (IsVerdict table.now (shown.bodies bodies.now)) }
 {
+    let mut policies = Policies::of(alloc, table);
     let mut findings = Findings::new();
-    note_bodies(alloc, facts, table, bodies, &mut findings)?;
+    note_bodies(alloc, facts, &mut policies, bodies, &mut findings)?;
     Ok(findings.first())
 }

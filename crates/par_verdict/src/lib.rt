@@ -6,12 +6,12 @@
 #![tactic(auto)]
 
 mod accepted;
-mod below;
 mod error;
 mod first;
 mod keeps;
 pub mod known;
 mod locks;
+mod policies;
 mod ways;
 
 pub use accepted::{Accepted, FindsFacts, check};

@@ -13,5 +13,6 @@ returns c =
     let ps = params_of (drop c.loop-place.place c.args.params.now) in
     sym (append-nil (seen_checks c.loop-place.checks))
     ∙ ap (λ cs. seen_checks c.loop-place.checks ++ cs)
-    (sym (ap (arguments t m ps) (no_args_left c.args.args.now c.loop-place.place c.loop-place-test.false) ∙ no_arguments t m ps))
+    (sym (ap (arguments t m ps) (no_args_left c.args.args.now c.loop-place.place
+    c.loop-place-test.false) ∙ no_arguments t m ps))
     ∙ c.loop-place.invariant

@@ -8,5 +8,7 @@ use Rattle.par_asked.proofs.expr.ask_arguments.Given as goal
 -- what was asked so far, and what is asked of the arguments that are left
 abbrev pub invariant-loop-place : goal.invariant-loop-place
 invariant-loop-place l =
-    seen_checks l.checks ++ arguments (table l.home) (own l.home) (params_of (drop l.place l.params)) (all_shown (drop l.place l.args))
-    ≡ seen_checks l.fn.checks ++ arguments (table l.home) (own l.home) (params_of l.params) (all_shown l.args)
+    seen_checks l.checks ++ arguments (table l.home) (own l.home)
+    (params_of (drop l.place l.params)) (all_shown (drop l.place l.args))
+    ≡ seen_checks l.fn.checks ++ arguments (table l.home) (own l.home) (params_of l.params)
+    (all_shown l.args)

@@ -12,5 +12,6 @@ invariant-stmts-loop-s l =
 
 abbrev pub invariant-all_catches-loop-catch : goal.invariant-all_catches-loop-catch
 invariant-all_catches-loop-catch l =
-    seen_checks l.checks ++ catches_checks (table l.home) (own l.home) (all_catch (drop l.catch-index l.catches))
+    seen_checks l.checks ++ catches_checks (table l.home) (own l.home)
+    (all_catch (drop l.catch-index l.catches))
     ≡ seen_checks l.fn.checks ++ catches_checks (table l.home) (own l.home) (all_catch l.catches)

@@ -12,7 +12,10 @@ use Rattle.par_verdict.proofs.accepted.all_facts.Given as goal
 abbrev pub invariant-loop-body : goal.invariant-loop-body
 invariant-loop-body g l = record {
   many : length l.facts ≡ l.body-index;
-  right : (rest : List (Facts numbers)) → AreAllRight l.typed.table (bodies (drop l.body-index l.typed.bodies)) rest
-      → AreAllRight l.typed.table (bodies l.typed.bodies) (map g.F.KnownFacts.facts l.facts ++ rest);
-  orderly : AllByRecursion (IsOrderlyBody l.typed.table) (bodies (drop l.body-index l.typed.bodies));
+  right : (rest : List (Facts numbers))
+      → AreAllRight l.typed.table (bodies (drop l.body-index l.typed.bodies)) rest
+      → AreAllRight l.typed.table (bodies l.typed.bodies)
+      (map g.F.KnownFacts.facts l.facts ++ rest);
+  orderly : AllByRecursion (IsOrderlyBody l.typed.table)
+      (bodies (drop l.body-index l.typed.bodies));
 }

@@ -11,8 +11,10 @@ returns-in-None-clause-kept g c =
     let F = g.F.KnownFacts.facts in
     let noted = c.in_ok-first.ensures.told in
     let silent : noted.0 ≡ [] = subst (IsAnswer noted.0) c.in-None.is noted.2 in
-    accepted_by c.args.typed c.as_slice-2.result.now (map F c.as_slice.result.now) (map F c.in_ok-facts.facts) noted.0 c.as_slice-2.ensures (ap (map F) c.as_slice.ensures)
-    (length-map c.in_ok-facts.facts F ∙ c.in_ok-facts.ensures.many) c.in_ok-facts.ensures.right noted.1 silent
+    accepted_by c.args.typed c.as_slice-2.result.now (map F c.as_slice.result.now)
+    (map F c.in_ok-facts.facts) noted.0 c.as_slice-2.ensures (ap (map F) c.as_slice.ensures)
+    (length-map c.in_ok-facts.facts F ∙ c.in_ok-facts.ensures.many) c.in_ok-facts.ensures.right
+    noted.1 silent
 
 pub invariant_of-result : goal.invariant_of-result
 invariant_of-result g c =
@@ -20,6 +22,8 @@ invariant_of-result g c =
     let noted = c.in_ok-first.ensures.told in
     let silent : noted.0 ≡ [] = subst (IsAnswer noted.0) c.in-None.is noted.2 in
     let kept : IsAcceptedBy c.args.typed (map F c.in_ok-facts.facts) =
-    accepted_by c.args.typed c.as_slice-2.result.now (map F c.as_slice.result.now) (map F c.in_ok-facts.facts) noted.0 c.as_slice-2.ensures (ap (map F) c.as_slice.ensures)
-    (length-map c.in_ok-facts.facts F ∙ c.in_ok-facts.ensures.many) c.in_ok-facts.ensures.right noted.1 silent in
+    accepted_by c.args.typed c.as_slice-2.result.now (map F c.as_slice.result.now)
+    (map F c.in_ok-facts.facts) noted.0 c.as_slice-2.ensures (ap (map F) c.as_slice.ensures)
+    (length-map c.in_ok-facts.facts F ∙ c.in_ok-facts.ensures.many) c.in_ok-facts.ensures.right
+    noted.1 silent in
     record { kept = ∣ kept ∣₁ }

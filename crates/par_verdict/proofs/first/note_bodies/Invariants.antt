@@ -1,4 +1,4 @@
-use Rattle.std.proofs.Common.{drop}
+use Rattle.std.proofs.Common.{◌≡◌, drop}
 use Rattle.std.specs.Prelude.{map}
 use Rattle.par_typed.specs.Shown.{bodies}
 use Rattle.par_verdict.specs.Told.{AreAllBroken}
@@ -8,6 +8,8 @@ use Rattle.par_verdict.proofs.first.note_bodies.Given as goal
 -- what was noted so far, and the broken rules of the bodies that are left
 abbrev pub invariant-loop-place : goal.invariant-loop-place
 invariant-loop-place g l =
-    Goes (AreAllBroken l.table (bodies l.bodies) (map g.F.KnownFacts.facts l.facts))
-    (AreAllBroken l.table (bodies (drop l.place l.bodies)) (map g.F.KnownFacts.facts (drop l.place l.facts)))
+    (l.policies ≡ l.fn.policies)
+    × Goes (AreAllBroken l.fn.policies (bodies l.bodies) (map g.F.KnownFacts.facts l.facts))
+    (AreAllBroken l.fn.policies (bodies (drop l.place l.bodies))
+    (map g.F.KnownFacts.facts (drop l.place l.facts)))
     l.fn.findings l.findings

@@ -1,4 +1,6 @@
-use Rattle.std.proofs.Common.{List, drop, ◌+◌, subst}
+use Rattle.std.proofs.Common.{◌↔◌, List, drop, ◌+◌, refl, subst, ◌∙◌}
+use Rattle.std.specs.Prelude.{IsTrue}
+use Rattle.par_typed.specs.declared.table.Table.{Table}
 use Rattle.par_checks.specs.Asked.{Check}
 use Rattle.par_checks.specs.Verdict.{KeepsNumbered}
 use Rattle.par_asked.specs.Seen.{seen_check, seen_checks}
@@ -7,24 +9,39 @@ use Rattle.par_verdict.proofs.Told.{Goes, starts, goes_on, ends, checks_left, no
 use Rattle.par_verdict.proofs.first.note_broken.Goals as goal
 
 pub loop-check-init : goal.loop-check-init
-loop-check-init g c =
-    starts (AreBroken (KeepsNumbered c.args.table.now (g.F.KnownFacts.facts c.args.facts.now)) (seen_checks c.args.asked.now)) c.args.findings.now
+loop-check-init g c = (
+  refl,
+  starts (AreBroken (KeepsNumbered c.args.policies.now (g.F.KnownFacts.facts c.args.facts.now))
+      (seen_checks c.args.asked.now)) c.args.findings.now,
+)
 
 pub loop-check-preserved : goal.loop-check-preserved
 loop-check-preserved g c =
-    let K = KeepsNumbered c.args.table.now (g.F.KnownFacts.facts c.args.facts.now) in
+    let facts = g.F.KnownFacts.facts c.args.facts.now in
+    let K = KeepsNumbered c.args.policies.now facts in
     let all = AreBroken K (seen_checks c.args.asked.now) in
     let i = c.loop-check.check-index in
-    goes_on all K (seen_check c.check-item.result) (seen_checks (drop (i + 1) c.args.asked.now)) c.keeps.result c.args.findings.now c.loop-check.findings c.expect.new.self
-    c.keeps.ensures c.expect.ensures
-    (subst (λ (cs : List Check). Goes all (AreBroken K cs) c.args.findings.now c.loop-check.findings)
-    (checks_left c.args.asked.now i c.check-item.result c.loop-check-test.true c.check-item.is) c.loop-check.invariant)
+    let check = seen_check c.check-item.result in
+    let kept : IsTrue c.in_ok-keeps.field-0 ↔ K check =
+    subst (λ (t : Table). IsTrue c.in_ok-keeps.field-0 ↔ KeepsNumbered t facts check)
+    c.loop-check.invariant.0 c.in_ok-keeps.ensures.kept in (
+      c.keeps.ensures.table ∙ c.loop-check.invariant.0,
+      goes_on all K check (seen_checks (drop (i + 1) c.args.asked.now)) c.in_ok-keeps.field-0
+          c.args.findings.now c.loop-check.findings c.expect.new.self
+          kept c.expect.ensures
+          (subst (λ (cs : List Check). Goes all (AreBroken K cs) c.args.findings.now
+          c.loop-check.findings)
+          (checks_left c.args.asked.now i c.check-item.result c.loop-check-test.true
+          c.check-item.is) c.loop-check.invariant.1),
+    )
 
 pub returns : goal.returns
 returns g c =
-    let K = KeepsNumbered c.args.table.now (g.F.KnownFacts.facts c.args.facts.now) in
+    let K = KeepsNumbered c.args.policies.now (g.F.KnownFacts.facts c.args.facts.now) in
     let all = AreBroken K (seen_checks c.args.asked.now) in
     let noted = ends all K c.args.findings.now c.loop-check.findings
-    (subst (λ (cs : List Check). Goes all (AreBroken K cs) c.args.findings.now c.loop-check.findings)
-    (no_checks_left c.args.asked.now c.loop-check.check-index c.loop-check-test.false) c.loop-check.invariant) in
-    (noted.told, noted.are, noted.is)
+    (subst (λ (cs : List Check). Goes all (AreBroken K cs) c.args.findings.now
+    c.loop-check.findings)
+    (no_checks_left c.args.asked.now c.loop-check.check-index c.loop-check-test.false)
+    c.loop-check.invariant.1) in
+    record { table = c.loop-check.invariant.0; noted = (noted.told, noted.are, noted.is) }

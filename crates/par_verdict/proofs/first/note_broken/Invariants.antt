@@ -1,4 +1,4 @@
-use Rattle.std.proofs.Common.{drop}
+use Rattle.std.proofs.Common.{◌≡◌, drop}
 use Rattle.par_checks.specs.Verdict.{KeepsNumbered}
 use Rattle.par_asked.specs.Seen.{seen_checks}
 use Rattle.par_verdict.specs.Told.{AreBroken}
@@ -8,6 +8,9 @@ use Rattle.par_verdict.proofs.first.note_broken.Given as goal
 -- what was noted so far, and the broken rules of those that are left
 abbrev pub invariant-loop-check : goal.invariant-loop-check
 invariant-loop-check g l =
-    Goes (AreBroken (KeepsNumbered l.table (g.F.KnownFacts.facts l.facts)) (seen_checks l.asked))
-    (AreBroken (KeepsNumbered l.table (g.F.KnownFacts.facts l.facts)) (seen_checks (drop l.check-index l.asked)))
+    (l.policies ≡ l.fn.policies)
+    × Goes (AreBroken (KeepsNumbered l.fn.policies (g.F.KnownFacts.facts l.facts))
+    (seen_checks l.asked))
+    (AreBroken (KeepsNumbered l.fn.policies (g.F.KnownFacts.facts l.facts))
+    (seen_checks (drop l.check-index l.asked)))
     l.fn.findings l.findings

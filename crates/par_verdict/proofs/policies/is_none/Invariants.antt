@@ -1,7 +1,7 @@
 use Rattle.std.proofs.Common.{ℕ, ◌<◌}
 use Rattle.std.specs.Prelude.{IsTrue}
 use Rattle.par_bits.specs.Sets.{has}
-use Rattle.par_verdict.proofs.below.is_none.Given as goal
+use Rattle.par_verdict.proofs.policies.is_none.Given as goal
 
 -- none so far
 abbrev pub invariant-loop-number : goal.invariant-loop-number
