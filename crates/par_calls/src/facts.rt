@@ -1,21 +1,12 @@
 //! Facts of worked bodies, with ample memory.
 
-ghost use Rattle.std.specs.Prelude.{IfOk};
-ghost use Rattle.std.specs.List.{AllByRecursion};
-ghost use Rattle.par_typed.specs.Shown.{bodies};
-ghost use Rattle.par_verdict.specs.Accepted.{IsOrderlyBody};
-
 use crate::expect::expect;
+use crate::typed_trees::typed;
 use par_atoms::Atoms;
 use par_flow::{FactTable, KeptWay, facts_of};
-use par_lexer::lex;
 use par_locks::{LockFacts, locks_of};
-use par_parser::parse;
 use par_policy::leq;
-use par_table::build;
-use par_typed::program::Typed;
 use par_typed::table::Table;
-use par_typing::type_program;
 use std::alloc::Global;
 use std::rt::HostRuntime;
 use std::test::Fail;
@@ -47,20 +38,6 @@ fn source_of(alloc: Global, row: &Row) -> Result<Vec<u8>, Fail> {
     source.extend_from_slice(b"\n}\n")?;
     source.extend_from_slice(row.behind)?;
     Ok(source)
-}
-
-fn typed(alloc: Global, source: &[u8]) -> Result<Typed, Fail>
-    ensures { IfOk result
-        (λ typed. AllByRecursion (IsOrderlyBody typed.table) (bodies typed.bodies)) }
-{
-    let tokens = lex(alloc, source)?;
-    if tokens.len() > 262_144 {
-        return Err(Fail::new("too many tokens"));
-    }
-    let program = parse(alloc, tokens.as_slice())?;
-    let table = build(alloc, &program)?;
-    let typed = type_program(alloc, table, &program)?;
-    Ok(typed)
 }
 
 // What is known of `main`.

@@ -62,6 +62,9 @@ fn each_event_has_its_locks(rt: HostRuntime) -> Result<(), Fail> {
 }
 
 fn line(alloc: Global, channel: &[u8]) -> Result<Inputs, Fail> {
+    if !Name::is_name(channel) {
+        return Err(Fail::new("a channel has a name"));
+    }
     let mut channels = List::new(alloc);
     channels.push(ChannelInput {
         class: shop(alloc)?,

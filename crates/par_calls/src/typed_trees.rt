@@ -1,5 +1,10 @@
 //! The typed tree of a worked program, made with ample memory and compared node by node.
 
+ghost use Rattle.std.specs.Prelude.{IfOk};
+ghost use Rattle.std.specs.List.{AllByRecursion};
+ghost use Rattle.par_typed.specs.Shown.{bodies};
+ghost use Rattle.par_verdict.specs.Accepted.{IsOrderlyBody};
+
 use crate::expect::expect;
 use crate::table::AUCTION;
 use par_lexer::lex;
@@ -16,14 +21,18 @@ use std::alloc::Global;
 use std::rt::HostRuntime;
 use std::test::Fail;
 
-pub(crate) fn typed(alloc: Global, source: &[u8]) -> Result<Typed, Fail> {
+pub(crate) fn typed(alloc: Global, source: &[u8]) -> Result<Typed, Fail>
+    ensures { IfOk result
+        (λ typed. AllByRecursion (IsOrderlyBody typed.table) (bodies typed.bodies)) }
+{
     let tokens = lex(alloc, source)?;
     if tokens.len() > 262_144 {
         return Err(Fail::new("too many tokens"));
     }
     let program = parse(alloc, tokens.as_slice())?;
     let table = build(alloc, &program)?;
-    Ok(type_program(alloc, table, &program)?)
+    let typed = type_program(alloc, table, &program)?;
+    Ok(typed)
 }
 
 // ---- single nodes

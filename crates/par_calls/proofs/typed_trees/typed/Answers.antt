@@ -7,6 +7,8 @@ use Rattle.par_places.specs.Law.{ComesToTree}
 use Rattle.par_sources.proofs.Numbers.{trees_have_numbers}
 use Rattle.par_sources.proofs.Order.{trees_are_in_order}
 use Rattle.par_sources.proofs.Short.{trees_are_short}
+use Rattle.par_typed.specs.Shown.{bodies}
+use Rattle.par_calls.proofs.Orderly.{all_orderly}
 use Rattle.par_calls.proofs.typed_trees.typed.Goals as goal
 
 at_most : (n m : ℕ) → (m < n → ⊥) → n ≤ m
@@ -36,3 +38,8 @@ type_program-requires-clause-texts c =
     let long = c.in_ok-tokens.ensures.too_long in
     let short = at_most (length c.args.source.now) LONGEST_SOURCE (λ more. cc (long.1 more)) in
     omega (arith, covered, short)
+
+pub returns : goal.returns
+returns c =
+    let made = c.in_ok-typed in
+    all_orderly made.typed.table (bodies made.typed.bodies) made.ensures.well_typed.orderly
