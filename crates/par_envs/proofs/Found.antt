@@ -1,10 +1,10 @@
 -- Environments that are found by the questions.
-use Rattle.std.proofs.Common.{◌≡◌, ◌≢◌, ℕ, zero, suc, ◌+◌, ◌<◌, ◌≤◌, Bool, true, false, ◌&&◌, not, cond, Some, None, List, [], ◌∷◌, ◌++◌, length, refl, sym, ap, ◌∙◌, subst, arith, ⊎_elim, eq-eqb}
+use Rattle.std.proofs.Common.{◌≡◌, ◌≢◌, ℕ, zero, suc, ◌+◌, ◌<◌, ◌≤◌, Bool, true, false, ◌&&◌, not, cond, Some, None, List, [], ◌∷◌, ◌++◌, length, refl, sym, ap, ◌∙◌, subst, inr, arith, ⊎_elim, eq-eqb}
 use Rattle.std.specs.Prelude.{nat_eq, slice_get}
 use Rattle.std.proofs.lemmas.Bool.{ne_eqb, cases_eq}
 use Rattle.par_envs.specs.declared.envs.Entry.{Entry}
 use Rattle.par_envs.specs.Same.{policy, AreSame}
-use Rattle.par_envs.specs.Numbered.{envs, leads, reached, AreFound, Extends, Names, AreDifferent}
+use Rattle.par_envs.specs.Numbered.{envs, leads, reached, Adds, AreFound, Extends, Names, AreDifferent}
 
 -- one more question comes last
 reached_more : (xs : List Entry) (x : Entry) (n : ℕ) (env : List ℕ) (k : ℕ)
@@ -72,10 +72,17 @@ extends_more [] x i e h = absurd (let g : None ≡ Some e = h in cc)
 extends_more (y ∷ xs) x zero e h = h
 extends_more (y ∷ xs) x (suc i) e h = extends_more xs x i e h
 
+envs_more : (xs : List Entry) (x : Entry) → envs (xs ++ x ∷ []) ≡ envs xs ++ x.env ∷ []
+envs_more [] x = refl
+envs_more (y ∷ xs) x = ap (λ es. y.env ∷ es) (envs_more xs x)
+
 -- one more environment, with a question that tells it from the one that was reached
 module _ (xs ys : List Entry) (x : Entry) (number : ℕ) (is : ys ≡ xs ++ x ∷ []) (here : number ≡ length xs) where
   pub extends_kept : Extends (envs xs) (envs ys)
   extends_kept = subst (λ l. Extends (envs xs) (envs l)) (sym is) (extends_more xs x)
+
+  pub adds_kept : Adds (envs xs) (envs ys) x.env
+  adds_kept = inr (ap envs is ∙ envs_more xs x)
 
   pub names_kept : Names (envs ys) number x.env
   names_kept = (x.env, subst (λ l. slice_get (envs l) number ≡ Some x.env) (sym is) (get_env (xs ++ x ∷ []) number x (get_last xs x number here)), λ i. refl)

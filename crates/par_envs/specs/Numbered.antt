@@ -1,6 +1,6 @@
 -- Environments by their numbers, and how they are found.
 use Rattle.std.specs.Prelude.{◌≡◌, ℕ, suc, Bool, ◌&&◌, not, cond, nat_eq, Some}
-use Rattle.std.specs.Prelude.{List, [], ◌∷◌, map, slice_get}
+use Rattle.std.specs.Prelude.{◌⊎◌, List, [], ◌∷◌, ◌++◌, map, slice_get}
 use Rattle.par_envs.specs.declared.envs.Entry.{Entry}
 use Rattle.par_envs.specs.Same.{policy, AreSame}
 
@@ -27,6 +27,10 @@ Names es n env = (e : List ℕ) × (slice_get es n ≡ Some e) × AreSame e env
 -- each number of the first names the same environment in the second
 abbrev pub Extends : List (List ℕ) → List (List ℕ) → Type 0
 Extends es fs = (i : ℕ) (e : List ℕ) → slice_get es i ≡ Some e → slice_get fs i ≡ Some e
+
+-- no environment is added, or this one behind the others
+abbrev pub Adds : List (List ℕ) → List (List ℕ) → List ℕ → Type 0
+Adds es fs env = (fs ≡ es) ⊎ (fs ≡ es ++ env ∷ [])
 
 -- different numbers name different environments
 abbrev pub AreDifferent : List (List ℕ) → Type 0

@@ -1,7 +1,7 @@
 // Environments by their numbers.
 ghost use Rattle.std.specs.Prelude.{◌≡◌, [], ◌∷◌, ◌++◌, IfOk, OnOk, length, slice_get};
 ghost use Rattle.std.specs.Option.{option_copied};
-ghost use Rattle.par_envs.specs.Numbered.{envs, reached, AreFound, Extends, Names};
+ghost use Rattle.par_envs.specs.Numbered.{envs, reached, Adds, AreFound, Extends, Names};
 
 use crate::apart::{difference, is_same, policy_of};
 use par_atoms::Atoms;
@@ -99,6 +99,8 @@ impl Envs {
         ensures names { IfOk result (λ n. Names (envs self.new.entries.items) n env.now) }
         ensures kept { OnOk result
             (Extends (envs self.old.entries.items) (envs self.new.entries.items)) }
+        ensures adds { OnOk result
+            (Adds (envs self.old.entries.items) (envs self.new.entries.items) env.now) }
     {
         let near = self.find(env);
         match self.entries.get(near) {

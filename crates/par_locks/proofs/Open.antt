@@ -17,22 +17,27 @@ abbrev pub entered : Fact → Option Set
 entered f = entering (may_see f.entry)
 
 -- what is kept of all rows, row by row
-pub rows_entered : (ls : List (Option ℕ)) (rows : List Fact) → map may_have ls ≡ map entered rows → (p : ℕ)
+pub rows_entered : (ls : List (Option ℕ)) (rows : List Fact)
+    → map may_have ls ≡ map entered rows → (p : ℕ)
     → may_have (get_or ls p None) ≡ entering (get_or (seen_facts rows) p (blank numbers)).entry
 rows_entered [] [] e p = refl
 rows_entered [] (f ∷ fs) e p = absurd (let g : [] ≡ entered f ∷ map entered fs = e in cc)
 rows_entered (l ∷ ls) [] e p = absurd (let g : may_have l ∷ map may_have ls ≡ [] = e in cc)
-rows_entered (l ∷ ls) (f ∷ fs) e zero = let g : may_have l ∷ map may_have ls ≡ entered f ∷ map entered fs = e in cc
+rows_entered (l ∷ ls) (f ∷ fs) e zero =
+    let g : may_have l ∷ map may_have ls ≡ entered f ∷ map entered fs = e in cc
 rows_entered (l ∷ ls) (f ∷ fs) e (suc p) =
-    rows_entered ls fs (let g : may_have l ∷ map may_have ls ≡ entered f ∷ map entered fs = e in cc) p
+    rows_entered ls fs (let g : may_have l ∷ map may_have ls ≡ entered f ∷ map entered fs = e in cc)
+    p
 
 -- the body of the number is that of the list
-pub body_at : (bs : List TBody) (n : ℕ) (t : TBody) → n < length bs → t ≡ get_or bs n t → slice_get (bodies bs) n ≡ Some (body t)
+pub body_at : (bs : List TBody) (n : ℕ) (t : TBody) → n < length bs → t ≡ get_or bs n t
+    → slice_get (bodies bs) n ≡ Some (body t)
 body_at [] n t h e = absurd (omega (arith, h))
 body_at (b ∷ bs) zero t h e = ap (λ x. Some (body x)) (sym e)
 body_at (b ∷ bs) (suc n) t h e = body_at bs n t (omega (arith, h)) e
 
-pub all_at : (P : Body → Type 0) (bs : List Body) (n : ℕ) (b : Body) → AllByRecursion P bs → slice_get bs n ≡ Some b → P b
+pub all_at : (P : Body → Type 0) (bs : List Body) (n : ℕ) (b : Body) → AllByRecursion P bs
+    → slice_get bs n ≡ Some b → P b
 all_at P [] n b h e = absurd (let g : None ≡ Some b = e in cc)
 all_at P (x ∷ bs) zero b h e = let g : Some x ≡ Some b = e in let s : x ≡ b = cc in subst P s h.0
 all_at P (x ∷ bs) (suc n) b h e = all_at P bs n b h.1 e

@@ -36,8 +36,10 @@ use Rattle.par_rounds.proofs.Lows.{raised_low}
 next_least : (rules : Rules) (lo : ℕ) → AreNumbered lo rules → lo ≤ next_by lo rules
 unfolding next_by AreNumbered
 next_least Done lo x = omega arith
-next_least (Part from absorber part more) lo x = let g = next_above part lo x.0 in let j = next_least more (next part) x.1 in omega (arith, g, j)
-next_least (Test part more) lo x = let g = next_above part lo x.0 in let j = next_least more (next part) x.1 in omega (arith, g, j)
+next_least (Part from absorber part more) lo x =
+    let g = next_above part lo x.0 in let j = next_least more (next part) x.1 in omega (arith, g, j)
+next_least (Test part more) lo x =
+    let g = next_above part lo x.0 in let j = next_least more (next part) x.1 in omega (arith, g, j)
 next_least (Heads from more) lo x = next_least more lo x
 next_least (Leaves from kind more) lo x = next_least more lo x
 next_least (Worths v more) lo x = next_least more lo x
@@ -50,17 +52,26 @@ module _ (k points : ℕ) where
   mutual
     unfolding next next_by IsNumbered AreNumbered IsInRange AreInRange IsPassable ArePassable
 
-    pub passable : (n : Node) (lo : ℕ) → IsNumbered lo n → next n ≤ points → IsInRange k n → IsPassable k points n
+    pub passable : (n : Node) (lo : ℕ) → IsNumbered lo n → next n ≤ points → IsInRange k n
+        → IsPassable k points n
     passable (node p rules) lo x b r = all_passable rules (suc p) x.1 b r
 
-    all_passable : (rules : Rules) (lo : ℕ) → AreNumbered lo rules → next_by lo rules ≤ points → AreInRange k rules → ArePassable k points rules
+    all_passable : (rules : Rules) (lo : ℕ) → AreNumbered lo rules → next_by lo rules ≤ points
+        → AreInRange k rules → ArePassable k points rules
     all_passable Done lo x b r = tt
     all_passable (Part from absorber part more) lo x b r =
-        let g = next_least more (next part) x.1 in
-        (r.0, passable part lo x.0 (omega (arith, g, b)) r.1, all_passable more (next part) x.1 b r.2)
+        let g = next_least more (next part) x.1 in (
+          r.0,
+          passable part lo x.0 (omega (arith, g, b)) r.1,
+          all_passable more (next part) x.1 b r.2,
+        )
     all_passable (Test part more) lo x b r =
-        let g = next_least more (next part) x.1 in let j = next_above part lo x.0 in let s = spot_is part lo x.0 in
-        (omega (arith, g, b, j, s), passable part lo x.0 (omega (arith, g, b)) r.0, all_passable more (next part) x.1 b r.1)
+        let g = next_least more (next part) x.1 in let j = next_above part lo x.0 in
+        let s = spot_is part lo x.0 in (
+          omega (arith, g, b, j, s),
+          passable part lo x.0 (omega (arith, g, b)) r.0,
+          all_passable more (next part) x.1 b r.1,
+        )
     all_passable (Heads from more) lo x b r = (r.0, all_passable more lo x b r.1)
     all_passable (Leaves from kind more) lo x b r = (r.0, all_passable more lo x b r.1)
     all_passable (Worths v more) lo x b r = (r.0, all_passable more lo x b r.1)
@@ -74,7 +85,8 @@ arriving_small [] i h = λ n e. cc
 arriving_small (p ∷ ps) zero h = given_small p (All-head (λ q. q < MOST) p ps h)
 arriving_small (p ∷ ps) (suc i) h = arriving_small ps i (All-tail (λ q. q < MOST) p ps h)
 
-entering_small : (static : Bool) (ps : List ℕ) (i : ℕ) → All (λ p. p < MOST) ps → IsSmall (entering numbers static ps i)
+entering_small : (static : Bool) (ps : List ℕ) (i : ℕ) → All (λ p. p < MOST) ps
+    → IsSmall (entering numbers static ps i)
 entering_small true ps i h = arriving_small ps i h
 entering_small false ps zero h = λ n e. cc
 entering_small false ps (suc i) h = arriving_small ps i h
@@ -89,25 +101,35 @@ module _ (d : Declares) (b : Body) where
   abbrev start : Way
   start = first numbers (d.method b.class b.method)
 
-  body_heads_low : (Q : Lattice) (S : Stands Q) (a : Facts Q) → IsClosed Q d b a → (k : ℕ) → AreHeadsLow Q S (heads_after root start k) a
+  body_heads_low : (Q : Lattice) (S : Stands Q) (a : Facts Q) → IsClosed Q d b a → (k : ℕ)
+      → AreHeadsLow Q S (heads_after root start k) a
   unfolding heads_after
   body_heads_low Q S a c zero = λ i. tt
   body_heads_low Q S a c (suc k) =
       let u = body_heads_low Q S a c k in
-      raised_low Q S a (heads_after root start k) (pass (heads_after root start k) root start).events u (round_low Q S a d b (heads_after root start k) u c)
+      raised_low Q S a (heads_after root start k)
+      (pass (heads_after root start k) root start).events u
+      (round_low Q S a d b (heads_after root start k) u c)
 
   module _ (points : ℕ) (rows : List Fact) (s : IsSettled root start points rows) where
     as_settled : result.IsSettled d b (heads_after root start s.rounds) points (seen_facts rows)
     as_settled = record { fits = s.fits; facts = s.rows }
 
     least_over : (Q : Lattice) (S : Stands Q) → AreLeast Q S d b (table (seen_facts rows))
-    least_over Q S = λ a c p. table_low Q S a d b (heads_after root start s.rounds) points (seen_facts rows) (body_heads_low Q S a c s.rounds) as_settled c p
+    least_over Q S =
+        λ a c p. table_low Q S a d b (heads_after root start s.rounds) points (seen_facts rows)
+        (body_heads_low Q S a c s.rounds) as_settled c p
 
-    closed_rows : IsNumbered 0 root → next root ≤ points → IsClosed numbers d b (table (seen_facts rows))
-    closed_rows n g = table_closed d b (heads_after root start s.rounds) points (seen_facts rows) as_settled n g
+    closed_rows : IsNumbered 0 root → next root ≤ points
+        → IsClosed numbers d b (table (seen_facts rows))
+    closed_rows n g =
+        table_closed d b (heads_after root start s.rounds) points (seen_facts rows) as_settled n g
 
-pub rows_least : (t : Table) (b : Body) (points : ℕ) (rows : List Fact) → IsSettled (sta (declares t) b.body) (first numbers ((declares t).method b.class b.method)) points rows
-    → IsNumbered 0 (sta (declares t) b.body) → next (sta (declares t) b.body) ≤ points → AreLeastClosed t b (table (seen_facts rows))
+pub rows_least : (t : Table) (b : Body) (points : ℕ) (rows : List Fact)
+    → IsSettled (sta (declares t) b.body)
+    (first numbers ((declares t).method b.class b.method)) points rows
+    → IsNumbered 0 (sta (declares t) b.body) → next (sta (declares t) b.body) ≤ points
+    → AreLeastClosed t b (table (seen_facts rows))
 rows_least t b points rows s n g =
     let c = closed_rows (declares t) b points rows s n g in
     let l = least_over (declares t) b points rows s numbers among in

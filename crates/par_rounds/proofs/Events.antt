@@ -18,7 +18,8 @@ fit_both h [] k p q = q
 fit_both h (Row i f ∷ l) k p q = fit_both h l k p q
 fit_both h (Into i o ∷ l) k p q = (p.0, fit_both h l k p.1 q)
 
-written_both : (l k : List Event) (t : List (Fact numbers)) → written (l ++ k) t ≡ written k (written l t)
+written_both : (l k : List Event) (t : List (Fact numbers))
+    → written (l ++ k) t ≡ written k (written l t)
 written_both [] k t = refl
 written_both (Row i f ∷ l) k t = written_both l k (set t i f)
 written_both (Into i o ∷ l) k t = written_both l k t
@@ -51,7 +52,8 @@ then {l} {k} {m} {n} {o} p q = record {
   size = q.size ∙ p.size;
   wide = wide;
   heads = q.heads ∙ ap (λ h. raised h k) p.heads ∙ sym (raised_both (ways_of m.heads.items) l k);
-  fits = λ e. let r = q.fits e in let s = p.fits r.0 in (s.0, r.1 ∙ s.1, fit_both (ways_of m.heads.items) l k s.2 (subst (λ h. AllFit h k) s.1 r.2));
+  fits = λ e. let r = q.fits e in let s = p.fits r.0 in
+      (s.0, r.1 ∙ s.1, fit_both (ways_of m.heads.items) l k s.2 (subst (λ h. AllFit h k) s.1 r.2));
   falls = λ h s. let a = p.falls h (small_front l k s) in let b = fall h s in omega (arith, a, b);
   rises = λ h s e f. rise h s e f n.rose refl;
   rows = q.rows ∙ ap (written k) p.rows ∙ sym (written_both l k (seen_facts m.rows.items));
@@ -62,13 +64,20 @@ then {l} {k} {m} {n} {o} p q = record {
   wide : AreHeadsWide m.locals m.heads.items → AreHeadsWide m.locals o.heads.items
   wide h = subst (λ j. AreHeadsWide j o.heads.items) p.locals (q.wide (middle h))
 
-  fall : AreHeadsWide m.locals m.heads.items → AreSmall (l ++ k) → total m.locals o.heads.items ≤ total m.locals n.heads.items
-  fall h s = subst (λ j. total j o.heads.items ≤ total j n.heads.items) p.locals (q.falls (middle h) (small_back l k s))
+  fall : AreHeadsWide m.locals m.heads.items → AreSmall (l ++ k)
+      → total m.locals o.heads.items ≤ total m.locals n.heads.items
+  fall h s =
+      subst (λ j. total j o.heads.items ≤ total j n.heads.items) p.locals
+      (q.falls (middle h) (small_back l k s))
 
-  rise : AreHeadsWide m.locals m.heads.items → AreSmall (l ++ k) → m.rose ≡ false → o.rose ≡ true → (b : Bool) → n.rose ≡ b → total m.locals o.heads.items < total m.locals m.heads.items
-  rise h s e f true g = let a = p.rises h (small_front l k s) e g in let b = fall h s in omega (arith, a, b)
+  rise : AreHeadsWide m.locals m.heads.items → AreSmall (l ++ k) → m.rose ≡ false → o.rose ≡ true
+      → (b : Bool) → n.rose ≡ b → total m.locals o.heads.items < total m.locals m.heads.items
+  rise h s e f true g =
+      let a = p.rises h (small_front l k s) e g in let b = fall h s in omega (arith, a, b)
   rise h s e f false g =
-      let b = subst (λ j. total j o.heads.items < total j n.heads.items) p.locals (q.rises (middle h) (small_back l k s) g f) in
+      let b =
+      subst (λ j. total j o.heads.items < total j n.heads.items) p.locals
+      (q.rises (middle h) (small_back l k s) g f) in
       let a = p.falls h (small_front l k s) in omega (arith, a, b)
 
 pub took_as : {l k : List Event} {m n : Notes} → Took l m n → l ≡ k → Took k m n

@@ -18,7 +18,9 @@ or_step true b c = refl
 or_step false b c = refl
 
 flip : (a b : ℕ) → nat_eq a b ≡ nat_eq b a
-flip a b = ⊎_elim (λ e. e.0 ∙ sym (eq-eqb b a (sym e.1))) (λ e. e.0 ∙ sym (ne_eqb b a (λ q. e.1 (sym q)))) (eqb_tells a b)
+flip a b =
+    ⊎_elim (λ e. e.0 ∙ sym (eq-eqb b a (sym e.1))) (λ e. e.0 ∙ sym (ne_eqb b a (λ q. e.1 (sym q))))
+    (eqb_tells a b)
 
 among_cons : (x : ℕ) (xs : List ℕ) (n : ℕ) → is_among (x ∷ xs) n ≡ (nat_eq x n || is_among xs n)
 among_cons x xs n = refl
@@ -28,21 +30,31 @@ in_list [] i x d h e = absurd (omega (arith, h))
 in_list (y ∷ xs) zero x d h e = first (nat_eq y x) (is_among xs x) (eq-eqb y x (sym e)) where
   first : (a b : Bool) → a ≡ true → IsTrue (a || b)
   first a b g = subst (λ c. IsTrue (c || b)) (sym g) refl
-in_list (y ∷ xs) (suc i) x d h e = second (nat_eq y x) (is_among xs x) (in_list xs i x d (omega (arith, h)) e) where
-  second : (a b : Bool) → IsTrue b → IsTrue (a || b)
-  second true b g = refl
-  second false b g = g
+in_list (y ∷ xs) (suc i) x d h e =
+    second (nat_eq y x) (is_among xs x) (in_list xs i x d (omega (arith, h)) e)
+  where
+    second : (a b : Bool) → IsTrue b → IsTrue (a || b)
+    second true b g = refl
+    second false b g = g
 
-pub lock_in_range : (xs ys : List ℕ) (i x d : ℕ) → xs ≡ ys → i < length xs → x ≡ get_or xs i d → AreLocks (is_among ys) → x < MOST
-lock_in_range xs ys i x d s h e r = subst (λ z. AreLocks (is_among z)) (sym s) r x (in_list xs i x d h e)
+pub lock_in_range : (xs ys : List ℕ) (i x d : ℕ) → xs ≡ ys → i < length xs → x ≡ get_or xs i d
+    → AreLocks (is_among ys) → x < MOST
+lock_in_range xs ys i x d s h e r =
+    subst (λ z. AreLocks (is_among z)) (sym s) r x (in_list xs i x d h e)
 
 -- the locks so far and those that are left
-pub add_lock : (xs : List ℕ) (i x : ℕ) (s t : Set) → i < length xs → x ≡ get_or xs i x → t ≡ adding s x → ((n : ℕ) → (s n || is_among (drop i xs) n) ≡ is_among xs n)
+pub add_lock : (xs : List ℕ) (i x : ℕ) (s t : Set) → i < length xs → x ≡ get_or xs i x
+    → t ≡ adding s x → ((n : ℕ) → (s n || is_among (drop i xs) n) ≡ is_among xs n)
     → (n : ℕ) → (t n || is_among (drop (i + 1) xs) n) ≡ is_among xs n
 add_lock xs i x s t h e f u n =
-    let d : drop i xs ≡ x ∷ drop (i + 1) xs = drop-cons xs i x h ∙ ap (λ y. y ∷ drop (suc i) xs) (sym e) ∙ ap (λ j. x ∷ drop j xs) (sym (add-one i)) in
-    ap (λ p. p n || is_among (drop (i + 1) xs) n) f ∙ or_step (s n) (nat_eq n x) (is_among (drop (i + 1) xs) n)
-    ∙ ap (λ b. s n || (b || is_among (drop (i + 1) xs) n)) (flip n x) ∙ ap (λ l. s n || is_among l n) (sym d) ∙ u n
+    let d : drop i xs ≡ x ∷ drop (i + 1) xs = drop-cons xs i x h
+    ∙ ap (λ y. y ∷ drop (suc i) xs) (sym e) ∙ ap (λ j. x ∷ drop j xs) (sym (add-one i)) in
+    ap (λ p. p n || is_among (drop (i + 1) xs) n) f
+    ∙ or_step (s n) (nat_eq n x) (is_among (drop (i + 1) xs) n)
+    ∙ ap (λ b. s n || (b || is_among (drop (i + 1) xs) n)) (flip n x)
+    ∙ ap (λ l. s n || is_among l n) (sym d) ∙ u n
 
-pub all_added : (xs : List ℕ) (s : Set) (rest : List ℕ) → rest ≡ [] → ((n : ℕ) → (s n || is_among rest n) ≡ is_among xs n) → s ≡ is_among xs
-all_added xs s rest e u = fun_ext λ n. sym (or_false (s n)) ∙ ap (λ l. s n || is_among l n) (sym e) ∙ u n
+pub all_added : (xs : List ℕ) (s : Set) (rest : List ℕ) → rest ≡ []
+    → ((n : ℕ) → (s n || is_among rest n) ≡ is_among xs n) → s ≡ is_among xs
+all_added xs s rest e u =
+    fun_ext λ n. sym (or_false (s n)) ∙ ap (λ l. s n || is_among l n) (sym e) ∙ u n

@@ -9,23 +9,28 @@ module _ (rules : Rules) (n : ℕ) where
   unfolding next_by
   done_next e = sym (ap (next_by n) e)
 
-  pub part_next : (from : From) (a : Absorber) (part : Node) (more : Rules) (r : ℕ) → rules ≡ Part from a part more → r ≡ next_by (next part) more → r ≡ next_by n rules
+  pub part_next : (from : From) (a : Absorber) (part : Node) (more : Rules) (r : ℕ)
+      → rules ≡ Part from a part more → r ≡ next_by (next part) more → r ≡ next_by n rules
   unfolding next_by
   part_next from a part more r e f = f ∙ sym (ap (next_by n) e)
 
-  pub test_next : (part : Node) (more : Rules) (r : ℕ) → rules ≡ Test part more → r ≡ next_by (next part) more → r ≡ next_by n rules
+  pub test_next : (part : Node) (more : Rules) (r : ℕ) → rules ≡ Test part more
+      → r ≡ next_by (next part) more → r ≡ next_by n rules
   unfolding next_by
   test_next part more r e f = f ∙ sym (ap (next_by n) e)
 
-  pub heads_next : (from : From) (more : Rules) (r : ℕ) → rules ≡ Heads from more → r ≡ next_by n more → r ≡ next_by n rules
+  pub heads_next : (from : From) (more : Rules) (r : ℕ) → rules ≡ Heads from more
+      → r ≡ next_by n more → r ≡ next_by n rules
   unfolding next_by
   heads_next from more r e f = f ∙ sym (ap (next_by n) e)
 
-  pub leaves_next : (from : From) (k : Kind) (more : Rules) (r : ℕ) → rules ≡ Leaves from k more → r ≡ next_by n more → r ≡ next_by n rules
+  pub leaves_next : (from : From) (k : Kind) (more : Rules) (r : ℕ) → rules ≡ Leaves from k more
+      → r ≡ next_by n more → r ≡ next_by n rules
   unfolding next_by
   leaves_next from k more r e f = f ∙ sym (ap (next_by n) e)
 
-  pub worths_next : (v : Worth) (more : Rules) (r : ℕ) → rules ≡ Worths v more → r ≡ next_by n more → r ≡ next_by n rules
+  pub worths_next : (v : Worth) (more : Rules) (r : ℕ) → rules ≡ Worths v more → r ≡ next_by n more
+      → r ≡ next_by n rules
   unfolding next_by
   worths_next v more r e f = f ∙ sym (ap (next_by n) e)
 

@@ -21,18 +21,21 @@ use Rattle.par_rounds.specs.Seen.{seen_fact, seen_facts, ways_of, AreHeadsWide}
 use Rattle.par_rounds.specs.Took.{joined, total, HaveSmallLocks, AreSmall, Took}
 use Rattle.par_rounds.proofs.Heads.{heads_set, head_falls, total_falls}
 
-pub facts_set : (xs : List code_fact.Fact) (i : ℕ) (f : code_fact.Fact) → seen_facts (set xs i f) ≡ set (seen_facts xs) i (seen_fact f)
+pub facts_set : (xs : List code_fact.Fact) (i : ℕ) (f : code_fact.Fact)
+    → seen_facts (set xs i f) ≡ set (seen_facts xs) i (seen_fact f)
 facts_set [] i f = refl
 facts_set (x ∷ xs) zero f = refl
 facts_set (x ∷ xs) (suc i) f = ap (λ ys. seen_fact x ∷ ys) (facts_set xs i f)
 
-pub facts_past : (xs : List code_fact.Fact) (i : ℕ) (f : Fact numbers) → length xs ≤ i → seen_facts xs ≡ set (seen_facts xs) i f
+pub facts_past : (xs : List code_fact.Fact) (i : ℕ) (f : Fact numbers) → length xs ≤ i
+    → seen_facts xs ≡ set (seen_facts xs) i f
 facts_past [] i f h = refl
 facts_past (x ∷ xs) zero f h = absurd (omega (arith, h))
 facts_past (x ∷ xs) (suc i) f h = ap (λ ys. seen_fact x ∷ ys) (facts_past xs i f (omega (arith, h)))
 
 -- a row is written, or there is no place for it
-pub took_row : (m n : Notes) (p : ℕ) (f : Fact numbers) → n.locals ≡ m.locals → n.heads ≡ m.heads → n.rose ≡ m.rose
+pub took_row : (m n : Notes) (p : ℕ) (f : Fact numbers) → n.locals ≡ m.locals → n.heads ≡ m.heads
+    → n.rose ≡ m.rose
     → seen_facts n.rows.items ≡ set (seen_facts m.rows.items) p f → Took (Row p f ∷ []) m n
 took_row m n p f l h r t = record {
   locals = l;
@@ -61,13 +64,17 @@ union_same p q h = fun_ext λ n. union_same_at (p n) (q n) (h n)
 meet_same : (p q : Set) → IsWithin p q → meet p q ≡ p
 meet_same p q h = fun_ext λ n. meet_same_at (p n) (q n) (h n)
 
-way_as : (c d : Set) (e f : ℕ → Set) (l k : Set) → c ≡ d → e ≡ f → l ≡ k → (let w : Way = record { context = c; env = e; locks = l } in w) ≡ record { context = d; env = f; locks = k }
+way_as : (c d : Set) (e f : ℕ → Set) (l k : Set) → c ≡ d → e ≡ f → l ≡ k
+    → (let w : Way = record { context = c; env = e; locks = l } in w)
+    ≡ record { context = d; env = f; locks = k }
 way_as c d e f l k p q r = cc
 
 -- a way joined with one that flows into it
 join_same : (w x : Way) → Flows numbers x w → join w x ≡ w
 join_same w x f =
-    way_as _ _ _ _ _ _ (union_same w.context x.context f.context) (fun_ext λ i. union_same (w.env i) (x.env i) (f.lands.env i)) (meet_same w.locks x.locks f.lands.locks)
+    way_as _ _ _ _ _ _ (union_same w.context x.context f.context)
+    (fun_ext λ i. union_same (w.env i) (x.env i) (f.lands.env i))
+    (meet_same w.locks x.locks f.lands.locks)
 
 may_join_same : (o q : Option Way) → MayFlow numbers q o → may_join o q ≡ o
 may_join_same None None h = refl
@@ -77,12 +84,14 @@ may_join_same (Some w) (Some x) h = ap Some (join_same w x h)
 
 joined_same : (h : HeadWays) (p : ℕ) (o : Option Way) → MayFlow numbers o (h p) → h ≡ joined h p o
 joined_same h p o f = fun_ext λ i. ⊎_elim
-    (λ s. sym (ap (λ b. cond b (may_join (h i) o) (h i)) s.0 ∙ may_join_same (h i) o (subst (λ j. MayFlow numbers o (h j)) (sym s.1) f)))
+    (λ s. sym (ap (λ b. cond b (may_join (h i) o) (h i)) s.0
+    ∙ may_join_same (h i) o (subst (λ j. MayFlow numbers o (h j)) (sym s.1) f)))
     (λ s. sym (ap (λ b. cond b (may_join (h i) o) (h i)) s.0))
     (eqb_tells i p)
 
 -- a way flows into a head that is above it
-pub took_fit : (m : Notes) (p : ℕ) (o : Option Way) → MayFlow numbers o (ways_of m.heads.items p) → Took (Into p o ∷ []) m m
+pub took_fit : (m : Notes) (p : ℕ) (o : Option Way) → MayFlow numbers o (ways_of m.heads.items p)
+    → Took (Into p o ∷ []) m m
 took_fit m p o f = record {
   locals = refl;
   size = refl;
@@ -95,48 +104,64 @@ took_fit m p o f = record {
 }
 
 -- a way makes a head rise
-pub took_rise : (m n : Notes) (p : ℕ) (y x : Option code.Way) → p < length m.heads.items → n.locals ≡ m.locals → n.heads.items ≡ set m.heads.items p y → n.rose ≡ true → n.rows ≡ m.rows
-    → may_see y ≡ may_join (may_see (get_or m.heads.items p None)) (may_see x) → (MayFlow numbers (may_see x) (may_see (get_or m.heads.items p None)) → ⊥)
-    → HaveSmallLocks (get_or m.heads.items p None) → (AreHeadsWide m.locals m.heads.items → MayHaveLocals m.locals (get_or m.heads.items p None)) → MayHaveLocals m.locals x → MayHaveLocals m.locals y
+pub took_rise : (m n : Notes) (p : ℕ) (y x : Option code.Way) → p < length m.heads.items
+    → n.locals ≡ m.locals → n.heads.items ≡ set m.heads.items p y → n.rose ≡ true → n.rows ≡ m.rows
+    → may_see y ≡ may_join (may_see (get_or m.heads.items p None)) (may_see x)
+    → (MayFlow numbers (may_see x) (may_see (get_or m.heads.items p None)) → ⊥)
+    → HaveSmallLocks (get_or m.heads.items p None)
+    → (AreHeadsWide m.locals m.heads.items → MayHaveLocals m.locals (get_or m.heads.items p None))
+    → MayHaveLocals m.locals x → MayHaveLocals m.locals y
     → Took (Into p (may_see x) ∷ []) m n
 took_rise m n p y x b l h r t e f z hw hx hy = record {
   locals = l;
   size = ap length h ∙ length-set m.heads.items p y;
-  wide = λ w. subst (AreHeadsWide m.locals) (sym h) (All-set (MayHaveLocals m.locals) m.heads.items p y hy w);
+  wide =
+      λ w. subst (AreHeadsWide m.locals) (sym h)
+      (All-set (MayHaveLocals m.locals) m.heads.items p y hy w);
   heads = ap ways_of h ∙ heads_set m.heads.items p y (may_see x) b e;
   fits = λ g. let q : true ≡ false = sym r ∙ g in cc;
   falls = λ w s. let a = fall w s in omega (arith, a);
   rises = λ w s g k. fall w s;
   rows = ap (λ v. seen_facts v.items) t;
 } where
-  fall : AreHeadsWide m.locals m.heads.items → AreSmall (Into p (may_see x) ∷ []) → total m.locals n.heads.items < total m.locals m.heads.items
+  fall : AreHeadsWide m.locals m.heads.items → AreSmall (Into p (may_see x) ∷ [])
+      → total m.locals n.heads.items < total m.locals m.heads.items
   fall w s = subst (λ v. total m.locals v < total m.locals m.heads.items) (sym h)
-      (total_falls m.locals m.heads.items p y b (head_falls m.locals y (get_or m.heads.items p None) x hy (hw w) hx e f s.0 z))
+      (total_falls m.locals m.heads.items p y b
+      (head_falls m.locals y (get_or m.heads.items p None) x hy (hw w) hx e f s.0 z))
 
 -- one more place for a row
-push_fact : (xs : List code_fact.Fact) (f : code_fact.Fact) (n : ℕ) → seen_fact f ≡ blank numbers → seen_facts xs ≡ blanks n → seen_facts (xs ++ f ∷ []) ≡ blanks (suc n)
-push_fact xs f n g e = pushed xs ∙ ap (λ t. t ++ seen_fact f ∷ []) e ∙ ap (λ x. blanks n ++ x ∷ []) g ∙ blanks_push n where
-  pushed : (ys : List code_fact.Fact) → seen_facts (ys ++ f ∷ []) ≡ seen_facts ys ++ seen_fact f ∷ []
-  pushed [] = refl
-  pushed (y ∷ ys) = ap (λ zs. seen_fact y ∷ zs) (pushed ys)
+push_fact : (xs : List code_fact.Fact) (f : code_fact.Fact) (n : ℕ) → seen_fact f ≡ blank numbers
+    → seen_facts xs ≡ blanks n → seen_facts (xs ++ f ∷ []) ≡ blanks (suc n)
+push_fact xs f n g e =
+    pushed xs ∙ ap (λ t. t ++ seen_fact f ∷ []) e ∙ ap (λ x. blanks n ++ x ∷ []) g ∙ blanks_push n
+  where
+    pushed : (ys : List code_fact.Fact)
+        → seen_facts (ys ++ f ∷ []) ≡ seen_facts ys ++ seen_fact f ∷ []
+    pushed [] = refl
+    pushed (y ∷ ys) = ap (λ zs. seen_fact y ∷ zs) (pushed ys)
 
-  blanks_push : (k : ℕ) → blanks k ++ blank numbers ∷ [] ≡ blanks (suc k)
-  blanks_push zero = refl
-  blanks_push (suc k) = ap (λ zs. blank numbers ∷ zs) (blanks_push k)
+    blanks_push : (k : ℕ) → blanks k ++ blank numbers ∷ [] ≡ blanks (suc k)
+    blanks_push zero = refl
+    blanks_push (suc k) = ap (λ zs. blank numbers ∷ zs) (blanks_push k)
 
-pub push_blank : (xs ys : List code_fact.Fact) (f : code_fact.Fact) (n : ℕ) → ys ≡ xs ++ f ∷ [] → seen_fact f ≡ blank numbers → seen_facts xs ≡ blanks n → seen_facts ys ≡ blanks (n + 1)
+pub push_blank : (xs ys : List code_fact.Fact) (f : code_fact.Fact) (n : ℕ) → ys ≡ xs ++ f ∷ []
+    → seen_fact f ≡ blank numbers → seen_facts xs ≡ blanks n → seen_facts ys ≡ blanks (n + 1)
 push_blank xs ys f n e g h = ap seen_facts e ∙ push_fact xs f n g h ∙ ap blanks (sym (add-one n))
 
-pub read_wide : (n : ℕ) (xs : List (Option code.Way)) (i : ℕ) (x : Option code.Way) → i < length xs → x ≡ get_or xs i x → AreHeadsWide n xs → MayHaveLocals n x
+pub read_wide : (n : ℕ) (xs : List (Option code.Way)) (i : ℕ) (x : Option code.Way) → i < length xs
+    → x ≡ get_or xs i x → AreHeadsWide n xs → MayHaveLocals n x
 read_wide n xs i x h e w = subst (MayHaveLocals n) (sym e) (w i x h)
 
 -- rows by points
-pub row_at : (rows : List code_fact.Fact) (p : ℕ) (d : code_fact.Fact) → p < length rows → table (seen_facts rows) p ≡ seen_fact (get_or rows p d)
+pub row_at : (rows : List code_fact.Fact) (p : ℕ) (d : code_fact.Fact) → p < length rows
+    → table (seen_facts rows) p ≡ seen_fact (get_or rows p d)
 row_at [] p d h = absurd (omega (arith, h))
 row_at (f ∷ rows) zero d h = refl
 row_at (f ∷ rows) (suc p) d h = row_at rows p d (omega (arith, h))
 
-pub row_past : (rows : List code_fact.Fact) (p : ℕ) → length rows ≤ p → table (seen_facts rows) p ≡ blank numbers
+pub row_past : (rows : List code_fact.Fact) (p : ℕ) → length rows ≤ p
+    → table (seen_facts rows) p ≡ blank numbers
 row_past [] p h = refl
 row_past (f ∷ rows) zero h = absurd (omega (arith, h))
 row_past (f ∷ rows) (suc p) h = row_past rows p (omega (arith, h))

@@ -30,7 +30,9 @@ inside = record {
   IsUnder = IsWithin;
   least = λ p n h. cc;
   both = union_least;
-  joined = λ s t p q f g. union_least s t (union p q) (sub_trans s p (union p q) f (union_l p q)) (sub_trans t q (union p q) g (union_r p q));
+  joined =
+      λ s t p q f g. union_least s t (union p q) (sub_trans s p (union p q) f (union_l p q))
+      (sub_trans t q (union p q) g (union_r p q));
   up = sub_trans;
   given = λ n. sub_refl (adding none n);
 }
@@ -55,7 +57,9 @@ under_top w u = record { context = u.context; lands = record { env = u.env; lock
 to_top : (w : Way numbers) → Flows numbers w top → IsUnderTop w
 to_top w f = record { context = f.context; env = f.lands.env }
 
-move_top : (f : Way numbers → Way numbers) → ((w : Way numbers) → IsUnderTop w → IsUnderTop (f w)) → (o : Option (Way numbers)) → MayFlow numbers o (Some top) → MayFlow numbers (moved numbers f o) (Some top)
+move_top : (f : Way numbers → Way numbers) → ((w : Way numbers) → IsUnderTop w → IsUnderTop (f w))
+    → (o : Option (Way numbers)) → MayFlow numbers o (Some top)
+    → MayFlow numbers (moved numbers f o) (Some top)
 move_top f m None h = tt
 move_top f m (Some w) h = under_top (f w) (m w (to_top w h))
 
@@ -79,34 +83,51 @@ small_given : (n : ℕ) → n < 256 → IsWithin (adding none n) small
 unfolding small
 small_given n h m e = subst (λ k. ltb k 256 ≡ true) (sym (eqb-true m n e)) (lt-ltb n 256 h)
 
-put_under : (env : ℕ → Set) (x : ℕ) (v : Set) → ((i : ℕ) → IsWithin (env i) small) → IsWithin v small → (i : ℕ) → IsWithin (put numbers env x v i) small
+put_under : (env : ℕ → Set) (x : ℕ) (v : Set) → ((i : ℕ) → IsWithin (env i) small)
+    → IsWithin v small → (i : ℕ) → IsWithin (put numbers env x v i) small
 put_under env x v h k i = by_case (nat_eq i x) where
   by_case : (b : Bool) → IsWithin (cond b v (env i)) small
   by_case true = k
   by_case false = h i
 
 module _ (locals : ℕ) where
-  way_under : (fs : List (Fact numbers)) → AreUnderTop fs → (from : From) → IsFromInRange locals from → MayFlow numbers (way numbers (Some top) fs from) (Some top)
+  way_under : (fs : List (Fact numbers)) → AreUnderTop fs → (from : From)
+      → IsFromInRange locals from → MayFlow numbers (way numbers (Some top) fs from) (Some top)
   unfolding way IsFromInRange AreUnderTop
   way_under fs u Entry r = flows_refl top
   way_under fs u (After part k) r = (u part).exit k
   way_under fs u (Tested part from) r =
-      move_top (raised numbers (part_at numbers fs part).value) (λ w h. record { context = union_least _ _ _ h.context (u part).value; env = h.env }) _ (way_under fs u from r)
+      move_top (raised numbers (part_at numbers fs part).value)
+      (λ w h. record { context = union_least _ _ _ h.context (u part).value; env = h.env }) _
+      (way_under fs u from r)
   way_under fs u (Raised policy from) r =
-      move_top (raised numbers (adding none policy)) (λ w h. record { context = union_least _ _ _ h.context (small_given policy r.0); env = h.env }) _ (way_under fs u from r.1)
-  way_under fs u (Opened locks from) r = move_top (opened numbers locks) (λ w h. record { context = h.context; env = h.env }) _ (way_under fs u from r.1)
-  way_under fs u (Shut locks from) r = move_top (shut numbers locks) (λ w h. record { context = h.context; env = h.env }) _ (way_under fs u from r.1)
+      move_top (raised numbers (adding none policy))
+      (λ w h. record {
+        context = union_least _ _ _ h.context (small_given policy r.0);
+        env = h.env;
+      }) _ (way_under fs u from r.1)
+  way_under fs u (Opened locks from) r =
+      move_top (opened numbers locks) (λ w h. record { context = h.context; env = h.env }) _
+      (way_under fs u from r.1)
+  way_under fs u (Shut locks from) r =
+      move_top (shut numbers locks) (λ w h. record { context = h.context; env = h.env }) _
+      (way_under fs u from r.1)
   way_under fs u (Assigned x part from) r =
       move_top (assigned numbers x (part_at numbers fs part).value)
-      (λ w h. record { context = h.context; env = put_under w.env x _ h.env (union_least _ _ _ (u part).value h.context) }) _ (way_under fs u from r.1)
+      (λ w h. record {
+        context = h.context;
+        env = put_under w.env x _ h.env (union_least _ _ _ (u part).value h.context);
+      }) _ (way_under fs u from r.1)
 
-  worth_under : (fs : List (Fact numbers)) → AreUnderTop fs → (v : Worth) → IsWorthInRange locals v → IsWithin (worth numbers (Some top) fs v) small
+  worth_under : (fs : List (Fact numbers)) → AreUnderTop fs → (v : Worth) → IsWorthInRange locals v
+      → IsWithin (worth numbers (Some top) fs v) small
   unfolding worth AreUnderTop
   worth_under fs u (Given policy) r = small_given policy r
   worth_under fs u (Held x) r = sub_refl small
   worth_under fs u (Value part) r = (u part).value
 
-  may_leave : (k : Kind) (o : Option (Way numbers)) → MayFlow numbers o (Some top) → MayLeave numbers k o (Some top)
+  may_leave : (k : Kind) (o : Option (Way numbers)) → MayFlow numbers o (Some top)
+      → MayLeave numbers k o (Some top)
   may_leave kind.Normal None h = tt
   may_leave kind.Normal (Some w) h = h.lands
   may_leave kind.Return o h = h
@@ -114,7 +135,8 @@ module _ (locals : ℕ) where
   may_leave kind.Continue o h = h
   may_leave (kind.Throw c) o h = h
 
-  may_head : (head : Option ℕ) (o : Option (Way numbers)) → MayFlow numbers o (Some top) → MayHead numbers full head o
+  may_head : (head : Option ℕ) (o : Option (Way numbers)) → MayFlow numbers o (Some top)
+      → MayHead numbers full head o
   may_head None o h = tt
   may_head (Some t) o h = h
 
@@ -123,22 +145,37 @@ module _ (locals : ℕ) where
       unfolding Obeys ObeysAll IsPassable ArePassable
 
       full_obeys : (n : Node) → IsPassable locals points n → Obeys numbers full n
-      full_obeys (node p rules) r = ((sub_refl small, λ k n. sub_refl small), all_obey p None [] rules none_under r)
+      full_obeys (node p rules) r =
+          ((sub_refl small, λ k n. sub_refl small), all_obey p None [] rules none_under r)
 
-      all_obey : (p : ℕ) (head : Option ℕ) (fs : List (Fact numbers)) (rules : Rules) → AreUnderTop fs → ArePassable locals points rules → ObeysAll numbers full p head fs rules
+      all_obey : (p : ℕ) (head : Option ℕ) (fs : List (Fact numbers)) (rules : Rules)
+          → AreUnderTop fs → ArePassable locals points rules → ObeysAll numbers full p head fs rules
       all_obey p head fs Done u r = tt
-      all_obey p head fs (Part from absorber part more) u r =
-          (way_under fs u from r.0, full_obeys part r.1, λ k a. flows_refl top, all_obey p head (full (spot part) ∷ fs) more (full_under (spot part) fs u) r.2)
-      all_obey p head fs (Test part more) u r =
-          (full_obeys part r.1, λ k a. flows_refl top, all_obey p (Some (spot part)) (full (spot part) ∷ fs) more (full_under (spot part) fs u) r.2)
-      all_obey p head fs (Heads from more) u r = (may_head head _ (way_under fs u from r.0), all_obey p head fs more u r.1)
-      all_obey p head fs (Leaves from k more) u r = (may_leave k _ (way_under fs u from r.0), all_obey p head fs more u r.1)
-      all_obey p head fs (Worths v more) u r = (worth_under fs u v r.0, all_obey p head fs more u r.1)
+      all_obey p head fs (Part from absorber part more) u r = (
+        way_under fs u from r.0,
+        full_obeys part r.1,
+        λ k a. flows_refl top,
+        all_obey p head (full (spot part) ∷ fs) more (full_under (spot part) fs u) r.2,
+      )
+      all_obey p head fs (Test part more) u r = (
+        full_obeys part r.1,
+        λ k a. flows_refl top,
+        all_obey p (Some (spot part)) (full (spot part) ∷ fs) more
+            (full_under (spot part) fs u) r.2,
+      )
+      all_obey p head fs (Heads from more) u r =
+          (may_head head _ (way_under fs u from r.0), all_obey p head fs more u r.1)
+      all_obey p head fs (Leaves from k more) u r =
+          (may_leave k _ (way_under fs u from r.0), all_obey p head fs more u r.1)
+      all_obey p head fs (Worths v more) u r =
+          (worth_under fs u v r.0, all_obey p head fs more u r.1)
 
-may_be_small : (o : Option (Way numbers)) (p : ℕ) → low.MayFlow numbers inside o (full p).entry → MayBeSmall o
+may_be_small : (o : Option (Way numbers)) (p : ℕ) → low.MayFlow numbers inside o (full p).entry
+    → MayBeSmall o
 unfolding small inside
 may_be_small None p h = tt
-may_be_small (Some w) p h = (λ n k. ltb-true n 256 (h.context n k), λ i n k. ltb-true n 256 (h.lands.env i n k))
+may_be_small (Some w) p h =
+    (λ n k. ltb-true n 256 (h.context n k), λ i n k. ltb-true n 256 (h.lands.env i n k))
 
 low_small : (l : List Event) → AreLow numbers inside full l → AreSmall l
 low_small [] h = tt
@@ -146,11 +183,16 @@ low_small (Row p f ∷ l) h = low_small l h.1
 low_small (Into p o ∷ l) h = (may_be_small o p h.0, low_small l h.1)
 
 -- all ways that flow into heads have policies below 256
-pub events_small : (locals points : ℕ) (n : Node) (w : Way numbers) → IsPassable locals points n → MayBeSmall (Some w) → (k : ℕ) → AreSmall (pass (heads_after n w k) n w).events
+pub events_small : (locals points : ℕ) (n : Node) (w : Way numbers) → IsPassable locals points n
+    → MayBeSmall (Some w) → (k : ℕ) → AreSmall (pass (heads_after n w k) n w).events
 unfolding small inside
 events_small locals points n w r s k =
     let c = full_obeys locals points n r in
     let m : low.MayFlow numbers inside (Some w) (full (spot n)).entry =
-    record { context = λ i h. lt-ltb i 256 (s.0 i h); lands = record { env = λ j i h. lt-ltb i 256 (s.1 j i h); locks = λ i h. cc } } in
+    record {
+      context = λ i h. lt-ltb i 256 (s.0 i h);
+      lands = record { env = λ j i h. lt-ltb i 256 (s.1 j i h); locks = λ i h. cc };
+    } in
     let u = heads_low numbers inside full n w c m k in
-    low_small (pass (heads_after n w k) n w).events (pass_low numbers inside full (heads_after n w k) u n w m c).events
+    low_small (pass (heads_after n w k) n w).events
+    (pass_low numbers inside full (heads_after n w k) u n w m c).events

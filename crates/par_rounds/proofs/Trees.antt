@@ -16,21 +16,37 @@ use Rattle.par_nodes.proofs.Forms.{seen_done, seen_part, seen_test, seen_heads, 
 pub is_done : (rs : Rules) → rs ≡ rule.Done → seen_rules rs ≡ plain.Done
 is_done rs is = ap seen_rules is ∙ seen_done
 
-pub is_part : (rs : Rules) (o : Origin) (a : Absorber) (b : Box Node Global) (q : Box Rules Global) (n : Node) (m : Rules) → rs ≡ rule.Part o a b q → n ≡ b.value → m ≡ q.value
+pub is_part : (rs : Rules) (o : Origin) (a : Absorber) (b : Box Node Global) (q : Box Rules Global)
+    (n : Node) (m : Rules) → rs ≡ rule.Part o a b q → n ≡ b.value → m ≡ q.value
     → seen_rules rs ≡ plain.Part (seen_origin o) (seen_absorber a) (seen_node n) (seen_rules m)
 is_part rs o a b q n m is d v =
-    ap seen_rules is ∙ seen_part o a b q ∙ ap (λ x. plain.Part (seen_origin o) (seen_absorber a) (seen_node x) (seen_rules q.value)) (sym d)
+    ap seen_rules is ∙ seen_part o a b q
+    ∙ ap (λ x. plain.Part (seen_origin o) (seen_absorber a) (seen_node x) (seen_rules q.value))
+    (sym d)
     ∙ ap (λ x. plain.Part (seen_origin o) (seen_absorber a) (seen_node n) (seen_rules x)) (sym v)
 
-pub is_test : (rs : Rules) (b : Box Node Global) (q : Box Rules Global) (n : Node) (m : Rules) → rs ≡ rule.Test b q → n ≡ b.value → m ≡ q.value → seen_rules rs ≡ plain.Test (seen_node n) (seen_rules m)
+pub is_test : (rs : Rules) (b : Box Node Global) (q : Box Rules Global) (n : Node) (m : Rules)
+    → rs ≡ rule.Test b q → n ≡ b.value → m ≡ q.value
+    → seen_rules rs ≡ plain.Test (seen_node n) (seen_rules m)
 is_test rs b q n m is d v =
-    ap seen_rules is ∙ seen_test b q ∙ ap (λ x. plain.Test (seen_node x) (seen_rules q.value)) (sym d) ∙ ap (λ x. plain.Test (seen_node n) (seen_rules x)) (sym v)
+    ap seen_rules is ∙ seen_test b q
+    ∙ ap (λ x. plain.Test (seen_node x) (seen_rules q.value)) (sym d)
+    ∙ ap (λ x. plain.Test (seen_node n) (seen_rules x)) (sym v)
 
-pub is_heads : (rs : Rules) (o : Origin) (q : Box Rules Global) (m : Rules) → rs ≡ rule.Heads o q → m ≡ q.value → seen_rules rs ≡ plain.Heads (seen_origin o) (seen_rules m)
-is_heads rs o q m is v = ap seen_rules is ∙ seen_heads o q ∙ ap (λ x. plain.Heads (seen_origin o) (seen_rules x)) (sym v)
+pub is_heads : (rs : Rules) (o : Origin) (q : Box Rules Global) (m : Rules) → rs ≡ rule.Heads o q
+    → m ≡ q.value → seen_rules rs ≡ plain.Heads (seen_origin o) (seen_rules m)
+is_heads rs o q m is v =
+    ap seen_rules is ∙ seen_heads o q ∙ ap (λ x. plain.Heads (seen_origin o) (seen_rules x)) (sym v)
 
-pub is_leaves : (rs : Rules) (o : Origin) (k : Kind) (q : Box Rules Global) (m : Rules) → rs ≡ rule.Leaves o k q → m ≡ q.value → seen_rules rs ≡ plain.Leaves (seen_origin o) (seen_kind k) (seen_rules m)
-is_leaves rs o k q m is v = ap seen_rules is ∙ seen_leaves o k q ∙ ap (λ x. plain.Leaves (seen_origin o) (seen_kind k) (seen_rules x)) (sym v)
+pub is_leaves : (rs : Rules) (o : Origin) (k : Kind) (q : Box Rules Global) (m : Rules)
+    → rs ≡ rule.Leaves o k q → m ≡ q.value
+    → seen_rules rs ≡ plain.Leaves (seen_origin o) (seen_kind k) (seen_rules m)
+is_leaves rs o k q m is v =
+    ap seen_rules is ∙ seen_leaves o k q
+    ∙ ap (λ x. plain.Leaves (seen_origin o) (seen_kind k) (seen_rules x)) (sym v)
 
-pub is_worths : (rs : Rules) (v : Worth) (q : Box Rules Global) (m : Rules) → rs ≡ rule.Worths v q → m ≡ q.value → seen_rules rs ≡ plain.Worths (seen_worth v) (seen_rules m)
-is_worths rs w q m is v = ap seen_rules is ∙ seen_worths w q ∙ ap (λ x. plain.Worths (seen_worth w) (seen_rules x)) (sym v)
+pub is_worths : (rs : Rules) (v : Worth) (q : Box Rules Global) (m : Rules) → rs ≡ rule.Worths v q
+    → m ≡ q.value → seen_rules rs ≡ plain.Worths (seen_worth v) (seen_rules m)
+is_worths rs w q m is v =
+    ap seen_rules is ∙ seen_worths w q
+    ∙ ap (λ x. plain.Worths (seen_worth w) (seen_rules x)) (sym v)

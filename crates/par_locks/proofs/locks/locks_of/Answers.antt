@@ -9,7 +9,9 @@ use Rattle.par_locks.proofs.Open.{all_at, same_body}
 use Rattle.par_locks.proofs.locks.locks_of.Goals as goal
 
 pub rows_of-requires : goal.rows_of-requires
-rows_of-requires c = all_at (IsOrderlyBody c.args.typed.now.table) (bodies c.args.typed.now.bodies) c.args.body _ c.requires.orderly c.body_at-body.ensures
+rows_of-requires c =
+    all_at (IsOrderlyBody c.args.typed.now.table)
+    (bodies c.args.typed.now.bodies) c.args.body _ c.requires.orderly c.body_at-body.ensures
 
 pub returns : goal.returns
 returns c = λ b h.
@@ -17,6 +19,10 @@ returns c = λ b h.
     let same : body c.body_at-body.result.now ≡ b = same_body _ _ _ c.body_at-body.ensures h in
     record {
       facts = by_point (seen_facts rows);
-      least = subst (λ d. AreLeastClosed c.args.typed.now.table d (by_point (seen_facts rows))) same c.in_ok-rows.ensures;
-      same = λ p. c.in_ok-locks.ensures p ∙ ap (λ l. entering (by_point (seen_facts l) p).entry) c.deref.ensures.value;
+      least =
+          subst (λ d. AreLeastClosed c.args.typed.now.table d (by_point (seen_facts rows))) same
+          c.in_ok-rows.ensures;
+      same =
+          λ p. c.in_ok-locks.ensures p
+          ∙ ap (λ l. entering (by_point (seen_facts l) p).entry) c.deref.ensures.value;
     }

@@ -14,26 +14,33 @@ use Rattle.par_rounds.proofs.Bodies.{passable, first_small, rows_least}
 use Rattle.par_rounds.proofs.body.facts_of_body.Goals as goal
 
 pub first_way-requires-clause-expects : goal.first_way-requires-clause-expects
-first_way-requires-clause-expects c = subst (λ m. AreLocks m.expects) (sym c.requires.method) c.requires.orderly.expects
+first_way-requires-clause-expects c =
+    subst (λ m. AreLocks m.expects) (sym c.requires.method) c.requires.orderly.expects
 
 pub settle-requires-clause-node : goal.settle-requires-clause-node
 settle-requires-clause-node c =
     let n = seen_node c.args.node.now in let e = c.next.ensures in
     subst (λ k. IsPassable k c.next.result n) (sym c.in_ok-way.ensures.locals)
-    (passable (length c.args.method.now.locals) c.next.result n 0 (subst (IsNumbered 0) (sym c.requires.node) c.requires.orderly.numbered) (omega (arith, e))
-    (subst (IsInRange (length c.args.method.now.locals)) (sym c.requires.node) c.requires.orderly.in_range))
+    (passable (length c.args.method.now.locals) c.next.result n 0
+    (subst (IsNumbered 0) (sym c.requires.node) c.requires.orderly.numbered) (omega (arith, e))
+    (subst (IsInRange (length c.args.method.now.locals))
+    (sym c.requires.node) c.requires.orderly.in_range))
 
 pub settle-requires-clause-small : goal.settle-requires-clause-small
 settle-requires-clause-small c =
     subst (λ w. MayBeSmall (Some w)) (sym c.in_ok-way.ensures.way)
-    (first_small (method_of (Some c.args.method.now)) (subst (λ m. All (λ p. p < MOST) m.params) (sym c.requires.method) c.requires.orderly.params))
+    (first_small (method_of (Some c.args.method.now))
+    (subst (λ m. All (λ p. p < MOST) m.params) (sym c.requires.method) c.requires.orderly.params))
 
 pub returns : goal.returns
 returns c =
     let t = c.args.table.now in let b = shown c.args.body.now in let e = c.next.ensures in
-    let w : seen c.in_ok-way.way ≡ first numbers ((declares t).method b.class b.method) = c.in_ok-way.ensures.way ∙ ap (first numbers) c.requires.method in
+    let w : seen c.in_ok-way.way ≡ first numbers ((declares t).method b.class b.method) =
+    c.in_ok-way.ensures.way ∙ ap (first numbers) c.requires.method in
     rows_least t b c.next.result c.in_ok-rows.rows.items
-    (subst (λ n. IsSettled n (first numbers ((declares t).method b.class b.method)) c.next.result c.in_ok-rows.rows.items) c.requires.node
-    (subst (λ v. IsSettled (seen_node c.args.node.now) v c.next.result c.in_ok-rows.rows.items) w c.in_ok-rows.ensures))
+    (subst (λ n. IsSettled n (first numbers ((declares t).method b.class b.method)) c.next.result
+    c.in_ok-rows.rows.items) c.requires.node
+    (subst (λ v. IsSettled (seen_node c.args.node.now) v c.next.result c.in_ok-rows.rows.items) w
+    c.in_ok-rows.ensures))
     c.requires.orderly.numbered
     (subst (λ n. next n ≤ c.next.result) c.requires.node (omega (arith, e)))

@@ -5,5 +5,6 @@ use Rattle.par_rounds.proofs.changes.all_locks.Goals as goal
 pub with-bits-requires : goal.with-bits-requires
 with-bits-requires c = (
   omega arith,
-  lock_in_range c.as_slice-lock-items.result.now c.args.set.now c.loop-lock.lock-index c.from.result 0 c.as_slice-lock-items.ensures.locks c.loop-lock-test.true c.from.ensures c.requires,
+  lock_in_range c.as_slice-lock-items.result.now c.args.set.now c.loop-lock.lock-index c.from.result
+      0 c.as_slice-lock-items.ensures.locks c.loop-lock-test.true c.from.ensures c.requires,
 )

@@ -4,4 +4,5 @@ use Rattle.par_bits.specs.Sets.{has}
 use Rattle.par_rounds.proofs.changes.all_locks.Given as goal
 
 abbrev pub invariant-loop-lock : goal.invariant-loop-lock
-invariant-loop-lock l = (n : ℕ) → (has l.bits n || is_among (drop l.lock-index l.lock-items) n) ≡ is_among l.fn.set n
+invariant-loop-lock l =
+    (n : ℕ) → (has l.bits n || is_among (drop l.lock-index l.lock-items) n) ≡ is_among l.fn.set n

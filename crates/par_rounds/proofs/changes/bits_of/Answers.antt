@@ -6,5 +6,6 @@ use Rattle.par_rounds.proofs.changes.bits_of.Goals as goal
 pub with-requires : goal.with-requires
 with-requires c = (
   omega arith,
-  subst (λ n. n < 256) (sym c.from.ensures) (one_lock c.in-One.lock (subst (λ l. HaveRange (seen_locks l)) c.in-One.is c.requires)),
+  subst (λ n. n < 256) (sym c.from.ensures)
+      (one_lock c.in-One.lock (subst (λ l. HaveRange (seen_locks l)) c.in-One.is c.requires)),
 )

@@ -5,8 +5,11 @@ use Rattle.par_rounds.proofs.Parts.{starts_entry, starts_after}
 use Rattle.par_rounds.proofs.changes.start_of.Goals as goal
 
 pub returns-in-Entry-clause-way : goal.returns-in-Entry-clause-way
-returns-in-Entry-clause-way c = starts_entry (Some (seen c.args.way.now)) (latest_first c.args.parts.now []) c.args.start c.in-Entry.is
+returns-in-Entry-clause-way c =
+    starts_entry (Some (seen c.args.way.now))
+    (latest_first c.args.parts.now []) c.args.start c.in-Entry.is
 
 pub returns-in-After-clause-way : goal.returns-in-After-clause-way
 returns-in-After-clause-way c =
-    c.exit_of.ensures.way ∙ starts_after (Some (seen c.args.way.now)) (latest_first c.args.parts.now []) c.args.start c.in-After.part c.in-After.kind c.in-After.is
+    c.exit_of.ensures.way ∙ starts_after (Some (seen c.args.way.now))
+    (latest_first c.args.parts.now []) c.args.start c.in-After.part c.in-After.kind c.in-After.is

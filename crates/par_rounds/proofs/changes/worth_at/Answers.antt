@@ -9,13 +9,19 @@ use Rattle.par_rounds.proofs.changes.worth_at.Goals as goal
 pub returns-in-Given : goal.returns-in-Given
 returns-in-Given c =
     c.with.ensures ∙ ap (λ s. adding s c.in-Given.policy) c.empty.ensures
-    ∙ given_worth (Some (seen c.args.way.now)) (latest_first c.args.parts.now []) c.args.worth c.in-Given.policy c.in-Given.is
+    ∙ given_worth (Some (seen c.args.way.now))
+    (latest_first c.args.parts.now []) c.args.worth c.in-Given.policy c.in-Given.is
 
 pub returns-in-Held : goal.returns-in-Held
 returns-in-Held c =
     let es = c.as_slice.result.now in let x = c.index-as_slice-from in
-    ap has x.is ∙ sym (locals_get es c.from.result x.result (search rules)) ∙ ap (λ l. locals l c.from.result) c.as_slice.ensures ∙ ap (locals c.args.way.now.env) c.from.ensures
-    ∙ held_worth (seen c.args.way.now) (latest_first c.args.parts.now []) c.args.worth c.in-Held.local c.in-Held.is
+    ap has x.is ∙ sym (locals_get es c.from.result x.result (search rules))
+    ∙ ap (λ l. locals l c.from.result) c.as_slice.ensures
+    ∙ ap (locals c.args.way.now.env) c.from.ensures
+    ∙ held_worth (seen c.args.way.now)
+    (latest_first c.args.parts.now []) c.args.worth c.in-Held.local c.in-Held.is
 
 pub returns-in-Value : goal.returns-in-Value
-returns-in-Value c = c.value_of.ensures ∙ value_worth (Some (seen c.args.way.now)) (latest_first c.args.parts.now []) c.args.worth c.in-Value.part c.in-Value.is
+returns-in-Value c =
+    c.value_of.ensures ∙ value_worth (Some (seen c.args.way.now))
+    (latest_first c.args.parts.now []) c.args.worth c.in-Value.part c.in-Value.is

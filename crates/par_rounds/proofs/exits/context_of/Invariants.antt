@@ -5,4 +5,6 @@ use Rattle.par_rounds.specs.Seen.{seen_exits}
 use Rattle.par_rounds.proofs.exits.context_of.Given as goal
 
 abbrev pub invariant-loop-exit : goal.invariant-loop-exit
-invariant-loop-exit l = contexts (has l.context) (seen_exits (drop l.exit-index l.exits)) ≡ contexts (has l.fn.first) (seen_exits l.exits)
+invariant-loop-exit l =
+    contexts (has l.context) (seen_exits (drop l.exit-index l.exits))
+    ≡ contexts (has l.fn.first) (seen_exits l.exits)

@@ -7,7 +7,9 @@ use Rattle.par_rounds.proofs.exits.gather.Given as goal
 
 abbrev pub invariant-loop-exit : goal.invariant-loop-exit
 invariant-loop-exit l = record {
-  rest : all (leaving (absorbed (seen_absorber l.absorber)) (seen_exits (drop l.exit-index l.from))) (seen_exits l.exits.items)
-      ≡ all (leaving (absorbed (seen_absorber l.absorber)) (seen_exits l.from)) (seen_exits l.initial.exits.items);
+  rest : all (leaving (absorbed (seen_absorber l.absorber)) (seen_exits (drop l.exit-index l.from)))
+      (seen_exits l.exits.items)
+      ≡ all (leaving (absorbed (seen_absorber l.absorber)) (seen_exits l.from))
+      (seen_exits l.initial.exits.items);
   wide : (n : ℕ) → AreWide n l.initial.exits.items → AreWide n l.from → AreWide n l.exits.items;
 }

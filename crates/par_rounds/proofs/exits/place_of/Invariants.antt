@@ -6,6 +6,8 @@ use Rattle.par_rounds.proofs.exits.place_of.Given as goal
 
 abbrev pub invariant-loop-place : goal.invariant-loop-place
 invariant-loop-place l = record {
-  none : HasNoPlace (seen_kind l.kind) (seen_exits (drop l.place l.exits)) → HasNoPlace (seen_kind l.kind) (seen_exits l.exits);
-  one : (j : ℕ) → IsPlace (seen_kind l.kind) (seen_exits (drop l.place l.exits)) j → IsPlace (seen_kind l.kind) (seen_exits l.exits) (l.place + j);
+  none : HasNoPlace (seen_kind l.kind) (seen_exits (drop l.place l.exits))
+      → HasNoPlace (seen_kind l.kind) (seen_exits l.exits);
+  one : (j : ℕ) → IsPlace (seen_kind l.kind) (seen_exits (drop l.place l.exits)) j
+      → IsPlace (seen_kind l.kind) (seen_exits l.exits) (l.place + j);
 }

@@ -17,11 +17,20 @@ loop-place-preserved c =
           let z = record old { way = record old.way { context = c.args.context } } in
           let e : c.if-is_same.exits ≡ set xs i z = w.exits-is in
           record {
-            half = half_set (has c.args.context) xs c.if-is_same.exits i x.result y.result z _ (omega arith) x.is y.is (sym c.is_same.ensures ∙ w.if-is_same.true) e refl c.loop-place.invariant.half;
-            wide = λ n h. subst (AreWide n) (sym e) (All-set (λ g. HasLocals n g.way) xs i z (c.loop-place.invariant.wide n h i y.result (omega arith)) (c.loop-place.invariant.wide n h));
+            half =
+                half_set (has c.args.context) xs c.if-is_same.exits i x.result y.result z _
+                (omega arith) x.is y.is (sym c.is_same.ensures ∙ w.if-is_same.true) e refl
+                c.loop-place.invariant.half;
+            wide =
+                λ n h. subst (AreWide n) (sym e)
+                (All-set (λ g. HasLocals n g.way) xs i z
+                (c.loop-place.invariant.wide n h i y.result (omega arith))
+                (c.loop-place.invariant.wide n h));
           }
       | else-is_same w ↦ record {
-        half = half_keep (has c.args.context) xs c.if-is_same.exits i x.result _ (omega arith) x.is (sym c.is_same.ensures ∙ w.if-is_same.false) w.exits-is c.loop-place.invariant.half;
+        half =
+            half_keep (has c.args.context) xs c.if-is_same.exits i x.result _ (omega arith) x.is
+            (sym c.is_same.ensures ∙ w.if-is_same.false) w.exits-is c.loop-place.invariant.half;
         wide = λ n h. subst (AreWide n) (sym w.exits-is) (c.loop-place.invariant.wide n h);
       }
     ]

@@ -7,6 +7,7 @@ use Rattle.par_rounds.proofs.exits.set_context.Given as goal
 
 abbrev pub invariant-loop-place : goal.invariant-loop-place
 invariant-loop-place l = record {
-  half : half (has l.context) l.place l.exits ≡ with_context (has l.context) (seen_exits l.initial.exits);
+  half : half (has l.context) l.place l.exits
+      ≡ with_context (has l.context) (seen_exits l.initial.exits);
   wide : (n : ℕ) → AreWide n l.initial.exits → AreWide n l.exits;
 }

@@ -8,7 +8,10 @@ use Rattle.par_rounds.proofs.fact.exit_at.Goals as goal
 pub returns-then-place-rows : goal.returns-then-place-rows
 returns-then-place-rows c =
     let k = seen_kind c.args.kind in
-    c.way_of.ensures.way ∙ ap (λ l. at (seen_exits l) k) c.deref.ensures.value ∙ sym (ap (λ f. f.exit k) (row_at c.args.rows.now c.args.point _ c.if-place-rows.true))
+    c.way_of.ensures.way ∙ ap (λ l. at (seen_exits l) k) c.deref.ensures.value
+    ∙ sym (ap (λ f. f.exit k) (row_at c.args.rows.now c.args.point _ c.if-place-rows.true))
 
 pub returns-else-place-rows : goal.returns-else-place-rows
-returns-else-place-rows c = sym (ap (λ f. f.exit (seen_kind c.args.kind)) (row_past c.args.rows.now c.args.point (omega arith)))
+returns-else-place-rows c =
+    sym (ap (λ f. f.exit (seen_kind c.args.kind))
+    (row_past c.args.rows.now c.args.point (omega arith)))

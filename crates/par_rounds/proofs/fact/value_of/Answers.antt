@@ -6,7 +6,11 @@ use Rattle.par_rounds.proofs.fact.value_of.Goals as goal
 pub returns-then-part-parts : goal.returns-then-part-parts
 returns-then-part-parts c =
     let parts = c.args.parts.now in let n = c.args.part in let f = c.index-parts-parts in
-    ap (λ g. has g.value) (sym f.is) ∙ sym (ap (λ g. g.value) (latest_at parts [] n (length parts - 1 - n) f.result (omega arith) f.is))
+    ap (λ g. has g.value) (sym f.is)
+    ∙ sym
+    (ap (λ g. g.value) (latest_at parts [] n (length parts - 1 - n) f.result (omega arith) f.is))
 
 pub returns-else-part-parts : goal.returns-else-part-parts
-returns-else-part-parts c = c.empty.ensures ∙ sym (ap (λ f. f.value) (latest_past c.args.parts.now c.args.part (omega arith)))
+returns-else-part-parts c =
+    c.empty.ensures
+    ∙ sym (ap (λ f. f.value) (latest_past c.args.parts.now c.args.part (omega arith)))

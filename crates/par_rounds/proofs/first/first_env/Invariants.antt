@@ -8,4 +8,5 @@ use Rattle.par_rounds.proofs.first.first_env.Given as goal
 abbrev pub invariant-loop-local : goal.invariant-loop-local
 invariant-loop-local l =
     (length l.env ≡ l.local)
-    × ((i : ℕ) → i < l.local → locals l.env i ≡ entering numbers l.method.is_static (params_of l.method.params) i)
+    × ((i : ℕ) → i < l.local → locals l.env i
+    ≡ entering numbers l.method.is_static (params_of l.method.params) i)

@@ -6,7 +6,11 @@ pub with-requires : goal.with-requires
 with-requires c = param_small c.args.params.now c.args.place _ c.if-place-params.true c.requires
 
 pub returns-then-place-params : goal.returns-then-place-params
-returns-then-place-params c = param_made c.args.params.now c.args.place _ _ _ c.if-place-params.true c.empty.ensures c.with.ensures
+returns-then-place-params c =
+    param_made c.args.params.now c.args.place _ _ _ c.if-place-params.true c.empty.ensures
+    c.with.ensures
 
 pub returns-else-place-params : goal.returns-else-place-params
-returns-else-place-params c = c.empty-else-place-params.ensures ∙ sym (arriving_past c.args.params.now c.args.place (search rules))
+returns-else-place-params c =
+    c.empty-else-place-params.ensures
+    ∙ sym (arriving_past c.args.params.now c.args.place (search rules))

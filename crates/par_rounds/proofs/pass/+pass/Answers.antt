@@ -21,49 +21,67 @@ pass-pass_rules-requires t c = (
     c.requires.ready,
     (
       so_first c.args.notes.now _ refl c.new.ensures.items c.nothing.ensures.exits,
-      node_needs c.args.notes.now.locals (length c.args.notes.now.heads.items) c.args.node.now.point (seen_rules c.args.node.now.rules) c.requires.node,
+      node_needs c.args.notes.now.locals (length c.args.notes.now.heads.items) c.args.node.now.point
+          (seen_rules c.args.node.now.rules) c.requires.node,
     ),
   ),
 )
 
 pub pass-returns : goal.pass-returns
 pass-returns t c =
-    node_goes (ways_of c.args.heads.now) c.args.node.now.point (seen_rules c.args.node.now.rules) (seen c.args.way.now) (record { head = None; parts = c.new.result; found = c.nothing.result }) c.pass_rules.new.so.found c.in_ok-found.found
-    c.args.notes.now c.pass_rules.new.notes c.finish.new.notes refl c.new.ensures.items c.nothing.ensures.value c.nothing.ensures.exits c.in_ok-pass_rules.ensures c.in_ok-found.ensures
+    node_goes (ways_of c.args.heads.now) c.args.node.now.point (seen_rules c.args.node.now.rules)
+    (seen c.args.way.now) (record { head = None; parts = c.new.result; found = c.nothing.result })
+    c.pass_rules.new.so.found c.in_ok-found.found
+    c.args.notes.now c.pass_rules.new.notes c.finish.new.notes refl c.new.ensures.items
+    c.nothing.ensures.value c.nothing.ensures.exits c.in_ok-pass_rules.ensures c.in_ok-found.ensures
 
 pub pass_rules-way_at-requires-clause-range : goal.pass_rules-way_at-requires-clause-range
 pass_rules-way_at-requires-clause-range t c =
     let n = c.args.notes.now in
     subst (λ k. IsFromInRange k (seen_origin c.in-Part.from)) (sym c.requires.ready.way)
-    (part_needs n.locals (length n.heads.items) (seen_rules c.args.rules.now) (seen_origin c.in-Part.from) (seen_absorber c.in-Part.absorber) (seen_node c.in-Part.part.value) (seen_rules c.in-Part.more.value)
-    (is_part c.args.rules.now c.in-Part.from c.in-Part.absorber c.in-Part.part c.in-Part.more c.in-Part.part.value c.in-Part.more.value c.in-Part.is refl refl) c.requires.rules).0
+    (part_needs n.locals (length n.heads.items) (seen_rules c.args.rules.now)
+    (seen_origin c.in-Part.from) (seen_absorber c.in-Part.absorber) (seen_node c.in-Part.part.value)
+    (seen_rules c.in-Part.more.value)
+    (is_part c.args.rules.now c.in-Part.from c.in-Part.absorber c.in-Part.part c.in-Part.more
+    c.in-Part.part.value c.in-Part.more.value c.in-Part.is refl refl) c.requires.rules).0
 
 pub pass_rules-visit-requires : goal.pass_rules-visit-requires
 pass_rules-visit-requires t c =
     let n = c.args.notes.now in (
       search (rules, the_lemmas),
       (
-        subst (λ k. MayHaveLocals k c.in_ok-entry-in-Part.entry) c.requires.ready.way c.in_ok-entry-in-Part.ensures.locals,
+        subst (λ k. MayHaveLocals k c.in_ok-entry-in-Part.entry) c.requires.ready.way
+            c.in_ok-entry-in-Part.ensures.locals,
         (
           (c.requires.ready.heads, c.requires.ready.noted),
-          (part_needs n.locals (length n.heads.items) (seen_rules c.args.rules.now) (seen_origin c.in-Part.from) (seen_absorber c.in-Part.absorber) (seen_node c.deref-in-Part.result.now) (seen_rules c.in-Part.more.value)
-              (is_part c.args.rules.now c.in-Part.from c.in-Part.absorber c.in-Part.part c.in-Part.more c.deref-in-Part.result.now c.in-Part.more.value c.in-Part.is c.deref-in-Part.ensures refl) c.requires.rules).1,
+          (part_needs n.locals (length n.heads.items) (seen_rules c.args.rules.now)
+              (seen_origin c.in-Part.from) (seen_absorber c.in-Part.absorber)
+              (seen_node c.deref-in-Part.result.now) (seen_rules c.in-Part.more.value)
+              (is_part c.args.rules.now c.in-Part.from c.in-Part.absorber c.in-Part.part
+              c.in-Part.more c.deref-in-Part.result.now c.in-Part.more.value c.in-Part.is
+              c.deref-in-Part.ensures refl) c.requires.rules).1,
         ),
       ),
     )
 
 pub pass_rules-pass_rules-requires : goal.pass_rules-pass_rules-requires
 pass_rules-pass_rules-requires t c =
-    let n = c.args.notes.now in let m = c.visit.new.notes in let f = c.in_ok-found-in-Part.ensures in let s = c.requires.so_far in (
+    let n = c.args.notes.now in let m = c.visit.new.notes in
+    let f = c.in_ok-found-in-Part.ensures in let s = c.requires.so_far in (
       search (rules, the_lemmas),
       (
         ready_after n m _ f.noted c.args.way.now c.args.heads.now c.requires.ready,
         (
-          so_after n m _ f.noted c.args.so.now c.take.new.so c.args.so.now.head _ s s.head f.wide c.in_ok-take-in-Part.ensures.head c.in_ok-take-in-Part.ensures.parts
+          so_after n m _ f.noted c.args.so.now c.take.new.so c.args.so.now.head _ s s.head f.wide
+              c.in_ok-take-in-Part.ensures.head c.in_ok-take-in-Part.ensures.parts
               (c.in_ok-take-in-Part.ensures.locals n.locals s.exits f.wide),
           rules_after n m _ f.noted (seen_rules c.deref-in-Part-2.result.now)
-              (part_needs n.locals (length n.heads.items) (seen_rules c.args.rules.now) (seen_origin c.in-Part.from) (seen_absorber c.in-Part.absorber) (seen_node c.in-Part.part.value) (seen_rules c.deref-in-Part-2.result.now)
-              (is_part c.args.rules.now c.in-Part.from c.in-Part.absorber c.in-Part.part c.in-Part.more c.in-Part.part.value c.deref-in-Part-2.result.now c.in-Part.is refl c.deref-in-Part-2.ensures) c.requires.rules).2,
+              (part_needs n.locals (length n.heads.items) (seen_rules c.args.rules.now)
+              (seen_origin c.in-Part.from) (seen_absorber c.in-Part.absorber)
+              (seen_node c.in-Part.part.value) (seen_rules c.deref-in-Part-2.result.now)
+              (is_part c.args.rules.now c.in-Part.from c.in-Part.absorber c.in-Part.part
+              c.in-Part.more c.in-Part.part.value c.deref-in-Part-2.result.now c.in-Part.is refl
+              c.deref-in-Part-2.ensures) c.requires.rules).2,
         ),
       ),
     )
@@ -76,22 +94,32 @@ pass_rules-visit-requires-in-Test t c =
         c.in_ok-entry-in-Test.ensures.locals n.locals c.requires.ready.heads,
         (
           (c.requires.ready.heads, c.requires.ready.noted),
-          (test_needs n.locals (length n.heads.items) (seen_rules c.args.rules.now) (seen_node c.deref-in-Test-2.result.now) (seen_rules c.in-Test.more.value)
-              (is_test c.args.rules.now c.in-Test.part c.in-Test.more c.deref-in-Test-2.result.now c.in-Test.more.value c.in-Test.is c.deref-in-Test-2.ensures refl) c.requires.rules).1,
+          (test_needs n.locals (length n.heads.items) (seen_rules c.args.rules.now)
+              (seen_node c.deref-in-Test-2.result.now) (seen_rules c.in-Test.more.value)
+              (is_test c.args.rules.now c.in-Test.part c.in-Test.more c.deref-in-Test-2.result.now
+              c.in-Test.more.value c.in-Test.is c.deref-in-Test-2.ensures refl) c.requires.rules).1,
         ),
       ),
     )
 
 pub pass_rules-pass_rules-requires-in-Test : goal.pass_rules-pass_rules-requires-in-Test
 pass_rules-pass_rules-requires-in-Test t c =
-    let n = c.args.notes.now in let m = c.visit-in-Test.new.notes in let f = c.in_ok-found-in-Test.ensures in let s = c.requires.so_far in
-    let q = test_needs n.locals (length n.heads.items) (seen_rules c.args.rules.now) (seen_node c.deref-in-Test-3.result.now) (seen_rules c.deref-in-Test-4.result.now)
-    (is_test c.args.rules.now c.in-Test.part c.in-Test.more c.deref-in-Test-3.result.now c.deref-in-Test-4.result.now c.in-Test.is c.deref-in-Test-3.ensures c.deref-in-Test-4.ensures) c.requires.rules in (
+    let n = c.args.notes.now in let m = c.visit-in-Test.new.notes in
+    let f = c.in_ok-found-in-Test.ensures in let s = c.requires.so_far in
+    let q =
+    test_needs n.locals (length n.heads.items) (seen_rules c.args.rules.now)
+    (seen_node c.deref-in-Test-3.result.now) (seen_rules c.deref-in-Test-4.result.now)
+    (is_test c.args.rules.now c.in-Test.part c.in-Test.more c.deref-in-Test-3.result.now
+    c.deref-in-Test-4.result.now c.in-Test.is c.deref-in-Test-3.ensures c.deref-in-Test-4.ensures)
+    c.requires.rules in (
       search (rules, the_lemmas),
       (
         ready_after n m _ f.noted c.args.way.now c.args.heads.now c.requires.ready,
         (
-          so_after n m _ f.noted c.args.so.now _ (Some c.deref-in-Test-3.result.now.point) _ s q.0 f.wide refl c.in_ok-take-in-Test.ensures.parts (c.in_ok-take-in-Test.ensures.locals n.locals s.exits f.wide),
+          so_after n m _ f.noted c.args.so.now _
+              (Some c.deref-in-Test-3.result.now.point) _ s q.0 f.wide refl
+              c.in_ok-take-in-Test.ensures.parts
+              (c.in_ok-take-in-Test.ensures.locals n.locals s.exits f.wide),
           rules_after n m _ f.noted (seen_rules c.deref-in-Test-4.result.now) q.2,
         ),
       ),
@@ -100,20 +128,25 @@ pass_rules-pass_rules-requires-in-Test t c =
 pub pass_rules-flow-requires-clause-range : goal.pass_rules-flow-requires-clause-range
 pass_rules-flow-requires-clause-range t c =
     let n = c.args.notes.now in
-    (heads_needs n.locals (length n.heads.items) (seen_rules c.args.rules.now) (seen_origin c.in-Heads.from) (seen_rules c.in-Heads.more.value)
-    (is_heads c.args.rules.now c.in-Heads.from c.in-Heads.more c.in-Heads.more.value c.in-Heads.is refl) c.requires.rules).0
+    (heads_needs n.locals (length n.heads.items) (seen_rules c.args.rules.now)
+    (seen_origin c.in-Heads.from) (seen_rules c.in-Heads.more.value)
+    (is_heads c.args.rules.now c.in-Heads.from c.in-Heads.more c.in-Heads.more.value c.in-Heads.is
+    refl) c.requires.rules).0
 
 pub pass_rules-pass_rules-requires-in-Heads : goal.pass_rules-pass_rules-requires-in-Heads
 pass_rules-pass_rules-requires-in-Heads t c =
-    let n = c.args.notes.now in let m = c.flow.new.notes in let f = c.in_ok-flow-in-Heads.ensures in let s = c.requires.so_far in (
+    let n = c.args.notes.now in let m = c.flow.new.notes in let f = c.in_ok-flow-in-Heads.ensures in
+    let s = c.requires.so_far in (
       search (rules, the_lemmas),
       (
         ready_after n m _ f c.args.way.now c.args.heads.now c.requires.ready,
         (
           so_still n m _ f c.args.so.now c.args.so.now s refl refl s.exits,
           rules_after n m _ f (seen_rules c.deref-in-Heads.result.now)
-              (heads_needs n.locals (length n.heads.items) (seen_rules c.args.rules.now) (seen_origin c.in-Heads.from) (seen_rules c.deref-in-Heads.result.now)
-              (is_heads c.args.rules.now c.in-Heads.from c.in-Heads.more c.deref-in-Heads.result.now c.in-Heads.is c.deref-in-Heads.ensures) c.requires.rules).1,
+              (heads_needs n.locals (length n.heads.items) (seen_rules c.args.rules.now)
+              (seen_origin c.in-Heads.from) (seen_rules c.deref-in-Heads.result.now)
+              (is_heads c.args.rules.now c.in-Heads.from c.in-Heads.more c.deref-in-Heads.result.now
+              c.in-Heads.is c.deref-in-Heads.ensures) c.requires.rules).1,
         ),
       ),
     )
@@ -122,8 +155,10 @@ pub pass_rules-leave-requires-clause-range : goal.pass_rules-leave-requires-clau
 pass_rules-leave-requires-clause-range t c =
     let n = c.args.notes.now in
     subst (λ k. IsFromInRange k (seen_origin c.in-Leaves.from)) (sym c.requires.ready.way)
-    (leaves_needs n.locals (length n.heads.items) (seen_rules c.args.rules.now) (seen_origin c.in-Leaves.from) (seen_kind c.in-Leaves.kind) (seen_rules c.in-Leaves.more.value)
-    (is_leaves c.args.rules.now c.in-Leaves.from c.in-Leaves.kind c.in-Leaves.more c.in-Leaves.more.value c.in-Leaves.is refl) c.requires.rules).0
+    (leaves_needs n.locals (length n.heads.items) (seen_rules c.args.rules.now)
+    (seen_origin c.in-Leaves.from) (seen_kind c.in-Leaves.kind) (seen_rules c.in-Leaves.more.value)
+    (is_leaves c.args.rules.now c.in-Leaves.from c.in-Leaves.kind c.in-Leaves.more
+    c.in-Leaves.more.value c.in-Leaves.is refl) c.requires.rules).0
 
 pub pass_rules-pass_rules-requires-in-Leaves : goal.pass_rules-pass_rules-requires-in-Leaves
 pass_rules-pass_rules-requires-in-Leaves t c =
@@ -132,10 +167,16 @@ pass_rules-pass_rules-requires-in-Leaves t c =
       (
         c.requires.ready,
         (
-          so_still n n [] (took_none n) c.args.so.now c.leave.new.so s c.in_ok-leave-in-Leaves.ensures.head c.in_ok-leave-in-Leaves.ensures.parts
-              (subst (λ k. AreWide k c.leave.new.so.found.exits.items) c.requires.ready.way c.in_ok-leave-in-Leaves.ensures.locals),
-          (leaves_needs n.locals (length n.heads.items) (seen_rules c.args.rules.now) (seen_origin c.in-Leaves.from) (seen_kind c.in-Leaves.kind) (seen_rules c.deref-in-Leaves.result.now)
-              (is_leaves c.args.rules.now c.in-Leaves.from c.in-Leaves.kind c.in-Leaves.more c.deref-in-Leaves.result.now c.in-Leaves.is c.deref-in-Leaves.ensures) c.requires.rules).1,
+          so_still n n [] (took_none n) c.args.so.now c.leave.new.so s
+              c.in_ok-leave-in-Leaves.ensures.head c.in_ok-leave-in-Leaves.ensures.parts
+              (subst (λ k. AreWide k c.leave.new.so.found.exits.items) c.requires.ready.way
+              c.in_ok-leave-in-Leaves.ensures.locals),
+          (leaves_needs n.locals (length n.heads.items) (seen_rules c.args.rules.now)
+              (seen_origin c.in-Leaves.from) (seen_kind c.in-Leaves.kind)
+              (seen_rules c.deref-in-Leaves.result.now)
+              (is_leaves c.args.rules.now c.in-Leaves.from c.in-Leaves.kind c.in-Leaves.more
+              c.deref-in-Leaves.result.now c.in-Leaves.is c.deref-in-Leaves.ensures)
+              c.requires.rules).1,
         ),
       ),
     )
@@ -144,8 +185,10 @@ pub pass_rules-worth_at-worth-requires : goal.pass_rules-worth_at-worth-requires
 pass_rules-worth_at-worth-requires t c =
     let n = c.args.notes.now in
     subst (λ k. IsWorthInRange k (seen_worth c.in-Worths.worth)) (sym c.requires.ready.way)
-    (worths_needs n.locals (length n.heads.items) (seen_rules c.args.rules.now) (seen_worth c.in-Worths.worth) (seen_rules c.in-Worths.more.value)
-    (is_worths c.args.rules.now c.in-Worths.worth c.in-Worths.more c.in-Worths.more.value c.in-Worths.is refl) c.requires.rules).0
+    (worths_needs n.locals (length n.heads.items) (seen_rules c.args.rules.now)
+    (seen_worth c.in-Worths.worth) (seen_rules c.in-Worths.more.value)
+    (is_worths c.args.rules.now c.in-Worths.worth c.in-Worths.more c.in-Worths.more.value
+    c.in-Worths.is refl) c.requires.rules).0
 
 pub pass_rules-pass_rules-requires-in-Worths : goal.pass_rules-pass_rules-requires-in-Worths
 pass_rules-pass_rules-requires-in-Worths t c =
@@ -155,53 +198,97 @@ pass_rules-pass_rules-requires-in-Worths t c =
         c.requires.ready,
         (
           so_still n n [] (took_none n) c.args.so.now _ s refl refl s.exits,
-          (worths_needs n.locals (length n.heads.items) (seen_rules c.args.rules.now) (seen_worth c.in-Worths.worth) (seen_rules c.deref-in-Worths-2.result.now)
-              (is_worths c.args.rules.now c.in-Worths.worth c.in-Worths.more c.deref-in-Worths-2.result.now c.in-Worths.is c.deref-in-Worths-2.ensures) c.requires.rules).1,
+          (worths_needs n.locals (length n.heads.items) (seen_rules c.args.rules.now)
+              (seen_worth c.in-Worths.worth) (seen_rules c.deref-in-Worths-2.result.now)
+              (is_worths c.args.rules.now c.in-Worths.worth c.in-Worths.more
+              c.deref-in-Worths-2.result.now c.in-Worths.is c.deref-in-Worths-2.ensures)
+              c.requires.rules).1,
         ),
       ),
     )
 
 pub pass_rules-returns-in-Done : goal.pass_rules-returns-in-Done
 pass_rules-returns-in-Done t c =
-    done_goes (ways_of c.args.heads.now) (seen_rules c.args.rules.now) (seen c.args.way.now) c.args.so.now c.args.notes.now (is_done c.args.rules.now c.in-Done.is)
+    done_goes (ways_of c.args.heads.now) (seen_rules c.args.rules.now)
+    (seen c.args.way.now) c.args.so.now c.args.notes.now (is_done c.args.rules.now c.in-Done.is)
     (λ m e. subst (λ k. AreWide k c.args.so.now.found.exits.items) e c.requires.so_far.exits)
 
 pub pass_rules-returns-in_ok-pass_rules-in-Part : goal.pass_rules-returns-in_ok-pass_rules-in-Part
 pass_rules-returns-in_ok-pass_rules-in-Part t c =
     let u = c.in_ok-take-in-Part.ensures in
-    part_arm (ways_of c.args.heads.now) (seen c.args.way.now) c.args.so.now c.take.new.so c.pass_rules.new.so.found (seen_rules c.args.rules.now) (seen_origin c.in-Part.from) (seen_absorber c.in-Part.absorber)
-    (seen_node c.deref-in-Part.result.now) (seen_rules c.deref-in-Part-2.result.now) c.in_ok-entry-in-Part.entry c.in_ok-found-in-Part.found c.args.notes.now c.visit.new.notes c.pass_rules.new.notes
-    (is_part c.args.rules.now c.in-Part.from c.in-Part.absorber c.in-Part.part c.in-Part.more c.deref-in-Part.result.now c.deref-in-Part-2.result.now c.in-Part.is c.deref-in-Part.ensures c.deref-in-Part-2.ensures)
-    (c.in_ok-entry-in-Part.ensures.way ∙ ap (λ z. way numbers (Some (seen c.args.way.now)) (latest_first z []) (seen_origin c.in-Part.from)) c.deref.ensures.value)
+    part_arm (ways_of c.args.heads.now)
+    (seen c.args.way.now) c.args.so.now c.take.new.so c.pass_rules.new.so.found
+    (seen_rules c.args.rules.now) (seen_origin c.in-Part.from) (seen_absorber c.in-Part.absorber)
+    (seen_node c.deref-in-Part.result.now)
+    (seen_rules c.deref-in-Part-2.result.now) c.in_ok-entry-in-Part.entry
+    c.in_ok-found-in-Part.found c.args.notes.now c.visit.new.notes c.pass_rules.new.notes
+    (is_part c.args.rules.now c.in-Part.from c.in-Part.absorber c.in-Part.part c.in-Part.more
+    c.deref-in-Part.result.now c.deref-in-Part-2.result.now c.in-Part.is c.deref-in-Part.ensures
+    c.deref-in-Part-2.ensures)
+    (c.in_ok-entry-in-Part.ensures.way
+    ∙ ap (λ z. way numbers (Some (seen c.args.way.now)) (latest_first z [])
+    (seen_origin c.in-Part.from)) c.deref.ensures.value)
     c.in_ok-found-in-Part.ensures u.head u.parts u.value u.exits c.in_ok-pass_rules-in-Part.ensures
 
 pub pass_rules-returns-in_ok-pass_rules-in-Test : goal.pass_rules-returns-in_ok-pass_rules-in-Test
 pass_rules-returns-in_ok-pass_rules-in-Test t c =
     let u = c.in_ok-take-in-Test.ensures in let h = ways_of c.args.heads.now in
-    test_arm h (seen c.args.way.now) c.args.so.now (record { head = Some c.deref-in-Test-3.result.now.point; parts = c.take-in-Test.new.so.parts; found = c.take-in-Test.new.so.found }) c.pass_rules-in-Test.new.so.found (seen_rules c.args.rules.now)
-    (seen_node c.deref-in-Test-2.result.now) (seen_rules c.deref-in-Test-4.result.now) c.in_ok-entry-in-Test.entry c.in_ok-found-in-Test.found c.args.notes.now c.visit-in-Test.new.notes c.pass_rules-in-Test.new.notes
-    (is_test c.args.rules.now c.in-Test.part c.in-Test.more c.deref-in-Test-2.result.now c.deref-in-Test-4.result.now c.in-Test.is c.deref-in-Test-2.ensures c.deref-in-Test-4.ensures)
-    (c.in_ok-entry-in-Test.ensures.way ∙ ap (λ z. h z.point) (c.deref-in-Test.ensures ∙ sym c.deref-in-Test-2.ensures))
-    c.in_ok-found-in-Test.ensures (ap (λ z. Some z.point) (c.deref-in-Test-3.ensures ∙ sym c.deref-in-Test-2.ensures)) u.parts u.value u.exits c.in_ok-pass_rules-in-Test.ensures
+    test_arm h (seen c.args.way.now) c.args.so.now
+    (record {
+      head = Some c.deref-in-Test-3.result.now.point;
+      parts = c.take-in-Test.new.so.parts;
+      found = c.take-in-Test.new.so.found;
+    }) c.pass_rules-in-Test.new.so.found (seen_rules c.args.rules.now)
+    (seen_node c.deref-in-Test-2.result.now)
+    (seen_rules c.deref-in-Test-4.result.now) c.in_ok-entry-in-Test.entry
+    c.in_ok-found-in-Test.found c.args.notes.now c.visit-in-Test.new.notes
+    c.pass_rules-in-Test.new.notes
+    (is_test c.args.rules.now c.in-Test.part c.in-Test.more c.deref-in-Test-2.result.now
+    c.deref-in-Test-4.result.now c.in-Test.is c.deref-in-Test-2.ensures c.deref-in-Test-4.ensures)
+    (c.in_ok-entry-in-Test.ensures.way
+    ∙ ap (λ z. h z.point) (c.deref-in-Test.ensures ∙ sym c.deref-in-Test-2.ensures))
+    c.in_ok-found-in-Test.ensures
+    (ap (λ z. Some z.point) (c.deref-in-Test-3.ensures ∙ sym c.deref-in-Test-2.ensures)) u.parts
+    u.value u.exits c.in_ok-pass_rules-in-Test.ensures
 
 pub pass_rules-returns-in_ok-pass_rules-in-Heads : goal.pass_rules-returns-in_ok-pass_rules-in-Heads
 pass_rules-returns-in_ok-pass_rules-in-Heads t c =
-    heads_arm (ways_of c.args.heads.now) (seen c.args.way.now) c.args.so.now c.pass_rules-in-Heads.new.so.found (seen_rules c.args.rules.now) (seen_origin c.in-Heads.from) (seen_rules c.deref-in-Heads.result.now)
-    c.args.notes.now c.flow.new.notes c.pass_rules-in-Heads.new.notes (is_heads c.args.rules.now c.in-Heads.from c.in-Heads.more c.deref-in-Heads.result.now c.in-Heads.is c.deref-in-Heads.ensures)
+    heads_arm (ways_of c.args.heads.now)
+    (seen c.args.way.now) c.args.so.now c.pass_rules-in-Heads.new.so.found
+    (seen_rules c.args.rules.now) (seen_origin c.in-Heads.from)
+    (seen_rules c.deref-in-Heads.result.now)
+    c.args.notes.now c.flow.new.notes c.pass_rules-in-Heads.new.notes
+    (is_heads c.args.rules.now c.in-Heads.from c.in-Heads.more c.deref-in-Heads.result.now
+    c.in-Heads.is c.deref-in-Heads.ensures)
     c.in_ok-flow-in-Heads.ensures c.in_ok-pass_rules-in-Heads.ensures
 
-pub pass_rules-returns-in_ok-pass_rules-in-Leaves : goal.pass_rules-returns-in_ok-pass_rules-in-Leaves
+pub pass_rules-returns-in_ok-pass_rules-in-Leaves
+    : goal.pass_rules-returns-in_ok-pass_rules-in-Leaves
 pass_rules-returns-in_ok-pass_rules-in-Leaves t c =
     let u = c.in_ok-leave-in-Leaves.ensures in
-    leaves_arm (ways_of c.args.heads.now) (seen c.args.way.now) c.args.so.now c.leave.new.so c.pass_rules-in-Leaves.new.so.found (seen_rules c.args.rules.now) (seen_origin c.in-Leaves.from) (seen_kind c.in-Leaves.kind) (seen_rules c.deref-in-Leaves.result.now)
-    c.args.notes.now c.pass_rules-in-Leaves.new.notes (is_leaves c.args.rules.now c.in-Leaves.from c.in-Leaves.kind c.in-Leaves.more c.deref-in-Leaves.result.now c.in-Leaves.is c.deref-in-Leaves.ensures)
+    leaves_arm (ways_of c.args.heads.now)
+    (seen c.args.way.now) c.args.so.now c.leave.new.so c.pass_rules-in-Leaves.new.so.found
+    (seen_rules c.args.rules.now) (seen_origin c.in-Leaves.from) (seen_kind c.in-Leaves.kind)
+    (seen_rules c.deref-in-Leaves.result.now)
+    c.args.notes.now c.pass_rules-in-Leaves.new.notes
+    (is_leaves c.args.rules.now c.in-Leaves.from c.in-Leaves.kind c.in-Leaves.more
+    c.deref-in-Leaves.result.now c.in-Leaves.is c.deref-in-Leaves.ensures)
     u.head u.parts u.value u.exits c.in_ok-pass_rules-in-Leaves.ensures
 
-pub pass_rules-returns-in_ok-pass_rules-in-Worths : goal.pass_rules-returns-in_ok-pass_rules-in-Worths
+pub pass_rules-returns-in_ok-pass_rules-in-Worths
+    : goal.pass_rules-returns-in_ok-pass_rules-in-Worths
 pass_rules-returns-in_ok-pass_rules-in-Worths t c =
     let v = has c.args.so.now.found.value in
-    worths_arm (ways_of c.args.heads.now) (seen c.args.way.now) c.args.so.now _ c.pass_rules-in-Worths.new.so.found (seen_rules c.args.rules.now) (seen_worth c.in-Worths.worth) (seen_rules c.deref-in-Worths-2.result.now)
-    c.args.notes.now c.pass_rules-in-Worths.new.notes (is_worths c.args.rules.now c.in-Worths.worth c.in-Worths.more c.deref-in-Worths-2.result.now c.in-Worths.is c.deref-in-Worths-2.ensures)
+    worths_arm (ways_of c.args.heads.now)
+    (seen c.args.way.now) c.args.so.now _ c.pass_rules-in-Worths.new.so.found
+    (seen_rules c.args.rules.now) (seen_worth c.in-Worths.worth)
+    (seen_rules c.deref-in-Worths-2.result.now)
+    c.args.notes.now c.pass_rules-in-Worths.new.notes
+    (is_worths c.args.rules.now c.in-Worths.worth c.in-Worths.more c.deref-in-Worths-2.result.now
+    c.in-Worths.is c.deref-in-Worths-2.ensures)
     refl refl
-    (c.union-so.ensures ∙ ap (union v) (c.worth_at-worth.ensures ∙ ap (λ z. worth_of numbers (Some (seen c.args.way.now)) (latest_first z []) (seen_worth c.in-Worths.worth)) c.deref-in-Worths.ensures.value))
+    (c.union-so.ensures ∙ ap (union v)
+    (c.worth_at-worth.ensures ∙ ap
+    (λ z. worth_of numbers (Some (seen c.args.way.now)) (latest_first z [])
+    (seen_worth c.in-Worths.worth)) c.deref-in-Worths.ensures.value))
     refl c.in_ok-pass_rules-in-Worths.ensures

@@ -5,5 +5,6 @@ use Rattle.par_rounds.proofs.pass.finish.Goals as goal
 
 pub returns : goal.returns
 returns c =
-    finish_goes c.args.point (seen c.args.way.now) c.args.found _ c.deref.result.now c.args.notes.now c.row.new.self
+    finish_goes c.args.point (seen c.args.way.now) c.args.found _ c.deref.result.now
+    c.args.notes.now c.row.new.self
     refl c.restore.ensures.exits c.restore.ensures.locals c.deref.ensures.value c.in_ok-row.ensures

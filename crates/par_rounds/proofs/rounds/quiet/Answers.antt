@@ -11,16 +11,25 @@ use Rattle.par_rounds.proofs.rounds.quiet.Goals as goal
 pub loop-heads-init : goal.loop-heads-init
 loop-heads-init c =
     let k = length c.args.way.now.env in
-    after_none k c.args.points (seen_node c.args.node.now) (seen c.args.way.now) c.in_ok-heads.heads.items c.in_ok-heads.ensures.way (c.in_ok-heads.ensures.locals k) c.in_ok-heads.ensures.size
+    after_none k c.args.points (seen_node c.args.node.now)
+    (seen c.args.way.now) c.in_ok-heads.heads.items c.in_ok-heads.ensures.way
+    (c.in_ok-heads.ensures.locals k) c.in_ok-heads.ensures.size
 
 pub loop-heads-smaller : goal.loop-heads-smaller
 loop-heads-smaller c =
-    let k = length c.args.way.now.env in let n = seen_node c.args.node.now in let w = seen c.args.way.now in
-    after_falls k c.args.points n w c.loop-heads.heads.items c.loop-heads.invariant 0 c.in_ok-notes.notes
-    (subst (λ z. IsRound k 0 z (pass (ways_of z) n w).events c.in_ok-notes.notes) c.deref.ensures.value c.in_ok-notes.ensures) c.requires.node c.requires.small (not-false c.in_ok-notes.notes.rose c.if-not-notes.false)
+    let k = length c.args.way.now.env in let n = seen_node c.args.node.now in
+    let w = seen c.args.way.now in
+    after_falls k c.args.points n w c.loop-heads.heads.items c.loop-heads.invariant 0
+    c.in_ok-notes.notes
+    (subst (λ z. IsRound k 0 z (pass (ways_of z) n w).events c.in_ok-notes.notes)
+    c.deref.ensures.value c.in_ok-notes.ensures) c.requires.node c.requires.small
+    (not-false c.in_ok-notes.notes.rose c.if-not-notes.false)
 
 pub loop-heads-preserved : goal.loop-heads-preserved
 loop-heads-preserved c =
-    let k = length c.args.way.now.env in let n = seen_node c.args.node.now in let w = seen c.args.way.now in
-    after_next k c.args.points n w c.loop-heads.heads.items c.loop-heads.invariant 0 c.in_ok-notes.notes
-    (subst (λ z. IsRound k 0 z (pass (ways_of z) n w).events c.in_ok-notes.notes) c.deref.ensures.value c.in_ok-notes.ensures)
+    let k = length c.args.way.now.env in let n = seen_node c.args.node.now in
+    let w = seen c.args.way.now in
+    after_next k c.args.points n w c.loop-heads.heads.items c.loop-heads.invariant 0
+    c.in_ok-notes.notes
+    (subst (λ z. IsRound k 0 z (pass (ways_of z) n w).events c.in_ok-notes.notes)
+    c.deref.ensures.value c.in_ok-notes.ensures)

@@ -6,7 +6,8 @@ use Rattle.par_rounds.specs.Rounds.{AreAfter}
 use Rattle.par_rounds.proofs.rounds.quiet.Given as goal
 
 abbrev pub invariant-loop-heads : goal.invariant-loop-heads
-invariant-loop-heads l = AreAfter (length l.way.env) l.points (seen_node l.node) (seen l.way) l.heads.items
+invariant-loop-heads l =
+    AreAfter (length l.way.env) l.points (seen_node l.node) (seen l.way) l.heads.items
 
 abbrev pub decreases-loop-heads : goal.decreases-loop-heads
 decreases-loop-heads l = total (length l.way.env) l.heads.items

@@ -5,5 +5,6 @@ use Rattle.par_rounds.proofs.ways.env_with.Goals as goal
 
 pub returns-clause-policies : goal.returns-clause-policies
 returns-clause-policies c =
-    ap locals (c.wrap.ensures ∙ ap (λ z. set z c.from.result c.args.policy) c.in_ok-changed.ensures.items ∙ ap (λ i. set c.args.env.now i c.args.policy) c.from.ensures)
+    ap locals (c.wrap.ensures ∙ ap (λ z. set z c.from.result c.args.policy)
+    c.in_ok-changed.ensures.items ∙ ap (λ i. set c.args.env.now i c.args.policy) c.from.ensures)
     ∙ set_put c.args.env.now c.args.local c.args.policy c.requires

@@ -4,7 +4,7 @@ use Rattle.std.proofs.lemmas.Grind.{common_steps}
 use Rattle.std.proofs.lemmas.Option.{gets, slice_get_read}
 use Rattle.par_envs.specs.Same.{policy}
 use Rattle.par_envs.specs.Numbered.{envs}
-use Rattle.par_envs.proofs.Found.{none_kept, extends_kept, names_kept, found_kept, found_first, get_env}
+use Rattle.par_envs.proofs.Found.{none_kept, adds_kept, extends_kept, names_kept, found_kept, found_first, get_env}
 use Rattle.par_envs.proofs.envs.Envs.number.Goals as goal
 
 pub returns-in_ok-number-in-None-clause-found : goal.returns-in_ok-number-in-None-clause-found
@@ -46,3 +46,16 @@ pub returns-in_ok-number-in-Some-difference-clause-kept : goal.returns-in_ok-num
 returns-in_ok-number-in-Some-difference-clause-kept c =
     extends_kept c.args.self.now.entries.items c.keep-in-Some-difference.new.self.entries.items _ c.in_ok-number-in-Some-difference.number
     c.in_ok-number-in-Some-difference.ensures.entries c.in_ok-number-in-Some-difference.ensures.number
+
+pub returns-in_ok-number-in-None-clause-adds : goal.returns-in_ok-number-in-None-clause-adds
+returns-in_ok-number-in-None-clause-adds c =
+    adds_kept c.args.self.now.entries.items c.keep.new.self.entries.items _
+    c.in_ok-number-in-None.number c.in_ok-number-in-None.ensures.entries
+    c.in_ok-number-in-None.ensures.number
+
+pub returns-in_ok-number-in-Some-difference-clause-adds : goal.returns-in_ok-number-in-Some-difference-clause-adds
+returns-in_ok-number-in-Some-difference-clause-adds c =
+    adds_kept c.args.self.now.entries.items c.keep-in-Some-difference.new.self.entries.items _
+    c.in_ok-number-in-Some-difference.number
+    c.in_ok-number-in-Some-difference.ensures.entries
+    c.in_ok-number-in-Some-difference.ensures.number
