@@ -17,8 +17,7 @@ use crate::members::Members;
 use par_class::file::ClassFile;
 use par_lexer::list::NoMemory;
 use par_pool::constant::Constant;
-use par_single::is_taken;
-use par_single::member::{Naming, naming_at, own_name, text_at};
+use par_single::member::{Naming, is_taken, naming_at, own_name, text_at};
 use std::alloc::Global;
 
 /// Some files, with their classes and the members of each.

@@ -1,13 +1,12 @@
-//! Whether the members of a class have the names and the descriptors that they need.
+//! Whether a member of a class has the name and the descriptor that it needs.
 
 ghost use Rattle.std.specs.Prelude.{◌≡◌};
-ghost use Rattle.std.specs.List.{list_all};
 ghost use Rattle.par_class.specs.Spelling.{is_native};
-ghost use Rattle.par_single.specs.Single.{is_field_right, is_of_channel, is_channel_right, is_method_right, is_described};
+ghost use Rattle.par_single.specs.Single.{is_field_right, is_of_channel, is_channel_right, is_method_right};
 
 use crate::descriptor::{field_said, method_gives};
 use crate::member::{is_native, is_static, text_at};
-use par_class::file::{ClassFile, FieldFile, MethodFile};
+use par_class::file::{FieldFile, MethodFile};
 use par_lexer::name::Name;
 use par_pool::constant::Constant;
 
@@ -41,29 +40,4 @@ pub fn is_method_right(entries: &[Constant], method: &MethodFile) -> bool
 {
     method_gives(text_at(entries, method.descriptor)).is_some()
         && (!is_native(method.access) || is_channel_right(entries, method))
-}
-
-/// Whether all fields are right.
-fn are_fields_right(entries: &[Constant], fields: &[FieldFile]) -> bool
-    ensures { result ≡ list_all (is_field_right entries.now) fields.now }
-{
-    fields.iter().all(|field| is_field_right(entries, field))
-}
-
-/// Whether all methods are right.
-fn are_methods_right(entries: &[Constant], methods: &[MethodFile]) -> bool
-    ensures { result ≡ list_all (is_method_right entries.now) methods.now }
-{
-    methods
-        .iter()
-        .all(|method| is_method_right(entries, method))
-}
-
-/// Whether fields and methods have descriptors, and the names that they need.
-pub fn is_described(file: &ClassFile) -> bool
-    ensures { result ≡ is_described file.now }
-{
-    let entries = file.pool.entries.as_slice();
-    are_fields_right(entries, file.fields.as_slice())
-        && are_methods_right(entries, file.methods.as_slice())
 }

@@ -1,8 +1,7 @@
 //! What descriptors say (Java Virtual Machine Specification, Java SE 7, section 4.3).
 
-ghost use Rattle.std.specs.Prelude.{◌≡◌, option_map, is_some, is_none, IfOk, IfSome, position};
+ghost use Rattle.std.specs.Prelude.{◌≡◌, option_map, IfOk, IfSome, position};
 ghost use Rattle.par_single.specs.Descriptors.{Text, kind_at, alone, field_kind, no_kinds, kinds_at, result_kind, method_signature, kind_of, IsSaid, ends_name, object_to};
-ghost use Rattle.par_single.specs.Links.{signature_said};
 
 use par_lexer::list::{List, NoMemory};
 use par_lexer::name::Name;
@@ -167,11 +166,4 @@ pub fn method_signature(alloc: Global, text: &[u8]) -> Result<Option<Signature>,
     };
     let takes = kinds(alloc, &text[1..])?;
     Ok(Some(Signature { takes, gives }))
-}
-
-/// Whether a method of this descriptor gives no result.
-pub fn gives_nothing(descriptor: &[u8]) -> bool
-    ensures { result ≡ is_none (signature_said descriptor.now).gives }
-{
-    !matches!(method_gives(descriptor), Some(Some(_)))
 }

@@ -1,24 +1,14 @@
-//! Class files that run by themselves: what they name is looked up, and is there.
+//! What a class file says of itself: the texts that its constant pool has, its members, and what
+//! their descriptors say.
 //!
-//! A machine needs more of a class file than that its bytes are one: that its descriptors say
-//! kinds, that its code is straight-line instructions to its end, and that each class, field and method
-//! that it names is its own. `runs_alone` tells this of one file, and `links_of` then says what
-//! each index of its constant pool names, so that a machine looks nothing up.
+//! The definitions also say which class files run by themselves: whose descriptors say kinds, whose
+//! code is straight-line instructions to its end, and whose classes, fields and methods are all
+//! their own. No code asks that: it is said of what is compiled, and laws tell that such a file runs
+//! alike wherever it is linked.
 //!
-//! The crate runs nothing. It never asks whether an instruction fits what it works on, or whether
-//! an index is of the kind that an instruction needs, which shows only in a run. It knows no second
-//! file: a program of several has to be linked elsewhere.
+//! The crate runs nothing and knows no second file.
 #![tactic(auto)]
 
 pub mod described;
 pub mod descriptor;
-mod differing;
-mod found;
-mod link;
 pub mod member;
-mod plain;
-mod single;
-pub mod walk;
-
-pub use link::links_of;
-pub use single::{is_taken, runs_alone};

@@ -2,9 +2,10 @@
 
 ghost use Rattle.std.specs.Prelude.{◌≡◌, []};
 ghost use Rattle.par_class.specs.Spelling.{is_native};
-ghost use Rattle.par_single.specs.Members.{text_at, class_name_at, own_name, member_at, named, is_field_of, is_method_of, field_place, method_place, own_field, own_method, is_static, is_initializer};
+ghost use Rattle.par_single.specs.Members.{text_at, class_name_at, own_name, member_at, named, is_method_of, method_place, is_static, is_initializer};
+ghost use Rattle.par_single.specs.Single.{is_taken};
 
-use par_class::file::{ClassFile, FieldFile, MethodFile};
+use par_class::file::{ClassFile, MethodFile};
 use par_pool::constant::Constant;
 use par_pool::kind::entry;
 
@@ -35,6 +36,13 @@ pub fn own_name(file: &ClassFile) -> &[u8]
     class_name_at(file.pool.entries.as_slice(), file.this_class)
 }
 
+/// Whether a name is that of a class that every program has.
+pub fn is_taken(name: &[u8]) -> bool
+    ensures { result ≡ is_taken name.now }
+{
+    name == b"ArithmeticException".as_slice() || name == b"NullPointerException".as_slice()
+}
+
 /// How a member is named: by its class, its name and its descriptor.
 #[derive(Clone, Copy)]
 pub struct Naming<'f> {
@@ -62,14 +70,6 @@ pub fn naming_at(entries: &[Constant], class: u16, index: u16) -> Naming
     }
 }
 
-/// Whether a field has this name and this descriptor.
-pub fn is_field_of(entries: &[Constant], name: &[u8], descriptor: &[u8], field: &FieldFile) -> bool
-    ensures { result ≡ is_field_of entries.now
-        (record { class = []; name = name.now; descriptor = descriptor.now }) field.now }
-{
-    text_at(entries, field.name) == name && text_at(entries, field.descriptor) == descriptor
-}
-
 /// Whether a method has this name and this descriptor.
 pub fn is_method_of(
     entries: &[Constant],
@@ -83,18 +83,6 @@ pub fn is_method_of(
     text_at(entries, method.name) == name && text_at(entries, method.descriptor) == descriptor
 }
 
-/// The place of the first field of this name and descriptor in its class.
-pub fn field_place(file: &ClassFile, name: &[u8], descriptor: &[u8]) -> Option<usize>
-    ensures { result ≡ field_place file.now
-        (record { class = []; name = name.now; descriptor = descriptor.now }) }
-{
-    let entries = file.pool.entries.as_slice();
-    file.fields
-        .as_slice()
-        .iter()
-        .position(|field| is_field_of(entries, name, descriptor, field))
-}
-
 /// The place of the first method of this name and descriptor in its class.
 pub fn method_place(file: &ClassFile, name: &[u8], descriptor: &[u8]) -> Option<usize>
     ensures { result ≡ method_place file.now
@@ -105,26 +93,6 @@ pub fn method_place(file: &ClassFile, name: &[u8], descriptor: &[u8]) -> Option<
         .as_slice()
         .iter()
         .position(|method| is_method_of(entries, name, descriptor, method))
-}
-
-/// The place of a field that is named, none where the file has no such field.
-pub fn own_field(file: &ClassFile, naming: Naming) -> Option<usize>
-    ensures { result ≡ own_field file.now (named naming.entry) }
-{
-    if own_name(file) != naming.class {
-        return None;
-    }
-    field_place(file, naming.name, naming.descriptor)
-}
-
-/// The place of a method that is named, none where the file has no such method.
-pub fn own_method(file: &ClassFile, naming: Naming) -> Option<usize>
-    ensures { result ≡ own_method file.now (named naming.entry) }
-{
-    if own_name(file) != naming.class {
-        return None;
-    }
-    method_place(file, naming.name, naming.descriptor)
 }
 
 /// Whether this is the initializer, which takes and gives nothing.
