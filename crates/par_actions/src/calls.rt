@@ -7,8 +7,9 @@ ghost use Rattle.par_values.specs.Areas.{Name, Areas, operand, number_of, value_
 ghost use Rattle.par_values.specs.Operations.{Operation, InvokeStatic, InvokeSpecial, InvokeVirtual};
 ghost use Rattle.par_values.specs.Effects.{called};
 ghost use Rattle.par_values.specs.Reasons.{Spot};
-ghost use Rattle.par_stack.specs.Frames.{running};
+ghost use Rattle.par_stack.specs.Frames.{running, waiting};
 ghost use Rattle.par_actions.specs.declared.callee.Target.TheVariants.{Input as input};
+ghost use Rattle.par_actions.specs.declared.done.Done.TheVariants.{Calls as calls};
 ghost use Rattle.par_actions.specs.Callee.{IsCallee, IsTarget, accept_all, is_short, GivesInput};
 ghost use Rattle.par_actions.specs.Calls.{call_on, is_misreceived, acting, Invokes, Invoked};
 ghost use Rattle.par_actions.specs.Done.{IsAt, areas_in, target_of, Keeps, is_still};
@@ -81,6 +82,7 @@ fn call(stack: &mut Stack, lines: &mut Lines, target: Target, many: usize) -> Re
         (called many (target_of o) (areas_in program (running stack.old)))
         program stack.new lines.new) }
     ensures kept { IfOk result (λ done. Keeps stack.old (acting done stack.new)) }
+    ensures waits { IfOk result (λ done. done ≡ calls → 0 < length (waiting stack.new)) }
     ensures named { channels_of lines.new ≡ channels_of lines.old }
     ensures moves { IfOk result (λ done. is_still done ≡ false) }
     ensures refused { OnErr result (stack.new ≡ stack.old) }
@@ -133,6 +135,7 @@ pub fn invoke_static(
         Invoked done callee.entry.target classes (InvokeStatic m) spot false program stack.old
         stack.new lines.new) }
     ensures kept { IfOk result (λ done. Keeps stack.old (acting done stack.new)) }
+    ensures waits { IfOk result (λ done. done ≡ calls → 0 < length (waiting stack.new)) }
     ensures named { channels_of lines.new ≡ channels_of lines.old }
     ensures still { IfOk result (λ done. IsTrue (is_still done) → stack.new ≡ stack.old) }
     ensures untaken { IfOk result (λ done. IsTrue (is_still done) → lines.new ≡ lines.old) }
@@ -218,6 +221,7 @@ fn invoke_on(
         (operand (length m.takes) (areas_in program (running stack.old))))
         program stack.old stack.new lines.new) }
     ensures kept { IfOk result (λ done. Keeps stack.old (acting done stack.new)) }
+    ensures waits { IfOk result (λ done. done ≡ calls → 0 < length (waiting stack.new)) }
     ensures named { channels_of lines.new ≡ channels_of lines.old }
     ensures still { IfOk result (λ done. IsTrue (is_still done) → stack.new ≡ stack.old) }
     ensures untaken { IfOk result (λ done. IsTrue (is_still done) → lines.new ≡ lines.old) }
@@ -271,6 +275,7 @@ pub fn invoke_special(
         (operand (length m.takes) (areas_in program (running stack.old))))
         program stack.old stack.new lines.new) }
     ensures kept { IfOk result (λ done. Keeps stack.old (acting done stack.new)) }
+    ensures waits { IfOk result (λ done. done ≡ calls → 0 < length (waiting stack.new)) }
     ensures named { channels_of lines.new ≡ channels_of lines.old }
     ensures still { IfOk result (λ done. IsTrue (is_still done) → stack.new ≡ stack.old) }
     ensures untaken { IfOk result (λ done. IsTrue (is_still done) → lines.new ≡ lines.old) }
@@ -297,6 +302,7 @@ pub fn invoke_virtual(
         (operand (length m.takes) (areas_in program (running stack.old))))
         program stack.old stack.new lines.new) }
     ensures kept { IfOk result (λ done. Keeps stack.old (acting done stack.new)) }
+    ensures waits { IfOk result (λ done. done ≡ calls → 0 < length (waiting stack.new)) }
     ensures named { channels_of lines.new ≡ channels_of lines.old }
     ensures still { IfOk result (λ done. IsTrue (is_still done) → stack.new ≡ stack.old) }
     ensures untaken { IfOk result (λ done. IsTrue (is_still done) → lines.new ≡ lines.old) }

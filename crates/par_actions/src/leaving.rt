@@ -79,7 +79,7 @@ pub fn leave_object(stack: &Stack, gives: Gives) -> Done
 }
 
 /// Whether an object is of a class of exceptions, which are told by their numbers.
-pub(crate) fn is_exception(exceptions: &[bool], class: u16) -> bool
+pub fn is_exception(exceptions: &[bool], class: u16) -> bool
     ensures { result ≡ slice_index_or exceptions.now class false }
 {
     match exceptions.get(class as usize) {

@@ -29,7 +29,7 @@ pub use creating::{Class, create};
 pub use done::{Done, Ways};
 pub use fields::{Field, get_static, put_static};
 pub use fit::{Fit, accepts};
-pub use leaving::{Gives, leave, leave_number, leave_object, throw};
+pub use leaving::{Gives, is_exception, leave, leave_number, leave_object, throw};
 pub use objects::{get_field, put_field};
 pub use values::{
     copy, discard, load_number, load_object, misnamed, push_null, push_number, store_number,

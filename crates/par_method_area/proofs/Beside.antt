@@ -19,8 +19,10 @@ module _ {A B : Type 0} (IsRow : ℕ → A → B → Type 0) where
       (are.0, push-from (place + 1) xs rows x row are.1 (subst (λ n. IsRow n x row) same is))
 
   -- as a list is gone through
-  pub push : (xs : List A) (i : ℕ) (x : A) (rows : List B) (row : B) → i < length xs → x ≡ get_or xs i x
-      → AreRows IsRow (take i xs) rows → IsRow i x row → AreRows IsRow (take (i + 1) xs) (rows ++ row ∷ [])
+  pub push : (xs : List A) (i : ℕ) (x : A) (rows : List B) (row : B) → i < length xs
+      → x ≡ get_or xs i x
+      → AreRows IsRow (take i xs) rows → IsRow i x row
+      → AreRows IsRow (take (i + 1) xs) (rows ++ row ∷ [])
   push xs i x rows row within at are is =
       let more : take (i + 1) xs ≡ take i xs ++ x ∷ [] = grind (arith, common_steps, at) in
       let many : i ≡ 0 + length (take i xs) = grind (arith, common_steps) in
@@ -49,14 +51,22 @@ module _ {A B : Type 0} (IsRow : ℕ → A → B → Type 0) where
   found-from place (x ∷ xs) (r ∷ rows) (suc n) row are at =
       let later = found-from (place + 1) xs rows n row are.1 at in
       let same : place + 1 + n ≡ place + suc n = omega arith in
-      record { item = later.item; at = later.at; is = subst (λ (m : ℕ). IsRow m later.item row) same later.is }
+      record {
+        item = later.item;
+        at = later.at;
+        is = subst (λ (m : ℕ). IsRow m later.item row) same later.is;
+      }
 
   pub found : (xs : List A) (rows : List B) (n : ℕ) (row : B) → AreRows IsRow xs rows
       → slice_get rows n ≡ Some row → Found xs n row n
   found xs rows n row are at =
       let later = found-from 0 xs rows n row are at in
       let same : 0 + n ≡ n = omega arith in
-      record { item = later.item; at = later.at; is = subst (λ (m : ℕ). IsRow m later.item row) same later.is }
+      record {
+        item = later.item;
+        at = later.at;
+        is = subst (λ (m : ℕ). IsRow m later.item row) same later.is;
+      }
 
   -- where there is no row there is no item
   missing-from : (place : ℕ) (xs : List A) (rows : List B) (n : ℕ) → AreRowsFrom IsRow place xs rows
@@ -65,16 +75,20 @@ module _ {A B : Type 0} (IsRow : ℕ → A → B → Type 0) where
   missing-from place [] (r ∷ rows) n are at = absurd are
   missing-from place (x ∷ xs) [] n are at = absurd are
   missing-from place (x ∷ xs) (r ∷ rows) zero are at = absurd (cc at)
-  missing-from place (x ∷ xs) (r ∷ rows) (suc n) are at = missing-from (place + 1) xs rows n are.1 at
+  missing-from place (x ∷ xs) (r ∷ rows) (suc n) are at =
+      missing-from (place + 1) xs rows n are.1 at
 
-  pub missing : (xs : List A) (rows : List B) (n : ℕ) → AreRows IsRow xs rows → slice_get rows n ≡ None → slice_get xs n ≡ None
+  pub missing : (xs : List A) (rows : List B) (n : ℕ) → AreRows IsRow xs rows
+      → slice_get rows n ≡ None → slice_get xs n ≡ None
   missing xs rows n are at = missing-from 0 xs rows n are at
 
 -- what is made of each row and of each item
-pub made-push : {A B C : Type 0} (f : B → C) (g : A → C) (xs : List A) (i : ℕ) (x : A) (rows : List B) (row : B)
+pub made-push : {A B C : Type 0} (f : B → C) (g : A → C) (xs : List A) (i : ℕ) (x : A)
+    (rows : List B) (row : B)
     → i < length xs → x ≡ get_or xs i x → map f rows ≡ map g (take i xs) → f row ≡ g x
     → map f (rows ++ row ∷ []) ≡ map g (take (i + 1) xs)
 made-push f g xs i x rows row within at made is =
     let more : take (i + 1) xs ≡ take i xs ++ x ∷ [] = grind (arith, common_steps, at) in
-    map-append f rows (row ∷ []) ∙ ap (λ ys. ys ++ f row ∷ []) made ∙ ap (λ y. map g (take i xs) ++ y ∷ []) is
+    map-append f rows (row ∷ []) ∙ ap (λ ys. ys ++ f row ∷ []) made
+    ∙ ap (λ y. map g (take i xs) ++ y ∷ []) is
     ∙ sym (map-append g (take i xs) (x ∷ [])) ∙ ap (map g) (sym more)

@@ -25,7 +25,7 @@ use Rattle.par_method_area.proofs.Calling.{as-said, own-row}
 use Rattle.par_method_area.proofs.Saying.{signature-said}
 use Rattle.par_method_area.proofs.Unbroken.{names-apart, small}
 
-all-at : {A : Type 0} (p : A → Bool) (xs : List A) (n : ℕ) (x : A) → list_all p xs ≡ true → Some x ≡ slice_get xs n → p x ≡ true
+pub all-at : {A : Type 0} (p : A → Bool) (xs : List A) (n : ℕ) (x : A) → list_all p xs ≡ true → Some x ≡ slice_get xs n → p x ≡ true
 all-at p [] n x all at = absurd (cc at)
 all-at p (y ∷ xs) zero x all at = let same : x ≡ y = cc at in ap p same ∙ (and_parts (p y) (list_all p xs) all).0
 all-at p (y ∷ xs) (suc n) x all at = all-at p xs n x (and_parts (p y) (list_all p xs) all).1 at

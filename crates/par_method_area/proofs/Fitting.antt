@@ -18,25 +18,32 @@ abbrev pub joined_fits : List Name → List Fit → Option (List Kind × Text) �
 joined_fits classes fits None = None
 joined_fits classes fits (Some found) = Some (fits ++ map (fit_of classes) found.0)
 
-pub joined-first : (classes : List Name) (o : Option (List Kind × Text)) → joined_fits classes [] o ≡ fitted classes o
+pub joined-first : (classes : List Name) (o : Option (List Kind × Text))
+    → joined_fits classes [] o ≡ fitted classes o
 joined-first classes None = refl
 joined-first classes (Some found) = refl
 
-pub joined-before : (classes : List Name) (fits : List Fit) (kind : Kind) (o : Option (List Kind × Text))
-    → joined_fits classes fits (kind_before kind o) ≡ joined_fits classes (fits ++ fit_of classes kind ∷ []) o
+pub joined-before : (classes : List Name) (fits : List Fit) (kind : Kind)
+    (o : Option (List Kind × Text))
+    → joined_fits classes fits (kind_before kind o)
+    ≡ joined_fits classes (fits ++ fit_of classes kind ∷ []) o
 joined-before classes fits kind None = refl
 joined-before classes fits kind (Some found) =
     ap Some (sym (append_assoc fits (fit_of classes kind ∷ []) (map (fit_of classes) found.0)))
 
 -- where none follow they are all
-pub joined-last : (classes : List Name) (fits : List Fit) (rest : Text) (o : Option (List Kind × Text))
-    → joined_fits classes fits (no_kinds rest) ≡ fitted classes o → IfSome o (λ found. fits ≡ map (fit_of classes) found.0)
+pub joined-last : (classes : List Name) (fits : List Fit) (rest : Text)
+    (o : Option (List Kind × Text))
+    → joined_fits classes fits (no_kinds rest) ≡ fitted classes o
+    → IfSome o (λ found. fits ≡ map (fit_of classes) found.0)
 joined-last classes fits rest None same = tt
 joined-last classes fits [] (Some found) same = absurd (cc same)
 joined-last classes fits (byte ∷ rest) (Some found) same = in_case (byte == 41) same where
   whole : fits ++ [] ≡ fits
   whole = grind (arith, common_steps)
 
-  in_case : (b : Bool) → joined_fits classes fits (cond b (Some ([], rest)) None) ≡ Some (map (fit_of classes) found.0) → fits ≡ map (fit_of classes) found.0
-  in_case true all = let same : fits ++ [] ≡ map (fit_of classes) found.0 = cc all in sym whole ∙ same
+  in_case : (b : Bool) → joined_fits classes fits (cond b (Some ([], rest)) None)
+      ≡ Some (map (fit_of classes) found.0) → fits ≡ map (fit_of classes) found.0
+  in_case true all =
+      let same : fits ++ [] ≡ map (fit_of classes) found.0 = cc all in sym whole ∙ same
   in_case false all = absurd (cc all)

@@ -14,3 +14,4 @@ pub mod Coded
 pub mod Named
 pub mod Making
 pub mod Lining
+pub mod Standing

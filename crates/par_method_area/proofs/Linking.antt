@@ -25,12 +25,14 @@ module _ (files : List ClassFile) (index : ℕ) (l : Link) where
   of-entry entries (Some (constant.Integer n)) some = absurd (some refl)
   of-entry entries (Some _) some = refl
 
-  of-file : (o : Option ClassFile) → (named_in files o index ≡ Nothing → ⊥) → number_or l (entry_at (pool_of o) index) ≡ l
+  of-file : (o : Option ClassFile) → (named_in files o index ≡ Nothing → ⊥)
+      → number_or l (entry_at (pool_of o) index) ≡ l
   of-file None some = absurd (some refl)
   of-file (Some file) some = of-entry file.pool.entries (entry_at file.pool.entries index) some
 
 -- an index that names something is what that is
-pub linked : (files : List ClassFile) (class index : ℕ) (n : Named) → n ≡ named_at files class index → (n ≡ Nothing → ⊥)
+pub linked : (files : List ClassFile) (class index : ℕ) (n : Named) → n ≡ named_at files class index
+    → (n ≡ Nothing → ⊥)
     → link_of files n ≡ link_at files class index
 linked files class index n is some =
     sym (of-file files index (link_of files n) (slice_get files class) (λ none. some (is ∙ none)))
@@ -38,22 +40,26 @@ linked files class index n is some =
 
 -- ---- an index that names nothing of a kind is nothing of it
 
-pub field-none : (classes : List Name) (l : Link) (e : Option Constant) → KnowsField classes l None → KnowsField classes (number_or l e) None
+pub field-none : (classes : List Name) (l : Link) (e : Option Constant) → KnowsField classes l None
+    → KnowsField classes (number_or l e) None
 field-none classes l None known = known
 field-none classes l (Some (constant.Integer n)) known = tt
 field-none classes l (Some _) known = known
 
-pub class-none : (classes : List Name) (l : Link) (e : Option Constant) → KnowsClass classes l None → KnowsClass classes (number_or l e) None
+pub class-none : (classes : List Name) (l : Link) (e : Option Constant) → KnowsClass classes l None
+    → KnowsClass classes (number_or l e) None
 class-none classes l None known = known
 class-none classes l (Some (constant.Integer n)) known = tt
 class-none classes l (Some _) known = known
 
-pub method-none : (area : Area) (n : Named) (l : Link) (e : Option Constant) → KnowsMethod area n l None → KnowsMethod area n (number_or l e) None
+pub method-none : (area : Area) (n : Named) (l : Link) (e : Option Constant)
+    → KnowsMethod area n l None → KnowsMethod area n (number_or l e) None
 method-none area n l None known = known
 method-none area n l (Some (constant.Integer k)) known = tt
 method-none area n l (Some _) known = known
 
-pub names-none : (names : MemberNames) (l : Link) (e : Option Constant) → KnowsNames l names → KnowsNames (number_or l e) names
+pub names-none : (names : MemberNames) (l : Link) (e : Option Constant) → KnowsNames l names
+    → KnowsNames (number_or l e) names
 names-none names l None known = known
 names-none names l (Some (constant.Integer n)) known = tt
 names-none names l (Some _) known = known

@@ -26,64 +26,91 @@ is-name name is =
 
 module _ (files : List ClassFile) (class place : ℕ) where
   -- no file, no member
-  pub names-gone : (names : MemberNames) → None ≡ slice_get files class → KnowsNames (field_in files class place (slice_get files class)) names
-  names-gone names none = subst (λ (o : Option ClassFile). KnowsNames (field_in files class place o) names) none tt
+  pub names-gone : (names : MemberNames) → None ≡ slice_get files class
+      → KnowsNames (field_in files class place (slice_get files class)) names
+  names-gone names none =
+      subst (λ (o : Option ClassFile). KnowsNames (field_in files class place o) names) none tt
 
-  pub method-names-gone : (names : MemberNames) → None ≡ slice_get files class → KnowsNames (method_in class place (slice_get files class)) names
-  method-names-gone names none = subst (λ (o : Option ClassFile). KnowsNames (method_in class place o) names) none tt
+  pub method-names-gone : (names : MemberNames) → None ≡ slice_get files class
+      → KnowsNames (method_in class place (slice_get files class)) names
+  method-names-gone names none =
+      subst (λ (o : Option ClassFile). KnowsNames (method_in class place o) names) none tt
 
   module _ (file : ClassFile) (listed : Some file ≡ slice_get files class) where
-    pub field-gone : (names : MemberNames) → None ≡ slice_get file.fields place → KnowsNames (field_in files class place (slice_get files class)) names
+    pub field-gone : (names : MemberNames) → None ≡ slice_get file.fields place
+        → KnowsNames (field_in files class place (slice_get files class)) names
     field-gone names none =
         subst (λ (o : Option ClassFile). KnowsNames (field_in files class place o) names) listed
-        (subst (λ (o : Option FieldFile). KnowsNames (field_link files class file place o) names) none tt)
+        (subst (λ (o : Option FieldFile). KnowsNames (field_link files class file place o) names)
+        none tt)
 
-    pub method-gone : (names : MemberNames) → None ≡ slice_get file.methods place → KnowsNames (method_in class place (slice_get files class)) names
+    pub method-gone : (names : MemberNames) → None ≡ slice_get file.methods place
+        → KnowsNames (method_in class place (slice_get files class)) names
     method-gone names none =
         subst (λ (o : Option ClassFile). KnowsNames (method_in class place o) names) listed
-        (subst (λ (o : Option MethodFile). KnowsNames (method_link class file place o) names) none tt)
+        (subst (λ (o : Option MethodFile). KnowsNames (method_link class file place o) names) none
+        tt)
 
-    module _ (linked : AreLinked files) (names : MemberNames) (class_is : names.class.now ≡ own_name file) where
-      pub field-named : (f : FieldFile) → Some f ≡ slice_get file.fields place → names.name.now ≡ text_at file.pool.entries f.name
+    module _ (linked : AreLinked files) (names : MemberNames)
+        (class_is : names.class.now ≡ own_name file) where
+      pub field-named : (f : FieldFile) → Some f ≡ slice_get file.fields place
+          → names.name.now ≡ text_at file.pool.entries f.name
           → KnowsNames (field_in files class place (slice_get files class)) names
       field-named f held name_is =
           subst (λ (o : Option ClassFile). KnowsNames (field_in files class place o) names) listed
-          (subst (λ (o : Option FieldFile). KnowsNames (field_link files class file place o) names) held
+          (subst (λ (o : Option FieldFile). KnowsNames (field_link files class file place o) names)
+          held
           (λ none. record {
             class = class_is;
             name = name_is;
             class_right = own-name files linked class file (sym listed);
             name_right = is-name (text_at file.pool.entries f.name)
-                (and_parts (is_name (text_at file.pool.entries f.name)) _ (field-right files linked class file (sym listed) place f (sym held))).0;
+                (and_parts (is_name (text_at file.pool.entries f.name)) _
+                (field-right files linked class file (sym listed) place f (sym held))).0;
           }))
 
-      module _ (m : MethodFile) (held : Some m ≡ slice_get file.methods place) (name_is : names.name.now ≡ text_at file.pool.entries m.name) where
+      module _ (m : MethodFile) (held : Some m ≡ slice_get file.methods place)
+          (name_is : names.name.now ≡ text_at file.pool.entries m.name) where
         channel-name : is_native m.access ≡ true → IsName (text_at file.pool.entries m.name)
         channel-name native =
-            let right = (and_parts _ _ (method-right files linked class file (sym listed) place m (sym held))).1 in
-            let channel : is_channel_right file.pool.entries m ≡ true = either (is_native m.access) (is_channel_right file.pool.entries m) native right in
-            is-name (text_at file.pool.entries m.name) (and_parts (is_name (text_at file.pool.entries m.name)) _ (and_parts _ _ channel).0).0
+            let right =
+            (and_parts _ _ (method-right files linked class file (sym listed) place m
+            (sym held))).1 in
+            let channel : is_channel_right file.pool.entries m ≡ true =
+            either (is_native m.access) (is_channel_right file.pool.entries m) native right in
+            is-name (text_at file.pool.entries m.name)
+            (and_parts (is_name (text_at file.pool.entries m.name)) _ (and_parts _ _ channel).0).0
           where
             either : (a b : Bool) → a ≡ true → (not a || b) ≡ true → b ≡ true
             either true b a is = is
             either false b a is = absurd (cc a)
 
-        are-names : is_native m.access ≡ true → AreNames (own_name file) (text_at file.pool.entries m.name) names
+        are-names : is_native m.access ≡ true
+            → AreNames (own_name file) (text_at file.pool.entries m.name) names
         are-names native =
-            record { class = class_is; name = name_is; class_right = own-name files linked class file (sym listed); name_right = channel-name native }
+            record {
+              class = class_is;
+              name = name_is;
+              class_right =
+                  own-name files linked class file (sym listed);
+              name_right = channel-name native;
+            }
 
         output : (b : Bool) → is_native m.access ≡ b → (kinds : List Kind) (c n : Name)
-            → (if b then channel_of (own_name file) (text_at file.pool.entries m.name) kinds else target.Code class place (locals_of m.code)) ≡ target.Output c n
+            → (if b then channel_of (own_name file) (text_at file.pool.entries m.name) kinds
+            else target.Code class place (locals_of m.code)) ≡ target.Output c n
             → AreNames c n names
         output false native kinds c n is = absurd (cc is)
         output true native [] c n is = absurd (cc is)
         output true native (kind ∷ kinds) c n is =
             let one : own_name file ≡ c = cc is in
             let two : text_at file.pool.entries m.name ≡ n = cc is in
-            subst (λ (x : Name). AreNames x n names) one (subst (λ (x : Name). AreNames (own_name file) x names) two (are-names native))
+            subst (λ (x : Name). AreNames x n names) one
+            (subst (λ (x : Name). AreNames (own_name file) x names) two (are-names native))
 
         pub method-named : KnowsNames (method_in class place (slice_get files class)) names
         method-named =
             subst (λ (o : Option ClassFile). KnowsNames (method_in class place o) names) listed
-            (subst (λ (o : Option MethodFile). KnowsNames (method_link class file place o) names) held
+            (subst (λ (o : Option MethodFile). KnowsNames (method_link class file place o) names)
+            held
             (λ c n is. output (is_native m.access) refl (signature_of file m).takes c n is))

@@ -19,7 +19,8 @@ some-name [] is = absurd (cc is.spelled)
 some-name (byte ∷ name) is = refl
 
 -- a text with a byte that no name has is none
-pub no-name : (text name : Name) → is_spelled text ≡ false → IsName name → bytes_eq name text ≡ false
+pub no-name : (text name : Name) → is_spelled text ≡ false → IsName name
+    → bytes_eq name text ≡ false
 no-name text name unspelled is = in_case (bytes_eq name text) refl where
   in_case : (b : Bool) → bytes_eq name text ≡ b → bytes_eq name text ≡ false
   in_case false e = e
@@ -31,34 +32,43 @@ no-name text name unspelled is = in_case (bytes_eq name text) refl where
 
 -- ---- each class by its number
 
-name-from : (files : List ClassFile) (more : List Name) (c : ℕ) (file : ClassFile) → slice_get files c ≡ Some file
+name-from : (files : List ClassFile) (more : List Name) (c : ℕ) (file : ClassFile)
+    → slice_get files c ≡ Some file
     → slice_get (map own_name files ++ more) c ≡ Some (own_name file)
 name-from [] more c file at = absurd (cc at)
-name-from (f ∷ files) more zero file at = let same : f ≡ file = cc at in ap (λ x. Some (own_name x)) same
+name-from (f ∷ files) more zero file at =
+    let same : f ≡ file = cc at in ap (λ x. Some (own_name x)) same
 name-from (f ∷ files) more (suc c) file at = name-from files more c file at
 
-pub name-at : (files : List ClassFile) (c : ℕ) (file : ClassFile) → slice_get files c ≡ Some file → slice_get (class_names files) c ≡ Some (own_name file)
-name-at files c file at = name-from files (codes "ArithmeticException" ∷ codes "NullPointerException" ∷ []) c file at
+pub name-at : (files : List ClassFile) (c : ℕ) (file : ClassFile) → slice_get files c ≡ Some file
+    → slice_get (class_names files) c ≡ Some (own_name file)
+name-at files c file at =
+    name-from files (codes "ArithmeticException" ∷ codes "NullPointerException" ∷ []) c file at
 
 -- those of the two exceptions that every program has
-pub arithmetic-at : (files : List ClassFile) → slice_get (class_names files) (length files) ≡ Some (codes "ArithmeticException")
+pub arithmetic-at : (files : List ClassFile)
+    → slice_get (class_names files) (length files) ≡ Some (codes "ArithmeticException")
 arithmetic-at [] = refl
 arithmetic-at (f ∷ files) = arithmetic-at files
 
-null-behind : (files : List ClassFile) → slice_get (class_names files) (suc (length files)) ≡ Some (codes "NullPointerException")
+null-behind : (files : List ClassFile)
+    → slice_get (class_names files) (suc (length files)) ≡ Some (codes "NullPointerException")
 null-behind [] = refl
 null-behind (f ∷ files) = null-behind files
 
-pub null-at : (files : List ClassFile) → slice_get (class_names files) (length files + 1) ≡ Some (codes "NullPointerException")
+pub null-at : (files : List ClassFile)
+    → slice_get (class_names files) (length files + 1) ≡ Some (codes "NullPointerException")
 null-at files =
-    let same : length files + 1 ≡ suc (length files) = omega arith in ap (slice_get (class_names files)) same ∙ null-behind files
+    let same : length files + 1 ≡ suc (length files) = omega arith in
+    ap (slice_get (class_names files)) same ∙ null-behind files
 
 pub many : (files : List ClassFile) → length (class_names files) ≡ length files + 2
 many [] = refl
 many (f ∷ files) = let later = many files in omega (arith, later)
 
 -- it is told whether the class of a file is one of exceptions
-pub flag-at : (files : List ClassFile) (c : ℕ) (file : ClassFile) (flag : Bool) → slice_get files c ≡ Some file
+pub flag-at : (files : List ClassFile) (c : ℕ) (file : ClassFile) (flag : Bool)
+    → slice_get files c ≡ Some file
     → slice_get (exception_flags files) c ≡ Some flag → is_exception file ≡ flag
 flag-at [] c file flag at told = absurd (cc at)
 flag-at (f ∷ files) zero file flag at told =
@@ -67,15 +77,19 @@ flag-at (f ∷ files) zero file flag at told =
     ap is_exception (sym same) ∙ is
 flag-at (f ∷ files) (suc c) file flag at told = flag-at files c file flag at told
 
-pub flag-missing : (files : List ClassFile) (c : ℕ) (file : ClassFile) → slice_get files c ≡ Some file → slice_get (exception_flags files) c ≡ None → ⊥
+pub flag-missing : (files : List ClassFile) (c : ℕ) (file : ClassFile)
+    → slice_get files c ≡ Some file → slice_get (exception_flags files) c ≡ None → ⊥
 flag-missing [] c file at none = cc at
 flag-missing (f ∷ files) zero file at none = cc none
 flag-missing (f ∷ files) (suc c) file at none = flag-missing files c file at none
 
 -- ---- a name that no class has
 
-missed-from : (text : Name) (files : List ClassFile) → ((c : ℕ) (file : ClassFile) → slice_get files c ≡ Some file → bytes_eq text (own_name file) ≡ false)
-    → (more : List Name) → list_any (bytes_eq text) more ≡ false → list_any (bytes_eq text) (map own_name files ++ more) ≡ false
+missed-from : (text : Name) (files : List ClassFile)
+    → ((c : ℕ) (file : ClassFile) → slice_get files c ≡ Some file
+    → bytes_eq text (own_name file) ≡ false)
+    → (more : List Name) → list_any (bytes_eq text) more ≡ false
+    → list_any (bytes_eq text) (map own_name files ++ more) ≡ false
 missed-from text [] each more none = none
 missed-from text (f ∷ files) each more none =
     ap (λ (b : Bool). b || list_any (bytes_eq text) (map own_name files ++ more)) (each 0 f refl)
@@ -83,8 +97,10 @@ missed-from text (f ∷ files) each more none =
 
 module _ (files : List ClassFile) (linked : AreLinked files) where
   -- no class of a file is that of the locks
-  pub not-locks : (c : ℕ) (file : ClassFile) → slice_get files c ≡ Some file → bytes_eq (own_name file) (codes "paragon/Locks") ≡ false
-  not-locks c file at = no-name (codes "paragon/Locks") (own_name file) refl (own-name files linked c file at)
+  pub not-locks : (c : ℕ) (file : ClassFile) → slice_get files c ≡ Some file
+      → bytes_eq (own_name file) (codes "paragon/Locks") ≡ false
+  not-locks c file at =
+      no-name (codes "paragon/Locks") (own_name file) refl (own-name files linked c file at)
 
   pub locks-missed : position (bytes_eq (codes "paragon/Locks")) (class_names files) ≡ None
   locks-missed =
@@ -94,7 +110,8 @@ module _ (files : List ClassFile) (linked : AreLinked files) where
       (codes "ArithmeticException" ∷ codes "NullPointerException" ∷ []) refl)
 
   -- what a class of a file is called is a name, and so is each class
-  pub class-name : (c : ℕ) → c < length (class_names files) → IsName (class_named (class_names files) c)
+  pub class-name : (c : ℕ) → c < length (class_names files)
+      → IsName (class_named (class_names files) c)
   class-name c within = in_case (slice_get files c) refl where
     behind : (some : List ClassFile) (n : ℕ) → slice_get some n ≡ None → length some ≤ n
     behind [] n none = omega arith
@@ -107,9 +124,11 @@ module _ (files : List ClassFile) (linked : AreLinked files) where
     null : IsName (codes "NullPointerException")
     null = record { spelled = refl; short = omega arith }
 
-    in_case : (o : Option ClassFile) → slice_get files c ≡ o → IsName (class_named (class_names files) c)
+    in_case : (o : Option ClassFile) → slice_get files c ≡ o
+        → IsName (class_named (class_names files) c)
     in_case (Some file) at =
-        let is : own_name file ≡ class_named (class_names files) c = ap name_or_none (sym (name-at files c file at)) in
+        let is : own_name file ≡ class_named (class_names files) c =
+        ap name_or_none (sym (name-at files c file at)) in
         subst IsName is (own-name files linked c file at)
     in_case None none =
         let past : length files ≤ c = behind files c none in
@@ -120,7 +139,8 @@ module _ (files : List ClassFile) (linked : AreLinked files) where
         last zero is few =
             let same : length files ≡ c = omega arith in
             subst (λ (k : ℕ). IsName (class_named (class_names files) k)) same
-            (subst (λ (o : Option Name). IsName (name_or_none o)) (sym (arithmetic-at files)) arithmetic)
+            (subst (λ (o : Option Name). IsName (name_or_none o))
+            (sym (arithmetic-at files)) arithmetic)
         last (suc zero) is few =
             let same : length files + 1 ≡ c = omega arith in
             subst (λ (k : ℕ). IsName (class_named (class_names files) k)) same

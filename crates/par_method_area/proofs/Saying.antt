@@ -36,7 +36,8 @@ IsFound (Some found) = IsPlain found.0
 object-found : (text : Text) (end : Option ℕ) → IsFound (object_to text end)
 object-found text None = tt
 object-found text (Some end) = in_case (is_name (take end text)) refl where
-  in_case : (b : Bool) → is_name (take end text) ≡ b → IsFound (cond b (Some (Object (take end text), drop (end + 1) text)) None)
+  in_case : (b : Bool) → is_name (take end text) ≡ b
+      → IsFound (cond b (Some (Object (take end text), drop (end + 1) text)) None)
   in_case true is = some-bytes (take end text) is
   in_case false is = tt
 
@@ -44,7 +45,9 @@ kind-found : (text : Text) → IsFound (kind_at text)
 unfolding kind_at
 kind-found [] = tt
 kind-found (byte ∷ text) = in_case (is_number byte) (byte == 76) where
-  in_case : (number class : Bool) → IsFound (cond number (Some (Number, text)) (cond class (object_to text (position ends_name text)) None))
+  in_case : (number class : Bool)
+      → IsFound (cond number (Some (Number, text))
+      (cond class (object_to text (position ends_name text)) None))
   in_case true class = tt
   in_case false true = object-found text (position ends_name text)
   in_case false false = tt
@@ -90,7 +93,8 @@ abbrev AreFound : Option (List Kind × Text) → Type 0
 AreFound None = Unit {0}
 AreFound (Some found) = AllByRecursion IsNamed found.0
 
-before-found : (kind : Kind) (o : Option (List Kind × Text)) → IsPlain kind → AreFound o → AreFound (kind_before kind o)
+before-found : (kind : Kind) (o : Option (List Kind × Text)) → IsPlain kind → AreFound o
+    → AreFound (kind_before kind o)
 before-found kind None plain found = tt
 before-found kind (Some later) plain found = (plain-named kind plain, found)
 
@@ -101,17 +105,20 @@ none-found (byte ∷ text) = in_case (byte == 41) where
   in_case true = tt
   in_case false = tt
 
-from-found : (later : ℕ → Option (List Kind × Text)) (byte : ℕ) (text : Text) (o : Option (Kind × Text))
+from-found : (later : ℕ → Option (List Kind × Text)) (byte : ℕ) (text : Text)
+    (o : Option (Kind × Text))
     → ((n : ℕ) → AreFound (later n)) → IsFound o → AreFound (kinds_from later byte text o)
 from-found later byte text None each found = none-found (byte ∷ text)
 from-found later byte text (Some found) each plain =
-    before-found found.0 (later (length text - length found.1)) plain (each (length text - length found.1))
+    before-found found.0 (later (length text - length found.1)) plain
+    (each (length text - length found.1))
 
 kinds-found : (text : Text) (earlier : ℕ) → AreFound (kinds_in text earlier)
 unfolding kinds_in
 kinds-found [] earlier = tt
 kinds-found (byte ∷ text) zero =
-    from-found (kinds_in text) byte text (kind_at (byte ∷ text)) (λ n. kinds-found text n) (kind-found (byte ∷ text))
+    from-found (kinds_in text) byte text (kind_at (byte ∷ text)) (λ n. kinds-found text n)
+    (kind-found (byte ∷ text))
 kinds-found (byte ∷ text) (suc earlier) = kinds-found text earlier
 
 abbrev IsResult : Option (Option Kind) → Type 0
@@ -137,7 +144,8 @@ abbrev SignatureSaid : Option Signature → Type 0
 SignatureSaid None = Unit {0}
 SignatureSaid (Some s) = AreSaid s
 
-with-said : (takes : List Kind) (o : Option (Option Kind)) → AllByRecursion IsNamed takes → IsResult o → SignatureSaid (signature_with takes o)
+with-said : (takes : List Kind) (o : Option (Option Kind)) → AllByRecursion IsNamed takes
+    → IsResult o → SignatureSaid (signature_with takes o)
 with-said takes None named said = tt
 with-said takes (Some gives) named said = record { takes = named; gives = said }
 

@@ -28,26 +28,31 @@ not-same a b differ = grind arith
 module _ (classes : List Name) (apart : AreApart classes) where
   module _ (name : Name) (some : bytes_eq [] name ≡ false) where
     -- the class at the first place of the name has that name
-    there : (k : ℕ) → position (bytes_eq name) classes ≡ Some k → (x : Name) → slice_get classes k ≡ Some x → bytes_eq name x ≡ true
+    there : (k : ℕ) → position (bytes_eq name) classes ≡ Some k → (x : Name)
+        → slice_get classes k ≡ Some x → bytes_eq name x ≡ true
     there k is x at =
         ap (bytes_eq name) (sym (get_or_from_slice_get classes k x [] at))
         ∙ (position-Some (bytes_eq name) classes k [] is).1
 
     within : (k : ℕ) → position (bytes_eq name) classes ≡ Some k → slice_get classes k ≡ None → ⊥
     within k is at =
-        let holds : bytes_eq name (get_or classes k []) ≡ true = (position-Some (bytes_eq name) classes k [] is).1 in
+        let holds : bytes_eq name (get_or classes k []) ≡ true =
+        (position-Some (bytes_eq name) classes k [] is).1 in
         let less : k < length classes = (position-Some (bytes_eq name) classes k [] is).0 in
         gone classes k less at
       where
         gone : (xs : List Name) (i : ℕ) → i < length xs → slice_get xs i ≡ None → ⊥
         gone [] i less none = omega (arith, less)
         gone (x ∷ xs) zero less none = cc none
-        gone (x ∷ xs) (suc i) less none = let later : i < length xs = omega (arith, less) in gone xs i later none
+        gone (x ∷ xs) (suc i) less none =
+            let later : i < length xs = omega (arith, less) in gone xs i later none
 
-    at-none : (c k : ℕ) → position (bytes_eq name) classes ≡ Some k → slice_get classes c ≡ None → (c == k) ≡ false
+    at-none : (c k : ℕ) → position (bytes_eq name) classes ≡ Some k → slice_get classes c ≡ None
+        → (c == k) ≡ false
     at-none c k is at = not-same c k (λ same. within k is (ap (slice_get classes) (sym same) ∙ at))
 
-    at-other : (c k : ℕ) (x : Name) → position (bytes_eq name) classes ≡ Some k → slice_get classes c ≡ Some x → bytes_eq x name ≡ false → (c == k) ≡ false
+    at-other : (c k : ℕ) (x : Name) → position (bytes_eq name) classes ≡ Some k
+        → slice_get classes c ≡ Some x → bytes_eq x name ≡ false → (c == k) ≡ false
     at-other c k x is at differs =
         not-same c k (λ same.
         let here : bytes_eq name x ≡ true = there k is x (ap (slice_get classes) (sym same) ∙ at) in
@@ -66,13 +71,15 @@ module _ (classes : List Name) (apart : AreApart classes) where
     at-class c n x false at differs None is = refl
     at-class c n x false at differs (Some k) is = sym (at-other c k x is at differs)
 
-    of-held : (c n : ℕ) (held : Option Name) → slice_get classes c ≡ held → (o : Option ℕ) → position (bytes_eq name) classes ≡ o
+    of-held : (c n : ℕ) (held : Option Name) → slice_get classes c ≡ held → (o : Option ℕ)
+        → position (bytes_eq name) classes ≡ o
         → bytes_eq (name_or_none held) name ≡ accepts (fit_at o) (Ref c n)
     of-held c n None at None is = some
     of-held c n None at (Some k) is = some ∙ sym (at-none c k is at)
     of-held c n (Some x) at o is = at-class c n x (bytes_eq x name) at refl o is
 
-    of-fit : (o : Option ℕ) → position (bytes_eq name) classes ≡ o → Takes classes (Object name) (fit_at o)
+    of-fit : (o : Option ℕ) → position (bytes_eq name) classes ≡ o
+        → Takes classes (Object name) (fit_at o)
     of-fit None is (Int n) = refl
     of-fit (Some k) is (Int n) = refl
     of-fit None is Null = refl
@@ -94,13 +101,16 @@ module _ (classes : List Name) (apart : AreApart classes) where
   takes Anything named = λ v. refl
 
   -- of the class at a place
-  pub takes-own : (c : ℕ) (name : Name) → slice_get classes c ≡ Some name → bytes_eq [] name ≡ false → Takes classes (Object name) (OfClass c)
+  pub takes-own : (c : ℕ) (name : Name) → slice_get classes c ≡ Some name → bytes_eq [] name ≡ false
+      → Takes classes (Object name) (OfClass c)
   takes-own c name at some = of-fit name some (Some c) (apart c name at)
 
-  pub all-take : (kinds : List Kind) → AllByRecursion IsNamed kinds → AllTake classes kinds (map (fit_of classes) kinds)
+  pub all-take : (kinds : List Kind) → AllByRecursion IsNamed kinds
+      → AllTake classes kinds (map (fit_of classes) kinds)
   all-take [] named = tt
   all-take (kind ∷ kinds) named = (takes kind named.0, all-take kinds named.1)
 
   -- of a name that no class has
-  pub takes-none : (name : Name) → bytes_eq [] name ≡ false → position (bytes_eq name) classes ≡ None → Takes classes (Object name) Nothing
+  pub takes-none : (name : Name) → bytes_eq [] name ≡ false
+      → position (bytes_eq name) classes ≡ None → Takes classes (Object name) Nothing
   takes-none name some never = of-fit name some None never

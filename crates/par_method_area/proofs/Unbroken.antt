@@ -42,7 +42,8 @@ earlier-none None b none = (refl, none)
 earlier-none (Some a) None none = absurd (cc none)
 earlier-none (Some a) (Some b) none = absurd (cc none)
 
-any-fewer : {A : Type 0} (p q : A → Bool) (xs : List A) → ((x : A) → q x ≡ true → p x ≡ true) → list_any p xs ≡ false → list_any q xs ≡ false
+any-fewer : {A : Type 0} (p q : A → Bool) (xs : List A) → ((x : A) → q x ≡ true → p x ≡ true)
+    → list_any p xs ≡ false → list_any q xs ≡ false
 any-fewer p q [] each none = refl
 any-fewer p q (x ∷ xs) each none = in_case (p x) (q x) refl refl none (any-fewer p q xs each) where
   in_case : (a b : Bool) → p x ≡ a → q x ≡ b → (a || list_any p xs) ≡ false
@@ -59,26 +60,37 @@ module _ (files : List ClassFile) (linked : AreLinked files) where
   unfolding list_fault
   class-none =
       map-none (λ class. record { number = 43; class = class; index = 0 }) (repeated_class files)
-      (or-none _ (option_map (λ class. record { number = 43; class = class; index = 0 }) (repeated_class files)) list-none).1
+      (or-none _ (option_map (λ class. record { number = 43; class = class; index = 0 })
+      (repeated_class files)) list-none).1
 
-  none-repeated : (position (λ file. is_taken (own_name file)) files ≡ None) × (first_repeated bytes_eq (own_names files) ≡ None)
-  none-repeated = earlier-none (position (λ file. is_taken (own_name file)) files) (first_repeated bytes_eq (own_names files)) class-none
+  none-repeated : (position (λ file. is_taken (own_name file)) files ≡ None)
+      × (first_repeated bytes_eq (own_names files) ≡ None)
+  none-repeated =
+      earlier-none (position (λ file. is_taken (own_name file)) files)
+      (first_repeated bytes_eq (own_names files)) class-none
 
   none-taken : list_any (λ file. is_taken (own_name file)) files ≡ false
-  none-taken = sym (position-is_some (λ file. is_taken (own_name file)) files) ∙ ap is_some none-repeated.0
+  none-taken =
+      sym (position-is_some (λ file. is_taken (own_name file)) files) ∙ ap is_some none-repeated.0
 
   -- a name that is taken is that of no file
-  free : (name : Name) → ((other : Name) → bytes_eq other name ≡ true → is_taken other ≡ true) → list_any (bytes_eq name) (own_names files) ≡ false
+  free : (name : Name) → ((other : Name) → bytes_eq other name ≡ true → is_taken other ≡ true)
+      → list_any (bytes_eq name) (own_names files) ≡ false
   free name taken =
       any-map (bytes_eq name) own_name files
       ∙ any-fewer (λ file. is_taken (own_name file)) (λ file. bytes_eq name (own_name file)) files
       (λ file same. taken (own_name file) (eq_turned (own_name file) name ∙ same)) none-taken
 
   arithmetic-free : list_any (bytes_eq (codes "ArithmeticException")) (own_names files) ≡ false
-  arithmetic-free = free (codes "ArithmeticException") (λ other same. ap (λ (b : Bool). b || bytes_eq other (codes "NullPointerException")) same)
+  arithmetic-free =
+      free (codes "ArithmeticException")
+      (λ other same. ap (λ (b : Bool). b || bytes_eq other (codes "NullPointerException")) same)
 
   null-free : list_any (bytes_eq (codes "NullPointerException")) (own_names files) ≡ false
-  null-free = free (codes "NullPointerException") (λ other same. ap (λ (b : Bool). bytes_eq other (codes "ArithmeticException") || b) same ∙ either (bytes_eq other (codes "ArithmeticException")))
+  null-free =
+      free (codes "NullPointerException")
+      (λ other same. ap (λ (b : Bool). bytes_eq other (codes "ArithmeticException") || b) same
+      ∙ either (bytes_eq other (codes "ArithmeticException")))
     where
       either : (b : Bool) → (b || true) ≡ true
       either true = refl
@@ -90,32 +102,45 @@ module _ (files : List ClassFile) (linked : AreLinked files) where
       let own = own_names files in
       let first : Name = codes "ArithmeticException" in
       let second : Name = codes "NullPointerException" in
-      let same : (own ++ first ∷ []) ++ second ∷ [] ≡ own ++ first ∷ second ∷ [] = append_assoc own (first ∷ []) (second ∷ []) in
+      let same : (own ++ first ∷ []) ++ second ∷ [] ≡ own ++ first ∷ second ∷ [] =
+      append_assoc own (first ∷ []) (second ∷ []) in
       let new : list_any (bytes_eq second) (own ++ first ∷ []) ≡ false =
-      list_any-append (bytes_eq second) own (first ∷ []) ∙ ap (λ (b : Bool). b || (bytes_eq second first || false)) null-free in
+      list_any-append (bytes_eq second) own (first ∷ [])
+      ∙ ap (λ (b : Bool). b || (bytes_eq second first || false)) null-free in
       subst AreApart same
-      (apart-push (own ++ first ∷ []) second (apart-push own first (apart own none-repeated.1) arithmetic-free) new)
+      (apart-push (own ++ first ∷ []) second
+      (apart-push own first (apart own none-repeated.1) arithmetic-free) new)
 
   -- ---- one of the files
 
-  file-none : (some : List ClassFile) (class n : ℕ) (file : ClassFile) → first_in files class some ≡ None → slice_get some n ≡ Some file → file_fault files file ≡ None
+  file-none : (some : List ClassFile) (class n : ℕ) (file : ClassFile)
+      → first_in files class some ≡ None → slice_get some n ≡ Some file
+      → file_fault files file ≡ None
   unfolding first_in
   file-none [] class n file none at = absurd (cc at)
   file-none (f ∷ some) class zero file none at =
       let same : f ≡ file = cc at in
       ap (file_fault files) (sym same)
-      ∙ map-none _ (file_fault files f) (or-none (in_class class (file_fault files f)) (first_in files (class + 1) some) none).0
+      ∙ map-none _ (file_fault files f)
+      (or-none (in_class class (file_fault files f)) (first_in files (class + 1) some) none).0
   file-none (f ∷ some) class (suc n) file none at =
-      file-none some (class + 1) n file (or-none (in_class class (file_fault files f)) (first_in files (class + 1) some) none).1 at
+      file-none some (class + 1) n file
+      (or-none (in_class class (file_fault files f)) (first_in files (class + 1) some) none).1 at
 
   module _ (class : ℕ) (file : ClassFile) (listed : slice_get files class ≡ Some file) where
     unbroken : file_fault files file ≡ None
-    unbroken = file-none files 0 class file (or-none (list_fault files) (first_in files 0 files) linked.unbroken).1 listed
+    unbroken =
+        file-none files 0 class file
+        (or-none (list_fault files) (first_in files 0 files) linked.unbroken).1 listed
 
     described : description_fault file ≡ None
     described =
-        let all = or-none (option_or (option_or (member_fault file) (description_fault file)) (constant_fault files file)) (code_fault file) unbroken in
-        let three = or-none (option_or (member_fault file) (description_fault file)) (constant_fault files file) all.0 in
+        let all =
+        or-none (option_or (option_or (member_fault file) (description_fault file))
+        (constant_fault files file)) (code_fault file) unbroken in
+        let three =
+        or-none (option_or (member_fault file) (description_fault file))
+        (constant_fault files file) all.0 in
         (or-none (member_fault file) (description_fault file) three.0).1
 
     both-right : (wrong_field file ≡ None) × (wrong_method file ≡ None)
@@ -125,18 +150,25 @@ module _ (files : List ClassFile) (linked : AreLinked files) where
         (map-none _ (wrong_field file) both.0, map-none _ (wrong_method file) both.1)
 
     -- its fields and methods have the names and descriptors that they need
-    pub field-right : (place : ℕ) (f : FieldFile) → slice_get file.fields place ≡ Some f → is_field_right file.pool.entries f ≡ true
+    pub field-right : (place : ℕ) (f : FieldFile) → slice_get file.fields place ≡ Some f
+        → is_field_right file.pool.entries f ≡ true
     field-right place f is =
-        turned (is_field_right file.pool.entries f) (position-none (λ x. not (is_field_right file.pool.entries x)) file.fields both-right.0 place f is)
+        turned (is_field_right file.pool.entries f)
+        (position-none (λ x. not (is_field_right file.pool.entries x)) file.fields
+        both-right.0 place f is)
 
-    pub method-right : (place : ℕ) (m : MethodFile) → slice_get file.methods place ≡ Some m → is_method_right file.pool.entries m ≡ true
+    pub method-right : (place : ℕ) (m : MethodFile) → slice_get file.methods place ≡ Some m
+        → is_method_right file.pool.entries m ≡ true
     method-right place m is =
-        turned (is_method_right file.pool.entries m) (position-none (λ x. not (is_method_right file.pool.entries x)) file.methods both-right.1 place m is)
+        turned (is_method_right file.pool.entries m)
+        (position-none (λ x. not (is_method_right file.pool.entries x)) file.methods
+        both-right.1 place m is)
 
     -- its class has a name, and it has few items
     pub own-name : IsName (own_name file)
     own-name =
-        subst (λ (f : ClassFile). IsName (own_name f)) (get_or_from_slice_get files class file file listed)
+        subst (λ (f : ClassFile). IsName (own_name f))
+        (get_or_from_slice_get files class file file listed)
         (linked.spelled class file (slice_get_within files class file listed))
 
     pub small : IsSmall file

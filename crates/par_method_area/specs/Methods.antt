@@ -1,5 +1,5 @@
 -- Methods as they are told once.
-use Rattle.std.specs.Prelude.{◌≡◌, ℕ, Bool, false, List, map, Option, slice_index_or}
+use Rattle.std.specs.Prelude.{◌≡◌, ℕ, Bool, false, List, map, Option, None, slice_index_or}
 use Rattle.par_class.specs.declared.file.CodeAttr.{CodeAttr}
 use Rattle.par_class.specs.declared.file.MethodFile.{MethodFile}
 use Rattle.par_class.specs.declared.file.ClassFile.{ClassFile}
@@ -9,6 +9,8 @@ use Rattle.par_single.specs.Members.{text_at, own_name, is_initializer}
 use Rattle.par_single.specs.Single.{method_named}
 use Rattle.par_single.specs.Links.{signature_said}
 use Rattle.par_single.specs.Walk.{starts_at}
+use Rattle.par_starts.specs.Standing.{IsStanding}
+use Rattle.par_starts.specs.declared.standing.Standing.{Standing}
 use Rattle.par_steps.specs.Methods.{code_or_none}
 use Rattle.par_method_area.specs.declared.methods.MethodRow.{MethodRow}
 use Rattle.par_lines.specs.Lines.{Channel, line_of}
@@ -18,6 +20,11 @@ use Rattle.par_method_area.specs.Fits.{fit_of, gives_of}
 abbrev pub StartAt : Option CodeAttr → List Bool → Type 0
 StartAt code starts =
     (at : ℕ) → slice_index_or starts at false ≡ starts_at (code_or_none code).code at
+
+-- it is told of each offset which instruction of the code stands there
+abbrev pub StandIn : Option CodeAttr → List (Option Standing) → Type 0
+StandIn code rows =
+    (at : ℕ) → IsStanding (code_or_none code).code at (slice_index_or rows at None)
 
 -- what the descriptor of a method of a file says
 abbrev pub signature_of : ClassFile → MethodFile → Signature
@@ -30,6 +37,7 @@ pub record IsMethodRow (classes : List Name) (file : ClassFile) (place : ℕ) (m
   pub takes : row.takes.items ≡ map (fit_of classes) (signature_of file m).takes
   pub gives : row.gives ≡ gives_of classes (signature_of file m).gives
   pub starts : StartAt m.code row.starts
+  pub instructions : StandIn m.code row.instructions
 
 abbrev pub line_in : MethodRow → Option ℕ
 line_in row = row.line

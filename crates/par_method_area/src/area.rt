@@ -1,5 +1,7 @@
 ghost use Rattle.std.specs.Prelude.{◌≡◌, map, IfOk};
 ghost use Rattle.par_steps.specs.Classes.{class_names, exceptions};
+ghost use Rattle.par_starts.specs.Standing.{KnowsStanding};
+ghost use Rattle.par_steps.specs.Methods.{method_code};
 ghost use Rattle.par_steps.specs.Fields.{all_statics};
 ghost use Rattle.par_link.specs.Linked.{AreLinked};
 ghost use Rattle.par_values.specs.Reasons.{Spot};
@@ -18,6 +20,7 @@ use crate::names::ClassNumbers;
 use crate::statics::all_statics;
 use par_lexer::list::{List, NoMemory};
 use par_link::Linked;
+use par_starts::Standing;
 use par_values::inputs::Inputs;
 use par_values::value::MVal;
 use std::alloc::Global;
@@ -117,5 +120,14 @@ impl MethodArea {
             gives: row.gives,
             starts: &row.starts,
         })
+    }
+
+    /// The instruction at an offset of the code of a method, none where there is none.
+    #[inline(always)]
+    pub fn instruction(&self, class: u16, method: u16, at: u32) -> Option<Standing>
+        ensures { KnowsStanding (method_code self.now.files class method).code at result }
+    {
+        let row = self.rows.get(class as usize)?.methods.get(method as usize)?;
+        row.instructions.at(at)
     }
 }

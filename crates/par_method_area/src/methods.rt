@@ -5,7 +5,7 @@ ghost use Rattle.std.specs.Prelude.{◌≡◌, ℕ, map, IfOk, IfSome};
 ghost use Rattle.par_single.specs.Descriptors.{kinds_at};
 ghost use Rattle.par_single.specs.Links.{signature_said};
 ghost use Rattle.par_method_area.specs.Fits.{fit_of, gives_of};
-ghost use Rattle.par_method_area.specs.Methods.{StartAt, IsMethodRow, line_in, line_row};
+ghost use Rattle.par_method_area.specs.Methods.{StandIn, StartAt, IsMethodRow, line_in, line_row};
 ghost use Rattle.par_method_area.specs.Rows.{AreRows};
 
 use crate::channels::ChannelLines;
@@ -15,7 +15,7 @@ use par_class::file::{ClassFile, CodeAttr, MethodFile};
 use par_lexer::list::{List, NoMemory};
 use par_single::descriptor::{kind_at, method_gives};
 use par_single::member::{is_initializer, own_name, text_at};
-use par_starts::Starts;
+use par_starts::{Instructions, Starts};
 use std::alloc::Global;
 
 /// What is told once of a method.
@@ -28,6 +28,7 @@ pub(crate) struct MethodRow {
     /// The place of the line of the channel of its name.
     pub(crate) line: Option<usize>,
     pub(crate) starts: Starts,
+    pub(crate) instructions: Instructions,
 }
 
 /// What the arguments have to be whose descriptors a text begins with, where `)` ends them.
@@ -75,6 +76,21 @@ fn starts(alloc: Global, code: &Option<CodeAttr>) -> Result<Starts, NoMemory>
     }
 }
 
+/// The instructions of code that start there, none where there is none.
+fn instructions(
+    alloc: Global,
+    code: &Option<CodeAttr>,
+    starts: &Starts,
+) -> Result<Instructions, NoMemory>
+    requires { StartAt code.now starts.now }
+    ensures { IfOk result (StandIn code.now) }
+{
+    match code {
+        None => Instructions::of(alloc, &[], starts),
+        Some(code) => Instructions::of(alloc, code.code.as_slice(), starts),
+    }
+}
+
 /// What is told once of a method of a file.
 fn method_row(
     alloc: Global,
@@ -90,12 +106,15 @@ fn method_row(
     let entries = file.pool.entries.as_slice();
     let name = text_at(entries, method.name);
     let descriptor = text_at(entries, method.descriptor);
+    let starts = starts(alloc, &method.code)?;
+    let instructions = instructions(alloc, &method.code, &starts)?;
     Ok(MethodRow {
         is_initializer: is_initializer(name, descriptor),
         takes: takes(alloc, numbers, descriptor)?,
         gives: gives(numbers, descriptor),
         line: lines.line(own_name(file), name),
-        starts: starts(alloc, &method.code)?,
+        starts,
+        instructions,
     })
 }
 

@@ -58,9 +58,16 @@ impl Stack {
 
     /// Where the running frame stands.
     pub fn point(&self) -> Point
-        ensures { result ≡ (running self.now).point }
+        ensures is { result ≡ (running self.now).point }
+        ensures some { 0 < length self.now }
     {
-        self.running.point
+        // Field by field, since a processor waits where it reads at once what was written in parts.
+        let point = &self.running.point;
+        Point {
+            class: point.class,
+            method: point.method,
+            at: point.at,
+        }
     }
 
     /// The places of all frames: for each, the outermost first, its locals and then its operands

@@ -7,6 +7,8 @@
 //! The crate runs nothing, and knows no method and no class file.
 #![tactic(auto)]
 
+pub mod standing;
 pub mod starts;
 
+pub use standing::{Instructions, Standing};
 pub use starts::Starts;

@@ -71,10 +71,11 @@ number_of_class (Ref c n) = Some c
 number_of_class Null = None
 number_of_class (Int v) = None
 
--- the class of what is thrown, where something is
+-- The class of what is thrown, where something is: an object that is no exception is not thrown.
 abbrev pub thrown_class : List ClassFile → Effect → Option ℕ
 thrown_class files (Throws name) = Some (exception_named files name)
-thrown_class files (ThrowsObject v) = number_of_class v
+thrown_class files (ThrowsObject v) =
+    if is_of (exceptions files) v then number_of_class v else None
 thrown_class files _ = None
 
 -- the frames that go on where an exception of this class is thrown

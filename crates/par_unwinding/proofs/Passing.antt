@@ -16,9 +16,11 @@ module _ (files : List ClassFile) (thrown : ℕ) where
   handler_at p = handler_in files thrown (standing p.class p.method p.at)
 
   -- a frame without a handler is passed
-  pub passed : (frames : List Frame) (k : ℕ) (p : Point) → option_map (λ (f : Frame). f.point) (slice_get frames k) ≡ Some p
+  pub passed : (frames : List Frame) (k : ℕ) (p : Point)
+      → option_map (λ (f : Frame). f.point) (slice_get frames k) ≡ Some p
       → handler_at p ≡ None
-      → caught files thrown (frames_of (drop k frames)) ≡ caught files thrown (frames_of (drop (suc k) frames))
+      → caught files thrown (frames_of (drop k frames))
+      ≡ caught files thrown (frames_of (drop (suc k) frames))
   unfolding caught
   passed [] k p at none = absurd (cc)
   passed (f ∷ fs) zero p at none =
@@ -27,7 +29,8 @@ module _ (files : List ClassFile) (thrown : ℕ) where
   passed (f ∷ fs) (suc k) p at none = passed fs k p at none
 
   -- at the first handler it lands
-  pub landed : (frames : List Frame) (k : ℕ) (p : Point) (at : ℕ) → option_map (λ (f : Frame). f.point) (slice_get frames k) ≡ Some p
+  pub landed : (frames : List Frame) (k : ℕ) (p : Point) (at : ℕ)
+      → option_map (λ (f : Frame). f.point) (slice_get frames k) ≡ Some p
       → handler_at p ≡ Some at
       → caught files thrown (frames_of (drop k frames)) ≡ frames_of (gone_on k at frames)
   unfolding caught
@@ -38,20 +41,23 @@ module _ (files : List ClassFile) (thrown : ℕ) where
   landed (f ∷ fs) (suc k) p at is some = landed fs k p at is some
 
   -- behind all frames there is none
-  pub passed_all : (frames : List Frame) (k : ℕ) → length frames ≡ k → caught files thrown (frames_of (drop k frames)) ≡ []
+  pub passed_all : (frames : List Frame) (k : ℕ) → length frames ≡ k
+      → caught files thrown (frames_of (drop k frames)) ≡ []
   unfolding caught
   passed_all [] zero many = refl
   passed_all [] (suc k) many = absurd (cc)
   passed_all (f ∷ fs) zero many = absurd (cc)
   passed_all (f ∷ fs) (suc k) many = passed_all fs k (omega arith)
 
-pub there : (frames : List Frame) (k : ℕ) (p : Point) → option_map (λ (f : Frame). f.point) (slice_get frames k) ≡ Some p → k < length frames
+pub there : (frames : List Frame) (k : ℕ) (p : Point)
+    → option_map (λ (f : Frame). f.point) (slice_get frames k) ≡ Some p → k < length frames
 there [] k p at = absurd (cc)
 there (f ∷ fs) zero p at = omega arith
 there (f ∷ fs) (suc k) p at = let h = there fs k p at in omega arith
 
 -- the frame at a handler
-pub point_on : (frames : List Frame) (k : ℕ) (p : Point) (at : ℕ) → option_map (λ (f : Frame). f.point) (slice_get frames k) ≡ Some p
+pub point_on : (frames : List Frame) (k : ℕ) (p : Point) (at : ℕ)
+    → option_map (λ (f : Frame). f.point) (slice_get frames k) ≡ Some p
     → (running (gone_on k at frames)).point ≡ record p { at = at }
 point_on [] k p at is = absurd (cc)
 point_on (f ∷ fs) zero p at is = ap (λ (q : Point). record q { at = at }) (same_Some _ _ is)

@@ -15,4 +15,5 @@ pub record Lands (files : List ClassFile) (thrown : ℕ) (frames : List Frame) (
     Type 0 where
   pub there : l.above < length frames
   pub point : (running (gone_on l.above l.point.at frames)).point ≡ l.point
-  pub caught : caught files thrown (frames_of frames) ≡ frames_of (gone_on l.above l.point.at frames)
+  pub caught : caught files thrown (frames_of frames)
+      ≡ frames_of (gone_on l.above l.point.at frames)

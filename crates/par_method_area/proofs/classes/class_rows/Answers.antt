@@ -12,7 +12,8 @@ use Rattle.par_method_area.proofs.classes.class_rows.Goals as goal
 pub loop-file-init : goal.loop-file-init
 loop-file-init c = (
   ap length (sym statics-none),
-  subst (λ (rows : List ClassRow). AreRows (IsClassRow c.args.numbers.now c.args.files.now) [] rows) (sym c.new-rows.ensures) tt,
+  subst (λ (rows : List ClassRow). AreRows (IsClassRow c.args.numbers.now c.args.files.now) [] rows)
+      (sym c.new-rows.ensures) tt,
   ap (map lines_in) c.new-rows.ensures,
 )
 
@@ -30,7 +31,9 @@ pub overflow_add-shared : goal.overflow_add-shared
 overflow_add-shared c =
     let x = c.file-item.result in
     let few = few-before c.args.files.now c.loop-file.file-index c.requires.small c.requires.few in
-    let small : IsSmall x = subst (λ (f : ClassFile). IsSmall f) (sym c.file-item.is) (c.requires.small c.loop-file.file-index x c.loop-file-test.true) in
+    let small : IsSmall x =
+    subst (λ (f : ClassFile). IsSmall f) (sym c.file-item.is)
+    (c.requires.small c.loop-file.file-index x c.loop-file-test.true) in
     let count = filter-few is_shared x.fields in
     omega (arith, few, count, small.fields, c.shared_count.ensures, c.loop-file.invariant.0)
 
@@ -45,10 +48,13 @@ loop-file-preserved c =
     let within : i < length files = c.loop-file-test.true in
     let at : x ≡ get_or files i x = c.file-item.is in
     let count = statics-count files i x within at in
-    let is : IsClassRow numbers files i x row = subst (λ (n : ℕ). IsFileRow numbers n x row) inv.0 c.in_ok-class_row.ensures.row in (
+    let is : IsClassRow numbers files i x row =
+    subst (λ (n : ℕ). IsFileRow numbers n x row) inv.0 c.in_ok-class_row.ensures.row in (
       omega (arith, count, inv.0, c.shared_count.ensures),
-      subst (λ (rows : List ClassRow). AreRows (IsClassRow numbers files) (take (i + 1) files) rows) (sym c.in_ok-push.ensures.ok)
+      subst (λ (rows : List ClassRow). AreRows (IsClassRow numbers files) (take (i + 1) files) rows)
+          (sym c.in_ok-push.ensures.ok)
           (push (IsClassRow numbers files) files i x c.loop-file.rows row within at inv.1 is),
       ap (map lines_in) c.in_ok-push.ensures.ok
-          ∙ made-push lines_in (file_lines c.args.lines.now) files i x c.loop-file.rows row within at inv.2 c.in_ok-class_row.ensures.lines,
+          ∙ made-push lines_in (file_lines c.args.lines.now) files i x c.loop-file.rows row within
+          at inv.2 c.in_ok-class_row.ensures.lines,
     )

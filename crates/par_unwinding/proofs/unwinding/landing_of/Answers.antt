@@ -14,17 +14,21 @@ returns-in-Some-handled-clause-taken c =
           ∙ sym c.in-Some-handled.ensures.same;
       caught =
           c.loop-above.invariant
-          ∙ landed c.args.linked.now c.args.thrown c.args.stack.now c.loop-above.above c.in-Some.point c.in-Some-handled.point.at at
+          ∙ landed c.args.linked.now c.args.thrown c.args.stack.now c.loop-above.above
+          c.in-Some.point c.in-Some-handled.point.at at
           (sym c.in-Some-handled.ensures.at);
     }
 
 pub loop-above-preserved : goal.loop-above-preserved
 loop-above-preserved c =
     c.loop-above.invariant
-    ∙ passed c.args.linked.now c.args.thrown c.args.stack.now c.loop-above.above c.in-Some.point (sym c.in-Some.ensures)
+    ∙ passed c.args.linked.now c.args.thrown c.args.stack.now c.loop-above.above c.in-Some.point
+    (sym c.in-Some.ensures)
     (sym c.in_default-handled.ensures.at)
-    ∙ ap (λ k. caught c.args.linked.now c.args.thrown (frames_of (drop k c.args.stack.now))) (sym (add-one c.loop-above.above))
+    ∙ ap (λ k. caught c.args.linked.now c.args.thrown (frames_of (drop k c.args.stack.now)))
+    (sym (add-one c.loop-above.above))
 
 pub returns-clause-uncaught : goal.returns-clause-uncaught
 returns-clause-uncaught c =
-    c.loop-above.invariant ∙ passed_all c.args.linked.now c.args.thrown c.args.stack.now c.loop-above.above (omega (arith, c.depth-above-end.ensures, c.loop-above.auto.above-end))
+    c.loop-above.invariant ∙ passed_all c.args.linked.now c.args.thrown c.args.stack.now
+    c.loop-above.above (omega (arith, c.depth-above-end.ensures, c.loop-above.auto.above-end))

@@ -5,4 +5,5 @@ use Rattle.par_unwinding.proofs.unwinding.landing_of.Given as goal
 
 abbrev pub invariant-loop-above : goal.invariant-loop-above
 invariant-loop-above l =
-    caught l.linked l.thrown (frames_of l.stack) ≡ caught l.linked l.thrown (frames_of (drop l.above l.stack))
+    caught l.linked l.thrown (frames_of l.stack)
+    ≡ caught l.linked l.thrown (frames_of (drop l.above l.stack))

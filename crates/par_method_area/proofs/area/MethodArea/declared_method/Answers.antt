@@ -7,13 +7,16 @@ use Rattle.par_method_area.proofs.area.MethodArea.declared_method.Goals as goal
 pub returns-in_err-row : goal.returns-in_err-row
 returns-in_err-row c =
     let i = c.self.inside in
-    absurd (row-there i.linked i.rows i.exceptions i.statics c.self.invariant c.args.declared c.in_ok-file.file.now c.in_ok-file.ensures.item (sym c.in_err-row.ensures.item))
+    absurd (row-there i.linked i.rows i.exceptions i.statics c.self.invariant c.args.declared
+    c.in_ok-file.file.now c.in_ok-file.ensures.item (sym c.in_err-row.ensures.item))
 
 pub returns-in_err-row-2 : goal.returns-in_err-row-2
 returns-in_err-row-2 c =
     let i = c.self.inside in
-    absurd (own-there i.linked i.rows i.exceptions i.statics c.self.invariant c.args.declared c.in_ok-row.row.now c.in_ok-file.file.now c.in_ok-method.method.now
-    c.in_ok-file.ensures.item c.in_ok-method.ensures.item (sym c.in_ok-row.ensures.item) (sym c.in_err-row-2.ensures.item))
+    absurd (own-there i.linked i.rows i.exceptions i.statics c.self.invariant c.args.declared
+    c.in_ok-row.row.now c.in_ok-file.file.now c.in_ok-method.method.now
+    c.in_ok-file.ensures.item c.in_ok-method.ensures.item (sym c.in_ok-row.ensures.item)
+    (sym c.in_err-row-2.ensures.item))
 
 pub returns : goal.returns
 returns c =
@@ -30,6 +33,9 @@ returns c =
       target = c.target_of.result;
     } in
     moved d c.self.view_is (Some x)
-    (method-found i.linked i.rows i.exceptions i.statics c.self.invariant d c.in_ok-row.row.now c.in_ok-file.file.now c.in_ok-method.method.now own x
-    c.in_ok-file.ensures.item c.in_ok-method.ensures.item (sym c.in_ok-row.ensures.item) (sym c.in_ok-row-2.ensures.item)
-    c.is_static.ensures refl refl refl c.as_slice.ensures.value c.gives_result.ensures c.target_of.ensures)
+    (method-found i.linked i.rows i.exceptions i.statics c.self.invariant d c.in_ok-row.row.now
+    c.in_ok-file.file.now c.in_ok-method.method.now own x
+    c.in_ok-file.ensures.item c.in_ok-method.ensures.item (sym c.in_ok-row.ensures.item)
+    (sym c.in_ok-row-2.ensures.item)
+    c.is_static.ensures refl refl refl c.as_slice.ensures.value c.gives_result.ensures
+    c.target_of.ensures)

@@ -12,14 +12,18 @@ pub returns-in-Field : goal.returns-in-Field
 returns-in-Field c =
     let files = c.args.self.now.files in
     let is : named.Field c.in-Field.declared ≡ named_at files c.args.class c.args.index =
-    c.in-Field.ensures ∙ ap (λ (a : Area). named_at a.files c.args.class c.args.index) c.self.view_is in
-    subst (λ (l : Link). KnowsField (class_names c.args.self.now.files) l c.declared_field.result) (linked files c.args.class c.args.index (named.Field c.in-Field.declared) is (λ none. cc none))
+    c.in-Field.ensures ∙ ap (λ (a : Area). named_at a.files c.args.class c.args.index)
+    c.self.view_is in
+    subst (λ (l : Link). KnowsField (class_names c.args.self.now.files) l c.declared_field.result)
+    (linked files c.args.class c.args.index (named.Field c.in-Field.declared) is (λ none. cc none))
     (c.declared_field.ensures)
 
 pub returns-in-Lock : goal.returns-in-Lock
 returns-in-Lock c =
     let files = c.args.self.now.files in
     let is : named.Lock c.in-Lock.number ≡ named_at files c.args.class c.args.index =
-    c.in-Lock.ensures ∙ ap (λ (a : Area). named_at a.files c.args.class c.args.index) c.self.view_is in
-    subst (λ (l : Link). KnowsField (class_names c.args.self.now.files) l (Some c.lock.result)) (linked files c.args.class c.args.index (named.Lock c.in-Lock.number) is (λ none. cc none))
+    c.in-Lock.ensures ∙ ap (λ (a : Area). named_at a.files c.args.class c.args.index)
+    c.self.view_is in
+    subst (λ (l : Link). KnowsField (class_names c.args.self.now.files) l (Some c.lock.result))
+    (linked files c.args.class c.args.index (named.Lock c.in-Lock.number) is (λ none. cc none))
     (c.lock.ensures)

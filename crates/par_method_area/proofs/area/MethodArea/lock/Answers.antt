@@ -28,5 +28,16 @@ returns c =
     let i = c.self.inside in
     let many = c.len-shared.ensures ∙ ap length c.self.invariant.statics ∙ all-count i.linked in
     subst (λ (a : Area). KnowsField (class_names a.files) (lock_link a.files c.args.number)
-    (Some (record { field = record { is_static = true; fit = fit.Number; place = c.len-shared.result - 256 + c.args.number }; owner = fit.Nothing; is_lock = true }))) c.self.view_is
-    (lock-found i.linked c.self.invariant.linked c.args.number (c.len-shared.result - 256 + c.args.number) (omega (arith, many)))
+    (Some
+    (record {
+      field =
+          record {
+            is_static = true;
+            fit = fit.Number;
+            place = c.len-shared.result - 256 + c.args.number;
+          };
+      owner = fit.Nothing;
+      is_lock = true;
+    }))) c.self.view_is
+    (lock-found i.linked c.self.invariant.linked c.args.number
+    (c.len-shared.result - 256 + c.args.number) (omega (arith, many)))

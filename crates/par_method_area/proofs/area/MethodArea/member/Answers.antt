@@ -11,14 +11,19 @@ pub returns-in-Field : goal.returns-in-Field
 returns-in-Field c =
     let files = c.args.self.now.files in
     let is : named.Field c.in-Field.declared ≡ named_at files c.args.class c.args.index =
-    c.in-Field.ensures ∙ ap (λ (a : Area). named_at a.files c.args.class c.args.index) c.self.view_is in
-    subst (λ (l : Link). KnowsNames l c.field_names.result) (linked files c.args.class c.args.index (named.Field c.in-Field.declared) is (λ none. cc none))
+    c.in-Field.ensures ∙ ap (λ (a : Area). named_at a.files c.args.class c.args.index)
+    c.self.view_is in
+    subst (λ (l : Link). KnowsNames l c.field_names.result)
+    (linked files c.args.class c.args.index (named.Field c.in-Field.declared) is (λ none. cc none))
     (c.field_names.ensures)
 
 pub returns-in-Method : goal.returns-in-Method
 returns-in-Method c =
     let files = c.args.self.now.files in
     let is : named.Method c.in-Method.declared ≡ named_at files c.args.class c.args.index =
-    c.in-Method.ensures ∙ ap (λ (a : Area). named_at a.files c.args.class c.args.index) c.self.view_is in
-    subst (λ (l : Link). KnowsNames l c.method_names.result) (linked files c.args.class c.args.index (named.Method c.in-Method.declared) is (λ none. cc none))
+    c.in-Method.ensures ∙ ap (λ (a : Area). named_at a.files c.args.class c.args.index)
+    c.self.view_is in
+    subst (λ (l : Link). KnowsNames l c.method_names.result)
+    (linked files c.args.class c.args.index (named.Method c.in-Method.declared) is
+    (λ none. cc none))
     (c.method_names.ensures)

@@ -12,6 +12,7 @@ overflow_cast-result c =
     let names = c.self.inside.names.items in
     let text = λ (name : Bor (List ℕ)). name.now in
     let same : length (map text names) ≡ length names = length-map names text in
-    let is : Some c.in-Some.place ≡ position (bytes_eq c.args.name.now) (texts names) = c.in-Some.ensures ∙ c.self.invariant.places c.args.name in
+    let is : Some c.in-Some.place ≡ position (bytes_eq c.args.name.now) (texts names) =
+    c.in-Some.ensures ∙ c.self.invariant.places c.args.name in
     let less = position-within (bytes_eq c.args.name.now) (texts names) c.in-Some.place (sym is) in
     omega (arith, same, less, c.self.invariant.few)

@@ -13,7 +13,8 @@ invariant_of-result c =
     let names = c.in_ok-names.names.items in
     let text = λ (name : Bor (List ℕ)). name.now in
     let same : length (map text names) ≡ length names = length-map names text in
-    let all : length (map text names) ≡ length c.args.files.now + 2 = ap length c.in_ok-names.ensures ∙ many c.args.files.now in
+    let all : length (map text names) ≡ length c.args.files.now + 2 =
+    ap length c.in_ok-names.ensures ∙ many c.args.files.now in
     record {
       few = omega (arith, same, all, c.requires);
       places = λ name.

@@ -1,0 +1,22 @@
+-- The instruction at an offset of code.
+use Rattle.std.specs.Prelude.{◌≡◌, ℕ, ◌-◌, ◌<◌, ◌≤◌, List, length, Option, Some, None}
+use Rattle.par_instr.specs.Decoding.{decoded_at}
+use Rattle.par_single.specs.Walk.{starts_at}
+use Rattle.par_starts.specs.declared.standing.Standing.{Standing}
+
+-- the instruction at an offset, with the offset behind it
+pub record Stands (code : List ℕ) (at : ℕ) (row : Standing) : Type 0 where
+  pub is : decoded_at code at ≡ Some (record { instr = row.instr; size = row.next - at })
+  pub forward : at < row.next
+  pub within : row.next ≤ length code
+  pub ahead : row.ahead ≡ starts_at code row.next
+
+-- an instruction stands at an offset, or none does; of long code it may not be told
+abbrev pub IsStanding : List ℕ → ℕ → Option Standing → Type 0
+IsStanding code at None = length code ≤ 65535 → decoded_at code at ≡ None
+IsStanding code at (Some row) = Stands code at row
+
+-- The same, of code that is not long.
+abbrev pub KnowsStanding : List ℕ → ℕ → Option Standing → Type 0
+KnowsStanding code at None = decoded_at code at ≡ None
+KnowsStanding code at (Some row) = (length code ≤ 65535) × Stands code at row
