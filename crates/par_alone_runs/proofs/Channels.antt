@@ -1,6 +1,6 @@
 -- Which input channels class files have is the same by both definitions.
-use Rattle.std.proofs.Common.{◌≡◌, Bool, true, false, not, ◌&&◌, List, codes, refl}
-use Rattle.std.specs.List.{list_any, position}
+use Rattle.std.proofs.Common.{◌≡◌, Bool, true, false, ◌&&◌, List, codes, refl}
+use Rattle.std.specs.List.{list_any}
 use Rattle.std.specs.Str.{bytes_eq}
 use Rattle.par_pool.specs.declared.constant.Constant.{Constant}
 use Rattle.par_class.specs.declared.file.MethodFile.{MethodFile}
@@ -10,7 +10,6 @@ use Rattle.par_single.specs.Descriptors.{Text}
 use Rattle.par_single.specs.Members.{text_at, own_name, is_static}
 use Rattle.par_single_machine.specs.Target as one
 use Rattle.par_link.specs.Inputs as other
-use Rattle.par_alone_runs.specs.Alike.{MisfitsAreAlike}
 
 ordered : (native static name input : Bool)
     → (native && static && input && name) ≡ (native && static && name && input)
@@ -33,7 +32,3 @@ has-alike files class name =
     λ i. list_any
     (λ (file : ClassFile). bytes_eq (own_name file) class
     && list_any (λ m. input-alike file.pool.entries name m i) file.methods) files
-
-pub misfits_alike : MisfitsAreAlike
-misfits_alike files lines =
-    λ i. position (λ line. not (has-alike files line.class line.channel i)) lines

@@ -9,7 +9,7 @@ use Rattle.par_single.specs.Descriptors.{Text}
 use Rattle.par_single.specs.Single.{runs_alone}
 use Rattle.par_single_machine.specs.State.{Frame, State, entered, method_code}
 use Rattle.par_single_machine.specs.Step.{Turn, Silent, Shows, Ends, IsBad, size_of, past, moved, state_with, returned, applied}
-use Rattle.par_single_machine.specs.Running.{is_boundary}
+use Rattle.par_single_machine.specs.Boundary.{is_boundary}
 use Rattle.par_single_machine.proofs.Boundaries.{code_walks, boundary_first, boundary_past}
 use Rattle.par_alone_runs.proofs.Plain.{IsPlain, HoldsPlain, Each, each-append, each-replicate, some-plain}
 use Rattle.par_alone_runs.proofs.Whole.{HasNoObject}

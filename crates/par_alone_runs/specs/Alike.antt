@@ -1,14 +1,11 @@
 -- What is said of a class file that runs by itself: one that is linked alone runs as it does.
-use Rattle.std.specs.Prelude.{◌≡◌, ℕ, List, [], ◌∷◌, IsTrue}
+use Rattle.std.specs.Prelude.{◌≡◌, ℕ, [], ◌∷◌, IsTrue}
 use Rattle.par_class.specs.declared.file.ClassFile.{ClassFile}
 use Rattle.par_values.specs.declared.inputs.Inputs.{Inputs}
-use Rattle.par_values.specs.declared.inputs.ChannelInput.{ChannelInput}
 use Rattle.par_single.specs.Descriptors.{Text}
 use Rattle.par_single.specs.Single.{runs_alone}
-use Rattle.par_single_machine.specs.Misfits as single_misfits
 use Rattle.par_single_machine.specs.Run as single
 use Rattle.par_single_machine.specs.Target as single_target
-use Rattle.par_link.specs.Inputs as linked_inputs
 use Rattle.par_steps.specs.Run as linked
 use Rattle.par_steps.specs.Target as linked_target
 
@@ -23,9 +20,3 @@ abbrev pub AloneIsOneTarget : Type 0
 AloneIsOneTarget =
     (file : ClassFile) (main : Text) → IsTrue (runs_alone file main)
     → linked_target.target (file ∷ []) main ≡ single_target.target (file ∷ []) main
-
--- of any files the same lines fit by both
-abbrev pub MisfitsAreAlike : Type 0
-MisfitsAreAlike =
-    (files : List ClassFile) (lines : List ChannelInput)
-    → linked_inputs.first_misfit files lines ≡ single_misfits.first_misfit files lines

@@ -6,4 +6,4 @@
 
 mod laws;
 
-pub use laws::{alone_runs_alike, misfits_are_alike};
+pub use laws::alone_runs_alike;

@@ -9,6 +9,8 @@ mod class_files;
 #[cfg(test)]
 mod compiling;
 #[cfg(test)]
+mod descriptors;
+#[cfg(test)]
 mod event_lines;
 #[cfg(test)]
 mod exits;
@@ -23,15 +25,25 @@ mod heaps;
 #[cfg(test)]
 mod input_files;
 #[cfg(test)]
+mod input_lines;
+#[cfg(test)]
 mod instructions;
+#[cfg(test)]
+mod landings;
 #[cfg(test)]
 mod lattice;
 #[cfg(test)]
+mod linked;
+#[cfg(test)]
 mod linked_files;
+#[cfg(test)]
+mod machine_places;
 #[cfg(test)]
 mod machine_runs;
 #[cfg(test)]
 mod meaning;
+#[cfg(test)]
+mod method_areas;
 #[cfg(test)]
 mod names;
 #[cfg(test)]
@@ -47,9 +59,9 @@ mod programs;
 #[cfg(test)]
 mod sentences;
 #[cfg(test)]
-mod single_files;
-#[cfg(test)]
 mod source_runs;
+#[cfg(test)]
+mod stacks;
 #[cfg(test)]
 mod table;
 #[cfg(test)]

@@ -1,8 +1,7 @@
 use crate::expect::expect;
+use crate::linked::linked;
 use par_inputs::read_inputs;
-use par_io::{MemFolder, NoMemory};
 use par_link::{Builtin, Declared, Linked, Named, inputs_fit};
-use par_loader::{Unloaded, linked_program, main_file};
 use std::alloc::Global;
 use std::test::Fail;
 
@@ -10,28 +9,6 @@ use std::test::Fail;
 // itself, 4 that of all objects, 11 the channel, and 13 the class of locks.
 const SHOP: &[u8] =
     b"\xca\xfe\xba\xbe\0\0\01\0\x0e\x01\0\x04Shop\x07\0\x01\x01\0\x10java/lang/Object\x07\0\x03\x01\0\x04main\x01\0\x03()V\x01\0\x04Code\x01\0\x03key\x01\0\x03()I\x0c\0\x08\0\x09\x0a\0\x02\0\x0a\x01\0\x0dparagon/Locks\x07\0\x0c\01\0\x02\0\x04\0\0\0\0\0\x02\0\x09\0\x05\0\x06\0\x01\0\x07\0\0\0\x0d\0\x02\0\0\0\0\0\x01\xb1\0\0\0\0\x01\x09\0\x08\0\x09\0\0\0\0";
-
-fn folder(alloc: Global) -> Result<MemFolder, NoMemory> {
-    let mut folder = MemFolder::new(alloc);
-    folder.add("Shop.class", SHOP)?;
-    Ok(folder)
-}
-
-// The files of the class, which link.
-fn shop(alloc: Global) -> Result<Linked, Unloaded> {
-    let Ok(mut folder) = folder(alloc) else {
-        return Err(Unloaded::Memory);
-    };
-    let file = main_file(alloc, &mut folder, "Shop")?;
-    linked_program(alloc, &mut folder, file)
-}
-
-fn linked(alloc: Global) -> Result<Linked, Fail> {
-    match shop(alloc) {
-        Ok(linked) => Ok(linked),
-        Err(_) => Err(Fail::new("the files link")),
-    }
-}
 
 // Whether the file at a place has so many methods, where there is one.
 fn has_methods(linked: &Linked, place: u16, many: Option<usize>) -> bool {
@@ -43,7 +20,7 @@ fn has_methods(linked: &Linked, place: u16, many: Option<usize>) -> bool {
 
 #[test]
 fn files_are_kept_by_their_places(rt: HostRuntime) -> Result<(), Fail> {
-    let linked = linked(rt.alloc())?;
+    let linked = linked(rt.alloc(), SHOP)?;
     expect(linked.files().len() == 1, "one file")?;
     expect(has_methods(&linked, 0, Some(2)), "its methods")?;
     expect(has_methods(&linked, 1, None), "no second file")
@@ -65,7 +42,7 @@ const NAMES: &[(&str, u16, Named)] = &[
 
 #[test]
 fn indices_name_places(rt: HostRuntime) -> Result<(), Fail> {
-    let linked = linked(rt.alloc())?;
+    let linked = linked(rt.alloc(), SHOP)?;
     for (name, index, named) in NAMES {
         expect(linked.named(0, *index) == *named, name)?;
     }
@@ -91,7 +68,7 @@ fn fits(alloc: Global, linked: &Linked, lines: &[u8], place: Option<u32>) -> boo
 
 #[test]
 fn lines_of_no_input_channel_do_not_fit(rt: HostRuntime) -> Result<(), Fail> {
-    let linked = linked(rt.alloc())?;
+    let linked = linked(rt.alloc(), SHOP)?;
     for (lines, place) in LINES {
         expect(fits(rt.alloc(), &linked, lines, *place), "its first line")?;
     }

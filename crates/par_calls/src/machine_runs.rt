@@ -1,13 +1,14 @@
-ghost use Rattle.std.specs.Prelude.{◌≤◌, length};
+ghost use Rattle.std.specs.Prelude.{◌≡◌, IfOk};
+ghost use Rattle.par_machine.specs.Machine.{steps_of};
 
 use crate::expect::expect;
-use par_class::{ClassFile, read_class};
+use crate::linked::linked;
+use crate::machine_places;
 use par_lexer::list::List;
 use par_lexer::name::Name;
-use par_single::runs_alone;
-use par_single_machine::inputs_fit;
-use par_single_machine::machine::Machine;
-use par_single_machine::turn::{Stuck, Turn};
+use par_link::{Linked, inputs_fit};
+use par_machine::machine::Machine;
+use par_machine::turn::{Stuck, Turn};
 use par_values::inputs::{ChannelInput, Inputs};
 use par_values::run::{Ending, Event, Val};
 use std::alloc::Global;
@@ -89,18 +90,13 @@ fn inputs(alloc: Global, channel: Name) -> Result<Inputs, Fail> {
     Ok(Inputs { channels })
 }
 
-// A machine for these bytes, where they are a class file that runs by itself.
+// A machine for these bytes, where they are a class file that links.
 fn machine(alloc: Global, bytes: &[u8]) -> Result<Machine, Fail>
-    requires { length bytes.now ≤ 1048576 }
+    ensures { IfOk result (λ machine. steps_of machine ≡ 0) }
 {
-    let Ok(file) = read_class(alloc, bytes) else {
-        return Err(Fail::from("the bytes are a class file"));
-    };
-    if !runs_alone(&file, b"Shop") {
-        return Err(Fail::from("the file runs by itself"));
-    }
+    let linked = linked(alloc, bytes)?;
     let inputs = inputs(alloc, Name::new(alloc, b"ask")?)?;
-    Ok(Machine::start_one(alloc, file, inputs)?)
+    Ok(machine_places::machine(alloc, linked, inputs)?)
 }
 
 // The number that an event shows.
@@ -113,8 +109,10 @@ fn number_of(event: &Event) -> Option<i32> {
 }
 
 // Runs to the end, and answers where bad code is met.
-fn run(machine: &mut Machine, numbers: &mut Vec<i32>) -> Result<Option<(u32, u8)>, Fail> {
-    for _step in 0..100 {
+fn run(machine: &mut Machine, numbers: &mut Vec<i32>) -> Result<Option<(u32, u8)>, Fail>
+    requires { steps_of machine.old ≡ 0 }
+{
+    for _step in 0..100_u32 {
         match machine.step() {
             Ok(Turn::Silent) => {}
             Ok(Turn::Happened(event)) => {
@@ -136,9 +134,6 @@ fn code_makes(
     bad: Option<(u32, u8)>,
 ) -> Result<bool, Fail> {
     let bytes = bytes_with(alloc, code)?;
-    if bytes.len() > 1000 {
-        return Ok(false);
-    }
     let mut machine = machine(alloc, bytes.as_slice())?;
     let mut numbers = Vec::new(alloc);
     let met = run(&mut machine, &mut numbers)?;
@@ -159,27 +154,20 @@ const CHANNELS: &[(&str, &[u8], Option<u32>)] = &[
 ];
 
 // Whether an input for this channel of the class fits.
-fn fits(alloc: Global, file: &ClassFile, channel: &[u8], unfit: Option<u32>) -> Result<bool, Fail> {
+fn fits(alloc: Global, linked: &Linked, channel: &[u8], unfit: Option<u32>) -> Result<bool, Fail> {
     if !Name::is_name(channel) {
         return Ok(false);
     }
     let inputs = inputs(alloc, Name::new(alloc, channel)?)?;
-    Ok(inputs_fit(file, &inputs) == unfit)
-}
-
-fn file_of(alloc: Global, bytes: &[u8]) -> Result<ClassFile, Fail> {
-    if bytes.len() > 1000 {
-        return Err(Fail::new("the file is short"));
-    }
-    Ok(read_class(alloc, bytes)?)
+    Ok(inputs_fit(linked, &inputs) == unfit)
 }
 
 #[test]
 fn channels_are_looked_for(rt: HostRuntime) -> Result<(), Fail> {
     let bytes = bytes_with(rt.alloc(), b"\xb1")?;
-    let file = file_of(rt.alloc(), bytes.as_slice())?;
+    let linked = linked(rt.alloc(), bytes.as_slice())?;
     for (name, channel, unfit) in CHANNELS {
-        expect(fits(rt.alloc(), &file, channel, *unfit)?, name)?;
+        expect(fits(rt.alloc(), &linked, channel, *unfit)?, name)?;
     }
     Ok(())
 }

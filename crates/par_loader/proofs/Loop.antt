@@ -1,5 +1,5 @@
 -- Loading as a loop goes on.
-use Rattle.std.proofs.Common.{◌≡◌, ℕ, zero, suc, ◌+◌, ◌-◌, ◌<◌, ◌≤◌, List, [], ◌∷◌, ◌++◌, length, Option, Some, None, Result, Ok, Err, IsErrAnd, refl, sym, ap, subst, ◌∙◌, arith}
+use Rattle.std.proofs.Common.{◌≡◌, ℕ, zero, suc, ◌+◌, ◌-◌, ◌<◌, ◌≤◌, List, [], ◌∷◌, ◌++◌, length, slice_get, Option, Some, None, Result, Ok, Err, IsErrAnd, refl, sym, ap, subst, ◌∙◌, arith}
 use Rattle.std.proofs.lemmas.List.{length-append}
 use Rattle.std.proofs.lemmas.List.Elements.{All-push}
 use Rattle.std.specs.List.{All}
@@ -12,13 +12,13 @@ use Rattle.par_loader.specs.declared.loading.Loading.{Loading}
 use Rattle.par_loader.specs.Reads.{Text, WasFound, IsSpelled}
 use Rattle.par_loader.specs.Mentions.{Naming, next_named}
 use Rattle.par_loader.specs.Loaded.{Loaded, whole, Load, step, loaded}
-use Rattle.par_loader.specs.Ends.{IsRead, Steps, Unended, comes_to, Loads, main_of}
+use Rattle.par_loader.specs.Ends.{IsRead, Steps, Unended, comes_to, Loads}
 use Rattle.par_loader.proofs.Counting.{makes_both, at_most, none_falls, falls_never, makes_none}
 use Rattle.par_loader.proofs.SoFar.{IsSoFar, begun, gone_on, ended, now, now_of, none_left, all_read}
 use Rattle.par_loader.proofs.Ended.{ended_all}
 
 -- So many files were read, all but the first by reads that were made since then.
-pub record IsLoading (files : Option Files) (main : Text) (fs : List ClassFile) (count : ℕ) (before now : FolderCounts) : Type 0 where
+pub record IsLoading (files : Option Files) (file : ClassFile) (fs : List ClassFile) (count : ℕ) (before now : FolderCounts) : Type 0 where
   pub reads : ℕ
   pub counted : count ≡ suc reads
   pub many : length fs ≡ count
@@ -26,18 +26,18 @@ pub record IsLoading (files : Option Files) (main : Text) (fs : List ClassFile) 
   pub makes : Makes reads 0 before now
   pub falls : NoneFalls before now
   pub spelled : All IsSpelled fs
-  pub first : main_of fs ≡ main
-  pub so_far : IsSoFar files main fs (129 - count)
+  pub first : slice_get fs 0 ≡ Some file
+  pub so_far : IsSoFar files (own_name file) fs (129 - count)
 
 one_spelled : (f : ClassFile) → IsSpelled f → All IsSpelled (f ∷ [])
 one_spelled f h zero d within = h
 one_spelled f h (suc n) d within = absurd (omega arith)
 
-same_first : (fs : List ClassFile) (f : ClassFile) → 0 < length fs → main_of (fs ++ f ∷ []) ≡ main_of fs
-same_first [] f some = absurd (omega (arith, some))
-same_first (x ∷ xs) f some = refl
+same_first : (fs : List ClassFile) (f first : ClassFile) → slice_get fs 0 ≡ Some first → slice_get (fs ++ f ∷ []) 0 ≡ Some first
+same_first [] f first is = absurd (cc is)
+same_first (x ∷ xs) f first is = is
 
-pub begins : (files : Option Files) (f : ClassFile) (fs : List ClassFile) (counts : FolderCounts) → IsRead files f → fs ≡ f ∷ [] → IsLoading files (own_name f) fs 1 counts counts
+pub begins : (files : Option Files) (f : ClassFile) (fs : List ClassFile) (counts : FolderCounts) → IsRead files f → fs ≡ f ∷ [] → IsLoading files f fs 1 counts counts
 begins files f fs counts read is = record {
   reads = 0;
   counted = refl;
@@ -46,12 +46,15 @@ begins files f fs counts read is = record {
   makes = makes_none counts;
   falls = falls_never counts;
   spelled = subst (All IsSpelled) (sym is) (one_spelled f (read.bytes, read.spells));
-  first = ap main_of is;
+  first = ap (λ (xs : List ClassFile). slice_get xs 0) is;
   so_far = subst (λ (xs : List ClassFile). IsSoFar files (own_name f) xs 128) (sym is) (begun files f read);
 }
 
-module _ (files : Option Files) (main : Text) (fs : List ClassFile) (count : ℕ) (before between after : FolderCounts) (h : IsLoading files main fs count before between)
+module _ (files : Option Files) (file : ClassFile) (fs : List ClassFile) (count : ℕ) (before between after : FolderCounts) (h : IsLoading files file fs count before between)
     (left : count < 129) (m : Naming) (next : next_named fs ≡ Some m) where
+  abbrev main : Text
+  main = own_name file
+
   more_left : 129 - count ≡ suc (129 - (count + 1))
   more_left = omega (arith, left)
 
@@ -59,7 +62,7 @@ module _ (files : Option Files) (main : Text) (fs : List ClassFile) (count : ℕ
   so_far = subst (IsSoFar files main fs) more_left h.so_far
 
   pub goes : (f : ClassFile) (all : List ClassFile) → ((o : Option Text) × WasFound files m.name o × Steps (step m o) between after (Ok f)) → own_name f ≡ m.name → IsSpelled f
-      → NoneFalls between after → all ≡ fs ++ f ∷ [] → IsLoading files main all (count + 1) before after
+      → NoneFalls between after → all ≡ fs ++ f ∷ [] → IsLoading files file all (count + 1) before after
   goes f all stepped own spelled falls is =
       let longer : length (fs ++ f ∷ []) ≡ length fs + 1 = length-append fs (f ∷ []) in
       record {
@@ -70,7 +73,7 @@ module _ (files : Option Files) (main : Text) (fs : List ClassFile) (count : ℕ
         makes = makes_both h.reads 1 before between after h.makes stepped.2.1;
         falls = none_falls before between after h.falls falls;
         spelled = subst (All IsSpelled) (sym is) (All-push IsSpelled fs f h.spelled spelled);
-        first = ap main_of is ∙ same_first fs f (let c = h.counted in let n = h.many in omega (arith, c, n)) ∙ h.first;
+        first = ap (λ (xs : List ClassFile). slice_get xs 0) is ∙ same_first fs f file h.first;
         so_far = subst (λ (xs : List ClassFile). IsSoFar files main xs (129 - (count + 1))) (sym is)
             (gone_on files main fs (129 - (count + 1)) m stepped.0 so_far next stepped.1 f stepped.2.0 own);
       }
@@ -106,7 +109,7 @@ module _ (files : Option Files) (main : Text) (fs : List ClassFile) (count : ℕ
             (at_most (1 + h.reads) 128 before after (omega (arith, counted, left)) (makes_both h.reads 1 before between after h.makes stepped.2.1)),
       )
 
-module _ (files : Option Files) (main : Text) (loading : Loading) (count : ℕ) (before after : FolderCounts) (h : IsLoading files main loading.files count before after) where
+module _ (files : Option Files) (file : ClassFile) (loading : Loading) (count : ℕ) (before after : FolderCounts) (h : IsLoading files file loading.files count before after) where
   same_count : length loading.files ≡ suc h.reads
   same_count = h.many ∙ h.counted
 
@@ -114,14 +117,14 @@ module _ (files : Option Files) (main : Text) (loading : Loading) (count : ℕ) 
   load_of reads = record { reads = reads; end = whole loading.files }
 
   -- nothing more is named
-  pub ends_named : next_named loading.files ≡ None → Loads files main before after (Ok loading)
+  pub ends_named : next_named loading.files ≡ None → Loads files (own_name file) before after (Ok loading)
   unfolding load_of
-  ends_named none = (h.so_far.classes, h.so_far.of, (h.reads, h.makes, none_left files main loading.files (129 - count) h.so_far none ∙ ap load_of same_count, same_count))
+  ends_named none = (h.so_far.classes, h.so_far.of, (h.reads, h.makes, none_left files (own_name file) loading.files (129 - count) h.so_far none ∙ ap load_of same_count, same_count))
 
   -- no more is read
-  pub ends_read : 129 ≤ count → Loads files main before after (Ok loading)
+  pub ends_read : 129 ≤ count → Loads files (own_name file) before after (Ok loading)
   unfolding load_of
   ends_read all =
       let done : 129 - count ≡ 0 = omega (arith, all) in
-      let last : IsSoFar files main loading.files 0 = subst (IsSoFar files main loading.files) done h.so_far in
-      (last.classes, last.of, (h.reads, h.makes, all_read files main loading.files last ∙ ap load_of same_count, same_count))
+      let last : IsSoFar files (own_name file) loading.files 0 = subst (IsSoFar files (own_name file) loading.files) done h.so_far in
+      (last.classes, last.of, (h.reads, h.makes, all_read files (own_name file) loading.files last ∙ ap load_of same_count, same_count))

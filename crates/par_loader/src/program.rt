@@ -1,6 +1,6 @@
 //! All class files of a program.
 
-ghost use Rattle.std.specs.Prelude.{◌≡◌, ◌≤◌, ◌<◌, Option, Some, IfOk, IsTrue, length};
+ghost use Rattle.std.specs.Prelude.{◌≡◌, ◌≤◌, ◌<◌, Option, Some, IfOk, IsTrue, length, slice_get};
 ghost use Rattle.std.specs.List.{All};
 ghost use Rattle.par_io.specs.Causes.{Makes, NoneFalls};
 ghost use Rattle.par_lexer.specs.Names.{IsName};
@@ -9,7 +9,7 @@ ghost use Rattle.par_loader.specs.Reads.{Text, WasFound, IsSpelled};
 ghost use Rattle.par_loader.specs.Mentions.{naming};
 ghost use Rattle.par_loader.specs.Loaded.{step};
 ghost use Rattle.par_loader.specs.Judged.{is_main, has_main, begins};
-ghost use Rattle.par_loader.specs.Ends.{IsBadAs, AnswersFor, AnswersFirst, Steps, StepsFirst, IsRead, Loads, main_of, Links, Judges, FaultsStand};
+ghost use Rattle.par_loader.specs.Ends.{IsBadAs, AnswersFor, AnswersFirst, Steps, StepsFirst, IsRead, Loads, Links, Judges, FaultsStand};
 
 use crate::error::Unloaded;
 use crate::found::{Unfound, class_file};
@@ -141,7 +141,7 @@ fn loading_of<F: Folder>(
     ensures none_falls { NoneFalls (F.counts folder.old) (F.counts folder.new) }
     ensures faults_are_told { IsTrue F.counts_faults_alone →
         FaultsStand result (F.counts folder.old).faults (F.counts folder.new).faults }
-    ensures first { IfOk result (λ loading. main_of loading.files ≡ members.own_name file) }
+    ensures first { IfOk result (λ loading. slice_get loading.files 0 ≡ Some file) }
     ensures some { IfOk result (λ loading. 0 < length loading.files) }
     ensures few { IfOk result (λ loading. length loading.files ≤ MOST_READ) }
     ensures spelled { IfOk result (λ loading. All IsSpelled loading.files) }
@@ -193,7 +193,9 @@ fn linked(alloc: Global, loading: Loading) -> Result<Linked, Unloaded>
     requires some { 0 < length loading.files }
     requires few { length loading.files ≤ MOST_READ }
     requires spelled { All IsSpelled loading.files }
-    ensures { Links loading.files result }
+    ensures links { Links loading.files result }
+    ensures files { IfOk result (λ linked. linked ≡ loading.files) }
+    ensures begun { IfOk result (λ linked. IsTrue (begins linked)) }
 {
     let Loading { files, names, .. } = loading;
     match link(alloc, files) {
@@ -229,6 +231,8 @@ pub fn linked_program<F: Folder>(
         FaultsStand result (F.counts folder.old).faults (F.counts folder.new).faults }
     ensures judges { Judges (F.files folder.old) (members.own_name file)
         (F.counts folder.old) (F.counts folder.new) result }
+    ensures first { IfOk result (λ linked. slice_get linked 0 ≡ Some file) }
+    ensures begun { IfOk result (λ linked. IsTrue (begins linked)) }
 {
     let loading = loading_of(alloc, folder, file)?;
     linked(alloc, loading)

@@ -17,15 +17,25 @@ mod faults;
 #[cfg(test)]
 mod flow_refusals;
 #[cfg(test)]
+mod hand_made;
+#[cfg(test)]
 mod limits;
 #[cfg(test)]
 mod linking;
 #[cfg(test)]
 mod loading;
 #[cfg(test)]
+mod machine_runs;
+#[cfg(test)]
 mod name_refusals;
 #[cfg(test)]
 mod names;
+#[cfg(test)]
+mod numbers;
+#[cfg(test)]
+mod objects;
+#[cfg(test)]
+mod programs;
 #[cfg(test)]
 mod reasons;
 #[cfg(test)]

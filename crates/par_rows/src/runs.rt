@@ -1,7 +1,7 @@
 //! Runs of class files that were compiled, on input files.
 
 use crate::call::{
-    Answer, KEY_42, NOT_BUILT, Row, SHOWS_KEY, answers, check_rows, compiled, expect, with_line,
+    Answer, KEY_42, Row, SHOWS_KEY, answers, check_rows, compiled, expect, with_line,
 };
 use par_io::{MemFolder, NoMemory};
 use std::alloc::Global;
@@ -235,7 +235,11 @@ const CODES: &[(&str, &[u8], Answer)] = &[
         b"\x03\x03",
         ("bad code Shop.main 1 3\n", 14),
     ),
-    ("pop is not listed", b"\x57\xb1", NOT_BUILT),
+    (
+        "pop: an operand is missing",
+        b"\x57\xb1",
+        ("bad code Shop.main 0 1\n", 14),
+    ),
     ("iconst_0, return", b"\x03\xb1", ("end\n", 0)),
 ];
 

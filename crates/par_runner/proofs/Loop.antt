@@ -1,33 +1,30 @@
 -- What the loop over instructions keeps: the run is under way, and what is put tells of it.
-use Rattle.std.proofs.Common.{◌≡◌, ℕ, suc, ◌+◌, ◌-◌, ◌<◌, ◌≤◌, List, Option, Err, Bool, refl, sym, ap, subst, ◌∙◌, inl, inr, arith}
+use Rattle.std.proofs.Common.{◌≡◌, ℕ, suc, ◌+◌, ◌-◌, ◌<◌, ◌≤◌, Option, Err, Bool, refl, sym, ap, subst, ◌∙◌, inl, inr, arith}
 use Rattle.std.specs.Prelude.{IsTrue}
-use Rattle.par_io.specs.Causes.{SinkCounts, Rose, raised, appended}
+use Rattle.par_io.specs.Causes.{SinkCounts, Rose}
 use Rattle.par_io.specs.Saying.{IsLeftOff, Said, cut, unsaid}
-use Rattle.par_values.specs.declared.run.Event.{Event}
-use Rattle.par_values.specs.Ran.{ended, stopped}
-use Rattle.par_class.specs.declared.file.ClassFile.{ClassFile}
-use Rattle.par_single_machine.specs.declared.machine.Machine.{Machine}
-use Rattle.par_single_machine.specs.Machine.{files_of, state_of}
-use Rattle.par_single_machine.specs.State.{State}
-use Rattle.par_single_machine.specs.Step.{Turn, Silent, Shows, turn}
-use Rattle.par_single_machine.specs.Run.{run, followed}
+use Rattle.par_values.specs.Ran.{Ran, ended, stopped}
+use Rattle.par_machine.specs.declared.machine.Machine.{Machine}
+use Rattle.par_machine.specs.Machine.{steps_of}
 use Rattle.par_runner.specs.declared.telling.Closing.{Closing}
 use Rattle.par_runner.specs.declared.telling.Untold.{Untold}
 use Rattle.par_runner.specs.declared.telling.Untold.TheVariants.{Fault, Memory}
-use Rattle.par_runner.specs.Texts.{Text, line, event_text, lines, status}
+use Rattle.par_runner.specs.Texts.{Text, lines, status}
+use Rattle.par_runner.specs.Outcome.{outcome}
+use Rattle.par_runner.specs.Running.{runs_of}
 use Rattle.par_runner.specs.Progress.{IsUnderWay}
-use Rattle.par_runner.specs.Telling.{GoesOn, silently, happened, ClosesBy, IsCutAt, IsUntoldTurn, PutsAreTold, IsTold, IsCutOff, Closes, closed, unclosed, status_of_untold, outcome}
-use Rattle.par_runner.proofs.UnderWay.{begun, goes_on, happens, cut_short, first_lines, ends, ends_short}
+use Rattle.par_runner.specs.Telling.{GoesOn, silently, happened, ClosesBy, IsUntoldTurn, PutsAreTold, IsTold, IsCutOff, Closes, closed, unclosed, status_of_untold}
+use Rattle.par_runner.proofs.UnderWay.{begun, goes_on, happens, unput, cut_short, first_lines, ends, ends_short}
 
-pub record IsTelling (alone : Bool) (files : List ClassFile) (steps done : ℕ) (first : State) (m : Machine) (old held : Option Text) (before after : SinkCounts) : Type 0 where
-  pub same : files_of m ≡ files
-  pub way : IsUnderWay files steps (steps - done) first (state_of m) old held before.puts after.puts
+pub record IsTelling (alone : Bool) (first : Machine) (steps done : ℕ) (m : Machine) (old held : Option Text) (before after : SinkCounts) : Type 0 where
+  pub way : IsUnderWay (runs_of first steps) (runs_of m (steps - done)) old held before.puts after.puts
   pub few : done ≤ steps
+  pub spent : steps_of m ≤ steps_of first + done
   pub grows : before.faults ≤ after.faults
   pub faults : IsTrue alone → after.faults ≡ before.faults
 
 -- a count that rose behind another point rose behind an earlier one
-pub rose_since : (a b c : ℕ) → a ≤ b → Rose b c → Rose a c
+rose_since : (a b c : ℕ) → a ≤ b → Rose b c → Rose a c
 rose_since a b c le (inl less) = inl (omega arith)
 rose_since a b c le (inr last) = inr last
 
@@ -36,102 +33,82 @@ pub told_since : (u : Untold) (a b c : ℕ) → b ≡ a → PutsAreTold {T = Clo
 told_since Fault a b c stand told = tt
 told_since Memory a b c stand told = told ∙ stand
 
-module _ (alone : Bool) (files : List ClassFile) (steps : ℕ) (first : State) (old : Option Text) (before : SinkCounts) where
-  pub begins : (m : Machine) → files_of m ≡ files → state_of m ≡ first → IsTelling alone files steps 0 first m old old before before
-  begins m same state = record {
-    same = same;
-    way = let all : steps ≡ steps - 0 = omega arith in subst (λ n. IsUnderWay files steps n first (state_of m) old old before.puts before.puts) all (subst (λ s. IsUnderWay files steps steps first s old old before.puts before.puts) (sym state) (begun files steps first old before));
+module _ (alone : Bool) (first : Machine) (steps : ℕ) (old : Option Text) (before : SinkCounts) where
+  abbrev ran : Ran
+  ran = runs_of first steps
+
+  pub begins : IsTelling alone first steps 0 first old old before before
+  begins = record {
+    way = let all : steps ≡ steps - 0 = omega arith in subst (λ n. IsUnderWay ran (runs_of first n) old old before.puts before.puts) all (begun ran old before);
     few = omega arith;
+    spent = omega arith;
     grows = omega arith;
     faults = λ only. refl;
   }
 
-  module _ (done : ℕ) (m : Machine) (held : Option Text) (after : SinkCounts) (h : IsTelling alone files steps done first m old held before after) where
-    -- the turn of the machine, over the files of the run
-    turned : (t : Turn) → turn (files_of m) (state_of m) ≡ t → turn files (state_of m) ≡ t
-    turned t is = subst (λ fs. turn fs (state_of m) ≡ t) h.same is
-
+  module _ (done : ℕ) (m : Machine) (held : Option Text) (after : SinkCounts) (h : IsTelling alone first steps done m old held before after) where
     -- one more instruction is left
-    more : done < steps → IsUnderWay files steps (suc (steps - (done + 1))) first (state_of m) old held before.puts after.puts
-    more less = let e : steps - done ≡ suc (steps - (done + 1)) = omega arith in subst (λ n. IsUnderWay files steps n first (state_of m) old held before.puts after.puts) e h.way
+    more : done < steps → IsUnderWay ran (runs_of m (suc (steps - (done + 1)))) old held before.puts after.puts
+    more less = let e : steps - done ≡ suc (steps - (done + 1)) = omega arith in subst (λ n. IsUnderWay ran (runs_of m n) old held before.puts after.puts) e h.way
 
-    -- nothing was put since
-    unput : (n : ℕ) (now : State) (held' : Option Text) (after' : SinkCounts) → after'.puts ≡ after.puts → held' ≡ held
-        → IsUnderWay files steps n first now old held before.puts after.puts → IsUnderWay files steps n first now old held' before.puts after'.puts
-    unput n now held' after' counts same way = record { events = way.events; is_run = way.is_run; told = same ∙ way.told; counted = counts ∙ way.counted }
+    next_way : (n : Machine) → done < steps → (held' : Option Text) (after' : SinkCounts) → GoesOn (runs_of m) (runs_of n) held held' after after'
+        → IsUnderWay ran (runs_of n (steps - (done + 1))) old held' before.puts after'.puts
+    next_way n less held' after' (silently is counts same) =
+        let left = steps - (done + 1) in
+        unput ran old before (runs_of n left) held held' after.puts after'.puts counts same
+        (goes_on ran old before (runs_of m (suc left)) (runs_of n left) held after.puts (is left) (more less))
+    next_way n less held' after' (happened e is counts put) =
+        let left = steps - (done + 1) in
+        happens ran old before (runs_of m (suc left)) (runs_of n left) held held' after.puts after'.puts e (is left) put counts (more less)
 
-    silent : (n : Machine) → done < steps → files_of n ≡ files_of m → turn (files_of m) (state_of m) ≡ Silent (state_of n)
-        → (held' : Option Text) (after' : SinkCounts) → after'.puts ≡ after.puts → held' ≡ held → after.faults ≤ after'.faults → (IsTrue alone → after'.faults ≡ after.faults)
-        → IsTelling alone files steps (done + 1) first n old held' before after'
-    silent n less kept is held' after' counts same rises stand = record {
-      same = kept ∙ h.same;
-      way = unput (steps - (done + 1)) (state_of n) held' after' counts same
-          (goes_on files steps first old before (steps - (done + 1)) (state_of m) (state_of n) held after.puts (turned (Silent (state_of n)) is) (more less));
+    pub keeps : (n : Machine) (held' : Option Text) (after' : SinkCounts) → done < steps → steps_of n ≡ steps_of m + 1 → after.faults ≤ after'.faults
+        → (IsTrue alone → after'.faults ≡ after.faults)
+        → GoesOn (runs_of m) (runs_of n) held held' after after' → IsTelling alone first steps (done + 1) n old held' before after'
+    keeps n held' after' less spent rises stand on = record {
+      way = next_way n less held' after' on;
       few = omega arith;
+      spent = (let s = h.spent in omega (arith, s, spent));
       grows = (let g = h.grows in omega (arith, g, rises));
       faults = λ only. stand only ∙ h.faults only;
     }
 
-    told : (n : Machine) (e : Event) (held' : Option Text) (after' : SinkCounts) → done < steps → files_of n ≡ files_of m
-        → turn (files_of m) (state_of m) ≡ Shows e (state_of n) → after'.puts ≡ raised after.puts → held' ≡ appended held (line (event_text e))
-        → after.faults ≤ after'.faults → (IsTrue alone → after'.faults ≡ after.faults)
-        → IsTelling alone files steps (done + 1) first n old held' before after'
-    told n e held' after' less kept is counts put rises stand = record {
-      same = kept ∙ h.same;
-      way = happens files steps first old before (steps - (done + 1)) (state_of m) (state_of n) held held' after.puts after'.puts e (turned (Shows e (state_of n)) is) put counts (more less);
-      few = omega arith;
-      grows = (let g = h.grows in omega (arith, g, rises));
-      faults = λ only. stand only ∙ h.faults only;
-    }
-
-    pub keeps : (n : Machine) (held' : Option Text) (after' : SinkCounts) → done < steps → files_of n ≡ files_of m → after.faults ≤ after'.faults → (IsTrue alone → after'.faults ≡ after.faults)
-        → GoesOn (turn (files_of m) (state_of m)) (state_of n) held held' after after' → IsTelling alone files steps (done + 1) first n old held' before after'
-    keeps n held' after' less kept rises stand (silently is counts same) = silent n less kept is held' after' counts same rises stand
-    keeps n held' after' less kept rises stand (happened e is counts put) = told n e held' after' less kept is counts put rises stand
-
-    pub cuts : (u : Untold) (held' : Option Text) (after' : SinkCounts) → done < steps → IsUntoldTurn (turn (files_of m) (state_of m)) held held' after after' u
-        → IsCutOff (lines (run files steps first)) old held' before after' u
+    pub cuts : (u : Untold) (held' : Option Text) (after' : SinkCounts) → done < steps → IsUntoldTurn (runs_of m) held held' after after' u
+        → IsCutOff (lines ran) old held' before after' u
     cuts Fault held' after' less at =
-        cut_short files steps first old before after' after.puts (steps - (done + 1)) (state_of m) at.later held held' at.event (turned (Shows at.event at.later) at.is)
+        let left = steps - (done + 1) in
+        cut_short ran old before after' after.puts (runs_of m (suc left)) (at.later left) held held' at.event (at.is left)
         (rose_since before.faults after.faults after'.faults h.grows at.rose) at.puts at.front (more less)
     cuts Memory held' after' less at =
-        first_lines files steps first old before after' after'.puts (steps - done) (state_of m) held' refl (unput (steps - done) (state_of m) held' after' at.0 at.1 h.way)
+        let left = runs_of m (steps - done) in
+        first_lines ran old before after' after'.puts left held' refl (unput ran old before left held held' after.puts after'.puts at.0 at.1 h.way)
 
-    -- the machine's turn closes the run
-    pub closes : (c : Closing) (held' : Option Text) (after' : SinkCounts) → done < steps → ClosesBy (turn (files_of m) (state_of m)) c held held' after after' → IsTold files steps first old held' before after' c
-    closes c held' after' less by = record {
-      rest = suc (steps - (done + 1));
-      now = state_of m;
-      closes = ap (λ u. followed u (run files (steps - (done + 1)))) (turned (turn (files_of m) (state_of m)) refl) ∙ by.closed (run files (steps - (done + 1)));
-      way = unput (suc (steps - (done + 1))) (state_of m) held' after' by.puts by.kept (more less);
-    }
+    -- the machine closes the run
+    pub closes : (c : Closing) (held' : Option Text) (after' : SinkCounts) → done < steps → ClosesBy (runs_of m) c held held' after after' → IsTold ran old held' before after' c
+    closes c held' after' less by =
+        let left = steps - (done + 1) in
+        unput ran old before (ended (outcome c)) held held' after.puts after'.puts by.puts by.kept
+        (goes_on ran old before (runs_of m (suc left)) (ended (outcome c)) held after.puts (by.closed left) (more less))
 
     -- no instruction is left
-    pub stops : (c : Closing) → steps ≤ done → stopped ≡ ended (outcome c) → IsTold files steps first old held before after c
-    stops c le is = record {
-      rest = 0;
-      now = state_of m;
-      closes = is;
-      way = let e : steps - done ≡ 0 = omega arith in subst (λ n. IsUnderWay files steps n first (state_of m) old held before.puts after.puts) e h.way;
-    }
+    pub stops : (c : Closing) → steps ≤ done → stopped ≡ ended (outcome c) → IsTold ran old held before after c
+    stops c le is =
+        let e : steps - done ≡ 0 = omega arith in
+        goes_on ran old before (runs_of m (steps - done)) (ended (outcome c)) held after.puts (ap (runs_of m) e ∙ is) h.way
 
 -- ---- from the end of the loop to what is said
 
-module _ (files : List ClassFile) (steps : ℕ) (first : State) (old : Option Text) where
+module _ (ran : Ran) (old : Option Text) where
   pub said_closed : (c : Closing) (mid new : Option Text) (result : ℕ) (before between after : SinkCounts) → before.faults ≤ between.faults
-      → IsTold files steps first old mid before between c → Closes c result mid new between after
-      → Said (status (run files steps first).ending) (lines (run files steps first)) result old new before after
+      → IsTold ran old mid before between c → Closes c result mid new between after → Said (status ran.ending) (lines ran) result old new before after
   said_closed c mid new result before between after le told (closed is counts put) =
-      ends files steps first old before after between.puts told.rest told.now mid new (outcome c) result told.closes is counts put told.way
+      ends ran old before after between.puts mid new (outcome c) result is counts put told
   said_closed c mid new result before between after le told (unclosed Fault is untold) =
-      cut is (ends_short files steps first old before after between.puts told.rest told.now mid new (outcome c) told.closes
-      (rose_since before.faults between.faults after.faults le untold.0) untold.1 untold.2 told.way)
+      cut is (ends_short ran old before after between.puts mid new (outcome c) (rose_since before.faults between.faults after.faults le untold.0) untold.1 untold.2 told)
   said_closed c mid new result before between after le told (unclosed Memory is same) =
-      let front = first_lines files steps first old before after between.puts told.rest told.now mid same.0 told.way in
-      unsaid is (subst (λ x. IsLeftOff (lines (run files steps first)) old x before after) (sym same.1) front)
+      let front = first_lines ran old before after between.puts (ended (outcome c)) mid same.0 told in
+      unsaid is (subst (λ x. IsLeftOff (lines ran) old x before after) (sym same.1) front)
 
   pub said_untold : (u : Untold) (new : Option Text) (result : ℕ) (before after : SinkCounts) → result ≡ status_of_untold u
-      → IsCutOff (lines (run files steps first)) old new before after u
-      → Said (status (run files steps first).ending) (lines (run files steps first)) result old new before after
+      → IsCutOff (lines ran) old new before after u → Said (status ran.ending) (lines ran) result old new before after
   said_untold Fault new result before after is h = cut is h
   said_untold Memory new result before after is h = unsaid is h

@@ -4,9 +4,6 @@ use Rattle.std.specs.List.{concat}
 use Rattle.par_io.specs.Causes.{appended, raised_by}
 use Rattle.par_values.specs.declared.run.Event.{Event}
 use Rattle.par_values.specs.Ran.{Ran}
-use Rattle.par_class.specs.declared.file.ClassFile.{ClassFile}
-use Rattle.par_single_machine.specs.State.{State}
-use Rattle.par_single_machine.specs.Run.{run}
 use Rattle.par_runner.specs.Texts.{Text, line, event_text}
 
 -- events first, and then a run
@@ -17,11 +14,10 @@ after events ran = record { events = events ++ ran.events; ending = ran.ending }
 abbrev pub event_lines : List Event → List Text
 event_lines events = map (λ e. line (event_text e)) events
 
--- Of a run of so many instructions from a first state, so many are left from this one on; the
--- events so far are told, each by one put.
-pub record IsUnderWay (files : List ClassFile) (steps rest : ℕ) (first now : State)
-    (old held : Option Text) (puts_before puts : ℕ) : Type 0 where
+-- Of a run this is left; the events so far are told, each by one put.
+pub record IsUnderWay (ran left : Ran) (old held : Option Text) (puts_before puts : ℕ)
+    : Type 0 where
   pub events : List Event
-  pub is_run : run files steps first ≡ after events (run files rest now)
+  pub is_run : ran ≡ after events left
   pub told : held ≡ appended old (concat (event_lines events))
   pub counted : puts ≡ raised_by (length events) puts_before

@@ -1,24 +1,15 @@
 -- What telling of a run comes to, line by line.
-use Rattle.std.specs.Prelude.{◌≡◌, ℕ, List, Option, Result, Err}
+use Rattle.std.specs.Prelude.{◌≡◌, ℕ, suc, List, Option, Result, Err}
 use Rattle.par_io.specs.Causes.{SinkCounts, Rose, raised, appended, AppendsFront}
 use Rattle.par_io.specs.Saying.{IsCut, IsLeftOff}
 use Rattle.par_values.specs.declared.run.Event.{Event}
-use Rattle.par_values.specs.Ran.{Ran, Outcome, Fine, BadCode, ended}
-use Rattle.par_class.specs.declared.file.ClassFile.{ClassFile}
-use Rattle.par_single_machine.specs.State.{State}
-use Rattle.par_single_machine.specs.Step.{Turn, Silent, Shows}
-use Rattle.par_single_machine.specs.Run.{run, followed}
+use Rattle.par_values.specs.Ran.{Ran, ended, with_event}
 use Rattle.par_runner.specs.declared.telling.Untold.{Untold}
 use Rattle.par_runner.specs.declared.telling.Untold.TheVariants.{Fault, Memory}
 use Rattle.par_runner.specs.declared.telling.Closing.{Closing}
-use Rattle.par_runner.specs.declared.telling.Closing.TheVariants as closing
 use Rattle.par_runner.specs.Texts.{Text, line, event_text, ending_text, status}
+use Rattle.par_runner.specs.Outcome.{outcome}
 use Rattle.par_runner.specs.Progress.{IsUnderWay}
-
--- how a run closes
-abbrev pub outcome : Closing → Outcome
-outcome (closing.Ended ending) = Fine ending
-outcome (closing.BadCode class method offset reason) = BadCode class method offset reason
 
 -- what a line that is not put whole leaves: a front of it where the put failed, and else nothing
 abbrev pub IsUntold : Text → (old new : Option Text) → (before after : SinkCounts) → Untold → Type 0
@@ -32,43 +23,43 @@ abbrev pub PutsAreTold : {T : Type 0} → Result T Untold → (before after : �
 PutsAreTold (Err Fault) before after = Unit {0}
 PutsAreTold _ before after = after ≡ before
 
--- The machine's turn leads to this state, and its event, if there is one, is told by one put.
-pub data GoesOn (t : Turn) (later : State) (old new : Option Text) (before after : SinkCounts)
+-- Of the runs from a machine on, by their numbers of instructions, one instruction is run: what is
+-- left are the later ones, and its event, if there is one, is told by one put.
+pub data GoesOn (runs later : ℕ → Ran) (old new : Option Text) (before after : SinkCounts)
     : Type 0 where
-  silently : t ≡ Silent later → after.puts ≡ before.puts → new ≡ old
-      → GoesOn t later old new before after
-  happened : (e : Event) → t ≡ Shows e later → after.puts ≡ raised before.puts
-      → new ≡ appended old (line (event_text e)) → GoesOn t later old new before after
+  silently : ((n : ℕ) → runs (suc n) ≡ later n) → after.puts ≡ before.puts → new ≡ old
+      → GoesOn runs later old new before after
+  happened : (e : Event) → ((n : ℕ) → runs (suc n) ≡ with_event e (later n))
+      → after.puts ≡ raised before.puts → new ≡ appended old (line (event_text e))
+      → GoesOn runs later old new before after
 
--- The machine's turn closes the run, whatever would follow.
-pub record ClosesBy (t : Turn) (c : Closing) (old new : Option Text) (before after : SinkCounts)
-    : Type 0 where
-  pub closed : (rest : State → Ran) → followed t rest ≡ ended (outcome c)
+-- The instruction closes the run.
+pub record ClosesBy (runs : ℕ → Ran) (c : Closing) (old new : Option Text)
+    (before after : SinkCounts) : Type 0 where
+  pub closed : (n : ℕ) → runs (suc n) ≡ ended (outcome c)
   pub puts : after.puts ≡ before.puts
   pub kept : new ≡ old
 
--- A front of the line of the turn's event is put.
-pub record IsCutAt (t : Turn) (old new : Option Text) (before after : SinkCounts) : Type 0 where
+-- A front of the line of the instruction's event is put.
+pub record IsCutAt (runs : ℕ → Ran) (old new : Option Text) (before after : SinkCounts)
+    : Type 0 where
   pub event : Event
-  pub later : State
-  pub is : t ≡ Shows event later
+  pub later : ℕ → Ran
+  pub is : (n : ℕ) → runs (suc n) ≡ with_event event (later n)
   pub rose : Rose before.faults after.faults
   pub puts : after.puts ≡ raised before.puts
   pub front : AppendsFront old new (line (event_text event))
 
--- what of a turn is not told
-abbrev pub IsUntoldTurn : Turn → (old new : Option Text) → (before after : SinkCounts) → Untold
-    → Type 0
-IsUntoldTurn t old new before after Fault = IsCutAt t old new before after
-IsUntoldTurn t old new before after Memory = (after.puts ≡ before.puts) × (new ≡ old)
+-- what of an instruction is not told
+abbrev pub IsUntoldTurn : (ℕ → Ran) → (old new : Option Text) → (before after : SinkCounts)
+    → Untold → Type 0
+IsUntoldTurn runs old new before after Fault = IsCutAt runs old new before after
+IsUntoldTurn runs old new before after Memory = (after.puts ≡ before.puts) × (new ≡ old)
 
 -- All events of a run are told, and this is how it closes.
-pub record IsTold (files : List ClassFile) (steps : ℕ) (first : State) (old new : Option Text)
-    (before after : SinkCounts) (c : Closing) : Type 0 where
-  pub rest : ℕ
-  pub now : State
-  pub closes : run files rest now ≡ ended (outcome c)
-  pub way : IsUnderWay files steps rest first now old new before.puts after.puts
+abbrev pub IsTold : Ran → (old new : Option Text) → (before after : SinkCounts) → Closing → Type 0
+IsTold ran old new before after c =
+    IsUnderWay ran (ended (outcome c)) old new before.puts after.puts
 
 -- what lines that are not all put leave: the first of them, and where a put failed a front of the
 -- next

@@ -7,11 +7,13 @@
 mod laws;
 mod memory;
 mod run;
+mod running;
 mod telling;
 mod text;
 
 pub use laws::equal_lines_are_equal_events;
 pub use memory::NoMemory;
 pub use run::tell_run;
+pub use running::MOST_STEPS;
 pub use telling::{Untold, put_line, untold_status};
 pub use text::{add_event, bad_code_line, ending_line, event_line};

@@ -1,81 +1,70 @@
 //! A run, told as it goes.
 
-ghost use Rattle.std.specs.Prelude.{◌≡◌, ◌≢◌, ◌≤◌, IsTrue, IfOk, IfErr, MatchOption};
+ghost use Rattle.std.specs.Prelude.{◌≡◌, ◌≢◌, ◌<◌, ◌≤◌, ◌+◌, IsTrue, IfOk, IfErr, MatchOption};
 ghost use Rattle.par_io.specs.Saying.{Said};
-ghost use Rattle.par_single_machine.specs.Run.{run};
-ghost use Rattle.par_single_machine.specs.Step.{turn};
-ghost use Rattle.par_single_machine.specs.Machine.{files_of, state_of};
+ghost use Rattle.par_machine.specs.Machine.{steps_of};
+ghost use Rattle.par_runner.specs.Running.{runs_of};
 ghost use Rattle.par_runner.specs.Texts.{lines, status};
 ghost use Rattle.par_runner.specs.Telling.{GoesOn, ClosesBy, IsUntoldTurn, PutsAreTold, IsTold, IsCutOff, Closes};
 
+use crate::running::{MOST_STEPS, Moved, step};
 use crate::telling::{Closing, Untold, put_closing, put_event, status_of, untold_status};
 use par_io::Sink;
-use par_single_machine::machine::Machine;
-use par_single_machine::turn::{Stuck, Turn};
+use par_machine::machine::Machine;
 use par_values::run::Ending;
 use std::alloc::Global;
 
 /// Runs one instruction, and puts the line of its event. It gives how the run closes where it does.
+#[inline(always)]
 fn advance<S: Sink>(
     alloc: Global,
     machine: &mut Machine,
+    line: &mut Vec<u8>,
     out: &mut S,
 ) -> Result<Option<Closing>, Untold>
-    ensures files { files_of machine.new ≡ files_of machine.old }
+    requires { steps_of machine.old < MOST_STEPS }
+    ensures counted { steps_of machine.new ≡ steps_of machine.old + 1 }
     ensures faults_never_fall { (S.counts out.old).faults ≤ (S.counts out.new).faults }
     ensures faults_stand { IsTrue S.counts_faults_alone →
         PutsAreTold result (S.counts out.old).faults (S.counts out.new).faults }
-    ensures told { let t = turn (files_of machine.old) (state_of machine.old) in
-        IfOk result (λ closing. MatchOption closing
-        (GoesOn t (state_of machine.new) (S.held out.old) (S.held out.new)
+    ensures told { IfOk result (λ closing. MatchOption closing
+        (GoesOn (runs_of machine.old) (runs_of machine.new) (S.held out.old) (S.held out.new)
         (S.counts out.old) (S.counts out.new))
-        (λ c. ClosesBy t c (S.held out.old) (S.held out.new)
+        (λ c. ClosesBy (runs_of machine.old) c (S.held out.old) (S.held out.new)
         (S.counts out.old) (S.counts out.new))) }
-    ensures untold { let t = turn (files_of machine.old) (state_of machine.old) in
-        IfErr result (IsUntoldTurn t
+    ensures untold { IfErr result (IsUntoldTurn (runs_of machine.old)
         (S.held out.old) (S.held out.new) (S.counts out.old) (S.counts out.new)) }
 {
-    match machine.step() {
-        Ok(Turn::Silent) => Ok(None),
-        Ok(Turn::Happened(event)) => {
-            put_event(alloc, &event, out)?;
+    match step(machine)? {
+        Moved::Silent => Ok(None),
+        Moved::Happened(event) => {
+            put_event(alloc, &event, line, out)?;
             Ok(None)
         }
-        Ok(Turn::Ended(ending)) => Ok(Some(Closing::Ended(ending))),
-        Err(
-            Stuck::BadCode {
-                class,
-                method,
-                offset,
-                reason,
-            },
-        ) => Ok(Some(Closing::BadCode {
-            class,
-            method,
-            offset,
-            reason,
-        })),
-        Err(Stuck::Memory) => Err(Untold::Memory),
+        Moved::Closed(closing) => Ok(Some(closing)),
     }
 }
 
 /// Runs a machine for at most so many instructions, and puts a line for each event as it happens.
+#[inline(always)]
 fn tell_events<S: Sink>(
     alloc: Global,
     machine: &mut Machine,
     steps: u32,
     out: &mut S,
 ) -> Result<Closing, Untold>
+    requires { steps_of machine.old + steps ≤ MOST_STEPS }
     ensures faults_never_fall { (S.counts out.old).faults ≤ (S.counts out.new).faults }
     ensures faults_stand { IsTrue S.counts_faults_alone →
         PutsAreTold result (S.counts out.old).faults (S.counts out.new).faults }
-    ensures told { IfOk result (IsTold (files_of machine.old) steps (state_of machine.old)
+    ensures told { IfOk result (IsTold (runs_of machine.old steps)
         (S.held out.old) (S.held out.new) (S.counts out.old) (S.counts out.new)) }
-    ensures cut { IfErr result (IsCutOff (lines (run (files_of machine.old) steps (state_of machine.old)))
+    ensures cut { IfErr result (IsCutOff (lines (runs_of machine.old steps))
         (S.held out.old) (S.held out.new) (S.counts out.old) (S.counts out.new)) }
 {
+    let mut line = Vec::new(alloc);
     for _done in 0..steps {
-        match advance(alloc, machine, out) {
+        match advance(alloc, machine, &mut line, out) {
             Ok(None) => {}
             Ok(Some(closing)) => return Ok(closing),
             Err(untold) => return Err(untold),
@@ -100,7 +89,8 @@ fn close<S: Sink>(alloc: Global, closing: &Closing, out: &mut S) -> u8
 /// Runs a machine for at most so many instructions, and puts a line for each event as it happens
 /// and one for how the run closes. The number is the status of a call that tells so.
 pub fn tell_run<S: Sink>(alloc: Global, machine: Machine, steps: u32, out: &mut S) -> u8
-    ensures said { let ran = run (files_of machine) steps (state_of machine) in
+    requires { steps_of machine + steps ≤ MOST_STEPS }
+    ensures said { let ran = runs_of machine steps in
         Said (status ran.ending) (lines ran) result (S.held out.old) (S.held out.new)
         (S.counts out.old) (S.counts out.new) }
     ensures failed_puts_are_told { IsTrue S.counts_faults_alone →

@@ -2,12 +2,13 @@
 
 ghost use Rattle.std.specs.Prelude.{◌≡◌, ◌≤◌, IsTrue, OnOk, IfOk, IfErr};
 ghost use Rattle.par_io.specs.Causes.{raised, appended};
-ghost use Rattle.par_runner.specs.Telling.{IsUntold, PutsAreTold, outcome, status_of_untold};
+ghost use Rattle.par_runner.specs.Telling.{IsUntold, PutsAreTold, status_of_untold};
+ghost use Rattle.par_runner.specs.Outcome.{outcome};
 ghost use Rattle.par_runner.specs.Texts.{line, event_text, ending_text, status};
 ghost use Rattle.par_runner.specs.declared.telling.Untold.TheVariants.{Memory};
 
 use crate::memory::NoMemory;
-use crate::text::{bad_code_line, ending_line, event_line};
+use crate::text::{add_event_line, bad_code_line, ending_line};
 use par_io::Sink;
 use par_lexer::list::List;
 use par_lexer::name::Name;
@@ -83,8 +84,13 @@ pub fn put_line<S: Sink>(line: &[u8], out: &mut S) -> Result<(), Untold>
     }
 }
 
-/// Puts the line of an event.
-pub fn put_event<S: Sink>(alloc: Global, event: &Event, out: &mut S) -> Result<(), Untold>
+/// Puts the line of an event, which is made in the place of another line.
+pub fn put_event<S: Sink>(
+    alloc: Global,
+    event: &Event,
+    text: &mut Vec<u8>,
+    out: &mut S,
+) -> Result<(), Untold>
     ensures faults_never_fall { (S.counts out.old).faults ≤ (S.counts out.new).faults }
     ensures faults_stand { IsTrue S.counts_faults_alone →
         PutsAreTold result (S.counts out.old).faults (S.counts out.new).faults }
@@ -94,7 +100,8 @@ pub fn put_event<S: Sink>(alloc: Global, event: &Event, out: &mut S) -> Result<(
     ensures untold { IfErr result (IsUntold (line (event_text event.now))
         (S.held out.old) (S.held out.new) (S.counts out.old) (S.counts out.new)) }
 {
-    let text = event_line(alloc, event)?;
+    text.clear();
+    add_event_line(alloc, text, event)?;
     put_line(text.as_slice(), out)
 }
 

@@ -91,13 +91,21 @@ pub fn add_event(alloc: Global, text: &mut Vec<u8>, event: &Event) -> Result<(),
     }
 }
 
+/// Adds the line of an event, with its end.
+pub fn add_event_line(alloc: Global, text: &mut Vec<u8>, event: &Event) -> Result<(), NoMemory>
+    ensures { OnOk result (text.new.items ≡ text.old.items ++ line (spec.event_text event.now)) }
+{
+    add_event(alloc, text, event)?;
+    text.extend_from_slice(b"\n")?;
+    Ok(())
+}
+
 /// The line of an event, with its end.
 pub fn event_line(alloc: Global, event: &Event) -> Result<Vec<u8>, NoMemory>
     ensures { IfOk result (λ text. text.items ≡ line (spec.event_text event.now)) }
 {
     let mut text = Vec::new(alloc);
-    add_event(alloc, &mut text, event)?;
-    text.extend_from_slice(b"\n")?;
+    add_event_line(alloc, &mut text, event)?;
     Ok(text)
 }
 

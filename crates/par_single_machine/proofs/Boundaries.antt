@@ -1,5 +1,5 @@
 -- Where a frame stands in code that is a walk.
-use Rattle.std.proofs.Common.{◌≡◌, ℕ, ◌+◌, ◌≤◌, true, ◌&&◌, ◌==◌, nat_lt, List, [], ◌∷◌, length, Some, None, Option, IsTrue, refl, sym, ap, ◌∙◌, arith, add-zero, inl, inr, slice_get}
+use Rattle.std.proofs.Common.{◌≡◌, ℕ, ◌+◌, true, ◌&&◌, ◌==◌, nat_lt, List, [], ◌∷◌, length, Some, None, Option, IsTrue, refl, sym, ap, ◌∙◌, arith, add-zero, inl, inr, slice_get}
 use Rattle.std.proofs.lemmas.Bool.{and_parts, or_cases, or_left, or_right, eqb-true, eq-eqb, cases_lt, lt-ltb}
 use Rattle.par_class.specs.declared.file.ClassFile.{ClassFile}
 use Rattle.par_class.specs.declared.file.CodeAttr.{CodeAttr}
@@ -13,7 +13,7 @@ use Rattle.par_single.proofs.Walks.{starts-first, starts-decoded, starts-next, d
 use Rattle.par_single.proofs.Alone.{code_bare}
 use Rattle.par_single_machine.specs.State.{code_or_none, code_in, method_code}
 use Rattle.par_single_machine.specs.Step.{size_of}
-use Rattle.par_single_machine.specs.Running.{is_boundary}
+use Rattle.par_single_machine.specs.Boundary.{is_boundary}
 
 bare_walks : (o : Option CodeAttr) → is_bare o ≡ true → walks (code_or_none o).code ≡ true
 unfolding walks_after
@@ -37,17 +37,6 @@ unfolding starts_after
 boundary_first [] w = refl
 boundary_first (byte ∷ bytes) w =
     or_left (starts_at (byte ∷ bytes) 0) (0 == length (byte ∷ bytes)) (starts-first (byte ∷ bytes) w (omega arith))
-
--- a boundary is not past the end
-pub boundary_within : (code : List ℕ) (at : ℕ) → walks code ≡ true → is_boundary code at ≡ true → at ≤ length code
-boundary_within code at w is =
-    elim (or_cases (starts_at code at) (at == length code) is) [
-      | inl starts ↦
-          let d = starts-decoded code at w starts in
-          let within = decoded_at-within code at d.0 d.1.0 in
-          omega (arith, within.0)
-      | inr ends ↦ omega (arith, eqb-true at (length code) ends)
-    ]
 
 -- where an instruction is decoded at a boundary, it starts there
 boundary_starts : (code : List ℕ) (at : ℕ) (d : Decoded) → is_boundary code at ≡ true → decoded_at code at ≡ Some d → starts_at code at ≡ true

@@ -1,12 +1,3 @@
-pub mod Reversed
-pub mod Lines
-pub mod Fitting
-pub mod Calls
-pub mod Programs
 pub mod Boundaries
-pub mod Standing
 pub mod Owning
-pub mod Falling
-pub mod Turns
 pub mod Extending
-pub mod Misfits

@@ -1,5 +1,5 @@
 -- The code that is called is that of the one class.
-use Rattle.std.proofs.Common.{◌≡◌, ℕ, ◌+◌, ℤ, pos, Bool, true, false, if◌then◌else◌, List, [], ◌∷◌, length, Some, None, Option, IsTrue, is_some, slice_get, codes, refl, sym, ap, subst, ◌∙◌, inl, inr}
+use Rattle.std.proofs.Common.{◌≡◌, ℕ, Bool, true, false, if◌then◌else◌, List, [], ◌∷◌, Some, None, Option, IsTrue, is_some, slice_get, codes, refl, sym, ap, subst, ◌∙◌, inl, inr}
 use Rattle.std.proofs.lemmas.Bool.{and_parts, or_cases}
 use Rattle.std.proofs.lemmas.Option.{same_Some}
 use Rattle.std.proofs.lemmas.Slice.Eq.{bytes_eq-Decides}
@@ -16,17 +16,10 @@ use Rattle.par_instr.specs.declared.instr.Instr.TheVariants.{Ldc, LdcW, New, Get
 use Rattle.par_values.specs.declared.kind.Kind.{Kind}
 use Rattle.par_values.specs.declared.link.Link.{Link}
 use Rattle.par_values.specs.declared.link.Link.TheVariants as link
-use Rattle.par_values.specs.declared.link.Target.{Target}
-use Rattle.par_values.specs.declared.link.Target.TheVariants.{Input, Output, Code, Nothing}
-use Rattle.par_values.specs.declared.value.MVal.{MVal}
-use Rattle.par_values.specs.declared.value.MVal.TheVariants.{Int, Null, Ref}
-use Rattle.par_values.specs.Areas.{Name, Areas, operand, number_of}
-use Rattle.par_values.specs.Arithmetic.{divides_by_zero, compares}
-use Rattle.par_values.specs.declared.run.Event.{Event}
+use Rattle.par_values.specs.declared.link.Target.TheVariants.{Code}
 use Rattle.par_values.specs.declared.link.FieldLink.{FieldLink}
 use Rattle.par_values.specs.declared.link.MethodLink.{MethodLink}
-use Rattle.par_values.specs.Operations.{Operation, Combine, JumpIf, JumpIfBoth, JumpIfSame, JumpIfNull, GetStatic, PutStatic, GetField, PutField, InvokeStatic, InvokeSpecial, InvokeVirtual, Create, Throw, operation, constant, of_field, of_method, of_class}
-use Rattle.par_values.specs.Effects.{Goes, Happens, Calls, Throws, called, called_on, jumps_if, field_read, field_written, thrown, comes, is_same, effect}
+use Rattle.par_values.specs.Operations.{Operation, GetStatic, PutStatic, GetField, PutField, InvokeStatic, InvokeSpecial, InvokeVirtual, operation, constant, of_field, of_method, of_class}
 use Rattle.par_single.specs.Descriptors.{kinds_in, kind_at}
 use Rattle.par_single.specs.Members.{Member, own_name, own_method, text_at, member_at, field_place, method_place, is_method_of, is_initializer}
 use Rattle.par_single.specs.Links.{field_link, field_found, field_among, channel_of, method_link, method_among, method_of, link_of, link_at, is_object, object_initializer, locals_of, signature_said}
@@ -179,79 +172,3 @@ operation_own file main (Invokevirtual n) runs =
 operation_own file main _ runs = tt
 
 -- ---- what is called
-
-called-own : (n : ℕ) (target : Target) (gives : Bool) (a : Areas) (class method locals : ℕ) (arguments : List MVal) (after : Areas)
-    → RunsOwn target gives → called n target a ≡ Calls class method locals arguments after → class ≡ 0
-called-own n (Input c name) gives a class method locals arguments after own is = absurd (cc is)
-called-own n (Output c name) gives a class method locals arguments after own is = absurd (cc is)
-called-own n (Code c m l) gives a class method locals arguments after own is = cc (own, is)
-called-own n Nothing gives a class method locals arguments after own is = absurd (cc is)
-
-called_on-own : (v : MVal) (n : ℕ) (target : Target) (gives : Bool) (a : Areas) (class method locals : ℕ) (arguments : List MVal) (after : Areas)
-    → RunsOwn target gives → called_on v n target a ≡ Calls class method locals arguments after → class ≡ 0
-called_on-own Null n target gives a class method locals arguments after own is = absurd (cc is)
-called_on-own (Int v) n target gives a class method locals arguments after own is = called-own (n + 1) target gives a class method locals arguments after own is
-called_on-own (Ref c k) n target gives a class method locals arguments after own is = called-own (n + 1) target gives a class method locals arguments after own is
-
--- what goes on calls nothing
-jumps-own : (test : Bool) (to : ℤ) (a : Areas) (class method locals : ℕ) (arguments : List MVal) (after : Areas)
-    → jumps_if test to a ≡ Calls class method locals arguments after → ⊥
-jumps-own true to a class method locals arguments after is = cc is
-jumps-own false to a class method locals arguments after is = cc is
-
-combines-own : (fails : Bool) (name : Name) (a : Areas) (class method locals : ℕ) (arguments : List MVal) (after : Areas)
-    → (if fails then Throws name else Goes a) ≡ Calls class method locals arguments after → ⊥
-combines-own true name a class method locals arguments after is = cc is
-combines-own false name a class method locals arguments after is = cc is
-
-read-own : (v : MVal) (f : FieldLink) (a : Areas) (class method locals : ℕ) (arguments : List MVal) (after : Areas)
-    → field_read v f a ≡ Calls class method locals arguments after → ⊥
-read-own Null f a class method locals arguments after is = cc is
-read-own (Int n) f a class method locals arguments after is = cc is
-read-own (Ref c n) f a class method locals arguments after is = cc is
-
-written-own : (classes : List Name) (v w : MVal) (f : FieldLink) (a : Areas) (class method locals : ℕ) (arguments : List MVal) (after : Areas)
-    → field_written classes v f w a ≡ Calls class method locals arguments after → ⊥
-written-own classes Null w f a class method locals arguments after is = cc is
-written-own classes (Int n) w f a class method locals arguments after is = cc is
-written-own classes (Ref c n) w f a class method locals arguments after is = cc is
-
-created-own : (quiet : Bool) (event : Event) (a : Areas) (class method locals : ℕ) (arguments : List MVal) (after : Areas)
-    → (if quiet then Goes a else Happens event a) ≡ Calls class method locals arguments after → ⊥
-created-own true event a class method locals arguments after is = cc is
-created-own false event a class method locals arguments after is = cc is
-
-thrown-own : (v : MVal) (class method locals : ℕ) (arguments : List MVal) (after : Areas)
-    → thrown v ≡ Calls class method locals arguments after → ⊥
-thrown-own Null class method locals arguments after is = cc is
-thrown-own (Int n) class method locals arguments after is = cc is
-thrown-own (Ref c n) class method locals arguments after is = cc is
-
--- the method that an operation calls is one of the one class
-pub effect-own : (classes : List Name) (o : Operation) (a : Areas) (class method locals : ℕ) (arguments : List MVal) (after : Areas)
-    → CallsOwn o → effect classes o a ≡ Calls class method locals arguments after → class ≡ 0
-unfolding effect
-effect-own classes (InvokeStatic m) a class method locals arguments after own is = called-own (length m.takes) m.target m.gives a class method locals arguments after own is
-effect-own classes (InvokeSpecial m) a class method locals arguments after own is =
-    called_on-own (operand (length m.takes) a) (length m.takes) m.target m.gives a class method locals arguments after own is
-effect-own classes (InvokeVirtual m) a class method locals arguments after own is =
-    called_on-own (operand (length m.takes) a) (length m.takes) m.target m.gives a class method locals arguments after own is
-effect-own classes (Combine operator) a class method locals arguments after own is =
-    absurd (combines-own (divides_by_zero operator (number_of (operand 0 a))) _ _ class method locals arguments after is)
-effect-own classes (JumpIf test to) a class method locals arguments after own is =
-    absurd (jumps-own (compares test (number_of (operand 0 a)) (pos 0)) to _ class method locals arguments after is)
-effect-own classes (JumpIfBoth test to) a class method locals arguments after own is =
-    absurd (jumps-own (compares test (number_of (operand 1 a)) (number_of (operand 0 a))) to _ class method locals arguments after is)
-effect-own classes (JumpIfSame same to) a class method locals arguments after own is =
-    absurd (jumps-own (comes same (is_same (operand 1 a) (operand 0 a))) to _ class method locals arguments after is)
-effect-own classes (JumpIfNull null to) a class method locals arguments after own is =
-    absurd (jumps-own (comes null (is_same (operand 0 a) Null)) to _ class method locals arguments after is)
-effect-own classes (GetField f) a class method locals arguments after own is =
-    absurd (read-own (operand 0 a) f a class method locals arguments after is)
-effect-own classes (PutField f) a class method locals arguments after own is =
-    absurd (written-own classes (operand 1 a) (operand 0 a) f a class method locals arguments after is)
-effect-own classes (Create c) a class method locals arguments after own is =
-    absurd (created-own c.is_exception _ _ class method locals arguments after is)
-effect-own classes Throw a class method locals arguments after own is =
-    absurd (thrown-own (operand 0 a) class method locals arguments after is)
-effect-own classes _ a class method locals arguments after own is = absurd (cc is)

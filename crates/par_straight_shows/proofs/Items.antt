@@ -12,7 +12,7 @@ use Rattle.par_class.specs.declared.file.ClassFile.{ClassFile}
 use Rattle.par_values.specs.declared.value.MVal.{MVal}
 use Rattle.par_values.specs.declared.kind.Kind.{Kind}
 use Rattle.par_values.specs.declared.kind.Kind.TheVariants.{Number, Anything}
-use Rattle.par_single_machine.specs.Reason.{straight_spot}
+use Rattle.par_single_machine.specs.Spots.{straight_spot}
 use Rattle.par_values.specs.declared.link.Link.{Link}
 use Rattle.par_values.specs.declared.run.Event.{Event}
 use Rattle.par_values.specs.declared.run.Ending.TheVariants.{End}

@@ -10,7 +10,7 @@ use Rattle.par_values.specs.declared.run.Event.TheVariants.{Out, Set}
 use Rattle.par_values.specs.declared.run.Val.TheVariants as shown
 use Rattle.par_values.specs.Areas.{Name, push, local_value, value_or_null, next}
 use Rattle.par_values.specs.Arithmetic.{Plus}
-use Rattle.par_single_machine.specs.Reason.{straight_spot}
+use Rattle.par_single_machine.specs.Spots.{straight_spot}
 use Rattle.par_values.specs.Operations.{Push, Load, Store, Combine, GetStatic, PutStatic, InvokeStatic}
 use Rattle.par_values.specs.Reasons.{Spot, holds}
 use Rattle.par_values.specs.Effects.{Goes, Happens, effect}

@@ -1,15 +1,16 @@
 -- From what a job came to, to how the call ends.
-use Rattle.std.proofs.Common.{◌≡◌, ℕ, List, [], ◌∷◌, Option, Result, Ok, Err, refl, sym, ap, subst, ◌∙◌}
+use Rattle.std.proofs.Common.{◌≡◌, ℕ, List, Option, Result, Ok, Err, refl, subst, ap, ◌∙◌}
 use Rattle.std.specs.declared.string.String.{String}
 use Rattle.std.specs.declared.alloc.Global.{Global}
 use Rattle.std.specs.Prelude.{IfOk, IfErr}
 use Rattle.par_io.specs.Causes.{SinkCounts, Makes}
 use Rattle.par_io.specs.Saying.{Said}
+use Rattle.par_machine.specs.declared.machine.Machine.{Machine}
+use Rattle.par_machine.specs.Machine.{files_of, state_of}
 use Rattle.par_class.specs.declared.file.ClassFile.{ClassFile}
-use Rattle.par_single_machine.specs.declared.machine.Machine.{Machine}
-use Rattle.par_single_machine.specs.Machine.{files_of, state_of}
-use Rattle.par_single_machine.specs.State.{State, start}
-use Rattle.par_single_machine.specs.Run.{run, class_number, machine_run}
+use Rattle.par_steps.specs.State.{State, start}
+use Rattle.par_steps.specs.Run.{run, class_number, machine_run}
+use Rattle.par_runner.specs.Running.{runs_of}
 use Rattle.par_values.specs.Ran.{Fine}
 use Rattle.par_typed.specs.declared.table.Table.{Table}
 use Rattle.par_runner.specs.Texts as told
@@ -24,11 +25,10 @@ use Rattle.par_tool.specs.declared.reading.Failure.TheVariants.{Answered, Memory
 use Rattle.par_tool.specs.Outside.{Text, MakesAtMost}
 use Rattle.par_tool.specs.Failures.{IsFailure, failure_for}
 use Rattle.par_tool.specs.Sources.{Checked, CompiledSo}
-use Rattle.par_tool.specs.Classes.{NotRun, IsStarted}
+use Rattle.par_tool.specs.Classes.{NotRun, Starts}
 use Rattle.par_meaning.specs.declared.run.SourceRun.{SourceRun}
 use Rattle.par_tool.specs.Traces.{Untraced, IsTraced}
 use Rattle.par_tool.specs.Answers.{Scene, Stand, Ends, misses, lacks_words, answers, runs, traces, lacks_memory, ReadsOnly, Concludes, BreaksOff}
-use Rattle.par_tool.proofs.Alone.{own_number}
 use Rattle.par_tool.proofs.Spending.{at_most}
 
 module _ (which : Which) (words : List (String Global)) (s : Scene) (result : ℕ) (old new : Option Text) (before after : SinkCounts) where
@@ -72,15 +72,12 @@ module _ (which : Which) (words : List (String Global)) (s : Scene) (result : �
   run_fails main inputs steps (Answered answer) asks stand failed few said = answers (Run main inputs steps) answer asks (failed, stand) said
   run_fails main inputs steps Memory asks stand failed few said = lacks_memory (Run main inputs steps) asks said.0 said.1 (few refl) stand
 
-  pub run_ends : (main inputs : Text) (steps : ℕ) (m : Machine) → Asks which words (Run main inputs steps) → Makes 2 0 s.before s.after → Stand s
-      → IsStarted s.files main inputs m
-      → Said (told.status (run (files_of m) steps (state_of m)).ending) (told.lines (run (files_of m) steps (state_of m))) result old new before after
+  pub run_ends : (main inputs : Text) (steps : ℕ) (m : Machine) → Asks which words (Run main inputs steps) → Stand s
+      → Starts s.files s.before s.after main inputs m
+      → Said (told.status (runs_of m steps).ending) (told.lines (runs_of m steps)) result old new before after
       → Ends which words s result old new before after
-  run_ends main inputs steps m asks makes stand h said =
-      let number : class_number (h.file ∷ []) main ≡ 0 = own_number main h.loaded.bytes h.file h.loaded.alone in
-      let same : run (files_of m) steps (state_of m) ≡ machine_run (h.file ∷ []) main h.lists steps =
-      ap (λ (fs : List ClassFile). run fs steps (state_of m)) h.runs
-      ∙ ap (λ (st : State). run (h.file ∷ []) steps st) h.begun
-      ∙ ap (λ (n : ℕ). run (h.file ∷ []) steps (start (h.file ∷ []) n h.lists)) (sym number) in
-      runs (Run main inputs steps) (run (files_of m) steps (state_of m)) asks
-      (record { file = h.file; lists = h.lists; loaded = h.loaded; given = h.given; is_run = same }, (makes, stand)) said
+  run_ends main inputs steps m asks stand (reads, h, makes) said =
+      let same : runs_of m steps ≡ machine_run h.all main h.lists steps =
+      ap (λ (fs : List ClassFile). run fs steps (state_of m)) h.runs ∙ ap (λ (st : State). run h.all steps st) h.begun in
+      runs (Run main inputs steps) (runs_of m steps) asks
+      (reads, record { all = h.all; lists = h.lists; linked = h.linked; given = h.given; is_run = same }, (makes, stand)) said

@@ -12,6 +12,7 @@ use Rattle.par_runner.specs.Texts as told
 use Rattle.par_words.specs.declared.words.Which.{Which}
 use Rattle.par_words.specs.Commands.{Text}
 use Rattle.par_words.specs.Words.{Wanted, Check, Compile, Trace, Run, Asks}
+use Rattle.par_loader.specs.Judged.{judged}
 use Rattle.par_words.proofs.Asking.{one_wanted}
 use Rattle.par_tool.specs.declared.answer.Answer.{Answer}
 use Rattle.par_tool.specs.Texts.{status, text}
@@ -21,7 +22,7 @@ use Rattle.par_tool.specs.Exactly.{IsSaidBy, IsStatus, Checks, Compiles, IsExact
 use Rattle.par_tool.proofs.Statuses.{said_status}
 use Rattle.par_tool.proofs.ExactSources.{tells_check, tells_compile}
 use Rattle.par_tool.proofs.ExactTraces.{tells_untraced, tells_traced}
-use Rattle.par_tool.proofs.ExactRuns.{instead, tells_instead, tells_ran}
+use Rattle.par_tool.proofs.ExactRuns.{any_end, instead, tells_instead, tells_ran}
 
 -- ---- the status
 
@@ -39,7 +40,7 @@ run_is_exact : (s : Scene) (w : Wanted) (ran : Ran) (result : ℕ) → RunCause 
 run_is_exact s (Check file) ran result cause said = absurd cause
 run_is_exact s (Compile file) ran result cause said = absurd cause
 run_is_exact s (Trace file inputs bound) ran result cause said = absurd cause
-run_is_exact s (Run main inputs steps) ran result cause said = tells_ran s.files s.before s.after main inputs steps result ran cause.0 said
+run_is_exact s (Run main inputs steps) ran result cause said = tells_ran s.files s.before s.after main inputs steps result cause.0 ran cause.1 said
 
 trace_is_exact : (s : Scene) (w : Wanted) (tree : Source) (run : source.Run) (result : ℕ) → TraceCause s w tree run → IsSaidBy result (told.status (Fine run.ending)) → IsExact s.files w result
 trace_is_exact s (Check file) tree run result cause said = absurd cause
@@ -76,16 +77,7 @@ class_wants : (files : Option Files) (main inputs : Text) (steps result : ℕ) �
 class_wants files main inputs steps result seven = record {
   missing = λ h. wanting result 3 seven;
   overlong = λ h. wanting result 8 seven;
-  there = λ bytes file at alone. record {
-    missing = λ h. wanting result 3 seven;
-    overlong = λ h. wanting result 8 seven;
-    there = λ text here. record {
-      ran = λ lists right are fit. wanting result _ seven;
-      bad_inputs = λ number bad. wanting result 13 seven;
-    };
-  };
-  unlinked = λ bytes at classes of fails. wanting result _ seven;
-  not_alone = λ bytes at none classes of links. wanting result 9 seven;
+  there = λ bytes at classes of. any_end files main inputs steps result (λ number. wanting result number seven) (judged classes main).end;
 }
 
 wants : (files : Option Files) (w : Wanted) (result : ℕ) → result ≡ 7 → IsExact files w result

@@ -1,6 +1,8 @@
 pub mod Statuses
-pub mod Alone
+pub mod Beginning
 pub mod Loads
+pub mod Misfits
+pub mod Linked
 pub mod Inputs
 pub mod ExactSources
 pub mod ExactTraces

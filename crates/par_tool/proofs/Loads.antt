@@ -1,27 +1,17 @@
 -- From how class files are loaded and linked to why no run begins.
-use Rattle.std.proofs.Common.{◌≡◌, ◌∙◌, ap, ℕ, zero, suc, ◌+◌, ◌≤◌, List, [], ◌∷◌, ◌++◌, length, true, false, cond, IfErr, IsErrAnd, Option, Some, None, Result, Ok, Err, refl, sym, subst, inl, inr, arith}
-use Rattle.std.specs.Prelude.{nat_le}
-use Rattle.std.specs.Str.{bytes_eq}
-use Rattle.std.proofs.lemmas.Bool.Decides.{nat_tests}
-use Rattle.par_io.specs.Causes.{FolderCounts, Makes, NoneFalls, Files, Told}
-use Rattle.par_pool.specs.declared.reading.TheConstants.{LONGEST_CLASS}
+use Rattle.std.proofs.Common.{◌≡◌, ◌∙◌, ap, ℕ, zero, suc, ◌+◌, ◌≤◌, List, [], ◌∷◌, ◌++◌, IfErr, IsErrAnd, Option, Some, None, Result, Ok, Err, refl, sym, subst, inl, inr, arith}
+use Rattle.par_io.specs.Causes.{FolderCounts, Makes, NoneFalls, Files}
 use Rattle.par_class.specs.declared.file.ClassFile.{ClassFile}
-use Rattle.par_class.specs.Reading.{file_at}
-use Rattle.par_class.proofs.Files.{file_only}
-use Rattle.par_single.specs.Members.{own_name}
-use Rattle.par_single.specs.Single.{runs_alone}
-use Rattle.par_single.proofs.Alone as single
 use Rattle.par_link.specs.declared.linked.Linked.{Linked}
+use Rattle.par_link.specs.Inputs.{first_misfit}
 use Rattle.par_loader.specs.declared.error.Unloaded.{Unloaded}
 use Rattle.par_loader.specs.declared.error.Unloaded.TheVariants as un
 use Rattle.par_loader.specs.Reads as reads
 use Rattle.par_loader.specs.Reads.{Classes, AreOf, WasFound}
 use Rattle.par_loader.specs.Mentions.{Naming, next_named}
-use Rattle.par_loader.specs.Found as found
-use Rattle.par_loader.specs.Found.{found_in, taken_as}
-use Rattle.par_loader.specs.Loaded.{Loaded, whole, missing, overlong, refused, absent, Load, Step, goes_on, ends, step, main_step, main_step_of, after, with_next, further, loaded}
+use Rattle.par_loader.specs.Loaded.{Loaded, whole, missing, overlong, refused, absent, Load, Step, goes_on, ends, step, main_step, after, with_next, further, loaded}
 use Rattle.par_loader.specs.Judged.{linked, judged}
-use Rattle.par_loader.specs.Ends.{Unended, IsRead, Judges, FaultsStand}
+use Rattle.par_loader.specs.Ends.{Unended, Judges, FaultsStand}
 use Rattle.par_loader.proofs.Counting.{rose_since, makes_both, most_both}
 use Rattle.par_loader.proofs.Ended.{IsStop}
 use Rattle.par_loader.proofs.Seen.{seen, seen_of, put, put_of, put_here}
@@ -29,9 +19,10 @@ use Rattle.par_tool.specs.declared.answer.Answer.TheVariants.{Absent, ReadFault,
 use Rattle.par_tool.specs.declared.reading.Failure.{Failure}
 use Rattle.par_tool.specs.declared.reading.Failure.TheVariants.{Answered, Memory}
 use Rattle.par_tool.specs.Failures.{IsFailure, ToldIn, failure_of}
-use Rattle.par_tool.specs.Outside.{Text, MakesAtMost, class_file}
-use Rattle.par_tool.specs.Classes.{IsAlone, IsLoaded, NoneAlone, ends_so, IsUngiven, NotRun, failure_in}
-use Rattle.par_tool.proofs.Alone.{not_alone}
+use Rattle.par_tool.specs.Outside.{Text, MakesAtMost}
+use Rattle.par_tool.specs.Given.{IsUngiven}
+use Rattle.par_tool.specs.Classes.{ends_so, AreLinked, NotRun}
+use Rattle.par_tool.proofs.Beginning.{few_linked}
 
 abbrev pub judging : Text → Load → Load
 judging main load = record { reads = load.reads; end = linked main load.end }
@@ -82,36 +73,6 @@ stops_first classes main found is reads end stop steps =
     ∙ ap (λ (n : ℕ). let l : Load = record { reads = n; end = linked main end } in l) none_more
     ∙ ap (λ (e : Loaded). let l : Load = record { reads = reads; end = e } in l) (stop_stays main end stop)
 
--- ---- a file that runs by itself is taken
-
-own_file : (main : Text) (f : ClassFile) → bytes_eq (own_name f) main ≡ true → main_step_of main (taken_as main (Ok f)) ≡ goes_on f
-own_file main f own = ap (λ b. main_step_of main (cond b (found.file f) found.another)) own
-
-alone_goes_on : (main bytes : Text) (f : ClassFile) → length bytes ≤ LONGEST_CLASS → IsAlone main bytes f → main_step main (Some bytes) ≡ goes_on f
-alone_goes_on main bytes f short alone =
-    let few : nat_le (length bytes) LONGEST_CLASS ≡ true = grind (arith, nat_tests, short) in
-    ap (λ b. main_step_of main (cond b (taken_as main (file_at bytes)) found.overlong)) few
-    ∙ ap (λ r. main_step_of main (taken_as main r)) (file_only bytes f alone.spells)
-    ∙ own_file main f (single.alone f main alone.alone).own
-
--- so that there is none where the first step stops
-pub none_taken : (files : Option Files) (main : Text) (found : Option Text) → WasFound files main found → (reads : ℕ) (end : Loaded) → main_step main found ≡ ends reads end → NoneAlone files main
-none_taken None main found was reads end steps bytes f there alone = there
-none_taken (Some m) main found was reads end steps bytes f there alone =
-    let is : Some bytes ≡ found = sym there.0 ∙ was in
-    let on : main_step main found ≡ goes_on f = ap (main_step main) (sym is) ∙ alone_goes_on main bytes f there.1 alone in
-    let e : goes_on f ≡ ends reads end = sym on ∙ steps in
-    cc
-
--- and where the file that was read does not run by itself
-pub none_read : (files : Option Files) (main : Text) (f : ClassFile) → IsRead files f → own_name f ≡ main → runs_alone f main ≡ false → NoneAlone files main
-none_read None main f read own fails bytes other there alone = there
-none_read (Some m) main f read own fails bytes other there alone =
-    let was : m (class_file main) ≡ Some read.bytes = subst (λ (n : Text). m (class_file n) ≡ Some read.bytes) own read.found in
-    let is : Some bytes ≡ Some read.bytes = sym there.0 ∙ was in
-    let same : bytes ≡ read.bytes = cc in
-    not_alone main read.bytes f read.spells fails other (subst (λ (b : Text). IsAlone main b other) same alone)
-
 -- ---- counts
 
 pub few_reads : (most all : ℕ) (before after : FolderCounts) → most ≤ all → reads.MakesAtMost most 0 before after → MakesAtMost all 0 before after
@@ -126,6 +87,12 @@ one_more many before between after first rest =
 pub one_read_more : (most all : ℕ) (before between after : FolderCounts) → 1 + most ≤ all → Makes 1 0 before between → reads.MakesAtMost most 0 between after → MakesAtMost all 0 before after
 one_read_more most all before between after less first few =
     few_reads all all before after (omega arith) (most_both 1 most all before between after less first few)
+
+pub all_reads : (files : Option Files) (main : Text) (reads : ℕ) (all : List ClassFile) → AreLinked files main reads all
+    → (before after : FolderCounts) → Makes (suc reads) 0 before after → MakesAtMost 130 0 before after
+all_reads files main reads all linked before after makes =
+    let few = few_linked files main reads all linked in
+    record { read = suc reads; written = 0; few_reads = omega (arith, few); few_writes = omega arith; makes = makes }
 
 -- ---- why no run begins
 
@@ -144,28 +111,35 @@ module _ (files : Option Files) (main inputs : Text) where
       to = stops_first classes main found (put_here (seen files) main found)
 
       in_case : (e : Unloaded) → Unended (λ reads end. main_step main found ≡ ends reads end) 1 before after e → IsFailure (NotRun files before after main inputs) (failure_of e)
-      in_case un.Absent h = inl (none_taken files main found was h.0 missing h.2.0, (classes, of, (h.0, h.1, (to h.0 missing tt h.2.0, h.2.1))))
-      in_case un.TooLong h = inl (none_taken files main found was h.0 overlong h.2.0, (classes, of, (h.0, h.1, (to h.0 overlong tt h.2.0, h.2.1))))
+      in_case un.Absent h = inl (classes, of, (h.0, h.1, (to h.0 missing tt h.2.0, h.2.1)))
+      in_case un.TooLong h = inl (classes, of, (h.0, h.1, (to h.0 overlong tt h.2.0, h.2.1)))
       in_case un.Failed h = (few_reads 1 130 before after (omega arith) h.0, h.1)
-      in_case (un.BadClass c n v) (reads, makes, inl is) = (none_taken files main found was reads (refused c n v) is, (classes, of, (reads, makes, inl (to reads (refused c n v) tt is))))
-      in_case (un.BadClass c n v) (reads, makes, inr is) =
-          (none_taken files main found was reads (absent c v) is.0, (classes, of, (reads, makes, inr (to reads (absent c v) tt is.0, is.1, is.2))))
+      in_case (un.BadClass c n v) (reads, makes, inl is) = (classes, of, (reads, makes, inl (to reads (refused c n v) tt is)))
+      in_case (un.BadClass c n v) (reads, makes, inr is) = (classes, of, (reads, makes, inr (to reads (absent c v) tt is.0, is.1, is.2)))
       in_case un.Memory h = tt
 
-  pub program_fails : (before between after : FolderCounts) → Makes 1 0 before between → NoneFalls before between → NoneAlone files main
-      → (r : Result Linked Unloaded) → Judges files main between after r → IsFailure (NotRun files before after main inputs) (failure_in r)
-  program_fails before between after first falls none (Ok all) h = (none, (h.0, h.1, (suc h.2.0, one_more h.2.0 before between after first h.2.1, (all, h.2.2))))
-  program_fails before between after first falls none (Err un.Absent) h =
-      inl (none, (h.0, h.1, (suc h.2.0, one_more h.2.0 before between after first h.2.1, (h.2.2.0, rose_since _ _ _ falls.1 h.2.2.1))))
-  program_fails before between after first falls none (Err un.TooLong) h =
-      inl (none, (h.0, h.1, (suc h.2.0, one_more h.2.0 before between after first h.2.1, (h.2.2.0, rose_since _ _ _ falls.2 h.2.2.1))))
-  program_fails before between after first falls none (Err un.Failed) h =
+  pub program_fails : (before between after : FolderCounts) → Makes 1 0 before between → NoneFalls before between
+      → (e : Unloaded) → Judges files main between after (Err e) → IsFailure (NotRun files before after main inputs) (failure_of e)
+  program_fails before between after first falls un.Absent h =
+      inl (h.0, h.1, (suc h.2.0, one_more h.2.0 before between after first h.2.1, (h.2.2.0, rose_since _ _ _ falls.1 h.2.2.1)))
+  program_fails before between after first falls un.TooLong h =
+      inl (h.0, h.1, (suc h.2.0, one_more h.2.0 before between after first h.2.1, (h.2.2.0, rose_since _ _ _ falls.2 h.2.2.1)))
+  program_fails before between after first falls un.Failed h =
       (one_read_more 128 130 before between after (omega arith) first h.2.0, rose_since _ _ _ falls.0 h.2.1)
-  program_fails before between after first falls none (Err (un.BadClass c n v)) (classes, of, (reads, makes, inl is)) =
-      (none, (classes, of, (suc reads, one_more reads before between after first makes, inl is)))
-  program_fails before between after first falls none (Err (un.BadClass c n v)) (classes, of, (reads, makes, inr is)) =
-      (none, (classes, of, (suc reads, one_more reads before between after first makes, inr (is.0, is.1, rose_since _ _ _ falls.1 is.2))))
-  program_fails before between after first falls none (Err un.Memory) h = tt
+  program_fails before between after first falls (un.BadClass c n v) (classes, of, (reads, makes, inl is)) =
+      (classes, of, (suc reads, one_more reads before between after first makes, inl is))
+  program_fails before between after first falls (un.BadClass c n v) (classes, of, (reads, makes, inr is)) =
+      (classes, of, (suc reads, one_more reads before between after first makes, inr (is.0, is.1, rose_since _ _ _ falls.1 is.2)))
+  program_fails before between after first falls un.Memory h = tt
+
+  pub inputs_fail : (before mid after : FolderCounts) (reads : ℕ) (all : List ClassFile) → Makes (suc reads) 0 before after → NoneFalls before mid → AreLinked files main reads all
+      → (failure : Failure) → IsFailure (IsUngiven (first_misfit all) files mid after inputs) failure → IsFailure (NotRun files before after main inputs) failure
+  inputs_fail before mid after reads all makes falls linked (Answered Absent) h = inr (reads, makes, (all, linked, (rose_since _ _ _ falls.1 h.0, h.1)))
+  inputs_fail before mid after reads all makes falls linked (Answered TooLong) h = inr (reads, makes, (all, linked, (rose_since _ _ _ falls.2 h.0, h.1)))
+  inputs_fail before mid after reads all makes falls linked (Answered ReadFault) h = (all_reads files main reads all linked before after makes, rose_since _ _ _ falls.0 h)
+  inputs_fail before mid after reads all makes falls linked (Answered (BadInputs number)) h = (reads, makes, (all, linked, h))
+  inputs_fail before mid after reads all makes falls linked (Answered _) h = absurd h
+  inputs_fail before mid after reads all makes falls linked Memory h = tt
 
 -- ---- where memory is wanting
 
@@ -177,13 +151,12 @@ main_wants E before after un.Failed h is = absurd (cc is)
 main_wants E before after (un.BadClass c n v) h is = absurd (cc is)
 
 pub program_wants : (files : Option Files) (main : Text) (before between after : FolderCounts) → Makes 1 0 before between
-    → (r : Result Linked Unloaded) → Judges files main between after r → failure_in r ≡ Memory → MakesAtMost 130 0 before after
-program_wants files main before between after first (Err un.Memory) h is = one_read_more 128 130 before between after (omega arith) first h.2
-program_wants files main before between after first (Ok all) h is = absurd (cc is)
-program_wants files main before between after first (Err un.Absent) h is = absurd (cc is)
-program_wants files main before between after first (Err un.TooLong) h is = absurd (cc is)
-program_wants files main before between after first (Err un.Failed) h is = absurd (cc is)
-program_wants files main before between after first (Err (un.BadClass c n v)) h is = absurd (cc is)
+    → (e : Unloaded) → Judges files main between after (Err e) → failure_of e ≡ Memory → MakesAtMost 130 0 before after
+program_wants files main before between after first un.Memory h is = one_read_more 128 130 before between after (omega arith) first h.2
+program_wants files main before between after first un.Absent h is = absurd (cc is)
+program_wants files main before between after first un.TooLong h is = absurd (cc is)
+program_wants files main before between after first un.Failed h is = absurd (cc is)
+program_wants files main before between after first (un.BadClass c n v) h is = absurd (cc is)
 
 -- ---- faults are told
 
@@ -193,27 +166,6 @@ told_in un.Absent before after h = h
 told_in un.TooLong before after h = h
 told_in (un.BadClass c n v) before after h = h
 told_in un.Memory before after h = h
-
--- ---- the class file was had
-
-pub is_loaded : (files : Option Files) (main : Text) (f : ClassFile) → IsRead files f → own_name f ≡ main → runs_alone f main ≡ true → IsLoaded files main f
-is_loaded files main f read own alone = record {
-  bytes = read.bytes;
-  read = record { short = read.short; found = subst (λ (n : Text). Told files (λ m. m (class_file n) ≡ Some read.bytes)) own read.found };
-  alone = record { spells = read.spells; alone = alone };
-}
-
-pub two_reads_of : (before after : FolderCounts) → Makes 2 0 before after → MakesAtMost 130 0 before after
-two_reads_of before after makes = record { read = 2; written = 0; few_reads = omega arith; few_writes = omega arith; makes = makes }
-
-pub inputs_fail : (files : Option Files) (before between after : FolderCounts) (main inputs : Text) (f : ClassFile) → Makes 2 0 before after → NoneFalls before between → IsLoaded files main f
-    → (failure : Failure) → IsFailure (IsUngiven files between after f inputs) failure → IsFailure (NotRun files before after main inputs) failure
-inputs_fail files before between after main inputs f makes falls loads (Answered Absent) h = inr (makes, (f, loads, (rose_since _ _ _ falls.1 h.0, h.1)))
-inputs_fail files before between after main inputs f makes falls loads (Answered TooLong) h = inr (makes, (f, loads, (rose_since _ _ _ falls.2 h.0, h.1)))
-inputs_fail files before between after main inputs f makes falls loads (Answered ReadFault) h = (two_reads_of before after makes, rose_since _ _ _ falls.0 h)
-inputs_fail files before between after main inputs f makes falls loads (Answered (BadInputs number)) h = (makes, (f, loads, h))
-inputs_fail files before between after main inputs f makes falls loads (Answered _) h = absurd h
-inputs_fail files before between after main inputs f makes falls loads Memory h = tt
 
 -- ---- what a call hands on
 

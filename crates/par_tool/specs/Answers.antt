@@ -1,5 +1,5 @@
 -- How a call of the tool ends: what it says, and why.
-use Rattle.std.specs.Prelude.{◌≡◌, ℕ, List, [], ◌∷◌, Option, Result, Ok, Err, IsTrue}
+use Rattle.std.specs.Prelude.{◌≡◌, ℕ, suc, List, [], ◌∷◌, Option, Result, Ok, Err, IsTrue}
 use Rattle.std.specs.declared.string.String.{String}
 use Rattle.std.specs.declared.alloc.Global.{Global}
 use Rattle.par_io.specs.Causes.{FolderCounts, SinkCounts, Makes, Files}
@@ -78,7 +78,8 @@ abbrev pub RunCause : Scene → Wanted → Ran → Type 0
 RunCause s (Check file) ran = ⊥
 RunCause s (Compile file) ran = ⊥
 RunCause s (Trace file inputs bound) ran = ⊥
-RunCause s (Run main inputs steps) ran = IsRunOf s.files main inputs steps ran × ReadsOnly 2 s
+RunCause s (Run main inputs steps) ran =
+    (reads : ℕ) × IsRunOf s.files main inputs steps reads ran × ReadsOnly (suc reads) s
 
 -- Why a run of the source with this tree is told.
 abbrev pub TraceCause : Scene → Wanted → Source → source.Run → Type 0

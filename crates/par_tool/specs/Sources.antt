@@ -1,17 +1,21 @@
 -- What is said of sources: to check and to compile them.
-use Rattle.std.specs.Prelude.{◌≡◌, ℕ, ◌≤◌, Option, IsTrue, ◌∷◌, [], length}
+use Rattle.std.specs.Prelude.{◌≡◌, ℕ, ◌+◌, ◌*◌, ◌≤◌, Option, IsTrue, ◌∷◌, [], length}
 use Rattle.par_io.specs.Causes.{FolderCounts, Makes, Rose, Files, ToldBoth, Sets, StandBut}
 use Rattle.par_lexer.specs.Places.{line_at, column_at}
 use Rattle.par_class.specs.declared.file.ClassFile.{ClassFile}
 use Rattle.par_class.specs.Spelling.{Spells}
-use Rattle.par_secrecy.specs.Shows.{Shows}
+use Rattle.par_values.specs.declared.inputs.Inputs.{Inputs}
+use Rattle.par_values.specs.declared.run.Ending.TheVariants.{Stopped}
+use Rattle.par_secrecy.specs.Subject.{Fits}
+use Rattle.par_secrecy.specs.Target.{Target, fitting}
+use Rattle.par_secrecy.specs.Shows.{Shows, shown_run}
 use Rattle.par_secrecy.specs.SecureFiles.{SecureFiles}
 use Rattle.par_straight.specs.declared.program.Program.{Program}
+use Rattle.par_straight.specs.Meaning.{source_run}
 use Rattle.par_straight.specs.Subject.{subject}
 use Rattle.par_straight_compile.specs.Files.{IsFileOf}
-use Rattle.par_straight_shows.specs.Theorems.{ShowsWhole}
 use Rattle.par_single.specs.Single.{runs_alone}
-use Rattle.par_single_machine.specs.Target.{target}
+use Rattle.par_steps.specs.Target.{target}
 use Rattle.par_lexer.specs.declared.cut.TheConstants.{LONGEST_SOURCE}
 use Rattle.par_pool.specs.declared.reading.TheConstants.{LONGEST_CLASS}
 use Rattle.par_tool.specs.declared.answer.Answer.{Answer}
@@ -82,6 +86,13 @@ module _ (files : Option Files) (before after : FolderCounts) (file : Text) wher
   Checked Accepted = ReadSource files file IsAcceptedSource
   Checked answer = Rejected files before after file answer
 
+-- A run of the program that ends within n steps is shown whole within 16 n + 16 instructions.
+abbrev pub ShowsWhole : Target → Program → Type 0
+ShowsWhole target p =
+    (inputs : Inputs) → Fits (subject p) inputs → (n steps : ℕ)
+    → ((source_run p inputs n).ending ≡ Stopped → ⊥) → 16 * n + 16 ≤ steps
+    → target.run (fitting target inputs) steps ≡ shown_run (source_run p inputs n)
+
 -- The class file that was written for a program: it can be read again, it has the program's members
 -- and nothing of its policies, its runs are those of the program, and they are secure.
 pub record IsClassOf (p : Program) (bytes : Text) : Type 0 where
@@ -91,7 +102,7 @@ pub record IsClassOf (p : Program) (bytes : Text) : Type 0 where
   pub is : IsFileOf p file
   pub alone : IsTrue (runs_alone file p.class)
   pub shows : Shows (target (file ∷ []) p.class) (subject p)
-  pub whole : ShowsWhole (file ∷ []) p
+  pub whole : ShowsWhole (target (file ∷ []) p.class) p
   pub secure : SecureFiles (target (file ∷ []) p.class) (subject p)
 
 -- One class file was written, and all other files stand.

@@ -39,7 +39,7 @@ pub enum Answer {
     WriteFault,
     /// A file is too long.
     TooLong,
-    /// The source, or the class file, is of a form that is not built yet.
+    /// The source is of a form that is not built yet.
     NotBuilt,
     /// A class file is refused: the class, the number of the refusal, and what it carries.
     BadClass {

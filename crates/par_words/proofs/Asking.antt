@@ -1,14 +1,19 @@
--- Words ask for one thing, and for a run of a class with a name.
-use Rattle.std.proofs.Common.{◌≡◌, ℕ, Bool, true, false, List, [], ◌∷◌, Some, sym, ap, ◌∙◌}
+-- Words ask for one thing, and for a run of a class with a name and for few instructions.
+use Rattle.std.proofs.Common.{◌≡◌, ℕ, ◌≤◌, Bool, true, false, ◌&&◌, cond, nat_le, List, [], ◌∷◌, Some, None, refl, sym, ap, ◌∙◌, arith}
 use Rattle.std.specs.declared.string.String.{String}
 use Rattle.std.specs.declared.alloc.Global.{Global}
+use Rattle.std.proofs.lemmas.Bool.{and_parts}
+use Rattle.std.proofs.lemmas.Bool.Decides.{nat_tests}
+use Rattle.std.proofs.lemmas.Option.{none-some, same_Some}
 use Rattle.clap.specs.Words.{Row}
 use Rattle.std.specs.Prelude.{codes}
 use Rattle.par_lexer.specs.Names.{IsName}
+use Rattle.par_lexer.specs.Pieces.{value}
+use Rattle.par_inputs.specs.Numbers.{is_decimal, magnitude_of}
 use Rattle.par_words.specs.declared.words.Which.{Which}
 use Rattle.par_words.specs.declared.words.Which.TheVariants.{Compiler, Runner}
 use Rattle.par_words.specs.Commands.{Text, texts, rows, values, has_flag}
-use Rattle.par_words.specs.Words.{Wanted, Check, Compile, Trace, Run, AreRun, AskRun, AreTraced, AskTrace, AskSource, IsSource, IsTrace, IsCompiler, IsRun, IsForm, Asks}
+use Rattle.par_words.specs.Words.{Wanted, Check, Compile, Trace, Run, AreRun, AskRun, AreTraced, AskTrace, AskSource, IsSource, IsTrace, IsCompiler, IsRun, IsForm, Asks, most_steps}
 
 one_file : (checked : Bool) (file : Text) (v w : Wanted) → AskSource checked file v → AskSource checked file w → v ≡ w
 one_file true file (Check f) (Check g) x y = ap Check (sym x ∙ y)
@@ -126,3 +131,31 @@ form_named Runner found main inputs steps asks = run_named (values found) main i
 -- the name of the class of a run is one
 pub asks_named : (which : Which) (words : List (String Global)) (main inputs : Text) (steps : ℕ) → Asks which words (Run main inputs steps) → IsName main
 asks_named which words main inputs steps asks = form_named which (rows which (texts words)) main inputs steps asks.1
+
+-- ---- the number of instructions of a run
+
+bounded_by : (most n : ℕ) (text : Text) (right : Bool) → (is_decimal text && nat_le (value text) most) ≡ right → cond right (Some (value text)) None ≡ Some n → n ≤ most
+bounded_by most n text true right is =
+    let same : value text ≡ n = same_Some _ _ is in
+    let small : nat_le (value text) most ≡ true = (and_parts (is_decimal text) (nat_le (value text) most) right).1 in
+    grind (arith, nat_tests)
+bounded_by most n text false right is = absurd (none-some n is)
+
+bounded : (most n : ℕ) (text : Text) → magnitude_of most text ≡ Some n → n ≤ most
+bounded most n text is = bounded_by most n text (is_decimal text && nat_le (value text) most) refl is
+
+run_few : (vs : List Text) (main inputs : Text) (steps : ℕ) → IsRun vs (Run main inputs steps) → steps ≤ most_steps
+run_few [] main inputs steps asks = absurd asks
+run_few (a ∷ []) main inputs steps asks = absurd asks
+run_few (a ∷ b ∷ []) main inputs steps asks = absurd asks
+run_few (a ∷ b ∷ c ∷ []) main inputs steps asks = bounded most_steps steps c asks.number.0
+run_few (a ∷ b ∷ c ∷ d ∷ more) main inputs steps asks = absurd asks
+
+form_few : (which : Which) (found : List Row) (main inputs : Text) (steps : ℕ) → IsForm which found (Run main inputs steps) → steps ≤ most_steps
+form_few Compiler found main inputs steps asks =
+    absurd (no_run (has_flag (codes "check") found) (has_flag (codes "trace") found) (values found) main inputs steps asks)
+form_few Runner found main inputs steps asks = run_few (values found) main inputs steps asks
+
+-- is at most the greatest
+pub asks_few : (which : Which) (words : List (String Global)) (main inputs : Text) (steps : ℕ) → Asks which words (Run main inputs steps) → steps ≤ most_steps
+asks_few which words main inputs steps asks = form_few which (rows which (texts words)) main inputs steps asks.1

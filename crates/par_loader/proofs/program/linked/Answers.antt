@@ -14,8 +14,8 @@ bad_class-requires-in-Err-Broken c =
     let name = c.name_at-in-Err-Broken.ensures ∙ name_is (λ k. k.items) c.args.loading.names.keys files c.args.loading.names_are c.in-Err-Broken.class in
     subst IsName (sym name) (name_named files c.in-Err-Broken.class c.args.loading.named (broken-within files b is))
 
-pub returns-in-Err-Broken : goal.returns-in-Err-Broken
-returns-in-Err-Broken c =
+pub returns-in-Err-Broken-clause-links : goal.returns-in-Err-Broken-clause-links
+returns-in-Err-Broken-clause-links c =
     let files = c.args.loading.files in
     let b : Broken = record { number = c.in-Err-Broken.number; class = c.in-Err-Broken.class; index = c.in-Err-Broken.index } in
     let is : first_broken files ≡ Some b = rw c.in-Err-Broken.field-0-is at c.in-Err-Broken.ensures.broken in

@@ -36,7 +36,7 @@ returns-in_err-file-clause-loads g c =
     let e = c.in_err-file.field-0.0 in
     let stepped = subst (λ (fs : Option Files). (o : Option Text) × WasFound fs m.name o × Steps (step m o) (g.F.Folder.counts c.loop.folder) after (Err e)) c.loop.invariant.0 c.in_err-file.ensures.step in
     let all : Loads files main before after (Err e) =
-    fails files main c.loop.loading.files c.loop.counter before (g.F.Folder.counts c.loop.folder) after c.loop.invariant.2 (omega (arith, c.loop-test.true)) m (sym c.in-Some.ensures.first) e stepped in
+    fails files c.args.file c.loop.loading.files c.loop.counter before (g.F.Folder.counts c.loop.folder) after c.loop.invariant.2 (omega (arith, c.loop-test.true)) m (sym c.in-Some.ensures.first) e stepped in
     let back = err_from_is_err_and c.from_residual-in_err-file.result c.from_residual-in_err-file.ensures.1 in
     subst (Loads files main before after) (sym back.1) (subst (λ (x : Unloaded). Loads files main before after (Err x)) (sym back.2) all)
 
@@ -53,7 +53,7 @@ returns-in_err-loading-2-clause-loads g c =
     let m = naming c.in-Some.mention in
     let f = c.in_ok-file.file in
     let stepped = subst (λ (fs : Option Files). (o : Option Text) × WasFound fs m.name o × Steps (step m o) (g.F.Folder.counts c.loop.folder) after (Ok f)) c.loop.invariant.0 c.in_ok-file.ensures.step in
-    lacks files (own_name c.args.file) c.loop.loading.files c.loop.counter before (g.F.Folder.counts c.loop.folder) after c.loop.invariant.2 (omega (arith, c.loop-test.true)) m (sym c.in-Some.ensures.first)
+    lacks files c.args.file c.loop.loading.files c.loop.counter before (g.F.Folder.counts c.loop.folder) after c.loop.invariant.2 (omega (arith, c.loop-test.true)) m (sym c.in-Some.ensures.first)
     f c.from_residual-in_err-loading-2.result stepped c.from_residual-in_err-loading-2.ensures.1
 
 pub loop-preserved : goal.loop-preserved
@@ -67,7 +67,7 @@ loop-preserved g c =
     let read = c.in_ok-file.ensures.read in (
       c.named_file.ensures.kept ∙ c.loop.invariant.0,
       (λ alone. c.in_ok-file.ensures.faults_are_told alone ∙ c.loop.invariant.1 alone),
-      goes files (own_name c.args.file) c.loop.loading.files c.loop.counter before (g.F.Folder.counts c.loop.folder) after c.loop.invariant.2 (omega (arith, c.loop-test.true)) m (sym c.in-Some.ensures.first)
+      goes files c.args.file c.loop.loading.files c.loop.counter before (g.F.Folder.counts c.loop.folder) after c.loop.invariant.2 (omega (arith, c.loop-test.true)) m (sym c.in-Some.ensures.first)
           f c.in_ok-loading-2.loading.files stepped c.in_ok-file.ensures.own (read.bytes, read.spells) c.named_file.ensures.none_falls c.in_ok-loading-2.ensures,
     )
 

@@ -1,7 +1,6 @@
-use Rattle.par_single_machine.specs.Machine.{files_of, state_of}
 use Rattle.par_runner.proofs.Loop.{IsTelling}
 use Rattle.par_runner.proofs.run.tell_events.Given as goal
 
 abbrev pub invariant-loop-done : goal.invariant-loop-done
 invariant-loop-done g l =
-    IsTelling g.S.Sink.counts_faults_alone (files_of l.fn.machine) l.fn.steps l._done (state_of l.fn.machine) l.machine (g.S.Sink.held l.fn.out) (g.S.Sink.held l.out) (g.S.Sink.counts l.fn.out) (g.S.Sink.counts l.out)
+    IsTelling g.S.Sink.counts_faults_alone l.fn.machine l.fn.steps l._done l.machine (g.S.Sink.held l.fn.out) (g.S.Sink.held l.out) (g.S.Sink.counts l.fn.out) (g.S.Sink.counts l.out)

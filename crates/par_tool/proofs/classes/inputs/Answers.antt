@@ -1,11 +1,10 @@
-use Rattle.std.proofs.Common.{◌≡◌, ◌<◌, ◌^◌, [], ◌∷◌, Some, length, sym, ap, ◌∙◌, arith, rules}
+use Rattle.std.proofs.Common.{◌≡◌, ◌<◌, ◌^◌, Some, length, sym, ap, ◌∙◌, arith, rules}
 use Rattle.par_inputs.specs.Lines.{lines_of}
 use Rattle.par_inputs.specs.Rules.{entries}
-use Rattle.par_single_machine.specs.Misfits.{first_misfit}
-use Rattle.par_single_machine.proofs.Misfits.{told_of_few}
-use Rattle.par_tool.specs.Classes.{misfit_in}
+use Rattle.par_link.specs.Inputs.{first_misfit}
 use Rattle.par_tool.specs.Given.{misfit}
 use Rattle.par_tool.proofs.Few.{few}
+use Rattle.par_tool.proofs.Misfits.{told_of_few}
 use Rattle.par_tool.proofs.classes.inputs.Goals as goal
 
 pub returns-clause-failed : goal.returns-clause-failed
@@ -15,9 +14,9 @@ returns-clause-failed g c =
     let same = ap length c.as_slice.ensures.value in
     let short = c.in_ok-text.ensures.short in
     let few_lines : length c.in-Ok.inputs.channels < 2 ^ 32 = omega (arith, are, same, short, few bytes) in
-    let first : misfit_in c.args.file.now bytes ≡ Some c.in-Some.place =
-    ap (first_misfit (c.args.file.now ∷ [])) (sym c.in-Ok.ensures.entries)
-    ∙ sym (told_of_few (c.args.file.now ∷ []) c.in-Ok.inputs.channels few_lines)
+    let first : first_misfit c.args.linked.now (entries (lines_of bytes)) ≡ Some c.in-Some.place =
+    ap (first_misfit c.args.linked.now) (sym c.in-Ok.ensures.entries)
+    ∙ sym (told_of_few c.args.linked.now c.in-Ok.inputs.channels few_lines)
     ∙ sym c.inputs_fit.ensures ∙ c.in-Some.is in
     record {
       text = bytes;

@@ -1,5 +1,5 @@
-use Rattle.std.proofs.Common.{refl, subst}
-use Rattle.par_words.proofs.Asking.{asks_named}
+use Rattle.std.proofs.Common.{refl, subst, arith}
+use Rattle.par_words.proofs.Asking.{asks_named, asks_few}
 use Rattle.par_tool.specs.declared.reading.Failure.{Failure}
 use Rattle.par_tool.specs.Answers.{BreaksOff}
 use Rattle.par_tool.proofs.Exact as exactly
@@ -11,6 +11,13 @@ pub started-requires : goal.started-requires
 started-requires g c =
     let asks = rw c.in-Run.is at c.in-Ok.ensures in
     asks_named _ _ c.in-Run.main.now c.in-Run.inputs.now c.in-Run.steps asks
+
+pub tell_run-requires : goal.tell_run-requires
+tell_run-requires g c =
+    let asks = rw c.in-Run.is at c.in-Ok.ensures in
+    let few = asks_few _ _ c.in-Run.main.now c.in-Run.inputs.now c.in-Run.steps asks in
+    let fresh = c.in-Ok-started.ensures.started.1.fresh in
+    omega (arith, few, fresh)
 
 pub returns-in-Err-clause-ends : goal.returns-in-Err-clause-ends
 returns-in-Err-clause-ends g c =
@@ -40,7 +47,7 @@ returns-in-Err-trace_source-clause-ends g c =
 pub returns-in-Ok-started-clause-ends : goal.returns-in-Ok-started-clause-ends
 returns-in-Ok-started-clause-ends g c =
     let asks = rw c.in-Run.is at c.in-Ok.ensures in
-    run_ends _ _ _ _ _ _ _ _ c.in-Run.main.now c.in-Run.inputs.now c.in-Run.steps c.in-Ok-started.machine asks c.in-Ok-started.ensures.counted c.in-Ok-started.ensures.kept c.in-Ok-started.ensures.started c.tell_run.ensures.said
+    run_ends _ _ _ _ _ _ _ _ c.in-Run.main.now c.in-Run.inputs.now c.in-Run.steps c.in-Ok-started.machine asks c.in-Ok-started.ensures.kept c.in-Ok-started.ensures.started c.tell_run.ensures.said
 
 pub returns-in-Err-started-clause-ends : goal.returns-in-Err-started-clause-ends
 returns-in-Err-started-clause-ends g c =

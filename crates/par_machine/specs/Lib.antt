@@ -1,0 +1,10 @@
+pub mod Instructions
+pub mod Turn
+pub mod Objects
+pub mod Frames
+pub mod Running
+pub mod Site
+pub mod Throwing
+pub mod Settled
+pub mod Advanced
+pub mod Machine

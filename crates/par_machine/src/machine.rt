@@ -1,0 +1,91 @@
+//! The machine: linked class files, and a run of them in progress.
+
+ghost use Rattle.std.specs.Prelude.{ℕ, ◌≤◌, length};
+ghost use Rattle.par_heap.specs.Heap.{objects_of};
+ghost use Rattle.par_machine.specs.Running.{IsSound};
+
+use crate::running::Running;
+use crate::starting::begin;
+use crate::turn::{Stuck, Turn};
+use par_lexer::list::NoMemory;
+use par_link::Linked;
+use par_method_area::MethodArea;
+use par_values::inputs::Inputs;
+use par_values::value::MVal;
+use std::alloc::Global;
+
+/// A machine that runs linked class files.
+///
+/// Contracts see the files that it runs, its state, and how many instructions it has run. A step
+/// takes memory only where it calls a method or makes an object, or where names are handed out: in
+/// an event, an ending or bad code.
+#[derive(Drop)]
+pub struct Machine {
+    alloc: Global,
+    area: MethodArea,
+    running: Running,
+    steps: u32,
+    ghost sound: { IsSound area running },
+    ghost few: { (class : ℕ) → length (objects_of running.heap class) ≤ steps },
+}
+
+impl Machine {
+    ghost use Rattle.std.specs.Prelude.{◌≡◌, ◌<◌, ◌+◌, ◌⊎◌, true, IfOk, IsErrOf, IsSome, IsTrue, slice_get};
+    ghost use Rattle.par_steps.specs.State.{start, main_place};
+    ghost use Rattle.par_steps.specs.Step.{turn};
+    ghost use Rattle.par_steps.specs.Places.{all_places};
+    ghost use Rattle.par_machine.specs.Machine.{files_of, state_of, steps_of, is_asking_at};
+    ghost use Rattle.par_machine.specs.Turn.{IsTurn, MakesOrTells, is_over};
+
+    /// A machine before the first instruction of the method `main` of a class, with these inputs.
+    ///
+    /// A channel that the inputs name and no file has is never asked.
+    pub fn start(
+        alloc: Global,
+        linked: Linked,
+        main: u16,
+        inputs: Inputs,
+    ) -> Result<Machine, NoMemory>
+        requires { IsSome (main_place (slice_get linked main)) }
+        ensures files { IfOk result (λ machine. files_of machine ≡ linked) }
+        ensures state { IfOk result (λ machine. state_of machine ≡ start linked main inputs) }
+        ensures steps { IfOk result (λ machine. steps_of machine ≡ 0) }
+    {
+        let area = MethodArea::of(alloc, linked, &inputs)?;
+        let running = begin(alloc, &area, main, inputs)?;
+        Ok(Machine {
+            alloc,
+            area,
+            running,
+            steps: 0,
+        })
+    }
+
+    /// Runs one instruction.
+    ///
+    /// After want of memory nothing is said of the state.
+    #[inline(always)]
+    pub fn step(&mut self) -> Result<Turn, Stuck>
+        requires { steps_of self.old < 4000000000 }
+        ensures turn { IsTurn result
+            (turn (files_of self.old) (state_of self.old)) (state_of self.new) }
+        ensures memory { IsErrOf result Stuck.Memory →
+            MakesOrTells (turn (files_of self.old) (state_of self.old)) (state_of self.old)
+            ⊎ (is_asking_at self.old ≡ true) }
+        // A further step answers the same.
+        ensures over { IsTrue (is_over result) → state_of self.new ≡ state_of self.old }
+        ensures files { files_of self.new ≡ files_of self.old }
+        ensures steps { steps_of self.new ≡ steps_of self.old + 1 }
+    {
+        self.steps += 1;
+        self.running.advance(self.alloc, &self.area)
+    }
+
+    /// The places of all frames in one row, the outermost first.
+    pub fn places(&self) -> &[Option<MVal>]
+        ensures { result.now ≡ all_places (files_of self.now) (state_of self.now).frames }
+    {
+        let _ = self.running.stack.point();
+        self.running.stack.places()
+    }
+}

@@ -1,0 +1,12 @@
+use par_heap::{Heap, Statics};
+use par_lines::Lines;
+use par_stack::Stack;
+
+/// A run in progress: its frames, and what all of them share.
+#[derive(Drop)]
+pub(crate) struct Running {
+    pub(crate) stack: Stack,
+    pub(crate) statics: Statics,
+    pub(crate) heap: Heap,
+    pub(crate) lines: Lines,
+}

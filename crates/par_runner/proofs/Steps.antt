@@ -1,0 +1,46 @@
+-- What one instruction makes of the run of a machine, and what of it is told.
+use Rattle.std.proofs.Common.{◌≡◌, ℕ, suc, List, Option, Result, Ok, Err, IfOk, IfErr, IsErrAnd, sym, subst}
+use Rattle.par_io.specs.Causes.{SinkCounts}
+use Rattle.par_values.specs.declared.run.Event.{Event}
+use Rattle.par_values.specs.Ran.{Ran, with_event}
+use Rattle.par_class.specs.declared.file.ClassFile.{ClassFile}
+use Rattle.par_machine.specs.declared.machine.Machine.{Machine}
+use Rattle.par_machine.specs.declared.turn.Turn as told
+use Rattle.par_machine.specs.declared.turn.Stuck.{Stuck}
+use Rattle.par_machine.specs.Machine.{files_of, state_of}
+use Rattle.par_machine.specs.Turn.{IsTurn}
+use Rattle.par_steps.specs.State.{State}
+use Rattle.par_steps.specs.Step.{Turn, turn}
+use Rattle.par_steps.specs.Run.{run, followed}
+use Rattle.par_runner.specs.declared.memory.NoMemory.{NoMemory}
+use Rattle.par_runner.specs.declared.running.Moved.{Moved}
+use Rattle.par_runner.specs.declared.telling.Untold.{Untold}
+use Rattle.par_runner.specs.declared.telling.Untold.TheVariants.{Fault, Memory}
+use Rattle.par_runner.specs.Texts.{Text, line, event_text}
+use Rattle.par_runner.specs.Running.{runs_of, Moves}
+use Rattle.par_runner.specs.Telling.{IsUntold, IsUntoldTurn}
+
+-- what holds of a result for each number holds for all of them
+each_ok : {A E : Type 0} (r : Result A E) (P : ℕ → A → Type 0) → ((n : ℕ) → IfOk r (P n)) → IfOk r (λ x. (n : ℕ) → P n x)
+each_ok (Ok x) P each = each
+each_ok (Err e) P each = tt
+
+pub moves : (m after : Machine) (done : Result told.Turn Stuck) (r : Result Moved NoMemory) → IsTurn done (turn (files_of m) (state_of m)) (state_of after) → files_of after ≡ files_of m
+    → ((t : Turn) (s : State) (rest : State → Ran) → IsTurn done t s → IfOk r (λ moved. Moves moved (followed t rest) (rest s)))
+    → IfOk r (λ moved. (n : ℕ) → Moves moved (runs_of m (suc n)) (runs_of after n))
+moves m after done r turned same tells =
+    each_ok r (λ n moved. Moves moved (runs_of m (suc n)) (runs_of after n))
+    (λ n. subst (λ (fs : List ClassFile). IfOk r (λ moved. Moves moved (runs_of m (suc n)) (run fs n (state_of after)))) (sym same)
+    (tells (turn (files_of m) (state_of m)) (state_of after) (run (files_of m) n) turned))
+
+untold_at : (runs later : ℕ → Ran) (e : Event) (old new : Option Text) (before after : SinkCounts) → ((n : ℕ) → runs (suc n) ≡ with_event e (later n))
+    → (u : Untold) → IsUntold (line (event_text e)) old new before after u → IsUntoldTurn runs old new before after u
+untold_at runs later e old new before after is Fault h = record { event = e; later = later; is = is; rose = h.0; puts = h.1; front = h.2 }
+untold_at runs later e old new before after is Memory h = h
+
+-- an event's line that is not put whole is handed on as such
+pub untold_event : {A : Type 0} (runs later : ℕ → Ran) (e : Event) (old new : Option Text) (before after : SinkCounts) → ((n : ℕ) → runs (suc n) ≡ with_event e (later n))
+    → (u : Untold) → IsUntold (line (event_text e)) old new before after u → (r : Result A Untold) → IsErrAnd r (λ v. v ≡ u) → IfErr r (IsUntoldTurn runs old new before after)
+untold_event runs later e old new before after is u h (Ok x) same = tt
+untold_event runs later e old new before after is u h (Err v) same =
+    subst (IsUntoldTurn runs old new before after) (sym same) (untold_at runs later e old new before after is u h)

@@ -1,0 +1,54 @@
+-- Class files that are linked are run.
+use Rattle.std.proofs.Common.{◌≡◌, ℕ, suc, ◌+◌, List, Option, Some, Ok, slice_get, sym, ap, subst, ◌∙◌, arith}
+use Rattle.par_io.specs.Causes.{FolderCounts, Makes, NoneFalls, Files}
+use Rattle.par_values.specs.declared.inputs.Inputs.{Inputs}
+use Rattle.par_class.specs.declared.file.ClassFile.{ClassFile}
+use Rattle.par_single.specs.Members.{own_name}
+use Rattle.par_link.specs.Inputs.{first_misfit}
+use Rattle.par_steps.specs.State.{start}
+use Rattle.par_machine.specs.declared.machine.Machine.{Machine}
+use Rattle.par_machine.specs.Machine.{files_of, state_of, steps_of}
+use Rattle.par_loader.specs.Ends.{Judges}
+use Rattle.par_loader.proofs.Counting.{makes_both, none_falls}
+use Rattle.par_tool.specs.declared.reading.Failure.{Failure}
+use Rattle.par_tool.specs.Failures.{IsFailure}
+use Rattle.par_tool.specs.Given.{AreInputs, IsUngiven}
+use Rattle.par_tool.specs.Outside.{Text, MakesAtMost}
+use Rattle.par_tool.specs.Classes.{AreLinked, NotRun, Starts}
+use Rattle.par_tool.proofs.Beginning.{first_number}
+use Rattle.par_tool.proofs.Loads.{all_reads, inputs_fail}
+
+module _ (files : Option Files) (main name : Text) (first before between after : FolderCounts) (all : List ClassFile) (behind : Makes 1 0 first before)
+    (h : Judges files main before between (Ok all)) (makes : Makes 1 0 between after) where
+  links_all : AreLinked files main (suc h.2.0) all
+  links_all = record { classes = h.0; of = h.1; links = h.2.2 }
+
+  makes_all : Makes (suc (suc h.2.0)) 0 first after
+  makes_all =
+      let e : 1 + (h.2.0 + 1) ≡ suc (suc h.2.0) = omega arith in
+      subst (λ (n : ℕ). Makes n 0 first after) e (makes_both (h.2.0 + 1) 1 first between after (makes_both 1 h.2.0 first before between behind h.2.1) makes)
+
+  pub fails : NoneFalls first before → NoneFalls before between → (failure : Failure) → IsFailure (IsUngiven (first_misfit all) files between after name) failure
+      → IsFailure (NotRun files first after main name) failure
+  fails fell falls failure unfit =
+      inputs_fail files main name first between after (suc h.2.0) all makes_all (none_falls first before between fell falls) links_all failure unfit
+
+  pub wants : MakesAtMost 130 0 first after
+  wants = all_reads files main (suc h.2.0) all links_all first after makes_all
+
+  pub starts : (f : ClassFile) → slice_get all 0 ≡ Some f → own_name f ≡ main → (m : Machine) (lists : Inputs)
+      → AreInputs (first_misfit all) files name lists → files_of m ≡ all → state_of m ≡ start all 0 lists → steps_of m ≡ 0
+      → Starts files first after main name m
+  starts f is own m lists given same begun fresh = (
+    suc h.2.0,
+    record {
+      all = all;
+      lists = lists;
+      linked = links_all;
+      given = given;
+      runs = same;
+      begun = begun ∙ ap (λ (n : ℕ). start all n lists) (sym (first_number all f main is own));
+      fresh = fresh;
+    },
+    makes_all,
+  )
