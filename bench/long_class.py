@@ -3,17 +3,19 @@
     python3 long_class.py PARAGON [ENTRIES [FIELDS]]
 
 PARAGON is the path of the built program. Without more words a file has 50,000 pool entries and
-60,000 fields of 30,000 names, each of them with the descriptors I and Z. The first file has a
-method `main` that returns, and names no class but its own; the second also names a field that is
-not there; the third lacks its last byte. Printed are each answer, the seconds and the most memory.
+60,000 fields of 30,000 names, each of them with the descriptors I and Z. The first file has half as
+many of both, the second is whole; both have a method `main` that returns, and name no class but
+their own. The third also names a field that is not there; the fourth lacks its last byte. Printed
+are each answer, the processor seconds and the most memory; how many times the machine instructions
+of the line before, where valgrind is there; and of the files that run what the interpreter of java
+takes, where it is there.
 """
 import os
-import resource
 import struct
-import subprocess
 import sys
 import tempfile
-import time
+
+from measured import growth, instructions, launcher, least
 
 
 def utf8(text):
@@ -39,16 +41,20 @@ def class_file(wanted, fields, absent):
 
 paragon = os.path.abspath(sys.argv[1])
 wanted, fields = (list(map(int, sys.argv[2:])) + [50000, 60000][len(sys.argv) - 2:])[:2]
-whole = class_file(wanted, fields, False)
+files = [class_file(wanted // 2, fields // 2, False), class_file(wanted, fields, False)]
+files += [class_file(wanted, fields, True), files[1][:-1]]
 with tempfile.TemporaryDirectory() as folder:
     open(os.path.join(folder, "in.txt"), "w").close()
-    for bytes_ in (whole, class_file(wanted, fields, True), whole[:-1]):
+    java, before = launcher(folder), None
+    for bytes_ in files:
         with open(os.path.join(folder, "Long.class"), "wb") as out:
             out.write(bytes_)
-        begun = time.time()
-        ran = subprocess.run(
-            [paragon, "Long", "in.txt", "1000"], cwd=folder, capture_output=True, text=True
-        )
-        seconds = time.time() - begun
-        most = resource.getrusage(resource.RUSAGE_CHILDREN).ru_maxrss // 1024
-        print(f"{len(bytes_)} bytes: {ran.stdout.strip()}, {seconds:.2f} s, {most} MB")
+        words = [paragon, "Long", "in.txt", "1000"]
+        told, seconds, most = least(words, folder)
+        counted = instructions(words, folder)
+        line = f"{len(bytes_)} bytes: {told}, {seconds:.2f} s, {most} MB{growth(before, counted)}"
+        before = counted
+        if java and told == "end":
+            _, seconds, most = least([*java, "Long"], folder)
+            line += f"; java -Xint {seconds:.2f} s, {most} MB"
+        print(line, flush=True)

@@ -4,15 +4,16 @@
 
 PARAGON is the path of the built program. Without more words there are 128 files of 20,000 pool
 entries and 256 members each, with names of 63 bytes. No class has a method `main`, so that the
-program ends once all files are linked. Printed are its line, the seconds and the most memory.
+program ends once all files are linked. Half as many files are timed first. Printed are the line of
+each, the processor seconds, the most memory and, where valgrind is there, how many times the
+machine instructions of the line before.
 """
 import os
-import resource
 import struct
-import subprocess
 import sys
 import tempfile
-import time
+
+from measured import growth, instructions, least
 
 
 def class_file(own, files, wanted, members):
@@ -53,13 +54,15 @@ def class_file(own, files, wanted, members):
 
 paragon = os.path.abspath(sys.argv[1])
 files, wanted, members = (list(map(int, sys.argv[2:])) + [128, 20000, 256][len(sys.argv) - 2:])[:3]
-with tempfile.TemporaryDirectory() as folder:
-    for own in range(files):
-        with open(os.path.join(folder, f"C{own:03}.class"), "wb") as out:
-            out.write(class_file(own, files, wanted, members))
-    open(os.path.join(folder, "in.txt"), "w").close()
-    start = time.time()
-    ended = subprocess.run([paragon, "C000", "in.txt", "1"], cwd=folder, capture_output=True, text=True)
-    seconds = time.time() - start
-kilobytes = resource.getrusage(resource.RUSAGE_CHILDREN).ru_maxrss
-print(ended.stdout.strip(), f"{seconds:.2f} s", f"{kilobytes // 1024} MB")
+before = None
+for many in (files // 2, files):
+    with tempfile.TemporaryDirectory() as folder:
+        for own in range(many):
+            with open(os.path.join(folder, f"C{own:03}.class"), "wb") as out:
+                out.write(class_file(own, many, wanted, members))
+        open(os.path.join(folder, "in.txt"), "w").close()
+        words = [paragon, "C000", "in.txt", "1"]
+        told, seconds, most = least(words, folder)
+        counted = instructions(words, folder)
+    print(f"{many} files: {told}, {seconds:.2f} s, {most} MB{growth(before, counted)}", flush=True)
+    before = counted

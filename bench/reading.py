@@ -1,19 +1,16 @@
 #!/usr/bin/env python3
 """Times how long `paragonc --check` takes to read sources of 131,072 and of 262,144 bytes.
 
-Each source is a sentence that is no straight-line source, so that it is read whole and then
-answered with `not built`. paragonc has to be built (README.md, "Commands"). Where there is
-valgrind, the growth is the quotient of the machine instructions that both take, which other load
-does not change; else that of the times, the time of an empty source taken off each.
+Each source is a sentence that breaks a rule on names, so that it is read whole and then refused.
+Printed are the processor seconds of both, and, where valgrind is there, how many times the machine
+instructions the whole takes. paragonc has to be built (README.md, "Commands").
 """
 
 import pathlib
-import re
-import shutil
-import subprocess
 import sys
 import tempfile
-import time
+
+from measured import instructions, least
 
 ROOT = pathlib.Path(__file__).resolve().parent.parent
 PARAGONC = ROOT / "crates/paragonc/out/paragonc"
@@ -69,33 +66,11 @@ SHAPES = {
 }
 
 
-def seconds(folder, source):
+def measured(folder, source):
     (folder / "a.par").write_text(source)
-    best = None
-    for _ in range(TURNS):
-        begun = time.perf_counter()
-        answer = subprocess.run(
-            [PARAGONC, "--check", "a.par"], cwd=folder, capture_output=True, text=True
-        ).stdout
-        taken = time.perf_counter() - begun
-        best = taken if best is None else min(best, taken)
-    return best, answer.strip()
-
-
-def instructions(folder, source):
-    (folder / "a.par").write_text(source)
-    words = ["valgrind", "--tool=callgrind", "--callgrind-out-file=/dev/null", PARAGONC]
-    told = subprocess.run(
-        [*words, "--check", "a.par"], cwd=folder, capture_output=True, text=True
-    ).stderr
-    return int(re.search(r"Collected : (\d+)", told)[1])
-
-
-def growth(folder, source, half, whole):
-    if shutil.which("valgrind"):
-        lesser = instructions(folder, source(LONGEST // 2))
-        return instructions(folder, source(LONGEST)) / lesser
-    return whole / max(half, 1e-6)
+    words = [PARAGONC, "--check", "a.par"]
+    answer, seconds, _ = least(words, folder, TURNS)
+    return seconds, instructions(words, folder), answer
 
 
 def main():
@@ -103,13 +78,12 @@ def main():
         sys.exit(f"there is no {PARAGONC}")
     with tempfile.TemporaryDirectory() as name:
         folder = pathlib.Path(name)
-        start, _ = seconds(folder, "")
-        print(f"{'shape':24} {'half':>8} {'whole':>8} {'growth':>7}  answer")
+        print(f"{'shape':24} {'half':>6} {'whole':>6} {'growth':>7}  answer")
         for shape, source in SHAPES.items():
-            half, _ = seconds(folder, source(LONGEST // 2))
-            whole, answer = seconds(folder, source(LONGEST))
-            times = growth(folder, source, half - start, whole - start)
-            print(f"{shape:24} {half:8.3f} {whole:8.3f} {times:7.2f}  {answer}")
+            half, lesser, _ = measured(folder, source(LONGEST // 2))
+            whole, greater, answer = measured(folder, source(LONGEST))
+            times = f"{greater / lesser:.2f}" if lesser else "-"
+            print(f"{shape:24} {half:6.2f} {whole:6.2f} {times:>7}  {answer}", flush=True)
 
 
 if __name__ == "__main__":

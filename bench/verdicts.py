@@ -10,20 +10,27 @@ PARAGONC is the path of the built program. Without more words all kinds are trie
     fields    a value that joins 120 inputs to 120 fields of the same policies
     locks     a value that joins 140 inputs to one field, with other locks open most times
     classes   128 classes, as large as a source allows
-    half      methods of 2,000 nodes, as many as half a source allows
-    methods   twice as many
+    methods   methods of 2,000 nodes, as many as a source allows
+    joins     a policy of 2,000 joins of one policy that has 32 clauses of 16 locks
+    throws    780 calls of a method that throws 120 classes, with 199 locals
     loops     200 locals in 60 nested loops, of which each is copied to the next
     locals    methods of 2,000 nodes and 200 locals, as many as a source allows
-    doubled   loops and writes of one value, each twice as long as the last
+    doubled   loops, writes of one value, methods, joins and classes that are thrown, each twice as
+              many as the last
 
-Printed are the kind, the bytes, the answer, the processor seconds and the most memory.
+Printed are the kind, the bytes, the answer, the processor seconds and the most memory; of sources
+without policies, which are Java too, also those of javac where it is there; and of the doubled ones
+how many times the machine instructions of the line before, where valgrind is there.
 """
 import os
-import subprocess
+import shutil
 import sys
 import tempfile
 
+from measured import growth, instructions, least
+
 MOST_BYTES, MOST_NODES = 262144, 2000
+JAVA = ("classes", "methods", "locals")
 LOCKS = [letter + digit for letter in "abcdefgh" for digit in "0123456789abcdefghijklmnopqrstuv"]
 OPENED, SHUT = LOCKS[:224], LOCKS[224:]
 
@@ -100,12 +107,23 @@ def classes():
     )
 
 
-def methods():
-    return of_methods(MOST_BYTES, "int a=0;", 10)
+def methods(most=MOST_BYTES):
+    return of_methods(most, "int a=0;", 10)
 
 
-def half():
-    return of_methods(MOST_BYTES // 2, "int a=0;", 10)
+def joins(number=2000):
+    source = ["actor a;"] + [f"lock {lock};" for lock in LOCKS]
+    source += [f"policy P={policy(0, SHUT)};", "policy Q=P" + "*P" * number + ";"]
+    return "".join(source) + "class C{static void main(){}}"
+
+
+def throws(classes=120):
+    named = [f"E{n}" for n in range(classes)]
+    thrown = "".join(f" throws {name} bottom" for name in named)
+    source = [f"class {name} extends Exception{{}}" for name in named]
+    source.append(f"class C{{static void t(){thrown}{{}}static void main(){thrown}{{")
+    source += [f"int x{n}=0;" for n in range(199)]
+    return "".join(source) + "t();" * 780 + "}}"
 
 
 DECLARED = "int a=0;" + "".join(f"int x{n}=0;" for n in range(199))
@@ -131,10 +149,12 @@ def loops():
 
 
 def doubled():
-    for nodes in (500, 1000, 2000):
-        yield f"loops of {nodes} nodes", "actor a;" + copied(40, 10, nodes)
-    for writes in (120, 240, 480):
-        yield f"{writes} writes", joined(142, ["Q"], ["f0=x;"] * writes)
+    """Rows of three sources, each with its name."""
+    yield [(f"loops of {n} nodes", "actor a;" + copied(40, 10, n)) for n in (500, 1000, 2000)]
+    yield [(f"{n} writes", joined(142, ["Q"], ["f0=x;"] * n)) for n in (120, 240, 480)]
+    yield [("methods", methods(MOST_BYTES // 4 * part)) for part in (1, 2, 4)]
+    yield [(f"{n} joins", joins(n)) for n in (100, 200, 400)]
+    yield [(f"{n} classes thrown", throws(n)) for n in (10, 20, 40)]
 
 
 KINDS = {
@@ -142,33 +162,41 @@ KINDS = {
     "fields": fields,
     "locks": locks,
     "classes": classes,
-    "half": half,
     "methods": methods,
+    "joins": joins,
+    "throws": throws,
     "loops": loops,
     "locals": locals_,
 }
 
 
-def timed(paragonc, kind, source):
+def timed(paragonc, kind, source, before=None, counts=False):
+    """Prints a line, and gives the instructions where they are counted."""
     with tempfile.TemporaryDirectory() as folder:
-        with open(os.path.join(folder, "long.par"), "w") as out:
-            out.write(source)
-        run = subprocess.Popen(
-            [paragonc, "--check", "long.par"], cwd=folder, stdout=subprocess.PIPE, text=True
-        )
-        told = run.stdout.read().strip()
-        _, _, used = os.wait4(run.pid, 0)
-    seconds, most = used.ru_utime + used.ru_stime, used.ru_maxrss // 1024
-    print(f"{kind}: {len(source)} bytes, {told}, {seconds:.2f} s, {most} MB", flush=True)
+        for name in ("long.par", "long.java"):
+            with open(os.path.join(folder, name), "w") as out:
+                out.write(source)
+        words = [paragonc, "--check", "long.par"]
+        told, seconds, most = least(words, folder)
+        counted = instructions(words, folder) if counts else None
+        line = f"{kind}: {len(source)} bytes, {told}, {seconds:.2f} s, {most} MB"
+        line += growth(before, counted)
+        if kind in JAVA and shutil.which("javac"):
+            _, seconds, most = least(["javac", "long.java"], folder)
+            line += f"; javac {seconds:.2f} s, {most} MB"
+    print(line, flush=True)
+    return counted
 
 
 def tried(paragonc, kinds):
     for kind in kinds:
-        if kind == "doubled":
-            for name, source in doubled():
-                timed(paragonc, name, source)
-        else:
+        if kind != "doubled":
             timed(paragonc, kind, KINDS[kind]())
+            continue
+        for sources in doubled():
+            before = None
+            for name, source in sources:
+                before = timed(paragonc, name, source, before, counts=True)
 
 
 if __name__ == "__main__":
