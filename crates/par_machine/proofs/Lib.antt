@@ -27,3 +27,4 @@ pub mod Handed
 pub mod Advanced
 pub mod Found
 pub mod Placed
+pub mod Quiet

@@ -7,4 +7,5 @@ pub mod Site
 pub mod Throwing
 pub mod Settled
 pub mod Advanced
+pub mod Quiet
 pub mod Machine

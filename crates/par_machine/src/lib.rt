@@ -11,6 +11,7 @@ mod acting;
 mod advancing;
 mod branching;
 mod calling;
+mod going;
 mod leaving;
 pub mod machine;
 mod making;

@@ -30,11 +30,12 @@ pub struct Machine {
 }
 
 impl Machine {
-    ghost use Rattle.std.specs.Prelude.{◌≡◌, ◌<◌, ◌+◌, ◌⊎◌, true, IfOk, IsErrOf, IsSome, IsTrue, slice_get};
+    ghost use Rattle.std.specs.Prelude.{◌≡◌, ◌<◌, ◌≤◌, ◌+◌, ◌⊎◌, true, IfOk, IsErrOf, IsSome, IsTrue, slice_get};
     ghost use Rattle.par_steps.specs.State.{start, main_place};
     ghost use Rattle.par_steps.specs.Step.{turn};
     ghost use Rattle.par_steps.specs.Places.{all_places};
     ghost use Rattle.par_machine.specs.Machine.{files_of, state_of, steps_of, is_asking_at};
+    ghost use Rattle.par_machine.specs.Quiet.{GoesOn};
     ghost use Rattle.par_machine.specs.Turn.{IsTurn, MakesOrTells, is_over};
 
     /// A machine before the first instruction of the method `main` of a class, with these inputs.
@@ -79,6 +80,22 @@ impl Machine {
     {
         self.steps += 1;
         self.running.advance(self.alloc, &self.area)
+    }
+
+    /// Runs instructions as long as they go on in their frame and show nothing, at most so many,
+    /// and gives how many.
+    ///
+    /// It may stop before: the next step tells what comes then.
+    pub fn go_on(&mut self, most: u32) -> u32
+        requires { steps_of self.old + most ≤ 4000000000 }
+        ensures most { result ≤ most }
+        ensures goes { GoesOn (files_of self.old) result (state_of self.old) (state_of self.new) }
+        ensures files { files_of self.new ≡ files_of self.old }
+        ensures steps { steps_of self.new ≡ steps_of self.old + result }
+    {
+        let many = self.running.go_on(&self.area, most);
+        self.steps += many;
+        many
     }
 
     /// The places of all frames in one row, the outermost first.

@@ -20,7 +20,7 @@ use par_method_area::MethodArea;
 
 impl Running {
     /// Works on the frame that runs alone.
-    fn work(&mut self, area: &MethodArea, site: Site, ahead: bool) -> Done
+    pub(crate) fn work(&mut self, area: &MethodArea, site: Site, ahead: bool) -> Done
         requires sound { IsSound area.now self.old }
         requires there { IsThere area.now.files self.old site ahead }
         requires instr { is_work site.instr ≡ true }
@@ -31,7 +31,7 @@ impl Running {
     }
 
     /// Branches, or goes on behind.
-    fn branch(&mut self, area: &MethodArea, site: Site, ahead: bool) -> Done
+    pub(crate) fn branch(&mut self, area: &MethodArea, site: Site, ahead: bool) -> Done
         requires sound { IsSound area.now self.old }
         requires coded { IsSome (code_at area.now.files site.point.class site.point.method) }
         requires there { IsThere area.now.files self.old site ahead }

@@ -21,7 +21,7 @@ use par_values::run::Event;
 use std::alloc::Global;
 
 /// The offset at a distance from another, 0 where it is below 0.
-fn target(at: u32, distance: i16) -> u32
+pub(crate) fn target(at: u32, distance: i16) -> u32
     requires { at ≤ 65535 }
     ensures { result ≡ offset (pos at +ℤ distance) }
 {
