@@ -1,5 +1,5 @@
 pub mod Cut
 pub mod Lines
 pub mod UnderWay
-pub mod Loop
 pub mod Steps
+pub mod Loop

@@ -5,7 +5,8 @@ use Rattle.par_io.specs.Causes.{SinkCounts, Rose}
 use Rattle.par_io.specs.Saying.{IsLeftOff, Said, cut, unsaid}
 use Rattle.par_values.specs.Ran.{Ran, ended, stopped}
 use Rattle.par_machine.specs.declared.machine.Machine.{Machine}
-use Rattle.par_machine.specs.Machine.{steps_of}
+use Rattle.par_machine.specs.Machine.{files_of, state_of, steps_of}
+use Rattle.par_machine.specs.Quiet as quiet
 use Rattle.par_runner.specs.declared.telling.Closing.{Closing}
 use Rattle.par_runner.specs.declared.telling.Untold.{Untold}
 use Rattle.par_runner.specs.declared.telling.Untold.TheVariants.{Fault, Memory}
@@ -14,12 +15,13 @@ use Rattle.par_runner.specs.Outcome.{outcome}
 use Rattle.par_runner.specs.Running.{runs_of}
 use Rattle.par_runner.specs.Progress.{IsUnderWay}
 use Rattle.par_runner.specs.Telling.{GoesOn, silently, happened, ClosesBy, IsUntoldTurn, PutsAreTold, IsTold, IsCutOff, Closes, closed, unclosed, status_of_untold}
+use Rattle.par_runner.proofs.Steps.{silent_runs}
 use Rattle.par_runner.proofs.UnderWay.{begun, goes_on, happens, unput, cut_short, first_lines, ends, ends_short}
 
-pub record IsTelling (alone : Bool) (first : Machine) (steps done : ℕ) (m : Machine) (old held : Option Text) (before after : SinkCounts) : Type 0 where
-  pub way : IsUnderWay (runs_of first steps) (runs_of m (steps - done)) old held before.puts after.puts
-  pub few : done ≤ steps
-  pub spent : steps_of m ≤ steps_of first + done
+-- Of so many instructions this many are left.
+pub record IsTelling (alone : Bool) (first : Machine) (steps left : ℕ) (m : Machine) (old held : Option Text) (before after : SinkCounts) : Type 0 where
+  pub way : IsUnderWay (runs_of first steps) (runs_of m left) old held before.puts after.puts
+  pub spent : steps_of m + left ≤ steps_of first + steps
   pub grows : before.faults ≤ after.faults
   pub faults : IsTrue alone → after.faults ≡ before.faults
 
@@ -37,63 +39,64 @@ module _ (alone : Bool) (first : Machine) (steps : ℕ) (old : Option Text) (bef
   abbrev ran : Ran
   ran = runs_of first steps
 
-  pub begins : IsTelling alone first steps 0 first old old before before
+  pub begins : IsTelling alone first steps steps first old old before before
   begins = record {
-    way = let all : steps ≡ steps - 0 = omega arith in subst (λ n. IsUnderWay ran (runs_of first n) old old before.puts before.puts) all (begun ran old before);
-    few = omega arith;
+    way = begun ran old before;
     spent = omega arith;
     grows = omega arith;
     faults = λ only. refl;
   }
 
-  module _ (done : ℕ) (m : Machine) (held : Option Text) (after : SinkCounts) (h : IsTelling alone first steps done m old held before after) where
-    -- one more instruction is left
-    more : done < steps → IsUnderWay ran (runs_of m (suc (steps - (done + 1)))) old held before.puts after.puts
-    more less = let e : steps - done ≡ suc (steps - (done + 1)) = omega arith in subst (λ n. IsUnderWay ran (runs_of m n) old held before.puts after.puts) e h.way
+  module _ (left : ℕ) (m : Machine) (held : Option Text) (after : SinkCounts) (h : IsTelling alone first steps left m old held before after) where
+    -- instructions that show nothing are run
+    pub went_on : (r rest : ℕ) (n : Machine) → left ≡ r + rest → files_of n ≡ files_of m → quiet.GoesOn (files_of m) r (state_of m) (state_of n)
+        → steps_of n ≡ steps_of m + r → IsTelling alone first steps rest n old held before after
+    went_on r rest n parts same goes spent = record {
+      way = goes_on ran old before (runs_of m left) (runs_of n rest) held after.puts (ap (runs_of m) parts ∙ silent_runs m n r rest same goes) h.way;
+      spent = (let s = h.spent in omega (arith, s, spent, parts));
+      grows = h.grows;
+      faults = h.faults;
+    }
 
-    next_way : (n : Machine) → done < steps → (held' : Option Text) (after' : SinkCounts) → GoesOn (runs_of m) (runs_of n) held held' after after'
-        → IsUnderWay ran (runs_of n (steps - (done + 1))) old held' before.puts after'.puts
-    next_way n less held' after' (silently is counts same) =
-        let left = steps - (done + 1) in
+    -- no instruction is left
+    pub stops : (c : Closing) → left ≡ 0 → stopped ≡ ended (outcome c) → IsTold ran old held before after c
+    stops c none is =
+        goes_on ran old before (runs_of m left) (ended (outcome c)) held after.puts (ap (runs_of m) none ∙ is) h.way
+
+  -- one more instruction is left
+  module _ (left : ℕ) (m : Machine) (held : Option Text) (after : SinkCounts) (h : IsTelling alone first steps (suc left) m old held before after) where
+    next_way : (n : Machine) (held' : Option Text) (after' : SinkCounts) → GoesOn (runs_of m) (runs_of n) held held' after after'
+        → IsUnderWay ran (runs_of n left) old held' before.puts after'.puts
+    next_way n held' after' (silently is counts same) =
         unput ran old before (runs_of n left) held held' after.puts after'.puts counts same
-        (goes_on ran old before (runs_of m (suc left)) (runs_of n left) held after.puts (is left) (more less))
-    next_way n less held' after' (happened e is counts put) =
-        let left = steps - (done + 1) in
-        happens ran old before (runs_of m (suc left)) (runs_of n left) held held' after.puts after'.puts e (is left) put counts (more less)
+        (goes_on ran old before (runs_of m (suc left)) (runs_of n left) held after.puts (is left) h.way)
+    next_way n held' after' (happened e is counts put) =
+        happens ran old before (runs_of m (suc left)) (runs_of n left) held held' after.puts after'.puts e (is left) put counts h.way
 
-    pub keeps : (n : Machine) (held' : Option Text) (after' : SinkCounts) → done < steps → steps_of n ≡ steps_of m + 1 → after.faults ≤ after'.faults
+    pub keeps : (n : Machine) (held' : Option Text) (after' : SinkCounts) → steps_of n ≡ steps_of m + 1 → after.faults ≤ after'.faults
         → (IsTrue alone → after'.faults ≡ after.faults)
-        → GoesOn (runs_of m) (runs_of n) held held' after after' → IsTelling alone first steps (done + 1) n old held' before after'
-    keeps n held' after' less spent rises stand on = record {
-      way = next_way n less held' after' on;
-      few = omega arith;
+        → GoesOn (runs_of m) (runs_of n) held held' after after' → IsTelling alone first steps left n old held' before after'
+    keeps n held' after' spent rises stand on = record {
+      way = next_way n held' after' on;
       spent = (let s = h.spent in omega (arith, s, spent));
       grows = (let g = h.grows in omega (arith, g, rises));
       faults = λ only. stand only ∙ h.faults only;
     }
 
-    pub cuts : (u : Untold) (held' : Option Text) (after' : SinkCounts) → done < steps → IsUntoldTurn (runs_of m) held held' after after' u
+    pub cuts : (u : Untold) (held' : Option Text) (after' : SinkCounts) → IsUntoldTurn (runs_of m) held held' after after' u
         → IsCutOff (lines ran) old held' before after' u
-    cuts Fault held' after' less at =
-        let left = steps - (done + 1) in
+    cuts Fault held' after' at =
         cut_short ran old before after' after.puts (runs_of m (suc left)) (at.later left) held held' at.event (at.is left)
-        (rose_since before.faults after.faults after'.faults h.grows at.rose) at.puts at.front (more less)
-    cuts Memory held' after' less at =
-        let left = runs_of m (steps - done) in
-        first_lines ran old before after' after'.puts left held' refl (unput ran old before left held held' after.puts after'.puts at.0 at.1 h.way)
+        (rose_since before.faults after.faults after'.faults h.grows at.rose) at.puts at.front h.way
+    cuts Memory held' after' at =
+        let ahead = runs_of m (suc left) in
+        first_lines ran old before after' after'.puts ahead held' refl (unput ran old before ahead held held' after.puts after'.puts at.0 at.1 h.way)
 
     -- the machine closes the run
-    pub closes : (c : Closing) (held' : Option Text) (after' : SinkCounts) → done < steps → ClosesBy (runs_of m) c held held' after after' → IsTold ran old held' before after' c
-    closes c held' after' less by =
-        let left = steps - (done + 1) in
+    pub closes : (c : Closing) (held' : Option Text) (after' : SinkCounts) → ClosesBy (runs_of m) c held held' after after' → IsTold ran old held' before after' c
+    closes c held' after' by =
         unput ran old before (ended (outcome c)) held held' after.puts after'.puts by.puts by.kept
-        (goes_on ran old before (runs_of m (suc left)) (ended (outcome c)) held after.puts (by.closed left) (more less))
-
-    -- no instruction is left
-    pub stops : (c : Closing) → steps ≤ done → stopped ≡ ended (outcome c) → IsTold ran old held before after c
-    stops c le is =
-        let e : steps - done ≡ 0 = omega arith in
-        goes_on ran old before (runs_of m (steps - done)) (ended (outcome c)) held after.puts (ap (runs_of m) e ∙ is) h.way
+        (goes_on ran old before (runs_of m (suc left)) (ended (outcome c)) held after.puts (by.closed left) h.way)
 
 -- ---- from the end of the loop to what is said
 

@@ -1,5 +1,5 @@
 -- What one instruction makes of the run of a machine, and what of it is told.
-use Rattle.std.proofs.Common.{◌≡◌, ℕ, suc, List, Option, Result, Ok, Err, IfOk, IfErr, IsErrAnd, sym, subst}
+use Rattle.std.proofs.Common.{◌≡◌, ℕ, zero, suc, ◌+◌, List, Option, Result, Ok, Err, IfOk, IfErr, IsErrAnd, sym, ap, subst, ◌∙◌, arith}
 use Rattle.par_io.specs.Causes.{SinkCounts}
 use Rattle.par_values.specs.declared.run.Event.{Event}
 use Rattle.par_values.specs.Ran.{Ran, with_event}
@@ -8,6 +8,7 @@ use Rattle.par_machine.specs.declared.machine.Machine.{Machine}
 use Rattle.par_machine.specs.declared.turn.Turn as told
 use Rattle.par_machine.specs.declared.turn.Stuck.{Stuck}
 use Rattle.par_machine.specs.Machine.{files_of, state_of}
+use Rattle.par_machine.specs.Quiet.{GoesOn}
 use Rattle.par_machine.specs.Turn.{IsTurn}
 use Rattle.par_steps.specs.State.{State}
 use Rattle.par_steps.specs.Step.{Turn, turn}
@@ -44,3 +45,14 @@ pub untold_event : {A : Type 0} (runs later : ℕ → Ran) (e : Event) (old new 
 untold_event runs later e old new before after is u h (Ok x) same = tt
 untold_event runs later e old new before after is u h (Err v) same =
     subst (IsUntoldTurn runs old new before after) (sym same) (untold_at runs later e old new before after is u h)
+
+-- instructions that show nothing leave the run that is still to come
+silent_run : (files : List ClassFile) (r k : ℕ) (s t : State) → GoesOn files r s t → run files (r + k) s ≡ run files k t
+silent_run files zero k s t goes =
+    let e : 0 + k ≡ k = omega arith in ap (λ n. run files n s) e ∙ ap (run files k) (sym goes)
+silent_run files (suc r) k s t goes =
+    let e : suc r + k ≡ suc (r + k) = omega arith in
+    ap (λ n. run files n s) e ∙ ap (λ u. followed u (run files (r + k))) goes.1 ∙ silent_run files r k goes.0 t goes.2
+
+pub silent_runs : (m n : Machine) (r k : ℕ) → files_of n ≡ files_of m → GoesOn (files_of m) r (state_of m) (state_of n) → runs_of m (r + k) ≡ runs_of n k
+silent_runs m n r k same goes = silent_run (files_of m) r k (state_of m) (state_of n) goes ∙ ap (λ fs. run fs k (state_of n)) (sym same)

@@ -63,7 +63,10 @@ fn tell_events<S: Sink>(
         (S.held out.old) (S.held out.new) (S.counts out.old) (S.counts out.new)) }
 {
     let mut line = Vec::new(alloc);
-    for _done in 0..steps {
+    let mut left = steps;
+    while left > 0 {
+        left -= 1;
+        left -= machine.go_on(left);
         match advance(alloc, machine, &mut line, out) {
             Ok(None) => {}
             Ok(Some(closing)) => return Ok(closing),
