@@ -44,6 +44,7 @@ pub(crate) fn stands_aside(starts: &Starts, at: u32, distance: i16) -> bool
 }
 
 /// Branches, or goes on behind.
+#[inline(always)]
 pub(crate) fn branch(stack: &mut Stack, instr: Instr, ways: Ways) -> Done
     requires { is_branch instr ≡ true }
     ensures done { (names : ℕ → Link) (classes : List Name) (spot : Spot) (program : Areas) →

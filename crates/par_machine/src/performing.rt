@@ -20,6 +20,7 @@ use par_method_area::MethodArea;
 
 impl Running {
     /// Works on the frame that runs alone.
+    #[inline(always)]
     pub(crate) fn work(&mut self, area: &MethodArea, site: Site, ahead: bool) -> Done
         requires sound { IsSound area.now self.old }
         requires there { IsThere area.now.files self.old site ahead }
@@ -31,6 +32,7 @@ impl Running {
     }
 
     /// Branches, or goes on behind.
+    #[inline(always)]
     pub(crate) fn branch(&mut self, area: &MethodArea, site: Site, ahead: bool) -> Done
         requires sound { IsSound area.now self.old }
         requires coded { IsSome (code_at area.now.files site.point.class site.point.method) }

@@ -16,6 +16,7 @@ use par_instr::Instr;
 use par_stack::Stack;
 
 /// Makes one number of two.
+#[inline(always)]
 fn calculate(stack: &mut Stack, instr: Instr, ahead: bool) -> Done
     requires { is_arithmetic instr ≡ true }
     ensures done { (names : ℕ → Link) (classes : List Name) (spot : Spot) (program : Areas) →
@@ -41,6 +42,7 @@ fn calculate(stack: &mut Stack, instr: Instr, ahead: bool) -> Done
 }
 
 /// Pushes, pops, keeps or makes a value.
+#[inline(always)]
 pub(crate) fn work(stack: &mut Stack, instr: Instr, ahead: bool) -> Done
     requires { is_work instr ≡ true }
     ensures done { (names : ℕ → Link) (classes : List Name) (spot : Spot) (program : Areas) →
