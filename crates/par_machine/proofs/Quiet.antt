@@ -1,5 +1,5 @@
 -- What an instruction that makes no event and calls no method comes to.
-use Rattle.std.proofs.Common.{◌≡◌, ℕ, zero, suc, ◌+◌, ◌<◌, ◌≤◌, pos, ◌+ℤ◌, Bool, true, false, List, length, Some, None, refl, sym, ap, subst, ◌∙◌, inl, inr, arith}
+use Rattle.std.proofs.Common.{◌≡◌, ℕ, zero, suc, ◌+◌, ◌<◌, ◌≤◌, pos, ◌+ℤ◌, Bool, true, false, List, length, Option, Some, None, slice_index_or, refl, sym, ap, subst, ◌∙◌, inl, inr, arith}
 use Rattle.std.proofs.lemmas.Bool.{false≢true}
 use Rattle.par_class.specs.declared.file.ClassFile.{ClassFile}
 use Rattle.par_heap.specs.Heap.{objects_of}
@@ -19,7 +19,10 @@ use Rattle.par_stack.specs.declared.point.Point.{Point}
 use Rattle.par_stack.specs.Frames as stack
 use Rattle.par_stack.specs.Frames.{running, with_running, at_offset}
 use Rattle.par_steps.specs.Classes.{class_names}
+use Rattle.par_starts.specs.declared.standing.Standing.{Standing}
+use Rattle.par_starts.specs.Standing.{KnowsStanding}
 use Rattle.par_steps.specs.Links.{link_at}
+use Rattle.par_steps.specs.Methods.{method_code}
 use Rattle.par_steps.specs.State.{State}
 use Rattle.par_steps.specs.Step as plain
 use Rattle.par_steps.specs.Step.{turn, offset}
@@ -29,7 +32,7 @@ use Rattle.par_actions.specs.Done.{set_event, put_event, born_event, out_event}
 use Rattle.par_method_area.specs.Area.{Area}
 use Rattle.par_machine.specs.Frames.{code_of}
 use Rattle.par_machine.specs.Instructions.{is_branch, is_work, reach_of}
-use Rattle.par_machine.specs.Quiet.{GoesOn, is_loud, Went, IsTried}
+use Rattle.par_machine.specs.Quiet.{AreRows, GoesOn, IsSameMethod, is_loud, Went, IsTried}
 use Rattle.par_machine.specs.Running.{here, below, state_in, IsSound}
 use Rattle.par_machine.specs.Settled.{turn_from}
 use Rattle.par_machine.specs.Site as site
@@ -173,6 +176,7 @@ module _ (area : Area) (before : Running) (s : Site) (old : Running) (d : Done)
       record {
         is = same.0;
         sound = p.sound;
+        method = λ never. absurd (cc never);
         grown = λ class. let h = ap (λ h. length (objects_of h class)) same.1 in omega (arith, h);
       }
 
@@ -180,30 +184,45 @@ module _ (area : Area) (before : Running) (s : Site) (old : Running) (d : Done)
   stood k is never = elim p.stays
       [ inl h ↦ absurd (false≢true (sym never ∙ ap site.is_call (sym is) ∙ h)) | inr there ↦ there ]
 
+  -- at another offset of its method
+  elsewhere : (running before.stack).point ≡ s.point → (running old.stack).point ≡ s.point
+      → (frames : List stack.Frame) (at : ℕ) → frames ≡ with_running (at_offset at) old.stack
+      → IsSameMethod (running before.stack).point (running frames).point
+  elsewhere was is frames at to =
+      let one : running frames ≡ at_offset at (running old.stack) = ap running to in
+      let same : (running old.stack).point ≡ (running before.stack).point = is ∙ sym was in (
+        ap (λ (f : stack.Frame). f.point.class) one ∙ ap (λ (p : Point). p.class) same,
+        ap (λ (f : stack.Frame). f.point.method) one ∙ ap (λ (p : Point). p.method) same,
+      )
+
   -- it went on behind itself
   pub tried_goes : d ≡ done.Goes → 0 < length old.stack → s.point.at ≤ s.next
       → s.next ≤ length (code_of area.files s.point).code → (frames : List stack.Frame)
       → frames ≡ with_running (at_offset s.next) old.stack
       → IsTried area (turn_from area.files before s) before true (record old { stack = frames })
-  tried_goes is some forward within frames to = record {
-    is = goes_turn area.files before s old frames
-        (subst (λ k. CameTo area.files before s k old) is p.came) forward to;
-    sound = gone_sound area old s.point frames s.next p.sound some (stood done.Goes is refl) within
-        to;
-    grown = λ class. let g = p.grown class in omega (arith, g);
-  }
+  tried_goes is some forward within frames to =
+      let come : IsCome area.files before s done.Goes old =
+      subst (λ k. CameTo area.files before s k old) is p.came in record {
+        is = goes_turn area.files before s old frames come forward to;
+        sound = gone_sound area old s.point frames s.next p.sound some (stood done.Goes is refl) within
+            to;
+        method = λ went. elsewhere come.point (stood done.Goes is refl) frames s.next to;
+        grown = λ class. let g = p.grown class in omega (arith, g);
+      }
 
   -- it went on at its distance
   pub tried_jumps : d ≡ done.Jumps → 0 < length old.stack → (frames : List stack.Frame)
       → frames ≡ with_running (at_offset (offset (pos s.point.at +ℤ reach_of s.instr))) old.stack
       → IsTried area (turn_from area.files before s) before true (record old { stack = frames })
-  tried_jumps is some frames to = record {
-    is = jumps_turn area.files before s old frames
-        (subst (λ k. CameTo area.files before s k old) is p.came) to;
-    sound = gone_sound area old s.point frames (offset (pos s.point.at +ℤ reach_of s.instr))
-        p.sound some (stood done.Jumps is refl) (subst (IsKnown area.files s) is p.known) to;
-    grown = λ class. let g = p.grown class in omega (arith, g);
-  }
+  tried_jumps is some frames to =
+      let come : IsCome area.files before s done.Jumps old =
+      subst (λ k. CameTo area.files before s k old) is p.came in record {
+        is = jumps_turn area.files before s old frames come to;
+        sound = gone_sound area old s.point frames (offset (pos s.point.at +ℤ reach_of s.instr))
+            p.sound some (stood done.Jumps is refl) (subst (IsKnown area.files s) is p.known) to;
+        method = λ went. elsewhere come.point (stood done.Jumps is refl) frames _ to;
+        grown = λ class. let g = p.grown class in omega (arith, g);
+      }
 
 -- nothing is tried
 pub untried : (area : Area) (t : plain.Turn) (old new : Running) → IsSound area old → new ≡ old
@@ -211,6 +230,7 @@ pub untried : (area : Area) (t : plain.Turn) (old new : Running) → IsSound are
 untried area t old new sound same = record {
   is = ap (state_in area.files) same;
   sound = subst (IsSound area) (sym same) sound;
+  method = λ never. absurd (cc never);
   grown = λ class. let h = ap (λ (r : Running). length (objects_of r.heap class)) same in omega (arith, h);
 }
 
@@ -225,6 +245,24 @@ tried_found area r p s went new there found tried =
     turn_found area.files (here r) (below r) (state_in area.files r) (Some (site.decoded s)) refl
     (ap (λ (p : Point). decoded_at (code_of area.files p).code p.at) (sym there) ∙ found) in
     subst (λ t. IsTried area t r went new) (sym turns) tried
+
+-- the instructions of a method are those of each point in it
+pub rows_stay : (files : List ClassFile) (rows : List (Option Standing)) (p q : Point)
+    → IsSameMethod p q → AreRows files rows p → AreRows files rows q
+rows_stay files rows p q same are = λ at.
+    subst (λ class. KnowsStanding (method_code files class q.method).code at
+    (slice_index_or rows at None)) (sym same.0)
+    (subst (λ method. KnowsStanding (method_code files p.class method).code at
+    (slice_index_or rows at None)) (sym same.1) (are at))
+
+-- the row at a point is its instruction
+pub row_stands : (files : List ClassFile) (rows : List (Option Standing)) (p q : Point)
+    (row : Standing) → p ≡ q → AreRows files rows q → Some row ≡ slice_index_or rows p.at None
+    → KnowsStanding (code_of files p).code p.at (Some row)
+row_stands files rows p q row same are is =
+    subst (λ o. KnowsStanding (code_of files p).code p.at o) (sym is)
+    (subst (λ (q : Point). KnowsStanding (code_of files q).code p.at
+    (slice_index_or rows p.at None)) (sym same) (are p.at))
 
 -- ---- one after another
 

@@ -3,9 +3,10 @@
 ghost use Rattle.std.specs.Prelude.{◌≡◌, ◌≤◌, ◌+◌, ℕ, false, length, IsSome, MatchOption};
 ghost use Rattle.par_heap.specs.Heap.{objects_of};
 ghost use Rattle.par_method_area.specs.Known.{code_at};
+ghost use Rattle.par_stack.specs.Frames.{running};
 ghost use Rattle.par_steps.specs.Step.{turn};
 ghost use Rattle.par_machine.specs.Frames.{code_of};
-ghost use Rattle.par_machine.specs.Quiet.{is_loud, GoesOn, IsTried};
+ghost use Rattle.par_machine.specs.Quiet.{is_loud, AreRows, GoesOn, IsTried};
 ghost use Rattle.par_machine.specs.Running.{state_in, IsSound};
 ghost use Rattle.par_machine.specs.Settled.{turn_from};
 ghost use Rattle.par_machine.specs.Site.{IsThere, IsPerformed};
@@ -17,6 +18,7 @@ use crate::site::Site;
 use par_actions::Done;
 use par_instr::Instr;
 use par_method_area::MethodArea;
+use par_starts::Instructions;
 
 impl Running {
     /// Does what the instruction of a site does, where it makes no event, calls no method and
@@ -86,15 +88,16 @@ impl Running {
     }
 
     /// Runs the instruction at which the run stands where it goes on in its frame and shows
-    /// nothing, and tells whether it did.
+    /// nothing, and tells whether it did. These are the instructions of its method.
     #[inline(always)]
-    fn try_advance(&mut self, area: &MethodArea) -> bool
-        requires { IsSound area.now self.old }
+    fn try_advance(&mut self, area: &MethodArea, rows: &Instructions) -> bool
+        requires sound { IsSound area.now self.old }
+        requires rows { AreRows area.now.files rows.now (running self.old.stack).point }
         ensures { IsTried area.now (turn area.now.files (state_in area.now.files self.old))
             self.old result self.new }
     {
         let point = self.stack.point();
-        let Some(row) = area.instruction(point.class, point.method, point.at) else {
+        let Some(row) = rows.at(point.at) else {
             return false;
         };
         let site = Site {
@@ -107,6 +110,7 @@ impl Running {
 
     /// Runs instructions as long as they go on in their frame and show nothing, at most so many,
     /// and gives how many. It may stop before.
+    #[inline(never)]
     pub(crate) fn go_on(&mut self, area: &MethodArea, most: u32) -> u32
         requires { IsSound area.now self.old }
         ensures most { result ≤ most }
@@ -116,8 +120,12 @@ impl Running {
         ensures grown { (class : ℕ) → length (objects_of self.new.heap class)
             ≤ length (objects_of self.old.heap class) + result }
     {
+        let point = self.stack.point();
+        let Some(rows) = area.instructions(point.class, point.method) else {
+            return 0;
+        };
         for done in 0..most {
-            if !self.try_advance(area) {
+            if !self.try_advance(area, rows) {
                 return done;
             }
         }

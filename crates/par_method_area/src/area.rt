@@ -1,4 +1,4 @@
-ghost use Rattle.std.specs.Prelude.{◌≡◌, map, IfOk};
+ghost use Rattle.std.specs.Prelude.{◌≡◌, ℕ, map, IfOk, MatchOption, slice_index_or};
 ghost use Rattle.par_steps.specs.Classes.{class_names, exceptions};
 ghost use Rattle.par_starts.specs.Standing.{KnowsStanding};
 ghost use Rattle.par_steps.specs.Methods.{method_code};
@@ -20,7 +20,7 @@ use crate::names::ClassNumbers;
 use crate::statics::all_statics;
 use par_lexer::list::{List, NoMemory};
 use par_link::Linked;
-use par_starts::Standing;
+use par_starts::{Instructions, Standing};
 use par_values::inputs::Inputs;
 use par_values::value::MVal;
 use std::alloc::Global;
@@ -129,5 +129,17 @@ impl MethodArea {
     {
         let row = self.rows.get(class as usize)?.methods.get(method as usize)?;
         row.instructions.at(at)
+    }
+
+    /// The instructions of the code of a method, by their offsets.
+    #[inline(always)]
+    pub fn instructions(&self, class: u16, method: u16) -> Option<&Instructions>
+        ensures { MatchOption result
+            ((at : ℕ) → KnowsStanding (method_code self.now.files class method).code at None)
+            (λ rows. (at : ℕ) → KnowsStanding (method_code self.now.files class method).code at
+            (slice_index_or rows.now at None)) }
+    {
+        let row = self.rows.get(class as usize)?.methods.get(method as usize)?;
+        Some(&row.instructions)
     }
 }

@@ -1,6 +1,7 @@
-use Rattle.std.proofs.Common.{arith}
+use Rattle.std.proofs.Common.{refl, arith}
+use Rattle.par_stack.specs.Frames.{running}
 use Rattle.par_machine.specs.Running.{state_in}
-use Rattle.par_machine.proofs.Quiet.{one_more}
+use Rattle.par_machine.proofs.Quiet.{one_more, rows_stay}
 use Rattle.par_machine.proofs.running.Running.go_on.Goals as goal
 
 pub loop-done-preserved : goal.loop-done-preserved
@@ -15,4 +16,6 @@ loop-done-preserved c =
           let more = went.grown class in
           let so_far = c.loop-done.invariant.2 class in
           omega (arith, more, so_far),
+      rows_stay files c.in-Some.rows.now (running c.loop-done.self.stack).point
+          (running c.try_advance.new.self.stack).point (went.method refl) c.loop-done.invariant.3,
     )
