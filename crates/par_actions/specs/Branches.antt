@@ -3,7 +3,8 @@ use Rattle.std.specs.Prelude.{◌≡◌, ℕ, Bool, false, ◌||◌, List, lengt
 use Rattle.par_values.specs.Areas.{Name, Areas, pop}
 use Rattle.par_values.specs.Operations.{Operation, takes, gives}
 use Rattle.par_values.specs.Effects.{effect, jumps_if}
-use Rattle.par_values.specs.Reasons.{Spot, lacks, misgiven, unfit, misplaced, misnamed, disagrees, misreturns, misused}
+use Rattle.par_values.specs.Reasons.{Spot, lacks, misgiven, unfit, misplaced, misnamed, disagrees}
+use Rattle.par_values.specs.Reasons.{misreturns, misused}
 use Rattle.par_actions.specs.Done.{distance}
 
 -- An operation takes so many operands, which are there and fit, and does no more than go on at its

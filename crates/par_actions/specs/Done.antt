@@ -1,13 +1,17 @@
 -- What an instruction came to, against its reason and its effect.
-use Rattle.std.specs.Prelude.{◌≡◌, ℕ, ◌+◌, ℤ, pos, Bool, true, false, if◌then◌else◌, min, List, [], length, Option, Some, None, codes}
+use Rattle.std.specs.Prelude.{◌≡◌, ℕ, ◌+◌, ℤ, pos, Bool, true, false, if◌then◌else◌, min, List, []}
+use Rattle.std.specs.Prelude.{length, Option, Some, None, codes}
 use Rattle.par_values.specs.declared.value.MVal.{MVal}
 use Rattle.par_values.specs.declared.run.Event.{Event}
 use Rattle.par_values.specs.declared.run.Event.TheVariants.{Set, Put, Born, Out}
 use Rattle.par_values.specs.declared.link.Target.{Target}
 use Rattle.par_values.specs.declared.link.Target.TheVariants.{Output, Nothing}
 use Rattle.par_values.specs.Areas.{Name, Areas, shown_value}
-use Rattle.par_values.specs.Operations.{Operation, PutStatic, PutField, InvokeStatic, InvokeSpecial, InvokeVirtual, Create, Jump, JumpIf, JumpIfBoth, JumpIfSame, JumpIfNull}
-use Rattle.par_values.specs.Effects.{Effect, Goes, Happens, Jumps, Throws, ThrowsObject, Returns, ReturnsWith, throws_null, effect}
+use Rattle.par_values.specs.Operations.{Operation, PutStatic, PutField, InvokeStatic, InvokeSpecial}
+use Rattle.par_values.specs.Operations.{InvokeVirtual, Create, Jump, JumpIf, JumpIfBoth, JumpIfSame}
+use Rattle.par_values.specs.Operations.{JumpIfNull}
+use Rattle.par_values.specs.Effects.{Effect, Goes, Happens, Jumps, Throws, ThrowsObject, Returns}
+use Rattle.par_values.specs.Effects.{ReturnsWith, throws_null, effect}
 use Rattle.par_values.specs.Reasons.{Spot, reason}
 use Rattle.par_stack.specs.Frames.{Frame, running, waiting}
 use Rattle.par_actions.specs.declared.done.Done.{Done}

@@ -5,7 +5,8 @@ use Rattle.par_values.specs.declared.value.MVal.TheVariants.{Int, Null, Ref}
 use Rattle.par_values.specs.declared.kind.Kind.{Kind}
 use Rattle.par_values.specs.Areas.{Name, fits}
 use Rattle.par_actions.specs.declared.fit.Fit.{Fit}
-use Rattle.par_actions.specs.declared.fit.Fit.TheVariants.{Number, OfClass, Nothing, AnyObject, Anything}
+use Rattle.par_actions.specs.declared.fit.Fit.TheVariants.{Number, OfClass, Nothing, AnyObject}
+use Rattle.par_actions.specs.declared.fit.Fit.TheVariants.{Anything}
 
 abbrev pub accepts : Fit → MVal → Bool
 accepts Anything v = true

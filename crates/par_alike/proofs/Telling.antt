@@ -1,5 +1,6 @@
 -- The tests of an observer over the channels of a program, and what they test.
-use Rattle.std.proofs.Common.{◌≡◌, Bool, true, false, cond, ◌&&◌, ◌↔◌, List, [], ◌∷◌, ◌++◌, map, All, refl}
+use Rattle.std.proofs.Common.{◌≡◌, Bool, true, false, cond, ◌&&◌, ◌↔◌, List, [], ◌∷◌, ◌++◌, map}
+use Rattle.std.proofs.Common.{All, refl}
 use Rattle.std.specs.Prelude.{IsTrue}
 use Rattle.std.specs.List.{list_all, filter, flat_map}
 use Rattle.std.specs.Bool.{Decides}

@@ -1,5 +1,6 @@
 -- What operations of straight-line code do to the whole areas, and that they make no object.
-use Rattle.std.proofs.Common.{◌≡◌, ℕ, ◌+◌, Bool, true, false, cond, not, List, take, drop, length, set, Some, codes, pos, refl, ap, ◌∙◌, length-set}
+use Rattle.std.proofs.Common.{◌≡◌, ℕ, ◌+◌, Bool, true, false, cond, not, List, take, drop, length}
+use Rattle.std.proofs.Common.{set, Some, codes, pos, refl, ap, ◌∙◌, length-set}
 use Rattle.std.specs.List.{slice_get}
 use Rattle.std.specs.Str.{bytes_eq}
 use Rattle.par_class.specs.declared.file.ClassFile.{ClassFile}
@@ -10,16 +11,21 @@ use Rattle.par_values.specs.declared.run.Event.TheVariants.{Set}
 use Rattle.par_values.specs.declared.link.FieldLink.{FieldLink}
 use Rattle.par_values.specs.declared.link.Target.{Target}
 use Rattle.par_values.specs.declared.link.Target.TheVariants.{Input, Output, Code, Nothing}
-use Rattle.par_values.specs.Areas.{Name, Areas, Objects, push, pop, operand, local_at, value_or_null, set_static, shown_value}
+use Rattle.par_values.specs.Areas.{Name, Areas, Objects, push, pop, operand, local_at}
+use Rattle.par_values.specs.Areas.{value_or_null, set_static, shown_value}
 use Rattle.par_values.specs.Arithmetic.{Plus}
-use Rattle.par_values.specs.Operations.{Operation, Push, Load, Store, Combine, GetStatic, PutStatic, InvokeStatic, InvokeSpecial, Leave, Misnamed}
-use Rattle.par_values.specs.Effects.{Effect, Goes, Happens, Jumps, Calls, Throws, ThrowsObject, Returns, ReturnsWith, called, called_on, effect}
+use Rattle.par_values.specs.Operations.{Operation, Push, Load, Store, Combine, GetStatic, PutStatic}
+use Rattle.par_values.specs.Operations.{InvokeStatic, InvokeSpecial, Leave, Misnamed}
+use Rattle.par_values.specs.Effects.{Effect, Goes, Happens, Jumps, Calls, Throws, ThrowsObject}
+use Rattle.par_values.specs.Effects.{Returns, ReturnsWith, called, called_on, effect}
 use Rattle.par_values.specs.Reasons.{disagrees, falls}
 use Rattle.par_single.specs.Members.{own_name}
 use Rattle.par_single_machine.specs.Owning.{RunsOwn, CallsOwn}
 use Rattle.par_steps.specs.Fields.{is_shared, is_own, many_of}
 use Rattle.par_steps.specs.Step.{without_locks, next_of}
-use Rattle.par_alone_runs.proofs.Plain.{IsPlain, HoldsPlain, Each, each-drop, each-take, each-reverse, each-set, shown-plain, value-plain, local-plain, held-plain}
+use Rattle.par_alone_runs.proofs.Plain.{IsPlain, HoldsPlain, Each, each-drop, each-take}
+use Rattle.par_alone_runs.proofs.Plain.{each-reverse, each-set, shown-plain, value-plain}
+use Rattle.par_alone_runs.proofs.Plain.{local-plain, held-plain}
 use Rattle.par_alone_runs.proofs.Shared.{passing-get, passing-set}
 use Rattle.par_alone_runs.proofs.Whole.{whole_statics, whole, whole_effect, HasNoObject}
 use Rattle.par_alone_runs.proofs.Placed.{IsOwnField, placed, placed_field, IsLine}

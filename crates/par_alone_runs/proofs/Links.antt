@@ -1,6 +1,8 @@
 -- What an index of a file that runs by itself is to an instruction is the same by both definitions,
 -- but for the places of fields, and for classes, which no instruction of straight-line code names.
-use Rattle.std.proofs.Common.{◌≡◌, ℕ, zero, suc, ◌+◌, Bool, true, false, cond, ◌&&◌, List, [], ◌∷◌, Option, Some, None, is_some, codes, IsTrue, refl, sym, ap, subst, ◌∙◌, zero-add}
+use Rattle.std.proofs.Common.{◌≡◌, ℕ, zero, suc, ◌+◌, Bool, true, false, cond, ◌&&◌, List, [], ◌∷◌}
+use Rattle.std.proofs.Common.{Option, Some, None, is_some, codes, IsTrue, refl, sym, ap, subst, ◌∙◌}
+use Rattle.std.proofs.Common.{zero-add}
 use Rattle.std.proofs.lemmas.Bool.{and_parts}
 use Rattle.std.specs.List.{slice_get}
 use Rattle.std.specs.Option.{option_map_or}
@@ -20,12 +22,17 @@ use Rattle.par_values.specs.declared.link.Target.TheVariants.{Input, Output, Cod
 use Rattle.par_values.specs.declared.link.Link.{Link}
 use Rattle.par_values.specs.declared.link.Link.TheVariants as link
 use Rattle.par_single.specs.Descriptors.{Text}
-use Rattle.par_single.specs.Members.{text_at, own_name, own_field, own_method, Member, member_at, is_field_of, is_method_of, field_place, method_place, is_initializer, is_static}
-use Rattle.par_single.specs.Links.{kind_said, signature_said, locals_of, is_object, object_initializer, field_among, method_among, link_of as single_link}
+use Rattle.par_single.specs.Members.{text_at, own_name, own_field, own_method, Member, member_at}
+use Rattle.par_single.specs.Members.{is_field_of, is_method_of, field_place, method_place}
+use Rattle.par_single.specs.Members.{is_initializer, is_static}
+use Rattle.par_single.specs.Links.{kind_said, signature_said, locals_of, is_object}
+use Rattle.par_single.specs.Links.{object_initializer, field_among, method_among}
+use Rattle.par_single.specs.Links.{link_of as single_link}
 use Rattle.par_single.specs.Links as single
 use Rattle.par_single.specs.Single.{is_there, is_found, runs_alone}
 use Rattle.par_single.proofs.Alone.{alone}
-use Rattle.par_single.proofs.Owned.{found_at, each_passes, field_among-there, field_among-at, method_among-there, method_among-at}
+use Rattle.par_single.proofs.Owned.{found_at, each_passes, field_among-there, field_among-at}
+use Rattle.par_single.proofs.Owned.{method_among-there, method_among-at}
 use Rattle.par_link.specs.declared.entry.Builtin.{Builtin}
 use Rattle.par_link.specs.declared.entry.Builtin.TheVariants as builtin
 use Rattle.par_link.specs.declared.entry.Named.{Named}
@@ -33,7 +40,8 @@ use Rattle.par_link.specs.declared.entry.Named.TheVariants as named
 use Rattle.par_link.specs.Builtins.{builtin_method}
 use Rattle.par_link.specs.Builtins as builtins
 use Rattle.par_link.specs.Linked.{named_at}
-use Rattle.par_link.specs.Named.{class_place, class_of, field_declared, method_of, method_declared, named_by}
+use Rattle.par_link.specs.Named.{class_place, class_of, field_declared, method_of, method_declared}
+use Rattle.par_link.specs.Named.{named_by}
 use Rattle.par_link.proofs.Passing.{same_text}
 use Rattle.par_steps.specs.Fields.{is_shared, is_own, many_of, class_statics}
 use Rattle.par_steps.specs.Links as linked

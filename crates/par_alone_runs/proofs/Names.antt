@@ -1,5 +1,6 @@
 -- What a constant of a file that runs by itself names where the file is linked alone.
-use Rattle.std.proofs.Common.{◌≡◌, ℕ, Bool, true, false, cond, ◌&&◌, [], ◌∷◌, Some, None, codes, IsTrue, refl, sym, ap, ◌∙◌}
+use Rattle.std.proofs.Common.{◌≡◌, ℕ, Bool, true, false, cond, ◌&&◌, [], ◌∷◌, Some, None, codes}
+use Rattle.std.proofs.Common.{IsTrue, refl, sym, ap, ◌∙◌}
 use Rattle.std.specs.List.{position}
 use Rattle.std.specs.Str.{bytes_eq}
 use Rattle.par_lexer.specs.Names.{is_name}
@@ -7,14 +8,18 @@ use Rattle.par_class.specs.declared.file.FieldFile.{FieldFile}
 use Rattle.par_class.specs.declared.file.MethodFile.{MethodFile}
 use Rattle.par_class.specs.declared.file.ClassFile.{ClassFile}
 use Rattle.par_single.specs.Descriptors.{Text}
-use Rattle.par_single.specs.Members.{text_at, own_name, Member, is_field_of, is_method_of, field_place, method_place}
+use Rattle.par_single.specs.Members.{text_at, own_name, Member, is_field_of, is_method_of}
+use Rattle.par_single.specs.Members.{field_place, method_place}
 use Rattle.par_single.specs.Links.{is_object}
 use Rattle.par_single.specs.Single.{field_named, method_named, runs_alone}
 use Rattle.par_single.proofs.Alone.{alone}
-use Rattle.par_link.specs.declared.entry.Builtin.TheVariants.{Object, Exception, ArithmeticException, NullPointerException, Locks}
+use Rattle.par_link.specs.declared.entry.Builtin.TheVariants.{Object, Exception}
+use Rattle.par_link.specs.declared.entry.Builtin.TheVariants.{ArithmeticException}
+use Rattle.par_link.specs.declared.entry.Builtin.TheVariants.{NullPointerException, Locks}
 use Rattle.par_link.specs.declared.entry.Named.TheVariants as named
 use Rattle.par_link.specs.Builtins.{builtin}
-use Rattle.par_link.specs.Named.{is_same, fields_of, methods_of, class_place, class_of, class_named, declared, field_of, method_of, field_declared, method_declared}
+use Rattle.par_link.specs.Named.{is_same, fields_of, methods_of, class_place, class_of, class_named}
+use Rattle.par_link.specs.Named.{declared, field_of, method_of, field_declared, method_declared}
 use Rattle.par_link.proofs.Passing.{one_found, same_text, eq_turned}
 use Rattle.par_link.proofs.Places.{position-map}
 use Rattle.par_link.proofs.There.{object-builtin}

@@ -2,14 +2,19 @@
 -- places of fields.
 use Rattle.std.proofs.Common.{◌≡◌, ℕ, true, false, [], ◌∷◌, IsTrue, refl, sym, ap, ◌∙◌}
 use Rattle.par_instr.specs.declared.instr.Instr.{Instr}
-use Rattle.par_instr.specs.declared.instr.Instr.TheVariants.{Iconst, Bipush, Sipush, Ldc, LdcW, Iload, IloadShort, AloadShort, Istore, IstoreShort, Iadd, Return, Getstatic, Putstatic, Invokespecial, Invokestatic}
+use Rattle.par_instr.specs.declared.instr.Instr.TheVariants.{Iconst, Bipush, Sipush, Ldc, LdcW}
+use Rattle.par_instr.specs.declared.instr.Instr.TheVariants.{Iload, IloadShort, AloadShort, Istore}
+use Rattle.par_instr.specs.declared.instr.Instr.TheVariants.{IstoreShort, Iadd, Return, Getstatic}
+use Rattle.par_instr.specs.declared.instr.Instr.TheVariants.{Putstatic, Invokespecial, Invokestatic}
 use Rattle.par_class.specs.declared.file.ClassFile.{ClassFile}
 use Rattle.par_values.specs.declared.link.FieldLink.{FieldLink}
 use Rattle.par_values.specs.declared.link.MethodLink.{MethodLink}
 use Rattle.par_values.specs.declared.link.Link.{Link}
 use Rattle.par_values.specs.declared.link.Link.TheVariants as link
 use Rattle.par_values.specs.Areas.{Areas, operand}
-use Rattle.par_values.specs.Operations.{Operation, GetStatic, PutStatic, InvokeStatic, InvokeSpecial, Misnamed, constant, of_field, of_method, operation}
+use Rattle.par_values.specs.Operations.{Operation, GetStatic, PutStatic, InvokeStatic}
+use Rattle.par_values.specs.Operations.{InvokeSpecial, Misnamed, constant, of_field, of_method}
+use Rattle.par_values.specs.Operations.{operation}
 use Rattle.par_single.specs.Descriptors.{Text}
 use Rattle.par_single.specs.StraightLine.{is_straight_line}
 use Rattle.par_single.specs.Single.{runs_alone}
@@ -19,7 +24,8 @@ use Rattle.par_steps.specs.Classes.{exceptions}
 use Rattle.par_steps.specs.Links as linked
 use Rattle.par_steps.specs.Step.{called_on_object, is_misreceived}
 use Rattle.par_alone_runs.proofs.Placed.{IsOwnField, placed, placed_link, IsLine}
-use Rattle.par_alone_runs.proofs.Links.{unclassed, NamesOwnField, IsNamedAlike, usual-takes, index-alike}
+use Rattle.par_alone_runs.proofs.Links.{unclassed, NamesOwnField, IsNamedAlike, usual-takes}
+use Rattle.par_alone_runs.proofs.Links.{index-alike}
 
 -- ---- what is made of a link
 

@@ -8,7 +8,8 @@ use Rattle.par_values.specs.declared.link.FieldLink.{FieldLink}
 use Rattle.par_values.specs.declared.link.Link.{Link}
 use Rattle.par_values.specs.declared.link.Link.TheVariants as link
 use Rattle.par_values.specs.Arithmetic.{Operator, Plus}
-use Rattle.par_values.specs.Operations.{Operation, Push, Load, Store, Combine, GetStatic, PutStatic, InvokeStatic, InvokeSpecial, Leave, Misnamed}
+use Rattle.par_values.specs.Operations.{Operation, Push, Load, Store, Combine, GetStatic, PutStatic}
+use Rattle.par_values.specs.Operations.{InvokeStatic, InvokeSpecial, Leave, Misnamed}
 use Rattle.par_single.specs.Members.{own_name}
 use Rattle.par_steps.specs.Fields.{is_shared, is_own, many_of}
 

@@ -1,6 +1,7 @@
 -- Values that are no objects, of which alone there are some where no object is made. What they are
 -- does not depend on the names of classes.
-use Rattle.std.proofs.Common.{◌≡◌, ℕ, zero, suc, ◌&&◌, List, [], ◌∷◌, ◌++◌, map, take, drop, reverse, replicate, set, Some, None, Option, refl, sym, subst}
+use Rattle.std.proofs.Common.{◌≡◌, ℕ, zero, suc, ◌&&◌, List, [], ◌∷◌, ◌++◌, map, take, drop}
+use Rattle.std.proofs.Common.{reverse, replicate, set, Some, None, Option, refl, sym, subst}
 use Rattle.std.specs.List.{slice_get}
 use mathlib.Core.List.{reverse-cons}
 use Rattle.par_values.specs.declared.kind.Kind.{Kind}

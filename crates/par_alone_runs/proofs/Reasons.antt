@@ -1,13 +1,17 @@
 -- Why an operation of straight-line code cannot be run is the same for the whole areas.
-use Rattle.std.proofs.Common.{◌≡◌, ℕ, Bool, true, false, not, ◌&&◌, ◌||◌, ◌+◌, ◌-◌, nat_lt, List, [], ◌∷◌, length, None, refl, ap, ◌∙◌}
+use Rattle.std.proofs.Common.{◌≡◌, ℕ, Bool, true, false, not, ◌&&◌, ◌||◌, ◌+◌, ◌-◌, nat_lt, List}
+use Rattle.std.proofs.Common.{[], ◌∷◌, length, None, refl, ap, ◌∙◌}
 use Rattle.par_class.specs.declared.file.ClassFile.{ClassFile}
 use Rattle.par_values.specs.declared.kind.Kind.{Kind}
 use Rattle.par_values.specs.declared.value.MVal.{MVal}
 use Rattle.par_values.specs.Areas.{Name, Areas, Objects, local_at}
 use Rattle.par_values.specs.Arithmetic.{Plus}
-use Rattle.par_values.specs.Operations.{Operation, Push, Load, Store, Combine, GetStatic, PutStatic, InvokeStatic, InvokeSpecial, Leave, Misnamed, takes, gives}
+use Rattle.par_values.specs.Operations.{Operation, Push, Load, Store, Combine, GetStatic, PutStatic}
+use Rattle.par_values.specs.Operations.{InvokeStatic, InvokeSpecial, Leave, Misnamed, takes, gives}
 use Rattle.par_values.specs.Effects.{effect}
-use Rattle.par_values.specs.Reasons.{Spot, lacks, all_fit, unfit, misgiven, throws, exceeds, misplaced, falls, misnamed, disagrees, misreturns, misused, least_from, reason}
+use Rattle.par_values.specs.Reasons.{Spot, lacks, all_fit, unfit, misgiven, throws, exceeds}
+use Rattle.par_values.specs.Reasons.{misplaced, falls, misnamed, disagrees, misreturns, misused}
+use Rattle.par_values.specs.Reasons.{least_from, reason}
 use Rattle.par_alone_runs.proofs.Plain.{all_fit-plain, holds-plain, local-plain}
 use Rattle.par_alone_runs.proofs.Whole.{whole, HasNoObject}
 use Rattle.par_alone_runs.proofs.Placed.{placed, IsLine}

@@ -1,5 +1,7 @@
 -- A class file that runs by itself has the same runs by both definitions.
-use Rattle.std.proofs.Common.{◌≡◌, ℕ, zero, suc, cond, not, List, [], ◌∷◌, ◌++◌, length, map, replicate, Some, None, Option, pos, IsTrue, refl, sym, ap, ◌∙◌, append-nil}
+use Rattle.std.proofs.Common.{◌≡◌, ℕ, zero, suc, cond, not, List, [], ◌∷◌, ◌++◌, length, map}
+use Rattle.std.proofs.Common.{replicate, Some, None, Option, pos, IsTrue, refl, sym, ap, ◌∙◌}
+use Rattle.std.proofs.Common.{append-nil}
 use Rattle.std.proofs.lemmas.List.{length-map}
 use Rattle.par_class.specs.declared.file.FieldFile.{FieldFile}
 use Rattle.par_class.specs.declared.file.ClassFile.{ClassFile}

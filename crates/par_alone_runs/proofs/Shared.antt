@@ -1,5 +1,6 @@
 -- The static fields of a class among all of its fields.
-use Rattle.std.proofs.Common.{◌≡◌, ℕ, zero, suc, Bool, true, false, cond, List, [], ◌∷◌, ◌++◌, length, map, take, set, Some, refl, ap, ◌∙◌, arith}
+use Rattle.std.proofs.Common.{◌≡◌, ℕ, zero, suc, Bool, true, false, cond, List, [], ◌∷◌, ◌++◌}
+use Rattle.std.proofs.Common.{length, map, take, set, Some, refl, ap, ◌∙◌, arith}
 use Rattle.std.specs.List.{slice_get, filter}
 use Rattle.par_values.specs.declared.value.MVal.{MVal}
 

@@ -1,17 +1,21 @@
 -- What is known of a machine for one file that runs by itself: each frame stands at an instruction
 -- of its class or at an end, and no object is anywhere.
-use Rattle.std.proofs.Common.{◌≡◌, ℕ, ◌+◌, ◌-◌, true, List, [], ◌∷◌, length, map, replicate, Some, None, IsTrue, refl, sym, subst}
+use Rattle.std.proofs.Common.{◌≡◌, ℕ, ◌+◌, ◌-◌, true, List, [], ◌∷◌, length, map, replicate, Some}
+use Rattle.std.proofs.Common.{None, IsTrue, refl, sym, subst}
 use Rattle.par_instr.specs.Decoding.{decoded_at}
 use Rattle.par_class.specs.declared.file.ClassFile.{ClassFile}
 use Rattle.par_values.specs.Areas.{Areas, first_locals}
-use Rattle.par_values.specs.Effects.{Effect, Goes, Happens, Jumps, Calls, Throws, ThrowsObject, Returns, ReturnsWith}
+use Rattle.par_values.specs.Effects.{Effect, Goes, Happens, Jumps, Calls, Throws, ThrowsObject}
+use Rattle.par_values.specs.Effects.{Returns, ReturnsWith}
 use Rattle.par_single.specs.Descriptors.{Text}
 use Rattle.par_single.specs.Single.{runs_alone}
 use Rattle.par_single_machine.specs.State.{Frame, State, entered, method_code}
-use Rattle.par_single_machine.specs.Step.{Turn, Silent, Shows, Ends, IsBad, size_of, past, moved, state_with, returned, applied}
+use Rattle.par_single_machine.specs.Step.{Turn, Silent, Shows, Ends, IsBad, size_of, past, moved}
+use Rattle.par_single_machine.specs.Step.{state_with, returned, applied}
 use Rattle.par_single_machine.specs.Boundary.{is_boundary}
 use Rattle.par_single_machine.proofs.Boundaries.{code_walks, boundary_first, boundary_past}
-use Rattle.par_alone_runs.proofs.Plain.{IsPlain, HoldsPlain, Each, each-append, each-replicate, some-plain}
+use Rattle.par_alone_runs.proofs.Plain.{IsPlain, HoldsPlain, Each, each-append, each-replicate}
+use Rattle.par_alone_runs.proofs.Plain.{some-plain}
 use Rattle.par_alone_runs.proofs.Whole.{HasNoObject}
 use Rattle.par_alone_runs.proofs.Effects.{MakesNone}
 

@@ -1,5 +1,6 @@
 -- One instruction comes to the same by both definitions.
-use Rattle.std.proofs.Common.{◌≡◌, ℕ, ◌+◌, true, false, List, [], ◌∷◌, map, Some, None, Option, is_none, codes, IsTrue, refl, sym, ap, subst, ◌∙◌}
+use Rattle.std.proofs.Common.{◌≡◌, ℕ, ◌+◌, true, false, List, [], ◌∷◌, map, Some, None, Option}
+use Rattle.std.proofs.Common.{is_none, codes, IsTrue, refl, sym, ap, subst, ◌∙◌}
 use Rattle.std.specs.Str.{bytes_eq}
 use Rattle.par_instr.specs.Decoding.{Decoded, decoded_at}
 use Rattle.par_class.specs.declared.file.CodeAttr.{CodeAttr}
@@ -10,7 +11,8 @@ use Rattle.par_values.specs.declared.run.Ending.TheVariants.{Uncaught}
 use Rattle.par_values.specs.Areas.{Name, Areas, Objects}
 use Rattle.par_values.specs.Operations.{Operation, operation}
 use Rattle.par_values.specs.Reasons.{Spot, reason}
-use Rattle.par_values.specs.Effects.{Effect, Goes, Happens, Jumps, Calls, Throws, ThrowsObject, Returns, ReturnsWith, effect}
+use Rattle.par_values.specs.Effects.{Effect, Goes, Happens, Jumps, Calls, Throws, ThrowsObject}
+use Rattle.par_values.specs.Effects.{Returns, ReturnsWith, effect}
 use Rattle.par_single.specs.Descriptors.{Text}
 use Rattle.par_single.specs.Members.{own_name, own_names}
 use Rattle.par_single.specs.Links.{kind_or_any, signature_said}
@@ -30,7 +32,8 @@ use Rattle.par_steps.specs.State as linked
 use Rattle.par_steps.specs.Step as other
 use Rattle.par_steps.specs.Step.{turn as other_turn}
 use Rattle.par_alone_runs.proofs.Plain.{Each}
-use Rattle.par_alone_runs.proofs.Whole.{whole, whole_effect, whole_frame, whole_state, whole_turn, HasNoObject}
+use Rattle.par_alone_runs.proofs.Whole.{whole, whole_effect, whole_frame, whole_state, whole_turn}
+use Rattle.par_alone_runs.proofs.Whole.{HasNoObject}
 use Rattle.par_alone_runs.proofs.Placed.{placed, IsLine}
 use Rattle.par_alone_runs.proofs.Effects.{effect-whole, next-line, lockless, MakesNone, makes_none}
 use Rattle.par_alone_runs.proofs.Reasons.{uncaught_spot, reason-whole, runs_agrees}

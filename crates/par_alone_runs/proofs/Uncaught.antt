@@ -1,5 +1,6 @@
 -- Code of a file that runs by itself has no handler, so that nothing is caught.
-use Rattle.std.proofs.Common.{◌≡◌, ℕ, true, ◌&&◌, List, [], ◌∷◌, length, map, Some, None, Option, IsTrue, refl, ap, ◌∙◌, arith}
+use Rattle.std.proofs.Common.{◌≡◌, ℕ, true, ◌&&◌, List, [], ◌∷◌, length, map, Some, None, Option}
+use Rattle.std.proofs.Common.{IsTrue, refl, ap, ◌∙◌, arith}
 use Rattle.std.proofs.lemmas.Bool.{and_parts, eqb-true}
 use Rattle.std.specs.List.{slice_get}
 use Rattle.par_class.specs.declared.file.CodeAttr.{CodeAttr}

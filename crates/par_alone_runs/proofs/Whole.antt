@@ -4,7 +4,8 @@ use Rattle.std.proofs.Common.{◌≡◌, List, ◌++◌, length, map}
 use Rattle.par_class.specs.declared.file.ClassFile.{ClassFile}
 use Rattle.par_values.specs.declared.value.MVal.{MVal}
 use Rattle.par_values.specs.Areas.{Areas, Objects}
-use Rattle.par_values.specs.Effects.{Effect, Goes, Happens, Jumps, Calls, Throws, ThrowsObject, Returns, ReturnsWith}
+use Rattle.par_values.specs.Effects.{Effect, Goes, Happens, Jumps, Calls, Throws, ThrowsObject}
+use Rattle.par_values.specs.Effects.{Returns, ReturnsWith}
 use Rattle.par_single_machine.specs.State as single
 use Rattle.par_single_machine.specs.Step as single_step
 use Rattle.par_steps.specs.Fields.{is_shared}

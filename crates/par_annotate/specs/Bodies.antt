@@ -1,5 +1,6 @@
 -- The typed bodies of a program.
-use Rattle.std.specs.Prelude.{ℕ, Bool, true, false, List, [], ◌∷◌, ◌++◌, Option, Some, None, slice_get}
+use Rattle.std.specs.Prelude.{ℕ, Bool, true, false, List, [], ◌∷◌, ◌++◌, Option, Some, None}
+use Rattle.std.specs.Prelude.{slice_get}
 use Rattle.par_tree.specs.declared.decl.ParamDecl.{ParamDecl}
 use Rattle.par_tree.specs.Plain.{Method, Class, Declaration, Source, Actors, Lock, Policy, Declared}
 use Rattle.par_typed.specs.declared.table.Table.{Table}

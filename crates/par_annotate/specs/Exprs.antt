@@ -1,6 +1,7 @@
 -- The typed tree of an expression.
 use Rattle.std.specs.Prelude.{ℕ, pos, ◌-ℤ◌, ◌+◌, Bool, true, false, Option, Some, None}
-use Rattle.par_tree.specs.Plain.{Exp, Int, True, False, Null, This, New, Name, Field, Call, Neg, Not, Binary}
+use Rattle.par_tree.specs.Plain.{Exp, Int, True, False, Null, This, New, Name, Field, Call, Neg}
+use Rattle.par_tree.specs.Plain.{Not, Binary}
 use Rattle.par_tree.specs.Plain.{Exps, NoExps, More, MayExp, Absent, Present}
 use Rattle.par_typed.specs.declared.ty.Ty.{Ty}
 use Rattle.par_typed.specs.declared.ty.Ty.TheVariants as ty
@@ -14,8 +15,10 @@ use Rattle.par_scope.specs.declared.meaning.Receiver.TheVariants.{Own, Class, Ob
 use Rattle.par_scope.specs.declared.meaning.Callee.{Callee}
 use Rattle.par_scope.specs.declared.meaning.Callee.TheVariants.{Unknown, Channel, Method}
 use Rattle.par_scope.specs.Home.{Home, class_named, class_type}
-use Rattle.par_scope.specs.Members.{field_at, channel_at, method_at, field_is_static, method_is_static}
-use Rattle.par_scope.specs.Meaning.{type_of, called_on, receiver_of, selected, called, op_type, sure}
+use Rattle.par_scope.specs.Members.{field_at, channel_at, method_at, field_is_static}
+use Rattle.par_scope.specs.Members.{method_is_static}
+use Rattle.par_scope.specs.Meaning.{type_of, called_on, receiver_of, selected, called, op_type}
+use Rattle.par_scope.specs.Meaning.{sure}
 use Rattle.par_annotate.specs.Frames.{Frame, Var, var_named}
 
 -- a type that is known in a program that breaks no rule

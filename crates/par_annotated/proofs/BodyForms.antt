@@ -1,5 +1,6 @@
 -- The typed bodies of each form of declaration, and what is left of lists of them.
-use Rattle.std.proofs.Common.{◌≡◌, ℕ, ◌+◌, ◌<◌, ◌≤◌, List, [], ◌∷◌, ◌++◌, Option, Some, None, refl, ap, sym, ◌∙◌, arith, length, get_or, drop}
+use Rattle.std.proofs.Common.{◌≡◌, ℕ, ◌+◌, ◌<◌, ◌≤◌, List, [], ◌∷◌, ◌++◌, Option, Some, None, refl}
+use Rattle.std.proofs.Common.{ap, sym, ◌∙◌, arith, length, get_or, drop}
 use Rattle.std.proofs.lemmas.List.{append_assoc, append-nil}
 use Rattle.par_tree.specs.declared.decl.ParamDecl.{ParamDecl}
 use Rattle.par_tree.specs.declared.decl.MethodDecl.{MethodDecl}
@@ -18,7 +19,8 @@ use Rattle.par_scope.specs.Home.{Home, class_named}
 use Rattle.par_types.specs.Methods.{param_slot}
 use Rattle.par_annotate.specs.Frames.{Frame, with_local}
 use Rattle.par_annotate.specs.Stmts.{Written}
-use Rattle.par_annotate.specs.Bodies.{with_params, typed_method, typed_methods, typed_class, typed_declaration, typed_declarations}
+use Rattle.par_annotate.specs.Bodies.{with_params, typed_method, typed_methods, typed_class}
+use Rattle.par_annotate.specs.Bodies.{typed_declaration, typed_declarations}
 
 pub params_none : (home : Home) (frame : Frame) → with_params home frame [] ≡ frame
 unfolding with_params
@@ -82,7 +84,8 @@ one_body [] b = refl
 one_body (x ∷ bs) b = ap (λ xs. body x ∷ xs) (one_body bs b)
 
 -- what is left of a list
-pub methods_left : (ms : List MethodDecl) (i : ℕ) (m : MethodDecl) → i < length ms → m ≡ get_or ms i m
+pub methods_left : (ms : List MethodDecl) (i : ℕ) (m : MethodDecl) → i < length ms
+    → m ≡ get_or ms i m
     → methods (drop i ms) ≡ method m ∷ methods (drop (i + 1) ms)
 methods_left ms i m lt is = ap methods (left_more ms i m lt is)
 

@@ -1,9 +1,11 @@
 -- The typed tree of each form of expression, and its counts.
-use Rattle.std.proofs.Common.{◌≡◌, ℕ, ◌+◌, pos, true, false, List, Option, Some, [], ◌∷◌, length, get_or, ◌<◌, ◌≤◌, refl, ap, sym, ◌∙◌, subst, arith}
+use Rattle.std.proofs.Common.{◌≡◌, ℕ, ◌+◌, pos, true, false, List, Option, Some, [], ◌∷◌, length}
+use Rattle.std.proofs.Common.{get_or, ◌<◌, ◌≤◌, refl, ap, sym, ◌∙◌, subst, arith}
 use Rattle.std.specs.Prelude.{nat_lt}
 use Rattle.par_lexer.specs.declared.operator.BinOp.{BinOp}
 use Rattle.par_tree.specs.declared.ident.Ident.{Ident}
-use Rattle.par_tree.specs.Plain.{Exp, Int, True, False, Null, This, New, Name, Field, Call, Neg, Not, Binary}
+use Rattle.par_tree.specs.Plain.{Exp, Int, True, False, Null, This, New, Name, Field, Call, Neg}
+use Rattle.par_tree.specs.Plain.{Not, Binary}
 use Rattle.par_tree.specs.Plain.{Exps, NoExps, More, MayExp, Absent, Present}
 use Rattle.std.specs.declared.boxed.Box.{Box}
 use Rattle.std.specs.declared.alloc.Global.{Global}
@@ -18,12 +20,14 @@ use Rattle.par_typed.specs.Plain.{Mark}
 use Rattle.par_typed.specs.Nodes as count
 use Rattle.par_scope.specs.declared.meaning.Receiver.TheVariants.{Own}
 use Rattle.par_scope.specs.Home.{Home, class_named, class_type}
-use Rattle.par_scope.specs.Meaning.{type_of, called_on, receiver_of, selected, called, op_type, sure}
+use Rattle.par_scope.specs.Meaning.{type_of, called_on, receiver_of, selected, called, op_type}
+use Rattle.par_scope.specs.Meaning.{sure}
 use Rattle.par_scope.proofs.Forms.{types}
 use Rattle.par_types.specs.declared.exprs.TheConstants.{TOO_LARGE}
 use Rattle.par_annotate.specs.Frames.{Frame, var_named}
 use Rattle.par_annotate.specs.Exprs.{numbered, mark_of, own_this, name_typed, number_of, negation}
-use Rattle.par_annotate.specs.Exprs.{selection, callee_on, call, typed_exp, typed_may, typed_args, first, behind}
+use Rattle.par_annotate.specs.Exprs.{selection, callee_on, call, typed_exp, typed_may, typed_args}
+use Rattle.par_annotate.specs.Exprs.{first, behind}
 use Rattle.par_annotated.specs.Ints.{one_unless, behind_minus, no_ints, may_no_ints, args_no_ints}
 use Rattle.par_annotated.proofs.NodeForms.{node_forms}
 
@@ -59,7 +63,8 @@ unfolding typed_exp
 typed_exp_new home frame p class at = refl
 
 pub typed_exp_name : (home : Home) (frame : Frame) (p : ℕ) (n : List ℕ) (at : ℕ) →
-    typed_exp home frame p (Name n at) ≡ name_typed home (var_named frame n) (selected home Own n) at
+    typed_exp home frame p (Name n at)
+    ≡ name_typed home (var_named frame n) (selected home Own n) at
     p (mark_of at p (type_of home frame.scope (Name n at)) (sure frame.scope (Name n at)))
 unfolding typed_exp
 typed_exp_name home frame p n at = refl
@@ -77,7 +82,8 @@ pub typed_exp_call : (home : Home) (frame : Frame) (p : ℕ) (o : MayExp) (m : I
     typed_exp home frame p (Call o m es at) ≡ call home (called home (called_on home frame.scope o)
     m.name) (callee_on home (called_on home frame.scope o) (called home (called_on home frame.scope
     o) m.name) (typed_may home frame (p + 1) o) (own_this home at (p + 1))) (typed_args home frame
-    (p + 1 + count.may_nodes (callee_on home (called_on home frame.scope o) (called home (called_on home
+    (p + 1 + count.may_nodes
+    (callee_on home (called_on home frame.scope o) (called home (called_on home
     frame.scope o) m.name) (typed_may home frame (p + 1) o) (own_this home at (p + 1)))) es)
     (mark_of at p (type_of home frame.scope (Call o m es at)) false)
 unfolding typed_exp
@@ -98,7 +104,8 @@ typed_exp_not home frame p e at = refl
 pub typed_exp_binary : (home : Home) (frame : Frame) (p : ℕ) (op : BinOp) (a : Exp) (b : Exp) (at :
     ℕ) →
     typed_exp home frame p (Binary op a b at) ≡ typed.Binary op (typed_exp home frame (p + 1) a)
-    (typed_exp home frame (p + 1 + count.nodes (typed_exp home frame (p + 1) a)) b) (mark_of at p (Some
+    (typed_exp home frame (p + 1 + count.nodes (typed_exp home frame (p + 1) a)) b)
+    (mark_of at p (Some
     (op_type op)) false)
 unfolding typed_exp
 typed_exp_binary home frame p op a b at = refl
@@ -302,7 +309,8 @@ pub first_none : (home : Home) (frame : Frame) (p : ℕ) (es : Exps) (m : Mark) 
 unfolding typed_args
 first_none home frame p es m is = ap (λ xs. first (typed_args home frame p xs) m) is
 
-pub first_more : (home : Home) (frame : Frame) (p : ℕ) (es : Exps) (e : Exp) (more : Exps) (m : Mark)
+pub first_more : (home : Home) (frame : Frame) (p : ℕ) (es : Exps) (e : Exp)
+    (more : Exps) (m : Mark)
     → es ≡ More e more → first (typed_args home frame p es) m ≡ typed_exp home frame p e
 unfolding typed_args
 first_more home frame p es e more m is = ap (λ xs. first (typed_args home frame p xs) m) is
@@ -323,7 +331,8 @@ args_some [] e le is = absurd (omega (arith, le))
 args_some (x ∷ es) e le is = ap (λ y. More (shown y) (all_shown es)) (sym is)
 
 -- where the numbers of a call are ints, so are those of its arguments
-pub call_ints : (e : Expr) (o : Option (Box Expr Global)) (m : Ident) (es : List Expr) → e.kind ≡ expr.Call o m es
+pub call_ints : (e : Expr) (o : Option (Box Expr Global)) (m : Ident) (es : List Expr)
+    → e.kind ≡ expr.Call o m es
     → no_ints (shown e) ≡ 0 → args_no_ints (all_shown es) ≡ 0
 call_ints e o m es is h =
     let call : no_ints (Call (receiver o) m (all_shown es) e.at) ≡ 0 =

@@ -1,7 +1,9 @@
 -- What is in scope stays in scope while statements are made.
-use Rattle.std.proofs.Common.{◌≡◌, ℕ, zero, suc, ◌+◌, ◌≤◌, List, [], ◌∷◌, ◌++◌, refl, sym, ap, ◌∙◌, arith, take, length, map}
+use Rattle.std.proofs.Common.{◌≡◌, ℕ, zero, suc, ◌+◌, ◌≤◌, List, [], ◌∷◌, ◌++◌, refl, sym, ap, ◌∙◌}
+use Rattle.std.proofs.Common.{arith, take, length, map}
 use Rattle.std.proofs.lemmas.List.{take-append-le, length-take, length-map, take_all}
-use Rattle.par_tree.specs.Plain.{Sta, Block, If, While, Try, Return, Break, Continue, Throw, Open, Close}
+use Rattle.par_tree.specs.Plain.{Sta, Block, If, While, Try, Return, Break, Continue, Throw, Open}
+use Rattle.par_tree.specs.Plain.{Close}
 use Rattle.par_tree.specs.Plain.{Declare, Assign, Do, When}
 use Rattle.par_scope.specs.declared.locals.Slot.{Slot}
 use Rattle.par_scope.specs.Locals.{Scope}
@@ -71,13 +73,16 @@ seen_take (suc n) [] = refl
 seen_take (suc n) (x ∷ xs) = ap (λ vs. var_seen x ∷ vs) (seen_take n xs)
 
 -- the locals of a block leave the scope, and keep their numbers
-pub left : (old now : Frame) (n outside many : ℕ) (scope : Scope) (before left_vars vars : List code.Var) → Keeps old n now
+pub left : (old now : Frame) (n outside many : ℕ) (scope : Scope)
+    (before left_vars vars : List code.Var) → Keeps old n now
     → old.vars ≡ map var_seen before → now.vars ≡ map var_seen left_vars
     → outside ≡ length old.scope.names → outside ≡ length old.scope.slots → many ≡ length before
     → scope.names ≡ take outside now.scope.names → scope.slots ≡ take outside now.scope.slots
     → vars ≡ take many left_vars
-    → let frame : Frame = record { scope = scope; vars = map var_seen vars; next = now.next } in frame ≡ further old n
-left old now n outside many scope before left_vars vars kept were are same_names same_slots same_vars names slots items =
+    → let frame : Frame = record { scope = scope; vars = map var_seen vars; next = now.next } in
+    frame ≡ further old n
+left old now n outside many scope before left_vars vars kept were are same_names same_slots
+    same_vars names slots items =
     let of_names : scope.names ≡ old.scope.names =
     names ∙ ap (λ k. take k now.scope.names) same_names ∙ kept.scope.names in
     let of_slots : scope.slots ≡ old.scope.slots =
@@ -87,7 +92,8 @@ left old now n outside many scope before left_vars vars kept were are same_names
     let of_vars : map var_seen vars ≡ old.vars =
     ap (map var_seen) items ∙ seen_take many left_vars ∙ ap (take many) (sym are)
     ∙ ap (λ k. take k now.vars) count ∙ kept.vars in
-    let frame : Scope → List Var → ℕ → Frame = λ s vs k. record { scope = s; vars = vs; next = k } in
+    let frame : Scope → List Var → ℕ → Frame =
+    λ s vs k. record { scope = s; vars = vs; next = k } in
     let pair : List (List ℕ) → List Slot → Scope = λ ns ss. record { names = ns; slots = ss } in
     ap (λ ns. frame (pair ns scope.slots) (map var_seen vars) now.next) of_names
     ∙ ap (λ ss. frame (pair old.scope.names ss) (map var_seen vars) now.next) of_slots

@@ -3,11 +3,14 @@ use Rattle.std.proofs.Common.{◌≡◌, ℕ, ◌+◌, ◌<◌, refl, arith}
 use Rattle.par_tree.specs.declared.ident.Ident.{Ident}
 use Rattle.par_tree.specs.declared.policy.LockTree.{LockTree}
 use Rattle.par_tree.specs.Plain.{Exp, MayExp, Local}
-use Rattle.par_tree.specs.Plain.{Sta, Block, If, While, Try, Return, Break, Continue, Throw, Open, Close}
+use Rattle.par_tree.specs.Plain.{Sta, Block, If, While, Try, Return, Break, Continue, Throw, Open}
+use Rattle.par_tree.specs.Plain.{Close}
 use Rattle.par_tree.specs.Plain.{Declare, Assign, Do, When, Braces, In, MayBraces, NoBraces}
-use Rattle.par_tree.specs.Plain.{Else, NoElse, Otherwise, Stas, End, Then, Catches, NoCatch, Catch, Handler, On}
+use Rattle.par_tree.specs.Plain.{Else, NoElse, Otherwise, Stas, End, Then, Catches, NoCatch, Catch}
+use Rattle.par_tree.specs.Plain.{Handler, On}
 use Rattle.par_tree.specs.Plain as plain
-use Rattle.par_tree.specs.Nodes.{nodes, may_nodes, stmt_nodes, braces_nodes, may_braces_nodes, else_nodes}
+use Rattle.par_tree.specs.Nodes.{nodes, may_nodes, stmt_nodes, braces_nodes, may_braces_nodes}
+use Rattle.par_tree.specs.Nodes.{else_nodes}
 use Rattle.par_tree.specs.Nodes.{all_nodes, catch_nodes, handler_nodes}
 use Rattle.par_tree.proofs.Shown as tree
 use Rattle.par_typed.specs.Plain as typed
@@ -17,12 +20,14 @@ use Rattle.par_types.specs.Stmts.{slot_of}
 use Rattle.par_annotate.specs.Frames.{Frame, with_local, further}
 use Rattle.par_annotate.specs.Exprs.{numbered, typed_exp, typed_may}
 use Rattle.par_annotate.specs.Stmts.{Written, may_policy, target, target_nodes, assignment, behind}
-use Rattle.par_annotate.specs.Stmts.{locals_in, braces_locals, may_braces_locals, else_locals, all_locals}
+use Rattle.par_annotate.specs.Stmts.{locals_in, braces_locals, may_braces_locals, else_locals}
+use Rattle.par_annotate.specs.Stmts.{all_locals}
 use Rattle.par_annotate.specs.Stmts.{catches_locals, handler_locals, typed_sta, typed_braces}
 use Rattle.par_annotate.specs.Stmts.{typed_may_braces, typed_else, typed_stas, typed_catches}
 use Rattle.par_annotate.specs.Stmts.{typed_handler, caught}
 use Rattle.par_annotated.specs.Ints.{no_ints, may_no_ints, stmt_no_ints, braces_no_ints}
-use Rattle.par_annotated.specs.Ints.{may_braces_no_ints, else_no_ints, all_no_ints, catches_no_ints, handler_no_ints}
+use Rattle.par_annotated.specs.Ints.{may_braces_no_ints, else_no_ints, all_no_ints, catches_no_ints}
+use Rattle.par_annotated.specs.Ints.{handler_no_ints}
 use Rattle.par_annotated.proofs.StmtNodeForms.{stmt_node_forms}
 
 pub typed_sta_block : (w : Written) (home : Home) (frame : Frame) (p : ℕ) (b : Braces) (at : ℕ) →
@@ -33,8 +38,10 @@ typed_sta_block w home frame p b at = refl
 pub typed_sta_if : (w : Written) (home : Home) (frame : Frame) (p : ℕ) (e : Exp) (b : Braces) (o :
     Else) (at : ℕ) →
     typed_sta w home frame p (If e b o at) ≡ typed.If (typed_exp home frame (p + 1) e) (typed_braces
-    w home frame (p + 1 + count.nodes (typed_exp home frame (p + 1) e)) b) (typed_else w home (further
-    frame (braces_locals b)) (p + 1 + count.nodes (typed_exp home frame (p + 1) e) + count.stmt_nodes
+    w home frame (p + 1 + count.nodes (typed_exp home frame (p + 1) e)) b)
+    (typed_else w home (further
+    frame (braces_locals b)) (p + 1 + count.nodes (typed_exp home frame (p + 1) e)
+    + count.stmt_nodes
     (typed_braces w home frame (p + 1 + count.nodes (typed_exp home frame (p + 1) e)) b)) o) at p
 unfolding typed_sta
 typed_sta_if w home frame p e b o at = refl
@@ -49,7 +56,8 @@ typed_sta_while w home frame p e b at = refl
 pub typed_sta_try : (w : Written) (home : Home) (frame : Frame) (p : ℕ) (b : Braces) (cs : Catches)
     (at : ℕ) →
     typed_sta w home frame p (Try b cs at) ≡ typed.Try (typed_braces w home frame (p + 1) b)
-    (typed_catches w home (further frame (braces_locals b)) (p + 1 + count.stmt_nodes (typed_braces w home
+    (typed_catches w home (further frame (braces_locals b))
+    (p + 1 + count.stmt_nodes (typed_braces w home
     frame (p + 1) b)) cs) at p
 unfolding typed_sta
 typed_sta_try w home frame p b cs at = refl
@@ -108,7 +116,8 @@ typed_sta_do w home frame p call at = refl
 
 pub typed_sta_when : (w : Written) (home : Home) (frame : Frame) (p : ℕ) (lock : LockTree) (b :
     Braces) (o : MayBraces) (at : ℕ) →
-    typed_sta w home frame p (When lock b o at) ≡ typed.When (w.lock lock) (typed_braces w home frame
+    typed_sta w home frame p (When lock b o at)
+    ≡ typed.When (w.lock lock) (typed_braces w home frame
     (p + 1) b) (typed_may_braces w home (further frame (braces_locals b)) (p + 1 + count.stmt_nodes
     (typed_braces w home frame (p + 1) b)) o) at p
 unfolding typed_sta

@@ -2,9 +2,11 @@
 use Rattle.std.proofs.Common.{◌≡◌, ℕ, ◌+◌, List, [], ◌∷◌, ◌++◌, Option, refl, ap, arith}
 use Rattle.par_typed.specs.declared.stmt.TStmt.{TStmt}
 use Rattle.par_typed.specs.declared.stmt.TCatch.{TCatch}
-use Rattle.par_typed.specs.Plain.{TExp, MayTExp, TSta, Block, If, While, Try, Return, Break, Continue}
+use Rattle.par_typed.specs.Plain.{TExp, MayTExp, TSta, Block, If, While, Try, Return, Break}
+use Rattle.par_typed.specs.Plain.{Continue}
 use Rattle.par_typed.specs.Plain.{Throw, Open, Close, SetLocal, SetStatic, SetField, Eval, When}
-use Rattle.par_typed.specs.Plain.{MayTSta, NoElse, Otherwise, TStas, End, Then, TCatches, NoCatch, Catch}
+use Rattle.par_typed.specs.Plain.{MayTSta, NoElse, Otherwise, TStas, End, Then, TCatches, NoCatch}
+use Rattle.par_typed.specs.Plain.{Catch}
 use Rattle.par_typed.specs.Nodes.{nodes, may_nodes, stmt_nodes, else_nodes, all_nodes, catch_nodes}
 use Rattle.par_typed.specs.Shown.{does, all_do, all_catch}
 use Rattle.par_typed.proofs.Shown.{doings}

@@ -1,5 +1,6 @@
 -- The members of a set as a list.
-use Rattle.std.proofs.Common.{◌≡◌, ℕ, ◌+◌, ◌<◌, ◌≤◌, false, ◌&&◌, List, [], get_or, Contains, sym, ap, ◌∙◌, arith}
+use Rattle.std.proofs.Common.{◌≡◌, ℕ, ◌+◌, ◌<◌, ◌≤◌, false, ◌&&◌, List, [], get_or, Contains, sym}
+use Rattle.std.proofs.Common.{ap, ◌∙◌, arith}
 use Rattle.std.specs.Prelude.{IsTrue, ◌↔◌, nat_lt}
 use Rattle.std.specs.List.{filter, range_with_len}
 use Rattle.std.proofs.lemmas.Bool.{and_parts, and_from, ltb-true, lt-ltb, le-ltb}
@@ -41,34 +42,43 @@ module _ (bound set : ℕ) where
   listed = filter (has set) (range_with_len 0 bound)
 
   listed_ascend : IsAscending listed
-  listed_ascend = AllPairs-filter (λ x y. x < y) (has set) (range_with_len 0 bound) (ascending_range bound)
+  listed_ascend =
+      AllPairs-filter (λ x y. x < y) (has set) (range_with_len 0 bound) (ascending_range bound)
 
   listed_iff : (n : ℕ) → Contains listed n ↔ ((n < bound) × IsTrue (has set n))
   listed_iff n = (
-    λ h. let parts = Contains-from_filter (has set) (range_with_len 0 bound) n h in (below-from_range bound n parts.0, parts.1),
+    λ h. let parts = Contains-from_filter (has set) (range_with_len 0 bound) n h in
+        (below-from_range bound n parts.0, parts.1),
     λ h. Contains-filter (has set) (range_with_len 0 bound) n (Contains-range bound n h.0) h.1,
   )
 
   listed_test : (n : ℕ) → (nat_lt n bound && has set n) ≡ numbers.has listed n
   listed_test n =
       same_tests (nat_lt n bound && has set n) (numbers.has listed n)
-      (λ h. let parts = and_parts (nat_lt n bound) (has set n) h in has-from_Contains listed n ((listed_iff n).1 (ltb-true n bound parts.0, parts.1)))
-      (λ h. let parts = (listed_iff n).0 (Contains-from_has listed n h) in and_from (nat_lt n bound) (has set n) (lt-ltb n bound parts.0) parts.1)
+      (λ h. let parts = and_parts (nat_lt n bound) (has set n) h in
+      has-from_Contains listed n ((listed_iff n).1 (ltb-true n bound parts.0, parts.1)))
+      (λ h. let parts = (listed_iff n).0 (Contains-from_has listed n h) in
+      and_from (nat_lt n bound) (has set n) (lt-ltb n bound parts.0) parts.1)
 
   module _ (table : List (List Clause)) (opened : List ℕ) (q : List Clause) where
     abbrev Below : ℕ → Type 0
     Below n = IsBelowAt (get_or table n []) opened q
 
-    each_iff : IsJoinBelowAt (policies_of table listed) opened q ↔ ((n : ℕ) → n < bound → IsTrue (has set n) → Below n)
+    each_iff : IsJoinBelowAt (policies_of table listed) opened q
+        ↔ ((n : ℕ) → n < bound → IsTrue (has set n) → Below n)
     each_iff = (
       λ h n below member.
-          All-contains Below listed n (each_below-from_join (λ m. get_or table m []) listed opened q h) ((listed_iff n).1 (below, member)),
+          All-contains Below listed n (each_below-from_join
+          (λ m. get_or table m []) listed opened q h) ((listed_iff n).1 (below, member)),
       λ h.
           join_below-from_each (λ m. get_or table m []) listed opened q
-          (λ k d inside. let parts = (listed_iff (get_or listed k d)).0 (Contains-get_or listed k d inside) in h (get_or listed k d) parts.0 parts.1),
+          (λ k d inside. let parts =
+          (listed_iff (get_or listed k d)).0 (Contains-get_or listed k d inside) in
+          h (get_or listed k d) parts.0 parts.1),
     )
 
-pub members_iff : (set : ℕ) → IsAscending (members set) × ((n : ℕ) → Contains (members set) n ↔ ((n < 256) × IsTrue (has set n)))
+pub members_iff : (set : ℕ) → IsAscending (members set)
+    × ((n : ℕ) → Contains (members set) n ↔ ((n < 256) × IsTrue (has set n)))
 unfolding members
 members_iff set = (listed_ascend 256 set, listed_iff 256 set)
 

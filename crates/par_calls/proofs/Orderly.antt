@@ -17,11 +17,14 @@ one_orderly : (table : Table) (b : Body) → well.IsOrderlyBody table b → IsOr
 one_orderly table b h = (
   h.0,
   record {
-    method = ap (λ ms. slice_get ms b.method) (same_methods (slice_get table.classes b.class)) ∙ h.1.method;
+    method =
+        ap (λ ms. slice_get ms b.method) (same_methods (slice_get table.classes b.class))
+        ∙ h.1.method;
     orderly = h.1.orderly;
   },
 )
 
-pub all_orderly : (table : Table) (bs : List Body) → AllByRecursion (well.IsOrderlyBody table) bs → AllByRecursion (IsOrderlyBody table) bs
+pub all_orderly : (table : Table) (bs : List Body) → AllByRecursion (well.IsOrderlyBody table) bs
+    → AllByRecursion (IsOrderlyBody table) bs
 all_orderly table [] h = tt
 all_orderly table (b ∷ bs) h = (one_orderly table b h.0, all_orderly table bs h.1)

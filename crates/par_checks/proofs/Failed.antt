@@ -12,34 +12,47 @@ use Rattle.par_pass.specs.Low.{IsLow, FlowsUnder, MayFlow}
 use Rattle.par_pass.proofs.Order.{sub_trans}
 use Rattle.par_pass.proofs.Instances.{seen}
 use Rattle.par_pass.proofs.Under.{AreAllLow, way_low}
-use Rattle.par_checks.specs.Asked.{Condition, Open, Released, Worth, Joined, Context, Effect, Among, Never, Check}
+use Rattle.par_checks.specs.Asked.{Condition, Open, Released, Worth, Joined, Context, Effect, Among}
+use Rattle.par_checks.specs.Asked.{Never, Check}
 use Rattle.par_checks.specs.Keeps.{Satisfies}
 use Rattle.par_checks.specs.Verdict.{among, Seeing, KeepsSeen, KeepsNumbered}
 use Rattle.par_checks.specs.Laws.{LeastFactsThatFailRefuse}
 use Rattle.par_checks.proofs.Monotone.{joined_more, joined_below, more_open}
 
-module _ (table : Table) (f : Facts numbers) (a : Seeing table) (low : (point : ℕ) → IsLow (among table) (seen table.policies) (f point) (a point)) where
+module _ (table : Table) (f : Facts numbers) (a : Seeing table)
+    (low : (point : ℕ) → IsLow (among table) (seen table.policies) (f point) (a point)) where
   parts_low : (ps : List ℕ) → AreAllLow (among table) (seen table.policies) (map f ps) (map a ps)
   parts_low [] = tt
   parts_low (p ∷ ps) = (low p, parts_low ps)
 
-  satisfied : (w : Way) (x : rules.Way (among table)) → FlowsUnder (among table) (seen table.policies) w x → (c : Condition)
-      → Satisfies (among table) (λ p. p) table.policies a x c → Satisfies numbers (joined table.policies) table.policies f w c
+  satisfied : (w : Way) (x : rules.Way (among table))
+      → FlowsUnder (among table) (seen table.policies) w x → (c : Condition)
+      → Satisfies (among table) (λ p. p) table.policies a x c
+      → Satisfies numbers (joined table.policies) table.policies f w c
   unfolding seen
   satisfied w x h (Open locks) k = sub_trans _ _ _ k h.lands.locks
   satisfied w x h (Released v p) k = λ actor locks s.
-      let few = joined_below table.policies (f v).value (a v).value (low v).value actor _ (k actor locks s) in
-      joined_more table.policies (f v).value actor _ _ (more_open locks x.locks w.locks h.lands.locks) few
-  satisfied w x h (Worth v p) k = λ actor locks s. joined_below table.policies (f v).value (a v).value (low v).value actor locks (k actor locks s)
+      let few =
+      joined_below table.policies (f v).value (a v).value (low v).value actor _ (k actor locks s) in
+      joined_more table.policies (f v).value actor _ _
+      (more_open locks x.locks w.locks h.lands.locks) few
+  satisfied w x h (Worth v p) k =
+      λ actor locks s. joined_below table.policies (f v).value (a v).value (low v).value actor locks
+      (k actor locks s)
   satisfied w x h (Joined v p) k = λ actor locks s.
-      joined_below table.policies (union (f v).value w.context) (λ actor locks. (a v).value actor locks && x.context actor locks)
-      ((seen table.policies).joined (f v).value w.context (a v).value x.context (low v).value h.context) actor locks (k actor locks s)
-  satisfied w x h (Context p) k = λ actor locks s. joined_below table.policies w.context x.context h.context actor locks (k actor locks s)
+      joined_below table.policies (union (f v).value w.context)
+      (λ actor locks. (a v).value actor locks && x.context actor locks)
+      ((seen table.policies).joined (f v).value w.context (a v).value x.context
+      (low v).value h.context) actor locks (k actor locks s)
+  satisfied w x h (Context p) k =
+      λ actor locks s. joined_below table.policies w.context x.context h.context actor locks
+      (k actor locks s)
   satisfied w x h (Effect e p) k = k
   satisfied w x h (Among locks those) k = k
   satisfied w x h Never k = absurd k
 
-  holds : (o : Option Way) (p : Option (rules.Way (among table))) → MayFlow (among table) (seen table.policies) o p → (c : Condition)
+  holds : (o : Option Way) (p : Option (rules.Way (among table)))
+      → MayFlow (among table) (seen table.policies) o p → (c : Condition)
       → Holds (among table) p (λ x. Satisfies (among table) (λ p. p) table.policies a x c)
       → Holds numbers o (λ w. Satisfies numbers (joined table.policies) table.policies f w c)
   holds None p h c k = tt
@@ -51,7 +64,8 @@ module _ (table : Table) (f : Facts numbers) (a : Seeing table) (low : (point : 
       let spot = c.spot in
       holds (way numbers (f spot.point).entry (map f spot.parts) spot.from)
       (way (among table) (a spot.point).entry (map a spot.parts) spot.from)
-      (way_low (among table) (seen table.policies) (f spot.point).entry (a spot.point).entry (map f spot.parts) (map a spot.parts) (low spot.point).entry (parts_low spot.parts) spot.from)
+      (way_low (among table) (seen table.policies) (f spot.point).entry (a spot.point).entry
+      (map f spot.parts) (map a spot.parts) (low spot.point).entry (parts_low spot.parts) spot.from)
       c.condition k
 
 pub fail_refuse : LeastFactsThatFailRefuse

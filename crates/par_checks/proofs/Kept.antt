@@ -12,8 +12,10 @@ use Rattle.par_rules.specs.Declares.{declares}
 use Rattle.par_rules.specs.Rules.{way, Holds}
 use Rattle.par_pass.specs.Exits.{Way}
 use Rattle.par_pass.proofs.Order.{sub_trans, union_l, union_r}
-use Rattle.par_pass.proofs.Along.{as_way, as_may, as_facts, as_all, way_lower, closed_along, stand_for}
-use Rattle.par_checks.specs.Asked.{Condition, Open, Released, Worth, Joined, Context, Effect, Among, Never, Check}
+use Rattle.par_pass.proofs.Along.{as_way, as_may, as_facts, as_all, way_lower, closed_along}
+use Rattle.par_pass.proofs.Along.{stand_for}
+use Rattle.par_checks.specs.Asked.{Condition, Open, Released, Worth, Joined, Context, Effect, Among}
+use Rattle.par_checks.specs.Asked.{Never, Check}
 use Rattle.par_checks.specs.Keeps.{Satisfies}
 use Rattle.par_checks.specs.Verdict.{among, KeepsSeen, KeepsNumbered}
 use Rattle.par_checks.specs.Laws.{ClosedFactsThatKeepAccept}
@@ -24,32 +26,44 @@ module _ (table : Table) (f : Facts numbers) where
   abbrev pub meant : Facts (among table)
   meant = as_facts (among table) (stand_for table.policies) f
 
-  joined_order_at : (s t : Set) → IsWithin s t → IsSeenBelow (joined table.policies s) (joined table.policies t)
+  joined_order_at : (s t : Set) → IsWithin s t
+      → IsSeenBelow (joined table.policies s) (joined table.policies t)
   unfolding stand_for
   joined_order_at s t h = (stand_for table.policies).order s t h
 
-  parts_meant : (ps : List ℕ) → as_all (among table) (stand_for table.policies) (map f ps) ≡ map meant ps
+  parts_meant : (ps : List ℕ) → as_all (among table) (stand_for table.policies) (map f ps)
+      ≡ map meant ps
   parts_meant [] = refl
   parts_meant (p ∷ ps) = ap (λ fs. meant p ∷ fs) (parts_meant ps)
 
-  satisfied : (w : Way) (x : rules.Way (among table)) → Flows (among table) x (as_way (among table) (stand_for table.policies) w) → (c : Condition)
-      → Satisfies numbers (joined table.policies) table.policies f w c → Satisfies (among table) (λ p. p) table.policies meant x c
+  satisfied : (w : Way) (x : rules.Way (among table))
+      → Flows (among table) x (as_way (among table) (stand_for table.policies) w) → (c : Condition)
+      → Satisfies numbers (joined table.policies) table.policies f w c
+      → Satisfies (among table) (λ p. p) table.policies meant x c
   unfolding stand_for
   satisfied w x h (Open locks) k = sub_trans _ _ _ k h.lands.locks
   satisfied w x h (Released v p) k = λ actor locks s.
-      joined_more table.policies (f v).value actor _ _ (more_open locks w.locks x.locks h.lands.locks) (k actor locks s)
+      joined_more table.policies (f v).value actor _ _
+      (more_open locks w.locks x.locks h.lands.locks) (k actor locks s)
   satisfied w x h (Worth v p) k = k
   satisfied w x h (Joined v p) k = λ actor locks s.
       let all = k actor locks s in
-      let value = joined_order_at (f v).value (union (f v).value w.context) (union_l (f v).value w.context) actor locks all in
-      let context = joined_order_at w.context (union (f v).value w.context) (union_r (f v).value w.context) actor locks all in
-      and_from (joined table.policies (f v).value actor locks) (x.context actor locks) value (h.context actor locks context)
+      let value =
+      joined_order_at (f v).value (union (f v).value w.context)
+      (union_l (f v).value w.context) actor locks all in
+      let context =
+      joined_order_at w.context (union (f v).value w.context)
+      (union_r (f v).value w.context) actor locks all in
+      and_from (joined table.policies (f v).value actor locks) (x.context actor locks) value
+      (h.context actor locks context)
   satisfied w x h (Context p) k = λ actor locks s. h.context actor locks (k actor locks s)
   satisfied w x h (Effect e p) k = k
   satisfied w x h (Among locks those) k = k
   satisfied w x h Never k = absurd k
 
-  holds : (o : Option Way) (p : Option (rules.Way (among table))) → MayFlow (among table) p (as_may (among table) (stand_for table.policies) o) → (c : Condition)
+  holds : (o : Option Way) (p : Option (rules.Way (among table)))
+      → MayFlow (among table) p (as_may (among table) (stand_for table.policies) o)
+      → (c : Condition)
       → Holds numbers o (λ w. Satisfies numbers (joined table.policies) table.policies f w c)
       → Holds (among table) p (λ x. Satisfies (among table) (λ p. p) table.policies meant x c)
   holds o None h c k = tt
@@ -59,11 +73,14 @@ module _ (table : Table) (f : Facts numbers) where
   pub kept : (c : Check) → KeepsNumbered table f c → KeepsSeen table meant c
   kept c k =
       let spot = c.spot in
-      let lower = way_lower (among table) (stand_for table.policies) (f spot.point).entry (map f spot.parts) spot.from in
+      let lower =
+      way_lower (among table) (stand_for table.policies) (f spot.point).entry
+      (map f spot.parts) spot.from in
       holds (way numbers (f spot.point).entry (map f spot.parts) spot.from)
       (way (among table) (meant spot.point).entry (map meant spot.parts) spot.from)
       (subst (λ fs. MayFlow (among table) (way (among table) (meant spot.point).entry fs spot.from)
-      (as_may (among table) (stand_for table.policies) (way numbers (f spot.point).entry (map f spot.parts) spot.from)))
+      (as_may (among table) (stand_for table.policies)
+      (way numbers (f spot.point).entry (map f spot.parts) spot.from)))
       (parts_meant spot.parts) lower)
       c.condition k
 

@@ -1,5 +1,6 @@
 -- The rules of each expression, each statement and each method.
-use Rattle.std.specs.Prelude.{ℕ, Bool, not, cond, nat_eq, Option, Some, None, List, [], ◌∷◌, ◌++◌, length, slice_get}
+use Rattle.std.specs.Prelude.{ℕ, Bool, not, cond, nat_eq, Option, Some, None, List, [], ◌∷◌, ◌++◌}
+use Rattle.std.specs.Prelude.{length, slice_get}
 use Rattle.std.specs.List.{list_any, filter, range_with_len}
 use Rattle.par_bits.specs.Sets.{none, adding}
 use Rattle.par_typed.specs.declared.table.GroundLock.{GroundLock}
@@ -7,12 +8,14 @@ use Rattle.par_typed.specs.declared.table.ClassInfo.{ClassInfo}
 use Rattle.par_typed.specs.declared.table.MethodInfo.{MethodInfo}
 use Rattle.par_typed.specs.declared.table.Table.{Table}
 use Rattle.par_typed.specs.Plain as typed
-use Rattle.par_typed.specs.Plain.{TExp, MayTExp, TExps, TSta, MayTSta, TStas, TCatches, Body, mark, point}
+use Rattle.par_typed.specs.Plain.{TExp, MayTExp, TExps, TSta, MayTSta, TStas, TCatches, Body, mark}
+use Rattle.par_typed.specs.Plain.{point}
 use Rattle.par_rules.specs.Kinds as kind
 use Rattle.par_rules.specs.Declares.{Method, Thrown, declares}
 use Rattle.par_rules.specs.Rules.{From, Entry, After, Tested}
 use Rattle.par_rules.specs.Body.{past, args_past, args_tested}
-use Rattle.par_checks.specs.Asked.{Condition, Open, Released, Worth, Joined, Context, Effect, Among, Never, Spot, Check}
+use Rattle.par_checks.specs.Asked.{Condition, Open, Released, Worth, Joined, Context, Effect, Among}
+use Rattle.par_checks.specs.Asked.{Never, Spot, Check}
 
 abbrev pub ask : ℕ → ℕ → Spot → Condition → Check
 ask rule at spot condition = record { rule = rule; at = at; spot = spot; condition = condition }

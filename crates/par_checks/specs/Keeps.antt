@@ -8,7 +8,8 @@ use Rattle.par_rules.specs.Ways.{Way}
 use Rattle.par_rules.specs.Facts.{Facts}
 use Rattle.par_rules.specs.Ranges.{MOST}
 use Rattle.par_rules.specs.Rules.{way, Holds}
-use Rattle.par_checks.specs.Asked.{Condition, Open, Released, Worth, Joined, Context, Effect, Among, Never, Check}
+use Rattle.par_checks.specs.Asked.{Condition, Open, Released, Worth, Joined, Context, Effect, Among}
+use Rattle.par_checks.specs.Asked.{Never, Check}
 
 -- the locks of a set, ascending
 abbrev pub locks_in : Set → List ℕ

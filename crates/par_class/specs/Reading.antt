@@ -2,10 +2,12 @@
 use Rattle.std.specs.Prelude.{ℕ, ◌+◌, ◌-◌, ◌==◌, if◌then◌else◌, List, length, Result, Ok, Err}
 use Rattle.par_pool.specs.declared.constant.Constant.{Constant}
 use Rattle.par_pool.specs.declared.error.ClassError.{ClassError}
-use Rattle.par_pool.specs.declared.error.ClassError.TheVariants.{Magic, Version, Cut, Index, Extra, Shape}
+use Rattle.par_pool.specs.declared.error.ClassError.TheVariants.{Magic, Version, Cut, Index, Extra}
+use Rattle.par_pool.specs.declared.error.ClassError.TheVariants.{Shape}
 use Rattle.par_pool.specs.Entries.{entry_at}
 use Rattle.par_pool.specs.Spelling.{is_text, is_class}
-use Rattle.par_pool.specs.Reading.{Reader, Outcome, ◌>>=◌, both, made, tested, keyed, items, u2_at, u4_at, bytes_at}
+use Rattle.par_pool.specs.Reading.{Reader, Outcome, ◌>>=◌, both, made, tested, keyed, items, u2_at}
+use Rattle.par_pool.specs.Reading.{u4_at, bytes_at}
 use Rattle.par_pool.specs.Constants.{pool_at}
 use Rattle.par_class.specs.declared.file.Attribute.{Attribute}
 use Rattle.par_class.specs.declared.file.Catch.{Catch}
@@ -15,7 +17,8 @@ use Rattle.par_class.specs.declared.file.ClassFile.{ClassFile}
 use Rattle.par_class.specs.declared.file.Piece.{Piece}
 use Rattle.par_class.specs.declared.file.Piece.TheVariants.{Plain, Code}
 use Rattle.par_class.specs.Layout.{Method, Layout, file_of}
-use Rattle.par_class.specs.Spelling.{names_code, is_super, covers, catches_class, is_code_length, is_coded, is_version}
+use Rattle.par_class.specs.Spelling.{names_code, is_super, covers, catches_class, is_code_length}
+use Rattle.par_class.specs.Spelling.{is_coded, is_version}
 
 -- the offset of bytes that end at this one
 abbrev pub place : ℕ → List ℕ → ℕ
@@ -48,7 +51,8 @@ numbers_at short =
     made (λ c. record { start = c.0; end = c.1.0; handler = c.1.1.0; class = c.1.1.1 })
     (both (u2_at short) (both (u2_at short) (both (u2_at short) (u2_at short))))
 
--- What follows reads from bytes that end at an offset, where short is the refusal of bytes that end too early.
+-- What follows reads from bytes that end at an offset, where short is the refusal of bytes that end
+-- too early.
 module _ (entries : List Constant) (short : ClassError) (end : ℕ) where
   -- the index of a text
   unfoldable pub text_index_at : Reader ℕ

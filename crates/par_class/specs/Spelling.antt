@@ -1,5 +1,8 @@
--- How the items of a class file are spelled (Java Virtual Machine Specification, Java SE 7, sections 4.1 and 4.5 to 4.7), and which files have a spelling.
-use Rattle.std.specs.Prelude.{◌≡◌, ℕ, ◌<◌, ◌^◌, Bool, true, false, not, ◌&&◌, ◌||◌, ◌==◌, nat_lt, nat_le, if◌then◌else◌, bit_and, List, ◌++◌, length, Option, Some, None, IsTrue, codes, count_by}
+-- How the items of a class file are spelled (Java Virtual Machine Specification, Java SE 7,
+-- sections 4.1 and 4.5 to 4.7), and which files have a spelling.
+use Rattle.std.specs.Prelude.{◌≡◌, ℕ, ◌<◌, ◌^◌, Bool, true, false, not, ◌&&◌, ◌||◌, ◌==◌, nat_lt}
+use Rattle.std.specs.Prelude.{nat_le, if◌then◌else◌, bit_and, List, ◌++◌, length, Option, Some}
+use Rattle.std.specs.Prelude.{None, IsTrue, codes, count_by}
 use Rattle.std.specs.List.{flat_map, AllByRecursion}
 use Rattle.std.specs.Str.{bytes_eq}
 use Rattle.par_pool.specs.declared.constant.Constant.{Constant}

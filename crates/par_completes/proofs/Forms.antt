@@ -3,13 +3,17 @@ use Rattle.std.proofs.Common.{◌≡◌, ℕ, Bool, true, false, not, ◌||◌, 
 use Rattle.par_tree.specs.declared.ident.Ident.{Ident}
 use Rattle.par_tree.specs.declared.policy.LockTree.{LockTree}
 use Rattle.par_tree.specs.Plain.{Exp, MayExp, Exps, Local}
-use Rattle.par_tree.specs.Plain.{Sta, Block, If, While, Try, Return, Break, Continue, Throw, Open, Close}
+use Rattle.par_tree.specs.Plain.{Sta, Block, If, While, Try, Return, Break, Continue, Throw, Open}
+use Rattle.par_tree.specs.Plain.{Close}
 use Rattle.par_tree.specs.Plain.{Declare, Assign, Do, When, Braces, In, MayBraces, NoBraces, Some}
-use Rattle.par_tree.specs.Plain.{Else, NoElse, Otherwise, Stas, End, Then, Catches, NoCatch, Catch, Handler, On}
+use Rattle.par_tree.specs.Plain.{Else, NoElse, Otherwise, Stas, End, Then, Catches, NoCatch, Catch}
+use Rattle.par_tree.specs.Plain.{Handler, On}
 use Rattle.par_tree.proofs.Shown.{doings, shows}
-use Rattle.par_completes.specs.Completes.{is_true, breaks, braces_break, may_braces_break, else_breaks, some_break}
+use Rattle.par_completes.specs.Completes.{is_true, breaks, braces_break, may_braces_break}
+use Rattle.par_completes.specs.Completes.{else_breaks, some_break}
 use Rattle.par_completes.specs.Completes.{some_catch_breaks, handler_breaks}
-use Rattle.par_completes.specs.Completes.{completes, braces_complete, may_braces_complete, else_completes}
+use Rattle.par_completes.specs.Completes.{completes, braces_complete, may_braces_complete}
+use Rattle.par_completes.specs.Completes.{else_completes}
 use Rattle.par_completes.specs.Completes.{last_completes, some_catch_completes, handler_completes}
 
 pub breaks_block : (b : Braces) (at : ℕ) →
@@ -156,7 +160,34 @@ pub handler_breaks_on : (class : Ident) (name : Ident) (b : Braces) →
 unfolding breaks
 handler_breaks_on class name b = refl
 
-pub ruleset breaking = (breaks_block, breaks_if, breaks_while, breaks_try, breaks_return, breaks_break, breaks_continue, breaks_throw, breaks_open, breaks_close, breaks_declare, breaks_assign, breaks_do, breaks_when, braces_break_in, may_braces_break_nobraces, may_braces_break_some, else_breaks_noelse, else_breaks_otherwise, some_break_end, some_break_then, some_catch_breaks_nocatch, some_catch_breaks_catch, handler_breaks_on, doings, shows)
+pub ruleset breaking = (
+  breaks_block,
+  breaks_if,
+  breaks_while,
+  breaks_try,
+  breaks_return,
+  breaks_break,
+  breaks_continue,
+  breaks_throw,
+  breaks_open,
+  breaks_close,
+  breaks_declare,
+  breaks_assign,
+  breaks_do,
+  breaks_when,
+  braces_break_in,
+  may_braces_break_nobraces,
+  may_braces_break_some,
+  else_breaks_noelse,
+  else_breaks_otherwise,
+  some_break_end,
+  some_break_then,
+  some_catch_breaks_nocatch,
+  some_catch_breaks_catch,
+  handler_breaks_on,
+  doings,
+  shows,
+)
 
 pub completes_block : (b : Braces) (at : ℕ) →
     completes (Block b at)
@@ -302,4 +333,31 @@ pub handler_completes_on : (class : Ident) (name : Ident) (b : Braces) →
 unfolding completes
 handler_completes_on class name b = refl
 
-pub ruleset completing = (completes_block, completes_if, completes_while, completes_try, completes_return, completes_break, completes_continue, completes_throw, completes_open, completes_close, completes_declare, completes_assign, completes_do, completes_when, braces_complete_in, may_braces_complete_nobraces, may_braces_complete_some, else_completes_noelse, else_completes_otherwise, last_completes_end, last_completes_then, some_catch_completes_nocatch, some_catch_completes_catch, handler_completes_on, doings, shows)
+pub ruleset completing = (
+  completes_block,
+  completes_if,
+  completes_while,
+  completes_try,
+  completes_return,
+  completes_break,
+  completes_continue,
+  completes_throw,
+  completes_open,
+  completes_close,
+  completes_declare,
+  completes_assign,
+  completes_do,
+  completes_when,
+  braces_complete_in,
+  may_braces_complete_nobraces,
+  may_braces_complete_some,
+  else_completes_noelse,
+  else_completes_otherwise,
+  last_completes_end,
+  last_completes_then,
+  some_catch_completes_nocatch,
+  some_catch_completes_catch,
+  handler_completes_on,
+  doings,
+  shows,
+)

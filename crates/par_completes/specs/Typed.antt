@@ -4,7 +4,8 @@ use Rattle.par_typed.specs.Plain.{TExp, Int, Boolean, Null, This, New, Local, St
 use Rattle.par_typed.specs.Plain.{Output, Call, Neg, Not, Binary}
 use Rattle.par_typed.specs.Plain.{TSta, Block, If, While, Try, Return, Break, Continue, Throw, Open}
 use Rattle.par_typed.specs.Plain.{Close, SetLocal, SetStatic, SetField, Eval, When}
-use Rattle.par_typed.specs.Plain.{MayTSta, NoElse, Otherwise, TStas, End, Then, TCatches, NoCatch, Catch}
+use Rattle.par_typed.specs.Plain.{MayTSta, NoElse, Otherwise, TStas, End, Then, TCatches, NoCatch}
+use Rattle.par_typed.specs.Plain.{Catch}
 
 -- the literal `true`
 unfoldable pub is_true : TExp → Bool

@@ -1,5 +1,6 @@
 -- Methods and declarations as they stand in lists.
-use Rattle.std.proofs.Common.{◌≡◌, ℕ, zero, suc, ◌+◌, List, [], ◌∷◌, ◌++◌, length, map, Option, take, drop, refl, sym, ap, ◌∙◌, zero-add, arith}
+use Rattle.std.proofs.Common.{◌≡◌, ℕ, zero, suc, ◌+◌, List, [], ◌∷◌, ◌++◌, length, map, Option}
+use Rattle.std.proofs.Common.{take, drop, refl, sym, ap, ◌∙◌, zero-add, arith}
 use Rattle.std.proofs.lemmas.Grind.{common_steps}
 use Rattle.std.proofs.lemmas.List.{length-map, map-append}
 use Rattle.std.proofs.Math.Nat.{suc-add}
@@ -28,7 +29,8 @@ method_ids (m ∷ ms) = ap (λ ids. m.id ∷ ids) (method_ids ms)
 
 pub ruleset ids = (method_ids, noting)
 
-pub faults_end : (source : Source) (before : List (List ℕ)) → declarations_faults source before [] ≡ []
+pub faults_end : (source : Source) (before : List (List ℕ))
+    → declarations_faults source before [] ≡ []
 unfolding declarations_faults
 faults_end source before = refl
 
@@ -42,7 +44,8 @@ faults_more source before d ds = refl
 abbrev view : List (List ℕ) → List LockDecl → List Class → List (List ℕ) → View
 view a ls cs ps = record { actors = a; locks = ls; classes = cs; policies = ps }
 
-same_view : (a b : List (List ℕ)) (ls ms : List LockDecl) (cs ds : List Class) (ps : List (List ℕ)) → a ≡ b → ls ≡ ms → cs ≡ ds
+same_view : (a b : List (List ℕ)) (ls ms : List LockDecl) (cs ds : List Class) (ps : List (List ℕ))
+    → a ≡ b → ls ≡ ms → cs ≡ ds
     → view a ls cs ps ≡ view b ms ds ps
 same_view a b ls ms cs ds ps e f g = cc
 
@@ -66,11 +69,14 @@ two zero n xs = rw (zero-add n) refl
 two (suc k) n [] = rw (suc-add k n) (sym (take_none n))
 two (suc k) n (x ∷ xs) = rw (suc-add k n) (ap (λ l. x ∷ l) (two k n xs))
 
-taken : {A : Type 0} (k : ℕ) (xs ps rest : List A) → drop k xs ≡ ps ++ rest → take (k + length ps) xs ≡ take k xs ++ ps
+taken : {A : Type 0} (k : ℕ) (xs ps rest : List A) → drop k xs ≡ ps ++ rest
+    → take (k + length ps) xs ≡ take k xs ++ ps
 taken k xs ps rest e =
-    two k (length ps) xs ∙ ap (λ l. take k xs ++ take (length ps) l) e ∙ ap (λ l. take k xs ++ l) (in_front ps rest)
+    two k (length ps) xs ∙ ap (λ l. take k xs ++ take (length ps) l) e
+    ∙ ap (λ l. take k xs ++ l) (in_front ps rest)
 
-left : {A : Type 0} (k : ℕ) (xs ps rest : List A) → drop k xs ≡ ps ++ rest → drop (k + length ps) xs ≡ rest
+left : {A : Type 0} (k : ℕ) (xs ps rest : List A) → drop k xs ≡ ps ++ rest
+    → drop (k + length ps) xs ≡ rest
 left k xs ps rest e = sym (twice xs k (length ps)) ∙ ap (drop (length ps)) e ∙ behind ps rest
 
 module _ (source : Source) (all : List (List ℕ)) (k n : ℕ) (d : Declaration) (ds : Source) where
@@ -85,25 +91,33 @@ module _ (source : Source) (all : List (List ℕ)) (k n : ℕ) (d : Declaration)
   pub left_step : drop k all ≡ map (λ p. p.id.name) (policies (d ∷ ds)) → n ≡ length (policies_in d)
       → drop (k + n) all ≡ map (λ p. p.id.name) (policies ds)
   left_step are is = ap (λ (j : ℕ). drop (k + j) all) (count is)
-      ∙ left k all (map (λ p. p.id.name) (policies_in d)) (map (λ p. p.id.name) (policies ds)) (split are)
+      ∙ left k all (map (λ p. p.id.name) (policies_in d))
+      (map (λ p. p.id.name) (policies ds)) (split are)
 
   taken_step : drop k all ≡ map (λ p. p.id.name) (policies (d ∷ ds)) → n ≡ length (policies_in d)
       → take (k + n) all ≡ take k all ++ map (λ p. p.id.name) (policies_in d)
   taken_step are is = ap (λ (j : ℕ). take (k + j) all) (count is)
-      ∙ taken k all (map (λ p. p.id.name) (policies_in d)) (map (λ p. p.id.name) (policies ds)) (split are)
+      ∙ taken k all (map (λ p. p.id.name) (policies_in d))
+      (map (λ p. p.id.name) (policies ds)) (split are)
 
   -- what one more declaration breaks is noted
-  pub found_step : (now next : Option Refusal) (v : View) → drop k all ≡ map (λ p. p.id.name) (policies (d ∷ ds)) → n ≡ length (policies_in d)
+  pub found_step : (now next : Option Refusal) (v : View)
+      → drop k all ≡ map (λ p. p.id.name) (policies (d ∷ ds)) → n ≡ length (policies_in d)
       → v ≡ view_behind source (take k all) → next ≡ first_of now (declaration_faults v d)
-      → first_of next (declarations_faults source (take (k + n) all) ds) ≡ first_of now (declarations_faults source (take k all) (d ∷ ds))
+      → first_of next (declarations_faults source (take (k + n) all) ds)
+      ≡ first_of now (declarations_faults source (take k all) (d ∷ ds))
   found_step now next v are is sees noted =
       let before : List (List ℕ) = take k all ++ map (λ p. p.id.name) (policies_in d) in
-      ap (λ (t : List (List ℕ)). first_of next (declarations_faults source t ds)) (taken_step are is)
-      ∙ ap (λ (o : Option Refusal). first_of o (declarations_faults source before ds)) (noted ∙ ap (λ (w : View). first_of now (declaration_faults w d)) sees)
-      ∙ sym (first_of_append now (declaration_faults (view_behind source (take k all)) d) (declarations_faults source before ds))
+      ap (λ (t : List (List ℕ)). first_of next (declarations_faults source t ds))
+      (taken_step are is)
+      ∙ ap (λ (o : Option Refusal). first_of o (declarations_faults source before ds))
+      (noted ∙ ap (λ (w : View). first_of now (declaration_faults w d)) sees)
+      ∙ sym (first_of_append now (declaration_faults (view_behind source (take k all)) d)
+      (declarations_faults source before ds))
       ∙ ap (first_of now) (sym (faults_more source (take k all) d ds))
 
 -- the names of classes are those of the classes as plain data
-pub class_ids : (xs : List (Bor ClassDecl)) → map (λ c. c.id) (map (λ x. x.now) xs) ≡ map (λ c. c.id) (map (λ x. class_of x.now) xs)
+pub class_ids : (xs : List (Bor ClassDecl))
+    → map (λ c. c.id) (map (λ x. x.now) xs) ≡ map (λ c. c.id) (map (λ x. class_of x.now) xs)
 class_ids [] = refl
 class_ids (x ∷ xs) = ap (λ ids. x.now.id ∷ ids) (class_ids xs)

@@ -1,5 +1,6 @@
 -- The limit on locks, lock by lock.
-use Rattle.std.proofs.Common.{◌≡◌, ℕ, ◌+◌, ◌<◌, List, [], ◌∷◌, ◌++◌, Bool, false, not, ◌&&◌, refl, ap, ◌∙◌, arith}
+use Rattle.std.proofs.Common.{◌≡◌, ℕ, ◌+◌, ◌<◌, List, [], ◌∷◌, ◌++◌, Bool, false, not, ◌&&◌, refl}
+use Rattle.std.proofs.Common.{ap, ◌∙◌, arith}
 use Rattle.std.specs.Prelude.{nat_le}
 use Rattle.std.proofs.lemmas.Bool.Decides.{nat_tests}
 use Rattle.par_typed.specs.declared.refusal.Refusal.{Refusal}
@@ -13,7 +14,8 @@ unfolding locks_limit
 locks_end actors sum = refl
 
 pub locks_more : (actors sum : ℕ) (lock : LockDecl) (locks : List LockDecl)
-    → locks_limit actors sum (lock ∷ locks) ≡ lock_limit actors sum lock ++ locks_limit actors (sum + ground actors lock) locks
+    → locks_limit actors sum (lock ∷ locks)
+    ≡ lock_limit actors sum lock ++ locks_limit actors (sum + ground actors lock) locks
 unfolding locks_limit
 locks_more actors sum lock locks = refl
 
@@ -22,17 +24,21 @@ fails_le m n lt = grind (arith, nat_tests)
 
 pub ruleset locked = (locks_end, locks_more)
 
-nothing : (sum : ℕ) (b : Bool) (f : Refusal) → LOCKS.most < sum → when (nat_le sum LOCKS.most && b) f ≡ []
+nothing : (sum : ℕ) (b : Bool) (f : Refusal) → LOCKS.most < sum
+    → when (nat_le sum LOCKS.most && b) f ≡ []
 unfolding when
 nothing sum b f lt = rw (fails_le sum LOCKS.most lt) refl
 
 -- none behind the one with which the sum exceeds
-pub past : (actors sum : ℕ) (locks : List LockDecl) → LOCKS.most < sum → locks_limit actors sum locks ≡ []
+pub past : (actors sum : ℕ) (locks : List LockDecl) → LOCKS.most < sum
+    → locks_limit actors sum locks ≡ []
 unfolding locks_limit
 past actors sum [] lt = refl
 past actors sum (lock ∷ locks) lt =
     let rest = past actors (sum + ground actors lock) locks (omega arith) in
-    let none = nothing sum (not (nat_le (sum + ground actors lock) LOCKS.most)) (exceeded LOCKS.number (tellable (sum + ground actors lock)) lock.id.at) lt in
+    let none =
+    nothing sum (not (nat_le (sum + ground actors lock) LOCKS.most))
+    (exceeded LOCKS.number (tellable (sum + ground actors lock)) lock.id.at) lt in
     ap (λ fs. fs ++ locks_limit actors (sum + ground actors lock) locks) none ∙ rest
 
 -- what is told as too much is too much

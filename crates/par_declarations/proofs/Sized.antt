@@ -1,10 +1,16 @@
 -- A method declares no more locals than it has nodes.
 use Rattle.std.proofs.Common.{◌≤◌, arith}
-use Rattle.par_tree.specs.Nodes.{stmt_nodes, braces_nodes, may_braces_nodes, else_nodes, all_nodes, catch_nodes, handler_nodes, method_nodes}
-use Rattle.par_tree.specs.Plain.{Sta, Block, If, While, Try, Return, Break, Continue, Throw, Open, Close}
-use Rattle.par_tree.specs.Plain.{Declare, Assign, Do, When, Braces, In, MayBraces, NoBraces, Some, Method}
-use Rattle.par_tree.specs.Plain.{Else, NoElse, Otherwise, Stas, End, Then, Catches, NoCatch, Catch, Handler, On}
-use Rattle.par_declarations.specs.Locals.{stmt_locals, braces_locals, may_braces_locals, else_locals, all_locals, catch_locals, handler_locals, method_locals}
+use Rattle.par_tree.specs.Nodes.{stmt_nodes, braces_nodes, may_braces_nodes, else_nodes, all_nodes}
+use Rattle.par_tree.specs.Nodes.{catch_nodes, handler_nodes, method_nodes}
+use Rattle.par_tree.specs.Plain.{Sta, Block, If, While, Try, Return, Break, Continue, Throw, Open}
+use Rattle.par_tree.specs.Plain.{Close}
+use Rattle.par_tree.specs.Plain.{Declare, Assign, Do, When, Braces, In, MayBraces, NoBraces, Some}
+use Rattle.par_tree.specs.Plain.{Method}
+use Rattle.par_tree.specs.Plain.{Else, NoElse, Otherwise, Stas, End, Then, Catches, NoCatch, Catch}
+use Rattle.par_tree.specs.Plain.{Handler, On}
+use Rattle.par_declarations.specs.Locals.{stmt_locals, braces_locals, may_braces_locals}
+use Rattle.par_declarations.specs.Locals.{else_locals, all_locals, catch_locals, handler_locals}
+use Rattle.par_declarations.specs.Locals.{method_locals}
 
 mutual
   unfolding stmt_locals stmt_nodes

@@ -9,7 +9,8 @@ use Rattle.par_tree.specs.Shown.{method, methods, declared, all_declared}
 use Rattle.par_parser.specs.Bodies.{method_size, methods_size, declaration_size, source_size}
 
 pub nodes_more : (m : MethodDecl) (ms : List MethodDecl)
-    → sum_by method_nodes (methods (m ∷ ms)) ≡ method_nodes (method m) + sum_by method_nodes (methods ms)
+    → sum_by method_nodes (methods (m ∷ ms))
+    ≡ method_nodes (method m) + sum_by method_nodes (methods ms)
 nodes_more m ms = sum_by-cons method_nodes (method m) (methods ms)
 
 pub sizes_more : (m : MethodDecl) (ms : List MethodDecl)
@@ -17,5 +18,6 @@ pub sizes_more : (m : MethodDecl) (ms : List MethodDecl)
 sizes_more m ms = sum_by-cons method_size (method m) (methods ms)
 
 pub source_more : (d : Decl) (ds : List Decl)
-    → source_size (all_declared (d ∷ ds)) ≡ declaration_size (declared d) + source_size (all_declared ds)
+    → source_size (all_declared (d ∷ ds))
+    ≡ declaration_size (declared d) + source_size (all_declared ds)
 source_more d ds = sum_by-cons declaration_size (declared d) (all_declared ds)

@@ -5,7 +5,8 @@ use Rattle.par_tree.specs.Plain.{Method}
 use Rattle.par_typed.specs.declared.refusal.Refusal.{Refusal}
 use Rattle.par_typed.specs.First.{when, broken}
 use Rattle.par_names.specs.Declarations.{doubles}
-use Rattle.par_names.specs.Policies.{View, policy_faults, may_policy_faults, lock_faults, result_fault}
+use Rattle.par_names.specs.Policies.{View, policy_faults, may_policy_faults, lock_faults}
+use Rattle.par_names.specs.Policies.{result_fault}
 use Rattle.par_names.specs.Methods.{param_faults, effect_faults, throw_faults}
 
 -- 102: a `!` behind the first

@@ -1,5 +1,7 @@
 -- The limits that are counted.
-use Rattle.std.specs.Prelude.{ℕ, ◌+◌, ◌-◌, ◌^◌, min, not, ◌&&◌, nat_lt, nat_le, List, [], ◌∷◌, ◌++◌, flat_map, map, take, drop, length, sum_by, Option, Some, None, slice_get}
+use Rattle.std.specs.Prelude.{ℕ, ◌+◌, ◌-◌, ◌^◌, min, not, ◌&&◌, nat_lt, nat_le, List, [], ◌∷◌, ◌++◌}
+use Rattle.std.specs.Prelude.{flat_map, map, take, drop, length, sum_by, Option, Some, None}
+use Rattle.std.specs.Prelude.{slice_get}
 use Rattle.std.specs.List.{prefix_len}
 use Rattle.par_tree.specs.declared.decl.LockDecl.{LockDecl}
 use Rattle.par_tree.specs.Nodes.{method_nodes}
@@ -8,7 +10,9 @@ use Rattle.par_names.specs.Declarations.{actors, locks, declared_classes}
 use Rattle.par_typed.specs.declared.refusal.Refusal.{Refusal}
 use Rattle.par_typed.specs.First.{when, exceeded, in_passes}
 use Rattle.par_declarations.specs.declared.limit.Limit.{Limit}
-use Rattle.par_declarations.specs.declared.limit.TheConstants.{ACTORS, LOCKS, CLASSES, MEMBERS, METHODS, NODES, CLASS_NODES, PARAMS, LOCALS}
+use Rattle.par_declarations.specs.declared.limit.TheConstants.{ACTORS, LOCKS, CLASSES, MEMBERS}
+use Rattle.par_declarations.specs.declared.limit.TheConstants.{METHODS, NODES, CLASS_NODES, PARAMS}
+use Rattle.par_declarations.specs.declared.limit.TheConstants.{LOCALS}
 use Rattle.par_declarations.specs.Locals.{method_locals}
 
 -- ---- limits on names: the one too many is told

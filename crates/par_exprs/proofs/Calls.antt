@@ -9,10 +9,13 @@ use Rattle.par_tree.specs.Plain as plain
 use Rattle.par_tree.specs.Shown.{kind_at, shown, all_shown}
 use Rattle.par_tree.proofs.Shown.{shown_call}
 
-pub shown_call_own : (m : Ident) (es : List Expr) (at : ℕ) → kind_at (expr.Call None m es) at ≡ plain.Call plain.Absent m (all_shown es) at
+pub shown_call_own : (m : Ident) (es : List Expr) (at : ℕ)
+    → kind_at (expr.Call None m es) at ≡ plain.Call plain.Absent m (all_shown es) at
 shown_call_own m es at = shown_call None m es at
 
-pub shown_call_on : (b : Box Expr Global) (m : Ident) (es : List Expr) (at : ℕ) → kind_at (expr.Call (Some b) m es) at ≡ plain.Call (plain.Present (shown b.value)) m (all_shown es) at
+pub shown_call_on : (b : Box Expr Global) (m : Ident) (es : List Expr) (at : ℕ)
+    → kind_at (expr.Call (Some b) m es) at
+    ≡ plain.Call (plain.Present (shown b.value)) m (all_shown es) at
 shown_call_on b m es at = shown_call (Some b) m es at
 
 pub ruleset calls = (shown_call_own, shown_call_on)

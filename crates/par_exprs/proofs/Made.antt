@@ -14,6 +14,12 @@ use Rattle.par_language.specs.Reads.{Reads}
 use Rattle.par_exprs.specs.Exprs.{tree, Makes}
 
 pub made : (b : Builders) (old : Values) (x : Exp) (i : Input) (r : Result Expr ParseError)
-    → Makes x r → ((vs : Values) → built b (old ++ vs) ≡ exp x ∷ vs) → Reads (builds b ∷ []) old tree i r i
-made b old x i (Ok e) makes builds_it = record { ok = λ s vs. run_built s i (old ++ vs) b ∙ ap (run paragon founded s i) (builds_it vs ∙ ap (λ y. exp y ∷ vs) (sym makes)); err = tt }
+    → Makes x r → ((vs : Values) → built b (old ++ vs) ≡ exp x ∷ vs)
+    → Reads (builds b ∷ []) old tree i r i
+made b old x i (Ok e) makes builds_it =
+    record {
+      ok = λ s vs. run_built s i (old ++ vs) b
+          ∙ ap (run paragon founded s i) (builds_it vs ∙ ap (λ y. exp y ∷ vs) (sym makes));
+      err = tt;
+    }
 made b old x i (Err e) makes builds_it = record { ok = tt; err = λ told s vs. absurd (told makes) }

@@ -5,12 +5,17 @@ use Rattle.par_tree.specs.declared.decl.LockDecl.{LockDecl}
 use Rattle.par_tree.specs.Plain as plain
 use Rattle.par_tree.specs.Plain.{Method, Class, Declaration, Source}
 use Rattle.par_typed.specs.declared.refusal.Refusal.{Refusal}
-use Rattle.par_names.specs.Declarations.{actors_in, locks_in, classes_in, actors, locks, declared_classes}
-use Rattle.par_places.specs.Within.{IdentIn, AreIn, FieldIn, ChannelIn, MethodIn, ClassIn, LockDeclIn, DeclarationIn, IsWithin}
+use Rattle.par_names.specs.Declarations.{actors_in, locks_in, classes_in, actors, locks}
+use Rattle.par_names.specs.Declarations.{declared_classes}
+use Rattle.par_places.specs.Within.{IdentIn, AreIn, FieldIn, ChannelIn, MethodIn, ClassIn}
+use Rattle.par_places.specs.Within.{LockDeclIn, DeclarationIn, IsWithin}
 use Rattle.par_places.proofs.Broken as broken
 use Rattle.par_places.proofs.Broken.{both, each, mapped}
 use Rattle.par_declarations.specs.declared.limit.Limit.{Limit}
-use Rattle.par_declarations.specs.Limits.{told, one_too_many, actor_places, class_places, earlier, in_order, member_places, ground, locks_limit, declared_limits, over, method_limits, class_limits, count_faults}
+use Rattle.par_declarations.specs.Limits.{told, one_too_many, actor_places, class_places, earlier}
+use Rattle.par_declarations.specs.Limits.{in_order, member_places, ground, locks_limit}
+use Rattle.par_declarations.specs.Limits.{declared_limits, over, method_limits, class_limits}
+use Rattle.par_declarations.specs.Limits.{count_faults}
 use Rattle.par_faults.proofs.Kept.{May, got, taken, dropped}
 
 module _ (m : ℕ) where
@@ -37,7 +42,8 @@ module _ (m : ℕ) where
   many_in : (limit : Limit) (places : List ℕ) → Places places → Within (one_too_many limit places)
   many_in limit places h = told_in limit _ (got In places limit.most h)
 
-  order_in : (places others : List ℕ) → Places places → Places others → Places (in_order places others)
+  order_in : (places others : List ℕ) → Places places → Places others
+      → Places (in_order places others)
   unfolding in_order
   order_in [] others h k = k
   order_in (at ∷ places) others h k =
@@ -65,21 +71,26 @@ module _ (m : ℕ) where
   classes_within (plain.Policy p) h = tt
   classes_within (plain.Declared c) h = (h, tt)
 
-  locks_limit_in : (n sum : ℕ) (ls : List LockDecl) → AllByRecursion (LockDeclIn m) ls → Within (locks_limit n sum ls)
+  locks_limit_in : (n sum : ℕ) (ls : List LockDecl) → AllByRecursion (LockDeclIn m) ls
+      → Within (locks_limit n sum ls)
   unfolding locks_limit
   locks_limit_in n sum [] h = tt
-  locks_limit_in n sum (l ∷ ls) h = join _ _ (broken.there m _ _ h.0.0) (locks_limit_in n (sum + ground n l) ls h.1)
+  locks_limit_in n sum (l ∷ ls) h =
+      join _ _ (broken.there m _ _ h.0.0) (locks_limit_in n (sum + ground n l) ls h.1)
 
   pub actors_are_in : (source : Source) → IsWithin m source → AreIn m (actors source)
   actors_are_in source h = each (DeclarationIn m) (IdentIn m) _ source actors_within h
 
-  pub classes_are_in : (source : Source) → IsWithin m source → AllByRecursion (ClassIn m) (declared_classes source)
+  pub classes_are_in : (source : Source) → IsWithin m source
+      → AllByRecursion (ClassIn m) (declared_classes source)
   classes_are_in source h = each (DeclarationIn m) (ClassIn m) _ source classes_within h
 
   declared_in : (source : Source) → IsWithin m source → Within (declared_limits source)
   declared_in source h =
-      broken.passes_within m _ _ (many_in _ (actor_places source) (mapped (IdentIn m) In _ (actors source) (λ a h. h) (actors_are_in source h)))
-      (locks_limit_in _ 0 (locks source) (each (DeclarationIn m) (LockDeclIn m) _ source locks_within h))
+      broken.passes_within m _ _ (many_in _ (actor_places source)
+      (mapped (IdentIn m) In _ (actors source) (λ a h. h) (actors_are_in source h)))
+      (locks_limit_in _ 0 (locks source)
+      (each (DeclarationIn m) (LockDeclIn m) _ source locks_within h))
 
   -- ---- classes
 
@@ -87,17 +98,25 @@ module _ (m : ℕ) where
   over_in limit count at h = broken.there m _ _ h
 
   method_in : (f : Method) → MethodIn m f → Within (method_limits f)
-  method_in f h = join _ _ (join _ _ (over_in _ _ f.id.at h.id) (over_in _ _ f.id.at h.id)) (over_in _ _ f.id.at h.id)
+  method_in f h =
+      join _ _ (join _ _ (over_in _ _ f.id.at h.id) (over_in _ _ f.id.at h.id))
+      (over_in _ _ f.id.at h.id)
 
   class_in : (c : Class) → ClassIn m c → Within (class_limits c)
   class_in c h =
-      let members = order_in _ _ (mapped (FieldIn m) In _ c.fields (λ f h. h.0) h.fields) (mapped (ChannelIn m) In _ c.channels (λ x h. h.0) h.channels) in
+      let members =
+      order_in _ _ (mapped (FieldIn m) In _ c.fields (λ f h. h.0) h.fields)
+      (mapped (ChannelIn m) In _ c.channels (λ x h. h.0) h.channels) in
       let methods = mapped (MethodIn m) In _ c.methods (λ f h. h.id) h.methods in
-      let counted = join _ _ (join _ _ (many_in _ (member_places c) members) (many_in _ _ methods)) (over_in _ _ c.id.at h.id) in
+      let counted =
+      join _ _ (join _ _ (many_in _ (member_places c) members) (many_in _ _ methods))
+      (over_in _ _ c.id.at h.id) in
       join _ _ counted (each (MethodIn m) P _ c.methods method_in h.methods)
 
   pub counts_in : (source : Source) → IsWithin m source → Within (count_faults source)
   counts_in source h =
       let classes = classes_are_in source h in
-      join _ _ (join _ _ (declared_in source h) (many_in _ (class_places source) (mapped (ClassIn m) In _ (declared_classes source) (λ c h. h.id) classes)))
+      join _ _ (join _ _ (declared_in source h)
+      (many_in _ (class_places source)
+      (mapped (ClassIn m) In _ (declared_classes source) (λ c h. h.id) classes)))
       (each (ClassIn m) P _ (declared_classes source) class_in classes)

@@ -1,5 +1,6 @@
 -- A program within the limits of actors and locks has few of them.
-use Rattle.std.proofs.Common.{◌≡◌, ℕ, ◌+◌, ◌≤◌, List, [], ◌∷◌, ◌++◌, Option, Some, None, Bool, true, false, not, ◌&&◌, length, refl, sym, ◌∙◌, arith, subst}
+use Rattle.std.proofs.Common.{◌≡◌, ℕ, ◌+◌, ◌≤◌, List, [], ◌∷◌, ◌++◌, Option, Some, None, Bool, true}
+use Rattle.std.proofs.Common.{false, not, ◌&&◌, length, refl, sym, ◌∙◌, arith, subst}
 use Rattle.std.specs.Prelude.{nat_le, sum_by, ◌<◌}
 use Rattle.std.proofs.lemmas.List.{length-map}
 use Rattle.std.proofs.lemmas.List.Sums.{sum_by-cons}
@@ -14,7 +15,8 @@ use Rattle.par_typed.proofs.First.{answered}
 use Rattle.par_names.specs.Declarations.{actors, locks}
 use Rattle.par_declarations.specs.declared.limit.Limit.{Limit}
 use Rattle.par_declarations.specs.declared.limit.TheConstants.{ACTORS, LOCKS}
-use Rattle.par_declarations.specs.Limits.{told, one_too_many, actor_places, ground, lock_limit, locks_limit, declared_limits}
+use Rattle.par_declarations.specs.Limits.{told, one_too_many, actor_places, ground, lock_limit}
+use Rattle.par_declarations.specs.Limits.{locks_limit, declared_limits}
 use Rattle.par_resolved.specs.Few.{HasFew}
 use Rattle.par_resolved.specs.Numbers.{ground_count}
 
@@ -55,11 +57,13 @@ told_no limit (Some at) h = absurd (cc h)
 past : (a b : ℕ) → nat_le a b ≡ false → b < a
 past a b e = grind (arith, nat_tests)
 
-not_many : (limit : Limit) (places : List ℕ) → one_too_many limit places ≡ [] → length places ≤ limit.most
+not_many : (limit : Limit) (places : List ℕ) → one_too_many limit places ≡ []
+    → length places ≤ limit.most
 not_many limit places h = in_case (nat_le (length places) limit.most) refl where
   in_case : (b : Bool) → nat_le (length places) limit.most ≡ b → length places ≤ limit.most
   in_case true e = leb-true _ _ e
-  in_case false e = absurd (cc (sym (slice_get-get_or places limit.most 0 (past _ _ e)) ∙ told_no limit _ h))
+  in_case false e =
+      absurd (cc (sym (slice_get-get_or places limit.most 0 (past _ _ e)) ∙ told_no limit _ h))
 
 -- ---- locks
 
@@ -77,13 +81,16 @@ few_locks_from n sum (l ∷ ls) le h =
     let one = not_one _ _ (left_none (lock_limit n sum l) _ h) in
     let next = kept sum (sum + ground n l) LOCKS.most one le in
     let rest = few_locks_from n (sum + ground n l) ls next (right_none (lock_limit n sum l) _ h) in
-    subst (λ k. sum + k ≤ LOCKS.most) (sym (sum_by-cons (ground_count n) l ls)) (grouped sum (ground n l) (sum_by (ground_count n) ls) LOCKS.most rest)
+    subst (λ k. sum + k ≤ LOCKS.most) (sym (sum_by-cons (ground_count n) l ls))
+    (grouped sum (ground n l) (sum_by (ground_count n) ls) LOCKS.most rest)
 
 pub has_few : (source : Source) → None ≡ first_of None (declared_limits source) → HasFew source
 has_few source h =
     let none = none_is_nothing (declared_limits source) h in
-    let actors_few : length (actor_places source) ≤ 16 = not_many ACTORS (actor_places source) (first_pass _ _ none) in
-    let count : length (actor_places source) ≡ length (actors source) = length-map (actors source) (λ a. a.at) in
+    let actors_few : length (actor_places source) ≤ 16 =
+    not_many ACTORS (actor_places source) (first_pass _ _ none) in
+    let count : length (actor_places source) ≡ length (actors source) =
+    length-map (actors source) (λ a. a.at) in
     let locks_few : 0 + sum_by (ground_count (length (actors source))) (locks source) ≤ 256 =
     few_locks_from (length (actors source)) 0 (locks source) (omega arith) (later_pass _ _ none) in
     record {

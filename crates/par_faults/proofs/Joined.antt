@@ -1,14 +1,17 @@
 -- Two answers of two lists join to the answer of both.
-use Rattle.std.proofs.Common.{◌≡◌, List, [], ◌∷◌, Option, Some, None, Bool, true, false, cond, refl, sym, ap, ◌∙◌, arith}
+use Rattle.std.proofs.Common.{◌≡◌, List, [], ◌∷◌, Option, Some, None, Bool, true, false, cond, refl}
+use Rattle.std.proofs.Common.{sym, ap, ◌∙◌, arith}
 use Rattle.std.specs.Prelude.{fold}
 use Rattle.std.proofs.lemmas.Bool.Decides.{nat_tests}
 use Rattle.par_typed.specs.declared.refusal.Refusal.{Refusal}
 use Rattle.par_typed.specs.First.{comes_before, earlier, first_of}
 
-skipped : (f g h : Refusal) → comes_before g f ≡ true → comes_before h g ≡ true → comes_before h f ≡ true
+skipped : (f g h : Refusal) → comes_before g f ≡ true → comes_before h g ≡ true
+    → comes_before h f ≡ true
 skipped f g h j k = grind (arith, nat_tests)
 
-behind : (f g h : Refusal) → comes_before g f ≡ false → comes_before h g ≡ false → comes_before h f ≡ false
+behind : (f g h : Refusal) → comes_before g f ≡ false → comes_before h g ≡ false
+    → comes_before h f ≡ false
 behind f g h j k = grind (arith, nat_tests)
 
 -- the earlier of two, as one
@@ -36,13 +39,15 @@ in_turn (Some f) g h = in_case (comes_before g f) (comes_before h g) refl refl w
 
 -- the first of some, noted behind what was found before
 module _ (o : Option Refusal) where
-  joined : (g : Refusal) (gs : List Refusal) (f : Refusal) → fold earlier (Some g) gs ≡ Some f → earlier o f ≡ fold earlier (earlier o g) gs
+  joined : (g : Refusal) (gs : List Refusal) (f : Refusal) → fold earlier (Some g) gs ≡ Some f
+      → earlier o f ≡ fold earlier (earlier o g) gs
   joined g [] f e = ap (earlier o) (sym (cc e))
   joined g (h ∷ hs) f e =
       joined (lesser g h) hs f (ap (λ x. fold earlier x hs) (sym (earlier_is g h)) ∙ e)
       ∙ ap (λ x. fold earlier x hs) (sym (in_turn o g h))
 
-  pub noted_first : (gs : List Refusal) (f : Refusal) → Some f ≡ first_of None gs → earlier o f ≡ first_of o gs
+  pub noted_first : (gs : List Refusal) (f : Refusal) → Some f ≡ first_of None gs
+      → earlier o f ≡ first_of o gs
   unfolding first_of
   noted_first [] f e = absurd (cc e)
   noted_first (g ∷ gs) f e = joined g gs f (sym e)
@@ -57,4 +62,5 @@ module _ (o : Option Refusal) where
 
     first_some : (f : Refusal) (fs : List Refusal) → fold earlier (Some f) fs ≡ Some (kept f fs)
     first_some f [] = refl
-    first_some f (h ∷ hs) = ap (λ x. fold earlier x hs) (earlier_is f h) ∙ first_some (lesser f h) hs
+    first_some f (h ∷ hs) =
+        ap (λ x. fold earlier x hs) (earlier_is f h) ∙ first_some (lesser f h) hs

@@ -1,5 +1,6 @@
 -- What holds of all items of a list holds of those that are taken out of it.
-use Rattle.std.proofs.Common.{ℕ, zero, suc, Bool, true, false, cond, List, [], ◌∷◌, Option, Some, None, take, drop}
+use Rattle.std.proofs.Common.{ℕ, zero, suc, Bool, true, false, cond, List, [], ◌∷◌, Option, Some}
+use Rattle.std.proofs.Common.{None, take, drop}
 use Rattle.std.specs.Prelude.{slice_get}
 use Rattle.std.specs.List.{AllByRecursion}
 
@@ -24,6 +25,7 @@ module _ {A : Type 0} (P : A → Type 0) where
   dropped (suc n) [] h = tt
   dropped (suc n) (x ∷ xs) h = dropped n xs h.1
 
-  pub chosen : (b : Bool) (xs ys : List A) → AllByRecursion P xs → AllByRecursion P ys → AllByRecursion P (cond b xs ys)
+  pub chosen : (b : Bool) (xs ys : List A) → AllByRecursion P xs → AllByRecursion P ys
+      → AllByRecursion P (cond b xs ys)
   chosen true xs ys h k = h
   chosen false xs ys h k = k

@@ -7,32 +7,40 @@ use Rattle.par_typed.proofs.First.{answered, first_of_none, first_stops, answer_
 use Rattle.par_faults.specs.Faults.{where_none}
 use Rattle.par_faults.proofs.Few.{none_is_nothing}
 
-pub where_passed : (fs gs : List Refusal) → None ≡ first_of None fs → first_of None gs ≡ first_of None (where_none fs gs)
+pub where_passed : (fs gs : List Refusal) → None ≡ first_of None fs
+    → first_of None gs ≡ first_of None (where_none fs gs)
 unfolding where_none
 where_passed fs gs h = ap (λ xs. first_of None (where_none xs gs)) (sym (none_is_nothing fs h))
 
-pub where_stopped : (fs gs : List Refusal) (f : Refusal) → Some f ≡ first_of None fs → None ≡ first_of None (where_none fs gs)
+pub where_stopped : (fs gs : List Refusal) (f : Refusal) → Some f ≡ first_of None fs
+    → None ≡ first_of None (where_none fs gs)
 unfolding where_none
 where_stopped [] gs f h = absurd (cc (h ∙ first_of_none None))
 where_stopped (g ∷ fs) gs f h = sym (first_of_none None)
 
-pub later_passed : (fs gs : List Refusal) → None ≡ first_of None fs → first_of None gs ≡ first_of None (in_passes fs gs)
+pub later_passed : (fs gs : List Refusal) → None ≡ first_of None fs
+    → first_of None gs ≡ first_of None (in_passes fs gs)
 unfolding in_passes
 later_passed fs gs h = ap (λ xs. first_of None (in_passes xs gs)) (sym (none_is_nothing fs h))
 
-pub later_stopped : (fs gs : List Refusal) (f : Refusal) → Some f ≡ first_of None fs → Some f ≡ first_of None (in_passes fs gs)
+pub later_stopped : (fs gs : List Refusal) (f : Refusal) → Some f ≡ first_of None fs
+    → Some f ≡ first_of None (in_passes fs gs)
 unfolding in_passes
 later_stopped [] gs f h = absurd (cc (h ∙ first_of_none None))
 later_stopped (g ∷ fs) gs f h = h
 
-pub stopped : (fs gs : List Refusal) (f : Refusal) → Some f ≡ first_of None fs → IsFirst (in_passes fs gs) f
+pub stopped : (fs gs : List Refusal) (f : Refusal) → Some f ≡ first_of None fs
+    → IsFirst (in_passes fs gs) f
 stopped fs gs f h = first_stops fs gs f (subst (IsAnswer fs) (sym h) (answered fs))
 
-answer : (fs gs : List Refusal) (o : Option Refusal) → None ≡ first_of None fs → o ≡ first_of None gs → IsAnswer (in_passes fs gs) o
-answer fs gs o h is = answer_passes_on fs gs o (none_is_nothing fs h) (subst (IsAnswer gs) (sym is) (answered gs))
+answer : (fs gs : List Refusal) (o : Option Refusal) → None ≡ first_of None fs
+    → o ≡ first_of None gs → IsAnswer (in_passes fs gs) o
+answer fs gs o h is =
+    answer_passes_on fs gs o (none_is_nothing fs h) (subst (IsAnswer gs) (sym is) (answered gs))
 
 -- where the first pass finds nothing, the second one answers, if it does
-pub passed : {E : Type 0} (fs gs : List Refusal) (r : Result (Option Refusal) E) → None ≡ first_of None fs
+pub passed : {E : Type 0} (fs gs : List Refusal) (r : Result (Option Refusal) E)
+    → None ≡ first_of None fs
     → IfOk r (λ o. o ≡ first_of None gs) → IfOk r (IsAnswer (in_passes fs gs))
 passed fs gs (Ok o) h is = answer fs gs o h is
 passed fs gs (Err e) h is = tt

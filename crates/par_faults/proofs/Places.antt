@@ -21,5 +21,6 @@ pub all_within : FaultsLieWithin
 all_within m source h =
     passes_within m (name_faults source) (limit_faults source) (names_broken_within m source h)
     (join m (count_faults source) (policies_faults source) (counts_in m source h)
-    (passes_within m (all_literal_faults source) (where_none (declared_limits source) (policy_faults source)) (literals_in m source h)
+    (passes_within m (all_literal_faults source)
+    (where_none (declared_limits source) (policy_faults source)) (literals_in m source h)
     (where_in m (declared_limits source) (policy_faults source) (policies_in m source h))))

@@ -13,10 +13,14 @@ use Rattle.par_places.proofs.Broken.{both, each, mapped, filtered}
 use Rattle.par_resolved.specs.Sets.{joined}
 use Rattle.par_resolved.specs.Policies.{Known, known, term_values, fits}
 use Rattle.par_resolved.specs.Written.{written, queried}
-use Rattle.par_resolved.specs.Sizes.{exceeded_by, literal_sizes, literal_locks, size_faults, form_faults, literal_faults, all_literal_faults, steps_faults, join_faults, expression_faults}
+use Rattle.par_resolved.specs.Sizes.{exceeded_by, literal_sizes, literal_locks, size_faults}
+use Rattle.par_resolved.specs.Sizes.{form_faults, literal_faults, all_literal_faults, steps_faults}
+use Rattle.par_resolved.specs.Sizes.{join_faults, expression_faults}
 use Rattle.par_resolved.specs.Births.{birth_policy, birth_faults}
 use Rattle.par_resolved.specs.declared.entries.Entry.{Entry}
-use Rattle.par_resolved.specs.Numbered.{same_policy, has_no_policy, written_entry, query_entries, with_entry, by_place, declared, birth_entry, entries, with_new, inferred_fields, inferred_entry, numbered}
+use Rattle.par_resolved.specs.Numbered.{same_policy, has_no_policy, written_entry, query_entries}
+use Rattle.par_resolved.specs.Numbered.{with_entry, by_place, declared, birth_entry, entries}
+use Rattle.par_resolved.specs.Numbered.{with_new, inferred_fields, inferred_entry, numbered}
 use Rattle.par_resolved.specs.Limits.{one_too_many, table_faults, policy_faults}
 use Rattle.par_faults.proofs.Kept.{May, got, chosen}
 use Rattle.par_faults.proofs.Written.{written_in, queried_in}
@@ -46,12 +50,15 @@ module _ (m : ℕ) where
   form_in at p h = size_in at (length p ∷ []) (map (λ c. length c.locks) p) h
 
   literal_in : (e : PolicyExpr) → PolicyIn m e → Within (literal_faults e)
-  literal_in e h = size_in e.at (flat_map literal_sizes e.terms) (flat_map literal_locks e.terms) h.0
+  literal_in e h =
+      size_in e.at (flat_map literal_sizes e.terms) (flat_map literal_locks e.terms) h.0
 
-  steps_in : (at : ℕ) (p : List Clause) (qs : List (List Clause)) → at ≤ m → Within (steps_faults at p qs)
+  steps_in : (at : ℕ) (p : List Clause) (qs : List (List Clause)) → at ≤ m
+      → Within (steps_faults at p qs)
   unfolding steps_faults
   steps_in at p [] h = tt
-  steps_in at p (q ∷ qs) h = chosen P (fits (joined p q)) _ _ (steps_in at (joined p q) qs h) (form_in at (joined p q) h)
+  steps_in at p (q ∷ qs) h =
+      chosen P (fits (joined p q)) _ _ (steps_in at (joined p q) qs h) (form_in at (joined p q) h)
 
   list_in : (at : ℕ) (ps : List (List Clause)) → at ≤ m → Within (join_faults at (Some ps))
   unfolding join_faults
@@ -83,7 +90,9 @@ module _ (m : ℕ) where
   by_place_in (e ∷ es) h = with_in e (by_place es) h.0 (by_place_in es h.1)
 
   new_in : (es : List Entry) (e : Entry) → Entries es → E e → Entries (with_new es e)
-  new_in es e h k = chosen E (list_any (λ f. same_policy e.policy f.policy) es) _ _ h (both E es (e ∷ []) h (k, tt))
+  new_in es e h k =
+      chosen E (list_any (λ f. same_policy e.policy f.policy) es) _ _ h
+      (both E es (e ∷ []) h (k, tt))
 
   distinct_in : (done es : List Entry) → Entries done → Entries es → Entries (fold with_new done es)
   distinct_in done [] h k = h
@@ -92,22 +101,31 @@ module _ (m : ℕ) where
   queries_in : (source : Source) → IsWithin m source → Entries (query_entries source)
   queries_in source h =
       mapped (LockIn m) E _ _ (λ l h. h.0)
-      (filtered (LockIn m) (λ l. has_no_policy (lock_named (locks source) l.id.name)) (queried source) (queried_in m source h))
+      (filtered (LockIn m) (λ l. has_no_policy (lock_named (locks source) l.id.name))
+      (queried source) (queried_in m source h))
 
   entries_in : (k : Known) (source : Source) → IsWithin m source → Entries (entries k source)
   entries_in k source h =
-      let placed = both E _ _ (mapped (PolicyIn m) E (written_entry k) (written source) (λ e h. h.0) (written_in m source h)) (queries_in source h) in
-      let births = mapped (ClassIn m) E (birth_entry k) (declared source) (λ c h. h.id) (classes_are_in m source h) in
+      let placed =
+      both E _ _ (mapped (PolicyIn m) E (written_entry k) (written source) (λ e h. h.0)
+      (written_in m source h)) (queries_in source h) in
+      let births =
+      mapped (ClassIn m) E (birth_entry k) (declared source) (λ c h. h.id)
+      (classes_are_in m source h) in
       (omega arith, both E _ _ (by_place_in _ placed) births)
 
-  inferred_in : (source : Source) → IsWithin m source → AllByRecursion (FieldIn m) (inferred_fields source)
+  inferred_in : (source : Source) → IsWithin m source
+      → AllByRecursion (FieldIn m) (inferred_fields source)
   inferred_in source h =
-      filtered (FieldIn m) (λ f. f.inferred) _ (each (ClassIn m) (FieldIn m) (λ c. c.fields) (declared source) (λ c h. h.fields) (classes_are_in m source h))
+      filtered (FieldIn m) (λ f. f.inferred) _
+      (each (ClassIn m) (FieldIn m) (λ c. c.fields) (declared source) (λ c h. h.fields)
+      (classes_are_in m source h))
 
   numbered_in : (k : Known) (source : Source) → IsWithin m source → Entries (numbered k source)
   numbered_in k source h =
       both E _ _ (distinct_in [] (entries k source) tt (entries_in k source h))
-      (mapped (FieldIn m) E (inferred_entry k) (inferred_fields source) (λ f h. h.0) (inferred_in source h))
+      (mapped (FieldIn m) E (inferred_entry k) (inferred_fields source) (λ f h. h.0)
+      (inferred_in source h))
 
   -- ---- all
 
@@ -116,7 +134,8 @@ module _ (m : ℕ) where
   many_in None h = tt
   many_in (Some e) h = (h, tt)
 
-  birth_in : (k : Known) (c : Class) (o : Option PolicyExpr) → IdentIn m c.id → Within (birth_faults k c o)
+  birth_in : (k : Known) (c : Class) (o : Option PolicyExpr) → IdentIn m c.id
+      → Within (birth_faults k c o)
   unfolding birth_faults
   birth_in k c None h = form_in c.id.at (birth_policy k None c.fields) h
   birth_in k c (Some e) h = broken.there m _ _ h
@@ -124,7 +143,8 @@ module _ (m : ℕ) where
   table_in : (k : Known) (source : Source) → IsWithin m source → Within (table_faults k source)
   table_in k source h =
       join _ _ (many_in _ (got E (numbered k source) _ (numbered_in k source h)))
-      (each (ClassIn m) P _ (declared source) (λ c h. birth_in k c c.birth h.id) (classes_are_in m source h))
+      (each (ClassIn m) P _ (declared source) (λ c h. birth_in k c c.birth h.id)
+      (classes_are_in m source h))
 
   pub literals_in : (source : Source) → IsWithin m source → Within (all_literal_faults source)
   literals_in source h = each (PolicyIn m) P _ (written source) literal_in (written_in m source h)
@@ -133,4 +153,5 @@ module _ (m : ℕ) where
   policies_in source h =
       let all = written_in m source h in
       broken.passes_within m _ _ (literals_in source h)
-      (broken.passes_within m _ _ (each (PolicyIn m) P _ (written source) (expression_in (known source)) all) (table_in (known source) source h))
+      (broken.passes_within m _ _ (each (PolicyIn m) P _ (written source)
+      (expression_in (known source)) all) (table_in (known source) source h))

@@ -5,11 +5,17 @@ use Rattle.std.specs.Option.{option_to_list}
 use Rattle.par_tree.specs.declared.policy.LockTree.{LockTree}
 use Rattle.par_tree.specs.declared.policy.PolicyExpr.{PolicyExpr}
 use Rattle.par_tree.specs.Plain as plain
-use Rattle.par_tree.specs.Plain.{Sta, Stas, Braces, In, MayBraces, Else, Catches, Catch, NoCatch, Handler, On, Method, Class, Declaration, Source}
-use Rattle.par_places.specs.Within.{LockIn, PolicyIn, MayPolicyIn, StaIn, BracesIn, MayBracesIn, ElseIn, StasIn, CatchesIn, HandlerIn, FieldIn, ChannelIn, ParamIn, ThrowIn, MethodIn, ClassIn, DeclarationIn, IsWithin}
+use Rattle.par_tree.specs.Plain.{Sta, Stas, Braces, In, MayBraces, Else, Catches, Catch, NoCatch}
+use Rattle.par_tree.specs.Plain.{Handler, On, Method, Class, Declaration, Source}
+use Rattle.par_places.specs.Within.{LockIn, PolicyIn, MayPolicyIn, StaIn, BracesIn, MayBracesIn}
+use Rattle.par_places.specs.Within.{ElseIn, StasIn, CatchesIn, HandlerIn, FieldIn, ChannelIn}
+use Rattle.par_places.specs.Within.{ParamIn, ThrowIn, MethodIn, ClassIn, DeclarationIn, IsWithin}
 use Rattle.par_places.proofs.Broken.{both, each, mapped}
-use Rattle.par_resolved.specs.Statements.{inside, in_braces, in_may_braces, in_else, in_all, in_catches, in_handler}
-use Rattle.par_resolved.specs.Written.{stmt_policies, stmt_queries, method_policies, class_policies, declaration_policies, written, method_queries, declaration_queries, queried}
+use Rattle.par_resolved.specs.Statements.{inside, in_braces, in_may_braces, in_else, in_all}
+use Rattle.par_resolved.specs.Statements.{in_catches, in_handler}
+use Rattle.par_resolved.specs.Written.{stmt_policies, stmt_queries, method_policies, class_policies}
+use Rattle.par_resolved.specs.Written.{declaration_policies, written, method_queries}
+use Rattle.par_resolved.specs.Written.{declaration_queries, queried}
 
 module _ (m : ℕ) where
   abbrev Stmts : List Sta → Type 0
@@ -90,14 +96,23 @@ module _ (m : ℕ) where
 
   method_in : (f : Method) → MethodIn m f → Policies (method_policies f)
   method_in f h =
-      let params = also _ _ (may_in f.policy h.policy) (each (ParamIn m) (PolicyIn m) _ f.params (λ p h. may_in p.policy h.2) h.params) in
-      let throws = also _ _ (also _ _ params h.effects) (mapped (ThrowIn m) (PolicyIn m) _ f.throws (λ t h. h.1) h.throws) in
-      also _ _ throws (each (StaIn m) (PolicyIn m) _ (in_braces f.body) stmt_in (braces_in f.body h.body))
+      let params =
+      also _ _ (may_in f.policy h.policy)
+      (each (ParamIn m) (PolicyIn m) _ f.params (λ p h. may_in p.policy h.2) h.params) in
+      let throws =
+      also _ _ (also _ _ params h.effects)
+      (mapped (ThrowIn m) (PolicyIn m) _ f.throws (λ t h. h.1) h.throws) in
+      also _ _ throws (each (StaIn m) (PolicyIn m) _ (in_braces f.body) stmt_in
+      (braces_in f.body h.body))
 
   class_in : (c : Class) → ClassIn m c → Policies (class_policies c)
   class_in c h =
-      let fields = also _ _ (may_in c.birth h.birth) (each (FieldIn m) (PolicyIn m) _ c.fields (λ f h. may_in f.policy h.2) h.fields) in
-      let channels = also _ _ fields (each (ChannelIn m) (PolicyIn m) _ c.channels (λ x h. may_in x.policy h.1) h.channels) in
+      let fields =
+      also _ _ (may_in c.birth h.birth)
+      (each (FieldIn m) (PolicyIn m) _ c.fields (λ f h. may_in f.policy h.2) h.fields) in
+      let channels =
+      also _ _ fields (each (ChannelIn m) (PolicyIn m) _ c.channels
+      (λ x h. may_in x.policy h.1) h.channels) in
       also _ _ channels (each (MethodIn m) (PolicyIn m) _ c.methods method_in h.methods)
 
   declaration_in : (d : Declaration) → DeclarationIn m d → Policies (declaration_policies d)

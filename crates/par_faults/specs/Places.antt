@@ -7,4 +7,5 @@ use Rattle.par_faults.specs.Faults.{all_faults}
 
 -- they are broken at places of the tree, or at its beginning
 abbrev pub FaultsLieWithin : Type 0
-FaultsLieWithin = (m : ℕ) (source : Source) → IsWithin m source → AreBrokenWithin m (all_faults source)
+FaultsLieWithin =
+    (m : ℕ) (source : Source) → IsWithin m source → AreBrokenWithin m (all_faults source)

@@ -1,6 +1,7 @@
 -- The objects of a program: of each class by its number, in the order of their births, each the
 -- values of its fields.
-use Rattle.std.specs.Prelude.{ℕ, suc, ◌-◌, List, [], ◌∷◌, ◌++◌, length, replicate, Option, slice_get, slice_set, slice_index_or}
+use Rattle.std.specs.Prelude.{ℕ, suc, ◌-◌, List, [], ◌∷◌, ◌++◌, length, replicate, Option}
+use Rattle.std.specs.Prelude.{slice_get, slice_set, slice_index_or}
 use Rattle.std.specs.Option.{option_and_then}
 use Rattle.par_values.specs.declared.value.MVal.{MVal}
 

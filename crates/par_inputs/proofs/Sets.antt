@@ -31,7 +31,12 @@ repeated true b = refl
 repeated false b = refl
 
 -- the set finds the new key, and what it found before
-placed : (text : List ℕ) (key first : Bor (List ℕ)) (rest : List (Bor (List ℕ))) (which : Ordering) → order key first ≡ which → list_any (is_key text) (insert_key order rest key) ≡ (is_key text key || list_any (is_key text) rest) → list_any (is_key text) (match_ordering which (key ∷ first ∷ rest) (first ∷ rest) (first ∷ insert_key order rest key)) ≡ (is_key text key || list_any (is_key text) (first ∷ rest))
+placed : (text : List ℕ) (key first : Bor (List ℕ)) (rest : List (Bor (List ℕ))) (which : Ordering)
+    → order key first ≡ which → list_any (is_key text) (insert_key order rest key)
+    ≡ (is_key text key || list_any (is_key text) rest)
+    → list_any (is_key text)
+    (match_ordering which (key ∷ first ∷ rest) (first ∷ rest) (first ∷ insert_key order rest key))
+    ≡ (is_key text key || list_any (is_key text) (first ∷ rest))
 placed text key first rest Less is further = refl
 placed text key first rest Equal is further =
     let same : key.now ≡ first.now = exact_bytes key.now first.now is in
@@ -43,10 +48,17 @@ placed text key first rest Equal is further =
 placed text key first rest Greater is further =
     rw further (swapped (is_key text first) (is_key text key) (list_any (is_key text) rest))
 
-inserted : (text : List ℕ) (key : Bor (List ℕ)) (keys : List (Bor (List ℕ))) → list_any (is_key text) (insert_key order keys key) ≡ (is_key text key || list_any (is_key text) keys)
+inserted : (text : List ℕ) (key : Bor (List ℕ)) (keys : List (Bor (List ℕ)))
+    → list_any (is_key text) (insert_key order keys key)
+    ≡ (is_key text key || list_any (is_key text) keys)
 inserted text key [] = refl
-inserted text key (first ∷ rest) = placed text key first rest (order key first) refl (inserted text key rest)
+inserted text key (first ∷ rest) =
+    placed text key first rest (order key first) refl (inserted text key rest)
 
 -- the keys with a new one have a text exactly if it is that one or they had it
-pub has-insert : (text : List ℕ) (key : Bor (List ℕ)) (keys : List (Bor (List ℕ))) → list_any (is_key text) (insert_key order keys key) ≡ (bytes_eq text key.now || list_any (is_key text) keys)
-has-insert text key keys = inserted text key keys ∙ ap (λ found. found || list_any (is_key text) keys) (is_eq-slice_cmp text key.now)
+pub has-insert : (text : List ℕ) (key : Bor (List ℕ)) (keys : List (Bor (List ℕ)))
+    → list_any (is_key text) (insert_key order keys key)
+    ≡ (bytes_eq text key.now || list_any (is_key text) keys)
+has-insert text key keys =
+    inserted text key keys ∙ ap (λ found. found || list_any (is_key text) keys)
+    (is_eq-slice_cmp text key.now)

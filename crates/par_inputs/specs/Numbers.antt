@@ -1,5 +1,6 @@
 -- The numbers of a line.
-use Rattle.std.specs.Prelude.{ℕ, ℤ, pos, neg_ℤ, List, [], ◌∷◌, ◌&&◌, ◌==◌, not, nat_lt, nat_le, Bool, Option, Some, None, length, if◌then◌else◌}
+use Rattle.std.specs.Prelude.{ℕ, ℤ, pos, neg_ℤ, List, [], ◌∷◌, ◌&&◌, ◌==◌, not, nat_lt, nat_le}
+use Rattle.std.specs.Prelude.{Bool, Option, Some, None, length, if◌then◌else◌}
 use Rattle.std.specs.List.{list_all, slice_split}
 use Rattle.std.specs.Option.{option_map, option_and_then}
 use Rattle.par_lexer.specs.Names.{is_digit}
@@ -12,7 +13,8 @@ is_decimal text = nat_lt 0 (length text) && list_all is_digit text && not (has_l
 
 -- the number that digits write, at most the greatest
 abbrev pub magnitude_of : ℕ → Text → Option ℕ
-magnitude_of greatest text = if is_decimal text && nat_le (value text) greatest then Some (value text) else None
+magnitude_of greatest text =
+    if is_decimal text && nat_le (value text) greatest then Some (value text) else None
 
 -- A number of 32 bits: digits, which may stand behind a minus sign.
 unfoldable pub number_of : Text → Option ℤ

@@ -1,5 +1,6 @@
 -- On which line an entry stands.
-use Rattle.std.specs.Prelude.{◌≡◌, ℕ, zero, suc, ◌+◌, ◌-◌, ◌≤◌, List, [], ◌∷◌, Some, length, slice_index_or}
+use Rattle.std.specs.Prelude.{◌≡◌, ℕ, zero, suc, ◌+◌, ◌-◌, ◌≤◌, List, [], ◌∷◌, Some, length}
+use Rattle.std.specs.Prelude.{slice_index_or}
 use Rattle.par_values.specs.declared.inputs.ChannelInput.{ChannelInput}
 use Rattle.par_inputs.specs.Lines.{Text, lines_of}
 use Rattle.par_inputs.specs.Entries.{line_of}
@@ -11,7 +12,8 @@ line_behind ([] ∷ lines) place = 1 + line_behind lines place
 line_behind ((byte ∷ more) ∷ lines) zero = 1
 line_behind ((byte ∷ more) ∷ lines) (suc place) = 1 + line_behind lines place
 
--- the number, from 1, of the line of the entry at a place, from 0: empty lines count, but give no entry
+-- the number, from 1, of the line of the entry at a place, from 0: empty lines count, but give no
+-- entry
 unfoldable pub line_of_entry : Text → ℕ → ℕ
 line_of_entry bytes place = line_behind (lines_of bytes) place
 

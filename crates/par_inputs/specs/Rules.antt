@@ -1,5 +1,6 @@
 -- Which lines of a file are right, and what the file gives.
-use Rattle.std.specs.Prelude.{◌≡◌, ℕ, ◌-◌, ◌<◌, ◌≤◌, List, [], ◌&&◌, ◌==◌, Bool, true, false, not, take, length, slice_index_or, FitsSigned}
+use Rattle.std.specs.Prelude.{◌≡◌, ℕ, ◌-◌, ◌<◌, ◌≤◌, List, [], ◌&&◌, ◌==◌, Bool, true, false, not}
+use Rattle.std.specs.Prelude.{take, length, slice_index_or, FitsSigned}
 use Rattle.std.specs.Int.{w32}
 use Rattle.std.specs.List.{All, AllPairs, filter_map, list_any}
 use Rattle.std.specs.Option.{option_map_or}
@@ -23,9 +24,11 @@ is_same_channel one other = bytes_eq other.class one.class && bytes_eq other.cha
 abbrev pub is_taken : List Text → ChannelInput → Bool
 is_taken lines entry = list_any (λ earlier. is_same_channel earlier entry) (entries lines)
 
--- A line behind these ones is broken where it is not empty, and gives no entry or one whose channel is taken.
+-- A line behind these ones is broken where it is not empty, and gives no entry or one whose channel
+-- is taken.
 abbrev pub is_broken : List Text → Text → Bool
-is_broken earlier line = not (length line == 0) && option_map_or (is_taken earlier) (line_of line) true
+is_broken earlier line =
+    not (length line == 0) && option_map_or (is_taken earlier) (line_of line) true
 
 -- whether the line of a place, counted from 0, is broken
 abbrev pub breaks : List Text → ℕ → Bool

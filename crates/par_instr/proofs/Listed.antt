@@ -1,5 +1,6 @@
 -- Each listed opcode belongs to one row.
-use Rattle.std.proofs.Common.{◌≡◌, ℕ, ◌+◌, ◌<◌, ◌≤◌, Bool, true, false, nat_le, ◌&&◌, List, [], ◌∷◌, map, Some, Option, IsTrue, arith, refl, if◌then◌else◌}
+use Rattle.std.proofs.Common.{◌≡◌, ℕ, ◌+◌, ◌<◌, ◌≤◌, Bool, true, false, nat_le, ◌&&◌, List, [], ◌∷◌}
+use Rattle.std.proofs.Common.{map, Some, Option, IsTrue, arith, refl, if◌then◌else◌}
 use Rattle.std.proofs.lemmas.Bool.Decides.{nat_tests}
 use Rattle.par_instr.specs.Spelling.{Row, row, numbers, opcodes_of, has_opcode, find_opcode}
 use Rattle.par_instr.specs.declared.instr.Instr.{Instr}
@@ -33,12 +34,15 @@ pub record Found (b : ℕ) (r : Row) : Type 0 where
   pub is : row instr ≡ r
   pub has : IsTrue (has_opcode r b)
 
-found_here : (i : Instr) (b : ℕ) (r : Row) (later : Option Row) (here : Bool) → has_opcode (row i) b ≡ here
+found_here : (i : Instr) (b : ℕ) (r : Row) (later : Option Row) (here : Bool)
+    → has_opcode (row i) b ≡ here
     → (later ≡ Some r → Found b r) → (if here then Some (row i) else later) ≡ Some r → Found b r
-found_here i b r later true has other found = record { instr = i; is = cc found; has = grind (arith, has, found) }
+found_here i b r later true has other found =
+    record { instr = i; is = cc found; has = grind (arith, has, found) }
 found_here i b r later false has other found = other found
 
 pub found_is : (is : List Instr) (b : ℕ) (r : Row) → find_opcode (map row is) b ≡ Some r → Found b r
 found_is [] b r found = absurd (cc found)
 found_is (i ∷ is) b r found =
-    found_here i b r (find_opcode (map row is) b) (has_opcode (row i) b) refl (found_is is b r) found
+    found_here i b r (find_opcode (map row is) b) (has_opcode (row i) b) refl
+    (found_is is b r) found

@@ -1,5 +1,6 @@
 -- Where in the code an instruction stands.
-use Rattle.std.proofs.Common.{◌≡◌, ℕ, zero, suc, ◌+◌, ◌-◌, ◌≤◌, List, [], ◌∷◌, ◌++◌, length, take, drop, Some, arith, inl, inr, sym, subst, ap, ◌∙◌}
+use Rattle.std.proofs.Common.{◌≡◌, ℕ, zero, suc, ◌+◌, ◌-◌, ◌≤◌, List, [], ◌∷◌, ◌++◌, length, take}
+use Rattle.std.proofs.Common.{drop, Some, arith, inl, inr, sym, subst, ap, ◌∙◌}
 use Rattle.std.proofs.lemmas.Grind.{common_steps}
 use Rattle.std.proofs.lemmas.Bool.{cases_lt}
 use Rattle.std.proofs.lemmas.List.{take_rest, length-take}
@@ -54,8 +55,10 @@ same_end code next end further ends nothing = grind (arith, common_steps, ap len
 one_stands_before : (code : List ℕ) (at : ℕ) (i j : Instr) (next end : ℕ) → next ≤ end
     → Stands code at i next → Stands code at j end → (i ≡ j) × (next ≡ end)
 one_stands_before code at i j next end further s t =
-    let together = none_begins_another i j (slice_range code at next) (slice_range code next end) s.spelled
-    (subst (λ (bytes : List ℕ). IsSpelled bytes j) (longer code at next end s.begins further) t.spelled) in
+    let together =
+    none_begins_another i j (slice_range code at next) (slice_range code next end) s.spelled
+    (subst (λ (bytes : List ℕ). IsSpelled bytes j)
+    (longer code at next end s.begins further) t.spelled) in
     (together.1, same_end code next end further t.ends together.0)
 
 pub read_again : ReadIsWrittenAgain
@@ -68,7 +71,8 @@ written_again before after i fit has = record {
   spelled = record { fit = fit; has = has; bytes_are = between before (spelling i) after };
 } where
   between : (before bytes after : List ℕ)
-      → slice_range (before ++ bytes ++ after) (length before) (length before + length bytes) ≡ bytes
+      → slice_range (before ++ bytes ++ after) (length before) (length before + length bytes)
+      ≡ bytes
   between before bytes after = grind (arith, common_steps)
 
 pub one_stands : OneStands

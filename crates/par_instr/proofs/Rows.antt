@@ -3,7 +3,8 @@ use Rattle.std.proofs.Common.{◌≡◌, ℕ, ◌+◌, ◌-◌, List, map, Some,
 use Rattle.par_instr.proofs.Forms.{blanked, blanked-opcodes, place-below, read-back}
 use Rattle.par_instr.proofs.Listed.{found_between, found_is, Found}
 use Rattle.par_instr.specs.Decoding.{read, whole, made, instruction}
-use Rattle.par_instr.specs.Spelling.{Row, row, row_of, variants, numbers_of, place, operands, opcode_row, NumbersFit, has_spelling}
+use Rattle.par_instr.specs.Spelling.{Row, row, row_of, variants, numbers_of, place, operands}
+use Rattle.par_instr.specs.Spelling.{opcode_row, NumbersFit, has_spelling}
 use Rattle.par_instr.specs.declared.instr.Instr.{Instr}
 use Rattle.par_instr.specs.declared.instr.Instr.TheVariants.{AconstNull}
 
@@ -14,7 +15,8 @@ whole-row _ = refl
 
 -- with other numbers it has the same first opcode and makes the same change
 pub row-whole : (i : Instr) (k : ℕ) (bytes : List ℕ)
-    → row (whole (read (row i).form k bytes)) ≡ row_of (row i).first (read (row i).form k bytes) (row i).change
+    → row (whole (read (row i).form k bytes))
+    ≡ row_of (row i).first (read (row i).form k bytes) (row i).change
 row-whole AconstNull k bytes = refl
 row-whole _ k bytes = refl
 
@@ -33,7 +35,8 @@ unfolding opcode_row
 own_row i has =
     let below = place-below (numbers_of i) has in
     let many = blanked-opcodes (row i).form in
-    found_between 0 (map row variants) (row i).first ((row i).first + place (numbers_of i)) (blank_row i)
+    found_between 0 (map row variants) (row i).first ((row i).first + place (numbers_of i))
+    (blank_row i)
     refl (first_row i) (omega arith) (omega (arith, below, many))
 
 -- an instruction is made of its opcode and its operands

@@ -1,9 +1,12 @@
 -- Which instruction stands at the head of some bytes, as a function of the bytes.
-use Rattle.std.specs.Prelude.{ℕ, ◌+◌, ◌-◌, pos, ◌-ℤ◌, nat_le, if◌then◌else◌, List, [], ◌∷◌, length, take, drop, Option, Some, None, slice_index_or}
+use Rattle.std.specs.Prelude.{ℕ, ◌+◌, ◌-◌, pos, ◌-ℤ◌, nat_le, if◌then◌else◌, List, [], ◌∷◌, length}
+use Rattle.std.specs.Prelude.{take, drop, Option, Some, None, slice_index_or}
 use Rattle.std.specs.Int.{w8, w16, from_be_bytes, cast_signed}
 use Rattle.par_instr.specs.declared.instr.Instr.{Instr}
 use Rattle.par_instr.specs.declared.instr.Instr.TheVariants.{AconstNull}
-use Rattle.par_instr.specs.Spelling.{Form, Alone, Constant, Short, Byte, SignedByte, Index, SignedPair, ByteAndSigned, Test, Row, opcode_row, operand_bytes}
+use Rattle.par_instr.specs.Spelling.{Form, Alone, Constant, Short, Byte, SignedByte, Index}
+use Rattle.par_instr.specs.Spelling.{SignedPair, ByteAndSigned, Test, Row, opcode_row}
+use Rattle.par_instr.specs.Spelling.{operand_bytes}
 
 -- an operand byte by its place
 abbrev pub byte_at : List ℕ → ℕ → ℕ
@@ -56,9 +59,11 @@ pub record Decoded : Type 0 where
 abbrev pub sized : ℕ → List ℕ → Option ℕ → Option Decoded
 sized op bytes None = None
 sized op bytes (Some n) =
-    if nat_le n (length bytes) then Some (record { instr = instruction op (take n bytes); size = 1 + n }) else None
+    if nat_le n (length bytes) then Some
+    (record { instr = instruction op (take n bytes); size = 1 + n }) else None
 
--- the instruction that the bytes begin with; none where there is no listed opcode or no room for its operands
+-- the instruction that the bytes begin with; none where there is no listed opcode or no room for
+-- its operands
 abbrev pub decoded : List ℕ → Option Decoded
 decoded [] = None
 decoded (op ∷ bytes) = sized op bytes (operand_bytes op)

@@ -1,8 +1,10 @@
 -- What holds of all spellings.
-use Rattle.std.specs.Prelude.{◌≡◌, ℕ, ◌+◌, ◌^◌, ◌<◌, ◌↔◌, List, [], ◌∷◌, ◌++◌, length, slice_range, Some, IsTrue}
+use Rattle.std.specs.Prelude.{◌≡◌, ℕ, ◌+◌, ◌^◌, ◌<◌, ◌↔◌, List, [], ◌∷◌, ◌++◌, length, slice_range}
+use Rattle.std.specs.Prelude.{Some, IsTrue}
 use Rattle.std.specs.List.{All}
 use Rattle.par_instr.specs.Decoding.{Decoded, decoded_at}
-use Rattle.par_instr.specs.Spelling.{spelling, has_spelling, operand_bytes, NumbersFit, IsSpelled, Stands}
+use Rattle.par_instr.specs.Spelling.{spelling, has_spelling, operand_bytes, NumbersFit, IsSpelled}
+use Rattle.par_instr.specs.Spelling.{Stands}
 use Rattle.par_instr.specs.declared.instr.Instr.{Instr}
 
 -- an instruction has one spelling and no other

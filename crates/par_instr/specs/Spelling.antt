@@ -1,8 +1,21 @@
 -- How instructions are spelled, by the Java Virtual Machine Specification, Java SE 7, section 6.5.
-use Rattle.std.specs.Prelude.{◌≡◌, ℕ, ℤ, pos, negsuc, ◌+◌, ◌^◌, ◌<◌, ◌≤◌, Bool, true, nat_lt, nat_le, ◌&&◌, if◌then◌else◌, List, [], ◌∷◌, length, map, slice_range, Option, Some, None, IsTrue, FitsSigned}
+use Rattle.std.specs.Prelude.{◌≡◌, ℕ, ℤ, pos, negsuc, ◌+◌, ◌^◌, ◌<◌, ◌≤◌, Bool, true, nat_lt}
+use Rattle.std.specs.Prelude.{nat_le, ◌&&◌, if◌then◌else◌, List, [], ◌∷◌, length, map, slice_range}
+use Rattle.std.specs.Prelude.{Option, Some, None, IsTrue, FitsSigned}
 use Rattle.std.specs.Int.{w8, w16, to_be_bytes, cast_unsigned}
 use Rattle.par_instr.specs.declared.instr.Instr.{Instr}
-use Rattle.par_instr.specs.declared.instr.Instr.TheVariants.{AconstNull, Iconst, Bipush, Sipush, Ldc, LdcW, Iload, Aload, IloadShort, AloadShort, Istore, Astore, IstoreShort, AstoreShort, Pop, Dup, Iadd, Isub, Imul, Idiv, Irem, Ineg, Ishl, Ishr, Iushr, Iand, Ior, Ixor, Iinc, If, IfIcmp, IfAcmpeq, IfAcmpne, Goto, Ireturn, Areturn, Return, Getstatic, Putstatic, Getfield, Putfield, Invokevirtual, Invokespecial, Invokestatic, New, Athrow, Ifnull, Ifnonnull}
+use Rattle.par_instr.specs.declared.instr.Instr.TheVariants.{AconstNull, Iconst, Bipush, Sipush}
+use Rattle.par_instr.specs.declared.instr.Instr.TheVariants.{Ldc, LdcW, Iload, Aload, IloadShort}
+use Rattle.par_instr.specs.declared.instr.Instr.TheVariants.{AloadShort, Istore, Astore}
+use Rattle.par_instr.specs.declared.instr.Instr.TheVariants.{IstoreShort, AstoreShort, Pop, Dup}
+use Rattle.par_instr.specs.declared.instr.Instr.TheVariants.{Iadd, Isub, Imul, Idiv, Irem, Ineg}
+use Rattle.par_instr.specs.declared.instr.Instr.TheVariants.{Ishl, Ishr, Iushr, Iand, Ior, Ixor}
+use Rattle.par_instr.specs.declared.instr.Instr.TheVariants.{Iinc, If, IfIcmp, IfAcmpeq, IfAcmpne}
+use Rattle.par_instr.specs.declared.instr.Instr.TheVariants.{Goto, Ireturn, Areturn, Return}
+use Rattle.par_instr.specs.declared.instr.Instr.TheVariants.{Getstatic, Putstatic, Getfield}
+use Rattle.par_instr.specs.declared.instr.Instr.TheVariants.{Putfield, Invokevirtual, Invokespecial}
+use Rattle.par_instr.specs.declared.instr.Instr.TheVariants.{Invokestatic, New, Athrow, Ifnull}
+use Rattle.par_instr.specs.declared.instr.Instr.TheVariants.{Ifnonnull}
 use Rattle.par_instr.specs.declared.numbers.Numbers.{Numbers}
 use Rattle.par_instr.specs.declared.numbers.Numbers.TheVariants as written
 
@@ -219,11 +232,13 @@ pub record Stands (code : List ℕ) (at : ℕ) (i : Instr) (next : ℕ) : Type 0
 -- one instruction of each variant, in the order of their opcodes
 abbrev pub variants : List Instr
 variants =
-    AconstNull ∷ Iconst (pos 0) ∷ Bipush (pos 0) ∷ Sipush (pos 0) ∷ Ldc 0 ∷ LdcW 0 ∷ Iload 0 ∷ Aload 0
+    AconstNull ∷ Iconst (pos 0) ∷ Bipush (pos 0) ∷ Sipush (pos 0) ∷ Ldc 0 ∷ LdcW 0
+    ∷ Iload 0 ∷ Aload 0
     ∷ IloadShort 0 ∷ AloadShort 0 ∷ Istore 0 ∷ Astore 0 ∷ IstoreShort 0 ∷ AstoreShort 0 ∷ Pop ∷ Dup
     ∷ Iadd ∷ Isub ∷ Imul ∷ Idiv ∷ Irem ∷ Ineg ∷ Ishl ∷ Ishr ∷ Iushr ∷ Iand ∷ Ior ∷ Ixor
     ∷ Iinc 0 (pos 0) ∷ If 0 (pos 0) ∷ IfIcmp 0 (pos 0) ∷ IfAcmpeq (pos 0) ∷ IfAcmpne (pos 0)
-    ∷ Goto (pos 0) ∷ Ireturn ∷ Areturn ∷ Return ∷ Getstatic 0 ∷ Putstatic 0 ∷ Getfield 0 ∷ Putfield 0
+    ∷ Goto (pos 0) ∷ Ireturn ∷ Areturn ∷ Return ∷ Getstatic 0 ∷ Putstatic 0 ∷ Getfield 0
+    ∷ Putfield 0
     ∷ Invokevirtual 0 ∷ Invokespecial 0 ∷ Invokestatic 0 ∷ New 0 ∷ Athrow
     ∷ Ifnull (pos 0) ∷ Ifnonnull (pos 0) ∷ []
 

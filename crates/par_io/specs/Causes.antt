@@ -1,5 +1,6 @@
 -- What an answer of the outside tells of it.
-use Rattle.std.specs.Prelude.{◌≡◌, ◌≢◌, ℕ, suc, zero, ◌+◌, ◌-◌, ◌^◌, ◌<◌, ◌≤◌, ◌⊎◌, List, ◌++◌, Option, Some, None, Result, Err, if◌then◌else◌, ◌==◌}
+use Rattle.std.specs.Prelude.{◌≡◌, ◌≢◌, ℕ, suc, zero, ◌+◌, ◌-◌, ◌^◌, ◌<◌, ◌≤◌, ◌⊎◌, List, ◌++◌}
+use Rattle.std.specs.Prelude.{Option, Some, None, Result, Err, if◌then◌else◌, ◌==◌}
 use Rattle.par_io.specs.declared.outside.ReadFail.{ReadFail}
 use Rattle.par_io.specs.declared.outside.WriteFail.{WriteFail}
 

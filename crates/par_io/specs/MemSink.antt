@@ -1,5 +1,6 @@
 -- What a sink in memory holds, and what its next put lets in.
-use Rattle.std.specs.Prelude.{ℕ, ◌+◌, ◌-◌, List, Option, Some, None, take, length, if◌then◌else◌, ◌==◌}
+use Rattle.std.specs.Prelude.{ℕ, ◌+◌, ◌-◌, List, Option, Some, None, take, length, if◌then◌else◌}
+use Rattle.std.specs.Prelude.{◌==◌}
 use Rattle.par_io.specs.Causes.{SinkCounts}
 use Rattle.par_io.specs.declared.mem_sink.FailingPut.{FailingPut}
 use Rattle.par_io.specs.declared.mem_sink.MemSink.{MemSink}

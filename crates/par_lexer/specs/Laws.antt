@@ -8,7 +8,8 @@ use Rattle.par_lexer.specs.Tokens.{HasTokens, LexBroken}
 abbrev pub TokensOrFault : Type 0
 TokensOrFault =
     (source : List ℕ)
-    → ((tokens : List Token) × HasTokens source tokens) ⊎ ((error : LexError) × LexBroken source error)
+    → ((tokens : List Token) × HasTokens source tokens)
+    ⊎ ((error : LexError) × LexBroken source error)
 
 -- no source has both
 abbrev pub NeverBoth : Type 0

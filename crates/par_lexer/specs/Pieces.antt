@@ -1,5 +1,7 @@
 -- What stands at the head of some bytes: nothing, a blank, a comment, a token or a fault.
-use Rattle.std.specs.Prelude.{ℕ, ◌+◌, ◌-◌, ◌*◌, List, [], ◌∷◌, ◌++◌, Bool, not, ◌&&◌, ◌==◌, nat_eq, nat_lt, if◌then◌else◌, length, take_while, drop, fold, find, filter, Option, Some, None, codes}
+use Rattle.std.specs.Prelude.{ℕ, ◌+◌, ◌-◌, ◌*◌, List, [], ◌∷◌, ◌++◌, Bool, not, ◌&&◌, ◌==◌, nat_eq}
+use Rattle.std.specs.Prelude.{nat_lt, if◌then◌else◌, length, take_while, drop, fold, find, filter}
+use Rattle.std.specs.Prelude.{Option, Some, None, codes}
 use Rattle.std.specs.List.{starts_with, prefix_len}
 use Rattle.std.specs.Option.{option_map}
 use Rattle.std.specs.Str.{bytes_eq}
@@ -7,7 +9,8 @@ use Rattle.par_lexer.specs.Names.{is_letter, is_digit, is_blank, goes_on, first_
 use Rattle.par_lexer.specs.Tables.{Row, words, signs}
 use Rattle.par_lexer.specs.declared.token.Kind.{Kind}
 use Rattle.par_lexer.specs.declared.token.Kind.TheVariants.{Word, Name, Number, Sign}
-use Rattle.par_lexer.specs.declared.token.LexError.TheVariants.{BadByte, NumberTooLarge, OpenComment, NameTooLong}
+use Rattle.par_lexer.specs.declared.token.LexError.TheVariants.{BadByte, NumberTooLarge}
+use Rattle.par_lexer.specs.declared.token.LexError.TheVariants.{OpenComment, NameTooLong}
 use Rattle.par_lexer.specs.declared.piece.Piece.{Piece}
 use Rattle.par_lexer.specs.declared.piece.Piece.TheVariants.{End, Gap, Token, Fault}
 
@@ -22,7 +25,9 @@ line_length bytes = prefix_len (λ byte. not (byte == 10)) bytes
 -- how many bytes there are up to and with the first `*/`
 abbrev pub through_close : List ℕ → Option ℕ
 through_close [] = None
-through_close (byte ∷ rest) = if begins (codes "*/") (byte ∷ rest) then Some 2 else option_map (λ n. n + 1) (through_close rest)
+through_close (byte ∷ rest) =
+    if begins (codes "*/") (byte ∷ rest) then Some 2
+    else option_map (λ n. n + 1) (through_close rest)
 
 -- a comment from `/*` on, given how many bytes close it
 abbrev pub comment_at : ℕ → Option ℕ → Piece
@@ -81,5 +86,6 @@ piece_at at bytes =
     else if begins (codes "//") bytes then Gap (line_length bytes)
     else if begins (codes "/*") bytes then comment_at at (through_close (drop 2 bytes))
     else if first_is is_letter bytes then name_at at (take_while goes_on bytes)
-    else if first_is is_digit bytes then number_at at (take_while is_digit bytes) (drop (prefix_len is_digit bytes) bytes)
+    else if first_is is_digit bytes
+    then number_at at (take_while is_digit bytes) (drop (prefix_len is_digit bytes) bytes)
     else sign_at at (longest_sign bytes)

@@ -7,7 +7,9 @@ use Rattle.par_lexer.specs.declared.token.Kind.{Kind}
 use Rattle.par_lexer.specs.declared.token.Kind.TheVariants.{Word, Name, Number, Sign}
 use Rattle.par_lexer.specs.declared.token.Token.{Token}
 use Rattle.par_lexer.specs.declared.token.LexError.{LexError}
-use Rattle.par_lexer.specs.declared.token.LexError.TheVariants.{BadByte, NumberTooLarge, OpenComment, NameTooLong, SourceTooLong, Memory}
+use Rattle.par_lexer.specs.declared.token.LexError.TheVariants.{BadByte, NumberTooLarge}
+use Rattle.par_lexer.specs.declared.token.LexError.TheVariants.{OpenComment, NameTooLong}
+use Rattle.par_lexer.specs.declared.token.LexError.TheVariants.{SourceTooLong, Memory}
 use Rattle.par_lexer.specs.declared.piece.Piece.{Piece}
 use Rattle.par_lexer.specs.declared.piece.Piece.TheVariants as piece
 

@@ -28,6 +28,7 @@ unfoldable pub signs : List Row
 signs = enumerate_from 0 (
     codes "{" ∷ codes "}" ∷ codes "(" ∷ codes ")" ∷ codes ";" ∷ codes "," ∷ codes "." ∷ codes "?" ∷
     codes ":" ∷ codes "!" ∷ codes "~" ∷ codes "+" ∷ codes "-" ∷ codes "*" ∷ codes "/" ∷ codes "%" ∷
-    codes "=" ∷ codes "==" ∷ codes "!=" ∷ codes "<" ∷ codes "<=" ∷ codes ">" ∷ codes ">=" ∷ codes "<<" ∷
+    codes "=" ∷ codes "==" ∷ codes "!=" ∷ codes "<" ∷ codes "<=" ∷ codes ">" ∷ codes ">="
+    ∷ codes "<<" ∷
     codes ">>" ∷ codes ">>>" ∷ codes "&&" ∷ codes "||" ∷ codes "&" ∷ codes "|" ∷ codes "^" ∷
     [])

@@ -3,7 +3,9 @@ use Rattle.std.specs.Prelude.{◌≡◌, ℕ, ◌+◌, ◌<◌, ◌≤◌, List,
 use Rattle.par_lexer.specs.declared.token.Kind.{Kind}
 use Rattle.par_lexer.specs.declared.token.Token.{Token}
 use Rattle.par_lexer.specs.declared.token.LexError.{LexError}
-use Rattle.par_lexer.specs.declared.token.LexError.TheVariants.{BadByte, NumberTooLarge, OpenComment, NameTooLong, SourceTooLong, Memory}
+use Rattle.par_lexer.specs.declared.token.LexError.TheVariants.{BadByte, NumberTooLarge}
+use Rattle.par_lexer.specs.declared.token.LexError.TheVariants.{OpenComment, NameTooLong}
+use Rattle.par_lexer.specs.declared.token.LexError.TheVariants.{SourceTooLong, Memory}
 use Rattle.par_lexer.specs.declared.piece.Piece.TheVariants as piece
 use Rattle.par_lexer.specs.Pieces.{piece_at}
 use Rattle.par_lexer.specs.declared.cut.TheConstants.{LONGEST_SOURCE}
@@ -24,13 +26,18 @@ before token (Err error) = Err error
 -- Bytes, the first of which stands at a place, are cut with this outcome.
 pub data Cut : ℕ → List ℕ → Outcome → Type 0 where
   -- no byte is left
-  ends : {at : ℕ} {bytes : List ℕ} {outcome : Outcome} → piece_at at bytes ≡ piece.End → outcome ≡ Ok [] → Cut at bytes outcome
+  ends : {at : ℕ} {bytes : List ℕ} {outcome : Outcome} → piece_at at bytes ≡ piece.End
+      → outcome ≡ Ok [] → Cut at bytes outcome
   -- a blank or a comment is passed over
-  passes : {at : ℕ} {bytes : List ℕ} {outcome : Outcome} (n : ℕ) → piece_at at bytes ≡ piece.Gap n → Cut (at + n) (drop n bytes) outcome → Cut at bytes outcome
+  passes : {at : ℕ} {bytes : List ℕ} {outcome : Outcome} (n : ℕ) → piece_at at bytes ≡ piece.Gap n
+      → Cut (at + n) (drop n bytes) outcome → Cut at bytes outcome
   -- a token is taken
-  takes : {at : ℕ} {bytes : List ℕ} {outcome : Outcome} (kind : Kind) (n : ℕ) (rest : Outcome) → piece_at at bytes ≡ piece.Token kind n → Cut (at + n) (drop n bytes) rest → outcome ≡ before (token_at kind at n) rest → Cut at bytes outcome
+  takes : {at : ℕ} {bytes : List ℕ} {outcome : Outcome} (kind : Kind) (n : ℕ) (rest : Outcome)
+      → piece_at at bytes ≡ piece.Token kind n → Cut (at + n) (drop n bytes) rest
+      → outcome ≡ before (token_at kind at n) rest → Cut at bytes outcome
   -- a rule is broken
-  breaks : {at : ℕ} {bytes : List ℕ} {outcome : Outcome} (error : LexError) → piece_at at bytes ≡ piece.Fault error → outcome ≡ Err error → Cut at bytes outcome
+  breaks : {at : ℕ} {bytes : List ℕ} {outcome : Outcome} (error : LexError)
+      → piece_at at bytes ≡ piece.Fault error → outcome ≡ Err error → Cut at bytes outcome
 
 -- the source has these tokens
 abbrev pub HasTokens : List ℕ → List Token → Type 0
@@ -40,7 +47,8 @@ HasTokens source tokens = Cut 0 source (Ok tokens)
 abbrev pub LexBroken : List ℕ → LexError → Type 0
 LexBroken source error = Cut 0 source (Err error)
 
--- why a source is refused: it is too long, or else its first fault; memory may be wanting at any source
+-- why a source is refused: it is too long, or else its first fault; memory may be wanting at any
+-- source
 abbrev pub IsRefusal : List ℕ → LexError → Type 0
 IsRefusal source (SourceTooLong n) = (LONGEST_SOURCE < length source) × (n ≡ length source)
 IsRefusal source Memory = Unit {0}

@@ -1,5 +1,6 @@
 -- The places where policies are counted.
-use Rattle.std.specs.Prelude.{ℕ, ◌+◌, List, [], ◌∷◌, ◌++◌, map, flat_map, filter, Option, None, Some}
+use Rattle.std.specs.Prelude.{ℕ, ◌+◌, List, [], ◌∷◌, ◌++◌, map, flat_map, filter, Option, None}
+use Rattle.std.specs.Prelude.{Some}
 use Rattle.par_tree.specs.declared.decl.FieldDecl.{FieldDecl}
 use Rattle.par_tree.specs.Plain.{Class}
 use Rattle.par_typed.specs.declared.refusal.Refusal.{Refusal}
@@ -13,7 +14,8 @@ inferred_places fields = map (λ f. f.id.at) (filter (λ f. f.inferred) fields)
 
 -- the places of these entries, and of the inferred fields of these classes
 abbrev pub places_of : List Entry → List Class → List ℕ
-places_of entries classes = map (λ e. e.at) entries ++ flat_map (λ c. inferred_places c.fields) classes
+places_of entries classes =
+    map (λ e. e.at) entries ++ flat_map (λ c. inferred_places c.fields) classes
 
 -- limit 3: one too many is counted here
 unfoldable pub many_at : Option ℕ → List Refusal

@@ -1,5 +1,7 @@
 -- What lines give to channels.
-use Rattle.std.proofs.Common.{◌≡◌, ℕ, suc, Bool, true, false, cond, if◌then◌else◌, ◌&&◌, nat_lt, ℤ, List, [], ◌∷◌, length, Option, Some, None, slice_get, refl, sym, ap, ◌∙◌, arith}
+use Rattle.std.proofs.Common.{◌≡◌, ℕ, suc, Bool, true, false, cond, if◌then◌else◌, ◌&&◌, nat_lt, ℤ}
+use Rattle.std.proofs.Common.{List, [], ◌∷◌, length, Option, Some, None, slice_get, refl, sym, ap}
+use Rattle.std.proofs.Common.{◌∙◌, arith}
 use Rattle.std.proofs.lemmas.Bool.{lt-ltb, and_parts}
 use Rattle.std.proofs.lemmas.Bool.Decides.{nat_tests}
 use Rattle.std.proofs.lemmas.Slice.Eq.{bytes_eq-Decides}
@@ -9,7 +11,8 @@ use Rattle.std.specs.Str.{bytes_eq}
 use Rattle.par_values.specs.declared.inputs.ChannelInput.{ChannelInput}
 use Rattle.par_values.specs.Areas.{Name, InputLists, left, taken_from}
 use Rattle.par_secrecy.specs.Subject.{given, is_of}
-use Rattle.par_lines.specs.Lines.{channel_of, channels_of, is_channel, line_of, left_at, taken_at, with_line, AreLeft}
+use Rattle.par_lines.specs.Lines.{channel_of, channels_of, is_channel, line_of, left_at, taken_at}
+use Rattle.par_lines.specs.Lines.{with_line, AreLeft}
 
 -- ---- the first place
 
@@ -25,18 +28,22 @@ module _ {A : Type 0} (test : A → Bool) (x : A) (xs : List A) where
 
   first_fails : test x ≡ false → position test (x ∷ xs) ≡ option_map suc (position test xs)
   first_fails fails =
-      let place : position_or_len test (x ∷ xs) ≡ suc (position_or_len test xs) = rw fails (omega arith) in
+      let place : position_or_len test (x ∷ xs) ≡ suc (position_or_len test xs) =
+      rw fails (omega arith) in
       ap (λ (n : ℕ). cond (nat_lt n (length (x ∷ xs))) (Some n) None) place
-      ∙ ap (λ (b : Bool). cond b (Some (suc (position_or_len test xs))) None) (shifted (position_or_len test xs) (length xs))
+      ∙ ap (λ (b : Bool). cond b (Some (suc (position_or_len test xs))) None)
+      (shifted (position_or_len test xs) (length xs))
       ∙ in_case (nat_lt (position_or_len test xs) (length xs))
     where
-      in_case : (b : Bool) → cond b (Some (suc (position_or_len test xs))) None ≡ option_map suc (cond b (Some (position_or_len test xs)) None)
+      in_case : (b : Bool) → cond b (Some (suc (position_or_len test xs))) None
+          ≡ option_map suc (cond b (Some (position_or_len test xs)) None)
       in_case true = refl
       in_case false = refl
 
 -- ---- the line of a channel
 
-named : (class name : Name) (line : ChannelInput) → is_channel class name (channel_of line) ≡ is_of class name line
+named : (class name : Name) (line : ChannelInput)
+    → is_channel class name (channel_of line) ≡ is_of class name line
 named class name line = refl
 
 at_place : (place : Option ℕ) (line : ChannelInput) (lines : List ChannelInput)
@@ -56,12 +63,15 @@ taken_later (Some place) line lines = in_case (slice_get lines place) refl
 
 module _ (class name : Name) where
   -- the first line of a channel gives what the channel has
-  pub given_there : (lines : List ChannelInput) → given lines class name ≡ left_at (line_of (channels_of lines) class name) lines
+  pub given_there : (lines : List ChannelInput)
+      → given lines class name ≡ left_at (line_of (channels_of lines) class name) lines
   given_there [] = refl
   given_there (line ∷ lines) = in_case (is_of class name line) (given_there lines) refl
     where
-      in_case : (b : Bool) → given lines class name ≡ left_at (line_of (channels_of lines) class name) lines → is_of class name line ≡ b
-          → (if b then line.numbers else given lines class name) ≡ left_at (line_of (channels_of (line ∷ lines)) class name) (line ∷ lines)
+      in_case : (b : Bool) → given lines class name
+          ≡ left_at (line_of (channels_of lines) class name) lines → is_of class name line ≡ b
+          → (if b then line.numbers else given lines class name)
+          ≡ left_at (line_of (channels_of (line ∷ lines)) class name) (line ∷ lines)
       in_case true later is =
           ap (λ (place : Option ℕ). left_at place (line ∷ lines))
           (sym (first_passes (is_channel class name) (channel_of line) (channels_of lines) is))
@@ -81,22 +91,26 @@ module _ (class name : Name) where
       ((bytes_eq-Decides c class).0 both.0, (bytes_eq-Decides n name).0 both.1)
 
   -- the line of this channel is that of no other
-  same_line : (line : ChannelInput) (c n : Name) → is_of class name line ≡ true → is_of c n line ≡ true → here c n ≡ true
+  same_line : (line : ChannelInput) (c n : Name) → is_of class name line ≡ true
+      → is_of c n line ≡ true → here c n ≡ true
   same_line line c n own other =
       let mine = is_here line.class line.channel own in
       let both = and_parts (bytes_eq line.class c) (bytes_eq line.channel n) other in
       let first : c ≡ class = sym ((bytes_eq-Decides line.class c).0 both.0) ∙ mine.0 in
       let second : n ≡ name = sym ((bytes_eq-Decides line.channel n).0 both.1) ∙ mine.1 in
-      ap (λ (b : Bool). b && bytes_eq n name) ((bytes_eq-Decides c class).1 first) ∙ (bytes_eq-Decides n name).1 second
+      ap (λ (b : Bool). b && bytes_eq n name) ((bytes_eq-Decides c class).1 first)
+      ∙ (bytes_eq-Decides n name).1 second
 
-  own_line : (line : ChannelInput) (c n : Name) → here c n ≡ true → is_of c n line ≡ is_of class name line
+  own_line : (line : ChannelInput) (c n : Name) → here c n ≡ true
+      → is_of c n line ≡ is_of class name line
   own_line line c n same =
       let both = is_here c n same in
       ap (λ (x : Name). is_of x n line) both.0 ∙ ap (λ (x : Name). is_of class x line) both.1
 
   -- what a number is taken from has one less, and the others what they had
   pub given_less : (lines : List ChannelInput) (c n : Name)
-      → given (taken_at (line_of (channels_of lines) class name) lines) c n ≡ taken_from class name (given lines) c n
+      → given (taken_at (line_of (channels_of lines) class name) lines) c n
+      ≡ taken_from class name (given lines) c n
   given_less [] c n = in_case (here c n)
     where
       in_case : (b : Bool) → [] ≡ (if b then left [] else [])
@@ -107,24 +121,31 @@ module _ (class name : Name) where
       less : ChannelInput
       less = record line { numbers = left line.numbers }
 
-      at_first : (here_is other : Bool) → here c n ≡ here_is → is_of c n line ≡ other → is_of class name line ≡ true
+      at_first : (here_is other : Bool) → here c n ≡ here_is → is_of c n line ≡ other
+          → is_of class name line ≡ true
           → (if other then left line.numbers else given lines c n)
-          ≡ (if here_is then left (if other then line.numbers else given lines c n) else (if other then line.numbers else given lines c n))
+          ≡ (if here_is then left (if other then line.numbers else given lines c n)
+          else (if other then line.numbers else given lines c n))
       at_first true true h o own = refl
       at_first false true h o own = absurd (cc (same_line line c n own o))
       at_first true false h o own = absurd (cc (own_line line c n h))
       at_first false false h o own = refl
 
-      behind : (here_is other : Bool) → here c n ≡ here_is → is_of c n line ≡ other → is_of class name line ≡ false
-          → (if other then line.numbers else (if here_is then left (given lines c n) else given lines c n))
-          ≡ (if here_is then left (if other then line.numbers else given lines c n) else (if other then line.numbers else given lines c n))
+      behind : (here_is other : Bool) → here c n ≡ here_is → is_of c n line ≡ other
+          → is_of class name line ≡ false
+          → (if other then line.numbers
+          else (if here_is then left (given lines c n) else given lines c n))
+          ≡ (if here_is then left (if other then line.numbers else given lines c n)
+          else (if other then line.numbers else given lines c n))
       behind true true h o own = absurd (cc (own_line line c n h))
       behind false true h o own = refl
       behind true false h o own = refl
       behind false false h o own = refl
 
-      in_case : (b : Bool) → given (taken_at (line_of (channels_of lines) class name) lines) c n ≡ taken_from class name (given lines) c n → is_of class name line ≡ b
-          → given (taken_at (line_of (channels_of (line ∷ lines)) class name) (line ∷ lines)) c n ≡ taken_from class name (given (line ∷ lines)) c n
+      in_case : (b : Bool) → given (taken_at (line_of (channels_of lines) class name) lines) c n
+          ≡ taken_from class name (given lines) c n → is_of class name line ≡ b
+          → given (taken_at (line_of (channels_of (line ∷ lines)) class name) (line ∷ lines)) c n
+          ≡ taken_from class name (given (line ∷ lines)) c n
       in_case true later is =
           ap (λ (place : Option ℕ). given (taken_at place (line ∷ lines)) c n)
           (first_passes (is_channel class name) (channel_of line) (channels_of lines) is)
@@ -132,7 +153,8 @@ module _ (class name : Name) where
       in_case false later is =
           ap (λ (place : Option ℕ). given (taken_at place (line ∷ lines)) c n)
           (first_fails (is_channel class name) (channel_of line) (channels_of lines) is)
-          ∙ ap (λ (ls : List ChannelInput). given ls c n) (taken_later (line_of (channels_of lines) class name) line lines)
+          ∙ ap (λ (ls : List ChannelInput). given ls c n)
+          (taken_later (line_of (channels_of lines) class name) line lines)
           ∙ ap (λ (rest : List ℤ). if is_of c n line then line.numbers else rest) later
           ∙ behind (here c n) (is_of c n line) refl refl is
 
@@ -140,6 +162,8 @@ module _ (class name : Name) where
     pub left_there : inputs class name ≡ left_at (line_of (channels_of lines) class name) lines
     left_there = are class name ∙ given_there lines
 
-    pub left_less : AreLeft (taken_at (line_of (channels_of lines) class name) lines) (taken_from class name inputs)
+    pub left_less : AreLeft (taken_at (line_of (channels_of lines) class name) lines)
+        (taken_from class name inputs)
     left_less c n =
-        ap (λ (xs : List ℤ). if here c n then left xs else xs) (are c n) ∙ sym (given_less lines c n)
+        ap (λ (xs : List ℤ). if here c n then left xs else xs) (are c n)
+        ∙ sym (given_less lines c n)

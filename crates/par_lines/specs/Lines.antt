@@ -1,5 +1,6 @@
 -- What the lines of the input channels have left.
-use Rattle.std.specs.Prelude.{◌≡◌, ℕ, Bool, ◌&&◌, ℤ, List, [], ◌∷◌, map, Option, Some, None, slice_get, slice_set, drop}
+use Rattle.std.specs.Prelude.{◌≡◌, ℕ, Bool, ◌&&◌, ℤ, List, [], ◌∷◌, map, Option, Some, None}
+use Rattle.std.specs.Prelude.{slice_get, slice_set, drop}
 use Rattle.std.specs.List.{position}
 use Rattle.std.specs.Str.{bytes_eq}
 use Rattle.par_values.specs.declared.inputs.ChannelInput.{ChannelInput}

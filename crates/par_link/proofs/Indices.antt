@@ -1,5 +1,6 @@
 -- The index of each broken rule fits four bytes.
-use Rattle.std.proofs.Common.{◌≡◌, ℕ, suc, ◌+◌, ◌-◌, ◌<◌, ◌≤◌, ◌^◌, Bool, true, false, cond, List, [], ◌∷◌, ◌++◌, length, Some, None, Option, refl, sym, subst, arith}
+use Rattle.std.proofs.Common.{◌≡◌, ℕ, suc, ◌+◌, ◌-◌, ◌<◌, ◌≤◌, ◌^◌, Bool, true, false, cond, List}
+use Rattle.std.proofs.Common.{[], ◌∷◌, ◌++◌, length, Some, None, Option, refl, sym, subst, arith}
 use Rattle.std.specs.Prelude.{IfSome}
 use Rattle.std.proofs.lemmas.Bool.{and_parts, leb-true}
 use Rattle.std.specs.Option.{option_map, option_or, option_and_then}
@@ -15,9 +16,11 @@ use Rattle.par_link.specs.declared.sort.Sort.TheVariants.{Class, Field, Method}
 use Rattle.par_link.specs.Conditions.{is_short, IsSmall}
 use Rattle.par_link.specs.Firsts.{repeated_after, first_repeated}
 use Rattle.par_link.specs.Named.{is_same, fields_of, methods_of}
-use Rattle.par_link.specs.Rules.{earlier, repeated_field, repeated_method, wrong_field, wrong_method, is_absent, absent, unlisted, cut}
+use Rattle.par_link.specs.Rules.{earlier, repeated_field, repeated_method, wrong_field}
+use Rattle.par_link.specs.Rules.{wrong_method, is_absent, absent, unlisted, cut}
 use Rattle.par_link.specs.Stops.{left, stop_at, stop_in, first_stop, is_unlisted, is_cut}
-use Rattle.par_link.specs.Order.{at, member_fault, description_fault, constant_fault, code_fault, file_fault}
+use Rattle.par_link.specs.Order.{at, member_fault, description_fault, constant_fault, code_fault}
+use Rattle.par_link.specs.Order.{file_fault}
 use Rattle.par_link.proofs.Places.{position-within}
 
 -- a place that is found is below a bound
@@ -28,49 +31,63 @@ from-each : {A : Type 0} (o : Option A) (P : A → Type 0) → ((x : A) → o �
 from-each None P each = tt
 from-each (Some x) P each = each x refl
 
-cond-below : (bound place : ℕ) (b : Bool) (o : Option ℕ) → place < bound → IsBelow bound o → IsBelow bound (cond b (Some place) o)
+cond-below : (bound place : ℕ) (b : Bool) (o : Option ℕ) → place < bound → IsBelow bound o
+    → IsBelow bound (cond b (Some place) o)
 cond-below bound place true o here later = here
 cond-below bound place false o here later = later
 
-repeated-below : {A : Type 0} (same : A → A → Bool) (bound : ℕ) (before xs : List A) → length before + length xs ≤ bound
+repeated-below : {A : Type 0} (same : A → A → Bool) (bound : ℕ) (before xs : List A)
+    → length before + length xs ≤ bound
     → IsBelow bound (repeated_after same before xs)
 unfolding repeated_after
 repeated-below same bound before [] few = tt
 repeated-below same bound before (x ∷ xs) few =
     let more : length (before ++ x ∷ []) ≡ length before + 1 = length-append before (x ∷ []) in
-    cond-below bound (length before) (list_any (same x) before) (repeated_after same (before ++ x ∷ []) xs) (omega arith)
+    cond-below bound (length before) (list_any (same x) before)
+    (repeated_after same (before ++ x ∷ []) xs) (omega arith)
     (repeated-below same bound (before ++ x ∷ []) xs (omega arith))
 
-pub first-below : {A : Type 0} (same : A → A → Bool) (bound : ℕ) (xs : List A) → length xs ≤ bound → IsBelow bound (first_repeated same xs)
+pub first-below : {A : Type 0} (same : A → A → Bool) (bound : ℕ) (xs : List A) → length xs ≤ bound
+    → IsBelow bound (first_repeated same xs)
 first-below same bound xs few = repeated-below same bound [] xs (omega arith)
 
-pub place-below : {A : Type 0} (p : A → Bool) (bound : ℕ) (xs : List A) → length xs ≤ bound → IsBelow bound (position p xs)
-place-below p bound xs few = from-each (position p xs) (λ place. place < bound) (λ n e. let within = position-within p xs n e in omega arith)
+pub place-below : {A : Type 0} (p : A → Bool) (bound : ℕ) (xs : List A) → length xs ≤ bound
+    → IsBelow bound (position p xs)
+place-below p bound xs few =
+    from-each (position p xs) (λ place. place < bound)
+    (λ n e. let within = position-within p xs n e in omega arith)
 
-pub earlier-below : (bound : ℕ) (a b : Option ℕ) → IsBelow bound a → IsBelow bound b → IsBelow bound (earlier a b)
+pub earlier-below : (bound : ℕ) (a b : Option ℕ) → IsBelow bound a → IsBelow bound b
+    → IsBelow bound (earlier a b)
 earlier-below bound None b here later = later
 earlier-below bound (Some n) None here later = here
 earlier-below bound (Some n) (Some m) here later = let n_below : n < bound = here in omega arith
 
 -- ---- code
 
-or-below : (bound : ℕ) (a b : Option ℕ) → IsBelow bound a → IsBelow bound b → IsBelow bound (option_or a b)
+or-below : (bound : ℕ) (a b : Option ℕ) → IsBelow bound a → IsBelow bound b
+    → IsBelow bound (option_or a b)
 or-below bound None b here later = later
 or-below bound (Some n) b here later = here
 
-stop_at-below : (so : List ℕ → Bool) (c : CodeAttr) → length c.code ≤ 65535 → IsBelow 65536 (stop_at so c)
-stop_at-below so c few = cond-below 65536 (length c.code - length (left c.code)) (so (left c.code)) None (omega arith) tt
+stop_at-below : (so : List ℕ → Bool) (c : CodeAttr) → length c.code ≤ 65535
+    → IsBelow 65536 (stop_at so c)
+stop_at-below so c few =
+    cond-below 65536 (length c.code - length (left c.code)) (so (left c.code)) None (omega arith) tt
 
-stop_in-below : (so : List ℕ → Bool) (o : Option CodeAttr) → is_short o ≡ true → IsBelow 65536 (option_and_then (stop_at so) o)
+stop_in-below : (so : List ℕ → Bool) (o : Option CodeAttr) → is_short o ≡ true
+    → IsBelow 65536 (option_and_then (stop_at so) o)
 stop_in-below so None few = tt
 stop_in-below so (Some c) few = stop_at-below so c (leb-true _ _ few)
 
-stop-below : (so : List ℕ → Bool) (methods : List MethodFile) → list_all (λ m. is_short m.code) methods ≡ true → IsBelow 65536 (first_stop so methods)
+stop-below : (so : List ℕ → Bool) (methods : List MethodFile)
+    → list_all (λ m. is_short m.code) methods ≡ true → IsBelow 65536 (first_stop so methods)
 unfolding first_stop
 stop-below so [] few = tt
 stop-below so (m ∷ methods) few =
     let each = and_parts (is_short m.code) (list_all (λ m. is_short m.code) methods) few in
-    or-below 65536 (stop_in so m) (first_stop so methods) (stop_in-below so m.code each.0) (stop-below so methods each.1)
+    or-below 65536 (stop_in so m) (first_stop so methods) (stop_in-below so m.code each.0)
+    (stop-below so methods each.1)
 
 -- ---- the rules of a file
 
@@ -92,28 +109,37 @@ suc-below (Some n) below = let n_below : n < 65535 = below in omega arith
 members-fit : (file : ClassFile) → IsSmall file → FitsIndex (member_fault file)
 unfolding member_fault
 members-fit file small =
-    let fields : length (fields_of file) ≡ length file.fields = length-map file.fields (field_named file.pool.entries) in
-    let methods : length (methods_of file) ≡ length file.methods = length-map file.methods (method_named file.pool.entries) in
+    let fields : length (fields_of file) ≡ length file.fields =
+    length-map file.fields (field_named file.pool.entries) in
+    let methods : length (methods_of file) ≡ length file.methods =
+    length-map file.methods (method_named file.pool.entries) in
     or-fits (at 43 (repeated_field file)) (at 43 (repeated_method file))
-    (at-fits 43 (repeated_field file) (first-below is_same 65536 (fields_of file) (omega (arith, small.fields))))
-    (at-fits 43 (repeated_method file) (first-below is_same 65536 (methods_of file) (omega (arith, small.methods))))
+    (at-fits 43 (repeated_field file)
+    (first-below is_same 65536 (fields_of file) (omega (arith, small.fields))))
+    (at-fits 43 (repeated_method file)
+    (first-below is_same 65536 (methods_of file) (omega (arith, small.methods))))
 
 descriptions-fit : (file : ClassFile) → IsSmall file → FitsIndex (description_fault file)
 unfolding description_fault
 descriptions-fit file small =
     or-fits (at 44 (wrong_field file)) (at 44 (wrong_method file))
     (at-fits 44 (wrong_field file) (place-below _ 65536 file.fields (omega (arith, small.fields))))
-    (at-fits 44 (wrong_method file) (place-below _ 65536 file.methods (omega (arith, small.methods))))
+    (at-fits 44 (wrong_method file)
+    (place-below _ 65536 file.methods (omega (arith, small.methods))))
 
-absent-below : (sort : Sort) (files : List ClassFile) (file : ClassFile) → IsSmall file → IsBelow 65536 (absent sort files file)
+absent-below : (sort : Sort) (files : List ClassFile) (file : ClassFile) → IsSmall file
+    → IsBelow 65536 (absent sort files file)
 absent-below sort files file small =
     suc-below (position (is_absent sort files file.pool.entries) file.pool.entries)
-    (place-below (is_absent sort files file.pool.entries) 65535 file.pool.entries (omega (arith, small.entries)))
+    (place-below (is_absent sort files file.pool.entries) 65535 file.pool.entries
+    (omega (arith, small.entries)))
 
-constants-fit : (files : List ClassFile) (file : ClassFile) → IsSmall file → FitsIndex (constant_fault files file)
+constants-fit : (files : List ClassFile) (file : ClassFile) → IsSmall file
+    → FitsIndex (constant_fault files file)
 unfolding constant_fault
 constants-fit files file small =
-    or-fits (option_or (at 40 (absent Class files file)) (at 41 (absent Field files file))) (at 42 (absent Method files file))
+    or-fits (option_or (at 40 (absent Class files file)) (at 41 (absent Field files file)))
+    (at 42 (absent Method files file))
     (or-fits (at 40 (absent Class files file)) (at 41 (absent Field files file))
     (at-fits 40 (absent Class files file) (absent-below Class files file small))
     (at-fits 41 (absent Field files file) (absent-below Field files file small)))
@@ -126,15 +152,20 @@ code-fits file small =
     (at-fits 20 (unlisted file) (stop-below is_unlisted file.methods small.code))
     (at-fits 21 (cut file) (stop-below is_cut file.methods small.code))
 
-file-fits : (files : List ClassFile) (file : ClassFile) → IsSmall file → FitsIndex (file_fault files file)
+file-fits : (files : List ClassFile) (file : ClassFile) → IsSmall file
+    → FitsIndex (file_fault files file)
 file-fits files file small =
     let members = members-fit file small in
     let descriptions = descriptions-fit file small in
     let constants = constants-fit files file small in
     let first = or-fits (member_fault file) (description_fault file) members descriptions in
-    let second = or-fits (option_or (member_fault file) (description_fault file)) (constant_fault files file) first constants in
-    or-fits (option_or (option_or (member_fault file) (description_fault file)) (constant_fault files file)) (code_fault file) second (code-fits file small)
+    let second =
+    or-fits (option_or (member_fault file) (description_fault file))
+    (constant_fault files file) first constants in
+    or-fits (option_or (option_or (member_fault file) (description_fault file))
+    (constant_fault files file)) (code_fault file) second (code-fits file small)
 
 -- what is told of a file fits
-pub fault-fits : (files : List ClassFile) (file : ClassFile) (f : Fault) → IsSmall file → Some f ≡ file_fault files file → f.index < 2 ^ 32
+pub fault-fits : (files : List ClassFile) (file : ClassFile) (f : Fault) → IsSmall file
+    → Some f ≡ file_fault files file → f.index < 2 ^ 32
 fault-fits files file f small is = subst FitsIndex (sym is) (file-fits files file small)

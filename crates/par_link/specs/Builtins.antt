@@ -5,7 +5,9 @@ use Rattle.par_inputs.specs.Numbers.{magnitude_of}
 use Rattle.par_single.specs.Descriptors.{Text}
 use Rattle.par_single.specs.Members.{Member, is_initializer}
 use Rattle.par_link.specs.declared.entry.Builtin.{Builtin}
-use Rattle.par_link.specs.declared.entry.Builtin.TheVariants.{Object, Exception, ArithmeticException, NullPointerException, Locks}
+use Rattle.par_link.specs.declared.entry.Builtin.TheVariants.{Object, Exception}
+use Rattle.par_link.specs.declared.entry.Builtin.TheVariants.{ArithmeticException}
+use Rattle.par_link.specs.declared.entry.Builtin.TheVariants.{NullPointerException, Locks}
 use Rattle.par_link.specs.declared.entry.Named.{Named}
 use Rattle.par_link.specs.declared.entry.Named.TheVariants.{Lock, Initializer, Nothing}
 

@@ -1,5 +1,6 @@
 -- Where the input channels of class files are looked up.
-use Rattle.std.specs.Prelude.{◌≡◌, ℕ, ◌<◌, ◌%◌, Bool, false, ◌&&◌, List, [], length, IsTrue, Some, slice_get, slice_index_or}
+use Rattle.std.specs.Prelude.{◌≡◌, ℕ, ◌<◌, ◌%◌, Bool, false, ◌&&◌, List, [], length, IsTrue, Some}
+use Rattle.std.specs.Prelude.{slice_get, slice_index_or}
 use Rattle.std.specs.Hash.FoldHasher as folding
 use Rattle.std.specs.List.{Contains}
 use Rattle.std.specs.Option.{option_map_or}

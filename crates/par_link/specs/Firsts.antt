@@ -1,5 +1,6 @@
 -- Where each item of a list stands first, and which is the first that stands there again.
-use Rattle.std.specs.Prelude.{◌≡◌, ℕ, Bool, if◌then◌else◌, List, [], ◌∷◌, ◌++◌, length, Option, Some, None}
+use Rattle.std.specs.Prelude.{◌≡◌, ℕ, Bool, if◌then◌else◌, List, [], ◌∷◌, ◌++◌, length, Option}
+use Rattle.std.specs.Prelude.{Some, None}
 use Rattle.std.specs.List.{list_any, position}
 use Rattle.indexmap.specs.IndexMap.{get}
 use Rattle.par_link.specs.declared.firsts.Firsts.{Firsts}

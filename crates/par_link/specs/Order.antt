@@ -4,7 +4,8 @@ use Rattle.std.specs.Option.{option_map, option_or}
 use Rattle.par_class.specs.declared.file.ClassFile.{ClassFile}
 use Rattle.par_link.specs.declared.sort.Sort.TheVariants.{Class, Field, Method}
 use Rattle.par_link.specs.declared.fault.Fault.{Fault}
-use Rattle.par_link.specs.Rules.{are_too_many, repeated_class, repeated_field, repeated_method, wrong_field, wrong_method, absent, unlisted, cut}
+use Rattle.par_link.specs.Rules.{are_too_many, repeated_class, repeated_field, repeated_method}
+use Rattle.par_link.specs.Rules.{wrong_field, wrong_method, absent, unlisted, cut}
 
 -- the number of a rule that is broken, the file and the index
 pub record Broken : Type 0 where

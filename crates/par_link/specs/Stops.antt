@@ -1,5 +1,6 @@
 -- Where the walk through code stops: instruction behind instruction, from offset 0 on.
-use Rattle.std.specs.Prelude.{ℕ, zero, suc, ◌-◌, Bool, true, false, nat_lt, if◌then◌else◌, List, [], ◌∷◌, length, Option, Some, None, is_none, is_some}
+use Rattle.std.specs.Prelude.{ℕ, zero, suc, ◌-◌, Bool, true, false, nat_lt, if◌then◌else◌, List, []}
+use Rattle.std.specs.Prelude.{◌∷◌, length, Option, Some, None, is_none, is_some}
 use Rattle.std.specs.Option.{option_and_then, option_or}
 use Rattle.par_instr.specs.Spelling.{operand_bytes}
 use Rattle.par_instr.specs.declared.instr.InstrError.{InstrError}

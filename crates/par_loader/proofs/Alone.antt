@@ -1,5 +1,7 @@
 -- A file that runs by itself is loaded alone, links, and begins a run.
-use Rattle.std.proofs.Common.{◌≡◌, ℕ, zero, suc, ◌≤◌, Bool, true, false, not, ◌&&◌, ◌||◌, List, [], ◌∷◌, length, Some, None, is_none, IsTrue, refl, sym, ap, ◌∙◌, inl, inr}
+use Rattle.std.proofs.Common.{◌≡◌, ℕ, zero, suc, ◌≤◌, Bool, true, false, not, ◌&&◌, ◌||◌, List, []}
+use Rattle.std.proofs.Common.{◌∷◌, length, Some, None, is_none, IsTrue, refl, sym, ap, ◌∙◌, inl}
+use Rattle.std.proofs.Common.{inr}
 use Rattle.std.specs.Option.{option_map}
 use Rattle.std.specs.List.{list_all, list_any}
 use Rattle.std.specs.Str.{bytes_eq}
@@ -20,9 +22,11 @@ use Rattle.par_link.proofs.Passing.{either, or-none, none-found, any-at}
 use Rattle.par_link.proofs.There.{object-builtin}
 use Rattle.par_link.proofs.Unbroken.{unbroken}
 use Rattle.par_loader.specs.Reads.{Text, Classes}
-use Rattle.par_loader.specs.Mentions.{is_unread, names_unread, naming_in, first_of, first_among, next_named}
+use Rattle.par_loader.specs.Mentions.{is_unread, names_unread, naming_in, first_of, first_among}
+use Rattle.par_loader.specs.Mentions.{next_named}
 use Rattle.par_loader.specs.Found.{Found, file, found_in}
-use Rattle.par_loader.specs.Loaded.{Loaded, Load, whole, with_next, further, after, main_step_of, loaded}
+use Rattle.par_loader.specs.Loaded.{Loaded, Load, whole, with_next, further, after, main_step_of}
+use Rattle.par_loader.specs.Loaded.{loaded}
 use Rattle.par_loader.specs.Judged as judging
 use Rattle.par_loader.specs.Judged.{is_main, linked, judged}
 use Rattle.par_loader.specs.Alone.{one_file}
@@ -38,11 +42,15 @@ judging_of main load = record { reads = load.reads; end = linked main load.end }
 -- ---- no class is still to be read
 
 module _ (f : ClassFile) where
-  class-read : (name : Text) → (bytes_eq name (own_name f) || is_object name) ≡ true → is_unread (f ∷ []) name ≡ false
+  class-read : (name : Text) → (bytes_eq name (own_name f) || is_object name) ≡ true
+      → is_unread (f ∷ []) name ≡ false
   class-read name found =
-      elim (either (bytes_eq name (own_name f)) (is_object name) found) as (λ _. is_unread (f ∷ []) name ≡ false) [
-        | inl own ↦ ap (λ b. is_none (builtin name) && not (b || false)) own ∙ no_more (is_none (builtin name))
-        | inr object ↦ ap (λ o. is_none o && not (list_any (bytes_eq name) (own_name f ∷ []))) (object-builtin name object)
+      elim (either (bytes_eq name (own_name f)) (is_object name) found) as
+      (λ _. is_unread (f ∷ []) name ≡ false) [
+        | inl own ↦ ap (λ b. is_none (builtin name) && not (b || false)) own
+            ∙ no_more (is_none (builtin name))
+        | inr object ↦ ap (λ o. is_none o && not (list_any (bytes_eq name) (own_name f ∷ [])))
+            (object-builtin name object)
       ]
     where
       no_more : (b : Bool) → (b && false) ≡ false
@@ -64,7 +72,9 @@ module _ (f : ClassFile) where
   unfolding first_among
   next-none all =
       or-none (first_of (f ∷ []) f) None
-      (ap (option_map (naming_in f)) (none-found (names_unread (f ∷ []) f.pool.entries) (is_found f) f.pool.entries reads_none all)) refl
+      (ap (option_map (naming_in f))
+      (none-found (names_unread (f ∷ []) f.pool.entries)
+      (is_found f) f.pool.entries reads_none all)) refl
 
 -- ---- and the file begins a run
 
@@ -72,10 +82,12 @@ module _ (f : ClassFile) (main : Text) (runs : IsTrue (runs_alone f main)) where
   begins_there : judging.begins (f ∷ []) ≡ true
   begins_there =
       let begun = begins f main runs in
-      let found = found_at (is_method_of f.pool.entries (main_member main)) f.methods begun.place begun.found in
+      let found =
+      found_at (is_method_of f.pool.entries (main_member main)) f.methods begun.place begun.found in
       let same : begun.method ≡ found.item = cc (begun.stands, found.stands) in
       any-at (is_main f.pool.entries) f.methods begun.place found.item found.stands
-      (ap (λ b. b && is_method_of f.pool.entries (main_member []) found.item) (ap (λ (m : MethodFile). is_static m.access) (sym same) ∙ begun.is_static)
+      (ap (λ b. b && is_method_of f.pool.entries (main_member []) found.item)
+      (ap (λ (m : MethodFile). is_static m.access) (sym same) ∙ begun.is_static)
       ∙ found.passes)
 
   links_so : linked main (whole (f ∷ [])) ≡ whole (f ∷ [])
@@ -85,21 +97,32 @@ module _ (f : ClassFile) (main : Text) (runs : IsTrue (runs_alone f main)) where
   all_read = next-none f (alone f main runs).found
 
 -- where no class is still to be read, no file is
-further-ends : (classes : Classes) (more : ℕ) (files : List ClassFile) → next_named files ≡ None → further classes more files ≡ record { reads = length files; end = whole files }
+further-ends : (classes : Classes) (more : ℕ) (files : List ClassFile) → next_named files ≡ None
+    → further classes more files ≡ record { reads = length files; end = whole files }
 unfolding further
 further-ends classes zero files none = refl
-further-ends classes (suc more) files none = ap (with_next classes files (further classes more)) none
+further-ends classes (suc more) files none =
+    ap (with_next classes files (further classes more)) none
 
-loads_one : (classes : Classes) (main : Text) (f : ClassFile) → found_in main (classes main) ≡ file f → next_named (f ∷ []) ≡ None → loaded classes main ≡ one_file f
+loads_one : (classes : Classes) (main : Text) (f : ClassFile)
+    → found_in main (classes main) ≡ file f → next_named (f ∷ []) ≡ None
+    → loaded classes main ≡ one_file f
 loads_one classes main f found none =
-    ap (λ (x : Found). after [] (further classes 128) (main_step_of main x)) found ∙ further-ends classes 128 (f ∷ []) none
+    ap (λ (x : Found). after [] (further classes 128) (main_step_of main x)) found
+    ∙ further-ends classes 128 (f ∷ []) none
 
-pub found_alone : (classes : Classes) (main : Text) (f : ClassFile) → found_in main (classes main) ≡ file f → IsTrue (runs_alone f main) → judged classes main ≡ one_file f
+pub found_alone : (classes : Classes) (main : Text) (f : ClassFile)
+    → found_in main (classes main) ≡ file f → IsTrue (runs_alone f main)
+    → judged classes main ≡ one_file f
 found_alone classes main f found runs =
-    ap (judging_of main) (loads_one classes main f found (all_read f main runs)) ∙ ap (load_of 1) (links_so f main runs)
+    ap (judging_of main) (loads_one classes main f found (all_read f main runs))
+    ∙ ap (load_of 1) (links_so f main runs)
 
-pub spelled_alone : (classes : Classes) (main bytes : Text) (f : ClassFile) → classes main ≡ Some bytes → length bytes ≤ LONGEST_CLASS → Spells bytes f → IsTrue (runs_alone f main)
+pub spelled_alone : (classes : Classes) (main bytes : Text) (f : ClassFile)
+    → classes main ≡ Some bytes → length bytes ≤ LONGEST_CLASS → Spells bytes f
+    → IsTrue (runs_alone f main)
     → judged classes main ≡ one_file f
 spelled_alone classes main bytes f there short spells runs =
     found_alone classes main f
-    (ap (found_in main) there ∙ short_is main bytes short ∙ taken_file main bytes f (file_only bytes f spells) (alone f main runs).own) runs
+    (ap (found_in main) there ∙ short_is main bytes short
+    ∙ taken_file main bytes f (file_only bytes f spells) (alone f main runs).own) runs

@@ -1,10 +1,12 @@
 -- From files that are loaded to what is said of them.
-use Rattle.std.proofs.Common.{◌≡◌, ℕ, suc, ◌≤◌, List, length, Option, Result, Ok, Err, ap, subst, ◌∙◌, inl, arith}
+use Rattle.std.proofs.Common.{◌≡◌, ℕ, suc, ◌≤◌, List, length, Option, Result, Ok, Err, ap, subst}
+use Rattle.std.proofs.Common.{◌∙◌, inl, arith}
 use Rattle.par_io.specs.Causes.{FolderCounts, Makes, Files}
 use Rattle.par_class.specs.declared.file.ClassFile.{ClassFile}
 use Rattle.par_link.specs.declared.linked.Linked.{Linked}
 use Rattle.par_loader.specs.declared.error.Unloaded.{Unloaded}
-use Rattle.par_loader.specs.declared.error.Unloaded.TheVariants.{Absent, TooLong, Failed, BadClass, Memory}
+use Rattle.par_loader.specs.declared.error.Unloaded.TheVariants.{Absent, TooLong, Failed, BadClass}
+use Rattle.par_loader.specs.declared.error.Unloaded.TheVariants.{Memory}
 use Rattle.par_loader.specs.declared.loading.Loading.{Loading}
 use Rattle.par_loader.specs.Reads.{Text, Classes}
 use Rattle.par_loader.specs.Loaded.{Loaded, whole, missing, overlong, refused, absent, Load, loaded}
@@ -20,30 +22,47 @@ abbrev judging : Text → Load → Load
 judging main load = record { reads = load.reads; end = linked main load.end }
 
 module _ (classes : Classes) (main : Text) where
-  stops : (reads : ℕ) (end : Loaded) → IsStop end → comes_to (loaded classes main) reads end → comes_to (judged classes main) reads end
+  stops : (reads : ℕ) (end : Loaded) → IsStop end → comes_to (loaded classes main) reads end
+      → comes_to (judged classes main) reads end
   stops reads (whole files) stop is = absurd stop
   stops reads missing stop is = ap (judging main) is
   stops reads overlong stop is = ap (judging main) is
   stops reads (refused class number value) stop is = ap (judging main) is
   stops reads (absent class index) stop is = ap (judging main) is
 
-  module _ (before after : FolderCounts) (reads : ℕ) (makes : Makes reads 0 before after) (few : reads ≤ 128) (files : List ClassFile)
+  module _ (before after : FolderCounts) (reads : ℕ) (makes : Makes reads 0 before after)
+      (few : reads ≤ 128) (files : List ClassFile)
       (is : comes_to (loaded classes main) reads (whole files)) where
-    judges_as : (r : Result Linked Unloaded) → LinksAs (linked main (whole files)) r → JudgesAs (judged classes main) before after r
+    judges_as : (r : Result Linked Unloaded) → LinksAs (linked main (whole files)) r
+        → JudgesAs (judged classes main) before after r
     judges_as (Ok all) links = (reads, makes, ap (judging main) is ∙ ap (load_of (suc reads)) links)
-    judges_as (Err (BadClass class number value)) links = (reads, makes, inl (ap (judging main) is ∙ ap (load_of (suc reads)) links))
+    judges_as (Err (BadClass class number value)) links =
+        (reads, makes, inl (ap (judging main) is ∙ ap (load_of (suc reads)) links))
     judges_as (Err Memory) links = at_most reads 128 before after few makes
     judges_as (Err Absent) links = absurd links
     judges_as (Err TooLong) links = absurd links
     judges_as (Err Failed) links = absurd links
 
 module _ (files : Option Files) (main : Text) (before after : FolderCounts) where
-  pub judges_stop : (e : Unloaded) → Loads files main before after (Err e) → Judges files main before after (Err e)
-  judges_stop e h = (h.0, h.1, weaker (comes_to (loaded h.0 main)) (comes_to (judged h.0 main)) 128 before after (stops h.0 main) e h.2)
+  pub judges_stop : (e : Unloaded) → Loads files main before after (Err e)
+      → Judges files main before after (Err e)
+  judges_stop e h = (
+    h.0,
+    h.1,
+    weaker (comes_to (loaded h.0 main)) (comes_to (judged h.0 main)) 128 before after
+        (stops h.0 main) e h.2,
+  )
 
-  pub judges : (loading : Loading) (r : Result Linked Unloaded) → Loads files main before after (Ok loading) → main_of loading.files ≡ main → length loading.files ≤ 129
+  pub judges : (loading : Loading) (r : Result Linked Unloaded)
+      → Loads files main before after (Ok loading) → main_of loading.files ≡ main
+      → length loading.files ≤ 129
       → Links loading.files r → Judges files main before after r
   judges loading r h first few links =
       let many = h.2.3 in
-      let here : LinksAs (linked main (whole loading.files)) r = subst (λ (n : Text). LinksAs (linked n (whole loading.files)) r) first links in
-      (h.0, h.1, judges_as h.0 main before after h.2.0 h.2.1 (omega (arith, few, many)) loading.files h.2.2 r here)
+      let here : LinksAs (linked main (whole loading.files)) r =
+      subst (λ (n : Text). LinksAs (linked n (whole loading.files)) r) first links in (
+        h.0,
+        h.1,
+        judges_as h.0 main before after h.2.0 h.2.1
+            (omega (arith, few, many)) loading.files h.2.2 r here,
+      )

@@ -1,5 +1,7 @@
 -- Loading as a loop goes on.
-use Rattle.std.proofs.Common.{◌≡◌, ℕ, zero, suc, ◌+◌, ◌-◌, ◌<◌, ◌≤◌, List, [], ◌∷◌, ◌++◌, length, slice_get, Option, Some, None, Result, Ok, Err, IsErrAnd, refl, sym, ap, subst, ◌∙◌, arith}
+use Rattle.std.proofs.Common.{◌≡◌, ℕ, zero, suc, ◌+◌, ◌-◌, ◌<◌, ◌≤◌, List, [], ◌∷◌, ◌++◌, length}
+use Rattle.std.proofs.Common.{slice_get, Option, Some, None, Result, Ok, Err, IsErrAnd, refl, sym}
+use Rattle.std.proofs.Common.{ap, subst, ◌∙◌, arith}
 use Rattle.std.proofs.lemmas.List.{length-append}
 use Rattle.std.proofs.lemmas.List.Elements.{All-push}
 use Rattle.std.specs.List.{All}
@@ -14,11 +16,13 @@ use Rattle.par_loader.specs.Mentions.{Naming, next_named}
 use Rattle.par_loader.specs.Loaded.{Loaded, whole, Load, step, loaded}
 use Rattle.par_loader.specs.Ends.{IsRead, Steps, Unended, comes_to, Loads}
 use Rattle.par_loader.proofs.Counting.{makes_both, at_most, none_falls, falls_never, makes_none}
-use Rattle.par_loader.proofs.SoFar.{IsSoFar, begun, gone_on, ended, now, now_of, none_left, all_read}
+use Rattle.par_loader.proofs.SoFar.{IsSoFar, begun, gone_on, ended, now, now_of, none_left}
+use Rattle.par_loader.proofs.SoFar.{all_read}
 use Rattle.par_loader.proofs.Ended.{ended_all}
 
 -- So many files were read, all but the first by reads that were made since then.
-pub record IsLoading (files : Option Files) (file : ClassFile) (fs : List ClassFile) (count : ℕ) (before now : FolderCounts) : Type 0 where
+pub record IsLoading (files : Option Files) (file : ClassFile) (fs : List ClassFile) (count : ℕ)
+    (before now : FolderCounts) : Type 0 where
   pub reads : ℕ
   pub counted : count ≡ suc reads
   pub many : length fs ≡ count
@@ -33,11 +37,13 @@ one_spelled : (f : ClassFile) → IsSpelled f → All IsSpelled (f ∷ [])
 one_spelled f h zero d within = h
 one_spelled f h (suc n) d within = absurd (omega arith)
 
-same_first : (fs : List ClassFile) (f first : ClassFile) → slice_get fs 0 ≡ Some first → slice_get (fs ++ f ∷ []) 0 ≡ Some first
+same_first : (fs : List ClassFile) (f first : ClassFile) → slice_get fs 0 ≡ Some first
+    → slice_get (fs ++ f ∷ []) 0 ≡ Some first
 same_first [] f first is = absurd (cc is)
 same_first (x ∷ xs) f first is = is
 
-pub begins : (files : Option Files) (f : ClassFile) (fs : List ClassFile) (counts : FolderCounts) → IsRead files f → fs ≡ f ∷ [] → IsLoading files f fs 1 counts counts
+pub begins : (files : Option Files) (f : ClassFile) (fs : List ClassFile) (counts : FolderCounts)
+    → IsRead files f → fs ≡ f ∷ [] → IsLoading files f fs 1 counts counts
 begins files f fs counts read is = record {
   reads = 0;
   counted = refl;
@@ -47,10 +53,13 @@ begins files f fs counts read is = record {
   falls = falls_never counts;
   spelled = subst (All IsSpelled) (sym is) (one_spelled f (read.bytes, read.spells));
   first = ap (λ (xs : List ClassFile). slice_get xs 0) is;
-  so_far = subst (λ (xs : List ClassFile). IsSoFar files (own_name f) xs 128) (sym is) (begun files f read);
+  so_far =
+      subst (λ (xs : List ClassFile). IsSoFar files (own_name f) xs 128) (sym is)
+      (begun files f read);
 }
 
-module _ (files : Option Files) (file : ClassFile) (fs : List ClassFile) (count : ℕ) (before between after : FolderCounts) (h : IsLoading files file fs count before between)
+module _ (files : Option Files) (file : ClassFile) (fs : List ClassFile) (count : ℕ)
+    (before between after : FolderCounts) (h : IsLoading files file fs count before between)
     (left : count < 129) (m : Naming) (next : next_named fs ≡ Some m) where
   abbrev main : Text
   main = own_name file
@@ -61,8 +70,11 @@ module _ (files : Option Files) (file : ClassFile) (fs : List ClassFile) (count 
   so_far : IsSoFar files main fs (suc (129 - (count + 1)))
   so_far = subst (IsSoFar files main fs) more_left h.so_far
 
-  pub goes : (f : ClassFile) (all : List ClassFile) → ((o : Option Text) × WasFound files m.name o × Steps (step m o) between after (Ok f)) → own_name f ≡ m.name → IsSpelled f
-      → NoneFalls between after → all ≡ fs ++ f ∷ [] → IsLoading files file all (count + 1) before after
+  pub goes : (f : ClassFile) (all : List ClassFile)
+      → ((o : Option Text) × WasFound files m.name o × Steps (step m o) between after (Ok f))
+      → own_name f ≡ m.name → IsSpelled f
+      → NoneFalls between after → all ≡ fs ++ f ∷ []
+      → IsLoading files file all (count + 1) before after
   goes f all stepped own spelled falls is =
       let longer : length (fs ++ f ∷ []) ≡ length fs + 1 = length-append fs (f ∷ []) in
       record {
@@ -75,10 +87,13 @@ module _ (files : Option Files) (file : ClassFile) (fs : List ClassFile) (count 
         spelled = subst (All IsSpelled) (sym is) (All-push IsSpelled fs f h.spelled spelled);
         first = ap (λ (xs : List ClassFile). slice_get xs 0) is ∙ same_first fs f file h.first;
         so_far = subst (λ (xs : List ClassFile). IsSoFar files main xs (129 - (count + 1))) (sym is)
-            (gone_on files main fs (129 - (count + 1)) m stepped.0 so_far next stepped.1 f stepped.2.0 own);
+            (gone_on files main fs (129 - (count + 1)) m stepped.0 so_far next stepped.1 f
+            stepped.2.0 own);
       }
 
-  pub fails : (e : Unloaded) → ((o : Option Text) × WasFound files m.name o × Steps (step m o) between after (Err e)) → Loads files main before after (Err e)
+  pub fails : (e : Unloaded)
+      → ((o : Option Text) × WasFound files m.name o × Steps (step m o) between after (Err e))
+      → Loads files main before after (Err e)
   fails e stepped =
       let o = stepped.0 in
       let was = stepped.1 in
@@ -90,7 +105,8 @@ module _ (files : Option Files) (file : ClassFile) (fs : List ClassFile) (count 
         ended_all (step m o) (loaded known main) h.reads 128 before between after
             (λ reads end is.
             let same : length fs + reads ≡ suc (reads + h.reads) = omega (arith, counted, many) in
-            ended files main fs (129 - (count + 1)) m o so_far next was reads end is ∙ ap (λ (n : ℕ). load_of n end) same)
+            ended files main fs (129 - (count + 1)) m o so_far next was reads end is
+            ∙ ap (λ (n : ℕ). load_of n end) same)
             (omega (arith, counted, left)) h.makes h.falls e stepped.2,
       )
     where
@@ -98,18 +114,23 @@ module _ (files : Option Files) (file : ClassFile) (fs : List ClassFile) (count 
       load_of reads end = record { reads = reads; end = end }
 
   -- memory is wanting for a file that was read
-  pub lacks : (f : ClassFile) (r : Result Loading Unloaded) → ((o : Option Text) × WasFound files m.name o × Steps (step m o) between after (Ok f)) → IsErrAnd r (λ e. e ≡ Memory)
+  pub lacks : (f : ClassFile) (r : Result Loading Unloaded)
+      → ((o : Option Text) × WasFound files m.name o × Steps (step m o) between after (Ok f))
+      → IsErrAnd r (λ e. e ≡ Memory)
       → Loads files main before after r
   lacks f (Ok loading) stepped is = absurd is
   lacks f (Err e) stepped is =
       let counted = h.counted in (
         h.so_far.classes,
         h.so_far.of,
-        subst (λ (x : Unloaded). Unended (comes_to (loaded h.so_far.classes main)) 128 before after x) (sym is)
-            (at_most (1 + h.reads) 128 before after (omega (arith, counted, left)) (makes_both h.reads 1 before between after h.makes stepped.2.1)),
+        subst (λ (x : Unloaded). Unended
+            (comes_to (loaded h.so_far.classes main)) 128 before after x) (sym is)
+            (at_most (1 + h.reads) 128 before after (omega (arith, counted, left))
+            (makes_both h.reads 1 before between after h.makes stepped.2.1)),
       )
 
-module _ (files : Option Files) (file : ClassFile) (loading : Loading) (count : ℕ) (before after : FolderCounts) (h : IsLoading files file loading.files count before after) where
+module _ (files : Option Files) (file : ClassFile) (loading : Loading) (count : ℕ)
+    (before after : FolderCounts) (h : IsLoading files file loading.files count before after) where
   same_count : length loading.files ≡ suc h.reads
   same_count = h.many ∙ h.counted
 
@@ -117,14 +138,34 @@ module _ (files : Option Files) (file : ClassFile) (loading : Loading) (count : 
   load_of reads = record { reads = reads; end = whole loading.files }
 
   -- nothing more is named
-  pub ends_named : next_named loading.files ≡ None → Loads files (own_name file) before after (Ok loading)
+  pub ends_named : next_named loading.files ≡ None
+      → Loads files (own_name file) before after (Ok loading)
   unfolding load_of
-  ends_named none = (h.so_far.classes, h.so_far.of, (h.reads, h.makes, none_left files (own_name file) loading.files (129 - count) h.so_far none ∙ ap load_of same_count, same_count))
+  ends_named none = (
+    h.so_far.classes,
+    h.so_far.of,
+    (
+      h.reads,
+      h.makes,
+      none_left files (own_name file) loading.files (129 - count) h.so_far none
+          ∙ ap load_of same_count,
+      same_count,
+    ),
+  )
 
   -- no more is read
   pub ends_read : 129 ≤ count → Loads files (own_name file) before after (Ok loading)
   unfolding load_of
   ends_read all =
       let done : 129 - count ≡ 0 = omega (arith, all) in
-      let last : IsSoFar files (own_name file) loading.files 0 = subst (IsSoFar files (own_name file) loading.files) done h.so_far in
-      (last.classes, last.of, (h.reads, h.makes, all_read files (own_name file) loading.files last ∙ ap load_of same_count, same_count))
+      let last : IsSoFar files (own_name file) loading.files 0 =
+      subst (IsSoFar files (own_name file) loading.files) done h.so_far in (
+        last.classes,
+        last.of,
+        (
+          h.reads,
+          h.makes,
+          all_read files (own_name file) loading.files last ∙ ap load_of same_count,
+          same_count,
+        ),
+      )

@@ -1,10 +1,12 @@
 -- How a call that loads ends: with files, or with why there are none.
-use Rattle.std.specs.Prelude.{◌≡◌, ℕ, suc, ◌≤◌, ◌⊎◌, length, List, Option, Some, Result, Ok, Err, slice_get}
+use Rattle.std.specs.Prelude.{◌≡◌, ℕ, suc, ◌≤◌, ◌⊎◌, length, List, Option, Some, Result, Ok, Err}
+use Rattle.std.specs.Prelude.{slice_get}
 use Rattle.par_io.specs.Causes.{FolderCounts, Makes, Rose, Files}
 use Rattle.par_pool.specs.declared.reading.TheConstants.{LONGEST_CLASS}
 use Rattle.par_class.specs.declared.file.ClassFile.{ClassFile}
 use Rattle.par_loader.specs.declared.error.Unloaded.{Unloaded}
-use Rattle.par_loader.specs.declared.error.Unloaded.TheVariants.{Absent, TooLong, Failed, BadClass, Memory}
+use Rattle.par_loader.specs.declared.error.Unloaded.TheVariants.{Absent, TooLong, Failed, BadClass}
+use Rattle.par_loader.specs.declared.error.Unloaded.TheVariants.{Memory}
 use Rattle.par_class.specs.Spelling.{Spells}
 use Rattle.par_single.specs.Members.{own_name}
 use Rattle.par_link.specs.declared.linked.Linked.{Linked}
@@ -14,7 +16,8 @@ use Rattle.par_loader.specs.declared.loading.Loading.{Loading}
 use Rattle.par_loader.specs.Reads.{Text, MakesAtMost, Classes, AreOf, WasFound}
 use Rattle.par_loader.specs.Mentions.{Naming}
 use Rattle.par_loader.specs.Found.{file, found_in}
-use Rattle.par_loader.specs.Loaded.{Loaded, whole, missing, overlong, refused, absent, Load, Step, goes_on, ends, main_naming, main_step, loaded}
+use Rattle.par_loader.specs.Loaded.{Loaded, whole, missing, overlong, refused, absent, Load, Step}
+use Rattle.par_loader.specs.Loaded.{goes_on, ends, main_naming, main_step, loaded}
 use Rattle.par_loader.specs.Judged.{name_of, linked, judged}
 
 -- what a class file is refused for: number 40 also stands for a class that has no file

@@ -1,5 +1,6 @@
 -- What is found where a class is asked for.
-use Rattle.std.specs.Prelude.{◌≡◌, ℕ, nat_le, if◌then◌else◌, length, Option, Some, None, Result, Ok, Err}
+use Rattle.std.specs.Prelude.{◌≡◌, ℕ, nat_le, if◌then◌else◌, length, Option, Some, None, Result, Ok}
+use Rattle.std.specs.Prelude.{Err}
 use Rattle.std.specs.Str.{bytes_eq}
 use Rattle.par_io.specs.Causes.{FolderCounts, Rose}
 use Rattle.par_pool.specs.declared.error.ClassError.{ClassError}

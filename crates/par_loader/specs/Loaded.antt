@@ -1,5 +1,6 @@
 -- The class files that are loaded for a class, or why they are not.
-use Rattle.std.specs.Prelude.{ℕ, zero, suc, ◌+◌, if◌then◌else◌, List, [], ◌∷◌, ◌++◌, length, Option, Some, None}
+use Rattle.std.specs.Prelude.{ℕ, zero, suc, ◌+◌, if◌then◌else◌, List, [], ◌∷◌, ◌++◌, length, Option}
+use Rattle.std.specs.Prelude.{Some, None}
 use Rattle.par_lexer.specs.Names.{is_name}
 use Rattle.par_class.specs.declared.file.ClassFile.{ClassFile}
 use Rattle.par_loader.specs.Reads.{Text, Classes}

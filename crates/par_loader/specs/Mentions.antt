@@ -1,5 +1,6 @@
 -- The classes that class files name, and the first of them that is still to be read.
-use Rattle.std.specs.Prelude.{ℕ, suc, Bool, false, not, ◌&&◌, List, [], ◌∷◌, Option, None, is_none, position}
+use Rattle.std.specs.Prelude.{ℕ, suc, Bool, false, not, ◌&&◌, List, [], ◌∷◌, Option, None, is_none}
+use Rattle.std.specs.Prelude.{position}
 use Rattle.std.specs.Option.{option_map, option_or}
 use Rattle.std.specs.List.{list_any}
 use Rattle.std.specs.Str.{bytes_eq}

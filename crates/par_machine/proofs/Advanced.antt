@@ -1,5 +1,6 @@
 -- What a run comes to with one instruction, from what it has done and what it goes on to.
-use Rattle.std.proofs.Common.{◌≡◌, ℕ, suc, ◌≤◌, Bool, true, false, List, length, Result, IsTrue, refl, ap, ◌∙◌, inl, arith}
+use Rattle.std.proofs.Common.{◌≡◌, ℕ, suc, ◌≤◌, Bool, true, false, List, length, Result, IsTrue}
+use Rattle.std.proofs.Common.{refl, ap, ◌∙◌, inl, arith}
 use Rattle.std.proofs.lemmas.Bool.{false≢true}
 use Rattle.par_class.specs.declared.file.ClassFile.{ClassFile}
 use Rattle.par_heap.specs.Heap.{objects_of}

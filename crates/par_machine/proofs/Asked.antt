@@ -7,13 +7,15 @@ use Rattle.par_values.specs.declared.link.ClassLink.{ClassLink}
 use Rattle.par_values.specs.declared.link.Link.{Link}
 use Rattle.par_values.specs.declared.link.Link.TheVariants as link
 use Rattle.par_values.specs.Areas.{Name}
-use Rattle.par_values.specs.Operations.{Operation, Push, Misnamed, operation, constant, of_field, of_class}
+use Rattle.par_values.specs.Operations.{Operation, Push, Misnamed, operation, constant, of_field}
+use Rattle.par_values.specs.Operations.{of_class}
 use Rattle.par_stack.specs.declared.point.Point.{Point}
 use Rattle.par_stack.specs.Frames.{running}
 use Rattle.par_steps.specs.Links.{link_at}
 use Rattle.par_actions.specs.declared.creating.Class.{Class}
 use Rattle.par_method_area.specs.declared.known.NamedField.{NamedField}
-use Rattle.par_method_area.specs.Known.{linked_number, KnowsField, IsNamedField, KnowsClass, IsNamedClass}
+use Rattle.par_method_area.specs.Known.{linked_number, KnowsField, IsNamedField, KnowsClass}
+use Rattle.par_method_area.specs.Known.{IsNamedClass}
 use Rattle.par_machine.specs.Site.{operation_at}
 use Rattle.par_machine.specs.declared.running.Running.{Running}
 use Rattle.par_machine.specs.declared.site.Site.{Site}

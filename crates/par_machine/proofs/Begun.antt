@@ -1,5 +1,6 @@
 -- A run before its first instruction.
-use Rattle.std.proofs.Common.{◌≡◌, ℕ, zero, suc, ◌-◌, true, List, [], ◌∷◌, replicate, Option, Some, None, slice_get, refl, sym, ap, subst, ◌∙◌, arith}
+use Rattle.std.proofs.Common.{◌≡◌, ℕ, zero, suc, ◌-◌, true, List, [], ◌∷◌, replicate, Option, Some}
+use Rattle.std.proofs.Common.{None, slice_get, refl, sym, ap, subst, ◌∙◌, arith}
 use Rattle.std.proofs.lemmas.Bool.{and_from}
 use Rattle.std.proofs.lemmas.Option.{slice_get_within}
 use Rattle.par_class.specs.declared.file.ClassFile.{ClassFile}
@@ -11,7 +12,8 @@ use Rattle.par_stack.specs.declared.point.Point.{Point}
 use Rattle.par_stack.specs.Frames as stack
 use Rattle.par_steps.specs.Fields.{all_statics}
 use Rattle.par_steps.specs.Methods.{method_code}
-use Rattle.par_steps.specs.State.{Frame, State, entered, main_place, start, frame_of, whole_inputs, no_objects}
+use Rattle.par_steps.specs.State.{Frame, State, entered, main_place, start, frame_of, whole_inputs}
+use Rattle.par_steps.specs.State.{no_objects}
 use Rattle.par_machine.specs.Frames.{are_sound}
 use Rattle.par_machine.specs.Objects.{count_classes, objects_in, AreObjects}
 use Rattle.par_machine.specs.Running.{state_in}

@@ -1,5 +1,7 @@
 -- What an index of an invoke tells of the method that it names.
-use Rattle.std.proofs.Common.{◌≡◌, ℕ, ◌+◌, ◌-◌, ◌<◌, Bool, true, false, not, if◌then◌else◌, List, [], ◌∷◌, length, ◌++◌, drop, reverse, Option, Some, None, slice_get, refl, sym, ap, subst, ◌∙◌, length-drop}
+use Rattle.std.proofs.Common.{◌≡◌, ℕ, ◌+◌, ◌-◌, ◌<◌, Bool, true, false, not, if◌then◌else◌, List}
+use Rattle.std.proofs.Common.{[], ◌∷◌, length, ◌++◌, drop, reverse, Option, Some, None, slice_get}
+use Rattle.std.proofs.Common.{refl, sym, ap, subst, ◌∙◌, length-drop}
 use Rattle.std.proofs.Math.Path.{fun_ext}
 use Rattle.std.proofs.lemmas.List.{length-append, length-reverse}
 use Rattle.std.proofs.lemmas.Option.{slice_get_within}
@@ -21,14 +23,16 @@ use Rattle.par_values.specs.declared.link.Target.{Target}
 use Rattle.par_values.specs.declared.link.Target.TheVariants as target
 use Rattle.par_values.specs.Areas.{Name, Areas, InputLists, operand}
 use Rattle.par_values.specs.Effects.{Calls, effect, called, called_on}
-use Rattle.par_values.specs.Operations.{Operation, InvokeStatic, InvokeSpecial, InvokeVirtual, Misnamed, of_method, takes}
+use Rattle.par_values.specs.Operations.{Operation, InvokeStatic, InvokeSpecial, InvokeVirtual}
+use Rattle.par_values.specs.Operations.{Misnamed, of_method, takes}
 use Rattle.par_values.specs.Reasons.{is_of}
 use Rattle.par_link.specs.declared.entry.Builtin.TheVariants as builtin
 use Rattle.par_link.specs.declared.entry.Named.{Named}
 use Rattle.par_link.specs.declared.entry.Named.TheVariants as named
 use Rattle.par_link.specs.Linked.{named_at}
 use Rattle.par_steps.specs.Classes.{exceptions}
-use Rattle.par_steps.specs.Links.{link_of, link_at, number_or, class_link, field_in, field_link, method_in, method_link, initializer_link, channel_of}
+use Rattle.par_steps.specs.Links.{link_of, link_at, number_or, class_link, field_in, field_link}
+use Rattle.par_steps.specs.Links.{method_in, method_link, initializer_link, channel_of}
 use Rattle.par_steps.specs.Methods.{class_pool}
 use Rattle.par_steps.specs.State.{whole_inputs}
 use Rattle.par_steps.specs.Step.{is_no_exception}

@@ -1,5 +1,6 @@
 -- What an instruction came to, from what its action tells.
-use Rattle.std.proofs.Common.{◌≡◌, ℕ, ◌+◌, ◌-◌, pos, ◌+ℤ◌, Bool, false, List, ◌∷◌, Option, IsTrue, refl, sym, ap, subst, ◌∙◌, arith}
+use Rattle.std.proofs.Common.{◌≡◌, ℕ, ◌+◌, ◌-◌, pos, ◌+ℤ◌, Bool, false, List, ◌∷◌, Option, IsTrue}
+use Rattle.std.proofs.Common.{refl, sym, ap, subst, ◌∙◌, arith}
 use Rattle.par_class.specs.declared.file.ClassFile.{ClassFile}
 use Rattle.par_values.specs.declared.value.MVal.{MVal}
 use Rattle.par_values.specs.Areas.{Areas, Objects, InputLists}
@@ -9,14 +10,16 @@ use Rattle.par_single.specs.Walk.{starts_at}
 use Rattle.par_steps.specs.Classes.{class_names}
 use Rattle.par_steps.specs.Links.{link_at}
 use Rattle.par_steps.specs.State.{State, whole_inputs}
-use Rattle.par_steps.specs.Step.{is_misreceived, called_on_object, or_2, moved, state_with, stands_at}
+use Rattle.par_steps.specs.Step.{is_misreceived, called_on_object, or_2, moved, state_with}
+use Rattle.par_steps.specs.Step.{stands_at}
 use Rattle.par_stack.specs.declared.point.Point.{Point}
 use Rattle.par_stack.specs.Frames as stack
 use Rattle.par_stack.specs.Frames.{running, waiting}
 use Rattle.par_unwinding.specs.Shown.{frame_of, frames_of}
 use Rattle.par_actions.specs.declared.done.Done.{Done}
 use Rattle.par_actions.specs.declared.done.Ways.{Ways}
-use Rattle.par_actions.specs.Done.{IsAt, IsAtFork, areas_in, distance, Comes, IsDone, Keeps, is_still}
+use Rattle.par_actions.specs.Done.{IsAt, IsAtFork, areas_in, distance, Comes, IsDone, Keeps}
+use Rattle.par_actions.specs.Done.{is_still}
 use Rattle.par_machine.specs.Frames.{code_of}
 use Rattle.par_machine.specs.Instructions.{is_branch}
 use Rattle.par_machine.specs.Objects.{count_classes, objects_in}
@@ -24,7 +27,8 @@ use Rattle.par_machine.specs.Running.{here, below, state_in}
 use Rattle.par_machine.specs.Site.{areas_at, operation_at, does, spot_of, against, IsThere, IsCome}
 use Rattle.par_machine.specs.declared.running.Running.{Running}
 use Rattle.par_machine.specs.declared.site.Site.{Site}
-use Rattle.par_machine.proofs.Standing.{may_put, is_plain, not_put, no_lock, way_stands, ahead_stands}
+use Rattle.par_machine.proofs.Standing.{may_put, is_plain, not_put, no_lock, way_stands}
+use Rattle.par_machine.proofs.Standing.{ahead_stands}
 use Rattle.par_machine.proofs.Effected.{effect_of}
 
 module _ (files : List ClassFile) (old : Running) (s : Site) where

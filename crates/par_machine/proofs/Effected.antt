@@ -1,5 +1,6 @@
 -- What an effect tells of its operation.
-use Rattle.std.proofs.Common.{◌≡◌, ℕ, ◌+◌, Bool, true, false, if◌then◌else◌, List, length, Option, Some, None, refl}
+use Rattle.std.proofs.Common.{◌≡◌, ℕ, ◌+◌, Bool, true, false, if◌then◌else◌, List, length, Option}
+use Rattle.std.proofs.Common.{Some, None, refl}
 use Rattle.par_values.specs.declared.value.MVal.{MVal}
 use Rattle.par_values.specs.declared.value.MVal.TheVariants.{Int, Null, Ref}
 use Rattle.par_values.specs.declared.kind.Kind.{Kind}
@@ -12,8 +13,14 @@ use Rattle.par_values.specs.declared.link.Target.{Target}
 use Rattle.par_values.specs.declared.link.Target.TheVariants as target
 use Rattle.par_values.specs.Areas.{Name, Areas, operand, number_of, pop}
 use Rattle.par_values.specs.Arithmetic.{divides_by_zero}
-use Rattle.par_values.specs.Operations.{Operation, Push, PushNull, Load, Store, Discard, Copy, Combine, Negate, Increase, Jump, JumpIf, JumpIfBoth, JumpIfSame, JumpIfNull, GetStatic, PutStatic, GetField, PutField, InvokeStatic, InvokeSpecial, InvokeVirtual, Create, Throw, Leave, LeaveWith, Misnamed}
-use Rattle.par_values.specs.Effects.{Effect, Goes, Happens, Jumps, Calls, Throws, ThrowsObject, Returns, ReturnsWith, effect, called, called_on, jumps_if, field_read, field_written, thrown}
+use Rattle.par_values.specs.Operations.{Operation, Push, PushNull, Load, Store, Discard, Copy}
+use Rattle.par_values.specs.Operations.{Combine, Negate, Increase, Jump, JumpIf, JumpIfBoth}
+use Rattle.par_values.specs.Operations.{JumpIfSame, JumpIfNull, GetStatic, PutStatic, GetField}
+use Rattle.par_values.specs.Operations.{PutField, InvokeStatic, InvokeSpecial, InvokeVirtual}
+use Rattle.par_values.specs.Operations.{Create, Throw, Leave, LeaveWith, Misnamed}
+use Rattle.par_values.specs.Effects.{Effect, Goes, Happens, Jumps, Calls, Throws, ThrowsObject}
+use Rattle.par_values.specs.Effects.{Returns, ReturnsWith, effect, called, called_on, jumps_if}
+use Rattle.par_values.specs.Effects.{field_read, field_written, thrown}
 use Rattle.par_actions.specs.Done.{distance}
 
 -- the method that an operation calls

@@ -1,5 +1,7 @@
 -- What an instruction that changes the objects of a program has done, and a write to a field.
-use Rattle.std.proofs.Common.{◌≡◌, ℕ, suc, ◌≤◌, ℤ, Bool, true, false, List, [], ◌∷◌, length, set, Option, None, slice_get, IsTrue, codes, refl, sym, ap, subst, ◌∙◌, inl, inr, arith}
+use Rattle.std.proofs.Common.{◌≡◌, ℕ, suc, ◌≤◌, ℤ, Bool, true, false, List, [], ◌∷◌, length, set}
+use Rattle.std.proofs.Common.{Option, None, slice_get, IsTrue, codes, refl, sym, ap, subst, ◌∙◌}
+use Rattle.std.proofs.Common.{inl, inr, arith}
 use Rattle.std.specs.Str.{bytes_eq}
 use Rattle.std.proofs.lemmas.Bool.{cases_lt, false≢true}
 use Rattle.std.proofs.lemmas.List.{length-set, set_past}
@@ -14,9 +16,11 @@ use Rattle.par_values.specs.declared.link.Link.TheVariants as link
 use Rattle.par_values.specs.declared.run.Event.{Event}
 use Rattle.par_values.specs.declared.run.Event.TheVariants.{Put}
 use Rattle.par_values.specs.declared.kind.Kind.TheVariants as kind
-use Rattle.par_values.specs.Areas.{Name, Areas, shown_value, operand, pop, set_field, objects_of, object_at, list_or_none}
+use Rattle.par_values.specs.Areas.{Name, Areas, shown_value, operand, pop, set_field, objects_of}
+use Rattle.par_values.specs.Areas.{object_at, list_or_none}
 use Rattle.par_values.specs.Operations.{Operation, PutField}
-use Rattle.par_values.specs.Effects.{Effect, Goes, Happens, Jumps, ThrowsObject, ReturnsWith, effect, field_written}
+use Rattle.par_values.specs.Effects.{Effect, Goes, Happens, Jumps, ThrowsObject, ReturnsWith}
+use Rattle.par_values.specs.Effects.{effect, field_written}
 use Rattle.par_values.specs.Reasons.{Spot, reason}
 use Rattle.par_heap.specs.Heap as heap
 use Rattle.par_steps.specs.Classes.{class_names}
@@ -34,7 +38,8 @@ use Rattle.par_method_area.specs.declared.known.NamedField.{NamedField}
 use Rattle.par_method_area.specs.Known.{IsNamedField}
 use Rattle.par_machine.specs.Objects.{count_classes, objects_in, width, AreObjects}
 use Rattle.par_machine.specs.Running.{here, IsSound}
-use Rattle.par_machine.specs.Site.{areas_at, operation_at, does, spot_of, against, named_by, IsThere, IsCome, IsKnown, IsPerformed, IsTellable}
+use Rattle.par_machine.specs.Site.{areas_at, operation_at, does, spot_of, against, named_by}
+use Rattle.par_machine.specs.Site.{IsThere, IsCome, IsKnown, IsPerformed, IsTellable}
 use Rattle.par_machine.specs.declared.running.Running.{Running}
 use Rattle.par_machine.specs.declared.site.Site.{Site}
 use Rattle.par_machine.proofs.Born.{Fields, IsWide, set_at, wide_before, after_shown, after_stay}

@@ -1,5 +1,6 @@
 -- The instruction at which a run stands is found, or none is.
-use Rattle.std.proofs.Common.{◌≡◌, ℕ, ◌<◌, ◌≤◌, Bool, true, List, [], length, drop, Option, Some, None, IsSome, Result, refl, sym, ap, subst, ◌∙◌, inl, arith}
+use Rattle.std.proofs.Common.{◌≡◌, ℕ, ◌<◌, ◌≤◌, Bool, true, List, [], length, drop, Option, Some}
+use Rattle.std.proofs.Common.{None, IsSome, Result, refl, sym, ap, subst, ◌∙◌, inl, arith}
 use Rattle.std.proofs.Math.Seq.{drop-nil}
 use Rattle.std.specs.Option.{option_and_then}
 use Rattle.par_class.specs.declared.file.ClassFile.{ClassFile}

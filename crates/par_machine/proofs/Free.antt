@@ -1,9 +1,12 @@
 -- What holds of an operation against which no reason stands.
-use Rattle.std.proofs.Common.{◌≡◌, ℕ, suc, Bool, true, false, ◌&&◌, ◌||◌, List, ◌∷◌, Option, Some, None, refl}
+use Rattle.std.proofs.Common.{◌≡◌, ℕ, suc, Bool, true, false, ◌&&◌, ◌||◌, List, ◌∷◌, Option, Some}
+use Rattle.std.proofs.Common.{None, refl}
 use Rattle.par_values.specs.Areas.{Name, Areas}
 use Rattle.par_values.specs.Operations.{Operation}
 use Rattle.par_values.specs.Effects.{effect}
-use Rattle.par_values.specs.Reasons.{Spot, lacks, misgiven, unfit, throws, exceeds, misplaced, falls, misnamed, disagrees, misreturns, misused, least_from, reason}
+use Rattle.par_values.specs.Reasons.{Spot, lacks, misgiven, unfit, throws, exceeds, misplaced}
+use Rattle.par_values.specs.Reasons.{falls, misnamed, disagrees, misreturns, misused, least_from}
+use Rattle.par_values.specs.Reasons.{reason}
 use Rattle.par_steps.specs.Step.{or_2}
 
 pub record IsFree (classes : List Name) (spot : Spot) (o : Operation) (a : Areas) : Type 0 where

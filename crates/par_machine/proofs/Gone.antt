@@ -1,5 +1,6 @@
 -- What an instruction comes to, from what it came to where it stands.
-use Rattle.std.proofs.Common.{◌≡◌, ℕ, ◌+◌, ◌<◌, ◌≤◌, pos, ◌+ℤ◌, List, [], ◌∷◌, length, Option, Some, None, codes, refl, sym, ap, subst, ◌∙◌, arith}
+use Rattle.std.proofs.Common.{◌≡◌, ℕ, ◌+◌, ◌<◌, ◌≤◌, pos, ◌+ℤ◌, List, [], ◌∷◌, length, Option, Some}
+use Rattle.std.proofs.Common.{None, codes, refl, sym, ap, subst, ◌∙◌, arith}
 use Rattle.par_class.specs.declared.file.ClassFile.{ClassFile}
 use Rattle.par_values.specs.declared.value.MVal.{MVal}
 use Rattle.par_values.specs.declared.run.Event.{Event}
@@ -12,7 +13,9 @@ use Rattle.par_stack.specs.Frames.{running, with_running, at_offset}
 use Rattle.par_steps.specs.Classes.{class_names, exception_named}
 use Rattle.par_steps.specs.Links.{link_at}
 use Rattle.par_steps.specs.State.{Frame, State}
-use Rattle.par_steps.specs.Step.{Turn, Silent, Shows, turn_at, areas_of, done_by, spot, reason_against, decided, applied, moved, state_with, offset, handlers, thrown_class}
+use Rattle.par_steps.specs.Step.{Turn, Silent, Shows, turn_at, areas_of, done_by, spot}
+use Rattle.par_steps.specs.Step.{reason_against, decided, applied, moved, state_with, offset}
+use Rattle.par_steps.specs.Step.{handlers, thrown_class}
 use Rattle.par_actions.specs.declared.done.Done.{Done}
 use Rattle.par_actions.specs.declared.done.Done.TheVariants as done
 use Rattle.par_actions.specs.Done.{IsDone, thrown_reason, distance}

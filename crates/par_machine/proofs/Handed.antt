@@ -1,5 +1,7 @@
 -- What is handed out of what an instruction came to.
-use Rattle.std.proofs.Common.{◌≡◌, ℕ, suc, ◌<◌, ◌≤◌, pos, ◌+ℤ◌, true, false, List, ◌∷◌, length, Option, Result, Ok, IsTrue, IsErrOf, codes, refl, sym, ap, subst, ◌∙◌, ◌⊎◌, inl, inr, arith}
+use Rattle.std.proofs.Common.{◌≡◌, ℕ, suc, ◌<◌, ◌≤◌, pos, ◌+ℤ◌, true, false, List, ◌∷◌, length}
+use Rattle.std.proofs.Common.{Option, Result, Ok, IsTrue, IsErrOf, codes, refl, sym, ap, subst, ◌∙◌}
+use Rattle.std.proofs.Common.{◌⊎◌, inl, inr, arith}
 use Rattle.std.proofs.lemmas.Bool.{false≢true}
 use Rattle.par_class.specs.declared.file.ClassFile.{ClassFile}
 use Rattle.par_heap.specs.Heap.{objects_of}
@@ -27,7 +29,8 @@ use Rattle.par_machine.specs.declared.turn.Turn.{Turn}
 use Rattle.par_machine.specs.declared.turn.Turn.TheVariants.{Silent, Happened}
 use Rattle.par_machine.specs.declared.turn.Stuck.{Stuck}
 use Rattle.par_machine.specs.declared.turn.Stuck.TheVariants.{Memory}
-use Rattle.par_machine.proofs.Gone.{gone_sound, goes_turn, jumps_turn, tells_turn, turn_here, done_here, next_thrown, object_thrown}
+use Rattle.par_machine.proofs.Gone.{gone_sound, goes_turn, jumps_turn, tells_turn, turn_here}
+use Rattle.par_machine.proofs.Gone.{done_here, next_thrown, object_thrown}
 
 -- where nothing is called, the run stands at the site
 pub stays_there : (d k : Done) (P : Type 0) → d ≡ k → is_call k ≡ false → IsTrue (is_call d) ⊎ P → P

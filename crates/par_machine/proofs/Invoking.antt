@@ -1,5 +1,7 @@
 -- What an invoke has done, from what its action tells.
-use Rattle.std.proofs.Common.{◌≡◌, ℕ, ◌+◌, ◌-◌, ◌<◌, ◌≤◌, Bool, true, false, ◌||◌, nat_lt, if◌then◌else◌, List, [], ◌∷◌, length, Option, Some, None, Result, Ok, Err, IfOk, IsTrue, refl, sym, ap, ap₂, subst, ◌∙◌, inl, inr, arith}
+use Rattle.std.proofs.Common.{◌≡◌, ℕ, ◌+◌, ◌-◌, ◌<◌, ◌≤◌, Bool, true, false, ◌||◌, nat_lt}
+use Rattle.std.proofs.Common.{if◌then◌else◌, List, [], ◌∷◌, length, Option, Some, None, Result, Ok}
+use Rattle.std.proofs.Common.{Err, IfOk, IsTrue, refl, sym, ap, ap₂, subst, ◌∙◌, inl, inr, arith}
 use Rattle.std.proofs.lemmas.Bool.{ltb-false}
 use Rattle.par_class.specs.declared.file.ClassFile.{ClassFile}
 use Rattle.par_instr.specs.declared.instr.Instr.{Instr}
@@ -16,7 +18,8 @@ use Rattle.par_link.specs.Linked.{named_at}
 use Rattle.par_steps.specs.Classes.{class_names, exceptions}
 use Rattle.par_steps.specs.Links.{link_at}
 use Rattle.par_steps.specs.State.{Frame, State, entered}
-use Rattle.par_steps.specs.Step.{is_misreceived, is_no_exception, called_on_object, or_2, moved, state_with}
+use Rattle.par_steps.specs.Step.{is_misreceived, is_no_exception, called_on_object, or_2, moved}
+use Rattle.par_steps.specs.Step.{state_with}
 use Rattle.par_stack.specs.declared.point.Point.{Point}
 use Rattle.par_stack.specs.Frames as stack
 use Rattle.par_stack.specs.Frames.{running, waiting}
@@ -33,7 +36,8 @@ use Rattle.par_method_area.specs.Known.{IsNamedMethod}
 use Rattle.par_machine.specs.Frames.{are_sound, Stands}
 use Rattle.par_machine.specs.Frames as frame
 use Rattle.par_machine.specs.Running.{here, below, state_in, IsSound}
-use Rattle.par_machine.specs.Site.{areas_at, operation_at, does, spot_of, against, IsThere, IsCome, IsPerformed}
+use Rattle.par_machine.specs.Site.{areas_at, operation_at, does, spot_of, against, IsThere, IsCome}
+use Rattle.par_machine.specs.Site.{IsPerformed}
 use Rattle.par_machine.specs.declared.running.Running.{Running}
 use Rattle.par_machine.specs.declared.site.Site.{Site}
 use Rattle.par_machine.proofs.Called.{Leaves, code_listed, inputs_are}

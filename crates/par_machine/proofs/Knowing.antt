@@ -1,5 +1,7 @@
 -- What an instruction that came to something is known by.
-use Rattle.std.proofs.Common.{◌≡◌, ℕ, suc, ◌+◌, ◌<◌, ◌≤◌, ℤ, pos, ◌+ℤ◌, Bool, true, false, not, ◌||◌, ◌==◌, eqb-true, if◌then◌else◌, List, [], ◌∷◌, length, Option, Some, None, is_none, is_some, refl, sym, ap, subst, ◌∙◌, arith}
+use Rattle.std.proofs.Common.{◌≡◌, ℕ, suc, ◌+◌, ◌<◌, ◌≤◌, ℤ, pos, ◌+ℤ◌, Bool, true, false, not}
+use Rattle.std.proofs.Common.{◌||◌, ◌==◌, eqb-true, if◌then◌else◌, List, [], ◌∷◌, length, Option}
+use Rattle.std.proofs.Common.{Some, None, is_none, is_some, refl, sym, ap, subst, ◌∙◌, arith}
 use Rattle.std.specs.List.{list_any}
 use Rattle.std.proofs.lemmas.Bool.{false≢true}
 use Rattle.par_class.specs.declared.file.ClassFile.{ClassFile}
@@ -15,12 +17,15 @@ use Rattle.par_values.specs.declared.link.Target.{Target}
 use Rattle.par_values.specs.declared.link.Target.TheVariants as target
 use Rattle.par_values.specs.Areas.{Name, Areas, operand, shown_value}
 use Rattle.par_values.specs.declared.run.Val.{Val}
-use Rattle.par_values.specs.Operations.{Operation, PutStatic, PutField, InvokeStatic, InvokeSpecial, InvokeVirtual, Create, Throw, LeaveWith}
-use Rattle.par_values.specs.Effects.{Effect, Happens, Jumps, ThrowsObject, ReturnsWith, effect, thrown}
+use Rattle.par_values.specs.Operations.{Operation, PutStatic, PutField, InvokeStatic, InvokeSpecial}
+use Rattle.par_values.specs.Operations.{InvokeVirtual, Create, Throw, LeaveWith}
+use Rattle.par_values.specs.Effects.{Effect, Happens, Jumps, ThrowsObject, ReturnsWith, effect}
+use Rattle.par_values.specs.Effects.{thrown}
 use Rattle.par_values.specs.Reasons.{is_of}
 use Rattle.par_actions.specs.declared.done.Done.{Done}
 use Rattle.par_actions.specs.declared.done.Done.TheVariants as done
-use Rattle.par_actions.specs.Done.{lesser, thrown_reason, distance, target_of, out_by, born_event, set_event, put_event}
+use Rattle.par_actions.specs.Done.{lesser, thrown_reason, distance, target_of, out_by, born_event}
+use Rattle.par_actions.specs.Done.{set_event, put_event}
 use Rattle.par_single.specs.Links.{signature_said}
 use Rattle.par_values.specs.Operations.{operation}
 use Rattle.par_values.specs.Reasons.{falls, misreturns, misused}
@@ -30,11 +35,13 @@ use Rattle.par_steps.specs.Classes.{class_names, exceptions}
 use Rattle.par_steps.specs.Handlers.{is_lost, is_roomless}
 use Rattle.par_steps.specs.Links.{link_at}
 use Rattle.par_steps.specs.Methods.{method_descriptor}
-use Rattle.par_steps.specs.Step.{stands_at, next_of, offset, handlers, number_of_class, thrown_class}
+use Rattle.par_steps.specs.Step.{stands_at, next_of, offset, handlers, number_of_class}
+use Rattle.par_steps.specs.Step.{thrown_class}
 use Rattle.par_machine.specs.Frames.{code_of, gives}
 use Rattle.par_machine.specs.Instructions.{index_of, reach_of}
 use Rattle.par_machine.specs.Running.{here, below}
-use Rattle.par_machine.specs.Site.{areas_at, operation_at, does, spot_of, against, decoded, named_by, IsCome, IsKnown}
+use Rattle.par_machine.specs.Site.{areas_at, operation_at, does, spot_of, against, decoded}
+use Rattle.par_machine.specs.Site.{named_by, IsCome, IsKnown}
 use Rattle.par_machine.specs.declared.running.Running.{Running}
 use Rattle.par_machine.specs.declared.site.Site.{Site}
 use Rattle.par_machine.proofs.Free.{IsFree, is_free, or_2_none}

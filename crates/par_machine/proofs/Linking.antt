@@ -6,7 +6,9 @@ use Rattle.par_values.specs.declared.link.FieldLink.{FieldLink}
 use Rattle.par_values.specs.declared.link.MethodLink.{MethodLink}
 use Rattle.par_values.specs.declared.link.Link.{Link}
 use Rattle.par_values.specs.declared.link.Link.TheVariants as link
-use Rattle.par_values.specs.Operations.{Operation, Misnamed, GetStatic, PutStatic, GetField, PutField, InvokeStatic, InvokeSpecial, InvokeVirtual, Create, operation, constant, of_field, of_method, of_class}
+use Rattle.par_values.specs.Operations.{Operation, Misnamed, GetStatic, PutStatic, GetField}
+use Rattle.par_values.specs.Operations.{PutField, InvokeStatic, InvokeSpecial, InvokeVirtual}
+use Rattle.par_values.specs.Operations.{Create, operation, constant, of_field, of_method, of_class}
 use Rattle.par_machine.specs.Instructions.{index_of}
 
 -- an operation of what an index names

@@ -1,5 +1,7 @@
 -- What an instruction that makes an object has done.
-use Rattle.std.proofs.Common.{◌≡◌, ℕ, suc, ◌+◌, ◌<◌, ◌≤◌, Bool, true, false, if◌then◌else◌, List, length, map, Option, Some, None, Result, Ok, Err, IfOk, slice_get, IsTrue, refl, sym, ap, subst, ◌∙◌, ◌⊎◌, inl, inr, arith}
+use Rattle.std.proofs.Common.{◌≡◌, ℕ, suc, ◌+◌, ◌<◌, ◌≤◌, Bool, true, false, if◌then◌else◌, List}
+use Rattle.std.proofs.Common.{length, map, Option, Some, None, Result, Ok, Err, IfOk, slice_get}
+use Rattle.std.proofs.Common.{IsTrue, refl, sym, ap, subst, ◌∙◌, ◌⊎◌, inl, inr, arith}
 use Rattle.std.specs.List.{All}
 use Rattle.std.proofs.lemmas.Bool.{false≢true}
 use Rattle.std.proofs.lemmas.List.{length-set, length-map}
@@ -18,7 +20,8 @@ use Rattle.par_values.specs.declared.link.ClassLink.{ClassLink}
 use Rattle.par_values.specs.declared.link.Link.{Link}
 use Rattle.par_values.specs.declared.link.Link.TheVariants as link
 use Rattle.par_values.specs.declared.run.Event.TheVariants.{Born}
-use Rattle.par_values.specs.Areas.{Name, Areas, push, with_object, next_number, first_value, list_or_none}
+use Rattle.par_values.specs.Areas.{Name, Areas, push, with_object, next_number, first_value}
+use Rattle.par_values.specs.Areas.{list_or_none}
 use Rattle.par_values.specs.Operations.{Operation, Create}
 use Rattle.par_values.specs.Effects.{Goes, Happens, effect}
 use Rattle.par_values.specs.Reasons.{Spot, reason}
@@ -29,7 +32,8 @@ use Rattle.par_link.specs.declared.entry.Named.{Named}
 use Rattle.par_link.specs.declared.entry.Named.TheVariants as named
 use Rattle.par_link.specs.Linked.{named_at}
 use Rattle.par_steps.specs.Classes.{class_names}
-use Rattle.par_steps.specs.Links.{class_link, field_link, field_in, method_link, method_in, builtin_class, builtin_initializer, link_of, number_or, link_at}
+use Rattle.par_steps.specs.Links.{class_link, field_link, field_in, method_link, method_in}
+use Rattle.par_steps.specs.Links.{builtin_class, builtin_initializer, link_of, number_or, link_at}
 use Rattle.par_steps.specs.Methods.{class_pool}
 use Rattle.par_stack.specs.Frames as stack
 use Rattle.par_stack.specs.Frames.{running}
@@ -42,11 +46,13 @@ use Rattle.par_actions.proofs.Bearing.{born_shown}
 use Rattle.par_method_area.specs.Area.{Area}
 use Rattle.par_machine.specs.Objects.{count_classes, kinds_in, width, AreObjects}
 use Rattle.par_machine.specs.Running.{IsSound}
-use Rattle.par_machine.specs.Site.{areas_at, operation_at, does, spot_of, against, IsThere, IsCome, IsKnown, IsPerformed}
+use Rattle.par_machine.specs.Site.{areas_at, operation_at, does, spot_of, against, IsThere, IsCome}
+use Rattle.par_machine.specs.Site.{IsKnown, IsPerformed}
 use Rattle.par_machine.specs.declared.running.Running.{Running}
 use Rattle.par_machine.specs.declared.site.Site.{Site}
 use Rattle.par_machine.proofs.Born.{Fields, IsWide, born_wide, after_shown, after_stay, heap_grown}
-use Rattle.par_machine.proofs.Fielded.{plain_does, plain_done, still_come, still_performed, heap_come, heap_performed}
+use Rattle.par_machine.proofs.Fielded.{plain_does, plain_done, still_come, still_performed}
+use Rattle.par_machine.proofs.Fielded.{heap_come, heap_performed}
 use Rattle.par_machine.proofs.Free.{is_free}
 use Rattle.par_machine.proofs.Valued.{not_false}
 use Rattle.par_machine.proofs.Held.{are_shown, length-objects_in}

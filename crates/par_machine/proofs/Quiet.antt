@@ -1,5 +1,7 @@
 -- What an instruction that makes no event and calls no method comes to.
-use Rattle.std.proofs.Common.{◌≡◌, ℕ, zero, suc, ◌+◌, ◌<◌, ◌≤◌, pos, ◌+ℤ◌, Bool, true, false, List, length, Option, Some, None, slice_index_or, refl, sym, ap, subst, ◌∙◌, inl, inr, arith}
+use Rattle.std.proofs.Common.{◌≡◌, ℕ, zero, suc, ◌+◌, ◌<◌, ◌≤◌, pos, ◌+ℤ◌, Bool, true, false, List}
+use Rattle.std.proofs.Common.{length, Option, Some, None, slice_index_or, refl, sym, ap, subst, ◌∙◌}
+use Rattle.std.proofs.Common.{inl, inr, arith}
 use Rattle.std.proofs.lemmas.Bool.{false≢true}
 use Rattle.par_class.specs.declared.file.ClassFile.{ClassFile}
 use Rattle.par_heap.specs.Heap.{objects_of}
@@ -13,8 +15,10 @@ use Rattle.par_values.specs.declared.link.MethodLink.{MethodLink}
 use Rattle.par_values.specs.declared.link.Link.{Link}
 use Rattle.par_values.specs.declared.link.Link.TheVariants as link
 use Rattle.par_values.specs.Areas.{Areas}
-use Rattle.par_values.specs.Effects.{Effect, Happens, Calls, effect}
-use Rattle.par_values.specs.Operations.{Operation, Misnamed, GetStatic, PutStatic, GetField, PutField, InvokeStatic, InvokeSpecial, InvokeVirtual, Create, operation, constant, of_field}
+use Rattle.par_values.specs.Effects.{Effect, Happens, effect}
+use Rattle.par_values.specs.Operations.{Operation, Misnamed, GetStatic, PutStatic, GetField}
+use Rattle.par_values.specs.Operations.{PutField, InvokeStatic, InvokeSpecial, InvokeVirtual}
+use Rattle.par_values.specs.Operations.{Create, operation, constant, of_field}
 use Rattle.par_stack.specs.declared.point.Point.{Point}
 use Rattle.par_stack.specs.Frames as stack
 use Rattle.par_stack.specs.Frames.{running, with_running, at_offset}
@@ -36,7 +40,8 @@ use Rattle.par_machine.specs.Quiet.{AreRows, GoesOn, IsSameMethod, is_loud, Went
 use Rattle.par_machine.specs.Running.{here, below, state_in, IsSound}
 use Rattle.par_machine.specs.Settled.{turn_from}
 use Rattle.par_machine.specs.Site as site
-use Rattle.par_machine.specs.Site.{areas_at, operation_at, does, IsCome, CameTo, IsKnown, IsPerformed}
+use Rattle.par_machine.specs.Site.{areas_at, operation_at, does, IsCome, CameTo, IsKnown}
+use Rattle.par_machine.specs.Site.{IsPerformed}
 use Rattle.par_machine.specs.declared.running.Running.{Running}
 use Rattle.par_machine.specs.declared.site.Site.{Site}
 use Rattle.par_machine.proofs.Effected.{callee_of, IsEventOf, IsEffectOf, effect_of}
@@ -204,7 +209,8 @@ module _ (area : Area) (before : Running) (s : Site) (old : Running) (d : Done)
       let come : IsCome area.files before s done.Goes old =
       subst (λ k. CameTo area.files before s k old) is p.came in record {
         is = goes_turn area.files before s old frames come forward to;
-        sound = gone_sound area old s.point frames s.next p.sound some (stood done.Goes is refl) within
+        sound =
+            gone_sound area old s.point frames s.next p.sound some (stood done.Goes is refl) within
             to;
         method = λ went. elsewhere come.point (stood done.Goes is refl) frames s.next to;
         grown = λ class. let g = p.grown class in omega (arith, g);

@@ -1,8 +1,11 @@
 -- Frames that stand.
-use Rattle.std.proofs.Common.{◌≡◌, ℕ, zero, suc, ◌<◌, Bool, true, false, not, ◌&&◌, ◌||◌, nat_le, nat_lt, List, [], ◌∷◌, length, drop, refl, sym, ap, subst, ◌∙◌, arith, leb-true, ltb-true, le-leb, lt-ltb, eqb-true, eq-eqb}
+use Rattle.std.proofs.Common.{◌≡◌, ℕ, zero, suc, ◌<◌, Bool, true, false, not, ◌&&◌, ◌||◌, nat_le}
+use Rattle.std.proofs.Common.{nat_lt, List, [], ◌∷◌, length, drop, refl, sym, ap, subst, ◌∙◌, arith}
+use Rattle.std.proofs.Common.{leb-true, ltb-true, le-leb, lt-ltb, eqb-true, eq-eqb}
 use Rattle.std.proofs.lemmas.Bool.{and_parts, and_from}
 use Rattle.par_class.specs.declared.file.ClassFile.{ClassFile}
-use Rattle.par_stack.specs.Frames.{Frame, running, waiting, with_running, without_running, is_awaited, at_offset, pushed}
+use Rattle.par_stack.specs.Frames.{Frame, running, waiting, with_running, without_running}
+use Rattle.par_stack.specs.Frames.{is_awaited, at_offset, pushed}
 use Rattle.par_values.specs.declared.value.MVal.{MVal}
 use Rattle.par_machine.specs.Frames.{code_of, gives, is_standing, is_roomy, are_sound, Stands}
 

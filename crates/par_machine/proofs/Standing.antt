@@ -1,5 +1,6 @@
 -- Whether an instruction stands where one goes on.
-use Rattle.std.proofs.Common.{◌≡◌, ℕ, ◌+◌, pos, ◌+ℤ◌, Bool, true, false, if◌then◌else◌, List, codes, refl, sym, ap, ◌∙◌}
+use Rattle.std.proofs.Common.{◌≡◌, ℕ, ◌+◌, pos, ◌+ℤ◌, Bool, true, false, if◌then◌else◌, List, codes}
+use Rattle.std.proofs.Common.{refl, sym, ap, ◌∙◌}
 use Rattle.std.specs.Str.{bytes_eq}
 use Rattle.std.proofs.lemmas.Bool.{false≢true}
 use Rattle.par_instr.specs.declared.instr.Instr.{Instr}
@@ -11,8 +12,11 @@ use Rattle.par_values.specs.declared.link.MethodLink.{MethodLink}
 use Rattle.par_values.specs.declared.link.Link.{Link}
 use Rattle.par_values.specs.declared.link.Link.TheVariants as link
 use Rattle.par_values.specs.Areas.{Areas}
-use Rattle.par_values.specs.Operations.{Operation, Misnamed, PutStatic, GetStatic, GetField, PutField, InvokeStatic, InvokeSpecial, InvokeVirtual, operation, constant, of_field, of_method, of_class}
-use Rattle.par_values.specs.Effects.{Effect, Goes, Happens, Jumps, Calls, Throws, ThrowsObject, Returns, ReturnsWith}
+use Rattle.par_values.specs.Operations.{Operation, Misnamed, PutStatic, GetStatic, GetField}
+use Rattle.par_values.specs.Operations.{PutField, InvokeStatic, InvokeSpecial, InvokeVirtual}
+use Rattle.par_values.specs.Operations.{operation, constant, of_field, of_method, of_class}
+use Rattle.par_values.specs.Effects.{Effect, Goes, Happens, Jumps, Calls, Throws, ThrowsObject}
+use Rattle.par_values.specs.Effects.{Returns, ReturnsWith}
 use Rattle.par_steps.specs.Step.{without_locks, unless_lock, next_of, stands_at}
 use Rattle.par_single.specs.Walk.{starts_at}
 use Rattle.par_actions.specs.declared.done.Ways.{Ways}

@@ -1,5 +1,7 @@
 -- What a throw comes to, from where it lands.
-use Rattle.std.proofs.Common.{◌≡◌, ℕ, ◌+◌, ◌<◌, Bool, true, false, not, ◌==◌, if◌then◌else◌, List, [], ◌∷◌, length, drop, slice_index_or, Option, Some, None, IfSome, IfNone, Result, refl, sym, ap, subst, ◌∙◌, arith, length-drop}
+use Rattle.std.proofs.Common.{◌≡◌, ℕ, ◌+◌, ◌<◌, Bool, true, false, not, ◌==◌, if◌then◌else◌, List}
+use Rattle.std.proofs.Common.{[], ◌∷◌, length, drop, slice_index_or, Option, Some, None, IfSome}
+use Rattle.std.proofs.Common.{IfNone, Result, refl, sym, ap, subst, ◌∙◌, arith, length-drop}
 use Rattle.std.proofs.lemmas.Bool.Decides.{nat_tests}
 use Rattle.par_class.specs.declared.file.ClassFile.{ClassFile}
 use Rattle.par_values.specs.declared.value.MVal.{MVal}
@@ -14,7 +16,8 @@ use Rattle.par_stack.specs.Frames.{running, waiting, with_running, at_offset, le
 use Rattle.par_steps.specs.Classes.{class_names, exceptions}
 use Rattle.par_steps.specs.Handlers.{caught, is_lost, is_roomless}
 use Rattle.par_steps.specs.State.{Frame, State, whole_inputs, entered}
-use Rattle.par_steps.specs.Step.{Turn, Silent, spot, handlers, number_of_class, throws, thrown_to, throws_next, state_with}
+use Rattle.par_steps.specs.Step.{Turn, Silent, spot, handlers, number_of_class, throws, thrown_to}
+use Rattle.par_steps.specs.Step.{throws_next, state_with}
 use Rattle.par_actions.specs.Done.{lesser}
 use Rattle.par_actions.specs.Leaving.{KnowsExceptions}
 use Rattle.par_unwinding.specs.Shown.{frame_of, frames_of}
@@ -24,7 +27,8 @@ use Rattle.par_machine.specs.Frames.{code_of, are_sound, Stands}
 use Rattle.par_machine.specs.Objects.{count_classes, objects_in, AreObjects}
 use Rattle.par_machine.specs.Running.{here, below, state_in}
 use Rattle.par_machine.specs.Site.{areas_at}
-use Rattle.par_machine.specs.Throwing.{landing_reason, bad_at, unless, throw_of, throw_next_of, IsLanding}
+use Rattle.par_machine.specs.Throwing.{landing_reason, bad_at, unless, throw_of, throw_next_of}
+use Rattle.par_machine.specs.Throwing.{IsLanding}
 use Rattle.par_machine.specs.Turn.{IsTurn}
 use Rattle.par_machine.specs.declared.running.Running.{Running}
 use Rattle.par_machine.specs.declared.turn.Stuck.{Stuck}

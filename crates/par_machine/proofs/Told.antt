@@ -1,5 +1,6 @@
 -- The event of what an instruction came to.
-use Rattle.std.proofs.Common.{◌≡◌, ℕ, ℤ, Bool, true, false, if◌then◌else◌, List, [], Some, None, codes, refl, sym, ap, subst, ◌∙◌}
+use Rattle.std.proofs.Common.{◌≡◌, ℕ, ℤ, Bool, true, false, if◌then◌else◌, List, [], Some, None}
+use Rattle.std.proofs.Common.{codes, refl, sym, ap, subst, ◌∙◌}
 use Rattle.std.specs.Str.{bytes_eq}
 use Rattle.par_class.specs.declared.file.ClassFile.{ClassFile}
 use Rattle.par_values.specs.declared.value.MVal.{MVal}
@@ -14,8 +15,10 @@ use Rattle.par_values.specs.declared.link.Link.TheVariants as link
 use Rattle.par_values.specs.declared.link.Target.{Target}
 use Rattle.par_values.specs.declared.link.Target.TheVariants as target
 use Rattle.par_values.specs.Areas.{Name, Areas, shown_value}
-use Rattle.par_values.specs.Effects.{Effect, Goes, Happens, Jumps, Calls, Throws, ThrowsObject, Returns, ReturnsWith, effect}
-use Rattle.par_values.specs.Operations.{Operation, PutStatic, PutField, InvokeStatic, InvokeSpecial, InvokeVirtual, Create, operation}
+use Rattle.par_values.specs.Effects.{Effect, Goes, Happens, Jumps, Calls, Throws, ThrowsObject}
+use Rattle.par_values.specs.Effects.{Returns, ReturnsWith, effect}
+use Rattle.par_values.specs.Operations.{Operation, PutStatic, PutField, InvokeStatic, InvokeSpecial}
+use Rattle.par_values.specs.Operations.{InvokeVirtual, Create, operation}
 use Rattle.par_stack.specs.declared.point.Point.{Point}
 use Rattle.par_stack.specs.Frames.{running}
 use Rattle.par_steps.specs.Classes.{class_names}

@@ -1,5 +1,6 @@
 -- Values that are written are of classes with names.
-use Rattle.std.proofs.Common.{◌≡◌, ℕ, ◌<◌, Bool, true, false, not, ◌&&◌, nat_lt, List, [], ◌∷◌, length, refl, sym, ap, ◌∙◌, inl, inr, arith, lt-ltb}
+use Rattle.std.proofs.Common.{◌≡◌, ℕ, ◌<◌, Bool, true, false, not, ◌&&◌, nat_lt, List, [], ◌∷◌}
+use Rattle.std.proofs.Common.{length, refl, sym, ap, ◌∙◌, inl, inr, arith, lt-ltb}
 use Rattle.std.proofs.lemmas.Bool.{cases_lt, false≢true}
 use Rattle.std.proofs.lemmas.Option.{slice_get_past}
 use Rattle.std.proofs.lemmas.Slice.Eq.{bytes_eq-Decides}
@@ -8,7 +9,8 @@ use Rattle.par_values.specs.declared.value.MVal.{MVal}
 use Rattle.par_values.specs.declared.value.MVal.TheVariants.{Int, Null, Ref}
 use Rattle.par_values.specs.declared.kind.Kind.{Kind}
 use Rattle.par_values.specs.declared.kind.Kind.TheVariants as kind
-use Rattle.par_values.specs.Areas.{Name, Areas, class_named, name_or_none, fits, shown_value, operand}
+use Rattle.par_values.specs.Areas.{Name, Areas, class_named, name_or_none, fits, shown_value}
+use Rattle.par_values.specs.Areas.{operand}
 use Rattle.par_values.specs.Reasons.{all_fit}
 use Rattle.par_steps.specs.Classes.{class_names}
 use Rattle.par_method_area.specs.Known.{IsTold}

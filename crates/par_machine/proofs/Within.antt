@@ -1,5 +1,6 @@
 -- Instructions start within their code.
-use Rattle.std.proofs.Common.{◌≡◌, ℕ, zero, suc, ◌<◌, ◌≤◌, ℤ, pos, negsuc, Bool, true, List, [], ◌∷◌, length, Option, Some, None, arith}
+use Rattle.std.proofs.Common.{◌≡◌, ℕ, zero, suc, ◌<◌, ◌≤◌, ℤ, pos, negsuc, Bool, true, List, []}
+use Rattle.std.proofs.Common.{◌∷◌, length, Option, Some, None, arith}
 use Rattle.par_instr.specs.Spelling.{operand_bytes}
 use Rattle.par_single.specs.Walk.{if_listed, starts_after, starts_at}
 use Rattle.par_steps.specs.Step.{stands_at, offset}

@@ -1,5 +1,6 @@
 -- What a write to a field has done.
-use Rattle.std.proofs.Common.{◌≡◌, ℕ, Bool, true, false, if◌then◌else◌, List, [], None, IsTrue, codes, refl, sym, ap, subst, ◌∙◌, inr, arith}
+use Rattle.std.proofs.Common.{◌≡◌, ℕ, Bool, true, false, if◌then◌else◌, List, [], None, IsTrue}
+use Rattle.std.proofs.Common.{codes, refl, sym, ap, subst, ◌∙◌, inr, arith}
 use Rattle.std.specs.Str.{bytes_eq}
 use Rattle.par_class.specs.declared.file.ClassFile.{ClassFile}
 use Rattle.par_instr.specs.declared.instr.Instr.{Instr}
@@ -24,7 +25,9 @@ use Rattle.par_method_area.specs.Area.{Area}
 use Rattle.par_method_area.specs.declared.known.NamedField.{NamedField}
 use Rattle.par_method_area.specs.Known.{IsNamedField}
 use Rattle.par_machine.specs.Running.{here, state_in, IsSound}
-use Rattle.par_machine.specs.Site.{areas_at, operation_at, does, spot_of, against, named_by, unless_lock, IsThere, IsCome, IsKnown, IsPerformed, IsTellable, HasName}
+use Rattle.par_machine.specs.Site.{areas_at, operation_at, does, spot_of, against, named_by}
+use Rattle.par_machine.specs.Site.{unless_lock, IsThere, IsCome, IsKnown, IsPerformed, IsTellable}
+use Rattle.par_machine.specs.Site.{HasName}
 use Rattle.par_machine.specs.declared.running.Running.{Running}
 use Rattle.par_machine.specs.declared.site.Site.{Site}
 use Rattle.par_machine.proofs.Coming.{state_is}

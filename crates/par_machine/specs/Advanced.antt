@@ -1,5 +1,6 @@
 -- What a run comes to with one instruction.
-use Rattle.std.specs.Prelude.{◌≡◌, ℕ, suc, ◌≤◌, ◌⊎◌, Bool, true, List, length, Result, IsTrue, IsErrOf}
+use Rattle.std.specs.Prelude.{◌≡◌, ℕ, suc, ◌≤◌, ◌⊎◌, Bool, true, List, length, Result, IsTrue}
+use Rattle.std.specs.Prelude.{IsErrOf}
 use Rattle.par_heap.specs.Heap.{objects_of}
 use Rattle.par_instr.specs.Decoding.{decoded_at}
 use Rattle.par_class.specs.declared.file.ClassFile.{ClassFile}

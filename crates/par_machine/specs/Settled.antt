@@ -1,5 +1,6 @@
 -- What a run comes to behind an instruction.
-use Rattle.std.specs.Prelude.{◌≡◌, ℕ, suc, ◌≤◌, Bool, true, false, List, [], ◌∷◌, length, None, Some, Result, IsTrue, IsErrOf}
+use Rattle.std.specs.Prelude.{◌≡◌, ℕ, suc, ◌≤◌, Bool, true, false, List, [], ◌∷◌, length, None}
+use Rattle.std.specs.Prelude.{Some, Result, IsTrue, IsErrOf}
 use Rattle.par_class.specs.declared.file.ClassFile.{ClassFile}
 use Rattle.par_heap.specs.Heap.{objects_of}
 use Rattle.par_values.specs.declared.run.Event.{Event}

@@ -1,5 +1,6 @@
 -- An instruction where it stands, and what it comes to there.
-use Rattle.std.specs.Prelude.{◌≡◌, ℕ, suc, ◌-◌, ◌≤◌, ◌<◌, pos, ◌+ℤ◌, Bool, true, false, if◌then◌else◌, ◌⊎◌, List, ◌∷◌, length, Option, None, IsTrue, codes}
+use Rattle.std.specs.Prelude.{◌≡◌, ℕ, suc, ◌-◌, ◌≤◌, ◌<◌, pos, ◌+ℤ◌, Bool, true, false}
+use Rattle.std.specs.Prelude.{if◌then◌else◌, ◌⊎◌, List, ◌∷◌, length, Option, None, IsTrue, codes}
 use Rattle.std.specs.Str.{bytes_eq}
 use Rattle.par_instr.specs.declared.instr.Instr.TheVariants as instr
 use Rattle.par_instr.specs.Decoding.{Decoded}

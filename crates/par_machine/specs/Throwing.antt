@@ -8,7 +8,8 @@ use Rattle.par_steps.specs.Classes.{class_names}
 use Rattle.par_steps.specs.Handlers.{caught, is_lost, is_roomless}
 use Rattle.par_steps.specs.Methods.{method_name}
 use Rattle.par_steps.specs.State.{Frame}
-use Rattle.par_steps.specs.Step.{Turn, IsBad, handlers, number_of_class, thrown_class, throws, throws_next}
+use Rattle.par_steps.specs.Step.{Turn, IsBad, handlers, number_of_class, thrown_class, throws}
+use Rattle.par_steps.specs.Step.{throws_next}
 use Rattle.par_stack.specs.declared.point.Point.{Point}
 use Rattle.par_stack.specs.Frames as stack
 use Rattle.par_actions.specs.Done.{lesser}

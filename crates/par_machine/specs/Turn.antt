@@ -1,7 +1,8 @@
 -- What a step answers, against what one instruction comes to.
 use Rattle.std.specs.Prelude.{◌≡◌, ◌≢◌, Bool, true, false, Option, Some, None, Result, Ok, Err}
 use Rattle.par_instr.specs.declared.instr.Instr.{Instr}
-use Rattle.par_instr.specs.declared.instr.Instr.TheVariants.{Invokevirtual, Invokespecial, Invokestatic, New}
+use Rattle.par_instr.specs.declared.instr.Instr.TheVariants.{Invokevirtual, Invokespecial}
+use Rattle.par_instr.specs.declared.instr.Instr.TheVariants.{Invokestatic, New}
 use Rattle.par_instr.specs.Decoding.{Decoded}
 use Rattle.par_values.specs.declared.run.Ending.TheVariants.{End, Uncaught, Stopped}
 use Rattle.par_steps.specs.State.{State}

@@ -10,10 +10,14 @@ use Rattle.par_words.specs.declared.words.Which.{Which}
 use Rattle.par_words.specs.Words.{Wanted, Check, Compile, Trace, Run, Asks}
 use Rattle.par_runner.specs.Texts as told
 use Rattle.par_tool.specs.declared.answer.Answer.{Answer}
-use Rattle.par_tool.specs.declared.answer.Answer.TheVariants.{Accepted, Compiled, Refused, Usage, Absent, ReadFault, WriteFault, TooLong, NotBuilt, BadClass, BadInputs}
+use Rattle.par_tool.specs.declared.answer.Answer.TheVariants.{Accepted, Compiled, Refused, Usage}
+use Rattle.par_tool.specs.declared.answer.Answer.TheVariants.{Absent, ReadFault, WriteFault}
+use Rattle.par_tool.specs.declared.answer.Answer.TheVariants.{TooLong, NotBuilt, BadClass}
+use Rattle.par_tool.specs.declared.answer.Answer.TheVariants.{BadInputs}
 use Rattle.par_tool.specs.Texts.{status}
 use Rattle.par_tool.specs.Outside.{Text}
-use Rattle.par_tool.specs.Answers.{Scene, Cause, Ends, misses, lacks_words, answers, runs, traces, lacks_memory}
+use Rattle.par_tool.specs.Answers.{Scene, Cause, Ends, misses, lacks_words, answers, runs, traces}
+use Rattle.par_tool.specs.Answers.{lacks_memory}
 
 -- no other answer has this status
 usage_alone : (a : Answer) → status a ≡ 2 → a ≡ Usage
@@ -43,16 +47,23 @@ no_cause s (Trace file inputs bound) (inl c, stand) = c.1
 no_cause s (Trace file inputs bound) (inr c, stand) = c.1.2
 no_cause s (Run main inputs steps) c = c.0
 
-said_so : (number result : ℕ) (lines : List Text) (old new : Option Text) (f g : SinkCounts) → Said number lines result old new f g → result ≡ 2 → number ≡ 2
+said_so : (number result : ℕ) (lines : List Text) (old new : Option Text) (f g : SinkCounts)
+    → Said number lines result old new f g → result ≡ 2 → number ≡ 2
 said_so number result lines old new f g (whole is counts put) two = sym is ∙ two
 said_so number result lines old new f g (cut is at) two = absurd (omega (arith, is, two))
 said_so number result lines old new f g (unsaid is at) two = absurd (omega (arith, is, two))
 
-pub no_usage : (which : Which) (words : List (String Global)) (s : Scene) (result : ℕ) (old new : Option Text) (f g : SinkCounts) (w : Wanted) → Asks which words w → Ends which words s result old new f g → result ≡ 2 → ⊥
+pub no_usage : (which : Which) (words : List (String Global)) (s : Scene) (result : ℕ)
+    (old new : Option Text) (f g : SinkCounts) (w : Wanted) → Asks which words w
+    → Ends which words s result old new f g → result ≡ 2 → ⊥
 no_usage which words s result old new f g w asks (misses none stand said) two = none w asks
-no_usage which words s result old new f g w asks (lacks_words is put stand) two = omega (arith, is, two)
+no_usage which words s result old new f g w asks (lacks_words is put stand) two =
+    omega (arith, is, two)
 no_usage which words s result old new f g w asks (answers v a asked cause said) two =
     no_cause s v (subst (Cause s v) (usage_alone a (said_so _ _ _ _ _ _ _ said.said two)) cause)
-no_usage which words s result old new f g w asks (runs v ran asked cause said) two = no_ending ran.ending (said_so _ _ _ _ _ _ _ said two)
-no_usage which words s result old new f g w asks (traces v tree run asked cause said) two = no_ending (Fine run.ending) (said_so _ _ _ _ _ _ _ said two)
-no_usage which words s result old new f g w asks (lacks_memory v asked is put few stand) two = omega (arith, is, two)
+no_usage which words s result old new f g w asks (runs v ran asked cause said) two =
+    no_ending ran.ending (said_so _ _ _ _ _ _ _ said two)
+no_usage which words s result old new f g w asks (traces v tree run asked cause said) two =
+    no_ending (Fine run.ending) (said_so _ _ _ _ _ _ _ said two)
+no_usage which words s result old new f g w asks (lacks_memory v asked is put few stand) two =
+    omega (arith, is, two)

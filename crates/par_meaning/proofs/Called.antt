@@ -1,5 +1,7 @@
 -- Calls, from the first of their values to their bodies.
-use Rattle.std.proofs.Common.{◌≡◌, ℕ, Bool, suc, ◌+◌, ◌-◌, ◌<◌, List, [], ◌∷◌, ◌++◌, Option, Some, None, length, take, drop, refl, ap, sym, ◌∙◌, subst, append-nil, append_assoc, add-one, arith, length-append}
+use Rattle.std.proofs.Common.{◌≡◌, ℕ, Bool, suc, ◌+◌, ◌-◌, ◌<◌, List, [], ◌∷◌, ◌++◌, Option, Some}
+use Rattle.std.proofs.Common.{None, length, take, drop, refl, ap, sym, ◌∙◌, subst, append-nil}
+use Rattle.std.proofs.Common.{append_assoc, add-one, arith, length-append}
 use Rattle.std.proofs.Math.Path.{fun_ext}
 use Rattle.std.proofs.lemmas.List.{reverse-append, take_at, drop_at}
 use Rattle.std.specs.Borrow.{Bor}
@@ -30,7 +32,8 @@ use Rattle.par_meaning.specs.declared.work.Waiting.TheVariants as waiting
 use Rattle.par_meaning.specs.Frame.{Frame, held, left_by}
 use Rattle.par_meaning.specs.Held.{Held}
 use Rattle.par_meaning.specs.Stored.{holds}
-use Rattle.par_meaning.specs.Work.{Setting, Follows, waits, exit_of, completes, evaluates, evaluates_all, called, call_parts, last_values, run_calls}
+use Rattle.par_meaning.specs.Work.{Setting, Follows, waits, exit_of, completes, evaluates}
+use Rattle.par_meaning.specs.Work.{evaluates_all, called, call_parts, last_values, run_calls}
 use Rattle.par_meaning.specs.Onward.{state, behind, goes_on, onward}
 
 abbrev with_more : Setting → Target → List MVal → List MVal → Task

@@ -1,5 +1,6 @@
 -- What entering an expression leaves to do.
-use Rattle.std.proofs.Common.{◌≡◌, ℕ, ℤ, Bool, suc, List, Option, Some, None, Result, Ok, Err, refl, ap, sym, ◌∙◌}
+use Rattle.std.proofs.Common.{◌≡◌, ℕ, ℤ, Bool, suc, List, Option, Some, None, Result, Ok, Err, refl}
+use Rattle.std.proofs.Common.{ap, sym, ◌∙◌}
 use Rattle.std.specs.Prelude.{IfOk, unwrap_or}
 use Rattle.std.specs.Borrow.{Bor}
 use Rattle.std.specs.declared.boxed.Box.{Box}
@@ -10,7 +11,10 @@ use Rattle.par_typed.specs.declared.expr.TExprKind.TheVariants as expr
 use Rattle.par_typed.specs.Plain as plain
 use Rattle.par_typed.specs.Plain.{TExp, mark}
 use Rattle.par_typed.specs.Shown.{kind_at, mark_of, shown, receiver, all_shown}
-use Rattle.par_typed.proofs.Shown.{shown_int, shown_bool, shown_null, shown_this, shown_new, shown_local, shown_static, shown_field, shown_input, shown_output, shown_call, shown_neg, shown_not, shown_binary, shown_mark}
+use Rattle.par_typed.proofs.Shown.{shown_int, shown_bool, shown_null, shown_this, shown_new}
+use Rattle.par_typed.proofs.Shown.{shown_local, shown_static, shown_field, shown_input}
+use Rattle.par_typed.proofs.Shown.{shown_output, shown_call, shown_neg, shown_not, shown_binary}
+use Rattle.par_typed.proofs.Shown.{shown_mark}
 use Rattle.par_values.specs.declared.value.MVal.{MVal}
 use Rattle.par_values.specs.declared.value.MVal.TheVariants as value
 use Rattle.par_runs.specs.Names.{made_named, first_field}

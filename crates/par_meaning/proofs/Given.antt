@@ -1,5 +1,6 @@
 -- What the lines give to a channel is found by its place, and by its numbers.
-use Rattle.std.proofs.Common.{◌≡◌, ℕ, ℤ, suc, ◌+◌, Bool, true, false, cond, if◌then◌else◌, ◌&&◌, List, [], ◌∷◌, Option, Some, None, refl, ap, sym, ◌∙◌, subst, arith}
+use Rattle.std.proofs.Common.{◌≡◌, ℕ, ℤ, suc, ◌+◌, Bool, true, false, cond, if◌then◌else◌, ◌&&◌}
+use Rattle.std.proofs.Common.{List, [], ◌∷◌, Option, Some, None, refl, ap, sym, ◌∙◌, subst, arith}
 use Rattle.std.specs.Prelude.{slice_get}
 use Rattle.std.specs.Option.{option_map}
 use Rattle.std.specs.Borrow.{Bor}
@@ -15,7 +16,8 @@ use Rattle.par_secrecy.specs.Subject.{given}
 use Rattle.par_secrecy.proofs.Carried.{bytes_swapped}
 use Rattle.par_runs.specs.Names.{Name, channel_of, channel_member}
 use Rattle.par_runs.specs.Source.{given_to}
-use Rattle.par_meaning.specs.Lined.{Names, same_names, is_line, numbers_of, row_of, rows_of, row_shown, rows_shown, named, names_of, names_shown, shown_of}
+use Rattle.par_meaning.specs.Lined.{Names, same_names, is_line, numbers_of, row_of, rows_of}
+use Rattle.par_meaning.specs.Lined.{row_shown, rows_shown, named, names_of, names_shown, shown_of}
 
 -- numbers are those of the line at this place, where places are counted from i on
 abbrev IsAt : List ℤ → List ChannelInput → ℕ → Option ℕ → Type 0

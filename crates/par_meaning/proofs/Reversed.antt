@@ -1,6 +1,8 @@
 -- A list of which the last comes first, as a vector that grows at its end is seen.
-use Rattle.std.proofs.Common.{◌≡◌, ℕ, ◌-◌, ◌≤◌, ◌<◌, List, ◌++◌, length, take, drop, reverse, sym, ap, ◌∙◌, arith, ⊎_elim}
-use Rattle.std.proofs.lemmas.List.{reverse-append, reverse-reverse, length-reverse, length-drop, take-append-drop, drop_at, take_at, drop_all, take_all}
+use Rattle.std.proofs.Common.{◌≡◌, ℕ, ◌-◌, ◌≤◌, ◌<◌, List, ◌++◌, length, take, drop, reverse, sym}
+use Rattle.std.proofs.Common.{ap, ◌∙◌, arith, ⊎_elim}
+use Rattle.std.proofs.lemmas.List.{reverse-append, reverse-reverse, length-reverse, length-drop}
+use Rattle.std.proofs.lemmas.List.{take-append-drop, drop_at, take_at, drop_all, take_all}
 use Rattle.std.proofs.lemmas.Bool.{cases_lt}
 
 -- what is before the last n, and these

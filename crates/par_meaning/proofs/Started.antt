@@ -1,5 +1,6 @@
 -- What entering a statement leaves to do.
-use Rattle.std.proofs.Common.{◌≡◌, ℕ, Bool, suc, ◌<◌, List, [], ◌∷◌, Option, Some, None, length, if◌then◌else◌, refl, ap, sym, ◌∙◌, arith}
+use Rattle.std.proofs.Common.{◌≡◌, ℕ, Bool, suc, ◌<◌, List, [], ◌∷◌, Option, Some, None, length}
+use Rattle.std.proofs.Common.{if◌then◌else◌, refl, ap, sym, ◌∙◌, arith}
 use Rattle.std.specs.Borrow.{Bor}
 use Rattle.std.specs.declared.boxed.Box.{Box}
 use Rattle.std.specs.declared.alloc.Global.{Global}
@@ -9,8 +10,12 @@ use Rattle.par_typed.specs.declared.stmt.TCatch.{TCatch}
 use Rattle.par_typed.specs.declared.stmt.TStmtKind.TheVariants as stmt
 use Rattle.par_typed.specs.Plain as plain
 use Rattle.par_typed.specs.Plain.{TExp, TSta, mark}
-use Rattle.par_typed.specs.Shown.{mark_of, shown, may_shown, does_at, does, otherwise, all_do, all_catch}
-use Rattle.par_typed.proofs.Shown.{shown_mark, does_block, does_if, does_while, does_try, does_return, does_break, does_continue, does_throw, does_open, does_close, does_set_local, does_set_static, does_set_field, does_eval, does_when}
+use Rattle.par_typed.specs.Shown.{mark_of, shown, may_shown, does_at, does, otherwise, all_do}
+use Rattle.par_typed.specs.Shown.{all_catch}
+use Rattle.par_typed.proofs.Shown.{shown_mark, does_block, does_if, does_while, does_try}
+use Rattle.par_typed.proofs.Shown.{does_return, does_break, does_continue, does_throw, does_open}
+use Rattle.par_typed.proofs.Shown.{does_close, does_set_local, does_set_static, does_set_field}
+use Rattle.par_typed.proofs.Shown.{does_eval, does_when}
 use Rattle.par_policy.specs.Numbers.{has}
 use Rattle.par_runs.specs.Meaning.{go, go_else, go_all}
 use Rattle.par_runs.specs.State.{State, open_lock, close_lock}
@@ -29,7 +34,8 @@ use Rattle.par_meaning.specs.declared.work.Waiting.TheVariants as waiting
 use Rattle.par_meaning.specs.Frame.{held}
 use Rattle.par_meaning.specs.Held.{Held, opens, closes}
 use Rattle.par_meaning.specs.Stored.{holds}
-use Rattle.par_meaning.specs.Work.{Setting, Follows, waits, evaluates, performs, performs_else, performs_all, handles, loops, returned, sets_field}
+use Rattle.par_meaning.specs.Work.{Setting, Follows, waits, evaluates, performs, performs_else}
+use Rattle.par_meaning.specs.Work.{performs_all, handles, loops, returned, sets_field}
 use Rattle.par_meaning.specs.Onward.{state, state_of, behind, goes_on, Is, Moves}
 use Rattle.par_meaning.specs.Onward as onward
 

@@ -4,7 +4,8 @@ use Rattle.std.specs.Borrow.{Bor}
 use Rattle.std.specs.Map.{lookup}
 use Rattle.std.proofs.Math.Path.{fun_ext}
 use Rattle.par_values.specs.declared.value.MVal.{MVal}
-use Rattle.par_meaning.specs.Held.{Held, Kept, same_member, same_field, static_in, births_in, field_in, input_in, numbers_left}
+use Rattle.par_meaning.specs.Held.{Held, Kept, same_member, same_field, static_in, births_in}
+use Rattle.par_meaning.specs.Held.{field_in, input_in, numbers_left}
 
 abbrev held_of : (ℕ → ℕ → Option MVal) → (ℕ → ℕ) → (ℕ → ℕ → ℕ → Option MVal)
     → (ℕ → ℕ → Option (List ℤ)) → List ℕ → Held

@@ -1,5 +1,6 @@
 -- What waits takes a completion up.
-use Rattle.std.proofs.Common.{◌≡◌, ℕ, Bool, true, false, if◌then◌else◌, ◌==◌, List, Option, Some, None, refl, ap, sym, ◌∙◌, subst, drop}
+use Rattle.std.proofs.Common.{◌≡◌, ℕ, Bool, true, false, if◌then◌else◌, ◌==◌, List, Option, Some}
+use Rattle.std.proofs.Common.{None, refl, ap, sym, ◌∙◌, subst, drop}
 use Rattle.par_values.specs.declared.value.MVal.{MVal}
 use Rattle.par_values.specs.declared.value.MVal.TheVariants.{Null}
 use Rattle.std.specs.Borrow.{Bor}
@@ -26,8 +27,10 @@ use Rattle.par_meaning.specs.declared.work.Waiting.{Waiting}
 use Rattle.par_meaning.specs.declared.work.Waiting.TheVariants as waiting
 use Rattle.par_meaning.specs.Frame.{Frame, held}
 use Rattle.par_meaning.specs.Stored.{holds}
-use Rattle.par_meaning.specs.Work.{Setting, Follows, waits, exit_of, completes, catch_of, handles, performs}
-use Rattle.par_meaning.specs.Onward.{setting, state, state_of, behind, goes_on, Is, HandsOn, TakesUp}
+use Rattle.par_meaning.specs.Work.{Setting, Follows, waits, exit_of, completes, catch_of, handles}
+use Rattle.par_meaning.specs.Work.{performs}
+use Rattle.par_meaning.specs.Onward.{setting, state, state_of, behind, goes_on, Is, HandsOn}
+use Rattle.par_meaning.specs.Onward.{TakesUp}
 
 -- what waits is known
 pub known : (program : Program) (w w' : Waiting) (e : Completion) (old new : Machine) (on : Then)

@@ -1,5 +1,6 @@
 -- What the program holds but for locals and inputs.
-use Rattle.std.specs.Prelude.{◌≡◌, ℕ, ℤ, ◌+◌, ◌≤◌, Bool, false, is_some, ◌==◌, ◌&&◌, nat_eq, nat_lt, if◌then◌else◌, List, [], Option, Some, None, unwrap_or}
+use Rattle.std.specs.Prelude.{◌≡◌, ℕ, ℤ, ◌+◌, ◌≤◌, Bool, false, is_some, ◌==◌, ◌&&◌, nat_eq, nat_lt}
+use Rattle.std.specs.Prelude.{if◌then◌else◌, List, [], Option, Some, None, unwrap_or}
 use Rattle.std.specs.Borrow.{Bor}
 use Rattle.std.specs.HashMap.{HashMap, get}
 use Rattle.std.specs.declared.hash.FoldHasher.{FoldHasher}

@@ -1,8 +1,10 @@
 -- What is left to do, as the run from here on.
-use Rattle.std.specs.Prelude.{ℕ, suc, Bool, true, false, not, if◌then◌else◌, ◌==◌, List, [], ◌∷◌, ◌++◌, take, drop, reverse, slice_index_or, Option, Some, None}
+use Rattle.std.specs.Prelude.{ℕ, suc, Bool, true, false, not, if◌then◌else◌, ◌==◌, List, [], ◌∷◌}
+use Rattle.std.specs.Prelude.{◌++◌, take, drop, reverse, slice_index_or, Option, Some, None}
 use Rattle.par_lexer.specs.declared.operator.BinOp.{BinOp}
 use Rattle.par_typed.specs.declared.table.Table.{Table}
-use Rattle.par_typed.specs.Plain.{Body, TExp, MayTExp, Absent, Present, TExps, TSta, MayTSta, TStas, TCatches, NoCatch, Catch, mark}
+use Rattle.par_typed.specs.Plain.{Body, TExp, MayTExp, Absent, Present, TExps, TSta, MayTSta, TStas}
+use Rattle.par_typed.specs.Plain.{TCatches, NoCatch, Catch, mark}
 use Rattle.par_typed.specs.Shown.{shown, all_shown, does, otherwise, all_do, all_catch}
 use Rattle.par_values.specs.declared.inputs.ChannelInput.{ChannelInput}
 use Rattle.par_values.specs.declared.value.MVal.{MVal}
@@ -11,9 +13,11 @@ use Rattle.par_values.specs.Areas.{number_of}
 use Rattle.par_values.specs.Arithmetic.{negated}
 use Rattle.par_runs.specs.State.{set_local, set_result}
 use Rattle.par_runs.specs.Tasks as exit
-use Rattle.par_runs.specs.Tasks.{Rest, Rests, Task, nothing, done, gives, fine, change, read, follow, and_then, tested, leave, looped, turn, turns, caught}
+use Rattle.par_runs.specs.Tasks.{Rest, Rests, Task, nothing, done, gives, fine, change, read}
+use Rattle.par_runs.specs.Tasks.{follow, and_then, tested, leave, looped, turn, turns, caught}
 use Rattle.par_runs.specs.Values.{truth, is_true, object_number, decides}
-use Rattle.par_runs.specs.Meaning.{outputs, operates, writes_static, writes_field, Calls, calls, eval, eval_all, go, go_else, go_all, go_catch, method}
+use Rattle.par_runs.specs.Meaning.{outputs, operates, writes_static, writes_field, Calls, calls}
+use Rattle.par_runs.specs.Meaning.{eval, eval_all, go, go_else, go_all, go_catch, method}
 use Rattle.par_runs.specs.Source.{final}
 use Rattle.par_meaning.specs.Frame.{held, left_by}
 use Rattle.par_meaning.specs.declared.work.Completion.{Completion}

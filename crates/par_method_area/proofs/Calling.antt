@@ -1,5 +1,7 @@
 -- Methods by their rows.
-use Rattle.std.proofs.Common.{◌≡◌, ℕ, zero, suc, ◌==◌, Bool, true, false, not, ◌||◌, if◌then◌else◌, List, [], ◌∷◌, length, map, Option, Some, None, is_some, is_none, slice_get, refl, sym, ap, subst, ◌∙◌, codes, arith}
+use Rattle.std.proofs.Common.{◌≡◌, ℕ, zero, suc, ◌==◌, Bool, true, false, not, ◌||◌, if◌then◌else◌}
+use Rattle.std.proofs.Common.{List, [], ◌∷◌, length, map, Option, Some, None, is_some, is_none}
+use Rattle.std.proofs.Common.{slice_get, refl, sym, ap, subst, ◌∙◌, codes, arith}
 use Rattle.std.proofs.lemmas.List.{length-map}
 use Rattle.par_class.specs.declared.file.ClassFile.{ClassFile}
 use Rattle.par_class.specs.declared.file.CodeAttr.{CodeAttr}
@@ -23,7 +25,8 @@ use Rattle.par_steps.specs.Classes.{class_names}
 use Rattle.par_link.specs.declared.entry.Named.{Named}
 use Rattle.par_steps.specs.Links.{channel_of, method_in, method_link, initializer_link}
 use Rattle.par_steps.specs.Links as steps
-use Rattle.par_steps.specs.Methods.{pool_of, methods_of, method_code, method_descriptor, descriptor_in, code_in, code_or_none}
+use Rattle.par_steps.specs.Methods.{pool_of, methods_of, method_code, method_descriptor}
+use Rattle.par_steps.specs.Methods.{descriptor_in, code_in, code_or_none}
 use Rattle.par_actions.specs.declared.fit.Fit.{Fit}
 use Rattle.par_actions.specs.declared.fit.Fit.TheVariants as fit
 use Rattle.par_actions.specs.Leaving.{HasResult}

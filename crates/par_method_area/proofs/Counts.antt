@@ -1,5 +1,7 @@
 -- How many fields stand before others.
-use Rattle.std.proofs.Common.{◌≡◌, ℕ, zero, suc, pos, ◌+◌, ◌*◌, ◌<◌, ◌≤◌, Bool, true, false, cond, List, [], ◌∷◌, ◌++◌, length, take, get_or, replicate, Some, slice_get, refl, ap, subst, ◌∙◌, arith, length-append}
+use Rattle.std.proofs.Common.{◌≡◌, ℕ, zero, suc, pos, ◌+◌, ◌*◌, ◌<◌, ◌≤◌, Bool, true, false, cond}
+use Rattle.std.proofs.Common.{List, [], ◌∷◌, ◌++◌, length, take, get_or, replicate, Some, slice_get}
+use Rattle.std.proofs.Common.{refl, ap, subst, ◌∙◌, arith, length-append}
 use Rattle.std.proofs.lemmas.Grind.{common_steps}
 use Rattle.std.proofs.lemmas.List.{length-map}
 use Rattle.std.proofs.lemmas.Option.{slice_get_within, get_or_from_slice_get}
@@ -8,7 +10,8 @@ use Rattle.std.specs.List.{filter, All}
 use Rattle.par_class.specs.declared.file.ClassFile.{ClassFile}
 use Rattle.par_link.specs.Conditions.{IsSmall}
 use Rattle.par_values.specs.declared.value.MVal.TheVariants.{Int}
-use Rattle.par_steps.specs.Fields.{first_statics, class_statics, all_statics, is_shared, many_of, kind_of}
+use Rattle.par_steps.specs.Fields.{first_statics, class_statics, all_statics, is_shared, many_of}
+use Rattle.par_steps.specs.Fields.{kind_of}
 use Rattle.par_values.specs.Areas.{first_value}
 
 pub filter-few : {A : Type 0} (p : A → Bool) (xs : List A) → length (filter p xs) ≤ length xs

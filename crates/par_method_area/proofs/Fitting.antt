@@ -1,6 +1,7 @@
 -- What arguments have to be, as a descriptor is gone through.
 use Rattle.std.proofs.lemmas.Grind.{common_steps}
-use Rattle.std.proofs.Common.{◌≡◌, ◌==◌, Bool, true, false, cond, arith, List, [], ◌∷◌, ◌++◌, map, Option, Some, None, refl, sym, ap, ◌∙◌, append_assoc}
+use Rattle.std.proofs.Common.{◌≡◌, ◌==◌, Bool, true, false, cond, arith, List, [], ◌∷◌, ◌++◌, map}
+use Rattle.std.proofs.Common.{Option, Some, None, refl, sym, ap, ◌∙◌, append_assoc}
 use Rattle.std.specs.Prelude.{IfSome}
 use Rattle.par_values.specs.declared.kind.Kind.{Kind}
 use Rattle.par_values.specs.Areas.{Name}

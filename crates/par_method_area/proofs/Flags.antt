@@ -1,5 +1,6 @@
 -- The numbers of the classes of exceptions, and a flag for each class.
-use Rattle.std.proofs.Common.{◌≡◌, ℕ, zero, suc, ◌+◌, ◌<◌, ◌==◌, Bool, true, false, cond, ◌||◌, List, [], ◌∷◌, slice_index_or, ap, ◌∙◌, arith}
+use Rattle.std.proofs.Common.{◌≡◌, ℕ, zero, suc, ◌+◌, ◌<◌, ◌==◌, Bool, true, false, cond, ◌||◌}
+use Rattle.std.proofs.Common.{List, [], ◌∷◌, slice_index_or, ap, ◌∙◌, arith}
 use Rattle.std.specs.List.{list_any}
 use Rattle.par_class.specs.declared.file.ClassFile.{ClassFile}
 use Rattle.par_steps.specs.Classes.{is_exception, exceptions_from, exceptions}

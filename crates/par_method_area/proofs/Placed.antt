@@ -1,5 +1,7 @@
 -- Fields by their rows.
-use Rattle.std.proofs.Common.{◌≡◌, ℕ, ◌+◌, ◌<◌, ◌^◌, Bool, true, false, if◌then◌else◌, List, length, take, Option, Some, None, slice_get, refl, sym, subst, ◌∙◌, codes, arith}
+use Rattle.std.proofs.Common.{◌≡◌, ℕ, ◌+◌, ◌<◌, ◌^◌, Bool, true, false, if◌then◌else◌, List, length}
+use Rattle.std.proofs.Common.{take, Option, Some, None, slice_get, refl, sym, subst, ◌∙◌, codes}
+use Rattle.std.proofs.Common.{arith}
 use Rattle.std.proofs.lemmas.Bool.{and_parts}
 use Rattle.std.proofs.lemmas.Option.{slice_get_within}
 use Rattle.par_class.specs.declared.file.ClassFile.{ClassFile}

@@ -1,5 +1,6 @@
 -- The kinds that descriptors say have classes of some name.
-use Rattle.std.proofs.Common.{◌≡◌, ℕ, zero, suc, ◌+◌, ◌-◌, Bool, true, false, cond, ◌==◌, List, [], ◌∷◌, length, take, drop, Option, Some, None, is_some, refl}
+use Rattle.std.proofs.Common.{◌≡◌, ℕ, zero, suc, ◌+◌, ◌-◌, Bool, true, false, cond, ◌==◌, List, []}
+use Rattle.std.proofs.Common.{◌∷◌, length, take, drop, Option, Some, None, is_some, refl}
 use Rattle.std.specs.Option.{option_map}
 use Rattle.std.specs.List.{position, AllByRecursion}
 use Rattle.std.specs.Str.{bytes_eq}
@@ -7,7 +8,10 @@ use Rattle.par_lexer.specs.Names.{is_name}
 use Rattle.par_values.specs.declared.kind.Kind.{Kind}
 use Rattle.par_values.specs.declared.kind.Kind.TheVariants.{Number, Object, AnyObject, Anything}
 use Rattle.par_single.specs.declared.descriptor.Signature.{Signature}
-use Rattle.par_single.specs.Descriptors.{Text, is_number, ends_name, object_to, kind_at, alone, field_kind, no_kinds, kind_before, kinds_from, kinds_in, kinds_at, result_kind, signature_with, signature_of, method_signature}
+use Rattle.par_single.specs.Descriptors.{Text, is_number, ends_name, object_to, kind_at, alone}
+use Rattle.par_single.specs.Descriptors.{field_kind, no_kinds, kind_before, kinds_from, kinds_in}
+use Rattle.par_single.specs.Descriptors.{kinds_at, result_kind, signature_with, signature_of}
+use Rattle.par_single.specs.Descriptors.{method_signature}
 use Rattle.par_single.specs.Links.{kind_or_any, kind_said, signature_or_none, signature_said}
 use Rattle.par_method_area.specs.Known.{IsTold}
 use Rattle.par_method_area.proofs.Taking.{IsNamed}

@@ -1,5 +1,6 @@
 -- Instructions by the rows of methods.
-use Rattle.std.proofs.Common.{◌≡◌, ℕ, ◌≤◌, Bool, true, List, [], length, Option, Some, None, slice_get, slice_index_or, sym, ap, subst, arith}
+use Rattle.std.proofs.Common.{◌≡◌, ℕ, ◌≤◌, Bool, true, List, [], length, Option, Some, None}
+use Rattle.std.proofs.Common.{slice_get, slice_index_or, sym, ap, subst, arith}
 use Rattle.std.proofs.Math.Seq.{drop-nil}
 use Rattle.std.proofs.lemmas.Bool.{leb-true}
 use Rattle.par_class.specs.declared.file.ClassFile.{ClassFile}

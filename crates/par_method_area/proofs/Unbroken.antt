@@ -1,5 +1,7 @@
 -- What is known of class files that break no rule of linking.
-use Rattle.std.proofs.Common.{◌≡◌, ℕ, zero, suc, ◌+◌, Bool, true, false, not, ◌||◌, List, [], ◌∷◌, ◌++◌, Option, Some, None, slice_get, is_some, refl, sym, ap, subst, ◌∙◌, codes, append_assoc}
+use Rattle.std.proofs.Common.{◌≡◌, ℕ, zero, suc, ◌+◌, Bool, true, false, not, ◌||◌, List, [], ◌∷◌}
+use Rattle.std.proofs.Common.{◌++◌, Option, Some, None, slice_get, is_some, refl, sym, ap, subst}
+use Rattle.std.proofs.Common.{◌∙◌, codes, append_assoc}
 use Rattle.std.proofs.lemmas.List.Folds.{list_any-append}
 use Rattle.std.proofs.lemmas.Option.{slice_get_within, get_or_from_slice_get}
 use Rattle.std.specs.List.{list_any, position}
@@ -14,7 +16,8 @@ use Rattle.par_link.proofs.Passing.{eq_turned}
 use Rattle.par_lexer.specs.Names.{IsName}
 use Rattle.par_link.specs.Conditions.{IsSmall}
 use Rattle.par_link.specs.Linked.{AreLinked}
-use Rattle.par_link.specs.Order.{at, in_class, member_fault, description_fault, constant_fault, code_fault, file_fault, first_in, list_fault}
+use Rattle.par_link.specs.Order.{at, in_class, member_fault, description_fault, constant_fault}
+use Rattle.par_link.specs.Order.{code_fault, file_fault, first_in, list_fault}
 use Rattle.par_link.specs.Rules.{repeated_class, wrong_field, wrong_method, earlier}
 use Rattle.par_link.specs.Firsts.{first_repeated}
 use Rattle.par_single.specs.Members.{own_name, own_names}

@@ -1,5 +1,6 @@
 -- What is known of what is handed out, by what an index names.
-use Rattle.std.specs.Prelude.{◌≡◌, ℕ, ℤ, ◌<◌, ◌≤◌, ◌^◌, Bool, true, false, List, [], length, Option, Some, None, is_none, is_some, slice_index_or, codes}
+use Rattle.std.specs.Prelude.{◌≡◌, ℕ, ℤ, ◌<◌, ◌≤◌, ◌^◌, Bool, true, false, List, [], length, Option}
+use Rattle.std.specs.Prelude.{Some, None, is_none, is_some, slice_index_or, codes}
 use Rattle.std.specs.Option.{option_and_then}
 use Rattle.std.specs.Str.{bytes_eq}
 use Rattle.par_lexer.specs.Names.{IsName}

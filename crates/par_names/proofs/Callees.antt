@@ -19,7 +19,8 @@ unfolding earlier_callee
 only_method method = refl
 
 pub of_both : (channel : ChannelDecl) (method : Method)
-    → earlier_callee (Some channel) (Some method) ≡ (if nat_lt channel.id.at method.id.at then Some true else Some method.is_static)
+    → earlier_callee (Some channel) (Some method)
+    ≡ (if nat_lt channel.id.at method.id.at then Some true else Some method.is_static)
 unfolding earlier_callee
 of_both channel method = refl
 

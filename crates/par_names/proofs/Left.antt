@@ -1,5 +1,6 @@
 -- What is left of the items of a list, as one more is gone over.
-use Rattle.std.proofs.Common.{◌≡◌, ℕ, suc, ◌+◌, ◌<◌, ◌≤◌, List, [], ◌∷◌, ◌++◌, length, take, drop, get_or, refl, sym, ap, ◌∙◌, arith, drop-cons}
+use Rattle.std.proofs.Common.{◌≡◌, ℕ, suc, ◌+◌, ◌<◌, ◌≤◌, List, [], ◌∷◌, ◌++◌, length, take, drop}
+use Rattle.std.proofs.Common.{get_or, refl, sym, ap, ◌∙◌, arith, drop-cons}
 use Rattle.std.proofs.lemmas.List.{drop_all}
 use Rattle.par_tree.specs.declared.expr.Expr.{Expr}
 use Rattle.par_tree.specs.declared.stmt.Stmt.{Stmt}
@@ -10,7 +11,8 @@ use Rattle.par_tree.proofs.Shown.{handler_is}
 use Rattle.par_names.specs.Stmts.{all_caught, caught}
 use Rattle.par_names.proofs.Noted.{more}
 
-dropped : {A : Type 0} (xs : List A) (i : ℕ) (x : A) → i < length xs → x ≡ get_or xs i x → drop i xs ≡ x ∷ drop (i + 1) xs
+dropped : {A : Type 0} (xs : List A) (i : ℕ) (x : A) → i < length xs → x ≡ get_or xs i x
+    → drop i xs ≡ x ∷ drop (i + 1) xs
 dropped xs i x within is =
     let next : suc i ≡ i + 1 = omega arith in
     drop-cons xs i x within ∙ ap (λ y. y ∷ drop (suc i) xs) (sym is) ∙ ap (λ k. x ∷ drop k xs) next
@@ -40,11 +42,16 @@ pub no_more_caught : all_caught NoCatch ≡ []
 unfolding all_caught
 no_more_caught = refl
 
-caught_with : (cs : List CatchTree) (c : CatchTree) → all_caught (all_catch (cs ++ c ∷ [])) ≡ all_caught (all_catch cs) ++ (out-CatchTree c).class ∷ []
+caught_with : (cs : List CatchTree) (c : CatchTree)
+    → all_caught (all_catch (cs ++ c ∷ []))
+    ≡ all_caught (all_catch cs) ++ (out-CatchTree c).class ∷ []
 unfolding all_caught
 caught_with [] c = ap (λ h. caught h ∷ []) (handler_is c)
 caught_with (x ∷ cs) c = ap (λ ids. caught (handler x) ∷ ids) (caught_with cs c)
 
-pub one_more_caught : (cs : List CatchTree) (i : ℕ) (c : CatchTree) → i < length cs → c ≡ get_or cs i c
-    → all_caught (all_catch (take (i + 1) cs)) ≡ all_caught (all_catch (take i cs)) ++ (out-CatchTree c).class ∷ []
-one_more_caught cs i c within is = ap (λ xs. all_caught (all_catch xs)) (more cs i c within is) ∙ caught_with (take i cs) c
+pub one_more_caught : (cs : List CatchTree) (i : ℕ) (c : CatchTree) → i < length cs
+    → c ≡ get_or cs i c
+    → all_caught (all_catch (take (i + 1) cs))
+    ≡ all_caught (all_catch (take i cs)) ++ (out-CatchTree c).class ∷ []
+one_more_caught cs i c within is =
+    ap (λ xs. all_caught (all_catch xs)) (more cs i c within is) ∙ caught_with (take i cs) c

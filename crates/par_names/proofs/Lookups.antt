@@ -1,5 +1,6 @@
 -- A declaration is found where its name stands first.
-use Rattle.std.proofs.Common.{◌≡◌, ℕ, zero, suc, Bool, true, false, cond, List, [], ◌∷◌, map, length, Option, Some, None, refl, sym, ap, ◌∙◌, arith}
+use Rattle.std.proofs.Common.{◌≡◌, ℕ, zero, suc, Bool, true, false, cond, List, [], ◌∷◌, map}
+use Rattle.std.proofs.Common.{length, Option, Some, None, refl, sym, ap, ◌∙◌, arith}
 use Rattle.std.proofs.lemmas.Grind.{common_steps}
 use Rattle.std.proofs.lemmas.Bool.Decides.{nat_tests}
 use Rattle.std.specs.Prelude.{slice_get, nat_lt}
@@ -17,27 +18,34 @@ abbrev pub at : {A : Type 0} → List A → Option ℕ → Option A
 at xs None = None
 at xs (Some i) = slice_get xs i
 
-at-place : {A : Type 0} (xs : List A) (k : ℕ) (b : Bool) → nat_lt k (length xs) ≡ b → slice_get xs k ≡ at xs (cond b (Some k) None)
+at-place : {A : Type 0} (xs : List A) (k : ℕ) (b : Bool) → nat_lt k (length xs) ≡ b
+    → slice_get xs k ≡ at xs (cond b (Some k) None)
 at-place xs k true e = refl
 at-place xs k false e = slice_get_past xs k (grind (arith, nat_tests))
 
 pub find-place : {A : Type 0} (p : A → Bool) (xs : List A) → find p xs ≡ at xs (position p xs)
-find-place p xs = find_at p xs ∙ at-place xs (position_or_len p xs) (nat_lt (position_or_len p xs) (length xs)) refl
+find-place p xs =
+    find_at p xs ∙ at-place xs (position_or_len p xs)
+    (nat_lt (position_or_len p xs) (length xs)) refl
 
 -- by a test of what is made of each item
-pub found : {A B : Type 0} (p : B → Bool) (f : A → B) (xs : List A) (o : Option ℕ) → o ≡ position p (map f xs) → find (λ x. p (f x)) xs ≡ at xs o
+pub found : {A B : Type 0} (p : B → Bool) (f : A → B) (xs : List A) (o : Option ℕ)
+    → o ≡ position p (map f xs) → find (λ x. p (f x)) xs ≡ at xs o
 found p f xs o is = find-place (λ x. p (f x)) xs ∙ ap (at xs) (sym (is ∙ position-map p f xs))
 
-pub map-map : {A B C : Type 0} (f : B → C) (g : A → B) (xs : List A) → map f (map g xs) ≡ map (λ x. f (g x)) xs
+pub map-map : {A B C : Type 0} (f : B → C) (g : A → B) (xs : List A)
+    → map f (map g xs) ≡ map (λ x. f (g x)) xs
 map-map f g [] = refl
 map-map f g (x ∷ xs) = ap (λ ys. f (g x) ∷ ys) (map-map f g xs)
 
-slice_get-map : {A B : Type 0} (g : A → B) (xs : List A) (i : ℕ) → option_map g (slice_get xs i) ≡ slice_get (map g xs) i
+slice_get-map : {A B : Type 0} (g : A → B) (xs : List A) (i : ℕ)
+    → option_map g (slice_get xs i) ≡ slice_get (map g xs) i
 slice_get-map g [] i = refl
 slice_get-map g (x ∷ xs) zero = refl
 slice_get-map g (x ∷ xs) (suc i) = slice_get-map g xs i
 
-pub copied-map : {A B : Type 0} (g : A → B) (r : Option (Bor A)) → option_map (λ b. g b.now) r ≡ option_map g (option_copied r)
+pub copied-map : {A B : Type 0} (g : A → B) (r : Option (Bor A))
+    → option_map (λ b. g b.now) r ≡ option_map g (option_copied r)
 copied-map g None = refl
 copied-map g (Some b) = refl
 
@@ -46,7 +54,8 @@ copied-is None = refl
 copied-is (Some b) = refl
 
 -- what is made of the item at a place
-pub seen-at : {A B : Type 0} (g : A → B) (xs : List A) (r : Option (Bor A)) (i : ℕ) → option_copied r ≡ slice_get xs i
+pub seen-at : {A B : Type 0} (g : A → B) (xs : List A) (r : Option (Bor A)) (i : ℕ)
+    → option_copied r ≡ slice_get xs i
     → option_map (λ b. g b.now) r ≡ slice_get (map g xs) i
 seen-at g xs r i is = copied-map g r ∙ ap (option_map g) is ∙ slice_get-map g xs i
 

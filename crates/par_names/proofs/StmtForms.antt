@@ -3,9 +3,11 @@ use Rattle.std.proofs.Common.{◌≡◌, ℕ, ◌≤◌, ◌++◌, List, [], len
 use Rattle.std.proofs.lemmas.List.{take-append-le, length-take}
 use Rattle.par_tree.specs.declared.ident.Ident.{Ident}
 use Rattle.par_tree.specs.declared.policy.LockTree.{LockTree}
-use Rattle.par_tree.specs.Plain.{Exp, MayExp, Local, Sta, Block, If, While, Try, Return, Break, Continue, Throw, Open, Close}
+use Rattle.par_tree.specs.Plain.{Exp, MayExp, Local, Sta, Block, If, While, Try, Return, Break}
+use Rattle.par_tree.specs.Plain.{Continue, Throw, Open, Close}
 use Rattle.par_tree.specs.Plain.{Declare, Assign, Do, When, Braces, In, MayBraces, NoBraces, Some}
-use Rattle.par_tree.specs.Plain.{Else, NoElse, Otherwise, Stas, End, Then, Catches, NoCatch, Catch, Handler, On}
+use Rattle.par_tree.specs.Plain.{Else, NoElse, Otherwise, Stas, End, Then, Catches, NoCatch, Catch}
+use Rattle.par_tree.specs.Plain.{Handler, On}
 use Rattle.par_tree.proofs.Shown.{shows, doings}
 use Rattle.par_typed.proofs.First.{firsts}
 use Rattle.par_names.specs.Declarations.{doubles}
@@ -16,23 +18,30 @@ use Rattle.par_names.specs.Stmts.{stmt_faults, braces_faults, may_braces_faults,
 use Rattle.par_names.specs.Stmts.{stmts_faults, catches_faults, handler_faults}
 
 module _ (v : View) (home : Home) (ls : List (List ℕ)) where
-  pub in_block : (b : Braces) (at : ℕ) → stmt_faults v home ls (Block b at) ≡ braces_faults v home ls b
+  pub in_block : (b : Braces) (at : ℕ)
+      → stmt_faults v home ls (Block b at) ≡ braces_faults v home ls b
   unfolding stmt_faults
   in_block b at = refl
 
-  pub in_if : (e : Exp) (b : Braces) (o : Else) (at : ℕ) → stmt_faults v home ls (If e b o at) ≡ expr_faults v home ls e ++ braces_faults v home ls b ++ else_faults v home ls o
+  pub in_if : (e : Exp) (b : Braces) (o : Else) (at : ℕ)
+      → stmt_faults v home ls (If e b o at)
+      ≡ expr_faults v home ls e ++ braces_faults v home ls b ++ else_faults v home ls o
   unfolding stmt_faults
   in_if e b o at = refl
 
-  pub in_while : (e : Exp) (b : Braces) (at : ℕ) → stmt_faults v home ls (While e b at) ≡ expr_faults v home ls e ++ braces_faults v home ls b
+  pub in_while : (e : Exp) (b : Braces) (at : ℕ)
+      → stmt_faults v home ls (While e b at) ≡ expr_faults v home ls e ++ braces_faults v home ls b
   unfolding stmt_faults
   in_while e b at = refl
 
-  pub in_try : (b : Braces) (cs : Catches) (at : ℕ) → stmt_faults v home ls (Try b cs at) ≡ braces_faults v home ls b ++ doubles (all_caught cs) ++ catches_faults v home ls cs
+  pub in_try : (b : Braces) (cs : Catches) (at : ℕ)
+      → stmt_faults v home ls (Try b cs at)
+      ≡ braces_faults v home ls b ++ doubles (all_caught cs) ++ catches_faults v home ls cs
   unfolding stmt_faults
   in_try b cs at = refl
 
-  pub in_return : (e : MayExp) (at : ℕ) → stmt_faults v home ls (Return e at) ≡ value_faults v home ls e
+  pub in_return : (e : MayExp) (at : ℕ)
+      → stmt_faults v home ls (Return e at) ≡ value_faults v home ls e
   unfolding stmt_faults
   in_return e at = refl
 
@@ -44,23 +53,28 @@ module _ (v : View) (home : Home) (ls : List (List ℕ)) where
   unfolding stmt_faults
   in_continue at = refl
 
-  pub in_throw : (class : Ident) (at : ℕ) → stmt_faults v home ls (Throw class at) ≡ class_fault v class
+  pub in_throw : (class : Ident) (at : ℕ)
+      → stmt_faults v home ls (Throw class at) ≡ class_fault v class
   unfolding stmt_faults
   in_throw class at = refl
 
-  pub in_open : (lock : LockTree) (at : ℕ) → stmt_faults v home ls (Open lock at) ≡ lock_faults v lock
+  pub in_open : (lock : LockTree) (at : ℕ)
+      → stmt_faults v home ls (Open lock at) ≡ lock_faults v lock
   unfolding stmt_faults
   in_open lock at = refl
 
-  pub in_close : (lock : LockTree) (at : ℕ) → stmt_faults v home ls (Close lock at) ≡ lock_faults v lock
+  pub in_close : (lock : LockTree) (at : ℕ)
+      → stmt_faults v home ls (Close lock at) ≡ lock_faults v lock
   unfolding stmt_faults
   in_close lock at = refl
 
-  pub in_local : (local : Local) (at : ℕ) → stmt_faults v home ls (Declare local at) ≡ local_faults v home ls local
+  pub in_local : (local : Local) (at : ℕ)
+      → stmt_faults v home ls (Declare local at) ≡ local_faults v home ls local
   unfolding stmt_faults
   in_local local at = refl
 
-  pub in_assign : (a b : Exp) (at : ℕ) → stmt_faults v home ls (Assign a b at) ≡ expr_faults v home ls a ++ expr_faults v home ls b
+  pub in_assign : (a b : Exp) (at : ℕ)
+      → stmt_faults v home ls (Assign a b at) ≡ expr_faults v home ls a ++ expr_faults v home ls b
   unfolding stmt_faults
   in_assign a b at = refl
 
@@ -68,11 +82,14 @@ module _ (v : View) (home : Home) (ls : List (List ℕ)) where
   unfolding stmt_faults
   in_do e at = refl
 
-  pub in_when : (lock : LockTree) (b : Braces) (o : MayBraces) (at : ℕ) → stmt_faults v home ls (When lock b o at) ≡ lock_faults v lock ++ braces_faults v home ls b ++ may_braces_faults v home ls o
+  pub in_when : (lock : LockTree) (b : Braces) (o : MayBraces) (at : ℕ)
+      → stmt_faults v home ls (When lock b o at)
+      ≡ lock_faults v lock ++ braces_faults v home ls b ++ may_braces_faults v home ls o
   unfolding stmt_faults
   in_when lock b o at = refl
 
-  pub in_braces : (ss : Stas) (at : ℕ) → braces_faults v home ls (In ss at) ≡ stmts_faults v home ls ss
+  pub in_braces : (ss : Stas) (at : ℕ)
+      → braces_faults v home ls (In ss at) ≡ stmts_faults v home ls ss
   unfolding braces_faults
   in_braces ss at = refl
 
@@ -80,7 +97,8 @@ module _ (v : View) (home : Home) (ls : List (List ℕ)) where
   unfolding may_braces_faults
   in_no_braces = refl
 
-  pub in_some_braces : (b : Braces) → may_braces_faults v home ls (Some b) ≡ braces_faults v home ls b
+  pub in_some_braces : (b : Braces)
+      → may_braces_faults v home ls (Some b) ≡ braces_faults v home ls b
   unfolding may_braces_faults
   in_some_braces b = refl
 
@@ -96,7 +114,9 @@ module _ (v : View) (home : Home) (ls : List (List ℕ)) where
   unfolding stmts_faults
   in_end = refl
 
-  pub in_then : (s : Sta) (ss : Stas) → stmts_faults v home ls (Then s ss) ≡ stmt_faults v home ls s ++ stmts_faults v home (declares s ls) ss
+  pub in_then : (s : Sta) (ss : Stas)
+      → stmts_faults v home ls (Then s ss)
+      ≡ stmt_faults v home ls s ++ stmts_faults v home (declares s ls) ss
   unfolding stmts_faults
   in_then s ss = refl
 
@@ -104,18 +124,51 @@ module _ (v : View) (home : Home) (ls : List (List ℕ)) where
   unfolding catches_faults
   in_no_catch = refl
 
-  pub in_catch : (c : Handler) (cs : Catches) → catches_faults v home ls (Catch c cs) ≡ handler_faults v home ls c ++ catches_faults v home ls cs
+  pub in_catch : (c : Handler) (cs : Catches)
+      → catches_faults v home ls (Catch c cs)
+      ≡ handler_faults v home ls c ++ catches_faults v home ls cs
   unfolding catches_faults
   in_catch c cs = refl
 
-  pub in_on : (class name : Ident) (b : Braces) → handler_faults v home ls (On class name b) ≡ class_fault v class ++ taken_fault ls name ++ braces_faults v home ls b
+  pub in_on : (class name : Ident) (b : Braces)
+      → handler_faults v home ls (On class name b)
+      ≡ class_fault v class ++ taken_fault ls name ++ braces_faults v home ls b
   unfolding handler_faults
   in_on class name b = refl
 
-pub ruleset stmts = (in_block, in_if, in_while, in_try, in_return, in_break, in_continue, in_throw, in_open, in_close, in_local, in_assign, in_do, in_when, in_braces, in_no_braces, in_some_braces, in_no_else, in_else, in_end, in_then, in_no_catch, in_catch, in_on, shows, doings, firsts)
+pub ruleset stmts = (
+  in_block,
+  in_if,
+  in_while,
+  in_try,
+  in_return,
+  in_break,
+  in_continue,
+  in_throw,
+  in_open,
+  in_close,
+  in_local,
+  in_assign,
+  in_do,
+  in_when,
+  in_braces,
+  in_no_braces,
+  in_some_braces,
+  in_no_else,
+  in_else,
+  in_end,
+  in_then,
+  in_no_catch,
+  in_catch,
+  in_on,
+  shows,
+  doings,
+  firsts,
+)
 
 -- what was in scope stays there
-pub declares_keeps : (s : Sta) (ls old : List (List ℕ)) → take (length old) ls ≡ old → take (length old) (declares s ls) ≡ old
+pub declares_keeps : (s : Sta) (ls old : List (List ℕ)) → take (length old) ls ≡ old
+    → take (length old) (declares s ls) ≡ old
 declares_keeps (Declare local at) ls old h =
     let same : length (take (length old) ls) ≡ length old = ap length h in
     let le : length old ≤ length ls = omega (arith, length-take (length old) ls, same) in

@@ -10,7 +10,8 @@ pub record AreLocks (decls : List LockDecl) (index : NameIndex) : Type 0 where
 
 pub record AreMembers (decl : ClassDecl) (f c m : NameIndex) : Type 0 where
   pub fields : texts f.names.items ≡ map (λ id. id.name) (map (λ field. field.id) decl.fields)
-  pub channels : texts c.names.items ≡ map (λ id. id.name) (map (λ channel. channel.id) decl.channels)
+  pub channels : texts c.names.items
+      ≡ map (λ id. id.name) (map (λ channel. channel.id) decl.channels)
   pub methods : texts m.names.items ≡ map (λ id. id.name) (map (λ method. method.id) decl.methods)
 
 pub record AreClasses (decls : List ClassDecl) (index : NameIndex) : Type 0 where

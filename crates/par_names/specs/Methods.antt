@@ -11,7 +11,8 @@ use Rattle.par_typed.specs.declared.refusal.Refusal.{Refusal}
 use Rattle.par_typed.specs.First.{when, broken}
 use Rattle.par_names.specs.Declarations.{doubles}
 use Rattle.par_names.specs.Members.{callee_ids}
-use Rattle.par_names.specs.Policies.{View, policy_faults, may_policy_faults, lock_faults, class_fault, type_fault, result_fault}
+use Rattle.par_names.specs.Policies.{View, policy_faults, may_policy_faults, lock_faults}
+use Rattle.par_names.specs.Policies.{class_fault, type_fault, result_fault}
 use Rattle.par_names.specs.Stmts.{braces_faults}
 
 -- 108: an inferred field of the objects of a class whose birth policy is not written

@@ -7,4 +7,5 @@ use Rattle.par_names.specs.Program.{name_faults}
 
 -- rules on names are broken at places of the tree, or at its beginning
 abbrev pub NamesAreBrokenWithin : Type 0
-NamesAreBrokenWithin = (m : ℕ) (source : Source) → IsWithin m source → AreBrokenWithin m (name_faults source)
+NamesAreBrokenWithin =
+    (m : ℕ) (source : Source) → IsWithin m source → AreBrokenWithin m (name_faults source)

@@ -1,5 +1,6 @@
 -- The rules on names in policies, locks and types.
-use Rattle.std.specs.Prelude.{ℕ, true, not, nat_eq, List, [], ◌++◌, flat_map, length, Option, Some, None}
+use Rattle.std.specs.Prelude.{ℕ, true, not, nat_eq, List, [], ◌++◌, flat_map, length, Option, Some}
+use Rattle.std.specs.Prelude.{None}
 use Rattle.std.specs.Option.{is_some}
 use Rattle.par_index.specs.Texts.{has}
 use Rattle.par_tree.specs.declared.ident.Ident.{Ident}

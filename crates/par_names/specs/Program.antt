@@ -1,5 +1,6 @@
 -- The rules on names of a whole program.
-use Rattle.std.specs.Prelude.{ℕ, true, not, ◌&&◌, nat_eq, List, [], ◌∷◌, ◌++◌, flat_map, map, length, drop, codes}
+use Rattle.std.specs.Prelude.{ℕ, true, not, ◌&&◌, nat_eq, List, [], ◌∷◌, ◌++◌, flat_map, map}
+use Rattle.std.specs.Prelude.{length, drop, codes}
 use Rattle.std.specs.Option.{is_none}
 use Rattle.std.specs.List.{filter}
 use Rattle.std.specs.Str.{bytes_eq}

@@ -1,5 +1,6 @@
 -- The rules of statements, and lists of them from behind.
-use Rattle.std.proofs.Common.{◌≡◌, ℕ, suc, ◌-◌, ◌<◌, ◌≤◌, List, length, get_or, drop, refl, sym, ap, ◌∙◌, arith}
+use Rattle.std.proofs.Common.{◌≡◌, ℕ, suc, ◌-◌, ◌<◌, ◌≤◌, List, length, get_or, drop, refl, sym, ap}
+use Rattle.std.proofs.Common.{◌∙◌, arith}
 use Rattle.std.specs.Prelude.{Option, Bool, cond}
 use Rattle.par_nodes.specs.declared.rule.Kind as code
 use Rattle.par_nodes.specs.Possible.{among}
@@ -12,8 +13,10 @@ use Rattle.par_rules.specs.Kinds as kinds
 use Rattle.par_rules.specs.Kinds.{Next, Normal, Loop, Catches}
 use Rattle.par_bits.specs.Sets.{none, adding}
 use Rattle.par_rules.specs.Declares.{Declares}
-use Rattle.par_rules.specs.Rules.{From, Entry, After, Tested, Raised, Opened, Shut, Assigned, Node, node, Rules, Done, Part, Test, Heads, Leaves, goes_on, can}
-use Rattle.par_rules.specs.Body.{past, tested, null_test, if_not, is_forever, exp, sta, stas, catches, caught}
+use Rattle.par_rules.specs.Rules.{From, Entry, After, Tested, Raised, Opened, Shut, Assigned, Node}
+use Rattle.par_rules.specs.Rules.{node, Rules, Done, Part, Test, Heads, Leaves, goes_on, can}
+use Rattle.par_rules.specs.Body.{past, tested, null_test, if_not, is_forever, exp, sta, stas}
+use Rattle.par_rules.specs.Body.{catches, caught}
 use Rattle.par_nodes.specs.Starts.{start_at, behind_value, goes_first, else_rules, catch_start}
 use Rattle.par_nodes.proofs.Rows.{drop_at, drop_all, start_past}
 

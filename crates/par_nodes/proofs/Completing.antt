@@ -1,9 +1,13 @@
 -- Completions in lists.
-use Rattle.std.proofs.Common.{◌≡◌, ℕ, zero, suc, ◌+◌, ◌-◌, ◌<◌, ◌≤◌, Bool, true, false, ◌||◌, ◌&&◌, not, Option, Some, None, List, [], ◌∷◌, ◌++◌, length, get_or, drop, drop-cons, add-one, refl, sym, ap, ◌∙◌, arith}
+use Rattle.std.proofs.Common.{◌≡◌, ℕ, zero, suc, ◌+◌, ◌-◌, ◌<◌, ◌≤◌, Bool, true, false, ◌||◌, ◌&&◌}
+use Rattle.std.proofs.Common.{not, Option, Some, None, List, [], ◌∷◌, ◌++◌, length, get_or, drop}
+use Rattle.std.proofs.Common.{drop-cons, add-one, refl, sym, ap, ◌∙◌, arith}
 use Rattle.std.proofs.lemmas.Bool.{eqb-true}
 use Rattle.std.proofs.Math.Path.{fun_ext}
-use Rattle.par_rules.specs.Kinds.{Kind, Normal, Return, Break, Continue, Throw, same, Absorber, absorbed, Next}
-use Rattle.par_rules.specs.Rules.{From, Worth, Node, node, Rules, Done, Part, Test, Heads, Leaves, Worths, part_can, comes, can, can_by}
+use Rattle.par_rules.specs.Kinds.{Kind, Normal, Return, Break, Continue, Throw, same, Absorber}
+use Rattle.par_rules.specs.Kinds.{absorbed, Next}
+use Rattle.par_rules.specs.Rules.{From, Worth, Node, node, Rules, Done, Part, Test, Heads, Leaves}
+use Rattle.par_rules.specs.Rules.{Worths, part_can, comes, can, can_by}
 use Rattle.par_nodes.specs.declared.rule.Kind as code
 use Rattle.par_nodes.specs.declared.rule.Origin.{Origin}
 use Rattle.par_nodes.specs.declared.rule.Start.TheVariants as start
@@ -16,9 +20,11 @@ use Rattle.par_nodes.specs.declared.rule.Worth as tree_worth
 use Rattle.par_nodes.specs.declared.rule.Node as tree_node
 use Rattle.par_nodes.specs.declared.rule.Rules as tree
 use Rattle.par_nodes.specs.declared.rule.Rules.TheVariants as rule
-use Rattle.par_nodes.proofs.Forms.{seen_done, seen_part, seen_test, seen_heads, seen_leaves, seen_worths}
+use Rattle.par_nodes.proofs.Forms.{seen_done, seen_part, seen_test, seen_heads, seen_leaves}
+use Rattle.par_nodes.proofs.Forms.{seen_worths}
 use Rattle.par_nodes.specs.Seen.{seen_absorber, seen_worth, seen_node, seen_rules}
-use Rattle.par_nodes.specs.Seen.{seen_kind, seen_start, seen_origin, assigned, tested, raised, shut, opened}
+use Rattle.par_nodes.specs.Seen.{seen_kind, seen_start, seen_origin, assigned, tested, raised, shut}
+use Rattle.par_nodes.specs.Seen.{opened}
 use Rattle.par_nodes.specs.Possible.{among, either, if_so, apart, cans, parts_can}
 
 or_false : (a : Bool) → (a || false) ≡ a

@@ -1,5 +1,6 @@
 -- Lists, from behind.
-use Rattle.std.proofs.Common.{◌≡◌, ℕ, zero, suc, ◌-◌, ◌<◌, ◌≤◌, List, [], ◌∷◌, length, get_or, drop, refl, sym, subst, ap, ◌∙◌, arith}
+use Rattle.std.proofs.Common.{◌≡◌, ℕ, zero, suc, ◌-◌, ◌<◌, ◌≤◌, List, [], ◌∷◌, length, get_or, drop}
+use Rattle.std.proofs.Common.{refl, sym, subst, ap, ◌∙◌, arith}
 use Rattle.par_typed.specs.Plain as typed
 use Rattle.par_typed.specs.Plain.{Mark, MayTExp, TExps}
 use Rattle.par_typed.specs.declared.table.ThrowInfo.{ThrowInfo}
@@ -10,7 +11,9 @@ use Rattle.std.specs.Prelude.{Option}
 use Rattle.par_typed.specs.declared.expr.TExprKind.{TExprKind}
 use Rattle.par_typed.specs.declared.expr.TExprKind.TheVariants as expr
 use Rattle.par_typed.specs.Shown.{shown, all_shown, kind_at, receiver}
-use Rattle.par_typed.proofs.Shown.{shown_int, shown_bool, shown_null, shown_this, shown_new, shown_local, shown_static, shown_field, shown_input, shown_output, shown_call, shown_neg, shown_not, shown_binary}
+use Rattle.par_typed.proofs.Shown.{shown_int, shown_bool, shown_null, shown_this, shown_new}
+use Rattle.par_typed.proofs.Shown.{shown_local, shown_static, shown_field, shown_input}
+use Rattle.par_typed.proofs.Shown.{shown_output, shown_call, shown_neg, shown_not, shown_binary}
 use Rattle.par_rules.specs.Kinds.{Next, Throw}
 use Rattle.par_rules.specs.Declares.{Declares, Method, throws_of}
 use Rattle.par_rules.specs.Rules.{From, Raised, Shut, Node, Rules, Part, Leaves, node}
@@ -90,7 +93,23 @@ unfolding exp
 call_is d c k typed.Absent es m = refl
 call_is d c k (typed.Present e) es m = refl
 
-pub ruleset shows = (call_is, shown_int, shown_bool, shown_null, shown_this, shown_new, shown_local, shown_static, shown_field, shown_input, shown_output, shown_call, shown_neg, shown_not, shown_binary)
+pub ruleset shows = (
+  call_is,
+  shown_int,
+  shown_bool,
+  shown_null,
+  shown_this,
+  shown_new,
+  shown_local,
+  shown_static,
+  shown_field,
+  shown_input,
+  shown_output,
+  shown_call,
+  shown_neg,
+  shown_not,
+  shown_binary,
+)
 
 pub args_next : (d : Declares) (from : From) (es : List TExpr) (p : ℕ) (e : TExpr)
     (more r m : Rules) (f : From) (n : Node) → 0 < p → p ≤ length es → e ≡ get_or es (p - 1) e

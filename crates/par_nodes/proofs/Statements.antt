@@ -13,7 +13,8 @@ use Rattle.par_typed.proofs.Shown.{does_block, does_if, does_while, does_try, do
 use Rattle.par_rules.specs.Kinds as kinds
 use Rattle.par_rules.specs.Kinds.{Next, Normal, Loop, Catches}
 use Rattle.par_rules.specs.Declares.{Declares}
-use Rattle.par_rules.specs.Rules.{Entry, After, Tested, Raised, Opened, Node, node, Rules, Done, Part, Test, Heads, goes_on}
+use Rattle.par_rules.specs.Rules.{Entry, After, Tested, Raised, Opened, Node, node, Rules, Done}
+use Rattle.par_rules.specs.Rules.{Part, Test, Heads, goes_on}
 use Rattle.par_rules.specs.Body.{past, tested, if_not, is_forever, caught, exp, sta, stas, catches}
 use Rattle.par_nodes.specs.Starts.{goes_first, else_rules}
 use Rattle.par_nodes.proofs.Branches.{block_is, if_is, while_is, try_is, when_is}

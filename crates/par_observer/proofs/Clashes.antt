@@ -4,7 +4,8 @@ use Rattle.std.specs.Prelude.{Contains}
 use Rattle.par_lexer.specs.declared.token.Token.{Token}
 use Rattle.par_lexer.specs.declared.token.LexError.{LexError}
 use Rattle.par_lexer.specs.Tokens as lexed
-use Rattle.par_lexer.specs.declared.token.LexError.TheVariants.{BadByte, NumberTooLarge, OpenComment}
+use Rattle.par_lexer.specs.declared.token.LexError.TheVariants.{BadByte, NumberTooLarge}
+use Rattle.par_lexer.specs.declared.token.LexError.TheVariants.{OpenComment}
 use Rattle.par_lexer.specs.declared.token.LexError.TheVariants.{NameTooLong, SourceTooLong, Memory}
 use Rattle.par_lexer.specs.declared.cut.TheConstants.{LONGEST_SOURCE}
 use Rattle.par_lexer.specs.Tokens.{HasTokens, LexBroken, IsRefusal}

@@ -19,8 +19,10 @@ use Rattle.par_typed.specs.declared.program.Typed.{Typed}
 use Rattle.par_observer.specs.declared.error.JudgeError.{JudgeError}
 use Rattle.par_observer.specs.declared.error.JudgeError.TheVariants.{Refused, Memory}
 use Rattle.par_observer.specs.Passes.{tree_faults}
-use Rattle.par_observer.specs.Trees.{IsAcceptedTreeAs, IsTreeRefused, BreaksRule, has_fault, has_flow}
-use Rattle.par_observer.specs.Judgements.{IsTreeOf, IsAcceptedAs, IsUnread, IsRefused, has_tree, breaks}
+use Rattle.par_observer.specs.Trees.{IsAcceptedTreeAs, IsTreeRefused, BreaksRule, has_fault}
+use Rattle.par_observer.specs.Trees.{has_flow}
+use Rattle.par_observer.specs.Judgements.{IsTreeOf, IsAcceptedAs, IsUnread, IsRefused, has_tree}
+use Rattle.par_observer.specs.Judgements.{breaks}
 use Rattle.par_observer.proofs.Placed.{tree_within, flow_within}
 
 -- tokens that stand in a source begin in it

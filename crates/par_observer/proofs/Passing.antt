@@ -11,7 +11,8 @@ use Rattle.par_types.specs.Inferred.{all_inferred}
 use Rattle.par_observer.specs.Passes.{typed_faults, tree_faults}
 
 -- a rule on names or a limit comes first
-pub names_stop : (source : Source) (f : Refusal) → IsFirst (all_faults source) f → IsFirst (tree_faults source) f
+pub names_stop : (source : Source) (f : Refusal) → IsFirst (all_faults source) f
+    → IsFirst (tree_faults source) f
 names_stop source f first = first_stops (all_faults source) (typed_faults source) f first
 
 -- then a rule on types

@@ -25,12 +25,14 @@ use Rattle.par_types.specs.Inferred.{fields_inferred, declaration_inferred, all_
 use Rattle.par_types.proofs.Places.{types_broken_within}
 use Rattle.par_observer.specs.Passes.{typed_faults, tree_faults}
 
-fields_in : (m : ℕ) (fs : List FieldDecl) → AllByRecursion (FieldIn m) fs → AreBrokenWithin m (fields_inferred fs)
+fields_in : (m : ℕ) (fs : List FieldDecl) → AllByRecursion (FieldIn m) fs
+    → AreBrokenWithin m (fields_inferred fs)
 unfolding fields_inferred
 fields_in m [] h = tt
 fields_in m (f ∷ fs) h = join m _ _ (there m _ _ h.0.0) (fields_in m fs h.1)
 
-declaration_in : (m : ℕ) (d : Declaration) → DeclarationIn m d → AreBrokenWithin m (declaration_inferred d)
+declaration_in : (m : ℕ) (d : Declaration) → DeclarationIn m d
+    → AreBrokenWithin m (declaration_inferred d)
 unfolding declaration_inferred
 declaration_in m (plain.Actors ids) h = tt
 declaration_in m (plain.Lock l) h = tt
@@ -42,10 +44,12 @@ unfolding all_inferred
 inferred_in m [] h = tt
 inferred_in m (d ∷ ds) h = join m _ _ (declaration_in m d h.0) (inferred_in m ds h.1)
 
-pub tree_within : (m : ℕ) (source : Source) → IsWithin m source → AreBrokenWithin m (tree_faults source)
+pub tree_within : (m : ℕ) (source : Source) → IsWithin m source
+    → AreBrokenWithin m (tree_faults source)
 tree_within m source h =
     passes_within m (all_faults source) (typed_faults source) (all_within m source h)
-    (passes_within m (type_faults (table_of source) source) (all_inferred source) (types_broken_within m (table_of source) source h)
+    (passes_within m (type_faults (table_of source) source) (all_inferred source)
+    (types_broken_within m (table_of source) source h)
     (inferred_in m source h))
 
 -- a rule on flows that all closed facts break is one that some facts break, at a place of a check

@@ -1,10 +1,13 @@
--- Why a source is not judged by its meaning: the rule that is broken, and the place, which lies in the source or behind its last byte.
+-- Why a source is not judged by its meaning: the rule that is broken, and the place, which lies in
+-- the source or behind its last byte.
 use Rattle.std.proofs.Common.{◌≡◌, ℕ, ◌≤◌, List, length, Some, get_or, subst, arith, refl, ap}
 use Rattle.std.specs.Prelude.{slice_get}
 use Rattle.std.proofs.lemmas.Option.{slice_get_within, get_or_from_slice_get}
 use Rattle.par_lexer.specs.declared.token.Token.{Token}
 use Rattle.par_lexer.specs.declared.token.LexError.{LexError}
-use Rattle.par_lexer.specs.declared.token.LexError.TheVariants.{BadByte, NumberTooLarge, OpenComment, NameTooLong, SourceTooLong, Memory}
+use Rattle.par_lexer.specs.declared.token.LexError.TheVariants.{BadByte, NumberTooLarge}
+use Rattle.par_lexer.specs.declared.token.LexError.TheVariants.{OpenComment, NameTooLong}
+use Rattle.par_lexer.specs.declared.token.LexError.TheVariants.{SourceTooLong, Memory}
 use Rattle.par_lexer.specs.Tokens.{HasTokens, LexBroken}
 use Rattle.par_lexer.specs.Spans.{IsFaultWithin, IsLaid, Stands}
 use Rattle.par_lexer.proofs.Refusals.{broken_within}
@@ -14,27 +17,41 @@ use Rattle.par_typed.specs.declared.refusal.Refusal.{Refusal}
 use Rattle.par_typed.specs.First.{broken}
 use Rattle.par_observer.specs.Judgements.{IsFaultOf, IsBrokenBy, has_no_tokens, is_no_sentence}
 
-within_source : (source : List ℕ) (error : LexError) (f : Refusal) → IsFaultWithin 0 (length source) error → IsFaultOf error f → f.at ≤ length source
-within_source source (BadByte n) f within is = let at : f.at ≡ n = ap (λ (f : Refusal). f.at) is in omega (arith, within.1)
-within_source source (NumberTooLarge n) f within is = let at : f.at ≡ n = ap (λ (f : Refusal). f.at) is in omega (arith, within.1)
-within_source source (OpenComment n) f within is = let at : f.at ≡ n = ap (λ (f : Refusal). f.at) is in omega (arith, within.1)
-within_source source (NameTooLong n) f within is = let at : f.at ≡ n = ap (λ (f : Refusal). f.at) is in omega (arith, within.1)
+within_source : (source : List ℕ) (error : LexError) (f : Refusal)
+    → IsFaultWithin 0 (length source) error → IsFaultOf error f → f.at ≤ length source
+within_source source (BadByte n) f within is =
+    let at : f.at ≡ n = ap (λ (f : Refusal). f.at) is in omega (arith, within.1)
+within_source source (NumberTooLarge n) f within is =
+    let at : f.at ≡ n = ap (λ (f : Refusal). f.at) is in omega (arith, within.1)
+within_source source (OpenComment n) f within is =
+    let at : f.at ≡ n = ap (λ (f : Refusal). f.at) is in omega (arith, within.1)
+within_source source (NameTooLong n) f within is =
+    let at : f.at ≡ n = ap (λ (f : Refusal). f.at) is in omega (arith, within.1)
 within_source source (SourceTooLong n) f within is = absurd is
 within_source source Memory f within is = absurd is
 
 -- the source has no tokens
-pub without_tokens : (source : List ℕ) (error : LexError) (f : Refusal) → LexBroken source error → IsFaultOf error f → IsBrokenBy source f
-without_tokens source error f broken is =
-    (has_no_tokens error broken is, within_source source error f (broken_within source error broken) is)
+pub without_tokens : (source : List ℕ) (error : LexError) (f : Refusal) → LexBroken source error
+    → IsFaultOf error f → IsBrokenBy source f
+without_tokens source error f broken is = (
+  has_no_tokens error broken is,
+  within_source source error f (broken_within source error broken) is,
+)
 
 -- its tokens are no sentence
-pub without_sentence : (source : List ℕ) (tokens : List Token) (fault : Fault) (rule at : ℕ) → HasTokens source tokens → HasFault tokens fault
-    → rule ≡ rule_of fault → at ≡ place_of tokens (length source) (before fault) → at ≤ length source → IsBrokenBy source (broken rule at)
-without_sentence source tokens fault rule at cut found rule_is place_is within =
-    (is_no_sentence tokens cut (record { fault = fault; found = found; rule_is = rule_is; place_is = place_is }) refl, within)
+pub without_sentence : (source : List ℕ) (tokens : List Token) (fault : Fault) (rule at : ℕ)
+    → HasTokens source tokens → HasFault tokens fault
+    → rule ≡ rule_of fault → at ≡ place_of tokens (length source) (before fault)
+    → at ≤ length source → IsBrokenBy source (broken rule at)
+without_sentence source tokens fault rule at cut found rule_is place_is within = (
+  is_no_sentence tokens cut
+      (record { fault = fault; found = found; rule_is = rule_is; place_is = place_is }) refl,
+  within,
+)
 
 -- a token begins in the source
-pub begins_within : (source : List ℕ) (tokens : List Token) (n : ℕ) (token : Token) → IsLaid source tokens → slice_get tokens n ≡ Some token → token.from ≤ length source
+pub begins_within : (source : List ℕ) (tokens : List Token) (n : ℕ) (token : Token)
+    → IsLaid source tokens → slice_get tokens n ≡ Some token → token.from ≤ length source
 begins_within source tokens n token laid e =
     let inside = slice_get_within tokens n token e in
     let is : get_or tokens n token ≡ token = get_or_from_slice_get tokens n token token e in

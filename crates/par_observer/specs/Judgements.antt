@@ -36,7 +36,8 @@ pub record IsTreeOf (source : List ℕ) (tree : Source) : Type 0 where
   pub cut : HasTokens source tokens
   pub derived : syntax.HasTree tokens tree
 
--- What a source that is not too long is refused by: it has no tokens, or they are no sentence within
+-- What a source that is not too long is refused by: it has no tokens, or they are no sentence
+-- within
 -- the nesting, or its tree breaks a rule.
 pub data Breaks (source : List ℕ) (f : Refusal) : Type 0 where
   has_no_tokens : (error : LexError) → LexBroken source error → IsFaultOf error f

@@ -12,13 +12,18 @@ fault_in (Ok x) = Syntax 0
 fault_in (Err fault) = fault
 
 module _ (tokens : List Token) (source_length : ℕ) where
-  pub refused : (fault : Fault) → HasFault tokens fault → IsRefused tokens source_length (rule_of fault) (place_of tokens source_length (before fault))
+  pub refused : (fault : Fault) → HasFault tokens fault
+      → IsRefused tokens source_length (rule_of fault)
+      (place_of tokens source_length (before fault))
   refused fault found = record { fault = fault; found = found; rule_is = refl; place_is = refl }
 
-  pub refused_once : {rule at other_rule other_at : ℕ} → IsRefused tokens source_length rule at → IsRefused tokens source_length other_rule other_at → (rule ≡ other_rule) × (at ≡ other_at)
+  pub refused_once : {rule at other_rule other_at : ℕ} → IsRefused tokens source_length rule at
+      → IsRefused tokens source_length other_rule other_at → (rule ≡ other_rule) × (at ≡ other_at)
   refused_once one other =
-      let same : one.fault ≡ other.fault = ap fault_in (decided one.found other.found) in
-      (one.rule_is ∙ ap rule_of same ∙ sym other.rule_is, one.place_is ∙ ap (λ f. place_of tokens source_length (before f)) same ∙ sym other.place_is)
+      let same : one.fault ≡ other.fault = ap fault_in (decided one.found other.found) in (
+        one.rule_is ∙ ap rule_of same ∙ sym other.rule_is,
+        one.place_is ∙ ap (λ f. place_of tokens source_length (before f)) same ∙ sym other.place_is,
+      )
 
   pub not_refused : {rule at : ℕ} → IsSentence tokens → IsRefused tokens source_length rule at → ⊥
   not_refused sentence refusal = let both = decided sentence.1.1 refusal.found in cc

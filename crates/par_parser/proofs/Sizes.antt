@@ -5,19 +5,32 @@ use Rattle.std.proofs.lemmas.List.{length-append}
 use Rattle.std.proofs.lemmas.List.Sums.{sum_by_push}
 use Rattle.par_lexer.specs.declared.operator.BinOp.{BinOp}
 use Rattle.par_reader.proofs.Sizes as sizes
-use Rattle.par_tree.specs.Plain.{Exp, Exps, NoExps, More, Sta, Braces, In, Stas, End, Then, Catches, NoCatch, Catch, Handler, with_exp, with_sta, with_catch}
-use Rattle.par_tree.specs.Nodes.{nodes, may_nodes, args_nodes, stmt_nodes, braces_nodes, may_braces_nodes, else_nodes, all_nodes, catch_nodes, handler_nodes, method_nodes}
+use Rattle.par_tree.specs.Plain.{Exp, Exps, NoExps, More, Sta, Braces, In, Stas, End, Then, Catches}
+use Rattle.par_tree.specs.Plain.{NoCatch, Catch, Handler, with_exp, with_sta, with_catch}
+use Rattle.par_tree.specs.Nodes.{nodes, may_nodes, args_nodes, stmt_nodes, braces_nodes}
+use Rattle.par_tree.specs.Nodes.{may_braces_nodes, else_nodes, all_nodes, catch_nodes}
+use Rattle.par_tree.specs.Nodes.{handler_nodes, method_nodes}
 use Rattle.par_tree.specs.Grammar.{Builders}
 use Rattle.par_tree.specs.Grammar as g
-use Rattle.par_tree.specs.Values.{Value, Values, tok, exp, exps, may, braces, may_braces, sta, stas, other, handler, catches, term, whole, may_whole, clause, clauses, lock, needs, idents, typed, gives, flag, many, param, listed, says, members, decl, source}
+use Rattle.par_tree.specs.Values.{Value, Values, tok, exp, exps, may, braces, may_braces, sta, stas}
+use Rattle.par_tree.specs.Values.{other, handler, catches, term, whole, may_whole, clause, clauses}
+use Rattle.par_tree.specs.Values.{lock, needs, idents, typed, gives, flag, many, param, listed}
+use Rattle.par_tree.specs.Values.{says, members, decl, source}
 use Rattle.par_tree.specs.Values.{paragon, built, ident, as_stmt}
-use Rattle.par_tree.specs.Values.{next_decl, actors_decl, lock_decl, policy_decl, exception_decl, class_decl, next_ident, inferred_field, field}
-use Rattle.par_tree.specs.Values.{channel, some_result, next_method, one_param, next_param, next_write, next_expect, next_open, next_close}
-use Rattle.par_tree.specs.Values.{next_throw, int_type, boolean_type, class_type, some_policy, first_term, next_term, clauses_term, named_term}
-use Rattle.par_tree.specs.Values.{bottom_term, top_term, one_clause, next_clause, one_lock, next_lock, next_stmt, whole_block, block_stmt}
-use Rattle.par_tree.specs.Values.{if_stmt, some_else, while_stmt, one_catch, next_catch, try_stmt, some_value, return_stmt, break_stmt}
-use Rattle.par_tree.specs.Values.{continue_stmt, throw_stmt, open_stmt, close_stmt, when_stmt, some_block, local_stmt, class_local, assign_stmt}
-use Rattle.par_tree.specs.Values.{call_stmt, constant, true_expr, false_expr, null_expr, this_expr, create, variable, select}
+use Rattle.par_tree.specs.Values.{next_decl, actors_decl, lock_decl, policy_decl, exception_decl}
+use Rattle.par_tree.specs.Values.{class_decl, next_ident, inferred_field, field}
+use Rattle.par_tree.specs.Values.{channel, some_result, next_method, one_param, next_param}
+use Rattle.par_tree.specs.Values.{next_write, next_expect, next_open, next_close}
+use Rattle.par_tree.specs.Values.{next_throw, int_type, boolean_type, class_type, some_policy}
+use Rattle.par_tree.specs.Values.{first_term, next_term, clauses_term, named_term}
+use Rattle.par_tree.specs.Values.{bottom_term, top_term, one_clause, next_clause, one_lock}
+use Rattle.par_tree.specs.Values.{next_lock, next_stmt, whole_block, block_stmt}
+use Rattle.par_tree.specs.Values.{if_stmt, some_else, while_stmt, one_catch, next_catch, try_stmt}
+use Rattle.par_tree.specs.Values.{some_value, return_stmt, break_stmt}
+use Rattle.par_tree.specs.Values.{continue_stmt, throw_stmt, open_stmt, close_stmt, when_stmt}
+use Rattle.par_tree.specs.Values.{some_block, local_stmt, class_local, assign_stmt}
+use Rattle.par_tree.specs.Values.{call_stmt, constant, true_expr, false_expr, null_expr, this_expr}
+use Rattle.par_tree.specs.Values.{create, variable, select}
 use Rattle.par_tree.specs.Values.{call_own, call_on, negate, invert, binary, next_arg}
 use Rattle.par_parser.specs.Bodies.{method_size, methods_size, declaration_size, source_size}
 
@@ -54,7 +67,8 @@ unfolding with_sta all_nodes
 more_stas End s = omega arith
 more_stas (Then x ss) s = omega (arith, more_stas ss s)
 
-more_catches : (cs : Catches) (h : Handler) → catch_nodes (with_catch cs h) ≡ catch_nodes cs + handler_nodes h
+more_catches : (cs : Catches) (h : Handler)
+    → catch_nodes (with_catch cs h) ≡ catch_nodes cs + handler_nodes h
 unfolding with_catch catch_nodes
 more_catches NoCatch h = omega arith
 more_catches (Catch x cs) h = omega (arith, more_catches cs h)
@@ -109,22 +123,23 @@ some_result_size (tok x ∷ typed t ∷ vs) = omega arith
 some_result_size vs = le_refl (total vs)
 
 next_method_size : (vs : Values) → total (next_method vs) ≤ total vs
-next_method_size (braces b ∷ says e ∷ listed ps ∷ tok x ∷ gives r ∷ flag s ∷ may_whole p ∷ members m ∷ vs) = omega (
-  arith,
-  sum_by_push method_size m.methods (record {
-    id = ident x;
-    is_static = s;
-    result = r;
-    policy = p;
-    params = ps;
-    effects = e.writes;
-    expects = e.expects;
-    opens = e.opens;
-    closes = e.closes;
-    throws = e.throws;
-    body = b;
-  }),
-)
+next_method_size (braces b ∷ says e ∷ listed ps ∷ tok x ∷ gives r ∷ flag s ∷ may_whole p ∷ members m
+    ∷ vs) = omega (
+      arith,
+      sum_by_push method_size m.methods (record {
+        id = ident x;
+        is_static = s;
+        result = r;
+        policy = p;
+        params = ps;
+        effects = e.writes;
+        expects = e.expects;
+        opens = e.opens;
+        closes = e.closes;
+        throws = e.throws;
+        body = b;
+      }),
+    )
 next_method_size vs = le_refl (total vs)
 
 one_param_size : (vs : Values) → total (one_param vs) ≤ total vs

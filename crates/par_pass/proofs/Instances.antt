@@ -13,7 +13,9 @@ among = record {
   IsUnder = IsWithin;
   least = λ p n h. cc;
   both = union_least;
-  joined = λ s t p q f g. union_least s t (union p q) (sub_trans s p (union p q) f (union_l p q)) (sub_trans t q (union p q) g (union_r p q));
+  joined =
+      λ s t p q f g. union_least s t (union p q) (sub_trans s p (union p q) f (union_l p q))
+      (sub_trans t q (union p q) g (union_r p q));
   up = sub_trans;
   given = λ n. sub_refl (adding none n);
 }
@@ -38,12 +40,18 @@ unfoldable pub seen : (table : List (List Clause)) → Stands (policies table)
 seen table = record {
   IsUnder = AreSeenBelow table;
   least = λ p n h. cc;
-  both = λ s t p f g n. in_either (s n) (t n) (IsSeenBelow (seen_by (slice_get table n)) p) (f n) (g n);
-  joined = λ s t p q f g n. in_either (s n) (t n) (IsSeenBelow (seen_by (slice_get table n)) (λ actor locks. p actor locks && q actor locks))
+  both =
+      λ s t p f g n. in_either (s n) (t n) (IsSeenBelow (seen_by (slice_get table n)) p)
+      (f n) (g n);
+  joined =
+      λ s t p q f g n. in_either (s n) (t n)
+      (IsSeenBelow (seen_by (slice_get table n)) (λ actor locks. p actor locks && q actor locks))
       (λ h actor locks k. f n h actor locks (in_both_l (p actor locks) (q actor locks) k))
       (λ h actor locks k. g n h actor locks (in_both_r (p actor locks) (q actor locks) k));
   up = λ s p q f g n h actor locks k. f n h actor locks (g actor locks k);
-  given = λ m n h. subst (λ j. IsSeenBelow (seen_by (slice_get table j)) (seen_by (slice_get table m))) (sym (eqb-true n m h)) (λ actor locks k. k);
+  given =
+      λ m n h. subst (λ j. IsSeenBelow (seen_by (slice_get table j)) (seen_by (slice_get table m)))
+      (sym (eqb-true n m h)) (λ actor locks k. k);
 }
 
 pub alone : Stands unseen

@@ -50,7 +50,8 @@ pub union_least : (p q r : Set) → IsWithin p r → IsWithin q r → IsWithin (
 union_least p q r f g = λ n. or_out (p n) (q n) (r n) (f n) (g n)
 
 pub union_mono : (p q r : Set) → IsWithin p r → IsWithin (union p q) (union r q)
-union_mono p q r f = union_least p q (union r q) (sub_trans p r (union r q) f (union_l r q)) (union_r r q)
+union_mono p q r f =
+    union_least p q (union r q) (sub_trans p r (union r q) f (union_l r q)) (union_r r q)
 
 pub meet_l : (p q : Set) → IsWithin (meet p q) p
 meet_l p q = λ n h. and_out_l (p n) (q n) h
@@ -62,7 +63,9 @@ pub meet_most : (p q r : Set) → IsWithin r p → IsWithin r q → IsWithin r (
 meet_most p q r f g = λ n h. and_in (p n) (q n) (f n h) (g n h)
 
 pub minus_mono : (p q r : Set) → IsWithin p r → IsWithin (minus p q) (minus r q)
-minus_mono p q r f = λ n h. and_in (r n) (not (q n)) (f n (and_out_l (p n) (not (q n)) h)) (and_out_r (p n) (not (q n)) h)
+minus_mono p q r f =
+    λ n h. and_in (r n) (not (q n)) (f n (and_out_l (p n) (not (q n)) h))
+    (and_out_r (p n) (not (q n)) h)
 
 lands_refl : (w : Way) → Lands numbers w w
 lands_refl w = record { env = λ i. sub_refl (w.env i); locks = sub_refl w.locks }
@@ -71,16 +74,25 @@ pub flows_refl : (w : Way) → Flows numbers w w
 flows_refl w = record { context = sub_refl w.context; lands = lands_refl w }
 
 lands_trans : (w x y : Way) → Lands numbers w x → Lands numbers x y → Lands numbers w y
-lands_trans w x y p q = record { env = λ i. sub_trans _ _ _ (p.env i) (q.env i); locks = sub_trans _ _ _ q.locks p.locks }
+lands_trans w x y p q =
+    record {
+      env = λ i. sub_trans _ _ _ (p.env i) (q.env i);
+      locks = sub_trans _ _ _ q.locks p.locks;
+    }
 
 flows_trans : (w x y : Way) → Flows numbers w x → Flows numbers x y → Flows numbers w y
-flows_trans w x y p q = record { context = sub_trans _ _ _ p.context q.context; lands = lands_trans w x y p.lands q.lands }
+flows_trans w x y p q =
+    record {
+      context = sub_trans _ _ _ p.context q.context;
+      lands = lands_trans w x y p.lands q.lands;
+    }
 
 pub may_refl : (o : Option Way) → MayFlow numbers o o
 may_refl None = tt
 may_refl (Some w) = flows_refl w
 
-pub may_trans : (o p q : Option Way) → MayFlow numbers o p → MayFlow numbers p q → MayFlow numbers o q
+pub may_trans : (o p q : Option Way) → MayFlow numbers o p → MayFlow numbers p q
+    → MayFlow numbers o q
 may_trans None p q h k = tt
 may_trans (Some w) None q h k = absurd h
 may_trans (Some w) (Some x) None h k = absurd k
@@ -94,17 +106,26 @@ may_land (Some w) (Some x) h = h.lands
 pub land_refl : (o : Option Way) → MayLand numbers o o
 land_refl o = may_land o o (may_refl o)
 
-pub land_trans : (o p q : Option Way) → MayLand numbers o p → MayLand numbers p q → MayLand numbers o q
+pub land_trans : (o p q : Option Way) → MayLand numbers o p → MayLand numbers p q
+    → MayLand numbers o q
 land_trans None p q h k = tt
 land_trans (Some w) None q h k = absurd h
 land_trans (Some w) (Some x) None h k = absurd k
 land_trans (Some w) (Some x) (Some y) h k = lands_trans w x y h k
 
 pub join_l : (w x : Way) → Flows numbers w (join w x)
-join_l w x = record { context = union_l w.context x.context; lands = record { env = λ i. union_l (w.env i) (x.env i); locks = meet_l w.locks x.locks } }
+join_l w x =
+    record {
+      context = union_l w.context x.context;
+      lands = record { env = λ i. union_l (w.env i) (x.env i); locks = meet_l w.locks x.locks };
+    }
 
 pub join_r : (w x : Way) → Flows numbers x (join w x)
-join_r w x = record { context = union_r w.context x.context; lands = record { env = λ i. union_r (w.env i) (x.env i); locks = meet_r w.locks x.locks } }
+join_r w x =
+    record {
+      context = union_r w.context x.context;
+      lands = record { env = λ i. union_r (w.env i) (x.env i); locks = meet_r w.locks x.locks };
+    }
 
 pub same_true : (k j : Kind) → same k j ≡ true → k ≡ j
 same_true Normal Normal h = refl

@@ -7,19 +7,35 @@ use Rattle.par_tree.specs.Plain.{Exp, Braces, In, place}
 use Rattle.par_tree.specs.Plain as plain
 use Rattle.par_tree.specs.Grammar.{Builders}
 use Rattle.par_tree.specs.Grammar as g
-use Rattle.par_tree.specs.Values.{Value, Values, Effects, Members, tok, exp, exps, may, braces, may_braces, sta, stas, other, handler, catches, term, whole, may_whole, clause, clauses, lock, needs, idents, typed, gives, flag, many, param, listed, says, members, decl, source}
+use Rattle.par_tree.specs.Values.{Value, Values, Effects, Members, tok, exp, exps, may, braces}
+use Rattle.par_tree.specs.Values.{may_braces, sta, stas, other, handler, catches, term, whole}
+use Rattle.par_tree.specs.Values.{may_whole, clause, clauses, lock, needs, idents, typed, gives}
+use Rattle.par_tree.specs.Values.{flag, many, param, listed, says, members, decl, source}
 use Rattle.par_tree.specs.Values.{built, ident, as_stmt, channel, binary, next_method}
-use Rattle.par_tree.specs.Values.{next_decl, actors_decl, lock_decl, policy_decl, exception_decl, class_decl}
-use Rattle.par_tree.specs.Values.{next_ident, inferred_field, field, some_result, one_param, next_param, next_write}
-use Rattle.par_tree.specs.Values.{next_expect, next_open, next_close, next_throw, int_type, boolean_type, class_type}
-use Rattle.par_tree.specs.Values.{some_policy, first_term, next_term, clauses_term, named_term, bottom_term}
-use Rattle.par_tree.specs.Values.{top_term, one_clause, next_clause, one_lock, next_lock, next_stmt, whole_block}
-use Rattle.par_tree.specs.Values.{block_stmt, if_stmt, some_else, while_stmt, one_catch, next_catch, try_stmt}
-use Rattle.par_tree.specs.Values.{some_value, return_stmt, break_stmt, continue_stmt, throw_stmt, open_stmt}
-use Rattle.par_tree.specs.Values.{close_stmt, when_stmt, some_block, local_stmt, class_local, assign_stmt}
-use Rattle.par_tree.specs.Values.{call_stmt, constant, true_expr, false_expr, null_expr, this_expr, create}
+use Rattle.par_tree.specs.Values.{next_decl, actors_decl, lock_decl, policy_decl, exception_decl}
+use Rattle.par_tree.specs.Values.{class_decl}
+use Rattle.par_tree.specs.Values.{next_ident, inferred_field, field, some_result, one_param}
+use Rattle.par_tree.specs.Values.{next_param, next_write}
+use Rattle.par_tree.specs.Values.{next_expect, next_open, next_close, next_throw, int_type}
+use Rattle.par_tree.specs.Values.{boolean_type, class_type}
+use Rattle.par_tree.specs.Values.{some_policy, first_term, next_term, clauses_term, named_term}
+use Rattle.par_tree.specs.Values.{bottom_term}
+use Rattle.par_tree.specs.Values.{top_term, one_clause, next_clause, one_lock, next_lock, next_stmt}
+use Rattle.par_tree.specs.Values.{whole_block}
+use Rattle.par_tree.specs.Values.{block_stmt, if_stmt, some_else, while_stmt, one_catch, next_catch}
+use Rattle.par_tree.specs.Values.{try_stmt}
+use Rattle.par_tree.specs.Values.{some_value, return_stmt, break_stmt, continue_stmt, throw_stmt}
+use Rattle.par_tree.specs.Values.{open_stmt}
+use Rattle.par_tree.specs.Values.{close_stmt, when_stmt, some_block, local_stmt, class_local}
+use Rattle.par_tree.specs.Values.{assign_stmt}
+use Rattle.par_tree.specs.Values.{call_stmt, constant, true_expr, false_expr, null_expr, this_expr}
+use Rattle.par_tree.specs.Values.{create}
 use Rattle.par_tree.specs.Values.{variable, select, call_own, call_on, negate, invert, next_arg}
-use Rattle.par_places.specs.Within.{IdentIn, AreIn, TypeIn, ResultIn, LockIn, LocksIn, ClauseIn, TermIn, PolicyIn, MayPolicyIn, ExpIn, MayExpIn, ExpsIn, StaIn, BracesIn, MayBracesIn, ElseIn, StasIn, CatchesIn, HandlerIn, FieldIn, ChannelIn, ParamIn, ThrowIn, MethodIn, ClassIn, DeclarationIn, IsWithin}
+use Rattle.par_places.specs.Within.{IdentIn, AreIn, TypeIn, ResultIn, LockIn, LocksIn, ClauseIn}
+use Rattle.par_places.specs.Within.{TermIn, PolicyIn, MayPolicyIn, ExpIn, MayExpIn, ExpsIn, StaIn}
+use Rattle.par_places.specs.Within.{BracesIn, MayBracesIn, ElseIn, StasIn, CatchesIn, HandlerIn}
+use Rattle.par_places.specs.Within.{FieldIn, ChannelIn, ParamIn, ThrowIn, MethodIn, ClassIn}
+use Rattle.par_places.specs.Within.{DeclarationIn, IsWithin}
 use Rattle.par_places.proofs.Lists.{pushed, one_more_exp, one_more_sta, one_more_catch}
 
 module _ (m : ℕ) where
@@ -112,12 +128,22 @@ module _ (m : ℕ) where
 
   exception_decl_in : (vs : Values) → AllIn vs → AllIn (exception_decl vs)
   unfolding ExpIn StaIn
-  exception_decl_in (tok x ∷ vs) h = (record { id = h.0; birth = tt; fields = tt; channels = tt; methods = tt }, h.1)
+  exception_decl_in (tok x ∷ vs) h =
+      (record { id = h.0; birth = tt; fields = tt; channels = tt; methods = tt }, h.1)
   exception_decl_in vs h = h
 
   class_decl_in : (vs : Values) → AllIn vs → AllIn (class_decl vs)
   unfolding ExpIn StaIn
-  class_decl_in (members ms ∷ may_whole p ∷ tok x ∷ vs) h = (record { id = h.1.1.0; birth = h.1.0; fields = h.0.fields; channels = h.0.channels; methods = h.0.methods }, h.1.1.1)
+  class_decl_in (members ms ∷ may_whole p ∷ tok x ∷ vs) h = (
+    record {
+      id = h.1.1.0;
+      birth = h.1.0;
+      fields = h.0.fields;
+      channels = h.0.channels;
+      methods = h.0.methods;
+    },
+    h.1.1.1,
+  )
   class_decl_in vs h = h
 
   next_ident_in : (vs : Values) → AllIn vs → AllIn (next_ident vs)
@@ -127,12 +153,40 @@ module _ (m : ℕ) where
 
   inferred_field_in : (vs : Values) → AllIn vs → AllIn (inferred_field vs)
   unfolding ExpIn StaIn
-  inferred_field_in (tok x ∷ typed t ∷ flag s ∷ members ms ∷ vs) h = (record { fields = pushed _ ms.fields (record { id = ident x; is_static = s; ty = t; policy = None; inferred = true }) h.1.1.1.0.fields (h.0, h.1.0, tt); channels = h.1.1.1.0.channels; methods = h.1.1.1.0.methods }, h.1.1.1.1)
+  inferred_field_in (tok x ∷ typed t ∷ flag s ∷ members ms ∷ vs) h = (
+    record {
+      fields =
+          pushed _ ms.fields (record {
+            id = ident x;
+            is_static = s;
+            ty = t;
+            policy = None;
+            inferred = true;
+          }) h.1.1.1.0.fields (h.0, h.1.0, tt);
+      channels = h.1.1.1.0.channels;
+      methods = h.1.1.1.0.methods;
+    },
+    h.1.1.1.1,
+  )
   inferred_field_in vs h = h
 
   field_in : (vs : Values) → AllIn vs → AllIn (field vs)
   unfolding ExpIn StaIn
-  field_in (tok x ∷ typed t ∷ flag s ∷ may_whole p ∷ members ms ∷ vs) h = (record { fields = pushed _ ms.fields (record { id = ident x; is_static = s; ty = t; policy = p; inferred = false }) h.1.1.1.1.0.fields (h.0, h.1.0, h.1.1.1.0); channels = h.1.1.1.1.0.channels; methods = h.1.1.1.1.0.methods }, h.1.1.1.1.1)
+  field_in (tok x ∷ typed t ∷ flag s ∷ may_whole p ∷ members ms ∷ vs) h = (
+    record {
+      fields =
+          pushed _ ms.fields (record {
+            id = ident x;
+            is_static = s;
+            ty = t;
+            policy = p;
+            inferred = false;
+          }) h.1.1.1.1.0.fields (h.0, h.1.0, h.1.1.1.0);
+      channels = h.1.1.1.1.0.channels;
+      methods = h.1.1.1.1.0.methods;
+    },
+    h.1.1.1.1.1,
+  )
   field_in vs h = h
 
   some_result_in : (vs : Values) → AllIn vs → AllIn (some_result vs)
@@ -142,7 +196,8 @@ module _ (m : ℕ) where
 
   one_param_in : (vs : Values) → AllIn vs → AllIn (one_param vs)
   unfolding ExpIn StaIn
-  one_param_in (tok x ∷ typed t ∷ flag n ∷ may_whole p ∷ vs) h = ((h.0, h.1.0, h.1.1.1.0), h.1.1.1.1)
+  one_param_in (tok x ∷ typed t ∷ flag n ∷ may_whole p ∷ vs) h =
+      ((h.0, h.1.0, h.1.1.1.0), h.1.1.1.1)
   one_param_in vs h = h
 
   next_param_in : (vs : Values) → AllIn vs → AllIn (next_param vs)
@@ -152,27 +207,74 @@ module _ (m : ℕ) where
 
   next_write_in : (vs : Values) → AllIn vs → AllIn (next_write vs)
   unfolding ExpIn StaIn
-  next_write_in (whole p ∷ says e ∷ vs) h = (record { writes = pushed _ e.writes p h.1.0.writes h.0; expects = h.1.0.expects; opens = h.1.0.opens; closes = h.1.0.closes; throws = h.1.0.throws }, h.1.1)
+  next_write_in (whole p ∷ says e ∷ vs) h = (
+    record {
+      writes = pushed _ e.writes p h.1.0.writes h.0;
+      expects = h.1.0.expects;
+      opens = h.1.0.opens;
+      closes = h.1.0.closes;
+      throws = h.1.0.throws;
+    },
+    h.1.1,
+  )
   next_write_in vs h = h
 
   next_expect_in : (vs : Values) → AllIn vs → AllIn (next_expect vs)
   unfolding ExpIn StaIn
-  next_expect_in (lock l ∷ says e ∷ vs) h = (record { writes = h.1.0.writes; expects = pushed _ e.expects l h.1.0.expects h.0; opens = h.1.0.opens; closes = h.1.0.closes; throws = h.1.0.throws }, h.1.1)
+  next_expect_in (lock l ∷ says e ∷ vs) h = (
+    record {
+      writes = h.1.0.writes;
+      expects = pushed _ e.expects l h.1.0.expects h.0;
+      opens = h.1.0.opens;
+      closes = h.1.0.closes;
+      throws = h.1.0.throws;
+    },
+    h.1.1,
+  )
   next_expect_in vs h = h
 
   next_open_in : (vs : Values) → AllIn vs → AllIn (next_open vs)
   unfolding ExpIn StaIn
-  next_open_in (lock l ∷ says e ∷ vs) h = (record { writes = h.1.0.writes; expects = h.1.0.expects; opens = pushed _ e.opens l h.1.0.opens h.0; closes = h.1.0.closes; throws = h.1.0.throws }, h.1.1)
+  next_open_in (lock l ∷ says e ∷ vs) h = (
+    record {
+      writes = h.1.0.writes;
+      expects = h.1.0.expects;
+      opens =
+          pushed _ e.opens l h.1.0.opens h.0;
+      closes = h.1.0.closes;
+      throws = h.1.0.throws;
+    },
+    h.1.1,
+  )
   next_open_in vs h = h
 
   next_close_in : (vs : Values) → AllIn vs → AllIn (next_close vs)
   unfolding ExpIn StaIn
-  next_close_in (lock l ∷ says e ∷ vs) h = (record { writes = h.1.0.writes; expects = h.1.0.expects; opens = h.1.0.opens; closes = pushed _ e.closes l h.1.0.closes h.0; throws = h.1.0.throws }, h.1.1)
+  next_close_in (lock l ∷ says e ∷ vs) h = (
+    record {
+      writes = h.1.0.writes;
+      expects = h.1.0.expects;
+      opens = h.1.0.opens;
+      closes = pushed _ e.closes l h.1.0.closes h.0;
+      throws = h.1.0.throws;
+    },
+    h.1.1,
+  )
   next_close_in vs h = h
 
   next_throw_in : (vs : Values) → AllIn vs → AllIn (next_throw vs)
   unfolding ExpIn StaIn
-  next_throw_in (whole p ∷ tok x ∷ says e ∷ vs) h = (record { writes = h.1.1.0.writes; expects = h.1.1.0.expects; opens = h.1.1.0.opens; closes = h.1.1.0.closes; throws = pushed _ e.throws (record { class = ident x; policy = p }) h.1.1.0.throws (h.1.0, h.0) }, h.1.1.1)
+  next_throw_in (whole p ∷ tok x ∷ says e ∷ vs) h = (
+    record {
+      writes = h.1.1.0.writes;
+      expects = h.1.1.0.expects;
+      opens = h.1.1.0.opens;
+      closes = h.1.1.0.closes;
+      throws =
+          pushed _ e.throws (record { class = ident x; policy = p }) h.1.1.0.throws (h.1.0, h.0);
+    },
+    h.1.1.1,
+  )
   next_throw_in vs h = h
 
   int_type_in : (vs : Values) → AllIn vs → AllIn (int_type vs)
@@ -262,7 +364,8 @@ module _ (m : ℕ) where
 
   if_stmt_in : (vs : Values) → AllIn vs → AllIn (if_stmt vs)
   unfolding ExpIn StaIn
-  if_stmt_in (other o ∷ braces b ∷ exp e ∷ tok x ∷ vs) h = ((h.1.1.0, h.1.0, h.0, h.1.1.1.0), h.1.1.1.1)
+  if_stmt_in (other o ∷ braces b ∷ exp e ∷ tok x ∷ vs) h =
+      ((h.1.1.0, h.1.0, h.0, h.1.1.1.0), h.1.1.1.1)
   if_stmt_in vs h = h
 
   some_else_in : (vs : Values) → AllIn vs → AllIn (some_else vs)
@@ -327,7 +430,8 @@ module _ (m : ℕ) where
 
   when_stmt_in : (vs : Values) → AllIn vs → AllIn (when_stmt vs)
   unfolding ExpIn StaIn
-  when_stmt_in (may_braces o ∷ braces b ∷ lock l ∷ tok x ∷ vs) h = ((h.1.1.0, h.1.0, h.0, h.1.1.1.0), h.1.1.1.1)
+  when_stmt_in (may_braces o ∷ braces b ∷ lock l ∷ tok x ∷ vs) h =
+      ((h.1.1.0, h.1.0, h.0, h.1.1.1.0), h.1.1.1.1)
   when_stmt_in vs h = h
 
   some_block_in : (vs : Values) → AllIn vs → AllIn (some_block vs)
@@ -337,7 +441,8 @@ module _ (m : ℕ) where
 
   local_stmt_in : (vs : Values) → AllIn vs → AllIn (local_stmt vs)
   unfolding ExpIn StaIn
-  local_stmt_in (exp e ∷ tok x ∷ typed t ∷ flag n ∷ may_whole p ∷ vs) h = (((h.1.0, h.1.1.0, h.1.1.1.1.0, h.0), h.1.0), h.1.1.1.1.1)
+  local_stmt_in (exp e ∷ tok x ∷ typed t ∷ flag n ∷ may_whole p ∷ vs) h =
+      (((h.1.0, h.1.1.0, h.1.1.1.1.0, h.0), h.1.0), h.1.1.1.1.1)
   local_stmt_in vs h = h
 
   class_local_in : (vs : Values) → AllIn vs → AllIn (class_local vs)
@@ -347,7 +452,8 @@ module _ (m : ℕ) where
 
   assign_stmt_in : (vs : Values) → AllIn vs → AllIn (assign_stmt vs)
   unfolding ExpIn StaIn
-  assign_stmt_in (exp e ∷ tok x ∷ exp target ∷ vs) h = ((h.1.1.0, h.0, place_in target h.1.1.0), h.1.1.1)
+  assign_stmt_in (exp e ∷ tok x ∷ exp target ∷ vs) h =
+      ((h.1.1.0, h.0, place_in target h.1.1.0), h.1.1.1)
   assign_stmt_in vs h = h
 
   call_stmt_in : (vs : Values) → AllIn vs → AllIn (call_stmt vs)
@@ -421,7 +527,16 @@ module _ (m : ℕ) where
   next_arg_in vs h = h
 
   channel_in : (i : Bool) (vs : Values) → AllIn vs → AllIn (channel i vs)
-  channel_in i (tok x ∷ may_whole p ∷ members ms ∷ vs) h = (record { fields = h.1.1.0.fields; channels = pushed _ ms.channels (record { id = ident x; is_input = i; policy = p }) h.1.1.0.channels (h.0, h.1.0); methods = h.1.1.0.methods }, h.1.1.1)
+  channel_in i (tok x ∷ may_whole p ∷ members ms ∷ vs) h = (
+    record {
+      fields = h.1.1.0.fields;
+      channels =
+          pushed _ ms.channels (record { id = ident x; is_input = i; policy = p }) h.1.1.0.channels
+          (h.0, h.1.0);
+      methods = h.1.1.0.methods;
+    },
+    h.1.1.1,
+  )
   channel_in i vs h = h
 
   binary_in : (op : BinOp) (vs : Values) → AllIn vs → AllIn (binary op vs)
@@ -430,7 +545,8 @@ module _ (m : ℕ) where
   binary_in op vs h = h
 
   next_method_in : (vs : Values) → AllIn vs → AllIn (next_method vs)
-  next_method_in (braces b ∷ says e ∷ listed ps ∷ tok x ∷ gives r ∷ flag s ∷ may_whole p ∷ members ms ∷ vs) h =
+  next_method_in (braces b ∷ says e ∷ listed ps ∷ tok x ∷ gives r ∷ flag s ∷ may_whole p
+      ∷ members ms ∷ vs) h =
       let rest = h.1.1.1.1.1.1 in
       let method : plain.Method = record {
         id = ident x;
@@ -456,8 +572,14 @@ module _ (m : ℕ) where
         closes = h.1.0.closes;
         throws = h.1.0.throws;
         body = h.0;
-      } in
-      (record { fields = rest.1.0.fields; channels = rest.1.0.channels; methods = pushed _ ms.methods method rest.1.0.methods method_in }, rest.1.1)
+      } in (
+        record {
+          fields = rest.1.0.fields;
+          channels = rest.1.0.channels;
+          methods = pushed _ ms.methods method rest.1.0.methods method_in;
+        },
+        rest.1.1,
+      )
   next_method_in vs h = h
 
   pub built_in : (b : Builders) (vs : Values) → AllIn vs → AllIn (built b vs)
@@ -487,7 +609,8 @@ module _ (m : ℕ) where
   built_in g.NextParam vs h = next_param_in vs h
   built_in g.IsNotnull vs h = (tt, h)
   built_in g.MayBeNull vs h = (tt, h)
-  built_in g.NoEffects vs h = (record { writes = tt; expects = tt; opens = tt; closes = tt; throws = tt }, h)
+  built_in g.NoEffects vs h =
+      (record { writes = tt; expects = tt; opens = tt; closes = tt; throws = tt }, h)
   built_in g.NextWrite vs h = next_write_in vs h
   built_in g.NextExpect vs h = next_expect_in vs h
   built_in g.NextOpen vs h = next_open_in vs h

@@ -16,7 +16,8 @@ BeginWithin m tokens = AllByRecursion (λ token. token.from ≤ m) tokens
 -- the derivation of the tokens comes to this tree
 abbrev pub ComesToTree : List Token → Source → Type 0
 ComesToTree tokens tree =
-    (i : Input) × Comes paragon (state (name g.Program ∷ []) (whole tokens) []) (Ok (source tree ∷ [], i))
+    (i : Input) × Comes paragon (state (name g.Program ∷ []) (whole tokens) [])
+    (Ok (source tree ∷ [], i))
 
 abbrev pub TreesLieWithin : Type 0
 TreesLieWithin =

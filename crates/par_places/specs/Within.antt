@@ -15,12 +15,15 @@ use Rattle.par_tree.specs.declared.decl.ParamDecl.{ParamDecl}
 use Rattle.par_tree.specs.declared.decl.ThrowDecl.{ThrowDecl}
 use Rattle.par_tree.specs.declared.decl.LockDecl.{LockDecl}
 use Rattle.par_tree.specs.declared.decl.PolicyDecl.{PolicyDecl}
-use Rattle.par_tree.specs.Plain.{Exp, Int, True, False, Null, This, New, Name, Field, Call, Neg, Not, Binary}
+use Rattle.par_tree.specs.Plain.{Exp, Int, True, False, Null, This, New, Name, Field, Call, Neg}
+use Rattle.par_tree.specs.Plain.{Not, Binary}
 use Rattle.par_tree.specs.Plain.{Exps, NoExps, More, MayExp, Absent, Present, Local, Method, Class}
-use Rattle.par_tree.specs.Plain.{Sta, Block, If, While, Try, Return, Break, Continue, Throw, Open, Close}
+use Rattle.par_tree.specs.Plain.{Sta, Block, If, While, Try, Return, Break, Continue, Throw, Open}
+use Rattle.par_tree.specs.Plain.{Close}
 use Rattle.par_tree.specs.Plain.{Declare, Assign, Do, When, Braces, In, MayBraces, NoBraces}
 use Rattle.par_tree.specs.Plain as plain
-use Rattle.par_tree.specs.Plain.{Else, NoElse, Otherwise, Stas, End, Then, Catches, NoCatch, Catch, Handler, On}
+use Rattle.par_tree.specs.Plain.{Else, NoElse, Otherwise, Stas, End, Then, Catches, NoCatch, Catch}
+use Rattle.par_tree.specs.Plain.{Handler, On}
 use Rattle.par_tree.specs.Plain.{Declaration, Actors, Lock, Policy, Declared, Source}
 
 module _ (m : ℕ) where

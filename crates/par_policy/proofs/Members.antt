@@ -13,27 +13,33 @@ Contains-from_has xs x h =
     subst (Contains xs) (eqb-true y x same) (k, inside, at)
 
 pub has-from_Contains : (xs : List ℕ) (x : ℕ) → Contains xs x → IsTrue (has xs x)
-has-from_Contains xs x (k, inside, at) = list_any_at (λ held. nat_eq held x) xs k x inside (eq-eqb _ _ at)
+has-from_Contains xs x (k, inside, at) =
+    list_any_at (λ held. nat_eq held x) xs k x inside (eq-eqb _ _ at)
 
 pub has_iff : (xs : List ℕ) (x : ℕ) → IsTrue (has xs x) ↔ Contains xs x
 has_iff xs x = (Contains-from_has xs x, has-from_Contains xs x)
 
-pub All-from_within : (inner outer : List ℕ) → IsTrue (within inner outer) → All (Contains outer) inner
+pub All-from_within : (inner outer : List ℕ) → IsTrue (within inner outer)
+    → All (Contains outer) inner
 All-from_within [] outer h = All-nil (Contains outer)
 All-from_within (x ∷ inner) outer h =
     let both = and_parts (has outer x) (within inner outer) h in
-    All-cons (Contains outer) x inner (Contains-from_has outer x both.0) (All-from_within inner outer both.1)
+    All-cons (Contains outer) x inner (Contains-from_has outer x both.0)
+    (All-from_within inner outer both.1)
 
-pub within-from_All : (inner outer : List ℕ) → All (Contains outer) inner → IsTrue (within inner outer)
+pub within-from_All : (inner outer : List ℕ) → All (Contains outer) inner
+    → IsTrue (within inner outer)
 within-from_All [] outer h = refl
 within-from_All (x ∷ inner) outer h =
-    and_from _ _ (has-from_Contains outer x (All-head (Contains outer) x inner h)) (within-from_All inner outer (All-tail (Contains outer) x inner h))
+    and_from _ _ (has-from_Contains outer x (All-head (Contains outer) x inner h))
+    (within-from_All inner outer (All-tail (Contains outer) x inner h))
 
 pub within_iff : (inner outer : List ℕ) → IsTrue (within inner outer) ↔ All (Contains outer) inner
 within_iff inner outer = (All-from_within inner outer, within-from_All inner outer)
 
 -- a lock of two sets joined is in the first or in the second
-pub within-append : (inner one other : List ℕ) → within inner (one ++ other) ≡ list_all (λ n. has one n || has other n) inner
+pub within-append : (inner one other : List ℕ)
+    → within inner (one ++ other) ≡ list_all (λ n. has one n || has other n) inner
 within-append [] one other = refl
 within-append (x ∷ inner) one other =
     rw (list_any-append (λ held. nat_eq held x) one other, within-append inner one other)

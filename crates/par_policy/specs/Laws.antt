@@ -13,7 +13,8 @@ OrderIsTransitive = (p q r : List Clause) → IsBelow p q → IsBelow q r → Is
 
 -- normal forms that the same observers see are equal lists
 abbrev pub OrderIsAntisymmetric : Type 0
-OrderIsAntisymmetric = (p q : List Clause) → IsNormal p → IsNormal q → IsBelow p q → IsBelow q p → p ≡ q
+OrderIsAntisymmetric =
+    (p q : List Clause) → IsNormal p → IsNormal q → IsBelow p q → IsBelow q p → p ≡ q
 
 -- the join is above both, and below all that is above both
 abbrev pub JoinIsLeastUpperBound : Type 0

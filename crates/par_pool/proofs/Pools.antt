@@ -1,8 +1,11 @@
 -- A constant pool is read exactly.
-use Rattle.std.proofs.Common.{◌≡◌, ℕ, zero, suc, ◌+◌, ◌-◌, ◌^◌, ◌<◌, ◌≤◌, Bool, true, cond, ltb, eqb, List, [], ◌∷◌, length, Option, Some, None, Ok, Err, refl, sym, ap, subst, ◌∙◌, inl, inr, arith}
+use Rattle.std.proofs.Common.{◌≡◌, ℕ, zero, suc, ◌+◌, ◌-◌, ◌^◌, ◌<◌, ◌≤◌, Bool, true, cond, ltb}
+use Rattle.std.proofs.Common.{eqb, List, [], ◌∷◌, length, Option, Some, None, Ok, Err, refl, sym}
+use Rattle.std.proofs.Common.{ap, subst, ◌∙◌, inl, inr, arith}
 use Rattle.std.specs.Prelude.{IsTrue, not}
 use Rattle.std.specs.List.{flat_map, list_all, AllByRecursion, position_or_len}
-use Rattle.std.proofs.lemmas.Bool.{cases_Bool, and_parts, and_from, ltb-false, le-ltb, eqb-true, eqb-false}
+use Rattle.std.proofs.lemmas.Bool.{cases_Bool, and_parts, and_from, ltb-false, le-ltb, eqb-true}
+use Rattle.std.proofs.lemmas.Bool.{eqb-false}
 use Rattle.std.proofs.lemmas.Option.{none-some}
 use Rattle.par_pool.specs.declared.constant.Constant.{Constant}
 use Rattle.par_pool.specs.declared.error.ClassError.{ClassError}
@@ -45,31 +48,52 @@ module _ {X : Type 0} (p : X → Bool) where
       ]
 
 -- no constant is astray exactly where each index is of its kind
-none-astray : (entries : List Constant) → first_astray entries ≡ None → IsTrue (list_all (refers entries) entries)
-none-astray entries e = none-all (refers entries) entries (none-is (refers entries) (position_or_len (λ c. not (refers entries c)) entries) entries e)
+none-astray : (entries : List Constant) → first_astray entries ≡ None
+    → IsTrue (list_all (refers entries) entries)
+none-astray entries e =
+    none-all (refers entries) entries
+    (none-is (refers entries) (position_or_len (λ c. not (refers entries c)) entries) entries e)
 
-astray-none : (entries : List Constant) → IsTrue (list_all (refers entries) entries) → first_astray entries ≡ None
-astray-none entries h = ap (λ b. cond b (Some (position_or_len (λ c. not (refers entries c)) entries)) None) (le-ltb _ _ (all-none (refers entries) entries h))
+astray-none : (entries : List Constant) → IsTrue (list_all (refers entries) entries)
+    → first_astray entries ≡ None
+astray-none entries h =
+    ap (λ b. cond b (Some (position_or_len (λ c. not (refers entries c)) entries)) None)
+    (le-ltb _ _ (all-none (refers entries) entries h))
 
 -- the constants that stand behind their number
 abbrev IsCounted : ℕ → List Constant → Type 0
 IsCounted n entries = (length entries + 1 ≡ n) × AllByRecursion Fits entries
 
-exact-counted : (short : ClassError) (n : ℕ) → Exact (IsCounted n) (λ entries. flat_map constant entries) (counted short n)
+exact-counted : (short : ClassError) (n : ℕ)
+    → Exact (IsCounted n) (λ entries. flat_map constant entries) (counted short n)
 exact-counted short n =
-    let P : Bool → Type 0 = λ b. Exact (IsCounted n) (λ entries. flat_map constant entries) (λ bytes. cond b (Err (Pool 0)) (items (constant_at short) (n - 1) 1 bytes)) in
+    let P : Bool → Type 0 =
+    λ b. Exact (IsCounted n) (λ entries. flat_map constant entries)
+    (λ bytes. cond b (Err (Pool 0)) (items (constant_at short) (n - 1) 1 bytes)) in
     elim (cases_Bool (eqb n 0)) [
-      | inl e ↦ subst P (sym e) (record { takes = λ bytes x fits h. absurd cc; again = λ x rest h. absurd (omega (arith, h.0, eqb-true n 0 e)) })
+      | inl e ↦ subst P (sym e)
+          (record {
+            takes = λ bytes x fits h. absurd cc;
+            again = λ x rest h. absurd (omega (arith, h.0, eqb-true n 0 e));
+          })
       | inr e ↦ subst P (sym e)
-          (exact_same (IsCounted n) (λ entries. flat_map constant entries) (λ entries h. (omega (arith, h.0, one-or_more n (eqb-false n 0 e)), h.1)) (λ entries h. ((omega (arith, h.0), h.1), refl))
+          (exact_same (IsCounted n) (λ entries. flat_map constant entries)
+          (λ entries h. (omega (arith, h.0, one-or_more n (eqb-false n 0 e)), h.1))
+          (λ entries h. ((omega (arith, h.0), h.1), refl))
           (exact_items (exact_constant short) (n - 1) 1))
     ]
 
-exact-entries : (short : ClassError) → Exact (λ entries. (length entries + 1 < 2 ^ 16) × AllByRecursion Fits entries) pool (keyed (u2_at short) (counted short))
+exact-entries : (short : ClassError)
+    → Exact (λ entries. (length entries + 1 < 2 ^ 16) × AllByRecursion Fits entries) pool
+    (keyed (u2_at short) (counted short))
 unfolding pool
-exact-entries short = exact_keyed {G = λ entries. AllByRecursion Fits entries} {q = λ entries. flat_map constant entries} (λ entries. length entries + 1) (exact_u2 short) (λ n h. exact-counted short n)
+exact-entries short =
+    exact_keyed {G = λ entries. AllByRecursion Fits entries}
+    {q = λ entries. flat_map constant entries} (λ entries. length entries + 1) (exact_u2 short)
+    (λ n h. exact-counted short n)
 
-checked-ok : (entries : List Constant) (rest : List ℕ) (o : Option ℕ) (x : List Constant × List ℕ) → checked entries rest o ≡ Ok x → (o ≡ None) × ((entries, rest) ≡ x)
+checked-ok : (entries : List Constant) (rest : List ℕ) (o : Option ℕ) (x : List Constant × List ℕ)
+    → checked entries rest o ≡ Ok x → (o ≡ None) × ((entries, rest) ≡ x)
 checked-ok entries rest None x e = (refl, ok_is (entries, rest) x e)
 checked-ok entries rest (Some place) x e = absurd cc
 
@@ -77,11 +101,16 @@ pub exact_pool : (short : ClassError) → Exact IsPool pool (pool_at short)
 unfolding pool_at
 exact_pool short = record {
   takes = λ bytes x fits e.
-      let a = bind_ok (keyed (u2_at short) (counted short) bytes) (λ read. checked read.0 read.1 (first_astray read.0)) x e in
+      let a =
+      bind_ok (keyed (u2_at short) (counted short) bytes)
+      (λ read. checked read.0 read.1 (first_astray read.0)) x e in
       let t = (exact-entries short).takes bytes a.0 fits a.1 in
       let k = checked-ok a.0.0 a.0.1 (first_astray a.0.0) x a.2 in
       let P : List Constant × List ℕ → Type 0 = λ y. Takes bytes (pool y.0) y.1 × IsPool y.0 in
       subst P k.1 (t.0, record { few = t.1.0; fits = t.1.1; refer = none-astray a.0.0 k.0 });
   again = λ entries rest h.
-      rw ((exact-entries short).again entries rest (h.few, h.fits), astray-none entries h.refer) refl;
+      rw (
+        (exact-entries short).again entries rest (h.few, h.fits),
+        astray-none entries h.refer,
+      ) refl;
 }

@@ -1,12 +1,15 @@
 -- Reading a constant pool, with the first refusal from the left.
-use Rattle.std.specs.Prelude.{ℕ, ◌+◌, ◌-◌, ◌==◌, not, List, Option, Some, None, position, if◌then◌else◌, Result, Ok, Err}
+use Rattle.std.specs.Prelude.{ℕ, ◌+◌, ◌-◌, ◌==◌, not, List, Option, Some, None, position}
+use Rattle.std.specs.Prelude.{if◌then◌else◌, Result, Ok, Err}
 use Rattle.std.specs.Int.{w32, cast_signed}
 use Rattle.par_pool.specs.declared.constant.Constant.{Constant}
-use Rattle.par_pool.specs.declared.constant.Constant.TheVariants.{Utf8, Integer, Class, Text, Field, Method, NameType}
+use Rattle.par_pool.specs.declared.constant.Constant.TheVariants.{Utf8, Integer, Class, Text, Field}
+use Rattle.par_pool.specs.declared.constant.Constant.TheVariants.{Method, NameType}
 use Rattle.par_pool.specs.declared.error.ClassError.{ClassError}
 use Rattle.par_pool.specs.declared.error.ClassError.TheVariants.{Pool}
 use Rattle.par_pool.specs.Spelling.{is_plain, refers}
-use Rattle.par_pool.specs.Reading.{Reader, both, made, tested, keyed, items, u1_at, u2_at, u4_at, bytes_at, ◌>>=◌}
+use Rattle.par_pool.specs.Reading.{Reader, both, made, tested, keyed, items, u1_at, u2_at, u4_at}
+use Rattle.par_pool.specs.Reading.{bytes_at, ◌>>=◌}
 
 -- a text, whose bytes are looked at when all of them are there
 unfoldable pub text_at : ClassError → ℕ → Reader Constant

@@ -1,7 +1,8 @@
 -- What an index of a constant pool names.
 use Rattle.std.specs.Prelude.{◌≡◌, ℕ, zero, suc, List, Option, Some, None, slice_get}
 use Rattle.par_pool.specs.declared.constant.Constant.{Constant}
-use Rattle.par_pool.specs.declared.constant.Constant.TheVariants.{Utf8, Class, Field, Method, NameType}
+use Rattle.par_pool.specs.declared.constant.Constant.TheVariants.{Utf8, Class, Field, Method}
+use Rattle.par_pool.specs.declared.constant.Constant.TheVariants.{NameType}
 
 -- the entry of an index; entries are counted from 1, and index 0 has none
 abbrev pub entry_at : List Constant → ℕ → Option Constant

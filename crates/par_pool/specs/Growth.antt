@@ -5,7 +5,8 @@ use Rattle.par_pool.specs.declared.constant.Constant.{Constant}
 use Rattle.par_pool.specs.declared.constant.Constant.TheVariants.{Utf8, Class, NameType}
 use Rattle.par_pool.specs.Entries.{IsUtf8At, IsClassAt, IsNameTypeAt}
 
--- Each earlier index keeps its entry; behind these stand at most `few` more, each of the stated sort.
+-- Each earlier index keeps its entry; behind these stand at most `few` more, each of the stated
+-- sort.
 pub record Adds (old new : List Constant) (few : ℕ) (IsPart : Constant → Type 0) : Type 0 where
   pub more : List Constant
   pub behind : new ≡ old ++ more

@@ -1,4 +1,5 @@
--- Where the entries of a pool in the making stand, as they are looked up by the bytes that spell them.
+-- Where the entries of a pool in the making stand, as they are looked up by the bytes that spell
+-- them.
 use Rattle.std.specs.Prelude.{◌≡◌, ℕ, Bool, List, Option, Vec, position}
 use Rattle.std.specs.Str.{bytes_eq}
 use Rattle.indexmap.specs.IndexMap.{IndexMap, get}

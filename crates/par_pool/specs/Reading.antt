@@ -1,5 +1,7 @@
--- Reading items from left to right: a reader gives a value and the bytes behind it, or why there is none.
-use Rattle.std.specs.Prelude.{◌≡◌, ℕ, zero, suc, ◌+◌, List, [], ◌∷◌, length, take, drop, Bool, nat_lt, if◌then◌else◌, Result, Ok, Err}
+-- Reading items from left to right: a reader gives a value and the bytes behind it, or why there is
+-- none.
+use Rattle.std.specs.Prelude.{◌≡◌, ℕ, zero, suc, ◌+◌, List, [], ◌∷◌, length, take, drop, Bool}
+use Rattle.std.specs.Prelude.{nat_lt, if◌then◌else◌, Result, Ok, Err}
 use Rattle.byteorder.specs.Endian.{big_number}
 use Rattle.par_pool.specs.declared.error.ClassError.{ClassError}
 use Rattle.par_pool.specs.declared.error.ClassError.TheVariants.{Memory}

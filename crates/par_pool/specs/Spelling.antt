@@ -1,10 +1,13 @@
--- How constants are spelled (Java Virtual Machine Specification, Java SE 7, section 4.4), and which pools have a spelling.
-use Rattle.std.specs.Prelude.{◌≡◌, ℕ, ◌+◌, ◌<◌, ◌^◌, Bool, true, false, ◌&&◌, nat_lt, List, [], ◌∷◌, ◌++◌, length, Option, Some, None, IsTrue, FitsSigned}
+-- How constants are spelled (Java Virtual Machine Specification, Java SE 7, section 4.4), and which
+-- pools have a spelling.
+use Rattle.std.specs.Prelude.{◌≡◌, ℕ, ◌+◌, ◌<◌, ◌^◌, Bool, true, false, ◌&&◌, nat_lt, List, [], ◌∷◌}
+use Rattle.std.specs.Prelude.{◌++◌, length, Option, Some, None, IsTrue, FitsSigned}
 use Rattle.std.specs.List.{flat_map, list_all, AllByRecursion}
 use Rattle.std.specs.Int.{w32, cast_unsigned}
 use Rattle.byteorder.specs.Endian.{big_bytes}
 use Rattle.par_pool.specs.declared.constant.Constant.{Constant}
-use Rattle.par_pool.specs.declared.constant.Constant.TheVariants.{Utf8, Integer, Class, Text, Field, Method, NameType}
+use Rattle.par_pool.specs.declared.constant.Constant.TheVariants.{Utf8, Integer, Class, Text, Field}
+use Rattle.par_pool.specs.declared.constant.Constant.TheVariants.{Method, NameType}
 use Rattle.par_pool.specs.Entries.{entry_at, IsDistinct}
 
 -- a number of two bytes, the highest first

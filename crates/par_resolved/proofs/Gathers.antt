@@ -6,7 +6,8 @@ use Rattle.par_tree.specs.Shown.{does}
 use Rattle.par_tree.proofs.Shown.{doings}
 use Rattle.par_resolved.specs.Gathered.{statements_of}
 
-pub one_found : (found : List (Bor Stmt)) (s : Bor Stmt) → statements_of (found ++ s ∷ []) ≡ statements_of found ++ does s.now ∷ []
+pub one_found : (found : List (Bor Stmt)) (s : Bor Stmt)
+    → statements_of (found ++ s ∷ []) ≡ statements_of found ++ does s.now ∷ []
 one_found [] s = refl
 one_found (f ∷ found) s = ap (λ ss. does f.now ∷ ss) (one_found found s)
 

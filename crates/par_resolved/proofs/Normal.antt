@@ -1,5 +1,7 @@
 -- The normal form of clauses: it is one, and the same observers see it.
-use Rattle.std.proofs.Common.{◌≡◌, ◌≢◌, ℕ, suc, zero, ◌<◌, ◌+◌, Bool, true, false, cond, ◌&&◌, ◌||◌, List, [], ◌∷◌, ◌++◌, length, get_or, map, fold, flat_map, refl, sym, ap, ◌∙◌, subst, arith}
+use Rattle.std.proofs.Common.{◌≡◌, ◌≢◌, ℕ, suc, zero, ◌<◌, ◌+◌, Bool, true, false, cond, ◌&&◌, ◌||◌}
+use Rattle.std.proofs.Common.{List, [], ◌∷◌, ◌++◌, length, get_or, map, fold, flat_map, refl, sym}
+use Rattle.std.proofs.Common.{ap, ◌∙◌, subst, arith}
 use Rattle.std.specs.Prelude.{IsTrue, nat_eq, if◌then◌else◌}
 use Rattle.std.specs.List.{list_any, prefix_len, filter, AllWithin, HoldsAt}
 use Rattle.std.specs.Ordering.{is_lt}
@@ -16,7 +18,8 @@ use Rattle.par_policy.specs.Normal.{IsNormal, clause_cmp, covers}
 use Rattle.par_policy.specs.Lattice.{IsJoin, IsMeet}
 use Rattle.par_policy.proofs.Kept.{IsNormal-kept, alike-kept, alike-from_covered, sees_push}
 use Rattle.par_policy.proofs.Antisymmetry.{same_normal_forms}
-use Rattle.par_resolved.specs.Sets.{with_lock_set, beside, placed, with_clause, normal, with_locks_of, joined, met}
+use Rattle.par_resolved.specs.Sets.{with_lock_set, beside, placed, with_clause, normal}
+use Rattle.par_resolved.specs.Sets.{with_locks_of, joined, met}
 use Rattle.par_resolved.proofs.NumberSets.{set_is_ascending, set_within}
 
 -- ---- the front of a list
@@ -32,22 +35,26 @@ is_no_less Equal h k = cc k
 is_no_less Greater h k = cc k
 
 -- those at the front pass
-front_passes : {X : Type 0} (p : X → Bool) (xs : List X) → AllWithin (λ x. p x ≡ true) xs 0 (prefix_len p xs)
+front_passes : {X : Type 0} (p : X → Bool) (xs : List X)
+    → AllWithin (λ x. p x ≡ true) xs 0 (prefix_len p xs)
 front_passes p [] = λ k d from to. absurd (omega (arith, to))
 front_passes {X} p (x ∷ xs) = in_case (p x) refl (front_passes p xs)
   where
-    in_case : (b : Bool) → p x ≡ b → AllWithin (λ x. p x ≡ true) xs 0 (prefix_len p xs) → AllWithin (λ x. p x ≡ true) (x ∷ xs) 0 (cond b (1 + prefix_len p xs) 0)
+    in_case : (b : Bool) → p x ≡ b → AllWithin (λ x. p x ≡ true) xs 0 (prefix_len p xs)
+        → AllWithin (λ x. p x ≡ true) (x ∷ xs) 0 (cond b (1 + prefix_len p xs) 0)
     in_case true h later zero d from to = h
     in_case true h later (suc k) d from to = later k d (omega arith) (omega (arith, to))
     in_case false h later k d from to = absurd (omega (arith, to))
 
 -- the one behind them does not
-behind_fails : {X : Type 0} (p : X → Bool) (xs : List X) → prefix_len p xs < length xs → HoldsAt (λ x. p x ≡ false) xs (prefix_len p xs)
+behind_fails : {X : Type 0} (p : X → Bool) (xs : List X) → prefix_len p xs < length xs
+    → HoldsAt (λ x. p x ≡ false) xs (prefix_len p xs)
 behind_fails p [] = λ inside d. absurd (omega (arith, inside))
 behind_fails {X} p (x ∷ xs) = in_case (p x) refl (behind_fails p xs)
   where
     in_case : (b : Bool) → p x ≡ b
-        → (prefix_len p xs < length xs → HoldsAt (λ x. p x ≡ false) xs (prefix_len p xs)) → cond b (1 + prefix_len p xs) 0 < suc (length xs)
+        → (prefix_len p xs < length xs → HoldsAt (λ x. p x ≡ false) xs (prefix_len p xs))
+        → cond b (1 + prefix_len p xs) 0 < suc (length xs)
         → HoldsAt (λ x. p x ≡ false) (x ∷ xs) (cond b (1 + prefix_len p xs) 0)
     in_case true h later inside d =
         let e : 1 + prefix_len p xs ≡ suc (prefix_len p xs) = omega arith in
@@ -60,32 +67,38 @@ behind_fails {X} p (x ∷ xs) = in_case (p x) refl (behind_fails p xs)
 abbrev before : Clause → Clause → Bool
 before c d = is_lt (clause_cmp d c)
 
-pub normal_with : (p : List Clause) (c : Clause) → IsNormal p → IsAscending c.locks → IsNormal (with_clause p c)
+pub normal_with : (p : List Clause) (c : Clause) → IsNormal p → IsAscending c.locks
+    → IsNormal (with_clause p c)
 normal_with p c is up = in_case (list_any (λ d. covers d c) p) refl
   where
     rest : List Clause
     rest = beside c p
 
-    in_case : (b : Bool) → list_any (λ d. covers d c) p ≡ b → IsNormal (if b then p else placed (beside c p) c)
+    in_case : (b : Bool) → list_any (λ d. covers d c) p ≡ b
+        → IsNormal (if b then p else placed (beside c p) c)
     in_case true h = is
     in_case false h =
-        IsNormal-kept p (beside c p) (prefix_len (before c) (beside c p)) c refl (prefix_len-le-length (before c) (beside c p)) is up h
+        IsNormal-kept p (beside c p) (prefix_len (before c) (beside c p)) c refl
+        (prefix_len-le-length (before c) (beside c p)) is up h
         (λ k d from to. is_less _ (front_passes (before c) (beside c p) k d from to))
         (λ inside d. is_no_less _ (behind_fails (before c) (beside c p) inside d))
 
 pub alike_with : (p : List Clause) (c : Clause) → IsSeenAlike (with_clause p c) (p ++ c ∷ [])
 alike_with p c = in_case (list_any (λ d. covers d c) p) refl
   where
-    in_case : (b : Bool) → list_any (λ d. covers d c) p ≡ b → IsSeenAlike (if b then p else placed (beside c p) c) (p ++ c ∷ [])
+    in_case : (b : Bool) → list_any (λ d. covers d c) p ≡ b
+        → IsSeenAlike (if b then p else placed (beside c p) c) (p ++ c ∷ [])
     in_case true h = alike-from_covered p c h
     in_case false h = alike-kept p (prefix_len (before c) (beside c p)) c
 
 -- ---- all clauses
 
-normal_fold : (p cs : List Clause) → IsNormal p → IsNormal (fold with_clause p (map with_lock_set cs))
+normal_fold : (p cs : List Clause) → IsNormal p
+    → IsNormal (fold with_clause p (map with_lock_set cs))
 normal_fold p [] is = is
 normal_fold p (c ∷ cs) is =
-    normal_fold (with_clause p (with_lock_set c)) cs (normal_with p (with_lock_set c) is (set_is_ascending c.locks))
+    normal_fold (with_clause p (with_lock_set c)) cs
+    (normal_with p (with_lock_set c) is (set_is_ascending c.locks))
 
 or_regrouped : (a b c : Bool) → ((a || b) || c) ≡ (a || (b || c))
 or_regrouped true b c = refl
@@ -95,11 +108,13 @@ or_none : (a : Bool) → a ≡ (a || false)
 or_none true = refl
 or_none false = refl
 
-allows_set : (c : Clause) (actor : ℕ) (locks : List ℕ) → allows actor locks (with_lock_set c) ≡ allows actor locks c
+allows_set : (c : Clause) (actor : ℕ) (locks : List ℕ)
+    → allows actor locks (with_lock_set c) ≡ allows actor locks c
 allows_set c actor locks = ap (λ b. nat_eq c.actor actor && b) (set_within c.locks locks)
 
 alike_fold : (p cs : List Clause) (actor : ℕ) (locks : List ℕ)
-    → sees (fold with_clause p (map with_lock_set cs)) actor locks ≡ (sees p actor locks || sees cs actor locks)
+    → sees (fold with_clause p (map with_lock_set cs)) actor locks
+    ≡ (sees p actor locks || sees cs actor locks)
 alike_fold p [] actor locks = or_none (sees p actor locks)
 alike_fold p (c ∷ cs) actor locks =
     alike_fold (with_clause p (with_lock_set c)) cs actor locks
@@ -140,12 +155,15 @@ same_front true b c = refl
 same_front false b c = refl
 
 with_locks : (c d : Clause) (actor : ℕ) (locks : List ℕ) → nat_eq c.actor d.actor ≡ true
-    → allows actor locks (record { actor = c.actor; locks = c.locks ++ d.locks }) ≡ (allows actor locks c && allows actor locks d)
+    → allows actor locks (record { actor = c.actor; locks = c.locks ++ d.locks })
+    ≡ (allows actor locks c && allows actor locks d)
 with_locks c d actor locks h =
     let same : c.actor ≡ d.actor = grind (arith, nat_tests) in
-    ap (λ b. nat_eq c.actor actor && b) (list_all-append (λ n. list_any (λ held. nat_eq held n) locks) c.locks d.locks)
+    ap (λ b. nat_eq c.actor actor && b)
+    (list_all-append (λ n. list_any (λ held. nat_eq held n) locks) c.locks d.locks)
     ∙ same_front (nat_eq c.actor actor) (within c.locks locks) (within d.locks locks)
-    ∙ ap (λ a. (nat_eq c.actor actor && within c.locks locks) && (nat_eq a actor && within d.locks locks)) same
+    ∙ ap (λ a. (nat_eq c.actor actor && within c.locks locks)
+    && (nat_eq a actor && within d.locks locks)) same
 
 -- clauses of two actors allow nobody together
 apart : (c d : Clause) (actor : ℕ) (locks : List ℕ) → nat_eq c.actor d.actor ≡ false
@@ -176,11 +194,14 @@ sees_with_locks [] c actor locks = none (allows actor locks c)
     none : (x : Bool) → false ≡ (x && false)
     none true = refl
     none false = refl
-sees_with_locks (d ∷ q) c actor locks = in_case (nat_eq c.actor d.actor) refl (sees_with_locks q c actor locks)
+sees_with_locks (d ∷ q) c actor locks =
+    in_case (nat_eq c.actor d.actor) refl (sees_with_locks q c actor locks)
   where
     in_case : (b : Bool) → nat_eq c.actor d.actor ≡ b
         → sees (with_locks_of q c) actor locks ≡ (allows actor locks c && sees q actor locks)
-        → sees (map (λ e. record { actor = c.actor; locks = c.locks ++ e.locks }) (cond b (d ∷ filter (λ e. nat_eq c.actor e.actor) q) (filter (λ e. nat_eq c.actor e.actor) q))) actor locks
+        → sees (map (λ e. record { actor = c.actor; locks = c.locks ++ e.locks })
+        (cond b (d ∷ filter (λ e. nat_eq c.actor e.actor) q)
+        (filter (λ e. nat_eq c.actor e.actor) q))) actor locks
         ≡ (allows actor locks c && (allows actor locks d || sees q actor locks))
     in_case true h later =
         ap (λ b. b || sees (with_locks_of q c) actor locks) (with_locks c d actor locks h)
@@ -188,7 +209,8 @@ sees_with_locks (d ∷ q) c actor locks = in_case (nat_eq c.actor d.actor) refl 
         ∙ spread (allows actor locks c) (allows actor locks d) (sees q actor locks)
     in_case false h later =
         later
-        ∙ ap (λ b. b || (allows actor locks c && sees q actor locks)) (sym (apart c d actor locks h))
+        ∙ ap (λ b. b || (allows actor locks c && sees q actor locks))
+        (sym (apart c d actor locks h))
         ∙ spread (allows actor locks c) (allows actor locks d) (sees q actor locks)
 
 spread_right : (a b x : Bool) → ((a && x) || (b && x)) ≡ ((a || b) && x)
@@ -203,23 +225,27 @@ sees_pairs : (p q : List Clause) (actor : ℕ) (locks : List ℕ)
 sees_pairs [] q actor locks = refl
 sees_pairs (c ∷ p) q actor locks =
     list_any-append (allows actor locks) (with_locks_of q c) (flat_map (with_locks_of q) p)
-    ∙ ap (λ b. b || sees (flat_map (with_locks_of q) p) actor locks) (sees_with_locks q c actor locks)
+    ∙ ap (λ b. b || sees (flat_map (with_locks_of q) p) actor locks)
+    (sees_with_locks q c actor locks)
     ∙ ap (λ b. (allows actor locks c && sees q actor locks) || b) (sees_pairs p q actor locks)
     ∙ spread_right (allows actor locks c) (sees p actor locks) (sees q actor locks)
 
 -- a normal form that those see who see both is the join
 pub one_join : (r p q : List Clause) → IsNormal r → IsJoin r p q → r ≡ joined p q
 one_join r p q is join =
-    one_normal r (flat_map (with_locks_of q) p) is (λ actor locks. join actor locks ∙ sym (sees_pairs p q actor locks))
+    one_normal r (flat_map (with_locks_of q) p) is
+    (λ actor locks. join actor locks ∙ sym (sees_pairs p q actor locks))
 
 -- a normal form that those see who see one of them is the meet
 pub one_meet : (r p q : List Clause) → IsNormal r → IsMeet r p q → r ≡ met p q
 one_meet r p q is meet =
-    one_normal r (p ++ q) is (λ actor locks. meet actor locks ∙ sym (list_any-append (allows actor locks) p q))
+    one_normal r (p ++ q) is (λ actor locks. meet actor locks
+    ∙ sym (list_any-append (allows actor locks) p q))
 
 -- ---- lock sets
 
-sees_sets : (cs : List Clause) (actor : ℕ) (locks : List ℕ) → sees (map with_lock_set cs) actor locks ≡ sees cs actor locks
+sees_sets : (cs : List Clause) (actor : ℕ) (locks : List ℕ)
+    → sees (map with_lock_set cs) actor locks ≡ sees cs actor locks
 sees_sets [] actor locks = refl
 sees_sets (c ∷ cs) actor locks =
     ap (λ b. b || sees (map with_lock_set cs) actor locks) (allows_set c actor locks)

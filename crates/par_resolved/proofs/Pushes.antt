@@ -4,7 +4,8 @@ use Rattle.std.specs.Borrow.{Bor}
 use Rattle.par_tree.proofs.Shown.{doings}
 use Rattle.par_resolved.specs.Gathered.{all_of}
 
-pub one_ref : {A : Type 0} (found : List (Bor A)) (r : Bor A) → all_of (found ++ r ∷ []) ≡ all_of found ++ r.now ∷ []
+pub one_ref : {A : Type 0} (found : List (Bor A)) (r : Bor A)
+    → all_of (found ++ r ∷ []) ≡ all_of found ++ r.now ∷ []
 one_ref [] r = refl
 one_ref (f ∷ found) r = ap (λ xs. f.now ∷ xs) (one_ref found r)
 

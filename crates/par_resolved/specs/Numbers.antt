@@ -1,5 +1,6 @@
 -- The numbers of what a program declares.
-use Rattle.std.specs.Prelude.{ℕ, zero, suc, ◌+◌, ◌*◌, ◌^◌, List, [], ◌∷◌, map, length, unwrap_or, position, Option, None, Some, slice_index_or, flat_map}
+use Rattle.std.specs.Prelude.{ℕ, zero, suc, ◌+◌, ◌*◌, ◌^◌, List, [], ◌∷◌, map, length, unwrap_or}
+use Rattle.std.specs.Prelude.{position, Option, None, Some, slice_index_or, flat_map}
 use Rattle.std.specs.List.{range_with_len}
 use Rattle.std.specs.Str.{bytes_eq}
 use Rattle.par_tree.specs.declared.ident.Ident.{Ident}

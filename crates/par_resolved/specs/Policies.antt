@@ -1,5 +1,6 @@
 -- What policy expressions come to.
-use Rattle.std.specs.Prelude.{ℕ, Bool, ◌&&◌, nat_le, if◌then◌else◌, List, [], ◌∷◌, ◌++◌, map, length, position, slice_get, unwrap_or, Option, None, Some}
+use Rattle.std.specs.Prelude.{ℕ, Bool, ◌&&◌, nat_le, if◌then◌else◌, List, [], ◌∷◌, ◌++◌, map}
+use Rattle.std.specs.Prelude.{length, position, slice_get, unwrap_or, Option, None, Some}
 use Rattle.std.specs.List.{list_all, range_with_len}
 use Rattle.std.specs.Str.{bytes_eq}
 use Rattle.par_policy.specs.declared.clauses.Clause.{Clause}
@@ -41,7 +42,8 @@ term_value k (Named id) = value_at k.values (position (bytes_eq id.name) k.names
 term_value k Bottom = Some (bottom k.numbers)
 term_value k Top = Some []
 
-abbrev pub and_more : Option (List Clause) → Option (List (List Clause)) → Option (List (List Clause))
+abbrev pub and_more : Option (List Clause) → Option (List (List Clause))
+    → Option (List (List Clause))
 and_more None rest = None
 and_more (Some p) None = None
 and_more (Some p) (Some ps) = Some (p ∷ ps)
@@ -82,7 +84,8 @@ policy_of k e = unwrap_or (value_of k e) []
 -- ---- declarations
 
 abbrev pub with_value : Known → Option (List Clause) → Known
-with_value k value = record { numbers = k.numbers; names = k.names; values = k.values ++ value ∷ [] }
+with_value k value =
+    record { numbers = k.numbers; names = k.names; values = k.values ++ value ∷ [] }
 
 -- what is known behind these declarations
 unfoldable pub known_behind : Known → List PolicyDecl → Known

@@ -1,5 +1,7 @@
 -- The table of a program.
-use Rattle.std.specs.Prelude.{ℕ, ◌+◌, Bool, nat_eq, if◌then◌else◌, List, [], ◌∷◌, ◌++◌, map, flat_map, length, slice_get, position, unwrap_or, codes, count_by, Option, None, Some}
+use Rattle.std.specs.Prelude.{ℕ, ◌+◌, Bool, nat_eq, if◌then◌else◌, List, [], ◌∷◌, ◌++◌, map}
+use Rattle.std.specs.Prelude.{flat_map, length, slice_get, position, unwrap_or, codes, count_by}
+use Rattle.std.specs.Prelude.{Option, None, Some}
 use Rattle.std.specs.List.{list_any}
 use Rattle.std.specs.Str.{bytes_eq}
 use Rattle.par_policy.specs.declared.clauses.Clause.{Clause}
@@ -24,7 +26,8 @@ use Rattle.par_typed.specs.declared.table.ClassInfo.{ClassInfo}
 use Rattle.par_typed.specs.declared.table.Table.{Table}
 use Rattle.par_names.specs.Declarations.{locks, classes}
 use Rattle.par_resolved.specs.Sets.{set_of}
-use Rattle.par_resolved.specs.Numbers.{Numbers, number, lock_number, type_of, result_of, ground_count, choices, place_in_family}
+use Rattle.par_resolved.specs.Numbers.{Numbers, number, lock_number, type_of, result_of}
+use Rattle.par_resolved.specs.Numbers.{ground_count, choices, place_in_family}
 use Rattle.par_resolved.specs.Policies.{Known, known, policy_of}
 use Rattle.par_resolved.specs.Statements.{in_braces}
 use Rattle.par_resolved.specs.Written.{stmt_types, queried}

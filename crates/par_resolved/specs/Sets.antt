@@ -1,5 +1,6 @@
 -- Clauses in normal form, as a function of any clauses: the minimal ones, ascending, each once.
-use Rattle.std.specs.Prelude.{ℕ, not, nat_lt, nat_eq, if◌then◌else◌, List, [], ◌∷◌, ◌++◌, map, fold, flat_map, filter, insert}
+use Rattle.std.specs.Prelude.{ℕ, not, nat_lt, nat_eq, if◌then◌else◌, List, [], ◌∷◌, ◌++◌, map, fold}
+use Rattle.std.specs.Prelude.{flat_map, filter, insert}
 use Rattle.std.specs.List.{list_any, prefix_len}
 use Rattle.std.specs.Ordering.{is_lt}
 use Rattle.par_policy.specs.declared.clauses.Clause.{Clause}

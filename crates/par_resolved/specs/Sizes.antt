@@ -1,5 +1,6 @@
 -- Limits 4 and 5: the clauses of a policy, and the locks of a clause.
-use Rattle.std.specs.Prelude.{ℕ, ◌^◌, ◌-◌, min, nat_lt, if◌then◌else◌, List, [], ◌∷◌, ◌++◌, map, flat_map, find, length, Option, None, Some}
+use Rattle.std.specs.Prelude.{ℕ, ◌^◌, ◌-◌, min, nat_lt, if◌then◌else◌, List, [], ◌∷◌, ◌++◌, map}
+use Rattle.std.specs.Prelude.{flat_map, find, length, Option, None, Some}
 use Rattle.par_policy.specs.declared.clauses.Clause.{Clause}
 use Rattle.par_tree.specs.declared.policy.PolicyTerm.{PolicyTerm}
 use Rattle.par_tree.specs.declared.policy.PolicyTerm.TheVariants.{Clauses, Named, Bottom, Top}
@@ -7,7 +8,8 @@ use Rattle.par_tree.specs.declared.policy.PolicyExpr.{PolicyExpr}
 use Rattle.par_tree.specs.Plain.{Source}
 use Rattle.par_typed.specs.declared.refusal.Refusal.{Refusal}
 use Rattle.par_typed.specs.First.{exceeded}
-use Rattle.par_resolved.specs.declared.limits.TheConstants.{CLAUSE_LIMIT, MOST_CLAUSES, LOCK_LIMIT, MOST_LOCKS}
+use Rattle.par_resolved.specs.declared.limits.TheConstants.{CLAUSE_LIMIT, MOST_CLAUSES, LOCK_LIMIT}
+use Rattle.par_resolved.specs.declared.limits.TheConstants.{MOST_LOCKS}
 use Rattle.par_resolved.specs.Sets.{joined}
 use Rattle.par_resolved.specs.Policies.{Known, term_values, fits}
 use Rattle.par_resolved.specs.Written.{written}
@@ -43,7 +45,8 @@ literal_locks Bottom = []
 literal_locks Top = []
 
 abbrev pub literal_faults : PolicyExpr → List Refusal
-literal_faults e = size_faults e.at (flat_map literal_sizes e.terms) (flat_map literal_locks e.terms)
+literal_faults e =
+    size_faults e.at (flat_map literal_sizes e.terms) (flat_map literal_locks e.terms)
 
 -- ---- joins, up to the first that does not fit
 

@@ -1,15 +1,18 @@
 -- Each rule that the code takes is a step of the pass.
-use Rattle.std.proofs.Common.{◌≡◌, ℕ, Bool, Option, Some, None, List, [], ◌∷◌, ◌++◌, refl, sym, ap, ◌∙◌, subst}
+use Rattle.std.proofs.Common.{◌≡◌, ℕ, Bool, Option, Some, None, List, [], ◌∷◌, ◌++◌, refl, sym, ap}
+use Rattle.std.proofs.Common.{◌∙◌, subst}
 use Rattle.par_bits.specs.Sets.{Set, has, none, union}
 use Rattle.par_rules.specs.Lattice.{numbers}
 use Rattle.par_rules.specs.Kinds.{Kind, normal, absorbed, Absorber}
 use Rattle.par_rules.specs.Facts.{Fact, blank}
-use Rattle.par_rules.specs.Rules.{From, Worth, Node, node, Rules, Done, Part, Test, Heads, Leaves, Worths, spot, way, worth}
+use Rattle.par_rules.specs.Rules.{From, Worth, Node, node, Rules, Done, Part, Test, Heads, Leaves}
+use Rattle.par_rules.specs.Rules.{Worths, spot, way, worth}
 use Rattle.par_except.specs.declared.way.Way as code_way
 use Rattle.par_except.specs.Seen.{may_see}
 use Rattle.par_pass.specs.Exits.{Way, Exit, all, at, leaving, leave, restored}
 use Rattle.par_pass.specs.Pass as plain
-use Rattle.par_pass.specs.Pass.{HeadWays, Event, Row, nothing, fact, visited, ended, into, pass, pass_all}
+use Rattle.par_pass.specs.Pass.{HeadWays, Event, Row, nothing, fact, visited, ended, into, pass}
+use Rattle.par_pass.specs.Pass.{pass_all}
 use Rattle.par_rounds.specs.declared.exits.Exit as code_exit
 use Rattle.par_rounds.specs.declared.notes.Notes.{Notes}
 use Rattle.par_rounds.specs.declared.pass.Found.{Found}

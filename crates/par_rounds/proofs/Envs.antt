@@ -1,5 +1,6 @@
 -- Policies of locals, read and written.
-use Rattle.std.proofs.Common.{◌≡◌, ℕ, ◌+◌, ◌<◌, List, length, get_or, sym, ap, ◌∙◌, subst, arith, ⊎_elim, below_more}
+use Rattle.std.proofs.Common.{◌≡◌, ℕ, ◌+◌, ◌<◌, List, length, get_or, sym, ap, ◌∙◌, subst, arith}
+use Rattle.std.proofs.Common.{⊎_elim, below_more}
 use Rattle.std.proofs.lemmas.Bool.{cases_lt}
 use Rattle.par_bits.specs.Sets.{has, IsWithin}
 use Rattle.par_except.specs.Seen.{locals}

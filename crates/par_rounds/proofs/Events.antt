@@ -1,5 +1,6 @@
 -- Events one after the other.
-use Rattle.std.proofs.Common.{◌≡◌, ◌<◌, ◌≤◌, Bool, true, false, List, [], ◌∷◌, ◌++◌, set, refl, sym, ap, ◌∙◌, subst, arith}
+use Rattle.std.proofs.Common.{◌≡◌, ◌<◌, ◌≤◌, Bool, true, false, List, [], ◌∷◌, ◌++◌, set, refl, sym}
+use Rattle.std.proofs.Common.{ap, ◌∙◌, subst, arith}
 use Rattle.par_rules.specs.Lattice.{numbers}
 use Rattle.par_rules.specs.Facts.{Fact}
 use Rattle.par_pass.specs.Pass.{HeadWays, Event, Row, Into}

@@ -1,5 +1,6 @@
 -- The heads stay below all facts that obey the rules.
-use Rattle.std.proofs.Common.{ℕ, zero, suc, cond, Option, Some, None, List, [], ◌∷◌, sym, subst, ⊎_elim}
+use Rattle.std.proofs.Common.{ℕ, zero, suc, cond, Option, Some, None, List, [], ◌∷◌, sym, subst}
+use Rattle.std.proofs.Common.{⊎_elim}
 use Rattle.std.proofs.lemmas.Bool.Decides.{eqb_tells}
 use Rattle.par_rules.specs.Lattice.{Lattice}
 use Rattle.par_rules.specs.Ways as rules

@@ -1,9 +1,11 @@
 -- What each rule needs, from what all of them need.
-use Rattle.std.proofs.Common.{◌≡◌, ℕ, ◌<◌, Option, None, List, [], ◌∷◌, ◌++◌, length, sym, subst, arith}
+use Rattle.std.proofs.Common.{◌≡◌, ℕ, ◌<◌, Option, None, List, [], ◌∷◌, ◌++◌, length, sym, subst}
+use Rattle.std.proofs.Common.{arith}
 use Rattle.std.proofs.lemmas.List.Elements.{All-push}
 use Rattle.par_rules.specs.Kinds.{Kind, Absorber}
 use Rattle.par_rules.specs.Ranges.{IsFromInRange, IsWorthInRange}
-use Rattle.par_rules.specs.Rules.{From, Worth, Node, node, Rules, Part, Test, Heads, Leaves, Worths, spot}
+use Rattle.par_rules.specs.Rules.{From, Worth, Node, node, Rules, Part, Test, Heads, Leaves, Worths}
+use Rattle.par_rules.specs.Rules.{spot}
 use Rattle.par_except.specs.declared.way.Way.{Way}
 use Rattle.par_except.specs.Seen.{HasLocals}
 use Rattle.par_pass.specs.Pass.{Event}

@@ -1,7 +1,8 @@
 -- The first number behind rules.
 use Rattle.std.proofs.Common.{◌≡◌, ℕ, ◌+◌, sym, ap, ◌∙◌, add-one}
 use Rattle.par_rules.specs.Kinds.{Kind, Absorber}
-use Rattle.par_rules.specs.Rules.{From, Worth, Node, node, Rules, Done, Part, Test, Heads, Leaves, Worths}
+use Rattle.par_rules.specs.Rules.{From, Worth, Node, node, Rules, Done, Part, Test, Heads, Leaves}
+use Rattle.par_rules.specs.Rules.{Worths}
 use Rattle.par_rules.specs.Numbered.{next, next_by}
 
 module _ (rules : Rules) (n : ℕ) where

@@ -1,5 +1,6 @@
 -- Facts of parts, the latest first, and the ways that come of them.
-use Rattle.std.proofs.Common.{◌≡◌, ℕ, zero, suc, ◌+◌, ◌-◌, ◌<◌, ◌≤◌, cond, Option, Some, None, List, [], ◌∷◌, ◌++◌, length, get_or, set, refl, sym, ap, ◌∙◌, arith, ⊎_elim}
+use Rattle.std.proofs.Common.{◌≡◌, ℕ, zero, suc, ◌+◌, ◌-◌, ◌<◌, ◌≤◌, cond, Option, Some, None, List}
+use Rattle.std.proofs.Common.{[], ◌∷◌, ◌++◌, length, get_or, set, refl, sym, ap, ◌∙◌, arith, ⊎_elim}
 use Rattle.std.proofs.lemmas.Bool.{eq-eqb}
 use Rattle.std.proofs.Math.Path.{fun_ext}
 use Rattle.std.proofs.lemmas.Bool.Decides.{eqb_tells}
@@ -23,7 +24,8 @@ use Rattle.par_nodes.specs.Seen as step
 use Rattle.par_except.specs.Seen.{locals}
 use Rattle.par_rounds.specs.declared.fact.Fact as code
 use Rattle.par_rounds.specs.Seen.{seen_fact, latest_first}
-use Rattle.par_rounds.specs.Changes.{seen_locks, assigned_by, tested_by, raised_by, shut_by, opened_by, HaveRange, HasPolicy, HasLocal}
+use Rattle.par_rounds.specs.Changes.{seen_locks, assigned_by, tested_by, raised_by, shut_by}
+use Rattle.par_rounds.specs.Changes.{opened_by, HaveRange, HasPolicy, HasLocal}
 
 pub latest_push : (fs : List code.Fact) (f : code.Fact) (gs : List (Fact numbers))
     → latest_first (fs ++ f ∷ []) gs ≡ seen_fact f ∷ latest_first fs gs

@@ -1,6 +1,7 @@
 -- Where numbers are in range, so are those that a pass finds: facts that have all of them obey the
 -- rules.
-use Rattle.std.proofs.Common.{◌≡◌, ℕ, zero, suc, ◌<◌, Bool, true, false, cond, Option, Some, None, List, [], ◌∷◌, sym, subst}
+use Rattle.std.proofs.Common.{◌≡◌, ℕ, zero, suc, ◌<◌, Bool, true, false, cond, Option, Some, None}
+use Rattle.std.proofs.Common.{List, [], ◌∷◌, sym, subst}
 use Rattle.std.specs.Prelude.{nat_eq}
 use Rattle.std.proofs.lemmas.Bool.{ltb-true, lt-ltb, eqb-true}
 use lib.Dec.{ltb}
@@ -11,8 +12,10 @@ use Rattle.par_rules.specs.Kinds.{Kind, Normal, normal}
 use Rattle.par_rules.specs.Ways.{Way, Flows, MayFlow, moved, put, raised, assigned, opened, shut}
 use Rattle.par_rules.specs.Facts.{Fact, Facts}
 use Rattle.par_rules.specs.Ranges.{IsFromInRange, IsWorthInRange}
-use Rattle.par_rules.specs.Rules.{From, Entry, After, Tested, Raised, Opened, Shut, Assigned, Worth, Given, Held, Value}
-use Rattle.par_rules.specs.Rules.{Node, node, Rules, Done, Part, Test, Heads, Leaves, Worths, way, worth, part_at, spot}
+use Rattle.par_rules.specs.Rules.{From, Entry, After, Tested, Raised, Opened, Shut, Assigned, Worth}
+use Rattle.par_rules.specs.Rules.{Given, Held, Value}
+use Rattle.par_rules.specs.Rules.{Node, node, Rules, Done, Part, Test, Heads, Leaves, Worths, way}
+use Rattle.par_rules.specs.Rules.{worth, part_at, spot}
 use Rattle.par_rules.specs.Rules.{MayLeave, MayHead, Obeys, ObeysAll}
 use Rattle.par_pass.specs.Pass.{Event, Row, Into, pass}
 use Rattle.par_pass.specs.Low.{Stands, AreLow}

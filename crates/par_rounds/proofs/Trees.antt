@@ -10,8 +10,10 @@ use Rattle.par_nodes.specs.declared.rule.Absorber.{Absorber}
 use Rattle.par_nodes.specs.declared.rule.Node.{Node}
 use Rattle.par_nodes.specs.declared.rule.Rules.{Rules}
 use Rattle.par_nodes.specs.declared.rule.Rules.TheVariants as rule
-use Rattle.par_nodes.specs.Seen.{seen_kind, seen_origin, seen_worth, seen_absorber, seen_rules, seen_node}
-use Rattle.par_nodes.proofs.Forms.{seen_done, seen_part, seen_test, seen_heads, seen_leaves, seen_worths}
+use Rattle.par_nodes.specs.Seen.{seen_kind, seen_origin, seen_worth, seen_absorber, seen_rules}
+use Rattle.par_nodes.specs.Seen.{seen_node}
+use Rattle.par_nodes.proofs.Forms.{seen_done, seen_part, seen_test, seen_heads, seen_leaves}
+use Rattle.par_nodes.proofs.Forms.{seen_worths}
 
 pub is_done : (rs : Rules) → rs ≡ rule.Done → seen_rules rs ≡ plain.Done
 is_done rs is = ap seen_rules is ∙ seen_done

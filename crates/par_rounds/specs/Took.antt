@@ -1,5 +1,6 @@
 -- What the events of a pass make of its notes.
-use Rattle.std.specs.Prelude.{◌≡◌, ◌<◌, ◌≤◌, ◌+◌, ◌*◌, ℕ, suc, true, false, cond, nat_eq, Option, Some, None, List, [], ◌∷◌, length}
+use Rattle.std.specs.Prelude.{◌≡◌, ◌<◌, ◌≤◌, ◌+◌, ◌*◌, ℕ, suc, true, false, cond, nat_eq, Option}
+use Rattle.std.specs.Prelude.{Some, None, List, [], ◌∷◌, length}
 use Rattle.par_bits.specs.Sets.{has}
 use Rattle.par_except.specs.declared.way.Way as code
 use Rattle.par_except.specs.Joins.{may_join}

@@ -5,13 +5,15 @@ use Rattle.par_bits.specs.Sets.{none, adding}
 use Rattle.par_lexer.specs.declared.operator.BinOp.{BinOp}
 use Rattle.par_lexer.specs.declared.operator.BinOp.TheVariants.{And, Or, Div, Rem}
 use Rattle.par_typed.specs.Plain as plain
-use Rattle.par_typed.specs.Plain.{TExp, MayTExp, TExps, TSta, MayTSta, TStas, TCatches, Mark, mark, point}
+use Rattle.par_typed.specs.Plain.{TExp, MayTExp, TExps, TSta, MayTSta, TStas, TCatches, Mark, mark}
+use Rattle.par_typed.specs.Plain.{point}
 use Rattle.par_rules.specs.Kinds as kind
 use Rattle.par_rules.specs.Kinds.{Normal, Next, Loop, Catches, ARITHMETIC, NULL_POINTER}
 use Rattle.par_rules.specs.Declares.{Declares, Method, Thrown}
 use Rattle.par_rules.specs.Rules.{From, Entry, After, Tested, Raised, Opened, Shut, Assigned}
 use Rattle.par_rules.specs.Rules.{Given, Held, Value}
-use Rattle.par_rules.specs.Rules.{Node, node, Rules, Done, Part, Test, Heads, Leaves, Worths, goes_on}
+use Rattle.par_rules.specs.Rules.{Node, node, Rules, Done, Part, Test, Heads, Leaves, Worths}
+use Rattle.par_rules.specs.Rules.{goes_on}
 use Rattle.par_rules.specs.Rules.{can}
 
 -- the way behind the latest part
@@ -87,7 +89,8 @@ module _ (declared : Declares) where
   -- a called method throws, or goes on with its locks closed and opened
   abbrev pub called : Method → From → Rules
   called m from =
-      thrown m from m.throws (goes_on (Opened m.opens (Shut m.closes from)) (Worths (Given m.result) Done))
+      thrown m from m.throws
+      (goes_on (Opened m.opens (Shut m.closes from)) (Worths (Given m.result) Done))
 
   unfoldable mutual
     pub exp : TExp → Node

@@ -32,7 +32,8 @@ module _ (P : Lattice) where
 
   -- the body is entered, and its flow obeys the rules
   pub record IsClosed (declared : Declares) (b : Body) (a : Facts P) : Type 0 where
-    pub entered : MayFlow P (Some (first (declared.method b.class b.method))) (a (point b.body)).entry
+    pub entered : MayFlow P (Some (first (declared.method b.class b.method)))
+        (a (point b.body)).entry
     pub obeyed : Obeys P a (sta declared b.body)
 
   abbrev pub IsThere : Option (Way P) → Type 0

@@ -38,7 +38,8 @@ ARITHMETIC = 0
 abbrev pub NULL_POINTER : ℕ
 NULL_POINTER = 1
 
--- what takes exits of a part for itself: the next part, the loop around, or catches of these classes
+-- what takes exits of a part for itself: the next part, the loop around, or catches of these
+-- classes
 pub data Absorber : Type 0 where
   Next : Absorber
   Loop : Absorber

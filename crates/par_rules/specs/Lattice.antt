@@ -1,5 +1,6 @@
 -- Policies, by what the rules of flow ask of them.
-use Rattle.std.specs.Prelude.{ℕ, suc, Bool, true, ◌&&◌, ◌||◌, not, Option, Some, None, List, [], ◌∷◌, IsTrue, slice_get}
+use Rattle.std.specs.Prelude.{ℕ, suc, Bool, true, ◌&&◌, ◌||◌, not, Option, Some, None, List, []}
+use Rattle.std.specs.Prelude.{◌∷◌, IsTrue, slice_get}
 use Rattle.par_policy.specs.declared.clauses.Clause.{Clause}
 use Rattle.par_policy.specs.Sees.{sees}
 use Rattle.par_bits.specs.Sets.{Set, none, adding, union, IsWithin}

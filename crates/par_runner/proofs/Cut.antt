@@ -1,5 +1,6 @@
 -- Texts that are cut at a byte that does not stand before it.
-use Rattle.std.proofs.Common.{◌≡◌, ◌≢◌, ℕ, ◌+◌, ◌%◌, ◌<◌, ◌^◌, suc, Bool, true, false, ◌||◌, List, [], ◌∷◌, ◌++◌, refl, ap, ◌∙◌, arith, ℤ, pos, negsuc}
+use Rattle.std.proofs.Common.{◌≡◌, ◌≢◌, ℕ, ◌+◌, ◌%◌, ◌<◌, ◌^◌, suc, Bool, true, false, ◌||◌, List}
+use Rattle.std.proofs.Common.{[], ◌∷◌, ◌++◌, refl, ap, ◌∙◌, arith, ℤ, pos, negsuc}
 use Rattle.std.specs.Prelude.{IsTrue, FitsSigned, nat_le}
 use Rattle.std.specs.Fmt.{decimal, signed_decimal}
 use Rattle.std.specs.List.{list_all}
@@ -19,7 +20,8 @@ pub record Parts (xs ys rest more : List ℕ) : Type 0 where
   pub behind : rest ≡ more
 
 -- equal texts have equal parts before and behind the first such byte
-pub cut : (c : ℕ) (xs ys rest more : List ℕ) → Lacks c xs → Lacks c ys → xs ++ (c ∷ rest) ≡ ys ++ (c ∷ more) → Parts xs ys rest more
+pub cut : (c : ℕ) (xs ys rest more : List ℕ) → Lacks c xs → Lacks c ys
+    → xs ++ (c ∷ rest) ≡ ys ++ (c ∷ more) → Parts xs ys rest more
 cut c [] [] rest more h k e = record { before = refl; behind = let same : rest ≡ more = cc in same }
 cut c [] (y ∷ ys) rest more h k e = let same : y ≡ c = cc in absurd (k.0 same)
 cut c (x ∷ xs) [] rest more h k e = let same : x ≡ c = cc in absurd (h.0 same)
@@ -27,7 +29,10 @@ cut c (x ∷ xs) (y ∷ ys) rest more h k e =
     let head : x ≡ y = cc in
     let tail : xs ++ (c ∷ rest) ≡ ys ++ (c ∷ more) = cc in
     let parts = cut c xs ys rest more h.1 k.1 tail in
-    record { before = ap (λ zs. x ∷ zs) parts.before ∙ ap (λ z. z ∷ ys) head; behind = parts.behind }
+    record {
+      before = ap (λ zs. x ∷ zs) parts.before ∙ ap (λ z. z ∷ ys) head;
+      behind = parts.behind;
+    }
 
 -- a text that has the byte does not lack it
 pub not_lacked : (c : ℕ) (xs rest : List ℕ) → Lacks c (xs ++ (c ∷ rest)) → ⊥
@@ -47,17 +52,21 @@ or_left : (a b : Bool) → a ≡ true → (a || b) ≡ true
 or_left true b h = refl
 or_left false b h = cc
 
-rest_lacks : (c : ℕ) (bytes : List ℕ) → goes_on c ≡ false → IsTrue (list_all goes_on bytes) → Lacks c bytes
+rest_lacks : (c : ℕ) (bytes : List ℕ) → goes_on c ≡ false → IsTrue (list_all goes_on bytes)
+    → Lacks c bytes
 rest_lacks c [] ends h = tt
 rest_lacks c (b ∷ bytes) ends h =
     let parts = and_parts (goes_on b) (list_all goes_on bytes) h in
     (goes_on_elsewhere c b ends parts.0, rest_lacks c bytes ends parts.1)
 
-spelled_lacks : (c : ℕ) (name : List ℕ) → goes_on c ≡ false → IsTrue (is_spelled name) → Lacks c name
+spelled_lacks : (c : ℕ) (name : List ℕ) → goes_on c ≡ false → IsTrue (is_spelled name)
+    → Lacks c name
 spelled_lacks c [] ends h = tt
 spelled_lacks c (b ∷ bytes) ends h =
-    let parts = and_parts (is_letter b) (list_all goes_on bytes) h in
-    (goes_on_elsewhere c b ends (or_left (is_letter b) (is_digit b) parts.0), rest_lacks c bytes ends parts.1)
+    let parts = and_parts (is_letter b) (list_all goes_on bytes) h in (
+      goes_on_elsewhere c b ends (or_left (is_letter b) (is_digit b) parts.0),
+      rest_lacks c bytes ends parts.1,
+    )
 
 -- a name has no byte that no name goes on with
 pub name_lacks : (c : ℕ) (name : List ℕ) → goes_on c ≡ false → IsName name → Lacks c name
@@ -71,7 +80,9 @@ IsNoDigit c = (d : ℕ) → d < 10 → 48 + d ≢ c
 
 pub no_digit : (c : ℕ) → is_digit c ≡ false → IsNoDigit c
 no_digit c ends d less e =
-    let in_range : is_digit (48 + d) ≡ true = and_from (nat_le 48 (48 + d)) (nat_le (48 + d) 57) (le-leb 48 (48 + d) (omega arith)) (le-leb (48 + d) 57 (omega (arith, less))) in
+    let in_range : is_digit (48 + d) ≡ true =
+    and_from (nat_le 48 (48 + d)) (nat_le (48 + d) 57) (le-leb 48 (48 + d) (omega arith))
+    (le-leb (48 + d) 57 (omega (arith, less))) in
     let same : is_digit (48 + d) ≡ is_digit c = ap is_digit e in
     cc
 
@@ -86,6 +97,11 @@ decimal_lacks c n ends small =
 pub short_mag : (z : ℤ) → FitsSigned w32 z → mag z < 2 ^ 63
 short_mag z h = let small : mag z < 2 ^ 31 = h.sfits in omega (arith, small)
 
-pub signed_lacks : (c : ℕ) (z : ℤ) → IsNoDigit c → 45 ≢ c → FitsSigned w32 z → Lacks c (signed_decimal z)
-signed_lacks c (pos n) ends sign h = decimal_lacks c n ends (let small = short_mag (pos n) h in omega (arith, small))
-signed_lacks c (negsuc n) ends sign h = (sign, decimal_lacks c (suc n) ends (let small = short_mag (negsuc n) h in omega (arith, small)))
+pub signed_lacks : (c : ℕ) (z : ℤ) → IsNoDigit c → 45 ≢ c → FitsSigned w32 z
+    → Lacks c (signed_decimal z)
+signed_lacks c (pos n) ends sign h =
+    decimal_lacks c n ends (let small = short_mag (pos n) h in omega (arith, small))
+signed_lacks c (negsuc n) ends sign h = (
+  sign,
+  decimal_lacks c (suc n) ends (let small = short_mag (negsuc n) h in omega (arith, small)),
+)

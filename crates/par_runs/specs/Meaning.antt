@@ -1,13 +1,18 @@
--- What each expression and each statement does, and what it costs: each node a step, and a step more
+-- What each expression and each statement does, and what it costs: each node a step, and a step
+-- more
 -- each further test of a loop and each entering of a called body.
-use Rattle.std.specs.Prelude.{ℕ, zero, suc, not, if◌then◌else◌, ◌==◌, List, [], ◌∷◌, Option, Some, None}
+use Rattle.std.specs.Prelude.{ℕ, zero, suc, not, if◌then◌else◌, ◌==◌, List, [], ◌∷◌, Option, Some}
+use Rattle.std.specs.Prelude.{None}
 use Rattle.par_lexer.specs.declared.operator.BinOp.{BinOp}
 use Rattle.par_policy.specs.Numbers.{has}
 use Rattle.par_typed.specs.declared.table.Table.{Table}
-use Rattle.par_typed.specs.Plain.{mark, Body, TExp, Int, Boolean, Null, This, New, Local, Static, Field, Input, Output, Call, Neg, Not, Binary}
+use Rattle.par_typed.specs.Plain.{mark, Body, TExp, Int, Boolean, Null, This, New, Local, Static}
+use Rattle.par_typed.specs.Plain.{Field, Input, Output, Call, Neg, Not, Binary}
 use Rattle.par_typed.specs.Plain.{Absent, Present, TExps, NoExps, More}
-use Rattle.par_typed.specs.Plain.{TSta, Block, If, While, Try, Return, Break, Continue, Throw, Open, Close, SetLocal, SetStatic, SetField, Eval, When}
-use Rattle.par_typed.specs.Plain.{MayTSta, NoElse, Otherwise, TStas, End, Then, TCatches, NoCatch, Catch}
+use Rattle.par_typed.specs.Plain.{TSta, Block, If, While, Try, Return, Break, Continue, Throw, Open}
+use Rattle.par_typed.specs.Plain.{Close, SetLocal, SetStatic, SetField, Eval, When}
+use Rattle.par_typed.specs.Plain.{MayTSta, NoElse, Otherwise, TStas, End, Then, TCatches, NoCatch}
+use Rattle.par_typed.specs.Plain.{Catch}
 use Rattle.par_values.specs.declared.run.Event.TheVariants.{Out, Set, Put, Born}
 use Rattle.par_values.specs.declared.value.MVal.{MVal}
 use Rattle.par_values.specs.declared.value.MVal.TheVariants as value
@@ -15,9 +20,13 @@ use Rattle.par_values.specs.Areas.{number_of, next}
 use Rattle.par_values.specs.Arithmetic.{negated}
 use Rattle.par_secrecy.specs.Runs.{stopped}
 use Rattle.par_runs.specs.Names.{Name, made_named, field_named, channel_named, first_field, body_of}
-use Rattle.par_runs.specs.State.{set_local, set_result, set_static, set_field, with_object, take_input, open_lock, close_lock}
-use Rattle.par_runs.specs.Tasks.{Normal, Broken, Continued, Returned, Thrown, Task, nothing, done, gives, fine, paid, change, read, happens, asked, named, and_then, ARITHMETIC, tested, enter, turn, turns, caught}
-use Rattle.par_runs.specs.Values.{truth, is_true, object_number, decides, throws, applied, shown_value}
+use Rattle.par_runs.specs.State.{set_local, set_result, set_static, set_field, with_object}
+use Rattle.par_runs.specs.State.{take_input, open_lock, close_lock}
+use Rattle.par_runs.specs.Tasks.{Normal, Broken, Continued, Returned, Thrown, Task, nothing, done}
+use Rattle.par_runs.specs.Tasks.{gives, fine, paid, change, read, happens, asked, named, and_then}
+use Rattle.par_runs.specs.Tasks.{ARITHMETIC, tested, enter, turn, turns, caught}
+use Rattle.par_runs.specs.Values.{truth, is_true, object_number, decides, throws, applied}
+use Rattle.par_runs.specs.Values.{shown_value}
 
 -- the next number of an input channel
 abbrev pub inputs : ℕ → ℕ → Task
@@ -30,7 +39,8 @@ outputs t c k v = named (channel_named t c k) (λ m. happens (Out m.class m.name
 -- a new object of a class
 abbrev pub born : Table → ℕ → Name → Task
 born t c name rest s n =
-    happens (Born name (s.births c)) (change (with_object c (first_field t c)) (gives (value.Ref c (s.births c)))) rest s n
+    happens (Born name (s.births c))
+    (change (with_object c (first_field t c)) (gives (value.Ref c (s.births c)))) rest s n
 
 -- the second part of an operator is there
 abbrev pub operates : BinOp → MVal → MVal → Task
@@ -38,12 +48,14 @@ operates op u v = if throws op v then done (Thrown ARITHMETIC) nothing else give
 
 abbrev pub writes_static : Table → ℕ → ℕ → MVal → Task
 writes_static t c f v =
-    named (field_named t c f) (λ m. happens (Set m.class m.name (shown_value t v)) (change (set_static c f v) fine))
+    named (field_named t c f) (λ m.
+    happens (Set m.class m.name (shown_value t v)) (change (set_static c f v) fine))
 
 abbrev pub writes_field : Table → ℕ → ℕ → MVal → MVal → Task
 writes_field t c f r v =
     named (field_named t c f) (λ m.
-    happens (Put m.class (object_number r) m.name (shown_value t v)) (change (set_field c (object_number r) f v) fine))
+    happens (Put m.class (object_number r) m.name (shown_value t v))
+    (change (set_field c (object_number r) f v) fine))
 
 -- a called body, by the class and the method
 abbrev pub Calls : Type 0
@@ -63,16 +75,20 @@ unfoldable mutual
   eval t run (Local x m) = paid (read (λ s. s.locals x))
   eval t run (Static c f m) = paid (read (λ s. s.statics c f))
   eval t run (Field e c f m) =
-      paid (and_then (eval t run e) (λ r. tested (mark e).sure r (read (λ s. s.fields c (object_number r) f))))
+      paid (and_then (eval t run e)
+      (λ r. tested (mark e).sure r (read (λ s. s.fields c (object_number r) f))))
   eval t run (Input c k m) = paid (inputs c k)
   eval t run (Output c k e m) = paid (and_then (eval t run e) (outputs t c k))
   eval t run (Call c k Absent es m) = paid (eval_all t run es (calls run c k))
   eval t run (Call c k (Present e) es m) =
-      paid (and_then (eval t run e) (λ r. eval_all t run es (λ vs. tested (mark e).sure r (calls run c k (r ∷ vs)))))
-  eval t run (Neg e m) = paid (and_then (eval t run e) (λ v. gives (value.Int (negated (number_of v)))))
+      paid (and_then (eval t run e)
+      (λ r. eval_all t run es (λ vs. tested (mark e).sure r (calls run c k (r ∷ vs)))))
+  eval t run (Neg e m) =
+      paid (and_then (eval t run e) (λ v. gives (value.Int (negated (number_of v)))))
   eval t run (Not e m) = paid (and_then (eval t run e) (λ v. gives (truth (not (is_true v)))))
   eval t run (Binary op a b m) =
-      paid (and_then (eval t run a) (λ u. if decides op u then gives u else and_then (eval t run b) (operates op u)))
+      paid (and_then (eval t run a)
+      (λ u. if decides op u then gives u else and_then (eval t run b) (operates op u)))
 
   -- arguments, and then next with their values
   pub eval_all : Table → Calls → TExps → (List MVal → Task) → Task
@@ -96,10 +112,12 @@ unfoldable mutual
   go t run m (Throw c at point) = paid (done (Thrown c) nothing)
   go t run m (Open l at point) = paid (change (open_lock l) fine)
   go t run m (Close l at point) = paid (change (close_lock l) fine)
-  go t run m (SetLocal x p e at point) = paid (and_then (eval t run e) (λ v. change (set_local x v) fine))
+  go t run m (SetLocal x p e at point) =
+      paid (and_then (eval t run e) (λ v. change (set_local x v) fine))
   go t run m (SetStatic c f e at point) = paid (and_then (eval t run e) (writes_static t c f))
   go t run m (SetField e c f a at point) =
-      paid (and_then (eval t run e) (λ r. and_then (eval t run a) (λ v. tested (mark e).sure r (writes_field t c f r v))))
+      paid (and_then (eval t run e)
+      (λ r. and_then (eval t run a) (λ v. tested (mark e).sure r (writes_field t c f r v))))
   go t run m (Eval e at point) = paid (and_then (eval t run e) (λ v. fine))
   go t run m (When l s o at point) =
       paid (asked (λ s. has s.locks l) (go t run m s) (go_else t run m o))

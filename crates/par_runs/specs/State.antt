@@ -42,7 +42,10 @@ set_field c n f v s =
 -- one object more of a class, whose fields hold these values
 abbrev pub with_object : ℕ → (ℕ → MVal) → State → State
 with_object c values s =
-    record s { births = put s.births c (s.births c + 1); fields = put s.fields c (put (s.fields c) (s.births c) values) }
+    record s {
+      births = put s.births c (s.births c + 1);
+      fields = put s.fields c (put (s.fields c) (s.births c) values);
+    }
 
 -- without the next number of an input channel
 abbrev pub take_input : ℕ → ℕ → State → State

@@ -1,9 +1,13 @@
--- What operators make of values. A boolean is the number 0 or 1. Where a value is no number, 0 stands
+-- What operators make of values. A boolean is the number 0 or 1. Where a value is no number, 0
+-- stands
 -- for it; where it is no object, 0 stands for its number.
-use Rattle.std.specs.Prelude.{ℕ, Bool, true, false, not, ◌==◌, ◌&&◌, int_lt, pos, Option, Some, None}
+use Rattle.std.specs.Prelude.{ℕ, Bool, true, false, not, ◌==◌, ◌&&◌, int_lt, pos, Option, Some}
+use Rattle.std.specs.Prelude.{None}
 use Rattle.std.specs.Ordering.{int_eq}
 use Rattle.par_lexer.specs.declared.operator.BinOp.{BinOp}
-use Rattle.par_lexer.specs.declared.operator.BinOp.TheVariants.{Or, And, BitOr, BitXor, BitAnd, Eq, Ne, Lt, Le, Gt, Ge, Shl, Shr, Ushr, Add, Sub, Mul, Div, Rem}
+use Rattle.par_lexer.specs.declared.operator.BinOp.TheVariants.{Or, And, BitOr, BitXor, BitAnd, Eq}
+use Rattle.par_lexer.specs.declared.operator.BinOp.TheVariants.{Ne, Lt, Le, Gt, Ge, Shl, Shr, Ushr}
+use Rattle.par_lexer.specs.declared.operator.BinOp.TheVariants.{Add, Sub, Mul, Div, Rem}
 use Rattle.par_typed.specs.declared.table.Table.{Table}
 use Rattle.par_values.specs.declared.value.MVal.{MVal}
 use Rattle.par_values.specs.declared.value.MVal.TheVariants.{Int, Null, Ref}

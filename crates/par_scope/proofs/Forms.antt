@@ -2,13 +2,15 @@
 use Rattle.std.proofs.Common.{◌≡◌, ℕ, List, Some, refl}
 use Rattle.par_lexer.specs.declared.operator.BinOp.{BinOp}
 use Rattle.par_tree.specs.declared.ident.Ident.{Ident}
-use Rattle.par_tree.specs.Plain.{Exp, Int, True, False, Null, This, New, Name, Field, Call, Neg, Not, Binary}
+use Rattle.par_tree.specs.Plain.{Exp, Int, True, False, Null, This, New, Name, Field, Call, Neg}
+use Rattle.par_tree.specs.Plain.{Not, Binary}
 use Rattle.par_tree.specs.Plain.{Exps, MayExp, Absent, Present}
 use Rattle.par_typed.specs.declared.ty.Ty.TheVariants as ty
 use Rattle.par_scope.specs.declared.meaning.Receiver.TheVariants.{Own}
 use Rattle.par_scope.specs.Locals.{Scope}
 use Rattle.par_scope.specs.Home.{Home, class_named, class_type}
-use Rattle.par_scope.specs.Meaning.{type_of, called_on, type_of_name, place_type, selected, receiver_of}
+use Rattle.par_scope.specs.Meaning.{type_of, called_on, type_of_name, place_type, selected}
+use Rattle.par_scope.specs.Meaning.{receiver_of}
 use Rattle.par_scope.specs.Meaning.{callee_type, called, op_type}
 
 pub type_of_int : (home : Home) (scope : Scope) (n : ℕ) (at : ℕ) →
@@ -55,7 +57,8 @@ form_of_name home scope n at = refl
 
 pub type_of_field : (home : Home) (scope : Scope) (e : Exp) (f : Ident) (at : ℕ) →
     type_of home scope (Field e f at)
-    ≡ (place_type home.table (selected home (receiver_of home scope e (type_of home scope e)) f.name))
+    ≡ (place_type home.table
+    (selected home (receiver_of home scope e (type_of home scope e)) f.name))
 unfolding type_of
 type_of_field home scope e f at = refl
 
@@ -95,4 +98,19 @@ pub called_on_present : (home : Home) (scope : Scope) (e : Exp) →
 unfolding type_of
 called_on_present home scope e = refl
 
-pub ruleset types = (type_of_int, type_of_true, type_of_false, type_of_null, type_of_this, type_of_new, form_of_name, type_of_field, type_of_call, type_of_neg, type_of_not, type_of_binary, called_on_absent, called_on_present)
+pub ruleset types = (
+  type_of_int,
+  type_of_true,
+  type_of_false,
+  type_of_null,
+  type_of_this,
+  type_of_new,
+  form_of_name,
+  type_of_field,
+  type_of_call,
+  type_of_neg,
+  type_of_not,
+  type_of_binary,
+  called_on_absent,
+  called_on_present,
+)

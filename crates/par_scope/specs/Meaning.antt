@@ -3,7 +3,8 @@ use Rattle.std.specs.Prelude.{ℕ, Bool, true, false, not, ◌||◌, List, Optio
 use Rattle.std.specs.Option.{is_some}
 use Rattle.par_lexer.specs.declared.operator.BinOp.{BinOp}
 use Rattle.par_lexer.specs.declared.operator.BinOp.TheVariants as op
-use Rattle.par_tree.specs.Plain.{Exp, Int, True, False, Null, This, New, Name, Field, Call, Neg, Not, Binary}
+use Rattle.par_tree.specs.Plain.{Exp, Int, True, False, Null, This, New, Name, Field, Call, Neg}
+use Rattle.par_tree.specs.Plain.{Not, Binary}
 use Rattle.par_tree.specs.Plain.{MayExp, Absent, Present}
 use Rattle.par_typed.specs.declared.ty.Ty.{Ty}
 use Rattle.par_typed.specs.declared.ty.Ty.TheVariants as ty
@@ -18,8 +19,10 @@ use Rattle.par_scope.specs.declared.meaning.Callee.TheVariants.{Unknown, Channel
 use Rattle.par_scope.specs.Names.{Names, number_in, fields_in, channels_in, methods_in}
 use Rattle.par_scope.specs.Locals.{Scope, local_named, is_notnull}
 use Rattle.par_scope.specs.Home.{Home, class_named, class_type}
-use Rattle.par_scope.specs.Members.{field_at, channel_at, method_at, field_type, field_is_static, channel_type, channel_arity}
-use Rattle.par_scope.specs.Members.{method_type, method_is_static, method_params, method_arity, any_value, value_of, param_slot}
+use Rattle.par_scope.specs.Members.{field_at, channel_at, method_at, field_type, field_is_static}
+use Rattle.par_scope.specs.Members.{channel_type, channel_arity}
+use Rattle.par_scope.specs.Members.{method_type, method_is_static, method_params, method_arity}
+use Rattle.par_scope.specs.Members.{any_value, value_of, param_slot}
 
 -- the class of an object of this type
 unfoldable pub class_of : Option Ty → Option ℕ

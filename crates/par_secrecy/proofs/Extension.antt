@@ -11,7 +11,8 @@ extends_itself r = record { events = ([], sym (append-nil r.events)); ended = λ
 pub extends_stopped : (r : Run) → Extends stopped r
 extends_stopped r = record { events = (r.events, refl); ended = λ p. absurd (p refl) }
 
-pub extends_behind : (w : Witnessed) (r s : Run) → Extends r s → Extends (with_first w r) (with_first w s)
+pub extends_behind : (w : Witnessed) (r s : Run) → Extends r s
+    → Extends (with_first w r) (with_first w s)
 extends_behind w r s h = record {
   events = (h.events.0, ap (λ es. w ∷ es) h.events.1);
   ended = λ p. ap (with_first w) (h.ended p);

@@ -19,29 +19,40 @@ module _ (o : Observer) where
   Seen ps = IsTrue (list_all (sees o) ps)
 
   pub seen_left : (ps qs : List Policy) → Seen (ps ++ qs) → Seen ps
-  seen_left ps qs h = (and_parts (list_all (sees o) ps) (list_all (sees o) qs) (subst IsTrue (list_all-append (sees o) ps qs) h)).0
+  seen_left ps qs h =
+      (and_parts (list_all (sees o) ps) (list_all (sees o) qs)
+      (subst IsTrue (list_all-append (sees o) ps qs) h)).0
 
   pub seen_right : (ps qs : List Policy) → Seen (ps ++ qs) → Seen qs
-  seen_right ps qs h = (and_parts (list_all (sees o) ps) (list_all (sees o) qs) (subst IsTrue (list_all-append (sees o) ps qs) h)).1
+  seen_right ps qs h =
+      (and_parts (list_all (sees o) ps) (list_all (sees o) qs)
+      (subst IsTrue (list_all-append (sees o) ps qs) h)).1
 
   pub seen_both : (ps qs : List Policy) → Seen ps → Seen qs → Seen (ps ++ qs)
-  seen_both ps qs h k = subst IsTrue (sym (list_all-append (sees o) ps qs)) (and_from (list_all (sees o) ps) (list_all (sees o) qs) h k)
+  seen_both ps qs h k =
+      subst IsTrue (sym (list_all-append (sees o) ps qs))
+      (and_from (list_all (sees o) ps) (list_all (sees o) qs) h k)
 
   pub seen_alone : (p : Policy) → IsTrue (sees o p) → Seen (p ∷ [])
   seen_alone p h = and_from (sees o p) _ h refl
 
   -- locks that the observer has add nothing
-  has_anyway : (opened : List ℕ) → IsTrue (within opened o.locks) → IsTrue (within (o.locks ++ opened) o.locks)
+  has_anyway : (opened : List ℕ) → IsTrue (within opened o.locks)
+      → IsTrue (within (o.locks ++ opened) o.locks)
   has_anyway opened h =
       within-from_All (o.locks ++ opened) o.locks
-      (All-append (Contains o.locks) o.locks opened (All-contains_itself o.locks) (All-from_within opened o.locks h))
+      (All-append (Contains o.locks) o.locks opened (All-contains_itself o.locks)
+      (All-from_within opened o.locks h))
 
-  seen_anyway : (ps : List Policy) (opened : List ℕ) → IsTrue (within opened o.locks) → IsTrue (sees_join_at ps opened o.actor o.locks) → Seen ps
+  seen_anyway : (ps : List Policy) (opened : List ℕ) → IsTrue (within opened o.locks)
+      → IsTrue (sees_join_at ps opened o.actor o.locks) → Seen ps
   seen_anyway [] opened h k = refl
   seen_anyway (p ∷ ps) opened h k =
       let both = and_parts _ (sees_join_at ps opened o.actor o.locks) k in
-      and_from (sees o p) _ (sees_more p o.actor (o.locks ++ opened) o.locks (has_anyway opened h) both.0) (seen_anyway ps opened h both.1)
+      and_from (sees o p) _ (sees_more p o.actor (o.locks ++ opened) o.locks
+      (has_anyway opened h) both.0) (seen_anyway ps opened h both.1)
 
   -- Who sees the target, and has the locks that are surely open, sees what flows to it.
-  pub seen_source : (ps : List Policy) (opened : List ℕ) (to : Policy) → IsJoinBelowAt ps opened to → IsTrue (sees o to) → IsTrue (within opened o.locks) → Seen ps
+  pub seen_source : (ps : List Policy) (opened : List ℕ) (to : Policy) → IsJoinBelowAt ps opened to
+      → IsTrue (sees o to) → IsTrue (within opened o.locks) → Seen ps
   seen_source ps opened to below h k = seen_anyway ps opened k (below o.actor o.locks h)

@@ -10,4 +10,5 @@ abbrev pub AlikeIsSymmetric : Type 0
 AlikeIsSymmetric = (s : Subject) (o : Observer) (a b : Inputs) → Alike s o a b → Alike s o b a
 
 abbrev pub AlikeIsTransitive : Type 0
-AlikeIsTransitive = (s : Subject) (o : Observer) (a b c : Inputs) → Alike s o a b → Alike s o b c → Alike s o a c
+AlikeIsTransitive =
+    (s : Subject) (o : Observer) (a b c : Inputs) → Alike s o a b → Alike s o b c → Alike s o a c

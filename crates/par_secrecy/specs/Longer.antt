@@ -11,4 +11,5 @@ pub record Extends (earlier later : Run) : Type 0 where
   pub ended : (earlier.ending ≡ Stopped → ⊥) → later ≡ earlier
 
 abbrev pub MoreStepsExtend : Subject → Type 0
-MoreStepsExtend subject = (inputs : Inputs) (m n : ℕ) → m ≤ n → Extends (subject.run inputs m) (subject.run inputs n)
+MoreStepsExtend subject =
+    (inputs : Inputs) (m n : ℕ) → m ≤ n → Extends (subject.run inputs m) (subject.run inputs n)

@@ -11,7 +11,8 @@ use Rattle.par_secrecy.specs.Secure.{events, NextAgree}
 use Rattle.par_secrecy.specs.Target.{Target, FitsFiles}
 
 -- Each event has the locks of the program's event of its number, on the same inputs.
-pub record AreWitnessed (subject : Subject) (inputs : Inputs) (shown : List Event) (witnessed : List Witnessed) : Type 0 where
+pub record AreWitnessed (subject : Subject) (inputs : Inputs) (shown : List Event)
+    (witnessed : List Witnessed) : Type 0 where
   pub events_are : events witnessed ≡ shown
   pub steps : ℕ
   pub more : List Witnessed
@@ -19,7 +20,8 @@ pub record AreWitnessed (subject : Subject) (inputs : Inputs) (shown : List Even
 
 -- the events of a run of the files, each with its locks
 abbrev pub Witnesses : Target → Subject → Inputs → ℕ → List Witnessed → Type 0
-Witnesses target subject inputs m witnessed = AreWitnessed subject inputs (target.run inputs m).events witnessed
+Witnesses target subject inputs m witnessed =
+    AreWitnessed subject inputs (target.run inputs m).events witnessed
 
 -- those that an observer sees
 abbrev pub seen : Subject → Observer → List Witnessed → List Witnessed
@@ -29,7 +31,10 @@ seen subject o witnessed = filter (λ w. sees o (subject.policy w.event)) witnes
 -- long as it was shown equal events, the next ones are equal.
 pub record SecureFiles (target : Target) (subject : Subject) : Type 0 where
   -- each run of the files has such locks
-  pub witnessed : (inputs : Inputs) → FitsFiles target inputs → (m : ℕ) → (ws : List Witnessed) × Witnesses target subject inputs m ws
-  pub agree : (o : Observer) → o.actor < subject.actors → (one other : Inputs) → FitsFiles target one → FitsFiles target other
-      → Alike subject o one other → (m n k : ℕ) (ws vs : List Witnessed) → Witnesses target subject one m ws → Witnesses target subject other n vs
+  pub witnessed : (inputs : Inputs) → FitsFiles target inputs → (m : ℕ)
+      → (ws : List Witnessed) × Witnesses target subject inputs m ws
+  pub agree : (o : Observer) → o.actor < subject.actors → (one other : Inputs)
+      → FitsFiles target one → FitsFiles target other
+      → Alike subject o one other → (m n k : ℕ) (ws vs : List Witnessed)
+      → Witnesses target subject one m ws → Witnesses target subject other n vs
       → NextAgree o (seen subject o ws) (seen subject o vs) k

@@ -21,4 +21,5 @@ shown subject o run = filter (λ w. sees o (subject.policy w.event)) run.events
 -- both inputs give equal lists on every input channel that the observer sees
 abbrev pub Alike : Subject → Observer → Inputs → Inputs → Type 0
 Alike subject o one other =
-    All (λ c. IsTrue (sees o c.policy) → given one.channels c.class c.name ≡ given other.channels c.class c.name) subject.inputs
+    All (λ c. IsTrue (sees o c.policy)
+    → given one.channels c.class c.name ≡ given other.channels c.class c.name) subject.inputs

@@ -7,4 +7,5 @@ use Rattle.par_secrecy.specs.SecureFiles.{SecureFiles}
 
 -- files whose runs show those of a secure program are secure
 abbrev pub ShownFilesAreSecure : Type 0
-ShownFilesAreSecure = (target : Target) (subject : Subject) → Shows target subject → Secure subject → SecureFiles target subject
+ShownFilesAreSecure = (target : Target) (subject : Subject) → Shows target subject → Secure subject
+    → SecureFiles target subject

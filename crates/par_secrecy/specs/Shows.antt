@@ -33,10 +33,12 @@ IsFine outcome = (ending : Ending) × (outcome ≡ Fine ending)
 -- 16 instructions, and 16 more are for what is around them.
 pub record Shows (target : Target) (subject : Subject) : Type 0 where
   pub reach : (inputs : Inputs) → Fits subject inputs → (n : ℕ)
-      → (m : ℕ) × (m ≤ 16 * n + 16) × (target.run (fitting target inputs) m ≡ shown_run (subject.run inputs n))
+      → (m : ℕ) × (m ≤ 16 * n + 16)
+      × (target.run (fitting target inputs) m ≡ shown_run (subject.run inputs n))
   pub front : (inputs : Inputs) → Fits subject inputs → (m : ℕ)
       → (n : ℕ) × IsFrontOf (target.run (fitting target inputs) m) (subject.run inputs n)
-  pub never_bad : (inputs : Inputs) → Fits subject inputs → (m : ℕ) → IsFine (target.run (fitting target inputs) m).ending
+  pub never_bad : (inputs : Inputs) → Fits subject inputs → (m : ℕ)
+      → IsFine (target.run (fitting target inputs) m).ending
   -- the files have no input channel that the program lacks
   pub channels : (class name : Name) → IsTrue (target.has_input class name)
       → IsTrue (list_any (λ c. bytes_eq c.class class && bytes_eq c.name name) subject.inputs)

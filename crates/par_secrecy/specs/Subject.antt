@@ -1,5 +1,6 @@
 -- What is watched: the runs of a program, and its declared policies.
-use Rattle.std.specs.Prelude.{◌≡◌, ℕ, Bool, ◌&&◌, if◌then◌else◌, List, [], ◌∷◌, ℤ, FitsSigned, All, IsTrue, false}
+use Rattle.std.specs.Prelude.{◌≡◌, ℕ, Bool, ◌&&◌, if◌then◌else◌, List, [], ◌∷◌, ℤ, FitsSigned, All}
+use Rattle.std.specs.Prelude.{IsTrue, false}
 use Rattle.std.specs.List.{AllPairs, list_any}
 use Rattle.std.specs.Int.{w32}
 use Rattle.std.specs.Str.{bytes_eq}
@@ -37,10 +38,12 @@ is_of class name line = bytes_eq line.class class && bytes_eq line.channel name
 -- what the lines give to a channel; a channel without a line has the empty list
 abbrev pub given : List ChannelInput → Name → Name → List ℤ
 given [] class name = []
-given (line ∷ lines) class name = if is_of class name line then line.numbers else given lines class name
+given (line ∷ lines) class name =
+    if is_of class name line then line.numbers else given lines class name
 
 -- The inputs name only input channels of the subject, each once, and hold numbers of 32 bits alone.
 pub record Fits (subject : Subject) (inputs : Inputs) : Type 0 where
-  pub declared : All (λ line. IsTrue (list_any (λ c. is_of c.class c.name line) subject.inputs)) inputs.channels
+  pub declared : All (λ line. IsTrue (list_any (λ c. is_of c.class c.name line) subject.inputs))
+      inputs.channels
   pub once : AllPairs (λ one other. is_of one.class one.channel other ≡ false) inputs.channels
   pub numbers : All (λ line. All (λ n. FitsSigned w32 n) line.numbers) inputs.channels

@@ -1,4 +1,5 @@
--- What runs the files that a program was compiled to: its runs, and the channels that the files have.
+-- What runs the files that a program was compiled to: its runs, and the channels that the files
+-- have.
 use Rattle.std.specs.Prelude.{ℕ, Bool, IsTrue, false, ◌≡◌, FitsSigned, All}
 use Rattle.std.specs.List.{filter, AllPairs}
 use Rattle.std.specs.Int.{w32}
@@ -14,7 +15,8 @@ pub record Target : Type 0 where
 
 -- the lines for channels that the files have
 abbrev pub fitting : Target → Inputs → Inputs
-fitting target inputs = record { channels = filter (λ line. target.has_input line.class line.channel) inputs.channels }
+fitting target inputs =
+    record { channels = filter (λ line. target.has_input line.class line.channel) inputs.channels }
 
 -- The inputs name only channels that the files have, each once, and hold numbers of 32 bits alone.
 pub record FitsFiles (target : Target) (inputs : Inputs) : Type 0 where

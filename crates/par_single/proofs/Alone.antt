@@ -1,5 +1,6 @@
 -- What is known of a file that runs by itself.
-use Rattle.std.proofs.Common.{◌≡◌, ℕ, Bool, true, false, not, ◌&&◌, ◌||◌, if◌then◌else◌, List, Some, None, Option, slice_get, is_some, IsTrue, refl, sym, ap, ◌∙◌, subst}
+use Rattle.std.proofs.Common.{◌≡◌, ℕ, Bool, true, false, not, ◌&&◌, ◌||◌, if◌then◌else◌, List, Some}
+use Rattle.std.proofs.Common.{None, Option, slice_get, is_some, IsTrue, refl, sym, ap, ◌∙◌, subst}
 use Rattle.std.proofs.lemmas.Bool.{and_parts, not-true}
 use Rattle.std.proofs.lemmas.Slice.Eq.{bytes_eq-Decides}
 use Rattle.std.specs.List.{list_all}
@@ -14,8 +15,12 @@ use Rattle.par_class.specs.declared.file.ClassFile.{ClassFile}
 use Rattle.par_class.specs.Spelling.{is_native}
 use Rattle.par_single.proofs.Owned.{found_at, each_passes}
 use Rattle.par_single.specs.Descriptors.{Text, field_kind, method_signature}
-use Rattle.par_single.specs.Members.{text_at, own_name, own_field, own_method, Member, field_place, method_place, is_static, is_field_of, is_method_of}
-use Rattle.par_single.specs.Single.{none, is_bare, is_plain_method, is_plain, is_taken, members_differ, is_field_right, is_method_right, is_channel_right, is_of_channel, is_described, is_found, is_begun_with, method_in, main_member, runs_alone}
+use Rattle.par_single.specs.Members.{text_at, own_name, own_field, own_method, Member, field_place}
+use Rattle.par_single.specs.Members.{method_place, is_static, is_field_of, is_method_of}
+use Rattle.par_single.specs.Single.{none, is_bare, is_plain_method, is_plain, is_taken}
+use Rattle.par_single.specs.Single.{members_differ, is_field_right, is_method_right}
+use Rattle.par_single.specs.Single.{is_channel_right, is_of_channel, is_described, is_found}
+use Rattle.par_single.specs.Single.{is_begun_with, method_in, main_member, runs_alone}
 use Rattle.par_single.specs.Walk.{walks}
 
 -- the tests of `runs_alone` one by one
@@ -30,7 +35,8 @@ pub record Alone (file : ClassFile) (main : Text) : Type 0 where
   pub begun : is_begun_with (method_in file (method_place file (main_member main))) ≡ true
 
 parted : (a b c d e f g h : Bool) → (a && b && c && d && e && f && g && h) ≡ true
-    → (a ≡ true) × (b ≡ true) × (c ≡ true) × (d ≡ true) × (e ≡ true) × (f ≡ true) × (g ≡ true) × (h ≡ true)
+    → (a ≡ true) × (b ≡ true) × (c ≡ true) × (d ≡ true) × (e ≡ true) × (f ≡ true) × (g ≡ true)
+    × (h ≡ true)
 parted a b c d e f g h all =
     let seven = and_parts (a && b && c && d && e && f && g) h all in
     let six = and_parts (a && b && c && d && e && f) g seven.0 in
@@ -44,7 +50,9 @@ parted a b c d e f g h all =
 pub alone : (file : ClassFile) (main : Text) → IsTrue (runs_alone file main) → Alone file main
 unfolding runs_alone
 alone file main runs =
-    let tests = parted (bytes_eq (own_name file) main) (is_name main) (not (is_taken main)) (is_plain file) (members_differ file)
+    let tests =
+    parted (bytes_eq (own_name file) main) (is_name main) (not (is_taken main)) (is_plain file)
+    (members_differ file)
     (is_described file) (list_all (is_found file) file.pool.entries)
     (is_begun_with (method_in file (method_place file (main_member main)))) runs in
     record {
@@ -58,7 +66,8 @@ alone file main runs =
       begun = tests.7;
     }
 
-if-some : (test : Bool) (o : Option ℕ) (place : ℕ) → (if test then o else None) ≡ Some place → (test ≡ true) × (o ≡ Some place)
+if-some : (test : Bool) (o : Option ℕ) (place : ℕ) → (if test then o else None) ≡ Some place
+    → (test ≡ true) × (o ≡ Some place)
 if-some true o place is = (refl, is)
 if-some false o place is = absurd (cc is)
 
@@ -73,24 +82,36 @@ pub record Names (m : Member) : Type 0 where
   pub class : IsName m.class
   pub name : IsName m.name
 
-names_field : (entries : List Constant) (m : Member) (f : FieldFile) → is_field_right entries f ≡ true → is_field_of entries m f ≡ true → IsName m.name
+names_field : (entries : List Constant) (m : Member) (f : FieldFile)
+    → is_field_right entries f ≡ true → is_field_of entries m f ≡ true → IsName m.name
 names_field entries m f right of =
-    let is = and_parts (is_name (text_at entries f.name)) (is_some (field_kind (text_at entries f.descriptor))) right in
-    let same = and_parts (bytes_eq (text_at entries f.name) m.name) (bytes_eq (text_at entries f.descriptor) m.descriptor) of in
-    subst IsName ((bytes_eq-Decides (text_at entries f.name) m.name).0 same.0) (is_name-IsName (text_at entries f.name) is.0)
+    let is =
+    and_parts (is_name (text_at entries f.name))
+    (is_some (field_kind (text_at entries f.descriptor))) right in
+    let same =
+    and_parts (bytes_eq (text_at entries f.name) m.name)
+    (bytes_eq (text_at entries f.descriptor) m.descriptor) of in
+    subst IsName ((bytes_eq-Decides (text_at entries f.name) m.name).0 same.0)
+    (is_name-IsName (text_at entries f.name) is.0)
 
-class-IsName : (file : ClassFile) (main class : Text) → Alone file main → bytes_eq (own_name file) class ≡ true → IsName class
+class-IsName : (file : ClassFile) (main class : Text) → Alone file main
+    → bytes_eq (own_name file) class ≡ true → IsName class
 class-IsName file main class a own =
     subst IsName ((bytes_eq-Decides (own_name file) class).0 own) (own_name-IsName file main a)
 
-pub own_field-names : (file : ClassFile) (main : Text) (m : Member) (place : ℕ) → IsTrue (runs_alone file main)
+pub own_field-names : (file : ClassFile) (main : Text) (m : Member) (place : ℕ)
+    → IsTrue (runs_alone file main)
     → own_field file m ≡ Some place → Names m
 own_field-names file main m place runs is =
     let a = alone file main runs in
     let own = if-some (bytes_eq (own_name file) m.class) (field_place file m) place is in
     let found = found_at (is_field_of file.pool.entries m) file.fields place own.1 in
-    let each = and_parts (list_all (is_field_right file.pool.entries) file.fields) (list_all (is_method_right file.pool.entries) file.methods) a.described in
-    let right = each_passes (is_field_right file.pool.entries) file.fields place found.item each.0 found.stands in
+    let each =
+    and_parts (list_all (is_field_right file.pool.entries) file.fields)
+    (list_all (is_method_right file.pool.entries) file.methods) a.described in
+    let right =
+    each_passes (is_field_right file.pool.entries) file.fields place found.item each.0
+    found.stands in
     record {
       class = class-IsName file main m.class a own.0;
       name = names_field file.pool.entries m found.item right found.passes;
@@ -101,46 +122,68 @@ channel : (native channel : Bool) → (not native || channel) ≡ true → nativ
 channel true c either native = either
 channel false c either native = absurd (cc native)
 
-names_channel : (entries : List Constant) (m : Member) (f : MethodFile) → is_channel_right entries f ≡ true → is_method_of entries m f ≡ true → IsName m.name
+names_channel : (entries : List Constant) (m : Member) (f : MethodFile)
+    → is_channel_right entries f ≡ true → is_method_of entries m f ≡ true → IsName m.name
 names_channel entries m f right of =
-    let two = and_parts (is_name (text_at entries f.name) && is_static f.access) (is_of_channel (text_at entries f.descriptor)) right in
+    let two =
+    and_parts (is_name (text_at entries f.name) && is_static f.access)
+    (is_of_channel (text_at entries f.descriptor)) right in
     let is = and_parts (is_name (text_at entries f.name)) (is_static f.access) two.0 in
-    let same = and_parts (bytes_eq (text_at entries f.name) m.name) (bytes_eq (text_at entries f.descriptor) m.descriptor) of in
-    subst IsName ((bytes_eq-Decides (text_at entries f.name) m.name).0 same.0) (is_name-IsName (text_at entries f.name) is.0)
+    let same =
+    and_parts (bytes_eq (text_at entries f.name) m.name)
+    (bytes_eq (text_at entries f.descriptor) m.descriptor) of in
+    subst IsName ((bytes_eq-Decides (text_at entries f.name) m.name).0 same.0)
+    (is_name-IsName (text_at entries f.name) is.0)
 
 -- a method of a file that runs by itself is right
-pub method_right : (file : ClassFile) (main : Text) (place : ℕ) (f : MethodFile) → IsTrue (runs_alone file main)
+pub method_right : (file : ClassFile) (main : Text) (place : ℕ) (f : MethodFile)
+    → IsTrue (runs_alone file main)
     → slice_get file.methods place ≡ Some f → is_method_right file.pool.entries f ≡ true
 method_right file main place f runs stands =
     let a = alone file main runs in
-    let each = and_parts (list_all (is_field_right file.pool.entries) file.fields) (list_all (is_method_right file.pool.entries) file.methods) a.described in
+    let each =
+    and_parts (list_all (is_field_right file.pool.entries) file.fields)
+    (list_all (is_method_right file.pool.entries) file.methods) a.described in
     each_passes (is_method_right file.pool.entries) file.methods place f each.1 stands
 
 -- and a channel where it is native
-pub channel_right : (file : ClassFile) (main : Text) (place : ℕ) (f : MethodFile) → IsTrue (runs_alone file main)
-    → slice_get file.methods place ≡ Some f → is_native f.access ≡ true → is_channel_right file.pool.entries f ≡ true
+pub channel_right : (file : ClassFile) (main : Text) (place : ℕ) (f : MethodFile)
+    → IsTrue (runs_alone file main)
+    → slice_get file.methods place ≡ Some f → is_native f.access ≡ true
+    → is_channel_right file.pool.entries f ≡ true
 channel_right file main place f runs stands native =
-    let two = and_parts (is_some (method_signature (text_at file.pool.entries f.descriptor))) (not (is_native f.access) || is_channel_right file.pool.entries f)
+    let two =
+    and_parts (is_some (method_signature (text_at file.pool.entries f.descriptor)))
+    (not (is_native f.access) || is_channel_right file.pool.entries f)
     (method_right file main place f runs stands) in
     channel (is_native f.access) (is_channel_right file.pool.entries f) two.1 native
 
 -- code of a method of such a file is a walk, and has no handlers
-pub code_bare : (file : ClassFile) (main : Text) (place : ℕ) (f : MethodFile) → IsTrue (runs_alone file main)
+pub code_bare : (file : ClassFile) (main : Text) (place : ℕ) (f : MethodFile)
+    → IsTrue (runs_alone file main)
     → slice_get file.methods place ≡ Some f → is_bare f.code ≡ true
 code_bare file main place f runs stands =
     let a = alone file main runs in
-    let two = and_parts (list_all (λ f. none f.attributes) file.fields && list_all is_plain_method file.methods) (none file.attributes) a.plain in
-    let one = and_parts (list_all (λ f. none f.attributes) file.fields) (list_all is_plain_method file.methods) two.0 in
-    (and_parts (none f.attributes) (is_bare f.code) (each_passes is_plain_method file.methods place f one.1 stands)).1
+    let two =
+    and_parts (list_all (λ f. none f.attributes) file.fields
+    && list_all is_plain_method file.methods) (none file.attributes) a.plain in
+    let one =
+    and_parts (list_all (λ f. none f.attributes) file.fields)
+    (list_all is_plain_method file.methods) two.0 in
+    (and_parts (none f.attributes) (is_bare f.code)
+    (each_passes is_plain_method file.methods place f one.1 stands)).1
 
-pub own_method-class : (file : ClassFile) (main : Text) (m : Member) (place : ℕ) → IsTrue (runs_alone file main)
+pub own_method-class : (file : ClassFile) (main : Text) (m : Member) (place : ℕ)
+    → IsTrue (runs_alone file main)
     → own_method file m ≡ Some place → IsName m.class
 own_method-class file main m place runs is =
     let own = if-some (bytes_eq (own_name file) m.class) (method_place file m) place is in
     class-IsName file main m.class (alone file main runs) own.0
 
-pub own_method-channel : (file : ClassFile) (main : Text) (m : Member) (place : ℕ) (f : MethodFile) → IsTrue (runs_alone file main)
-    → own_method file m ≡ Some place → slice_get file.methods place ≡ Some f → is_native f.access ≡ true → Names m
+pub own_method-channel : (file : ClassFile) (main : Text) (m : Member) (place : ℕ) (f : MethodFile)
+    → IsTrue (runs_alone file main)
+    → own_method file m ≡ Some place → slice_get file.methods place ≡ Some f
+    → is_native f.access ≡ true → Names m
 own_method-channel file main m place f runs is stands native =
     let own = if-some (bytes_eq (own_name file) m.class) (method_place file m) place is in
     let found = found_at (is_method_of file.pool.entries m) file.methods place own.1 in
@@ -153,10 +196,12 @@ own_method-channel file main m place f runs is stands native =
     }
 
 -- so code of a method is listed instructions to its end
-pub code_walks : (file : ClassFile) (main : Text) (place : ℕ) (f : MethodFile) (code : CodeAttr) → IsTrue (runs_alone file main)
+pub code_walks : (file : ClassFile) (main : Text) (place : ℕ) (f : MethodFile) (code : CodeAttr)
+    → IsTrue (runs_alone file main)
     → slice_get file.methods place ≡ Some f → f.code ≡ Some code → walks code.code ≡ true
 code_walks file main place f code runs stands is =
-    let bare : is_bare (Some code) ≡ true = ap is_bare (sym is) ∙ code_bare file main place f runs stands in
+    let bare : is_bare (Some code) ≡ true =
+    ap is_bare (sym is) ∙ code_bare file main place f runs stands in
     (and_parts (none code.catches && none code.attributes) (walks code.code) bare).1
 
 -- The method with which a run begins: static, and with code.
@@ -169,7 +214,8 @@ pub record Begins (file : ClassFile) (main : Text) : Type 0 where
   pub has_code : is_native method.access ≡ false
 
 begins_at : (file : ClassFile) (main : Text) (place : ℕ) (o : Option MethodFile)
-    → method_place file (main_member main) ≡ Some place → slice_get file.methods place ≡ o → is_begun_with o ≡ true → Begins file main
+    → method_place file (main_member main) ≡ Some place → slice_get file.methods place ≡ o
+    → is_begun_with o ≡ true → Begins file main
 begins_at file main place None found stands begun = absurd (cc begun)
 begins_at file main place (Some m) found stands begun =
     let parts = and_parts (is_static m.access) (not (is_native m.access)) begun in
@@ -183,9 +229,12 @@ begins_at file main place (Some m) found stands begun =
     }
 
 begins_in : (file : ClassFile) (main : Text) (o : Option ℕ)
-    → method_place file (main_member main) ≡ o → is_begun_with (method_in file o) ≡ true → Begins file main
+    → method_place file (main_member main) ≡ o → is_begun_with (method_in file o) ≡ true
+    → Begins file main
 begins_in file main None found begun = absurd (cc begun)
-begins_in file main (Some place) found begun = begins_at file main place (slice_get file.methods place) found refl begun
+begins_in file main (Some place) found begun =
+    begins_at file main place (slice_get file.methods place) found refl begun
 
 pub begins : (file : ClassFile) (main : Text) → IsTrue (runs_alone file main) → Begins file main
-begins file main runs = begins_in file main (method_place file (main_member main)) refl (alone file main runs).begun
+begins file main runs =
+    begins_in file main (method_place file (main_member main)) refl (alone file main runs).begun

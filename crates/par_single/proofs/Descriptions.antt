@@ -48,11 +48,13 @@ nothing : method_signature (codes "()V") ≡ says [] None
 unfolding kind_at kinds_in
 nothing = refl
 
-in_order : method_signature (codes "(ILA;Z)LBc;") ≡ says (Number ∷ Object (codes "A") ∷ Number ∷ []) (Some (Object (codes "Bc")))
+in_order : method_signature (codes "(ILA;Z)LBc;")
+    ≡ says (Number ∷ Object (codes "A") ∷ Number ∷ []) (Some (Object (codes "Bc")))
 unfolding kind_at kinds_in
 in_order = refl
 
-letters_in_a_name : method_signature (codes "(LIZ;)I") ≡ says (Object (codes "IZ") ∷ []) (Some Number)
+letters_in_a_name : method_signature (codes "(LIZ;)I")
+    ≡ says (Object (codes "IZ") ∷ []) (Some Number)
 unfolding kind_at kinds_in
 letters_in_a_name = refl
 

@@ -1,6 +1,7 @@
 -- What each index of a constant pool names, once names are looked up among some files (Java Virtual
 -- Machine Specification, Java SE 7, section 5.4.3).
-use Rattle.std.specs.Prelude.{ℕ, Bool, suc, ◌+◌, true, false, if◌then◌else◌, List, [], ◌∷◌, length, Option, Some, None, slice_get, codes, is_some}
+use Rattle.std.specs.Prelude.{ℕ, Bool, suc, ◌+◌, true, false, if◌then◌else◌, List, [], ◌∷◌, length}
+use Rattle.std.specs.Prelude.{Option, Some, None, slice_get, codes, is_some}
 use Rattle.std.specs.Str.{bytes_eq}
 use Rattle.par_pool.specs.declared.constant.Constant.{Constant}
 use Rattle.par_pool.specs.declared.constant.Constant.TheVariants.{Integer, Field, Method}
@@ -18,7 +19,8 @@ use Rattle.par_values.specs.declared.link.Link.{Link}
 use Rattle.par_values.specs.declared.link.Link.TheVariants as link
 use Rattle.par_single.specs.declared.descriptor.Signature.{Signature}
 use Rattle.par_single.specs.Descriptors.{Text, field_kind, method_signature}
-use Rattle.par_single.specs.Members.{own_name, Member, member_at, field_place, method_place, is_initializer, is_static}
+use Rattle.par_single.specs.Members.{own_name, Member, member_at, field_place, method_place}
+use Rattle.par_single.specs.Members.{is_initializer, is_static}
 
 -- the kind that a descriptor says; any value where it says none
 abbrev pub kind_or_any : Option Kind → Kind

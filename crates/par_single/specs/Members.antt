@@ -1,5 +1,6 @@
 -- What the indices of a constant pool say as texts, and where members stand in their classes.
-use Rattle.std.specs.Prelude.{ℕ, Bool, not, ◌&&◌, ◌==◌, bit_and, if◌then◌else◌, List, [], Option, Some, None, map, codes}
+use Rattle.std.specs.Prelude.{ℕ, Bool, not, ◌&&◌, ◌==◌, bit_and, if◌then◌else◌, List, [], Option}
+use Rattle.std.specs.Prelude.{Some, None, map, codes}
 use Rattle.std.specs.List.{position}
 use Rattle.std.specs.Str.{bytes_eq}
 use Rattle.par_pool.specs.declared.constant.Constant.{Constant}

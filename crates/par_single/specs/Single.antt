@@ -1,6 +1,7 @@
 -- Which class files run by themselves: they name no class but their own and that of all objects,
 -- and all that they name is there.
-use Rattle.std.specs.Prelude.{ℕ, Bool, true, false, not, ◌&&◌, ◌||◌, ◌==◌, List, [], ◌∷◌, length, Option, Some, None, is_some, codes}
+use Rattle.std.specs.Prelude.{ℕ, Bool, true, false, not, ◌&&◌, ◌||◌, ◌==◌, List, [], ◌∷◌, length}
+use Rattle.std.specs.Prelude.{Option, Some, None, is_some, codes}
 use Rattle.std.specs.List.{list_all, list_any, slice_get}
 use Rattle.std.specs.Str.{bytes_eq}
 use Rattle.par_pool.specs.declared.constant.Constant.{Constant}
@@ -14,7 +15,8 @@ use Rattle.par_values.specs.declared.link.Link.{Link}
 use Rattle.par_values.specs.declared.link.Link.TheVariants as link
 use Rattle.par_lexer.specs.Names.{is_name}
 use Rattle.par_single.specs.Descriptors.{Text, field_kind, method_signature}
-use Rattle.par_single.specs.Members.{text_at, own_name, Member, member_at, is_field_of, is_method_of, method_place, is_static}
+use Rattle.par_single.specs.Members.{text_at, own_name, Member, member_at, is_field_of}
+use Rattle.par_single.specs.Members.{is_method_of, method_place, is_static}
 use Rattle.par_single.specs.Links.{is_object, field_among, method_of}
 use Rattle.par_single.specs.Walk.{walks}
 

@@ -3,7 +3,10 @@
 -- throws an object or works on the fields of one.
 use Rattle.std.specs.Prelude.{Bool, true, false, nat_eq}
 use Rattle.par_instr.specs.declared.instr.Instr.{Instr}
-use Rattle.par_instr.specs.declared.instr.Instr.TheVariants.{Iconst, Bipush, Sipush, Ldc, LdcW, Iload, IloadShort, AloadShort, Istore, IstoreShort, Iadd, Return, Getstatic, Putstatic, Invokespecial, Invokestatic}
+use Rattle.par_instr.specs.declared.instr.Instr.TheVariants.{Iconst, Bipush, Sipush, Ldc, LdcW}
+use Rattle.par_instr.specs.declared.instr.Instr.TheVariants.{Iload, IloadShort, AloadShort, Istore}
+use Rattle.par_instr.specs.declared.instr.Instr.TheVariants.{IstoreShort, Iadd, Return, Getstatic}
+use Rattle.par_instr.specs.declared.instr.Instr.TheVariants.{Putstatic, Invokespecial, Invokestatic}
 
 -- the opcodes 02 to 08, 10 to 13, 15, 1a to 1d, 2a, 36, 3b to 3e, 60, b1 to b3, b7 and b8
 abbrev pub is_straight_line : Instr → Bool

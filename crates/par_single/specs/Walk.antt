@@ -1,5 +1,6 @@
 -- The walk through code, from offset 0 on: opcodes, each with its operand bytes behind it.
-use Rattle.std.specs.Prelude.{ℕ, zero, suc, Bool, true, false, ◌&&◌, List, [], ◌∷◌, Option, Some, None}
+use Rattle.std.specs.Prelude.{ℕ, zero, suc, Bool, true, false, ◌&&◌, List, [], ◌∷◌, Option, Some}
+use Rattle.std.specs.Prelude.{None}
 use Rattle.par_instr.specs.Decoding.{Decoded, decoded}
 use Rattle.par_instr.specs.Spelling.{operand_bytes}
 use Rattle.par_single.specs.StraightLine.{is_straight_line}
@@ -14,7 +15,8 @@ abbrev pub is_straight : Option Decoded → Bool
 is_straight None = false
 is_straight (Some d) = is_straight_line d.instr
 
--- Whether bytes are so many operand bytes, and behind them opcodes of straight-line code with theirs.
+-- Whether bytes are so many operand bytes, and behind them opcodes of straight-line code with
+-- theirs.
 unfoldable pub walks_after : List ℕ → ℕ → Bool
 walks_after [] zero = true
 walks_after [] (suc operands) = false

@@ -5,7 +5,8 @@ use Rattle.par_values.specs.declared.run.Event.{Event}
 use Rattle.par_values.specs.Ran.{Ran, Outcome, ended, stopped, with_event}
 use Rattle.par_single_machine.specs.State.{State, start}
 use Rattle.par_single_machine.specs.Step.{Turn, Silent, Shows, Ends, IsBad, turn}
-use Rattle.par_single_machine.specs.Run.{followed, run, class_number, Extends, MoreInstructionsExtend}
+use Rattle.par_single_machine.specs.Run.{followed, run, class_number, Extends}
+use Rattle.par_single_machine.specs.Run.{MoreInstructionsExtend}
 
 -- every run goes on from one that was stopped at once
 from_stopped : (later : Ran) → Extends stopped later
@@ -16,7 +17,8 @@ over : (outcome : Outcome) → Extends (ended outcome) (ended outcome)
 over outcome = record { events = ([], refl); ended = λ goes. refl }
 
 -- the same event stands before both
-behind_event : (e : Event) (earlier later : Ran) → Extends earlier later → Extends (with_event e earlier) (with_event e later)
+behind_event : (e : Event) (earlier later : Ran) → Extends earlier later
+    → Extends (with_event e earlier) (with_event e later)
 behind_event e earlier later x = record {
   events = (x.events.0, ap (λ es. e ∷ es) x.events.1);
   ended = λ goes. ap (with_event e) (x.ended goes);
@@ -29,11 +31,13 @@ followed_extends (Shows e s) one other each = behind_event e (one s) (other s) (
 followed_extends (Ends ending) one other each = over _
 followed_extends (IsBad class method offset reason) one other each = over _
 
-run_extends : (files : List ClassFile) (m n : ℕ) (s : State) → m ≤ n → Extends (run files m s) (run files n s)
+run_extends : (files : List ClassFile) (m n : ℕ) (s : State) → m ≤ n
+    → Extends (run files m s) (run files n s)
 run_extends files zero n s fewer = from_stopped (run files n s)
 run_extends files (suc m) zero s fewer = absurd (omega arith)
 run_extends files (suc m) (suc n) s fewer =
-    followed_extends (turn files s) (run files m) (run files n) (λ after. run_extends files m n after (omega arith))
+    followed_extends (turn files s) (run files m) (run files n)
+    (λ after. run_extends files m n after (omega arith))
 
 pub more_instructions : MoreInstructionsExtend
 more_instructions files main inputs m n fewer =

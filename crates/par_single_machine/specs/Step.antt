@@ -1,5 +1,6 @@
 -- One instruction of a machine.
-use Rattle.std.specs.Prelude.{ℕ, ◌+◌, ℤ, pos, negsuc, ◌+ℤ◌, false, List, [], ◌∷◌, Option, Some, None, is_none}
+use Rattle.std.specs.Prelude.{ℕ, ◌+◌, ℤ, pos, negsuc, ◌+ℤ◌, false, List, [], ◌∷◌, Option, Some}
+use Rattle.std.specs.Prelude.{None, is_none}
 use Rattle.par_instr.specs.Decoding.{Decoded, decoded_at}
 use Rattle.par_class.specs.declared.file.ClassFile.{ClassFile}
 use Rattle.par_values.specs.declared.value.MVal.{MVal}
@@ -10,11 +11,13 @@ use Rattle.par_values.specs.declared.run.Ending.TheVariants.{End, Uncaught}
 use Rattle.par_values.specs.Areas.{Name, Areas, class_named, first_locals}
 use Rattle.par_values.specs.Operations.{Operation, operation}
 use Rattle.par_values.specs.Reasons.{Spot, reason}
-use Rattle.par_values.specs.Effects.{Effect, Goes, Happens, Jumps, Calls, Throws, ThrowsObject, Returns, ReturnsWith, effect}
+use Rattle.par_values.specs.Effects.{Effect, Goes, Happens, Jumps, Calls, Throws, ThrowsObject}
+use Rattle.par_values.specs.Effects.{Returns, ReturnsWith, effect}
 use Rattle.par_single.specs.Members.{own_names}
 use Rattle.par_single.specs.Links.{kind_or_any, signature_said, link_at}
 use Rattle.par_single.specs.Walk.{starts_at}
-use Rattle.par_single_machine.specs.State.{Frame, State, class_pool, method_code, method_name, method_descriptor, entered}
+use Rattle.par_single_machine.specs.State.{Frame, State, class_pool, method_code, method_name}
+use Rattle.par_single_machine.specs.State.{method_descriptor, entered}
 
 -- what one instruction comes to
 pub data Turn : Type 0 where
@@ -35,7 +38,8 @@ areas_of f s =
       inputs = s.inputs;
     }
 
--- What the place of an instruction decides: where the next one starts is told by the walk. Straight-line
+-- What the place of an instruction decides: where the next one starts is told by the walk.
+-- Straight-line
 -- code goes on behind each instruction, and has no handler and no exception of its own.
 abbrev pub spot : List ClassFile → Frame → ℕ → Spot
 spot files f size =

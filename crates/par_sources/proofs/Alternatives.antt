@@ -1,11 +1,14 @@
 -- What all alternatives of the grammar have.
-use Rattle.std.proofs.Common.{◌≡◌, ℕ, ◌+◌, Bool, true, false, ◌&&◌, List, [], ◌∷◌, ◌++◌, Option, Some, None, refl, ap, ◌∙◌}
+use Rattle.std.proofs.Common.{◌≡◌, ℕ, ◌+◌, Bool, true, false, ◌&&◌, List, [], ◌∷◌, ◌++◌, Option}
+use Rattle.std.proofs.Common.{Some, None, refl, ap, ◌∙◌}
 use Rattle.std.specs.Prelude.{nat_lt, if◌then◌else◌}
 use Rattle.par_lexer.specs.declared.operator.BinOp.{BinOp}
 use Rattle.par_grammar.specs.declared.sort.Sort.{Sort}
 use Rattle.par_grammar.specs.Sorts.{same}
-use Rattle.par_grammar.specs.Grammar.{Choice, token, kept, finish, counts, restarts, enters, leaves, name, builds, chosen, alternative}
-use Rattle.par_tree.specs.Grammar.{Names, Builders, Symbols, choices, otherwise, operations, operators, level, lines}
+use Rattle.par_grammar.specs.Grammar.{Choice, token, kept, finish, counts, restarts, enters, leaves}
+use Rattle.par_grammar.specs.Grammar.{name, builds, chosen, alternative}
+use Rattle.par_tree.specs.Grammar.{Names, Builders, Symbols, choices, otherwise, operations}
+use Rattle.par_tree.specs.Grammar.{operators, level, lines}
 use Rattle.par_tree.specs.Grammar as g
 use Rattle.par_tree.specs.Values.{paragon}
 use Rattle.par_sources.proofs.Standing.{small_builder}

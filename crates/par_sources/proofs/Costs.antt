@@ -1,6 +1,7 @@
 -- What is pending pays for what it builds: with the bytes of its tokens, and with those between a
 -- word and a name.
-use Rattle.std.proofs.Common.{◌≡◌, ℕ, ◌+◌, ◌-◌, ◌≤◌, Bool, true, false, List, [], ◌∷◌, ◌++◌, Option, Some, None, refl, sym, subst, arith}
+use Rattle.std.proofs.Common.{◌≡◌, ℕ, ◌+◌, ◌-◌, ◌≤◌, Bool, true, false, List, [], ◌∷◌, ◌++◌, Option}
+use Rattle.std.proofs.Common.{Some, None, refl, sym, subst, arith}
 use Rattle.std.specs.Prelude.{nat_le, nat_lt, if◌then◌else◌}
 use Rattle.std.proofs.lemmas.Bool.Decides.{nat_tests}
 use Rattle.par_lexer.specs.declared.operator.BinOp.{BinOp}
@@ -8,8 +9,10 @@ use Rattle.par_lexer.specs.declared.word.TheConstants as word
 use Rattle.par_grammar.specs.declared.sort.Sort.{Sort}
 use Rattle.par_grammar.specs.declared.sort.Sort.TheVariants as sort
 use Rattle.par_grammar.specs.Sorts.{same}
-use Rattle.par_grammar.specs.Grammar.{token, kept, finish, counts, restarts, enters, leaves, name, builds, alternative}
-use Rattle.par_tree.specs.Grammar.{Names, Builders, Symbols, choices, otherwise, operations, operators, level, lines}
+use Rattle.par_grammar.specs.Grammar.{token, kept, finish, counts, restarts, enters, leaves, name}
+use Rattle.par_grammar.specs.Grammar.{builds, alternative}
+use Rattle.par_tree.specs.Grammar.{Names, Builders, Symbols, choices, otherwise, operations}
+use Rattle.par_tree.specs.Grammar.{operators, level, lines}
 use Rattle.par_tree.specs.Grammar as g
 use Rattle.par_tree.specs.Values.{paragon}
 use Rattle.par_sources.proofs.Gaps.{gap}
@@ -150,7 +153,8 @@ afforded n xs s wordy other is =
     let low = lower_by wordy xs in
     let most : needs false xs ≤ debt n = grind (arith, nat_tests) in
     let here : needs wordy (xs ++ s) ≤ needs false s + debt n = omega (arith, whole, low, most) in
-    subst (λ b. needs wordy (xs ++ s) ≤ by_name b (debt n) (needs true s) (needs false s)) (sym other)
+    subst (λ b. needs wordy (xs ++ s) ≤ by_name b (debt n) (needs true s) (needs false s))
+    (sym other)
     here
 
 -- a type is a word or a name that is kept, and what is built of it costs nothing

@@ -1,5 +1,7 @@
 -- Tokens stand apart: between a word and a name there is a byte at least.
-use Rattle.std.proofs.Common.{◌≡◌, ℕ, ◌+◌, ◌<◌, ◌≤◌, Bool, true, false, cond, if◌then◌else◌, ◌||◌, List, [], ◌∷◌, length, take, drop, Option, Some, None, Ok, Err, refl, sym, ap, subst, ◌∙◌, length-take, length-drop, arith}
+use Rattle.std.proofs.Common.{◌≡◌, ℕ, ◌+◌, ◌<◌, ◌≤◌, Bool, true, false, cond, if◌then◌else◌, ◌||◌}
+use Rattle.std.proofs.Common.{List, [], ◌∷◌, length, take, drop, Option, Some, None, Ok, Err, refl}
+use Rattle.std.proofs.Common.{sym, ap, subst, ◌∙◌, length-take, length-drop, arith}
 use Rattle.std.specs.Prelude.{nat_lt, ◌==◌, take_while, codes}
 use Rattle.std.specs.List.{prefix_len}
 use Rattle.std.proofs.lemmas.List.Sums.{take_while-cons}
@@ -10,9 +12,11 @@ use Rattle.par_lexer.specs.declared.piece.Piece.{Piece}
 use Rattle.par_lexer.specs.declared.piece.Piece.TheVariants as piece
 use Rattle.par_lexer.specs.Names.{is_letter, is_digit, is_blank, goes_on, first_is}
 use Rattle.par_lexer.specs.Tables.{Row}
-use Rattle.par_lexer.specs.Pieces.{value, begins, has_leading_zero, through_close, comment_at, name_at, number_at, longest_sign, sign_at, piece_at}
+use Rattle.par_lexer.specs.Pieces.{value, begins, has_leading_zero, through_close, comment_at}
+use Rattle.par_lexer.specs.Pieces.{name_at, number_at, longest_sign, sign_at, piece_at}
 use Rattle.par_lexer.specs.Spans.{IsText, Reaches}
-use Rattle.par_lexer.specs.Tokens.{Outcome, Cut, ends, passes, takes, breaks, token_at, before, HasTokens}
+use Rattle.par_lexer.specs.Tokens.{Outcome, Cut, ends, passes, takes, breaks, token_at, before}
+use Rattle.par_lexer.specs.Tokens.{HasTokens}
 use Rattle.par_lexer.proofs.Reach.{reaches}
 use Rattle.par_tree.specs.Values.{text}
 
@@ -94,7 +98,8 @@ module _ (bytes : List ℕ) where
       by_test (length bytes == 0) _ _ (λ h. tt)
       (by_test (first_is is_blank bytes) _ _ (λ h. tt)
       (by_test (begins (codes "//") bytes) _ _ (λ h. tt)
-      (by_test (begins (codes "/*") bytes) _ _ (λ h. comment_wordy at (through_close (drop 2 bytes)))
+      (by_test (begins (codes "/*") bytes) _ _
+      (λ h. comment_wordy at (through_close (drop 2 bytes)))
       (by_test (first_is is_letter bytes) _ _ (name_wordy at)
       (by_test (first_is is_digit bytes) _ _
       (λ h. number_wordy at (take_while is_digit bytes) (drop (prefix_len is_digit bytes) bytes))

@@ -4,16 +4,35 @@ use Rattle.std.specs.Prelude.{nat_le}
 use Rattle.std.specs.List.{AllByRecursion}
 use Rattle.std.proofs.lemmas.Bool.Decides.{nat_tests}
 use Rattle.par_lexer.specs.declared.operator.BinOp.{BinOp}
-use Rattle.par_tree.specs.Plain.{Exp, Exps, NoExps, More, Braces, In, Sta, Stas, End, Then, Catches, NoCatch, Catch, Handler, with_exp, with_sta, with_catch}
+use Rattle.par_tree.specs.Plain.{Exp, Exps, NoExps, More, Braces, In, Sta, Stas, End, Then, Catches}
+use Rattle.par_tree.specs.Plain.{NoCatch, Catch, Handler, with_exp, with_sta, with_catch}
 use Rattle.par_tree.specs.Plain as plain
 use Rattle.par_tree.specs.Grammar.{Builders}
 use Rattle.par_tree.specs.Grammar as g
-use Rattle.par_tree.specs.Values.{Value, Values, tok, exp, exps, may, braces, may_braces, sta, stas, other, handler, catches, term, whole, may_whole, clause, clauses, lock, needs, idents, typed, gives, flag, many, param, listed, says, members, decl, source}
+use Rattle.par_tree.specs.Values.{Value, Values, tok, exp, exps, may, braces, may_braces, sta, stas}
+use Rattle.par_tree.specs.Values.{other, handler, catches, term, whole, may_whole, clause, clauses}
+use Rattle.par_tree.specs.Values.{lock, needs, idents, typed, gives, flag, many, param, listed}
+use Rattle.par_tree.specs.Values.{says, members, decl, source}
 use Rattle.par_tree.specs.Values.{number, built, ident, as_stmt, channel, binary, next_method}
-use Rattle.par_tree.specs.Values.{next_decl, actors_decl, lock_decl, policy_decl, exception_decl, class_decl, next_ident, inferred_field, field, some_result, one_param, next_param, next_write, next_expect, next_open, next_close, next_throw, int_type, boolean_type, class_type, some_policy, first_term, next_term, clauses_term, named_term, bottom_term, top_term, one_clause, next_clause, one_lock, next_lock, next_stmt, whole_block, block_stmt, if_stmt, some_else, while_stmt, one_catch, next_catch, try_stmt, some_value, return_stmt, break_stmt, continue_stmt, throw_stmt, open_stmt, close_stmt, when_stmt, some_block, local_stmt, class_local, assign_stmt, call_stmt, constant, true_expr, false_expr, null_expr, this_expr, create, variable, select, call_own, call_on, negate, invert, next_arg}
+use Rattle.par_tree.specs.Values.{next_decl, actors_decl, lock_decl, policy_decl, exception_decl}
+use Rattle.par_tree.specs.Values.{class_decl, next_ident, inferred_field, field, some_result}
+use Rattle.par_tree.specs.Values.{one_param, next_param, next_write, next_expect, next_open}
+use Rattle.par_tree.specs.Values.{next_close, next_throw, int_type, boolean_type, class_type}
+use Rattle.par_tree.specs.Values.{some_policy, first_term, next_term, clauses_term, named_term}
+use Rattle.par_tree.specs.Values.{bottom_term, top_term, one_clause, next_clause, one_lock}
+use Rattle.par_tree.specs.Values.{next_lock, next_stmt, whole_block, block_stmt, if_stmt, some_else}
+use Rattle.par_tree.specs.Values.{while_stmt, one_catch, next_catch, try_stmt, some_value}
+use Rattle.par_tree.specs.Values.{return_stmt, break_stmt, continue_stmt, throw_stmt, open_stmt}
+use Rattle.par_tree.specs.Values.{close_stmt, when_stmt, some_block, local_stmt, class_local}
+use Rattle.par_tree.specs.Values.{assign_stmt, call_stmt, constant, true_expr, false_expr}
+use Rattle.par_tree.specs.Values.{null_expr, this_expr, create, variable, select, call_own, call_on}
+use Rattle.par_tree.specs.Values.{negate, invert, next_arg}
 use Rattle.par_places.proofs.Lists.{pushed}
-use Rattle.par_sources.specs.Numbers.{GREATEST, one_unless, HasNumbers, DeclarationHasNumbers, SourceHasNumbers}
-use Rattle.par_sources.specs.Numbers.{too_great, may_too_great, args_too_great, stmt_too_great, braces_too_great, may_braces_too_great, else_too_great, all_too_great, catches_too_great, handler_too_great}
+use Rattle.par_sources.specs.Numbers.{GREATEST, one_unless, HasNumbers, DeclarationHasNumbers}
+use Rattle.par_sources.specs.Numbers.{SourceHasNumbers}
+use Rattle.par_sources.specs.Numbers.{too_great, may_too_great, args_too_great, stmt_too_great}
+use Rattle.par_sources.specs.Numbers.{braces_too_great, may_braces_too_great, else_too_great}
+use Rattle.par_sources.specs.Numbers.{all_too_great, catches_too_great, handler_too_great}
 use Rattle.par_sources.proofs.Tokens.{HasNumber}
 
 -- ---- sums

@@ -1,10 +1,15 @@
 -- The declarations in the tree of a source stand in the order of its tokens.
-use Rattle.std.proofs.Common.{◌≡◌, ℕ, zero, suc, ◌+◌, ◌<◌, ◌≤◌, Bool, true, false, List, [], ◌∷◌, ◌++◌, Option, Some, None, Ok, Err, refl, subst, map, if◌then◌else◌, nat_le, arith}
+use Rattle.std.proofs.Common.{◌≡◌, ℕ, zero, suc, ◌+◌, ◌<◌, ◌≤◌, Bool, true, false, List, [], ◌∷◌}
+use Rattle.std.proofs.Common.{◌++◌, Option, Some, None, Ok, Err, refl, subst, map, if◌then◌else◌}
+use Rattle.std.proofs.Common.{nat_le, arith}
 use Rattle.par_lexer.specs.declared.token.Token.{Token}
 use Rattle.par_grammar.specs.declared.sort.Sort.TheVariants.{End}
 use Rattle.par_grammar.specs.Sorts.{same}
-use Rattle.par_grammar.specs.Grammar.{token, kept, finish, counts, restarts, enters, leaves, name, builds, alternative}
-use Rattle.par_grammar.specs.Derivation.{Input, next, Syntax, TooDeep, Outcome, State, Step, goes, ends, state, stops, takes, keeps, nests, replaces, step_by, step, Comes, last, more}
+use Rattle.par_grammar.specs.Grammar.{token, kept, finish, counts, restarts, enters, leaves, name}
+use Rattle.par_grammar.specs.Grammar.{builds, alternative}
+use Rattle.par_grammar.specs.Derivation.{Input, next, Syntax, TooDeep, Outcome, State, Step, goes}
+use Rattle.par_grammar.specs.Derivation.{ends, state, stops, takes, keeps, nests, replaces, step_by}
+use Rattle.par_grammar.specs.Derivation.{step, Comes, last, more}
 use Rattle.par_tree.specs.Plain.{Source}
 use Rattle.par_tree.specs.Grammar.{Names, Builders, Symbols}
 use Rattle.par_tree.specs.Grammar as g
@@ -15,7 +20,9 @@ use Rattle.par_sources.specs.Laws.{TreesAreInOrder}
 use Rattle.par_sources.proofs.Tokens.{Follow, tokens_follow}
 use Rattle.par_sources.proofs.Places.{Lies, ascends_from, class_place, SourceLies}
 use Rattle.par_sources.proofs.Standing.{Stack, stack_further, small_builder, built_lies}
-use Rattle.par_sources.proofs.Alternatives.{all_small, leads, is_opening, and_left, and_right, small_front, leads_front, if_any, alternative_small, alternative_leads}
+use Rattle.par_sources.proofs.Alternatives.{all_small, leads, is_opening, and_left, and_right}
+use Rattle.par_sources.proofs.Alternatives.{small_front, leads_front, if_any, alternative_small}
+use Rattle.par_sources.proofs.Alternatives.{alternative_leads}
 
 -- before the first token none can be kept
 abbrev Begun : ℕ → Symbols → Type 0

@@ -1,13 +1,18 @@
 -- The names and descriptors in the tree of a source have no more bytes than the source.
-use Rattle.std.proofs.Common.{◌≡◌, ℕ, ◌+◌, ◌-◌, ◌≤◌, Bool, true, false, List, [], ◌∷◌, ◌++◌, length, Option, Some, None, Ok, Err, refl, sym, subst, if◌then◌else◌, nat_le, arith}
+use Rattle.std.proofs.Common.{◌≡◌, ℕ, ◌+◌, ◌-◌, ◌≤◌, Bool, true, false, List, [], ◌∷◌, ◌++◌, length}
+use Rattle.std.proofs.Common.{Option, Some, None, Ok, Err, refl, sym, subst, if◌then◌else◌, nat_le}
+use Rattle.std.proofs.Common.{arith}
 use Rattle.par_lexer.specs.declared.token.Kind.{Kind}
 use Rattle.par_lexer.specs.declared.token.Kind.TheVariants as kind
 use Rattle.par_lexer.specs.declared.token.Token.{Token}
 use Rattle.par_grammar.specs.declared.sort.Sort.{Sort}
 use Rattle.par_grammar.specs.declared.sort.Sort.TheVariants as sort
 use Rattle.par_grammar.specs.Sorts.{sort_of, same}
-use Rattle.par_grammar.specs.Grammar.{token, kept, finish, counts, restarts, enters, leaves, name, builds, alternative}
-use Rattle.par_grammar.specs.Derivation.{Input, next, Syntax, TooDeep, Outcome, State, Step, goes, ends, state, stops, takes, keeps, nests, replaces, step_by, step, Comes, last, more}
+use Rattle.par_grammar.specs.Grammar.{token, kept, finish, counts, restarts, enters, leaves, name}
+use Rattle.par_grammar.specs.Grammar.{builds, alternative}
+use Rattle.par_grammar.specs.Derivation.{Input, next, Syntax, TooDeep, Outcome, State, Step, goes}
+use Rattle.par_grammar.specs.Derivation.{ends, state, stops, takes, keeps, nests, replaces, step_by}
+use Rattle.par_grammar.specs.Derivation.{step, Comes, last, more}
 use Rattle.par_tree.specs.Grammar.{Names, Builders, Symbols}
 use Rattle.par_tree.specs.Grammar as g
 use Rattle.par_tree.specs.Values.{Value, Values, tok, paragon}

@@ -1,5 +1,6 @@
 -- What holds of the tokens of a source.
-use Rattle.std.proofs.Common.{◌≡◌, ℕ, suc, ◌+◌, ◌<◌, ◌≤◌, Bool, true, false, if◌then◌else◌, List, [], ◌∷◌, length, Option, Some, None, Ok, Err, refl, sym, subst, arith}
+use Rattle.std.proofs.Common.{◌≡◌, ℕ, suc, ◌+◌, ◌<◌, ◌≤◌, Bool, true, false, if◌then◌else◌, List}
+use Rattle.std.proofs.Common.{[], ◌∷◌, length, Option, Some, None, Ok, Err, refl, sym, subst, arith}
 use Rattle.std.specs.Prelude.{nat_lt, ◌==◌, take_while, drop, find, codes}
 use Rattle.std.specs.List.{AllByRecursion, AllPairs, prefix_len}
 use Rattle.std.specs.Str.{bytes_eq}
@@ -12,8 +13,10 @@ use Rattle.par_lexer.specs.declared.piece.Piece.TheVariants as piece
 use Rattle.par_lexer.specs.declared.token.LexError.TheVariants.{BadByte, NumberTooLarge}
 use Rattle.par_lexer.specs.Names.{is_letter, is_digit, is_blank, goes_on, first_is}
 use Rattle.par_lexer.specs.Tables.{Row, words}
-use Rattle.par_lexer.specs.Pieces.{value, begins, has_leading_zero, through_close, comment_at, named, name_at, number_at, longest_sign, sign_at, piece_at}
-use Rattle.par_lexer.specs.Tokens.{Outcome, Cut, ends, passes, takes, breaks, token_at, before, HasTokens}
+use Rattle.par_lexer.specs.Pieces.{value, begins, has_leading_zero, through_close, comment_at}
+use Rattle.par_lexer.specs.Pieces.{named, name_at, number_at, longest_sign, sign_at, piece_at}
+use Rattle.par_lexer.specs.Tokens.{Outcome, Cut, ends, passes, takes, breaks, token_at, before}
+use Rattle.par_lexer.specs.Tokens.{HasTokens}
 use Rattle.par_lexer.specs.Spans.{IsLaid, Stands}
 use Rattle.par_tree.specs.Values.{number}
 use Rattle.par_sources.specs.Numbers.{GREATEST}

@@ -1,5 +1,6 @@
 -- What each builder makes has hardly more bytes of names and descriptors than what it is made of.
-use Rattle.std.proofs.Common.{ℕ, ◌+◌, ◌-◌, ◌≤◌, ◌≡◌, Bool, true, false, cond, List, [], ◌∷◌, ◌++◌, length, Option, Some, None, arith}
+use Rattle.std.proofs.Common.{ℕ, ◌+◌, ◌-◌, ◌≤◌, ◌≡◌, Bool, true, false, cond, List, [], ◌∷◌, ◌++◌}
+use Rattle.std.proofs.Common.{length, Option, Some, None, arith}
 use Rattle.std.specs.List.{AllByRecursion}
 use Rattle.par_lexer.specs.declared.operator.BinOp.{BinOp}
 use Rattle.par_tree.specs.declared.types.TypeTree.{TypeTree}
@@ -10,10 +11,27 @@ use Rattle.par_tree.specs.declared.decl.ParamDecl.{ParamDecl}
 use Rattle.par_tree.specs.Plain.{Method, Declaration, Source}
 use Rattle.par_tree.specs.Grammar.{Builders}
 use Rattle.par_tree.specs.Grammar as g
-use Rattle.par_tree.specs.Values.{Value, Values, Members, tok, exp, exps, may, braces, may_braces, sta, stas, other, handler, catches, term, whole, may_whole, clause, clauses, lock, needs, idents, typed, gives, flag, many, param, listed, says, members, decl, source}
+use Rattle.par_tree.specs.Values.{Value, Values, Members, tok, exp, exps, may, braces, may_braces}
+use Rattle.par_tree.specs.Values.{sta, stas, other, handler, catches, term, whole, may_whole}
+use Rattle.par_tree.specs.Values.{clause, clauses, lock, needs, idents, typed, gives, flag, many}
+use Rattle.par_tree.specs.Values.{param, listed, says, members, decl, source}
 use Rattle.par_tree.specs.Values.{built, ident, channel, binary, next_method}
-use Rattle.par_tree.specs.Values.{next_decl, actors_decl, lock_decl, policy_decl, exception_decl, class_decl, next_ident, inferred_field, field, some_result, one_param, next_param, next_write, next_expect, next_open, next_close, next_throw, int_type, boolean_type, class_type, some_policy, first_term, next_term, clauses_term, named_term, bottom_term, top_term, one_clause, next_clause, one_lock, next_lock, next_stmt, whole_block, block_stmt, if_stmt, some_else, while_stmt, one_catch, next_catch, try_stmt, some_value, return_stmt, break_stmt, continue_stmt, throw_stmt, open_stmt, close_stmt, when_stmt, some_block, local_stmt, class_local, assign_stmt, call_stmt, constant, true_expr, false_expr, null_expr, this_expr, create, variable, select, call_own, call_on, negate, invert, next_arg}
-use Rattle.par_sources.specs.Sizes.{type_size, result_size, params_size, field_size, channel_size, method_size, fields_size, channels_size, methods_size, declaration_size, source_texts}
+use Rattle.par_tree.specs.Values.{next_decl, actors_decl, lock_decl, policy_decl, exception_decl}
+use Rattle.par_tree.specs.Values.{class_decl, next_ident, inferred_field, field, some_result}
+use Rattle.par_tree.specs.Values.{one_param, next_param, next_write, next_expect, next_open}
+use Rattle.par_tree.specs.Values.{next_close, next_throw, int_type, boolean_type, class_type}
+use Rattle.par_tree.specs.Values.{some_policy, first_term, next_term, clauses_term, named_term}
+use Rattle.par_tree.specs.Values.{bottom_term, top_term, one_clause, next_clause, one_lock}
+use Rattle.par_tree.specs.Values.{next_lock, next_stmt, whole_block, block_stmt, if_stmt, some_else}
+use Rattle.par_tree.specs.Values.{while_stmt, one_catch, next_catch, try_stmt, some_value}
+use Rattle.par_tree.specs.Values.{return_stmt, break_stmt, continue_stmt, throw_stmt, open_stmt}
+use Rattle.par_tree.specs.Values.{close_stmt, when_stmt, some_block, local_stmt, class_local}
+use Rattle.par_tree.specs.Values.{assign_stmt, call_stmt, constant, true_expr, false_expr}
+use Rattle.par_tree.specs.Values.{null_expr, this_expr, create, variable, select, call_own, call_on}
+use Rattle.par_tree.specs.Values.{negate, invert, next_arg}
+use Rattle.par_sources.specs.Sizes.{type_size, result_size, params_size, field_size, channel_size}
+use Rattle.par_sources.specs.Sizes.{method_size, fields_size, channels_size, methods_size}
+use Rattle.par_sources.specs.Sizes.{declaration_size, source_texts}
 use Rattle.par_sources.proofs.Gaps.{IsSized}
 use Rattle.par_sources.proofs.Costs.{cost}
 
@@ -352,7 +370,8 @@ some_block_pays (braces b ∷ vs) h = (omega arith, (tt, h.1))
 some_block_pays vs h = (omega arith, h)
 
 local_stmt_pays : (vs : Values) → Fine vs → Pays 0 vs (local_stmt vs)
-local_stmt_pays (exp e ∷ tok x ∷ typed t ∷ flag n ∷ may_whole p ∷ vs) h = (omega arith, (tt, h.1.1.1.1.1))
+local_stmt_pays (exp e ∷ tok x ∷ typed t ∷ flag n ∷ may_whole p ∷ vs) h =
+    (omega arith, (tt, h.1.1.1.1.1))
 local_stmt_pays vs h = (omega arith, h)
 
 class_local_pays : (vs : Values) → Fine vs → Pays 0 vs (class_local vs)

@@ -1,5 +1,6 @@
 -- The frames of a running program, the one that runs first, and their places in one row.
-use Rattle.std.specs.Prelude.{ℕ, ◌+◌, ◌-◌, Bool, not, ◌==◌, List, [], ◌∷◌, ◌++◌, length, map, replicate, reverse, take, drop, slice_set, Option, Some, None}
+use Rattle.std.specs.Prelude.{ℕ, ◌+◌, ◌-◌, Bool, not, ◌==◌, List, [], ◌∷◌, ◌++◌, length, map}
+use Rattle.std.specs.Prelude.{replicate, reverse, take, drop, slice_set, Option, Some, None}
 use Rattle.par_values.specs.declared.value.MVal.{MVal}
 use Rattle.par_values.specs.Areas.{first_locals}
 use Rattle.par_stack.specs.declared.point.Point.{Point}

@@ -1,5 +1,6 @@
 -- Where the places of each frame lie in the row of all.
-use Rattle.std.specs.Prelude.{◌≡◌, ℕ, ◌+◌, ◌-◌, List, [], ◌∷◌, length, map, reverse, Option, option_to_list}
+use Rattle.std.specs.Prelude.{◌≡◌, ℕ, ◌+◌, ◌-◌, List, [], ◌∷◌, length, map, reverse, Option}
+use Rattle.std.specs.Prelude.{option_to_list}
 use Rattle.std.specs.List.{flat_map, between}
 use Rattle.par_values.specs.declared.value.MVal.{MVal}
 use Rattle.par_stack.specs.declared.point.Extent.{Extent}

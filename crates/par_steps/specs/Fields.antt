@@ -1,6 +1,7 @@
 -- Where the fields of a program stand: the static ones of all classes in one row, behind them a
 -- field for each lock, and those of an object in a row of its own.
-use Rattle.std.specs.Prelude.{ℕ, ◌+◌, Bool, not, if◌then◌else◌, pos, List, [], ◌∷◌, ◌++◌, length, map, take, replicate}
+use Rattle.std.specs.Prelude.{ℕ, ◌+◌, Bool, not, if◌then◌else◌, pos, List, [], ◌∷◌, ◌++◌, length}
+use Rattle.std.specs.Prelude.{map, take, replicate}
 use Rattle.std.specs.List.{filter}
 use Rattle.par_pool.specs.declared.constant.Constant.{Constant}
 use Rattle.par_class.specs.declared.file.FieldFile.{FieldFile}

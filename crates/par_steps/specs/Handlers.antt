@@ -1,6 +1,7 @@
 -- Where an exception goes: to the first handler of the first frame that takes it; the frames before
 -- that one are dropped (Java Virtual Machine Specification, Java SE 7, section 2.10).
-use Rattle.std.specs.Prelude.{ℕ, Bool, true, false, not, ◌&&◌, ◌||◌, ◌==◌, nat_lt, nat_le, if◌then◌else◌, List, [], ◌∷◌, Option, Some, None}
+use Rattle.std.specs.Prelude.{ℕ, Bool, true, false, not, ◌&&◌, ◌||◌, ◌==◌, nat_lt, nat_le}
+use Rattle.std.specs.Prelude.{if◌then◌else◌, List, [], ◌∷◌, Option, Some, None}
 use Rattle.par_class.specs.declared.file.Catch.{Catch}
 use Rattle.par_class.specs.declared.file.ClassFile.{ClassFile}
 use Rattle.par_link.specs.declared.entry.Builtin.{Builtin}

@@ -1,6 +1,7 @@
 -- The state of a machine: frames, static fields, objects and input lists (Java Virtual Machine
 -- Specification, Java SE 7, sections 2.5 and 2.6).
-use Rattle.std.specs.Prelude.{ℕ, ◌+◌, List, [], ◌∷◌, Option, Some, None, slice_get, replicate, length}
+use Rattle.std.specs.Prelude.{ℕ, ◌+◌, List, [], ◌∷◌, Option, Some, None, slice_get, replicate}
+use Rattle.std.specs.Prelude.{length}
 use Rattle.par_class.specs.declared.file.ClassFile.{ClassFile}
 use Rattle.par_values.specs.declared.value.MVal.{MVal}
 use Rattle.par_values.specs.declared.inputs.Inputs.{Inputs}

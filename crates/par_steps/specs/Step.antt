@@ -1,5 +1,6 @@
 -- One instruction of a machine.
-use Rattle.std.specs.Prelude.{ℕ, ◌+◌, ℤ, pos, negsuc, ◌+ℤ◌, Bool, true, false, not, if◌then◌else◌, min, List, [], ◌∷◌, Option, Some, None, is_none, codes}
+use Rattle.std.specs.Prelude.{ℕ, ◌+◌, ℤ, pos, negsuc, ◌+ℤ◌, Bool, true, false, not, if◌then◌else◌}
+use Rattle.std.specs.Prelude.{min, List, [], ◌∷◌, Option, Some, None, is_none, codes}
 use Rattle.std.specs.Str.{bytes_eq}
 use Rattle.par_instr.specs.declared.instr.Instr.{Instr}
 use Rattle.par_instr.specs.declared.instr.Instr.TheVariants.{Invokevirtual, Invokespecial}
@@ -11,10 +12,12 @@ use Rattle.par_values.specs.declared.run.Event.{Event}
 use Rattle.par_values.specs.declared.run.Event.TheVariants.{Set}
 use Rattle.par_values.specs.declared.run.Ending.{Ending}
 use Rattle.par_values.specs.declared.run.Ending.TheVariants.{End, Uncaught}
-use Rattle.par_values.specs.Areas.{Name, Areas, class_named, first_locals, operand, next_number, with_object}
+use Rattle.par_values.specs.Areas.{Name, Areas, class_named, first_locals, operand, next_number}
+use Rattle.par_values.specs.Areas.{with_object}
 use Rattle.par_values.specs.Operations.{operation}
 use Rattle.par_values.specs.Reasons.{Spot, reason, is_of}
-use Rattle.par_values.specs.Effects.{Effect, Goes, Happens, Jumps, Calls, Throws, ThrowsObject, Returns, ReturnsWith, effect}
+use Rattle.par_values.specs.Effects.{Effect, Goes, Happens, Jumps, Calls, Throws, ThrowsObject}
+use Rattle.par_values.specs.Effects.{Returns, ReturnsWith, effect}
 use Rattle.par_link.specs.declared.entry.Builtin.TheVariants.{Exception}
 use Rattle.par_link.specs.declared.entry.Named.{Named}
 use Rattle.par_link.specs.declared.entry.Named.TheVariants.{Initializer}

@@ -11,7 +11,11 @@ use Rattle.par_tree.proofs.Founded.{founded}
 use Rattle.par_tree.proofs.Rules.{run_built}
 use Rattle.par_language.specs.Reads.{Reads}
 
-pub behind : {A : Type 0} (b : Builders) (ys : Symbols) {old : Values} (mid : Values) {show : A → Values} {i j : Input} {r : Result A ParseError}
-    → ((vs : Values) → built b (old ++ vs) ≡ mid ++ vs) → Reads ys mid show i r j → Reads (builds b ∷ ys) old show i r j
+pub behind : {A : Type 0} (b : Builders) (ys : Symbols) {old : Values}
+    (mid : Values) {show : A → Values} {i j : Input} {r : Result A ParseError}
+    → ((vs : Values) → built b (old ++ vs) ≡ mid ++ vs) → Reads ys mid show i r j
+    → Reads (builds b ∷ ys) old show i r j
 behind b ys {old = old} mid {i = i} made read =
-    continued paragon founded ys mid (λ s vs. run_built (ys ++ s) i (old ++ vs) b ∙ ap (run paragon founded (ys ++ s) i) (made vs)) read
+    continued paragon founded ys mid
+    (λ s vs. run_built (ys ++ s) i (old ++ vs) b ∙ ap (run paragon founded (ys ++ s) i) (made vs))
+    read

@@ -1,4 +1,5 @@
--- The grammar of straight-line sources is founded: no name is replaced for ever before a token is taken.
+-- The grammar of straight-line sources is founded: no name is replaced for ever before a token is
+-- taken.
 use Rattle.std.proofs.Common.{ℕ, Bool, true, false, refl, lit<}
 use Rattle.par_grammar.proofs.Total.{Founded, AllLight, LightIfAny}
 use Rattle.par_straight.specs.Grammar.{Names}

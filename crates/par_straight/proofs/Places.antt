@@ -1,5 +1,7 @@
 -- The statements of a source stand in order: their places are some of those of its tokens.
-use Rattle.std.proofs.Common.{◌≡◌, ℕ, zero, suc, ◌+◌, ◌<◌, ◌≤◌, Bool, true, false, List, [], ◌∷◌, ◌++◌, map, length, Option, Some, None, Ok, Err, refl, ap, subst, sym, ◌∙◌, arith, if◌then◌else◌, nat_le}
+use Rattle.std.proofs.Common.{◌≡◌, ℕ, zero, suc, ◌+◌, ◌<◌, ◌≤◌, Bool, true, false, List, [], ◌∷◌}
+use Rattle.std.proofs.Common.{◌++◌, map, length, Option, Some, None, Ok, Err, refl, ap, subst, sym}
+use Rattle.std.proofs.Common.{◌∙◌, arith, if◌then◌else◌, nat_le}
 use Rattle.std.specs.List.{All, AllPairs}
 use Rattle.std.proofs.lemmas.List.{map-append, append_assoc, append-nil}
 use Rattle.par_lexer.specs.declared.token.Kind.{Kind}
@@ -10,19 +12,24 @@ use Rattle.par_lexer.proofs.Laying.{laid}
 use Rattle.par_policy.specs.Numbers.{IsAscending}
 use Rattle.par_grammar.specs.declared.sort.Sort.TheVariants.{End}
 use Rattle.par_grammar.specs.Sorts.{same}
-use Rattle.par_grammar.specs.Grammar.{token, kept, finish, counts, restarts, enters, leaves, name, builds, alternative}
+use Rattle.par_grammar.specs.Grammar.{token, kept, finish, counts, restarts, enters, leaves, name}
+use Rattle.par_grammar.specs.Grammar.{builds, alternative}
 use Rattle.par_grammar.specs.Derivation as derivation
-use Rattle.par_grammar.specs.Derivation.{Input, next, Syntax, TooDeep, Outcome, goes, ends, state, stops, takes, keeps, nests, replaces, step_by, step, Comes, last, more}
+use Rattle.par_grammar.specs.Derivation.{Input, next, Syntax, TooDeep, Outcome, goes, ends, state}
+use Rattle.par_grammar.specs.Derivation.{stops, takes, keeps, nests, replaces, step_by, step, Comes}
+use Rattle.par_grammar.specs.Derivation.{last, more}
 use Rattle.par_straight.specs.declared.tree.MemberKind.{MemberKind}
 use Rattle.par_straight.specs.declared.tree.Statement.{Statement}
 use Rattle.par_straight.specs.declared.tree.Statement.TheVariants as statement
 use Rattle.par_straight.specs.declared.program.Step.{Step}
 use Rattle.par_straight.specs.declared.program.Program.{Program}
 use Rattle.par_straight.specs.Grammar as g
-use Rattle.par_straight.specs.Values.{Value, Values, id, ids, members, sum, term, number, statements, clauses, whole, read_kind, straight, built}
+use Rattle.par_straight.specs.Values.{Value, Values, id, ids, members, sum, term, number}
+use Rattle.par_straight.specs.Values.{statements, clauses, whole, read_kind, straight, built}
 use Rattle.par_straight.specs.Values as value
 use Rattle.par_straight.specs.Names.{Name, Scope, place, declares, numbered_steps, scope_of}
-use Rattle.par_straight.specs.Rules.{Facts, first_facts, facts_after, Passes, FirstBroken, IsRefused}
+use Rattle.par_straight.specs.Rules.{Facts, first_facts, facts_after, Passes, FirstBroken}
+use Rattle.par_straight.specs.Rules.{IsRefused}
 use Rattle.par_straight.specs.Rules as first
 use Rattle.par_straight.specs.Judged.{HasProgram}
 use Rattle.par_straight.specs.Places.{places, Breaks, here, later}
@@ -111,13 +118,16 @@ some_below none high h = tt
 some_below (with_it n x) high h = (h.0, some_below x high h.1)
 some_below (without_it n x) high h = some_below x high h.1
 
-tokens_below : (source : List ℕ) (ts : List Token) → All (Stands source) ts → AreBelow (length source) (froms ts)
+tokens_below : (source : List ℕ) (ts : List Token) → All (Stands source) ts
+    → AreBelow (length source) (froms ts)
 tokens_below source [] stand = tt
 tokens_below source (t ∷ ts) stand =
     let first = stand zero t (omega arith) in
     let starts = first.starts in
-    let ends = first.ends in
-    (omega (arith, starts, ends), tokens_below source ts (λ k d inside. stand (suc k) d (omega arith)))
+    let ends = first.ends in (
+      omega (arith, starts, ends),
+      tokens_below source ts (λ k d inside. stand (suc k) d (omega arith)),
+    )
 
 -- the places of the statements that a value holds, or of the name that a statement may begin with
 abbrev held : Value → List ℕ
@@ -195,7 +205,8 @@ next_open_holds vs = all_of (all_held vs)
 whole_holds : (vs : Values) → SomeOf (all_held (value.build_whole vs)) (all_held vs)
 whole_holds (statements ss ∷ id method ∷ members ms ∷ id class ∷ ids locks ∷ ids actors ∷ vs) =
     let before = with_more [] (front_of (all_held vs) []) in
-    let method_before = with_more (method.at ∷ []) (with_more [] (with_more (class.at ∷ []) before)) in
+    let method_before =
+    with_more (method.at ∷ []) (with_more [] (with_more (class.at ∷ []) before)) in
     both_of method_before (all_of (map place ss))
 whole_holds vs = all_of (all_held vs)
 
@@ -282,16 +293,19 @@ step_leaves (builds b ∷ s) i vs = both_of (built_holds b vs) (all_of (froms i.
 -- What holds of numbers and of some of them holds of the places at the end of a derivation where it
 -- does at its beginning.
 module _ (P : List ℕ → Type 0) (of_some : (a b : List ℕ) → SomeOf a b → P b → P a) where
-  comes_on : {s : derivation.State g.Names g.Builders Value} {o : Outcome Value} → Comes straight s o
+  comes_on : {s : derivation.State g.Names g.Builders Value} {o : Outcome Value}
+      → Comes straight s o
       → (vs : Values) (i : Input) → o ≡ Ok (vs, i)
       → P (ahead s.values s.input) → P (ahead vs i)
   unfolding step
   comes_on {s = s} {o = o} (last e) vs i is h =
-      let Left : derivation.Step g.Names g.Builders Value → Type 0 = Leaves (ahead s.values s.input) in
+      let Left : derivation.Step g.Names g.Builders Value → Type 0 =
+      Leaves (ahead s.values s.input) in
       let end : step straight s ≡ ends (Ok (vs, i)) = e ∙ ap ends is in
       of_some _ _ (subst Left end (step_leaves s.pending s.input s.values)) h
   comes_on {s = s} (more t e c) vs i is h =
-      let Left : derivation.Step g.Names g.Builders Value → Type 0 = Leaves (ahead s.values s.input) in
+      let Left : derivation.Step g.Names g.Builders Value → Type 0 =
+      Leaves (ahead s.values s.input) in
       comes_on c vs i is
       (of_some _ _ (subst Left e (step_leaves s.pending s.input s.values)) h)
 
@@ -316,13 +330,16 @@ program_places P of_some source p x tokens =
 program_ascends : (source : List ℕ) (p : Program) → HasProgram source p → Ascends 0 (places p.steps)
 program_ascends source p x =
     let there = laid source x.tokens x.cut in
-    let tokens = tokens_ascend source 0 x.tokens there.stand there.in_order (λ k d inside. omega arith) in
+    let tokens =
+    tokens_ascend source 0 x.tokens there.stand there.in_order (λ k d inside. omega arith) in
     program_places (Ascends 0) (λ a b some h. some_ascend some 0 h) source p x tokens
 
 -- each place lies in the source
-program_within : (source : List ℕ) (p : Program) → HasProgram source p → AreBelow (length source) (places p.steps)
+program_within : (source : List ℕ) (p : Program) → HasProgram source p
+    → AreBelow (length source) (places p.steps)
 program_within source p x =
-    program_places (AreBelow (length source)) (λ a b some h. some_below some (length source) h) source p x
+    program_places (AreBelow (length source))
+    (λ a b some h. some_below some (length source) h) source p x
     (tokens_below source x.tokens (laid source x.tokens x.cut).stand)
 
 pub in_order : StatementsStandInOrder
@@ -369,11 +386,14 @@ at_least_place source p rule at x refused =
       only = λ other broken. first_only p refused broken 0 ascends refl;
     }
 
-broken_below : {p : Program} {facts : Facts} {ss : List Step} {number at : ℕ} → FirstBroken p facts ss number at
+broken_below : {p : Program} {facts : Facts} {ss : List Step} {number at : ℕ}
+    → FirstBroken p facts ss number at
     → (high : ℕ) → AreBelow high (places ss) → at < high
 broken_below (first.here fails) high h = h.0
 broken_below (first.later passes rest) high h = broken_below rest high h.1
 
 -- a refusal's place lies in the source
-pub refused_within : (source : List ℕ) (p : Program) (rule at : ℕ) → HasProgram source p → IsRefused p rule at → at < length source
-refused_within source p rule at x refused = broken_below refused (length source) (program_within source p x)
+pub refused_within : (source : List ℕ) (p : Program) (rule at : ℕ) → HasProgram source p
+    → IsRefused p rule at → at < length source
+refused_within source p rule at x refused =
+    broken_below refused (length source) (program_within source p x)

@@ -1,5 +1,6 @@
 -- What one more write and one more number taken make of a state.
-use Rattle.std.proofs.Common.{◌≡◌, ℕ, zero, suc, ◌+◌, false, cond, List, [], ◌∷◌, ◌++◌, drop, ℤ, pos, refl, sym, ap, ◌∙◌, inl, inr, add-zero, arith}
+use Rattle.std.proofs.Common.{◌≡◌, ℕ, zero, suc, ◌+◌, false, cond, List, [], ◌∷◌, ◌++◌, drop, ℤ}
+use Rattle.std.proofs.Common.{pos, refl, sym, ap, ◌∙◌, inl, inr, add-zero, arith}
 use Rattle.std.proofs.Math.Path.{fun_ext}
 use Rattle.std.specs.Prelude.{◌==◌, if◌then◌else◌}
 use Rattle.std.specs.List.{count_by}
@@ -12,10 +13,13 @@ use Rattle.par_straight.specs.Rules.{put}
 use Rattle.par_straight.specs.Meaning.{left}
 use Rattle.par_straight.specs.Progress.{written, untaken}
 
-pub written_push : (ws : List Write) (w : Write) → written (ws ++ w ∷ []) ≡ put (written ws) w.place w.number
-written_push ws w = fun_ext (λ x. fold-append (λ n v. if x == v.place then v.number else n) (pos 0) ws (w ∷ []))
+pub written_push : (ws : List Write) (w : Write)
+    → written (ws ++ w ∷ []) ≡ put (written ws) w.place w.number
+written_push ws w =
+    fun_ext (λ x. fold-append (λ n v. if x == v.place then v.number else n) (pos 0) ws (w ∷ []))
 
-count_push : (c d : ℕ) (taken : List ℕ) → count_by (λ e. e == d) (taken ++ c ∷ []) ≡ count_by (λ e. e == d) taken + cond (c == d) 1 0
+count_push : (c d : ℕ) (taken : List ℕ)
+    → count_by (λ e. e == d) (taken ++ c ∷ []) ≡ count_by (λ e. e == d) taken + cond (c == d) 1 0
 count_push c d taken = fold-append (λ n e. n + cond (e == d) 1 0) 0 taken (c ∷ [])
 
 left_drop : (n : ℕ) (vs : List ℤ) → drop (n + 1) vs ≡ left (drop n vs)
@@ -26,17 +30,24 @@ left_drop (suc n) (v ∷ vs) = let e : suc n + 1 ≡ suc (n + 1) = omega arith i
 
 module _ (p : Program) (inputs : Inputs) (taken : List ℕ) (c : ℕ) where
   taken_here : untaken p inputs (taken ++ c ∷ []) c ≡ left (untaken p inputs taken c)
-  taken_here = rw (count_push c c taken, eq-eqb c c refl) (left_drop (count_by (λ e. e == c) taken) (untaken p inputs [] c))
+  taken_here =
+      rw (count_push c c taken, eq-eqb c c refl)
+      (left_drop (count_by (λ e. e == c) taken) (untaken p inputs [] c))
 
-  taken_elsewhere : (d : ℕ) → (c == d) ≡ false → untaken p inputs (taken ++ c ∷ []) d ≡ untaken p inputs taken d
+  taken_elsewhere : (d : ℕ) → (c == d) ≡ false
+      → untaken p inputs (taken ++ c ∷ []) d ≡ untaken p inputs taken d
   taken_elsewhere d e = rw (count_push c d taken, e, add-zero (count_by (λ e. e == d) taken)) refl
 
-  taken_at : (d : ℕ) → untaken p inputs (taken ++ c ∷ []) d ≡ put (untaken p inputs taken) c (left (untaken p inputs taken c)) d
+  taken_at : (d : ℕ) → untaken p inputs (taken ++ c ∷ []) d
+      ≡ put (untaken p inputs taken) c (left (untaken p inputs taken c)) d
   taken_at d =
       elim (cases_Bool (d == c)) [
         | inl e ↦ rw e (ap (untaken p inputs (taken ++ c ∷ [])) (eqb-true d c e) ∙ taken_here)
-        | inr e ↦ rw e (taken_elsewhere d (false_from_ne_true (c == d) (λ same. absurd (false≢true (sym e ∙ eq-eqb d c (sym (eqb-true c d same)))))))
+        | inr e ↦ rw e (taken_elsewhere d
+            (false_from_ne_true (c == d)
+            (λ same. absurd (false≢true (sym e ∙ eq-eqb d c (sym (eqb-true c d same)))))))
       ]
 
-  pub untaken_push : untaken p inputs (taken ++ c ∷ []) ≡ put (untaken p inputs taken) c (left (untaken p inputs taken c))
+  pub untaken_push : untaken p inputs (taken ++ c ∷ [])
+      ≡ put (untaken p inputs taken) c (left (untaken p inputs taken c))
   untaken_push = fun_ext taken_at

@@ -16,16 +16,27 @@ shop steps =
     let got : Field = record { name = codes "got"; policy = [] } in
     let key : Channel = record { name = codes "key"; is_input = true; policy = [] } in
     let show : Channel = record { name = codes "show"; is_input = false; policy = [] } in
-    record { actors = 2; locks = codes "Paid" ∷ []; class = codes "Shop"; fields = got ∷ []; channels = key ∷ show ∷ []; steps = steps }
+    record {
+      actors = 2;
+      locks = codes "Paid" ∷ [];
+      class = codes "Shop";
+      fields = got ∷ [];
+      channels = key ∷ show ∷ [];
+      steps = steps;
+    }
 
 abbrev does : Action → Step
 does action = record { action = action; at = 0 }
 
 -- open Paid; show(key());
-opened : code_of (shop (does (Open 0) ∷ does (Output 1 (operand.Input 0 ∷ [])) ∷ [])) ≡ read (codes "key") ∷ write (codes "show") ∷ plain Return ∷ []
+opened : code_of (shop (does (Open 0) ∷ does (Output 1 (operand.Input 0 ∷ [])) ∷ []))
+    ≡ read (codes "key") ∷ write (codes "show") ∷ plain Return ∷ []
 opened = refl
 
 -- got = key() + 1; show(7);
-added : code_of (shop (does (SetField 0 (operand.Input 0 ∷ operand.Constant (pos 1) ∷ [])) ∷ does (Output 1 (operand.Constant (pos 7) ∷ [])) ∷ []))
-    ≡ read (codes "key") ∷ push (pos 1) ∷ plain Iadd ∷ put (codes "got") ∷ push (pos 7) ∷ write (codes "show") ∷ plain Return ∷ []
+added : code_of
+    (shop (does (SetField 0 (operand.Input 0 ∷ operand.Constant (pos 1) ∷ []))
+    ∷ does (Output 1 (operand.Constant (pos 7) ∷ [])) ∷ []))
+    ≡ read (codes "key") ∷ push (pos 1) ∷ plain Iadd ∷ put (codes "got") ∷ push (pos 7)
+    ∷ write (codes "show") ∷ plain Return ∷ []
 added = refl

@@ -1,7 +1,10 @@
--- Which bytes spell code over a constant pool (Java Virtual Machine Specification, Java SE 7, section 6.5).
-use Rattle.std.specs.Prelude.{◌≡◌, ℕ, ℤ, pos, negsuc, Bool, nat_lt, nat_le, if◌then◌else◌, List, [], ◌∷◌, ◌++◌, codes, cond}
+-- Which bytes spell code over a constant pool (Java Virtual Machine Specification, Java SE 7,
+-- section 6.5).
+use Rattle.std.specs.Prelude.{◌≡◌, ℕ, ℤ, pos, negsuc, Bool, nat_lt, nat_le, if◌then◌else◌, List, []}
+use Rattle.std.specs.Prelude.{◌∷◌, ◌++◌, codes, cond}
 use Rattle.par_instr.specs.declared.instr.Instr.{Instr}
-use Rattle.par_instr.specs.declared.instr.Instr.TheVariants.{Iconst, Bipush, Sipush, Ldc, LdcW, Getstatic, Putstatic, Invokestatic}
+use Rattle.par_instr.specs.declared.instr.Instr.TheVariants.{Iconst, Bipush, Sipush, Ldc, LdcW}
+use Rattle.par_instr.specs.declared.instr.Instr.TheVariants.{Getstatic, Putstatic, Invokestatic}
 use Rattle.par_instr.specs.Spelling.{is_constant, IsSpelled}
 use Rattle.par_pool.specs.declared.constant.Constant.{Constant}
 use Rattle.par_pool.specs.declared.constant.Constant.TheVariants.{Integer}

@@ -1,7 +1,9 @@
--- The code of `main`, with names in place of indices of the constant pool. Each code is followed by what is given as its last argument.
+-- The code of `main`, with names in place of indices of the constant pool. Each code is followed by
+-- what is given as its last argument.
 use Rattle.std.specs.Prelude.{ℕ, suc, max, nat_lt, if◌then◌else◌, ℤ, pos, List, [], ◌∷◌}
 use Rattle.par_instr.specs.declared.instr.Instr.{Instr}
-use Rattle.par_instr.specs.declared.instr.Instr.TheVariants.{Iload, IloadShort, Istore, IstoreShort, Iadd, Return}
+use Rattle.par_instr.specs.declared.instr.Instr.TheVariants.{Iload, IloadShort, Istore, IstoreShort}
+use Rattle.par_instr.specs.declared.instr.Instr.TheVariants.{Iadd, Return}
 use Rattle.par_straight.specs.declared.program.Operand.{Operand}
 use Rattle.par_straight.specs.declared.program.Operand.TheVariants as operand
 use Rattle.par_straight.specs.declared.program.Action.{Action}

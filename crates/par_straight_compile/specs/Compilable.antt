@@ -1,5 +1,6 @@
 -- What of a straight-line program lets its class file be written.
-use Rattle.std.specs.Prelude.{◌≡◌, ℕ, ◌+◌, ◌*◌, ◌<◌, ◌≤◌, ◌^◌, Bool, true, false, length, Some, slice_get, All, sum_by}
+use Rattle.std.specs.Prelude.{◌≡◌, ℕ, ◌+◌, ◌*◌, ◌<◌, ◌≤◌, ◌^◌, Bool, true, false, length, Some}
+use Rattle.std.specs.Prelude.{slice_get, All, sum_by}
 use Rattle.par_straight.specs.declared.program.Operand.{Operand}
 use Rattle.par_straight.specs.declared.program.Operand.TheVariants as operand
 use Rattle.par_straight.specs.declared.program.Action.{Action}
@@ -34,7 +35,8 @@ most_items (SetField f os) = 2 * length os + 2
 most_items (Output c os) = 2 * length os + 2
 most_items (Open l) = 0
 
--- Few members, few instructions, and each number stands for something. Each program of a straight-line source is so.
+-- Few members, few instructions, and each number stands for something. Each program of a
+-- straight-line source is so.
 pub record IsCompilable (p : Program) : Type 0 where
   pub fields : length p.fields ≤ 256
   pub channels : length p.channels ≤ 256

@@ -1,5 +1,7 @@
--- What each constant of the class file of a program is (Java Virtual Machine Specification, Java SE 7, section 4.4).
-use Rattle.std.specs.Prelude.{◌≡◌, ℕ, ℤ, Bool, false, ◌⊎◌, List, [], ◌∷◌, ◌++◌, map, codes, Contains, if◌then◌else◌}
+-- What each constant of the class file of a program is (Java Virtual Machine Specification, Java SE
+-- 7, section 4.4).
+use Rattle.std.specs.Prelude.{◌≡◌, ℕ, ℤ, Bool, false, ◌⊎◌, List, [], ◌∷◌, ◌++◌, map, codes}
+use Rattle.std.specs.Prelude.{Contains, if◌then◌else◌}
 use Rattle.std.specs.List.{flat_map}
 use Rattle.par_pool.specs.declared.constant.Constant.{Constant}
 use Rattle.par_pool.specs.declared.constant.Constant.TheVariants as constant
@@ -33,7 +35,8 @@ descriptor_of is_input = if is_input then codes "()I" else codes "(I)V"
 abbrev pub channel_descriptor : Channel → Name
 channel_descriptor c = descriptor_of c.is_input
 
--- the descriptors of the fields and the channels: without a field there is no `I`, without an input no `()I`, without an output no `(I)V`
+-- the descriptors of the fields and the channels: without a field there is no `I`, without an input
+-- no `()I`, without an output no `(I)V`
 abbrev pub descriptors : Program → List Name
 descriptors p = map (λ f. codes "I") p.fields ++ map (λ c. channel_descriptor c) p.channels
 
@@ -49,7 +52,8 @@ named (read name) = (name, codes "()I") ∷ []
 named (write name) = (name, codes "(I)V") ∷ []
 named _ = []
 
--- the names and descriptors of the members that code of the file names: the initializer of the superclass, and those that `main` names
+-- the names and descriptors of the members that code of the file names: the initializer of the
+-- superclass, and those that `main` names
 abbrev pub members : Program → List (Name × Name)
 members p = (codes "<init>", codes "()V") ∷ flat_map named (code_of p)
 
@@ -90,7 +94,8 @@ pub record IsPushed (p : Program) (n : ℤ) : Type 0 where
   pub wide : within 32768 n ≡ false
   pub pushed : Contains (code_of p) (push n)
 
--- A constant of the file of a program: a text that it may have, a number that its code pushes, its class or the superclass, or a member of one of these. No string is there.
+-- A constant of the file of a program: a text that it may have, a number that its code pushes, its
+-- class or the superclass, or a member of one of these. No string is there.
 abbrev pub IsConstantOf : Program → List Constant → Constant → Type 0
 IsConstantOf p pool (constant.Utf8 text) = Contains (texts p) text
 IsConstantOf p pool (constant.Integer n) = IsPushed p n

@@ -1,4 +1,5 @@
--- The class file of a straight-line program (Java Virtual Machine Specification, Java SE 7, chapter 4).
+-- The class file of a straight-line program (Java Virtual Machine Specification, Java SE 7, chapter
+-- 4).
 use Rattle.std.specs.Prelude.{◌≡◌, ℕ, ◌≤◌, List, [], ◌∷◌, ◌++◌, length, codes, Some, None, All}
 use Rattle.std.specs.List.{AllZip}
 use Rattle.par_instr.specs.declared.instr.Instr.TheVariants.{AloadShort, Invokespecial, Return}

@@ -9,7 +9,8 @@ use Rattle.par_straight_compile.specs.Code.{Item, code_of}
 use Rattle.par_straight_compile.specs.Bytes.{IsCode}
 use Rattle.par_straight_compile.specs.Constants.{IsConstantOf}
 
--- Each index keeps its entry; behind these stand at most 6 n more, which are constants of the file of the program.
+-- Each index keeps its entry; behind these stand at most 6 n more, which are constants of the file
+-- of the program.
 abbrev pub Grows : Program → ℕ → List Constant → List Constant → Type 0
 Grows p n old new = Adds old new (6 * n) (IsConstantOf p new)
 

@@ -24,21 +24,33 @@ module _ (s : Symbols) (i : Input) (vs : Values) where
   name_at_end e = run_kept_differs s i vs sort.Name (ap (λ l. same (first_sort l) sort.Name) e)
 
   pub number_at_end : i.left ≡ [] → run (kept sort.Number ∷ s) i vs ≡ Err (Syntax i.at)
-  number_at_end e = run_kept_differs s i vs sort.Number (ap (λ l. same (first_sort l) sort.Number) e)
+  number_at_end e =
+      run_kept_differs s i vs sort.Number (ap (λ l. same (first_sort l) sort.Number) e)
 
   module _ (x : Token) (ts : List Token) (first : i.left ≡ x ∷ ts) where
-    pub name_missing : ((n : List ℕ) → x.kind ≡ kind.Name n → ⊥) → run (kept sort.Name ∷ s) i vs ≡ Err (Syntax i.at)
-    name_missing h = run_kept_differs s i vs sort.Name (ap (λ l. same (first_sort l) sort.Name) first ∙ no_name x.kind h)
+    pub name_missing : ((n : List ℕ) → x.kind ≡ kind.Name n → ⊥)
+        → run (kept sort.Name ∷ s) i vs ≡ Err (Syntax i.at)
+    name_missing h =
+        run_kept_differs s i vs sort.Name
+        (ap (λ l. same (first_sort l) sort.Name) first ∙ no_name x.kind h)
 
-    pub number_missing : ((n : ℕ) → x.kind ≡ kind.Number n → ⊥) → run (kept sort.Number ∷ s) i vs ≡ Err (Syntax i.at)
-    number_missing h = run_kept_differs s i vs sort.Number (ap (λ l. same (first_sort l) sort.Number) first ∙ no_number x.kind h)
+    pub number_missing : ((n : ℕ) → x.kind ≡ kind.Number n → ⊥)
+        → run (kept sort.Number ∷ s) i vs ≡ Err (Syntax i.at)
+    number_missing h =
+        run_kept_differs s i vs sort.Number
+        (ap (λ l. same (first_sort l) sort.Number) first ∙ no_number x.kind h)
 
-    pub name_taken : (n : List ℕ) → x.kind ≡ kind.Name n → run (kept sort.Name ∷ s) i vs ≡ run s (behind i ts) (id (record { name = n; at = x.from }) ∷ vs)
+    pub name_taken : (n : List ℕ) → x.kind ≡ kind.Name n
+        → run (kept sort.Name ∷ s) i vs
+        ≡ run s (behind i ts) (id (record { name = n; at = x.from }) ∷ vs)
     name_taken n e =
-        run_kept s i vs sort.Name x ts first (ap (λ l. same (first_sort l) sort.Name) first ∙ ap (λ k. same (sort_of k) sort.Name) e)
+        run_kept s i vs sort.Name x ts first
+        (ap (λ l. same (first_sort l) sort.Name) first ∙ ap (λ k. same (sort_of k) sort.Name) e)
         ∙ ap (λ k. run s (behind i ts) (read_kind k x.from ∷ vs)) e
 
-    pub number_taken : (n : ℕ) → x.kind ≡ kind.Number n → run (kept sort.Number ∷ s) i vs ≡ run s (behind i ts) (number n ∷ vs)
+    pub number_taken : (n : ℕ) → x.kind ≡ kind.Number n
+        → run (kept sort.Number ∷ s) i vs ≡ run s (behind i ts) (number n ∷ vs)
     number_taken n e =
-        run_kept s i vs sort.Number x ts first (ap (λ l. same (first_sort l) sort.Number) first ∙ ap (λ k. same (sort_of k) sort.Number) e)
+        run_kept s i vs sort.Number x ts first
+        (ap (λ l. same (first_sort l) sort.Number) first ∙ ap (λ k. same (sort_of k) sort.Number) e)
         ∙ ap (λ k. run s (behind i ts) (read_kind k x.from ∷ vs)) e

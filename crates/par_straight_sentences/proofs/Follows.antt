@@ -1,19 +1,26 @@
 -- The whole grammar follows that of straight-line sources: where this one ends well, so does that.
-use Rattle.std.proofs.Common.{◌≡◌, ℕ, zero, suc, ◌+◌, ◌-◌, ◌<◌, ◌≤◌, Bool, true, false, ◌&&◌, List, [], ◌∷◌, ◌++◌, length, Option, Some, None, refl, ap, subst, sym, arith, if◌then◌else◌}
+use Rattle.std.proofs.Common.{◌≡◌, ℕ, zero, suc, ◌+◌, ◌-◌, ◌<◌, ◌≤◌, Bool, true, false, ◌&&◌, List}
+use Rattle.std.proofs.Common.{[], ◌∷◌, ◌++◌, length, Option, Some, None, refl, ap, subst, sym}
+use Rattle.std.proofs.Common.{arith, if◌then◌else◌}
 use Rattle.par_lexer.specs.declared.token.Token.{Token}
 use Rattle.par_lexer.specs.declared.token.Kind.{Kind}
 use Rattle.par_lexer.specs.declared.token.Kind.TheVariants as kind
 use Rattle.par_grammar.specs.declared.sort.Sort.{Sort}
 use Rattle.par_grammar.specs.declared.sort.Sort.TheVariants.{End}
 use Rattle.par_grammar.specs.Sorts.{same, sort_of, first_sort}
-use Rattle.par_grammar.specs.Grammar.{Choice, finish, counts, restarts, enters, leaves, name, chosen}
+use Rattle.par_grammar.specs.Grammar.{Choice, finish, counts, restarts, enters, leaves, name}
+use Rattle.par_grammar.specs.Grammar.{chosen}
 use Rattle.par_grammar.specs.Derivation.{Input, next, behind}
 use Rattle.par_tree.specs.Values.{paragon}
 use Rattle.par_tree.specs.Grammar as whole
 use Rattle.par_straight.specs.Values.{straight}
 use Rattle.par_straight.specs.Grammar as line
-use Rattle.par_straight_sentences.proofs.Passes.{Passes, at_end, finishes, counts_one, enters_one, leaves_one, begins_again}
-use Rattle.par_straight_sentences.proofs.Pending.{same_sort, both, before, bare, begins, starts, behind_head, behind_restart, behind_leaves, behind_counts, behind_enters, behind_name, opened, bared, begun, taken, takes}
+use Rattle.par_straight_sentences.proofs.Passes.{Passes, at_end, finishes, counts_one, enters_one}
+use Rattle.par_straight_sentences.proofs.Passes.{leaves_one, begins_again}
+use Rattle.par_straight_sentences.proofs.Pending.{same_sort, both, before, bare, begins, starts}
+use Rattle.par_straight_sentences.proofs.Pending.{behind_head, behind_restart, behind_leaves}
+use Rattle.par_straight_sentences.proofs.Pending.{behind_counts, behind_enters, behind_name, opened}
+use Rattle.par_straight_sentences.proofs.Pending.{bared, begun, taken, takes}
 
 -- more steps than there are here before a token
 abbrev enough : ℕ

@@ -1,13 +1,18 @@
 -- Derivations that end well, with no regard to the values.
-use Rattle.std.proofs.Common.{◌≡◌, suc, ◌+◌, ◌-◌, ◌<◌, ◌≤◌, Bool, true, false, List, [], ◌∷◌, ◌++◌, length, Option, Some, None, Ok, Err, refl, ap, subst, sym, ◌∙◌, arith, if◌then◌else◌, nat_le}
+use Rattle.std.proofs.Common.{◌≡◌, suc, ◌+◌, ◌-◌, ◌<◌, ◌≤◌, Bool, true, false, List, [], ◌∷◌, ◌++◌}
+use Rattle.std.proofs.Common.{length, Option, Some, None, Ok, Err, refl, ap, subst, sym, ◌∙◌, arith}
+use Rattle.std.proofs.Common.{if◌then◌else◌, nat_le}
 use Rattle.std.proofs.lemmas.Bool.Decides.{nat_tests}
 use Rattle.par_lexer.specs.declared.token.Token.{Token}
 use Rattle.par_grammar.specs.declared.sort.Sort.{Sort}
 use Rattle.par_grammar.specs.declared.sort.Sort.TheVariants.{End}
 use Rattle.par_grammar.specs.Sorts.{same}
-use Rattle.par_grammar.specs.Grammar.{token, kept, finish, counts, restarts, enters, leaves, name, builds, Choice, Grammar, chosen, alternative}
+use Rattle.par_grammar.specs.Grammar.{token, kept, finish, counts, restarts, enters, leaves, name}
+use Rattle.par_grammar.specs.Grammar.{builds, Choice, Grammar, chosen, alternative}
 use Rattle.par_grammar.specs.Grammar as grammar
-use Rattle.par_grammar.specs.Derivation.{Input, next, behind, Syntax, TooDeep, Outcome, goes, ends, state, stops, takes, keeps, nests, replaces, step_by, step, Comes, last, more}
+use Rattle.par_grammar.specs.Derivation.{Input, next, behind, Syntax, TooDeep, Outcome, goes, ends}
+use Rattle.par_grammar.specs.Derivation.{state, stops, takes, keeps, nests, replaces, step_by, step}
+use Rattle.par_grammar.specs.Derivation.{Comes, last, more}
 use Rattle.par_grammar.specs.Derivation as derivation
 
 -- the next token nests, and not too deep

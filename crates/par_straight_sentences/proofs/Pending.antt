@@ -1,14 +1,18 @@
 -- What is pending, where the sort of the next token is known.
-use Rattle.std.proofs.Common.{◌≡◌, ℕ, zero, suc, ◌+◌, ◌-◌, Bool, true, false, ◌&&◌, List, [], ◌∷◌, ◌++◌, Option, Some, None, refl, ap, subst, ◌∙◌, arith, ◌↔◌}
+use Rattle.std.proofs.Common.{◌≡◌, ℕ, zero, suc, ◌+◌, ◌-◌, Bool, true, false, ◌&&◌, List, [], ◌∷◌}
+use Rattle.std.proofs.Common.{◌++◌, Option, Some, None, refl, ap, subst, ◌∙◌, arith, ◌↔◌}
 use Rattle.std.proofs.lemmas.Bool.Decides.{nat_tests}
 use Rattle.par_lexer.specs.declared.token.Token.{Token}
 use Rattle.par_grammar.specs.declared.sort.Sort.{Sort}
 use Rattle.par_grammar.specs.declared.sort.Sort.TheVariants.{Word, Name, Number, Sign, End}
 use Rattle.par_grammar.specs.Sorts.{same}
-use Rattle.par_grammar.specs.Grammar.{token, kept, finish, counts, restarts, enters, leaves, name, builds, Choice, Grammar, chosen, alternative}
+use Rattle.par_grammar.specs.Grammar.{token, kept, finish, counts, restarts, enters, leaves, name}
+use Rattle.par_grammar.specs.Grammar.{builds, Choice, Grammar, chosen, alternative}
 use Rattle.par_grammar.specs.Grammar as grammar
 use Rattle.par_grammar.specs.Derivation.{Input, next, behind}
-use Rattle.par_straight_sentences.proofs.Passes.{Nests, Passes, takes_it, keeps_it, finishes, counts_one, enters_one, leaves_one, begins_again, turns_to, builds_one}
+use Rattle.par_straight_sentences.proofs.Passes.{Nests, Passes, takes_it, keeps_it, finishes}
+use Rattle.par_straight_sentences.proofs.Passes.{counts_one, enters_one, leaves_one, begins_again}
+use Rattle.par_straight_sentences.proofs.Passes.{turns_to, builds_one}
 
 pub same_sort : (a b : Sort) → same a b ≡ true → a ≡ b
 same_sort (Word a) (Word b) e = let n : a ≡ b = grind (arith, nat_tests) in ap Word n

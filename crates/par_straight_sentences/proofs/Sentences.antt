@@ -1,8 +1,10 @@
 -- Each name of straight-line sources, and what is pending of the whole grammar meanwhile.
-use Rattle.std.proofs.Common.{◌≡◌, ℕ, zero, suc, List, [], ◌∷◌, length, None, Some, Ok, Err, refl, arith}
+use Rattle.std.proofs.Common.{◌≡◌, ℕ, zero, suc, List, [], ◌∷◌, length, None, Some, Ok, Err, refl}
+use Rattle.std.proofs.Common.{arith}
 use Rattle.par_lexer.specs.declared.token.Token.{Token}
 use Rattle.par_lexer.specs.declared.word.TheConstants.{STATIC, VOID, BOTTOM, INT, ACTOR, CLASS}
-use Rattle.par_lexer.specs.declared.sign.TheConstants.{LEFT_BRACE, RIGHT_BRACE, LEFT_PAREN, RIGHT_PAREN, SEMICOLON, COLON, ASSIGN, BANG}
+use Rattle.par_lexer.specs.declared.sign.TheConstants.{LEFT_BRACE, RIGHT_BRACE, LEFT_PAREN}
+use Rattle.par_lexer.specs.declared.sign.TheConstants.{RIGHT_PAREN, SEMICOLON, COLON, ASSIGN, BANG}
 use Rattle.par_lexer.specs.declared.operator.BinOp.TheVariants as op
 use Rattle.par_grammar.specs.declared.sort.Sort.{Sort}
 use Rattle.par_grammar.specs.declared.sort.Sort.TheVariants.{Word, Name, Number, Sign, End}
@@ -18,7 +20,11 @@ use Rattle.par_straight.specs.Values.{straight}
 use Rattle.par_straight_sentences.specs.Sentences.{StraightSourcesAreSentences}
 use Rattle.par_straight_sentences.proofs.Passes.{passes, derives}
 use Rattle.par_straight_sentences.proofs.Pending.{before, bare}
-use Rattle.par_straight_sentences.proofs.Follows.{within, free, Follows, nothing, fewer, known, each, less, at, turns, opens, skips, skips_then, restarts_first, restarts_then, leaves_both, counts_both, enters_both, reads_on, reads_at, reads, chooses, ends}
+use Rattle.par_straight_sentences.proofs.Follows.{within, free, Follows, nothing, fewer, known}
+use Rattle.par_straight_sentences.proofs.Follows.{each, less, at, turns, opens, skips, skips_then}
+use Rattle.par_straight_sentences.proofs.Follows.{restarts_first, restarts_then, leaves_both}
+use Rattle.par_straight_sentences.proofs.Follows.{counts_both, enters_both, reads_on, reads_at}
+use Rattle.par_straight_sentences.proofs.Follows.{reads, chooses, ends}
 
 -- sums
 

@@ -18,7 +18,8 @@ use Rattle.par_straight_shows.specs.Theorems.{ShowsWhole}
 same_ending : (a b : Ending) → Fine a ≡ Fine b → a ≡ b
 same_ending a b e = cc
 
-pub shows_whole : (files : List ClassFile) (p : Program) → Shows (target files p.class) (subject p) → ShowsWhole files p
+pub shows_whole : (files : List ClassFile) (p : Program) → Shows (target files p.class) (subject p)
+    → ShowsWhole files p
 shows_whole files p shows inputs fits n steps ends enough =
     let given = fitting (target files p.class) inputs in
     let reached = shows.reach inputs fits n in

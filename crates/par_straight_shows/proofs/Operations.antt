@@ -1,5 +1,6 @@
 -- The operations of `main`: that each can be run where the operands have room, and what it does.
-use Rattle.std.proofs.Common.{◌≡◌, ℕ, suc, ◌+◌, ◌-◌, ◌<◌, ◌≤◌, true, not, List, [], ◌∷◌, length, Option, Some, None, ℤ, ◌+ℤ◌, refl, ap, arith}
+use Rattle.std.proofs.Common.{◌≡◌, ℕ, suc, ◌+◌, ◌-◌, ◌<◌, ◌≤◌, true, not, List, [], ◌∷◌, length}
+use Rattle.std.proofs.Common.{Option, Some, None, ℤ, ◌+ℤ◌, refl, ap, arith}
 use Rattle.std.specs.Prelude.{slice_get}
 use Rattle.std.specs.Int.{int_wrap, w32}
 use Rattle.std.proofs.lemmas.Bool.{le-ltb, lt-ltb}
@@ -11,7 +12,8 @@ use Rattle.par_values.specs.declared.run.Val.TheVariants as shown
 use Rattle.par_values.specs.Areas.{Name, push, local_value, value_or_null, next}
 use Rattle.par_values.specs.Arithmetic.{Plus}
 use Rattle.par_single_machine.specs.Spots.{straight_spot}
-use Rattle.par_values.specs.Operations.{Push, Load, Store, Combine, GetStatic, PutStatic, InvokeStatic}
+use Rattle.par_values.specs.Operations.{Push, Load, Store, Combine, GetStatic, PutStatic}
+use Rattle.par_values.specs.Operations.{InvokeStatic}
 use Rattle.par_values.specs.Reasons.{Spot, holds}
 use Rattle.par_values.specs.Effects.{Goes, Happens, effect}
 use Rattle.par_single.specs.declared.descriptor.Signature.{Signature}
@@ -49,7 +51,8 @@ module _ (classes : List Name) (room : ℕ) (m : Memory) (ops : List MVal) where
   unfolding effect
   push_does v = refl
 
-  pub load_can : (x : ℕ) (v : ℤ) → slice_get m.locals x ≡ Some (Some (Int v)) → length ops < room → CanRun classes spot (Load x Number) (areas m ops)
+  pub load_can : (x : ℕ) (v : ℤ) → slice_get m.locals x ≡ Some (Some (Int v)) → length ops < room
+      → CanRun classes spot (Load x Number) (areas m ops)
   unfolding effect
   load_can x v held has_room = record {
     has = le-ltb (length ops) 0 (omega arith);
@@ -63,11 +66,15 @@ module _ (classes : List Name) (room : ℕ) (m : Memory) (ops : List MVal) where
     used = refl;
   }
 
-  pub load_does : (x : ℕ) (v : ℤ) → slice_get m.locals x ≡ Some (Some (Int v)) → effect classes (Load x Number) (areas m ops) ≡ Goes (areas m (Int v ∷ ops))
+  pub load_does : (x : ℕ) (v : ℤ) → slice_get m.locals x ≡ Some (Some (Int v))
+      → effect classes (Load x Number) (areas m ops) ≡ Goes (areas m (Int v ∷ ops))
   unfolding effect
-  load_does x v held = ap (λ (o : Option (Option MVal)). Goes (push (value_or_null (local_value o)) (areas m ops))) held
+  load_does x v held =
+      ap (λ (o : Option (Option MVal)). Goes (push (value_or_null (local_value o)) (areas m ops)))
+      held
 
-  pub store_can : (x : ℕ) (v : ℤ) → x < length m.locals → length ops ≤ room → CanRun classes spot (Store x Number) (areas m (Int v ∷ ops))
+  pub store_can : (x : ℕ) (v : ℤ) → x < length m.locals → length ops ≤ room
+      → CanRun classes spot (Store x Number) (areas m (Int v ∷ ops))
   unfolding effect
   store_can x v within has_room = record {
     has = le-ltb (length (Int v ∷ ops)) 1 (omega arith);
@@ -81,11 +88,14 @@ module _ (classes : List Name) (room : ℕ) (m : Memory) (ops : List MVal) where
     used = refl;
   }
 
-  pub store_does : (x : ℕ) (v : ℤ) → effect classes (Store x Number) (areas m (Int v ∷ ops)) ≡ Goes (areas (with_local x v m) ops)
+  pub store_does : (x : ℕ) (v : ℤ)
+      → effect classes (Store x Number) (areas m (Int v ∷ ops))
+      ≡ Goes (areas (with_local x v m) ops)
   unfolding effect
   store_does x v = refl
 
-  pub add_can : (v w : ℤ) → suc (length ops) ≤ room → CanRun classes spot (Combine Plus) (areas m (Int w ∷ Int v ∷ ops))
+  pub add_can : (v w : ℤ) → suc (length ops) ≤ room
+      → CanRun classes spot (Combine Plus) (areas m (Int w ∷ Int v ∷ ops))
   unfolding effect
   add_can v w has_room = record {
     has = le-ltb (length (Int w ∷ Int v ∷ ops)) 2 (omega arith);
@@ -99,11 +109,13 @@ module _ (classes : List Name) (room : ℕ) (m : Memory) (ops : List MVal) where
     used = refl;
   }
 
-  pub add_does : (v w : ℤ) → effect classes (Combine Plus) (areas m (Int w ∷ Int v ∷ ops)) ≡ Goes (areas m (Int (int_wrap w32 (v +ℤ w)) ∷ ops))
+  pub add_does : (v w : ℤ) → effect classes (Combine Plus) (areas m (Int w ∷ Int v ∷ ops))
+      ≡ Goes (areas m (Int (int_wrap w32 (v +ℤ w)) ∷ ops))
   unfolding effect
   add_does v w = refl
 
-  pub get_can : (class name : Name) (f : ℕ) → length ops < room → CanRun classes spot (GetStatic (int_field class name f)) (areas m ops)
+  pub get_can : (class name : Name) (f : ℕ) → length ops < room
+      → CanRun classes spot (GetStatic (int_field class name f)) (areas m ops)
   unfolding effect
   get_can class name f has_room = record {
     has = le-ltb (length ops) 0 (omega arith);
@@ -118,11 +130,14 @@ module _ (classes : List Name) (room : ℕ) (m : Memory) (ops : List MVal) where
   }
 
   pub get_does : (class name : Name) (f : ℕ) (v : ℤ) → slice_get m.statics f ≡ Some (Int v)
-      → effect classes (GetStatic (int_field class name f)) (areas m ops) ≡ Goes (areas m (Int v ∷ ops))
+      → effect classes (GetStatic (int_field class name f)) (areas m ops)
+      ≡ Goes (areas m (Int v ∷ ops))
   unfolding effect
-  get_does class name f v held = ap (λ (o : Option MVal). Goes (push (value_or_null o) (areas m ops))) held
+  get_does class name f v held =
+      ap (λ (o : Option MVal). Goes (push (value_or_null o) (areas m ops))) held
 
-  pub put_can : (class name : Name) (f : ℕ) (v : ℤ) → length ops ≤ room → CanRun classes spot (PutStatic (int_field class name f)) (areas m (Int v ∷ ops))
+  pub put_can : (class name : Name) (f : ℕ) (v : ℤ) → length ops ≤ room
+      → CanRun classes spot (PutStatic (int_field class name f)) (areas m (Int v ∷ ops))
   unfolding effect
   put_can class name f v has_room = record {
     has = le-ltb (length (Int v ∷ ops)) 1 (omega arith);
@@ -137,11 +152,14 @@ module _ (classes : List Name) (room : ℕ) (m : Memory) (ops : List MVal) where
   }
 
   pub put_does : (class name : Name) (f : ℕ) (v : ℤ)
-      → effect classes (PutStatic (int_field class name f)) (areas m (Int v ∷ ops)) ≡ Happens (Set class name (shown.Int v)) (areas (with_static f v m) ops)
+      → effect classes (PutStatic (int_field class name f)) (areas m (Int v ∷ ops))
+      ≡ Happens (Set class name (shown.Int v)) (areas (with_static f v m) ops)
   unfolding effect
   put_does class name f v = refl
 
-  pub read_can : (class name descriptor : Name) → length ops < room → CanRun classes spot (InvokeStatic (channel_method (member class name descriptor) gives_number)) (areas m ops)
+  pub read_can : (class name descriptor : Name) → length ops < room
+      → CanRun classes spot
+      (InvokeStatic (channel_method (member class name descriptor) gives_number)) (areas m ops)
   unfolding effect
   read_can class name descriptor has_room = record {
     has = le-ltb (length ops) 0 (omega arith);
@@ -156,12 +174,15 @@ module _ (classes : List Name) (room : ℕ) (m : Memory) (ops : List MVal) where
   }
 
   pub read_does : (class name descriptor : Name)
-      → effect classes (InvokeStatic (channel_method (member class name descriptor) gives_number)) (areas m ops) ≡ Goes (areas (with_taken class name m) (Int (next (m.inputs class name)) ∷ ops))
+      → effect classes (InvokeStatic (channel_method (member class name descriptor) gives_number))
+      (areas m ops)
+      ≡ Goes (areas (with_taken class name m) (Int (next (m.inputs class name)) ∷ ops))
   unfolding effect
   read_does class name descriptor = refl
 
   pub write_can : (class name descriptor : Name) (v : ℤ) → length ops ≤ room
-      → CanRun classes spot (InvokeStatic (channel_method (member class name descriptor) takes_number)) (areas m (Int v ∷ ops))
+      → CanRun classes spot (InvokeStatic
+      (channel_method (member class name descriptor) takes_number)) (areas m (Int v ∷ ops))
   unfolding effect
   write_can class name descriptor v has_room = record {
     has = le-ltb (length (Int v ∷ ops)) 1 (omega arith);
@@ -176,6 +197,7 @@ module _ (classes : List Name) (room : ℕ) (m : Memory) (ops : List MVal) where
   }
 
   pub write_does : (class name descriptor : Name) (v : ℤ)
-      → effect classes (InvokeStatic (channel_method (member class name descriptor) takes_number)) (areas m (Int v ∷ ops)) ≡ Happens (Out class name v) (areas m ops)
+      → effect classes (InvokeStatic (channel_method (member class name descriptor) takes_number))
+      (areas m (Int v ∷ ops)) ≡ Happens (Out class name v) (areas m ops)
   unfolding effect
   write_does class name descriptor v = refl

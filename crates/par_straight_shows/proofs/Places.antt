@@ -1,5 +1,7 @@
--- Places in code that is spelled by items: what is left there, and that an instruction starts there.
-use Rattle.std.proofs.Common.{◌≡◌, ℕ, ◌+◌, ◌<◌, true, List, ◌∷◌, ◌++◌, length, drop, Some, refl, sym, ap, ◌∙◌, length-drop, arith}
+-- Places in code that is spelled by items: what is left there, and that an instruction starts
+-- there.
+use Rattle.std.proofs.Common.{◌≡◌, ℕ, ◌+◌, ◌<◌, true, List, ◌∷◌, ◌++◌, length, drop, Some, refl}
+use Rattle.std.proofs.Common.{sym, ap, ◌∙◌, length-drop, arith}
 use Rattle.std.proofs.lemmas.Bool.{lt-ltb}
 use Rattle.std.proofs.lemmas.List.{drop-drop, drop_at}
 use Rattle.par_instr.specs.declared.instr.Instr.{Instr}
@@ -23,7 +25,8 @@ module _ (entries : List Constant) (class : Name) (code : List ℕ) where
     pub walked : walks code ≡ true
     pub starts : 0 < length items → starts_at code at ≡ true
 
-  pub begin : (items : List Item) → IsCode entries class items code → AreStraight items → Here 0 items
+  pub begin : (items : List Item) → IsCode entries class items code → AreStraight items
+      → Here 0 items
   begin items spelled straight =
       let walked = code_walks entries class items code spelled straight in
       record {
@@ -63,14 +66,25 @@ module _ (entries : List Constant) (class : Name) (code : List ℕ) where
 
     behind : drop (at + size) code ≡ rest
     unfolding size
-    behind = sym (drop-drop size at code) ∙ ap (drop size) parts ∙ drop_at (first.spelling) rest size refl
+    behind =
+        sym (drop-drop size at code) ∙ ap (drop size) parts
+        ∙ drop_at (first.spelling) rest size refl
 
     -- an instruction starts behind it, where items are left
     pub starts_behind : 0 < length items → starts_at code (at + size) ≡ true
     starts_behind some =
         let more : 0 < length rest = code_some entries class items rest (h.spelled).2 some in
-        let within : at + size < length code = omega (arith, length-drop (at + size) code, ap length behind) in
-        starts-next code at found_here h.walked (h.starts (omega arith)) found ∙ lt-ltb (at + size) (length code) within
+        let within : at + size < length code =
+        omega (arith, length-drop (at + size) code, ap length behind) in
+        starts-next code at found_here h.walked (h.starts (omega arith)) found
+        ∙ lt-ltb (at + size) (length code) within
 
     pub next : Here (at + size) items
-    next = record { bytes = rest; left = behind; spelled = (h.spelled).2; walked = h.walked; starts = starts_behind }
+    next =
+        record {
+          bytes = rest;
+          left = behind;
+          spelled = (h.spelled).2;
+          walked = h.walked;
+          starts = starts_behind;
+        }

@@ -9,14 +9,21 @@ use Rattle.par_lexer.specs.declared.token.Kind.TheVariants as kind
 use Rattle.par_lexer.specs.declared.token.Token.{Token}
 use Rattle.par_grammar.specs.declared.sort.Sort.TheVariants.{End}
 use Rattle.par_grammar.specs.Sorts.{same}
-use Rattle.par_grammar.specs.Grammar.{Symbol, token, kept, finish, counts, restarts, enters, leaves, name, builds, alternative}
+use Rattle.par_grammar.specs.Grammar.{Symbol, token, kept, finish, counts, restarts, enters, leaves}
+use Rattle.par_grammar.specs.Grammar.{name, builds, alternative}
 use Rattle.par_grammar.specs.Derivation as derivation
-use Rattle.par_grammar.specs.Derivation.{Input, next, behind, Syntax, TooDeep, goes, ends, state, stops, takes, keeps, nests, replaces, step, Comes, last, more}
+use Rattle.par_grammar.specs.Derivation.{Input, next, behind, Syntax, TooDeep, goes, ends, state}
+use Rattle.par_grammar.specs.Derivation.{stops, takes, keeps, nests, replaces, step, Comes, last}
+use Rattle.par_grammar.specs.Derivation.{more}
 use Rattle.par_straight.specs.declared.tree.Member.{Member}
 use Rattle.par_straight.specs.declared.tree.MemberKind.{MemberKind}
 use Rattle.par_straight.specs.declared.tree.Source.{Source}
 use Rattle.par_straight.specs.Grammar as g
-use Rattle.par_straight.specs.Values.{Value, Values, id, number, other, ids, clauses, members, term, sum, statements, whole, read, read_kind, built, next_ident, next_clause, next_member, next_term, constant, variable, reading, next_local, next_assign, next_call, next_open, build_whole, straight}
+use Rattle.par_straight.specs.Values.{Value, Values, id, number, other, ids, clauses, members, term}
+use Rattle.par_straight.specs.Values.{sum, statements, whole, read, read_kind, built, next_ident}
+use Rattle.par_straight.specs.Values.{next_clause, next_member, next_term, constant, variable}
+use Rattle.par_straight.specs.Values.{reading, next_local, next_assign, next_call, next_open}
+use Rattle.par_straight.specs.Values.{build_whole, straight}
 use Rattle.par_straight.specs.Sentence.{HasTree}
 use Rattle.par_straight_shows.proofs.Tokens.{IsNamedKind, AreNamed}
 
@@ -153,36 +160,48 @@ module _ (s : Symbols) (i : Input) (vs : Values) (values : AllNamed vs) where
 
   keeps_named : (tokens : List Token) → AreNamed tokens → IsNamedStep (keeps read s i vs tokens)
   keeps_named [] h = tt
-  keeps_named (x ∷ tokens) h = record { tokens = h.1; values = (read_named x.kind x.from h.0, values) }
+  keeps_named (x ∷ tokens) h =
+      record { tokens = h.1; values = (read_named x.kind x.from h.0, values) }
 
   nests_named : (tokens : List Token) → AreNamed i.left → IsNamedStep (nests s i vs tokens)
   nests_named [] h = tt
   nests_named (x ∷ tokens) h =
-      cond_both (nat_le (i.blocks + i.counted) 64) (goes (state s i vs)) (stops (TooDeep i.at)) IsNamedStep (λ e. record { tokens = h; values = values }) (λ e. tt)
+      cond_both (nat_le (i.blocks + i.counted) 64) (goes (state s i vs))
+      (stops (TooDeep i.at)) IsNamedStep (λ e. record { tokens = h; values = values }) (λ e. tt)
 
   replaces_named : (o : Option Symbols) → AreNamed i.left → IsNamedStep (replaces o s i vs)
   replaces_named None h = tt
   replaces_named (Some symbols) h = record { tokens = h; values = values }
 
-step_named : (pending : Symbols) (i : Input) (vs : Values) → AreNamed i.left → AllNamed vs → IsNamedStep (step straight (state pending i vs))
+step_named : (pending : Symbols) (i : Input) (vs : Values) → AreNamed i.left → AllNamed vs
+    → IsNamedStep (step straight (state pending i vs))
 unfolding step
 step_named [] i vs h values = values
 step_named (token k ∷ s) i vs h values =
-    cond_both (same (next i) k) (takes s i vs i.left) (stops (Syntax i.at)) IsNamedStep (λ e. takes_named s i vs values i.left h) (λ e. tt)
+    cond_both (same (next i) k) (takes s i vs i.left) (stops (Syntax i.at)) IsNamedStep
+    (λ e. takes_named s i vs values i.left h) (λ e. tt)
 step_named (kept k ∷ s) i vs h values =
-    cond_both (same (next i) k) (keeps read s i vs i.left) (stops (Syntax i.at)) IsNamedStep (λ e. keeps_named s i vs values i.left h) (λ e. tt)
+    cond_both (same (next i) k) (keeps read s i vs i.left) (stops (Syntax i.at)) IsNamedStep
+    (λ e. keeps_named s i vs values i.left h) (λ e. tt)
 step_named (finish ∷ s) i vs h values =
-    cond_both (same (next i) End) (goes (state s i vs)) (stops (Syntax i.at)) IsNamedStep (λ e. record { tokens = h; values = values }) (λ e. tt)
-step_named (counts ∷ s) i vs h values = nests_named s (record i { counted = i.counted + 1 }) vs values i.left h
+    cond_both (same (next i) End) (goes (state s i vs)) (stops (Syntax i.at)) IsNamedStep
+    (λ e. record { tokens = h; values = values }) (λ e. tt)
+step_named (counts ∷ s) i vs h values =
+    nests_named s (record i { counted = i.counted + 1 }) vs values i.left h
 step_named (restarts ∷ s) i vs h values = record { tokens = h; values = values }
-step_named (enters ∷ s) i vs h values = nests_named s (record i { blocks = i.blocks + 1 }) vs values i.left h
+step_named (enters ∷ s) i vs h values =
+    nests_named s (record i { blocks = i.blocks + 1 }) vs values i.left h
 step_named (leaves ∷ s) i vs h values = record { tokens = h; values = values }
-step_named (name n ∷ s) i vs h values = replaces_named s i vs values (alternative straight n (next i)) h
+step_named (name n ∷ s) i vs h values =
+    replaces_named s i vs values (alternative straight n (next i)) h
 step_named (builds b ∷ s) i vs h values = record { tokens = h; values = built_named b vs values }
 
 comes_named : {s : State} {o : Outcome} → Comes straight s o → IsNamedState s → IsNamedOutcome o
-comes_named {s} {o} (last e) h = subst IsNamedStep e (step_named s.pending s.input s.values h.tokens h.values)
-comes_named {s} {o} (more t e rest) h = comes_named rest (subst IsNamedStep e (step_named s.pending s.input s.values h.tokens h.values))
+comes_named {s} {o} (last e) h =
+    subst IsNamedStep e (step_named s.pending s.input s.values h.tokens h.values)
+comes_named {s} {o} (more t e rest) h =
+    comes_named rest (subst IsNamedStep e (step_named s.pending s.input s.values h.tokens h.values))
 
-pub tree_named : (tokens : List Token) (tree : Source) → AreNamed tokens → HasTree tokens tree → IsNamedTree tree
+pub tree_named : (tokens : List Token) (tree : Source) → AreNamed tokens → HasTree tokens tree
+    → IsNamedTree tree
 tree_named tokens tree h derived = (comes_named derived.1 (record { tokens = h; values = tt })).0

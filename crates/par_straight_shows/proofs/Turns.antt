@@ -1,11 +1,14 @@
 -- One instruction that can be run.
-use Rattle.std.proofs.Common.{◌≡◌, ℕ, suc, Bool, true, false, ◌&&◌, ◌||◌, List, [], ◌∷◌, Some, None, refl, ap, ◌∙◌}
+use Rattle.std.proofs.Common.{◌≡◌, ℕ, suc, Bool, true, false, ◌&&◌, ◌||◌, List, [], ◌∷◌, Some, None}
+use Rattle.std.proofs.Common.{refl, ap, ◌∙◌}
 use Rattle.par_instr.specs.Decoding.{Decoded, decoded_at}
 use Rattle.par_class.specs.declared.file.ClassFile.{ClassFile}
 use Rattle.par_values.specs.declared.value.MVal.{MVal}
 use Rattle.par_values.specs.Areas.{Name, Areas, Objects, InputLists}
 use Rattle.par_values.specs.Operations.{Operation, operation}
-use Rattle.par_values.specs.Reasons.{Spot, reasons, reason, least_from, lacks, misgiven, unfit, throws, exceeds, misplaced, falls, misnamed, disagrees, misreturns, misused}
+use Rattle.par_values.specs.Reasons.{Spot, reasons, reason, least_from, lacks, misgiven, unfit}
+use Rattle.par_values.specs.Reasons.{throws, exceeds, misplaced, falls, misnamed, disagrees}
+use Rattle.par_values.specs.Reasons.{misreturns, misused}
 use Rattle.par_values.specs.Effects.{effect}
 use Rattle.par_single.specs.Members.{own_names}
 use Rattle.par_single.specs.Links.{link_at}
@@ -33,20 +36,28 @@ none_applies n [] h = refl
 none_applies n (true ∷ bs) h = cc
 none_applies n (false ∷ bs) h = none_applies (suc n) bs h.1
 
-no_reason : (classes : List Name) (spot : Spot) (o : Operation) (a : Areas) → CanRun classes spot o a → reason classes spot o a ≡ None
+no_reason : (classes : List Name) (spot : Spot) (o : Operation) (a : Areas)
+    → CanRun classes spot o a → reason classes spot o a ≡ None
 unfolding reason
 no_reason classes spot o a h =
-    none_applies 1 (reasons classes spot o a) (h.has, (h.fits, (h.room, (h.placed, (h.stands, (h.named, (h.agrees, (h.returns, (h.used, tt)))))))))
+    none_applies 1 (reasons classes spot o a) (
+      h.has,
+      (h.fits, (h.room, (h.placed, (h.stands, (h.named, (h.agrees, (h.returns, (h.used, tt)))))))),
+    )
 
 -- what the first frame's instruction does
-pub turn_runs : (files : List ClassFile) (f : Frame) (frames : List Frame) (statics : List MVal) (objects : Objects) (inputs : InputLists) (d : Decoded) (o : Operation)
-    → let s : State = record { frames = f ∷ frames; statics = statics; objects = objects; inputs = inputs } in
-    decoded_at (method_code files f.class f.method).code f.at ≡ Some d → operation (link_at files (class_pool files f.class)) d.instr ≡ o
+pub turn_runs : (files : List ClassFile) (f : Frame) (frames : List Frame) (statics : List MVal)
+    (objects : Objects) (inputs : InputLists) (d : Decoded) (o : Operation)
+    → let s : State =
+    record { frames = f ∷ frames; statics = statics; objects = objects; inputs = inputs } in
+    decoded_at (method_code files f.class f.method).code f.at ≡ Some d
+    → operation (link_at files (class_pool files f.class)) d.instr ≡ o
     → CanRun (own_names files) (spot files f d.size) o (areas_of f s)
     → turn files s ≡ applied files (effect (own_names files) o (areas_of f s)) d.size f frames s
 unfolding turn
 turn_runs files f frames statics objects inputs d o found is_operation can =
-    let s : State = record { frames = f ∷ frames; statics = statics; objects = objects; inputs = inputs } in
+    let s : State =
+    record { frames = f ∷ frames; statics = statics; objects = objects; inputs = inputs } in
     let a : Areas = areas_of f s in
     let at : Spot = spot files f d.size in
     ap (λ d. turn_at files d f frames s) found

@@ -1,5 +1,6 @@
 -- What of a straight-line program makes its class file run as the program does.
-use Rattle.std.specs.Prelude.{◌≡◌, ℕ, suc, ◌<◌, ◌≤◌, max, true, false, List, [], ◌∷◌, length, codes, All, IsTrue}
+use Rattle.std.specs.Prelude.{◌≡◌, ℕ, suc, ◌<◌, ◌≤◌, max, true, false, List, [], ◌∷◌, length, codes}
+use Rattle.std.specs.Prelude.{All, IsTrue}
 use Rattle.par_lexer.specs.Names.{IsName}
 use Rattle.par_straight.specs.declared.program.Operand.{Operand}
 use Rattle.par_straight.specs.declared.program.Operand.TheVariants as operand

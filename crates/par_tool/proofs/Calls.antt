@@ -28,56 +28,91 @@ use Rattle.par_tool.specs.Sources.{Checked, CompiledSo}
 use Rattle.par_tool.specs.Classes.{NotRun, Starts}
 use Rattle.par_meaning.specs.declared.run.SourceRun.{SourceRun}
 use Rattle.par_tool.specs.Traces.{Untraced, IsTraced}
-use Rattle.par_tool.specs.Answers.{Scene, Stand, Ends, misses, lacks_words, answers, runs, traces, lacks_memory, ReadsOnly, Concludes, BreaksOff}
+use Rattle.par_tool.specs.Answers.{Scene, Stand, Ends, misses, lacks_words, answers, runs, traces}
+use Rattle.par_tool.specs.Answers.{lacks_memory, ReadsOnly, Concludes, BreaksOff}
 use Rattle.par_tool.proofs.Spending.{at_most}
 
-module _ (which : Which) (words : List (String Global)) (s : Scene) (result : ℕ) (old new : Option Text) (before after : SinkCounts) where
-  pub words_end : (u : Unread) → (u ≡ unread.NoForm → (w : Wanted) → Asks which words w → ⊥) → ReadsOnly 0 s
-      → BreaksOff (failure_for u) result old new before after → Ends which words s result old new before after
+module _ (which : Which) (words : List (String Global)) (s : Scene) (result : ℕ)
+    (old new : Option Text) (before after : SinkCounts) where
+  pub words_end : (u : Unread) → (u ≡ unread.NoForm → (w : Wanted) → Asks which words w → ⊥)
+      → ReadsOnly 0 s
+      → BreaksOff (failure_for u) result old new before after
+      → Ends which words s result old new before after
   words_end unread.NoForm none stand said = misses (none refl) stand said
   words_end unread.Memory none stand said = lacks_words said.0 said.1 stand
 
-  pub check_ends : (file : Text) (outcome : Result Answer Failure) → Asks which words (Check file) → Makes 1 0 s.before s.after → Stand s
-      → IfOk outcome (Checked s.files s.before s.after file) → IfErr outcome (IsFailure (Checked s.files s.before s.after file))
-      → Concludes outcome result old new before after → Ends which words s result old new before after
-  check_ends file (Ok answer) asks makes stand checked failed said = answers (Check file) answer asks (checked, (makes, stand)) said
-  check_ends file (Err (Answered answer)) asks makes stand checked failed said = answers (Check file) answer asks (failed, (makes, stand)) said
-  check_ends file (Err Memory) asks makes stand checked failed said = lacks_memory (Check file) asks said.0 said.1 (at_most 1 0 s.before s.after makes) stand
+  pub check_ends : (file : Text) (outcome : Result Answer Failure) → Asks which words (Check file)
+      → Makes 1 0 s.before s.after → Stand s
+      → IfOk outcome (Checked s.files s.before s.after file)
+      → IfErr outcome (IsFailure (Checked s.files s.before s.after file))
+      → Concludes outcome result old new before after
+      → Ends which words s result old new before after
+  check_ends file (Ok answer) asks makes stand checked failed said =
+      answers (Check file) answer asks (checked, (makes, stand)) said
+  check_ends file (Err (Answered answer)) asks makes stand checked failed said =
+      answers (Check file) answer asks (failed, (makes, stand)) said
+  check_ends file (Err Memory) asks makes stand checked failed said =
+      lacks_memory (Check file) asks said.0 said.1 (at_most 1 0 s.before s.after makes) stand
 
-  pub compile_ends : (file : Text) (outcome : Result Answer Failure) → Asks which words (Compile file)
-      → IfOk outcome (CompiledSo s.files s.later s.before s.after file) → IfErr outcome (IsFailure (CompiledSo s.files s.later s.before s.after file))
+  pub compile_ends : (file : Text) (outcome : Result Answer Failure)
+      → Asks which words (Compile file)
+      → IfOk outcome (CompiledSo s.files s.later s.before s.after file)
+      → IfErr outcome (IsFailure (CompiledSo s.files s.later s.before s.after file))
       → IfErr outcome (λ e. e ≡ Memory → Stand s × MakesAtMost 1 1 s.before s.after)
-      → Concludes outcome result old new before after → Ends which words s result old new before after
-  compile_ends file (Ok answer) asks compiled failed kept said = answers (Compile file) answer asks compiled said
-  compile_ends file (Err (Answered answer)) asks compiled failed kept said = answers (Compile file) answer asks failed said
-  compile_ends file (Err Memory) asks compiled failed kept said = lacks_memory (Compile file) asks said.0 said.1 (kept refl).1 (kept refl).0
+      → Concludes outcome result old new before after
+      → Ends which words s result old new before after
+  compile_ends file (Ok answer) asks compiled failed kept said =
+      answers (Compile file) answer asks compiled said
+  compile_ends file (Err (Answered answer)) asks compiled failed kept said =
+      answers (Compile file) answer asks failed said
+  compile_ends file (Err Memory) asks compiled failed kept said =
+      lacks_memory (Compile file) asks said.0 said.1 (kept refl).1 (kept refl).0
 
-  pub trace_fails : (file inputs : Text) (bound : ℕ) (failure : Failure) → Asks which words (Trace file inputs bound) → Stand s
-      → IsFailure (Untraced s.files s.before s.after file inputs) failure → (failure ≡ Memory → MakesAtMost 2 0 s.before s.after)
-      → BreaksOff failure result old new before after → Ends which words s result old new before after
-  trace_fails file inputs bound (Answered answer) asks stand failed few said = answers (Trace file inputs bound) answer asks (failed, stand) said
-  trace_fails file inputs bound Memory asks stand failed few said = lacks_memory (Trace file inputs bound) asks said.0 said.1 (few refl) stand
+  pub trace_fails : (file inputs : Text) (bound : ℕ) (failure : Failure)
+      → Asks which words (Trace file inputs bound) → Stand s
+      → IsFailure (Untraced s.files s.before s.after file inputs) failure
+      → (failure ≡ Memory → MakesAtMost 2 0 s.before s.after)
+      → BreaksOff failure result old new before after
+      → Ends which words s result old new before after
+  trace_fails file inputs bound (Answered answer) asks stand failed few said =
+      answers (Trace file inputs bound) answer asks (failed, stand) said
+  trace_fails file inputs bound Memory asks stand failed few said =
+      lacks_memory (Trace file inputs bound) asks said.0 said.1 (few refl) stand
 
-  pub trace_ends : (file inputs : Text) (bound : ℕ) (made_over : Table) (t : SourceRun) → Asks which words (Trace file inputs bound) → Makes 2 0 s.before s.after → Stand s
+  pub trace_ends : (file inputs : Text) (bound : ℕ) (made_over : Table) (t : SourceRun)
+      → Asks which words (Trace file inputs bound) → Makes 2 0 s.before s.after → Stand s
       → IsTraced s.files file inputs bound made_over t
-      → Said (told.status (Fine (traced.run_of t).ending)) (traced.lines made_over (traced.run_of t)) result old new before after
+      → Said (told.status (Fine (traced.run_of t).ending))
+      (traced.lines made_over (traced.run_of t)) result old new before after
       → Ends which words s result old new before after
   trace_ends file inputs bound made_over t asks makes stand h said =
       traces (Trace file inputs bound) h.tree (traced.run_of t) asks (h.is_trace, (makes, stand))
-      (subst (λ (table : Table). Said (told.status (Fine (traced.run_of t).ending)) (traced.lines table (traced.run_of t)) result old new before after) h.table_is said)
+      (subst (λ (table : Table). Said (told.status (Fine (traced.run_of t).ending))
+      (traced.lines table (traced.run_of t)) result old new before after) h.table_is said)
 
-  pub run_fails : (main inputs : Text) (steps : ℕ) (failure : Failure) → Asks which words (Run main inputs steps) → Stand s
-      → IsFailure (NotRun s.files s.before s.after main inputs) failure → (failure ≡ Memory → MakesAtMost 130 0 s.before s.after)
-      → BreaksOff failure result old new before after → Ends which words s result old new before after
-  run_fails main inputs steps (Answered answer) asks stand failed few said = answers (Run main inputs steps) answer asks (failed, stand) said
-  run_fails main inputs steps Memory asks stand failed few said = lacks_memory (Run main inputs steps) asks said.0 said.1 (few refl) stand
+  pub run_fails : (main inputs : Text) (steps : ℕ) (failure : Failure)
+      → Asks which words (Run main inputs steps) → Stand s
+      → IsFailure (NotRun s.files s.before s.after main inputs) failure
+      → (failure ≡ Memory → MakesAtMost 130 0 s.before s.after)
+      → BreaksOff failure result old new before after
+      → Ends which words s result old new before after
+  run_fails main inputs steps (Answered answer) asks stand failed few said =
+      answers (Run main inputs steps) answer asks (failed, stand) said
+  run_fails main inputs steps Memory asks stand failed few said =
+      lacks_memory (Run main inputs steps) asks said.0 said.1 (few refl) stand
 
-  pub run_ends : (main inputs : Text) (steps : ℕ) (m : Machine) → Asks which words (Run main inputs steps) → Stand s
+  pub run_ends : (main inputs : Text) (steps : ℕ) (m : Machine)
+      → Asks which words (Run main inputs steps) → Stand s
       → Starts s.files s.before s.after main inputs m
-      → Said (told.status (runs_of m steps).ending) (told.lines (runs_of m steps)) result old new before after
+      → Said (told.status (runs_of m steps).ending)
+      (told.lines (runs_of m steps)) result old new before after
       → Ends which words s result old new before after
   run_ends main inputs steps m asks stand (reads, h, makes) said =
       let same : runs_of m steps ≡ machine_run h.all main h.lists steps =
-      ap (λ (fs : List ClassFile). run fs steps (state_of m)) h.runs ∙ ap (λ (st : State). run h.all steps st) h.begun in
-      runs (Run main inputs steps) (runs_of m steps) asks
-      (reads, record { all = h.all; lists = h.lists; linked = h.linked; given = h.given; is_run = same }, (makes, stand)) said
+      ap (λ (fs : List ClassFile). run fs steps (state_of m)) h.runs
+      ∙ ap (λ (st : State). run h.all steps st) h.begun in
+      runs (Run main inputs steps) (runs_of m steps) asks (
+        reads,
+        record { all = h.all; lists = h.lists; linked = h.linked; given = h.given; is_run = same },
+        (makes, stand),
+      ) said

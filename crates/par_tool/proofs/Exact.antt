@@ -16,9 +16,11 @@ use Rattle.par_loader.specs.Judged.{judged}
 use Rattle.par_words.proofs.Asking.{one_wanted}
 use Rattle.par_tool.specs.declared.answer.Answer.{Answer}
 use Rattle.par_tool.specs.Texts.{status, text}
-use Rattle.par_tool.specs.Answers.{Scene, Cause, RunCause, TraceCause, Ends, misses, lacks_words, answers, runs, traces, lacks_memory}
+use Rattle.par_tool.specs.Answers.{Scene, Cause, RunCause, TraceCause, Ends, misses, lacks_words}
+use Rattle.par_tool.specs.Answers.{answers, runs, traces, lacks_memory}
 use Rattle.par_tool.specs.Exactly as exactly
-use Rattle.par_tool.specs.Exactly.{IsSaidBy, IsStatus, Checks, Compiles, IsExact, Traces, TellsSource, TellsClass}
+use Rattle.par_tool.specs.Exactly.{IsSaidBy, IsStatus, Checks, Compiles, IsExact, Traces}
+use Rattle.par_tool.specs.Exactly.{TellsSource, TellsClass}
 use Rattle.par_tool.proofs.Statuses.{said_status}
 use Rattle.par_tool.proofs.ExactSources.{tells_check, tells_compile}
 use Rattle.par_tool.proofs.ExactTraces.{tells_untraced, tells_traced}
@@ -26,7 +28,8 @@ use Rattle.par_tool.proofs.ExactRuns.{any_end, instead, tells_instead, tells_ran
 
 -- ---- the status
 
-answer_is_exact : (s : Scene) (w : Wanted) (a : Answer) (result : ℕ) → Cause s w a → IsSaidBy result (status a) → IsExact s.files w result
+answer_is_exact : (s : Scene) (w : Wanted) (a : Answer) (result : ℕ) → Cause s w a
+    → IsSaidBy result (status a) → IsExact s.files w result
 answer_is_exact s (Check file) a result cause said =
     tells_check s.files s.before s.after file result a cause.0 said
 answer_is_exact s (Compile file) a result cause said =
@@ -34,25 +37,32 @@ answer_is_exact s (Compile file) a result cause said =
 answer_is_exact s (Trace file inputs bound) a result cause said =
     tells_untraced s.files s.before s.after file inputs bound result a cause.0 said
 answer_is_exact s (Run main inputs steps) a result cause said =
-    tells_instead s.files s.before s.after main inputs steps result a (instead s.files s.before s.after main inputs a cause.0) said
+    tells_instead s.files s.before s.after main inputs steps result a
+    (instead s.files s.before s.after main inputs a cause.0) said
 
-run_is_exact : (s : Scene) (w : Wanted) (ran : Ran) (result : ℕ) → RunCause s w ran → IsSaidBy result (told.status ran.ending) → IsExact s.files w result
+run_is_exact : (s : Scene) (w : Wanted) (ran : Ran) (result : ℕ) → RunCause s w ran
+    → IsSaidBy result (told.status ran.ending) → IsExact s.files w result
 run_is_exact s (Check file) ran result cause said = absurd cause
 run_is_exact s (Compile file) ran result cause said = absurd cause
 run_is_exact s (Trace file inputs bound) ran result cause said = absurd cause
-run_is_exact s (Run main inputs steps) ran result cause said = tells_ran s.files s.before s.after main inputs steps result cause.0 ran cause.1 said
+run_is_exact s (Run main inputs steps) ran result cause said =
+    tells_ran s.files s.before s.after main inputs steps result cause.0 ran cause.1 said
 
-trace_is_exact : (s : Scene) (w : Wanted) (tree : Source) (run : source.Run) (result : ℕ) → TraceCause s w tree run → IsSaidBy result (told.status (Fine run.ending)) → IsExact s.files w result
+trace_is_exact : (s : Scene) (w : Wanted) (tree : Source) (run : source.Run) (result : ℕ)
+    → TraceCause s w tree run → IsSaidBy result (told.status (Fine run.ending))
+    → IsExact s.files w result
 trace_is_exact s (Check file) tree run result cause said = absurd cause
 trace_is_exact s (Compile file) tree run result cause said = absurd cause
-trace_is_exact s (Trace file inputs bound) tree run result cause said = tells_traced s.files file inputs bound tree run cause.0 result said
+trace_is_exact s (Trace file inputs bound) tree run result cause said =
+    tells_traced s.files file inputs bound tree run cause.0 result said
 trace_is_exact s (Run main inputs steps) tree run result cause said = absurd cause
 
 -- want of memory comes in the place of any status
 wanting : (result number : ℕ) → result ≡ 7 → IsStatus result number
 wanting result number seven = exactly.said (exactly.lacks_memory seven)
 
-source_wants : (Accepts : Text → ℕ → Type 0) (files : Option Files) (file : Text) (result : ℕ) → result ≡ 7
+source_wants : (Accepts : Text → ℕ → Type 0) (files : Option Files) (file : Text) (result : ℕ)
+    → result ≡ 7
     → ((source : Text) → Accepts source result) → TellsSource Accepts files file result
 source_wants Accepts files file result seven accepts = record {
   missing = λ h. wanting result 3 seven;
@@ -63,7 +73,8 @@ source_wants Accepts files file result seven accepts = record {
   };
 }
 
-trace_wants : (files : Option Files) (inputs : Text) (bound : ℕ) (source : Text) (result : ℕ) → result ≡ 7 → Traces files inputs bound source result
+trace_wants : (files : Option Files) (inputs : Text) (bound : ℕ) (source : Text) (result : ℕ)
+    → result ≡ 7 → Traces files inputs bound source result
 trace_wants files inputs bound source result seven = record {
   missing = λ h. wanting result 3 seven;
   overlong = λ h. wanting result 8 seven;
@@ -73,41 +84,62 @@ trace_wants files inputs bound source result seven = record {
   };
 }
 
-class_wants : (files : Option Files) (main inputs : Text) (steps result : ℕ) → result ≡ 7 → TellsClass files main inputs steps result
+class_wants : (files : Option Files) (main inputs : Text) (steps result : ℕ) → result ≡ 7
+    → TellsClass files main inputs steps result
 class_wants files main inputs steps result seven = record {
   missing = λ h. wanting result 3 seven;
   overlong = λ h. wanting result 8 seven;
-  there = λ bytes at classes of. any_end files main inputs steps result (λ number. wanting result number seven) (judged classes main).end;
+  there =
+      λ bytes at classes of. any_end files main inputs steps result
+      (λ number. wanting result number seven) (judged classes main).end;
 }
 
 wants : (files : Option Files) (w : Wanted) (result : ℕ) → result ≡ 7 → IsExact files w result
-wants files (Check file) result seven = source_wants Checks files file result seven (λ source. wanting result 0 seven)
+wants files (Check file) result seven =
+    source_wants Checks files file result seven (λ source. wanting result 0 seven)
 wants files (Compile file) result seven = source_wants Compiles files file result seven
-    (λ source. record { compiled = λ h. inl (wanting result 0 seven); not_built = λ h. wanting result 9 seven })
-wants files (Trace file inputs bound) result seven = source_wants (Traces files inputs bound) files file result seven (λ source. trace_wants files inputs bound source result seven)
+    (λ source. record {
+      compiled = λ h. inl (wanting result 0 seven);
+      not_built = λ h. wanting result 9 seven;
+    })
+wants files (Trace file inputs bound) result seven =
+    source_wants (Traces files inputs bound) files file result seven
+    (λ source. trace_wants files inputs bound source result seven)
 wants files (Run main inputs steps) result seven = class_wants files main inputs steps result seven
 
-pub exact : (which : Which) (words : List (String Global)) (s : Scene) (result : ℕ) (old new : Option Text) (f g : SinkCounts)
-    → Ends which words s result old new f g → (w : Wanted) → Asks which words w → IsExact s.files w result
+pub exact : (which : Which) (words : List (String Global)) (s : Scene) (result : ℕ)
+    (old new : Option Text) (f g : SinkCounts)
+    → Ends which words s result old new f g → (w : Wanted) → Asks which words w
+    → IsExact s.files w result
 exact which words s result old new f g (misses none stand said) w asked = absurd (none w asked)
-exact which words s result old new f g (lacks_words seven put stand) w asked = wants s.files w result seven
+exact which words s result old new f g (lacks_words seven put stand) w asked =
+    wants s.files w result seven
 exact which words s result old new f g (answers v a asks cause said) w asked =
     subst (λ (x : Wanted). IsExact s.files x result) (one_wanted which words v w asks asked)
-    (answer_is_exact s v a result cause (said_status (status a) result (text a ∷ []) old new f g said.said))
+    (answer_is_exact s v a result cause
+    (said_status (status a) result (text a ∷ []) old new f g said.said))
 exact which words s result old new f g (runs v ran asks cause said) w asked =
     subst (λ (x : Wanted). IsExact s.files x result) (one_wanted which words v w asks asked)
-    (run_is_exact s v ran result cause (said_status (told.status ran.ending) result (told.lines ran) old new f g said))
+    (run_is_exact s v ran result cause
+    (said_status (told.status ran.ending) result (told.lines ran) old new f g said))
 exact which words s result old new f g (traces v tree run asks cause said) w asked =
     subst (λ (x : Wanted). IsExact s.files x result) (one_wanted which words v w asks asked)
-    (trace_is_exact s v tree run result cause (said_status (told.status (Fine run.ending)) result (traced.lines (table_of tree) run) old new f g said))
-exact which words s result old new f g (lacks_memory v asks seven put few stand) w asked = wants s.files w result seven
+    (trace_is_exact s v tree run result cause
+    (said_status (told.status (Fine run.ending)) result
+    (traced.lines (table_of tree) run) old new f g said))
+exact which words s result old new f g (lacks_memory v asks seven put few stand) w asked =
+    wants s.files w result seven
 
 -- words of no form
-pub usage : (which : Which) (words : List (String Global)) (s : Scene) (result : ℕ) (old new : Option Text) (f g : SinkCounts)
-    → Ends which words s result old new f g → ((w : Wanted) → Asks which words w → ⊥) → IsSaidBy result 2
-usage which words s result old new f g (misses none stand said) h = said_status 2 result _ old new f g said.said
+pub usage : (which : Which) (words : List (String Global)) (s : Scene) (result : ℕ)
+    (old new : Option Text) (f g : SinkCounts)
+    → Ends which words s result old new f g → ((w : Wanted) → Asks which words w → ⊥)
+    → IsSaidBy result 2
+usage which words s result old new f g (misses none stand said) h =
+    said_status 2 result _ old new f g said.said
 usage which words s result old new f g (lacks_words seven put stand) h = exactly.lacks_memory seven
 usage which words s result old new f g (answers v a asks cause said) h = absurd (h v asks)
 usage which words s result old new f g (runs v ran asks cause said) h = absurd (h v asks)
 usage which words s result old new f g (traces v tree run asks cause said) h = absurd (h v asks)
-usage which words s result old new f g (lacks_memory v asks seven put few stand) h = exactly.lacks_memory seven
+usage which words s result old new f g (lacks_memory v asks seven put few stand) h =
+    exactly.lacks_memory seven

@@ -9,14 +9,16 @@ use Rattle.par_observer.specs.Straight.{HasPassed}
 use Rattle.par_observer.proofs.Clashes.{accepted_or_broken}
 use Rattle.par_tool.specs.declared.answer.Answer.{Answer}
 use Rattle.par_tool.specs.declared.answer.Answer.TheVariants.{Accepted, Compiled, Refused}
-use Rattle.par_tool.specs.declared.answer.Answer.TheVariants.{Absent, ReadFault, WriteFault, TooLong, NotBuilt}
+use Rattle.par_tool.specs.declared.answer.Answer.TheVariants.{Absent, ReadFault, WriteFault}
+use Rattle.par_tool.specs.declared.answer.Answer.TheVariants.{TooLong, NotBuilt}
 use Rattle.par_tool.specs.Texts.{status}
 use Rattle.par_tool.specs.Outside.{Text, NotRead, IsThere, IsMissing, IsOverlong}
 use Rattle.par_tool.specs.Sources.{IsBroken, IsCompiledAs, IsNotBuilt, ReadSource, ReadCompiled}
 use Rattle.par_tool.specs.Sources.{Checked, CompiledSo}
 use Rattle.par_tool.specs.Exactly.{IsSaidBy, IsStatus, TellsSource, Checks, Compiles}
 use Rattle.par_tool.proofs.Statuses.{IsNear, same, near_status, compiles, read_there, missing_read}
-use Rattle.par_tool.proofs.Statuses.{overlong_read, missing_not_read, overlong_not_read, there_not_read}
+use Rattle.par_tool.proofs.Statuses.{overlong_read, missing_not_read, overlong_not_read}
+use Rattle.par_tool.proofs.Statuses.{there_not_read}
 
 -- what a check says of a source
 abbrev CheckVerdict : Text → Answer → Type 0

@@ -1,5 +1,6 @@
 -- A file has at most as many entries as bytes, and one more.
-use Rattle.std.proofs.Common.{suc, ◌+◌, ◌≤◌, List, [], ◌∷◌, length, Option, Some, None, Bool, true, false, cond, ◌==◌, arith}
+use Rattle.std.proofs.Common.{suc, ◌+◌, ◌≤◌, List, [], ◌∷◌, length, Option, Some, None, Bool, true}
+use Rattle.std.proofs.Common.{false, cond, ◌==◌, arith}
 use Rattle.std.specs.List.{cons_option, slice_split}
 use Rattle.std.proofs.lemmas.List.Sums.{count_by-le-length}
 use Rattle.std.proofs.lemmas.List.Splits.{length-slice_split}
@@ -8,13 +9,15 @@ use Rattle.par_inputs.specs.Lines.{Text, without_empty_last, lines_of}
 use Rattle.par_inputs.specs.Entries.{line_of}
 use Rattle.par_inputs.specs.Rules.{entries}
 
-one_more : (o : Option ChannelInput) (xs : List ChannelInput) → length (cons_option o xs) ≤ suc (length xs)
+one_more : (o : Option ChannelInput) (xs : List ChannelInput)
+    → length (cons_option o xs) ≤ suc (length xs)
 one_more None xs = omega arith
 one_more (Some x) xs = omega arith
 
 few_entries : (lines : List Text) → length (entries lines) ≤ length lines
 few_entries [] = omega arith
-few_entries (line ∷ lines) = let rest = few_entries lines in let more = one_more (line_of line) (entries lines) in omega (arith, rest, more)
+few_entries (line ∷ lines) = let rest = few_entries lines in
+    let more = one_more (line_of line) (entries lines) in omega (arith, rest, more)
 
 at_most_one : (b : Bool) (part : Text) → length (cond b [] (part ∷ [])) ≤ 1
 at_most_one true part = omega arith

@@ -1,5 +1,6 @@
 -- Class files that are linked are run.
-use Rattle.std.proofs.Common.{◌≡◌, ℕ, suc, ◌+◌, List, Option, Some, Ok, slice_get, sym, ap, subst, ◌∙◌, arith}
+use Rattle.std.proofs.Common.{◌≡◌, ℕ, suc, ◌+◌, List, Option, Some, Ok, slice_get, sym, ap, subst}
+use Rattle.std.proofs.Common.{◌∙◌, arith}
 use Rattle.par_io.specs.Causes.{FolderCounts, Makes, NoneFalls, Files}
 use Rattle.par_values.specs.declared.inputs.Inputs.{Inputs}
 use Rattle.par_class.specs.declared.file.ClassFile.{ClassFile}
@@ -18,7 +19,8 @@ use Rattle.par_tool.specs.Classes.{AreLinked, NotRun, Starts}
 use Rattle.par_tool.proofs.Beginning.{first_number}
 use Rattle.par_tool.proofs.Loads.{all_reads, inputs_fail}
 
-module _ (files : Option Files) (main name : Text) (first before between after : FolderCounts) (all : List ClassFile) (behind : Makes 1 0 first before)
+module _ (files : Option Files) (main name : Text) (first before between after : FolderCounts)
+    (all : List ClassFile) (behind : Makes 1 0 first before)
     (h : Judges files main before between (Ok all)) (makes : Makes 1 0 between after) where
   links_all : AreLinked files main (suc h.2.0) all
   links_all = record { classes = h.0; of = h.1; links = h.2.2 }
@@ -26,18 +28,24 @@ module _ (files : Option Files) (main name : Text) (first before between after :
   makes_all : Makes (suc (suc h.2.0)) 0 first after
   makes_all =
       let e : 1 + (h.2.0 + 1) ≡ suc (suc h.2.0) = omega arith in
-      subst (λ (n : ℕ). Makes n 0 first after) e (makes_both (h.2.0 + 1) 1 first between after (makes_both 1 h.2.0 first before between behind h.2.1) makes)
+      subst (λ (n : ℕ). Makes n 0 first after) e
+      (makes_both (h.2.0 + 1) 1 first between after
+      (makes_both 1 h.2.0 first before between behind h.2.1) makes)
 
-  pub fails : NoneFalls first before → NoneFalls before between → (failure : Failure) → IsFailure (IsUngiven (first_misfit all) files between after name) failure
+  pub fails : NoneFalls first before → NoneFalls before between → (failure : Failure)
+      → IsFailure (IsUngiven (first_misfit all) files between after name) failure
       → IsFailure (NotRun files first after main name) failure
   fails fell falls failure unfit =
-      inputs_fail files main name first between after (suc h.2.0) all makes_all (none_falls first before between fell falls) links_all failure unfit
+      inputs_fail files main name first between after (suc h.2.0) all makes_all
+      (none_falls first before between fell falls) links_all failure unfit
 
   pub wants : MakesAtMost 130 0 first after
   wants = all_reads files main (suc h.2.0) all links_all first after makes_all
 
-  pub starts : (f : ClassFile) → slice_get all 0 ≡ Some f → own_name f ≡ main → (m : Machine) (lists : Inputs)
-      → AreInputs (first_misfit all) files name lists → files_of m ≡ all → state_of m ≡ start all 0 lists → steps_of m ≡ 0
+  pub starts : (f : ClassFile) → slice_get all 0 ≡ Some f → own_name f ≡ main
+      → (m : Machine) (lists : Inputs)
+      → AreInputs (first_misfit all) files name lists → files_of m ≡ all
+      → state_of m ≡ start all 0 lists → steps_of m ≡ 0
       → Starts files first after main name m
   starts f is own m lists given same begun fresh = (
     suc h.2.0,

@@ -17,7 +17,8 @@ use Rattle.par_steps.specs.State.{start}
 use Rattle.par_steps.specs.Run.{class_number, machine_run}
 use Rattle.par_inputs.specs.declared.read.TheConstants.{LONGEST_INPUTS}
 use Rattle.par_tool.specs.declared.answer.Answer.{Answer}
-use Rattle.par_tool.specs.declared.answer.Answer.TheVariants.{Absent, ReadFault, TooLong, BadClass, BadInputs}
+use Rattle.par_tool.specs.declared.answer.Answer.TheVariants.{Absent, ReadFault, TooLong, BadClass}
+use Rattle.par_tool.specs.declared.answer.Answer.TheVariants.{BadInputs}
 use Rattle.par_tool.specs.Given.{AreInputs, HasBadLine}
 use Rattle.par_tool.specs.Outside.{Text, MakesAtMost, NotRead}
 

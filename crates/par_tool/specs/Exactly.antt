@@ -55,7 +55,8 @@ pub record Judges (Accepts : Text → ℕ → Type 0) (source : Text) (result : 
 
 -- Which status it has where the folder tells of the source: 3 where its file is missing, 8 where it
 -- is too long.
-pub record TellsSource (Accepts : Text → ℕ → Type 0) (files : Option Files) (file : Text) (result : ℕ)
+pub record TellsSource (Accepts : Text → ℕ → Type 0) (files : Option Files) (file : Text)
+    (result : ℕ)
     : Type 0 where
   pub missing : IsMissing files file → IsStatus result 3
   pub overlong : IsOverlong files LONGEST_SOURCE file → IsStatus result 8

@@ -19,7 +19,8 @@ use Rattle.par_steps.specs.Target.{target}
 use Rattle.par_lexer.specs.declared.cut.TheConstants.{LONGEST_SOURCE}
 use Rattle.par_pool.specs.declared.reading.TheConstants.{LONGEST_CLASS}
 use Rattle.par_tool.specs.declared.answer.Answer.{Answer}
-use Rattle.par_tool.specs.declared.answer.Answer.TheVariants.{Accepted, Compiled, Refused, WriteFault, NotBuilt}
+use Rattle.par_tool.specs.declared.answer.Answer.TheVariants.{Accepted, Compiled, Refused}
+use Rattle.par_tool.specs.declared.answer.Answer.TheVariants.{WriteFault, NotBuilt}
 use Rattle.par_typed.specs.declared.refusal.Refusal.{Refusal}
 use Rattle.par_observer.specs.Judgements.{Breaks, IsAcceptedSource}
 use Rattle.par_observer.specs.Straight.{HasPassed, IsPassed}

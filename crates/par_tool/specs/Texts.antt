@@ -3,7 +3,10 @@ use Rattle.std.specs.Prelude.{ℕ, Bool, true, false, nat_eq, if◌then◌else�
 use Rattle.std.specs.Fmt.{decimal}
 use Rattle.par_typed.specs.declared.refusal.TheConstants.{LIMIT_RULE}
 use Rattle.par_tool.specs.declared.answer.Answer.{Answer}
-use Rattle.par_tool.specs.declared.answer.Answer.TheVariants.{Accepted, Compiled, Refused, Usage, Absent, ReadFault, WriteFault, TooLong, NotBuilt, BadClass, BadInputs}
+use Rattle.par_tool.specs.declared.answer.Answer.TheVariants.{Accepted, Compiled, Refused, Usage}
+use Rattle.par_tool.specs.declared.answer.Answer.TheVariants.{Absent, ReadFault, WriteFault}
+use Rattle.par_tool.specs.declared.answer.Answer.TheVariants.{TooLong, NotBuilt, BadClass}
+use Rattle.par_tool.specs.declared.answer.Answer.TheVariants.{BadInputs}
 
 abbrev pub status : Answer → ℕ
 status Accepted = 0

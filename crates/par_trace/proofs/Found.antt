@@ -15,9 +15,11 @@ use Rattle.par_trace.specs.Channels.{is_among}
 
 -- one of the keys names this channel
 abbrev names : List Key → Name → Name → Bool
-names keys class name = list_any (λ (k : Key). bytes_eq class k.class.now && bytes_eq name k.name.now) keys
+names keys class name =
+    list_any (λ (k : Key). bytes_eq class k.class.now && bytes_eq name k.name.now) keys
 
-pub found : (keys : List Key) (firsts : Firsts Key) (key : Key) (line : ChannelInput) → AreFirst same_key keys firsts
+pub found : (keys : List Key) (firsts : Firsts Key) (key : Key) (line : ChannelInput)
+    → AreFirst same_key keys firsts
     → key.class.now ≡ line.class → key.name.now ≡ line.channel
     → is_some (get same_key firsts.places key) ≡ is_among (map named keys) line
 found keys firsts key line are class name =

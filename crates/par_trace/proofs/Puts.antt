@@ -1,5 +1,6 @@
 -- Lines that are put one after the other.
-use Rattle.std.proofs.Common.{◌≡◌, ℕ, suc, ◌≤◌, List, [], ◌∷◌, ◌++◌, length, Option, Some, None, refl, sym, ap, subst, ◌∙◌, inl, inr, arith}
+use Rattle.std.proofs.Common.{◌≡◌, ℕ, suc, ◌≤◌, List, [], ◌∷◌, ◌++◌, length, Option, Some, None}
+use Rattle.std.proofs.Common.{refl, sym, ap, subst, ◌∙◌, inl, inr, arith}
 use Rattle.std.specs.List.{concat}
 use Rattle.std.proofs.lemmas.List.{append-nil, append_assoc}
 use Rattle.std.proofs.lemmas.List.Folds.{concat-append}
@@ -11,7 +12,8 @@ use Rattle.par_runner.specs.Texts.{Text}
 use Rattle.par_runner.specs.Telling.{IsUntold, IsCutOff}
 use Rattle.par_trace.specs.Puts.{ArePut}
 
-appended-appended : (old : Option Text) (a b : Text) → appended (appended old a) b ≡ appended old (a ++ b)
+appended-appended : (old : Option Text) (a b : Text)
+    → appended (appended old a) b ≡ appended old (a ++ b)
 appended-appended None a b = refl
 appended-appended (Some bytes) a b = ap Some (append_assoc bytes a b)
 
@@ -31,17 +33,24 @@ module _ (old : Option Text) (before : SinkCounts) where
   pub none-put : ArePut [] old old before before
   none-put = record { counted = refl; held = appended-nothing old }
 
-  module _ (ls : List Text) (held : Option Text) (between : SinkCounts) (puts : ArePut ls old held before between) where
+  module _ (ls : List Text) (held : Option Text) (between : SinkCounts)
+      (puts : ArePut ls old held before between) where
     -- one line more
-    pub put-more : (l : Text) (new : Option Text) (after : SinkCounts) → after.puts ≡ raised between.puts → new ≡ appended held l
+    pub put-more : (l : Text) (new : Option Text) (after : SinkCounts)
+        → after.puts ≡ raised between.puts → new ≡ appended held l
         → ArePut (ls ++ l ∷ []) old new before after
     put-more l new after counts put = record {
-      counted = counts ∙ ap raised puts.counted ∙ ap (λ n. raised_by n before.puts) (sym (length-one_more ls l));
-      held = put ∙ ap (λ h. appended h l) puts.held ∙ appended-appended old (concat ls) l ∙ ap (appended old) (sym (concat-one_more ls l));
+      counted =
+          counts ∙ ap raised puts.counted
+          ∙ ap (λ n. raised_by n before.puts) (sym (length-one_more ls l));
+      held =
+          put ∙ ap (λ h. appended h l) puts.held ∙ appended-appended old (concat ls) l
+          ∙ ap (appended old) (sym (concat-one_more ls l));
     }
 
     -- the next line is not put whole
-    pub cut-next : (l : Text) (more : List Text) (u : Untold) (new : Option Text) (after : SinkCounts) → before.faults ≤ between.faults
+    pub cut-next : (l : Text) (more : List Text) (u : Untold) (new : Option Text)
+        (after : SinkCounts) → before.faults ≤ between.faults
         → IsUntold l held new between after u → IsCutOff (ls ++ l ∷ more) old new before after u
     cut-next l more Fault new after le untold = record {
       first = ls;
@@ -62,13 +71,16 @@ module _ (old : Option Text) (before : SinkCounts) where
     }
 
 -- what is not put whole is not put whole with more lines behind it
-pub cut-longer : (ls more : List Text) (u : Untold) (old new : Option Text) (before after : SinkCounts) → IsCutOff ls old new before after u
+pub cut-longer : (ls more : List Text) (u : Untold) (old new : Option Text)
+    (before after : SinkCounts) → IsCutOff ls old new before after u
     → IsCutOff (ls ++ more) old new before after u
 cut-longer ls more Fault old new before after cut = record {
   first = cut.first;
   line = cut.line;
   rest = cut.rest ++ more;
-  among = ap (λ (l : List Text). l ++ more) cut.among ∙ append_assoc cut.first (cut.line ∷ cut.rest) more;
+  among =
+      ap (λ (l : List Text). l ++ more) cut.among
+      ∙ append_assoc cut.first (cut.line ∷ cut.rest) more;
   rose = cut.rose;
   puts = cut.puts;
   front = cut.front;
@@ -77,7 +89,9 @@ cut-longer ls more Memory old new before after cut = record {
   first = cut.first;
   line = cut.line;
   rest = cut.rest ++ more;
-  among = ap (λ (l : List Text). l ++ more) cut.among ∙ append_assoc cut.first (cut.line ∷ cut.rest) more;
+  among =
+      ap (λ (l : List Text). l ++ more) cut.among
+      ∙ append_assoc cut.first (cut.line ∷ cut.rest) more;
   puts = cut.puts;
   held = cut.held;
 }

@@ -1,5 +1,6 @@
 -- The grammar of Paragon is founded: no name is replaced for ever before a token is taken.
-use Rattle.std.proofs.Common.{◌≡◌, ◌+◌, ◌-◌, ℕ, Bool, true, false, refl, lit<, arith, if◌then◌else◌, List, [], ◌∷◌, nat_lt}
+use Rattle.std.proofs.Common.{◌≡◌, ◌+◌, ◌-◌, ℕ, Bool, true, false, refl, lit<, arith, if◌then◌else◌}
+use Rattle.std.proofs.Common.{List, [], ◌∷◌, nat_lt}
 use Rattle.std.proofs.lemmas.Bool.Decides.{nat_tests}
 use Rattle.par_lexer.specs.declared.operator.BinOp.{BinOp}
 use Rattle.par_grammar.specs.Grammar.{name}
@@ -128,7 +129,8 @@ choices_light : (n : Names) → AllLight weight solid (solid n) (weight n) (g.ch
 choices_light g.Program = tt
 choices_light g.Decls = tt
 choices_light g.MoreDecls = (lit< tt, tt)
-choices_light g.Decl = ((lit< tt, refl), ((lit< tt, refl), ((lit< tt, refl), ((lit< tt, refl), tt))))
+choices_light g.Decl =
+    ((lit< tt, refl), ((lit< tt, refl), ((lit< tt, refl), ((lit< tt, refl), tt))))
 choices_light g.Idents = tt
 choices_light g.MoreIdents = (lit< tt, tt)
 choices_light g.Arity = (lit< tt, tt)
@@ -153,7 +155,8 @@ choices_light g.AnyType = ((lit< tt, refl), ((lit< tt, refl), ((lit< tt, refl), 
 choices_light g.MayPolicy = (lit< tt, tt)
 choices_light g.Policy = tt
 choices_light g.MoreTerms = (lit< tt, tt)
-choices_light g.Term = ((lit< tt, refl), ((lit< tt, refl), ((lit< tt, refl), ((lit< tt, refl), tt))))
+choices_light g.Term =
+    ((lit< tt, refl), ((lit< tt, refl), ((lit< tt, refl), ((lit< tt, refl), tt))))
 choices_light g.Clauses = (lit< tt, tt)
 choices_light g.MoreClauses = (lit< tt, tt)
 choices_light g.Clause = tt
@@ -165,7 +168,49 @@ choices_light g.SecondIdent = (lit< tt, tt)
 choices_light g.Block = ((lit< tt, refl), tt)
 choices_light g.Stmts = tt
 choices_light g.MoreStmts = (lit< tt, tt)
-choices_light g.Stmt = ((lit< tt, refl), ((lit< tt, refl), ((lit< tt, refl), ((lit< tt, refl), ((lit< tt, refl), ((lit< tt, refl), ((lit< tt, refl), ((lit< tt, refl), ((lit< tt, refl), ((lit< tt, refl), ((lit< tt, refl), ((lit< tt, refl), ((lit< tt, refl), ((lit< tt, refl), ((lit< tt, refl), ((lit< tt, refl), ((lit< tt, refl), tt)))))))))))))))))
+choices_light g.Stmt = (
+  (lit< tt, refl),
+  (
+    (lit< tt, refl),
+    (
+      (lit< tt, refl),
+      (
+        (lit< tt, refl),
+        (
+          (lit< tt, refl),
+          (
+            (lit< tt, refl),
+            (
+              (lit< tt, refl),
+              (
+                (lit< tt, refl),
+                (
+                  (lit< tt, refl),
+                  (
+                    (lit< tt, refl),
+                    (
+                      (lit< tt, refl),
+                      (
+                        (lit< tt, refl),
+                        (
+                          (lit< tt, refl),
+                          (
+                            (lit< tt, refl),
+                            ((lit< tt, refl), ((lit< tt, refl), ((lit< tt, refl), tt))),
+                          ),
+                        ),
+                      ),
+                    ),
+                  ),
+                ),
+              ),
+            ),
+          ),
+        ),
+      ),
+    ),
+  ),
+)
 choices_light g.If = ((lit< tt, refl), tt)
 choices_light g.ElsePart = (lit< tt, tt)
 choices_light g.Else = ((lit< tt, refl), ((lit< tt, refl), tt))
@@ -176,14 +221,27 @@ choices_light g.MoreCatches = (lit< tt, tt)
 choices_light g.Catch = tt
 choices_light g.MayValue = (lit< tt, tt)
 choices_light g.LocalTail = tt
-choices_light g.NameTail = ((lit< tt, refl), ((lit< tt, refl), ((lit< tt, refl), ((lit< tt, refl), tt))))
+choices_light g.NameTail =
+    ((lit< tt, refl), ((lit< tt, refl), ((lit< tt, refl), ((lit< tt, refl), tt))))
 choices_light g.AfterThis = ((lit< tt, refl), tt)
 choices_light g.Chain = ((lit< tt, refl), ((lit< tt, refl), ((lit< tt, refl), tt)))
 choices_light g.CallTail = ((lit< tt, refl), tt)
 choices_light (g.Level line) = tt
 choices_light (g.More line) = operations_light line (operators line)
 choices_light g.Unary = ((lit< tt, refl), ((lit< tt, refl), tt))
-choices_light g.Primary = ((lit< tt, refl), ((lit< tt, refl), ((lit< tt, refl), ((lit< tt, refl), ((lit< tt, refl), ((lit< tt, refl), ((lit< tt, refl), ((lit< tt, refl), tt))))))))
+choices_light g.Primary = (
+  (lit< tt, refl),
+  (
+    (lit< tt, refl),
+    (
+      (lit< tt, refl),
+      (
+        (lit< tt, refl),
+        ((lit< tt, refl), ((lit< tt, refl), ((lit< tt, refl), ((lit< tt, refl), tt)))),
+      ),
+    ),
+  ),
+)
 choices_light g.Tail = (lit< tt, tt)
 choices_light g.Selected = (lit< tt, tt)
 choices_light g.Callee = (lit< tt, tt)

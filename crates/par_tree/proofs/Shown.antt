@@ -6,23 +6,31 @@ use Rattle.par_lexer.specs.declared.operator.BinOp.{BinOp}
 use Rattle.par_tree.specs.declared.ident.Ident.{Ident}
 use Rattle.par_tree.specs.declared.policy.LockTree.{LockTree}
 use Rattle.par_tree.specs.declared.expr.Expr.{Expr}
-use Rattle.par_tree.specs.declared.expr.ExprKind.{ExprKind, Field', Call', Neg', Not', Binary', back-ExprKind-Call-0}
-use Rattle.par_tree.specs.declared.expr.ExprKind.{Row_of-Expr, end_of-Expr, more_of-Expr, items-the_row-Expr, items_hidden-the_row-Expr-0}
+use Rattle.par_tree.specs.declared.expr.ExprKind.{ExprKind, Field', Call', Neg', Not', Binary'}
+use Rattle.par_tree.specs.declared.expr.ExprKind.{back-ExprKind-Call-0}
+use Rattle.par_tree.specs.declared.expr.ExprKind.{Row_of-Expr, end_of-Expr, more_of-Expr}
+use Rattle.par_tree.specs.declared.expr.ExprKind.{items-the_row-Expr, items_hidden-the_row-Expr-0}
 use Rattle.par_tree.specs.declared.expr.ExprKind.TheBlock.{hidden-the_row-Expr-0}
 use Rattle.par_tree.specs.declared.expr.ExprKind.TheVariants as expr
 use Rattle.par_tree.specs.declared.stmt.LocalDecl.{LocalDecl}
 use Rattle.par_tree.specs.declared.stmt.Stmt.{Stmt}
-use Rattle.par_tree.specs.declared.stmt.CatchTree.{CatchTree, out-CatchTree, roll-CatchTree, roll-out-CatchTree}
+use Rattle.par_tree.specs.declared.stmt.CatchTree.{CatchTree, out-CatchTree, roll-CatchTree}
+use Rattle.par_tree.specs.declared.stmt.CatchTree.{roll-out-CatchTree}
 use Rattle.par_tree.specs.declared.stmt.Block.{Block, out-Block, roll-Block, roll-out-Block}
-use Rattle.par_tree.specs.declared.stmt.Block.{Row_of-Stmt, end_of-Stmt, more_of-Stmt, items-the_row-Stmt, items_hidden-the_row-Stmt-1}
-use Rattle.par_tree.specs.declared.stmt.StmtKind.TheBlock.{hidden-the_row-Stmt-1, hidden-the_row-CatchTree-0}
+use Rattle.par_tree.specs.declared.stmt.Block.{Row_of-Stmt, end_of-Stmt, more_of-Stmt}
+use Rattle.par_tree.specs.declared.stmt.Block.{items-the_row-Stmt, items_hidden-the_row-Stmt-1}
+use Rattle.par_tree.specs.declared.stmt.StmtKind.TheBlock.{hidden-the_row-Stmt-1}
+use Rattle.par_tree.specs.declared.stmt.StmtKind.TheBlock.{hidden-the_row-CatchTree-0}
 use Rattle.par_tree.specs.declared.stmt.StmtKind.{back-StmtKind-If-2, back-StmtKind-When-2}
-use Rattle.par_tree.specs.declared.stmt.StmtKind.{Row_of-CatchTree, end_of-CatchTree, more_of-CatchTree, items-the_row-CatchTree, items_hidden-the_row-CatchTree-0}
+use Rattle.par_tree.specs.declared.stmt.StmtKind.{Row_of-CatchTree, end_of-CatchTree}
+use Rattle.par_tree.specs.declared.stmt.StmtKind.{more_of-CatchTree, items-the_row-CatchTree}
+use Rattle.par_tree.specs.declared.stmt.StmtKind.{items_hidden-the_row-CatchTree-0}
 use Rattle.par_tree.specs.declared.stmt.StmtKind.TheVariants as stmt
 use Rattle.par_tree.specs.Plain as plain
 use Rattle.par_tree.specs.Plain.{with_exp, with_sta, with_catch, place}
 use Rattle.par_tree.specs.Shown.{kind_at, held, rows, shown, may_shown, receiver, all_shown, local}
-use Rattle.par_tree.specs.Shown.{does_at, braces, else_of, when_else, stmt_rows, catch_rows, handler}
+use Rattle.par_tree.specs.Shown.{does_at, braces, else_of, when_else, stmt_rows, catch_rows}
+use Rattle.par_tree.specs.Shown.{handler}
 use Rattle.par_tree.specs.Shown.{does, otherwise, may_braces, all_do, all_catch}
 
 -- expressions
@@ -79,11 +87,13 @@ shown_call o m es at =
     ap (λ x. plain.Call x m (rows (hidden-the_row-Expr-0 es)) at) (held_is o)
     ∙ ap (λ x. plain.Call (receiver o) m x at) (row_is es)
 
-pub shown_neg : (b : Box Expr Global) (at : ℕ) → kind_at (expr.Neg b) at ≡ plain.Neg (shown b.value) at
+pub shown_neg : (b : Box Expr Global) (at : ℕ)
+    → kind_at (expr.Neg b) at ≡ plain.Neg (shown b.value) at
 unfolding kind_at
 shown_neg b at = refl
 
-pub shown_not : (b : Box Expr Global) (at : ℕ) → kind_at (expr.Not b) at ≡ plain.Not (shown b.value) at
+pub shown_not : (b : Box Expr Global) (at : ℕ)
+    → kind_at (expr.Not b) at ≡ plain.Not (shown b.value) at
 unfolding kind_at
 shown_not b at = refl
 
@@ -108,12 +118,26 @@ shown_place (Not' p k a) at = refl
 shown_place (Binary' op p j a q k b) at = refl
 
 -- one more argument behind the last
-pub all_with : (es : List Expr) (e : Expr) → all_shown (es ++ e ∷ []) ≡ with_exp (all_shown es) (shown e)
+pub all_with : (es : List Expr) (e : Expr)
+    → all_shown (es ++ e ∷ []) ≡ with_exp (all_shown es) (shown e)
 unfolding with_exp
 all_with [] e = refl
 all_with (x ∷ es) e = ap (λ xs. plain.More (shown x) xs) (all_with es e)
 
-pub ruleset shows = (shown_int, shown_true, shown_false, shown_null, shown_this, shown_new, shown_name, shown_field, shown_call, shown_neg, shown_not, shown_binary)
+pub ruleset shows = (
+  shown_int,
+  shown_true,
+  shown_false,
+  shown_null,
+  shown_this,
+  shown_new,
+  shown_name,
+  shown_field,
+  shown_call,
+  shown_neg,
+  shown_not,
+  shown_binary,
+)
 
 -- statements
 stmt_row_items : {m : _} (row : Row_of-Stmt m) → stmt_rows row ≡ all_do (items-the_row-Stmt m row)
@@ -122,18 +146,24 @@ stmt_row_items end_of-Stmt = refl
 stmt_row_items (more_of-Stmt k a row) = ap (λ ss. plain.Then (does_at k a) ss) (stmt_row_items row)
 
 stmt_row_is : (ss : List Stmt) → stmt_rows (hidden-the_row-Stmt-1 ss) ≡ all_do ss
-stmt_row_is ss = stmt_row_items (hidden-the_row-Stmt-1 ss) ∙ ap all_do (items_hidden-the_row-Stmt-1 ss)
+stmt_row_is ss =
+    stmt_row_items (hidden-the_row-Stmt-1 ss) ∙ ap all_do (items_hidden-the_row-Stmt-1 ss)
 
-catch_row_items : {m : _} (row : Row_of-CatchTree m) → catch_rows row ≡ all_catch (items-the_row-CatchTree m row)
+catch_row_items : {m : _} (row : Row_of-CatchTree m)
+    → catch_rows row ≡ all_catch (items-the_row-CatchTree m row)
 unfolding catch_rows
 catch_row_items end_of-CatchTree = refl
-catch_row_items (more_of-CatchTree c row) = ap (λ cs. plain.Catch (handler c) cs) (catch_row_items row)
+catch_row_items (more_of-CatchTree c row) =
+    ap (λ cs. plain.Catch (handler c) cs) (catch_row_items row)
 
 catch_row_is : (cs : List CatchTree) → catch_rows (hidden-the_row-CatchTree-0 cs) ≡ all_catch cs
-catch_row_is cs = catch_row_items (hidden-the_row-CatchTree-0 cs) ∙ ap all_catch (items_hidden-the_row-CatchTree-0 cs)
+catch_row_is cs =
+    catch_row_items (hidden-the_row-CatchTree-0 cs)
+    ∙ ap all_catch (items_hidden-the_row-CatchTree-0 cs)
 
 -- a block that is made of its statements and its place
-pub braces_roll : (ss : List Stmt) (at : ℕ) → braces (roll-Block (record { stmts = ss; at = at })) ≡ plain.In (all_do ss) at
+pub braces_roll : (ss : List Stmt) (at : ℕ)
+    → braces (roll-Block (record { stmts = ss; at = at })) ≡ plain.In (all_do ss) at
 unfolding braces roll-Block denote.Hole.Carrier.roll
 braces_roll ss at = ap (λ x. plain.In x at) (stmt_row_is ss)
 
@@ -149,8 +179,11 @@ handler_roll c n b = refl
 
 -- a catch is its two names and its block
 pub handler_is : (c : CatchTree)
-    → handler c ≡ plain.On (out-CatchTree c).class (out-CatchTree c).name (braces (out-CatchTree c).body)
-handler_is c = ap handler (sym (roll-out-CatchTree c)) ∙ handler_roll (out-CatchTree c).class (out-CatchTree c).name (out-CatchTree c).body
+    → handler c ≡ plain.On (out-CatchTree c).class (out-CatchTree c).name
+    (braces (out-CatchTree c).body)
+handler_is c =
+    ap handler (sym (roll-out-CatchTree c))
+    ∙ handler_roll (out-CatchTree c).class (out-CatchTree c).name (out-CatchTree c).body
 
 else_is : (o : Option (Box Stmt Global)) → else_of (back-StmtKind-If-2 o) ≡ otherwise o
 unfolding else_of
@@ -181,7 +214,8 @@ pub does_try : (b : Block) (cs : List CatchTree) (at : ℕ)
 unfolding does_at
 does_try b cs at = ap (λ x. plain.Try (braces b) x at) (catch_row_is cs)
 
-pub does_return : (o : Option Expr) (at : ℕ) → does_at (stmt.Return o) at ≡ plain.Return (may_shown o) at
+pub does_return : (o : Option Expr) (at : ℕ)
+    → does_at (stmt.Return o) at ≡ plain.Return (may_shown o) at
 unfolding does_at
 does_return o at = refl
 
@@ -224,15 +258,34 @@ unfolding does_at
 does_when lock b o at = ap (λ x. plain.When lock (braces b) x at) (when_is o)
 
 -- one more statement behind the last
-pub all_do_with : (ss : List Stmt) (s : Stmt) → all_do (ss ++ s ∷ []) ≡ with_sta (all_do ss) (does s)
+pub all_do_with : (ss : List Stmt) (s : Stmt)
+    → all_do (ss ++ s ∷ []) ≡ with_sta (all_do ss) (does s)
 unfolding with_sta
 all_do_with [] s = refl
 all_do_with (x ∷ ss) s = ap (λ xs. plain.Then (does x) xs) (all_do_with ss s)
 
 -- one more catch behind the last
-pub all_catch_with : (cs : List CatchTree) (c : CatchTree) → all_catch (cs ++ c ∷ []) ≡ with_catch (all_catch cs) (handler c)
+pub all_catch_with : (cs : List CatchTree) (c : CatchTree)
+    → all_catch (cs ++ c ∷ []) ≡ with_catch (all_catch cs) (handler c)
 unfolding with_catch
 all_catch_with [] c = refl
 all_catch_with (x ∷ cs) c = ap (λ xs. plain.Catch (handler x) xs) (all_catch_with cs c)
 
-pub ruleset doings = (braces_is, handler_is, does_block, does_if, does_while, does_try, does_return, does_break, does_continue, does_throw, does_open, does_close, does_local, does_assign, does_call, does_when)
+pub ruleset doings = (
+  braces_is,
+  handler_is,
+  does_block,
+  does_if,
+  does_while,
+  does_try,
+  does_return,
+  does_break,
+  does_continue,
+  does_throw,
+  does_open,
+  does_close,
+  does_local,
+  does_assign,
+  does_call,
+  does_when,
+)

@@ -1,5 +1,6 @@
 -- The grammar of Paragon, a line a name.
-use Rattle.std.specs.Prelude.{ℕ, ◌+◌, nat_lt, nat_eq, if◌then◌else◌, List, [], ◌∷◌, Option, Some, None}
+use Rattle.std.specs.Prelude.{ℕ, ◌+◌, nat_lt, nat_eq, if◌then◌else◌, List, [], ◌∷◌, Option, Some}
+use Rattle.std.specs.Prelude.{None}
 use Rattle.par_grammar.specs.declared.sort.Sort.{Sort}
 use Rattle.par_grammar.specs.declared.sort.Sort.TheVariants as sort
 use Rattle.par_grammar.specs.Grammar.{Symbol, Choice, token, kept, finish, counts, restarts, enters}
@@ -203,7 +204,8 @@ on_word w symbols = on (sort.Word w) symbols
 abbrev pub on_sign : ℕ → Symbols → Choice Names Builders
 on_sign s symbols = on (sort.Sign s) symbols
 
--- The lines of operators, each with its signs. Line 0 binds least, and each line groups to the left.
+-- The lines of operators, each with its signs. Line 0 binds least, and each line groups to the
+-- left.
 abbrev pub operators : ℕ → List (ℕ × BinOp)
 operators line =
     if nat_eq line 0 then (sign.OR_ELSE, op.Or) ∷ []
@@ -226,7 +228,8 @@ lines = 10
 
 abbrev pub operation : ℕ → ℕ × BinOp → Symbols
 operation line row =
-    counts ∷ the_sign row.0 ∷ name (Level (line + 1)) ∷ builds (Binary row.1) ∷ name (More line) ∷ []
+    counts ∷ the_sign row.0 ∷ name (Level (line + 1)) ∷ builds (Binary row.1)
+    ∷ name (More line) ∷ []
 
 abbrev pub operations : ℕ → List (ℕ × BinOp) → List (Choice Names Builders)
 operations line [] = []
@@ -247,9 +250,11 @@ selecting follows = counts ∷ sign_ sign.DOT ∷ ident ∷ name follows ∷ []
 abbrev pub choices : Names → List (Choice Names Builders)
 choices MoreDecls = on sort.End [] ∷ []
 choices Decl =
-    on_word word.ACTOR (word_ word.ACTOR ∷ name Idents ∷ sign_ sign.SEMICOLON ∷ builds ActorsDecl ∷ [])
+    on_word word.ACTOR (word_ word.ACTOR ∷ name Idents ∷ sign_ sign.SEMICOLON
+    ∷ builds ActorsDecl ∷ [])
     ∷ on_word word.LOCK
-    (word_ word.LOCK ∷ ident ∷ name Arity ∷ name MayPolicy ∷ sign_ sign.SEMICOLON ∷ builds LockDecl ∷ [])
+    (word_ word.LOCK ∷ ident ∷ name Arity ∷ name MayPolicy ∷ sign_ sign.SEMICOLON
+    ∷ builds LockDecl ∷ [])
     ∷ on_word word.POLICY
     (word_ word.POLICY ∷ ident ∷ sign_ sign.ASSIGN ∷ name Policy ∷ sign_ sign.SEMICOLON
     ∷ builds PolicyDecl ∷ [])
@@ -276,7 +281,8 @@ choices PlainMember =
     (word_ word.INPUT ∷ word_ word.INT ∷ ident ∷ sign_ sign.LEFT_PAREN ∷ sign_ sign.RIGHT_PAREN
     ∷ sign_ sign.SEMICOLON ∷ builds InputChannel ∷ [])
     ∷ on_word word.OUTPUT
-    (word_ word.OUTPUT ∷ word_ word.VOID ∷ ident ∷ sign_ sign.LEFT_PAREN ∷ word_ word.INT ∷ token sort.Name
+    (word_ word.OUTPUT ∷ word_ word.VOID ∷ ident ∷ sign_ sign.LEFT_PAREN ∷ word_ word.INT
+    ∷ token sort.Name
     ∷ sign_ sign.RIGHT_PAREN ∷ sign_ sign.SEMICOLON ∷ builds OutputChannel ∷ []) ∷ []
 choices MayStatic = on_word word.STATIC (word_ word.STATIC ∷ builds IsStatic ∷ []) ∷ []
 choices StaticMember =
@@ -284,7 +290,8 @@ choices StaticMember =
 choices TypedTail = on_sign sign.SEMICOLON (sign_ sign.SEMICOLON ∷ builds Field ∷ []) ∷ []
 choices Params = on_sign sign.RIGHT_PAREN (builds NoParams ∷ []) ∷ []
 choices MoreParams =
-    on_sign sign.COMMA (sign_ sign.COMMA ∷ name Param ∷ builds NextParam ∷ name MoreParams ∷ []) ∷ []
+    on_sign sign.COMMA (sign_ sign.COMMA ∷ name Param ∷ builds NextParam ∷ name MoreParams ∷ [])
+    ∷ []
 choices MayNotnull = on_word word.NOTNULL (word_ word.NOTNULL ∷ builds IsNotnull ∷ []) ∷ []
 choices MoreEffects =
     on_sign sign.BANG (sign_ sign.BANG ∷ name Policy ∷ builds NextWrite ∷ name MoreEffects ∷ [])
@@ -297,7 +304,8 @@ choices AnyType =
     on_word word.INT (the_word word.INT ∷ builds IntType ∷ [])
     ∷ on_word word.BOOLEAN (the_word word.BOOLEAN ∷ builds BooleanType ∷ [])
     ∷ on sort.Name (ident ∷ builds ClassType ∷ []) ∷ []
-choices MayPolicy = on_sign sign.QUESTION (sign_ sign.QUESTION ∷ name Policy ∷ builds SomePolicy ∷ []) ∷ []
+choices MayPolicy =
+    on_sign sign.QUESTION (sign_ sign.QUESTION ∷ name Policy ∷ builds SomePolicy ∷ []) ∷ []
 choices MoreTerms =
     on_sign sign.STAR (sign_ sign.STAR ∷ name Term ∷ builds NextTerm ∷ name MoreTerms ∷ []) ∷ []
 choices Term =
@@ -311,7 +319,8 @@ choices Clauses =
 choices MoreClauses =
     on_sign sign.SEMICOLON
     (sign_ sign.SEMICOLON ∷ name Clause ∷ builds NextClause ∷ name MoreClauses ∷ []) ∷ []
-choices Needs = on sort.Name (builds NoLocks ∷ name Lock ∷ builds NextLock ∷ name MoreNeeds ∷ []) ∷ []
+choices Needs =
+    on sort.Name (builds NoLocks ∷ name Lock ∷ builds NextLock ∷ name MoreNeeds ∷ []) ∷ []
 choices MoreNeeds =
     on_sign sign.COMMA (sign_ sign.COMMA ∷ name Lock ∷ builds NextLock ∷ name MoreNeeds ∷ []) ∷ []
 choices LockActors =
@@ -328,21 +337,26 @@ choices Stmt =
     on_sign sign.LEFT_BRACE (name Block ∷ builds BlockStmt ∷ [])
     ∷ on_word word.IF (name If ∷ [])
     ∷ on_word word.WHILE
-    (the_word word.WHILE ∷ sign_ sign.LEFT_PAREN ∷ restarts ∷ expr ∷ sign_ sign.RIGHT_PAREN ∷ name Block
+    (the_word word.WHILE ∷ sign_ sign.LEFT_PAREN ∷ restarts ∷ expr ∷ sign_ sign.RIGHT_PAREN
+    ∷ name Block
     ∷ builds WhileStmt ∷ [])
     ∷ on_word word.TRY (the_word word.TRY ∷ name Block ∷ name Catches ∷ builds TryStmt ∷ [])
     ∷ on_word word.WHEN
     (the_word word.WHEN ∷ sign_ sign.LEFT_PAREN ∷ name Lock ∷ sign_ sign.RIGHT_PAREN ∷ name Block
     ∷ name WhenElse ∷ builds WhenStmt ∷ [])
     ∷ on_word word.RETURN
-    (the_word word.RETURN ∷ restarts ∷ name MayValue ∷ sign_ sign.SEMICOLON ∷ builds ReturnStmt ∷ [])
+    (the_word word.RETURN ∷ restarts ∷ name MayValue ∷ sign_ sign.SEMICOLON
+    ∷ builds ReturnStmt ∷ [])
     ∷ on_word word.BREAK (the_word word.BREAK ∷ sign_ sign.SEMICOLON ∷ builds BreakStmt ∷ [])
-    ∷ on_word word.CONTINUE (the_word word.CONTINUE ∷ sign_ sign.SEMICOLON ∷ builds ContinueStmt ∷ [])
+    ∷ on_word word.CONTINUE (the_word word.CONTINUE ∷ sign_ sign.SEMICOLON
+    ∷ builds ContinueStmt ∷ [])
     ∷ on_word word.THROW
     (the_word word.THROW ∷ word_ word.NEW ∷ ident ∷ sign_ sign.LEFT_PAREN ∷ sign_ sign.RIGHT_PAREN
     ∷ sign_ sign.SEMICOLON ∷ builds ThrowStmt ∷ [])
-    ∷ on_word word.OPEN (the_word word.OPEN ∷ name Lock ∷ sign_ sign.SEMICOLON ∷ builds OpenStmt ∷ [])
-    ∷ on_word word.CLOSE (the_word word.CLOSE ∷ name Lock ∷ sign_ sign.SEMICOLON ∷ builds CloseStmt ∷ [])
+    ∷ on_word word.OPEN (the_word word.OPEN ∷ name Lock ∷ sign_ sign.SEMICOLON
+    ∷ builds OpenStmt ∷ [])
+    ∷ on_word word.CLOSE (the_word word.CLOSE ∷ name Lock ∷ sign_ sign.SEMICOLON
+    ∷ builds CloseStmt ∷ [])
     ∷ on_sign sign.QUESTION (name MayPolicy ∷ name MayNotnull ∷ name AnyType ∷ name LocalTail ∷ [])
     ∷ on_word word.NOTNULL (builds NoPolicy ∷ name MayNotnull ∷ name AnyType ∷ name LocalTail ∷ [])
     ∷ on_word word.INT (builds NoPolicy ∷ builds MayBeNull ∷ name AnyType ∷ name LocalTail ∷ [])
@@ -351,7 +365,8 @@ choices Stmt =
     ∷ on_word word.THIS (restarts ∷ the_word word.THIS ∷ builds ThisExpr ∷ name AfterThis ∷ []) ∷ []
 choices If =
     on_word word.IF
-    (the_word word.IF ∷ sign_ sign.LEFT_PAREN ∷ restarts ∷ expr ∷ sign_ sign.RIGHT_PAREN ∷ name Block
+    (the_word word.IF ∷ sign_ sign.LEFT_PAREN ∷ restarts ∷ expr ∷ sign_ sign.RIGHT_PAREN
+    ∷ name Block
     ∷ name ElsePart ∷ builds IfStmt ∷ []) ∷ []
 choices ElsePart = on_word word.ELSE (word_ word.ELSE ∷ name Else ∷ builds SomeElse ∷ []) ∷ []
 choices Else =
@@ -359,7 +374,8 @@ choices Else =
     ∷ on_word word.IF (restarts ∷ enters ∷ name If ∷ leaves ∷ []) ∷ []
 choices WhenElse = on_word word.ELSE (word_ word.ELSE ∷ name ElseBlock ∷ builds SomeBlock ∷ []) ∷ []
 choices ElseBlock = on_sign sign.LEFT_BRACE (restarts ∷ enters ∷ name Block ∷ leaves ∷ []) ∷ []
-choices MoreCatches = on_word word.CATCH (name Catch ∷ builds NextCatch ∷ name MoreCatches ∷ []) ∷ []
+choices MoreCatches =
+    on_word word.CATCH (name Catch ∷ builds NextCatch ∷ name MoreCatches ∷ []) ∷ []
 choices MayValue = on_sign sign.SEMICOLON (builds NoValue ∷ []) ∷ []
 choices NameTail =
     on sort.Name
@@ -389,7 +405,8 @@ choices Primary =
     ∷ on sort.Name (ident ∷ name Callee ∷ [])
     ∷ on_sign sign.LEFT_PAREN
     (counts ∷ sign_ sign.LEFT_PAREN ∷ expr ∷ sign_ sign.RIGHT_PAREN ∷ []) ∷ []
-choices Tail = on_sign sign.DOT (counts ∷ sign_ sign.DOT ∷ ident ∷ name Selected ∷ name Tail ∷ []) ∷ []
+choices Tail =
+    on_sign sign.DOT (counts ∷ sign_ sign.DOT ∷ ident ∷ name Selected ∷ name Tail ∷ []) ∷ []
 choices Selected = on_sign sign.LEFT_PAREN (name Args ∷ builds CallOn ∷ []) ∷ []
 choices Callee = on_sign sign.LEFT_PAREN (name Args ∷ builds CallOwn ∷ []) ∷ []
 choices Created =
@@ -399,7 +416,8 @@ choices Args =
     on_sign sign.LEFT_PAREN
     (counts ∷ sign_ sign.LEFT_PAREN ∷ name ArgList ∷ sign_ sign.RIGHT_PAREN ∷ []) ∷ []
 choices ArgList = on_sign sign.RIGHT_PAREN (builds NoArgs ∷ []) ∷ []
-choices MoreArgs = on_sign sign.COMMA (sign_ sign.COMMA ∷ expr ∷ builds NextArg ∷ name MoreArgs ∷ []) ∷ []
+choices MoreArgs =
+    on_sign sign.COMMA (sign_ sign.COMMA ∷ expr ∷ builds NextArg ∷ name MoreArgs ∷ []) ∷ []
 choices _ = []
 
 -- what a name is replaced by where the next token chooses none of its choices
@@ -412,7 +430,8 @@ otherwise MoreIdents = Some []
 otherwise Arity = Some (builds (OfArity 0) ∷ [])
 otherwise SecondActor = Some (builds (OfArity 1) ∷ [])
 otherwise ClassTail =
-    Some (name MayPolicy ∷ sign_ sign.LEFT_BRACE ∷ name Members ∷ sign_ sign.RIGHT_BRACE ∷ builds ClassDecl ∷ [])
+    Some (name MayPolicy ∷ sign_ sign.LEFT_BRACE ∷ name Members ∷ sign_ sign.RIGHT_BRACE
+    ∷ builds ClassDecl ∷ [])
 otherwise Members = Some (builds NoMembers ∷ name MoreMembers ∷ [])
 otherwise MoreMembers = Some (name Member ∷ name MoreMembers ∷ [])
 otherwise Member = Some (builds NoPolicy ∷ name PlainMember ∷ [])
@@ -426,7 +445,8 @@ otherwise Method =
     ∷ builds NextMethod ∷ [])
 otherwise Params = Some (builds NoParams ∷ name Param ∷ builds NextParam ∷ name MoreParams ∷ [])
 otherwise MoreParams = Some []
-otherwise Param = Some (name MayPolicy ∷ name MayNotnull ∷ name AnyType ∷ ident ∷ builds OneParam ∷ [])
+otherwise Param =
+    Some (name MayPolicy ∷ name MayNotnull ∷ name AnyType ∷ ident ∷ builds OneParam ∷ [])
 otherwise MayNotnull = Some (builds MayBeNull ∷ [])
 otherwise Effects = Some (builds NoEffects ∷ name MoreEffects ∷ [])
 otherwise MoreEffects = Some []
@@ -448,11 +468,13 @@ otherwise WhenElse = Some (builds NoBlock ∷ [])
 otherwise Catches = Some (builds NoCatches ∷ name Catch ∷ builds NextCatch ∷ name MoreCatches ∷ [])
 otherwise MoreCatches = Some []
 otherwise Catch =
-    Some (word_ word.CATCH ∷ sign_ sign.LEFT_PAREN ∷ ident ∷ ident ∷ sign_ sign.RIGHT_PAREN ∷ name Block
+    Some (word_ word.CATCH ∷ sign_ sign.LEFT_PAREN ∷ ident ∷ ident ∷ sign_ sign.RIGHT_PAREN
+    ∷ name Block
     ∷ builds OneCatch ∷ [])
 otherwise MayValue = Some (expr ∷ builds SomeValue ∷ [])
 otherwise LocalTail =
-    Some (ident ∷ sign_ sign.ASSIGN ∷ restarts ∷ expr ∷ sign_ sign.SEMICOLON ∷ builds LocalStmt ∷ [])
+    Some (ident ∷ sign_ sign.ASSIGN ∷ restarts ∷ expr ∷ sign_ sign.SEMICOLON
+    ∷ builds LocalStmt ∷ [])
 otherwise CallTail = Some (the_sign sign.SEMICOLON ∷ builds CallStmt ∷ [])
 otherwise (Level line) = Some (level line)
 otherwise (More line) = Some []

@@ -1,4 +1,5 @@
--- The tree of a source as plain data: no pointers, and lists of their own where a tree holds itself.
+-- The tree of a source as plain data: no pointers, and lists of their own where a tree holds
+-- itself.
 use Rattle.std.specs.Prelude.{ℕ, Bool, List, Option}
 use Rattle.par_lexer.specs.declared.operator.BinOp.{BinOp}
 use Rattle.par_tree.specs.declared.ident.Ident.{Ident}

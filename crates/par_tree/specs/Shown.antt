@@ -9,17 +9,22 @@ use Rattle.par_tree.specs.declared.expr.ExprKind.{Held-ExprKind-Call-0, None', S
 use Rattle.par_tree.specs.declared.stmt.LocalDecl.{LocalDecl}
 use Rattle.par_tree.specs.declared.stmt.Stmt.{Stmt}
 use Rattle.par_tree.specs.declared.stmt.CatchTree.{CatchTree, CatchTree'}
-use Rattle.par_tree.specs.declared.stmt.Block.{Block, Block', Row_of-Stmt, end_of-Stmt, more_of-Stmt}
+use Rattle.par_tree.specs.declared.stmt.Block.{Block, Block', Row_of-Stmt, end_of-Stmt}
+use Rattle.par_tree.specs.declared.stmt.Block.{more_of-Stmt}
 use Rattle.par_tree.specs.declared.stmt.StmtKind as stmt
-use Rattle.par_tree.specs.declared.stmt.StmtKind.{StmtKind, Row_of-CatchTree, end_of-CatchTree, more_of-CatchTree}
-use Rattle.par_tree.specs.declared.stmt.StmtKind.{Held-StmtKind-If-2, StmtKind-If-2-None', StmtKind-If-2-Some'}
-use Rattle.par_tree.specs.declared.stmt.StmtKind.{Held-StmtKind-When-2, StmtKind-When-2-None', StmtKind-When-2-Some'}
+use Rattle.par_tree.specs.declared.stmt.StmtKind.{StmtKind, Row_of-CatchTree, end_of-CatchTree}
+use Rattle.par_tree.specs.declared.stmt.StmtKind.{more_of-CatchTree}
+use Rattle.par_tree.specs.declared.stmt.StmtKind.{Held-StmtKind-If-2, StmtKind-If-2-None'}
+use Rattle.par_tree.specs.declared.stmt.StmtKind.{StmtKind-If-2-Some'}
+use Rattle.par_tree.specs.declared.stmt.StmtKind.{Held-StmtKind-When-2, StmtKind-When-2-None'}
+use Rattle.par_tree.specs.declared.stmt.StmtKind.{StmtKind-When-2-Some'}
 use Rattle.par_tree.specs.declared.decl.MethodDecl.{MethodDecl}
 use Rattle.par_tree.specs.declared.decl.ClassDecl.{ClassDecl}
 use Rattle.par_tree.specs.declared.decl.Decl.{Decl}
 use Rattle.par_tree.specs.declared.decl.Decl.TheVariants as decl
 use Rattle.par_tree.specs.declared.decl.Program.{Program}
-use Rattle.par_tree.specs.Plain.{Exp, Exps, MayExp, Local, Sta, Stas, Braces, MayBraces, Else, Catches, Handler}
+use Rattle.par_tree.specs.Plain.{Exp, Exps, MayExp, Local, Sta, Stas, Braces, MayBraces, Else}
+use Rattle.par_tree.specs.Plain.{Catches, Handler}
 use Rattle.par_tree.specs.Plain.{Method, Class, Declaration, Source}
 use Rattle.par_tree.specs.Plain as plain
 
@@ -63,7 +68,8 @@ all_shown [] = plain.NoExps
 all_shown (e ∷ es) = plain.More (shown e) (all_shown es)
 
 abbrev pub local : LocalDecl → Local
-local l = record { id = l.id; ty = l.ty; policy = l.policy; notnull = l.notnull; value = shown l.value }
+local l =
+    record { id = l.id; ty = l.ty; policy = l.policy; notnull = l.notnull; value = shown l.value }
 
 unfoldable mutual
   pub does_at : StmtKind → ℕ → Sta

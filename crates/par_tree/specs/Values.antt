@@ -18,8 +18,10 @@ use Rattle.par_tree.specs.declared.decl.ChannelDecl.{ChannelDecl}
 use Rattle.par_tree.specs.declared.decl.ParamDecl.{ParamDecl}
 use Rattle.par_tree.specs.declared.decl.ThrowDecl.{ThrowDecl}
 use Rattle.par_tree.specs.Plain as plain
-use Rattle.par_tree.specs.Plain.{Exp, Exps, MayExp, Sta, Stas, Braces, In, MayBraces, Else, Catches, Handler}
-use Rattle.par_tree.specs.Plain.{Local, Method, Class, Declaration, Source, place, with_exp, with_sta, with_catch}
+use Rattle.par_tree.specs.Plain.{Exp, Exps, MayExp, Sta, Stas, Braces, In, MayBraces, Else, Catches}
+use Rattle.par_tree.specs.Plain.{Handler}
+use Rattle.par_tree.specs.Plain.{Local, Method, Class, Declaration, Source, place, with_exp}
+use Rattle.par_tree.specs.Plain.{with_sta, with_catch}
 use Rattle.par_tree.specs.Grammar.{Names, Builders, choices, otherwise}
 use Rattle.par_tree.specs.Grammar as g
 
@@ -373,7 +375,8 @@ local_stmt vs = vs
 
 -- a local of a class, with no policy and no `notnull`
 abbrev pub class_local : Values → Values
-class_local (exp e ∷ tok y ∷ tok x ∷ vs) = sta (declared y (type_tree.Class (ident x)) None false e) ∷ vs
+class_local (exp e ∷ tok y ∷ tok x ∷ vs) =
+    sta (declared y (type_tree.Class (ident x)) None false e) ∷ vs
 class_local vs = vs
 
 abbrev pub assign_stmt : Values → Values

@@ -136,7 +136,22 @@ unfolding with_exp
 all_with [] e = refl
 all_with (x ∷ es) e = ap (λ xs. plain.More (shown x) xs) (all_with es e)
 
-pub ruleset shows = (shown_int, shown_bool, shown_null, shown_this, shown_new, shown_local, shown_static, shown_field, shown_input, shown_output, shown_call, shown_neg, shown_not, shown_binary)
+pub ruleset shows = (
+  shown_int,
+  shown_bool,
+  shown_null,
+  shown_this,
+  shown_new,
+  shown_local,
+  shown_static,
+  shown_field,
+  shown_input,
+  shown_output,
+  shown_call,
+  shown_neg,
+  shown_not,
+  shown_binary,
+)
 
 -- statements
 stmt_row_items : {n : _} (row : Row_of-TStmt n) → stmt_rows row ≡ all_do (items-the_row-TStmt n row)
@@ -284,4 +299,20 @@ unfolding with_catch
 all_catch_with [] c = refl
 all_catch_with (x ∷ cs) c = ap (λ xs. plain.Catch x.class (does x.body) xs) (all_catch_with cs c)
 
-pub ruleset doings = (does_block, does_if, does_while, does_try, does_return, does_break, does_continue, does_throw, does_open, does_close, does_set_local, does_set_static, does_set_field, does_eval, does_when)
+pub ruleset doings = (
+  does_block,
+  does_if,
+  does_while,
+  does_try,
+  does_return,
+  does_break,
+  does_continue,
+  does_throw,
+  does_open,
+  does_close,
+  does_set_local,
+  does_set_static,
+  does_set_field,
+  does_eval,
+  does_when,
+)

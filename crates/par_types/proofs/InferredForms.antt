@@ -57,4 +57,14 @@ pub all_inferred_more : (d : Declaration) (ds : Source) →
 unfolding all_inferred
 all_inferred_more d ds = refl
 
-pub ruleset finds = (fields_inferred_end, fields_inferred_more, declaration_inferred_actors, declaration_inferred_lock, declaration_inferred_policy, declaration_inferred_declared, all_inferred_end, all_inferred_more, firsts)
+pub ruleset finds = (
+  fields_inferred_end,
+  fields_inferred_more,
+  declaration_inferred_actors,
+  declaration_inferred_lock,
+  declaration_inferred_policy,
+  declaration_inferred_declared,
+  all_inferred_end,
+  all_inferred_more,
+  firsts,
+)

@@ -1,5 +1,6 @@
 -- The broken rules of each list of members and declarations, as a pass finds them.
-use Rattle.std.proofs.Common.{◌≡◌, ℕ, ◌+◌, ◌<◌, ◌≤◌, ◌++◌, List, [], ◌∷◌, Option, Some, None, length, get_or, drop, refl, ap}
+use Rattle.std.proofs.Common.{◌≡◌, ℕ, ◌+◌, ◌<◌, ◌≤◌, ◌++◌, List, [], ◌∷◌, Option, Some, None}
+use Rattle.std.proofs.Common.{length, get_or, drop, refl, ap}
 use Rattle.par_tree.specs.declared.ident.Ident.{Ident}
 use Rattle.par_tree.specs.declared.types.TypeTree.{TypeTree}
 use Rattle.par_tree.specs.declared.decl.LockDecl.{LockDecl}
@@ -18,7 +19,8 @@ use Rattle.par_scope.specs.Names.{Names}
 use Rattle.par_scope.specs.Locals.{Scope, declared}
 use Rattle.par_scope.specs.Home.{Home, class_named}
 use Rattle.par_types.specs.Stmts.{type_fault, throw_fault}
-use Rattle.par_types.specs.Methods.{with_params, param_slot, params_faults, throws_faults, fields_faults, result_fault}
+use Rattle.par_types.specs.Methods.{with_params, param_slot, params_faults, throws_faults}
+use Rattle.par_types.specs.Methods.{fields_faults, result_fault}
 use Rattle.par_types.specs.Methods.{home_of, method_faults, methods_faults, class_faults}
 use Rattle.par_types.specs.Program.{declaration_faults, declarations_faults}
 
@@ -88,7 +90,8 @@ pub methods_faults_end : (table : Table) (names : Names) (class : ℕ) →
 unfolding methods_faults
 methods_faults_end table names class = refl
 
-pub methods_faults_more : (table : Table) (names : Names) (class : ℕ) (m : Method) (ms : List Method) →
+pub methods_faults_more : (table : Table) (names : Names) (class : ℕ) (m : Method)
+    (ms : List Method) →
     methods_faults table names class (m ∷ ms)
     ≡ (method_faults table names class m ++ methods_faults table names class ms)
 unfolding methods_faults
@@ -102,7 +105,8 @@ class_faults_none table names c = refl
 
 pub class_faults_some : (table : Table) (names : Names) (class : ℕ) (c : Class) →
     class_faults table names (Some class) c
-    ≡ (fields_faults (home_of table names class None) c.fields ++ methods_faults table names class c.methods)
+    ≡ (fields_faults (home_of table names class None) c.fields
+    ++ methods_faults table names class c.methods)
 unfolding class_faults
 class_faults_some table names class c = refl
 
@@ -136,16 +140,40 @@ pub declarations_faults_end : (table : Table) (names : Names) →
 unfolding declarations_faults
 declarations_faults_end table names = refl
 
-pub declarations_faults_more : (table : Table) (names : Names) (d : Declaration) (ds : List Declaration) →
+pub declarations_faults_more : (table : Table) (names : Names) (d : Declaration)
+    (ds : List Declaration) →
     declarations_faults table names (d ∷ ds)
     ≡ (declaration_faults table names d ++ declarations_faults table names ds)
 unfolding declarations_faults
 declarations_faults_more table names d ds = refl
 
-pub ruleset found_in = (with_params_end, with_params_more, params_faults_end, params_faults_more, throws_faults_end, throws_faults_more, fields_faults_end, fields_faults_more, result_fault_none, result_fault_some, methods_faults_end, methods_faults_more, class_faults_none, class_faults_some, declaration_faults_actors, declaration_faults_lock, declaration_faults_policy, declaration_faults_declared, declarations_faults_end, declarations_faults_more, firsts)
+pub ruleset found_in = (
+  with_params_end,
+  with_params_more,
+  params_faults_end,
+  params_faults_more,
+  throws_faults_end,
+  throws_faults_more,
+  fields_faults_end,
+  fields_faults_more,
+  result_fault_none,
+  result_fault_some,
+  methods_faults_end,
+  methods_faults_more,
+  class_faults_none,
+  class_faults_some,
+  declaration_faults_actors,
+  declaration_faults_lock,
+  declaration_faults_policy,
+  declaration_faults_declared,
+  declarations_faults_end,
+  declarations_faults_more,
+  firsts,
+)
 
 -- what is left of the methods and of the declarations
-pub methods_left : (ms : List MethodDecl) (i : ℕ) (m : MethodDecl) → i < length ms → m ≡ get_or ms i m
+pub methods_left : (ms : List MethodDecl) (i : ℕ) (m : MethodDecl) → i < length ms
+    → m ≡ get_or ms i m
     → tree.methods (drop i ms) ≡ tree.method m ∷ tree.methods (drop (i + 1) ms)
 methods_left ms i m lt is = ap tree.methods (left_more ms i m lt is)
 

@@ -1,14 +1,17 @@
 -- The broken rules of each form of statement, as a pass finds them.
-use Rattle.std.proofs.Common.{◌≡◌, ℕ, ◌+◌, ◌≤◌, ◌++◌, List, [], ◌∷◌, Bool, true, false, not, length, take, refl, ap, ◌∙◌, arith}
+use Rattle.std.proofs.Common.{◌≡◌, ℕ, ◌+◌, ◌≤◌, ◌++◌, List, [], ◌∷◌, Bool, true, false, not, length}
+use Rattle.std.proofs.Common.{take, refl, ap, ◌∙◌, arith}
 use Rattle.std.proofs.lemmas.List.{take-append-le, length-take, take_all}
 use Rattle.par_tree.specs.declared.ident.Ident.{Ident}
 use Rattle.par_tree.specs.declared.policy.LockTree.{LockTree}
 use Rattle.par_tree.specs.declared.stmt.StmtKind as stmt
 use Rattle.par_tree.specs.declared.stmt.StmtKind.{StmtKind}
 use Rattle.par_tree.specs.Plain.{Exp, MayExp, Local}
-use Rattle.par_tree.specs.Plain.{Sta, Block, If, While, Try, Return, Break, Continue, Throw, Open, Close}
+use Rattle.par_tree.specs.Plain.{Sta, Block, If, While, Try, Return, Break, Continue, Throw, Open}
+use Rattle.par_tree.specs.Plain.{Close}
 use Rattle.par_tree.specs.Plain.{Declare, Assign, Do, When, Braces, In, MayBraces, NoBraces}
-use Rattle.par_tree.specs.Plain.{Else, NoElse, Otherwise, Stas, End, Then, Catches, NoCatch, Catch, Handler, On}
+use Rattle.par_tree.specs.Plain.{Else, NoElse, Otherwise, Stas, End, Then, Catches, NoCatch, Catch}
+use Rattle.par_tree.specs.Plain.{Handler, On}
 use Rattle.par_tree.specs.Plain as plain
 use Rattle.par_tree.specs.Shown.{does_at}
 use Rattle.par_tree.proofs.Shown.{doings, shows}
@@ -18,8 +21,10 @@ use Rattle.par_completes.specs.Completes.{completes}
 use Rattle.par_scope.specs.Locals.{Scope, declared}
 use Rattle.par_scope.specs.Home.{Home}
 use Rattle.par_types.specs.Exprs.{expr_faults}
-use Rattle.par_types.specs.Stmts.{stmt_place, test_faults, throw_fault, result_faults, local_faults, assign_faults, slot_of}
-use Rattle.par_types.specs.Stmts.{stmt_faults, braces_faults, may_braces_faults, else_faults, stmts_faults}
+use Rattle.par_types.specs.Stmts.{stmt_place, test_faults, throw_fault, result_faults, local_faults}
+use Rattle.par_types.specs.Stmts.{assign_faults, slot_of}
+use Rattle.par_types.specs.Stmts.{stmt_faults, braces_faults, may_braces_faults, else_faults}
+use Rattle.par_types.specs.Stmts.{stmts_faults}
 use Rattle.par_types.specs.Stmts.{catches_faults, handler_faults, declares}
 use Rattle.par_types.specs.Kept.{IsKept}
 
@@ -101,7 +106,8 @@ pub declares_do : (home : Home) (call : Exp) (at : ℕ) (scope : Scope) →
 unfolding declares
 declares_do home call at scope = refl
 
-pub declares_when : (home : Home) (lock : LockTree) (b : Braces) (o : MayBraces) (at : ℕ) (scope : Scope) →
+pub declares_when : (home : Home) (lock : LockTree) (b : Braces) (o : MayBraces) (at : ℕ)
+    (scope : Scope) →
     declares home (When lock b o at) scope
     ≡ (scope)
 unfolding declares
@@ -113,19 +119,23 @@ pub stmt_faults_block : (home : Home) (looped : Bool) (scope : Scope) (b : Brace
 unfolding stmt_faults
 stmt_faults_block home looped scope b at = refl
 
-pub stmt_faults_if : (home : Home) (looped : Bool) (scope : Scope) (e : Exp) (b : Braces) (o : Else) (at : ℕ) →
+pub stmt_faults_if : (home : Home) (looped : Bool) (scope : Scope) (e : Exp) (b : Braces)
+    (o : Else) (at : ℕ) →
     stmt_faults home looped scope (If e b o at)
-    ≡ (test_faults home scope e ++ braces_faults home looped scope b ++ else_faults home looped scope o)
+    ≡ (test_faults home scope e ++ braces_faults home looped scope b
+    ++ else_faults home looped scope o)
 unfolding stmt_faults
 stmt_faults_if home looped scope e b o at = refl
 
-pub stmt_faults_while : (home : Home) (looped : Bool) (scope : Scope) (e : Exp) (b : Braces) (at : ℕ) →
+pub stmt_faults_while : (home : Home) (looped : Bool) (scope : Scope) (e : Exp)
+    (b : Braces) (at : ℕ) →
     stmt_faults home looped scope (While e b at)
     ≡ (test_faults home scope e ++ braces_faults home true scope b)
 unfolding stmt_faults
 stmt_faults_while home looped scope e b at = refl
 
-pub stmt_faults_try : (home : Home) (looped : Bool) (scope : Scope) (b : Braces) (cs : Catches) (at : ℕ) →
+pub stmt_faults_try : (home : Home) (looped : Bool) (scope : Scope) (b : Braces)
+    (cs : Catches) (at : ℕ) →
     stmt_faults home looped scope (Try b cs at)
     ≡ (braces_faults home looped scope b ++ catches_faults home looped scope cs)
 unfolding stmt_faults
@@ -173,7 +183,8 @@ pub stmt_faults_declare : (home : Home) (looped : Bool) (scope : Scope) (local :
 unfolding stmt_faults
 stmt_faults_declare home looped scope local at = refl
 
-pub stmt_faults_assign : (home : Home) (looped : Bool) (scope : Scope) (target : Exp) (value : Exp) (at : ℕ) →
+pub stmt_faults_assign : (home : Home) (looped : Bool) (scope : Scope) (target : Exp)
+    (value : Exp) (at : ℕ) →
     stmt_faults home looped scope (Assign target value at)
     ≡ (assign_faults home scope target value)
 unfolding stmt_faults
@@ -185,7 +196,8 @@ pub stmt_faults_do : (home : Home) (looped : Bool) (scope : Scope) (call : Exp) 
 unfolding stmt_faults
 stmt_faults_do home looped scope call at = refl
 
-pub stmt_faults_when : (home : Home) (looped : Bool) (scope : Scope) (lock : LockTree) (b : Braces) (o : MayBraces) (at : ℕ) →
+pub stmt_faults_when : (home : Home) (looped : Bool) (scope : Scope) (lock : LockTree) (b : Braces)
+    (o : MayBraces) (at : ℕ) →
     stmt_faults home looped scope (When lock b o at)
     ≡ (braces_faults home looped scope b ++ may_braces_faults home looped scope o)
 unfolding stmt_faults
@@ -227,9 +239,11 @@ pub stmts_faults_end : (home : Home) (looped : Bool) (scope : Scope) (reached : 
 unfolding stmt_faults
 stmts_faults_end home looped scope reached = refl
 
-pub stmts_faults_then : (home : Home) (looped : Bool) (scope : Scope) (reached : Bool) (s : Sta) (ss : Stas) →
+pub stmts_faults_then : (home : Home) (looped : Bool) (scope : Scope) (reached : Bool) (s : Sta)
+    (ss : Stas) →
     stmts_faults home looped scope reached (Then s ss)
-    ≡ (when (not reached) (broken 204 (stmt_place s)) ++ stmt_faults home looped scope s ++ stmts_faults home looped (declares home s scope) (completes s) ss)
+    ≡ (when (not reached) (broken 204 (stmt_place s)) ++ stmt_faults home looped scope s
+    ++ stmts_faults home looped (declares home s scope) (completes s) ss)
 unfolding stmt_faults
 stmts_faults_then home looped scope reached s ss = refl
 
@@ -239,13 +253,15 @@ pub catches_faults_nocatch : (home : Home) (looped : Bool) (scope : Scope) →
 unfolding stmt_faults
 catches_faults_nocatch home looped scope = refl
 
-pub catches_faults_catch : (home : Home) (looped : Bool) (scope : Scope) (c : Handler) (cs : Catches) →
+pub catches_faults_catch : (home : Home) (looped : Bool) (scope : Scope) (c : Handler)
+    (cs : Catches) →
     catches_faults home looped scope (Catch c cs)
     ≡ (handler_faults home looped scope c ++ catches_faults home looped scope cs)
 unfolding stmt_faults
 catches_faults_catch home looped scope c cs = refl
 
-pub handler_faults_on : (home : Home) (looped : Bool) (scope : Scope) (class : Ident) (name : Ident) (b : Braces) →
+pub handler_faults_on : (home : Home) (looped : Bool) (scope : Scope) (class : Ident) (name : Ident)
+    (b : Braces) →
     handler_faults home looped scope (On class name b)
     ≡ (throw_fault home class ++ braces_faults home looped scope b)
 unfolding stmt_faults
@@ -268,16 +284,61 @@ does_place (stmt.Assign target value) at = refl
 does_place (stmt.Call e) at = refl
 does_place (stmt.When' lock b o) at = refl
 
-pub ruleset found_in = (declares_block, declares_if, declares_while, declares_try, declares_return, declares_break, declares_continue, declares_throw, declares_open, declares_close, declares_declare, declares_assign, declares_do, declares_when, stmt_faults_block, stmt_faults_if, stmt_faults_while, stmt_faults_try, stmt_faults_return, stmt_faults_break, stmt_faults_continue, stmt_faults_throw, stmt_faults_open, stmt_faults_close, stmt_faults_declare, stmt_faults_assign, stmt_faults_do, stmt_faults_when, braces_faults_in, may_braces_faults_nobraces, may_braces_faults_some, else_faults_noelse, else_faults_otherwise, stmts_faults_end, stmts_faults_then, catches_faults_nocatch, catches_faults_catch, handler_faults_on, does_place, shows, doings, firsts)
+pub ruleset found_in = (
+  declares_block,
+  declares_if,
+  declares_while,
+  declares_try,
+  declares_return,
+  declares_break,
+  declares_continue,
+  declares_throw,
+  declares_open,
+  declares_close,
+  declares_declare,
+  declares_assign,
+  declares_do,
+  declares_when,
+  stmt_faults_block,
+  stmt_faults_if,
+  stmt_faults_while,
+  stmt_faults_try,
+  stmt_faults_return,
+  stmt_faults_break,
+  stmt_faults_continue,
+  stmt_faults_throw,
+  stmt_faults_open,
+  stmt_faults_close,
+  stmt_faults_declare,
+  stmt_faults_assign,
+  stmt_faults_do,
+  stmt_faults_when,
+  braces_faults_in,
+  may_braces_faults_nobraces,
+  may_braces_faults_some,
+  else_faults_noelse,
+  else_faults_otherwise,
+  stmts_faults_end,
+  stmts_faults_then,
+  catches_faults_nocatch,
+  catches_faults_catch,
+  handler_faults_on,
+  does_place,
+  shows,
+  doings,
+  firsts,
+)
 
-longer : {X : Type 0} (xs old : List X) (x : X) → take (length old) xs ≡ old → take (length old) (xs ++ x ∷ []) ≡ old
+longer : {X : Type 0} (xs old : List X) (x : X) → take (length old) xs ≡ old
+    → take (length old) (xs ++ x ∷ []) ≡ old
 longer xs old x kept =
     let same : length (take (length old) xs) ≡ length old = ap length kept in
     let le : length old ≤ length xs = omega (arith, length-take (length old) xs, same) in
     take-append-le (length old) xs _ le ∙ kept
 
 -- what was in scope stays there
-pub declares_keeps : (home : Home) (s : Sta) (old scope : Scope) → IsKept old scope → IsKept old (declares home s scope)
+pub declares_keeps : (home : Home) (s : Sta) (old scope : Scope) → IsKept old scope
+    → IsKept old (declares home s scope)
 unfolding declares
 declares_keeps home (Block b at) old scope kept = kept
 declares_keeps home (If e b o at) old scope kept = kept

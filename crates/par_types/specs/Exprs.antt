@@ -1,8 +1,10 @@
 -- The rules on types in expressions.
-use Rattle.std.specs.Prelude.{ℕ, ◌+◌, Bool, true, false, not, ◌&&◌, ◌||◌, nat_eq, nat_lt, List, [], ◌∷◌, ◌++◌, Option, Some, None}
+use Rattle.std.specs.Prelude.{ℕ, ◌+◌, Bool, true, false, not, ◌&&◌, ◌||◌, nat_eq, nat_lt, List, []}
+use Rattle.std.specs.Prelude.{◌∷◌, ◌++◌, Option, Some, None}
 use Rattle.std.specs.Option.{is_some}
 use Rattle.par_tree.specs.declared.ident.Ident.{Ident}
-use Rattle.par_tree.specs.Plain.{Exp, Int, True, False, Null, This, New, Name, Field, Call, Neg, Not, Binary}
+use Rattle.par_tree.specs.Plain.{Exp, Int, True, False, Null, This, New, Name, Field, Call, Neg}
+use Rattle.par_tree.specs.Plain.{Not, Binary}
 use Rattle.par_tree.specs.Plain.{Exps, NoExps, More, MayExp, Absent, Present, place}
 use Rattle.par_typed.specs.declared.ty.Ty.{Ty}
 use Rattle.par_typed.specs.declared.ty.Ty.TheVariants as ty
@@ -16,7 +18,8 @@ use Rattle.par_scope.specs.declared.meaning.Callee.TheVariants.{Unknown, Channel
 use Rattle.par_scope.specs.Locals.{Scope}
 use Rattle.par_scope.specs.Home.{Home, class_named}
 use Rattle.par_scope.specs.Members.{is_exception, any_value, value_of}
-use Rattle.par_scope.specs.Meaning.{type_of, called_on, receiver_of, selected, called, arity, param_at, sure, place_type, callee_type}
+use Rattle.par_scope.specs.Meaning.{type_of, called_on, receiver_of, selected, called, arity}
+use Rattle.par_scope.specs.Meaning.{param_at, sure, place_type, callee_type}
 use Rattle.par_types.specs.Fits.{are_alike, operand, suits}
 use Rattle.par_types.specs.declared.exprs.TheConstants.{TOO_LARGE}
 

@@ -1,8 +1,10 @@
 -- Where no rule on types is broken, numbers are ints where they stand.
-use Rattle.std.proofs.Common.{◌≡◌, ℕ, ◌+◌, Bool, true, false, not, nat_lt, List, [], ◌∷◌, ◌++◌, refl, arith}
+use Rattle.std.proofs.Common.{◌≡◌, ℕ, ◌+◌, Bool, true, false, not, nat_lt, List, [], ◌∷◌, ◌++◌}
+use Rattle.std.proofs.Common.{refl, arith}
 use Rattle.std.specs.Option.{is_some}
 use Rattle.par_tree.specs.Plain as plain
-use Rattle.par_tree.specs.Plain.{Exp, Exps, MayExp, Sta, Stas, Braces, In, MayBraces, Else, Catches, Catch, NoCatch, Handler, On, Local}
+use Rattle.par_tree.specs.Plain.{Exp, Exps, MayExp, Sta, Stas, Braces, In, MayBraces, Else, Catches}
+use Rattle.par_tree.specs.Plain.{Catch, NoCatch, Handler, On, Local}
 use Rattle.par_typed.specs.declared.ty.Ty.TheVariants as ty
 use Rattle.par_typed.specs.declared.refusal.Refusal.{Refusal}
 use Rattle.par_typed.specs.First.{when, broken}
@@ -11,13 +13,24 @@ use Rattle.par_scope.specs.declared.meaning.Callee.{Callee}
 use Rattle.par_scope.specs.Locals.{Scope}
 use Rattle.par_scope.specs.Home.{Home}
 use Rattle.par_scope.specs.Members.{any_value, value_of}
-use Rattle.par_scope.specs.Meaning.{type_of, called_on, receiver_of, selected, called, arity, param_at}
+use Rattle.par_scope.specs.Meaning.{type_of, called_on, receiver_of, selected, called, arity}
+use Rattle.par_scope.specs.Meaning.{param_at}
 use Rattle.par_types.specs.Fits.{is_void, operand, suits}
-use Rattle.par_types.specs.Exprs.{is_number, unless_number, member_fault, count_fault, is_known, how_many, misfit, expr_faults, receiver_faults, args_faults, value_faults}
-use Rattle.par_types.specs.Stmts.{stmt_place, type_fault, throw_fault, test_faults, slot_of, target_slot, result_slot, local_faults, assign_faults, result_faults, declares, stmt_faults, braces_faults, may_braces_faults, else_faults, stmts_faults, catches_faults, handler_faults}
+use Rattle.par_types.specs.Exprs.{is_number, unless_number, member_fault, count_fault, is_known}
+use Rattle.par_types.specs.Exprs.{how_many, misfit, expr_faults, receiver_faults, args_faults}
+use Rattle.par_types.specs.Exprs.{value_faults}
+use Rattle.par_types.specs.Stmts.{stmt_place, type_fault, throw_fault, test_faults, slot_of}
+use Rattle.par_types.specs.Stmts.{target_slot, result_slot, local_faults, assign_faults}
+use Rattle.par_types.specs.Stmts.{result_faults, declares, stmt_faults, braces_faults}
+use Rattle.par_types.specs.Stmts.{may_braces_faults, else_faults, stmts_faults, catches_faults}
+use Rattle.par_types.specs.Stmts.{handler_faults}
 use Rattle.par_annotate.specs.Exprs.{number_of}
-use Rattle.par_annotated.specs.Ints.{one_unless, no_ints, may_no_ints, args_no_ints, stmt_no_ints, braces_no_ints, may_braces_no_ints, else_no_ints, all_no_ints, catches_no_ints, handler_no_ints}
-use Rattle.par_sources.specs.Numbers.{too_great, may_too_great, args_too_great, stmt_too_great, braces_too_great, may_braces_too_great, else_too_great, all_too_great, catches_too_great, handler_too_great}
+use Rattle.par_annotated.specs.Ints.{one_unless, no_ints, may_no_ints, args_no_ints, stmt_no_ints}
+use Rattle.par_annotated.specs.Ints.{braces_no_ints, may_braces_no_ints, else_no_ints, all_no_ints}
+use Rattle.par_annotated.specs.Ints.{catches_no_ints, handler_no_ints}
+use Rattle.par_sources.specs.Numbers.{too_great, may_too_great, args_too_great, stmt_too_great}
+use Rattle.par_sources.specs.Numbers.{braces_too_great, may_braces_too_great, else_too_great}
+use Rattle.par_sources.specs.Numbers.{all_too_great, catches_too_great, handler_too_great}
 
 -- ---- parts
 

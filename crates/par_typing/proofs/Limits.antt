@@ -1,5 +1,6 @@
 -- What the limits say of a source that breaks none.
-use Rattle.std.proofs.Common.{◌≡◌, ℕ, ◌<◌, ◌≤◌, Bool, true, false, not, List, [], ◌∷◌, ◌++◌, map, length, Option, Some, None, refl, sym, ap, subst, ◌∙◌, arith}
+use Rattle.std.proofs.Common.{◌≡◌, ℕ, ◌<◌, ◌≤◌, Bool, true, false, not, List, [], ◌∷◌, ◌++◌, map}
+use Rattle.std.proofs.Common.{length, Option, Some, None, refl, sym, ap, subst, ◌∙◌, arith}
 use Rattle.std.specs.Prelude.{nat_le, slice_get, sum_by}
 use Rattle.std.specs.List.{flat_map, AllByRecursion}
 use Rattle.std.proofs.lemmas.Bool.{leb-true}
@@ -22,8 +23,11 @@ use Rattle.par_resolved.specs.Numbered.{numbered, declared}
 use Rattle.par_resolved.specs.Policies.{known}
 use Rattle.par_resolved.specs.Sizes.{all_literal_faults, all_join_faults}
 use Rattle.par_declarations.specs.declared.limit.Limit.{Limit}
-use Rattle.par_declarations.specs.declared.limit.TheConstants.{CLASSES, MEMBERS, METHODS, NODES, CLASS_NODES, PARAMS, LOCALS}
-use Rattle.par_declarations.specs.Limits.{told, one_too_many, class_places, member_places, over, declared_limits, class_limits, method_limits, count_faults}
+use Rattle.par_declarations.specs.declared.limit.TheConstants.{CLASSES, MEMBERS, METHODS, NODES}
+use Rattle.par_declarations.specs.declared.limit.TheConstants.{CLASS_NODES, PARAMS, LOCALS}
+use Rattle.par_declarations.specs.Limits.{told, one_too_many, class_places, member_places, over}
+use Rattle.par_declarations.specs.Limits.{declared_limits, class_limits, method_limits}
+use Rattle.par_declarations.specs.Limits.{count_faults}
 use Rattle.par_declarations.specs.Locals.{method_locals}
 use Rattle.par_faults.specs.Faults.{where_none, policies_faults, limit_faults, all_faults}
 use Rattle.par_faults.proofs.Few as faults

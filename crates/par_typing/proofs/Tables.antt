@@ -1,5 +1,6 @@
 -- The table of a source that breaks no limit has few classes, members and policies.
-use Rattle.std.proofs.Common.{◌≡◌, ℕ, ◌+◌, ◌^◌, ◌<◌, List, [], ◌∷◌, map, length, take, drop, refl, arith}
+use Rattle.std.proofs.Common.{◌≡◌, ℕ, ◌+◌, ◌^◌, ◌<◌, List, [], ◌∷◌, map, length, take, drop, refl}
+use Rattle.std.proofs.Common.{arith}
 use Rattle.std.specs.Prelude.{codes, if◌then◌else◌, count_by}
 use Rattle.std.specs.List.{All, AllByRecursion}
 use Rattle.std.proofs.lemmas.List.{length-map, length-append, length-take, length-drop}
@@ -10,7 +11,8 @@ use Rattle.par_scope.specs.Names.{member_names, IsFewMembers, IsFewTable}
 use Rattle.par_names.specs.Declarations.{builtin, builtins, declared_classes, classes}
 use Rattle.par_resolved.specs.Policies.{known}
 use Rattle.par_resolved.specs.Numbered.{numbered}
-use Rattle.par_resolved.specs.Resolved.{Resolved, resolved, field_infos, channel_info, method_info, class_info, class_infos, table_of}
+use Rattle.par_resolved.specs.Resolved.{Resolved, resolved, field_infos, channel_info, method_info}
+use Rattle.par_resolved.specs.Resolved.{class_info, class_infos, table_of}
 use Rattle.par_declarations.specs.Limits.{in_order, earlier, member_places, class_limits}
 use Rattle.par_typing.proofs.Limits.{IsWithinLimits, ClassIsWithin, class_within}
 

@@ -1,5 +1,6 @@
 -- Written policies have the numbers of the table.
-use Rattle.std.proofs.Common.{◌≡◌, ℕ, ◌+◌, Bool, true, false, cond, List, [], ◌∷◌, ◌++◌, map, Some, None, refl, sym, ap, ◌∙◌}
+use Rattle.std.proofs.Common.{◌≡◌, ℕ, ◌+◌, Bool, true, false, cond, List, [], ◌∷◌, ◌++◌, map, Some}
+use Rattle.std.proofs.Common.{None, refl, sym, ap, ◌∙◌}
 use Rattle.std.proofs.Math.Path.{fun_ext}
 use Rattle.std.specs.Prelude.{fold, position, unwrap_or, if◌then◌else◌}
 use Rattle.std.specs.List.{AllByRecursion, list_any, position_from}
@@ -14,7 +15,10 @@ use Rattle.par_resolved.specs.declared.known.Known as code
 use Rattle.par_resolved.specs.Seen.{known_seen}
 use Rattle.par_resolved.specs.Numbers.{lock_number}
 use Rattle.par_resolved.specs.Policies.{Known, known, bottom, policy_of}
-use Rattle.par_resolved.specs.Numbered.{same_policy, by_place, written_entry, query_entries, birth_entry, declared, entries, with_new, distinct, inferred_fields, inferred_entry, shared_policies, policy_number}
+use Rattle.par_resolved.specs.Numbered.{same_policy, by_place, written_entry, query_entries}
+use Rattle.par_resolved.specs.Numbered.{birth_entry, declared, entries, with_new, distinct}
+use Rattle.par_resolved.specs.Numbered.{inferred_fields, inferred_entry, shared_policies}
+use Rattle.par_resolved.specs.Numbered.{policy_number}
 use Rattle.par_resolved.specs.Written as said
 use Rattle.par_resolved.specs.Resolved.{table_of}
 use Rattle.par_annotated.specs.Numbers.{written_in}

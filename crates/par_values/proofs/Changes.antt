@@ -1,10 +1,14 @@
 -- How much longer the operand list gets.
-use Rattle.std.proofs.Common.{◌≡◌, ℕ, ◌+◌, Bool, true, false, ℤ, pos, ◌+ℤ◌, ◌-ℤ◌, ◌∷◌, length, drop, Some, arith, refl, if◌then◌else◌}
+use Rattle.std.proofs.Common.{◌≡◌, ℕ, ◌+◌, Bool, true, false, ℤ, pos, ◌+ℤ◌, ◌-ℤ◌, ◌∷◌, length, drop}
+use Rattle.std.proofs.Common.{Some, arith, refl, if◌then◌else◌}
 use Rattle.std.proofs.lemmas.Bool.Decides.{nat_tests}
 use Rattle.std.proofs.lemmas.Grind.{common_steps}
 use Rattle.std.proofs.lemmas.Int.{ints}
 use Rattle.par_instr.specs.declared.instr.Instr.{Instr}
-use Rattle.par_instr.specs.declared.instr.Instr.TheVariants.{AconstNull, Ldc, LdcW, New, Getstatic, Putstatic, Getfield, Putfield, Invokevirtual, Invokespecial, Invokestatic}
+use Rattle.par_instr.specs.declared.instr.Instr.TheVariants.{AconstNull, Ldc, LdcW, New, Getstatic}
+use Rattle.par_instr.specs.declared.instr.Instr.TheVariants.{Putstatic, Getfield, Putfield}
+use Rattle.par_instr.specs.declared.instr.Instr.TheVariants.{Invokevirtual, Invokespecial}
+use Rattle.par_instr.specs.declared.instr.Instr.TheVariants.{Invokestatic}
 use Rattle.par_instr.specs.declared.instr.Instr.TheVariants as instr
 use Rattle.par_instr.specs.Spelling as stack
 use Rattle.par_values.specs.declared.value.MVal.{MVal}
@@ -14,9 +18,16 @@ use Rattle.par_values.specs.declared.link.Link.TheVariants as link
 use Rattle.par_values.specs.declared.link.FieldLink.{FieldLink}
 use Rattle.par_values.specs.Areas.{Name, Areas, operand, number_of}
 use Rattle.par_values.specs.Arithmetic.{divides_by_zero, compares}
-use Rattle.par_values.specs.Operations.{Push, PushNull, Load, Store, Discard, Copy, Combine, Negate, Increase, Jump, JumpIf, JumpIfBoth, JumpIfSame, JumpIfNull, GetStatic, PutStatic, GetField, PutField, InvokeStatic, InvokeSpecial, InvokeVirtual, Create, Throw, Leave, LeaveWith, Misnamed, constant, of_class, operation, takes, gives}
-use Rattle.par_values.specs.Effects.{Effect, Goes, Happens, Jumps, Throws, effect, jumps_if, field_read, field_written, created, thrown, comes, is_same}
-use Rattle.par_values.specs.Laws.{Onward, is_call, TakesAndGives, NoneOfMembers, ChangeIsGivenLessTaken, ChangeIsMade, LeavingTakes}
+use Rattle.par_values.specs.Operations.{Push, PushNull, Load, Store, Discard, Copy, Combine, Negate}
+use Rattle.par_values.specs.Operations.{Increase, Jump, JumpIf, JumpIfBoth, JumpIfSame, JumpIfNull}
+use Rattle.par_values.specs.Operations.{GetStatic, PutStatic, GetField, PutField, InvokeStatic}
+use Rattle.par_values.specs.Operations.{InvokeSpecial, InvokeVirtual, Create, Throw, Leave}
+use Rattle.par_values.specs.Operations.{LeaveWith, Misnamed, constant, of_class, operation, takes}
+use Rattle.par_values.specs.Operations.{gives}
+use Rattle.par_values.specs.Effects.{Effect, Goes, Happens, Jumps, Throws, effect, jumps_if}
+use Rattle.par_values.specs.Effects.{field_read, field_written, created, thrown, comes, is_same}
+use Rattle.par_values.specs.Laws.{Onward, is_call, TakesAndGives, NoneOfMembers}
+use Rattle.par_values.specs.Laws.{ChangeIsGivenLessTaken, ChangeIsMade, LeavingTakes}
 
 -- ---- what each operation takes and gives
 
@@ -24,11 +35,13 @@ use Rattle.par_values.specs.Laws.{Onward, is_call, TakesAndGives, NoneOfMembers,
 abbrev Moves : Areas → (taken given : ℕ) → Areas → Type 0
 Moves a taken given after = length after.operands + taken ≡ length a.operands + given
 
-jumps_either : (P : Areas → Type 0) (test : Bool) (to : ℤ) (a : Areas) → P a → Onward P (jumps_if test to a)
+jumps_either : (P : Areas → Type 0) (test : Bool) (to : ℤ) (a : Areas) → P a
+    → Onward P (jumps_if test to a)
 jumps_either P true to a holds = holds
 jumps_either P false to a holds = holds
 
-goes_unless : (P : Areas → Type 0) (fails : Bool) (class : Name) (a : Areas) → P a → Onward P (if fails then Throws class else Goes a)
+goes_unless : (P : Areas → Type 0) (fails : Bool) (class : Name) (a : Areas) → P a
+    → Onward P (if fails then Throws class else Goes a)
 goes_unless P true class a holds = tt
 goes_unless P false class a holds = holds
 
@@ -47,18 +60,23 @@ takes_gives classes (Store x kind) a call named has = grind (arith, nat_tests, c
 takes_gives classes Discard a call named has = grind (arith, nat_tests, common_steps)
 takes_gives classes Copy a call named has = grind (arith, nat_tests, common_steps)
 takes_gives classes (Combine operator) a call named has =
-    goes_unless (Moves a 2 1) (divides_by_zero operator (number_of (operand 0 a))) _ _ (grind (arith, nat_tests, common_steps))
+    goes_unless (Moves a 2 1) (divides_by_zero operator (number_of (operand 0 a))) _ _
+    (grind (arith, nat_tests, common_steps))
 takes_gives classes Negate a call named has = grind (arith, nat_tests, common_steps)
 takes_gives classes (Increase x by) a call named has = refl
 takes_gives classes (Jump to) a call named has = refl
 takes_gives classes (JumpIf test to) a call named has =
-    jumps_either (Moves a 1 0) (compares test (number_of (operand 0 a)) (pos 0)) to _ (grind (arith, nat_tests, common_steps))
+    jumps_either (Moves a 1 0) (compares test (number_of (operand 0 a)) (pos 0)) to _
+    (grind (arith, nat_tests, common_steps))
 takes_gives classes (JumpIfBoth test to) a call named has =
-    jumps_either (Moves a 2 0) (compares test (number_of (operand 1 a)) (number_of (operand 0 a))) to _ (grind (arith, nat_tests, common_steps))
+    jumps_either (Moves a 2 0) (compares test (number_of (operand 1 a)) (number_of (operand 0 a)))
+    to _ (grind (arith, nat_tests, common_steps))
 takes_gives classes (JumpIfSame same to) a call named has =
-    jumps_either (Moves a 2 0) (comes same (is_same (operand 1 a) (operand 0 a))) to _ (grind (arith, nat_tests, common_steps))
+    jumps_either (Moves a 2 0) (comes same (is_same (operand 1 a) (operand 0 a))) to _
+    (grind (arith, nat_tests, common_steps))
 takes_gives classes (JumpIfNull null to) a call named has =
-    jumps_either (Moves a 1 0) (comes null (is_same (operand 0 a) Null)) to _ (grind (arith, nat_tests, common_steps))
+    jumps_either (Moves a 1 0) (comes null (is_same (operand 0 a) Null)) to _
+    (grind (arith, nat_tests, common_steps))
 takes_gives classes (GetStatic f) a call named has = grind (arith, common_steps)
 takes_gives classes (PutStatic f) a call named has = grind (arith, nat_tests, common_steps)
 takes_gives classes (GetField f) a call named has =
@@ -92,14 +110,16 @@ takes_and_gives = takes_gives
 abbrev told : ℕ → ℕ → ℤ
 told given taken = pos given -ℤ pos taken
 
-constant_told : (l : Link) (change : ℤ) → Some (pos 1) ≡ Some change → change ≡ told (gives (constant l)) (length (takes (constant l)))
+constant_told : (l : Link) (change : ℤ) → Some (pos 1) ≡ Some change
+    → change ≡ told (gives (constant l)) (length (takes (constant l)))
 constant_told (link.Number v) change is = cc is
 constant_told (link.Field f) change is = cc is
 constant_told (link.Method m) change is = cc is
 constant_told (link.Class c) change is = cc is
 constant_told link.Other change is = cc is
 
-class_told : (l : Link) (change : ℤ) → Some (pos 1) ≡ Some change → change ≡ told (gives (of_class l)) (length (takes (of_class l)))
+class_told : (l : Link) (change : ℤ) → Some (pos 1) ≡ Some change
+    → change ≡ told (gives (of_class l)) (length (takes (of_class l)))
 class_told (link.Number v) change is = cc is
 class_told (link.Field f) change is = cc is
 class_told (link.Method m) change is = cc is
@@ -133,7 +153,8 @@ class_no_call (link.Method m) = refl
 class_no_call (link.Class c) = refl
 class_no_call link.Other = refl
 
-no_call : (names : ℕ → Link) (i : Instr) (change : ℤ) → stack.effect i ≡ Some change → is_call (operation names i) ≡ false
+no_call : (names : ℕ → Link) (i : Instr) (change : ℤ) → stack.effect i ≡ Some change
+    → is_call (operation names i) ≡ false
 no_call names (Ldc n) change is = constant_no_call (names n)
 no_call names (LdcW n) change is = constant_no_call (names n)
 no_call names (New n) change is = class_no_call (names n)
@@ -146,13 +167,15 @@ no_call names (Invokespecial n) change is = absurd (cc is)
 no_call names (Invokestatic n) change is = absurd (cc is)
 no_call names _ change is = refl
 
-onward-map : (P Q : Areas → Type 0) (e : Effect) → ((a : Areas) → P a → Q a) → Onward P e → Onward Q e
+onward-map : (P Q : Areas → Type 0) (e : Effect) → ((a : Areas) → P a → Q a) → Onward P e
+    → Onward Q e
 onward-map P Q (Goes a) each holds = each a holds
 onward-map P Q (Happens event a) each holds = each a holds
 onward-map P Q (Jumps to a) each holds = each a holds
 onward-map P Q _ each holds = tt
 
-longer : (after before taken given : ℕ) (change : ℤ) → change ≡ pos given -ℤ pos taken → after + taken ≡ before + given
+longer : (after before taken given : ℕ) (change : ℤ) → change ≡ pos given -ℤ pos taken
+    → after + taken ≡ before + given
     → pos after ≡ pos before +ℤ change
 longer after before taken given change is moves = omega (arith, ints)
 
@@ -161,7 +184,8 @@ change_is_made classes names i change a is named has =
     onward-map (Moves a (length (takes (operation names i))) (gives (operation names i)))
     (λ after. pos (length after.operands) ≡ pos (length a.operands) +ℤ change)
     (effect classes (operation names i) a)
-    (λ after moves. longer (length after.operands) (length a.operands) (length (takes (operation names i))) (gives (operation names i)) change
+    (λ after moves. longer (length after.operands) (length a.operands)
+    (length (takes (operation names i))) (gives (operation names i)) change
     (change_is_given_less_taken names i change is) moves)
     (takes_gives classes (operation names i) a (no_call names i change is) named has)
 

@@ -1,7 +1,8 @@
 -- Single instructions that the definitions are checked against: each reason by itself, which comes
 -- where several stand together, and what is done where none does.
 use Rattle.std.specs.Int.{int_wrap}
-use Rattle.std.proofs.Common.{◌≡◌, ℕ, ℤ, Bool, true, false, List, [], ◌∷◌, Option, Some, None, pos, negsuc, refl, codes}
+use Rattle.std.proofs.Common.{◌≡◌, ℕ, ℤ, Bool, true, false, List, [], ◌∷◌, Option, Some, None, pos}
+use Rattle.std.proofs.Common.{negsuc, refl, codes}
 use Rattle.par_values.specs.declared.value.MVal.{MVal}
 use Rattle.par_values.specs.declared.value.MVal.TheVariants.{Int, Null, Ref}
 use Rattle.par_values.specs.declared.kind.Kind.{Kind}
@@ -14,10 +15,16 @@ use Rattle.par_values.specs.declared.link.MethodLink.{MethodLink}
 use Rattle.par_values.specs.declared.link.Target.{Target}
 use Rattle.par_values.specs.declared.link.Target.TheVariants.{Input, Output, Code, Nothing}
 use Rattle.par_values.specs.declared.link.Link.TheVariants as link
-use Rattle.par_instr.specs.declared.instr.Instr.TheVariants.{AloadShort, IloadShort, Ldc, LdcW, Getstatic, Putstatic, Invokespecial, Invokestatic}
+use Rattle.par_instr.specs.declared.instr.Instr.TheVariants.{AloadShort, IloadShort, Ldc, LdcW}
+use Rattle.par_instr.specs.declared.instr.Instr.TheVariants.{Getstatic, Putstatic, Invokespecial}
+use Rattle.par_instr.specs.declared.instr.Instr.TheVariants.{Invokestatic}
 use Rattle.par_values.specs.Areas.{Name, Areas, next, first_locals, first_value, shown_value}
-use Rattle.par_values.specs.Arithmetic.{Plus, Minus, Quotient, Remainder, ShiftLeft, ShiftRight, ShiftRightUnsigned, Xor, combined}
-use Rattle.par_values.specs.Operations.{Operation, Push, Load, Store, Combine, Increase, Jump, JumpIf, JumpIfBoth, JumpIfSame, JumpIfNull, GetStatic, PutStatic, GetField, PutField, InvokeStatic, InvokeSpecial, Create, Throw, Leave, LeaveWith, Misnamed, operation}
+use Rattle.par_values.specs.Arithmetic.{Plus, Minus, Quotient, Remainder, ShiftLeft, ShiftRight}
+use Rattle.par_values.specs.Arithmetic.{ShiftRightUnsigned, Xor, combined}
+use Rattle.par_values.specs.Operations.{Operation, Push, Load, Store, Combine, Increase, Jump}
+use Rattle.par_values.specs.Operations.{JumpIf, JumpIfBoth, JumpIfSame, JumpIfNull, GetStatic}
+use Rattle.par_values.specs.Operations.{PutStatic, GetField, PutField, InvokeStatic, InvokeSpecial}
+use Rattle.par_values.specs.Operations.{Create, Throw, Leave, LeaveWith, Misnamed, operation}
 use Rattle.par_values.specs.Reasons.{Spot, reason}
 use Rattle.par_values.specs.Effects.{Effect, Goes, Happens, Jumps, Calls, Throws, effect}
 
@@ -26,21 +33,52 @@ abbrev classes : List Name
 classes = codes "A" ∷ codes "B" ∷ []
 
 abbrev plain : Spot
-plain = record { room = 2; stands = true; gives_nothing = true; result = Number; exceptions = []; is_lost = false; is_roomless = false }
+plain =
+    record {
+      room = 2;
+      stands = true;
+      gives_nothing = true;
+      result = Number;
+      exceptions = [];
+      is_lost = false;
+      is_roomless = false;
+    }
 
 abbrev areas : List (Option MVal) → List MVal → Areas
-areas locals operands = record { locals = locals; operands = operands; statics = Null ∷ Int (pos 7) ∷ []; objects = []; inputs = λ class name. pos 5 ∷ pos 6 ∷ [] }
+areas locals operands =
+    record {
+      locals = locals;
+      operands = operands;
+      statics = Null ∷ Int (pos 7) ∷ [];
+      objects = [];
+      inputs = λ class name. pos 5 ∷ pos 6 ∷ [];
+    }
 
 abbrev field : Bool → Kind → FieldLink
-field is_static kind = record { class = codes "A"; name = codes "f"; is_static = is_static; kind = kind; place = 1 }
+field is_static kind =
+    record { class = codes "A"; name = codes "f"; is_static = is_static; kind = kind; place = 1 }
 
 abbrev method : Bool → List Kind → Bool → Target → MethodLink
 method is_static takes gives target =
-    record { is_static = is_static; is_initializer = false; receiver = Object (codes "A"); takes = takes; gives = gives; target = target }
+    record {
+      is_static = is_static;
+      is_initializer = false;
+      receiver = Object (codes "A");
+      takes = takes;
+      gives = gives;
+      target = target;
+    }
 
 abbrev initializer : Bool → ℕ → MethodLink
 initializer is_static locals =
-    record { is_static = is_static; is_initializer = true; receiver = Object (codes "A"); takes = []; gives = false; target = Code 0 3 locals }
+    record {
+      is_static = is_static;
+      is_initializer = true;
+      receiver = Object (codes "A");
+      takes = [];
+      gives = false;
+      target = Code 0 3 locals;
+    }
 
 abbrev why : Operation → List (Option MVal) → List MVal → Option ℕ
 why o locals operands = reason classes plain o (areas locals operands)
@@ -63,7 +101,9 @@ of_another_class : why (InvokeSpecial (initializer false 1)) [] (Ref 1 0 ∷ [])
 unfolding reason effect
 of_another_class = refl
 
-arguments_swapped : why (InvokeStatic (method true (Number ∷ Object (codes "A") ∷ []) false (Code 0 0 2))) [] (Int (pos 1) ∷ Null ∷ []) ≡ Some 2
+arguments_swapped : why
+    (InvokeStatic (method true (Number ∷ Object (codes "A") ∷ []) false (Code 0 0 2))) []
+    (Int (pos 1) ∷ Null ∷ []) ≡ Some 2
 unfolding reason effect
 arguments_swapped = refl
 
@@ -111,11 +151,13 @@ static_initializer : why (InvokeSpecial (initializer true 1)) [] (Null ∷ []) �
 unfolding reason effect
 static_initializer = refl
 
-result_is_owed : reason classes (record plain { gives_nothing = false }) Leave (areas [] []) ≡ Some 8
+result_is_owed : reason classes (record plain { gives_nothing = false }) Leave (areas [] [])
+    ≡ Some 8
 unfolding reason effect
 result_is_owed = refl
 
-receiver_below_its_arguments : why (InvokeSpecial (method false (Number ∷ []) false (Code 0 0 2))) [] (Null ∷ Int (pos 1) ∷ []) ≡ Some 2
+receiver_below_its_arguments : why (InvokeSpecial (method false (Number ∷ []) false (Code 0 0 2)))
+    [] (Null ∷ Int (pos 1) ∷ []) ≡ Some 2
 unfolding reason effect
 receiver_below_its_arguments = refl
 
@@ -143,19 +185,23 @@ load_out_of_range : why (Load 1 Number) (Some (Int (pos 1)) ∷ []) [] ≡ Some 
 unfolding reason effect
 load_out_of_range = refl
 
-more_arguments_than_locals : why (InvokeStatic (method true (Number ∷ []) false (Code 0 0 0))) [] (Int (pos 1) ∷ []) ≡ Some 4
+more_arguments_than_locals : why (InvokeStatic (method true (Number ∷ []) false (Code 0 0 0))) []
+    (Int (pos 1) ∷ []) ≡ Some 4
 unfolding reason effect
 more_arguments_than_locals = refl
 
-no_room_for_a_result : why (InvokeStatic (method true [] true (Code 0 0 0))) [] (Null ∷ Null ∷ []) ≡ Some 3
+no_room_for_a_result : why (InvokeStatic (method true [] true (Code 0 0 0))) [] (Null ∷ Null ∷ [])
+    ≡ Some 3
 unfolding reason effect
 no_room_for_a_result = refl
 
-no_room_for_a_special_result : why (InvokeSpecial (method false [] true (Code 0 0 1))) [] (Null ∷ Null ∷ Null ∷ []) ≡ Some 3
+no_room_for_a_special_result : why (InvokeSpecial (method false [] true (Code 0 0 1))) []
+    (Null ∷ Null ∷ Null ∷ []) ≡ Some 3
 unfolding reason effect
 no_room_for_a_special_result = refl
 
-no_room_for_a_sum : reason classes (record plain { room = 0 }) (Combine Plus) (areas [] (Int (pos 1) ∷ Int (pos 2) ∷ [])) ≡ Some 3
+no_room_for_a_sum : reason classes (record plain { room = 0 }) (Combine Plus)
+    (areas [] (Int (pos 1) ∷ Int (pos 2) ∷ [])) ≡ Some 3
 unfolding reason effect
 no_room_for_a_sum = refl
 
@@ -173,7 +219,8 @@ write_of_a_field_of_an_object = refl
 
 -- ---- several together: the least is told, also before null is acted on
 
-missing_first : reason classes (record plain { stands = false }) (Misnamed 1 0) (areas [] []) ≡ Some 1
+missing_first : reason classes (record plain { stands = false }) (Misnamed 1 0) (areas [] [])
+    ≡ Some 1
 unfolding reason effect
 missing_first = refl
 
@@ -187,7 +234,8 @@ locals_before_null = refl
 
 -- ---- none
 
-result_in_place_of_an_argument : why (InvokeStatic (method true (Number ∷ []) true (Code 0 0 1))) [] (Int (pos 1) ∷ Null ∷ []) ≡ None
+result_in_place_of_an_argument : why (InvokeStatic (method true (Number ∷ []) true (Code 0 0 1))) []
+    (Int (pos 1) ∷ Null ∷ []) ≡ None
 unfolding reason effect
 result_in_place_of_an_argument = refl
 
@@ -219,19 +267,24 @@ push_into_the_last_room : why (Push (pos 1)) [] (Null ∷ []) ≡ None
 unfolding reason effect
 push_into_the_last_room = refl
 
-sum_needs_room_for_one : reason classes (record plain { room = 1 }) (Combine Plus) (areas [] (Int (pos 1) ∷ Int (pos 2) ∷ [])) ≡ None
+sum_needs_room_for_one : reason classes (record plain { room = 1 }) (Combine Plus)
+    (areas [] (Int (pos 1) ∷ Int (pos 2) ∷ [])) ≡ None
 unfolding reason effect
 sum_needs_room_for_one = refl
 
-write_makes_room : reason classes (record plain { room = 0 }) (PutStatic (field true Number)) (areas [] (Int (pos 1) ∷ [])) ≡ None
+write_makes_room : reason classes (record plain { room = 0 }) (PutStatic (field true Number))
+    (areas [] (Int (pos 1) ∷ [])) ≡ None
 unfolding reason effect
 write_makes_room = refl
 
-store_makes_room : reason classes (record plain { room = 0 }) (Store 0 Number) (areas (None ∷ []) (Int (pos 1) ∷ [])) ≡ None
+store_makes_room : reason classes (record plain { room = 0 }) (Store 0 Number)
+    (areas (None ∷ []) (Int (pos 1) ∷ [])) ≡ None
 unfolding reason effect
 store_makes_room = refl
 
-channel_needs_no_locals : why (InvokeStatic (method true (Number ∷ []) false (Output (codes "A") (codes "out")))) [] (Int (pos 1) ∷ []) ≡ None
+channel_needs_no_locals : why
+    (InvokeStatic (method true (Number ∷ []) false (Output (codes "A") (codes "out")))) []
+    (Int (pos 1) ∷ []) ≡ None
 unfolding reason effect
 channel_needs_no_locals = refl
 
@@ -252,7 +305,8 @@ read_of_a_number = refl
 write_of_a_number : operation (λ n. link.Number (pos 5)) (Putstatic 1) ≡ Misnamed 1 0
 write_of_a_number = refl
 
-special_call_of_a_field : operation (λ n. link.Field (field true Number)) (Invokespecial 1) ≡ Misnamed 1 0
+special_call_of_a_field : operation (λ n. link.Field (field true Number)) (Invokespecial 1)
+    ≡ Misnamed 1 0
 special_call_of_a_field = refl
 
 call_of_a_field : operation (λ n. link.Field (field true Number)) (Invokestatic 1) ≡ Misnamed 0 0
@@ -263,28 +317,35 @@ named_number = refl
 
 -- ---- what is done
 
-number_is_pushed : effect classes (Push (pos 3)) (areas [] (Null ∷ [])) ≡ Goes (areas [] (Int (pos 3) ∷ Null ∷ []))
+number_is_pushed : effect classes (Push (pos 3)) (areas [] (Null ∷ []))
+    ≡ Goes (areas [] (Int (pos 3) ∷ Null ∷ []))
 unfolding effect
 number_is_pushed = refl
 
-local_is_pushed : effect classes (Load 1 Number) (areas (None ∷ Some (Int (pos 4)) ∷ []) []) ≡ Goes (areas (None ∷ Some (Int (pos 4)) ∷ []) (Int (pos 4) ∷ []))
+local_is_pushed : effect classes (Load 1 Number) (areas (None ∷ Some (Int (pos 4)) ∷ []) [])
+    ≡ Goes (areas (None ∷ Some (Int (pos 4)) ∷ []) (Int (pos 4) ∷ []))
 unfolding effect
 local_is_pushed = refl
 
-local_is_set : effect classes (Store 1 Number) (areas (None ∷ None ∷ []) (Int (pos 4) ∷ Null ∷ [])) ≡ Goes (areas (None ∷ Some (Int (pos 4)) ∷ []) (Null ∷ []))
+local_is_set : effect classes (Store 1 Number) (areas (None ∷ None ∷ []) (Int (pos 4) ∷ Null ∷ []))
+    ≡ Goes (areas (None ∷ Some (Int (pos 4)) ∷ []) (Null ∷ []))
 unfolding effect
 local_is_set = refl
 
-field_is_pushed : effect classes (GetStatic (field true Number)) (areas [] []) ≡ Goes (areas [] (Int (pos 7) ∷ []))
+field_is_pushed : effect classes (GetStatic (field true Number)) (areas [] [])
+    ≡ Goes (areas [] (Int (pos 7) ∷ []))
 unfolding effect
 field_is_pushed = refl
 
-number_is_put_out : effect classes (InvokeStatic (method true (Number ∷ []) false (Output (codes "A") (codes "out")))) (areas [] (Int (pos 4) ∷ Null ∷ []))
+number_is_put_out : effect classes
+    (InvokeStatic (method true (Number ∷ []) false (Output (codes "A") (codes "out"))))
+    (areas [] (Int (pos 4) ∷ Null ∷ []))
     ≡ Happens (Out (codes "A") (codes "out") (pos 4)) (areas [] (Null ∷ []))
 unfolding effect
 number_is_put_out = refl
 
-nothing_takes_its_object : effect classes (InvokeSpecial (method false [] false Nothing)) (areas [] (Ref 0 9 ∷ Null ∷ [])) ≡ Goes (areas [] (Null ∷ []))
+nothing_takes_its_object : effect classes (InvokeSpecial (method false [] false Nothing))
+    (areas [] (Ref 0 9 ∷ Null ∷ [])) ≡ Goes (areas [] (Null ∷ []))
 unfolding effect
 nothing_takes_its_object = refl
 
@@ -298,7 +359,9 @@ operands_after (Goes a) = a.operands
 operands_after _ = []
 
 abbrev input : Effect
-input = effect classes (InvokeStatic (method true [] true (Input (codes "A") (codes "in")))) (areas [] (Null ∷ []))
+input =
+    effect classes (InvokeStatic (method true [] true (Input (codes "A") (codes "in"))))
+    (areas [] (Null ∷ []))
 
 number_is_taken : operands_after input ≡ Int (pos 5) ∷ Null ∷ []
 unfolding effect
@@ -319,7 +382,8 @@ channel_of_another_class_is_whole = refl
 spent_list_gives_0 : next [] ≡ pos 0
 spent_list_gives_0 = refl
 
-arguments_stand_first : first_locals 3 (Int (pos 1) ∷ Null ∷ []) ≡ Some (Int (pos 1)) ∷ Some Null ∷ None ∷ []
+arguments_stand_first : first_locals 3 (Int (pos 1) ∷ Null ∷ [])
+    ≡ Some (Int (pos 1)) ∷ Some Null ∷ None ∷ []
 arguments_stand_first = refl
 
 number_begins_as_0 : first_value Number ≡ Int (pos 0)
@@ -334,25 +398,32 @@ numbers_are_shown = refl
 null_is_shown : shown_value classes Null ≡ shown.Null
 null_is_shown = refl
 
-sum_wraps : effect classes (Combine Plus) (areas [] (Int (pos 1) ∷ Int (pos 2147483647) ∷ [])) ≡ Goes (areas [] (Int (negsuc 2147483647) ∷ []))
+sum_wraps : effect classes (Combine Plus) (areas [] (Int (pos 1) ∷ Int (pos 2147483647) ∷ []))
+    ≡ Goes (areas [] (Int (negsuc 2147483647) ∷ []))
 unfolding effect int_wrap
 sum_wraps = refl
 
-arguments_in_order : effect classes (InvokeStatic (method true (Number ∷ Number ∷ []) false (Code 1 4 5))) (areas [] (Int (pos 2) ∷ Int (pos 1) ∷ Null ∷ []))
+arguments_in_order : effect classes
+    (InvokeStatic (method true (Number ∷ Number ∷ []) false (Code 1 4 5)))
+    (areas [] (Int (pos 2) ∷ Int (pos 1) ∷ Null ∷ []))
     ≡ Calls 1 4 5 (Int (pos 1) ∷ Int (pos 2) ∷ []) (areas [] (Null ∷ []))
 unfolding effect
 arguments_in_order = refl
 
-receiver_is_the_first_argument : effect classes (InvokeSpecial (initializer false 1)) (areas [] (Ref 0 9 ∷ [])) ≡ Calls 0 3 1 (Ref 0 9 ∷ []) (areas [] [])
+receiver_is_the_first_argument : effect classes (InvokeSpecial (initializer false 1))
+    (areas [] (Ref 0 9 ∷ [])) ≡ Calls 0 3 1 (Ref 0 9 ∷ []) (areas [] [])
 unfolding effect
 receiver_is_the_first_argument = refl
 
-null_throws : effect classes (InvokeSpecial (initializer false 1)) (areas [] (Null ∷ [])) ≡ Throws (codes "NullPointerException")
+null_throws : effect classes (InvokeSpecial (initializer false 1)) (areas [] (Null ∷ []))
+    ≡ Throws (codes "NullPointerException")
 unfolding effect
 null_throws = refl
 
-write_is_shown : effect classes (PutStatic (field true (Object (codes "B")))) (areas [] (Ref 1 3 ∷ []))
-    ≡ Happens (Set (codes "A") (codes "f") (shown.Ref (codes "B") 3)) (record (areas [] []) { statics = Null ∷ Ref 1 3 ∷ [] })
+write_is_shown : effect classes (PutStatic (field true (Object (codes "B"))))
+    (areas [] (Ref 1 3 ∷ []))
+    ≡ Happens (Set (codes "A") (codes "f") (shown.Ref (codes "B") 3))
+    (record (areas [] []) { statics = Null ∷ Ref 1 3 ∷ [] })
 unfolding effect
 write_is_shown = refl
 
@@ -381,41 +452,50 @@ shift_fills_with_zeros = refl
 bits_differ : combined Xor (negsuc 0) (pos 5) ≡ negsuc 5
 bits_differ = refl
 
-zero_divisor_throws : effect classes (Combine Remainder) (areas [] (Int (pos 0) ∷ Int (pos 1) ∷ [])) ≡ Throws (codes "ArithmeticException")
+zero_divisor_throws : effect classes (Combine Remainder) (areas [] (Int (pos 0) ∷ Int (pos 1) ∷ []))
+    ≡ Throws (codes "ArithmeticException")
 unfolding effect
 zero_divisor_throws = refl
 
-difference_is_in_order : effect classes (Combine Minus) (areas [] (Int (pos 1) ∷ Int (pos 5) ∷ [])) ≡ Goes (areas [] (Int (pos 4) ∷ []))
+difference_is_in_order : effect classes (Combine Minus) (areas [] (Int (pos 1) ∷ Int (pos 5) ∷ []))
+    ≡ Goes (areas [] (Int (pos 4) ∷ []))
 unfolding effect int_wrap
 difference_is_in_order = refl
 
-local_wraps : effect classes (Increase 0 (pos 1)) (areas (Some (Int (pos 2147483647)) ∷ []) []) ≡ Goes (areas (Some (Int (negsuc 2147483647)) ∷ []) [])
+local_wraps : effect classes (Increase 0 (pos 1)) (areas (Some (Int (pos 2147483647)) ∷ []) [])
+    ≡ Goes (areas (Some (Int (negsuc 2147483647)) ∷ []) [])
 unfolding effect int_wrap
 local_wraps = refl
 
 -- ---- where it goes on
 
-less_is_taken : effect classes (JumpIf 2 (pos 9)) (areas [] (Int (negsuc 0) ∷ Null ∷ [])) ≡ Jumps (pos 9) (areas [] (Null ∷ []))
+less_is_taken : effect classes (JumpIf 2 (pos 9)) (areas [] (Int (negsuc 0) ∷ Null ∷ []))
+    ≡ Jumps (pos 9) (areas [] (Null ∷ []))
 unfolding effect
 less_is_taken = refl
 
-equal_is_not_taken : effect classes (JumpIf 0 (pos 9)) (areas [] (Int (pos 1) ∷ [])) ≡ Goes (areas [] [])
+equal_is_not_taken : effect classes (JumpIf 0 (pos 9)) (areas [] (Int (pos 1) ∷ []))
+    ≡ Goes (areas [] [])
 unfolding effect
 equal_is_not_taken = refl
 
-greater_is_taken : effect classes (JumpIfBoth 4 (negsuc 5)) (areas [] (Int (pos 3) ∷ Int (pos 5) ∷ [])) ≡ Jumps (negsuc 5) (areas [] [])
+greater_is_taken : effect classes (JumpIfBoth 4 (negsuc 5))
+    (areas [] (Int (pos 3) ∷ Int (pos 5) ∷ [])) ≡ Jumps (negsuc 5) (areas [] [])
 unfolding effect
 greater_is_taken = refl
 
-same_object_is_taken : effect classes (JumpIfSame true (pos 4)) (areas [] (Ref 0 1 ∷ Ref 0 1 ∷ [])) ≡ Jumps (pos 4) (areas [] [])
+same_object_is_taken : effect classes (JumpIfSame true (pos 4)) (areas [] (Ref 0 1 ∷ Ref 0 1 ∷ []))
+    ≡ Jumps (pos 4) (areas [] [])
 unfolding effect
 same_object_is_taken = refl
 
-object_of_another_class_is_another : effect classes (JumpIfSame true (pos 4)) (areas [] (Ref 1 1 ∷ Ref 0 1 ∷ [])) ≡ Goes (areas [] [])
+object_of_another_class_is_another : effect classes (JumpIfSame true (pos 4))
+    (areas [] (Ref 1 1 ∷ Ref 0 1 ∷ [])) ≡ Goes (areas [] [])
 unfolding effect
 object_of_another_class_is_another = refl
 
-object_is_not_null : effect classes (JumpIfNull false (pos 4)) (areas [] (Ref 0 0 ∷ [])) ≡ Jumps (pos 4) (areas [] [])
+object_is_not_null : effect classes (JumpIfNull false (pos 4)) (areas [] (Ref 0 0 ∷ []))
+    ≡ Jumps (pos 4) (areas [] [])
 unfolding effect
 object_is_not_null = refl
 
@@ -423,35 +503,49 @@ object_is_not_null = refl
 
 abbrev class : Bool → Bool → ClassLink
 class is_exception is_made =
-    record { name = codes "B"; number = 1; fields = Number ∷ Object (codes "A") ∷ []; is_exception = is_exception; is_made = is_made }
+    record {
+      name = codes "B";
+      number = 1;
+      fields = Number ∷ Object (codes "A") ∷ [];
+      is_exception = is_exception;
+      is_made = is_made;
+    }
 
 abbrev with_objects : List MVal → List (List MVal) → Areas
 with_objects operands objects = record (areas [] operands) { objects = [] ∷ objects ∷ [] }
 
-object_is_born : effect classes (Create (class false true)) (with_objects [] ((Int (pos 8) ∷ Null ∷ []) ∷ []))
-    ≡ Happens (Born (codes "B") 1) (with_objects (Ref 1 1 ∷ []) ((Int (pos 8) ∷ Null ∷ []) ∷ (Int (pos 0) ∷ Null ∷ []) ∷ []))
+object_is_born : effect classes (Create (class false true))
+    (with_objects [] ((Int (pos 8) ∷ Null ∷ []) ∷ []))
+    ≡ Happens (Born (codes "B") 1)
+    (with_objects (Ref 1 1 ∷ []) ((Int (pos 8) ∷ Null ∷ []) ∷ (Int (pos 0) ∷ Null ∷ []) ∷ []))
 unfolding effect
 object_is_born = refl
 
-exception_is_not_shown : effect classes (Create (class true true)) (with_objects [] []) ≡ Goes (with_objects (Ref 1 0 ∷ []) ((Int (pos 0) ∷ Null ∷ []) ∷ []))
+exception_is_not_shown : effect classes (Create (class true true)) (with_objects [] [])
+    ≡ Goes (with_objects (Ref 1 0 ∷ []) ((Int (pos 0) ∷ Null ∷ []) ∷ []))
 unfolding effect
 exception_is_not_shown = refl
 
-field_of_an_object_is_pushed : effect classes (GetField (field false Number)) (with_objects (Ref 1 0 ∷ []) ((Null ∷ Int (pos 8) ∷ []) ∷ []))
+field_of_an_object_is_pushed : effect classes (GetField (field false Number))
+    (with_objects (Ref 1 0 ∷ []) ((Null ∷ Int (pos 8) ∷ []) ∷ []))
     ≡ Goes (with_objects (Int (pos 8) ∷ []) ((Null ∷ Int (pos 8) ∷ []) ∷ []))
 unfolding effect
 field_of_an_object_is_pushed = refl
 
-field_of_an_object_is_set : effect classes (PutField (field false Number)) (with_objects (Int (pos 9) ∷ Ref 1 0 ∷ []) ((Null ∷ Int (pos 8) ∷ []) ∷ []))
-    ≡ Happens (Put (codes "A") 0 (codes "f") (shown.Int (pos 9))) (with_objects [] ((Null ∷ Int (pos 9) ∷ []) ∷ []))
+field_of_an_object_is_set : effect classes (PutField (field false Number))
+    (with_objects (Int (pos 9) ∷ Ref 1 0 ∷ []) ((Null ∷ Int (pos 8) ∷ []) ∷ []))
+    ≡ Happens (Put (codes "A") 0 (codes "f") (shown.Int (pos 9)))
+    (with_objects [] ((Null ∷ Int (pos 9) ∷ []) ∷ []))
 unfolding effect
 field_of_an_object_is_set = refl
 
-null_has_no_field : effect classes (GetField (field false Number)) (areas [] (Null ∷ [])) ≡ Throws (codes "NullPointerException")
+null_has_no_field : effect classes (GetField (field false Number)) (areas [] (Null ∷ []))
+    ≡ Throws (codes "NullPointerException")
 unfolding effect
 null_has_no_field = refl
 
-null_is_not_thrown : effect classes Throw (areas [] (Null ∷ [])) ≡ Throws (codes "NullPointerException")
+null_is_not_thrown : effect classes Throw (areas [] (Null ∷ []))
+    ≡ Throws (codes "NullPointerException")
 unfolding effect
 null_is_not_thrown = refl
 
@@ -460,15 +554,18 @@ null_is_not_thrown = refl
 abbrev gives_object : Spot
 gives_object = record plain { gives_nothing = false; result = Object (codes "A") }
 
-result_of_another_class : reason classes gives_object (LeaveWith AnyObject) (areas [] (Ref 1 0 ∷ [])) ≡ Some 2
+result_of_another_class : reason classes gives_object (LeaveWith AnyObject)
+    (areas [] (Ref 1 0 ∷ [])) ≡ Some 2
 unfolding reason effect
 result_of_another_class = refl
 
-result_of_its_class : reason classes gives_object (LeaveWith AnyObject) (areas [] (Ref 0 0 ∷ [])) ≡ None
+result_of_its_class : reason classes gives_object (LeaveWith AnyObject) (areas [] (Ref 0 0 ∷ []))
+    ≡ None
 unfolding reason effect
 result_of_its_class = refl
 
-number_for_an_object : reason classes gives_object (LeaveWith Number) (areas [] (Int (pos 1) ∷ [])) ≡ Some 8
+number_for_an_object : reason classes gives_object (LeaveWith Number) (areas [] (Int (pos 1) ∷ []))
+    ≡ Some 8
 unfolding reason effect
 number_for_an_object = refl
 
@@ -480,7 +577,8 @@ no_exception : why Throw [] (Ref 0 0 ∷ []) ≡ Some 9
 unfolding reason effect
 no_exception = refl
 
-an_exception : reason classes (record plain { exceptions = 0 ∷ [] }) Throw (areas [] (Ref 0 0 ∷ [])) ≡ None
+an_exception : reason classes (record plain { exceptions = 0 ∷ [] }) Throw (areas [] (Ref 0 0 ∷ []))
+    ≡ None
 unfolding reason effect
 an_exception = refl
 
@@ -496,23 +594,28 @@ unset_is_not_increased : why (Increase 0 (pos 1)) (None ∷ []) [] ≡ Some 4
 unfolding reason effect
 unset_is_not_increased = refl
 
-jump_to_no_instruction : reason classes (record plain { stands = false }) (Jump (pos 3)) (areas [] []) ≡ Some 5
+jump_to_no_instruction : reason classes (record plain { stands = false }) (Jump (pos 3))
+    (areas [] []) ≡ Some 5
 unfolding reason effect
 jump_to_no_instruction = refl
 
 -- what throws does not go on behind itself
-null_at_the_end : reason classes (record plain { stands = false }) (InvokeSpecial (initializer false 1)) (areas [] (Null ∷ [])) ≡ None
+null_at_the_end : reason classes (record plain { stands = false })
+    (InvokeSpecial (initializer false 1)) (areas [] (Null ∷ [])) ≡ None
 unfolding reason effect
 null_at_the_end = refl
 
-zero_divisor_at_the_end : reason classes (record plain { stands = false }) (Combine Quotient) (areas [] (Int (pos 0) ∷ Int (pos 1) ∷ [])) ≡ None
+zero_divisor_at_the_end : reason classes (record plain { stands = false }) (Combine Quotient)
+    (areas [] (Int (pos 0) ∷ Int (pos 1) ∷ [])) ≡ None
 unfolding reason effect
 zero_divisor_at_the_end = refl
 
-handler_without_room : reason classes (record plain { is_roomless = true }) (Combine Quotient) (areas [] (Int (pos 0) ∷ Int (pos 1) ∷ [])) ≡ Some 3
+handler_without_room : reason classes (record plain { is_roomless = true }) (Combine Quotient)
+    (areas [] (Int (pos 0) ∷ Int (pos 1) ∷ [])) ≡ Some 3
 unfolding reason effect
 handler_without_room = refl
 
-handler_without_instruction : reason classes (record plain { is_lost = true }) Throw (areas [] (Null ∷ [])) ≡ Some 5
+handler_without_instruction : reason classes (record plain { is_lost = true }) Throw
+    (areas [] (Null ∷ [])) ≡ Some 5
 unfolding reason effect
 handler_without_instruction = refl

@@ -1,6 +1,9 @@
--- What an instruction reads and writes: locals and operands of its frame, static fields, objects and
+-- What an instruction reads and writes: locals and operands of its frame, static fields, objects
+-- and
 -- input lists of the program (Java Virtual Machine Specification, Java SE 7, sections 2.5 and 2.6).
-use Rattle.std.specs.Prelude.{ℕ, Bool, true, false, ◌&&◌, if◌then◌else◌, ℤ, pos, List, [], ◌∷◌, ◌++◌, Option, Some, None, slice_get, slice_set, map, replicate, length, ◌-◌, drop}
+use Rattle.std.specs.Prelude.{ℕ, Bool, true, false, ◌&&◌, if◌then◌else◌, ℤ, pos, List, [], ◌∷◌}
+use Rattle.std.specs.Prelude.{◌++◌, Option, Some, None, slice_get, slice_set, map, replicate}
+use Rattle.std.specs.Prelude.{length, ◌-◌, drop}
 use Rattle.std.specs.Str.{bytes_eq}
 use Rattle.par_values.specs.declared.value.MVal.{MVal}
 use Rattle.par_values.specs.declared.value.MVal.TheVariants.{Int, Null, Ref}
@@ -16,7 +19,8 @@ Name = List ℕ
 abbrev pub InputLists : Type 0
 InputLists = Name → Name → List ℤ
 
--- the objects of each class by its number, in the order of their birth, each the values of its fields
+-- the objects of each class by its number, in the order of their birth, each the values of its
+-- fields
 abbrev pub Objects : Type 0
 Objects = List (List (List MVal))
 

@@ -1,7 +1,10 @@
 -- What instructions make of numbers of 32 bits (Java Virtual Machine Specification, Java SE 7,
--- section 6.5): sums, differences and products wrap, a quotient is truncated toward zero, a remainder
+-- section 6.5): sums, differences and products wrap, a quotient is truncated toward zero, a
+-- remainder
 -- has the sign of the dividend, and a shift is by the low five bits of its count.
-use Rattle.std.specs.Prelude.{ℕ, ◌/◌, ◌%◌, ◌^◌, Bool, false, not, ℤ, pos, ◌+ℤ◌, ◌-ℤ◌, ◌*ℤ◌, neg_ℤ, int_lt, int_div, int_rem, bit_and, bit_or, bit_xor, [], ◌∷◌, slice_index_or}
+use Rattle.std.specs.Prelude.{ℕ, ◌/◌, ◌%◌, ◌^◌, Bool, false, not, ℤ, pos, ◌+ℤ◌, ◌-ℤ◌, ◌*ℤ◌, neg_ℤ}
+use Rattle.std.specs.Prelude.{int_lt, int_div, int_rem, bit_and, bit_or, bit_xor, [], ◌∷◌}
+use Rattle.std.specs.Prelude.{slice_index_or}
 use Rattle.std.specs.Int.{w32, int_wrap, int_shl, int_shr, cast_unsigned, cast_signed}
 use Rattle.std.specs.Ordering.{int_eq}
 
@@ -56,5 +59,6 @@ negated a = int_wrap w32 (neg_ℤ a)
 abbrev pub compares : ℕ → ℤ → ℤ → Bool
 compares test a b =
     slice_index_or
-    (int_eq a b ∷ not (int_eq a b) ∷ int_lt a b ∷ not (int_lt a b) ∷ int_lt b a ∷ not (int_lt b a) ∷ [])
+    (int_eq a b ∷ not (int_eq a b) ∷ int_lt a b ∷ not (int_lt a b) ∷ int_lt b a
+    ∷ not (int_lt b a) ∷ [])
     test false

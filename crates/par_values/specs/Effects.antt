@@ -1,6 +1,7 @@
 -- What an operation does that can be run (Java Virtual Machine Specification, Java SE 7, section
 -- 6.5).
-use Rattle.std.specs.Prelude.{ℕ, ◌+◌, ℤ, pos, ◌+ℤ◌, Bool, true, false, not, ◌&&◌, ◌==◌, if◌then◌else◌, List, length, map, take, reverse, codes}
+use Rattle.std.specs.Prelude.{ℕ, ◌+◌, ℤ, pos, ◌+ℤ◌, Bool, true, false, not, ◌&&◌, ◌==◌}
+use Rattle.std.specs.Prelude.{if◌then◌else◌, List, length, map, take, reverse, codes}
 use Rattle.std.specs.Int.{int_wrap, w32}
 use Rattle.std.specs.List.{slice_get}
 use Rattle.std.specs.Ordering.{int_eq}
@@ -12,9 +13,15 @@ use Rattle.par_values.specs.declared.link.ClassLink.{ClassLink}
 use Rattle.par_values.specs.declared.link.FieldLink.{FieldLink}
 use Rattle.par_values.specs.declared.link.Target.{Target}
 use Rattle.par_values.specs.declared.link.Target.TheVariants.{Input, Output, Code, Nothing}
-use Rattle.par_values.specs.Areas.{Name, Areas, push, pop, operand, number_of, set_local, local_at, value_or_null, set_static, field_at, set_field, next_number, with_object, first_value, next, take_input, shown_value}
+use Rattle.par_values.specs.Areas.{Name, Areas, push, pop, operand, number_of, set_local, local_at}
+use Rattle.par_values.specs.Areas.{value_or_null, set_static, field_at, set_field, next_number}
+use Rattle.par_values.specs.Areas.{with_object, first_value, next, take_input, shown_value}
 use Rattle.par_values.specs.Arithmetic.{Operator, combined, divides_by_zero, negated, compares}
-use Rattle.par_values.specs.Operations.{Operation, Push, PushNull, Load, Store, Discard, Copy, Combine, Negate, Increase, Jump, JumpIf, JumpIfBoth, JumpIfSame, JumpIfNull, GetStatic, PutStatic, GetField, PutField, InvokeStatic, InvokeSpecial, InvokeVirtual, Create, Throw, Leave, LeaveWith, Misnamed}
+use Rattle.par_values.specs.Operations.{Operation, Push, PushNull, Load, Store, Discard, Copy}
+use Rattle.par_values.specs.Operations.{Combine, Negate, Increase, Jump, JumpIf, JumpIfBoth}
+use Rattle.par_values.specs.Operations.{JumpIfSame, JumpIfNull, GetStatic, PutStatic, GetField}
+use Rattle.par_values.specs.Operations.{PutField, InvokeStatic, InvokeSpecial, InvokeVirtual}
+use Rattle.par_values.specs.Operations.{Create, Throw, Leave, LeaveWith, Misnamed}
 
 pub data Effect : Type 0 where
   -- goes on behind itself

@@ -1,11 +1,16 @@
 -- What holds of all instructions: how much longer the operand list gets.
-use Rattle.std.specs.Prelude.{◌≡◌, ℕ, ◌+◌, Bool, true, false, ℤ, pos, neg_ℤ, ◌+ℤ◌, ◌-ℤ◌, ◌↔◌, List, length, Some, None, IsTrue}
+use Rattle.std.specs.Prelude.{◌≡◌, ℕ, ◌+◌, Bool, true, false, ℤ, pos, neg_ℤ, ◌+ℤ◌, ◌-ℤ◌, ◌↔◌, List}
+use Rattle.std.specs.Prelude.{length, Some, None, IsTrue}
 use Rattle.par_instr.specs.declared.instr.Instr.{Instr}
-use Rattle.par_instr.specs.declared.instr.Instr.TheVariants.{Ireturn, Areturn, Return, Getstatic, Putstatic, Getfield, Putfield, Invokevirtual, Invokespecial, Invokestatic, Athrow}
+use Rattle.par_instr.specs.declared.instr.Instr.TheVariants.{Ireturn, Areturn, Return, Getstatic}
+use Rattle.par_instr.specs.declared.instr.Instr.TheVariants.{Putstatic, Getfield, Putfield}
+use Rattle.par_instr.specs.declared.instr.Instr.TheVariants.{Invokevirtual, Invokespecial}
+use Rattle.par_instr.specs.declared.instr.Instr.TheVariants.{Invokestatic, Athrow}
 use Rattle.par_instr.specs.Spelling as stack
 use Rattle.par_values.specs.declared.link.Link.{Link}
 use Rattle.par_values.specs.Areas.{Name, Areas}
-use Rattle.par_values.specs.Operations.{Operation, InvokeStatic, InvokeSpecial, InvokeVirtual, operation, takes, gives}
+use Rattle.par_values.specs.Operations.{Operation, InvokeStatic, InvokeSpecial, InvokeVirtual}
+use Rattle.par_values.specs.Operations.{operation, takes, gives}
 use Rattle.par_values.specs.Effects.{Effect, Goes, Happens, Jumps, effect}
 use Rattle.par_values.specs.Reasons.{lacks, misnamed}
 

@@ -1,7 +1,18 @@
 -- What an instruction is to do, with what its index names in place of the index.
-use Rattle.std.specs.Prelude.{ℕ, ℤ, Bool, true, false, if◌then◌else◌, List, [], ◌∷◌, ◌++◌, reverse, replicate}
+use Rattle.std.specs.Prelude.{ℕ, ℤ, Bool, true, false, if◌then◌else◌, List, [], ◌∷◌, ◌++◌, reverse}
+use Rattle.std.specs.Prelude.{replicate}
 use Rattle.par_instr.specs.declared.instr.Instr.{Instr}
-use Rattle.par_instr.specs.declared.instr.Instr.TheVariants.{AconstNull, Iconst, Bipush, Sipush, Ldc, LdcW, Iload, Aload, IloadShort, AloadShort, Istore, Astore, IstoreShort, AstoreShort, Pop, Dup, Iadd, Isub, Imul, Idiv, Irem, Ineg, Ishl, Ishr, Iushr, Iand, Ior, Ixor, Iinc, If, IfIcmp, IfAcmpeq, IfAcmpne, Ireturn, Areturn, Getstatic, Putstatic, Getfield, Putfield, Invokevirtual, Invokespecial, Invokestatic, New, Athrow, Ifnull, Ifnonnull}
+use Rattle.par_instr.specs.declared.instr.Instr.TheVariants.{AconstNull, Iconst, Bipush, Sipush}
+use Rattle.par_instr.specs.declared.instr.Instr.TheVariants.{Ldc, LdcW, Iload, Aload, IloadShort}
+use Rattle.par_instr.specs.declared.instr.Instr.TheVariants.{AloadShort, Istore, Astore}
+use Rattle.par_instr.specs.declared.instr.Instr.TheVariants.{IstoreShort, AstoreShort, Pop, Dup}
+use Rattle.par_instr.specs.declared.instr.Instr.TheVariants.{Iadd, Isub, Imul, Idiv, Irem, Ineg}
+use Rattle.par_instr.specs.declared.instr.Instr.TheVariants.{Ishl, Ishr, Iushr, Iand, Ior, Ixor}
+use Rattle.par_instr.specs.declared.instr.Instr.TheVariants.{Iinc, If, IfIcmp, IfAcmpeq, IfAcmpne}
+use Rattle.par_instr.specs.declared.instr.Instr.TheVariants.{Ireturn, Areturn, Getstatic, Putstatic}
+use Rattle.par_instr.specs.declared.instr.Instr.TheVariants.{Getfield, Putfield, Invokevirtual}
+use Rattle.par_instr.specs.declared.instr.Instr.TheVariants.{Invokespecial, Invokestatic, New}
+use Rattle.par_instr.specs.declared.instr.Instr.TheVariants.{Athrow, Ifnull, Ifnonnull}
 use Rattle.par_instr.specs.declared.instr.Instr.TheVariants as instr
 use Rattle.par_values.specs.declared.kind.Kind.{Kind}
 use Rattle.par_values.specs.declared.kind.Kind.TheVariants.{Number, Object, AnyObject, Anything}
@@ -10,7 +21,8 @@ use Rattle.par_values.specs.declared.link.FieldLink.{FieldLink}
 use Rattle.par_values.specs.declared.link.MethodLink.{MethodLink}
 use Rattle.par_values.specs.declared.link.Link.{Link}
 use Rattle.par_values.specs.declared.link.Link.TheVariants as link
-use Rattle.par_values.specs.Arithmetic.{Operator, Plus, Minus, Times, Quotient, Remainder, ShiftLeft, ShiftRight, ShiftRightUnsigned, And, Or, Xor}
+use Rattle.par_values.specs.Arithmetic.{Operator, Plus, Minus, Times, Quotient, Remainder}
+use Rattle.par_values.specs.Arithmetic.{ShiftLeft, ShiftRight, ShiftRightUnsigned, And, Or, Xor}
 
 pub data Operation : Type 0 where
   -- pushes a number

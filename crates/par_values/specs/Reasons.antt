@@ -1,5 +1,6 @@
 -- Why an operation cannot be run: each reason by its number.
-use Rattle.std.specs.Prelude.{ℕ, suc, ◌+◌, ◌-◌, Bool, true, false, not, ◌&&◌, ◌||◌, ◌==◌, nat_lt, List, [], ◌∷◌, length, Option, Some, None}
+use Rattle.std.specs.Prelude.{ℕ, suc, ◌+◌, ◌-◌, Bool, true, false, not, ◌&&◌, ◌||◌, ◌==◌, nat_lt}
+use Rattle.std.specs.Prelude.{List, [], ◌∷◌, length, Option, Some, None}
 use Rattle.std.specs.List.{list_any}
 use Rattle.par_values.specs.declared.value.MVal.{MVal}
 use Rattle.par_values.specs.declared.value.MVal.TheVariants.{Int, Null, Ref}
@@ -8,8 +9,12 @@ use Rattle.par_values.specs.declared.kind.Kind.TheVariants.{Number, Object, AnyO
 use Rattle.par_values.specs.declared.link.Target.{Target}
 use Rattle.par_values.specs.declared.link.Target.TheVariants.{Code}
 use Rattle.par_values.specs.Areas.{Name, Areas, fits, operand, local_at}
-use Rattle.par_values.specs.Effects.{Effect, Goes, Happens, Jumps, Calls, Throws, ThrowsObject, Returns, ReturnsWith, effect}
-use Rattle.par_values.specs.Operations.{Operation, Load, Store, Increase, GetStatic, PutStatic, GetField, PutField, InvokeStatic, InvokeSpecial, InvokeVirtual, Create, Throw, Leave, LeaveWith, Misnamed, takes, gives}
+use Rattle.par_values.specs.Effects.{Effect, Goes, Happens, Jumps, Calls, Throws, ThrowsObject}
+use Rattle.par_values.specs.Effects.{Returns, ReturnsWith, effect}
+use Rattle.par_values.specs.Operations.{Operation, Load, Store, Increase, GetStatic, PutStatic}
+use Rattle.par_values.specs.Operations.{GetField, PutField, InvokeStatic, InvokeSpecial}
+use Rattle.par_values.specs.Operations.{InvokeVirtual, Create, Throw, Leave, LeaveWith, Misnamed}
+use Rattle.par_values.specs.Operations.{takes, gives}
 
 -- what of the place where an operation stands decides whether it can be run
 pub record Spot : Type 0 where

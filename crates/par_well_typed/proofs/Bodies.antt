@@ -1,13 +1,17 @@
 -- The numbers of locals, locks and policies in typed bodies are in range.
-use Rattle.std.proofs.Common.{◌≡◌, ℕ, ◌+◌, ◌<◌, ◌≤◌, Bool, true, false, List, [], ◌∷◌, Option, Some, None, refl, sym, subst, arith, add-zero}
+use Rattle.std.proofs.Common.{◌≡◌, ℕ, ◌+◌, ◌<◌, ◌≤◌, Bool, true, false, List, [], ◌∷◌, Option, Some}
+use Rattle.std.proofs.Common.{None, refl, sym, subst, arith, add-zero}
 use Rattle.std.specs.List.{AllByRecursion}
 use Rattle.par_tree.specs.declared.policy.LockTree.{LockTree}
 use Rattle.par_tree.specs.declared.policy.PolicyExpr.{PolicyExpr}
-use Rattle.par_tree.specs.Plain.{Exp, Int, True, False, Null, This, New, Name, Field, Call, Neg, Not, Binary}
+use Rattle.par_tree.specs.Plain.{Exp, Int, True, False, Null, This, New, Name, Field, Call, Neg}
+use Rattle.par_tree.specs.Plain.{Not, Binary}
 use Rattle.par_tree.specs.Plain.{Exps, NoExps, More, MayExp, Absent, Present, Source}
-use Rattle.par_tree.specs.Plain.{Sta, Block, If, While, Try, Return, Break, Continue, Throw, Open, Close}
+use Rattle.par_tree.specs.Plain.{Sta, Block, If, While, Try, Return, Break, Continue, Throw, Open}
+use Rattle.par_tree.specs.Plain.{Close}
 use Rattle.par_tree.specs.Plain.{Declare, Assign, Do, When, Braces, In, MayBraces, NoBraces}
-use Rattle.par_tree.specs.Plain.{Else, NoElse, Otherwise, Stas, End, Then, Catches, NoCatch, Catch, Handler, On}
+use Rattle.par_tree.specs.Plain.{Else, NoElse, Otherwise, Stas, End, Then, Catches, NoCatch, Catch}
+use Rattle.par_tree.specs.Plain.{Handler, On}
 use Rattle.par_tree.specs.Plain as plain
 use Rattle.par_typed.specs.declared.ty.Ty.TheVariants as ty
 use Rattle.par_typed.specs.declared.table.ChannelInfo.{ChannelInfo}
@@ -19,7 +23,9 @@ use Rattle.par_names.specs.Exprs as names
 use Rattle.par_names.specs.Declarations.{locks, doubles}
 use Rattle.par_names.specs.Policies.{View, lock_faults}
 use Rattle.par_names.specs.Program.{view_behind}
-use Rattle.par_names.specs.Stmts.{declares, all_caught, stmt_faults, braces_faults, may_braces_faults, else_faults, stmts_faults, catches_faults, handler_faults}
+use Rattle.par_names.specs.Stmts.{declares, all_caught, stmt_faults, braces_faults}
+use Rattle.par_names.specs.Stmts.{may_braces_faults, else_faults, stmts_faults, catches_faults}
+use Rattle.par_names.specs.Stmts.{handler_faults}
 use Rattle.par_scope.specs.declared.members.Place.{Place}
 use Rattle.par_scope.specs.declared.locals.Slot.{Slot}
 use Rattle.par_scope.specs.declared.meaning.Receiver.{Receiver}
@@ -28,19 +34,26 @@ use Rattle.par_scope.specs.declared.meaning.Callee.{Callee}
 use Rattle.par_scope.specs.declared.meaning.Callee.TheVariants.{Unknown, Channel, Method}
 use Rattle.par_scope.specs.Names.{number_in}
 use Rattle.par_scope.specs.Home.{Home}
-use Rattle.par_scope.specs.Members.{field_at, channel_at, method_at, field_is_static, method_is_static}
+use Rattle.par_scope.specs.Members.{field_at, channel_at, method_at, field_is_static}
+use Rattle.par_scope.specs.Members.{method_is_static}
 use Rattle.par_scope.specs.Meaning.{type_of, called_on, receiver_of, selected, called, sure}
 use Rattle.par_types.specs.Stmts.{slot_of}
 use Rattle.par_resolved.specs.Resolved.{table_of}
 use Rattle.par_annotate.specs.Frames.{Frame, Var, var_at, var_named, with_local, further}
-use Rattle.par_annotate.specs.Exprs.{own_this, own_field, name_typed, negation, number_of, selection, own_receiver, method_on}
-use Rattle.par_annotate.specs.Exprs.{callee_on, first, by_way, through, call, typed_exp, typed_may, typed_args, mark_of}
-use Rattle.par_annotate.specs.Stmts.{Written, may_policy, Target, Nowhere, ToLocal, ToStatic, ToField, target, target_nodes, assignment}
+use Rattle.par_annotate.specs.Exprs.{own_this, own_field, name_typed, negation, number_of}
+use Rattle.par_annotate.specs.Exprs.{selection, own_receiver, method_on}
+use Rattle.par_annotate.specs.Exprs.{callee_on, first, by_way, through, call, typed_exp, typed_may}
+use Rattle.par_annotate.specs.Exprs.{typed_args, mark_of}
+use Rattle.par_annotate.specs.Stmts.{Written, may_policy, Target, Nowhere, ToLocal, ToStatic}
+use Rattle.par_annotate.specs.Stmts.{ToField, target, target_nodes, assignment}
 use Rattle.par_annotate.specs.Stmts.{own_target, name_target, selected_target, behind}
-use Rattle.par_annotate.specs.Stmts.{typed_sta, typed_braces, typed_may_braces, typed_else, typed_stas, typed_catches, typed_handler}
-use Rattle.par_annotate.specs.Stmts.{locals_in, braces_locals, may_braces_locals, else_locals, all_locals, catches_locals, handler_locals}
+use Rattle.par_annotate.specs.Stmts.{typed_sta, typed_braces, typed_may_braces, typed_else}
+use Rattle.par_annotate.specs.Stmts.{typed_stas, typed_catches, typed_handler}
+use Rattle.par_annotate.specs.Stmts.{locals_in, braces_locals, may_braces_locals, else_locals}
+use Rattle.par_annotate.specs.Stmts.{all_locals, catches_locals, handler_locals}
 use Rattle.par_well_typed.specs.Tables.{IsLock, MayBePolicy}
-use Rattle.par_well_typed.specs.Numbers.{ExpReads, MayExpRead, ExpsRead, StaInRange, ElseInRange, StasInRange, CatchesInRange}
+use Rattle.par_well_typed.specs.Numbers.{ExpReads, MayExpRead, ExpsRead, StaInRange, ElseInRange}
+use Rattle.par_well_typed.specs.Numbers.{StasInRange, CatchesInRange}
 use Rattle.par_well_typed.specs.Typed.{written_in}
 use Rattle.par_well_typed.proofs.Lists.{none_left, none_right, of_both, each_is}
 use Rattle.par_well_typed.proofs.Ranges.{MayBe, at_place}
@@ -342,7 +355,8 @@ module _ (source : Source) (arities : AllByRecursion (λ lock. lock.arity ≤ 2)
       sta_in frame p scope (If e b o at) h room none = (
         exp_in (λ k. k < n) home frame (p + 1) e (numbers_of frame h),
         braces_in frame _ scope b h (first_room frame.next _ _ room)
-            (none_right _ (braces_faults v own scope b) (none_left _ (else_faults v own scope o) none)),
+            (none_right _ (braces_faults v own scope b)
+            (none_left _ (else_faults v own scope o) none)),
         else_in (further frame (braces_locals b)) _ scope o h (second_room frame.next _ _ room)
             (none_right _ (else_faults v own scope o) none),
       )
@@ -382,7 +396,8 @@ module _ (source : Source) (arities : AllByRecursion (λ lock. lock.arity ≤ 2)
         lock_in before lock (none_left (lock_faults v lock) _
             (none_left _ (may_braces_faults v own scope o) none)),
         braces_in frame _ scope b h (first_room frame.next _ _ room)
-            (none_right (lock_faults v lock) _ (none_left _ (may_braces_faults v own scope o) none)),
+            (none_right (lock_faults v lock) _
+            (none_left _ (may_braces_faults v own scope o) none)),
         may_braces_in (further frame (braces_locals b)) _ scope o h (second_room frame.next _ _
             room) (none_right _ (may_braces_faults v own scope o) none),
       )

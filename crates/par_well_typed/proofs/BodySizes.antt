@@ -1,10 +1,14 @@
 -- Typed statements have at most as many nodes as those of the source.
-use Rattle.std.proofs.Common.{◌≡◌, ℕ, ◌+◌, ◌≤◌, Bool, true, false, not, List, [], ◌++◌, Option, Some, None, ap, ◌∙◌, arith, cond}
-use Rattle.par_tree.specs.Plain.{Exp, Int, True, False, Null, This, New, Name, Field, Call, Neg, Not, Binary}
+use Rattle.std.proofs.Common.{◌≡◌, ℕ, ◌+◌, ◌≤◌, Bool, true, false, not, List, [], ◌++◌, Option}
+use Rattle.std.proofs.Common.{Some, None, ap, ◌∙◌, arith, cond}
+use Rattle.par_tree.specs.Plain.{Exp, Int, True, False, Null, This, New, Name, Field, Call, Neg}
+use Rattle.par_tree.specs.Plain.{Not, Binary}
 use Rattle.par_tree.specs.Plain.{MayExp, Absent, Present, Method}
-use Rattle.par_tree.specs.Plain.{Sta, Block, If, While, Try, Return, Break, Continue, Throw, Open, Close}
+use Rattle.par_tree.specs.Plain.{Sta, Block, If, While, Try, Return, Break, Continue, Throw, Open}
+use Rattle.par_tree.specs.Plain.{Close}
 use Rattle.par_tree.specs.Plain.{Declare, Assign, Do, When, Braces, In, MayBraces, NoBraces}
-use Rattle.par_tree.specs.Plain.{Else, NoElse, Otherwise, Stas, End, Then, Catches, NoCatch, Catch, Handler, On}
+use Rattle.par_tree.specs.Plain.{Else, NoElse, Otherwise, Stas, End, Then, Catches, NoCatch, Catch}
+use Rattle.par_tree.specs.Plain.{Handler, On}
 use Rattle.par_tree.specs.Plain as plain
 use Rattle.par_tree.specs.Nodes as source
 use Rattle.par_typed.specs.declared.table.Table.{Table}
@@ -24,16 +28,22 @@ use Rattle.par_completes.specs.Completes.{completes}
 use Rattle.par_types.specs.Fits.{is_void}
 use Rattle.par_types.specs.Exprs.{expr_faults, misfit, value_faults}
 use Rattle.par_types.specs.Stmts as types
-use Rattle.par_types.specs.Stmts.{throw_fault, test_faults, slot_of, target_slot, result_faults, declares, stmt_faults, braces_faults, may_braces_faults, else_faults, stmts_faults, catches_faults, handler_faults}
+use Rattle.par_types.specs.Stmts.{throw_fault, test_faults, slot_of, target_slot, result_faults}
+use Rattle.par_types.specs.Stmts.{declares, stmt_faults, braces_faults, may_braces_faults}
+use Rattle.par_types.specs.Stmts.{else_faults, stmts_faults, catches_faults, handler_faults}
 use Rattle.par_types.specs.Methods as types_methods
 use Rattle.par_types.specs.Methods.{home_of, end_fault, method_faults}
 use Rattle.par_annotate.specs.Frames.{Frame, Var, var_named, further}
 use Rattle.par_annotate.specs.Exprs.{own_this, typed_exp, typed_may}
-use Rattle.par_annotate.specs.Stmts.{Written, Target, Nowhere, ToLocal, ToStatic, ToField, target, target_nodes, assignment}
-use Rattle.par_annotate.specs.Stmts.{own_target, name_target, selected_target, behind, braces_locals, handler_locals}
-use Rattle.par_annotate.specs.Stmts.{typed_sta, typed_braces, typed_may_braces, typed_else, typed_stas, typed_catches, typed_handler}
+use Rattle.par_annotate.specs.Stmts.{Written, Target, Nowhere, ToLocal, ToStatic, ToField, target}
+use Rattle.par_annotate.specs.Stmts.{target_nodes, assignment}
+use Rattle.par_annotate.specs.Stmts.{own_target, name_target, selected_target, behind}
+use Rattle.par_annotate.specs.Stmts.{braces_locals, handler_locals}
+use Rattle.par_annotate.specs.Stmts.{typed_sta, typed_braces, typed_may_braces, typed_else}
+use Rattle.par_annotate.specs.Stmts.{typed_stas, typed_catches, typed_handler}
 use Rattle.par_annotate.specs.Bodies.{no_frame, with_params, typed_method}
-use Rattle.par_well_typed.specs.Sizes.{is_this, size, may_size, stmt_size, else_size, all_size, catches_size}
+use Rattle.par_well_typed.specs.Sizes.{is_this, size, may_size, stmt_size, else_size, all_size}
+use Rattle.par_well_typed.specs.Sizes.{catches_size}
 use Rattle.par_well_typed.proofs.Lists.{none_left, none_right}
 use Rattle.par_well_typed.proofs.NamedStatements.{scope-behind, scope-params}
 use Rattle.par_well_typed.proofs.Sizes.{not_more, exp_size}

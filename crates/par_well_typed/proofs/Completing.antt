@@ -1,15 +1,21 @@
 -- Control comes behind a typed statement exactly where it comes behind that of the source.
-use Rattle.std.proofs.Common.{◌≡◌, ℕ, ◌+◌, Bool, true, false, not, ◌||◌, Option, Some, None, refl, ap, ◌∙◌}
-use Rattle.par_tree.specs.Plain.{Exp, Int, True, False, Null, This, New, Name, Field, Call, Neg, Not, Binary}
-use Rattle.par_tree.specs.Plain.{Sta, Block, If, While, Try, Return, Break, Continue, Throw, Open, Close}
+use Rattle.std.proofs.Common.{◌≡◌, ℕ, ◌+◌, Bool, true, false, not, ◌||◌, Option, Some, None, refl}
+use Rattle.std.proofs.Common.{ap, ◌∙◌}
+use Rattle.par_tree.specs.Plain.{Exp, Int, True, False, Null, This, New, Name, Field, Call, Neg}
+use Rattle.par_tree.specs.Plain.{Not, Binary}
+use Rattle.par_tree.specs.Plain.{Sta, Block, If, While, Try, Return, Break, Continue, Throw, Open}
+use Rattle.par_tree.specs.Plain.{Close}
 use Rattle.par_tree.specs.Plain.{Declare, Assign, Do, When, Braces, In, MayBraces, NoBraces}
-use Rattle.par_tree.specs.Plain.{Else, NoElse, Otherwise, Stas, End, Then, Catches, NoCatch, Catch, Handler, On}
+use Rattle.par_tree.specs.Plain.{Else, NoElse, Otherwise, Stas, End, Then, Catches, NoCatch, Catch}
+use Rattle.par_tree.specs.Plain.{Handler, On}
 use Rattle.par_tree.specs.Plain as plain
 use Rattle.par_typed.specs.declared.table.ChannelInfo.{ChannelInfo}
 use Rattle.par_typed.specs.Plain.{Mark, TExp, MayTExp, TExps}
 use Rattle.par_typed.specs.Nodes.{may_nodes}
-use Rattle.par_completes.specs.Completes.{is_true, breaks, braces_break, may_braces_break, else_breaks, some_break, some_catch_breaks}
-use Rattle.par_completes.specs.Completes.{completes, braces_complete, may_braces_complete, else_completes, last_completes, some_catch_completes}
+use Rattle.par_completes.specs.Completes.{is_true, breaks, braces_break, may_braces_break}
+use Rattle.par_completes.specs.Completes.{else_breaks, some_break, some_catch_breaks}
+use Rattle.par_completes.specs.Completes.{completes, braces_complete, may_braces_complete}
+use Rattle.par_completes.specs.Completes.{else_completes, last_completes, some_catch_completes}
 use Rattle.par_completes.specs.Typed as ends
 use Rattle.par_scope.specs.declared.members.Place.{Place}
 use Rattle.par_scope.specs.declared.meaning.Receiver.{Receiver}
@@ -20,9 +26,13 @@ use Rattle.par_scope.specs.Home.{Home}
 use Rattle.par_scope.specs.Members.{field_at, channel_at, field_is_static}
 use Rattle.par_scope.specs.Meaning.{type_of, called_on, receiver_of, selected, called, sure}
 use Rattle.par_annotate.specs.Frames.{Frame, Var, var_named, further}
-use Rattle.par_annotate.specs.Exprs.{own_this, own_field, name_typed, negation, number_of, selection, callee_on, by_way, through, call, typed_exp, typed_may, typed_args, mark_of}
-use Rattle.par_annotate.specs.Stmts.{Written, Target, Nowhere, ToLocal, ToStatic, ToField, target, assignment, behind, braces_locals, handler_locals}
-use Rattle.par_annotate.specs.Stmts.{typed_sta, typed_braces, typed_may_braces, typed_else, typed_stas, typed_catches}
+use Rattle.par_annotate.specs.Exprs.{own_this, own_field, name_typed, negation, number_of}
+use Rattle.par_annotate.specs.Exprs.{selection, callee_on, by_way, through, call, typed_exp}
+use Rattle.par_annotate.specs.Exprs.{typed_may, typed_args, mark_of}
+use Rattle.par_annotate.specs.Stmts.{Written, Target, Nowhere, ToLocal, ToStatic, ToField, target}
+use Rattle.par_annotate.specs.Stmts.{assignment, behind, braces_locals, handler_locals}
+use Rattle.par_annotate.specs.Stmts.{typed_sta, typed_braces, typed_may_braces, typed_else}
+use Rattle.par_annotate.specs.Stmts.{typed_stas, typed_catches}
 
 -- ---- the literal `true`
 

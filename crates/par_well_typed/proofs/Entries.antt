@@ -1,5 +1,7 @@
 -- The numbers in the table of a source are in range.
-use Rattle.std.proofs.Common.{◌≡◌, ℕ, zero, suc, ◌+◌, ◌<◌, ◌≤◌, Bool, true, false, List, [], ◌∷◌, ◌++◌, length, Option, Some, None, refl, sym, ap, subst, ◌∙◌, arith, map, cond, add-zero}
+use Rattle.std.proofs.Common.{◌≡◌, ℕ, zero, suc, ◌+◌, ◌<◌, ◌≤◌, Bool, true, false, List, [], ◌∷◌}
+use Rattle.std.proofs.Common.{◌++◌, length, Option, Some, None, refl, sym, ap, subst, ◌∙◌, arith}
+use Rattle.std.proofs.Common.{map, cond, add-zero}
 use Rattle.std.specs.Prelude.{flat_map, slice_get, count_by, nat_lt, nat_eq, if◌then◌else◌, sum_by}
 use Rattle.std.specs.List.{AllByRecursion, list_any, range_with_len}
 use Rattle.std.proofs.lemmas.List.{length-map, length-append}
@@ -17,23 +19,35 @@ use Rattle.par_typed.specs.declared.table.Table.{Table}
 use Rattle.par_names.specs.Declarations.{actors, locks, policies, classes, declared_classes}
 use Rattle.par_names.specs.Program.{name_faults}
 use Rattle.par_resolved.specs.Sets.{with_number, set_of}
-use Rattle.par_resolved.specs.Numbers.{numbers, number, lock_number, type_of, result_of, ground_count, choices, place_in_family}
-use Rattle.par_resolved.specs.Policies.{Known, known, nothing_known, known_behind, with_value, value_of, policy_of}
+use Rattle.par_resolved.specs.Numbers.{numbers, number, lock_number, type_of, result_of}
+use Rattle.par_resolved.specs.Numbers.{ground_count, choices, place_in_family}
+use Rattle.par_resolved.specs.Policies.{Known, known, nothing_known, known_behind, with_value}
+use Rattle.par_resolved.specs.Policies.{value_of, policy_of}
 use Rattle.par_resolved.specs.Statements.{in_braces}
 use Rattle.par_resolved.specs.Written.{stmt_types}
 use Rattle.par_resolved.specs.Births.{birth_policy}
 use Rattle.par_resolved.specs.Numbered.{numbered, declared, shared_policies}
-use Rattle.par_resolved.specs.Resolved.{Resolved, resolved, number_of, may_number, expression_number, lock_policy, ground_lock, family, ground_locks_from, query_numbers, ground_locks}
-use Rattle.par_resolved.specs.Resolved.{field_infos, channel_info, param_info, throw_info, lock_set, this_type, local_types, method_info, class_info, class_infos, has_main, table_of}
-use Rattle.par_well_typed.specs.Tables.{IsPolicy, IsLock, IsClass, MayBePolicy, AreLocks, IsType, arrivals, FieldInRange, ChannelInRange, ParamInRange, ThrowInRange, MethodInRange, ClassInRange, LockInRange}
+use Rattle.par_resolved.specs.Resolved.{Resolved, resolved, number_of, may_number}
+use Rattle.par_resolved.specs.Resolved.{expression_number, lock_policy, ground_lock, family}
+use Rattle.par_resolved.specs.Resolved.{ground_locks_from, query_numbers, ground_locks}
+use Rattle.par_resolved.specs.Resolved.{field_infos, channel_info, param_info, throw_info, lock_set}
+use Rattle.par_resolved.specs.Resolved.{this_type, local_types, method_info, class_info}
+use Rattle.par_resolved.specs.Resolved.{class_infos, has_main, table_of}
+use Rattle.par_well_typed.specs.Tables.{IsPolicy, IsLock, IsClass, MayBePolicy, AreLocks, IsType}
+use Rattle.par_well_typed.specs.Tables.{arrivals, FieldInRange, ChannelInRange, ParamInRange}
+use Rattle.par_well_typed.specs.Tables.{ThrowInRange, MethodInRange, ClassInRange, LockInRange}
 use Rattle.par_well_typed.specs.Tables as tables
 use Rattle.par_faults.specs.Faults.{all_faults}
 use Rattle.par_sources.specs.Order.{IsInOrder}
-use Rattle.par_well_typed.proofs.Lists.{of_both, of_parts, all_mapped, each_is, of_each, found_within, folded, ranged}
+use Rattle.par_well_typed.proofs.Lists.{of_both, of_parts, all_mapped, each_is, of_each}
+use Rattle.par_well_typed.proofs.Lists.{found_within, folded, ranged}
 use Rattle.par_well_typed.proofs.Locks.{length-choices}
-use Rattle.par_well_typed.proofs.Policies.{number_within, may_within, is_inferred, inferred_in, length-numbered, few_policies}
+use Rattle.par_well_typed.proofs.Policies.{number_within, may_within, is_inferred, inferred_in}
+use Rattle.par_well_typed.proofs.Policies.{length-numbered, few_policies}
 use Rattle.par_well_typed.proofs.Unbroken as unbroken
-use Rattle.par_well_typed.proofs.Unbroken.{IsKnownLock, lock_within, KnowsLocks, IsKeptClass, IsKeptMethod, classes_kept, methods_kept, head_kept, head_locks, names_kept, table_kept, few}
+use Rattle.par_well_typed.proofs.Unbroken.{IsKnownLock, lock_within, KnowsLocks, IsKeptClass}
+use Rattle.par_well_typed.proofs.Unbroken.{IsKeptMethod, classes_kept, methods_kept, head_kept}
+use Rattle.par_well_typed.proofs.Unbroken.{head_locks, names_kept, table_kept, few}
 
 -- ---- sets of numbers
 
@@ -218,7 +232,8 @@ module _ (source : Source) where
         (λ chosen is. (
           is,
           ground_policy
-              (list_any (nat_eq (first + place_in_family (length r.known.numbers.actors) chosen)) queries)
+              (list_any (nat_eq (first + place_in_family (length r.known.numbers.actors) chosen))
+              queries)
               l.policy,
         ))
         (choices_in (length r.known.numbers.actors) l.arity))

@@ -7,7 +7,8 @@ use Rattle.par_typed.specs.declared.table.FieldInfo.{FieldInfo}
 use Rattle.par_typed.specs.declared.table.MethodInfo.{MethodInfo}
 use Rattle.par_typed.specs.declared.table.ClassInfo.{ClassInfo}
 use Rattle.par_typed.specs.declared.table.Table.{Table}
-use Rattle.par_typed.specs.Plain.{Mark, mark, Int, Boolean, Null, Local, TSta, Block, Break, SetLocal, SetStatic, Then, End}
+use Rattle.par_typed.specs.Plain.{Mark, mark, Int, Boolean, Null, Local, TSta, Block, Break}
+use Rattle.par_typed.specs.Plain.{SetLocal, SetStatic, Then, End}
 use Rattle.par_well_typed.specs.Orderly.{IsBodyOf}
 use Rattle.par_well_typed.specs.Members.{ExpNames, StaNames}
 use Rattle.par_well_typed.specs.Fits.{ExpFits, StaFits}
@@ -97,7 +98,8 @@ no_boolean : StaFits table 0 [] [] ty.Void (SetStatic 0 0 (Boolean true (of ty.B
 unfolding table shop got StaFits mark
 no_boolean h = let same : ◌≡◌ {A = Ty} ty.Boolean ty.Int = h.0.0 in cc same
 
-no_null : StaFits table 0 (ty.Class 0 ∷ []) (true ∷ []) ty.Void (SetLocal 0 None (Null (of ty.Null)) 0 0)
+no_null : StaFits table 0 (ty.Class 0 ∷ []) (true ∷ []) ty.Void
+    (SetLocal 0 None (Null (of ty.Null)) 0 0)
     → ⊥
 unfolding StaFits mark
 no_null h = let same : ◌≡◌ {A = Bool} false true = h.0.1 in cc same

@@ -1,11 +1,14 @@
 -- The types of values in the bodies of a source fit where they stand.
-use Rattle.std.proofs.Common.{◌≡◌, ℕ, ◌+◌, Bool, true, false, cond, List, [], ◌∷◌, ◌++◌, length, Option, Some, None, refl, sym, ap, subst, ◌∙◌, append_assoc, append-nil, add-zero, map}
+use Rattle.std.proofs.Common.{◌≡◌, ℕ, ◌+◌, Bool, true, false, cond, List, [], ◌∷◌, ◌++◌, length}
+use Rattle.std.proofs.Common.{Option, Some, None, refl, sym, ap, subst, ◌∙◌, append_assoc}
+use Rattle.std.proofs.Common.{append-nil, add-zero, map}
 use Rattle.std.specs.Prelude.{flat_map, slice_get}
 use Rattle.std.specs.List.{AllByRecursion}
 use Rattle.std.proofs.lemmas.List.{length-map, length-append}
 use Rattle.par_tree.specs.declared.decl.ParamDecl.{ParamDecl}
 use Rattle.par_tree.specs.declared.types.TypeTree.{TypeTree}
-use Rattle.par_tree.specs.Plain.{Sta, Block, If, While, Try, Return, Break, Continue, Throw, Open, Close}
+use Rattle.par_tree.specs.Plain.{Sta, Block, If, While, Try, Return, Break, Continue, Throw, Open}
+use Rattle.par_tree.specs.Plain.{Close}
 use Rattle.par_tree.specs.Plain.{Declare, Assign, Do, When, Class, Method, Declaration, Source}
 use Rattle.par_tree.specs.Plain as plain
 use Rattle.par_typed.specs.declared.ty.Ty.{Ty}
@@ -13,20 +16,25 @@ use Rattle.par_typed.specs.declared.table.Table.{Table}
 use Rattle.par_names.specs.Declarations.{classes, builtins, classes_in, doubles}
 use Rattle.par_names.specs.Methods as named
 use Rattle.par_names.specs.Methods.{head_faults, param_faults, effect_faults, throw_faults}
-use Rattle.par_names.specs.Policies.{View, policy_faults, may_policy_faults, lock_faults, type_fault, result_fault}
+use Rattle.par_names.specs.Policies.{View, policy_faults, may_policy_faults, lock_faults}
+use Rattle.par_names.specs.Policies.{type_fault, result_fault}
 use Rattle.par_names.specs.Program.{view_behind, name_faults}
 use Rattle.par_scope.specs.Names.{names_of}
 use Rattle.par_scope.specs.Locals.{no_locals}
 use Rattle.par_scope.specs.Home.{Home, class_named, result_written}
 use Rattle.par_types.specs.Stmts.{braces_faults}
 use Rattle.par_types.specs.Methods as rules
-use Rattle.par_types.specs.Methods.{home_of, param_slot, end_fault, fields_faults, method_faults, methods_faults, class_faults}
+use Rattle.par_types.specs.Methods.{home_of, param_slot, end_fault, fields_faults, method_faults}
+use Rattle.par_types.specs.Methods.{methods_faults, class_faults}
 use Rattle.par_types.specs.Program.{declaration_faults, declarations_faults, type_faults}
 use Rattle.par_annotate.specs.Frames.{Frame, with_local}
 use Rattle.par_annotate.specs.Stmts.{Written}
-use Rattle.par_annotate.specs.Bodies.{first_number, no_frame, with_params, typed_body, typed_methods, typed_class, typed_declaration, typed_declarations}
+use Rattle.par_annotate.specs.Bodies.{first_number, no_frame, with_params, typed_body}
+use Rattle.par_annotate.specs.Bodies.{typed_methods, typed_class, typed_declaration}
+use Rattle.par_annotate.specs.Bodies.{typed_declarations}
 use Rattle.par_resolved.specs.Numbers.{type_of, result_of}
-use Rattle.par_resolved.specs.Resolved.{Resolved, resolved, class_info, method_info, param_info, this_type, local_types, table_of}
+use Rattle.par_resolved.specs.Resolved.{Resolved, resolved, class_info, method_info, param_info}
+use Rattle.par_resolved.specs.Resolved.{this_type, local_types, table_of}
 use Rattle.par_resolved.specs.Statements.{in_braces}
 use Rattle.par_resolved.specs.Written.{stmt_types}
 use Rattle.par_faults.specs.Faults.{all_faults}
@@ -37,8 +45,11 @@ use Rattle.par_well_typed.specs.Typed.{written_in, bodies_of}
 use Rattle.par_well_typed.proofs.Lists.{none_left, none_right, none_of, of_both}
 use Rattle.par_well_typed.proofs.Members.{IsThere}
 use Rattle.par_well_typed.proofs.Places.{Differ}
-use Rattle.par_well_typed.proofs.Programs.{at_length, map-map, class_number, class_stands, method_names_differ, method_number, method_stands, next_params, this_count}
-use Rattle.par_well_typed.proofs.Unbroken.{IsKept, IsKeptClass, IsKeptMethod, kept, methods_kept, head_kept, body_kept, names_kept}
+use Rattle.par_well_typed.proofs.Programs.{at_length, map-map, class_number, class_stands}
+use Rattle.par_well_typed.proofs.Programs.{method_names_differ, method_number, method_stands}
+use Rattle.par_well_typed.proofs.Programs.{next_params, this_count}
+use Rattle.par_well_typed.proofs.Unbroken.{IsKept, IsKeptClass, IsKeptMethod, kept, methods_kept}
+use Rattle.par_well_typed.proofs.Unbroken.{head_kept, body_kept, names_kept}
 use Rattle.par_well_typed.proofs.NamedStatements.{scope-params}
 use Rattle.par_well_typed.proofs.MakesStatements.{params_known}
 use Rattle.par_well_typed.proofs.Known.{Holds, held_push}
@@ -83,7 +94,8 @@ module _ (names : List (List ℕ)) (listed : List Ty) (sures : List Bool) where
       → AreListed names listed sures (p + 0) ss
   skipped p ss h = subst (λ k. AreListed names listed sures k ss) (sym (add-zero p)) h
 
-  all_listed : (p : ℕ) (ss : List Sta) → AreAt listed p (map (type_of names) (flat_map stmt_types ss))
+  all_listed : (p : ℕ) (ss : List Sta)
+      → AreAt listed p (map (type_of names) (flat_map stmt_types ss))
       → AreAt sures p (flat_map stmt_sures ss) → AreListed names listed sures p ss
   unfolding stmt_types
   all_listed p [] h k = tt
@@ -142,153 +154,158 @@ module _ (source : Source) (ordered : IsInOrder source) (none : all_faults sourc
   -- ---- one method
 
   module _ (class n : ℕ) (c : Class) (m : Method)
-      (stands : slice_get t.classes class ≡ Some (class_info r class n c)) (past : List (List ℕ)) where
-    abbrev v : View
-    v = view_behind source past
+      (stands : slice_get t.classes class ≡ Some (class_info r class n c)) (past : List (List ℕ))
+    where
+      abbrev v : View
+      v = view_behind source past
 
-    abbrev listed : List Ty
-    listed = local_types r.classes class m
+      abbrev listed : List Ty
+      listed = local_types r.classes class m
 
-    abbrev own_sure : List Bool
-    own_sure = cond m.is_static [] (true ∷ [])
+      abbrev own_sure : List Bool
+      own_sure = cond m.is_static [] (true ∷ [])
 
-    abbrev sures : List Bool
-    sures =
-        own_sure ++ map (λ p. p.notnull) m.params ++ flat_map stmt_sures (in_braces m.body)
+      abbrev sures : List Bool
+      sures =
+          own_sure ++ map (λ p. p.notnull) m.params ++ flat_map stmt_sures (in_braces m.body)
 
-    abbrev gives : Ty
-    gives = result_of r.classes m.result
+      abbrev gives : Ty
+      gives = result_of r.classes m.result
 
-    abbrev home : Option Ty → Home
-    home result = home_of t (names_of t) class result
+      abbrev home : Option Ty → Home
+      home result = home_of t (names_of t) class result
 
-    type_is : (y : TypeTree) → type_fault v y ≡ []
-        → result_written (names_of t) (Some y) ≡ Some (type_of r.classes y)
-    type_is y kept = written_is w source class n c gives stands past m.is_static listed sures y kept
+      type_is : (y : TypeTree) → type_fault v y ≡ []
+          → result_written (names_of t) (Some y) ≡ Some (type_of r.classes y)
+      type_is y kept =
+          written_is w source class n c gives stands past m.is_static listed sures y kept
 
-    pub result_by : (o : Option TypeTree) → result_fault v o ≡ []
-        → result_written (names_of t) o ≡ Some (result_of r.classes o)
-    unfolding result_fault result_of
-    result_by None kept = refl
-    result_by (Some y) kept = type_is y kept
+      pub result_by : (o : Option TypeTree) → result_fault v o ≡ []
+          → result_written (names_of t) o ≡ Some (result_of r.classes o)
+      unfolding result_fault result_of
+      result_by None kept = refl
+      result_by (Some y) kept = type_is y kept
 
-    params_hold : (result : Option Ty) (frame : Frame) (ps : List ParamDecl)
-        → Holds listed sures frame → AllByRecursion (λ p. param_faults v p ≡ []) ps
-        → AreAt listed frame.next (map (λ p. type_of r.classes p.ty) ps)
-        → AreAt sures frame.next (map (λ p. p.notnull) ps)
-        → Holds listed sures (with_params (home result) frame ps)
-    unfolding with_params
-    params_hold result frame [] holds kept is sure = holds
-    params_hold result frame (p ∷ ps) holds kept is sure =
-        let written = type_is p.ty
-        (none_right (may_policy_faults v p.policy) (type_fault v p.ty) kept.0) in
-        params_hold result (with_local frame p.id.name (param_slot (home result) p) None) ps
-        (held_push listed sures frame.vars frame.scope.slots
-        (record { number = frame.next; policy = None }) (param_slot (home result) p) holds
-        (written ∙ sym is.0, subst IsThere (sym written) tt, sure.0))
-        kept.1 is.1 sure.1
+      params_hold : (result : Option Ty) (frame : Frame) (ps : List ParamDecl)
+          → Holds listed sures frame → AllByRecursion (λ p. param_faults v p ≡ []) ps
+          → AreAt listed frame.next (map (λ p. type_of r.classes p.ty) ps)
+          → AreAt sures frame.next (map (λ p. p.notnull) ps)
+          → Holds listed sures (with_params (home result) frame ps)
+      unfolding with_params
+      params_hold result frame [] holds kept is sure = holds
+      params_hold result frame (p ∷ ps) holds kept is sure =
+          let written = type_is p.ty
+          (none_right (may_policy_faults v p.policy) (type_fault v p.ty) kept.0) in
+          params_hold result (with_local frame p.id.name (param_slot (home result) p) None) ps
+          (held_push listed sures frame.vars frame.scope.slots
+          (record { number = frame.next; policy = None }) (param_slot (home result) p) holds
+          (written ∙ sym is.0, subst IsThere (sym written) tt, sure.0))
+          kept.1 is.1 sure.1
 
-    -- ---- its locals
+      -- ---- its locals
 
-    this_sure : (b : Bool) → length (cond b [] (true ∷ [])) ≡ first_number b
-    this_sure true = refl
-    this_sure false = refl
+      this_sure : (b : Bool) → length (cond b [] (true ∷ [])) ≡ first_number b
+      this_sure true = refl
+      this_sure false = refl
 
-    abbrev first : ℕ
-    first = first_number m.is_static
+      abbrev first : ℕ
+      first = first_number m.is_static
 
-    abbrev param_types : List Ty
-    param_types = map (λ p. type_of r.classes p.ty) m.params
+      abbrev param_types : List Ty
+      param_types = map (λ p. type_of r.classes p.ty) m.params
 
-    abbrev body_types : List Ty
-    body_types = map (type_of r.classes) (flat_map stmt_types (in_braces m.body))
+      abbrev body_types : List Ty
+      body_types = map (type_of r.classes) (flat_map stmt_types (in_braces m.body))
 
-    abbrev param_sures : List Bool
-    param_sures = map (λ p. p.notnull) m.params
+      abbrev param_sures : List Bool
+      param_sures = map (λ p. p.notnull) m.params
 
-    abbrev body_sures : List Bool
-    body_sures = flat_map stmt_sures (in_braces m.body)
+      abbrev body_sures : List Bool
+      body_sures = flat_map stmt_sures (in_braces m.body)
 
-    abbrev this_types : List Ty
-    this_types = this_type class m.is_static
+      abbrev this_types : List Ty
+      this_types = this_type class m.is_static
 
-    params_listed : AreAt listed first param_types
-    params_listed =
-        run_at listed this_types param_types body_types first
-        (append_assoc this_types param_types body_types)
-        (this_count source ordered names class m.is_static)
+      params_listed : AreAt listed first param_types
+      params_listed =
+          run_at listed this_types param_types body_types first
+          (append_assoc this_types param_types body_types)
+          (this_count source ordered names class m.is_static)
 
-    params_sure : AreAt sures first param_sures
-    params_sure =
-        run_at sures own_sure param_sures body_sures first
-        (append_assoc own_sure param_sures body_sures) (this_sure m.is_static)
+      params_sure : AreAt sures first param_sures
+      params_sure =
+          run_at sures own_sure param_sures body_sures first
+          (append_assoc own_sure param_sures body_sures) (this_sure m.is_static)
 
-    body_listed : AreAt listed (first + length m.params) body_types
-    body_listed =
-        run_at listed (this_types ++ param_types) body_types [] (first + length m.params)
-        (ap (λ xs. this_types ++ param_types ++ xs) (sym (append-nil body_types)))
-        (length-append this_types param_types
-        ∙ ap (λ k. k + length param_types) (this_count source ordered names class m.is_static)
-        ∙ ap (λ k. first + k) (length-map m.params (λ p. type_of r.classes p.ty)))
+      body_listed : AreAt listed (first + length m.params) body_types
+      body_listed =
+          run_at listed (this_types ++ param_types) body_types [] (first + length m.params)
+          (ap (λ xs. this_types ++ param_types ++ xs) (sym (append-nil body_types)))
+          (length-append this_types param_types
+          ∙ ap (λ k. k + length param_types) (this_count source ordered names class m.is_static)
+          ∙ ap (λ k. first + k) (length-map m.params (λ p. type_of r.classes p.ty)))
 
-    body_sure : AreAt sures (first + length m.params) body_sures
-    body_sure =
-        run_at sures (own_sure ++ param_sures) body_sures [] (first + length m.params)
-        (ap (λ xs. own_sure ++ param_sures ++ xs) (sym (append-nil body_sures)))
-        (length-append own_sure param_sures
-        ∙ ap (λ k. k + length param_sures) (this_sure m.is_static)
-        ∙ ap (λ k. first + k) (length-map m.params (λ p. p.notnull)))
+      body_sure : AreAt sures (first + length m.params) body_sures
+      body_sure =
+          run_at sures (own_sure ++ param_sures) body_sures [] (first + length m.params)
+          (ap (λ xs. own_sure ++ param_sures ++ xs) (sym (append-nil body_sures)))
+          (length-append own_sure param_sures
+          ∙ ap (λ k. k + length param_sures) (this_sure m.is_static)
+          ∙ ap (λ k. first + k) (length-map m.params (λ p. p.notnull)))
 
-    types_arrive : BeginsWith (arriving class (method_info r class m)) listed
-    types_arrive = (
-      body_types,
-      ap (λ xs. this_types ++ xs ++ body_types) (sym (map-map (λ p. p.ty) (param_info r) m.params)),
-    )
+      types_arrive : BeginsWith (arriving class (method_info r class m)) listed
+      types_arrive = (
+        body_types,
+        ap (λ xs. this_types ++ xs ++ body_types)
+            (sym (map-map (λ p. p.ty) (param_info r) m.params)),
+      )
 
-    sures_arrive : BeginsWith (arriving_sure (method_info r class m)) sures
-    sures_arrive = (
-      body_sures,
-      ap (λ xs. own_sure ++ xs ++ body_sures)
-          (sym (map-map (λ p. p.notnull) (param_info r) m.params)),
-    )
+      sures_arrive : BeginsWith (arriving_sure (method_info r class m)) sures
+      sures_arrive = (
+        body_sures,
+        ap (λ xs. own_sure ++ xs ++ body_sures)
+            (sym (map-map (λ p. p.notnull) (param_info r) m.params)),
+      )
 
-    -- ---- its body
+      -- ---- its body
 
-    abbrev Right : Option Ty → Type 0
-    Right result =
-        braces_faults (home result) false (rules.with_params (home result) no_locals m.params) m.body
-        ≡ []
+      abbrev Right : Option Ty → Type 0
+      Right result =
+          braces_faults (home result) false
+          (rules.with_params (home result) no_locals m.params) m.body
+          ≡ []
 
-    abbrev BodyFits : Option Ty → Type 0
-    BodyFits result = StaFits t class listed sures gives (typed_body w (home result) m).body
+      abbrev BodyFits : Option Ty → Type 0
+      BodyFits result = StaFits t class listed sures gives (typed_body w (home result) m).body
 
-    body_by : named.method_faults v c m ≡ [] → Right (Some gives) → BodyFits (Some gives)
-    body_by kept right =
-        let start = no_frame m.is_static in
-        let own = home (Some gives) in
-        let next = next_params source ordered names own start m.params in
-        let types = head_types v m (head_kept source past c m kept) in
-        braces_fit w source class n c gives stands past m.is_static listed sures
-        (with_params own start m.params) 0 false (map (λ p. p.id.name) m.params) m.body
-        (params_known own start [] m.params (record { names = refl; vars = refl }))
-        (params_hold (Some gives) start m.params tt types.params params_listed params_sure)
-        (body_kept source past c m kept)
-        (ap (λ scope. braces_faults own false scope m.body) (scope-params own start m.params)
-        ∙ right)
-        (subst (λ k. AreListed r.classes listed sures k (in_braces m.body)) (sym next)
-        (all_listed r.classes listed sures (first + length m.params) (in_braces m.body) body_listed
-        body_sure))
+      body_by : named.method_faults v c m ≡ [] → Right (Some gives) → BodyFits (Some gives)
+      body_by kept right =
+          let start = no_frame m.is_static in
+          let own = home (Some gives) in
+          let next = next_params source ordered names own start m.params in
+          let types = head_types v m (head_kept source past c m kept) in
+          braces_fit w source class n c gives stands past m.is_static listed sures
+          (with_params own start m.params) 0 false (map (λ p. p.id.name) m.params) m.body
+          (params_known own start [] m.params (record { names = refl; vars = refl }))
+          (params_hold (Some gives) start m.params tt types.params params_listed params_sure)
+          (body_kept source past c m kept)
+          (ap (λ scope. braces_faults own false scope m.body) (scope-params own start m.params)
+          ∙ right)
+          (subst (λ k. AreListed r.classes listed sures k (in_braces m.body)) (sym next)
+          (all_listed r.classes listed sures (first + length m.params)
+          (in_braces m.body) body_listed
+          body_sure))
 
-    pub body_fits : named.method_faults v c m ≡ [] → method_faults t (names_of t) class m ≡ []
-        → BodyFits (result_written (names_of t) m.result)
-    body_fits kept right =
-        let result = result_written (names_of t) m.result in
-        let own = home result in
-        let types = head_types v m (head_kept source past c m kept) in
-        let body = braces_faults own false (rules.with_params own no_locals m.params) m.body in
-        let is : result ≡ Some gives = result_by m.result types.result in
-        subst (λ o. Right o → BodyFits o) (sym is) (body_by kept)
-        (none_right _ body (none_left _ (end_fault own m) right))
+      pub body_fits : named.method_faults v c m ≡ [] → method_faults t (names_of t) class m ≡ []
+          → BodyFits (result_written (names_of t) m.result)
+      body_fits kept right =
+          let result = result_written (names_of t) m.result in
+          let own = home result in
+          let types = head_types v m (head_kept source past c m kept) in
+          let body = braces_faults own false (rules.with_params own no_locals m.params) m.body in
+          let is : result ≡ Some gives = result_by m.result types.result in
+          subst (λ o. Right o → BodyFits o) (sym is) (body_by kept)
+          (none_right _ body (none_left _ (end_fault own m) right))
 
   -- ---- whole sources
 

@@ -1,5 +1,7 @@
 -- The types of values in typed expressions fit where they stand.
-use Rattle.std.proofs.Common.{◌≡◌, ℕ, ◌+◌, Bool, true, false, not, ◌||◌, List, [], ◌∷◌, ◌++◌, length, Option, Some, None, refl, sym, ap, subst, ◌∙◌, arith, append_assoc}
+use Rattle.std.proofs.Common.{◌≡◌, ℕ, ◌+◌, Bool, true, false, not, ◌||◌, List, [], ◌∷◌, ◌++◌}
+use Rattle.std.proofs.Common.{length, Option, Some, None, refl, sym, ap, subst, ◌∙◌, arith}
+use Rattle.std.proofs.Common.{append_assoc}
 use Rattle.std.specs.Prelude.{slice_get, nat_eq}
 use Rattle.std.specs.Option.{is_some}
 use Rattle.std.proofs.lemmas.Bool.Decides.{nat_tests}
@@ -7,7 +9,8 @@ use Rattle.std.proofs.lemmas.List.{length-append}
 use Rattle.par_lexer.specs.declared.operator.BinOp.{BinOp}
 use Rattle.par_lexer.specs.declared.operator.BinOp.TheVariants as op
 use Rattle.par_tree.specs.declared.ident.Ident.{Ident}
-use Rattle.par_tree.specs.Plain.{Exp, Int, True, False, Null, This, New, Name, Field, Call, Neg, Not, Binary}
+use Rattle.par_tree.specs.Plain.{Exp, Int, True, False, Null, This, New, Name, Field, Call, Neg}
+use Rattle.par_tree.specs.Plain.{Not, Binary}
 use Rattle.par_tree.specs.Plain.{Exps, NoExps, More, MayExp, Absent, Present, Class, Source, place}
 use Rattle.par_typed.specs.declared.ty.Ty.{Ty}
 use Rattle.par_typed.specs.declared.ty.Ty.TheVariants as ty
@@ -33,25 +36,36 @@ use Rattle.par_scope.specs.declared.meaning.Callee.TheVariants as callee
 use Rattle.par_scope.specs.Names.{names_of}
 use Rattle.par_scope.specs.Locals.{local_named, is_notnull}
 use Rattle.par_scope.specs.Home.{Home, class_named, class_type}
-use Rattle.par_scope.specs.Members.{field_at, channel_at, method_at, field_type, field_is_static, channel_type, channel_arity, way_type, way_arity, method_type, method_is_static, method_params, method_arity, any_value, value_of, param_slot}
-use Rattle.par_scope.specs.Meaning.{type_of, name_type, called_on, receiver_of, selected, called, arity, param_at, sure, place_type, callee_type}
-use Rattle.par_types.specs.Fits.{are_alike, is_int, is_boolean, is_of_class, is_reference, operand, suits}
+use Rattle.par_scope.specs.Members.{field_at, channel_at, method_at, field_type, field_is_static}
+use Rattle.par_scope.specs.Members.{channel_type, channel_arity, way_type, way_arity, method_type}
+use Rattle.par_scope.specs.Members.{method_is_static, method_params, method_arity, any_value}
+use Rattle.par_scope.specs.Members.{value_of, param_slot}
+use Rattle.par_scope.specs.Meaning.{type_of, name_type, called_on, receiver_of, selected, called}
+use Rattle.par_scope.specs.Meaning.{arity, param_at, sure, place_type, callee_type}
+use Rattle.par_types.specs.Fits.{are_alike, is_int, is_boolean, is_of_class, is_reference, operand}
+use Rattle.par_types.specs.Fits.{suits}
 use Rattle.par_types.specs.Exprs as types
-use Rattle.par_types.specs.Exprs.{misfit, misfits, count_fault, member_fault, is_known, unless_number, is_number}
+use Rattle.par_types.specs.Exprs.{misfit, misfits, count_fault, member_fault, is_known}
+use Rattle.par_types.specs.Exprs.{unless_number, is_number}
 use Rattle.par_types.specs.Methods.{home_of}
 use Rattle.par_annotate.specs.Frames.{Frame, Var, var_named}
-use Rattle.par_annotate.specs.Exprs.{known, numbered, own_this, own_field, name_typed, negation, number_of, selection, own_receiver, method_on}
-use Rattle.par_annotate.specs.Exprs.{callee_on, first, by_way, through, call, typed_exp, typed_may, typed_args, mark_of}
+use Rattle.par_annotate.specs.Exprs.{known, numbered, own_this, own_field, name_typed, negation}
+use Rattle.par_annotate.specs.Exprs.{number_of, selection, own_receiver, method_on}
+use Rattle.par_annotate.specs.Exprs.{callee_on, first, by_way, through, call, typed_exp, typed_may}
+use Rattle.par_annotate.specs.Exprs.{typed_args, mark_of}
 use Rattle.par_resolved.specs.Resolved.{resolved, class_info, table_of}
 use Rattle.par_well_typed.specs.Members as members
-use Rattle.par_well_typed.specs.Fits.{Fits, Is, IsSure, IsReadOf, ParamsTake, IsCallOf, AreOperands, ExpFits, MayExpFits, ExpsFit}
+use Rattle.par_well_typed.specs.Fits.{Fits, Is, IsSure, IsReadOf, ParamsTake, IsCallOf, AreOperands}
+use Rattle.par_well_typed.specs.Fits.{ExpFits, MayExpFits, ExpsFit}
 use Rattle.par_well_typed.proofs.Lists.{none_left, none_right}
 use Rattle.par_well_typed.proofs.Unbroken.{is_kept}
 use Rattle.par_well_typed.proofs.Members.{IsThere}
-use Rattle.par_well_typed.proofs.Named.{mark-name, mark-negation, mark-selection, mark-call, type-typed, typed_many}
+use Rattle.par_well_typed.proofs.Named.{mark-name, mark-negation, mark-selection, mark-call}
+use Rattle.par_well_typed.proofs.Named.{type-typed, typed_many}
 use Rattle.par_well_typed.proofs.Programs.{at_length}
 use Rattle.par_well_typed.proofs.Own.{Knows}
-use Rattle.par_well_typed.proofs.Known.{MayBeHeld, Holds, name_held, StandsBefore, stands_before, class_there, name_known, type_known}
+use Rattle.par_well_typed.proofs.Known.{MayBeHeld, Holds, name_held, StandsBefore, stands_before}
+use Rattle.par_well_typed.proofs.Known.{class_there, name_known, type_known}
 
 -- ---- what fits by the rules
 
@@ -201,7 +215,8 @@ read_is None k there t s = there
 read_is (Some f) k there t s = (t, s)
 
 module _ (source : Source) (class n : ℕ) (c : Class) (result : Option Ty)
-    (stands : slice_get (table_of source).classes class ≡ Some (class_info (resolved source) class n c))
+    (stands : slice_get (table_of source).classes class
+    ≡ Some (class_info (resolved source) class n c))
     (before : List (List ℕ)) (in_static : Bool) (listed : List Ty) (sures : List Bool) where
   abbrev t : Table
   t = table_of source
@@ -335,7 +350,8 @@ module _ (source : Source) (class n : ℕ) (c : Class) (result : Option Ty)
   call_of None es at q i place there many none taken = absurd there
   call_of (Some m) es at q i place there many none taken = (
     (refl, refl),
-    params_take m.params [] m.params 0 es refl refl (many ∙ same_count i (length m.params) place none)
+    params_take m.params [] m.params 0 es refl refl
+        (many ∙ same_count i (length m.params) place none)
         taken,
   )
 
@@ -345,7 +361,8 @@ module _ (source : Source) (class n : ℕ) (c : Class) (result : Option Ty)
   FitsOn (on.Class o) w = Unit {0}
   FitsOn (on.Object u) w = MayExpFits t class listed sures w
 
-  fits_on : (frame : Frame) (locals : List (List ℕ)) (e : Exp) (x : List ℕ) (r : Receiver) (y : TExp)
+  fits_on : (frame : Frame) (locals : List (List ℕ)) (e : Exp) (x : List ℕ)
+      (r : Receiver) (y : TExp)
       → StandsBefore source class n c result stands before in_static listed sures frame locals e
       callee_named x r
       → (names.expr_faults v own locals e ≡ [] → Fit y) → FitsOn r (typed.Present y)
@@ -434,7 +451,8 @@ module _ (source : Source) (class n : ℕ) (c : Class) (result : Option Ty)
         let r = receiver_of h frame.scope e (type_of h frame.scope e) in
         let value = types.value_faults h frame.scope any_value e in
         let member = member_fault r (is_some (selected h r f.name)) f.at in
-        selection_fits frame locals e f.name r (selected h r f.name) (typed_exp h frame (p + 1) e) at
+        selection_fits frame locals e f.name r (selected h r f.name)
+        (typed_exp h frame (p + 1) e) at
         p
         (stands_before source class n c result stands before in_static listed sures frame locals e
         selected_named (place e) f knows holds said)
@@ -536,7 +554,8 @@ module _ (source : Source) (class n : ℕ) (c : Class) (result : Option Ty)
         let said_more = none_right (names.expr_faults v own locals e)
         (names.args_faults v own locals es) said in
         let kept = none_left here more none in
-        let rest = args_fit frame (p + nodes (typed_exp h frame p e)) locals k (i + 1) es knows holds
+        let rest =
+        args_fit frame (p + nodes (typed_exp h frame p e)) locals k (i + 1) es knows holds
         said_more (none_right here more none) in (
           (
             exp_fits frame p locals e knows holds said_here

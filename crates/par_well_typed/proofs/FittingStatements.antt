@@ -1,15 +1,19 @@
 -- The types of values in typed statements fit where they stand.
-use Rattle.std.proofs.Common.{◌≡◌, ℕ, ◌+◌, Bool, true, false, not, List, [], ◌∷◌, ◌++◌, length, Option, Some, None, refl, sym, ap, subst, ◌∙◌, add-zero, arith}
+use Rattle.std.proofs.Common.{◌≡◌, ℕ, ◌+◌, Bool, true, false, not, List, [], ◌∷◌, ◌++◌, length}
+use Rattle.std.proofs.Common.{Option, Some, None, refl, sym, ap, subst, ◌∙◌, add-zero, arith}
 use Rattle.std.specs.Prelude.{flat_map, slice_get, unwrap_or}
 use Rattle.std.specs.Option.{is_some}
 use Rattle.std.proofs.lemmas.List.{length-append}
 use Rattle.par_tree.specs.declared.types.TypeTree.{TypeTree}
 use Rattle.par_tree.specs.declared.types.TypeTree.TheVariants as type
-use Rattle.par_tree.specs.Plain.{Exp, Int, True, False, Null, This, New, Name, Field, Call, Neg, Not, Binary}
+use Rattle.par_tree.specs.Plain.{Exp, Int, True, False, Null, This, New, Name, Field, Call, Neg}
+use Rattle.par_tree.specs.Plain.{Not, Binary}
 use Rattle.par_tree.specs.Plain.{Exps, NoExps, More, MayExp, Absent, Present, Class, Source, place}
-use Rattle.par_tree.specs.Plain.{Sta, Block, If, While, Try, Return, Break, Continue, Throw, Open, Close}
+use Rattle.par_tree.specs.Plain.{Sta, Block, If, While, Try, Return, Break, Continue, Throw, Open}
+use Rattle.par_tree.specs.Plain.{Close}
 use Rattle.par_tree.specs.Plain.{Declare, Assign, Do, When, Braces, In, MayBraces, NoBraces, Local}
-use Rattle.par_tree.specs.Plain.{Else, NoElse, Otherwise, Stas, End, Then, Catches, NoCatch, Catch, Handler, On}
+use Rattle.par_tree.specs.Plain.{Else, NoElse, Otherwise, Stas, End, Then, Catches, NoCatch, Catch}
+use Rattle.par_tree.specs.Plain.{Handler, On}
 use Rattle.par_tree.specs.Plain as plain
 use Rattle.par_typed.specs.declared.ty.Ty.{Ty}
 use Rattle.par_typed.specs.declared.ty.Ty.TheVariants as ty
@@ -36,18 +40,25 @@ use Rattle.par_completes.specs.Completes.{completes}
 use Rattle.par_types.specs.Fits.{is_void}
 use Rattle.par_types.specs.Exprs.{expr_faults, member_fault, value_faults}
 use Rattle.par_types.specs.Stmts as types
-use Rattle.par_types.specs.Stmts.{throw_fault, test_faults, slot_of, refuses_null, target_slot, result_faults, stmt_faults, braces_faults, may_braces_faults, else_faults, stmts_faults, catches_faults, handler_faults}
+use Rattle.par_types.specs.Stmts.{throw_fault, test_faults, slot_of, refuses_null, target_slot}
+use Rattle.par_types.specs.Stmts.{result_faults, stmt_faults, braces_faults, may_braces_faults}
+use Rattle.par_types.specs.Stmts.{else_faults, stmts_faults, catches_faults, handler_faults}
 use Rattle.par_types.specs.Methods.{home_of}
 use Rattle.par_annotate.specs.Frames.{Frame, Var, var_named, further}
 use Rattle.par_annotate.specs.Exprs.{own_this, typed_exp, typed_may}
-use Rattle.par_annotate.specs.Stmts.{Written, may_policy, Target, Nowhere, ToLocal, ToStatic, ToField, target, target_nodes, assignment}
-use Rattle.par_annotate.specs.Stmts.{own_target, name_target, selected_target, behind, locals_in, braces_locals, handler_locals}
-use Rattle.par_annotate.specs.Stmts.{typed_sta, typed_braces, typed_may_braces, typed_else, typed_stas, typed_catches}
+use Rattle.par_annotate.specs.Stmts.{Written, may_policy, Target, Nowhere, ToLocal, ToStatic}
+use Rattle.par_annotate.specs.Stmts.{ToField, target, target_nodes, assignment}
+use Rattle.par_annotate.specs.Stmts.{own_target, name_target, selected_target, behind, locals_in}
+use Rattle.par_annotate.specs.Stmts.{braces_locals, handler_locals}
+use Rattle.par_annotate.specs.Stmts.{typed_sta, typed_braces, typed_may_braces, typed_else}
+use Rattle.par_annotate.specs.Stmts.{typed_stas, typed_catches}
 use Rattle.par_resolved.specs.Numbers as numbers
 use Rattle.par_resolved.specs.Resolved.{resolved, class_info, table_of}
-use Rattle.par_resolved.specs.Statements.{inside, in_braces, in_may_braces, in_else, in_all, in_catches}
+use Rattle.par_resolved.specs.Statements.{inside, in_braces, in_may_braces, in_else, in_all}
+use Rattle.par_resolved.specs.Statements.{in_catches}
 use Rattle.par_resolved.specs.Written.{stmt_types}
-use Rattle.par_well_typed.specs.Fits.{Fits, IsSure, LocalTakes, FieldTakes, IsReturned, ExpFits, MayExpFits, StaFits, ElseFits, StasFit, CatchesFit}
+use Rattle.par_well_typed.specs.Fits.{Fits, IsSure, LocalTakes, FieldTakes, IsReturned, ExpFits}
+use Rattle.par_well_typed.specs.Fits.{MayExpFits, StaFits, ElseFits, StasFit, CatchesFit}
 use Rattle.par_well_typed.proofs.Lists.{none_left, none_right}
 use Rattle.par_well_typed.proofs.Unbroken.{is_kept}
 use Rattle.par_well_typed.proofs.Members.{IsThere}
@@ -56,7 +67,9 @@ use Rattle.par_well_typed.proofs.Programs.{names-class_infos, counts, counts_bra
 use Rattle.par_well_typed.proofs.Bodies.{next-behind}
 use Rattle.par_well_typed.proofs.Own.{Knows}
 use Rattle.par_well_typed.proofs.MakesStatements.{further_known, behind_known}
-use Rattle.par_well_typed.proofs.Known.{IsHeld, MayBeHeld, Holds, name_held, held_push, StandsBefore, stands_before, class_there, name_known, type_known}
+use Rattle.par_well_typed.proofs.Known.{IsHeld, MayBeHeld, Holds, name_held, held_push}
+use Rattle.par_well_typed.proofs.Known.{StandsBefore, stands_before, class_there, name_known}
+use Rattle.par_well_typed.proofs.Known.{type_known}
 use Rattle.par_well_typed.proofs.Fitting.{Suits, SlotTakes, exp_fits, value_fits}
 
 -- ---- the locals that statements declare stand in the lists from a number on
@@ -107,7 +120,8 @@ module _ (classes : List (List ℕ)) (listed : List Ty) (sures : List Bool) wher
       subst (λ k. AreListed (p + k) ys) many (listed_behind p xs ys h)
 
 module _ (w : Written) (source : Source) (class n : ℕ) (c : Class) (gives : Ty)
-    (stands : slice_get (table_of source).classes class ≡ Some (class_info (resolved source) class n c))
+    (stands : slice_get (table_of source).classes class
+    ≡ Some (class_info (resolved source) class n c))
     (before : List (List ℕ)) (in_static : Bool) (listed : List Ty) (sures : List Bool) where
   abbrev t : Table
   t = table_of source

@@ -1,12 +1,15 @@
 -- The types of expressions are known where no rule on names and types is broken.
-use Rattle.std.proofs.Common.{◌≡◌, ℕ, zero, suc, ◌+◌, ◌<◌, Bool, true, false, not, ◌||◌, List, [], ◌∷◌, ◌++◌, length, Option, Some, None, refl, sym, ap, subst, ◌∙◌, arith, add-zero}
+use Rattle.std.proofs.Common.{◌≡◌, ℕ, zero, suc, ◌+◌, ◌<◌, Bool, true, false, not, ◌||◌, List, []}
+use Rattle.std.proofs.Common.{◌∷◌, ◌++◌, length, Option, Some, None, refl, sym, ap, subst, ◌∙◌}
+use Rattle.std.proofs.Common.{arith, add-zero}
 use Rattle.std.specs.Prelude.{slice_get, count_by, if◌then◌else◌}
 use Rattle.std.specs.Option.{option_map, is_some}
 use Rattle.std.specs.Str.{bytes_eq}
 use Rattle.par_index.specs.Texts.{has}
 use Rattle.par_index.proofs.Places.{position-within, position-is_some}
 use Rattle.par_tree.specs.declared.ident.Ident.{Ident}
-use Rattle.par_tree.specs.Plain.{Exp, Int, True, False, Null, This, New, Name, Field, Call, Neg, Not, Binary}
+use Rattle.par_tree.specs.Plain.{Exp, Int, True, False, Null, This, New, Name, Field, Call, Neg}
+use Rattle.par_tree.specs.Plain.{Not, Binary}
 use Rattle.par_tree.specs.Plain.{Absent, Present, Class, Source, place}
 use Rattle.par_typed.specs.declared.ty.Ty.{Ty}
 use Rattle.par_typed.specs.declared.ty.Ty.TheVariants as ty
@@ -31,9 +34,12 @@ use Rattle.par_scope.specs.declared.meaning.Callee.TheVariants as callee
 use Rattle.par_scope.specs.Names.{names_of, number_in}
 use Rattle.par_scope.specs.Locals.{slot_at, local_named}
 use Rattle.par_scope.specs.Home.{Home, class_named, class_type}
-use Rattle.par_scope.specs.Members.{field_at, channel_at, method_at, field_type, field_is_static, channel_type, method_type, method_is_static, any_value}
-use Rattle.par_scope.specs.Meaning.{type_of, type_of_name, name_type, receiver_of, name_receiver, is_value, place_type, callee_type, arity}
-use Rattle.par_scope.specs.Meaning.{class_of, field_in, when_it_is, static_field, selected, callee_in, when_it_does, static_callee, object_callee, called}
+use Rattle.par_scope.specs.Members.{field_at, channel_at, method_at, field_type, field_is_static}
+use Rattle.par_scope.specs.Members.{channel_type, method_type, method_is_static, any_value}
+use Rattle.par_scope.specs.Meaning.{type_of, type_of_name, name_type, receiver_of, name_receiver}
+use Rattle.par_scope.specs.Meaning.{is_value, place_type, callee_type, arity}
+use Rattle.par_scope.specs.Meaning.{class_of, field_in, when_it_is, static_field, selected}
+use Rattle.par_scope.specs.Meaning.{callee_in, when_it_does, static_callee, object_callee, called}
 use Rattle.par_types.specs.Exprs as types
 use Rattle.par_types.specs.Exprs.{misfit, count_fault, member_fault, is_known}
 use Rattle.par_types.specs.Methods.{home_of}
@@ -43,9 +49,11 @@ use Rattle.par_well_typed.specs.Members.{IsField}
 use Rattle.par_well_typed.proofs.Lists.{none_left, none_right}
 use Rattle.par_well_typed.proofs.Ranges.{MayBe}
 use Rattle.par_well_typed.proofs.Unbroken.{is_kept}
-use Rattle.par_well_typed.proofs.Members.{IsThere, PlaceOf, Selects, CalleeOf, there, field_found, callee_found, selected_is}
+use Rattle.par_well_typed.proofs.Members.{IsThere, PlaceOf, Selects, CalleeOf, there, field_found}
+use Rattle.par_well_typed.proofs.Members.{callee_found, selected_is}
 use Rattle.par_well_typed.proofs.Programs.{names-class_infos}
-use Rattle.par_well_typed.proofs.Own.{static_at, own_static, field_static, method_static, IsAsStatic, own_callee, Knows, no_local}
+use Rattle.par_well_typed.proofs.Own.{static_at, own_static, field_static, method_static}
+use Rattle.par_well_typed.proofs.Own.{IsAsStatic, own_callee, Knows, no_local}
 use Rattle.par_well_typed.proofs.Makes.{otherwise_none}
 
 -- ---- what is there
@@ -139,11 +147,13 @@ module _ (listed : List Ty) (sures : List Bool) where
     by (Some k) = held_at frame.vars frame.scope.slots k h
 
   -- it has one exactly where names know one
-  local_is : (frame : Frame) (locals : List (List ℕ)) (x : List ℕ) → Knows frame locals → Holds frame
+  local_is : (frame : Frame) (locals : List (List ℕ)) (x : List ℕ) → Knows frame locals
+      → Holds frame
       → is_some (local_named frame.scope x) ≡ has locals x
   local_is frame locals x knows h =
       by (number_in locals x) refl ∙ position-is_some (bytes_eq x) locals where
-        slot_there : (v : Option Var) (s : Option Slot) → IsThere v → MayBeHeld v s → is_some s ≡ true
+        slot_there : (v : Option Var) (s : Option Slot) → IsThere v → MayBeHeld v s
+            → is_some s ≡ true
         slot_there None s is held = absurd is
         slot_there (Some v) None is held = absurd held
         slot_there (Some v) (Some s) is held = refl
@@ -165,7 +175,8 @@ module _ (listed : List Ty) (sures : List Bool) where
             ∙ sym (ap is_some is)
 
 module _ (source : Source) (class n : ℕ) (c : Class) (result : Option Ty)
-    (stands : slice_get (table_of source).classes class ≡ Some (class_info (resolved source) class n c))
+    (stands : slice_get (table_of source).classes class
+    ≡ Some (class_info (resolved source) class n c))
     (before : List (List ℕ)) (in_static : Bool) (listed : List Ty) (sures : List Bool) where
   abbrev t : Table
   t = table_of source
@@ -228,7 +239,8 @@ module _ (source : Source) (class n : ℕ) (c : Class) (result : Option Ty)
       → Holds listed sures frame
       → is_value h frame.scope x ≡ (has locals x || is_some (selected_named c x))
   value_is frame locals x knows holds =
-      ap (λ b. b || is_some (selected h on.Own x)) (local_is listed sures frame locals x knows holds)
+      ap (λ b. b || is_some (selected h on.Own x))
+      (local_is listed sures frame locals x knows holds)
       ∙ ap (λ b. has locals x || b)
       (by (selected h on.Own x) (selected_is t class result on.Own x)
       ∙ ap is_some (sym (own_static source class n c result stands x))) where
@@ -405,7 +417,8 @@ module _ (source : Source) (class n : ℕ) (c : Class) (result : Option Ty)
       subst (λ b. IsThere (callee_type t (when_it_does b p)))
       (sym (by (method_at t p) (sym (ap is_static same) ∙ is)))
       (method_there (method_at t p) placed.1) where
-        by : (o : Option MethodInfo) → is_static (method_static o) ≡ true → method_is_static o ≡ true
+        by : (o : Option MethodInfo) → is_static (method_static o) ≡ true
+            → method_is_static o ≡ true
         by None is = absurd (cc is)
         by (Some m) is = is
 

@@ -1,5 +1,6 @@
 -- Lists of which all items have a property.
-use Rattle.std.proofs.Common.{◌≡◌, ℕ, zero, suc, ◌+◌, ◌<◌, ◌≤◌, Bool, List, [], ◌∷◌, ◌++◌, length, Option, Some, None, refl, sym, subst, arith, map}
+use Rattle.std.proofs.Common.{◌≡◌, ℕ, zero, suc, ◌+◌, ◌<◌, ◌≤◌, Bool, List, [], ◌∷◌, ◌++◌, length}
+use Rattle.std.proofs.Common.{Option, Some, None, refl, sym, subst, arith, map}
 use Rattle.std.specs.Prelude.{flat_map, fold, unwrap_or}
 use Rattle.std.specs.List.{AllByRecursion, position, range_with_len}
 use Rattle.std.proofs.lemmas.List.Quantifiers.{position-Some}

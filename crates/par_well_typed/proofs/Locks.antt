@@ -1,6 +1,8 @@
 -- The numbers of ground locks.
-use Rattle.std.proofs.Common.{◌≡◌, ℕ, zero, suc, ◌+◌, ◌*◌, ◌^◌, ◌<◌, ◌≤◌, List, [], ◌∷◌, length, Some, sym, ap, subst, ◌∙◌, arith, map}
-use Rattle.std.proofs.Math.Nat.{pow-suc, pow-zero, one-mul, zero-mul, suc-mul, mul-le-mul_right, pow-le-pow_right}
+use Rattle.std.proofs.Common.{◌≡◌, ℕ, zero, suc, ◌+◌, ◌*◌, ◌^◌, ◌<◌, ◌≤◌, List, [], ◌∷◌, length}
+use Rattle.std.proofs.Common.{Some, sym, ap, subst, ◌∙◌, arith, map}
+use Rattle.std.proofs.Math.Nat.{pow-suc, pow-zero, one-mul, zero-mul, suc-mul, mul-le-mul_right}
+use Rattle.std.proofs.Math.Nat.{pow-le-pow_right}
 use Rattle.std.proofs.lemmas.List.FromFn.{length-range_with_len}
 use Rattle.std.specs.Prelude.{flat_map, slice_get, sum_by, slice_index_or}
 use Rattle.std.specs.List.{AllByRecursion, range_with_len}

@@ -1,11 +1,13 @@
 -- Typed expressions make objects of ordinary classes, and have `this` in instance methods alone.
-use Rattle.std.proofs.Common.{◌≡◌, ℕ, ◌+◌, Bool, true, false, not, ◌||◌, List, [], ◌++◌, length, Option, Some, None, refl, sym, ap, subst, ◌∙◌}
+use Rattle.std.proofs.Common.{◌≡◌, ℕ, ◌+◌, Bool, true, false, not, ◌||◌, List, [], ◌++◌, length}
+use Rattle.std.proofs.Common.{Option, Some, None, refl, sym, ap, subst, ◌∙◌}
 use Rattle.std.specs.Prelude.{slice_get, if◌then◌else◌}
 use Rattle.std.specs.Option.{is_some}
 use Rattle.std.specs.Str.{bytes_eq}
 use Rattle.par_index.specs.Texts.{has}
 use Rattle.par_tree.specs.declared.ident.Ident.{Ident}
-use Rattle.par_tree.specs.Plain.{Exp, Int, True, False, Null, This, New, Name, Field, Call, Neg, Not, Binary}
+use Rattle.par_tree.specs.Plain.{Exp, Int, True, False, Null, This, New, Name, Field, Call, Neg}
+use Rattle.par_tree.specs.Plain.{Not, Binary}
 use Rattle.par_tree.specs.Plain.{Exps, NoExps, More, MayExp, Absent, Present, Class, Source, place}
 use Rattle.par_typed.specs.declared.ty.Ty.{Ty}
 use Rattle.par_typed.specs.declared.ty.Ty.TheVariants as ty
@@ -32,24 +34,31 @@ use Rattle.par_scope.specs.declared.meaning.Callee.{Callee}
 use Rattle.par_scope.specs.declared.meaning.Callee.TheVariants as callee
 use Rattle.par_scope.specs.Names.{names_of}
 use Rattle.par_scope.specs.Home.{Home, class_named}
-use Rattle.par_scope.specs.Members.{field_at, channel_at, method_at, field_is_static, method_is_static, is_exception, class_is_exception, any_value}
-use Rattle.par_scope.specs.Meaning.{type_of, called_on, receiver_of, selected, called, arity, param_at, sure}
+use Rattle.par_scope.specs.Members.{field_at, channel_at, method_at, field_is_static}
+use Rattle.par_scope.specs.Members.{method_is_static, is_exception, class_is_exception, any_value}
+use Rattle.par_scope.specs.Meaning.{type_of, called_on, receiver_of, selected, called, arity}
+use Rattle.par_scope.specs.Meaning.{param_at, sure}
 use Rattle.par_types.specs.Fits.{operand}
 use Rattle.par_types.specs.Exprs as types
-use Rattle.par_types.specs.Exprs.{misfit, count_fault, member_fault, is_known, unless_number, is_number, exception_fault}
+use Rattle.par_types.specs.Exprs.{misfit, count_fault, member_fault, is_known, unless_number}
+use Rattle.par_types.specs.Exprs.{is_number, exception_fault}
 use Rattle.par_types.specs.Methods.{home_of}
 use Rattle.par_annotate.specs.Frames.{Frame, Var, var_named}
-use Rattle.par_annotate.specs.Exprs.{numbered, own_this, own_field, name_typed, negation, number_of, selection, own_receiver, method_on}
-use Rattle.par_annotate.specs.Exprs.{callee_on, first, by_way, through, call, typed_exp, typed_may, typed_args, mark_of}
+use Rattle.par_annotate.specs.Exprs.{numbered, own_this, own_field, name_typed, negation, number_of}
+use Rattle.par_annotate.specs.Exprs.{selection, own_receiver, method_on}
+use Rattle.par_annotate.specs.Exprs.{callee_on, first, by_way, through, call, typed_exp, typed_may}
+use Rattle.par_annotate.specs.Exprs.{typed_args, mark_of}
 use Rattle.par_resolved.specs.Resolved.{resolved, table_of}
 use Rattle.par_well_typed.specs.Makes.{IsOrdinary, ExpMakes, MayExpMakes, ExpsMake}
 use Rattle.par_well_typed.proofs.Lists.{none_left, none_right}
 use Rattle.par_well_typed.proofs.Ranges.{MayBe}
 use Rattle.par_well_typed.proofs.Unbroken.{is_kept}
-use Rattle.par_well_typed.proofs.Members.{IsThere, PlaceOf, Calls, selected_is, called_is, numbered_there}
+use Rattle.par_well_typed.proofs.Members.{IsThere, PlaceOf, Calls, selected_is, called_is}
+use Rattle.par_well_typed.proofs.Members.{numbered_there}
 use Rattle.par_well_typed.proofs.Named.{IsBefore, is_before}
 use Rattle.par_well_typed.proofs.Programs.{names-class_infos}
-use Rattle.par_well_typed.proofs.Own.{Stands, static_at, own_static, field_static, method_static, IsAsStatic, own_callee, Knows, no_local, own_kept}
+use Rattle.par_well_typed.proofs.Own.{Stands, static_at, own_static, field_static, method_static}
+use Rattle.par_well_typed.proofs.Own.{IsAsStatic, own_callee, Knows, no_local, own_kept}
 
 ordinary_by : (s : Option ClassInfo) → IsThere s → not (class_is_exception s) ≡ true → IsOrdinary s
 ordinary_by None there h = there
@@ -64,7 +73,8 @@ in_instance true at k = absurd (cc k)
 in_instance false at k = refl
 
 -- the rest of a test that is not met
-pub otherwise_none : (b : Bool) (faults : List Refusal) → b ≡ false → (if b then [] else faults) ≡ []
+pub otherwise_none : (b : Bool) (faults : List Refusal) → b ≡ false
+    → (if b then [] else faults) ≡ []
     → faults ≡ []
 otherwise_none true faults is h = absurd (cc is)
 otherwise_none false faults is h = h
@@ -385,7 +395,8 @@ module _ (source : Source) (class n : ℕ) (c : Class) (result : Option Ty)
               (none_left (names.expr_faults v own locals a) (names.expr_faults v own locals b) said)
               (none_left (types.expr_faults h frame.scope a) _ (none_left one other both)),
           exp_makes frame _ locals b knows
-              (none_right (names.expr_faults v own locals a) (names.expr_faults v own locals b) said)
+              (none_right (names.expr_faults v own locals a)
+              (names.expr_faults v own locals b) said)
               (none_left (types.expr_faults h frame.scope b) _ (none_right one other both)),
         )
 
@@ -408,9 +419,11 @@ module _ (source : Source) (class n : ℕ) (c : Class) (result : Option Ty)
         let here = types.value_faults h frame.scope (param_at t k i) e in
         let more = types.args_faults h frame.scope k (i + 1) es in (
           exp_makes frame p locals e knows
-              (none_left (names.expr_faults v own locals e) (names.args_faults v own locals es) said)
+              (none_left (names.expr_faults v own locals e)
+              (names.args_faults v own locals es) said)
               (none_left (types.expr_faults h frame.scope e) _ (none_left here more none)),
           args_make frame _ locals k (i + 1) es knows
-              (none_right (names.expr_faults v own locals e) (names.args_faults v own locals es) said)
+              (none_right (names.expr_faults v own locals e)
+              (names.args_faults v own locals es) said)
               (none_right here more none),
         )

@@ -1,12 +1,16 @@
 -- Typed statements make objects of ordinary classes, and have `this` in instance methods alone.
-use Rattle.std.proofs.Common.{◌≡◌, ℕ, ◌+◌, Bool, true, false, not, List, [], ◌∷◌, ◌++◌, Option, Some, None, refl, sym, ap, subst, ◌∙◌, append_assoc, append-nil, map}
+use Rattle.std.proofs.Common.{◌≡◌, ℕ, ◌+◌, Bool, true, false, not, List, [], ◌∷◌, ◌++◌, Option}
+use Rattle.std.proofs.Common.{Some, None, refl, sym, ap, subst, ◌∙◌, append_assoc, append-nil, map}
 use Rattle.std.proofs.lemmas.List.{length-append}
 use Rattle.par_tree.specs.declared.decl.ParamDecl.{ParamDecl}
-use Rattle.par_tree.specs.Plain.{Exp, Int, True, False, Null, This, New, Name, Field, Call, Neg, Not, Binary}
+use Rattle.par_tree.specs.Plain.{Exp, Int, True, False, Null, This, New, Name, Field, Call, Neg}
+use Rattle.par_tree.specs.Plain.{Not, Binary}
 use Rattle.par_tree.specs.Plain.{Exps, NoExps, More, MayExp, Absent, Present, Class, Source, place}
-use Rattle.par_tree.specs.Plain.{Sta, Block, If, While, Try, Return, Break, Continue, Throw, Open, Close}
+use Rattle.par_tree.specs.Plain.{Sta, Block, If, While, Try, Return, Break, Continue, Throw, Open}
+use Rattle.par_tree.specs.Plain.{Close}
 use Rattle.par_tree.specs.Plain.{Declare, Assign, Do, When, Braces, In, MayBraces, NoBraces, Local}
-use Rattle.par_tree.specs.Plain.{Else, NoElse, Otherwise, Stas, End, Then, Catches, NoCatch, Catch, Handler, On}
+use Rattle.par_tree.specs.Plain.{Else, NoElse, Otherwise, Stas, End, Then, Catches, NoCatch, Catch}
+use Rattle.par_tree.specs.Plain.{Handler, On}
 use Rattle.par_tree.specs.Plain as plain
 use Rattle.par_typed.specs.declared.ty.Ty.{Ty}
 use Rattle.par_typed.specs.declared.table.FieldInfo.{FieldInfo}
@@ -32,21 +36,28 @@ use Rattle.par_completes.specs.Completes.{completes}
 use Rattle.par_types.specs.Fits.{is_void}
 use Rattle.par_types.specs.Exprs.{expr_faults, misfit, value_faults}
 use Rattle.par_types.specs.Stmts as types
-use Rattle.par_types.specs.Stmts.{throw_fault, test_faults, slot_of, target_slot, result_faults, stmt_faults, braces_faults, may_braces_faults, else_faults, stmts_faults, catches_faults, handler_faults}
+use Rattle.par_types.specs.Stmts.{throw_fault, test_faults, slot_of, target_slot, result_faults}
+use Rattle.par_types.specs.Stmts.{stmt_faults, braces_faults, may_braces_faults, else_faults}
+use Rattle.par_types.specs.Stmts.{stmts_faults, catches_faults, handler_faults}
 use Rattle.par_types.specs.Methods.{home_of, param_slot}
 use Rattle.par_annotate.specs.Frames.{Frame, Var, var_named, with_local, further}
 use Rattle.par_annotate.specs.Exprs.{own_this, typed_exp, typed_may}
-use Rattle.par_annotate.specs.Stmts.{Written, may_policy, Target, Nowhere, ToLocal, ToStatic, ToField, target, target_nodes, assignment}
-use Rattle.par_annotate.specs.Stmts.{own_target, name_target, selected_target, behind, braces_locals, handler_locals}
-use Rattle.par_annotate.specs.Stmts.{typed_sta, typed_braces, typed_may_braces, typed_else, typed_stas, typed_catches}
+use Rattle.par_annotate.specs.Stmts.{Written, may_policy, Target, Nowhere, ToLocal, ToStatic}
+use Rattle.par_annotate.specs.Stmts.{ToField, target, target_nodes, assignment}
+use Rattle.par_annotate.specs.Stmts.{own_target, name_target, selected_target, behind}
+use Rattle.par_annotate.specs.Stmts.{braces_locals, handler_locals}
+use Rattle.par_annotate.specs.Stmts.{typed_sta, typed_braces, typed_may_braces, typed_else}
+use Rattle.par_annotate.specs.Stmts.{typed_stas, typed_catches}
 use Rattle.par_annotate.specs.Bodies.{with_params}
 use Rattle.par_resolved.specs.Resolved.{table_of}
-use Rattle.par_well_typed.specs.Makes.{ExpMakes, MayExpMakes, StaMakes, ElseMakes, StasMake, CatchesMake}
+use Rattle.par_well_typed.specs.Makes.{ExpMakes, MayExpMakes, StaMakes, ElseMakes, StasMake}
+use Rattle.par_well_typed.specs.Makes.{CatchesMake}
 use Rattle.par_well_typed.proofs.Lists.{none_left, none_right}
 use Rattle.par_well_typed.proofs.Ranges.{MayBe}
 use Rattle.par_well_typed.proofs.Members.{IsThere, PlaceOf, selected_is}
 use Rattle.par_well_typed.proofs.NamedStatements.{scope-behind}
-use Rattle.par_well_typed.proofs.Own.{Stands, static_at, own_static, field_static, Knows, no_local, own_kept}
+use Rattle.par_well_typed.proofs.Own.{Stands, static_at, own_static, field_static, Knows, no_local}
+use Rattle.par_well_typed.proofs.Own.{own_kept}
 use Rattle.par_well_typed.proofs.Makes.{exp_makes, member_makes, otherwise_none}
 
 -- ---- what is known of locals

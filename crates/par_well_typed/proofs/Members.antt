@@ -1,5 +1,6 @@
 -- Members that are found by their names are there.
-use Rattle.std.proofs.Common.{◌≡◌, ℕ, zero, suc, ◌<◌, Bool, true, false, not, List, [], ◌∷◌, length, Option, Some, None, refl, sym, ap, subst, ◌∙◌, arith, map}
+use Rattle.std.proofs.Common.{◌≡◌, ℕ, zero, suc, ◌<◌, Bool, true, false, not, List, [], ◌∷◌, length}
+use Rattle.std.proofs.Common.{Option, Some, None, refl, sym, ap, subst, ◌∙◌, arith, map}
 use Rattle.std.specs.Prelude.{slice_get}
 use Rattle.std.specs.Option.{option_map}
 use Rattle.std.specs.Str.{bytes_eq}
@@ -15,14 +16,19 @@ use Rattle.par_scope.specs.declared.meaning.Receiver.{Receiver}
 use Rattle.par_scope.specs.declared.meaning.Receiver.TheVariants.{Own, Class, Object}
 use Rattle.par_scope.specs.declared.meaning.Callee.{Callee}
 use Rattle.par_scope.specs.declared.meaning.Callee.TheVariants.{Unknown, Channel, Method}
-use Rattle.par_scope.specs.Names.{Names, names_of, member_names, number_in, fields_in, channels_in, methods_in}
+use Rattle.par_scope.specs.Names.{Names, names_of, member_names, number_in, fields_in, channels_in}
+use Rattle.par_scope.specs.Names.{methods_in}
 use Rattle.par_scope.specs.Home.{Home}
-use Rattle.par_scope.specs.Members.{class_fields, class_channels, class_methods, field_at, channel_at, method_at, field_is_static, method_is_static}
-use Rattle.par_scope.specs.Meaning.{class_of, placed, field_in, when_it_is, static_field, object_field, selected, channel_or_method, callee_in, when_it_does, static_callee, object_callee, called}
+use Rattle.par_scope.specs.Members.{class_fields, class_channels, class_methods, field_at}
+use Rattle.par_scope.specs.Members.{channel_at, method_at, field_is_static, method_is_static}
+use Rattle.par_scope.specs.Meaning.{class_of, placed, field_in, when_it_is, static_field}
+use Rattle.par_scope.specs.Meaning.{object_field, selected, channel_or_method, callee_in}
+use Rattle.par_scope.specs.Meaning.{when_it_does, static_callee, object_callee, called}
 use Rattle.par_index.proofs.Places.{position-within}
 use Rattle.par_types.specs.Methods.{home_of}
 use Rattle.par_well_typed.specs.Members as m
-use Rattle.par_well_typed.specs.Members.{IsField, IsChannel, IsException, IsCalled, IsObject, MayBeObject, is_present, how_many}
+use Rattle.par_well_typed.specs.Members.{IsField, IsChannel, IsException, IsCalled, IsObject}
+use Rattle.par_well_typed.specs.Members.{MayBeObject, is_present, how_many}
 use Rattle.par_well_typed.proofs.Ranges.{MayBe}
 
 -- ---- there is something

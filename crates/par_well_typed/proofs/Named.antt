@@ -1,12 +1,14 @@
 -- The classes and members that typed bodies name are those that they should.
-use Rattle.std.proofs.Common.{◌≡◌, ℕ, suc, ◌+◌, Bool, true, false, not, List, [], ◌++◌, length, Option, Some, None, refl, sym, ap, subst, ◌∙◌, arith, map, ◌<◌}
+use Rattle.std.proofs.Common.{◌≡◌, ℕ, suc, ◌+◌, Bool, true, false, not, List, [], ◌++◌, length}
+use Rattle.std.proofs.Common.{Option, Some, None, refl, sym, ap, subst, ◌∙◌, arith, map, ◌<◌}
 use Rattle.std.specs.Prelude.{nat_eq}
 use Rattle.std.proofs.lemmas.Bool.Decides.{nat_tests}
 use Rattle.std.specs.Str.{bytes_eq}
 use Rattle.std.proofs.lemmas.List.{length-map}
 use Rattle.par_index.proofs.Places.{position-within}
 use Rattle.par_types.specs.Fits.{operand}
-use Rattle.par_tree.specs.Plain.{Exp, Int, True, False, Null, This, New, Name, Field, Call, Neg, Not, Binary}
+use Rattle.par_tree.specs.Plain.{Exp, Int, True, False, Null, This, New, Name, Field, Call, Neg}
+use Rattle.par_tree.specs.Plain.{Not, Binary}
 use Rattle.par_tree.specs.Plain.{Exps, NoExps, More, MayExp, Absent, Present}
 use Rattle.par_typed.specs.declared.ty.Ty.{Ty}
 use Rattle.par_typed.specs.declared.ty.Ty.TheVariants as ty
@@ -26,16 +28,22 @@ use Rattle.par_scope.specs.declared.meaning.Callee.TheVariants.{Unknown, Channel
 use Rattle.par_scope.specs.Names.{names_of}
 use Rattle.par_scope.specs.Locals.{Scope}
 use Rattle.par_scope.specs.Home.{Home, class_named}
-use Rattle.par_scope.specs.Members.{field_at, channel_at, method_at, field_is_static, method_is_static, method_arity, any_value}
-use Rattle.par_scope.specs.Meaning.{selected, called, type_of, called_on, receiver_of, name_receiver, is_value, sure, arity, param_at}
+use Rattle.par_scope.specs.Members.{field_at, channel_at, method_at, field_is_static}
+use Rattle.par_scope.specs.Members.{method_is_static, method_arity, any_value}
+use Rattle.par_scope.specs.Meaning.{selected, called, type_of, called_on, receiver_of}
+use Rattle.par_scope.specs.Meaning.{name_receiver, is_value, sure, arity, param_at}
 use Rattle.par_types.specs.Exprs as types
-use Rattle.par_types.specs.Exprs.{expr_faults, receiver_faults, args_faults, misfit, count_fault, member_fault, is_known, unless_number, is_number}
+use Rattle.par_types.specs.Exprs.{expr_faults, receiver_faults, args_faults, misfit, count_fault}
+use Rattle.par_types.specs.Exprs.{member_fault, is_known, unless_number, is_number}
 use Rattle.par_types.specs.Methods.{home_of}
 use Rattle.par_annotate.specs.Frames.{Frame, Var, var_named}
-use Rattle.par_annotate.specs.Exprs.{known, numbered, own_this, own_field, name_typed, negation, number_of, selection, own_receiver, method_on}
-use Rattle.par_annotate.specs.Exprs.{callee_on, first, by_way, through, call, typed_exp, typed_may, typed_args, mark_of}
+use Rattle.par_annotate.specs.Exprs.{known, numbered, own_this, own_field, name_typed, negation}
+use Rattle.par_annotate.specs.Exprs.{number_of, selection, own_receiver, method_on}
+use Rattle.par_annotate.specs.Exprs.{callee_on, first, by_way, through, call, typed_exp, typed_may}
+use Rattle.par_annotate.specs.Exprs.{typed_args, mark_of}
 use Rattle.par_well_typed.specs.Tables.{IsClass}
-use Rattle.par_well_typed.specs.Members.{IsField, IsChannel, IsCalled, IsObject, MayBeObject, is_present, how_many, ExpNames, MayExpNames, ExpsName}
+use Rattle.par_well_typed.specs.Members.{IsField, IsChannel, IsCalled, IsObject, MayBeObject}
+use Rattle.par_well_typed.specs.Members.{is_present, how_many, ExpNames, MayExpNames, ExpsName}
 use Rattle.par_well_typed.proofs.Lists.{none_left, none_right}
 use Rattle.par_well_typed.proofs.Ranges.{MayBe}
 use Rattle.par_well_typed.proofs.Unbroken.{is_kept}
@@ -150,7 +158,8 @@ typed_many home frame p (More e es) =
     let rest = typed_many home frame (p + nodes (typed_exp home frame p e)) es in
     let one : suc (types.how_many es) ≡ 1 + types.how_many es = omega arith in ap suc rest ∙ one
 
-pub many_kept : (o : Option MethodInfo) (n at : ℕ) → IsThere o → count_fault (method_arity o) n at ≡ []
+pub many_kept : (o : Option MethodInfo) (n at : ℕ) → IsThere o
+    → count_fault (method_arity o) n at ≡ []
     → MayBe (λ i. n ≡ length i.params) o
 unfolding count_fault
 many_kept None n at h none = tt
@@ -263,11 +272,16 @@ module _ (table : Table) (class : ℕ) (result : Option Ty) where
   method_named Own p w at q es k calls on written args many =
       by (method_is_static (method_at table p)) refl where
         by : (b : Bool) → method_is_static (method_at table p) ≡ b
-            → IsCalled (method_at table p) (own_receiver b (own_this h at q)) es × MayBeObject p.class
+            → IsCalled (method_at table p) (own_receiver b (own_this h at q)) es
+            × MayBeObject p.class
             (own_receiver b (own_this h at q))
             × MayExpNames table (own_receiver b (own_this h at q)) × ExpsName table es
-        by true is =
-            (called_by (method_at table p) typed.Absent es calls.1 (sym (ap not is)) many, tt, tt, args)
+        by true is = (
+          called_by (method_at table p) typed.Absent es calls.1 (sym (ap not is)) many,
+          tt,
+          tt,
+          args,
+        )
         by false is = (
           called_by (method_at table p) (typed.Present (own_this h at q)) es calls.1
               (sym (ap not is)) many,

@@ -1,14 +1,19 @@
 -- The classes and members that typed statements name are those that they should.
-use Rattle.std.proofs.Common.{◌≡◌, ℕ, ◌+◌, ◌<◌, Bool, true, false, not, List, [], ◌∷◌, ◌++◌, length, Option, Some, None, refl, ap, ◌∙◌}
+use Rattle.std.proofs.Common.{◌≡◌, ℕ, ◌+◌, ◌<◌, Bool, true, false, not, List, [], ◌∷◌, ◌++◌, length}
+use Rattle.std.proofs.Common.{Option, Some, None, refl, ap, ◌∙◌}
 use Rattle.std.specs.Prelude.{slice_get}
 use Rattle.std.specs.List.{AllByRecursion}
 use Rattle.par_tree.specs.declared.ident.Ident.{Ident}
 use Rattle.par_tree.specs.declared.decl.ParamDecl.{ParamDecl}
-use Rattle.par_tree.specs.Plain.{Exp, Int, True, False, Null, This, New, Name, Field, Call, Neg, Not, Binary}
-use Rattle.par_tree.specs.Plain.{Exps, NoExps, More, MayExp, Absent, Present, Method, Class, Declaration, Source}
-use Rattle.par_tree.specs.Plain.{Sta, Block, If, While, Try, Return, Break, Continue, Throw, Open, Close}
+use Rattle.par_tree.specs.Plain.{Exp, Int, True, False, Null, This, New, Name, Field, Call, Neg}
+use Rattle.par_tree.specs.Plain.{Not, Binary}
+use Rattle.par_tree.specs.Plain.{Exps, NoExps, More, MayExp, Absent, Present, Method, Class}
+use Rattle.par_tree.specs.Plain.{Declaration, Source}
+use Rattle.par_tree.specs.Plain.{Sta, Block, If, While, Try, Return, Break, Continue, Throw, Open}
+use Rattle.par_tree.specs.Plain.{Close}
 use Rattle.par_tree.specs.Plain.{Declare, Assign, Do, When, Braces, In, MayBraces, NoBraces}
-use Rattle.par_tree.specs.Plain.{Else, NoElse, Otherwise, Stas, End, Then, Catches, NoCatch, Catch, Handler, On}
+use Rattle.par_tree.specs.Plain.{Else, NoElse, Otherwise, Stas, End, Then, Catches, NoCatch, Catch}
+use Rattle.par_tree.specs.Plain.{Handler, On}
 use Rattle.par_tree.specs.Plain as plain
 use Rattle.par_typed.specs.declared.ty.Ty.{Ty}
 use Rattle.par_typed.specs.declared.ty.Ty.TheVariants as ty
@@ -23,30 +28,41 @@ use Rattle.par_scope.specs.declared.meaning.Receiver.TheVariants as receiver
 use Rattle.par_scope.specs.Names.{names_of}
 use Rattle.par_scope.specs.Locals.{Scope, no_locals}
 use Rattle.par_scope.specs.Home.{Home, class_named, result_written}
-use Rattle.par_scope.specs.Members.{field_at, field_is_static, is_exception, class_is_exception, any_value}
+use Rattle.par_scope.specs.Members.{field_at, field_is_static, is_exception, class_is_exception}
+use Rattle.par_scope.specs.Members.{any_value}
 use Rattle.par_scope.specs.Meaning.{selected, type_of, receiver_of}
 use Rattle.par_completes.specs.Completes.{completes}
 use Rattle.par_typed.specs.First.{when, broken}
 use Rattle.par_types.specs.Fits.{is_void}
 use Rattle.par_types.specs.Exprs.{expr_faults, misfit, value_faults}
 use Rattle.par_types.specs.Stmts as types
-use Rattle.par_types.specs.Stmts.{throw_fault, test_faults, slot_of, target_slot, result_faults, declares, stmt_faults, braces_faults, may_braces_faults, else_faults, stmts_faults, catches_faults, handler_faults}
+use Rattle.par_types.specs.Stmts.{throw_fault, test_faults, slot_of, target_slot, result_faults}
+use Rattle.par_types.specs.Stmts.{declares, stmt_faults, braces_faults, may_braces_faults}
+use Rattle.par_types.specs.Stmts.{else_faults, stmts_faults, catches_faults, handler_faults}
 use Rattle.par_types.specs.Methods as types_methods
-use Rattle.par_types.specs.Methods.{home_of, result_fault, params_faults, throws_faults, fields_faults, end_fault, body_faults, method_faults, methods_faults, class_faults, param_slot}
+use Rattle.par_types.specs.Methods.{home_of, result_fault, params_faults, throws_faults}
+use Rattle.par_types.specs.Methods.{fields_faults, end_fault, body_faults, method_faults}
+use Rattle.par_types.specs.Methods.{methods_faults, class_faults, param_slot}
 use Rattle.par_types.specs.Program.{declaration_faults, declarations_faults}
 use Rattle.par_annotate.specs.Frames.{Frame, Var, var_named, with_local, further}
 use Rattle.par_annotate.specs.Exprs.{known, numbered, own_this, typed_exp, typed_may}
-use Rattle.par_annotate.specs.Stmts.{Written, Target, Nowhere, ToLocal, ToStatic, ToField, target, target_nodes, assignment}
-use Rattle.par_annotate.specs.Stmts.{own_target, name_target, selected_target, behind, braces_locals, handler_locals}
-use Rattle.par_annotate.specs.Stmts.{typed_sta, typed_braces, typed_may_braces, typed_else, typed_stas, typed_catches}
-use Rattle.par_annotate.specs.Bodies.{no_frame, with_params, typed_method, typed_methods, typed_class, typed_declaration, typed_declarations}
+use Rattle.par_annotate.specs.Stmts.{Written, Target, Nowhere, ToLocal, ToStatic, ToField, target}
+use Rattle.par_annotate.specs.Stmts.{target_nodes, assignment}
+use Rattle.par_annotate.specs.Stmts.{own_target, name_target, selected_target, behind}
+use Rattle.par_annotate.specs.Stmts.{braces_locals, handler_locals}
+use Rattle.par_annotate.specs.Stmts.{typed_sta, typed_braces, typed_may_braces, typed_else}
+use Rattle.par_annotate.specs.Stmts.{typed_stas, typed_catches}
+use Rattle.par_annotate.specs.Bodies.{no_frame, with_params, typed_method, typed_methods}
+use Rattle.par_annotate.specs.Bodies.{typed_class, typed_declaration, typed_declarations}
 use Rattle.par_well_typed.specs.Members as m
-use Rattle.par_well_typed.specs.Members.{IsField, IsException, IsObject, ExpNames, MayExpNames, StaNames, ElseNames, StasName, CatchesName}
+use Rattle.par_well_typed.specs.Members.{IsField, IsException, IsObject, ExpNames, MayExpNames}
+use Rattle.par_well_typed.specs.Members.{StaNames, ElseNames, StasName, CatchesName}
 use Rattle.par_well_typed.proofs.Lists.{none_left, none_right, of_both}
 use Rattle.par_well_typed.proofs.Ranges.{MayBe}
 use Rattle.par_well_typed.proofs.Unbroken.{is_kept}
 use Rattle.par_well_typed.proofs.Members.{IsThere, PlaceOf, IsStaticPlace, Selects, selected_is}
-use Rattle.par_well_typed.proofs.Named.{IsBefore, is_before, type-typed, object_is, this_object, this_named, exp_named}
+use Rattle.par_well_typed.proofs.Named.{IsBefore, is_before, type-typed, object_is, this_object}
+use Rattle.par_well_typed.proofs.Named.{this_named, exp_named}
 
 -- ---- scopes
 
@@ -222,7 +238,8 @@ module _ (w : Written) (table : Table) (class : ℕ) (result : Option Ty)
       braces_named frame _ looped b (none_left (braces_faults h looped frame.scope b)
           (catches_faults h looped frame.scope cs) none),
       catches_named (further frame (braces_locals b)) _ looped cs
-          (none_right (braces_faults h looped frame.scope b) (catches_faults h looped frame.scope cs)
+          (none_right (braces_faults h looped frame.scope b)
+          (catches_faults h looped frame.scope cs)
           none),
     )
     sta_named frame p looped (Return e at) none = returned frame (p + 1) e at none
@@ -248,7 +265,8 @@ module _ (w : Written) (table : Table) (class : ℕ) (result : Option Ty)
       braces_named frame _ looped b (none_left (braces_faults h looped frame.scope b)
           (may_braces_faults h looped frame.scope o) none),
       may_braces_named (further frame (braces_locals b)) _ looped o
-          (none_right (braces_faults h looped frame.scope b) (may_braces_faults h looped frame.scope o)
+          (none_right (braces_faults h looped frame.scope b)
+          (may_braces_faults h looped frame.scope o)
           none),
     )
 
@@ -279,7 +297,8 @@ module _ (w : Written) (table : Table) (class : ℕ) (result : Option Ty)
         looped frame.scope s) (stmts_faults h looped (declares h s frame.scope) (completes s)
         ss) none in (
           sta_named frame p looped s (none_right
-              (when (not reached) (broken 204 (types.stmt_place s))) (stmt_faults h looped frame.scope
+              (when (not reached) (broken 204 (types.stmt_place s)))
+              (stmt_faults h looped frame.scope
               s) front),
           stas_named (behind w h s frame) _ looped (completes s) ss
               (ap (λ scope. stmts_faults h looped scope (completes s) ss) (scope-behind w h s frame)

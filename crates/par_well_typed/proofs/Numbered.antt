@@ -1,18 +1,23 @@
 -- Where the points of a body are the numbers in order, the nodes of its rules are numbered.
-use Rattle.std.proofs.Common.{◌≡◌, ℕ, zero, suc, ◌+◌, Bool, true, false, List, [], ◌∷◌, ◌++◌, length, refl, sym, ap, subst, ◌∙◌, arith}
+use Rattle.std.proofs.Common.{◌≡◌, ℕ, zero, suc, ◌+◌, Bool, true, false, List, [], ◌∷◌, ◌++◌}
+use Rattle.std.proofs.Common.{length, refl, sym, ap, subst, ◌∙◌, arith}
 use Rattle.std.proofs.lemmas.List.{length-append}
 use Rattle.par_lexer.specs.declared.operator.BinOp.{BinOp}
 use Rattle.par_lexer.specs.declared.operator.BinOp.TheVariants as op
 use Rattle.par_typed.specs.Plain as plain
 use Rattle.par_typed.specs.Plain.{TExp, MayTExp, TExps, TSta, MayTSta, TStas, TCatches, mark}
-use Rattle.par_typed.specs.Nodes.{nodes, may_nodes, args_nodes, stmt_nodes, else_nodes, all_nodes, catch_nodes}
-use Rattle.par_annotate.specs.Points.{count_from, points, may_points, args_points, stmt_points, else_points, all_points, catch_points}
+use Rattle.par_typed.specs.Nodes.{nodes, may_nodes, args_nodes, stmt_nodes, else_nodes, all_nodes}
+use Rattle.par_typed.specs.Nodes.{catch_nodes}
+use Rattle.par_annotate.specs.Points.{count_from, points, may_points, args_points, stmt_points}
+use Rattle.par_annotate.specs.Points.{else_points, all_points, catch_points}
 use Rattle.par_annotate.proofs.Points.{count_more, count_append}
 use Rattle.par_rules.specs.Kinds as kind
 use Rattle.par_rules.specs.Kinds.{Kind, Absorber, Next, Loop, Catches, NULL_POINTER}
 use Rattle.par_rules.specs.Declares.{Declares, Method, Thrown}
-use Rattle.par_rules.specs.Rules.{From, Entry, After, Worth, Given, Node, node, Rules, Done, Part, Test, Heads, Leaves, Worths, goes_on}
-use Rattle.par_rules.specs.Body.{exp, args, sta, stas, catches, if_not, divides, skips, is_forever, thrown, called, past, args_past, args_tested}
+use Rattle.par_rules.specs.Rules.{From, Entry, After, Worth, Given, Node, node, Rules, Done, Part}
+use Rattle.par_rules.specs.Rules.{Test, Heads, Leaves, Worths, goes_on}
+use Rattle.par_rules.specs.Body.{exp, args, sta, stas, catches, if_not, divides, skips, is_forever}
+use Rattle.par_rules.specs.Body.{thrown, called, past, args_past, args_tested}
 use Rattle.par_rules.specs.Numbered.{next, next_by, IsNumbered, AreNumbered}
 
 -- ---- so many points

@@ -1,5 +1,6 @@
 -- The bodies of a source make objects of ordinary classes, and have `this` in instance methods.
-use Rattle.std.proofs.Common.{◌≡◌, ℕ, false, List, [], ◌∷◌, ◌++◌, length, Some, None, refl, sym, ap, subst, ◌∙◌, append_assoc, map}
+use Rattle.std.proofs.Common.{◌≡◌, ℕ, false, List, [], ◌∷◌, ◌++◌, length, Some, None, refl, sym, ap}
+use Rattle.std.proofs.Common.{subst, ◌∙◌, append_assoc, map}
 use Rattle.std.specs.Prelude.{flat_map, slice_get}
 use Rattle.std.specs.List.{AllByRecursion}
 use Rattle.par_tree.specs.Plain.{Class, Method, Declaration, Source}
@@ -12,10 +13,12 @@ use Rattle.par_scope.specs.Locals.{no_locals}
 use Rattle.par_scope.specs.Home.{class_named, result_written}
 use Rattle.par_types.specs.Stmts.{braces_faults}
 use Rattle.par_types.specs.Methods as rules
-use Rattle.par_types.specs.Methods.{home_of, end_fault, fields_faults, method_faults, methods_faults, class_faults}
+use Rattle.par_types.specs.Methods.{home_of, end_fault, fields_faults, method_faults}
+use Rattle.par_types.specs.Methods.{methods_faults, class_faults}
 use Rattle.par_types.specs.Program.{declaration_faults, declarations_faults, type_faults}
 use Rattle.par_annotate.specs.Stmts.{Written}
-use Rattle.par_annotate.specs.Bodies.{no_frame, with_params, typed_body, typed_methods, typed_class, typed_declaration, typed_declarations}
+use Rattle.par_annotate.specs.Bodies.{no_frame, with_params, typed_body, typed_methods, typed_class}
+use Rattle.par_annotate.specs.Bodies.{typed_declaration, typed_declarations}
 use Rattle.par_resolved.specs.Resolved.{Resolved, resolved, class_info, method_info, table_of}
 use Rattle.par_faults.specs.Faults.{all_faults}
 use Rattle.par_sources.specs.Order.{Ascend, IsInOrder}
@@ -24,8 +27,10 @@ use Rattle.par_well_typed.specs.Makes.{StaMakes, MakesObjects}
 use Rattle.par_well_typed.specs.Typed.{written_in, bodies_of}
 use Rattle.par_well_typed.proofs.Lists.{none_left, none_right, of_both}
 use Rattle.par_well_typed.proofs.Places.{Differ}
-use Rattle.par_well_typed.proofs.Programs.{class_number, class_stands, method_names_differ, method_number, method_stands}
-use Rattle.par_well_typed.proofs.Unbroken.{IsKept, IsKeptClass, IsKeptMethod, kept, methods_kept, body_kept, names_kept}
+use Rattle.par_well_typed.proofs.Programs.{class_number, class_stands, method_names_differ}
+use Rattle.par_well_typed.proofs.Programs.{method_number, method_stands}
+use Rattle.par_well_typed.proofs.Unbroken.{IsKept, IsKeptClass, IsKeptMethod, kept, methods_kept}
+use Rattle.par_well_typed.proofs.Unbroken.{body_kept, names_kept}
 use Rattle.par_well_typed.proofs.NamedStatements.{scope-params}
 use Rattle.par_well_typed.proofs.MakesStatements.{params_known, braces_makes}
 
@@ -70,7 +75,8 @@ module _ (source : Source) (ordered : IsInOrder source) (none : all_faults sourc
   methods_make class n c before (m ∷ ms) stands is apart_names keeps types =
       let one = method_faults t (names_of t) class m in
       let more = methods_faults t (names_of t) class ms in
-      let number = method_number source ordered names class n c before ms m stands is apart_names in (
+      let number =
+      method_number source ordered names class n c before ms m stands is apart_names in (
         (
           method_info r class m,
           record {

@@ -1,5 +1,6 @@
 -- What names mean in a class is what they mean over its table.
-use Rattle.std.proofs.Common.{◌≡◌, ℕ, zero, suc, ◌+◌, ◌<◌, Bool, true, false, List, [], ◌∷◌, length, Option, Some, None, refl, sym, ap, subst, ◌∙◌, arith, map}
+use Rattle.std.proofs.Common.{◌≡◌, ℕ, zero, suc, ◌+◌, ◌<◌, Bool, true, false, List, [], ◌∷◌, length}
+use Rattle.std.proofs.Common.{Option, Some, None, refl, sym, ap, subst, ◌∙◌, arith, map}
 use Rattle.std.specs.Prelude.{slice_get, if◌then◌else◌}
 use Rattle.std.specs.List.{position}
 use Rattle.std.specs.Option.{option_map, is_some}
@@ -15,19 +16,23 @@ use Rattle.par_typed.specs.declared.table.MethodInfo.{MethodInfo}
 use Rattle.par_typed.specs.declared.table.Table.{Table}
 use Rattle.par_typed.specs.First.{when}
 use Rattle.par_names.specs.Exprs.{own_fault}
-use Rattle.par_names.specs.Members.{static_of, selected_named, callee_named, earlier_callee, channel_named, method_named}
+use Rattle.par_names.specs.Members.{static_of, selected_named, callee_named, earlier_callee}
+use Rattle.par_names.specs.Members.{channel_named, method_named}
 use Rattle.par_names.proofs.Lookups.{at, found, map-map}
 use Rattle.par_scope.specs.declared.members.Place.{Place}
 use Rattle.par_scope.specs.declared.meaning.Receiver.TheVariants.{Own}
 use Rattle.par_scope.specs.declared.meaning.Callee.{Callee}
 use Rattle.par_scope.specs.declared.meaning.Callee.TheVariants as callee
-use Rattle.par_scope.specs.Names.{names_of, member_names, number_in, fields_in, channels_in, methods_in}
+use Rattle.par_scope.specs.Names.{names_of, member_names, number_in, fields_in, channels_in}
+use Rattle.par_scope.specs.Names.{methods_in}
 use Rattle.par_scope.specs.Home.{Home}
 use Rattle.par_scope.specs.Members.{class_fields, class_methods, field_at, method_at}
-use Rattle.par_scope.specs.Meaning.{placed, field_in, selected, channel_or_method, callee_in, called}
+use Rattle.par_scope.specs.Meaning.{placed, field_in, selected, channel_or_method, callee_in}
+use Rattle.par_scope.specs.Meaning.{called}
 use Rattle.par_types.specs.Methods.{home_of}
 use Rattle.par_annotate.specs.Frames.{Frame, var_at, var_named}
-use Rattle.par_resolved.specs.Resolved.{Resolved, resolved, field_infos, channel_info, method_info, class_info, table_of}
+use Rattle.par_resolved.specs.Resolved.{Resolved, resolved, field_infos, channel_info, method_info}
+use Rattle.par_resolved.specs.Resolved.{class_info, table_of}
 use Rattle.par_well_typed.proofs.Members.{IsThere, there}
 
 -- ---- the members of a class in its table

@@ -1,5 +1,6 @@
 -- The numbers of policies.
-use Rattle.std.proofs.Common.{◌≡◌, ℕ, ◌+◌, ◌<◌, ◌≤◌, Bool, true, false, List, [], ◌∷◌, ◌++◌, length, Option, Some, None, refl, sym, ap, subst, ◌∙◌, arith, map}
+use Rattle.std.proofs.Common.{◌≡◌, ℕ, ◌+◌, ◌<◌, ◌≤◌, Bool, true, false, List, [], ◌∷◌, ◌++◌, length}
+use Rattle.std.proofs.Common.{Option, Some, None, refl, sym, ap, subst, ◌∙◌, arith, map}
 use Rattle.std.specs.Prelude.{flat_map, slice_get, fold, filter, count_by, if◌then◌else◌, nat_le}
 use Rattle.std.specs.List.{list_any}
 use Rattle.std.proofs.lemmas.List.{length-map, length-append}
@@ -15,7 +16,8 @@ use Rattle.par_tree.specs.Plain.{Class, Source}
 use Rattle.par_resolved.specs.declared.entries.Entry.{Entry}
 use Rattle.par_resolved.specs.declared.limits.TheConstants.{MOST_POLICIES}
 use Rattle.par_resolved.specs.Policies.{known, policy_of}
-use Rattle.par_resolved.specs.Numbered.{with_new, distinct, entries, same_policy, numbered, declared, inferred_fields, inferred_entry, shared_policies}
+use Rattle.par_resolved.specs.Numbered.{with_new, distinct, entries, same_policy, numbered}
+use Rattle.par_resolved.specs.Numbered.{declared, inferred_fields, inferred_entry, shared_policies}
 use Rattle.par_resolved.specs.Limits.{one_too_many, table_faults}
 use Rattle.par_resolved.specs.Resolved.{resolved, number_of, may_number}
 use Rattle.par_well_typed.proofs.Lists.{none_left, found_within}

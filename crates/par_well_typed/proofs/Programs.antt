@@ -1,5 +1,7 @@
 -- Each typed body of a source is the body of a method of its table.
-use Rattle.std.proofs.Common.{◌≡◌, ℕ, suc, ◌+◌, ◌<◌, ◌≤◌, Bool, true, false, List, [], ◌∷◌, ◌++◌, length, Some, None, refl, sym, ap, subst, ◌∙◌, arith, map, append_assoc, add-zero, zero-add, cond}
+use Rattle.std.proofs.Common.{◌≡◌, ℕ, suc, ◌+◌, ◌<◌, ◌≤◌, Bool, true, false, List, [], ◌∷◌, ◌++◌}
+use Rattle.std.proofs.Common.{length, Some, None, refl, sym, ap, subst, ◌∙◌, arith, map}
+use Rattle.std.proofs.Common.{append_assoc, add-zero, zero-add, cond}
 use Rattle.std.specs.Prelude.{flat_map, slice_get, count_by, codes}
 use Rattle.std.specs.List.{AllByRecursion, position, range_with_len}
 use Rattle.std.specs.Option.{option_map}
@@ -9,16 +11,21 @@ use Rattle.std.proofs.lemmas.List.Concat.{flat_map-append}
 use Rattle.std.proofs.lemmas.Option.{slice_get-map}
 use Rattle.par_tree.specs.declared.ident.Ident.{Ident}
 use Rattle.par_tree.specs.declared.decl.ParamDecl.{ParamDecl}
-use Rattle.par_tree.specs.Plain.{Sta, Block, If, While, Try, Return, Break, Continue, Throw, Open, Close}
+use Rattle.par_tree.specs.Plain.{Sta, Block, If, While, Try, Return, Break, Continue, Throw, Open}
+use Rattle.par_tree.specs.Plain.{Close}
 use Rattle.par_tree.specs.Plain.{Declare, Assign, Do, When, Braces, In, MayBraces, NoBraces}
-use Rattle.par_tree.specs.Plain.{Else, NoElse, Otherwise, Stas, End, Then, Catches, NoCatch, Catch, Handler, On}
+use Rattle.par_tree.specs.Plain.{Else, NoElse, Otherwise, Stas, End, Then, Catches, NoCatch, Catch}
+use Rattle.par_tree.specs.Plain.{Handler, On}
 use Rattle.par_tree.specs.Plain as plain
 use Rattle.par_tree.specs.Plain.{Class, Method, Declaration, Source}
-use Rattle.par_resolved.specs.Statements.{inside, in_braces, in_may_braces, in_else, in_all, in_catches, in_handler}
+use Rattle.par_resolved.specs.Statements.{inside, in_braces, in_may_braces, in_else, in_all}
+use Rattle.par_resolved.specs.Statements.{in_catches, in_handler}
 use Rattle.par_resolved.specs.Written.{stmt_types}
-use Rattle.par_annotate.specs.Stmts.{locals_in, braces_locals, may_braces_locals, else_locals, all_locals, catches_locals, handler_locals}
+use Rattle.par_annotate.specs.Stmts.{locals_in, braces_locals, may_braces_locals, else_locals}
+use Rattle.par_annotate.specs.Stmts.{all_locals, catches_locals, handler_locals}
 use Rattle.par_typed.specs.declared.table.Table.{Table}
-use Rattle.par_names.specs.Declarations.{classes, builtins, declared_classes, classes_in, doubles, locks}
+use Rattle.par_names.specs.Declarations.{classes, builtins, declared_classes, classes_in, doubles}
+use Rattle.par_names.specs.Declarations.{locks}
 use Rattle.par_names.specs.Members.{callee_ids}
 use Rattle.par_names.specs.Methods.{method_faults, channel_faults}
 use Rattle.par_names.specs.Program.{view_behind, program_doubles, mains, mains_faults, name_faults}
@@ -26,11 +33,14 @@ use Rattle.par_scope.specs.Names.{names_of, member_names, number_in, methods_in}
 use Rattle.par_scope.specs.Home.{Home, class_named, result_written}
 use Rattle.par_types.specs.Methods.{home_of, param_slot}
 use Rattle.par_resolved.specs.Numbers.{type_of}
-use Rattle.par_resolved.specs.Resolved.{Resolved, resolved, class_info, class_infos, method_info, param_info, local_types, this_type, table_of}
+use Rattle.par_resolved.specs.Resolved.{Resolved, resolved, class_info, class_infos, method_info}
+use Rattle.par_resolved.specs.Resolved.{param_info, local_types, this_type, table_of}
 use Rattle.par_annotate.specs.Frames.{Frame, with_local}
 use Rattle.par_annotate.specs.Exprs.{numbered}
 use Rattle.par_annotate.specs.Stmts.{Written}
-use Rattle.par_annotate.specs.Bodies.{first_number, no_frame, with_params, typed_body, typed_method, typed_methods, typed_class, typed_declaration, typed_declarations}
+use Rattle.par_annotate.specs.Bodies.{first_number, no_frame, with_params, typed_body, typed_method}
+use Rattle.par_annotate.specs.Bodies.{typed_methods, typed_class, typed_declaration}
+use Rattle.par_annotate.specs.Bodies.{typed_declarations}
 use Rattle.par_annotate.proofs.Laws.{points_count}
 use Rattle.par_sources.specs.Order.{Ascend, IsInOrder}
 use Rattle.par_well_typed.specs.Numbers.{StaInRange}
@@ -38,12 +48,14 @@ use Rattle.par_well_typed.specs.Typed.{written_in, bodies_of}
 use Rattle.par_well_typed.specs.Orderly as bodies
 use Rattle.par_well_typed.specs.Orderly.{method_at, IsBodyOf, HasMethod}
 use Rattle.par_well_typed.proofs.Lists.{none_left, none_right, of_both, each_is}
-use Rattle.par_well_typed.proofs.Places.{Differ, number_is, Apart, apart, apart_behind, above, others_differ, differ, doubled}
+use Rattle.par_well_typed.proofs.Places.{Differ, number_is, Apart, apart, apart_behind, above}
+use Rattle.par_well_typed.proofs.Places.{others_differ, differ, doubled}
 use Rattle.par_well_typed.specs.Tables.{arrivals}
 use Rattle.par_well_typed.specs.SetFirst.{SetsFirst, set_by_call}
 use Rattle.par_well_typed.proofs.SetFirst.{braces_first, params_set}
 use Rattle.par_well_typed.proofs.Bodies.{AreVars, with_local_in, braces_in}
-use Rattle.par_well_typed.proofs.Unbroken.{IsKept, IsKeptClass, IsKeptMethod, kept, methods_kept, body_kept}
+use Rattle.par_well_typed.proofs.Unbroken.{IsKept, IsKeptClass, IsKeptMethod, kept, methods_kept}
+use Rattle.par_well_typed.proofs.Unbroken.{body_kept}
 
 -- ---- the locals of a body are those that its method lists
 
@@ -99,12 +111,14 @@ mutual
   counts_catches (Catch c cs) =
       both (in_handler c) (in_catches cs) _ _ (counts_handler c) (counts_catches cs)
 
-  pub counts_handler : (c : Handler) → length (flat_map stmt_types (in_handler c)) ≡ handler_locals c
+  pub counts_handler : (c : Handler)
+      → length (flat_map stmt_types (in_handler c)) ≡ handler_locals c
   counts_handler (On class name b) = counts_braces b
 
 -- ---- what stands at a place
 
-pub at_length : {A : Type 0} (xs ys : List A) (y : A) → slice_get (xs ++ y ∷ ys) (length xs) ≡ Some y
+pub at_length : {A : Type 0} (xs ys : List A) (y : A)
+    → slice_get (xs ++ y ∷ ys) (length xs) ≡ Some y
 at_length [] ys y = refl
 at_length (x ∷ xs) ys y = at_length xs ys y
 

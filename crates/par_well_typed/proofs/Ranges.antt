@@ -1,5 +1,6 @@
 -- Where the numbers of a table and of a body are in range, so are those of the body's rules.
-use Rattle.std.proofs.Common.{◌≡◌, ℕ, zero, suc, ◌<◌, Bool, true, false, List, [], ◌∷◌, Option, Some, None, IsTrue, refl, sym, subst, arith, ◌||◌, cond}
+use Rattle.std.proofs.Common.{◌≡◌, ℕ, zero, suc, ◌<◌, Bool, true, false, List, [], ◌∷◌, Option}
+use Rattle.std.proofs.Common.{Some, None, IsTrue, refl, sym, subst, arith, ◌||◌, cond}
 use Rattle.std.specs.Prelude.{slice_get, nat_eq}
 use Rattle.std.specs.List.{AllByRecursion, All}
 use Rattle.std.proofs.lemmas.Bool.Decides.{nat_tests}
@@ -20,14 +21,20 @@ use Rattle.par_typed.specs.Plain as plain
 use Rattle.par_typed.specs.Plain.{TExp, MayTExp, TExps, TSta, MayTSta, TStas, TCatches, mark}
 use Rattle.par_rules.specs.Kinds as kind
 use Rattle.par_rules.specs.Kinds.{Kind}
-use Rattle.par_rules.specs.Declares.{Declares, Method, Thrown, NO_METHOD, declares, method_of, methods_of, params_of, throws_of, field_of, fields_of, channel_of, channels_of, birth_of, lock_of, lock_policy}
+use Rattle.par_rules.specs.Declares.{Declares, Method, Thrown, NO_METHOD, declares, method_of}
+use Rattle.par_rules.specs.Declares.{methods_of, params_of, throws_of, field_of, fields_of}
+use Rattle.par_rules.specs.Declares.{channel_of, channels_of, birth_of, lock_of, lock_policy}
 use Rattle.par_rules.specs.Rules.{From, Entry, After, Node, Rules, Leaves, can}
-use Rattle.par_rules.specs.Body.{exp, args, sta, stas, catches, if_not, divides, second, skips, is_forever, thrown, called, past, tested, args_past, args_tested}
+use Rattle.par_rules.specs.Body.{exp, args, sta, stas, catches, if_not, divides, second, skips}
+use Rattle.par_rules.specs.Body.{is_forever, thrown, called, past, tested, args_past, args_tested}
 use Rattle.par_rules.specs.Ranges as rules
 use Rattle.par_rules.specs.Ranges.{MOST, IsFromInRange, IsWorthInRange, IsInRange, AreInRange}
 use Rattle.par_well_typed.specs.Tables as tables
-use Rattle.par_well_typed.specs.Tables.{IsPolicy, IsLock, MayBePolicy, ClassInRange, MethodInRange, LockInRange, FieldInRange, ChannelInRange, ParamInRange, ThrowInRange}
-use Rattle.par_well_typed.specs.Numbers.{ExpReads, ExpsRead, StaInRange, StasInRange, CatchesInRange}
+use Rattle.par_well_typed.specs.Tables.{IsPolicy, IsLock, MayBePolicy, ClassInRange, MethodInRange}
+use Rattle.par_well_typed.specs.Tables.{LockInRange, FieldInRange, ChannelInRange, ParamInRange}
+use Rattle.par_well_typed.specs.Tables.{ThrowInRange}
+use Rattle.par_well_typed.specs.Numbers.{ExpReads, ExpsRead, StaInRange, StasInRange}
+use Rattle.par_well_typed.specs.Numbers.{CatchesInRange}
 
 -- ---- what is at a place of a list
 

@@ -1,11 +1,15 @@
 -- Statements in the bodies of a source are reached, breaks stand in loops, and nothing comes to the
 -- end of a body that has a result.
-use Rattle.std.proofs.Common.{◌≡◌, ℕ, ◌+◌, Bool, true, false, not, ◌||◌, List, [], ◌∷◌, ◌++◌, length, Option, Some, None, refl, sym, ap, subst, ◌∙◌, append_assoc, map}
+use Rattle.std.proofs.Common.{◌≡◌, ℕ, ◌+◌, Bool, true, false, not, ◌||◌, List, [], ◌∷◌, ◌++◌}
+use Rattle.std.proofs.Common.{length, Option, Some, None, refl, sym, ap, subst, ◌∙◌, append_assoc}
+use Rattle.std.proofs.Common.{map}
 use Rattle.std.specs.Prelude.{flat_map, slice_get}
 use Rattle.std.specs.List.{AllByRecursion}
-use Rattle.par_tree.specs.Plain.{Sta, Block, If, While, Try, Return, Break, Continue, Throw, Open, Close}
+use Rattle.par_tree.specs.Plain.{Sta, Block, If, While, Try, Return, Break, Continue, Throw, Open}
+use Rattle.par_tree.specs.Plain.{Close}
 use Rattle.par_tree.specs.Plain.{Declare, Assign, Do, When, Braces, In, MayBraces, NoBraces}
-use Rattle.par_tree.specs.Plain.{Else, NoElse, Otherwise, Stas, End, Then, Catches, NoCatch, Catch, Handler, On}
+use Rattle.par_tree.specs.Plain.{Else, NoElse, Otherwise, Stas, End, Then, Catches, NoCatch, Catch}
+use Rattle.par_tree.specs.Plain.{Handler, On}
 use Rattle.par_tree.specs.Plain as plain
 use Rattle.par_tree.specs.Plain.{Class, Method, Declaration, Source}
 use Rattle.par_typed.specs.declared.ty.Ty.{Ty}
@@ -22,25 +26,34 @@ use Rattle.par_scope.specs.Locals.{no_locals}
 use Rattle.par_scope.specs.Home.{Home, class_named, result_written}
 use Rattle.par_types.specs.Fits.{is_void}
 use Rattle.par_types.specs.Stmts as types
-use Rattle.par_types.specs.Stmts.{throw_fault, test_faults, declares, stmt_faults, braces_faults, may_braces_faults, else_faults, stmts_faults, catches_faults, handler_faults}
+use Rattle.par_types.specs.Stmts.{throw_fault, test_faults, declares, stmt_faults, braces_faults}
+use Rattle.par_types.specs.Stmts.{may_braces_faults, else_faults, stmts_faults, catches_faults}
+use Rattle.par_types.specs.Stmts.{handler_faults}
 use Rattle.par_types.specs.Methods as rules
-use Rattle.par_types.specs.Methods.{home_of, result_fault, params_faults, throws_faults, end_fault, fields_faults, method_faults, methods_faults, class_faults}
+use Rattle.par_types.specs.Methods.{home_of, result_fault, params_faults, throws_faults, end_fault}
+use Rattle.par_types.specs.Methods.{fields_faults, method_faults, methods_faults, class_faults}
 use Rattle.par_types.specs.Program.{declaration_faults, declarations_faults, type_faults}
 use Rattle.par_annotate.specs.Frames.{Frame, further}
-use Rattle.par_annotate.specs.Stmts.{Written, Target, Nowhere, ToLocal, ToStatic, ToField, target, assignment, behind, braces_locals, handler_locals}
-use Rattle.par_annotate.specs.Stmts.{typed_sta, typed_braces, typed_may_braces, typed_else, typed_stas, typed_catches}
-use Rattle.par_annotate.specs.Bodies.{no_frame, with_params, typed_body, typed_methods, typed_class, typed_declaration, typed_declarations}
+use Rattle.par_annotate.specs.Stmts.{Written, Target, Nowhere, ToLocal, ToStatic, ToField, target}
+use Rattle.par_annotate.specs.Stmts.{assignment, behind, braces_locals, handler_locals}
+use Rattle.par_annotate.specs.Stmts.{typed_sta, typed_braces, typed_may_braces, typed_else}
+use Rattle.par_annotate.specs.Stmts.{typed_stas, typed_catches}
+use Rattle.par_annotate.specs.Bodies.{no_frame, with_params, typed_body, typed_methods, typed_class}
+use Rattle.par_annotate.specs.Bodies.{typed_declaration, typed_declarations}
 use Rattle.par_resolved.specs.Numbers.{result_of}
 use Rattle.par_resolved.specs.Resolved.{Resolved, resolved, class_info, method_info, table_of}
 use Rattle.par_faults.specs.Faults.{all_faults}
 use Rattle.par_sources.specs.Order.{Ascend, IsInOrder}
 use Rattle.par_well_typed.specs.Orderly.{method_at}
-use Rattle.par_well_typed.specs.Control.{StaReached, ElseReached, AllReached, CatchesReached, IsEnded, IsControlled}
+use Rattle.par_well_typed.specs.Control.{StaReached, ElseReached, AllReached, CatchesReached}
+use Rattle.par_well_typed.specs.Control.{IsEnded, IsControlled}
 use Rattle.par_well_typed.specs.Typed.{written_in, bodies_of}
 use Rattle.par_well_typed.proofs.Lists.{none_left, none_right, of_both}
 use Rattle.par_well_typed.proofs.Places.{Differ}
-use Rattle.par_well_typed.proofs.Programs.{class_number, class_stands, method_names_differ, method_number, method_stands}
-use Rattle.par_well_typed.proofs.Unbroken.{is_kept, IsKept, IsKeptClass, IsKeptMethod, kept, methods_kept, head_kept, names_kept}
+use Rattle.par_well_typed.proofs.Programs.{class_number, class_stands, method_names_differ}
+use Rattle.par_well_typed.proofs.Programs.{method_number, method_stands}
+use Rattle.par_well_typed.proofs.Unbroken.{is_kept, IsKept, IsKeptClass, IsKeptMethod, kept}
+use Rattle.par_well_typed.proofs.Unbroken.{methods_kept, head_kept, names_kept}
 use Rattle.par_well_typed.proofs.NamedStatements.{scope-behind, scope-params}
 use Rattle.par_well_typed.proofs.Completing.{sta_completes, braces_completes}
 use Rattle.par_well_typed.proofs.Fitted.{head_types, result_by}
@@ -198,7 +211,8 @@ module _ (source : Source) (ordered : IsInOrder source) (none : all_faults sourc
         (scope-params home (no_frame m.is_static) m.params)
         ∙ none_right _ body (none_left _ (end_fault home m) types))
 
-    method_ended : IsEnded (result_of r.classes m.result) (ends.completes (typed_body w home m).body)
+    method_ended : IsEnded (result_of r.classes m.result)
+        (ends.completes (typed_body w home m).body)
     method_ended =
         let gives = result_of r.classes m.result in
         let past = keeps.0 in
@@ -226,7 +240,8 @@ module _ (source : Source) (ordered : IsInOrder source) (none : all_faults sourc
       let one = method_faults t (names_of t) class m in
       let more = methods_faults t (names_of t) class ms in
       let right = none_left one more types in
-      let number = method_number source ordered names class n c before ms m stands is apart_names in (
+      let number =
+      method_number source ordered names class n c before ms m stands is apart_names in (
         (
           method_info r class m,
           record {
@@ -277,7 +292,8 @@ module _ (source : Source) (ordered : IsInOrder source) (none : all_faults sourc
       let one = class_faults t (names_of t) (class_named (names_of t) c.id.name) c in
       let more = declarations_faults t (names_of t) ds in
       of_both (IsControlled t) _ _
-      (class_controlled before (flat_map classes_in ds) c is keeps.0 up.0 (none_left one more types))
+      (class_controlled before (flat_map classes_in ds) c is keeps.0 up.0
+      (none_left one more types))
       (declarations_controlled (before ++ c ∷ []) ds
       (is ∙ sym (append_assoc before (c ∷ []) (flat_map classes_in ds))) keeps.1 up.1
       (none_right one more types))

@@ -1,15 +1,19 @@
 -- Typed bodies set locals before they read them.
-use Rattle.std.proofs.Common.{◌≡◌, ℕ, zero, suc, ◌+◌, ◌<◌, ◌≤◌, Bool, true, false, ◌||◌, List, [], ◌∷◌, length, Option, Some, None, IsTrue, refl, sym, subst, arith}
+use Rattle.std.proofs.Common.{◌≡◌, ℕ, zero, suc, ◌+◌, ◌<◌, ◌≤◌, Bool, true, false, ◌||◌, List, []}
+use Rattle.std.proofs.Common.{◌∷◌, length, Option, Some, None, IsTrue, refl, sym, subst, arith}
 use Rattle.std.specs.Prelude.{nat_eq}
 use Rattle.std.specs.List.{range_with_len}
 use Rattle.std.proofs.lemmas.Bool.Decides.{nat_tests}
 use Rattle.par_policy.specs.Numbers.{has}
 use Rattle.par_tree.specs.declared.decl.ParamDecl.{ParamDecl}
-use Rattle.par_tree.specs.Plain.{Exp, Int, True, False, Null, This, New, Name, Field, Call, Neg, Not, Binary}
+use Rattle.par_tree.specs.Plain.{Exp, Int, True, False, Null, This, New, Name, Field, Call, Neg}
+use Rattle.par_tree.specs.Plain.{Not, Binary}
 use Rattle.par_tree.specs.Plain.{Exps, NoExps, More, MayExp, Absent, Present}
-use Rattle.par_tree.specs.Plain.{Sta, Block, If, While, Try, Return, Break, Continue, Throw, Open, Close}
+use Rattle.par_tree.specs.Plain.{Sta, Block, If, While, Try, Return, Break, Continue, Throw, Open}
+use Rattle.par_tree.specs.Plain.{Close}
 use Rattle.par_tree.specs.Plain.{Declare, Assign, Do, When, Braces, In, MayBraces, NoBraces}
-use Rattle.par_tree.specs.Plain.{Else, NoElse, Otherwise, Stas, End, Then, Catches, NoCatch, Catch, Handler, On}
+use Rattle.par_tree.specs.Plain.{Else, NoElse, Otherwise, Stas, End, Then, Catches, NoCatch, Catch}
+use Rattle.par_tree.specs.Plain.{Handler, On}
 use Rattle.par_tree.specs.Plain as plain
 use Rattle.par_typed.specs.Plain.{TExp}
 use Rattle.par_scope.specs.declared.members.Place.{Place}
@@ -23,13 +27,17 @@ use Rattle.par_types.specs.Methods.{param_slot}
 use Rattle.par_types.specs.Stmts.{slot_of}
 use Rattle.par_annotate.specs.Frames.{Frame, Var, var_named, with_local, further}
 use Rattle.par_annotate.specs.Exprs.{own_this, typed_exp}
-use Rattle.par_annotate.specs.Stmts.{Written, may_policy, Target, Nowhere, ToLocal, ToStatic, ToField, target, target_nodes, assignment}
-use Rattle.par_annotate.specs.Stmts.{own_target, name_target, selected_target, behind, braces_locals, handler_locals}
-use Rattle.par_annotate.specs.Stmts.{typed_sta, typed_braces, typed_may_braces, typed_else, typed_stas, typed_catches}
+use Rattle.par_annotate.specs.Stmts.{Written, may_policy, Target, Nowhere, ToLocal, ToStatic}
+use Rattle.par_annotate.specs.Stmts.{ToField, target, target_nodes, assignment}
+use Rattle.par_annotate.specs.Stmts.{own_target, name_target, selected_target, behind}
+use Rattle.par_annotate.specs.Stmts.{braces_locals, handler_locals}
+use Rattle.par_annotate.specs.Stmts.{typed_sta, typed_braces, typed_may_braces, typed_else}
+use Rattle.par_annotate.specs.Stmts.{typed_stas, typed_catches}
 use Rattle.par_annotate.specs.Bodies.{with_params}
 use Rattle.par_well_typed.specs.Numbers.{ExpReads}
 use Rattle.par_well_typed.specs.SetFirst as set_first
-use Rattle.par_well_typed.specs.SetFirst.{IsSet, SetsFirst, ElseSetsFirst, AllSetFirst, CatchesSetFirst}
+use Rattle.par_well_typed.specs.SetFirst.{IsSet, SetsFirst, ElseSetsFirst, AllSetFirst}
+use Rattle.par_well_typed.specs.SetFirst.{CatchesSetFirst}
 use Rattle.par_well_typed.proofs.Lists.{of_both, each_is}
 use Rattle.par_well_typed.proofs.Bodies.{AreLocals, IsLocal, exp_in, may_in, this_in}
 

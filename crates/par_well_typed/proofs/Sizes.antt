@@ -1,8 +1,10 @@
 -- Typed bodies have at most as many nodes as the bodies of the source.
-use Rattle.std.proofs.Common.{◌≡◌, ℕ, ◌+◌, ◌≤◌, Bool, true, false, List, [], ◌++◌, Option, Some, None, refl, ap, ◌∙◌, arith, cond}
+use Rattle.std.proofs.Common.{◌≡◌, ℕ, ◌+◌, ◌≤◌, Bool, true, false, List, [], ◌++◌, Option, Some}
+use Rattle.std.proofs.Common.{None, refl, ap, ◌∙◌, arith, cond}
 use Rattle.std.specs.Prelude.{nat_eq}
 use Rattle.std.proofs.lemmas.Bool.Decides.{nat_tests}
-use Rattle.par_tree.specs.Plain.{Exp, Int, True, False, Null, This, New, Name, Field, Call, Neg, Not, Binary}
+use Rattle.par_tree.specs.Plain.{Exp, Int, True, False, Null, This, New, Name, Field, Call, Neg}
+use Rattle.par_tree.specs.Plain.{Not, Binary}
 use Rattle.par_tree.specs.Plain.{Exps, NoExps, More, MayExp, Absent, Present}
 use Rattle.par_tree.specs.Nodes as source
 use Rattle.par_typed.specs.declared.ty.Ty.TheVariants as ty
@@ -17,14 +19,19 @@ use Rattle.par_scope.specs.declared.meaning.Receiver.TheVariants as receiver
 use Rattle.par_scope.specs.declared.meaning.Callee.{Callee}
 use Rattle.par_scope.specs.declared.meaning.Callee.TheVariants.{Unknown, Channel, Method}
 use Rattle.par_scope.specs.Home.{Home}
-use Rattle.par_scope.specs.Members.{field_at, channel_at, method_at, field_is_static, method_is_static, channel_arity, way_arity, any_value}
-use Rattle.par_scope.specs.Meaning.{selected, called, type_of, called_on, receiver_of, sure, arity, param_at}
+use Rattle.par_scope.specs.Members.{field_at, channel_at, method_at, field_is_static}
+use Rattle.par_scope.specs.Members.{method_is_static, channel_arity, way_arity, any_value}
+use Rattle.par_scope.specs.Meaning.{selected, called, type_of, called_on, receiver_of, sure, arity}
+use Rattle.par_scope.specs.Meaning.{param_at}
 use Rattle.par_types.specs.Exprs as types
-use Rattle.par_types.specs.Exprs.{expr_faults, receiver_faults, args_faults, misfit, count_fault, member_fault, is_known, unless_number, is_number}
+use Rattle.par_types.specs.Exprs.{expr_faults, receiver_faults, args_faults, misfit, count_fault}
+use Rattle.par_types.specs.Exprs.{member_fault, is_known, unless_number, is_number}
 use Rattle.par_types.specs.Fits.{operand}
 use Rattle.par_annotate.specs.Frames.{Frame, Var, var_named}
-use Rattle.par_annotate.specs.Exprs.{own_this, own_field, name_typed, negation, number_of, selection, own_receiver, method_on}
-use Rattle.par_annotate.specs.Exprs.{callee_on, first, by_way, through, call, typed_exp, typed_may, typed_args, mark_of}
+use Rattle.par_annotate.specs.Exprs.{own_this, own_field, name_typed, negation, number_of}
+use Rattle.par_annotate.specs.Exprs.{selection, own_receiver, method_on}
+use Rattle.par_annotate.specs.Exprs.{callee_on, first, by_way, through, call, typed_exp, typed_may}
+use Rattle.par_annotate.specs.Exprs.{typed_args, mark_of}
 use Rattle.par_well_typed.specs.Sizes.{is_this, size, receiver_size, args_size}
 use Rattle.par_well_typed.proofs.Lists.{none_left, none_right}
 use Rattle.par_well_typed.proofs.Unbroken.{is_kept}

@@ -1,5 +1,6 @@
 -- Each typed body of a source is within the limit of nodes.
-use Rattle.std.proofs.Common.{◌≡◌, ℕ, ◌≤◌, List, [], ◌∷◌, ◌++◌, length, Some, None, refl, sym, ap, subst, ◌∙◌, map, append_assoc}
+use Rattle.std.proofs.Common.{◌≡◌, ℕ, ◌≤◌, List, [], ◌∷◌, ◌++◌, length, Some, None, refl, sym, ap}
+use Rattle.std.proofs.Common.{subst, ◌∙◌, map, append_assoc}
 use Rattle.std.specs.Prelude.{flat_map, slice_get, nat_le}
 use Rattle.std.specs.List.{AllByRecursion}
 use Rattle.std.proofs.lemmas.Bool.{leb-true}
@@ -14,11 +15,13 @@ use Rattle.par_declarations.specs.Limits.{over, method_limits, class_limits}
 use Rattle.par_declarations.specs.Locals.{method_locals}
 use Rattle.par_scope.specs.Names.{names_of}
 use Rattle.par_scope.specs.Home.{class_named}
-use Rattle.par_types.specs.Methods.{home_of, fields_faults, method_faults, methods_faults, class_faults}
+use Rattle.par_types.specs.Methods.{home_of, fields_faults, method_faults, methods_faults}
+use Rattle.par_types.specs.Methods.{class_faults}
 use Rattle.par_types.specs.Program.{declaration_faults, declarations_faults, type_faults}
 use Rattle.par_resolved.specs.Resolved.{Resolved, resolved, class_info, method_info, table_of}
 use Rattle.par_annotate.specs.Stmts.{Written}
-use Rattle.par_annotate.specs.Bodies.{typed_methods, typed_class, typed_declaration, typed_declarations}
+use Rattle.par_annotate.specs.Bodies.{typed_methods, typed_class, typed_declaration}
+use Rattle.par_annotate.specs.Bodies.{typed_declarations}
 use Rattle.par_faults.specs.Faults.{all_faults}
 use Rattle.par_well_typed.specs.Orderly.{method_at}
 use Rattle.par_well_typed.specs.Sizes.{IsSmallBody}
@@ -26,8 +29,10 @@ use Rattle.par_sources.specs.Order.{Ascend, IsInOrder}
 use Rattle.par_well_typed.specs.Typed.{written_in, bodies_of}
 use Rattle.par_well_typed.proofs.Lists.{none_left, none_right, none_of, of_both, each_is}
 use Rattle.par_well_typed.proofs.Places.{Differ}
-use Rattle.par_well_typed.proofs.Unbroken.{is_kept, IsKept, IsKeptClass, kept, names_kept, counts_kept}
-use Rattle.par_well_typed.proofs.Programs.{class_number, class_stands, method_names_differ, method_number, method_stands}
+use Rattle.par_well_typed.proofs.Unbroken.{is_kept, IsKept, IsKeptClass, kept, names_kept}
+use Rattle.par_well_typed.proofs.Unbroken.{counts_kept}
+use Rattle.par_well_typed.proofs.Programs.{class_number, class_stands, method_names_differ}
+use Rattle.par_well_typed.proofs.Programs.{method_number, method_stands}
 use Rattle.par_well_typed.proofs.BodySizes.{method_size}
 
 -- what is not over a limit is within it
@@ -69,7 +74,8 @@ module _ (source : Source) (ordered : IsInOrder source) (none : all_faults sourc
   unfolding typed_methods methods_faults
   small class n c before [] stands is apart_names few types = tt
   small class n c before (m ∷ ms) stands is apart_names few types =
-      let number = method_number source ordered names class n c before ms m stands is apart_names in (
+      let number =
+      method_number source ordered names class n c before ms m stands is apart_names in (
         (
           method_info r class m,
           record {

@@ -1,5 +1,6 @@
 -- The names and descriptors of a table are those of its source.
-use Rattle.std.proofs.Common.{◌≡◌, ℕ, zero, suc, ◌+◌, ◌<◌, true, List, [], ◌∷◌, length, get_or, Option, Some, None, refl, sym, ap, subst, ◌∙◌, arith, map, ◌++◌}
+use Rattle.std.proofs.Common.{◌≡◌, ℕ, zero, suc, ◌+◌, ◌<◌, true, List, [], ◌∷◌, length, get_or}
+use Rattle.std.proofs.Common.{Option, Some, None, refl, sym, ap, subst, ◌∙◌, arith, map, ◌++◌}
 use Rattle.std.specs.Prelude.{flat_map, slice_get, unwrap_or, count_by, if◌then◌else◌}
 use Rattle.std.specs.List.{AllByRecursion, position}
 use Rattle.std.specs.Option.{is_some}
@@ -19,17 +20,21 @@ use Rattle.par_typed.specs.declared.table.ClassInfo.{ClassInfo}
 use Rattle.par_typed.specs.declared.table.Table.{Table}
 use Rattle.par_names.specs.Declarations.{classes, classes_in, declared_classes, doubles}
 use Rattle.par_names.specs.Members.{callee_ids}
-use Rattle.par_names.specs.Methods.{inferred_fault, field_faults, channel_faults, param_faults, method_faults}
+use Rattle.par_names.specs.Methods.{inferred_fault, field_faults, channel_faults, param_faults}
+use Rattle.par_names.specs.Methods.{method_faults}
 use Rattle.par_names.specs.Policies.{may_policy_faults, type_fault, result_fault}
 use Rattle.par_names.specs.Program.{view_behind, name_faults}
 use Rattle.par_names.proofs.Lookups.{at, found}
 use Rattle.par_resolved.specs.Numbers.{type_of, result_of}
-use Rattle.par_resolved.specs.Resolved.{Resolved, resolved, field_infos, channel_info, param_info, method_info, class_infos, table_of}
+use Rattle.par_resolved.specs.Resolved.{Resolved, resolved, field_infos, channel_info, param_info}
+use Rattle.par_resolved.specs.Resolved.{method_info, class_infos, table_of}
 use Rattle.par_sources.specs.Sizes as source
 use Rattle.par_sources.specs.Sizes.{source_texts}
-use Rattle.par_well_typed.specs.Texts.{name_size, channels_size, type_size, params_size, fields_size, methods_size, classes_size, table_texts}
+use Rattle.par_well_typed.specs.Texts.{name_size, channels_size, type_size, params_size}
+use Rattle.par_well_typed.specs.Texts.{fields_size, methods_size, classes_size, table_texts}
 use Rattle.par_well_typed.proofs.Lists.{none_left, none_right, none_of}
-use Rattle.par_well_typed.proofs.Unbroken.{is_kept, IsKeptClass, IsKeptMethod, classes_kept, methods_kept, head_kept}
+use Rattle.par_well_typed.proofs.Unbroken.{is_kept, IsKeptClass, IsKeptMethod, classes_kept}
+use Rattle.par_well_typed.proofs.Unbroken.{methods_kept, head_kept}
 use Rattle.par_well_typed.proofs.Programs.{names-class_infos}
 use Rattle.par_well_typed.proofs.Fitted.{head_types}
 
@@ -45,7 +50,8 @@ abbrev declared_texts : List Class → ℕ
 declared_texts [] = 0
 declared_texts (c ∷ cs) = source.class_size c + declared_texts cs
 
-of_declarations : (ds : List Declaration) → declared_texts (flat_map classes_in ds) ≡ source_texts ds
+of_declarations : (ds : List Declaration)
+    → declared_texts (flat_map classes_in ds) ≡ source_texts ds
 of_declarations [] = refl
 of_declarations (plain.Actors ids ∷ ds) = let rest = of_declarations ds in omega (arith, rest)
 of_declarations (plain.Lock lock ∷ ds) = let rest = of_declarations ds in omega (arith, rest)

@@ -1,5 +1,6 @@
 -- What a source keeps that breaks no rule on names and exceeds no limit.
-use Rattle.std.proofs.Common.{◌≡◌, ℕ, ◌+◌, ◌^◌, ◌<◌, ◌≤◌, Bool, true, false, List, [], ◌∷◌, length, Option, Some, None, refl, sym, ap, subst, ◌∙◌, arith, map}
+use Rattle.std.proofs.Common.{◌≡◌, ℕ, ◌+◌, ◌^◌, ◌<◌, ◌≤◌, Bool, true, false, List, [], ◌∷◌, length}
+use Rattle.std.proofs.Common.{Option, Some, None, refl, sym, ap, subst, ◌∙◌, arith, map}
 use Rattle.std.specs.Prelude.{flat_map, slice_get, unwrap_or, nat_eq, not, sum_by, slice_index_or}
 use Rattle.std.specs.List.{AllByRecursion, position}
 use Rattle.std.specs.Str.{bytes_eq}
@@ -14,22 +15,27 @@ use Rattle.par_tree.specs.Plain.{Class, Method, Declaration, Source}
 use Rattle.par_typed.specs.declared.refusal.Refusal.{Refusal}
 use Rattle.par_typed.specs.First.{when, in_passes, first_of}
 use Rattle.par_typed.proofs.First.{first_of_none}
-use Rattle.par_names.specs.Declarations.{actors, locks, classes_in, declared_classes, lock_named, doubles}
+use Rattle.par_names.specs.Declarations.{actors, locks, classes_in, declared_classes, lock_named}
+use Rattle.par_names.specs.Declarations.{doubles}
 use Rattle.par_names.specs.Policies.{lock_faults, arity_fault, actor_fault}
 use Rattle.par_names.specs.Methods.{class_faults, method_faults, head_faults, throw_faults}
 use Rattle.par_names.specs.Stmts.{braces_faults}
-use Rattle.par_names.specs.Program.{view_behind, declaration_faults, declarations_faults, program_doubles, mains, mains_faults, name_faults}
+use Rattle.par_names.specs.Program.{view_behind, declaration_faults, declarations_faults}
+use Rattle.par_names.specs.Program.{program_doubles, mains, mains_faults, name_faults}
 use Rattle.par_names.proofs.Lookups.{found}
 use Rattle.par_resolved.specs.Few.{HasFew}
-use Rattle.par_resolved.specs.Numbers.{numbers, number, actor_number, lock_number, ground_count, place_in_family}
+use Rattle.par_resolved.specs.Numbers.{numbers, number, actor_number, lock_number, ground_count}
+use Rattle.par_resolved.specs.Numbers.{place_in_family}
 use Rattle.par_resolved.specs.Limits as resolved
 use Rattle.par_resolved.specs.Sizes.{all_literal_faults, all_join_faults}
 use Rattle.par_resolved.specs.Policies.{known}
-use Rattle.par_declarations.specs.Limits.{declared_limits, one_too_many, class_places, class_limits, count_faults}
+use Rattle.par_declarations.specs.Limits.{declared_limits, one_too_many, class_places, class_limits}
+use Rattle.par_declarations.specs.Limits.{count_faults}
 use Rattle.par_declarations.specs.declared.limit.TheConstants.{CLASSES}
 use Rattle.par_faults.specs.Faults.{where_none, policies_faults, limit_faults, all_faults}
 use Rattle.par_faults.proofs.Few.{has_few}
-use Rattle.par_well_typed.proofs.Lists.{none_left, none_right, none_of, of_parts, all_mapped, each_is, found_within}
+use Rattle.par_well_typed.proofs.Lists.{none_left, none_right, none_of, of_parts, all_mapped}
+use Rattle.par_well_typed.proofs.Lists.{each_is, found_within}
 use Rattle.par_well_typed.proofs.Locks.{family_within, place_within}
 
 -- ---- passes

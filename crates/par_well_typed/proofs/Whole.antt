@@ -2,7 +2,10 @@
 use Rattle.std.proofs.Common.{◌≤◌, sym, subst, arith}
 use Rattle.par_lexer.specs.declared.cut.TheConstants.{LONGEST_SOURCE}
 use Rattle.par_resolved.specs.Resolved.{table_of}
-use Rattle.par_well_typed.specs.Laws.{TablesAreInRange, BodiesHaveMethods, SuchBodiesAreOrderly, BodiesAreOrderly, ClassesAndMembersAreNamed, BodiesAreSmall, BodiesMakeObjects, TypesFit, BodiesAreControlled, TablesHaveTexts, SourcesAreWellTyped}
+use Rattle.par_well_typed.specs.Laws.{TablesAreInRange, BodiesHaveMethods, SuchBodiesAreOrderly}
+use Rattle.par_well_typed.specs.Laws.{BodiesAreOrderly, ClassesAndMembersAreNamed, BodiesAreSmall}
+use Rattle.par_well_typed.specs.Laws.{BodiesMakeObjects, TypesFit, BodiesAreControlled}
+use Rattle.par_well_typed.specs.Laws.{TablesHaveTexts, SourcesAreWellTyped}
 use Rattle.par_well_typed.specs.Orderly.{HasMethod, IsOrderlyBody}
 use Rattle.par_well_typed.specs.Typed.{bodies_of, written_in}
 use Rattle.par_well_typed.proofs.Lists.{each_is}
@@ -41,7 +44,8 @@ pub bodies_are_small : BodiesAreSmall
 bodies_are_small source ordered none types = small.bodies_are_small source ordered none types
 
 pub bodies_make_objects : BodiesMakeObjects
-bodies_make_objects source ordered none types = objects.bodies_make_objects source ordered none types
+bodies_make_objects source ordered none types =
+    objects.bodies_make_objects source ordered none types
 
 pub types_fit : TypesFit
 types_fit source ordered none types = fitted.values_fit source ordered none types

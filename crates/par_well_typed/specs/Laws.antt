@@ -58,7 +58,8 @@ BodiesAreSmall =
     → type_faults (table_of source) source ≡ []
     → AllByRecursion (IsSmallBody (table_of source)) (bodies_of source)
 
--- `new` makes objects of classes that are no exceptions, and `this` stands in instance methods alone
+-- `new` makes objects of classes that are no exceptions, and `this` stands in instance methods
+-- alone
 abbrev pub BodiesMakeObjects : Type 0
 BodiesMakeObjects =
     (source : Source) → IsInOrder source → all_faults source ≡ []

@@ -1,6 +1,7 @@
 -- How many bytes the names of the declared classes and of their members have, with the descriptors
 -- of the members.
-use Rattle.std.specs.Prelude.{ℕ, ◌+◌, cond, List, [], ◌∷◌, length, drop, slice_get, Option, Some, None}
+use Rattle.std.specs.Prelude.{ℕ, ◌+◌, cond, List, [], ◌∷◌, length, drop, slice_get, Option, Some}
+use Rattle.std.specs.Prelude.{None}
 use Rattle.par_typed.specs.declared.ty.Ty.{Ty}
 use Rattle.par_typed.specs.declared.ty.Ty.TheVariants as ty
 use Rattle.par_typed.specs.declared.table.FieldInfo.{FieldInfo}

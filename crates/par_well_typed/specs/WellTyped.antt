@@ -18,7 +18,8 @@ NamesMembers table b = StaNames table b.body
 
 -- what later layers may ask of the bodies of a program, over its table: the table's numbers are in
 -- range, each body is that of a method, obeys what the rules of flow ask of numbers, names the
--- classes and members that it should, makes objects of ordinary classes, has `this` where there is a
+-- classes and members that it should, makes objects of ordinary classes, has `this` where there is
+-- a
 -- receiver, has values of the types that fit where they stand, has no statement that is not reached
 -- and no end that is reached without a result, and is within the limits; and the names and
 -- descriptors of the table have no more bytes than a source

@@ -1,5 +1,6 @@
 -- Words ask for one thing, and for a run of a class with a name and for few instructions.
-use Rattle.std.proofs.Common.{◌≡◌, ℕ, ◌≤◌, Bool, true, false, ◌&&◌, cond, nat_le, List, [], ◌∷◌, Some, None, refl, sym, ap, ◌∙◌, arith}
+use Rattle.std.proofs.Common.{◌≡◌, ℕ, ◌≤◌, Bool, true, false, ◌&&◌, cond, nat_le, List, [], ◌∷◌}
+use Rattle.std.proofs.Common.{Some, None, refl, sym, ap, ◌∙◌, arith}
 use Rattle.std.specs.declared.string.String.{String}
 use Rattle.std.specs.declared.alloc.Global.{Global}
 use Rattle.std.proofs.lemmas.Bool.{and_parts}
@@ -13,9 +14,12 @@ use Rattle.par_inputs.specs.Numbers.{is_decimal, magnitude_of}
 use Rattle.par_words.specs.declared.words.Which.{Which}
 use Rattle.par_words.specs.declared.words.Which.TheVariants.{Compiler, Runner}
 use Rattle.par_words.specs.Commands.{Text, texts, rows, values, has_flag}
-use Rattle.par_words.specs.Words.{Wanted, Check, Compile, Trace, Run, AreRun, AskRun, AreTraced, AskTrace, AskSource, IsSource, IsTrace, IsCompiler, IsRun, IsForm, Asks, most_steps}
+use Rattle.par_words.specs.Words.{Wanted, Check, Compile, Trace, Run, AreRun, AskRun, AreTraced}
+use Rattle.par_words.specs.Words.{AskTrace, AskSource, IsSource, IsTrace, IsCompiler, IsRun, IsForm}
+use Rattle.par_words.specs.Words.{Asks, most_steps}
 
-one_file : (checked : Bool) (file : Text) (v w : Wanted) → AskSource checked file v → AskSource checked file w → v ≡ w
+one_file : (checked : Bool) (file : Text) (v w : Wanted) → AskSource checked file v
+    → AskSource checked file w → v ≡ w
 one_file true file (Check f) (Check g) x y = ap Check (sym x ∙ y)
 one_file false file (Compile f) (Compile g) x y = ap Compile (sym x ∙ y)
 one_file true file (Compile f) w x y = absurd x
@@ -31,12 +35,14 @@ one_file false file (Compile f) (Check g) x y = absurd y
 one_file false file (Compile f) (Trace g i n) x y = absurd y
 one_file false file (Compile f) (Run m i s) x y = absurd y
 
-one_source : (checked : Bool) (vs : List Text) (v w : Wanted) → IsSource checked vs v → IsSource checked vs w → v ≡ w
+one_source : (checked : Bool) (vs : List Text) (v w : Wanted) → IsSource checked vs v
+    → IsSource checked vs w → v ≡ w
 one_source checked [] v w x y = absurd x
 one_source checked (file ∷ []) v w x y = one_file checked file v w x y
 one_source checked (file ∷ another ∷ more) v w x y = absurd x
 
-trace_is : (a b c f g i j : Text) (m n : ℕ) → AreTraced a b c f i m → AreTraced a b c g j n → Trace f i m ≡ Trace g j n
+trace_is : (a b c f g i j : Text) (m n : ℕ) → AreTraced a b c f i m → AreTraced a b c g j n
+    → Trace f i m ≡ Trace g j n
 trace_is a b c f g i j m n x y =
     let file : f ≡ g = sym x.file_is ∙ y.file_is in
     let inputs : i ≡ j = sym x.inputs_are ∙ y.inputs_are in
@@ -60,12 +66,14 @@ traces_once (a ∷ b ∷ []) v w x y = absurd x
 traces_once (a ∷ b ∷ c ∷ []) v w x y = one_trace a b c v w x y
 traces_once (a ∷ b ∷ c ∷ d ∷ more) v w x y = absurd x
 
-compiles_once : (checked traced : Bool) (vs : List Text) (v w : Wanted) → IsCompiler checked traced vs v → IsCompiler checked traced vs w → v ≡ w
+compiles_once : (checked traced : Bool) (vs : List Text) (v w : Wanted)
+    → IsCompiler checked traced vs v → IsCompiler checked traced vs w → v ≡ w
 compiles_once checked false vs v w x y = one_source checked vs v w x y
 compiles_once false true vs v w x y = traces_once vs v w x y
 compiles_once true true vs v w x y = absurd x
 
-run_is : (a b c m n i j : Text) (s t : ℕ) → AreRun a b c m i s → AreRun a b c n j t → Run m i s ≡ Run n j t
+run_is : (a b c m n i j : Text) (s t : ℕ) → AreRun a b c m i s → AreRun a b c n j t
+    → Run m i s ≡ Run n j t
 run_is a b c m n i j s t x y =
     let main : m ≡ n = sym x.main_is ∙ y.main_is in
     let inputs : i ≡ j = sym x.inputs_are ∙ y.inputs_are in
@@ -89,73 +97,94 @@ runs_once (a ∷ b ∷ []) v w x y = absurd x
 runs_once (a ∷ b ∷ c ∷ []) v w x y = one_run a b c v w x y
 runs_once (a ∷ b ∷ c ∷ d ∷ more) v w x y = absurd x
 
-one_form : (which : Which) (found : List Row) (v w : Wanted) → IsForm which found v → IsForm which found w → v ≡ w
-one_form Compiler found v w x y = compiles_once (has_flag (codes "check") found) (has_flag (codes "trace") found) (values found) v w x y
+one_form : (which : Which) (found : List Row) (v w : Wanted) → IsForm which found v
+    → IsForm which found w → v ≡ w
+one_form Compiler found v w x y =
+    compiles_once (has_flag (codes "check") found) (has_flag (codes "trace") found)
+    (values found) v w x y
 one_form Runner found v w x y = runs_once (values found) v w x y
 
 -- words ask for one thing
-pub one_wanted : (which : Which) (words : List (String Global)) (v w : Wanted) → Asks which words v → Asks which words w → v ≡ w
+pub one_wanted : (which : Which) (words : List (String Global)) (v w : Wanted) → Asks which words v
+    → Asks which words w → v ≡ w
 one_wanted which words v w x y = one_form which (rows which (texts words)) v w x.1 y.1
 
-no_trace : (vs : List Text) (main inputs : Text) (steps : ℕ) → IsTrace vs (Run main inputs steps) → ⊥
+no_trace : (vs : List Text) (main inputs : Text) (steps : ℕ)
+    → IsTrace vs (Run main inputs steps) → ⊥
 no_trace [] main inputs steps asks = asks
 no_trace (a ∷ []) main inputs steps asks = asks
 no_trace (a ∷ b ∷ []) main inputs steps asks = asks
 no_trace (a ∷ b ∷ c ∷ []) main inputs steps asks = asks
 no_trace (a ∷ b ∷ c ∷ d ∷ more) main inputs steps asks = asks
 
-no_source : (checked : Bool) (vs : List Text) (main inputs : Text) (steps : ℕ) → IsSource checked vs (Run main inputs steps) → ⊥
+no_source : (checked : Bool) (vs : List Text) (main inputs : Text) (steps : ℕ)
+    → IsSource checked vs (Run main inputs steps) → ⊥
 no_source checked [] main inputs steps asks = asks
 no_source true (file ∷ []) main inputs steps asks = asks
 no_source false (file ∷ []) main inputs steps asks = asks
 no_source checked (file ∷ another ∷ more) main inputs steps asks = asks
 
 -- the compiler runs no class
-no_run : (checked traced : Bool) (vs : List Text) (main inputs : Text) (steps : ℕ) → IsCompiler checked traced vs (Run main inputs steps) → ⊥
+no_run : (checked traced : Bool) (vs : List Text) (main inputs : Text) (steps : ℕ)
+    → IsCompiler checked traced vs (Run main inputs steps) → ⊥
 no_run checked false vs main inputs steps asks = no_source checked vs main inputs steps asks
 no_run false true vs main inputs steps asks = no_trace vs main inputs steps asks
 no_run true true vs main inputs steps asks = asks
 
-run_named : (vs : List Text) (main inputs : Text) (steps : ℕ) → IsRun vs (Run main inputs steps) → IsName main
+run_named : (vs : List Text) (main inputs : Text) (steps : ℕ) → IsRun vs (Run main inputs steps)
+    → IsName main
 run_named [] main inputs steps asks = absurd asks
 run_named (a ∷ []) main inputs steps asks = absurd asks
 run_named (a ∷ b ∷ []) main inputs steps asks = absurd asks
 run_named (a ∷ b ∷ c ∷ []) main inputs steps asks = asks.name
 run_named (a ∷ b ∷ c ∷ d ∷ more) main inputs steps asks = absurd asks
 
-form_named : (which : Which) (found : List Row) (main inputs : Text) (steps : ℕ) → IsForm which found (Run main inputs steps) → IsName main
+form_named : (which : Which) (found : List Row) (main inputs : Text) (steps : ℕ)
+    → IsForm which found (Run main inputs steps) → IsName main
 form_named Compiler found main inputs steps asks =
-    absurd (no_run (has_flag (codes "check") found) (has_flag (codes "trace") found) (values found) main inputs steps asks)
+    absurd (no_run (has_flag (codes "check") found) (has_flag (codes "trace") found)
+    (values found) main inputs steps asks)
 form_named Runner found main inputs steps asks = run_named (values found) main inputs steps asks
 
 -- the name of the class of a run is one
-pub asks_named : (which : Which) (words : List (String Global)) (main inputs : Text) (steps : ℕ) → Asks which words (Run main inputs steps) → IsName main
-asks_named which words main inputs steps asks = form_named which (rows which (texts words)) main inputs steps asks.1
+pub asks_named : (which : Which) (words : List (String Global)) (main inputs : Text) (steps : ℕ)
+    → Asks which words (Run main inputs steps) → IsName main
+asks_named which words main inputs steps asks =
+    form_named which (rows which (texts words)) main inputs steps asks.1
 
 -- ---- the number of instructions of a run
 
-bounded_by : (most n : ℕ) (text : Text) (right : Bool) → (is_decimal text && nat_le (value text) most) ≡ right → cond right (Some (value text)) None ≡ Some n → n ≤ most
+bounded_by : (most n : ℕ) (text : Text) (right : Bool)
+    → (is_decimal text && nat_le (value text) most) ≡ right
+    → cond right (Some (value text)) None ≡ Some n → n ≤ most
 bounded_by most n text true right is =
     let same : value text ≡ n = same_Some _ _ is in
-    let small : nat_le (value text) most ≡ true = (and_parts (is_decimal text) (nat_le (value text) most) right).1 in
+    let small : nat_le (value text) most ≡ true =
+    (and_parts (is_decimal text) (nat_le (value text) most) right).1 in
     grind (arith, nat_tests)
 bounded_by most n text false right is = absurd (none-some n is)
 
 bounded : (most n : ℕ) (text : Text) → magnitude_of most text ≡ Some n → n ≤ most
-bounded most n text is = bounded_by most n text (is_decimal text && nat_le (value text) most) refl is
+bounded most n text is =
+    bounded_by most n text (is_decimal text && nat_le (value text) most) refl is
 
-run_few : (vs : List Text) (main inputs : Text) (steps : ℕ) → IsRun vs (Run main inputs steps) → steps ≤ most_steps
+run_few : (vs : List Text) (main inputs : Text) (steps : ℕ) → IsRun vs (Run main inputs steps)
+    → steps ≤ most_steps
 run_few [] main inputs steps asks = absurd asks
 run_few (a ∷ []) main inputs steps asks = absurd asks
 run_few (a ∷ b ∷ []) main inputs steps asks = absurd asks
 run_few (a ∷ b ∷ c ∷ []) main inputs steps asks = bounded most_steps steps c asks.number.0
 run_few (a ∷ b ∷ c ∷ d ∷ more) main inputs steps asks = absurd asks
 
-form_few : (which : Which) (found : List Row) (main inputs : Text) (steps : ℕ) → IsForm which found (Run main inputs steps) → steps ≤ most_steps
+form_few : (which : Which) (found : List Row) (main inputs : Text) (steps : ℕ)
+    → IsForm which found (Run main inputs steps) → steps ≤ most_steps
 form_few Compiler found main inputs steps asks =
-    absurd (no_run (has_flag (codes "check") found) (has_flag (codes "trace") found) (values found) main inputs steps asks)
+    absurd (no_run (has_flag (codes "check") found) (has_flag (codes "trace") found)
+    (values found) main inputs steps asks)
 form_few Runner found main inputs steps asks = run_few (values found) main inputs steps asks
 
 -- is at most the greatest
-pub asks_few : (which : Which) (words : List (String Global)) (main inputs : Text) (steps : ℕ) → Asks which words (Run main inputs steps) → steps ≤ most_steps
-asks_few which words main inputs steps asks = form_few which (rows which (texts words)) main inputs steps asks.1
+pub asks_few : (which : Which) (words : List (String Global)) (main inputs : Text) (steps : ℕ)
+    → Asks which words (Run main inputs steps) → steps ≤ most_steps
+asks_few which words main inputs steps asks =
+    form_few which (rows which (texts words)) main inputs steps asks.1

@@ -1,9 +1,12 @@
 -- What a parse of the programs' commands says of words.
-use Rattle.std.proofs.Common.{◌≡◌, true, false, List, [], Option, Some, None, Result, Ok, Err, refl, sym, ap, subst, ◌∙◌, inl, inr}
+use Rattle.std.proofs.Common.{◌≡◌, true, false, List, [], Option, Some, None, Result, Ok, Err, refl}
+use Rattle.std.proofs.Common.{sym, ap, subst, ◌∙◌, inl, inr}
 use Rattle.std.specs.Option.{option_map_or}
 use Rattle.std.specs.Prelude.{codes}
 use Rattle.std.specs.Str.{bytes_eq}
-use Rattle.clap.specs.Words.{App, FailsBy, HasKind, HasMatchesOf, IsAmong, Row, fault_of, first_of, first_value, found_of, is_simple, is_simple_and_free, kind_of, matches_of, rows_of}
+use Rattle.clap.specs.Words.{App, FailsBy, HasKind, HasMatchesOf, IsAmong, Row, fault_of, first_of}
+use Rattle.clap.specs.Words.{first_value, found_of, is_simple, is_simple_and_free, kind_of}
+use Rattle.clap.specs.Words.{matches_of, rows_of}
 use Rattle.clap.specs.declared.error.Error.{Error}
 use Rattle.clap.specs.declared.error.kind.ErrorKind.TheVariants.{OutOfMemory}
 use Rattle.clap.specs.declared.parser.matches.ArgMatches.{ArgMatches}
@@ -24,17 +27,22 @@ simple_and_free Runner = refl
 
 module _ (which : Which) (a : App) (is : a ≡ command_of which) (words : List Text) where
   -- a parse that gives matches has no fault
-  pub taken_so : (m : ArgMatches) → (is_simple_and_free a ≡ true → FailsBy (fault_of a words) (Ok m)) → IsTaken which words
-  taken_so m kinds = ap (λ (b : App). fault_of b words) (sym is) ∙ kinds (ap is_simple_and_free is ∙ simple_and_free which)
+  pub taken_so : (m : ArgMatches)
+      → (is_simple_and_free a ≡ true → FailsBy (fault_of a words) (Ok m)) → IsTaken which words
+  taken_so m kinds =
+      ap (λ (b : App). fault_of b words) (sym is)
+      ∙ kinds (ap is_simple_and_free is ∙ simple_and_free which)
 
   pub rows_so : (m : ArgMatches) → HasMatchesOf a words m → rows_of (found_of m) ≡ rows which words
   rows_so m has = (has (ap is_simple is ∙ simple which)).0 ∙ ap (λ (b : App). matches_of b words) is
 
   -- and one that fails has a fault, or memory is wanting
-  pub refused_so : (e : Error) → (is_simple_and_free a ≡ true → HasKind (fault_of a words) e) → (kind_of e ≡ OutOfMemory → ⊥)
+  pub refused_so : (e : Error) → (is_simple_and_free a ≡ true → HasKind (fault_of a words) e)
+      → (kind_of e ≡ OutOfMemory → ⊥)
       → fault_of (command_of which) words ≡ [] → ⊥
   refused_so e kinds other none =
-      let here : HasKind (fault_of a words) e = kinds (ap is_simple_and_free is ∙ simple_and_free which) in
+      let here : HasKind (fault_of a words) e =
+      kinds (ap is_simple_and_free is ∙ simple_and_free which) in
       let nothing : fault_of a words ≡ [] = ap (λ (b : App). fault_of b words) is ∙ none in
       elim here [
         | inl memory ↦ other memory
@@ -45,4 +53,5 @@ module _ (which : Which) (a : App) (is : a ≡ command_of which) (words : List T
 pub flag_so : (name : Text) (f : Found) (o : Option Text) → o ≡ first_value f name
     → option_map_or (λ text. bytes_eq text (codes "true")) o false ≡ has_flag name (rows_of f)
 flag_so name f o is =
-    ap (λ (x : Option Text). option_map_or (λ text. bytes_eq text (codes "true")) x false) (is ∙ first_value-rows f name)
+    ap (λ (x : Option Text). option_map_or (λ text. bytes_eq text (codes "true")) x false)
+    (is ∙ first_value-rows f name)

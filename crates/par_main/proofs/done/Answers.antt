@@ -13,6 +13,8 @@ returns-in-Ok-clause-ended g c =
 
 pub returns-in-Ok-clause-usage : goal.returns-in-Ok-clause-usage
 returns-in-Ok-clause-usage g c =
-    subst (λ r. IfOk r (λ taken. ((w : Wanted) → Asks c.args.which taken.items w → ⊥) → IsSaidBy (exit_status c.from.result) 2)) (sym c.in-Ok.is)
+    subst (λ r. IfOk r (λ taken. ((w : Wanted) → Asks c.args.which taken.items w → ⊥)
+    → IsSaidBy (exit_status c.from.result) 2)) (sym c.in-Ok.is)
     (λ none. subst (λ (n : ℕ). IsSaidBy n 2) (sym c.from.ensures)
-    (c.asked.ensures.usage (subst (λ ws. (w : Wanted) → Asks c.args.which ws w → ⊥) (sym c.as_slice.ensures.value) none)))
+    (c.asked.ensures.usage (subst (λ ws. (w : Wanted) → Asks c.args.which ws w → ⊥)
+    (sym c.as_slice.ensures.value) none)))

@@ -8,10 +8,12 @@ pub returns-then-not-stands-clause-done : goal.returns-then-not-stands-clause-do
 returns-then-not-stands-clause-done c = λ classes spot program o t is.
     elim c.if-goes.branch [
       | then-goes w ↦
-          jumps_5 classes spot program (running c.args.stack.now) o c.args.many c.args.goes c.args.ways t c.requires is.room is.stands
+          jumps_5 classes spot program (running c.args.stack.now) o c.args.many c.args.goes
+          c.args.ways t c.requires is.room is.stands
           w.if-goes.true (sym w.stands-is ∙ c.if-not-stands.true)
       | else-goes w ↦
-          goes_5 classes spot program (running c.args.stack.now) o c.args.many c.args.goes c.args.ways t c.requires is.room is.stands
+          goes_5 classes spot program (running c.args.stack.now) o c.args.many c.args.goes
+          c.args.ways t c.requires is.room is.stands
           w.if-goes.false (sym w.stands-is ∙ c.if-not-stands.true)
     ]
 
@@ -24,7 +26,8 @@ returns-then-goes-2-clause-done c = λ classes spot program o t is.
     ]
     in
     rw c.pop.ensures
-    (branch_jumps classes spot program (running c.args.stack.now) o c.args.many c.args.goes c.args.ways t c.requires is.room is.stands
+    (branch_jumps classes spot program (running c.args.stack.now) o c.args.many c.args.goes
+    c.args.ways t c.requires is.room is.stands
     c.if-goes-2.true aside)
 
 pub returns-else-goes-2-clause-done : goal.returns-else-goes-2-clause-done
@@ -36,5 +39,6 @@ returns-else-goes-2-clause-done c = λ classes spot program o t is.
     ]
     in
     rw c.pop.ensures
-    (branch_goes classes spot program (running c.args.stack.now) o c.args.many c.args.goes c.args.ways t c.requires is.room is.stands
+    (branch_goes classes spot program (running c.args.stack.now) o c.args.many c.args.goes
+    c.args.ways t c.requires is.room is.stands
     c.if-goes-2.false ahead)

@@ -7,7 +7,8 @@ use Rattle.par_actions.proofs.calls.are_taken.Goals as goal
 
 pub returns-in_default : goal.returns-in_default
 returns-in_default c =
-    sym (no_more_operands (drop c.loop-after.after (reverse c.args.takes.now)) (running c.args.stack.now).operands c.loop-after.after (sym c.in_default.ensures))
+    sym (no_more_operands (drop c.loop-after.after (reverse c.args.takes.now))
+    (running c.args.stack.now).operands c.loop-after.after (sym c.in_default.ensures))
     ∙ c.loop-after.invariant
 
 pub returns-then-not-accepts : goal.returns-then-not-accepts
@@ -18,7 +19,8 @@ returns-then-not-accepts c =
     let within : after < length takes = omega arith in
     sym (
     one_step takes after Number within vs c.in-Some.value (sym c.in-Some.ensures)
-    ∙ ap (λ (b : Bool). b && accept_all (drop (after + 1) (reverse takes)) (drop (after + 1) vs)) (sym c.accepts.ensures ∙ c.if-not-accepts.true)
+    ∙ ap (λ (b : Bool). b && accept_all (drop (after + 1) (reverse takes)) (drop (after + 1) vs))
+    (sym c.accepts.ensures ∙ c.if-not-accepts.true)
     ) ∙ c.loop-after.invariant
 
 pub loop-after-preserved : goal.loop-after-preserved
@@ -29,5 +31,6 @@ loop-after-preserved c =
     let within : after < length takes = omega arith in
     sym (
     one_step takes after Number within vs c.in-Some.value (sym c.in-Some.ensures)
-    ∙ ap (λ (b : Bool). b && accept_all (drop (after + 1) (reverse takes)) (drop (after + 1) vs)) (sym c.accepts.ensures ∙ c.if-not-accepts.false)
+    ∙ ap (λ (b : Bool). b && accept_all (drop (after + 1) (reverse takes)) (drop (after + 1) vs))
+    (sym c.accepts.ensures ∙ c.if-not-accepts.false)
     ) ∙ c.loop-after.invariant

@@ -3,7 +3,8 @@ use Rattle.std.proofs.lemmas.Result.{IfOk-weaker}
 use Rattle.par_stack.specs.Frames.{running}
 use Rattle.par_lines.specs.Lines.{channels_of}
 use Rattle.par_actions.specs.Calls.{call_on}
-use Rattle.par_actions.proofs.Calling.{CallCame, on_1, on_2, on_2_receiver, on_2_exception, on_null, null_does, on_4, on_5, on_later, on_came, on_target}
+use Rattle.par_actions.proofs.Calling.{CallCame, on_1, on_2, on_2_receiver, on_2_exception, on_null}
+use Rattle.par_actions.proofs.Calling.{null_does, on_4, on_5, on_later, on_came, on_target}
 use Rattle.par_actions.proofs.calls.invoke_on.Goals as goal
 
 pub returns-in_default-clause-done : goal.returns-in_default-clause-done
@@ -61,7 +62,8 @@ returns-then-is_null-clause-done c = λ classes spot program m is left knows at.
       left = left;
       comes = (
         rw (c.call_reason.ensures, c.is_short-short.ensures, c.method_reason-against.ensures)
-            (on_null classes spot program (running c.args.stack.now) m (channels_of c.args.lines.now)
+            (on_null classes spot program (running c.args.stack.now) m
+            (channels_of c.args.lines.now)
             c.args.callee is c.args.special at.room c.in-Some.receiver (sym c.in-Some.ensures)
             (sym c.are_taken.ensures ∙ c.if-not-are_taken.false)
             (sym c.accepts.ensures ∙ c.if-not-accepts.false)
@@ -138,5 +140,6 @@ returns-clause-done c =
     (sym c.is_short-short.ensures ∙ c.if-short.false) (at.stands ∙ c.if-not-ahead.false)
     c.in_default-against.ensures done c.call.new.stack c.call.new.lines
     (came classes spot program (call_on c.args.special m)
-    (on_target classes spot program (running c.args.stack.now) m (channels_of c.args.lines.now) c.args.callee is c.args.special)
+    (on_target classes spot program (running c.args.stack.now) m
+    (channels_of c.args.lines.now) c.args.callee is c.args.special)
     left)) c.call.ensures.done

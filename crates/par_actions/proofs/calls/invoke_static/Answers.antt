@@ -3,7 +3,8 @@ use Rattle.std.proofs.lemmas.Result.{IfOk-weaker}
 use Rattle.par_values.specs.Operations.{InvokeStatic}
 use Rattle.par_stack.specs.Frames.{running}
 use Rattle.par_lines.specs.Lines.{channels_of}
-use Rattle.par_actions.proofs.Calling.{CallCame, static_1, static_2, static_3, static_4, static_5, static_7, static_came}
+use Rattle.par_actions.proofs.Calling.{CallCame, static_1, static_2, static_3, static_4, static_5}
+use Rattle.par_actions.proofs.Calling.{static_7, static_came}
 use Rattle.par_actions.proofs.calls.invoke_static.Goals as goal
 
 pub returns-then-count-many-clause-done : goal.returns-then-count-many-clause-done

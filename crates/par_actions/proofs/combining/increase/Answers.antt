@@ -12,6 +12,13 @@ pub returns-clause-done : goal.returns-clause-done
 returns-clause-done c = λ classes spot program is.
     let fits : FitsSigned w32 c.in-Some.number = search rules in
     let sized : FitsSigned w32 c.sum.result = search rules in
-    rw (c.set_local.ensures, to_z-of_z w32 c.sum.result sized, c.sum.ensures, to_z-of_z w32 c.in-Some.number fits, to_z-of_z w8 c.args.by c.ranges.by)
-    (increase_runs classes spot program (running c.args.stack.now) c.args.place c.args.by is.room c.in-Some.number c.in-Some.ensures
+    rw (
+      c.set_local.ensures,
+      to_z-of_z w32 c.sum.result sized,
+      c.sum.ensures,
+      to_z-of_z w32 c.in-Some.number fits,
+      to_z-of_z w8 c.args.by c.ranges.by,
+    )
+    (increase_runs classes spot program
+    (running c.args.stack.now) c.args.place c.args.by is.room c.in-Some.number c.in-Some.ensures
     (is.stands ∙ c.if-not-ahead.false))

@@ -10,4 +10,5 @@ returns-clause-done c = λ classes spot program is.
     let sized : FitsSigned w32 c.negated.result = search rules in
     let number = rw (to_z-of_z w32 c.in-Is.number fits) at c.negated.ensures in
     rw (c.replace.ensures, to_z-of_z w32 c.negated.result sized, number)
-    (negate_runs classes spot program (running c.args.stack.now) c.in-Is.number c.in-Is.ensures is.room (is.stands ∙ c.if-not-ahead.false))
+    (negate_runs classes spot program (running c.args.stack.now) c.in-Is.number c.in-Is.ensures
+    is.room (is.stands ∙ c.if-not-ahead.false))

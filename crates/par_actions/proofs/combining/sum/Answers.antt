@@ -6,4 +6,5 @@ use Rattle.par_actions.proofs.combining.sum.Goals as goal
 pub returns : goal.returns
 returns c =
     rw (to_z-of_z w8 c.args.by c.ranges.by)
-    (wrapping_add_is w32 c.args.number c.args.by c.ranges.number (sfits_widen {w = w8} {w' = w32} tt c.ranges.by))
+    (wrapping_add_is w32 c.args.number c.args.by c.ranges.number
+    (sfits_widen {w = w8} {w' = w32} tt c.ranges.by))

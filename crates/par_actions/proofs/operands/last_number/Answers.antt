@@ -4,9 +4,11 @@ use Rattle.par_actions.proofs.Shapes.{one_there, wrong_number}
 use Rattle.par_actions.proofs.operands.last_number.Goals as goal
 
 pub returns-in_default-value : goal.returns-in_default-value
-returns-in_default-value c = wrong_number _ _ (one_there _ _ (sym c.in-Some.ensures)) c.in_default-value.not-Int
+returns-in_default-value c =
+    wrong_number _ _ (one_there _ _ (sym c.in-Some.ensures)) c.in_default-value.not-Int
 
 pub returns : goal.returns
 returns c =
     let fits : FitsSigned w32 c.in-Int.number = search rules in
-    rw (to_z-of_z w32 c.in-Int.number fits) (one_there _ _ (sym c.in-Some.ensures ∙ ap Some c.in-Int.is))
+    rw (to_z-of_z w32 c.in-Int.number fits)
+    (one_there _ _ (sym c.in-Some.ensures ∙ ap Some c.in-Int.is))

@@ -7,7 +7,8 @@ use Rattle.par_actions.proofs.operands.local_number.Goals as goal
 
 pub returns-in_default-value : goal.returns-in_default-value
 returns-in_default-value c = λ classes.
-    ap (holds classes Number) (sym c.in-Some.ensures) ∙ not_number classes _ c.in_default-value.not-Int
+    ap (holds classes Number) (sym c.in-Some.ensures)
+    ∙ not_number classes _ c.in_default-value.not-Int
 
 pub returns : goal.returns
 returns c =

@@ -7,4 +7,5 @@ pub returns-clause-done : goal.returns-clause-done
 returns-clause-done c = λ classes spot program is.
     let some : 0 < (running c.args.stack.now).free = omega (arith, c.free.ensures) in
     rw c.push.ensures
-    (copy_runs classes spot program (running c.args.stack.now) c.in-Some.value (sym c.in-Some.ensures) is.room some (is.stands ∙ c.if-not-ahead.false))
+    (copy_runs classes spot program (running c.args.stack.now) c.in-Some.value
+    (sym c.in-Some.ensures) is.room some (is.stands ∙ c.if-not-ahead.false))

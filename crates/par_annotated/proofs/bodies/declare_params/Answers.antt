@@ -5,7 +5,9 @@ use Rattle.par_annotated.proofs.bodies.declare_params.Goals as goal
 
 pub loop-param-preserved : goal.loop-param-preserved
 loop-param-preserved c =
-    let more = left_more c.args.params.now c.loop-param.param-index c.param-item.result c.loop-param-test.true c.param-item.is in
+    let more =
+    left_more c.args.params.now c.loop-param.param-index c.param-item.result c.loop-param-test.true
+    c.param-item.is in
     record { declared = grind (arith, typed_bodies); counted = grind (arith, typed_bodies) }
 
 pub returns-clause-declared : goal.returns-clause-declared

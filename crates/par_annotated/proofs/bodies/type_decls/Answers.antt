@@ -6,16 +6,22 @@ use Rattle.par_annotated.proofs.bodies.type_decls.Goals as goal
 
 pub type_decl-requires : goal.type_decl-requires
 type_decl-requires c =
-    let more = decls_left c.args.decls.now c.loop-decl.decl-index c.decl-item.result c.loop-decl-test.true c.decl-item.is in
+    let more =
+    decls_left c.args.decls.now c.loop-decl.decl-index c.decl-item.result c.loop-decl-test.true
+    c.decl-item.is in
     (subst (IsSmallSource c.args.names.now) more c.loop-decl.invariant.small).0
 
 pub loop-decl-preserved : goal.loop-decl-preserved
 loop-decl-preserved c =
-    let more = decls_left c.args.decls.now c.loop-decl.decl-index c.decl-item.result c.loop-decl-test.true c.decl-item.is in
+    let more =
+    decls_left c.args.decls.now c.loop-decl.decl-index c.decl-item.result c.loop-decl-test.true
+    c.decl-item.is in
     record {
       made = grind (arith, typed_bodies);
       small = (subst (IsSmallSource c.args.names.now) more c.loop-decl.invariant.small).1;
     }
 
 pub returns : goal.returns
-returns c = let none = no_decls_left c.args.decls.now c.loop-decl.decl-index c.loop-decl-test.false in grind (arith, typed_bodies)
+returns c =
+    let none = no_decls_left c.args.decls.now c.loop-decl.decl-index c.loop-decl-test.false in
+    grind (arith, typed_bodies)

@@ -9,7 +9,9 @@ use Rattle.par_annotated.proofs.bodies.type_decls.Given as goal
 -- what is made, and what is left
 abbrev pub invariant-loop-decl : goal.invariant-loop-decl
 invariant-loop-decl l = record {
-  made : bodies l.found ++ typed_declarations (written_by l.numbering) l.table l.names (all_declared (drop l.decl-index l.decls))
-      ≡ bodies l.fn.found ++ typed_declarations (written_by l.numbering) l.table l.names (all_declared l.decls);
+  made : bodies l.found ++ typed_declarations (written_by l.numbering) l.table l.names
+      (all_declared (drop l.decl-index l.decls))
+      ≡ bodies l.fn.found ++ typed_declarations (written_by l.numbering) l.table l.names
+      (all_declared l.decls);
   small : IsSmallSource l.names (all_declared (drop l.decl-index l.decls));
 }

@@ -9,7 +9,9 @@ use Rattle.par_annotated.proofs.bodies.type_methods.Given as goal
 -- what is made, and what is left
 abbrev pub invariant-loop-decl : goal.invariant-loop-decl
 invariant-loop-decl l = record {
-  made : bodies l.found ++ typed_methods (written_by l.numbering) l.table l.names l.class (methods (drop l.decl-index l.decls))
-      ≡ bodies l.fn.found ++ typed_methods (written_by l.numbering) l.table l.names l.class (methods l.decls);
+  made : bodies l.found ++ typed_methods (written_by l.numbering) l.table l.names l.class
+      (methods (drop l.decl-index l.decls))
+      ≡ bodies l.fn.found ++ typed_methods (written_by l.numbering) l.table l.names l.class
+      (methods l.decls);
   small : AreSmall (methods (drop l.decl-index l.decls));
 }

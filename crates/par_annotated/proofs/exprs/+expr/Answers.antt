@@ -5,18 +5,22 @@ use Rattle.par_scope.specs.Home.{seen}
 use Rattle.par_annotated.specs.Ints.{args_no_ints}
 use Rattle.par_annotated.specs.Seen.{frame_seen, marked}
 use Rattle.par_completes.proofs.Left.{shown_more, shown_end}
-use Rattle.par_annotated.proofs.ExprForms.{typed_exprs, int_forms, some_nodes, first_none, first_more}
+use Rattle.par_annotated.proofs.ExprForms.{typed_exprs, int_forms, some_nodes, first_none}
+use Rattle.par_annotated.proofs.ExprForms.{first_more}
 use Rattle.par_annotated.proofs.ExprForms.{args_none, args_some, call_ints}
 use Rattle.par_annotated.proofs.exprs.+expr.Goals as goal
 
 pub type_expr-overflow_add-next : goal.type_expr-overflow_add-next
-type_expr-overflow_add-next t c = let some = some_nodes (shown c.args.expr.now) in grind (arith, typed_exprs)
+type_expr-overflow_add-next t c =
+    let some = some_nodes (shown c.args.expr.now) in grind (arith, typed_exprs)
 
 pub type_expr-type_expr-requires : goal.type_expr-type_expr-requires
-type_expr-type_expr-requires t c = (search (rules, the_lemmas), (grind (arith, typed_exprs), grind (arith, int_forms)))
+type_expr-type_expr-requires t c =
+    (search (rules, the_lemmas), (grind (arith, typed_exprs), grind (arith, int_forms)))
 
 pub type_expr-type_receiver-requires : goal.type_expr-type_receiver-requires
-type_expr-type_receiver-requires t c = (search (rules, the_lemmas), (grind (arith, typed_exprs), grind (arith, int_forms)))
+type_expr-type_receiver-requires t c =
+    (search (rules, the_lemmas), (grind (arith, typed_exprs), grind (arith, int_forms)))
 
 pub type_expr-type_call-requires : goal.type_expr-type_call-requires
 type_expr-type_call-requires t c =
@@ -32,27 +36,35 @@ type_expr-type_call-requires t c =
     )
 
 pub type_expr-type_expr-requires-in-None : goal.type_expr-type_expr-requires-in-None
-type_expr-type_expr-requires-in-None t c = (search (rules, the_lemmas), (grind (arith, typed_exprs), grind (arith, int_forms)))
+type_expr-type_expr-requires-in-None t c =
+    (search (rules, the_lemmas), (grind (arith, typed_exprs), grind (arith, int_forms)))
 
 pub type_expr-type_expr-requires-in-Not : goal.type_expr-type_expr-requires-in-Not
-type_expr-type_expr-requires-in-Not t c = (search (rules, the_lemmas), (grind (arith, typed_exprs), grind (arith, int_forms)))
+type_expr-type_expr-requires-in-Not t c =
+    (search (rules, the_lemmas), (grind (arith, typed_exprs), grind (arith, int_forms)))
 
 pub type_expr-type_expr-requires-in-Binary : goal.type_expr-type_expr-requires-in-Binary
-type_expr-type_expr-requires-in-Binary t c = (search (rules, the_lemmas), (grind (arith, typed_exprs), grind (arith, int_forms)))
+type_expr-type_expr-requires-in-Binary t c =
+    (search (rules, the_lemmas), (grind (arith, typed_exprs), grind (arith, int_forms)))
 
 pub type_expr-type_expr-requires-in-Binary-2 : goal.type_expr-type_expr-requires-in-Binary-2
-type_expr-type_expr-requires-in-Binary-2 t c = (search (rules, the_lemmas), (grind (arith, typed_exprs), grind (arith, int_forms)))
+type_expr-type_expr-requires-in-Binary-2 t c =
+    (search (rules, the_lemmas), (grind (arith, typed_exprs), grind (arith, int_forms)))
 
 pub type_args-type_expr-requires : goal.type_args-type_expr-requires
 type_args-type_expr-requires t c =
-    let more = shown_more c.args.args.now c.loop-arg.arg-index c.arg-item.result c.loop-arg-test.true c.arg-item.is in
+    let more =
+    shown_more c.args.args.now c.loop-arg.arg-index c.arg-item.result c.loop-arg-test.true
+    c.arg-item.is in
     let small = c.loop-arg.invariant.small in
     let ints = c.loop-arg.invariant.ints in
     (search (rules, the_lemmas), (grind (arith, typed_exprs), grind (arith, int_forms)))
 
 pub type_args-loop-arg-preserved : goal.type_args-loop-arg-preserved
 type_args-loop-arg-preserved t c =
-    let more = shown_more c.args.args.now c.loop-arg.arg-index c.arg-item.result c.loop-arg-test.true c.arg-item.is in
+    let more =
+    shown_more c.args.args.now c.loop-arg.arg-index c.arg-item.result c.loop-arg-test.true
+    c.arg-item.is in
     record {
       made = grind (arith, typed_exprs);
       counted = grind (arith, typed_exprs);
@@ -62,30 +74,40 @@ type_args-loop-arg-preserved t c =
 
 pub type_args-returns-clause-made : goal.type_args-returns-clause-made
 type_args-returns-clause-made t c =
-    let none = shown_end c.args.args.now c.loop-arg.arg-index c.loop-arg-test.false in grind (arith, typed_exprs)
+    let none = shown_end c.args.args.now c.loop-arg.arg-index c.loop-arg-test.false in
+    grind (arith, typed_exprs)
 
 pub type_args-returns-clause-small : goal.type_args-returns-clause-small
 type_args-returns-clause-small t c =
-    let none = shown_end c.args.args.now c.loop-arg.arg-index c.loop-arg-test.false in grind (arith, typed_exprs)
+    let none = shown_end c.args.args.now c.loop-arg.arg-index c.loop-arg-test.false in
+    grind (arith, typed_exprs)
 
 pub type_first-type_expr-requires : goal.type_first-type_expr-requires
 type_first-type_expr-requires t c =
-    let some = args_some c.args.args.now c.one-item.result c.in-len1-up.len_at_least c.one-item.is in
+    let some =
+    args_some c.args.args.now c.one-item.result c.in-len1-up.len_at_least c.one-item.is in
     (search (rules, the_lemmas), (grind (arith, typed_exprs), grind (arith, int_forms)))
 
 pub type_first-returns-in-empty-clause-made : goal.type_first-returns-in-empty-clause-made
 type_first-returns-in-empty-clause-made t c =
     let none = args_none c.args.args.now c.in-empty.len_below in
-    let is = first_none (seen c.args.home.now) (frame_seen c.args.frame.now) c.args.next.now _ (marked c.args.spot) none in
+    let is =
+    first_none (seen c.args.home.now) (frame_seen c.args.frame.now) c.args.next.now _
+    (marked c.args.spot) none in
     grind (arith, typed_exprs)
 
-pub type_first-returns-in_ok-found-in-len1-up-clause-made : goal.type_first-returns-in_ok-found-in-len1-up-clause-made
+pub type_first-returns-in_ok-found-in-len1-up-clause-made
+    : goal.type_first-returns-in_ok-found-in-len1-up-clause-made
 type_first-returns-in_ok-found-in-len1-up-clause-made t c =
-    let some = args_some c.args.args.now c.one-item.result c.in-len1-up.len_at_least c.one-item.is in
+    let some =
+    args_some c.args.args.now c.one-item.result c.in-len1-up.len_at_least c.one-item.is in
     c.in_ok-found-in-len1-up.ensures.made
-    ∙ sym (first_more (seen c.args.home.now) (frame_seen c.args.frame.now) c.args.next.now _ (shown c.one-item.result) _ (marked c.args.spot) some)
+    ∙ sym (first_more (seen c.args.home.now) (frame_seen c.args.frame.now) c.args.next.now _
+    (shown c.one-item.result) _ (marked c.args.spot) some)
 
-pub type_first-returns-in_ok-found-in-len1-up-clause-small : goal.type_first-returns-in_ok-found-in-len1-up-clause-small
+pub type_first-returns-in_ok-found-in-len1-up-clause-small
+    : goal.type_first-returns-in_ok-found-in-len1-up-clause-small
 type_first-returns-in_ok-found-in-len1-up-clause-small t c =
-    let some = args_some c.args.args.now c.one-item.result c.in-len1-up.len_at_least c.one-item.is in
+    let some =
+    args_some c.args.args.now c.one-item.result c.in-len1-up.len_at_least c.one-item.is in
     grind (arith, typed_exprs)

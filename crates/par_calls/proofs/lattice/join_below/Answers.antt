@@ -11,5 +11,7 @@ pub loop-number-preserved : goal.loop-number-preserved
 loop-number-preserved c n member =
     let number = get_or c.args.numbers.now c.loop-number.number-index 0 in
     ⊎_elim (c.loop-number.invariant n)
-    (λ same. let e = eqb-true n number same in omega (arith, e, c.from.ensures, c.if-from-table.false))
-    (or_cases (has c.loop-number.set n) (nat_eq n number) (subst (λ p. IsTrue (p n)) c.with-set.ensures member))
+    (λ same. let e = eqb-true n number same in
+    omega (arith, e, c.from.ensures, c.if-from-table.false))
+    (or_cases (has c.loop-number.set n) (nat_eq n number)
+    (subst (λ p. IsTrue (p n)) c.with-set.ensures member))

@@ -4,4 +4,5 @@ use Rattle.par_calls.proofs.policies.join_below.Goals as goal
 
 pub loop-number-preserved : goal.loop-number-preserved
 loop-number-preserved c =
-    All-gains (λ n. n < length c.args.table.now) _ _ _ c.in_ok-add.ensures.ok c.loop-number.invariant (search rules)
+    All-gains (λ n. n < length c.args.table.now) _ _ _ c.in_ok-add.ensures.ok
+    c.loop-number.invariant (search rules)

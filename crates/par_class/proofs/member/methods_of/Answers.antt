@@ -6,4 +6,5 @@ use Rattle.par_class.proofs.member.methods_of.Goals as goal
 pub returns : goal.returns
 unfolding methods_at
 returns c =
-    rw (← (list_made layout.method_of c.args.short (method_at c.args.entries.now c.args.short c.args.end) c.args.bytes.now)) c.each_method.ensures
+    rw (← (list_made layout.method_of c.args.short
+    (method_at c.args.entries.now c.args.short c.args.end) c.args.bytes.now)) c.each_method.ensures

@@ -11,13 +11,18 @@ is_code constant = is_named (codes "Code") (Some constant)
 
 pub returns-then-is_code : goal.returns-then-is_code
 returns-then-is_code c =
-    let found : is_code c.index-entries-place.result ≡ true = sym c.is_code.ensures ∙ c.if-is_code.true in
+    let found : is_code c.index-entries-place.result ≡ true =
+    sym c.is_code.ensures ∙ c.if-is_code.true in
     ap (λ (n : ℕ). n + 1)
-    (sym (position_or_len_is is_code c.args.entries.now c.loop-place.place c.index-entries-place.result (omega (arith, c.loop-place-test.true))
-    (λ k lt. c.loop-place.invariant k c.index-entries-place.result (omega arith) lt) (λ _. ap is_code (sym c.index-entries-place.is) ∙ found)))
+    (sym (position_or_len_is is_code c.args.entries.now c.loop-place.place
+    c.index-entries-place.result (omega (arith, c.loop-place-test.true))
+    (λ k lt. c.loop-place.invariant k c.index-entries-place.result (omega arith) lt)
+    (λ _. ap is_code (sym c.index-entries-place.is) ∙ found)))
 
 pub returns : goal.returns
 returns c =
     ap (λ (n : ℕ). n + 1)
-    (sym (position_or_len_is is_code c.args.entries.now (length c.args.entries.now) (Class 0) (omega arith)
-    (λ k lt. c.loop-place.invariant k (Class 0) (omega arith) (omega (arith, lt, c.loop-place-test.false))) (λ lt. absurd (omega (arith, lt)))))
+    (sym (position_or_len_is is_code c.args.entries.now (length c.args.entries.now) (Class 0)
+    (omega arith)
+    (λ k lt. c.loop-place.invariant k (Class 0) (omega arith)
+    (omega (arith, lt, c.loop-place-test.false))) (λ lt. absurd (omega (arith, lt)))))

@@ -10,10 +10,17 @@ written-requires c = file_sized c.requires.0 c.args.file.now c.requires.1
 
 pub returns-clause-spelled : goal.returns-clause-spelled
 returns-clause-spelled c =
-    IfOk-weaker c.written.result (λ bytes. bytes.items ≡ front (layout_of c.args.file.now) ++ back_with (least_code c.args.file.now.pool.entries) c.args.file.now) (λ bytes. Spells bytes.items c.args.file.now)
-    (λ bytes e. written_spells c.requires.0 c.args.file.now bytes.items c.requires.1 (e ∙ laid_is c.args.file.now)) c.written.ensures
+    IfOk-weaker c.written.result
+    (λ bytes. bytes.items ≡ front (layout_of c.args.file.now)
+    ++ back_with (least_code c.args.file.now.pool.entries) c.args.file.now)
+    (λ bytes. Spells bytes.items c.args.file.now)
+    (λ bytes e. written_spells c.requires.0 c.args.file.now bytes.items c.requires.1
+    (e ∙ laid_is c.args.file.now)) c.written.ensures
 
 pub returns-clause-laid : goal.returns-clause-laid
 returns-clause-laid c =
-    IfOk-weaker c.written.result (λ bytes. bytes.items ≡ front (layout_of c.args.file.now) ++ back_with (least_code c.args.file.now.pool.entries) c.args.file.now) (λ bytes. bytes.items ≡ layout (layout_of c.args.file.now))
+    IfOk-weaker c.written.result
+    (λ bytes. bytes.items ≡ front (layout_of c.args.file.now)
+    ++ back_with (least_code c.args.file.now.pool.entries) c.args.file.now)
+    (λ bytes. bytes.items ≡ layout (layout_of c.args.file.now))
     (λ bytes e. e ∙ laid_is c.args.file.now) c.written.ensures

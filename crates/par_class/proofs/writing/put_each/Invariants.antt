@@ -4,4 +4,6 @@ use Rattle.par_class.specs.Spelling as spelling
 use Rattle.par_class.proofs.writing.put_each.Given as goal
 
 abbrev pub invariant-loop-attribute : goal.invariant-loop-attribute
-invariant-loop-attribute l = l.out.items ≡ l.initial.out.items ++ flat_map spelling.attribute (take l.attribute-index l.attributes)
+invariant-loop-attribute l =
+    l.out.items ≡ l.initial.out.items
+    ++ flat_map spelling.attribute (take l.attribute-index l.attributes)

@@ -4,4 +4,5 @@ use Rattle.par_class.specs.Spelling as spelling
 use Rattle.par_class.proofs.writing.put_each_catch.Given as goal
 
 abbrev pub invariant-loop-catch : goal.invariant-loop-catch
-invariant-loop-catch l = l.out.items ≡ l.initial.out.items ++ flat_map spelling.catch (take l.catch-index l.catches)
+invariant-loop-catch l =
+    l.out.items ≡ l.initial.out.items ++ flat_map spelling.catch (take l.catch-index l.catches)

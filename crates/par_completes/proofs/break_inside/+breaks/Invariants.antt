@@ -10,4 +10,5 @@ invariant-some_break-loop-stmt l =
 
 abbrev pub invariant-some_catch_breaks-loop-catch : goal.invariant-some_catch_breaks-loop-catch
 invariant-some_catch_breaks-loop-catch l =
-    some_catch_breaks (all_catch (drop l.catch-index l.catches)) ≡ some_catch_breaks (all_catch l.catches)
+    some_catch_breaks (all_catch (drop l.catch-index l.catches))
+    ≡ some_catch_breaks (all_catch l.catches)

@@ -7,6 +7,7 @@ use Rattle.par_declarations.proofs.counts.all_nodes.Given as goal
 
 abbrev pub invariant-loop-method : goal.invariant-loop-method
 invariant-loop-method l = record {
-  counted : l.count + sum_by method_nodes (methods (drop l.method-index l.methods)) ≡ sum_by method_nodes (methods l.methods);
+  counted : l.count + sum_by method_nodes (methods (drop l.method-index l.methods))
+      ≡ sum_by method_nodes (methods l.methods);
   few : l.count + methods_size (methods (drop l.method-index l.methods)) < 2 ^ 32;
 }

@@ -9,5 +9,7 @@ use Rattle.par_declarations.proofs.counts.check_classes.Given as goal
 abbrev pub invariant-loop-decl : goal.invariant-loop-decl
 invariant-loop-decl l = record {
   few : source_size (all_declared (drop l.decl-index l.decls)) < 2 ^ 32;
-  found : first_of l.findings (flat_map class_limits (flat_map classes_in (all_declared (drop l.decl-index l.decls)))) ≡ first_of l.fn.findings (flat_map class_limits (flat_map classes_in (all_declared l.decls)));
+  found : first_of l.findings
+      (flat_map class_limits (flat_map classes_in (all_declared (drop l.decl-index l.decls))))
+      ≡ first_of l.fn.findings (flat_map class_limits (flat_map classes_in (all_declared l.decls)));
 }

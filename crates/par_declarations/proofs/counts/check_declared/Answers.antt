@@ -8,6 +8,8 @@ use Rattle.par_declarations.proofs.counts.check_declared.Goals as goal
 pub returns : goal.returns
 returns c =
     let source = all_declared c.args.decls.now in
-    let same : c.as_slice.result.now ≡ actor_places source = c.as_slice.ensures.value ∙ c.in_ok-actors.ensures in
-    let many : length (actor_places source) ≡ length (actors source) = length-map (actors source) (λ a. a.at) in
+    let same : c.as_slice.result.now ≡ actor_places source =
+    c.as_slice.ensures.value ∙ c.in_ok-actors.ensures in
+    let many : length (actor_places source) ≡ length (actors source) =
+    length-map (actors source) (λ a. a.at) in
     cc

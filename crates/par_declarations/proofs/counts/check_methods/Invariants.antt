@@ -8,5 +8,6 @@ use Rattle.par_declarations.proofs.counts.check_methods.Given as goal
 abbrev pub invariant-loop-method : goal.invariant-loop-method
 invariant-loop-method l = record {
   few : methods_size (methods (drop l.method-index l.methods)) < 2 ^ 32;
-  found : first_of l.findings (flat_map method_limits (methods (drop l.method-index l.methods))) ≡ first_of l.fn.findings (flat_map method_limits (methods l.methods));
+  found : first_of l.findings (flat_map method_limits (methods (drop l.method-index l.methods)))
+      ≡ first_of l.fn.findings (flat_map method_limits (methods l.methods));
 }

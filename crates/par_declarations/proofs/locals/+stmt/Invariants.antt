@@ -11,4 +11,5 @@ invariant-in_stmts-loop-stmt l =
 -- counted so far, with those of the catches that are left
 abbrev pub invariant-in_catches-loop-catch : goal.invariant-in_catches-loop-catch
 invariant-in_catches-loop-catch l =
-    l.locals + catch_locals (all_catch (drop l.catch-index l.catches)) ≡ catch_locals (all_catch l.catches)
+    l.locals + catch_locals (all_catch (drop l.catch-index l.catches))
+    ≡ catch_locals (all_catch l.catches)

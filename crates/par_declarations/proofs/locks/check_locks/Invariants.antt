@@ -9,5 +9,7 @@ use Rattle.par_declarations.proofs.locks.check_locks.Given as goal
 abbrev pub invariant-loop-decl : goal.invariant-loop-decl
 invariant-loop-decl l = record {
   few : l.sum ≤ LOCKS.most;
-  found : first_of l.findings (locks_limit l.actors l.sum (locks (all_declared (drop l.decl-index l.decls)))) ≡ first_of l.fn.findings (locks_limit l.actors 0 (locks (all_declared l.decls)));
+  found : first_of l.findings
+      (locks_limit l.actors l.sum (locks (all_declared (drop l.decl-index l.decls))))
+      ≡ first_of l.fn.findings (locks_limit l.actors 0 (locks (all_declared l.decls)));
 }

@@ -8,4 +8,5 @@ use Rattle.par_declarations.proofs.mains.check_each.Given as goal
 -- those that were gone over are noted
 abbrev pub invariant-loop-main : goal.invariant-loop-main
 invariant-loop-main l =
-    l.findings ≡ first_of l.fn.findings (flat_map main_fault (map (λ m. method m.now) (take l.main-index l.mains)))
+    l.findings ≡ first_of l.fn.findings
+    (flat_map main_fault (map (λ m. method m.now) (take l.main-index l.mains)))

@@ -8,5 +8,6 @@ use Rattle.par_declarations.proofs.mains.mains.Given as goal
 abbrev pub invariant-loop-decl : goal.invariant-loop-decl
 invariant-loop-decl l =
     map (λ m. method m.now) l.found.items
-    ++ mains_in (flat_map (λ c. c.methods) (declared_classes (all_declared (drop l.decl-index l.program.decls))))
+    ++ mains_in (flat_map (λ c. c.methods)
+    (declared_classes (all_declared (drop l.decl-index l.program.decls))))
     ≡ mains_in (flat_map (λ c. c.methods) (declared_classes (all_declared l.program.decls)))

@@ -8,4 +8,5 @@ use Rattle.par_declarations.proofs.members.check_channels.Given as goal
 -- those that were gone over are noted
 abbrev pub invariant-loop-channel : goal.invariant-loop-channel
 invariant-loop-channel l =
-    l.findings ≡ first_of l.fn.findings (flat_map (channel_faults (seen l.view)) (take l.channel-index l.channels))
+    l.findings ≡ first_of l.fn.findings
+    (flat_map (channel_faults (seen l.view)) (take l.channel-index l.channels))

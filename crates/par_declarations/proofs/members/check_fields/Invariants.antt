@@ -8,4 +8,5 @@ use Rattle.par_declarations.proofs.members.check_fields.Given as goal
 -- those that were gone over are noted
 abbrev pub invariant-loop-field : goal.invariant-loop-field
 invariant-loop-field l =
-    l.findings ≡ first_of l.fn.findings (flat_map (field_faults (seen l.view) l.birth) (take l.field-index l.fields))
+    l.findings ≡ first_of l.fn.findings
+    (flat_map (field_faults (seen l.view) l.birth) (take l.field-index l.fields))

@@ -8,4 +8,5 @@ use Rattle.par_declarations.proofs.members.check_params.Given as goal
 -- those that were gone over are noted
 abbrev pub invariant-loop-param : goal.invariant-loop-param
 invariant-loop-param l =
-    l.findings ≡ first_of l.fn.findings (flat_map (param_faults (seen l.view)) (take l.param-index l.params))
+    l.findings ≡ first_of l.fn.findings
+    (flat_map (param_faults (seen l.view)) (take l.param-index l.params))

@@ -8,4 +8,5 @@ use Rattle.par_declarations.proofs.members.check_policies.Given as goal
 -- those that were gone over are noted
 abbrev pub invariant-loop-policy : goal.invariant-loop-policy
 invariant-loop-policy l =
-    l.findings ≡ first_of l.fn.findings (flat_map (policy_faults (seen l.view)) (take l.policy-index l.policies))
+    l.findings ≡ first_of l.fn.findings
+    (flat_map (policy_faults (seen l.view)) (take l.policy-index l.policies))

@@ -8,4 +8,5 @@ use Rattle.par_declarations.proofs.members.check_throws.Given as goal
 -- those that were gone over are noted
 abbrev pub invariant-loop-throw : goal.invariant-loop-throw
 invariant-loop-throw l =
-    l.findings ≡ first_of l.fn.findings (flat_map (throw_faults (seen l.view)) (take l.throw-index l.throws))
+    l.findings ≡ first_of l.fn.findings
+    (flat_map (throw_faults (seen l.view)) (take l.throw-index l.throws))

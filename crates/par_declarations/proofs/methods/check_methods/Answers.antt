@@ -5,7 +5,9 @@ use Rattle.par_declarations.proofs.methods.check_methods.Goals as goal
 
 pub loop-method-preserved : goal.loop-method-preserved
 loop-method-preserved c =
-    let more = left_more c.args.methods.now c.loop-method.method-index c.method-item.result c.loop-method-test.true c.method-item.is in
+    let more =
+    left_more c.args.methods.now c.loop-method.method-index c.method-item.result
+    c.loop-method-test.true c.method-item.is in
     grind (arith, firsts)
 
 pub returns : goal.returns

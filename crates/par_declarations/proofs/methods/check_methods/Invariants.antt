@@ -8,5 +8,7 @@ use Rattle.par_declarations.proofs.methods.check_methods.Given as goal
 
 abbrev pub invariant-loop-method : goal.invariant-loop-method
 invariant-loop-method l =
-    first_of l.findings (flat_map (method_faults (seen l.view) (class_seen l.own)) (methods (drop l.method-index l.methods)))
-    ≡ first_of l.fn.findings (flat_map (method_faults (seen l.view) (class_seen l.own)) (methods l.methods))
+    first_of l.findings (flat_map (method_faults (seen l.view) (class_seen l.own))
+    (methods (drop l.method-index l.methods)))
+    ≡ first_of l.fn.findings
+    (flat_map (method_faults (seen l.view) (class_seen l.own)) (methods l.methods))

@@ -20,7 +20,8 @@ loop-decl-preserved c =
     let item = c.decl-item.result in
     let same : c.as_slice-decl-items.result.now ≡ decls = c.as_slice-decl-items.ensures in
     let more : drop i decls ≡ item ∷ drop (i + 1) decls =
-    ap (drop i) (sym same) ∙ left_more c.as_slice-decl-items.result.now i item c.loop-decl-test.true c.decl-item.is
+    ap (drop i) (sym same) ∙ left_more c.as_slice-decl-items.result.now i item c.loop-decl-test.true
+    c.decl-item.is
     ∙ ap (λ (xs : List Decl). item ∷ drop (i + 1) xs) same in
     let s = source c.args.program.now in
     let all = texts c.args.all.now.policies.names.items in
@@ -29,15 +30,18 @@ loop-decl-preserved c =
     let rest = all_declared (drop (i + 1) decls) in
     let view : View = record { declared = c.args.all; policies = k } in
     let are : drop k all ≡ map (λ p. p.id.name) (policies (d ∷ rest)) =
-    c.loop-decl.invariant.left ∙ ap (λ (ds : List Decl). map (λ p. p.id.name) (policies (all_declared ds))) more in
+    c.loop-decl.invariant.left ∙ ap
+    (λ (ds : List Decl). map (λ p. p.id.name) (policies (all_declared ds))) more in
     let number = c.number_of_policies-before.ensures.number in
     record {
       few = omega (arith, c.number_of_policies-before.ensures.few);
       left = left_step s all k c.number_of_policies-before.result d rest are number;
       found =
-          found_step s all k c.number_of_policies-before.result d rest c.loop-decl.findings c.check_declaration.new.findings (seen view) are number
+          found_step s all k c.number_of_policies-before.result d rest c.loop-decl.findings
+          c.check_declaration.new.findings (seen view) are number
           (seen_is view s c.requires) c.in_ok-check_declaration.ensures
-          ∙ ap (λ (ds : List Decl). first_of c.loop-decl.findings (declarations_faults s (take k all) (all_declared ds))) (sym more)
+          ∙ ap (λ (ds : List Decl). first_of c.loop-decl.findings
+          (declarations_faults s (take k all) (all_declared ds))) (sym more)
           ∙ c.loop-decl.invariant.found;
     }
 
@@ -46,9 +50,12 @@ returns c =
     let decls = c.args.program.now.decls in
     let i = c.loop-decl.decl-index in
     let same : c.as_slice-decl-items.result.now ≡ decls = c.as_slice-decl-items.ensures in
-    let none : drop i decls ≡ [] = ap (drop i) (sym same) ∙ left_none c.as_slice-decl-items.result.now i c.loop-decl-test.false in
+    let none : drop i decls ≡ [] = ap (drop i) (sym same)
+    ∙ left_none c.as_slice-decl-items.result.now i c.loop-decl-test.false in
     let s = source c.args.program.now in
     let before = take c.loop-decl.before (texts c.args.all.now.policies.names.items) in
-    sym (first_of_none c.loop-decl.findings) ∙ ap (first_of c.loop-decl.findings) (sym (faults_end s before))
-    ∙ ap (λ (ds : List Decl). first_of c.loop-decl.findings (declarations_faults s before (all_declared ds))) (sym none)
+    sym (first_of_none c.loop-decl.findings)
+    ∙ ap (first_of c.loop-decl.findings) (sym (faults_end s before))
+    ∙ ap (λ (ds : List Decl). first_of c.loop-decl.findings
+    (declarations_faults s before (all_declared ds))) (sym none)
     ∙ c.loop-decl.invariant.found

@@ -12,10 +12,16 @@ loop-field-preserved c =
     let next = c.loop-field.next in
     let at = c.field-item.result.id.at in
     let n = c.earlier-earlier.result in
-    let all : take (length channels - next) (drop next channels) ≡ drop next channels = grind (arith, common_steps) in
-    let is : n ≡ earlier (map (λ x. x.id.at) (drop next channels)) at = c.earlier-earlier.ensures.places ∙ ap (λ l. earlier (map (λ x. x.id.at) l) at) all in
-    let more = left_more fields c.loop-field.field-index c.field-item.result c.loop-field-test.true c.field-item.is in
-    let step = order_step (λ x. x.id.at) c.loop-field.places.items at (map (λ f. f.id.at) (drop (c.loop-field.field-index + 1) fields)) channels next n is in
+    let all : take (length channels - next) (drop next channels) ≡ drop next channels =
+    grind (arith, common_steps) in
+    let is : n ≡ earlier (map (λ x. x.id.at) (drop next channels)) at =
+    c.earlier-earlier.ensures.places ∙ ap (λ l. earlier (map (λ x. x.id.at) l) at) all in
+    let more =
+    left_more fields c.loop-field.field-index c.field-item.result c.loop-field-test.true
+    c.field-item.is in
+    let step =
+    order_step (λ x. x.id.at) c.loop-field.places.items at
+    (map (λ f. f.id.at) (drop (c.loop-field.field-index + 1) fields)) channels next n is in
     record { within = grind (arith, common_steps); found = grind (arith, common_steps) }
 
 pub returns : goal.returns

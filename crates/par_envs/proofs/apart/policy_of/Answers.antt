@@ -5,4 +5,5 @@ use Rattle.par_envs.proofs.Same.{empty_is}
 use Rattle.par_envs.proofs.apart.policy_of.Goals as goal
 
 pub returns-in-None : goal.returns-in-None
-returns-in-None c = let e = empty_is c.empty.result c.empty.ensures in grind (arith, common_steps, gets, e)
+returns-in-None c =
+    let e = empty_is c.empty.result c.empty.ensures in grind (arith, common_steps, gets, e)

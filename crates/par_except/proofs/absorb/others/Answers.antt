@@ -7,12 +7,16 @@ use Rattle.par_except.proofs.absorb.others.Goals as goal
 
 pub returns-clause-exits : goal.returns-clause-exits
 returns-clause-exits c =
-    but_exits c.args.class c.args.ways.now _ c.in_ok-normal.ensures c.in_ok-ret.ensures c.in_ok-brk.ensures c.in_ok-cont.ensures
-    (c.in_ok-throws.ensures.throws ∙ ap (λ ts. each (but c.args.class) (seen_throws ts)) c.as_slice.ensures)
+    but_exits c.args.class c.args.ways.now _ c.in_ok-normal.ensures c.in_ok-ret.ensures
+    c.in_ok-brk.ensures c.in_ok-cont.ensures
+    (c.in_ok-throws.ensures.throws
+    ∙ ap (λ ts. each (but c.args.class) (seen_throws ts)) c.as_slice.ensures)
 
 pub returns-clause-once : goal.returns-clause-once
 returns-clause-once c =
-    subst AreOnce (sym (c.in_ok-throws.ensures.throws ∙ ap (λ ts. each (but c.args.class) (seen_throws ts)) c.as_slice.ensures))
+    subst AreOnce
+    (sym (c.in_ok-throws.ensures.throws
+    ∙ ap (λ ts. each (but c.args.class) (seen_throws ts)) c.as_slice.ensures))
     (but_once c.args.class (seen_throws c.args.ways.now.throws) c.requires)
 
 pub returns-clause-locals : goal.returns-clause-locals

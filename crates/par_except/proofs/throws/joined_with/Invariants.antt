@@ -5,6 +5,7 @@ use Rattle.par_except.proofs.throws.joined_with.Given as goal
 
 abbrev pub invariant-loop-throw : goal.invariant-loop-throw
 invariant-loop-throw l =
-    (seen_throws l.kept ++ each (joined_with (seen_throws l.other)) (seen_throws (drop l.throw-index l.one))
+    (seen_throws l.kept ++ each (joined_with (seen_throws l.other))
+    (seen_throws (drop l.throw-index l.one))
     ≡ each (joined_with (seen_throws l.other)) (seen_throws l.one))
     × ((n : ℕ) → ThrowsHaveLocals n l.one → ThrowsHaveLocals n l.other → ThrowsHaveLocals n l.kept)

@@ -90,7 +90,9 @@ decreases-next_arg l = 32 * length l.cursor.now.left.now + 1
 -- A loop: the derivation comes from its beginning to where it is.
 abbrev pub invariant-more-more : goal.invariant-more-more
 invariant-more-more l = record {
-  leads : Leads paragon founded (symbol.name (g.More l.line) ∷ []) (exp (shown l.fn.left) ∷ []) (input l.fn.cursor) (symbol.name (g.More l.line) ∷ []) (exp (shown l.left) ∷ []) (input l.cursor);
+  leads : Leads paragon founded (symbol.name (g.More l.line) ∷ []) (exp (shown l.fn.left) ∷ [])
+      (input l.fn.cursor) (symbol.name (g.More l.line) ∷ []) (exp (shown l.left) ∷ [])
+      (input l.cursor);
   shorter : length l.cursor.left.now ≤ length l.fn.cursor.left.now;
 }
 
@@ -99,7 +101,8 @@ decreases-more-more l = length l.cursor.left.now
 
 abbrev pub invariant-tail-more : goal.invariant-tail-more
 invariant-tail-more l = record {
-  leads : Leads paragon founded (symbol.name g.Tail ∷ []) (exp (shown l.fn.of) ∷ []) (input l.fn.cursor) (symbol.name g.Tail ∷ []) (exp (shown l.of) ∷ []) (input l.cursor);
+  leads : Leads paragon founded (symbol.name g.Tail ∷ []) (exp (shown l.fn.of) ∷ [])
+      (input l.fn.cursor) (symbol.name g.Tail ∷ []) (exp (shown l.of) ∷ []) (input l.cursor);
   shorter : length l.cursor.left.now ≤ length l.fn.cursor.left.now;
 }
 
@@ -108,7 +111,9 @@ decreases-tail-more l = length l.cursor.left.now
 
 abbrev pub invariant-more_args-more : goal.invariant-more_args-more
 invariant-more_args-more l = record {
-  leads : Leads paragon founded (symbol.name g.MoreArgs ∷ []) (exps (all_shown l.fn.found) ∷ []) (input l.fn.cursor) (symbol.name g.MoreArgs ∷ []) (exps (all_shown l.found) ∷ []) (input l.cursor);
+  leads : Leads paragon founded (symbol.name g.MoreArgs ∷ []) (exps (all_shown l.fn.found) ∷ [])
+      (input l.fn.cursor) (symbol.name g.MoreArgs ∷ []) (exps (all_shown l.found) ∷ [])
+      (input l.cursor);
   shorter : length l.cursor.left.now ≤ length l.fn.cursor.left.now;
 }
 

@@ -5,4 +5,5 @@ use Rattle.par_exprs.proofs.operator.operator.Given as goal
 
 -- the rows that are left have the one that fits, where any has
 abbrev pub invariant-rows : goal.invariant-rows
-invariant-rows l = row_of (drop l.row-index l.row-items) l.fn.next ≡ row_of (operators l.fn.line) l.fn.next
+invariant-rows l =
+    row_of (drop l.row-index l.row-items) l.fn.next ≡ row_of (operators l.fn.line) l.fn.next

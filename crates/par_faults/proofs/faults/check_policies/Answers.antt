@@ -7,9 +7,11 @@ use Rattle.par_faults.proofs.faults.check_policies.Goals as goal
 
 pub returns-in-None : goal.returns-in-None
 returns-in-None c =
-    noted_none c.args.findings.now (policies_faults (source c.args.program.now)) (sym c.in-None.is ∙ c.in_ok-first_of_policies.ensures)
+    noted_none c.args.findings.now (policies_faults (source c.args.program.now))
+    (sym c.in-None.is ∙ c.in_ok-first_of_policies.ensures)
 
 pub returns-in-Some : goal.returns-in-Some
 returns-in-Some c =
     c.note.ensures ∙ noted c.args.findings.now c.in-Some.first
-    ∙ noted_first c.args.findings.now (policies_faults (source c.args.program.now)) c.in-Some.first (sym c.in-Some.is ∙ c.in_ok-first_of_policies.ensures)
+    ∙ noted_first c.args.findings.now (policies_faults (source c.args.program.now)) c.in-Some.first
+    (sym c.in-Some.is ∙ c.in_ok-first_of_policies.ensures)

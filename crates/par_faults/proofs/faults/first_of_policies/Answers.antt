@@ -11,9 +11,11 @@ pub returns-in-None : goal.returns-in-None
 returns-in-None c =
     let s = source c.args.program.now in
     subst (λ o. IfOk c.first_among_few.result (λ first. first ≡ o))
-    (later_passed (all_literal_faults s) (where_none (declared_limits s) (policy_faults s)) (sym c.in-None.is ∙ c.in_ok-first_written.ensures)) c.first_among_few.ensures
+    (later_passed (all_literal_faults s) (where_none (declared_limits s) (policy_faults s))
+    (sym c.in-None.is ∙ c.in_ok-first_written.ensures)) c.first_among_few.ensures
 
 pub returns-in-Some : goal.returns-in-Some
 returns-in-Some c =
     let s = source c.args.program.now in
-    later_stopped (all_literal_faults s) (where_none (declared_limits s) (policy_faults s)) c.in-Some.exceeded (sym c.in-Some.is ∙ c.in_ok-first_written.ensures)
+    later_stopped (all_literal_faults s) (where_none (declared_limits s) (policy_faults s))
+    c.in-Some.exceeded (sym c.in-Some.is ∙ c.in_ok-first_written.ensures)

@@ -9,4 +9,5 @@ use Rattle.par_faults.proofs.faults.first_written.Goals as goal
 pub returns : goal.returns
 returns c =
     c.first_literal.ensures
-    ∙ ap (λ es. first_of None (flat_map literal_faults es)) (ap all_of c.as_slice.ensures.value ∙ c.in_ok-exprs.ensures)
+    ∙ ap (λ es. first_of None (flat_map literal_faults es))
+    (ap all_of c.as_slice.ensures.value ∙ c.in_ok-exprs.ensures)

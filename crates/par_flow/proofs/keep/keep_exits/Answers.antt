@@ -5,7 +5,10 @@ use Rattle.par_flow.proofs.keep.keep_exits.Goals as goal
 
 pub returns-clause-more : goal.returns-clause-more
 returns-clause-more c = λ i e h.
-    c.in_ok-throws.ensures.more i e (c.in_ok-cont.ensures.more i e (c.in_ok-brk.ensures.more i e (c.in_ok-ret.ensures.more i e (c.in_ok-normal.ensures.more i e h))))
+    c.in_ok-throws.ensures.more i e
+    (c.in_ok-cont.ensures.more i e
+    (c.in_ok-brk.ensures.more i e
+    (c.in_ok-ret.ensures.more i e (c.in_ok-normal.ensures.more i e h))))
 
 pub returns-clause-exits : goal.returns-clause-exits
 returns-clause-exits c =
@@ -19,5 +22,6 @@ returns-clause-exits c =
     let bf : Extends b f = extends_all b d f c.in_ok-brk.ensures.more df in
     let af : Extends a f = extends_all a b f c.in_ok-ret.ensures.more bf in
     all_exits f (seen_exits c.args.exits.now) _
-    (may_still a f af _ _ c.in_ok-normal.ensures.way) (may_still b f bf _ _ c.in_ok-ret.ensures.way) (may_still d f df _ _ c.in_ok-brk.ensures.way) (may_still e f ef _ _ c.in_ok-cont.ensures.way)
+    (may_still a f af _ _ c.in_ok-normal.ensures.way) (may_still b f bf _ _ c.in_ok-ret.ensures.way)
+    (may_still d f df _ _ c.in_ok-brk.ensures.way) (may_still e f ef _ _ c.in_ok-cont.ensures.way)
     c.in_ok-throws.ensures.throws

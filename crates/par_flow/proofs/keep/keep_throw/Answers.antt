@@ -9,24 +9,33 @@ use Rattle.par_flow.proofs.keep.keep_throw.Goals as goal
 
 pub returns-in_ok-push-clause-throws : goal.returns-in_ok-push-clause-throws
 returns-in_ok-push-clause-throws c = λ xs h class.
-    let es = envs c.args.numbered.now.entries.items in let gs = envs c.keep_way.new.numbered.entries.items in let x = seen_exit c.args.exit.now in
-    let none = sym (ap (λ l. thrown l c.in-Some.class) c.as_slice.ensures) ∙ sym c.thrown.ensures ∙ none_of c.thrown.result c.is_none.result c.is_none.ensures c.if-is_none.true in
-    subst (λ ts. MayShow gs (thrown ts class) (at (xs ++ x ∷ []) (Throw class))) (sym c.in_ok-push.ensures.ok)
-    (throws_more es gs c.in_ok-way.ensures.more c.args.throws.now xs x h c.in-Some.class c.in-Some.ensures c.in_ok-way.way none c.in_ok-way.ensures.way class)
+    let es = envs c.args.numbered.now.entries.items in
+    let gs = envs c.keep_way.new.numbered.entries.items in let x = seen_exit c.args.exit.now in
+    let none = sym (ap (λ l. thrown l c.in-Some.class) c.as_slice.ensures) ∙ sym c.thrown.ensures
+    ∙ none_of c.thrown.result c.is_none.result c.is_none.ensures c.if-is_none.true in
+    subst (λ ts. MayShow gs (thrown ts class) (at (xs ++ x ∷ []) (Throw class)))
+    (sym c.in_ok-push.ensures.ok)
+    (throws_more es gs c.in_ok-way.ensures.more c.args.throws.now xs x h c.in-Some.class
+    c.in-Some.ensures c.in_ok-way.way none c.in_ok-way.ensures.way class)
 
 pub returns-else-is_none-clause-throws : goal.returns-else-is_none-clause-throws
 returns-else-is_none-clause-throws c = λ xs h class.
     let es = envs c.args.numbered.now.entries.items in
     let some = some_of c.thrown.result c.is_none.result c.is_none.ensures c.if-is_none.false in
-    throws_held es es (λ i e k. k) c.args.throws.now xs (seen_exit c.args.exit.now) h c.in-Some.class c.in-Some.ensures some.0
-    (sym (ap (λ l. thrown l c.in-Some.class) c.as_slice.ensures) ∙ sym c.thrown.ensures ∙ some.1) class
+    throws_held es es (λ i e k. k) c.args.throws.now xs
+    (seen_exit c.args.exit.now) h c.in-Some.class c.in-Some.ensures some.0
+    (sym (ap (λ l. thrown l c.in-Some.class) c.as_slice.ensures) ∙ sym c.thrown.ensures ∙ some.1)
+    class
 
 pub returns-in_default-clause-throws : goal.returns-in_default-clause-throws
 returns-in_default-clause-throws c = λ xs h class.
     let es = envs c.args.numbered.now.entries.items in
-    throws_same es es (λ i e k. k) c.args.throws.now xs (seen_exit c.args.exit.now) h c.in_default.ensures class
+    throws_same es es (λ i e k. k) c.args.throws.now xs
+    (seen_exit c.args.exit.now) h c.in_default.ensures class
 
 pub returns-in_ok-push-clause-once : goal.returns-in_ok-push-clause-once
 returns-in_ok-push-clause-once c = λ o.
-    let none = sym (ap (λ l. thrown l c.in-Some.class) c.as_slice.ensures) ∙ sym c.thrown.ensures ∙ none_of c.thrown.result c.is_none.result c.is_none.ensures c.if-is_none.true in
-    subst AreOnce (sym c.in_ok-push.ensures.ok) (once_more c.args.throws.now c.in-Some.class c.in_ok-way.way none o)
+    let none = sym (ap (λ l. thrown l c.in-Some.class) c.as_slice.ensures) ∙ sym c.thrown.ensures
+    ∙ none_of c.thrown.result c.is_none.result c.is_none.ensures c.if-is_none.true in
+    subst AreOnce (sym c.in_ok-push.ensures.ok)
+    (once_more c.args.throws.now c.in-Some.class c.in_ok-way.way none o)

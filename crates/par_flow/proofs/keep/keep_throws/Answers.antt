@@ -13,10 +13,15 @@ loop-exit-preserved c =
     let gs = envs c.keep_throw.new.numbered.entries.items in
     record {
       found = c.in_ok-keep_throw.ensures.found;
-      more = extends_all _ (envs c.loop-exit.numbered.entries.items) gs c.loop-exit.invariant.more c.in_ok-keep_throw.ensures.more;
+      more =
+          extends_all _ (envs c.loop-exit.numbered.entries.items) gs c.loop-exit.invariant.more
+          c.in_ok-keep_throw.ensures.more;
       throws = λ class.
           subst (λ l. MayShow gs (thrown c.keep_throw.new.throws class) (at l (Throw class)))
-          (sym (exits_more c.args.exits.now c.loop-exit.exit-index c.exit-item.result c.loop-exit-test.true c.exit-item.is))
-          (c.in_ok-keep_throw.ensures.throws (seen_exits (take c.loop-exit.exit-index c.args.exits.now)) c.loop-exit.invariant.throws class);
+          (sym (exits_more c.args.exits.now c.loop-exit.exit-index c.exit-item.result
+          c.loop-exit-test.true c.exit-item.is))
+          (c.in_ok-keep_throw.ensures.throws
+          (seen_exits (take c.loop-exit.exit-index c.args.exits.now))
+          c.loop-exit.invariant.throws class);
       once = c.in_ok-keep_throw.ensures.once c.loop-exit.invariant.once;
     }

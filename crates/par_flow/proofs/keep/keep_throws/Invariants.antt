@@ -8,6 +8,7 @@ abbrev pub invariant-loop-exit : goal.invariant-loop-exit
 invariant-loop-exit l = record {
   found : AreFound l.numbered.entries.items;
   more : Extends (envs l.initial.numbered.entries.items) (envs l.numbered.entries.items);
-  throws : ShowThrows (envs l.numbered.entries.items) l.throws (seen_exits (take l.exit-index l.exits));
+  throws : ShowThrows (envs l.numbered.entries.items) l.throws
+      (seen_exits (take l.exit-index l.exits));
   once : AreOnce l.throws;
 }

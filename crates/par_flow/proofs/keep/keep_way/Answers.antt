@@ -6,4 +6,5 @@ use Rattle.par_flow.proofs.keep.keep_way.Goals as goal
 pub returns-clause-way : goal.returns-clause-way
 returns-clause-way c =
     let es = envs c.number.new.self.entries.items in
-    shows_named es _ c.args.way.now refl refl (subst (Names es c.in_ok-env.env) c.as_slice.ensures c.in_ok-env.ensures.names)
+    shows_named es _ c.args.way.now refl refl
+    (subst (Names es c.in_ok-env.env) c.as_slice.ensures c.in_ok-env.ensures.names)

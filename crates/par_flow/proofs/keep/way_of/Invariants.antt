@@ -5,4 +5,6 @@ use Rattle.par_rounds.specs.Seen.{seen_exits}
 use Rattle.par_flow.proofs.keep.way_of.Given as goal
 
 abbrev pub invariant-loop-exit : goal.invariant-loop-exit
-invariant-loop-exit l = at (seen_exits (drop l.exit-index l.exits)) (seen_kind l.kind) ≡ at (seen_exits l.exits) (seen_kind l.kind)
+invariant-loop-exit l =
+    at (seen_exits (drop l.exit-index l.exits)) (seen_kind l.kind)
+    ≡ at (seen_exits l.exits) (seen_kind l.kind)

@@ -7,5 +7,7 @@ use Rattle.par_flow.proofs.table.flags_of.Given as goal
 abbrev pub invariant-loop-point : goal.invariant-loop-point
 invariant-loop-point l = record {
   size : length l.flags.items ≡ l.points;
-  flags : (p : ℕ) → p < l.points → (slice_index_or l.flags.items p false || has (drop l.point-index l.listed) p) ≡ has l.listed p;
+  flags : (p : ℕ) → p < l.points
+      → (slice_index_or l.flags.items p false || has (drop l.point-index l.listed) p)
+      ≡ has l.listed p;
 }

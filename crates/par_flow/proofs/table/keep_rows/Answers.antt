@@ -5,11 +5,21 @@ use Rattle.par_flow.proofs.table.keep_rows.Goals as goal
 
 pub loop-place-preserved : goal.loop-place-preserved
 loop-place-preserved c =
-    let inside : c.loop-place.place < length c.args.statements.now = let e = c.requires in let l = c.loop-place-test.true in omega (arith, e, l) in
+    let inside : c.loop-place.place < length c.args.statements.now = let e = c.requires in
+    let l = c.loop-place-test.true in omega (arith, e, l) in
     record {
       found = c.in_ok-row.ensures.found;
-      facts = all_more (envs c.loop-place.numbered.entries.items) (envs c.keep_row.new.numbered.entries.items) c.in_ok-row.ensures.more c.loop-place.rows.items c.push.new.self.items c.in_ok-row.row _ _ _
-          c.in_ok-push.ensures.items (facts_more c.args.facts.now c.loop-place.place c.index-facts-place.result c.loop-place-test.true c.index-facts-place.is) c.loop-place.invariant.facts c.in_ok-row.ensures.fact;
-      statements = flags_more c.loop-place.rows.items c.push.new.self.items c.in_ok-row.row c.args.statements.now c.loop-place.place _ false c.in_ok-push.ensures.items c.loop-place.invariant.statements inside
+      facts =
+          all_more (envs c.loop-place.numbered.entries.items)
+          (envs c.keep_row.new.numbered.entries.items) c.in_ok-row.ensures.more
+          c.loop-place.rows.items c.push.new.self.items c.in_ok-row.row _ _ _
+          c.in_ok-push.ensures.items
+          (facts_more c.args.facts.now c.loop-place.place c.index-facts-place.result
+          c.loop-place-test.true c.index-facts-place.is) c.loop-place.invariant.facts
+          c.in_ok-row.ensures.fact;
+      statements =
+          flags_more c.loop-place.rows.items c.push.new.self.items c.in_ok-row.row
+          c.args.statements.now c.loop-place.place _ false c.in_ok-push.ensures.items
+          c.loop-place.invariant.statements inside
           c.in_ok-row.ensures.statement refl;
     }

@@ -11,9 +11,11 @@ pub returns : goal.returns
 returns c =
     let t = c.in_ok-table.table in let b = shown.body c.args.body.now in
     table_is t (seen_facts c.in_ok-facts.facts.items)
-    (subst (λ l. AllShow (envs_in t) t.rows.items (seen_facts l)) c.deref-2.ensures.value c.in_ok-table.ensures.facts)
+    (subst (λ l. AllShow (envs_in t) t.rows.items (seen_facts l)) c.deref-2.ensures.value
+    c.in_ok-table.ensures.facts)
     c.list_points.new.listed.items c.in_ok-statements.statements.items c.len.result
     (c.in_ok-table.ensures.statements ∙ c.deref-3.ensures.value) c.in_ok-statements.ensures.size
     (λ p l. c.in_ok-statements.ensures.flags p l ∙ ap (λ xs. has xs p) c.deref.ensures.value)
-    c.args.table.now b (c.in_ok-list_points.ensures ∙ ap (λ l. l ++ points b.body) c.new-listed.ensures.items)
+    c.args.table.now b (c.in_ok-list_points.ensures
+    ∙ ap (λ l. l ++ points b.body) c.new-listed.ensures.items)
     c.in_ok-table.ensures.found c.in_ok-facts.ensures

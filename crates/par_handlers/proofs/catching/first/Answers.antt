@@ -13,14 +13,16 @@ pub loop-catch-preserved : goal.loop-catch-preserved
 unfolding none
 loop-catch-preserved c = λ method.
     c.loop-catch.invariant method
-    ∙ passed _ c.args.catches.now c.loop-catch.catch-index none c.loop-catch-test.true (sym (c.takes.ensures method) ∙ c.if-takes.false)
+    ∙ passed _ c.args.catches.now c.loop-catch.catch-index none c.loop-catch-test.true
+    (sym (c.takes.ensures method) ∙ c.if-takes.false)
 
 pub returns-then-takes : goal.returns-then-takes
 unfolding none
 returns-then-takes c = λ method.
     sym (
     c.loop-catch.invariant method
-    ∙ found _ c.args.catches.now c.loop-catch.catch-index none c.loop-catch-test.true (sym (c.takes.ensures method) ∙ c.if-takes.true))
+    ∙ found _ c.args.catches.now c.loop-catch.catch-index none c.loop-catch-test.true
+    (sym (c.takes.ensures method) ∙ c.if-takes.true))
 
 pub returns : goal.returns
 returns c = λ method.

@@ -7,4 +7,5 @@ use Rattle.par_handlers.proofs.catching.first.Given as goal
 abbrev pub invariant-loop-catch : goal.invariant-loop-catch
 invariant-loop-catch l =
     (method : ℕ) → first_handler (takes l.linked l.thrown (standing l.class method l.at)) l.catches
-    ≡ first_handler (takes l.linked l.thrown (standing l.class method l.at)) (drop l.catch-index l.catches)
+    ≡ first_handler (takes l.linked l.thrown (standing l.class method l.at))
+    (drop l.catch-index l.catches)

@@ -9,5 +9,7 @@ use Rattle.par_inputs.proofs.seen.take_in.Goals as goal
 
 pub returns-clause-taken : goal.returns-clause-taken
 returns-clause-taken c = λ other.
-    let find = λ (keys : List (Bor (List ℕ))). list_any (is_at (λ key. slice_cmp nat_cmp other key.now)) keys in
+    let find =
+    λ (keys : List (Bor (List ℕ))).
+    list_any (is_at (λ key. slice_cmp nat_cmp other key.now)) keys in
     ap find c.in_ok-insert.ensures.keys ∙ has-insert other c.args.text c.args.seen.now.keys

@@ -6,18 +6,28 @@ use Rattle.par_io.proofs.whole.read_whole.Goals as goal
 -- what was taken before
 pub returns-in_err-count-clause-taken : goal.returns-in_err-count-clause-taken
 returns-in_err-count-clause-taken g c =
-    let bytes = c.loop-bytes.bytes.items in
-    (bytes, grind (arith, common_steps), consumed_kept _ _ _ bytes c.loop-bytes.invariant.read c.in_err-count.ensures.kept)
+    let bytes = c.loop-bytes.bytes.items in (
+      bytes,
+      grind (arith, common_steps),
+      consumed_kept _ _ _ bytes c.loop-bytes.invariant.read c.in_err-count.ensures.kept,
+    )
 
 -- and with it what this read gave
 pub returns-then-count-left-clause-taken : goal.returns-then-count-left-clause-taken
 returns-then-count-left-clause-taken g c =
     let bytes = c.loop-bytes.bytes.items in
-    let more = take c.in_ok-count.count c.read_some.new.buffer in
-    (bytes ++ more, grind (arith, common_steps), both_consumed _ _ _ bytes more c.loop-bytes.invariant.read c.in_ok-count.ensures.given)
+    let more = take c.in_ok-count.count c.read_some.new.buffer in (
+      bytes ++ more,
+      grind (arith, common_steps),
+      both_consumed _ _ _ bytes more c.loop-bytes.invariant.read c.in_ok-count.ensures.given,
+    )
 
-pub returns-in_err-extend_from_slice-clause-taken : goal.returns-in_err-extend_from_slice-clause-taken
+pub returns-in_err-extend_from_slice-clause-taken
+    : goal.returns-in_err-extend_from_slice-clause-taken
 returns-in_err-extend_from_slice-clause-taken g c =
     let bytes = c.loop-bytes.bytes.items in
-    let more = take c.in_ok-count.count c.read_some.new.buffer in
-    (bytes ++ more, grind (arith, common_steps), both_consumed _ _ _ bytes more c.loop-bytes.invariant.read c.in_ok-count.ensures.given)
+    let more = take c.in_ok-count.count c.read_some.new.buffer in (
+      bytes ++ more,
+      grind (arith, common_steps),
+      both_consumed _ _ _ bytes more c.loop-bytes.invariant.read c.in_ok-count.ensures.given,
+    )

@@ -6,4 +6,5 @@ use Rattle.par_lexer.proofs.table.first_begun.Given as goal
 -- the bytes begin with none of the texts that are passed over
 abbrev pub invariant-loop-number : goal.invariant-loop-number
 invariant-loop-number l =
-    find (λ row. begins row.1 l.bytes) (rows (drop l.number-index l.table)) ≡ find (λ row. begins row.1 l.bytes) (rows l.table)
+    find (λ row. begins row.1 l.bytes) (rows (drop l.number-index l.table))
+    ≡ find (λ row. begins row.1 l.bytes) (rows l.table)

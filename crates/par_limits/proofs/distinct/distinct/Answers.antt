@@ -4,5 +4,6 @@ use Rattle.par_limits.proofs.distinct.distinct.Goals as goal
 
 pub loop-entry-preserved : goal.loop-entry-preserved
 loop-entry-preserved c =
-    distinct_more MOST_POLICIES c.args.entries.now c.loop-entry.entry-index c.entry-item.result _ _ c.loop-entry-test.true c.entry-item.is c.loop-entry.invariant
+    distinct_more MOST_POLICIES c.args.entries.now c.loop-entry.entry-index c.entry-item.result _ _
+    c.loop-entry-test.true c.entry-item.is c.loop-entry.invariant
     c.in_ok-push_new.ensures

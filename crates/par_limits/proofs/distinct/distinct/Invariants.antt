@@ -5,4 +5,5 @@ use Rattle.par_resolved.specs.Gathered.{all_of}
 use Rattle.par_limits.proofs.distinct.distinct.Given as goal
 
 abbrev pub invariant-loop-entry : goal.invariant-loop-entry
-invariant-loop-entry l = all_of l.found.items ≡ take (MOST_POLICIES + 1) (distinct (take l.entry-index l.entries))
+invariant-loop-entry l =
+    all_of l.found.items ≡ take (MOST_POLICIES + 1) (distinct (take l.entry-index l.entries))

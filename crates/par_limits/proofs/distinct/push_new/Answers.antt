@@ -11,10 +11,14 @@ returns-then-len-gt-MOST_POLICIES c = stays_full MOST_POLICIES _ _ (omega arith)
 
 pub returns-then-is_there : goal.returns-then-is_there
 returns-then-is_there c =
-    let is = ap (λ rs. list_any (λ f. same_policy c.args.entry.now.policy f.policy) (all_of rs)) (sym c.as_slice.ensures.value) ∙ sym c.is_there.ensures ∙ c.if-is_there.true in
+    let is =
+    ap (λ rs. list_any (λ f. same_policy c.args.entry.now.policy f.policy) (all_of rs))
+    (sym c.as_slice.ensures.value) ∙ sym c.is_there.ensures ∙ c.if-is_there.true in
     stays MOST_POLICIES _ _ (omega arith) is
 
 pub returns : goal.returns
 returns c =
-    let is = ap (λ rs. list_any (λ f. same_policy c.args.entry.now.policy f.policy) (all_of rs)) (sym c.as_slice.ensures.value) ∙ sym c.is_there.ensures ∙ c.if-is_there.false in
+    let is =
+    ap (λ rs. list_any (λ f. same_policy c.args.entry.now.policy f.policy) (all_of rs))
+    (sym c.as_slice.ensures.value) ∙ sym c.is_there.ensures ∙ c.if-is_there.false in
     ap all_of c.in_ok-push.ensures.items ∙ grows MOST_POLICIES _ c.args.entry (omega arith) is

@@ -9,5 +9,7 @@ use Rattle.par_limits.proofs.policies.check_births.Given as goal
 -- the first found so far, with those of what is left
 abbrev pub invariant-loop-class : goal.invariant-loop-class
 invariant-loop-class l =
-    first_of l.findings (flat_map (λ c. birth_faults (known_seen l.known) c c.birth) (classes_of (drop l.class-index l.classes)))
-    ≡ first_of l.fn.findings (flat_map (λ c. birth_faults (known_seen l.known) c c.birth) (classes_of l.classes))
+    first_of l.findings (flat_map (λ c. birth_faults (known_seen l.known) c c.birth)
+    (classes_of (drop l.class-index l.classes)))
+    ≡ first_of l.fn.findings
+    (flat_map (λ c. birth_faults (known_seen l.known) c c.birth) (classes_of l.classes))

@@ -12,6 +12,9 @@ pub returns : goal.returns
 returns c =
     let those =
     ap all_of c.as_slice-2.ensures.value ∙ c.in_ok-distinct.ensures
-    ∙ ap (λ es. take (MOST_POLICIES + 1) (distinct es)) (c.as_slice.ensures.value ∙ c.in_ok-entries.ensures) in
-    subst (λ fs. OnOk c.check_many.result (c.check_many.new.findings ≡ first_of c.args.findings.now fs))
-    (counted_all (known_seen c.args.known.now) (source c.args.program.now) _ (classes_of c.args.classes.now) those c.requires.declared) c.check_many.ensures
+    ∙ ap (λ es. take (MOST_POLICIES + 1) (distinct es))
+    (c.as_slice.ensures.value ∙ c.in_ok-entries.ensures) in
+    subst (λ fs. OnOk c.check_many.result
+    (c.check_many.new.findings ≡ first_of c.args.findings.now fs))
+    (counted_all (known_seen c.args.known.now) (source c.args.program.now) _
+    (classes_of c.args.classes.now) those c.requires.declared) c.check_many.ensures

@@ -7,4 +7,5 @@ use Rattle.par_limits.proofs.same.is_there.Given as goal
 -- what is left is searched
 abbrev pub invariant-loop-entry : goal.invariant-loop-entry
 invariant-loop-entry l =
-    list_any (λ f. same_policy l.policy f.policy) (all_of (drop l.entry-index l.found)) ≡ list_any (λ f. same_policy l.policy f.policy) (all_of l.found)
+    list_any (λ f. same_policy l.policy f.policy) (all_of (drop l.entry-index l.found))
+    ≡ list_any (λ f. same_policy l.policy f.policy) (all_of l.found)

@@ -23,9 +23,14 @@ invariant_of-result c =
     let same = c.as_slice.ensures in
     record {
       few = omega (arith, c.requires.few);
-      small = λ k d within. let spells = c.requires.spelled k d within in spelled-small _ spells.0 spells.1;
+      small = λ k d within. let spells = c.requires.spelled k d within in
+          spelled-small _ spells.0 spells.1;
       spelled = c.requires.named;
       unbroken = subst (λ files. first_broken files ≡ None) same c.in_ok-names.ensures.unbroken;
-      spread = subst (λ files. AreSpread files c.in_ok-channels.channels.buckets.items) c.as_slice-2.ensures c.in_ok-channels.ensures;
-      named = subst (λ files. c.in_ok-names.names ≡ map (names_of files) files) same c.in_ok-names.ensures.names;
+      spread =
+          subst (λ files. AreSpread files c.in_ok-channels.channels.buckets.items)
+          c.as_slice-2.ensures c.in_ok-channels.ensures;
+      named =
+          subst (λ files. c.in_ok-names.names ≡ map (names_of files) files) same
+          c.in_ok-names.ensures.names;
     }

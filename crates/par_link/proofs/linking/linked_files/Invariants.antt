@@ -7,4 +7,5 @@ use Rattle.par_link.proofs.linking.linked_files.Given as goal
 abbrev pub invariant-loop-class : goal.invariant-loop-class
 invariant-loop-class l =
     (l.all ≡ map (names_of l.tables.files.now) (take l.class l.tables.files.now))
-    × (first_in l.tables.files.now l.class (drop l.class l.tables.files.now) ≡ first_in l.tables.files.now 0 l.tables.files.now)
+    × (first_in l.tables.files.now l.class (drop l.class l.tables.files.now)
+    ≡ first_in l.tables.files.now 0 l.tables.files.now)

@@ -4,4 +4,6 @@ use Rattle.par_link.specs.Placed.{key_named}
 use Rattle.par_link.proofs.members.field_keys.Given as goal
 
 abbrev pub invariant-loop-field : goal.invariant-loop-field
-invariant-loop-field l = map key_named l.keys.items ≡ map (field_named l.file.pool.entries) (take l.field-index l.file.fields)
+invariant-loop-field l =
+    map key_named l.keys.items ≡ map (field_named l.file.pool.entries)
+    (take l.field-index l.file.fields)

@@ -4,4 +4,6 @@ use Rattle.par_link.specs.Placed.{key_named}
 use Rattle.par_link.proofs.members.method_keys.Given as goal
 
 abbrev pub invariant-loop-method : goal.invariant-loop-method
-invariant-loop-method l = map key_named l.keys.items ≡ map (method_named l.file.pool.entries) (take l.method-index l.file.methods)
+invariant-loop-method l =
+    map key_named l.keys.items ≡ map (method_named l.file.pool.entries)
+    (take l.method-index l.file.methods)

@@ -3,4 +3,5 @@ use Rattle.par_link.specs.Stops.{is_cut, first_stop}
 use Rattle.par_link.proofs.walk.first_cut.Given as goal
 
 abbrev pub invariant-loop-method : goal.invariant-loop-method
-invariant-loop-method l = first_stop is_cut (drop l.method-index l.methods) ≡ first_stop is_cut l.methods
+invariant-loop-method l =
+    first_stop is_cut (drop l.method-index l.methods) ≡ first_stop is_cut l.methods

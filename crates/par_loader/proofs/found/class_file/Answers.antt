@@ -33,17 +33,25 @@ returns-in-Err-TooLong-clause-found g c =
 pub returns-in-Ok-clause-found : goal.returns-in-Ok-clause-found
 returns-in-Ok-clause-found g c =
     let bytes : List ℕ = c.in-Ok.bytes.items in
-    let taken = subst (λ (b : List ℕ). Finds c.taken.result (taken_as c.args.class.now (file_at b))) c.as_slice.ensures.value c.taken.ensures.taken in
+    let taken =
+    subst (λ (b : List ℕ). Finds c.taken.result (taken_as c.args.class.now (file_at b)))
+    c.as_slice.ensures.value c.taken.ensures.taken in
     let told = rw c.requires at c.in-Ok.ensures.found in
-    there (g.F.Folder.files c.args.folder.now) c.args.class.now bytes c.taken.result c.in-Ok.ensures.short told taken
+    there (g.F.Folder.files c.args.folder.now) c.args.class.now bytes c.taken.result
+    c.in-Ok.ensures.short told taken
 
 pub returns-in-Ok-clause-read : goal.returns-in-Ok-clause-read
 returns-in-Ok-clause-read g c =
     let bytes : List ℕ = c.in-Ok.bytes.items in
-    let taken = subst (λ (b : List ℕ). Finds c.taken.result (taken_as c.args.class.now (file_at b))) c.as_slice.ensures.value c.taken.ensures.taken in
-    let spells = subst (λ (b : List ℕ). IfOk c.taken.result (Spells b)) c.as_slice.ensures.value c.taken.ensures.spelled in
+    let taken =
+    subst (λ (b : List ℕ). Finds c.taken.result (taken_as c.args.class.now (file_at b)))
+    c.as_slice.ensures.value c.taken.ensures.taken in
+    let spells =
+    subst (λ (b : List ℕ). IfOk c.taken.result (Spells b)) c.as_slice.ensures.value
+    c.taken.ensures.spelled in
     let told = rw c.requires at c.in-Ok.ensures.found in
-    was_read (g.F.Folder.files c.args.folder.now) c.args.class.now bytes c.taken.result c.in-Ok.ensures.short told taken spells c.taken.ensures.own
+    was_read (g.F.Folder.files c.args.folder.now) c.args.class.now bytes c.taken.result
+    c.in-Ok.ensures.short told taken spells c.taken.ensures.own
 
 pub returns-in-Ok-clause-rose : goal.returns-in-Ok-clause-rose
 returns-in-Ok-clause-rose g c = rise_none c.taken.result _ _ c.taken.ensures.told

@@ -9,16 +9,36 @@ use Rattle.par_loader.proofs.program.linked.Goals as goal
 pub bad_class-requires-in-Err-Broken : goal.bad_class-requires-in-Err-Broken
 bad_class-requires-in-Err-Broken c =
     let files = c.args.loading.files in
-    let b : Broken = record { number = c.in-Err-Broken.number; class = c.in-Err-Broken.class; index = c.in-Err-Broken.index } in
-    let is : first_broken files ≡ Some b = rw c.in-Err-Broken.field-0-is at c.in-Err-Broken.ensures.broken in
-    let name = c.name_at-in-Err-Broken.ensures ∙ name_is (λ k. k.items) c.args.loading.names.keys files c.args.loading.names_are c.in-Err-Broken.class in
-    subst IsName (sym name) (name_named files c.in-Err-Broken.class c.args.loading.named (broken-within files b is))
+    let b : Broken =
+    record {
+      number = c.in-Err-Broken.number;
+      class = c.in-Err-Broken.class;
+      index = c.in-Err-Broken.index;
+    } in
+    let is : first_broken files ≡ Some b =
+    rw c.in-Err-Broken.field-0-is at c.in-Err-Broken.ensures.broken in
+    let name = c.name_at-in-Err-Broken.ensures
+    ∙ name_is (λ k. k.items) c.args.loading.names.keys files c.args.loading.names_are
+    c.in-Err-Broken.class in
+    subst IsName (sym name)
+    (name_named files c.in-Err-Broken.class c.args.loading.named (broken-within files b is))
 
 pub returns-in-Err-Broken-clause-links : goal.returns-in-Err-Broken-clause-links
 returns-in-Err-Broken-clause-links c =
     let files = c.args.loading.files in
-    let b : Broken = record { number = c.in-Err-Broken.number; class = c.in-Err-Broken.class; index = c.in-Err-Broken.index } in
-    let is : first_broken files ≡ Some b = rw c.in-Err-Broken.field-0-is at c.in-Err-Broken.ensures.broken in
-    let name = c.name_at-in-Err-Broken.ensures ∙ name_is (λ k. k.items) c.args.loading.names.keys files c.args.loading.names_are c.in-Err-Broken.class in
-    let told = subst (λ (n : List ℕ). IsBadAs n b.number b.index c.bad_class-in-Err-Broken.result) name c.bad_class-in-Err-Broken.ensures in
-    links_bad _ (name_of (slice_get files b.class)) b.number b.index c.bad_class-in-Err-Broken.result (broken_is (main_of files) files b is) told
+    let b : Broken =
+    record {
+      number = c.in-Err-Broken.number;
+      class = c.in-Err-Broken.class;
+      index = c.in-Err-Broken.index;
+    } in
+    let is : first_broken files ≡ Some b =
+    rw c.in-Err-Broken.field-0-is at c.in-Err-Broken.ensures.broken in
+    let name = c.name_at-in-Err-Broken.ensures
+    ∙ name_is (λ k. k.items) c.args.loading.names.keys files c.args.loading.names_are
+    c.in-Err-Broken.class in
+    let told =
+    subst (λ (n : List ℕ). IsBadAs n b.number b.index c.bad_class-in-Err-Broken.result) name
+    c.bad_class-in-Err-Broken.ensures in
+    links_bad _ (name_of (slice_get files b.class)) b.number b.index
+    c.bad_class-in-Err-Broken.result (broken_is (main_of files) files b is) told

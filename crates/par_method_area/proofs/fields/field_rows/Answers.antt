@@ -1,4 +1,5 @@
-use Rattle.std.proofs.Common.{◌≡◌, ◌+◌, ◌<◌, if◌then◌else◌, not, List, length, take, get_or, sym, ap, subst, ◌∙◌, arith}
+use Rattle.std.proofs.Common.{◌≡◌, ◌+◌, ◌<◌, if◌then◌else◌, not, List, length, take, get_or, sym}
+use Rattle.std.proofs.Common.{ap, subst, ◌∙◌, arith}
 use Rattle.par_class.specs.declared.file.FieldFile.{FieldFile}
 use Rattle.par_steps.specs.Fields.{is_shared, is_own, many_of}
 use Rattle.par_actions.specs.declared.fields.Field.{Field}

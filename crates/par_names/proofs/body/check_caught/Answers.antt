@@ -8,5 +8,7 @@ loop-catch-init c = grind (arith, common_steps, no_more_caught)
 
 pub loop-catch-preserved : goal.loop-catch-preserved
 loop-catch-preserved c =
-    let more = one_more_caught c.args.catches.now c.loop-catch.catch-index c.catch-item.result c.loop-catch-test.true c.catch-item.is in
+    let more =
+    one_more_caught c.args.catches.now c.loop-catch.catch-index c.catch-item.result
+    c.loop-catch-test.true c.catch-item.is in
     grind (arith, common_steps, more)

@@ -5,4 +5,5 @@ use Rattle.par_names.proofs.body.check_caught.Given as goal
 
 -- the classes of the catches that were gone over
 abbrev pub invariant-loop-catch : goal.invariant-loop-catch
-invariant-loop-catch l = map (λ id. id.now) l.classes.items ≡ all_caught (all_catch (take l.catch-index l.catches))
+invariant-loop-catch l =
+    map (λ id. id.now) l.classes.items ≡ all_caught (all_catch (take l.catch-index l.catches))

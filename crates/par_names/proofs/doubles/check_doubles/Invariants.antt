@@ -7,4 +7,6 @@ use Rattle.par_names.proofs.doubles.check_doubles.Given as goal
 -- those that were gone over are noted
 abbrev pub invariant-loop-id : goal.invariant-loop-id
 invariant-loop-id l =
-    l.findings ≡ first_of l.fn.findings (flat_map (double_fault (map (λ id. id.now) l.ids)) (map (λ id. id.now) (take l.id-index l.ids)))
+    l.findings ≡ first_of l.fn.findings
+    (flat_map (double_fault (map (λ id. id.now) l.ids))
+    (map (λ id. id.now) (take l.id-index l.ids)))

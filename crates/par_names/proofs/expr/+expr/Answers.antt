@@ -7,11 +7,14 @@ use Rattle.par_names.proofs.expr.+expr.Goals as goal
 
 pub check_args-loop-arg-preserved : goal.check_args-loop-arg-preserved
 check_args-loop-arg-preserved t c =
-    let more = more_args c.args.args.now c.loop-arg.arg-index c.arg-item.result c.loop-arg-test.true c.arg-item.is in
+    let more =
+    more_args c.args.args.now c.loop-arg.arg-index c.arg-item.result c.loop-arg-test.true
+    c.arg-item.is in
     grind (arith, exprs)
 
 pub check_args-returns : goal.check_args-returns
-check_args-returns t c = let none = no_args c.args.args.now c.loop-arg.arg-index c.loop-arg-test.false in grind (arith, exprs)
+check_args-returns t c = let none =
+    no_args c.args.args.now c.loop-arg.arg-index c.loop-arg-test.false in grind (arith, exprs)
 
 pub check_callee-returns-in-Some-class_before : goal.check_callee-returns-in-Some-class_before
 check_callee-returns-in-Some-class_before t c =

@@ -8,4 +8,5 @@ use Rattle.par_names.proofs.policy.check_actors.Given as goal
 -- those that were gone over are noted
 abbrev pub invariant-loop-actor : goal.invariant-loop-actor
 invariant-loop-actor l =
-    l.findings ≡ first_of l.fn.findings (flat_map (actor_fault (seen l.view)) (take l.actor-index l.actors))
+    l.findings ≡ first_of l.fn.findings
+    (flat_map (actor_fault (seen l.view)) (take l.actor-index l.actors))

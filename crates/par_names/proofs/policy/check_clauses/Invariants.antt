@@ -8,4 +8,5 @@ use Rattle.par_names.proofs.policy.check_clauses.Given as goal
 -- those that were gone over are noted
 abbrev pub invariant-loop-clause : goal.invariant-loop-clause
 invariant-loop-clause l =
-    l.findings ≡ first_of l.fn.findings (flat_map (clause_faults (seen l.view)) (take l.clause-index l.clauses))
+    l.findings ≡ first_of l.fn.findings
+    (flat_map (clause_faults (seen l.view)) (take l.clause-index l.clauses))

@@ -8,4 +8,5 @@ use Rattle.par_names.proofs.policy.check_locks.Given as goal
 -- those that were gone over are noted
 abbrev pub invariant-loop-lock : goal.invariant-loop-lock
 invariant-loop-lock l =
-    l.findings ≡ first_of l.fn.findings (flat_map (lock_faults (seen l.view)) (take l.lock-index l.locks))
+    l.findings ≡ first_of l.fn.findings
+    (flat_map (lock_faults (seen l.view)) (take l.lock-index l.locks))

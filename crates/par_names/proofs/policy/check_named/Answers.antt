@@ -13,7 +13,10 @@ returns c =
     let n = c.args.view.now.policies in
     let known : c.match-place.is_known ≡ has (seen c.args.view.now).policies id.name =
     elim c.match-place.branch [
-      | in-None w ↦ w.is_known-is ∙ in_first id.name names n None (sym w.in-None.is ∙ c.place.ensures)
-      | in-Some w ↦ w.is_known-is ∙ in_first id.name names n (Some w.in-Some.place) (sym w.in-Some.is ∙ c.place.ensures)
+      | in-None w ↦ w.is_known-is ∙ in_first id.name names n None
+          (sym w.in-None.is ∙ c.place.ensures)
+      | in-Some w ↦ w.is_known-is ∙ in_first id.name names n (Some w.in-Some.place)
+          (sym w.in-Some.is ∙ c.place.ensures)
     ] in
-    c.expect.ensures ∙ ap (λ b. first_of c.args.findings.now (when (not b) (broken 101 id.at))) known
+    c.expect.ensures ∙ ap (λ b. first_of c.args.findings.now (when (not b) (broken 101 id.at)))
+    known

@@ -8,4 +8,5 @@ use Rattle.par_names.proofs.policy.check_policy.Given as goal
 -- those that were gone over are noted
 abbrev pub invariant-loop-term : goal.invariant-loop-term
 invariant-loop-term l =
-    l.findings ≡ first_of l.fn.findings (flat_map (term_faults (seen l.view)) (take l.term-index l.policy.terms))
+    l.findings ≡ first_of l.fn.findings
+    (flat_map (term_faults (seen l.view)) (take l.term-index l.policy.terms))

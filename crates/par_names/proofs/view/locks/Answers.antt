@@ -7,5 +7,6 @@ use Rattle.par_names.proofs.view.locks.Goals as goal
 pub loop-decl-preserved : goal.loop-decl-preserved
 loop-decl-preserved c =
     let ds = c.as_slice-decl-items.result.now in
-    let more = one_more locks_in ds c.loop-decl.decl-index c.decl-item.result (omega arith) c.decl-item.is in
+    let more =
+    one_more locks_in ds c.loop-decl.decl-index c.decl-item.result (omega arith) c.decl-item.is in
     grind (arith, common_steps, more)

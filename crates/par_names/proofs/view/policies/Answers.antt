@@ -7,5 +7,7 @@ use Rattle.par_names.proofs.view.policies.Goals as goal
 pub loop-decl-preserved : goal.loop-decl-preserved
 loop-decl-preserved c =
     let ds = c.as_slice-decl-items.result.now in
-    let more = one_more policies_in ds c.loop-decl.decl-index c.decl-item.result (omega arith) c.decl-item.is in
+    let more =
+    one_more policies_in ds c.loop-decl.decl-index c.decl-item.result
+    (omega arith) c.decl-item.is in
     grind (arith, common_steps, more)

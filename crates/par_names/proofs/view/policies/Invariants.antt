@@ -5,4 +5,5 @@ use Rattle.par_names.proofs.view.policies.Given as goal
 
 -- those of the declarations that were gone over
 abbrev pub invariant-loop-decl : goal.invariant-loop-decl
-invariant-loop-decl l = map (λ x. x.now) l.found.items ≡ policies (all_declared (take l.decl-index l.program.decls))
+invariant-loop-decl l =
+    map (λ x. x.now) l.found.items ≡ policies (all_declared (take l.decl-index l.program.decls))

@@ -7,4 +7,5 @@ use Rattle.par_names.proofs.view.push_classes.Given as goal
 abbrev pub invariant-loop-decl : goal.invariant-loop-decl
 invariant-loop-decl l =
     map (λ class. class_of class.now) l.found.items
-    ≡ map (λ class. class_of class.now) l.fn.found.items ++ declared_classes (all_declared (take l.decl-index l.program.decls))
+    ≡ map (λ class. class_of class.now) l.fn.found.items
+    ++ declared_classes (all_declared (take l.decl-index l.program.decls))

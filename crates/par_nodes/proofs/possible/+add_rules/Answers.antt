@@ -1,6 +1,7 @@
 use Rattle.std.proofs.Common.{[], ◌∙◌}
 use Rattle.par_nodes.specs.Possible.{among, cans}
-use Rattle.par_nodes.proofs.Completing.{part_made, test_made, leaves_made, done_made, heads_made, worths_made, leaves_told, heads_told, worths_told}
+use Rattle.par_nodes.proofs.Completing.{part_made, test_made, leaves_made, done_made, heads_made}
+use Rattle.par_nodes.proofs.Completing.{worths_made, leaves_told, heads_told, worths_told}
 use Rattle.par_nodes.proofs.possible.+add_rules.Goals as goal
 
 pub returns-in-Done : goal.returns-in-Done

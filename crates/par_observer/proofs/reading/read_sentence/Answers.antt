@@ -10,7 +10,8 @@ returns-in-Syntax-clause-unread c =
     let told = rw c.in-Syntax.is at c.in-Err.ensures.fault in
     let found : HasFault c.args.tokens.now (Syntax c.in-Syntax.before) = told (λ memory. cc) in
     subst (IsBrokenBy c.args.source.now) (sym c.broken.ensures)
-    (without_sentence c.args.source.now c.args.tokens.now (Syntax c.in-Syntax.before) 10 c.position-at.result
+    (without_sentence c.args.source.now c.args.tokens.now
+    (Syntax c.in-Syntax.before) 10 c.position-at.result
     c.requires.cut found refl c.position-at.ensures.exact c.position-at.ensures.within)
 
 pub returns-in-TooDeep-clause-unread : goal.returns-in-TooDeep-clause-unread
@@ -18,5 +19,7 @@ returns-in-TooDeep-clause-unread c =
     let told = rw c.in-TooDeep.is at c.in-Err.ensures.fault in
     let found : HasFault c.args.tokens.now (TooDeep c.in-TooDeep.before) = told (λ memory. cc) in
     subst (IsBrokenBy c.args.source.now) (sym c.broken-in-TooDeep.ensures)
-    (without_sentence c.args.source.now c.args.tokens.now (TooDeep c.in-TooDeep.before) 11 c.position-at-in-TooDeep.result
-    c.requires.cut found refl c.position-at-in-TooDeep.ensures.exact c.position-at-in-TooDeep.ensures.within)
+    (without_sentence c.args.source.now c.args.tokens.now
+    (TooDeep c.in-TooDeep.before) 11 c.position-at-in-TooDeep.result
+    c.requires.cut found refl c.position-at-in-TooDeep.ensures.exact
+    c.position-at-in-TooDeep.ensures.within)

@@ -13,7 +13,11 @@ returns-in-Ok-None c =
     let found = rw c.in-Some.is at c.in_ok-program.ensures in
     let has : HasProgram c.args.source.now p = found c.args.source.now c.requires.cut in
     let passes : IsAccepted p = c.in-Ok-None.ensures.accepted (ap Ok c.in-Ok-None.field-0-is) in
-    record { has = has; accepted = passes; secure = accepted_is_secure c.args.source.now p has passes }
+    record {
+      has = has;
+      accepted = passes;
+      secure = accepted_is_secure c.args.source.now p has passes;
+    }
 
 -- the one program of the source is refused
 pub returns-in-Ok-Some : goal.returns-in-Ok-Some

@@ -31,7 +31,8 @@ returns-clause-accepted c =
     let tree = tree_of_program c.args.tree.now in
     let is = c.in_ok-typed.ensures.typed in
     let found = rw c.in_default.is at c.first_inferred.ensures in
-    let faultless : tree_faults tree ≡ [] = inferred_answer tree None is.right is.typed_is.right found in
+    let faultless : tree_faults tree ≡ [] =
+    inferred_answer tree None is.right is.typed_is.right found in
     accepts _ tree c.in_ok-typed.typed c.flows.result is faultless c.flows.ensures.program
     c.flows.ensures.accepted
 
@@ -40,5 +41,6 @@ returns-clause-refused c =
     let tree = tree_of_program c.args.tree.now in
     let is = c.in_ok-typed.ensures.typed in
     let found = rw c.in_default.is at c.first_inferred.ensures in
-    let faultless : tree_faults tree ≡ [] = inferred_answer tree None is.right is.typed_is.right found in
+    let faultless : tree_faults tree ≡ [] =
+    inferred_answer tree None is.right is.typed_is.right found in
     refuses tree c.in_ok-typed.typed c.flows.result is faultless c.flows.ensures.refused

@@ -14,6 +14,9 @@ pub returns : goal.returns
 returns c =
     let from = input c.args.cursor.now in
     opens paragon founded {n = g.Decls} refl
-    (continued paragon founded (symbol.name g.MoreDecls ∷ []) (value.source (tree.all_declared c.new-none.result) ∷ [])
-    (λ s vs. run_builds paragon founded (symbol.name g.MoreDecls ∷ s) from vs g.NoDecls ∙ ap (λ found. run paragon founded (symbol.name g.MoreDecls ∷ s) from (value.source found ∷ vs)) (sym (ap tree.all_declared c.new-none.ensures)))
+    (continued paragon founded (symbol.name g.MoreDecls ∷ [])
+    (value.source (tree.all_declared c.new-none.result) ∷ [])
+    (λ s vs. run_builds paragon founded (symbol.name g.MoreDecls ∷ s) from vs g.NoDecls
+    ∙ ap (λ found. run paragon founded (symbol.name g.MoreDecls ∷ s) from (value.source found ∷ vs))
+    (sym (ap tree.all_declared c.new-none.ensures)))
     c.more_decls.ensures)

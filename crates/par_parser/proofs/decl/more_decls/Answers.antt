@@ -13,16 +13,23 @@ part = symbol.name g.Decl ∷ symbol.builds g.NextDecl ∷ []
 
 pub returns-in_err-found : goal.returns-in_err-found
 returns-in_err-found c =
-    handed paragon founded (symbol.name g.MoreDecls ∷ []) (reads.the_decls c.more.found) (input c.more.cursor) c.from_residual.ensures.1 c.more.invariant.leads
-    (fails_again paragon founded g.MoreDecls part (reads.the_decls c.more.found) (rw (sym c.sees.ensures ∙ c.more-test.true)) c.in_err-found.ensures.read)
+    handed paragon founded (symbol.name g.MoreDecls ∷ []) (reads.the_decls c.more.found)
+    (input c.more.cursor) c.from_residual.ensures.1 c.more.invariant.leads
+    (fails_again paragon founded g.MoreDecls part (reads.the_decls c.more.found)
+    (rw (sym c.sees.ensures ∙ c.more-test.true)) c.in_err-found.ensures.read)
 
 pub more-preserved : goal.more-preserved
 more-preserved c = record {
-  leads = λ s vs. c.more.invariant.leads s vs ∙ again paragon founded g.MoreDecls part (reads.the_decls c.more.found) (rw (sym c.sees.ensures ∙ c.more-test.true)) c.in_ok-found.ensures.read s vs;
+  leads =
+      λ s vs. c.more.invariant.leads s vs
+      ∙ again paragon founded g.MoreDecls part (reads.the_decls c.more.found)
+      (rw (sym c.sees.ensures ∙ c.more-test.true)) c.in_ok-found.ensures.read s vs;
   shorter = omega (arith, c.in_ok-found.ensures.shorter);
 }
 
 pub returns : goal.returns
 returns c =
-    continued paragon founded (symbol.name g.MoreDecls ∷ []) (reads.the_decls c.more.found) c.more.invariant.leads
-    (opens paragon founded (rw (sym c.sees.ensures ∙ c.more-test.false)) (keeping paragon founded (λ vs. refl)))
+    continued paragon founded (symbol.name g.MoreDecls ∷ [])
+    (reads.the_decls c.more.found) c.more.invariant.leads
+    (opens paragon founded (rw (sym c.sees.ensures ∙ c.more-test.false))
+    (keeping paragon founded (λ vs. refl)))

@@ -11,7 +11,8 @@ use Rattle.par_parser.proofs.decl.more_decls.Given as goal
 -- what is found so far, and the tokens that are left, lead on as all do
 abbrev pub invariant-more : goal.invariant-more
 invariant-more l = record {
-  leads : Leads paragon founded (symbol.name g.MoreDecls ∷ []) (reads.the_decls l.fn.found) (input l.fn.cursor) (symbol.name g.MoreDecls ∷ []) (reads.the_decls l.found) (input l.cursor);
+  leads : Leads paragon founded (symbol.name g.MoreDecls ∷ []) (reads.the_decls l.fn.found)
+      (input l.fn.cursor) (symbol.name g.MoreDecls ∷ []) (reads.the_decls l.found) (input l.cursor);
   shorter : length l.cursor.left.now ≤ length l.fn.cursor.left.now;
 }
 

@@ -14,6 +14,9 @@ pub returns-clause-read : goal.returns-clause-read
 returns-clause-read c =
     let from = input c.args.cursor.now in
     opens paragon founded {n = g.Effects} refl
-    (continued paragon founded (symbol.name g.MoreEffects ∷ []) (value.says (reads.effects_of c.no_effects-none.result) ∷ [])
-    (λ s vs. run_builds paragon founded (symbol.name g.MoreEffects ∷ s) from vs g.NoEffects ∙ ap (λ found. run paragon founded (symbol.name g.MoreEffects ∷ s) from (value.says found ∷ vs)) (sym c.no_effects-none.ensures))
+    (continued paragon founded (symbol.name g.MoreEffects ∷ [])
+    (value.says (reads.effects_of c.no_effects-none.result) ∷ [])
+    (λ s vs. run_builds paragon founded (symbol.name g.MoreEffects ∷ s) from vs g.NoEffects
+    ∙ ap (λ found. run paragon founded (symbol.name g.MoreEffects ∷ s) from (value.says found ∷ vs))
+    (sym c.no_effects-none.ensures))
     c.more_effects.ensures.read)

@@ -14,6 +14,9 @@ pub returns-clause-read : goal.returns-clause-read
 returns-clause-read c =
     let from = input c.args.cursor.now in
     opens paragon founded {n = g.Members} refl
-    (continued paragon founded (symbol.name g.MoreMembers ∷ []) (value.members (reads.members_of c.no_members-none.result) ∷ [])
-    (λ s vs. run_builds paragon founded (symbol.name g.MoreMembers ∷ s) from vs g.NoMembers ∙ ap (λ found. run paragon founded (symbol.name g.MoreMembers ∷ s) from (value.members found ∷ vs)) (sym c.no_members-none.ensures))
+    (continued paragon founded (symbol.name g.MoreMembers ∷ [])
+    (value.members (reads.members_of c.no_members-none.result) ∷ [])
+    (λ s vs. run_builds paragon founded (symbol.name g.MoreMembers ∷ s) from vs g.NoMembers
+    ∙ ap (λ found. run paragon founded (symbol.name g.MoreMembers ∷ s) from
+    (value.members found ∷ vs)) (sym c.no_members-none.ensures))
     c.more_members.ensures.read)

@@ -5,7 +5,9 @@ use Rattle.par_tree.proofs.Founded.{founded}
 use Rattle.par_parser.proofs.member.static_member.Goals as goal
 
 pub returns-then-sees-clause-read : goal.returns-then-sees-clause-read
-returns-then-sees-clause-read c = opens paragon founded (rw (sym c.sees.ensures ∙ c.if-sees.true)) c.void_method.ensures.read
+returns-then-sees-clause-read c =
+    opens paragon founded (rw (sym c.sees.ensures ∙ c.if-sees.true)) c.void_method.ensures.read
 
 pub returns-else-sees-clause-read : goal.returns-else-sees-clause-read
-returns-else-sees-clause-read c = opens paragon founded (rw (sym c.sees.ensures ∙ c.if-sees.false)) c.typed_member.ensures.read
+returns-else-sees-clause-read c =
+    opens paragon founded (rw (sym c.sees.ensures ∙ c.if-sees.false)) c.typed_member.ensures.read

@@ -11,7 +11,9 @@ use Rattle.par_parser.proofs.method.more_params.Given as goal
 -- what is found so far, and the tokens that are left, lead on as all do
 abbrev pub invariant-more : goal.invariant-more
 invariant-more l = record {
-  leads : Leads paragon founded (symbol.name g.MoreParams ∷ []) (reads.the_params l.fn.found) (input l.fn.cursor) (symbol.name g.MoreParams ∷ []) (reads.the_params l.found) (input l.cursor);
+  leads : Leads paragon founded (symbol.name g.MoreParams ∷ []) (reads.the_params l.fn.found)
+      (input l.fn.cursor) (symbol.name g.MoreParams ∷ []) (reads.the_params l.found)
+      (input l.cursor);
   shorter : length l.cursor.left.now ≤ length l.fn.cursor.left.now;
 }
 

@@ -26,22 +26,33 @@ abbrev all : g.Symbols
 all = name g.Program ∷ []
 
 module _ (tokens : List Token) (j : Input) where
-  tree_of : (r : Result Program ParseError) → Reads all [] a_program (whole tokens) r j → IfOk r (λ p. HasTree tokens (source p))
+  tree_of : (r : Result Program ParseError) → Reads all [] a_program (whole tokens) r j
+      → IfOk r (λ p. HasTree tokens (source p))
   tree_of (Ok p) read = (j, comes_to paragon founded all a_program (whole tokens) j p read)
   tree_of (Err e) read = tt
 
-  few : (r : Result Program ParseError) → Reads all [] a_program (whole tokens) r j → IfOk r (λ p. source_size (source p) ≤ length tokens)
-  few (Ok p) read = let taken = sized paragon weight (λ x. omega arith) built_size (comes_to paragon founded all a_program (whole tokens) j p read) in omega (arith, taken)
+  few : (r : Result Program ParseError) → Reads all [] a_program (whole tokens) r j
+      → IfOk r (λ p. source_size (source p) ≤ length tokens)
+  few (Ok p) read =
+      let taken =
+      sized paragon weight (λ x. omega arith) built_size
+      (comes_to paragon founded all a_program (whole tokens) j p read) in omega (arith, taken)
   few (Err e) read = tt
 
-  fault_at : (r : Result Program ParseError) → Reads all [] a_program (whole tokens) r j → IfErr r (λ e. e ≢ Memory → HasFault tokens (fault_of e))
+  fault_at : (r : Result Program ParseError) → Reads all [] a_program (whole tokens) r j
+      → IfErr r (λ e. e ≢ Memory → HasFault tokens (fault_of e))
   fault_at (Ok p) read = tt
-  fault_at (Err e) read = λ told. comes_to_fault paragon founded all a_program (whole tokens) j e told read
+  fault_at (Err e) read =
+      λ told. comes_to_fault paragon founded all a_program (whole tokens) j e told read
 
   -- a derivation comes to one outcome
-  no_tree : (r : Result Program ParseError) → Reads all [] a_program (whole tokens) r j → IfErr r (λ e. e ≢ Memory → (tree : Source) → HasTree tokens tree → ⊥)
+  no_tree : (r : Result Program ParseError) → Reads all [] a_program (whole tokens) r j
+      → IfErr r (λ e. e ≢ Memory → (tree : Source) → HasTree tokens tree → ⊥)
   no_tree (Ok p) read = tt
-  no_tree (Err e) read = λ told tree has. let both = decided has.1 (comes_to_fault paragon founded all a_program (whole tokens) j e told read) in cc
+  no_tree (Err e) read =
+      λ told tree has. let both =
+      decided has.1 (comes_to_fault paragon founded all a_program (whole tokens) j e told read) in
+      cc
 
 pub returns-clause-tree : goal.returns-clause-tree
 returns-clause-tree c = tree_of c.args.tokens.now _ _ c.program.ensures

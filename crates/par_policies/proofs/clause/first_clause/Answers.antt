@@ -16,5 +16,7 @@ pub returns-clause-read : goal.returns-clause-read
 returns-clause-read c =
     let from = input c.args.cursor.now in
     continued paragon founded behind (value.clauses c.new-none.result ∷ [])
-    (λ s vs. run_builds paragon founded (behind ++ s) from vs g.NoClauses ∙ ap (λ found. run paragon founded (behind ++ s) from (value.clauses found ∷ vs)) (sym c.new-none.ensures))
+    (λ s vs. run_builds paragon founded (behind ++ s) from vs g.NoClauses
+    ∙ ap (λ found. run paragon founded (behind ++ s) from (value.clauses found ∷ vs))
+    (sym c.new-none.ensures))
     c.next_clause.ensures.read

@@ -11,7 +11,8 @@ use Rattle.par_policies.proofs.clause.more_needs.Given as goal
 -- what is found so far, and the tokens that are left, lead on as all do
 abbrev pub invariant-more : goal.invariant-more
 invariant-more l = record {
-  leads : Leads paragon founded (symbol.name g.MoreNeeds ∷ []) (reads.the_locks l.fn.found) (input l.fn.cursor) (symbol.name g.MoreNeeds ∷ []) (reads.the_locks l.found) (input l.cursor);
+  leads : Leads paragon founded (symbol.name g.MoreNeeds ∷ []) (reads.the_locks l.fn.found)
+      (input l.fn.cursor) (symbol.name g.MoreNeeds ∷ []) (reads.the_locks l.found) (input l.cursor);
   shorter : length l.cursor.left.now ≤ length l.fn.cursor.left.now;
 }
 

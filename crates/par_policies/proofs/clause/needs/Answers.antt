@@ -7,7 +7,11 @@ use Rattle.par_tree.proofs.Founded.{founded}
 use Rattle.par_policies.proofs.clause.needs.Goals as goal
 
 pub returns-then-sees-clause-read : goal.returns-then-sees-clause-read
-returns-then-sees-clause-read c = opens paragon founded (rw (sym c.sees.ensures ∙ c.if-sees.true)) c.some_needs.ensures.read
+returns-then-sees-clause-read c =
+    opens paragon founded (rw (sym c.sees.ensures ∙ c.if-sees.true)) c.some_needs.ensures.read
 
 pub returns-else-sees-clause-read : goal.returns-else-sees-clause-read
-returns-else-sees-clause-read c = opens paragon founded (rw (sym c.sees.ensures ∙ c.if-sees.false)) (building paragon founded g.NoLocks (λ vs. ap (λ found. value.needs found ∷ vs) (sym c.new.ensures)))
+returns-else-sees-clause-read c =
+    opens paragon founded (rw (sym c.sees.ensures ∙ c.if-sees.false))
+    (building paragon founded g.NoLocks
+    (λ vs. ap (λ found. value.needs found ∷ vs) (sym c.new.ensures)))

@@ -17,5 +17,7 @@ pub returns-clause-read : goal.returns-clause-read
 returns-clause-read c =
     let from = input c.args.cursor.now in
     continued paragon founded behind (value.idents c.new-none.result ∷ [])
-    (λ s vs. run_builds paragon founded (behind ++ s) from vs g.NoIdents ∙ ap (λ found. run paragon founded (behind ++ s) from (value.idents found ∷ vs)) (sym c.new-none.ensures))
+    (λ s vs. run_builds paragon founded (behind ++ s) from vs g.NoIdents
+    ∙ ap (λ found. run paragon founded (behind ++ s) from (value.idents found ∷ vs))
+    (sym c.new-none.ensures))
     c.next_ident.ensures.read

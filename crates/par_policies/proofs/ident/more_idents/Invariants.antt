@@ -11,7 +11,9 @@ use Rattle.par_policies.proofs.ident.more_idents.Given as goal
 -- what is found so far, and the tokens that are left, lead on as all do
 abbrev pub invariant-more : goal.invariant-more
 invariant-more l = record {
-  leads : Leads paragon founded (symbol.name g.MoreIdents ∷ []) (reads.the_idents l.fn.found) (input l.fn.cursor) (symbol.name g.MoreIdents ∷ []) (reads.the_idents l.found) (input l.cursor);
+  leads : Leads paragon founded (symbol.name g.MoreIdents ∷ []) (reads.the_idents l.fn.found)
+      (input l.fn.cursor) (symbol.name g.MoreIdents ∷ []) (reads.the_idents l.found)
+      (input l.cursor);
   shorter : length l.cursor.left.now ≤ length l.fn.cursor.left.now;
 }
 

@@ -5,7 +5,10 @@ use Rattle.par_tree.proofs.Founded.{founded}
 use Rattle.par_policies.proofs.lock.second_ident.Goals as goal
 
 pub returns-then-sees-clause-read : goal.returns-then-sees-clause-read
-returns-then-sees-clause-read c = opens paragon founded (rw (sym c.sees.ensures ∙ c.if-sees.true)) c.another_ident.ensures.read
+returns-then-sees-clause-read c =
+    opens paragon founded (rw (sym c.sees.ensures ∙ c.if-sees.true)) c.another_ident.ensures.read
 
 pub returns-else-sees-clause-read : goal.returns-else-sees-clause-read
-returns-else-sees-clause-read c = opens paragon founded (rw (sym c.sees.ensures ∙ c.if-sees.false)) (keeping paragon founded (λ vs. refl))
+returns-else-sees-clause-read c =
+    opens paragon founded (rw (sym c.sees.ensures ∙ c.if-sees.false))
+    (keeping paragon founded (λ vs. refl))

@@ -6,7 +6,10 @@ use Rattle.par_tree.proofs.Founded.{founded}
 use Rattle.par_policies.proofs.policy.may_policy.Goals as goal
 
 pub returns-then-sees-clause-read : goal.returns-then-sees-clause-read
-returns-then-sees-clause-read c = opens paragon founded (rw (sym c.sees.ensures ∙ c.if-sees.true)) c.marked_policy.ensures.read
+returns-then-sees-clause-read c =
+    opens paragon founded (rw (sym c.sees.ensures ∙ c.if-sees.true)) c.marked_policy.ensures.read
 
 pub returns-else-sees-clause-read : goal.returns-else-sees-clause-read
-returns-else-sees-clause-read c = opens paragon founded (rw (sym c.sees.ensures ∙ c.if-sees.false)) (building paragon founded g.NoPolicy (λ vs. refl))
+returns-else-sees-clause-read c =
+    opens paragon founded (rw (sym c.sees.ensures ∙ c.if-sees.false))
+    (building paragon founded g.NoPolicy (λ vs. refl))

@@ -5,4 +5,6 @@ use Rattle.par_pool.proofs.Items.{with_front}
 use Rattle.par_pool.proofs.reading.constants_of.Given as goal
 
 abbrev pub invariant-loop-index : goal.invariant-loop-index
-invariant-loop-index l = with_front l.constants.items (items (constant_at l.short) (l.number - l.index) l.index l.rest) ≡ items (constant_at l.short) (l.number - 1) 1 l.bytes
+invariant-loop-index l =
+    with_front l.constants.items (items (constant_at l.short) (l.number - l.index) l.index l.rest)
+    ≡ items (constant_at l.short) (l.number - 1) 1 l.bytes

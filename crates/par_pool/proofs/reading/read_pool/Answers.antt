@@ -5,7 +5,13 @@ use Rattle.par_pool.proofs.reading.read_pool.Goals as goal
 
 pub returns-clause-found : goal.returns-clause-found
 returns-clause-found c =
-    pool_found (λ read. read.0.entries) (λ read. drop read.1 c.args.bytes.now) (Cut (length c.args.bytes.now)) (drop c.args.from c.args.bytes.now) c.located.result (pool_bytes c.args.bytes.now c.args.from (λ i. omega (arith, c.type_inv.bytes i))) c.located.ensures.exact
+    pool_found (λ read. read.0.entries) (λ read. drop read.1 c.args.bytes.now)
+    (Cut (length c.args.bytes.now)) (drop c.args.from c.args.bytes.now) c.located.result
+    (pool_bytes c.args.bytes.now c.args.from (λ i. omega (arith, c.type_inv.bytes i)))
+    c.located.ensures.exact
 
 pub returns-clause-only : goal.returns-clause-only
-returns-clause-only c = λ entries rest there. rw (← (pool_only (Cut (length c.args.bytes.now)) (drop c.args.from c.args.bytes.now) entries rest there)) c.located.ensures.exact
+returns-clause-only c =
+    λ entries rest there.
+    rw (← (pool_only (Cut (length c.args.bytes.now))
+    (drop c.args.from c.args.bytes.now) entries rest there)) c.located.ensures.exact

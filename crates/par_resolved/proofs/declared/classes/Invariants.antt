@@ -7,4 +7,5 @@ use Rattle.par_resolved.proofs.declared.classes.Given as goal
 -- those found so far, and those of what is left
 abbrev pub invariant-loop-decl : goal.invariant-loop-decl
 invariant-loop-decl l =
-    classes_of l.found.items ++ declared (all_declared (drop l.decl-index l.program.decls)) ≡ declared (all_declared l.program.decls)
+    classes_of l.found.items ++ declared (all_declared (drop l.decl-index l.program.decls))
+    ≡ declared (all_declared l.program.decls)

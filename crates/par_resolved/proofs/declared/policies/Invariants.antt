@@ -7,4 +7,5 @@ use Rattle.par_resolved.proofs.declared.policies.Given as goal
 -- those found so far, and those of what is left
 abbrev pub invariant-loop-decl : goal.invariant-loop-decl
 invariant-loop-decl l =
-    all_of l.found.items ++ policies (all_declared (drop l.decl-index l.program.decls)) ≡ policies (all_declared l.program.decls)
+    all_of l.found.items ++ policies (all_declared (drop l.decl-index l.program.decls))
+    ≡ policies (all_declared l.program.decls)

@@ -6,4 +6,5 @@ use Rattle.par_resolved.proofs.declared.policy_names.Given as goal
 -- those found so far, and those of what is left
 abbrev pub invariant-loop-decl : goal.invariant-loop-decl
 invariant-loop-decl l =
-    texts l.found.items ++ map (λ d. d.id.name) (all_of (drop l.decl-index l.decls)) ≡ map (λ d. d.id.name) (all_of l.decls)
+    texts l.found.items ++ map (λ d. d.id.name) (all_of (drop l.decl-index l.decls))
+    ≡ map (λ d. d.id.name) (all_of l.decls)

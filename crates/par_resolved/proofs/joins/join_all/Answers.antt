@@ -1,4 +1,5 @@
-use Rattle.std.proofs.Common.{◌≡◌, ◌∙◌, ◌∷◌, ap, sym, subst, Some, IfOk, OnOk, List, length, take, drop, ◌-◌}
+use Rattle.std.proofs.Common.{◌≡◌, ◌∙◌, ◌∷◌, ap, sym, subst, Some, IfOk, OnOk, List, length, take}
+use Rattle.std.proofs.Common.{drop, ◌-◌}
 use Rattle.par_policy.specs.declared.clauses.Clause.{Clause}
 use Rattle.par_typed.specs.First.{first_of}
 use Rattle.par_typed.proofs.First.{first_of_none}
@@ -11,12 +12,15 @@ use Rattle.par_resolved.proofs.joins.join_all.Goals as goal
 pub returns-in_ok-policy-in-empty-clause-value : goal.returns-in_ok-policy-in-empty-clause-value
 returns-in_ok-policy-in-empty-clause-value c =
     let none = empty c.args.policies.now c.in-empty.len_below in
-    ap Some c.in_ok-policy-in-empty.ensures ∙ sym none_joined ∙ ap (λ ps. join_of (Some ps)) (sym none)
+    ap Some c.in_ok-policy-in-empty.ensures ∙ sym none_joined
+    ∙ ap (λ ps. join_of (Some ps)) (sym none)
 
 pub returns-in_ok-policy-in-empty-clause-found : goal.returns-in_ok-policy-in-empty-clause-found
 returns-in_ok-policy-in-empty-clause-found c =
     let none = empty c.args.policies.now c.in-empty.len_below in
-    sym (first_of_none c.args.findings.now) ∙ ap (first_of c.args.findings.now) (sym (ap (λ ps. join_faults c.args.at (Some ps)) none ∙ none_exceeds c.args.at))
+    sym (first_of_none c.args.findings.now)
+    ∙ ap (first_of c.args.findings.now)
+    (sym (ap (λ ps. join_faults c.args.at (Some ps)) none ∙ none_exceeds c.args.at))
 
 pub returns-in_ok-first-in-len1-up-clause-value : goal.returns-in_ok-first-in-len1-up-clause-value
 returns-in_ok-first-in-len1-up-clause-value c =
@@ -24,8 +28,10 @@ returns-in_ok-first-in-len1-up-clause-value c =
     let first = c.in_ok-first-in-len1-up.first in
     let others = take (length ps - 1) (drop 1 ps) in
     let whole : ps ≡ first ∷ others =
-    parted ps c.first-item.result c.in-len1-up.len_at_least c.first-item.is ∙ ap (λ (p : List Clause). p ∷ others) (sym c.in_ok-first-in-len1-up.ensures.cases) in
-    subst (λ o. IfOk c.join_with.result (λ p. p ≡ o)) (sym (ap (λ qs. join_of (Some qs)) whole ∙ some_joined first others)) c.join_with.ensures.value
+    parted ps c.first-item.result c.in-len1-up.len_at_least c.first-item.is
+    ∙ ap (λ (p : List Clause). p ∷ others) (sym c.in_ok-first-in-len1-up.ensures.cases) in
+    subst (λ o. IfOk c.join_with.result (λ p. p ≡ o))
+    (sym (ap (λ qs. join_of (Some qs)) whole ∙ some_joined first others)) c.join_with.ensures.value
 
 pub returns-in_ok-first-in-len1-up-clause-found : goal.returns-in_ok-first-in-len1-up-clause-found
 returns-in_ok-first-in-len1-up-clause-found c =
@@ -33,6 +39,9 @@ returns-in_ok-first-in-len1-up-clause-found c =
     let first = c.in_ok-first-in-len1-up.first in
     let others = take (length ps - 1) (drop 1 ps) in
     let whole : ps ≡ first ∷ others =
-    parted ps c.first-item.result c.in-len1-up.len_at_least c.first-item.is ∙ ap (λ (p : List Clause). p ∷ others) (sym c.in_ok-first-in-len1-up.ensures.cases) in
-    subst (λ fs. OnOk c.join_with.result (c.join_with.new.findings ≡ first_of c.args.findings.now fs))
-    (sym (ap (λ qs. join_faults c.args.at (Some qs)) whole ∙ some_exceed c.args.at first others)) c.join_with.ensures.found
+    parted ps c.first-item.result c.in-len1-up.len_at_least c.first-item.is
+    ∙ ap (λ (p : List Clause). p ∷ others) (sym c.in_ok-first-in-len1-up.ensures.cases) in
+    subst (λ fs. OnOk c.join_with.result
+    (c.join_with.new.findings ≡ first_of c.args.findings.now fs))
+    (sym (ap (λ qs. join_faults c.args.at (Some qs)) whole ∙ some_exceed c.args.at first others))
+    c.join_with.ensures.found

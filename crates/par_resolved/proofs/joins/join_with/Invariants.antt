@@ -7,6 +7,7 @@ use Rattle.par_resolved.proofs.joins.join_with.Given as goal
 abbrev pub invariant-loop-other : goal.invariant-loop-other
 invariant-loop-other l = record {
   value : join_with l.policy (drop l.other-index l.others) ≡ join_with l.fn.first l.others;
-  found : steps_faults l.at l.policy (drop l.other-index l.others) ≡ steps_faults l.at l.fn.first l.others;
+  found : steps_faults l.at l.policy (drop l.other-index l.others)
+      ≡ steps_faults l.at l.fn.first l.others;
   kept : l.findings ≡ l.fn.findings;
 }

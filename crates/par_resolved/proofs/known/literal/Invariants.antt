@@ -6,4 +6,5 @@ use Rattle.par_resolved.proofs.known.literal.Given as goal
 
 abbrev pub invariant-loop-clause : goal.invariant-loop-clause
 invariant-loop-clause l =
-    l.made.items ≡ map (λ c. with_lock_set (clause_of (seen l.numbers) c)) (take l.clause-index l.clauses)
+    l.made.items ≡ map (λ c. with_lock_set (clause_of (seen l.numbers) c))
+    (take l.clause-index l.clauses)

@@ -5,4 +5,5 @@ use Rattle.par_resolved.specs.Seen.{seen}
 use Rattle.par_resolved.proofs.known.lock_set.Given as goal
 
 abbrev pub invariant-loop-lock : goal.invariant-loop-lock
-invariant-loop-lock l = l.set ≡ set_of (map (lock_number (seen l.numbers)) (take l.lock-index l.locks))
+invariant-loop-lock l =
+    l.set ≡ set_of (map (lock_number (seen l.numbers)) (take l.lock-index l.locks))

@@ -8,4 +8,5 @@ use Rattle.par_resolved.proofs.literals.first_literal.Given as goal
 -- the first found so far, with those of what is left
 abbrev pub invariant-loop-e : goal.invariant-loop-e
 invariant-loop-e l =
-    first_of l.findings (flat_map literal_faults (all_of (drop l.e-index l.exprs))) ≡ first_of None (flat_map literal_faults (all_of l.exprs))
+    first_of l.findings (flat_map literal_faults (all_of (drop l.e-index l.exprs)))
+    ≡ first_of None (flat_map literal_faults (all_of l.exprs))

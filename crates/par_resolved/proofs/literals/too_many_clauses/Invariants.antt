@@ -7,4 +7,5 @@ use Rattle.par_resolved.proofs.literals.too_many_clauses.Given as goal
 -- what is left is searched
 abbrev pub invariant-loop-term : goal.invariant-loop-term
 invariant-loop-term l =
-    find (λ n. nat_lt MOST_CLAUSES n) (flat_map literal_sizes (drop l.term-index l.terms)) ≡ find (λ n. nat_lt MOST_CLAUSES n) (flat_map literal_sizes l.terms)
+    find (λ n. nat_lt MOST_CLAUSES n) (flat_map literal_sizes (drop l.term-index l.terms))
+    ≡ find (λ n. nat_lt MOST_CLAUSES n) (flat_map literal_sizes l.terms)

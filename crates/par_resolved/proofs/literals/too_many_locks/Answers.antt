@@ -6,10 +6,12 @@ use Rattle.par_resolved.proofs.literals.too_many_locks.Goals as goal
 
 pub returns-in-Some : goal.returns-in-Some
 returns-in-Some c =
-    search_ends (λ n. nat_lt MOST_LOCKS n) literal_locks c.args.terms.now c.loop-term.term-index c.term-item.result c.in-Some.count _ c.loop-term-test.true c.term-item.is
+    search_ends (λ n. nat_lt MOST_LOCKS n) literal_locks c.args.terms.now c.loop-term.term-index
+    c.term-item.result c.in-Some.count _ c.loop-term-test.true c.term-item.is
     c.in-Some.ensures c.loop-term.invariant
 
 pub loop-term-preserved : goal.loop-term-preserved
 loop-term-preserved c =
-    search_on (λ n. nat_lt MOST_LOCKS n) literal_locks c.args.terms.now c.loop-term.term-index c.term-item.result _ c.loop-term-test.true c.term-item.is
+    search_on (λ n. nat_lt MOST_LOCKS n) literal_locks c.args.terms.now c.loop-term.term-index
+    c.term-item.result _ c.loop-term-test.true c.term-item.is
     c.in-None.ensures c.loop-term.invariant

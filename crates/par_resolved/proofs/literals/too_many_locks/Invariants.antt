@@ -7,4 +7,5 @@ use Rattle.par_resolved.proofs.literals.too_many_locks.Given as goal
 -- what is left is searched
 abbrev pub invariant-loop-term : goal.invariant-loop-term
 invariant-loop-term l =
-    find (λ n. nat_lt MOST_LOCKS n) (flat_map literal_locks (drop l.term-index l.terms)) ≡ find (λ n. nat_lt MOST_LOCKS n) (flat_map literal_locks l.terms)
+    find (λ n. nat_lt MOST_LOCKS n) (flat_map literal_locks (drop l.term-index l.terms))
+    ≡ find (λ n. nat_lt MOST_LOCKS n) (flat_map literal_locks l.terms)

@@ -6,10 +6,12 @@ use Rattle.par_resolved.proofs.scope.first_join.Goals as goal
 
 pub loop-e-preserved : goal.loop-e-preserved
 loop-e-preserved c =
-    note_more (expression_faults (known_seen c.args.known.now)) c.args.exprs.now c.loop-e.e-index c.e-item.result c.loop-e.findings c.value_of.new.findings _ c.loop-e-test.true c.e-item.is
+    note_more (expression_faults (known_seen c.args.known.now)) c.args.exprs.now c.loop-e.e-index
+    c.e-item.result c.loop-e.findings c.value_of.new.findings _ c.loop-e-test.true c.e-item.is
     c.in_ok-value_of.ensures.found c.loop-e.invariant
 
 pub returns : goal.returns
 returns c =
     c.first.ensures
-    ∙ noted_all (expression_faults (known_seen c.args.known.now)) c.args.exprs.now c.loop-e.e-index c.loop-e.findings _ c.loop-e-test.false c.loop-e.invariant
+    ∙ noted_all (expression_faults (known_seen c.args.known.now)) c.args.exprs.now c.loop-e.e-index
+    c.loop-e.findings _ c.loop-e-test.false c.loop-e.invariant

@@ -7,4 +7,5 @@ use Rattle.par_resolved.proofs.written.push_fields.Given as goal
 -- those found so far, and those of what is left
 abbrev pub invariant-loop-item : goal.invariant-loop-item
 invariant-loop-item l =
-    all_of l.found.items ++ flat_map (λ f. option_to_list f.policy) (drop l.item-index l.items) ≡ all_of l.fn.found.items ++ flat_map (λ f. option_to_list f.policy) l.items
+    all_of l.found.items ++ flat_map (λ f. option_to_list f.policy) (drop l.item-index l.items)
+    ≡ all_of l.fn.found.items ++ flat_map (λ f. option_to_list f.policy) l.items

@@ -8,4 +8,5 @@ use Rattle.par_resolved.proofs.written.push_locals.Given as goal
 -- those found so far, and those of what is left
 abbrev pub invariant-loop-item : goal.invariant-loop-item
 invariant-loop-item l =
-    all_of l.found.items ++ flat_map stmt_policies (statements_of (drop l.item-index l.items)) ≡ all_of l.fn.found.items ++ flat_map stmt_policies (statements_of l.items)
+    all_of l.found.items ++ flat_map stmt_policies (statements_of (drop l.item-index l.items))
+    ≡ all_of l.fn.found.items ++ flat_map stmt_policies (statements_of l.items)

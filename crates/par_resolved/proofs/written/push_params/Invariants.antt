@@ -7,4 +7,5 @@ use Rattle.par_resolved.proofs.written.push_params.Given as goal
 -- those found so far, and those of what is left
 abbrev pub invariant-loop-item : goal.invariant-loop-item
 invariant-loop-item l =
-    all_of l.found.items ++ flat_map (λ p. option_to_list p.policy) (drop l.item-index l.items) ≡ all_of l.fn.found.items ++ flat_map (λ p. option_to_list p.policy) l.items
+    all_of l.found.items ++ flat_map (λ p. option_to_list p.policy) (drop l.item-index l.items)
+    ≡ all_of l.fn.found.items ++ flat_map (λ p. option_to_list p.policy) l.items

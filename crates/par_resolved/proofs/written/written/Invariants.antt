@@ -7,4 +7,5 @@ use Rattle.par_resolved.proofs.written.written.Given as goal
 -- those found so far, and those of what is left
 abbrev pub invariant-loop-decl : goal.invariant-loop-decl
 invariant-loop-decl l =
-    all_of l.found.items ++ written (all_declared (drop l.decl-index l.program.decls)) ≡ written (all_declared l.program.decls)
+    all_of l.found.items ++ written (all_declared (drop l.decl-index l.program.decls))
+    ≡ written (all_declared l.program.decls)

@@ -1,8 +1,10 @@
 use Rattle.std.proofs.Common.{ap, ◌∙◌}
 use Rattle.par_rules.specs.Numbered.{next_by}
-use Rattle.par_nodes.specs.Seen.{seen_kind, seen_origin, seen_worth, seen_absorber, seen_rules, seen_node}
+use Rattle.par_nodes.specs.Seen.{seen_kind, seen_origin, seen_worth, seen_absorber, seen_rules}
+use Rattle.par_nodes.specs.Seen.{seen_node}
 use Rattle.par_rounds.proofs.Trees.{is_done, is_part, is_test, is_heads, is_leaves, is_worths}
-use Rattle.par_rounds.proofs.Nexts.{node_next, done_next, part_next, test_next, heads_next, leaves_next, worths_next}
+use Rattle.par_rounds.proofs.Nexts.{node_next, done_next, part_next, test_next, heads_next}
+use Rattle.par_rounds.proofs.Nexts.{leaves_next, worths_next}
 use Rattle.par_rounds.proofs.body.+next.Goals as goal
 
 pub next-returns : goal.next-returns

@@ -4,14 +4,18 @@ use Rattle.par_nodes.specs.declared.rule.Rules.TheViews.{the_lemmas}
 use Rattle.par_rules.specs.Lattice.{numbers}
 use Rattle.par_rules.specs.Ranges.{IsFromInRange, IsWorthInRange}
 use Rattle.par_rules.specs.Rules.{way, worth as worth_of}
-use Rattle.par_nodes.specs.Seen.{seen_kind, seen_origin, seen_worth, seen_absorber, seen_rules, seen_node}
+use Rattle.par_nodes.specs.Seen.{seen_kind, seen_origin, seen_worth, seen_absorber, seen_rules}
+use Rattle.par_nodes.specs.Seen.{seen_node}
 use Rattle.par_except.specs.Seen.{seen, MayHaveLocals}
 use Rattle.par_bits.specs.Sets.{has, union}
 use Rattle.par_rounds.specs.Seen.{latest_first, ways_of, AreWide}
 use Rattle.par_rounds.proofs.Trees.{is_done, is_part, is_test, is_heads, is_leaves, is_worths}
 use Rattle.par_rounds.proofs.Events.{took_none}
-use Rattle.par_rounds.proofs.Needs.{part_needs, test_needs, heads_needs, leaves_needs, worths_needs, node_needs, ready_after, rules_after, so_after, so_still, so_first}
-use Rattle.par_rounds.proofs.Arms.{done_goes, part_arm, test_arm, heads_arm, leaves_arm, worths_arm, node_goes}
+use Rattle.par_rounds.proofs.Needs.{part_needs, test_needs, heads_needs, leaves_needs, worths_needs}
+use Rattle.par_rounds.proofs.Needs.{node_needs, ready_after, rules_after, so_after, so_still}
+use Rattle.par_rounds.proofs.Needs.{so_first}
+use Rattle.par_rounds.proofs.Arms.{done_goes, part_arm, test_arm, heads_arm, leaves_arm, worths_arm}
+use Rattle.par_rounds.proofs.Arms.{node_goes}
 use Rattle.par_rounds.proofs.pass.+pass.Goals as goal
 
 pub pass-pass_rules-requires : goal.pass-pass_rules-requires

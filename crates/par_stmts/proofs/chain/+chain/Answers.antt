@@ -8,10 +8,15 @@ use Rattle.par_stmts.proofs.Built.{behind}
 use Rattle.par_stmts.proofs.chain.+chain.Goals as goal
 
 pub chain-returns-then-sees-clause-read : goal.chain-returns-then-sees-clause-read
-chain-returns-then-sees-clause-read t c = opens paragon founded (rw (sym c.sees.ensures ∙ c.if-sees.true)) c.member_assigned.ensures.read
+chain-returns-then-sees-clause-read t c =
+    opens paragon founded (rw (sym c.sees.ensures ∙ c.if-sees.true)) c.member_assigned.ensures.read
 
 pub chain-returns-then-sees-2-clause-read : goal.chain-returns-then-sees-2-clause-read
-chain-returns-then-sees-2-clause-read t c = opens paragon founded (rw (sym c.sees.ensures ∙ c.if-sees.false, sym c.sees-else-sees.ensures ∙ c.if-sees-2.true)) c.member_selected.ensures.read
+chain-returns-then-sees-2-clause-read t c =
+    opens paragon founded (rw (
+      sym c.sees.ensures ∙ c.if-sees.false,
+      sym c.sees-else-sees.ensures ∙ c.if-sees-2.true,
+    )) c.member_selected.ensures.read
 
 pub chain-returns-then-sees-3-clause-read : goal.chain-returns-then-sees-3-clause-read
 chain-returns-then-sees-3-clause-read t c = opens paragon founded
@@ -36,7 +41,9 @@ member_selected-returns-clause-read t c =
     (λ vs. ap (λ e. exp e ∷ vs) (sym c.in_ok-of.ensures)) c.member.ensures.read
 
 pub call_tail-returns-then-sees-clause-read : goal.call_tail-returns-then-sees-clause-read
-call_tail-returns-then-sees-clause-read t c = opens paragon founded (rw (sym c.sees.ensures ∙ c.if-sees.true)) c.member.ensures.read
+call_tail-returns-then-sees-clause-read t c =
+    opens paragon founded (rw (sym c.sees.ensures ∙ c.if-sees.true)) c.member.ensures.read
 
 pub call_tail-returns-else-sees-clause-read : goal.call_tail-returns-else-sees-clause-read
-call_tail-returns-else-sees-clause-read t c = opens paragon founded (rw (sym c.sees.ensures ∙ c.if-sees.false)) c.ended_call.ensures.read
+call_tail-returns-else-sees-clause-read t c =
+    opens paragon founded (rw (sym c.sees.ensures ∙ c.if-sees.false)) c.ended_call.ensures.read

@@ -5,7 +5,9 @@ use Rattle.par_tree.proofs.Founded.{founded}
 use Rattle.par_stmts.proofs.chain.after_this.Goals as goal
 
 pub returns-then-sees-clause-read : goal.returns-then-sees-clause-read
-returns-then-sees-clause-read c = opens paragon founded (rw (sym c.sees.ensures ∙ c.if-sees.true)) c.member.ensures.read
+returns-then-sees-clause-read c =
+    opens paragon founded (rw (sym c.sees.ensures ∙ c.if-sees.true)) c.member.ensures.read
 
 pub returns-else-sees-clause-read : goal.returns-else-sees-clause-read
-returns-else-sees-clause-read c = refuses paragon founded (rw (sym c.sees.ensures ∙ c.if-sees.false))
+returns-else-sees-clause-read c =
+    refuses paragon founded (rw (sym c.sees.ensures ∙ c.if-sees.false))

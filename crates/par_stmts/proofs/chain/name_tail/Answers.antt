@@ -5,10 +5,15 @@ use Rattle.par_tree.proofs.Founded.{founded}
 use Rattle.par_stmts.proofs.chain.name_tail.Goals as goal
 
 pub returns-then-sees-clause-read : goal.returns-then-sees-clause-read
-returns-then-sees-clause-read c = opens paragon founded (rw (sym c.sees.ensures ∙ c.if-sees.true)) c.class_local.ensures.read
+returns-then-sees-clause-read c =
+    opens paragon founded (rw (sym c.sees.ensures ∙ c.if-sees.true)) c.class_local.ensures.read
 
 pub returns-then-sees-2-clause-read : goal.returns-then-sees-2-clause-read
-returns-then-sees-2-clause-read c = opens paragon founded (rw (sym c.sees.ensures ∙ c.if-sees.false, sym c.sees-else-sees.ensures ∙ c.if-sees-2.true)) c.variable_assigned.ensures.read
+returns-then-sees-2-clause-read c =
+    opens paragon founded (rw (
+      sym c.sees.ensures ∙ c.if-sees.false,
+      sym c.sees-else-sees.ensures ∙ c.if-sees-2.true,
+    )) c.variable_assigned.ensures.read
 
 pub returns-then-sees-3-clause-read : goal.returns-then-sees-3-clause-read
 returns-then-sees-3-clause-read c = opens paragon founded

@@ -10,5 +10,6 @@ use Rattle.par_stmts.proofs.chain.variable_assigned.Goals as goal
 
 pub returns-clause-read : goal.returns-clause-read
 returns-clause-read c =
-    behind g.Variable (symbol.kept (sort.Sign signs.ASSIGN) ∷ g.expr ∷ g.sign_ signs.SEMICOLON ∷ symbol.builds g.AssignStmt ∷ []) (exp (shown c.in_ok-target.target) ∷ [])
+    behind g.Variable (symbol.kept (sort.Sign signs.ASSIGN) ∷ g.expr ∷ g.sign_ signs.SEMICOLON
+    ∷ symbol.builds g.AssignStmt ∷ []) (exp (shown c.in_ok-target.target) ∷ [])
     (λ vs. ap (λ e. exp e ∷ vs) (sym c.in_ok-target.ensures)) c.assigned.ensures.read

@@ -87,7 +87,8 @@ decreases-catch l = 8 * length l.cursor.now.left.now + 0
 -- what is found so far, and the tokens that are left, lead on as all do
 abbrev pub invariant-stmts-more : goal.invariant-stmts-more
 invariant-stmts-more l = record {
-  leads : Leads paragon founded (symbol.name g.Stmts ∷ []) [] (input l.fn.cursor) (symbol.name g.MoreStmts ∷ []) (the_stmts l.found) (input l.cursor);
+  leads : Leads paragon founded (symbol.name g.Stmts ∷ []) [] (input l.fn.cursor)
+      (symbol.name g.MoreStmts ∷ []) (the_stmts l.found) (input l.cursor);
   shorter : length l.cursor.left.now ≤ length l.fn.cursor.left.now;
 }
 
@@ -97,7 +98,8 @@ decreases-stmts-more l = length l.cursor.left.now
 -- what is found so far, and the tokens that are left, lead on as all do
 abbrev pub invariant-more_catches-more : goal.invariant-more_catches-more
 invariant-more_catches-more l = record {
-  leads : Leads paragon founded (symbol.name g.MoreCatches ∷ []) (the_catches l.fn.found) (input l.fn.cursor) (symbol.name g.MoreCatches ∷ []) (the_catches l.found) (input l.cursor);
+  leads : Leads paragon founded (symbol.name g.MoreCatches ∷ []) (the_catches l.fn.found)
+      (input l.fn.cursor) (symbol.name g.MoreCatches ∷ []) (the_catches l.found) (input l.cursor);
   shorter : length l.cursor.left.now ≤ length l.fn.cursor.left.now;
 }
 

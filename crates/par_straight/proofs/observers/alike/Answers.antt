@@ -9,5 +9,7 @@ use Rattle.par_straight.proofs.observers.alike.Goals as goal
 pub returns : goal.returns
 returns c =
     let o = observer c.args.actor c.args.locks.now in
-    let Answers : Bool → Type 0 = λ t. IsTrue t ↔ Alike (subject c.args.program.now) o c.args.a.now c.args.b.now in
-    subst Answers (sym c.give_alike.ensures) (alike_iff c.args.program.now o c.args.a.now c.args.b.now)
+    let Answers : Bool → Type 0 =
+    λ t. IsTrue t ↔ Alike (subject c.args.program.now) o c.args.a.now c.args.b.now in
+    subst Answers (sym c.give_alike.ensures)
+    (alike_iff c.args.program.now o c.args.a.now c.args.b.now)

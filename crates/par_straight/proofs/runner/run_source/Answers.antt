@@ -14,7 +14,9 @@ returns-then-not-enter-2 c =
     let short : m.left < steps_of step.action = subst (λ k. m.left < k) c.steps_of.ensures few in
     let whole = source_run c.args.program.now c.args.inputs.now c.args.bound in
     ap run_of c.finish-then-not-enter-2.ensures
-    ∙ step_stops c.args.program.now c.args.inputs.now c.as_slice-step-items.result.now c.loop-step.step-index step m c.enter-in-loop-step.new.self whole c.loop-step-test.true c.step-item.is c.loop-step.invariant short (entered.kept refl)
+    ∙ step_stops c.args.program.now c.args.inputs.now c.as_slice-step-items.result.now
+    c.loop-step.step-index step m c.enter-in-loop-step.new.self whole c.loop-step-test.true
+    c.step-item.is c.loop-step.invariant short (entered.kept refl)
 
 pub loop-step-preserved : goal.loop-step-preserved
 loop-step-preserved c =
@@ -26,4 +28,7 @@ loop-step-preserved c =
     let enough : steps_of step.action ≤ m.left = subst (λ k. k ≤ m.left) c.steps_of.ensures many in
     let whole = source_run c.args.program.now c.args.inputs.now c.args.bound in
     let enters = entered.taken refl ∙ ap (λ k. record m { left = m.left - k }) c.steps_of.ensures in
-    step_goes c.args.program.now c.args.inputs.now c.as_slice-step-items.result.now c.loop-step.step-index step m c.enter-in-loop-step.new.self c.perform.new.self whole c.loop-step-test.true c.step-item.is c.loop-step.invariant enough enters done.state done.events done.left
+    step_goes c.args.program.now c.args.inputs.now c.as_slice-step-items.result.now
+    c.loop-step.step-index step m c.enter-in-loop-step.new.self c.perform.new.self whole
+    c.loop-step-test.true c.step-item.is c.loop-step.invariant enough enters done.state
+    done.events done.left

@@ -6,5 +6,7 @@ use Rattle.par_straight.proofs.runner.run_source.Given as goal
 -- what has happened, and then the statements that are left, is the whole run
 abbrev pub invariant-loop-step : goal.invariant-loop-step
 invariant-loop-step l =
-    follow (witnesses l.progress.events) (all l.program (drop l.step-index l.step-items) ends (state_of l.program l.inputs l.progress) l.progress.left)
+    follow (witnesses l.progress.events)
+    (all l.program (drop l.step-index l.step-items) ends
+    (state_of l.program l.inputs l.progress) l.progress.left)
     ≡ source_run l.program l.inputs l.bound

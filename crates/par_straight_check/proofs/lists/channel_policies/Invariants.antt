@@ -8,5 +8,6 @@ use Rattle.par_straight_check.proofs.lists.channel_policies.Given as goal
 abbrev pub invariant-loop-channel : goal.invariant-loop-channel
 invariant-loop-channel l = record {
   many : length l.policies.items ≡ l.channel-index;
-  each : (n : ℕ) → n < l.channel-index → IsSeenAlike (policy_at l.policies.items n) (channel_policy_of (slice_get l.channels n));
+  each : (n : ℕ) → n < l.channel-index
+      → IsSeenAlike (policy_at l.policies.items n) (channel_policy_of (slice_get l.channels n));
 }

@@ -8,5 +8,6 @@ use Rattle.par_straight_check.proofs.lists.field_policies.Given as goal
 abbrev pub invariant-loop-field : goal.invariant-loop-field
 invariant-loop-field l = record {
   many : length l.policies.items ≡ l.field-index;
-  each : (n : ℕ) → n < l.field-index → IsSeenAlike (policy_at l.policies.items n) (field_policy_of (slice_get l.fields n));
+  each : (n : ℕ) → n < l.field-index
+      → IsSeenAlike (policy_at l.policies.items n) (field_policy_of (slice_get l.fields n));
 }

@@ -11,7 +11,9 @@ returns-in-Constant c = rw c.in-Constant.is c.put_number.ensures
 pub returns-in-Local : goal.returns-in-Local
 returns-in-Local c =
     rw c.in-Local.is
-    (subst (λ (i : Instr). OnOk c.put_plain.result (Emits c.args.program.now 1 (λ k. plain i ∷ k) c.args.draft.now c.put_plain.new.draft)) c.load.ensures.is c.put_plain.ensures)
+    (subst (λ (i : Instr). OnOk c.put_plain.result
+    (Emits c.args.program.now 1 (λ k. plain i ∷ k) c.args.draft.now c.put_plain.new.draft))
+    c.load.ensures.is c.put_plain.ensures)
 
 pub returns-in-Field : goal.returns-in-Field
 returns-in-Field c = rw c.in-Field.is c.put_get.ensures

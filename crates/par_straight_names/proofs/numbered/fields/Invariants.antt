@@ -7,6 +7,8 @@ use Rattle.par_straight_names.proofs.numbered.fields.Given as goal
 
 abbrev pub invariant-loop-member : goal.invariant-loop-member
 invariant-loop-member l = record {
-  declared : IsTrue (list_all (λ m. policy_declared l.scope m.policy) (fields_of (take l.member-index l.members)));
-  numbered : l.found ≡ map (numbered_field l.scope.actors l.scope.locks) (fields_of (take l.member-index l.members));
+  declared : IsTrue (list_all (λ m. policy_declared l.scope m.policy)
+      (fields_of (take l.member-index l.members)));
+  numbered : l.found ≡ map (numbered_field l.scope.actors l.scope.locks)
+      (fields_of (take l.member-index l.members));
 }

@@ -8,5 +8,6 @@ pub returns-clause-alike : goal.returns-clause-alike
 returns-clause-alike c =
     let all : c.loop-actor.actor ≡ c.args.actors = omega arith in
     let made = c.as_slice.ensures.value ∙ c.loop-actor.invariant ∙ ap bottom all in
-    IfOk-weaker c.of.result (λ policy. IsSeenAlike policy c.as_slice.result.now) (λ policy. IsSeenAlike policy (bottom c.args.actors))
+    IfOk-weaker c.of.result (λ policy. IsSeenAlike policy c.as_slice.result.now)
+    (λ policy. IsSeenAlike policy (bottom c.args.actors))
     (λ policy same. subst (IsSeenAlike policy) made same) c.of.ensures.alike

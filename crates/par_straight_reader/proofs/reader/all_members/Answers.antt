@@ -1,39 +1,63 @@
 use Rattle.std.proofs.Common.{◌∷◌, sym, ◌∙◌, arith}
 use Rattle.par_straight.specs.Values as value
-use Rattle.par_straight.proofs.Run.{members_opens, more_members_question, more_members_else, run_builds}
+use Rattle.par_straight.proofs.Run.{members_opens, more_members_question, more_members_else}
+use Rattle.par_straight.proofs.Run.{run_builds}
 use Rattle.par_straight_reader.specs.Reads.{input}
 use Rattle.par_straight_reader.proofs.Failing.{failing}
 use Rattle.par_straight_reader.proofs.reader.all_members.Goals as goal
 
 pub more-init : goal.more-init
 more-init c = record {
-  leads = λ s vs. rw c.new-found.ensures (members_opens s (input c.args.cursor.now) vs ∙ run_builds _ _ _ _);
+  leads =
+      λ s vs. rw c.new-found.ensures
+      (members_opens s (input c.args.cursor.now) vs ∙ run_builds _ _ _ _);
   shorter = omega arith;
 }
 
 pub returns-in_err-take-clause-read : goal.returns-in_err-take-clause-read
 returns-in_err-take-clause-read c =
     failing _ _ _ _ _ _ _ c.from_residual.ensures.1
-    (λ told s vs. c.more.invariant.leads s vs ∙ more_members_question s (input c.more.cursor) (value.members c.more.found ∷ vs) (sym c.sees.ensures ∙ c.more-test.true) ∙ c.in_err-take.ensures.read.err told _ _)
+    (λ told s vs. c.more.invariant.leads s vs
+    ∙ more_members_question s (input c.more.cursor) (value.members c.more.found ∷ vs)
+    (sym c.sees.ensures ∙ c.more-test.true) ∙ c.in_err-take.ensures.read.err told _ _)
 
 pub returns-in_err-policy-clause-read : goal.returns-in_err-policy-clause-read
 returns-in_err-policy-clause-read c =
     failing _ _ _ _ _ _ _ c.from_residual-in_err-policy.ensures.1
-    (λ told s vs. c.more.invariant.leads s vs ∙ more_members_question s (input c.more.cursor) (value.members c.more.found ∷ vs) (sym c.sees.ensures ∙ c.more-test.true) ∙ c.in_ok-take.ensures.read.ok _ _ ∙ c.in_err-policy.ensures.read.err told _ _)
+    (λ told s vs. c.more.invariant.leads s vs
+    ∙ more_members_question s (input c.more.cursor) (value.members c.more.found ∷ vs)
+    (sym c.sees.ensures ∙ c.more-test.true) ∙ c.in_ok-take.ensures.read.ok _ _
+    ∙ c.in_err-policy.ensures.read.err told _ _)
 
 pub returns-in_err-found-clause-read : goal.returns-in_err-found-clause-read
 returns-in_err-found-clause-read c =
     failing _ _ _ _ _ _ _ c.from_residual-in_err-found.ensures.1
-    (λ told s vs. c.more.invariant.leads s vs ∙ more_members_question s (input c.more.cursor) (value.members c.more.found ∷ vs) (sym c.sees.ensures ∙ c.more-test.true) ∙ c.in_ok-take.ensures.read.ok _ _ ∙ c.in_ok-policy.ensures.read.ok _ _ ∙ c.in_err-found.ensures.read.err told _ _)
+    (λ told s vs. c.more.invariant.leads s vs
+    ∙ more_members_question s (input c.more.cursor) (value.members c.more.found ∷ vs)
+    (sym c.sees.ensures ∙ c.more-test.true) ∙ c.in_ok-take.ensures.read.ok _ _
+    ∙ c.in_ok-policy.ensures.read.ok _ _ ∙ c.in_err-found.ensures.read.err told _ _)
 
 pub more-preserved : goal.more-preserved
 more-preserved c = record {
-  leads = λ s vs. c.more.invariant.leads s vs ∙ more_members_question s (input c.more.cursor) (value.members c.more.found ∷ vs) (sym c.sees.ensures ∙ c.more-test.true) ∙ c.in_ok-take.ensures.read.ok _ _ ∙ c.in_ok-policy.ensures.read.ok _ _ ∙ c.in_ok-found.ensures.read.ok _ _;
-  shorter = omega (arith, c.in_ok-take.ensures.shorter, c.in_ok-policy.ensures.shorter, c.in_ok-found.ensures.shorter);
+  leads =
+      λ s vs. c.more.invariant.leads s vs
+      ∙ more_members_question s (input c.more.cursor) (value.members c.more.found ∷ vs)
+      (sym c.sees.ensures ∙ c.more-test.true) ∙ c.in_ok-take.ensures.read.ok _ _
+      ∙ c.in_ok-policy.ensures.read.ok _ _ ∙ c.in_ok-found.ensures.read.ok _ _;
+  shorter =
+      omega (
+        arith,
+        c.in_ok-take.ensures.shorter,
+        c.in_ok-policy.ensures.shorter,
+        c.in_ok-found.ensures.shorter,
+      );
 }
 
 pub returns-clause-read : goal.returns-clause-read
 returns-clause-read c = record {
-  ok = λ s vs. c.more.invariant.leads s vs ∙ more_members_else s (input c.more.cursor) (value.members c.more.found ∷ vs) (sym c.sees.ensures ∙ c.more-test.false);
+  ok =
+      λ s vs. c.more.invariant.leads s vs
+      ∙ more_members_else s (input c.more.cursor) (value.members c.more.found ∷ vs)
+      (sym c.sees.ensures ∙ c.more-test.false);
   err = tt;
 }

@@ -9,7 +9,9 @@ use Rattle.par_straight_reader.proofs.reader.all_members.Given as goal
 
 abbrev pub invariant-more : goal.invariant-more
 invariant-more l = record {
-  leads : (s : g.Symbols) (vs : Values) → run (symbol.name g.Members ∷ s) (input l.fn.cursor) vs ≡ run (symbol.name g.MoreMembers ∷ s) (input l.cursor) (value.members l.found ∷ vs);
+  leads : (s : g.Symbols) (vs : Values)
+      → run (symbol.name g.Members ∷ s) (input l.fn.cursor) vs
+      ≡ run (symbol.name g.MoreMembers ∷ s) (input l.cursor) (value.members l.found ∷ vs);
   shorter : length l.cursor.left.now ≤ length l.fn.cursor.left.now;
 }
 

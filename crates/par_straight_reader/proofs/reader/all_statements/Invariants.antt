@@ -9,7 +9,9 @@ use Rattle.par_straight_reader.proofs.reader.all_statements.Given as goal
 
 abbrev pub invariant-more : goal.invariant-more
 invariant-more l = record {
-  leads : (s : g.Symbols) (vs : Values) → run (symbol.name g.Statements ∷ s) (input l.fn.cursor) vs ≡ run (symbol.name g.MoreStatements ∷ s) (input l.cursor) (value.statements l.found ∷ vs);
+  leads : (s : g.Symbols) (vs : Values)
+      → run (symbol.name g.Statements ∷ s) (input l.fn.cursor) vs
+      ≡ run (symbol.name g.MoreStatements ∷ s) (input l.cursor) (value.statements l.found ∷ vs);
   shorter : length l.cursor.left.now ≤ length l.fn.cursor.left.now;
 }
 

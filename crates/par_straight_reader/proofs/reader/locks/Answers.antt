@@ -7,23 +7,35 @@ use Rattle.par_straight_reader.proofs.reader.locks.Goals as goal
 
 pub more-init : goal.more-init
 more-init c = record {
-  leads = λ s vs. rw c.new-found.ensures (locks_opens s (input c.args.cursor.now) vs ∙ run_builds _ _ _ _);
+  leads =
+      λ s vs. rw c.new-found.ensures
+      (locks_opens s (input c.args.cursor.now) vs ∙ run_builds _ _ _ _);
   shorter = omega arith;
 }
 
 pub returns-in_err-next-clause-read : goal.returns-in_err-next-clause-read
 returns-in_err-next-clause-read c =
     failing _ _ _ _ _ _ _ c.from_residual.ensures.1
-    (λ told s vs. c.more.invariant.leads s vs ∙ more_locks_lock s (input c.more.cursor) (value.ids c.more.found ∷ vs) (sym c.sees.ensures ∙ c.more-test.true) ∙ c.in_err-next.ensures.read.err told _ _)
+    (λ told s vs. c.more.invariant.leads s vs
+    ∙ more_locks_lock s (input c.more.cursor) (value.ids c.more.found ∷ vs)
+    (sym c.sees.ensures ∙ c.more-test.true) ∙ c.in_err-next.ensures.read.err told _ _)
 
 pub more-preserved : goal.more-preserved
 more-preserved c = record {
-  leads = λ s vs. rw c.in_ok-push.ensures.ok (c.more.invariant.leads s vs ∙ more_locks_lock s (input c.more.cursor) (value.ids c.more.found ∷ vs) (sym c.sees.ensures ∙ c.more-test.true) ∙ c.in_ok-next.ensures.read.ok _ _ ∙ run_builds _ _ _ _);
+  leads =
+      λ s vs. rw c.in_ok-push.ensures.ok
+      (c.more.invariant.leads s vs
+      ∙ more_locks_lock s (input c.more.cursor) (value.ids c.more.found ∷ vs)
+      (sym c.sees.ensures ∙ c.more-test.true) ∙ c.in_ok-next.ensures.read.ok _ _
+      ∙ run_builds _ _ _ _);
   shorter = omega (arith, c.in_ok-next.ensures.shorter);
 }
 
 pub returns-clause-read : goal.returns-clause-read
 returns-clause-read c = record {
-  ok = λ s vs. c.more.invariant.leads s vs ∙ more_locks_else s (input c.more.cursor) (value.ids c.more.found ∷ vs) (sym c.sees.ensures ∙ c.more-test.false);
+  ok =
+      λ s vs. c.more.invariant.leads s vs
+      ∙ more_locks_else s (input c.more.cursor) (value.ids c.more.found ∷ vs)
+      (sym c.sees.ensures ∙ c.more-test.false);
   err = tt;
 }

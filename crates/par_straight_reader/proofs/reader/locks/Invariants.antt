@@ -9,7 +9,9 @@ use Rattle.par_straight_reader.proofs.reader.locks.Given as goal
 
 abbrev pub invariant-more : goal.invariant-more
 invariant-more l = record {
-  leads : (s : g.Symbols) (vs : Values) → run (symbol.name g.Locks ∷ s) (input l.fn.cursor) vs ≡ run (symbol.name g.MoreLocks ∷ s) (input l.cursor) (value.ids l.found ∷ vs);
+  leads : (s : g.Symbols) (vs : Values)
+      → run (symbol.name g.Locks ∷ s) (input l.fn.cursor) vs
+      ≡ run (symbol.name g.MoreLocks ∷ s) (input l.cursor) (value.ids l.found ∷ vs);
   shorter : length l.cursor.left.now ≤ length l.fn.cursor.left.now;
 }
 

@@ -10,4 +10,5 @@ returns-in_err-statements c =
 pub returns-in_err-end : goal.returns-in_err-end
 returns-in_err-end c =
     failing _ _ _ _ _ _ _ c.from_residual-in_err-end.ensures.1
-    (λ told s vs. c.in_ok-id.ensures.read.ok _ _ ∙ c.in_ok-statements.ensures.ok _ _ ∙ c.in_err-end.ensures.err told _ _)
+    (λ told s vs. c.in_ok-id.ensures.read.ok _ _ ∙ c.in_ok-statements.ensures.ok _ _
+    ∙ c.in_err-end.ensures.err told _ _)

@@ -9,7 +9,9 @@ use Rattle.par_straight_reader.proofs.reader.more_clauses.Given as goal
 
 abbrev pub invariant-more : goal.invariant-more
 invariant-more l = record {
-  leads : (s : g.Symbols) (vs : Values) → run (symbol.name g.MoreClauses ∷ s) (input l.fn.cursor) (value.clauses l.fn.found ∷ vs) ≡ run (symbol.name g.MoreClauses ∷ s) (input l.cursor) (value.clauses l.found ∷ vs);
+  leads : (s : g.Symbols) (vs : Values)
+      → run (symbol.name g.MoreClauses ∷ s) (input l.fn.cursor) (value.clauses l.fn.found ∷ vs)
+      ≡ run (symbol.name g.MoreClauses ∷ s) (input l.cursor) (value.clauses l.found ∷ vs);
   shorter : length l.cursor.left.now ≤ length l.fn.cursor.left.now;
 }
 

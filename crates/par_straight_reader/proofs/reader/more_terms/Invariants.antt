@@ -9,7 +9,9 @@ use Rattle.par_straight_reader.proofs.reader.more_terms.Given as goal
 
 abbrev pub invariant-more : goal.invariant-more
 invariant-more l = record {
-  leads : (s : g.Symbols) (vs : Values) → run (symbol.name g.MoreTerms ∷ s) (input l.fn.cursor) (value.sum l.fn.found ∷ vs) ≡ run (symbol.name g.MoreTerms ∷ s) (input l.cursor) (value.sum l.found ∷ vs);
+  leads : (s : g.Symbols) (vs : Values)
+      → run (symbol.name g.MoreTerms ∷ s) (input l.fn.cursor) (value.sum l.fn.found ∷ vs)
+      ≡ run (symbol.name g.MoreTerms ∷ s) (input l.cursor) (value.sum l.found ∷ vs);
   shorter : length l.cursor.left.now ≤ length l.fn.cursor.left.now;
 }
 

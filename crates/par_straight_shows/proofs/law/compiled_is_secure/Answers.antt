@@ -10,4 +10,5 @@ use Rattle.par_straight_shows.proofs.law.compiled_is_secure.Goals as goal
 pub returns : goal.returns
 returns c =
     λ source p file has accepted is.
-    shown_files_are_secure (target (file ∷ []) p.class) (subject p) (shows p file is (runnable source p has)) (accepted_is_secure source p has accepted)
+    shown_files_are_secure (target (file ∷ []) p.class) (subject p)
+    (shows p file is (runnable source p has)) (accepted_is_secure source p has accepted)

@@ -9,9 +9,11 @@ use Rattle.par_table.proofs.classes.class_infos.Given as goal
 -- those made so far, and those of what is left
 abbrev pub invariant-loop-decl : goal.invariant-loop-decl
 invariant-loop-decl l = record {
-  made : l.made ++ class_infos (resolved_seen l.resolved) l.class l.next (classes_of (drop l.decl-index l.decls))
+  made : l.made ++ class_infos (resolved_seen l.resolved) l.class l.next
+      (classes_of (drop l.decl-index l.decls))
       ≡ class_infos (resolved_seen l.resolved) 0 l.fn.first (classes_of l.decls);
   counted : l.class ≡ l.decl-index;
-  few_fields : l.next + sum_by inferred_count (classes_of (drop l.decl-index l.decls)) ≤ MOST_POLICIES;
+  few_fields : l.next + sum_by inferred_count (classes_of (drop l.decl-index l.decls))
+      ≤ MOST_POLICIES;
   few_nodes : sum_by class_nodes (classes_of (drop l.decl-index l.decls)) < 2 ^ 32;
 }

@@ -7,5 +7,6 @@ use Rattle.par_table.proofs.entries.push_births.Given as goal
 -- those made so far, and those of what is left
 abbrev pub invariant-loop-class : goal.invariant-loop-class
 invariant-loop-class l =
-    l.found.items ++ map (birth_entry (known_seen l.known)) (classes_of (drop l.class-index l.classes))
+    l.found.items ++ map (birth_entry (known_seen l.known))
+    (classes_of (drop l.class-index l.classes))
     ≡ l.fn.found.items ++ map (birth_entry (known_seen l.known)) (classes_of l.classes)

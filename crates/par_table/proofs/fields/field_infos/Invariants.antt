@@ -9,5 +9,6 @@ abbrev pub invariant-loop-field : goal.invariant-loop-field
 invariant-loop-field l = record {
   made : l.made ++ field_infos (resolved_seen l.resolved) l.next (drop l.field-index l.fields)
       ≡ field_infos (resolved_seen l.resolved) l.fn.next l.fields;
-  counted : l.next + count_by (λ f. f.inferred) (drop l.field-index l.fields) ≡ l.fn.next + count_by (λ f. f.inferred) l.fields;
+  counted : l.next + count_by (λ f. f.inferred) (drop l.field-index l.fields)
+      ≡ l.fn.next + count_by (λ f. f.inferred) l.fields;
 }

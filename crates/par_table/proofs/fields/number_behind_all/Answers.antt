@@ -9,10 +9,13 @@ number_behind-behind-requires c = omega (arith, c.requires, c.loop-field.invaria
 
 pub loop-field-preserved : goal.loop-field-preserved
 loop-field-preserved c =
-    fields_left c.loop-field.behind _ _ c.args.fields.now c.loop-field.field-index c.field-item.result c.loop-field-test.true c.field-item.is
+    fields_left c.loop-field.behind _ _ c.args.fields.now c.loop-field.field-index
+    c.field-item.result c.loop-field-test.true c.field-item.is
     c.number_behind-behind.ensures c.loop-field.invariant
 
 pub returns : goal.returns
 returns c =
-    let none = ap (count_by (λ f. f.inferred)) (none_left c.args.fields.now c.loop-field.field-index c.loop-field-test.false) in
+    let none =
+    ap (count_by (λ f. f.inferred))
+    (none_left c.args.fields.now c.loop-field.field-index c.loop-field-test.false) in
     omega (arith, none, c.loop-field.invariant)

@@ -11,7 +11,9 @@ push_family-requires c = omega (arith, c.loop-decl.invariant.few)
 pub ground_count-first-requires : goal.ground_count-first-requires
 ground_count-first-requires c =
     let n = length (resolved_seen c.args.resolved.now).known.numbers.actors in
-    let more = sum_more n c.args.decls.now c.loop-decl.decl-index c.decl-item.result c.loop-decl-test.true c.decl-item.is in
+    let more =
+    sum_more n c.args.decls.now c.loop-decl.decl-index c.decl-item.result c.loop-decl-test.true
+    c.decl-item.is in
     let same = ap (λ k. ground_count k c.decl-item.result.now) c.actor_count-count.ensures in
     omega (arith, more, same, c.loop-decl.invariant.few)
 
@@ -20,11 +22,17 @@ loop-decl-preserved c =
     let r = resolved_seen c.args.resolved.now in
     let n = length r.known.numbers.actors in
     let d = c.decl-item.result in
-    let next : c.loop-decl.first + c.ground_count-first.result ≡ c.loop-decl.first + ground_count n d.now =
-    ap (λ k. c.loop-decl.first + k) (c.ground_count-first.ensures ∙ ap (λ k. ground_count k d.now) c.actor_count-count.ensures) in
-    let more = sum_more n c.args.decls.now c.loop-decl.decl-index d c.loop-decl-test.true c.decl-item.is in
+    let next : c.loop-decl.first + c.ground_count-first.result
+    ≡ c.loop-decl.first + ground_count n d.now =
+    ap (λ k. c.loop-decl.first + k)
+    (c.ground_count-first.ensures ∙ ap (λ k. ground_count k d.now) c.actor_count-count.ensures) in
+    let more =
+    sum_more n c.args.decls.now c.loop-decl.decl-index d c.loop-decl-test.true c.decl-item.is in
     record {
-      made = family_made r c.args.queries.now c.loop-decl.first _ c.args.decls.now c.loop-decl.decl-index d c.loop-decl.found c.push_family.new.found _
-          c.loop-decl-test.true c.decl-item.is c.in_ok-push_family.ensures next c.loop-decl.invariant.made;
+      made =
+          family_made r c.args.queries.now c.loop-decl.first _ c.args.decls.now
+          c.loop-decl.decl-index d c.loop-decl.found c.push_family.new.found _
+          c.loop-decl-test.true c.decl-item.is c.in_ok-push_family.ensures next
+          c.loop-decl.invariant.made;
       few = omega (arith, more, next, c.loop-decl.invariant.few);
     }

@@ -14,9 +14,11 @@ returns c =
     let s = source c.args.program.now in
     let r = resolved_seen c.args.resolved.now in
     let asked = ap all_of c.as_slice.ensures.value ∙ c.in_ok-asked.ensures in
-    let queries = c.in_ok-queries.ensures ∙ ap (λ qs. set_of (map (lock_number r.known.numbers) qs)) asked in
+    let queries =
+    c.in_ok-queries.ensures ∙ ap (λ qs. set_of (map (lock_number r.known.numbers) qs)) asked in
     let decls = ap all_of c.as_slice-2.ensures.value ∙ c.in_ok-decls.ensures in
     subst (λ x. IfOk c.families.result (λ found. found ≡ x))
     (ap (λ qs. ground_locks_from r qs 0 (all_of c.as_slice-2.result.now)) queries
-    ∙ ap (ground_locks_from r (set_of (query_numbers r.known.numbers s)) 0) decls ∙ by_set r (query_numbers r.known.numbers s) 0 (locks s))
+    ∙ ap (ground_locks_from r (set_of (query_numbers r.known.numbers s)) 0) decls
+    ∙ by_set r (query_numbers r.known.numbers s) 0 (locks s))
     c.families.ensures

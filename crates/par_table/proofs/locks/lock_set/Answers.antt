@@ -12,7 +12,8 @@ use Rattle.par_table.proofs.locks.lock_set.Goals as goal
 
 pub loop-lock-preserved : goal.loop-lock-preserved
 loop-lock-preserved c =
-    set_more (λ (r : Bor LockTree). lock_number (seen c.args.numbers.now) r.now) c.args.locks.now c.loop-lock.lock-index c.lock-item.result c.loop-lock.set c.insert.new.self
+    set_more (λ (r : Bor LockTree). lock_number (seen c.args.numbers.now) r.now) c.args.locks.now
+    c.loop-lock.lock-index c.lock-item.result c.loop-lock.set c.insert.new.self
     c.loop-lock-test.true c.lock-item.is c.loop-lock.invariant c.in_ok-insert.ensures.ascending
     (subst (Gains c.loop-lock.set c.insert.new.self) c.lock.ensures c.in_ok-insert.ensures.ok)
 
@@ -20,4 +21,5 @@ pub returns : goal.returns
 returns c =
     let f = lock_number (seen c.args.numbers.now) in
     let all = take_all c.loop-lock.lock-index c.args.locks.now c.loop-lock-test.false in
-    c.loop-lock.invariant ∙ ap (λ rs. set_of (map (λ (r : Bor LockTree). f r.now) rs)) all ∙ ap set_of (of_refs f c.args.locks.now)
+    c.loop-lock.invariant ∙ ap (λ rs. set_of (map (λ (r : Bor LockTree). f r.now) rs)) all
+    ∙ ap set_of (of_refs f c.args.locks.now)

@@ -6,4 +6,5 @@ use Rattle.par_table.proofs.locks.lock_set.Given as goal
 
 -- those of what was gone over
 abbrev pub invariant-loop-lock : goal.invariant-loop-lock
-invariant-loop-lock l = l.set ≡ set_of (map (λ r. lock_number (seen l.numbers) r.now) (take l.lock-index l.locks))
+invariant-loop-lock l =
+    l.set ≡ set_of (map (λ r. lock_number (seen l.numbers) r.now) (take l.lock-index l.locks))

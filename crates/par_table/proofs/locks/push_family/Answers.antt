@@ -12,6 +12,8 @@ pub returns : goal.returns
 returns c =
     let r = resolved_seen c.args.resolved.now in
     subst (λ ls. OnOk c.push_chosen.result (c.push_chosen.new.found ≡ c.args.found.now ++ ls))
-    (made_family r c.args.queries.now c.args.decl.now c.args.first c.actor_count-count.result c.in_ok-policy.policy c.as_slice.result.now
-    c.in_ok-policy.ensures c.actor_count-count.ensures (c.as_slice.ensures ∙ c.in_ok-choices.ensures))
+    (made_family r c.args.queries.now c.args.decl.now c.args.first c.actor_count-count.result
+    c.in_ok-policy.policy c.as_slice.result.now
+    c.in_ok-policy.ensures c.actor_count-count.ensures
+    (c.as_slice.ensures ∙ c.in_ok-choices.ensures))
     c.push_chosen.ensures

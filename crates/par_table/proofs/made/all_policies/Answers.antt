@@ -14,10 +14,13 @@ use Rattle.par_table.proofs.made.all_policies.Goals as goal
 pub returns : goal.returns
 returns c =
     let s = source c.args.program.now in
-    let inferred : Known → List Class → List (List Clause) = λ k cs. flat_map (λ c. inferred_policies k c.fields) cs in
-    let shared = c.in_ok-found.ensures ∙ c.policies.ensures ∙ ap (λ r. r.policies) c.requires.made in
+    let inferred : Known → List Class → List (List Clause) =
+    λ k cs. flat_map (λ c. inferred_policies k c.fields) cs in
+    let shared =
+    c.in_ok-found.ensures ∙ c.policies.ensures ∙ ap (λ r. r.policies) c.requires.made in
     let there = known_seen c.args.resolved.now.known in
     let classes = classes_of c.args.classes.now in
     c.wrap.ensures ∙ c.in_ok-push_inferred.ensures ∙ ap (λ ps. ps ++ inferred there classes) shared
     ∙ ap (λ r. shared_policies (known s) s ++ inferred r.known classes) c.requires.made
-    ∙ ap (λ cs. shared_policies (known s) s ++ inferred (known s) cs) c.requires.classes ∙ sym (all_numbered (known s) s)
+    ∙ ap (λ cs. shared_policies (known s) s ++ inferred (known s) cs) c.requires.classes
+    ∙ sym (all_numbered (known s) s)

@@ -9,7 +9,8 @@ use Rattle.par_table.proofs.methods.method_infos.Given as goal
 -- those made so far, and those of what is left
 abbrev pub invariant-loop-method : goal.invariant-loop-method
 invariant-loop-method l = record {
-  made : l.made ++ map (method_info (resolved_seen l.resolved) l.class) (methods (drop l.method-index l.methods))
+  made : l.made ++ map (method_info (resolved_seen l.resolved) l.class)
+      (methods (drop l.method-index l.methods))
       ≡ map (method_info (resolved_seen l.resolved) l.class) (methods l.methods);
   few : sum_by method_nodes (methods (drop l.method-index l.methods)) < 2 ^ 32;
 }

@@ -6,5 +6,6 @@ use Rattle.par_table.proofs.methods.push_params.Given as goal
 -- those made so far, and those of what is left
 abbrev pub invariant-loop-param : goal.invariant-loop-param
 invariant-loop-param l =
-    l.types ++ map (λ p. type_of (resolved_seen l.resolved).classes p.ty) (drop l.param-index l.params)
+    l.types ++ map (λ p. type_of (resolved_seen l.resolved).classes p.ty)
+    (drop l.param-index l.params)
     ≡ l.fn.types ++ map (λ p. type_of (resolved_seen l.resolved).classes p.ty) l.params

@@ -8,5 +8,7 @@ use Rattle.par_table.proofs.policies.push_inferred.Given as goal
 -- those made so far, and those of what is left
 abbrev pub invariant-loop-class : goal.invariant-loop-class
 invariant-loop-class l =
-    l.found.items ++ flat_map (λ c. inferred_policies (known_seen l.known) c.fields) (classes_of (drop l.class-index l.classes))
-    ≡ l.fn.found.items ++ flat_map (λ c. inferred_policies (known_seen l.known) c.fields) (classes_of l.classes)
+    l.found.items ++ flat_map (λ c. inferred_policies (known_seen l.known) c.fields)
+    (classes_of (drop l.class-index l.classes))
+    ≡ l.fn.found.items ++ flat_map (λ c. inferred_policies (known_seen l.known) c.fields)
+    (classes_of l.classes)

@@ -6,4 +6,5 @@ use Rattle.par_table.proofs.resolved.class_names.Given as goal
 -- those made so far, and those of what is left
 abbrev pub invariant-loop-decl : goal.invariant-loop-decl
 invariant-loop-decl l =
-    texts l.found.items ++ map (λ c. c.id.name) (classes_of (drop l.decl-index l.decls)) ≡ map (λ c. c.id.name) (classes_of l.decls)
+    texts l.found.items ++ map (λ c. c.id.name) (classes_of (drop l.decl-index l.decls))
+    ≡ map (λ c. c.id.name) (classes_of l.decls)

@@ -10,10 +10,12 @@ use Rattle.par_tool.proofs.classes.inputs.Goals as goal
 pub returns-clause-failed : goal.returns-clause-failed
 returns-clause-failed g c =
     let bytes = c.as_slice.result.now in
-    let are : length c.in-Ok.inputs.channels ≡ length (entries (lines_of bytes)) = ap length c.in-Ok.ensures.entries in
+    let are : length c.in-Ok.inputs.channels ≡ length (entries (lines_of bytes)) =
+    ap length c.in-Ok.ensures.entries in
     let same = ap length c.as_slice.ensures.value in
     let short = c.in_ok-text.ensures.short in
-    let few_lines : length c.in-Ok.inputs.channels < 2 ^ 32 = omega (arith, are, same, short, few bytes) in
+    let few_lines : length c.in-Ok.inputs.channels < 2 ^ 32 =
+    omega (arith, are, same, short, few bytes) in
     let first : first_misfit c.args.linked.now (entries (lines_of bytes)) ≡ Some c.in-Some.place =
     ap (first_misfit c.args.linked.now) (sym c.in-Ok.ensures.entries)
     ∙ sym (told_of_few c.args.linked.now c.in-Ok.inputs.channels few_lines)

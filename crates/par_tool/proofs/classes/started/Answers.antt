@@ -19,8 +19,11 @@ returns-in_err-file-clause-failed g c =
     let before : FolderCounts = g.F.Folder.counts c.args.folder.now in
     let after : FolderCounts = g.F.Folder.counts c.main_file.new.folder in
     let h = c.in_err-file.ensures.step in
-    handed c.from_residual.result (failure_of c.in_err-file.field-0.0) (IsFailure (NotRun files before after c.args.main.now c.args.name.now)) c.from_residual.ensures.1
-    (main_fails files c.args.main.now c.args.name.now before after h.0 h.1 c.in_err-file.field-0.0 h.2)
+    handed c.from_residual.result (failure_of c.in_err-file.field-0.0)
+    (IsFailure (NotRun files before after c.args.main.now c.args.name.now))
+    c.from_residual.ensures.1
+    (main_fails files c.args.main.now c.args.name.now before after h.0 h.1
+    c.in_err-file.field-0.0 h.2)
 
 pub returns-in_err-linked-clause-failed : goal.returns-in_err-linked-clause-failed
 returns-in_err-linked-clause-failed g c =
@@ -32,18 +35,24 @@ returns-in_err-linked-clause-failed g c =
     let e = c.in_err-linked.field-0.0 in
     let judged : Judges files main before after (Err e) =
     subst (λ (fs : Option Files). Judges fs main before after (Err e)) c.main_file.ensures.kept
-    (subst (λ (n : Text). Judges (g.F.Folder.files c.main_file.new.folder) n before after (Err e)) c.in_ok-file.ensures.own c.in_err-linked.ensures.judges) in
-    handed c.from_residual-in_err-linked.result (failure_of e) (IsFailure (NotRun files first after main c.args.name.now)) c.from_residual-in_err-linked.ensures.1
-    (program_fails files main c.args.name.now first before after c.in_ok-file.ensures.step.2.1 c.main_file.ensures.none_falls e judged)
+    (subst (λ (n : Text). Judges (g.F.Folder.files c.main_file.new.folder) n before after (Err e))
+    c.in_ok-file.ensures.own c.in_err-linked.ensures.judges) in
+    handed c.from_residual-in_err-linked.result (failure_of e)
+    (IsFailure (NotRun files first after main c.args.name.now))
+    c.from_residual-in_err-linked.ensures.1
+    (program_fails files main c.args.name.now first before after c.in_ok-file.ensures.step.2.1
+    c.main_file.ensures.none_falls e judged)
 
 pub returns-in_err-linked-clause-memory : goal.returns-in_err-linked-clause-memory
 returns-in_err-linked-clause-memory g c =
     let first : FolderCounts = g.F.Folder.counts c.args.folder.now in
     let before : FolderCounts = g.F.Folder.counts c.main_file.new.folder in
     let after : FolderCounts = g.F.Folder.counts c.linked_program.new.folder in
-    handed c.from_residual-in_err-linked.result (failure_of c.in_err-linked.field-0.0) (λ (failure : Failure). failure ≡ Memory → MakesAtMost 130 0 first after)
+    handed c.from_residual-in_err-linked.result (failure_of c.in_err-linked.field-0.0)
+    (λ (failure : Failure). failure ≡ Memory → MakesAtMost 130 0 first after)
     c.from_residual-in_err-linked.ensures.1
-    (λ is. program_wants _ _ first before after c.in_ok-file.ensures.step.2.1 c.in_err-linked.field-0.0 c.in_err-linked.ensures.judges is)
+    (λ is. program_wants _ _ first before after c.in_ok-file.ensures.step.2.1
+    c.in_err-linked.field-0.0 c.in_err-linked.ensures.judges is)
 
 pub returns-in_err-inputs-clause-failed : goal.returns-in_err-inputs-clause-failed
 returns-in_err-inputs-clause-failed g c =
@@ -56,10 +65,17 @@ returns-in_err-inputs-clause-failed g c =
     let all = c.in_ok-linked.linked in
     let judged : Judges files main before between (Ok all) =
     subst (λ (fs : Option Files). Judges fs main before between (Ok all)) c.main_file.ensures.kept
-    (subst (λ (n : Text). Judges (g.F.Folder.files c.main_file.new.folder) n before between (Ok all)) c.in_ok-file.ensures.own c.in_ok-linked.ensures.judges) in
-    let unfit = rw (c.linked_program.ensures.kept, c.main_file.ensures.kept) at c.in_err-inputs.ensures.failed in
-    handed c.from_residual-in_err-inputs.result c.in_err-inputs.field-0.0 (IsFailure (NotRun files first after main c.args.name.now)) c.from_residual-in_err-inputs.ensures.1
-    (fails files main c.args.name.now first before between after all c.in_ok-file.ensures.step.2.1 judged c.inputs.ensures.counted c.main_file.ensures.none_falls c.linked_program.ensures.none_falls
+    (subst (λ (n : Text). Judges (g.F.Folder.files c.main_file.new.folder) n before between
+    (Ok all)) c.in_ok-file.ensures.own c.in_ok-linked.ensures.judges) in
+    let unfit =
+    rw (c.linked_program.ensures.kept, c.main_file.ensures.kept) at
+    c.in_err-inputs.ensures.failed in
+    handed c.from_residual-in_err-inputs.result c.in_err-inputs.field-0.0
+    (IsFailure (NotRun files first after main c.args.name.now))
+    c.from_residual-in_err-inputs.ensures.1
+    (fails files main c.args.name.now first before between after all c.in_ok-file.ensures.step.2.1
+    judged c.inputs.ensures.counted c.main_file.ensures.none_falls
+    c.linked_program.ensures.none_falls
     c.in_err-inputs.field-0.0 unfit)
 
 pub returns-in_err-inputs-clause-memory : goal.returns-in_err-inputs-clause-memory
@@ -69,7 +85,8 @@ returns-in_err-inputs-clause-memory g c =
     let between : FolderCounts = g.F.Folder.counts c.linked_program.new.folder in
     let after : FolderCounts = g.F.Folder.counts c.inputs.new.folder in
     on_memory c.from_residual-in_err-inputs.result
-    (wants _ _ c.args.name.now first before between after c.in_ok-linked.linked c.in_ok-file.ensures.step.2.1 c.in_ok-linked.ensures.judges c.inputs.ensures.counted)
+    (wants _ _ c.args.name.now first before between after c.in_ok-linked.linked
+    c.in_ok-file.ensures.step.2.1 c.in_ok-linked.ensures.judges c.inputs.ensures.counted)
 
 pub start-requires : goal.start-requires
 start-requires g c = begins_there (slice_get c.in_ok-linked.linked 0) c.in_ok-linked.ensures.begun
@@ -85,10 +102,14 @@ returns-in-Ok-clause-started g c =
     let all = c.in_ok-linked.linked in
     let judged : Judges files main before between (Ok all) =
     subst (λ (fs : Option Files). Judges fs main before between (Ok all)) c.main_file.ensures.kept
-    (subst (λ (n : Text). Judges (g.F.Folder.files c.main_file.new.folder) n before between (Ok all)) c.in_ok-file.ensures.own c.in_ok-linked.ensures.judges) in
-    let given = rw (c.linked_program.ensures.kept, c.main_file.ensures.kept) at c.in_ok-inputs.ensures.given in
-    starts files main c.args.name.now first before between after all c.in_ok-file.ensures.step.2.1 judged c.inputs.ensures.counted
-    c.in_ok-file.file c.in_ok-linked.ensures.first c.in_ok-file.ensures.own c.in-Ok.machine c.in_ok-inputs.inputs given c.in-Ok.ensures.files c.in-Ok.ensures.state c.in-Ok.ensures.steps
+    (subst (λ (n : Text). Judges (g.F.Folder.files c.main_file.new.folder) n before between
+    (Ok all)) c.in_ok-file.ensures.own c.in_ok-linked.ensures.judges) in
+    let given =
+    rw (c.linked_program.ensures.kept, c.main_file.ensures.kept) at c.in_ok-inputs.ensures.given in
+    starts files main c.args.name.now first before between after all c.in_ok-file.ensures.step.2.1
+    judged c.inputs.ensures.counted
+    c.in_ok-file.file c.in_ok-linked.ensures.first c.in_ok-file.ensures.own c.in-Ok.machine
+    c.in_ok-inputs.inputs given c.in-Ok.ensures.files c.in-Ok.ensures.state c.in-Ok.ensures.steps
 
 pub returns-in-Err-clause-memory : goal.returns-in-Err-clause-memory
 returns-in-Err-clause-memory g c =
@@ -96,4 +117,5 @@ returns-in-Err-clause-memory g c =
     let before : FolderCounts = g.F.Folder.counts c.main_file.new.folder in
     let between : FolderCounts = g.F.Folder.counts c.linked_program.new.folder in
     let after : FolderCounts = g.F.Folder.counts c.inputs.new.folder in
-    λ is. wants _ _ c.args.name.now first before between after c.in_ok-linked.linked c.in_ok-file.ensures.step.2.1 c.in_ok-linked.ensures.judges c.inputs.ensures.counted
+    λ is. wants _ _ c.args.name.now first before between after c.in_ok-linked.linked
+    c.in_ok-file.ensures.step.2.1 c.in_ok-linked.ensures.judges c.inputs.ensures.counted

@@ -3,7 +3,8 @@ use Rattle.par_words.proofs.Asking.{asks_named, asks_few}
 use Rattle.par_tool.specs.declared.reading.Failure.{Failure}
 use Rattle.par_tool.specs.Answers.{BreaksOff}
 use Rattle.par_tool.proofs.Exact as exactly
-use Rattle.par_tool.proofs.Calls.{words_end, check_ends, compile_ends, trace_ends, trace_fails, run_ends, run_fails}
+use Rattle.par_tool.proofs.Calls.{words_end, check_ends, compile_ends, trace_ends, trace_fails}
+use Rattle.par_tool.proofs.Calls.{run_ends, run_fails}
 use Rattle.par_tool.proofs.Faults.{outcome_said, failure_said}
 use Rattle.par_tool.proofs.tool.tool.Goals as goal
 
@@ -22,37 +23,52 @@ tell_run-requires g c =
 pub returns-in-Err-clause-ends : goal.returns-in-Err-clause-ends
 returns-in-Err-clause-ends g c =
     words_end _ _ _ _ _ _ _ _ c.in-Err.unread c.in-Err.ensures ((refl, refl), refl)
-    (subst (λ (f : Failure). BreaksOff f c.break_off.result (g.S.Sink.held c.args.out.now) (g.S.Sink.held c.break_off.new.out) (g.S.Sink.counts c.args.out.now) (g.S.Sink.counts c.break_off.new.out)) c.into.ensures c.break_off.ensures.said)
+    (subst (λ (f : Failure). BreaksOff f c.break_off.result (g.S.Sink.held c.args.out.now)
+    (g.S.Sink.held c.break_off.new.out) (g.S.Sink.counts c.args.out.now)
+    (g.S.Sink.counts c.break_off.new.out)) c.into.ensures c.break_off.ensures.said)
 
 pub returns-in-Check-clause-ends : goal.returns-in-Check-clause-ends
 returns-in-Check-clause-ends g c =
     let asks = rw c.in-Check.is at c.in-Ok.ensures in
-    check_ends _ _ _ _ _ _ _ _ c.in-Check.file.now c.check.result asks c.check.ensures.counted c.check.ensures.kept c.check.ensures.checked c.check.ensures.failed c.conclude.ensures.said
+    check_ends _ _ _ _ _ _ _ _ c.in-Check.file.now c.check.result asks c.check.ensures.counted
+    c.check.ensures.kept c.check.ensures.checked c.check.ensures.failed c.conclude.ensures.said
 
 pub returns-in-Compile-clause-ends : goal.returns-in-Compile-clause-ends
 returns-in-Compile-clause-ends g c =
     let asks = rw c.in-Compile.is at c.in-Ok.ensures in
-    compile_ends _ _ _ _ _ _ _ _ c.in-Compile.file.now c.compile_file.result asks c.compile_file.ensures.compiled c.compile_file.ensures.failed c.compile_file.ensures.memory c.conclude-in-Compile.ensures.said
+    compile_ends _ _ _ _ _ _ _ _ c.in-Compile.file.now c.compile_file.result asks
+    c.compile_file.ensures.compiled c.compile_file.ensures.failed c.compile_file.ensures.memory
+    c.conclude-in-Compile.ensures.said
 
 pub returns-in-Ok-trace_source-clause-ends : goal.returns-in-Ok-trace_source-clause-ends
 returns-in-Ok-trace_source-clause-ends g c =
     let asks = rw c.in-Trace.is at c.in-Ok.ensures in
-    trace_ends _ _ _ _ _ _ _ _ c.in-Trace.file.now c.in-Trace.inputs.now c.in-Trace.bound c.in-Ok-trace_source.traced.accepted.typed.table c.in-Ok-trace_source.traced.run asks c.in-Ok-trace_source.ensures.counted c.in-Ok-trace_source.ensures.kept c.in-Ok-trace_source.ensures.traced c.tell_trace.ensures.said
+    trace_ends _ _ _ _ _ _ _ _ c.in-Trace.file.now c.in-Trace.inputs.now c.in-Trace.bound
+    c.in-Ok-trace_source.traced.accepted.typed.table c.in-Ok-trace_source.traced.run asks
+    c.in-Ok-trace_source.ensures.counted c.in-Ok-trace_source.ensures.kept
+    c.in-Ok-trace_source.ensures.traced c.tell_trace.ensures.said
 
 pub returns-in-Err-trace_source-clause-ends : goal.returns-in-Err-trace_source-clause-ends
 returns-in-Err-trace_source-clause-ends g c =
     let asks = rw c.in-Trace.is at c.in-Ok.ensures in
-    trace_fails _ _ _ _ _ _ _ _ c.in-Trace.file.now c.in-Trace.inputs.now c.in-Trace.bound c.in-Err-trace_source.failure asks c.in-Err-trace_source.ensures.kept c.in-Err-trace_source.ensures.failed c.in-Err-trace_source.ensures.memory c.break_off-in-Err-trace_source.ensures.said
+    trace_fails _ _ _ _ _ _ _ _ c.in-Trace.file.now c.in-Trace.inputs.now c.in-Trace.bound
+    c.in-Err-trace_source.failure asks c.in-Err-trace_source.ensures.kept
+    c.in-Err-trace_source.ensures.failed c.in-Err-trace_source.ensures.memory
+    c.break_off-in-Err-trace_source.ensures.said
 
 pub returns-in-Ok-started-clause-ends : goal.returns-in-Ok-started-clause-ends
 returns-in-Ok-started-clause-ends g c =
     let asks = rw c.in-Run.is at c.in-Ok.ensures in
-    run_ends _ _ _ _ _ _ _ _ c.in-Run.main.now c.in-Run.inputs.now c.in-Run.steps c.in-Ok-started.machine asks c.in-Ok-started.ensures.kept c.in-Ok-started.ensures.started c.tell_run.ensures.said
+    run_ends _ _ _ _ _ _ _ _ c.in-Run.main.now c.in-Run.inputs.now c.in-Run.steps
+    c.in-Ok-started.machine asks c.in-Ok-started.ensures.kept c.in-Ok-started.ensures.started
+    c.tell_run.ensures.said
 
 pub returns-in-Err-started-clause-ends : goal.returns-in-Err-started-clause-ends
 returns-in-Err-started-clause-ends g c =
     let asks = rw c.in-Run.is at c.in-Ok.ensures in
-    run_fails _ _ _ _ _ _ _ _ c.in-Run.main.now c.in-Run.inputs.now c.in-Run.steps c.in-Err-started.failure asks c.in-Err-started.ensures.kept c.in-Err-started.ensures.failed c.in-Err-started.ensures.memory c.break_off-in-Err-started.ensures.said
+    run_fails _ _ _ _ _ _ _ _ c.in-Run.main.now c.in-Run.inputs.now c.in-Run.steps
+    c.in-Err-started.failure asks c.in-Err-started.ensures.kept c.in-Err-started.ensures.failed
+    c.in-Err-started.ensures.memory c.break_off-in-Err-started.ensures.said
 
 pub returns-in-Err-clause-usage : goal.returns-in-Err-clause-usage
 returns-in-Err-clause-usage g c = exactly.usage _ _ _ _ _ _ _ _ (returns-in-Err-clause-ends g c)
@@ -61,19 +77,24 @@ pub returns-in-Check-clause-usage : goal.returns-in-Check-clause-usage
 returns-in-Check-clause-usage g c = exactly.usage _ _ _ _ _ _ _ _ (returns-in-Check-clause-ends g c)
 
 pub returns-in-Compile-clause-usage : goal.returns-in-Compile-clause-usage
-returns-in-Compile-clause-usage g c = exactly.usage _ _ _ _ _ _ _ _ (returns-in-Compile-clause-ends g c)
+returns-in-Compile-clause-usage g c =
+    exactly.usage _ _ _ _ _ _ _ _ (returns-in-Compile-clause-ends g c)
 
 pub returns-in-Ok-trace_source-clause-usage : goal.returns-in-Ok-trace_source-clause-usage
-returns-in-Ok-trace_source-clause-usage g c = exactly.usage _ _ _ _ _ _ _ _ (returns-in-Ok-trace_source-clause-ends g c)
+returns-in-Ok-trace_source-clause-usage g c =
+    exactly.usage _ _ _ _ _ _ _ _ (returns-in-Ok-trace_source-clause-ends g c)
 
 pub returns-in-Err-trace_source-clause-usage : goal.returns-in-Err-trace_source-clause-usage
-returns-in-Err-trace_source-clause-usage g c = exactly.usage _ _ _ _ _ _ _ _ (returns-in-Err-trace_source-clause-ends g c)
+returns-in-Err-trace_source-clause-usage g c =
+    exactly.usage _ _ _ _ _ _ _ _ (returns-in-Err-trace_source-clause-ends g c)
 
 pub returns-in-Ok-started-clause-usage : goal.returns-in-Ok-started-clause-usage
-returns-in-Ok-started-clause-usage g c = exactly.usage _ _ _ _ _ _ _ _ (returns-in-Ok-started-clause-ends g c)
+returns-in-Ok-started-clause-usage g c =
+    exactly.usage _ _ _ _ _ _ _ _ (returns-in-Ok-started-clause-ends g c)
 
 pub returns-in-Err-started-clause-usage : goal.returns-in-Err-started-clause-usage
-returns-in-Err-started-clause-usage g c = exactly.usage _ _ _ _ _ _ _ _ (returns-in-Err-started-clause-ends g c)
+returns-in-Err-started-clause-usage g c =
+    exactly.usage _ _ _ _ _ _ _ _ (returns-in-Err-started-clause-ends g c)
 
 pub returns-in-Err-clause-exact : goal.returns-in-Err-clause-exact
 returns-in-Err-clause-exact g c = exactly.exact _ _ _ _ _ _ _ _ (returns-in-Err-clause-ends g c)
@@ -82,32 +103,44 @@ pub returns-in-Check-clause-exact : goal.returns-in-Check-clause-exact
 returns-in-Check-clause-exact g c = exactly.exact _ _ _ _ _ _ _ _ (returns-in-Check-clause-ends g c)
 
 pub returns-in-Compile-clause-exact : goal.returns-in-Compile-clause-exact
-returns-in-Compile-clause-exact g c = exactly.exact _ _ _ _ _ _ _ _ (returns-in-Compile-clause-ends g c)
+returns-in-Compile-clause-exact g c =
+    exactly.exact _ _ _ _ _ _ _ _ (returns-in-Compile-clause-ends g c)
 
 pub returns-in-Ok-trace_source-clause-exact : goal.returns-in-Ok-trace_source-clause-exact
-returns-in-Ok-trace_source-clause-exact g c = exactly.exact _ _ _ _ _ _ _ _ (returns-in-Ok-trace_source-clause-ends g c)
+returns-in-Ok-trace_source-clause-exact g c =
+    exactly.exact _ _ _ _ _ _ _ _ (returns-in-Ok-trace_source-clause-ends g c)
 
 pub returns-in-Err-trace_source-clause-exact : goal.returns-in-Err-trace_source-clause-exact
-returns-in-Err-trace_source-clause-exact g c = exactly.exact _ _ _ _ _ _ _ _ (returns-in-Err-trace_source-clause-ends g c)
+returns-in-Err-trace_source-clause-exact g c =
+    exactly.exact _ _ _ _ _ _ _ _ (returns-in-Err-trace_source-clause-ends g c)
 
 pub returns-in-Ok-started-clause-exact : goal.returns-in-Ok-started-clause-exact
-returns-in-Ok-started-clause-exact g c = exactly.exact _ _ _ _ _ _ _ _ (returns-in-Ok-started-clause-ends g c)
+returns-in-Ok-started-clause-exact g c =
+    exactly.exact _ _ _ _ _ _ _ _ (returns-in-Ok-started-clause-ends g c)
 
 pub returns-in-Err-started-clause-exact : goal.returns-in-Err-started-clause-exact
-returns-in-Err-started-clause-exact g c = exactly.exact _ _ _ _ _ _ _ _ (returns-in-Err-started-clause-ends g c)
+returns-in-Err-started-clause-exact g c =
+    exactly.exact _ _ _ _ _ _ _ _ (returns-in-Err-started-clause-ends g c)
 
 pub returns-in-Check-clause-faults_are_told : goal.returns-in-Check-clause-faults_are_told
 returns-in-Check-clause-faults_are_told g c =
-    λ alone four five six. outcome_said _ _ _ _ _ _ _ four five six c.check.result c.conclude.ensures.said (c.check.ensures.faults_are_told alone)
+    λ alone four five six. outcome_said _ _ _ _ _ _ _ four five six c.check.result
+    c.conclude.ensures.said (c.check.ensures.faults_are_told alone)
 
 pub returns-in-Compile-clause-faults_are_told : goal.returns-in-Compile-clause-faults_are_told
 returns-in-Compile-clause-faults_are_told g c =
-    λ alone four five six. outcome_said _ _ _ _ _ _ _ four five six c.compile_file.result c.conclude-in-Compile.ensures.said (c.compile_file.ensures.faults_are_told alone)
+    λ alone four five six. outcome_said _ _ _ _ _ _ _ four five six c.compile_file.result
+    c.conclude-in-Compile.ensures.said (c.compile_file.ensures.faults_are_told alone)
 
-pub returns-in-Err-trace_source-clause-faults_are_told : goal.returns-in-Err-trace_source-clause-faults_are_told
+pub returns-in-Err-trace_source-clause-faults_are_told
+    : goal.returns-in-Err-trace_source-clause-faults_are_told
 returns-in-Err-trace_source-clause-faults_are_told g c =
-    λ alone four five six. failure_said _ _ _ _ _ _ _ four five six c.in-Err-trace_source.failure c.break_off-in-Err-trace_source.ensures.said (c.in-Err-trace_source.ensures.faults_are_told alone)
+    λ alone four five six. failure_said _ _ _ _ _ _ _ four five six c.in-Err-trace_source.failure
+    c.break_off-in-Err-trace_source.ensures.said
+    (c.in-Err-trace_source.ensures.faults_are_told alone)
 
-pub returns-in-Err-started-clause-faults_are_told : goal.returns-in-Err-started-clause-faults_are_told
+pub returns-in-Err-started-clause-faults_are_told
+    : goal.returns-in-Err-started-clause-faults_are_told
 returns-in-Err-started-clause-faults_are_told g c =
-    λ alone four five six. failure_said _ _ _ _ _ _ _ four five six c.in-Err-started.failure c.break_off-in-Err-started.ensures.said (c.in-Err-started.ensures.faults_are_told alone)
+    λ alone four five six. failure_said _ _ _ _ _ _ _ four five six c.in-Err-started.failure
+    c.break_off-in-Err-started.ensures.said (c.in-Err-started.ensures.faults_are_told alone)

@@ -17,9 +17,12 @@ returns-in_err-tell_events-clause-untold g c =
     let before = g.S.Sink.counts c.args.out.now in
     let after = g.S.Sink.counts c.tell_events.new.out in
     let last : List Text = line (ending_text (Fine c.args.run.now.ending)) ∷ [] in
-    handed c.from_residual.result u (IsCutOff (lines c.args.table.now (run_of c.args.run.now)) old new before after) c.from_residual.ensures.1
+    handed c.from_residual.result u
+    (IsCutOff (lines c.args.table.now (run_of c.args.run.now)) old new before after)
+    c.from_residual.ensures.1
     (cut-longer (told c.args.table.now c.args.run.now.events) last u old new before after
-    (subst (λ (es : List SourceEvent). IsCutOff (told c.args.table.now es) old new before after u) c.as_slice.ensures c.in_err-tell_events.ensures.untold))
+    (subst (λ (es : List SourceEvent). IsCutOff (told c.args.table.now es) old new before after u)
+    c.as_slice.ensures c.in_err-tell_events.ensures.untold))
 
 pub returns-clause-put : goal.returns-clause-put
 returns-clause-put g c =
@@ -27,9 +30,11 @@ returns-clause-put g c =
     let held = g.S.Sink.held c.tell_events.new.out in
     let before = g.S.Sink.counts c.args.out.now in
     let between = g.S.Sink.counts c.tell_events.new.out in
-    ends-put (told c.args.table.now c.args.run.now.events) (line (ending_text (Fine c.args.run.now.ending))) old held (g.S.Sink.held c.tell_ending.new.out)
+    ends-put (told c.args.table.now c.args.run.now.events)
+    (line (ending_text (Fine c.args.run.now.ending))) old held (g.S.Sink.held c.tell_ending.new.out)
     before between (g.S.Sink.counts c.tell_ending.new.out)
-    (subst (λ (es : List SourceEvent). ArePut (told c.args.table.now es) old held before between) c.as_slice.ensures c.in_ok-tell_events.ensures.put)
+    (subst (λ (es : List SourceEvent). ArePut (told c.args.table.now es) old held before between)
+    c.as_slice.ensures c.in_ok-tell_events.ensures.put)
     c.tell_ending.result c.tell_ending.ensures.counted c.tell_ending.ensures.put
 
 pub returns-clause-untold : goal.returns-clause-untold
@@ -38,7 +43,9 @@ returns-clause-untold g c =
     let held = g.S.Sink.held c.tell_events.new.out in
     let before = g.S.Sink.counts c.args.out.now in
     let between = g.S.Sink.counts c.tell_events.new.out in
-    ends-cut (told c.args.table.now c.args.run.now.events) (line (ending_text (Fine c.args.run.now.ending))) old held (g.S.Sink.held c.tell_ending.new.out)
+    ends-cut (told c.args.table.now c.args.run.now.events)
+    (line (ending_text (Fine c.args.run.now.ending))) old held (g.S.Sink.held c.tell_ending.new.out)
     before between (g.S.Sink.counts c.tell_ending.new.out)
-    (subst (λ (es : List SourceEvent). ArePut (told c.args.table.now es) old held before between) c.as_slice.ensures c.in_ok-tell_events.ensures.put)
+    (subst (λ (es : List SourceEvent). ArePut (told c.args.table.now es) old held before between)
+    c.as_slice.ensures c.in_ok-tell_events.ensures.put)
     c.tell_ending.result c.in_ok-tell_events.ensures.faults_never_fall c.tell_ending.ensures.untold

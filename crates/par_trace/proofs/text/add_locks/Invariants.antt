@@ -5,4 +5,5 @@ use Rattle.par_trace.proofs.text.add_locks.Given as goal
 
 abbrev pub invariant-loop-lock : goal.invariant-loop-lock
 invariant-loop-lock l =
-    l.text.items ≡ l.initial.text.items ++ flat_map (λ y. 32 ∷ lock_text l.table y) (take l.lock-index l.rest)
+    l.text.items ≡ l.initial.text.items
+    ++ flat_map (λ y. 32 ∷ lock_text l.table y) (take l.lock-index l.rest)

@@ -5,8 +5,11 @@ use Rattle.par_tree.proofs.nodes.+stmt.Given as goal
 
 -- counted so far, with those of the statements that are left
 abbrev pub invariant-in_stmts-loop-stmt : goal.invariant-in_stmts-loop-stmt
-invariant-in_stmts-loop-stmt l = l.nodes + all_nodes (all_do (drop l.stmt-index l.stmts)) ≡ all_nodes (all_do l.stmts)
+invariant-in_stmts-loop-stmt l =
+    l.nodes + all_nodes (all_do (drop l.stmt-index l.stmts)) ≡ all_nodes (all_do l.stmts)
 
 -- counted so far, with those of the catches that are left
 abbrev pub invariant-in_catches-loop-catch : goal.invariant-in_catches-loop-catch
-invariant-in_catches-loop-catch l = l.nodes + catch_nodes (all_catch (drop l.catch-index l.catches)) ≡ catch_nodes (all_catch l.catches)
+invariant-in_catches-loop-catch l =
+    l.nodes + catch_nodes (all_catch (drop l.catch-index l.catches))
+    ≡ catch_nodes (all_catch l.catches)

@@ -8,5 +8,6 @@ use Rattle.par_types.proofs.exprs.+expr.Given as goal
 -- what was found so far, and what the arguments that are left break
 abbrev pub invariant-check_args-loop-place : goal.invariant-check_args-loop-place
 invariant-check_args-loop-place l =
-    first_of l.findings (args_faults (seen l.home) l.locals l.callee l.place (all_shown (drop l.place l.args)))
+    first_of l.findings (args_faults (seen l.home) l.locals l.callee l.place
+    (all_shown (drop l.place l.args)))
     ≡ first_of l.fn.findings (args_faults (seen l.home) l.locals l.callee 0 (all_shown l.args))

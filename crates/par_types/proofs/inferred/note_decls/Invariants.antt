@@ -6,5 +6,6 @@ use Rattle.par_types.proofs.inferred.note_decls.Given as goal
 
 -- what was found so far, and what is left
 abbrev pub invariant-loop-decl : goal.invariant-loop-decl
-invariant-loop-decl l = first_of l.findings (all_inferred (all_declared (drop l.decl-index l.decls)))
+invariant-loop-decl l =
+    first_of l.findings (all_inferred (all_declared (drop l.decl-index l.decls)))
     ≡ first_of l.fn.findings (all_inferred (all_declared l.decls))

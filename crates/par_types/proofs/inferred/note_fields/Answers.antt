@@ -5,8 +5,12 @@ use Rattle.par_types.proofs.inferred.note_fields.Goals as goal
 
 pub loop-field-preserved : goal.loop-field-preserved
 loop-field-preserved c =
-    let more = left_more c.args.fields.now c.loop-field.field-index c.field-item.result c.loop-field-test.true c.field-item.is in
+    let more =
+    left_more c.args.fields.now c.loop-field.field-index c.field-item.result c.loop-field-test.true
+    c.field-item.is in
     grind (arith, finds)
 
 pub returns : goal.returns
-returns c = let none = left_none c.args.fields.now c.loop-field.field-index c.loop-field-test.false in grind (arith, finds)
+returns c =
+    let none = left_none c.args.fields.now c.loop-field.field-index c.loop-field-test.false in
+    grind (arith, finds)

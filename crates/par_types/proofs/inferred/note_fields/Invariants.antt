@@ -5,4 +5,6 @@ use Rattle.par_types.proofs.inferred.note_fields.Given as goal
 
 -- what was found so far, and what is left
 abbrev pub invariant-loop-field : goal.invariant-loop-field
-invariant-loop-field l = first_of l.findings (fields_inferred (drop l.field-index l.fields)) ≡ first_of l.fn.findings (fields_inferred l.fields)
+invariant-loop-field l =
+    first_of l.findings (fields_inferred (drop l.field-index l.fields))
+    ≡ first_of l.fn.findings (fields_inferred l.fields)

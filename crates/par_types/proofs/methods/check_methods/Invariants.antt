@@ -7,5 +7,6 @@ use Rattle.par_types.proofs.methods.check_methods.Given as goal
 -- what was found so far, and what is left
 abbrev pub invariant-loop-decl : goal.invariant-loop-decl
 invariant-loop-decl l =
-    first_of l.findings (methods_faults l.table l.names l.class (methods (drop l.decl-index l.decls)))
+    first_of l.findings (methods_faults l.table l.names l.class
+    (methods (drop l.decl-index l.decls)))
     ≡ first_of l.fn.findings (methods_faults l.table l.names l.class (methods l.decls))

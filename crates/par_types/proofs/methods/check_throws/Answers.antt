@@ -5,8 +5,12 @@ use Rattle.par_types.proofs.methods.check_throws.Goals as goal
 
 pub loop-throw-preserved : goal.loop-throw-preserved
 loop-throw-preserved c =
-    let more = left_more c.args.throws.now c.loop-throw.throw-index c.throw-item.result c.loop-throw-test.true c.throw-item.is in
+    let more =
+    left_more c.args.throws.now c.loop-throw.throw-index c.throw-item.result c.loop-throw-test.true
+    c.throw-item.is in
     grind (arith, found_in)
 
 pub returns : goal.returns
-returns c = let none = left_none c.args.throws.now c.loop-throw.throw-index c.loop-throw-test.false in grind (arith, found_in)
+returns c =
+    let none = left_none c.args.throws.now c.loop-throw.throw-index c.loop-throw-test.false in
+    grind (arith, found_in)

@@ -6,4 +6,5 @@ use Rattle.par_types.proofs.methods.declare_params.Given as goal
 -- what was found so far, and what is left
 abbrev pub invariant-loop-param : goal.invariant-loop-param
 invariant-loop-param l =
-    with_params (seen l.home) l.locals (drop l.param-index l.params) ≡ with_params (seen l.home) l.fn.locals l.params
+    with_params (seen l.home) l.locals (drop l.param-index l.params)
+    ≡ with_params (seen l.home) l.fn.locals l.params

@@ -1,4 +1,5 @@
-use Rattle.par_values.proofs.Changes.{takes_and_gives, none_of_members, change_is_given_less_taken, change_is_made, leaving_takes}
+use Rattle.par_values.proofs.Changes.{takes_and_gives, none_of_members, change_is_given_less_taken}
+use Rattle.par_values.proofs.Changes.{change_is_made, leaving_takes}
 use Rattle.par_values.proofs.laws.stack_effect_is_what_is_done.Goals as goal
 
 pub returns-clause-done : goal.returns-clause-done

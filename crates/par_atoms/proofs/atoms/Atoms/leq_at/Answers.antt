@@ -14,13 +14,18 @@ returns-then-not-leq_where c =
     let number = c.loop-number.number in
     let open_locks = members c.args.locks.now in
     let member : IsTrue (has c.args.self.now number) = sym c.has.ensures ∙ c.if-has.true in
-    let bound : c.from.result < length c.args.policies.now = subst (λ n. n < length c.args.policies.now) (sym c.from.ensures) (c.requires number member) in
+    let bound : c.from.result < length c.args.policies.now =
+    subst (λ n. n < length c.args.policies.now) (sym c.from.ensures) (c.requires number member) in
     let at : c.index-policies-from.result ≡ get_or c.args.policies.now c.loop-number.number [] =
-    c.index-policies-from.is ∙ get_or_default _ _ _ [] bound ∙ ap (λ n. get_or c.args.policies.now n []) c.from.ensures in (
+    c.index-policies-from.is ∙ get_or_default _ _ _ [] bound
+    ∙ ap (λ n. get_or c.args.policies.now n []) c.from.ensures in (
       λ no. absurd (false≢true no),
       λ below.
-          let each = (join_below_iff table c.args.self.now open_locks c.args.q.now).0 below number c.loop-number-test.true member in
-          absurd (both_ways c.leq_where.result c.if-not-leq_where.true (c.leq_where.ensures.1 (subst (λ p. IsBelowAt p open_locks c.args.q.now) (sym at) each))),
+          let each =
+          (join_below_iff table c.args.self.now open_locks c.args.q.now).0 below number
+          c.loop-number-test.true member in
+          absurd (both_ways c.leq_where.result c.if-not-leq_where.true
+          (c.leq_where.ensures.1 (subst (λ p. IsBelowAt p open_locks c.args.q.now) (sym at) each))),
     )
 
 pub returns : goal.returns

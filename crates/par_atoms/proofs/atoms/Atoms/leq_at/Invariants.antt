@@ -7,4 +7,5 @@ use Rattle.par_atoms.proofs.atoms.Atoms.leq_at.Given as goal
 
 abbrev pub invariant-loop-number : goal.invariant-loop-number
 invariant-loop-number l =
-    (n : ℕ) → n < l.number → IsTrue (has l.self n) → IsBelowAt (get_or l.policies n []) (members l.opened.locks.now) l.q
+    (n : ℕ) → n < l.number → IsTrue (has l.self n)
+    → IsBelowAt (get_or l.policies n []) (members l.opened.locks.now) l.q

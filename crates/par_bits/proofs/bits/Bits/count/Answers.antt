@@ -8,7 +8,9 @@ use Rattle.par_bits.proofs.bits.Bits.count.Goals as goal
 
 pub overflow_add-members : goal.overflow_add-members
 overflow_add-members g c =
-    let few = few_members c.self.inside.words c.loop-word.word-index c.self.invariant.2 (omega arith) (omega arith) in
+    let few =
+    few_members c.self.inside.words c.loop-word.word-index c.self.invariant.2 (omega arith)
+    (omega arith) in
     omega (arith, few, c.loop-word.invariant)
 
 pub returns : goal.returns

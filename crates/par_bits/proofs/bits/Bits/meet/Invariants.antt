@@ -4,6 +4,7 @@ use Rattle.par_bits.proofs.bits.Bits.meet.Given as goal
 abbrev pub invariant-loop-k : goal.invariant-loop-k
 invariant-loop-k g l = record {
   long : length l.words ≡ g.row.W;
-  below : (j : ℕ) → j < l.k → get_or l.words j 0 ≡ bit_and (get_or l.initial.words j 0) (get_or l.other-inside.words j 0);
+  below : (j : ℕ) → j < l.k → get_or l.words j 0
+      ≡ bit_and (get_or l.initial.words j 0) (get_or l.other-inside.words j 0);
   rest : (j : ℕ) → l.k ≤ j → get_or l.words j 0 ≡ get_or l.initial.words j 0;
 }

@@ -3,26 +3,40 @@ use Rattle.std.specs.Int.{bit_not, w64}
 use Rattle.std.proofs.lemmas.List.{length-set}
 use Rattle.par_bits.specs.Sets.{has, minus}
 use Rattle.par_bits.specs.Words.{AreWords}
-use Rattle.par_bits.proofs.Changed.{changed_more, left_more, all_changed, word_at, AreWords-from, and_below}
+use Rattle.par_bits.proofs.Changed.{changed_more, left_more, all_changed, word_at, AreWords-from}
+use Rattle.par_bits.proofs.Changed.{and_below}
 use Rattle.par_bits.proofs.Members.{has_minus}
 use Rattle.par_bits.proofs.bits.Bits.minus.Goals as goal
 
 pub loop-k-preserved : goal.loop-k-preserved
 loop-k-preserved g c = record {
   long = length-set c.loop-k.words c.loop-k.k _ ∙ c.loop-k.invariant.long;
-  below = changed_more (λ x y. bit_and x (bit_not w64 y)) c.self.inside.words c.other.inside.words c.loop-k.words c.loop-k.k (omega arith) c.loop-k.invariant.below c.loop-k.invariant.rest;
-  rest = left_more (λ x y. bit_and x (bit_not w64 y)) c.self.inside.words c.other.inside.words c.loop-k.words c.loop-k.k _ c.loop-k.invariant.rest;
+  below =
+      changed_more (λ x y. bit_and x (bit_not w64 y)) c.self.inside.words c.other.inside.words
+      c.loop-k.words c.loop-k.k (omega arith) c.loop-k.invariant.below c.loop-k.invariant.rest;
+  rest =
+      left_more (λ x y. bit_and x (bit_not w64 y)) c.self.inside.words c.other.inside.words
+      c.loop-k.words c.loop-k.k _ c.loop-k.invariant.rest;
 }
 
 pub invariant_of-result : goal.invariant_of-result
 invariant_of-result g c =
-    let made = all_changed (λ x y. bit_and x (bit_not w64 y)) c.self.inside.words c.other.inside.words c.loop-k.words c.loop-k.k refl (omega arith) (omega arith) (omega arith) c.loop-k.invariant.below in
+    let made =
+    all_changed (λ x y. bit_and x (bit_not w64 y)) c.self.inside.words c.other.inside.words
+    c.loop-k.words c.loop-k.k refl (omega arith) (omega arith)
+    (omega arith) c.loop-k.invariant.below in
     let words : AreWords c.loop-k.words =
-    AreWords-from c.loop-k.words (λ j. subst (λ w. w < 2 ^ 64) (sym (made j)) (and_below _ _ (word_at c.self.inside.words c.self.invariant.2 j))) in
+    AreWords-from c.loop-k.words
+    (λ j. subst (λ w. w < 2 ^ 64) (sym (made j))
+    (and_below _ _ (word_at c.self.inside.words c.self.invariant.2 j))) in
     (c.loop-k.invariant.long, c.self.invariant.1, words)
 
 pub returns : goal.returns
 returns g c =
-    let made = all_changed (λ x y. bit_and x (bit_not w64 y)) c.self.inside.words c.other.inside.words c.loop-k.words c.loop-k.k refl (omega arith) (omega arith) (omega arith) c.loop-k.invariant.below in
-    has_minus c.loop-k.words c.self.inside.words c.other.inside.words (invariant_of-result g c).2 c.self.invariant.2 c.other.invariant.2 made
+    let made =
+    all_changed (λ x y. bit_and x (bit_not w64 y)) c.self.inside.words c.other.inside.words
+    c.loop-k.words c.loop-k.k refl (omega arith) (omega arith)
+    (omega arith) c.loop-k.invariant.below in
+    has_minus c.loop-k.words c.self.inside.words c.other.inside.words
+    (invariant_of-result g c).2 c.self.invariant.2 c.other.invariant.2 made
     ∙ ap₂ (λ a b. minus (has a) (has b)) c.self.view_is c.other.view_is

@@ -15,4 +15,5 @@ invariant_of-self g c =
 pub returns : goal.returns
 returns g c =
     let inside : c.args.i / 64 < length c.self.inside.words = omega arith in
-    has_adding c.self.inside.words c.args.i c.self.invariant.2 inside ∙ ap (λ kept. adding (has kept) c.args.i) c.self.view_is
+    has_adding c.self.inside.words c.args.i c.self.invariant.2 inside
+    ∙ ap (λ kept. adding (has kept) c.args.i) c.self.view_is

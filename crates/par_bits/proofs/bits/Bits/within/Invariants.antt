@@ -3,4 +3,5 @@ use Rattle.par_bits.proofs.bits.Bits.within.Given as goal
 
 abbrev pub invariant-loop-k : goal.invariant-loop-k
 invariant-loop-k g l =
-    (j : ℕ) → j < l.k → bit_or (get_or l.word-items j 0) (get_or l.other-inside.words j 0) ≡ get_or l.other-inside.words j 0
+    (j : ℕ) → j < l.k → bit_or (get_or l.word-items j 0) (get_or l.other-inside.words j 0)
+    ≡ get_or l.other-inside.words j 0

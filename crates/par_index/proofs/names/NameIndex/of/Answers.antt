@@ -14,6 +14,7 @@ invariant_of-result c =
         places = λ name.
             c.in_ok-firsts.ensures name
             ∙ ap (position (same_text name)) c.as_slice.ensures.value
-            ∙ sym (position-map (bytes_eq name.now) (λ (n : Bor (List ℕ)). n.now) c.args.names.items);
+            ∙ sym (position-map (bytes_eq name.now)
+            (λ (n : Bor (List ℕ)). n.now) c.args.names.items);
       };
     }

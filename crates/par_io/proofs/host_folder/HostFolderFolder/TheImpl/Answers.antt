@@ -5,7 +5,9 @@ use Rattle.par_io.proofs.host_folder.HostFolderFolder.TheImpl.Goals as goal
 
 pub read-tells : goal.read-tells
 read-tells g c =
-    let causes = causes_of_read c.result (counts_of c.args.self.now) (counts_of c.new.self.now) c.ensures.answers in
+    let causes =
+    causes_of_read c.result (counts_of c.args.self.now)
+    (counts_of c.new.self.now) c.ensures.answers in
     record {
       kept = refl;
       counted = c.ensures.counted;
@@ -22,7 +24,9 @@ read-tells g c =
 
 pub write-tells : goal.write-tells
 write-tells g c =
-    let causes = causes_of_write c.result (counts_of c.args.self.now) (counts_of c.new.self.now) c.ensures.answers in
+    let causes =
+    causes_of_write c.result (counts_of c.args.self.now)
+    (counts_of c.new.self.now) c.ensures.answers in
     record {
       counted = c.ensures.counted;
       none_falls = causes.none_falls;

@@ -4,7 +4,9 @@ use Rattle.par_io.proofs.host_sink.HostSinkSink.TheImpl.Goals as goal
 
 pub put-tells : goal.put-tells
 put-tells g c =
-    let causes = causes_of_put c.result c.args.self.now.faults c.new.self.now.faults c.ensures.no_fault c.ensures.fault in
+    let causes =
+    causes_of_put c.result c.args.self.now.faults c.new.self.now.faults c.ensures.no_fault
+    c.ensures.fault in
     record {
       counted = c.ensures.counted;
       faults_never_fall = causes.never_falls;

@@ -12,6 +12,7 @@ returns c =
     let first : take c.len.result c.new-taken.result.items ≡ [] =
     ap (take c.len.result) c.new-taken.ensures.items ∙ take_all c.len.result [] (omega arith) in
     let zeros : c.resize.new.self.items ≡ replicate (length c.args.inputs.channels) 0 =
-    c.in_ok-resize.ensures.items ∙ ap (λ (xs : List ℕ). xs ++ replicate (c.len.result - vec_len c.new-taken.result) 0) first
+    c.in_ok-resize.ensures.items
+    ∙ ap (λ (xs : List ℕ). xs ++ replicate (c.len.result - vec_len c.new-taken.result) 0) first
     ∙ ap (λ (n : ℕ). replicate n 0) many in
     ap (left_of c.args.inputs.channels) zeros ∙ none_taken c.args.inputs.channels

@@ -9,9 +9,11 @@ invariant_of-result c =
     record {
       small = c.requires;
       fields_placed =
-          placed c.as_slice.result.now (fields_of c.args.file.now) c.in_ok-fields.fields c.in_ok-fields.ensures
+          placed c.as_slice.result.now
+          (fields_of c.args.file.now) c.in_ok-fields.fields c.in_ok-fields.ensures
           (ap (map key_named) c.as_slice.ensures.value ∙ c.in_ok-field_keys.ensures);
       methods_placed =
-          placed c.as_slice-2.result.now (methods_of c.args.file.now) c.in_ok-methods.methods c.in_ok-methods.ensures
+          placed c.as_slice-2.result.now
+          (methods_of c.args.file.now) c.in_ok-methods.methods c.in_ok-methods.ensures
           (ap (map key_named) c.as_slice-2.ensures.value ∙ c.in_ok-method_keys.ensures);
     }

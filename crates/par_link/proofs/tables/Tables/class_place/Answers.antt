@@ -12,4 +12,5 @@ narrow-requires c =
     let is = c.place.ensures ∙ c.args.self.now.classes_placed.places c.args.name in
     let many : length (own_names files) ≡ length files = length-map files own_name in
     subst (λ (o : Option ℕ). IfSome o (λ place. place < 2 ^ 16)) (sym is)
-    (place-below (bytes_eq c.args.name.now) (2 ^ 16) (own_names files) (omega (arith, c.args.self.now.few)))
+    (place-below (bytes_eq c.args.name.now) (2 ^ 16) (own_names files)
+    (omega (arith, c.args.self.now.few)))

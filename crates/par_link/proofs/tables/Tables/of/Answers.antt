@@ -9,7 +9,9 @@ invariant_of-result c =
     record {
       few = c.requires.few;
       classes_placed =
-          classes-placed c.as_slice.result.now c.args.files.now c.in_ok-classes.classes c.in_ok-classes.ensures
-          (ap (map (λ (name : Bor Text). name.now)) c.as_slice.ensures.value ∙ c.in_ok-class_names.ensures);
+          classes-placed c.as_slice.result.now c.args.files.now c.in_ok-classes.classes
+          c.in_ok-classes.ensures
+          (ap (map (λ (name : Bor Text). name.now)) c.as_slice.ensures.value
+          ∙ c.in_ok-class_names.ensures);
       each = c.in_ok-members.ensures;
     }

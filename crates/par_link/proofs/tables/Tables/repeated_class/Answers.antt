@@ -10,7 +10,8 @@ use Rattle.par_link.proofs.tables.Tables.repeated_class.Goals as goal
 pub narrow-requires : goal.narrow-requires
 narrow-requires c =
     let files = c.args.self.now.files.now in
-    let is : c.earlier.result ≡ repeated_class files = cc (c.earlier.ensures, c.taken_class.ensures, c.args.self.now.classes_placed.repeated) in
+    let is : c.earlier.result ≡ repeated_class files =
+    cc (c.earlier.ensures, c.taken_class.ensures, c.args.self.now.classes_placed.repeated) in
     let many : length (own_names files) ≡ length files = length-map files own_name in
     subst (λ (o : Option ℕ). IfSome o (λ place. place < 2 ^ 16)) (sym is)
     (earlier-below (2 ^ 16) _ _ (place-below _ (2 ^ 16) files (omega (arith, c.args.self.now.few)))

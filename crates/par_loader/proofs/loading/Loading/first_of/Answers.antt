@@ -12,6 +12,11 @@ returns-in-Some-clause-first c =
     let file = c.args.file.now in
     let n = c.in-Some.first in
     let at : c.class_name_at.result.now ≡ class_name_at file.pool.entries (n + 1) =
-    c.class_name_at.ensures ∙ ap (λ (es : List Constant). class_name_at es (n + 1)) c.as_slice-entries.ensures in
-    ap Some (naming_is file n c.own_name.result.now (n + 1) c.class_name_at.result.now c.own_name.ensures (omega arith) at)
-    ∙ ap (option_map (naming_in file)) (c.in-Some.ensures ∙ ap (λ (es : List Constant). position (names_unread c.args.self.now.files es) es) c.as_slice-entries.ensures)
+    c.class_name_at.ensures ∙ ap
+    (λ (es : List Constant). class_name_at es (n + 1)) c.as_slice-entries.ensures in
+    ap Some (naming_is file n c.own_name.result.now
+    (n + 1) c.class_name_at.result.now c.own_name.ensures (omega arith) at)
+    ∙ ap (option_map (naming_in file))
+    (c.in-Some.ensures
+    ∙ ap (λ (es : List Constant). position (names_unread c.args.self.now.files es) es)
+    c.as_slice-entries.ensures)

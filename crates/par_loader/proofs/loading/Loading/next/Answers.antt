@@ -11,31 +11,47 @@ pub first_of-requires-clause-named : goal.first_of-requires-clause-named
 first_of-requires-clause-named c =
     let files = c.args.self.now.files in
     let x = c.index-files-place.result in
-    let is : x ≡ get_or files c.loop-place.place x = c.index-files-place.is ∙ ap (λ (ys : List ClassFile). get_or ys c.loop-place.place x) c.as_slice-files.ensures in
-    let within : c.loop-place.place < length files = subst (λ (ys : List ClassFile). c.loop-place.place < length ys) c.as_slice-files.ensures c.loop-place-test.true in
-    subst (λ (f : ClassFile). IsName (own_name f)) (sym is) (c.args.self.now.named c.loop-place.place x within)
+    let is : x ≡ get_or files c.loop-place.place x = c.index-files-place.is
+    ∙ ap (λ (ys : List ClassFile). get_or ys c.loop-place.place x) c.as_slice-files.ensures in
+    let within : c.loop-place.place < length files =
+    subst (λ (ys : List ClassFile). c.loop-place.place < length ys) c.as_slice-files.ensures
+    c.loop-place-test.true in
+    subst (λ (f : ClassFile). IsName (own_name f)) (sym is)
+    (c.args.self.now.named c.loop-place.place x within)
 
 pub first_of-requires-clause-spelled : goal.first_of-requires-clause-spelled
 first_of-requires-clause-spelled c =
     let files = c.args.self.now.files in
     let x = c.index-files-place.result in
-    let is : x ≡ get_or files c.loop-place.place x = c.index-files-place.is ∙ ap (λ (ys : List ClassFile). get_or ys c.loop-place.place x) c.as_slice-files.ensures in
-    let within : c.loop-place.place < length files = subst (λ (ys : List ClassFile). c.loop-place.place < length ys) c.as_slice-files.ensures c.loop-place-test.true in
+    let is : x ≡ get_or files c.loop-place.place x = c.index-files-place.is
+    ∙ ap (λ (ys : List ClassFile). get_or ys c.loop-place.place x) c.as_slice-files.ensures in
+    let within : c.loop-place.place < length files =
+    subst (λ (ys : List ClassFile). c.loop-place.place < length ys) c.as_slice-files.ensures
+    c.loop-place-test.true in
     subst IsSpelled (sym is) (c.requires c.loop-place.place x within)
 
 pub returns-in-Some-clause-first : goal.returns-in-Some-clause-first
 returns-in-Some-clause-first c =
     let files = c.args.self.now.files in
     let x = c.index-files-place.result in
-    let is : x ≡ get_or files c.loop-place.place x = c.index-files-place.is ∙ ap (λ (ys : List ClassFile). get_or ys c.loop-place.place x) c.as_slice-files.ensures in
-    let within : c.loop-place.place < length files = subst (λ (ys : List ClassFile). c.loop-place.place < length ys) c.as_slice-files.ensures c.loop-place-test.true in
-    sym (here_place files c.loop-place.place x (naming c.in-Some.mention) within is c.loop-place.invariant (sym c.in-Some.ensures.first))
+    let is : x ≡ get_or files c.loop-place.place x = c.index-files-place.is
+    ∙ ap (λ (ys : List ClassFile). get_or ys c.loop-place.place x) c.as_slice-files.ensures in
+    let within : c.loop-place.place < length files =
+    subst (λ (ys : List ClassFile). c.loop-place.place < length ys) c.as_slice-files.ensures
+    c.loop-place-test.true in
+    sym (here_place files c.loop-place.place x
+    (naming c.in-Some.mention) within is c.loop-place.invariant (sym c.in-Some.ensures.first))
 
 pub loop-place-preserved : goal.loop-place-preserved
 loop-place-preserved c =
     let files = c.args.self.now.files in
     let x = c.index-files-place.result in
-    let is : x ≡ get_or files c.loop-place.place x = c.index-files-place.is ∙ ap (λ (ys : List ClassFile). get_or ys c.loop-place.place x) c.as_slice-files.ensures in
-    let within : c.loop-place.place < length files = subst (λ (ys : List ClassFile). c.loop-place.place < length ys) c.as_slice-files.ensures c.loop-place-test.true in
-    let none : first_of files x ≡ None = no_map naming c.first_of.result (first_of files x) c.in_default.not-Some c.first_of.ensures.first in
+    let is : x ≡ get_or files c.loop-place.place x = c.index-files-place.is
+    ∙ ap (λ (ys : List ClassFile). get_or ys c.loop-place.place x) c.as_slice-files.ensures in
+    let within : c.loop-place.place < length files =
+    subst (λ (ys : List ClassFile). c.loop-place.place < length ys) c.as_slice-files.ensures
+    c.loop-place-test.true in
+    let none : first_of files x ≡ None =
+    no_map naming c.first_of.result
+    (first_of files x) c.in_default.not-Some c.first_of.ensures.first in
     past_place files c.loop-place.place x within is c.loop-place.invariant none

@@ -10,10 +10,12 @@ invariant_of-result c =
     let file = c.args.file in
     let files : c.push.new.self ≡ file ∷ [] = search rules in
     let name : c.in_ok-to_vec.field-0.items ≡ own_name file = search rules in
-    let keys : map (λ k. k.items) c.insert.new.self.keys ≡ c.in_ok-to_vec.field-0.items ∷ [] = search rules in
+    let keys : map (λ k. k.items) c.insert.new.self.keys ≡ c.in_ok-to_vec.field-0.items ∷ [] =
+    search rules in
     record {
       names_are = keys ∙ ap (λ n. n ∷ []) name ∙ ap own_names (sym files);
       are_done = among_nil c.push.new.self;
       within = omega arith;
-      named = subst (λ fs. All (λ f. IsName (own_name f)) fs) (sym files) (one_named file c.requires);
+      named =
+          subst (λ fs. All (λ f. IsName (own_name f)) fs) (sym files) (one_named file c.requires);
     }

@@ -37,5 +37,9 @@ pub returns : goal.returns
 returns c =
     finds c.args.area.now c.args.self.now c.run.result c.point-point.result
     c.point-point.ensures.is
-    (record { point = c.point-point.result; instr = c.in-Some.row.instr; next = c.in-Some.row.next })
+    (record {
+      point = c.point-point.result;
+      instr = c.in-Some.row.instr;
+      next = c.in-Some.row.next;
+    })
     c.run.new.self c.in-Some.ensures.1.is c.run.ensures

@@ -10,7 +10,8 @@ use Rattle.par_actions.specs.Calls.{is_misreceived}
 use Rattle.par_machine.specs.Instructions.{is_branch}
 use Rattle.par_machine.specs.Site.{areas_at, spot_of}
 use Rattle.par_machine.proofs.Asked.{at_instr}
-use Rattle.par_machine.proofs.Called.{method_known, method_unknown, received_known, received_unknown, special_leaves}
+use Rattle.par_machine.proofs.Called.{method_known, method_unknown, received_known}
+use Rattle.par_machine.proofs.Called.{received_unknown, special_leaves}
 use Rattle.par_machine.proofs.Coming.{is_at}
 use Rattle.par_machine.proofs.Invoking.{received_on, performed, call_missed}
 use Rattle.par_machine.proofs.Standing.{may_put}

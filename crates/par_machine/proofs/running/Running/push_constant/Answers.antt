@@ -1,4 +1,5 @@
-use Rattle.std.proofs.Common.{◌≡◌, false, None, refl, ap, subst, ◌∙◌, inl, inr, rules, to_z, of_z, w32}
+use Rattle.std.proofs.Common.{◌≡◌, false, None, refl, ap, subst, ◌∙◌, inl, inr, rules, to_z, of_z}
+use Rattle.std.proofs.Common.{w32}
 use Rattle.par_instr.specs.declared.instr.Instr.{Instr}
 use Rattle.par_instr.specs.declared.instr.Instr.TheVariants.{Ldc, LdcW}
 use Rattle.par_values.specs.Operations.{Push, operation, constant}

@@ -1,4 +1,5 @@
-use Rattle.std.proofs.Common.{◌≡◌, ◌+◌, pos, ◌+ℤ◌, true, length, refl, sym, ap, subst, ◌∙◌, rules, to_z, of_z, w16, arith}
+use Rattle.std.proofs.Common.{◌≡◌, ◌+◌, pos, ◌+ℤ◌, true, length, refl, sym, ap, subst, ◌∙◌, rules}
+use Rattle.std.proofs.Common.{to_z, of_z, w16, arith}
 use Rattle.par_stack.specs.Frames.{with_running, at_offset}
 use Rattle.par_steps.specs.Step.{offset}
 use Rattle.par_actions.specs.declared.done.Done.{Done}
@@ -7,7 +8,8 @@ use Rattle.par_machine.specs.Instructions.{reach_of}
 use Rattle.par_machine.specs.Settled.{is_told}
 use Rattle.par_machine.specs.Site.{IsKnown}
 use Rattle.par_machine.proofs.Gone.{null_pointer}
-use Rattle.par_machine.proofs.Handed.{stays_there, told_no_call, goes_settled, jumps_settled, tells_settled, null_settled, object_settled, heap_grown}
+use Rattle.par_machine.proofs.Handed.{stays_there, told_no_call, goes_settled, jumps_settled}
+use Rattle.par_machine.proofs.Handed.{tells_settled, null_settled, object_settled, heap_grown}
 use Rattle.par_machine.proofs.Sound.{first_stands}
 use Rattle.par_machine.proofs.running.Running.settle.Goals as goal
 

@@ -13,7 +13,8 @@ use Rattle.par_machine.specs.Site.{areas_at}
 use Rattle.par_machine.specs.Throwing.{landing_reason}
 use Rattle.par_machine.proofs.Knowing.{in_exceptions}
 use Rattle.par_machine.proofs.Sound.{first_stands}
-use Rattle.par_machine.proofs.Thrown.{frames_cons, landing_is, told_exception, exception_bad, other_bad, told_bad, roomy, landed_sound}
+use Rattle.par_machine.proofs.Thrown.{frames_cons, landing_is, told_exception, exception_bad}
+use Rattle.par_machine.proofs.Thrown.{other_bad, told_bad, roomy, landed_sound}
 use Rattle.par_machine.proofs.running.Running.throw.Goals as goal
 
 pub stuck-requires : goal.stuck-requires

@@ -8,15 +8,17 @@ use Rattle.par_machine.proofs.running.Running.try_advance.Goals as goal
 pub try_run-requires-clause-coded : goal.try_run-requires-clause-coded
 try_run-requires-clause-coded c =
     let p = c.point-point.result in
-    let row = row_stands c.args.area.now.files c.args.rows.now p (running c.args.self.now.stack).point
-    c.in-Some.row c.point-point.ensures.is c.requires.rows c.in-Some.ensures in
+    let row = row_stands c.args.area.now.files c.args.rows.now p
+    (running c.args.self.now.stack).point c.in-Some.row c.point-point.ensures.is c.requires.rows
+    c.in-Some.ensures in
     coded c.args.area.now.files p.class p.method p.at _ row.1.is
 
 pub try_run-requires-clause-there : goal.try_run-requires-clause-there
 try_run-requires-clause-there c =
     let p = c.point-point.result in
-    let row = row_stands c.args.area.now.files c.args.rows.now p (running c.args.self.now.stack).point
-    c.in-Some.row c.point-point.ensures.is c.requires.rows c.in-Some.ensures in
+    let row = row_stands c.args.area.now.files c.args.rows.now p
+    (running c.args.self.now.stack).point c.in-Some.row c.point-point.ensures.is c.requires.rows
+    c.in-Some.ensures in
     record {
       point = sym c.point-point.ensures.is;
       stands = first_stands c.args.area.now.files c.args.self.now.stack c.point-point.ensures.some
@@ -28,22 +30,25 @@ try_run-requires-clause-there c =
 pub try_run-requires-clause-small : goal.try_run-requires-clause-small
 try_run-requires-clause-small c =
     let p = c.point-point.result in
-    let row = row_stands c.args.area.now.files c.args.rows.now p (running c.args.self.now.stack).point
-    c.in-Some.row c.point-point.ensures.is c.requires.rows c.in-Some.ensures in
+    let row = row_stands c.args.area.now.files c.args.rows.now p
+    (running c.args.self.now.stack).point c.in-Some.row c.point-point.ensures.is c.requires.rows
+    c.in-Some.ensures in
     omega (arith, row.0, row.1.forward, row.1.within)
 
 pub try_run-requires-clause-within : goal.try_run-requires-clause-within
 try_run-requires-clause-within c =
     let p = c.point-point.result in
-    let row = row_stands c.args.area.now.files c.args.rows.now p (running c.args.self.now.stack).point
-    c.in-Some.row c.point-point.ensures.is c.requires.rows c.in-Some.ensures in
+    let row = row_stands c.args.area.now.files c.args.rows.now p
+    (running c.args.self.now.stack).point c.in-Some.row c.point-point.ensures.is c.requires.rows
+    c.in-Some.ensures in
     row.1.within
 
 pub returns : goal.returns
 returns c =
     let p = c.point-point.result in
-    let row = row_stands c.args.area.now.files c.args.rows.now p (running c.args.self.now.stack).point
-    c.in-Some.row c.point-point.ensures.is c.requires.rows c.in-Some.ensures in
+    let row = row_stands c.args.area.now.files c.args.rows.now p
+    (running c.args.self.now.stack).point c.in-Some.row c.point-point.ensures.is c.requires.rows
+    c.in-Some.ensures in
     tried_found c.args.area.now c.args.self.now p
     (record { point = p; instr = c.in-Some.row.instr; next = c.in-Some.row.next })
     c.try_run.result c.try_run.new.self c.point-point.ensures.is row.1.is c.try_run.ensures

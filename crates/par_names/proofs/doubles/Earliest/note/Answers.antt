@@ -10,10 +10,12 @@ returns-in_ok-insert c = λ name at.
     let before = place_of c.args.self.now in
     let id = c.args.id.now in
     ap (λ o. is_below o at) (c.in_ok-insert.ensures.updates.0 key)
-    ∙ ap (λ n. is_below (cond (bytes_eq n name) (Some id.at) (before name)) at) c.bytes.ensures.bytes
+    ∙ ap (λ n. is_below (cond (bytes_eq n name) (Some id.at) (before name)) at)
+    c.bytes.ensures.bytes
     ∙ put before id.name name id.at at (sym c.has_before.ensures ∙ c.if-not-has_before.true)
 
 pub returns-else-not-has_before : goal.returns-else-not-has_before
 returns-else-not-has_before c = λ name at.
     let id = c.args.id.now in
-    kept (place_of c.args.self.now) id.name name id.at at (sym c.has_before.ensures ∙ c.if-not-has_before.false)
+    kept (place_of c.args.self.now) id.name name id.at at
+    (sym c.has_before.ensures ∙ c.if-not-has_before.false)

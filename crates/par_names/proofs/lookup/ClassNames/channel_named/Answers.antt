@@ -10,7 +10,8 @@ pub returns-in-None : goal.returns-in-None
 returns-in-None c =
     let p = bytes_eq c.args.name.now in
     let xs = c.args.self.now.decl.now.channels in
-    let names = c.args.self.now.named.channels ∙ map-map (λ (id : Ident). id.name) (λ (x : ChannelDecl). x.id) xs in
+    let names = c.args.self.now.named.channels
+    ∙ map-map (λ (id : Ident). id.name) (λ (x : ChannelDecl). x.id) xs in
     let place = sym c.in-None.is ∙ c.place.ensures ∙ ap (position p) names in
     sym (found p (λ x. x.id.name) xs None place)
 
@@ -18,6 +19,7 @@ pub returns-in-Some : goal.returns-in-Some
 returns-in-Some c =
     let p = bytes_eq c.args.name.now in
     let xs = c.args.self.now.decl.now.channels in
-    let names = c.args.self.now.named.channels ∙ map-map (λ (id : Ident). id.name) (λ (x : ChannelDecl). x.id) xs in
+    let names = c.args.self.now.named.channels
+    ∙ map-map (λ (id : Ident). id.name) (λ (x : ChannelDecl). x.id) xs in
     let place = sym c.in-Some.is ∙ c.place.ensures ∙ ap (position p) names in
     c.get.ensures.item ∙ sym (found p (λ x. x.id.name) xs (Some c.in-Some.place) place)

@@ -16,7 +16,8 @@ returns-in-None c =
     c.args.self.now.named.methods ∙ map-map (λ (id : Ident). id.name) (λ (m : MethodDecl). m.id) ms
     ∙ sym (map-map (λ (m : Method). m.id.name) method ms) in
     let place = sym c.in-None.is ∙ c.place.ensures ∙ ap (position p) names in
-    sym (ap (find (λ m. p m.id.name)) (methods-map ms) ∙ found p (λ m. m.id.name) (map method ms) None place)
+    sym (ap (find (λ m. p m.id.name)) (methods-map ms)
+    ∙ found p (λ m. m.id.name) (map method ms) None place)
 
 pub returns-in-Some : goal.returns-in-Some
 returns-in-Some c =
@@ -27,4 +28,5 @@ returns-in-Some c =
     ∙ sym (map-map (λ (m : Method). m.id.name) method ms) in
     let place = sym c.in-Some.is ∙ c.place.ensures ∙ ap (position p) names in
     seen-at method ms c.get.result c.in-Some.place c.get.ensures.item
-    ∙ sym (ap (find (λ m. p m.id.name)) (methods-map ms) ∙ found p (λ m. m.id.name) (map method ms) (Some c.in-Some.place) place)
+    ∙ sym (ap (find (λ m. p m.id.name)) (methods-map ms)
+    ∙ found p (λ m. m.id.name) (map method ms) (Some c.in-Some.place) place)

@@ -16,7 +16,8 @@ returns-in-None c =
     let shows = λ (class : ClassNames). class_of class.decl.now in
     let names =
     c.args.self.now.named.names
-    ∙ map-map (λ (id : Ident). id.name) (λ (d : ClassDecl). d.id) (map (λ (class : ClassNames). class.decl.now) cs)
+    ∙ map-map (λ (id : Ident). id.name) (λ (d : ClassDecl). d.id)
+    (map (λ (class : ClassNames). class.decl.now) cs)
     ∙ map-map (λ (d : ClassDecl). d.id.name) (λ (class : ClassNames). class.decl.now) cs
     ∙ sym (map-map (λ (class : Class). class.id.name) shows cs) in
     let place = sym c.in-None.is ∙ c.place.ensures ∙ ap (position p) names in
@@ -29,8 +30,10 @@ returns-in-Some c =
     let shows = λ (class : ClassNames). class_of class.decl.now in
     let names =
     c.args.self.now.named.names
-    ∙ map-map (λ (id : Ident). id.name) (λ (d : ClassDecl). d.id) (map (λ (class : ClassNames). class.decl.now) cs)
+    ∙ map-map (λ (id : Ident). id.name) (λ (d : ClassDecl). d.id)
+    (map (λ (class : ClassNames). class.decl.now) cs)
     ∙ map-map (λ (d : ClassDecl). d.id.name) (λ (class : ClassNames). class.decl.now) cs
     ∙ sym (map-map (λ (class : Class). class.id.name) shows cs) in
     let place = sym c.in-Some.is ∙ c.place.ensures ∙ ap (position p) names in
-    seen-at shows cs c.get.result c.in-Some.place c.get.ensures.item ∙ sym (found p (λ class. class.id.name) (map shows cs) (Some c.in-Some.place) place)
+    seen-at shows cs c.get.result c.in-Some.place c.get.ensures.item
+    ∙ sym (found p (λ class. class.id.name) (map shows cs) (Some c.in-Some.place) place)

@@ -13,7 +13,8 @@ returns-in-None c =
     let p = bytes_eq c.args.name.now in
     let shows = λ (lock : Bor LockDecl). lock.now in
     let xs = map shows c.args.self.now.decls in
-    let names = c.args.self.now.named.names ∙ map-map (λ (id : Ident). id.name) (λ (x : LockDecl). x.id) xs in
+    let names = c.args.self.now.named.names
+    ∙ map-map (λ (id : Ident). id.name) (λ (x : LockDecl). x.id) xs in
     let place = sym c.in-None.is ∙ c.place.ensures ∙ ap (position p) names in
     sym (found p (λ lock. lock.id.name) xs None place)
 
@@ -23,8 +24,10 @@ returns-in-Some c =
     let decls = c.args.self.now.decls in
     let shows = λ (lock : Bor LockDecl). lock.now in
     let xs = map shows decls in
-    let names = c.args.self.now.named.names ∙ map-map (λ (id : Ident). id.name) (λ (x : LockDecl). x.id) xs in
+    let names = c.args.self.now.named.names
+    ∙ map-map (λ (id : Ident). id.name) (λ (x : LockDecl). x.id) xs in
     let place = sym c.in-Some.is ∙ c.place.ensures ∙ ap (position p) names in
-    ap option_copied c.copied.ensures ∙ copied-is (option_copied c.get.result) ∙ sym (copied-map shows c.get.result)
+    ap option_copied c.copied.ensures ∙ copied-is (option_copied c.get.result)
+    ∙ sym (copied-map shows c.get.result)
     ∙ seen-at shows decls c.get.result c.in-Some.place c.get.ensures.item
     ∙ sym (found p (λ lock. lock.id.name) xs (Some c.in-Some.place) place)

@@ -13,12 +13,14 @@ invariant_of-self c =
     let items = c.self.inside.names.items in
     let kept = λ (n : List ℕ). get_by (λ key. bytes_eq n key.now) c.self.inside.places in
     let is : take c.args.outside (texts items) ≡ texts c.truncate.new.self.items =
-    take-map (λ (t : Bor (List ℕ)). t.now) c.args.outside items ∙ ap texts (sym c.truncate.ensures.items) in
+    take-map (λ (t : Bor (List ℕ)). t.now) c.args.outside items
+    ∙ ap texts (sym c.truncate.ensures.items) in
     subst (λ ns. (name : List ℕ) → has ns name ≡ true → kept name ≡ position (bytes_eq name) ns) is
     (left c.args.outside (texts items) kept (record { first = c.self.invariant })).first
 
 pub returns : goal.returns
 returns c =
     let items = c.self.inside.names.items in
-    ap texts c.truncate.ensures.items ∙ sym (take-map (λ (t : Bor (List ℕ)). t.now) c.args.outside items)
+    ap texts c.truncate.ensures.items
+    ∙ sym (take-map (λ (t : Bor (List ℕ)). t.now) c.args.outside items)
     ∙ ap (take c.args.outside) c.self.view_is

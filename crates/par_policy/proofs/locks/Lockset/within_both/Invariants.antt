@@ -3,4 +3,5 @@ use Rattle.par_policy.specs.Numbers.{within}
 use Rattle.par_policy.proofs.locks.Lockset.within_both.Given as goal
 
 abbrev pub invariant-loop-lock : goal.invariant-loop-lock
-invariant-loop-lock g l = within (take l.lock-index l.lock-items) (l.one ++ g.L.OpenLocks.locks l.opened) ≡ true
+invariant-loop-lock g l =
+    within (take l.lock-index l.lock-items) (l.one ++ g.L.OpenLocks.locks l.opened) ≡ true

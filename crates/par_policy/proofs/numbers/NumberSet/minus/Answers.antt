@@ -6,12 +6,14 @@ use Rattle.par_policy.proofs.numbers.NumberSet.minus.Goals as goal
 
 pub invariant_of-result : goal.invariant_of-result
 invariant_of-result c =
-    let kept : c.in_ok-numbers.numbers.items ≡ filter (λ n. not (has c.args.other.now n)) c.self.inside.numbers.items = search rules in
+    let kept : c.in_ok-numbers.numbers.items
+    ≡ filter (λ n. not (has c.args.other.now n)) c.self.inside.numbers.items = search rules in
     IsAscending-filter _ _ (λ n. not (has c.args.other.now n)) kept c.self.invariant
 
 pub returns-clause-numbers : goal.returns-clause-numbers
 returns-clause-numbers c =
-    let kept : c.in_ok-numbers.numbers.items ≡ filter (λ n. not (has c.args.other.now n)) c.self.inside.numbers.items = search rules in
+    let kept : c.in_ok-numbers.numbers.items
+    ≡ filter (λ n. not (has c.args.other.now n)) c.self.inside.numbers.items = search rules in
     rw (← c.self.view_is) (IsDifference-filter _ _ c.args.other.now kept)
 
 pub returns-clause-ascending : goal.returns-clause-ascending

@@ -6,16 +6,25 @@ use Rattle.par_pool.proofs.builder.PoolBuilder.method.Goals as goal
 
 pub returns-clause-named : goal.returns-clause-named
 returns-clause-named c =
-    IfOk-weaker c.put.result (λ index. IsAt c.put.new.self index (Method c.in_ok-owner.owner c.in_ok-owner.member)) (λ index. IsMemberAt Method c.put.new.self index c.args.class.now c.args.name.now c.args.descriptor.now)
-    (λ index is. member_named Method c.naming.new.self c.put.new.self index c.in_ok-owner.owner c.in_ok-owner.member c.args.class.now c.args.name.now c.args.descriptor.now
-    c.in_ok-owner.ensures.owner c.in_ok-owner.ensures.member c.put.ensures.added is) c.put.ensures.named
+    IfOk-weaker c.put.result (λ index.
+    IsAt c.put.new.self index (Method c.in_ok-owner.owner c.in_ok-owner.member))
+    (λ index. IsMemberAt Method c.put.new.self index c.args.class.now c.args.name.now
+    c.args.descriptor.now)
+    (λ index is. member_named Method c.naming.new.self c.put.new.self index c.in_ok-owner.owner
+    c.in_ok-owner.member c.args.class.now c.args.name.now c.args.descriptor.now
+    c.in_ok-owner.ensures.owner c.in_ok-owner.ensures.member c.put.ensures.added is)
+    c.put.ensures.named
 
 pub returns-clause-again : goal.returns-clause-again
 returns-clause-again c = λ i there.
-    member_again Method c.args.self.now c.naming.new.self c.put.new.self i c.in_ok-owner.owner c.in_ok-owner.member c.args.class.now c.args.name.now c.args.descriptor.now c.put.result there
-    (c.in_ok-owner.ensures.again there.owner there.member there.is_class there.is_member) (λ h. c.put.ensures.again i h)
+    member_again Method c.args.self.now c.naming.new.self c.put.new.self i c.in_ok-owner.owner
+    c.in_ok-owner.member c.args.class.now c.args.name.now c.args.descriptor.now c.put.result there
+    (c.in_ok-owner.ensures.again there.owner there.member there.is_class there.is_member)
+    (λ h. c.put.ensures.again i h)
 
 pub returns-clause-added : goal.returns-clause-added
 returns-clause-added c =
-    member_added Method c.args.self.now c.naming.new.self c.put.new.self c.in_ok-owner.owner c.in_ok-owner.member c.args.class.now c.args.name.now c.args.descriptor.now
-    c.naming.ensures.added c.in_ok-owner.ensures.owner c.in_ok-owner.ensures.member c.put.ensures.added
+    member_added Method c.args.self.now c.naming.new.self c.put.new.self c.in_ok-owner.owner
+    c.in_ok-owner.member c.args.class.now c.args.name.now c.args.descriptor.now
+    c.naming.ensures.added c.in_ok-owner.ensures.owner c.in_ok-owner.ensures.member
+    c.put.ensures.added

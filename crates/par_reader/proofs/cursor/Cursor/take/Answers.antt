@@ -7,14 +7,29 @@ use Rattle.par_reader.proofs.cursor.Cursor.take.Goals as goal
 pub returns-then-not-sees-clause-read : goal.returns-then-not-sees-clause-read
 returns-then-not-sees-clause-read g c =
     let other_sort = sym c.sees.ensures ∙ c.if-not-sees.true in
-    record { ok = tt; err = λ told s vs. run_token_differs g.L.Language.grammar g.L.Language.founded s (input c.args.self.now) vs c.args.sort other_sort }
+    record {
+      ok = tt;
+      err =
+          λ told s vs. run_token_differs g.L.Language.grammar g.L.Language.founded s
+          (input c.args.self.now) vs c.args.sort other_sort;
+    }
 
 pub returns-in_default-clause-read : goal.returns-in_default-clause-read
 returns-in_default-clause-read g c =
     let same_sort = sym c.sees.ensures ∙ c.if-not-sees.false in
-    record { ok = tt; err = λ told s vs. run_token_at_end g.L.Language.grammar g.L.Language.founded s (input c.args.self.now) vs c.args.sort same_sort (grind (arith, common_steps)) }
+    record {
+      ok = tt;
+      err =
+          λ told s vs. run_token_at_end g.L.Language.grammar g.L.Language.founded s
+          (input c.args.self.now) vs c.args.sort same_sort (grind (arith, common_steps));
+    }
 
 pub returns-clause-read : goal.returns-clause-read
 returns-clause-read g c =
     let same_sort = sym c.sees.ensures ∙ c.if-not-sees.false in
-    record { ok = λ s vs. run_token g.L.Language.grammar g.L.Language.founded s (input c.args.self.now) vs c.args.sort _ c.in-Some.left.now c.in-Some.ensures.cases.0 same_sort; err = tt }
+    record {
+      ok =
+          λ s vs. run_token g.L.Language.grammar g.L.Language.founded s (input c.args.self.now) vs
+          c.args.sort _ c.in-Some.left.now c.in-Some.ensures.cases.0 same_sort;
+      err = tt;
+    }

@@ -8,5 +8,6 @@ use Rattle.par_scope.proofs.index.TableIndex.members_of.Goals as goal
 pub returns-clause-few : goal.returns-clause-few
 returns-clause-few c =
     few_at c.deref.result.now c.from.result c.get.result
-    (subst (λ xs. All IsFewMembers (map members_indexed xs)) (sym c.deref.ensures.value) c.self.invariant.members)
+    (subst (λ xs. All IsFewMembers (map members_indexed xs))
+    (sym c.deref.ensures.value) c.self.invariant.members)
     c.get.ensures.lookup.0 c.get.ensures.lookup.1

@@ -10,8 +10,11 @@ pub invariant_of-self : goal.invariant_of-self
 invariant_of-self c =
     let names = c.args.self.now.names.items in
     record {
-      found = truncated names c.truncate.new.self.items c.args.self.now.firsts c.args.len c.args.self.now.found
-          (ap texts c.truncate.ensures.items ∙ sym (take-map (λ (n : Bor (List ℕ)). n.now) c.args.len names));
+      found =
+          truncated names c.truncate.new.self.items c.args.self.now.firsts c.args.len
+          c.args.self.now.found
+          (ap texts c.truncate.ensures.items
+          ∙ sym (take-map (λ (n : Bor (List ℕ)). n.now) c.args.len names));
     }
 
 pub returns : goal.returns

@@ -33,22 +33,34 @@ empty-requires-clause-within c =
 pub invariant_of-self-2 : goal.invariant_of-self-2
 invariant_of-self-2 c =
     let pushed = rw c.unwrap.ensures at c.push.ensures.items in
-    let caller : Extent = record c.self.inside.running { top = c.self.inside.running.top - c.args.arguments } in
-    let one_more = apart _ _ _ pushed ∙ ap (λ (es : List Extent). caller ∷ reverse es) c.in_ok-reserve.ensures.items in
-    let given = subst (λ (frames : List Frame). c.args.arguments ≤ length (running frames).operands) (sym c.self.view_is) c.requires.given in
+    let caller : Extent =
+    record c.self.inside.running { top = c.self.inside.running.top - c.args.arguments } in
+    let one_more = apart _ _ _ pushed
+    ∙ ap (λ (es : List Extent). caller ∷ reverse es) c.in_ok-reserve.ensures.items in
+    let given =
+    subst (λ (frames : List Frame). c.args.arguments ≤ length (running frames).operands)
+    (sym c.self.view_is) c.requires.given in
     laid _ _ _ _ _ (
-    entered_lie _ _ _ c.self.invariant c.args.point c.args.locals c.args.room c.args.arguments _ _ _ _ _
-    c.self.inside.places.ok.0 given c.requires.placed c.in_ok-resize.ensures.items c.copy_within.ensures.items c.empty.ensures one_more)
+    entered_lie _ _ _ c.self.invariant c.args.point c.args.locals c.args.room
+    c.args.arguments _ _ _ _ _
+    c.self.inside.places.ok.0 given c.requires.placed c.in_ok-resize.ensures.items
+    c.copy_within.ensures.items c.empty.ensures one_more)
 
 pub returns-clause-called : goal.returns-clause-called
 returns-clause-called c =
     let pushed = rw c.unwrap.ensures at c.push.ensures.items in
-    let caller : Extent = record c.self.inside.running { top = c.self.inside.running.top - c.args.arguments } in
-    let one_more = apart _ _ _ pushed ∙ ap (λ (es : List Extent). caller ∷ reverse es) c.in_ok-reserve.ensures.items in
-    let given = subst (λ (frames : List Frame). c.args.arguments ≤ length (running frames).operands) (sym c.self.view_is) c.requires.given in
+    let caller : Extent =
+    record c.self.inside.running { top = c.self.inside.running.top - c.args.arguments } in
+    let one_more = apart _ _ _ pushed
+    ∙ ap (λ (es : List Extent). caller ∷ reverse es) c.in_ok-reserve.ensures.items in
+    let given =
+    subst (λ (frames : List Frame). c.args.arguments ≤ length (running frames).operands)
+    (sym c.self.view_is) c.requires.given in
     seen _ _ _ _ _ (
-    entered_lie _ _ _ c.self.invariant c.args.point c.args.locals c.args.room c.args.arguments _ _ _ _ _
-    c.self.inside.places.ok.0 given c.requires.placed c.in_ok-resize.ensures.items c.copy_within.ensures.items c.empty.ensures one_more)
+    entered_lie _ _ _ c.self.invariant c.args.point c.args.locals c.args.room
+    c.args.arguments _ _ _ _ _
+    c.self.inside.places.ok.0 given c.requires.placed c.in_ok-resize.ensures.items
+    c.copy_within.ensures.items c.empty.ensures one_more)
     ∙ ap (λ (frames : List Frame).
     entered c.args.point (last_operands c.args.arguments (running frames)) c.args.locals c.args.room
     ∷ with_running (popped c.args.arguments) frames) c.self.view_is

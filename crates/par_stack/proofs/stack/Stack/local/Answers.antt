@@ -14,7 +14,9 @@ overflow_sub-self-inside c =
 pub returns-then-place-self : goal.returns-then-place-self
 returns-then-place-self c =
     let k = counted _ _ _ _ c.self.invariant c.self.view_is in
-    let past = slice_get_past (running c.args.self.now).locals c.args.place (omega (arith, k.locals, c.if-place-self.true)) in
+    let past =
+    slice_get_past (running c.args.self.now).locals c.args.place
+    (omega (arith, k.locals, c.if-place-self.true)) in
     sym (ap local_value past)
 
 pub index-requires : goal.index-requires
@@ -25,8 +27,12 @@ index-requires c =
 pub returns : goal.returns
 returns c =
     let k = counted _ _ _ _ c.self.invariant c.self.view_is in
-    let there : c.args.place < length (running c.args.self.now).locals = omega (arith, k.locals, c.if-place-self.false) in
-    let less = subst (λ (frames : List Frame). c.args.place < length (running frames).locals) (sym c.self.view_is) there in
+    let there : c.args.place < length (running c.args.self.now).locals =
+    omega (arith, k.locals, c.if-place-self.false) in
+    let less =
+    subst (λ (frames : List Frame). c.args.place < length (running frames).locals)
+    (sym c.self.view_is) there in
     c.index.ensures
     ∙ local_read _ _ _ c.self.invariant c.args.place c.index.result.now less
-    ∙ ap (λ (frames : List Frame). local_value (slice_get (running frames).locals c.args.place)) c.self.view_is
+    ∙ ap (λ (frames : List Frame). local_value (slice_get (running frames).locals c.args.place))
+    c.self.view_is

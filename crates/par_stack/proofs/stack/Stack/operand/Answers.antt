@@ -13,7 +13,8 @@ overflow_sub-self-inside c =
 pub returns-then-after-self : goal.returns-then-after-self
 returns-then-after-self c =
     let k = counted _ _ _ _ c.self.invariant c.self.view_is in
-    sym (slice_get_past (running c.args.self.now).operands c.args.after (omega (arith, k.count, c.if-after-self.true)))
+    sym (slice_get_past (running c.args.self.now).operands c.args.after
+    (omega (arith, k.count, c.if-after-self.true)))
 
 pub index-requires : goal.index-requires
 index-requires c =
@@ -23,8 +24,11 @@ index-requires c =
 pub returns : goal.returns
 returns c =
     let k = counted _ _ _ _ c.self.invariant c.self.view_is in
-    let there : c.args.after < length (running c.args.self.now).operands = omega (arith, k.count, c.if-after-self.false) in
-    let less = subst (λ (frames : List Frame). c.args.after < length (running frames).operands) (sym c.self.view_is) there in
+    let there : c.args.after < length (running c.args.self.now).operands =
+    omega (arith, k.count, c.if-after-self.false) in
+    let less =
+    subst (λ (frames : List Frame). c.args.after < length (running frames).operands)
+    (sym c.self.view_is) there in
     c.index.ensures
     ∙ operand_read _ _ _ c.self.invariant c.args.after c.index.result.now less
     ∙ ap (λ (frames : List Frame). slice_get (running frames).operands c.args.after) c.self.view_is

@@ -16,11 +16,15 @@ empty-requires c =
 
 pub invariant_of-self : goal.invariant_of-self
 invariant_of-self c =
-    let there = subst (λ (frames : List Frame). c.args.many ≤ length (running frames).operands) (sym c.self.view_is) c.requires in
+    let there =
+    subst (λ (frames : List Frame). c.args.many ≤ length (running frames).operands)
+    (sym c.self.view_is) c.requires in
     laid _ _ _ _ _ (popped_lie _ _ _ c.self.invariant c.args.many _ c.empty.ensures there)
 
 pub returns : goal.returns
 returns c =
-    let there = subst (λ (frames : List Frame). c.args.many ≤ length (running frames).operands) (sym c.self.view_is) c.requires in
+    let there =
+    subst (λ (frames : List Frame). c.args.many ≤ length (running frames).operands)
+    (sym c.self.view_is) c.requires in
     seen _ _ _ _ _ (popped_lie _ _ _ c.self.invariant c.args.many _ c.empty.ensures there)
     ∙ ap (λ (frames : List Frame). with_running (popped c.args.many) frames) c.self.view_is

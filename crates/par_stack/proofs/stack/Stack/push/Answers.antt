@@ -11,11 +11,13 @@ index_mut-requires c =
 
 pub invariant_of-self : goal.invariant_of-self
 invariant_of-self c =
-    let some = subst (λ (frames : List Frame). 0 < (running frames).free) (sym c.self.view_is) c.requires in
+    let some =
+    subst (λ (frames : List Frame). 0 < (running frames).free) (sym c.self.view_is) c.requires in
     laid _ _ _ _ _ (pushed_lie _ _ _ c.self.invariant c.args.value some)
 
 pub returns : goal.returns
 returns c =
-    let some = subst (λ (frames : List Frame). 0 < (running frames).free) (sym c.self.view_is) c.requires in
+    let some =
+    subst (λ (frames : List Frame). 0 < (running frames).free) (sym c.self.view_is) c.requires in
     seen _ _ _ _ _ (pushed_lie _ _ _ c.self.invariant c.args.value some)
     ∙ ap (λ (frames : List Frame). with_running (pushed c.args.value) frames) c.self.view_is

@@ -9,6 +9,12 @@ returns-in_ok-push-in-Input-clause-state c =
     let p = c.args.program.now in
     let inputs = c.args.inputs.now in
     let before = c.args.self.now in
-    let with : (ℕ → List ℤ) → State = λ f. record { locals = written before.locals.items; fields = written before.fields.items; inputs = f; locks = before.locks } in
+    let with : (ℕ → List ℤ) → State =
+    λ f. record {
+      locals = written before.locals.items;
+      fields = written before.fields.items;
+      inputs = f;
+      locks = before.locks;
+    } in
     let more = ap (λ taken. untaken p inputs taken) c.in_ok-push-in-Input.ensures.items in
     rw c.in-Input.is (ap with (more ∙ untaken_push p inputs before.taken.items c.in-Input.c))

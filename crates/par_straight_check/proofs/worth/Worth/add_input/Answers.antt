@@ -8,12 +8,19 @@ use Rattle.par_straight_check.proofs.Worths.{input_joined}
 use Rattle.par_straight_check.proofs.worth.Worth.add_input.Goals as goal
 
 pub returns-clause-joined : goal.returns-clause-joined
-returns-clause-joined c = on_ok_weaker c.add.result (λ gains t. input_joined t c.args.self.now.constant _ _ _ c.args.channel gains) c.add.ensures.ok
+returns-clause-joined c =
+    on_ok_weaker c.add.result (λ gains t.
+    input_joined t c.args.self.now.constant _ _ _ c.args.channel gains) c.add.ensures.ok
 
 pub returns-clause-within : goal.returns-clause-within
 returns-clause-within c =
     on_ok_weaker c.add.result
-    (λ (gains : Gains c.args.self.now.inputs c.add.new.self c.args.channel) (t : Table) (inside : c.args.channel < length t.channels.items) (old : IsWithin t c.args.self.now). record {
+    (λ (gains : Gains c.args.self.now.inputs c.add.new.self c.args.channel) (t : Table)
+    (inside : c.args.channel < length t.channels.items) (old : IsWithin t c.args.self.now). record {
       fields = old.fields;
-      inputs = all_of_both (λ n. n < length t.channels.items) c.args.self.now.inputs c.add.new.self (c.args.channel ∷ []) (gains_alone c.args.self.now.inputs c.add.new.self c.args.channel gains) old.inputs (all_alone (λ n. n < length t.channels.items) c.args.channel inside);
+      inputs =
+          all_of_both (λ n. n < length t.channels.items) c.args.self.now.inputs c.add.new.self
+          (c.args.channel ∷ [])
+          (gains_alone c.args.self.now.inputs c.add.new.self c.args.channel gains) old.inputs
+          (all_alone (λ n. n < length t.channels.items) c.args.channel inside);
     }) c.add.ensures.ok

@@ -6,14 +6,28 @@ use Rattle.par_straight_reader.specs.Reads.{input}
 use Rattle.par_straight_reader.proofs.cursor.Cursor.enter.Goals as goal
 
 pub returns-then-is_empty-clause-read : goal.returns-then-is_empty-clause-read
-returns-then-is_empty-clause-read c = record { ok = tt; err = λ told s vs. run_enters_at_end s (input c.args.self.now) vs (grind (arith, common_steps)) }
+returns-then-is_empty-clause-read c =
+    record {
+      ok = tt;
+      err =
+          λ told s vs. run_enters_at_end s (input c.args.self.now) vs (grind (arith, common_steps));
+    }
 
 pub returns-then-self-ge-DEEPEST-clause-read : goal.returns-then-self-ge-DEEPEST-clause-read
 returns-then-self-ge-DEEPEST-clause-read c =
     let some_left : 0 < length c.args.self.now.left.now = grind (arith, common_steps, nat_tests) in
-    record { ok = tt; err = λ told s vs. run_enters_too_deep s (input c.args.self.now) vs some_left c.if-self-ge-DEEPEST.true }
+    record {
+      ok = tt;
+      err =
+          λ told s vs. run_enters_too_deep s
+          (input c.args.self.now) vs some_left c.if-self-ge-DEEPEST.true;
+    }
 
 pub returns-clause-read : goal.returns-clause-read
 returns-clause-read c =
     let some_left : 0 < length c.args.self.now.left.now = grind (arith, common_steps, nat_tests) in
-    record { ok = λ s vs. run_enters s (input c.args.self.now) vs some_left c.if-self-ge-DEEPEST.false; err = tt }
+    record {
+      ok =
+          λ s vs. run_enters s (input c.args.self.now) vs some_left c.if-self-ge-DEEPEST.false;
+      err = tt;
+    }

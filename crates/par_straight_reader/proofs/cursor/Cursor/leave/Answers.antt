@@ -5,4 +5,6 @@ use Rattle.par_straight_reader.proofs.cursor.Cursor.leave.Goals as goal
 
 pub returns-clause-read : goal.returns-clause-read
 returns-clause-read c s vs =
-    run_leaves s (input c.args.self.now) vs ∙ ap (λ (n : ℕ). run s (record (input c.args.self.now) { blocks = n }) vs) (sym c.saturating_sub-self.ensures)
+    run_leaves s (input c.args.self.now) vs
+    ∙ ap (λ (n : ℕ). run s (record (input c.args.self.now) { blocks = n }) vs)
+    (sym c.saturating_sub-self.ensures)

@@ -12,8 +12,19 @@ returns-in_default-clause-read c =
 
 pub returns-in_default-kind-clause-read : goal.returns-in_default-kind-clause-read
 returns-in_default-kind-clause-read c =
-    record { ok = tt; err = λ told s vs. name_missing s (input c.args.self.now) vs c.in-Some.first.now c.in-Some.left.now c.in-Some.ensures.cases.0 c.in_default-kind.not-Name }
+    record {
+      ok = tt;
+      err =
+          λ told s vs. name_missing s (input c.args.self.now) vs c.in-Some.first.now
+          c.in-Some.left.now c.in-Some.ensures.cases.0 c.in_default-kind.not-Name;
+    }
 
 pub returns-clause-read : goal.returns-clause-read
 returns-clause-read c =
-    record { ok = λ s vs. name_taken s (input c.args.self.now) vs c.in-Some.first.now c.in-Some.left.now c.in-Some.ensures.cases.0 c.in_ok-name.name (c.in-Name.is ∙ ap kind.Name (sym c.in_ok-name.ensures)); err = tt }
+    record {
+      ok =
+          λ s vs. name_taken s (input c.args.self.now) vs c.in-Some.first.now c.in-Some.left.now
+          c.in-Some.ensures.cases.0 c.in_ok-name.name
+          (c.in-Name.is ∙ ap kind.Name (sym c.in_ok-name.ensures));
+      err = tt;
+    }

@@ -11,8 +11,18 @@ returns-in_default-clause-read c =
 
 pub returns-in_default-kind-clause-read : goal.returns-in_default-kind-clause-read
 returns-in_default-kind-clause-read c =
-    record { ok = tt; err = λ told s vs. number_missing s (input c.args.self.now) vs c.in-Some.first.now c.in-Some.left.now c.in-Some.ensures.cases.0 c.in_default-kind.not-Number }
+    record {
+      ok = tt;
+      err =
+          λ told s vs. number_missing s (input c.args.self.now) vs c.in-Some.first.now
+          c.in-Some.left.now c.in-Some.ensures.cases.0 c.in_default-kind.not-Number;
+    }
 
 pub returns-clause-read : goal.returns-clause-read
 returns-clause-read c =
-    record { ok = λ s vs. number_taken s (input c.args.self.now) vs c.in-Some.first.now c.in-Some.left.now c.in-Some.ensures.cases.0 c.in-Number.number c.in-Number.is; err = tt }
+    record {
+      ok =
+          λ s vs. number_taken s (input c.args.self.now) vs c.in-Some.first.now c.in-Some.left.now
+          c.in-Some.ensures.cases.0 c.in-Number.number c.in-Number.is;
+      err = tt;
+    }

@@ -15,23 +15,29 @@ pub invariant_of-result : goal.invariant_of-result
 invariant_of-result c =
     let s = source c.args.program.now in
     let named : texts c.in_ok-classes.classes.names.items ≡ map (λ c. c.id.name) (classes s) =
-    c.in_ok-classes.ensures ∙ c.in_ok-names.ensures ∙ ap (map (λ (c : Class). c.id.name)) c.requires.classes in
-    let all : length (texts c.in_ok-classes.classes.names.items) ≡ length (classes s) = ap length named ∙ length-map (classes s) (λ (c : Class). c.id.name) in
+    c.in_ok-classes.ensures ∙ c.in_ok-names.ensures
+    ∙ ap (map (λ (c : Class). c.id.name)) c.requires.classes in
+    let all : length (texts c.in_ok-classes.classes.names.items) ≡ length (classes s) =
+    ap length named ∙ length-map (classes s) (λ (c : Class). c.id.name) in
     let shared : length c.in_ok-policies.policies.items ≡ length (shared_policies (known s) s) =
     ap length (c.in_ok-policies.ensures ∙ ap (λ k. shared_policies k s) c.in_ok-known.ensures) in
     record {
       few = record {
         few_classes = omega (arith, all, c.requires.room.few_classes);
-        few_policies = omega (arith, shared, numbered_count (known s) s, c.requires.room.few_policies);
+        few_policies =
+            omega (arith, shared, numbered_count (known s) s, c.requires.room.few_policies);
       };
     }
 
 pub returns : goal.returns
 returns c =
     let s = source c.args.program.now in
-    let made : Known → List (List ℕ) → List (List Clause) → Resolved = λ k c p. record { known = k; classes = c; policies = p } in
-    let named = c.in_ok-classes.ensures ∙ c.in_ok-names.ensures ∙ ap (map (λ (c : Class). c.id.name)) c.requires.classes in
+    let made : Known → List (List ℕ) → List (List Clause) → Resolved =
+    λ k c p. record { known = k; classes = c; policies = p } in
+    let named = c.in_ok-classes.ensures ∙ c.in_ok-names.ensures
+    ∙ ap (map (λ (c : Class). c.id.name)) c.requires.classes in
     let shared = c.in_ok-policies.ensures ∙ ap (λ k. shared_policies k s) c.in_ok-known.ensures in
-    ap (λ k. made k (texts c.in_ok-classes.classes.names.items) c.in_ok-policies.policies.items) c.in_ok-known.ensures
+    ap (λ k. made k (texts c.in_ok-classes.classes.names.items) c.in_ok-policies.policies.items)
+    c.in_ok-known.ensures
     ∙ ap (λ n. made (known s) n c.in_ok-policies.policies.items) named
     ∙ ap (λ p. made (known s) (map (λ (c : Class). c.id.name) (classes s)) p) shared

@@ -5,4 +5,7 @@ use Rattle.par_trace.proofs.channels.InputChannels.of.Goals as goal
 
 pub invariant_of-result : goal.invariant_of-result
 invariant_of-result c =
-    record { placed = λ key. c.in_ok-firsts.ensures key ∙ ap (position (same_key key)) c.as_slice.ensures.value }
+    record {
+      placed =
+          λ key. c.in_ok-firsts.ensures key ∙ ap (position (same_key key)) c.as_slice.ensures.value;
+    }
