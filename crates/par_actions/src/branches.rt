@@ -3,7 +3,8 @@
 ghost use Rattle.std.specs.Prelude.{◌≡◌, ◌≤◌, List, ℤ, length, IsTrue};
 ghost use Rattle.par_values.specs.Areas.{Name, Areas};
 ghost use Rattle.par_values.specs.Effects.{comes, is_same};
-ghost use Rattle.par_values.specs.Operations.{Operation, Jump, JumpIf, JumpIfBoth, JumpIfSame, JumpIfNull};
+ghost use Rattle.par_values.specs.Operations.{Operation, Jump, JumpIf, JumpIfBoth, JumpIfSame};
+ghost use Rattle.par_values.specs.Operations.{JumpIfNull};
 ghost use Rattle.par_values.specs.Reasons.{Spot};
 ghost use Rattle.par_stack.specs.Frames.{running};
 ghost use Rattle.par_actions.specs.Branches.{IsTest};

@@ -1,10 +1,13 @@
 //! Calls of methods: those of code, and channels.
 
-ghost use Rattle.std.specs.Prelude.{◌≡◌, ◌≤◌, ◌<◌, ◌+◌, ◌-◌, Bool, true, false, if◌then◌else◌, not, ◌&&◌, ℕ, nat_lt, slice_get, List, length, reverse, IfOk, OnErr, IsTrue, Option};
+ghost use Rattle.std.specs.Prelude.{◌≡◌, ◌≤◌, ◌<◌, ◌+◌, ◌-◌, Bool, true, false, if◌then◌else◌, not};
+ghost use Rattle.std.specs.Prelude.{◌&&◌, ℕ, nat_lt, slice_get, List, length, reverse, IfOk, OnErr};
+ghost use Rattle.std.specs.Prelude.{IsTrue, Option};
 ghost use Rattle.par_values.specs.declared.value.MVal.TheVariants.{Null as null};
 ghost use Rattle.par_values.specs.declared.link.MethodLink.{MethodLink};
 ghost use Rattle.par_values.specs.Areas.{Name, Areas, operand, number_of, value_or_null};
-ghost use Rattle.par_values.specs.Operations.{Operation, InvokeStatic, InvokeSpecial, InvokeVirtual};
+ghost use Rattle.par_values.specs.Operations.{Operation, InvokeStatic, InvokeSpecial};
+ghost use Rattle.par_values.specs.Operations.{InvokeVirtual};
 ghost use Rattle.par_values.specs.Effects.{called};
 ghost use Rattle.par_values.specs.Reasons.{Spot};
 ghost use Rattle.par_stack.specs.Frames.{running, waiting};

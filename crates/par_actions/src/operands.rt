@@ -4,7 +4,8 @@ ghost use Rattle.std.specs.Prelude.{◌≡◌, ◌≤◌, List, not, length, sli
 ghost use Rattle.par_values.specs.Areas.{Name, fits, local_value};
 ghost use Rattle.par_values.specs.declared.kind.Kind.TheVariants.{AnyObject};
 ghost use Rattle.par_stack.specs.Frames.{running, with_running, pushed, popped};
-ghost use Rattle.par_actions.specs.Last.{IsNumber, AreNumbers, IsReference, AreReferences, IsHeldNumber};
+ghost use Rattle.par_actions.specs.Last.{IsNumber, AreNumbers, IsReference, AreReferences};
+ghost use Rattle.par_actions.specs.Last.{IsHeldNumber};
 
 use par_stack::Stack;
 use par_values::value::MVal;

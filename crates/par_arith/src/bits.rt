@@ -1,5 +1,6 @@
 ghost use Rattle.std.specs.Prelude.{◌≡◌, ◌<◌};
-ghost use Rattle.par_values.specs.Arithmetic.{combined, shift_count, ShiftLeft, ShiftRight, ShiftRightUnsigned, And, Or, Xor};
+ghost use Rattle.par_values.specs.Arithmetic.{combined, shift_count, ShiftLeft, ShiftRight};
+ghost use Rattle.par_values.specs.Arithmetic.{ShiftRightUnsigned, And, Or, Xor};
 
 /// The bits of a count that a shift looks at.
 const COUNT_BITS: u32 = 32;

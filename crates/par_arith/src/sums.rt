@@ -1,5 +1,6 @@
 ghost use Rattle.std.specs.Prelude.{◌≡◌, ◌↔◌, pos, IsNone, IfSome, IsTrue};
-ghost use Rattle.par_values.specs.Arithmetic.{combined, divides_by_zero, negated, Plus, Minus, Times, Quotient, Remainder};
+ghost use Rattle.par_values.specs.Arithmetic.{combined, divides_by_zero, negated, Plus, Minus};
+ghost use Rattle.par_values.specs.Arithmetic.{Times, Quotient, Remainder};
 
 /// The sum, which wraps.
 pub fn plus(a: i32, b: i32) -> i32

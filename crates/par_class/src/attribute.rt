@@ -1,6 +1,7 @@
 ghost use Rattle.std.specs.Prelude.{◌≡◌};
 ghost use Rattle.par_pool.specs.Reading.{Gives};
-ghost use Rattle.par_class.specs.Reading.{text_index_at, class_index_at, attribute_at, attributes_at};
+ghost use Rattle.par_class.specs.Reading.{text_index_at, class_index_at, attribute_at};
+ghost use Rattle.par_class.specs.Reading.{attributes_at};
 
 use crate::file::Attribute;
 use crate::place::place;

@@ -1,10 +1,13 @@
-ghost use Rattle.std.specs.Prelude.{◌≡◌, ℕ, ◌+◌, ◌<◌, ◌^◌, ◌++◌, length, OnOk, IfOk, IfSome, codes, Some};
+ghost use Rattle.std.specs.Prelude.{◌≡◌, ℕ, ◌+◌, ◌<◌, ◌^◌, ◌++◌, length, OnOk, IfOk, IfSome, codes};
+ghost use Rattle.std.specs.Prelude.{Some};
 ghost use Rattle.std.specs.List.{All, flat_map};
 ghost use Rattle.std.specs.Prelude.{List as Items};
 ghost use Rattle.par_class.specs.Spelling as spelling;
 ghost use Rattle.par_class.specs.Spelling.{counted, is_named, Spells};
 ghost use Rattle.par_pool.specs.Spelling.{u2};
-ghost use Rattle.par_class.specs.Writing.{IsSized, SizedCode, SizedField, SizedMethod, SizedFile, least_code, code_piece, pieces_of, method_laid, layout_of, parts, each_method, back_with};
+ghost use Rattle.par_class.specs.Writing.{IsSized, SizedCode, SizedField, SizedMethod, SizedFile};
+ghost use Rattle.par_class.specs.Writing.{least_code, code_piece, pieces_of, method_laid};
+ghost use Rattle.par_class.specs.Writing.{layout_of, parts, each_method, back_with};
 
 use crate::file::{ClassFile, CodeAttr, MethodFile};
 use crate::writing::{put_attributes, put_code_attribute, put_each, put_each_field};

@@ -1,7 +1,8 @@
 //! Whether a statement is left by a break.
 
 ghost use Rattle.std.specs.Prelude.{◌≡◌};
-ghost use Rattle.par_tree.specs.Shown.{does, braces, otherwise, may_braces, all_do, all_catch, handler};
+ghost use Rattle.par_tree.specs.Shown.{does, braces, otherwise, may_braces, all_do, all_catch};
+ghost use Rattle.par_tree.specs.Shown.{handler};
 ghost use Rattle.par_completes.specs.Completes as tree;
 
 use par_tree::stmt::{Block, CatchTree, Stmt, StmtKind};

@@ -1,7 +1,8 @@
 //! Whether a statement can complete normally.
 
 ghost use Rattle.std.specs.Prelude.{◌≡◌, true};
-ghost use Rattle.par_tree.specs.Shown.{shown, does, braces, otherwise, may_braces, all_do, all_catch, handler};
+ghost use Rattle.par_tree.specs.Shown.{shown, does, braces, otherwise, may_braces, all_do};
+ghost use Rattle.par_tree.specs.Shown.{all_catch, handler};
 ghost use Rattle.par_completes.specs.Completes as tree;
 
 use crate::break_inside::block_breaks;

@@ -1,7 +1,8 @@
 //! How many locals a method declares.
 
 ghost use Rattle.std.specs.Prelude.{◌≡◌, ◌<◌, ◌^◌};
-ghost use Rattle.par_tree.specs.Shown.{does, braces, otherwise, may_braces, all_do, all_catch, handler};
+ghost use Rattle.par_tree.specs.Shown.{does, braces, otherwise, may_braces, all_do, all_catch};
+ghost use Rattle.par_tree.specs.Shown.{handler};
 ghost use Rattle.par_tree.specs.Shown as tree;
 ghost use Rattle.par_declarations.specs.Locals as count;
 

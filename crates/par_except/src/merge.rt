@@ -43,7 +43,8 @@ fn may_join(alloc: Global, one: &Option<Way>, other: &Option<Way>) -> Result<Opt
 pub fn join(alloc: Global, a: &Ways, b: &Ways) -> Result<Ways, NoMemory>
     requires once { AreOnce (seen_throws a.now.throws) × AreOnce (seen_throws b.now.throws) }
     requires locals { (n : ℕ) × HaveLocals n a.now × HaveLocals n b.now }
-    ensures exits { IfOk result (λ r. (k : Kind) → exit r k ≡ may_join (exit a.now k) (exit b.now k)) }
+    ensures exits { IfOk result (λ r. (k : Kind) → exit r k
+        ≡ may_join (exit a.now k) (exit b.now k)) }
     ensures once { IfOk result (λ r. AreOnce (seen_throws r.throws)) }
     ensures locals { IfOk result (λ r. (n : ℕ) → HaveLocals n a.now → HaveLocals n b.now
         → HaveLocals n r) }

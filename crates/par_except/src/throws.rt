@@ -25,7 +25,8 @@ pub fn way_of(throws: &[(u16, Way)], class: u16) -> Option<&Way>
 
 fn joined(alloc: Global, way: &Way, other: Option<&Way>) -> Result<Way, NoMemory>
     requires { MayHaveLocals (length way.now.env) (option_copied other) }
-    ensures way { IfOk result (λ w. seen w ≡ joined (seen way.now) (may_see (option_copied other.entry))) }
+    ensures way { IfOk result (λ w. seen w
+        ≡ joined (seen way.now) (may_see (option_copied other.entry))) }
     ensures locals { IfOk result (λ w. length w.env ≡ length way.now.env) }
 {
     match other {

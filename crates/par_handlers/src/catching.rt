@@ -1,5 +1,6 @@
 ghost use Rattle.std.specs.Prelude.{◌≡◌, ℕ};
-ghost use Rattle.par_steps.specs.Handlers.{builtin_takes, named_takes, takes, first_handler, handler_in};
+ghost use Rattle.par_steps.specs.Handlers.{builtin_takes, named_takes, takes, first_handler};
+ghost use Rattle.par_steps.specs.Handlers.{handler_in};
 ghost use Rattle.par_handlers.specs.Standing.{standing};
 
 use par_class::file::Catch;

@@ -1,6 +1,7 @@
 //! The objects of one class, whose fields lie in one vector.
 
-ghost use Rattle.std.specs.Prelude.{◌≡◌, ◌<◌, ◌≤◌, ◌*◌, ◌⊎◌, [], ◌∷◌, ◌++◌, length, is_some, slice_get, IfSome, IfNone, IfOk, OnOk, OnErr};
+ghost use Rattle.std.specs.Prelude.{◌≡◌, ◌<◌, ◌≤◌, ◌*◌, ◌⊎◌, [], ◌∷◌, ◌++◌, length, is_some};
+ghost use Rattle.std.specs.Prelude.{slice_get, IfSome, IfNone, IfOk, OnOk, OnErr};
 ghost use Rattle.std.specs.List.{All, flat_map};
 ghost use Rattle.par_heap.specs.Cut.{cut, IsPlace};
 ghost use Rattle.par_heap.specs.Heap.{field_in, with_field_in};
@@ -86,7 +87,8 @@ impl Block {
 
     /// What a field of an object holds, where both are there.
     pub(crate) fn get(&self, n: u32, field: u16) -> Option<MVal>
-        ensures { result ≡ field_in (cut self.now.count self.now.width self.now.fields.items) n field }
+        ensures { result
+            ≡ field_in (cut self.now.count self.now.width self.now.fields.items) n field }
     {
         let place = self.place(n, field)?;
         self.held(place)

@@ -1,6 +1,7 @@
 // What holds of all input files. Nothing runs here: each contract is a law.
 
-ghost use Rattle.par_inputs.specs.Laws.{RightOrBroken, NeverBoth, OneFirstBroken, EntriesStandOnTheirLines};
+ghost use Rattle.par_inputs.specs.Laws.{RightOrBroken, NeverBoth, OneFirstBroken};
+ghost use Rattle.par_inputs.specs.Laws.{EntriesStandOnTheirLines};
 
 /// The law that each file is right or has one first broken line, and not both.
 pub fn files_are_right_or_broken()

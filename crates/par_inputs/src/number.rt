@@ -1,4 +1,5 @@
-ghost use Rattle.std.specs.Prelude.{◌≡◌, ◌≤◌, ℤ, pos, neg_ℤ, nat_lt, if◌then◌else◌, IsTrue, Some, None};
+ghost use Rattle.std.specs.Prelude.{◌≡◌, ◌≤◌, ℤ, pos, neg_ℤ, nat_lt, if◌then◌else◌, IsTrue, Some};
+ghost use Rattle.std.specs.Prelude.{None};
 ghost use Rattle.std.specs.List.{All, list_all};
 ghost use Rattle.par_lexer.specs.Names.{is_digit};
 ghost use Rattle.par_lexer.specs.Pieces.{value, has_leading_zero};
@@ -34,7 +35,8 @@ fn is_decimal(text: &[u8]) -> bool
 fn value_of(digits: &[u8], greatest: u32) -> Option<u32>
     requires digits { All (λ digit. IsTrue (is_digit digit)) digits.now }
     requires small { greatest ≤ 2147483648 }
-    ensures { result ≡ (if nat_lt greatest (value digits.now) then None else Some (value digits.now)) }
+    ensures { result
+        ≡ (if nat_lt greatest (value digits.now) then None else Some (value digits.now)) }
 {
     let mut number: u32 = 0;
     for digit in digits {

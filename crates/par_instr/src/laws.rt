@@ -1,4 +1,6 @@
-ghost use Rattle.par_instr.specs.Laws.{EachHasOneSpelling, NoOtherHasOne, EachIsListed, NoneBeginsAnother, ReadIsWrittenAgain, WrittenIsReadAgain, OneStands, DecodedStands};
+ghost use Rattle.par_instr.specs.Laws.{EachHasOneSpelling, NoOtherHasOne, EachIsListed};
+ghost use Rattle.par_instr.specs.Laws.{NoneBeginsAnother, ReadIsWrittenAgain, WrittenIsReadAgain};
+ghost use Rattle.par_instr.specs.Laws.{OneStands, DecodedStands};
 
 /// The law that an instruction has exactly one spelling where its numbers are in range and its
 /// opcode is listed, and none elsewhere.

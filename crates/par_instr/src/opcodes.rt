@@ -1,7 +1,8 @@
 ghost use Rattle.std.specs.Prelude.{◌≡◌, ◌<◌, length, IsTrue};
 ghost use Rattle.par_instr.specs.Decoding.{blank_of, read, whole};
 ghost use Rattle.par_instr.specs.Laws.{AreBytes};
-ghost use Rattle.par_instr.specs.Spelling.{opcode_row, row, place, size, numbers_of, has_spelling, NumbersFit};
+ghost use Rattle.par_instr.specs.Spelling.{opcode_row, row, place, size, numbers_of, has_spelling};
+ghost use Rattle.par_instr.specs.Spelling.{NumbersFit};
 
 use crate::instr::Instr;
 use crate::numbers::Numbers;

@@ -1,6 +1,8 @@
-ghost use Rattle.std.specs.Prelude.{◌≡◌, ℕ, ◌-◌, ◌<◌, ◌≤◌, ◌↔◌, ◌∷◌, ◌++◌, length, drop, OnOk, OnErr, IfOk, IsErrOf, IsTrue};
+ghost use Rattle.std.specs.Prelude.{◌≡◌, ℕ, ◌-◌, ◌<◌, ◌≤◌, ◌↔◌, ◌∷◌, ◌++◌, length, drop, OnOk};
+ghost use Rattle.std.specs.Prelude.{OnErr, IfOk, IsErrOf, IsTrue};
 ghost use Rattle.par_instr.specs.Decoding.{decoded_at};
-ghost use Rattle.par_instr.specs.Spelling.{size, spelling, has_spelling, effect, IsSpelled, Stands, IsUnlisted, IsCut};
+ghost use Rattle.par_instr.specs.Spelling.{size, spelling, has_spelling, effect, IsSpelled, Stands};
+ghost use Rattle.par_instr.specs.Spelling.{IsUnlisted, IsCut};
 
 use crate::instr::{Instr, InstrError, NoMemory};
 use crate::numbers::Numbers;

@@ -1,5 +1,6 @@
 ghost use Rattle.std.specs.Prelude.{◌≡◌, ◌≤◌, true, None, IfOk, MatchResult, length};
-ghost use Rattle.par_io.specs.Causes.{untouched_folder, Makes, SameAnswers, CountsRead, CountsWrite};
+ghost use Rattle.par_io.specs.Causes.{untouched_folder, Makes, SameAnswers, CountsRead};
+ghost use Rattle.par_io.specs.Causes.{CountsWrite};
 ghost use Rattle.par_io.specs.HostFolder.{counts_of};
 
 use crate::outside::{Folder, ReadFail, WriteFail};

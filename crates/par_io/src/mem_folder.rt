@@ -1,8 +1,11 @@
-ghost use Rattle.std.specs.Prelude.{◌≡◌, ◌≢◌, ℕ, ◌+◌, ◌-◌, ◌^◌, ◌<◌, ◌≤◌, ◌↔◌, List, Option, Some, None, IfOk, IsTrue, IsErrOf, MatchResult, OnOk, OnErr, length, take, min, option_copied, true, false};
+ghost use Rattle.std.specs.Prelude.{◌≡◌, ◌≢◌, ℕ, ◌+◌, ◌-◌, ◌^◌, ◌<◌, ◌≤◌, ◌↔◌, List, Option, Some};
+ghost use Rattle.std.specs.Prelude.{None, IfOk, IsTrue, IsErrOf, MatchResult, OnOk, OnErr, length};
+ghost use Rattle.std.specs.Prelude.{take, min, option_copied, true, false};
 ghost use Rattle.std.specs.Ordering.{nat_cmp};
 ghost use Rattle.std.specs.BTreeMap.{get};
 ghost use Rattle.std.specs.BTreeSet.{contains};
-ghost use Rattle.par_io.specs.Causes.{untouched_folder, Sets, Makes, SameAnswers, CountsRead, CountsWrite};
+ghost use Rattle.par_io.specs.Causes.{untouched_folder, Sets, Makes, SameAnswers, CountsRead};
+ghost use Rattle.par_io.specs.Causes.{CountsWrite};
 
 use crate::outside::{Folder, NoMemory, ReadFail, WriteFail};
 use std::alloc::Global;
@@ -28,7 +31,8 @@ pub struct MemFolder {
 }
 
 impl MemFolder {
-    ghost use Rattle.par_io.specs.MemFolder.{files_of, is_read_set, write_keeps, next_read, next_write, counts_of, SameReadsSet, SameWritesSet};
+    ghost use Rattle.par_io.specs.MemFolder.{files_of, is_read_set, write_keeps, next_read};
+    ghost use Rattle.par_io.specs.MemFolder.{next_write, counts_of, SameReadsSet, SameWritesSet};
 
     /// A folder without files, none of whose calls is set to fail.
     pub fn new(alloc: Global) -> MemFolder
@@ -144,7 +148,8 @@ impl MemFolder {
 }
 
 impl Folder for MemFolder {
-    ghost use Rattle.par_io.specs.MemFolder.{files_of, is_read_set, write_keeps, next_read, next_write, counts_of, SameReadsSet, SameWritesSet};
+    ghost use Rattle.par_io.specs.MemFolder.{files_of, is_read_set, write_keeps, next_read};
+    ghost use Rattle.par_io.specs.MemFolder.{next_write, counts_of, SameReadsSet, SameWritesSet};
 
     ghost files = { λ s. Some (files_of s) };
 

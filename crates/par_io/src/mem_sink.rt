@@ -1,4 +1,6 @@
-ghost use Rattle.std.specs.Prelude.{◌≡◌, ◌≢◌, ℕ, ◌+◌, ◌-◌, ◌^◌, ◌<◌, ◌≤◌, ◌↔◌, ◌⊎◌, [], ◌++◌, List, Some, None, IfOk, IsSome, IsErr, IsTrue, OnOk, OnErr, length, take, min, vec_capacity, vec_len, true, false};
+ghost use Rattle.std.specs.Prelude.{◌≡◌, ◌≢◌, ℕ, ◌+◌, ◌-◌, ◌^◌, ◌<◌, ◌≤◌, ◌↔◌, ◌⊎◌, [], ◌++◌, List};
+ghost use Rattle.std.specs.Prelude.{Some, None, IfOk, IsSome, IsErr, IsTrue, OnOk, OnErr, length};
+ghost use Rattle.std.specs.Prelude.{take, min, vec_capacity, vec_len, true, false};
 ghost use Rattle.par_io.specs.Causes.{untouched_sink, AppendsFront, raised};
 
 use crate::outside::{NoMemory, PutFailed, Sink};
@@ -25,7 +27,8 @@ pub struct MemSink {
 }
 
 impl MemSink {
-    ghost use Rattle.par_io.specs.MemSink.{bytes_of, room_of, room_left, next_put, counts_of, put_keeps, taken};
+    ghost use Rattle.par_io.specs.MemSink.{bytes_of, room_of, room_left, next_put, counts_of};
+    ghost use Rattle.par_io.specs.MemSink.{put_keeps, taken};
 
     /// An empty sink with room for that many bytes, none of whose puts is set to fail.
     pub fn new(alloc: Global, room: u64) -> Result<MemSink, NoMemory>
@@ -81,7 +84,8 @@ impl MemSink {
 
     // Lets in as many of the bytes as fit, and tells whether all did.
     fn fill(&mut self, bytes: &[u8]) -> bool
-        ensures held { bytes_of self.new ≡ bytes_of self.old ++ take (room_left self.old) bytes.now }
+        ensures held { bytes_of self.new
+            ≡ bytes_of self.old ++ take (room_left self.old) bytes.now }
         ensures fits { IsTrue result ↔ (length bytes.now ≤ room_left self.old) }
         ensures failing { self.new.failing ≡ self.old.failing }
         ensures room { room_of self.new ≡ room_of self.old }
@@ -116,7 +120,8 @@ impl MemSink {
 }
 
 impl Sink for MemSink {
-    ghost use Rattle.par_io.specs.MemSink.{bytes_of, room_of, room_left, next_put, counts_of, put_keeps, taken};
+    ghost use Rattle.par_io.specs.MemSink.{bytes_of, room_of, room_left, next_put, counts_of};
+    ghost use Rattle.par_io.specs.MemSink.{put_keeps, taken};
 
     ghost held = { λ s. Some (bytes_of s) };
 

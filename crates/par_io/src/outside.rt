@@ -1,5 +1,8 @@
-ghost use Rattle.std.specs.Prelude.{◌≡◌, ℕ, ◌<◌, ◌≤◌, Bool, false, List, Option, Some, None, IfOk, IsTrue, IsErrOf, OnOk, OnErr, length};
-ghost use Rattle.par_io.specs.Causes.{FolderCounts, SinkCounts, Makes, NoneFalls, Rose, raised, ReadFaultsStand, WriteFaultsStand, Files, Told, ToldBoth, StandBut, Sets, appended, AppendsFront};
+ghost use Rattle.std.specs.Prelude.{◌≡◌, ℕ, ◌<◌, ◌≤◌, Bool, false, List, Option, Some, None, IfOk};
+ghost use Rattle.std.specs.Prelude.{IsTrue, IsErrOf, OnOk, OnErr, length};
+ghost use Rattle.par_io.specs.Causes.{FolderCounts, SinkCounts, Makes, NoneFalls, Rose, raised};
+ghost use Rattle.par_io.specs.Causes.{ReadFaultsStand, WriteFaultsStand, Files, Told, ToldBoth};
+ghost use Rattle.par_io.specs.Causes.{StandBut, Sets, appended, AppendsFront};
 ghost use Rattle.par_io.specs.declared.outside.ReadFail.{ReadFail};
 ghost use Rattle.par_io.specs.declared.outside.WriteFail.{WriteFail};
 

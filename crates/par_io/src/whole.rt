@@ -1,5 +1,6 @@
 // Bytes read or written whole, by any reader or writer of the system.
-ghost use Rattle.std.specs.Prelude.{◌≡◌, ◌≢◌, ℕ, ◌+◌, ◌≤◌, ◌<◌, ◌↔◌, List, IsTrue, IfOk, IfErr, IfSome, IsErrOf, OnOk, OnErr, length, take};
+ghost use Rattle.std.specs.Prelude.{◌≡◌, ◌≢◌, ℕ, ◌+◌, ◌≤◌, ◌<◌, ◌↔◌, List, IsTrue, IfOk, IfErr};
+ghost use Rattle.std.specs.Prelude.{IfSome, IsErrOf, OnOk, OnErr, length, take};
 ghost use Rattle.std.specs.Io.KnownBytes.{Appends, Consumes, Keeps, IsAtEnd};
 ghost use Rattle.std.specs.IoError.{error_kind};
 

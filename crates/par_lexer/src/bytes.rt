@@ -1,6 +1,7 @@
 ghost use Rattle.std.specs.Prelude.{◌≡◌};
 ghost use Rattle.std.specs.List.{list_all};
-ghost use Rattle.par_lexer.specs.Names.{is_letter, is_digit, is_blank, goes_on, first_is, is_spelled};
+ghost use Rattle.par_lexer.specs.Names.{is_letter, is_digit, is_blank, goes_on, first_is};
+ghost use Rattle.par_lexer.specs.Names.{is_spelled};
 
 // A letter of ASCII, or `_`.
 pub fn is_letter(byte: u8) -> bool

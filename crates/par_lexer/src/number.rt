@@ -9,7 +9,8 @@ pub const GREATEST: u32 = 2_147_483_648;
 // The number that digits write, or none where it is above the greatest.
 pub fn value_of(digits: &[u8]) -> Option<u32>
     requires { All (λ digit. IsTrue (is_digit digit)) digits.now }
-    ensures { result ≡ (if nat_lt 2147483648 (value digits.now) then None else Some (value digits.now)) }
+    ensures { result
+        ≡ (if nat_lt 2147483648 (value digits.now) then None else Some (value digits.now)) }
 {
     let mut number: u32 = 0;
     for digit in digits {

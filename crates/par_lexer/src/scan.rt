@@ -1,9 +1,11 @@
-ghost use Rattle.std.specs.Prelude.{◌≡◌, ◌+◌, ◌≤◌, IfOk, IsTrue, find, length, take, take_while, drop};
+ghost use Rattle.std.specs.Prelude.{◌≡◌, ◌+◌, ◌≤◌, IfOk, IsTrue, find, length, take, take_while};
+ghost use Rattle.std.specs.Prelude.{drop};
 ghost use Rattle.std.specs.List.{prefix_len};
 ghost use Rattle.std.specs.Str.{bytes_eq};
 ghost use Rattle.par_lexer.specs.Names.{IsName, is_letter, is_digit, is_blank, goes_on, first_is};
 ghost use Rattle.par_lexer.specs.Tables.{words};
-ghost use Rattle.par_lexer.specs.Pieces.{comment_at, through_close, named, name_at, number_at, sign_at, longest_sign, piece_at};
+ghost use Rattle.par_lexer.specs.Pieces.{comment_at, through_close, named, name_at, number_at};
+ghost use Rattle.par_lexer.specs.Pieces.{sign_at, longest_sign, piece_at};
 
 use crate::bytes::{begins_gap, begins_name, begins_number};
 use crate::cut::LONGEST_SOURCE;
@@ -31,7 +33,8 @@ fn comment_at(at: u32, bytes: &[u8]) -> Piece
 // A reserved word, or else a name.
 fn kind_of(alloc: Global, text: &[u8]) -> Result<Kind, NoMemory>
     requires { IsName text.now }
-    ensures { IfOk result (λ kind. kind ≡ named text.now (find (λ row. bytes_eq row.1 text.now) words)) }
+    ensures { IfOk result (λ kind. kind
+        ≡ named text.now (find (λ row. bytes_eq row.1 text.now) words)) }
 {
     match word_of(text) {
         None => Ok(Kind::Name(Name::new(alloc, text)?)),

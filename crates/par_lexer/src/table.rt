@@ -83,7 +83,8 @@ pub const SIGNS: [(u8, &[u8]); 31] = [
 
 // The number of the first row with exactly this text.
 fn number_of(table: &[(u8, &[u8])], text: &[u8]) -> Option<u8>
-    ensures { result ≡ option_map (λ row. row.0) (find (λ row. bytes_eq row.1 text.now) (rows table.now)) }
+    ensures { result
+        ≡ option_map (λ row. row.0) (find (λ row. bytes_eq row.1 text.now) (rows table.now)) }
 {
     for (number, spelling) in table {
         if *spelling == text {

@@ -3,7 +3,8 @@
 ghost use Rattle.std.specs.Prelude.{◌≡◌};
 ghost use Rattle.par_inputs.specs.Numbers.{magnitude_of};
 ghost use Rattle.par_single.specs.Members.{named};
-ghost use Rattle.par_link.specs.Builtins.{builtin, lock_number, lock_field, initializer, builtin_field, builtin_method};
+ghost use Rattle.par_link.specs.Builtins.{builtin, lock_number, lock_field, initializer};
+ghost use Rattle.par_link.specs.Builtins.{builtin_field, builtin_method};
 
 use crate::entry::{Builtin, Named};
 use par_inputs::magnitude_of;

@@ -1,11 +1,13 @@
 //! The input channels of some files, as they are looked up by the names of their classes and of
 //! themselves.
 
-ghost use Rattle.std.specs.Prelude.{◌≡◌, ◌<◌, ◌≤◌, ◌^◌, ◌%◌, ◌++◌, ◌∷◌, ℕ, [], length, slice_get, Some, IfOk, OnOk, IsTrue};
+ghost use Rattle.std.specs.Prelude.{◌≡◌, ◌<◌, ◌≤◌, ◌^◌, ◌%◌, ◌++◌, ◌∷◌, ℕ, [], length, slice_get};
+ghost use Rattle.std.specs.Prelude.{Some, IfOk, OnOk, IsTrue};
 ghost use Rattle.std.specs.List.{All, Contains, list_any};
 ghost use Rattle.par_class.specs.declared.file.MethodFile.{MethodFile};
 ghost use Rattle.par_single.specs.Members.{text_at, own_name};
-ghost use Rattle.par_link.specs.Channels.{is_channel_in, is_channel, hash_of, bucket_at, bucket_of, Keeps, AreIn, AreSpread};
+ghost use Rattle.par_link.specs.Channels.{is_channel_in, is_channel, hash_of, bucket_at, bucket_of};
+ghost use Rattle.par_link.specs.Channels.{Keeps, AreIn, AreSpread};
 ghost use Rattle.par_link.specs.Conditions.{IsSmall};
 ghost use Rattle.par_link.specs.Inputs.{is_input, is_input_of, has_input};
 

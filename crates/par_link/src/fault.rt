@@ -3,7 +3,8 @@
 ghost use Rattle.std.specs.Prelude.{◌≡◌};
 ghost use Rattle.par_link.specs.Named.{names_of};
 ghost use Rattle.par_link.specs.Rules.{absent, wrong_field, wrong_method, is_nothing};
-ghost use Rattle.par_link.specs.Order.{at, member_fault, description_fault, constant_fault, code_fault, file_fault};
+ghost use Rattle.par_link.specs.Order.{at, member_fault, description_fault, constant_fault};
+ghost use Rattle.par_link.specs.Order.{code_fault, file_fault};
 
 use crate::entry::Named;
 use crate::members::Members;

@@ -1,6 +1,7 @@
 //! Linking: each file is looked at by the rules, and what its constants name is kept.
 
-ghost use Rattle.std.specs.Prelude.{◌≡◌, ◌<◌, ◌^◌, ℕ, List as Items, length, map, None, IfOk, OnOk, IfErr};
+ghost use Rattle.std.specs.Prelude.{◌≡◌, ◌<◌, ◌^◌, ℕ, List as Items, length, map, None, IfOk, OnOk};
+ghost use Rattle.std.specs.Prelude.{IfErr};
 ghost use Rattle.std.specs.List.{All};
 ghost use Rattle.par_lexer.specs.Names.{IsName};
 ghost use Rattle.par_class.specs.Spelling.{Spells};

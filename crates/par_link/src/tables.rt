@@ -6,7 +6,8 @@ ghost use Rattle.std.specs.List.{All};
 ghost use Rattle.par_single.specs.Members.{named, own_name, own_names};
 ghost use Rattle.par_single.specs.Single.{is_taken};
 ghost use Rattle.par_link.specs.Conditions.{IsSmall};
-ghost use Rattle.par_link.specs.Named.{fields_of, methods_of, class_place, class_named, declared, place_in, field_declared, method_declared, named_by};
+ghost use Rattle.par_link.specs.Named.{fields_of, methods_of, class_place, class_named, declared};
+ghost use Rattle.par_link.specs.Named.{place_in, field_declared, method_declared, named_by};
 ghost use Rattle.par_link.specs.Placed.{AreClasses};
 ghost use Rattle.par_link.specs.Rules.{earlier, repeated_class};
 
@@ -88,7 +89,8 @@ impl<'f> Tables<'f> {
         })
     }
 
-    /// The place of the first file whose class has a name that is taken, or that of an earlier file.
+    /// The place of the first file whose class has a name that is taken, or that of an earlier
+    /// file.
     pub(crate) fn repeated_class(&self) -> Option<u16>
         ensures { result ≡ repeated_class self.now.files.now }
     {

@@ -1,7 +1,8 @@
 //! The walk through code, and where it stops.
 
 ghost use Rattle.std.specs.Prelude.{◌≡◌, ◌≤◌, length, drop};
-ghost use Rattle.par_link.specs.Stops.{left, is_unlisted, is_unsupported, is_cut, stop_at, stop_in, first_stop};
+ghost use Rattle.par_link.specs.Stops.{left, is_unlisted, is_unsupported, is_cut, stop_at, stop_in};
+ghost use Rattle.par_link.specs.Stops.{first_stop};
 
 use par_class::file::{CodeAttr, MethodFile};
 use par_instr::{InstrError, decode};

@@ -1,6 +1,7 @@
 //! The class files that were read so far.
 
-ghost use Rattle.std.specs.Prelude.{◌≡◌, ◌≤◌, ◌<◌, ◌∷◌, [], ◌++◌, None, false, IfOk, IfSome, OnOk, length, map, position, take, slice_get};
+ghost use Rattle.std.specs.Prelude.{◌≡◌, ◌≤◌, ◌<◌, ◌∷◌, [], ◌++◌, None, false, IfOk, IfSome, OnOk};
+ghost use Rattle.std.specs.Prelude.{length, map, position, take, slice_get};
 ghost use Rattle.std.specs.List.{All};
 ghost use Rattle.std.specs.Option.{option_map, unwrap_or};
 ghost use Rattle.std.specs.List.{list_any};
@@ -9,7 +10,8 @@ ghost use Rattle.par_lexer.specs.Names.{IsName};
 ghost use Rattle.par_single.specs.Members.{own_names};
 ghost use Rattle.par_single.specs.Members as members;
 ghost use Rattle.par_loader.specs.Reads.{IsSpelled};
-ghost use Rattle.par_loader.specs.Mentions.{naming, is_unread, names_unread, first_of, first_among, next_named};
+ghost use Rattle.par_loader.specs.Mentions.{naming, is_unread, names_unread, first_of, first_among};
+ghost use Rattle.par_loader.specs.Mentions.{next_named};
 
 use crate::builtin::is_built_in;
 use crate::mention::Mention;
@@ -128,7 +130,8 @@ impl Loading {
         done: usize,
     ) -> Result<Loading, NoMemory>
         requires named { IsName (members.own_name file) }
-        requires unread { list_any (bytes_eq (members.own_name file)) (own_names self.files) ≡ false }
+        requires unread { list_any (bytes_eq (members.own_name file)) (own_names self.files)
+            ≡ false }
         requires done { first_among self.files (take done self.files) ≡ None }
         requires within { done ≤ length self.files }
         ensures { IfOk result (λ loading. loading.files ≡ self.files ++ file ∷ []) }

@@ -9,7 +9,8 @@ ghost use Rattle.par_loader.specs.Reads.{Text, WasFound, IsSpelled};
 ghost use Rattle.par_loader.specs.Mentions.{naming};
 ghost use Rattle.par_loader.specs.Loaded.{step};
 ghost use Rattle.par_loader.specs.Judged.{is_main, has_main, begins};
-ghost use Rattle.par_loader.specs.Ends.{IsBadAs, AnswersFor, AnswersFirst, Steps, StepsFirst, IsRead, Loads, Links, Judges, FaultsStand};
+ghost use Rattle.par_loader.specs.Ends.{IsBadAs, AnswersFor, AnswersFirst, Steps, StepsFirst};
+ghost use Rattle.par_loader.specs.Ends.{IsRead, Loads, Links, Judges, FaultsStand};
 
 use crate::error::Unloaded;
 use crate::found::{Unfound, class_file};

@@ -1,6 +1,7 @@
 //! Branches.
 
-ghost use Rattle.std.specs.Prelude.{◌≡◌, ◌≤◌, ℕ, List, pos, ◌+ℤ◌, true, false, IsTrue, slice_index_or};
+ghost use Rattle.std.specs.Prelude.{◌≡◌, ◌≤◌, ℕ, List, pos, ◌+ℤ◌, true, false, IsTrue};
+ghost use Rattle.std.specs.Prelude.{slice_index_or};
 ghost use Rattle.par_single.specs.Walk.{starts_at};
 ghost use Rattle.par_stack.specs.Frames.{running};
 ghost use Rattle.par_steps.specs.Step.{stands_at};

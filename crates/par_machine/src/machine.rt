@@ -30,7 +30,8 @@ pub struct Machine {
 }
 
 impl Machine {
-    ghost use Rattle.std.specs.Prelude.{◌≡◌, ◌<◌, ◌≤◌, ◌+◌, ◌⊎◌, true, IfOk, IsErrOf, IsSome, IsTrue, slice_get};
+    ghost use Rattle.std.specs.Prelude.{◌≡◌, ◌<◌, ◌≤◌, ◌+◌, ◌⊎◌, true, IfOk, IsErrOf, IsSome};
+    ghost use Rattle.std.specs.Prelude.{IsTrue, slice_get};
     ghost use Rattle.par_steps.specs.State.{start, main_place};
     ghost use Rattle.par_steps.specs.Step.{turn};
     ghost use Rattle.par_steps.specs.Places.{all_places};

@@ -1,6 +1,7 @@
 //! What an instruction came to is handed out, and the run goes on so.
 
-ghost use Rattle.std.specs.Prelude.{◌≡◌, ◌<◌, ◌≤◌, ◌+◌, ℕ, true, ℤ, pos, ◌+ℤ◌, ◌⊎◌, length, IfOk, IsTrue};
+ghost use Rattle.std.specs.Prelude.{◌≡◌, ◌<◌, ◌≤◌, ◌+◌, ℕ, true, ℤ, pos, ◌+ℤ◌, ◌⊎◌, length, IfOk};
+ghost use Rattle.std.specs.Prelude.{IsTrue};
 ghost use Rattle.par_heap.specs.Heap.{objects_of};
 ghost use Rattle.par_stack.specs.Frames.{running};
 ghost use Rattle.par_steps.specs.Step.{offset};

@@ -1,6 +1,7 @@
 //! Throws: to the handler where an exception lands, or out of the program.
 
-ghost use Rattle.std.specs.Prelude.{◌≡◌, ◌<◌, ◌≤◌, ℕ, suc, true, not, ◌==◌, List as Items, ◌∷◌, length, if◌then◌else◌, IsTrue, IsErrOf, Option, Some, None};
+ghost use Rattle.std.specs.Prelude.{◌≡◌, ◌<◌, ◌≤◌, ℕ, suc, true, not, ◌==◌, List as Items, ◌∷◌};
+ghost use Rattle.std.specs.Prelude.{length, if◌then◌else◌, IsTrue, IsErrOf, Option, Some, None};
 ghost use Rattle.par_single.specs.Walk.{starts_at};
 ghost use Rattle.par_heap.specs.Heap.{objects_of};
 ghost use Rattle.par_values.specs.Reasons.{is_of};

@@ -7,7 +7,8 @@ ghost use Rattle.par_meaning.specs.declared.work.Completion.TheVariants.{Normal,
 ghost use Rattle.par_meaning.specs.declared.work.Waiting.TheVariants.{Leave};
 ghost use Rattle.par_values.specs.declared.value.MVal.{MVal};
 ghost use Rattle.par_meaning.specs.Onward.{onward, behind, state_of, setting, HandsOn};
-ghost use Rattle.par_meaning.specs.Work.{Setting, Follows, called, run_calls, last_values, evaluates_all, first_of};
+ghost use Rattle.par_meaning.specs.Work.{Setting, Follows, called, run_calls, last_values};
+ghost use Rattle.par_meaning.specs.Work.{evaluates_all, first_of};
 
 use crate::machine::Machine;
 use crate::memory::NoMemory;

@@ -3,7 +3,8 @@
 ghost use Rattle.std.specs.Prelude.{◌≡◌, slice_get, IfOk};
 ghost use Rattle.par_secrecy.specs.Subject.{given};
 ghost use Rattle.par_values.specs.Areas.{list_or_none};
-ghost use Rattle.par_meaning.specs.Lined.{AreLines, numbers_of, row_of, row_shown, rows_of, rows_shown};
+ghost use Rattle.par_meaning.specs.Lined.{AreLines, numbers_of, row_of, row_shown, rows_of};
+ghost use Rattle.par_meaning.specs.Lined.{rows_shown};
 
 use crate::memory::NoMemory;
 use par_index::Firsts;

@@ -3,9 +3,11 @@
 ghost use Rattle.std.specs.Prelude.{◌≡◌, ◌≢◌, ◌||◌, false, pos};
 ghost use Rattle.par_values.specs.Areas.{number_of};
 ghost use Rattle.par_values.specs.declared.value.MVal.TheVariants.{Int};
-ghost use Rattle.par_values.specs.Arithmetic.{combined, negated, Plus, Minus, ShiftLeft, ShiftRight, ShiftRightUnsigned, Quotient};
+ghost use Rattle.par_values.specs.Arithmetic.{combined, negated, Plus, Minus, ShiftLeft};
+ghost use Rattle.par_values.specs.Arithmetic.{ShiftRight, ShiftRightUnsigned, Quotient};
 ghost use Rattle.par_meaning.specs.Work.{is_object};
-ghost use Rattle.par_runs.specs.Values.{truth, is_true, object_number, same, decides, throws, applied};
+ghost use Rattle.par_runs.specs.Values.{truth, is_true, object_number, same, decides, throws};
+ghost use Rattle.par_runs.specs.Values.{applied};
 
 use par_lexer::operator::BinOp;
 use par_values::value::MVal;

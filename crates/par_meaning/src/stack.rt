@@ -1,4 +1,5 @@
-ghost use Rattle.std.specs.Prelude.{◌≡◌, [], ◌∷◌, length, take, drop, reverse, slice_get, MatchOption, IfOk, OnOk};
+ghost use Rattle.std.specs.Prelude.{◌≡◌, [], ◌∷◌, length, take, drop, reverse, slice_get};
+ghost use Rattle.std.specs.Prelude.{MatchOption, IfOk, OnOk};
 
 use crate::memory::NoMemory;
 use std::alloc::Global;

@@ -3,7 +3,8 @@
 ghost use Rattle.std.specs.Prelude.{◌≡◌, [], true, false, slice_get};
 ghost use Rattle.par_link.specs.Linked.{named_at};
 ghost use Rattle.par_steps.specs.Classes.{class_names};
-ghost use Rattle.par_steps.specs.Links.{class_link, builtin_class, field_in, lock_link, method_in, builtin_initializer, link_at};
+ghost use Rattle.par_steps.specs.Links.{class_link, builtin_class, field_in, lock_link, method_in};
+ghost use Rattle.par_steps.specs.Links.{builtin_initializer, link_at};
 ghost use Rattle.par_method_area.specs.Known.{linked_number, KnowsField, KnowsClass, KnowsMethod};
 ghost use Rattle.par_method_area.specs.Targets.{gives_result, target_of};
 

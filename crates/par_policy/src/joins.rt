@@ -1,5 +1,6 @@
 // Joins of policies as sets of policy numbers.
-ghost use Rattle.std.specs.Prelude.{◌≡◌, ◌<◌, ◌↔◌, [], All, Contains, IsTrue, IfOk, OnOk, OnErr, length};
+ghost use Rattle.std.specs.Prelude.{◌≡◌, ◌<◌, ◌↔◌, [], All, Contains, IsTrue, IfOk, OnOk, OnErr};
+ghost use Rattle.std.specs.Prelude.{length};
 ghost use Rattle.par_policy.specs.Numbers.{IsAscending, within, Gains, GainsAll};
 ghost use Rattle.par_policy.specs.Order.{IsJoinBelowAt, policies_of};
 
@@ -69,7 +70,8 @@ impl PolicySet {
     /// Whether the join of these policies of the table, specialised to the locks, is below `q`.
     pub fn below(&self, policies: &[Policy], locks: &Lockset, q: &Policy) -> bool
         requires { All (λ n. n < length policies.now) self.now }
-        ensures { IsTrue result ↔ IsJoinBelowAt (policies_of policies.now self.now) locks.now q.now }
+        ensures { IsTrue result
+            ↔ IsJoinBelowAt (policies_of policies.now self.now) locks.now q.now }
     {
         for policy in self.policies.as_slice() {
             if !leq_at(&policies[usize::from(*policy)], locks, q) {

@@ -1,5 +1,6 @@
 // The steps to the normal form.
-ghost use Rattle.std.specs.Prelude.{◌≡◌, ℕ, ◌<◌, ◌≤◌, ◌≢◌, ◌++◌, [], ◌∷◌, Bool, OnOk, IsTrue, false, length, vec_len, not};
+ghost use Rattle.std.specs.Prelude.{◌≡◌, ℕ, ◌<◌, ◌≤◌, ◌≢◌, ◌++◌, [], ◌∷◌, Bool, OnOk, IsTrue};
+ghost use Rattle.std.specs.Prelude.{false, length, vec_len, not};
 ghost use Rattle.std.specs.List.{list_any, filter, AllWithin, HoldsAt};
 ghost use Rattle.std.specs.declared.cmp.Ordering.TheVariants.{Less};
 ghost use Rattle.par_policy.specs.Sees.{IsSeenAlike};
@@ -57,7 +58,8 @@ fn drop_covered(kept: &mut Vec<Clause>, clause: &Clause)
 fn position_of(kept: &[Clause], clause: &Clause) -> usize
     ensures bound { result ≤ length kept.now }
     ensures before { AllWithin (λ c. clause_cmp c clause.now ≡ Less) kept.now 0 result }
-    ensures first { result < length kept.now → HoldsAt (λ c. clause_cmp c clause.now ≢ Less) kept.now result }
+    ensures first { result < length kept.now
+        → HoldsAt (λ c. clause_cmp c clause.now ≢ Less) kept.now result }
 {
     for (place, other) in kept.iter().enumerate() {
         if compare(other, clause).is_ge() {

@@ -1,8 +1,12 @@
-ghost use Rattle.std.specs.Prelude.{◌≡◌, ◌≢◌, ℕ, ◌+◌, ◌<◌, [], length, slice_get, Some, IfOk, IfSome, IfNone, IsTrue};
+ghost use Rattle.std.specs.Prelude.{◌≡◌, ◌≢◌, ℕ, ◌+◌, ◌<◌, [], length, slice_get, Some, IfOk};
+ghost use Rattle.std.specs.Prelude.{IfSome, IfNone, IsTrue};
 ghost use Rattle.std.specs.Int.{w32};
-ghost use Rattle.par_pool.specs.declared.constant.Constant.TheVariants.{Utf8, Integer, Class, Field, Method, NameType};
-ghost use Rattle.par_pool.specs.Entries.{IsAt, IsUtf8At, IsClassAt, IsNameTypeAt, IsFieldAt, IsMethodAt, IsDistinct};
-ghost use Rattle.par_pool.specs.Growth.{Adds, IsClassPart, IsNameTypePart, IsNamingPart, IsMemberPart};
+ghost use Rattle.par_pool.specs.declared.constant.Constant.TheVariants.{Utf8, Integer, Class};
+ghost use Rattle.par_pool.specs.declared.constant.Constant.TheVariants.{Field, Method, NameType};
+ghost use Rattle.par_pool.specs.Entries.{IsAt, IsUtf8At, IsClassAt, IsNameTypeAt, IsFieldAt};
+ghost use Rattle.par_pool.specs.Entries.{IsMethodAt, IsDistinct};
+ghost use Rattle.par_pool.specs.Growth.{Adds, IsClassPart, IsNameTypePart, IsNamingPart};
+ghost use Rattle.par_pool.specs.Growth.{IsMemberPart};
 ghost use Rattle.par_pool.specs.Spelling.{constant as spelling, IsText, Fits, refers, IsPool};
 
 use crate::constant::{Constant, Pool};

@@ -1,5 +1,7 @@
-ghost use Rattle.std.specs.Prelude.{◌≡◌, ◌-◌, ◌&&◌, nat_lt, ◌<◌, ◌≤◌, ℕ, drop, length, IfOk, Ok, IfSome, position, not};
-ghost use Rattle.par_pool.specs.declared.constant.Constant.TheVariants.{Class, Text, Field, Method, NameType};
+ghost use Rattle.std.specs.Prelude.{◌≡◌, ◌-◌, ◌&&◌, nat_lt, ◌<◌, ◌≤◌, ℕ, drop, length, IfOk, Ok};
+ghost use Rattle.std.specs.Prelude.{IfSome, position, not};
+ghost use Rattle.par_pool.specs.declared.constant.Constant.TheVariants.{Class, Text, Field, Method};
+ghost use Rattle.par_pool.specs.declared.constant.Constant.TheVariants.{NameType};
 ghost use Rattle.std.specs.List.{list_all};
 ghost use Rattle.std.specs.Prelude.{List as Items};
 ghost use Rattle.par_pool.specs.declared.constant.Constant.{Constant as Entry};

@@ -4,7 +4,8 @@ ghost use Rattle.std.specs.List.{list_all};
 ghost use Rattle.par_tree.specs.Shown.{class_of};
 ghost use Rattle.par_typed.specs.First.{first_of};
 ghost use Rattle.par_resolved.specs.Sets.{met};
-ghost use Rattle.par_resolved.specs.Births.{part_policies, meet_of, birth_policy, is_below, birth_faults};
+ghost use Rattle.par_resolved.specs.Births.{part_policies, meet_of, birth_policy, is_below};
+ghost use Rattle.par_resolved.specs.Births.{birth_faults};
 ghost use Rattle.par_resolved.specs.Seen.{known_seen};
 
 use crate::forms;

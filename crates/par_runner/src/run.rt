@@ -5,7 +5,8 @@ ghost use Rattle.par_io.specs.Saying.{Said};
 ghost use Rattle.par_machine.specs.Machine.{steps_of};
 ghost use Rattle.par_runner.specs.Running.{runs_of};
 ghost use Rattle.par_runner.specs.Texts.{lines, status};
-ghost use Rattle.par_runner.specs.Telling.{GoesOn, ClosesBy, IsUntoldTurn, PutsAreTold, IsTold, IsCutOff, Closes};
+ghost use Rattle.par_runner.specs.Telling.{GoesOn, ClosesBy, IsUntoldTurn, PutsAreTold, IsTold};
+ghost use Rattle.par_runner.specs.Telling.{IsCutOff, Closes};
 
 use crate::running::{MOST_STEPS, Moved, step};
 use crate::telling::{Closing, Untold, put_closing, put_event, status_of, untold_status};

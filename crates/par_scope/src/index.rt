@@ -3,7 +3,8 @@
 ghost use Rattle.std.specs.Prelude.{◌≡◌, ◌<◌, ◌^◌, IfOk, IfSome, map, length, slice_get};
 ghost use Rattle.std.specs.Option.{option_copied, option_map};
 ghost use Rattle.par_index.specs.Texts.{texts};
-ghost use Rattle.par_scope.specs.Names.{number_in, names_of, member_names, fields_in, channels_in, methods_in, IsFewTable, IsFewMembers};
+ghost use Rattle.par_scope.specs.Names.{number_in, names_of, member_names, fields_in, channels_in};
+ghost use Rattle.par_scope.specs.Names.{methods_in, IsFewTable, IsFewMembers};
 ghost use Rattle.par_scope.specs.Indexed.{members_indexed};
 
 use crate::member_index::{MemberIndex, members_of_class};

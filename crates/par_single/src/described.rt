@@ -2,7 +2,8 @@
 
 ghost use Rattle.std.specs.Prelude.{◌≡◌};
 ghost use Rattle.par_class.specs.Spelling.{is_native};
-ghost use Rattle.par_single.specs.Single.{is_field_right, is_of_channel, is_channel_right, is_method_right};
+ghost use Rattle.par_single.specs.Single.{is_field_right, is_of_channel, is_channel_right};
+ghost use Rattle.par_single.specs.Single.{is_method_right};
 
 use crate::descriptor::{field_said, method_gives};
 use crate::member::{is_native, is_static, text_at};

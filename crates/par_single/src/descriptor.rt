@@ -1,7 +1,9 @@
 //! What descriptors say (Java Virtual Machine Specification, Java SE 7, section 4.3).
 
 ghost use Rattle.std.specs.Prelude.{◌≡◌, option_map, IfOk, IfSome, position};
-ghost use Rattle.par_single.specs.Descriptors.{Text, kind_at, alone, field_kind, no_kinds, kinds_at, result_kind, method_signature, kind_of, IsSaid, ends_name, object_to};
+ghost use Rattle.par_single.specs.Descriptors.{Text, kind_at, alone, field_kind, no_kinds};
+ghost use Rattle.par_single.specs.Descriptors.{kinds_at, result_kind, method_signature, kind_of};
+ghost use Rattle.par_single.specs.Descriptors.{IsSaid, ends_name, object_to};
 
 use par_lexer::list::{List, NoMemory};
 use par_lexer::name::Name;

@@ -2,7 +2,8 @@
 
 ghost use Rattle.std.specs.Prelude.{◌≡◌, []};
 ghost use Rattle.par_class.specs.Spelling.{is_native};
-ghost use Rattle.par_single.specs.Members.{text_at, class_name_at, own_name, member_at, named, is_method_of, method_place, is_static, is_initializer};
+ghost use Rattle.par_single.specs.Members.{text_at, class_name_at, own_name, member_at, named};
+ghost use Rattle.par_single.specs.Members.{is_method_of, method_place, is_static, is_initializer};
 ghost use Rattle.par_single.specs.Single.{is_taken};
 
 use par_class::file::{ClassFile, MethodFile};

@@ -1,7 +1,10 @@
-ghost use Rattle.std.specs.Prelude.{◌≡◌, ◌<◌, ◌≤◌, ◌+◌, ℕ, [], ◌∷◌, drop, length, map, slice_get, Some, None, IfOk, OnOk, OnErr};
+ghost use Rattle.std.specs.Prelude.{◌≡◌, ◌<◌, ◌≤◌, ◌+◌, ℕ, [], ◌∷◌, drop, length, map, slice_get};
+ghost use Rattle.std.specs.Prelude.{Some, None, IfOk, OnOk, OnErr};
 ghost use Rattle.std.specs.Option.{option_map};
 ghost use Rattle.par_values.specs.Areas.{local_value};
-ghost use Rattle.par_stack.specs.Frames.{all_places, running, waiting, entered, with_running, pushed, popped, left_with, with_local, at_offset, last_operands, without_running, is_awaited};
+ghost use Rattle.par_stack.specs.Frames.{all_places, running, waiting, entered, with_running};
+ghost use Rattle.par_stack.specs.Frames.{pushed, popped, left_with, with_local, at_offset};
+ghost use Rattle.par_stack.specs.Frames.{last_operands, without_running, is_awaited};
 
 use crate::places::empty;
 use crate::point::{Extent, Point};

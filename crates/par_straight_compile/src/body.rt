@@ -1,8 +1,10 @@
 //! The code of `main`: a sum and where it goes, one step after another.
 
-ghost use Rattle.std.specs.Prelude.{◌≡◌, ℕ, ◌+◌, ◌*◌, ◌<◌, ◌≤◌, ◌^◌, ◌∷◌, length, All, sum_by, OnOk};
+ghost use Rattle.std.specs.Prelude.{◌≡◌, ℕ, ◌+◌, ◌*◌, ◌<◌, ◌≤◌, ◌^◌, ◌∷◌, length, All, sum_by};
+ghost use Rattle.std.specs.Prelude.{OnOk};
 ghost use Rattle.par_instr.specs.declared.instr.Instr.TheVariants.{Return};
-ghost use Rattle.par_straight_compile.specs.Code.{plain, added_code, sum_code, action_code, steps_code};
+ghost use Rattle.par_straight_compile.specs.Code.{plain, added_code, sum_code, action_code};
+ghost use Rattle.par_straight_compile.specs.Code.{steps_code};
 ghost use Rattle.par_straight_compile.specs.Compilable.{IsOperandOf, IsActionOf, most_items};
 ghost use Rattle.par_straight_compile.specs.Growing.{Emits, StandsIn};
 

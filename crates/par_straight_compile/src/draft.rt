@@ -1,11 +1,13 @@
 //! The code of `main` in the making: one item after another, each with its constant.
 
-ghost use Rattle.std.specs.Prelude.{◌≡◌, ℕ, ◌+◌, ◌*◌, ◌<◌, ◌≤◌, ◌^◌, ◌∷◌, ◌++◌, true, false, length, Contains, IfOk, OnOk, IsTrue};
+ghost use Rattle.std.specs.Prelude.{◌≡◌, ℕ, ◌+◌, ◌*◌, ◌<◌, ◌≤◌, ◌^◌, ◌∷◌, ◌++◌, true, false};
+ghost use Rattle.std.specs.Prelude.{length, Contains, IfOk, OnOk, IsTrue};
 ghost use Rattle.par_instr.specs.Spelling.{spelling, has_spelling, IsSpelled};
 ghost use Rattle.par_lexer.specs.Names.{IsName};
 ghost use Rattle.par_pool.specs.Spelling.{IsText};
 ghost use Rattle.par_straight.specs.Meaning as meaning;
-ghost use Rattle.par_straight_compile.specs.Code.{plain, push, get, put, read, write, operand_item, code_of};
+ghost use Rattle.par_straight_compile.specs.Code.{plain, push, get, put, read, write, operand_item};
+ghost use Rattle.par_straight_compile.specs.Code.{code_of};
 ghost use Rattle.par_straight_compile.specs.Compilable.{HasChannel, IsOperandOf};
 ghost use Rattle.par_straight_compile.specs.Constants.{texts};
 ghost use Rattle.par_straight_compile.specs.Growing.{Emits};

@@ -1,6 +1,7 @@
 //! The fields and the channels of a class file, in the order of the source.
 
-ghost use Rattle.std.specs.Prelude.{◌≡◌, ◌+◌, ◌*◌, ◌<◌, ◌≤◌, length, codes, All, Contains, IfOk, OnOk};
+ghost use Rattle.std.specs.Prelude.{◌≡◌, ◌+◌, ◌*◌, ◌<◌, ◌≤◌, length, codes, All, Contains, IfOk};
+ghost use Rattle.std.specs.Prelude.{OnOk};
 ghost use Rattle.std.specs.List.{AllZip};
 ghost use Rattle.par_lexer.specs.Names.{IsName};
 ghost use Rattle.par_pool.specs.Entries.{IsUtf8At, IsClassAt};

@@ -1,8 +1,10 @@
 //! The two methods of a class file that have code: the initializer and `main`.
 
-ghost use Rattle.std.specs.Prelude.{◌≡◌, ◌+◌, ◌<◌, ◌++◌, [], All, length, codes, Contains, IfOk, OnOk};
+ghost use Rattle.std.specs.Prelude.{◌≡◌, ◌+◌, ◌<◌, ◌++◌, [], All, length, codes, Contains, IfOk};
+ghost use Rattle.std.specs.Prelude.{OnOk};
 ghost use Rattle.par_instr.specs.Spelling.{spelling};
-ghost use Rattle.par_instr.specs.declared.instr.Instr.TheVariants.{AloadShort, Invokespecial, Return};
+ghost use Rattle.par_instr.specs.declared.instr.Instr.TheVariants.{AloadShort, Invokespecial};
+ghost use Rattle.par_instr.specs.declared.instr.Instr.TheVariants.{Return};
 ghost use Rattle.par_pool.specs.Entries.{IsMethodAt};
 ghost use Rattle.par_straight_compile.specs.Bytes.{IsCode};
 ghost use Rattle.par_straight_compile.specs.Code.{code_of};

@@ -1,5 +1,7 @@
 // The laws of the class file of a straight-line program. Nothing runs here: each contract is a law.
-ghost use Rattle.par_straight_shows.specs.Theorems.{ProgramsAreRunnable, CompiledRunsAlone, CompiledShows, CompiledShowsWhole, CompiledIsSecure};
+ghost use Rattle.par_straight_shows.specs.Theorems.{ProgramsAreRunnable, CompiledRunsAlone};
+ghost use Rattle.par_straight_shows.specs.Theorems.{CompiledShows, CompiledShowsWhole};
+ghost use Rattle.par_straight_shows.specs.Theorems.{CompiledIsSecure};
 
 /// A program that has a source has names where its class file has some, names only what it
 /// declares, and reads no local before it sets it.
@@ -24,8 +26,8 @@ pub fn compiled_shows_whole()
     ensures { CompiledShowsWhole }
 {}
 
-/// The class file of a source that was accepted keeps what the source keeps: an observer of its runs
-/// learns no more than one of the source's.
+/// The class file of a source that was accepted keeps what the source keeps: an observer of its
+/// runs learns no more than one of the source's.
 pub fn compiled_is_secure()
     ensures { CompiledIsSecure }
 {}

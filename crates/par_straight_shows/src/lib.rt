@@ -1,4 +1,5 @@
-//! The class file of a straight-line program runs by itself, and its runs show those of the program.
+//! The class file of a straight-line program runs by itself, and its runs show those of the
+//! program.
 //!
 //! The compiler says which file it makes of a program, the machine says what a class file does, and
 //! this crate proves that the two fit: what is known of a source's runs is known of its file's. It

@@ -20,8 +20,8 @@ pub enum Answer {
     Accepted,
     /// The source is accepted, and so many class files are written.
     Compiled(u32),
-    /// The source breaks a rule at a line and a column, both counted from 1. The limit and the count
-    /// are 0 but for an exceeded limit.
+    /// The source breaks a rule at a line and a column, both counted from 1. The limit and the
+    /// count are 0 but for an exceeded limit.
     Refused {
         rule: u16,
         line: u32,

@@ -39,7 +39,8 @@ fn add_actors(text: &mut Vec<u8>, table: &Table, actors: &[u8]) -> Result<(), No
 
 /// Adds the actors that choose a lock of a family.
 fn add_choice(text: &mut Vec<u8>, table: &Table, actors: &[u8]) -> Result<(), NoMemory>
-    ensures { OnOk result (text.new.items ≡ text.old.items ++ spec.choice_text table.now actors.now) }
+    ensures { OnOk result (text.new.items
+        ≡ text.old.items ++ spec.choice_text table.now actors.now) }
 {
     if actors.is_empty() {
         return Ok(());

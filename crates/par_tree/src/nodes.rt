@@ -3,7 +3,8 @@
 ghost use Rattle.std.specs.Prelude.{◌≡◌, ◌<◌, ◌^◌};
 ghost use Rattle.par_tree.specs.Nodes as count;
 ghost use Rattle.par_tree.specs.Shown.{shown, may_shown, receiver, all_shown};
-ghost use Rattle.par_tree.specs.Shown.{does, braces, otherwise, may_braces, all_do, all_catch, handler};
+ghost use Rattle.par_tree.specs.Shown.{does, braces, otherwise, may_braces, all_do, all_catch};
+ghost use Rattle.par_tree.specs.Shown.{handler};
 ghost use Rattle.par_tree.specs.Shown as tree;
 
 use crate::decl::MethodDecl;

@@ -1,4 +1,5 @@
-ghost use Rattle.par_values.specs.Laws.{TakesAndGives, NoneOfMembers, ChangeIsGivenLessTaken, ChangeIsMade, LeavingTakes};
+ghost use Rattle.par_values.specs.Laws.{TakesAndGives, NoneOfMembers, ChangeIsGivenLessTaken};
+ghost use Rattle.par_values.specs.Laws.{ChangeIsMade, LeavingTakes};
 
 /// The law that what `stack_effect` of par_instr tells of an instruction is what the instruction
 /// does: the change of the operand list where the frame goes on, minus what an athrow or a return

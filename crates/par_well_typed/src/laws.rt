@@ -53,9 +53,10 @@ pub fn bodies_make_objects()
 {}
 
 /// In the typed bodies of such a source each value has a type that fits where it stands: a test is
-/// a boolean, an operand is what its operator takes, and an assigned value, an argument and a result
-/// are what is declared, where null fits each class. Only what is never null is given to a local or
-/// a parameter that is declared so. The locals of a method begin with `this` and the parameters.
+/// a boolean, an operand is what its operator takes, and an assigned value, an argument and a
+/// result are what is declared, where null fits each class. Only what is never null is given to a
+/// local or a parameter that is declared so. The locals of a method begin with `this` and the
+/// parameters.
 pub fn types_fit()
     ensures { TypesFit }
 {}
@@ -72,9 +73,9 @@ pub fn tables_have_texts()
     ensures { TablesHaveTexts }
 {}
 
-/// All of the above holds of the typed bodies of a source that breaks no rule on names and types and
-/// exceeds no limit: they are well typed over its table, where its names and descriptors have no
-/// more bytes than a source may have.
+/// All of the above holds of the typed bodies of a source that breaks no rule on names and types
+/// and exceeds no limit: they are well typed over its table, where its names and descriptors have
+/// no more bytes than a source may have.
 pub fn sources_are_well_typed()
     ensures { SourcesAreWellTyped }
 {}

@@ -1,8 +1,8 @@
 //! The words behind a program's name, and what they ask for.
 //!
-//! Each program is one simple command with flags and values (specs/Commands.antt), and has its forms
-//! (specs/Words.antt). The crate reads words alone: it opens no file, and what the words ask for is
-//! not its matter.
+//! Each program is one simple command with flags and values (specs/Commands.antt), and has its
+//! forms (specs/Words.antt). The crate reads words alone: it opens no file, and what the words ask
+//! for is not its matter.
 #![tactic(auto)]
 
 mod commands;

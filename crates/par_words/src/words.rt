@@ -2,7 +2,8 @@
 
 ghost use Rattle.std.specs.Prelude.{◌≡◌, ◌≤◌, ℕ, MatchOption, MatchResult, map};
 ghost use Rattle.clap.specs.Words.{found_of, rows_of};
-ghost use Rattle.par_words.specs.Words.{Asks, Wanted, IsForm, IsCompiler, IsSource, IsTrace, AskTrace, IsRun, AskRun, Counts};
+ghost use Rattle.par_words.specs.Words.{Asks, Wanted, IsForm, IsCompiler, IsSource, IsTrace};
+ghost use Rattle.par_words.specs.Words.{AskTrace, IsRun, AskRun, Counts};
 ghost use Rattle.par_words.specs.Requests.{wanted};
 
 use crate::commands::{has_flag, taken, values};

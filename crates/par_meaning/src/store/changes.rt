@@ -1,5 +1,6 @@
 ghost use Rattle.std.specs.Prelude.{◌≡◌, IfOk, OnOk};
-ghost use Rattle.par_meaning.specs.Held.{nothing_held, numbers_left, write_static, bear, write_field, keep_input, opens, closes};
+ghost use Rattle.par_meaning.specs.Held.{nothing_held, numbers_left, write_static, bear};
+ghost use Rattle.par_meaning.specs.Held.{write_field, keep_input, opens, closes};
 ghost use Rattle.par_meaning.specs.Stored.{holds};
 
 use crate::memory::NoMemory;
