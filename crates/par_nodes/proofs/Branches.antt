@@ -110,24 +110,6 @@ unfolding sta
 when_is d l s typed.NoElse a p = refl
 when_is d l s (typed.Otherwise t) a p = refl
 
-pub ruleset taken_apart = (
-  block_is,
-  if_is,
-  while_is,
-  try_is,
-  return_is,
-  break_is,
-  continue_is,
-  throw_is,
-  open_is,
-  close_is,
-  set_local_is,
-  set_static_is,
-  set_field_is,
-  eval_is,
-  when_is,
-)
-
 pub stas_none : (d : Declares) (from : From) (ss : List TStmt) (r : Rules) → r ≡ goes_on from Done
     → r ≡ stas d from (all_do (drop (length ss) ss))
 unfolding stas

@@ -198,36 +198,26 @@ kept_all a js i k0 g h e =
       drop_past (x ∷ js) (suc i) h = drop_past js i (omega (arith, h))
 
 -- a part's completions, and those of what is behind
-pub part_step : (parts more_parts : List (List code.Kind)) (js : List code.Kind) (from : From)
-    (a : Absorber) (n : Node) (more : Rules) (k0 k1 k2 : Kind → Bool) (b : Bool)
-    → b ≡ comes (cans parts []) from → among js ≡ if_so b (can n)
-    → k1 ≡ either k0 (apart a (among js)) → more_parts ≡ parts ++ js ∷ []
-    → k2 ≡ either k1 (can_by (cans more_parts []) more) → k2 ≡ either k0
-    (can_by (cans parts []) (Part from a n more))
+part_step : (fs more_fs : List (Kind → Bool)) (from : From) (a : Absorber) (n : Node) (more : Rules)
+    (k0 k1 k2 : Kind → Bool) (b : Bool)
+    → b ≡ comes fs from → more_fs ≡ if_so b (can n) ∷ fs
+    → k1 ≡ either k0 (apart a (if_so b (can n))) → k2 ≡ either k1 (can_by more_fs more)
+    → k2 ≡ either k0 (can_by fs (Part from a n more))
 unfolding can_by
-part_step parts more_parts js from a n more k0 k1 k2 b e f g q h =
-    let own : among js ≡ if_so (comes (cans parts []) from) (can n) = f
-    ∙ ap (λ c. if_so c (can n)) e in
-    let rest : cans more_parts [] ≡ if_so (comes (cans parts []) from) (can n) ∷ cans parts [] = ap
-    (λ l. cans l []) q ∙ cans_push parts js [] ∙ ap (λ x. x ∷ cans parts []) own in
-    h ∙ ap (λ x. either x (can_by (cans more_parts []) more))
-    (g ∙ ap (λ x. either k0 (apart a x)) own)
-    ∙ ap (λ x. either (either k0 (apart a (if_so (comes (cans parts []) from) (can n))))
-    (can_by x more)) rest
+part_step fs more_fs from a n more k0 k1 k2 b e q g h =
+    h ∙ ap (λ x. either x (can_by more_fs more))
+    (g ∙ ap (λ c. either k0 (apart a (if_so c (can n)))) e)
+    ∙ ap (λ x. either (either k0 (apart a (if_so (comes fs from) (can n)))) (can_by x more))
+    (q ∙ ap (λ c. if_so c (can n) ∷ fs) e)
     ∙ fun_ext (λ k. or_assoc (k0 k) _ _)
 
-pub test_step : (parts more_parts : List (List code.Kind)) (js : List code.Kind) (n : Node)
-    (more : Rules) (k0 k1 k2 : Kind → Bool)
-    → among js ≡ can n → k1 ≡ either k0 (apart Next (among js)) → more_parts ≡ parts ++ js ∷ []
-    → k2 ≡ either k1 (can_by (cans more_parts []) more) → k2 ≡ either k0
-    (can_by (cans parts []) (Test n more))
+test_step : (fs more_fs : List (Kind → Bool)) (n : Node) (more : Rules) (k0 k1 k2 : Kind → Bool)
+    → more_fs ≡ if_so true (can n) ∷ fs → k1 ≡ either k0 (apart Next (if_so true (can n)))
+    → k2 ≡ either k1 (can_by more_fs more) → k2 ≡ either k0 (can_by fs (Test n more))
 unfolding can_by
-test_step parts more_parts js n more k0 k1 k2 f g q h =
-    let rest : cans more_parts [] ≡ (λ j. can n j) ∷ cans parts [] = ap (λ l. cans l []) q
-    ∙ cans_push parts js [] ∙ ap (λ x. x ∷ cans parts []) f in
-    h ∙ ap (λ x. either x (can_by (cans more_parts []) more))
-    (g ∙ ap (λ x. either k0 (apart Next x)) f)
-    ∙ ap (λ x. either (either k0 (apart Next (can n))) (can_by x more)) rest
+test_step fs more_fs n more k0 k1 k2 q g h =
+    h ∙ ap (λ x. either x (can_by more_fs more)) g
+    ∙ ap (λ x. either (either k0 (apart Next (can n))) (can_by x more)) q
     ∙ fun_ext (λ k. or_assoc (k0 k) _ _)
 
 pub leaves_step : (fs : List (Kind → Bool)) (from : From) (j : Kind) (more : Rules)
@@ -256,39 +246,6 @@ worths_step fs v more = refl
 pub node_step : (p : ℕ) (r : Rules) → can (node p r) ≡ can_by [] r
 unfolding can
 node_step p r = refl
-
-part_known : (rs : tree.Rules) (o : Origin) (a : tree_absorber.Absorber)
-    (b : Box tree_node.Node Global) (q : Box tree.Rules Global)
-    (parts slice more_parts : List (List code.Kind)) (js xs : List code.Kind) (n : tree_node.Node)
-    (m : tree.Rules) (k0 k1 k2 : Kind → Bool) (reached : Bool)
-    → rs ≡ rule.Part o a b q → slice ≡ parts → reached ≡ comes (cans slice []) (seen_origin o)
-    → n ≡ b.value → among js ≡ if_so reached (can (seen_node n)) → xs ≡ js
-    → k1 ≡ either k0 (apart (seen_absorber a) (among xs)) → more_parts ≡ parts ++ js ∷ []
-    → m ≡ q.value → k2 ≡ either k1 (can_by (cans more_parts []) (seen_rules m))
-    → k2 ≡ either k0 (can_by (cans parts []) (seen_rules rs))
-part_known rs o a b q parts slice more_parts js xs n m k0 k1 k2 reached is s e d f x g p v h =
-    part_step parts more_parts js (seen_origin o) (seen_absorber a) (seen_node b.value)
-    (seen_rules q.value) k0 k1 k2 reached
-    (e ∙ ap (λ l. comes (cans l []) (seen_origin o)) s) (f
-    ∙ ap (λ y. if_so reached (can (seen_node y))) d)
-    (g ∙ ap (λ y. either k0 (apart (seen_absorber a) (among y))) x) p
-    (h ∙ ap (λ y. either k1 (can_by (cans more_parts []) (seen_rules y))) v)
-    ∙ sym (ap (λ r. either k0 (can_by (cans parts []) (seen_rules r))) is
-    ∙ ap (λ r. either k0 (can_by (cans parts []) r)) (seen_part o a b q))
-
-test_known : (rs : tree.Rules) (b : Box tree_node.Node Global) (q : Box tree.Rules Global)
-    (parts more_parts : List (List code.Kind)) (js xs : List code.Kind) (n : tree_node.Node)
-    (m : tree.Rules) (k0 k1 k2 : Kind → Bool)
-    → rs ≡ rule.Test b q → n ≡ b.value → among js ≡ can (seen_node n) → xs ≡ js
-    → k1 ≡ either k0 (apart Next (among xs)) → more_parts ≡ parts ++ js ∷ [] → m ≡ q.value
-    → k2 ≡ either k1 (can_by (cans more_parts []) (seen_rules m))
-    → k2 ≡ either k0 (can_by (cans parts []) (seen_rules rs))
-test_known rs b q parts more_parts js xs n m k0 k1 k2 is d f x g p v h =
-    test_step parts more_parts js (seen_node b.value) (seen_rules q.value) k0 k1 k2
-    (f ∙ ap (λ y. can (seen_node y)) d) (g ∙ ap (λ y. either k0 (apart Next (among y))) x) p
-    (h ∙ ap (λ y. either k1 (can_by (cans more_parts []) (seen_rules y))) v)
-    ∙ sym (ap (λ r. either k0 (can_by (cans parts []) (seen_rules r))) is
-    ∙ ap (λ r. either k0 (can_by (cans parts []) r)) (seen_test b q))
 
 pub leaves_made : (rs : tree.Rules) (o : Origin) (j : code.Kind) (q : Box tree.Rules Global)
     (parts slice : List (List code.Kind)) (m : tree.Rules) (k0 k1 k2 : Kind → Bool) (reached : Bool)
@@ -407,45 +364,59 @@ worths_told rs w q m is v =
     ap (λ r. parts_can (seen_rules r)) is ∙ ap parts_can (seen_worths w q)
     ∙ sym (ap (λ y. parts_can (seen_rules y)) v)
 
+-- a part that is added, where it is entered
+pub part_added : (found rest parts more_parts : List (List code.Kind)) (js xs : List code.Kind)
+    (a : Absorber) (k0 k1 : Kind → Bool) (b : Bool)
+    → ((f : Kind → Bool) (fs : List (Kind → Bool)) → cans found [] ≡ f ∷ fs → among js ≡ if_so b f)
+    → ((f : Kind → Bool) (fs : List (Kind → Bool)) → cans found [] ≡ f ∷ fs → cans rest [] ≡ fs)
+    → xs ≡ js → k1 ≡ either k0 (apart a (among xs)) → more_parts ≡ parts ++ js ∷ []
+    → (f : Kind → Bool) (fs : List (Kind → Bool)) → cans found [] ≡ f ∷ fs
+    → (cans rest [] ≡ fs) × (cans more_parts [] ≡ if_so b f ∷ cans parts [])
+    × (k1 ≡ either k0 (apart a (if_so b f)))
+part_added found rest parts more_parts js xs a k0 k1 b told left x g p f fs h = (
+  left f fs h,
+  ap (λ l. cans l []) p ∙ cans_push parts js []
+      ∙ ap (λ y. y ∷ cans parts []) (told f fs h),
+  g ∙ ap (λ y. either k0 (apart a (among y))) x
+      ∙ ap (λ y. either k0 (apart a y)) (told f fs h),
+)
+
 pub part_made : (rs : tree.Rules) (o : Origin) (a : tree_absorber.Absorber)
     (b : Box tree_node.Node Global) (q : Box tree.Rules Global)
-    (found rest parts slice more_parts : List (List code.Kind)) (js xs : List code.Kind)
+    (found rest more_fs : List (Kind → Bool)) (parts slice : List (List code.Kind))
     (m : tree.Rules) (k0 k1 k2 : Kind → Bool) (reached : Bool)
     → rs ≡ rule.Part o a b q → slice ≡ parts → reached ≡ comes (cans slice []) (seen_origin o)
-    → ((f : Kind → Bool) (fs : List (Kind → Bool)) → cans found [] ≡ f ∷ fs
-    → among js ≡ if_so reached f)
-    → ((f : Kind → Bool) (fs : List (Kind → Bool)) → cans found [] ≡ f ∷ fs → cans rest [] ≡ fs)
-    → xs ≡ js → k1 ≡ either k0 (apart (seen_absorber a) (among xs)) → more_parts ≡ parts ++ js ∷ []
+    → ((f : Kind → Bool) (gs : List (Kind → Bool)) → found ≡ f ∷ gs
+    → (rest ≡ gs) × (more_fs ≡ if_so reached f ∷ cans parts [])
+    × (k1 ≡ either k0 (apart (seen_absorber a) (if_so reached f))))
     → m ≡ q.value
-    → (cans rest [] ≡ parts_can (seen_rules m) → k2 ≡ either k1
-    (can_by (cans more_parts []) (seen_rules m)))
-    → cans found [] ≡ parts_can (seen_rules rs) → k2 ≡ either k0
-    (can_by (cans parts []) (seen_rules rs))
-part_made rs o a b q found rest parts slice more_parts js xs m k0 k1 k2 reached is s e told left x
-    g p v more h =
-    let e0 : cans found [] ≡ can (seen_node b.value) ∷ parts_can (seen_rules q.value) = h
+    → (rest ≡ parts_can (seen_rules m) → k2 ≡ either k1 (can_by more_fs (seen_rules m)))
+    → found ≡ parts_can (seen_rules rs) → k2 ≡ either k0 (can_by (cans parts []) (seen_rules rs))
+part_made rs o a b q found rest more_fs parts slice m k0 k1 k2 reached is s e added v more h =
+    let e0 : found ≡ can (seen_node b.value) ∷ parts_can (seen_rules q.value) = h
     ∙ ap (λ r. parts_can (seen_rules r)) is ∙ ap parts_can (seen_part o a b q) in
-    let r : cans rest [] ≡ parts_can (seen_rules m) = left _ _ e0
-    ∙ sym (ap (λ y. parts_can (seen_rules y)) v) in
-    part_known rs o a b q parts slice more_parts js xs b.value m k0 k1 k2 reached is s e refl
-    (told _ _ e0) x g p v (more r)
+    part_step (cans parts []) more_fs (seen_origin o) (seen_absorber a) (seen_node b.value)
+    (seen_rules q.value) k0 k1 k2 reached (e ∙ ap (λ l. comes (cans l []) (seen_origin o)) s)
+    (added _ _ e0).1 (added _ _ e0).2
+    (more ((added _ _ e0).0 ∙ sym (ap (λ y. parts_can (seen_rules y)) v))
+    ∙ ap (λ y. either k1 (can_by more_fs (seen_rules y))) v)
+    ∙ sym (ap (λ r. either k0 (can_by (cans parts []) (seen_rules r))) is
+    ∙ ap (λ r. either k0 (can_by (cans parts []) r)) (seen_part o a b q))
 
 pub test_made : (rs : tree.Rules) (b : Box tree_node.Node Global) (q : Box tree.Rules Global)
-    (found rest parts more_parts : List (List code.Kind)) (js xs : List code.Kind) (m : tree.Rules)
-    (k0 k1 k2 : Kind → Bool)
+    (found rest fs more_fs : List (Kind → Bool)) (m : tree.Rules) (k0 k1 k2 : Kind → Bool)
     → rs ≡ rule.Test b q
-    → ((f : Kind → Bool) (fs : List (Kind → Bool)) → cans found [] ≡ f ∷ fs
-    → among js ≡ if_so true f)
-    → ((f : Kind → Bool) (fs : List (Kind → Bool)) → cans found [] ≡ f ∷ fs → cans rest [] ≡ fs)
-    → xs ≡ js → k1 ≡ either k0 (apart Next (among xs)) → more_parts ≡ parts ++ js ∷ [] → m ≡ q.value
-    → (cans rest [] ≡ parts_can (seen_rules m) → k2 ≡ either k1
-    (can_by (cans more_parts []) (seen_rules m)))
-    → cans found [] ≡ parts_can (seen_rules rs) → k2 ≡ either k0
-    (can_by (cans parts []) (seen_rules rs))
-test_made rs b q found rest parts more_parts js xs m k0 k1 k2 is told left x g p v more h =
-    let e0 : cans found [] ≡ can (seen_node b.value) ∷ parts_can (seen_rules q.value) = h
+    → ((f : Kind → Bool) (gs : List (Kind → Bool)) → found ≡ f ∷ gs
+    → (rest ≡ gs) × (more_fs ≡ if_so true f ∷ fs)
+    × (k1 ≡ either k0 (apart Next (if_so true f))))
+    → m ≡ q.value
+    → (rest ≡ parts_can (seen_rules m) → k2 ≡ either k1 (can_by more_fs (seen_rules m)))
+    → found ≡ parts_can (seen_rules rs) → k2 ≡ either k0 (can_by fs (seen_rules rs))
+test_made rs b q found rest fs more_fs m k0 k1 k2 is added v more h =
+    let e0 : found ≡ can (seen_node b.value) ∷ parts_can (seen_rules q.value) = h
     ∙ ap (λ r. parts_can (seen_rules r)) is ∙ ap parts_can (seen_test b q) in
-    let r : cans rest [] ≡ parts_can (seen_rules m) = left _ _ e0
-    ∙ sym (ap (λ y. parts_can (seen_rules y)) v) in
-    test_known rs b q parts more_parts js xs b.value m k0 k1 k2 is refl (told _ _ e0) x g p v
-    (more r)
+    test_step fs more_fs (seen_node b.value) (seen_rules q.value) k0 k1 k2 (added _ _ e0).1
+    (added _ _ e0).2 (more ((added _ _ e0).0 ∙ sym (ap (λ y. parts_can (seen_rules y)) v))
+    ∙ ap (λ y. either k1 (can_by more_fs (seen_rules y))) v)
+    ∙ sym (ap (λ r. either k0 (can_by fs (seen_rules r))) is
+    ∙ ap (λ r. either k0 (can_by fs r)) (seen_test b q))

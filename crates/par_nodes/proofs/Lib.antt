@@ -3,3 +3,4 @@ pub mod Rows
 pub mod Completing
 pub mod Branches
 pub mod Statements
+pub mod Expressions

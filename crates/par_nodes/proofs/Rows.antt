@@ -1,24 +1,14 @@
 -- Lists, from behind.
 use Rattle.std.proofs.Common.{◌≡◌, ℕ, zero, suc, ◌-◌, ◌<◌, ◌≤◌, List, [], ◌∷◌, length, get_or, drop}
 use Rattle.std.proofs.Common.{refl, sym, subst, ap, ◌∙◌, arith}
-use Rattle.par_typed.specs.Plain as typed
-use Rattle.par_typed.specs.Plain.{Mark, MayTExp, TExps}
 use Rattle.par_typed.specs.declared.table.ThrowInfo.{ThrowInfo}
 use Rattle.par_typed.specs.declared.expr.TExpr.{TExpr}
-use Rattle.std.specs.declared.boxed.Box.{Box}
-use Rattle.std.specs.declared.alloc.Global.{Global}
-use Rattle.std.specs.Prelude.{Option}
-use Rattle.par_typed.specs.declared.expr.TExprKind.{TExprKind}
-use Rattle.par_typed.specs.declared.expr.TExprKind.TheVariants as expr
-use Rattle.par_typed.specs.Shown.{shown, all_shown, kind_at, receiver}
-use Rattle.par_typed.proofs.Shown.{shown_int, shown_bool, shown_null, shown_this, shown_new}
-use Rattle.par_typed.proofs.Shown.{shown_local, shown_static, shown_field, shown_input}
-use Rattle.par_typed.proofs.Shown.{shown_output, shown_call, shown_neg, shown_not, shown_binary}
+use Rattle.par_typed.specs.Shown.{shown, all_shown}
 use Rattle.par_rules.specs.Kinds.{Next, Throw}
 use Rattle.par_rules.specs.Declares.{Declares, Method, throws_of}
-use Rattle.par_rules.specs.Rules.{From, Raised, Shut, Node, Rules, Part, Leaves, node}
+use Rattle.par_rules.specs.Rules.{From, Raised, Shut, Node, Rules, Part, Leaves}
 use Rattle.par_rules.specs.Body.{past, thrown, exp, args, args_past, args_count}
-use Rattle.par_nodes.specs.Starts.{start_at, call_start, call_does, behind}
+use Rattle.par_nodes.specs.Starts.{start_at}
 
 ahead : {A : Type 0} (xs : List A) (i : ℕ) (d : A) → i < length xs
     → drop i xs ≡ get_or xs i d ∷ drop (suc i) xs
@@ -85,32 +75,6 @@ pub past_is : (es : List TExpr) (from : From) → args_past from (all_shown es) 
 past_is [] from = refl
 past_is (e ∷ es) from = refl
 
--- a call, taken apart
-pub call_is : (d : Declares) (c k : ℕ) (o : MayTExp) (es : TExps) (m : Mark)
-    → exp d (typed.Call c k o es m) ≡ node m.point (behind d o
-    (args d (call_start o) es (call_does d (d.method c k) o es)))
-unfolding exp
-call_is d c k typed.Absent es m = refl
-call_is d c k (typed.Present e) es m = refl
-
-pub ruleset shows = (
-  call_is,
-  shown_int,
-  shown_bool,
-  shown_null,
-  shown_this,
-  shown_new,
-  shown_local,
-  shown_static,
-  shown_field,
-  shown_input,
-  shown_output,
-  shown_call,
-  shown_neg,
-  shown_not,
-  shown_binary,
-)
-
 pub args_next : (d : Declares) (from : From) (es : List TExpr) (p : ℕ) (e : TExpr)
     (more r m : Rules) (f : From) (n : Node) → 0 < p → p ≤ length es → e ≡ get_or es (p - 1) e
     → r ≡ Part f Next n m → f ≡ start_at (p - 1) from → n ≡ exp d (shown e)
@@ -120,16 +84,3 @@ args_next d from es p e more r m f n g h q a b x y =
     a ∙ ap (λ k. Part k Next n m) b ∙ ap (λ k. Part (start_at (p - 1) from) Next k m) x
     ∙ ap (Part (start_at (p - 1) from) Next (exp d (shown e))) y
     ∙ sym (args_at d from es p e more g h q)
-
-pub call_made : (d : Declares) (k : TExprKind) (m : Mark) (c i : ℕ) (o : Option (Box TExpr Global))
-    (es xs : List TExpr) (r a s : Rules) (f : From) → k ≡ expr.Call c i o es → xs ≡ es
-    → r ≡ behind d (receiver o) a → a ≡ args d f (all_shown xs) s → f ≡ call_start (receiver o)
-    → s ≡ call_does d (d.method c i) (receiver o) (all_shown xs)
-    → node m.point r ≡ exp d (kind_at k m)
-call_made d k m c i o es xs r a s f e x u v w y =
-    ap (node m.point) (u ∙ ap (behind d (receiver o)) (v ∙ ap (λ g. args d g (all_shown xs) s) w
-    ∙ ap (args d (call_start (receiver o)) (all_shown xs)) y
-    ∙ ap (λ l. args d (call_start (receiver o)) (all_shown l)
-    (call_does d (d.method c i) (receiver o) (all_shown l))) x))
-    ∙ sym (ap (exp d) (ap (λ j. kind_at j m) e ∙ shown_call c i o es m)
-    ∙ call_is d c i (receiver o) (all_shown es) m)

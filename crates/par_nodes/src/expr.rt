@@ -123,7 +123,17 @@ pub fn start_at(place: usize, from: Start) -> Start
     }
 }
 
+// A value of that policy.
+fn given<'a>(alloc: Global, policy: u16) -> Result<Draft<'a>, NoMemory>
+    ensures { IfOk result (λ r. seen_rules r.rules ≡ plain.goes_on plain.Entry
+        (plain.Worths (plain.Given policy) plain.Done)) }
+{
+    let rules = make::gives(alloc, Worth::Given(policy))?;
+    Ok(rules)
+}
+
 // A field of an object.
+#[inline(never)]
 fn select<'a>(
     alloc: Global,
     node: Known<'a>,
@@ -144,6 +154,7 @@ fn select<'a>(
 }
 
 // The value of the part.
+#[inline(never)]
 fn unary<'a>(alloc: Global, node: Known<'a>) -> Result<Draft<'a>, NoMemory>
     ensures { IfOk result (λ r. seen_rules r.rules
         ≡ plain.Part plain.Entry Next (seen_node node.entry.node)
@@ -166,6 +177,7 @@ fn operands<'a>(alloc: Global) -> Result<Draft<'a>, NoMemory>
     Ok(rules)
 }
 
+#[inline(never)]
 fn binary<'a>(
     alloc: Global,
     op: BinOp,
@@ -217,7 +229,7 @@ fn args<'a>(
 }
 
 // The part, and nothing else.
-pub fn before<'a>(alloc: Global, node: Known<'a>) -> Result<Draft<'a>, NoMemory>
+pub fn alone<'a>(alloc: Global, node: Known<'a>) -> Result<Draft<'a>, NoMemory>
     ensures { IfOk result (λ r. seen_rules r.rules
         ≡ plain.Part plain.Entry Next (seen_node node.entry.node)
         (plain.goes_on body.past plain.Done)) }
@@ -305,62 +317,42 @@ pub fn exp<'a>(alloc: Global, table: &'a Table, e: &TExpr) -> Result<Known<'a>, 
 }
 
 #[cycle(exp)]
-#[tactic(auto, using(crate::proofs::Rows::shows), unfolding(par_rules::specs::Body::exp))]
 fn rules_of<'a>(alloc: Global, table: &'a Table, e: &TExpr) -> Result<Draft<'a>, NoMemory>
     ensures { IfOk result (λ r. plain.node e.now.point (seen_rules r.rules)
         ≡ body.exp (declares table.now) (shown e.now)) }
 {
     match &e.kind {
-        TExprKind::Int(_) | TExprKind::Bool(_) | TExprKind::Null | TExprKind::This => {
-            let rules = make::ends(alloc, ENTRY)?;
-            Ok(rules)
-        }
-        TExprKind::New(class) => {
-            let rules = make::gives(alloc, Worth::Given(declared::birth(table, *class)))?;
-            Ok(rules)
-        }
-        TExprKind::Local(local) => {
-            let rules = make::gives(alloc, Worth::Held(*local))?;
-            Ok(rules)
-        }
-        TExprKind::Static(class, field) => {
-            let policy = declared::field(table, *class, *field);
-            let rules = make::gives(alloc, Worth::Given(policy))?;
-            Ok(rules)
-        }
+        TExprKind::Int(_) => make::ends(alloc, ENTRY),
+        TExprKind::Bool(_) => make::ends(alloc, ENTRY),
+        TExprKind::Null | TExprKind::This => make::ends(alloc, ENTRY),
+        TExprKind::New(class) => given(alloc, declared::birth(table, *class)),
+        TExprKind::Local(local) => make::gives(alloc, Worth::Held(*local)),
+        TExprKind::Static(class, field) => given(alloc, declared::field(table, *class, *field)),
         TExprKind::Input(class, channel) => {
-            let policy = declared::channel(table, *class, *channel);
-            let rules = make::gives(alloc, Worth::Given(policy))?;
-            Ok(rules)
+            given(alloc, declared::channel(table, *class, *channel))
         }
         TExprKind::Field(of, class, field) => {
-            let policy = declared::field(table, *class, *field);
             let node = exp(alloc, table, of)?;
-            let rules = select(alloc, node, of, policy)?;
-            Ok(rules)
+            select(alloc, node, of, declared::field(table, *class, *field))
         }
         TExprKind::Output(_, _, value) => {
             let node = exp(alloc, table, value)?;
-            let rules = before(alloc, node)?;
-            Ok(rules)
+            alone(alloc, node)
         }
         TExprKind::Call(class, method, of, arguments) => {
             let arguments = arguments.as_slice();
             let does = call_does(alloc, table, *class, *method, of, arguments)?;
             let all = args(alloc, table, call_start(of), arguments, does)?;
-            let rules = behind(alloc, table, of, all)?;
-            Ok(rules)
+            behind(alloc, table, of, all)
         }
         TExprKind::Neg(of) | TExprKind::Not(of) => {
             let node = exp(alloc, table, of)?;
-            let rules = unary(alloc, node)?;
-            Ok(rules)
+            unary(alloc, node)
         }
         TExprKind::Binary(op, left, right) => {
             let first = exp(alloc, table, left)?;
             let last = exp(alloc, table, right)?;
-            let rules = binary(alloc, *op, first, last, right)?;
-            Ok(rules)
+            binary(alloc, *op, first, last, right)
         }
     }
 }

@@ -8,7 +8,7 @@
 
 pub mod body;
 mod call;
-mod declared;
+pub mod declared;
 pub mod draft;
 pub mod expr;
 mod make;

@@ -151,6 +151,29 @@ fn entered(alloc: Global, found: &mut Vec<List<Kind>>, comes: bool) -> List<Kind
     }
 }
 
+// The next part, where it is entered, and those of its completions that are not absorbed.
+fn add_part(
+    alloc: Global,
+    absorber: &Absorber,
+    comes: bool,
+    found: &mut Vec<List<Kind>>,
+    parts: &mut List<List<Kind>>,
+    kinds: &mut List<Kind>,
+) -> Result<(), NoMemory>
+    ensures { OnOk result ((f : flow.Kind → Bool) (fs : Items (flow.Kind → Bool))
+        → cans found.old.items [] ≡ f ∷ fs
+        → (cans found.new.items [] ≡ fs)
+        × (cans parts.new [] ≡ if_so comes f ∷ cans parts.old [])
+        × (among kinds.new ≡ either (among kinds.old)
+        (apart (seen_absorber absorber.now) (if_so comes f)))) }
+{
+    let part = entered(alloc, found, comes);
+    keep_all(kinds, absorber, part.as_slice())?;
+    parts.push(part)?;
+    Ok(())
+}
+
+// The completions that rules add, of whose parts they are known.
 fn add_rules(
     alloc: Global,
     rules: &Rules,
@@ -166,33 +189,20 @@ fn add_rules(
         Rules::Done => Ok(()),
         Rules::Part(from, absorber, _, more) => {
             let reached = comes(from, parts.as_slice());
-            let part = entered(alloc, found, reached);
-            keep_all(kinds, absorber, part.as_slice())?;
-            parts.push(part)?;
-            add_rules(alloc, more, found, parts, kinds)?;
-            Ok(())
+            add_part(alloc, absorber, reached, found, parts, kinds)?;
+            add_rules(alloc, more, found, parts, kinds)
         }
         Rules::Test(_, more) => {
-            let part = entered(alloc, found, true);
-            keep_all(kinds, &Absorber::Next, part.as_slice())?;
-            parts.push(part)?;
-            add_rules(alloc, more, found, parts, kinds)?;
-            Ok(())
+            add_part(alloc, &Absorber::Next, true, found, parts, kinds)?;
+            add_rules(alloc, more, found, parts, kinds)
         }
         Rules::Leaves(from, kind, more) => {
             let reached = comes(from, parts.as_slice());
             leaves(kinds, reached, *kind)?;
-            add_rules(alloc, more, found, parts, kinds)?;
-            Ok(())
+            add_rules(alloc, more, found, parts, kinds)
         }
-        Rules::Heads(_, more) => {
-            add_rules(alloc, more, found, parts, kinds)?;
-            Ok(())
-        }
-        Rules::Worths(_, more) => {
-            add_rules(alloc, more, found, parts, kinds)?;
-            Ok(())
-        }
+        Rules::Heads(_, more) => add_rules(alloc, more, found, parts, kinds),
+        Rules::Worths(_, more) => add_rules(alloc, more, found, parts, kinds),
     }
 }
 

@@ -2,6 +2,7 @@
 
 ghost use Rattle.std.specs.Prelude.{◌≡◌, IfOk};
 ghost use Rattle.par_typed.specs.Shown.{all_catch, all_do, does, may_shown, otherwise, shown};
+ghost use Rattle.par_bits.specs.Sets.{adding, none};
 ghost use Rattle.par_rules.specs.Declares.{declares};
 ghost use Rattle.par_rules.specs.Kinds as kinds;
 ghost use Rattle.par_rules.specs.Rules as plain;
@@ -11,7 +12,7 @@ ghost use Rattle.par_nodes.specs.Starts.{behind_value, catch_start, else_rules, 
 
 use crate::declared;
 use crate::draft::{Draft, Known};
-use crate::expr::{before, exp, null_test, start_at};
+use crate::expr::{alone, exp, null_test, start_at};
 use crate::make::{self, ENTRY, PAST, TESTED};
 use crate::possible::among;
 use crate::rule::{Absorber, Kind, Locks, Origin, Start};
@@ -20,6 +21,27 @@ use par_typed::expr::{TExpr, TExprKind};
 use par_typed::stmt::{TCatch, TStmt, TStmtKind};
 use par_typed::table::Table;
 use std::alloc::Global;
+
+// The way behind the test, where what stands behind `else` is done.
+const OTHERWISE: Origin<'static> = Origin {
+    start: Start::After(1, Kind::Normal),
+    assigned: None,
+    tested: Some(1),
+    raised: None,
+    shut: Locks::Kept,
+    opened: Locks::Kept,
+};
+
+// The ways behind a block that are left by `break` and by `continue`.
+const BROKEN: Origin<'static> = Origin {
+    start: Start::After(0, Kind::Break),
+    ..PAST
+};
+
+const CONTINUED: Origin<'static> = Origin {
+    start: Start::After(0, Kind::Continue),
+    ..PAST
+};
 
 // The test of a loop that is left by `break` alone.
 #[tactic(auto, using(par_typed::proofs::Shown::shows))]
@@ -125,36 +147,28 @@ fn branches<'a>(
 }
 
 // A loop.
+#[inline(never)]
 fn repeats<'a>(
     alloc: Global,
-    forever: bool,
-    test: Known<'a>,
+    table: &'a Table,
+    test: &TExpr,
     block: Known<'a>,
 ) -> Result<Draft<'a>, NoMemory>
     ensures { IfOk result (λ r. seen_rules r.rules
-        ≡ plain.Test (seen_node test.entry.node) (plain.Heads plain.Entry
-        (body.if_not forever (plain.goes_on body.past)
+        ≡ plain.Test (body.exp (declares table.now) (shown test.now)) (plain.Heads plain.Entry
+        (body.if_not (body.is_forever (shown test.now)) (plain.goes_on body.past)
         (plain.Part body.tested kinds.Loop (seen_node block.entry.node)
         (plain.Heads body.past (plain.Heads (plain.After 0 kinds.Continue)
         (plain.goes_on (plain.After 0 kinds.Break) plain.Done))))))) }
 {
-    let broken = make::ends(
-        alloc,
-        Origin {
-            start: Start::After(0, Kind::Break),
-            ..PAST
-        },
-    )?;
-    let continued = Origin {
-        start: Start::After(0, Kind::Continue),
-        ..PAST
-    };
-    let again = make::heads(alloc, continued, broken)?;
+    let broken = make::ends(alloc, BROKEN)?;
+    let again = make::heads(alloc, CONTINUED, broken)?;
     let heads = make::heads(alloc, PAST, again)?;
     let part = make::part(alloc, TESTED, Absorber::Loop, block, heads)?;
-    let behind = unless(alloc, forever, part)?;
+    let behind = unless(alloc, is_forever(test), part)?;
     let entered = make::heads(alloc, ENTRY, behind)?;
-    let rules = make::test(alloc, test, entered)?;
+    let node = exp(alloc, table, test)?;
+    let rules = make::test(alloc, node, entered)?;
     Ok(rules)
 }
 
@@ -171,27 +185,53 @@ fn unless<'a>(alloc: Global, forever: bool, more: Draft<'a>) -> Result<Draft<'a>
     }
 }
 
-// A part, and then that.
-fn puts<'a>(alloc: Global, node: Known<'a>, from: Origin<'a>) -> Result<Draft<'a>, NoMemory>
+// A write of a local.
+#[inline(never)]
+fn assigns<'a>(
+    alloc: Global,
+    table: &'a Table,
+    local: u16,
+    value: &TExpr,
+) -> Result<Draft<'a>, NoMemory>
     ensures { IfOk result (λ r. seen_rules r.rules
-        ≡ plain.Part plain.Entry kinds.Next (seen_node node.entry.node)
-        (plain.goes_on (seen_origin from.entry) plain.Done)) }
+        ≡ plain.Part plain.Entry kinds.Next (body.exp (declares table.now) (shown value.now))
+        (plain.goes_on (plain.Assigned local 0 body.past) plain.Done)) }
 {
-    let goes = make::ends(alloc, from)?;
+    let goes = make::ends(
+        alloc,
+        Origin {
+            assigned: Some((local, 0)),
+            ..PAST
+        },
+    )?;
+    let node = exp(alloc, table, value)?;
     let rules = make::then(alloc, ENTRY, node, goes)?;
     Ok(rules)
 }
 
+// An expression, and nothing else.
+#[inline(never)]
+fn evaluates<'a>(alloc: Global, table: &'a Table, e: &TExpr) -> Result<Draft<'a>, NoMemory>
+    ensures { IfOk result (λ r. seen_rules r.rules
+        ≡ plain.Part plain.Entry kinds.Next (body.exp (declares table.now) (shown e.now))
+        (plain.goes_on body.past plain.Done)) }
+{
+    let node = exp(alloc, table, e)?;
+    let rules = alone(alloc, node)?;
+    Ok(rules)
+}
+
 // A write of a field of an object.
+#[inline(never)]
 fn writes<'a>(
     alloc: Global,
+    table: &'a Table,
     of: &TExpr,
-    object: Known<'a>,
-    value: Known<'a>,
+    value: &TExpr,
 ) -> Result<Draft<'a>, NoMemory>
     ensures { IfOk result (λ r. seen_rules r.rules
-        ≡ plain.Part plain.Entry kinds.Next (seen_node object.entry.node)
-        (plain.Part body.past kinds.Next (seen_node value.entry.node)
+        ≡ plain.Part plain.Entry kinds.Next (body.exp (declares table.now) (shown of.now))
+        (plain.Part body.past kinds.Next (body.exp (declares table.now) (shown value.now))
         (body.null_test (shown of.now) (plain.Tested 1 body.past)
         (plain.goes_on body.past plain.Done)))) }
 {
@@ -205,8 +245,116 @@ fn writes<'a>(
         },
         goes,
     )?;
-    let written = make::then(alloc, PAST, value, tested)?;
+    let node = exp(alloc, table, value)?;
+    let written = make::then(alloc, PAST, node, tested)?;
+    let object = exp(alloc, table, of)?;
     let rules = make::then(alloc, ENTRY, object, written)?;
+    Ok(rules)
+}
+
+// A lock is opened.
+fn opens<'a>(alloc: Global, lock: u16) -> Result<Draft<'a>, NoMemory>
+    ensures { IfOk result (λ r. seen_rules r.rules
+        ≡ plain.goes_on (plain.Opened (adding none lock) plain.Entry) plain.Done) }
+{
+    let rules = make::ends(
+        alloc,
+        Origin {
+            opened: Locks::One(lock),
+            ..ENTRY
+        },
+    )?;
+    Ok(rules)
+}
+
+// A lock is closed.
+fn shuts<'a>(alloc: Global, lock: u16) -> Result<Draft<'a>, NoMemory>
+    ensures { IfOk result (λ r. seen_rules r.rules
+        ≡ plain.goes_on (plain.Shut (adding none lock) plain.Entry) plain.Done) }
+{
+    let rules = make::ends(
+        alloc,
+        Origin {
+            shut: Locks::One(lock),
+            ..ENTRY
+        },
+    )?;
+    Ok(rules)
+}
+
+// A statement behind a test, and what stands behind `else`.
+#[inline(never)]
+fn decides<'a>(
+    alloc: Global,
+    table: &'a Table,
+    test: &TExpr,
+    block: Known<'a>,
+    other: &Option<Box<TStmt>>,
+    rest: Draft<'a>,
+) -> Result<Draft<'a>, NoMemory>
+    ensures { IfOk result (λ r. seen_rules r.rules
+        ≡ plain.Part plain.Entry kinds.Next (body.exp (declares table.now) (shown test.now))
+        (goes_first (otherwise other.now) body.past
+        (plain.Part body.tested kinds.Next (seen_node block.entry.node)
+        (plain.goes_on body.past (seen_rules rest.entry.rules))))) }
+{
+    let both = branches(alloc, TESTED, block, rest)?;
+    let behind = goes_first(alloc, other, PAST, both)?;
+    let node = exp(alloc, table, test)?;
+    let rules = make::then(alloc, ENTRY, node, behind)?;
+    Ok(rules)
+}
+
+// The way on which it is known whether a lock with this policy is open.
+fn asked(policy: u16) -> Origin<'static>
+    ensures { seen_origin result ≡ plain.Raised policy plain.Entry }
+{
+    Origin {
+        raised: Some(policy),
+        ..ENTRY
+    }
+}
+
+// A statement where a lock is open, and what stands behind `else`.
+#[inline(never)]
+fn asks<'a>(
+    alloc: Global,
+    lock: u16,
+    policy: u16,
+    block: Known<'a>,
+    other: &Option<Box<TStmt>>,
+    rest: Draft<'a>,
+) -> Result<Draft<'a>, NoMemory>
+    ensures { IfOk result (λ r. seen_rules r.rules
+        ≡ goes_first (otherwise other.now) plain.Entry
+        (plain.Part (plain.Opened (adding none lock) (plain.Raised policy plain.Entry)) kinds.Next
+        (seen_node block.entry.node) (plain.goes_on body.past (seen_rules rest.entry.rules)))) }
+{
+    let opened = Origin {
+        raised: Some(policy),
+        opened: Locks::One(lock),
+        ..ENTRY
+    };
+    let both = branches(alloc, opened, block, rest)?;
+    let rules = goes_first(alloc, other, ENTRY, both)?;
+    Ok(rules)
+}
+
+// A block of which some exceptions are caught.
+#[inline(never)]
+fn tries<'a>(
+    alloc: Global,
+    clauses: &[TCatch],
+    block: Known<'a>,
+    handled: Draft<'a>,
+) -> Result<Draft<'a>, NoMemory>
+    ensures { IfOk result (λ r. seen_rules r.rules
+        ≡ plain.Part plain.Entry (kinds.Catches (body.caught (all_catch clauses.now)))
+        (seen_node block.entry.node) (plain.goes_on body.past (seen_rules handled.entry.rules))) }
+{
+    let classes = caught(alloc, clauses)?;
+    let goes = make::goes_on(alloc, PAST, handled)?;
+    let rules = make::part(alloc, ENTRY, Absorber::Catches(classes), block, goes)?;
     Ok(rules)
 }
 
@@ -319,113 +467,41 @@ pub fn sta<'a>(alloc: Global, table: &'a Table, stmt: &TStmt) -> Result<Known<'a
 }
 
 #[cycle(sta)]
-#[tactic(auto, using(par_typed::proofs::Shown::doings, crate::proofs::Branches::taken_apart))]
 fn rules_of<'a>(alloc: Global, table: &'a Table, stmt: &TStmt) -> Result<Draft<'a>, NoMemory>
     ensures { IfOk result (λ r. plain.node stmt.now.point (seen_rules r.rules)
         ≡ body.sta (declares table.now) (does stmt.now)) }
 {
     match &stmt.kind {
-        TStmtKind::Block(stmts) => {
-            let rules = stas(alloc, table, stmts.as_slice())?;
-            Ok(rules)
-        }
+        TStmtKind::Block(stmts) => stas(alloc, table, stmts.as_slice()),
         TStmtKind::If(test, block, other) => {
-            let from = Origin {
-                start: Start::After(1, Kind::Normal),
-                tested: Some(1),
-                ..PAST
-            };
-            let rest = else_rules(alloc, table, other, from)?;
             let node = sta(alloc, table, block)?;
-            let both = branches(alloc, TESTED, node, rest)?;
-            let behind = goes_first(alloc, other, PAST, both)?;
-            let test = exp(alloc, table, test)?;
-            let rules = make::then(alloc, ENTRY, test, behind)?;
-            Ok(rules)
+            let rest = else_rules(alloc, table, other, OTHERWISE)?;
+            decides(alloc, table, test, node, other, rest)
         }
         TStmtKind::While(test, block) => {
-            let forever = is_forever(test);
-            let head = exp(alloc, table, test)?;
             let node = sta(alloc, table, block)?;
-            let rules = repeats(alloc, forever, head, node)?;
-            Ok(rules)
+            repeats(alloc, table, test, node)
         }
         TStmtKind::Try(block, clauses) => {
-            let clauses = clauses.as_slice();
             let node = sta(alloc, table, block)?;
-            let handled = catches(alloc, table, clauses, &node)?;
-            let classes = caught(alloc, clauses)?;
-            let goes = make::goes_on(alloc, PAST, handled)?;
-            let rules = make::part(alloc, ENTRY, Absorber::Catches(classes), node, goes)?;
-            Ok(rules)
+            let handled = catches(alloc, table, clauses.as_slice(), &node)?;
+            tries(alloc, clauses.as_slice(), node, handled)
         }
-        TStmtKind::Return(value) => {
-            let rules = returns(alloc, table, value)?;
-            Ok(rules)
-        }
-        TStmtKind::Break => {
-            let rules = completes(alloc, Kind::Break)?;
-            Ok(rules)
-        }
-        TStmtKind::Continue => {
-            let rules = completes(alloc, Kind::Continue)?;
-            Ok(rules)
-        }
-        TStmtKind::Throw(class) => {
-            let rules = completes(alloc, Kind::Throw(*class))?;
-            Ok(rules)
-        }
-        TStmtKind::OpenLock(lock) => {
-            let from = Origin {
-                opened: Locks::One(*lock),
-                ..ENTRY
-            };
-            let rules = make::ends(alloc, from)?;
-            Ok(rules)
-        }
-        TStmtKind::CloseLock(lock) => {
-            let from = Origin {
-                shut: Locks::One(*lock),
-                ..ENTRY
-            };
-            let rules = make::ends(alloc, from)?;
-            Ok(rules)
-        }
-        TStmtKind::SetLocal(local, _, value) => {
-            let node = exp(alloc, table, value)?;
-            let from = Origin {
-                assigned: Some((*local, 0)),
-                ..PAST
-            };
-            let rules = puts(alloc, node, from)?;
-            Ok(rules)
-        }
-        TStmtKind::SetStatic(_, _, value) | TStmtKind::Eval(value) => {
-            let node = exp(alloc, table, value)?;
-            let rules = before(alloc, node)?;
-            Ok(rules)
-        }
-        TStmtKind::SetField(of, _, _, value) => {
-            let object = exp(alloc, table, of)?;
-            let node = exp(alloc, table, value)?;
-            let rules = writes(alloc, of, object, node)?;
-            Ok(rules)
-        }
+        TStmtKind::Return(value) => returns(alloc, table, value),
+        TStmtKind::Break => completes(alloc, Kind::Break),
+        TStmtKind::Continue => completes(alloc, Kind::Continue),
+        TStmtKind::Throw(class) => completes(alloc, Kind::Throw(*class)),
+        TStmtKind::OpenLock(lock) => opens(alloc, *lock),
+        TStmtKind::CloseLock(lock) => shuts(alloc, *lock),
+        TStmtKind::SetLocal(local, _, value) => assigns(alloc, table, *local, value),
+        TStmtKind::SetStatic(_, _, value) => evaluates(alloc, table, value),
+        TStmtKind::SetField(of, _, _, value) => writes(alloc, table, of, value),
+        TStmtKind::Eval(value) => evaluates(alloc, table, value),
         TStmtKind::When(lock, block, other) => {
             let policy = declared::lock(table, *lock);
-            let asked = Origin {
-                raised: Some(policy),
-                ..ENTRY
-            };
-            let opened = Origin {
-                opened: Locks::One(*lock),
-                ..asked
-            };
-            let rest = else_rules(alloc, table, other, asked)?;
             let node = sta(alloc, table, block)?;
-            let both = branches(alloc, opened, node, rest)?;
-            let rules = goes_first(alloc, other, ENTRY, both)?;
-            Ok(rules)
+            let rest = else_rules(alloc, table, other, asked(policy))?;
+            asks(alloc, *lock, policy, node, other, rest)
         }
     }
 }

@@ -1,11 +1,16 @@
 use Rattle.std.proofs.Common.{rules, ap, ◌∙◌, drop, length}
+use Rattle.std.proofs.lemmas.Result.{IfOk-weaker}
 use Rattle.par_rules.specs.Declares.{declares}
 use Rattle.par_rules.specs.Rules.{Entry}
 use Rattle.par_nodes.specs.Seen.{seen_rules, seen_node, seen_start}
-use Rattle.par_typed.specs.Shown.{all_do}
+use Rattle.par_typed.specs.Shown.{all_do, otherwise}
+use Rattle.par_nodes.specs.Starts.{else_rules}
 use Rattle.par_rules.specs.Body.{stas}
 use Rattle.par_nodes.proofs.Branches.{stas_none, stas_next, catches_none, catches_next}
-use Rattle.par_nodes.proofs.Statements.{block_made, if_made, while_made, try_made, when_made}
+use Rattle.par_nodes.proofs.Statements.{block_made, if_made, while_made, try_made, return_made}
+use Rattle.par_nodes.proofs.Statements.{break_made, continue_made, throw_made, open_made}
+use Rattle.par_nodes.proofs.Statements.{close_made, set_local_made, set_static_made}
+use Rattle.par_nodes.proofs.Statements.{set_field_made, eval_made, when_made}
 use Rattle.par_nodes.proofs.stmt.+sta.Goals as goal
 
 pub stas-loop-place-init : goal.stas-loop-place-init
@@ -37,50 +42,120 @@ catches-loop-place-preserved t c =
     (seen_rules c.in_ok-rules.rules.rules) (seen_rules c.loop-place.rules.rules)
     (search rules) (search rules) (search rules) c.in_ok-rules.ensures c.loop-place.invariant
 
-pub rules_of-returns-in_ok-rules-in-Block : goal.rules_of-returns-in_ok-rules-in-Block
-rules_of-returns-in_ok-rules-in-Block t c =
-    block_made (declares c.args.table.now) c.args.stmt.now.kind c.args.stmt.now.at
-    c.args.stmt.now.point c.in-Block.stmts c.as_slice.result.now
-    (seen_rules c.in_ok-rules-in-Block.rules.rules)
-    c.in-Block.is c.as_slice.ensures c.in_ok-rules-in-Block.ensures
+pub rules_of-returns-in-Block : goal.rules_of-returns-in-Block
+rules_of-returns-in-Block t c =
+    IfOk-weaker c.stas.result _ _
+    (λ r. block_made (declares c.args.table.now) c.args.stmt.now.kind c.args.stmt.now.at c.args.stmt.now.point
+    c.in-Block.stmts c.as_slice.result.now (seen_rules r.rules) c.in-Block.is c.as_slice.ensures)
+    c.stas.ensures
 
-pub rules_of-returns-in_ok-rules-in-If : goal.rules_of-returns-in_ok-rules-in-If
-rules_of-returns-in_ok-rules-in-If t c =
-    if_made (declares c.args.table.now) c.args.stmt.now.kind c.args.stmt.now.at
-    c.args.stmt.now.point c.in-If.test c.in-If.block c.in-If.other c.deref.result.now
-    (seen_rules c.in_ok-rules-in-If.rules.rules) (seen_rules c.in_ok-behind-in-If.behind.rules)
-    (seen_rules c.in_ok-both-in-If.both.rules) (seen_rules c.in_ok-rest-in-If.rest.rules)
-    (seen_node c.in_ok-test-in-If.test.node) (seen_node c.in_ok-node-in-If.node.node)
-    c.in-If.is c.deref.ensures c.in_ok-rules-in-If.ensures c.in_ok-test-in-If.ensures
-    c.in_ok-behind-in-If.ensures c.in_ok-both-in-If.ensures c.in_ok-node-in-If.ensures
-    c.in_ok-rest-in-If.ensures
+pub rules_of-returns-in_ok-rest-in-If : goal.rules_of-returns-in_ok-rest-in-If
+rules_of-returns-in_ok-rest-in-If t c =
+    IfOk-weaker c.decides.result _ _
+    (λ r. if_made (declares c.args.table.now) c.args.stmt.now.kind c.args.stmt.now.at c.args.stmt.now.point
+    c.in-If.test c.in-If.block c.in-If.other c.deref.result.now (seen_rules r.rules)
+    (seen_rules c.in_ok-rest-in-If.rest.rules) (seen_node c.in_ok-node-in-If.node.node)
+    c.in-If.is c.deref.ensures c.in_ok-node-in-If.ensures c.in_ok-rest-in-If.ensures)
+    c.decides.ensures
 
-pub rules_of-returns-in_ok-rules-in-While : goal.rules_of-returns-in_ok-rules-in-While
-rules_of-returns-in_ok-rules-in-While t c =
-    while_made (declares c.args.table.now) c.args.stmt.now.kind c.args.stmt.now.at
-    c.args.stmt.now.point c.in-While.test c.in-While.block c.deref-in-While.result.now
-    (seen_rules c.in_ok-rules-in-While.rules.rules) c.is_forever-forever.result
-    (seen_node c.in_ok-head-in-While.head.node) (seen_node c.in_ok-node-in-While.node.node)
-    c.in-While.is c.deref-in-While.ensures c.is_forever-forever.ensures
-    c.in_ok-head-in-While.ensures c.in_ok-node-in-While.ensures c.in_ok-rules-in-While.ensures
+pub rules_of-returns-in_ok-node-in-While : goal.rules_of-returns-in_ok-node-in-While
+rules_of-returns-in_ok-node-in-While t c =
+    IfOk-weaker c.repeats.result _ _
+    (λ r. while_made (declares c.args.table.now) c.args.stmt.now.kind c.args.stmt.now.at c.args.stmt.now.point
+    c.in-While.test c.in-While.block c.deref-in-While.result.now (seen_rules r.rules)
+    (seen_node c.in_ok-node-in-While.node.node)
+    c.in-While.is c.deref-in-While.ensures c.in_ok-node-in-While.ensures)
+    c.repeats.ensures
 
-pub rules_of-returns-in_ok-rules-in-Try : goal.rules_of-returns-in_ok-rules-in-Try
-rules_of-returns-in_ok-rules-in-Try t c =
-    let stmt = c.args.stmt.now in
-    try_made (declares c.args.table.now) stmt.kind stmt.at stmt.point c.in-Try.block
-    c.in-Try.clauses c.as_slice-clauses.result.now c.deref-in-Try.result.now
-    c.in_ok-classes-in-Try.classes (seen_rules c.in_ok-rules-in-Try.rules.rules)
-    (seen_rules c.in_ok-goes-in-Try.goes.rules) (seen_rules c.in_ok-handled-in-Try.handled.rules)
-    (seen_node c.in_ok-node-in-Try.node.node) c.in-Try.is c.deref-in-Try.ensures
-    c.as_slice-clauses.ensures c.in_ok-rules-in-Try.ensures c.in_ok-goes-in-Try.ensures
-    c.in_ok-handled-in-Try.ensures c.in_ok-classes-in-Try.ensures c.in_ok-node-in-Try.ensures
+pub rules_of-returns-in_ok-handled-in-Try : goal.rules_of-returns-in_ok-handled-in-Try
+rules_of-returns-in_ok-handled-in-Try t c =
+    IfOk-weaker c.tries.result _ _
+    (λ r. try_made (declares c.args.table.now) c.args.stmt.now.kind c.args.stmt.now.at c.args.stmt.now.point
+    c.in-Try.block c.in-Try.clauses c.as_slice-in-Try.result.now c.as_slice-in-Try-2.result.now
+    c.deref-in-Try.result.now (seen_rules r.rules) (seen_rules c.in_ok-handled-in-Try.handled.rules)
+    (seen_node c.in_ok-node-in-Try.node.node)
+    c.in-Try.is c.deref-in-Try.ensures c.in_ok-node-in-Try.ensures c.as_slice-in-Try.ensures
+    c.in_ok-handled-in-Try.ensures c.as_slice-in-Try-2.ensures)
+    c.tries.ensures
 
-pub rules_of-returns-in_ok-rules-in-When : goal.rules_of-returns-in_ok-rules-in-When
-rules_of-returns-in_ok-rules-in-When t c =
-    when_made (declares c.args.table.now) c.args.stmt.now.kind c.args.stmt.now.at
-    c.args.stmt.now.point c.in-When.lock c.lock-policy.result c.in-When.block c.in-When.other
-    c.deref-in-When.result.now
-    (seen_rules c.in_ok-rules-in-When.rules.rules) (seen_rules c.in_ok-both-in-When.both.rules)
-    (seen_rules c.in_ok-rest-in-When.rest.rules) (seen_node c.in_ok-node-in-When.node.node)
-    c.in-When.is c.deref-in-When.ensures c.lock-policy.ensures c.in_ok-rules-in-When.ensures
-    c.in_ok-both-in-When.ensures c.in_ok-node-in-When.ensures c.in_ok-rest-in-When.ensures
+pub rules_of-returns-in-Return : goal.rules_of-returns-in-Return
+rules_of-returns-in-Return t c =
+    IfOk-weaker c.returns.result _ _
+    (λ r. return_made (declares c.args.table.now) c.args.stmt.now.kind c.args.stmt.now.at c.args.stmt.now.point
+    c.in-Return.value (seen_rules r.rules) c.in-Return.is)
+    c.returns.ensures
+
+pub rules_of-returns-in-Break : goal.rules_of-returns-in-Break
+rules_of-returns-in-Break t c =
+    IfOk-weaker c.completes.result _ _
+    (λ r. break_made (declares c.args.table.now) c.args.stmt.now.kind c.args.stmt.now.at c.args.stmt.now.point
+    (seen_rules r.rules) c.in-Break.is)
+    c.completes.ensures
+
+pub rules_of-returns-in-Continue : goal.rules_of-returns-in-Continue
+rules_of-returns-in-Continue t c =
+    IfOk-weaker c.completes-in-Continue.result _ _
+    (λ r. continue_made (declares c.args.table.now) c.args.stmt.now.kind c.args.stmt.now.at c.args.stmt.now.point
+    (seen_rules r.rules) c.in-Continue.is)
+    c.completes-in-Continue.ensures
+
+pub rules_of-returns-in-Throw : goal.rules_of-returns-in-Throw
+rules_of-returns-in-Throw t c =
+    IfOk-weaker c.completes-in-Throw.result _ _
+    (λ r. throw_made (declares c.args.table.now) c.args.stmt.now.kind c.args.stmt.now.at c.args.stmt.now.point
+    c.in-Throw.class (seen_rules r.rules) c.in-Throw.is)
+    c.completes-in-Throw.ensures
+
+pub rules_of-returns-in-OpenLock : goal.rules_of-returns-in-OpenLock
+rules_of-returns-in-OpenLock t c =
+    IfOk-weaker c.opens.result _ _
+    (λ r. open_made (declares c.args.table.now) c.args.stmt.now.kind c.args.stmt.now.at c.args.stmt.now.point
+    c.in-OpenLock.lock (seen_rules r.rules) c.in-OpenLock.is)
+    c.opens.ensures
+
+pub rules_of-returns-in-CloseLock : goal.rules_of-returns-in-CloseLock
+rules_of-returns-in-CloseLock t c =
+    IfOk-weaker c.shuts.result _ _
+    (λ r. close_made (declares c.args.table.now) c.args.stmt.now.kind c.args.stmt.now.at c.args.stmt.now.point
+    c.in-CloseLock.lock (seen_rules r.rules) c.in-CloseLock.is)
+    c.shuts.ensures
+
+pub rules_of-returns-in-SetLocal : goal.rules_of-returns-in-SetLocal
+rules_of-returns-in-SetLocal t c =
+    IfOk-weaker c.assigns.result _ _
+    (λ r. set_local_made (declares c.args.table.now) c.args.stmt.now.kind c.args.stmt.now.at c.args.stmt.now.point
+    c.in-SetLocal.local _ c.in-SetLocal.value (seen_rules r.rules) c.in-SetLocal.is)
+    c.assigns.ensures
+
+pub rules_of-returns-in-SetStatic : goal.rules_of-returns-in-SetStatic
+rules_of-returns-in-SetStatic t c =
+    IfOk-weaker c.evaluates.result _ _
+    (λ r. set_static_made (declares c.args.table.now) c.args.stmt.now.kind c.args.stmt.now.at c.args.stmt.now.point
+    _ _ c.in-SetStatic.value (seen_rules r.rules) c.in-SetStatic.is)
+    c.evaluates.ensures
+
+pub rules_of-returns-in-SetField : goal.rules_of-returns-in-SetField
+rules_of-returns-in-SetField t c =
+    IfOk-weaker c.writes.result _ _
+    (λ r. set_field_made (declares c.args.table.now) c.args.stmt.now.kind c.args.stmt.now.at c.args.stmt.now.point
+    c.in-SetField.of _ _ c.in-SetField.value (seen_rules r.rules) c.in-SetField.is)
+    c.writes.ensures
+
+pub rules_of-returns-in-Eval : goal.rules_of-returns-in-Eval
+rules_of-returns-in-Eval t c =
+    IfOk-weaker c.evaluates-in-Eval.result _ _
+    (λ r. eval_made (declares c.args.table.now) c.args.stmt.now.kind c.args.stmt.now.at c.args.stmt.now.point
+    c.in-Eval.value (seen_rules r.rules) c.in-Eval.is)
+    c.evaluates-in-Eval.ensures
+
+pub rules_of-returns-in_ok-rest-in-When : goal.rules_of-returns-in_ok-rest-in-When
+rules_of-returns-in_ok-rest-in-When t c =
+    IfOk-weaker c.asks.result _ _
+    (λ r. when_made (declares c.args.table.now) c.args.stmt.now.kind c.args.stmt.now.at c.args.stmt.now.point
+    c.in-When.lock c.lock-policy.result c.in-When.block c.in-When.other
+    c.deref-in-When.result.now (seen_rules r.rules) (seen_rules c.in_ok-rest-in-When.rest.rules)
+    (seen_node c.in_ok-node-in-When.node.node)
+    c.in-When.is c.lock-policy.ensures c.deref-in-When.ensures c.in_ok-node-in-When.ensures
+    (c.in_ok-rest-in-When.ensures
+    ∙ ap (else_rules (declares c.args.table.now) (otherwise c.in-When.other)) c.asked.ensures))
+    c.asks.ensures
