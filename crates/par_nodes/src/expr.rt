@@ -132,6 +132,17 @@ fn given<'a>(alloc: Global, policy: u16) -> Result<Draft<'a>, NoMemory>
     Ok(rules)
 }
 
+// What is known of a field behind its object.
+fn field_value<'a>(alloc: Global, policy: u16) -> Result<Draft<'a>, NoMemory>
+    ensures { IfOk result (λ r. seen_rules r.rules ≡ plain.goes_on body.past
+        (plain.Worths (plain.Value 0) (plain.Worths (plain.Given policy) plain.Done))) }
+{
+    let own = make::worth(alloc, Worth::Given(policy))?;
+    let value = make::worths(alloc, Worth::Value(0), own)?;
+    let rules = make::goes_on(alloc, PAST, value)?;
+    Ok(rules)
+}
+
 // A field of an object.
 #[inline(never)]
 fn select<'a>(
@@ -145,9 +156,7 @@ fn select<'a>(
         (body.null_test (shown of.now) body.tested (plain.goes_on body.past
         (plain.Worths (plain.Value 0) (plain.Worths (plain.Given policy) plain.Done))))) }
 {
-    let own = make::worth(alloc, Worth::Given(policy))?;
-    let value = make::worths(alloc, Worth::Value(0), own)?;
-    let goes = make::goes_on(alloc, PAST, value)?;
+    let goes = field_value(alloc, policy)?;
     let rest = null_test(alloc, of, TESTED, goes)?;
     let rules = make::then(alloc, ENTRY, node, rest)?;
     Ok(rules)

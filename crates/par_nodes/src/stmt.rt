@@ -146,6 +146,18 @@ fn branches<'a>(
     Ok(rules)
 }
 
+// Behind the block of a loop comes the test, but for `break`.
+fn again<'a>(alloc: Global) -> Result<Draft<'a>, NoMemory>
+    ensures { IfOk result (λ r. seen_rules r.rules ≡ plain.Heads body.past
+        (plain.Heads (plain.After 0 kinds.Continue)
+        (plain.goes_on (plain.After 0 kinds.Break) plain.Done))) }
+{
+    let broken = make::ends(alloc, BROKEN)?;
+    let continued = make::heads(alloc, CONTINUED, broken)?;
+    let rules = make::heads(alloc, PAST, continued)?;
+    Ok(rules)
+}
+
 // A loop.
 #[inline(never)]
 fn repeats<'a>(
@@ -161,10 +173,7 @@ fn repeats<'a>(
         (plain.Heads body.past (plain.Heads (plain.After 0 kinds.Continue)
         (plain.goes_on (plain.After 0 kinds.Break) plain.Done))))))) }
 {
-    let broken = make::ends(alloc, BROKEN)?;
-    let again = make::heads(alloc, CONTINUED, broken)?;
-    let heads = make::heads(alloc, PAST, again)?;
-    let part = make::part(alloc, TESTED, Absorber::Loop, block, heads)?;
+    let part = make::part(alloc, TESTED, Absorber::Loop, block, again(alloc)?)?;
     let behind = unless(alloc, is_forever(test), part)?;
     let entered = make::heads(alloc, ENTRY, behind)?;
     let node = exp(alloc, table, test)?;
