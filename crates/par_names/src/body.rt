@@ -3,9 +3,10 @@
 ghost use Rattle.std.specs.Prelude.{◌≡◌, ◌++◌, ◌∷◌, [], map, take, length, OnOk};
 ghost use Rattle.par_tree.specs.Shown as tree;
 ghost use Rattle.par_tree.specs.Shown.{does, braces, otherwise, may_braces, all_do, all_catch};
-ghost use Rattle.par_tree.specs.Shown.{handler};
+ghost use Rattle.par_tree.specs.Shown.{handler, shown};
 ghost use Rattle.par_typed.specs.First.{first_of};
 ghost use Rattle.par_names.specs.Declarations.{doubles};
+ghost use Rattle.par_names.specs.Exprs.{expr_faults};
 ghost use Rattle.par_names.specs.Stmts.{taken_fault, local_faults, declares, all_caught};
 ghost use Rattle.par_names.specs.Stmts.{stmt_faults, braces_faults, may_braces_faults, else_faults};
 ghost use Rattle.par_names.specs.Stmts.{stmts_faults, catches_faults, handler_faults};
@@ -19,6 +20,7 @@ use crate::scope::Scope;
 use crate::view::{Home, View};
 use par_lexer::list::NoMemory;
 use par_tree::decl::ParamDecl;
+use par_tree::expr::Expr;
 use par_tree::ident::Ident;
 use par_tree::stmt::{Block, CatchTree, LocalDecl, Stmt, StmtKind};
 use par_typed::refusal::Findings;
@@ -92,6 +94,23 @@ fn check_caught(
     check_doubles(alloc, classes.as_slice(), findings)
 }
 
+#[tactic(auto, using(crate::proofs::Noted::noting))]
+fn check_both(
+    view: &View<'_>,
+    home: &Home<'_>,
+    scope: &Scope<'_>,
+    one: &Expr,
+    other: &Expr,
+    findings: &mut Findings,
+)
+    ensures { findings.new ≡ first_of findings.old
+        (expr_faults (seen view.now) (home_seen home.now) scope.now (shown one.now)
+        ++ expr_faults (seen view.now) (home_seen home.now) scope.now (shown other.now)) }
+{
+    check_expr(view, home, scope, one, findings);
+    check_expr(view, home, scope, other, findings);
+}
+
 #[cycle(stmt)]
 #[tactic(auto, using(crate::proofs::StmtForms::stmts))]
 fn check_stmt<'a>(
@@ -107,50 +126,52 @@ fn check_stmt<'a>(
     ensures declared { OnOk result (scope.new ≡ declares (does s.now) scope.old) }
 {
     match &s.kind {
-        StmtKind::Block(block) => check_block(alloc, view, home, scope, block, findings),
+        StmtKind::Block(block) => check_block(alloc, view, home, scope, block, findings)?,
         StmtKind::If(test, block, other) => {
-            check_expr(view, home, scope, test, findings);
-            check_block(alloc, view, home, scope, block, findings)?;
-            check_else(alloc, view, home, scope, other, findings)
+            check_arm(alloc, view, home, scope, block, test, findings)?;
+            check_else(alloc, view, home, scope, other, findings)?;
         }
-        StmtKind::While(test, block) => {
-            check_expr(view, home, scope, test, findings);
-            check_block(alloc, view, home, scope, block, findings)
-        }
+        StmtKind::While(test, block) => check_arm(alloc, view, home, scope, block, test, findings)?,
         StmtKind::Try(block, catches) => {
             check_block(alloc, view, home, scope, block, findings)?;
             check_caught(alloc, catches.as_slice(), findings)?;
-            check_catches(alloc, view, home, scope, catches.as_slice(), findings)
-        }
-        StmtKind::Return(value) => {
-            check_value(view, home, scope, value, findings);
-            Ok(())
-        }
-        StmtKind::Break | StmtKind::Continue => Ok(()),
-        StmtKind::Throw(class) => {
-            check_class(view, class, findings);
-            Ok(())
-        }
-        StmtKind::OpenLock(lock) | StmtKind::CloseLock(lock) => {
-            check_lock(view, lock, findings);
-            Ok(())
-        }
-        StmtKind::Local(local) => check_local(view, home, scope, local, findings),
-        StmtKind::Assign(target, value) => {
-            check_expr(view, home, scope, target, findings);
-            check_expr(view, home, scope, value, findings);
-            Ok(())
-        }
-        StmtKind::Call(call) => {
-            check_expr(view, home, scope, call, findings);
-            Ok(())
+            check_catches(alloc, view, home, scope, catches.as_slice(), findings)?;
         }
         StmtKind::When(lock, block, other) => {
             check_lock(view, lock, findings);
             check_block(alloc, view, home, scope, block, findings)?;
-            check_else_block(alloc, view, home, scope, other, findings)
+            check_else_block(alloc, view, home, scope, other, findings)?;
         }
+        StmtKind::Local(local) => check_local(view, home, scope, local, findings)?,
+        StmtKind::Assign(target, value) => check_both(view, home, scope, target, value, findings),
+        StmtKind::Call(call) => check_expr(view, home, scope, call, findings),
+        StmtKind::Return(value) => check_value(view, home, scope, value, findings),
+        StmtKind::Throw(class) => check_class(view, class, findings),
+        StmtKind::OpenLock(lock) | StmtKind::CloseLock(lock) => check_lock(view, lock, findings),
+        StmtKind::Break | StmtKind::Continue => {}
     }
+    Ok(())
+}
+
+// A block, and the test before it.
+#[cycle(stmt)]
+#[tactic(auto, using(crate::proofs::StmtForms::stmts))]
+fn check_arm<'a>(
+    alloc: Global,
+    view: &View<'_>,
+    home: &Home<'_>,
+    scope: &mut Scope<'a>,
+    block: &'a Block,
+    test: &Expr,
+    findings: &mut Findings,
+) -> Result<(), NoMemory>
+    ensures found { OnOk result (findings.new ≡ first_of findings.old
+        (expr_faults (seen view.now) (home_seen home.now) scope.old (shown test.now)
+        ++ braces_faults (seen view.now) (home_seen home.now) scope.old (braces block.now))) }
+    ensures left { OnOk result (scope.new ≡ scope.old) }
+{
+    check_expr(view, home, scope, test, findings);
+    check_block(alloc, view, home, scope, block, findings)
 }
 
 // The locals of a block leave the scope behind it.

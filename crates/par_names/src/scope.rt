@@ -60,7 +60,8 @@ impl<'a> Scope<'a> {
         }
     }
 
-    /// Puts a name behind the others. A second one of a name changes nothing.
+    /// Puts a name behind the others, also one that is in scope already. What is in scope where
+    /// memory runs out is not promised.
     pub fn declare(&mut self, name: &'a Name) -> Result<(), NoMemory>
         ensures { OnOk result (self.new ≡ self.old ++ name.entry.now ∷ []) }
     {
