@@ -78,7 +78,8 @@ impl<'a> Locals<'a> {
         }
     }
 
-    /// Puts a local into scope. Without memory those in scope are as before.
+    /// Puts a local behind those in scope. Where its name stands there already, the name goes on
+    /// standing for the first. What is in scope where memory runs out is not promised.
     pub fn declare(&mut self, name: &'a Name, slot: Slot) -> Result<(), NoMemory>
         ensures { OnOk result (self.new ≡ declared self.old name.now slot) }
     {
