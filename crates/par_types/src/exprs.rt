@@ -1,9 +1,11 @@
 //! The rules on types in expressions.
 
-ghost use Rattle.std.specs.Prelude.{◌≡◌, length};
+ghost use Rattle.std.specs.Prelude.{◌≡◌, length, Some};
 ghost use Rattle.par_tree.specs.Shown.{shown, receiver, all_shown};
+ghost use Rattle.par_typed.specs.declared.ty.Ty.TheVariants as ty;
 ghost use Rattle.par_typed.specs.First.{first_of};
-ghost use Rattle.par_scope.specs.Home.{seen};
+ghost use Rattle.par_scope.specs.Home.{seen, class_named, class_type};
+ghost use Rattle.par_scope.specs.Members.{value_of};
 ghost use Rattle.par_scope.specs.Meaning.{type_of, called_on};
 ghost use Rattle.par_types.specs.Exprs as is;
 
@@ -61,6 +63,16 @@ pub(crate) fn check_no_exception(home: &Home<'_>, class: &Ident, findings: &mut 
     findings.expect(!is_exception, 201, class.at);
 }
 
+#[tactic(auto, using(crate::proofs::Forms::finds))]
+fn check_made(home: &Home<'_>, class: &Ident, findings: &mut Findings) -> Option<Ty>
+    ensures found { findings.new
+        ≡ first_of findings.old (is.exception_fault (seen home.now) class.now) }
+    ensures typed { result ≡ class_type (class_named (seen home.now).names class.now.name) }
+{
+    check_no_exception(home, class, findings);
+    class_type(home.names.class(&class.name))
+}
+
 #[tactic(auto, using(crate::proofs::Forms::finds), unfolding(crate::specs::Exprs::member_fault))]
 fn check_member(receiver: Receiver, is_known: bool, at: u32, findings: &mut Findings)
     ensures { findings.new ≡ first_of findings.old (is.member_fault receiver is_known at) }
@@ -114,23 +126,14 @@ pub(crate) fn check_expr(
         ExprKind::True | ExprKind::False => Some(Ty::Boolean),
         ExprKind::Null => Some(Ty::Null),
         ExprKind::This => Some(Ty::Class(home.class)),
-        ExprKind::New(class) => {
-            check_no_exception(home, class, findings);
-            class_type(home.names.class(&class.name))
-        }
+        ExprKind::New(class) => check_made(home, class, findings),
         ExprKind::Name(name) => type_of_name(home, locals, name),
         ExprKind::Field(of, field) => check_field(home, locals, of, field, findings),
         ExprKind::Call(of, method, args) => {
             let receiver = check_receiver(home, locals, of, findings);
-            let args = args.as_slice();
-            check_call(home, locals, receiver, method, args, findings)
+            check_call(home, locals, receiver, method, args.as_slice(), findings)
         }
-        ExprKind::Neg(of) => {
-            if !is_number(of) {
-                check_value(home, locals, value_of(Ty::Int), of, findings);
-            }
-            Some(Ty::Int)
-        }
+        ExprKind::Neg(of) => check_negated(home, locals, of, findings),
         ExprKind::Not(of) => {
             check_value(home, locals, value_of(Ty::Boolean), of, findings);
             Some(Ty::Boolean)
@@ -142,6 +145,26 @@ pub(crate) fn check_expr(
             Some(op_type(*op))
         }
     }
+}
+
+#[cycle(expr)]
+#[tactic(auto, using(crate::proofs::Forms::found))]
+fn check_negated(
+    home: &Home<'_>,
+    locals: &Locals<'_>,
+    of: &Expr,
+    findings: &mut Findings,
+) -> Option<Ty>
+    ensures found { findings.new
+        ≡ first_of findings.old
+        (is.unless_number (is.is_number (shown of.now))
+        (is.value_faults (seen home.now) locals.now (value_of ty.Int) (shown of.now))) }
+    ensures typed { result ≡ Some ty.Int }
+{
+    if !is_number(of) {
+        check_value(home, locals, value_of(Ty::Int), of, findings);
+    }
+    Some(Ty::Int)
 }
 
 #[cycle(expr)]

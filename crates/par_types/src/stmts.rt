@@ -1,10 +1,12 @@
 //! The rules on types in statements.
 
-ghost use Rattle.std.specs.Prelude.{◌≡◌, true, take, length, OnOk};
+ghost use Rattle.std.specs.Prelude.{◌≡◌, ◌++◌, true, take, length, OnOk};
 ghost use Rattle.par_tree.specs.Shown.{shown, may_shown, does, braces, otherwise, may_braces};
 ghost use Rattle.par_tree.specs.Shown.{all_do, all_catch, handler, local};
 ghost use Rattle.par_typed.specs.First.{first_of};
 ghost use Rattle.par_scope.specs.Home.{seen};
+ghost use Rattle.par_scope.specs.Locals.{declared};
+ghost use Rattle.par_types.specs.Exprs.{expr_faults};
 ghost use Rattle.par_types.specs.Stmts as is;
 ghost use Rattle.par_types.specs.Kept.{IsKept};
 
@@ -59,13 +61,24 @@ fn slot_of(home: &Home<'_>, decl: &LocalDecl) -> Slot
     }
 }
 
+/// Notes the broken rules of a declaration, and puts its local into scope.
 #[tactic(auto, using(crate::proofs::Forms::finds))]
-fn check_local(home: &Home<'_>, locals: &Locals<'_>, decl: &LocalDecl, findings: &mut Findings)
-    ensures { findings.new
-        ≡ first_of findings.old (is.local_faults (seen home.now) locals.now (local decl.now)) }
+fn check_local<'a>(
+    home: &Home<'_>,
+    locals: &mut Locals<'a>,
+    decl: &'a LocalDecl,
+    findings: &mut Findings,
+) -> Result<(), NoMemory>
+    ensures found { OnOk result (findings.new
+        ≡ first_of findings.old
+        (is.local_faults (seen home.now) locals.old (local decl.entry.now))) }
+    ensures put { OnOk result (locals.new
+        ≡ declared locals.old decl.entry.now.id.name
+        (is.slot_of (seen home.now) (local decl.entry.now))) }
 {
     check_type(home, &decl.ty, findings);
     check_value(home, locals, slot_of(home, decl), &decl.value, findings);
+    locals.declare(&decl.id.name, slot_of(home, decl))
 }
 
 #[tactic(auto, using(par_tree::proofs::Shown::shows), unfolding(crate::specs::Stmts::refuses_null))]
@@ -106,6 +119,14 @@ fn check_assigned(
     let ty = check_expr(home, locals, target, findings);
     let notnull = refuses_null(locals, target);
     check_value(home, locals, Slot { ty, notnull }, value, findings);
+}
+
+#[tactic(auto, using(crate::proofs::Forms::finds))]
+fn check_called(home: &Home<'_>, locals: &Locals<'_>, call: &Expr, findings: &mut Findings)
+    ensures { findings.new
+        ≡ first_of findings.old (expr_faults (seen home.now) locals.now (shown call.now)) }
+{
+    check_expr(home, locals, call, findings);
 }
 
 fn result_slot(is_void: bool, ty: Option<Ty>) -> Slot
@@ -158,50 +179,50 @@ fn check_stmt<'a>(
         locals.new ≡ is.declares (seen home.now) (does stmt.now) locals.old) }
 {
     match &stmt.kind {
-        StmtKind::Block(body) => check_block(home, looped, locals, body, findings),
+        StmtKind::Block(body) => check_block(home, looped, locals, body, findings)?,
         StmtKind::If(test, body, other) => {
-            check_test(home, locals, test, findings);
-            check_block(home, looped, locals, body, findings)?;
-            check_else(home, looped, locals, other, findings)
+            check_arm(home, looped, locals, body, test, findings)?;
+            check_else(home, looped, locals, other, findings)?;
         }
-        StmtKind::While(test, body) => {
-            check_test(home, locals, test, findings);
-            check_block(home, true, locals, body, findings)
-        }
+        StmtKind::While(test, body) => check_arm(home, true, locals, body, test, findings)?,
         StmtKind::Try(body, catches) => {
             check_block(home, looped, locals, body, findings)?;
-            check_catches(home, looped, locals, catches.as_slice(), findings)
-        }
-        StmtKind::Return(value) => {
-            check_result(home, locals, value, stmt.at, findings);
-            Ok(())
-        }
-        StmtKind::Break | StmtKind::Continue => {
-            findings.expect(looped, 205, stmt.at);
-            Ok(())
-        }
-        StmtKind::Throw(class) => {
-            check_thrown(home, class, findings);
-            Ok(())
-        }
-        StmtKind::OpenLock(_) | StmtKind::CloseLock(_) => Ok(()),
-        StmtKind::Local(decl) => {
-            check_local(home, locals, decl, findings);
-            locals.declare(&decl.id.name, slot_of(home, decl))
-        }
-        StmtKind::Assign(target, value) => {
-            check_assigned(home, locals, target, value, findings);
-            Ok(())
-        }
-        StmtKind::Call(call) => {
-            check_expr(home, locals, call, findings);
-            Ok(())
+            check_catches(home, looped, locals, catches.as_slice(), findings)?;
         }
         StmtKind::When(_, body, other) => {
             check_block(home, looped, locals, body, findings)?;
-            check_may_block(home, looped, locals, other, findings)
+            check_may_block(home, looped, locals, other, findings)?;
         }
+        StmtKind::Local(decl) => check_local(home, locals, decl, findings)?,
+        StmtKind::Assign(target, value) => check_assigned(home, locals, target, value, findings),
+        StmtKind::Call(call) => check_called(home, locals, call, findings),
+        StmtKind::Return(value) => check_result(home, locals, value, stmt.at, findings),
+        StmtKind::Throw(class) => check_thrown(home, class, findings),
+        StmtKind::Break | StmtKind::Continue => findings.expect(looped, 205, stmt.at),
+        StmtKind::OpenLock(_) | StmtKind::CloseLock(_) => {}
     }
+    Ok(())
+}
+
+/// Notes the broken rules of a block, and of the test before it.
+#[cycle(stmt)]
+#[tactic(auto, using(crate::proofs::StmtForms::found_in))]
+fn check_arm<'a>(
+    home: &Home<'_>,
+    looped: bool,
+    locals: &mut Locals<'a>,
+    body: &'a Block,
+    test: &Expr,
+    findings: &mut Findings,
+) -> Result<(), NoMemory>
+    ensures found { OnOk result (findings.new
+        ≡ first_of findings.old
+        (is.test_faults (seen home.now) locals.old (shown test.now)
+        ++ is.braces_faults (seen home.now) looped locals.old (braces body.now))) }
+    ensures left { OnOk result (locals.new ≡ locals.old) }
+{
+    check_test(home, locals, test, findings);
+    check_block(home, looped, locals, body, findings)
 }
 
 #[cycle(stmt)]
