@@ -7,7 +7,7 @@ use Rattle.par_tree.specs.declared.decl.LockDecl.{LockDecl}
 use Rattle.par_tree.specs.Plain.{Class, Method, Declaration, Source, Actors, Lock, Policy, Declared}
 use Rattle.par_names.specs.Declarations.{locks, locks_in, classes_in, declared_classes}
 use Rattle.par_places.proofs.Lists.{pushed}
-use Rattle.par_sources.specs.Order.{Ascend}
+use Rattle.par_sources.specs.Order.{Ascend, IsBare}
 
 -- a place between two bounds that is not the first
 pub record Lies (lo hi at : ℕ) : Type 0 where
@@ -79,9 +79,9 @@ method_place m = m.id.at
 abbrev pub MethodsAscend : Class → Type 0
 MethodsAscend c = Ascend 0 (map method_place c.methods)
 
--- a class at such a place, with methods in order
+-- a class at such a place, with methods in order, and with no members where it is an exception
 abbrev pub ClassLies : ℕ → ℕ → Class → Type 0
-ClassLies lo hi c = Lies lo hi (class_place c) × MethodsAscend c
+ClassLies lo hi c = Lies lo hi (class_place c) × MethodsAscend c × IsBare c
 
 abbrev pub DeclarationLies : ℕ → ℕ → Declaration → Type 0
 DeclarationLies lo hi (Actors ids) = Unit {0}
@@ -101,10 +101,14 @@ Classes lo hi classes = Climb lo hi (map class_place classes)
 abbrev Methods : List Class → Type 0
 Methods classes = AllByRecursion MethodsAscend classes
 
+abbrev Exceptions : List Class → Type 0
+Exceptions classes = AllByRecursion IsBare classes
+
 pub record SourceLies (lo hi : ℕ) (source : Source) : Type 0 where
   pub arities : Arities (locks source)
   pub classes : Classes lo hi (declared_classes source)
   pub methods : Methods (declared_classes source)
+  pub exceptions : Exceptions (declared_classes source)
 
 same : {A : Type 0} (f : Declaration → List A) (ds : Source) (d : Declaration) → f d ≡ []
     → flat_map f (ds ++ d ∷ []) ≡ flat_map f ds
@@ -125,7 +129,7 @@ declaration_further lo mid hi (Actors ids) le h = tt
 declaration_further lo mid hi (Lock lock) le h = h
 declaration_further lo mid hi (Policy policy) le h = tt
 declaration_further lo mid hi (Declared class) le h =
-    (wider lo mid hi (class_place class) le h.0, h.1)
+    (wider lo mid hi (class_place class) le h.0, h.1, h.2)
 
 pub source_further : (lo mid hi : ℕ) (ds : Source) → mid ≤ hi → SourceLies lo mid ds
     → SourceLies lo hi ds
@@ -133,6 +137,7 @@ source_further lo mid hi ds le h = record {
   arities = h.arities;
   classes = further lo mid hi (map class_place (declared_classes ds)) le h.classes;
   methods = h.methods;
+  exceptions = h.exceptions;
 }
 
 -- one more declaration behind the others
@@ -145,6 +150,7 @@ source_to lo mid low hi ds (Actors ids) h le up own = record {
       subst (Classes lo hi) (sym (same classes_in ds (Actors ids) refl))
       (further lo mid hi (map class_place (declared_classes ds)) (omega arith) h.classes);
   methods = subst Methods (sym (same classes_in ds (Actors ids) refl)) h.methods;
+  exceptions = subst Exceptions (sym (same classes_in ds (Actors ids) refl)) h.exceptions;
 }
 source_to lo mid low hi ds (Lock lock) h le up own = record {
   arities =
@@ -154,6 +160,7 @@ source_to lo mid low hi ds (Lock lock) h le up own = record {
       subst (Classes lo hi) (sym (same classes_in ds (Lock lock) refl))
       (further lo mid hi (map class_place (declared_classes ds)) (omega arith) h.classes);
   methods = subst Methods (sym (same classes_in ds (Lock lock) refl)) h.methods;
+  exceptions = subst Exceptions (sym (same classes_in ds (Lock lock) refl)) h.exceptions;
 }
 source_to lo mid low hi ds (Policy policy) h le up own = record {
   arities = subst Arities (sym (same locks_in ds (Policy policy) refl)) h.arities;
@@ -161,6 +168,7 @@ source_to lo mid low hi ds (Policy policy) h le up own = record {
       subst (Classes lo hi) (sym (same classes_in ds (Policy policy) refl))
       (further lo mid hi (map class_place (declared_classes ds)) (omega arith) h.classes);
   methods = subst Methods (sym (same classes_in ds (Policy policy) refl)) h.methods;
+  exceptions = subst Exceptions (sym (same classes_in ds (Policy policy) refl)) h.exceptions;
 }
 source_to lo mid low hi ds (Declared class) h le up own = record {
   arities = subst Arities (sym (same locks_in ds (Declared class) refl)) h.arities;
@@ -170,4 +178,7 @@ source_to lo mid low hi ds (Declared class) h le up own = record {
   methods =
       subst Methods (sym (one_behind classes_in ds (Declared class) class refl))
       (pushed MethodsAscend (declared_classes ds) class h.methods own.1);
+  exceptions =
+      subst Exceptions (sym (one_behind classes_in ds (Declared class) class refl))
+      (pushed IsBare (declared_classes ds) class h.exceptions own.2);
 }

@@ -1,5 +1,5 @@
 -- Each builder keeps the order of the places of what it puts together.
-use Rattle.std.proofs.Common.{ℕ, ◌≤◌, ◌≡◌, Bool, true, false, List, [], ◌∷◌, ◌++◌, map, arith}
+use Rattle.std.proofs.Common.{ℕ, ◌≤◌, ◌≡◌, Bool, true, false, List, [], ◌∷◌, ◌++◌, map, arith, refl}
 use Rattle.std.specs.Prelude.{nat_le}
 use Rattle.std.proofs.lemmas.Bool.Decides.{nat_tests}
 use Rattle.par_lexer.specs.declared.operator.BinOp.{BinOp}
@@ -83,14 +83,19 @@ policy_decl_lies hi (whole p ∷ tok x ∷ vs) h = (h.3.0, omega (arith, h.1, h.
 policy_decl_lies hi vs h = h
 
 exception_decl_lies : (hi : ℕ) (vs : Values) → Stack hi vs → Stack hi (exception_decl vs)
-exception_decl_lies hi (tok x ∷ vs) h = (h.0, h.1, (h.2, tt), h.3)
+exception_decl_lies hi (tok x ∷ vs) h = (
+  h.0,
+  h.1,
+  (h.2, tt, λ is. record { fields = refl; channels = refl; methods = refl }),
+  h.3,
+)
 exception_decl_lies hi vs h = h
 
 class_decl_lies : (hi : ℕ) (vs : Values) → Stack hi vs → Stack hi (class_decl vs)
 class_decl_lies hi (members ms ∷ may_whole p ∷ tok x ∷ vs) h =
     let name = wider h.3.3.0 h.3.0 hi x.from (omega (arith, h.1, h.3.1)) h.3.3.2 in
     let methods = ascends_from h.0 hi (places ms) h.2 in
-    (h.3.3.0, omega (arith, h.1, h.3.1, h.3.3.1), (name, methods), h.3.3.3)
+    (h.3.3.0, omega (arith, h.1, h.3.1, h.3.3.1), (name, methods, λ is. absurd (cc is)), h.3.3.3)
 class_decl_lies hi vs h = h
 
 next_ident_lies : (hi : ℕ) (vs : Values) → Stack hi vs → Stack hi (next_ident vs)
@@ -399,7 +404,9 @@ small_builder _ = true
 pub built_lies : (hi : ℕ) (b : Builders) (vs : Values) → small_builder b ≡ true → Stack hi vs
     → Stack hi (built b vs)
 built_lies hi g.NoDecls vs k h =
-    (hi, omega arith, record { arities = tt; classes = omega arith; methods = tt }, h)
+    let none : SourceLies hi hi [] =
+    record { arities = tt; classes = omega arith; methods = tt; exceptions = tt } in
+    (hi, omega arith, none, h)
 built_lies hi g.NextDecl vs k h = next_decl_lies hi vs h
 built_lies hi g.ActorsDecl vs k h = actors_decl_lies hi vs h
 built_lies hi g.LockDecl vs k h = lock_decl_lies hi vs h

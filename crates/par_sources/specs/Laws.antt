@@ -15,7 +15,7 @@ TreesHaveNumbers =
     (bytes : List ℕ) (tokens : List Token) (tree : Source)
     → HasTokens bytes tokens → ComesToTree tokens tree → SourceHasNumbers tree
 
--- its declarations stand in the order of their names' tokens
+-- its declarations stand in the order of their names' tokens, and exception classes have no members
 abbrev pub TreesAreInOrder : Type 0
 TreesAreInOrder =
     (bytes : List ℕ) (tokens : List Token) (tree : Source)
