@@ -1,4 +1,4 @@
--- What is asked where a field is written and where a lock is closed.
+-- What is asked where a value goes out or into a field, and where a lock is closed.
 use Rattle.std.specs.Prelude.{ℕ, List, [], ◌∷◌, slice_get}
 use Rattle.par_bits.specs.Sets.{adding, none}
 use Rattle.par_typed.specs.declared.table.Table.{Table}
@@ -21,6 +21,11 @@ module _ (table : Table) (own : Method) where
   closed lock at p =
       ask 302 at (entry_of p) (Among (adding none lock) own.closes)
       ∷ locked table own (lock_written (slice_get table.locks lock)) at p
+
+  abbrev pub output : ℕ → TExp → ℕ → ℕ → List Check
+  output policy e at p =
+      ask 403 at (behind p e) (Released (mark e).point policy)
+      ∷ learns table own at (behind p e) policy
 
   abbrev pub static_written : ℕ → TExp → ℕ → ℕ → List Check
   static_written policy e at p =

@@ -1,27 +1,30 @@
 //! What is asked of the facts of a body.
 
-ghost use Rattle.std.specs.Prelude.{◌≡◌, ◌≤◌, length, IfOk};
-ghost use Rattle.std.specs.Option.{option_copied};
+ghost use Rattle.std.specs.Prelude.{◌≡◌, ◌≤◌, length, slice_get, IfOk};
 ghost use Rattle.par_typed.specs.Shown.{body};
-ghost use Rattle.par_checks.specs.Checks.{checks, method_at};
+ghost use Rattle.par_checks.specs.Checks.{checks, name_at};
 ghost use Rattle.par_asked.specs.Seen.{seen_checks};
 
 use crate::ask::Home;
 use crate::check::Check;
-use crate::declared;
 use crate::method::ask_method;
 use crate::stmt::stmt;
 use par_lexer::list::{List, NoMemory};
+use par_nodes::declared;
 use par_typed::program::TBody;
-use par_typed::table::{MethodInfo, Table};
+use par_typed::table::Table;
 use std::alloc::Global;
 
-fn name_at(method: Option<&MethodInfo>) -> u32
-    ensures { result ≡ method_at (option_copied method.entry) }
+// The place of a method's name.
+fn name_at(table: &Table, class: u16, method: u16) -> u32
+    ensures { result ≡ name_at (slice_get table.now.classes class) method }
 {
-    match method {
+    match table.classes.get(usize::from(class)) {
         None => 0,
-        Some(method) => method.at,
+        Some(class) => match class.methods.get(usize::from(method)) {
+            None => 0,
+            Some(method) => method.at,
+        },
     }
 }
 
@@ -35,10 +38,13 @@ pub fn checks_of<'a>(
     requires { length table.now.classes ≤ 65536 }
     ensures { IfOk result (λ cs. seen_checks cs ≡ checks table.now (body of.now)) }
 {
-    let own = declared::method(table, of.class, of.method);
-    let home = Home { table, own };
+    let home = Home {
+        table,
+        own: declared::method(table, of.class, of.method),
+    };
+    let at = name_at(table, of.class, of.method);
     let mut checks = List::new(alloc);
     stmt(&home, &of.body, &mut checks)?;
-    ask_method(&home, name_at(own), of.body.point, &mut checks)?;
+    ask_method(&home, at, of.body.point, &mut checks)?;
     Ok(checks)
 }

@@ -4,17 +4,18 @@ ghost use Rattle.std.specs.Prelude.{◌≡◌, [], ◌∷◌, ◌++◌, OnOk};
 ghost use Rattle.std.specs.Option.{option_copied};
 ghost use Rattle.par_typed.specs.Plain.{mark};
 ghost use Rattle.par_typed.specs.Shown.{all_shown, receiver, shown};
-ghost use Rattle.par_rules.specs.Declares.{method_of, params_of};
+ghost use Rattle.par_rules.specs.Declares.{declares, method_of, params_of};
 ghost use Rattle.par_checks.specs.Asked as asked;
 ghost use Rattle.par_checks.specs.Checks.{args_checks, arguments, ask, called, entry_of};
 ghost use Rattle.par_checks.specs.Checks.{exp_checks, may_checks};
 ghost use Rattle.par_asked.specs.Calls.{calls, of_point};
 ghost use Rattle.par_asked.specs.Seen.{own, seen_checks, seen_spot, table};
+ghost use Rattle.par_asked.specs.Writes.{output};
 
 use crate::ask::{Home, Spot, closes, effect, expects};
 use crate::check::{Check, Condition, Way};
-use crate::declared;
 use par_lexer::list::{List, NoMemory};
+use par_nodes::declared;
 use par_typed::expr::{TExpr, TExprKind};
 use par_typed::table::{MethodInfo, ParamInfo};
 
@@ -137,6 +138,27 @@ fn ask_call<'a>(
     ask_called(home, spot, method, checks)
 }
 
+// What is asked where a value goes out on a channel.
+#[tactic(auto, using(crate::proofs::Forms::marks, crate::proofs::Asks::asks))]
+fn ask_output<'a>(
+    home: &Home<'a>,
+    e: &TExpr,
+    class: u16,
+    channel: u16,
+    value: &TExpr,
+    checks: &mut List<Check<'a>>,
+) -> Result<(), NoMemory>
+    ensures { OnOk result (seen_checks checks.new ≡ seen_checks checks.old
+        ++ output (table home.now) (own home.now)
+        ((declares (table home.now)).channel class channel) (shown value.now)
+        e.now.at e.now.point) }
+{
+    let policy = declared::channel(home.table, class, channel);
+    let spot = spot(e, Way::Behind(value.point));
+    spot.ask(403, Condition::Released(value.point, policy), checks)?;
+    spot.ask_learns(home, 404, policy, checks)
+}
+
 #[cycle(exp)]
 fn may_exp<'a>(
     home: &Home<'a>,
@@ -176,10 +198,7 @@ pub fn exp<'a>(home: &Home<'a>, e: &'a TExpr, checks: &mut List<Check<'a>>) -> R
         }
         TExprKind::Output(class, channel, value) => {
             exp(home, value, checks)?;
-            let policy = declared::channel(home.table, *class, *channel);
-            let spot = spot(e, Way::Behind(value.point));
-            spot.ask(403, Condition::Released(value.point, policy), checks)?;
-            spot.ask_learns(home, 404, policy, checks)
+            ask_output(home, e, *class, *channel, value, checks)
         }
         TExprKind::Call(class, method, of, arguments) => {
             let arguments = arguments.as_slice();

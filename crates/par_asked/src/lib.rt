@@ -8,7 +8,6 @@
 mod ask;
 pub mod body;
 pub mod check;
-mod declared;
 mod expr;
 mod method;
 mod stmt;

@@ -4,16 +4,17 @@ ghost use Rattle.std.specs.Prelude.{◌≡◌, [], ◌∷◌, ◌++◌, OnOk, sl
 ghost use Rattle.par_bits.specs.Sets.{adding, none};
 ghost use Rattle.par_typed.specs.Shown.{all_catch, all_do, does, may_shown, otherwise, shown};
 ghost use Rattle.par_rules.specs.Declares.{declares};
-ghost use Rattle.par_checks.specs.Checks.{catches_checks, lock_written, locked, may_checks};
-ghost use Rattle.par_checks.specs.Checks.{other_checks, returned, set, sta_checks, stas_checks};
+ghost use Rattle.par_checks.specs.Checks.{catches_checks, exp_checks, lock_written, locked};
+ghost use Rattle.par_checks.specs.Checks.{may_checks, other_checks, returned, set, sta_checks};
+ghost use Rattle.par_checks.specs.Checks.{stas_checks};
 ghost use Rattle.par_asked.specs.Writes as writes;
 ghost use Rattle.par_asked.specs.Seen.{own, seen_checks, table};
 
 use crate::ask::{Home, Spot, closes};
 use crate::check::{Check, Condition, Locks, Way};
-use crate::declared;
 use crate::expr::exp;
 use par_lexer::list::{List, NoMemory};
+use par_nodes::declared;
 use par_typed::expr::TExpr;
 use par_typed::stmt::{TCatch, TStmt, TStmtKind};
 use par_typed::table::Table;
@@ -93,18 +94,20 @@ fn ask_returned<'a>(
     }
 }
 
-// What is set against the policy that the local's declaration writes.
+// A value that is set, against the policy that the local's declaration writes.
 #[tactic(auto, using(crate::proofs::Forms::results))]
 fn ask_set<'a>(
     home: &Home<'a>,
     s: &TStmt,
     policy: Option<u16>,
-    value: &TExpr,
+    value: &'a TExpr,
     checks: &mut List<Check<'a>>,
 ) -> Result<(), NoMemory>
-    ensures { OnOk result (seen_checks checks.new ≡ seen_checks checks.old
+    ensures { OnOk result (seen_checks checks.new ≡ (seen_checks checks.old
+        ++ exp_checks (table home.now) (own home.now) (shown value.now))
         ++ set (table home.now) (own home.now) policy (shown value.now) s.now.at s.now.point) }
 {
+    exp(home, value, checks)?;
     match policy {
         None => Ok(()),
         Some(policy) => {
@@ -114,38 +117,44 @@ fn ask_set<'a>(
     }
 }
 
-// What is asked where a static field is written.
+// A value that is written to a static field of the policy.
 #[tactic(auto, using(crate::proofs::Forms::results))]
 fn ask_static<'a>(
     home: &Home<'a>,
     s: &TStmt,
     policy: u16,
-    value: &TExpr,
+    value: &'a TExpr,
     checks: &mut List<Check<'a>>,
 ) -> Result<(), NoMemory>
-    ensures { OnOk result (seen_checks checks.new ≡ seen_checks checks.old
+    ensures { OnOk result (seen_checks checks.new ≡ (seen_checks checks.old
+        ++ exp_checks (table home.now) (own home.now) (shown value.now))
         ++ writes.static_written (table home.now) (own home.now) policy (shown value.now)
         s.now.at s.now.point) }
 {
+    exp(home, value, checks)?;
     let spot = spot(s, Way::Behind(value.point));
     spot.ask(401, Condition::Released(value.point, policy), checks)?;
     spot.ask_learns(home, 404, policy, checks)
 }
 
-// What is asked where a field of an object is written.
+// A value that is written to a field of the policy, of an object.
 #[tactic(auto, using(crate::proofs::Forms::results))]
 fn ask_field<'a>(
     home: &Home<'a>,
     s: &TStmt,
-    of: &TExpr,
+    of: &'a TExpr,
     policy: u16,
-    value: &TExpr,
+    value: &'a TExpr,
     checks: &mut List<Check<'a>>,
 ) -> Result<(), NoMemory>
-    ensures { OnOk result (seen_checks checks.new ≡ seen_checks checks.old
+    ensures { OnOk result (seen_checks checks.new ≡ ((seen_checks checks.old
+        ++ exp_checks (table home.now) (own home.now) (shown of.now))
+        ++ exp_checks (table home.now) (own home.now) (shown value.now))
         ++ writes.field_written (table home.now) (own home.now) (shown of.now) policy
         (shown value.now) s.now.at s.now.point) }
 {
+    exp(home, of, checks)?;
+    exp(home, value, checks)?;
     let spot = spot(s, Way::Written(value.point, of.point, of.sure));
     spot.ask(402, Condition::Released(value.point, policy), checks)?;
     spot.ask(408, Condition::Worth(of.point, policy), checks)?;
@@ -178,18 +187,12 @@ pub fn stmt<'a>(home: &Home<'a>, s: &'a TStmt, checks: &mut List<Check<'a>>) -> 
         TStmtKind::Break | TStmtKind::Continue | TStmtKind::Throw(_) => Ok(()),
         TStmtKind::OpenLock(lock) => ask_locked(home, s, *lock, checks),
         TStmtKind::CloseLock(lock) => ask_closed(home, s, *lock, checks),
-        TStmtKind::SetLocal(_, policy, value) => {
-            exp(home, value, checks)?;
-            ask_set(home, s, *policy, value, checks)
-        }
+        TStmtKind::SetLocal(_, policy, value) => ask_set(home, s, *policy, value, checks),
         TStmtKind::SetStatic(class, field, value) => {
-            exp(home, value, checks)?;
             let policy = declared::field(home.table, *class, *field);
             ask_static(home, s, policy, value, checks)
         }
         TStmtKind::SetField(of, class, field, value) => {
-            exp(home, of, checks)?;
-            exp(home, value, checks)?;
             let policy = declared::field(home.table, *class, *field);
             ask_field(home, s, of, policy, value, checks)
         }

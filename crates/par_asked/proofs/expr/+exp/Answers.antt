@@ -27,6 +27,6 @@ exp-returns-in_ok-args-in-Call t c =
     c.as_slice-arguments.result.now (method_of (option_copied c.method-method.result))
     (seen_checks c.args.checks.now) (seen_checks c.may_exp.new.checks)
     (seen_checks c.args-in-Call.new.checks) (seen_checks c.ask_call.new.checks)
-    c.in-Call.is c.as_slice-arguments.ensures c.method-method.ensures.method
+    c.in-Call.is c.as_slice-arguments.ensures c.method-method.ensures
     c.in_ok-may_exp-in-Call.ensures c.in_ok-args-in-Call.ensures)
     c.ask_call.ensures
