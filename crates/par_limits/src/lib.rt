@@ -1,8 +1,9 @@
 //! Whether the policies of a program are within their limits.
 //!
 //! The crate lists the policies of a program in the order in which its table numbers them, finds
-//! the first that is one too many, and tells the first limit or birth policy that is broken. It
-//! reads no names: those are looked at before, and so are the limits of actors and of locks.
+//! the first that is one too many, and tells the first limit or birth policy that is broken. The
+//! crate that makes the table takes the list from here. No names are read: those are looked at
+//! before, and so are the limits of actors and of locks.
 #![tactic(auto)]
 
 mod asked;
@@ -12,4 +13,6 @@ mod many;
 mod policies;
 mod same;
 
+pub use listed::entries;
 pub use policies::first_fault;
+pub use same::same_policy;

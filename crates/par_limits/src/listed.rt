@@ -19,6 +19,7 @@ use par_tree::decl::{ClassDecl, Program};
 use par_tree::policy::PolicyExpr;
 use std::alloc::Global;
 
+// `top`, where a `when` asks for a lock without a written policy.
 fn push_queries(alloc: Global, found: &mut Vec<Entry>, program: &Program) -> Result<(), NoMemory>
     ensures { OnOk result (found.new.items
         ≡ found.old.items ++ query_entries (source program.now)) }

@@ -27,7 +27,8 @@ fn same_clauses(p: &[Clause], q: &[Clause]) -> bool
     true
 }
 
-fn same_policy(p: &Policy, q: &Policy) -> bool
+/// Whether two policies have the same clauses, in the same order.
+pub fn same_policy(p: &Policy, q: &Policy) -> bool
     ensures { result ≡ same_policy p.now q.now }
 {
     same_clauses(p.clauses(), q.clauses())
