@@ -21,7 +21,7 @@ use Rattle.par_link.specs.Builtins.{builtin}
 use Rattle.par_link.specs.Named.{is_same, fields_of, methods_of, class_place, class_of, class_named}
 use Rattle.par_link.specs.Named.{declared, field_of, method_of, field_declared, method_declared}
 use Rattle.par_link.proofs.Passing.{one_found, same_text, eq_turned}
-use Rattle.par_link.proofs.Places.{position-map}
+use Rattle.par_index.proofs.Places.{position-map}
 use Rattle.par_link.proofs.There.{object-builtin}
 
 -- a name is not a text that is none

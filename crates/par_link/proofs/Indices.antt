@@ -21,7 +21,7 @@ use Rattle.par_link.specs.Rules.{wrong_method, is_absent, absent, unlisted, cut}
 use Rattle.par_link.specs.Stops.{left, stop_at, stop_in, first_stop, is_unlisted, is_cut}
 use Rattle.par_link.specs.Order.{at, member_fault, description_fault, constant_fault, code_fault}
 use Rattle.par_link.specs.Order.{file_fault}
-use Rattle.par_link.proofs.Places.{position-within}
+use Rattle.par_index.proofs.Places.{position-within}
 
 -- a place that is found is below a bound
 abbrev pub IsBelow : ℕ → Option ℕ → Type 0

@@ -1,11 +1,11 @@
-pub mod FirstPlaces
 pub mod Indices
 pub mod Kept
+pub mod Keyed
 pub mod Few
 pub mod Made
 pub mod Ordering
-pub mod Places
 pub mod Placing
+pub mod Repeated
 pub mod Smallness
 pub mod Spread
 pub mod Stopping

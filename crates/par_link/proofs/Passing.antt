@@ -7,7 +7,7 @@ use Rattle.std.proofs.lemmas.Slice.Eq.{bytes_eq-Decides}
 use Rattle.std.specs.List.{list_all, list_any, position, position_from}
 use Rattle.std.specs.Option.{option_or}
 use Rattle.std.specs.Str.{bytes_eq}
-use Rattle.par_link.proofs.Places.{position-from, position-is_some}
+use Rattle.par_index.proofs.Places.{position-from, position-is_some}
 use Rattle.par_single.specs.Descriptors.{Text}
 
 -- ---- one test

@@ -30,7 +30,7 @@ use Rattle.par_link.specs.Named.{is_same, fields_of, methods_of, class_place, cl
 use Rattle.par_link.specs.Named.{declared, field_of, method_of, field_declared, method_declared}
 use Rattle.par_link.specs.Named.{named_by}
 use Rattle.par_link.specs.Rules.{is_of, is_nothing, is_absent, absent}
-use Rattle.par_link.proofs.Places.{position-is_some, any-map}
+use Rattle.par_index.proofs.Places.{position-is_some, any-map}
 use Rattle.par_single.specs.Descriptors.{Text}
 use Rattle.par_link.proofs.Passing.{either, none-found, one_found, same_text, eq_turned}
 

@@ -1,9 +1,7 @@
--- Where each item of a list stands first, and which is the first that stands there again.
-use Rattle.std.specs.Prelude.{◌≡◌, ℕ, Bool, if◌then◌else◌, List, [], ◌∷◌, ◌++◌, length, Option}
+-- The first item of a list that stands there again.
+use Rattle.std.specs.Prelude.{ℕ, Bool, if◌then◌else◌, List, [], ◌∷◌, ◌++◌, length, Option}
 use Rattle.std.specs.Prelude.{Some, None}
-use Rattle.std.specs.List.{list_any, position}
-use Rattle.indexmap.specs.IndexMap.{get}
-use Rattle.par_link.specs.declared.firsts.Firsts.{Firsts}
+use Rattle.std.specs.List.{list_any}
 
 module _ {A : Type 0} (same : A → A → Bool) where
   -- the place of the first item that is the same as an earlier one, where some stand before all
@@ -15,8 +13,3 @@ module _ {A : Type 0} (same : A → A → Bool) where
 
   abbrev pub first_repeated : List A → Option ℕ
   first_repeated xs = repeated_after [] xs
-
-  -- what is known of each item of a list
-  pub record AreFirst (xs : List A) (firsts : Firsts A) : Type 0 where
-    pub places : (x : A) → get same firsts.places x ≡ position (same x) xs
-    pub repeated : firsts.repeated ≡ first_repeated xs

@@ -8,11 +8,12 @@ ghost use Rattle.par_link.specs.Order.{code_fault, file_fault};
 
 use crate::entry::Named;
 use crate::members::Members;
+use crate::rules::{CUT, ILL_DESCRIBED, NO_CLASS, NO_FIELD, NO_METHOD, TWICE, UNLISTED};
 use crate::sort::Sort;
 use crate::tables::Tables;
 use crate::walk::{first_cut, first_unlisted};
 use par_class::file::ClassFile;
-use par_single::described::{is_field_right, is_method_right};
+use par_single::described::is_field_right;
 
 /// A rule that a file breaks: its number, and the index of what breaks it.
 #[derive(Clone, Copy)]
@@ -33,7 +34,7 @@ fn at(number: u16, index: Option<usize>) -> Option<Fault>
 fn member_fault(members: &Members) -> Option<Fault>
     ensures { result ≡ member_fault members.now.file.now }
 {
-    at(43, members.repeated_field()).or(at(43, members.repeated_method()))
+    at(TWICE, members.repeated_field()).or(at(TWICE, members.repeated_method()))
 }
 
 /// The place of the first field without the name or the descriptor that it needs.
@@ -48,22 +49,23 @@ fn wrong_field(file: &ClassFile) -> Option<usize>
 }
 
 /// The place of the first method without the name or the descriptor that it needs.
-fn wrong_method(file: &ClassFile) -> Option<usize>
-    ensures { result ≡ wrong_method file.now }
+fn wrong_method(members: &Members) -> Option<usize>
+    ensures { result ≡ wrong_method members.now.file.now }
 {
-    let entries = file.pool.entries.as_slice();
-    file.methods
+    members
+        .file
+        .methods
         .as_slice()
         .iter()
-        .position(|method| !is_method_right(entries, method))
+        .position(|method| !members.is_method_right(method))
 }
 
 /// A field or a method without the name or the descriptor that it needs.
 #[tactic(auto, unfolding(crate::specs::Order::description_fault))]
-fn description_fault(file: &ClassFile) -> Option<Fault>
-    ensures { result ≡ description_fault file.now }
+fn description_fault(members: &Members) -> Option<Fault>
+    ensures { result ≡ description_fault members.now.file.now }
 {
-    at(44, wrong_field(file)).or(at(44, wrong_method(file)))
+    at(ILL_DESCRIBED, wrong_field(members.file)).or(at(ILL_DESCRIBED, wrong_method(members)))
 }
 
 /// Whether no class, field or method is named.
@@ -92,9 +94,9 @@ fn constant_fault(tables: &Tables, file: &ClassFile, names: &[Named]) -> Option<
     requires { names.now ≡ names_of tables.now.files.now file.now }
     ensures { result ≡ constant_fault tables.now.files.now file.now }
 {
-    at(40, absent(Sort::Class, tables, file, names))
-        .or(at(41, absent(Sort::Field, tables, file, names)))
-        .or(at(42, absent(Sort::Method, tables, file, names)))
+    at(NO_CLASS, absent(Sort::Class, tables, file, names))
+        .or(at(NO_FIELD, absent(Sort::Field, tables, file, names)))
+        .or(at(NO_METHOD, absent(Sort::Method, tables, file, names)))
 }
 
 /// Code whose walk stops before its end.
@@ -103,7 +105,7 @@ fn code_fault(file: &ClassFile) -> Option<Fault>
     ensures { result ≡ code_fault file.now }
 {
     let methods = file.methods.as_slice();
-    at(20, first_unlisted(methods)).or(at(21, first_cut(methods)))
+    at(UNLISTED, first_unlisted(methods)).or(at(CUT, first_cut(methods)))
 }
 
 /// The first rule that a file breaks.
@@ -113,7 +115,7 @@ pub(crate) fn file_fault(tables: &Tables, members: &Members, names: &[Named]) ->
 {
     let file = members.file;
     member_fault(members)
-        .or(description_fault(file))
+        .or(description_fault(members))
         .or(constant_fault(tables, file, names))
         .or(code_fault(file))
 }

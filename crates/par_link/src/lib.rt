@@ -16,14 +16,17 @@ mod channels;
 pub mod entry;
 pub mod error;
 mod fault;
-mod firsts;
 mod fit;
+mod keys;
 mod laws;
 pub mod linked;
 mod linking;
 mod members;
+mod places;
+mod rules;
 mod sort;
 mod tables;
+mod texts;
 mod walk;
 
 pub use entry::{Builtin, Declared, Named};

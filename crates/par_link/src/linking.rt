@@ -17,6 +17,7 @@ use crate::error::LinkError;
 use crate::fault::file_fault;
 use crate::linked::Linked;
 use crate::members::Members;
+use crate::rules::{TOO_MANY, TWICE};
 use crate::tables::Tables;
 use par_class::file::ClassFile;
 use par_lexer::list::{List, NoMemory};
@@ -87,7 +88,7 @@ fn linked_list(alloc: Global, files: &[ClassFile]) -> Result<List<List<Named>>, 
 {
     if files.len() > MOST_FILES {
         return Err(LinkError::Broken {
-            number: 45,
+            number: TOO_MANY,
             class: (files.len() - 1) as u16,
             index: files.len() as u32,
         });
@@ -96,7 +97,7 @@ fn linked_list(alloc: Global, files: &[ClassFile]) -> Result<List<List<Named>>, 
     match tables.repeated_class() {
         None => linked_files(alloc, &tables),
         Some(class) => Err(LinkError::Broken {
-            number: 43,
+            number: TWICE,
             class,
             index: 0,
         }),

@@ -3,19 +3,21 @@
 ghost use Rattle.std.specs.Prelude.{◌≡◌, ◌<◌, ◌^◌, length, map, position, slice_get, IfOk};
 ghost use Rattle.std.specs.Option.{option_map};
 ghost use Rattle.std.specs.List.{All};
+ghost use Rattle.par_index.specs.Firsts.{AreFirst};
+ghost use Rattle.par_index.specs.Texts.{texts, same_text};
 ghost use Rattle.par_single.specs.Members.{named, own_name, own_names};
 ghost use Rattle.par_single.specs.Single.{is_taken};
 ghost use Rattle.par_link.specs.Conditions.{IsSmall};
 ghost use Rattle.par_link.specs.Named.{fields_of, methods_of, class_place, class_named, declared};
 ghost use Rattle.par_link.specs.Named.{place_in, field_declared, method_declared, named_by};
-ghost use Rattle.par_link.specs.Placed.{AreClasses};
 ghost use Rattle.par_link.specs.Rules.{earlier, repeated_class};
 
 use crate::builtin::{builtin, builtin_field, builtin_method};
 use crate::entry::{Declared, Named};
-use crate::firsts::{Firsts, narrow};
 use crate::members::Members;
+use crate::places::{first_repeated, narrow};
 use par_class::file::ClassFile;
+use par_index::Firsts;
 use par_lexer::list::NoMemory;
 use par_pool::constant::Constant;
 use par_single::member::{Naming, is_taken, naming_at, own_name, text_at};
@@ -25,16 +27,18 @@ use std::alloc::Global;
 #[derive(Drop)]
 pub(crate) struct Tables<'f> {
     pub(crate) files: &'f [ClassFile],
+    names: Vec<&'f [u8]>,
     classes: Firsts<&'f [u8]>,
     pub(crate) members: Vec<Members<'f>>,
     ghost few: { length files.now < 2 ^ 16 },
-    ghost classes_placed: { AreClasses files.now classes },
+    ghost named: { texts names.items ≡ own_names files.now },
+    ghost placed: { AreFirst same_text names.items classes },
     ghost each: { map (λ m. m.file.now) members.items ≡ files.now },
 }
 
 /// The names of the classes of some files.
 fn class_names(alloc: Global, files: &[ClassFile]) -> Result<Vec<&[u8]>, NoMemory>
-    ensures { IfOk result (λ names. map (λ name. name.now) names.items ≡ own_names files.now) }
+    ensures { IfOk result (λ names. texts names.items ≡ own_names files.now) }
 {
     let mut names = Vec::new(alloc);
     for file in files {
@@ -80,10 +84,12 @@ impl<'f> Tables<'f> {
         requires small { All IsSmall files.now }
         ensures { IfOk result (λ tables. tables.files.now ≡ files.entry.now) }
     {
-        let classes = Firsts::of(alloc, class_names(alloc, files)?.as_slice())?;
+        let names = class_names(alloc, files)?;
+        let classes = Firsts::of(alloc, names.as_slice())?;
         let members = all_members(alloc, files)?;
         Ok(Tables {
             files,
+            names,
             classes,
             members,
         })
@@ -94,7 +100,8 @@ impl<'f> Tables<'f> {
     pub(crate) fn repeated_class(&self) -> Option<u16>
         ensures { result ≡ repeated_class self.now.files.now }
     {
-        narrow(earlier(taken_class(self.files), self.classes.repeated))
+        let repeated = first_repeated(&self.classes, self.names.as_slice());
+        narrow(earlier(taken_class(self.files), repeated))
     }
 
     /// The members of the file at this place.

@@ -21,7 +21,7 @@ use Rattle.par_class.specs.declared.file.ClassFile.{ClassFile}
 use Rattle.par_single.specs.Members.{own_name, own_names, text_at, class_name_of, class_name_at}
 use Rattle.indexmap.specs.IndexSet.{insert_key}
 use Rattle.par_link.specs.Builtins.{builtin}
-use Rattle.par_link.proofs.Places.{position-is_some, any-map}
+use Rattle.par_index.proofs.Places.{position-is_some, any-map}
 use Rattle.par_loader.specs.Reads.{Text}
 use Rattle.par_loader.specs.Mentions.{Naming, is_unread, names_unread, naming_in, first_of}
 use Rattle.par_loader.specs.Mentions.{first_among, next_named}

@@ -1,7 +1,7 @@
 use Rattle.std.proofs.Common.{◌≡◌, suc, ◌+◌, ◌<◌, ◌&&◌, true, Some, length, get_or, sym, ap, subst}
 use Rattle.std.proofs.Common.{◌∙◌, arith}
 use Rattle.std.specs.Option.{option_map}
-use Rattle.par_link.proofs.Places.{position-found}
+use Rattle.par_index.proofs.Places.{position-found}
 use Rattle.par_link.proofs.Made.{made-at}
 use Rattle.par_link.specs.declared.entry.Named.TheVariants.{Class}
 use Rattle.par_link.specs.Named.{named_by}

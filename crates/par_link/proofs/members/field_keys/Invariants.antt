@@ -1,9 +1,9 @@
 use Rattle.std.proofs.Common.{◌≡◌, map, take}
 use Rattle.par_single.specs.Single.{field_named}
-use Rattle.par_link.specs.Placed.{key_named}
+use Rattle.par_link.specs.Placed.{keys_of}
 use Rattle.par_link.proofs.members.field_keys.Given as goal
 
 abbrev pub invariant-loop-field : goal.invariant-loop-field
 invariant-loop-field l =
-    map key_named l.keys.items ≡ map (field_named l.file.pool.entries)
-    (take l.field-index l.file.fields)
+    l.keys.items ≡ keys_of l.file (map (field_named l.file.pool.entries)
+    (take l.field-index l.file.fields))

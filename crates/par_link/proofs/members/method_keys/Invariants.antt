@@ -1,9 +1,9 @@
 use Rattle.std.proofs.Common.{◌≡◌, map, take}
 use Rattle.par_single.specs.Single.{method_named}
-use Rattle.par_link.specs.Placed.{key_named}
+use Rattle.par_link.specs.Placed.{keys_of}
 use Rattle.par_link.proofs.members.method_keys.Given as goal
 
 abbrev pub invariant-loop-method : goal.invariant-loop-method
 invariant-loop-method l =
-    map key_named l.keys.items ≡ map (method_named l.file.pool.entries)
-    (take l.method-index l.file.methods)
+    l.keys.items ≡ keys_of l.file (map (method_named l.file.pool.entries)
+    (take l.method-index l.file.methods))
