@@ -27,5 +27,9 @@ pub mod Fitted
 pub mod Completing
 pub mod Reached
 pub mod Texts
+pub mod Declares
+pub mod Signatures
+pub mod Beginning
+pub mod Bodied
 pub mod Whole
 mod Examples

@@ -93,7 +93,7 @@ scope-params home frame (p ∷ ps) =
 
 -- ---- exceptions
 
-thrown_is : (table : Table) (o : Option ℕ) → is_exception table o ≡ true
+pub thrown_is : (table : Table) (o : Option ℕ) → is_exception table o ≡ true
     → IsException (slice_get table.classes (numbered o))
 unfolding is_exception
 thrown_is table None is = absurd (cc is)

@@ -1,11 +1,12 @@
 -- The laws, of whole sources.
-use Rattle.std.proofs.Common.{◌≤◌, sym, subst, arith}
+use Rattle.std.proofs.Common.{◌≤◌, refl, sym, subst, arith}
 use Rattle.par_lexer.specs.declared.cut.TheConstants.{LONGEST_SOURCE}
 use Rattle.par_resolved.specs.Resolved.{table_of}
 use Rattle.par_well_typed.specs.Laws.{TablesAreInRange, BodiesHaveMethods, SuchBodiesAreOrderly}
 use Rattle.par_well_typed.specs.Laws.{BodiesAreOrderly, ClassesAndMembersAreNamed, BodiesAreSmall}
 use Rattle.par_well_typed.specs.Laws.{BodiesMakeObjects, TypesFit, BodiesAreControlled}
-use Rattle.par_well_typed.specs.Laws.{TablesHaveTexts, SourcesAreWellTyped}
+use Rattle.par_well_typed.specs.Laws.{TablesHaveTexts, TablesHaveBuiltIns, TablesAreSigned}
+use Rattle.par_well_typed.specs.Laws.{TablesHaveMain, MethodsHaveBodies, SourcesAreWellTyped}
 use Rattle.par_well_typed.specs.Orderly.{HasMethod, IsOrderlyBody}
 use Rattle.par_well_typed.specs.Typed.{bodies_of, written_in}
 use Rattle.par_well_typed.proofs.Lists.{each_is}
@@ -18,6 +19,9 @@ use Rattle.par_well_typed.proofs.Objects as objects
 use Rattle.par_well_typed.proofs.Fitted as fitted
 use Rattle.par_well_typed.proofs.Texts as texts
 use Rattle.par_well_typed.proofs.Reached as reached
+use Rattle.par_well_typed.proofs.Signatures as signatures
+use Rattle.par_well_typed.proofs.Beginning as beginning
+use Rattle.par_well_typed.proofs.Bodied as bodied
 use Rattle.par_well_typed.proofs.Unbroken.{names_kept}
 
 pub tables_are_in_range : TablesAreInRange
@@ -57,9 +61,29 @@ bodies_are_controlled source ordered none types =
 pub tables_have_texts : TablesHaveTexts
 tables_have_texts source none = texts.tables_have_texts source (names_kept source none)
 
+pub tables_have_built_ins : TablesHaveBuiltIns
+tables_have_built_ins source = refl
+
+pub tables_are_signed : TablesAreSigned
+tables_are_signed source ordered none types =
+    signatures.tables_are_signed source ordered none types
+
+pub tables_have_main : TablesHaveMain
+tables_have_main source ordered none =
+    beginning.tables_have_main source ordered (names_kept source none)
+
+pub methods_have_bodies : MethodsHaveBodies
+methods_have_bodies source ordered none =
+    bodied.methods_have_bodies source ordered (names_kept source none)
+
 pub sources_are_well_typed : SourcesAreWellTyped
 sources_are_well_typed source ordered none types short = record {
   in_range = tables_are_in_range source ordered none;
+  built_in = tables_have_built_ins source;
+  signed = tables_are_signed source ordered none types;
+  main = tables_have_main source ordered none;
+  texts = subst (λ n. n ≤ LONGEST_SOURCE) (sym (tables_have_texts source none)) short;
+  one_each = methods_have_bodies source ordered none;
   have_methods = bodies_have_methods source ordered none;
   orderly = bodies_are_orderly source ordered none;
   named = classes_and_members_are_named source types;
@@ -67,5 +91,4 @@ sources_are_well_typed source ordered none types short = record {
   fitting = types_fit source ordered none types;
   controlled = bodies_are_controlled source ordered none types;
   small = bodies_are_small source ordered none types;
-  texts = subst (λ n. n ≤ LONGEST_SOURCE) (sym (tables_have_texts source none)) short;
 }

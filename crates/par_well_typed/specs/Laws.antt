@@ -14,6 +14,9 @@ use Rattle.par_well_typed.specs.WellTyped.{NamesMembers, IsWellTyped}
 use Rattle.par_well_typed.specs.Makes.{MakesObjects}
 use Rattle.par_well_typed.specs.Fits.{ValuesFit}
 use Rattle.par_well_typed.specs.Control.{IsControlled}
+use Rattle.par_well_typed.specs.Signatures.{HasBuiltIns, AreSigned}
+use Rattle.par_well_typed.specs.Beginning.{HasMain}
+use Rattle.par_well_typed.specs.Bodied.{AreBodiesOf}
 use Rattle.par_well_typed.specs.Sizes.{IsSmallBody}
 use Rattle.par_well_typed.specs.Texts.{table_texts}
 use Rattle.par_sources.specs.Order.{IsInOrder}
@@ -87,7 +90,28 @@ TablesHaveTexts =
     (source : Source) → all_faults source ≡ []
     → table_texts (table_of source) ≡ source_texts source
 
--- the bodies of a source that breaks no rule on names and types and exceeds no limit are well typed
+-- the classes that every program has come first
+abbrev pub TablesHaveBuiltIns : Type 0
+TablesHaveBuiltIns = (source : Source) → HasBuiltIns (table_of source)
+
+-- what is declared has the types and the exceptions that it may have
+abbrev pub TablesAreSigned : Type 0
+TablesAreSigned =
+    (source : Source) → IsInOrder source → all_faults source ≡ []
+    → type_faults (table_of source) source ≡ [] → AreSigned (table_of source)
+
+-- the table tells where the program begins
+abbrev pub TablesHaveMain : Type 0
+TablesHaveMain =
+    (source : Source) → IsInOrder source → all_faults source ≡ [] → HasMain (table_of source)
+
+-- each method of the table has one body
+abbrev pub MethodsHaveBodies : Type 0
+MethodsHaveBodies =
+    (source : Source) → IsInOrder source → all_faults source ≡ []
+    → AreBodiesOf (table_of source) (bodies_of source)
+
+-- the program of a source that breaks no rule on names and types and exceeds no limit is well typed
 abbrev pub SourcesAreWellTyped : Type 0
 SourcesAreWellTyped =
     (source : Source) → IsInOrder source → all_faults source ≡ []

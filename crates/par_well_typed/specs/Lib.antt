@@ -8,6 +8,9 @@ pub mod Members
 pub mod Makes
 pub mod Fits
 pub mod Control
+pub mod Signatures
+pub mod Beginning
+pub mod Bodied
 pub mod WellTyped
 pub mod Typed
 pub mod Laws

@@ -1,4 +1,4 @@
--- Well-typed bodies.
+-- Well-typed programs.
 use Rattle.std.specs.Prelude.{◌≤◌, List}
 use Rattle.std.specs.List.{AllByRecursion}
 use Rattle.par_lexer.specs.declared.cut.TheConstants.{LONGEST_SOURCE}
@@ -10,21 +10,31 @@ use Rattle.par_well_typed.specs.Members.{StaNames}
 use Rattle.par_well_typed.specs.Makes.{MakesObjects}
 use Rattle.par_well_typed.specs.Fits.{ValuesFit}
 use Rattle.par_well_typed.specs.Control.{IsControlled}
+use Rattle.par_well_typed.specs.Signatures.{HasBuiltIns, AreSigned}
+use Rattle.par_well_typed.specs.Beginning.{HasMain}
+use Rattle.par_well_typed.specs.Bodied.{AreBodiesOf}
 use Rattle.par_well_typed.specs.Sizes.{IsSmallBody}
 use Rattle.par_well_typed.specs.Texts.{table_texts}
 
 abbrev pub NamesMembers : Table → Body → Type 0
 NamesMembers table b = StaNames table b.body
 
--- what later layers may ask of the bodies of a program, over its table: the table's numbers are in
--- range, each body is that of a method, obeys what the rules of flow ask of numbers, names the
+-- What later layers may ask of the bodies of a program, over its table. Of the table: its numbers
+-- are in range, the classes that every program has come first, fields, parameters, locals and
+-- results have types of values and never that of an exception class, methods throw exceptions
+-- alone, exception classes have no members, one method is the `main` where the program begins, and
+-- names and descriptors have no more bytes than a source.
+-- Of the bodies: each method has one; each obeys what the rules of flow ask of numbers, names the
 -- classes and members that it should, makes objects of ordinary classes, has `this` where there is
--- a
--- receiver, has values of the types that fit where they stand, has no statement that is not reached
--- and no end that is reached without a result, and is within the limits; and the names and
--- descriptors of the table have no more bytes than a source
+-- a receiver, has values of types that fit where they stand, has no statement that is not reached
+-- and no end that is reached without a result, and is within the limits.
 pub record IsWellTyped (table : Table) (bodies : List Body) : Type 0 where
   pub in_range : IsInRange table
+  pub built_in : HasBuiltIns table
+  pub signed : AreSigned table
+  pub main : HasMain table
+  pub texts : table_texts table ≤ LONGEST_SOURCE
+  pub one_each : AreBodiesOf table bodies
   pub have_methods : AllByRecursion (HasMethod table) bodies
   pub orderly : AllByRecursion (IsOrderlyBody table) bodies
   pub named : AllByRecursion (NamesMembers table) bodies
@@ -32,4 +42,3 @@ pub record IsWellTyped (table : Table) (bodies : List Body) : Type 0 where
   pub fitting : AllByRecursion (ValuesFit table) bodies
   pub controlled : AllByRecursion (IsControlled table) bodies
   pub small : AllByRecursion (IsSmallBody table) bodies
-  pub texts : table_texts table ≤ LONGEST_SOURCE

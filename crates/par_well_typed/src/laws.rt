@@ -5,6 +5,8 @@ ghost use Rattle.par_well_typed.specs.Laws.{SuchBodiesAreOrderly, BodiesAreOrder
 ghost use Rattle.par_well_typed.specs.Laws.{ClassesAndMembersAreNamed, BodiesAreSmall};
 ghost use Rattle.par_well_typed.specs.Laws.{BodiesMakeObjects, TypesFit};
 ghost use Rattle.par_well_typed.specs.Laws.{BodiesAreControlled, TablesHaveTexts};
+ghost use Rattle.par_well_typed.specs.Laws.{TablesHaveBuiltIns, TablesAreSigned};
+ghost use Rattle.par_well_typed.specs.Laws.{TablesHaveMain, MethodsHaveBodies};
 ghost use Rattle.par_well_typed.specs.Laws.{SourcesAreWellTyped};
 
 /// In the table of a source that breaks no rule on names and exceeds no limit all numbers are in
@@ -71,6 +73,32 @@ pub fn bodies_are_controlled()
 /// of their members and the descriptors of these have as many bytes as those of the source.
 pub fn tables_have_texts()
     ensures { TablesHaveTexts }
+{}
+
+/// In the table of any source classes 0 and 1 are the exception classes `ArithmeticException` and
+/// `NullPointerException`.
+pub fn tables_have_built_ins()
+    ensures { TablesHaveBuiltIns }
+{}
+
+/// In the table of a source that breaks no rule on names and types and exceeds no limit each field,
+/// parameter and local is an int, a boolean or an object of a class that is no exception, a result
+/// is one of these or void, what a method declares to throw is of an exception class, and exception
+/// classes have no members.
+pub fn tables_are_signed()
+    ensures { TablesAreSigned }
+{}
+
+/// In the table of a source that breaks no rule on names and exceeds no limit one method is named
+/// `main`. The table tells its class. It is static, gives no result, has no parameters and expects
+/// no lock.
+pub fn tables_have_main()
+    ensures { TablesHaveMain }
+{}
+
+/// Each method of that table has one body among those of the source, in the order of the methods.
+pub fn methods_have_bodies()
+    ensures { MethodsHaveBodies }
 {}
 
 /// All of the above holds of the typed bodies of a source that breaks no rule on names and types
