@@ -22,14 +22,12 @@ use Rattle.par_scope.specs.declared.meaning.Receiver.TheVariants.{Own}
 use Rattle.par_scope.specs.Home.{Home, class_named, class_type}
 use Rattle.par_scope.specs.Meaning.{type_of, called_on, receiver_of, selected, called, op_type}
 use Rattle.par_scope.specs.Meaning.{sure}
-use Rattle.par_scope.proofs.Forms.{types}
 use Rattle.par_types.specs.declared.exprs.TheConstants.{TOO_LARGE}
 use Rattle.par_annotate.specs.Frames.{Frame, var_named}
 use Rattle.par_annotate.specs.Exprs.{numbered, mark_of, own_this, name_typed, number_of, negation}
 use Rattle.par_annotate.specs.Exprs.{selection, callee_on, call, typed_exp, typed_may, typed_args}
 use Rattle.par_annotate.specs.Exprs.{first, behind}
 use Rattle.par_annotated.specs.Ints.{one_unless, behind_minus, no_ints, may_no_ints, args_no_ints}
-use Rattle.par_annotated.proofs.NodeForms.{node_forms}
 
 pub typed_exp_int : (home : Home) (frame : Frame) (p : ℕ) (n : ℕ) (at : ℕ) →
     typed_exp home frame p (Int n at) ≡ typed.Int (pos n) (mark_of at p (Some ty.Int) false)
@@ -340,77 +338,3 @@ call_ints e o m es is h =
     let sum : may_no_ints (receiver o) + args_no_ints (all_shown es) ≡ 0 =
     sym (no_ints_call (receiver o) m (all_shown es) e.at) ∙ call in
     omega (arith, sum)
-
-pub ruleset int_forms = (
-  no_ints_int,
-  no_ints_true,
-  no_ints_false,
-  no_ints_null,
-  no_ints_this,
-  no_ints_new,
-  no_ints_name,
-  no_ints_field,
-  no_ints_call,
-  no_ints_neg,
-  no_ints_not,
-  no_ints_binary,
-  may_no_ints_absent,
-  may_no_ints_present,
-  args_no_ints_noexps,
-  args_no_ints_more,
-  tree.shows,
-)
-
-pub ruleset typed_exprs = (
-  typed_exp_int,
-  typed_exp_true,
-  typed_exp_false,
-  typed_exp_null,
-  typed_exp_this,
-  typed_exp_new,
-  typed_exp_name,
-  typed_exp_field,
-  typed_exp_call,
-  typed_exp_neg,
-  typed_exp_not,
-  typed_exp_binary,
-  typed_may_absent,
-  typed_may_present,
-  typed_args_noexps,
-  typed_args_more,
-  of_nodes_int,
-  of_nodes_true,
-  of_nodes_false,
-  of_nodes_null,
-  of_nodes_this,
-  of_nodes_new,
-  of_nodes_name,
-  of_nodes_field,
-  of_nodes_call,
-  of_nodes_neg,
-  of_nodes_not,
-  of_nodes_binary,
-  of_may_nodes_absent,
-  of_may_nodes_present,
-  of_args_nodes_noexps,
-  of_args_nodes_more,
-  no_ints_int,
-  no_ints_true,
-  no_ints_false,
-  no_ints_null,
-  no_ints_this,
-  no_ints_new,
-  no_ints_name,
-  no_ints_field,
-  no_ints_call,
-  no_ints_neg,
-  no_ints_not,
-  no_ints_binary,
-  may_no_ints_absent,
-  may_no_ints_present,
-  args_no_ints_noexps,
-  args_no_ints_more,
-  types,
-  tree.shows,
-  node_forms,
-)

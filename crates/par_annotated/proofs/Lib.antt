@@ -1,7 +1,9 @@
 pub mod NodeForms
 pub mod ExprForms
+pub mod ExprFamilies
 pub mod TargetForms
 pub mod StmtNodeForms
 pub mod StmtForms
+pub mod StmtFamilies
 pub mod Kept
 pub mod BodyForms

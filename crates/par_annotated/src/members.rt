@@ -230,7 +230,8 @@ pub(crate) fn method_receiver(
     requires next { next.old ≡ spot.point + 1 + may_nodes (may_shown on.written) }
     requires room { next.old + 1 < 2 ^ 32 }
     ensures made { IfOk result (λ o. receiver o
-        ≡ made.method_on on.receiver (is.method_is_static (is.method_at (seen home.now).table place))
+        ≡ made.method_on on.receiver
+        (is.method_is_static (is.method_at (seen home.now).table place))
         (may_shown on.written) (made.own_this (seen home.now) spot.at (spot.point + 1))) }
     ensures counted { IfOk result (λ o. next.new ≡ spot.point + 1 + may_nodes (receiver o)) }
     ensures small { OnOk result (next.new ≤ next.old + 1) }

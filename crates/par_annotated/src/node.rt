@@ -1,6 +1,6 @@
 //! One node of a typed tree.
 
-ghost use Rattle.std.specs.Prelude.{◌≡◌, Some, false};
+ghost use Rattle.std.specs.Prelude.{◌≡◌, ◌+◌, ◌<◌, ◌^◌, Some, false};
 ghost use Rattle.par_typed.specs.Shown.{kind_at, shown};
 ghost use Rattle.par_annotate.specs.Exprs.{known, numbered, mark_of};
 ghost use Rattle.par_annotated.specs.Seen.{marked};
@@ -49,6 +49,17 @@ pub(crate) fn numbered(number: Option<u16>) -> u16
         None => 0,
         Some(number) => number,
     }
+}
+
+/// The next point, which is taken.
+pub(crate) fn take_point(next: &mut u32) -> u32
+    requires { next.old + 1 < 2 ^ 32 }
+    ensures taken { result ≡ next.old }
+    ensures counted { next.new ≡ next.old + 1 }
+{
+    let point = *next;
+    *next += 1;
+    point
 }
 
 /// An expression of this kind.
