@@ -13,6 +13,7 @@ ghost use Rattle.par_rounds.specs.Bodies.{AreLeastClosed};
 use crate::fact::Fact;
 use crate::first::first_way;
 use crate::rounds::settle;
+use crate::way::SharedWay;
 use par_lexer::list::NoMemory;
 use par_nodes::rule::{Node, Rules};
 use par_typed::program::TBody;
@@ -58,7 +59,8 @@ pub fn facts_of_body(
 {
     let _table = table;
     let _body = body;
-    let way = first_way(alloc, method)?;
+    let first = first_way(alloc, method)?;
+    let way = SharedWay::new(alloc, first)?;
     let rows = settle(alloc, node, &way, next(node))?;
     Ok(rows)
 }

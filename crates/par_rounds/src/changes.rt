@@ -12,8 +12,9 @@ ghost use Rattle.par_rounds.specs.Seen.{latest_first, AreFactsWide};
 ghost use Rattle.par_rounds.specs.Changes.{assigned_by, tested_by, raised_by, shut_by, opened_by};
 ghost use Rattle.par_rounds.specs.Changes.{seen_locks, may_have, HaveRange, HasLocal, HasPolicy};
 
+use crate::env;
 use crate::fact::{Fact, exit_of, value_of};
-use crate::ways::env_with;
+use crate::way::SharedWay;
 use par_atoms::Atoms;
 use par_bits::Bits;
 use par_except::Way;
@@ -45,7 +46,7 @@ fn bits_of(locks: Locks) -> Option<Bits<4>>
     }
 }
 
-fn start_of<'a>(way: &'a Way, parts: &'a [Fact], start: Start) -> Option<&'a Way>
+fn start_of<'a>(way: &'a SharedWay, parts: &'a [Fact], start: Start) -> Option<&'a SharedWay>
     ensures way { may_see (option_copied result)
         ≡ way_from numbers (Some (seen way.now)) (latest_first parts.now []) (seen_start start) }
     ensures locals { AreFactsWide (length way.now.env) parts.now
@@ -59,89 +60,85 @@ fn start_of<'a>(way: &'a Way, parts: &'a [Fact], start: Start) -> Option<&'a Way
 
 fn assigned(
     alloc: Global,
-    way: &Way,
+    way: &SharedWay,
     parts: &[Fact],
     change: Option<(u16, usize)>,
-) -> Result<Way, NoMemory>
+) -> Result<SharedWay, NoMemory>
     requires { HasLocal (length way.now.env) change }
     ensures way { IfOk result
         (λ w. seen w ≡ assigned_by change (latest_first parts.now []) (seen way.now)) }
     ensures locals { IfOk result (λ w. length w.env ≡ length way.now.env) }
 {
     match change {
-        None => way.copy(alloc),
+        None => way.share(),
         Some((local, part)) => {
-            let policy = value_of(parts, part).union(&way.context);
-            let env = env_with(alloc, way.env.as_slice(), local, policy)?;
-            Ok(Way {
-                context: way.context,
+            let policy = value_of(parts, part).union(&way.context());
+            let env = env::with_local(alloc, way.env(), local, policy)?;
+            let assigned = Way {
+                context: way.context(),
                 env,
-                locks: way.locks,
-            })
+                locks: way.locks(),
+            };
+            SharedWay::new(alloc, assigned)
         }
     }
 }
 
-fn tested(way: Way, parts: &[Fact], part: Option<usize>) -> Way
+fn tested(way: SharedWay, parts: &[Fact], part: Option<usize>) -> SharedWay
     ensures way { seen result ≡ tested_by part (latest_first parts.now []) (seen way) }
     ensures locals { length result.env ≡ length way.env }
 {
     match part {
         None => way,
-        Some(part) => Way {
-            context: way.context.union(&value_of(parts, part)),
-            env: way.env,
-            locks: way.locks,
-        },
+        Some(part) => way.raised(&value_of(parts, part)),
     }
 }
 
-fn raised(way: Way, policy: Option<u16>) -> Way
+fn raised(way: SharedWay, policy: Option<u16>) -> SharedWay
     requires { HasPolicy policy }
     ensures way { seen result ≡ raised_by policy (seen way) }
     ensures locals { length result.env ≡ length way.env }
 {
     match policy {
         None => way,
-        Some(policy) => Way {
-            context: way.context.union(&Atoms::empty().with(policy)),
-            env: way.env,
-            locks: way.locks,
-        },
+        Some(policy) => way.raised(&Atoms::empty().with(policy)),
     }
 }
 
-fn shut(way: Way, locks: Locks) -> Way
+fn shut(way: SharedWay, locks: Locks) -> SharedWay
     requires { HaveRange (seen_locks locks) }
     ensures way { seen result ≡ shut_by (seen_locks locks.entry) (seen way) }
     ensures locals { length result.env ≡ length way.env }
 {
     match bits_of(locks) {
         None => way,
-        Some(bits) => Way {
-            context: way.context,
-            env: way.env,
-            locks: way.locks.minus(&bits),
-        },
+        Some(bits) => {
+            let locks = way.locks().minus(&bits);
+            way.with_locks(locks)
+        }
     }
 }
 
-fn opened(way: Way, locks: Locks) -> Way
+fn opened(way: SharedWay, locks: Locks) -> SharedWay
     requires { HaveRange (seen_locks locks) }
     ensures way { seen result ≡ opened_by (seen_locks locks.entry) (seen way) }
     ensures locals { length result.env ≡ length way.env }
 {
     match bits_of(locks) {
         None => way,
-        Some(bits) => Way {
-            context: way.context,
-            env: way.env,
-            locks: way.locks.union(&bits),
-        },
+        Some(bits) => {
+            let locks = way.locks().union(&bits);
+            way.with_locks(locks)
+        }
     }
 }
 
-fn changed(alloc: Global, start: &Way, parts: &[Fact], from: &Origin) -> Result<Way, NoMemory>
+fn changed(
+    alloc: Global,
+    start: &SharedWay,
+    parts: &[Fact],
+    from: &Origin,
+) -> Result<SharedWay, NoMemory>
     requires { IsFromInRange (length start.now.env) (seen_origin from.now) }
     ensures way { IfOk result (λ w. seen w ≡ opened_by (seen_locks from.now.opened)
         (shut_by (seen_locks from.now.shut) (raised_by from.now.raised
@@ -159,10 +156,10 @@ fn changed(alloc: Global, start: &Way, parts: &[Fact], from: &Origin) -> Result<
 /// The way at a node that this way enters, behind these parts.
 pub fn way_at(
     alloc: Global,
-    way: &Way,
+    way: &SharedWay,
     parts: &[Fact],
     from: &Origin,
-) -> Result<Option<Way>, NoMemory>
+) -> Result<Option<SharedWay>, NoMemory>
     requires locals { AreFactsWide (length way.now.env) parts.now }
     requires range { IsFromInRange (length way.now.env) (seen_origin from.now) }
     ensures way { IfOk result (λ o. may_see o ≡ way_from numbers (Some (seen way.now))
@@ -176,14 +173,14 @@ pub fn way_at(
 }
 
 /// A part of the value of a node that this way enters, behind these parts.
-pub fn worth_at(way: &Way, parts: &[Fact], worth: Worth) -> Atoms
+pub fn worth_at(way: &SharedWay, parts: &[Fact], worth: Worth) -> Atoms
     requires { IsWorthInRange (length way.now.env) (seen_worth worth) }
     ensures { has result
         ≡ worth_of numbers (Some (seen way.now)) (latest_first parts.now []) (seen_worth worth) }
 {
     match worth {
         Worth::Given(policy) => Atoms::empty().with(policy),
-        Worth::Held(local) => way.env.as_slice()[usize::from(local)],
+        Worth::Held(local) => way.env()[usize::from(local)],
         Worth::Value(part) => value_of(parts, part),
     }
 }

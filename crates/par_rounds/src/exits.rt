@@ -4,13 +4,14 @@ ghost use Rattle.std.specs.Option.{option_copied};
 ghost use Rattle.par_bits.specs.Sets.{has};
 ghost use Rattle.par_rules.specs.Kinds.{absorbed};
 ghost use Rattle.par_nodes.specs.Seen.{seen_absorber, seen_kind};
+ghost use Rattle.par_except.specs.Joins.{join};
 ghost use Rattle.par_except.specs.Seen.{may_see, seen, HasLocals, MayHaveLocals};
 ghost use Rattle.par_pass.specs.Exits.{add, all, at, contexts, leaving, restored, with_context};
 ghost use Rattle.par_rounds.specs.Seen.{seen_exit, seen_exits, AreWide};
 ghost use Rattle.par_rounds.specs.Places.{IsPlace, HasNoPlace};
 
+use crate::way::SharedWay;
 use par_atoms::Atoms;
-use par_except::Way;
 use par_lexer::list::NoMemory;
 use par_nodes::possible::{is_same, takes};
 use par_nodes::rule::{Absorber, Kind};
@@ -20,7 +21,7 @@ use std::alloc::Global;
 #[derive(Drop)]
 pub struct Exit {
     pub kind: Kind,
-    pub way: Way,
+    pub way: SharedWay,
 }
 
 fn place_of(exits: &[Exit], kind: Kind) -> Option<usize>
@@ -36,7 +37,7 @@ fn place_of(exits: &[Exit], kind: Kind) -> Option<usize>
 }
 
 /// The way of the kind.
-pub fn way_of(exits: &[Exit], kind: Kind) -> Option<&Way>
+pub fn way_of(exits: &[Exit], kind: Kind) -> Option<&SharedWay>
     ensures way { may_see (option_copied result) ≡ at (seen_exits exits.now) (seen_kind kind) }
     ensures locals { (n : ℕ) → AreWide n exits.now → MayHaveLocals n (option_copied result) }
 {
@@ -48,6 +49,39 @@ pub fn way_of(exits: &[Exit], kind: Kind) -> Option<&Way>
     None
 }
 
+// The way, with the list of policies of the first exit that has the same ones.
+fn alike(way: SharedWay, exits: &[Exit]) -> Result<SharedWay, NoMemory>
+    requires { AreWide (length way.env) exits.now }
+    ensures way { IfOk result (λ w. seen w ≡ seen way) }
+    ensures locals { IfOk result (λ w. length w.env ≡ length way.env) }
+{
+    for exit in exits {
+        if way.has_env_of(&exit.way) {
+            return way.with_env_of(&exit.way);
+        }
+    }
+    Ok(way)
+}
+
+// The join of two ways. It takes no list of its own if one of them or of these exits has the same.
+fn joined(
+    alloc: Global,
+    way: &SharedWay,
+    other: &SharedWay,
+    exits: &[Exit],
+) -> Result<SharedWay, NoMemory>
+    requires ways { length way.now.env ≡ length other.now.env }
+    requires exits { AreWide (length way.now.env) exits.now }
+    ensures way { IfOk result (λ w. seen w ≡ join (seen way.now) (seen other.now)) }
+    ensures locals { IfOk result (λ w. length w.env ≡ length way.now.env) }
+{
+    let joined = way.join(alloc, other)?;
+    if joined.has_env_of(way) || joined.has_env_of(other) {
+        return Ok(joined);
+    }
+    alike(joined, exits)
+}
+
 /// Joins an exit with that of its kind, where there is one.
 pub fn add(alloc: Global, exits: &mut Vec<Exit>, exit: Exit) -> Result<(), NoMemory>
     requires { AreWide (length exit.way.env) exits.old.items }
@@ -57,8 +91,8 @@ pub fn add(alloc: Global, exits: &mut Vec<Exit>, exit: Exit) -> Result<(), NoMem
 {
     match place_of(exits, exit.kind) {
         Some(place) => {
-            let joined = exits[place].way.join(alloc, &exit.way)?;
-            exits[place].way = joined;
+            let way = joined(alloc, &exits[place].way, &exit.way, exits)?;
+            exits[place].way = way;
         }
         None => exits.push(exit)?,
     }
@@ -81,7 +115,7 @@ fn add_left(
     if takes(absorber, from.kind) {
         return Ok(());
     }
-    let way = from.way.copy(alloc)?;
+    let way = from.way.share()?;
     add(
         alloc,
         exits,
@@ -118,7 +152,7 @@ fn context_of(exits: &[Exit], first: Atoms) -> Atoms
     let mut context = first;
     for exit in exits {
         if !is_same(exit.kind, Kind::Normal) {
-            context = context.union(&exit.way.context);
+            context = context.union(&exit.way.context());
         }
     }
     context
@@ -130,18 +164,18 @@ fn set_context(exits: &mut [Exit], context: Atoms)
 {
     for place in 0..exits.len() {
         if is_same(exits[place].kind, Kind::Normal) {
-            exits[place].way.context = context;
+            exits[place].way.set_context(context);
         }
     }
 }
 
 /// Gives the normal exit the context of the entering way and of all other exits.
-pub fn restore(exits: &mut Vec<Exit>, way: &Way)
+pub fn restore(exits: &mut Vec<Exit>, way: &SharedWay)
     ensures exits { seen_exits exits.new.items
         ≡ restored (seen way.now) (seen_exits exits.old.items) }
     ensures locals { (n : ℕ) → AreWide n exits.old.items → AreWide n exits.new.items }
 {
-    let context = context_of(exits, way.context);
+    let context = context_of(exits, way.context());
     set_context(exits, context);
 }
 
@@ -151,7 +185,7 @@ pub fn copy(alloc: Global, exits: &[Exit]) -> Result<Vec<Exit>, NoMemory>
 {
     let mut copies = Vec::new(alloc);
     for exit in exits {
-        let way = exit.way.copy(alloc)?;
+        let way = exit.way.share()?;
         copies.push(Exit {
             kind: exit.kind,
             way,

@@ -10,14 +10,14 @@ ghost use Rattle.par_pass.specs.Written.{table as by_point};
 ghost use Rattle.par_rounds.specs.Seen.{latest_first, seen_facts, AreFactsWide};
 
 use crate::exits::{Exit, way_of};
+use crate::way::SharedWay;
 use par_atoms::Atoms;
-use par_except::Way;
 use par_nodes::rule::Kind;
 
 /// The way that enters a node, if it is reached, its value, and how it is left.
 #[derive(Drop)]
 pub struct Fact {
-    pub entry: Option<Way>,
+    pub entry: Option<SharedWay>,
     pub value: Atoms,
     pub exits: Vec<Exit>,
 }
@@ -34,7 +34,7 @@ pub fn value_of(parts: &[Fact], part: usize) -> Atoms
 }
 
 /// The way that leaves a part, if there is one.
-pub fn exit_of(parts: &[Fact], part: usize, kind: Kind) -> Option<&Way>
+pub fn exit_of(parts: &[Fact], part: usize, kind: Kind) -> Option<&SharedWay>
     ensures way { may_see (option_copied result)
         ≡ (part_at numbers (latest_first parts.now []) part).exit (seen_kind kind) }
     ensures locals { (n : ℕ) → AreFactsWide n parts.now → MayHaveLocals n (option_copied result) }
@@ -47,7 +47,7 @@ pub fn exit_of(parts: &[Fact], part: usize, kind: Kind) -> Option<&Way>
 }
 
 /// The way that enters the node at a point, if it is reached.
-pub fn entry_at(rows: &[Fact], point: u32) -> Option<&Way>
+pub fn entry_at(rows: &[Fact], point: u32) -> Option<&SharedWay>
     ensures { may_see (option_copied result) ≡ (by_point (seen_facts rows.now) point).entry }
 {
     let place = point as usize;
@@ -62,7 +62,7 @@ pub fn entry_at(rows: &[Fact], point: u32) -> Option<&Way>
 }
 
 /// The way of a completion of the node at a point, if it is possible.
-pub fn exit_at(rows: &[Fact], point: u32, kind: Kind) -> Option<&Way>
+pub fn exit_at(rows: &[Fact], point: u32, kind: Kind) -> Option<&SharedWay>
     ensures { may_see (option_copied result)
         ≡ (by_point (seen_facts rows.now) point).exit (seen_kind kind) }
 {

@@ -8,12 +8,14 @@
 
 mod body;
 mod changes;
+mod env;
 mod exits;
 mod fact;
 mod first;
 mod notes;
 mod pass;
 mod rounds;
+mod way;
 mod ways;
 
 pub use body::{facts_of_body, next};
@@ -21,3 +23,4 @@ pub use exits::Exit;
 pub use fact::{Fact, entry_at, exit_at, value_at};
 pub use first::first_way;
 pub use rounds::settle;
+pub use way::SharedWay;

@@ -12,9 +12,9 @@ ghost use Rattle.par_rounds.specs.Took.{HaveSmallLocks, Took};
 
 use crate::exits::{self, Exit};
 use crate::fact::Fact;
-use crate::ways::{may_copy, may_flow, may_join};
+use crate::way::SharedWay;
+use crate::ways::{may_flow, may_join, may_share};
 use par_atoms::Atoms;
-use par_except::Way;
 use par_lexer::list::NoMemory;
 use std::alloc::Global;
 
@@ -23,7 +23,7 @@ use std::alloc::Global;
 #[derive(Drop)]
 pub struct Notes {
     pub locals: usize,
-    pub heads: Vec<Option<Way>>,
+    pub heads: Vec<Option<SharedWay>>,
     pub rose: bool,
     pub rows: Vec<Fact>,
 }
@@ -33,7 +33,7 @@ impl Notes {
     pub fn new(
         alloc: Global,
         locals: usize,
-        heads: &[Option<Way>],
+        heads: &[Option<SharedWay>],
         points: usize,
     ) -> Result<Notes, NoMemory>
         ensures locals { IfOk result (λ n. n.locals ≡ locals) }
@@ -72,7 +72,7 @@ impl Notes {
         &mut self,
         alloc: Global,
         point: u32,
-        entry: &Way,
+        entry: &SharedWay,
         value: Atoms,
         exits: &[Exit],
     ) -> Result<(), NoMemory>
@@ -83,7 +83,7 @@ impl Notes {
         }) ∷ []) self.old self.new) }
     {
         if (point as usize) < self.rows.len() {
-            let entry = entry.copy(alloc)?;
+            let entry = entry.share()?;
             let exits = exits::copy(alloc, exits)?;
             self.write(
                 point,
@@ -98,7 +98,12 @@ impl Notes {
     }
 
     /// A way flows into a head, which rises where the way is not below it.
-    pub fn flow(&mut self, alloc: Global, point: u32, way: &Option<Way>) -> Result<(), NoMemory>
+    pub fn flow(
+        &mut self,
+        alloc: Global,
+        point: u32,
+        way: &Option<SharedWay>,
+    ) -> Result<(), NoMemory>
         requires range { point < length self.old.heads.items }
         requires heads { AreHeadsWide self.old.locals self.old.heads.items }
         requires locals { MayHaveLocals self.old.locals way.now }
@@ -116,11 +121,11 @@ impl Notes {
 }
 
 // A law, of which nothing runs.
-fn locks_are_small(way: &Option<Way>)
+fn locks_are_small(way: &Option<SharedWay>)
     ensures { HaveSmallLocks way.now }
 {
     if let Some(way) = way {
-        way.locks.members_are_below();
+        way.locks().members_are_below();
     }
 }
 
@@ -134,12 +139,12 @@ fn no_fact(alloc: Global) -> Fact
     }
 }
 
-fn copied(alloc: Global, heads: &[Option<Way>]) -> Result<Vec<Option<Way>>, NoMemory>
+fn copied(alloc: Global, heads: &[Option<SharedWay>]) -> Result<Vec<Option<SharedWay>>, NoMemory>
     ensures { IfOk result (λ copies. copies.items ≡ heads.now) }
 {
     let mut copies = Vec::new(alloc);
     for head in heads {
-        let copy = may_copy(alloc, head)?;
+        let copy = may_share(head)?;
         copies.push(copy)?;
     }
     Ok(copies)

@@ -21,9 +21,9 @@ use crate::changes::{way_at, worth_at};
 use crate::exits::{Exit, add, gather, restore};
 use crate::fact::Fact;
 use crate::notes::Notes;
-use crate::ways::may_copy;
+use crate::way::SharedWay;
+use crate::ways::may_share;
 use par_atoms::Atoms;
-use par_except::Way;
 use par_lexer::list::NoMemory;
 use par_nodes::rule::{Absorber, Kind, Node, Origin, Rules};
 use std::alloc::Global;
@@ -60,7 +60,7 @@ pub struct SoFar {
 fn take(
     alloc: Global,
     so: &mut SoFar,
-    entry: Option<Way>,
+    entry: Option<SharedWay>,
     found: Found,
     absorber: &Absorber,
 ) -> Result<(), NoMemory>
@@ -85,13 +85,13 @@ fn take(
 }
 
 // The head way of a loop, by the point of its test.
-fn head_at(alloc: Global, heads: &[Option<Way>], point: u32) -> Result<Option<Way>, NoMemory>
+fn head_at(heads: &[Option<SharedWay>], point: u32) -> Result<Option<SharedWay>, NoMemory>
     ensures way { IfOk result (λ o. may_see o ≡ ways_of heads.now point) }
     ensures locals { IfOk result (λ o. (n : ℕ) → AreHeadsWide n heads.now → MayHaveLocals n o) }
 {
     let place = point as usize;
     if place < heads.len() {
-        let way = may_copy(alloc, &heads[place])?;
+        let way = may_share(&heads[place])?;
         Ok(way)
     } else {
         Ok(None)
@@ -101,7 +101,7 @@ fn head_at(alloc: Global, heads: &[Option<Way>], point: u32) -> Result<Option<Wa
 // The way flows into the head of the loop, if there is one.
 fn flow(
     alloc: Global,
-    way: &Way,
+    way: &SharedWay,
     from: &Origin,
     so: &SoFar,
     notes: &mut Notes,
@@ -125,7 +125,7 @@ fn flow(
 // The way leaves the node.
 fn leave(
     alloc: Global,
-    way: &Way,
+    way: &SharedWay,
     from: &Origin,
     kind: Kind,
     so: &mut SoFar,
@@ -151,7 +151,7 @@ fn leave(
 fn finish(
     alloc: Global,
     point: u32,
-    way: &Way,
+    way: &SharedWay,
     found: Found,
     notes: &mut Notes,
 ) -> Result<Found, NoMemory>
@@ -171,8 +171,8 @@ fn finish(
 pub fn pass(
     alloc: Global,
     node: &Node,
-    way: &Way,
-    heads: &[Option<Way>],
+    way: &SharedWay,
+    heads: &[Option<SharedWay>],
     notes: &mut Notes,
 ) -> Result<Found, NoMemory>
     requires ready { IsReady way.now heads.now notes.old }
@@ -196,8 +196,8 @@ pub fn pass(
 fn visit(
     alloc: Global,
     node: &Node,
-    entry: &Option<Way>,
-    heads: &[Option<Way>],
+    entry: &Option<SharedWay>,
+    heads: &[Option<SharedWay>],
     notes: &mut Notes,
 ) -> Result<Found, NoMemory>
     requires entry { MayHaveLocals notes.old.locals entry.now }
@@ -225,8 +225,8 @@ fn visit(
 fn pass_rules(
     alloc: Global,
     rules: &Rules,
-    way: &Way,
-    heads: &[Option<Way>],
+    way: &SharedWay,
+    heads: &[Option<SharedWay>],
     so: &mut SoFar,
     notes: &mut Notes,
 ) -> Result<(), NoMemory>
@@ -249,7 +249,7 @@ fn pass_rules(
             Ok(())
         }
         Rules::Test(part, more) => {
-            let entry = head_at(alloc, heads, part.point)?;
+            let entry = head_at(heads, part.point)?;
             let found = visit(alloc, part, &entry, heads, notes)?;
             take(alloc, so, entry, found, &Absorber::Next)?;
             so.head = Some(part.point);

@@ -12,7 +12,7 @@ ghost use Rattle.par_rounds.specs.Rounds.{AreAfter, IsRound, IsSettled};
 use crate::fact::Fact;
 use crate::notes::Notes;
 use crate::pass::pass;
-use par_except::Way;
+use crate::way::SharedWay;
 use par_lexer::list::NoMemory;
 use par_nodes::rule::Node;
 use std::alloc::Global;
@@ -21,8 +21,8 @@ use std::alloc::Global;
 fn round(
     alloc: Global,
     node: &Node,
-    way: &Way,
-    heads: &[Option<Way>],
+    way: &SharedWay,
+    heads: &[Option<SharedWay>],
     points: usize,
 ) -> Result<Notes, NoMemory>
     requires heads { AreHeadsWide (length way.now.env) heads.now }
@@ -30,13 +30,13 @@ fn round(
     ensures { IfOk result (λ notes. IsRound (length way.now.env) points heads.now
         (pass (ways_of heads.now) (seen_node node.now) (seen way.now)).events notes) }
 {
-    let mut notes = Notes::new(alloc, way.env.len(), heads, points)?;
+    let mut notes = Notes::new(alloc, way.env().len(), heads, points)?;
     let found = pass(alloc, node, way, heads, &mut notes)?;
     drop(found);
     Ok(notes)
 }
 
-fn no_heads(alloc: Global, points: usize) -> Result<Vec<Option<Way>>, NoMemory>
+fn no_heads(alloc: Global, points: usize) -> Result<Vec<Option<SharedWay>>, NoMemory>
     ensures way { IfOk result (λ heads. (i : ℕ) → ways_of heads.items i ≡ None) }
     ensures locals { IfOk result (λ heads. (n : ℕ) → AreHeadsWide n heads.items) }
     ensures size { IfOk result (λ heads. length heads.items ≡ points) }
@@ -49,7 +49,12 @@ fn no_heads(alloc: Global, points: usize) -> Result<Vec<Option<Way>>, NoMemory>
 }
 
 // The heads after so many rounds that one more would raise none.
-fn quiet(alloc: Global, node: &Node, way: &Way, points: usize) -> Result<Vec<Option<Way>>, NoMemory>
+fn quiet(
+    alloc: Global,
+    node: &Node,
+    way: &SharedWay,
+    points: usize,
+) -> Result<Vec<Option<SharedWay>>, NoMemory>
     requires node { IsPassable (length way.now.env) points (seen_node node.now) }
     requires small { MayBeSmall (Some (seen way.now)) }
     ensures after { IfOk result (λ heads. AreAfter (length way.now.env) points
@@ -68,7 +73,12 @@ fn quiet(alloc: Global, node: &Node, way: &Way, points: usize) -> Result<Vec<Opt
 }
 
 /// The facts of a node that the way enters, by points.
-pub fn settle(alloc: Global, node: &Node, way: &Way, points: usize) -> Result<Vec<Fact>, NoMemory>
+pub fn settle(
+    alloc: Global,
+    node: &Node,
+    way: &SharedWay,
+    points: usize,
+) -> Result<Vec<Fact>, NoMemory>
     requires node { IsPassable (length way.now.env) points (seen_node node.now) }
     requires small { MayBeSmall (Some (seen way.now)) }
     ensures { IfOk result

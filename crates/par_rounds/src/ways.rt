@@ -1,40 +1,27 @@
 // When one way flows into another.
-ghost use Rattle.std.specs.Prelude.{◌≡◌, ◌↔◌, ◌<◌, ℕ, IsTrue, IfOk, length};
-ghost use Rattle.par_bits.specs.Sets.{has, IsWithin};
+ghost use Rattle.std.specs.Prelude.{◌≡◌, ◌↔◌, ℕ, IsTrue, IfOk, length};
 ghost use Rattle.par_rules.specs.Lattice.{numbers};
-ghost use Rattle.par_rules.specs.Ways.{Flows, MayFlow, put};
+ghost use Rattle.par_rules.specs.Ways.{Flows, MayFlow};
 ghost use Rattle.par_except.specs.Joins.{may_join};
-ghost use Rattle.par_except.specs.Seen.{locals, may_see, seen, MayHaveLocals};
+ghost use Rattle.par_except.specs.Seen.{may_see, seen, MayHaveLocals};
 
-use par_atoms::Atoms;
-use par_except::Way;
-use par_lexer::list::{List, NoMemory};
+use crate::env;
+use crate::way::SharedWay;
+use par_lexer::list::NoMemory;
 use std::alloc::Global;
 
-fn env_flows(one: &[Atoms], other: &[Atoms]) -> bool
-    requires { length one.now ≡ length other.now }
-    ensures { IsTrue result ↔ ((i : ℕ) → IsWithin (locals one.now i) (locals other.now i)) }
-{
-    for place in 0..one.len() {
-        if !one[place].within(&other[place]) {
-            return false;
-        }
-    }
-    true
-}
-
-fn flows(way: &Way, other: &Way) -> bool
+fn flows(way: &SharedWay, other: &SharedWay) -> bool
     requires { length way.now.env ≡ length other.now.env }
     ensures { IsTrue result ↔ Flows numbers (seen way.now) (seen other.now) }
 {
-    let context = way.context.within(&other.context);
-    let env = env_flows(way.env.as_slice(), other.env.as_slice());
-    let locks = other.locks.within(&way.locks);
+    let context = way.context().within(&other.context());
+    let env = env::flows(way.env(), other.env());
+    let locks = other.locks().within(&way.locks());
     context && env && locks
 }
 
 /// Whether the way, if there is one, flows into the other, which is there then.
-pub fn may_flow(way: &Option<Way>, other: &Option<Way>) -> bool
+pub fn may_flow(way: &Option<SharedWay>, other: &Option<SharedWay>) -> bool
     requires { (n : ℕ) × MayHaveLocals n way.now × MayHaveLocals n other.now }
     ensures { IsTrue result ↔ MayFlow numbers (may_see way.now) (may_see other.now) }
 {
@@ -47,49 +34,32 @@ pub fn may_flow(way: &Option<Way>, other: &Option<Way>) -> bool
     }
 }
 
-/// A copy of the way, if there is one.
-pub fn may_copy(alloc: Global, way: &Option<Way>) -> Result<Option<Way>, NoMemory>
+/// The way once more, if there is one.
+pub fn may_share(way: &Option<SharedWay>) -> Result<Option<SharedWay>, NoMemory>
     ensures { IfOk result (λ o. o ≡ way.now) }
 {
     match way {
         None => Ok(None),
-        Some(way) => Ok(Some(way.copy(alloc)?)),
+        Some(way) => Ok(Some(way.share()?)),
     }
 }
 
 /// The way that both flow into.
 pub fn may_join(
     alloc: Global,
-    one: &Option<Way>,
-    other: &Option<Way>,
-) -> Result<Option<Way>, NoMemory>
+    one: &Option<SharedWay>,
+    other: &Option<SharedWay>,
+) -> Result<Option<SharedWay>, NoMemory>
     requires { (n : ℕ) × MayHaveLocals n one.now × MayHaveLocals n other.now }
     ensures way { IfOk result (λ o. may_see o ≡ may_join (may_see one.now) (may_see other.now)) }
     ensures locals { IfOk result (λ o. (n : ℕ) → MayHaveLocals n one.now → MayHaveLocals n other.now
         → MayHaveLocals n o) }
 {
     match one {
-        None => may_copy(alloc, other),
+        None => may_share(other),
         Some(way) => match other {
-            None => Ok(Some(way.copy(alloc)?)),
+            None => Ok(Some(way.share()?)),
             Some(other) => Ok(Some(way.join(alloc, other)?)),
         },
     }
-}
-
-/// The policies with another one of this local.
-pub fn env_with(
-    alloc: Global,
-    env: &[Atoms],
-    local: u16,
-    policy: Atoms,
-) -> Result<List<Atoms>, NoMemory>
-    requires { local < length env.now }
-    ensures policies { IfOk result
-        (λ e. locals e ≡ put numbers (locals env.now) local (has policy)) }
-    ensures length { IfOk result (λ e. length e ≡ length env.now) }
-{
-    let mut changed = Vec::from_slice(alloc, env)?;
-    changed[usize::from(local)] = policy;
-    Ok(List::wrap(changed))
 }

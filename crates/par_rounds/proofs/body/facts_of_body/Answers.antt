@@ -20,7 +20,8 @@ first_way-requires-clause-expects c =
 pub settle-requires-clause-node : goal.settle-requires-clause-node
 settle-requires-clause-node c =
     let n = seen_node c.args.node.now in let e = c.next.ensures in
-    subst (λ k. IsPassable k c.next.result n) (sym c.in_ok-way.ensures.locals)
+    subst (λ k. IsPassable k c.next.result n)
+    (sym (ap (λ w. length w.env) c.in_ok-way.ensures ∙ c.in_ok-first.ensures.locals))
     (passable (length c.args.method.now.locals) c.next.result n 0
     (subst (IsNumbered 0) (sym c.requires.node) c.requires.orderly.numbered) (omega (arith, e))
     (subst (IsInRange (length c.args.method.now.locals))
@@ -28,7 +29,7 @@ settle-requires-clause-node c =
 
 pub settle-requires-clause-small : goal.settle-requires-clause-small
 settle-requires-clause-small c =
-    subst (λ w. MayBeSmall (Some w)) (sym c.in_ok-way.ensures.way)
+    subst (λ w. MayBeSmall (Some w)) (sym (ap seen c.in_ok-way.ensures ∙ c.in_ok-first.ensures.way))
     (first_small (method_of (Some c.args.method.now))
     (subst (λ m. All (λ p. p < MOST) m.params) (sym c.requires.method) c.requires.orderly.params))
 
@@ -36,7 +37,8 @@ pub returns : goal.returns
 returns c =
     let t = c.args.table.now in let b = shown c.args.body.now in let e = c.next.ensures in
     let w : seen c.in_ok-way.way ≡ first numbers ((declares t).method b.class b.method) =
-    c.in_ok-way.ensures.way ∙ ap (first numbers) c.requires.method in
+    ap seen c.in_ok-way.ensures ∙ c.in_ok-first.ensures.way
+    ∙ ap (first numbers) c.requires.method in
     rows_least t b c.next.result c.in_ok-rows.rows.items
     (subst (λ n. IsSettled n (first numbers ((declares t).method b.class b.method)) c.next.result
     c.in_ok-rows.rows.items) c.requires.node

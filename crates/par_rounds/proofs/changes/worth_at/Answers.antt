@@ -14,9 +14,9 @@ returns-in-Given c =
 
 pub returns-in-Held : goal.returns-in-Held
 returns-in-Held c =
-    let es = c.as_slice.result.now in let x = c.index-as_slice-from in
+    let es = c.env.result.now in let x = c.index-env-from in
     ap has x.is ∙ sym (locals_get es c.from.result x.result (search rules))
-    ∙ ap (λ l. locals l c.from.result) c.as_slice.ensures
+    ∙ ap (λ l. locals l c.from.result) c.env.ensures
     ∙ ap (locals c.args.way.now.env) c.from.ensures
     ∙ held_worth (seen c.args.way.now)
     (latest_first c.args.parts.now []) c.args.worth c.in-Held.local c.in-Held.is

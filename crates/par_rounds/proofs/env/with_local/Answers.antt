@@ -1,7 +1,7 @@
 use Rattle.std.proofs.Common.{ap, ◌∙◌, set}
 use Rattle.par_except.specs.Seen.{locals}
 use Rattle.par_rounds.proofs.Parts.{set_put}
-use Rattle.par_rounds.proofs.ways.env_with.Goals as goal
+use Rattle.par_rounds.proofs.env.with_local.Goals as goal
 
 pub returns-clause-policies : goal.returns-clause-policies
 returns-clause-policies c =
