@@ -43,11 +43,13 @@ use Rattle.par_actions.specs.Callee.{IsTarget, AllTake}
 use Rattle.par_method_area.specs.Classes.{IsClassRow, lines_in, file_lines, line_rows}
 use Rattle.par_method_area.specs.Fits.{fit_of, gives_of}
 use Rattle.par_method_area.specs.Methods.{IsMethodRow, line_in, line_row, signature_of}
+use Rattle.par_method_area.specs.Signatures.{Told, said_by, signature_in}
 use Rattle.par_method_area.specs.Known.{signature_at, KnowsMethod, is_exception_initializer}
 use Rattle.par_method_area.specs.Targets.{gives_result, target_of}
 use Rattle.par_method_area.proofs.Apart.{AreApart}
 use Rattle.par_method_area.proofs.Beside.{found, missing}
 use Rattle.par_method_area.proofs.Taking.{takes, takes-own, all-take}
+use Rattle.par_method_area.proofs.Signing.{said-at}
 use Rattle.par_method_area.proofs.Saying.{IsSaid, signature-said}
 use Rattle.par_method_area.proofs.Numbered.{name-at, some-name}
 use Rattle.par_method_area.proofs.Unbroken.{names-apart, own-name, method-right}
@@ -115,44 +117,44 @@ same-locals None = refl
 same-locals (Some code) = refl
 
 module _ (channels : List Channel) (d : Declared) (file : ClassFile) (m : MethodFile)
-    (own : MethodRow) where
+    (fits : List Fit) (line : Option ℕ) where
   abbrev channel_target : Target
-  channel_target = if length own.takes.items == 0 then aim.Input own.line else aim.Output
+  channel_target = if length fits == 0 then aim.Input line else aim.Output
 
-  channel-aim : (kinds : List Kind) → length own.takes.items ≡ length kinds
-      → own.line ≡ line_row channels file m
+  channel-aim : (kinds : List Kind) → length fits ≡ length kinds
+      → line ≡ line_row channels file m
       → IsTarget channels (channel_of (own_name file) (text_at file.pool.entries m.name) kinds)
       channel_target
-  channel-aim [] many line =
-      let none : (length own.takes.items == 0) ≡ true = grind (arith, many) in
+  channel-aim [] many here =
+      let none : (length fits == 0) ≡ true = grind (arith, many) in
       subst (λ (b : Bool). IsTarget channels
       (channel_of (own_name file) (text_at file.pool.entries m.name) [])
-      (if b then aim.Input own.line else aim.Output)) (sym none) line
-  channel-aim (kind ∷ kinds) many line =
-      let some : (length own.takes.items == 0) ≡ false = grind (arith, many) in
+      (if b then aim.Input line else aim.Output)) (sym none) here
+  channel-aim (kind ∷ kinds) many here =
+      let some : (length fits == 0) ≡ false = grind (arith, many) in
       subst (λ (b : Bool). IsTarget channels
       (channel_of (own_name file) (text_at file.pool.entries m.name) (kind ∷ kinds))
-      (if b then aim.Input own.line else aim.Output)) (sym some) tt
+      (if b then aim.Input line else aim.Output)) (sym some) tt
 
-  aims : (kinds : List Kind) → length own.takes.items ≡ length kinds
-      → own.line ≡ line_row channels file m
-      → IsTarget channels (steps.target_of d.class file d.place m kinds) (target_of d m own)
-  aims kinds many line = in_case (is_native m.access) where
+  aims : (kinds : List Kind) → length fits ≡ length kinds
+      → line ≡ line_row channels file m
+      → IsTarget channels (steps.target_of d.class file d.place m kinds) (target_of d m fits line)
+  aims kinds many here = in_case (is_native m.access) where
     in_case : (b : Bool) → IsTarget channels
         (if b then channel_of (own_name file) (text_at file.pool.entries m.name) kinds
         else named_target.Code d.class d.place (locals_of m.code))
         (if b then channel_target else aim.Code d.class d.place (code_or_none m.code).max_locals
         (code_or_none m.code).max_stack)
-    in_case true = channel-aim kinds many line
+    in_case true = channel-aim kinds many here
     in_case false = record { class = refl; method = refl; locals = same-locals m.code }
 
 room-at : (files : List ClassFile) (d : Declared) (file : ClassFile) (m : MethodFile)
-    (own : MethodRow)
+    (fits : List Fit) (line : Option ℕ)
     → slice_get files d.class ≡ Some file → slice_get file.methods d.place ≡ Some m
-    → (class method locals room : ℕ) → target_of d m own ≡ aim.Code class method locals room
+    → (class method locals room : ℕ) → target_of d m fits line ≡ aim.Code class method locals room
     → room ≡ (method_code files class method).max_stack
-room-at files d file m own listed at class method locals room is =
-    in_case (is_native m.access) (length own.takes.items == 0) is
+room-at files d file m fits line listed at class method locals room is =
+    in_case (is_native m.access) (length fits == 0) is
   where
     there : method_code files d.class d.place ≡ code_or_none m.code
     there =
@@ -160,7 +162,7 @@ room-at files d file m own listed at class method locals room is =
         ∙ ap code_in at
 
     in_case : (b c : Bool)
-        → (if b then (if c then aim.Input own.line else aim.Output)
+        → (if b then (if c then aim.Input line else aim.Output)
         else aim.Code d.class d.place (code_or_none m.code).max_locals
         (code_or_none m.code).max_stack)
         ≡ aim.Code class method locals room → room ≡ (method_code files class method).max_stack
@@ -175,12 +177,12 @@ room-at files d file m own listed at class method locals room is =
         ∙ ap (λ (n : ℕ). (method_code files class n).max_stack) two
 
 gives-at : (files : List ClassFile) (d : Declared) (file : ClassFile) (m : MethodFile)
-    (own : MethodRow)
+    (fits : List Fit) (line : Option ℕ)
     → slice_get files d.class ≡ Some file → slice_get file.methods d.place ≡ Some m
-    → (class method locals room : ℕ) → target_of d m own ≡ aim.Code class method locals room
+    → (class method locals room : ℕ) → target_of d m fits line ≡ aim.Code class method locals room
     → is_some (signature_of file m).gives ≡ is_some (signature_at files class method).gives
-gives-at files d file m own listed at class method locals room is =
-    in_case (is_native m.access) (length own.takes.items == 0) is
+gives-at files d file m fits line listed at class method locals room is =
+    in_case (is_native m.access) (length fits == 0) is
   where
     there : text_at file.pool.entries m.descriptor ≡ method_descriptor files d.class d.place
     there =
@@ -190,7 +192,7 @@ gives-at files d file m own listed at class method locals room is =
         (sym listed)
 
     in_case : (b c : Bool)
-        → (if b then (if c then aim.Input own.line else aim.Output)
+        → (if b then (if c then aim.Input line else aim.Output)
         else aim.Code d.class d.place (code_or_none m.code).max_locals
         (code_or_none m.code).max_stack)
         ≡ aim.Code class method locals room
@@ -219,17 +221,17 @@ channel-gives text channel none = in_case (bytes_eq text (codes "()I")) refl cha
       let one : 1 ≡ 0 = ap (λ (t : List ℕ). length (signature_said t).takes) (sym same) ∙ none in
       absurd (cc one)
 
-input-at : (d : Declared) (m : MethodFile) (own : MethodRow) (line : Option ℕ)
-    → target_of d m own ≡ aim.Input line
-    → (is_native m.access ≡ true) × (length own.takes.items ≡ 0)
-input-at d m own line is = in_case (is_native m.access) (length own.takes.items == 0) refl refl is
+input-at : (d : Declared) (m : MethodFile) (fits : List Fit) (line told : Option ℕ)
+    → target_of d m fits line ≡ aim.Input told
+    → (is_native m.access ≡ true) × (length fits ≡ 0)
+input-at d m fits line told is = in_case (is_native m.access) (length fits == 0) refl refl is
   where
-    in_case : (b c : Bool) → is_native m.access ≡ b → (length own.takes.items == 0) ≡ c
-        → (if b then (if c then aim.Input own.line else aim.Output)
+    in_case : (b c : Bool) → is_native m.access ≡ b → (length fits == 0) ≡ c
+        → (if b then (if c then aim.Input line else aim.Output)
         else aim.Code d.class d.place (code_or_none m.code).max_locals
-        (code_or_none m.code).max_stack) ≡ aim.Input line
-        → (is_native m.access ≡ true) × (length own.takes.items ≡ 0)
-    in_case true true native none is = (native, eqb-true (length own.takes.items) 0 none)
+        (code_or_none m.code).max_stack) ≡ aim.Input told
+        → (is_native m.access ≡ true) × (length fits ≡ 0)
+    in_case true true native none is = (native, eqb-true (length fits) 0 none)
     in_case true false native some is = absurd (cc is)
     in_case false c native some is = absurd (cc is)
 
@@ -275,7 +277,7 @@ module _ (files : List ClassFile) (rows : List ClassRow) (exceptions : List Bool
       → slice_get rows d.class ≡ Some row → slice_get row.methods d.place ≡ None → ⊥
   own-there row file m listed held at none =
       let gone =
-      missing (IsMethodRow (class_names files) file) file.methods row.methods d.place
+      missing (IsMethodRow row.signatures file) file.methods row.methods d.place
       (class-row row file listed at).methods none in
       let never : Some m ≡ None = held ∙ gone in
       cc never
@@ -283,16 +285,25 @@ module _ (files : List ClassFile) (rows : List ClassRow) (exceptions : List Bool
   pub own-row : (row : ClassRow) (file : ClassFile) (m : MethodFile) (own : MethodRow)
       → Some file ≡ slice_get files d.class → Some m ≡ slice_get file.methods d.place
       → slice_get rows d.class ≡ Some row → slice_get row.methods d.place ≡ Some own
-      → IsMethodRow (class_names files) file d.place m own
+      → IsMethodRow row.signatures file d.place m own
   own-row row file m own listed held at is =
       let one =
-      found (IsMethodRow (class_names files) file) file.methods row.methods d.place own
+      found (IsMethodRow row.signatures file) file.methods row.methods d.place own
       (class-row row file listed at).methods is in
       let same : one.item ≡ m = some-is (sym one.at ∙ sym held) in
-      subst (λ (f : MethodFile). IsMethodRow (class_names files) file d.place f own) same one.is
+      subst (λ (f : MethodFile). IsMethodRow row.signatures file d.place f own) same one.is
     where
       some-is : {a b : MethodFile} → Some a ≡ Some b → a ≡ b
       some-is same = cc same
+
+  -- which tells what its descriptor says
+  pub said-of : (row : ClassRow) (file : ClassFile) (m : MethodFile)
+      → Some file ≡ slice_get files d.class → slice_get rows d.class ≡ Some row
+      → signature_in row.signatures m.descriptor
+      ≡ said_by (class_names files) (text_at file.pool.entries m.descriptor)
+  said-of row file m listed at =
+      said-at (class_names files) file.pool.entries row.signatures m.descriptor
+      (class-row row file listed at).signatures
 
   -- and so it is known
   pub method-found : (row : ClassRow) (file : ClassFile) (m : MethodFile) (own : MethodRow)
@@ -300,8 +311,8 @@ module _ (files : List ClassFile) (rows : List ClassRow) (exceptions : List Bool
       → slice_get rows d.class ≡ Some row → slice_get row.methods d.place ≡ Some own
       → x.is_static ≡ is_static m.access → x.is_initializer ≡ own.is_initializer
       → x.receiver ≡ fit.OfClass d.class → x.only_exceptions ≡ false
-      → x.takes.now ≡ own.takes.items → x.gives ≡ gives_result own.gives
-      → x.target ≡ target_of d m own
+      → x.takes.now ≡ (signature_in row.signatures m.descriptor).0
+      → x.gives ≡ gives_result own.gives → x.target ≡ target_of d m x.takes.now own.line
       → IsKnown (Some x) (slice_get files d.class)
   method-found row file m own x listed held at is static initializer receiver only taken
       gives target =
@@ -310,9 +321,13 @@ module _ (files : List ClassFile) (rows : List ClassRow) (exceptions : List Bool
       let mine = own-row row file m own listed held at is in
       let said = signature-said (text_at file.pool.entries m.descriptor) in
       let signature = signature_of file m in
-      let all : map (fit_of classes) signature.takes ≡ x.takes.now = sym mine.takes ∙ sym taken in
-      let many : length own.takes.items ≡ length signature.takes =
-      ap length mine.takes ∙ length-map signature.takes (fit_of classes) in
+      let here = said-of row file m listed at in
+      let all : map (fit_of classes) signature.takes ≡ x.takes.now =
+      sym (taken ∙ ap (λ (t : Told). t.0) here) in
+      let many : length x.takes.now ≡ length signature.takes =
+      ap length (sym all) ∙ length-map signature.takes (fit_of classes) in
+      let own_gives : own.gives ≡ gives_of classes signature.gives =
+      mine.gives ∙ ap (λ (t : Told). t.1) here in
       subst (λ (o : Option ClassFile). IsKnown (Some x) o) listed
       (subst (λ (o : Option MethodFile). KnowsMethod (area_of files rows) (named.Method d)
       (method_link d.class file d.place o) (Some x)) held
@@ -328,20 +343,21 @@ module _ (files : List ClassFile) (rows : List ClassRow) (exceptions : List Bool
           takes =
               subst (λ (fits : List Fit). AllTake classes signature.takes fits) all
               (all-take classes apart signature.takes said.takes);
-          gives = gives-some classes signature.gives ∙ ap gives_result (sym mine.gives) ∙ sym gives;
+          gives = gives-some classes signature.gives ∙ ap gives_result (sym own_gives) ∙ sym gives;
           target =
               subst (λ (t : Target). IsTarget channels
               (steps.target_of d.class file d.place m signature.takes) t) (sym target)
-              (aims channels d file m own signature.takes many
+              (aims channels d file m x.takes.now own.line signature.takes many
               (line-at files rows channels d.class d.place file m row own known (sym listed)
               (sym held) at is));
         };
         only_exceptions = only;
         room =
-            λ class method locals room aimed. room-at files d file m own (sym listed)
-            (sym held) class method locals room (sym target ∙ aimed);
+            λ class method locals room aimed.
+            room-at files d file m x.takes.now own.line (sym listed) (sym held) class method
+            locals room (sym target ∙ aimed);
         input = λ line aimed.
-            let empty = input-at d m own line (sym target ∙ aimed) in
+            let empty = input-at d m x.takes.now own.line line (sym target ∙ aimed) in
             let right =
             and_parts _ _ (method-right files told.linked d.class file (sym listed) d.place m
             (sym held)) in
@@ -349,12 +365,12 @@ module _ (files : List ClassFile) (rows : List ClassRow) (exceptions : List Bool
             either (is_native m.access) (is_channel_right file.pool.entries m) empty.0 right.1 in
             let parts =
             and_parts _ (is_of_channel (text_at file.pool.entries m.descriptor)) channel in
-            gives ∙ ap gives_result mine.gives ∙ sym (gives-some classes signature.gives)
+            gives ∙ ap gives_result own_gives ∙ sym (gives-some classes signature.gives)
             ∙ channel-gives (text_at file.pool.entries m.descriptor) parts.1 (sym many ∙ empty.1);
         gives = λ class method locals room aimed.
-            gives ∙ ap gives_result mine.gives ∙ sym (gives-some classes signature.gives)
-            ∙ gives-at files d file m own (sym listed) (sym held) class method locals room
-            (sym target ∙ aimed);
+            gives ∙ ap gives_result own_gives ∙ sym (gives-some classes signature.gives)
+            ∙ gives-at files d file m x.takes.now own.line (sym listed) (sym held) class method
+            locals room (sym target ∙ aimed);
       }))
 
 pub moved : (d : Declared) {a b : Area} → a ≡ b → (x : Option Callee)

@@ -24,7 +24,8 @@ use Rattle.par_method_area.specs.declared.methods.MethodRow.{MethodRow}
 use Rattle.par_method_area.specs.Area.{Area, AreTold}
 use Rattle.par_method_area.specs.Known.{KnowsCode, code_at, signature_at, GivesAsSaid}
 use Rattle.par_method_area.specs.Methods.{signature_of}
-use Rattle.par_method_area.proofs.Calling.{as-said, own-row}
+use Rattle.par_method_area.specs.Signatures.{Told}
+use Rattle.par_method_area.proofs.Calling.{as-said, own-row, said-of}
 use Rattle.par_method_area.proofs.Saying.{signature-said}
 use Rattle.par_method_area.proofs.Unbroken.{names-apart, small}
 
@@ -87,6 +88,9 @@ module _ (files : List ClassFile) (class method : ℕ) where
             own-row files rows exceptions statics told
             (record { class = class; place = method }) row file m own listed held at is in
             let said = signature-said (text_at file.pool.entries m.descriptor) in
+            let here_said =
+            said-of files rows exceptions statics told
+            (record { class = class; place = method }) row file m listed at in
             let short : is_short (Some code) ≡ true = ap is_short (sym some)
             ∙ all-at (λ m. is_short m.code) file.methods method m
             (small files told.linked class file (sym listed)).code held in
@@ -101,7 +105,7 @@ module _ (files : List ClassFile) (class method : ℕ) where
                   omega (arith, few, same);
               gives = subst (λ (s : Signature). GivesAsSaid (class_names files) s x.gives) own-said
                   (subst (λ (g : Gives). GivesAsSaid (class_names files) (signature_of file m) g)
-                  (sym mine.gives ∙ sym gives)
+                  (sym (mine.gives ∙ ap (λ (t : Told). t.1) here_said) ∙ sym gives)
                   (λ spot nothing result. as-said (class_names files)
                   (names-apart files told.linked)
                   (signature_of file m).gives said.gives spot nothing result));

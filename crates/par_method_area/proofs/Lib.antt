@@ -3,6 +3,7 @@ pub mod Apart
 pub mod Unbroken
 pub mod Taking
 pub mod Saying
+pub mod Signing
 pub mod Linking
 pub mod Numbered
 pub mod Counts

@@ -55,7 +55,7 @@ module _ (files : List ClassFile) (rows : List ClassRow) (exceptions : List Bool
         let here = found (IsClassRow (class_names files) files) files rows class row told.rows
         listed in
         let file = here.item in
-        let gone = missing (IsMethodRow (class_names files) file) file.methods row.methods method
+        let gone = missing (IsMethodRow row.signatures file) file.methods row.methods method
         here.is.methods none in
         subst (λ (o : Option ClassFile). Known o None) (sym here.at)
         (subst (λ (o : Option MethodFile). KnowsStanding (code_in o).code at None) (sym gone)
@@ -69,7 +69,7 @@ module _ (files : List ClassFile) (rows : List ClassRow) (exceptions : List Bool
         let here = found (IsClassRow (class_names files) files) files rows class row told.rows
         listed in
         let file = here.item in
-        let mine = found (IsMethodRow (class_names files) file) file.methods row.methods method
+        let mine = found (IsMethodRow row.signatures file) file.methods row.methods method
         own here.is.methods held in
         let m = mine.item in
         let short = short_code m.code (all-at (λ m. is_short m.code) file.methods method m

@@ -3,12 +3,14 @@ use Rattle.std.specs.Prelude.{◌≡◌, ℕ, Bool, true, List, [], ◌∷◌, �
 use Rattle.std.specs.List.{filter}
 use Rattle.par_class.specs.declared.file.ClassFile.{ClassFile}
 use Rattle.par_values.specs.Areas.{Name, first_value}
+use Rattle.par_link.specs.Placed.{pool_texts}
 use Rattle.par_steps.specs.Classes.{is_exception}
 use Rattle.par_steps.specs.Fields.{class_statics, is_own, kind_of}
 use Rattle.par_method_area.specs.declared.classes.ClassRow.{ClassRow}
 use Rattle.par_lines.specs.Lines.{Channel}
 use Rattle.par_method_area.specs.Rows.{AreRows}
 use Rattle.par_method_area.specs.Fields.{IsFieldRow}
+use Rattle.par_method_area.specs.Signatures.{told, said_by}
 use Rattle.par_method_area.specs.Methods.{IsMethodRow, line_in, line_row}
 
 -- The row is that of the class of a file, where the classes have these names and so many static
@@ -16,7 +18,8 @@ use Rattle.par_method_area.specs.Methods.{IsMethodRow, line_in, line_row}
 pub record IsFileRow (classes : List Name) (shared : ℕ) (file : ClassFile) (row : ClassRow) :
     Type 0 where
   pub fields : AreRows (IsFieldRow classes shared file) file.fields row.fields
-  pub methods : AreRows (IsMethodRow classes file) file.methods row.methods
+  pub signatures : map told row.signatures ≡ map (said_by classes) (pool_texts file.pool.entries)
+  pub methods : AreRows (IsMethodRow row.signatures file) file.methods row.methods
   pub first :
       row.first.items
       ≡ map (λ f. first_value (kind_of file.pool.entries f)) (filter is_own file.fields)

@@ -1,6 +1,7 @@
 pub mod Names
 pub mod Fits
 pub mod Rows
+pub mod Signatures
 pub mod Channels
 pub mod Fields
 pub mod Methods

@@ -14,7 +14,7 @@ use Rattle.par_starts.specs.declared.standing.Standing.{Standing}
 use Rattle.par_steps.specs.Methods.{code_or_none}
 use Rattle.par_method_area.specs.declared.methods.MethodRow.{MethodRow}
 use Rattle.par_lines.specs.Lines.{Channel, line_of}
-use Rattle.par_method_area.specs.Fits.{fit_of, gives_of}
+use Rattle.par_method_area.specs.Signatures.{Said, signature_in}
 
 -- it is told of each offset whether an instruction of the code starts there
 abbrev pub StartAt : Option CodeAttr → List Bool → Type 0
@@ -30,12 +30,11 @@ StandIn code rows =
 abbrev pub signature_of : ClassFile → MethodFile → Signature
 signature_of file m = signature_said (text_at file.pool.entries m.descriptor)
 
--- The row is that of a method of a file, where the classes have these names.
-pub record IsMethodRow (classes : List Name) (file : ClassFile) (place : ℕ) (m : MethodFile)
+-- The row is that of a method of a file, whose descriptors say this.
+pub record IsMethodRow (signatures : List Said) (file : ClassFile) (place : ℕ) (m : MethodFile)
     (row : MethodRow) : Type 0 where
   pub is_initializer : row.is_initializer ≡ is_initializer (method_named file.pool.entries m)
-  pub takes : row.takes.items ≡ map (fit_of classes) (signature_of file m).takes
-  pub gives : row.gives ≡ gives_of classes (signature_of file m).gives
+  pub gives : row.gives ≡ (signature_in signatures m.descriptor).1
   pub starts : StartAt m.code row.starts
   pub instructions : StandIn m.code row.instructions
 

@@ -12,6 +12,7 @@ use crate::channels::ChannelLines;
 use crate::fields::{field_rows, object_values, shared_count};
 use crate::methods::{MethodRow, method_rows};
 use crate::names::ClassNumbers;
+use crate::signatures::{Said, signatures};
 use par_actions::Field;
 use par_class::file::ClassFile;
 use par_lexer::list::{List, NoMemory};
@@ -22,6 +23,8 @@ use std::alloc::Global;
 #[derive(Drop)]
 pub(crate) struct ClassRow {
     pub(crate) fields: List<Field>,
+    /// What the texts of the constant pool say as descriptors of methods, by their indices.
+    pub(crate) signatures: List<Said>,
     pub(crate) methods: List<MethodRow>,
     /// What the fields of a new object hold.
     pub(crate) first: Vec<MVal>,
@@ -40,9 +43,12 @@ fn class_row(
     ensures row { IfOk result (λ row. IsFileRow numbers.now shared file.now row) }
     ensures lines { IfOk result (λ row. lines_in row ≡ file_lines lines.now file.now) }
 {
+    let signatures = signatures(alloc, numbers, file.pool.entries.as_slice())?;
+    let methods = method_rows(alloc, &signatures, lines, file)?;
     Ok(ClassRow {
         fields: field_rows(alloc, numbers, file, shared)?,
-        methods: method_rows(alloc, numbers, lines, file)?,
+        signatures,
+        methods,
         first: object_values(alloc, file)?,
     })
 }

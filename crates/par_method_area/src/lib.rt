@@ -19,6 +19,7 @@ mod known;
 mod members;
 mod methods;
 mod names;
+mod signatures;
 mod statics;
 mod told;
 

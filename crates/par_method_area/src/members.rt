@@ -10,7 +10,7 @@ ghost use Rattle.par_method_area.specs.Targets.{gives_result, target_of};
 
 use crate::area::MethodArea;
 use crate::known::NamedField;
-use crate::methods::MethodRow;
+use crate::signatures::takes_at;
 use crate::statics::LOCKS;
 use par_actions::{Callee, Class, Field, Fit, Gives, Target};
 use par_class::file::MethodFile;
@@ -30,13 +30,14 @@ fn gives_result(gives: Gives) -> bool
     }
 }
 
-/// What a method does when it is called.
-fn target_of(declared: Declared, method: &MethodFile, row: &MethodRow) -> Target
-    ensures { result ≡ target_of declared method.now row.now }
+/// What a method does when it is called whose arguments have to be these, where this is the line of
+/// the channel of its name.
+fn target_of(declared: Declared, method: &MethodFile, takes: &[Fit], line: Option<usize>) -> Target
+    ensures { result ≡ target_of declared method.now takes.now line }
 {
     if is_native(method.access) {
-        if row.takes.is_empty() {
-            return Target::Input(row.line);
+        if takes.is_empty() {
+            return Target::Input(line);
         }
         return Target::Output;
     }
@@ -220,16 +221,17 @@ impl MethodArea {
     {
         let file = self.linked.file(declared.class)?;
         let method = file.methods.get(declared.place as usize)?;
-        let row = self.rows.get(declared.class as usize)?;
-        let row = row.methods.get(declared.place as usize)?;
+        let class = self.rows.get(declared.class as usize)?;
+        let row = class.methods.get(declared.place as usize)?;
+        let takes = takes_at(&class.signatures, method.descriptor);
         Some(Callee {
             is_static: is_static(method.access),
             is_initializer: row.is_initializer,
             receiver: Fit::OfClass(declared.class),
             only_exceptions: false,
-            takes: row.takes.as_slice(),
+            takes,
             gives: gives_result(row.gives),
-            target: target_of(declared, method, row),
+            target: target_of(declared, method, takes, row.line),
         })
     }
 

@@ -1,19 +1,15 @@
-//! Methods as they are told once: what each takes and gives, where the instructions of its code
-//! start, and which line is that of its channel.
+//! Methods as they are told once: what each gives, where the instructions of its code start, and
+//! which line is that of its channel.
 
-ghost use Rattle.std.specs.Prelude.{◌≡◌, ℕ, map, IfOk, IfSome};
-ghost use Rattle.par_single.specs.Descriptors.{kinds_at};
-ghost use Rattle.par_single.specs.Links.{signature_said};
-ghost use Rattle.par_method_area.specs.Fits.{fit_of, gives_of};
+ghost use Rattle.std.specs.Prelude.{◌≡◌, ℕ, map, IfOk};
 ghost use Rattle.par_method_area.specs.Methods.{StandIn, StartAt, IsMethodRow, line_in, line_row};
 ghost use Rattle.par_method_area.specs.Rows.{AreRows};
 
 use crate::channels::ChannelLines;
-use crate::names::ClassNumbers;
-use par_actions::{Fit, Gives};
+use crate::signatures::{Said, gives_at};
+use par_actions::Gives;
 use par_class::file::{ClassFile, CodeAttr, MethodFile};
 use par_lexer::list::{List, NoMemory};
-use par_single::descriptor::{kind_at, method_gives};
 use par_single::member::{is_initializer, own_name, text_at};
 use par_starts::{Instructions, Starts};
 use std::alloc::Global;
@@ -22,48 +18,11 @@ use std::alloc::Global;
 #[derive(Drop)]
 pub(crate) struct MethodRow {
     pub(crate) is_initializer: bool,
-    /// What its arguments have to be, in their order.
-    pub(crate) takes: Vec<Fit>,
     pub(crate) gives: Gives,
     /// The place of the line of the channel of its name.
     pub(crate) line: Option<usize>,
     pub(crate) starts: Starts,
     pub(crate) instructions: Instructions,
-}
-
-/// What the arguments have to be whose descriptors a text begins with, where `)` ends them.
-fn fits(alloc: Global, numbers: &ClassNumbers, text: &[u8]) -> Result<Vec<Fit>, NoMemory>
-    ensures { IfOk result (λ fits.
-        IfSome (kinds_at text.now) (λ found. fits.items ≡ map (fit_of numbers.now) found.0)) }
-{
-    let mut fits = Vec::new(alloc);
-    let mut rest = text;
-    while let Some((said, behind)) = kind_at(rest) {
-        fits.push(numbers.fit(Some(said)))?;
-        rest = behind;
-    }
-    Ok(fits)
-}
-
-/// What the arguments of a method of this descriptor have to be.
-fn takes(alloc: Global, numbers: &ClassNumbers, descriptor: &[u8]) -> Result<Vec<Fit>, NoMemory>
-    ensures { IfOk result (λ fits. fits.items
-        ≡ map (fit_of numbers.now) (signature_said descriptor.now).takes) }
-{
-    if method_gives(descriptor).is_none() {
-        return Ok(Vec::new(alloc));
-    }
-    fits(alloc, numbers, &descriptor[1..])
-}
-
-/// What a method of this descriptor gives.
-fn gives(numbers: &ClassNumbers, descriptor: &[u8]) -> Gives
-    ensures { result ≡ gives_of numbers.now (signature_said descriptor.now).gives }
-{
-    match method_gives(descriptor) {
-        None => Gives::Nothing,
-        Some(said) => numbers.gives(said),
-    }
 }
 
 /// Where the instructions of code start, nowhere where there is none.
@@ -91,16 +50,16 @@ fn instructions(
     }
 }
 
-/// What is told once of a method of a file.
+/// What is told once of a method of a file, whose descriptors say this.
 fn method_row(
     alloc: Global,
-    numbers: &ClassNumbers,
+    signatures: &List<Said>,
     lines: &ChannelLines,
     file: &ClassFile,
     method: &MethodFile,
 ) -> Result<MethodRow, NoMemory>
     ensures row { IfOk result (λ row.
-        (place : ℕ) → IsMethodRow numbers.now file.now place method.now row) }
+        (place : ℕ) → IsMethodRow signatures.now file.now place method.now row) }
     ensures line { IfOk result (λ row. row.line ≡ line_row lines.now file.now method.now) }
 {
     let entries = file.pool.entries.as_slice();
@@ -110,29 +69,28 @@ fn method_row(
     let instructions = instructions(alloc, &method.code, &starts)?;
     Ok(MethodRow {
         is_initializer: is_initializer(name, descriptor),
-        takes: takes(alloc, numbers, descriptor)?,
-        gives: gives(numbers, descriptor),
+        gives: gives_at(signatures, method.descriptor),
         line: lines.line(own_name(file), name),
         starts,
         instructions,
     })
 }
 
-/// What is told once of each method of a file.
+/// What is told once of each method of a file, whose descriptors say this.
 pub(crate) fn method_rows(
     alloc: Global,
-    numbers: &ClassNumbers,
+    signatures: &List<Said>,
     lines: &ChannelLines,
     file: &ClassFile,
 ) -> Result<List<MethodRow>, NoMemory>
     ensures rows { IfOk result (λ rows.
-        AreRows (IsMethodRow numbers.now file.now) file.now.methods rows) }
+        AreRows (IsMethodRow signatures.now file.now) file.now.methods rows) }
     ensures lines { IfOk result (λ rows.
         map line_in rows ≡ map (line_row lines.now file.now) file.now.methods) }
 {
     let mut rows = List::new(alloc);
     for method in file.methods.as_slice() {
-        rows.push(method_row(alloc, numbers, lines, file, method)?)?;
+        rows.push(method_row(alloc, signatures, lines, file, method)?)?;
     }
     Ok(rows)
 }

@@ -11,16 +11,16 @@ loop-method-preserved c =
     let i = c.loop-method.method-index in
     let x = c.method-item.result in
     let file = c.args.file.now in
-    let numbers = c.args.numbers.now in
+    let said = c.args.signatures.now in
     let row = c.in_ok-method_row.field-0 in
     let within : i < length file.methods =
     subst (λ (ys : List MethodFile). i < length ys) c.as_slice-method-items.ensures
     c.loop-method-test.true in
     let at : x ≡ get_or file.methods i x = c.method-item.is
     ∙ ap (λ (ys : List MethodFile). get_or ys i x) c.as_slice-method-items.ensures in (
-      subst (λ (rows : List MethodRow). AreRows (IsMethodRow numbers file)
+      subst (λ (rows : List MethodRow). AreRows (IsMethodRow said file)
           (take (i + 1) file.methods) rows) (sym c.in_ok-push.ensures.ok)
-          (push (IsMethodRow numbers file) file.methods i x c.loop-method.rows row within at
+          (push (IsMethodRow said file) file.methods i x c.loop-method.rows row within at
           c.loop-method.invariant.0 (c.in_ok-method_row.ensures.row i)),
       ap (map line_in) c.in_ok-push.ensures.ok
           ∙ made-push line_in (line_row c.args.lines.now file) file.methods i x c.loop-method.rows
