@@ -6,7 +6,6 @@
 #![tactic(auto)]
 
 mod classes;
-mod entries;
 mod error;
 mod fields;
 mod locks;

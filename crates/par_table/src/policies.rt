@@ -5,42 +5,18 @@ ghost use Rattle.std.specs.List.{position};
 ghost use Rattle.par_tree.specs.Shown.{source};
 ghost use Rattle.par_resolved.specs.Seen.{known_seen};
 ghost use Rattle.par_resolved.specs.Gathered.{classes_of};
-ghost use Rattle.par_resolved.specs.Numbered.{same_clause, same_policy, distinct, shared_policies};
+ghost use Rattle.par_resolved.specs.Numbered.{same_policy, distinct, shared_policies};
 ghost use Rattle.par_table.specs.Parts.{with_policy, inferred_policies};
 
-use crate::entries::entries;
-use par_policy::{Clause, Policy};
+use par_limits::{entries, same_policy};
+use par_policy::Policy;
 use par_resolved::NoMemory;
+use par_resolved::declared::classes;
 use par_resolved::entries::Entry;
 use par_resolved::known::{Known, bottom};
+use par_resolved::written::written;
 use par_tree::decl::{ClassDecl, FieldDecl, Program};
 use std::alloc::Global;
-
-fn same_clause(c: &Clause, d: &Clause) -> bool
-    ensures { result ≡ same_clause c.now d.now }
-{
-    c.actor == d.actor && c.locks.as_slice() == d.locks.as_slice()
-}
-
-fn same_clauses(p: &[Clause], q: &[Clause]) -> bool
-    ensures { result ≡ same_policy p.now q.now }
-{
-    if p.len() != q.len() {
-        return false;
-    }
-    for i in 0..p.len() {
-        if !same_clause(&p[i], &q[i]) {
-            return false;
-        }
-    }
-    true
-}
-
-fn same_policy(p: &Policy, q: &Policy) -> bool
-    ensures { result ≡ same_policy p.now q.now }
-{
-    same_clauses(p.clauses(), q.clauses())
-}
 
 /// The place of a policy among others. There are never more than a table may have.
 pub fn place_of(policies: &[Policy], policy: &Policy) -> Option<usize>
@@ -79,7 +55,9 @@ pub fn shared_policies(
     ensures { IfOk result (λ found.
         found.items ≡ shared_policies (known_seen known.now) (source program.now)) }
 {
-    let entries = entries(alloc, known, program)?;
+    let exprs = written(alloc, program)?;
+    let classes = classes(alloc, program)?;
+    let entries = entries(alloc, known, program, exprs.as_slice(), classes.as_slice())?;
     distinct(alloc, entries.as_slice())
 }
 
