@@ -13,14 +13,13 @@ ghost use Rattle.par_flow.specs.Kept.{exit_of, AreOnce, ShowThrows, ShowsWay, Ma
 
 use crate::kept::{KeptWay, KeptWays, thrown};
 use par_envs::Envs;
-use par_except::Way;
 use par_lexer::list::{List, NoMemory};
 use par_nodes::possible::is_same;
 use par_nodes::rule::Kind;
-use par_rounds::Exit;
+use par_rounds::{Exit, SharedWay};
 use std::alloc::Global;
 
-fn keep_way(alloc: Global, numbered: &mut Envs, way: &Way) -> Result<KeptWay, NoMemory>
+fn keep_way(alloc: Global, numbered: &mut Envs, way: &SharedWay) -> Result<KeptWay, NoMemory>
     requires { AreFound numbered.old.entries.items }
     ensures found { OnOk result (AreFound numbered.new.entries.items) }
     ensures more { OnOk result
@@ -28,11 +27,11 @@ fn keep_way(alloc: Global, numbered: &mut Envs, way: &Way) -> Result<KeptWay, No
     ensures way { IfOk result
         (λ kept. ShowsWay (envs numbered.new.entries.items) kept (seen way.now)) }
 {
-    let env = numbered.number(alloc, way.env.as_slice())?;
+    let env = numbered.number(alloc, way.env())?;
     Ok(KeptWay {
-        context: way.context,
+        context: way.context(),
         env,
-        locks: way.locks,
+        locks: way.locks(),
     })
 }
 
@@ -40,7 +39,7 @@ fn keep_way(alloc: Global, numbered: &mut Envs, way: &Way) -> Result<KeptWay, No
 pub fn may_keep(
     alloc: Global,
     numbered: &mut Envs,
-    way: Option<&Way>,
+    way: Option<&SharedWay>,
 ) -> Result<Option<KeptWay>, NoMemory>
     requires { AreFound numbered.old.entries.items }
     ensures found { OnOk result (AreFound numbered.new.entries.items) }
@@ -59,7 +58,7 @@ pub fn may_keep(
 }
 
 // The way of a kind among exits.
-fn way_of(exits: &[Exit], kind: Kind) -> Option<&Way>
+fn way_of(exits: &[Exit], kind: Kind) -> Option<&SharedWay>
     ensures { may_see (option_copied result) ≡ at (seen_exits exits.now) (seen_kind kind) }
 {
     for exit in exits {

@@ -21,11 +21,10 @@ use crate::kept::{KeptWay, KeptWays, exit_of};
 use crate::statements::list_points;
 use par_atoms::Atoms;
 use par_envs::Envs;
-use par_except::Way;
 use par_lexer::list::NoMemory;
 use par_locks::{LockFacts, body_at, rows_of};
 use par_nodes::rule::Kind;
-use par_rounds::Fact;
+use par_rounds::{Fact, SharedWay};
 use par_typed::program::{TBody, Typed};
 use par_typed::table::Table;
 use par_verdict::FindsFacts;
@@ -128,7 +127,7 @@ fn keep_row(
     })
 }
 
-fn entry_of(fact: &Fact) -> Option<&Way>
+fn entry_of(fact: &Fact) -> Option<&SharedWay>
     ensures { may_see (option_copied result) ≡ may_see fact.now.entry }
 {
     match &fact.entry {

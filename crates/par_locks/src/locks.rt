@@ -46,7 +46,7 @@ fn entering(row: &Fact) -> Option<Bits<4>>
 {
     match &row.entry {
         None => None,
-        Some(way) => Some(way.locks),
+        Some(way) => Some(way.locks()),
     }
 }
 
