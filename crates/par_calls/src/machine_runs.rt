@@ -11,6 +11,7 @@ use par_machine::machine::Machine;
 use par_machine::turn::{Stuck, Turn};
 use par_values::inputs::{ChannelInput, Inputs};
 use par_values::run::{Ending, Event, Val};
+use par_values::value::MVal;
 use std::alloc::Global;
 use std::test::Fail;
 
@@ -99,6 +100,9 @@ fn machine(alloc: Global, bytes: &[u8]) -> Result<Machine, Fail>
     Ok(machine_places::machine(alloc, linked, inputs)?)
 }
 
+// How many instructions a run takes at most.
+const MOST: u32 = 100;
+
 // The number that an event shows.
 fn number_of(event: &Event) -> Option<i32> {
     match event {
@@ -112,7 +116,7 @@ fn number_of(event: &Event) -> Option<i32> {
 fn run(machine: &mut Machine, numbers: &mut Vec<i32>) -> Result<Option<(u32, u8)>, Fail>
     requires { steps_of machine.old ≡ 0 }
 {
-    for _step in 0..100_u32 {
+    for _step in 0..MOST {
         match machine.step() {
             Ok(Turn::Silent) => {}
             Ok(Turn::Happened(event)) => {
@@ -144,6 +148,102 @@ fn code_makes(
 fn code_runs(rt: HostRuntime) -> Result<(), Fail> {
     for (name, code, expected, bad) in RUNS {
         expect(code_makes(rt.alloc(), code, expected, *bad)?, name)?;
+    }
+    Ok(())
+}
+
+const NONE: Option<MVal> = None;
+
+const ZERO: Option<MVal> = Some(MVal::Int(0));
+
+const ONE: Option<MVal> = Some(MVal::Int(1));
+
+const TWO: Option<MVal> = Some(MVal::Int(2));
+
+const THREE: Option<MVal> = Some(MVal::Int(3));
+
+const FIVE: Option<MVal> = Some(MVal::Int(5));
+
+const SEVEN: Option<MVal> = Some(MVal::Int(7));
+
+// A loop of three rounds: iconst_3 istore_0, then iinc of -1, iload_0 and ifgt back to it.
+const LOOP: &[u8] = b"\x06\x3b\x84\0\xff\x1a\x9d\xff\xfc\xb1";
+
+// The code of `main`, how many instructions are run at most, how many are, and the local and the two
+// operands behind them.
+const GOES: &[(&str, &[u8], u32, u32, &[Option<MVal>])] = &[
+    (
+        "iconst_2 iconst_3 iadd, and a write that is shown",
+        b"\x05\x06\x60\xb3\0\x0b\xb1",
+        MOST,
+        3,
+        &[NONE, FIVE, NONE],
+    ),
+    (
+        "two of them",
+        b"\x05\x06\x60\xb3\0\x0b\xb1",
+        2,
+        2,
+        &[NONE, TWO, THREE],
+    ),
+    (
+        "none of them",
+        b"\x05\x06\x60\xb3\0\x0b\xb1",
+        0,
+        0,
+        &[NONE, NONE, NONE],
+    ),
+    (
+        "iconst_5 istore_0 iinc of 2 iload_0, and a call of `show`",
+        b"\x08\x3b\x84\0\x02\x1a\xb8\0\x0f\xb1",
+        MOST,
+        4,
+        &[SEVEN, SEVEN, NONE],
+    ),
+    (
+        "goto over an instruction, iconst_3, and the return",
+        b"\xa7\0\x04\x02\x06\xb1",
+        MOST,
+        2,
+        &[NONE, THREE, NONE],
+    ),
+    ("a loop to its end", LOOP, MOST, 11, &[ZERO, NONE, NONE]),
+    ("ten of its eleven", LOOP, 10, 10, &[ZERO, ZERO, NONE]),
+    (
+        "getstatic, and the return",
+        b"\xb2\0\x0b\xb1",
+        MOST,
+        1,
+        &[NONE, ZERO, NONE],
+    ),
+    (
+        "iconst_1 iconst_0, and a division that throws",
+        b"\x04\x03\x6c\xb1",
+        MOST,
+        2,
+        &[NONE, ONE, ZERO],
+    ),
+    ("bad code", b"\x60\xb1", MOST, 0, &[NONE, NONE, NONE]),
+];
+
+// Whether so many instructions of the code are run, and leave these places.
+fn code_goes(
+    alloc: Global,
+    code: &[u8],
+    most: u32,
+    many: u32,
+    places: &[Option<MVal>],
+) -> Result<bool, Fail> {
+    let bytes = bytes_with(alloc, code)?;
+    let mut machine = machine(alloc, bytes.as_slice())?;
+    let went = machine.go_on(most.min(MOST));
+    Ok(went == many && machine.places() == places)
+}
+
+#[test]
+fn code_goes_on(rt: HostRuntime) -> Result<(), Fail> {
+    for (name, code, most, many, places) in GOES {
+        expect(code_goes(rt.alloc(), code, *most, *many, places)?, name)?;
     }
     Ok(())
 }
