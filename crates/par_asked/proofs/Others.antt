@@ -1,8 +1,8 @@
 -- Throws one by one, and classes that are not declared to be thrown.
-use Rattle.std.proofs.Common.{◌≡◌, ℕ, zero, suc, ◌+◌, ◌<◌, ◌≤◌, Bool, true, false, not, List, []}
+use Rattle.std.proofs.Common.{◌≡◌, ℕ, zero, suc, ◌+◌, ◌<◌, ◌≤◌, not, List, []}
 use Rattle.std.proofs.Common.{◌∷◌, ◌++◌, length, get_or, drop, refl, sym, ap, ◌∙◌, append_assoc}
 use Rattle.std.proofs.Common.{arith}
-use Rattle.std.specs.List.{filter, range_with_len}
+use Rattle.std.specs.List.{range_with_len}
 use Rattle.std.proofs.lemmas.List.Elements.{filter-append}
 use Rattle.par_typed.specs.declared.table.ThrowInfo.{ThrowInfo}
 use Rattle.par_rules.specs.Declares.{Thrown, throws_of}

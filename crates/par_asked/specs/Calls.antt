@@ -4,7 +4,7 @@ use Rattle.par_typed.specs.declared.table.Table.{Table}
 use Rattle.par_typed.specs.Plain.{MayTExp, Absent, Present, TExps, mark}
 use Rattle.par_rules.specs.Declares.{Method}
 use Rattle.par_checks.specs.Asked.{Check}
-use Rattle.par_checks.specs.Checks.{may_checks, args_checks, arguments, called}
+use Rattle.par_checks.specs.Checks.{arguments, called}
 use Rattle.par_asked.specs.Seen.{called_at}
 
 -- the point of the receiver, if there is one

@@ -1,5 +1,5 @@
 -- What the data of a rule means.
-use Rattle.std.specs.Prelude.{ℕ, cond, Option, Some, None, List, [], ◌∷◌, map}
+use Rattle.std.specs.Prelude.{ℕ, cond, Option, Some, None, List, [], ◌∷◌}
 use Rattle.std.specs.Option.{option_copied}
 use Rattle.par_policy.specs.Numbers.{has}
 use Rattle.par_bits.specs.Sets.{Set, none, adding}
@@ -7,7 +7,7 @@ use Rattle.par_typed.specs.declared.table.Table.{Table}
 use Rattle.par_typed.specs.Shown.{all_shown}
 use Rattle.par_typed.specs.Plain.{TExps}
 use Rattle.par_rules.specs.Declares.{Method, method_of}
-use Rattle.par_rules.specs.Rules.{From, Entry, After, Tested}
+use Rattle.par_rules.specs.Rules.{Entry, After, Tested}
 use Rattle.par_rules.specs.Body.{past, args_past, args_tested}
 use Rattle.par_nodes.specs.Seen.{seen_kind}
 use Rattle.par_checks.specs.Asked as asked

@@ -32,11 +32,10 @@ use Rattle.par_steps.specs.Step as plain
 use Rattle.par_steps.specs.Step.{turn, offset}
 use Rattle.par_actions.specs.declared.done.Done.{Done}
 use Rattle.par_actions.specs.declared.done.Done.TheVariants as done
-use Rattle.par_actions.specs.Done.{set_event, put_event, born_event, out_event}
 use Rattle.par_method_area.specs.Area.{Area}
 use Rattle.par_machine.specs.Frames.{code_of}
 use Rattle.par_machine.specs.Instructions.{is_branch, is_work, reach_of}
-use Rattle.par_machine.specs.Quiet.{AreRows, GoesOn, IsSameMethod, is_loud, Went, IsTried}
+use Rattle.par_machine.specs.Quiet.{AreRows, GoesOn, IsSameMethod, is_loud, IsTried}
 use Rattle.par_machine.specs.Running.{here, below, state_in, IsSound}
 use Rattle.par_machine.specs.Settled.{turn_from}
 use Rattle.par_machine.specs.Site as site
@@ -127,7 +126,8 @@ event_tells o (Out class name n) is = callee_tells o is.0 is.1
 
 -- ---- what it comes to
 
-module _ (files : List ClassFile) (old : Running) (s : Site) (silent : is_loud s.instr ≡ false) where
+module _ (files : List ClassFile) (old : Running) (s : Site)
+    (silent : is_loud s.instr ≡ false) where
   abbrev o_at : Operation
   o_at = operation_at files old s
 
@@ -136,7 +136,8 @@ module _ (files : List ClassFile) (old : Running) (s : Site) (silent : is_loud s
       let told : IsEffectOf o_at (effect (class_names files) o_at (areas_at files old)) =
       effect_of (class_names files) o_at (areas_at files old) in
       let same : does files old s ≡ effect (class_names files) o_at (areas_at files old) =
-      no_lock o_at _ (not_put (link_at files (here old).class) s.instr (unput s.instr silent)) told in
+      no_lock o_at _ (not_put (link_at files (here old).class) s.instr (unput s.instr silent))
+      told in
       subst (λ e. IsEffectOf o_at e) (sym same ∙ is) told
 
   silently : tells o_at ≡ false
@@ -153,9 +154,12 @@ pub went_not : (area : Area) (old : Running) (s : Site) (d : Done) (new : Runnin
     → (state_in area.files new ≡ state_in area.files old) × (new.heap ≡ old.heap)
 went_not area old s done.Goes new silent p goes jumps = absurd (goes refl)
 went_not area old s done.Jumps new silent p goes jumps = absurd (jumps refl)
-went_not area old s done.ThrowsArithmetic new silent p goes jumps = (p.came.still refl, p.still refl)
-went_not area old s (done.ThrowsNull later) new silent p goes jumps = (p.came.still refl, p.still refl)
-went_not area old s (done.Throws v later) new silent p goes jumps = (p.came.still refl, p.still refl)
+went_not area old s done.ThrowsArithmetic new silent p goes jumps =
+    (p.came.still refl, p.still refl)
+went_not area old s (done.ThrowsNull later) new silent p goes jumps =
+    (p.came.still refl, p.still refl)
+went_not area old s (done.Throws v later) new silent p goes jumps =
+    (p.came.still refl, p.still refl)
 went_not area old s done.Returns new silent p goes jumps = (p.came.still refl, p.still refl)
 went_not area old s (done.ReturnsWith v) new silent p goes jumps = (p.came.still refl, p.still refl)
 went_not area old s (done.Bad n) new silent p goes jumps = (p.came.still refl, p.still refl)
@@ -237,7 +241,8 @@ untried area t old new sound same = record {
   is = ap (state_in area.files) same;
   sound = subst (IsSound area) (sym same) sound;
   method = λ never. absurd (cc never);
-  grown = λ class. let h = ap (λ (r : Running). length (objects_of r.heap class)) same in omega (arith, h);
+  grown = λ class. let h = ap (λ (r : Running). length (objects_of r.heap class)) same in
+      omega (arith, h);
 }
 
 -- the instruction at which a run stands is the one that is found there

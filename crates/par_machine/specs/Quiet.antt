@@ -34,7 +34,8 @@ is_loud _ = false
 
 -- They are the instructions of the method at a point, by their offsets.
 abbrev pub AreRows : List ClassFile → List (Option Standing) → Point → Type 0
-AreRows files rows p = (at : ℕ) → KnowsStanding (code_of files p).code at (slice_index_or rows at None)
+AreRows files rows p =
+    (at : ℕ) → KnowsStanding (code_of files p).code at (slice_index_or rows at None)
 
 -- A run went on to the state after this turn, or it did not and stands where it stood.
 abbrev pub Went : Area → plain.Turn → (old : Running) → Bool → (new : Running) → Type 0
