@@ -276,6 +276,6 @@ thrown_static classes spot o a e seven does throwing five one two three four six
     (by_handler_or_7 spot.is_roomless spot.is_lost seven)
 
 -- what may come of a push, and of a push of a local
-pub ruleset pushing = (reason_3, reason_5, no_reason)
+pub ruleset push = (reason_3, reason_5, no_reason)
 
-pub ruleset loading = (reason_3, reason_4, reason_5, no_reason)
+pub ruleset load = (reason_3, reason_4, reason_5, no_reason)

@@ -35,6 +35,7 @@ fn held(statics: &Statics, place: u32) -> MVal
 }
 
 /// Pushes what a static field holds.
+#[inline(always)]
 pub fn get_static(stack: &mut Stack, statics: &Statics, field: Field, ahead: bool) -> Done
     ensures done { (classes : List Name) (spot : Spot) (program : Areas) (f : FieldLink) →
         IsField classes f field → program.statics ≡ statics.now → IsAt spot ahead stack.old →

@@ -70,6 +70,7 @@ fn read(stack: &mut Stack, heap: &Heap, class: u16, n: u32, field: Field, ahead:
 
 /// Pushes what a field holds of the object that was pushed last, in place of the object, where the
 /// owner says of which objects the field is.
+#[inline(always)]
 pub fn get_field(stack: &mut Stack, heap: &Heap, owner: Fit, field: Field, ahead: bool) -> Done
     requires { field.is_static ≡ false → field.place < 2 ^ 16 }
     ensures done { (classes : List Name) (spot : Spot) (program : Areas) (f : FieldLink) →

@@ -16,7 +16,7 @@ use par_stack::Stack;
 use par_values::value::MVal;
 
 /// Pushes a number.
-#[tactic(auto, using(crate::proofs::Reasons::pushing), unfolding(par_values::specs::Effects::effect))]
+#[tactic(auto, using(crate::proofs::Reasons::push), unfolding(par_values::specs::Effects::effect))]
 pub fn push_number(stack: &mut Stack, number: i32, ahead: bool) -> Done
     ensures done { (classes : List Name) (spot : Spot) (program : Areas) →
         IsAt spot ahead stack.old →
@@ -35,7 +35,7 @@ pub fn push_number(stack: &mut Stack, number: i32, ahead: bool) -> Done
 }
 
 /// Pushes null.
-#[tactic(auto, using(crate::proofs::Reasons::pushing), unfolding(par_values::specs::Effects::effect))]
+#[tactic(auto, using(crate::proofs::Reasons::push), unfolding(par_values::specs::Effects::effect))]
 pub fn push_null(stack: &mut Stack, ahead: bool) -> Done
     ensures done { (classes : List Name) (spot : Spot) (program : Areas) →
         IsAt spot ahead stack.old →
@@ -54,7 +54,7 @@ pub fn push_null(stack: &mut Stack, ahead: bool) -> Done
 }
 
 /// Pushes a local that holds a number.
-#[tactic(auto, using(crate::proofs::Reasons::loading), unfolding(par_values::specs::Effects::effect))]
+#[tactic(auto, using(crate::proofs::Reasons::load), unfolding(par_values::specs::Effects::effect))]
 pub fn load_number(stack: &mut Stack, place: u8, ahead: bool) -> Done
     ensures done { (classes : List Name) (spot : Spot) (program : Areas) →
         IsAt spot ahead stack.old →
@@ -76,7 +76,7 @@ pub fn load_number(stack: &mut Stack, place: u8, ahead: bool) -> Done
 }
 
 /// Pushes a local that holds a reference.
-#[tactic(auto, using(crate::proofs::Reasons::loading), unfolding(par_values::specs::Effects::effect))]
+#[tactic(auto, using(crate::proofs::Reasons::load), unfolding(par_values::specs::Effects::effect))]
 pub fn load_object(stack: &mut Stack, place: u8, ahead: bool) -> Done
     ensures done { (classes : List Name) (spot : Spot) (program : Areas) →
         IsAt spot ahead stack.old →

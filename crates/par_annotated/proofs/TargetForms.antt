@@ -77,7 +77,7 @@ pub target_binary : (home : Home) (frame : Frame) (p : ℕ) (op : BinOp) (a : Ex
 unfolding target
 target_binary home frame p op a b at = refl
 
-pub ruleset targets = (
+pub ruleset forms = (
   target_int,
   target_true,
   target_false,

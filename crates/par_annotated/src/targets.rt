@@ -117,7 +117,7 @@ fn selected_target(
 }
 
 /// What is assigned to, of which the object begins at the next point. The target is no node.
-#[tactic(auto, using(crate::proofs::ExprFamilies::target_forms, crate::proofs::TargetForms::targets))]
+#[tactic(auto, using(crate::proofs::ExprFamilies::target_forms, crate::proofs::TargetForms::forms))]
 pub(crate) fn type_target(
     alloc: Global,
     home: &Home<'_>,

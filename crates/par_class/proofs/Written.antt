@@ -184,7 +184,8 @@ least_named entries (suc i) few h =
           (ap is_code_text (get_or_from_slice_get entries i c c is) ∙ t) in
           let entry : entry_at entries (least_code entries)
           ≡ Some (get_or entries (position_or_len is_code_text entries) c) =
-          rw add-one (slice_get-get_or entries (position_or_len is_code_text entries) c found.0) in (
+          rw add-one
+          (slice_get-get_or entries (position_or_len is_code_text entries) c found.0) in (
             (
               omega (arith, found.0, few),
               ap is_text entry ∙ named-is_text (codes "Code")

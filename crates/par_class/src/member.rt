@@ -106,8 +106,8 @@ fn pieces_of<'b>(
     Ok((pieces, rest))
 }
 
-/// Whether the access flags have NATIVE.
-fn is_native(access: u16) -> bool
+/// Whether access flags have NATIVE.
+pub fn is_native(access: u16) -> bool
     ensures { result ≡ spelling.is_native access }
 {
     access & 0x0100 != 0

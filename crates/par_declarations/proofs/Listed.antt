@@ -20,14 +20,14 @@ use Rattle.par_names.specs.Policies.{View}
 use Rattle.par_names.specs.Program.{view_behind, declaration_faults, declarations_faults}
 use Rattle.par_names.specs.Seen.{seen, ShowsProgram}
 use Rattle.par_names.specs.declared.view.View as code
-use Rattle.par_names.proofs.Noted.{noting}
+use Rattle.par_names.proofs.Noted.{note}
 use Rattle.par_declarations.proofs.Placed.{twice}
 
 pub method_ids : (ms : List MethodDecl) → map (λ m. m.id) (methods ms) ≡ map (λ m. m.id) ms
 method_ids [] = refl
 method_ids (m ∷ ms) = ap (λ ids. m.id ∷ ids) (method_ids ms)
 
-pub ruleset ids = (method_ids, noting)
+pub ruleset ids = (method_ids, note)
 
 pub faults_end : (source : Source) (before : List (List ℕ))
     → declarations_faults source before [] ≡ []

@@ -8,14 +8,14 @@ use Rattle.par_tree.specs.Plain.{Declare, Assign, Do, When, Braces, In, MayBrace
 use Rattle.par_tree.specs.Plain.{Method}
 use Rattle.par_tree.specs.Plain.{Else, NoElse, Otherwise, Stas, End, Then, Catches, NoCatch, Catch}
 use Rattle.par_tree.specs.Plain.{Handler, On}
-use Rattle.par_declarations.specs.Locals.{stmt_locals, braces_locals, may_braces_locals}
+use Rattle.par_declarations.specs.Locals.{locals_in, braces_locals, may_braces_locals}
 use Rattle.par_declarations.specs.Locals.{else_locals, all_locals, catch_locals, handler_locals}
 use Rattle.par_declarations.specs.Locals.{method_locals}
 
 mutual
-  unfolding stmt_locals stmt_nodes
+  unfolding locals_in stmt_nodes
 
-  stmt_few : (s : Sta) → stmt_locals s ≤ stmt_nodes s
+  stmt_few : (s : Sta) → locals_in s ≤ stmt_nodes s
   stmt_few (Block b at) = braces_few b
   stmt_few (If e b o at) = omega (arith, braces_few b, else_few o)
   stmt_few (While e b at) = omega (arith, braces_few b)

@@ -8,21 +8,21 @@ use Rattle.par_tree.specs.Plain.{Else, NoElse, Otherwise, Stas, End, Then, Catch
 use Rattle.par_tree.specs.Plain.{Handler, On}
 
 unfoldable mutual
-  pub stmt_locals : Sta → ℕ
-  stmt_locals (Block b at) = braces_locals b
-  stmt_locals (If e b o at) = braces_locals b + else_locals o
-  stmt_locals (While e b at) = braces_locals b
-  stmt_locals (Try b cs at) = braces_locals b + catch_locals cs
-  stmt_locals (Return e at) = 0
-  stmt_locals (Break at) = 0
-  stmt_locals (Continue at) = 0
-  stmt_locals (Throw class at) = 0
-  stmt_locals (Open lock at) = 0
-  stmt_locals (Close lock at) = 0
-  stmt_locals (Declare local at) = 1
-  stmt_locals (Assign target value at) = 0
-  stmt_locals (Do call at) = 0
-  stmt_locals (When lock b o at) = braces_locals b + may_braces_locals o
+  pub locals_in : Sta → ℕ
+  locals_in (Block b at) = braces_locals b
+  locals_in (If e b o at) = braces_locals b + else_locals o
+  locals_in (While e b at) = braces_locals b
+  locals_in (Try b cs at) = braces_locals b + catch_locals cs
+  locals_in (Return e at) = 0
+  locals_in (Break at) = 0
+  locals_in (Continue at) = 0
+  locals_in (Throw class at) = 0
+  locals_in (Open lock at) = 0
+  locals_in (Close lock at) = 0
+  locals_in (Declare local at) = 1
+  locals_in (Assign target value at) = 0
+  locals_in (Do call at) = 0
+  locals_in (When lock b o at) = braces_locals b + may_braces_locals o
 
   pub braces_locals : Braces → ℕ
   braces_locals (In ss at) = all_locals ss
@@ -33,11 +33,11 @@ unfoldable mutual
 
   pub else_locals : Else → ℕ
   else_locals NoElse = 0
-  else_locals (Otherwise s) = stmt_locals s
+  else_locals (Otherwise s) = locals_in s
 
   pub all_locals : Stas → ℕ
   all_locals End = 0
-  all_locals (Then s ss) = stmt_locals s + all_locals ss
+  all_locals (Then s ss) = locals_in s + all_locals ss
 
   pub catch_locals : Catches → ℕ
   catch_locals NoCatch = 0

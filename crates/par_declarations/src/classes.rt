@@ -29,7 +29,7 @@ fn check_callees(alloc: Global, class: &ClassDecl, findings: &mut Findings) -> R
 }
 
 /// Notes the broken rules of a class.
-#[tactic(auto, using(par_names::proofs::Noted::noting))]
+#[tactic(auto, using(par_names::proofs::Noted::note))]
 pub fn check_class(
     alloc: Global,
     view: &View<'_>,

@@ -57,7 +57,7 @@ fn check_main(method: &MethodDecl, findings: &mut Findings)
     findings.expect(is_right, WRONG_MAIN, method.id.at);
 }
 
-#[tactic(auto, using(par_names::proofs::Noted::noting))]
+#[tactic(auto, using(par_names::proofs::Noted::note))]
 fn check_each(mains: &[&MethodDecl], findings: &mut Findings)
     ensures { findings.new ≡ first_of findings.old
         (flat_map main_fault (map (λ m. tree.method m.now) mains.now)) }
@@ -67,7 +67,7 @@ fn check_each(mains: &[&MethodDecl], findings: &mut Findings)
     }
 }
 
-#[tactic(auto, using(par_names::proofs::Noted::noting))]
+#[tactic(auto, using(par_names::proofs::Noted::note))]
 fn refuse_each(mains: &[&MethodDecl], findings: &mut Findings)
     ensures { findings.new ≡ first_of findings.old
         (flat_map second_main (map (λ m. tree.method m.now) mains.now)) }
@@ -77,7 +77,7 @@ fn refuse_each(mains: &[&MethodDecl], findings: &mut Findings)
     }
 }
 
-#[tactic(auto, using(par_names::proofs::Noted::noting))]
+#[tactic(auto, using(par_names::proofs::Noted::note))]
 fn refuse_further(mains: &[&MethodDecl], findings: &mut Findings)
     ensures { findings.new ≡ first_of findings.old
         (flat_map second_main (drop 1 (map (λ m. tree.method m.now) mains.now))) }
@@ -88,7 +88,7 @@ fn refuse_further(mains: &[&MethodDecl], findings: &mut Findings)
     }
 }
 
-#[tactic(auto, using(par_names::proofs::Noted::noting))]
+#[tactic(auto, using(par_names::proofs::Noted::note))]
 fn check_all(mains: &[&MethodDecl], findings: &mut Findings)
     ensures { findings.new
         ≡ first_of findings.old (mains_faults (map (λ m. tree.method m.now) mains.now)) }

@@ -21,7 +21,7 @@ use par_typed::refusal::Findings;
 use std::alloc::Global;
 
 /// Notes each of these before which another one has its name.
-#[tactic(auto, using(par_names::proofs::Noted::noting))]
+#[tactic(auto, using(par_names::proofs::Noted::note))]
 pub fn check_items<T: Named>(
     alloc: Global,
     items: &[T],
@@ -43,7 +43,7 @@ fn check_inferred(birth: &Option<PolicyExpr>, field: &FieldDecl, findings: &mut 
     findings.expect(is_known, UNKNOWN_BIRTH, field.id.at);
 }
 
-#[tactic(auto, using(par_names::proofs::Noted::noting))]
+#[tactic(auto, using(par_names::proofs::Noted::note))]
 fn check_field(
     view: &View<'_>,
     birth: &Option<PolicyExpr>,
@@ -59,7 +59,7 @@ fn check_field(
 }
 
 /// Notes the broken rules of fields in a class with this birth policy.
-#[tactic(auto, using(par_names::proofs::Noted::noting))]
+#[tactic(auto, using(par_names::proofs::Noted::note))]
 pub fn check_fields(
     view: &View<'_>,
     birth: &Option<PolicyExpr>,
@@ -75,7 +75,7 @@ pub fn check_fields(
 }
 
 /// Notes the broken rules of channels.
-#[tactic(auto, using(par_names::proofs::Noted::noting))]
+#[tactic(auto, using(par_names::proofs::Noted::note))]
 pub fn check_channels(view: &View<'_>, channels: &[ChannelDecl], findings: &mut Findings)
     ensures { findings.new
         ≡ first_of findings.old (flat_map (channel_faults (seen view.now)) channels.now) }
@@ -85,7 +85,7 @@ pub fn check_channels(view: &View<'_>, channels: &[ChannelDecl], findings: &mut 
     }
 }
 
-#[tactic(auto, using(par_names::proofs::Noted::noting))]
+#[tactic(auto, using(par_names::proofs::Noted::note))]
 fn check_param(view: &View<'_>, param: &ParamDecl, findings: &mut Findings)
     ensures { findings.new ≡ first_of findings.old (param_faults (seen view.now) param.now) }
 {
@@ -94,7 +94,7 @@ fn check_param(view: &View<'_>, param: &ParamDecl, findings: &mut Findings)
 }
 
 /// Notes the broken rules of parameters.
-#[tactic(auto, using(par_names::proofs::Noted::noting))]
+#[tactic(auto, using(par_names::proofs::Noted::note))]
 pub fn check_params(view: &View<'_>, params: &[ParamDecl], findings: &mut Findings)
     ensures { findings.new
         ≡ first_of findings.old (flat_map (param_faults (seen view.now)) params.now) }
@@ -104,7 +104,7 @@ pub fn check_params(view: &View<'_>, params: &[ParamDecl], findings: &mut Findin
     }
 }
 
-#[tactic(auto, using(par_names::proofs::Noted::noting))]
+#[tactic(auto, using(par_names::proofs::Noted::note))]
 fn refuse_effects(effects: &[PolicyExpr], findings: &mut Findings)
     ensures { findings.new ≡ first_of findings.old (flat_map second_effect effects.now) }
 {
@@ -114,7 +114,7 @@ fn refuse_effects(effects: &[PolicyExpr], findings: &mut Findings)
 }
 
 /// Notes each `!` of a method behind the first.
-#[tactic(auto, using(par_names::proofs::Noted::noting))]
+#[tactic(auto, using(par_names::proofs::Noted::note))]
 pub fn check_effects(effects: &[PolicyExpr], findings: &mut Findings)
     ensures { findings.new ≡ first_of findings.old (effect_faults effects.now) }
 {
@@ -125,7 +125,7 @@ pub fn check_effects(effects: &[PolicyExpr], findings: &mut Findings)
 }
 
 /// Notes the broken rules of policies.
-#[tactic(auto, using(par_names::proofs::Noted::noting))]
+#[tactic(auto, using(par_names::proofs::Noted::note))]
 pub fn check_policies(view: &View<'_>, policies: &[PolicyExpr], findings: &mut Findings)
     ensures { findings.new
         ≡ first_of findings.old (flat_map (policy_faults (seen view.now)) policies.now) }
@@ -135,7 +135,7 @@ pub fn check_policies(view: &View<'_>, policies: &[PolicyExpr], findings: &mut F
     }
 }
 
-#[tactic(auto, using(par_names::proofs::Noted::noting))]
+#[tactic(auto, using(par_names::proofs::Noted::note))]
 fn check_throw(view: &View<'_>, throw: &ThrowDecl, findings: &mut Findings)
     ensures { findings.new ≡ first_of findings.old (throw_faults (seen view.now) throw.now) }
 {
@@ -144,7 +144,7 @@ fn check_throw(view: &View<'_>, throw: &ThrowDecl, findings: &mut Findings)
 }
 
 /// Notes the broken rules of what a method throws.
-#[tactic(auto, using(par_names::proofs::Noted::noting))]
+#[tactic(auto, using(par_names::proofs::Noted::note))]
 pub fn check_throws(view: &View<'_>, throws: &[ThrowDecl], findings: &mut Findings)
     ensures { findings.new
         ≡ first_of findings.old (flat_map (throw_faults (seen view.now)) throws.now) }

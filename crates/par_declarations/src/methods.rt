@@ -14,7 +14,7 @@ use par_tree::decl::MethodDecl;
 use par_typed::refusal::Findings;
 use std::alloc::Global;
 
-#[tactic(auto, using(par_names::proofs::Noted::noting))]
+#[tactic(auto, using(par_names::proofs::Noted::note))]
 fn check_signature(
     alloc: Global,
     view: &View<'_>,
@@ -32,7 +32,7 @@ fn check_signature(
     Ok(())
 }
 
-#[tactic(auto, using(par_names::proofs::Noted::noting))]
+#[tactic(auto, using(par_names::proofs::Noted::note))]
 fn check_marks(view: &View<'_>, method: &MethodDecl, findings: &mut Findings)
     ensures { findings.new
         ≡ first_of findings.old (mark_faults (seen view.now) (tree.method method.now)) }
@@ -45,7 +45,7 @@ fn check_marks(view: &View<'_>, method: &MethodDecl, findings: &mut Findings)
     check_locks(view, method.closes.as_slice(), findings);
 }
 
-#[tactic(auto, using(par_names::proofs::Noted::noting))]
+#[tactic(auto, using(par_names::proofs::Noted::note))]
 fn check_thrown(
     alloc: Global,
     view: &View<'_>,
@@ -62,7 +62,7 @@ fn check_thrown(
 }
 
 // What stands before the body.
-#[tactic(auto, using(par_names::proofs::Noted::noting))]
+#[tactic(auto, using(par_names::proofs::Noted::note))]
 fn check_head(
     alloc: Global,
     view: &View<'_>,
@@ -78,7 +78,7 @@ fn check_head(
     Ok(())
 }
 
-#[tactic(auto, using(par_names::proofs::Noted::noting))]
+#[tactic(auto, using(par_names::proofs::Noted::note))]
 fn check_method(
     alloc: Global,
     view: &View<'_>,

@@ -21,7 +21,7 @@ use par_typed::refusal::{Findings, Refusal};
 use std::alloc::Global;
 
 // Notes each of these, which stand apart, before which another one has its name.
-#[tactic(auto, using(par_names::proofs::Noted::noting))]
+#[tactic(auto, using(par_names::proofs::Noted::note))]
 fn check_named<T: Named>(
     alloc: Global,
     items: &[&T],
@@ -52,7 +52,7 @@ fn check_class_names(
 }
 
 // The second declarations of a name.
-#[tactic(auto, using(par_names::proofs::Noted::noting))]
+#[tactic(auto, using(par_names::proofs::Noted::note))]
 fn check_second(
     alloc: Global,
     builtins: &[ClassDecl],
@@ -72,7 +72,7 @@ fn check_second(
     check_class_names(alloc, builtins, program, findings)
 }
 
-#[tactic(auto, using(par_names::proofs::Noted::noting))]
+#[tactic(auto, using(par_names::proofs::Noted::note))]
 fn check_declaration(
     alloc: Global,
     view: &View<'_>,
@@ -126,7 +126,7 @@ fn check_declarations(
 }
 
 /// The first broken rule on names of a program.
-#[tactic(auto, using(par_names::proofs::Noted::noting))]
+#[tactic(auto, using(par_names::proofs::Noted::note))]
 pub fn first_broken_name(alloc: Global, program: &Program) -> Result<Option<Refusal>, NoMemory>
     ensures { IfOk result (λ first. first ≡ first_of None (name_faults (source program.now))) }
 {

@@ -60,7 +60,8 @@ impl Block {
 
     /// Puts an object behind the others.
     pub(crate) fn add(&mut self, fields: &[MVal]) -> Result<(), NoMemory>
-        requires few { length (cut self.old.count self.old.width self.old.fields.items) < 4294967295 }
+        requires few { length (cut self.old.count self.old.width self.old.fields.items)
+            < 4294967295 }
         requires same { All (λ object. length object ≡ length fields.now)
             (cut self.old.count self.old.width self.old.fields.items) }
         ensures added { OnOk result (cut self.new.count self.new.width self.new.fields.items
@@ -76,7 +77,8 @@ impl Block {
 
     /// The place of a field of an object among all fields, where both are there.
     fn place(&self, n: u32, field: u16) -> Option<usize>
-        ensures within { IfSome result (λ place. IsPlace self.now.count self.now.width n field place) }
+        ensures within { IfSome result
+            (λ place. IsPlace self.now.count self.now.width n field place) }
         ensures outside { IfNone result ((self.now.count ≤ n) ⊎ (self.now.width ≤ field)) }
     {
         if n >= self.count || field as usize >= self.width {
@@ -104,7 +106,8 @@ impl Block {
     /// Writes a field of an object, and tells whether both are there.
     pub(crate) fn set(&mut self, n: u32, field: u16, value: MVal) -> bool
         ensures written { cut self.new.count self.new.width self.new.fields.items
-            ≡ with_field_in (cut self.old.count self.old.width self.old.fields.items) n field value }
+            ≡ with_field_in (cut self.old.count self.old.width self.old.fields.items) n field
+            value }
         ensures there { result
             ≡ is_some (field_in (cut self.old.count self.old.width self.old.fields.items) n field) }
     {
@@ -121,7 +124,8 @@ impl Block {
     #[tactic(auto, using(crate::proofs::Cut::cut_flat))]
     pub(crate) fn all(&self) -> &[MVal]
         ensures { result.now
-            ≡ flat_map (λ object. object) (cut self.now.count self.now.width self.now.fields.items) }
+            ≡ flat_map (λ object. object)
+            (cut self.now.count self.now.width self.now.fields.items) }
     {
         self.fields.as_slice()
     }

@@ -94,7 +94,8 @@ macro_rules! entries {
             Some(Instr::$name(3)), $($none,)*] $($line)*)
     };
     ([$($entry:tt)*]
-        [$first:literal ByteAndSigned $name:ident ($($change:tt)*) $($none:ident)*] $($line:tt)*) => {
+        [$first:literal ByteAndSigned $name:ident ($($change:tt)*) $($none:ident)*]
+        $($line:tt)*) => {
         entries!([$($entry)* Some(Instr::$name(0, 0)), $($none,)*] $($line)*)
     };
     ([$($entry:tt)*]
@@ -131,7 +132,8 @@ pub(crate) struct Row {
 
 // The row of an instruction.
 macro_rules! rows {
-    ($instr:ident $([$first:literal $kind:ident $name:ident ($($change:tt)*) $($none:ident)*])*) => {
+    ($instr:ident
+        $([$first:literal $kind:ident $name:ident ($($change:tt)*) $($none:ident)*])*) => {
         match $instr {
             $(form!($kind $name x y) => Row {
                 first: $first,
@@ -170,7 +172,8 @@ pub(crate) fn row_of(instr: &Instr) -> Row
 
 // The instruction with these operand bytes in place of its own.
 macro_rules! filled {
-    ($blank:ident $bytes:ident $([$first:literal $kind:ident $name:ident ($($change:tt)*) $($none:ident)*])*) => {
+    ($blank:ident $bytes:ident
+        $([$first:literal $kind:ident $name:ident ($($change:tt)*) $($none:ident)*])*) => {
         match $blank {
             $(kept!($kind $name x) => filled_by!($kind $name x $bytes),)*
         }
@@ -206,7 +209,8 @@ pub(crate) fn fill(blank: Instr, operands: &[u8]) -> Instr
     requires has { IsTrue (has_spelling blank) }
     requires size { length operands.now ≡ size (numbers_of blank) }
     ensures bytes { AreBytes operands.now }
-    ensures filled { result ≡ whole (read (row blank).form (place (numbers_of blank)) operands.now) }
+    ensures filled { result
+        ≡ whole (read (row blank).form (place (numbers_of blank)) operands.now) }
 {
     opcodes!(filled blank operands)
 }

@@ -13,9 +13,10 @@ ghost use Rattle.par_link.specs.Inputs.{is_input, is_input_of, has_input};
 
 use crate::entry::Declared;
 use par_class::file::{ClassFile, MethodFile};
+use par_class::is_native;
 use par_lexer::list::{List, NoMemory};
 use par_pool::constant::Constant;
-use par_single::member::{is_native, is_static, own_name, text_at};
+use par_single::member::{is_static, own_name, text_at};
 use std::alloc::Global;
 use std::hash::{FoldHasher, Hasher};
 

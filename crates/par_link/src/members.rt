@@ -12,9 +12,10 @@ use crate::keys::{Key, Keys};
 use crate::places::narrow;
 use crate::texts::Texts;
 use par_class::file::{ClassFile, MethodFile};
+use par_class::is_native;
 use par_lexer::list::NoMemory;
 use par_single::described::is_method_right;
-use par_single::member::{Naming, is_native};
+use par_single::member::Naming;
 use std::alloc::Global;
 
 /// The fields and the methods of a file.

@@ -12,6 +12,7 @@ use par_method_area::MethodArea;
 
 impl Running {
     /// Pushes the number that an index is.
+    #[inline(always)]
     pub(crate) fn push_constant(
         &mut self,
         area: &MethodArea,
@@ -31,6 +32,7 @@ impl Running {
     }
 
     /// Pushes what the static field holds that an index names.
+    #[inline(always)]
     pub(crate) fn read_static(
         &mut self,
         area: &MethodArea,
@@ -50,6 +52,7 @@ impl Running {
     }
 
     /// Pushes what the field of an object holds that an index names.
+    #[inline(always)]
     pub(crate) fn read_field(
         &mut self,
         area: &MethodArea,

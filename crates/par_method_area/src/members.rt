@@ -14,10 +14,11 @@ use crate::signatures::takes_at;
 use crate::statics::LOCKS;
 use par_actions::{Callee, Class, Field, Fit, Gives, Target};
 use par_class::file::MethodFile;
+use par_class::is_native;
 use par_link::{Builtin, Declared, Named};
 use par_pool::constant::Constant;
 use par_pool::kind::entry;
-use par_single::member::{is_native, is_static};
+use par_single::member::is_static;
 
 /// Whether a method gives a result.
 fn gives_result(gives: Gives) -> bool

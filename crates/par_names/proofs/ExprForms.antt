@@ -114,7 +114,7 @@ pub class_member : (v : View) (named : Class → List ℕ → Option Bool) (clas
 unfolding member_faults
 class_member v named class at member fs = refl
 
-pub ruleset exprs = (
+pub ruleset form = (
   in_int,
   in_true,
   in_false,

@@ -36,4 +36,4 @@ pub not_not : (b : Bool) → not (not b) ≡ b
 not_not true = refl
 not_not false = refl
 
-pub ruleset noting = (firsts, common_steps, not_not)
+pub ruleset note = (firsts, common_steps, not_not)

@@ -52,7 +52,7 @@ fn declare_params<'a>(scope: &mut Scope<'a>, params: &'a [ParamDecl]) -> Result<
     Ok(())
 }
 
-#[tactic(auto, using(crate::proofs::Noted::noting))]
+#[tactic(auto, using(crate::proofs::Noted::note))]
 fn check_taken(scope: &Scope<'_>, id: &Ident, findings: &mut Findings)
     ensures { findings.new ≡ first_of findings.old (taken_fault scope.now id.now) }
 {
@@ -60,7 +60,7 @@ fn check_taken(scope: &Scope<'_>, id: &Ident, findings: &mut Findings)
     findings.expect(!is_taken, SECOND_NAME, id.at);
 }
 
-#[tactic(auto, using(crate::proofs::Noted::noting))]
+#[tactic(auto, using(crate::proofs::Noted::note))]
 fn check_local<'a>(
     view: &View<'_>,
     home: &Home<'_>,
@@ -94,7 +94,7 @@ fn check_caught(
     check_doubles(alloc, classes.as_slice(), findings)
 }
 
-#[tactic(auto, using(crate::proofs::Noted::noting))]
+#[tactic(auto, using(crate::proofs::Noted::note))]
 fn check_both(
     view: &View<'_>,
     home: &Home<'_>,

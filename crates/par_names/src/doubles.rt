@@ -55,7 +55,7 @@ impl<'a> Earliest<'a> {
 }
 
 /// Notes each of these before which another one has its name. It takes time as there are names.
-#[tactic(auto, using(crate::proofs::Noted::noting))]
+#[tactic(auto, using(crate::proofs::Noted::note))]
 pub fn check_doubles(alloc: Global, ids: &[&Ident], findings: &mut Findings) -> Result<(), NoMemory>
     ensures { OnOk result (findings.new
         ≡ first_of findings.old (doubles (map (λ id. id.now) ids.now))) }

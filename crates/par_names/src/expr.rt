@@ -20,7 +20,7 @@ use par_tree::ident::Ident;
 use par_typed::refusal::Findings;
 
 // A member of the own class, which a static method has only where it is static.
-#[tactic(auto, using(crate::proofs::Noted::noting), unfolding(crate::specs::Exprs::own_fault))]
+#[tactic(auto, using(crate::proofs::Noted::note), unfolding(crate::specs::Exprs::own_fault))]
 fn check_own(in_static: bool, member: Option<bool>, at: u32, findings: &mut Findings)
     ensures { findings.new ≡ first_of findings.old (own_fault in_static member at) }
 {
@@ -33,7 +33,7 @@ fn check_own(in_static: bool, member: Option<bool>, at: u32, findings: &mut Find
     }
 }
 
-#[tactic(auto, using(crate::proofs::Noted::noting))]
+#[tactic(auto, using(crate::proofs::Noted::note))]
 fn check_name(home: &Home<'_>, scope: &Scope<'_>, name: &Name, at: u32, findings: &mut Findings)
     ensures { findings.new ≡ first_of findings.old
         (name_fault (home_seen home.now) scope.now name.now at) }
@@ -45,7 +45,7 @@ fn check_name(home: &Home<'_>, scope: &Scope<'_>, name: &Name, at: u32, findings
 }
 
 // Before a member a simple name that is no local and no field is a class.
-#[tactic(auto, using(crate::proofs::ExprForms::exprs), unfolding(crate::specs::Exprs::class_before))]
+#[tactic(auto, using(crate::proofs::ExprForms::form), unfolding(crate::specs::Exprs::class_before))]
 fn class_before<'e>(home: &Home<'_>, scope: &Scope<'_>, e: &'e Expr) -> Option<&'e Name>
     ensures { option_copied result ≡ class_before (home_seen home.now) scope.now (shown e.now) }
 {
@@ -123,7 +123,7 @@ fn check_static_callee(
 
 /// Notes the broken rules of an expression.
 #[cycle(expr)]
-#[tactic(auto, using(crate::proofs::ExprForms::exprs))]
+#[tactic(auto, using(crate::proofs::ExprForms::form))]
 pub fn check_expr(
     view: &View<'_>,
     home: &Home<'_>,
@@ -158,7 +158,7 @@ pub fn check_expr(
 }
 
 #[cycle(expr)]
-#[tactic(auto, using(crate::proofs::ExprForms::exprs))]
+#[tactic(auto, using(crate::proofs::ExprForms::form))]
 fn check_callee(
     view: &View<'_>,
     home: &Home<'_>,
@@ -183,7 +183,7 @@ fn check_callee(
 }
 
 #[cycle(expr)]
-#[tactic(auto, using(crate::proofs::ExprForms::exprs))]
+#[tactic(auto, using(crate::proofs::ExprForms::form))]
 fn check_args(
     view: &View<'_>,
     home: &Home<'_>,
@@ -200,7 +200,7 @@ fn check_args(
 }
 
 /// Notes the broken rules of a value, where there is one.
-#[tactic(auto, using(crate::proofs::ExprForms::exprs))]
+#[tactic(auto, using(crate::proofs::ExprForms::form))]
 pub fn check_value(
     view: &View<'_>,
     home: &Home<'_>,

@@ -23,7 +23,7 @@ fn check_actor(view: &View<'_>, actor: &Ident, findings: &mut Findings)
     findings.expect(is_known, UNKNOWN_ACTOR, actor.at);
 }
 
-#[tactic(auto, using(crate::proofs::Noted::noting))]
+#[tactic(auto, using(crate::proofs::Noted::note))]
 fn check_actors(view: &View<'_>, actors: &[Ident], findings: &mut Findings)
     ensures { findings.new
         ≡ first_of findings.old (flat_map (actor_fault (seen view.now)) actors.now) }
@@ -33,7 +33,7 @@ fn check_actors(view: &View<'_>, actors: &[Ident], findings: &mut Findings)
     }
 }
 
-#[tactic(auto, using(crate::proofs::Noted::noting), unfolding(crate::specs::Policies::arity_fault))]
+#[tactic(auto, using(crate::proofs::Noted::note), unfolding(crate::specs::Policies::arity_fault))]
 fn check_arity(view: &View<'_>, lock: &LockTree, findings: &mut Findings)
     ensures { findings.new ≡ first_of findings.old
         (arity_fault (lock_named (seen view.now).locks lock.now.id.name) lock.now) }
@@ -48,7 +48,7 @@ fn check_arity(view: &View<'_>, lock: &LockTree, findings: &mut Findings)
 }
 
 /// Notes the broken rules of a lock.
-#[tactic(auto, using(crate::proofs::Noted::noting))]
+#[tactic(auto, using(crate::proofs::Noted::note))]
 pub fn check_lock(view: &View<'_>, lock: &LockTree, findings: &mut Findings)
     ensures { findings.new ≡ first_of findings.old (lock_faults (seen view.now) lock.now) }
 {
@@ -57,7 +57,7 @@ pub fn check_lock(view: &View<'_>, lock: &LockTree, findings: &mut Findings)
 }
 
 /// Notes the broken rules of locks.
-#[tactic(auto, using(crate::proofs::Noted::noting))]
+#[tactic(auto, using(crate::proofs::Noted::note))]
 pub fn check_locks(view: &View<'_>, locks: &[LockTree], findings: &mut Findings)
     ensures { findings.new
         ≡ first_of findings.old (flat_map (lock_faults (seen view.now)) locks.now) }
@@ -67,7 +67,7 @@ pub fn check_locks(view: &View<'_>, locks: &[LockTree], findings: &mut Findings)
     }
 }
 
-#[tactic(auto, using(crate::proofs::Noted::noting))]
+#[tactic(auto, using(crate::proofs::Noted::note))]
 fn check_clause(view: &View<'_>, clause: &ClauseTree, findings: &mut Findings)
     ensures { findings.new ≡ first_of findings.old (clause_faults (seen view.now) clause.now) }
 {
@@ -75,7 +75,7 @@ fn check_clause(view: &View<'_>, clause: &ClauseTree, findings: &mut Findings)
     check_locks(view, clause.locks.as_slice(), findings);
 }
 
-#[tactic(auto, using(crate::proofs::Noted::noting))]
+#[tactic(auto, using(crate::proofs::Noted::note))]
 fn check_clauses(view: &View<'_>, clauses: &[ClauseTree], findings: &mut Findings)
     ensures { findings.new
         ≡ first_of findings.old (flat_map (clause_faults (seen view.now)) clauses.now) }
@@ -96,7 +96,7 @@ fn check_named(view: &View<'_>, id: &Ident, findings: &mut Findings)
     findings.expect(is_known, UNKNOWN_NAME, id.at);
 }
 
-#[tactic(auto, using(crate::proofs::Noted::noting), unfolding(crate::specs::Policies::term_faults))]
+#[tactic(auto, using(crate::proofs::Noted::note), unfolding(crate::specs::Policies::term_faults))]
 fn check_term(view: &View<'_>, term: &PolicyTerm, findings: &mut Findings)
     ensures { findings.new ≡ first_of findings.old (term_faults (seen view.now) term.now) }
 {
@@ -108,7 +108,7 @@ fn check_term(view: &View<'_>, term: &PolicyTerm, findings: &mut Findings)
 }
 
 /// Notes the broken rules of a policy.
-#[tactic(auto, using(crate::proofs::Noted::noting))]
+#[tactic(auto, using(crate::proofs::Noted::note))]
 pub fn check_policy(view: &View<'_>, policy: &PolicyExpr, findings: &mut Findings)
     ensures { findings.new ≡ first_of findings.old (policy_faults (seen view.now) policy.now) }
 {
@@ -118,7 +118,7 @@ pub fn check_policy(view: &View<'_>, policy: &PolicyExpr, findings: &mut Finding
 }
 
 /// Notes the broken rules of a policy, where one is written.
-#[tactic(auto, using(crate::proofs::Noted::noting), unfolding(crate::specs::Policies::may_policy_faults))]
+#[tactic(auto, using(crate::proofs::Noted::note), unfolding(crate::specs::Policies::may_policy_faults))]
 pub fn check_may_policy(view: &View<'_>, policy: &Option<PolicyExpr>, findings: &mut Findings)
     ensures { findings.new
         ≡ first_of findings.old (may_policy_faults (seen view.now) policy.now) }
@@ -138,7 +138,7 @@ pub fn check_class(view: &View<'_>, class: &Ident, findings: &mut Findings)
 }
 
 /// Notes a type that is no class.
-#[tactic(auto, using(crate::proofs::Noted::noting), unfolding(crate::specs::Policies::type_fault))]
+#[tactic(auto, using(crate::proofs::Noted::note), unfolding(crate::specs::Policies::type_fault))]
 pub fn check_type(view: &View<'_>, ty: &TypeTree, findings: &mut Findings)
     ensures { findings.new ≡ first_of findings.old (type_fault (seen view.now) ty.now) }
 {
@@ -149,7 +149,7 @@ pub fn check_type(view: &View<'_>, ty: &TypeTree, findings: &mut Findings)
 }
 
 /// Notes a result that is no class. A void method has none.
-#[tactic(auto, using(crate::proofs::Noted::noting), unfolding(crate::specs::Policies::result_fault))]
+#[tactic(auto, using(crate::proofs::Noted::note), unfolding(crate::specs::Policies::result_fault))]
 pub fn check_result(view: &View<'_>, result_type: &Option<TypeTree>, findings: &mut Findings)
     ensures { findings.new
         ≡ first_of findings.old (result_fault (seen view.now) result_type.now) }

@@ -11,4 +11,4 @@ one_ref (f ∷ found) r = ap (λ xs. f.now ∷ xs) (one_ref found r)
 
 pub ruleset pushes = (one_ref, append_assoc, append-nil)
 
-pub ruleset pushed_statements = (doings, one_ref, append_assoc, append-nil)
+pub ruleset push = (doings, one_ref, append_assoc, append-nil)

@@ -77,7 +77,7 @@ fn push_queries<'a>(found: &mut Vec<&'a LockTree>, items: &[&'a Stmt]) -> Result
     Ok(())
 }
 
-#[tactic(auto, using(crate::proofs::Pushes::pushed_statements), unfolding(crate::specs::Written::stmt_queries))]
+#[tactic(auto, using(crate::proofs::Pushes::push), unfolding(crate::specs::Written::stmt_queries))]
 fn push_query<'a>(found: &mut Vec<&'a LockTree>, item: &'a Stmt) -> Result<(), NoMemory>
     ensures { OnOk result (all_of found.new.items
         ≡ all_of found.old.items ++ queries.stmt_queries (does item.now)) }

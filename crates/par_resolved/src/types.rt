@@ -75,7 +75,7 @@ fn push_types<'a>(found: &mut Vec<&'a TypeTree>, items: &[&'a Stmt]) -> Result<(
     Ok(())
 }
 
-#[tactic(auto, using(crate::proofs::Pushes::pushed_statements), unfolding(crate::specs::Written::stmt_types))]
+#[tactic(auto, using(crate::proofs::Pushes::push), unfolding(crate::specs::Written::stmt_types))]
 fn push_type<'a>(found: &mut Vec<&'a TypeTree>, item: &'a Stmt) -> Result<(), NoMemory>
     ensures { OnOk result (all_of found.new.items
         ≡ all_of found.old.items ++ stmt_types (does item.now)) }

@@ -180,7 +180,7 @@ fn push_locals<'a>(found: &mut Vec<&'a PolicyExpr>, items: &[&'a Stmt]) -> Resul
     Ok(())
 }
 
-#[tactic(auto, using(crate::proofs::Pushes::pushed_statements), unfolding(crate::specs::Written::stmt_policies))]
+#[tactic(auto, using(crate::proofs::Pushes::push), unfolding(crate::specs::Written::stmt_policies))]
 fn push_local<'a>(found: &mut Vec<&'a PolicyExpr>, item: &'a Stmt) -> Result<(), NoMemory>
     ensures { OnOk result (all_of found.new.items
         ≡ all_of found.old.items ++ policies.stmt_policies (does item.now)) }

@@ -6,8 +6,9 @@ ghost use Rattle.par_single.specs.Single.{is_field_right, is_of_channel, is_chan
 ghost use Rattle.par_single.specs.Single.{is_method_right};
 
 use crate::descriptor::{field_said, method_gives};
-use crate::member::{is_native, is_static, text_at};
+use crate::member::{is_static, text_at};
 use par_class::file::{FieldFile, MethodFile};
+use par_class::is_native;
 use par_lexer::name::Name;
 use par_pool::constant::Constant;
 

@@ -1,7 +1,6 @@
 //! What the indices of a constant pool say as texts, and where members stand in their class.
 
 ghost use Rattle.std.specs.Prelude.{◌≡◌, []};
-ghost use Rattle.par_class.specs.Spelling.{is_native};
 ghost use Rattle.par_single.specs.Members.{text_at, class_name_at, own_name, member_at, named};
 ghost use Rattle.par_single.specs.Members.{is_method_of, method_place, is_static, is_initializer};
 ghost use Rattle.par_single.specs.Single.{is_taken};
@@ -109,11 +108,4 @@ pub fn is_static(access: u16) -> bool
     ensures { result ≡ is_static access }
 {
     access & 8 != 0
-}
-
-/// Whether access flags have NATIVE.
-pub fn is_native(access: u16) -> bool
-    ensures { result ≡ is_native access }
-{
-    access & 0x0100 != 0
 }

@@ -65,7 +65,7 @@ pub fn typed_local(alloc: Global, cursor: &mut Cursor<'_, Paragon>) -> Result<St
 }
 
 /// The name of a local, and its first value.
-#[tactic(auto, using(par_tree::proofs::Rules::run_built, par_tree::proofs::Rules::local_tail_opens))]
+#[tactic(auto, using(par_tree::proofs::Rules::run_built, par_tree::proofs::Rules::local_opens))]
 fn local_tail(
     alloc: Global,
     cursor: &mut Cursor<'_, Paragon>,

@@ -108,8 +108,8 @@ fn status_of(ending: &Ending) -> u8
 #[tactic(auto, using(crate::proofs::Told::said_whole, crate::proofs::Told::said_untold))]
 pub fn tell_source<S: Sink>(alloc: Global, table: &Table, run: &SourceRun, out: &mut S) -> u8
     ensures said { let ran = run_of run.now in
-        Said (status (Fine ran.ending)) (lines table.now ran) result (S.held out.old) (S.held out.new)
-        (S.counts out.old) (S.counts out.new) }
+        Said (status (Fine ran.ending)) (lines table.now ran) result (S.held out.old)
+        (S.held out.new) (S.counts out.old) (S.counts out.new) }
     ensures failed_puts_are_told { IsTrue S.counts_faults_alone →
         result ≢ 6 → (S.counts out.new).faults ≡ (S.counts out.old).faults }
 {

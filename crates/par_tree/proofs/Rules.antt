@@ -81,8 +81,8 @@ pub catch_opens : (s : Symbols) (i : Input) (vs : Values)
     g.sign_ sign.RIGHT_PAREN ∷ name g.Block ∷ builds g.OneCatch ∷ s) i vs
 catch_opens s i vs = run_name paragon founded s i vs g.Catch _ refl
 
-pub local_tail_opens : (s : Symbols) (i : Input) (vs : Values)
+pub local_opens : (s : Symbols) (i : Input) (vs : Values)
     → run paragon founded (name g.LocalTail ∷ s) i vs ≡ run paragon founded (
     g.ident ∷ g.sign_ sign.ASSIGN ∷ restarts ∷ g.expr ∷ g.sign_ sign.SEMICOLON ∷
     builds g.LocalStmt ∷ s) i vs
-local_tail_opens s i vs = run_name paragon founded s i vs g.LocalTail _ refl
+local_opens s i vs = run_name paragon founded s i vs g.LocalTail _ refl

@@ -95,7 +95,10 @@ type_else-type_stmt-requires t c = (
 pub type_may_block-type_block-requires : goal.type_may_block-type_block-requires
 type_may_block-type_block-requires t c = (
   search (rules, the_lemmas),
-  (grind (arith, may_block_forms), (grind (arith, may_block_forms), grind (arith, may_block_forms))),
+  (
+    grind (arith, may_block_forms),
+    (grind (arith, may_block_forms), grind (arith, may_block_forms)),
+  ),
 )
 
 pub type_block-type_stmts-requires : goal.type_block-type_stmts-requires

@@ -10,5 +10,5 @@ returns c =
     let s = c.args.self.now in
     let file = s.file.now in
     c.repeated.ensures ∙ ap (first_repeated same_key) s.methods_keyed
-    ∙ keys-repeated file.pool.entries (λ (x : MethodFile). x.name) (λ (x : MethodFile). x.descriptor)
-    file.methods
+    ∙ keys-repeated file.pool.entries (λ (x : MethodFile). x.name)
+    (λ (x : MethodFile). x.descriptor) file.methods
