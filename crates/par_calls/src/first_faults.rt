@@ -1,10 +1,10 @@
 //! The first fault of sources, in names and limits, found with ample memory.
 
-use crate::expect::expect;
 use par_faults::first_fault;
 use par_lexer::lex;
 use par_parser::parse;
 use par_typed::refusal::Refusal;
+use par_worked::expect;
 use std::alloc::Global;
 use std::rt::HostRuntime;
 use std::test::Fail;

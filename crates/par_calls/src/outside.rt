@@ -1,7 +1,7 @@
-use crate::expect::expect;
 use par_io::{
     Folder, HostFolder, HostSink, MemFolder, MemSink, NoMemory, ReadFail, Sink, WriteFail,
 };
+use par_worked::expect;
 use std::alloc::Global;
 use std::test::Fail;
 use std::{env, fs, process};

@@ -2,7 +2,6 @@
 
 ghost use Rattle.std.specs.Prelude.{◌≤◌, length, IfOk};
 
-use crate::expect::expect;
 use par_exprs::parse_expr;
 use par_lexer::lex;
 use par_lexer::list::List;
@@ -11,6 +10,7 @@ use par_parser::{ParseError, parse};
 use par_tree::decl::{ClassDecl, Decl, Program};
 use par_tree::expr::{BinOp, Expr, ExprKind};
 use par_tree::stmt::{Stmt, StmtKind};
+use par_worked::expect;
 use std::alloc::Global;
 use std::test::Fail;
 

@@ -1,7 +1,5 @@
 //! Tables of worked programs, made with ample memory.
 
-use crate::expect::expect;
-use crate::policies::Part;
 use par_lexer::lex;
 use par_lexer::name::Name;
 use par_parser::parse;
@@ -12,32 +10,10 @@ use par_typed::table::{
     ChannelInfo, ClassInfo, FieldInfo, GroundLock, MethodInfo, ParamInfo, Table, ThrowInfo, birth,
 };
 use par_typed::ty::Ty;
+use par_worked::{AUCTION, expect};
 use std::alloc::Global;
 use std::rt::HostRuntime;
 use std::test::Fail;
-
-pub(crate) const AUCTION: &[u8] = b"actor alice, bob;
-lock Done;
-policy AliceBid = {alice:; bob: Done};
-policy BobBid = {bob:; alice: Done};
-class Auction {
-  ?AliceBid input int aliceBids();
-  ?BobBid input int bobBids();
-  output void announce(int price);
-  ?bottom static int best;
-  static void main() {
-    int a = aliceBids();
-    int b = bobBids();
-    open Done;
-    best = larger(a, b);
-    announce(best);
-  }
-  ?AliceBid * BobBid static int larger(?AliceBid int x, ?BobBid int y) !top {
-    if (x > y) { return x; }
-    return y;
-  }
-}
-";
 
 // Families of locks, locks that are asked for, inferred fields, a method with all its marks, and a
 // birth policy that is met of fields.
@@ -74,7 +50,7 @@ fn made(alloc: Global, source: &[u8]) -> Result<Result<Table, NameError>, Fail> 
     Ok(build(alloc, &program))
 }
 
-pub(crate) fn table(alloc: Global, source: &[u8]) -> Result<Table, Fail> {
+fn table(alloc: Global, source: &[u8]) -> Result<Table, Fail> {
     match made(alloc, source)? {
         Ok(table) => Ok(table),
         Err(_) => Err(Fail::new("a table is made")),
@@ -88,6 +64,9 @@ type Field = (&'static str, bool, Ty, u16, bool);
 
 // The name, whether it is an input, and the policy.
 type Channel = (&'static str, bool, u16);
+
+// An actor, and the locks that it needs.
+type Part = (u8, &'static [u16]);
 
 // The type, the policy, and whether it is never null.
 type Param = (Ty, u16, bool);

@@ -1,8 +1,8 @@
-use crate::expect::expect;
 use par_lexer::list::{List, NoMemory};
 use par_lexer::name::Name;
 use par_lexer::token::{Kind, LexError, Token};
 use par_lexer::{lex, place_of, sign, word};
+use par_worked::expect;
 use std::alloc::Global;
 use std::test::Fail;
 

@@ -3,7 +3,8 @@
 //! A test reads no file, so each text stands here and in `examples/`, `README.md` or `docs/`. They
 //! are kept equal, and `bench/same_examples.sh` compares them.
 
-use crate::call::{ACCEPTED, Answer, check_sources, expect, traces_as};
+use par_row_calls::{ACCEPTED, Answer, check_sources, traces_as};
+use par_worked::expect;
 use std::test::Fail;
 
 const SHOP_IN_BRIEF: &str = "\

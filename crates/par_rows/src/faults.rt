@@ -1,10 +1,10 @@
 //! Words, absent files, and faults of the folder and the sink.
 
-use crate::call::{
-    ACCEPTED, Answer, COMPILED, KEY_42, SHOWS_KEY, answers, call, compiled, expect, folder_of,
-    with_body,
-};
 use par_io::{MemFolder, MemSink, NoMemory};
+use par_row_calls::{
+    ACCEPTED, Answer, COMPILED, KEY_42, SHOWS_KEY, answers, call, compiled, folder_of, with_body,
+};
+use par_worked::expect;
 use std::alloc::Global;
 use std::test::Fail;
 

@@ -1,6 +1,6 @@
 //! The refusals by rules on locks and flows, as docs/REFUSALS.md shows them, each with its mend.
 
-use crate::call::{ACCEPTED, Answer, check_sources};
+use par_row_calls::{ACCEPTED, Answer, check_sources};
 use std::test::Fail;
 
 const LOCK_NOT_OPEN: &str = "\

@@ -1,10 +1,10 @@
 //! Sources at a limit, and one above it.
 
-use crate::call::{
-    ACCEPTED, Answer, KEY_42, call, checks_as, compiled, expect, line_checks_as, with_body,
-    with_line,
-};
 use par_io::{MemSink, NoMemory};
+use par_row_calls::{
+    ACCEPTED, Answer, KEY_42, call, checks_as, compiled, line_checks_as, with_body, with_line,
+};
+use par_worked::expect;
 use std::alloc::{AllocError, Global};
 use std::test::Fail;
 

@@ -1,7 +1,7 @@
 //! The refusals of names and limits, as docs/REFUSALS.md shows them, each with its mend, and others
 //! beside them.
 
-use crate::call::{ACCEPTED, Answer, check_bodies, check_lines, check_sources};
+use par_row_calls::{ACCEPTED, Answer, check_bodies, check_lines, check_sources};
 use std::test::Fail;
 
 const UNKNOWN: &str = "\

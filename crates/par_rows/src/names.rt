@@ -1,6 +1,6 @@
 //! Each rule on names, once for each place where a name can stand.
 
-use crate::call::{Answer, check_lines};
+use par_row_calls::{Answer, check_lines};
 use std::test::Fail;
 
 /// No such class, wherever the name of a class can stand.

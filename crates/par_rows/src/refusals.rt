@@ -1,7 +1,7 @@
 //! The refusals of sources without tokens and of those that are no sentences, as docs/REFUSALS.md
 //! shows them, each with its mend.
 
-use crate::call::{ACCEPTED, Answer, check_sources};
+use par_row_calls::{ACCEPTED, Answer, check_sources};
 use std::test::Fail;
 
 const BYTE: &str = "\

@@ -1,6 +1,6 @@
 //! Sources that are no sentences, and sentences of the whole language: each with its answer.
 
-use crate::call::{ACCEPTED, Answer, check_bodies, check_lines, check_sources};
+use par_row_calls::{ACCEPTED, Answer, check_bodies, check_lines, check_sources};
 use std::test::Fail;
 
 const FORMS: &[(&str, Answer)] = &[

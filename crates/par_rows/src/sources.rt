@@ -1,6 +1,7 @@
 //! The common source with one line changed: near misses of each condition.
 
-use crate::call::{ACCEPTED, Answer, check_lines, check_sources, checks_as, expect};
+use par_row_calls::{ACCEPTED, Answer, check_lines, check_sources, checks_as};
+use par_worked::expect;
 use std::alloc::Global;
 use std::test::Fail;
 

@@ -1,6 +1,6 @@
 //! Bodies of the common source, in which `open Paid` lets bob see what `key` gives.
 
-use crate::call::{ACCEPTED, Answer, check_bodies};
+use par_row_calls::{ACCEPTED, Answer, check_bodies};
 use std::test::Fail;
 
 const WRITES: &[(&str, Answer)] = &[

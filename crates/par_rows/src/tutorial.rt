@@ -1,6 +1,6 @@
 //! The steps of docs/TUTORIAL.md: each program that is refused, and its mend.
 
-use crate::call::{ACCEPTED, Answer, check_sources};
+use par_row_calls::{ACCEPTED, Answer, check_sources};
 use std::test::Fail;
 
 const ONLY_A_MAIN: &str = "\

@@ -1,6 +1,6 @@
 //! The refusals of types, as docs/REFUSALS.md shows them, each with its mend.
 
-use crate::call::{ACCEPTED, Answer, check_sources};
+use par_row_calls::{ACCEPTED, Answer, check_sources};
 use std::test::Fail;
 
 const TYPE: &str = "\

@@ -1,6 +1,6 @@
 //! Each rule on types, once for each form that can break it.
 
-use crate::call::{ACCEPTED, Answer, check_lines};
+use par_row_calls::{ACCEPTED, Answer, check_lines};
 use std::test::Fail;
 
 /// A value that does not fit: 201 at that value.

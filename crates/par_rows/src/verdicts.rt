@@ -1,8 +1,9 @@
 //! What the rules on locks and flows say of the common source with other lines, and what the
 //! sources that they let pass do.
 
-use crate::call::{ACCEPTED, Answer, Lines, check_all, expect, last_of, traces_as, with_lines};
 use par_io::NoMemory;
+use par_row_calls::{ACCEPTED, Answer, Lines, check_all, last_of, traces_as, with_lines};
+use par_worked::expect;
 use std::alloc::Global;
 use std::test::Fail;
 

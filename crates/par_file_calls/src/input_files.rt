@@ -1,0 +1,101 @@
+use par_inputs::error::BadInput;
+use par_inputs::{line_of_entry, read_inputs};
+use par_values::inputs::{ChannelInput, Inputs};
+use par_worked::expect;
+use std::alloc::Global;
+use std::test::Fail;
+
+const WRONG: &[(&str, &[u8], u32)] = &[
+    ("above int", b"Shop.key: 2147483648\n", 1),
+    ("below int", b"Shop.key: -2147483649\n", 1),
+    ("a blank at the end", b"Shop.key: 1 \n", 1),
+    ("two blanks", b"Shop.key:  1\n", 1),
+    ("no blank", b"Shop.key:1\n", 1),
+    ("zeros in front", b"Shop.key: 007\n", 1),
+    ("a plus sign", b"Shop.key: +1\n", 1),
+    ("a carriage return", b"Shop.key: 1\r\n", 1),
+    ("a blank in the name", b"Shop. key: 1\n", 1),
+    ("a digit in front", b"9x.key: 1\n", 1),
+    ("no colon", b"Shop.key\n", 1),
+    ("a channel twice", b"Shop.key: 1\nShop.key: 2\n", 2),
+    ("no colon at last", b"\n\nShop.key: 1\n\nShop.key 2", 5),
+    (
+        "the first wrong line is told",
+        b"Shop.key: 1\nShop.key: 2\nnothing\n",
+        2,
+    ),
+];
+
+// Whether this is the first wrong line.
+fn is_wrong(alloc: Global, bytes: &[u8], line: u32) -> bool {
+    if bytes.len() > 100 {
+        return false;
+    }
+    match read_inputs(alloc, bytes) {
+        Ok(_) => false,
+        Err(error) => error == BadInput::Line(line),
+    }
+}
+
+#[test]
+fn a_wrong_line_is_told(rt: HostRuntime) -> Result<(), Fail> {
+    for (name, bytes, line) in WRONG {
+        expect(is_wrong(rt.alloc(), bytes, *line), name)?;
+    }
+    Ok(())
+}
+
+const RIGHT: &[(&str, &[u8], usize)] = &[
+    ("no byte", b"", 0),
+    ("empty lines", b"\n\n", 0),
+    ("a number", b"Shop.key: 42\n", 1),
+    ("no end of the line", b"Shop.key: 42", 1),
+    ("no number", b"Shop.key:\n", 1),
+    ("two channels", b"Shop.key: 1\nShop.lock: 2\n", 2),
+    ("reserved words", b"\nint.void: 1\n\nvoid.int: 2", 2),
+];
+
+fn has_channels(alloc: Global, bytes: &[u8], count: usize) -> Result<bool, BadInput> {
+    if bytes.len() > 100 {
+        return Ok(false);
+    }
+    let inputs = read_inputs(alloc, bytes)?;
+    Ok(inputs.channels.len() == count)
+}
+
+#[test]
+fn right_lines_are_counted(rt: HostRuntime) -> Result<(), Fail> {
+    for (name, bytes, count) in RIGHT {
+        expect(has_channels(rt.alloc(), bytes, *count)?, name)?;
+    }
+    Ok(())
+}
+
+const NUMBERS: [i32; 5] = [42, 0, -2147483648, 2147483647, 0];
+
+fn is_key(entry: &ChannelInput) -> bool {
+    entry.class.bytes() == b"Shop".as_slice()
+        && entry.channel.bytes() == b"key".as_slice()
+        && entry.numbers.as_slice() == NUMBERS.as_slice()
+}
+
+// Whether there is one channel, the key, with these numbers.
+fn has_key_alone(inputs: &Inputs) -> bool {
+    match inputs.channels.as_slice() {
+        [entry] => is_key(entry),
+        _ => false,
+    }
+}
+
+#[test]
+fn a_line_gives_its_channel_and_numbers(rt: HostRuntime) -> Result<(), Fail> {
+    let inputs = read_inputs(rt.alloc(), b"Shop.key: 42 -0 -2147483648 2147483647 0")?;
+    expect(has_key_alone(&inputs), "the key has its numbers")
+}
+
+#[test]
+fn an_entry_stands_on_its_line(_rt: HostRuntime) -> Result<(), Fail> {
+    let bytes = b"\nint.void: 1\n\nvoid.int: 2";
+    expect(line_of_entry(bytes, 0) == 2, "the first entry")?;
+    expect(line_of_entry(bytes, 1) == 4, "the second entry")
+}

@@ -1,0 +1,124 @@
+//! Which inputs of a typed program an observer cannot tell apart.
+
+use crate::typed_trees::typed;
+use par_alike::alike;
+use par_lexer::list::List;
+use par_lexer::name::Name;
+use par_policy::Lockset;
+use par_typed::program::Typed;
+use par_values::inputs::{ChannelInput, Inputs};
+use par_worked::expect;
+use std::alloc::Global;
+use std::rt::HostRuntime;
+use std::test::Fail;
+
+const SHOP: &[u8] = b"actor alice, bob;
+lock Paid;
+class Shop {
+  ?{alice:; bob: Paid} input int key();
+  ?{bob:} output void show(int v);
+  static void main() { open Paid; show(key()); }
+}
+";
+
+const ALICE: u8 = 0;
+
+const BOB: u8 = 1;
+
+const PAID: u16 = 0;
+
+fn line(alloc: Global, number: i32) -> Result<ChannelInput, Fail> {
+    let mut numbers = List::new(alloc);
+    numbers.push(number)?;
+    Ok(ChannelInput {
+        class: Name::new(alloc, b"Shop")?,
+        channel: Name::new(alloc, b"key")?,
+        numbers,
+    })
+}
+
+// Inputs whose one line gives this number to the channel, or that have no line.
+fn key(alloc: Global, number: Option<i32>) -> Result<Inputs, Fail> {
+    let mut channels = List::new(alloc);
+    if let Some(number) = number {
+        channels.push(line(alloc, number)?)?;
+    }
+    Ok(Inputs { channels })
+}
+
+fn lock_set(alloc: Global, open: &[u16]) -> Result<Lockset, Fail> {
+    let mut set = Lockset::new(alloc);
+    for lock in open {
+        set.insert(*lock)?;
+    }
+    Ok(set)
+}
+
+// Two inputs, an observer with the locks that it has, and whether it cannot tell them apart.
+struct Row {
+    name: &'static str,
+    one: Option<i32>,
+    other: Option<i32>,
+    actor: u8,
+    open: &'static [u16],
+    alike: bool,
+}
+
+const ROWS: &[Row] = &[
+    Row {
+        name: "bob does not see the key",
+        one: Some(1),
+        other: Some(2),
+        actor: BOB,
+        open: &[],
+        alike: true,
+    },
+    Row {
+        name: "bob sees it once it is paid",
+        one: Some(1),
+        other: Some(2),
+        actor: BOB,
+        open: &[PAID],
+        alike: false,
+    },
+    Row {
+        name: "alice sees it",
+        one: Some(1),
+        other: Some(2),
+        actor: ALICE,
+        open: &[],
+        alike: false,
+    },
+    Row {
+        name: "alice sees that there is no line",
+        one: Some(1),
+        other: None,
+        actor: ALICE,
+        open: &[],
+        alike: false,
+    },
+    Row {
+        name: "the same keys are alike",
+        one: Some(2),
+        other: Some(2),
+        actor: ALICE,
+        open: &[PAID],
+        alike: true,
+    },
+];
+
+fn holds(alloc: Global, program: &Typed, row: &Row) -> Result<bool, Fail> {
+    let one = key(alloc, row.one)?;
+    let other = key(alloc, row.other)?;
+    let open = lock_set(alloc, row.open)?;
+    Ok(alike(&one, &other, program, row.actor, &open) == row.alike)
+}
+
+#[test]
+fn observers_tell_the_keys_that_they_see_apart(rt: HostRuntime) -> Result<(), Fail> {
+    let program = typed(rt.alloc(), SHOP)?;
+    for row in ROWS {
+        expect(holds(rt.alloc(), &program, row)?, row.name)?;
+    }
+    Ok(())
+}

@@ -1,0 +1,103 @@
+//! Lines of source runs, put with ample memory.
+
+use par_io::MemSink;
+use par_lexer::lex;
+use par_lexer::list::List;
+use par_lexer::name::Name;
+use par_meaning::{SourceEvent, SourceRun};
+use par_parser::parse;
+use par_policy::Lockset;
+use par_table::build;
+use par_trace::{inputs_fit, tell_source};
+use par_typed::table::Table;
+use par_values::inputs::{ChannelInput, Inputs};
+use par_values::run::{Ending, Event, Val};
+use par_worked::expect;
+use std::alloc::Global;
+use std::rt::HostRuntime;
+use std::test::Fail;
+
+// Its ground locks are Owns(alice), Owns(bob), Both of each two, and Paid.
+const SHOP: &[u8] = b"actor alice, bob;
+lock Owns(actor);
+lock Both(actor, actor);
+lock Paid;
+class Shop { input int key(); output void show(int v); static int last; static void main() { } }
+";
+
+const LINES: &[u8] = b"out Shop.show 42 [Owns(alice) Both(alice,bob) Paid]
+set Shop.last 7 []
+budget
+";
+
+fn table(alloc: Global, source: &[u8]) -> Result<Table, Fail> {
+    let tokens = lex(alloc, source)?;
+    if tokens.len() > 262_144 {
+        return Err(Fail::new("too many tokens"));
+    }
+    let program = parse(alloc, tokens.as_slice())?;
+    Ok(build(alloc, &program)?)
+}
+
+fn shop(alloc: Global) -> Result<Name, Fail> {
+    Ok(Name::new(alloc, b"Shop")?)
+}
+
+fn with_locks(alloc: Global, event: Event, open: &[u16]) -> Result<SourceEvent, Fail> {
+    let mut locks = Lockset::new(alloc);
+    for lock in open {
+        locks.insert(*lock)?;
+    }
+    Ok(SourceEvent { event, locks })
+}
+
+fn run(alloc: Global) -> Result<SourceRun, Fail> {
+    let shown = Event::Out(shop(alloc)?, Name::new(alloc, b"show")?, 42);
+    let set = Event::Set(shop(alloc)?, Name::new(alloc, b"last")?, Val::Int(7));
+    let mut events = List::new(alloc);
+    events.push(with_locks(alloc, shown, &[6, 3, 0])?)?;
+    events.push(with_locks(alloc, set, &[])?)?;
+    Ok(SourceRun {
+        events,
+        ending: Ending::Stopped,
+    })
+}
+
+#[test]
+fn each_event_has_its_locks(rt: HostRuntime) -> Result<(), Fail> {
+    let table = table(rt.alloc(), SHOP)?;
+    let run = run(rt.alloc())?;
+    let mut sink = MemSink::new(rt.alloc(), 200)?;
+    let status = tell_source(rt.alloc(), &table, &run, &mut sink);
+    expect(status == 11, "no step is left")?;
+    expect(sink.bytes() == LINES, "the lines of the run")
+}
+
+fn line(alloc: Global, channel: &[u8]) -> Result<Inputs, Fail> {
+    if !Name::is_name(channel) {
+        return Err(Fail::new("a channel has a name"));
+    }
+    let mut channels = List::new(alloc);
+    channels.push(ChannelInput {
+        class: shop(alloc)?,
+        channel: Name::new(alloc, channel)?,
+        numbers: List::new(alloc),
+    })?;
+    Ok(Inputs { channels })
+}
+
+const CHANNELS: &[(&str, &[u8], Option<usize>)] = &[
+    ("an input channel", b"key", None),
+    ("an output channel", b"show", Some(0)),
+    ("a field", b"last", Some(0)),
+];
+
+#[test]
+fn lines_name_input_channels(rt: HostRuntime) -> Result<(), Fail> {
+    let table = table(rt.alloc(), SHOP)?;
+    for (name, channel, place) in CHANNELS {
+        let inputs = line(rt.alloc(), channel)?;
+        expect(inputs_fit(rt.alloc(), &table, &inputs)? == *place, name)?;
+    }
+    Ok(())
+}

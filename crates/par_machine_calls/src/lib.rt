@@ -1,0 +1,22 @@
+//! Public calls of the machine, of its parts, and of what loads and links class files for it,
+//! each run once with ample memory. The crate is tests alone, and nothing stands on it.
+#![tactic(auto)]
+
+#[cfg(test)]
+mod heaps;
+#[cfg(test)]
+mod input_lines;
+#[cfg(test)]
+mod landings;
+#[cfg(test)]
+mod linked;
+#[cfg(test)]
+mod linked_files;
+#[cfg(test)]
+mod machine_places;
+#[cfg(test)]
+mod machine_runs;
+#[cfg(test)]
+mod method_areas;
+#[cfg(test)]
+mod stacks;

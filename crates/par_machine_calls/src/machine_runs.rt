@@ -1,0 +1,273 @@
+ghost use Rattle.std.specs.Prelude.{◌≡◌, IfOk};
+ghost use Rattle.par_machine.specs.Machine.{steps_of};
+
+use crate::linked::linked;
+use crate::machine_places;
+use par_lexer::list::List;
+use par_lexer::name::Name;
+use par_link::{Linked, inputs_fit};
+use par_machine::machine::Machine;
+use par_machine::turn::{Stuck, Turn};
+use par_values::inputs::{ChannelInput, Inputs};
+use par_values::run::{Ending, Event, Val};
+use par_values::value::MVal;
+use par_worked::expect;
+use std::alloc::Global;
+use std::test::Fail;
+
+// A class `Shop` up to the code of its method `main`. Its pool names the static field `got` of
+// type int by 11, the output channel `show` by 15, the input channel `ask` by 19, the method
+// `more` by 22 and the number 2147483647 by 23.
+const HEAD: &[u8] =
+    b"\xca\xfe\xba\xbe\0\0\01\0\x18\x01\0\x04Shop\x07\0\x01\x01\0\x10java/lang/Object\x07\0\x03\x01\0\x04main\x01\0\x03()V\x01\0\x04Code\x01\0\x03got\x01\0\x01I\x0c\0\x08\0\x09\x09\0\x02\0\x0a\x01\0\x04show\x01\0\x04(I)V\x0c\0\x0c\0\x0d\x0a\0\x02\0\x0e\x01\0\x03ask\x01\0\x03()I\x0c\0\x10\0\x11\x0a\0\x02\0\x12\x01\0\x04more\x0c\0\x14\0\x06\x0a\0\x02\0\x15\x03\x7f\xff\xff\xff\0\x01\0\x02\0\x04\0\0\0\x01\0\x09\0\x08\0\x09\0\0\0\x04\0\x09\0\x05\0\x06\0\x01\0\x07\0\0\0";
+
+// What stands behind it: the channels, and `more`, which adds 2 to `got`.
+const TAIL: &[u8] =
+    b"\0\0\0\0\x01\x09\0\x0c\0\x0d\0\0\x01\x09\0\x10\0\x11\0\0\0\x09\0\x14\0\x06\0\x01\0\x07\0\0\0\x15\0\x02\0\0\0\0\0\x09\xb2\0\x0b\x05\x60\xb3\0\x0b\xb1\0\0\0\0\0\0";
+
+// The code of `main`, the numbers of the events that it makes, and where bad code is met, with the
+// number of the reason (Java Virtual Machine Specification, Java SE 7, section 6.5).
+const RUNS: &[(&str, &[u8], &[i32], Option<(u32, u8)>)] = &[
+    (
+        "iconst_2 iconst_3 iadd putstatic return",
+        b"\x05\x06\x60\xb3\0\x0b\xb1",
+        &[5],
+        None,
+    ),
+    (
+        "ldc iconst_1 iadd and a call of `show`: the sum wraps",
+        b"\x12\x17\x04\x60\xb8\0\x0f\xb1",
+        &[-2147483648],
+        None,
+    ),
+    (
+        "`ask` and `show` twice: a spent list gives 0",
+        b"\xb8\0\x13\xb8\0\x0f\xb8\0\x13\xb8\0\x0f\xb1",
+        &[7, 0],
+        None,
+    ),
+    (
+        "`more` twice, then getstatic and `show`",
+        b"\xb8\0\x16\xb8\0\x16\xb2\0\x0b\xb8\0\x0f\xb1",
+        &[2, 4, 4],
+        None,
+    ),
+    (
+        "istore_0 iload_0: the local is kept",
+        b"\x08\x3b\x07\x1a\x60\xb8\0\x0f\xb1",
+        &[9],
+        None,
+    ),
+    ("iadd of nothing", b"\x60\xb1", &[], Some((0, 1))),
+    (
+        "three operands, where there is room for two",
+        b"\x03\x03\x03\xb1",
+        &[],
+        Some((2, 3)),
+    ),
+    ("no return", b"\x03\xb3\0\x0b", &[], Some((1, 5))),
+];
+
+// The bytes of `Shop` with this code of `main`.
+fn bytes_with(alloc: Global, code: &[u8]) -> Result<Vec<u8>, Fail> {
+    let mut bytes = Vec::from_slice(alloc, HEAD)?;
+    let many = code.len().min(200) as u8;
+    bytes.extend_from_slice(&[many + 12, 0, 2, 0, 1, 0, 0, 0, many])?;
+    bytes.extend_from_slice(code)?;
+    bytes.extend_from_slice(TAIL)?;
+    Ok(bytes)
+}
+
+// The number 7 for a channel of `Shop`.
+fn inputs(alloc: Global, channel: Name) -> Result<Inputs, Fail> {
+    let mut numbers = List::new(alloc);
+    numbers.push(7)?;
+    let mut channels = List::new(alloc);
+    channels.push(ChannelInput {
+        class: Name::new(alloc, b"Shop")?,
+        channel,
+        numbers,
+    })?;
+    Ok(Inputs { channels })
+}
+
+// A machine for these bytes, where they are a class file that links.
+fn machine(alloc: Global, bytes: &[u8]) -> Result<Machine, Fail>
+    ensures { IfOk result (λ machine. steps_of machine ≡ 0) }
+{
+    let linked = linked(alloc, bytes)?;
+    let inputs = inputs(alloc, Name::new(alloc, b"ask")?)?;
+    Ok(machine_places::machine(alloc, linked, inputs)?)
+}
+
+// How many instructions a run takes at most.
+const MOST: u32 = 100;
+
+// The number that an event shows.
+fn number_of(event: &Event) -> Option<i32> {
+    match event {
+        Event::Out(_, _, number) => Some(*number),
+        Event::Set(_, _, Val::Int(number)) => Some(*number),
+        _ => None,
+    }
+}
+
+// Runs to the end, and answers where bad code is met.
+fn run(machine: &mut Machine, numbers: &mut Vec<i32>) -> Result<Option<(u32, u8)>, Fail>
+    requires { steps_of machine.old ≡ 0 }
+{
+    for _step in 0..MOST {
+        match machine.step() {
+            Ok(Turn::Silent) => {}
+            Ok(Turn::Happened(event)) => {
+                numbers.push(number_of(&event).ok_or("an event has a number")?)?;
+            }
+            Ok(Turn::Ended(Ending::End)) => return Ok(None),
+            Err(Stuck::BadCode { offset, reason, .. }) => return Ok(Some((offset, reason))),
+            _ => return Err(Fail::from("the run ends")),
+        }
+    }
+    Err(Fail::from("the run is short"))
+}
+
+// Whether the code makes these events, and bad code is met there.
+fn code_makes(
+    alloc: Global,
+    code: &[u8],
+    expected: &[i32],
+    bad: Option<(u32, u8)>,
+) -> Result<bool, Fail> {
+    let bytes = bytes_with(alloc, code)?;
+    let mut machine = machine(alloc, bytes.as_slice())?;
+    let mut numbers = Vec::new(alloc);
+    let met = run(&mut machine, &mut numbers)?;
+    Ok(met == bad && numbers.as_slice() == expected)
+}
+
+#[test]
+fn code_runs(rt: HostRuntime) -> Result<(), Fail> {
+    for (name, code, expected, bad) in RUNS {
+        expect(code_makes(rt.alloc(), code, expected, *bad)?, name)?;
+    }
+    Ok(())
+}
+
+const NONE: Option<MVal> = None;
+
+const ZERO: Option<MVal> = Some(MVal::Int(0));
+
+const ONE: Option<MVal> = Some(MVal::Int(1));
+
+const TWO: Option<MVal> = Some(MVal::Int(2));
+
+const THREE: Option<MVal> = Some(MVal::Int(3));
+
+const FIVE: Option<MVal> = Some(MVal::Int(5));
+
+const SEVEN: Option<MVal> = Some(MVal::Int(7));
+
+// A loop of three rounds: iconst_3 istore_0, then iinc of -1, iload_0 and ifgt back to it.
+const LOOP: &[u8] = b"\x06\x3b\x84\0\xff\x1a\x9d\xff\xfc\xb1";
+
+// The code of `main`, how many instructions are run at most, how many are, and the local and the two
+// operands behind them.
+const GOES: &[(&str, &[u8], u32, u32, &[Option<MVal>])] = &[
+    (
+        "iconst_2 iconst_3 iadd, and a write that is shown",
+        b"\x05\x06\x60\xb3\0\x0b\xb1",
+        MOST,
+        3,
+        &[NONE, FIVE, NONE],
+    ),
+    (
+        "two of them",
+        b"\x05\x06\x60\xb3\0\x0b\xb1",
+        2,
+        2,
+        &[NONE, TWO, THREE],
+    ),
+    (
+        "none of them",
+        b"\x05\x06\x60\xb3\0\x0b\xb1",
+        0,
+        0,
+        &[NONE, NONE, NONE],
+    ),
+    (
+        "iconst_5 istore_0 iinc of 2 iload_0, and a call of `show`",
+        b"\x08\x3b\x84\0\x02\x1a\xb8\0\x0f\xb1",
+        MOST,
+        4,
+        &[SEVEN, SEVEN, NONE],
+    ),
+    (
+        "goto over an instruction, iconst_3, and the return",
+        b"\xa7\0\x04\x02\x06\xb1",
+        MOST,
+        2,
+        &[NONE, THREE, NONE],
+    ),
+    ("a loop to its end", LOOP, MOST, 11, &[ZERO, NONE, NONE]),
+    ("ten of its eleven", LOOP, 10, 10, &[ZERO, ZERO, NONE]),
+    (
+        "getstatic, and the return",
+        b"\xb2\0\x0b\xb1",
+        MOST,
+        1,
+        &[NONE, ZERO, NONE],
+    ),
+    (
+        "iconst_1 iconst_0, and a division that throws",
+        b"\x04\x03\x6c\xb1",
+        MOST,
+        2,
+        &[NONE, ONE, ZERO],
+    ),
+    ("bad code", b"\x60\xb1", MOST, 0, &[NONE, NONE, NONE]),
+];
+
+// Whether so many instructions of the code are run, and leave these places.
+fn code_goes(
+    alloc: Global,
+    code: &[u8],
+    most: u32,
+    many: u32,
+    places: &[Option<MVal>],
+) -> Result<bool, Fail> {
+    let bytes = bytes_with(alloc, code)?;
+    let mut machine = machine(alloc, bytes.as_slice())?;
+    let went = machine.go_on(most.min(MOST));
+    Ok(went == many && machine.places() == places)
+}
+
+#[test]
+fn code_goes_on(rt: HostRuntime) -> Result<(), Fail> {
+    for (name, code, most, many, places) in GOES {
+        expect(code_goes(rt.alloc(), code, *most, *many, places)?, name)?;
+    }
+    Ok(())
+}
+
+const CHANNELS: &[(&str, &[u8], Option<u32>)] = &[
+    ("an input fits", b"ask", None),
+    ("an output does not", b"show", Some(0)),
+];
+
+// Whether an input for this channel of the class fits.
+fn fits(alloc: Global, linked: &Linked, channel: &[u8], unfit: Option<u32>) -> Result<bool, Fail> {
+    if !Name::is_name(channel) {
+        return Ok(false);
+    }
+    let inputs = inputs(alloc, Name::new(alloc, channel)?)?;
+    Ok(inputs_fit(linked, &inputs) == unfit)
+}
+
+#[test]
+fn channels_are_looked_for(rt: HostRuntime) -> Result<(), Fail> {
+    let bytes = bytes_with(rt.alloc(), b"\xb1")?;
+    let linked = linked(rt.alloc(), bytes.as_slice())?;
+    for (name, channel, unfit) in CHANNELS {
+        expect(fits(rt.alloc(), &linked, channel, *unfit)?, name)?;
+    }
+    Ok(())
+}

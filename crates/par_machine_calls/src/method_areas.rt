@@ -1,0 +1,233 @@
+use crate::linked::{SHOP, linked};
+use par_actions::{Callee, Class, Field, Fit, Gives, Target};
+use par_inputs::read_inputs;
+use par_method_area::{MethodArea, NamedField};
+use par_values::value::MVal;
+use par_worked::expect;
+use std::alloc::Global;
+use std::test::Fail;
+
+fn area(alloc: Global) -> Result<MethodArea, Fail> {
+    let Ok(inputs) = read_inputs(alloc, b"Shop.ask: 7\n") else {
+        return Err(Fail::new("the line is right"));
+    };
+    let linked = linked(alloc, SHOP)?;
+    Ok(MethodArea::of(alloc, linked, &inputs)?)
+}
+
+// The length of the code of a method, its room, its locals, and what it gives.
+type Told = (usize, u16, u16, Gives);
+
+const CODES: &[(&str, u16, u16, Option<Told>)] = &[
+    ("main", 0, 0, Some((15, 2, 1, Gives::Nothing))),
+    ("next", 0, 1, Some((4, 2, 2, Gives::Number))),
+    ("show has no code", 0, 4, None),
+    ("there is no such method", 0, 6, None),
+    ("there is no such class", 1, 0, None),
+];
+
+fn code_told(area: &MethodArea, class: u16, method: u16) -> Option<Told> {
+    let code = area.code(class, method)?;
+    Some((code.bytes.len(), code.room, code.locals, code.gives))
+}
+
+#[test]
+fn codes_are_told(rt: HostRuntime) -> Result<(), Fail> {
+    let area = area(rt.alloc())?;
+    for (name, class, method, told) in CODES {
+        expect(code_told(&area, *class, *method) == *told, name)?;
+    }
+    Ok(())
+}
+
+// Where instructions of `main` start, and where none does.
+const STARTS: &[(u32, bool)] = &[(0, true), (1, false), (3, true), (4, true), (15, false)];
+
+fn starts_at(area: &MethodArea, at: u32) -> bool {
+    match area.code(0, 0) {
+        Some(code) => code.starts.has(at),
+        None => false,
+    }
+}
+
+#[test]
+fn starts_are_told(rt: HostRuntime) -> Result<(), Fail> {
+    let area = area(rt.alloc())?;
+    for (at, starts) in STARTS {
+        expect(starts_at(&area, *at) == *starts, "a start of `main`")?;
+    }
+    Ok(())
+}
+
+#[test]
+fn numbers_are_told(rt: HostRuntime) -> Result<(), Fail> {
+    let area = area(rt.alloc())?;
+    expect(area.number(0, 34) == Some(70000), "a number")?;
+    expect(area.number(0, 2).is_none(), "a class")
+}
+
+// The owner of a field, the field, and whether it is that of a lock.
+type ToldField = (Fit, Field, bool);
+
+const FIELDS: &[(&str, u16, Option<ToldField>)] = &[
+    (
+        "a static field",
+        19,
+        Some((
+            Fit::OfClass(0),
+            Field {
+                is_static: true,
+                fit: Fit::Number,
+                place: 0,
+            },
+            false,
+        )),
+    ),
+    (
+        "a field of objects",
+        23,
+        Some((
+            Fit::OfClass(0),
+            Field {
+                is_static: false,
+                fit: Fit::OfClass(0),
+                place: 0,
+            },
+            false,
+        )),
+    ),
+    (
+        "that of lock 2, behind the one static field",
+        43,
+        Some((
+            Fit::Nothing,
+            Field {
+                is_static: true,
+                fit: Fit::Number,
+                place: 3,
+            },
+            true,
+        )),
+    ),
+    ("a method", 8, None),
+];
+
+fn told(named: NamedField) -> ToldField {
+    (named.owner, named.field, named.is_lock)
+}
+
+#[test]
+fn fields_are_told(rt: HostRuntime) -> Result<(), Fail> {
+    let area = area(rt.alloc())?;
+    for (name, index, field) in FIELDS {
+        expect(area.field(0, *index).map(told) == *field, name)?;
+    }
+    Ok(())
+}
+
+// The number of a class, how many fields an object has, whether it is an exception, and whether one
+// is made.
+type ToldClass = (u16, usize, bool, bool);
+
+const CLASSES: &[(&str, u16, Option<ToldClass>)] = &[
+    ("a file", 2, Some((0, 1, false, true))),
+    ("null that is met", 33, Some((2, 0, true, true))),
+    ("all objects", 4, Some((0, 0, false, false))),
+    ("a field", 19, None),
+];
+
+fn class_told(area: &MethodArea, index: u16) -> Option<ToldClass> {
+    let class: Class = area.class(0, index)?;
+    Some((
+        class.number,
+        class.first.len(),
+        class.is_exception,
+        class.is_made,
+    ))
+}
+
+#[test]
+fn classes_are_told(rt: HostRuntime) -> Result<(), Fail> {
+    let area = area(rt.alloc())?;
+    for (name, index, class) in CLASSES {
+        expect(class_told(&area, *index) == *class, name)?;
+    }
+    expect(
+        area.exceptions() == [false, true, true].as_slice(),
+        "the file, and two classes of exceptions",
+    )
+}
+
+// Whether a method is static, how many arguments it takes, whether it gives a result, and what it
+// does.
+type ToldCallee = (bool, usize, bool, Target);
+
+const CALLEES: &[(&str, u16, Option<ToldCallee>)] = &[
+    (
+        "next",
+        8,
+        Some((
+            true,
+            1,
+            true,
+            Target::Code {
+                class: 0,
+                method: 1,
+                locals: 2,
+                room: 2,
+            },
+        )),
+    ),
+    ("show", 27, Some((true, 1, false, Target::Output))),
+    ("ask", 31, Some((true, 0, true, Target::Input(Some(0))))),
+    (
+        "the initializer of all objects",
+        37,
+        Some((false, 0, false, Target::Nothing)),
+    ),
+    ("a class", 2, None),
+];
+
+fn callee_told(area: &MethodArea, index: u16) -> Option<ToldCallee> {
+    let callee: Callee = area.callee(0, index)?;
+    Some((
+        callee.is_static,
+        callee.takes.len(),
+        callee.gives,
+        callee.target,
+    ))
+}
+
+#[test]
+fn methods_are_told(rt: HostRuntime) -> Result<(), Fail> {
+    let area = area(rt.alloc())?;
+    for (name, index, callee) in CALLEES {
+        expect(callee_told(&area, *index) == *callee, name)?;
+    }
+    Ok(())
+}
+
+#[test]
+fn names_are_handed_out(rt: HostRuntime) -> Result<(), Fail> {
+    let area = area(rt.alloc())?;
+    expect(area.class_name(0) == b"Shop".as_slice(), "the file")?;
+    expect(
+        area.class_name(2) == b"NullPointerException".as_slice(),
+        "null that is met",
+    )?;
+    expect(area.method_name(0, 1) == b"next".as_slice(), "a method")?;
+    let names = area.member(0, 27);
+    expect(
+        names.class == b"Shop".as_slice() && names.name == b"show".as_slice(),
+        "a channel",
+    )
+}
+
+#[test]
+fn first_values_are_told(rt: HostRuntime) -> Result<(), Fail> {
+    let area = area(rt.alloc())?;
+    let first = area.first_statics();
+    expect(first.len() == 257, "one static field and 256 locks")?;
+    expect(first[0] == MVal::Int(0), "0")?;
+    expect(area.linked().files().len() == 1, "the file")
+}

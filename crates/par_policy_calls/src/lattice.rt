@@ -1,0 +1,323 @@
+// What is made of policies and of sets, on worked examples, with ample memory.
+ghost use Rattle.std.specs.Prelude.{◌≤◌};
+
+use crate::policies::{ALICE, BOB, GOLD, PAID, Part, lists, lock_set, paid_and_gold, policy};
+use par_atoms::Atoms;
+use par_bits::Bits;
+use par_policy::{Lockset, NoMemory, Policy, join, meet, special};
+use par_worked::expect;
+use std::alloc::Global;
+use std::test::Fail;
+
+const JOINS: &[(&str, &[Part], &[Part], &[Part])] = &[
+    (
+        "by paid, and by gold",
+        &[(ALICE, &[PAID])],
+        &[(ALICE, &[GOLD])],
+        &[(ALICE, &[PAID, GOLD])],
+    ),
+    (
+        "for both, and for one",
+        &[(ALICE, &[]), (BOB, &[])],
+        &[(ALICE, &[PAID])],
+        &[(ALICE, &[PAID])],
+    ),
+    ("with top", &[(ALICE, &[])], &[], &[]),
+];
+
+fn joins_to(alloc: Global, one: &[Part], other: &[Part], made: &[Part]) -> Result<bool, NoMemory> {
+    let one = policy(alloc, one)?;
+    let other = policy(alloc, other)?;
+    let join = join(alloc, &one, &other)?;
+    lists(alloc, join.clauses(), made)
+}
+
+const MEETS: &[(&str, &[Part], &[Part], &[Part])] = &[
+    (
+        "what is covered goes",
+        &[(ALICE, &[PAID])],
+        &[(ALICE, &[])],
+        &[(ALICE, &[])],
+    ),
+    (
+        "of two actors",
+        &[(BOB, &[GOLD])],
+        &[(ALICE, &[PAID])],
+        &[(ALICE, &[PAID]), (BOB, &[GOLD])],
+    ),
+    ("with top", &[], &[(BOB, &[])], &[(BOB, &[])]),
+];
+
+fn meets_in(alloc: Global, one: &[Part], other: &[Part], made: &[Part]) -> Result<bool, NoMemory> {
+    let one = policy(alloc, one)?;
+    let other = policy(alloc, other)?;
+    let meet = meet(alloc, &one, &other)?;
+    lists(alloc, meet.clauses(), made)
+}
+
+const SPECIALISED: &[(&str, &[Part], &[u16], &[Part])] = &[
+    (
+        "paid is open",
+        &[(BOB, &[PAID, GOLD])],
+        &[PAID],
+        &[(BOB, &[GOLD])],
+    ),
+    (
+        "both are open",
+        &[(BOB, &[PAID, GOLD]), (ALICE, &[GOLD])],
+        &[GOLD, PAID],
+        &[(ALICE, &[]), (BOB, &[])],
+    ),
+    (
+        "what is covered then goes",
+        &[(BOB, &[PAID]), (BOB, &[GOLD])],
+        &[PAID],
+        &[(BOB, &[])],
+    ),
+];
+
+fn is_special(
+    alloc: Global,
+    whole: &[Part],
+    opened: &[u16],
+    made: &[Part],
+) -> Result<bool, NoMemory> {
+    let whole = policy(alloc, whole)?;
+    let opened = lock_set(alloc, opened)?;
+    let special = special(alloc, &whole, &opened)?;
+    lists(alloc, special.clauses(), made)
+}
+
+#[test]
+fn policies_of_policies(rt: HostRuntime) -> Result<(), Fail> {
+    for (name, one, other, made) in JOINS {
+        expect(joins_to(rt.alloc(), one, other, made)?, name)?;
+    }
+    for (name, one, other, made) in MEETS {
+        expect(meets_in(rt.alloc(), one, other, made)?, name)?;
+    }
+    for (name, whole, opened, made) in SPECIALISED {
+        expect(is_special(rt.alloc(), whole, opened, made)?, name)?;
+    }
+    Ok(())
+}
+
+// Two lock sets, what is in either, what is in the first alone, and what is in both.
+const LOCK_SETS: &[(&str, [&[u16]; 5])] = &[
+    (
+        "one lock in both",
+        [
+            &[PAID, GOLD],
+            &[PAID, 7],
+            &[PAID, GOLD, 7],
+            &[GOLD],
+            &[PAID],
+        ],
+    ),
+    ("no lock", [&[], &[GOLD], &[GOLD], &[], &[]]),
+    ("no other lock", [&[GOLD], &[], &[GOLD], &[GOLD], &[]]),
+];
+
+fn is_same(alloc: Global, set: &Lockset, want: &[u16]) -> Result<bool, NoMemory> {
+    let want = lock_set(alloc, want)?;
+    Ok(set.within(&want) && want.within(set))
+}
+
+fn lock_sets_made(alloc: Global, sets: &[&[u16]; 5]) -> Result<bool, NoMemory> {
+    let one = lock_set(alloc, sets[0])?;
+    let other = lock_set(alloc, sets[1])?;
+    let union = is_same(alloc, &one.union(alloc, &other)?, sets[2])?;
+    let minus = is_same(alloc, &one.minus(alloc, &other)?, sets[3])?;
+    let both = is_same(alloc, &one.both(alloc, &other)?, sets[4])?;
+    Ok(union && minus && both)
+}
+
+#[test]
+fn sets_of_locks(rt: HostRuntime) -> Result<(), Fail> {
+    for (name, sets) in LOCK_SETS {
+        expect(lock_sets_made(rt.alloc(), sets)?, name)?;
+    }
+    Ok(())
+}
+
+fn has<const W: usize>(set: &Bits<W>, number: u32) -> bool
+    requires { W ≤ 64 }
+{
+    (number as usize) < 64 * W && set.has(number)
+}
+
+// The set of those of the numbers that it can hold.
+fn set_of<const W: usize>(numbers: &[u32]) -> Bits<W>
+    requires { W ≤ 64 }
+{
+    let mut set = Bits::empty();
+    for number in numbers {
+        if (*number as usize) < 64 * W {
+            set = set.with(*number);
+        }
+    }
+    set
+}
+
+fn has_each<const W: usize>(set: &Bits<W>, numbers: &[u32]) -> bool
+    requires { W ≤ 64 }
+{
+    for number in numbers {
+        if !has(set, *number) {
+            return false;
+        }
+    }
+    true
+}
+
+fn has_one<const W: usize>(set: &Bits<W>, numbers: &[u32]) -> bool
+    requires { W ≤ 64 }
+{
+    for number in numbers {
+        if has(set, *number) {
+            return true;
+        }
+    }
+    false
+}
+
+// Whether the set of these numbers has them and none of the others.
+fn holds<const W: usize>(numbers: &[u32], others: &[u32]) -> bool
+    requires { W ≤ 64 }
+{
+    let set: Bits<W> = set_of(numbers);
+    let count = set.count() as usize == numbers.len();
+    count && has_each(&set, numbers) && !has_one(&set, others)
+}
+
+const IN_ONE_WORD: &[(&str, &[u32], &[u32])] = &[
+    ("none of a word", &[], &[0, 1, 62, 63]),
+    ("the first of a word", &[0], &[1, 62, 63]),
+    ("the last of a word", &[63], &[0, 1, 62]),
+    ("both ends of a word", &[0, 63], &[1, 62]),
+];
+
+const IN_64_WORDS: &[(&str, &[u32], &[u32])] = &[
+    ("none of 64 words", &[], &[0, 63, 64, 4095]),
+    ("the first of all", &[0], &[63, 64, 4032, 4095]),
+    ("the last of the first word", &[63], &[0, 64, 127, 4095]),
+    ("the first of the second word", &[64], &[0, 63, 128, 4095]),
+    ("the last of all", &[4095], &[0, 63, 64, 4032, 4094]),
+    ("all edges", &[0, 63, 64, 4095], &[1, 62, 65, 127, 4094]),
+];
+
+#[test]
+fn edges() -> Result<(), Fail> {
+    for (name, numbers, others) in IN_ONE_WORD {
+        expect(holds::<1>(numbers, others), name)?;
+    }
+    for (name, numbers, others) in IN_64_WORDS {
+        expect(holds::<64>(numbers, others), name)?;
+    }
+    Ok(())
+}
+
+// Two sets, what is in either, what is in both, and what is in the first alone.
+const SETS: &[(&str, [&[u32]; 5])] = &[
+    (
+        "in four words",
+        [
+            &[0, 63, 64, 255],
+            &[63, 128, 255],
+            &[0, 63, 64, 128, 255],
+            &[63, 255],
+            &[0, 64],
+        ],
+    ),
+    ("none, and one", [&[], &[255], &[255], &[], &[]]),
+];
+
+fn are_same(one: &Bits<4>, other: &Bits<4>) -> bool {
+    one.within(other) && other.within(one)
+}
+
+fn sets_made(sets: &[&[u32]; 5]) -> bool {
+    let one = set_of(sets[0]);
+    let other = set_of(sets[1]);
+    let union = are_same(&one.union(&other), &set_of(sets[2]));
+    let meet = are_same(&one.meet(&other), &set_of(sets[3]));
+    let minus = are_same(&one.minus(&other), &set_of(sets[4]));
+    union && meet && minus
+}
+
+#[test]
+fn sets_of_numbers() -> Result<(), Fail> {
+    for (name, sets) in SETS {
+        expect(sets_made(sets), name)?;
+    }
+    let ends: Bits<4> = set_of(&[0, 255]);
+    expect(ends.count() == 2, "0 and 255 are two")?;
+    expect(ends.within(&ends), "a set is within itself")?;
+    expect(!ends.within(&Bits::empty()), "two are not within none")
+}
+
+fn atoms_of(numbers: &[u16]) -> Atoms {
+    let mut set = Atoms::empty();
+    for number in numbers {
+        if *number < 256 {
+            set = set.with(*number);
+        }
+    }
+    set
+}
+
+#[test]
+fn sets_of_policies() -> Result<(), Fail> {
+    let ends = atoms_of(&[0, 255]);
+    let last = atoms_of(&[255]);
+    expect(ends.has(0) && ends.has(255), "both ends are there")?;
+    expect(!last.has(0) && !last.has(254), "the last is alone")?;
+    expect(last.within(&ends) && !ends.within(&last), "one of two")?;
+    let both = atoms_of(&[0]).union(&last);
+    expect(both.within(&ends) && ends.within(&both), "one and one")
+}
+
+// Whether these are numbers of policies in the table whose join is below `q`, where the locks are
+// open.
+fn join_below(numbers: &[u16], table: &[Policy], opened: &Bits<4>, q: &Policy) -> bool {
+    let mut set = Atoms::empty();
+    for number in numbers {
+        if *number >= 256 || usize::from(*number) >= table.len() {
+            return false;
+        }
+        set = set.with(*number);
+    }
+    set.leq_at(table, opened, q)
+}
+
+// What alice sees by Paid, and what she sees by Gold, beside what she sees by some locks, where
+// others are open.
+const BELOW: &[(&str, &[u16], &[u32], &[u16], bool)] = &[
+    ("each is below both", &[0, 1], &[], &[PAID, GOLD], true),
+    ("one is below gold", &[0, 1], &[], &[GOLD], false),
+    ("both are, once paid is open", &[0, 1], &[0], &[GOLD], true),
+    ("not with another lock", &[0, 1], &[255], &[GOLD], false),
+    ("none is below gold", &[], &[], &[GOLD], true),
+];
+
+fn is_below(
+    alloc: Global,
+    numbers: &[u16],
+    opened: &[u32],
+    locks: &'static [u16],
+) -> Result<bool, NoMemory> {
+    let table = paid_and_gold(alloc)?;
+    let q = policy(alloc, &[(ALICE, locks)])?;
+    Ok(join_below(numbers, table.as_slice(), &set_of(opened), &q))
+}
+
+#[test]
+fn joins_as_sets(rt: HostRuntime) -> Result<(), Fail> {
+    for (name, numbers, opened, locks, below) in BELOW {
+        expect(
+            is_below(rt.alloc(), numbers, opened, locks)? == *below,
+            name,
+        )?;
+    }
+    Ok(())
+}

@@ -1,0 +1,27 @@
+//! Worked rows of class files and their runs: some are compiled, most made by hand, with what
+//! comes of them over files and output in memory. The expected answers were worked out by hand
+//! from the rules of class files. The crate is tests alone, and nothing stands on it.
+#![tactic(auto)]
+
+#[cfg(test)]
+mod compiled;
+#[cfg(test)]
+mod hand_made;
+#[cfg(test)]
+mod linking;
+#[cfg(test)]
+mod loading;
+#[cfg(test)]
+mod machine_runs;
+#[cfg(test)]
+mod numbers;
+#[cfg(test)]
+mod objects;
+#[cfg(test)]
+mod programs;
+#[cfg(test)]
+mod reasons;
+#[cfg(test)]
+mod runs;
+#[cfg(test)]
+mod worked;
