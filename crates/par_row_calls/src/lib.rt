@@ -1,5 +1,6 @@
 //! What the crates of rows share: calls of the tool over files and output in memory, the common
-//! source, and the functions that go over a table. Nothing but tests stands on it.
+//! source, and the functions that go over a table. Nothing but tests stands on it, and no clause
+//! says what they do, as none says what a test does.
 #![tactic(auto)]
 
 use par_io::{MemFolder, MemSink, NoMemory};
@@ -12,10 +13,13 @@ use std::test::Fail;
 /// What a call puts, and the status that it answers.
 pub type Answer = (&'static str, u8);
 
+/// A source is accepted, and nothing is written.
 pub const ACCEPTED: Answer = ("accepted\n", 0);
 
+/// A source is accepted, and its class file is written.
 pub const COMPILED: Answer = ("accepted 1\n", 0);
 
+/// A source is accepted, and is no straight-line source that its own check lets pass.
 pub const NOT_BUILT: Answer = ("not built\n", 9);
 
 /// A body that reads the key and shows it.
