@@ -1,5 +1,5 @@
 -- Linked class files are few.
-use Rattle.std.proofs.Common.{◌≡◌, ◌≤◌, Bool, true, false, List, length, Some, None, refl, sym, ◌∙◌}
+use Rattle.std.proofs.Common.{◌≡◌, ◌≤◌, Bool, true, false, List, length, None, refl, sym, ◌∙◌}
 use Rattle.std.proofs.lemmas.Bool.{ltb-false}
 use Rattle.par_class.specs.declared.file.ClassFile.{ClassFile}
 use Rattle.par_link.specs.Order.{first_broken}

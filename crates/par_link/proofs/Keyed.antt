@@ -1,22 +1,33 @@
--- Members are told apart by the places of their texts in the constant pool.
+-- Members are told apart by the numbers of their texts.
 use Rattle.std.proofs.Common.{◌≡◌, ℕ, zero, suc, ◌+◌, ◌<◌, ◌≤◌, ◌==◌, Bool, true, false, cond, ◌&&◌}
 use Rattle.std.proofs.Common.{◌||◌, List, [], ◌∷◌, ◌++◌, length, map, take, get_or, Option, Some}
 use Rattle.std.proofs.Common.{None, is_some, slice_get, refl, sym, ap, ◌∙◌, arith}
+use Rattle.std.specs.Prelude.{IsTrue}
 use Rattle.std.proofs.lemmas.Grind.{common_steps}
 use Rattle.std.proofs.lemmas.List.{map-append}
+use Rattle.std.proofs.lemmas.List.Folds.{list_any-append}
 use Rattle.std.proofs.lemmas.Bool.{eq-eqb, eqb-true}
+use Rattle.std.proofs.lemmas.Option.{none-some, same_Some}
 use Rattle.std.proofs.lemmas.Slice.Eq.{bytes_eq-Decides}
 use Rattle.std.specs.List.{position, position_from, list_any}
-use Rattle.std.specs.Option.{option_eq, unwrap_or}
+use Rattle.std.specs.Option.{option_and_then, unwrap_or}
 use Rattle.std.specs.Str.{bytes_eq}
 use Rattle.par_pool.specs.declared.constant.Constant.{Constant}
-use Rattle.par_index.proofs.Places.{position-from, position-is_some, position-map}
+use Rattle.par_pool.specs.declared.constant.Constant.TheVariants as constant
+use Rattle.par_pool.specs.Entries.{entry_at}
+use Rattle.par_class.specs.declared.file.ClassFile.{ClassFile}
+use Rattle.par_class.specs.declared.file.FieldFile.{FieldFile}
+use Rattle.par_class.specs.declared.file.MethodFile.{MethodFile}
+use Rattle.par_index.proofs.Places.{position-from, position-is_some, position-map, position-within}
 use Rattle.par_single.specs.Descriptors.{Text}
-use Rattle.par_single.specs.Members.{Member, text_of, text_at}
+use Rattle.par_single.specs.Members.{Member, text_of, text_at, class_name_at, member_of, member_at}
 use Rattle.par_link.specs.declared.keys.Key.{Key}
 use Rattle.par_link.specs.Firsts.{first_repeated}
-use Rattle.par_link.specs.Named.{is_same}
-use Rattle.par_link.specs.Placed.{pool_texts, key_of, same_key}
+use Rattle.par_link.specs.declared.entry.Named.TheVariants as named
+use Rattle.par_link.specs.Named.{is_same, fields_of, methods_of, place_in, class_named, declared}
+use Rattle.par_link.specs.Named.{field_of, method_of, field_declared, method_declared}
+use Rattle.par_link.specs.Placed.{pool_texts, all_texts, number_of, key_of, same_key, keys_of}
+use Rattle.par_link.specs.Placed.{key_place, AreAmong}
 use Rattle.par_link.proofs.Passing.{same_text}
 use Rattle.par_link.proofs.Placing.{repeated-map}
 
@@ -60,13 +71,10 @@ from-both {A} p q k (x ∷ xs) n one two =
 equal : (a : Text) → bytes_eq a a ≡ true
 equal a = (bytes_eq-Decides a a).1 refl
 
-abbrev same_place : Option ℕ → Option ℕ → Bool
-same_place one other = option_eq (λ n m. n == m) one other
-
--- texts are the same where they stand first at one place
-place-tells : (texts : List Text) (a b : Text) → list_any (bytes_eq b) texts ≡ true
-    → same_place (position (bytes_eq a) texts) (position (bytes_eq b) texts) ≡ bytes_eq a b
-place-tells texts a b there =
+-- texts are the same where they have one number
+number-tells : (texts : List Text) (a b : Text) → list_any (bytes_eq b) texts ≡ true
+    → (number_of texts a == number_of texts b) ≡ bytes_eq a b
+number-tells texts a b there =
     in_case (bytes_eq a b) (position (bytes_eq a) texts) (position (bytes_eq b) texts)
     refl refl refl
   where
@@ -84,24 +92,36 @@ place-tells texts a b there =
         let second : b ≡ both.0 = same_text b both.0 both.2 in
         ap (bytes_eq a) (second ∙ sym first) ∙ equal a
 
-    in_case : (e : Bool) (o r : Option ℕ) → bytes_eq a b ≡ e → position (bytes_eq a) texts ≡ o
-        → position (bytes_eq b) texts ≡ r → same_place o r ≡ e
-    in_case e o None is one two = let none = ap is_some (sym two) ∙ some in absurd (cc none)
-    in_case true None (Some m) is one two =
-        let same : Some m ≡ None =
-        sym two ∙ ap (λ t. position (bytes_eq t) texts) (sym (same_text a b is)) ∙ one in
-        absurd (cc same)
-    in_case false None (Some m) is one two = refl
-    in_case true (Some n) (Some m) is one two =
-        let same : Some n ≡ Some m =
-        sym one ∙ ap (λ t. position (bytes_eq t) texts) (same_text a b is) ∙ two in
-        eq-eqb n m (cc same)
-    in_case false (Some n) (Some m) is one two = in_eq (n == m) refl where
+    unequal : (n m : ℕ) → (n ≡ m → ⊥) → (n == m) ≡ false
+    unequal n m differ = in_eq (n == m) refl where
       in_eq : (b : Bool) → (n == m) ≡ b → (n == m) ≡ false
-      in_eq false differ = differ
-      in_eq true same =
-          let here = apart n one (two ∙ ap Some (sym (eqb-true n m same))) in
-          let never : true ≡ false = sym here ∙ is in absurd (cc never)
+      in_eq false e = e
+      in_eq true e = absurd (differ (eqb-true n m e))
+
+    in_case : (e : Bool) (o r : Option ℕ) → bytes_eq a b ≡ e → position (bytes_eq a) texts ≡ o
+        → position (bytes_eq b) texts ≡ r
+        → (unwrap_or o (length texts) == unwrap_or r (length texts)) ≡ e
+    in_case e o None is one two = let none = ap is_some (sym two) ∙ some in absurd (cc none)
+    in_case true o (Some m) is one two =
+        let same : o ≡ Some m =
+        sym one ∙ ap (λ t. position (bytes_eq t) texts) (same_text a b is) ∙ two in
+        eq-eqb (unwrap_or o (length texts)) m (ap (λ p. unwrap_or p (length texts)) same)
+    in_case false None (Some m) is one two =
+        let within = position-within (bytes_eq b) texts m two in
+        unequal (length texts) m (λ same. absurd (omega (arith, within, same)))
+    in_case false (Some n) (Some m) is one two =
+        unequal n m
+        (λ same.
+        let here = apart n one (two ∙ ap Some (sym same)) in
+        let never : true ≡ false = sym here ∙ is in absurd (cc never))
+
+-- a number is at most the count of the texts
+pub number-within : (texts : List Text) (a : Text) → number_of texts a ≤ length texts
+number-within texts a = in_case (position (bytes_eq a) texts) refl where
+  in_case : (o : Option ℕ) → position (bytes_eq a) texts ≡ o
+      → unwrap_or o (length texts) ≤ length texts
+  in_case None is = omega arith
+  in_case (Some n) is = let within = position-within (bytes_eq a) texts n is in omega arith
 
 -- ---- texts of a constant pool
 
@@ -143,52 +163,164 @@ text-made f entries (suc place) = later entries place where
   later (c ∷ entries) zero = refl
   later (c ∷ entries) (suc place) = later entries place
 
+-- ---- texts of all files
+
+or-true : (a b : Bool) → b ≡ true → (a || b) ≡ true
+or-true true b is = refl
+or-true false b is = is
+
+module _ (index : ℕ) where
+  among : (files : List ClassFile) (place : ℕ) (file : ClassFile)
+      → slice_get files place ≡ Some file
+      → list_any (bytes_eq (text_at file.pool.entries index)) (all_texts files) ≡ true
+  among [] place file is = absurd (none-some file is)
+  among (first ∷ files) zero file is =
+      list_any-append (bytes_eq (text_at file.pool.entries index))
+      (pool_texts first.pool.entries) (all_texts files)
+      ∙ ap (λ (f : ClassFile). list_any (bytes_eq (text_at file.pool.entries index))
+      (pool_texts f.pool.entries)
+      || list_any (bytes_eq (text_at file.pool.entries index)) (all_texts files))
+      (same_Some first file is)
+      ∙ ap (λ b. b || list_any (bytes_eq (text_at file.pool.entries index)) (all_texts files))
+      (text-there file.pool.entries index)
+  among (first ∷ files) (suc place) file is =
+      list_any-append (bytes_eq (text_at file.pool.entries index))
+      (pool_texts first.pool.entries) (all_texts files)
+      ∙ or-true
+      (list_any (bytes_eq (text_at file.pool.entries index)) (pool_texts first.pool.entries)) _
+      (among files place file is)
+
+-- the texts of the file at a place are among them
+pub are-among : (files : List ClassFile) (place : ℕ) (file : ClassFile)
+    → slice_get files place ≡ Some file → AreAmong files file
+are-among files place file is = λ index. among index files place file is
+
 -- ---- members, by the indices of their names and descriptors
 
-module _ {A : Type 0} (entries : List Constant) (name descriptor : A → ℕ) where
-  abbrev member : A → Member
-  member x =
-      record {
-        class = [];
-        name = text_at entries (name x);
-        descriptor = text_at entries (descriptor x);
-      }
+module _ {A : Type 0} (files : List ClassFile) (entries : List Constant) (name descriptor : A → ℕ)
+  where
+    abbrev member : A → Member
+    member x =
+        record {
+          class = [];
+          name = text_at entries (name x);
+          descriptor = text_at entries (descriptor x);
+        }
 
-  abbrev key : Member → Key
-  key m = key_of (pool_texts entries) m
+    -- with one key more
+    pub keys-more : (keys : List Key) (xs : List A) (i : ℕ) (x : A) → i < length xs
+        → x ≡ get_or xs i x → keys ≡ keys_of files (map member (take i xs))
+        → keys ++ key_of files (member x) ∷ [] ≡ keys_of files (map member (take (i + 1) xs))
+    keys-more keys xs i x within is all =
+        let more : take (i + 1) xs ≡ take i xs ++ x ∷ [] = grind (arith, common_steps) in
+        ap (λ ks. ks ++ key_of files (member x) ∷ []) all
+        ∙ sym (map-append (key_of files) (map member (take i xs)) (member x ∷ []))
+        ∙ ap (keys_of files) (sym (map-append member (take i xs) (x ∷ [])))
+        ∙ ap (λ ys. keys_of files (map member ys)) (sym more)
 
-  key-tells : (m : Member) (x : A) → same_key (key m) (key (member x)) ≡ is_same m (member x)
-  key-tells m x =
-      λ i.
-      place-tells (pool_texts entries) m.name (text_at entries (name x))
-      (text-there entries (name x)) i
-      && place-tells (pool_texts entries) m.descriptor (text_at entries (descriptor x))
-      (text-there entries (descriptor x)) i
+    module _ (there : (index : ℕ)
+        → IsTrue (list_any (bytes_eq (text_at entries index)) (all_texts files))) where
+      key-tells : (m : Member) (x : A)
+          → same_key (key_of files m) (key_of files (member x)) ≡ is_same m (member x)
+      key-tells m x =
+          λ i.
+          number-tells (all_texts files) m.name (text_at entries (name x)) (there (name x)) i
+          && number-tells (all_texts files) m.descriptor (text_at entries (descriptor x))
+          (there (descriptor x)) i
 
-  pub keys-place : (m : Member) (xs : List A)
-      → position (same_key (key m)) (map key (map member xs))
-      ≡ position (is_same m) (map member xs)
-  keys-place m xs =
-      position-map (same_key (key m)) key (map member xs)
-      ∙ position-map (λ other. same_key (key m) (key other)) member xs
-      ∙ (λ i. position (λ x. key-tells m x i) xs)
-      ∙ sym (position-map (is_same m) member xs)
+      keys-place : (m : Member) (xs : List A)
+          → position (same_key (key_of files m)) (keys_of files (map member xs))
+          ≡ position (is_same m) (map member xs)
+      keys-place m xs =
+          position-map (same_key (key_of files m)) (key_of files) (map member xs)
+          ∙ position-map (λ other. same_key (key_of files m) (key_of files other)) member xs
+          ∙ (λ i. position (λ x. key-tells m x i) xs)
+          ∙ sym (position-map (is_same m) member xs)
 
-  pub keys-repeated : (xs : List A)
-      → first_repeated same_key (map key (map member xs)) ≡ first_repeated is_same (map member xs)
-  keys-repeated xs =
-      repeated-map same_key key (map member xs)
-      ∙ repeated-map (λ m other. same_key (key m) (key other)) member xs
-      ∙ (λ i. first_repeated (λ x y. key-tells (member x) y i) xs)
-      ∙ sym (repeated-map is_same member xs)
+      keys-repeated : (xs : List A)
+          → first_repeated same_key (keys_of files (map member xs))
+          ≡ first_repeated is_same (map member xs)
+      keys-repeated xs =
+          repeated-map same_key (key_of files) (map member xs)
+          ∙ repeated-map (λ m other. same_key (key_of files m) (key_of files other)) member xs
+          ∙ (λ i. first_repeated (λ x y. key-tells (member x) y i) xs)
+          ∙ sym (repeated-map is_same member xs)
 
-  -- with one key more
-  pub keys-more : (keys : List Key) (xs : List A) (i : ℕ) (x : A) → i < length xs
-      → x ≡ get_or xs i x → keys ≡ map key (map member (take i xs))
-      → keys ++ key (member x) ∷ [] ≡ map key (map member (take (i + 1) xs))
-  keys-more keys xs i x within is all =
-      let more : take (i + 1) xs ≡ take i xs ++ x ∷ [] = grind (arith, common_steps) in
-      ap (λ ks. ks ++ key (member x) ∷ []) all
-      ∙ sym (map-append key (map member (take i xs)) (member x ∷ []))
-      ∙ ap (map key) (sym (map-append member (take i xs) (x ∷ [])))
-      ∙ ap (λ ys. map key (map member ys)) (sym more)
+-- ---- fields and methods
+
+module _ (files : List ClassFile) (file : ClassFile) (there : AreAmong files file) where
+  pub fields-repeated : first_repeated same_key (keys_of files (fields_of file))
+      ≡ first_repeated is_same (fields_of file)
+  fields-repeated =
+      keys-repeated files file.pool.entries (λ (f : FieldFile). f.name)
+      (λ (f : FieldFile). f.descriptor) there file.fields
+
+  pub methods-repeated : first_repeated same_key (keys_of files (methods_of file))
+      ≡ first_repeated is_same (methods_of file)
+  methods-repeated =
+      keys-repeated files file.pool.entries (λ (m : MethodFile). m.name)
+      (λ (m : MethodFile). m.descriptor) there file.methods
+
+-- the place of a member is that of its key
+module _ (files : List ClassFile) (class : ℕ) (m : Member) where
+  pub field-place : key_place fields_of files class (key_of files m)
+      ≡ place_in fields_of files class m
+  field-place = in_file (slice_get files class) refl where
+    in_file : (o : Option ClassFile) → slice_get files class ≡ o
+        → option_and_then (λ file. position (same_key (key_of files m))
+        (keys_of files (fields_of file))) o
+        ≡ option_and_then (λ file. position (is_same m) (fields_of file)) o
+    in_file None is = refl
+    in_file (Some file) is =
+        keys-place files file.pool.entries (λ (f : FieldFile). f.name)
+        (λ (f : FieldFile). f.descriptor)
+        (are-among files class file is) m file.fields
+
+  pub method-place : key_place methods_of files class (key_of files m)
+      ≡ place_in methods_of files class m
+  method-place = in_file (slice_get files class) refl where
+    in_file : (o : Option ClassFile) → slice_get files class ≡ o
+        → option_and_then (λ file. position (same_key (key_of files m))
+        (keys_of files (methods_of file))) o
+        ≡ option_and_then (λ file. position (is_same m) (methods_of file)) o
+    in_file None is = refl
+    in_file (Some file) is =
+        keys-place files file.pool.entries (λ (f : MethodFile). f.name)
+        (λ (f : MethodFile). f.descriptor)
+        (are-among files class file is) m file.methods
+
+-- ---- what is declared in a class of the files
+
+-- the class of a member that an index names
+member-class : (entries : List Constant) (class : ℕ) (o : Option Constant)
+    → class_name_at entries class ≡ (member_of entries class o).class
+member-class entries class None = refl
+member-class entries class (Some (constant.Utf8 text)) = refl
+member-class entries class (Some (constant.Integer n)) = refl
+member-class entries class (Some (constant.Class name)) = refl
+member-class entries class (Some (constant.Text text)) = refl
+member-class entries class (Some (constant.Field of member)) = refl
+member-class entries class (Some (constant.Method of member)) = refl
+member-class entries class (Some (constant.NameType name descriptor)) = refl
+
+module _ (files : List ClassFile) (entries : List Constant) (class member place : ℕ)
+    (is : named.Class place ≡ class_named files (class_name_at entries class)) where
+  abbrev said : Member
+  said = member_at entries class member
+
+  of-class : named.Class place ≡ class_named files said.class
+  of-class = is ∙ ap (class_named files) (member-class entries class (entry_at entries member))
+
+  pub field-found : declared named.Field place
+      (key_place fields_of files place (key_of files said)) ≡ field_declared files said
+  unfolding field_of
+  field-found =
+      ap (declared named.Field place) (field-place files place said)
+      ∙ ap (field_of files said) of-class
+
+  pub method-found : declared named.Method place
+      (key_place methods_of files place (key_of files said)) ≡ method_declared files said
+  unfolding method_of
+  method-found =
+      ap (declared named.Method place) (method-place files place said)
+      ∙ ap (method_of files said) of-class

@@ -1,6 +1,8 @@
 pub mod Indices
 pub mod Kept
 pub mod Keyed
+pub mod Counted
+pub mod Digits
 pub mod Few
 pub mod Made
 pub mod Ordering

@@ -13,6 +13,9 @@ use par_single::member::{Naming, is_initializer};
 /// The greatest number of a lock that has a field.
 const LAST_LOCK: u32 = 255;
 
+/// The most digits of such a number.
+const MOST_DIGITS: usize = 3;
+
 /// The class of this name that every program has.
 pub(crate) fn builtin(name: &[u8]) -> Option<Builtin>
     ensures { result ≡ builtin name.now }
@@ -36,6 +39,10 @@ pub(crate) fn builtin(name: &[u8]) -> Option<Builtin>
 fn number_of(digits: &[u8]) -> Option<u8>
     ensures { result ≡ magnitude_of 255 digits.now }
 {
+    // A long text is not read to its end for each field that has it as its name.
+    if digits.len() > MOST_DIGITS {
+        return None;
+    }
     let number = magnitude_of(digits, LAST_LOCK)?;
     Some(number as u8)
 }

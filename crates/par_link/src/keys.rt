@@ -12,11 +12,11 @@ use par_lexer::list::NoMemory;
 use std::alloc::Global;
 
 /// What tells a field or a method from the others of its class: its name and its descriptor, each
-/// by the first index of such a text in the constant pool.
+/// by the number of the text among those of all files.
 #[derive(Clone, Copy, PartialEq, Eq, Hash)]
 pub(crate) struct Key {
-    pub(crate) name: Option<u16>,
-    pub(crate) descriptor: Option<u16>,
+    pub(crate) name: u32,
+    pub(crate) descriptor: u32,
 }
 
 /// The keys of the fields or of the methods of a class, in their order.

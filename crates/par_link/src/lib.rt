@@ -13,6 +13,7 @@
 
 mod builtin;
 mod channels;
+mod classes;
 pub mod entry;
 pub mod error;
 mod fault;

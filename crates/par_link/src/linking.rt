@@ -27,13 +27,13 @@ use std::alloc::Global;
 const MOST_FILES: usize = 128;
 
 /// What each constant of a file names.
-fn names_of(alloc: Global, tables: &Tables, file: &ClassFile) -> Result<List<Named>, NoMemory>
-    ensures { IfOk result (λ names. names ≡ names_of tables.now.files.now file.now) }
+fn names_of(alloc: Global, tables: &Tables, members: &Members) -> Result<List<Named>, NoMemory>
+    requires { members.now.texts.files.now ≡ tables.now.files.now }
+    ensures { IfOk result (λ names. names ≡ names_of tables.now.files.now members.now.file.now) }
 {
     let mut names = List::new(alloc);
-    let entries = file.pool.entries.as_slice();
-    for constant in entries {
-        names.push(tables.named_by(entries, constant))?;
+    for constant in members.file.pool.entries.as_slice() {
+        names.push(tables.named_by(members, constant))?;
     }
     Ok(names)
 }
@@ -45,14 +45,15 @@ fn linked_file(
     class: usize,
     members: &Members,
 ) -> Result<List<Named>, LinkError>
-    requires { class < 2 ^ 16 }
+    requires place { class < 2 ^ 16 }
+    requires among { members.now.texts.files.now ≡ tables.now.files.now }
     ensures names { IfOk result
         (λ names. names ≡ names_of tables.now.files.now members.now.file.now) }
     ensures unbroken { OnOk result (file_fault tables.now.files.now members.now.file.now ≡ None) }
     ensures broken { IfErr result
         (Tells (in_class class (file_fault tables.now.files.now members.now.file.now))) }
 {
-    let names = names_of(alloc, tables, members.file)?;
+    let names = names_of(alloc, tables, members)?;
     match file_fault(tables, members, names.as_slice()) {
         None => Ok(names),
         Some(fault) => Err(LinkError::Broken {

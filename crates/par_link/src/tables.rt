@@ -1,80 +1,52 @@
-//! The classes of some files and the members of each, as they are looked up by name.
+//! The classes of some files and the members of each, as they are looked up by what a constant
+//! says.
 
-ghost use Rattle.std.specs.Prelude.{◌≡◌, ◌<◌, ◌^◌, length, map, position, slice_get, IfOk};
+ghost use Rattle.std.specs.Prelude.{◌≡◌, ◌<◌, ◌^◌, length, map, slice_get, IfOk, IfSome};
 ghost use Rattle.std.specs.Option.{option_map};
 ghost use Rattle.std.specs.List.{All};
-ghost use Rattle.par_index.specs.Firsts.{AreFirst};
-ghost use Rattle.par_index.specs.Texts.{texts, same_text};
-ghost use Rattle.par_single.specs.Members.{named, own_name, own_names};
-ghost use Rattle.par_single.specs.Single.{is_taken};
+ghost use Rattle.par_single.specs.Members.{member_at};
 ghost use Rattle.par_link.specs.Conditions.{IsSmall};
-ghost use Rattle.par_link.specs.Named.{fields_of, methods_of, class_place, class_named, declared};
-ghost use Rattle.par_link.specs.Named.{place_in, field_declared, method_declared, named_by};
-ghost use Rattle.par_link.specs.Rules.{earlier, repeated_class};
+ghost use Rattle.par_link.specs.Named.{fields_of, methods_of, declared};
+ghost use Rattle.par_link.specs.Named.{field_declared, method_declared, named_by};
+ghost use Rattle.par_link.specs.Placed.{key_place};
+ghost use Rattle.par_link.specs.Rules.{repeated_class};
 
-use crate::builtin::{builtin, builtin_field, builtin_method};
+use crate::builtin::{builtin_field, builtin_method};
+use crate::classes::Classes;
 use crate::entry::{Declared, Named};
+use crate::keys::Key;
 use crate::members::Members;
-use crate::places::{first_repeated, narrow};
+use crate::texts::TextIndex;
 use par_class::file::ClassFile;
-use par_index::Firsts;
 use par_lexer::list::NoMemory;
 use par_pool::constant::Constant;
-use par_single::member::{Naming, is_taken, naming_at, own_name, text_at};
+use par_single::member::naming_at;
 use std::alloc::Global;
 
 /// Some files, with their classes and the members of each.
 #[derive(Drop)]
 pub(crate) struct Tables<'f> {
     pub(crate) files: &'f [ClassFile],
-    names: Vec<&'f [u8]>,
-    classes: Firsts<&'f [u8]>,
+    classes: Classes<'f>,
     pub(crate) members: Vec<Members<'f>>,
-    ghost few: { length files.now < 2 ^ 16 },
-    ghost named: { texts names.items ≡ own_names files.now },
-    ghost placed: { AreFirst same_text names.items classes },
+    ghost same: { classes.files.now ≡ files.now },
     ghost each: { map (λ m. m.file.now) members.items ≡ files.now },
+    ghost among: { All (λ m. m.texts.files.now ≡ files.now) members.items },
 }
 
-/// The names of the classes of some files.
-fn class_names(alloc: Global, files: &[ClassFile]) -> Result<Vec<&[u8]>, NoMemory>
-    ensures { IfOk result (λ names. texts names.items ≡ own_names files.now) }
-{
-    let mut names = Vec::new(alloc);
-    for file in files {
-        names.push(own_name(file))?;
-    }
-    Ok(names)
-}
-
-/// The members of each of some files.
-fn all_members(alloc: Global, files: &[ClassFile]) -> Result<Vec<Members>, NoMemory>
-    requires small { All IsSmall files.now }
-    ensures { IfOk result (λ all. map (λ m. m.file.now) all.items ≡ files.now) }
+/// The members of each of the files that have these texts.
+fn all_members<'f>(alloc: Global, index: &TextIndex<'f>) -> Result<Vec<Members<'f>>, NoMemory>
+    requires small { All IsSmall index.now.classes.files.now }
+    ensures each { IfOk result
+        (λ all. map (λ m. m.file.now) all.items ≡ index.now.classes.files.now) }
+    ensures among { IfOk result
+        (λ all. All (λ m. m.texts.files.now ≡ index.now.classes.files.now) all.items) }
 {
     let mut all = Vec::new(alloc);
-    for file in files {
-        all.push(Members::of(alloc, file)?)?;
+    for file in index.classes.files {
+        all.push(Members::of(alloc, index, file)?)?;
     }
     Ok(all)
-}
-
-/// The place of the first file whose class has the name of one that every program has.
-fn taken_class(files: &[ClassFile]) -> Option<usize>
-    ensures { result ≡ position (λ file. is_taken (own_name file)) files.now }
-{
-    files.iter().position(|file| is_taken(own_name(file)))
-}
-
-/// The earlier of two places.
-fn earlier(place: Option<usize>, other: Option<usize>) -> Option<usize>
-    ensures { result ≡ earlier place other }
-{
-    match (place, other) {
-        (Some(place), Some(other)) => Some(place.min(other)),
-        (place, None) => place,
-        (None, other) => other,
-    }
 }
 
 impl<'f> Tables<'f> {
@@ -84,12 +56,12 @@ impl<'f> Tables<'f> {
         requires small { All IsSmall files.now }
         ensures { IfOk result (λ tables. tables.files.now ≡ files.entry.now) }
     {
-        let names = class_names(alloc, files)?;
-        let classes = Firsts::of(alloc, names.as_slice())?;
-        let members = all_members(alloc, files)?;
+        let index = TextIndex::of(alloc, files)?;
+        let members = all_members(alloc, &index)?;
+        // The texts are looked up no more.
+        let TextIndex { classes, .. } = index;
         Ok(Tables {
             files,
-            names,
             classes,
             members,
         })
@@ -100,98 +72,95 @@ impl<'f> Tables<'f> {
     pub(crate) fn repeated_class(&self) -> Option<u16>
         ensures { result ≡ repeated_class self.now.files.now }
     {
-        let repeated = first_repeated(&self.classes, self.names.as_slice());
-        narrow(earlier(taken_class(self.files), repeated))
+        self.classes.repeated()
     }
 
     /// The members of the file at this place.
     fn members_of(&self, class: u16) -> Option<&Members<'f>>
-        ensures { option_map (λ m. m.now.file.now) result ≡ slice_get self.now.files.now class }
+        ensures file { option_map (λ m. m.now.file.now) result
+            ≡ slice_get self.now.files.now class }
+        ensures files { IfSome result (λ m. m.now.texts.files.now ≡ self.now.files.now) }
     {
         self.members.get(class as usize)
     }
 
-    /// The place of the first file of a class.
-    fn class_place(&self, name: &[u8]) -> Option<u16>
-        ensures { result ≡ class_place self.now.files.now name.now }
-    {
-        narrow(self.classes.place(&name))
-    }
-
-    /// The class of a name.
-    fn class(&self, name: &[u8]) -> Named
-        ensures { result ≡ class_named self.now.files.now name.now }
-    {
-        if let Some(class) = builtin(name) {
-            return Named::Builtin(class);
-        }
-        match self.class_place(name) {
-            Some(place) => Named::Class(place),
-            None => Named::Nothing,
-        }
-    }
-
-    /// The field of this class, name and descriptor.
-    #[tactic(auto, unfolding(crate::specs::Named::field_of))]
-    fn field(&self, naming: Naming) -> Named
-        ensures { result ≡ field_declared self.now.files.now (named naming.entry) }
-    {
-        match self.class(naming.class) {
-            Named::Class(class) => self.listed_field(class, naming),
-            Named::Builtin(class) => builtin_field(class, naming),
-            _ => Named::Nothing,
-        }
-    }
-
-    /// The field of this name and descriptor in one of the files.
-    fn listed_field(&self, class: u16, naming: Naming) -> Named
+    /// The field of this key in one of the files.
+    fn listed_field(&self, class: u16, key: &Key) -> Named
         ensures { result ≡ declared Named.Field class
-            (place_in fields_of self.now.files.now class (named naming.entry)) }
+            (key_place fields_of self.now.files.now class key.now) }
     {
         let Some(members) = self.members_of(class) else {
             return Named::Nothing;
         };
-        match members.field(naming) {
+        match members.field(key) {
             Some(place) => Named::Field(Declared { class, place }),
             None => Named::Nothing,
         }
     }
 
-    /// The method of this class, name and descriptor.
-    #[tactic(auto, unfolding(crate::specs::Named::method_of))]
-    fn method(&self, naming: Naming) -> Named
-        ensures { result ≡ method_declared self.now.files.now (named naming.entry) }
-    {
-        match self.class(naming.class) {
-            Named::Class(class) => self.listed_method(class, naming),
-            Named::Builtin(class) => builtin_method(class, naming),
-            _ => Named::Nothing,
-        }
-    }
-
-    /// The method of this name and descriptor in one of the files.
-    fn listed_method(&self, class: u16, naming: Naming) -> Named
+    /// The method of this key in one of the files.
+    fn listed_method(&self, class: u16, key: &Key) -> Named
         ensures { result ≡ declared Named.Method class
-            (place_in methods_of self.now.files.now class (named naming.entry)) }
+            (key_place methods_of self.now.files.now class key.now) }
     {
         let Some(members) = self.members_of(class) else {
             return Named::Nothing;
         };
-        match members.method(naming) {
+        match members.method(key) {
             Some(place) => Named::Method(Declared { class, place }),
             None => Named::Nothing,
         }
     }
 
-    /// What a constant names.
+    /// The field that these indices of the constant pool of one of the files name.
+    #[tactic(auto, unfolding(crate::specs::Named::field_of))]
+    fn field(&self, from: &Members, class: u16, member: u16) -> Named
+        requires { from.now.texts.files.now ≡ self.now.files.now }
+        ensures { result ≡ field_declared self.now.files.now
+            (member_at from.now.file.now.pool.entries class member) }
+    {
+        match from.class_at(class) {
+            Named::Class(place) => self.listed_field(place, &from.key_at(member)),
+            Named::Builtin(builtin) => {
+                builtin_field(
+                    builtin,
+                    naming_at(from.file.pool.entries.as_slice(), class, member),
+                )
+            }
+            _ => Named::Nothing,
+        }
+    }
+
+    /// The method that these indices of the constant pool of one of the files name.
+    #[tactic(auto, unfolding(crate::specs::Named::method_of))]
+    fn method(&self, from: &Members, class: u16, member: u16) -> Named
+        requires { from.now.texts.files.now ≡ self.now.files.now }
+        ensures { result ≡ method_declared self.now.files.now
+            (member_at from.now.file.now.pool.entries class member) }
+    {
+        match from.class_at(class) {
+            Named::Class(place) => self.listed_method(place, &from.key_at(member)),
+            Named::Builtin(builtin) => {
+                builtin_method(
+                    builtin,
+                    naming_at(from.file.pool.entries.as_slice(), class, member),
+                )
+            }
+            _ => Named::Nothing,
+        }
+    }
+
+    /// What a constant of one of the files names.
     #[tactic(auto, unfolding(crate::specs::Named::named_by))]
-    pub(crate) fn named_by(&self, entries: &[Constant], constant: &Constant) -> Named
-        ensures { result ≡ named_by self.now.files.now entries.now constant.now }
+    pub(crate) fn named_by(&self, from: &Members, constant: &Constant) -> Named
+        requires { from.now.texts.files.now ≡ self.now.files.now }
+        ensures { result
+            ≡ named_by self.now.files.now from.now.file.now.pool.entries constant.now }
     {
         match constant {
-            Constant::Class(name) => self.class(text_at(entries, *name)),
-            Constant::Field(class, member) => self.field(naming_at(entries, *class, *member)),
-            Constant::Method(class, member) => self.method(naming_at(entries, *class, *member)),
+            Constant::Class(name) => from.class(*name),
+            Constant::Field(class, member) => self.field(from, *class, *member),
+            Constant::Method(class, member) => self.method(from, *class, *member),
             _ => Named::Nothing,
         }
     }

@@ -1,47 +1,62 @@
-//! The texts of a constant pool. Each is looked at once, however many members share it.
+//! The texts of the constant pools of some files. Each is looked up once, however many constants
+//! and members share it.
 
-ghost use Rattle.std.specs.Prelude.{◌≡◌, ◌+◌, ◌<◌, ◌^◌, [], map, length, Some, IfOk, is_some};
-ghost use Rattle.std.specs.List.{position};
-ghost use Rattle.std.specs.Str.{bytes_eq};
+ghost use Rattle.std.specs.Prelude.{◌≡◌, ◌<◌, ◌^◌, [], ◌++◌, map, length, Some, IfOk, OnOk};
+ghost use Rattle.std.specs.Prelude.{is_some};
+ghost use Rattle.std.specs.List.{All};
 ghost use Rattle.par_index.specs.Texts.{texts};
 ghost use Rattle.par_single.specs.Descriptors.{method_signature};
-ghost use Rattle.par_single.specs.Members.{text_of, text_at, named};
-ghost use Rattle.par_link.specs.Placed.{ArePlaced, pool_texts, facts_of, key_of};
+ghost use Rattle.par_single.specs.Members.{text_of, text_at};
+ghost use Rattle.par_link.specs.Conditions.{IsSmall};
+ghost use Rattle.par_link.specs.Named.{class_named};
+ghost use Rattle.par_link.specs.Placed.{ArePlaced, pool_texts, all_texts, number_of, facts_of};
+ghost use Rattle.par_link.specs.Placed.{key_of};
 
+use crate::builtin::builtin;
+use crate::classes::Classes;
+use crate::entry::Named;
 use crate::keys::Key;
-use crate::places::narrow;
+use par_class::file::ClassFile;
 use par_index::Firsts;
 use par_lexer::list::{List, NoMemory};
 use par_pool::constant::Constant;
 use par_single::descriptor::method_gives;
-use par_single::member::Naming;
+use par_single::member::text_at;
 use std::alloc::Global;
 
-/// The texts of a constant pool, each by the first index that has it.
+/// The texts of the constant pools of some files, each by the first place that has it, and the
+/// classes of the files.
 #[derive(Drop)]
-struct TextIndex<'f> {
-    entries: &'f [Constant],
+pub(crate) struct TextIndex<'f> {
+    pub(crate) classes: Classes<'f>,
+    count: usize,
     firsts: Firsts<&'f [u8]>,
-    ghost few: { length entries.now + 1 < 2 ^ 16 },
-    ghost placed: { ArePlaced (pool_texts entries.now) firsts },
+    ghost many: { count ≡ length (all_texts classes.files.now) },
+    ghost few: { count < 2 ^ 32 },
+    ghost placed: { ArePlaced (all_texts classes.files.now) firsts },
 }
 
 /// What is known of a text.
 #[derive(Clone, Copy)]
 struct TextFacts {
-    /// The first index that has it.
-    first: Option<u16>,
+    /// Equal texts have equal numbers.
+    number: u32,
+    /// The place of the file whose class has this name.
+    class: Option<u16>,
     /// It is the descriptor of a method.
     is_method: bool,
 }
 
-/// The texts of a constant pool, and what is known of the text of each index.
+/// What is known of the texts of the constant pool of one of some files, by their indices.
 #[derive(Drop)]
 pub(crate) struct Texts<'f> {
-    index: TextIndex<'f>,
+    files: &'f [ClassFile],
+    entries: &'f [Constant],
     facts: List<TextFacts>,
-    ghost known: { facts ≡ map (facts_of (pool_texts index.entries.now))
-        (pool_texts index.entries.now) },
+    // What is known of the text without bytes.
+    none: TextFacts,
+    ghost known: { facts ≡ map (facts_of files.now) (pool_texts entries.now) },
+    ghost empty: { none ≡ facts_of files.now [] },
 }
 
 /// The text of a constant, no bytes where it is none.
@@ -54,52 +69,71 @@ fn text_of(constant: &Constant) -> &[u8]
     }
 }
 
-/// The texts of a constant pool, by their indices.
-fn pool_texts(alloc: Global, entries: &[Constant]) -> Result<Vec<&[u8]>, NoMemory>
-    ensures { IfOk result (λ all. texts all.items ≡ pool_texts entries.now) }
+/// Puts the texts of a constant pool behind others, by their indices.
+fn put_texts<'f>(all: &mut Vec<&'f [u8]>, entries: &'f [Constant]) -> Result<(), NoMemory>
+    ensures { OnOk result (texts all.new.items ≡ texts all.old.items ++ pool_texts entries.now) }
 {
-    let mut all = vec![in alloc; [].as_slice()]?;
+    all.push([].as_slice())?;
     for constant in entries {
         all.push(text_of(constant))?;
+    }
+    Ok(())
+}
+
+/// The texts of the constant pools of some files, one pool behind the other.
+fn all_texts(alloc: Global, files: &[ClassFile]) -> Result<Vec<&[u8]>, NoMemory>
+    ensures { IfOk result (λ all. texts all.items ≡ all_texts files.now) }
+{
+    let mut all = Vec::new(alloc);
+    for file in files {
+        put_texts(&mut all, file.pool.entries.as_slice())?;
     }
     Ok(all)
 }
 
 impl<'f> TextIndex<'f> {
-    /// The texts of a constant pool.
-    fn of(alloc: Global, entries: &'f [Constant]) -> Result<TextIndex<'f>, NoMemory>
-        requires { length entries.now + 1 < 2 ^ 16 }
-        ensures { IfOk result (λ index. index.entries.now ≡ entries.entry.now) }
+    /// The texts of some files.
+    pub(crate) fn of(alloc: Global, files: &'f [ClassFile]) -> Result<TextIndex<'f>, NoMemory>
+        requires few { length files.now < 2 ^ 16 }
+        requires small { All IsSmall files.now }
+        ensures { IfOk result (λ index. index.classes.files.now ≡ files.entry.now) }
     {
-        let firsts = Firsts::of(alloc, pool_texts(alloc, entries)?.as_slice())?;
-        Ok(TextIndex { entries, firsts })
+        let classes = Classes::of(alloc, files)?;
+        let texts = all_texts(alloc, files)?;
+        let firsts = Firsts::of(alloc, texts.as_slice())?;
+        Ok(TextIndex {
+            classes,
+            count: texts.len(),
+            firsts,
+        })
     }
 
-    /// The first index of a text.
-    fn first(&self, text: &[u8]) -> Option<u16>
-        ensures { result ≡ position (bytes_eq text.now) (pool_texts self.now.entries.now) }
+    /// The number of a text.
+    fn number(&self, text: &[u8]) -> u32
+        ensures { result ≡ number_of (all_texts self.now.classes.files.now) text.now }
     {
-        narrow(self.firsts.place(&text))
+        self.firsts.place(&text).unwrap_or(self.count) as u32
     }
 
     /// What is known of a text.
     fn facts_of(&self, text: &[u8]) -> TextFacts
-        ensures { result ≡ facts_of (pool_texts self.now.entries.now) text.now }
+        ensures { result ≡ facts_of self.now.classes.files.now text.now }
     {
         TextFacts {
-            first: self.first(text),
+            number: self.number(text),
+            class: self.classes.place(text),
             is_method: method_gives(text).is_some(),
         }
     }
 
-    /// What is known of the text of each index.
-    fn all_facts(&self, alloc: Global) -> Result<List<TextFacts>, NoMemory>
-        ensures { IfOk result (λ all. all
-            ≡ map (facts_of (pool_texts self.now.entries.now)) (pool_texts self.now.entries.now)) }
+    /// What is known of the text of each index of a constant pool.
+    fn all_facts(&self, alloc: Global, entries: &[Constant]) -> Result<List<TextFacts>, NoMemory>
+        ensures { IfOk result
+            (λ all. all ≡ map (facts_of self.now.classes.files.now) (pool_texts entries.now)) }
     {
         let mut all = List::new(alloc);
         all.push(self.facts_of(&[]))?;
-        for constant in self.entries {
+        for constant in entries {
             all.push(self.facts_of(text_of(constant)))?;
         }
         Ok(all)
@@ -107,57 +141,66 @@ impl<'f> TextIndex<'f> {
 }
 
 impl<'f> Texts<'f> {
-    /// The texts of a constant pool.
-    pub(crate) fn of(alloc: Global, entries: &'f [Constant]) -> Result<Texts<'f>, NoMemory>
-        requires { length entries.now + 1 < 2 ^ 16 }
-        ensures { IfOk result (λ texts. texts.index.entries.now ≡ entries.entry.now) }
+    /// What is known of the texts of a constant pool.
+    pub(crate) fn of(
+        alloc: Global,
+        index: &TextIndex<'f>,
+        entries: &'f [Constant],
+    ) -> Result<Texts<'f>, NoMemory>
+        ensures files { IfOk result (λ texts. texts.files.now ≡ index.now.classes.files.now) }
+        ensures entries { IfOk result (λ texts. texts.entries.now ≡ entries.entry.now) }
     {
-        let index = TextIndex::of(alloc, entries)?;
-        let facts = index.all_facts(alloc)?;
-        Ok(Texts { index, facts })
+        let facts = index.all_facts(alloc, entries)?;
+        Ok(Texts {
+            files: index.classes.files,
+            entries,
+            facts,
+            none: index.facts_of(&[]),
+        })
     }
 
     /// What is known of the text of an index.
     fn facts(&self, index: u16) -> TextFacts
-        ensures { result ≡ facts_of (pool_texts self.now.index.entries.now)
-            (text_at self.now.index.entries.now index) }
+        ensures { result ≡ facts_of self.now.files.now (text_at self.now.entries.now index) }
     {
         match self.facts.get(index as usize) {
             Some(facts) => *facts,
-            None => self.index.facts_of(&[]),
+            None => self.none,
         }
     }
 
     /// Whether the text of an index is the descriptor of a method.
     pub(crate) fn is_method(&self, index: u16) -> bool
-        ensures { result ≡ is_some (method_signature
-            (text_at self.now.index.entries.now index)) }
+        ensures { result ≡ is_some (method_signature (text_at self.now.entries.now index)) }
     {
         self.facts(index).is_method
     }
 
-    /// The key of a member whose name and descriptor have these indices.
-    pub(crate) fn key_at(&self, name: u16, descriptor: u16) -> Key
-        ensures { result ≡ key_of (pool_texts self.now.index.entries.now)
-            (record {
-              class = [];
-              name = text_at self.now.index.entries.now name;
-              descriptor = text_at self.now.index.entries.now descriptor;
-            }) }
+    /// The class whose name the text of an index is.
+    pub(crate) fn class(&self, index: u16) -> Named
+        ensures { result ≡ class_named self.now.files.now (text_at self.now.entries.now index) }
     {
-        Key {
-            name: self.facts(name).first,
-            descriptor: self.facts(descriptor).first,
+        if let Some(class) = builtin(text_at(self.entries, index)) {
+            return Named::Builtin(class);
+        }
+        match self.facts(index).class {
+            Some(place) => Named::Class(place),
+            None => Named::Nothing,
         }
     }
 
-    /// The key of a member that is named so, which may be none of the class.
-    pub(crate) fn key(&self, naming: Naming) -> Key
-        ensures { result ≡ key_of (pool_texts self.now.index.entries.now) (named naming.entry) }
+    /// The key of a member whose name and descriptor have these indices.
+    pub(crate) fn key(&self, name: u16, descriptor: u16) -> Key
+        ensures { result ≡ key_of self.now.files.now
+            (record {
+              class = [];
+              name = text_at self.now.entries.now name;
+              descriptor = text_at self.now.entries.now descriptor;
+            }) }
     {
         Key {
-            name: self.index.first(naming.name),
-            descriptor: self.index.first(naming.descriptor),
+            name: self.facts(name).number,
+            descriptor: self.facts(descriptor).number,
         }
     }
 }

@@ -3,6 +3,7 @@ use Rattle.std.proofs.Common.{ap, subst, ◌∙◌, arith}
 use Rattle.std.specs.Prelude.{IfErr}
 use Rattle.std.proofs.lemmas.Grind.{common_steps}
 use Rattle.std.proofs.lemmas.List.{length-map, map-append}
+use Rattle.std.proofs.lemmas.List.Elements.{All-get_or}
 use Rattle.std.proofs.lemmas.Result.{err_from_is_err_and}
 use Rattle.par_link.proofs.Made.{made-left, made-so-far}
 use Rattle.par_link.proofs.Ordering.{first-past, first-told, first-ended}
@@ -11,6 +12,21 @@ use Rattle.par_link.specs.Named.{names_of}
 use Rattle.par_link.specs.Order.{first_in}
 use Rattle.par_link.specs.Told.{Tells}
 use Rattle.par_link.proofs.linking.linked_files.Goals as goal
+
+-- the tables are of all files
+pub linked_file-requires-clause-among : goal.linked_file-requires-clause-among
+linked_file-requires-clause-among c =
+    let i = c.loop-class.class in
+    let x = c.members-item.result in
+    let ms = c.args.tables.now.members.items in
+    let files = c.args.tables.now.files.now in
+    let within : i < length ms =
+    subst (λ ys. i < length ys) c.deref-members-items.ensures.value c.loop-class-test.true in
+    let is : x ≡ get_or ms i x =
+    c.members-item.is ∙ ap (λ ys. get_or ys i x) c.deref-members-items.ensures.value in
+    subst (λ (m : Members). m.texts.files.now ≡ files) (sym is)
+    (All-get_or (λ (m : Members). m.texts.files.now ≡ files) ms i x within
+    c.args.tables.now.among)
 
 -- the first rule that a file breaks is the first of all
 pub returns-in_err-linked_file-clause-broken : goal.returns-in_err-linked_file-clause-broken

@@ -4,5 +4,5 @@ use Rattle.par_link.proofs.linking.names_of.Given as goal
 
 abbrev pub invariant-loop-constant : goal.invariant-loop-constant
 invariant-loop-constant l =
-    l.names ≡ map (named_by l.tables.files.now l.file.pool.entries)
-    (take l.constant-index l.entries)
+    l.names ≡ map (named_by l.tables.files.now l.members.file.now.pool.entries)
+    (take l.constant-index l.members.file.now.pool.entries)

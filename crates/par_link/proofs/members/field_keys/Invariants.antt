@@ -5,5 +5,5 @@ use Rattle.par_link.proofs.members.field_keys.Given as goal
 
 abbrev pub invariant-loop-field : goal.invariant-loop-field
 invariant-loop-field l =
-    l.keys.items ≡ keys_of l.file (map (field_named l.file.pool.entries)
+    l.keys.items ≡ keys_of l.texts.files.now (map (field_named l.file.pool.entries)
     (take l.field-index l.file.fields))

@@ -4,7 +4,7 @@ use Rattle.par_pool.specs.declared.constant.Constant.{Constant}
 use Rattle.par_single.specs.Members.{text_at}
 use Rattle.par_link.proofs.Keyed.{keys-more}
 use Rattle.par_link.specs.declared.keys.Key.{Key}
-use Rattle.par_link.specs.Placed.{pool_texts, key_of}
+use Rattle.par_link.specs.Placed.{key_of}
 use Rattle.par_link.proofs.members.method_keys.Goals as goal
 
 pub loop-method-preserved : goal.loop-method-preserved
@@ -12,6 +12,7 @@ loop-method-preserved c =
     let i = c.loop-method.method-index in
     let x = c.method-item.result in
     let file = c.args.file.now in
+    let files = c.args.texts.now.files.now in
     let within : i < length file.methods =
     subst (λ (ys : List MethodFile). i < length ys) c.as_slice-method-items.ensures
     c.loop-method-test.true in
@@ -19,12 +20,13 @@ loop-method-preserved c =
     ∙ ap (λ (ys : List MethodFile). get_or ys i x) c.as_slice-method-items.ensures in
     c.in_ok-push.ensures.items
     ∙ ap (λ (k : Key). c.loop-method.keys.items ++ k ∷ [])
-    (c.key_at.ensures
-    ∙ ap (λ (entries : List Constant). key_of (pool_texts entries)
+    (c.key.ensures
+    ∙ ap (λ (entries : List Constant). key_of files
     (record {
       class = [];
       name = text_at entries x.name;
       descriptor = text_at entries x.descriptor;
     })) c.requires)
-    ∙ keys-more file.pool.entries (λ (x : MethodFile). x.name) (λ (x : MethodFile). x.descriptor)
-    c.loop-method.keys.items file.methods i x within at c.loop-method.invariant
+    ∙ keys-more files file.pool.entries (λ (x : MethodFile). x.name)
+    (λ (x : MethodFile). x.descriptor) c.loop-method.keys.items file.methods i x within at
+    c.loop-method.invariant

@@ -5,5 +5,5 @@ use Rattle.par_link.proofs.members.method_keys.Given as goal
 
 abbrev pub invariant-loop-method : goal.invariant-loop-method
 invariant-loop-method l =
-    l.keys.items ≡ keys_of l.file (map (method_named l.file.pool.entries)
+    l.keys.items ≡ keys_of l.texts.files.now (map (method_named l.file.pool.entries)
     (take l.method-index l.file.methods))

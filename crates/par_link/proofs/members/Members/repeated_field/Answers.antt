@@ -1,6 +1,5 @@
 use Rattle.std.proofs.Common.{ap, ◌∙◌}
-use Rattle.par_class.specs.declared.file.FieldFile.{FieldFile}
-use Rattle.par_link.proofs.Keyed.{keys-repeated}
+use Rattle.par_link.proofs.Keyed.{fields-repeated}
 use Rattle.par_link.specs.Firsts.{first_repeated}
 use Rattle.par_link.specs.Placed.{same_key}
 use Rattle.par_link.proofs.members.Members.repeated_field.Goals as goal
@@ -8,7 +7,5 @@ use Rattle.par_link.proofs.members.Members.repeated_field.Goals as goal
 pub returns : goal.returns
 returns c =
     let s = c.args.self.now in
-    let file = s.file.now in
     c.repeated.ensures ∙ ap (first_repeated same_key) s.fields_keyed
-    ∙ keys-repeated file.pool.entries (λ (x : FieldFile). x.name) (λ (x : FieldFile). x.descriptor)
-    file.fields
+    ∙ fields-repeated s.texts.files.now s.file.now s.among

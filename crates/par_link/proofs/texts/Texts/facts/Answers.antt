@@ -1,25 +1,23 @@
-use Rattle.std.proofs.Common.{◌≡◌, [], Option, slice_get, ap, ◌∙◌}
+use Rattle.std.proofs.Common.{[], Option, slice_get, ap, ◌∙◌}
 use Rattle.std.specs.Option.{unwrap_or}
 use Rattle.par_link.proofs.Keyed.{text-made}
 use Rattle.par_link.specs.declared.texts.TextFacts.{TextFacts}
-use Rattle.par_link.specs.Placed.{pool_texts, facts_of}
+use Rattle.par_link.specs.Placed.{facts_of}
 use Rattle.par_link.proofs.texts.Texts.facts.Goals as goal
 
 pub returns-in-Some : goal.returns-in-Some
 returns-in-Some c =
     let s = c.args.self.now in
-    let entries = s.index.entries.now in
-    let made = facts_of (pool_texts entries) in
+    let made = facts_of s.files.now in
     ap (λ (o : Option TextFacts). unwrap_or o (made [])) c.in-Some.ensures.item
     ∙ ap (λ xs. unwrap_or (slice_get xs c.args.index) (made [])) s.known
-    ∙ text-made made entries c.args.index
+    ∙ text-made made s.entries.now c.args.index
 
 pub returns-in-None : goal.returns-in-None
 returns-in-None c =
     let s = c.args.self.now in
-    let entries = s.index.entries.now in
-    let made = facts_of (pool_texts entries) in
-    c.facts_of.ensures
+    let made = facts_of s.files.now in
+    s.empty
     ∙ ap (λ (o : Option TextFacts). unwrap_or o (made [])) c.in-None.ensures.item
     ∙ ap (λ xs. unwrap_or (slice_get xs c.args.index) (made [])) s.known
-    ∙ text-made made entries c.args.index
+    ∙ text-made made s.entries.now c.args.index

@@ -9,7 +9,7 @@ use Rattle.par_link.proofs.Indices.{place-below, first-below, earlier-below}
 use Rattle.par_link.proofs.Placing.{texts-repeated}
 use Rattle.par_link.specs.Firsts.{first_repeated}
 use Rattle.par_link.specs.Rules.{earlier, repeated_class}
-use Rattle.par_link.proofs.tables.Tables.repeated_class.Goals as goal
+use Rattle.par_link.proofs.classes.Classes.repeated.Goals as goal
 
 pub first_repeated-repeated-requires : goal.first_repeated-repeated-requires
 first_repeated-repeated-requires c =
