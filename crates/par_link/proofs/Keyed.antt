@@ -9,7 +9,7 @@ use Rattle.std.proofs.lemmas.List.Folds.{list_any-append}
 use Rattle.std.proofs.lemmas.Bool.{eq-eqb, eqb-true}
 use Rattle.std.proofs.lemmas.Option.{none-some, same_Some}
 use Rattle.std.proofs.lemmas.Slice.Eq.{bytes_eq-Decides}
-use Rattle.std.specs.List.{position, position_from, list_any}
+use Rattle.std.specs.List.{flat_map, position, position_from, list_any}
 use Rattle.std.specs.Option.{option_and_then, unwrap_or}
 use Rattle.std.specs.Str.{bytes_eq}
 use Rattle.par_pool.specs.declared.constant.Constant.{Constant}
@@ -26,8 +26,8 @@ use Rattle.par_link.specs.Firsts.{first_repeated}
 use Rattle.par_link.specs.declared.entry.Named.TheVariants as named
 use Rattle.par_link.specs.Named.{is_same, fields_of, methods_of, place_in, class_named, declared}
 use Rattle.par_link.specs.Named.{field_of, method_of, field_declared, method_declared}
-use Rattle.par_link.specs.Placed.{pool_texts, all_texts, number_of, key_of, same_key, keys_of}
-use Rattle.par_link.specs.Placed.{key_place, AreAmong}
+use Rattle.par_link.specs.Placed.{pool_texts, text_in, texts_in, all_texts, number_of, key_of}
+use Rattle.par_link.specs.Placed.{same_key, keys_of, key_place, AreAmong}
 use Rattle.par_link.proofs.Passing.{same_text}
 use Rattle.par_link.proofs.Placing.{repeated-map}
 
@@ -125,32 +125,6 @@ number-within texts a = in_case (position (bytes_eq a) texts) refl where
 
 -- ---- texts of a constant pool
 
-or-past : (a b c : Bool) → (a || c) ≡ true → (a || (b || c)) ≡ true
-or-past true b c is = refl
-or-past false true c is = refl
-or-past false false c is = is
-
-or-second : (a b c : Bool) → b ≡ true → (a || (b || c)) ≡ true
-or-second true b c is = refl
-or-second false b c is = ap (λ x. x || c) is
-
--- the text of each index is among them
-text-there : (entries : List Constant) (index : ℕ)
-    → list_any (bytes_eq (text_at entries index)) (pool_texts entries) ≡ true
-text-there entries zero = refl
-text-there entries (suc place) = later entries place where
-  later : (entries : List Constant) (place : ℕ)
-      → (bytes_eq (text_of (slice_get entries place)) []
-      || list_any (bytes_eq (text_of (slice_get entries place)))
-      (map (λ c. text_of (Some c)) entries)) ≡ true
-  later [] place = refl
-  later (c ∷ entries) zero =
-      or-second (bytes_eq (text_of (Some c)) []) (bytes_eq (text_of (Some c)) (text_of (Some c))) _
-      (equal (text_of (Some c)))
-  later (c ∷ entries) (suc place) =
-      or-past (bytes_eq (text_of (slice_get entries place)) [])
-      (bytes_eq (text_of (slice_get entries place)) (text_of (Some c))) _ (later entries place)
-
 -- what is made of each stands at its index, and behind the last there are no bytes
 pub text-made : {A : Type 0} (f : Text → A) (entries : List Constant) (index : ℕ)
     → unwrap_or (slice_get (map f (pool_texts entries)) index) (f []) ≡ f (text_at entries index)
@@ -165,35 +139,81 @@ text-made f entries (suc place) = later entries place where
 
 -- ---- texts of all files
 
-or-true : (a b : Bool) → b ≡ true → (a || b) ≡ true
-or-true true b is = refl
-or-true false b is = is
+or-first : (a b : Bool) → a ≡ true → (a || b) ≡ true
+or-first a b is = ap (λ x. x || b) is
 
-module _ (index : ℕ) where
-  among : (files : List ClassFile) (place : ℕ) (file : ClassFile)
-      → slice_get files place ≡ Some file
-      → list_any (bytes_eq (text_at file.pool.entries index)) (all_texts files) ≡ true
-  among [] place file is = absurd (none-some file is)
-  among (first ∷ files) zero file is =
-      list_any-append (bytes_eq (text_at file.pool.entries index))
-      (pool_texts first.pool.entries) (all_texts files)
-      ∙ ap (λ (f : ClassFile). list_any (bytes_eq (text_at file.pool.entries index))
-      (pool_texts f.pool.entries)
-      || list_any (bytes_eq (text_at file.pool.entries index)) (all_texts files))
-      (same_Some first file is)
-      ∙ ap (λ b. b || list_any (bytes_eq (text_at file.pool.entries index)) (all_texts files))
-      (text-there file.pool.entries index)
-  among (first ∷ files) (suc place) file is =
-      list_any-append (bytes_eq (text_at file.pool.entries index))
-      (pool_texts first.pool.entries) (all_texts files)
-      ∙ or-true
-      (list_any (bytes_eq (text_at file.pool.entries index)) (pool_texts first.pool.entries)) _
-      (among files place file is)
+or-second : (a b : Bool) → b ≡ true → (a || b) ≡ true
+or-second true b is = refl
+or-second false b is = is
+
+or-here : (a b c : Bool) → (a || b) ≡ true → (a || (b || c)) ≡ true
+or-here true b c is = refl
+or-here false b c is = ap (λ x. x || c) is
+
+or-past : (a b c : Bool) → (a || c) ≡ true → (a || (b || c)) ≡ true
+or-past true b c is = refl
+or-past false true c is = refl
+or-past false false c is = is
+
+module _ (test : Text → Bool) where
+  -- the text without bytes passes, or one of these
+  abbrev passes : List Text → Bool
+  passes texts = test [] || list_any test texts
+
+  own : (c : Constant) → test (text_of (Some c)) ≡ true → passes (text_in c) ≡ true
+  own (constant.Utf8 text) found =
+      or-second (test []) (test text || false) (or-first (test text) false found)
+  own (constant.Integer n) found = or-first (test []) false found
+  own (constant.Class name) found = or-first (test []) false found
+  own (constant.Text text) found = or-first (test []) false found
+  own (constant.Field class member) found = or-first (test []) false found
+  own (constant.Method class member) found = or-first (test []) false found
+  own (constant.NameType name descriptor) found = or-first (test []) false found
+
+  -- one behind the other
+  both : (texts others : List Text)
+      → passes (texts ++ others) ≡ (test [] || (list_any test texts || list_any test others))
+  both texts others = ap (λ b. test [] || b) (list_any-append test texts others)
+
+  in-pool : (entries : List Constant) (place : ℕ)
+      → test (text_of (slice_get entries place)) ≡ true → passes (texts_in entries) ≡ true
+  in-pool [] place found = or-first (test []) false found
+  in-pool (c ∷ entries) zero found =
+      both (text_in c) (texts_in entries)
+      ∙ or-here (test []) (list_any test (text_in c)) (list_any test (texts_in entries))
+      (own c found)
+  in-pool (c ∷ entries) (suc place) found =
+      both (text_in c) (texts_in entries)
+      ∙ or-past (test []) (list_any test (text_in c)) (list_any test (texts_in entries))
+      (in-pool entries place found)
+
+  at-index : (entries : List Constant) (index : ℕ) → test (text_at entries index) ≡ true
+      → passes (texts_in entries) ≡ true
+  at-index entries zero found = or-first (test []) (list_any test (texts_in entries)) found
+  at-index entries (suc place) found = in-pool entries place found
+
+  in-files : (files : List ClassFile) (place : ℕ) (file : ClassFile)
+      → slice_get files place ≡ Some file → passes (texts_in file.pool.entries) ≡ true
+      → list_any test (all_texts files) ≡ true
+  in-files [] place file is found = absurd (none-some file is)
+  in-files (first ∷ files) zero file is found =
+      both (texts_in first.pool.entries) (flat_map (λ f. texts_in f.pool.entries) files)
+      ∙ or-here (test []) (list_any test (texts_in first.pool.entries))
+      (list_any test (flat_map (λ f. texts_in f.pool.entries) files))
+      (ap (λ (f : ClassFile). passes (texts_in f.pool.entries)) (same_Some first file is) ∙ found)
+  in-files (first ∷ files) (suc place) file is found =
+      both (texts_in first.pool.entries) (flat_map (λ f. texts_in f.pool.entries) files)
+      ∙ or-past (test []) (list_any test (texts_in first.pool.entries))
+      (list_any test (flat_map (λ f. texts_in f.pool.entries) files))
+      (in-files files place file is found)
 
 -- the texts of the file at a place are among them
 pub are-among : (files : List ClassFile) (place : ℕ) (file : ClassFile)
     → slice_get files place ≡ Some file → AreAmong files file
-are-among files place file is = λ index. among index files place file is
+are-among files place file is = λ index.
+    let text = text_at file.pool.entries index in
+    in-files (bytes_eq text) files place file is
+    (at-index (bytes_eq text) file.pool.entries index (equal text))
 
 -- ---- members, by the indices of their names and descriptors
 

@@ -7,6 +7,7 @@ use Rattle.std.specs.Option.{option_and_then, unwrap_or}
 use Rattle.std.specs.Str.{bytes_eq}
 use Rattle.indexmap.specs.IndexMap.{get}
 use Rattle.par_pool.specs.declared.constant.Constant.{Constant}
+use Rattle.par_pool.specs.declared.constant.Constant.TheVariants.{Utf8}
 use Rattle.par_class.specs.declared.file.ClassFile.{ClassFile}
 use Rattle.par_index.specs.declared.firsts.Firsts.{Firsts}
 use Rattle.par_index.specs.Texts.{same_text}
@@ -27,9 +28,17 @@ pub record ArePlaced (all : List Text) (firsts : Firsts (Bor Text)) : Type 0 whe
 abbrev pub pool_texts : List Constant → List Text
 pool_texts entries = [] ∷ map (λ c. text_of (Some c)) entries
 
--- the texts of the constant pools of files, one pool behind the other
+-- the text that a constant is, where it is one
+abbrev pub text_in : Constant → List Text
+text_in (Utf8 text) = text ∷ []
+text_in _ = []
+
+abbrev pub texts_in : List Constant → List Text
+texts_in entries = flat_map text_in entries
+
+-- the text without bytes, and those of the constant pools of files, one pool behind the other
 abbrev pub all_texts : List ClassFile → List Text
-all_texts files = flat_map (λ file. pool_texts file.pool.entries) files
+all_texts files = [] ∷ flat_map (λ file. texts_in file.pool.entries) files
 
 -- each text of the constant pool of a file is one of those of the files
 abbrev pub AreAmong : List ClassFile → ClassFile → Type 0

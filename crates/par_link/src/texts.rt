@@ -9,8 +9,8 @@ ghost use Rattle.par_single.specs.Descriptors.{method_signature};
 ghost use Rattle.par_single.specs.Members.{text_of, text_at};
 ghost use Rattle.par_link.specs.Conditions.{IsSmall};
 ghost use Rattle.par_link.specs.Named.{class_named};
-ghost use Rattle.par_link.specs.Placed.{ArePlaced, pool_texts, all_texts, number_of, facts_of};
-ghost use Rattle.par_link.specs.Placed.{key_of};
+ghost use Rattle.par_link.specs.Placed.{ArePlaced, pool_texts, text_in, texts_in, all_texts};
+ghost use Rattle.par_link.specs.Placed.{number_of, facts_of, key_of};
 
 use crate::builtin::builtin;
 use crate::classes::Classes;
@@ -69,22 +69,32 @@ fn text_of(constant: &Constant) -> &[u8]
     }
 }
 
-/// Puts the texts of a constant pool behind others, by their indices.
-fn put_texts<'f>(all: &mut Vec<&'f [u8]>, entries: &'f [Constant]) -> Result<(), NoMemory>
-    ensures { OnOk result (texts all.new.items ≡ texts all.old.items ++ pool_texts entries.now) }
+/// Puts the text that a constant is behind others, where it is one.
+fn put_text<'f>(all: &mut Vec<&'f [u8]>, constant: &'f Constant) -> Result<(), NoMemory>
+    ensures { OnOk result (texts all.new.items ≡ texts all.old.items ++ text_in constant.now) }
 {
-    all.push([].as_slice())?;
+    match constant {
+        Constant::Utf8(text) => Ok(all.push(text.as_slice())?),
+        _ => Ok(()),
+    }
+}
+
+/// Puts the texts of a constant pool behind others.
+fn put_texts<'f>(all: &mut Vec<&'f [u8]>, entries: &'f [Constant]) -> Result<(), NoMemory>
+    ensures { OnOk result (texts all.new.items ≡ texts all.old.items ++ texts_in entries.now) }
+{
     for constant in entries {
-        all.push(text_of(constant))?;
+        put_text(all, constant)?;
     }
     Ok(())
 }
 
-/// The texts of the constant pools of some files, one pool behind the other.
+/// The text without bytes, and those of the constant pools of some files, one pool behind the
+/// other.
 fn all_texts(alloc: Global, files: &[ClassFile]) -> Result<Vec<&[u8]>, NoMemory>
     ensures { IfOk result (λ all. texts all.items ≡ all_texts files.now) }
 {
-    let mut all = Vec::new(alloc);
+    let mut all = vec![in alloc; [].as_slice()]?;
     for file in files {
         put_texts(&mut all, file.pool.entries.as_slice())?;
     }

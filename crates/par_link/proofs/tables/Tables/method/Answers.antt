@@ -11,8 +11,9 @@ returns-in-Class c =
     let files = c.args.self.now.files.now in
     let entries = c.args.from.now.file.now.pool.entries in
     let place = c.in-Class.place in
-    let is : named.Class place ≡ class_named files (class_name_at entries c.args.class) =
-    c.in-Class.ensures ∙ ap (λ fs. class_named fs (class_name_at entries c.args.class)) c.requires in
+    let name = class_name_at entries c.args.class in
+    let is : named.Class place ≡ class_named files name =
+    c.in-Class.ensures ∙ ap (λ fs. class_named fs name) c.requires in
     c.listed_method.ensures
     ∙ ap (λ key. declared named.Method place (key_place methods_of files place key))
     (c.key_at.ensures c.args.class
