@@ -1,5 +1,6 @@
 -- The channels of lines and their places.
-use Rattle.std.specs.Prelude.{◌≡◌, Bool, ◌&&◌, List, map}
+use Rattle.std.specs.Prelude.{◌≡◌, ◌≤◌, Bool, ◌&&◌, List, length, map}
+use Rattle.std.specs.List.{All}
 use Rattle.std.specs.Str.{bytes_eq}
 use Rattle.indexmap.specs.IndexMap.{get}
 use Rattle.par_index.specs.declared.firsts.Firsts.{Firsts}
@@ -14,8 +15,13 @@ abbrev pub same_channel : Channel → Channel → Bool
 same_channel c other =
     bytes_eq c.class.now other.class.now && bytes_eq c.name.now other.name.now
 
+-- a channel is called by a name, which is not long
+abbrev pub IsShort : Channel → Type 0
+IsShort c = length c.name.now ≤ 64
+
 -- each channel has the place of its first line among these
 pub record AreLined (channels : List Channel) (firsts : Firsts Channel) : Type 0 where
+  pub short : All IsShort channels
   pub places : (c : Channel) →
       get same_channel firsts.places c
       ≡ lines.line_of (map named channels) c.class.now c.name.now

@@ -1,11 +1,13 @@
 //! The lines of input channels, as they are looked up by the names of their classes and their own.
 
 ghost use Rattle.std.specs.Prelude.{◌≡◌, map, IfOk};
+ghost use Rattle.std.specs.List.{All};
 ghost use Rattle.par_lines.specs.Lines.{channels_of, line_of};
-ghost use Rattle.par_method_area.specs.Channels.{named};
+ghost use Rattle.par_method_area.specs.Channels.{named, IsShort};
 
 use par_index::Firsts;
 use par_lexer::list::NoMemory;
+use par_lexer::name::LONGEST;
 use par_values::inputs::ChannelInput;
 use std::alloc::Global;
 use std::marker::Model;
@@ -40,7 +42,8 @@ impl<'i> Model for ChannelLines<'i> {
 
 /// The channels of some lines.
 fn channels(alloc: Global, lines: &[ChannelInput]) -> Result<Vec<Channel>, NoMemory>
-    ensures { IfOk result (λ channels. map named channels.items ≡ channels_of lines.now) }
+    ensures named { IfOk result (λ channels. map named channels.items ≡ channels_of lines.now) }
+    ensures short { IfOk result (λ channels. All IsShort channels.items) }
 {
     let mut channels = Vec::new(alloc);
     for line in lines {
@@ -66,6 +69,11 @@ impl<'i> ChannelLines<'i> {
     pub(crate) fn line(&self, class: &[u8], name: &[u8]) -> Option<usize>
         ensures { result ≡ line_of self.now class.now name.now }
     {
-        self.firsts.place(&Channel { class, name })
+        let firsts = &self.firsts;
+        // A longer text is no name, and is not read for each method that has it.
+        if name.len() > LONGEST {
+            return None;
+        }
+        firsts.place(&Channel { class, name })
     }
 }
