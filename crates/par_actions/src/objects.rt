@@ -31,6 +31,7 @@ pub(crate) struct Instance {
 }
 
 /// What a field of an object holds, null where there is no such object or field.
+#[inline(always)]
 fn held(heap: &Heap, class: u16, n: u32, place: u16) -> MVal
     ensures { result ≡ value_or_null (field_at heap.now class n place) }
 {
@@ -48,6 +49,7 @@ fn static_reason(field: Field) -> Option<u8>
 }
 
 /// Pushes what a field of an object holds, which was pushed last, in place of the object.
+#[inline(always)]
 fn read(stack: &mut Stack, heap: &Heap, class: u16, n: u32, field: Field, ahead: bool) -> Done
     requires last { IsLast (variant.Ref class n) (running stack.old).operands }
     requires small { field.is_static ≡ false → field.place < 2 ^ 16 }

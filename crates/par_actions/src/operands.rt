@@ -122,6 +122,7 @@ pub(crate) fn local_number(stack: &Stack, place: u8) -> Option<i32>
 }
 
 /// Takes so many operands and pushes a value in their place.
+#[inline(always)]
 pub(crate) fn replace(stack: &mut Stack, many: usize, value: MVal)
     requires some { 1 ≤ many }
     requires there { many ≤ length (running stack.old).operands }

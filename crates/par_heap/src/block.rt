@@ -88,6 +88,7 @@ impl Block {
     }
 
     /// What a field of an object holds, where both are there.
+    #[inline(always)]
     pub(crate) fn get(&self, n: u32, field: u16) -> Option<MVal>
         ensures { result
             ≡ field_in (cut self.now.count self.now.width self.now.fields.items) n field }

@@ -77,6 +77,7 @@ impl Heap {
     }
 
     /// What a field of an object holds, none where the object or the field is not there.
+    #[inline(always)]
     pub fn get(&self, class: u16, n: u32, field: u16) -> Option<MVal>
         ensures { result ≡ field_at self.now class n field }
     {
