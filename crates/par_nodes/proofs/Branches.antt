@@ -117,13 +117,13 @@ stas_none d from ss r e = e ∙ sym (ap (λ l. stas d from (all_do l)) (drop_all
 
 -- the statements from a place on
 pub stas_next : (d : Declares) (from : From) (ss : List TStmt) (p : ℕ) (s : TStmt) (r m : Rules)
-    (f : From) (n : Node) → 0 < p → p ≤ length ss → s ≡ get_or ss (p - 1) s
-    → r ≡ Part f Next n m → f ≡ start_at (p - 1) from → n ≡ sta d (does s)
+    (f : From) → 0 < p → p ≤ length ss → s ≡ get_or ss (p - 1) s
+    → r ≡ Part f Next (sta d (does s)) m → f ≡ start_at (p - 1) from
     → m ≡ stas d (start_at p from) (all_do (drop p ss))
     → r ≡ stas d (start_at (p - 1) from) (all_do (drop (p - 1) ss))
 unfolding stas
-stas_next d from ss p s r m f n g h q a b x y =
-    a ∙ ap (λ k. Part k Next n m) b ∙ ap (λ k. Part (start_at (p - 1) from) Next k m) x
+stas_next d from ss p s r m f g h q a b y =
+    a ∙ ap (λ k. Part k Next (sta d (does s)) m) b
     ∙ ap (Part (start_at (p - 1) from) Next (sta d (does s)))
     (y ∙ ap (λ k. stas d k (all_do (drop p ss))) (start_past p from g))
     ∙ sym (ap (λ l. stas d (start_at (p - 1) from) (all_do l)) (drop_at ss p s g h q))

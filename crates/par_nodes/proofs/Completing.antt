@@ -320,28 +320,15 @@ pub done_told : (cs : List (List code.Kind)) → cs ≡ [] → cans cs [] ≡ pa
 done_told cs e = ap (λ l. cans l []) e ∙ sym (ap parts_can seen_done)
 
 -- a part's completions in front of those behind it
-pub part_told : (o : Origin) (a : tree_absorber.Absorber) (b : Box tree_node.Node Global)
-    (q : Box tree.Rules Global) (old new : List (List code.Kind)) (js : List code.Kind)
-    (n : tree_node.Node) (m : tree.Rules)
-    → cans old [] ≡ parts_can (seen_rules m) → among js ≡ can (seen_node n) → new ≡ old ++ js ∷ []
-    → b.value ≡ n → q.value ≡ m
-    → cans new [] ≡ parts_can (seen_rules (rule.Part o a b q))
-part_told o a b q old new js n m h k g d v =
-    ap (λ l. cans l []) g ∙ cans_push old js [] ∙ ap (λ f. f ∷ cans old [])
-    (k ∙ sym (ap (λ y. can (seen_node y)) d))
-    ∙ ap (λ fs. can (seen_node b.value) ∷ fs) (h ∙ sym (ap (λ y. parts_can (seen_rules y)) v))
-    ∙ sym (ap parts_can (seen_part o a b q))
-
-pub test_told : (b : Box tree_node.Node Global) (q : Box tree.Rules Global)
+pub boxed_told : (b : Box tree_node.Node Global) (q : Box tree.Rules Global)
     (old new : List (List code.Kind)) (js : List code.Kind) (n : tree_node.Node) (m : tree.Rules)
     → cans old [] ≡ parts_can (seen_rules m) → among js ≡ can (seen_node n) → new ≡ old ++ js ∷ []
     → b.value ≡ n → q.value ≡ m
-    → cans new [] ≡ parts_can (seen_rules (rule.Test b q))
-test_told b q old new js n m h k g d v =
+    → cans new [] ≡ can (seen_node b.value) ∷ parts_can (seen_rules q.value)
+boxed_told b q old new js n m h k g d v =
     ap (λ l. cans l []) g ∙ cans_push old js [] ∙ ap (λ f. f ∷ cans old [])
     (k ∙ sym (ap (λ y. can (seen_node y)) d))
     ∙ ap (λ fs. can (seen_node b.value) ∷ fs) (h ∙ sym (ap (λ y. parts_can (seen_rules y)) v))
-    ∙ sym (ap parts_can (seen_test b q))
 
 -- the parts behind a rule that has none
 pub leaves_told : (rs : tree.Rules) (o : Origin) (j : code.Kind) (q : Box tree.Rules Global)

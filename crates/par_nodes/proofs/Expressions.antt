@@ -14,7 +14,7 @@ use Rattle.par_typed.proofs.Shown.{shown_local, shown_static, shown_field, shown
 use Rattle.par_typed.proofs.Shown.{shown_output, shown_call, shown_neg, shown_not, shown_binary}
 use Rattle.par_rules.specs.Kinds.{Next}
 use Rattle.par_rules.specs.Declares.{Declares}
-use Rattle.par_rules.specs.Rules.{From, Entry, Given, Held, Value, Node, node, Rules, Done, Part}
+use Rattle.par_rules.specs.Rules.{From, Entry, Given, Held, Value, node, Rules, Done, Part}
 use Rattle.par_rules.specs.Rules.{Worths, goes_on}
 use Rattle.par_rules.specs.Body.{past, tested, null_test, second, divides, skips, exp, args}
 use Rattle.par_nodes.specs.Starts.{call_start, call_does, behind}
@@ -52,7 +52,8 @@ this_made d k m r is u =
 pub nullary_made : (d : Declares) (k : TExprKind) (m : Mark) (r : Rules)
     → (k ≡ expr.Null) ⊎ (k ≡ expr.This) → r ≡ goes_on Entry Done
     → node m.point r ≡ exp d (kind_at k m)
-nullary_made d k m r is u = elim is [ inl x ↦ null_made d k m r x u | inr x ↦ this_made d k m r x u ]
+nullary_made d k m r is u =
+    elim is [ inl x ↦ null_made d k m r x u | inr x ↦ this_made d k m r x u ]
 
 pub new_made : (d : Declares) (k : TExprKind) (m : Mark) (c v : ℕ) (r : Rules)
     → k ≡ expr.New c → v ≡ d.birth c → r ≡ goes_on Entry (Worths (Given v) Done)
@@ -88,32 +89,33 @@ input_made d k m c i v r is g u =
     (goes_on Entry (Worths (Given (d.channel c i)) Done)) is (shown_input c i m) refl
     (u ∙ ap (λ p. goes_on Entry (Worths (Given p) Done)) g)
 
-abbrev pub selected : Node → TExp → ℕ → Rules
-selected n e v =
-    Part Entry Next n (null_test e tested (goes_on past (Worths (Value 0)
-    (Worths (Given v) Done))))
+-- what stands behind the object of a field
+abbrev pub selected : TExp → ℕ → Rules
+selected e v = null_test e tested (goes_on past (Worths (Value 0) (Worths (Given v) Done)))
 
 pub field_made : (d : Declares) (k : TExprKind) (m : Mark) (b : Box TExpr Global) (c f v : ℕ)
-    (e o : TExpr) (n : Node) (r : Rules)
-    → k ≡ expr.Field b c f → v ≡ d.field c f → e ≡ b.value → o ≡ b.value → n ≡ exp d (shown e)
-    → r ≡ selected n (shown o) v → node m.point r ≡ exp d (kind_at k m)
+    (e o : TExpr) (r s : Rules)
+    → k ≡ expr.Field b c f → v ≡ d.field c f → o ≡ b.value → s ≡ selected (shown o) v
+    → e ≡ b.value → r ≡ Part Entry Next (exp d (shown e)) s → node m.point r ≡ exp d (kind_at k m)
 unfolding exp
-field_made d k m b c f v e o n r is g x y w u =
+field_made d k m b c f v e o r s is g y w x u =
     made d k (expr.Field b c f) m (typed.Field (shown b.value) c f m) r
-    (selected (exp d (shown b.value)) (shown b.value) (d.field c f)) is (shown_field b c f m) refl
-    (u ∙ ap (λ j. selected j (shown o) v) (w ∙ ap (λ i. exp d (shown i)) x)
-    ∙ ap (λ i. selected (exp d (shown b.value)) (shown i) v) y
-    ∙ ap (selected (exp d (shown b.value)) (shown b.value)) g)
+    (Part Entry Next (exp d (shown b.value)) (selected (shown b.value) (d.field c f))) is
+    (shown_field b c f m) refl
+    (u ∙ ap (λ i. Part Entry Next (exp d (shown i)) s) x
+    ∙ ap (Part Entry Next (exp d (shown b.value)))
+    (w ∙ ap (λ i. selected (shown i) v) y ∙ ap (selected (shown b.value)) g))
 
 pub output_made : (d : Declares) (k : TExprKind) (m : Mark) (c i : ℕ) (b : Box TExpr Global)
-    (e : TExpr) (n : Node) (r : Rules)
-    → k ≡ expr.Output c i b → e ≡ b.value → n ≡ exp d (shown e)
-    → r ≡ Part Entry Next n (goes_on past Done) → node m.point r ≡ exp d (kind_at k m)
+    (e : TExpr) (r s : Rules)
+    → k ≡ expr.Output c i b → s ≡ goes_on past Done → e ≡ b.value
+    → r ≡ Part Entry Next (exp d (shown e)) s → node m.point r ≡ exp d (kind_at k m)
 unfolding exp
-output_made d k m c i b e n r is x w u =
+output_made d k m c i b e r s is w x u =
     made d k (expr.Output c i b) m (typed.Output c i (shown b.value) m) r
     (Part Entry Next (exp d (shown b.value)) (goes_on past Done)) is (shown_output c i b m) refl
-    (u ∙ ap (λ j. Part Entry Next j (goes_on past Done)) (w ∙ ap (λ y. exp d (shown y)) x))
+    (u ∙ ap (λ j. Part Entry Next (exp d (shown j)) s) x
+    ∙ ap (Part Entry Next (exp d (shown b.value))) w)
 
 -- a call, taken apart
 call_is : (d : Declares) (c k : ℕ) (o : MayTExp) (es : TExps) (m : Mark)
@@ -136,45 +138,54 @@ call_made d k m c i o es xs r a s f is x y w v u =
     ∙ ap (λ l. args d (call_start (receiver o)) (all_shown l)
     (call_does d (d.method c i) (receiver o) (all_shown l))) x))
 
-abbrev pub valued : Node → Rules
-valued n = Part Entry Next n (goes_on past (Worths (Value 0) Done))
+-- what stands behind the only operand
+abbrev pub valued : Rules
+valued = goes_on past (Worths (Value 0) Done)
 
 neg_made : (d : Declares) (k : TExprKind) (m : Mark) (b : Box TExpr Global) (e : TExpr)
-    (n : Node) (r : Rules) → k ≡ expr.Neg b → e ≡ b.value → n ≡ exp d (shown e) → r ≡ valued n
-    → node m.point r ≡ exp d (kind_at k m)
+    (r s : Rules) → k ≡ expr.Neg b → s ≡ valued → e ≡ b.value
+    → r ≡ Part Entry Next (exp d (shown e)) s → node m.point r ≡ exp d (kind_at k m)
 unfolding exp
-neg_made d k m b e n r is x w u =
-    made d k (expr.Neg b) m (typed.Neg (shown b.value) m) r (valued (exp d (shown b.value))) is
-    (shown_neg b m) refl (u ∙ ap valued (w ∙ ap (λ y. exp d (shown y)) x))
+neg_made d k m b e r s is w x u =
+    made d k (expr.Neg b) m (typed.Neg (shown b.value) m) r
+    (Part Entry Next (exp d (shown b.value)) valued) is (shown_neg b m) refl
+    (u ∙ ap (λ y. Part Entry Next (exp d (shown y)) s) x
+    ∙ ap (Part Entry Next (exp d (shown b.value))) w)
 
 not_made : (d : Declares) (k : TExprKind) (m : Mark) (b : Box TExpr Global) (e : TExpr)
-    (n : Node) (r : Rules) → k ≡ expr.Not b → e ≡ b.value → n ≡ exp d (shown e) → r ≡ valued n
-    → node m.point r ≡ exp d (kind_at k m)
+    (r s : Rules) → k ≡ expr.Not b → s ≡ valued → e ≡ b.value
+    → r ≡ Part Entry Next (exp d (shown e)) s → node m.point r ≡ exp d (kind_at k m)
 unfolding exp
-not_made d k m b e n r is x w u =
-    made d k (expr.Not b) m (typed.Not (shown b.value) m) r (valued (exp d (shown b.value))) is
-    (shown_not b m) refl (u ∙ ap valued (w ∙ ap (λ y. exp d (shown y)) x))
+not_made d k m b e r s is w x u =
+    made d k (expr.Not b) m (typed.Not (shown b.value) m) r
+    (Part Entry Next (exp d (shown b.value)) valued) is (shown_not b m) refl
+    (u ∙ ap (λ y. Part Entry Next (exp d (shown y)) s) x
+    ∙ ap (Part Entry Next (exp d (shown b.value))) w)
 
 pub unary_made : (d : Declares) (k : TExprKind) (m : Mark) (b : Box TExpr Global) (e : TExpr)
-    (n : Node) (r : Rules) → (k ≡ expr.Neg b) ⊎ (k ≡ expr.Not b) → e ≡ b.value
-    → n ≡ exp d (shown e) → r ≡ valued n → node m.point r ≡ exp d (kind_at k m)
-unary_made d k m b e n r is x w u =
-    elim is [ inl y ↦ neg_made d k m b e n r y x w u | inr y ↦ not_made d k m b e n r y x w u ]
+    (r s : Rules) → (k ≡ expr.Neg b) ⊎ (k ≡ expr.Not b) → s ≡ valued → e ≡ b.value
+    → r ≡ Part Entry Next (exp d (shown e)) s → node m.point r ≡ exp d (kind_at k m)
+unary_made d k m b e r s is w x u =
+    elim is [ inl y ↦ neg_made d k m b e r s y w x u | inr y ↦ not_made d k m b e r s y w x u ]
 
-abbrev pub both : BinOp → Node → Node → TExp → Rules
-both op n o e =
-    Part Entry Next n (Part (second op) Next o (divides op e (skips op (goes_on past
-    (Worths (Value 1) (Worths (Value 0) Done))))))
+-- what stands behind both operands
+abbrev pub combined : BinOp → TExp → Rules
+combined op e =
+    divides op e (skips op (goes_on past (Worths (Value 1) (Worths (Value 0) Done))))
 
 pub binary_made : (d : Declares) (k : TExprKind) (m : Mark) (op : BinOp)
-    (a b : Box TExpr Global) (x y z : TExpr) (n o : Node) (r : Rules)
-    → k ≡ expr.Binary op a b → x ≡ a.value → y ≡ b.value → z ≡ b.value → n ≡ exp d (shown x)
-    → o ≡ exp d (shown y) → r ≡ both op n o (shown z) → node m.point r ≡ exp d (kind_at k m)
+    (a b : Box TExpr Global) (x y z : TExpr) (f : From) (r l s : Rules)
+    → k ≡ expr.Binary op a b → z ≡ b.value → s ≡ combined op (shown z) → f ≡ second op
+    → y ≡ b.value → l ≡ Part f Next (exp d (shown y)) s
+    → x ≡ a.value → r ≡ Part Entry Next (exp d (shown x)) l → node m.point r ≡ exp d (kind_at k m)
 unfolding exp
-binary_made d k m op a b x y z n o r is f g h v w u =
+binary_made d k m op a b x y z f r l s is e w g h v i u =
+    let one = exp d (shown a.value) in
+    let other = exp d (shown b.value) in
     made d k (expr.Binary op a b) m (typed.Binary op (shown a.value) (shown b.value) m) r
-    (both op (exp d (shown a.value)) (exp d (shown b.value)) (shown b.value)) is
+    (Part Entry Next one (Part (second op) Next other (combined op (shown b.value)))) is
     (shown_binary op a b m) refl
-    (u ∙ ap (λ i. both op i o (shown z)) (v ∙ ap (λ i. exp d (shown i)) f)
-    ∙ ap (λ i. both op (exp d (shown a.value)) i (shown z)) (w ∙ ap (λ i. exp d (shown i)) g)
-    ∙ ap (λ i. both op (exp d (shown a.value)) (exp d (shown b.value)) (shown i)) h)
+    (u ∙ ap (λ n. Part Entry Next (exp d (shown n)) l) i
+    ∙ ap (Part Entry Next one) (v ∙ ap (λ n. Part f Next (exp d (shown n)) s) h
+    ∙ ap (λ n. Part n Next other s) g
+    ∙ ap (Part (second op) Next other) (w ∙ ap (λ n. combined op (shown n)) e)))

@@ -6,7 +6,7 @@ use Rattle.par_typed.specs.declared.expr.TExpr.{TExpr}
 use Rattle.par_typed.specs.Shown.{shown, all_shown}
 use Rattle.par_rules.specs.Kinds.{Next, Throw}
 use Rattle.par_rules.specs.Declares.{Declares, Method, throws_of}
-use Rattle.par_rules.specs.Rules.{From, Raised, Shut, Node, Rules, Part, Leaves}
+use Rattle.par_rules.specs.Rules.{From, Raised, Shut, Rules, Part, Leaves}
 use Rattle.par_rules.specs.Body.{past, thrown, exp, args, args_past, args_count}
 use Rattle.par_nodes.specs.Starts.{start_at}
 
@@ -76,11 +76,11 @@ past_is [] from = refl
 past_is (e ∷ es) from = refl
 
 pub args_next : (d : Declares) (from : From) (es : List TExpr) (p : ℕ) (e : TExpr)
-    (more r m : Rules) (f : From) (n : Node) → 0 < p → p ≤ length es → e ≡ get_or es (p - 1) e
-    → r ≡ Part f Next n m → f ≡ start_at (p - 1) from → n ≡ exp d (shown e)
+    (more r m : Rules) (f : From) → 0 < p → p ≤ length es → e ≡ get_or es (p - 1) e
+    → r ≡ Part f Next (exp d (shown e)) m → f ≡ start_at (p - 1) from
     → m ≡ args d (start_at p from) (all_shown (drop p es)) more
     → r ≡ args d (start_at (p - 1) from) (all_shown (drop (p - 1) es)) more
-args_next d from es p e more r m f n g h q a b x y =
-    a ∙ ap (λ k. Part k Next n m) b ∙ ap (λ k. Part (start_at (p - 1) from) Next k m) x
+args_next d from es p e more r m f g h q a b y =
+    a ∙ ap (λ k. Part k Next (exp d (shown e)) m) b
     ∙ ap (Part (start_at (p - 1) from) Next (exp d (shown e))) y
     ∙ sym (args_at d from es p e more g h q)

@@ -17,8 +17,8 @@ use Rattle.par_typed.proofs.Shown.{does_when}
 use Rattle.par_rules.specs.Kinds as kinds
 use Rattle.par_rules.specs.Kinds.{Next, Normal, Loop, Catches}
 use Rattle.par_rules.specs.Declares.{Declares}
-use Rattle.par_rules.specs.Rules.{Entry, After, Tested, Raised, Opened, Shut, Assigned, Node, node}
-use Rattle.par_rules.specs.Rules.{Rules, Done, Part, Test, Heads, Leaves, goes_on}
+use Rattle.par_rules.specs.Rules.{From, Entry, After, Tested, Raised, Opened, Shut, Assigned}
+use Rattle.par_rules.specs.Rules.{Node, node, Rules, Done, Part, Test, Heads, Leaves, goes_on}
 use Rattle.par_rules.specs.Body.{past, tested, null_test, if_not, is_forever, caught, exp, sta}
 use Rattle.par_rules.specs.Body.{stas, catches}
 use Rattle.par_nodes.specs.Starts.{behind_value, goes_first, else_rules}
@@ -39,47 +39,43 @@ block_made d k a p ss xs r is x u =
     (u ∙ ap (λ l. stas d Entry (all_do l)) x)
 
 pub if_made : (d : Declares) (k : TStmtKind) (a p : ℕ) (e : TExpr) (b : Box TStmt Global)
-    (o : Option (Box TStmt Global)) (s : TStmt) (r rest : Rules) (n : Node)
-    → k ≡ stmt.If e b o → s ≡ b.value → n ≡ sta d (does s)
-    → rest ≡ else_rules d (otherwise o) (Tested 1 (After 1 Normal))
-    → r ≡ Part Entry Next (exp d (shown e)) (goes_first (otherwise o) past
-    (Part tested Next n (goes_on past rest)))
+    (o : Option (Box TStmt Global)) (s : TStmt) (r both rest : Rules)
+    → k ≡ stmt.If e b o → rest ≡ else_rules d (otherwise o) (Tested 1 (After 1 Normal))
+    → s ≡ b.value → both ≡ Part tested Next (sta d (does s)) (goes_on past rest)
+    → r ≡ Part Entry Next (exp d (shown e)) (goes_first (otherwise o) past both)
     → node p r ≡ sta d (does_at k a p)
-if_made d k a p e b o s r rest n is q y z u =
+if_made d k a p e b o s r both rest is z q y u =
     made d k (stmt.If e b o) a p _ r _ is (does_if e b o a p)
     (if_is d (shown e) (does b.value) (otherwise o) a p)
-    (u ∙ ap (λ m. Part Entry Next (exp d (shown e)) (goes_first (otherwise o) past
-    (Part tested Next m (goes_on past rest)))) (y ∙ ap (λ m. sta d (does m)) q)
-    ∙ ap (λ m. Part Entry Next (exp d (shown e)) (goes_first (otherwise o) past
-    (Part tested Next (sta d (does b.value)) (goes_on past m)))) z)
+    (u ∙ ap (λ m. Part Entry Next (exp d (shown e)) (goes_first (otherwise o) past m))
+    (y ∙ ap (λ m. Part tested Next (sta d (does m)) (goes_on past rest)) q
+    ∙ ap (λ m. Part tested Next (sta d (does b.value)) (goes_on past m)) z))
 
 pub while_made : (d : Declares) (k : TStmtKind) (a p : ℕ) (e : TExpr) (b : Box TStmt Global)
-    (s : TStmt) (r : Rules) (n : Node)
-    → k ≡ stmt.While e b → s ≡ b.value → n ≡ sta d (does s)
-    → r ≡ Test (exp d (shown e)) (Heads Entry (if_not (is_forever (shown e)) (goes_on past)
-    (Part tested Loop n (Heads past (Heads (After 0 kinds.Continue)
-    (goes_on (After 0 kinds.Break) Done))))))
+    (s : TStmt) (r part : Rules) → k ≡ stmt.While e b → s ≡ b.value
+    → part ≡ Part tested Loop (sta d (does s)) (Heads past (Heads (After 0 kinds.Continue)
+    (goes_on (After 0 kinds.Break) Done)))
+    → r ≡ Test (exp d (shown e)) (Heads Entry (if_not (is_forever (shown e)) (goes_on past) part))
     → node p r ≡ sta d (does_at k a p)
-while_made d k a p e b s r n is q y u =
+while_made d k a p e b s r part is q y u =
     let tail : Rules = Heads past (Heads (After 0 kinds.Continue)
     (goes_on (After 0 kinds.Break) Done)) in
     made d k (stmt.While e b) a p _ r _ is (does_while e b a p)
     (while_is d (shown e) (does b.value) a p)
     (u ∙ ap (λ m. Test (exp d (shown e)) (Heads Entry (if_not (is_forever (shown e)) (goes_on past)
-    (Part tested Loop m tail)))) (y ∙ ap (λ m. sta d (does m)) q))
+    m))) (y ∙ ap (λ m. Part tested Loop (sta d (does m)) tail) q))
 
 pub try_made : (d : Declares) (k : TStmtKind) (a p : ℕ) (b : Box TStmt Global)
-    (cs xs ys : List TCatch) (s : TStmt) (r handled : Rules) (n : Node)
+    (cs xs : List TCatch) (s : TStmt) (r : Rules) (n : Node)
     → k ≡ stmt.Try b cs → s ≡ b.value → n ≡ sta d (does s) → xs ≡ cs
-    → handled ≡ catches d n (all_catch xs) 0 → ys ≡ cs
-    → r ≡ Part Entry (Catches (caught (all_catch ys))) n (goes_on past handled)
+    → r ≡ Part Entry (Catches (caught (all_catch xs))) n
+    (goes_on past (catches d n (all_catch xs) 0))
     → node p r ≡ sta d (does_at k a p)
-try_made d k a p b cs xs ys s r handled n is q y x w z u =
+try_made d k a p b cs xs s r n is q y x u =
     made d k (stmt.Try b cs) a p _ r _ is (does_try b cs a p)
     (try_is d (does b.value) (all_catch cs) a p)
-    (u ∙ ap (λ l. Part Entry (Catches (caught (all_catch l))) n (goes_on past handled)) z
-    ∙ ap (λ h. Part Entry (Catches (caught (all_catch cs))) n (goes_on past h))
-    (w ∙ ap (λ l. catches d n (all_catch l) 0) x)
+    (u ∙ ap (λ l. Part Entry (Catches (caught (all_catch l))) n
+    (goes_on past (catches d n (all_catch l) 0))) x
     ∙ ap (λ m. Part Entry (Catches (caught (all_catch cs))) m
     (goes_on past (catches d m (all_catch cs) 0))) (y ∙ ap (λ m. sta d (does m)) q))
 
@@ -145,18 +141,20 @@ eval_made d k a p e r is u =
     made d k (stmt.Eval e) a p _ r _ is (does_eval e a p) (eval_is d (shown e) a p) u
 
 pub when_made : (d : Declares) (k : TStmtKind) (a p l v : ℕ) (b : Box TStmt Global)
-    (o : Option (Box TStmt Global)) (s : TStmt) (r rest : Rules) (n : Node)
-    → k ≡ stmt.When l b o → v ≡ d.lock l → s ≡ b.value → n ≡ sta d (does s)
-    → rest ≡ else_rules d (otherwise o) (Raised v Entry)
-    → r ≡ goes_first (otherwise o) Entry (Part (Opened (adding none l) (Raised v Entry)) Next n
-    (goes_on past rest))
+    (o : Option (Box TStmt Global)) (s : TStmt) (f g : From) (r both rest : Rules)
+    → k ≡ stmt.When l b o → v ≡ d.lock l → f ≡ Raised v Entry → rest ≡ else_rules d (otherwise o) f
+    → g ≡ Opened (adding none l) (Raised v Entry) → s ≡ b.value
+    → both ≡ Part g Next (sta d (does s)) (goes_on past rest)
+    → r ≡ goes_first (otherwise o) Entry both
     → node p r ≡ sta d (does_at k a p)
-when_made d k a p l v b o s r rest n is g q y z u =
+when_made d k a p l v b o s f g r both rest is e i z h q y u =
+    let asked : Rules → Rules = goes_first (otherwise o) Entry in
+    let then : From → Rules → Rules = λ c m. Part c Next (sta d (does b.value)) (goes_on past m) in
     made d k (stmt.When l b o) a p _ r _ is (does_when l b o a p)
     (when_is d l (does b.value) (otherwise o) a p)
-    (u ∙ ap (λ m. goes_first (otherwise o) Entry (Part (Opened (adding none l) (Raised v Entry))
-    Next m (goes_on past rest))) (y ∙ ap (λ m. sta d (does m)) q)
-    ∙ ap (λ m. goes_first (otherwise o) Entry (Part (Opened (adding none l) (Raised v Entry)) Next
-    (sta d (does b.value)) (goes_on past m))) z
-    ∙ ap (λ c. goes_first (otherwise o) Entry (Part (Opened (adding none l) (Raised c Entry)) Next
-    (sta d (does b.value)) (goes_on past (else_rules d (otherwise o) (Raised c Entry))))) g)
+    (u ∙ ap asked (y ∙ ap (λ m. Part g Next (sta d (does m)) (goes_on past rest)) q
+    ∙ ap (λ c. then c rest) h
+    ∙ ap (then (Opened (adding none l) (Raised v Entry)))
+    (z ∙ ap (else_rules d (otherwise o)) i)
+    ∙ ap (λ c. then (Opened (adding none l) (Raised c Entry))
+    (else_rules d (otherwise o) (Raised c Entry))) e))

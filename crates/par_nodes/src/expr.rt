@@ -128,50 +128,29 @@ fn given<'a>(alloc: Global, policy: u16) -> Result<Draft<'a>, NoMemory>
     ensures { IfOk result (λ r. seen_rules r.rules ≡ plain.goes_on plain.Entry
         (plain.Worths (plain.Given policy) plain.Done)) }
 {
-    let rules = make::gives(alloc, Worth::Given(policy))?;
-    Ok(rules)
+    make::gives(alloc, Worth::Given(policy))
 }
 
-// What is known of a field behind its object.
-fn field_value<'a>(alloc: Global, policy: u16) -> Result<Draft<'a>, NoMemory>
-    ensures { IfOk result (λ r. seen_rules r.rules ≡ plain.goes_on body.past
-        (plain.Worths (plain.Value 0) (plain.Worths (plain.Given policy) plain.Done))) }
+// Behind the object of a field comes what is known of the field.
+fn selected<'a>(alloc: Global, of: &TExpr, policy: u16) -> Result<Draft<'a>, NoMemory>
+    ensures { IfOk result (λ r. seen_rules r.rules
+        ≡ body.null_test (shown of.now) body.tested (plain.goes_on body.past
+        (plain.Worths (plain.Value 0) (plain.Worths (plain.Given policy) plain.Done)))) }
 {
     let own = make::worth(alloc, Worth::Given(policy))?;
     let value = make::worths(alloc, Worth::Value(0), own)?;
-    let rules = make::goes_on(alloc, PAST, value)?;
+    let goes = make::goes_on(alloc, PAST, value)?;
+    let rules = null_test(alloc, of, TESTED, goes)?;
     Ok(rules)
 }
 
-// A field of an object.
-#[inline(never)]
-fn select<'a>(
-    alloc: Global,
-    node: Known<'a>,
-    of: &TExpr,
-    policy: u16,
-) -> Result<Draft<'a>, NoMemory>
+// The value of the only operand.
+fn valued<'a>(alloc: Global) -> Result<Draft<'a>, NoMemory>
     ensures { IfOk result (λ r. seen_rules r.rules
-        ≡ plain.Part plain.Entry Next (seen_node node.entry.node)
-        (body.null_test (shown of.now) body.tested (plain.goes_on body.past
-        (plain.Worths (plain.Value 0) (plain.Worths (plain.Given policy) plain.Done))))) }
-{
-    let goes = field_value(alloc, policy)?;
-    let rest = null_test(alloc, of, TESTED, goes)?;
-    let rules = make::then(alloc, ENTRY, node, rest)?;
-    Ok(rules)
-}
-
-// The value of the part.
-#[inline(never)]
-fn unary<'a>(alloc: Global, node: Known<'a>) -> Result<Draft<'a>, NoMemory>
-    ensures { IfOk result (λ r. seen_rules r.rules
-        ≡ plain.Part plain.Entry Next (seen_node node.entry.node)
-        (plain.goes_on body.past (plain.Worths (plain.Value 0) plain.Done))) }
+        ≡ plain.goes_on body.past (plain.Worths (plain.Value 0) plain.Done)) }
 {
     let value = make::worth(alloc, Worth::Value(0))?;
-    let goes = make::goes_on(alloc, PAST, value)?;
-    let rules = make::then(alloc, ENTRY, node, goes)?;
+    let rules = make::goes_on(alloc, PAST, value)?;
     Ok(rules)
 }
 
@@ -186,25 +165,34 @@ fn operands<'a>(alloc: Global) -> Result<Draft<'a>, NoMemory>
     Ok(rules)
 }
 
-#[inline(never)]
-fn binary<'a>(
-    alloc: Global,
-    op: BinOp,
-    first: Known<'a>,
-    last: Known<'a>,
-    right: &TExpr,
-) -> Result<Draft<'a>, NoMemory>
+// Behind both operands comes what the operator makes of them.
+fn combined<'a>(alloc: Global, op: BinOp, right: &TExpr) -> Result<Draft<'a>, NoMemory>
     ensures { IfOk result (λ r. seen_rules r.rules
-        ≡ plain.Part plain.Entry Next (seen_node first.entry.node)
-        (plain.Part (body.second op) Next (seen_node last.entry.node)
-        (body.divides op (shown right.now) (body.skips op (plain.goes_on body.past
-        (plain.Worths (plain.Value 1) (plain.Worths (plain.Value 0) plain.Done))))))) }
+        ≡ body.divides op (shown right.now) (body.skips op (plain.goes_on body.past
+        (plain.Worths (plain.Value 1) (plain.Worths (plain.Value 0) plain.Done))))) }
 {
     let values = operands(alloc)?;
     let skipped = skips(alloc, op, values)?;
-    let divided = divides(alloc, op, right, skipped)?;
-    let behind = make::then(alloc, second(op), last, divided)?;
-    let rules = make::then(alloc, ENTRY, first, behind)?;
+    let rules = divides(alloc, op, right, skipped)?;
+    Ok(rules)
+}
+
+/// An operand that is entered from there, before what stands behind it.
+#[cycle(exp)]
+#[inline(never)]
+pub fn operand<'a>(
+    alloc: Global,
+    table: &'a Table,
+    from: Origin<'a>,
+    e: &TExpr,
+    behind: Draft<'a>,
+) -> Result<Draft<'a>, NoMemory>
+    ensures { IfOk result (λ r. seen_rules r.rules
+        ≡ plain.Part (seen_origin from.entry) Next (body.exp (declares table.now) (shown e.now))
+        (seen_rules behind.entry.rules)) }
+{
+    let node = exp(alloc, table, e)?;
+    let rules = make::then(alloc, from, node, behind)?;
     Ok(rules)
 }
 
@@ -223,16 +211,11 @@ fn args<'a>(
 {
     let mut rules = more;
     for place in (0..args.len()).rev() {
-        let node = exp(alloc, table, &args[place])?;
-        rules = make::then(
-            alloc,
-            Origin {
-                start: start_at(place, from),
-                ..ENTRY
-            },
-            node,
-            rules,
-        )?;
+        let from = Origin {
+            start: start_at(place, from),
+            ..ENTRY
+        };
+        rules = operand(alloc, table, from, &args[place], rules)?;
     }
     Ok(rules)
 }
@@ -308,8 +291,7 @@ fn behind<'a>(
     match of {
         None => Ok(more),
         Some(of) => {
-            let node = exp(alloc, table, of)?;
-            let rules = make::then(alloc, ENTRY, node, more)?;
+            let rules = operand(alloc, table, ENTRY, of, more)?;
             Ok(rules)
         }
     }
@@ -341,12 +323,12 @@ fn rules_of<'a>(alloc: Global, table: &'a Table, e: &TExpr) -> Result<Draft<'a>,
             given(alloc, declared::channel(table, *class, *channel))
         }
         TExprKind::Field(of, class, field) => {
-            let node = exp(alloc, table, of)?;
-            select(alloc, node, of, declared::field(table, *class, *field))
+            let rest = selected(alloc, of, declared::field(table, *class, *field))?;
+            operand(alloc, table, ENTRY, of, rest)
         }
         TExprKind::Output(_, _, value) => {
-            let node = exp(alloc, table, value)?;
-            alone(alloc, node)
+            let rest = make::ends(alloc, PAST)?;
+            operand(alloc, table, ENTRY, value, rest)
         }
         TExprKind::Call(class, method, of, arguments) => {
             let arguments = arguments.as_slice();
@@ -355,13 +337,13 @@ fn rules_of<'a>(alloc: Global, table: &'a Table, e: &TExpr) -> Result<Draft<'a>,
             behind(alloc, table, of, all)
         }
         TExprKind::Neg(of) | TExprKind::Not(of) => {
-            let node = exp(alloc, table, of)?;
-            unary(alloc, node)
+            let rest = valued(alloc)?;
+            operand(alloc, table, ENTRY, of, rest)
         }
         TExprKind::Binary(op, left, right) => {
-            let first = exp(alloc, table, left)?;
-            let last = exp(alloc, table, right)?;
-            binary(alloc, *op, first, last, right)
+            let rest = combined(alloc, *op, right)?;
+            let last = operand(alloc, table, second(*op), right, rest)?;
+            operand(alloc, table, ENTRY, left, last)
         }
     }
 }

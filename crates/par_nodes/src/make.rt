@@ -1,15 +1,16 @@
 //! Rules with one more before them.
 
-ghost use Rattle.std.specs.Prelude.{◌≡◌, IfOk};
+ghost use Rattle.std.specs.Prelude.{◌≡◌, IfOk, [], ◌∷◌};
 ghost use Rattle.par_rules.specs.Kinds as kinds;
 ghost use Rattle.par_rules.specs.Body.{past, tested};
 ghost use Rattle.par_rules.specs.Rules as plain;
+ghost use Rattle.par_nodes.specs.Possible.{cans, parts_can};
 ghost use Rattle.par_nodes.specs.Seen.{seen_absorber, seen_kind, seen_node, seen_origin};
 ghost use Rattle.par_nodes.specs.Seen.{seen_rules, seen_worth};
 
 use crate::draft::{Draft, Known};
-use crate::rule::{Absorber, Kind, Locks, Origin, Rules, Start, Worth};
-use par_lexer::list::NoMemory;
+use crate::rule::{Absorber, Kind, Locks, Node, Origin, Rules, Start, Worth};
+use par_lexer::list::{List, NoMemory};
 use std::alloc::Global;
 
 /// The way that enters the node.
@@ -53,6 +54,39 @@ pub fn done<'a>(alloc: Global) -> Draft<'a>
     }
 }
 
+// A part and the rules behind it, in boxes.
+#[derive(Drop)]
+struct Boxes<'a> {
+    node: Box<Node<'a>>,
+    more: Box<Rules<'a>>,
+    found: Vec<List<Kind>>,
+    ghost told: { cans found.items [] ≡ plain.can (seen_node node.value)
+        ∷ parts_can (seen_rules more.value) },
+}
+
+fn in_boxes<'a>(
+    alloc: Global,
+    node: Node<'a>,
+    rules: Rules<'a>,
+) -> Result<(Box<Node<'a>>, Box<Rules<'a>>), NoMemory>
+    ensures { IfOk result (λ b. (b.0.value ≡ node.entry) × (b.1.value ≡ rules.entry)) }
+{
+    let node = Box::new(alloc, node)?;
+    let more = Box::new(alloc, rules)?;
+    Ok((node, more))
+}
+
+fn boxed<'a>(alloc: Global, part: Known<'a>, more: Draft<'a>) -> Result<Boxes<'a>, NoMemory>
+    ensures { IfOk result (λ b. (b.node.value ≡ part.entry.node)
+        × (b.more.value ≡ more.entry.rules)) }
+{
+    let Known { node, kinds } = part;
+    let Draft { rules, mut found } = more;
+    found.push(kinds)?;
+    let (node, more) = in_boxes(alloc, node, rules)?;
+    Ok(Boxes { node, more, found })
+}
+
 /// A part that the way enters.
 #[tactic(auto, using(crate::proofs::Forms::forms))]
 pub fn part<'a>(
@@ -65,11 +99,7 @@ pub fn part<'a>(
     ensures { IfOk result (λ r. seen_rules r.rules ≡ plain.Part (seen_origin from.entry)
         (seen_absorber absorber) (seen_node part.entry.node) (seen_rules more.entry.rules)) }
 {
-    let Known { node, kinds } = part;
-    let Draft { rules, mut found } = more;
-    found.push(kinds)?;
-    let node = Box::new(alloc, node)?;
-    let more = Box::new(alloc, rules)?;
+    let Boxes { node, more, found } = boxed(alloc, part, more)?;
     Ok(Draft {
         rules: Rules::Part(from, absorber, node, more),
         found,
@@ -95,11 +125,7 @@ pub fn test<'a>(alloc: Global, part: Known<'a>, more: Draft<'a>) -> Result<Draft
     ensures { IfOk result (λ r. seen_rules r.rules
         ≡ plain.Test (seen_node part.entry.node) (seen_rules more.entry.rules)) }
 {
-    let Known { node, kinds } = part;
-    let Draft { rules, mut found } = more;
-    found.push(kinds)?;
-    let node = Box::new(alloc, node)?;
-    let more = Box::new(alloc, rules)?;
+    let Boxes { node, more, found } = boxed(alloc, part, more)?;
     Ok(Draft {
         rules: Rules::Test(node, more),
         found,

@@ -12,7 +12,7 @@ ghost use Rattle.par_nodes.specs.Starts.{behind_value, catch_start, else_rules, 
 
 use crate::declared;
 use crate::draft::{Draft, Known};
-use crate::expr::{alone, exp, null_test, start_at};
+use crate::expr::{alone, exp, null_test, operand, start_at};
 use crate::make::{self, ENTRY, PAST, TESTED};
 use crate::possible::among;
 use crate::rule::{Absorber, Kind, Locks, Origin, Start};
@@ -103,9 +103,8 @@ fn returns<'a>(
             Ok(rules)
         }
         Some(value) => {
-            let node = exp(alloc, table, value)?;
             let leaves = make::leaves(alloc, PAST, Kind::Return, make::done(alloc))?;
-            let rules = make::then(alloc, ENTRY, node, leaves)?;
+            let rules = operand(alloc, table, ENTRY, value, leaves)?;
             Ok(rules)
         }
     }
@@ -130,22 +129,6 @@ fn goes_first<'a>(
     }
 }
 
-// A block after which the other one may stand.
-fn branches<'a>(
-    alloc: Global,
-    from: Origin<'a>,
-    node: Known<'a>,
-    more: Draft<'a>,
-) -> Result<Draft<'a>, NoMemory>
-    ensures { IfOk result (λ r. seen_rules r.rules
-        ≡ plain.Part (seen_origin from.entry) kinds.Next (seen_node node.entry.node)
-        (plain.goes_on body.past (seen_rules more.entry.rules))) }
-{
-    let goes = make::goes_on(alloc, PAST, more)?;
-    let rules = make::then(alloc, from, node, goes)?;
-    Ok(rules)
-}
-
 // Behind the block of a loop comes the test, but for `break`.
 fn again<'a>(alloc: Global) -> Result<Draft<'a>, NoMemory>
     ensures { IfOk result (λ r. seen_rules r.rules ≡ plain.Heads body.past
@@ -158,23 +141,20 @@ fn again<'a>(alloc: Global) -> Result<Draft<'a>, NoMemory>
     Ok(rules)
 }
 
-// A loop.
+// A loop, whose block with what stands behind it is given.
 #[inline(never)]
 fn repeats<'a>(
     alloc: Global,
     table: &'a Table,
     test: &TExpr,
-    block: Known<'a>,
+    block: Draft<'a>,
 ) -> Result<Draft<'a>, NoMemory>
     ensures { IfOk result (λ r. seen_rules r.rules
         ≡ plain.Test (body.exp (declares table.now) (shown test.now)) (plain.Heads plain.Entry
         (body.if_not (body.is_forever (shown test.now)) (plain.goes_on body.past)
-        (plain.Part body.tested kinds.Loop (seen_node block.entry.node)
-        (plain.Heads body.past (plain.Heads (plain.After 0 kinds.Continue)
-        (plain.goes_on (plain.After 0 kinds.Break) plain.Done))))))) }
+        (seen_rules block.entry.rules)))) }
 {
-    let part = make::part(alloc, TESTED, Absorber::Loop, block, again(alloc)?)?;
-    let behind = unless(alloc, is_forever(test), part)?;
+    let behind = unless(alloc, is_forever(test), block)?;
     let entered = make::heads(alloc, ENTRY, behind)?;
     let node = exp(alloc, table, test)?;
     let rules = make::test(alloc, node, entered)?;
@@ -213,8 +193,7 @@ fn assigns<'a>(
             ..PAST
         },
     )?;
-    let node = exp(alloc, table, value)?;
-    let rules = make::then(alloc, ENTRY, node, goes)?;
+    let rules = operand(alloc, table, ENTRY, value, goes)?;
     Ok(rules)
 }
 
@@ -254,10 +233,8 @@ fn writes<'a>(
         },
         goes,
     )?;
-    let node = exp(alloc, table, value)?;
-    let written = make::then(alloc, PAST, node, tested)?;
-    let object = exp(alloc, table, of)?;
-    let rules = make::then(alloc, ENTRY, object, written)?;
+    let written = operand(alloc, table, PAST, value, tested)?;
+    let rules = operand(alloc, table, ENTRY, of, written)?;
     Ok(rules)
 }
 
@@ -291,26 +268,21 @@ fn shuts<'a>(alloc: Global, lock: u16) -> Result<Draft<'a>, NoMemory>
     Ok(rules)
 }
 
-// A statement behind a test, and what stands behind `else`.
+// A test, and the branches behind it.
 #[inline(never)]
 fn decides<'a>(
     alloc: Global,
     table: &'a Table,
     test: &TExpr,
-    block: Known<'a>,
     other: &Option<Box<TStmt>>,
-    rest: Draft<'a>,
+    both: Draft<'a>,
 ) -> Result<Draft<'a>, NoMemory>
     ensures { IfOk result (λ r. seen_rules r.rules
         ≡ plain.Part plain.Entry kinds.Next (body.exp (declares table.now) (shown test.now))
-        (goes_first (otherwise other.now) body.past
-        (plain.Part body.tested kinds.Next (seen_node block.entry.node)
-        (plain.goes_on body.past (seen_rules rest.entry.rules))))) }
+        (goes_first (otherwise other.now) body.past (seen_rules both.entry.rules))) }
 {
-    let both = branches(alloc, TESTED, block, rest)?;
     let behind = goes_first(alloc, other, PAST, both)?;
-    let node = exp(alloc, table, test)?;
-    let rules = make::then(alloc, ENTRY, node, behind)?;
+    let rules = operand(alloc, table, ENTRY, test, behind)?;
     Ok(rules)
 }
 
@@ -324,34 +296,21 @@ fn asked(policy: u16) -> Origin<'static>
     }
 }
 
-// A statement where a lock is open, and what stands behind `else`.
-#[inline(never)]
-fn asks<'a>(
-    alloc: Global,
-    lock: u16,
-    policy: u16,
-    block: Known<'a>,
-    other: &Option<Box<TStmt>>,
-    rest: Draft<'a>,
-) -> Result<Draft<'a>, NoMemory>
-    ensures { IfOk result (λ r. seen_rules r.rules
-        ≡ goes_first (otherwise other.now) plain.Entry
-        (plain.Part (plain.Opened (adding none lock) (plain.Raised policy plain.Entry)) kinds.Next
-        (seen_node block.entry.node) (plain.goes_on body.past (seen_rules rest.entry.rules)))) }
+// The way on which a lock with this policy is known to be open.
+fn held(lock: u16, policy: u16) -> Origin<'static>
+    ensures { seen_origin result
+        ≡ plain.Opened (adding none lock) (plain.Raised policy plain.Entry) }
 {
-    let opened = Origin {
+    Origin {
         raised: Some(policy),
         opened: Locks::One(lock),
         ..ENTRY
-    };
-    let both = branches(alloc, opened, block, rest)?;
-    let rules = goes_first(alloc, other, ENTRY, both)?;
-    Ok(rules)
+    }
 }
 
 // A block of which some exceptions are caught.
 #[inline(never)]
-fn tries<'a>(
+fn guarded<'a>(
     alloc: Global,
     clauses: &[TCatch],
     block: Known<'a>,
@@ -361,9 +320,63 @@ fn tries<'a>(
         ≡ plain.Part plain.Entry (kinds.Catches (body.caught (all_catch clauses.now)))
         (seen_node block.entry.node) (plain.goes_on body.past (seen_rules handled.entry.rules))) }
 {
-    let classes = caught(alloc, clauses)?;
     let goes = make::goes_on(alloc, PAST, handled)?;
+    let classes = caught(alloc, clauses)?;
     let rules = make::part(alloc, ENTRY, Absorber::Catches(classes), block, goes)?;
+    Ok(rules)
+}
+
+// A statement that is entered from there, before what stands behind it.
+#[cycle(sta)]
+#[inline(never)]
+fn step<'a>(
+    alloc: Global,
+    table: &'a Table,
+    from: Origin<'a>,
+    stmt: &TStmt,
+    behind: Draft<'a>,
+) -> Result<Draft<'a>, NoMemory>
+    ensures { IfOk result (λ r. seen_rules r.rules
+        ≡ plain.Part (seen_origin from.entry) kinds.Next
+        (body.sta (declares table.now) (does stmt.now)) (seen_rules behind.entry.rules)) }
+{
+    let node = sta(alloc, table, stmt)?;
+    let rules = make::then(alloc, from, node, behind)?;
+    Ok(rules)
+}
+
+// A branch, behind which the way goes on, before the other branches.
+#[cycle(sta)]
+#[inline(never)]
+fn branch<'a>(
+    alloc: Global,
+    table: &'a Table,
+    from: Origin<'a>,
+    stmt: &TStmt,
+    more: Draft<'a>,
+) -> Result<Draft<'a>, NoMemory>
+    ensures { IfOk result (λ r. seen_rules r.rules
+        ≡ plain.Part (seen_origin from.entry) kinds.Next
+        (body.sta (declares table.now) (does stmt.now))
+        (plain.goes_on body.past (seen_rules more.entry.rules))) }
+{
+    let goes = make::goes_on(alloc, PAST, more)?;
+    let rules = step(alloc, table, from, stmt, goes)?;
+    Ok(rules)
+}
+
+// The block of a loop, with what stands behind it.
+#[cycle(sta)]
+#[inline(never)]
+fn looped<'a>(alloc: Global, table: &'a Table, block: &TStmt) -> Result<Draft<'a>, NoMemory>
+    ensures { IfOk result (λ r. seen_rules r.rules
+        ≡ plain.Part body.tested kinds.Loop (body.sta (declares table.now) (does block.now))
+        (plain.Heads body.past (plain.Heads (plain.After 0 kinds.Continue)
+        (plain.goes_on (plain.After 0 kinds.Break) plain.Done)))) }
+{
+    let behind = again(alloc)?;
+    let node = sta(alloc, table, block)?;
+    let rules = make::part(alloc, TESTED, Absorber::Loop, node, behind)?;
     Ok(rules)
 }
 
@@ -379,12 +392,11 @@ fn stas<'a>(alloc: Global, table: &'a Table, stmts: &[TStmt]) -> Result<Draft<'a
     };
     let mut rules = make::ends(alloc, last)?;
     for place in (0..stmts.len()).rev() {
-        let node = sta(alloc, table, &stmts[place])?;
         let from = Origin {
             start: start_at(place, Start::Entry),
             ..ENTRY
         };
-        rules = make::then(alloc, from, node, rules)?;
+        rules = step(alloc, table, from, &stmts[place], rules)?;
     }
     Ok(rules)
 }
@@ -434,12 +446,30 @@ fn handles<'a>(
         (body.sta (declares table.now) (does catch.now.body))
         (plain.goes_on body.past (seen_rules more.entry.rules))) }
 {
-    let node = sta(alloc, table, &catch.body)?;
     let from = Origin {
         start: catch_start(block, catch.class, before),
         ..ENTRY
     };
-    let rules = branches(alloc, from, node, more)?;
+    let rules = branch(alloc, table, from, &catch.body, more)?;
+    Ok(rules)
+}
+
+// A `try`, whose block is given.
+#[cycle(sta)]
+#[inline(never)]
+fn tries<'a>(
+    alloc: Global,
+    table: &'a Table,
+    clauses: &[TCatch],
+    block: Known<'a>,
+) -> Result<Draft<'a>, NoMemory>
+    ensures { IfOk result (λ r. seen_rules r.rules
+        ≡ plain.Part plain.Entry (kinds.Catches (body.caught (all_catch clauses.now)))
+        (seen_node block.entry.node) (plain.goes_on body.past (body.catches (declares table.now)
+        (seen_node block.entry.node) (all_catch clauses.now) 0))) }
+{
+    let handled = catches(alloc, table, clauses, &block)?;
+    let rules = guarded(alloc, clauses, block, handled)?;
     Ok(rules)
 }
 
@@ -458,8 +488,7 @@ fn else_rules<'a>(
     match other {
         None => Ok(make::done(alloc)),
         Some(stmt) => {
-            let node = sta(alloc, table, stmt)?;
-            let rules = branches(alloc, from, node, make::done(alloc))?;
+            let rules = branch(alloc, table, from, stmt, make::done(alloc))?;
             Ok(rules)
         }
     }
@@ -483,18 +512,17 @@ fn rules_of<'a>(alloc: Global, table: &'a Table, stmt: &TStmt) -> Result<Draft<'
     match &stmt.kind {
         TStmtKind::Block(stmts) => stas(alloc, table, stmts.as_slice()),
         TStmtKind::If(test, block, other) => {
-            let node = sta(alloc, table, block)?;
             let rest = else_rules(alloc, table, other, OTHERWISE)?;
-            decides(alloc, table, test, node, other, rest)
+            let both = branch(alloc, table, TESTED, block, rest)?;
+            decides(alloc, table, test, other, both)
         }
         TStmtKind::While(test, block) => {
-            let node = sta(alloc, table, block)?;
-            repeats(alloc, table, test, node)
+            let part = looped(alloc, table, block)?;
+            repeats(alloc, table, test, part)
         }
         TStmtKind::Try(block, clauses) => {
             let node = sta(alloc, table, block)?;
-            let handled = catches(alloc, table, clauses.as_slice(), &node)?;
-            tries(alloc, clauses.as_slice(), node, handled)
+            tries(alloc, table, clauses.as_slice(), node)
         }
         TStmtKind::Return(value) => returns(alloc, table, value),
         TStmtKind::Break => completes(alloc, Kind::Break),
@@ -508,9 +536,9 @@ fn rules_of<'a>(alloc: Global, table: &'a Table, stmt: &TStmt) -> Result<Draft<'
         TStmtKind::Eval(value) => evaluates(alloc, table, value),
         TStmtKind::When(lock, block, other) => {
             let policy = declared::lock(table, *lock);
-            let node = sta(alloc, table, block)?;
             let rest = else_rules(alloc, table, other, asked(policy))?;
-            asks(alloc, *lock, policy, node, other, rest)
+            let both = branch(alloc, table, held(*lock, policy), block, rest)?;
+            goes_first(alloc, other, ENTRY, both)
         }
     }
 }

@@ -2,9 +2,8 @@ use Rattle.std.proofs.Common.{rules, ap, ◌∙◌, drop, length}
 use Rattle.std.proofs.lemmas.Result.{IfOk-weaker}
 use Rattle.par_rules.specs.Declares.{declares}
 use Rattle.par_rules.specs.Rules.{Entry}
-use Rattle.par_nodes.specs.Seen.{seen_rules, seen_node, seen_start}
-use Rattle.par_typed.specs.Shown.{all_do, otherwise}
-use Rattle.par_nodes.specs.Starts.{else_rules}
+use Rattle.par_nodes.specs.Seen.{seen_rules, seen_node, seen_origin, seen_start}
+use Rattle.par_typed.specs.Shown.{all_do}
 use Rattle.par_rules.specs.Body.{stas}
 use Rattle.par_nodes.proofs.Branches.{stas_none, stas_next, catches_none, catches_next}
 use Rattle.par_nodes.proofs.Statements.{block_made, if_made, while_made, try_made, return_made}
@@ -31,9 +30,8 @@ stas-loop-place-preserved t c =
     stas_next (declares c.args.table.now) Entry c.args.stmts.now c.loop-place.place
     c.index-stmts-place.result
     (seen_rules c.in_ok-rules-2.rules.rules) (seen_rules c.loop-place.rules.rules)
-    (seen_start c.start_at-in-loop-place.result) (seen_node c.in_ok-node.node.node)
-    (search rules) (search rules) (search rules) c.in_ok-rules-2.ensures
-    c.start_at-in-loop-place.ensures c.in_ok-node.ensures c.loop-place.invariant
+    (seen_start c.start_at-in-loop-place.result) (search rules) (search rules) (search rules)
+    c.in_ok-rules-2.ensures c.start_at-in-loop-place.ensures c.loop-place.invariant
 
 pub catches-loop-place-preserved : goal.catches-loop-place-preserved
 catches-loop-place-preserved t c =
@@ -44,118 +42,130 @@ catches-loop-place-preserved t c =
 
 pub rules_of-returns-in-Block : goal.rules_of-returns-in-Block
 rules_of-returns-in-Block t c =
+    let s = c.args.stmt.now in
     IfOk-weaker c.stas.result _ _
-    (λ r. block_made (declares c.args.table.now) c.args.stmt.now.kind c.args.stmt.now.at c.args.stmt.now.point
-    c.in-Block.stmts c.as_slice.result.now (seen_rules r.rules) c.in-Block.is c.as_slice.ensures)
+    (λ r. block_made (declares c.args.table.now) s.kind s.at s.point c.in-Block.stmts
+    c.as_slice.result.now (seen_rules r.rules) c.in-Block.is c.as_slice.ensures)
     c.stas.ensures
 
-pub rules_of-returns-in_ok-rest-in-If : goal.rules_of-returns-in_ok-rest-in-If
-rules_of-returns-in_ok-rest-in-If t c =
+pub rules_of-returns-in_ok-both-in-If : goal.rules_of-returns-in_ok-both-in-If
+rules_of-returns-in_ok-both-in-If t c =
+    let s = c.args.stmt.now in
     IfOk-weaker c.decides.result _ _
-    (λ r. if_made (declares c.args.table.now) c.args.stmt.now.kind c.args.stmt.now.at c.args.stmt.now.point
-    c.in-If.test c.in-If.block c.in-If.other c.deref.result.now (seen_rules r.rules)
-    (seen_rules c.in_ok-rest-in-If.rest.rules) (seen_node c.in_ok-node-in-If.node.node)
-    c.in-If.is c.deref.ensures c.in_ok-node-in-If.ensures c.in_ok-rest-in-If.ensures)
+    (λ r. if_made (declares c.args.table.now) s.kind s.at s.point c.in-If.test c.in-If.block
+    c.in-If.other c.deref.result.now (seen_rules r.rules) (seen_rules c.in_ok-both-in-If.both.rules)
+    (seen_rules c.in_ok-rest-in-If.rest.rules) c.in-If.is c.in_ok-rest-in-If.ensures
+    c.deref.ensures c.in_ok-both-in-If.ensures)
     c.decides.ensures
 
-pub rules_of-returns-in_ok-node-in-While : goal.rules_of-returns-in_ok-node-in-While
-rules_of-returns-in_ok-node-in-While t c =
+pub rules_of-returns-in_ok-part-in-While : goal.rules_of-returns-in_ok-part-in-While
+rules_of-returns-in_ok-part-in-While t c =
+    let s = c.args.stmt.now in
     IfOk-weaker c.repeats.result _ _
-    (λ r. while_made (declares c.args.table.now) c.args.stmt.now.kind c.args.stmt.now.at c.args.stmt.now.point
-    c.in-While.test c.in-While.block c.deref-in-While.result.now (seen_rules r.rules)
-    (seen_node c.in_ok-node-in-While.node.node)
-    c.in-While.is c.deref-in-While.ensures c.in_ok-node-in-While.ensures)
+    (λ r. while_made (declares c.args.table.now) s.kind s.at s.point c.in-While.test
+    c.in-While.block c.deref-in-While.result.now (seen_rules r.rules)
+    (seen_rules c.in_ok-part-in-While.part.rules) c.in-While.is c.deref-in-While.ensures
+    c.in_ok-part-in-While.ensures)
     c.repeats.ensures
 
-pub rules_of-returns-in_ok-handled-in-Try : goal.rules_of-returns-in_ok-handled-in-Try
-rules_of-returns-in_ok-handled-in-Try t c =
+pub rules_of-returns-in_ok-node-in-Try : goal.rules_of-returns-in_ok-node-in-Try
+rules_of-returns-in_ok-node-in-Try t c =
+    let s = c.args.stmt.now in
     IfOk-weaker c.tries.result _ _
-    (λ r. try_made (declares c.args.table.now) c.args.stmt.now.kind c.args.stmt.now.at c.args.stmt.now.point
-    c.in-Try.block c.in-Try.clauses c.as_slice-in-Try.result.now c.as_slice-in-Try-2.result.now
-    c.deref-in-Try.result.now (seen_rules r.rules) (seen_rules c.in_ok-handled-in-Try.handled.rules)
-    (seen_node c.in_ok-node-in-Try.node.node)
-    c.in-Try.is c.deref-in-Try.ensures c.in_ok-node-in-Try.ensures c.as_slice-in-Try.ensures
-    c.in_ok-handled-in-Try.ensures c.as_slice-in-Try-2.ensures)
+    (λ r. try_made (declares c.args.table.now) s.kind s.at s.point c.in-Try.block
+    c.in-Try.clauses c.as_slice-in-Try.result.now c.deref-in-Try.result.now (seen_rules r.rules)
+    (seen_node c.in_ok-node-in-Try.node.node) c.in-Try.is c.deref-in-Try.ensures
+    c.in_ok-node-in-Try.ensures c.as_slice-in-Try.ensures)
     c.tries.ensures
 
 pub rules_of-returns-in-Return : goal.rules_of-returns-in-Return
 rules_of-returns-in-Return t c =
+    let s = c.args.stmt.now in
     IfOk-weaker c.returns.result _ _
-    (λ r. return_made (declares c.args.table.now) c.args.stmt.now.kind c.args.stmt.now.at c.args.stmt.now.point
-    c.in-Return.value (seen_rules r.rules) c.in-Return.is)
+    (λ r. return_made (declares c.args.table.now) s.kind s.at s.point c.in-Return.value
+    (seen_rules r.rules) c.in-Return.is)
     c.returns.ensures
 
 pub rules_of-returns-in-Break : goal.rules_of-returns-in-Break
 rules_of-returns-in-Break t c =
+    let s = c.args.stmt.now in
     IfOk-weaker c.completes.result _ _
-    (λ r. break_made (declares c.args.table.now) c.args.stmt.now.kind c.args.stmt.now.at c.args.stmt.now.point
-    (seen_rules r.rules) c.in-Break.is)
+    (λ r. break_made (declares c.args.table.now) s.kind s.at s.point (seen_rules r.rules)
+    c.in-Break.is)
     c.completes.ensures
 
 pub rules_of-returns-in-Continue : goal.rules_of-returns-in-Continue
 rules_of-returns-in-Continue t c =
+    let s = c.args.stmt.now in
     IfOk-weaker c.completes-in-Continue.result _ _
-    (λ r. continue_made (declares c.args.table.now) c.args.stmt.now.kind c.args.stmt.now.at c.args.stmt.now.point
-    (seen_rules r.rules) c.in-Continue.is)
+    (λ r. continue_made (declares c.args.table.now) s.kind s.at s.point (seen_rules r.rules)
+    c.in-Continue.is)
     c.completes-in-Continue.ensures
 
 pub rules_of-returns-in-Throw : goal.rules_of-returns-in-Throw
 rules_of-returns-in-Throw t c =
+    let s = c.args.stmt.now in
     IfOk-weaker c.completes-in-Throw.result _ _
-    (λ r. throw_made (declares c.args.table.now) c.args.stmt.now.kind c.args.stmt.now.at c.args.stmt.now.point
-    c.in-Throw.class (seen_rules r.rules) c.in-Throw.is)
+    (λ r. throw_made (declares c.args.table.now) s.kind s.at s.point c.in-Throw.class
+    (seen_rules r.rules) c.in-Throw.is)
     c.completes-in-Throw.ensures
 
 pub rules_of-returns-in-OpenLock : goal.rules_of-returns-in-OpenLock
 rules_of-returns-in-OpenLock t c =
+    let s = c.args.stmt.now in
     IfOk-weaker c.opens.result _ _
-    (λ r. open_made (declares c.args.table.now) c.args.stmt.now.kind c.args.stmt.now.at c.args.stmt.now.point
-    c.in-OpenLock.lock (seen_rules r.rules) c.in-OpenLock.is)
+    (λ r. open_made (declares c.args.table.now) s.kind s.at s.point c.in-OpenLock.lock
+    (seen_rules r.rules) c.in-OpenLock.is)
     c.opens.ensures
 
 pub rules_of-returns-in-CloseLock : goal.rules_of-returns-in-CloseLock
 rules_of-returns-in-CloseLock t c =
+    let s = c.args.stmt.now in
     IfOk-weaker c.shuts.result _ _
-    (λ r. close_made (declares c.args.table.now) c.args.stmt.now.kind c.args.stmt.now.at c.args.stmt.now.point
-    c.in-CloseLock.lock (seen_rules r.rules) c.in-CloseLock.is)
+    (λ r. close_made (declares c.args.table.now) s.kind s.at s.point c.in-CloseLock.lock
+    (seen_rules r.rules) c.in-CloseLock.is)
     c.shuts.ensures
 
 pub rules_of-returns-in-SetLocal : goal.rules_of-returns-in-SetLocal
 rules_of-returns-in-SetLocal t c =
+    let s = c.args.stmt.now in
     IfOk-weaker c.assigns.result _ _
-    (λ r. set_local_made (declares c.args.table.now) c.args.stmt.now.kind c.args.stmt.now.at c.args.stmt.now.point
-    c.in-SetLocal.local _ c.in-SetLocal.value (seen_rules r.rules) c.in-SetLocal.is)
+    (λ r. set_local_made (declares c.args.table.now) s.kind s.at s.point c.in-SetLocal.local _
+    c.in-SetLocal.value (seen_rules r.rules) c.in-SetLocal.is)
     c.assigns.ensures
 
 pub rules_of-returns-in-SetStatic : goal.rules_of-returns-in-SetStatic
 rules_of-returns-in-SetStatic t c =
+    let s = c.args.stmt.now in
     IfOk-weaker c.evaluates.result _ _
-    (λ r. set_static_made (declares c.args.table.now) c.args.stmt.now.kind c.args.stmt.now.at c.args.stmt.now.point
-    _ _ c.in-SetStatic.value (seen_rules r.rules) c.in-SetStatic.is)
+    (λ r. set_static_made (declares c.args.table.now) s.kind s.at s.point _ _
+    c.in-SetStatic.value (seen_rules r.rules) c.in-SetStatic.is)
     c.evaluates.ensures
 
 pub rules_of-returns-in-SetField : goal.rules_of-returns-in-SetField
 rules_of-returns-in-SetField t c =
+    let s = c.args.stmt.now in
     IfOk-weaker c.writes.result _ _
-    (λ r. set_field_made (declares c.args.table.now) c.args.stmt.now.kind c.args.stmt.now.at c.args.stmt.now.point
-    c.in-SetField.of _ _ c.in-SetField.value (seen_rules r.rules) c.in-SetField.is)
+    (λ r. set_field_made (declares c.args.table.now) s.kind s.at s.point c.in-SetField.of _ _
+    c.in-SetField.value (seen_rules r.rules) c.in-SetField.is)
     c.writes.ensures
 
 pub rules_of-returns-in-Eval : goal.rules_of-returns-in-Eval
 rules_of-returns-in-Eval t c =
+    let s = c.args.stmt.now in
     IfOk-weaker c.evaluates-in-Eval.result _ _
-    (λ r. eval_made (declares c.args.table.now) c.args.stmt.now.kind c.args.stmt.now.at c.args.stmt.now.point
-    c.in-Eval.value (seen_rules r.rules) c.in-Eval.is)
+    (λ r. eval_made (declares c.args.table.now) s.kind s.at s.point c.in-Eval.value
+    (seen_rules r.rules) c.in-Eval.is)
     c.evaluates-in-Eval.ensures
 
-pub rules_of-returns-in_ok-rest-in-When : goal.rules_of-returns-in_ok-rest-in-When
-rules_of-returns-in_ok-rest-in-When t c =
-    IfOk-weaker c.asks.result _ _
-    (λ r. when_made (declares c.args.table.now) c.args.stmt.now.kind c.args.stmt.now.at c.args.stmt.now.point
-    c.in-When.lock c.lock-policy.result c.in-When.block c.in-When.other
-    c.deref-in-When.result.now (seen_rules r.rules) (seen_rules c.in_ok-rest-in-When.rest.rules)
-    (seen_node c.in_ok-node-in-When.node.node)
-    c.in-When.is c.lock-policy.ensures c.deref-in-When.ensures c.in_ok-node-in-When.ensures
-    (c.in_ok-rest-in-When.ensures
-    ∙ ap (else_rules (declares c.args.table.now) (otherwise c.in-When.other)) c.asked.ensures))
-    c.asks.ensures
+pub rules_of-returns-in_ok-both-in-When : goal.rules_of-returns-in_ok-both-in-When
+rules_of-returns-in_ok-both-in-When t c =
+    let s = c.args.stmt.now in
+    IfOk-weaker c.goes_first.result _ _
+    (λ r. when_made (declares c.args.table.now) s.kind s.at s.point c.in-When.lock
+    c.lock-policy.result c.in-When.block c.in-When.other c.deref-in-When.result.now
+    (seen_origin c.asked.result) (seen_origin c.held.result) (seen_rules r.rules)
+    (seen_rules c.in_ok-both-in-When.both.rules) (seen_rules c.in_ok-rest-in-When.rest.rules)
+    c.in-When.is c.lock-policy.ensures c.asked.ensures c.in_ok-rest-in-When.ensures
+    c.held.ensures c.deref-in-When.ensures c.in_ok-both-in-When.ensures)
+    c.goes_first.ensures
