@@ -134,17 +134,18 @@ unfolding catches
 catches_none d b cs n r e = e ∙ sym (ap (λ l. catches d b (all_catch l) n) (drop_all cs))
 
 -- the catches from a place on
-pub catches_next : (d : Declares) (b : Node) (cs : List TCatch) (p : ℕ) (c : TCatch) (r m : Rules)
-    → 0 < p → p ≤ length cs → c ≡ get_or cs (p - 1) c
-    → r ≡ Part (catch_start b c.class (p - 1)) Next (sta d (does c.body)) (goes_on past m)
-    → m ≡ catches d b (all_catch (drop p cs)) p
+pub catches_next : (d : Declares) (b : Node) (cs : List TCatch) (p : ℕ) (c : TCatch)
+    (r g m : Rules) (f : From) → 0 < p → p ≤ length cs → c ≡ get_or cs (p - 1) c
+    → r ≡ Part f Next (sta d (does c.body)) g → f ≡ catch_start b c.class (p - 1)
+    → g ≡ goes_on past m → m ≡ catches d b (all_catch (drop p cs)) p
     → r ≡ catches d b (all_catch (drop (p - 1) cs)) (p - 1)
 unfolding catches
-catches_next d b cs p c r m g h q a y =
-    let e : suc (p - 1) ≡ p = omega (arith, g) in
-    a ∙ ap (λ k. Part (catch_start b c.class (p - 1)) Next (sta d (does c.body)) (goes_on past k))
-    (y ∙ ap (catches d b (all_catch (drop p cs))) (sym e))
-    ∙ sym (ap (λ l. catches d b (all_catch l) (p - 1)) (drop_at cs p c g h q))
+catches_next d b cs p c r g m f i h q a x w y =
+    let e : suc (p - 1) ≡ p = omega (arith, i) in
+    let rest : Rules → Rules = Part (catch_start b c.class (p - 1)) Next (sta d (does c.body)) in
+    a ∙ ap (λ k. Part k Next (sta d (does c.body)) g) x ∙ ap rest (w ∙ ap (goes_on past)
+    (y ∙ ap (catches d b (all_catch (drop p cs))) (sym e)))
+    ∙ sym (ap (λ l. catches d b (all_catch l) (p - 1)) (drop_at cs p c i h q))
 
 -- from where a catch is entered, by what its block can throw
 pub start_is : (b : Node) (class before : ℕ) (js xs : List code.Kind) (t u : Bool)

@@ -40,16 +40,17 @@ block_made d k a p ss xs r is x u =
 
 pub if_made : (d : Declares) (k : TStmtKind) (a p : ℕ) (e : TExpr) (b : Box TStmt Global)
     (o : Option (Box TStmt Global)) (s : TStmt) (r both rest : Rules)
-    → k ≡ stmt.If e b o → rest ≡ else_rules d (otherwise o) (Tested 1 (After 1 Normal))
-    → s ≡ b.value → both ≡ Part tested Next (sta d (does s)) (goes_on past rest)
+    → k ≡ stmt.If e b o
+    → rest ≡ goes_on past (else_rules d (otherwise o) (Tested 1 (After 1 Normal)))
+    → s ≡ b.value → both ≡ Part tested Next (sta d (does s)) rest
     → r ≡ Part Entry Next (exp d (shown e)) (goes_first (otherwise o) past both)
     → node p r ≡ sta d (does_at k a p)
 if_made d k a p e b o s r both rest is z q y u =
     made d k (stmt.If e b o) a p _ r _ is (does_if e b o a p)
     (if_is d (shown e) (does b.value) (otherwise o) a p)
     (u ∙ ap (λ m. Part Entry Next (exp d (shown e)) (goes_first (otherwise o) past m))
-    (y ∙ ap (λ m. Part tested Next (sta d (does m)) (goes_on past rest)) q
-    ∙ ap (λ m. Part tested Next (sta d (does b.value)) (goes_on past m)) z))
+    (y ∙ ap (λ m. Part tested Next (sta d (does m)) rest) q
+    ∙ ap (Part tested Next (sta d (does b.value))) z))
 
 pub while_made : (d : Declares) (k : TStmtKind) (a p : ℕ) (e : TExpr) (b : Box TStmt Global)
     (s : TStmt) (r part : Rules) → k ≡ stmt.While e b → s ≡ b.value
@@ -142,19 +143,18 @@ eval_made d k a p e r is u =
 
 pub when_made : (d : Declares) (k : TStmtKind) (a p l v : ℕ) (b : Box TStmt Global)
     (o : Option (Box TStmt Global)) (s : TStmt) (f g : From) (r both rest : Rules)
-    → k ≡ stmt.When l b o → v ≡ d.lock l → f ≡ Raised v Entry → rest ≡ else_rules d (otherwise o) f
+    → k ≡ stmt.When l b o → v ≡ d.lock l → f ≡ Raised v Entry
+    → rest ≡ goes_on past (else_rules d (otherwise o) f)
     → g ≡ Opened (adding none l) (Raised v Entry) → s ≡ b.value
-    → both ≡ Part g Next (sta d (does s)) (goes_on past rest)
-    → r ≡ goes_first (otherwise o) Entry both
+    → both ≡ Part g Next (sta d (does s)) rest → r ≡ goes_first (otherwise o) Entry both
     → node p r ≡ sta d (does_at k a p)
 when_made d k a p l v b o s f g r both rest is e i z h q y u =
-    let asked : Rules → Rules = goes_first (otherwise o) Entry in
-    let then : From → Rules → Rules = λ c m. Part c Next (sta d (does b.value)) (goes_on past m) in
+    let opened : ℕ → From = λ c. Opened (adding none l) (Raised c Entry) in
+    let behind : From → Rules = λ c. goes_on past (else_rules d (otherwise o) c) in
     made d k (stmt.When l b o) a p _ r _ is (does_when l b o a p)
     (when_is d l (does b.value) (otherwise o) a p)
-    (u ∙ ap asked (y ∙ ap (λ m. Part g Next (sta d (does m)) (goes_on past rest)) q
-    ∙ ap (λ c. then c rest) h
-    ∙ ap (then (Opened (adding none l) (Raised v Entry)))
-    (z ∙ ap (else_rules d (otherwise o)) i)
-    ∙ ap (λ c. then (Opened (adding none l) (Raised c Entry))
-    (else_rules d (otherwise o) (Raised c Entry))) e))
+    (u ∙ ap (goes_first (otherwise o) Entry)
+    (y ∙ ap (λ m. Part g Next (sta d (does m)) rest) q
+    ∙ ap (λ c. Part c Next (sta d (does b.value)) rest) h
+    ∙ ap (Part (opened v) Next (sta d (does b.value))) (z ∙ ap behind i)
+    ∙ ap (λ c. Part (opened c) Next (sta d (does b.value)) (behind (Raised c Entry))) e))

@@ -345,26 +345,6 @@ fn step<'a>(
     Ok(rules)
 }
 
-// A branch, behind which the way goes on, before the other branches.
-#[cycle(sta)]
-#[inline(never)]
-fn branch<'a>(
-    alloc: Global,
-    table: &'a Table,
-    from: Origin<'a>,
-    stmt: &TStmt,
-    more: Draft<'a>,
-) -> Result<Draft<'a>, NoMemory>
-    ensures { IfOk result (λ r. seen_rules r.rules
-        ≡ plain.Part (seen_origin from.entry) kinds.Next
-        (body.sta (declares table.now) (does stmt.now))
-        (plain.goes_on body.past (seen_rules more.entry.rules))) }
-{
-    let goes = make::goes_on(alloc, PAST, more)?;
-    let rules = step(alloc, table, from, stmt, goes)?;
-    Ok(rules)
-}
-
 // The block of a loop, with what stands behind it.
 #[cycle(sta)]
 #[inline(never)]
@@ -426,31 +406,14 @@ fn catches<'a>(
 {
     let mut rules = make::done(alloc);
     for place in (0..catches.len()).rev() {
-        rules = handles(alloc, table, &catches[place], block, place, rules)?;
+        let catch = &catches[place];
+        let from = Origin {
+            start: catch_start(block, catch.class, place),
+            ..ENTRY
+        };
+        let goes = make::goes_on(alloc, PAST, rules)?;
+        rules = step(alloc, table, from, &catch.body, goes)?;
     }
-    Ok(rules)
-}
-
-// A catch behind as many others.
-#[cycle(sta)]
-fn handles<'a>(
-    alloc: Global,
-    table: &'a Table,
-    catch: &TCatch,
-    block: &Known,
-    before: usize,
-    more: Draft<'a>,
-) -> Result<Draft<'a>, NoMemory>
-    ensures { IfOk result (λ r. seen_rules r.rules ≡ plain.Part
-        (catch_start (seen_node block.now.node) catch.now.class before) kinds.Next
-        (body.sta (declares table.now) (does catch.now.body))
-        (plain.goes_on body.past (seen_rules more.entry.rules))) }
-{
-    let from = Origin {
-        start: catch_start(block, catch.class, before),
-        ..ENTRY
-    };
-    let rules = branch(alloc, table, from, &catch.body, more)?;
     Ok(rules)
 }
 
@@ -473,7 +436,7 @@ fn tries<'a>(
     Ok(rules)
 }
 
-// What stands behind `else`.
+// Behind the first branch the way goes on, and what stands behind `else` follows.
 #[cycle(sta)]
 #[tactic(auto, using(crate::proofs::Forms::forms))]
 fn else_rules<'a>(
@@ -482,13 +445,18 @@ fn else_rules<'a>(
     other: &Option<Box<TStmt>>,
     from: Origin<'a>,
 ) -> Result<Draft<'a>, NoMemory>
-    ensures { IfOk result (λ r. seen_rules r.rules
-        ≡ else_rules (declares table.now) (otherwise other.now) (seen_origin from.entry)) }
+    ensures { IfOk result (λ r. seen_rules r.rules ≡ plain.goes_on body.past
+        (else_rules (declares table.now) (otherwise other.now) (seen_origin from.entry))) }
 {
     match other {
-        None => Ok(make::done(alloc)),
+        None => {
+            let rules = make::ends(alloc, PAST)?;
+            Ok(rules)
+        }
         Some(stmt) => {
-            let rules = branch(alloc, table, from, stmt, make::done(alloc))?;
+            let goes = make::ends(alloc, PAST)?;
+            let rest = step(alloc, table, from, stmt, goes)?;
+            let rules = make::goes_on(alloc, PAST, rest)?;
             Ok(rules)
         }
     }
@@ -513,7 +481,7 @@ fn rules_of<'a>(alloc: Global, table: &'a Table, stmt: &TStmt) -> Result<Draft<'
         TStmtKind::Block(stmts) => stas(alloc, table, stmts.as_slice()),
         TStmtKind::If(test, block, other) => {
             let rest = else_rules(alloc, table, other, OTHERWISE)?;
-            let both = branch(alloc, table, TESTED, block, rest)?;
+            let both = step(alloc, table, TESTED, block, rest)?;
             decides(alloc, table, test, other, both)
         }
         TStmtKind::While(test, block) => {
@@ -537,7 +505,7 @@ fn rules_of<'a>(alloc: Global, table: &'a Table, stmt: &TStmt) -> Result<Draft<'
         TStmtKind::When(lock, block, other) => {
             let policy = declared::lock(table, *lock);
             let rest = else_rules(alloc, table, other, asked(policy))?;
-            let both = branch(alloc, table, held(*lock, policy), block, rest)?;
+            let both = step(alloc, table, held(*lock, policy), block, rest)?;
             goes_first(alloc, other, ENTRY, both)
         }
     }

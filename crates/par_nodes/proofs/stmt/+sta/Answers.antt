@@ -36,9 +36,10 @@ stas-loop-place-preserved t c =
 pub catches-loop-place-preserved : goal.catches-loop-place-preserved
 catches-loop-place-preserved t c =
     catches_next (declares c.args.table.now) (seen_node c.args.block.now.node) c.args.catches.now
-    c.loop-place.place c.index-catches-place.result
-    (seen_rules c.in_ok-rules.rules.rules) (seen_rules c.loop-place.rules.rules)
-    (search rules) (search rules) (search rules) c.in_ok-rules.ensures c.loop-place.invariant
+    c.loop-place.place c.index-catches-place.result (seen_rules c.in_ok-rules.rules.rules)
+    (seen_rules c.in_ok-goes.goes.rules) (seen_rules c.loop-place.rules.rules)
+    (seen_start c.catch_start.result) (search rules) (search rules) (search rules)
+    c.in_ok-rules.ensures c.catch_start.ensures c.in_ok-goes.ensures c.loop-place.invariant
 
 pub rules_of-returns-in-Block : goal.rules_of-returns-in-Block
 rules_of-returns-in-Block t c =
