@@ -169,8 +169,8 @@ const SEVEN: Option<MVal> = Some(MVal::Int(7));
 // A loop of three rounds: iconst_3 istore_0, then iinc of -1, iload_0 and ifgt back to it.
 const LOOP: &[u8] = b"\x06\x3b\x84\0\xff\x1a\x9d\xff\xfc\xb1";
 
-// The code of `main`, how many instructions are run at most, how many are, and the local and the two
-// operands behind them.
+// The code of `main`, how many instructions are run at most, how many are, and the local and the
+// two operands behind them.
 const GOES: &[(&str, &[u8], u32, u32, &[Option<MVal>])] = &[
     (
         "iconst_2 iconst_3 iadd, and a write that is shown",
