@@ -1,11 +1,7 @@
-//! Public calls of the machine, of its parts, and of what loads and links class files for it,
-//! each run once with ample memory. The crate is tests alone, and nothing stands on it.
+//! Public calls of the machine, of what it knows of classes, and of what loads and links class files
+//! for it, each run once with ample memory. The crate is tests alone, and nothing stands on it.
 #![tactic(auto)]
 
-#[cfg(test)]
-mod heaps;
-#[cfg(test)]
-mod input_lines;
 #[cfg(test)]
 mod landings;
 #[cfg(test)]
@@ -18,5 +14,3 @@ mod machine_places;
 mod machine_runs;
 #[cfg(test)]
 mod method_areas;
-#[cfg(test)]
-mod stacks;
