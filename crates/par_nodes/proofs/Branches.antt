@@ -128,24 +128,25 @@ stas_next d from ss p s r m f g h q a b y =
     (y ∙ ap (λ k. stas d k (all_do (drop p ss))) (start_past p from g))
     ∙ sym (ap (λ l. stas d (start_at (p - 1) from) (all_do l)) (drop_at ss p s g h q))
 
-pub catches_none : (d : Declares) (b : Node) (cs : List TCatch) (n : ℕ) (r : Rules) → r ≡ Done
-    → r ≡ catches d b (all_catch (drop (length cs) cs)) n
+pub catches_none : (d : Declares) (b : Node) (cs : List TCatch) (n : ℕ) (r : Rules)
+    → r ≡ goes_on past Done → r ≡ goes_on past (catches d b (all_catch (drop (length cs) cs)) n)
 unfolding catches
-catches_none d b cs n r e = e ∙ sym (ap (λ l. catches d b (all_catch l) n) (drop_all cs))
+catches_none d b cs n r e =
+    e ∙ sym (ap (λ l. goes_on past (catches d b (all_catch l) n)) (drop_all cs))
 
 -- the catches from a place on
 pub catches_next : (d : Declares) (b : Node) (cs : List TCatch) (p : ℕ) (c : TCatch)
     (r g m : Rules) (f : From) → 0 < p → p ≤ length cs → c ≡ get_or cs (p - 1) c
-    → r ≡ Part f Next (sta d (does c.body)) g → f ≡ catch_start b c.class (p - 1)
-    → g ≡ goes_on past m → m ≡ catches d b (all_catch (drop p cs)) p
-    → r ≡ catches d b (all_catch (drop (p - 1) cs)) (p - 1)
+    → r ≡ goes_on past m → m ≡ Part f Next (sta d (does c.body)) g
+    → f ≡ catch_start b c.class (p - 1) → g ≡ goes_on past (catches d b (all_catch (drop p cs)) p)
+    → r ≡ goes_on past (catches d b (all_catch (drop (p - 1) cs)) (p - 1))
 unfolding catches
-catches_next d b cs p c r g m f i h q a x w y =
+catches_next d b cs p c r g m f i h q w a x y =
     let e : suc (p - 1) ≡ p = omega (arith, i) in
     let rest : Rules → Rules = Part (catch_start b c.class (p - 1)) Next (sta d (does c.body)) in
-    a ∙ ap (λ k. Part k Next (sta d (does c.body)) g) x ∙ ap rest (w ∙ ap (goes_on past)
-    (y ∙ ap (catches d b (all_catch (drop p cs))) (sym e)))
-    ∙ sym (ap (λ l. catches d b (all_catch l) (p - 1)) (drop_at cs p c i h q))
+    w ∙ ap (goes_on past) (a ∙ ap (λ k. Part k Next (sta d (does c.body)) g) x
+    ∙ ap rest (y ∙ ap (λ n. goes_on past (catches d b (all_catch (drop p cs)) n)) (sym e))
+    ∙ sym (ap (λ l. catches d b (all_catch l) (p - 1)) (drop_at cs p c i h q)))
 
 -- from where a catch is entered, by what its block can throw
 pub start_is : (b : Node) (class before : ℕ) (js xs : List code.Kind) (t u : Bool)

@@ -66,8 +66,7 @@ fn thrown_by<'a>(
         (kinds.Throw throw.now.class) (seen_rules more.entry.rules)) }
 {
     let from = stand.origin(Some(throw.policy), Locks::All(closes), Locks::Kept);
-    let rules = make::leaves(alloc, from, Kind::Throw(throw.class), more)?;
-    Ok(rules)
+    make::leaves(alloc, from, Kind::Throw(throw.class), more)
 }
 
 // The throws of a method.
@@ -105,8 +104,7 @@ fn does<'a>(
     let value = make::worth(alloc, Worth::Given(method.policy))?;
     let from = stand.origin(None, Locks::All(&method.closes), Locks::All(&method.opens));
     let goes = make::goes_on(alloc, from, value)?;
-    let rules = thrown(alloc, table, stand, method, goes)?;
-    Ok(rules)
+    thrown(alloc, table, stand, method, goes)
 }
 
 /// A called method throws, or goes on with its locks closed and opened.
@@ -125,12 +123,8 @@ pub fn called<'a>(
         None => {
             let value = make::worth(alloc, Worth::Given(0))?;
             let from = stand.origin(None, Locks::Nothing, Locks::Nothing);
-            let rules = make::goes_on(alloc, from, value)?;
-            Ok(rules)
+            make::goes_on(alloc, from, value)
         }
-        Some(method) => {
-            let rules = does(alloc, table, stand, method)?;
-            Ok(rules)
-        }
+        Some(method) => { does(alloc, table, stand, method) }
     }
 }

@@ -48,7 +48,7 @@ fn is_sure(e: &TExpr) -> bool
 
 /// The way throws NullPointerException, unless the object is never null.
 #[tactic(auto, using(par_typed::proofs::Shown::shown_mark))]
-pub fn null_test<'a>(
+pub(crate) fn null_test<'a>(
     alloc: Global,
     of: &TExpr,
     from: Origin<'a>,
@@ -113,7 +113,7 @@ fn skips<'a>(alloc: Global, op: BinOp, more: Draft<'a>) -> Result<Draft<'a>, NoM
 }
 
 /// From where the part at the place is entered.
-pub fn start_at(place: usize, from: Start) -> Start
+pub(crate) fn start_at(place: usize, from: Start) -> Start
     ensures { seen_start result ≡ start_at place (seen_start from) }
 {
     if place == 0 {
@@ -140,8 +140,7 @@ fn selected<'a>(alloc: Global, of: &TExpr, policy: u16) -> Result<Draft<'a>, NoM
     let own = make::worth(alloc, Worth::Given(policy))?;
     let value = make::worths(alloc, Worth::Value(0), own)?;
     let goes = make::goes_on(alloc, PAST, value)?;
-    let rules = null_test(alloc, of, TESTED, goes)?;
-    Ok(rules)
+    null_test(alloc, of, TESTED, goes)
 }
 
 // The value of the only operand.
@@ -150,8 +149,7 @@ fn valued<'a>(alloc: Global) -> Result<Draft<'a>, NoMemory>
         ≡ plain.goes_on body.past (plain.Worths (plain.Value 0) plain.Done)) }
 {
     let value = make::worth(alloc, Worth::Value(0))?;
-    let rules = make::goes_on(alloc, PAST, value)?;
-    Ok(rules)
+    make::goes_on(alloc, PAST, value)
 }
 
 // The values of both operands.
@@ -161,8 +159,7 @@ fn operands<'a>(alloc: Global) -> Result<Draft<'a>, NoMemory>
 {
     let last = make::worth(alloc, Worth::Value(0))?;
     let both = make::worths(alloc, Worth::Value(1), last)?;
-    let rules = make::goes_on(alloc, PAST, both)?;
-    Ok(rules)
+    make::goes_on(alloc, PAST, both)
 }
 
 // Behind both operands comes what the operator makes of them.
@@ -173,14 +170,13 @@ fn combined<'a>(alloc: Global, op: BinOp, right: &TExpr) -> Result<Draft<'a>, No
 {
     let values = operands(alloc)?;
     let skipped = skips(alloc, op, values)?;
-    let rules = divides(alloc, op, right, skipped)?;
-    Ok(rules)
+    divides(alloc, op, right, skipped)
 }
 
 /// An operand that is entered from there, before what stands behind it.
 #[cycle(exp)]
 #[inline(never)]
-pub fn operand<'a>(
+pub(crate) fn operand<'a>(
     alloc: Global,
     table: &'a Table,
     from: Origin<'a>,
@@ -192,8 +188,7 @@ pub fn operand<'a>(
         (seen_rules behind.entry.rules)) }
 {
     let node = exp(alloc, table, e)?;
-    let rules = make::then(alloc, from, node, behind)?;
-    Ok(rules)
+    make::then(alloc, from, node, behind)
 }
 
 // The arguments, of which the first is entered from the way.
@@ -217,17 +212,6 @@ fn args<'a>(
         };
         rules = operand(alloc, table, from, &args[place], rules)?;
     }
-    Ok(rules)
-}
-
-// The part, and nothing else.
-pub fn alone<'a>(alloc: Global, node: Known<'a>) -> Result<Draft<'a>, NoMemory>
-    ensures { IfOk result (λ r. seen_rules r.rules
-        ≡ plain.Part plain.Entry Next (seen_node node.entry.node)
-        (plain.goes_on body.past plain.Done)) }
-{
-    let goes = make::ends(alloc, PAST)?;
-    let rules = make::then(alloc, ENTRY, node, goes)?;
     Ok(rules)
 }
 
@@ -261,8 +245,7 @@ fn call_does<'a>(
                 start: start_at(arguments.len(), Start::Entry),
                 receiver: None,
             };
-            let rules = called(alloc, table, stand, class, method)?;
-            Ok(rules)
+            called(alloc, table, stand, class, method)
         }
         Some(of) => {
             let stand = Stand {
@@ -271,8 +254,7 @@ fn call_does<'a>(
             };
             let does = called(alloc, table, stand, class, method)?;
             let value = make::worths(alloc, Worth::Value(arguments.len()), does)?;
-            let rules = null_test(alloc, of, stand.way(), value)?;
-            Ok(rules)
+            null_test(alloc, of, stand.way(), value)
         }
     }
 }
@@ -290,10 +272,7 @@ fn behind<'a>(
 {
     match of {
         None => Ok(more),
-        Some(of) => {
-            let rules = operand(alloc, table, ENTRY, of, more)?;
-            Ok(rules)
-        }
+        Some(of) => { operand(alloc, table, ENTRY, of, more) }
     }
 }
 

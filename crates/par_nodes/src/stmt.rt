@@ -12,7 +12,7 @@ ghost use Rattle.par_nodes.specs.Starts.{behind_value, catch_start, else_rules, 
 
 use crate::declared;
 use crate::draft::{Draft, Known};
-use crate::expr::{alone, exp, null_test, operand, start_at};
+use crate::expr::{exp, null_test, operand, start_at};
 use crate::make::{self, ENTRY, PAST, TESTED};
 use crate::possible::among;
 use crate::rule::{Absorber, Kind, Locks, Origin, Start};
@@ -83,8 +83,7 @@ fn completes<'a>(alloc: Global, kind: Kind) -> Result<Draft<'a>, NoMemory>
     ensures { IfOk result (λ r. seen_rules r.rules
         ≡ plain.Leaves plain.Entry (seen_kind kind) plain.Done) }
 {
-    let rules = make::leaves(alloc, ENTRY, kind, make::done(alloc))?;
-    Ok(rules)
+    make::leaves(alloc, ENTRY, kind, make::done(alloc))
 }
 
 // A return, with its value before it.
@@ -98,14 +97,10 @@ fn returns<'a>(
         ≡ behind_value (declares table.now) (may_shown value.now)) }
 {
     match value {
-        None => {
-            let rules = completes(alloc, Kind::Return)?;
-            Ok(rules)
-        }
+        None => { completes(alloc, Kind::Return) }
         Some(value) => {
             let leaves = make::leaves(alloc, PAST, Kind::Return, make::done(alloc))?;
-            let rules = operand(alloc, table, ENTRY, value, leaves)?;
-            Ok(rules)
+            operand(alloc, table, ENTRY, value, leaves)
         }
     }
 }
@@ -121,10 +116,7 @@ fn goes_first<'a>(
         ≡ goes_first (otherwise other.now) (seen_origin from.entry) (seen_rules more.entry.rules)) }
 {
     match other {
-        None => {
-            let rules = make::goes_on(alloc, from, more)?;
-            Ok(rules)
-        }
+        None => { make::goes_on(alloc, from, more) }
         Some(_) => Ok(more),
     }
 }
@@ -137,8 +129,7 @@ fn again<'a>(alloc: Global) -> Result<Draft<'a>, NoMemory>
 {
     let broken = make::ends(alloc, BROKEN)?;
     let continued = make::heads(alloc, CONTINUED, broken)?;
-    let rules = make::heads(alloc, PAST, continued)?;
-    Ok(rules)
+    make::heads(alloc, PAST, continued)
 }
 
 // A loop, whose block with what stands behind it is given.
@@ -157,8 +148,7 @@ fn repeats<'a>(
     let behind = unless(alloc, is_forever(test), block)?;
     let entered = make::heads(alloc, ENTRY, behind)?;
     let node = exp(alloc, table, test)?;
-    let rules = make::test(alloc, node, entered)?;
-    Ok(rules)
+    make::test(alloc, node, entered)
 }
 
 // The way behind the test goes on, unless the loop has no end.
@@ -169,8 +159,7 @@ fn unless<'a>(alloc: Global, forever: bool, more: Draft<'a>) -> Result<Draft<'a>
     if forever {
         Ok(more)
     } else {
-        let rules = make::goes_on(alloc, PAST, more)?;
-        Ok(rules)
+        make::goes_on(alloc, PAST, more)
     }
 }
 
@@ -193,8 +182,7 @@ fn assigns<'a>(
             ..PAST
         },
     )?;
-    let rules = operand(alloc, table, ENTRY, value, goes)?;
-    Ok(rules)
+    operand(alloc, table, ENTRY, value, goes)
 }
 
 // An expression, and nothing else.
@@ -204,9 +192,8 @@ fn evaluates<'a>(alloc: Global, table: &'a Table, e: &TExpr) -> Result<Draft<'a>
         ≡ plain.Part plain.Entry kinds.Next (body.exp (declares table.now) (shown e.now))
         (plain.goes_on body.past plain.Done)) }
 {
-    let node = exp(alloc, table, e)?;
-    let rules = alone(alloc, node)?;
-    Ok(rules)
+    let goes = make::ends(alloc, PAST)?;
+    operand(alloc, table, ENTRY, e, goes)
 }
 
 // A write of a field of an object.
@@ -234,8 +221,7 @@ fn writes<'a>(
         goes,
     )?;
     let written = operand(alloc, table, PAST, value, tested)?;
-    let rules = operand(alloc, table, ENTRY, of, written)?;
-    Ok(rules)
+    operand(alloc, table, ENTRY, of, written)
 }
 
 // A lock is opened.
@@ -243,14 +229,13 @@ fn opens<'a>(alloc: Global, lock: u16) -> Result<Draft<'a>, NoMemory>
     ensures { IfOk result (λ r. seen_rules r.rules
         ≡ plain.goes_on (plain.Opened (adding none lock) plain.Entry) plain.Done) }
 {
-    let rules = make::ends(
+    make::ends(
         alloc,
         Origin {
             opened: Locks::One(lock),
             ..ENTRY
         },
-    )?;
-    Ok(rules)
+    )
 }
 
 // A lock is closed.
@@ -258,14 +243,13 @@ fn shuts<'a>(alloc: Global, lock: u16) -> Result<Draft<'a>, NoMemory>
     ensures { IfOk result (λ r. seen_rules r.rules
         ≡ plain.goes_on (plain.Shut (adding none lock) plain.Entry) plain.Done) }
 {
-    let rules = make::ends(
+    make::ends(
         alloc,
         Origin {
             shut: Locks::One(lock),
             ..ENTRY
         },
-    )?;
-    Ok(rules)
+    )
 }
 
 // A test, and the branches behind it.
@@ -282,8 +266,7 @@ fn decides<'a>(
         (goes_first (otherwise other.now) body.past (seen_rules both.entry.rules))) }
 {
     let behind = goes_first(alloc, other, PAST, both)?;
-    let rules = operand(alloc, table, ENTRY, test, behind)?;
-    Ok(rules)
+    operand(alloc, table, ENTRY, test, behind)
 }
 
 // The way on which it is known whether a lock with this policy is open.
@@ -318,12 +301,10 @@ fn guarded<'a>(
 ) -> Result<Draft<'a>, NoMemory>
     ensures { IfOk result (λ r. seen_rules r.rules
         ≡ plain.Part plain.Entry (kinds.Catches (body.caught (all_catch clauses.now)))
-        (seen_node block.entry.node) (plain.goes_on body.past (seen_rules handled.entry.rules))) }
+        (seen_node block.entry.node) (seen_rules handled.entry.rules)) }
 {
-    let goes = make::goes_on(alloc, PAST, handled)?;
     let classes = caught(alloc, clauses)?;
-    let rules = make::part(alloc, ENTRY, Absorber::Catches(classes), block, goes)?;
-    Ok(rules)
+    make::part(alloc, ENTRY, Absorber::Catches(classes), block, handled)
 }
 
 // A statement that is entered from there, before what stands behind it.
@@ -341,8 +322,7 @@ fn step<'a>(
         (body.sta (declares table.now) (does stmt.now)) (seen_rules behind.entry.rules)) }
 {
     let node = sta(alloc, table, stmt)?;
-    let rules = make::then(alloc, from, node, behind)?;
-    Ok(rules)
+    make::then(alloc, from, node, behind)
 }
 
 // The block of a loop, with what stands behind it.
@@ -356,8 +336,7 @@ fn looped<'a>(alloc: Global, table: &'a Table, block: &TStmt) -> Result<Draft<'a
 {
     let behind = again(alloc)?;
     let node = sta(alloc, table, block)?;
-    let rules = make::part(alloc, TESTED, Absorber::Loop, node, behind)?;
-    Ok(rules)
+    make::part(alloc, TESTED, Absorber::Loop, node, behind)
 }
 
 // Statements one after the other.
@@ -393,7 +372,7 @@ fn catch_start(block: &Known, class: u16, before: usize) -> Start
     }
 }
 
-// The catches of a `try`.
+// Behind the block of a `try` the way goes on, and its catches follow.
 #[cycle(sta)]
 fn catches<'a>(
     alloc: Global,
@@ -401,18 +380,18 @@ fn catches<'a>(
     catches: &[TCatch],
     block: &Known,
 ) -> Result<Draft<'a>, NoMemory>
-    ensures { IfOk result (λ r. seen_rules r.rules ≡ body.catches (declares table.now)
-        (seen_node block.now.node) (all_catch catches.now) 0) }
+    ensures { IfOk result (λ r. seen_rules r.rules ≡ plain.goes_on body.past
+        (body.catches (declares table.now) (seen_node block.now.node) (all_catch catches.now) 0)) }
 {
-    let mut rules = make::done(alloc);
+    let mut rules = make::ends(alloc, PAST)?;
     for place in (0..catches.len()).rev() {
         let catch = &catches[place];
         let from = Origin {
             start: catch_start(block, catch.class, place),
             ..ENTRY
         };
-        let goes = make::goes_on(alloc, PAST, rules)?;
-        rules = step(alloc, table, from, &catch.body, goes)?;
+        let entered = step(alloc, table, from, &catch.body, rules)?;
+        rules = make::goes_on(alloc, PAST, entered)?;
     }
     Ok(rules)
 }
@@ -432,8 +411,7 @@ fn tries<'a>(
         (seen_node block.entry.node) (all_catch clauses.now) 0))) }
 {
     let handled = catches(alloc, table, clauses, &block)?;
-    let rules = guarded(alloc, clauses, block, handled)?;
-    Ok(rules)
+    guarded(alloc, clauses, block, handled)
 }
 
 // Behind the first branch the way goes on, and what stands behind `else` follows.
@@ -449,15 +427,11 @@ fn else_rules<'a>(
         (else_rules (declares table.now) (otherwise other.now) (seen_origin from.entry))) }
 {
     match other {
-        None => {
-            let rules = make::ends(alloc, PAST)?;
-            Ok(rules)
-        }
+        None => { make::ends(alloc, PAST) }
         Some(stmt) => {
             let goes = make::ends(alloc, PAST)?;
             let rest = step(alloc, table, from, stmt, goes)?;
-            let rules = make::goes_on(alloc, PAST, rest)?;
-            Ok(rules)
+            make::goes_on(alloc, PAST, rest)
         }
     }
 }

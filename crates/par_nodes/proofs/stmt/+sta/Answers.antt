@@ -23,7 +23,7 @@ stas-loop-place-init t c =
 pub catches-loop-place-init : goal.catches-loop-place-init
 catches-loop-place-init t c =
     catches_none (declares c.args.table.now) (seen_node c.args.block.now.node)
-    c.args.catches.now _ (seen_rules c.done-rules.result.rules) c.done-rules.ensures
+    c.args.catches.now _ (seen_rules c.in_ok-rules.rules.rules) c.in_ok-rules.ensures
 
 pub stas-loop-place-preserved : goal.stas-loop-place-preserved
 stas-loop-place-preserved t c =
@@ -36,10 +36,10 @@ stas-loop-place-preserved t c =
 pub catches-loop-place-preserved : goal.catches-loop-place-preserved
 catches-loop-place-preserved t c =
     catches_next (declares c.args.table.now) (seen_node c.args.block.now.node) c.args.catches.now
-    c.loop-place.place c.index-catches-place.result (seen_rules c.in_ok-rules.rules.rules)
-    (seen_rules c.in_ok-goes.goes.rules) (seen_rules c.loop-place.rules.rules)
+    c.loop-place.place c.index-catches-place.result (seen_rules c.in_ok-rules-2.rules.rules)
+    (seen_rules c.loop-place.rules.rules) (seen_rules c.in_ok-entered.entered.rules)
     (seen_start c.catch_start.result) (search rules) (search rules) (search rules)
-    c.in_ok-rules.ensures c.catch_start.ensures c.in_ok-goes.ensures c.loop-place.invariant
+    c.in_ok-rules-2.ensures c.in_ok-entered.ensures c.catch_start.ensures c.loop-place.invariant
 
 pub rules_of-returns-in-Block : goal.rules_of-returns-in-Block
 rules_of-returns-in-Block t c =

@@ -1,8 +1,8 @@
 use Rattle.std.proofs.Common.{◌≡◌, drop}
 use Rattle.par_typed.specs.Shown.{all_do, all_catch}
 use Rattle.par_rules.specs.Declares.{declares}
-use Rattle.par_rules.specs.Rules.{Entry}
-use Rattle.par_rules.specs.Body.{stas, catches}
+use Rattle.par_rules.specs.Rules.{Entry, goes_on}
+use Rattle.par_rules.specs.Body.{past, stas, catches}
 use Rattle.par_nodes.specs.Seen.{seen_rules, seen_node}
 use Rattle.par_nodes.specs.Starts.{start_at}
 use Rattle.par_nodes.proofs.stmt.+sta.Given as goal
@@ -15,5 +15,5 @@ invariant-stas-loop-place l =
 abbrev pub invariant-catches-loop-place : goal.invariant-catches-loop-place
 invariant-catches-loop-place l =
     seen_rules l.rules.rules
-    ≡ catches (declares l.table) (seen_node l.block.node) (all_catch (drop l.place l.catches))
-    l.place
+    ≡ goes_on past (catches (declares l.table) (seen_node l.block.node)
+    (all_catch (drop l.place l.catches)) l.place)
