@@ -1,6 +1,7 @@
 pub mod Ascii
 pub mod Counting
 pub mod Finding
+pub mod Read
 pub mod Unread
 pub mod Seen
 pub mod SoFar

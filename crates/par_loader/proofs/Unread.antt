@@ -125,7 +125,7 @@ module _ (files : List ClassFile) (file : ClassFile) where
       both true b one other = other
       both false b one other = absurd (cc one)
 
-  named_before : (entries : List Constant) (c : Constant)
+  pub named_before : (entries : List Constant) (c : Constant)
       → names_unread (files ++ file ∷ []) entries c ≡ true → names_unread files entries c ≡ true
   unfolding names_unread
   named_before entries (Class name) h = unread_before (text_at entries name) h
@@ -136,7 +136,7 @@ module _ (files : List ClassFile) (file : ClassFile) where
   named_before entries (Method class member) h = absurd (cc h)
   named_before entries (NameType name descriptor) h = absurd (cc h)
 
-fewer : {A : Type 0} (p q : A → Bool) → ((x : A) → q x ≡ true → p x ≡ true) → (xs : List A)
+pub fewer : {A : Type 0} (p q : A → Bool) → ((x : A) → q x ≡ true → p x ≡ true) → (xs : List A)
     → list_any p xs ≡ false → list_any q xs ≡ false
 fewer p q less [] e = refl
 fewer p q less (x ∷ xs) e = in_case (q x) refl (fewer p q less xs (tail (p x) (list_any p xs) e))

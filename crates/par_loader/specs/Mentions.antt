@@ -1,6 +1,6 @@
 -- The classes that class files name, and the first of them that is still to be read.
-use Rattle.std.specs.Prelude.{ℕ, suc, Bool, false, not, ◌&&◌, List, [], ◌∷◌, Option, None, is_none}
-use Rattle.std.specs.Prelude.{position}
+use Rattle.std.specs.Prelude.{◌≡◌, ℕ, suc, ◌≤◌, Bool, false, not, ◌&&◌, List, [], ◌∷◌, length, take}
+use Rattle.std.specs.Prelude.{slice_get, position, Option, None, Some, is_none}
 use Rattle.std.specs.Option.{option_map, option_or}
 use Rattle.std.specs.List.{list_any}
 use Rattle.std.specs.Str.{bytes_eq}
@@ -29,6 +29,16 @@ is_unread files name = is_none (builtin name) && not (list_any (bytes_eq name) (
 unfoldable pub names_unread : List ClassFile → List Constant → Constant → Bool
 names_unread files entries (Class name) = is_unread files (text_at entries name)
 names_unread files entries _ = false
+
+-- so many constants of a pool, from the first on, name no such class
+pub record AreRead (files : List ClassFile) (entries : List Constant) (read : ℕ) : Type 0 where
+  pub within : read ≤ length entries
+  pub none : list_any (names_unread files entries) (take read entries) ≡ false
+
+-- the same of the file at a place
+abbrev pub AreReadAt : List ClassFile → ℕ → ℕ → Type 0
+AreReadAt files place read =
+    (file : ClassFile) → slice_get files place ≡ Some file → AreRead files file.pool.entries read
 
 -- the constant at a place of the pool of a file; places count from 0, and indices from 1
 abbrev pub naming_in : ClassFile → ℕ → Naming

@@ -1,6 +1,7 @@
 //! The class files that were read so far.
 
-ghost use Rattle.std.specs.Prelude.{◌≡◌, ◌≤◌, ◌<◌, ◌∷◌, [], ◌++◌, None, false, IfOk, IfSome, OnOk};
+ghost use Rattle.std.specs.Prelude.{◌≡◌, ◌≤◌, ◌<◌, ◌-◌, ◌∷◌, [], ◌++◌, Some, None, false, IfOk};
+ghost use Rattle.std.specs.Prelude.{IfSome, OnOk};
 ghost use Rattle.std.specs.Prelude.{length, map, position, take, slice_get};
 ghost use Rattle.std.specs.List.{All};
 ghost use Rattle.std.specs.Option.{option_map, unwrap_or};
@@ -11,7 +12,7 @@ ghost use Rattle.par_single.specs.Members.{own_names};
 ghost use Rattle.par_single.specs.Members as members;
 ghost use Rattle.par_loader.specs.Reads.{IsSpelled};
 ghost use Rattle.par_loader.specs.Mentions.{naming, is_unread, names_unread, first_of, first_among};
-ghost use Rattle.par_loader.specs.Mentions.{next_named};
+ghost use Rattle.par_loader.specs.Mentions.{next_named, AreRead, AreReadAt};
 
 use crate::builtin::is_built_in;
 use crate::mention::Mention;
@@ -29,8 +30,11 @@ pub(crate) struct Loading {
     pub(crate) names: IndexSet<Vec<u8>>,
     // So many of the files, from the first on, name no class that is still to be read.
     done: usize,
+    // Nor do so many constants of the file behind them.
+    read: usize,
     ghost names_are: { map (λ name. name.items) names.keys ≡ own_names files },
     ghost are_done: { first_among files (take done files) ≡ None },
+    ghost are_read: { AreReadAt files done read },
     ghost within: { done ≤ length files },
     ghost named: { All (λ file. IsName (members.own_name file)) files },
 }
@@ -49,6 +53,7 @@ impl Loading {
             files,
             names,
             done: 0,
+            read: 0,
         })
     }
 
@@ -70,25 +75,48 @@ impl Loading {
         }
     }
 
-    /// The place of the first constant of a pool that names a class that is still to be read.
-    fn place_in(&self, entries: &[Constant]) -> Option<usize>
+    /// So many constants of the file at a place, from the first on, name no class that is still
+    /// to be read.
+    fn read_at(&self, place: usize) -> usize
+        ensures { AreReadAt self.now.files place result }
+    {
+        if place == self.done { self.read } else { 0 }
+    }
+
+    /// The place among some constants of a pool of the first that names a class that is still to
+    /// be read.
+    fn place_among(&self, entries: &[Constant], some: &[Constant]) -> Option<usize>
+        ensures { result ≡ position (names_unread self.now.files entries.now) some.now }
+    {
+        some.iter()
+            .position(|constant| self.names_unread(entries, constant))
+    }
+
+    /// The place of the first constant of a pool that names a class that is still to be read,
+    /// where so many from the first on name none.
+    fn place_in(&self, entries: &[Constant], read: usize) -> Option<usize>
+        requires { AreRead self.now.files entries.now read }
         ensures { result ≡ position (names_unread self.now.files entries.now) entries.now }
     {
-        entries
-            .iter()
-            .position(|constant| self.names_unread(entries, constant))
+        match self.place_among(entries, &entries[read..]) {
+            Some(behind) => Some(read + behind),
+            None => None,
+        }
     }
 
     /// The first constant of the file at a place that names a class that is still to be read.
     fn first_of<'f>(&self, place: usize, file: &'f ClassFile) -> Option<Mention<'f>>
+        requires there { slice_get self.now.files place ≡ Some file.now }
         requires spelled { IsSpelled file.now }
         requires named { IsName (members.own_name file.now) }
         ensures first { option_map naming result ≡ first_of self.now.files file.now }
         ensures placed { IfSome result (λ mention. mention.place ≡ place) }
+        ensures read { IfSome result (λ mention.
+            AreRead self.now.files file.now.pool.entries (mention.index - 1)) }
         ensures named { IfSome result (λ mention. IsName mention.class.now) }
     {
         let entries = file.pool.entries.as_slice();
-        match self.place_in(entries) {
+        match self.place_in(entries, self.read_at(place)) {
             Some(first) => {
                 let index = (first + 1) as u16;
                 Some(Mention {
@@ -109,6 +137,8 @@ impl Loading {
         ensures first { option_map naming result ≡ next_named self.now.files }
         ensures before { IfSome result (λ mention.
             first_among self.now.files (take mention.place self.now.files) ≡ None) }
+        ensures read { IfSome result (λ mention.
+            AreReadAt self.now.files mention.place (mention.index - 1)) }
         ensures within { IfSome result (λ mention. mention.place < length self.now.files) }
         ensures named { IfSome result (λ mention. IsName mention.class.now) }
     {
@@ -122,18 +152,20 @@ impl Loading {
     }
 
     /// The files with one more that was read, where so many of those before it name no class that
-    /// is still to be read.
+    /// is still to be read, nor do so many constants of the next one.
     pub(crate) fn with(
         self,
         alloc: Global,
         file: ClassFile,
         done: usize,
+        read: usize,
     ) -> Result<Loading, NoMemory>
         requires named { IsName (members.own_name file) }
         requires unread { list_any (bytes_eq (members.own_name file)) (own_names self.files)
             ≡ false }
         requires done { first_among self.files (take done self.files) ≡ None }
-        requires within { done ≤ length self.files }
+        requires read { AreReadAt self.files done read }
+        requires within { done < length self.files }
         ensures { IfOk result (λ loading. loading.files ≡ self.files ++ file ∷ []) }
     {
         let Loading {
@@ -143,7 +175,12 @@ impl Loading {
         } = self;
         names.insert(own_name(&file).to_vec(alloc)?)?;
         files.push(file)?;
-        Ok(Loading { files, names, done })
+        Ok(Loading {
+            files,
+            names,
+            done,
+            read,
+        })
     }
 }
 

@@ -156,7 +156,8 @@ fn loading_of<F: Folder>(
         };
         let file = named_file(alloc, folder, mention)?;
         let done = mention.place;
-        loading = loading.with(alloc, file, done)?;
+        let read = usize::from(mention.index).saturating_sub(1);
+        loading = loading.with(alloc, file, done, read)?;
     }
     Ok(loading)
 }

@@ -1,9 +1,10 @@
-use Rattle.std.proofs.Common.{◌≡◌, ℕ, List, Some, slice_get, sym, subst, ◌∙◌}
+use Rattle.std.proofs.Common.{◌≡◌, ℕ, false, List, Some, None, slice_get, sym, ap, subst, ◌∙◌}
 use Rattle.par_lexer.specs.Names.{IsName}
 use Rattle.par_link.specs.Order.{Broken, first_broken}
-use Rattle.par_loader.specs.Judged.{name_of}
+use Rattle.par_loader.specs.Judged.{name_of, begins}
 use Rattle.par_loader.specs.Ends.{IsBadAs, main_of}
-use Rattle.par_loader.proofs.Linking.{broken-within, name_is, name_named, broken_is, links_bad}
+use Rattle.par_loader.proofs.Linking.{broken-within, name_is, name_named, broken_is}
+use Rattle.par_loader.proofs.Linking.{begins_not, links_bad}
 use Rattle.par_loader.proofs.program.linked.Goals as goal
 
 pub bad_class-requires-in-Err-Broken : goal.bad_class-requires-in-Err-Broken
@@ -42,3 +43,22 @@ returns-in-Err-Broken-clause-links c =
     c.bad_class-in-Err-Broken.ensures in
     links_bad _ (name_of (slice_get files b.class)) b.number b.index
     c.bad_class-in-Err-Broken.result (broken_is (main_of files) files b is) told
+
+pub bad_class-requires : goal.bad_class-requires
+bad_class-requires c =
+    let files = c.args.loading.files in
+    let name = c.name_at.ensures
+    ∙ name_is (λ k. k.items) c.args.loading.names.keys files c.args.loading.names_are 0 in
+    subst IsName (sym name) (name_named files 0 c.args.loading.named c.requires.some)
+
+pub returns-in-Ok-clause-links : goal.returns-in-Ok-clause-links
+returns-in-Ok-clause-links c =
+    let files = c.args.loading.files in
+    let name = c.name_at.ensures
+    ∙ name_is (λ k. k.items) c.args.loading.names.keys files c.args.loading.names_are 0 in
+    let told = subst (λ (n : List ℕ). IsBadAs n 42 0 c.bad_class.result) name c.bad_class.ensures in
+    let none : first_broken files ≡ None = c.in-Ok.ensures.unbroken in
+    let begun : begins files ≡ false =
+    sym (c.begins.ensures ∙ ap begins (c.files.ensures ∙ c.in-Ok.ensures.linked)) ∙ c.if-begins.false in
+    links_bad _ (main_of files) 42 0 c.bad_class.result (begins_not (main_of files) files none begun)
+    told

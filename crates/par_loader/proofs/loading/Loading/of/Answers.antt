@@ -3,6 +3,7 @@ use Rattle.std.specs.List.{All}
 use Rattle.par_lexer.specs.Names.{IsName}
 use Rattle.par_single.specs.Members.{own_name, own_names}
 use Rattle.par_loader.proofs.Unread.{among_nil, one_named}
+use Rattle.par_loader.proofs.Read.{read_none}
 use Rattle.par_loader.proofs.loading.Loading.of.Goals as goal
 
 pub invariant_of-result : goal.invariant_of-result
@@ -15,6 +16,7 @@ invariant_of-result c =
     record {
       names_are = keys ∙ ap (λ n. n ∷ []) name ∙ ap own_names (sym files);
       are_done = among_nil c.push.new.self;
+      are_read = read_none c.push.new.self 0;
       within = omega arith;
       named =
           subst (λ fs. All (λ f. IsName (own_name f)) fs) (sym files) (one_named file c.requires);

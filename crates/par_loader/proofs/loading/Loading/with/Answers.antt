@@ -6,8 +6,9 @@ use Rattle.std.specs.List.{All, list_any}
 use Rattle.std.specs.Str.{bytes_eq}
 use Rattle.par_lexer.specs.Names.{IsName}
 use Rattle.par_single.specs.Members.{own_name, own_names}
-use Rattle.par_loader.specs.Mentions.{first_among}
+use Rattle.par_loader.specs.Mentions.{first_among, AreReadAt}
 use Rattle.par_loader.proofs.Unread.{new_keys, names_more, still_done, among_names}
+use Rattle.par_loader.proofs.Read.{still_read}
 use Rattle.par_loader.proofs.loading.Loading.with.Goals as goal
 
 pub invariant_of-result : goal.invariant_of-result
@@ -36,7 +37,10 @@ invariant_of-result c =
           ∙ ap own_names (sym files);
       are_done =
           subst (λ fs. first_among fs (take c.args.done fs) ≡ None) (sym files)
-          (still_done before file c.args.done c.requires.within c.requires.done);
+          (still_done before file c.args.done (omega (arith, c.requires.within)) c.requires.done);
+      are_read =
+          subst (λ fs. AreReadAt fs c.args.done c.args.read) (sym files)
+          (still_read before file c.args.done c.args.read c.requires.within c.requires.read);
       within = subst (λ fs. c.args.done ≤ length fs) (sym files) longer;
       named =
           subst (λ fs. All (λ f. IsName (own_name f)) fs) (sym files)
