@@ -8,7 +8,7 @@ use Rattle.par_pass.specs.Exits.{Way}
 use Rattle.par_pass.specs.Pass.{Event, pass}
 use Rattle.par_pass.specs.Written.{blanks, written, AllFit}
 use Rattle.par_rounds.specs.declared.notes.Notes.{Notes}
-use Rattle.par_rounds.specs.Seen.{seen_facts, ways_of, AreHeadsWide}
+use Rattle.par_rounds.specs.Seen.{seen_facts, ways_of, AreHeadsWide, AreRowsWide}
 use Rattle.par_rounds.specs.Took.{raised, total, AreSmall, MayBeSmall, Took}
 use Rattle.par_rounds.specs.Passes.{IsPassable, IsReady}
 use Rattle.par_rounds.specs.Rounds.{heads_after, AreAfter, IsRound, IsSettled}
@@ -33,8 +33,8 @@ node_first k hs n n0 l h x =
 
 pub round_made : (k points : ℕ) (hs : List (Option code.Way)) (l : List Event) (m n : Notes)
     → m.locals ≡ k → m.heads.items ≡ hs → m.rose ≡ false → seen_facts m.rows.items ≡ blanks points
-    → AreHeadsWide k hs → Took l m n → IsRound k points hs l n
-round_made k points hs l m n el eh er et x t =
+    → AreRowsWide k m.rows.items → AreHeadsWide k hs → Took l m n → IsRound k points hs l n
+round_made k points hs l m n el eh er et ew x t =
     let w : AreHeadsWide m.locals m.heads.items =
     subst (λ j. AreHeadsWide j m.heads.items) (sym el) (subst (AreHeadsWide k) (sym eh) x) in
     record {
@@ -46,6 +46,9 @@ round_made k points hs l m n el eh er et x t =
           λ s e. subst (λ j. total j n.heads.items < total j hs) el
           (subst (λ z. total m.locals n.heads.items < total m.locals z) eh (t.rises w s er e));
       rows = t.rows ∙ ap (written l) et;
+      rows_wide =
+          subst (λ j. AreRowsWide j n.rows.items) el
+          (t.rows_wide (subst (λ j. AreRowsWide j m.rows.items) (sym el) ew));
     }
 
 pub after_none : (k points : ℕ) (n : Node) (w : Way) (hs : List (Option code.Way))

@@ -6,7 +6,7 @@ use Rattle.par_rules.specs.Facts.{Fact}
 use Rattle.par_pass.specs.Pass.{HeadWays, Event, Row, Into}
 use Rattle.par_pass.specs.Written.{written, AllFit}
 use Rattle.par_rounds.specs.declared.notes.Notes.{Notes}
-use Rattle.par_rounds.specs.Seen.{seen_facts, ways_of, AreHeadsWide}
+use Rattle.par_rounds.specs.Seen.{seen_facts, ways_of, AreHeadsWide, AreRowsWide}
 use Rattle.par_rounds.specs.Took.{joined, raised, total, AreSmall, Took}
 
 raised_both : (h : HeadWays) (l k : List Event) → raised h (l ++ k) ≡ raised (raised h l) k
@@ -45,6 +45,7 @@ took_none n = record {
   falls = λ h s. omega arith;
   rises = λ h s e f. let g : true ≡ false = sym f ∙ e in cc;
   rows = refl;
+  rows_wide = λ h. h;
 }
 
 pub then : {l k : List Event} {m n o : Notes} → Took l m n → Took k n o → Took (l ++ k) m o
@@ -58,6 +59,9 @@ then {l} {k} {m} {n} {o} p q = record {
   falls = λ h s. let a = p.falls h (small_front l k s) in let b = fall h s in omega (arith, a, b);
   rises = λ h s e f. rise h s e f n.rose refl;
   rows = q.rows ∙ ap (written k) p.rows ∙ sym (written_both l k (seen_facts m.rows.items));
+  rows_wide =
+      λ h. subst (λ j. AreRowsWide j o.rows.items) p.locals
+      (q.rows_wide (subst (λ j. AreRowsWide j n.rows.items) (sym p.locals) (p.rows_wide h)));
 } where
   middle : AreHeadsWide m.locals m.heads.items → AreHeadsWide n.locals n.heads.items
   middle h = subst (λ j. AreHeadsWide j n.heads.items) (sym p.locals) (p.wide h)

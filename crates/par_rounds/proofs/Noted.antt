@@ -6,7 +6,7 @@ use Rattle.std.specs.Prelude.{IsTrue}
 use Rattle.std.proofs.Math.Path.{fun_ext}
 use Rattle.std.proofs.lemmas.List.{length-set}
 use Rattle.std.proofs.lemmas.Bool.Decides.{eqb_tells}
-use Rattle.std.proofs.lemmas.List.Elements.{All-set}
+use Rattle.std.proofs.lemmas.List.Elements.{All-set, All-push}
 use Rattle.par_bits.specs.Sets.{Set, IsWithin, union, meet}
 use Rattle.par_rules.specs.Lattice.{numbers}
 use Rattle.par_rules.specs.Facts.{Fact, blank}
@@ -19,7 +19,8 @@ use Rattle.par_pass.specs.Pass.{HeadWays, Row, Into}
 use Rattle.par_pass.specs.Written.{blanks, table}
 use Rattle.par_rounds.specs.declared.fact.Fact as code_fact
 use Rattle.par_rounds.specs.declared.notes.Notes.{Notes}
-use Rattle.par_rounds.specs.Seen.{seen_fact, seen_facts, ways_of, AreHeadsWide}
+use Rattle.par_rounds.specs.Seen.{seen_fact, seen_facts, ways_of, AreHeadsWide, AreWide}
+use Rattle.par_rounds.specs.Seen.{IsRowWide, AreRowsWide}
 use Rattle.par_rounds.specs.Took.{joined, total, HaveSmallLocks, AreSmall, Took}
 use Rattle.par_rounds.proofs.Heads.{heads_set, head_falls, total_falls}
 
@@ -38,8 +39,10 @@ facts_past (x ∷ xs) (suc i) f h = ap (λ ys. seen_fact x ∷ ys) (facts_past x
 -- a row is written, or there is no place for it
 pub took_row : (m n : Notes) (p : ℕ) (f : Fact numbers) → n.locals ≡ m.locals → n.heads ≡ m.heads
     → n.rose ≡ m.rose
-    → seen_facts n.rows.items ≡ set (seen_facts m.rows.items) p f → Took (Row p f ∷ []) m n
-took_row m n p f l h r t = record {
+    → seen_facts n.rows.items ≡ set (seen_facts m.rows.items) p f
+    → (AreRowsWide m.locals m.rows.items → AreRowsWide m.locals n.rows.items)
+    → Took (Row p f ∷ []) m n
+took_row m n p f l h r t wide = record {
   locals = l;
   size = ap (λ x. length x.items) h;
   wide = λ w. subst (λ x. AreHeadsWide m.locals x.items) (sym h) w;
@@ -48,6 +51,7 @@ took_row m n p f l h r t = record {
   falls = λ w s. let e = ap (λ x. total m.locals x.items) h in omega (arith, e);
   rises = λ w s e g. let q : true ≡ false = sym g ∙ r ∙ e in cc;
   rows = t;
+  rows_wide = wide;
 }
 
 union_same_at : (a b : Bool) → (IsTrue b → IsTrue a) → (a || b) ≡ a
@@ -103,6 +107,7 @@ took_fit m p o f = record {
   falls = λ w s. omega arith;
   rises = λ w s e g. let q : true ≡ false = sym g ∙ e in cc;
   rows = refl;
+  rows_wide = λ w. w;
 }
 
 -- a way makes a head rise
@@ -125,6 +130,7 @@ took_rise m n p y x b l h r t e f z hw hx hy = record {
   falls = λ w s. let a = fall w s in omega (arith, a);
   rises = λ w s g k. fall w s;
   rows = ap (λ v. seen_facts v.items) t;
+  rows_wide = λ w. subst (λ v. AreRowsWide m.locals v.items) (sym t) w;
 } where
   fall : AreHeadsWide m.locals m.heads.items → AreSmall (Into p (may_see x) ∷ [])
       → total m.locals n.heads.items < total m.locals m.heads.items
@@ -150,6 +156,22 @@ push_fact xs f n g e =
 pub push_blank : (xs ys : List code_fact.Fact) (f : code_fact.Fact) (n : ℕ) → ys ≡ xs ++ f ∷ []
     → seen_fact f ≡ blank numbers → seen_facts xs ≡ blanks n → seen_facts ys ≡ blanks (n + 1)
 push_blank xs ys f n e g h = ap seen_facts e ∙ push_fact xs f n g h ∙ ap blanks (sym (add-one n))
+
+-- what is kept of a point that is not reached has no ways
+pub no_row_wide : (f : code_fact.Fact) → f.entry ≡ None → f.exits.items ≡ [] → (n : ℕ)
+    → IsRowWide n f
+no_row_wide f e x n = (
+  subst (MayHaveLocals n) (sym e) tt,
+  subst (AreWide n) (sym x) (λ i d h. absurd (omega (arith, h))),
+)
+
+pub no_rows_wide : (xs : List code_fact.Fact) → xs ≡ [] → (n : ℕ) → AreRowsWide n xs
+no_rows_wide xs e n = subst (AreRowsWide n) (sym e) (λ i d h. absurd (omega (arith, h)))
+
+pub push_wide : (xs ys : List code_fact.Fact) (f : code_fact.Fact) → ys ≡ xs ++ f ∷ []
+    → ((n : ℕ) → IsRowWide n f) → ((n : ℕ) → AreRowsWide n xs) → (n : ℕ) → AreRowsWide n ys
+push_wide xs ys f e w h n =
+    subst (AreRowsWide n) (sym e) (All-push (IsRowWide n) xs f (h n) (w n))
 
 pub read_wide : (n : ℕ) (xs : List (Option code.Way)) (i : ℕ) (x : Option code.Way) → i < length xs
     → x ≡ get_or xs i x → AreHeadsWide n xs → MayHaveLocals n x

@@ -7,7 +7,7 @@ use Rattle.par_pass.specs.Pass.{HeadWays, Event, pass}
 use Rattle.par_pass.specs.Written.{blanks, written, AllFit}
 use Rattle.par_rounds.specs.declared.fact.Fact.{Fact}
 use Rattle.par_rounds.specs.declared.notes.Notes.{Notes}
-use Rattle.par_rounds.specs.Seen.{seen_facts, ways_of, AreHeadsWide}
+use Rattle.par_rounds.specs.Seen.{seen_facts, ways_of, AreHeadsWide, AreRowsWide}
 use Rattle.par_rounds.specs.Took.{raised, total, AreSmall}
 
 -- the heads after so many rounds: at first none is reached
@@ -24,6 +24,7 @@ pub record IsRound (locals points : ℕ) (hs : List (Option code.Way)) (l : List
   pub fits : n.rose ≡ false → AllFit (ways_of hs) l
   pub rises : AreSmall l → n.rose ≡ true → total locals n.heads.items < total locals hs
   pub rows : seen_facts n.rows.items ≡ written l (blanks points)
+  pub rows_wide : AreRowsWide locals n.rows.items
 
 -- the heads that the code holds after so many rounds
 pub record AreAfter (locals points : ℕ) (n : Node) (w : Way) (hs : List (Option code.Way))

@@ -42,6 +42,13 @@ AreWide n xs = All (λ x. HasLocals n x.way) xs
 abbrev pub AreFactsWide : ℕ → List Fact → Type 0
 AreFactsWide n fs = All (λ f. AreWide n f.exits.items) fs
 
+-- and so do the facts of points
+abbrev pub IsRowWide : ℕ → Fact → Type 0
+IsRowWide n f = MayHaveLocals n f.entry × AreWide n f.exits.items
+
+abbrev pub AreRowsWide : ℕ → List Fact → Type 0
+AreRowsWide n fs = All (IsRowWide n) fs
+
 abbrev pub AreHeadsWide : ℕ → List (Option Way) → Type 0
 AreHeadsWide n ways = All (MayHaveLocals n) ways
 

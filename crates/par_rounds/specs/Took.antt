@@ -9,7 +9,7 @@ use Rattle.par_pass.specs.Exits.{Way}
 use Rattle.par_pass.specs.Pass.{HeadWays, Event, Row, Into}
 use Rattle.par_pass.specs.Written.{written, AllFit}
 use Rattle.par_rounds.specs.declared.notes.Notes.{Notes}
-use Rattle.par_rounds.specs.Seen.{seen_facts, ways_of, AreHeadsWide}
+use Rattle.par_rounds.specs.Seen.{seen_facts, ways_of, AreHeadsWide, AreRowsWide}
 
 abbrev pub joined : HeadWays → ℕ → Option Way → HeadWays
 joined h p o i = cond (nat_eq i p) (may_join (h i) o) (h i)
@@ -59,3 +59,4 @@ pub record Took (l : List Event) (m n : Notes) : Type 0 where
   pub rises : AreHeadsWide m.locals m.heads.items → AreSmall l → m.rose ≡ false → n.rose ≡ true
       → total m.locals n.heads.items < total m.locals m.heads.items
   pub rows : seen_facts n.rows.items ≡ written l (seen_facts m.rows.items)
+  pub rows_wide : AreRowsWide m.locals m.rows.items → AreRowsWide m.locals n.rows.items

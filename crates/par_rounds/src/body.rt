@@ -7,7 +7,7 @@ ghost use Rattle.par_rules.specs.Numbered.{next, next_by};
 ghost use Rattle.par_rules.specs.Ranges.{IsOrderly};
 ghost use Rattle.par_nodes.specs.Seen.{seen_node, seen_rules};
 ghost use Rattle.par_pass.specs.Written.{table as by_point};
-ghost use Rattle.par_rounds.specs.Seen.{seen_facts};
+ghost use Rattle.par_rounds.specs.Seen.{seen_facts, AreRowsWide};
 ghost use Rattle.par_rounds.specs.Bodies.{AreLeastClosed};
 
 use crate::fact::Fact;
@@ -54,8 +54,9 @@ pub fn facts_of_body(
     requires method { method_of (Some method.now)
         ≡ (declares table.now).method body.now.class body.now.method }
     requires orderly { IsOrderly (declares table.now) (length method.now.locals) (shown body.now) }
-    ensures { IfOk result
+    ensures facts { IfOk result
         (λ rows. AreLeastClosed table.now (shown body.now) (by_point (seen_facts rows.items))) }
+    ensures locals { IfOk result (λ rows. AreRowsWide (length method.now.locals) rows.items) }
 {
     let _table = table;
     let _body = body;

@@ -25,7 +25,7 @@ pub fn flows(one: &[Atoms], other: &[Atoms]) -> bool
 /// Whether each local has the same policies.
 pub fn is_same(one: &[Atoms], other: &[Atoms]) -> bool
     requires { length one.now ≡ length other.now }
-    ensures { IsTrue result → locals one.now ≡ locals other.now }
+    ensures { IsTrue result ↔ (locals one.now ≡ locals other.now) }
 {
     flows(one, other) && flows(other, one)
 }

@@ -3,11 +3,12 @@ ghost use Rattle.std.specs.Prelude.{◌≡◌, ◌<◌, ℕ, false, [], ◌∷�
 ghost use Rattle.par_bits.specs.Sets.{has};
 ghost use Rattle.par_rules.specs.Lattice.{numbers};
 ghost use Rattle.par_rules.specs.Facts.{blank};
-ghost use Rattle.par_except.specs.Seen.{may_see, seen, MayHaveLocals};
+ghost use Rattle.par_except.specs.Seen.{may_see, seen, HasLocals, MayHaveLocals};
 ghost use Rattle.par_pass.specs.Exits.{at};
 ghost use Rattle.par_pass.specs.Pass.{Row, Into};
 ghost use Rattle.par_pass.specs.Written.{blanks};
 ghost use Rattle.par_rounds.specs.Seen.{seen_exits, seen_fact, seen_facts, AreHeadsWide};
+ghost use Rattle.par_rounds.specs.Seen.{AreRowsWide, AreWide, IsRowWide};
 ghost use Rattle.par_rounds.specs.Took.{HaveSmallLocks, Took};
 
 use crate::exits::{self, Exit};
@@ -40,6 +41,7 @@ impl Notes {
         ensures heads { IfOk result (λ n. n.heads.items ≡ heads.now) }
         ensures rose { IfOk result (λ n. n.rose ≡ false) }
         ensures rows { IfOk result (λ n. seen_facts n.rows.items ≡ blanks points) }
+        ensures wide { IfOk result (λ n. AreRowsWide locals n.rows.items) }
     {
         let heads = copied(alloc, heads)?;
         let rows = no_rows(alloc, points)?;
@@ -52,6 +54,7 @@ impl Notes {
     }
 
     fn write(&mut self, point: u32, row: Fact)
+        requires { IsRowWide self.old.locals row }
         ensures { Took (Row point (seen_fact row) ∷ []) self.old self.new }
     {
         let place = point as usize;
@@ -76,6 +79,8 @@ impl Notes {
         value: Atoms,
         exits: &[Exit],
     ) -> Result<(), NoMemory>
+        requires entry { HasLocals self.old.locals entry.now }
+        requires exits { AreWide self.old.locals exits.now }
         ensures { OnOk result (Took (Row point (record {
           entry = Some (seen entry.now);
           value = has value;
@@ -130,7 +135,8 @@ fn locks_are_small(way: &Option<SharedWay>)
 }
 
 fn no_fact(alloc: Global) -> Fact
-    ensures { seen_fact result ≡ blank numbers }
+    ensures fact { seen_fact result ≡ blank numbers }
+    ensures locals { (n : ℕ) → IsRowWide n result }
 {
     Fact {
         entry: None,
@@ -151,7 +157,8 @@ fn copied(alloc: Global, heads: &[Option<SharedWay>]) -> Result<Vec<Option<Share
 }
 
 fn no_rows(alloc: Global, points: usize) -> Result<Vec<Fact>, NoMemory>
-    ensures { IfOk result (λ rows. seen_facts rows.items ≡ blanks points) }
+    ensures rows { IfOk result (λ rows. seen_facts rows.items ≡ blanks points) }
+    ensures locals { IfOk result (λ rows. (n : ℕ) → AreRowsWide n rows.items) }
 {
     let mut rows = Vec::new(alloc);
     for _ in 0..points {

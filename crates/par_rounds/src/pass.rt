@@ -155,6 +155,8 @@ fn finish(
     found: Found,
     notes: &mut Notes,
 ) -> Result<Found, NoMemory>
+    requires way { HasLocals notes.old.locals way.now }
+    requires exits { AreWide notes.old.locals found.exits.items }
     ensures { IfOk result (λ r. (l : List Event) (m : Noted) → Took l m notes.old
         → AreWide m.locals found.exits.items
         → Passed r (ended point (seen way.now) (found_of found l)) m notes.new) }

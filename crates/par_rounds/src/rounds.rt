@@ -4,7 +4,7 @@ ghost use Rattle.par_nodes.specs.Seen.{seen_node};
 ghost use Rattle.par_except.specs.Seen.{seen};
 ghost use Rattle.par_pass.specs.Pass.{pass};
 ghost use Rattle.par_pass.specs.Written.{AllFit};
-ghost use Rattle.par_rounds.specs.Seen.{ways_of, AreHeadsWide};
+ghost use Rattle.par_rounds.specs.Seen.{ways_of, AreHeadsWide, AreRowsWide};
 ghost use Rattle.par_rounds.specs.Took.{MayBeSmall};
 ghost use Rattle.par_rounds.specs.Passes.{IsPassable};
 ghost use Rattle.par_rounds.specs.Rounds.{AreAfter, IsRound, IsSettled};
@@ -81,8 +81,9 @@ pub fn settle(
 ) -> Result<Vec<Fact>, NoMemory>
     requires node { IsPassable (length way.now.env) points (seen_node node.now) }
     requires small { MayBeSmall (Some (seen way.now)) }
-    ensures { IfOk result
+    ensures rows { IfOk result
         (λ rows. IsSettled (seen_node node.now) (seen way.now) points rows.items) }
+    ensures locals { IfOk result (λ rows. AreRowsWide (length way.now.env) rows.items) }
 {
     let heads = quiet(alloc, node, way, points)?;
     let notes = round(alloc, node, way, &heads, points)?;

@@ -1,5 +1,5 @@
 // A way that shares the policies of its locals with others.
-ghost use Rattle.std.specs.Prelude.{◌≡◌, ℕ, IsTrue, IfOk, length};
+ghost use Rattle.std.specs.Prelude.{◌≡◌, ◌↔◌, ℕ, IsTrue, IfOk, length};
 ghost use Rattle.par_bits.specs.Sets.{has, union};
 ghost use Rattle.par_rules.specs.Lattice.{numbers};
 ghost use Rattle.par_rules.specs.Ways.{raised};
@@ -119,7 +119,7 @@ impl SharedWay {
     /// Whether both ways have the same policies of locals.
     pub fn has_env_of(&self, other: &SharedWay) -> bool
         requires { length self.now.env ≡ length other.now.env }
-        ensures { IsTrue result → locals self.now.env ≡ locals other.now.env }
+        ensures { IsTrue result ↔ (locals self.now.env ≡ locals other.now.env) }
     {
         env::is_same(self.env.as_slice(), other.env.as_slice())
     }

@@ -9,6 +9,7 @@ use Rattle.par_nodes.specs.Seen.{seen_node}
 use Rattle.par_except.specs.Seen.{seen}
 use Rattle.par_rounds.specs.Passes.{IsPassable}
 use Rattle.par_rounds.specs.Rounds.{IsSettled}
+use Rattle.par_rounds.specs.Seen.{AreRowsWide}
 use Rattle.par_rounds.specs.Took.{MayBeSmall}
 use Rattle.par_rounds.proofs.Bodies.{passable, first_small, rows_least}
 use Rattle.par_rounds.proofs.body.facts_of_body.Goals as goal
@@ -33,8 +34,8 @@ settle-requires-clause-small c =
     (first_small (method_of (Some c.args.method.now))
     (subst (λ m. All (λ p. p < MOST) m.params) (sym c.requires.method) c.requires.orderly.params))
 
-pub returns : goal.returns
-returns c =
+pub returns-clause-facts : goal.returns-clause-facts
+returns-clause-facts c =
     let t = c.args.table.now in let b = shown c.args.body.now in let e = c.next.ensures in
     let w : seen c.in_ok-way.way ≡ first numbers ((declares t).method b.class b.method) =
     ap seen c.in_ok-way.ensures ∙ c.in_ok-first.ensures.way
@@ -43,6 +44,12 @@ returns c =
     (subst (λ n. IsSettled n (first numbers ((declares t).method b.class b.method)) c.next.result
     c.in_ok-rows.rows.items) c.requires.node
     (subst (λ v. IsSettled (seen_node c.args.node.now) v c.next.result c.in_ok-rows.rows.items) w
-    c.in_ok-rows.ensures))
+    c.in_ok-rows.ensures.rows))
     c.requires.orderly.numbered
     (subst (λ n. next n ≤ c.next.result) c.requires.node (omega (arith, e)))
+
+pub returns-clause-locals : goal.returns-clause-locals
+returns-clause-locals c =
+    subst (λ n. AreRowsWide n c.in_ok-rows.rows.items)
+    (ap (λ w. length w.env) c.in_ok-way.ensures ∙ c.in_ok-first.ensures.locals)
+    c.in_ok-rows.ensures.locals

@@ -6,7 +6,7 @@ use Rattle.par_rules.specs.Ranges.{IsFromInRange, IsWorthInRange}
 use Rattle.par_rules.specs.Rules.{way, worth as worth_of}
 use Rattle.par_nodes.specs.Seen.{seen_kind, seen_origin, seen_worth, seen_absorber, seen_rules}
 use Rattle.par_nodes.specs.Seen.{seen_node}
-use Rattle.par_except.specs.Seen.{seen, MayHaveLocals}
+use Rattle.par_except.specs.Seen.{seen, HasLocals, MayHaveLocals}
 use Rattle.par_bits.specs.Sets.{has, union}
 use Rattle.par_rounds.specs.Seen.{latest_first, ways_of, AreWide}
 use Rattle.par_rounds.proofs.Trees.{is_done, is_part, is_test, is_heads, is_leaves, is_worths}
@@ -30,6 +30,16 @@ pass-pass_rules-requires t c = (
     ),
   ),
 )
+
+pub pass-finish-requires-clause-way : goal.pass-finish-requires-clause-way
+pass-finish-requires-clause-way t c =
+    let n = c.args.notes.now in let p = c.in_ok-pass_rules.ensures [] n (took_none n) in
+    subst (λ k. HasLocals k c.args.way.now) (sym p.noted.locals) c.requires.ready.way
+
+pub pass-finish-requires-clause-exits : goal.pass-finish-requires-clause-exits
+pass-finish-requires-clause-exits t c =
+    let n = c.args.notes.now in let p = c.in_ok-pass_rules.ensures [] n (took_none n) in
+    subst (λ k. AreWide k c.pass_rules.new.so.found.exits.items) (sym p.noted.locals) p.wide
 
 pub pass-returns : goal.pass-returns
 pass-returns t c =

@@ -1,7 +1,13 @@
-use Rattle.std.proofs.Common.{refl}
+use Rattle.std.proofs.Common.{refl, sym, subst}
 use Rattle.par_except.specs.Seen.{seen}
+use Rattle.par_rounds.specs.Seen.{AreWide}
 use Rattle.par_rounds.proofs.Arms.{finish_goes}
 use Rattle.par_rounds.proofs.pass.finish.Goals as goal
+
+pub row-requires-clause-exits : goal.row-requires-clause-exits
+row-requires-clause-exits c =
+    let n = c.args.notes.now.locals in
+    subst (AreWide n) (sym c.deref.ensures.value) (c.restore.ensures.locals n c.requires.exits)
 
 pub returns : goal.returns
 returns c =
