@@ -6,9 +6,10 @@ ghost use Rattle.par_typed.specs.Shown as shown;
 ghost use Rattle.par_rules.specs.Declares.{declares, method_of};
 ghost use Rattle.par_rules.specs.Ranges.{IsOrderly};
 ghost use Rattle.par_pass.specs.Written.{table as by_point};
-ghost use Rattle.par_rounds.specs.Seen.{seen_facts};
+ghost use Rattle.par_rounds.specs.Seen.{seen_facts, AreRowsWide};
 ghost use Rattle.par_rounds.specs.Bodies.{AreLeastClosed};
 ghost use Rattle.par_verdict.specs.Accepted.{IsOrderlyBody, methods_in};
+ghost use Rattle.par_locks.specs.Locals.{locals_in};
 
 use par_lexer::list::NoMemory;
 use par_nodes::body::body_node;
@@ -34,6 +35,7 @@ fn method_of<'a>(table: &'a Table, body: &TBody) -> &'a MethodInfo
         ≡ (declares table.now).method body.now.class body.now.method }
     ensures orderly { IsOrderly (declares table.now) (length result.now.locals)
         (shown.body body.now) }
+    ensures locals { length result.now.locals ≡ locals_in table.now (shown.body body.now) }
 {
     match method_at(table, body.class, body.method) {
         Some(method) => method,
@@ -54,8 +56,10 @@ pub fn body_at(typed: &Typed, body: u16) -> &TBody
 /// The least facts of a body of the table, by points.
 pub fn rows_of(alloc: Global, table: &Table, body: &TBody) -> Result<Vec<Fact>, NoMemory>
     requires { IsOrderlyBody table.now (shown.body body.now) }
-    ensures { IfOk result (λ rows. AreLeastClosed table.now (shown.body body.now)
+    ensures facts { IfOk result (λ rows. AreLeastClosed table.now (shown.body body.now)
         (by_point (seen_facts rows.items))) }
+    ensures locals { IfOk result
+        (λ rows. AreRowsWide (locals_in table.now (shown.body body.now)) rows.items) }
 {
     let method = method_of(table, body);
     let node = body_node(alloc, table, body)?;

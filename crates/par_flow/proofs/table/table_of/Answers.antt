@@ -18,4 +18,4 @@ returns c =
     (λ p l. c.in_ok-statements.ensures.flags p l ∙ ap (λ xs. has xs p) c.deref.ensures.value)
     c.args.table.now b (c.in_ok-list_points.ensures
     ∙ ap (λ l. l ++ points b.body) c.new-listed.ensures.items)
-    c.in_ok-table.ensures.found c.in_ok-facts.ensures
+    c.in_ok-table.ensures.found c.in_ok-facts.ensures.facts

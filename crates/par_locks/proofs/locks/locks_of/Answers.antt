@@ -21,7 +21,7 @@ returns c = λ b h.
       facts = by_point (seen_facts rows);
       least =
           subst (λ d. AreLeastClosed c.args.typed.now.table d (by_point (seen_facts rows))) same
-          c.in_ok-rows.ensures;
+          c.in_ok-rows.ensures.facts;
       same =
           λ p. c.in_ok-locks.ensures p
           ∙ ap (λ l. entering (by_point (seen_facts l) p).entry) c.deref.ensures.value;
