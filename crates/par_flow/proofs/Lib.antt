@@ -1,3 +1,4 @@
 pub mod Points
 pub mod Ways
 pub mod Rows
+pub mod Used

@@ -22,14 +22,15 @@ use Rattle.par_rounds.specs.declared.exits.Exit.{Exit}
 use Rattle.par_rounds.specs.declared.fact.Fact as code
 use Rattle.par_rounds.specs.Seen.{seen_exit, seen_exits, seen_fact, seen_facts}
 use Rattle.par_rounds.specs.Bodies.{AreLeastClosed}
+use Rattle.par_locks.specs.Locals.{locals_in}
 use Rattle.par_flow.specs.declared.kept.KeptWay.{KeptWay}
 use Rattle.par_flow.specs.declared.kept.KeptWays.{KeptWays}
 use Rattle.par_flow.specs.declared.table.Row.{Row}
 use Rattle.par_flow.specs.declared.table.FactTable.{FactTable}
-use Rattle.par_flow.specs.Kept.{exit_of, way_with, AreOnce, MayShow}
+use Rattle.par_flow.specs.Kept.{exit_of, way_with, AreLong, AreOnce, MayShow}
 use Rattle.par_flow.specs.Statements.{points}
 use Rattle.par_flow.specs.Table.{reached, value_in, exits_in, entry_in, row_at, envs_in, entry_at}
-use Rattle.par_flow.specs.Table.{flags, may_way, fact_in, ShowsFact, AllShow, IsTableOf}
+use Rattle.par_flow.specs.Table.{flags, may_way, fact_in, IsNamedAt, ShowsFact, AllShow, IsTableOf}
 use Rattle.par_flow.proofs.Ways.{may_still}
 
 -- ---- one more of a list
@@ -176,6 +177,8 @@ module _ (t : FactTable) (fs : List (Fact numbers)) (shown : AllShow (envs_in t)
     (listed : List ℕ) (bs : List Bool) (many : ℕ)
     (flagged : flags t.rows.items ≡ bs) (size : length bs ≡ many)
     (known : (p : ℕ) → p < many → get_or bs p false ≡ is_among listed p)
+    (used : (n : ℕ) → n < length (envs_in t) → (p : ℕ) × IsNamedAt n (row_at t p))
+    (many_locals : ℕ) (long : AreLong many_locals (envs_in t))
   where
     told : (p : ℕ) (r : Row) → slice_get t.rows.items p ≡ Some r
         → r.is_statement ≡ is_among listed p
@@ -222,13 +225,16 @@ module _ (t : FactTable) (fs : List (Fact numbers)) (shown : AllShow (envs_in t)
         valued_some r.entry r.is_statement r.value ∙ ap (λ b. is_some r.entry && not b) (told p r e)
 
     pub table_is : (table : Table) (b : Body) → listed ≡ points b.body
+        → many_locals ≡ locals_in table b
         → AreFound t.numbered.entries.items → AreLeastClosed table b (by_point fs)
         → IsTableOf table b t
-    table_is table b all found least = record {
+    table_is table b all locals found least = record {
       facts =
           subst (AreLeastClosed table b)
           (sym (fun_ext (same_at (envs_in t) t.rows.items fs shown))) least;
       different = different t.numbered.entries.items found;
+      long = subst (λ n. AreLong n (envs_in t)) locals long;
+      used = used;
       entries = λ p. entries_of p (row_at t p) refl;
       exits = λ p. exits_of p (row_at t p) refl;
       once = λ p. once_of p (row_at t p) refl;

@@ -66,7 +66,7 @@ at_more (y ∷ xs) x k = by (same y.kind k) (at_more xs x k) where
   by true h = refl
   by false h = h
 
-thrown_more : (ts : List (ℕ × KeptWay)) (t : ℕ × KeptWay) (class : ℕ)
+pub thrown_more : (ts : List (ℕ × KeptWay)) (t : ℕ × KeptWay) (class : ℕ)
     → thrown (ts ++ t ∷ []) class ≡ or_else (thrown ts class) (thrown (t ∷ []) class)
 thrown_more [] t class = refl
 thrown_more (y ∷ ts) t class = by (nat_eq y.0 class) (thrown_more ts t class) where

@@ -1,5 +1,6 @@
 -- What the kept ways mean.
-use Rattle.std.specs.Prelude.{◌≡◌, ℕ, cond, nat_eq, Option, Some, None, List, [], ◌∷◌, slice_get}
+use Rattle.std.specs.Prelude.{◌≡◌, ◌<◌, ◌⊎◌, ℕ, cond, nat_eq, Option, Some, None, List, [], ◌∷◌}
+use Rattle.std.specs.Prelude.{All, length, slice_get}
 use Rattle.par_bits.specs.Sets.{has}
 use Rattle.par_rules.specs.Lattice.{numbers}
 use Rattle.par_rules.specs.Ways.{Way}
@@ -45,3 +46,24 @@ ShowThrows es ts xs = (class : ℕ) → MayShow es (thrown ts class) (at xs (kin
 abbrev pub AreOnce : List (ℕ × KeptWay) → Type 0
 AreOnce [] = Unit {0}
 AreOnce (t ∷ ts) = (thrown ts t.0 ≡ None) × AreOnce ts
+
+-- the way has the environment of the number
+abbrev pub HasEnv : ℕ → Option KeptWay → Type 0
+HasEnv n None = ⊥
+HasEnv n (Some k) = k.env ≡ n
+
+-- the way of a throw has it
+abbrev pub Throws : ℕ → List (ℕ × KeptWay) → Type 0
+Throws n ts = (class : ℕ) × HasEnv n (thrown ts class)
+
+-- that of a completion has it
+abbrev pub Leaves : ℕ → KeptWays → Type 0
+Leaves n ways = (k : Kind) × HasEnv n (exit_of ways k)
+
+-- each number names an environment that was there before, or is one of these
+abbrev pub AddsOnly : List (List ℕ) → List (List ℕ) → (ℕ → Type 0) → Type 0
+AddsOnly es fs IsNamed = (n : ℕ) → n < length fs → (n < length es) ⊎ IsNamed n
+
+-- each environment is as long as that
+abbrev pub AreLong : ℕ → List (List ℕ) → Type 0
+AreLong n es = All (λ env. length env ≡ n) es

@@ -1,6 +1,6 @@
 -- What a table of facts says of points.
-use Rattle.std.specs.Prelude.{◌≡◌, ℕ, Bool, ◌&&◌, not, cond, Option, Some, None, is_some}
-use Rattle.std.specs.Prelude.{List, [], ◌∷◌, map, slice_get, slice_index_or}
+use Rattle.std.specs.Prelude.{◌≡◌, ◌<◌, ◌⊎◌, ℕ, Bool, ◌&&◌, not, cond, Option, Some, None, is_some}
+use Rattle.std.specs.Prelude.{List, [], ◌∷◌, length, map, slice_get, slice_index_or}
 use Rattle.par_policy.specs.Numbers.{has as is_among}
 use Rattle.par_typed.specs.declared.table.Table.{Table}
 use Rattle.par_typed.specs.Plain.{Body}
@@ -12,11 +12,12 @@ use Rattle.par_rules.specs.Facts.{Fact, Facts, blank}
 use Rattle.par_envs.specs.Numbered.{envs, AreDifferent}
 use Rattle.par_rounds.specs.Bodies.{AreLeastClosed}
 use Rattle.par_verdict.specs.Standing.{Standing}
+use Rattle.par_locks.specs.Locals.{locals_in}
 use Rattle.par_flow.specs.declared.kept.KeptWay.{KeptWay}
 use Rattle.par_flow.specs.declared.kept.KeptWays.{KeptWays}
 use Rattle.par_flow.specs.declared.table.Row.{Row}
 use Rattle.par_flow.specs.declared.table.FactTable.{FactTable}
-use Rattle.par_flow.specs.Kept.{exit_of, way_with, AreOnce, MayShow}
+use Rattle.par_flow.specs.Kept.{exit_of, way_with, AreLong, AreOnce, HasEnv, Leaves, MayShow}
 use Rattle.par_flow.specs.Statements.{points}
 
 abbrev pub entry_in : Option Row → Option KeptWay
@@ -85,6 +86,14 @@ fact_in es (Some r) = record {
 abbrev pub facts_in : FactTable → Facts numbers
 facts_in t point = fact_in (envs_in t) (row_at t point)
 
+-- the way that enters the point has the environment of the number, or one that leaves it
+abbrev pub IsNamedIn : ℕ → Row → Type 0
+IsNamedIn n r = HasEnv n r.entry ⊎ Leaves n r.exits
+
+abbrev pub IsNamedAt : ℕ → Option Row → Type 0
+IsNamedAt n None = ⊥
+IsNamedAt n (Some r) = IsNamedIn n r
+
 -- what a verdict asks of a way, if there is one
 abbrev pub stood : Option KeptWay → Option Standing
 stood None = None
@@ -92,10 +101,13 @@ stood (Some k) = Some (record { context = has k.context; locks = has k.locks })
 
 -- the table keeps the least closed facts of the body: at each point that is reached the way that
 -- enters it, how it is left, and unless it is that of a statement, its value. Each number is that
--- of an environment, and different numbers are those of different ones
+-- of an environment, and different numbers are those of different ones. No environment is kept
+-- that no way has, and each has the policies of all locals of the method
 pub record IsTableOf (table : Table) (b : Body) (t : FactTable) : Type 0 where
   pub facts : AreLeastClosed table b (facts_in t)
   pub different : AreDifferent (envs_in t)
+  pub long : AreLong (locals_in table b) (envs_in t)
+  pub used : (n : ℕ) → n < length (envs_in t) → (p : ℕ) × IsNamedAt n (row_at t p)
   pub entries : (p : ℕ) → MayShow (envs_in t) (entry_at t p) (facts_in t p).entry
   pub exits : (p : ℕ) (ways : KeptWays) → exits_at t p ≡ Some ways → (k : Kind)
       → MayShow (envs_in t) (exit_of ways k) ((facts_in t p).exit k)

@@ -5,11 +5,12 @@ ghost use Rattle.std.specs.Option.{option_copied};
 ghost use Rattle.par_rules.specs.Kinds as kinds;
 ghost use Rattle.par_rules.specs.Kinds.{Kind as Completion};
 ghost use Rattle.par_nodes.specs.Seen.{seen_kind};
-ghost use Rattle.par_except.specs.Seen.{may_see, seen};
+ghost use Rattle.par_except.specs.Seen.{may_see, seen, HasLocals, MayHaveLocals};
 ghost use Rattle.par_pass.specs.Exits.{at, Exit as Left};
 ghost use Rattle.par_envs.specs.Numbered.{AreFound, Extends, envs};
-ghost use Rattle.par_rounds.specs.Seen.{seen_exit, seen_exits};
-ghost use Rattle.par_flow.specs.Kept.{exit_of, AreOnce, ShowThrows, ShowsWay, MayShow};
+ghost use Rattle.par_rounds.specs.Seen.{seen_exit, seen_exits, AreWide};
+ghost use Rattle.par_flow.specs.Kept.{exit_of, AddsOnly, AreLong, AreOnce, HasEnv, Leaves};
+ghost use Rattle.par_flow.specs.Kept.{MayShow, ShowThrows, ShowsWay, Throws};
 
 use crate::kept::{KeptWay, KeptWays, thrown};
 use par_envs::Envs;
@@ -26,6 +27,11 @@ fn keep_way(alloc: Global, numbered: &mut Envs, way: &SharedWay) -> Result<KeptW
         (Extends (envs numbered.old.entries.items) (envs numbered.new.entries.items)) }
     ensures way { IfOk result
         (λ kept. ShowsWay (envs numbered.new.entries.items) kept (seen way.now)) }
+    ensures adds { IfOk result (λ kept. AddsOnly (envs numbered.old.entries.items)
+        (envs numbered.new.entries.items) (λ n. kept.env ≡ n)) }
+    ensures long { OnOk result ((n : ℕ) → HasLocals n way.now
+        → AreLong n (envs numbered.old.entries.items)
+        → AreLong n (envs numbered.new.entries.items)) }
 {
     let env = numbered.number(alloc, way.env())?;
     Ok(KeptWay {
@@ -47,6 +53,11 @@ pub fn may_keep(
         (Extends (envs numbered.old.entries.items) (envs numbered.new.entries.items)) }
     ensures way { IfOk result (λ kept. MayShow (envs numbered.new.entries.items) kept
         (may_see (option_copied way.entry))) }
+    ensures adds { IfOk result (λ kept. AddsOnly (envs numbered.old.entries.items)
+        (envs numbered.new.entries.items) (λ n. HasEnv n kept)) }
+    ensures long { OnOk result ((n : ℕ) → MayHaveLocals n (option_copied way.entry)
+        → AreLong n (envs numbered.old.entries.items)
+        → AreLong n (envs numbered.new.entries.items)) }
 {
     match way {
         None => Ok(None),
@@ -59,7 +70,8 @@ pub fn may_keep(
 
 // The way of a kind among exits.
 fn way_of(exits: &[Exit], kind: Kind) -> Option<&SharedWay>
-    ensures { may_see (option_copied result) ≡ at (seen_exits exits.now) (seen_kind kind) }
+    ensures way { may_see (option_copied result) ≡ at (seen_exits exits.now) (seen_kind kind) }
+    ensures locals { (n : ℕ) → AreWide n exits.now → MayHaveLocals n (option_copied result) }
 {
     for exit in exits {
         if is_same(exit.kind, kind) {
@@ -81,6 +93,11 @@ fn keep_exit(
         (Extends (envs numbered.old.entries.items) (envs numbered.new.entries.items)) }
     ensures way { IfOk result (λ kept. MayShow (envs numbered.new.entries.items) kept
         (at (seen_exits exits.now) (seen_kind kind))) }
+    ensures adds { IfOk result (λ kept. AddsOnly (envs numbered.old.entries.items)
+        (envs numbered.new.entries.items) (λ n. HasEnv n kept)) }
+    ensures long { OnOk result ((n : ℕ) → AreWide n exits.now
+        → AreLong n (envs numbered.old.entries.items)
+        → AreLong n (envs numbered.new.entries.items)) }
 {
     let kept = may_keep(alloc, numbered, way_of(exits, kind))?;
     Ok(kept)
@@ -113,6 +130,12 @@ fn keep_throw(
         → ShowThrows (envs numbered.old.entries.items) throws.old xs
         → ShowThrows (envs numbered.new.entries.items) throws.new (xs ++ seen_exit exit.now ∷ [])) }
     ensures once { OnOk result (AreOnce throws.old → AreOnce throws.new) }
+    ensures kept { OnOk result ((n : ℕ) → Throws n throws.old → Throws n throws.new) }
+    ensures adds { OnOk result (AddsOnly (envs numbered.old.entries.items)
+        (envs numbered.new.entries.items) (λ n. Throws n throws.new)) }
+    ensures long { OnOk result ((n : ℕ) → HasLocals n exit.now.way
+        → AreLong n (envs numbered.old.entries.items)
+        → AreLong n (envs numbered.new.entries.items)) }
 {
     if let Some(class) = class_of(exit.kind) {
         if thrown(throws.as_slice(), class).is_none() {
@@ -136,6 +159,11 @@ fn keep_throws(
     ensures throws { IfOk result
         (λ kept. ShowThrows (envs numbered.new.entries.items) kept (seen_exits exits.now)) }
     ensures once { IfOk result AreOnce }
+    ensures adds { IfOk result (λ kept. AddsOnly (envs numbered.old.entries.items)
+        (envs numbered.new.entries.items) (λ n. Throws n kept)) }
+    ensures long { OnOk result ((n : ℕ) → AreWide n exits.now
+        → AreLong n (envs numbered.old.entries.items)
+        → AreLong n (envs numbered.new.entries.items)) }
 {
     let mut throws = List::new(alloc);
     for exit in exits {
@@ -154,6 +182,11 @@ pub fn keep_exits(alloc: Global, numbered: &mut Envs, exits: &[Exit]) -> Result<
         → MayShow (envs numbered.new.entries.items) (exit_of kept k)
         (at (seen_exits exits.now) k)) }
     ensures once { IfOk result (λ kept. AreOnce kept.throws) }
+    ensures adds { IfOk result (λ kept. AddsOnly (envs numbered.old.entries.items)
+        (envs numbered.new.entries.items) (λ n. Leaves n kept)) }
+    ensures long { OnOk result ((n : ℕ) → AreWide n exits.now
+        → AreLong n (envs numbered.old.entries.items)
+        → AreLong n (envs numbered.new.entries.items)) }
 {
     let normal = keep_exit(alloc, numbered, exits, Kind::Normal)?;
     let ret = keep_exit(alloc, numbered, exits, Kind::Return)?;

@@ -7,14 +7,15 @@ ghost use Rattle.std.specs.Option.{option_copied};
 ghost use Rattle.par_typed.specs.Plain.{Body};
 ghost use Rattle.par_typed.specs.Shown as shown;
 ghost use Rattle.par_envs.specs.Numbered.{AreFound, Extends, envs};
-ghost use Rattle.par_except.specs.Seen.{may_see};
-ghost use Rattle.par_rounds.specs.Seen.{seen_fact, seen_facts};
+ghost use Rattle.par_except.specs.Seen.{may_see, MayHaveLocals};
+ghost use Rattle.par_rounds.specs.Seen.{seen_fact, seen_facts, AreRowsWide, IsRowWide};
 ghost use Rattle.par_verdict.specs.Accepted.{IsOrderlyBody};
 ghost use Rattle.par_verdict.specs.Standing.{stands};
 ghost use Rattle.par_locks.specs.Open.{open_at, AreOpenOf};
-ghost use Rattle.par_flow.specs.Table.{entry_at, envs_in, exits_at, facts_in, flags, stood};
-ghost use Rattle.par_flow.specs.Table.{value_at};
-ghost use Rattle.par_flow.specs.Table.{AllShow, IsTableOf, ShowsFact};
+ghost use Rattle.par_flow.specs.Kept.{AddsOnly, AreLong};
+ghost use Rattle.par_flow.specs.Table.{entry_at, envs_in, exits_at, facts_in, flags, row_at};
+ghost use Rattle.par_flow.specs.Table.{stood, value_at};
+ghost use Rattle.par_flow.specs.Table.{AllShow, IsNamedAt, IsNamedIn, IsTableOf, ShowsFact};
 
 use crate::keep::{keep_exits, may_keep};
 use crate::kept::{KeptWay, KeptWays, exit_of};
@@ -116,6 +117,11 @@ fn keep_row(
     ensures fact { IfOk result
         (λ row. ShowsFact (envs numbered.new.entries.items) row (seen_fact fact.now)) }
     ensures statement { IfOk result (λ row. row.is_statement ≡ is_statement) }
+    ensures adds { IfOk result (λ row. AddsOnly (envs numbered.old.entries.items)
+        (envs numbered.new.entries.items) (λ n. IsNamedIn n row)) }
+    ensures long { OnOk result ((n : ℕ) → IsRowWide n fact.now
+        → AreLong n (envs numbered.old.entries.items)
+        → AreLong n (envs numbered.new.entries.items)) }
 {
     let entry = may_keep(alloc, numbered, entry_of(fact))?;
     let exits = keep_exits(alloc, numbered, &fact.exits)?;
@@ -128,7 +134,9 @@ fn keep_row(
 }
 
 fn entry_of(fact: &Fact) -> Option<&SharedWay>
-    ensures { may_see (option_copied result) ≡ may_see fact.now.entry }
+    ensures way { may_see (option_copied result) ≡ may_see fact.now.entry }
+    ensures locals { (n : ℕ) → MayHaveLocals n fact.now.entry
+        → MayHaveLocals n (option_copied result) }
 {
     match &fact.entry {
         None => None,
@@ -142,6 +150,9 @@ fn keep_rows(alloc: Global, facts: &[Fact], statements: &[bool]) -> Result<FactT
     ensures found { IfOk result (λ t. AreFound t.numbered.entries.items) }
     ensures facts { IfOk result (λ t. AllShow (envs_in t) t.rows.items (seen_facts facts.now)) }
     ensures statements { IfOk result (λ t. flags t.rows.items ≡ statements.now) }
+    ensures used { IfOk result (λ t. (n : ℕ) → n < length (envs_in t)
+        → (p : ℕ) × IsNamedAt n (row_at t p)) }
+    ensures long { IfOk result (λ t. (n : ℕ) → AreRowsWide n facts.now → AreLong n (envs_in t)) }
 {
     let mut numbered = Envs::new(alloc);
     let mut rows = Vec::new(alloc);

@@ -1,6 +1,7 @@
 use Rattle.par_envs.specs.Numbered.{envs, Extends}
 use Rattle.par_rounds.specs.Seen.{seen_exits}
 use Rattle.par_flow.proofs.Ways.{all_exits, extends_all, may_still}
+use Rattle.par_flow.proofs.Used.{exits_add}
 use Rattle.par_flow.proofs.keep.keep_exits.Goals as goal
 
 pub returns-clause-more : goal.returns-clause-more
@@ -25,3 +26,18 @@ returns-clause-exits c =
     (may_still a f af _ _ c.in_ok-normal.ensures.way) (may_still b f bf _ _ c.in_ok-ret.ensures.way)
     (may_still d f df _ _ c.in_ok-brk.ensures.way) (may_still e f ef _ _ c.in_ok-cont.ensures.way)
     c.in_ok-throws.ensures.throws
+
+pub returns-clause-adds : goal.returns-clause-adds
+returns-clause-adds c =
+    exits_add (envs c.args.numbered.now.entries.items) (envs c.keep_exit.new.numbered.entries.items)
+    (envs c.keep_exit-2.new.numbered.entries.items) (envs c.keep_exit-3.new.numbered.entries.items)
+    (envs c.keep_exit-4.new.numbered.entries.items) (envs c.keep_throws.new.numbered.entries.items)
+    _ c.in_ok-normal.ensures.adds c.in_ok-ret.ensures.adds c.in_ok-brk.ensures.adds
+    c.in_ok-cont.ensures.adds c.in_ok-throws.ensures.adds
+
+pub returns-clause-long : goal.returns-clause-long
+returns-clause-long c = λ n wide h.
+    c.in_ok-throws.ensures.long n wide
+    (c.in_ok-cont.ensures.long n wide
+    (c.in_ok-brk.ensures.long n wide
+    (c.in_ok-ret.ensures.long n wide (c.in_ok-normal.ensures.long n wide h))))

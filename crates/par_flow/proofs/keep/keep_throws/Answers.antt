@@ -1,11 +1,13 @@
 use Rattle.std.proofs.Common.{sym, subst, take}
 use Rattle.par_rules.specs.Kinds.{Throw}
+use Rattle.par_except.specs.Seen.{HasLocals}
 use Rattle.par_pass.specs.Exits.{at}
 use Rattle.par_envs.specs.Numbered.{envs}
 use Rattle.par_rounds.specs.Seen.{seen_exits}
-use Rattle.par_flow.specs.Kept.{thrown, MayShow}
+use Rattle.par_flow.specs.Kept.{thrown, MayShow, Throws}
 use Rattle.par_flow.proofs.Ways.{extends_all}
 use Rattle.par_flow.proofs.Rows.{exits_more}
+use Rattle.par_flow.proofs.Used.{adds_then}
 use Rattle.par_flow.proofs.keep.keep_throws.Goals as goal
 
 pub loop-exit-preserved : goal.loop-exit-preserved
@@ -24,4 +26,14 @@ loop-exit-preserved c =
           (seen_exits (take c.loop-exit.exit-index c.args.exits.now))
           c.loop-exit.invariant.throws class);
       once = c.in_ok-keep_throw.ensures.once c.loop-exit.invariant.once;
+      adds =
+          adds_then _ (envs c.loop-exit.numbered.entries.items) gs
+          (λ n. Throws n c.loop-exit.throws) (λ n. Throws n c.keep_throw.new.throws)
+          (λ n. Throws n c.keep_throw.new.throws) c.loop-exit.invariant.adds
+          c.in_ok-keep_throw.ensures.adds c.in_ok-keep_throw.ensures.kept (λ n h. h);
+      long =
+          λ n wide h. c.in_ok-keep_throw.ensures.long n
+          (subst (λ x. HasLocals n x.way) (sym c.exit-item.is)
+          (wide c.loop-exit.exit-index c.exit-item.result c.loop-exit-test.true))
+          (c.loop-exit.invariant.long n wide h);
     }

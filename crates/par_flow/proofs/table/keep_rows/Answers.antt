@@ -1,6 +1,8 @@
-use Rattle.std.proofs.Common.{◌<◌, false, length, refl, arith}
+use Rattle.std.proofs.Common.{◌<◌, false, length, refl, sym, subst, arith}
 use Rattle.par_envs.specs.Numbered.{envs}
+use Rattle.par_rounds.specs.Seen.{IsRowWide}
 use Rattle.par_flow.proofs.Rows.{all_more, facts_more, flags_more}
+use Rattle.par_flow.proofs.Used.{used_more}
 use Rattle.par_flow.proofs.table.keep_rows.Goals as goal
 
 pub loop-place-preserved : goal.loop-place-preserved
@@ -22,4 +24,14 @@ loop-place-preserved c =
           c.args.statements.now c.loop-place.place _ false c.in_ok-push.ensures.items
           c.loop-place.invariant.statements inside
           c.in_ok-row.ensures.statement refl;
+      used =
+          used_more (envs c.loop-place.numbered.entries.items)
+          (envs c.keep_row.new.numbered.entries.items) c.loop-place.rows.items
+          c.push.new.self.items c.in_ok-row.row c.in_ok-push.ensures.items c.in_ok-row.ensures.adds
+          c.loop-place.invariant.used;
+      long =
+          λ n wide. c.in_ok-row.ensures.long n
+          (subst (IsRowWide n) (sym c.index-facts-place.is)
+          (wide c.loop-place.place c.index-facts-place.result c.loop-place-test.true))
+          (c.loop-place.invariant.long n wide);
     }

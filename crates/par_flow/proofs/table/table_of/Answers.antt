@@ -1,7 +1,8 @@
-use Rattle.std.proofs.Common.{ap, ◌∙◌, subst, ◌++◌}
+use Rattle.std.proofs.Common.{refl, sym, ap, ◌∙◌, subst, ◌++◌}
 use Rattle.par_policy.specs.Numbers.{has}
 use Rattle.par_typed.specs.Shown as shown
-use Rattle.par_rounds.specs.Seen.{seen_facts}
+use Rattle.par_rounds.specs.Seen.{seen_facts, AreRowsWide}
+use Rattle.par_locks.specs.Locals.{locals_in}
 use Rattle.par_flow.specs.Statements.{points}
 use Rattle.par_flow.specs.Table.{envs_in, AllShow}
 use Rattle.par_flow.proofs.Rows.{table_is}
@@ -16,6 +17,9 @@ returns c =
     c.list_points.new.listed.items c.in_ok-statements.statements.items c.len.result
     (c.in_ok-table.ensures.statements ∙ c.deref-3.ensures.value) c.in_ok-statements.ensures.size
     (λ p l. c.in_ok-statements.ensures.flags p l ∙ ap (λ xs. has xs p) c.deref.ensures.value)
+    c.in_ok-table.ensures.used (locals_in c.args.table.now b)
+    (c.in_ok-table.ensures.long _ (subst (AreRowsWide (locals_in c.args.table.now b))
+    (sym c.deref-2.ensures.value) c.in_ok-facts.ensures.locals))
     c.args.table.now b (c.in_ok-list_points.ensures
     ∙ ap (λ l. l ++ points b.body) c.new-listed.ensures.items)
-    c.in_ok-table.ensures.found c.in_ok-facts.ensures.facts
+    refl c.in_ok-table.ensures.found c.in_ok-facts.ensures.facts
