@@ -10,7 +10,7 @@ ghost use Rattle.par_actions.specs.Combining.{operator_of};
 ghost use Rattle.par_actions.specs.Done.{IsAt, Comes, Keeps, is_still};
 
 use crate::done::Done;
-use crate::operands::{Number, Numbers, last_number, last_numbers, local_number, replace};
+use crate::operands::{Number, Numbers, last_number, last_numbers, local_number};
 use par_arith::{
     and, minus, negated, or, plus, quotient, remainder, shift_left, shift_right,
     shift_right_unsigned, times, xor,
@@ -76,7 +76,7 @@ pub fn combine(stack: &mut Stack, operator: Operator, ahead: bool) -> Done
     if !ahead {
         return Done::Bad(5);
     }
-    replace(stack, 2, MVal::Int(number));
+    stack.replace(2, MVal::Int(number));
     Done::Goes
 }
 
@@ -96,7 +96,7 @@ pub fn negate(stack: &mut Stack, ahead: bool) -> Done
     if !ahead {
         return Done::Bad(5);
     }
-    replace(stack, 1, MVal::Int(negated(number)));
+    stack.replace(1, MVal::Int(negated(number)));
     Done::Goes
 }
 

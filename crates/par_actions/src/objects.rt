@@ -18,7 +18,6 @@ ghost use Rattle.par_actions.specs.Objects.{AreShown, Writes};
 use crate::done::Done;
 use crate::fields::Field;
 use crate::fit::{Fit, accepts};
-use crate::operands::replace;
 use par_heap::Heap;
 use par_stack::Stack;
 use par_values::value::MVal;
@@ -66,7 +65,7 @@ fn read(stack: &mut Stack, heap: &Heap, class: u16, n: u32, field: Field, ahead:
     if field.is_static {
         return Done::Bad(7);
     }
-    replace(stack, 1, held(heap, class, n, field.place as u16));
+    stack.replace(1, held(heap, class, n, field.place as u16));
     Done::Goes
 }
 

@@ -1,9 +1,9 @@
 //! The operands that were pushed last, as an instruction needs them.
 
-ghost use Rattle.std.specs.Prelude.{◌≡◌, ◌≤◌, List, not, length, slice_get};
+ghost use Rattle.std.specs.Prelude.{◌≡◌, List, not, slice_get};
 ghost use Rattle.par_values.specs.Areas.{Name, fits, local_value};
 ghost use Rattle.par_values.specs.declared.kind.Kind.TheVariants.{AnyObject};
-ghost use Rattle.par_stack.specs.Frames.{running, with_running, pushed, popped};
+ghost use Rattle.par_stack.specs.Frames.{running};
 ghost use Rattle.par_actions.specs.Last.{IsNumber, AreNumbers, IsReference, AreReferences};
 ghost use Rattle.par_actions.specs.Last.{IsHeldNumber};
 
@@ -66,10 +66,10 @@ pub(crate) fn last_number(stack: &Stack) -> Number
 pub(crate) fn last_numbers(stack: &Stack) -> Numbers
     ensures { AreNumbers result (running stack.now).operands }
 {
-    let Some(second) = stack.operand(0) else {
+    let Some(first) = stack.operand(1) else {
         return Numbers::Missing;
     };
-    let Some(first) = stack.operand(1) else {
+    let Some(second) = stack.operand(0) else {
         return Numbers::Missing;
     };
     let MVal::Int(second) = second else {
@@ -119,15 +119,4 @@ pub(crate) fn local_number(stack: &Stack, place: u8) -> Option<i32>
         return None;
     };
     Some(number)
-}
-
-/// Takes so many operands and pushes a value in their place.
-#[inline(always)]
-pub(crate) fn replace(stack: &mut Stack, many: usize, value: MVal)
-    requires some { 1 ≤ many }
-    requires there { many ≤ length (running stack.old).operands }
-    ensures { stack.new ≡ with_running (λ f. pushed value (popped many f)) stack.old }
-{
-    stack.pop(many);
-    stack.push(value);
 }

@@ -115,8 +115,8 @@ fn store(stack: &mut Stack, place: u8, value: MVal, ahead: bool) -> Done
     if !ahead {
         return Done::Bad(5);
     }
-    stack.pop(1);
     stack.set_local(place as u16, value);
+    stack.pop(1);
     Done::Goes
 }
 

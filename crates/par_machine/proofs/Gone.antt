@@ -21,7 +21,7 @@ use Rattle.par_actions.specs.declared.done.Done.TheVariants as done
 use Rattle.par_actions.specs.Done.{IsDone, thrown_reason, distance}
 use Rattle.par_method_area.specs.Area.{Area}
 use Rattle.par_machine.specs.Frames.{code_of, Stands}
-use Rattle.par_machine.specs.Instructions.{reach_of}
+use Rattle.par_starts.specs.Standing.{reach_of}
 use Rattle.par_machine.specs.Running.{here, below, state_in, IsSound}
 use Rattle.par_machine.specs.Settled.{turn_from, gone_to}
 use Rattle.par_machine.specs.Site.{areas_at, operation_at, does, spot_of, against, decoded, IsCome}

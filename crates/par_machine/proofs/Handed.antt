@@ -17,7 +17,7 @@ use Rattle.par_actions.specs.declared.done.Done.TheVariants as done
 use Rattle.par_actions.specs.Done.{is_still}
 use Rattle.par_method_area.specs.Area.{Area}
 use Rattle.par_machine.specs.Frames.{code_of}
-use Rattle.par_machine.specs.Instructions.{reach_of}
+use Rattle.par_starts.specs.Standing.{reach_of}
 use Rattle.par_machine.specs.Running.{here, below, state_in, IsSound}
 use Rattle.par_machine.specs.Settled.{turn_from, is_told, Tells, IsSettled}
 use Rattle.par_machine.specs.Site.{areas_at, is_call, IsCome, CameTo}

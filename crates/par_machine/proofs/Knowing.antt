@@ -38,7 +38,8 @@ use Rattle.par_steps.specs.Methods.{method_descriptor}
 use Rattle.par_steps.specs.Step.{stands_at, next_of, offset, handlers, number_of_class}
 use Rattle.par_steps.specs.Step.{thrown_class}
 use Rattle.par_machine.specs.Frames.{code_of, gives}
-use Rattle.par_machine.specs.Instructions.{index_of, reach_of}
+use Rattle.par_starts.specs.Standing.{reach_of}
+use Rattle.par_machine.specs.Instructions.{index_of}
 use Rattle.par_machine.specs.Running.{here, below}
 use Rattle.par_machine.specs.Site.{areas_at, operation_at, does, spot_of, against, decoded}
 use Rattle.par_machine.specs.Site.{named_by, IsCome, IsKnown}

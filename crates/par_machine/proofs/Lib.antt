@@ -28,3 +28,4 @@ pub mod Advanced
 pub mod Found
 pub mod Placed
 pub mod Quiet
+pub mod Worked

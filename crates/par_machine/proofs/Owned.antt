@@ -19,7 +19,8 @@ use Rattle.par_actions.specs.Leaving.{HasResult}
 use Rattle.par_actions.specs.declared.leaving.Gives.{Gives}
 use Rattle.par_method_area.specs.Known.{GivesAsSaid, signature_at}
 use Rattle.par_machine.specs.Frames.{code_of}
-use Rattle.par_machine.specs.Instructions.{is_work, is_branch, is_departure, reach_of}
+use Rattle.par_starts.specs.Standing.{reach_of}
+use Rattle.par_machine.specs.Instructions.{is_work, is_branch, is_departure}
 use Rattle.par_machine.specs.Running.{here}
 use Rattle.par_machine.specs.Site.{operation_at, spot_of}
 use Rattle.par_machine.specs.declared.running.Running.{Running}

@@ -24,7 +24,7 @@ use Rattle.par_stack.specs.Frames as stack
 use Rattle.par_stack.specs.Frames.{running, with_running, at_offset}
 use Rattle.par_steps.specs.Classes.{class_names}
 use Rattle.par_starts.specs.declared.standing.Standing.{Standing}
-use Rattle.par_starts.specs.Standing.{KnowsStanding}
+use Rattle.par_starts.specs.Standing.{reach_of, KnowsStanding}
 use Rattle.par_steps.specs.Links.{link_at}
 use Rattle.par_steps.specs.Methods.{method_code}
 use Rattle.par_steps.specs.State.{State}
@@ -34,7 +34,7 @@ use Rattle.par_actions.specs.declared.done.Done.{Done}
 use Rattle.par_actions.specs.declared.done.Done.TheVariants as done
 use Rattle.par_method_area.specs.Area.{Area}
 use Rattle.par_machine.specs.Frames.{code_of}
-use Rattle.par_machine.specs.Instructions.{is_branch, is_work, reach_of}
+use Rattle.par_machine.specs.Instructions.{is_branch, is_work}
 use Rattle.par_machine.specs.Quiet.{AreRows, GoesOn, IsSameMethod, is_loud, IsTried}
 use Rattle.par_machine.specs.Running.{here, below, state_in, IsSound}
 use Rattle.par_machine.specs.Settled.{turn_from}

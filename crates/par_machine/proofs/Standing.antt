@@ -21,7 +21,8 @@ use Rattle.par_steps.specs.Step.{without_locks, unless_lock, next_of, stands_at}
 use Rattle.par_single.specs.Walk.{starts_at}
 use Rattle.par_actions.specs.declared.done.Ways.{Ways}
 use Rattle.par_actions.specs.Done.{distance, way_of}
-use Rattle.par_machine.specs.Instructions.{reach_of, is_branch}
+use Rattle.par_starts.specs.Standing.{reach_of}
+use Rattle.par_machine.specs.Instructions.{is_branch}
 use Rattle.par_machine.proofs.Effected.{is_fork, IsEffectOf}
 
 next_unless : (e : Event) (a : Areas) (at size : ℕ)

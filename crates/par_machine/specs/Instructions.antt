@@ -1,5 +1,5 @@
--- What is read of an instruction: its index and its distance.
-use Rattle.std.specs.Prelude.{ℕ, ℤ, pos, Bool, true, false}
+-- What is read of an instruction: its index, and of what kind it is.
+use Rattle.std.specs.Prelude.{ℕ, Bool, true, false}
 use Rattle.par_instr.specs.declared.instr.Instr.{Instr}
 use Rattle.par_instr.specs.declared.instr.Instr.TheVariants as instr
 
@@ -14,17 +14,6 @@ index_of (instr.Invokespecial index) = index
 index_of (instr.Invokestatic index) = index
 index_of (instr.New index) = index
 index_of _ = 0
-
--- the distance at which an instruction may go on, 0 where it is no branch
-abbrev pub reach_of : Instr → ℤ
-reach_of (instr.If test to) = to
-reach_of (instr.IfIcmp test to) = to
-reach_of (instr.IfAcmpeq to) = to
-reach_of (instr.IfAcmpne to) = to
-reach_of (instr.Goto to) = to
-reach_of (instr.Ifnull to) = to
-reach_of (instr.Ifnonnull to) = to
-reach_of _ = pos 0
 
 abbrev pub is_branch : Instr → Bool
 is_branch (instr.If test to) = true

@@ -19,12 +19,14 @@ use Rattle.par_steps.specs.Classes.{class_names, exceptions}
 use Rattle.par_steps.specs.Links.{link_at}
 use Rattle.par_steps.specs.State.{entered}
 use Rattle.par_steps.specs.Step.{areas_of, done_by, spot, reason_against, moved, state_with, offset}
+use Rattle.par_steps.specs.Step.{stands_at}
 use Rattle.par_actions.specs.declared.done.Done.{Done}
 use Rattle.par_actions.specs.declared.done.Done.TheVariants as done
 use Rattle.par_actions.specs.Done.{IsDone, is_still}
 use Rattle.par_machine.specs.Frames.{code_of, gives, Stands}
 use Rattle.par_single.specs.Walk.{starts_at}
-use Rattle.par_machine.specs.Instructions.{index_of, reach_of}
+use Rattle.par_starts.specs.Standing.{reach_of}
+use Rattle.par_machine.specs.Instructions.{index_of}
 use Rattle.par_machine.specs.Objects.{count_classes}
 use Rattle.par_machine.specs.Running.{here, below, state_in, IsSound}
 use Rattle.par_machine.specs.declared.running.Running.{Running}
@@ -57,12 +59,14 @@ spot_of files r s = spot files (here r) (below r) (decoded s).size (does files r
 abbrev pub against : List ClassFile → Running → Site → Option ℕ
 against files r s = reason_against files (decoded s) (here r) (below r) (areas_at files r)
 
--- A run stands at a site, and an instruction stands behind it or does not.
+-- A run stands at a site, and instructions stand behind it and at its distance or do not.
 pub record IsThere (files : List ClassFile) (r : Running) (s : Site) (ahead : Bool) : Type 0 where
   pub point : (running r.stack).point ≡ s.point
   pub stands : Stands files (running r.stack)
   pub forward : s.point.at < s.next
   pub is_ahead : starts_at (code_of files s.point).code s.next ≡ ahead
+  pub is_aside : stands_at (code_of files s.point).code
+      (pos s.point.at +ℤ reach_of s.instr) ≡ s.aside
 
 -- The instruction came to this where the run stood so, and left the run so: it stands still at its
 -- offset, with these areas.

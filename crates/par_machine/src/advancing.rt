@@ -57,6 +57,7 @@ impl Running {
             point,
             instr: row.instr,
             next: row.next,
+            aside: row.aside,
         };
         self.run(alloc, area, site, row.ahead)
     }

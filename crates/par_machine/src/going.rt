@@ -1,8 +1,7 @@
 //! Instructions that go on in their frame and show nothing, one after another.
 
-ghost use Rattle.std.specs.Prelude.{◌≡◌, ◌≤◌, ◌+◌, ℕ, false, length, IsSome, MatchOption};
+ghost use Rattle.std.specs.Prelude.{◌≡◌, ◌≤◌, ◌+◌, ℕ, true, false, length, MatchOption};
 ghost use Rattle.par_heap.specs.Heap.{objects_of};
-ghost use Rattle.par_method_area.specs.Known.{code_at};
 ghost use Rattle.par_stack.specs.Frames.{running};
 ghost use Rattle.par_steps.specs.Step.{turn};
 ghost use Rattle.par_machine.specs.Frames.{code_of};
@@ -11,65 +10,83 @@ ghost use Rattle.par_machine.specs.Running.{state_in, IsSound};
 ghost use Rattle.par_machine.specs.Settled.{turn_from};
 ghost use Rattle.par_machine.specs.Site.{IsThere, IsPerformed};
 
-use crate::branching::distance;
 use crate::running::Running;
 use crate::settling::target;
 use crate::site::Site;
-use par_actions::Done;
+use par_actions::{
+    Done, Operator, combine, copy, discard, increase, load_number, load_object, negate, push_null,
+    push_number, store_number, store_object,
+};
 use par_instr::Instr;
 use par_method_area::MethodArea;
-use par_starts::Instructions;
+use par_starts::{Standing, distance, standing_at};
 
 impl Running {
-    /// Does what the instruction of a site does, where it makes no event, calls no method and
-    /// leaves none. Else nothing is changed.
+    /// Does what the instruction of a site does, behind which one stands, where it makes no event,
+    /// calls no method and leaves none. Else nothing is changed.
     #[inline(always)]
-    fn try_perform(&mut self, area: &MethodArea, site: Site, ahead: bool) -> Option<Done>
+    fn try_perform(&mut self, area: &MethodArea, site: Site) -> Option<Done>
         requires sound { IsSound area.now self.old }
-        requires coded { IsSome (code_at area.now.files site.point.class site.point.method) }
-        requires there { IsThere area.now.files self.old site ahead }
+        requires there { IsThere area.now.files self.old site true }
         ensures { MatchOption result (self.new ≡ self.old) (λ done.
             IsPerformed area.now self.old site done self.new × (is_loud site.instr ≡ false)) }
     {
+        // All in one, so that a step jumps once by its instruction.
         match site.instr {
-            Instr::Ldc(index) => Some(self.push_constant(area, site, index as u16, ahead)),
-            Instr::LdcW(index) => Some(self.push_constant(area, site, index, ahead)),
-            Instr::Getstatic(index) => Some(self.read_static(area, site, index, ahead)),
-            Instr::Getfield(index) => Some(self.read_field(area, site, index, ahead)),
+            Instr::Ldc(index) => Some(self.push_constant(area, site, index as u16, true)),
+            Instr::LdcW(index) => Some(self.push_constant(area, site, index, true)),
+            Instr::Getstatic(index) => Some(self.read_static(area, site, index, true)),
+            Instr::Getfield(index) => Some(self.read_field(area, site, index, true)),
             Instr::If(_, _)
             | Instr::IfIcmp(_, _)
             | Instr::IfAcmpeq(_)
             | Instr::IfAcmpne(_)
             | Instr::Goto(_)
             | Instr::Ifnull(_)
-            | Instr::Ifnonnull(_) => Some(self.branch(area, site, ahead)),
-            Instr::Putstatic(_)
-            | Instr::Putfield(_)
-            | Instr::New(_)
-            | Instr::Invokestatic(_)
-            | Instr::Invokespecial(_)
-            | Instr::Invokevirtual(_)
-            | Instr::Ireturn
-            | Instr::Areturn
-            | Instr::Return
-            | Instr::Athrow => None,
-            _ => Some(self.work(area, site, ahead)),
+            | Instr::Ifnonnull(_) => Some(self.branch(area, site, true)),
+            Instr::AconstNull => Some(push_null(&mut self.stack, true)),
+            Instr::Iconst(number) => Some(push_number(&mut self.stack, number as i32, true)),
+            Instr::Bipush(number) => Some(push_number(&mut self.stack, number as i32, true)),
+            Instr::Sipush(number) => Some(push_number(&mut self.stack, number as i32, true)),
+            Instr::Iload(place) => Some(load_number(&mut self.stack, place, true)),
+            Instr::Aload(place) => Some(load_object(&mut self.stack, place, true)),
+            Instr::IloadShort(place) => Some(load_number(&mut self.stack, place, true)),
+            Instr::AloadShort(place) => Some(load_object(&mut self.stack, place, true)),
+            Instr::Istore(place) => Some(store_number(&mut self.stack, place, true)),
+            Instr::Astore(place) => Some(store_object(&mut self.stack, place, true)),
+            Instr::IstoreShort(place) => Some(store_number(&mut self.stack, place, true)),
+            Instr::AstoreShort(place) => Some(store_object(&mut self.stack, place, true)),
+            Instr::Pop => Some(discard(&mut self.stack, true)),
+            Instr::Dup => Some(copy(&mut self.stack, true)),
+            Instr::Ineg => Some(negate(&mut self.stack, true)),
+            Instr::Iinc(place, by) => Some(increase(&mut self.stack, place, by, true)),
+            Instr::Iadd => Some(combine(&mut self.stack, Operator::Plus, true)),
+            Instr::Isub => Some(combine(&mut self.stack, Operator::Minus, true)),
+            Instr::Imul => Some(combine(&mut self.stack, Operator::Times, true)),
+            Instr::Idiv => Some(combine(&mut self.stack, Operator::Quotient, true)),
+            Instr::Irem => Some(combine(&mut self.stack, Operator::Remainder, true)),
+            Instr::Ishl => Some(combine(&mut self.stack, Operator::ShiftLeft, true)),
+            Instr::Ishr => Some(combine(&mut self.stack, Operator::ShiftRight, true)),
+            Instr::Iushr => Some(combine(&mut self.stack, Operator::ShiftRightUnsigned, true)),
+            Instr::Iand => Some(combine(&mut self.stack, Operator::And, true)),
+            Instr::Ior => Some(combine(&mut self.stack, Operator::Or, true)),
+            Instr::Ixor => Some(combine(&mut self.stack, Operator::Xor, true)),
+            _ => None,
         }
     }
 
-    /// Runs the instruction of a site where it goes on in its frame and shows nothing, and tells
-    /// whether it did.
+    /// Runs the instruction of a site, behind which one stands, where it goes on in its frame and
+    /// shows nothing, and tells whether it did.
     #[inline(always)]
-    fn try_run(&mut self, area: &MethodArea, site: Site, ahead: bool) -> bool
+    fn try_run(&mut self, area: &MethodArea, site: Site) -> bool
         requires sound { IsSound area.now self.old }
-        requires coded { IsSome (code_at area.now.files site.point.class site.point.method) }
-        requires there { IsThere area.now.files self.old site ahead }
+        requires there { IsThere area.now.files self.old site true }
         requires small { site.point.at ≤ 65535 }
         requires within { site.next ≤ length (code_of area.now.files site.point).code }
         ensures { IsTried area.now (turn_from area.now.files self.old site)
             self.old result self.new }
     {
-        let Some(done) = self.try_perform(area, site, ahead) else {
+        let Some(done) = self.try_perform(area, site) else {
             return false;
         };
         let _ = self.stack.point();
@@ -90,26 +107,30 @@ impl Running {
     /// Runs the instruction at which the run stands where it goes on in its frame and shows
     /// nothing, and tells whether it did. These are the instructions of its method.
     #[inline(always)]
-    fn try_advance(&mut self, area: &MethodArea, rows: &Instructions) -> bool
+    fn try_advance(&mut self, area: &MethodArea, rows: &[Option<Standing>]) -> bool
         requires sound { IsSound area.now self.old }
         requires rows { AreRows area.now.files rows.now (running self.old.stack).point }
         ensures { IsTried area.now (turn area.now.files (state_in area.now.files self.old))
             self.old result self.new }
     {
         let point = self.stack.point();
-        let Some(row) = rows.at(point.at) else {
+        let Some(row) = standing_at(rows, point.at) else {
             return false;
         };
+        if !row.ahead {
+            return false;
+        }
         let site = Site {
             point,
             instr: row.instr,
             next: row.next,
+            aside: row.aside,
         };
-        self.try_run(area, site, row.ahead)
+        self.try_run(area, site)
     }
 
     /// Runs instructions as long as they go on in their frame and show nothing, at most so many,
-    /// and gives how many. It may stop before.
+    /// and gives how many. It may stop before, and does at the last instruction of code.
     #[inline(never)]
     pub(crate) fn go_on(&mut self, area: &MethodArea, most: u32) -> u32
         requires { IsSound area.now self.old }
@@ -121,9 +142,10 @@ impl Running {
             ≤ length (objects_of self.old.heap class) + result }
     {
         let point = self.stack.point();
-        let Some(rows) = area.instructions(point.class, point.method) else {
+        let Some(instructions) = area.instructions(point.class, point.method) else {
             return 0;
         };
+        let rows = instructions.rows();
         for done in 0..most {
             if !self.try_advance(area, rows) {
                 return done;

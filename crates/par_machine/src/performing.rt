@@ -9,7 +9,7 @@ ghost use Rattle.par_machine.specs.Site.{IsThere, IsPerformed};
 ghost use Rattle.par_machine.specs.Turn.{calls_or_makes};
 
 use crate::acting::depart;
-use crate::branching::{branch, distance, stands_aside};
+use crate::branching::branch;
 use crate::running::Running;
 use crate::site::Site;
 use crate::working::work;
@@ -35,15 +35,12 @@ impl Running {
     #[inline(always)]
     pub(crate) fn branch(&mut self, area: &MethodArea, site: Site, ahead: bool) -> Done
         requires sound { IsSound area.now self.old }
-        requires coded { IsSome (code_at area.now.files site.point.class site.point.method) }
         requires there { IsThere area.now.files self.old site ahead }
         requires instr { is_branch site.instr ≡ true }
         ensures { IsPerformed area.now self.old site result self.new }
     {
-        let Some(code) = area.code(site.point.class, site.point.method) else {
-            unreachable!();
-        };
-        let aside = stands_aside(code.starts, site.point.at, distance(site.instr));
+        let _ = area.linked();
+        let aside = site.aside;
         branch(&mut self.stack, site.instr, Ways { ahead, aside })
     }
 

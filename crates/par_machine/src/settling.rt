@@ -10,7 +10,6 @@ ghost use Rattle.par_machine.specs.Running.{IsSound};
 ghost use Rattle.par_machine.specs.Settled.{is_told, Tells, IsSettled};
 ghost use Rattle.par_machine.specs.Site.{IsKnown, is_call};
 
-use crate::branching::distance;
 use crate::running::Running;
 use crate::site::Site;
 use crate::telling::{born_event, out_event, put_event, set_event, stuck};
@@ -18,6 +17,7 @@ use crate::turn::{Stuck, Turn};
 use par_actions::Done;
 use par_lexer::list::NoMemory;
 use par_method_area::MethodArea;
+use par_starts::distance;
 use par_values::run::Event;
 use std::alloc::Global;
 

@@ -8,4 +8,6 @@ pub(crate) struct Site {
     pub(crate) instr: Instr,
     /// The offset behind it.
     pub(crate) next: u32,
+    /// An instruction starts at its distance.
+    pub(crate) aside: bool,
 }

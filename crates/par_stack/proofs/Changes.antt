@@ -15,6 +15,7 @@ use Rattle.par_stack.specs.Frames.{at_offset, entered, last_operands}
 use Rattle.par_stack.specs.Layout.{Places, extent_of, extents, frame_at, IsLaid}
 use Rattle.par_stack.proofs.Rows.{front, written_behind, read_behind, read_front, read_last}
 use Rattle.par_stack.proofs.Rows.{read_place, row_pushed, row_kept, row_copied, emptied_front}
+use Rattle.par_stack.proofs.Rows.{written_first}
 use Rattle.par_stack.proofs.Rows.{length-places, length-held}
 use Rattle.par_stack.proofs.Laid.{Lie, first, known, laid}
 
@@ -82,6 +83,33 @@ module _ (places : Places) (e : Extent) (waiting : List Extent) (is : IsLaid pla
             (omega (arith, k.base, k.floor, k.top)) (omega (arith, k.top));
         extended =
             extent_is (record e { top = e.top - n }) (popped n g) (length below) refl k.base k.floor
+            (omega (arith, k.top, many)) (omega (arith, k.top, k.end));
+        below = k.below;
+      }
+
+  pub replaced_lie : (n : ℕ) (v : MVal) (after : Places)
+      → after ≡ take (e.top - n + 1) places
+      ++ (replicate (e.top - (e.top - n + 1)) None ++ drop e.top places)
+      → 1 ≤ n → n ≤ length (frame_at places e).operands
+      → Lie (pushed v (popped n (frame_at places e))) (map (frame_at places) waiting)
+      (set after (e.top - n) (Some v)) (record e { top = e.top - n + 1 }) waiting
+  replaced_lie n v after is_emptied some le =
+      let k = known places e waiting is in
+      let g : Frame = frame_at places e in
+      let h : Frame = popped n g in
+      let below : Places = all_places (map (frame_at places) waiting) in
+      let place : ℕ = e.top - n in
+      let many : length (drop n g.operands) ≡ length g.operands - n = length-drop n g.operands in
+      record {
+        placed =
+            ap (λ (xs : Places). set xs place (Some v)) is_emptied
+            ∙ written_first places place e.top (Some v) (omega (arith, k.top))
+            (omega (arith, k.many, k.end))
+            ∙ ap (λ (xs : Places). set xs place (Some v)) (popped_lie n _ refl le).placed
+            ∙ row_pushed below h.locals h.operands h.free place v
+            (omega (arith, k.base, k.floor, k.top, many)) (omega arith);
+        extended =
+            extent_is (record e { top = place + 1 }) (pushed v h) (length below) refl k.base k.floor
             (omega (arith, k.top, many)) (omega (arith, k.top, k.end));
         below = k.below;
       }

@@ -216,6 +216,44 @@ module _ {A : Type 0} where
       (replicate-append-replicate many 1 None)
       ∙ ap (λ (n : ℕ). nothing n ++ drop (place + 1) xs) more)
 
+  -- as many places as before
+  pub length-emptied : (xs : List (Option A)) (from to : ℕ) → from ≤ to → to ≤ length xs
+      → length (take from xs ++ (nothing (to - from) ++ drop to xs)) ≡ length xs
+  length-emptied xs from to le within =
+      let none : Option A = None in
+      omega (
+        arith,
+        length-append (take from xs) (nothing (to - from) ++ drop to xs),
+        length-append (nothing (to - from)) (drop to xs),
+        length-take from xs,
+        length-replicate (to - from) none,
+        length-drop to xs,
+      )
+
+  -- a write behind what is kept, or to the last place that is
+  written_last : (xs rest : List (Option A)) (place next : ℕ) (x y : Option A)
+      → next ≡ place + 1 → next ≤ length xs
+      → set (take next xs ++ rest) place y ≡ set (take place xs ++ x ∷ rest) place y
+  written_last [] rest place next x y e le = absurd (omega arith)
+  written_last (b ∷ xs) rest zero zero x y e le = absurd (omega arith)
+  written_last (b ∷ xs) rest zero (suc zero) x y e le = refl
+  written_last (b ∷ xs) rest zero (suc (suc next)) x y e le = absurd (omega arith)
+  written_last (b ∷ xs) rest (suc place) zero x y e le = absurd (omega arith)
+  written_last (b ∷ xs) rest (suc place) (suc next) x y e le =
+      ap (λ (ys : List (Option A)). b ∷ ys)
+      (written_last xs rest place next x y (omega arith) (omega arith))
+
+  -- a place that is written need not be emptied
+  pub written_first : (xs : List (Option A)) (place to : ℕ) (y : Option A)
+      → place < to → to ≤ length xs
+      → set (take (place + 1) xs ++ (nothing (to - (place + 1)) ++ drop to xs)) place y
+      ≡ set (take place xs ++ (nothing (to - place) ++ drop to xs)) place y
+  written_first xs place to y less le =
+      let many : ℕ = to - (place + 1) in
+      let more : suc many ≡ to - place = omega arith in
+      written_last xs (nothing many ++ drop to xs) place (place + 1) None y refl (omega arith)
+      ∙ ap (λ (n : ℕ). set (take place xs ++ (nothing n ++ drop to xs)) place y) more
+
   -- a row that was empty, filled with nothing
   pub filled : (xs : List (Option A)) (n many : ℕ) → xs ≡ [] → many ≡ 0
       → take n xs ++ nothing (n - many) ≡ nothing n

@@ -123,11 +123,11 @@ impl Stack {
     pub fn local(&self, place: u16) -> Option<MVal>
         ensures { result ≡ local_value (slice_get (running self.now).locals place) }
     {
-        let place = place as usize;
-        if place >= self.running.floor - self.running.base {
+        let at = self.running.base + place as usize;
+        if at >= self.running.floor {
             return None;
         }
-        self.places[self.running.base + place]
+        self.places[at]
     }
 
     /// Sets a local.
@@ -156,6 +156,20 @@ impl Stack {
         let top = self.running.top - many;
         empty(&mut self.places, top, self.running.top);
         self.running.top = top;
+    }
+
+    /// Takes the operands that were pushed last, so many, and pushes one in their place.
+    #[inline(always)]
+    pub fn replace(&mut self, many: usize, value: MVal)
+        requires some { 1 ≤ many }
+        requires there { many ≤ length (running self.old).operands }
+        ensures { self.new ≡ with_running (λ f. pushed value (popped many f)) self.old }
+    {
+        let top = self.running.top;
+        let place = top - many;
+        self.running.top = place + 1;
+        empty(&mut self.places, place + 1, top);
+        self.places[place] = Some(value);
     }
 
     /// Takes all operands and pushes this one.

@@ -10,5 +10,5 @@
 pub mod standing;
 pub mod starts;
 
-pub use standing::{Instructions, Standing};
+pub use standing::{Instructions, Standing, distance, standing_at};
 pub use starts::Starts;

@@ -1,8 +1,9 @@
 //! The instructions of code, taken apart once.
 
-ghost use Rattle.std.specs.Prelude.{◌≡◌, ℕ, ◌≤◌, None, false, length, slice_index_or, IfOk};
+ghost use Rattle.std.specs.Prelude.{◌≡◌, ℕ, ◌≤◌, List, pos, ◌+ℤ◌, None, false, length, IfOk};
+ghost use Rattle.std.specs.Prelude.{slice_index_or};
 ghost use Rattle.par_single.specs.Walk.{starts_at};
-ghost use Rattle.par_starts.specs.Standing.{IsStanding};
+ghost use Rattle.par_starts.specs.Standing.{reach_of, starts_aside, IsStanding};
 
 use crate::starts::Starts;
 use par_instr::{Instr, decode};
@@ -18,6 +19,8 @@ pub struct Standing {
     pub next: u32,
     /// An instruction starts there.
     pub ahead: bool,
+    /// An instruction starts at its distance.
+    pub aside: bool,
 }
 
 /// The instruction at each offset of some code. Contracts see them as a list, in which there is
@@ -36,7 +39,34 @@ impl Model for Instructions {
     ghost view = { λ instructions. instructions.rows.items };
 }
 
-/// The instruction at an offset. In code with offsets beyond a `u32` there may be none.
+/// The distance at which an instruction may go on, 0 where it is no branch.
+pub fn distance(instr: Instr) -> i16
+    ensures { result ≡ reach_of instr }
+{
+    match instr {
+        Instr::If(_, to) => to,
+        Instr::IfIcmp(_, to) => to,
+        Instr::IfAcmpeq(to) => to,
+        Instr::IfAcmpne(to) => to,
+        Instr::Goto(to) => to,
+        Instr::Ifnull(to) => to,
+        Instr::Ifnonnull(to) => to,
+        _ => 0,
+    }
+}
+
+/// Whether an instruction starts at a distance from an offset.
+fn starts_aside(starts: &Starts, at: u32, distance: i16) -> bool
+    requires { at ≤ 65535 }
+    ensures { (code : List ℕ) →
+        ((k : ℕ) → slice_index_or starts.now k false ≡ starts_at code k) →
+        result ≡ starts_aside code (pos at +ℤ distance) }
+{
+    let to = at as i32 + distance as i32;
+    to >= 0 && starts.has(to as u32)
+}
+
+/// The instruction at an offset. In code with offsets beyond a `u16` there may be none.
 fn row(code: &[u8], starts: &Starts, at: usize) -> Option<Standing>
     requires within { at ≤ length code.now }
     requires starts { (k : ℕ) → slice_index_or starts.now k false ≡ starts_at code.now k }
@@ -45,13 +75,14 @@ fn row(code: &[u8], starts: &Starts, at: usize) -> Option<Standing>
     let Ok((instr, next)) = decode(code, at) else {
         return None;
     };
-    let Ok(next) = u32::try_from(next) else {
+    let Ok(next) = u16::try_from(next) else {
         return None;
     };
     Some(Standing {
         instr,
-        next,
-        ahead: starts.has(next),
+        next: next as u32,
+        ahead: starts.has(next as u32),
+        aside: starts_aside(starts, at as u32, distance(instr)),
     })
 }
 
@@ -74,9 +105,25 @@ impl Instructions {
     pub fn at(&self, at: u32) -> Option<Standing>
         ensures { result ≡ slice_index_or self.now at None }
     {
-        match self.rows.get(at as usize) {
-            Some(row) => *row,
-            None => None,
-        }
+        standing_at(self.rows.as_slice(), at)
+    }
+
+    /// The instructions by their offsets.
+    #[inline(always)]
+    pub fn rows(&self) -> &[Option<Standing>]
+        ensures { result.now ≡ self.now }
+    {
+        self.rows.as_slice()
+    }
+}
+
+/// The instruction at an offset, none where there is none.
+#[inline(always)]
+pub fn standing_at(rows: &[Option<Standing>], at: u32) -> Option<Standing>
+    ensures { result ≡ slice_index_or rows.now at None }
+{
+    match rows.get(at as usize) {
+        Some(row) => *row,
+        None => None,
     }
 }

@@ -22,7 +22,7 @@ pub returns-clause-done : goal.returns-clause-done
 returns-clause-done c = λ classes spot program kind fit is.
     let there : c.args.place < length (running c.args.stack.now).locals =
     omega (arith, c.locals.ensures) in
-    rw (c.set_local.ensures, c.pop.ensures)
+    rw (c.pop.ensures, c.set_local.ensures)
     (store_runs classes spot program
     (running c.args.stack.now) kind c.args.place c.args.value c.requires fit is.room there
     (is.stands ∙ c.if-not-ahead.false))

@@ -1,6 +1,7 @@
-use Rattle.std.proofs.Common.{sym, arith}
+use Rattle.std.proofs.Common.{sym, ◌∙◌, arith}
 use Rattle.par_machine.proofs.Found.{point_stands, coded, finds_nothing, finds}
 use Rattle.par_machine.proofs.Sound.{first_stands}
+use Rattle.par_machine.proofs.Within.{starts_stand}
 use Rattle.par_machine.proofs.running.Running.advance.Goals as goal
 
 pub stuck-requires : goal.stuck-requires
@@ -27,6 +28,7 @@ run-requires-clause-there c = record {
       c.requires.sound.frames;
   forward = c.in-Some.ensures.1.forward;
   is_ahead = sym c.in-Some.ensures.1.ahead;
+  is_aside = sym (c.in-Some.ensures.1.aside ∙ starts_stand _ _);
 }
 
 pub run-requires-clause-small : goal.run-requires-clause-small
@@ -41,5 +43,6 @@ returns c =
       point = c.point-point.result;
       instr = c.in-Some.row.instr;
       next = c.in-Some.row.next;
+      aside = c.in-Some.row.aside;
     })
     c.run.new.self c.in-Some.ensures.1.is c.run.ensures

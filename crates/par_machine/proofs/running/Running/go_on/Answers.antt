@@ -16,6 +16,6 @@ loop-done-preserved c =
           let more = went.grown class in
           let so_far = c.loop-done.invariant.2 class in
           omega (arith, more, so_far),
-      rows_stay files c.in-Some.rows.now (running c.loop-done.self.stack).point
+      rows_stay files c.rows-rows.result.now (running c.loop-done.self.stack).point
           (running c.try_advance.new.self.stack).point (went.method refl) c.loop-done.invariant.3,
     )

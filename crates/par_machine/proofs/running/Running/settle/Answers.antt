@@ -4,7 +4,7 @@ use Rattle.par_stack.specs.Frames.{with_running, at_offset}
 use Rattle.par_steps.specs.Step.{offset}
 use Rattle.par_actions.specs.declared.done.Done.{Done}
 use Rattle.par_actions.specs.declared.done.Done.TheVariants as done
-use Rattle.par_machine.specs.Instructions.{reach_of}
+use Rattle.par_starts.specs.Standing.{reach_of}
 use Rattle.par_machine.specs.Settled.{is_told}
 use Rattle.par_machine.specs.Site.{IsKnown}
 use Rattle.par_machine.proofs.Gone.{null_pointer}

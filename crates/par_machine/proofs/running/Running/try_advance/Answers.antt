@@ -1,17 +1,10 @@
-use Rattle.std.proofs.Common.{sym, arith}
+use Rattle.std.proofs.Common.{sym, ◌∙◌, arith}
+use Rattle.std.proofs.lemmas.Bool.{not-false}
 use Rattle.par_stack.specs.Frames.{running}
-use Rattle.par_machine.proofs.Found.{coded}
 use Rattle.par_machine.proofs.Quiet.{row_stands, tried_found}
 use Rattle.par_machine.proofs.Sound.{first_stands}
+use Rattle.par_machine.proofs.Within.{starts_stand}
 use Rattle.par_machine.proofs.running.Running.try_advance.Goals as goal
-
-pub try_run-requires-clause-coded : goal.try_run-requires-clause-coded
-try_run-requires-clause-coded c =
-    let p = c.point-point.result in
-    let row = row_stands c.args.area.now.files c.args.rows.now p
-    (running c.args.self.now.stack).point c.in-Some.row c.point-point.ensures.is c.requires.rows
-    c.in-Some.ensures in
-    coded c.args.area.now.files p.class p.method p.at _ row.1.is
 
 pub try_run-requires-clause-there : goal.try_run-requires-clause-there
 try_run-requires-clause-there c =
@@ -24,7 +17,8 @@ try_run-requires-clause-there c =
       stands = first_stands c.args.area.now.files c.args.self.now.stack c.point-point.ensures.some
           c.requires.sound.frames;
       forward = row.1.forward;
-      is_ahead = sym row.1.ahead;
+      is_ahead = sym row.1.ahead ∙ not-false _ c.if-not-row.false;
+      is_aside = sym (row.1.aside ∙ starts_stand _ _);
     }
 
 pub try_run-requires-clause-small : goal.try_run-requires-clause-small
@@ -50,5 +44,10 @@ returns c =
     (running c.args.self.now.stack).point c.in-Some.row c.point-point.ensures.is c.requires.rows
     c.in-Some.ensures in
     tried_found c.args.area.now c.args.self.now p
-    (record { point = p; instr = c.in-Some.row.instr; next = c.in-Some.row.next })
+    (record {
+      point = p;
+      instr = c.in-Some.row.instr;
+      next = c.in-Some.row.next;
+      aside = c.in-Some.row.aside;
+    })
     c.try_run.result c.try_run.new.self c.point-point.ensures.is row.1.is c.try_run.ensures

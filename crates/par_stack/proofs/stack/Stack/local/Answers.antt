@@ -6,29 +6,29 @@ use Rattle.par_stack.proofs.Laid.{counted}
 use Rattle.par_stack.proofs.Changes.{local_read}
 use Rattle.par_stack.proofs.stack.Stack.local.Goals as goal
 
-pub overflow_sub-self-inside : goal.overflow_sub-self-inside
-overflow_sub-self-inside c =
+pub overflow_add-at : goal.overflow_add-at
+overflow_add-at c =
     let k = counted _ _ _ _ c.self.invariant c.self.view_is in
-    omega (arith, k.locals)
+    omega (arith, k.locals, k.count, k.free, k.many, c.self.inside.places.small)
 
-pub returns-then-place-self : goal.returns-then-place-self
-returns-then-place-self c =
+pub returns-then-at-self : goal.returns-then-at-self
+returns-then-at-self c =
     let k = counted _ _ _ _ c.self.invariant c.self.view_is in
     let past =
     slice_get_past (running c.args.self.now).locals c.args.place
-    (omega (arith, k.locals, c.if-place-self.true)) in
+    (omega (arith, k.locals, c.if-at-self.true)) in
     sym (ap local_value past)
 
 pub index-requires : goal.index-requires
 index-requires c =
     let k = counted _ _ _ _ c.self.invariant c.self.view_is in
-    omega (arith, k.many, k.free, k.count, k.locals, c.if-place-self.false)
+    omega (arith, k.many, k.free, k.count, k.locals, c.if-at-self.false)
 
 pub returns : goal.returns
 returns c =
     let k = counted _ _ _ _ c.self.invariant c.self.view_is in
     let there : c.args.place < length (running c.args.self.now).locals =
-    omega (arith, k.locals, c.if-place-self.false) in
+    omega (arith, k.locals, c.if-at-self.false) in
     let less =
     subst (λ (frames : List Frame). c.args.place < length (running frames).locals)
     (sym c.self.view_is) there in
