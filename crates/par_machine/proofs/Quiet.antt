@@ -26,7 +26,6 @@ use Rattle.par_steps.specs.Classes.{class_names}
 use Rattle.par_starts.specs.declared.standing.Standing.{Standing}
 use Rattle.par_starts.specs.Standing.{reach_of, KnowsStanding}
 use Rattle.par_steps.specs.Links.{link_at}
-use Rattle.par_steps.specs.Methods.{method_code}
 use Rattle.par_steps.specs.State.{State}
 use Rattle.par_steps.specs.Step as plain
 use Rattle.par_steps.specs.Step.{turn, offset}
@@ -257,23 +256,23 @@ tried_found area r p s went new there found tried =
     (ap (λ (p : Point). decoded_at (code_of area.files p).code p.at) (sym there) ∙ found) in
     subst (λ t. IsTried area t r went new) (sym turns) tried
 
--- the instructions of a method are those of each point in it
-pub rows_stay : (files : List ClassFile) (rows : List (Option Standing)) (p q : Point)
-    → IsSameMethod p q → AreRows files rows p → AreRows files rows q
-rows_stay files rows p q same are = λ at.
-    subst (λ class. KnowsStanding (method_code files class q.method).code at
-    (slice_index_or rows at None)) (sym same.0)
-    (subst (λ method. KnowsStanding (method_code files p.class method).code at
-    (slice_index_or rows at None)) (sym same.1) (are at))
+abbrev point_at : (class method at : ℕ) → Point
+point_at class method at = record { class = class; method = method; at = at }
+
+-- the point of a method at an offset
+pub same_point : (p q : Point) (at : ℕ) → IsSameMethod p q → at ≡ q.at
+    → point_at p.class p.method at ≡ q
+same_point p q at same is =
+    ap (λ class. point_at class p.method at) (sym same.0)
+    ∙ ap (λ method. point_at q.class method at) (sym same.1)
+    ∙ ap (point_at q.class q.method) is
 
 -- the row at a point is its instruction
-pub row_stands : (files : List ClassFile) (rows : List (Option Standing)) (p q : Point)
-    (row : Standing) → p ≡ q → AreRows files rows q → Some row ≡ slice_index_or rows p.at None
+pub row_stands : (files : List ClassFile) (rows : List (Option Standing)) (p : Point)
+    (row : Standing) → AreRows files rows p → Some row ≡ slice_index_or rows p.at None
     → KnowsStanding (code_of files p).code p.at (Some row)
-row_stands files rows p q row same are is =
-    subst (λ o. KnowsStanding (code_of files p).code p.at o) (sym is)
-    (subst (λ (q : Point). KnowsStanding (code_of files q).code p.at
-    (slice_index_or rows p.at None)) (sym same) (are p.at))
+row_stands files rows p row are is =
+    subst (λ o. KnowsStanding (code_of files p).code p.at o) (sym is) (are p.at)
 
 -- ---- one after another
 

@@ -5,7 +5,7 @@ ghost use Rattle.par_heap.specs.Heap.{objects_of};
 ghost use Rattle.par_stack.specs.Frames.{running};
 ghost use Rattle.par_steps.specs.Step.{turn};
 ghost use Rattle.par_machine.specs.Frames.{code_of};
-ghost use Rattle.par_machine.specs.Quiet.{is_loud, AreRows, GoesOn, IsTried};
+ghost use Rattle.par_machine.specs.Quiet.{is_loud, AreRows, IsSameMethod, GoesOn, IsTried};
 ghost use Rattle.par_machine.specs.Running.{state_in, IsSound};
 ghost use Rattle.par_machine.specs.Settled.{turn_from};
 ghost use Rattle.par_machine.specs.Site.{IsThere, IsPerformed};
@@ -19,6 +19,7 @@ use par_actions::{
 };
 use par_instr::Instr;
 use par_method_area::MethodArea;
+use par_stack::Point;
 use par_starts::{Standing, distance, standing_at};
 
 impl Running {
@@ -105,23 +106,29 @@ impl Running {
     }
 
     /// Runs the instruction at which the run stands where it goes on in its frame and shows
-    /// nothing, and tells whether it did. These are the instructions of its method.
+    /// nothing, and tells whether it did. These are the instructions of its method, in which this
+    /// point lies.
     #[inline(always)]
-    fn try_advance(&mut self, area: &MethodArea, rows: &[Option<Standing>]) -> bool
+    fn try_advance(&mut self, area: &MethodArea, rows: &[Option<Standing>], first: Point) -> bool
         requires sound { IsSound area.now self.old }
-        requires rows { AreRows area.now.files rows.now (running self.old.stack).point }
+        requires rows { AreRows area.now.files rows.now first }
+        requires same { IsSameMethod first (running self.old.stack).point }
         ensures { IsTried area.now (turn area.now.files (state_in area.now.files self.old))
             self.old result self.new }
     {
-        let point = self.stack.point();
-        let Some(row) = standing_at(rows, point.at) else {
+        let at = self.stack.at();
+        let Some(row) = standing_at(rows, at) else {
             return false;
         };
         if !row.ahead {
             return false;
         }
         let site = Site {
-            point,
+            point: Point {
+                class: first.class,
+                method: first.method,
+                at,
+            },
             instr: row.instr,
             next: row.next,
             aside: row.aside,
@@ -141,13 +148,13 @@ impl Running {
         ensures grown { (class : ℕ) → length (objects_of self.new.heap class)
             ≤ length (objects_of self.old.heap class) + result }
     {
-        let point = self.stack.point();
-        let Some(instructions) = area.instructions(point.class, point.method) else {
+        let first = self.stack.point();
+        let Some(instructions) = area.instructions(first.class, first.method) else {
             return 0;
         };
         let rows = instructions.rows();
         for done in 0..most {
-            if !self.try_advance(area, rows) {
+            if !self.try_advance(area, rows, first) {
                 return done;
             }
         }

@@ -73,6 +73,14 @@ impl Stack {
         }
     }
 
+    /// The offset at which the running frame stands.
+    pub fn at(&self) -> u32
+        ensures is { result ≡ (running self.now).point.at }
+        ensures some { 0 < length self.now }
+    {
+        self.running.point.at
+    }
+
     /// The places of all frames: for each, the outermost first, its locals and then its operands
     /// from the bottom, up to its room.
     pub fn places(&self) -> &[Option<MVal>]

@@ -1,7 +1,6 @@
-use Rattle.std.proofs.Common.{refl, arith}
-use Rattle.par_stack.specs.Frames.{running}
+use Rattle.std.proofs.Common.{refl, ◌∙◌, arith}
 use Rattle.par_machine.specs.Running.{state_in}
-use Rattle.par_machine.proofs.Quiet.{one_more, rows_stay}
+use Rattle.par_machine.proofs.Quiet.{one_more}
 use Rattle.par_machine.proofs.running.Running.go_on.Goals as goal
 
 pub loop-done-preserved : goal.loop-done-preserved
@@ -16,6 +15,7 @@ loop-done-preserved c =
           let more = went.grown class in
           let so_far = c.loop-done.invariant.2 class in
           omega (arith, more, so_far),
-      rows_stay files c.rows-rows.result.now (running c.loop-done.self.stack).point
-          (running c.try_advance.new.self.stack).point (went.method refl) c.loop-done.invariant.3,
+      let more = went.method refl in
+          let so_far = c.loop-done.invariant.3 in
+          (more.0 ∙ so_far.0, more.1 ∙ so_far.1),
     )

@@ -1,7 +1,7 @@
 use Rattle.std.proofs.Common.{ℕ, ◌+◌, ◌≤◌, length}
 use Rattle.par_heap.specs.Heap.{objects_of}
 use Rattle.par_stack.specs.Frames.{running}
-use Rattle.par_machine.specs.Quiet.{AreRows, GoesOn}
+use Rattle.par_machine.specs.Quiet.{IsSameMethod, GoesOn}
 use Rattle.par_machine.specs.Running.{state_in, IsSound}
 use Rattle.par_machine.proofs.running.Running.go_on.Given as goal
 
@@ -11,4 +11,4 @@ invariant-loop-done l =
     × IsSound l.area l.self
     × ((class : ℕ) → length (objects_of l.self.heap class)
     ≤ length (objects_of l.fn.self.heap class) + l.done)
-    × AreRows l.area.files l.rows (running l.self.stack).point
+    × IsSameMethod l.first (running l.self.stack).point

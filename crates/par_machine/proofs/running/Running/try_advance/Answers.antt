@@ -1,20 +1,24 @@
 use Rattle.std.proofs.Common.{sym, ◌∙◌, arith}
 use Rattle.std.proofs.lemmas.Bool.{not-false}
+use Rattle.par_stack.specs.declared.point.Point.{Point}
 use Rattle.par_stack.specs.Frames.{running}
-use Rattle.par_machine.proofs.Quiet.{row_stands, tried_found}
+use Rattle.par_machine.proofs.Quiet.{same_point, row_stands, tried_found}
 use Rattle.par_machine.proofs.Sound.{first_stands}
 use Rattle.par_machine.proofs.Within.{starts_stand}
 use Rattle.par_machine.proofs.running.Running.try_advance.Goals as goal
 
 pub try_run-requires-clause-there : goal.try_run-requires-clause-there
 try_run-requires-clause-there c =
-    let p = c.point-point.result in
-    let row = row_stands c.args.area.now.files c.args.rows.now p
-    (running c.args.self.now.stack).point c.in-Some.row c.point-point.ensures.is c.requires.rows
+    let first = c.args.first in
+    let at = c.at-at.result in
+    let p : Point = record { class = first.class; method = first.method; at = at } in
+    let row = row_stands c.args.area.now.files c.args.rows.now p c.in-Some.row c.requires.rows
     c.in-Some.ensures in
+    let there = same_point first (running c.args.self.now.stack).point at c.requires.same
+    c.at-at.ensures.is in
     record {
-      point = sym c.point-point.ensures.is;
-      stands = first_stands c.args.area.now.files c.args.self.now.stack c.point-point.ensures.some
+      point = sym there;
+      stands = first_stands c.args.area.now.files c.args.self.now.stack c.at-at.ensures.some
           c.requires.sound.frames;
       forward = row.1.forward;
       is_ahead = sym row.1.ahead ∙ not-false _ c.if-not-row.false;
@@ -23,26 +27,31 @@ try_run-requires-clause-there c =
 
 pub try_run-requires-clause-small : goal.try_run-requires-clause-small
 try_run-requires-clause-small c =
-    let p = c.point-point.result in
-    let row = row_stands c.args.area.now.files c.args.rows.now p
-    (running c.args.self.now.stack).point c.in-Some.row c.point-point.ensures.is c.requires.rows
+    let first = c.args.first in
+    let at = c.at-at.result in
+    let p : Point = record { class = first.class; method = first.method; at = at } in
+    let row = row_stands c.args.area.now.files c.args.rows.now p c.in-Some.row c.requires.rows
     c.in-Some.ensures in
     omega (arith, row.0, row.1.forward, row.1.within)
 
 pub try_run-requires-clause-within : goal.try_run-requires-clause-within
 try_run-requires-clause-within c =
-    let p = c.point-point.result in
-    let row = row_stands c.args.area.now.files c.args.rows.now p
-    (running c.args.self.now.stack).point c.in-Some.row c.point-point.ensures.is c.requires.rows
+    let first = c.args.first in
+    let at = c.at-at.result in
+    let p : Point = record { class = first.class; method = first.method; at = at } in
+    let row = row_stands c.args.area.now.files c.args.rows.now p c.in-Some.row c.requires.rows
     c.in-Some.ensures in
     row.1.within
 
 pub returns : goal.returns
 returns c =
-    let p = c.point-point.result in
-    let row = row_stands c.args.area.now.files c.args.rows.now p
-    (running c.args.self.now.stack).point c.in-Some.row c.point-point.ensures.is c.requires.rows
+    let first = c.args.first in
+    let at = c.at-at.result in
+    let p : Point = record { class = first.class; method = first.method; at = at } in
+    let row = row_stands c.args.area.now.files c.args.rows.now p c.in-Some.row c.requires.rows
     c.in-Some.ensures in
+    let there = same_point first (running c.args.self.now.stack).point at c.requires.same
+    c.at-at.ensures.is in
     tried_found c.args.area.now c.args.self.now p
     (record {
       point = p;
@@ -50,4 +59,4 @@ returns c =
       next = c.in-Some.row.next;
       aside = c.in-Some.row.aside;
     })
-    c.try_run.result c.try_run.new.self c.point-point.ensures.is row.1.is c.try_run.ensures
+    c.try_run.result c.try_run.new.self there row.1.is c.try_run.ensures
