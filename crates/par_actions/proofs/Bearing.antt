@@ -10,7 +10,7 @@ use Rattle.par_values.specs.declared.value.MVal.TheVariants.{Ref}
 use Rattle.par_values.specs.declared.run.Event.TheVariants.{Born}
 use Rattle.par_values.specs.declared.link.ClassLink.{ClassLink}
 use Rattle.par_values.specs.Areas as areas
-use Rattle.par_values.specs.Areas.{Name, Areas, first_value, next_number, push, with_object}
+use Rattle.par_values.specs.Areas.{Name, Areas, first_value, next_number, with_object}
 use Rattle.par_values.specs.Operations.{Create}
 use Rattle.par_values.specs.Effects.{Effect, Goes, Happens, effect}
 use Rattle.par_values.specs.Reasons.{Spot, throws, falls, reason}

@@ -66,6 +66,7 @@ pub(crate) fn last_number(stack: &Stack) -> Number
 pub(crate) fn last_numbers(stack: &Stack) -> Numbers
     ensures { AreNumbers result (running stack.now).operands }
 {
+    // The deeper one first: where it is there, the other one is, and the compiler knows it.
     let Some(first) = stack.operand(1) else {
         return Numbers::Missing;
     };

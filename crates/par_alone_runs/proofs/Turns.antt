@@ -19,7 +19,7 @@ use Rattle.par_single.specs.Links.{kind_or_any, signature_said}
 use Rattle.par_single.specs.Links as single_links
 use Rattle.par_single.specs.Single.{runs_alone}
 use Rattle.par_single.specs.StraightLine.{is_straight_line}
-use Rattle.par_single.specs.Walk.{starts_at}
+use Rattle.par_single.specs.Walk.{starts_at, stands_at}
 use Rattle.par_single_machine.specs.State as single
 use Rattle.par_single_machine.specs.Step as one
 use Rattle.par_single_machine.specs.Step.{turn as one_turn}
@@ -158,7 +158,7 @@ module _ (file : ClassFile) (main : Text) (runs : IsTrue (runs_alone file main))
           no_handlers file main runs (other.thrown_class (file ∷ []) done) (f ∷ frames) is.frames in
           λ i. record {
             room = code.max_stack;
-            stands = other.stands_at code.code (next i);
+            stands = stands_at code.code (next i);
             gives_nothing = is_none gives;
             result = kind_or_any gives;
             exceptions = exceptions (file ∷ []);

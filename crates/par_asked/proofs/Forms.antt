@@ -1,5 +1,5 @@
 -- What is asked of each form.
-use Rattle.std.proofs.Common.{◌≡◌, ℕ, ℤ, Bool, Option, Some, None, List, [], ◌∷◌, ◌++◌, refl, ap}
+use Rattle.std.proofs.Common.{◌≡◌, ℕ, ℤ, Bool, Option, List, [], ◌∷◌, ◌++◌, refl, ap}
 use Rattle.std.proofs.Common.{sym, ◌∙◌, append_assoc}
 use Rattle.std.proofs.lemmas.List.{append-nil}
 use Rattle.std.specs.Prelude.{slice_get}
@@ -7,7 +7,7 @@ use Rattle.par_lexer.specs.declared.operator.BinOp.{BinOp}
 use Rattle.par_typed.specs.declared.table.Table.{Table}
 use Rattle.par_typed.specs.Plain as typed
 use Rattle.par_typed.specs.Plain.{TExp, MayTExp, TExps, TSta, MayTSta, TStas, TCatches, Mark, mark}
-use Rattle.par_typed.proofs.Shown.{shows, doings, shown_mark, does_place, does_point}
+use Rattle.par_typed.proofs.Shown.{shows, doings, shown_mark}
 use Rattle.par_rules.specs.Declares.{Method, declares}
 use Rattle.par_checks.specs.Asked.{Check, Context, Effect, Released}
 use Rattle.par_checks.specs.Checks.{ask, entry_of, behind, learns, lock_written, locked, returned}

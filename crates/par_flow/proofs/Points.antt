@@ -1,5 +1,5 @@
 -- The points of each form of statement.
-use Rattle.std.proofs.Common.{◌≡◌, ℕ, Option, List, [], ◌∷◌, ◌++◌, refl, append_assoc}
+use Rattle.std.proofs.Common.{◌≡◌, ℕ, Option, [], ◌∷◌, ◌++◌, refl, append_assoc}
 use Rattle.std.proofs.lemmas.List.{append-nil}
 use Rattle.par_typed.specs.Plain as typed
 use Rattle.par_typed.specs.Plain.{TExp, MayTExp, TSta, MayTSta, TStas, TCatches}

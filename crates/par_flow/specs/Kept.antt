@@ -64,6 +64,6 @@ Leaves n ways = (k : Kind) × HasEnv n (exit_of ways k)
 abbrev pub AddsOnly : List (List ℕ) → List (List ℕ) → (ℕ → Type 0) → Type 0
 AddsOnly es fs IsNamed = (n : ℕ) → n < length fs → (n < length es) ⊎ IsNamed n
 
--- each environment is as long as that
+-- each environment has the policies of so many locals
 abbrev pub AreLong : ℕ → List (List ℕ) → Type 0
 AreLong n es = All (λ env. length env ≡ n) es

@@ -86,7 +86,8 @@ fact_in es (Some r) = record {
 abbrev pub facts_in : FactTable → Facts numbers
 facts_in t point = fact_in (envs_in t) (row_at t point)
 
--- the way that enters the point has the environment of the number, or one that leaves it
+-- the way that enters the point has the environment of the number, or one that leaves it; no way
+-- leaves a point that is not reached
 abbrev pub IsNamedIn : ℕ → Row → Type 0
 IsNamedIn n r = HasEnv n r.entry ⊎ Leaves n r.exits
 

@@ -111,6 +111,7 @@ impl Loading {
         requires named { IsName (members.own_name file.now) }
         ensures first { option_map naming result ≡ first_of self.now.files file.now }
         ensures placed { IfSome result (λ mention. mention.place ≡ place) }
+        ensures counted { IfSome result (λ mention. 1 ≤ mention.index) }
         ensures read { IfSome result (λ mention.
             AreRead self.now.files file.now.pool.entries (mention.index - 1)) }
         ensures named { IfSome result (λ mention. IsName mention.class.now) }
@@ -137,6 +138,7 @@ impl Loading {
         ensures first { option_map naming result ≡ next_named self.now.files }
         ensures before { IfSome result (λ mention.
             first_among self.now.files (take mention.place self.now.files) ≡ None) }
+        ensures counted { IfSome result (λ mention. 1 ≤ mention.index) }
         ensures read { IfSome result (λ mention.
             AreReadAt self.now.files mention.place (mention.index - 1)) }
         ensures within { IfSome result (λ mention. mention.place < length self.now.files) }

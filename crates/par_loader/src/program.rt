@@ -156,7 +156,7 @@ fn loading_of<F: Folder>(
         };
         let file = named_file(alloc, folder, mention)?;
         let done = mention.place;
-        let read = usize::from(mention.index).saturating_sub(1);
+        let read = usize::from(mention.index) - 1;
         loading = loading.with(alloc, file, done, read)?;
     }
     Ok(loading)

@@ -9,6 +9,6 @@ abbrev pub locals_of : Option MethodInfo → ℕ
 locals_of None = 0
 locals_of (Some m) = length m.locals
 
--- as many as its method
+-- as many as its method, and none where there is no such method
 abbrev pub locals_in : Table → Body → ℕ
 locals_in table b = locals_of (slice_get (methods_in (slice_get table.classes b.class)) b.method)

@@ -6,12 +6,11 @@ use Rattle.par_values.specs.declared.value.MVal.{MVal}
 use Rattle.par_values.specs.Areas.{Areas, Objects, InputLists}
 use Rattle.par_values.specs.Effects.{Effect, effect}
 use Rattle.par_values.specs.Reasons.{reason}
-use Rattle.par_single.specs.Walk.{starts_at}
+use Rattle.par_single.specs.Walk.{starts_at, stands_at}
 use Rattle.par_steps.specs.Classes.{class_names}
 use Rattle.par_steps.specs.Links.{link_at}
 use Rattle.par_steps.specs.State.{State, whole_inputs}
 use Rattle.par_steps.specs.Step.{is_misreceived, called_on_object, or_2, moved, state_with}
-use Rattle.par_steps.specs.Step.{stands_at}
 use Rattle.par_stack.specs.declared.point.Point.{Point}
 use Rattle.par_stack.specs.Frames as stack
 use Rattle.par_stack.specs.Frames.{running, waiting}

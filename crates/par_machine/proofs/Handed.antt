@@ -11,7 +11,7 @@ use Rattle.par_stack.specs.Frames as stack
 use Rattle.par_stack.specs.Frames.{running, with_running, at_offset}
 use Rattle.par_steps.specs.Classes.{exception_named}
 use Rattle.par_steps.specs.Step as plain
-use Rattle.par_steps.specs.Step.{offset, returned, returned_with}
+use Rattle.par_steps.specs.Step.{offset}
 use Rattle.par_actions.specs.declared.done.Done.{Done}
 use Rattle.par_actions.specs.declared.done.Done.TheVariants as done
 use Rattle.par_actions.specs.Done.{is_still}

@@ -28,7 +28,7 @@ use Rattle.par_actions.specs.declared.done.Done.{Done}
 use Rattle.par_actions.specs.declared.done.Done.TheVariants as done
 use Rattle.par_actions.specs.declared.callee.Callee.{Callee}
 use Rattle.par_actions.specs.Calls as act
-use Rattle.par_actions.specs.Calls.{IsCalled, IsInvoked, Invoked, acting, with_inputs}
+use Rattle.par_actions.specs.Calls.{IsCalled, Invoked, acting, with_inputs}
 use Rattle.par_actions.specs.Done.{areas_in, Comes, IsDone, Keeps, is_still}
 use Rattle.par_lines.specs.Lines.{channels_of, AreLeft}
 use Rattle.par_method_area.specs.Area.{Area, KnowsLines}

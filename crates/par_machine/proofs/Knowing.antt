@@ -27,6 +27,7 @@ use Rattle.par_actions.specs.declared.done.Done.TheVariants as done
 use Rattle.par_actions.specs.Done.{lesser, thrown_reason, distance, target_of, out_by, born_event}
 use Rattle.par_actions.specs.Done.{set_event, put_event}
 use Rattle.par_single.specs.Links.{signature_said}
+use Rattle.par_single.specs.Walk.{stands_at}
 use Rattle.par_values.specs.Operations.{operation}
 use Rattle.par_values.specs.Reasons.{falls, misreturns, misused}
 use Rattle.par_stack.specs.declared.point.Point.{Point}
@@ -35,7 +36,7 @@ use Rattle.par_steps.specs.Classes.{class_names, exceptions}
 use Rattle.par_steps.specs.Handlers.{is_lost, is_roomless}
 use Rattle.par_steps.specs.Links.{link_at}
 use Rattle.par_steps.specs.Methods.{method_descriptor}
-use Rattle.par_steps.specs.Step.{stands_at, next_of, offset, handlers, number_of_class}
+use Rattle.par_steps.specs.Step.{next_of, offset, handlers, number_of_class}
 use Rattle.par_steps.specs.Step.{thrown_class}
 use Rattle.par_machine.specs.Frames.{code_of, gives}
 use Rattle.par_starts.specs.Standing.{reach_of}

@@ -8,10 +8,11 @@ use Rattle.par_class.specs.declared.file.ClassFile.{ClassFile}
 use Rattle.par_values.specs.declared.link.Link.{Link}
 use Rattle.par_values.specs.Operations.{operation}
 use Rattle.par_steps.specs.Links.{link_at}
-use Rattle.par_steps.specs.Step.{called_on_object, stands_at}
+use Rattle.par_steps.specs.Step.{called_on_object}
 use Rattle.par_steps.specs.Classes.{class_names}
 use Rattle.par_steps.specs.Methods.{method_descriptor}
 use Rattle.par_single.specs.Links.{kind_or_any, signature_said}
+use Rattle.par_single.specs.Walk.{stands_at}
 use Rattle.par_stack.specs.declared.point.Point.{Point}
 use Rattle.par_stack.specs.Frames.{running}
 use Rattle.par_actions.specs.Done.{distance}

@@ -12,7 +12,7 @@ use Rattle.par_values.specs.Reasons.{Spot, is_of}
 use Rattle.par_heap.specs.Heap as heap
 use Rattle.par_stack.specs.declared.point.Point.{Point}
 use Rattle.par_stack.specs.Frames as stack
-use Rattle.par_stack.specs.Frames.{running, waiting, with_running, at_offset, left_with}
+use Rattle.par_stack.specs.Frames.{running, waiting, with_running, left_with}
 use Rattle.par_steps.specs.Classes.{class_names, exceptions}
 use Rattle.par_steps.specs.Handlers.{caught, is_lost, is_roomless}
 use Rattle.par_steps.specs.State.{Frame, State, whole_inputs, entered}

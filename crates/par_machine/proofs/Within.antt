@@ -1,10 +1,9 @@
 -- Instructions start within their code.
 use Rattle.std.proofs.Common.{◌≡◌, ℕ, zero, suc, ◌<◌, ◌≤◌, ℤ, pos, negsuc, Bool, true, List, []}
-use Rattle.std.proofs.Common.{◌∷◌, length, Option, Some, None, refl, arith}
+use Rattle.std.proofs.Common.{◌∷◌, length, Option, Some, None, arith}
 use Rattle.par_instr.specs.Spelling.{operand_bytes}
-use Rattle.par_single.specs.Walk.{if_listed, starts_after, starts_at}
-use Rattle.par_starts.specs.Standing.{starts_aside}
-use Rattle.par_steps.specs.Step.{stands_at, offset}
+use Rattle.par_single.specs.Walk.{if_listed, starts_after, starts_at, stands_at}
+use Rattle.par_steps.specs.Step.{offset}
 
 listed : (test : ℕ → Bool) (operands : Option ℕ) → if_listed test operands ≡ true
     → (n : ℕ) × (test n ≡ true)
@@ -31,8 +30,3 @@ start_within code at is = starts_within code at 0 is
 pub stand_within : (code : List ℕ) (to : ℤ) → stands_at code to ≡ true → offset to ≤ length code
 stand_within code (pos at) is = let within = start_within code at is in omega arith
 stand_within code (negsuc n) is = absurd (cc)
-
--- one that starts at an offset stands there
-pub starts_stand : (code : List ℕ) (to : ℤ) → starts_aside code to ≡ stands_at code to
-starts_stand code (pos at) = refl
-starts_stand code (negsuc n) = refl

@@ -19,12 +19,11 @@ use Rattle.par_steps.specs.Classes.{class_names, exceptions}
 use Rattle.par_steps.specs.Links.{link_at}
 use Rattle.par_steps.specs.State.{entered}
 use Rattle.par_steps.specs.Step.{areas_of, done_by, spot, reason_against, moved, state_with, offset}
-use Rattle.par_steps.specs.Step.{stands_at}
 use Rattle.par_actions.specs.declared.done.Done.{Done}
 use Rattle.par_actions.specs.declared.done.Done.TheVariants as done
 use Rattle.par_actions.specs.Done.{IsDone, is_still}
 use Rattle.par_machine.specs.Frames.{code_of, gives, Stands}
-use Rattle.par_single.specs.Walk.{starts_at}
+use Rattle.par_single.specs.Walk.{starts_at, stands_at}
 use Rattle.par_starts.specs.Standing.{reach_of}
 use Rattle.par_machine.specs.Instructions.{index_of}
 use Rattle.par_machine.specs.Objects.{count_classes}
@@ -59,7 +58,7 @@ spot_of files r s = spot files (here r) (below r) (decoded s).size (does files r
 abbrev pub against : List ClassFile → Running → Site → Option ℕ
 against files r s = reason_against files (decoded s) (here r) (below r) (areas_at files r)
 
--- A run stands at a site, and instructions stand behind it and at its distance or do not.
+-- A run stands at a site; it is known whether instructions start behind it and at its distance.
 pub record IsThere (files : List ClassFile) (r : Running) (s : Site) (ahead : Bool) : Type 0 where
   pub point : (running r.stack).point ≡ s.point
   pub stands : Stands files (running r.stack)

@@ -24,7 +24,8 @@ use par_starts::{Standing, distance, standing_at};
 
 impl Running {
     /// Does what the instruction of a site does, behind which one stands, where it makes no event,
-    /// calls no method and leaves none. Else nothing is changed.
+    /// calls no method and leaves none. Else nothing is changed. The arms of `work` stand here once
+    /// more, for speed alone: what is left out here is run by `step`.
     #[inline(always)]
     fn try_perform(&mut self, area: &MethodArea, site: Site) -> Option<Done>
         requires sound { IsSound area.now self.old }

@@ -8,6 +8,6 @@ pub(crate) struct Site {
     pub(crate) instr: Instr,
     /// The offset behind it.
     pub(crate) next: u32,
-    /// An instruction starts at its distance.
+    /// An instruction starts where it goes on if it branches; at its own offset if it is no branch.
     pub(crate) aside: bool,
 }

@@ -1,5 +1,6 @@
 //! Public calls of the machine, of what it knows of classes, and of what loads and links class
-//! files for it, each run once with ample memory. The crate is tests alone, and nothing stands on it.
+//! files for it, each run once with ample memory. The crate is tests alone, and nothing stands on
+//! it.
 #![tactic(auto)]
 
 #[cfg(test)]

@@ -1,9 +1,8 @@
 -- Methods as they are told once.
-use Rattle.std.specs.Prelude.{◌≡◌, ℕ, Bool, false, List, map, Option, None, slice_index_or}
+use Rattle.std.specs.Prelude.{◌≡◌, ℕ, Bool, false, List, Option, None, slice_index_or}
 use Rattle.par_class.specs.declared.file.CodeAttr.{CodeAttr}
 use Rattle.par_class.specs.declared.file.MethodFile.{MethodFile}
 use Rattle.par_class.specs.declared.file.ClassFile.{ClassFile}
-use Rattle.par_values.specs.Areas.{Name}
 use Rattle.par_single.specs.declared.descriptor.Signature.{Signature}
 use Rattle.par_single.specs.Members.{text_at, own_name, is_initializer}
 use Rattle.par_single.specs.Single.{method_named}

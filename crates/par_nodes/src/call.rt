@@ -125,6 +125,6 @@ pub fn called<'a>(
             let from = stand.origin(None, Locks::Nothing, Locks::Nothing);
             make::goes_on(alloc, from, value)
         }
-        Some(method) => { does(alloc, table, stand, method) }
+        Some(method) => does(alloc, table, stand, method),
     }
 }

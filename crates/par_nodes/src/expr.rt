@@ -272,7 +272,7 @@ fn behind<'a>(
 {
     match of {
         None => Ok(more),
-        Some(of) => { operand(alloc, table, ENTRY, of, more) }
+        Some(of) => operand(alloc, table, ENTRY, of, more),
     }
 }
 

@@ -97,7 +97,7 @@ fn returns<'a>(
         ≡ behind_value (declares table.now) (may_shown value.now)) }
 {
     match value {
-        None => { completes(alloc, Kind::Return) }
+        None => completes(alloc, Kind::Return),
         Some(value) => {
             let leaves = make::leaves(alloc, PAST, Kind::Return, make::done(alloc))?;
             operand(alloc, table, ENTRY, value, leaves)
@@ -116,7 +116,7 @@ fn goes_first<'a>(
         ≡ goes_first (otherwise other.now) (seen_origin from.entry) (seen_rules more.entry.rules)) }
 {
     match other {
-        None => { make::goes_on(alloc, from, more) }
+        None => make::goes_on(alloc, from, more),
         Some(_) => Ok(more),
     }
 }
@@ -427,7 +427,7 @@ fn else_rules<'a>(
         (else_rules (declares table.now) (otherwise other.now) (seen_origin from.entry))) }
 {
     match other {
-        None => { make::ends(alloc, PAST) }
+        None => make::ends(alloc, PAST),
         Some(stmt) => {
             let goes = make::ends(alloc, PAST)?;
             let rest = step(alloc, table, from, stmt, goes)?;

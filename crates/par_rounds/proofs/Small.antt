@@ -8,7 +8,7 @@ use lib.Dec.{ltb}
 use Rattle.par_bits.specs.Sets.{Set, none, adding, union, IsWithin}
 use Rattle.par_rules.specs.Lattice.{numbers}
 use Rattle.par_rules.specs.Kinds as kind
-use Rattle.par_rules.specs.Kinds.{Kind, Normal, normal}
+use Rattle.par_rules.specs.Kinds.{Kind, Normal}
 use Rattle.par_rules.specs.Ways.{Way, Flows, MayFlow, moved, put, raised, assigned, opened, shut}
 use Rattle.par_rules.specs.Facts.{Fact, Facts}
 use Rattle.par_rules.specs.Ranges.{IsFromInRange, IsWorthInRange}

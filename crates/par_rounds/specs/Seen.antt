@@ -42,7 +42,7 @@ AreWide n xs = All (λ x. HasLocals n x.way) xs
 abbrev pub AreFactsWide : ℕ → List Fact → Type 0
 AreFactsWide n fs = All (λ f. AreWide n f.exits.items) fs
 
--- and so do the facts of points
+-- the same of the facts of points, and of the ways that enter them
 abbrev pub IsRowWide : ℕ → Fact → Type 0
 IsRowWide n f = MayHaveLocals n f.entry × AreWide n f.exits.items
 

@@ -1,6 +1,6 @@
 -- The walk through code, from offset 0 on: opcodes, each with its operand bytes behind it.
-use Rattle.std.specs.Prelude.{ℕ, zero, suc, Bool, true, false, ◌&&◌, List, [], ◌∷◌, Option, Some}
-use Rattle.std.specs.Prelude.{None}
+use Rattle.std.specs.Prelude.{ℕ, zero, suc, ℤ, pos, negsuc, Bool, true, false, ◌&&◌, List, [], ◌∷◌}
+use Rattle.std.specs.Prelude.{Option, Some, None}
 use Rattle.par_instr.specs.Decoding.{Decoded, decoded}
 use Rattle.par_instr.specs.Spelling.{operand_bytes}
 use Rattle.par_single.specs.StraightLine.{is_straight_line}
@@ -39,3 +39,8 @@ starts_after (operand ∷ bytes) (suc at) (suc operands) = starts_after bytes at
 -- whether an instruction of the walk starts at an offset
 abbrev pub starts_at : List ℕ → ℕ → Bool
 starts_at code at = starts_after code at 0
+
+-- the same of an offset that may be below 0, where none starts
+abbrev pub stands_at : List ℕ → ℤ → Bool
+stands_at code (pos at) = starts_at code at
+stands_at code (negsuc n) = false

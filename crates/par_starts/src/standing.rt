@@ -2,8 +2,8 @@
 
 ghost use Rattle.std.specs.Prelude.{◌≡◌, ℕ, ◌≤◌, List, pos, ◌+ℤ◌, None, false, length, IfOk};
 ghost use Rattle.std.specs.Prelude.{slice_index_or};
-ghost use Rattle.par_single.specs.Walk.{starts_at};
-ghost use Rattle.par_starts.specs.Standing.{reach_of, starts_aside, IsStanding};
+ghost use Rattle.par_single.specs.Walk.{starts_at, stands_at};
+ghost use Rattle.par_starts.specs.Standing.{reach_of, IsStanding};
 
 use crate::starts::Starts;
 use par_instr::{Instr, decode};
@@ -19,7 +19,7 @@ pub struct Standing {
     pub next: u32,
     /// An instruction starts there.
     pub ahead: bool,
-    /// An instruction starts at its distance.
+    /// An instruction starts where it goes on if it branches; at its own offset if it is no branch.
     pub aside: bool,
 }
 
@@ -39,7 +39,7 @@ impl Model for Instructions {
     ghost view = { λ instructions. instructions.rows.items };
 }
 
-/// The distance at which an instruction may go on, 0 where it is no branch.
+/// How far from its offset a branch goes on, 0 where an instruction is none.
 pub fn distance(instr: Instr) -> i16
     ensures { result ≡ reach_of instr }
 {
@@ -60,7 +60,7 @@ fn starts_aside(starts: &Starts, at: u32, distance: i16) -> bool
     requires { at ≤ 65535 }
     ensures { (code : List ℕ) →
         ((k : ℕ) → slice_index_or starts.now k false ≡ starts_at code k) →
-        result ≡ starts_aside code (pos at +ℤ distance) }
+        result ≡ stands_at code (pos at +ℤ distance) }
 {
     let to = at as i32 + distance as i32;
     to >= 0 && starts.has(to as u32)
@@ -78,10 +78,11 @@ fn row(code: &[u8], starts: &Starts, at: usize) -> Option<Standing>
     let Ok(next) = u16::try_from(next) else {
         return None;
     };
+    let next = u32::from(next);
     Some(Standing {
         instr,
-        next: next as u32,
-        ahead: starts.has(next as u32),
+        next,
+        ahead: starts.has(next),
         aside: starts_aside(starts, at as u32, distance(instr)),
     })
 }

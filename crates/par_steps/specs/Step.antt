@@ -23,7 +23,7 @@ use Rattle.par_link.specs.declared.entry.Named.{Named}
 use Rattle.par_link.specs.declared.entry.Named.TheVariants.{Initializer}
 use Rattle.par_link.specs.Linked.{named_at}
 use Rattle.par_single.specs.Links.{kind_or_any, signature_said}
-use Rattle.par_single.specs.Walk.{starts_at}
+use Rattle.par_single.specs.Walk.{stands_at}
 use Rattle.par_steps.specs.Classes.{class_names, exception_named, exceptions}
 use Rattle.par_steps.specs.Methods.{method_code, method_name, method_descriptor}
 use Rattle.par_steps.specs.Links.{link_at}
@@ -92,11 +92,6 @@ handlers files (Some class) frames = caught files class frames
 abbrev pub next_of : Effect → (at size : ℕ) → ℤ
 next_of (Jumps to a) at size = pos at +ℤ to
 next_of _ at size = pos (at + size)
-
--- whether an instruction of some code starts there
-abbrev pub stands_at : List ℕ → ℤ → Bool
-stands_at code (pos at) = starts_at code at
-stands_at code (negsuc n) = false
 
 -- What the place of an instruction decides, where it does this.
 abbrev pub spot : List ClassFile → Frame → List Frame → (size : ℕ) → Effect → Spot

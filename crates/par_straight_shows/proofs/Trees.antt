@@ -12,7 +12,7 @@ use Rattle.par_grammar.specs.Sorts.{same}
 use Rattle.par_grammar.specs.Grammar.{Symbol, token, kept, finish, counts, restarts, enters, leaves}
 use Rattle.par_grammar.specs.Grammar.{name, builds, alternative}
 use Rattle.par_grammar.specs.Derivation as derivation
-use Rattle.par_grammar.specs.Derivation.{Input, next, behind, Syntax, TooDeep, goes, ends, state}
+use Rattle.par_grammar.specs.Derivation.{Input, next, Syntax, TooDeep, goes, ends, state}
 use Rattle.par_grammar.specs.Derivation.{stops, takes, keeps, nests, replaces, step, Comes, last}
 use Rattle.par_grammar.specs.Derivation.{more}
 use Rattle.par_straight.specs.declared.tree.Member.{Member}

@@ -6,10 +6,10 @@ use Rattle.std.specs.Prelude.{IfOk, IfErr}
 use Rattle.par_io.specs.Causes.{SinkCounts, Makes}
 use Rattle.par_io.specs.Saying.{Said}
 use Rattle.par_machine.specs.declared.machine.Machine.{Machine}
-use Rattle.par_machine.specs.Machine.{files_of, state_of}
+use Rattle.par_machine.specs.Machine.{state_of}
 use Rattle.par_class.specs.declared.file.ClassFile.{ClassFile}
-use Rattle.par_steps.specs.State.{State, start}
-use Rattle.par_steps.specs.Run.{run, class_number, machine_run}
+use Rattle.par_steps.specs.State.{State}
+use Rattle.par_steps.specs.Run.{run, machine_run}
 use Rattle.par_runner.specs.Running.{runs_of}
 use Rattle.par_values.specs.Ran.{Fine}
 use Rattle.par_typed.specs.declared.table.Table.{Table}

@@ -59,6 +59,7 @@ returns-in-Ok-clause-links c =
     let told = subst (λ (n : List ℕ). IsBadAs n 42 0 c.bad_class.result) name c.bad_class.ensures in
     let none : first_broken files ≡ None = c.in-Ok.ensures.unbroken in
     let begun : begins files ≡ false =
-    sym (c.begins.ensures ∙ ap begins (c.files.ensures ∙ c.in-Ok.ensures.linked)) ∙ c.if-begins.false in
-    links_bad _ (main_of files) 42 0 c.bad_class.result (begins_not (main_of files) files none begun)
-    told
+    sym (c.begins.ensures ∙ ap begins (c.files.ensures ∙ c.in-Ok.ensures.linked))
+    ∙ c.if-begins.false in
+    links_bad _ (main_of files) 42 0 c.bad_class.result
+    (begins_not (main_of files) files none begun) told

@@ -1,7 +1,6 @@
-use Rattle.std.proofs.Common.{sym, ◌∙◌, arith}
+use Rattle.std.proofs.Common.{sym, arith}
 use Rattle.par_machine.proofs.Found.{point_stands, coded, finds_nothing, finds}
 use Rattle.par_machine.proofs.Sound.{first_stands}
-use Rattle.par_machine.proofs.Within.{starts_stand}
 use Rattle.par_machine.proofs.running.Running.advance.Goals as goal
 
 pub stuck-requires : goal.stuck-requires
@@ -28,7 +27,7 @@ run-requires-clause-there c = record {
       c.requires.sound.frames;
   forward = c.in-Some.ensures.1.forward;
   is_ahead = sym c.in-Some.ensures.1.ahead;
-  is_aside = sym (c.in-Some.ensures.1.aside ∙ starts_stand _ _);
+  is_aside = sym c.in-Some.ensures.1.aside;
 }
 
 pub run-requires-clause-small : goal.run-requires-clause-small

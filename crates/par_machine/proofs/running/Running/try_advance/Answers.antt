@@ -4,7 +4,6 @@ use Rattle.par_stack.specs.declared.point.Point.{Point}
 use Rattle.par_stack.specs.Frames.{running}
 use Rattle.par_machine.proofs.Quiet.{same_point, row_stands, tried_found}
 use Rattle.par_machine.proofs.Sound.{first_stands}
-use Rattle.par_machine.proofs.Within.{starts_stand}
 use Rattle.par_machine.proofs.running.Running.try_advance.Goals as goal
 
 pub try_run-requires-clause-there : goal.try_run-requires-clause-there
@@ -22,7 +21,7 @@ try_run-requires-clause-there c =
           c.requires.sound.frames;
       forward = row.1.forward;
       is_ahead = sym row.1.ahead ∙ not-false _ c.if-not-row.false;
-      is_aside = sym (row.1.aside ∙ starts_stand _ _);
+      is_aside = sym row.1.aside;
     }
 
 pub try_run-requires-clause-small : goal.try_run-requires-clause-small

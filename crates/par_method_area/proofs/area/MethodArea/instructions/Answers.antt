@@ -1,6 +1,4 @@
-use Rattle.std.proofs.Common.{◌≡◌, ℕ, None, MatchOption, refl, sym, subst, slice_index_or}
-use Rattle.par_starts.specs.Standing.{KnowsStanding}
-use Rattle.par_steps.specs.Methods.{method_code}
+use Rattle.std.proofs.Common.{None, refl, sym, slice_index_or}
 use Rattle.par_method_area.proofs.Standing.{class_missing, method_missing, standing_found, moved}
 use Rattle.par_method_area.proofs.area.MethodArea.instructions.Goals as goal
 
