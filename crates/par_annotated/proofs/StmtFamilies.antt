@@ -1,5 +1,5 @@
 -- What each family of statements needs.
-use Rattle.std.proofs.Common.{◌≡◌, ℕ, ◌+◌, refl, arith}
+use Rattle.std.proofs.Common.{◌≡◌, ℕ, ◌+◌, arith}
 use Rattle.par_tree.proofs.Shown as tree
 use Rattle.par_typed.specs.Plain.{TExp}
 use Rattle.par_typed.specs.Nodes.{nodes, stmt_nodes}

@@ -1,5 +1,5 @@
 -- What is known of the places of names.
-use Rattle.std.specs.Prelude.{◌≡◌, ℕ, Bool, List}
+use Rattle.std.specs.Prelude.{◌≡◌, ℕ, List}
 use Rattle.std.specs.Borrow.{Bor}
 use Rattle.std.specs.List.{position}
 use Rattle.std.specs.Str.{bytes_eq}

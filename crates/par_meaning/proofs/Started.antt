@@ -9,7 +9,7 @@ use Rattle.par_typed.specs.declared.stmt.TStmt.{TStmt}
 use Rattle.par_typed.specs.declared.stmt.TCatch.{TCatch}
 use Rattle.par_typed.specs.declared.stmt.TStmtKind.TheVariants as stmt
 use Rattle.par_typed.specs.Plain as plain
-use Rattle.par_typed.specs.Plain.{TExp, TSta, mark}
+use Rattle.par_typed.specs.Plain.{TSta, mark}
 use Rattle.par_typed.specs.Shown.{mark_of, shown, may_shown, does_at, does, otherwise, all_do}
 use Rattle.par_typed.specs.Shown.{all_catch}
 use Rattle.par_typed.proofs.Shown.{shown_mark, does_block, does_if, does_while, does_try}

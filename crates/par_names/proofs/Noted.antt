@@ -5,7 +5,7 @@ use Rattle.std.proofs.lemmas.Grind.{common_steps, flat_map-append}
 use Rattle.std.specs.List.{flat_map}
 use Rattle.par_typed.specs.declared.refusal.Refusal.{Refusal}
 use Rattle.par_typed.specs.First.{first_of}
-use Rattle.par_typed.proofs.First.{first_of_none, first_of_append, firsts}
+use Rattle.par_typed.proofs.First.{first_of_append, firsts}
 
 pub more : {X : Type 0} (xs : List X) (i : ℕ) (x : X) → i < length xs → x ≡ get_or xs i x
     → take (i + 1) xs ≡ take i xs ++ x ∷ []

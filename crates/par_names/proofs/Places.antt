@@ -1,10 +1,9 @@
 -- Rules on names are broken at places of the tree.
-use Rattle.std.proofs.Common.{ℕ, ◌+◌, ◌≤◌, Bool, true, false, not, ◌&&◌, ◌||◌, cond, nat_eq, List}
-use Rattle.std.proofs.Common.{[], ◌∷◌, ◌++◌, map, drop, length, Option, Some, None, arith}
+use Rattle.std.proofs.Common.{ℕ, ◌+◌, ◌≤◌, Bool, true, false, List}
+use Rattle.std.proofs.Common.{[], ◌∷◌, ◌++◌, map, drop, Option, Some, None, arith}
 use Rattle.std.proofs.Common.{if◌then◌else◌}
 use Rattle.std.specs.Prelude.{codes}
 use Rattle.std.specs.List.{AllByRecursion, flat_map}
-use Rattle.std.specs.Str.{bytes_eq}
 use Rattle.par_index.specs.Texts.{has}
 use Rattle.par_tree.specs.declared.ident.Ident.{Ident}
 use Rattle.par_tree.specs.declared.types.TypeTree.{TypeTree}
@@ -32,22 +31,22 @@ use Rattle.par_places.specs.Within.{HandlerIn, FieldIn, ChannelIn, ParamIn, Thro
 use Rattle.par_places.specs.Within.{ClassIn, LockDeclIn, PolicyDeclIn, DeclarationIn, IsWithin}
 use Rattle.par_names.specs.Declarations.{actors_in, locks_in, policies_in, classes_in, actors}
 use Rattle.par_names.specs.Declarations.{locks, policies, builtin, builtins, declared_classes}
-use Rattle.par_names.specs.Declarations.{classes, has_earlier, double_fault, doubles, class_named}
+use Rattle.par_names.specs.Declarations.{classes, doubles}
 use Rattle.par_names.specs.Members.{callee_ids, selected_named, callee_named, is_static}
 use Rattle.par_names.specs.Policies.{View, actor_fault, arity_fault, lock_faults, clause_faults}
 use Rattle.par_names.specs.Policies.{term_faults, policy_faults, may_policy_faults, class_fault}
 use Rattle.par_names.specs.Policies.{type_fault, result_fault}
-use Rattle.par_names.specs.Exprs.{Home, own_fault, name_fault, class_before, static_fault}
+use Rattle.par_names.specs.Exprs.{Home, own_fault, name_fault, static_fault}
 use Rattle.par_names.specs.Exprs.{member_faults, expr_faults, callee_faults, args_faults}
 use Rattle.par_names.specs.Exprs.{value_faults}
-use Rattle.par_names.specs.Stmts.{taken_fault, local_faults, declares, caught, all_caught}
+use Rattle.par_names.specs.Stmts.{taken_fault, local_faults, declares, all_caught}
 use Rattle.par_names.specs.Stmts.{stmt_faults, braces_faults, may_braces_faults, else_faults}
 use Rattle.par_names.specs.Stmts.{stmts_faults, catches_faults, handler_faults}
-use Rattle.par_names.specs.Methods.{inferred_fault, field_faults, channel_faults, param_faults}
+use Rattle.par_names.specs.Methods.{field_faults, channel_faults, param_faults}
 use Rattle.par_names.specs.Methods.{effect_faults, throw_faults, head_faults, method_faults}
 use Rattle.par_names.specs.Methods.{class_faults}
-use Rattle.par_names.specs.Program.{view_behind, declaration_faults, declarations_faults, mains}
-use Rattle.par_names.specs.Program.{main_fault, mains_faults, program_doubles, name_faults}
+use Rattle.par_names.specs.Program.{declaration_faults, declarations_faults, mains}
+use Rattle.par_names.specs.Program.{mains_faults, program_doubles, name_faults}
 use Rattle.par_places.proofs.Built.{place_in}
 use Rattle.par_places.proofs.Broken.{both, each, mapped, filtered, behind_first}
 use Rattle.par_typed.specs.First.{when}

@@ -9,7 +9,7 @@ use Rattle.par_tree.specs.Plain.{Exp, Exps, NoExps, More, Sta, Braces, In, Stas,
 use Rattle.par_tree.specs.Plain.{NoCatch, Catch, Handler, with_exp, with_sta, with_catch}
 use Rattle.par_tree.specs.Nodes.{nodes, may_nodes, args_nodes, stmt_nodes, braces_nodes}
 use Rattle.par_tree.specs.Nodes.{may_braces_nodes, else_nodes, all_nodes, catch_nodes}
-use Rattle.par_tree.specs.Nodes.{handler_nodes, method_nodes}
+use Rattle.par_tree.specs.Nodes.{handler_nodes}
 use Rattle.par_tree.specs.Grammar.{Builders}
 use Rattle.par_tree.specs.Grammar as g
 use Rattle.par_tree.specs.Values.{Value, Values, tok, exp, exps, may, braces, may_braces, sta, stas}

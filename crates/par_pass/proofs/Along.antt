@@ -10,10 +10,10 @@ use Rattle.par_bits.specs.Sets.{Set, IsWithin, none, adding, union}
 use Rattle.par_typed.specs.Plain.{Body, point}
 use Rattle.par_rules.specs.Lattice.{Lattice, numbers, policies, seen_by, joined}
 use Rattle.par_rules.specs.Kinds as kind
-use Rattle.par_rules.specs.Kinds.{Kind, Normal, normal, absorbed}
+use Rattle.par_rules.specs.Kinds.{Kind, Normal, normal}
 use Rattle.par_rules.specs.Ways as rules
 use Rattle.par_rules.specs.Ways.{Flows, Lands, MayFlow, MayLand, MayRaise, raised, assigned, opened}
-use Rattle.par_rules.specs.Ways.{shut, moved, put}
+use Rattle.par_rules.specs.Ways.{shut, moved}
 use Rattle.par_rules.specs.Facts.{Fact, Facts}
 use Rattle.par_rules.specs.Declares.{Declares}
 use Rattle.par_rules.specs.Rules.{From, Entry, After, Tested, Raised, Opened, Shut, Assigned}

@@ -9,7 +9,7 @@ use Rattle.par_typed.specs.Plain.{TExp, Int, Local, Static, Input, Output, Call,
 use Rattle.par_typed.specs.Plain.{NoExps, Mark}
 use Rattle.par_typed.specs.Plain as plain
 use Rattle.par_typed.specs.Plain.{TSta, Block, If, Try, Throw, Open, SetLocal, Eval, When, NoElse}
-use Rattle.par_typed.specs.Plain.{Otherwise, TStas, End, Then, NoCatch, Catch}
+use Rattle.par_typed.specs.Plain.{Otherwise, End, Then, NoCatch, Catch}
 use Rattle.par_rules.specs.Lattice.{numbers}
 use Rattle.par_rules.specs.Declares.{Declares, Method, NO_METHOD}
 use Rattle.par_rules.specs.Rules.{way, worth, can, can_by, comes}

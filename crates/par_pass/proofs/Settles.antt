@@ -4,7 +4,7 @@ use Rattle.std.proofs.Common.{◌∷◌, ◌++◌, refl, sym, ap, subst}
 use Rattle.par_bits.specs.Sets.{IsWithin, union}
 use Rattle.par_rules.specs.Lattice.{numbers}
 use Rattle.par_rules.specs.Kinds as kind
-use Rattle.par_rules.specs.Kinds.{Kind, Normal, same, normal, absorbed, Absorber, Next, Loop}
+use Rattle.par_rules.specs.Kinds.{Kind, Normal, normal, absorbed, Absorber, Next, Loop}
 use Rattle.par_rules.specs.Kinds.{Catches}
 use Rattle.par_rules.specs.Ways.{MayFlow, MayLand, MayRaise}
 use Rattle.par_rules.specs.Facts.{Fact, Facts}

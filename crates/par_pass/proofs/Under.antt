@@ -5,7 +5,7 @@ use Rattle.std.specs.Prelude.{nat_eq}
 use Rattle.par_bits.specs.Sets.{Set}
 use Rattle.par_rules.specs.Lattice.{Lattice, numbers}
 use Rattle.par_rules.specs.Ways as rules
-use Rattle.par_rules.specs.Ways.{raised, assigned, opened, shut, moved, put}
+use Rattle.par_rules.specs.Ways.{raised, assigned, opened, shut, moved}
 use Rattle.par_rules.specs.Facts.{Fact, blank}
 use Rattle.par_rules.specs.Rules.{From, Entry, After, Tested, Raised, Opened, Shut, Assigned}
 use Rattle.par_rules.specs.Rules.{Worth, Given, Held, Value, way, worth, held, part_at}

@@ -5,7 +5,7 @@ use Rattle.std.specs.List.{AllByRecursion}
 use Rattle.par_typed.specs.declared.table.Table.{Table}
 use Rattle.par_typed.specs.Plain as typed
 use Rattle.par_typed.specs.Plain.{TExp, MayTExp, TExps, TSta, MayTSta, TStas, TCatches, Body}
-use Rattle.par_typed.specs.Plain.{Mark, mark, point}
+use Rattle.par_typed.specs.Plain.{mark, point}
 use Rattle.par_rules.specs.Declares.{Method, Thrown, declares}
 use Rattle.par_places.proofs.Broken.{both}
 use Rattle.par_checks.specs.Asked.{Check}

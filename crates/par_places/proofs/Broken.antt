@@ -1,6 +1,5 @@
 -- Rules that are broken within a bound.
 use Rattle.std.proofs.Common.{ℕ, ◌≤◌, Bool, true, false, cond, List, [], ◌∷◌, ◌++◌, map, drop}
-use Rattle.std.proofs.Common.{Contains}
 use Rattle.std.specs.List.{AllByRecursion, flat_map, filter}
 use Rattle.par_typed.specs.declared.refusal.Refusal.{Refusal}
 use Rattle.par_typed.specs.First.{when, in_passes}

@@ -1,7 +1,6 @@
 -- Each builder keeps the places of what it puts together.
-use Rattle.std.proofs.Common.{◌≡◌, ℕ, ◌≤◌, Bool, true, false, List, [], ◌∷◌, Some, None}
+use Rattle.std.proofs.Common.{ℕ, ◌≤◌, Bool, true, false, ◌∷◌, None}
 use Rattle.std.specs.List.{AllByRecursion}
-use Rattle.par_lexer.specs.declared.token.Token.{Token}
 use Rattle.par_lexer.specs.declared.operator.BinOp.{BinOp}
 use Rattle.par_tree.specs.Plain.{Exp, Braces, In, place}
 use Rattle.par_tree.specs.Plain as plain
@@ -31,10 +30,10 @@ use Rattle.par_tree.specs.Values.{assign_stmt}
 use Rattle.par_tree.specs.Values.{call_stmt, constant, true_expr, false_expr, null_expr, this_expr}
 use Rattle.par_tree.specs.Values.{create}
 use Rattle.par_tree.specs.Values.{variable, select, call_own, call_on, negate, invert, next_arg}
-use Rattle.par_places.specs.Within.{IdentIn, AreIn, TypeIn, ResultIn, LockIn, LocksIn, ClauseIn}
+use Rattle.par_places.specs.Within.{AreIn, TypeIn, ResultIn, LockIn, LocksIn, ClauseIn}
 use Rattle.par_places.specs.Within.{TermIn, PolicyIn, MayPolicyIn, ExpIn, MayExpIn, ExpsIn, StaIn}
 use Rattle.par_places.specs.Within.{BracesIn, MayBracesIn, ElseIn, StasIn, CatchesIn, HandlerIn}
-use Rattle.par_places.specs.Within.{FieldIn, ChannelIn, ParamIn, ThrowIn, MethodIn, ClassIn}
+use Rattle.par_places.specs.Within.{FieldIn, ChannelIn, ParamIn, ThrowIn, MethodIn}
 use Rattle.par_places.specs.Within.{DeclarationIn, IsWithin}
 use Rattle.par_places.proofs.Lists.{pushed, one_more_exp, one_more_sta, one_more_catch}
 

@@ -1,5 +1,5 @@
 -- One reference more behind those that were found.
-use Rattle.std.proofs.Common.{◌≡◌, List, [], ◌∷◌, ◌++◌, map, refl, ap, append_assoc, append-nil}
+use Rattle.std.proofs.Common.{◌≡◌, List, [], ◌∷◌, ◌++◌, refl, ap, append_assoc, append-nil}
 use Rattle.std.specs.Borrow.{Bor}
 use Rattle.par_tree.proofs.Shown.{doings}
 use Rattle.par_resolved.specs.Gathered.{all_of}

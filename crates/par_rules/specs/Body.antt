@@ -5,7 +5,7 @@ use Rattle.par_bits.specs.Sets.{none, adding}
 use Rattle.par_lexer.specs.declared.operator.BinOp.{BinOp}
 use Rattle.par_lexer.specs.declared.operator.BinOp.TheVariants.{And, Or, Div, Rem}
 use Rattle.par_typed.specs.Plain as plain
-use Rattle.par_typed.specs.Plain.{TExp, MayTExp, TExps, TSta, MayTSta, TStas, TCatches, Mark, mark}
+use Rattle.par_typed.specs.Plain.{TExp, TExps, TSta, TStas, TCatches, mark}
 use Rattle.par_typed.specs.Plain.{point}
 use Rattle.par_rules.specs.Kinds as kind
 use Rattle.par_rules.specs.Kinds.{Normal, Next, Loop, Catches, ARITHMETIC, NULL_POINTER}

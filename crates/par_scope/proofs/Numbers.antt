@@ -1,5 +1,5 @@
 -- Numbers of classes and members.
-use Rattle.std.proofs.Common.{◌≡◌, ℕ, ◌<◌, List, Option, Some, length}
+use Rattle.std.proofs.Common.{◌≡◌, ℕ, ◌<◌, List, Some, length}
 use Rattle.par_index.proofs.Places.{position-within}
 use Rattle.par_scope.specs.Names.{number_in}
 use Rattle.std.specs.Str.{bytes_eq}

@@ -1,6 +1,5 @@
 -- The locals that are in scope.
 use Rattle.std.specs.Prelude.{ℕ, ◌++◌, List, [], ◌∷◌, Bool, false, Option, Some, None, slice_get}
-use Rattle.par_typed.specs.declared.ty.Ty.{Ty}
 use Rattle.par_scope.specs.declared.locals.Slot.{Slot}
 use Rattle.par_scope.specs.Names.{number_in}
 

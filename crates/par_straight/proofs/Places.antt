@@ -28,7 +28,7 @@ use Rattle.par_straight.specs.Values.{Value, Values, id, ids, members, sum, term
 use Rattle.par_straight.specs.Values.{statements, clauses, whole, read_kind, straight, built}
 use Rattle.par_straight.specs.Values as value
 use Rattle.par_straight.specs.Names.{Name, Scope, place, declares, numbered_steps, scope_of}
-use Rattle.par_straight.specs.Rules.{Facts, first_facts, facts_after, Passes, FirstBroken}
+use Rattle.par_straight.specs.Rules.{Facts, FirstBroken}
 use Rattle.par_straight.specs.Rules.{IsRefused}
 use Rattle.par_straight.specs.Rules as first
 use Rattle.par_straight.specs.Judged.{HasProgram}

@@ -15,7 +15,7 @@ use Rattle.par_lexer.specs.declared.word.TheConstants as word
 use Rattle.par_lexer.specs.declared.sign.TheConstants as sign
 use Rattle.par_straight.specs.declared.tree.MemberKind.TheVariants.{Input as InputKind, Output}
 use Rattle.par_straight.specs.declared.tree.MemberKind.TheVariants.{Field}
-use Rattle.par_straight.specs.Grammar.{Names, Builders, Symbols, source}
+use Rattle.par_straight.specs.Grammar.{Builders, Symbols, source}
 use Rattle.par_straight.specs.Grammar as g
 use Rattle.par_straight.specs.Values.{Value, Values, read, built, straight}
 use Rattle.par_straight.proofs.Founded.{founded}

@@ -8,7 +8,7 @@ use Rattle.par_grammar.specs.declared.sort.Sort.{Sort}
 use Rattle.par_grammar.specs.declared.sort.Sort.TheVariants.{End}
 use Rattle.par_grammar.specs.Sorts.{same}
 use Rattle.par_grammar.specs.Grammar.{token, kept, finish, counts, restarts, enters, leaves, name}
-use Rattle.par_grammar.specs.Grammar.{builds, Choice, Grammar, chosen, alternative}
+use Rattle.par_grammar.specs.Grammar.{builds, Grammar, alternative}
 use Rattle.par_grammar.specs.Grammar as grammar
 use Rattle.par_grammar.specs.Derivation.{Input, next, behind, Syntax, TooDeep, Outcome, goes, ends}
 use Rattle.par_grammar.specs.Derivation.{state, stops, takes, keeps, nests, replaces, step_by, step}

@@ -11,7 +11,7 @@ use Rattle.std.proofs.lemmas.Bool.Decides.{nat_tests}
 use Rattle.par_lexer.specs.declared.cut.TheConstants.{LONGEST_SOURCE}
 use Rattle.par_tree.specs.Nodes.{method_nodes}
 use Rattle.par_tree.specs.Plain as plain
-use Rattle.par_tree.specs.Plain.{Class, Method, Declaration, Source}
+use Rattle.par_tree.specs.Plain.{Method, Declaration, Source}
 use Rattle.par_parser.specs.Bodies.{method_size, methods_size, declaration_size, source_size}
 use Rattle.par_typed.specs.declared.refusal.Refusal.{Refusal}
 use Rattle.par_typed.specs.First.{in_passes, first_of}

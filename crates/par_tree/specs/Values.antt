@@ -20,7 +20,7 @@ use Rattle.par_tree.specs.declared.decl.ThrowDecl.{ThrowDecl}
 use Rattle.par_tree.specs.Plain as plain
 use Rattle.par_tree.specs.Plain.{Exp, Exps, MayExp, Sta, Stas, Braces, In, MayBraces, Else, Catches}
 use Rattle.par_tree.specs.Plain.{Handler}
-use Rattle.par_tree.specs.Plain.{Local, Method, Class, Declaration, Source, place, with_exp}
+use Rattle.par_tree.specs.Plain.{Method, Class, Declaration, Source, place, with_exp}
 use Rattle.par_tree.specs.Plain.{with_sta, with_catch}
 use Rattle.par_tree.specs.Grammar.{Names, Builders, choices, otherwise}
 use Rattle.par_tree.specs.Grammar as g

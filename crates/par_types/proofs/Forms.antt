@@ -1,5 +1,5 @@
 -- The broken rules of each form of expression, as a pass finds them.
-use Rattle.std.proofs.Common.{◌≡◌, ℕ, ◌+◌, ◌++◌, List, [], ◌∷◌, Bool, true, false, not, length}
+use Rattle.std.proofs.Common.{◌≡◌, ℕ, ◌+◌, ◌++◌, List, [], ◌∷◌, true, false, not, length}
 use Rattle.std.proofs.Common.{refl, arith}
 use Rattle.std.specs.Option.{is_some}
 use Rattle.par_lexer.specs.declared.operator.BinOp.{BinOp}

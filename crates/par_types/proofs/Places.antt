@@ -1,7 +1,6 @@
 -- Rules on types are broken at places of the tree.
-use Rattle.std.proofs.Common.{ℕ, ◌+◌, ◌≤◌, Bool, true, false, not, ◌||◌, nat_eq, nat_lt, List, []}
+use Rattle.std.proofs.Common.{ℕ, ◌+◌, ◌≤◌, Bool, true, false, List, []}
 use Rattle.std.proofs.Common.{◌∷◌, ◌++◌, Option, Some, None}
-use Rattle.std.specs.Option.{is_some}
 use Rattle.std.specs.List.{AllByRecursion}
 use Rattle.par_tree.specs.declared.ident.Ident.{Ident}
 use Rattle.par_tree.specs.declared.types.TypeTree.{TypeTree}
@@ -11,7 +10,7 @@ use Rattle.par_tree.specs.declared.decl.ParamDecl.{ParamDecl}
 use Rattle.par_tree.specs.declared.decl.ThrowDecl.{ThrowDecl}
 use Rattle.par_tree.specs.Plain as plain
 use Rattle.par_tree.specs.Plain.{Exp, Exps, MayExp, Sta, Stas, Braces, In, MayBraces, Else, Catches}
-use Rattle.par_tree.specs.Plain.{Catch, NoCatch, Handler, On, Local, Method, Declaration, Source}
+use Rattle.par_tree.specs.Plain.{Catch, NoCatch, Handler, On, Local, Method, Declaration}
 use Rattle.par_tree.specs.Plain.{place}
 use Rattle.par_typed.specs.declared.ty.Ty.{Ty}
 use Rattle.par_typed.specs.declared.table.Table.{Table}
@@ -30,7 +29,7 @@ use Rattle.par_scope.specs.declared.meaning.Receiver.TheVariants as receiver
 use Rattle.par_scope.specs.declared.meaning.Callee.{Callee}
 use Rattle.par_scope.specs.Names.{Names}
 use Rattle.par_scope.specs.Locals.{Scope}
-use Rattle.par_scope.specs.Home.{Home, class_named}
+use Rattle.par_scope.specs.Home.{Home}
 use Rattle.par_scope.specs.Members.{any_value, value_of}
 use Rattle.par_scope.specs.Meaning.{param_at}
 use Rattle.par_types.specs.Fits.{is_void, operand}
@@ -38,15 +37,15 @@ use Rattle.par_typed.specs.declared.ty.Ty.TheVariants as ty
 use Rattle.par_types.specs.Exprs.{misfits, number_fault, is_number, unless_number, exception_fault}
 use Rattle.par_types.specs.Exprs.{member_fault, count_fault, misfit, expr_faults, receiver_faults}
 use Rattle.par_types.specs.Exprs.{args_faults, value_faults}
-use Rattle.par_types.specs.Stmts.{stmt_place, type_fault, throw_fault, test_faults, slot_of}
-use Rattle.par_types.specs.Stmts.{target_slot, result_slot, local_faults, assign_faults}
+use Rattle.par_types.specs.Stmts.{stmt_place, type_fault, throw_fault, slot_of}
+use Rattle.par_types.specs.Stmts.{target_slot, result_slot, local_faults}
 use Rattle.par_types.specs.Stmts.{result_faults, declares, stmt_faults, braces_faults}
 use Rattle.par_types.specs.Stmts.{may_braces_faults, else_faults, stmts_faults, catches_faults}
 use Rattle.par_types.specs.Stmts.{handler_faults}
-use Rattle.par_types.specs.Methods.{with_params, params_faults, throws_faults, fields_faults}
-use Rattle.par_types.specs.Methods.{result_fault, end_fault, body_faults, method_faults}
+use Rattle.par_types.specs.Methods.{params_faults, throws_faults, fields_faults}
+use Rattle.par_types.specs.Methods.{result_fault, body_faults}
 use Rattle.par_types.specs.Methods.{methods_faults, class_faults}
-use Rattle.par_types.specs.Program.{declaration_faults, declarations_faults, type_faults}
+use Rattle.par_types.specs.Program.{declaration_faults, declarations_faults}
 use Rattle.par_types.specs.Places.{TypesAreBrokenWithin}
 
 module _ (m : ℕ) where

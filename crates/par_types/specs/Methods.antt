@@ -1,5 +1,5 @@
 -- The rules on types in the members of a class.
-use Rattle.std.specs.Prelude.{ℕ, Bool, true, false, not, ◌||◌, List, [], ◌∷◌, ◌++◌, Option, Some}
+use Rattle.std.specs.Prelude.{ℕ, false, not, ◌||◌, List, [], ◌∷◌, ◌++◌, Option, Some}
 use Rattle.std.specs.Prelude.{None}
 use Rattle.par_tree.specs.declared.types.TypeTree.{TypeTree}
 use Rattle.par_tree.specs.declared.decl.FieldDecl.{FieldDecl}

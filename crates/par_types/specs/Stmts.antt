@@ -1,5 +1,5 @@
 -- The rules on types in statements.
-use Rattle.std.specs.Prelude.{ℕ, Bool, true, false, not, List, [], ◌∷◌, ◌++◌, Option, Some, None}
+use Rattle.std.specs.Prelude.{ℕ, Bool, true, false, not, List, [], ◌++◌, Option, Some}
 use Rattle.par_tree.specs.declared.ident.Ident.{Ident}
 use Rattle.par_tree.specs.declared.types.TypeTree.{TypeTree}
 use Rattle.par_tree.specs.declared.types.TypeTree.TheVariants as type

@@ -17,7 +17,7 @@ use Rattle.par_typed.specs.declared.ty.Ty.TheVariants as ty
 use Rattle.par_typed.specs.declared.table.ChannelInfo.{ChannelInfo}
 use Rattle.par_typed.specs.declared.table.Table.{Table}
 use Rattle.par_typed.specs.Plain as typed
-use Rattle.par_typed.specs.Plain.{Mark, TExp, MayTExp, TExps, TSta, TStas, MayTSta, TCatches}
+use Rattle.par_typed.specs.Plain.{Mark, TExp, MayTExp, TExps}
 use Rattle.par_typed.specs.Nodes.{may_nodes}
 use Rattle.par_names.specs.Exprs as names
 use Rattle.par_names.specs.Declarations.{locks, doubles}

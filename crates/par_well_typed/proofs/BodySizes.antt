@@ -8,7 +8,7 @@ use Rattle.par_tree.specs.Plain.{Sta, Block, If, While, Try, Return, Break, Cont
 use Rattle.par_tree.specs.Plain.{Close}
 use Rattle.par_tree.specs.Plain.{Declare, Assign, Do, When, Braces, In, MayBraces, NoBraces}
 use Rattle.par_tree.specs.Plain.{Else, NoElse, Otherwise, Stas, End, Then, Catches, NoCatch, Catch}
-use Rattle.par_tree.specs.Plain.{Handler, On}
+use Rattle.par_tree.specs.Plain.{On}
 use Rattle.par_tree.specs.Plain as plain
 use Rattle.par_tree.specs.Nodes as source
 use Rattle.par_typed.specs.declared.table.Table.{Table}

@@ -41,7 +41,7 @@ use Rattle.par_scope.specs.Meaning.{is_value, place_type, callee_type, arity}
 use Rattle.par_scope.specs.Meaning.{class_of, field_in, when_it_is, static_field, selected}
 use Rattle.par_scope.specs.Meaning.{callee_in, when_it_does, static_callee, object_callee, called}
 use Rattle.par_types.specs.Exprs as types
-use Rattle.par_types.specs.Exprs.{misfit, count_fault, member_fault, is_known}
+use Rattle.par_types.specs.Exprs.{count_fault, member_fault, is_known}
 use Rattle.par_types.specs.Methods.{home_of}
 use Rattle.par_annotate.specs.Frames.{Frame, Var, var_at, var_named}
 use Rattle.par_resolved.specs.Resolved.{Resolved, resolved, class_info, class_infos, table_of}

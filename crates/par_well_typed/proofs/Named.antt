@@ -17,7 +17,7 @@ use Rattle.par_typed.specs.declared.table.ChannelInfo.{ChannelInfo}
 use Rattle.par_typed.specs.declared.table.MethodInfo.{MethodInfo}
 use Rattle.par_typed.specs.declared.table.Table.{Table}
 use Rattle.par_typed.specs.Plain as typed
-use Rattle.par_typed.specs.Plain.{Mark, TExp, MayTExp, TExps, TSta, TStas, MayTSta, TCatches, mark}
+use Rattle.par_typed.specs.Plain.{Mark, TExp, MayTExp, TExps, mark}
 use Rattle.par_typed.specs.Nodes.{nodes, may_nodes}
 use Rattle.par_typed.specs.declared.refusal.Refusal.{Refusal}
 use Rattle.par_scope.specs.declared.members.Place.{Place}

@@ -7,13 +7,13 @@ use Rattle.par_tree.specs.declared.ident.Ident.{Ident}
 use Rattle.par_tree.specs.declared.decl.ParamDecl.{ParamDecl}
 use Rattle.par_tree.specs.Plain.{Exp, Int, True, False, Null, This, New, Name, Field, Call, Neg}
 use Rattle.par_tree.specs.Plain.{Not, Binary}
-use Rattle.par_tree.specs.Plain.{Exps, NoExps, More, MayExp, Absent, Present, Method, Class}
-use Rattle.par_tree.specs.Plain.{Declaration, Source}
+use Rattle.par_tree.specs.Plain.{MayExp, Absent, Present, Method, Class}
+use Rattle.par_tree.specs.Plain.{Declaration}
 use Rattle.par_tree.specs.Plain.{Sta, Block, If, While, Try, Return, Break, Continue, Throw, Open}
 use Rattle.par_tree.specs.Plain.{Close}
 use Rattle.par_tree.specs.Plain.{Declare, Assign, Do, When, Braces, In, MayBraces, NoBraces}
 use Rattle.par_tree.specs.Plain.{Else, NoElse, Otherwise, Stas, End, Then, Catches, NoCatch, Catch}
-use Rattle.par_tree.specs.Plain.{Handler, On}
+use Rattle.par_tree.specs.Plain.{On}
 use Rattle.par_tree.specs.Plain as plain
 use Rattle.par_typed.specs.declared.ty.Ty.{Ty}
 use Rattle.par_typed.specs.declared.ty.Ty.TheVariants as ty
@@ -40,8 +40,8 @@ use Rattle.par_types.specs.Stmts.{throw_fault, test_faults, slot_of, target_slot
 use Rattle.par_types.specs.Stmts.{declares, stmt_faults, braces_faults, may_braces_faults}
 use Rattle.par_types.specs.Stmts.{else_faults, stmts_faults, catches_faults, handler_faults}
 use Rattle.par_types.specs.Methods as types_methods
-use Rattle.par_types.specs.Methods.{home_of, result_fault, params_faults, throws_faults}
-use Rattle.par_types.specs.Methods.{fields_faults, end_fault, body_faults, method_faults}
+use Rattle.par_types.specs.Methods.{home_of}
+use Rattle.par_types.specs.Methods.{fields_faults, end_fault, method_faults}
 use Rattle.par_types.specs.Methods.{methods_faults, class_faults, param_slot}
 use Rattle.par_types.specs.Program.{declaration_faults, declarations_faults}
 use Rattle.par_annotate.specs.Frames.{Frame, Var, var_named, with_local, further}

@@ -12,7 +12,7 @@ use Rattle.par_annotate.specs.Points.{count_from, points, may_points, args_point
 use Rattle.par_annotate.specs.Points.{else_points, all_points, catch_points}
 use Rattle.par_annotate.proofs.Points.{count_more, count_append}
 use Rattle.par_rules.specs.Kinds as kind
-use Rattle.par_rules.specs.Kinds.{Kind, Absorber, Next, Loop, Catches, NULL_POINTER}
+use Rattle.par_rules.specs.Kinds.{Kind, Absorber, Next}
 use Rattle.par_rules.specs.Declares.{Declares, Method, Thrown}
 use Rattle.par_rules.specs.Rules.{From, Entry, After, Worth, Given, Node, node, Rules, Done, Part}
 use Rattle.par_rules.specs.Rules.{Test, Heads, Leaves, Worths, goes_on}

@@ -46,7 +46,7 @@ use Rattle.par_sources.specs.Order.{Ascend, IsInOrder}
 use Rattle.par_well_typed.specs.Numbers.{StaInRange}
 use Rattle.par_well_typed.specs.Typed.{written_in, bodies_of}
 use Rattle.par_well_typed.specs.Orderly as bodies
-use Rattle.par_well_typed.specs.Orderly.{method_at, IsBodyOf, HasMethod}
+use Rattle.par_well_typed.specs.Orderly.{method_at, HasMethod}
 use Rattle.par_well_typed.proofs.Lists.{none_left, none_right, of_both, each_is}
 use Rattle.par_well_typed.proofs.Places.{Differ, number_is, Apart, apart, apart_behind, above}
 use Rattle.par_well_typed.proofs.Places.{others_differ, differ, doubled}

@@ -18,7 +18,7 @@ use Rattle.par_typed.specs.declared.table.MethodInfo.{MethodInfo}
 use Rattle.par_typed.specs.declared.table.ClassInfo.{ClassInfo}
 use Rattle.par_typed.specs.declared.table.Table.{Table}
 use Rattle.par_typed.specs.Plain as plain
-use Rattle.par_typed.specs.Plain.{TExp, MayTExp, TExps, TSta, MayTSta, TStas, TCatches, mark}
+use Rattle.par_typed.specs.Plain.{TExp, TExps, TSta, TStas, TCatches, mark}
 use Rattle.par_rules.specs.Kinds as kind
 use Rattle.par_rules.specs.Kinds.{Kind}
 use Rattle.par_rules.specs.Declares.{Declares, Method, Thrown, NO_METHOD, declares, method_of}
@@ -28,7 +28,7 @@ use Rattle.par_rules.specs.Rules.{From, Entry, After, Node, Rules, Leaves, can}
 use Rattle.par_rules.specs.Body.{exp, args, sta, stas, catches, if_not, divides, second, skips}
 use Rattle.par_rules.specs.Body.{is_forever, thrown, called, past, tested, args_past, args_tested}
 use Rattle.par_rules.specs.Ranges as rules
-use Rattle.par_rules.specs.Ranges.{MOST, IsFromInRange, IsWorthInRange, IsInRange, AreInRange}
+use Rattle.par_rules.specs.Ranges.{MOST, IsFromInRange, IsInRange, AreInRange}
 use Rattle.par_well_typed.specs.Tables as tables
 use Rattle.par_well_typed.specs.Tables.{IsPolicy, IsLock, MayBePolicy, ClassInRange, MethodInRange}
 use Rattle.par_well_typed.specs.Tables.{LockInRange, FieldInRange, ChannelInRange, ParamInRange}

@@ -1,10 +1,10 @@
 -- What a parse of the programs' commands says of words.
-use Rattle.std.proofs.Common.{◌≡◌, true, false, List, [], Option, Some, None, Result, Ok, Err, refl}
+use Rattle.std.proofs.Common.{◌≡◌, true, false, List, [], Option, Ok, refl}
 use Rattle.std.proofs.Common.{sym, ap, subst, ◌∙◌, inl, inr}
 use Rattle.std.specs.Option.{option_map_or}
 use Rattle.std.specs.Prelude.{codes}
 use Rattle.std.specs.Str.{bytes_eq}
-use Rattle.clap.specs.Words.{App, FailsBy, HasKind, HasMatchesOf, IsAmong, Row, fault_of, first_of}
+use Rattle.clap.specs.Words.{App, FailsBy, HasKind, HasMatchesOf, IsAmong, fault_of}
 use Rattle.clap.specs.Words.{first_value, found_of, is_simple, is_simple_and_free, kind_of}
 use Rattle.clap.specs.Words.{matches_of, rows_of}
 use Rattle.clap.specs.declared.error.Error.{Error}

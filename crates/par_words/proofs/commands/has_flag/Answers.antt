@@ -1,4 +1,4 @@
-use Rattle.std.proofs.Common.{◌≡◌, Some, None, ◌∙◌}
+use Rattle.std.proofs.Common.{Some, None, ◌∙◌}
 use Rattle.clap.specs.Words.{found_of}
 use Rattle.par_words.proofs.Parsed.{flag_so}
 use Rattle.par_words.proofs.commands.has_flag.Goals as goal

@@ -1,4 +1,4 @@
-use Rattle.std.proofs.Common.{sym, ◌∙◌}
+use Rattle.std.proofs.Common.{◌∙◌}
 use Rattle.par_words.specs.Commands.{texts}
 use Rattle.par_words.proofs.Parsed.{taken_so, rows_so, refused_so}
 use Rattle.par_words.proofs.commands.taken.Goals as goal

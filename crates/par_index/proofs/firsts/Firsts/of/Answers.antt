@@ -1,5 +1,5 @@
 use Rattle.std.proofs.Common.{◌≡◌, ◌+◌, ◌<◌, true, false, cond, ◌∷◌, [], ◌++◌, length, take, Some}
-use Rattle.std.proofs.Common.{is_some, not, sym, ap, ◌∙◌, arith}
+use Rattle.std.proofs.Common.{is_some, sym, ap, ◌∙◌, arith}
 use Rattle.std.proofs.lemmas.Grind.{common_steps}
 use Rattle.std.specs.List.{position, list_any}
 use Rattle.indexmap.specs.IndexMap.{get}
