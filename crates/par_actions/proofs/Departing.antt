@@ -24,10 +24,6 @@ or_true : (b : Bool) → (b || true) ≡ true
 or_true true = refl
 or_true false = refl
 
--- a method that gives nothing is left with no result of a wrong class
-unasked : (b c : Bool) → b ≡ true → (not b && c) ≡ false
-unasked b c is = rw is refl
-
 module _ (classes : List Name) (spot : Spot) (program : Areas) (f : Frame) where
   -- ---- without a result
 

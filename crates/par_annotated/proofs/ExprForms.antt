@@ -20,12 +20,12 @@ use Rattle.par_typed.specs.Plain.{Mark}
 use Rattle.par_typed.specs.Nodes as count
 use Rattle.par_scope.specs.declared.meaning.Receiver.TheVariants.{Own}
 use Rattle.par_scope.specs.Home.{Home, class_named, class_type}
-use Rattle.par_scope.specs.Meaning.{type_of, called_on, receiver_of, selected, called, op_type}
+use Rattle.par_scope.specs.Meaning.{type_of, receiver_of, selected, op_type}
 use Rattle.par_scope.specs.Meaning.{sure}
 use Rattle.par_types.specs.declared.exprs.TheConstants.{TOO_LARGE}
 use Rattle.par_annotate.specs.Frames.{Frame, var_named}
 use Rattle.par_annotate.specs.Exprs.{numbered, mark_of, own_this, name_typed, number_of, negation}
-use Rattle.par_annotate.specs.Exprs.{selection, callee_on, call, typed_exp, typed_may, typed_args}
+use Rattle.par_annotate.specs.Exprs.{selection, call, typed_exp, typed_may, typed_args}
 use Rattle.par_annotate.specs.Exprs.{first, behind}
 use Rattle.par_annotated.specs.Ints.{one_unless, behind_minus, no_ints, may_no_ints, args_no_ints}
 
@@ -74,18 +74,6 @@ pub typed_exp_field : (home : Home) (frame : Frame) (p : ℕ) (e : Exp) (f : Ide
     false)
 unfolding typed_exp
 typed_exp_field home frame p e f at = refl
-
-pub typed_exp_call : (home : Home) (frame : Frame) (p : ℕ) (o : MayExp) (m : Ident) (es : Exps) (at
-    : ℕ) →
-    typed_exp home frame p (Call o m es at) ≡ call home (called home (called_on home frame.scope o)
-    m.name) (callee_on home (called_on home frame.scope o) (called home (called_on home frame.scope
-    o) m.name) (typed_may home frame (p + 1) o) (own_this home at (p + 1))) (typed_args home frame
-    (p + 1 + count.may_nodes
-    (callee_on home (called_on home frame.scope o) (called home (called_on home
-    frame.scope o) m.name) (typed_may home frame (p + 1) o) (own_this home at (p + 1)))) es)
-    (mark_of at p (type_of home frame.scope (Call o m es at)) false)
-unfolding typed_exp
-typed_exp_call home frame p o m es at = refl
 
 pub typed_exp_neg : (home : Home) (frame : Frame) (p : ℕ) (e : Exp) (at : ℕ) →
     typed_exp home frame p (Neg e at) ≡ negation (number_of e) (typed_exp home frame (p + 1) e)
@@ -211,36 +199,6 @@ pub no_ints_int : (n : ℕ) (at : ℕ) →
     no_ints (Int n at) ≡ one_unless (nat_lt n TOO_LARGE)
 unfolding no_ints
 no_ints_int n at = refl
-
-pub no_ints_true : (at : ℕ) →
-    no_ints (True at) ≡ 0
-unfolding no_ints
-no_ints_true at = refl
-
-pub no_ints_false : (at : ℕ) →
-    no_ints (False at) ≡ 0
-unfolding no_ints
-no_ints_false at = refl
-
-pub no_ints_null : (at : ℕ) →
-    no_ints (Null at) ≡ 0
-unfolding no_ints
-no_ints_null at = refl
-
-pub no_ints_this : (at : ℕ) →
-    no_ints (This at) ≡ 0
-unfolding no_ints
-no_ints_this at = refl
-
-pub no_ints_new : (class : Ident) (at : ℕ) →
-    no_ints (New class at) ≡ 0
-unfolding no_ints
-no_ints_new class at = refl
-
-pub no_ints_name : (n : List ℕ) (at : ℕ) →
-    no_ints (Name n at) ≡ 0
-unfolding no_ints
-no_ints_name n at = refl
 
 pub no_ints_field : (e : Exp) (f : Ident) (at : ℕ) →
     no_ints (Field e f at) ≡ no_ints e

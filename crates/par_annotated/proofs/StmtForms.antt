@@ -275,50 +275,10 @@ pub locals_in_try : (b : Braces) (cs : Catches) (at : ℕ) →
 unfolding locals_in
 locals_in_try b cs at = refl
 
-pub locals_in_return : (e : MayExp) (at : ℕ) →
-    locals_in (Return e at) ≡ 0
-unfolding locals_in
-locals_in_return e at = refl
-
-pub locals_in_break : (at : ℕ) →
-    locals_in (Break at) ≡ 0
-unfolding locals_in
-locals_in_break at = refl
-
-pub locals_in_continue : (at : ℕ) →
-    locals_in (Continue at) ≡ 0
-unfolding locals_in
-locals_in_continue at = refl
-
-pub locals_in_throw : (class : Ident) (at : ℕ) →
-    locals_in (Throw class at) ≡ 0
-unfolding locals_in
-locals_in_throw class at = refl
-
-pub locals_in_open : (lock : LockTree) (at : ℕ) →
-    locals_in (Open lock at) ≡ 0
-unfolding locals_in
-locals_in_open lock at = refl
-
-pub locals_in_close : (lock : LockTree) (at : ℕ) →
-    locals_in (Close lock at) ≡ 0
-unfolding locals_in
-locals_in_close lock at = refl
-
 pub locals_in_declare : (local : Local) (at : ℕ) →
     locals_in (Declare local at) ≡ 1
 unfolding locals_in
 locals_in_declare local at = refl
-
-pub locals_in_assign : (target : Exp) (value : Exp) (at : ℕ) →
-    locals_in (Assign target value at) ≡ 0
-unfolding locals_in
-locals_in_assign target value at = refl
-
-pub locals_in_do : (call : Exp) (at : ℕ) →
-    locals_in (Do call at) ≡ 0
-unfolding locals_in
-locals_in_do call at = refl
 
 pub locals_in_when : (lock : LockTree) (b : Braces) (o : MayBraces) (at : ℕ) →
     locals_in (When lock b o at) ≡ braces_locals b + may_braces_locals o
@@ -511,31 +471,6 @@ pub stmt_no_ints_return : (e : MayExp) (at : ℕ) →
     stmt_no_ints (Return e at) ≡ may_no_ints e
 unfolding stmt_no_ints
 stmt_no_ints_return e at = refl
-
-pub stmt_no_ints_break : (at : ℕ) →
-    stmt_no_ints (Break at) ≡ 0
-unfolding stmt_no_ints
-stmt_no_ints_break at = refl
-
-pub stmt_no_ints_continue : (at : ℕ) →
-    stmt_no_ints (Continue at) ≡ 0
-unfolding stmt_no_ints
-stmt_no_ints_continue at = refl
-
-pub stmt_no_ints_throw : (class : Ident) (at : ℕ) →
-    stmt_no_ints (Throw class at) ≡ 0
-unfolding stmt_no_ints
-stmt_no_ints_throw class at = refl
-
-pub stmt_no_ints_open : (lock : LockTree) (at : ℕ) →
-    stmt_no_ints (Open lock at) ≡ 0
-unfolding stmt_no_ints
-stmt_no_ints_open lock at = refl
-
-pub stmt_no_ints_close : (lock : LockTree) (at : ℕ) →
-    stmt_no_ints (Close lock at) ≡ 0
-unfolding stmt_no_ints
-stmt_no_ints_close lock at = refl
 
 pub stmt_no_ints_declare : (local : Local) (at : ℕ) →
     stmt_no_ints (Declare local at) ≡ no_ints local.value

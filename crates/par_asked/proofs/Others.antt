@@ -1,24 +1,14 @@
 -- Throws one by one, and classes that are not declared to be thrown.
-use Rattle.std.proofs.Common.{◌≡◌, ℕ, zero, suc, ◌+◌, ◌<◌, ◌≤◌, not, List, []}
-use Rattle.std.proofs.Common.{◌∷◌, ◌++◌, length, get_or, drop, refl, sym, ap, ◌∙◌, append_assoc}
+use Rattle.std.proofs.Common.{◌≡◌, ℕ, zero, suc, ◌+◌, not, List, []}
+use Rattle.std.proofs.Common.{◌∷◌, ◌++◌, refl, sym, ap, ◌∙◌, append_assoc}
 use Rattle.std.proofs.Common.{arith}
 use Rattle.std.specs.List.{range_with_len}
 use Rattle.std.proofs.lemmas.List.Elements.{filter-append}
-use Rattle.par_typed.specs.declared.table.ThrowInfo.{ThrowInfo}
-use Rattle.par_rules.specs.Declares.{Thrown, throws_of}
+use Rattle.par_rules.specs.Declares.{Thrown}
 use Rattle.par_rules.specs.Kinds as kind
 use Rattle.par_checks.specs.Asked.{Check, Never}
 use Rattle.par_checks.specs.Checks.{ask, leaving, others, undeclared_checks, is_thrown}
 use Rattle.par_asked.specs.Others.{unless_thrown}
-use Rattle.par_asked.proofs.Left.{left_more, left_none}
-
-pub throws_left : (ts : List ThrowInfo) (i : ℕ) (t : ThrowInfo) → i < length ts → t ≡ get_or ts i t
-    → throws_of (drop i ts) ≡ record { class = t.class; policy = t.policy } ∷ throws_of
-    (drop (i + 1) ts)
-throws_left ts i t lt is = ap throws_of (left_more ts i t lt is)
-
-pub no_throws_left : (ts : List ThrowInfo) (i : ℕ) → length ts ≤ i → throws_of (drop i ts) ≡ []
-no_throws_left ts i le = ap throws_of (left_none ts i le)
 
 range_more : (a n : ℕ) → range_with_len a (n + 1) ≡ range_with_len a n ++ (a + n) ∷ []
 range_more a zero = let same : a + 0 ≡ a = omega arith in rw same refl

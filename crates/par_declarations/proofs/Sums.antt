@@ -1,17 +1,10 @@
 -- What the first of some methods or declarations adds.
 use Rattle.std.proofs.Common.{◌≡◌, ◌+◌, List, ◌∷◌}
-use Rattle.std.specs.List.{sum_by}
 use Rattle.std.proofs.lemmas.List.Sums.{sum_by-cons}
 use Rattle.par_tree.specs.declared.decl.Decl.{Decl}
 use Rattle.par_tree.specs.declared.decl.MethodDecl.{MethodDecl}
-use Rattle.par_tree.specs.Nodes.{method_nodes}
 use Rattle.par_tree.specs.Shown.{method, methods, declared, all_declared}
 use Rattle.par_parser.specs.Bodies.{method_size, methods_size, declaration_size, source_size}
-
-pub nodes_more : (m : MethodDecl) (ms : List MethodDecl)
-    → sum_by method_nodes (methods (m ∷ ms))
-    ≡ method_nodes (method m) + sum_by method_nodes (methods ms)
-nodes_more m ms = sum_by-cons method_nodes (method m) (methods ms)
 
 pub sizes_more : (m : MethodDecl) (ms : List MethodDecl)
     → methods_size (methods (m ∷ ms)) ≡ method_size (method m) + methods_size (methods ms)

@@ -1,13 +1,10 @@
 -- Sets that are the same, and environments that differ nowhere.
-use Rattle.std.proofs.Common.{◌≡◌, ℕ, ◌<◌, ◌≤◌, Bool, true, false, List, length, refl, sym, ap, ◌∙◌}
-use Rattle.std.proofs.Common.{⊎_elim, arith}
+use Rattle.std.proofs.Common.{◌≡◌, ℕ, Bool, true, false, refl, sym, ap, ◌∙◌}
 use Rattle.std.specs.Prelude.{◌↔◌, IsTrue, nat_eq}
-use Rattle.std.proofs.lemmas.Bool.{eq-eqb, ne_eqb, cases_lt}
-use Rattle.std.proofs.lemmas.List.{get_or_past}
+use Rattle.std.proofs.lemmas.Bool.{eq-eqb, ne_eqb}
 use Rattle.std.proofs.lemmas.Nat.Bits.{bit_at-zero}
 use Rattle.par_bits.specs.Sets.{has, none, IsWithin}
 use Rattle.par_bits.proofs.Sizes.{same_members}
-use Rattle.par_envs.specs.Same.{policy, AreSame}
 
 both : (a b : Bool) → (IsTrue a → IsTrue b) → (IsTrue b → IsTrue a) → a ≡ b
 both true true f g = refl
@@ -31,14 +28,3 @@ pub told_back : (a b : ℕ) (r : Bool) → IsWithin (has a) (has b)
 told_back a b true f g = sym (eq-eqb a b (same_within a b f (g.0 refl)))
 told_back a b false f g =
     sym (ne_eqb a b (λ e. let h : false ≡ true = g.1 (within_same b a (sym e)) in cc))
-
-pub told_apart : (a b : ℕ) (r : Bool) → r ≡ false → (IsTrue r ↔ IsWithin (has a) (has b))
-    → false ≡ nat_eq a b
-told_apart a b r e g = sym (ne_eqb a b (λ s. let h : r ≡ true = g.1 (within_same a b s) in cc))
-
--- environments that agree as far as one of them reaches
-pub same_all : (d e : List ℕ) (k : ℕ) → length d ≤ k → length e ≤ k
-    → ((i : ℕ) → i < k → policy d i ≡ policy e i) → AreSame d e
-same_all d e k m n h i =
-    ⊎_elim (h i) (λ past. get_or_past d i 0 (omega arith) ∙ sym (get_or_past e i 0 (omega arith)))
-    (cases_lt i k)

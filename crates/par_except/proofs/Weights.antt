@@ -23,10 +23,6 @@ out_l : (b c : Bool) → IsTrue (b && c) → IsTrue b
 out_l true c h = refl
 out_l false c h = cc
 
-out_r : (b c : Bool) → IsTrue (b && c) → IsTrue c
-out_r true c h = h
-out_r false c h = cc
-
 gone : (b c : Bool) → c ≡ false → (b && c) ≡ false
 gone true c f = f
 gone false c f = refl

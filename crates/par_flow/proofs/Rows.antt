@@ -1,11 +1,10 @@
 -- Rows as they are kept, and the facts that they show.
-use Rattle.std.proofs.Common.{◌≡◌, ℕ, zero, suc, ◌+◌, ◌<◌, Bool, true, false, ◌&&◌, ◌||◌, not, cond}
-use Rattle.std.proofs.Common.{Option, Some, None, List, [], ◌∷◌, ◌++◌, length, get_or, take, set}
-use Rattle.std.proofs.Common.{refl, sym, ap, ◌∙◌, subst, arith, ⊎_elim}
-use Rattle.std.specs.Prelude.{is_some, nat_eq, slice_get}
+use Rattle.std.proofs.Common.{◌≡◌, ℕ, zero, suc, ◌+◌, ◌<◌, Bool, true, false, ◌&&◌, not, cond}
+use Rattle.std.proofs.Common.{Option, Some, None, List, [], ◌∷◌, ◌++◌, length, get_or, take}
+use Rattle.std.proofs.Common.{refl, sym, ap, ◌∙◌, subst, arith}
+use Rattle.std.specs.Prelude.{is_some, slice_get}
 use Rattle.std.proofs.Math.Path.{fun_ext}
-use Rattle.std.proofs.lemmas.Bool.{cases_eq, eq-eqb, ne_eqb}
-use Rattle.std.proofs.lemmas.List.{take_more, length-map, get_or-set_same, get_or-set_other}
+use Rattle.std.proofs.lemmas.List.{take_more, length-map}
 use Rattle.std.proofs.lemmas.Option.{get_or_from_slice_get, slice_get_within}
 use Rattle.par_policy.specs.Numbers.{has as is_among}
 use Rattle.par_typed.specs.declared.table.Table.{Table}
@@ -244,24 +243,3 @@ module _ (t : FactTable) (fs : List (Fact numbers)) (shown : AllShow (envs_in t)
           λ p. valued_of p (row_at t p) refl
           ∙ ap (λ l. is_some (entry_at t p) && not (is_among l p)) all;
     }
-
--- ---- flags
-
-pub flag_set : (bs cs : List Bool) (i p : ℕ) → i < length bs → cs ≡ set bs i true
-    → get_or cs p false ≡ (get_or bs p false || nat_eq i p)
-flag_set bs cs i p l e =
-    ap (λ ds. get_or ds p false) e
-    ∙ ⊎_elim
-    (λ same. ap (λ j. get_or (set bs i true) j false) same ∙ get_or-set_same bs i true false l
-    ∙ sym (ap (λ b. get_or bs p false || b) (eq-eqb i p (sym same)) ∙ always (get_or bs p false)))
-    (λ other. get_or-set_other bs i p true false other
-    ∙ sym (ap (λ b. get_or bs p false || b) (ne_eqb i p (λ s. other (sym s)))
-    ∙ never (get_or bs p false)))
-    (cases_eq p i) where
-      always : (b : Bool) → (b || true) ≡ true
-      always true = refl
-      always false = refl
-
-      never : (b : Bool) → (b || false) ≡ b
-      never true = refl
-      never false = refl

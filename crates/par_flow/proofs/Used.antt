@@ -56,9 +56,6 @@ adds_then es fs gs P Q R a b p q n l =
     (λ before. ⊎_elim (λ first. inl first) (λ named. inr (p n named)) (a n before))
     (λ named. inr (q n named)) (b n l)
 
-pub nothing_adds : (es : List (List ℕ)) (P : ℕ → Type 0) → AddsOnly es es P
-nothing_adds es P n l = inl l
-
 -- ---- throws
 
 env_or : (o p : Option KeptWay) (n : ℕ) → HasEnv n o → HasEnv n (or_else o p)

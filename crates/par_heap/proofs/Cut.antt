@@ -140,9 +140,6 @@ module _ {A : Type 0} where
   set-past (x ∷ xs) zero v le = absurd (omega arith)
   set-past (x ∷ xs) (suc i) v le = ap (λ ys. x ∷ ys) (set-past xs i v (omega arith))
 
-  set-none : (i : ℕ) (v : A) → [] ≡ set [] i v
-  set-none i v = set-past [] i v (omega arith)
-
   -- where the piece or the item is not there, nothing is written
   pub cut_kept : (c w : ℕ) (xs : List A) (n f : ℕ) (v : A) → (c ≤ n) ⊎ (w ≤ f)
       → cut c w xs ≡ set (cut c w xs) n (set (get_or (cut c w xs) n []) f v)

@@ -5,9 +5,6 @@ use Rattle.std.proofs.Common.{refl, ap, sym, ◌∙◌, subst, arith, append-nil
 use Rattle.std.proofs.Common.{drop-cons, below_more, take_all}
 use Rattle.std.specs.Borrow.{Bor}
 use Rattle.std.specs.BTreeSet.{BTreeSet}
-use Rattle.std.specs.BTreeMap.{is_at}
-use Rattle.std.specs.Cmp.Lexicographic.{slice_cmp}
-use Rattle.std.specs.Ordering.{nat_cmp}
 use Rattle.std.specs.List.{list_any, before_first, after_first}
 use Rattle.std.specs.Option.{option_map_or}
 use Rattle.std.specs.Str.{bytes_eq}
@@ -216,18 +213,6 @@ again bytes rest channels number seen entry so_far some filled is known =
     ∙ taken)
 
 -- ---- beginning and end
-
--- before the first line nothing is read
-pub none_read : (bytes : Text) (seen : BTreeSet (Bor (List ℕ))) → seen.keys ≡ []
-    → SoFar bytes bytes [] 0 seen
-none_read bytes seen empty = record {
-  few = omega arith;
-  left = refl;
-  given = refl;
-  right = record { right = λ place below. absurd (omega (arith, below)) };
-  known =
-      λ text. ap (list_any (λ key. is_at (λ other. slice_cmp nat_cmp text other.now) key)) empty;
-}
 
 -- where no bytes are left, all lines are read
 every_line : (bytes rest : Text) (number : ℕ) → drop number (lines_of bytes) ≡ lines_of rest

@@ -79,10 +79,6 @@ numbers_of-other first behind other =
 abbrev pub behind_these : List ℤ → Option (List ℤ) → Option (List ℤ)
 behind_these numbers others = option_map (λ left. numbers ++ left) others
 
-pub behind_these-none : (others : Option (List ℤ)) → others ≡ behind_these [] others
-behind_these-none None = refl
-behind_these-none (Some left) = refl
-
 -- one more number so far
 pub behind_these-push : (numbers : List ℤ) (number : ℤ) (others : Option (List ℤ))
     → behind_these numbers (before_others others number)

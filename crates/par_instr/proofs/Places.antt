@@ -107,10 +107,3 @@ begins code at op behind i next rest s =
     begins_with (next - at) op behind i
     (subst (λ (bytes : List ℕ). IsSpelled (take (next - at) bytes) i)
     (sym (take_rest code at) ∙ rest) s.spelled)
-
--- nothing stands where the code ends
-pub nothing_stands : (code : List ℕ) (at : ℕ) (i : Instr) (next : ℕ)
-    → length code ≤ at → Stands code at i next → ⊥
-nothing_stands code at i next ended s =
-    let nothing : slice_range code at next ≡ [] = grind (arith, common_steps, s.begins, s.ends) in
-    cc (nothing, s.spelled.bytes_are)

@@ -108,11 +108,6 @@ StandBut name old new = (other : List ℕ) → other ≢ name → new other ≡ 
 abbrev pub Sets : List ℕ → List ℕ → Files → Files → Type 0
 Sets name bytes old new = (new name ≡ Some bytes) × StandBut name old new
 
--- a fact about the bytes put so far, where they are told
-abbrev pub ToldBytes : Option (List ℕ) → (List ℕ → Type 0) → Type 0
-ToldBytes None P = Unit {0}
-ToldBytes (Some bytes) P = P bytes
-
 -- the bytes put so far and then these, where they are told
 abbrev pub appended : Option (List ℕ) → List ℕ → Option (List ℕ)
 appended None more = None

@@ -1,5 +1,5 @@
 -- Why a source is refused.
-use Rattle.std.proofs.Common.{◌≡◌, ◌≢◌, ℕ, ◌+◌, ◌≤◌, List, length, Ok, Err, subst, arith, refl}
+use Rattle.std.proofs.Common.{◌≡◌, ℕ, ◌+◌, ◌≤◌, List, length, Ok, Err, subst, arith, refl}
 use Rattle.std.proofs.lemmas.List.{length-drop}
 use Rattle.par_lexer.specs.declared.token.Token.{Token}
 use Rattle.par_lexer.specs.declared.token.LexError.{LexError}
@@ -8,12 +8,11 @@ use Rattle.par_lexer.specs.declared.token.LexError.TheVariants.{OpenComment, Nam
 use Rattle.par_lexer.specs.declared.token.LexError.TheVariants.{SourceTooLong, Memory}
 use Rattle.par_lexer.specs.declared.piece.Piece.{Piece}
 use Rattle.par_lexer.specs.declared.piece.Piece.TheVariants as piece
-use Rattle.par_lexer.specs.Tokens.{Outcome, Cut, ends, passes, takes, breaks, HasTokens, LexBroken}
+use Rattle.par_lexer.specs.Tokens.{Outcome, Cut, ends, passes, takes, breaks, LexBroken}
 use Rattle.par_lexer.specs.Tokens.{IsRefusal, IsPlaced}
 use Rattle.par_lexer.specs.declared.cut.TheConstants.{LONGEST_SOURCE}
 use Rattle.par_lexer.specs.Spans.{IsFaultWithin, Reaches}
 use Rattle.par_lexer.proofs.Reach.{reaches}
-use Rattle.par_lexer.proofs.Cuts.{no_fault}
 
 -- a fault in a part of a source is one in the source
 wider : (low high from to : ℕ) (error : LexError) → from ≤ low → high ≤ to
@@ -84,18 +83,3 @@ placed source error broken = in_source source error (broken_within source error 
     in_source source (NameTooLong at) within = within.1
     in_source source (SourceTooLong n) within = tt
     in_source source Memory within = tt
-
--- a source that is refused, but not for its length or want of memory, has no tokens
-pub no_tokens : (source : List ℕ) (error : LexError) (tokens : List Token) → IsRefusal source error
-    → length source ≤ LONGEST_SOURCE → error ≢ Memory → HasTokens source tokens → ⊥
-no_tokens source (BadByte at) tokens refused short other read =
-    no_fault source tokens _ read refused.1
-no_tokens source (NumberTooLarge at) tokens refused short other read =
-    no_fault source tokens _ read refused.1
-no_tokens source (OpenComment at) tokens refused short other read =
-    no_fault source tokens _ read refused.1
-no_tokens source (NameTooLong at) tokens refused short other read =
-    no_fault source tokens _ read refused.1
-no_tokens source (SourceTooLong n) tokens refused short other read =
-    absurd (omega (arith, refused.0, short))
-no_tokens source Memory tokens refused short other read = absurd (other refl)

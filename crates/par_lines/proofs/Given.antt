@@ -42,10 +42,6 @@ module _ {A : Type 0} (test : A → Bool) (x : A) (xs : List A) where
 
 -- ---- the line of a channel
 
-named : (class name : Name) (line : ChannelInput)
-    → is_channel class name (channel_of line) ≡ is_of class name line
-named class name line = refl
-
 at_place : (place : Option ℕ) (line : ChannelInput) (lines : List ChannelInput)
     → left_at (option_map suc place) (line ∷ lines) ≡ left_at place lines
 at_place None line lines = refl

@@ -1,5 +1,5 @@
 -- How the walk through code goes on behind an instruction, and where it stops.
-use Rattle.std.proofs.Common.{◌≡◌, ℕ, zero, suc, ◌+◌, ◌-◌, ◌<◌, ◌≤◌, Bool, true, false, not}
+use Rattle.std.proofs.Common.{◌≡◌, ℕ, zero, suc, ◌+◌, ◌-◌, ◌<◌, ◌≤◌, Bool, false, not}
 use Rattle.std.proofs.Common.{is_none, is_some, get_or, List, [], ◌∷◌, length, drop, Option, Some}
 use Rattle.std.proofs.Common.{None, refl, sym, ap, ◌∙◌, arith, inl, inr}
 use Rattle.std.specs.Option.{option_or}
@@ -76,10 +76,6 @@ unlisted-not (op ∷ bytes) never = in_case (operand_bytes op) refl where
   in_case : (o : Option ℕ) → operand_bytes op ≡ o → is_none o ≡ false
   in_case None e = absurd (never op (refl, e))
   in_case (Some n) e = refl
-
-pub unlisted-is : (bytes : List ℕ) (op : ℕ) → IsUnlisted bytes op → is_unlisted bytes ≡ true
-unlisted-is [] op is = absurd is
-unlisted-is (first ∷ bytes) op is = ap is_none is.1
 
 -- what is not unlisted is cut
 pub cut-some : (bytes : List ℕ) → 0 < length bytes → is_cut bytes ≡ not (is_unlisted bytes)

@@ -9,11 +9,10 @@ use Rattle.par_loader.specs.declared.error.Unloaded.TheVariants.{Absent, TooLong
 use Rattle.par_loader.specs.declared.error.Unloaded.TheVariants.{Memory}
 use Rattle.par_loader.specs.declared.loading.Loading.{Loading}
 use Rattle.par_loader.specs.Reads.{Text, Classes}
-use Rattle.par_loader.specs.Loaded.{Loaded, whole, missing, overlong, refused, absent, Load, loaded}
+use Rattle.par_loader.specs.Loaded.{Loaded, whole, Load, loaded}
 use Rattle.par_loader.specs.Judged.{linked, judged}
 use Rattle.par_loader.specs.Ends.{comes_to, Loads, main_of, Links, LinksAs, JudgesAs, Judges}
 use Rattle.par_loader.proofs.Counting.{at_most}
-use Rattle.par_loader.proofs.Ended.{IsStop, weaker}
 
 abbrev load_of : ℕ → Loaded → Load
 load_of reads end = record { reads = reads; end = end }
@@ -22,14 +21,6 @@ abbrev judging : Text → Load → Load
 judging main load = record { reads = load.reads; end = linked main load.end }
 
 module _ (classes : Classes) (main : Text) where
-  stops : (reads : ℕ) (end : Loaded) → IsStop end → comes_to (loaded classes main) reads end
-      → comes_to (judged classes main) reads end
-  stops reads (whole files) stop is = absurd stop
-  stops reads missing stop is = ap (judging main) is
-  stops reads overlong stop is = ap (judging main) is
-  stops reads (refused class number value) stop is = ap (judging main) is
-  stops reads (absent class index) stop is = ap (judging main) is
-
   module _ (before after : FolderCounts) (reads : ℕ) (makes : Makes reads 0 before after)
       (few : reads ≤ 128) (files : List ClassFile)
       (is : comes_to (loaded classes main) reads (whole files)) where
@@ -44,15 +35,6 @@ module _ (classes : Classes) (main : Text) where
     judges_as (Err Failed) links = absurd links
 
 module _ (files : Option Files) (main : Text) (before after : FolderCounts) where
-  pub judges_stop : (e : Unloaded) → Loads files main before after (Err e)
-      → Judges files main before after (Err e)
-  judges_stop e h = (
-    h.0,
-    h.1,
-    weaker (comes_to (loaded h.0 main)) (comes_to (judged h.0 main)) 128 before after
-        (stops h.0 main) e h.2,
-  )
-
   pub judges : (loading : Loading) (r : Result Linked Unloaded)
       → Loads files main before after (Ok loading) → main_of loading.files ≡ main
       → length loading.files ≤ 129

@@ -226,12 +226,6 @@ here_place files i x m within is none here =
     ap (first_among files) (sym (take-append-drop i files) ∙ ap (λ ys. take i files ++ ys) left)
     ∙ among_here files (take i files) x (drop (i + 1) files) m none here
 
-pub no_place_left : (files : List ClassFile) (i : ℕ) → length files ≤ i
-    → first_among files (take i files) ≡ None → next_named files ≡ None
-no_place_left files i past none =
-    let whole : take i files ≡ files = grind (arith, common_steps) in
-    ap (first_among files) (sym whole) ∙ none
-
 pub still_done : (files : List ClassFile) (file : ClassFile) (done : ℕ) → done ≤ length files
     → first_among files (take done files) ≡ None
     → first_among (files ++ file ∷ []) (take done (files ++ file ∷ [])) ≡ None

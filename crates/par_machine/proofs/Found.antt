@@ -41,23 +41,6 @@ point_stands files frames p same some sound =
 
 -- ---- the code of a method
 
-none_coded : (files : List ClassFile) (class method : ℕ) (c : Option CodeAttr)
-    → KnowsCode files class method c None → (code_or_none c).code ≡ []
-none_coded files class method None knows = refl
-none_coded files class method (Some c) knows = absurd knows
-
-none_listed : (files : List ClassFile) (class method : ℕ) (m : Option MethodFile)
-    → KnowsCode files class method (option_and_then (λ m. m.code) m) None
-    → (code_in m).code ≡ []
-none_listed files class method None knows = refl
-none_listed files class method (Some m) knows = none_coded files class method m.code knows
-
-pub code_unknown : (files : List ClassFile) (class method : ℕ)
-    → KnowsCode files class method (code_at files class method) None
-    → (method_code files class method).code ≡ []
-code_unknown files class method knows =
-    none_listed files class method (method_file files class method) knows
-
 pub code_known : (files : List ClassFile) (class method : ℕ) (c : Option CodeAttr) (code : Code)
     → KnowsCode files class method c (Some code) → IsCode files class method code
 code_known files class method None code knows = absurd knows

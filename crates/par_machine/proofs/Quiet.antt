@@ -33,9 +33,9 @@ use Rattle.par_actions.specs.declared.done.Done.{Done}
 use Rattle.par_actions.specs.declared.done.Done.TheVariants as done
 use Rattle.par_method_area.specs.Area.{Area}
 use Rattle.par_machine.specs.Frames.{code_of}
-use Rattle.par_machine.specs.Instructions.{is_branch, is_work}
+use Rattle.par_machine.specs.Instructions.{is_work}
 use Rattle.par_machine.specs.Quiet.{AreRows, GoesOn, IsSameMethod, is_loud, IsTried}
-use Rattle.par_machine.specs.Running.{here, below, state_in, IsSound}
+use Rattle.par_machine.specs.Running.{here, below, state_in}
 use Rattle.par_machine.specs.Settled.{turn_from}
 use Rattle.par_machine.specs.Site as site
 use Rattle.par_machine.specs.Site.{areas_at, operation_at, does, IsCome, CameTo, IsKnown}
@@ -101,15 +101,6 @@ work_quiet (instr.Invokespecial n) is = absurd (false≢true is)
 work_quiet (instr.Invokestatic n) is = absurd (false≢true is)
 work_quiet (instr.New n) is = absurd (false≢true is)
 work_quiet _ is = refl
-
-pub branch_quiet : (i : Instr) → is_branch i ≡ true → is_loud i ≡ false
-branch_quiet (instr.Putstatic n) is = absurd (false≢true is)
-branch_quiet (instr.Putfield n) is = absurd (false≢true is)
-branch_quiet (instr.Invokevirtual n) is = absurd (false≢true is)
-branch_quiet (instr.Invokespecial n) is = absurd (false≢true is)
-branch_quiet (instr.Invokestatic n) is = absurd (false≢true is)
-branch_quiet (instr.New n) is = absurd (false≢true is)
-branch_quiet _ is = refl
 
 callee_tells : (o : Operation) (m : MethodLink) → callee_of o ≡ Some m → tells o ≡ true
 callee_tells (InvokeStatic k) m is = refl
@@ -232,17 +223,6 @@ module _ (area : Area) (before : Running) (s : Site) (old : Running) (d : Done)
         method = λ went. elsewhere come.point (stood done.Jumps is refl) frames _ to;
         grown = λ class. let g = p.grown class in omega (arith, g);
       }
-
--- nothing is tried
-pub untried : (area : Area) (t : plain.Turn) (old new : Running) → IsSound area old → new ≡ old
-    → IsTried area t old false new
-untried area t old new sound same = record {
-  is = ap (state_in area.files) same;
-  sound = subst (IsSound area) (sym same) sound;
-  method = λ never. absurd (cc never);
-  grown = λ class. let h = ap (λ (r : Running). length (objects_of r.heap class)) same in
-      omega (arith, h);
-}
 
 -- the instruction at which a run stands is the one that is found there
 pub tried_found : (area : Area) (r : Running) (p : Point) (s : Site) (went : Bool) (new : Running)

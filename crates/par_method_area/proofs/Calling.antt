@@ -241,18 +241,6 @@ module _ (files : List ClassFile) (rows : List ClassRow) (exceptions : List Bool
   abbrev IsKnown : Option Callee → Option ClassFile → Type 0
   IsKnown x o = KnowsMethod (area_of files rows) (named.Method d) (method_in d.class d.place o) x
 
-  -- there is no such file
-  pub file-missing : None ≡ slice_get files d.class → IsKnown None (slice_get files d.class)
-  file-missing none = subst (λ (o : Option ClassFile). IsKnown None o) none tt
-
-  -- or no such method
-  pub method-missing : (file : ClassFile) → Some file ≡ slice_get files d.class
-      → None ≡ slice_get file.methods d.place → IsKnown None (slice_get files d.class)
-  method-missing file listed none =
-      subst (λ (o : Option ClassFile). IsKnown None o) listed
-      (subst (λ (o : Option MethodFile). KnowsMethod (area_of files rows) (named.Method d)
-      (method_link d.class file d.place o) None) none tt)
-
   -- each file and each method has a row
   pub row-there : (file : ClassFile) → Some file ≡ slice_get files d.class
       → slice_get rows d.class ≡ None → ⊥

@@ -40,12 +40,6 @@ abbrev code_of : Option MethodFile → Option CodeAttr
 code_of o = option_and_then (λ (m : MethodFile). m.code) o
 
 module _ (files : List ClassFile) (class method : ℕ) where
-  pub file-gone : None ≡ slice_get files class
-      → KnowsCode files class method (code_at files class method) None
-  file-gone none =
-      subst (λ (o : Option ClassFile).
-      KnowsCode files class method (code_of (slice_get (methods_of o) method)) None) none tt
-
   module _ (file : ClassFile) (listed : Some file ≡ slice_get files class) where
     pub method-gone : None ≡ slice_get file.methods method
         → KnowsCode files class method (code_at files class method) None

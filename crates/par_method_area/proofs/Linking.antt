@@ -13,9 +13,7 @@ use Rattle.par_link.specs.Linked.{named_in, named_at}
 use Rattle.par_link.specs.Named.{named_by}
 use Rattle.par_steps.specs.Methods.{pool_of, class_pool}
 use Rattle.par_steps.specs.Links.{link_of, link_at, number_or}
-use Rattle.par_method_area.specs.Area.{Area}
-use Rattle.par_method_area.specs.declared.known.MemberNames.{MemberNames}
-use Rattle.par_method_area.specs.Known.{KnowsField, KnowsClass, KnowsMethod, KnowsNames}
+use Rattle.par_method_area.specs.Known.{KnowsClass}
 
 module _ (files : List ClassFile) (index : ℕ) (l : Link) where
   of-entry : (entries : List Constant) (e : Option Constant)
@@ -40,26 +38,8 @@ linked files class index n is some =
 
 -- ---- an index that names nothing of a kind is nothing of it
 
-pub field-none : (classes : List Name) (l : Link) (e : Option Constant) → KnowsField classes l None
-    → KnowsField classes (number_or l e) None
-field-none classes l None known = known
-field-none classes l (Some (constant.Integer n)) known = tt
-field-none classes l (Some _) known = known
-
 pub class-none : (classes : List Name) (l : Link) (e : Option Constant) → KnowsClass classes l None
     → KnowsClass classes (number_or l e) None
 class-none classes l None known = known
 class-none classes l (Some (constant.Integer n)) known = tt
 class-none classes l (Some _) known = known
-
-pub method-none : (area : Area) (n : Named) (l : Link) (e : Option Constant)
-    → KnowsMethod area n l None → KnowsMethod area n (number_or l e) None
-method-none area n l None known = known
-method-none area n l (Some (constant.Integer k)) known = tt
-method-none area n l (Some _) known = known
-
-pub names-none : (names : MemberNames) (l : Link) (e : Option Constant) → KnowsNames l names
-    → KnowsNames (number_or l e) names
-names-none names l None known = known
-names-none names l (Some (constant.Integer n)) known = tt
-names-none names l (Some _) known = known

@@ -26,17 +26,6 @@ is-name name is =
     record { spelled = both.0; short = leb-true _ 64 both.1 }
 
 module _ (files : List ClassFile) (class place : ℕ) where
-  -- no file, no member
-  pub names-gone : (names : MemberNames) → None ≡ slice_get files class
-      → KnowsNames (field_in files class place (slice_get files class)) names
-  names-gone names none =
-      subst (λ (o : Option ClassFile). KnowsNames (field_in files class place o) names) none tt
-
-  pub method-names-gone : (names : MemberNames) → None ≡ slice_get files class
-      → KnowsNames (method_in class place (slice_get files class)) names
-  method-names-gone names none =
-      subst (λ (o : Option ClassFile). KnowsNames (method_in class place o) names) none tt
-
   module _ (file : ClassFile) (listed : Some file ≡ slice_get files class) where
     pub field-gone : (names : MemberNames) → None ≡ slice_get file.fields place
         → KnowsNames (field_in files class place (slice_get files class)) names

@@ -1,7 +1,7 @@
 -- The names and the numbers of the classes of linked files.
-use Rattle.std.proofs.Common.{◌≡◌, ℕ, zero, suc, ◌+◌, ◌-◌, ◌<◌, ◌≤◌, Bool, true, false, ◌||◌, List}
-use Rattle.std.proofs.Common.{[], ◌∷◌, ◌++◌, length, map, Option, Some, None, slice_get, refl, sym}
-use Rattle.std.proofs.Common.{ap, subst, ◌∙◌, codes, arith}
+use Rattle.std.proofs.Common.{◌≡◌, ℕ, zero, suc, ◌+◌, ◌-◌, Bool, true, false, ◌||◌, List}
+use Rattle.std.proofs.Common.{[], ◌∷◌, ◌++◌, length, map, Some, None, slice_get, refl, sym}
+use Rattle.std.proofs.Common.{ap, ◌∙◌, codes, arith}
 use Rattle.std.proofs.lemmas.Slice.Eq.{bytes_eq-Decides}
 use Rattle.std.specs.List.{position, list_any}
 use Rattle.std.specs.Str.{bytes_eq}
@@ -10,7 +10,7 @@ use Rattle.par_class.specs.declared.file.ClassFile.{ClassFile}
 use Rattle.par_link.specs.Linked.{AreLinked}
 use Rattle.par_link.proofs.Passing.{position-none, eq_turned}
 use Rattle.par_single.specs.Members.{own_name}
-use Rattle.par_values.specs.Areas.{Name, name_or_none, class_named}
+use Rattle.par_values.specs.Areas.{Name}
 use Rattle.par_steps.specs.Classes.{class_names, is_exception}
 use Rattle.par_method_area.specs.Classes.{exception_flags}
 use Rattle.par_method_area.proofs.Unbroken.{own-name}
@@ -110,41 +110,3 @@ module _ (files : List ClassFile) (linked : AreLinked files) where
       (missed-from (codes "paragon/Locks") files
       (λ c file at. eq_turned (codes "paragon/Locks") (own_name file) ∙ not-locks c file at)
       (codes "ArithmeticException" ∷ codes "NullPointerException" ∷ []) refl)
-
-  -- what a class of a file is called is a name, and so is each class
-  pub class-name : (c : ℕ) → c < length (class_names files)
-      → IsName (class_named (class_names files) c)
-  class-name c within = in_case (slice_get files c) refl where
-    behind : (some : List ClassFile) (n : ℕ) → slice_get some n ≡ None → length some ≤ n
-    behind [] n none = omega arith
-    behind (f ∷ some) zero none = absurd (cc none)
-    behind (f ∷ some) (suc n) none = let later = behind some n none in omega arith
-
-    arithmetic : IsName (codes "ArithmeticException")
-    arithmetic = record { spelled = refl; short = omega arith }
-
-    null : IsName (codes "NullPointerException")
-    null = record { spelled = refl; short = omega arith }
-
-    in_case : (o : Option ClassFile) → slice_get files c ≡ o
-        → IsName (class_named (class_names files) c)
-    in_case (Some file) at =
-        let is : own_name file ≡ class_named (class_names files) c =
-        ap name_or_none (sym (name-at files c file at)) in
-        subst IsName is (own-name files linked c file at)
-    in_case None none =
-        let past : length files ≤ c = behind files c none in
-        let two : length (class_names files) ≡ length files + 2 = many files in
-        last (c - length files) (omega arith) (omega arith)
-      where
-        last : (n : ℕ) → c ≡ length files + n → n < 2 → IsName (class_named (class_names files) c)
-        last zero is few =
-            let same : length files ≡ c = omega arith in
-            subst (λ (k : ℕ). IsName (class_named (class_names files) k)) same
-            (subst (λ (o : Option Name). IsName (name_or_none o))
-            (sym (arithmetic-at files)) arithmetic)
-        last (suc zero) is few =
-            let same : length files + 1 ≡ c = omega arith in
-            subst (λ (k : ℕ). IsName (class_named (class_names files) k)) same
-            (subst (λ (o : Option Name). IsName (name_or_none o)) (sym (null-at files)) null)
-        last (suc (suc n)) is few = absurd (omega (arith, few))

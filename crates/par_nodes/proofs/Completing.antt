@@ -315,10 +315,6 @@ pub not_popped : (old : List (List code.Kind)) (f : Kind → Bool) (fs : List (K
 not_popped [] f fs e h = cc
 not_popped (x ∷ xs) f fs e h = omega (arith, e)
 
-pub done_told : (cs : List (List code.Kind)) → cs ≡ [] → cans cs [] ≡ parts_can
-    (seen_rules rule.Done)
-done_told cs e = ap (λ l. cans l []) e ∙ sym (ap parts_can seen_done)
-
 -- a part's completions in front of those behind it
 pub boxed_told : (b : Box tree_node.Node Global) (q : Box tree.Rules Global)
     (old new : List (List code.Kind)) (js : List code.Kind) (n : tree_node.Node) (m : tree.Rules)

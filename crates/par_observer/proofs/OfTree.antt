@@ -2,7 +2,7 @@
 use Rattle.std.proofs.Common.{ℕ, ◌≤◌, List, [], ◌∷◌, length, arith, Result, Ok, Err}
 use Rattle.std.specs.Prelude.{Contains}
 use Rattle.std.specs.List.{AllByRecursion}
-use Rattle.std.specs.Result.{IfOk, IfErr}
+use Rattle.std.specs.Result.{IfErr}
 use Rattle.std.proofs.lemmas.List.Elements.{recursion_from_All, All-from_recursion, All-contains}
 use Rattle.par_lexer.specs.declared.token.Token.{Token}
 use Rattle.par_lexer.specs.declared.cut.TheConstants.{LONGEST_SOURCE}
@@ -15,13 +15,12 @@ use Rattle.par_places.specs.Law.{BeginWithin}
 use Rattle.par_places.specs.Within.{IsWithin}
 use Rattle.par_places.specs.Broken.{AreBrokenWithin}
 use Rattle.par_places.proofs.Trees.{trees_lie}
-use Rattle.par_typed.specs.declared.program.Typed.{Typed}
 use Rattle.par_observer.specs.declared.error.JudgeError.{JudgeError}
 use Rattle.par_observer.specs.declared.error.JudgeError.TheVariants.{Refused, Memory}
 use Rattle.par_observer.specs.Passes.{tree_faults}
-use Rattle.par_observer.specs.Trees.{IsAcceptedTreeAs, IsTreeRefused, BreaksRule, has_fault}
+use Rattle.par_observer.specs.Trees.{IsTreeRefused, BreaksRule, has_fault}
 use Rattle.par_observer.specs.Trees.{has_flow}
-use Rattle.par_observer.specs.Judgements.{IsTreeOf, IsAcceptedAs, IsUnread, IsRefused, has_tree}
+use Rattle.par_observer.specs.Judgements.{IsTreeOf, IsUnread, IsRefused, has_tree}
 use Rattle.par_observer.specs.Judgements.{breaks}
 use Rattle.par_observer.proofs.Placed.{tree_within, flow_within}
 
@@ -51,18 +50,6 @@ breaks_in : (m : ℕ) (tree : Source) (f : Refusal) → IsWithin m tree → Brea
 breaks_in m tree f within (has_fault first) =
     among_in m (tree_faults tree) f (tree_within m tree within) first.among
 breaks_in m tree f within (has_flow faultless first) = flow_within m tree f within first
-
-pub accepted_of_tree : {A : Type 0} (of : A → Typed) (source : List ℕ) (tokens : List Token)
-    (tree : Source) (r : Result A JudgeError) → length source ≤ LONGEST_SOURCE
-    → HasTokens source tokens → syntax.HasTree tokens tree
-    → IfOk r (λ a. IsAcceptedTreeAs tree (of a)) → IfOk r (λ a. IsAcceptedAs source (of a))
-accepted_of_tree of source tokens tree (Ok a) short cut derived keeps = record {
-  tree = tree;
-  short = short;
-  is_tree = record { tokens = tokens; cut = cut; derived = derived };
-  keeps = keeps;
-}
-accepted_of_tree of source tokens tree (Err e) short cut derived keeps = tt
 
 refused_so : (source : List ℕ) (tokens : List Token) (tree : Source) (e : JudgeError)
     → length source ≤ LONGEST_SOURCE → HasTokens source tokens → IsLaid source tokens

@@ -1,15 +1,13 @@
 -- Why a source is not judged by its meaning: the rule that is broken, and the place, which lies in
 -- the source or behind its last byte.
-use Rattle.std.proofs.Common.{◌≡◌, ℕ, ◌≤◌, List, length, Some, get_or, subst, arith, refl, ap}
-use Rattle.std.specs.Prelude.{slice_get}
-use Rattle.std.proofs.lemmas.Option.{slice_get_within, get_or_from_slice_get}
+use Rattle.std.proofs.Common.{◌≡◌, ℕ, ◌≤◌, List, length, arith, refl, ap}
 use Rattle.par_lexer.specs.declared.token.Token.{Token}
 use Rattle.par_lexer.specs.declared.token.LexError.{LexError}
 use Rattle.par_lexer.specs.declared.token.LexError.TheVariants.{BadByte, NumberTooLarge}
 use Rattle.par_lexer.specs.declared.token.LexError.TheVariants.{OpenComment, NameTooLong}
 use Rattle.par_lexer.specs.declared.token.LexError.TheVariants.{SourceTooLong, Memory}
 use Rattle.par_lexer.specs.Tokens.{HasTokens, LexBroken}
-use Rattle.par_lexer.specs.Spans.{IsFaultWithin, IsLaid, Stands}
+use Rattle.par_lexer.specs.Spans.{IsFaultWithin}
 use Rattle.par_lexer.proofs.Refusals.{broken_within}
 use Rattle.par_grammar.specs.Derivation.{Fault}
 use Rattle.par_parser.specs.Sentence.{HasFault, rule_of, before, place_of}
@@ -48,12 +46,3 @@ without_sentence source tokens fault rule at cut found rule_is place_is within =
       (record { fault = fault; found = found; rule_is = rule_is; place_is = place_is }) refl,
   within,
 )
-
--- a token begins in the source
-pub begins_within : (source : List ℕ) (tokens : List Token) (n : ℕ) (token : Token)
-    → IsLaid source tokens → slice_get tokens n ≡ Some token → token.from ≤ length source
-begins_within source tokens n token laid e =
-    let inside = slice_get_within tokens n token e in
-    let is : get_or tokens n token ≡ token = get_or_from_slice_get tokens n token token e in
-    let own : Stands source token = subst (Stands source) is (laid.stand n token inside) in
-    omega (arith, own.starts, own.ends)

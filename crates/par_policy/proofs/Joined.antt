@@ -68,10 +68,3 @@ All-gains P old new number gains all one k d inside =
     let x = get_or new k d in
     ⊎_elim (λ in_old. All-contains P old x all in_old) (λ same. subst P (sym same) one)
     ((gains x).0 (Contains-get_or new k d inside))
-
-pub All-gains_all : (P : ℕ → Type 0) (old new more : List ℕ) → GainsAll old new more → All P old
-    → All P more → All P new
-All-gains_all P old new more gains all others k d inside =
-    let x = get_or new k d in
-    ⊎_elim (λ in_old. All-contains P old x all in_old)
-    (λ in_more. All-contains P more x others in_more) ((gains x).0 (Contains-get_or new k d inside))

@@ -3,23 +3,12 @@ use Rattle.std.proofs.Common.{◌≡◌, ℕ, ◌≤◌, List, Result, sym, ap, 
 use Rattle.std.specs.Prelude.{IsTrue, ◌&&◌, IfOk}
 use Rattle.std.proofs.lemmas.Bool.{and_from}
 use Rattle.std.proofs.lemmas.Result.{IfOk-weaker}
-use Rattle.std.proofs.lemmas.List.Elements.{All-weaker}
 use Rattle.par_pool.specs.declared.constant.Constant.{Constant}
 use Rattle.par_pool.specs.declared.constant.Constant.TheVariants.{Utf8, Class, NameType}
 use Rattle.par_pool.specs.Entries.{entry_at, IsAt, IsUtf8At, IsClassAt, IsNameTypeAt, IsMemberAt}
 use Rattle.par_pool.specs.Growth.{Adds, IsClassPart, IsNameTypePart, IsNamingPart, IsMemberPart}
 use Rattle.par_pool.specs.Spelling.{is_text, is_class, is_member}
 use Rattle.par_pool.proofs.Growth.{at_kept, class_kept, name_type_kept, adds_then}
-
-adds_weaker : (a b : List Constant) (f g : ℕ) (P Q : Constant → Type 0) → Adds a b f P → f ≤ g
-    → ((x : Constant) → P x → Q x) → Adds a b g Q
-adds_weaker a b f g P Q p le w =
-    record {
-      more = p.more;
-      behind = p.behind;
-      number = omega (arith, p.number);
-      parts = All-weaker P Q w p.more p.parts;
-    }
 
 abbrev Is : Constant → Constant → Type 0
 Is wanted c = c ≡ wanted
@@ -82,12 +71,6 @@ name_type_added a k m b first second name descriptor p is-name q is-descriptor r
       at_kept m b 1 (Is (NameType first second)) r second (Utf8 descriptor) is-descriptor,
     )))
 
-pub class_naming : (a b : List Constant) (class name descriptor : List ℕ)
-    → Adds a b 2 (IsClassPart b class) → Adds a b 5 (IsNamingPart b class name descriptor)
-class_naming a b class name descriptor p =
-    adds_weaker a b 2 5 (IsClassPart b class) (IsNamingPart b class name descriptor) p (omega arith)
-    (λ x h. inl h)
-
 pub naming_added : (a m b : List Constant) (class name descriptor : List ℕ)
     → Adds a m 2 (IsClassPart m class) → Adds m b 3 (IsNameTypePart b name descriptor)
     → Adds a b 5 (IsNamingPart b class name descriptor)
@@ -95,13 +78,6 @@ naming_added a m b class name descriptor p q =
     adds_then a m b 2 3 5 (IsClassPart m class) (IsNameTypePart b name descriptor)
     (IsNamingPart b class name descriptor) p q (omega arith)
     (λ x h. inl (class-part m b 3 (IsNameTypePart b name descriptor) q class x h)) (λ x h. inr h)
-
-pub naming_alone : (form : ℕ → ℕ → Constant) (a b : List Constant) (class name descriptor : List ℕ)
-    → Adds a b 5 (IsNamingPart b class name descriptor)
-    → Adds a b 6 (IsMemberPart form b class name descriptor)
-naming_alone form a b class name descriptor p =
-    adds_weaker a b 5 6 (IsNamingPart b class name descriptor)
-    (IsMemberPart form b class name descriptor) p (omega arith) (λ x h. inl h)
 
 pub member_added : (form : ℕ → ℕ → Constant) (a m b : List Constant) (owner member : ℕ)
     (class name descriptor : List ℕ) → Adds a m 5 (IsNamingPart m class name descriptor)
@@ -126,13 +102,6 @@ pub texts_refer : (k m : List Constant) (first second : ℕ) (name descriptor : 
 texts_refer k m first second name descriptor is-name q is-descriptor =
     and_from _ _ (ap is_text (at_kept k m 1 (Is (Utf8 descriptor)) q first (Utf8 name) is-name))
     (ap is_text is-descriptor)
-
--- a class, and a name and descriptor, are there
-pub naming_refers : (m : List Constant) (owner member : ℕ) (class name descriptor : List ℕ)
-    → IsClassAt m owner class → IsNameTypeAt m member name descriptor
-    → IsTrue (is_class (entry_at m owner) && is_member (entry_at m member))
-naming_refers m owner member class name descriptor is-class is-member =
-    and_from _ _ (ap is_class is-class.entry) (ap is_member is-member.entry)
 
 -- the entry of a name and a descriptor names them
 pub name_type_named : (k m b : List Constant) (index first second : ℕ) (name descriptor : List ℕ)

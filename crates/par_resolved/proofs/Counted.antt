@@ -26,10 +26,3 @@ pub sum_more : (n : ℕ) (decls : List (Bor LockDecl)) (i : ℕ) (r : Bor LockDe
 sum_more n decls i r inside is =
     ap (λ ds. sum_by (ground_count n) (all_of ds)) (drop_more decls i r inside is)
     ∙ sum_by-cons (ground_count n) r.now (all_of (drop (i + 1) decls))
-
-pub firsts_more : (n first : ℕ) (decls : List (Bor LockDecl)) (i : ℕ) (r : Bor LockDecl)
-    → i < length decls → r ≡ get_or decls i r
-    → firsts_from n first (all_of (drop i decls))
-    ≡ first ∷ firsts_from n (first + ground_count n r.now) (all_of (drop (i + 1) decls))
-firsts_more n first decls i r inside is =
-    ap (λ ds. firsts_from n first (all_of ds)) (drop_more decls i r inside is)

@@ -4,7 +4,7 @@ use Rattle.std.proofs.Common.{◌∙◌, subst}
 use Rattle.par_bits.specs.Sets.{Set, has, none, union}
 use Rattle.par_rules.specs.Lattice.{numbers}
 use Rattle.par_rules.specs.Kinds.{Kind, normal, absorbed, Absorber}
-use Rattle.par_rules.specs.Facts.{Fact, blank}
+use Rattle.par_rules.specs.Facts.{Fact}
 use Rattle.par_rules.specs.Rules.{From, Worth, Node, node, Rules, Done, Part, Test, Heads, Leaves}
 use Rattle.par_rules.specs.Rules.{Worths, spot, way, worth}
 use Rattle.par_except.specs.declared.way.Way as code_way
@@ -184,18 +184,6 @@ node_goes h p rules w so got r m0 m1 m2 eh ep ev ex go end =
     let a = subst (λ z. Passed got z m0 m1) e (go [] m0 (took_none m0)) in
     let b = end (pass_all h rules w None [] nothing).events m0 a.noted a.wide in
     subst (λ z. Passed r (ended p w z) m0 m2) (found_as _ _ _ _ _ _ a.value a.exits refl) b
-
--- a node that is not reached
-pub blank_goes : (p : ℕ) (f : Way → plain.Found) (r : Found) (m n : Notes) → has r.value ≡ none
-    → r.exits.items ≡ [] → Took (Row p (blank numbers) ∷ []) m n → AreWide m.locals []
-    → Passed r (visited None p f) m n
-blank_goes p f r m n ev ex t x =
-    record {
-      value = ev;
-      exits = ap seen_exits ex;
-      wide = subst (AreWide m.locals) (sym ex) x;
-      noted = t;
-    }
 
 -- the end of a node
 pub finish_goes : (p : ℕ) (w : Way) (found r : Found) (slice : List code_exit.Exit) (m1 m2 : Notes)

@@ -84,6 +84,3 @@ then {l} {k} {m} {n} {o} p q = record {
       subst (λ j. total j o.heads.items < total j n.heads.items) p.locals
       (q.rises (middle h) (small_back l k s) g f) in
       let a = p.falls h (small_front l k s) in omega (arith, a, b)
-
-pub took_as : {l k : List Event} {m n : Notes} → Took l m n → l ≡ k → Took k m n
-took_as {l} {k} {m} {n} t e = subst (λ j. Took j m n) e t

@@ -85,9 +85,6 @@ pub record AreNone (n : ℕ) (xs : List (Option code.Way)) : Type 0 where
   pub none : (i : ℕ) → get_or xs i None ≡ None
   pub wide : (k : ℕ) → AreHeadsWide k xs
 
-pub none_yet : AreNone 0 []
-none_yet = record { size = refl; none = λ i. refl; wide = λ k i x h. absurd (omega (arith, h)) }
-
 push_size : (xs : List (Option code.Way)) (n : ℕ) → length xs ≡ n → length (xs ++ None ∷ []) ≡ n + 1
 push_size [] n e = omega (arith, e)
 push_size (x ∷ xs) zero e = absurd (omega (arith, e))

@@ -24,9 +24,6 @@ flip a b =
     ⊎_elim (λ e. e.0 ∙ sym (eq-eqb b a (sym e.1))) (λ e. e.0 ∙ sym (ne_eqb b a (λ q. e.1 (sym q))))
     (eqb_tells a b)
 
-among_cons : (x : ℕ) (xs : List ℕ) (n : ℕ) → is_among (x ∷ xs) n ≡ (nat_eq x n || is_among xs n)
-among_cons x xs n = refl
-
 in_list : (xs : List ℕ) (i x d : ℕ) → i < length xs → x ≡ get_or xs i d → IsTrue (is_among xs x)
 in_list [] i x d h e = absurd (omega (arith, h))
 in_list (y ∷ xs) zero x d h e = first (nat_eq y x) (is_among xs x) (eq-eqb y x (sym e)) where

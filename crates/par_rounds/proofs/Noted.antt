@@ -19,7 +19,7 @@ use Rattle.par_pass.specs.Pass.{HeadWays, Row, Into}
 use Rattle.par_pass.specs.Written.{blanks, table}
 use Rattle.par_rounds.specs.declared.fact.Fact as code_fact
 use Rattle.par_rounds.specs.declared.notes.Notes.{Notes}
-use Rattle.par_rounds.specs.Seen.{seen_fact, seen_facts, ways_of, AreHeadsWide, AreWide}
+use Rattle.par_rounds.specs.Seen.{seen_fact, seen_facts, ways_of, AreHeadsWide}
 use Rattle.par_rounds.specs.Seen.{IsRowWide, AreRowsWide}
 use Rattle.par_rounds.specs.Took.{joined, total, HaveSmallLocks, AreSmall, Took}
 use Rattle.par_rounds.proofs.Heads.{heads_set, head_falls, total_falls}
@@ -156,17 +156,6 @@ push_fact xs f n g e =
 pub push_blank : (xs ys : List code_fact.Fact) (f : code_fact.Fact) (n : ℕ) → ys ≡ xs ++ f ∷ []
     → seen_fact f ≡ blank numbers → seen_facts xs ≡ blanks n → seen_facts ys ≡ blanks (n + 1)
 push_blank xs ys f n e g h = ap seen_facts e ∙ push_fact xs f n g h ∙ ap blanks (sym (add-one n))
-
--- what is kept of a point that is not reached has no ways
-pub no_row_wide : (f : code_fact.Fact) → f.entry ≡ None → f.exits.items ≡ [] → (n : ℕ)
-    → IsRowWide n f
-no_row_wide f e x n = (
-  subst (MayHaveLocals n) (sym e) tt,
-  subst (AreWide n) (sym x) (λ i d h. absurd (omega (arith, h))),
-)
-
-pub no_rows_wide : (xs : List code_fact.Fact) → xs ≡ [] → (n : ℕ) → AreRowsWide n xs
-no_rows_wide xs e n = subst (AreRowsWide n) (sym e) (λ i d h. absurd (omega (arith, h)))
 
 pub push_wide : (xs ys : List code_fact.Fact) (f : code_fact.Fact) → ys ≡ xs ++ f ∷ []
     → ((n : ℕ) → IsRowWide n f) → ((n : ℕ) → AreRowsWide n xs) → (n : ℕ) → AreRowsWide n ys

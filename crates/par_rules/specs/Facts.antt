@@ -2,7 +2,7 @@
 use Rattle.std.specs.Prelude.{ℕ, Option, None}
 use Rattle.par_rules.specs.Lattice.{Lattice}
 use Rattle.par_rules.specs.Kinds.{Kind}
-use Rattle.par_rules.specs.Ways.{Way, MayFlow}
+use Rattle.par_rules.specs.Ways.{Way}
 
 module _ (P : Lattice) where
   -- the entering way of a point that is reached, the value of an expression, and the way of each
@@ -18,12 +18,3 @@ module _ (P : Lattice) where
 
   abbrev pub Facts : Type 0
   Facts = ℕ → Fact
-
-  -- the second is at least as high: policies are above, and lock sets lie within
-  pub record IsHigher (f g : Fact) : Type 0 where
-    pub entry : MayFlow P f.entry g.entry
-    pub value : P.IsBelow f.value g.value
-    pub exit : (k : Kind) → MayFlow P (f.exit k) (g.exit k)
-
-  abbrev pub AreHigher : Facts → Facts → Type 0
-  AreHigher a b = (point : ℕ) → IsHigher (a point) (b point)

@@ -1,5 +1,5 @@
 -- What the loop over instructions keeps: the run is under way, and what is put tells of it.
-use Rattle.std.proofs.Common.{◌≡◌, ℕ, suc, ◌+◌, ◌≤◌, Option, Err, Bool, refl, sym, ap}
+use Rattle.std.proofs.Common.{◌≡◌, ℕ, suc, ◌+◌, ◌≤◌, Option, Bool, refl, sym, ap}
 use Rattle.std.proofs.Common.{subst, ◌∙◌, inl, inr, arith}
 use Rattle.std.specs.Prelude.{IsTrue}
 use Rattle.par_io.specs.Causes.{SinkCounts, Rose}
@@ -16,7 +16,7 @@ use Rattle.par_runner.specs.Outcome.{outcome}
 use Rattle.par_runner.specs.Running.{runs_of}
 use Rattle.par_runner.specs.Progress.{IsUnderWay}
 use Rattle.par_runner.specs.Telling.{GoesOn, silently, happened, ClosesBy, IsUntoldTurn}
-use Rattle.par_runner.specs.Telling.{PutsAreTold, IsTold, IsCutOff, Closes, closed, unclosed}
+use Rattle.par_runner.specs.Telling.{IsTold, IsCutOff, Closes, closed, unclosed}
 use Rattle.par_runner.specs.Telling.{status_of_untold}
 use Rattle.par_runner.proofs.Steps.{silent_runs}
 use Rattle.par_runner.proofs.UnderWay.{begun, goes_on, happens, unput, cut_short, first_lines, ends}
@@ -34,12 +34,6 @@ pub record IsTelling (alone : Bool) (first : Machine) (steps left : ℕ) (m : Ma
 rose_since : (a b c : ℕ) → a ≤ b → Rose b c → Rose a c
 rose_since a b c le (inl less) = inl (omega arith)
 rose_since a b c le (inr last) = inr last
-
--- the puts up to a point are told, and none failed before another point
-pub told_since : (u : Untold) (a b c : ℕ) → b ≡ a → PutsAreTold {T = Closing} (Err u) b c
-    → PutsAreTold {T = Closing} (Err u) a c
-told_since Fault a b c stand told = tt
-told_since Memory a b c stand told = told ∙ stand
 
 module _ (alone : Bool) (first : Machine) (steps : ℕ) (old : Option Text)
     (before : SinkCounts) where

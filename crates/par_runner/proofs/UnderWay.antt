@@ -34,10 +34,6 @@ length-event_lines : (es : List Event) → length (event_lines es) ≡ length es
 length-event_lines [] = refl
 length-event_lines (e ∷ es) = ap suc (length-event_lines es)
 
-text-after : (es : List Event) (r : Ran)
-    → concat (lines (after es r)) ≡ concat (event_lines es) ++ concat (lines r)
-text-after es r = ap concat (lines-after es r) ∙ concat-append (event_lines es) (lines r)
-
 one_more : (es : List Event) (e : Event)
     → concat (event_lines (es ++ e ∷ [])) ≡ concat (event_lines es) ++ line (event_text e)
 one_more es e =

@@ -49,9 +49,3 @@ module _ (o : Observer) where
       → (b ≡ false → Agree xs ys) → Agree (cond b (x ∷ xs) xs) (cond b (y ∷ ys) ys)
   agree_both true x y xs ys seen unseen = seen refl
   agree_both false x y xs ys seen unseen = unseen refl
-
-  -- an event of one run that is not seen
-  pub agree_skip : (b : Bool) (x : Witnessed) (xs ys : List Witnessed) → b ≡ false → Agree xs ys
-      → Agree (cond b (x ∷ xs) xs) ys
-  agree_skip true x xs ys e h = cc
-  agree_skip false x xs ys e h = h

@@ -1,5 +1,5 @@
 -- What an observer sees of joins of policies, with open locks that it has.
-use Rattle.std.proofs.Common.{ℕ, List, [], ◌∷◌, ◌++◌, Contains, refl, sym, subst}
+use Rattle.std.proofs.Common.{ℕ, List, [], ◌∷◌, ◌++◌, Contains, refl, subst}
 use Rattle.std.specs.Prelude.{IsTrue}
 use Rattle.std.specs.List.{list_all}
 use Rattle.std.proofs.lemmas.Bool.{and_parts, and_from}
@@ -27,14 +27,6 @@ module _ (o : Observer) where
   seen_right ps qs h =
       (and_parts (list_all (sees o) ps) (list_all (sees o) qs)
       (subst IsTrue (list_all-append (sees o) ps qs) h)).1
-
-  pub seen_both : (ps qs : List Policy) → Seen ps → Seen qs → Seen (ps ++ qs)
-  seen_both ps qs h k =
-      subst IsTrue (sym (list_all-append (sees o) ps qs))
-      (and_from (list_all (sees o) ps) (list_all (sees o) qs) h k)
-
-  pub seen_alone : (p : Policy) → IsTrue (sees o p) → Seen (p ∷ [])
-  seen_alone p h = and_from (sees o p) _ h refl
 
   -- locks that the observer has add nothing
   has_anyway : (opened : List ℕ) → IsTrue (within opened o.locks)

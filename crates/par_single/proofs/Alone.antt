@@ -1,25 +1,21 @@
 -- What is known of a file that runs by itself.
-use Rattle.std.proofs.Common.{◌≡◌, ℕ, Bool, true, false, not, ◌&&◌, ◌||◌, if◌then◌else◌, List, Some}
-use Rattle.std.proofs.Common.{None, Option, slice_get, is_some, IsTrue, refl, sym, ap, ◌∙◌, subst}
+use Rattle.std.proofs.Common.{◌≡◌, ℕ, Bool, true, false, not, ◌&&◌, ◌||◌, Some}
+use Rattle.std.proofs.Common.{None, Option, slice_get, is_some, IsTrue, refl, sym, ap, ◌∙◌}
 use Rattle.std.proofs.lemmas.Bool.{and_parts, not-true}
-use Rattle.std.proofs.lemmas.Slice.Eq.{bytes_eq-Decides}
 use Rattle.std.specs.List.{list_all}
 use Rattle.std.specs.Str.{bytes_eq}
 use Rattle.par_lexer.specs.Names.{IsName, is_name}
-use Rattle.par_lexer.proofs.NameTests.{is_name-IsName}
-use Rattle.par_pool.specs.declared.constant.Constant.{Constant}
 use Rattle.par_class.specs.declared.file.CodeAttr.{CodeAttr}
-use Rattle.par_class.specs.declared.file.FieldFile.{FieldFile}
 use Rattle.par_class.specs.declared.file.MethodFile.{MethodFile}
 use Rattle.par_class.specs.declared.file.ClassFile.{ClassFile}
 use Rattle.par_class.specs.Spelling.{is_native}
-use Rattle.par_single.proofs.Owned.{found_at, each_passes}
-use Rattle.par_single.specs.Descriptors.{Text, field_kind, method_signature}
-use Rattle.par_single.specs.Members.{text_at, own_name, own_field, own_method, Member, field_place}
-use Rattle.par_single.specs.Members.{method_place, is_static, is_field_of, is_method_of}
+use Rattle.par_single.proofs.Owned.{each_passes}
+use Rattle.par_single.specs.Descriptors.{Text, method_signature}
+use Rattle.par_single.specs.Members.{text_at, own_name, Member}
+use Rattle.par_single.specs.Members.{method_place, is_static}
 use Rattle.par_single.specs.Single.{none, is_bare, is_plain_method, is_plain, is_taken}
 use Rattle.par_single.specs.Single.{members_differ, is_field_right, is_method_right}
-use Rattle.par_single.specs.Single.{is_channel_right, is_of_channel, is_described, is_found}
+use Rattle.par_single.specs.Single.{is_channel_right, is_described, is_found}
 use Rattle.par_single.specs.Single.{is_begun_with, method_in, main_member, runs_alone}
 use Rattle.par_single.specs.Walk.{walks}
 
@@ -66,74 +62,15 @@ alone file main runs =
       begun = tests.7;
     }
 
-if-some : (test : Bool) (o : Option ℕ) (place : ℕ) → (if test then o else None) ≡ Some place
-    → (test ≡ true) × (o ≡ Some place)
-if-some true o place is = (refl, is)
-if-some false o place is = absurd (cc is)
-
--- the class of the file has a name
-own_name-IsName : (file : ClassFile) (main : Text) → Alone file main → IsName (own_name file)
-own_name-IsName file main a =
-    let same : own_name file ≡ main = (bytes_eq-Decides (own_name file) main).0 a.own in
-    subst IsName (sym same) (is_name-IsName main a.name)
-
 -- A member that the file has is named by names.
 pub record Names (m : Member) : Type 0 where
   pub class : IsName m.class
   pub name : IsName m.name
 
-names_field : (entries : List Constant) (m : Member) (f : FieldFile)
-    → is_field_right entries f ≡ true → is_field_of entries m f ≡ true → IsName m.name
-names_field entries m f right of =
-    let is =
-    and_parts (is_name (text_at entries f.name))
-    (is_some (field_kind (text_at entries f.descriptor))) right in
-    let same =
-    and_parts (bytes_eq (text_at entries f.name) m.name)
-    (bytes_eq (text_at entries f.descriptor) m.descriptor) of in
-    subst IsName ((bytes_eq-Decides (text_at entries f.name) m.name).0 same.0)
-    (is_name-IsName (text_at entries f.name) is.0)
-
-class-IsName : (file : ClassFile) (main class : Text) → Alone file main
-    → bytes_eq (own_name file) class ≡ true → IsName class
-class-IsName file main class a own =
-    subst IsName ((bytes_eq-Decides (own_name file) class).0 own) (own_name-IsName file main a)
-
-pub own_field-names : (file : ClassFile) (main : Text) (m : Member) (place : ℕ)
-    → IsTrue (runs_alone file main)
-    → own_field file m ≡ Some place → Names m
-own_field-names file main m place runs is =
-    let a = alone file main runs in
-    let own = if-some (bytes_eq (own_name file) m.class) (field_place file m) place is in
-    let found = found_at (is_field_of file.pool.entries m) file.fields place own.1 in
-    let each =
-    and_parts (list_all (is_field_right file.pool.entries) file.fields)
-    (list_all (is_method_right file.pool.entries) file.methods) a.described in
-    let right =
-    each_passes (is_field_right file.pool.entries) file.fields place found.item each.0
-    found.stands in
-    record {
-      class = class-IsName file main m.class a own.0;
-      name = names_field file.pool.entries m found.item right found.passes;
-    }
-
 -- a native method is a channel
 channel : (native channel : Bool) → (not native || channel) ≡ true → native ≡ true → channel ≡ true
 channel true c either native = either
 channel false c either native = absurd (cc native)
-
-names_channel : (entries : List Constant) (m : Member) (f : MethodFile)
-    → is_channel_right entries f ≡ true → is_method_of entries m f ≡ true → IsName m.name
-names_channel entries m f right of =
-    let two =
-    and_parts (is_name (text_at entries f.name) && is_static f.access)
-    (is_of_channel (text_at entries f.descriptor)) right in
-    let is = and_parts (is_name (text_at entries f.name)) (is_static f.access) two.0 in
-    let same =
-    and_parts (bytes_eq (text_at entries f.name) m.name)
-    (bytes_eq (text_at entries f.descriptor) m.descriptor) of in
-    subst IsName ((bytes_eq-Decides (text_at entries f.name) m.name).0 same.0)
-    (is_name-IsName (text_at entries f.name) is.0)
 
 -- a method of a file that runs by itself is right
 pub method_right : (file : ClassFile) (main : Text) (place : ℕ) (f : MethodFile)
@@ -172,28 +109,6 @@ code_bare file main place f runs stands =
     (list_all is_plain_method file.methods) two.0 in
     (and_parts (none f.attributes) (is_bare f.code)
     (each_passes is_plain_method file.methods place f one.1 stands)).1
-
-pub own_method-class : (file : ClassFile) (main : Text) (m : Member) (place : ℕ)
-    → IsTrue (runs_alone file main)
-    → own_method file m ≡ Some place → IsName m.class
-own_method-class file main m place runs is =
-    let own = if-some (bytes_eq (own_name file) m.class) (method_place file m) place is in
-    class-IsName file main m.class (alone file main runs) own.0
-
-pub own_method-channel : (file : ClassFile) (main : Text) (m : Member) (place : ℕ) (f : MethodFile)
-    → IsTrue (runs_alone file main)
-    → own_method file m ≡ Some place → slice_get file.methods place ≡ Some f
-    → is_native f.access ≡ true → Names m
-own_method-channel file main m place f runs is stands native =
-    let own = if-some (bytes_eq (own_name file) m.class) (method_place file m) place is in
-    let found = found_at (is_method_of file.pool.entries m) file.methods place own.1 in
-    let same : found.item ≡ f = cc (found.stands, stands) in
-    record {
-      class = own_method-class file main m place runs is;
-      name =
-          names_channel file.pool.entries m f (channel_right file main place f runs stands native)
-          (ap (is_method_of file.pool.entries m) (sym same) ∙ found.passes);
-    }
 
 -- so code of a method is listed instructions to its end
 pub code_walks : (file : ClassFile) (main : Text) (place : ℕ) (f : MethodFile) (code : CodeAttr)

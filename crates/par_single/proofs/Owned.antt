@@ -104,10 +104,6 @@ method_among-there file m =
 
 -- ---- what a place of the file is linked to
 
-pub field_among-none : (file : ClassFile) (m : Member) → own_field file m ≡ None
-    → field_among 0 (file ∷ []) m ≡ link.Other
-field_among-none file m is = field_among-own file m ∙ ap (field_found 0 m file) is
-
 pub field_among-at : (file : ClassFile) (m : Member) (place : ℕ) (o : Option FieldFile)
     → own_field file m ≡ Some place → slice_get file.fields place ≡ o
     → field_among 0 (file ∷ []) m ≡ field_link 0 m place o

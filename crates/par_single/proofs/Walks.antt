@@ -8,7 +8,6 @@ use Rattle.std.proofs.lemmas.Grind.{common_steps}
 use Rattle.par_instr.proofs.Decodings.{IsWithin, decoded-within}
 use Rattle.par_instr.specs.Decoding.{Decoded, sized, decoded, decoded_at}
 use Rattle.par_instr.specs.Spelling.{operand_bytes}
-use Rattle.par_instr.specs.declared.instr.Instr.{Instr}
 use Rattle.par_single.specs.StraightLine.{is_straight_line}
 use Rattle.par_single.specs.Walk.{if_listed, is_straight, walks_after, walks, starts_after}
 use Rattle.par_single.specs.Walk.{starts_at}
@@ -275,69 +274,3 @@ decoded_at-within code at d found =
       grind (arith, common_steps, within.some, within.all),
       grind (arith, common_steps, within.some, within.all),
     )
-
--- ---- what a loop along the code knows
-
--- code is a walk where it is one behind its first instruction
-walks-head : (code : List ℕ) (d : Decoded) → decoded code ≡ Some d
-    → walks code ≡ (is_straight_line d.instr && walks (drop d.size code))
-walks-head [] d found = absurd (cc found)
-walks-head (byte ∷ bytes) d found = walks-behind byte bytes ∙ ap (behind walks (byte ∷ bytes)) found
-
-walks-at : (code : List ℕ) (at next : ℕ) (i : Instr) → at < next
-    → decoded_at code at ≡ Some (record { instr = i; size = next - at })
-    → walks (drop at code) ≡ (is_straight_line i && walks (drop next code))
-walks-at code at next i further found =
-    let same : drop (next - at) (drop at code) ≡ drop next code = grind (arith, common_steps) in
-    walks-head (drop at code) (record { instr = i; size = next - at }) found
-    ∙ ap (λ (bytes : List ℕ). is_straight_line i && walks bytes) same
-
-pub walks-on : (code : List ℕ) (at next : ℕ) (i : Instr) → at < next → is_straight_line i ≡ true
-    → decoded_at code at ≡ Some (record { instr = i; size = next - at })
-    → walks (drop next code) ≡ walks (drop at code)
-walks-on code at next i further straight found =
-    sym (walks-at code at next i further found
-    ∙ ap (λ (b : Bool). b && walks (drop next code)) straight)
-
--- it is none where another instruction stands
-pub walks-off : (code : List ℕ) (at next : ℕ) (i : Instr) → at < next → is_straight_line i ≡ false
-    → decoded_at code at ≡ Some (record { instr = i; size = next - at })
-    → walks (drop at code) ≡ false
-walks-off code at next i further other found =
-    walks-at code at next i further found ∙ ap (λ (b : Bool). b && walks (drop next code)) other
-
-stuck : (bytes : List ℕ) → 0 < length bytes → decoded bytes ≡ None → walks bytes ≡ false
-stuck [] some none = absurd (omega arith)
-stuck (byte ∷ bytes) some none = walks-behind byte bytes ∙ ap (behind walks (byte ∷ bytes)) none
-
--- nor where none stands before its end
-pub walks-stuck : (code : List ℕ) (at : ℕ) → at < length code → decoded_at code at ≡ None
-    → walks (drop at code) ≡ false
-walks-stuck code at inside none = stuck (drop at code) (grind (arith, common_steps)) none
-
--- it is one where nothing is left
-pub walks-end : (code : List ℕ) (at : ℕ) → length code ≤ at → walks (drop at code) ≡ true
-unfolding walks_after
-walks-end code at ended =
-    let nothing : drop at code ≡ [] = grind (arith, common_steps) in ap walks nothing
-
--- ---- the same of each offset that a frame comes to
-
--- An offset is a start exactly where it is inside the code.
-abbrev pub IsStep : List ℕ → ℕ → Type 0
-IsStep code at = starts_at code at ≡ nat_lt at (length code)
-
-pub first_step : (code : List ℕ) → walks code ≡ true → IsStep code 0
-first_step code w =
-    elim (cases_lt 0 (length code)) as (λ _. IsStep code 0) [
-      | inl some ↦ starts-first code w some ∙ sym (lt-ltb 0 (length code) some)
-      | inr ended ↦ starts-none code 0 ended ∙ sym (le-ltb 0 (length code) ended)
-    ]
-
--- so is the one behind an instruction
-pub next_step : (code : List ℕ) (at : ℕ) (d : Decoded) → walks code ≡ true → IsStep code at
-    → decoded_at code at ≡ Some d
-    → IsStep code (at + d.size)
-next_step code at d w step found =
-    starts-next code at d w (step ∙ lt-ltb at (length code) (decoded_at-within code at d found).0)
-    found

@@ -30,12 +30,6 @@ further lo mid hi [] le h = omega (arith, le, h)
 further lo mid hi (at ∷ places) le h =
     (wider lo mid hi at le h.0, further (suc at) mid hi places le h.1)
 
--- the bounds are in order
-pub spans : (lo hi : ℕ) (places : List ℕ) → Climb lo hi places → lo ≤ hi
-spans lo hi [] h = h
-spans lo hi (at ∷ places) h =
-    let own : Lies lo hi at = h.0 in omega (arith, own.above, own.below)
-
 pub ascends : (before lo hi : ℕ) (places : List ℕ) → before < lo → Climb lo hi places
     → Ascend before places
 ascends before lo hi [] lt h = tt

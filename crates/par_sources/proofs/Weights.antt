@@ -115,10 +115,6 @@ result_within : (r : Option TypeTree) → result_size r ≤ written_result r + 2
 result_within None = omega arith
 result_within (Some t) = type_within t
 
-way_within : (b : Bool) → cond b 3 4 ≤ 4
-way_within true = omega arith
-way_within false = omega arith
-
 -- ---- builders of declarations
 
 next_decl_pays : (vs : Values) → Fine vs → Pays 0 vs (next_decl vs)

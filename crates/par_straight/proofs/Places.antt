@@ -29,7 +29,6 @@ use Rattle.par_straight.specs.Values.{statements, clauses, whole, read_kind, str
 use Rattle.par_straight.specs.Values as value
 use Rattle.par_straight.specs.Names.{Name, Scope, place, declares, numbered_steps, scope_of}
 use Rattle.par_straight.specs.Rules.{Facts, FirstBroken}
-use Rattle.par_straight.specs.Rules.{IsRefused}
 use Rattle.par_straight.specs.Rules as first
 use Rattle.par_straight.specs.Judged.{HasProgram}
 use Rattle.par_straight.specs.Places.{places, Breaks, here, later}
@@ -334,14 +333,6 @@ program_ascends source p x =
     tokens_ascend source 0 x.tokens there.stand there.in_order (λ k d inside. omega arith) in
     program_places (Ascends 0) (λ a b some h. some_ascend some 0 h) source p x tokens
 
--- each place lies in the source
-program_within : (source : List ℕ) (p : Program) → HasProgram source p
-    → AreBelow (length source) (places p.steps)
-program_within source p x =
-    program_places (AreBelow (length source))
-    (λ a b some h. some_below some (length source) h) source p x
-    (tokens_below source x.tokens (laid source x.tokens x.cut).stand)
-
 pub in_order : StatementsStandInOrder
 in_order source p x = ascending 0 (places p.steps) (program_ascends source p x)
 
@@ -391,9 +382,3 @@ broken_below : {p : Program} {facts : Facts} {ss : List Step} {number at : ℕ}
     → (high : ℕ) → AreBelow high (places ss) → at < high
 broken_below (first.here fails) high h = h.0
 broken_below (first.later passes rest) high h = broken_below rest high h.1
-
--- a refusal's place lies in the source
-pub refused_within : (source : List ℕ) (p : Program) (rule at : ℕ) → HasProgram source p
-    → IsRefused p rule at → at < length source
-refused_within source p rule at x refused =
-    broken_below refused (length source) (program_within source p x)

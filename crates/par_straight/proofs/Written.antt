@@ -1,22 +1,16 @@
 -- What one more write and one more number taken make of a state.
 use Rattle.std.proofs.Common.{◌≡◌, ℕ, zero, suc, ◌+◌, false, cond, List, [], ◌∷◌, ◌++◌, drop, ℤ}
-use Rattle.std.proofs.Common.{pos, refl, sym, ap, ◌∙◌, inl, inr, add-zero, arith}
+use Rattle.std.proofs.Common.{refl, sym, ap, ◌∙◌, inl, inr, add-zero, arith}
 use Rattle.std.proofs.Math.Path.{fun_ext}
-use Rattle.std.specs.Prelude.{◌==◌, if◌then◌else◌}
+use Rattle.std.specs.Prelude.{◌==◌}
 use Rattle.std.specs.List.{count_by}
 use Rattle.std.proofs.lemmas.Bool.{cases_Bool, eqb-true, eq-eqb, false_from_ne_true, false≢true}
 use Rattle.std.proofs.lemmas.List.Sums.{fold-append}
 use Rattle.par_values.specs.declared.inputs.Inputs.{Inputs}
 use Rattle.par_straight.specs.declared.program.Program.{Program}
-use Rattle.par_straight.specs.declared.progress.Write.{Write}
 use Rattle.par_straight.specs.Rules.{put}
 use Rattle.par_straight.specs.Meaning.{left}
-use Rattle.par_straight.specs.Progress.{written, untaken}
-
-pub written_push : (ws : List Write) (w : Write)
-    → written (ws ++ w ∷ []) ≡ put (written ws) w.place w.number
-written_push ws w =
-    fun_ext (λ x. fold-append (λ n v. if x == v.place then v.number else n) (pos 0) ws (w ∷ []))
+use Rattle.par_straight.specs.Progress.{untaken}
 
 count_push : (c d : ℕ) (taken : List ℕ)
     → count_by (λ e. e == d) (taken ++ c ∷ []) ≡ count_by (λ e. e == d) taken + cond (c == d) 1 0

@@ -9,7 +9,7 @@ use Rattle.std.proofs.lemmas.List.Elements.{All-weaker, All-append, All-contains
 use Rattle.std.proofs.lemmas.List.Elements.{Contains-append_left, Contains-append_right}
 use Rattle.std.proofs.lemmas.List.Folds.{list_all-append, list_all-map}
 use Rattle.par_policy.specs.Numbers.{within, Gains, GainsAll}
-use Rattle.par_policy.specs.Sees.{sees, sees_at, sees_join_at, IsSeenAlike}
+use Rattle.par_policy.specs.Sees.{sees_at, sees_join_at, IsSeenAlike}
 use Rattle.par_policy.specs.Order.{IsJoinBelowAt, policies_of}
 use Rattle.par_policy.proofs.Members.{within-from_All}
 use Rattle.par_policy.proofs.Seen.{sees_more, same_tests}
@@ -120,22 +120,6 @@ gains_alone old new number gains n = (
   λ h. ⊎_elim (λ inside. inl inside) (λ same. inr (0, omega arith, sym same)) ((gains n).0 h),
   λ h. (gains n).1 (⊎_elim (λ inside. inl inside) (λ inside. inr (lone number n inside)) h),
 )
-
--- a join is below a policy where both its parts are
-pub below-append : (ps qs : Join) (opened : List ℕ) (q : Policy) → IsJoinBelowAt ps opened q
-    → IsJoinBelowAt qs opened q → IsJoinBelowAt (ps ++ qs) opened q
-below-append ps qs opened q h k actor locks seen =
-    subst IsTrue (sym (sees-append ps qs opened actor locks))
-    (and_from _ _ (h actor locks seen) (k actor locks seen))
-
-pub below_parts : (ps qs : Join) (opened : List ℕ) (q : Policy) → IsJoinBelowAt (ps ++ qs) opened q
-    → IsJoinBelowAt ps opened q × IsJoinBelowAt qs opened q
-below_parts ps qs opened q h =
-    let both =
-    λ (actor : ℕ) (locks : List ℕ) (seen : IsTrue (sees q actor locks)).
-    and_parts (sees_join_at ps opened actor locks) (sees_join_at qs opened actor locks)
-    (subst IsTrue (sees-append ps qs opened actor locks) (h actor locks seen)) in
-    (λ actor locks seen. (both actor locks seen).0, λ actor locks seen. (both actor locks seen).1)
 
 abbrev pub IsSameSet : List ℕ → List ℕ → Type 0
 IsSameSet xs ys = (n : ℕ) → Contains xs n ↔ Contains ys n

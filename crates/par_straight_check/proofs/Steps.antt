@@ -1,8 +1,8 @@
 -- What the checker keeps, statement after statement, against the facts of the flow rules.
-use Rattle.std.proofs.Common.{◌≡◌, ℕ, ◌+◌, ◌<◌, ◌↔◌, Bool, false, List, [], ◌∷◌, ◌++◌, Some, length}
+use Rattle.std.proofs.Common.{◌≡◌, ℕ, ◌+◌, ◌<◌, ◌↔◌, false, List, [], ◌∷◌, ◌++◌, Some, length}
 use Rattle.std.proofs.Common.{take, get_or, sym, ap, ◌∙◌, subst, inl, inr, ⊎_elim, append_assoc}
 use Rattle.std.proofs.Common.{arith}
-use Rattle.std.specs.Prelude.{IsTrue, if◌then◌else◌}
+use Rattle.std.specs.Prelude.{if◌then◌else◌}
 use Rattle.std.specs.Ordering.{nat_cmp}
 use Rattle.std.specs.BTreeMap.{BTreeMap}
 use Rattle.std.specs.BTreeMap as tree
@@ -10,9 +10,9 @@ use Rattle.std.proofs.lemmas.Bool.{cases_eq, eq-eqb, ne_eqb}
 use Rattle.std.proofs.lemmas.Grind.{common_steps}
 use Rattle.std.proofs.lemmas.List.Elements.{Contains-append_left, Contains-append_right}
 use Rattle.std.proofs.lemmas.List.Elements.{Contains-append_cases}
-use Rattle.std.proofs.lemmas.List.{get_or_default, take_more, append-nil}
+use Rattle.std.proofs.lemmas.List.{take_more, append-nil}
 use Rattle.par_policy.specs.Numbers.{Gains}
-use Rattle.par_policy.specs.Sees.{sees, IsSeenAlike}
+use Rattle.par_policy.specs.Sees.{IsSeenAlike}
 use Rattle.par_policy.specs.Order.{IsJoinBelowAt}
 use Rattle.par_straight.specs.declared.program.Operand.{Operand}
 use Rattle.par_straight.specs.declared.program.Program.{Program}
@@ -21,10 +21,9 @@ use Rattle.par_straight.specs.Rules.{put}
 use Rattle.par_straight_check.specs.declared.table.Table.{Table}
 use Rattle.par_straight_check.specs.declared.worth.Worth.{Worth}
 use Rattle.par_straight_check.specs.declared.known.Known.{Known}
-use Rattle.par_straight_check.specs.Ends.{policy_at}
 use Rattle.par_straight_check.specs.Known.{IsJoinAlike, StandsFor, joined, joined_at}
 use Rattle.par_straight_check.proofs.Joins.{alike-trans, alike-append, alike_itself, lone}
-use Rattle.par_straight_check.proofs.Joins.{below_alike, IsSameSet}
+use Rattle.par_straight_check.proofs.Joins.{below_alike}
 
 -- a sum of one term more joins what that term is worth
 sum-push : (p : Program) (env : Environment) (terms : List Operand) (term : Operand)
@@ -126,24 +125,3 @@ same_pass p t known facts w value q r stands worth policies = (
       (λ opened actor locks. sym (worth opened actor locks))
       (λ n. ((stands.opened n).1, (stands.opened n).0)) (λ actor locks. sym (policies actor locks)),
 )
-
--- the test against a policy that the same observers see is the same
-pub pass_alike : (value : Join) (opened : List ℕ) (q r : Policy) (b : Bool) → IsSeenAlike q r
-    → IsTrue b ↔ IsJoinBelowAt value opened q → IsTrue b ↔ IsJoinBelowAt value opened r
-pass_alike value opened q r b policies says =
-    let same : IsSameSet opened opened = λ n. (λ h. h, λ h. h) in (
-      λ h. below_alike value value opened opened q r (alike_itself value) same policies (says.0 h),
-      λ h. says.1 (below_alike value value opened opened r q (alike_itself value) same
-          (λ actor locks. sym (policies actor locks)) h),
-    )
-
--- the policy that was read of a table is seen as the one of the number that was asked for
-pub read_alike : (policies : List Policy) (i place number : ℕ) (read q : Policy)
-    → read ≡ get_or policies i read → i ≡ place → place < length policies
-    → IsSeenAlike (policy_at policies place) (policy_at policies number)
-    → IsSeenAlike (policy_at policies number) q → IsSeenAlike read q
-read_alike policies i place number read q at same inside h k actor locks =
-    let bound : i < length policies = omega arith in
-    ap (λ r. sees r actor locks)
-    (at ∙ (get_or_default policies i read [] bound ∙ ap (policy_at policies) same))
-    ∙ (h actor locks ∙ k actor locks)

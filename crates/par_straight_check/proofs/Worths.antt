@@ -27,15 +27,6 @@ input_last false f i g = refl
 input_last true false i g = refl
 input_last true true i g = refl
 
-constant_again : (g f i : Bool) → ((g && f) && i) ≡ (((g && f) && i) && g)
-constant_again false f i = refl
-constant_again true false i = refl
-constant_again true true i = and_comm true i
-
-constant_last : (g f i : Bool) → ((g && f) && i) ≡ ((f && i) && g)
-constant_last false f i = and_comm false (f && i)
-constant_last true f i = and_comm true (f && i)
-
 both_last : (a b f g i j : Bool)
     → (((a && b) && (f && g)) && (i && j)) ≡ (((a && f) && i) && ((b && g) && j))
 both_last false b f g i j = refl
@@ -66,25 +57,6 @@ sees_joined_more : (t : Table) (w : Worth) (more : Join) (opened : List ℕ) (ac
 sees_joined_more t w more opened actor locks =
     sees-append (joined t w) more opened actor locks
     ∙ ap (λ b. b && sees_join_at more opened actor locks) (sees_joined t w opened actor locks)
-
-pub constant_joined : (t : Table) (constant : Bool) (fields inputs : List ℕ)
-    → IsJoinAlike (joined t (record { constant = true; fields = fields; inputs = inputs }))
-    (joined t (record { constant = constant; fields = fields; inputs = inputs }) ++ t.bottom ∷ [])
-constant_joined t true fields inputs opened actor locks =
-    let w : Worth = record { constant = true; fields = fields; inputs = inputs } in
-    sees_joined t w opened actor locks
-    ∙ (constant_again (sees_join_at (t.bottom ∷ []) opened actor locks)
-    (sees_join_at (policies_of t.fields.items fields) opened actor locks)
-    (sees_join_at (policies_of t.channels.items inputs) opened actor locks)
-    ∙ sym (sees_joined_more t w (t.bottom ∷ []) opened actor locks))
-constant_joined t false fields inputs opened actor locks =
-    let w : Worth = record { constant = true; fields = fields; inputs = inputs } in
-    let old : Worth = record { constant = false; fields = fields; inputs = inputs } in
-    sees_joined t w opened actor locks
-    ∙ (constant_last (sees_join_at (t.bottom ∷ []) opened actor locks)
-    (sees_join_at (policies_of t.fields.items fields) opened actor locks)
-    (sees_join_at (policies_of t.channels.items inputs) opened actor locks)
-    ∙ sym (sees_joined_more t old (t.bottom ∷ []) opened actor locks))
 
 pub field_joined : (t : Table) (constant : Bool) (old new inputs : List ℕ) (field : ℕ)
     → Gains old new field

@@ -2,7 +2,6 @@
 use Rattle.std.proofs.Common.{◌≡◌, ℕ, ◌+◌, ◌<◌, ◌≤◌, Bool, true, false, List, [], ◌∷◌, ◌++◌, length}
 use Rattle.std.proofs.Common.{refl, sym, ap, subst, ◌∙◌, append_assoc, length-append, arith}
 use Rattle.std.specs.Prelude.{ℤ, Contains, codes}
-use Rattle.std.proofs.lemmas.List.{append-nil}
 use Rattle.par_instr.specs.declared.instr.Instr.{Instr}
 use Rattle.par_instr.specs.declared.instr.Instr.TheVariants.{Sipush, LdcW, If, IfIcmp, IfAcmpeq}
 use Rattle.par_instr.specs.declared.instr.Instr.TheVariants.{IfAcmpne, Goto, Getstatic, Putstatic}
@@ -70,16 +69,6 @@ item_emits p item instr old new behind spelled grows stays = record {
         },
         h,
       );
-}
-
--- nothing at all
-pub nothing_emits : (p : Program) (n : ℕ) (d : Draft) → Emits p n (λ k. k) d d
-nothing_emits p n d = record {
-  bytes = [];
-  behind = sym (append-nil d.code.items);
-  few = omega arith;
-  grows = grows_not p n d.pool d.pool refl;
-  spelled = λ m later g k rest h. h;
 }
 
 -- items, and then others

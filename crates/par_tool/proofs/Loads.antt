@@ -213,14 +213,6 @@ module _ (files : Option Files) (main inputs : Text) where
 
 -- ---- where memory is wanting
 
-pub main_wants : (E : ℕ → Loaded → Type 0) (before after : FolderCounts) (e : Unloaded)
-    → Unended E 1 before after e → failure_of e ≡ Memory → MakesAtMost 130 0 before after
-main_wants E before after un.Memory h is = few_reads 1 130 before after (omega arith) h
-main_wants E before after un.Absent h is = absurd (cc is)
-main_wants E before after un.TooLong h is = absurd (cc is)
-main_wants E before after un.Failed h is = absurd (cc is)
-main_wants E before after (un.BadClass c n v) h is = absurd (cc is)
-
 pub program_wants : (files : Option Files) (main : Text) (before between after : FolderCounts)
     → Makes 1 0 before between
     → (e : Unloaded) → Judges files main between after (Err e) → failure_of e ≡ Memory

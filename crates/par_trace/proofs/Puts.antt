@@ -5,7 +5,6 @@ use Rattle.std.specs.List.{concat}
 use Rattle.std.proofs.lemmas.List.{append-nil, append_assoc}
 use Rattle.std.proofs.lemmas.List.Folds.{concat-append}
 use Rattle.par_io.specs.Causes.{SinkCounts, Rose, raised, raised_by, appended, AppendsFront}
-use Rattle.par_io.proofs.Appending.{appended-nothing}
 use Rattle.par_runner.specs.declared.telling.Untold.{Untold}
 use Rattle.par_runner.specs.declared.telling.Untold.TheVariants.{Fault, Memory}
 use Rattle.par_runner.specs.Texts.{Text}
@@ -29,10 +28,6 @@ rose_since a b c le (inl less) = inl (omega arith)
 rose_since a b c le (inr last) = inr last
 
 module _ (old : Option Text) (before : SinkCounts) where
-  -- no line is put yet
-  pub none-put : ArePut [] old old before before
-  none-put = record { counted = refl; held = appended-nothing old }
-
   module _ (ls : List Text) (held : Option Text) (between : SinkCounts)
       (puts : ArePut ls old held before between) where
     -- one line more

@@ -15,7 +15,7 @@ use Rattle.par_runner.specs.Texts.{Text, line}
 use Rattle.par_runner.specs.Telling.{IsUntold, IsCutOff, status_of_untold}
 use Rattle.par_trace.specs.Puts.{ArePut}
 use Rattle.par_trace.specs.Texts.{witnessed_text, event_lines}
-use Rattle.par_trace.proofs.Puts.{none-put, put-more, cut-next}
+use Rattle.par_trace.proofs.Puts.{put-more, cut-next}
 
 -- these lines are put, and no put failed
 pub record IsTelling (alone : Bool) (lines : List Text) (old held : Option Text)
@@ -69,11 +69,6 @@ module _ (table : Table) where
           subst (λ (ls : List Text). IsCutOff ls old new before after u) (sym told-split)
           (cut-next old before (told (take i es)) held between h.put (told_of e)
           (told (drop (i + 1) es)) u new after h.grows untold)
-
-  pub tells-none : (alone : Bool) (es : List SourceEvent) (old : Option Text) (before : SinkCounts)
-      → IsTelling alone (told (take 0 es)) old old before before
-  tells-none alone es old before =
-      record { put = none-put old before; grows = omega arith; stand = λ only. refl }
 
 -- what a call hands on
 pub handed : {A : Type 0} (r : Result A Untold) (u : Untold) (P : Untold → Type 0)

@@ -19,11 +19,6 @@ pub program_opens : (s : Symbols) (i : Input) (vs : Values)
     name g.Decls ∷ finish ∷ s) i vs
 program_opens s i vs = run_name paragon founded s i vs g.Program _ refl
 
-pub decls_opens : (s : Symbols) (i : Input) (vs : Values)
-    → run paragon founded (name g.Decls ∷ s) i vs ≡ run paragon founded (
-    builds g.NoDecls ∷ name g.MoreDecls ∷ s) i vs
-decls_opens s i vs = run_name paragon founded s i vs g.Decls _ refl
-
 pub idents_opens : (s : Symbols) (i : Input) (vs : Values)
     → run paragon founded (name g.Idents ∷ s) i vs ≡ run paragon founded (
     builds g.NoIdents ∷ g.ident ∷ builds g.NextIdent ∷ name g.MoreIdents ∷ s) i vs
@@ -44,11 +39,6 @@ pub param_opens : (s : Symbols) (i : Input) (vs : Values)
     → run paragon founded (name g.Param ∷ s) i vs ≡ run paragon founded (
     name g.MayPolicy ∷ name g.MayNotnull ∷ name g.AnyType ∷ g.ident ∷ builds g.OneParam ∷ s) i vs
 param_opens s i vs = run_name paragon founded s i vs g.Param _ refl
-
-pub effects_opens : (s : Symbols) (i : Input) (vs : Values)
-    → run paragon founded (name g.Effects ∷ s) i vs ≡ run paragon founded (
-    builds g.NoEffects ∷ name g.MoreEffects ∷ s) i vs
-effects_opens s i vs = run_name paragon founded s i vs g.Effects _ refl
 
 pub policy_opens : (s : Symbols) (i : Input) (vs : Values)
     → run paragon founded (name g.Policy ∷ s) i vs ≡ run paragon founded (

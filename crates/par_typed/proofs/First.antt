@@ -3,14 +3,14 @@ use Rattle.std.proofs.Common.{◌≡◌, ◌++◌, List, [], ◌∷◌, Option, 
 use Rattle.std.proofs.Common.{refl, sym, subst, arith, ⊎_elim}
 use Rattle.std.specs.Prelude.{fold, cond}
 use Rattle.std.proofs.lemmas.List.Sums.{fold-append}
-use Rattle.std.proofs.lemmas.List.Elements.{All-nil, All-cons, All-head, All-tail, All-contains}
+use Rattle.std.proofs.lemmas.List.Elements.{All-nil, All-cons, All-head, All-tail}
 use Rattle.std.proofs.lemmas.List.Elements.{Contains-push, Contains-append_left}
 use Rattle.std.proofs.lemmas.List.Elements.{Contains-append_right, Contains-append_cases}
 use Rattle.std.proofs.lemmas.Bool.Decides.{nat_tests}
 use Rattle.par_policy.proofs.Ordered.{Contains-nil}
 use Rattle.par_typed.specs.declared.refusal.Refusal.{Refusal}
 use Rattle.par_typed.specs.First.{comes_before, earlier, first_of, in_passes, when, IsAnswer}
-use Rattle.par_typed.specs.First.{IsFirst, IsLevel}
+use Rattle.par_typed.specs.First.{IsFirst}
 
 -- nothing more is broken
 pub first_of_none : (o : Option Refusal) → first_of o [] ≡ o
@@ -130,20 +130,6 @@ pub answered : (fs : List Refusal) → IsAnswer fs (first_of None fs)
 unfolding first_of
 answered [] = refl
 answered (f ∷ fs) = let k = keeps f fs in subst (IsAnswer (f ∷ fs)) (sym k.is) k.first
-
-level : (f g : Refusal) → comes_before f g ≡ false → comes_before g f ≡ false → IsLevel f g
-level f g h k = record {
-  place = grind (arith, nat_tests);
-  rule = grind (arith, nat_tests);
-  limit = grind (arith, nat_tests);
-}
-
--- two first ones of the same broken rules tell the same place, rule and limit
-pub one_first : (fs : List Refusal) (f g : Refusal) → IsFirst fs f → IsFirst fs g → IsLevel f g
-one_first fs f g a b =
-    let f_not_before = All-contains (NotBefore g) fs f b.first a.among in
-    let g_not_before = All-contains (NotBefore f) fs g a.first b.among in
-    level f g f_not_before g_not_before
 
 -- where the first pass finds something, its first rule is the first of both passes
 pub first_stops : (fs gs : List Refusal) (f : Refusal) → IsFirst fs f → IsFirst (in_passes fs gs) f

@@ -33,11 +33,6 @@ use Rattle.par_faults.specs.Faults.{where_none, policies_faults, limit_faults, a
 use Rattle.par_faults.proofs.Few as faults
 use Rattle.par_typing.proofs.Ints.{left_none, right_none}
 
-first_pass : (fs gs : List Refusal) → in_passes fs gs ≡ [] → fs ≡ []
-unfolding in_passes
-first_pass [] gs h = refl
-first_pass (f ∷ fs) gs h = absurd (cc h)
-
 later_pass : (fs gs : List Refusal) → in_passes fs gs ≡ [] → gs ≡ []
 unfolding in_passes
 later_pass [] gs h = h

@@ -26,7 +26,7 @@ use Rattle.par_resolved.specs.Policies.{value_of, policy_of}
 use Rattle.par_resolved.specs.Statements.{in_braces}
 use Rattle.par_resolved.specs.Written.{stmt_types}
 use Rattle.par_resolved.specs.Births.{birth_policy}
-use Rattle.par_resolved.specs.Numbered.{numbered, declared, shared_policies}
+use Rattle.par_resolved.specs.Numbered.{declared, shared_policies}
 use Rattle.par_resolved.specs.Resolved.{Resolved, resolved, number_of, may_number}
 use Rattle.par_resolved.specs.Resolved.{expression_number, lock_policy, ground_lock, family}
 use Rattle.par_resolved.specs.Resolved.{ground_locks_from, query_numbers, ground_locks}
@@ -122,11 +122,6 @@ module _ (source : Source) where
 
   abbrev r : Resolved
   r = resolved source
-
-  -- the policies of the table
-  policies_are : length (map (λ e. e.policy) (numbered (known source) source)) ≡ length
-      (shared_policies (known source) source) + inferred_in (declared source)
-  policies_are = length-numbered source
 
   shared_is : (n : ℕ) → n < length (shared_policies (known source) source) → IsPolicy t n
   shared_is n h = let whole = length-numbered source in omega (arith, h, whole)

@@ -58,10 +58,6 @@ use Rattle.par_well_typed.proofs.Makes.{otherwise_none}
 
 -- ---- what is there
 
-some_there : {A : Type 0} (o : Option A) → is_some o ≡ true → IsThere o
-some_there None is = absurd (cc is)
-some_there (Some x) is = tt
-
 field_there : (o : Option FieldInfo) → IsThere o → IsThere (field_type o)
 field_there None is = is
 field_there (Some f) is = tt

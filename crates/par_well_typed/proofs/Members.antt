@@ -16,7 +16,7 @@ use Rattle.par_scope.specs.declared.meaning.Receiver.{Receiver}
 use Rattle.par_scope.specs.declared.meaning.Receiver.TheVariants.{Own, Class, Object}
 use Rattle.par_scope.specs.declared.meaning.Callee.{Callee}
 use Rattle.par_scope.specs.declared.meaning.Callee.TheVariants.{Unknown, Channel, Method}
-use Rattle.par_scope.specs.Names.{Names, names_of, member_names, number_in, fields_in, channels_in}
+use Rattle.par_scope.specs.Names.{names_of, member_names, number_in, fields_in, channels_in}
 use Rattle.par_scope.specs.Names.{methods_in}
 use Rattle.par_scope.specs.Home.{Home}
 use Rattle.par_scope.specs.Members.{class_fields, class_channels, class_methods, field_at}
@@ -52,9 +52,6 @@ numbered_there f xs name k is =
 abbrev pub PlaceOf : {A : Type 0} → (Place → Option A) → ℕ → Place → Type 0
 PlaceOf at class p = (p.class ≡ class) × IsThere (at p)
 
-abbrev MayStand : {A : Type 0} → (Place → Option A) → ℕ → Option Place → Type 0
-MayStand at class o = MayBe (PlaceOf at class) o
-
 -- a callee in this class that is there
 abbrev pub CalleeOf : Table → ℕ → Callee → Type 0
 CalleeOf table class Unknown = Unit {0}
@@ -62,9 +59,6 @@ CalleeOf table class (Channel p) = (p.class ≡ class) × IsThere (channel_at ta
 CalleeOf table class (Method p) = (p.class ≡ class) × IsThere (method_at table p)
 
 module _ (table : Table) where
-  names : Names
-  names = names_of table
-
   members_of : (class : ℕ)
       → slice_get (names_of table).members class ≡ option_map member_names
       (slice_get table.classes class)
