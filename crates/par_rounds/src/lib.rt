@@ -1,9 +1,9 @@
 //! The facts of a tree of rules, found in rounds.
 //!
 //! A pass goes over the whole tree once, from the head ways of its loops as they stand, and raises
-//! the heads of the next pass. Only heads last from round to round; a round that raises none is the
-//! last, and its rows are the facts. This crate knows no program: it is given the tree and the way
-//! that enters it.
+//! the heads of the next pass. Only heads last from round to round. Where a round raises none, one
+//! more from the same heads gives the rows, which are the facts. This crate knows no program: it
+//! is given the tree and the way that enters it.
 #![tactic(auto)]
 
 mod body;

@@ -22,7 +22,7 @@ use Rattle.par_scope.specs.Home.{Home, class_named, class_type}
 use Rattle.par_scope.specs.Members.{field_at, channel_at, method_at, field_type, field_is_static}
 use Rattle.par_scope.specs.Members.{channel_type, channel_arity}
 use Rattle.par_scope.specs.Members.{method_type, method_is_static, method_params, method_arity}
-use Rattle.par_scope.specs.Members.{any_value, value_of, param_slot}
+use Rattle.par_scope.specs.Members.{any_value, param_slot, number_slot}
 
 -- the class of an object of this type
 unfoldable pub class_of : Option Ty → Option ℕ
@@ -125,7 +125,7 @@ params_slot method k = param_slot (slice_get (method_params method) k)
 -- what its argument at this place may be: any value, where there is no such parameter
 unfoldable pub param_at : Table → Callee → ℕ → Slot
 param_at table Unknown k = any_value
-param_at table (Channel p) k = value_of ty.Int
+param_at table (Channel p) k = number_slot (channel_arity (channel_at table p)) k
 param_at table (Method p) k = params_slot (method_at table p) k
 
 -- ---- expressions

@@ -1,5 +1,6 @@
 -- The members of the classes of a table.
-use Rattle.std.specs.Prelude.{ℕ, Bool, true, false, List, [], Option, Some, None, slice_get, length}
+use Rattle.std.specs.Prelude.{ℕ, Bool, true, false, cond, nat_lt, List, [], Option, Some, None}
+use Rattle.std.specs.Prelude.{slice_get, length}
 use Rattle.par_typed.specs.declared.ty.Ty.{Ty}
 use Rattle.par_typed.specs.declared.ty.Ty.TheVariants as ty
 use Rattle.par_typed.specs.declared.table.FieldInfo.{FieldInfo}
@@ -99,3 +100,8 @@ value_of t = record { ty = Some t; notnull = false }
 abbrev pub param_slot : Option ParamInfo → Slot
 param_slot None = any_value
 param_slot (Some param) = record { ty = Some param.ty; notnull = param.notnull }
+
+-- of an argument of a channel that takes so many: a number
+abbrev pub number_slot : Option ℕ → ℕ → Slot
+number_slot None k = any_value
+number_slot (Some many) k = cond (nat_lt k many) (value_of ty.Int) any_value

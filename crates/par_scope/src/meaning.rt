@@ -11,7 +11,7 @@ use crate::index::TableIndex;
 use crate::locals::{Locals, Slot};
 use crate::members::{
     Place, channel_arity, channel_at, channel_type, field_at, field_is_static, field_type,
-    method_arity, method_at, method_is_static, method_type, param_slot,
+    method_arity, method_at, method_is_static, method_type, number_slot, param_slot,
 };
 use par_lexer::name::Name;
 use par_tree::expr::{BinOp, Expr, ExprKind};
@@ -238,10 +238,7 @@ pub fn param_at(table: &Table, callee: Callee, place: usize) -> Slot
             ty: None,
             notnull: false,
         },
-        Callee::Channel(_) => Slot {
-            ty: Some(Ty::Int),
-            notnull: false,
-        },
+        Callee::Channel(channel) => number_slot(channel_arity(channel_at(table, channel)), place),
         Callee::Method(method) => params_slot(method_at(table, method), place),
     }
 }

@@ -123,6 +123,21 @@ pub(crate) fn channel_arity(channel: Option<&ChannelInfo>) -> Option<usize>
     }
 }
 
+pub(crate) fn number_slot(arity: Option<usize>, place: usize) -> Slot
+    ensures { result ≡ is.number_slot arity place }
+{
+    match arity {
+        Some(many) if place < many => Slot {
+            ty: Some(Ty::Int),
+            notnull: false,
+        },
+        _ => Slot {
+            ty: None,
+            notnull: false,
+        },
+    }
+}
+
 pub(crate) fn param_slot(param: Option<&ParamInfo>) -> Slot
     ensures { result ≡ is.param_slot (option_copied param.entry) }
 {

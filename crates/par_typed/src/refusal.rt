@@ -6,7 +6,7 @@ ghost use Rattle.par_typed.specs.First.{comes_before, first_of, when, broken, ex
 use std::marker::Model;
 
 /// A broken rule with its place. The limit and the count are 0 but for an exceeded limit, and for a
-/// source that is too long, whose count is its length.
+/// source that is too long, whose count is its length, or 4294967295 where it is longer.
 #[derive(Clone, Copy, Debug, PartialEq, Eq)]
 pub struct Refusal {
     pub rule: u16,

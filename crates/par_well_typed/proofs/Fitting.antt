@@ -39,7 +39,7 @@ use Rattle.par_scope.specs.Home.{Home, class_named, class_type}
 use Rattle.par_scope.specs.Members.{field_at, channel_at, method_at, field_type, field_is_static}
 use Rattle.par_scope.specs.Members.{channel_type, channel_arity, way_type, way_arity, method_type}
 use Rattle.par_scope.specs.Members.{method_is_static, method_params, method_arity, any_value}
-use Rattle.par_scope.specs.Members.{value_of, param_slot}
+use Rattle.par_scope.specs.Members.{value_of, param_slot, number_slot}
 use Rattle.par_scope.specs.Meaning.{type_of, name_type, called_on, receiver_of, selected, called}
 use Rattle.par_scope.specs.Meaning.{arity, param_at, sure, place_type, callee_type}
 use Rattle.par_types.specs.Fits.{are_alike, is_int, is_boolean, is_of_class, is_reference, operand}
@@ -316,7 +316,7 @@ module _ (source : Source) (class n : ℕ) (c : Class) (result : Option Ty)
   -- ---- calls
 
   first_fits : (es : TExps) (k : Mark) → members.how_many es ≡ 1
-      → AreTaken (λ i. value_of ty.Int) 0 es → ExpsFit t class listed sures es
+      → AreTaken (number_slot (Some 1)) 0 es → ExpsFit t class listed sures es
       → Is ty.Int (first es k) × Fit (first es k)
   unfolding ExpFits
   first_fits typed.NoExps k many taken fit = absurd (cc many)
@@ -329,16 +329,17 @@ module _ (source : Source) (class n : ℕ) (c : Class) (result : Option Ty)
   through_fits : (o : Option ChannelInfo) (p : Place) (es : TExps) (at q i place : ℕ)
       → IsThere (channel_type o) → members.how_many es ≡ i
       → count_fault (channel_arity o) i place ≡ []
-      → AreTaken (λ k. value_of ty.Int) 0 es → ExpsFit t class listed sures es
+      → AreTaken (number_slot (channel_arity o)) 0 es → ExpsFit t class listed sures es
       → Fit (through o p es (mark_of at q (channel_type o) false))
   unfolding ExpFits
   through_fits None p es at q i place there many none taken fit = absurd there
   through_fits (Some channel) p es at q i place there many none taken fit =
-      by channel.is_input none where
+      by channel.is_input none taken where
         by : (b : Bool) → count_fault (Some (way_arity b)) i place ≡ []
+            → AreTaken (number_slot (Some (way_arity b))) 0 es
             → Fit (by_way b p es (mark_of at q (Some (way_type b)) false))
-        by true none = (refl, refl)
-        by false none =
+        by true none taken = (refl, refl)
+        by false none taken =
             let k = mark_of at q (Some ty.Void) false in
             let one = first_fits es k (many ∙ same_count i 1 place none) taken fit in
             ((refl, refl), one.0, one.1)

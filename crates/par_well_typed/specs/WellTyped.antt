@@ -27,7 +27,7 @@ NamesMembers table b = StaNames table b.body
 -- Of the bodies: each method has one; each obeys what the rules of flow ask of numbers, names the
 -- classes and members that it should, makes objects of ordinary classes, has `this` where there is
 -- a receiver, has values of types that fit where they stand, has no statement that is not reached
--- and no end that is reached without a result, and is within the limits.
+-- and no end that is reached without a result, and has at most 2,000 nodes.
 pub record IsWellTyped (table : Table) (bodies : List Body) : Type 0 where
   pub in_range : IsInRange table
   pub built_in : HasBuiltIns table
