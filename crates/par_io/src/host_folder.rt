@@ -1,4 +1,6 @@
-ghost use Rattle.std.specs.Prelude.{◌≡◌, ◌≤◌, true, None, IfOk, MatchResult, length};
+ghost use Rattle.std.specs.Prelude.{◌≡◌, ◌≤◌, ◌↔◌, true, None, IfOk, IfErr, IsErr, IsErrAnd, IsErrOf};
+ghost use Rattle.std.specs.Prelude.{MatchResult, length};
+ghost use Rattle.std.specs.IoError.{error_kind};
 ghost use Rattle.par_io.specs.Causes.{untouched_folder, Makes, SameAnswers, CountsRead};
 ghost use Rattle.par_io.specs.Causes.{CountsWrite};
 ghost use Rattle.par_io.specs.HostFolder.{counts_of};
@@ -7,6 +9,8 @@ use crate::outside::{Folder, ReadFail, WriteFail};
 use crate::whole::{read_fail, read_whole, write_fail, write_whole};
 use std::alloc::Global;
 use std::fs::File;
+use std::io;
+use std::io::{ErrorKind, Read, Write};
 use std::rt::Files;
 
 /// The files of the system, under their paths. It does not tell what they hold.
@@ -48,17 +52,30 @@ impl<'a, R: Files> HostFolder<'a, R> {
     }
 }
 
-fn read_file<R: Files>(rt: &R, alloc: Global, name: &str, limit: u64) -> Result<Vec<u8>, ReadFail>
+// Reads what was opened.
+fn read_opened<F: Read + Drop>(
+    opened: io::Result<F>,
+    alloc: Global,
+    limit: u64,
+) -> Result<Vec<u8>, ReadFail>
     ensures short { IfOk result (λ bytes. length bytes.items ≤ limit) }
+    ensures absent { IsErrOf result ReadFail.Absent
+        ↔ IsErrAnd opened (λ error. error_kind error ≡ ErrorKind.NotFound) }
+    ensures unopened { IfErr opened (λ _. IsErr result) }
 {
-    match File::open(rt, name) {
+    match opened {
         Ok(mut file) => read_whole(&mut file, alloc, limit),
         Err(error) => Err(read_fail(&error)),
     }
 }
 
-fn write_file<R: Files>(rt: &R, name: &str, bytes: &[u8]) -> Result<(), WriteFail> {
-    match File::create(rt, name) {
+// Writes what was created.
+fn write_created<F: Write + Drop>(created: io::Result<F>, bytes: &[u8]) -> Result<(), WriteFail>
+    ensures memory { IsErrOf result WriteFail.Memory
+        ↔ IsErrAnd created (λ error. error_kind error ≡ ErrorKind.OutOfMemory) }
+    ensures uncreated { IfErr created (λ _. IsErr result) }
+{
+    match created {
         Ok(mut file) => write_whole(&mut file, bytes),
         Err(error) => Err(write_fail(&error)),
     }
@@ -79,7 +96,7 @@ impl<R: Files> Folder for HostFolder<'_, R> {
             (λ fail. CountsRead fail (counts_of self.old) (counts_of self.new)) }
     {
         self.reads = self.reads.saturating_add(1);
-        let answer = read_file(self.rt, alloc, name, limit);
+        let answer = read_opened(File::open(self.rt, name), alloc, limit);
         if let Err(fail) = &answer {
             self.count_fail(*fail);
         }
@@ -93,7 +110,7 @@ impl<R: Files> Folder for HostFolder<'_, R> {
             (λ fail. CountsWrite fail (counts_of self.old) (counts_of self.new)) }
     {
         self.writes = self.writes.saturating_add(1);
-        let answer = write_file(self.rt, name, bytes);
+        let answer = write_created(File::create(self.rt, name), bytes);
         if let Err(WriteFail::Failed) = &answer {
             self.faults = self.faults.saturating_add(1);
         }

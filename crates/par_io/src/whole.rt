@@ -30,6 +30,17 @@ pub(crate) fn read_fail(error: &io::Error) -> ReadFail
     }
 }
 
+// A read that fails on its way, in a file that is there.
+fn broken_off(error: &io::Error) -> ReadFail
+    ensures memory { result ≡ ReadFail.Memory ↔ (error_kind error.now ≡ ErrorKind.OutOfMemory) }
+    ensures failed { result ≢ ReadFail.Memory → result ≡ ReadFail.Failed }
+{
+    match error.kind() {
+        ErrorKind::OutOfMemory => ReadFail::Memory,
+        _ => ReadFail::Failed,
+    }
+}
+
 pub(crate) fn write_fail(error: &io::Error) -> WriteFail
     ensures memory { result ≡ WriteFail.Memory ↔ (error_kind error.now ≡ ErrorKind.OutOfMemory) }
 {
@@ -40,27 +51,26 @@ pub(crate) fn write_fail(error: &io::Error) -> WriteFail
 }
 
 // One read, tried again where it is interrupted.
-fn read_some<F: Read>(file: &mut F, buffer: &mut [u8]) -> Result<usize, ReadFail>
+fn read_some<F: Read>(file: &mut F, buffer: &mut [u8]) -> io::Result<usize>
     ensures bound { IfOk result (λ count. count ≤ length buffer.new) }
     ensures given { IfOk result (λ count.
         Consumes (F.remaining file.old) (F.remaining file.new) (take count buffer.new)) }
     ensures ended { IfOk result (λ count.
         count ≡ 0 → 0 < length buffer.new → IsAtEnd (F.remaining file.new)) }
     ensures kept { OnErr result (Keeps (F.remaining file.old) (F.remaining file.new)) }
-    ensures not_long { IfErr result (λ fail. fail ≢ ReadFail.TooLong) }
+    ensures tried { IfErr result (λ error. error_kind error ≢ ErrorKind.Interrupted) }
 {
     for _ in 0..u64::MAX {
         match file.read(buffer) {
-            Ok(count) => return Ok(count),
             Err(error) if is_interrupted(&error) => {}
-            Err(error) => return Err(read_fail(&error)),
+            answer => return answer,
         }
     }
-    Err(ReadFail::Failed)
+    Err(io::Error::from(ErrorKind::Other))
 }
 
 // Reads to the end, or up to the byte behind the limit, and takes no more. Where the file tells its
-// bytes, these are all that it had left.
+// bytes, these are all that it had left. Only a file that is opened is found to be absent.
 pub(crate) fn read_whole<F: Read>(
     file: &mut F,
     alloc: Global,
@@ -73,13 +83,17 @@ pub(crate) fn read_whole<F: Read>(
         IfSome (F.remaining file.old) (λ told. limit < length told) }
     ensures taken { (taken : List ℕ) × (length taken ≤ limit + 1)
         × Consumes (F.remaining file.old) (F.remaining file.new) taken }
+    ensures there { IfErr result (λ fail. fail ≢ ReadFail.Absent) }
 {
     let mut bytes = Vec::new(alloc);
     let mut chunk = [0u8; CHUNK];
     loop {
         let left = limit - bytes.len() as u64;
         let wanted = left.min(CHUNK as u64 - 1) as usize + 1;
-        let count = read_some(file, &mut chunk[..wanted])?;
+        let count = match read_some(file, &mut chunk[..wanted]) {
+            Ok(count) => count,
+            Err(error) => return Err(broken_off(&error)),
+        };
         if count == 0 {
             return Ok(bytes);
         }
@@ -90,35 +104,36 @@ pub(crate) fn read_whole<F: Read>(
     }
 }
 
-// One write, tried again where it is interrupted. Taking nothing is a fault. So is memory that the
-// system lacks for it, since the file is no longer as it was.
-fn write_some<F: Write>(file: &mut F, bytes: &[u8]) -> Result<usize, WriteFail>
+// One write, tried again where it is interrupted. Taking nothing is a fault.
+fn write_some<F: Write>(file: &mut F, bytes: &[u8]) -> io::Result<usize>
     ensures some { IfOk result (λ count. 0 < count) }
     ensures bound { IfOk result (λ count. count ≤ length bytes.now) }
     ensures taken { IfOk result (λ count.
         Appends (F.contents file.old) (F.contents file.new) (take count bytes.now)) }
-    ensures failed { IfErr result (λ fail. fail ≡ WriteFail.Failed) }
+    ensures tried { IfErr result (λ error. error_kind error ≢ ErrorKind.Interrupted) }
 {
     for _ in 0..u64::MAX {
         match file.write(bytes) {
-            Ok(0) => return Err(WriteFail::Failed),
-            Ok(count) => return Ok(count),
+            Ok(0) => return Err(io::Error::from(ErrorKind::WriteZero)),
             Err(error) if is_interrupted(&error) => {}
-            Err(_) => return Err(WriteFail::Failed),
+            answer => return answer,
         }
     }
-    Err(WriteFail::Failed)
+    Err(io::Error::from(ErrorKind::Other))
 }
 
-// Writes all of the bytes.
+// Writes all of the bytes. Memory that the system lacks for it is a fault, since the file is no
+// longer as it was.
 pub(crate) fn write_whole<F: Write>(file: &mut F, bytes: &[u8]) -> Result<(), WriteFail>
     ensures written { OnOk result (Appends (F.contents file.old) (F.contents file.new) bytes.now) }
     ensures failed { IfErr result (λ fail. fail ≡ WriteFail.Failed) }
 {
     let mut rest = bytes;
     while !rest.is_empty() {
-        let count = write_some(file, rest)?;
-        rest = &rest[count..];
+        match write_some(file, rest) {
+            Ok(count) => rest = &rest[count..],
+            Err(_) => return Err(WriteFail::Failed),
+        }
     }
     Ok(())
 }

@@ -2,11 +2,11 @@ use Rattle.std.proofs.Common.{◌≤◌, ◌-◌, vec_len}
 use Rattle.std.specs.Io.KnownBytes.{Consumes}
 use Rattle.par_io.proofs.whole.read_whole.Given as goal
 
-abbrev pub invariant-loop-bytes : goal.invariant-loop-bytes
-invariant-loop-bytes g l = record {
+abbrev pub invariant-loop-count : goal.invariant-loop-count
+invariant-loop-count g l = record {
   within : vec_len l.bytes ≤ l.limit;
   read : Consumes (g.F.Read.remaining l.initial.file) (g.F.Read.remaining l.file) l.bytes.items;
 }
 
-abbrev pub decreases-loop-bytes : goal.decreases-loop-bytes
-decreases-loop-bytes g l = l.limit - vec_len l.bytes
+abbrev pub decreases-loop-count : goal.decreases-loop-count
+decreases-loop-count g l = l.limit - vec_len l.bytes

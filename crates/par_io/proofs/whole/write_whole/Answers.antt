@@ -6,8 +6,8 @@ pub loop-rest-preserved : goal.loop-rest-preserved
 loop-rest-preserved g c =
     let (front, split, taken) = c.loop-rest.invariant in
     let rest = c.loop-rest.rest.now in
-    let count = c.in_ok-count.count in (
+    let count = c.in-Ok.count in (
       front ++ take count rest,
       rest_behind front rest _ count split,
-      both_pieces _ _ _ front (take count rest) taken c.in_ok-count.ensures.taken,
+      both_pieces _ _ _ front (take count rest) taken c.in-Ok.ensures.taken,
     )
