@@ -1,5 +1,5 @@
-ghost use Rattle.std.specs.Prelude.{◌≡◌, ◌≤◌, ◌↔◌, true, None, IfOk, IfErr, IsErr, IsErrAnd, IsErrOf};
-ghost use Rattle.std.specs.Prelude.{MatchResult, length};
+ghost use Rattle.std.specs.Prelude.{◌≡◌, ◌≤◌, ◌↔◌, true, None, IfOk, IfErr, IsErr, IsErrAnd};
+ghost use Rattle.std.specs.Prelude.{IsErrOf, MatchResult, length};
 ghost use Rattle.std.specs.IoError.{error_kind};
 ghost use Rattle.par_io.specs.Causes.{untouched_folder, Makes, SameAnswers, CountsRead};
 ghost use Rattle.par_io.specs.Causes.{CountsWrite};
