@@ -1,6 +1,6 @@
 // Bytes read or written whole, by any reader or writer of the system.
-ghost use Rattle.std.specs.Prelude.{◌≡◌, ◌≢◌, ℕ, ◌+◌, ◌≤◌, ◌<◌, ◌↔◌, List, IsTrue, IfOk, IfErr};
-ghost use Rattle.std.specs.Prelude.{IfSome, IsErrOf, OnOk, OnErr, length, take};
+ghost use Rattle.std.specs.Prelude.{◌≡◌, ◌≢◌, ℕ, ◌+◌, ◌≤◌, ◌<◌, ◌↔◌, List, IfOk, IfErr, IfSome};
+ghost use Rattle.std.specs.Prelude.{IsErrAnd, IsErrOf, IsNone, OnOk, OnErr, length, take};
 ghost use Rattle.std.specs.Io.KnownBytes.{Appends, Consumes, Keeps, IsAtEnd};
 ghost use Rattle.std.specs.IoError.{error_kind};
 
@@ -12,10 +12,16 @@ use std::io::{ErrorKind, Read, Write};
 // The most bytes that one read asks for.
 const CHUNK: usize = 4096;
 
-fn is_interrupted(error: &io::Error) -> bool
-    ensures { IsTrue result ↔ (error_kind error.now ≡ ErrorKind.Interrupted) }
+// What a call of the system came to, unless it was interrupted.
+fn settled(answer: io::Result<usize>) -> Option<io::Result<usize>>
+    ensures again { IsNone result
+        ↔ IsErrAnd answer (λ error. error_kind error ≡ ErrorKind.Interrupted) }
+    ensures same { IfSome result (λ told. told ≡ answer) }
 {
-    matches!(error.kind(), ErrorKind::Interrupted)
+    match answer {
+        Err(error) if error.kind() == ErrorKind::Interrupted => None,
+        answer => Some(answer),
+    }
 }
 
 pub(crate) fn read_fail(error: &io::Error) -> ReadFail
@@ -61,9 +67,8 @@ fn read_some<F: Read>(file: &mut F, buffer: &mut [u8]) -> io::Result<usize>
     ensures tried { IfErr result (λ error. error_kind error ≢ ErrorKind.Interrupted) }
 {
     for _ in 0..u64::MAX {
-        match file.read(buffer) {
-            Err(error) if is_interrupted(&error) => {}
-            answer => return answer,
+        if let Some(answer) = settled(file.read(buffer)) {
+            return answer;
         }
     }
     Err(io::Error::from(ErrorKind::Other))
@@ -113,10 +118,10 @@ fn write_some<F: Write>(file: &mut F, bytes: &[u8]) -> io::Result<usize>
     ensures tried { IfErr result (λ error. error_kind error ≢ ErrorKind.Interrupted) }
 {
     for _ in 0..u64::MAX {
-        match file.write(bytes) {
-            Ok(0) => return Err(io::Error::from(ErrorKind::WriteZero)),
-            Err(error) if is_interrupted(&error) => {}
-            answer => return answer,
+        match settled(file.write(bytes)) {
+            Some(Ok(0)) => return Err(io::Error::from(ErrorKind::WriteZero)),
+            Some(answer) => return answer,
+            None => {}
         }
     }
     Err(io::Error::from(ErrorKind::Other))
