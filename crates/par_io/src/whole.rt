@@ -75,7 +75,7 @@ fn read_some<F: Read>(file: &mut F, buffer: &mut [u8]) -> io::Result<usize>
 }
 
 // Reads to the end, or up to the byte behind the limit, and takes no more. Where the file tells its
-// bytes, these are all that it had left. Only a file that is opened is found to be absent.
+// bytes, these are all that it had left. A file that is open is never told as absent.
 pub(crate) fn read_whole<F: Read>(
     file: &mut F,
     alloc: Global,
