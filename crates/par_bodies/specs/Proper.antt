@@ -11,9 +11,10 @@ use Rattle.par_typed.specs.Plain.{TExps, NoExps, More}
 use Rattle.par_typed.specs.Plain.{TSta, Block, If, While, Try, Return, Break, Continue, Throw, Open}
 use Rattle.par_typed.specs.Plain.{Close, SetLocal, SetStatic, SetField, Eval, When, MayTSta, NoElse}
 use Rattle.par_typed.specs.Plain.{Otherwise, TStas, End, Then, TCatches, NoCatch, Catch, Body}
+use Rattle.par_completes.specs.Typed.{completes}
 use Rattle.par_bodies.specs.Members.{method_at}
 use Rattle.par_bodies.specs.Locals.{arriving, arriving_sure, BeginsWith, set_by_call, behind}
-use Rattle.par_bodies.specs.Types.{IsMarked, Is, IsValue, IsResult, Operates}
+use Rattle.par_bodies.specs.Types.{IsMarked, Is, IsValue, IsResult, IsEnded, Operates}
 use Rattle.par_bodies.specs.Forms.{Setting, IsThis, IsNew, ReadsLocal, ReadsField, UsesChannel}
 use Rattle.par_bodies.specs.Forms.{CallsMethod, IsGivenBack, SetsLocal, SetsField, IsThrown}
 use Rattle.par_bodies.specs.Forms.{UsesLock, AsksLock}
@@ -53,7 +54,7 @@ module _ (s : Setting) where
   -- in a loop or in none, where these locals are set
   unfoldable mutual
     pub StaIsProper : Bool → List ℕ → TSta → Type 0
-    StaIsProper looped set (Block ss at p) = AllAreProper looped set ss
+    StaIsProper looped set (Block ss at p) = AllAreProper looped true set ss
     StaIsProper looped set (If e b o at p) =
         Is ty.Boolean e × ExpIsProper set e × StaIsProper looped set b
         × ElseIsProper looped set o
@@ -80,10 +81,12 @@ module _ (s : Setting) where
     ElseIsProper looped set NoElse = Unit {0}
     ElseIsProper looped set (Otherwise b) = StaIsProper looped set b
 
-    pub AllAreProper : Bool → List ℕ → TStas → Type 0
-    AllAreProper looped set End = Unit {0}
-    AllAreProper looped set (Then b bs) =
-        StaIsProper looped set b × AllAreProper looped (behind set b) bs
+    -- of which the first is reached or not
+    pub AllAreProper : Bool → Bool → List ℕ → TStas → Type 0
+    AllAreProper looped reached set End = Unit {0}
+    AllAreProper looped reached set (Then b bs) =
+        (reached ≡ true) × StaIsProper looped set b
+        × AllAreProper looped (completes b) (behind set b) bs
 
     pub CatchesAreProper : Bool → List ℕ → TCatches → Type 0
     CatchesAreProper looped set NoCatch = Unit {0}
@@ -101,6 +104,7 @@ pub record IsProperOf (table : Table) (b : Body) (m : MethodInfo) (sures : List 
   pub result : IsResult m.result
   pub code : StaIsProper (record { table = table; class = b.class; method = m; sures = sures })
       false (set_by_call m) b.body
+  pub ended : IsEnded m.result (completes b.body)
 
 abbrev pub IsProper : Table → Body → Type 0
 IsProper table b = (m : MethodInfo) × (sures : List Bool) × IsProperOf table b m sures

@@ -1,5 +1,5 @@
 -- Which values may stand where, by their types.
-use Rattle.std.specs.Prelude.{◌≡◌, ℕ, ◌⊎◌, Bool, true}
+use Rattle.std.specs.Prelude.{◌≡◌, ℕ, ◌⊎◌, Bool, true, false}
 use Rattle.par_lexer.specs.declared.operator.BinOp.{BinOp}
 use Rattle.par_lexer.specs.declared.operator.BinOp.TheVariants as op
 use Rattle.par_typed.specs.declared.ty.Ty.{Ty}
@@ -26,6 +26,14 @@ IsValue ty.Void = ⊥
 -- the type of a result
 abbrev pub IsResult : Ty → Type 0
 IsResult t = IsValue t ⊎ (t ≡ ty.Void)
+
+-- with a result of this type control does not come behind a body
+abbrev pub IsEnded : Ty → Bool → Type 0
+IsEnded ty.Int comes = comes ≡ false
+IsEnded ty.Boolean comes = comes ≡ false
+IsEnded (ty.Class class) comes = comes ≡ false
+IsEnded ty.Null comes = comes ≡ false
+IsEnded ty.Void comes = Unit {0}
 
 -- a value of the second type may stand where one is declared of the first: null for an object
 abbrev pub Accepts : Ty → Ty → Type 0
