@@ -28,7 +28,8 @@ use Rattle.par_bodies.specs.Members.{fields_in, methods_in, field_at, channel_at
 use Rattle.par_bodies.specs.Locals.{arriving, arriving_sure, BeginsWith, set_by_call, IsSet, behind}
 use Rattle.par_bodies.specs.Types.{IsMarked, IsValue, IsResult, Accepts, IsGiven, AreCompared}
 use Rattle.par_bodies.specs.Types.{IsEnded, Operates}
-use Rattle.par_bodies.specs.Forms.{Setting, IsReceiver, AreArguments, IsGivenBack, IsNew, ReadsField}
+use Rattle.par_bodies.specs.Forms.{Setting, IsReceiver, AreArguments, IsGivenBack, IsNew}
+use Rattle.par_bodies.specs.Forms.{ReadsField}
 use Rattle.par_bodies.specs.Forms.{UsesChannel, CallsMethod, SetsLocal, SetsField, IsThrown}
 use Rattle.par_bodies.specs.Forms.{UsesLock, AsksLock}
 use Rattle.par_bodies.specs.Proper.{ExpIsProper, MayExpIsProper, ExpsAreProper, StaIsProper}
@@ -255,7 +256,8 @@ module _ (s : Setting) (ok : IsInRange s.table) (signed : AreSigned s.table)
     local = is;
     local_sure = sure;
     given = given t b e (local_value x t is) h;
-    leaves_this = λ instance zero_is. let low = past instance in absurd (omega (arith, low, zero_is));
+    leaves_this =
+        λ instance zero_is. let low = past instance in absurd (omega (arith, low, zero_is));
     policy_in_range = λ n is_n. policy_within s.table policy n may is_n;
   }
 

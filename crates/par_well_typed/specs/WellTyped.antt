@@ -29,8 +29,8 @@ NamesMembers table b = StaNames table b.body
 -- classes and members that it should, makes objects of ordinary classes, has `this` where there is
 -- a receiver, has values of types that fit where they stand, has no statement that is not reached
 -- and no end that is reached without a result, and has at most 2,000 nodes. The last of the fields
--- joins what code and runs need of these, form by form, and says more: local 0 of an instance method
--- is never set, and a lock that a `when` asks for has a policy.
+-- joins what code and runs need of these, form by form, and says more: local 0 of an instance
+-- method is never set, and a lock that a `when` asks for has a policy.
 pub record IsWellTyped (table : Table) (bodies : List Body) : Type 0 where
   pub in_range : IsInRange table
   pub built_in : HasBuiltIns table
