@@ -15,6 +15,7 @@ use Rattle.par_resolved.specs.Resolved.{table_of}
 use Rattle.par_scope.specs.Names.{IsFewTable}
 use Rattle.par_typing.proofs.Limits.{limits_kept}
 use Rattle.par_typing.proofs.Tables.{few_table}
+use Rattle.par_bodies.specs.Members as members
 use Rattle.par_well_typed.specs.Orderly as well
 use Rattle.par_verdict.specs.Accepted as verdict
 use Rattle.par_verdict.specs.Accepted.{IsOrderlyBody}
@@ -59,7 +60,7 @@ pub refuses : {A : Type 0} (tree : Source) (typed : Typed) (r : Result A JudgeEr
 refuses tree typed (Ok a) is faultless first = tt
 refuses tree typed (Err e) is faultless first = refuses_so tree typed e is faultless first
 
-same_methods : (o : Option ClassInfo) → verdict.methods_in o ≡ well.methods_in o
+same_methods : (o : Option ClassInfo) → verdict.methods_in o ≡ members.methods_in o
 same_methods None = refl
 same_methods (Some class) = refl
 

@@ -34,7 +34,8 @@ use Rattle.par_resolved.specs.Resolved.{field_infos, channel_info, param_info, t
 use Rattle.par_resolved.specs.Resolved.{this_type, local_types, method_info, class_info}
 use Rattle.par_resolved.specs.Resolved.{class_infos, has_main, table_of}
 use Rattle.par_well_typed.specs.Tables.{IsPolicy, IsLock, IsClass, MayBePolicy, AreLocks, IsType}
-use Rattle.par_well_typed.specs.Tables.{arrivals, FieldInRange, ChannelInRange, ParamInRange}
+use Rattle.par_bodies.specs.Locals.{arrivals}
+use Rattle.par_well_typed.specs.Tables.{FieldInRange, ChannelInRange, ParamInRange}
 use Rattle.par_well_typed.specs.Tables.{ThrowInRange, MethodInRange, ClassInRange, LockInRange}
 use Rattle.par_well_typed.specs.Tables as tables
 use Rattle.par_faults.specs.Faults.{all_faults}

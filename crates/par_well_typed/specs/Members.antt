@@ -1,6 +1,6 @@
 -- The classes and members that a body names are those that it should.
 use Rattle.std.specs.Prelude.{◌≡◌, ℕ, zero, suc, Bool, true, false, not}
-use Rattle.std.specs.Prelude.{List, [], Option, Some, None, length, slice_get}
+use Rattle.std.specs.Prelude.{Option, Some, None, length, slice_get}
 use Rattle.par_typed.specs.declared.ty.Ty.TheVariants as ty
 use Rattle.par_typed.specs.declared.table.FieldInfo.{FieldInfo}
 use Rattle.par_typed.specs.declared.table.ChannelInfo.{ChannelInfo}
@@ -14,23 +14,7 @@ use Rattle.par_typed.specs.Plain.{TSta, Block, If, While, Try, Return, Break, Co
 use Rattle.par_typed.specs.Plain.{Close, SetLocal, SetStatic, SetField, Eval, When, MayTSta, NoElse}
 use Rattle.par_typed.specs.Plain.{Otherwise, TStas, End, Then, TCatches, NoCatch, Catch}
 use Rattle.par_well_typed.specs.Tables.{IsClass}
-use Rattle.par_well_typed.specs.Orderly.{method_at}
-
--- ---- members by the number of their class and their own number there
-
-abbrev pub fields_in : Option ClassInfo → List FieldInfo
-fields_in None = []
-fields_in (Some class) = class.fields
-
-abbrev pub channels_in : Option ClassInfo → List ChannelInfo
-channels_in None = []
-channels_in (Some class) = class.channels
-
-abbrev pub field_at : Table → ℕ → ℕ → Option FieldInfo
-field_at table class field = slice_get (fields_in (slice_get table.classes class)) field
-
-abbrev pub channel_at : Table → ℕ → ℕ → Option ChannelInfo
-channel_at table class channel = slice_get (channels_in (slice_get table.classes class)) channel
+use Rattle.par_bodies.specs.Members.{field_at, channel_at, method_at}
 
 -- ---- what a number should name
 

@@ -1,5 +1,5 @@
 -- The numbers in a table are those of its policies, its ground locks and its classes.
-use Rattle.std.specs.Prelude.{ℕ, suc, ◌<◌, ◌≤◌, cond, List, length, Option, Some, None}
+use Rattle.std.specs.Prelude.{ℕ, ◌<◌, ◌≤◌, List, length, Option, Some, None}
 use Rattle.std.specs.List.{AllByRecursion}
 use Rattle.par_typed.specs.declared.ty.Ty.{Ty}
 use Rattle.par_typed.specs.declared.ty.Ty.TheVariants as ty
@@ -11,14 +11,11 @@ use Rattle.par_typed.specs.declared.table.ThrowInfo.{ThrowInfo}
 use Rattle.par_typed.specs.declared.table.MethodInfo.{MethodInfo}
 use Rattle.par_typed.specs.declared.table.ClassInfo.{ClassInfo}
 use Rattle.par_typed.specs.declared.table.Table.{Table}
+use Rattle.par_bodies.specs.Locals.{arrivals}
 
 -- how many policies a table has at most, and how many ground locks
 abbrev pub MOST : ℕ
 MOST = 256
-
--- the locals that a method has from its call: `this` in an instance method, and its parameters
-abbrev pub arrivals : MethodInfo → ℕ
-arrivals m = cond m.is_static (length m.params) (suc (length m.params))
 
 module _ (table : Table) where
   abbrev pub IsPolicy : ℕ → Type 0
