@@ -1,0 +1,9 @@
+//! The laws of the tables of sources.
+
+ghost use Rattle.par_tables.specs.Laws.{NamesAreApart};
+
+/// No two classes of the table have one name, no two fields of a class, and no two of its channels
+/// and methods. The exception classes that every program has count as classes.
+pub fn names_are_apart()
+    ensures { NamesAreApart }
+{}
