@@ -13,10 +13,10 @@ use Rattle.par_tree.specs.Plain.{Class, Source}
 use Rattle.par_typed.specs.declared.refusal.Refusal.{Refusal}
 use Rattle.par_typed.specs.First.{when}
 use Rattle.par_names.specs.Declarations.{actors, locks, policies, declared_classes, classes}
-use Rattle.par_names.specs.Declarations.{builtins, has_earlier, double_fault, doubles}
+use Rattle.par_names.specs.Declarations.{has_earlier, double_fault, doubles}
 use Rattle.par_names.specs.Members.{callee_ids}
 use Rattle.par_names.specs.Policies.{may_policy_faults}
-use Rattle.par_names.specs.Methods.{class_faults, field_faults, channel_faults, method_faults}
+use Rattle.par_names.specs.Methods.{field_faults, channel_faults, method_faults}
 use Rattle.par_names.specs.Program.{view_behind, program_doubles, declarations_faults, mains}
 use Rattle.par_names.specs.Program.{mains_faults, name_faults}
 use Rattle.par_names.proofs.Lookups.{map-map}
