@@ -17,8 +17,8 @@ const TOO_LONG: u16 = 5;
 
 /// Reads a source, and looks whether it keeps all rules: its length first, then its tokens, its
 /// sentence, its names, its limits, its types, fields without a policy, and its flows. What is
-/// accepted has a typed program and facts of each of its bodies. What may be asked of the program is
-/// said of its table and its bodies as well, without the source.
+/// accepted has a typed program and facts of each of its bodies. What may be asked of the program
+/// is said of its table and its bodies as well, without the source.
 pub fn judge(alloc: Global, source: &[u8]) -> Result<Accepted, JudgeError>
     ensures accepted { IfOk result (λ accepted. IsAcceptedAs source.now accepted.typed) }
     ensures well_formed { IfOk result (λ accepted. IsWellFormed accepted.typed) }
