@@ -1,0 +1,2 @@
+//! Security of accepted programs.
+#![tactic(auto)]
