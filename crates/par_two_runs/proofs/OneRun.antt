@@ -14,6 +14,7 @@ use Rattle.par_runs.specs.Tasks.{done, paid, change, happens, asked, follow, and
 use Rattle.par_alike.specs.Subject.{event_policy}
 use Rattle.par_two_runs.proofs.Lists.{agree_skip}
 use Rattle.par_two_runs.proofs.States.{Watch, Agrees, Blocked, BodyFlowsTo, Calm, Exits}
+use Rattle.par_two_runs.proofs.States.{shown_as}
 use Rattle.par_two_runs.proofs.States.{Explained, FlowsTo, Frame, Gives, HasPolicy, IsMade, Keeps}
 use Rattle.par_two_runs.proofs.States.{Leaves, Merges, Moved, Opened, Other, Restores, Unseen}
 use Rattle.par_two_runs.proofs.States.{Way, Writes, blind, blocked_on, broken, calm_body, calm_on}
@@ -107,7 +108,7 @@ module _ (on : Watch) where
     at =
         λ w s t f n ys b op r h. agree_skip (Explained on)
         (sees on.observer (event_policy on.table e)) _ _ _
-        (i ∙ false_from_ne_true _ (blind on g z p wr (blocked_on on r.context b)))
+        (shown_as on e p i ∙ false_from_ne_true _ (blind on g z p wr (blocked_on on r.context b)))
         (q.at w s t f n ys b op r h);
   }
 

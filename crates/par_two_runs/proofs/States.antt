@@ -1,4 +1,5 @@
 -- States as an observer meets them, and what a stretch of a run does to them.
+use Rattle.std.proofs.Common.{ap}
 use Rattle.std.proofs.Common.{◌≡◌, ℕ, Bool, true, false, ◌⊎◌, inl, inr, ⊎_elim, Option, Some}
 use Rattle.std.proofs.Common.{None, List, refl, sym, ◌∙◌, subst, length, if◌then◌else◌}
 use Rattle.std.specs.Prelude.{IsTrue, nat_lt, slice_get}
@@ -22,7 +23,7 @@ use Rattle.par_secrecy.specs.Shown.{Observer, sees}
 use Rattle.par_runs.specs.Names.{Name, made_named}
 use Rattle.par_runs.specs.State.{State}
 use Rattle.par_runs.specs.Tasks.{Exit, Normal, Broken, Continued, Returned, Thrown}
-use Rattle.par_alike.specs.Subject.{event_policy}
+use Rattle.par_alike.specs.Subject.{event_policy, policy_at}
 use Rattle.par_two_runs.specs.Watched.{watched, IsField}
 use Rattle.par_checks.specs.Checks.{lock_written}
 use Rattle.par_bodies.specs.Members.{field_at, channel_at}
@@ -95,9 +96,15 @@ module _ (on : Watch) where
   abbrev pub Sees : ℕ → Type 0
   Sees n = IsTrue (lattice.given n)
 
-  -- the events of a policy
-  abbrev pub HasPolicy : Event → ℕ → Type 0
-  HasPolicy e n = sees on.observer (event_policy on.table e) ≡ lattice.given n
+  -- the event has the policy of this number, and there is one
+  pub record HasPolicy (e : Event) (n : ℕ) : Type 0 where
+    pub policy : event_policy on.table e ≡ policy_at on.table n
+    pub seen : sees on.observer (policy_at on.table n) ≡ lattice.given n
+
+  -- so it is shown where the observer sees that policy
+  pub shown_as : (e : Event) (n : ℕ) → HasPolicy e n
+      → sees on.observer (event_policy on.table e) ≡ lattice.given n
+  shown_as e n h = ap (sees on.observer) h.policy ∙ h.seen
 
   abbrev pub Exits : Type 0
   Exits = Exit → Option Way
@@ -160,6 +167,7 @@ module _ (on : Watch) where
     pub locks : Set
     pub node : on.Release to value locks
     pub target : Sees to
+    pub seen : IsTrue (sees on.observer (policy_at on.table to))
     pub hidden : Unseen value
     pub left : (l : ℕ) → IsTrue (locks l) → IsTrue (has x.locks l)
     pub right : (l : ℕ) → IsTrue (locks l) → IsTrue (has y.locks l)
@@ -180,6 +188,7 @@ module _ (on : Watch) where
         locks = r.locks;
         node = r.node;
         target = r.target;
+        seen = r.seen;
         hidden = r.hidden;
         left = r.right;
         right = r.left;

@@ -11,6 +11,7 @@ use Rattle.par_runs.specs.Tasks.{Exit, Normal, Rests, Task, done, paid, change, 
 use Rattle.par_alike.specs.Subject.{event_policy}
 use Rattle.par_two_runs.proofs.Lists.{Agree, agree_emit}
 use Rattle.par_two_runs.proofs.States.{Watch, Agrees, BodyFlowsTo, Calm, Exits, Explained}
+use Rattle.par_two_runs.proofs.States.{shown_as}
 use Rattle.par_two_runs.proofs.States.{FlowsTo, Frame, Gives, HasPolicy, IsMade, Like, Moved}
 use Rattle.par_two_runs.proofs.States.{Opened, Other, Restores, Sees, Unseen, Way, blocked_here}
 use Rattle.par_two_runs.proofs.States.{calm_body, calm_on, flows_here, gives_other, keeps_higher}
@@ -139,13 +140,13 @@ module _ (on : Watch) where
         (shown on (c f s m).events))
         (cond (sees on.observer (event_policy on.table e'))
         (record { event = e'; locks = t.locks } ∷ shown on (c' f' t n).events)
-        (shown on (c' f' t n).events))) (sym i)
+        (shown on (c' f' t n).events))) (sym (shown_as on e p i))
         (subst (λ b. Agree (Explained on)
         (cond ((lattice on).given p)
         (record { event = e; locks = s.locks } ∷ shown on (c f s m).events)
         (shown on (c f s m).events))
         (cond b (record { event = e'; locks = t.locks } ∷ shown on (c' f' t n).events)
-        (shown on (c' f' t n).events))) (sym i')
+        (shown on (c' f' t n).events))) (sym (shown_as on e' p i'))
         (agree_emit (Explained on) ((lattice on).given p) _ _ _ _
         (λ b. (h s t l b, λ i. (q (λ b. i)).at s t f f' m n l k))
         (λ b. (q (λ b'. absurd cc)).at s t f f' m n l k)));

@@ -1,4 +1,5 @@
 -- Births, writes to fields, and outputs.
+use Rattle.std.proofs.Common.{sym}
 use Rattle.std.proofs.Common.{◌≡◌, ℕ, Bool, true, false, ◌⊎◌, inl, inr, ⊎_elim, Option, Some}
 use Rattle.std.proofs.Common.{None, refl, ap, subst, if◌then◌else◌, ◌+◌}
 use Rattle.std.specs.Prelude.{IsTrue, nat_lt, slice_get}
@@ -22,6 +23,7 @@ use Rattle.par_bodies.specs.Members.{field_at}
 use Rattle.par_two_runs.specs.Watched.{IsField}
 use Rattle.par_two_runs.proofs.Leaves.{Level, Sound, keeps_level, like_level, step_named}
 use Rattle.par_two_runs.proofs.Leaves.{tail_named}
+use Rattle.par_two_runs.proofs.States.{HasPolicy}
 use Rattle.par_two_runs.proofs.States.{Watch, Any, BodyFlowsTo, Exits, Explained, Frame, IsMade}
 use Rattle.par_two_runs.proofs.States.{Like, Made, Same, Sees, Values, Way, Writes, blind}
 use Rattle.par_two_runs.proofs.States.{declared, lattice, same_back, same_here, same_on}
@@ -129,10 +131,10 @@ module _ (on : Watch) where
 
     -- two values that go to a target: equal, or explained
     pub sent : (g : Frame) (w : Way on) (to : ℕ) (V : Bool) (e e' : Event)
-        → on.Release to V w.locks → (IsTrue V → e ≡ e') → (s t : State) → Like on g w w s t
+        → HasPolicy on e to → on.Release to V w.locks → (IsTrue V → e ≡ e') → (s t : State) → Like on g w w s t
         → Sees on to → (e ≡ e') ⊎ Explained on (record { event = e; locks = s.locks })
         (record { event = e'; locks = t.locks })
-    sent g w to V e e' r h s t l b =
+    sent g w to V e e' i r h s t l b =
         ⊎_elim (λ p. inl (h p))
         (λ p. inr
         (record {
@@ -141,6 +143,7 @@ module _ (on : Watch) where
           locks = w.locks;
           node = r;
           target = b;
+          seen = subst IsTrue (sym i.seen) b;
           hidden = λ q. cc;
           left = l.left.known;
           right = l.right.known;
@@ -213,7 +216,7 @@ module _ (on : Watch) where
         (SetEvent m.class m.name (shown_value on.table v)) ((declared on).field c f)
         (sound.set c f m is (shown_value on.table u))
         (sound.set c f m is (shown_value on.table v))
-        (sent g w ((declared on).field c f) V _ _ r
+        (sent g w ((declared on).field c f) V _ _ (sound.set c f m is (shown_value on.table u)) r
         (λ p. ap (λ z. SetEvent m.class m.name (shown_value on.table z)) (e p)))
         (λ h. step_change on w (set_static c f u) (set_static c f v)
         (λ s t l. like_level on g w s t (set_static c f u s) (set_static c f v t)
@@ -339,7 +342,8 @@ module _ (on : Watch) where
           event = Put m.class (object_number k) m.name (shown_value on.table v);
           locks = t.locks;
         })) (er p)
-        (sent g w ((declared on).field c f) V _ _ rl
+        (sent g w ((declared on).field c f) V _ _
+        (sound.put c f m is (object_number r) (shown_value on.table u)) rl
         (λ p. ap (λ z. Put m.class (object_number r) m.name (shown_value on.table z)) (e p)) s t l
         p)) (λ h. step_change on w (set_field c (object_number r) f u)
         (set_field c (object_number r') f v)
@@ -370,6 +374,6 @@ module _ (on : Watch) where
         (λ m is. step_emit on (Out m.class m.name (number_of u))
         (Out m.class m.name (number_of v)) ((declared on).channel c k)
         (sound.out c k m is (number_of u)) (sound.out c k m is (number_of v))
-        (sent g w ((declared on).channel c k) V _ _ r
+        (sent g w ((declared on).channel c k) V _ _ (sound.out c k m is (number_of u)) r
         (λ p. ap (λ z. Out m.class m.name (number_of z)) (e p)))
         (λ b. step_normal on nothing nothing tt tt q rn))

@@ -23,9 +23,9 @@ use Rattle.par_runs.specs.Source.{given_to, start, final, run_of}
 use Rattle.par_secrecy.specs.Secure.{events}
 use Rattle.par_values.specs.declared.inputs.ChannelInput.{ChannelInput}
 use Rattle.par_runs.specs.Meaning.{go}
-use Rattle.par_secure.proofs.Needs.{StaNames}
-use Rattle.par_secure.proofs.Needs.{StaReady}
-use Rattle.par_secure.proofs.Needs.{StaMakes}
+use Rattle.par_in_step.proofs.Needs.{StaNames}
+use Rattle.par_in_step.proofs.Needs.{StaReady}
+use Rattle.par_in_step.proofs.Needs.{StaMakes}
 use Rattle.par_secrecy.specs.Runs.{Witnessed}
 use Rattle.par_runs.specs.Names.{channel_named}
 use Rattle.par_bodies.specs.Members.{channel_at}
@@ -34,13 +34,13 @@ use Rattle.par_two_runs.proofs.Lists.{agree_nil, agree_at}
 use Rattle.par_two_runs.proofs.States.{Watch, Agrees, Any, Explained, Frame, Opened, Sees}
 use Rattle.par_two_runs.proofs.States.{declared, exits, flows_here, lattice, like_body, shown}
 use Rattle.par_two_runs.proofs.States.{to_flow}
-use Rattle.par_secure.proofs.Points.{AllKept}
+use Rattle.par_in_step.proofs.Points.{AllKept}
 use Rattle.par_two_runs.proofs.Calls.{Ends, InStep, Silent}
 use Rattle.par_two_runs.proofs.Leaves.{Sound}
 use Rattle.par_two_runs.proofs.OneRun.{Hush}
-use Rattle.par_secure.proofs.QuietStas.{hush_sta}
+use Rattle.par_in_step.proofs.QuietStas.{hush_sta}
 use Rattle.par_two_runs.proofs.TwoRuns.{Step}
-use Rattle.par_secure.proofs.Stas.{step_sta}
+use Rattle.par_in_step.proofs.Stas.{step_sta}
 use Rattle.par_two_runs.proofs.Writes.{first_made}
 
 module _ (on : Watch) where

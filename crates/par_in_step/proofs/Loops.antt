@@ -26,16 +26,16 @@ use Rattle.par_two_runs.proofs.States.{Watch, Blocked, Exits, FlowsTo, Frame, Gi
 use Rattle.par_two_runs.proofs.States.{declared, each_exit, exits, flows_here, flows_is}
 use Rattle.par_two_runs.proofs.States.{flows_raised, lands_is, lattice, raised, raised_lands}
 use Rattle.par_two_runs.proofs.States.{returned, thrown}
-use Rattle.par_secure.proofs.Points.{Good, Has, Obey, open_leaves, open_node, raised_is}
-use Rattle.par_secure.proofs.Points.{restores_of}
+use Rattle.par_in_step.proofs.Points.{Good, Has, Obey, open_leaves, open_node, raised_is}
+use Rattle.par_in_step.proofs.Points.{restores_of}
 use Rattle.par_two_runs.proofs.OneRun.{Hush, Tail, tail_higher, tail_normal, tail_other}
 use Rattle.par_two_runs.proofs.OneRun.{tail_paid, tail_part, tail_through}
-use Rattle.par_secure.proofs.Operators.{step_given, tail_given, tail_if_is}
+use Rattle.par_in_step.proofs.Operators.{step_given, tail_given, tail_if_is}
 use Rattle.par_two_runs.proofs.TwoRuns.{Step, step_body}
-use Rattle.par_secure.proofs.StaPoints.{Stretch, open_heads, open_test, part_sta}
+use Rattle.par_in_step.proofs.StaPoints.{Stretch, open_heads, open_test, part_sta}
 use Rattle.par_two_runs.proofs.Leaves.{Sound}
 use Rattle.par_two_runs.proofs.Calls.{Silent}
-use Rattle.par_secure.proofs.QuietExps.{hush_exp}
+use Rattle.par_in_step.proofs.QuietExps.{hush_exp}
 
 module _ (on : Watch) where
   module _ (a : Facts (lattice on)) where

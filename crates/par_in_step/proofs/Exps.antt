@@ -6,8 +6,8 @@ use Rattle.par_rules.specs.Kinds as kind
 use Rattle.par_rules.specs.Kinds.{Kind}
 use Rattle.par_rules.specs.Facts.{Facts}
 use Rattle.par_bodies.specs.Members.{method_at}
-use Rattle.par_secure.proofs.Needs.{ExpsName}
-use Rattle.par_secure.proofs.Needs.{ExpsMake}
+use Rattle.par_in_step.proofs.Needs.{ExpsName}
+use Rattle.par_in_step.proofs.Needs.{ExpsMake}
 use Rattle.par_rules.specs.Rules as rules
 use Rattle.par_rules.specs.Rules.{From, Entry, After, Tested, node, Rules, Node}
 use Rattle.par_rules.specs.Kinds.{Next, Loop, Catches, Absorber}
@@ -17,13 +17,15 @@ use Rattle.par_rules.specs.Body as body
 use Rattle.par_typed.specs.Plain as plain
 use Rattle.par_typed.specs.Plain.{TExp, TExps, MayTExp, TSta, TStas, TCatches, Mark, mark, point}
 use Rattle.par_checks.specs.Checks as checks
+use Rattle.par_in_step.specs.Release.{IsRelease}
+use Rattle.std.proofs.Common.{inr}
 use Rattle.std.specs.Prelude.{map}
 use Rattle.par_typed.specs.Plain.{Body}
 use Rattle.par_runs.specs.Meaning.{Calls, calls, eval, eval_all}
 use Rattle.par_runs.specs.Values.{truth, is_true}
 use Rattle.par_values.specs.Arithmetic.{negated}
-use Rattle.par_secure.proofs.Needs.{ExpNames}
-use Rattle.par_secure.proofs.Needs.{ExpMakes}
+use Rattle.par_in_step.proofs.Needs.{ExpNames}
+use Rattle.par_in_step.proofs.Needs.{ExpMakes}
 use Rattle.par_values.specs.declared.value.MVal.{MVal}
 use Rattle.par_values.specs.declared.value.MVal.TheVariants as value
 use Rattle.par_values.specs.Areas.{number_of, next}
@@ -36,21 +38,21 @@ use Rattle.par_two_runs.proofs.States.{declared, exits, flows_is, flows_raised, 
 use Rattle.par_two_runs.proofs.States.{lands_raised, lattice, raised, raised_lands}
 use Rattle.par_two_runs.proofs.Leaves.{Sound, step_input, step_named, step_read, tail_read}
 use Rattle.par_two_runs.proofs.Calls.{InStep, Silent}
-use Rattle.par_secure.proofs.CallPoints.{Aligned, args_past_past, call_spot, called_static}
-use Rattle.par_secure.proofs.CallPoints.{called_there, calling_of, enter_step, enter_tail}
-use Rattle.par_secure.proofs.CallPoints.{instance_env, instance_of, method_is, received}
-use Rattle.par_secure.proofs.CallPoints.{receiver_tail, static_env, static_of}
-use Rattle.par_secure.proofs.Points.{AllKept, Good, Has, Obey, holds_is, kept_app, open_if_not}
-use Rattle.par_secure.proofs.Points.{open_leaves, open_node, open_worths, part_exp, raised_is}
-use Rattle.par_secure.proofs.Points.{restores_of, throws_there}
+use Rattle.par_in_step.proofs.CallPoints.{Aligned, args_past_past, call_spot, called_static}
+use Rattle.par_in_step.proofs.CallPoints.{called_there, calling_of, enter_step, enter_tail}
+use Rattle.par_in_step.proofs.CallPoints.{instance_env, instance_of, method_is, received}
+use Rattle.par_in_step.proofs.CallPoints.{receiver_tail, static_env, static_of}
+use Rattle.par_in_step.proofs.Points.{AllKept, Good, Has, Obey, holds_is, kept_app, open_if_not}
+use Rattle.par_in_step.proofs.Points.{open_leaves, open_node, open_worths, part_exp, raised_is}
+use Rattle.par_in_step.proofs.Points.{restores_of, throws_there}
 use Rattle.par_two_runs.proofs.TwoRuns.{Step, step_body, step_normal, step_paid}
 use Rattle.par_two_runs.proofs.Arguments.{AllMade, AreGiven, all_made, truth_made}
 use Rattle.par_two_runs.proofs.Writes.{step_born, step_output, tail_output}
 use Rattle.par_two_runs.proofs.Parts.{step_part, step_tested}
 use Rattle.par_two_runs.proofs.OneRun.{Tail, tail_higher, tail_normal}
-use Rattle.par_secure.proofs.Operators.{Pairwise, Second, binary_step, field_tail, second_is}
-use Rattle.par_secure.proofs.Operators.{second_step, second_tail}
-use Rattle.par_secure.proofs.QuietExps.{hush_args, hush_exp}
+use Rattle.par_in_step.proofs.Operators.{Pairwise, Second, binary_step, field_tail, second_is}
+use Rattle.par_in_step.proofs.Operators.{second_step, second_tail}
+use Rattle.par_in_step.proofs.QuietExps.{hush_args, hush_exp}
 
 module _ (on : Watch) where
   module _ (a : Facts (lattice on)) where
@@ -174,8 +176,9 @@ module _ (on : Watch) where
             (λ u u' n iu iu' e' r. step_output on sound c j (a (mark e).point).value u u'
             (λ p. refl)
             (holds_is on a _ n
-            (λ w. on.Release ((declared on).channel c j) (a (mark e).point).value w.locks) e'
-            ks.1.0) r (lands_is on n _ _ e' l.0))
+            (λ w. IsRelease 403
+            → on.Release ((declared on).channel c j) (a (mark e).point).value w.locks) e' ks.1.0
+            (inr (inr refl))) r (lands_is on n _ _ e' l.0))
             (λ u n iu e'. tail_output on sound c j u (wr n e') (lands_is on n _ _ e' l.0))
             (λ u n iu e'. tail_output on sound c j u (wr n e') (lands_is on n _ _ e' l.0)))
         step_exp (plain.Call c j plain.Absent es m) g w i ob k =

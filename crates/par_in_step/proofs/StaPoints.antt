@@ -25,9 +25,9 @@ use Rattle.par_checks.specs.Asked.{Condition, Check, Spot}
 use Rattle.par_checks.specs.Checks as checks
 use Rattle.std.specs.Prelude.{map}
 use Rattle.par_typed.specs.Plain.{Body}
-use Rattle.par_secure.proofs.Needs.{StaNames, IsException}
-use Rattle.par_secure.proofs.Needs.{StaReady}
-use Rattle.par_secure.proofs.Needs.{StaMakes}
+use Rattle.par_in_step.proofs.Needs.{StaNames, IsException}
+use Rattle.par_in_step.proofs.Needs.{StaReady}
+use Rattle.par_in_step.proofs.Needs.{StaMakes}
 use Rattle.par_typed.specs.declared.table.ClassInfo.{ClassInfo}
 use Rattle.par_runs.specs.Tasks.{Exit, Thrown}
 use Rattle.par_checks.specs.Checks.{lock_written}
@@ -35,8 +35,8 @@ use Rattle.par_two_runs.proofs.Basics.{and_both}
 use Rattle.par_two_runs.proofs.States.{Watch, FlowsTo, Frame, Leaves, Merges, Sees, Way, Writes}
 use Rattle.par_two_runs.proofs.States.{declared, exits, flows_is, kind_of, lands_is, lattice}
 use Rattle.par_two_runs.proofs.States.{raised}
-use Rattle.par_secure.proofs.Points.{AllKept, Has, Obey, holds_is, leaves_next, other_kind}
-use Rattle.par_secure.proofs.Points.{passes, reached_is, spot_exp, unranged, writes_at}
+use Rattle.par_in_step.proofs.Points.{AllKept, Has, Obey, holds_is, leaves_next, other_kind}
+use Rattle.par_in_step.proofs.Points.{passes, reached_is, spot_exp, unranged, writes_at}
 use Rattle.par_two_runs.proofs.Locks.{Learns}
 
 module _ (on : Watch) where

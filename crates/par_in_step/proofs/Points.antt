@@ -16,13 +16,14 @@ use Rattle.par_rules.specs.Body.{exp, if_not}
 use Rattle.par_typed.specs.Plain as plain
 use Rattle.par_typed.specs.Plain.{TExp, TExps, MayTExp, TSta, TStas, TCatches, Mark, mark, point}
 use Rattle.par_checks.specs.Asked as ask
+use Rattle.par_in_step.specs.Release.{IsRelease}
 use Rattle.par_pass.specs.Possible.{HasPossibleExits, HavePossibleExits}
 use Rattle.par_checks.specs.Asked.{Condition, Check, Spot}
 use Rattle.par_checks.specs.Checks as checks
 use Rattle.std.specs.Prelude.{map}
 use Rattle.par_typed.specs.Plain.{Body}
-use Rattle.par_secure.proofs.Needs.{ExpNames}
-use Rattle.par_secure.proofs.Needs.{ExpMakes}
+use Rattle.par_in_step.proofs.Needs.{ExpNames}
+use Rattle.par_in_step.proofs.Needs.{ExpMakes}
 use Rattle.par_runs.specs.Tasks.{Exit, Normal, Broken, Continued, Returned, Thrown}
 use Rattle.par_two_runs.proofs.States.{Watch, FlowsTo, Frame, Leaves, Other, Restores, Sees, Way}
 use Rattle.par_two_runs.proofs.States.{Writes, broken, continued, declared, exits, flows_is}
@@ -191,21 +192,22 @@ module _ (on : Watch) where
         )
 
     -- ---- checks
-    abbrev pub Demand : Way on → Condition → Type 0
-    Demand w (ask.Open locks) = IsWithin locks w.locks
-    Demand w (ask.Released v p) = on.Release p (a v).value w.locks
-    Demand w (ask.Worth v p) = Sees on p → IsTrue (a v).value
-    Demand w (ask.Joined v p) = Sees on p → IsTrue ((a v).value && w.context)
-    Demand w (ask.Context p) = Sees on p → IsTrue w.context
-    Demand w (ask.Effect e p) = Sees on p → Sees on e
-    Demand w (ask.Among locks those) = IsWithin locks those
-    Demand w ask.Never = ⊥
+    -- what a condition of this rule says to the observer
+    abbrev pub Demand : ℕ → Way on → Condition → Type 0
+    Demand rule w (ask.Open locks) = IsWithin locks w.locks
+    Demand rule w (ask.Released v p) = IsRelease rule → on.Release p (a v).value w.locks
+    Demand rule w (ask.Worth v p) = Sees on p → IsTrue (a v).value
+    Demand rule w (ask.Joined v p) = Sees on p → IsTrue ((a v).value && w.context)
+    Demand rule w (ask.Context p) = Sees on p → IsTrue w.context
+    Demand rule w (ask.Effect e p) = Sees on p → Sees on e
+    Demand rule w (ask.Among locks those) = IsWithin locks those
+    Demand rule w ask.Never = ⊥
 
     abbrev pub Kept : Check → Type 0
     Kept c =
         rules.Holds (lattice on)
         (rules.way (lattice on) (a c.spot.point).entry (map a c.spot.parts) c.spot.from)
-        (λ w. Demand w c.condition)
+        (λ w. Demand c.rule w c.condition)
 
     abbrev pub AllKept : List Check → Type 0
     AllKept [] = Unit {0}

@@ -22,12 +22,14 @@ use Rattle.par_typed.specs.Plain.{TExp, TExps, MayTExp, TSta, TStas, TCatches, M
 use Rattle.par_checks.specs.Asked as ask
 use Rattle.par_checks.specs.Asked.{Condition, Check, Spot}
 use Rattle.par_checks.specs.Checks as checks
+use Rattle.par_in_step.specs.Release.{IsRelease}
+use Rattle.std.proofs.Common.{inl, inr}
 use Rattle.par_typed.specs.Plain.{Body}
 use Rattle.par_runs.specs.Meaning.{Calls, eval, go, go_else, go_all, go_catch}
 use Rattle.par_runs.specs.Values.{is_true}
-use Rattle.par_secure.proofs.Needs.{ExpNames, StaNames, StasName, CatchesName}
-use Rattle.par_secure.proofs.Needs.{StaReady, StasReady, CatchesReady}
-use Rattle.par_secure.proofs.Needs.{ExpMakes, StaMakes, StasMake, CatchesMake}
+use Rattle.par_in_step.proofs.Needs.{ExpNames, StaNames, StasName, CatchesName}
+use Rattle.par_in_step.proofs.Needs.{StaReady, StasReady, CatchesReady}
+use Rattle.par_in_step.proofs.Needs.{ExpMakes, StaMakes, StasMake, CatchesMake}
 use Rattle.par_values.specs.declared.value.MVal.{MVal}
 use Rattle.par_values.specs.Areas.{next}
 use Rattle.par_runs.specs.State.{set_local, set_result, open_lock, close_lock}
@@ -40,23 +42,23 @@ use Rattle.par_two_runs.proofs.States.{flows_is, flows_raised, lands_is, lands_r
 use Rattle.par_two_runs.proofs.States.{raised, raised_lands, returned, thrown}
 use Rattle.par_two_runs.proofs.Leaves.{Sound}
 use Rattle.par_two_runs.proofs.Calls.{InStep, Silent}
-use Rattle.par_secure.proofs.Points.{AllKept, Good, Has, Obey, Piece, holds_is, kept_app}
-use Rattle.par_secure.proofs.Points.{open_if_not, open_leaves, open_node, part_exp, raised_is}
-use Rattle.par_secure.proofs.Points.{restores_of, throws_there}
+use Rattle.par_in_step.proofs.Points.{AllKept, Good, Has, Obey, Piece, holds_is, kept_app}
+use Rattle.par_in_step.proofs.Points.{open_if_not, open_leaves, open_node, part_exp, raised_is}
+use Rattle.par_in_step.proofs.Points.{restores_of, throws_there}
 use Rattle.par_two_runs.proofs.TwoRuns.{Step, over_raised, over_tail, step_apart, step_body}
 use Rattle.par_two_runs.proofs.TwoRuns.{step_change, step_if, step_normal, step_other, step_paid}
 use Rattle.par_two_runs.proofs.OneRun.{Tail, tail_branch, tail_change, tail_higher, tail_if}
 use Rattle.par_two_runs.proofs.OneRun.{tail_normal, tail_other}
 use Rattle.par_two_runs.proofs.Parts.{step_branch, step_exits, step_part, step_tested, tail_tested}
-use Rattle.par_secure.proofs.Exps.{step_exp}
-use Rattle.par_secure.proofs.StaPoints.{only_possible, GoodSta, field_asks, field_writes}
-use Rattle.par_secure.proofs.StaPoints.{handler_flows}
-use Rattle.par_secure.proofs.StaPoints.{merges_of, next_leaves, part_sta, throw_ranged}
-use Rattle.par_secure.proofs.StaPoints.{written_way}
-use Rattle.par_secure.proofs.QuietStas.{hush_sta, tail_all, tail_exp}
-use Rattle.par_secure.proofs.Loops.{looping}
-use Rattle.par_secure.proofs.LoopsInStep.{loop_step}
-use Rattle.par_secure.proofs.Choices.{step_handled, step_if_is, step_query, tail_handled}
+use Rattle.par_in_step.proofs.Exps.{step_exp}
+use Rattle.par_in_step.proofs.StaPoints.{only_possible, GoodSta, field_asks, field_writes}
+use Rattle.par_in_step.proofs.StaPoints.{handler_flows}
+use Rattle.par_in_step.proofs.StaPoints.{merges_of, next_leaves, part_sta, throw_ranged}
+use Rattle.par_in_step.proofs.StaPoints.{written_way}
+use Rattle.par_in_step.proofs.QuietStas.{hush_sta, tail_all, tail_exp}
+use Rattle.par_in_step.proofs.Loops.{looping}
+use Rattle.par_in_step.proofs.LoopsInStep.{loop_step}
+use Rattle.par_in_step.proofs.Choices.{step_handled, step_if_is, step_query, tail_handled}
 use Rattle.par_two_runs.proofs.Locals.{assigned, local_keeps, local_like, result_keeps, result_like}
 use Rattle.par_two_runs.proofs.Locks.{close_like, open_like, opening, shutting, tail_when}
 use Rattle.par_two_runs.proofs.Writes.{step_field, step_static, tail_field, tail_static}
@@ -329,7 +331,9 @@ module _ (on : Watch) where
             step_paid on _ _
             (step_next e t.0 (ks.0, k.1.1, k.2) i _ _ (restores_of on a p w i h.0)
             (λ u v n iu iv e' r. step_static on sound c f V u v iu iv
-            (holds_is on a _ n (λ w. on.Release ((declared on).field c f) V w.locks) e' ks.1.0) r
+            (holds_is on a _ n
+            (λ w. IsRelease 401 → on.Release ((declared on).field c f) V w.locks) e' ks.1.0
+            (inl refl)) r
             (lands_is on n _ _ e' l.0)) tl tl)
         step_sta (plain.SetField y c f e at p) g w i ob k =
             let h = open_node on a ob in
@@ -370,8 +374,9 @@ module _ (on : Watch) where
             (tf r1 v iv j e'') (tf r2 v' iv' j e'')
             (λ sv. step_field on sound c f U r1 r2 v v' k.1.1 iv iv'
             (subst (λ ls. on.Release ((declared on).field c f) U ls) wy.locks
-            (holds_is on a _ wy.way (λ w. on.Release ((declared on).field c f) U w.locks) wy.is
-            kr.1.0)) (λ vis. er
+            (holds_is on a _ wy.way
+            (λ w. IsRelease 402 → on.Release ((declared on).field c f) U w.locks) wy.is kr.1.0
+            (inr (inl refl)))) (λ vis. er
             (holds_is on a _ wy.way (λ w. Sees on ((declared on).field c f) → IsTrue V) wy.is
             kr.1.1.0 vis)) ev (lands_is on j _ _ e'' l.0))) (te r1) (te r2))
             (λ r1 n ir e'. tail_exp on a sound run silent m e t.0 good e' _ (te r1))

@@ -24,9 +24,9 @@ use Rattle.par_checks.specs.Checks as checks
 use Rattle.par_typed.specs.Plain.{Body}
 use Rattle.par_runs.specs.Meaning.{Calls, eval, go, go_else, go_all, go_catch}
 use Rattle.par_runs.specs.Values.{is_true}
-use Rattle.par_secure.proofs.Needs.{ExpNames, StaNames, StasName, CatchesName}
-use Rattle.par_secure.proofs.Needs.{StaReady, StasReady, CatchesReady}
-use Rattle.par_secure.proofs.Needs.{ExpMakes, StaMakes, StasMake, CatchesMake}
+use Rattle.par_in_step.proofs.Needs.{ExpNames, StaNames, StasName, CatchesName}
+use Rattle.par_in_step.proofs.Needs.{StaReady, StasReady, CatchesReady}
+use Rattle.par_in_step.proofs.Needs.{ExpMakes, StaMakes, StasMake, CatchesMake}
 use Rattle.par_values.specs.declared.value.MVal.{MVal}
 use Rattle.par_values.specs.Areas.{next}
 use Rattle.par_runs.specs.State.{set_local, set_result, open_lock, close_lock}
@@ -38,23 +38,23 @@ use Rattle.par_two_runs.proofs.States.{flows_raised, lands_is, lattice, raised, 
 use Rattle.par_two_runs.proofs.States.{returned, thrown}
 use Rattle.par_two_runs.proofs.Leaves.{Sound}
 use Rattle.par_two_runs.proofs.Calls.{Silent}
-use Rattle.par_secure.proofs.Points.{AllKept, Good, Has, Obey, Piece, holds_is, kept_app}
-use Rattle.par_secure.proofs.Points.{open_if_not, open_leaves, open_node, part_exp, raised_is}
-use Rattle.par_secure.proofs.Points.{restores_of, throws_there}
+use Rattle.par_in_step.proofs.Points.{AllKept, Good, Has, Obey, Piece, holds_is, kept_app}
+use Rattle.par_in_step.proofs.Points.{open_if_not, open_leaves, open_node, part_exp, raised_is}
+use Rattle.par_in_step.proofs.Points.{restores_of, throws_there}
 use Rattle.par_two_runs.proofs.OneRun.{Hush, Tail, hush_node, tail_branch, tail_change}
 use Rattle.par_two_runs.proofs.OneRun.{tail_higher, tail_if, tail_normal, tail_other, tail_paid}
 use Rattle.par_two_runs.proofs.OneRun.{tail_part, tail_through}
-use Rattle.par_secure.proofs.QuietExps.{hush_exp}
-use Rattle.par_secure.proofs.StaPoints.{only_possible, GoodSta, field_asks, field_writes}
-use Rattle.par_secure.proofs.StaPoints.{handler_flows}
-use Rattle.par_secure.proofs.StaPoints.{learns_of, merges_of, next_leaves, part_sta}
-use Rattle.par_secure.proofs.StaPoints.{throw_ranged}
-use Rattle.par_secure.proofs.Loops.{loop_tail, looping}
+use Rattle.par_in_step.proofs.QuietExps.{hush_exp}
+use Rattle.par_in_step.proofs.StaPoints.{only_possible, GoodSta, field_asks, field_writes}
+use Rattle.par_in_step.proofs.StaPoints.{handler_flows}
+use Rattle.par_in_step.proofs.StaPoints.{learns_of, merges_of, next_leaves, part_sta}
+use Rattle.par_in_step.proofs.StaPoints.{throw_ranged}
+use Rattle.par_in_step.proofs.Loops.{loop_tail, looping}
 use Rattle.par_two_runs.proofs.Locals.{assigned, local_keeps, result_keeps}
 use Rattle.par_two_runs.proofs.Locks.{close_keeps, open_keeps, opening, shutting, tail_when}
 use Rattle.par_two_runs.proofs.Writes.{tail_field, tail_static}
 use Rattle.par_two_runs.proofs.Parts.{tail_tested}
-use Rattle.par_secure.proofs.Operators.{tail_if_is}
+use Rattle.par_in_step.proofs.Operators.{tail_if_is}
 
 module _ (on : Watch) where
   module _ (a : Facts (lattice on)) where

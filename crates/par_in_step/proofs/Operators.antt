@@ -35,8 +35,8 @@ use Rattle.par_two_runs.proofs.States.{Watch, Blocked, BodyFlowsTo, Exits, Flows
 use Rattle.par_two_runs.proofs.States.{Restores, Unseen, Values, Way, declared, exits, flows_here}
 use Rattle.par_two_runs.proofs.States.{flows_is, flows_raised, lands_is, lands_raised, lattice}
 use Rattle.par_two_runs.proofs.States.{raised, raised_lands, swap, thrown}
-use Rattle.par_secure.proofs.Points.{Has, Obey, Piece, open_if_not, open_leaves, open_node}
-use Rattle.par_secure.proofs.Points.{open_worths, raised_is, restores_of, throws_there}
+use Rattle.par_in_step.proofs.Points.{Has, Obey, Piece, open_if_not, open_leaves, open_node}
+use Rattle.par_in_step.proofs.Points.{open_worths, raised_is, restores_of, throws_there}
 use Rattle.par_two_runs.proofs.Arguments.{truth_made}
 use Rattle.par_two_runs.proofs.OneRun.{Hush, Tail, paid_left, tail_higher, tail_normal}
 use Rattle.par_two_runs.proofs.OneRun.{tail_other, tail_part}

@@ -13,9 +13,9 @@ use Rattle.par_typed.specs.declared.table.ParamInfo.{ParamInfo}
 use Rattle.par_rules.specs.Closed as closed
 use Rattle.par_values.specs.Areas.{value_or_null}
 use Rattle.par_bodies.specs.Members.{method_at, methods_in}
-use Rattle.par_secure.proofs.Needs.{is_present, IsCalled}
+use Rattle.par_in_step.proofs.Needs.{is_present, IsCalled}
 use Rattle.par_two_runs.specs.Watched.{IsThere}
-use Rattle.par_secure.proofs.Needs.{how_many}
+use Rattle.par_in_step.proofs.Needs.{how_many}
 use Rattle.par_typed.specs.declared.table.MethodInfo.{MethodInfo}
 use Rattle.par_rules.specs.Declares.{Method, declares}
 use Rattle.par_rules.specs.Rules as rules
@@ -37,8 +37,8 @@ use Rattle.par_runs.specs.Tasks.{Thrown, tested, NULL_POINTER}
 use Rattle.par_two_runs.proofs.States.{Watch, FlowsTo, Frame, IsMade, Restores, Sees, Values, Way}
 use Rattle.par_two_runs.proofs.States.{declared, exits, flows_is, flows_raised, lands_is, lattice}
 use Rattle.par_two_runs.proofs.States.{raised}
-use Rattle.par_secure.proofs.Points.{AllKept, Has, holds_is, open_if_not, open_leaves}
-use Rattle.par_secure.proofs.Points.{open_worths, throws_there}
+use Rattle.par_in_step.proofs.Points.{AllKept, Has, holds_is, open_if_not, open_leaves}
+use Rattle.par_in_step.proofs.Points.{open_worths, throws_there}
 use Rattle.par_two_runs.proofs.Leaves.{Sound, Throws, first_of, later_of}
 use Rattle.par_two_runs.proofs.Calls.{AreMade, Calling, InStep, Silent, tail_enter}
 use Rattle.par_two_runs.proofs.OneRun.{Tail, tail_higher, tail_paid}

@@ -19,15 +19,15 @@ use Rattle.par_two_runs.proofs.States.{Watch, Any, Blocked, Explained, FlowsTo, 
 use Rattle.par_two_runs.proofs.States.{Other, Restores, Unseen, Way, broken, continued, exits}
 use Rattle.par_two_runs.proofs.States.{flows_here, flows_is, flows_raised, lands_is, lands_raised}
 use Rattle.par_two_runs.proofs.States.{lattice, raised, raised_lands, returned, thrown}
-use Rattle.par_secure.proofs.Loops.{Looping, block_each, loop_tail, turn_tail, yes_of, yes_step}
+use Rattle.par_in_step.proofs.Loops.{Looping, block_each, loop_tail, turn_tail, yes_of, yes_step}
 use Rattle.par_two_runs.proofs.OneRun.{Hush, Tail, tail_higher}
 use Rattle.par_two_runs.proofs.TwoRuns.{Over, Step, over_raised, over_tail, step_apart, step_body}
 use Rattle.par_two_runs.proofs.TwoRuns.{step_if, step_normal, step_other, step_paid}
-use Rattle.par_secure.proofs.Points.{Good, raised_is}
+use Rattle.par_in_step.proofs.Points.{Good, raised_is}
 use Rattle.par_two_runs.proofs.Parts.{step_exits, step_part}
 use Rattle.par_two_runs.proofs.Leaves.{Sound}
 use Rattle.par_two_runs.proofs.Calls.{InStep, Silent}
-use Rattle.par_secure.proofs.Exps.{step_exp}
+use Rattle.par_in_step.proofs.Exps.{step_exp}
 
 module _ (on : Watch) where
   module _ (a : Facts (lattice on)) where

@@ -5,8 +5,8 @@ use Rattle.par_rules.specs.Kinds as kind
 use Rattle.par_rules.specs.Kinds.{Kind}
 use Rattle.par_rules.specs.Facts.{Facts}
 use Rattle.par_bodies.specs.Members.{method_at}
-use Rattle.par_secure.proofs.Needs.{ExpsName}
-use Rattle.par_secure.proofs.Needs.{ExpsMake}
+use Rattle.par_in_step.proofs.Needs.{ExpsName}
+use Rattle.par_in_step.proofs.Needs.{ExpsMake}
 use Rattle.par_rules.specs.Rules as rules
 use Rattle.par_rules.specs.Rules.{From, Entry, After, Tested, node, Rules, Node}
 use Rattle.par_rules.specs.Kinds.{Next, Loop, Catches, Absorber}
@@ -21,8 +21,8 @@ use Rattle.par_typed.specs.Plain.{Body}
 use Rattle.par_runs.specs.Meaning.{Calls, calls, eval, eval_all}
 use Rattle.par_runs.specs.Values.{truth, is_true}
 use Rattle.par_values.specs.Arithmetic.{negated}
-use Rattle.par_secure.proofs.Needs.{ExpNames}
-use Rattle.par_secure.proofs.Needs.{ExpMakes}
+use Rattle.par_in_step.proofs.Needs.{ExpNames}
+use Rattle.par_in_step.proofs.Needs.{ExpMakes}
 use Rattle.par_values.specs.declared.value.MVal.{MVal}
 use Rattle.par_values.specs.declared.value.MVal.TheVariants as value
 use Rattle.par_values.specs.Areas.{number_of, next}
@@ -33,16 +33,16 @@ use Rattle.par_two_runs.proofs.States.{Watch, Blocked, Frame, Sees, Way, declare
 use Rattle.par_two_runs.proofs.States.{flows_is, flows_raised, lands_is, lattice}
 use Rattle.par_two_runs.proofs.Leaves.{Sound, tail_input, tail_named, tail_read}
 use Rattle.par_two_runs.proofs.Calls.{Silent}
-use Rattle.par_secure.proofs.Points.{AllKept, Good, Has, Obey, holds_is, kept_app, open_if_not}
-use Rattle.par_secure.proofs.Points.{open_leaves, open_node, part_exp, raised_is, restores_of}
-use Rattle.par_secure.proofs.Points.{throws_there, writes_at}
+use Rattle.par_in_step.proofs.Points.{AllKept, Good, Has, Obey, holds_is, kept_app, open_if_not}
+use Rattle.par_in_step.proofs.Points.{open_leaves, open_node, part_exp, raised_is, restores_of}
+use Rattle.par_in_step.proofs.Points.{throws_there, writes_at}
 use Rattle.par_two_runs.proofs.OneRun.{Hush, Tail, hush_node, tail_higher, tail_normal, tail_paid}
 use Rattle.par_two_runs.proofs.OneRun.{tail_part}
 use Rattle.par_two_runs.proofs.Arguments.{AllMade, all_made, truth_made}
 use Rattle.par_two_runs.proofs.Writes.{tail_born, tail_output}
-use Rattle.par_secure.proofs.Operators.{Pairwise, field_tail, second_is, second_tail}
-use Rattle.par_secure.proofs.CallPoints.{args_past_past, call_spot, called_there, calling_of}
-use Rattle.par_secure.proofs.CallPoints.{enter_tail, receiver_tail}
+use Rattle.par_in_step.proofs.Operators.{Pairwise, field_tail, second_is, second_tail}
+use Rattle.par_in_step.proofs.CallPoints.{args_past_past, call_spot, called_there, calling_of}
+use Rattle.par_in_step.proofs.CallPoints.{enter_tail, receiver_tail}
 
 module _ (on : Watch) where
   module _ (a : Facts (lattice on)) where

@@ -1,4 +1,5 @@
 pub mod Needs
+pub mod Proper
 pub mod Points
 pub mod Operators
 pub mod CallPoints

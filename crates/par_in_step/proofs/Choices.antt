@@ -17,9 +17,9 @@ use Rattle.par_rules.specs.Body as body
 use Rattle.par_typed.specs.Plain.{TSta, TCatches, point}
 use Rattle.par_checks.specs.Checks as checks
 use Rattle.par_runs.specs.Meaning.{Calls, go_catch}
-use Rattle.par_secure.proofs.Needs.{CatchesName}
-use Rattle.par_secure.proofs.Needs.{CatchesReady}
-use Rattle.par_secure.proofs.Needs.{CatchesMake}
+use Rattle.par_in_step.proofs.Needs.{CatchesName}
+use Rattle.par_in_step.proofs.Needs.{CatchesReady}
+use Rattle.par_in_step.proofs.Needs.{CatchesMake}
 use Rattle.par_values.specs.declared.value.MVal.{MVal}
 use Rattle.par_runs.specs.Tasks.{Exit, Broken, Continued, Returned, Thrown, Task, asked, caught}
 use Rattle.par_checks.specs.Checks.{lock_written}
@@ -32,9 +32,9 @@ use Rattle.par_two_runs.proofs.OneRun.{Tail, tail_normal, tail_other}
 use Rattle.par_two_runs.proofs.Locks.{opening, step_when}
 use Rattle.par_two_runs.proofs.Leaves.{Sound}
 use Rattle.par_two_runs.proofs.Calls.{Silent}
-use Rattle.par_secure.proofs.StaPoints.{Stretch}
-use Rattle.par_secure.proofs.Points.{AllKept, Has}
-use Rattle.par_secure.proofs.QuietStas.{tail_catch}
+use Rattle.par_in_step.proofs.StaPoints.{Stretch}
+use Rattle.par_in_step.proofs.Points.{AllKept, Has}
+use Rattle.par_in_step.proofs.QuietStas.{tail_catch}
 
 module _ (on : Watch) where
   module _ (a : Facts (lattice on)) where

@@ -18,7 +18,7 @@ use Rattle.par_checks.specs.Checks as checks
 use Rattle.par_runs.specs.Tasks.{Thrown}
 use Rattle.par_two_runs.proofs.Basics.{or_cases}
 use Rattle.par_two_runs.proofs.States.{Watch, Sees, Way, exits, lattice, ranged}
-use Rattle.par_secure.proofs.Points.{AllKept, holds_is, kept_app, unranged}
+use Rattle.par_in_step.proofs.Points.{AllKept, holds_is, kept_app, unranged}
 use Rattle.par_two_runs.proofs.Leaves.{Throws, first_of, later_of}
 use Rattle.par_two_runs.proofs.Calls.{Ends}
 

@@ -1,0 +1,5 @@
+pub mod Names
+pub mod Births
+pub mod Inferred
+pub mod Policies
+pub mod Declared

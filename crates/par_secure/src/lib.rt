@@ -1,2 +1,0 @@
-//! Security of accepted programs.
-#![tactic(auto)]
