@@ -1,5 +1,6 @@
 pub mod Needs
 pub mod Proper
+pub mod Controlled
 pub mod Points
 pub mod Operators
 pub mod CallPoints
