@@ -43,7 +43,7 @@ use Rattle.par_well_typed.proofs.Bodies.{AreLocals, IsLocal, exp_in, may_in, thi
 
 -- ---- sets
 
-one_more : (x y : ℕ) (set : List ℕ) → IsSet set y → IsSet (x ∷ set) y
+pub one_more : (x y : ℕ) (set : List ℕ) → IsSet set y → IsSet (x ∷ set) y
 one_more x y set h = by (nat_eq x y) where
   by : (b : Bool) → IsTrue (b || has set y)
   by true = refl

@@ -1,6 +1,6 @@
 -- The types of values fit where they stand. That what stands before a member is an object of its
 -- class is said where members are named.
-use Rattle.std.specs.Prelude.{◌≡◌, ℕ, cond, Bool, true, false, List, [], ◌∷◌, ◌++◌, map, Option}
+use Rattle.std.specs.Prelude.{◌≡◌, ℕ, Bool, true, false, List, [], ◌∷◌, Option}
 use Rattle.std.specs.Prelude.{Some, None, slice_get}
 use Rattle.par_typed.specs.declared.ty.Ty.{Ty}
 use Rattle.par_typed.specs.declared.ty.Ty.TheVariants as ty

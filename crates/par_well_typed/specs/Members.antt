@@ -1,6 +1,6 @@
 -- The classes and members that a body names are those that it should.
 use Rattle.std.specs.Prelude.{◌≡◌, ℕ, zero, suc, Bool, true, false, not}
-use Rattle.std.specs.Prelude.{List, [], Option, Some, None, length, slice_get}
+use Rattle.std.specs.Prelude.{Option, Some, None, length, slice_get}
 use Rattle.par_typed.specs.declared.ty.Ty.TheVariants as ty
 use Rattle.par_typed.specs.declared.table.FieldInfo.{FieldInfo}
 use Rattle.par_typed.specs.declared.table.ChannelInfo.{ChannelInfo}

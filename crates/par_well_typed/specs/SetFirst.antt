@@ -1,8 +1,5 @@
 -- Locals are set before they are read: what a block sets is not read behind it.
-use Rattle.std.specs.Prelude.{ℕ, List, ◌∷◌, IsTrue}
-use Rattle.std.specs.List.{range_with_len}
-use Rattle.par_policy.specs.Numbers.{has}
-use Rattle.par_typed.specs.declared.table.MethodInfo.{MethodInfo}
+use Rattle.std.specs.Prelude.{ℕ, List}
 use Rattle.par_typed.specs.Plain.{TSta, Block, If, While, Try, Return, Break, Continue, Throw, Open}
 use Rattle.par_typed.specs.Plain.{Close, SetLocal, SetStatic, SetField, Eval, When, MayTSta, NoElse}
 use Rattle.par_typed.specs.Plain.{Otherwise, TStas, End, Then, TCatches, NoCatch, Catch}

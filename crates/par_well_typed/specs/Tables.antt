@@ -1,5 +1,5 @@
 -- The numbers in a table are those of its policies, its ground locks and its classes.
-use Rattle.std.specs.Prelude.{ℕ, suc, ◌<◌, ◌≤◌, cond, List, length, Option, Some, None}
+use Rattle.std.specs.Prelude.{ℕ, ◌<◌, ◌≤◌, List, length, Option, Some, None}
 use Rattle.std.specs.List.{AllByRecursion}
 use Rattle.par_typed.specs.declared.ty.Ty.{Ty}
 use Rattle.par_typed.specs.declared.ty.Ty.TheVariants as ty
