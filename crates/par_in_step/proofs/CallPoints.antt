@@ -48,6 +48,14 @@ use Rattle.par_two_runs.proofs.TwoRuns.{Step, step_paid}
 use Rattle.par_two_runs.proofs.CallsInStep.{step_enter}
 
 module _ (on : Watch) where
+  pub method_is : (c j : ℕ) → (declared on).method c j ≡ method_of (method_at on.table c j)
+  unfolding declares
+  method_is c j = go (slice_get on.table.classes c)
+    where
+      go : (x : Option ClassInfo) → methods_of x j ≡ method_of (slice_get (methods_in x) j)
+      go None = refl
+      go (Some x) = refl
+
   module _ (a : Facts (lattice on)) where
     -- ---- calls
     open_thrown : {p : ℕ} (fs : List (Fact (lattice on))) (from : From) (more : Rules)
@@ -241,14 +249,6 @@ module _ (on : Watch) where
         step_paid on _ _
         (step_enter on g k (exits on a p) (a p).value ((declared on).method c j) q (run c j)
         (run' c j) vs vs' r rr mv mv' env th (paired c j is _ _))
-
-    pub method_is : (c j : ℕ) → (declared on).method c j ≡ method_of (method_at on.table c j)
-    unfolding declares
-    method_is c j = go (slice_get on.table.classes c)
-      where
-        go : (x : Option ClassInfo) → methods_of x j ≡ method_of (slice_get (methods_in x) j)
-        go None = refl
-        go (Some x) = refl
 
     same_length : (ps : List ParamInfo) → length (params_of ps) ≡ length ps
     same_length [] = refl

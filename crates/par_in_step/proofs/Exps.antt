@@ -193,7 +193,7 @@ module _ (on : Watch) where
             (checks.arguments on.table g.own ((declared on).method c j).params es) kr.0 in
             let rs = restores_of on a m.point w i h.0 in
             let cs = subst (λ y. (false ≡ not y.is_static) × Aligned on a y.params es)
-            (sym (method_is on a c j))
+            (sym (method_is on c j))
             (called_static on a (method_at on.table c j) plain.Absent es k.1.0) in
             let there = called_there on a (method_at on.table c j) plain.Absent es k.1.0 in
             let st = static_of on a ((declared on).method c j).is_static cs.0 in
@@ -230,7 +230,7 @@ module _ (on : Watch) where
             let rs = restores_of on a m.point w i h.0 in
             let V = (a (mark e).point).value in
             let cs = subst (λ y. (true ≡ not y.is_static) × Aligned on a y.params es)
-            (sym (method_is on a c j))
+            (sym (method_is on c j))
             (called_static on a (method_at on.table c j) (plain.Present e) es k.1.0) in
             let there = called_there on a (method_at on.table c j) (plain.Present e) es k.1.0 in
             let st = instance_of on a ((declared on).method c j).is_static cs.0 in

@@ -192,7 +192,7 @@ module _ (table : Table) (bs : List Body) (fs : List (Facts numbers)) (o : Obser
         sures = h.proper.1;
       } in
       let static : m.is_static ≡ own.is_static =
-      sym (ap (λ x. x.is_static) (method_is on a b.class b.method)
+      sym (ap (λ x. x.is_static) (method_is on b.class b.method)
       ∙ ap (λ x. (method_of x).is_static) p.method) in
       let at = name_at (slice_get table.classes b.class) b.method in
       let closed = closed_along Q N f (declares table) b h.closed in

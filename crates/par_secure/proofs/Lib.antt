@@ -1,2 +1,4 @@
 pub mod Watching
 pub mod Bodies
+pub mod Tables
+pub mod Sounds
