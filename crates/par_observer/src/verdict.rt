@@ -2,6 +2,7 @@
 
 ghost use Rattle.std.specs.Prelude.{◌≡◌, ◌≤◌, ◌<◌, IfOk, IfErr, length};
 ghost use Rattle.par_observer.specs.Judgements.{IsAcceptedAs, IsRefused, IsUnread, overlong};
+ghost use Rattle.par_observer.specs.Trees.{IsWellFormed};
 
 use crate::error::JudgeError;
 use crate::reading::{read_sentence, tokens_of};
@@ -16,9 +17,11 @@ const TOO_LONG: u16 = 5;
 
 /// Reads a source, and looks whether it keeps all rules: its length first, then its tokens, its
 /// sentence, its names, its limits, its types, fields without a policy, and its flows. What is
-/// accepted has a typed program and facts of each of its bodies.
+/// accepted has a typed program and facts of each of its bodies. What may be asked of the program is
+/// said of its table and its bodies as well, without the source.
 pub fn judge(alloc: Global, source: &[u8]) -> Result<Accepted, JudgeError>
     ensures accepted { IfOk result (λ accepted. IsAcceptedAs source.now accepted.typed) }
+    ensures well_formed { IfOk result (λ accepted. IsWellFormed accepted.typed) }
     ensures refused { IfErr result (IsRefused source.now) }
 {
     if source.len() > LONGEST_SOURCE {
@@ -31,6 +34,7 @@ pub fn judge(alloc: Global, source: &[u8]) -> Result<Accepted, JudgeError>
 fn judge_short(alloc: Global, source: &[u8]) -> Result<Accepted, JudgeError>
     requires { length source.now ≤ LONGEST_SOURCE }
     ensures accepted { IfOk result (λ accepted. IsAcceptedAs source.now accepted.typed) }
+    ensures well_formed { IfOk result (λ accepted. IsWellFormed accepted.typed) }
     ensures refused { IfErr result (IsUnread source.now) }
 {
     let tokens = tokens_of(alloc, source)?;

@@ -173,7 +173,7 @@ module _ (source : Source) where
   abbrev births : List Entry
   births = map (birth_entry k) (declared source)
 
-  policies_are : (table_of source).policies
+  pub policies_are : (table_of source).policies
       ≡ shared_policies k source ++ policies_of (map (inferred_entry k) (inferred_fields source))
   policies_are =
       map-append (λ e. e.policy) (distinct all) (map (inferred_entry k) (inferred_fields source))

@@ -72,7 +72,7 @@ set_in P ns h = folded (AllByRecursion P) P with_number [] ns (λ c x h k. with_
 
 -- ---- what is known keeps its numbers
 
-numbers_stay : (k : Known) (ds : List PolicyDecl) → (known_behind k ds).numbers ≡ k.numbers
+pub numbers_stay : (k : Known) (ds : List PolicyDecl) → (known_behind k ds).numbers ≡ k.numbers
 unfolding known_behind
 numbers_stay k [] = refl
 numbers_stay k (d ∷ ds) = numbers_stay (with_value k (value_of k d.policy)) ds
