@@ -1,10 +1,13 @@
--- Members by the number of their class and their own number there.
-use Rattle.std.specs.Prelude.{ℕ, List, [], Option, Some, None, slice_get}
+-- Classes by their numbers, and members by the number of their class and their own number there.
+use Rattle.std.specs.Prelude.{ℕ, ◌<◌, List, [], Option, Some, None, length, slice_get}
 use Rattle.par_typed.specs.declared.table.FieldInfo.{FieldInfo}
 use Rattle.par_typed.specs.declared.table.ChannelInfo.{ChannelInfo}
 use Rattle.par_typed.specs.declared.table.MethodInfo.{MethodInfo}
 use Rattle.par_typed.specs.declared.table.ClassInfo.{ClassInfo}
 use Rattle.par_typed.specs.declared.table.Table.{Table}
+
+abbrev pub IsClass : Table → ℕ → Type 0
+IsClass table n = n < length table.classes
 
 abbrev pub fields_in : Option ClassInfo → List FieldInfo
 fields_in None = []

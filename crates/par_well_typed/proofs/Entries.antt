@@ -33,7 +33,8 @@ use Rattle.par_resolved.specs.Resolved.{ground_locks_from, query_numbers, ground
 use Rattle.par_resolved.specs.Resolved.{field_infos, channel_info, param_info, throw_info, lock_set}
 use Rattle.par_resolved.specs.Resolved.{this_type, local_types, method_info, class_info}
 use Rattle.par_resolved.specs.Resolved.{class_infos, has_main, table_of}
-use Rattle.par_well_typed.specs.Tables.{IsPolicy, IsLock, IsClass, MayBePolicy, AreLocks, IsType}
+use Rattle.par_bodies.specs.Members.{IsClass}
+use Rattle.par_well_typed.specs.Tables.{IsPolicy, IsLock, MayBePolicy, AreLocks, IsType}
 use Rattle.par_bodies.specs.Locals.{arrivals}
 use Rattle.par_well_typed.specs.Tables.{FieldInRange, ChannelInRange, ParamInRange}
 use Rattle.par_well_typed.specs.Tables.{ThrowInRange, MethodInRange, ClassInRange, LockInRange}

@@ -16,8 +16,7 @@ use Rattle.par_tree.specs.Plain.{Handler, On, Class, Method, Declaration, Source
 use Rattle.par_tree.specs.Plain as plain
 use Rattle.par_typed.specs.declared.table.MethodInfo.{MethodInfo}
 use Rattle.par_typed.specs.declared.table.Table.{Table}
-use Rattle.par_typed.specs.Plain as typed
-use Rattle.par_typed.specs.Plain.{TExp, TSta, MayTSta, TStas, TCatches, Body}
+use Rattle.par_typed.specs.Plain.{TExp, TSta, Body}
 use Rattle.par_names.specs.Declarations.{classes, builtins, classes_in}
 use Rattle.par_names.specs.Program.{name_faults}
 use Rattle.par_scope.specs.declared.locals.Slot.{Slot}
@@ -45,6 +44,7 @@ use Rattle.par_annotate.specs.Bodies.{typed_methods, typed_class, typed_declarat
 use Rattle.par_annotate.specs.Bodies.{typed_declarations}
 use Rattle.par_sources.specs.Order.{Ascend, IsInOrder}
 use Rattle.par_bodies.specs.Members.{method_at}
+use Rattle.par_bodies.specs.Uses.{StaUses, ElseUses, StasUse, CatchesUse}
 use Rattle.par_well_typed.specs.Typed.{written_in, bodies_of}
 use Rattle.par_well_typed.proofs.Lists.{of_both}
 use Rattle.par_well_typed.proofs.Ranges.{MayBe, at_place}
@@ -58,38 +58,11 @@ use Rattle.par_well_typed.proofs.Asked.{IsAskable, IsAsked, queries_asked}
 abbrev pub Past : Bool → ℕ → Type 0
 Past is_static x = is_static ≡ false → 0 < x
 
-module _ (table : Table) (is_static : Bool) where
-  unfoldable mutual
-    pub StaKeeps : TSta → Type 0
-    StaKeeps (typed.Block ss at p) = AllKeep ss
-    StaKeeps (typed.If e s o at p) = StaKeeps s × ElseKeeps o
-    StaKeeps (typed.While e s at p) = StaKeeps s
-    StaKeeps (typed.Try s cs at p) = StaKeeps s × CatchesKeep cs
-    StaKeeps (typed.Return e at p) = Unit {0}
-    StaKeeps (typed.Break at p) = Unit {0}
-    StaKeeps (typed.Continue at p) = Unit {0}
-    StaKeeps (typed.Throw class at p) = Unit {0}
-    StaKeeps (typed.Open lock at p) = Unit {0}
-    StaKeeps (typed.Close lock at p) = Unit {0}
-    StaKeeps (typed.SetLocal x policy e at p) = Past is_static x
-    StaKeeps (typed.SetStatic c f e at p) = Unit {0}
-    StaKeeps (typed.SetField o c f e at p) = Unit {0}
-    StaKeeps (typed.Eval e at p) = Unit {0}
-    StaKeeps (typed.When lock s o at p) = IsAskable table lock × StaKeeps s × ElseKeeps o
+-- no statement sets that local, and each lock that a `when` asks for has a policy
+abbrev pub StaKeeps : Table → Bool → TSta → Type 0
+StaKeeps table is_static b = StaUses (Past is_static) (IsAskable table) b
 
-    pub ElseKeeps : MayTSta → Type 0
-    ElseKeeps typed.NoElse = Unit {0}
-    ElseKeeps (typed.Otherwise s) = StaKeeps s
-
-    pub AllKeep : TStas → Type 0
-    AllKeep typed.End = Unit {0}
-    AllKeep (typed.Then s ss) = StaKeeps s × AllKeep ss
-
-    pub CatchesKeep : TCatches → Type 0
-    CatchesKeep typed.NoCatch = Unit {0}
-    CatchesKeep (typed.Catch class s cs) = StaKeeps s × CatchesKeep cs
-
--- the body of this method does
+-- so it is in the body of this method
 pub record KeepsThisOf (table : Table) (b : Body) (m : MethodInfo) : Type 0 where
   pub method : method_at table b.class b.method ≡ Some m
   pub keeps : StaKeeps table m.is_static b.body
@@ -210,7 +183,7 @@ module _ (w : Written) (table : Table) (is_static : Bool) (home : Home) where
 
   assignment_keeps : (x : Target) (v : TExp) (at p : ℕ) → TargetPast x
       → StaKeeps table is_static (assignment x v at p)
-  unfolding StaKeeps
+  unfolding StaUses
   assignment_keeps Nowhere v at p h = tt
   assignment_keeps (ToLocal x) v at p h = h
   assignment_keeps (ToStatic f) v at p h = tt
@@ -219,7 +192,7 @@ module _ (w : Written) (table : Table) (is_static : Bool) (home : Home) where
   -- ---- all forms
 
   mutual
-    unfolding StaKeeps typed_sta inside stmt_queries
+    unfolding StaUses typed_sta inside stmt_queries
 
     sta_keeps : (frame : Frame) (p : ℕ) (s : Sta) → ArePast frame → AreAsked (s ∷ inside s)
         → StaKeeps table is_static (typed_sta w home frame p s)
@@ -260,17 +233,17 @@ module _ (w : Written) (table : Table) (is_static : Bool) (home : Home) where
 
     may_braces_keep : (frame : Frame) (p : ℕ) (b : MayBraces) → ArePast frame
         → AreAsked (in_may_braces b)
-        → ElseKeeps table is_static (typed_may_braces w home frame p b)
+        → ElseUses (Past is_static) (IsAskable table) (typed_may_braces w home frame p b)
     may_braces_keep frame p NoBraces h asked = tt
     may_braces_keep frame p (plain.Some b) h asked = braces_keep frame p b h asked
 
     else_keeps : (frame : Frame) (p : ℕ) (o : Else) → ArePast frame → AreAsked (in_else o)
-        → ElseKeeps table is_static (typed_else w home frame p o)
+        → ElseUses (Past is_static) (IsAskable table) (typed_else w home frame p o)
     else_keeps frame p NoElse h asked = tt
     else_keeps frame p (Otherwise s) h asked = sta_keeps frame p s h asked
 
     stas_keep : (frame : Frame) (p : ℕ) (ss : Stas) → ArePast frame → AreAsked (in_all ss)
-        → AllKeep table is_static (typed_stas w home frame p ss)
+        → StasUse (Past is_static) (IsAskable table) (typed_stas w home frame p ss)
     stas_keep frame p End h asked = tt
     stas_keep frame p (Then s ss) h asked =
         let parts = asked_apart (s ∷ inside s) (in_all ss) asked in (
@@ -280,7 +253,7 @@ module _ (w : Written) (table : Table) (is_static : Bool) (home : Home) where
 
     catches_keep : (frame : Frame) (p : ℕ) (cs : Catches) → ArePast frame
         → AreAsked (in_catches cs)
-        → CatchesKeep table is_static (typed_catches w home frame p cs)
+        → CatchesUse (Past is_static) (IsAskable table) (typed_catches w home frame p cs)
     catches_keep frame p NoCatch h asked = tt
     catches_keep frame p (Catch (On class name b) cs) h asked =
         let parts = asked_apart (in_braces b) (in_catches cs) asked in (

@@ -28,6 +28,7 @@ use Rattle.par_bodies.specs.Members.{fields_in, methods_in, field_at, channel_at
 use Rattle.par_bodies.specs.Locals.{arriving, arriving_sure, BeginsWith, set_by_call, IsSet, behind}
 use Rattle.par_bodies.specs.Types.{IsMarked, IsValue, IsResult, Accepts, IsGiven, AreCompared}
 use Rattle.par_bodies.specs.Types.{IsEnded, Operates}
+use Rattle.par_bodies.specs.Uses.{StaUses, ElseUses, StasUse, CatchesUse}
 use Rattle.par_bodies.specs.Forms.{Setting, IsReceiver, AreArguments, IsGivenBack, IsNew}
 use Rattle.par_bodies.specs.Forms.{ReadsField}
 use Rattle.par_bodies.specs.Forms.{UsesChannel, CallsMethod, SetsLocal, SetsField, IsThrown}
@@ -39,11 +40,11 @@ use Rattle.par_well_typed.specs.Numbers.{ExpReads, MayExpRead, ExpsRead, StaInRa
 use Rattle.par_well_typed.specs.Numbers.{StasInRange, CatchesInRange}
 use Rattle.par_well_typed.specs.SetFirst.{SetsFirst, ElseSetsFirst, AllSetFirst, CatchesSetFirst}
 use Rattle.par_well_typed.specs.Orderly.{HasMethod}
-use Rattle.par_well_typed.specs.Members.{IsField, IsChannel, IsException, is_present, IsCalled}
-use Rattle.par_well_typed.specs.Members.{MayBeObject, ExpNames, MayExpNames, ExpsName, StaNames}
-use Rattle.par_well_typed.specs.Members.{ElseNames, StasName, CatchesName}
-use Rattle.par_well_typed.specs.Makes.{IsOrdinary, ExpMakes, MayExpMakes, ExpsMake, StaMakes}
-use Rattle.par_well_typed.specs.Makes.{ElseMakes, StasMake, CatchesMake, MakesObjects}
+use Rattle.par_bodies.specs.Names.{IsField, IsChannel, IsException, is_present, IsCalled}
+use Rattle.par_bodies.specs.Names.{MayBeObject, ExpNames, MayExpNames, ExpsName, StaNames}
+use Rattle.par_bodies.specs.Names.{ElseNames, StasName, CatchesName}
+use Rattle.par_bodies.specs.Makes.{IsOrdinary, ExpMakes, MayExpMakes, ExpsMake, StaMakes}
+use Rattle.par_bodies.specs.Makes.{ElseMakes, StasMake, CatchesMake, MakesObjects}
 use Rattle.par_well_typed.specs.Fits.{Fits, IsSure, Takes, LocalTakes, IsReadOf, FieldTakes}
 use Rattle.par_well_typed.specs.Fits.{ParamsTake, IsCallOf, AreOperands, IsReturned, ExpFits}
 use Rattle.par_well_typed.specs.Fits.{MayExpFits, ExpsFit, StaFits, ElseFits, StasFit, CatchesFit}
@@ -57,8 +58,7 @@ use Rattle.par_well_typed.proofs.Lists.{each_is}
 use Rattle.par_well_typed.proofs.Ranges.{MayBe, at_place}
 use Rattle.par_well_typed.proofs.SetFirst.{one_more}
 use Rattle.par_well_typed.proofs.Asked.{IsAskable}
-use Rattle.par_well_typed.proofs.Keeps.{Past, StaKeeps, ElseKeeps, AllKeep, CatchesKeep}
-use Rattle.par_well_typed.proofs.Keeps.{KeepsThis}
+use Rattle.par_well_typed.proofs.Keeps.{Past, StaKeeps, KeepsThis}
 
 -- ---- types
 
@@ -389,7 +389,7 @@ module _ (s : Setting) (ok : IsInRange s.table) (signed : AreSigned s.table)
     )
 
   mutual
-    unfolding StaIsProper StaNames StaMakes StaFits SetsFirst StaInRange StaReached StaKeeps
+    unfolding StaIsProper StaNames StaMakes StaFits SetsFirst StaInRange StaReached StaUses
 
     sta : (looped : Bool) (set : List ℕ) (b : TSta) → HasThis set → StaNames s.table b
         → StaMakes s.table s.method.is_static b
@@ -451,7 +451,7 @@ module _ (s : Setting) (ok : IsInRange s.table) (signed : AreSigned s.table)
         → ElseMakes s.table s.method.is_static o
         → ElseFits s.table s.class s.method.locals s.sures s.method.result o
         → ElseSetsFirst set o → ElseInRange s.table (length s.method.locals) o
-        → ElseReached looped o → ElseKeeps s.table s.method.is_static o
+        → ElseReached looped o → ElseUses (Past s.method.is_static) (IsAskable s.table) o
         → ElseIsProper s looped set o
     other looped set NoElse this names makes fits first ranges reached keeps = tt
     other looped set (Otherwise b) this names makes fits first ranges reached keeps =
@@ -461,7 +461,7 @@ module _ (s : Setting) (ok : IsInRange s.table) (signed : AreSigned s.table)
         → StasMake s.table s.method.is_static bs
         → StasFit s.table s.class s.method.locals s.sures s.method.result bs
         → AllSetFirst set bs → StasInRange s.table (length s.method.locals) bs
-        → AllReached looped comes bs → AllKeep s.table s.method.is_static bs
+        → AllReached looped comes bs → StasUse (Past s.method.is_static) (IsAskable s.table) bs
         → AllAreProper s looped comes set bs
     all looped comes set End this names makes fits first ranges reached keeps = tt
     all looped comes set (Then b bs) this names makes fits first ranges reached keeps = (
@@ -475,7 +475,7 @@ module _ (s : Setting) (ok : IsInRange s.table) (signed : AreSigned s.table)
         → CatchesName s.table cs → CatchesMake s.table s.method.is_static cs
         → CatchesFit s.table s.class s.method.locals s.sures s.method.result cs
         → CatchesSetFirst set cs → CatchesInRange s.table (length s.method.locals) cs
-        → CatchesReached looped cs → CatchesKeep s.table s.method.is_static cs
+        → CatchesReached looped cs → CatchesUse (Past s.method.is_static) (IsAskable s.table) cs
         → CatchesAreProper s looped set cs
     catches looped set NoCatch this names makes fits first ranges reached keeps = tt
     catches looped set (Catch c b cs) this names makes fits first ranges reached keeps = (

@@ -11,6 +11,7 @@ use Rattle.par_typed.specs.declared.table.ThrowInfo.{ThrowInfo}
 use Rattle.par_typed.specs.declared.table.MethodInfo.{MethodInfo}
 use Rattle.par_typed.specs.declared.table.ClassInfo.{ClassInfo}
 use Rattle.par_typed.specs.declared.table.Table.{Table}
+use Rattle.par_bodies.specs.Members.{IsClass}
 use Rattle.par_bodies.specs.Locals.{arrivals}
 
 -- how many policies a table has at most, and how many ground locks
@@ -24,9 +25,6 @@ module _ (table : Table) where
   abbrev pub IsLock : ℕ → Type 0
   IsLock n = n < length table.locks
 
-  abbrev pub IsClass : ℕ → Type 0
-  IsClass n = n < length table.classes
-
   abbrev pub MayBePolicy : Option ℕ → Type 0
   MayBePolicy None = Unit {0}
   MayBePolicy (Some n) = IsPolicy n
@@ -37,7 +35,7 @@ module _ (table : Table) where
   abbrev pub IsType : Ty → Type 0
   IsType ty.Int = Unit {0}
   IsType ty.Boolean = Unit {0}
-  IsType (ty.Class class) = IsClass class
+  IsType (ty.Class class) = IsClass table class
   IsType ty.Null = Unit {0}
   IsType ty.Void = Unit {0}
 
@@ -53,7 +51,7 @@ module _ (table : Table) where
   ParamInRange p = IsType p.ty × IsPolicy p.policy
 
   abbrev pub ThrowInRange : ThrowInfo → Type 0
-  ThrowInRange t = IsClass t.class × IsPolicy t.policy
+  ThrowInRange t = IsClass table t.class × IsPolicy t.policy
 
   pub record MethodInRange (m : MethodInfo) : Type 0 where
     pub result : IsType m.result
@@ -82,4 +80,4 @@ module _ (table : Table) where
     pub few_locks : length table.locks ≤ MOST
     pub locks : AllByRecursion LockInRange table.locks
     pub classes : AllByRecursion ClassInRange table.classes
-    pub main : IsClass table.main
+    pub main : IsClass table table.main

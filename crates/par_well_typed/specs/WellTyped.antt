@@ -7,8 +7,8 @@ use Rattle.par_typed.specs.Plain.{Body}
 use Rattle.par_bodies.specs.Proper.{IsProper}
 use Rattle.par_well_typed.specs.Tables.{IsInRange}
 use Rattle.par_well_typed.specs.Orderly.{HasMethod, IsOrderlyBody}
-use Rattle.par_well_typed.specs.Members.{StaNames}
-use Rattle.par_well_typed.specs.Makes.{MakesObjects}
+use Rattle.par_bodies.specs.Names.{StaNames}
+use Rattle.par_bodies.specs.Makes.{MakesObjects}
 use Rattle.par_well_typed.specs.Fits.{ValuesFit}
 use Rattle.par_well_typed.specs.Control.{IsControlled}
 use Rattle.par_well_typed.specs.Signatures.{HasBuiltIns, AreSigned}

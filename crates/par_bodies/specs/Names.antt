@@ -13,7 +13,7 @@ use Rattle.par_typed.specs.Plain.{TExps, NoExps, More, mark}
 use Rattle.par_typed.specs.Plain.{TSta, Block, If, While, Try, Return, Break, Continue, Throw, Open}
 use Rattle.par_typed.specs.Plain.{Close, SetLocal, SetStatic, SetField, Eval, When, MayTSta, NoElse}
 use Rattle.par_typed.specs.Plain.{Otherwise, TStas, End, Then, TCatches, NoCatch, Catch}
-use Rattle.par_well_typed.specs.Tables.{IsClass}
+use Rattle.par_bodies.specs.Members.{IsClass}
 use Rattle.par_bodies.specs.Members.{field_at, channel_at, method_at}
 
 -- ---- what a number should name
