@@ -13,9 +13,9 @@ use Rattle.par_typed.specs.declared.table.ParamInfo.{ParamInfo}
 use Rattle.par_rules.specs.Closed as closed
 use Rattle.par_values.specs.Areas.{value_or_null}
 use Rattle.par_bodies.specs.Members.{method_at, methods_in}
-use Rattle.par_in_step.proofs.Needs.{is_present, IsCalled}
+use Rattle.par_bodies.specs.Names.{is_present, IsCalled}
 use Rattle.par_two_runs.specs.Watched.{IsThere}
-use Rattle.par_in_step.proofs.Needs.{how_many}
+use Rattle.par_bodies.specs.Names.{how_many}
 use Rattle.par_typed.specs.declared.table.MethodInfo.{MethodInfo}
 use Rattle.par_rules.specs.Declares.{Method, declares}
 use Rattle.par_rules.specs.Rules as rules

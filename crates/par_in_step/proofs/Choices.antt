@@ -17,9 +17,9 @@ use Rattle.par_rules.specs.Body as body
 use Rattle.par_typed.specs.Plain.{TSta, TCatches, point}
 use Rattle.par_checks.specs.Checks as checks
 use Rattle.par_runs.specs.Meaning.{Calls, go_catch}
-use Rattle.par_in_step.proofs.Needs.{CatchesName}
+use Rattle.par_bodies.specs.Names.{CatchesName}
 use Rattle.par_in_step.proofs.Needs.{CatchesReady}
-use Rattle.par_in_step.proofs.Needs.{CatchesMake}
+use Rattle.par_bodies.specs.Makes.{CatchesMake}
 use Rattle.par_values.specs.declared.value.MVal.{MVal}
 use Rattle.par_runs.specs.Tasks.{Exit, Broken, Continued, Returned, Thrown, Task, asked, caught}
 use Rattle.par_checks.specs.Checks.{lock_written}

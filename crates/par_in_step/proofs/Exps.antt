@@ -6,8 +6,8 @@ use Rattle.par_rules.specs.Kinds as kind
 use Rattle.par_rules.specs.Kinds.{Kind}
 use Rattle.par_rules.specs.Facts.{Facts}
 use Rattle.par_bodies.specs.Members.{method_at}
-use Rattle.par_in_step.proofs.Needs.{ExpsName}
-use Rattle.par_in_step.proofs.Needs.{ExpsMake}
+use Rattle.par_bodies.specs.Names.{ExpsName}
+use Rattle.par_bodies.specs.Makes.{ExpsMake}
 use Rattle.par_rules.specs.Rules as rules
 use Rattle.par_rules.specs.Rules.{From, Entry, After, Tested, node, Rules, Node}
 use Rattle.par_rules.specs.Kinds.{Next, Loop, Catches, Absorber}
@@ -24,8 +24,8 @@ use Rattle.par_typed.specs.Plain.{Body}
 use Rattle.par_runs.specs.Meaning.{Calls, calls, eval, eval_all}
 use Rattle.par_runs.specs.Values.{truth, is_true}
 use Rattle.par_values.specs.Arithmetic.{negated}
-use Rattle.par_in_step.proofs.Needs.{ExpNames}
-use Rattle.par_in_step.proofs.Needs.{ExpMakes}
+use Rattle.par_bodies.specs.Names.{ExpNames}
+use Rattle.par_bodies.specs.Makes.{ExpMakes}
 use Rattle.par_values.specs.declared.value.MVal.{MVal}
 use Rattle.par_values.specs.declared.value.MVal.TheVariants as value
 use Rattle.par_values.specs.Areas.{number_of, next}

@@ -1,5 +1,4 @@
 pub mod Needs
-pub mod Proper
 pub mod Controlled
 pub mod Points
 pub mod Operators

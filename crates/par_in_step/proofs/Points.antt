@@ -22,8 +22,8 @@ use Rattle.par_checks.specs.Asked.{Condition, Check, Spot}
 use Rattle.par_checks.specs.Checks as checks
 use Rattle.std.specs.Prelude.{map}
 use Rattle.par_typed.specs.Plain.{Body}
-use Rattle.par_in_step.proofs.Needs.{ExpNames}
-use Rattle.par_in_step.proofs.Needs.{ExpMakes}
+use Rattle.par_bodies.specs.Names.{ExpNames}
+use Rattle.par_bodies.specs.Makes.{ExpMakes}
 use Rattle.par_runs.specs.Tasks.{Exit, Normal, Broken, Continued, Returned, Thrown}
 use Rattle.par_two_runs.proofs.States.{Watch, FlowsTo, Frame, Leaves, Other, Restores, Sees, Way}
 use Rattle.par_two_runs.proofs.States.{Writes, broken, continued, declared, exits, flows_is}

@@ -21,12 +21,13 @@ use Rattle.par_typed.specs.Plain.{TExp, TExps, MayTExp, TSta, TStas, TCatches, M
 use Rattle.par_checks.specs.Asked as ask
 use Rattle.par_checks.specs.Asked.{Condition, Check, Spot}
 use Rattle.par_checks.specs.Checks as checks
+use Rattle.par_bodies.specs.Uses.{StaUses}
 use Rattle.par_typed.specs.Plain.{Body}
 use Rattle.par_runs.specs.Meaning.{Calls, eval, go, go_else, go_all, go_catch}
 use Rattle.par_runs.specs.Values.{is_true}
-use Rattle.par_in_step.proofs.Needs.{ExpNames, StaNames, StasName, CatchesName}
+use Rattle.par_bodies.specs.Names.{ExpNames, StaNames, StasName, CatchesName}
 use Rattle.par_in_step.proofs.Needs.{StaReady, StasReady, CatchesReady}
-use Rattle.par_in_step.proofs.Needs.{ExpMakes, StaMakes, StasMake, CatchesMake}
+use Rattle.par_bodies.specs.Makes.{ExpMakes, StaMakes, StasMake, CatchesMake}
 use Rattle.par_values.specs.declared.value.MVal.{MVal}
 use Rattle.par_values.specs.Areas.{next}
 use Rattle.par_runs.specs.State.{set_local, set_result, open_lock, close_lock}
@@ -72,7 +73,7 @@ module _ (on : Watch) where
 
       mutual
         unfolding sta point go go_else go_all go_catch rules.way rules.worth checks.sta_checks
-            StaNames StaMakes StaReady ExpNames ExpMakes
+            StaNames StaMakes StaUses ExpNames ExpMakes
 
         pub hush_sta : (s : TSta) (g : Frame) (w : Way on) → Blocked on g w
             → (a (point s)).entry ≡ Some w → Obey on a (sta (declared on) s) → GoodSta on a g s

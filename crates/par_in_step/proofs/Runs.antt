@@ -23,13 +23,13 @@ use Rattle.par_runs.specs.Source.{given_to, start, final, run_of}
 use Rattle.par_secrecy.specs.Secure.{events}
 use Rattle.par_values.specs.declared.inputs.ChannelInput.{ChannelInput}
 use Rattle.par_runs.specs.Meaning.{go}
-use Rattle.par_in_step.proofs.Needs.{StaNames}
+use Rattle.par_bodies.specs.Names.{StaNames}
 use Rattle.par_in_step.proofs.Needs.{StaReady}
-use Rattle.par_in_step.proofs.Needs.{StaMakes}
+use Rattle.par_bodies.specs.Makes.{StaMakes}
 use Rattle.par_secrecy.specs.Runs.{Witnessed}
 use Rattle.par_runs.specs.Names.{channel_named}
 use Rattle.par_bodies.specs.Members.{channel_at}
-use Rattle.par_two_runs.specs.Watched.{IsChannel}
+use Rattle.par_bodies.specs.Names.{IsChannel}
 use Rattle.par_two_runs.proofs.Lists.{agree_nil, agree_at}
 use Rattle.par_two_runs.proofs.States.{Watch, Agrees, Any, Explained, Frame, Opened, Sees}
 use Rattle.par_two_runs.proofs.States.{declared, exits, flows_here, lattice, like_body, shown}

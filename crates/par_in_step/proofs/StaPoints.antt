@@ -25,9 +25,9 @@ use Rattle.par_checks.specs.Asked.{Condition, Check, Spot}
 use Rattle.par_checks.specs.Checks as checks
 use Rattle.std.specs.Prelude.{map}
 use Rattle.par_typed.specs.Plain.{Body}
-use Rattle.par_in_step.proofs.Needs.{StaNames, IsException}
+use Rattle.par_bodies.specs.Names.{StaNames, IsException}
 use Rattle.par_in_step.proofs.Needs.{StaReady}
-use Rattle.par_in_step.proofs.Needs.{StaMakes}
+use Rattle.par_bodies.specs.Makes.{StaMakes}
 use Rattle.par_typed.specs.declared.table.ClassInfo.{ClassInfo}
 use Rattle.par_runs.specs.Tasks.{Exit, Thrown}
 use Rattle.par_checks.specs.Checks.{lock_written}

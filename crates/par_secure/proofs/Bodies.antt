@@ -35,15 +35,19 @@ use Rattle.par_secrecy.specs.Shown.{Observer}
 use Rattle.par_runs.specs.Names.{body_of}
 use Rattle.par_bodies.specs.Members.{methods_in, method_at}
 use Rattle.par_bodies.specs.Locals.{set_by_call}
-use Rattle.par_bodies.specs.Forms.{Setting}
+use Rattle.par_bodies.specs.Forms.{Setting, AsksLock}
+use Rattle.par_bodies.specs.Uses.{IsNotThis}
+use Rattle.par_checks.specs.Checks.{lock_written}
+use Rattle.par_in_step.proofs.Needs.{IsAsked}
 use Rattle.par_bodies.specs.Proper.{IsProper, StaIsProper}
 use Rattle.par_well_typed.specs.Bodied.{Spot, spot_of, methods_from, AreBodiesOf}
 use Rattle.par_two_runs.specs.Watched.{IsThere}
 use Rattle.par_two_runs.proofs.Basics.{and_left, and_right, and_both}
 use Rattle.par_two_runs.proofs.States.{Watch}
 use Rattle.par_in_step.proofs.CallPoints.{method_is}
-use Rattle.par_in_step.proofs.Needs.{StaMakes, StaReady}
-use Rattle.par_in_step.proofs.Proper.{sta_names, sta_makes, sta_ready}
+use Rattle.par_bodies.specs.Makes.{StaMakes}
+use Rattle.par_in_step.proofs.Needs.{StaReady}
+use Rattle.par_bodies.proofs.Parts.{sta_names, sta_makes, sta_uses}
 use Rattle.par_in_step.proofs.Controlled.{IsJump, a_break, a_continue, sta_cannot}
 use Rattle.par_in_step.proofs.Points.{Obey, kept_app}
 use Rattle.par_in_step.proofs.StaPoints.{only_possible}
@@ -174,6 +178,10 @@ listed ts classes c lt e =
     (Contains-filter (λ x. not (is_thrown ts x)) (range_with_len 0 classes) c
     (contains_range classes c below) (ap not e))
 
+asks : (s : Setting) (lock : ℕ) → AsksLock s lock → IsAsked s.table s.method.is_static lock
+asks s lock h =
+    subst (λ o. (policy : ℕ) × (lock_written o ≡ Some policy)) (sym h.there) (h.policy, h.said)
+
 module _ (table : Table) (bs : List Body) (fs : List (Facts numbers)) (o : Observer) where
   body_ok : (b : Body) (f : Facts numbers) (pair : IsPair b f bs fs) → AreFacts table b f
       → BodyOk (watch table bs fs o) b.class b.method b.body
@@ -217,7 +225,8 @@ module _ (table : Table) (bs : List Body) (fs : List (Facts numbers)) (o : Obser
         possible = possible;
         ready =
             subst (λ s. StaReady table s b.body) static
-            (sta_ready setting false (set_by_call m) b.body p.code);
+            (sta_uses setting (IsNotThis m.is_static) (IsAsked table m.is_static)
+            (λ x policy e is. is.leaves_this) (asks setting) false (set_by_call m) b.body p.code);
         ends =
             ends_of on a own at (point b.body)
             (λ c lt e. listed own.throws (length table.classes) c lt e) parts.1

@@ -29,7 +29,7 @@ use Rattle.par_runs.specs.Values.{shown_value, shown_object}
 use Rattle.par_alike.specs.Subject.{event_policy, policy_at, policy_or_none, channel_policy}
 use Rattle.par_alike.specs.Subject.{field_policy, of_class}
 use Rattle.par_bodies.specs.Members.{field_at}
-use Rattle.par_two_runs.specs.Watched.{IsField}
+use Rattle.par_bodies.specs.Names.{IsField}
 use Rattle.par_two_runs.proofs.States.{Watch, HasPolicy, IsMade, Sees, declared}
 use Rattle.par_two_runs.proofs.Leaves.{Sound, Throws}
 use Rattle.par_in_step.proofs.CallPoints.{method_is}

@@ -33,7 +33,8 @@ use Rattle.par_runs.specs.Values.{shown_value, shown_object}
 use Rattle.par_alike.specs.Subject.{event_policy, policy_at, policy_or_none, channel_policy}
 use Rattle.par_alike.specs.Subject.{field_policy, of_class}
 use Rattle.par_bodies.specs.Members.{method_at, methods_in, field_at, fields_in}
-use Rattle.par_two_runs.specs.Watched.{IsField, IsThere}
+use Rattle.par_bodies.specs.Names.{IsField}
+use Rattle.par_two_runs.specs.Watched.{IsThere}
 use Rattle.par_two_runs.proofs.States.{Watch, HasPolicy, IsMade, Sees, declared}
 use Rattle.par_two_runs.proofs.Leaves.{Sound, Throws, first_of, later_of}
 use Rattle.par_in_step.proofs.CallPoints.{method_is}

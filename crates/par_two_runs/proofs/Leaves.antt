@@ -15,7 +15,7 @@ use Rattle.par_runs.specs.Values.{shown_value}
 use Rattle.par_runs.specs.Meaning.{inputs}
 use Rattle.par_runs.specs.Tasks.{Normal, Task, nothing, read, named, NULL_POINTER, ARITHMETIC}
 use Rattle.par_bodies.specs.Members.{field_at, channel_at}
-use Rattle.par_two_runs.specs.Watched.{IsField, IsChannel}
+use Rattle.par_bodies.specs.Names.{IsField, IsChannel}
 use Rattle.par_two_runs.proofs.States.{Watch, BodyFlowsTo, Exits, Frame, HasPolicy, IsMade, Keeps}
 use Rattle.par_two_runs.proofs.States.{Like, Made, Opened, Same, Sees, Way, Writes, blind}
 use Rattle.par_two_runs.proofs.States.{declared}

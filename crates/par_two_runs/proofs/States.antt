@@ -24,10 +24,11 @@ use Rattle.par_runs.specs.Names.{Name, made_named}
 use Rattle.par_runs.specs.State.{State}
 use Rattle.par_runs.specs.Tasks.{Exit, Normal, Broken, Continued, Returned, Thrown}
 use Rattle.par_alike.specs.Subject.{event_policy, policy_at}
-use Rattle.par_two_runs.specs.Watched.{watched, IsField}
+use Rattle.par_two_runs.specs.Watched.{watched}
+use Rattle.par_bodies.specs.Names.{IsField}
 use Rattle.par_checks.specs.Checks.{lock_written}
 use Rattle.par_bodies.specs.Members.{field_at, channel_at}
-use Rattle.par_two_runs.specs.Watched.{IsChannel}
+use Rattle.par_bodies.specs.Names.{IsChannel}
 use Rattle.par_two_runs.proofs.Basics.{and_left}
 use Rattle.par_two_runs.proofs.Lists.{Agree, agree_swap}
 

@@ -20,7 +20,7 @@ use Rattle.par_runs.specs.Values.{shown_value, object_number}
 use Rattle.par_runs.specs.Meaning.{outputs, born, writes_static, writes_field}
 use Rattle.par_runs.specs.Tasks.{Normal, nothing}
 use Rattle.par_bodies.specs.Members.{field_at}
-use Rattle.par_two_runs.specs.Watched.{IsField}
+use Rattle.par_bodies.specs.Names.{IsField}
 use Rattle.par_two_runs.proofs.Leaves.{Level, Sound, keeps_level, like_level, step_named}
 use Rattle.par_two_runs.proofs.Leaves.{tail_named}
 use Rattle.par_two_runs.proofs.States.{HasPolicy}

@@ -1,8 +1,6 @@
 -- Policies as one observer meets them: it sees what has the policy or it does not.
-use Rattle.std.specs.Prelude.{◌≡◌, ℕ, Bool, true, ◌&&◌, List, Option, Some, None, slice_get, IsTrue}
+use Rattle.std.specs.Prelude.{Bool, true, ◌&&◌, List, Option, Some, None, slice_get, IsTrue}
 use Rattle.par_policy.specs.declared.clauses.Clause.{Clause}
-use Rattle.par_typed.specs.declared.table.FieldInfo.{FieldInfo}
-use Rattle.par_typed.specs.declared.table.ChannelInfo.{ChannelInfo}
 use Rattle.par_typed.specs.declared.table.MethodInfo.{MethodInfo}
 use Rattle.par_rules.specs.Lattice.{Lattice, seen_by}
 use Rattle.par_secrecy.specs.Shown.{Observer}
@@ -16,16 +14,6 @@ watched policies o = record {
   bottom = true;
   given = λ n. seen_by (slice_get policies n) o.actor o.locks;
 }
-
--- a field that is static, or one that is not
-abbrev pub IsField : Bool → Option FieldInfo → Type 0
-IsField is_static None = ⊥
-IsField is_static (Some field) = field.is_static ≡ is_static
-
--- a channel into the program, or one out of it
-abbrev pub IsChannel : Bool → Option ChannelInfo → Type 0
-IsChannel is_input None = ⊥
-IsChannel is_input (Some channel) = channel.is_input ≡ is_input
 
 -- there is one
 abbrev pub IsThere : Option MethodInfo → Type 0
