@@ -1,6 +1,6 @@
 -- No break and no continue leaves a proper body.
 use Rattle.std.proofs.Common.{◌≡◌, ℕ, zero, suc, Bool, true, false, not, ◌&&◌, ◌||◌, List, [], ◌∷◌}
-use Rattle.std.proofs.Common.{refl, ap, ◌∙◌, subst, sym}
+use Rattle.std.proofs.Common.{refl, ap}
 use Rattle.par_lexer.specs.declared.operator.BinOp.{BinOp}
 use Rattle.par_lexer.specs.declared.operator.BinOp.TheVariants.{And, Or, Div, Rem}
 use Rattle.par_typed.specs.Plain as plain
@@ -167,11 +167,9 @@ module _ (k : Kind) (j : IsJump k) where
           (unless_throws (mark e).sure _ kind.NULL_POINTER _
           (worths _ _ (called (d.method c k) _)))))
       exp_cannot (plain.Neg e m) =
-          cannot _ _
-          (part _ Next (exp d e) _ (exp_cannot e) (on _ _ (worths _ Done done)))
+          cannot _ _ (part _ Next (exp d e) _ (exp_cannot e) (on _ _ (worths _ Done done)))
       exp_cannot (plain.Not e m) =
-          cannot _ _
-          (part _ Next (exp d e) _ (exp_cannot e) (on _ _ (worths _ Done done)))
+          cannot _ _ (part _ Next (exp d e) _ (exp_cannot e) (on _ _ (worths _ Done done)))
       exp_cannot (plain.Binary op x y m) =
           cannot _ _
           (part _ Next (exp d x) _ (exp_cannot x)
@@ -189,8 +187,7 @@ module _ (k : Kind) (j : IsJump k) where
         unfolding sta StaIsProper
 
         -- a statement that is proper outside a loop
-        pub sta_cannot : (set : List ℕ) (b : TSta) → StaIsProper s false set b
-            → Cannot (sta d b)
+        pub sta_cannot : (set : List ℕ) (b : TSta) → StaIsProper s false set b → Cannot (sta d b)
         sta_cannot set (plain.Block ss at p) h = cannot _ _ (stas_never _ true set ss h)
         sta_cannot set (plain.If e b plain.NoElse at p) h =
             cannot _ _
@@ -234,8 +231,7 @@ module _ (k : Kind) (j : IsJump k) where
         sta_cannot set (plain.Eval e at p) h =
             cannot _ _ (part _ Next (exp d e) _ (exp_cannot e) (on _ Done done))
         sta_cannot set (plain.When lock b plain.NoElse at p) h =
-            cannot _ _
-            (on _ _ (part _ Next (sta d b) _ (sta_cannot set b h.1) (on _ Done done)))
+            cannot _ _ (on _ _ (part _ Next (sta d b) _ (sta_cannot set b h.1) (on _ Done done)))
         sta_cannot set (plain.When lock b (plain.Otherwise t) at p) h =
             cannot _ _
             (part _ Next (sta d b) _ (sta_cannot set b h.1)

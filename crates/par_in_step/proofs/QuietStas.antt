@@ -26,7 +26,7 @@ use Rattle.par_typed.specs.Plain.{Body}
 use Rattle.par_runs.specs.Meaning.{Calls, eval, go, go_else, go_all, go_catch}
 use Rattle.par_runs.specs.Values.{is_true}
 use Rattle.par_bodies.specs.Names.{ExpNames, StaNames, StasName, CatchesName}
-use Rattle.par_in_step.proofs.Needs.{StaReady, StasReady, CatchesReady}
+use Rattle.par_in_step.proofs.Needs.{StasReady, CatchesReady}
 use Rattle.par_bodies.specs.Makes.{ExpMakes, StaMakes, StasMake, CatchesMake}
 use Rattle.par_values.specs.declared.value.MVal.{MVal}
 use Rattle.par_values.specs.Areas.{next}

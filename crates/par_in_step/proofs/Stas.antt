@@ -29,7 +29,7 @@ use Rattle.par_typed.specs.Plain.{Body}
 use Rattle.par_runs.specs.Meaning.{Calls, eval, go, go_else, go_all, go_catch}
 use Rattle.par_runs.specs.Values.{is_true}
 use Rattle.par_bodies.specs.Names.{ExpNames, StaNames, StasName, CatchesName}
-use Rattle.par_in_step.proofs.Needs.{StaReady, StasReady, CatchesReady}
+use Rattle.par_in_step.proofs.Needs.{StasReady, CatchesReady}
 use Rattle.par_bodies.specs.Makes.{ExpMakes, StaMakes, StasMake, CatchesMake}
 use Rattle.par_values.specs.declared.value.MVal.{MVal}
 use Rattle.par_values.specs.Areas.{next}
@@ -334,8 +334,7 @@ module _ (on : Watch) where
             (λ u v n iu iv e' r. step_static on sound c f V u v iu iv
             (holds_is on a _ n
             (λ w. IsRelease 401 → on.Release ((declared on).field c f) V w.locks) e' ks.1.0
-            (inl refl)) r
-            (lands_is on n _ _ e' l.0)) tl tl)
+            (inl refl)) r (lands_is on n _ _ e' l.0)) tl tl)
         step_sta (plain.SetField y c f e at p) g w i ob k =
             let h = open_node on a ob in
             let r = part_exp on a y h.1 in
@@ -377,7 +376,8 @@ module _ (on : Watch) where
             (subst (λ ls. on.Release ((declared on).field c f) U ls) wy.locks
             (holds_is on a _ wy.way
             (λ w. IsRelease 402 → on.Release ((declared on).field c f) U w.locks) wy.is kr.1.0
-            (inr (inl refl)))) (λ vis. er
+            (inr (inl refl))))
+            (λ vis. er
             (holds_is on a _ wy.way (λ w. Sees on ((declared on).field c f) → IsTrue V) wy.is
             kr.1.1.0 vis)) ev (lands_is on j _ _ e'' l.0))) (te r1) (te r2))
             (λ r1 n ir e'. tail_exp on a sound run silent m e t.0 good e' _ (te r1))

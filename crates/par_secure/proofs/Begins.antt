@@ -1,6 +1,6 @@
 -- How two runs begin: the method `main`, and inputs that an observer cannot tell apart.
-use Rattle.std.proofs.Common.{◌≡◌, ◌<◌, ℕ, zero, suc, Bool, true, false, cond, List, [], ◌∷◌, ◌++◌}
-use Rattle.std.proofs.Common.{Option, Some, None, refl, ap, sym, ◌∙◌, subst, length, if◌then◌else◌}
+use Rattle.std.proofs.Common.{◌≡◌, ℕ, zero, suc, Bool, true, false, cond, List, [], ◌∷◌}
+use Rattle.std.proofs.Common.{Option, Some, None, refl, ap, sym, ◌∙◌, subst, if◌then◌else◌}
 use Rattle.std.specs.Prelude.{map, slice_get, IsTrue, All, Contains, codes}
 use Rattle.std.specs.List.{filter, flat_map}
 use Rattle.std.specs.Str.{bytes_eq}
@@ -19,7 +19,7 @@ use Rattle.par_well_typed.specs.Beginning.{mains, HasMain}
 use Rattle.par_values.specs.declared.inputs.Inputs.{Inputs}
 use Rattle.par_secrecy.specs.Subject.{InputChannel, given}
 use Rattle.par_secrecy.specs.Shown.{sees, Alike}
-use Rattle.par_runs.specs.Names.{Name, channel_named, channel_of, channel_member, place_of, main_of}
+use Rattle.par_runs.specs.Names.{channel_named, channel_of, channel_member, place_of, main_of}
 use Rattle.par_runs.specs.Names.{main_in}
 use Rattle.par_runs.specs.Source.{given_to}
 use Rattle.par_alike.specs.Subject.{input_of, inputs_in, input_channels, subject}
@@ -59,7 +59,8 @@ module _ (on : Watch) (main : HasMain on.table) where
   pub main_free : (l : ℕ)
       → IsTrue (((declared on).method on.table.main (main_of on.table)).expects l) → ⊥
   main_free l h =
-      let own = subst (λ m. IsTrue (m.expects l)) (method_is on on.table.main (main_of on.table)) h in
+      let own = subst (λ m. IsTrue (m.expects l)) (method_is on on.table.main (main_of on.table))
+      h in
       let named = subst (λ o. IsTrue ((method_of o).expects l)) main_is own in
       let none : IsTrue (has [] l) = subst (λ ls. IsTrue (has ls l)) main.1.expects named in
       absurd cc
@@ -74,8 +75,9 @@ module _ (on : Watch) (main : HasMain on.table) where
 abbrev inputs_among : List ChannelInfo → List ChannelInfo
 inputs_among ks = filter (λ c. c.is_input) ks
 
-contains_input : {A : Type 0} (f : ChannelInfo → A) (k : ChannelInfo) (ks : List ChannelInfo) (i : ℕ)
-    → slice_get ks i ≡ Some k → k.is_input ≡ true → Contains (map f (inputs_among ks)) (f k)
+contains_input : {A : Type 0} (f : ChannelInfo → A) (k : ChannelInfo) (ks : List ChannelInfo)
+    (i : ℕ) → slice_get ks i ≡ Some k → k.is_input ≡ true
+    → Contains (map f (inputs_among ks)) (f k)
 contains_input f k [] i e h = absurd cc
 contains_input f k (x ∷ xs) zero e h =
     let is : x ≡ k = cc in
@@ -84,8 +86,7 @@ contains_input f k (x ∷ xs) zero e h =
     subst (λ b. Contains (map f (cond b (x ∷ rest) rest)) (f k)) (sym input)
     (subst (Contains (map f (x ∷ rest))) (ap f is) (Contains-first (f x) (map f rest)))
 contains_input f k (x ∷ xs) (suc i) e h =
-    let at : slice_get xs i ≡ Some k = e in
-    kept x.is_input (contains_input f k xs i at h)
+    let at : slice_get xs i ≡ Some k = e in kept x.is_input (contains_input f k xs i at h)
   where
     kept : (b : Bool) → Contains (map f (inputs_among xs)) (f k)
         → Contains (map f (cond b (x ∷ inputs_among xs) (inputs_among xs))) (f k)
@@ -124,11 +125,11 @@ input_is on c k = in_class (slice_get on.table.classes c) refl
       here = here;
       input = h;
     }
+
     in_class : (o : Option ClassInfo) → slice_get on.table.classes c ≡ o
         → IsChannel true (slice_get (channels_in o) k) → Input on c k
     in_class None there h = absurd h
-    in_class (Some class) there h =
-        in_channels class there (slice_get class.channels k) refl h
+    in_class (Some class) there h = in_channels class there (slice_get class.channels k) refl h
 
 module _ (typed : Typed) (on : Watch) (same : typed.table ≡ on.table) (range : IsInRange on.table)
     (one other : Inputs) (told : Alike (subject typed) on.observer one other) where
@@ -145,18 +146,20 @@ module _ (typed : Typed) (on : Watch) (same : typed.table ≡ on.table) (range :
       → IsTrue (sees on.observer h.policy)
       → given one.channels h.class h.name ≡ given other.channels h.class h.name
   told_of h there =
-      All-contains (λ c. IsTrue (sees on.observer c.policy)
+      All-contains
+      (λ c. IsTrue (sees on.observer c.policy)
       → given one.channels c.class c.name ≡ given other.channels c.class c.name)
       (input_channels on.table) h
-      (subst (λ t. All (λ c. IsTrue (sees on.observer c.policy)
+      (subst (λ t. All
+      (λ c. IsTrue (sees on.observer c.policy)
       → given one.channels c.class c.name ≡ given other.channels c.class c.name)
       (input_channels t)) same told) there
 
   -- inputs that the observer cannot tell apart give the same to each channel that it sees
   pub alike : (c k : ℕ) → IsChannel true (channel_at on.table c k)
       → Sees on ((declared on).channel c k)
-      → given_to one.channels (channel_named on.table c k)
-      ≡ given_to other.channels (channel_named on.table c k)
+      → given_to one.channels (channel_named on.table c k) ≡ given_to other.channels
+      (channel_named on.table c k)
   alike c k is seen =
       let h = input_is on c k is in
       let below = all_at (ChannelInRange on.table) h.class.channels k h.info
@@ -165,7 +168,8 @@ module _ (typed : Typed) (on : Watch) (same : typed.table ≡ on.table) (range :
       let visible = subst (λ n. Sees on n) (input_declared c k h) seen in
       let listed = contains_flat (inputs_in on.table) on.table.classes c h.class
       (input_of on.table h.class.name h.info) h.there
-      (contains_input (input_of on.table h.class.name) h.info h.class.channels k h.here h.input) in
+      (contains_input (input_of on.table h.class.name) h.info h.class.channels k h.here h.input)
+      in
       subst (λ m. given_to one.channels m ≡ given_to other.channels m) (sym (input_named c k h))
       (told_of (input_of on.table h.class.name h.info) listed
       (subst IsTrue (sym (seen_in_range on.table.policies h.info.policy on.observer below))

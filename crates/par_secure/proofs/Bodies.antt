@@ -1,6 +1,6 @@
 -- Each method has a body with facts that are right for one observer.
 use Rattle.std.proofs.Common.{◌≡◌, ◌<◌, ◌+◌, ℕ, zero, suc, Bool, true, false, ◌&&◌, ◌==◌, not, List}
-use Rattle.std.proofs.Common.{[], ◌∷◌, ◌++◌, Option, Some, None, refl, ap, sym, ◌∙◌, subst, length}
+use Rattle.std.proofs.Common.{[], ◌∷◌, Option, Some, None, refl, ap, sym, ◌∙◌, subst, length}
 use Rattle.std.proofs.Common.{arith, if◌then◌else◌}
 use Rattle.std.specs.Prelude.{map, slice_get, Contains, IsTrue, nat_lt}
 use Rattle.std.specs.List.{range_with_len}
@@ -13,7 +13,7 @@ use Rattle.std.proofs.lemmas.List.FromFn.{length-map-range_with_len, get_or-map-
 use Rattle.std.proofs.lemmas.Map.Made.{Contains-tail}
 use Rattle.par_policy.specs.Numbers.{has}
 use Rattle.par_policy.proofs.Members.{has-from_Contains}
-use Rattle.par_policy.proofs.Ordered.{Contains-nil, Contains-first, Contains-later}
+use Rattle.par_policy.proofs.Ordered.{Contains-nil}
 use Rattle.par_policy.proofs.Filtered.{Contains-filter}
 use Rattle.par_typed.specs.declared.table.ClassInfo.{ClassInfo}
 use Rattle.par_typed.specs.declared.table.MethodInfo.{MethodInfo}
@@ -22,7 +22,7 @@ use Rattle.par_typed.specs.Plain.{Body, point}
 use Rattle.par_rules.specs.Lattice.{numbers}
 use Rattle.par_rules.specs.Kinds as kind
 use Rattle.par_rules.specs.Facts.{Facts}
-use Rattle.par_rules.specs.Declares.{Method, Thrown, declares, method_of}
+use Rattle.par_rules.specs.Declares.{Thrown, declares, method_of}
 use Rattle.par_rules.specs.Closed.{IsClosed}
 use Rattle.par_rules.specs.Body.{sta}
 use Rattle.par_pass.specs.Possible.{HasPossibleExits}
@@ -39,11 +39,10 @@ use Rattle.par_bodies.specs.Forms.{Setting, AsksLock}
 use Rattle.par_bodies.specs.Uses.{IsNotThis}
 use Rattle.par_checks.specs.Checks.{lock_written}
 use Rattle.par_in_step.proofs.Needs.{IsAsked}
-use Rattle.par_bodies.specs.Proper.{IsProper, StaIsProper}
+use Rattle.par_bodies.specs.Proper.{IsProper}
 use Rattle.par_well_typed.specs.Bodied.{Spot, spot_of, methods_from, AreBodiesOf}
 use Rattle.par_two_runs.specs.Watched.{IsThere}
 use Rattle.par_two_runs.proofs.Basics.{and_left, and_right, and_both}
-use Rattle.par_two_runs.proofs.States.{Watch}
 use Rattle.par_in_step.proofs.CallPoints.{method_is}
 use Rattle.par_bodies.specs.Makes.{StaMakes}
 use Rattle.par_in_step.proofs.Needs.{StaReady}
@@ -75,7 +74,8 @@ in_class base n k below =
     let at : 0 + k ≡ k = omega arith in
     subst (Contains (map spot (range_with_len 0 n)))
     (get_or-map-range_with_len spot 0 n k k (base, k) below at)
-    (Contains-get_or (map spot (range_with_len 0 n)) k (base, k) (subst (λ z. k < z) (sym long) below))
+    (Contains-get_or (map spot (range_with_len 0 n)) k (base, k)
+    (subst (λ z. k < z) (sym long) below))
 
 in_methods : (base : ℕ) (cs : List ClassInfo) (c k : ℕ) (info : ClassInfo)
     → slice_get cs c ≡ Some info → k < length info.methods
@@ -123,8 +123,8 @@ record Found (bs : List Body) (fs : List (Facts numbers)) (c k : ℕ) : Type 0 w
 abbrev is_for : Body → ℕ → ℕ → Bool
 is_for b c k = b.class == c && b.method == k
 
-first_found : (b : Body) (f : Facts numbers) (bs : List Body) (fs : List (Facts numbers)) (c k : ℕ)
-    (t : Bool) → is_for b c k ≡ t → Contains (map spot_of (b ∷ bs)) (c, k)
+first_found : (b : Body) (f : Facts numbers) (bs : List Body) (fs : List (Facts numbers))
+    (c k : ℕ) (t : Bool) → is_for b c k ≡ t → Contains (map spot_of (b ∷ bs)) (c, k)
     → (Contains (map spot_of bs) (c, k) → Found bs fs c k) → Found (b ∷ bs) (f ∷ fs) c k
 first_found b f bs fs c k true e h later = record {
   body = b;
@@ -135,11 +135,11 @@ first_found b f bs fs c k true e h later = record {
   is = ap (λ t. if t then Some b.body else body_of bs c k) e;
 }
 first_found b f bs fs c k false e h later =
-    let other = λ (q : spot_of b ≡ (c, k)).
-    let same : is_for b c k ≡ true = and_both (b.class == c) (b.method == k)
-    (eq-eqb b.class c (ap (λ s. s.0) q)) (eq-eqb b.method k (ap (λ s. s.1) q)) in
-    let bad : true ≡ false = sym same ∙ e in absurd cc in
-    let rest = later (Contains-tail (spot_of b) (map spot_of bs) (c, k) other h) in
+    let other = λ (q : spot_of b ≡ (c, k)). let same : is_for b c k ≡ true = and_both
+    (b.class == c) (b.method == k) (eq-eqb b.class c (ap (λ s. s.0) q))
+    (eq-eqb b.method k (ap (λ s. s.1) q)) in
+    let bad : true ≡ false = sym same ∙ e in
+    absurd cc in let rest = later (Contains-tail (spot_of b) (map spot_of bs) (c, k) other h) in
     record {
       body = rest.body;
       facts = rest.facts;
@@ -199,16 +199,17 @@ module _ (table : Table) (bs : List Body) (fs : List (Facts numbers)) (o : Obser
         method = m;
         sures = h.proper.1;
       } in
-      let static : m.is_static ≡ own.is_static =
-      sym (ap (λ x. x.is_static) (method_is on b.class b.method)
+      let static : m.is_static ≡ own.is_static = sym
+      (ap (λ x. x.is_static) (method_is on b.class b.method)
       ∙ ap (λ x. (method_of x).is_static) p.method) in
       let at = name_at (slice_get table.classes b.class) b.method in
       let closed = closed_along Q N f (declares table) b h.closed in
       let possible = possible_along Q N f (sta (declares table) b.body) h.possible in
-      let obey : Obey on a (sta (declares table) b.body) =
-      record { it = closed.obeyed; possible = possible } in
-      let no_jump = λ (k : kind.Kind) (j : IsJump k).
-      only_possible on a b.body obey k
+      let obey : Obey on a (sta (declares table) b.body) = record {
+        it = closed.obeyed;
+        possible = possible;
+      } in
+      let no_jump = λ (k : kind.Kind) (j : IsJump k). only_possible on a b.body obey k
       (sta_cannot k j (declares table) setting (set_by_call m) b.body p.code) in
       let all = all_kept table bs fs o b f pair (checks table b) (λ c i. (i, h.kept c i)) in
       let parts = kept_app on a (sta_checks table own b.body)

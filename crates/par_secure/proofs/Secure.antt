@@ -1,5 +1,6 @@
 -- Accepted programs are secure.
-use Rattle.std.proofs.Common.{◌≡◌, ◌≤◌, ℕ, ◌⊎◌, inl, inr, ⊎_elim, List, [], ◌∷◌, Option, Some, None, refl, ap}
+use Rattle.std.proofs.Common.{◌≡◌, ℕ, inl, inr, ⊎_elim, List, [], ◌∷◌, Option, Some}
+use Rattle.std.proofs.Common.{None, refl, ap}
 use Rattle.std.proofs.Common.{suc, ◌++◌, sym, ◌∙◌, subst, length}
 use Rattle.std.specs.Prelude.{IsTrue, Contains, slice_get}
 use Rattle.std.specs.List.{AllByRecursion}
@@ -11,10 +12,8 @@ use Rattle.par_typed.specs.declared.program.Typed.{Typed}
 use Rattle.par_typed.specs.Plain.{Body}
 use Rattle.par_typed.specs.Shown.{bodies}
 use Rattle.par_rules.specs.Lattice.{numbers, joined, seen_by}
-use Rattle.par_rules.specs.Ways.{Way}
 use Rattle.par_rules.specs.Facts.{Facts}
 use Rattle.par_rules.specs.Rules.{Holds}
-use Rattle.par_checks.specs.Asked as ask
 use Rattle.par_checks.specs.Asked.{Check}
 use Rattle.par_checks.specs.Checks.{checks}
 use Rattle.par_checks.specs.Keeps.{Satisfies, locks_in}
@@ -27,10 +26,10 @@ use Rattle.par_well_typed.specs.WellTyped.{IsWellTyped}
 use Rattle.par_verdict.specs.Judged.{AreAllRight}
 use Rattle.par_verdict.specs.Accepted.{AreAllKept, IsAcceptedBy}
 use Rattle.par_secrecy.specs.Runs.{Witnessed}
-use Rattle.par_secrecy.specs.Shown.{Observer, sees, shown}
+use Rattle.par_secrecy.specs.Shown.{Observer, sees}
 use Rattle.par_secrecy.specs.Secure.{Secure}
 use Rattle.par_runs.specs.Source.{source}
-use Rattle.par_alike.specs.Subject.{subject, policy_or_none, policy_at}
+use Rattle.par_alike.specs.Subject.{subject, policy_or_none}
 use Rattle.par_in_step.proofs.Runs.{explained}
 use Rattle.par_secure.specs.Explained.{IsPair, Here, Later, Explains, IsExplained}
 use Rattle.par_secure.proofs.Watching.{within_has, had, watch, explains}
@@ -78,11 +77,11 @@ released : (table : Table) (bs : List Body) (fs : List (Facts numbers)) (o : Obs
 released table bs fs o x y r kept held =
     let keeps = kept_of table r.body r.facts bs fs r.pair kept r.check r.asked in
     let here = subst
-    (λ w. Holds numbers w (λ w. Satisfies numbers (joined table.policies) (given table) r.facts w
-    r.check.condition)) r.spot keeps in
-    let told = subst
-    (λ c. Satisfies numbers (joined table.policies) (given table) r.facts r.at c) r.condition
-    here in
+    (λ w. Holds numbers w
+    (λ w. Satisfies numbers (joined table.policies) (given table) r.facts w r.check.condition))
+    r.spot keeps in
+    let told = subst (λ c. Satisfies numbers (joined table.policies) (given table) r.facts r.at c)
+    r.condition here in
     joined_more table.policies (r.facts r.value).value o.actor (o.locks ++ locks_in r.at.locks)
     o.locks (had o r.at.locks held)
     (told o.actor o.locks (seen_so o (slice_get table.policies r.policy) r.seen))
@@ -111,17 +110,16 @@ module _ (typed : Typed) (fs : List (Facts numbers))
   differences_explained o small one other fit fit' told m n k a b p q e =
       let bs = bodies typed.bodies in
       let on = watch typed.table bs fs o in
-      let right = λ (b : Body) (f : Facts numbers) (pair : IsPair b f bs fs).
-      facts_of typed.table b f bs fs pair typed_well.proper accepted.right accepted.kept in
+      let right = λ (b : Body) (f : Facts numbers) (pair : IsPair b f bs fs). facts_of typed.table
+      b f bs fs pair typed_well.proper accepted.right accepted.kept in
       let many : length fs ≡ length bs = accepted.many ∙ sym (as_many typed.bodies) in
       ⊎_elim (λ i. inl i) (λ r. inr (explains typed.table bs fs o a b r))
       (explained on
       (sound on typed_well.in_range declared_well.names typed_well.built_in declared_well.births
       written) bs (known typed.table bs fs o typed_well.one_each many right)
       (main_there on typed_well.main) (main_free on typed_well.main)
-      (main_static on typed_well.main)
-      one.channels other.channels (alike typed on refl typed_well.in_range one other told) m n k a
-      b p q e)
+      (main_static on typed_well.main) one.channels other.channels
+      (alike typed on refl typed_well.in_range one other told) m n k a b p q e)
 
   pub accepted_is_secure : Secure (subject typed)
   accepted_is_secure = secure_if_explained typed fs accepted.kept differences_explained

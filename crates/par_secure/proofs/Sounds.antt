@@ -1,17 +1,13 @@
 -- The table of a well-typed program is sound for each observer.
-use Rattle.std.proofs.Common.{◌≡◌, ◌<◌, ℕ, zero, suc, ℤ, Bool, true, false, List, [], ◌∷◌, Option}
-use Rattle.std.proofs.Common.{Some, None, refl, ap, sym, ◌∙◌, subst, length, arith}
-use Rattle.std.specs.Prelude.{map, slice_get, IsTrue, nat_lt}
-use Rattle.std.specs.List.{AllByRecursion, IsDistinct}
-use Rattle.std.specs.Str.{bytes_eq}
+use Rattle.std.proofs.Common.{◌≡◌, ◌<◌, ℕ, ℤ, true, false, List, []}
+use Rattle.std.proofs.Common.{Some, refl, ap, sym, ◌∙◌, subst, length, arith}
+use Rattle.std.specs.Prelude.{map, slice_get, nat_lt}
+use Rattle.std.specs.List.{AllByRecursion}
 use Rattle.std.proofs.lemmas.Bool.{lt-ltb}
 use Rattle.par_policy.specs.declared.clauses.Clause.{Clause}
 use Rattle.par_typed.specs.declared.table.FieldInfo.{FieldInfo}
-use Rattle.par_typed.specs.declared.table.ChannelInfo.{ChannelInfo}
-use Rattle.par_typed.specs.declared.table.MethodInfo.{MethodInfo}
 use Rattle.par_typed.specs.declared.table.ClassInfo.{ClassInfo}
-use Rattle.par_rules.specs.Lattice.{seen_by}
-use Rattle.par_rules.specs.Declares.{declares, methods_of, channels_of, fields_of, birth_of}
+use Rattle.par_rules.specs.Declares.{declares, channels_of, fields_of, birth_of}
 use Rattle.par_rules.specs.Declares.{channel_of as channel_number, field_of as field_number}
 use Rattle.par_declared.specs.Names.{AreNamesApart, HasOwnNames}
 use Rattle.par_declared.specs.Births.{AreBirthsBelow, AreFieldsWritten, HasBirthBelow, IsBornBelow}
@@ -23,20 +19,19 @@ use Rattle.par_values.specs.declared.run.Val.{Val}
 use Rattle.par_values.specs.declared.run.Val.TheVariants as shown
 use Rattle.par_values.specs.declared.value.MVal.{MVal}
 use Rattle.par_values.specs.declared.value.MVal.TheVariants as value
-use Rattle.par_secrecy.specs.Shown.{sees}
 use Rattle.par_runs.specs.Names.{Name, Member, channel_named, field_named, made_named}
 use Rattle.par_runs.specs.Values.{shown_value, shown_object}
-use Rattle.par_alike.specs.Subject.{event_policy, policy_at, policy_or_none, channel_policy}
+use Rattle.par_alike.specs.Subject.{event_policy, policy_at, channel_policy}
 use Rattle.par_alike.specs.Subject.{field_policy, of_class}
 use Rattle.par_bodies.specs.Members.{field_at}
 use Rattle.par_bodies.specs.Names.{IsField}
 use Rattle.par_two_runs.proofs.States.{Watch, HasPolicy, IsMade, Sees, declared}
 use Rattle.par_two_runs.proofs.Leaves.{Sound, Throws}
 use Rattle.par_in_step.proofs.CallPoints.{method_is}
-use Rattle.par_secure.proofs.Tables.{all_at, look, found, channels_look, fields_look, classes_look}
-use Rattle.par_secure.proofs.Tables.{distinct_front, Channel, channel_is, Field, field_is, Made}
+use Rattle.par_secure.proofs.Tables.{all_at, found, channels_look, fields_look, classes_look}
+use Rattle.par_secure.proofs.Tables.{distinct_front, Channel, channel_is, Field, field_is}
 use Rattle.par_secure.proofs.Tables.{made_is, seen_in_range, built_in, method_below}
-use Rattle.par_secure.proofs.Tables.{method_in_range, OwnField, own_field, one_place, named}
+use Rattle.par_secure.proofs.Tables.{method_in_range, own_field, one_place, named}
 
 module _ (on : Watch) (range : IsInRange on.table) (apart : AreNamesApart on.table) where
   -- an event that tells of a class
@@ -67,8 +62,7 @@ module _ (on : Watch) (range : IsInRange on.table) (apart : AreNamesApart on.tab
   channel_declared : (c k : ℕ) (m : Member) (h : Channel on.table c k m)
       → (declared on).channel c k ≡ h.info.policy
   unfolding declares
-  channel_declared c k m h =
-      ap (λ o. channels_of o k) h.there ∙ ap (λ o. channel_number o) h.here
+  channel_declared c k m h = ap (λ o. channels_of o k) h.there ∙ ap (λ o. channel_number o) h.here
 
   channel_said : (c k : ℕ) (m : Member) (h : Channel on.table c k m)
       → of_class h.class.name (λ c. channel_policy on.table h.info.name c.channels)
@@ -155,9 +149,9 @@ module _ (on : Watch) (range : IsInRange on.table) (apart : AreNamesApart on.tab
       let h = own_field on.table c f own in
       let born = all_at (IsBornBelow on.table h.class.birth) h.class.fields f h.info
       (all_at (HasBirthBelow on.table) on.table.classes c h.class below h.there) h.here in
-      let wrote : h.info.inferred ≡ false = all_at (λ f. f.inferred ≡ false) h.class.fields f h.info
-      (all_at (λ c. AllByRecursion (λ f. f.inferred ≡ false) c.fields) on.table.classes c h.class
-      written h.there) h.here in
+      let wrote : h.info.inferred ≡ false = all_at (λ f. f.inferred ≡ false) h.class.fields f
+      h.info (all_at (λ c. AllByRecursion (λ f. f.inferred ≡ false) c.fields) on.table.classes c
+      h.class written h.there) h.here in
       subst (λ n. Sees on n) (sym (birth_declared c h.class h.there))
       (born h.own wrote on.observer.actor on.observer.locks
       (subst (λ n. Sees on n) (field_declared c f h.class h.info h.there h.here) seen))
@@ -177,9 +171,8 @@ module _ (on : Watch) (range : IsInRange on.table) (apart : AreNamesApart on.tab
       let y = made_is on.table d other is' in
       let names : one ≡ other = cc in
       let numbers : n ≡ m = cc in
-      let classes : c ≡ d =
-      one_place on.table.classes apart.classes c d x.class y.class x.there y.there
-      (x.named ∙ names ∙ sym y.named) in
+      let classes : c ≡ d = one_place on.table.classes apart.classes c d x.class y.class x.there
+      y.there (x.named ∙ names ∙ sym y.named) in
       ap (λ z. value.Ref z n) classes ∙ ap (value.Ref d) numbers
 
   shown_alike : (u v : MVal) → IsMade on u → IsMade on v
@@ -207,10 +200,10 @@ module _ (on : Watch) (range : IsInRange on.table) (apart : AreNamesApart on.tab
   thrown_there c k x p h =
       let there = subst (λ m. Throws m.throws x p) (method_is on c k) h in
       let below = method_below on.table _ x p
-      (λ m e. method_in_range on.table range.classes c k m e) there in lt-ltb _ _ below
+      (λ m e. method_in_range on.table range.classes c k m e) there in
+      lt-ltb _ _ below
 
-  pub sound : HasBuiltIns on.table → AreBirthsBelow on.table → AreFieldsWritten on.table
-      → Sound on
+  pub sound : HasBuiltIns on.table → AreBirthsBelow on.table → AreFieldsWritten on.table → Sound on
   sound built below written = record {
     out = out_policy;
     set = set_policy;

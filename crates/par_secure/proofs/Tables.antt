@@ -1,7 +1,9 @@
 -- What is known of the table of a program, for an observer.
-use Rattle.std.proofs.Common.{◌≡◌, ◌<◌, ℕ, zero, suc, ℤ, Bool, true, false, List, [], ◌∷◌, Option, Some}
-use Rattle.std.proofs.Common.{None, ◌++◌, refl, ap, sym, ◌∙◌, subst, length, arith, cond, if◌then◌else◌}
-use Rattle.std.specs.Prelude.{map, slice_get, IsTrue, nat_lt}
+use Rattle.std.proofs.Common.{◌≡◌, ◌<◌, ℕ, zero, suc, Bool, true, false, List, [], ◌∷◌, Option}
+use Rattle.std.proofs.Common.{Some}
+use Rattle.std.proofs.Common.{None, ◌++◌, refl, ap, sym, ◌∙◌, subst, length, arith}
+use Rattle.std.proofs.Common.{if◌then◌else◌}
+use Rattle.std.specs.Prelude.{map, slice_get, nat_lt}
 use Rattle.std.specs.List.{AllByRecursion, IsDistinct}
 use Rattle.std.specs.Str.{bytes_eq}
 use Rattle.std.proofs.lemmas.Bool.{lt-ltb}
@@ -14,30 +16,18 @@ use Rattle.par_typed.specs.declared.table.MethodInfo.{MethodInfo}
 use Rattle.par_typed.specs.declared.table.ClassInfo.{ClassInfo}
 use Rattle.par_typed.specs.declared.table.Table.{Table}
 use Rattle.par_rules.specs.Lattice.{seen_by}
-use Rattle.par_rules.specs.Declares.{Method, Thrown, declares, method_of, throws_of}
-use Rattle.par_declared.specs.Names.{AreNamesApart, HasOwnNames}
-use Rattle.par_declared.specs.Births.{AreBirthsBelow, AreFieldsWritten}
-use Rattle.par_well_typed.specs.Tables.{IsInRange, ClassInRange, MethodInRange, ThrowInRange}
+use Rattle.par_rules.specs.Declares.{Thrown, method_of, throws_of}
+use Rattle.par_well_typed.specs.Tables.{ClassInRange, MethodInRange, ThrowInRange}
 use Rattle.par_well_typed.specs.Signatures.{HasBuiltIns}
-use Rattle.par_values.specs.declared.run.Event.{Event}
-use Rattle.par_values.specs.declared.run.Event.TheVariants.{Out, Set as SetEvent, Put, Born}
-use Rattle.par_values.specs.declared.run.Val.{Val}
-use Rattle.par_values.specs.declared.run.Val.TheVariants as shown
-use Rattle.par_values.specs.declared.value.MVal.{MVal}
-use Rattle.par_values.specs.declared.value.MVal.TheVariants as value
 use Rattle.par_secrecy.specs.Shown.{Observer, sees}
 use Rattle.par_runs.specs.Names.{Name, Member, channel_named, channel_of, channel_member}
 use Rattle.par_runs.specs.Names.{field_named, field_of, field_member, made_named, made_name}
 use Rattle.par_runs.specs.Names.{class_named, class_name}
-use Rattle.par_runs.specs.Values.{shown_value, shown_object}
-use Rattle.par_alike.specs.Subject.{event_policy, policy_at, policy_or_none, channel_policy}
+use Rattle.par_alike.specs.Subject.{policy_at, policy_or_none, channel_policy}
 use Rattle.par_alike.specs.Subject.{field_policy, of_class}
 use Rattle.par_bodies.specs.Members.{method_at, methods_in, field_at, fields_in}
 use Rattle.par_bodies.specs.Names.{IsField}
-use Rattle.par_two_runs.specs.Watched.{IsThere}
-use Rattle.par_two_runs.proofs.States.{Watch, HasPolicy, IsMade, Sees, declared}
-use Rattle.par_two_runs.proofs.Leaves.{Sound, Throws, first_of, later_of}
-use Rattle.par_in_step.proofs.CallPoints.{method_is}
+use Rattle.par_two_runs.proofs.Leaves.{Throws, first_of, later_of}
 
 -- ---- lists
 
@@ -45,7 +35,8 @@ pub all_at : {A : Type 0} (P : A → Type 0) (xs : List A) (i : ℕ) (x : A) →
     → slice_get xs i ≡ Some x → P x
 all_at P [] i x h e = absurd cc
 all_at P (y ∷ ys) zero x h e = let is : y ≡ x = cc in subst P is h.0
-all_at P (y ∷ ys) (suc i) x h e = let there : slice_get ys i ≡ Some x = e in all_at P ys i x h.1 there
+all_at P (y ∷ ys) (suc i) x h e =
+    let there : slice_get ys i ≡ Some x = e in all_at P ys i x h.1 there
 
 -- the first of a name
 module _ {A B : Type 0} (name : A → Name) (said : A → B) (none : B) where
@@ -68,8 +59,8 @@ module _ {A B : Type 0} (name : A → Name) (said : A → B) (none : B) where
   found [] i x h e = absurd cc
   found (y ∷ ys) zero x h e =
       let is : y ≡ x = cc in
-      let same : bytes_eq (name y) (name x) ≡ true =
-      (bytes_eq-Decides (name y) (name x)).1 (ap name is) in
+      let same : bytes_eq (name y) (name x) ≡ true = (bytes_eq-Decides (name y) (name x)).1
+      (ap name is) in
       ap (λ b. if b then said y else look (name x) ys) same ∙ ap said is
   found (y ∷ ys) (suc i) x h e =
       let there : slice_get ys i ≡ Some x = e in
@@ -130,11 +121,11 @@ channel_is table c k m = in_class (slice_get table.classes c) refl
       here = here;
       member = cc;
     }
-    in_class : (o : Option ClassInfo) → slice_get table.classes c ≡ o
-        → channel_of o k ≡ Some m → Channel table c k m
+
+    in_class : (o : Option ClassInfo) → slice_get table.classes c ≡ o → channel_of o k ≡ Some m
+        → Channel table c k m
     in_class None there e = absurd cc
-    in_class (Some class) there e =
-        in_channels class there (slice_get class.channels k) refl e
+    in_class (Some class) there e = in_channels class there (slice_get class.channels k) refl e
 
 pub record Field (table : Table) (c f : ℕ) (m : Member) : Type 0 where
   pub class : ClassInfo
@@ -158,8 +149,9 @@ field_is table c f m = in_class (slice_get table.classes c) refl
       here = here;
       member = cc;
     }
-    in_class : (o : Option ClassInfo) → slice_get table.classes c ≡ o
-        → field_of o f ≡ Some m → Field table c f m
+
+    in_class : (o : Option ClassInfo) → slice_get table.classes c ≡ o → field_of o f ≡ Some m
+        → Field table c f m
     in_class None there e = absurd cc
     in_class (Some class) there e = in_fields class there (slice_get class.fields f) refl e
 
@@ -176,8 +168,9 @@ made_is table c name = in_class (slice_get table.classes c) refl
         → (if b then None else Some class.name) ≡ Some name → Made table c name
     ordinary class there true e = absurd cc
     ordinary class there false e = record { class = class; there = there; named = cc }
-    in_class : (o : Option ClassInfo) → slice_get table.classes c ≡ o
-        → made_name o ≡ Some name → Made table c name
+
+    in_class : (o : Option ClassInfo) → slice_get table.classes c ≡ o → made_name o ≡ Some name
+        → Made table c name
     in_class None there e = absurd cc
     in_class (Some class) there e = ordinary class there class.exception e
 
@@ -191,7 +184,8 @@ seen_in_range (p ∷ ps) (suc n) o below =
 
 -- ---- the two classes that every program has
 
-enough : {A : Type 0} (x y : A) (xs : List A) (n : ℕ) → n < 2 → nat_lt n (length (x ∷ y ∷ xs)) ≡ true
+enough : {A : Type 0} (x y : A) (xs : List A) (n : ℕ) → n < 2
+    → nat_lt n (length (x ∷ y ∷ xs)) ≡ true
 enough x y xs n below = let more : n < length (x ∷ y ∷ xs) = omega (arith, below) in lt-ltb _ _ more
 
 pub built_in : (table : Table) → HasBuiltIns table → (n : ℕ) → n < 2
@@ -258,6 +252,7 @@ own_field table c f = in_class (slice_get table.classes c) refl
       here = here;
       own = h;
     }
+
     in_class : (o : Option ClassInfo) → slice_get table.classes c ≡ o
         → IsField false (slice_get (fields_in o) f) → OwnField table c f
     in_class None there h = absurd h
@@ -266,28 +261,30 @@ own_field table c f = in_class (slice_get table.classes c) refl
 -- ---- values
 
 -- a name is that of one class
-pub one_place : (cs : List ClassInfo) → IsDistinct bytes_eq (map (λ c. c.name) cs) → (i j : ℕ)
-    (x y : ClassInfo) → slice_get cs i ≡ Some x → slice_get cs j ≡ Some y → x.name ≡ y.name
-    → i ≡ j
+pub one_place : (cs : List ClassInfo) → IsDistinct bytes_eq (map (λ c. c.name) cs)
+    → (i j : ℕ) (x y : ClassInfo) → slice_get cs i ≡ Some x → slice_get cs j ≡ Some y
+    → x.name ≡ y.name → i ≡ j
 unfolding IsDistinct
 one_place [] h i j x y e f same = absurd cc
 one_place (c ∷ cs) h zero zero x y e f same = refl
 one_place (c ∷ cs) h zero (suc j) x y e f same =
     let is : c ≡ x = cc in
     let there : slice_get cs j ≡ Some y = f in
-    let other : bytes_eq c.name y.name ≡ false = apart (λ c. c.name) (λ c. c.name) [] c.name cs j y
-    h.0 there in
-    let equal : bytes_eq c.name y.name ≡ true =
-    (bytes_eq-Decides c.name y.name).1 (ap (λ z. z.name) is ∙ same) in
-    let bad : true ≡ false = sym equal ∙ other in absurd cc
+    let other : bytes_eq c.name y.name ≡ false = apart (λ c. c.name) (λ c. c.name) [] c.name cs j
+    y h.0 there in
+    let equal : bytes_eq c.name y.name ≡ true = (bytes_eq-Decides c.name y.name).1
+    (ap (λ z. z.name) is ∙ same) in
+    let bad : true ≡ false = sym equal ∙ other in
+    absurd cc
 one_place (c ∷ cs) h (suc i) zero x y e f same =
     let is : c ≡ y = cc in
     let there : slice_get cs i ≡ Some x = e in
-    let other : bytes_eq c.name x.name ≡ false = apart (λ c. c.name) (λ c. c.name) [] c.name cs i x
-    h.0 there in
-    let equal : bytes_eq c.name x.name ≡ true =
-    (bytes_eq-Decides c.name x.name).1 (ap (λ z. z.name) is ∙ sym same) in
-    let bad : true ≡ false = sym equal ∙ other in absurd cc
+    let other : bytes_eq c.name x.name ≡ false = apart (λ c. c.name) (λ c. c.name) [] c.name cs i
+    x h.0 there in
+    let equal : bytes_eq c.name x.name ≡ true = (bytes_eq-Decides c.name x.name).1
+    (ap (λ z. z.name) is ∙ sym same) in
+    let bad : true ≡ false = sym equal ∙ other in
+    absurd cc
 one_place (c ∷ cs) h (suc i) (suc j) x y e f same =
     let left : slice_get cs i ≡ Some x = e in
     let right : slice_get cs j ≡ Some y = f in
@@ -296,4 +293,3 @@ one_place (c ∷ cs) h (suc i) (suc j) x y e f same =
 pub named : (table : Table) (c : ℕ) (name : Name) (m : Made table c name)
     → class_named table c ≡ Some name
 named table c name m = ap (λ o. class_name o) m.there ∙ ap Some m.named
-

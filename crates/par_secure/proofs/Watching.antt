@@ -1,6 +1,7 @@
 -- Facts that are kept, as one observer meets them.
-use Rattle.std.proofs.Common.{◌≡◌, ℕ, Bool, ◌⊎◌, inl, inr, ⊎_elim, Option, Some, None, List, [], ◌∷◌}
-use Rattle.std.proofs.Common.{◌++◌, refl, ap, sym, subst}
+use Rattle.std.proofs.Common.{◌≡◌, ℕ, Bool, ⊎_elim, Option, Some, None, List, []}
+use Rattle.std.proofs.Common.{◌∷◌}
+use Rattle.std.proofs.Common.{◌++◌, refl, ap, subst}
 use Rattle.std.specs.Prelude.{IsTrue, map, All, Contains, nat_eq}
 use Rattle.std.specs.List.{range_with_len}
 use Rattle.std.proofs.lemmas.Bool.{eqb-true}
@@ -26,7 +27,6 @@ use Rattle.par_checks.specs.Asked.{Condition, Check}
 use Rattle.par_checks.specs.Checks.{checks}
 use Rattle.par_checks.specs.Keeps.{Satisfies, locks_in}
 use Rattle.par_checks.specs.Verdict.{KeepsNumbered, given}
-use Rattle.par_checks.proofs.Monotone.{joined_more}
 use Rattle.par_secrecy.specs.Runs.{Witnessed}
 use Rattle.par_secrecy.specs.Shown.{Observer}
 use Rattle.par_two_runs.specs.Watched.{watched}
@@ -52,12 +52,11 @@ watched_stands table o = record {
 
 -- ---- locks
 
-pub within_has : (inner outer : List ℕ) → IsTrue (within inner outer)
-    → (l : ℕ) → IsTrue (has inner l) → IsTrue (has outer l)
+pub within_has : (inner outer : List ℕ) → IsTrue (within inner outer) → (l : ℕ)
+    → IsTrue (has inner l) → IsTrue (has outer l)
 within_has [] outer w l h = absurd cc
 within_has (m ∷ ms) outer w l h =
-    ⊎_elim
-    (λ e. subst (λ z. IsTrue (has outer z)) (eqb-true m l e)
+    ⊎_elim (λ e. subst (λ z. IsTrue (has outer z)) (eqb-true m l e)
     (and_left (has outer m) (within ms outer) w))
     (λ e. within_has ms outer (and_right (has outer m) (within ms outer) w) l e)
     (or_cases (nat_eq m l) (has ms l) h)
@@ -100,11 +99,7 @@ pub record Releases (table : Table) (bs : List Body) (fs : List (Facts numbers))
 
 -- an observer of a program with facts
 abbrev pub watch : Table → List Body → List (Facts numbers) → Observer → Watch
-watch table bs fs o = record {
-  table = table;
-  observer = o;
-  Release = Releases table bs fs o;
-}
+watch table bs fs o = record { table = table; observer = o; Release = Releases table bs fs o }
 
 pub explains : (table : Table) (bs : List Body) (fs : List (Facts numbers)) (o : Observer)
     (x y : Witnessed) → Explained (watch table bs fs o) x y → Explains table bs fs o x y
@@ -146,7 +141,8 @@ module _ (table : Table) (bs : List Body) (fs : List (Facts numbers)) (o : Obser
   parts_meant [] = refl
   parts_meant (p ∷ ps) = ap (λ fs. meant p ∷ fs) (parts_meant ps)
 
-  in_order : (s t : Set) → IsWithin s t → IsSeenBelow (joined table.policies s) (joined table.policies t)
+  in_order : (s t : Set) → IsWithin s t
+      → IsSeenBelow (joined table.policies s) (joined table.policies t)
   unfolding stand_for
   in_order s t h = (stand_for table.policies).order s t h
 
@@ -155,9 +151,8 @@ module _ (table : Table) (bs : List Body) (fs : List (Facts numbers)) (o : Obser
   way_at c = way numbers (f c.spot.point).entry (map f c.spot.parts) c.spot.from
 
   released : (c : Check) → Contains (checks table b) c → (w : ways.Way numbers) (x : ways.Way W)
-      → Flows W x (as_way W M w) → way_at c ≡ Some w → (v p : ℕ)
-      → c.condition ≡ ask.Released v p → IsRelease c.rule
-      → Releases table bs fs o p (meant v).value x.locks
+      → Flows W x (as_way W M w) → way_at c ≡ Some w → (v p : ℕ) → c.condition ≡ ask.Released v p
+      → IsRelease c.rule → Releases table bs fs o p (meant v).value x.locks
   unfolding watched_stands joined
   released c asked w x h at v p is rule = record {
     body = b;
@@ -176,8 +171,7 @@ module _ (table : Table) (bs : List Body) (fs : List (Facts numbers)) (o : Obser
 
   demanded : (c : Check) → Contains (checks table b) c → (w : ways.Way numbers) (x : ways.Way W)
       → Flows W x (as_way W M w) → way_at c ≡ Some w → (k : Condition) → c.condition ≡ k
-      → Satisfies numbers (joined table.policies) (given table) f w k
-      → Demand on meant c.rule x k
+      → Satisfies numbers (joined table.policies) (given table) f w k → Demand on meant c.rule x k
   unfolding watched_stands joined
   demanded c asked w x h at (ask.Open locks) is k = λ n i. h.lands.locks n (k n i)
   demanded c asked w x h at (ask.Released v p) is k = released c asked w x h at v p is
@@ -196,24 +190,23 @@ module _ (table : Table) (bs : List Body) (fs : List (Facts numbers)) (o : Obser
   demanded c asked w x h at (ask.Among locks those) is k = k
   demanded c asked w x h at ask.Never is k = absurd k
 
-  holds : (c : Check) → Contains (checks table b) c → (y : Option (ways.Way numbers))
-      (z : Option (ways.Way W)) → MayFlow W z (as_may W M y) → way_at c ≡ y
-      → Holds numbers y (λ w. Satisfies numbers (joined table.policies) (given table) f w c.condition)
+  holds : (c : Check) → Contains (checks table b) c
+      → (y : Option (ways.Way numbers)) (z : Option (ways.Way W)) → MayFlow W z (as_may W M y)
+      → way_at c ≡ y → Holds numbers y
+      (λ w. Satisfies numbers (joined table.policies) (given table) f w c.condition)
       → Holds W z (λ x. Demand on meant c.rule x c.condition)
   holds c asked y None h at k = tt
   holds c asked None (Some x) h at k = absurd h
   holds c asked (Some w) (Some x) h at k = demanded c asked w x h at c.condition refl k
 
-  kept_for : (c : Check) → Contains (checks table b) c → KeepsNumbered table f c
-      → Kept on meant c
+  kept_for : (c : Check) → Contains (checks table b) c → KeepsNumbered table f c → Kept on meant c
   kept_for c asked k =
       let lower = way_lower W M (f c.spot.point).entry (map f c.spot.parts) c.spot.from in
       holds c asked (way_at c)
       (way W (meant c.spot.point).entry (map meant c.spot.parts) c.spot.from)
       (subst
-      (λ fs. MayFlow W (way W (meant c.spot.point).entry fs c.spot.from)
-      (as_may W M (way_at c))) (parts_meant c.spot.parts) lower)
-      refl k
+      (λ fs. MayFlow W (way W (meant c.spot.point).entry fs c.spot.from) (as_may W M (way_at c)))
+      (parts_meant c.spot.parts) lower) refl k
 
   -- what the facts keep they keep for the observer
   pub all_kept : (cs : List Check)

@@ -48,8 +48,7 @@ pub record Explains (table : Table) (bs : List Body) (fs : List (Facts numbers))
   pub other_open : IsWithin at.locks (has other.locks)
 
 -- where the first k events are equal, the next ones are, or something explains that they are not
-abbrev pub NextOr : (Witnessed → Witnessed → Type 0) → List Witnessed → List Witnessed → ℕ
-    → Type 0
+abbrev pub NextOr : (Witnessed → Witnessed → Type 0) → List Witnessed → List Witnessed → ℕ → Type 0
 NextOr Explains one other k =
     (a b : Witnessed) → slice_get one k ≡ Some a → slice_get other k ≡ Some b
     → events (take k one) ≡ events (take k other) → (a.event ≡ b.event) ⊎ Explains a b
@@ -59,6 +58,6 @@ NextOr Explains one other k =
 abbrev pub IsExplained : Subject → (Observer → Witnessed → Witnessed → Type 0) → Type 0
 IsExplained subject Explains =
     (o : Observer) → o.actor < subject.actors → (one other : Inputs) → Fits subject one
-    → Fits subject other → Alike subject o one other
-    → (m n k : ℕ) → NextOr (Explains o) (shown subject o (subject.run one m))
+    → Fits subject other → Alike subject o one other → (m n k : ℕ)
+    → NextOr (Explains o) (shown subject o (subject.run one m))
     (shown subject o (subject.run other n)) k

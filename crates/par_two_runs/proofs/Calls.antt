@@ -104,7 +104,12 @@ module _ (on : Watch) where
         held =
             λ l a. ⊎_elim (λ b. p.known l (and_left (w.locks l) (not (m.closes l)) b))
             (λ b. p.held l b) (or_cases (w.locks l && not (m.closes l)) (g.held l) a);
-        made = record { locals = i; result = tt; statics = p.made.statics; fields = p.made.fields };
+        made = record {
+          locals = i;
+          result = tt;
+          statics = p.made.statics;
+          fields = p.made.fields;
+        };
       }
 
       -- back in the caller
@@ -143,11 +148,13 @@ module _ (on : Watch) where
           → Flows (lattice on) (closed.first (lattice on) m) begin
           → ((l : ℕ) → IsTrue (y.locks l)
           → IsTrue (w.locks l && not (m.closes l)) ⊎ IsTrue (z.locks l))
-          → Calm on callee begin z (entered vs s) t → Calm on g w y s (restored s.locals s.result t)
+          → Calm on callee begin z (entered vs s) t
+          → Calm on g w y s (restored s.locals s.result t)
       home_calm begin z y s t vs i e h k = record {
         outer = home_same s t vs k.outer;
         this = λ e. refl;
-        opens = λ p. home_opened z y s t h p (k.opens (open_body on e.lands (opened_in s vs i p)));
+        opens =
+            λ p. home_opened z y s t h p (k.opens (open_body on e.lands (opened_in s vs i p)));
       }
 
       pub home_locks : (z : Way on) → IsWithin m.opens z.locks → (l : ℕ)
@@ -176,8 +183,8 @@ module _ (on : Watch) where
             (home_calm y.way z q.normal.way t t1 vs made y.entered (home_locks z oz) e.calm)) in
             y.hush.at (entered vs t) (leave t.locals t.result f) n ys inside
             (each_exit
-            (λ i. (z : Way on) (u : MVal) → y.exits i ≡ Some z → Gives on i u → (t1 : State) (n : ℕ)
-            → Keeps on callee y.way z (entered vs t) t1
+            (λ i. (z : Way on) (u : MVal) → y.exits i ≡ Some z → Gives on i u
+            → (t1 : State) (n : ℕ) → Keeps on callee y.way z (entered vs t) t1
             → Agrees on (leave t.locals t.result f i u t1 n).events ys)
             (λ z u e gi t1 n e'. home z (y.ends.opens z e) t1 n e')
             (λ z u e gi t1 n e'. let bad : None ≡ Some z = sym y.ends.broken ∙ e in absurd cc)

@@ -115,7 +115,8 @@ module _ (on : Watch) where
               (λ a. u (y.2 a)),
               (λ a. u (y.2 (and_right w.context ((lattice on).given y.0)
                   (to.higher.context
-                  (rr.others (Thrown k) q.normal.way to.way (thrown k) q.normal.there to.there a))))),
+                  (rr.others (Thrown k) q.normal.way to.way (thrown k) q.normal.there to.there
+                  a))))),
             )
 
         unseen_to : (p : ℕ) (y : Way on) → (Sees on p → ⊥)

@@ -130,8 +130,8 @@ module _ (on : Watch) where
     }
 
     -- two values that go to a target: equal, or explained
-    pub sent : (g : Frame) (w : Way on) (to : ℕ) (V : Bool) (e e' : Event)
-        → HasPolicy on e to → on.Release to V w.locks → (IsTrue V → e ≡ e') → (s t : State) → Like on g w w s t
+    pub sent : (g : Frame) (w : Way on) (to : ℕ) (V : Bool) (e e' : Event) → HasPolicy on e to
+        → on.Release to V w.locks → (IsTrue V → e ≡ e') → (s t : State) → Like on g w w s t
         → Sees on to → (e ≡ e') ⊎ Explained on (record { event = e; locks = s.locks })
         (record { event = e'; locks = t.locks })
     sent g w to V e e' i r h s t l b =
