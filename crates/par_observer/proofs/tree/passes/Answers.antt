@@ -4,6 +4,7 @@ use Rattle.par_typed.specs.Shown.{bodies}
 use Rattle.par_observer.specs.Passes.{tree_faults}
 use Rattle.par_observer.specs.Trees.{has_fault}
 use Rattle.par_observer.proofs.Passing.{inferred_answer}
+use Rattle.par_observer.proofs.Few.{few_bodies}
 use Rattle.par_observer.proofs.Flowing.{accepts, refuses, orderly_bodies, few_classes}
 use Rattle.par_observer.proofs.Flowing.{well_formed}
 use Rattle.par_observer.proofs.tree.passes.Goals as goal
@@ -21,6 +22,10 @@ flows-requires-clause-policies c = c.in_ok-typed.ensures.well_typed.in_range.few
 pub flows-requires-clause-classes : goal.flows-requires-clause-classes
 flows-requires-clause-classes c =
     few_classes (tree_of_program c.args.tree.now) c.in_ok-typed.typed c.in_ok-typed.ensures.typed
+
+pub flows-requires-clause-few : goal.flows-requires-clause-few
+flows-requires-clause-few c =
+    few_bodies (tree_of_program c.args.tree.now) c.in_ok-typed.typed c.in_ok-typed.ensures.typed
 
 pub flows-requires-clause-orderly : goal.flows-requires-clause-orderly
 flows-requires-clause-orderly c =
