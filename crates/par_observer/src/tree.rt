@@ -15,19 +15,12 @@ ghost use Rattle.par_sources.specs.Sizes.{source_texts};
 ghost use Rattle.par_observer.specs.Judgements.{IsAcceptedAs, IsUnread};
 ghost use Rattle.par_typed.specs.Shown.{bodies};
 ghost use Rattle.par_well_typed.specs.WellTyped.{IsWellTyped};
-<<<<<<< HEAD
 ghost use Rattle.par_declared.specs.Declared.{IsWellDeclared};
-ghost use Rattle.par_verdict.specs.Accepted.{IsOrderlyBody};
-ghost use Rattle.par_verdict.specs.Judged.{IsVerdict};
-ghost use Rattle.par_observer.specs.Trees.{IsAcceptedTreeAs, IsTreeRefused, IsTypedTree};
-ghost use Rattle.par_observer.specs.Trees.{IsFlowRefused, IsWellFormed};
-=======
 ghost use Rattle.par_verdict.specs.Accepted.{IsAcceptedBy, IsOrderlyBody, MOST_BODIES};
 ghost use Rattle.par_verdict.specs.Judged.{IsVerdict};
 ghost use Rattle.par_observer.specs.Trees.{IsAcceptedTreeAs, IsTreeRefused, IsTypedTree};
-ghost use Rattle.par_observer.specs.Trees.{IsFlowRefused};
+ghost use Rattle.par_observer.specs.Trees.{IsFlowRefused, IsWellFormed};
 ghost use Rattle.par_flow.specs.Table.{facts_in};
->>>>>>> a850970c6f50354ef2e7b35acfa455ccb569ec90
 
 use crate::error::JudgeError;
 use par_check::{Accepted, CheckError, check};
@@ -54,12 +47,9 @@ pub(crate) fn judge_tree(
     requires sentence { syntax.HasTree tokens.now (tree_of_program tree.now) }
     requires size { source_size (tree_of_program tree.now) ≤ length tokens.now }
     ensures accepted { IfOk result (λ accepted. IsAcceptedAs source.now accepted.typed) }
-<<<<<<< HEAD
     ensures well_formed { IfOk result (λ accepted. IsWellFormed accepted.typed) }
-=======
     ensures kept { IfOk result (λ accepted.
         IsAcceptedBy accepted.typed (map facts_in accepted.facts)) }
->>>>>>> a850970c6f50354ef2e7b35acfa455ccb569ec90
     ensures refused { IfErr result (IsUnread source.now) }
 {
     passes(alloc, tree)
@@ -74,12 +64,9 @@ fn passes(alloc: Global, tree: &Tree) -> Result<Accepted, JudgeError>
     requires texts { source_texts (tree_of_program tree.now) ≤ LONGEST_SOURCE }
     ensures accepted { IfOk result (λ accepted.
         IsAcceptedTreeAs (tree_of_program tree.now) accepted.typed) }
-<<<<<<< HEAD
     ensures well_formed { IfOk result (λ accepted. IsWellFormed accepted.typed) }
-=======
     ensures kept { IfOk result (λ accepted.
         IsAcceptedBy accepted.typed (map facts_in accepted.facts)) }
->>>>>>> a850970c6f50354ef2e7b35acfa455ccb569ec90
     ensures refused { IfErr result (IsTreeRefused (tree_of_program tree.now)) }
 {
     let typed = typed_of(alloc, tree)?;
