@@ -23,7 +23,7 @@ use Rattle.par_bodies.specs.Makes.{CatchesMake}
 use Rattle.par_values.specs.declared.value.MVal.{MVal}
 use Rattle.par_runs.specs.Tasks.{Exit, Broken, Continued, Returned, Thrown, Task, asked, caught}
 use Rattle.par_checks.specs.Checks.{lock_written}
-use Rattle.par_two_runs.proofs.Basics.{and_right}
+use Rattle.par_pass.proofs.Along.{and_r}
 use Rattle.par_two_runs.proofs.States.{Watch, Any, Exits, Frame, Gives, Other, Restores, Sees}
 use Rattle.par_two_runs.proofs.States.{Unseen, Way, broken, continued, declared, each_exit, exits}
 use Rattle.par_two_runs.proofs.States.{lands_is, lands_raised, lattice, raised, returned, thrown}
@@ -73,7 +73,7 @@ module _ (on : Watch) where
         (step_when on l p e (subst (Sees on) (lock_number l p e) s) i j))
         (λ s.
         let un : Unseen (z.context && (lattice on).given ((declared on).lock l)) = λ b. let c =
-        and_right z.context ((lattice on).given ((declared on).lock l)) b in
+        and_r z.context ((lattice on).given ((declared on).lock l)) b in
         cc in step_apart on rs (λ b c. tt)
         (over_raised on ((lattice on).given ((declared on).lock l)) un tl)
         (over_raised on ((lattice on).given ((declared on).lock l)) un tr))

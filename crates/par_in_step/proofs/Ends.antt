@@ -16,7 +16,7 @@ use Rattle.par_rules.specs.Kinds.{Next, Loop, Catches, Absorber}
 use Rattle.par_rules.specs.Rules.{can}
 use Rattle.par_checks.specs.Checks as checks
 use Rattle.par_runs.specs.Tasks.{Thrown}
-use Rattle.par_two_runs.proofs.Basics.{or_cases}
+use Rattle.par_two_runs.proofs.LockSets.{or_cases}
 use Rattle.par_two_runs.proofs.States.{Watch, Sees, Way, exits, lattice, ranged}
 use Rattle.par_in_step.proofs.Points.{AllKept, holds_is, kept_app, unranged}
 use Rattle.par_two_runs.proofs.Leaves.{Throws, first_of, later_of}

@@ -13,7 +13,7 @@ use Rattle.par_runs.specs.Values.{is_true}
 use Rattle.par_values.specs.declared.value.MVal.{MVal}
 use Rattle.par_runs.specs.Tasks.{Exit, Returned, Thrown, Task, nothing, fine, paid, and_then}
 use Rattle.par_runs.specs.Tasks.{looped, turn, turns}
-use Rattle.par_two_runs.proofs.Basics.{and_right}
+use Rattle.par_pass.proofs.Along.{and_r}
 use Rattle.par_two_runs.proofs.Lists.{agree_nil}
 use Rattle.par_two_runs.proofs.States.{Watch, Any, Blocked, Explained, FlowsTo, Frame, Gives}
 use Rattle.par_two_runs.proofs.States.{Other, Restores, Unseen, Way, broken, continued, exits}
@@ -123,7 +123,7 @@ module _ (on : Watch) where
         (step_normal on nothing nothing tt tt
         (raised_lands on V (lands_is on j _ _ e' (lp.over y))) tt)))
         (λ q.
-        let un : Unseen (j.context && V) = λ b. let c = and_right j.context V b in
+        let un : Unseen (j.context && V) = λ b. let c = and_r j.context V b in
         cc in step_apart on rs (λ b c. tt)
         (over_raised on V un (turn_tail on a e s lp again blk tl hl e' u (λ z. y)))
         (over_raised on V un (turn_tail on a e s lp again' blk' tr hr e' u' (λ z. y))))

@@ -30,7 +30,7 @@ use Rattle.par_values.specs.Areas.{next}
 use Rattle.par_runs.specs.Values.{object_number}
 use Rattle.par_runs.specs.Tasks.{Normal, Thrown, Task, nothing, done, gives, paid, read, follow}
 use Rattle.par_runs.specs.Tasks.{and_then, tested, NULL_POINTER, ARITHMETIC}
-use Rattle.par_two_runs.proofs.Basics.{and_right}
+use Rattle.par_pass.proofs.Along.{and_r}
 use Rattle.par_two_runs.proofs.States.{Watch, Blocked, BodyFlowsTo, Exits, FlowsTo, Frame, IsMade}
 use Rattle.par_two_runs.proofs.States.{Restores, Unseen, Values, Way, declared, exits, flows_here}
 use Rattle.par_two_runs.proofs.States.{flows_is, flows_raised, lands_is, lands_raised, lattice}
@@ -196,7 +196,7 @@ module _ (on : Watch) where
     operates_step {g} {n} {w} {x} Va V Vp op u u' v v' rs i i' r r' la lb t t' q =
         ⊎_elim (λ p. step_ok (throws op v) (throws op v') (ap (throws op) (r' p)) t)
         (λ p.
-        let un : Unseen (n.context && V) = λ b. let c = and_right n.context V b in
+        let un : Unseen (n.context && V) = λ b. let c = and_r n.context V b in
         cc in step_apart on rs (λ b c e. let f = lb e in absurd cc)
         (over_raised on V un (operates_tail V op u v i t q))
         (over_raised on V un (operates_tail V op u' v' i' t' q))) (cases_Bool V)
@@ -455,7 +455,7 @@ module _ (on : Watch) where
         ⊎_elim (λ sv. same (ap (decides op) (r sv)))
         (λ nv. ⊎_elim
         (λ lo.
-        let un : Unseen (n.context && V) = λ b. let c = and_right n.context V b in
+        let un : Unseen (n.context && V) = λ b. let c = and_r n.context V b in
         cc in let at = z.logic lo in step_apart on rs
         (λ b c q. let f = (binary_worths sound op x y h q).0 in absurd cc)
         (over_raised on V un

@@ -31,7 +31,7 @@ use Rattle.par_bodies.specs.Makes.{StaMakes}
 use Rattle.par_typed.specs.declared.table.ClassInfo.{ClassInfo}
 use Rattle.par_runs.specs.Tasks.{Exit, Thrown}
 use Rattle.par_checks.specs.Checks.{lock_written}
-use Rattle.par_two_runs.proofs.Basics.{and_both}
+use Rattle.std.proofs.lemmas.Bool.{and_from}
 use Rattle.par_two_runs.proofs.States.{Watch, FlowsTo, Frame, Leaves, Merges, Sees, Way, Writes}
 use Rattle.par_two_runs.proofs.States.{declared, exits, flows_is, kind_of, lands_is, lattice}
 use Rattle.par_two_runs.proofs.States.{raised}
@@ -250,7 +250,7 @@ module _ (on : Watch) where
               (map a ((mark e).point ∷ (mark y).point ∷ [])) (cond b past (Tested 1 past))
               ≡ Some j) (sym q) i;
           locks = refl;
-          context = λ u v. and_both j.context (a (mark y).point).value u v;
+          context = λ u v. and_from j.context (a (mark y).point).value u v;
         }
         go false q = record {
           way = raised on j (a (mark y).point).value;

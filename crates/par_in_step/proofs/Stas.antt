@@ -36,7 +36,7 @@ use Rattle.par_values.specs.Areas.{next}
 use Rattle.par_runs.specs.State.{set_local, set_result, open_lock, close_lock}
 use Rattle.par_runs.specs.Tasks.{Broken, Continued, Returned, Thrown, Task, nothing, and_then}
 use Rattle.par_runs.specs.Tasks.{NULL_POINTER, caught}
-use Rattle.par_two_runs.proofs.Basics.{and_right}
+use Rattle.par_pass.proofs.Along.{and_r}
 use Rattle.par_two_runs.proofs.States.{Watch, Any, Exits, FlowsTo, Frame, IsMade, Restores, Sees}
 use Rattle.par_two_runs.proofs.States.{Unseen, Values, Way, broken, continued, declared, exits}
 use Rattle.par_two_runs.proofs.States.{flows_is, flows_raised, lands_is, lands_raised, lattice}
@@ -97,7 +97,7 @@ module _ (on : Watch) where
           ⊎_elim (λ s. step_body on (lands_raised on V)
           (step_if on (is_true u) (is_true u') (ap is_true (r s)) p q))
           (λ s.
-          let un : Unseen (n.context && V) = λ b. let c = and_right n.context V b in
+          let un : Unseen (n.context && V) = λ b. let c = and_r n.context V b in
           cc in step_apart on rs (λ b c. tt) (over_raised on V un tl) (over_raised on V un tr))
           (cases_Bool V)
 

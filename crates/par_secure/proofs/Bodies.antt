@@ -42,7 +42,8 @@ use Rattle.par_in_step.proofs.Needs.{IsAsked}
 use Rattle.par_bodies.specs.Proper.{IsProper}
 use Rattle.par_well_typed.specs.Bodied.{Spot, spot_of, methods_from, AreBodiesOf}
 use Rattle.par_two_runs.specs.Watched.{IsThere}
-use Rattle.par_two_runs.proofs.Basics.{and_left, and_right, and_both}
+use Rattle.par_pass.proofs.Along.{and_l, and_r}
+use Rattle.std.proofs.lemmas.Bool.{and_from}
 use Rattle.par_in_step.proofs.CallPoints.{method_is}
 use Rattle.par_bodies.specs.Makes.{StaMakes}
 use Rattle.par_in_step.proofs.Needs.{StaReady}
@@ -130,12 +131,12 @@ first_found b f bs fs c k true e h later = record {
   body = b;
   facts = f;
   pair = Here bs fs;
-  class = eqb-true b.class c (and_left (b.class == c) (b.method == k) e);
-  method = eqb-true b.method k (and_right (b.class == c) (b.method == k) e);
+  class = eqb-true b.class c (and_l (b.class == c) (b.method == k) e);
+  method = eqb-true b.method k (and_r (b.class == c) (b.method == k) e);
   is = ap (λ t. if t then Some b.body else body_of bs c k) e;
 }
 first_found b f bs fs c k false e h later =
-    let other = λ (q : spot_of b ≡ (c, k)). let same : is_for b c k ≡ true = and_both
+    let other = λ (q : spot_of b ≡ (c, k)). let same : is_for b c k ≡ true = and_from
     (b.class == c) (b.method == k) (eq-eqb b.class c (ap (λ s. s.0) q))
     (eq-eqb b.method k (ap (λ s. s.1) q)) in
     let bad : true ≡ false = sym same ∙ e in

@@ -30,7 +30,9 @@ use Rattle.par_checks.specs.Verdict.{KeepsNumbered, given}
 use Rattle.par_secrecy.specs.Runs.{Witnessed}
 use Rattle.par_secrecy.specs.Shown.{Observer}
 use Rattle.par_two_runs.specs.Watched.{watched}
-use Rattle.par_two_runs.proofs.Basics.{and_left, and_right, and_both, or_cases}
+use Rattle.par_pass.proofs.Along.{and_l, and_r}
+use Rattle.std.proofs.lemmas.Bool.{and_from}
+use Rattle.par_two_runs.proofs.LockSets.{or_cases}
 use Rattle.par_two_runs.proofs.States.{Watch, Explained}
 use Rattle.par_in_step.specs.Release.{IsRelease}
 use Rattle.par_in_step.proofs.Points.{Demand, Kept, AllKept}
@@ -43,7 +45,7 @@ watched_stands table o = record {
   meant = λ s. joined table s o.actor o.locks;
   refl = λ p h. h;
   trans = λ p q r f g h. f (g h);
-  both = λ p q r s f g h. and_both p q (f (and_left r s h)) (g (and_right r s h));
+  both = λ p q r s f g h. and_from p q (f (and_l r s h)) (g (and_r r s h));
   order = λ s t h. (stand_for table).order s t h o.actor o.locks;
   join = λ s t. (stand_for table).join s t o.actor o.locks;
   least = λ p h. refl;
@@ -57,8 +59,8 @@ pub within_has : (inner outer : List ℕ) → IsTrue (within inner outer) → (l
 within_has [] outer w l h = absurd cc
 within_has (m ∷ ms) outer w l h =
     ⊎_elim (λ e. subst (λ z. IsTrue (has outer z)) (eqb-true m l e)
-    (and_left (has outer m) (within ms outer) w))
-    (λ e. within_has ms outer (and_right (has outer m) (within ms outer) w) l e)
+    (and_l (has outer m) (within ms outer) w))
+    (λ e. within_has ms outer (and_r (has outer m) (within ms outer) w) l e)
     (or_cases (nat_eq m l) (has ms l) h)
 
 each : (P : ℕ → Type 0) (xs : List ℕ) → ((n : ℕ) → Contains xs n → P n) → All P xs
@@ -179,7 +181,7 @@ module _ (table : Table) (bs : List Body) (fs : List (Facts numbers)) (o : Obser
   demanded c asked w x h at (ask.Joined v p) is k =
       λ vis.
       let all = k o.actor o.locks vis in
-      and_both (joined table.policies (f v).value o.actor o.locks) x.context
+      and_from (joined table.policies (f v).value o.actor o.locks) x.context
       (in_order (f v).value (union (f v).value w.context) (union_l (f v).value w.context) o.actor
       o.locks all)
       (h.context

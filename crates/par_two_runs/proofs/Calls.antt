@@ -15,7 +15,9 @@ use Rattle.par_runs.specs.Meaning.{Calls}
 use Rattle.par_values.specs.declared.value.MVal.{MVal}
 use Rattle.par_runs.specs.State.{State, entered, restored}
 use Rattle.par_runs.specs.Tasks.{Normal, Broken, Continued, Returned, Thrown, Task, nothing}
-use Rattle.par_two_runs.proofs.Basics.{and_left, and_right, or_cases, or_left, or_right, not_true}
+use Rattle.par_pass.proofs.Along.{and_l, and_r}
+use Rattle.par_two_runs.proofs.LockSets.{or_cases, not_true}
+use Rattle.std.proofs.lemmas.Bool.{or_left, or_right}
 use Rattle.par_two_runs.proofs.States.{Watch, Agrees, Any, BodyFlowsTo, Calm, Exits, FlowsTo}
 use Rattle.par_two_runs.proofs.States.{Frame, Gives, IsMade, Keeps, Moved, Opened, Same, Sees}
 use Rattle.par_two_runs.proofs.States.{Way, calm_on, declared, each_exit, keeps_on, lattice}
@@ -91,7 +93,7 @@ module _ (on : Watch) where
 
       pub callee_free : IsFree callee_held m
       callee_free l a b =
-          ⊎_elim (λ c. not_true (m.closes l) (and_right (w.locks l) (not (m.closes l)) c) b)
+          ⊎_elim (λ c. not_true (m.closes l) (and_r (w.locks l) (not (m.closes l)) c) b)
           (λ c. g.free l c (q.closes l b)) (or_cases (w.locks l && not (m.closes l)) (g.held l) a)
 
       abbrev pub callee : Frame
@@ -102,7 +104,7 @@ module _ (on : Watch) where
       opened_in s vs i p = record {
         known = λ l a. p.known l (q.expects l a);
         held =
-            λ l a. ⊎_elim (λ b. p.known l (and_left (w.locks l) (not (m.closes l)) b))
+            λ l a. ⊎_elim (λ b. p.known l (and_l (w.locks l) (not (m.closes l)) b))
             (λ b. p.held l b) (or_cases (w.locks l && not (m.closes l)) (g.held l) a);
         made = record {
           locals = i;
@@ -197,7 +199,7 @@ module _ (on : Watch) where
             (restored t.locals t.result t1) n
             (keeps_on on k
             (record {
-              context = λ v. and_left w.context ((lattice on).given p.0) (to.higher.context v);
+              context = λ v. and_l w.context ((lattice on).given p.0) (to.higher.context v);
               moved = λ u. home_moved to.way t t1 (λ i p. to.higher.lands.env i p);
               calm =
                   home_calm y.way z to.way t t1 vs made y.entered

@@ -12,7 +12,7 @@ use Rattle.par_rules.specs.Declares.{Method}
 use Rattle.par_values.specs.declared.value.MVal.{MVal}
 use Rattle.par_runs.specs.State.{State, entered, restored}
 use Rattle.par_runs.specs.Tasks.{Exit, Normal, Thrown, Rests, Task, nothing}
-use Rattle.par_two_runs.proofs.Basics.{and_right}
+use Rattle.par_pass.proofs.Along.{and_r}
 use Rattle.par_two_runs.proofs.States.{Watch, Agrees, Any, Exits, FlowsTo, Frame, Like, Restores}
 use Rattle.par_two_runs.proofs.States.{Sees, Unseen, Values, Way, each_exit, lattice, like_body}
 use Rattle.par_two_runs.proofs.States.{raised, thrown}
@@ -113,7 +113,7 @@ module _ (on : Watch) where
               y.0,
               to,
               (λ a. u (y.2 a)),
-              (λ a. u (y.2 (and_right w.context ((lattice on).given y.0)
+              (λ a. u (y.2 (and_r w.context ((lattice on).given y.0)
                   (to.higher.context
                   (rr.others (Thrown k) q.normal.way to.way (thrown k) q.normal.there to.there
                   a))))),
@@ -123,7 +123,7 @@ module _ (on : Watch) where
             → Flows (lattice on)
             (ways.shut (lattice on) m.closes (raised on w ((lattice on).given p))) y
             → Unseen y.context
-        unseen_to p y u e a = u (and_right w.context ((lattice on).given p) (e.context a))
+        unseen_to p y u e a = u (and_r w.context ((lattice on).given p) (e.context a))
 
         home_throw : (s t : State) (f f' : Rests) → Like on g w w s t
             → Both on g x (Values V) f f' → (z : Way on) → IsWithin m.opens z.locks

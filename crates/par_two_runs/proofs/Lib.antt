@@ -1,4 +1,4 @@
-pub mod Basics
+pub mod LockSets
 pub mod Lists
 pub mod Puts
 pub mod States

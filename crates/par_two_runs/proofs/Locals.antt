@@ -5,7 +5,7 @@ use Rattle.par_rules.specs.Ways as ways
 use Rattle.par_rules.specs.Ways.{Flows, Lands, MayFlow, MayLand, MayRaise}
 use Rattle.par_values.specs.declared.value.MVal.{MVal}
 use Rattle.par_runs.specs.State.{State, set_local, set_result}
-use Rattle.par_two_runs.proofs.Basics.{and_left, and_right}
+use Rattle.par_pass.proofs.Along.{and_l, and_r}
 use Rattle.par_two_runs.proofs.States.{Watch, Frame, IsMade, Keeps, Like, Made, Sees, Unseen}
 use Rattle.par_two_runs.proofs.States.{Values, Way, lattice}
 use Rattle.par_two_runs.proofs.Puts.{put_all, put_keep, put_like}
@@ -48,7 +48,7 @@ module _ (on : Watch) where
     where
       hidden : Unseen w.context → (j : ℕ) (b : Bool) → IsTrue (cond b (V && w.context) (w.env j))
           → IsTrue (w.env j) × (s.locals j ≡ cond b v (s.locals j))
-      hidden u j true p = absurd (u (and_right V w.context p))
+      hidden u j true p = absurd (u (and_r V w.context p))
       hidden u j false p = (p, refl)
 
   pub local_like : (g : Frame) (w : Way on) (x : ℕ) (u v : MVal) (V : Bool)
@@ -80,7 +80,7 @@ module _ (on : Watch) where
     where
       picked : (j : ℕ) (b : Bool) → IsTrue (cond b (V && w.context) (w.env j))
           → cond b u (s.locals j) ≡ cond b v (t.locals j)
-      picked j true p = e (and_left V w.context p)
+      picked j true p = e (and_l V w.context p)
       picked j false p = l.locals j p p
 
   result_made : (v : MVal) (s : State) → IsMade on v → Made on s → Made on (set_result v s)
@@ -98,7 +98,7 @@ module _ (on : Watch) where
     moved =
         λ u. record {
           locals = λ j p. (p, refl);
-          result = λ p. absurd (u (and_right V w.context (b p)));
+          result = λ p. absurd (u (and_r V w.context (b p)));
         };
     calm = record {
       outer = record {
@@ -118,7 +118,7 @@ module _ (on : Watch) where
       → Like on g w w s t → Like on g w w (set_result u s) (set_result v t)
   result_like g w u v V iu iv b e s t l = record {
     locals = l.locals;
-    result = λ p. e (and_left V w.context (b p));
+    result = λ p. e (and_l V w.context (b p));
     this = l.this;
     outer = record {
       statics = l.outer.statics;

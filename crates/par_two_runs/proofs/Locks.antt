@@ -12,8 +12,10 @@ use Rattle.par_secrecy.specs.Runs.{Witnessed}
 use Rattle.par_runs.specs.State.{State, open_lock, close_lock, opened, closed}
 use Rattle.par_runs.specs.Tasks.{Rests, Task, asked}
 use Rattle.par_checks.specs.Checks.{lock_written}
-use Rattle.par_two_runs.proofs.Basics.{and_left, and_right, and_both, or_cases, or_left, or_right}
-use Rattle.par_two_runs.proofs.Basics.{or_false, is_not, has_old, opened_has, closed_has}
+use Rattle.par_pass.proofs.Along.{and_l, and_r}
+use Rattle.std.proofs.lemmas.Bool.{and_from, or_left, or_right}
+use Rattle.par_two_runs.proofs.LockSets.{or_cases}
+use Rattle.par_two_runs.proofs.LockSets.{or_false, is_not, has_old, opened_has, closed_has}
 use Rattle.par_two_runs.proofs.States.{Watch, Agrees, Blocked, Exits, Frame, Keeps, Like, Made}
 use Rattle.par_two_runs.proofs.States.{Opened, Sees, Way, Writes, blind, keeps_on, lattice}
 use Rattle.par_two_runs.proofs.States.{same_here}
@@ -56,11 +58,11 @@ module _ (on : Watch) where
   closed_knows g w l s c p = record {
     known =
         λ k q. subst IsTrue (sym (closed_has l s.locks k))
-        (and_both (has s.locks k) (not (nat_eq k l)) (p.known k (and_left (w.locks k) _ q))
-        (and_right (w.locks k) (not (nat_eq k l)) q));
+        (and_from (has s.locks k) (not (nat_eq k l)) (p.known k (and_l (w.locks k) _ q))
+        (and_r (w.locks k) (not (nat_eq k l)) q));
     held =
         λ k q. subst IsTrue (sym (closed_has l s.locks k))
-        (and_both (has s.locks k) (not (nat_eq k l)) (p.held k q)
+        (and_from (has s.locks k) (not (nat_eq k l)) (p.held k q)
         (is_not (nat_eq k l)
         (λ e. g.free k q (subst (λ z. IsTrue (g.own.closes z)) (sym (eqb-true k l e)) c))));
     made = locks_made (closed l s.locks) s p.made;

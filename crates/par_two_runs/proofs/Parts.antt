@@ -9,7 +9,7 @@ use Rattle.par_values.specs.Areas.{next, left}
 use Rattle.par_runs.specs.State.{State}
 use Rattle.par_runs.specs.Tasks.{Exit, Normal, Broken, Continued, Returned, Thrown, Rests, Task}
 use Rattle.par_runs.specs.Tasks.{nothing, done, follow, and_then, tested, NULL_POINTER}
-use Rattle.par_two_runs.proofs.Basics.{and_right}
+use Rattle.par_pass.proofs.Along.{and_r}
 use Rattle.par_two_runs.proofs.States.{Watch, Agrees, Any, Exits, FlowsTo, Frame, Gives, IsMade}
 use Rattle.par_two_runs.proofs.States.{Leaves, Like, Merges, Other, Restores, Unseen, Values, Way}
 use Rattle.par_two_runs.proofs.States.{broken, continued, each_exit, exit_cases, lands_raised}
@@ -162,6 +162,6 @@ module _ (on : Watch) where
       ⊎_elim (λ p. subst (λ r'. Step on g n x R (tested sure r c) (tested sure r' c')) (e p)
       (step_test sure r (lands_raised on V) q (k p)))
       (λ p.
-      let un : Unseen (n.context && V) = λ a. let b = and_right n.context V a in
+      let un : Unseen (n.context && V) = λ a. let b = and_r n.context V a in
       cc in step_apart on rs (all (λ a. cc)) (over_raised on V un (tail_tested sure r q h))
       (over_raised on V un (tail_tested sure r' q h'))) (cases_Bool V)

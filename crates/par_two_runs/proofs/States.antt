@@ -29,7 +29,7 @@ use Rattle.par_bodies.specs.Names.{IsField}
 use Rattle.par_checks.specs.Checks.{lock_written}
 use Rattle.par_bodies.specs.Members.{field_at, channel_at}
 use Rattle.par_bodies.specs.Names.{IsChannel}
-use Rattle.par_two_runs.proofs.Basics.{and_left}
+use Rattle.par_pass.proofs.Along.{and_l}
 use Rattle.par_two_runs.proofs.Lists.{Agree, agree_swap}
 
 -- An observer over a table, and what may explain that it is shown different events: a release to
@@ -279,7 +279,7 @@ module _ (on : Watch) where
   lands_raised v = record { env = λ i p. p; locks = λ l p. p }
 
   pub flows_raised : {w : Way} (v : Bool) → Flows lattice w (raised w v)
-  flows_raised {w} v = record { context = λ p. and_left w.context v p; lands = lands_raised v }
+  flows_raised {w} v = record { context = λ p. and_l w.context v p; lands = lands_raised v }
 
   pub raised_lands : {w : Way} {x : Option Way} (v : Bool) → BodyFlowsTo w x
       → BodyFlowsTo (raised w v) x

@@ -1,34 +1,15 @@
--- Truth values and sets of locks.
+-- Locks that are opened and closed.
 use Rattle.std.proofs.Common.{◌≡◌, ℕ, Bool, true, false, cond, ◌&&◌, ◌||◌, not, ◌⊎◌, inl, inr}
 use Rattle.std.proofs.Common.{List, [], ◌∷◌, refl, sym, subst, ◌∙◌}
 use Rattle.std.specs.Prelude.{IsTrue, nat_eq, nat_lt, ◌==◌}
-use Rattle.std.proofs.lemmas.Bool.{eqb-true, eq-eqb, cond_both}
+use Rattle.par_pass.proofs.Along.{and_l, and_r}
+use Rattle.std.proofs.lemmas.Bool.{and_from, or_left, or_right, eqb-true, eq-eqb, cond_both}
 use Rattle.par_policy.specs.Numbers.{has}
 use Rattle.par_runs.specs.State.{opened, closed}
-
-pub and_left : (a b : Bool) → IsTrue (a && b) → IsTrue a
-and_left true b h = refl
-and_left false b h = cc
-
-pub and_right : (a b : Bool) → IsTrue (a && b) → IsTrue b
-and_right true b h = h
-and_right false b h = cc
-
-pub and_both : (a b : Bool) → IsTrue a → IsTrue b → IsTrue (a && b)
-and_both true b h k = k
-and_both false b h k = cc
 
 pub or_cases : (a b : Bool) → IsTrue (a || b) → IsTrue a ⊎ IsTrue b
 or_cases true b h = inl refl
 or_cases false b h = inr h
-
-pub or_left : (a b : Bool) → IsTrue a → IsTrue (a || b)
-or_left true b h = refl
-or_left false b h = cc
-
-pub or_right : (a b : Bool) → IsTrue b → IsTrue (a || b)
-or_right true b h = refl
-or_right false b h = h
 
 pub not_true : (a : Bool) → IsTrue (not a) → IsTrue a → ⊥
 not_true true h k = cc
@@ -41,10 +22,6 @@ is_not false h = refl
 pub or_false : (a : Bool) → (a || false) ≡ a
 or_false true = refl
 or_false false = refl
-
-pub or_true : (a : Bool) → (a || true) ≡ true
-or_true true = refl
-or_true false = refl
 
 pub same_bool : (a b : Bool) → (IsTrue a → IsTrue b) → (IsTrue b → IsTrue a) → a ≡ b
 same_bool true b f g = sym (f refl)
@@ -107,28 +84,28 @@ closed_step true m l k ms e h =
     same_bool _ _
     (λ p.
     let q : IsTrue (has ms k && not (nat_eq k l)) = subst IsTrue h p in
-    and_both _ _ (or_right (nat_eq m k) _ (and_left _ _ q)) (and_right (has ms k) _ q))
-    (λ p. elim (or_cases (nat_eq m k) (has ms k) (and_left _ _ p)) [
+    and_from _ _ (or_right (nat_eq m k) _ (and_l _ _ q)) (and_r (has ms k) _ q))
+    (λ p. elim (or_cases (nat_eq m k) (has ms k) (and_l _ _ p)) [
       | inl s ↦
-          absurd (not_true (nat_eq k l) (and_right (nat_eq m k || has ms k) _ p)
+          absurd (not_true (nat_eq k l) (and_r (nat_eq m k || has ms k) _ p)
           (eq-eqb k l (sym (eqb-true m k s) ∙ eqb-true m l e)))
-      | inr s ↦ subst IsTrue (sym h) (and_both _ _ s (and_right (nat_eq m k || has ms k) _ p))
+      | inr s ↦ subst IsTrue (sym h) (and_from _ _ s (and_r (nat_eq m k || has ms k) _ p))
     ])
 closed_step false m l k ms e h =
     same_bool _ _
     (λ p. elim (or_cases (nat_eq m k) (has (closed l ms) k) p) [
       | inl s ↦
-          and_both _ _ (or_left _ (has ms k) s)
+          and_from _ _ (or_left _ (has ms k) s)
           (is_not _
           (λ r. let f : IsTrue (nat_eq m l) = eq-eqb m l (eqb-true m k s ∙ eqb-true k l r) in cc))
       | inr s ↦
           let q : IsTrue (has ms k && not (nat_eq k l)) = subst IsTrue h s in
-          and_both _ _ (or_right (nat_eq m k) _ (and_left _ _ q)) (and_right (has ms k) _ q)
-    ]) (λ p. elim (or_cases (nat_eq m k) (has ms k) (and_left _ _ p)) [
+          and_from _ _ (or_right (nat_eq m k) _ (and_l _ _ q)) (and_r (has ms k) _ q)
+    ]) (λ p. elim (or_cases (nat_eq m k) (has ms k) (and_l _ _ p)) [
       | inl s ↦ or_left _ (has (closed l ms) k) s
       | inr s ↦
           or_right (nat_eq m k) _
-          (subst IsTrue (sym h) (and_both _ _ s (and_right (nat_eq m k || has ms k) _ p)))
+          (subst IsTrue (sym h) (and_from _ _ s (and_r (nat_eq m k || has ms k) _ p)))
     ])
 
 pub closed_has : (l : ℕ) (ls : List ℕ) (k : ℕ)
