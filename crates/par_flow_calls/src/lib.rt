@@ -4,6 +4,8 @@
 #![tactic(auto)]
 
 #[cfg(test)]
+mod auction;
+#[cfg(test)]
 mod facts;
 #[cfg(test)]
 mod meaning;
