@@ -1,0 +1,4 @@
+pub mod Linking
+pub mod Shaped
+pub mod Texts
+pub mod Mains
