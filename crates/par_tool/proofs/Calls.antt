@@ -113,6 +113,13 @@ module _ (which : Which) (words : List (String Global)) (s : Scene) (result : �
       ∙ ap (λ (st : State). run h.all steps st) h.begun in
       runs (Run main inputs steps) (runs_of m steps) asks (
         reads,
-        record { all = h.all; lists = h.lists; linked = h.linked; given = h.given; is_run = same },
+        record {
+          all = h.all;
+          lists = h.lists;
+          linked = h.linked;
+          loaded = h.loaded;
+          given = h.given;
+          is_run = same;
+        },
         (makes, stand),
       ) said

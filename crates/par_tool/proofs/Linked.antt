@@ -15,7 +15,7 @@ use Rattle.par_tool.specs.declared.reading.Failure.{Failure}
 use Rattle.par_tool.specs.Failures.{IsFailure}
 use Rattle.par_tool.specs.Given.{AreInputs, IsUngiven}
 use Rattle.par_tool.specs.Outside.{Text, MakesAtMost}
-use Rattle.par_tool.specs.Classes.{AreLinked, NotRun, Starts}
+use Rattle.par_tool.specs.Classes.{AreLinked, AreLoaded, NotRun, Starts}
 use Rattle.par_tool.proofs.Beginning.{first_number}
 use Rattle.par_tool.proofs.Loads.{all_reads, inputs_fail}
 
@@ -43,16 +43,17 @@ module _ (files : Option Files) (main name : Text) (first before between after :
   wants = all_reads files main (suc h.2.0) all links_all first after makes_all
 
   pub starts : (f : ClassFile) → slice_get all 0 ≡ Some f → own_name f ≡ main
-      → (m : Machine) (lists : Inputs)
+      → AreLoaded files main all → (m : Machine) (lists : Inputs)
       → AreInputs (first_misfit all) files name lists → files_of m ≡ all
       → state_of m ≡ start all 0 lists → steps_of m ≡ 0
       → Starts files first after main name m
-  starts f is own m lists given same begun fresh = (
+  starts f is own loaded m lists given same begun fresh = (
     suc h.2.0,
     record {
       all = all;
       lists = lists;
       linked = links_all;
+      loaded = loaded;
       given = given;
       runs = same;
       begun = begun ∙ ap (λ (n : ℕ). start all n lists) (sym (first_number all f main is own));

@@ -1,5 +1,5 @@
 -- What is said of class files and input files: to run them.
-use Rattle.std.specs.Prelude.{◌≡◌, ℕ, suc, ◌⊎◌, List, Option}
+use Rattle.std.specs.Prelude.{◌≡◌, ℕ, suc, ◌⊎◌, List, All, Option}
 use Rattle.par_io.specs.Causes.{FolderCounts, Makes, Rose, Files}
 use Rattle.par_values.specs.declared.inputs.Inputs.{Inputs}
 use Rattle.par_values.specs.Ran.{Ran}
@@ -10,7 +10,8 @@ use Rattle.par_loader.specs.declared.error.Unloaded.TheVariants as unloaded
 use Rattle.par_loader.specs.Reads.{Classes, AreOf}
 use Rattle.par_loader.specs.Loaded.{Loaded, whole, Load}
 use Rattle.par_loader.specs.Judged.{judged}
-use Rattle.par_loader.specs.Ends.{Unended}
+use Rattle.par_loader.specs.Ends.{Unended, IsRead}
+use Rattle.par_loader.specs.Begun.{AreCoded, BeginsMain}
 use Rattle.par_machine.specs.declared.machine.Machine.{Machine}
 use Rattle.par_machine.specs.Machine.{files_of, state_of, steps_of}
 use Rattle.par_steps.specs.State.{start}
@@ -32,6 +33,14 @@ pub record AreLinked (files : Option Files) (main : Text) (reads : ℕ) (all : L
   pub classes : Classes
   pub of : AreOf files classes
   pub links : ends_so (judged classes main) reads (whole all)
+
+-- What is known of class files that were loaded: each is spelled by what was read where its class
+-- was asked for, each method that is not native has code, and the run begins with the static method
+-- `main` of the class.
+pub record AreLoaded (files : Option Files) (main : Text) (all : List ClassFile) : Type 0 where
+  pub read : All (IsRead files) all
+  pub coded : AreCoded all
+  pub begins : BeginsMain main all
 
 -- Why no run begins, and how many files were read.
 module _ (files : Option Files) (before after : FolderCounts) (main inputs : Text) where
@@ -66,6 +75,7 @@ pub record IsRunOf (files : Option Files) (main inputs : Text) (steps reads : �
   pub all : List ClassFile
   pub lists : Inputs
   pub linked : AreLinked files main reads all
+  pub loaded : AreLoaded files main all
   pub given : AreInputs (first_misfit all) files inputs lists
   pub is_run : ran ≡ machine_run all main lists steps
 
@@ -75,6 +85,7 @@ pub record IsStarted (files : Option Files) (main inputs : Text) (reads : ℕ) (
   pub all : List ClassFile
   pub lists : Inputs
   pub linked : AreLinked files main reads all
+  pub loaded : AreLoaded files main all
   pub given : AreInputs (first_misfit all) files inputs lists
   pub runs : files_of m ≡ all
   pub begun : state_of m ≡ start all (class_number all main) lists

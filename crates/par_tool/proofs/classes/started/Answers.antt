@@ -1,12 +1,13 @@
 use Rattle.std.proofs.Common.{◌≡◌, slice_get, subst}
-use Rattle.std.specs.Prelude.{Option, Err, Ok}
+use Rattle.std.specs.Prelude.{Option, Err, Ok, All}
 use Rattle.par_io.specs.Causes.{FolderCounts, Files}
-use Rattle.par_loader.specs.Ends.{Judges}
+use Rattle.par_loader.specs.Ends.{Judges, IsRead}
+use Rattle.par_loader.specs.Begun.{BeginsMain}
 use Rattle.par_tool.specs.declared.reading.Failure.{Failure}
 use Rattle.par_tool.specs.declared.reading.Failure.TheVariants.{Memory}
 use Rattle.par_tool.specs.Failures.{IsFailure, failure_of}
 use Rattle.par_tool.specs.Outside.{Text, MakesAtMost}
-use Rattle.par_tool.specs.Classes.{NotRun}
+use Rattle.par_tool.specs.Classes.{NotRun, AreLoaded}
 use Rattle.par_tool.proofs.Beginning.{begins_there}
 use Rattle.par_tool.proofs.Linked.{starts, fails, wants}
 use Rattle.par_tool.proofs.Loads.{main_fails, program_fails, program_wants, handed}
@@ -104,11 +105,21 @@ returns-in-Ok-clause-started g c =
     subst (λ (fs : Option Files). Judges fs main before between (Ok all)) c.main_file.ensures.kept
     (subst (λ (n : Text). Judges (g.F.Folder.files c.main_file.new.folder) n before between
     (Ok all)) c.in_ok-file.ensures.own c.in_ok-linked.ensures.judges) in
+    let loaded : AreLoaded files main all =
+    record {
+      read =
+          subst (λ (fs : Option Files). All (IsRead fs) all) c.main_file.ensures.kept
+          c.in_ok-linked.ensures.read;
+      coded = c.in_ok-linked.ensures.coded;
+      begins =
+          subst (λ (n : Text). BeginsMain n all) c.in_ok-file.ensures.own
+          c.in_ok-linked.ensures.main;
+    } in
     let given =
     rw (c.linked_program.ensures.kept, c.main_file.ensures.kept) at c.in_ok-inputs.ensures.given in
     starts files main c.args.name.now first before between after all c.in_ok-file.ensures.step.2.1
     judged c.inputs.ensures.counted
-    c.in_ok-file.file c.in_ok-linked.ensures.first c.in_ok-file.ensures.own c.in-Ok.machine
+    c.in_ok-file.file c.in_ok-linked.ensures.first c.in_ok-file.ensures.own loaded c.in-Ok.machine
     c.in_ok-inputs.inputs given c.in-Ok.ensures.files c.in-Ok.ensures.state c.in-Ok.ensures.steps
 
 pub returns-in-Err-clause-memory : goal.returns-in-Err-clause-memory
