@@ -1,16 +1,14 @@
 -- Lower bounds, as rules that are kept.
-use Rattle.std.proofs.Common.{◌≡◌, ℕ, zero, suc, ◌<◌, ◌⊎◌, Bool, true, false, cond, ◌||◌, ◌&&◌, not}
-use Rattle.std.proofs.Common.{Option, Some, None, List, [], ◌∷◌, refl, sym, subst, ap, ◌∙◌, Contains}
-use Rattle.std.proofs.Common.{eq-eqb, arith, length, inl, inr}
+use Rattle.std.proofs.Common.{◌≡◌, ℕ, Bool, true, false, cond, ◌||◌, ◌&&◌, not}
+use Rattle.std.proofs.Common.{Option, Some, None, List, [], ◌∷◌, refl, sym, subst, Contains}
+use Rattle.std.proofs.Common.{eq-eqb}
 use Rattle.std.specs.Prelude.{IsTrue, nat_eq, map}
-use Rattle.std.proofs.lemmas.Bool.{eqb-true, and_parts, and_from, or_cases, or_left, or_right}
+use Rattle.std.proofs.lemmas.Bool.{eqb-true, and_parts, and_from, or_left, or_right}
 use Rattle.par_policy.proofs.Ordered.{Contains-nil, Contains-first}
 use Rattle.par_policy.proofs.Ordered.{Contains-later}
-use Rattle.par_bits.specs.Sets.{Set, IsWithin, none, adding, union}
-use Rattle.par_typed.specs.declared.table.Table.{Table}
+use Rattle.par_bits.specs.Sets.{Set, none, union}
 use Rattle.par_typed.specs.declared.table.ClassInfo.{ClassInfo}
 use Rattle.par_typed.specs.declared.table.FieldInfo.{FieldInfo}
-use Rattle.par_typed.specs.Plain.{Body}
 use Rattle.par_rules.specs.Lattice.{Seen, numbers, IsSeenBelow}
 use Rattle.par_rules.specs.Ways.{Way}
 use Rattle.par_rules.specs.Facts.{Facts}
@@ -25,7 +23,7 @@ use Rattle.par_infer.specs.Bounds.{births_above}
 use Rattle.par_infer.specs.Laws.{is_in}
 use Rattle.par_pass.proofs.Instances.{in_either}
 use Rattle.par_infer.proofs.Choices.{first_or_later}
-use Rattle.par_infer.proofs.Seens.{join_below, join_member, given_join, join_given}
+use Rattle.par_infer.proofs.Seens.{join_below, join_member, given_join}
 
 unopened_in : (is : Set) (v p : ℕ) → IsTrue (is p) → unopened is (Released v p) ≡ Worth v p
 unopened_in is v p e = pick (is p) e where

@@ -1,6 +1,6 @@
 -- The write effect that rules ask about is that of the method around.
-use Rattle.std.proofs.Common.{◌≡◌, ℕ, zero, suc, ◌<◌, Bool, false, Option, Some, None, List, [], ◌∷◌}
-use Rattle.std.proofs.Common.{◌++◌, Contains, subst, sym, ap, refl, length}
+use Rattle.std.proofs.Common.{◌≡◌, ℕ, ◌<◌, ◌≤◌, arith, false, Option, Some, None, List, [], ◌∷◌}
+use Rattle.std.proofs.Common.{◌++◌, Contains, subst, sym, length}
 use Rattle.std.specs.Prelude.{slice_get, IsTrue}
 use Rattle.par_policy.proofs.Ordered.{Contains-nil}
 use Rattle.par_typed.specs.declared.table.Table.{Table}
@@ -9,13 +9,12 @@ use Rattle.par_typed.specs.Plain.{TExp, MayTExp, TExps, TSta, MayTSta, TStas, TC
 use Rattle.par_rules.specs.Declares.{Method, Thrown, declares}
 use Rattle.par_rules.specs.Rules.{Entry}
 use Rattle.par_rules.specs.Body.{args_past, args_tested}
-use Rattle.par_checks.specs.Asked.{Condition, Effect, Spot, Check}
+use Rattle.par_checks.specs.Asked.{Effect, Spot, Check}
 use Rattle.par_checks.specs.Checks.{exp_checks, args_checks, may_checks, sta_checks, other_checks}
 use Rattle.par_checks.specs.Checks.{stas_checks, catches_checks, arguments, called, returned, set}
 use Rattle.par_checks.specs.Checks.{locked, lock_written, throws_checks, undeclared_checks}
 use Rattle.par_checks.specs.Checks.{method_checks, checks, others, points_past}
-use Rattle.par_declared.specs.Inferred.{inferred}
-use Rattle.par_infer.specs.Laws.{AreOfFields, AreTableFields, TableFieldsSuffice}
+use Rattle.par_declared.specs.Inferred.{inferred, AreOfFields}
 use Rattle.par_infer.proofs.Choices.{first_or_later}
 
 module _ (table : Table) (own : Method) where
@@ -46,6 +45,7 @@ module _ (table : Table) (own : Method) where
 
   mutual
     unfolding exp_checks args_checks
+
     exp_own : (e : TExp) → AreOwn (exp_checks table own e)
     exp_own (typed.Int n m) = tt
     exp_own (typed.Boolean b m) = tt
@@ -108,6 +108,7 @@ module _ (table : Table) (own : Method) where
 
   mutual
     unfolding sta_checks other_checks stas_checks catches_checks
+
     sta_own : (s : TSta) → AreOwn (sta_checks table own s)
     sta_own (typed.Block ss at p) = stas_own ss
     sta_own (typed.If e s o at p) =
@@ -179,10 +180,18 @@ effects_own table b c e p m h =
     (both table own (sta_checks table own b.body) _ (sta_own table own b.body)
     (method_own table own own _ _)) m e p h
 
-pub table_fields : TableFieldsSuffice
-table_fields table bs f = record {
+-- numbers of inferred fields are those of policies, and no rule asks about one as a write effect
+pub record AreApart (table : Table) (bs : List Body) : Type 0 where
+  pub ranges : (i : ℕ) → IsTrue (inferred table i) → i < length table.policies
+  pub few : (i : ℕ) → IsTrue (inferred table i) → i < 256
+  pub effects : (b : Body) (c : Check) (e p : ℕ) → Contains bs b → Contains (checks table b) c
+      → c.condition ≡ Effect e p → inferred table e ≡ false
+
+pub apart : (table : Table) (bs : List Body) → AreOfFields table → length table.policies ≤ 256
+    → AreApart table bs
+apart table bs f few = record {
   ranges = f.ranges;
-  few = f.few;
+  few = λ i h. let l = f.ranges i h in omega (arith, l, few);
   effects = λ b c e p there asked h.
       subst (λ e. inferred table e ≡ false) (sym (effects_own table b c e p asked h))
       (f.effects b.class b.method);

@@ -1,10 +1,9 @@
 -- The laws of fillings.
-use Rattle.std.proofs.Common.{◌≡◌, ℕ, zero, suc, ◌<◌, Bool, true, false, ◌||◌, ◌&&◌, not}
+use Rattle.std.proofs.Common.{◌≡◌, ℕ, ◌<◌, true, false, ◌||◌, ◌&&◌}
 use Rattle.std.proofs.Common.{Option, Some, None, List, [], ◌∷◌, refl, sym, subst, Contains}
 use Rattle.std.proofs.Common.{eq-eqb, length}
 use Rattle.std.specs.Prelude.{IsTrue, nat_eq}
 use Rattle.std.proofs.lemmas.Bool.{eqb-true, and_parts, and_from, or_left, or_right}
-use Rattle.par_policy.specs.declared.clauses.Clause.{Clause}
 use Rattle.par_policy.proofs.Ordered.{Contains-nil, Contains-first, Contains-later}
 use Rattle.par_bits.specs.Sets.{Set}
 use Rattle.par_typed.specs.declared.table.Table.{Table}
@@ -17,22 +16,23 @@ use Rattle.par_rules.specs.Declares.{declares}
 use Rattle.par_rules.specs.Closed.{IsClosed}
 use Rattle.par_pass.proofs.Instances.{in_either}
 use Rattle.par_pass.proofs.Along.{closed_along}
-use Rattle.par_checks.specs.Asked.{Check, Effect}
+use Rattle.par_checks.specs.Asked.{Check}
 use Rattle.par_checks.specs.Checks.{checks}
 use Rattle.par_checks.proofs.Monotone.{joined_more}
 use Rattle.par_reached.specs.Reached.{AreLeastSets, Reaches, Straight, Through}
 use Rattle.par_pass.specs.Seens.{given_of, join_of, seen_as, plain}
-use Rattle.par_infer.specs.Seens.{IsPolicy, filled}
+use Rattle.par_infer.specs.Seens.{IsPolicy}
 use Rattle.par_checks.specs.Keeps.{Keeps}
 use Rattle.par_infer.specs.Keeps.{limit, strict}
 use Rattle.par_declared.specs.Inferred.{inferred, inferred_among, inferred_in}
 use Rattle.par_infer.specs.Bounds.{bounds, replaced}
 use Rattle.par_infer.specs.Bounds.{bodies_above, births_above, all_above}
-use Rattle.par_infer.specs.Bounds.{asked_above, is_at}
+use Rattle.par_infer.specs.Bounds.{is_at}
 use Rattle.par_infer.specs.Filling.{Filling, with_filling, ArePolicies, AreBirthsBelow, IsAccepted}
 use Rattle.par_infer.specs.Filling.{IsFillingBelow, join_filling, IsBodyAccepted}
-use Rattle.par_pass.proofs.Instances.{stands}
-use Rattle.par_infer.specs.Laws.{AreAll, IsFound, AreOfFields, KeepOthers, KeepsReplaced, MeetsBounds}
+use Rattle.par_verdict.specs.Judged.{AreRight, AreAllRight}
+use Rattle.par_infer.proofs.Effects.{AreApart, apart}
+use Rattle.par_infer.specs.Laws.{AreAll, KeepOthers, KeepsReplaced, MeetsBounds}
 use Rattle.par_infer.specs.Laws.{is_bound, is_in, LeastSetsAreBelow, KeptSetsAreAccepted}
 use Rattle.par_infer.specs.Laws.{FailedRuleRefuses}
 use Rattle.par_infer.proofs.Choices.{by_cases, first_or_later, not_true, true_not}
@@ -42,8 +42,8 @@ use Rattle.par_infer.proofs.Instances.{stand_for}
 use Rattle.par_infer.proofs.Kept.{meant, kept, kept_below}
 use Rattle.par_infer.proofs.Reached.{reached_least}
 use Rattle.par_infer.proofs.Bounds.{kept_above, above_kept, asked_in, in_asked, born_in, in_born}
-use Rattle.par_infer.proofs.Bounds.{births_in, in_births, is_born}
-use Rattle.par_infer.proofs.Replaced.{placed, placed_in, placed_out, set_member, set_below}
+use Rattle.par_infer.proofs.Bounds.{births_in, in_births}
+use Rattle.par_infer.proofs.Replaced.{placed_out, set_member, set_below}
 use Rattle.par_infer.proofs.Replaced.{replaced_lower, replaced_upper, new_kept, old_kept}
 
 at_seen : (p q : Seen) → p ≡ q → IsSeenBelow p q
@@ -98,7 +98,7 @@ module _ (table : Table) (ψ : Filling) (policies : ArePolicies table ψ)
 -- what an accepted filling keeps, the least facts keep
 writes_kept : (table : Table) (ψ : Filling) (qs : List Seen)
     → ((n : ℕ) → IsPolicy (given_of qs n)) → qs ≡ with_filling table ψ
-    → (bs : List Body) (fs : List (Facts numbers)) → AreAll (IsFound table) bs fs
+    → (bs : List Body) (fs : List (Facts numbers)) → AreAll (AreRight table) bs fs
     → ((b : Body) → Contains bs b → IsBodyAccepted table ψ b)
     → AreAll (λ b f. (c : Check) → Contains (checks table b) c → is_bound table c ≡ true
     → Keeps numbers (join_of (with_filling table ψ)) (given_of (with_filling table ψ)) f
@@ -110,17 +110,17 @@ writes_kept table ψ qs p e (b ∷ bs) (f ∷ fs) found accepted =
       λ c asked bound.
           kept_below (with_filling table ψ)
           (subst (λ qs. (n : ℕ) → IsPolicy (given_of qs n)) e p) f a.facts
-          (found.0.least (with_filling table ψ) a.facts a.closed)
+          (found.0.whichever (with_filling table ψ) a.facts a.closed)
           (strict (inferred table) c) (a.kept c asked),
       writes_kept table ψ qs p e bs fs found.1 (λ d m. accepted d (Contains-later b bs d m)),
     )
 
 module _ (table : Table) (bs : List Body) (fs : List (Facts numbers))
-    (fields : AreOfFields table bs) where
+    (fields : AreApart table bs) where
   abbrev is : Set
   is = inferred table
 
-  accepted_meets : AreAll (IsFound table) bs fs → (ψ : Filling) → IsAccepted table bs ψ
+  accepted_meets : AreAll (AreRight table) bs fs → (ψ : Filling) → IsAccepted table bs ψ
       → MeetsBounds table bs fs ψ
   accepted_meets found ψ a = record {
     policies = a.policies;
@@ -210,7 +210,7 @@ module _ (table : Table) (bs : List Body) (fs : List (Facts numbers))
         (and_from _ _ (and_from _ _ e (not_true f.is_static static))
         (and_from _ _ (eq-eqb f.policy f.policy refl) (eq-eqb c.birth c.birth refl))))))
 
-    own_writes : (cs : List Body) (gs : List (Facts numbers)) → AreAll (IsFound table) cs gs
+    own_writes : (cs : List Body) (gs : List (Facts numbers)) → AreAll (AreRight table) cs gs
         → ((i n : ℕ) → IsTrue (bodies_above table cs gs i n) → IsTrue (bounds table bs fs i n))
         → AreAll (λ b f. (c : Check) → Contains (checks table b) c → is_bound table c ≡ true
         → Keeps numbers (join_of (with_filling table own)) (given_of (with_filling table own)) f
@@ -225,14 +225,14 @@ module _ (table : Table) (bs : List Body) (fs : List (Facts numbers))
       own_writes cs gs found.1 (λ i n h. sub i n (or_right _ _ h)),
     )
 
-    pub own_meets : AreAll (IsFound table) bs fs → MeetsBounds table bs fs own
+    pub own_meets : AreAll (AreRight table) bs fs → MeetsBounds table bs fs own
     own_meets found = record {
       policies = own_policies;
       births = own_births;
       writes = own_writes bs fs found (λ i n h. or_right _ _ h);
     }
 
-    own_bodies : (cs : List Body) (gs : List (Facts numbers)) → AreAll (IsFound table) cs gs
+    own_bodies : (cs : List Body) (gs : List (Facts numbers)) → AreAll (AreRight table) cs gs
         → AreAll (KeepOthers table σ) cs gs
         → AreAll (λ b f. (c : Check) → Contains (checks table b) c → is_bound table c ≡ true
         → Keeps numbers (join_of (with_filling table own)) (given_of (with_filling table own)) f
@@ -258,7 +258,7 @@ module _ (table : Table) (bs : List Body) (fs : List (Facts numbers))
         }))
         (own_bodies cs gs found.1 others.1 writes.1 (λ b m. sub b (Contains-later d cs b m)) b) m
 
-    own_accepted : AreAll (IsFound table) bs fs → AreAll (KeepOthers table σ) bs fs
+    own_accepted : AreAll (AreRight table) bs fs → AreAll (KeepOthers table σ) bs fs
         → IsAccepted table bs own
     own_accepted found others =
         let meets = own_meets found in record {
@@ -284,7 +284,7 @@ module _ (table : Table) (bs : List Body) (fs : List (Facts numbers))
         (λ actor locks h. join_member (with_filling table ψ) s n k actor locks h)))
 
     module _ (b : Body) (f : Facts numbers) (c : Check) (there : Contains bs b)
-        (right : IsFound table b f) (asked : Contains (checks table b) c)
+        (right : AreRight table b f) (asked : Contains (checks table b) c)
         (other : is_bound table c ≡ false) (fails : KeepsReplaced table σ f c → ⊥) where
       pub failed : (ψ : Filling) → MeetsBounds table bs fs ψ
           → (a : Facts (seen_as (with_filling table ψ)))
@@ -296,26 +296,36 @@ module _ (table : Table) (bs : List Body) (fs : List (Facts numbers))
           fails (old_kept table.policies is ψ (replaced is σ) f (lower ψ m) c other
           (λ g p e. fields.effects b c g p there asked e)
           (kept_below qs (are_policies table ψ m.policies fields.ranges) f a
-          (right.least qs a closed) (strict is c) k))
+          (right.whichever qs a closed) (strict is c) k))
 
-      pub refused : AreAll (IsFound table) bs fs → (ψ : Filling) → IsAccepted table bs ψ → ⊥
+      pub refused : AreAll (AreRight table) bs fs → (ψ : Filling) → IsAccepted table bs ψ → ⊥
       refused found ψ a =
           let d = a.bodies b there in
           failed ψ (accepted_meets found ψ a) d.facts d.closed (d.kept c asked)
 
+pub all_right : (table : Table) (bs : List Body) (fs : List (Facts numbers))
+    → AreAllRight table bs fs → AreAll (AreRight table) bs fs
+all_right table [] fs h = tt
+all_right table (b ∷ bs) [] h = absurd h
+all_right table (b ∷ bs) (f ∷ fs) h = (h.0, all_right table bs fs h.1)
+
 pub sets_are_below : LeastSetsAreBelow
-sets_are_below table bs fs σ fields found least = (
-  own_meets table bs fs fields σ least found,
-  accepted_meets table bs fs fields found,
-  sets_below table bs fs fields σ least,
-)
+sets_are_below table bs fs σ fields few right least =
+    let own = apart table bs fields few in
+    let found = all_right table bs fs right in (
+      own_meets table bs fs own σ least found,
+      accepted_meets table bs fs own found,
+      sets_below table bs fs own σ least,
+    )
 
 pub kept_accepted : KeptSetsAreAccepted
-kept_accepted table bs fs σ fields found least others =
-    own_accepted table bs fs fields σ least found others
+kept_accepted table bs fs σ fields few right least others =
+    own_accepted table bs fs (apart table bs fields few) σ least (all_right table bs fs right) others
 
 pub failed_refuses : FailedRuleRefuses
-failed_refuses table bs fs σ fields found least b f c there right asked other fails = (
-  failed table bs fs fields σ least b f c there right asked other fails,
-  refused table bs fs fields σ least b f c there right asked other fails found,
-)
+failed_refuses table bs fs σ fields few right least b f c there found asked other fails =
+    let own = apart table bs fields few in (
+      failed table bs fs own σ least b f c there found asked other fails,
+      refused table bs fs own σ least b f c there found asked other fails
+          (all_right table bs fs right),
+    )

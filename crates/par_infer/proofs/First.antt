@@ -1,6 +1,6 @@
 -- The first rule that fails with the least sets is the first that fails with every filling.
-use Rattle.std.proofs.Common.{◌≡◌, ◌⊎◌, ℕ, Bool, true, false, List, [], ◌∷◌, Contains, refl, sym, subst}
-use Rattle.std.proofs.Common.{ap, inl, inr}
+use Rattle.std.proofs.Common.{◌≡◌, ◌⊎◌, ℕ, true, false, List, [], ◌∷◌, Contains, refl, sym, subst}
+use Rattle.std.proofs.Common.{inl, inr}
 use Rattle.par_policy.proofs.Ordered.{Contains-nil}
 use Rattle.par_bits.specs.Sets.{Set}
 use Rattle.par_typed.specs.declared.table.Table.{Table}
@@ -14,20 +14,22 @@ use Rattle.par_pass.proofs.Along.{closed_along}
 use Rattle.par_checks.specs.Asked.{Check}
 use Rattle.par_checks.specs.Checks.{checks}
 use Rattle.par_reached.specs.Reached.{AreLeastSets}
-use Rattle.par_pass.specs.Seens.{seen_as, join_of}
+use Rattle.par_pass.specs.Seens.{given_of, seen_as, join_of}
 use Rattle.par_checks.specs.Keeps.{Keeps}
 use Rattle.par_infer.specs.Keeps.{strict}
 use Rattle.par_declared.specs.Inferred.{inferred}
 use Rattle.par_infer.specs.Bounds.{bounds, replaced}
 use Rattle.par_infer.specs.Filling.{Filling, with_filling, join_filling}
-use Rattle.par_infer.specs.Laws.{AreAll, IsFound, AreOfFields, KeepsReplaced, MeetsBounds, is_bound}
-use Rattle.par_infer.specs.First.{Fails, IsBrokenWith, IsBrokenAlways, IsFirstAlways, IsFirstFailed}
+use Rattle.par_verdict.specs.Judged.{AreRight}
+use Rattle.par_infer.proofs.Effects.{AreApart, apart}
+use Rattle.par_infer.specs.Laws.{AreAll, KeepsReplaced, is_bound}
+use Rattle.par_infer.specs.First.{IsBrokenAlways, IsFirstFailed}
 use Rattle.par_infer.specs.First.{FirstFailedIsFirstAlways}
 use Rattle.par_infer.proofs.Choices.{by_cases, first_or_later}
 use Rattle.par_infer.proofs.Instances.{stand_for}
 use Rattle.par_infer.proofs.Kept.{meant, kept}
 use Rattle.par_infer.proofs.Replaced.{replaced_upper, new_kept}
-use Rattle.par_infer.proofs.Fillings.{are_policies, own_meets, failed, refused}
+use Rattle.par_infer.proofs.Fillings.{all_right, are_policies, own_meets, failed, refused}
 
 all_both : (P Q : Body → Facts numbers → Type 0) (bs : List Body) (fs : List (Facts numbers))
     → AreAll P bs fs → AreAll Q bs fs → AreAll (λ b f. P b f × Q b f) bs fs
@@ -48,7 +50,7 @@ cases A B C f g (inl a) = f a
 cases A B C f g (inr b) = g b
 
 module _ (table : Table) (bs : List Body) (fs : List (Facts numbers)) (σ : ℕ → Set) (r : Refusal)
-    (fields : AreOfFields table bs) (found : AreAll (IsFound table) bs fs)
+    (fields : AreApart table bs) (found : AreAll (AreRight table) bs fs)
     (least : AreLeastSets (inferred table) (bounds table bs fs) σ)
     (w : IsFirstFailed table bs fs σ r) where
   abbrev own : Filling
@@ -76,7 +78,7 @@ module _ (table : Table) (bs : List Body) (fs : List (Facts numbers)) (σ : ℕ 
       let qs = with_filling table own in
       let p = are_policies table own meets.policies fields.ranges in
       let x = always own meets in
-      one_of (λ b f. (IsFound table b f × ((c : Check) → Contains (checks table b) c
+      one_of (λ b f. (AreRight table b f × ((c : Check) → Contains (checks table b) c
       → is_bound table c ≡ true
       → Keeps numbers (join_of qs) (given_of qs) f (strict (inferred table) c)))
       × ((c : Check) → Contains (checks table b) c → is_bound table c ≡ false
@@ -101,12 +103,14 @@ module _ (table : Table) (bs : List Body) (fs : List (Facts numbers)) (σ : ℕ 
       (h.1 c y.asked e)))
 
 pub first_always : FirstFailedIsFirstAlways
-first_always table bs fs σ r fields found least w = record {
-  breaks =
-      subst (λ (r : Refusal). IsBrokenAlways table bs fs r.rule r.at) (sym w.is)
-      (breaks table bs fs σ r fields found least w);
-  first = none_before table bs fs σ r fields found least w;
-  none =
-      refused table bs fs fields σ least w.body w.facts w.check w.there w.right w.asked w.other
-      w.fails found;
-}
+first_always table bs fs σ r fields few right least w =
+    let own = apart table bs fields few in
+    let found = all_right table bs fs right in record {
+      breaks =
+          subst (λ (r : Refusal). IsBrokenAlways table bs fs r.rule r.at) (sym w.is)
+          (breaks table bs fs σ r own found least w);
+      first = none_before table bs fs σ r own found least w;
+      none =
+          refused table bs fs own σ least w.body w.facts w.check w.there w.right w.asked w.other
+          w.fails found;
+    }

@@ -1,8 +1,8 @@
 -- Facts over sets of numbers, and what they stand for.
 use Rattle.std.proofs.Common.{◌≡◌, ℕ, ◌&&◌, Option, Some, None, List, [], ◌∷◌, refl, ap, subst}
 use Rattle.std.specs.Prelude.{map}
-use Rattle.par_bits.specs.Sets.{Set, IsWithin, union}
-use Rattle.par_rules.specs.Lattice.{Seen, numbers, IsSeenBelow}
+use Rattle.par_bits.specs.Sets.{union}
+use Rattle.par_rules.specs.Lattice.{Seen, numbers}
 use Rattle.par_rules.specs.Ways as rules
 use Rattle.par_rules.specs.Ways.{Flows, MayFlow}
 use Rattle.par_rules.specs.Facts.{Facts}
@@ -11,7 +11,8 @@ use Rattle.par_pass.specs.Exits.{Way}
 use Rattle.par_pass.specs.Low as lower
 use Rattle.par_pass.specs.Low.{IsLow, FlowsUnder}
 use Rattle.par_pass.proofs.Order.{sub_trans, union_l, union_r}
-use Rattle.par_pass.proofs.Along.{as_way, as_may, as_facts, as_all, way_lower, and_in}
+use Rattle.std.proofs.lemmas.Bool.{and_from}
+use Rattle.par_pass.proofs.Along.{as_way, as_may, as_facts, as_all, way_lower}
 use Rattle.par_pass.proofs.Under.{AreAllLow, way_low}
 use Rattle.par_checks.specs.Asked.{Condition, Open, Released, Worth, Joined, Context, Effect, Among}
 use Rattle.par_checks.specs.Asked.{Never, Check}
@@ -51,7 +52,7 @@ module _ (ps : List Seen) (policies : (n : ℕ) → IsPolicy (given_of ps n)) wh
         let context =
         join_order ps w.context (union (f v).value w.context)
         (union_r (f v).value w.context) actor locks all in
-        and_in (join_of ps (f v).value actor locks) (x.context actor locks) value
+        and_from (join_of ps (f v).value actor locks) (x.context actor locks) value
         (h.context actor locks context)
     satisfied w x h (Context p) k = λ actor locks s. h.context actor locks (k actor locks s)
     satisfied w x h (Effect e p) k = k

@@ -1,5 +1,5 @@
 -- Each member is below one that is printed.
-use Rattle.std.proofs.Common.{◌≡◌, ◌↔◌, ℕ, zero, suc, ◌<◌, Bool, true, false, ◌&&◌, not, refl, sym}
+use Rattle.std.proofs.Common.{◌≡◌, ℕ, zero, suc, ◌<◌, Bool, false, not, refl, sym}
 use Rattle.std.proofs.Common.{subst, ◌∙◌, eq-eqb, arith, List}
 use Rattle.std.specs.Prelude.{IsTrue, nat_eq, slice_get}
 use Rattle.std.proofs.lemmas.Bool.{eqb-true, and_parts, and_from}
@@ -12,7 +12,7 @@ use Rattle.par_infer.specs.Bounds.{any_below}
 use Rattle.par_infer.specs.Printed.{above, highest, Orders, HighestStandForAll}
 use Rattle.par_infer.proofs.Choices.{by_cases, not_true, true_not}
 use Rattle.par_infer.proofs.Seens.{join_below, join_member, join_order, plain_join, plain_given}
-use Rattle.par_infer.proofs.Replaced.{any_in, in_any, clash}
+use Rattle.par_infer.proofs.Replaced.{in_any, clash}
 
 module _ (ps : List (List Clause)) (s : Set) (below : ℕ → ℕ → Bool) (o : Orders ps s below) where
   abbrev Below : ℕ → ℕ → Type 0
@@ -36,15 +36,15 @@ module _ (ps : List (List Clause)) (s : Set) (below : ℕ → ℕ → Bool) (o :
       and_from _ _
       (and_from _ _ t.0 (not_true (nat_eq x n) (apart n m x h q p.1 r.1))) ((o.exact n x h t.0).1 up)
     where
-    apart : (n m x : ℕ) → IsTrue (s n) → IsTrue (s m) × IsTrue (not (nat_eq m n))
-        → IsTrue (below n m) → IsTrue (below m x) → nat_eq x n ≡ false
-    apart n m x h q b c =
-        by_cases (nat_eq x n) (nat_eq x n ≡ false)
-        (λ e.
-        let same : m ≡ n =
-        o.different m n q.0 h (subst (λ y. IsTrue (below m y)) (eqb-true x n e) c) b in
-        absurd (clash (sym (true_not (nat_eq m n) q.1) ∙ eq-eqb m n same)))
-        (λ e. e)
+      apart : (n m x : ℕ) → IsTrue (s n) → IsTrue (s m) × IsTrue (not (nat_eq m n))
+          → IsTrue (below n m) → IsTrue (below m x) → nat_eq x n ≡ false
+      apart n m x h q b c =
+          by_cases (nat_eq x n) (nat_eq x n ≡ false)
+          (λ e.
+          let same : m ≡ n =
+          o.different m n q.0 h (subst (λ y. IsTrue (below m y)) (eqb-true x n e) c) b in
+          absurd (clash (sym (true_not (nat_eq m n) q.1) ∙ eq-eqb m n same)))
+          (λ e. e)
 
   record Top (n : ℕ) : Type 0 where
     number : ℕ

@@ -1,17 +1,16 @@
 -- Joins of policies in a list.
 use Rattle.std.proofs.Common.{◌≡◌, ℕ, zero, suc, ◌<◌, Bool, true, false, cond, ◌||◌, ◌&&◌, not, List}
 use Rattle.std.proofs.Common.{[], ◌∷◌, refl, ap, sym, subst, eq-eqb, arith, length}
-use Rattle.std.specs.Prelude.{IsTrue, nat_eq, slice_get, Option, Some, None}
+use Rattle.std.specs.Prelude.{IsTrue, slice_get}
 use Rattle.std.proofs.lemmas.Bool.{eqb-true}
 use Rattle.par_policy.specs.declared.clauses.Clause.{Clause}
-use Rattle.par_policy.specs.Numbers.{within}
 use Rattle.par_policy.specs.Sees.{sees}
 use Rattle.par_policy.proofs.Seen.{sees_more}
-use Rattle.par_bits.specs.Sets.{Set, IsWithin, none, adding, union}
+use Rattle.par_bits.specs.Sets.{Set, IsWithin, none, adding}
 use Rattle.par_rules.specs.Lattice.{Seen, IsSeenBelow, joined, seen_by}
-use Rattle.par_pass.proofs.Order.{union_l, union_r}
-use Rattle.par_pass.proofs.Along.{and_in, and_l, and_r}
-use Rattle.par_pass.specs.Seens.{given_of, join_of, seen_as, plain}
+use Rattle.std.proofs.lemmas.Bool.{and_from}
+use Rattle.par_pass.proofs.Instances.{in_both_l, in_both_r}
+use Rattle.par_pass.specs.Seens.{given_of, join_of, plain}
 use Rattle.par_infer.specs.Seens.{IsPolicy, filled}
 
 where_had : (b c d : Bool) → (IsTrue c → IsTrue d) → IsTrue (not b || c) → IsTrue (not b || d)
@@ -31,16 +30,16 @@ pub join_member : (ps : List Seen) (s : Set) (n : ℕ) → IsTrue (s n) → (act
     → IsTrue (join_of ps s actor locks) → IsTrue (given_of ps n actor locks)
 join_member [] s n e actor locks h = refl
 join_member (p ∷ ps) s zero e actor locks h =
-    where_out (s 0) (p actor locks) (and_l (not (s 0) || p actor locks) _ h) e
+    where_out (s 0) (p actor locks) (in_both_l (not (s 0) || p actor locks) _ h) e
 join_member (p ∷ ps) s (suc n) e actor locks h =
-    join_member ps (λ m. s (suc m)) n e actor locks (and_r (not (s 0) || p actor locks) _ h)
+    join_member ps (λ m. s (suc m)) n e actor locks (in_both_r (not (s 0) || p actor locks) _ h)
 
 -- where each policy of a set is below, their join is
 pub join_below : (ps : List Seen) (s : Set) (q : Seen)
     → ((n : ℕ) → IsTrue (s n) → IsSeenBelow (given_of ps n) q) → IsSeenBelow (join_of ps s) q
 join_below [] s q f actor locks h = refl
 join_below (p ∷ ps) s q f actor locks h =
-    and_in (not (s 0) || p actor locks) (join_of ps (λ n. s (suc n)) actor locks)
+    and_from (not (s 0) || p actor locks) (join_of ps (λ n. s (suc n)) actor locks)
     (where_in (s 0) (p actor locks) (λ e. f 0 e actor locks h))
     (join_below ps (λ n. s (suc n)) q (λ n. f (suc n)) actor locks h)
 
@@ -68,10 +67,10 @@ join_more ps f s actor few more w h = go ps f s h where
       → IsTrue (join_of ps s actor few) → IsTrue (join_of ps s actor more)
   go [] f s h = refl
   go (p ∷ ps) f s h =
-      and_in (not (s 0) || p actor more) (join_of ps (λ n. s (suc n)) actor more)
+      and_from (not (s 0) || p actor more) (join_of ps (λ n. s (suc n)) actor more)
       (where_had (s 0) (p actor few) (p actor more) (f 0 actor few more w)
-      (and_l (not (s 0) || p actor few) _ h))
-      (go ps (λ n. f (suc n)) (λ n. s (suc n)) (and_r (not (s 0) || p actor few) _ h))
+      (in_both_l (not (s 0) || p actor few) _ h))
+      (go ps (λ n. f (suc n)) (λ n. s (suc n)) (in_both_r (not (s 0) || p actor few) _ h))
 
 -- ---- the policies of a table
 

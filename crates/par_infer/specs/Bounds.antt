@@ -1,6 +1,6 @@
 -- The lower bounds of inferred fields, as sets of policy numbers.
-use Rattle.std.specs.Prelude.{◌≡◌, ℕ, zero, suc, Bool, true, false, not, cond, ◌||◌, ◌&&◌, nat_eq}
-use Rattle.std.specs.Prelude.{Option, Some, None, List, [], ◌∷◌, map, IsTrue, ◌↔◌}
+use Rattle.std.specs.Prelude.{◌≡◌, ℕ, zero, suc, Bool, false, not, ◌||◌, ◌&&◌, nat_eq}
+use Rattle.std.specs.Prelude.{Option, Some, None, List, [], ◌∷◌, map, IsTrue}
 use Rattle.par_bits.specs.Sets.{Set, none, adding, union}
 use Rattle.par_typed.specs.declared.table.Table.{Table}
 use Rattle.par_typed.specs.declared.table.ClassInfo.{ClassInfo}

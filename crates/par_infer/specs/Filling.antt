@@ -1,5 +1,5 @@
 -- Policies for inferred fields, and when they are accepted.
-use Rattle.std.specs.Prelude.{◌≡◌, ℕ, false, Option, Some, None, List, Contains, IsTrue}
+use Rattle.std.specs.Prelude.{◌≡◌, ℕ, false, List, Contains, IsTrue}
 use Rattle.par_bits.specs.Sets.{Set}
 use Rattle.par_typed.specs.declared.table.Table.{Table}
 use Rattle.par_typed.specs.declared.table.ClassInfo.{ClassInfo}

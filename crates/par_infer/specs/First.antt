@@ -1,5 +1,5 @@
 -- The first rule that no filling can keep.
-use Rattle.std.specs.Prelude.{◌≡◌, ◌⊎◌, ℕ, false, true, List, Contains}
+use Rattle.std.specs.Prelude.{◌≡◌, ◌⊎◌, ℕ, ◌≤◌, false, length, List, Contains}
 use Rattle.par_bits.specs.Sets.{Set}
 use Rattle.par_typed.specs.declared.table.Table.{Table}
 use Rattle.par_typed.specs.declared.refusal.Refusal.{Refusal}
@@ -11,14 +11,15 @@ use Rattle.par_rules.specs.Declares.{declares}
 use Rattle.par_rules.specs.Closed.{IsClosed}
 use Rattle.par_checks.specs.Asked.{Check}
 use Rattle.par_checks.specs.Checks.{checks}
+use Rattle.par_verdict.specs.Judged.{AreRight, AreAllRight}
 use Rattle.par_reached.specs.Reached.{AreLeastSets}
-use Rattle.par_pass.specs.Seens.{seen_as}
+use Rattle.par_pass.specs.Seens.{given_of, seen_as}
 use Rattle.par_checks.specs.Keeps.{Keeps}
 use Rattle.par_infer.specs.Keeps.{strict}
-use Rattle.par_declared.specs.Inferred.{inferred}
+use Rattle.par_declared.specs.Inferred.{inferred, AreOfFields}
 use Rattle.par_infer.specs.Bounds.{bounds}
 use Rattle.par_infer.specs.Filling.{Filling, with_filling, IsAccepted}
-use Rattle.par_infer.specs.Laws.{AreAll, IsFound, AreOfFields, KeepsReplaced, MeetsBounds, is_bound}
+use Rattle.par_infer.specs.Laws.{AreAll, KeepsReplaced, MeetsBounds, is_bound}
 
 -- with the filling the facts do not keep the rule at some node with this place
 pub record Fails (table : Table) (ψ : Filling) (b : Body) (rule at : ℕ)
@@ -57,7 +58,7 @@ pub record IsFirstFailed (table : Table) (bs : List Body) (fs : List (Facts numb
   pub body : Body
   pub facts : Facts numbers
   pub there : Contains bs body
-  pub right : IsFound table body facts
+  pub right : AreRight table body facts
   pub check : Check
   pub asked : Contains (checks table body) check
   pub other : is_bound table check ≡ false
@@ -69,6 +70,6 @@ pub record IsFirstFailed (table : Table) (bs : List Body) (fs : List (Facts numb
 abbrev pub FirstFailedIsFirstAlways : Type 0
 FirstFailedIsFirstAlways =
     (table : Table) (bs : List Body) (fs : List (Facts numbers)) (σ : ℕ → Set) (r : Refusal)
-    → AreOfFields table bs → AreAll (IsFound table) bs fs
+    → AreOfFields table → length table.policies ≤ 256 → AreAllRight table bs fs
     → AreLeastSets (inferred table) (bounds table bs fs) σ
     → IsFirstFailed table bs fs σ r → IsFirstAlways table bs fs r

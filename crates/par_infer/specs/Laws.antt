@@ -1,34 +1,27 @@
 -- The laws of fillings.
-use Rattle.std.specs.Prelude.{◌≡◌, ◌<◌, ℕ, Bool, true, false, Option, Some, None, List, [], ◌∷◌}
+use Rattle.std.specs.Prelude.{◌≡◌, ◌≤◌, ℕ, Bool, true, false, Option, Some, None, List, [], ◌∷◌}
 use Rattle.std.specs.Prelude.{Contains, IsTrue, length}
 use Rattle.par_bits.specs.Sets.{Set, IsWithin}
 use Rattle.par_typed.specs.declared.table.Table.{Table}
 use Rattle.par_typed.specs.Plain.{Body}
-use Rattle.par_rules.specs.Lattice.{Seen, numbers, joined}
-use Rattle.par_rules.specs.Ways.{Way}
-use Rattle.par_rules.specs.Facts.{Fact, Facts}
+use Rattle.par_rules.specs.Lattice.{numbers, joined}
+use Rattle.par_rules.specs.Facts.{Facts}
 use Rattle.par_rules.specs.Declares.{declares}
 use Rattle.par_rules.specs.Closed.{IsClosed}
-use Rattle.par_pass.specs.Result.{AreLeast}
-use Rattle.par_checks.specs.Asked.{Check, Condition, Effect}
+use Rattle.par_checks.specs.Asked.{Check}
 use Rattle.par_checks.specs.Checks.{checks}
-use Rattle.par_checks.specs.Keeps as plain
+use Rattle.par_checks.specs.Verdict.{given}
+use Rattle.par_verdict.specs.Judged.{AreRight, AreAllRight}
 use Rattle.par_reached.specs.Reached.{AreLeastSets}
-use Rattle.par_pass.specs.Seens.{seen_as, join_of}
+use Rattle.par_pass.specs.Seens.{given_of, seen_as, join_of}
 use Rattle.par_checks.specs.Keeps.{Keeps}
 use Rattle.par_infer.specs.Keeps.{limit, strict}
-use Rattle.par_declared.specs.Inferred.{inferred}
+use Rattle.par_declared.specs.Inferred.{inferred, AreOfFields}
 use Rattle.par_infer.specs.Bounds.{bounds, Cover, replaced}
 use Rattle.par_infer.specs.Filling.{Filling, with_filling, ArePolicies, AreBirthsBelow, IsAccepted}
 use Rattle.par_infer.specs.Filling.{IsFillingBelow, join_filling}
-use Rattle.par_pass.proofs.Instances.{stands}
 
 -- ---- facts
-
--- closed facts, at or below all others that are, whichever policies have the numbers
-pub record IsFound (table : Table) (b : Body) (f : Facts numbers) : Type 0 where
-  pub closed : IsClosed numbers (declares table) b f
-  pub least : (ps : List Seen) → AreLeast (seen_as ps) (stands ps) (declares table) b f
 
 -- what is said of each body with its facts
 abbrev pub AreAll : (Body → Facts numbers → Type 0) → List Body → List (Facts numbers) → Type 0
@@ -46,25 +39,10 @@ is_in is (Some p) = is p
 abbrev pub is_bound : Table → Check → Bool
 is_bound table c = is_in (inferred table) (limit c.condition)
 
--- numbers of inferred fields are those of policies, and no method has one as its write effect
-pub record AreOfFields (table : Table) (bs : List Body) : Type 0 where
-  pub ranges : (i : ℕ) → IsTrue (inferred table i) → i < length table.policies
-  pub few : (i : ℕ) → IsTrue (inferred table i) → i < 256
-  pub effects : (b : Body) (c : Check) (e p : ℕ) → Contains bs b → Contains (checks table b) c
-      → c.condition ≡ Effect e p → inferred table e ≡ false
-
 -- facts keep a rule with each inferred number replaced by the set of its field
 abbrev pub KeepsReplaced : (table : Table) → (ℕ → Set) → Facts numbers → Check → Type 0
 KeepsReplaced table σ f c =
-    plain.Keeps numbers (λ s. joined table.policies (replaced (inferred table) σ s)) table.policies
-    f c
-
--- numbers of inferred fields are those of policies, and of fields alone
-pub record AreTableFields (table : Table) : Type 0 where
-  pub ranges : (i : ℕ) → IsTrue (inferred table i) → i < length table.policies
-  pub few : (i : ℕ) → IsTrue (inferred table i) → i < 256
-  pub effects : (class method : ℕ)
-      → inferred table ((declares table).method class method).effect ≡ false
+    Keeps numbers (λ s. joined table.policies (replaced (inferred table) σ s)) (given table) f c
 
 -- all other rules are kept by the facts with numbers replaced
 abbrev pub KeepOthers : Table → (ℕ → Set) → Body → Facts numbers → Type 0
@@ -95,7 +73,7 @@ ReachedSetsAreLeast =
 abbrev pub LeastSetsAreBelow : Type 0
 LeastSetsAreBelow =
     (table : Table) (bs : List Body) (fs : List (Facts numbers)) (σ : ℕ → Set)
-    → AreOfFields table bs → AreAll (IsFound table) bs fs
+    → AreOfFields table → length table.policies ≤ 256 → AreAllRight table bs fs
     → AreLeastSets (inferred table) (bounds table bs fs) σ
     → MeetsBounds table bs fs (join_filling table σ)
     × ((ψ : Filling) → IsAccepted table bs ψ → MeetsBounds table bs fs ψ)
@@ -105,7 +83,7 @@ LeastSetsAreBelow =
 abbrev pub KeptSetsAreAccepted : Type 0
 KeptSetsAreAccepted =
     (table : Table) (bs : List Body) (fs : List (Facts numbers)) (σ : ℕ → Set)
-    → AreOfFields table bs → AreAll (IsFound table) bs fs
+    → AreOfFields table → length table.policies ≤ 256 → AreAllRight table bs fs
     → AreLeastSets (inferred table) (bounds table bs fs) σ
     → AreAll (KeepOthers table σ) bs fs
     → IsAccepted table bs (join_filling table σ)
@@ -114,9 +92,9 @@ KeptSetsAreAccepted =
 abbrev pub FailedRuleRefuses : Type 0
 FailedRuleRefuses =
     (table : Table) (bs : List Body) (fs : List (Facts numbers)) (σ : ℕ → Set)
-    → AreOfFields table bs → AreAll (IsFound table) bs fs
+    → AreOfFields table → length table.policies ≤ 256 → AreAllRight table bs fs
     → AreLeastSets (inferred table) (bounds table bs fs) σ
-    → (b : Body) (f : Facts numbers) (c : Check) → Contains bs b → IsFound table b f
+    → (b : Body) (f : Facts numbers) (c : Check) → Contains bs b → AreRight table b f
     → Contains (checks table b) c → is_bound table c ≡ false
     → (KeepsReplaced table σ f c → ⊥)
     → ((ψ : Filling) → MeetsBounds table bs fs ψ
@@ -125,7 +103,3 @@ FailedRuleRefuses =
     → Keeps (seen_as (with_filling table ψ)) (λ p. p) (given_of (with_filling table ψ)) a
     (strict (inferred table) c) → ⊥)
     × ((ψ : Filling) → IsAccepted table bs ψ → ⊥)
-
--- what is asked of write effects is asked of those of methods
-abbrev pub TableFieldsSuffice : Type 0
-TableFieldsSuffice = (table : Table) (bs : List Body) → AreTableFields table → AreOfFields table bs

@@ -1,5 +1,5 @@
 -- Policies by who sees them, with others in place of some.
-use Rattle.std.specs.Prelude.{ℕ, zero, suc, cond, List, [], ◌∷◌, IsTrue}
+use Rattle.std.specs.Prelude.{ℕ, suc, cond, List, [], ◌∷◌, IsTrue}
 use Rattle.par_policy.specs.declared.clauses.Clause.{Clause}
 use Rattle.par_policy.specs.Numbers.{within}
 use Rattle.par_policy.specs.Sees.{sees}
