@@ -1,6 +1,6 @@
 -- The method with which a run starts is the static one, since no two have its name and descriptor.
 use Rattle.std.proofs.Common.{◌≡◌, ℕ, zero, suc, ◌<◌, Bool, true, false, not, ◌&&◌, ◌||◌, List, []}
-use Rattle.std.proofs.Common.{◌∷◌, map, take, Some, None, Option, refl, sym, ap, subst, ◌∙◌, arith}
+use Rattle.std.proofs.Common.{◌∷◌, take, Some, None, Option, refl, sym, ap, subst, ◌∙◌, arith}
 use Rattle.std.proofs.Common.{codes, is_some}
 use Rattle.std.specs.List.{slice_get, list_any, position}
 use Rattle.std.specs.Prelude.{nat_lt, cond, IsTrue, ◌+◌}

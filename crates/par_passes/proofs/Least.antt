@@ -217,7 +217,7 @@ judged-same exc P Q (Some t) to back found =
     (to (frame_at t) found.0, λ u fit. found.1 u (back u fit))
 
 module _ (exc : List Name) (act : Instr → Act) (handler_kind : Catch → VKind) (code : CodeAttr)
-    (first : KFrame) (told : Given) (some : 0 < length code.code)
+    (first : KFrame) (told : Given)
     (within : (at : ℕ) (k : KFrame) → told at ≡ Some k → at < length code.code) where
   abbrev Told : Given → Type 0
   Told u = FitsAsTold exc act handler_kind code first told u
@@ -225,9 +225,10 @@ module _ (exc : List Name) (act : Instr → Act) (handler_kind : Catch → VKind
   abbrev Begun : Given → Type 0
   Begun u = Fitting exc act handler_kind code u first × StartsWith (from_start first told) u
 
-  begun-within : (at : ℕ) (k : KFrame) → from_start first told at ≡ Some k → at < length code.code
-  begun-within zero k e = some
-  begun-within (suc at) k e = within (suc at) k e
+  begun-within : 0 < length code.code → (at : ℕ) (k : KFrame) → from_start first told at ≡ Some k
+      → at < length code.code
+  begun-within some zero k e = some
+  begun-within some (suc at) k e = within (suc at) k e
 
   told-begun : (u : Given) → Told u → Begun u
   told-begun u fit = (fit.0, starts) where
@@ -255,7 +256,7 @@ module _ (exc : List Name) (act : Instr → Act) (handler_kind : Catch → VKind
     starts (suc at) k e = fit.1 (suc at) k e
 
   told_judged : Judged exc Told (frames_as_told exc act handler_kind code first told)
-  told_judged = in_case (begins_as exc first (told 0)) refl where
+  told_judged = in_case (starts_at code.code 0) (begins_as exc first (told 0)) refl refl where
     refused : (u : Given) → Told u → (o : Option KFrame) → told 0 ≡ o
         → begins_as exc first o ≡ false → ⊥
     refused u fit None at e = cc e
@@ -269,25 +270,29 @@ module _ (exc : List Name) (act : Instr → Act) (handler_kind : Catch → VKind
         (below-frame exc first first (frame-same exc first))) in
         let odd : true ≡ false = sym fits ∙ e in cc odd
 
-    in_case : (b : Bool) → begins_as exc first (told 0) ≡ b
+    in_case : (a b : Bool) → starts_at code.code 0 ≡ a → begins_as exc first (told 0) ≡ b
         → Judged exc Told
-        (cond b (least_from exc act handler_kind code (from_start first told)
+        (cond (a && b) (least_from exc act handler_kind code (from_start first told)
         (start_table (from_start first told) 0 code.code)) None)
-    in_case true e =
+    in_case true true starts e =
         judged-same exc Begun Told
         (least_from exc act handler_kind code (from_start first told)
         (start_table (from_start first told) 0 code.code))
         (begun-told e) told-begun
-        (least_judged exc act handler_kind code (from_start first told) first refl begun-within)
-    in_case false e = λ u fit. refused u fit (told 0) refl e
+        (least_judged exc act handler_kind code (from_start first told) first refl
+        (begun-within (starts-within code.code 0 0 starts)))
+    in_case true false starts e = λ u fit. refused u fit (told 0) refl e
+    in_case false b starts e =
+        λ u fit. let both : false ≡ true =
+        sym starts ∙ ((fit.0).each 0 first (fit.0).begins).starts in cc both
 
 pub frames_as_told_are_least : FramesAsToldAreLeast
-frames_as_told_are_least exc act handler_kind code first told some within =
-    told_judged exc act handler_kind code first told some within
+frames_as_told_are_least exc act handler_kind code first told within =
+    told_judged exc act handler_kind code first told within
 
 pub least_frames_are_least : LeastFramesAreLeast
-least_frames_are_least exc act handler_kind code first some =
+least_frames_are_least exc act handler_kind code first =
     judged-same exc (FitsAsTold exc act handler_kind code first (λ at. None))
     (λ u. Fitting exc act handler_kind code u first) (least_frames exc act handler_kind code first)
     (λ u fit. fit.0) (λ u fit. (fit, λ at k e. absurd (cc e)))
-    (told_judged exc act handler_kind code first (λ at. None) some (λ at k e. absurd (cc e)))
+    (told_judged exc act handler_kind code first (λ at. None) (λ at k e. absurd (cc e)))

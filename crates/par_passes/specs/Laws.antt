@@ -20,7 +20,7 @@ FitsAsTold exc act handler_kind code first told u =
 abbrev pub FramesAsToldAreLeast : Type 0
 FramesAsToldAreLeast =
     (exc : List Name) (act : Instr → Act) (handler_kind : Catch → VKind) (code : CodeAttr)
-    (first : KFrame) (told : Given) → 0 < length code.code
+    (first : KFrame) (told : Given)
     → ((at : ℕ) (k : KFrame) → told at ≡ Some k → at < length code.code)
     → Judged exc (FitsAsTold exc act handler_kind code first told)
     (frames_as_told exc act handler_kind code first told)
@@ -29,7 +29,7 @@ FramesAsToldAreLeast =
 abbrev pub LeastFramesAreLeast : Type 0
 LeastFramesAreLeast =
     (exc : List Name) (act : Instr → Act) (handler_kind : Catch → VKind) (code : CodeAttr)
-    (first : KFrame) → 0 < length code.code
+    (first : KFrame)
     → Judged exc (λ u. Fitting exc act handler_kind code u first)
     (least_frames exc act handler_kind code first)
 

@@ -268,7 +268,7 @@ module _ (exc : List Name) (act : Instr → Act) (handler_kind : Catch → VKind
   -- the least frames of a method that begins with this one, of which some are told
   abbrev pub frames_as_told : Given → Option Table
   frames_as_told told =
-      if begins_as exc first (told 0)
+      if starts_at code.code 0 && begins_as exc first (told 0)
       then least_from exc act handler_kind code (from_start first told)
       (start_table (from_start first told) 0 code.code)
       else None
