@@ -8,4 +8,4 @@
 
 mod laws;
 
-pub use laws::source_runs_extend;
+pub use laws::{deeper_runs_extend, source_runs_extend};

@@ -94,13 +94,14 @@ split (e ∷ es) more (w ∷ ws) h =
       joined = ap (λ vs. w ∷ vs) s.joined;
     }
 
-get_longer : (xs more : List Witnessed) (k : ℕ) (a : Witnessed) → slice_get xs k ≡ Some a
+-- what stands at a place, and what stands before it, is the same where more follows
+pub get_longer : (xs more : List Witnessed) (k : ℕ) (a : Witnessed) → slice_get xs k ≡ Some a
     → slice_get (xs ++ more) k ≡ Some a
 get_longer [] more k a h = cc
 get_longer (x ∷ xs) more zero a h = h
 get_longer (x ∷ xs) more (suc k) a h = get_longer xs more k a h
 
-take_longer : (xs more : List Witnessed) (k : ℕ) (a : Witnessed) → slice_get xs k ≡ Some a
+pub take_longer : (xs more : List Witnessed) (k : ℕ) (a : Witnessed) → slice_get xs k ≡ Some a
     → take k (xs ++ more) ≡ take k xs
 take_longer xs more k a h =
     let below = slice_get_within xs k a h in take-append-le k xs more (omega arith)
@@ -114,7 +115,7 @@ agree_cut o xs ys us vs k h a b p q e has_one has_other =
     has_one has_other
 
 -- what is seen of more than some events is seen of these first
-seen_more : (subject : Subject) (o : Observer) (all ws more : List Witnessed) → all ≡ ws ++ more
+pub seen_more : (subject : Subject) (o : Observer) (all ws more : List Witnessed) → all ≡ ws ++ more
     → seen subject o all ≡ seen subject o ws ++ seen subject o more
 seen_more subject o all ws more e =
     ap (seen subject o) e ∙ filter-append (λ w. sees o (subject.policy w.event)) ws more

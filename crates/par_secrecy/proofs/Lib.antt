@@ -4,3 +4,4 @@ pub mod Seeing
 pub mod Examples
 pub mod FileExamples
 pub mod Carried
+pub mod Fitting

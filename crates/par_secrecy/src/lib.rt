@@ -10,4 +10,6 @@ mod files;
 mod laws;
 
 pub use files::shown_files_are_secure;
-pub use laws::{alike_is_reflexive, alike_is_symmetric, alike_is_transitive};
+pub use laws::{
+    alike_is_reflexive, alike_is_symmetric, alike_is_transitive, fitting_gives_the_same,
+};
