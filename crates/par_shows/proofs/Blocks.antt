@@ -23,11 +23,11 @@ use Rattle.par_completes.specs.Typed.{breaks, some_break}
 use Rattle.std.proofs.lemmas.Bool.{or_left}
 use Rattle.par_code_form.specs.Code.{handlers, all_handlers}
 use Rattle.par_shows.proofs.Handlers.{outside, all_outside}
-use Rattle.par_shows.proofs.Parts.{Setting}
+use Rattle.par_evaluation.proofs.Parts.{Setting}
 use Rattle.par_code_form.specs.Code.{Words, Loop, labels, code, all_code}
 use Rattle.par_agreeing.specs.Laid.{Layout, IsSet, TypedS, TypedAll, behind}
 use Rattle.par_shows.proofs.Spans.{grows, all_grows, all_lives, ends}
-use Rattle.par_shows.proofs.Parts.{M, at, Fit, wider}
+use Rattle.par_evaluation.proofs.Parts.{M, at, Fit, wider}
 use Rattle.par_shows.proofs.Exits.{Catches, Holds', Normally, Sides, alike, behind_more, less}
 use Rattle.par_shows.proofs.Exits.{same_hs, same_set, sides_on, spend, wk, yes}
 

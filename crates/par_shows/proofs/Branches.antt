@@ -47,13 +47,13 @@ use Rattle.par_code_form.specs.Code.{goes_on}
 use Rattle.par_code_form.specs.Code.{handlers, else_handlers}
 use Rattle.par_shows.proofs.Handlers.{outside, else_outside}
 use Rattle.par_shows.proofs.Spans.{goes_grows, goes_lives, goes_ends}
-use Rattle.par_shows.proofs.Parts.{Setting}
+use Rattle.par_evaluation.proofs.Parts.{Setting}
 use Rattle.par_code_form.specs.Code.{Words, Loop, expr_labels, labels, code, else_code}
 use Rattle.par_agreeing.specs.Laid.{Layout, moved, HasType, TypedS, TypedElse, behind}
-use Rattle.par_shows.proofs.Lengths.{expr_ends, expr_grows}
+use Rattle.par_evaluation.proofs.Lengths.{expr_ends, expr_grows}
 use Rattle.par_shows.proofs.Spans.{grows, else_grows, lives, else_lives, ends, else_ends}
-use Rattle.par_shows.proofs.Parts.{with, M, at, Fit, wider, given}
-use Rattle.par_shows.proofs.Values.{truth_moved, truth_typed}
+use Rattle.par_evaluation.proofs.Parts.{with, M, at, Fit, wider, given}
+use Rattle.par_evaluation.proofs.Values.{truth_moved, truth_typed}
 use Rattle.par_shows.proofs.Exits.{Catches, Holds', Normally, Sides, alike, behind_more, branches}
 use Rattle.par_shows.proofs.Exits.{chosen, label_stands, less, part_raises, same_hs, same_set}
 use Rattle.par_shows.proofs.Exits.{sides_on, spend, test_then, to_label, went, wk, yes}

@@ -48,15 +48,15 @@ use Rattle.par_steps.specs.Step.{thrown_to}
 use Rattle.par_matching.specs.Labelled.{handled}
 use Rattle.par_code_form.specs.Code.{goes_on}
 use Rattle.par_code_form.specs.Code.{handlers}
-use Rattle.par_shows.proofs.Parts.{Setting, Enters, fails}
+use Rattle.par_evaluation.proofs.Parts.{Setting, Enters, fails}
 use Rattle.par_code_form.specs.Code.{Words, Loop, is_void, expr_code, code}
 use Rattle.par_agreeing.specs.Laid.{Layout, moved, HasType, IsSet, Typed, TypedS, behind, Accepts}
 use Rattle.par_agreeing.proofs.Good.{fit_less}
-use Rattle.par_shows.proofs.Parts.{with, not_void, Q, M, the_code, at, Fit, Within, wider, after}
-use Rattle.par_shows.proofs.Parts.{Ready, Handed, handed, given, thrown, Raises, Holds}
-use Rattle.par_shows.proofs.Parts.{number_moved, Simple, kind_in_fits}
-use Rattle.par_shows.proofs.Values.{raises_on, number_fits, one_fits, accepts}
-use Rattle.par_shows.proofs.Exprs.{expr_ok}
+use Rattle.par_evaluation.proofs.Parts.{with, not_void, Q, M, the_code, at, Fit, Within, wider, after}
+use Rattle.par_evaluation.proofs.Parts.{Ready, Handed, handed, given, thrown, Raises, Holds}
+use Rattle.par_evaluation.proofs.Parts.{number_moved, Simple, kind_in_fits}
+use Rattle.par_evaluation.proofs.Values.{raises_on, number_fits, one_fits, accepts}
+use Rattle.par_evaluation.proofs.Exprs.{expr_ok}
 
 module _ (ctx : Setting) (result : Ty) where
   abbrev env : Naming
@@ -261,7 +261,7 @@ module _ (ctx : Setting) (result : Ty) where
         stays = λ x g r. refl;
         comes = λ x g r. refl;
       })
-      (Rattle.par_shows.proofs.Parts.jump_effect env.names (pos (target C.items lbl) -ℤ pos p)
+      (Rattle.par_evaluation.proofs.Parts.jump_effect env.names (pos (target C.items lbl) -ℤ pos p)
       (with a [])) r
 
   -- a jump where control comes to it

@@ -67,16 +67,16 @@ use Rattle.par_matching.proofs.Steps.{hushed, object_turn}
 use Rattle.par_agreeing.proofs.Kept.{open_fit, close_fit, field_fit}
 use Rattle.par_code_form.specs.Code.{initializer as init_item}
 use Rattle.par_code_form.specs.Code.{handlers}
-use Rattle.par_shows.proofs.Created.{init_ok}
-use Rattle.par_shows.proofs.Parts.{Setting, fails}
+use Rattle.par_evaluation.proofs.Created.{init_ok}
+use Rattle.par_evaluation.proofs.Parts.{Setting, fails}
 use Rattle.par_code_form.specs.Code.{Words, is_number, is_void, store, give_back, dropped}
 use Rattle.par_code_form.specs.Code.{expr_labels, expr_code, code}
 use Rattle.par_agreeing.specs.Laid.{Layout, moved, HasType, TypedS, Accepts, kind_of}
 use Rattle.par_agreeing.proofs.Good.{set_fit, static_fit, value_shown}
-use Rattle.par_shows.proofs.Lengths.{expr_grows, expr_lives}
-use Rattle.par_shows.proofs.Parts.{with, not_void, M, at, Fit, given, Raises, kind_in_fits}
-use Rattle.par_shows.proofs.Values.{raises_on, one_fits, two_fit, makes}
-use Rattle.par_shows.proofs.Exprs.{expr_ok}
+use Rattle.par_evaluation.proofs.Lengths.{expr_grows, expr_lives}
+use Rattle.par_evaluation.proofs.Parts.{with, not_void, M, at, Fit, given, Raises, kind_in_fits}
+use Rattle.par_evaluation.proofs.Values.{raises_on, one_fits, two_fit, makes}
+use Rattle.par_evaluation.proofs.Exprs.{expr_ok}
 use Rattle.par_shows.proofs.Exits.{Holds', Normally, acc, expr_then, hand, jumped, raises_here}
 use Rattle.par_shows.proofs.Exits.{spend, wk}
 

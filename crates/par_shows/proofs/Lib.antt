@@ -1,10 +1,3 @@
-pub mod Lengths
-pub mod Parts
-pub mod Created
-pub mod Values
-pub mod Primary
-pub mod Binary
-pub mod Exprs
 pub mod Spans
 pub mod Handlers
 pub mod Exits

@@ -40,12 +40,12 @@ use Rattle.par_code_form.specs.Code.{goes_on, loop_test}
 use Rattle.par_code_form.specs.Code.{handlers}
 use Rattle.par_shows.proofs.Handlers.{outside}
 use Rattle.par_shows.proofs.Spans.{goes_grows, goes_lives, goes_ends, test_ends}
-use Rattle.par_shows.proofs.Parts.{Setting}
+use Rattle.par_evaluation.proofs.Parts.{Setting}
 use Rattle.par_code_form.specs.Code.{Words, Loop, expr_labels, code}
 use Rattle.par_agreeing.specs.Laid.{Layout, Typed, TypedS, behind}
-use Rattle.par_shows.proofs.Lengths.{expr_ends, expr_grows, expr_lives}
+use Rattle.par_evaluation.proofs.Lengths.{expr_ends, expr_grows, expr_lives}
 use Rattle.par_shows.proofs.Spans.{grows, lives, ends}
-use Rattle.par_shows.proofs.Parts.{M, at, Fit, wider, given}
+use Rattle.par_evaluation.proofs.Parts.{M, at, Fit, wider, given}
 use Rattle.par_shows.proofs.Exits.{Catches, Holds', Normally, Sides, alike, behind_more, branches}
 use Rattle.par_shows.proofs.Exits.{chosen, label_stands, less, part_raises, same_hs, same_set}
 use Rattle.par_shows.proofs.Exits.{sides_on, spend, test_then, to_label, went, wk, yes}

@@ -33,9 +33,9 @@ use Rattle.par_matching.proofs.Steps.{Lives, Here, IsSound, P, here, leaves_turn
 use Rattle.par_agreeing.specs.Laid.{Layout, Meth, moved, HasType, IsSet, given_types}
 use Rattle.par_agreeing.specs.Agreement.{Lays, Fine}
 use Rattle.par_agreeing.proofs.Kept.{entered_fit}
-use Rattle.par_shows.specs.Programs.{Inits, Coded, framed, callee, first_set, given_kind}
+use Rattle.par_evaluation.specs.Programs.{Inits, Coded, framed, callee, first_set, given_kind}
 use Rattle.par_shows.proofs.Labels.{body_distinct}
-use Rattle.par_shows.proofs.Parts.{Setting, Enters, Back, AllTyped, with}
+use Rattle.par_evaluation.proofs.Parts.{Setting, Enters, Back, AllTyped, with}
 use Rattle.par_shows.proofs.Stmts.{stmt_ok}
 
 never : {A : Type 0} → false ≡ true → A

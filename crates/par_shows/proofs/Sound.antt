@@ -17,7 +17,7 @@ use Rattle.par_code_form.specs.Code.{handlers, else_handlers, all_handlers, catc
 use Rattle.par_matching.specs.Labelled.{Labelled, Naming, target, handled, covers, stands}
 use Rattle.par_matching.proofs.Steps.{Here, next, Distinct, target_is, stands_here}
 use Rattle.par_agreeing.specs.Laid.{Layout, TypedS, TypedElse, TypedAll, TypedCatches}
-use Rattle.par_shows.proofs.Lengths.{expr_ends}
+use Rattle.par_evaluation.proofs.Lengths.{expr_ends}
 use Rattle.par_shows.proofs.Spans.{goes_ends, test_ends, ends}
 
 module _ (env : Naming) (c : Labelled) where

@@ -17,7 +17,7 @@ use Rattle.par_code_form.specs.Code.{goes_on, loop_test, Words, Loop, is_void, i
 use Rattle.par_code_form.specs.Code.{give_back, dropped, expr_labels, expr_code, labels, code}
 use Rattle.par_code_form.specs.Code.{else_code, all_code, catch_code}
 use Rattle.par_matching.proofs.Steps.{Lives, Here, next}
-use Rattle.par_shows.proofs.Lengths.{expr_grows, expr_lives, expr_ends, store_lives}
+use Rattle.par_evaluation.proofs.Lengths.{expr_grows, expr_lives, expr_ends, store_lives}
 
 dropped_grows : (b : Bool) (xs : List Item) → length xs ≤ length (cond b xs (Op Pop ∷ xs))
 dropped_grows true xs = omega arith

@@ -7,7 +7,7 @@ use Rattle.par_typed.specs.Plain.{TSta, Block, If, While, Try, Return, Break, Co
 use Rattle.par_typed.specs.Plain.{Close, SetLocal, SetStatic, SetField, Eval, When}
 use Rattle.par_typed.specs.Plain.{MayTSta, NoElse, Otherwise, TStas, End, Then, TCatches, NoCatch}
 use Rattle.par_typed.specs.Plain.{Catch}
-use Rattle.par_shows.proofs.Parts.{Setting}
+use Rattle.par_evaluation.proofs.Parts.{Setting}
 use Rattle.par_shows.proofs.Exits.{Holds'}
 use Rattle.par_shows.proofs.Leaves.{break_ok, closes_ok, continue_ok, eval_ok, field_set, give_ok}
 use Rattle.par_shows.proofs.Leaves.{given_kind, local_set, opens_ok, return_ok, static_set}

@@ -46,11 +46,11 @@ use Rattle.par_code_form.specs.Code.{goes_on, catch_code}
 use Rattle.par_code_form.specs.Code.{handlers, catch_handlers}
 use Rattle.par_shows.proofs.Handlers.{outside, catch_outside, passed_over, covering}
 use Rattle.par_shows.proofs.Spans.{goes_grows, goes_lives, goes_ends, catch_grows, catch_ends}
-use Rattle.par_shows.proofs.Parts.{Setting}
+use Rattle.par_evaluation.proofs.Parts.{Setting}
 use Rattle.par_code_form.specs.Code.{Words, Loop, labels, code}
 use Rattle.par_agreeing.specs.Laid.{Layout, TypedS, behind}
 use Rattle.par_shows.proofs.Spans.{grows, lives, ends}
-use Rattle.par_shows.proofs.Parts.{with, M, at, Fit, wider}
+use Rattle.par_evaluation.proofs.Parts.{with, M, at, Fit, wider}
 use Rattle.par_shows.proofs.Exits.{Catches, Holds', Normally, Sides, alike, behind_more}
 use Rattle.par_shows.proofs.Exits.{label_stands, landed, less, same_hs, same_set, sides_on, spend}
 use Rattle.par_shows.proofs.Exits.{to_label, went, wk}

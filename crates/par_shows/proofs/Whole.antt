@@ -34,11 +34,11 @@ use Rattle.par_matching.specs.Labelled.{Labelled, Naming, handled, stands}
 use Rattle.par_matching.proofs.Rules.{Told, Matches, onward, onward-run, ends_rule}
 use Rattle.par_matching.proofs.Steps.{Here, IsSound, P}
 use Rattle.par_agreeing.specs.Laid.{Layout, Meth, HasMethod, given_types}
-use Rattle.par_shows.specs.Programs.{IsCompiled, begins, first_set}
+use Rattle.par_evaluation.specs.Programs.{IsCompiled, begins, first_set}
 use Rattle.par_shows.specs.Laws.{ShowsRuns, Begins, LabelledCodeShows}
 use Rattle.par_shows.proofs.Labels.{body_distinct}
 use Rattle.par_shows.proofs.Sound.{AllGo, goes_sound, all_go}
-use Rattle.par_shows.proofs.Parts.{AllTyped}
+use Rattle.par_evaluation.proofs.Parts.{AllTyped}
 use Rattle.par_shows.proofs.Methods.{enters_ok}
 
 no_some : {A : Type 0} (to : ℕ) → None ≡ Some to → A

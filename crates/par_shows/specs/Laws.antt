@@ -15,7 +15,7 @@ use Rattle.par_code_form.specs.Code.{Words}
 use Rattle.par_matching.specs.Labelled.{Labelled, Naming, of_labelled}
 use Rattle.par_agreeing.specs.Laid.{Layout}
 use Rattle.par_agreeing.specs.Agreement.{Fine}
-use Rattle.par_shows.specs.Programs.{IsCompiled, begins}
+use Rattle.par_evaluation.specs.Programs.{IsCompiled, begins}
 
 -- Runs of a machine by their numbers of instructions show those of a program by their steps: no
 -- step takes more than 16 instructions.

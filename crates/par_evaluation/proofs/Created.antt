@@ -47,8 +47,8 @@ use Rattle.par_values.specs.Operations.{operation}
 use Rattle.par_values.specs.declared.link.Link.TheVariants as link
 use Rattle.par_values.specs.declared.link.Target.TheVariants as to
 use Rattle.par_runs.specs.Tasks.{unless_null, nothing}
-use Rattle.par_shows.proofs.Parts.{Setting, Enters, with, not_void, M, at, Fit, Ready, Handed}
-use Rattle.par_shows.proofs.Parts.{handed, Raises, Holds, fails}
+use Rattle.par_evaluation.proofs.Parts.{Setting, Enters, with, not_void, M, at, Fit, Ready, Handed}
+use Rattle.par_evaluation.proofs.Parts.{handed, Raises, Holds, fails}
 use Rattle.std.specs.Prelude.{is_none}
 use Rattle.std.proofs.Common.{inl, inr, ◌⊎◌}
 use Rattle.std.proofs.lemmas.Slice.Eq.{bytes_eq-Decides}
@@ -75,8 +75,8 @@ use Rattle.par_agreeing.proofs.Kept.{left_fit}
 use Rattle.par_agreeing.proofs.Pushed.{pushed, pushed_taken, pushed_left, pushed_before}
 use Rattle.par_agreeing.proofs.Pushed.{pushed_length, EachFits, pushed_fit, each_length}
 use Rattle.par_code_form.specs.Code.{initializer as init_item, initializer_code}
-use Rattle.par_shows.specs.Programs.{Init, Inits, framed, callee}
-use Rattle.par_shows.proofs.Parts.{AllTyped}
+use Rattle.par_evaluation.specs.Programs.{Init, Inits, framed, callee}
+use Rattle.par_evaluation.proofs.Parts.{AllTyped}
 
 pub fits_one : (b : Bool) → b ≡ true → (b && true) ≡ true
 fits_one b e = ap (λ b. b && true) e

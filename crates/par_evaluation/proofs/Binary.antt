@@ -35,7 +35,7 @@ use Rattle.par_agreeing.specs.Agreement.{Lays}
 use Rattle.par_agreeing.proofs.Good.{Grows, grows_same, grows_on, typed_on, number_is, reference_is}
 use Rattle.par_agreeing.proofs.Good.{any_fits, IsReference}
 use Rattle.par_agreeing.proofs.Values.{same_moved}
-use Rattle.par_shows.proofs.Lengths.{expr_grows, expr_lives}
+use Rattle.par_evaluation.proofs.Lengths.{expr_grows, expr_lives}
 use Rattle.par_values.specs.Effects.{comes, combines}
 use Rattle.par_values.specs.Areas.{first_value}
 use Rattle.par_values.specs.Arithmetic.{Operator}
@@ -50,13 +50,13 @@ use Rattle.par_runs.specs.Tasks.{ARITHMETIC}
 use Rattle.par_runs.specs.Values.{decides, throws, applied, calculated, same}
 use Rattle.par_runs.specs.Meaning.{operates}
 use Rattle.par_agreeing.proofs.Operators.{Means}
-use Rattle.par_shows.proofs.Lengths.{expr_ends}
+use Rattle.par_evaluation.proofs.Lengths.{expr_ends}
 use Rattle.par_agreeing.specs.Laid.{below_second}
-use Rattle.par_shows.proofs.Parts.{Setting}
-use Rattle.par_shows.proofs.Parts.{with, not_void, M, at, Fit, Ready, Handed}
-use Rattle.par_shows.proofs.Parts.{Raises, Holds, number_moved}
-use Rattle.par_shows.proofs.Parts.{fails}
-use Rattle.par_shows.proofs.Values.{giv, hand, hand_truth, int_fits, later, makes, number_fits, one_fits, raises_on, spend, test, two_fit}
+use Rattle.par_evaluation.proofs.Parts.{Setting}
+use Rattle.par_evaluation.proofs.Parts.{with, not_void, M, at, Fit, Ready, Handed}
+use Rattle.par_evaluation.proofs.Parts.{Raises, Holds, number_moved}
+use Rattle.par_evaluation.proofs.Parts.{fails}
+use Rattle.par_evaluation.proofs.Values.{giv, hand, hand_truth, int_fits, later, makes, number_fits, one_fits, raises_on, spend, test, two_fit}
 
 module _ (ctx : Setting) where
   abbrev env : Naming

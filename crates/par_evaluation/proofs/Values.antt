@@ -30,9 +30,9 @@ use Rattle.par_agreeing.proofs.Good.{kind_fits}
 use Rattle.par_runs.specs.Values.{same}
 use Rattle.std.proofs.Common.{inl, inr}
 use Rattle.par_agreeing.specs.Laid.{Accepts}
-use Rattle.par_shows.proofs.Parts.{Setting}
-use Rattle.par_shows.proofs.Parts.{with, Q, M, at, Fit, wider, Ready, Handed, handed}
-use Rattle.par_shows.proofs.Parts.{given, thrown, Raises, tests}
+use Rattle.par_evaluation.proofs.Parts.{Setting}
+use Rattle.par_evaluation.proofs.Parts.{with, Q, M, at, Fit, wider, Ready, Handed, handed}
+use Rattle.par_evaluation.proofs.Parts.{given, thrown, Raises, tests}
 
 pub truth_moved : (lay : Layout) (b : Bool) → moved lay (truth b) ≡ truth b
 truth_moved lay true = refl

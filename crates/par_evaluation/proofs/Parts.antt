@@ -1,5 +1,5 @@
 -- The code of an expression shows its run.
-use Rattle.par_shows.specs.Programs.{Inits, framed, callee}
+use Rattle.par_evaluation.specs.Programs.{Inits, framed, callee}
 use Rattle.par_agreeing.specs.Laid.{HasMethod, IsThrown}
 use Rattle.std.proofs.Common.{◌≡◌, ℕ, suc, ◌+◌, ◌≤◌, ◌<◌, Bool, true, false, not, List, [], ◌∷◌}
 use Rattle.std.proofs.Common.{length, Some, refl, ap, sym, ◌∙◌, subst, arith}

@@ -25,24 +25,24 @@ use Rattle.par_agreeing.specs.Laid.{Layout, moved, HasType, Typed}
 use Rattle.par_matching.proofs.Rules.{Told}
 use Rattle.par_matching.proofs.Steps.{Lives, Here}
 use Rattle.par_agreeing.proofs.Good.{Grows, grows_same, grows_on, typed_on}
-use Rattle.par_shows.proofs.Lengths.{expr_grows}
+use Rattle.par_evaluation.proofs.Lengths.{expr_grows}
 use Rattle.std.proofs.Common.{map}
 use Rattle.par_runs.specs.Tasks.{tested}
 use Rattle.par_agreeing.proofs.Operators.{means}
-use Rattle.par_shows.proofs.Created.{static_call, object_call}
+use Rattle.par_evaluation.proofs.Created.{static_call, object_call}
 use Rattle.par_typed.specs.Plain.{Absent, Present, TExps, NoExps, More}
 use Rattle.par_runs.specs.Meaning.{eval_all, calls as calls_of}
 use Rattle.par_code_form.specs.Code.{args_code}
 use Rattle.par_agreeing.specs.Laid.{TypedArgs}
 use Rattle.par_agreeing.proofs.Pushed.{pushed}
-use Rattle.par_shows.proofs.Parts.{Setting, AllTyped}
-use Rattle.par_shows.proofs.Lengths.{args_grows, args_lives}
-use Rattle.par_shows.proofs.Parts.{not_void, M, at, Fit, Ready}
-use Rattle.par_shows.proofs.Parts.{Raises, Holds}
-use Rattle.par_shows.proofs.Parts.{local_ok, const_ok}
-use Rattle.par_shows.proofs.Values.{accepts, giv, later, raises_on, spend}
-use Rattle.par_shows.proofs.Primary.{field_ok, input_ok, neg_ok, new_ok, not_ok, null_ok, output_ok, static_ok, this_ok}
-use Rattle.par_shows.proofs.Binary.{binary}
+use Rattle.par_evaluation.proofs.Parts.{Setting, AllTyped}
+use Rattle.par_evaluation.proofs.Lengths.{args_grows, args_lives}
+use Rattle.par_evaluation.proofs.Parts.{not_void, M, at, Fit, Ready}
+use Rattle.par_evaluation.proofs.Parts.{Raises, Holds}
+use Rattle.par_evaluation.proofs.Parts.{local_ok, const_ok}
+use Rattle.par_evaluation.proofs.Values.{accepts, giv, later, raises_on, spend}
+use Rattle.par_evaluation.proofs.Primary.{field_ok, input_ok, neg_ok, new_ok, not_ok, null_ok, output_ok, static_ok, this_ok}
+use Rattle.par_evaluation.proofs.Binary.{binary}
 
 module _ (ctx : Setting) where
   abbrev labelled : ℕ → ℕ → Labelled

@@ -38,7 +38,7 @@ use Rattle.par_matching.proofs.Steps.{Lives, Here, next, on, says}
 use Rattle.par_agreeing.specs.Agreement.{Lays}
 use Rattle.par_agreeing.proofs.Good.{grows_same, grows_on, reference_is}
 use Rattle.par_agreeing.proofs.Good.{any_fits, class_fits}
-use Rattle.par_shows.proofs.Lengths.{expr_grows}
+use Rattle.par_evaluation.proofs.Lengths.{expr_grows}
 use Rattle.par_values.specs.Operations.{InvokeStatic}
 use Rattle.par_values.specs.declared.link.FieldLink.{FieldLink}
 use Rattle.par_values.specs.declared.link.ClassLink.{ClassLink}
@@ -59,13 +59,13 @@ use Rattle.par_agreeing.proofs.Operators.{not_not}
 use Rattle.par_matching.specs.Labelled.{calls}
 use Rattle.std.proofs.Common.{inl}
 use Rattle.par_code_form.specs.Code.{initializer as init_item}
-use Rattle.par_shows.proofs.Created.{init_ok}
-use Rattle.par_shows.proofs.Parts.{Setting}
+use Rattle.par_evaluation.proofs.Created.{init_ok}
+use Rattle.par_evaluation.proofs.Parts.{Setting}
 use Rattle.par_agreeing.proofs.Good.{taken_fit, born_fit, born_grows, put_here}
-use Rattle.par_shows.proofs.Parts.{with, not_void, M, at, Fit, Handed}
-use Rattle.par_shows.proofs.Parts.{Raises, Holds, number_moved, loads}
-use Rattle.par_shows.proofs.Parts.{fails}
-use Rattle.par_shows.proofs.Values.{giv, hand, hand_truth, int_fits, makes, number_fits, one_fits, raises_on, spend, test}
+use Rattle.par_evaluation.proofs.Parts.{with, not_void, M, at, Fit, Handed}
+use Rattle.par_evaluation.proofs.Parts.{Raises, Holds, number_moved, loads}
+use Rattle.par_evaluation.proofs.Parts.{fails}
+use Rattle.par_evaluation.proofs.Values.{giv, hand, hand_truth, int_fits, makes, number_fits, one_fits, raises_on, spend, test}
 
 module _ (ctx : Setting) where
   abbrev env : Naming
