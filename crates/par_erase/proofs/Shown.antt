@@ -273,7 +273,8 @@ pub all_catch_with : (w : ℕ → ℕ) (cs : List PCatch) (c : PCatch)
     → all_catch w (cs ++ c ∷ []) ≡ with_catch (all_catch w cs) c.class (does w c.body)
 unfolding with_catch
 all_catch_with w [] c = refl
-all_catch_with w (x ∷ cs) c = ap (λ xs. plain.Catch x.class (does w x.body) xs) (all_catch_with w cs c)
+all_catch_with w (x ∷ cs) c =
+    ap (λ xs. plain.Catch x.class (does w x.body) xs) (all_catch_with w cs c)
 
 pub ruleset doings = (
   does_block,

@@ -1,7 +1,8 @@
 -- What is left of a typed program without policies, places, points and the locks that no `when`
 -- asks for.
 use Rattle.std.specs.Prelude.{ℕ, ◌+◌, Bool, true, false, not, if◌then◌else◌, List, [], ◌∷◌, ◌++◌}
-use Rattle.std.specs.Prelude.{Option, Some, None, map, length, take, drop, slice_get, count_by, is_some}
+use Rattle.std.specs.Prelude.{Option, Some, None, map, length, take, drop, slice_get, count_by}
+use Rattle.std.specs.Prelude.{is_some}
 use Rattle.par_typed.specs.declared.table.ChannelInfo.{ChannelInfo}
 use Rattle.par_typed.specs.declared.table.ClassInfo.{ClassInfo}
 use Rattle.par_typed.specs.declared.table.FieldInfo.{FieldInfo}

@@ -5,7 +5,8 @@ ghost use Rattle.par_typed.specs.Shown.{bodies};
 ghost use Rattle.par_erase.specs.Shown.{does, method_info, class_info, own_bodies};
 ghost use Rattle.par_erase.specs.Shown.{class_bodies, table_of, bodies_of};
 ghost use Rattle.par_erase.specs.Erased.{inputs_in, inputs_among, erased_method, erased_class};
-ghost use Rattle.par_erase.specs.Erased.{erased_table, erased_bodies, first_body, handed, classes_bodies};
+ghost use Rattle.par_erase.specs.Erased.{erased_table, erased_bodies, first_body, handed};
+ghost use Rattle.par_erase.specs.Erased.{classes_bodies};
 
 use crate::members::{copy_types, erase_fields, erase_params, part_channels};
 use crate::program::{Plain, PlainClass, PlainMethod};

@@ -9,7 +9,9 @@ pub returns-clause-bodies : goal.returns-clause-bodies
 returns-clause-bodies c =
     let t = c.args.typed.now.table in
     let ks = c.in_ok-classes.classes in
-    let inputs = c.in_ok-classes.ensures.inputs ∙ ap (map (λ k. inputs_among k.channels)) c.as_slice.ensures in
+    let inputs =
+    c.in_ok-classes.ensures.inputs
+    ∙ ap (map (λ k. inputs_among k.channels)) c.as_slice.ensures in
     let counts : inputs_of (record { classes = ks; main = t.main }) ≡ inputs_in t =
     λ i class. same_inputs ks t.classes inputs class i in
     ap (λ w. class_bodies w 0 ks) counts ∙ c.in_ok-classes.ensures.bodies

@@ -32,7 +32,8 @@ loop-class-preserved c =
           c.loop-class-test.true c.class-item.is c.in_ok-made.ensures.info
           c.loop-class.invariant.infos;
       inputs =
-          copies_step (λ x. x.inputs) (λ x. inputs_among x.channels) found new k classes i class push
+          copies_step (λ x. x.inputs) (λ x. inputs_among x.channels) found new k classes i class
+          push
           c.loop-class-test.true c.class-item.is c.in_ok-made.ensures.inputs
           c.loop-class.invariant.inputs;
       bodies =

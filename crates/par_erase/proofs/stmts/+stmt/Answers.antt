@@ -24,5 +24,6 @@ erase_catches-loop-catch-preserved t c =
 
 pub erase_catches-returns : goal.erase_catches-returns
 erase_catches-returns t c =
-    let none = no_catches_left c.args.catches.now c.loop-catch.catch-index c.loop-catch-test.false in
+    let none =
+    no_catches_left c.args.catches.now c.loop-catch.catch-index c.loop-catch-test.false in
     grind (arith, erases)
