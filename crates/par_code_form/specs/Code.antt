@@ -25,7 +25,8 @@ use Rattle.par_typed.specs.Plain.{Catch}
 use Rattle.par_values.specs.Areas.{Name}
 use Rattle.par_values.specs.Arithmetic.{Operator}
 use Rattle.par_values.specs.Arithmetic as arithmetic
-use Rattle.par_code_form.specs.Items.{Item, Label, Op, Const, Jump, Member, ClassOp, LockOp, Handler}
+use Rattle.par_code_form.specs.Items.{Item, Label, Op, Const, Jump, Member, ClassOp, LockOp}
+use Rattle.par_code_form.specs.Items.{Handler}
 use Rattle.par_code_form.specs.Opcodes.{IFEQ, IFNE, IF_ICMPEQ, IF_ACMPEQ, IF_ACMPNE, GOTO}
 use Rattle.par_code_form.specs.Opcodes.{GETSTATIC, PUTSTATIC, GETFIELD, PUTFIELD, NEW}
 use Rattle.par_code_form.specs.Opcodes.{INVOKEVIRTUAL, INVOKESPECIAL, INVOKESTATIC}
