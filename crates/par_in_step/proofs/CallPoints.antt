@@ -48,6 +48,7 @@ use Rattle.par_two_runs.proofs.TwoRuns.{Step, step_paid}
 use Rattle.par_two_runs.proofs.CallsInStep.{step_enter}
 
 module _ (on : Watch) where
+  -- a method as the table declares it
   pub method_is : (c j : ℕ) → (declared on).method c j ≡ method_of (method_at on.table c j)
   unfolding declares
   method_is c j = go (slice_get on.table.classes c)
@@ -58,6 +59,7 @@ module _ (on : Watch) where
 
   module _ (a : Facts (lattice on)) where
     -- ---- calls
+    -- what a called method throws
     open_thrown : {p : ℕ} (fs : List (Fact (lattice on))) (from : From) (more : Rules)
         (m : Method) (ts : List DThrown)
         → Has on a p None fs (body.thrown (declared on) m from ts more)
@@ -88,6 +90,7 @@ module _ (on : Watch) where
     abbrev pub call_spot : ℕ → List ℕ → From → Spot
     call_spot p ps from = record { point = p; parts = ps; from = from }
 
+    -- a call keeps its checks
     pub calling_of : (sound : Sound on) {p : ℕ} (g : Frame) (ps : List ℕ) (from : From) (c j : ℕ)
         (k : Way on) (at : ℕ) → rules.way (lattice on) (a p).entry (map a ps) from ≡ Some k
         → Has on a p None (map a ps) (body.called (declared on) ((declared on).method c j) from)
@@ -161,6 +164,7 @@ module _ (on : Watch) where
         ≡ Some (raised on k (a q).value)) (sym (receiver_at es q))
         (ap (ways.moved (lattice on) (ways.raised (lattice on) (a q).value)) e)
 
+    -- a call of a method that is there
     pub enter_tail : (sound : Sound on) (run : Calls) → Silent on run
         → {p : ℕ} (g : Frame) (k : Way on) (c j : ℕ) → IsThere (method_at on.table c j)
         → Calling on g k (exits on a p) (a p).value ((declared on).method c j) → (vs : List MVal)
@@ -184,6 +188,7 @@ module _ (on : Watch) where
       pub calling : Calling on g (raised on y (a (mark e).point).value) (exits on a p) (a p).value
           ((declared on).method c j)
 
+    -- the null test of a receiver keeps its rules
     pub received : (sound : Sound on) (g : Frame) (y : Way on) (c j : ℕ) (e : TExp) (es : TExps)
         (p at : ℕ) → rules.way (lattice on) (a p).entry
         (map a (checks.points_past ((mark e).point ∷ []) es)) past ≡ Some y
@@ -214,6 +219,7 @@ module _ (on : Watch) where
               (body.args_tested es) c j _ at w v.1 k;
         }
 
+    -- a call on a receiver in one run
     pub receiver_tail : (sound : Sound on) (run : Calls) (silent : Silent on run) (g : Frame)
         (y : Way on) (c j : ℕ) (e : TExp) (es : TExps) (p at : ℕ) (r : MVal) (vs : List MVal)
         → IsThere (method_at on.table c j) → IsMade on r → AllMade on vs
@@ -236,6 +242,7 @@ module _ (on : Watch) where
         (tail_tested on (mark e).sure r x.throw
         (enter_tail sound run silent g _ c j is x.calling (r ∷ vs) (all_made on (r ∷ vs) (ir, mv))))
 
+    -- a call in two runs
     pub enter_step : (run run' : Calls) → InStep on run run'
         → {p : ℕ} (g : Frame) (k r : Way on) (c j : ℕ) → IsThere (method_at on.table c j)
         → Calling on g k (exits on a p) (a p).value ((declared on).method c j)

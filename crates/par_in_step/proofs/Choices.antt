@@ -38,6 +38,7 @@ use Rattle.par_in_step.proofs.QuietStas.{tail_catch}
 
 module _ (on : Watch) where
   module _ (a : Facts (lattice on)) where
+    -- one choice in both runs
     pub step_if_is : {g : Frame} {w : Way on} {x : Exits on} {R : MVal → MVal → Type 0}
         {b c b' c' : Task} (v : Bool) → (v ≡ true → Step on g w x R b b')
         → (v ≡ false → Step on g w x R c c')
@@ -45,6 +46,7 @@ module _ (on : Watch) where
     step_if_is true p q = p refl
     step_if_is false p q = q refl
 
+    -- a lock that is asked for has its policy
     lock_number : (l p : ℕ) → lock_written (slice_get on.table.locks l) ≡ Some p
         → (declared on).lock l ≡ p
     unfolding declares
@@ -79,6 +81,7 @@ module _ (on : Watch) where
         (over_raised on ((lattice on).given ((declared on).lock l)) un tr))
         (cases_Bool ((lattice on).given ((declared on).lock l)))
 
+    -- what follows a block with catches, in one run
     pub tail_handled : (sound : Sound on) (run : Calls) (silent : Silent on run) (m : ℕ) {p : ℕ}
         {from : Option (Way on)} (cs : TCatches) (s : TSta) (g : Frame)
         → Stretch on a p s (Catches (body.caught cs)) from
@@ -102,6 +105,7 @@ module _ (on : Watch) where
         (λ c v u e j. tail_catch on a sound run silent m cs s c g v zero refl e (sharp c)
         (λ z. t.leaves (Thrown c) v z e) h k)
 
+    -- and in two
     pub step_handled : (run run' : Calls) (m m' : ℕ) {p : ℕ} {from : Option (Way on)} {g : Frame}
         (cs : TCatches) (s : TSta) → Stretch on a p s (Catches (body.caught cs)) from
         → ((c : ℕ) (z : Way on) → exits on a (point s) (Thrown c) ≡ Some z

@@ -21,6 +21,7 @@ use Rattle.par_bodies.specs.Proper.{StaIsProper, AllAreProper, CatchesAreProper}
 pub record IsJump (k : Kind) : Type 0 where
   pub normal : kind.same kind.Normal k ≡ false
   pub returned : kind.same kind.Return k ≡ false
+  -- what a method throws
   pub thrown : (class : ℕ) → kind.same (kind.Throw class) k ≡ false
   pub not_normal : kind.normal k ≡ false
   pub looped : kind.of_loop k ≡ true
@@ -51,6 +52,7 @@ false_and : (b c : Bool) → b ≡ false → (b && c) ≡ false
 false_and true c e = absurd cc
 false_and false c e = refl
 
+-- one of two that do not hold
 neither : (b c : Bool) → b ≡ false → c ≡ false → (b || c) ≡ false
 neither true c e f = absurd cc
 neither false c e f = f
@@ -65,6 +67,7 @@ module _ (k : Kind) (j : IsJump k) where
   abbrev Cannot : Node → Type 0
   Cannot n = can n k ≡ false
 
+  -- a node under such rules
   cannot : (p : ℕ) (rules : Rules) → Never rules → Cannot (node p rules)
   unfolding can
   cannot p rules h = h.at []
@@ -73,6 +76,7 @@ module _ (k : Kind) (j : IsJump k) where
   unfolding can_by
   done = record { at = λ fs. refl }
 
+  -- a part that cannot complete so
   part : (from : From) (absorber : Absorber) (n : Node) (more : Rules) → Cannot n → Never more
       → Never (Part from absorber n more)
   unfolding can_by
@@ -109,21 +113,25 @@ module _ (k : Kind) (j : IsJump k) where
   on : (from : From) (more : Rules) → Never more → Never (goes_on from more)
   on from more h = leaves from kind.Normal more j.normal h
 
+  -- a null test
   unless_throws : (b : Bool) (from : From) (class : ℕ) (more : Rules) → Never more
       → Never (if_not b (Leaves from (kind.Throw class)) more)
   unless_throws true from class more h = h
   unless_throws false from class more h = leaves from (kind.Throw class) more (j.thrown class) h
 
+  -- the way behind a loop
   unless_on : (b : Bool) (from : From) (more : Rules) → Never more
       → Never (if_not b (goes_on from) more)
   unless_on true from more h = h
   unless_on false from more h = on from more h
 
+  -- a division
   divides : (op : BinOp) (e : TExp) (more : Rules) → Never more → Never (body.divides op e more)
   divides Div e more h = unless_throws (body.is_sure e) body.tested kind.ARITHMETIC more h
   divides Rem e more h = unless_throws (body.is_sure e) body.tested kind.ARITHMETIC more h
   divides _ e more h = h
 
+  -- the second operand of `&&` and `||`
   skips : (op : BinOp) (more : Rules) → Never more → Never (body.skips op more)
   skips And more h = on _ more h
   skips Or more h = on _ more h
@@ -136,12 +144,14 @@ module _ (k : Kind) (j : IsJump k) where
     thrown m from (t ∷ ts) more h =
         leaves _ (kind.Throw t.class) _ (j.thrown t.class) (thrown m from ts more h)
 
+    -- a call
     called : (m : Method) (from : From) → Never (body.called d m from)
     called m from = thrown m from m.throws _ (on _ _ (worths _ Done done))
 
     mutual
       unfolding exp
 
+      -- an expression
       exp_cannot : (e : TExp) → Cannot (exp d e)
       exp_cannot (plain.Int n m) = cannot _ _ (on _ Done done)
       exp_cannot (plain.Boolean b m) = cannot _ _ (on _ Done done)
@@ -176,6 +186,7 @@ module _ (k : Kind) (j : IsJump k) where
           (part _ Next (exp d y) _ (exp_cannot y)
           (divides op y _ (skips op _ (on _ _ (worths _ _ (worths _ Done done)))))))
 
+      -- arguments
       args_never : (from : From) (es : TExps) (more : Rules) → Never more
           → Never (args d from es more)
       args_never from plain.NoExps more h = h
@@ -237,6 +248,7 @@ module _ (k : Kind) (j : IsJump k) where
             (part _ Next (sta d b) _ (sta_cannot set b h.1)
             (on _ _ (part _ Next (sta d t) _ (sta_cannot set t h.2) (on _ Done done))))
 
+        -- statements, one after the other
         stas_never : (from : From) (reached : Bool) (set : List ℕ) (ss : TStas)
             → AllAreProper s false reached set ss → Never (stas d from ss)
         stas_never from reached set plain.End h = on _ Done done
@@ -244,6 +256,7 @@ module _ (k : Kind) (j : IsJump k) where
             part _ Next (sta d b) _ (sta_cannot set b h.1)
             (stas_never _ (completes b) (behind set b) bs h.2)
 
+        -- catches, behind as many others
         catches_never : (n : Node) (cs : TCatches) (before : ℕ) (set : List ℕ)
             → CatchesAreProper s false set cs → Never (catches d n cs before)
         catches_never n plain.NoCatch before set h = done

@@ -25,6 +25,7 @@ use Rattle.par_two_runs.proofs.Calls.{Ends}
 module _ (on : Watch) where
   module _ (a : Facts (lattice on)) where
     -- ---- the exits of a method, from its checks
+    -- what is thrown has a declared policy that is above its context
     thrown_kept : (c p at : ℕ) (z : Way on) (ts : List DThrown)
         → AllKept on a (checks.throws_checks at p ts) → (a p).exit (kind.Throw c) ≡ Some z
         → IsTrue (checks.is_thrown ts c)
@@ -42,6 +43,7 @@ module _ (on : Watch) where
         )) (λ i. let r = thrown_kept c p at z ts k.1 e i in (r.0, later_of t ts c r.0 r.1, r.2))
         (or_cases (nat_eq t.class c) (checks.is_thrown ts c) h)
 
+    -- no other class is thrown
     undeclared_kept : (c p at : ℕ) (z : Way on) (cs : List ℕ)
         → AllKept on a (checks.undeclared_checks at p cs) → (a p).exit (kind.Throw c) ≡ Some z
         → IsTrue (has cs c) → ⊥
@@ -60,6 +62,7 @@ module _ (on : Watch) where
         go true e = refl
         go false e = absurd cc
 
+    -- the exits of a method keep what calls ask of them
     pub ends_of : (m : Method) (at p : ℕ)
         → ((c : ℕ) → nat_lt c (length on.table.classes) ≡ true
         → checks.is_thrown m.throws c ≡ false

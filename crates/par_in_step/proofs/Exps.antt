@@ -61,6 +61,7 @@ module _ (on : Watch) where
       mutual
         unfolding exp mark eval rules.way rules.worth checks.exp_checks ExpNames ExpMakes Aligned
 
+        -- an expression
         pub step_exp : (e : TExp) (g : Frame) (w : Way on) → (a (mark e).point).entry ≡ Some w
             → Obey on a (exp (declared on) e) → Good on a g e
             → Step on g w (exits on a (mark e).point) (Values (a (mark e).point).value)
@@ -336,6 +337,7 @@ module _ (on : Watch) where
             let z = second_is on a op (mark x).point n (a m.point).entry e' in
             tail_higher on z.higher (tail run' silent' u n iu e' z)))
 
+        -- arguments, one after the other
         pub step_args : {p : ℕ} (V : Bool) (es : TExps) (from : From) (ps : List ℕ) (more : Rules)
             (params : List ℕ) (g : Frame) (z r : Way on) → Restores on r (exits on a p)
             → rules.way (lattice on) (a p).entry (map a ps) from ≡ Some z

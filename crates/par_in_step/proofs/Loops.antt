@@ -44,6 +44,7 @@ module _ (on : Watch) where
       pub m : Mark
       pub is : e ≡ plain.Boolean true m
 
+    -- the test of a loop that is left by a break alone
     pub yes_of : (e : TExp) → body.is_forever e ≡ true → IsYes e
     yes_of (plain.Boolean true m) e = record { m = m; is = refl }
     yes_of (plain.Boolean false m) e = absurd cc
@@ -79,6 +80,7 @@ module _ (on : Watch) where
         let w = yes_behind m q ob in
         tail_higher on w.2 (tail_given on a (truth true) next (h w.0 w.1))
 
+    -- that test in one run
     yes_tail : (run : Calls) (y : TExp) (l : IsYes y) {g : Frame} {z : Way on} {x : Exits on}
         (q : FlowsTo on z (a (mark y).point).entry) → Obey on a (exp (declared on) y)
         → (next : MVal → Task) →
@@ -104,6 +106,7 @@ module _ (on : Watch) where
         let w = yes_behind m q ob in
         step_body on w.2.lands (step_given on a (truth true) (truth true) next next' (h w.0 w.1))
 
+    -- and in two
     pub yes_step : (run run' : Calls) (y : TExp) (l : IsYes y) {g : Frame} {z : Way on}
         {x : Exits on} {R : MVal → MVal → Type 0} (q : FlowsTo on z (a (mark y).point).entry)
         → Obey on a (exp (declared on) y) → (next next' : MVal → Task)
@@ -148,6 +151,7 @@ module _ (on : Watch) where
         (rules.Heads past
         (rules.Heads (After 0 kind.Continue) (rules.goes_on (After 0 kind.Break) rules.Done)))
 
+    -- the rules of a loop
     pub looping : {p : ℕ} (e : TExp) (s : TSta)
         → Has on a p None []
         (rules.Test (exp (declared on) e)
@@ -193,6 +197,7 @@ module _ (on : Watch) where
           (λ c v u i j. tail_other on (Thrown c) u (thrown c)
           (lp.block.leaves (Thrown c) v refl i))
 
+      -- the block of a loop
       block_tail : {g : Frame} {n : Way on} (again blk : Task)
           → ((h : Way on) → (a (mark e).point).entry ≡ Some h → Tail on g h (exits on a p) again)
           → ((y : Way on) → (a (point s)).entry ≡ Some y → Blocked on g y
@@ -205,6 +210,7 @@ module _ (on : Watch) where
           tail_higher on q.higher
           (tail_through on (looped again) (λ b. hs q.way q.there b) (block_each again ih))
 
+      -- a turn of a loop
       pub turn_tail : {g : Frame} {n : Way on} (again blk : Task)
           → ((h : Way on) → (a (mark e).point).entry ≡ Some h → Tail on g h (exits on a p) again)
           → ((y : Way on) → (a (point s)).entry ≡ Some y → Blocked on g y
@@ -217,6 +223,7 @@ module _ (on : Watch) where
           (λ f. tail_normal on nothing tt
           (raised_lands on (a (mark e).point).value (lands_is on n _ _ i (lp.over (ends f)))))
 
+    -- a loop, by the turns that are left
     pub loop_tail : (sound : Sound on) (run : Calls) (silent : Silent on run) {p : ℕ} (e : TExp)
         (s : TSta) (lp : Looping p e s) {g : Frame} (blk : Task) → Good on a g e
         → ((y : Way on) → (a (point s)).entry ≡ Some y → Blocked on g y

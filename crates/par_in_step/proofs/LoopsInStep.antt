@@ -74,6 +74,7 @@ module _ (on : Watch) where
           step_body on q.higher.lands (ih q.way q.there)) (block_other again again' ih)
           (block_over again tl) (block_over again' tr))
 
+    -- a loop, by the turns that are left in both runs
     pub loop_step : (sound : Sound on) (run run' : Calls) (silent : Silent on run)
         (silent' : Silent on run') (paired : InStep on run run') {p : ℕ} (e : TExp) (s : TSta)
         (lp : Looping on a p e s) {g : Frame} {w : Way on} (blk blk' : Task)

@@ -92,6 +92,7 @@ module _ (on : Watch) where
     }
     second_is _ q n o e = record { way = n; is = e; higher = flows_here on; logic = λ i. absurd cc }
 
+    -- the way where the first part decides
     skip_is : {p : ℕ} {head : Option ℕ} {x y : ℕ} (more : Rules) (op : BinOp) (u : MVal)
         → decides op u ≡ true → Has on a p head (a y ∷ a x ∷ []) (body.skips op more)
         → MayLand (lattice on) ((a x).exit kind.Normal) ((a p).exit kind.Normal)
@@ -106,6 +107,7 @@ module _ (on : Watch) where
     skip_more more Or h = (open_leaves on a h).1
     skip_more more _ h = h
 
+    -- the way where a division throws
     divide_is : {p : ℕ} {head : Option ℕ} {fs : List (Fact (lattice on))} (more : Rules)
         (op : BinOp) (y : TExp) (v : MVal) → throws op v ≡ true → body.is_sure y ≡ false
         → Has on a p head fs (body.divides op y more)
@@ -124,6 +126,7 @@ module _ (on : Watch) where
     divide_more more Rem y h = (open_if_not on a body.tested (kind.Throw 0) (body.is_sure y) h).1
     divide_more more _ y h = h
 
+    -- no operator makes an object
     applied_made : (op : BinOp) (u v : MVal) → IsMade on v → IsMade on (applied op u v)
     applied_made Or u v i = i
     applied_made And u v i = i
@@ -186,6 +189,7 @@ module _ (on : Watch) where
         (λ e. tail_other on (Thrown ARITHMETIC) nothing (thrown ARITHMETIC) (t e))
         (λ e. tail_normal on (applied op u v) (applied_made op u v i) (raised_lands on V q))
 
+    -- the same in two runs
     operates_step : {g : Frame} {n w : Way on} {x : Exits on} (Va V Vp : Bool) (op : BinOp)
         (u u' v v' : MVal) → Restores on w x → IsMade on v → IsMade on v' → Values Va u u'
         → Values V v v' → (IsTrue Vp → IsTrue Va) → (IsTrue Vp → IsTrue V)
@@ -227,6 +231,7 @@ module _ (on : Watch) where
           (λ n. q.at w s t f n ys b op r h);
     }
 
+    -- the same in two runs
     pub step_given : {g : Frame} {w : Way on} {x : Exits on} {R : MVal → MVal → Type 0}
         (v v' : MVal) (next next' : MVal → Task) → Step on g w x R (next v) (next' v')
         → Step on g w x R (and_then (paid (gives v)) next) (and_then (paid (gives v')) next')
@@ -278,6 +283,7 @@ module _ (on : Watch) where
         let w = literal_behind n m q ob in
         tail_higher on w.2 (tail_given (value.Int n) next (h w.0 w.1))
 
+    -- a literal divisor in one run
     literal_tail : (run : Calls) (y : TExp) (l : IsLiteral y) {g : Frame} {z : Way on}
         {x : Exits on} (q : FlowsTo on z (a (mark y).point).entry)
         → Obey on a (exp (declared on) y) → (next : MVal → Task)
@@ -305,6 +311,7 @@ module _ (on : Watch) where
         let w = literal_behind n m q ob in
         step_body on w.2.lands (step_given (value.Int n) (value.Int n) next next' (h w.0 w.1))
 
+    -- and in two
     literal_step : (run run' : Calls) (y : TExp) (l : IsLiteral y) {g : Frame} {z : Way on}
         {x : Exits on} {R : MVal → MVal → Type 0} (q : FlowsTo on z (a (mark y).point).entry)
         → Obey on a (exp (declared on) y) → (next next' : MVal → Task)
@@ -321,6 +328,7 @@ module _ (on : Watch) where
         (and_then (eval on.table run' y) next')) (sym l.is)
         (λ q ob next next' h. literal_step_at run run' l.n l.m q ob next next' h)
 
+    -- the rules of an operator behind its first part
     pub record Pairwise (sound : Sound on) (p : ℕ) (op : BinOp) (x y : TExp) : Type 0 where
       pub sub : Piece on a p y
           (rules.way (lattice on) (a p).entry (a (mark x).point ∷ []) (body.second op))
@@ -337,6 +345,7 @@ module _ (on : Watch) where
         (flows_is on _ _ _ (raised_is on a (mark y).point n e)
         (divide_is (body.skips op binary_end) op y v t f h.rest))
 
+    -- an operator is over
     binary_lands : (sound : Sound on) {p : ℕ} (op : BinOp) (x y : TExp) → Pairwise sound p op x y
         → (n : Way on) → (a (mark y).point).exit kind.Normal ≡ Some n
         → BodyFlowsTo on n (exits on a p Normal)
@@ -346,6 +355,7 @@ module _ (on : Watch) where
         (open_leaves on a
         (skip_more binary_end op (divide_more (body.skips op binary_end) op y h.rest))).0
 
+    -- its value is above those of its parts
     binary_worths : (sound : Sound on) {p : ℕ} (op : BinOp) (x y : TExp) → Pairwise sound p op x y
         → IsTrue (a p).value → IsTrue (a (mark x).point).value × IsTrue (a (mark y).point).value
     unfolding rules.worth
@@ -356,6 +366,7 @@ module _ (on : Watch) where
         let u = open_worths on a w.1 in
         (w.0 v, u.0 v)
 
+    -- the second part of an operator in one run
     binary_tail : (sound : Sound on) (run : Calls) {p : ℕ} (op : BinOp) (x y : TExp)
         (h : Pairwise sound p op x y) {g : Frame} {z : Way on}
         (q : FlowsTo on z (a (mark y).point).entry) (u : MVal)
@@ -373,6 +384,7 @@ module _ (on : Watch) where
         (operates_tail (a (mark y).point).value op u v iv (binary_flow sound op x y h v n i e)
         (binary_lands sound op x y h n i)))) (cases_Bool (body.is_sure y))
 
+    -- and in two
     pub binary_step : (sound : Sound on) (run run' : Calls) {p : ℕ} (op : BinOp) (x y : TExp)
         (h : Pairwise sound p op x y) {g : Frame} {z w : Way on}
         (q : FlowsTo on z (a (mark y).point).entry) (u u' : MVal) → Restores on w (exits on a p)
@@ -426,6 +438,7 @@ module _ (on : Watch) where
         (lands_is on n _ _ e (skip_is binary_end op u f dv)))))
         (λ f. binary_tail sound run op x y h q u (λ b. ih q.way q.there b))
 
+    -- the same in two runs
     pub second_step : (sound : Sound on) (run run' : Calls) {p : ℕ} (op : BinOp) (x y : TExp)
         (h : Pairwise sound p op x y) {g : Frame} {n w : Way on} (u u' : MVal) → IsMade on u
         → IsMade on u' → (a (mark x).point).exit kind.Normal ≡ Some n

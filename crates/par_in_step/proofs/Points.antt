@@ -32,6 +32,7 @@ use Rattle.par_two_runs.proofs.States.{kind_of, lattice, raised, ranged, returne
 module _ (on : Watch) where
   module _ (a : Facts (lattice on)) where
     -- ---- facts at points
+    -- an exit by a class of the table is one
     pub unranged : (k : Exit) (x : Option (Way on)) (v : Way on) → ranged on k x ≡ Some v
         → x ≡ Some v
     unranged Normal x v e = e
@@ -44,6 +45,7 @@ module _ (on : Watch) where
         go true e = e
         go false e = absurd cc
 
+    -- the class is the same
     range_same : (k : Exit) (x y : Option (Way on)) (v w : Way on) → ranged on k x ≡ Some v
         → y ≡ Some w → ranged on k y ≡ Some w
     range_same Normal x y v w e h = h
@@ -56,12 +58,14 @@ module _ (on : Watch) where
         go true e = h
         go false e = absurd cc
 
+    -- a completion that is not normal
     pub other_kind : (k : Exit) → Other k → kind.normal (kind_of k) ≡ false
     other_kind _ broken = refl
     other_kind _ continued = refl
     other_kind _ returned = refl
     other_kind _ (thrown c) = refl
 
+    -- a form goes back to a context that is no more visible than those of its other exits
     pub restores_of : (p : ℕ) (w : Way on) → (a p).entry ≡ Some w
         → rules.Restores (lattice on) a p → Restores on w (exits on a p)
     restores_of p w e h = record {
@@ -92,6 +96,7 @@ module _ (on : Watch) where
       higher = f.higher;
     }
 
+    -- what a part hands on is among the exits of the form
     pub passes : (absorbs : Kind → Bool) (q p : ℕ) → rules.Passes (lattice on) a absorbs q p
         → (k : Exit) (v : Way on) → absorbs (kind_of k) ≡ false → exits on a q k ≡ Some v
         → FlowsTo on v (exits on a p k)
@@ -102,6 +107,7 @@ module _ (on : Watch) where
         → Leaves on (exits on a q) (exits on a p)
     leaves_next q p h k v j i = passes kind.normal q p h k v (other_kind k j) i
 
+    -- a node stands at the point of its expression
     pub spot_exp : (e : TExp) → rules.spot (exp (declared on) e) ≡ (mark e).point
     unfolding exp mark
     spot_exp (plain.Int n m) = refl
@@ -120,20 +126,24 @@ module _ (on : Watch) where
     spot_exp (plain.Not e m) = refl
     spot_exp (plain.Binary op x y m) = refl
 
+    -- facts that obey the rules of a node, with possible exits alone
     pub record Obey (n : Node) : Type 0 where
       pub it : rules.Obeys (lattice on) a n
       pub possible : HasPossibleExits (lattice on) a n
 
+    -- facts that obey these rules of it
     pub record Has (p : ℕ) (head : Option ℕ) (fs : List (Fact (lattice on))) (rs : Rules) : Type 0
       where
         pub all : rules.ObeysAll (lattice on) a p head fs rs
         pub possible : HavePossibleExits (lattice on) a rs
 
+    -- the rules of a node
     pub open_node : {p : ℕ} {rs : Rules} → Obey (node p rs)
         → rules.Restores (lattice on) a p × Has p None [] rs
     unfolding rules.Obeys HasPossibleExits
     open_node h = let i = h.it in let j = h.possible in (i.0, record { all = i.1; possible = j.1 })
 
+    -- a rule on an exit
     pub open_leaves : {p : ℕ} {head : Option ℕ} {fs : List (Fact (lattice on))} {from : From}
         {k : Kind} {more : Rules} → Has p head fs (rules.Leaves from k more)
         → rules.MayLeave (lattice on) k (rules.way (lattice on) (a p).entry fs from)
@@ -141,6 +151,7 @@ module _ (on : Watch) where
     unfolding rules.ObeysAll HasPossibleExits
     open_leaves h = let i = h.all in (i.0, record { all = i.1; possible = h.possible })
 
+    -- a rule on the value
     pub open_worths : {p : ℕ} {head : Option ℕ} {fs : List (Fact (lattice on))} {v : rules.Worth}
         {more : Rules} → Has p head fs (rules.Worths v more)
         → (IsTrue (a p).value → IsTrue (rules.worth (lattice on) (a p).entry fs v)) × Has p head
@@ -148,6 +159,7 @@ module _ (on : Watch) where
     unfolding rules.ObeysAll HasPossibleExits
     open_worths h = let i = h.all in (i.0, record { all = i.1; possible = h.possible })
 
+    -- a rule that may not be there
     pub open_if_not : {p : ℕ} {head : Option ℕ} {fs : List (Fact (lattice on))} {more : Rules}
         (from : From) (k : Kind) (b : Bool) → Has p head fs (if_not b (rules.Leaves from k) more)
         → (b ≡ false → rules.MayLeave (lattice on) k (rules.way (lattice on) (a p).entry fs from)
@@ -203,6 +215,7 @@ module _ (on : Watch) where
     Demand rule w (ask.Among locks those) = IsWithin locks those
     Demand rule w ask.Never = ⊥
 
+    -- a check that the facts keep for the observer
     abbrev pub Kept : Check → Type 0
     Kept c =
         rules.Holds (lattice on)
@@ -213,10 +226,12 @@ module _ (on : Watch) where
     AllKept [] = Unit {0}
     AllKept (c ∷ cs) = Kept c × AllKept cs
 
+    -- checks of two lists
     pub kept_app : (cs ds : List Check) → AllKept (cs ++ ds) → AllKept cs × AllKept ds
     kept_app [] ds h = (tt, h)
     kept_app (c ∷ cs) ds h = let r = kept_app cs ds h.1 in ((h.0, r.0), r.1)
 
+    -- a check at a spot that is reached
     pub holds_is : (x : Option (Way on)) (w : Way on) (C : Way on → Type 0) → x ≡ Some w
         → rules.Holds (lattice on) x C → C w
     holds_is x w C e h = subst (λ x. rules.Holds (lattice on) x C) e h
@@ -227,6 +242,7 @@ module _ (on : Watch) where
         AllKept (checks.exp_checks on.table g.own e) × ExpNames on.table e
         × ExpMakes on.table g.own.is_static e
 
+    -- what learns of a write, where the form is entered
     pub writes_at : (g : Frame) (p to : ℕ) (w : Way on) (rule rule' at : ℕ) → (a p).entry ≡ Some w
         → AllKept
         (checks.ask rule at (checks.entry_of p) (ask.Context to)
@@ -238,11 +254,13 @@ module _ (on : Watch) where
       effect = holds_is (a p).entry w (λ w. Sees on to → Sees on g.own.effect) e h.1.0;
     }
 
+    -- a way with the value of a part in its context
     pub raised_is : (q : ℕ) (n : Way on) → (a q).exit kind.Normal ≡ Some n
         → ways.moved (lattice on) (ways.raised (lattice on) (a q).value) ((a q).exit kind.Normal)
         ≡ Some (raised on n (a q).value)
     raised_is q n e = ap (ways.moved (lattice on) (ways.raised (lattice on) (a q).value)) e
 
+    -- an exception whose class is one of the table
     pub throws_there : (c : ℕ) (v : Way on) (y : Option (Way on))
         → nat_lt c (length on.table.classes) ≡ true → FlowsTo on v y
         → FlowsTo on v (if nat_lt c (length on.table.classes) then y else None)

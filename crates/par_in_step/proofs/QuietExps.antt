@@ -50,6 +50,7 @@ module _ (on : Watch) where
       mutual
         unfolding exp mark eval rules.way rules.worth checks.exp_checks ExpNames ExpMakes
 
+        -- an expression
         pub hush_exp : (e : TExp) (g : Frame) (w : Way on) → Blocked on g w
             → (a (mark e).point).entry ≡ Some w → Obey on a (exp (declared on) e) → Good on a g e
             → Hush on g w (exits on a (mark e).point) (eval on.table run e)

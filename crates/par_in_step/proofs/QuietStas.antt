@@ -75,6 +75,7 @@ module _ (on : Watch) where
         unfolding sta point go go_else go_all go_catch rules.way rules.worth checks.sta_checks
             StaNames StaMakes StaUses ExpNames ExpMakes
 
+        -- a statement
         pub hush_sta : (s : TSta) (g : Frame) (w : Way on) → Blocked on g w
             → (a (point s)).entry ≡ Some w → Obey on a (sta (declared on) s) → GoodSta on a g s
             → Hush on g w (exits on a (point s)) (go on.table run m s)
@@ -336,6 +337,7 @@ module _ (on : Watch) where
             (λ b. hush_sta t g q'.way b q'.there (u'.0.obeys q'.way q'.there)
             (ks.1, k.1.1, k.2.1, k.3.2))))))
 
+        -- statements, one after the other
         pub tail_all : {p : ℕ} {fs : List (Fact (lattice on))} (from : From) (ss : TStas)
             (g : Frame) (z : Way on) → rules.way (lattice on) (a p).entry fs from ≡ Some z
             → Has on a p None fs (body.stas (declared on) from ss)

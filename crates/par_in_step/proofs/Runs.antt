@@ -59,6 +59,7 @@ module _ (on : Watch) where
     -- from the checks 303, 501 and 502, and since break and continue stand in loops
     pub ends : Ends on ((declared on).method c k) (exits on facts (point s))
 
+  -- the body of a method
   pub record Known (ts : List Body) (c k : ℕ) : Type 0 where
     pub body : TSta
     pub is : body_of ts c k ≡ Some body
@@ -66,6 +67,7 @@ module _ (on : Watch) where
 
   module _ (sound : Sound on) (ts : List Body)
       (known : (c k : ℕ) → IsThere (method_at on.table c k) → Known ts c k) where
+    -- a method without a depth left has no exits
     no_ends : (m : Method) → Ends on m (λ k. None)
     no_ends m = record {
       opens = λ z e. absurd cc;

@@ -42,6 +42,7 @@ use Rattle.par_two_runs.proofs.Locks.{Learns}
 module _ (on : Watch) where
   module _ (a : Facts (lattice on)) where
     -- ---- statements
+    -- a node stands at the point of its statement
     spot_sta : (s : TSta) → rules.spot (sta (declared on) s) ≡ point s
     unfolding sta point
     spot_sta (plain.Block ss at p) = refl
@@ -71,6 +72,7 @@ module _ (on : Watch) where
         pub leaves : (k : Exit) (v : Way on) → kind.absorbed absorber (kind_of k) ≡ false
             → exits on a (point s) k ≡ Some v → FlowsTo on v (exits on a p k)
 
+    -- the rules of a part
     pub part_sta : {p : ℕ} {head : Option ℕ} {fs : List (Fact (lattice on))} {from : From}
         {absorber : Absorber} {more : Rules} (s : TSta)
         → Has on a p head fs (rules.Part from absorber (sta (declared on) s) more)
@@ -99,6 +101,7 @@ module _ (on : Watch) where
           record { all = k.3; possible = h.possible.1 },
         )
 
+    -- possible exits of a node
     at_spot : (n : Node) → HasPossibleExits (lattice on) a n → (k : Kind) → can n k ≡ false
         → (a (rules.spot n)).exit k ≡ None
     unfolding HasPossibleExits
@@ -111,15 +114,18 @@ module _ (on : Watch) where
         subst (λ p. (a p).exit k ≡ None) (spot_sta s)
         (at_spot (sta (declared on) s) ob.possible k e)
 
+    -- what a part hands on
     pub next_leaves : {p : ℕ} {s : TSta} {from : Option (Way on)} → Stretch p s Next from
         → Leaves on (exits on a (point s)) (exits on a p)
     next_leaves h k v j i = h.leaves k v (other_kind on a k j) i
 
+    -- and where the part is the last
     pub merges_of : {p : ℕ} {s : TSta} {from : Option (Way on)} → Stretch p s Next from
         → MayLand (lattice on) ((a (point s)).exit kind.Normal) ((a p).exit kind.Normal)
         → Merges on (exits on a (point s)) (exits on a p)
     merges_of h l = record { normal = λ v e. lands_is on v _ _ e l; leaves = next_leaves h }
 
+    -- the test of a loop
     pub open_test : {p : ℕ} {head : Option ℕ} {fs : List (Fact (lattice on))} {more : Rules}
         (e : TExp) → Has on a p head fs (rules.Test (exp (declared on) e) more)
         → ((y : Way on) → (a (mark e).point).entry ≡ Some y → Obey on a (exp (declared on) e))
@@ -143,6 +149,7 @@ module _ (on : Watch) where
           record { all = k.2; possible = h.possible.1 },
         )
 
+    -- the way back to the head of a loop
     pub open_heads : {p : ℕ} {q : ℕ} {fs : List (Fact (lattice on))} {from : From} {more : Rules}
         → Has on a p (Some q) fs (rules.Heads from more)
         → MayFlow (lattice on) (rules.way (lattice on) (a p).entry fs from) (a q).entry × Has on a
@@ -156,6 +163,7 @@ module _ (on : Watch) where
         AllKept on a (checks.sta_checks on.table g.own s) × StaNames on.table s
         × StaMakes on.table g.own.is_static s × StaReady on.table g.own.is_static s
 
+    -- who learns of a lock that is opened or closed
     pub learns_of : (g : Frame) (w : Way on) (l p at : ℕ) (x : Option ℕ)
         → x ≡ lock_written (slice_get on.table.locks l) → (a p).entry ≡ Some w
         → AllKept on a (checks.locked on.table g.own x at p) → Learns on g w l
@@ -165,6 +173,7 @@ module _ (on : Watch) where
         let same : n ≡ q = cc in
         subst (λ q. Writes on g w q) same (writes_at on a g p n w 411 411 at i h)
 
+    -- a class that is thrown is one of the table
     pub throw_ranged : (c : ℕ) → IsException (slice_get on.table.classes c)
         → nat_lt c (length on.table.classes) ≡ true
     throw_ranged c h = in_list on.table.classes c h
@@ -183,6 +192,7 @@ module _ (on : Watch) where
     abbrev catches_from : TSta → ℕ → ℕ → From
     catches_from s c before = body.caught_from (declared on) (sta (declared on) s) c before
 
+    -- a throw reaches the catch of its class
     pub handler_flows : {p : ℕ} {t : TSta} (fs : List (Fact (lattice on))) (s : TSta) (c c' : ℕ)
         (v : Way on) (before : ℕ) → rules.part_at (lattice on) fs before ≡ a (point s)
         → exits on a (point s) (Thrown c) ≡ Some v
@@ -234,6 +244,7 @@ module _ (on : Watch) where
       pub context : IsTrue way.context → IsTrue (a (mark y).point).value
           → IsTrue (j.context && (a (mark y).point).value)
 
+    -- the way at a write to a field of an object
     pub written_way : (p : ℕ) (y e : TExp) (j : Way on)
         → (a (mark e).point).exit kind.Normal ≡ Some j → Written p y e j
     unfolding rules.way
@@ -263,6 +274,7 @@ module _ (on : Watch) where
           context = λ u v. u;
         }
 
+    -- what learns of that write
     pub field_writes : (g : Frame) (p : ℕ) (y e : TExp) (c f at : ℕ) (j : Way on)
         → (a (mark e).point).exit kind.Normal ≡ Some j → AllKept on a (field_asks g p y e c f at)
         → Writes on g (raised on j (a (mark y).point).value) ((declared on).field c f)

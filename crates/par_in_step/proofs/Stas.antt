@@ -68,6 +68,7 @@ module _ (on : Watch) where
   module _ (a : Facts (lattice on)) where
     module _ (sound : Sound on) (run run' : Calls) (silent : Silent on run)
         (silent' : Silent on run') (paired : InStep on run run') (m m' : ℕ) where
+      -- an expression whose value goes on to next
       step_next : {p : ℕ} {g : Frame} {z r : Way on} {from : Option (Way on)} (e : TExp)
           → Piece on a p e from → Good on a g e → from ≡ Some z → (next next' : MVal → Task)
           → Restores on r (exits on a p) →
@@ -105,6 +106,7 @@ module _ (on : Watch) where
         unfolding sta point go go_else go_all go_catch rules.way rules.worth checks.sta_checks
             StaNames StaMakes StaUses ExpNames ExpMakes
 
+        -- a statement
         pub step_sta : (s : TSta) (g : Frame) (w : Way on) → (a (point s)).entry ≡ Some w
             → Obey on a (sta (declared on) s) → GoodSta on a g s
             → Step on g w (exits on a (point s)) Any (go on.table run m s) (go on.table run' m' s)
@@ -445,6 +447,7 @@ module _ (on : Watch) where
             (step_branch on q' (merges_of on a u'.0 l2.0) rs
             (step_sta t g q'.way q'.there (u'.0.obeys q'.way q'.there) good')))
 
+        -- statements, one after the other
         pub step_all : {p : ℕ} {fs : List (Fact (lattice on))} (from : From) (ss : TStas)
             (g : Frame) (z r : Way on) → Restores on r (exits on a p)
             → rules.way (lattice on) (a p).entry fs from ≡ Some z
@@ -469,6 +472,7 @@ module _ (on : Watch) where
             (λ v n iv e. tail_all on a sound run' silent' m' past ss g n e t.1
             (ks.1, k.1.1, k.2.1, k.3.1))
 
+        -- a caught class, behind as many other catches
         pub step_catch : {p : ℕ} {fs : List (Fact (lattice on))} (cs : TCatches) (s : TSta)
             (c : ℕ) (g : Frame) (v r : Way on) (before : ℕ) → Restores on r (exits on a p)
             → rules.part_at (lattice on) fs before ≡ a (point s)

@@ -44,18 +44,21 @@ first_main (x ∷ xs) m e = by_name (bytes_eq x.name (codes "main")) e (λ h. fi
     by_name true e h = let is : x ≡ m = cc in ap Some is
     by_name false e h = h e
 
+-- in its class
 main_found : (o : Option ClassInfo) (m : MethodInfo) → mains (methods_in o) ≡ m ∷ []
     → slice_get (methods_in o) (main_in o) ≡ Some m
 main_found None m e = absurd cc
 main_found (Some class) m e = first_main class.methods m e
 
 module _ (on : Watch) (main : HasMain on.table) where
+  -- the method `main` is there
   main_is : method_at on.table on.table.main (main_of on.table) ≡ Some main.0
   main_is = main_found (slice_get on.table.classes on.table.main) main.0 main.1.in_class
 
   pub main_there : IsThere (method_at on.table on.table.main (main_of on.table))
   main_there = subst IsThere (sym main_is) tt
 
+  -- it expects no lock
   pub main_free : (l : ℕ)
       → IsTrue (((declared on).method on.table.main (main_of on.table)).expects l) → ⊥
   main_free l h =
@@ -65,6 +68,7 @@ module _ (on : Watch) (main : HasMain on.table) where
       let none : IsTrue (has [] l) = subst (λ ls. IsTrue (has ls l)) main.1.expects named in
       absurd cc
 
+  -- it is static
   pub main_static : ((declared on).method on.table.main (main_of on.table)).is_static ≡ true
   main_static =
       ap (λ m. m.is_static) (method_is on on.table.main (main_of on.table))
@@ -75,6 +79,7 @@ module _ (on : Watch) (main : HasMain on.table) where
 abbrev inputs_among : List ChannelInfo → List ChannelInfo
 inputs_among ks = filter (λ c. c.is_input) ks
 
+-- an input channel among those of a class
 contains_input : {A : Type 0} (f : ChannelInfo → A) (k : ChannelInfo) (ks : List ChannelInfo)
     (i : ℕ) → slice_get ks i ≡ Some k → k.is_input ≡ true
     → Contains (map f (inputs_among ks)) (f k)
@@ -93,6 +98,7 @@ contains_input f k (x ∷ xs) (suc i) e h =
     kept true i = Contains-later (f x) (map f (inputs_among xs)) (f k) i
     kept false i = i
 
+-- what a class has is among what all have
 contains_flat : {A B : Type 0} (f : A → List B) (xs : List A) (i : ℕ) (x : A) (y : B)
     → slice_get xs i ≡ Some x → Contains (f x) y → Contains (flat_map f xs) y
 contains_flat f [] i x y e h = absurd cc
@@ -111,6 +117,7 @@ record Input (on : Watch) (c k : ℕ) : Type 0 where
   here : slice_get class.channels k ≡ Some info
   input : info.is_input ≡ true
 
+-- a number of an input channel
 input_is : (on : Watch) (c k : ℕ) → IsChannel true (channel_at on.table c k) → Input on c k
 input_is on c k = in_class (slice_get on.table.classes c) refl
   where
@@ -133,15 +140,18 @@ input_is on c k = in_class (slice_get on.table.classes c) refl
 
 module _ (typed : Typed) (on : Watch) (same : typed.table ≡ on.table) (range : IsInRange on.table)
     (one other : Inputs) (told : Alike (subject typed) on.observer one other) where
+  -- the number of its policy
   input_declared : (c k : ℕ) (h : Input on c k) → (declared on).channel c k ≡ h.info.policy
   unfolding declares
   input_declared c k h = ap (λ o. channels_of o k) h.there ∙ ap (λ o. channel_number o) h.here
 
+  -- its name
   input_named : (c k : ℕ) (h : Input on c k)
       → channel_named on.table c k ≡ Some (record { class = h.class.name; name = h.info.name })
   input_named c k h =
       ap (λ o. channel_of o k) h.there ∙ ap (λ o. channel_member h.class.name o) h.here
 
+  -- inputs give the same to a channel that is seen
   told_of : (h : InputChannel) → Contains (input_channels on.table) h
       → IsTrue (sees on.observer h.policy)
       → given one.channels h.class h.name ≡ given other.channels h.class h.name

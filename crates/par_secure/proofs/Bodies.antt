@@ -78,6 +78,7 @@ in_class base n k below =
     (Contains-get_or (map spot (range_with_len 0 n)) k (base, k)
     (subst (λ z. k < z) (sym long) below))
 
+-- a method of the table has its numbers in the list
 in_methods : (base : ℕ) (cs : List ClassInfo) (c k : ℕ) (info : ClassInfo)
     → slice_get cs c ≡ Some info → k < length info.methods
     → Contains (methods_from base cs) (base + c, k)
@@ -103,11 +104,13 @@ record Owner (o : Option ClassInfo) (k : ℕ) : Type 0 where
   is : o ≡ Some info
   below : k < length info.methods
 
+-- a method that is there has a number below the count
 numbered : (ms : List MethodInfo) (k : ℕ) → IsThere (slice_get ms k) → k < length ms
 numbered [] k h = absurd h
 numbered (m ∷ ms) zero h = omega arith
 numbered (m ∷ ms) (suc k) h = let i = numbered ms k h in omega (arith, i)
 
+-- the class of that method
 owner : (o : Option ClassInfo) (k : ℕ) → IsThere (slice_get (methods_in o) k) → Owner o k
 owner None k h = absurd h
 owner (Some info) k h = record { info = info; is = refl; below = numbered info.methods k h }
@@ -124,6 +127,7 @@ record Found (bs : List Body) (fs : List (Facts numbers)) (c k : ℕ) : Type 0 w
 abbrev is_for : Body → ℕ → ℕ → Bool
 is_for b c k = b.class == c && b.method == k
 
+-- the first body is that of the method, or a later one is
 first_found : (b : Body) (f : Facts numbers) (bs : List Body) (fs : List (Facts numbers))
     (c k : ℕ) (t : Bool) → is_for b c k ≡ t → Contains (map spot_of (b ∷ bs)) (c, k)
     → (Contains (map spot_of bs) (c, k) → Found bs fs c k) → Found (b ∷ bs) (f ∷ fs) c k
@@ -154,6 +158,7 @@ first_found b f bs fs c k false e h later =
 abbrev pub AreAsMany : List Body → List (Facts numbers) → Type 0
 AreAsMany bs fs = length fs ≡ length bs
 
+-- the body of a method is in the list
 found : (bs : List Body) (fs : List (Facts numbers)) → AreAsMany bs fs → (c k : ℕ)
     → Contains (map spot_of bs) (c, k) → Found bs fs c k
 found [] fs many c k h = absurd (Contains-nil (c, k) h)
@@ -164,6 +169,7 @@ found (b ∷ bs) (f ∷ fs) many c k h =
 
 -- ---- its facts, for an observer
 
+-- a number below a bound is in its range
 contains_range : (bound n : ℕ) → n < bound → Contains (range_with_len 0 bound) n
 contains_range bound n below =
     let long = length-range_with_len 0 bound in
@@ -171,6 +177,7 @@ contains_range bound n below =
     subst (Contains (range_with_len 0 bound)) (get_or-range_with_len 0 bound n n below ∙ is)
     (Contains-get_or (range_with_len 0 bound) n n (subst (λ z. n < z) (sym long) below))
 
+-- a class that is not declared to be thrown is among the others
 listed : (ts : List Thrown) (classes c : ℕ) → nat_lt c classes ≡ true → is_thrown ts c ≡ false
     → IsTrue (has (others ts classes) c)
 listed ts classes c lt e =
@@ -179,11 +186,13 @@ listed ts classes c lt e =
     (Contains-filter (λ x. not (is_thrown ts x)) (range_with_len 0 classes) c
     (contains_range classes c below) (ap not e))
 
+-- a lock that is asked for has a policy
 asks : (s : Setting) (lock : ℕ) → AsksLock s lock → IsAsked s.table s.method.is_static lock
 asks s lock h =
     subst (λ o. (policy : ℕ) × (lock_written o ≡ Some policy)) (sym h.there) (h.policy, h.said)
 
 module _ (table : Table) (bs : List Body) (fs : List (Facts numbers)) (o : Observer) where
+  -- the facts of a body are right for the observer
   body_ok : (b : Body) (f : Facts numbers) (pair : IsPair b f bs fs) → AreFacts table b f
       → BodyOk (watch table bs fs o) b.class b.method b.body
   body_ok b f pair h =

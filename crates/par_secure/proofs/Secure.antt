@@ -51,12 +51,14 @@ facts_of table b f _ _ (Here bs fs) proper right kept = record {
 facts_of table b f _ _ (Later c g bs fs pair) proper right kept =
     facts_of table b f bs fs pair proper.1 right.1 kept.1
 
+-- the facts of a body keep its rules
 kept_of : (table : Table) (b : Body) (f : Facts numbers) (bs : List Body)
     (fs : List (Facts numbers)) → IsPair b f bs fs → AreAllKept table bs fs → (c : Check)
     → Contains (checks table b) c → KeepsNumbered table f c
 kept_of table b f _ _ (Here bs fs) kept = kept.0
 kept_of table b f _ _ (Later c g bs fs pair) kept = kept_of table b f bs fs pair kept.1
 
+-- there are as many
 as_many : (bs : List TBody) → length (bodies bs) ≡ length bs
 as_many [] = refl
 as_many (b ∷ bs) = ap suc (as_many bs)
@@ -86,6 +88,7 @@ released table bs fs o x y r kept held =
     o.locks (had o r.at.locks held)
     (told o.actor o.locks (seen_so o (slice_get table.policies r.policy) r.seen))
 
+-- a release to what the observer sees is of what it sees, if it has the locks
 secure_if_explained : (typed : Typed) (fs : List (Facts numbers))
     → AreAllKept typed.table (bodies typed.bodies) fs
     → IsExplained (subject typed) (Explains typed.table (bodies typed.bodies) fs)
@@ -104,6 +107,7 @@ module _ (typed : Typed) (fs : List (Facts numbers))
     (typed_well : IsWellTyped typed.table (bodies typed.bodies))
     (declared_well : IsWellDeclared typed.table) (written : AreFieldsWritten typed.table)
     (accepted : IsAcceptedBy typed fs) where
+  -- a first difference is explained
   pub differences_explained : IsExplained (subject typed)
       (Explains typed.table (bodies typed.bodies) fs)
   unfolding source
@@ -121,5 +125,6 @@ module _ (typed : Typed) (fs : List (Facts numbers))
       (main_static on typed_well.main) one.channels other.channels
       (alike typed on refl typed_well.in_range one other told) m n k a b p q e)
 
+  -- so the program is secure
   pub accepted_is_secure : Secure (subject typed)
   accepted_is_secure = secure_if_explained typed fs accepted.kept differences_explained

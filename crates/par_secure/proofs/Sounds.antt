@@ -42,15 +42,18 @@ module _ (on : Watch) (range : IsInRange on.table) (apart : AreNamesApart on.tab
       classes_look class.name said on.table.classes
       ∙ found (λ c. c.name) said [] on.table.classes c class apart.classes there
 
+  -- the members of a class have names of their own
   own_names : (c : ℕ) (class : ClassInfo) → slice_get on.table.classes c ≡ Some class
       → HasOwnNames class
   own_names c class there = all_at HasOwnNames on.table.classes c class apart.members there
 
+  -- its numbers are in range
   in_range : (c : ℕ) (class : ClassInfo) → slice_get on.table.classes c ≡ Some class
       → ClassInRange on.table class
   in_range c class there =
       all_at (ClassInRange on.table) on.table.classes c class range.classes there
 
+  -- an event with the policy of a number that there is
   has_policy : (e : Event) (n p : ℕ) → event_policy on.table e ≡ policy_at on.table p → n ≡ p
       → p < length on.table.policies → HasPolicy on e n
   has_policy e n p policy is below =
@@ -59,11 +62,13 @@ module _ (on : Watch) (range : IsInRange on.table) (apart : AreNamesApart on.tab
 
   -- ---- channels
 
+  -- the number that is declared for a channel
   channel_declared : (c k : ℕ) (m : Member) (h : Channel on.table c k m)
       → (declared on).channel c k ≡ h.info.policy
   unfolding declares
   channel_declared c k m h = ap (λ o. channels_of o k) h.there ∙ ap (λ o. channel_number o) h.here
 
+  -- the policy that its events have
   channel_said : (c k : ℕ) (m : Member) (h : Channel on.table c k m)
       → of_class h.class.name (λ c. channel_policy on.table h.info.name c.channels)
       on.table.classes ≡ policy_at on.table h.info.policy
@@ -86,6 +91,7 @@ module _ (on : Watch) (range : IsInRange on.table) (apart : AreNamesApart on.tab
 
   -- ---- fields
 
+  -- the number that is declared for a field
   field_declared : (c f : ℕ) (class : ClassInfo) (info : FieldInfo)
       → slice_get on.table.classes c ≡ Some class → slice_get class.fields f ≡ Some info
       → (declared on).field c f ≡ info.policy
@@ -93,11 +99,13 @@ module _ (on : Watch) (range : IsInRange on.table) (apart : AreNamesApart on.tab
   field_declared c f class info there here =
       ap (λ o. fields_of o f) there ∙ ap (λ o. field_number o) here
 
+  -- and for births
   birth_declared : (c : ℕ) (class : ClassInfo) → slice_get on.table.classes c ≡ Some class
       → (declared on).birth c ≡ class.birth
   unfolding declares
   birth_declared c class there = ap (λ o. birth_of o) there
 
+  -- the policy that events of a field have
   field_said : (c f : ℕ) (m : Member) (h : Field on.table c f m)
       → of_class h.class.name (λ c. field_policy on.table h.info.name c.fields) on.table.classes
       ≡ policy_at on.table h.info.policy
@@ -142,6 +150,7 @@ module _ (on : Watch) (range : IsInRange on.table) (apart : AreNamesApart on.tab
       (of_class_is c h.class (λ c. policy_at on.table c.birth) h.there)
       (birth_declared c h.class h.there) (in_range c h.class h.there).birth)
 
+  -- who sees a field of objects sees their births
   births_seen : AreBirthsBelow on.table → AreFieldsWritten on.table → (c f : ℕ)
       → IsField false (field_at on.table c f) → Sees on ((declared on).field c f)
       → Sees on ((declared on).birth c)
@@ -158,11 +167,13 @@ module _ (on : Watch) (range : IsInRange on.table) (apart : AreNamesApart on.tab
 
   -- ---- values
 
+  -- an object is shown by the name of its class
   shown_ref : (c n : ℕ) (name : Name) → made_named on.table c ≡ Some name
       → shown_value on.table (value.Ref c n) ≡ shown.Ref name n
   shown_ref c n name is =
       ap (λ o. shown_object o n) (named on.table c name (made_is on.table c name is))
 
+  -- objects that are shown alike are one
   same_object : (c n d m : ℕ) (one other : Name) → made_named on.table c ≡ Some one
       → made_named on.table d ≡ Some other → shown.Ref one n ≡ shown.Ref other m
       → value.Ref c n ≡ value.Ref d m
@@ -175,6 +186,7 @@ module _ (on : Watch) (range : IsInRange on.table) (apart : AreNamesApart on.tab
       y.there (x.named ∙ names ∙ sym y.named) in
       ap (λ z. value.Ref z n) classes ∙ ap (value.Ref d) numbers
 
+  -- so are values
   shown_alike : (u v : MVal) → IsMade on u → IsMade on v
       → shown_value on.table u ≡ shown_value on.table v → u ≡ v
   shown_alike (value.Int a) (value.Int b) i j e = cc
@@ -195,6 +207,7 @@ module _ (on : Watch) (range : IsInRange on.table) (apart : AreNamesApart on.tab
 
   -- ---- exceptions
 
+  -- what is declared to be thrown is of a class of the table
   thrown_there : (c k x p : ℕ) → Throws ((declared on).method c k).throws x p
       → nat_lt x (length on.table.classes) ≡ true
   thrown_there c k x p h =
@@ -203,6 +216,7 @@ module _ (on : Watch) (range : IsInRange on.table) (apart : AreNamesApart on.tab
       (λ m e. method_in_range on.table range.classes c k m e) there in
       lt-ltb _ _ below
 
+  -- the table is sound
   pub sound : HasBuiltIns on.table → AreBirthsBelow on.table → AreFieldsWritten on.table → Sound on
   sound built below written = record {
     out = out_policy;

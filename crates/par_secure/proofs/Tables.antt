@@ -31,6 +31,7 @@ use Rattle.par_two_runs.proofs.Leaves.{Throws, first_of, later_of}
 
 -- ---- lists
 
+-- what holds of all holds of each
 pub all_at : {A : Type 0} (P : A → Type 0) (xs : List A) (i : ℕ) (x : A) → AllByRecursion P xs
     → slice_get xs i ≡ Some x → P x
 all_at P [] i x h e = absurd cc
@@ -44,6 +45,7 @@ module _ {A B : Type 0} (name : A → Name) (said : A → B) (none : B) where
   look n [] = none
   look n (x ∷ xs) = if bytes_eq (name x) n then said x else look n xs
 
+  -- an element has no name that is apart from all
   pub apart : (n : Name) (xs : List A) (i : ℕ) (x : A)
       → AllByRecursion (λ k. bytes_eq n k ≡ false) (map name xs) → slice_get xs i ≡ Some x
       → bytes_eq n (name x) ≡ false
@@ -53,6 +55,7 @@ module _ {A B : Type 0} (name : A → Name) (said : A → B) (none : B) where
   apart n (y ∷ ys) (suc i) x h e =
       let there : slice_get ys i ≡ Some x = e in apart n ys i x h.1 there
 
+  -- the first of the name of an element is that element
   pub found : (xs : List A) (i : ℕ) (x : A) → IsDistinct bytes_eq (map name xs)
       → slice_get xs i ≡ Some x → look (name x) xs ≡ said x
   unfolding IsDistinct
@@ -67,18 +70,21 @@ module _ {A B : Type 0} (name : A → Name) (said : A → B) (none : B) where
       ap (λ b. if b then said y else look (name x) ys) (apart (name y) ys i x h.0 there)
       ∙ found ys i x h.1 there
 
+-- the policy of a channel by its name
 pub channels_look : (table : Table) (n : Name) (ks : List ChannelInfo)
     → channel_policy table n ks ≡ look (λ k. k.name) (λ k. policy_at table k.policy) [] n ks
 channels_look table n [] = refl
 channels_look table n (k ∷ ks) =
     ap (λ p. if bytes_eq k.name n then policy_at table k.policy else p) (channels_look table n ks)
 
+-- and that of a field
 pub fields_look : (table : Table) (n : Name) (fs : List FieldInfo)
     → field_policy table n fs ≡ look (λ f. f.name) (λ f. policy_at table f.policy) [] n fs
 fields_look table n [] = refl
 fields_look table n (f ∷ fs) =
     ap (λ p. if bytes_eq f.name n then policy_at table f.policy else p) (fields_look table n fs)
 
+-- and what is said of a class
 pub classes_look : (n : Name) (said : ClassInfo → List Clause) (cs : List ClassInfo)
     → of_class n said cs ≡ look (λ c. c.name) said [] n cs
 classes_look n said [] = refl
@@ -92,6 +98,7 @@ apart_front : (n : Name) (xs ys : List Name)
 apart_front n [] ys h = tt
 apart_front n (x ∷ xs) ys h = (h.0, apart_front n xs ys h.1)
 
+-- names in front of others are apart
 pub distinct_front : (xs ys : List Name) → IsDistinct bytes_eq (xs ++ ys) → IsDistinct bytes_eq xs
 unfolding IsDistinct
 distinct_front [] ys h = tt
@@ -99,6 +106,7 @@ distinct_front (x ∷ xs) ys h = (apart_front x xs ys h.0, distinct_front xs ys 
 
 -- ---- what numbers name
 
+-- a channel of a class, by its numbers
 pub record Channel (table : Table) (c k : ℕ) (m : Member) : Type 0 where
   pub class : ClassInfo
   pub there : slice_get table.classes c ≡ Some class
@@ -106,6 +114,7 @@ pub record Channel (table : Table) (c k : ℕ) (m : Member) : Type 0 where
   pub here : slice_get class.channels k ≡ Some info
   pub member : record { class = class.name; name = info.name } ≡ m
 
+-- a channel that has a name is one of a class
 pub channel_is : (table : Table) (c k : ℕ) (m : Member) → channel_named table c k ≡ Some m
     → Channel table c k m
 channel_is table c k m = in_class (slice_get table.classes c) refl
@@ -127,6 +136,7 @@ channel_is table c k m = in_class (slice_get table.classes c) refl
     in_class None there e = absurd cc
     in_class (Some class) there e = in_channels class there (slice_get class.channels k) refl e
 
+-- a field of a class
 pub record Field (table : Table) (c f : ℕ) (m : Member) : Type 0 where
   pub class : ClassInfo
   pub there : slice_get table.classes c ≡ Some class
@@ -134,6 +144,7 @@ pub record Field (table : Table) (c f : ℕ) (m : Member) : Type 0 where
   pub here : slice_get class.fields f ≡ Some info
   pub member : record { class = class.name; name = info.name } ≡ m
 
+-- so is a field
 pub field_is : (table : Table) (c f : ℕ) (m : Member) → field_named table c f ≡ Some m
     → Field table c f m
 field_is table c f m = in_class (slice_get table.classes c) refl
@@ -155,11 +166,14 @@ field_is table c f m = in_class (slice_get table.classes c) refl
     in_class None there e = absurd cc
     in_class (Some class) there e = in_fields class there (slice_get class.fields f) refl e
 
+-- a class by its number
 pub record Made (table : Table) (c : ℕ) (name : Name) : Type 0 where
   pub class : ClassInfo
   pub there : slice_get table.classes c ≡ Some class
+  -- the name of a class of which objects are made
   pub named : class.name ≡ name
 
+-- a class of which objects are made
 pub made_is : (table : Table) (c : ℕ) (name : Name) → made_named table c ≡ Some name
     → Made table c name
 made_is table c name = in_class (slice_get table.classes c) refl
@@ -205,11 +219,13 @@ among_thrown : (n : ℕ) (ts : List Thrown) (x p : ℕ) → Throws ts x p
 among_thrown n _ _ _ (first_of t ts) h = h.0
 among_thrown n _ _ _ (later_of t ts x p i) h = among_thrown n ts x p i h.1
 
+-- classes that are declared to be thrown
 throws_below : (table : Table) (ts : List ThrowInfo) → AllByRecursion (ThrowInRange table) ts
     → AllByRecursion (λ t. t.class < length table.classes) (throws_of ts)
 throws_below table [] h = tt
 throws_below table (t ∷ ts) h = (h.0.0, throws_below table ts h.1)
 
+-- those of a method
 pub method_below : (table : Table) (o : Option MethodInfo) (x p : ℕ)
     → ((m : MethodInfo) → o ≡ Some m → MethodInRange table m) → Throws (method_of o).throws x p
     → x < length table.classes
@@ -218,6 +234,7 @@ method_below table (Some m) x p h t =
     among_thrown (length table.classes) (throws_of m.throws) x p t
     (throws_below table m.throws (h m refl).throws)
 
+-- a method of the table has its numbers in range
 pub method_in_range : (table : Table) → AllByRecursion (ClassInRange table) table.classes
     → (c k : ℕ) (m : MethodInfo) → method_at table c k ≡ Some m → MethodInRange table m
 method_in_range table h c k m = in_class (slice_get table.classes c) refl
@@ -231,6 +248,7 @@ method_in_range table h c k m = in_class (slice_get table.classes c) refl
 
 -- ---- births
 
+-- a field of objects, by its numbers
 pub record OwnField (table : Table) (c f : ℕ) : Type 0 where
   pub class : ClassInfo
   pub there : slice_get table.classes c ≡ Some class
@@ -238,6 +256,7 @@ pub record OwnField (table : Table) (c f : ℕ) : Type 0 where
   pub here : slice_get class.fields f ≡ Some info
   pub own : info.is_static ≡ false
 
+-- a number that names one
 pub own_field : (table : Table) (c f : ℕ) → IsField false (field_at table c f) → OwnField table c f
 own_field table c f = in_class (slice_get table.classes c) refl
   where

@@ -54,6 +54,7 @@ watched_stands table o = record {
 
 -- ---- locks
 
+-- each of those within is one of the others
 pub within_has : (inner outer : List ℕ) → IsTrue (within inner outer) → (l : ℕ)
     → IsTrue (has inner l) → IsTrue (has outer l)
 within_has [] outer w l h = absurd cc
@@ -63,6 +64,7 @@ within_has (m ∷ ms) outer w l h =
     (λ e. within_has ms outer (and_r (has outer m) (within ms outer) w) l e)
     (or_cases (nat_eq m l) (has ms l) h)
 
+-- what holds of each holds of all
 each : (P : ℕ → Type 0) (xs : List ℕ) → ((n : ℕ) → Contains xs n → P n) → All P xs
 each P [] f = All-nil P
 each P (x ∷ xs) f =
@@ -103,6 +105,7 @@ pub record Releases (table : Table) (bs : List Body) (fs : List (Facts numbers))
 abbrev pub watch : Table → List Body → List (Facts numbers) → Observer → Watch
 watch table bs fs o = record { table = table; observer = o; Release = Releases table bs fs o }
 
+-- what explains a difference for the observer explains it
 pub explains : (table : Table) (bs : List Body) (fs : List (Facts numbers)) (o : Observer)
     (x y : Witnessed) → Explained (watch table bs fs o) x y → Explains table bs fs o x y
 explains table bs fs o x y r = record {
@@ -139,10 +142,12 @@ module _ (table : Table) (bs : List Body) (fs : List (Facts numbers)) (o : Obser
   abbrev pub meant : Facts W
   meant = as_facts W M f
 
+  -- the facts of parts
   parts_meant : (ps : List ℕ) → as_all W M (map f ps) ≡ map meant ps
   parts_meant [] = refl
   parts_meant (p ∷ ps) = ap (λ fs. meant p ∷ fs) (parts_meant ps)
 
+  -- a larger set of numbers stands for a higher policy
   in_order : (s t : Set) → IsWithin s t
       → IsSeenBelow (joined table.policies s) (joined table.policies t)
   unfolding stand_for
@@ -152,6 +157,7 @@ module _ (table : Table) (bs : List Body) (fs : List (Facts numbers)) (o : Obser
   abbrev way_at : Check → Option (ways.Way numbers)
   way_at c = way numbers (f c.spot.point).entry (map f c.spot.parts) c.spot.from
 
+  -- a rule on a release that is asked of the facts
   released : (c : Check) → Contains (checks table b) c → (w : ways.Way numbers) (x : ways.Way W)
       → Flows W x (as_way W M w) → way_at c ≡ Some w → (v p : ℕ) → c.condition ≡ ask.Released v p
       → IsRelease c.rule → Releases table bs fs o p (meant v).value x.locks
@@ -171,6 +177,7 @@ module _ (table : Table) (bs : List Body) (fs : List (Facts numbers)) (o : Obser
     within = h.lands.locks;
   }
 
+  -- a condition that the facts satisfy holds for the observer
   demanded : (c : Check) → Contains (checks table b) c → (w : ways.Way numbers) (x : ways.Way W)
       → Flows W x (as_way W M w) → way_at c ≡ Some w → (k : Condition) → c.condition ≡ k
       → Satisfies numbers (joined table.policies) (given table) f w k → Demand on meant c.rule x k
@@ -192,6 +199,7 @@ module _ (table : Table) (bs : List Body) (fs : List (Facts numbers)) (o : Obser
   demanded c asked w x h at (ask.Among locks those) is k = k
   demanded c asked w x h at ask.Never is k = absurd k
 
+  -- at a spot that is reached
   holds : (c : Check) → Contains (checks table b) c
       → (y : Option (ways.Way numbers)) (z : Option (ways.Way W)) → MayFlow W z (as_may W M y)
       → way_at c ≡ y → Holds numbers y
@@ -201,6 +209,7 @@ module _ (table : Table) (bs : List Body) (fs : List (Facts numbers)) (o : Obser
   holds c asked None (Some x) h at k = absurd h
   holds c asked (Some w) (Some x) h at k = demanded c asked w x h at c.condition refl k
 
+  -- a check that the facts keep they keep for the observer
   kept_for : (c : Check) → Contains (checks table b) c → KeepsNumbered table f c → Kept on meant c
   kept_for c asked k =
       let lower = way_lower W M (f c.spot.point).entry (map f c.spot.parts) c.spot.from in

@@ -14,6 +14,7 @@ module _ (on : Watch) where
   AllMade [] = Unit {0}
   AllMade (v ∷ vs) = IsMade on v × AllMade vs
 
+  -- each of them is
   pub all_made : (vs : List MVal) → AllMade vs → AreMade on vs
   all_made [] h zero = tt
   all_made [] h (suc i) = tt
@@ -29,6 +30,7 @@ module _ (on : Watch) where
   AreGiven (p ∷ ps) (u ∷ us) [] = ⊥
   AreGiven (p ∷ ps) (u ∷ us) (v ∷ vs) = (Sees on p → u ≡ v) × AreGiven ps us vs
 
+  -- the locals that the arguments set are alike
   pub given_env : (ps : List ℕ) (us vs : List MVal) → AreGiven ps us vs → (i : ℕ)
       → IsTrue (closed.arriving (lattice on) ps i)
       → value_or_null (slice_get us i) ≡ value_or_null (slice_get vs i)
@@ -40,6 +42,7 @@ module _ (on : Watch) where
   given_env (q ∷ ps) (u ∷ us) (v ∷ vs) h zero p = h.0 p
   given_env (q ∷ ps) (u ∷ us) (v ∷ vs) h (suc i) p = given_env ps us vs h.1 i p
 
+  -- a truth value is no object
   pub truth_made : (b : Bool) → IsMade on (truth b)
   truth_made true = tt
   truth_made false = tt

@@ -58,6 +58,7 @@ module _ (on : Watch) where
     pub ends : Ends m exits
     pub hush : Hush on g way exits c
 
+  -- and of two of its runs
   pub record Paired (m : Method) (g : Frame) (c c' : Task) : Type 0 where
     pub way : Way on
     pub entered : Flows (lattice on) (closed.first (lattice on) m) way
@@ -65,9 +66,11 @@ module _ (on : Watch) where
     pub ends : Ends m exits
     pub step : Step on g way exits Any c c'
 
+  -- the method closes none of these locks
   abbrev pub IsFree : Set → Method → Type 0
   IsFree held m = (l : ℕ) → IsTrue (held l) → IsTrue (m.closes l) → ⊥
 
+  -- a call of a method whose write effect is not seen shows nothing
   abbrev pub Silent : Calls → Type 0
   Silent run =
       (c k : ℕ) → IsThere (method_at on.table c k)
@@ -76,6 +79,7 @@ module _ (on : Watch) where
       → Quiet ((declared on).method c k)
       (record { own = (declared on).method c k; held = held; free = free }) (run c k)
 
+  -- calls in two runs are in step
   abbrev pub InStep : Calls → Calls → Type 0
   InStep run run' =
       (c k : ℕ) → IsThere (method_at on.table c k)
@@ -83,22 +87,27 @@ module _ (on : Watch) where
       → Paired ((declared on).method c k)
       (record { own = (declared on).method c k; held = held; free = free }) (run c k) (run' c k)
 
+  -- arguments are of classes that have a name
   abbrev pub AreMade : List MVal → Type 0
   AreMade vs = (i : ℕ) → IsMade on (value_or_null (slice_get vs i))
 
   module _ (g : Frame) (w : Way on) (x : Exits on) (V : Bool) (m : Method) (q : Calling g w x V m)
     where
+      -- locks that are to stay open while the method runs: those that it does not close
       abbrev pub callee_held : Set
       callee_held = union (minus w.locks m.closes) g.held
 
+      -- it closes none of them
       pub callee_free : IsFree callee_held m
       callee_free l a b =
           ⊎_elim (λ c. not_true (m.closes l) (and_r (w.locks l) (not (m.closes l)) c) b)
           (λ c. g.free l c (q.closes l b)) (or_cases (w.locks l && not (m.closes l)) (g.held l) a)
 
+      -- the frame of the method
       abbrev pub callee : Frame
       callee = record { own = m; held = callee_held; free = callee_free }
 
+      -- what is known where the body is entered
       pub opened_in : (s : State) (vs : List MVal) → AreMade vs → Opened on g w s
           → Opened on callee (closed.first (lattice on) m) (entered vs s)
       opened_in s vs i p = record {
@@ -132,6 +141,7 @@ module _ (on : Watch) where
         };
       }
 
+      -- the rest of the state is that of the body
       home_same : (s t : State) (vs : List MVal) → Same on (entered vs s) t
           → Same on s (restored s.locals s.result t)
       home_same s t vs k = record {
@@ -142,10 +152,12 @@ module _ (on : Watch) where
         locks = k.locks;
       }
 
+      -- the frame is as it was
       home_moved : (y : Way on) (s t : State) → ((i : ℕ) → IsTrue (y.env i) → IsTrue (w.env i))
           → Moved on g w y s (restored s.locals s.result t)
       home_moved y s t h = record { locals = λ i p. (h i p, refl); result = λ p. refl }
 
+      -- a call is a stretch of the caller
       home_calm : (begin z y : Way on) (s t : State) (vs : List MVal) → AreMade vs
           → Flows (lattice on) (closed.first (lattice on) m) begin
           → ((l : ℕ) → IsTrue (y.locks l)
@@ -159,6 +171,7 @@ module _ (on : Watch) where
             λ p. home_opened z y s t h p (k.opens (open_body on e.lands (opened_in s vs i p)));
       }
 
+      -- the locks that are known behind a call
       pub home_locks : (z : Way on) → IsWithin m.opens z.locks → (l : ℕ)
           → IsTrue (q.normal.way.locks l)
           → IsTrue (w.locks l && not (m.closes l)) ⊎ IsTrue (z.locks l)
@@ -166,6 +179,7 @@ module _ (on : Watch) where
           ⊎_elim (λ e. inl e) (λ e. inr (oz l e))
           (or_cases (w.locks l && not (m.closes l)) (m.opens l) (q.normal.higher.locks l b))
 
+      -- a call in one run
       pub tail_enter : (c : Task) (vs : List MVal) → AreMade vs
           → ((Sees on m.effect → ⊥) → Quiet m callee c) → Tail on g w x (enter c vs)
       tail_enter c vs made qu = record {

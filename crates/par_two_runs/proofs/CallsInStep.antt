@@ -45,6 +45,7 @@ module _ (on : Watch) where
       right = opened_in on g w x V m q t vs' i' l.right;
     }
 
+    -- both come home alike
     home_like : (z z' y y' : Way on) (s t s1 t1 : State)
         → ((i : ℕ) → IsTrue (y.env i) → IsTrue (w.env i))
         → ((i : ℕ) → IsTrue (y'.env i) → IsTrue (w.env i))
@@ -69,6 +70,7 @@ module _ (on : Watch) where
       right = home_opened on g w x V m q z' y' t t1 h' l.right k.right;
     }
 
+    -- a call in two runs
     pub step_enter : (c c' : Task) (vs vs' : List MVal) (r : Way on) → Restores on r x
         → AreMade on vs → AreMade on vs'
         → ((i : ℕ) → IsTrue ((closed.first (lattice on) m).env i)

@@ -30,6 +30,7 @@ pub data Throws : List DThrown → ℕ → ℕ → Type 0 where
   later_of : (t : DThrown) (ts : List DThrown) (c p : ℕ) → Throws ts c p → Throws (t ∷ ts) c p
 
 module _ (on : Watch) where
+  -- what the policies, the classes and the values of the table keep
   pub record Sound : Type 0 where
     -- an event has the policy of what it tells of
     pub out : (c k : ℕ) (m : Member) → channel_named on.table c k ≡ Some m → (n : ℤ)
@@ -40,12 +41,12 @@ module _ (on : Watch) where
         → HasPolicy on (Put m.class n m.name v) ((declared on).field c f)
     pub born : (c : ℕ) (name : Name) → made_named on.table c ≡ Some name → (n : ℕ)
         → HasPolicy on (Born name n) ((declared on).birth c)
-    -- values that are shown alike are equal
-    -- the classes of the exceptions that operators and null tests throw are there
+    -- the classes of the exceptions that operators, null tests and methods throw are there
     pub arithmetic : nat_lt ARITHMETIC (length on.table.classes) ≡ true
     pub throws : (c k x p : ℕ) → Throws ((declared on).method c k).throws x p
         → nat_lt x (length on.table.classes) ≡ true
     pub null_pointer : nat_lt NULL_POINTER (length on.table.classes) ≡ true
+    -- values that are shown alike are equal
     pub shows : (u v : MVal) → IsMade on u → IsMade on v
         → shown_value on.table u ≡ shown_value on.table v → u ≡ v
     -- who sees a field of objects sees their births
@@ -59,6 +60,7 @@ module _ (on : Watch) where
     pub result : s.result ≡ t.result
     pub locks : s.locks ≡ t.locks
 
+  -- what is known stays known
   level_opened : (g : Frame) (w : Way on) (s t : State) → Level s t → (Made on s → Made on t)
       → Opened on g w s → Opened on g w t
   level_opened g w s t v m p = record {
@@ -67,6 +69,7 @@ module _ (on : Watch) where
     made = m p.made;
   }
 
+  -- so nothing is done to the frame
   pub keeps_level : (g : Frame) (w : Way on) (s t : State) → Level s t → (Made on s → Made on t)
       → Same on s t → Keeps on g w w s t
   keeps_level g w s t v m a = record {
@@ -79,6 +82,7 @@ module _ (on : Watch) where
     };
   }
 
+  -- two states stay alike
   pub like_level : (g : Frame) (w : Way on) (s t s' t' : State) → Level s s'
       → (Made on s → Made on s') → Level t t' → (Made on t → Made on t') → Same on s' t'
       → Like on g w w s t → Like on g w w s' t'
@@ -101,6 +105,7 @@ module _ (on : Watch) where
         n ys b op r k;
   }
 
+  -- what is read in both
   pub step_read : {g : Frame} {w : Way on} {x : Exits on} {R : MVal → MVal → Type 0}
       (h h' : State → MVal) → ((s : State) → Made on s → IsMade on (h s))
       → ((s : State) → Made on s → IsMade on (h' s)) → BodyFlowsTo on w (x Normal)
@@ -119,6 +124,7 @@ module _ (on : Watch) where
   tail_named None next q h = tail_normal on nothing tt q
   tail_named (Some i) next q h = h i refl
 
+  -- what a number names, in both
   pub step_named : {N : Type 0} {g : Frame} {w : Way on} {x : Exits on} {R : MVal → MVal → Type 0}
       (a : Option N) (next next' : N → Task) → BodyFlowsTo on w (x Normal) → R nothing nothing
       → ((i : N) → a ≡ Some i → Step on g w x R (next i) (next' i))
@@ -138,6 +144,7 @@ module _ (on : Watch) where
     fields = m.fields;
   }
 
+  -- an input that the observer does not see
   pub tail_input : {g : Frame} {z : Way on} {x : Exits on} (c k : ℕ)
       → Writes on g z ((declared on).channel c k) → BodyFlowsTo on z (x Normal)
       → Tail on g z x (inputs c k)
@@ -159,6 +166,7 @@ module _ (on : Watch) where
         })) (tail_normal on (value.Int (next (t.inputs c k))) tt q)).at w s t f n ys b op r h;
   }
 
+  -- an input in both runs
   pub step_input : {g : Frame} {w : Way on} {x : Exits on} {R : MVal → MVal → Type 0} (c k : ℕ)
       → IsChannel true (channel_at on.table c k) → BodyFlowsTo on w (x Normal)
       → ((u v : MVal) → (Sees on ((declared on).channel c k) → u ≡ v) → R u v)

@@ -12,10 +12,12 @@ module _ (R : Witnessed → Witnessed → Type 0) where
   Agree (x ∷ xs) [] = Unit {0}
   Agree (x ∷ xs) (y ∷ ys) = (x.event ≡ y.event ⊎ R x y) × (x.event ≡ y.event → Agree xs ys)
 
+  -- a list that is at its end agrees with each
   pub agree_nil : (xs : List Witnessed) → Agree xs []
   agree_nil [] = tt
   agree_nil (x ∷ xs) = tt
 
+  -- agreeing goes both ways
   pub agree_swap : ((x y : Witnessed) → R x y → R y x) → (xs ys : List Witnessed) → Agree xs ys
       → Agree ys xs
   agree_swap r [] ys h = agree_nil ys

@@ -16,6 +16,7 @@ and_true true = refl
 and_true false = refl
 
 module _ (on : Watch) where
+  -- a way with a value in a local
   abbrev pub assigned : ℕ → Bool → Way on → Way on
   assigned x V w = ways.assigned (lattice on) x V w
 
@@ -27,6 +28,7 @@ module _ (on : Watch) where
     fields = m.fields;
   }
 
+  -- a local that is set where the observer does not see it
   pub local_keeps : (g : Frame) (w : Way on) (x : ℕ) (v : MVal) (V : Bool) (s : State)
       → (g.own.is_static ≡ false → x ≡ 0 → ⊥) → IsMade on v
       → Keeps on g w (assigned x V w) s (set_local x v s)
@@ -51,6 +53,7 @@ module _ (on : Watch) where
       hidden u j true p = absurd (u (and_r V w.context p))
       hidden u j false p = (p, refl)
 
+  -- a local that is set in both runs
   pub local_like : (g : Frame) (w : Way on) (x : ℕ) (u v : MVal) (V : Bool)
       → (g.own.is_static ≡ false → x ≡ 0 → ⊥) → IsMade on u → IsMade on v → Values V u v
       → (s t : State) → Like on g w w s t
@@ -91,6 +94,7 @@ module _ (on : Watch) where
     fields = m.fields;
   }
 
+  -- a result that is not seen
   pub result_keeps : (g : Frame) (w : Way on) (v : MVal) (V : Bool) (s : State) → IsMade on v
       → (Sees on g.own.result → IsTrue (V && w.context)) → Keeps on g w w s (set_result v s)
   result_keeps g w v V s i b = record {
@@ -113,6 +117,7 @@ module _ (on : Watch) where
     };
   }
 
+  -- a result in both runs
   pub result_like : (g : Frame) (w : Way on) (u v : MVal) (V : Bool) → IsMade on u → IsMade on v
       → (Sees on g.own.result → IsTrue (V && w.context)) → Values V u v → (s t : State)
       → Like on g w w s t → Like on g w w (set_result u s) (set_result v t)

@@ -7,14 +7,17 @@ use Rattle.std.proofs.lemmas.Bool.{and_from, or_left, or_right, eqb-true, eq-eqb
 use Rattle.par_policy.specs.Numbers.{has}
 use Rattle.par_runs.specs.State.{opened, closed}
 
+-- one of two that hold
 pub or_cases : (a b : Bool) → IsTrue (a || b) → IsTrue a ⊎ IsTrue b
 or_cases true b h = inl refl
 or_cases false b h = inr h
 
+-- what is false does not hold
 pub not_true : (a : Bool) → IsTrue (not a) → IsTrue a → ⊥
 not_true true h k = cc
 not_true false h k = cc
 
+-- what does not hold is false
 pub is_not : (a : Bool) → (IsTrue a → ⊥) → IsTrue (not a)
 is_not true h = absurd (h refl)
 is_not false h = refl
@@ -23,6 +26,7 @@ pub or_false : (a : Bool) → (a || false) ≡ a
 or_false true = refl
 or_false false = refl
 
+-- two truth values that follow from each other are equal
 pub same_bool : (a b : Bool) → (IsTrue a → IsTrue b) → (IsTrue b → IsTrue a) → a ≡ b
 same_bool true b f g = sym (f refl)
 same_bool false true f g = g refl
@@ -39,6 +43,7 @@ has_new l (m ∷ ms) =
     (λ e. cond_both (nat_lt l m) (l ∷ m ∷ ms) (m ∷ opened l ms) P
     (λ e. or_left (nat_eq l l) _ (eq-eqb l l refl)) (λ e. behind))
 
+-- what was open stays open
 pub has_old : (l : ℕ) (ls : List ℕ) (k : ℕ) → IsTrue (has ls k) → IsTrue (has (opened l ls) k)
 has_old l [] k h = or_right (nat_eq l k) false h
 has_old l (m ∷ ms) k h =
@@ -66,6 +71,7 @@ has_either l (m ∷ ms) k has_it =
     (λ e h. elim (or_cases (nat_eq l k) (has (m ∷ ms) k) h)
     [ inl new ↦ inr (sym (eqb-true l k new)) | inr old ↦ inl old ]) (λ e. behind)) has_it
 
+-- open is what was open, and the lock that is opened
 pub opened_has : (l : ℕ) (ls : List ℕ) (k : ℕ) → has (opened l ls) k ≡ (has ls k || nat_eq k l)
 opened_has l ls k =
     same_bool _ _
@@ -108,6 +114,7 @@ closed_step false m l k ms e h =
           (subst IsTrue (sym h) (and_from _ _ s (and_r (nat_eq m k || has ms k) _ p)))
     ])
 
+-- and what was open but the lock that is closed
 pub closed_has : (l : ℕ) (ls : List ℕ) (k : ℕ)
     → has (closed l ls) k ≡ (has ls k && not (nat_eq k l))
 closed_has l [] k = refl

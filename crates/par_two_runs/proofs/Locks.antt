@@ -42,6 +42,7 @@ module _ (on : Watch) where
     fields = m.fields;
   }
 
+  -- an opened lock is known
   opened_knows : (g : Frame) (w : Way on) (l : ℕ) (s : State) → Opened on g w s
       → Opened on g (opening l w) (open_lock l s)
   opened_knows g w l s p = record {
@@ -53,6 +54,7 @@ module _ (on : Watch) where
     made = locks_made (opened l s.locks) s p.made;
   }
 
+  -- a lock is closed that is not kept open
   closed_knows : (g : Frame) (w : Way on) (l : ℕ) (s : State) → IsTrue (g.own.closes l)
       → Opened on g w s → Opened on g (shutting l w) (close_lock l s)
   closed_knows g w l s c p = record {
@@ -77,6 +79,7 @@ module _ (on : Watch) where
       (wr p (subst (λ m. lock_written (slice_get on.table.locks m) ≡ Some p) (eqb-true m l i) e))
       b v)
 
+  -- a lock that is opened where nobody is to learn of it
   pub open_keeps : (g : Frame) (w : Way on) (l : ℕ) → Learns g w l → Blocked on g w → (s : State)
       → Keeps on g w (opening l w) s (open_lock l s)
   open_keeps g w l wr b s = record {
@@ -98,6 +101,7 @@ module _ (on : Watch) where
     };
   }
 
+  -- and one that is closed
   pub close_keeps : (g : Frame) (w : Way on) (l : ℕ) → IsTrue (g.own.closes l) → Learns g w l
       → Blocked on g w → (s : State) → Keeps on g w (shutting l w) s (close_lock l s)
   close_keeps g w l c wr b s = record {
@@ -120,6 +124,7 @@ module _ (on : Watch) where
     };
   }
 
+  -- a lock that is opened in both runs
   pub open_like : (g : Frame) (w : Way on) (l : ℕ) (s t : State) → Like on g w w s t
       → Like on g (opening l w) (opening l w) (open_lock l s) (open_lock l t)
   open_like g w l s t k = record {
@@ -139,6 +144,7 @@ module _ (on : Watch) where
     right = opened_knows g w l t k.right;
   }
 
+  -- and one that is closed
   pub close_like : (g : Frame) (w : Way on) (l : ℕ) → IsTrue (g.own.closes l) → (s t : State)
       → Like on g w w s t
       → Like on g (shutting l w) (shutting l w) (close_lock l s) (close_lock l t)
@@ -190,6 +196,7 @@ module _ (on : Watch) where
     right = found_knows g w l t e' k.right;
   }
 
+  -- a lock is asked for in one run
   pub tail_when : {g : Frame} {z : Way on} {x : Exits on} {c c' : Task} (l : ℕ)
       → Tail on g (opening l z) x c → Tail on g z x c'
       → Tail on g z x (asked (λ s. has s.locks l) c c')
@@ -205,6 +212,7 @@ module _ (on : Watch) where
           p.at w s t f n ys b op (keeps_on on r (found_keeps g z l t e)) h
       go false {t} e w s t' f n ys b op r h = q.at w s t f n ys b op r h
 
+  -- and in two, which find it alike where its policy is seen
   pub step_when : {g : Frame} {z : Way on} {x : Exits on} {R : MVal → MVal → Type 0}
       {b c b' c' : Task} (l p : ℕ) → lock_written (slice_get on.table.locks l) ≡ Some p
       → Sees on p → Step on g (opening l z) x R b b' → Step on g z x R c c'

@@ -45,6 +45,7 @@ module _ (on : Watch) where
     pub at : (w : Way on) (s t : State) (f : Rests) (n : ℕ) (ys : List Witnessed) → Blocked on g w
         → Opened on g w s → Keeps on g w z s t → Goes g w s x f ys → Agrees on (c f t n).events ys
 
+  -- a form is silent where it is entered with an unseen part
   pub hush_node : {g : Frame} {w : Way on} {x : Exits on} {c : Task} → Restores on w x
       → Blocked on g w → Tail g w x c → Hush g w x c
   hush_node {w} e b q = record {
@@ -58,23 +59,27 @@ module _ (on : Watch) where
         });
   }
 
+  -- a run that is paid for and one that is at its budget
   pub paid_left : (c : Task) (f : Rests) (s : State) (n : ℕ) (ys : List Witnessed)
       → ((n : ℕ) → Agrees on (c f s n).events ys) → Agrees on (paid c f s n).events ys
   paid_left c f s zero ys h = tt
   paid_left c f s (suc n) ys h = h n
 
+  -- a step is paid for
   pub tail_paid : {g : Frame} {z : Way on} {x : Exits on} (c : Task) → Tail g z x c
       → Tail g z x (paid c)
   tail_paid c q = record {
     at = λ w s t f n ys b op r h. paid_left c f t n ys (λ n. q.at w s t f n ys b op r h);
   }
 
+  -- what is silent from a higher way is so from a lower one
   pub tail_higher : {g : Frame} {z v : Way on} {x : Exits on} {c : Task} → Flows (lattice on) z v
       → Tail g v x c → Tail g z x c
   tail_higher e q = record {
     at = λ w s t f n ys b op r h. q.at w s t f n ys b op (keeps_on on r (keeps_higher on e)) h;
   }
 
+  -- a form is over
   pub tail_normal : {g : Frame} {z : Way on} {x : Exits on} (v : MVal) → IsMade on v
       → BodyFlowsTo on z (x Normal) → Tail g z x (done Normal v)
   tail_normal v i q = record {
@@ -84,6 +89,7 @@ module _ (on : Watch) where
         (calm_on on r.calm (calm_body on q.higher));
   }
 
+  -- a form is left
   pub tail_other : {g : Frame} {z : Way on} {x : Exits on} (k : Exit) (v : MVal) → Other k
       → FlowsTo on z (x k) → Tail g z x (done k v)
   tail_other k v j q = record {
@@ -92,6 +98,7 @@ module _ (on : Watch) where
         (keeps_on on r (keeps_higher on q.higher));
   }
 
+  -- the state changes, unseen
   pub tail_change : {g : Frame} {z : Way on} (v : Way on) {x : Exits on} {c : Task}
       (h : State → State)
       → (Blocked on g z → (s : State) → Opened on g z s → Keeps on g z v s (h s)) → Tail g v x c
@@ -102,6 +109,7 @@ module _ (on : Watch) where
         (keeps_on on r (m (blocked_on on r.context b) t (r.calm.opens op))) k;
   }
 
+  -- an event of a policy that is not seen
   pub tail_emit : {g : Frame} {z : Way on} {x : Exits on} {c : Task} (e : Event) (n : ℕ)
       → HasPolicy on e n → Writes on g z n → Tail g z x c → Tail g z x (happens e c)
   tail_emit {g} {z} e p i wr q = record {
@@ -112,11 +120,13 @@ module _ (on : Watch) where
         (q.at w s t f n ys b op r h);
   }
 
+  -- a choice
   pub tail_if : {g : Frame} {z : Way on} {x : Exits on} {a b : Task} (v : Bool) → Tail g z x a
       → Tail g z x b → Tail g z x (if v then a else b)
   tail_if true p q = p
   tail_if false p q = q
 
+  -- a choice by the state
   pub tail_asked : {g : Frame} {z : Way on} {x : Exits on} {a b : Task} (test : State → Bool)
       → Tail g z x a → Tail g z x b → Tail g z x (asked test a b)
   tail_asked test p q = record {
@@ -134,6 +144,7 @@ module _ (on : Watch) where
         (λ i v u e gi t' n m. (h i v u e gi).at w s t' f n ys b op (keeps_on on r m) k);
   }
 
+  -- a part, and what comes next
   pub tail_part : {g : Frame} {z : Way on} {y x : Exits on} {i : Option (Way on)} {c : Task}
       (q : FlowsTo on z i) → Leaves on y x → (next : MVal → Task)
       → (Blocked on g q.way → Hush g q.way y c)
@@ -150,6 +161,7 @@ module _ (on : Watch) where
       (λ v u e j. tail_other Returned u returned (l Returned v returned e))
       (λ i v u e j. tail_other (Thrown i) u (thrown i) (l (Thrown i) v (thrown i) e))))
 
+  -- a part that is the last of the form
   pub tail_branch : {g : Frame} {z : Way on} {y x : Exits on} {i : Option (Way on)} {c : Task}
       (q : FlowsTo on z i) → Merges on y x → (Blocked on g q.way → Hush g q.way y c)
       → Tail g z x c

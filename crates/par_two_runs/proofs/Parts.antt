@@ -22,6 +22,7 @@ use Rattle.par_two_runs.proofs.TwoRuns.{step_through}
 
 module _ (on : Watch) where
   -- ---- parts
+  -- what comes behind an unseen part
   over_next : {g : Frame} {y x : Exits on} (l : Leaves on y x) (next : MVal → Task)
       → ((u : MVal) (n : Way on) → IsMade on u → y Normal ≡ Some n → Tail on g n x (next u))
       → (i : Exit) (v : Way on) (u : MVal) → y i ≡ Some v → Gives on i u → Unseen v.context
@@ -111,6 +112,7 @@ module _ (on : Watch) where
       (λ k k' z z' u v a gu gv e e' un un' f f' b s t m n l. apart on r z z' s t f f' m n rs
       (λ u v. tt) l b (left k z u gu e un) (right k' z' v gv e' un'))
 
+  -- a part that is the last of the form
   pub step_branch : {g : Frame} {z r : Way on} {y x : Exits on} {i : Option (Way on)}
       {c c' : Task} (q : FlowsTo on z i) → Merges on y x → Restores on r x
       → Step on g q.way y Any c c' → Step on g z x Any c c'
@@ -139,6 +141,7 @@ module _ (on : Watch) where
       tail_other on (Thrown NULL_POINTER) nothing (thrown NULL_POINTER) (q refl)
   tail_tested false (value.Ref k n) q h = h
 
+  -- a null test with one answer
   step_test : {g : Frame} {z n : Way on} {x : Exits on} {R : MVal → MVal → Type 0} {c c' : Task}
       (sure : Bool) (r : MVal) → Lands (lattice on) n z
       → (sure ≡ false → FlowsTo on z (x (Thrown NULL_POINTER))) → Step on g n x R c c'
@@ -152,6 +155,7 @@ module _ (on : Watch) where
       (step_other on (Thrown NULL_POINTER) nothing nothing (thrown NULL_POINTER) (q refl))
   step_test false (value.Ref k n) e q h = h
 
+  -- a null test in both runs
   pub step_tested : {g : Frame} {n w : Way on} {V : Bool} {x : Exits on}
       {R : MVal → MVal → Type 0} {c c' : Task} (sure : Bool) (r r' : MVal) → Restores on w x
       → (sure ≡ false → FlowsTo on (raised on n V) (x (Thrown NULL_POINTER))) → Values V r r'

@@ -3,15 +3,18 @@ use Rattle.std.proofs.Common.{◌≡◌, ℕ, Bool, true, false, cond, refl, ap,
 use Rattle.std.proofs.lemmas.Bool.{eqb-true}
 use Rattle.par_runs.specs.State.{put}
 
+-- equal choices
 pick : {X : Type 0} (b : Bool) (u v p q : X) → (b ≡ true → u ≡ v) → (b ≡ false → p ≡ q)
     → cond b u p ≡ cond b v q
 pick true u v p q f g = f refl
 pick false u v p q f g = g refl
 
+-- two updates at one place agree where the values do
 pub put_like : {X : Type 0} (f f' : ℕ → X) (c : ℕ) (v v' : X) (i : ℕ) → (i ≡ c → v ≡ v')
     → f i ≡ f' i → put f c v i ≡ put f' c v' i
 put_like f f' c v v' i h p = pick (i == c) v v' (f i) (f' i) (λ e. h (eqb-true i c e)) (λ e. p)
 
+-- an update that puts what is there changes nothing
 pub put_keep : {X : Type 0} (f : ℕ → X) (c : ℕ) (v : X) (i : ℕ) → (i ≡ c → f i ≡ v)
     → f i ≡ put f c v i
 put_keep f c v i h = go (i == c) refl
@@ -20,6 +23,7 @@ put_keep f c v i h = go (i == c) refl
     go true e = h (eqb-true i c e)
     go false e = refl
 
+-- the same of a table of tables
 pub put2_like : {X : Type 0} (f f' : ℕ → ℕ → X) (c k : ℕ) (v v' : X) (i j : ℕ)
     → (i ≡ c → j ≡ k → v ≡ v') → f i j ≡ f' i j
     → put f c (put (f c) k v) i j ≡ put f' c (put (f' c) k v') i j
@@ -32,6 +36,7 @@ put2_like f f' c k v v' i j h p = go (i == c) refl
         put_like (f c) (f' c) k v v' j (h at) (subst (λ z. f z j ≡ f' z j) at p)
     go false e = p
 
+-- one that is elsewhere changes nothing here
 pub put2_keep : {X : Type 0} (f : ℕ → ℕ → X) (c k : ℕ) (v : X) (i j : ℕ) → (i ≡ c → j ≡ k → ⊥)
     → f i j ≡ put f c (put (f c) k v) i j
 put2_keep f c k v i j h = go (i == c) refl
@@ -42,6 +47,7 @@ put2_keep f c k v i j h = go (i == c) refl
         ap (λ z. f z j) at ∙ put_keep (f c) k v j (λ q. absurd (h at q))
     go false e = refl
 
+-- and of a table of those
 pub put3_like : {X : Type 0} (f f' : ℕ → ℕ → ℕ → X) (c n k : ℕ) (v v' : X) (i m j : ℕ)
     → (i ≡ c → j ≡ k → v ≡ v') → f i m j ≡ f' i m j
     → put f c (put (f c) n (put (f c n) k v)) i m j ≡ put f' c (put (f' c) n (put (f' c n) k v'))
@@ -88,6 +94,7 @@ object_like f f' c n n' vs i m j h p = go (i == c) refl
         (rows n n' (h at) (subst (λ z. f z m j ≡ f' z m j) at p) (m == n) refl)
     go false e = p
 
+-- an update of another table changes nothing here
 pub object_keep : {X : Type 0} (f : ℕ → ℕ → ℕ → X) (c n : ℕ) (vs : ℕ → X) (i m j : ℕ)
     → (i ≡ c → ⊥) → f i m j ≡ put f c (put (f c) n vs) i m j
 object_keep f c n vs i m j h = ap (λ r. r m j) (put_keep f c (put (f c) n vs) i (λ e. absurd (h e)))

@@ -51,6 +51,7 @@ pub data Other : Exit → Type 0 where
   returned : Other Returned
   thrown : (c : ℕ) → Other (Thrown c)
 
+-- what holds of each completion
 pub each_exit : (P : Exit → Type 0) → P Normal → P Broken → P Continued → P Returned
     → ((c : ℕ) → P (Thrown c)) → (k : Exit) → P k
 each_exit P a b c r t Normal = a
@@ -122,16 +123,19 @@ module _ (on : Watch) where
   abbrev pub exits : Facts lattice → ℕ → Exits
   exits a p k = ranged k ((a p).exit (kind_of k))
 
+  -- a way that is there, and at least as restrictive, its context too
   pub record FlowsTo (w : Way) (x : Option Way) : Type 0 where
     pub way : Way
     pub there : x ≡ Some way
     pub higher : Flows lattice w way
 
+  -- the same but for the context
   pub record BodyFlowsTo (w : Way) (x : Option Way) : Type 0 where
     pub way : Way
     pub there : x ≡ Some way
     pub higher : Lands lattice w way
 
+  -- a way is there where one flows into it
   pub to_flow : (w : Way) (x : Option Way) → MayFlow lattice (Some w) x → FlowsTo w x
   to_flow w None h = absurd h
   to_flow w (Some z) h = record { way = z; there = refl; higher = h }
@@ -140,6 +144,7 @@ module _ (on : Watch) where
   to_land w None h = absurd h
   to_land w (Some z) h = record { way = z; there = refl; higher = h }
 
+  -- the same, of a way by its equation
   pub flows_is : (w : Way) (x y : Option Way) → x ≡ Some w → MayFlow lattice x y → FlowsTo w y
   flows_is w x y e h = to_flow w y (subst (λ z. MayFlow lattice z y) e h)
 
@@ -149,6 +154,7 @@ module _ (on : Watch) where
   abbrev pub Leaves : Exits → Exits → Type 0
   Leaves y x = (k : Exit) (v : Way) → Other k → y k ≡ Some v → FlowsTo v (x k)
 
+  -- the exits of a part are among those of the form, the normal one with a context of its own
   pub record Merges (y x : Exits) : Type 0 where
     pub normal : (v : Way) → y Normal ≡ Some v → BodyFlowsTo v (x Normal)
     pub leaves : Leaves y x
@@ -180,6 +186,7 @@ module _ (on : Watch) where
   abbrev pub Agrees : List Witnessed → List Witnessed → Type 0
   Agrees r q = Agree Explained (shown r) (shown q)
 
+  -- agreeing goes both ways
   pub swap : (r q : List Witnessed) → Agrees r q → Agrees q r
   swap r q =
       agree_swap Explained
@@ -206,6 +213,7 @@ module _ (on : Watch) where
     pub locks : (l p : ℕ) → lock_written (slice_get on.table.locks l) ≡ Some p → Sees p
         → has s.locks l ≡ has t.locks l
 
+  -- a state agrees with itself
   pub same_here : {s : State} → Same s s
   same_here = record {
     statics = λ c f p. refl;
@@ -215,6 +223,7 @@ module _ (on : Watch) where
     locks = λ l p e v. refl;
   }
 
+  -- one stretch after another
   pub same_on : {s t u : State} → Same s t → Same t u → Same s u
   same_on a b = record {
     statics = λ c f p. a.statics c f p ∙ b.statics c f p;
@@ -224,6 +233,7 @@ module _ (on : Watch) where
     locks = λ l p e v. a.locks l p e v ∙ b.locks l p e v;
   }
 
+  -- and backwards
   pub same_back : {s t : State} → Same s t → Same t s
   same_back a = record {
     statics = λ c f p. sym (a.statics c f p);
@@ -239,6 +249,7 @@ module _ (on : Watch) where
   IsMade value.Null = Unit {0}
   IsMade (value.Ref c n) = (name : Name) × (made_named on.table c ≡ Some name)
 
+  -- each object in the state is of a class that has a name
   pub record Made (s : State) : Type 0 where
     pub locals : (i : ℕ) → IsMade (s.locals i)
     pub result : IsMade s.result
@@ -253,6 +264,7 @@ module _ (on : Watch) where
   Gives Returned v = Unit {0}
   Gives (Thrown c) v = Unit {0}
 
+  -- what leaves by another exit hands on nothing
   pub gives_other : (k : Exit) (v : MVal) → Other k → Gives k v
   gives_other _ v broken = tt
   gives_other _ v continued = tt
@@ -265,6 +277,7 @@ module _ (on : Watch) where
     pub held : (l : ℕ) → IsTrue (g.held l) → IsTrue (has s.locks l)
     pub made : Made s
 
+  -- what is known at a way is known at a higher one
   pub open_body : {g : Frame} {w x : Way} {s : State} → Lands lattice w x → Opened g w s
       → Opened g x s
   open_body h p = record { known = λ l q. p.known l (h.locks l q); held = p.held; made = p.made }
@@ -272,15 +285,18 @@ module _ (on : Watch) where
   pub flows_here : {w : Way} → Flows lattice w w
   flows_here = record { context = λ p. p; lands = record { env = λ i p. p; locks = λ l p. p } }
 
+  -- a way with a value in its context
   abbrev pub raised : Way → Bool → Way
   raised w v = ways.raised lattice v w
 
+  -- only the context is raised
   pub lands_raised : {w : Way} (v : Bool) → Lands lattice w (raised w v)
   lands_raised v = record { env = λ i p. p; locks = λ l p. p }
 
   pub flows_raised : {w : Way} (v : Bool) → Flows lattice w (raised w v)
   flows_raised {w} v = record { context = λ p. and_l w.context v p; lands = lands_raised v }
 
+  -- so it does not matter where the context does not
   pub raised_lands : {w : Way} {x : Option Way} (v : Bool) → BodyFlowsTo w x
       → BodyFlowsTo (raised w v) x
   raised_lands v q = record {
@@ -316,9 +332,11 @@ module _ (on : Watch) where
     pub moved : Unseen w.context → Moved g w x s t
     pub calm : Calm g w x s t
 
+  -- the context or the write effect of the method is not seen
   pub record Blocked (g : Frame) (w : Way) : Type 0 where
     pub unseen_part : Unseen w.context ⊎ (Sees g.own.effect → ⊥)
 
+  -- what blocks a lower way blocks a higher one
   pub blocked_on : {g : Frame} {w x : Way} → (IsTrue x.context → IsTrue w.context) → Blocked g w
       → Blocked g x
   blocked_on h b = record {
@@ -337,6 +355,7 @@ module _ (on : Watch) where
   pub blind : (g : Frame) (w : Way) (to : ℕ) → Writes g w to → Blocked g w → Sees to → ⊥
   blind g w to q b p = ⊎_elim (λ u. u (q.context p)) (λ u. u (q.effect p)) b.unseen_part
 
+  -- stretches one after the other
   pub moved_on : {g : Frame} {w x y : Way} {s t u : State} → Moved g w x s t → Moved g x y t u
       → Moved g w y s u
   moved_on a b = record {
@@ -360,6 +379,7 @@ module _ (on : Watch) where
     calm = calm_on a.calm b.calm;
   }
 
+  -- no step is a stretch to any higher way
   pub moved_body : {g : Frame} {w x : Way} {s : State} → Lands lattice w x → Moved g w x s s
   moved_body h = record { locals = λ i p. (h.env i p, refl); result = λ p. refl }
 
@@ -373,6 +393,7 @@ module _ (on : Watch) where
     calm = calm_body h.lands;
   }
 
+  -- two states stay alike while each run goes a stretch of its own
   pub like_moved : {g : Frame} {w w' x x' : Way} {s t s' t' : State} → Like g w w' s t
       → Moved g w x s s' → Calm g w x s s' → Moved g w' x' t t' → Calm g w' x' t t'
       → Like g x x' s' t'
@@ -389,6 +410,7 @@ module _ (on : Watch) where
     right = cb.opens l.right;
   }
 
+  -- and at a higher way
   pub like_body : {g : Frame} {w x : Way} {s t : State} → Lands lattice w x → Like g w w s t
       → Like g x x s t
   like_body h l = like_moved l (moved_body h) (calm_body h) (moved_body h) (calm_body h)

@@ -26,12 +26,14 @@ module _ (on : Watch) where
     ended : (z : Way on) → Apart Normal z
     gone : (k : Exit) (z : Way on) → Other k → Unseen z.context → Apart k z
 
+  -- an unseen stretch of one run, up to an exit where it may be over
   pub record Over (g : Frame) (w : Way on) (x : Exits on) (c : Task) : Type 0 where
     pub at : (s : State) (f : Rests) (n : ℕ) (ys : List Witnessed) → Opened on g w s
         → ((k : Exit) (z : Way on) (v : MVal) → x k ≡ Some z → Gives on k v → Apart k z
         → (t : State) (n : ℕ) → Moved on g w z s t → Calm on g w z s t
         → Agrees on (f k v t n).events ys) → Agrees on (c f s n).events ys
 
+  -- what is silent is such a stretch
   pub over_tail : {g : Frame} {w : Way on} {x : Exits on} {c : Task} → Unseen w.context
       → Tail on g w x c → Over g w x c
   over_tail {w} u q = record {
@@ -46,6 +48,7 @@ module _ (on : Watch) where
         });
   }
 
+  -- also from a way with an unseen value in its context
   pub over_raised : {g : Frame} {w : Way on} (v : Bool) {x : Exits on} {c : Task}
       → Unseen (w.context && v) → Tail on g (raised on w v) x c → Over g w x c
   over_raised ps u q = record {
@@ -56,6 +59,7 @@ module _ (on : Watch) where
         (calm_on on (calm_body on (lands_raised on ps)) c));
   }
 
+  -- a stretch that ends at once
   pub over_normal : {g : Frame} {w : Way on} {x : Exits on} (v : MVal) → IsMade on v
       → BodyFlowsTo on w (x Normal) → Over g w x (done Normal v)
   over_normal v i q = record {
@@ -88,6 +92,7 @@ module _ (on : Watch) where
     pub at : (s t : State) (f f' : Rests) (m n : ℕ) → Like on g w w s t → Both g x R f f'
         → Agrees on (c f s m).events (c' f' t n).events
 
+  -- a step is paid for in both
   pub step_paid : {g : Frame} {w : Way on} {x : Exits on} {R : MVal → MVal → Type 0} (c c' : Task)
       → Step g w x R c c' → Step g w x R (paid c) (paid c')
   step_paid c c' q = record {
@@ -96,6 +101,7 @@ module _ (on : Watch) where
         (λ m. swap on _ _ (paid_left on c' f' t n _ (λ n. swap on _ _ (q.at s t f f' m n l h))));
   }
 
+  -- both are over, with values in R
   pub step_normal : {g : Frame} {w : Way on} {x : Exits on} {R : MVal → MVal → Type 0}
       (u v : MVal) → IsMade on u → IsMade on v → BodyFlowsTo on w (x Normal) → R u v
       → Step g w x R (done Normal u) (done Normal v)
@@ -105,6 +111,7 @@ module _ (on : Watch) where
         (normals q.way u v iu iv r) s t m n (like_body on q.higher l);
   }
 
+  -- both leave in one way
   pub step_other : {g : Frame} {w : Way on} {x : Exits on} {R : MVal → MVal → Type 0} (k : Exit)
       (u v : MVal) → Other k → FlowsTo on w (x k) → Step g w x R (done k u) (done k v)
   step_other k u v j q = record {
@@ -113,10 +120,12 @@ module _ (on : Watch) where
         (like_body on q.higher.lands l);
   }
 
+  -- from a lower way
   pub step_body : {g : Frame} {w v : Way on} {x : Exits on} {R : MVal → MVal → Type 0}
       {c c' : Task} → Lands (lattice on) w v → Step g v x R c c' → Step g w x R c c'
   step_body e q = record { at = λ s t f f' m n l h. q.at s t f f' m n (like_body on e l) h }
 
+  -- both states change
   pub step_change : {g : Frame} {w : Way on} (v : Way on) {x : Exits on}
       {R : MVal → MVal → Type 0} {c c' : Task} (h h' : State → State)
       → ((s t : State) → Like on g w w s t → Like on g v v (h s) (h' t)) → Step g v x R c c'
@@ -152,18 +161,21 @@ module _ (on : Watch) where
         (λ b. (q (λ b'. absurd cc)).at s t f f' m n l k)));
   }
 
+  -- one choice in both
   pub step_if_at : {g : Frame} {w : Way on} {x : Exits on} {R : MVal → MVal → Type 0}
       {a b a' b' : Task} (v : Bool) → Step g w x R a a' → Step g w x R b b'
       → Step g w x R (if v then a else b) (if v then a' else b')
   step_if_at true p q = p
   step_if_at false p q = q
 
+  -- equal choices in both
   pub step_if : {g : Frame} {w : Way on} {x : Exits on} {R : MVal → MVal → Type 0}
       {a b a' b' : Task} (u v : Bool) → u ≡ v → Step g w x R a a' → Step g w x R b b'
       → Step g w x R (if u then a else b) (if v then a' else b')
   step_if {g} {w} {x} {R} {a} {b} {a'} {b'} u v e p q =
       subst (λ v. Step g w x R (if u then a else b) (if v then a' else b')) e (step_if_at u p q)
 
+  -- the left run has left where the context is not seen
   pair_left : {R : MVal → MVal → Type 0} (w : Way on) (x : Exits on) (k k' : Exit) (z z' : Way on)
       (u v : MVal) → Gives on k u → Gives on k' v → Restores on w x → Other k → Unseen z.context
       → x k ≡ Some z → x k' ≡ Some z' → Apart k' z' → Pair R k k' z z' u v
@@ -172,6 +184,7 @@ module _ (on : Watch) where
   pair_left w x k k' z z' u v iu iv r j un e e' (gone _ _ j' un') =
       left_gone k k' z z' u v iu iv j un un'
 
+  -- and the right one
   pair_right : {R : MVal → MVal → Type 0} (w : Way on) (x : Exits on) (k k' : Exit)
       (z z' : Way on) (u v : MVal) → Gives on k u → Gives on k' v → Restores on w x → Other k'
       → Unseen z'.context → x k ≡ Some z → x k' ≡ Some z' → Apart k z → Pair R k k' z z' u v
@@ -180,6 +193,7 @@ module _ (on : Watch) where
   pair_right w x k k' z z' u v iu iv r j un e e' (gone _ _ j' un') =
       right_gone k k' z z' u v iu iv j un' un
 
+  -- two unseen stretches are over
   pair_of : {R : MVal → MVal → Type 0} (w : Way on) (x : Exits on) (k k' : Exit) (z z' : Way on)
       (u v : MVal) → Gives on k u → Gives on k' v → Restores on w x → ((u v : MVal) → R u v)
       → x k ≡ Some z → x k' ≡ Some z' → Apart k z → Apart k' z' → Pair R k k' z z' u v
@@ -204,6 +218,7 @@ module _ (on : Watch) where
       (h k k' z z' u v p p' (pair_of r x k k' z z' u v iu iv e all p p' a a') s' t' m n
       (like_moved on l i ci j cj)))))
 
+  -- two runs that go apart are in step again at their exits
   pub step_apart : {g : Frame} {w r : Way on} {x : Exits on} {R : MVal → MVal → Type 0}
       {c c' : Task} → Restores on r x → ((u v : MVal) → R u v) → Over g w x c → Over g w x c'
       → Step g w x R c c'
@@ -236,6 +251,7 @@ module _ (on : Watch) where
       (λ b. un (q.higher.context b)) p q.there a) s' t m n
       (like_moved on l i ci (moved_body on q.higher.lands) (calm_body on q.higher.lands)))
 
+  -- a stretch that leaves at once
   pub over_other : {g : Frame} {w : Way on} {x : Exits on} (k : Exit) (v : MVal) → Other k
       → Unseen w.context → FlowsTo on w (x k) → Over g w x (done k v)
   over_other k v j u q = over_tail u (tail_other on k v j q)

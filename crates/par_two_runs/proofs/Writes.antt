@@ -67,6 +67,7 @@ module _ (on : Watch) where
           (first_field on.table c) n (first_made c) (λ n f. m.fields c n f) f) m.fields n f;
     }
 
+    -- a birth that is not seen
     pub tail_born : {g : Frame} {z : Way on} {x : Exits on} (c : ℕ) (name : Name)
         → made_named on.table c ≡ Some name → Writes on g z ((declared on).birth c)
         → BodyFlowsTo on z (x Normal) → Tail on g z x (born on.table c name)
@@ -94,6 +95,7 @@ module _ (on : Watch) where
           })) (tail_normal on (value.Ref c (t.births c)) (name, is) q))).at w s t f n ys b op r h;
     }
 
+    -- a birth in both runs
     pub step_born : {g : Frame} {w : Way on} {x : Exits on} {R : MVal → MVal → Type 0} (c : ℕ)
         (name : Name) → made_named on.table c ≡ Some name → BodyFlowsTo on w (x Normal)
         → ((u v : MVal) → (Sees on ((declared on).birth c) → u ≡ v) → R u v)
@@ -153,6 +155,7 @@ module _ (on : Watch) where
     set_level : (c f : ℕ) (v : MVal) (s : State) → Level on s (set_static c f v s)
     set_level c f v s = record { locals = refl; result = refl; locks = refl }
 
+    -- a write to a field that is not seen
     hidden_static : (c f : ℕ) (v : MVal) (s : State) → (Sees on ((declared on).field c f) → ⊥)
         → Same on s (set_static c f v s)
     hidden_static c f v s u = record {
@@ -167,6 +170,7 @@ module _ (on : Watch) where
       locks = λ l p e v. refl;
     }
 
+    -- a write in both runs
     like_static : (c f : ℕ) (u v : MVal) (s t : State)
         → (Sees on ((declared on).field c f) → u ≡ v) → Same on s t
         → Same on (set_static c f u s) (set_static c f v t)
@@ -193,6 +197,7 @@ module _ (on : Watch) where
       fields = m.fields;
     }
 
+    -- a write to a static field in one run
     pub tail_static : {g : Frame} {z : Way on} {x : Exits on} (c f : ℕ) (v : MVal) → IsMade on v
         → Writes on g z ((declared on).field c f) → BodyFlowsTo on z (x Normal)
         → Tail on g z x (writes_static on.table c f v)
@@ -206,6 +211,7 @@ module _ (on : Watch) where
         (hidden_static c f v s (λ p. blind on g z ((declared on).field c f) wr b p)))
         (tail_normal on nothing tt q)))
 
+    -- and in two
     pub step_static : {g : Frame} {w : Way on} {x : Exits on} (c f : ℕ) (V : Bool) (u v : MVal)
         → IsMade on u → IsMade on v → on.Release ((declared on).field c f) V w.locks
         → Values V u v → BodyFlowsTo on w (x Normal)
@@ -254,6 +260,7 @@ module _ (on : Watch) where
         }
         go false = m
 
+    -- a write to a field of objects that is not seen
     hidden_field : (c n f : ℕ) (v : MVal) (s : State) → (Sees on ((declared on).field c f) → ⊥)
         → Same on s (set_field c n f v s)
     hidden_field c n f v s u = go (nat_lt n (s.births c))
@@ -272,6 +279,7 @@ module _ (on : Watch) where
         }
         go false = same_here on
 
+    -- a write in both runs, to one object where the field is seen
     like_field : (c n n' f : ℕ) (u v : MVal) (s t : State) → IsField false (field_at on.table c f)
         → (Sees on ((declared on).field c f) → n ≡ n')
         → (Sees on ((declared on).field c f) → u ≡ v) → Same on s t
@@ -306,6 +314,7 @@ module _ (on : Watch) where
             subst (λ b'. Same on (if b then field_written c n f u s else s)
             (if b' then field_written c n f v t else t)) r (both q b)
 
+    -- a write to a field of an object in one run
     pub tail_field : {g : Frame} {z : Way on} {x : Exits on} (c f : ℕ) (r v : MVal) → IsMade on v
         → Writes on g z ((declared on).field c f) → BodyFlowsTo on z (x Normal)
         → Tail on g z x (writes_field on.table c f r v)
@@ -319,6 +328,7 @@ module _ (on : Watch) where
         (hidden_field c (object_number r) f v s
         (λ p. blind on g z ((declared on).field c f) wr b p))) (tail_normal on nothing tt q)))
 
+    -- and in two
     pub step_field : {g : Frame} {w : Way on} {x : Exits on} (c f : ℕ) (V : Bool)
         (r r' u v : MVal) → IsField false (field_at on.table c f) → IsMade on u → IsMade on v
         → on.Release ((declared on).field c f) V w.locks
@@ -364,6 +374,7 @@ module _ (on : Watch) where
         (λ m is. tail_emit on (Out m.class m.name (number_of v)) ((declared on).channel c k)
         (sound.out c k m is (number_of v)) wr (tail_normal on nothing tt q))
 
+    -- and in two
     pub step_output : {g : Frame} {w : Way on} {x : Exits on} {R : MVal → MVal → Type 0} (c k : ℕ)
         (V : Bool) (u v : MVal) → R nothing nothing
         → on.Release ((declared on).channel c k) V w.locks → Values V u v
