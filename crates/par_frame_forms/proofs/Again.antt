@@ -1,7 +1,7 @@
 -- What spells a form is read as that form again, whatever stands behind it.
-use Rattle.std.proofs.Common.{◌≡◌, ℕ, suc, ◌+◌, ◌-◌, ◌<◌, ◌≤◌, ◌^◌, true, false}
-use Rattle.std.proofs.Common.{List, [], ◌∷◌, ◌++◌, length, Option, refl, ap}
-use Rattle.std.proofs.Common.{◌∙◌, append_assoc, length-append, arith, ◌==◌}
+use Rattle.std.proofs.Common.{◌≡◌, ℕ, suc, ◌+◌, ◌-◌, ◌<◌, ◌≤◌, ◌^◌, true, false, List, [], ◌∷◌}
+use Rattle.std.proofs.Common.{◌++◌, length, Option, refl, ap, ◌∙◌, append_assoc, length-append}
+use Rattle.std.proofs.Common.{arith, ◌==◌}
 use Rattle.std.specs.Prelude.{nat_le, nat_lt}
 use Rattle.std.proofs.lemmas.Bool.{lt-ltb, le-ltb, le-leb, ne_eqb}
 use Rattle.std.proofs.lemmas.List.{drop_at}
@@ -15,9 +15,8 @@ use Rattle.par_frame_forms.specs.declared.form.FrameForm.TheVariants.{OneOperand
 use Rattle.par_frame_forms.specs.declared.form.FrameForm.TheVariants.{Full}
 use Rattle.par_frame_forms.specs.Spelled.{spelled, spelled_type, spelled_types, spelled_all}
 use Rattle.par_frame_forms.specs.Spelled.{TypeFits, TypesFit, FormFits}
-use Rattle.par_frame_forms.specs.Reading.{Read, and_read, gives, read_u2, read_type}
-use Rattle.par_frame_forms.specs.Reading.{read_types, read_list, form_behind, form_of, read_form}
-use Rattle.par_frame_forms.specs.Reading.{read_forms}
+use Rattle.par_frame_forms.specs.Reading.{Read, and_read, gives, read_u2, read_type, read_types}
+use Rattle.par_frame_forms.specs.Reading.{read_list, form_behind, form_of, read_form, read_forms}
 use Rattle.par_frame_forms.specs.Laws.{SpelledFormsAreRead}
 
 -- what is read behind what was read
