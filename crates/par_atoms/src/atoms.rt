@@ -1,6 +1,6 @@
 // Joins of policies.
 ghost use Rattle.std.specs.Prelude.{◌≡◌, ℕ, ◌<◌, ◌↔◌, IsTrue, length};
-ghost use Rattle.par_bits.specs.Sets.{has, none, adding, union, IsWithin};
+ghost use Rattle.par_bits.specs.Sets.{has, none, adding, union, minus, IsWithin};
 ghost use Rattle.par_atoms.specs.Atoms.{IsSetBelowAt};
 
 use crate::opened::Opened;
@@ -62,6 +62,22 @@ impl Atoms {
         Atoms {
             policies: self.policies.union(&other.policies),
         }
+    }
+
+    /// The policies of this set that are not in the other one.
+    pub fn minus(&self, other: &Atoms) -> Atoms
+        ensures { has result ≡ minus (has self.now) (has other.now) }
+    {
+        Atoms {
+            policies: self.policies.minus(&other.policies),
+        }
+    }
+
+    /// Each policy of the set has a number below 256: a law, of which nothing runs.
+    pub fn members_are_below(&self)
+        ensures { (n : ℕ) → IsTrue (has self.now n) → n < 256 }
+    {
+        self.policies.members_are_below();
     }
 
     /// Whether each policy of this set is in the other one.

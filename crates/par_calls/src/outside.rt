@@ -108,11 +108,18 @@ fn long_line(alloc: Global) -> Result<Vec<u8>, NoMemory> {
     Ok(line)
 }
 
+// The place of a file of this process, which no other test has.
+fn own_name(rt: &HostRuntime, last: &str) -> Result<String, Fail> {
+    let place = env::temp_dir(rt)?;
+    let number = process::id(rt.process());
+    Ok(format!(in rt.alloc(); "{}/par_io_{number}{last}", place.as_str())?)
+}
+
 #[test]
 fn the_system_keeps_a_file_and_takes_lines(rt: HostRuntime) -> Result<(), Fail> {
     let alloc = rt.alloc();
     let place = env::temp_dir(&rt)?;
-    let name = format!(in alloc; "{}/par_io_{}", place.as_str(), process::id(rt.process()))?;
+    let name = own_name(&rt, "")?;
     let name = name.as_str();
     let mut folder = HostFolder::new(&rt);
     expect(keeps(alloc, &mut folder, name), "a file is kept")?;
@@ -126,4 +133,43 @@ fn the_system_keeps_a_file_and_takes_lines(rt: HostRuntime) -> Result<(), Fail> 
     expect(out.put(b"a line\n").is_ok(), "a line")?;
     let line = long_line(alloc)?;
     expect(out.put(line.as_slice()).is_ok(), "a line of 200,000 bytes")
+}
+
+// How many bytes the long file has.
+const LONG: u64 = 20_001;
+
+// A long file, whose bytes come again after 251.
+fn long_file(alloc: Global) -> Result<Vec<u8>, NoMemory> {
+    let mut bytes = Vec::new(alloc);
+    for place in 0..LONG {
+        bytes.push((place % 251) as u8)?;
+    }
+    Ok(bytes)
+}
+
+// Whether a file that is written is read again as it was written, each byte and no more.
+fn keeps_all<F: Folder>(alloc: Global, folder: &mut F, name: &str, bytes: &[u8]) -> bool {
+    folder.write(alloc, name, bytes).is_ok() && reads(alloc, folder, name, LONG, bytes)
+}
+
+// The first bytes of a class file.
+const CLASS_FILE: &[u8] = b"\xca\xfe\xba\xbe\x00\x00\x00\x34";
+
+#[test]
+fn the_system_keeps_files_whole(rt: HostRuntime) -> Result<(), Fail> {
+    let alloc = rt.alloc();
+    let name = own_name(&rt, ".class")?;
+    let name = name.as_str();
+    let long = long_file(alloc)?;
+    let mut folder = HostFolder::new(&rt);
+    for (row, bytes) in [
+        ("a file of 20,001 bytes", long.as_slice()),
+        ("a shorter one over it", CLASS_FILE),
+        ("the same once more", CLASS_FILE),
+        ("an empty one over it", b""),
+    ] {
+        expect(keeps_all(alloc, &mut folder, name, bytes), row)?;
+    }
+    fs::remove_file(&rt, name)?;
+    Ok(())
 }

@@ -15,7 +15,7 @@ use Rattle.par_pass.proofs.Under.{AreAllLow, way_low}
 use Rattle.par_checks.specs.Asked.{Condition, Open, Released, Worth, Joined, Context, Effect, Among}
 use Rattle.par_checks.specs.Asked.{Never, Check}
 use Rattle.par_checks.specs.Keeps.{Satisfies}
-use Rattle.par_checks.specs.Verdict.{among, Seeing, KeepsSeen, KeepsNumbered}
+use Rattle.par_checks.specs.Verdict.{among, given, Seeing, KeepsSeen, KeepsNumbered}
 use Rattle.par_checks.specs.Laws.{LeastFactsThatFailRefuse}
 use Rattle.par_checks.proofs.Monotone.{joined_more, joined_below, more_open}
 
@@ -27,8 +27,8 @@ module _ (table : Table) (f : Facts numbers) (a : Seeing table)
 
   satisfied : (w : Way) (x : rules.Way (among table))
       → FlowsUnder (among table) (seen table.policies) w x → (c : Condition)
-      → Satisfies (among table) (λ p. p) table.policies a x c
-      → Satisfies numbers (joined table.policies) table.policies f w c
+      → Satisfies (among table) (λ p. p) (given table) a x c
+      → Satisfies numbers (joined table.policies) (given table) f w c
   unfolding seen
   satisfied w x h (Open locks) k = sub_trans _ _ _ k h.lands.locks
   satisfied w x h (Released v p) k = λ actor locks s.
@@ -53,8 +53,8 @@ module _ (table : Table) (f : Facts numbers) (a : Seeing table)
 
   holds : (o : Option Way) (p : Option (rules.Way (among table)))
       → MayFlow (among table) (seen table.policies) o p → (c : Condition)
-      → Holds (among table) p (λ x. Satisfies (among table) (λ p. p) table.policies a x c)
-      → Holds numbers o (λ w. Satisfies numbers (joined table.policies) table.policies f w c)
+      → Holds (among table) p (λ x. Satisfies (among table) (λ p. p) (given table) a x c)
+      → Holds numbers o (λ w. Satisfies numbers (joined table.policies) (given table) f w c)
   holds None p h c k = tt
   holds (Some w) None h c k = absurd h
   holds (Some w) (Some x) h c k = satisfied w x h c k

@@ -17,7 +17,7 @@ use Rattle.par_pass.proofs.Along.{stand_for}
 use Rattle.par_checks.specs.Asked.{Condition, Open, Released, Worth, Joined, Context, Effect, Among}
 use Rattle.par_checks.specs.Asked.{Never, Check}
 use Rattle.par_checks.specs.Keeps.{Satisfies}
-use Rattle.par_checks.specs.Verdict.{among, KeepsSeen, KeepsNumbered}
+use Rattle.par_checks.specs.Verdict.{among, given, KeepsSeen, KeepsNumbered}
 use Rattle.par_checks.specs.Laws.{ClosedFactsThatKeepAccept}
 use Rattle.par_checks.proofs.Monotone.{joined_more, more_open}
 
@@ -38,8 +38,8 @@ module _ (table : Table) (f : Facts numbers) where
 
   satisfied : (w : Way) (x : rules.Way (among table))
       → Flows (among table) x (as_way (among table) (stand_for table.policies) w) → (c : Condition)
-      → Satisfies numbers (joined table.policies) table.policies f w c
-      → Satisfies (among table) (λ p. p) table.policies meant x c
+      → Satisfies numbers (joined table.policies) (given table) f w c
+      → Satisfies (among table) (λ p. p) (given table) meant x c
   unfolding stand_for
   satisfied w x h (Open locks) k = sub_trans _ _ _ k h.lands.locks
   satisfied w x h (Released v p) k = λ actor locks s.
@@ -64,8 +64,8 @@ module _ (table : Table) (f : Facts numbers) where
   holds : (o : Option Way) (p : Option (rules.Way (among table)))
       → MayFlow (among table) p (as_may (among table) (stand_for table.policies) o)
       → (c : Condition)
-      → Holds numbers o (λ w. Satisfies numbers (joined table.policies) table.policies f w c)
-      → Holds (among table) p (λ x. Satisfies (among table) (λ p. p) table.policies meant x c)
+      → Holds numbers o (λ w. Satisfies numbers (joined table.policies) (given table) f w c)
+      → Holds (among table) p (λ x. Satisfies (among table) (λ p. p) (given table) meant x c)
   holds o None h c k = tt
   holds None (Some x) h c k = absurd h
   holds (Some w) (Some x) h c k = satisfied w x h c k

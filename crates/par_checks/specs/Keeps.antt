@@ -1,9 +1,8 @@
 -- When facts keep a rule.
-use Rattle.std.specs.Prelude.{ℕ, List, IsTrue, ◌++◌, map, slice_get}
+use Rattle.std.specs.Prelude.{ℕ, List, IsTrue, ◌++◌, map}
 use Rattle.std.specs.List.{filter, range_with_len}
-use Rattle.par_policy.specs.declared.clauses.Clause.{Clause}
 use Rattle.par_bits.specs.Sets.{Set, IsWithin}
-use Rattle.par_rules.specs.Lattice.{Lattice, Seen, IsSeenBelow, seen_by}
+use Rattle.par_rules.specs.Lattice.{Lattice, Seen, IsSeenBelow}
 use Rattle.par_rules.specs.Ways.{Way}
 use Rattle.par_rules.specs.Facts.{Facts}
 use Rattle.par_rules.specs.Ranges.{MOST}
@@ -21,11 +20,8 @@ IsSeenBelowAt p opened q =
     (actor : ℕ) (locks : List ℕ)
     → IsTrue (q actor locks) → IsTrue (p actor (locks ++ locks_in opened))
 
--- over a lattice whose policies are seen so, and a table of policies
-module _ (P : Lattice) (seen : P.Policy → Seen) (table : List (List Clause)) where
-  abbrev pub given : ℕ → Seen
-  given n = seen_by (slice_get table n)
-
+-- over a lattice whose policies are seen so, with these policies by their numbers
+module _ (P : Lattice) (seen : P.Policy → Seen) (given : ℕ → Seen) where
   abbrev pub Satisfies : Facts P → Way P → Condition → Type 0
   Satisfies a w (Open locks) = IsWithin locks w.locks
   Satisfies a w (Released v p) = IsSeenBelowAt (seen (a v).value) w.locks (given p)

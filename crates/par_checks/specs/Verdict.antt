@@ -1,8 +1,8 @@
 -- When a body is accepted, and where it breaks a rule.
-use Rattle.std.specs.Prelude.{◌≡◌, ℕ, Contains}
+use Rattle.std.specs.Prelude.{◌≡◌, ℕ, Contains, slice_get}
 use Rattle.par_typed.specs.declared.table.Table.{Table}
 use Rattle.par_typed.specs.Plain.{Body}
-use Rattle.par_rules.specs.Lattice.{Lattice, policies, numbers, joined}
+use Rattle.par_rules.specs.Lattice.{Lattice, Seen, policies, numbers, joined, seen_by}
 use Rattle.par_rules.specs.Facts.{Facts}
 use Rattle.par_rules.specs.Declares.{declares}
 use Rattle.par_rules.specs.Closed.{IsClosed}
@@ -17,12 +17,16 @@ among table = policies table.policies
 abbrev pub Seeing : Table → Type 0
 Seeing table = Facts (among table)
 
+-- and one of them by its number
+abbrev pub given : Table → ℕ → Seen
+given table n = seen_by (slice_get table.policies n)
+
 -- facts over policies keep a rule, and facts over sets of their numbers do
 abbrev pub KeepsSeen : (table : Table) → Seeing table → Check → Type 0
-KeepsSeen table a c = Keeps (among table) (λ p. p) table.policies a c
+KeepsSeen table a c = Keeps (among table) (λ p. p) (given table) a c
 
 abbrev pub KeepsNumbered : Table → Facts numbers → Check → Type 0
-KeepsNumbered table f c = Keeps numbers (joined table.policies) table.policies f c
+KeepsNumbered table f c = Keeps numbers (joined table.policies) (given table) f c
 
 -- some closed facts keep all rules
 pub record IsAccepted (table : Table) (b : Body) : Type 0 where

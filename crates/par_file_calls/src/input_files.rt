@@ -1,5 +1,6 @@
 use par_inputs::error::BadInput;
-use par_inputs::{line_of_entry, read_inputs};
+use par_inputs::{LONGEST_INPUTS, line_of_entry, read_inputs};
+use par_lexer::list::NoMemory;
 use par_values::inputs::{ChannelInput, Inputs};
 use par_worked::expect;
 use std::alloc::Global;
@@ -98,4 +99,38 @@ fn an_entry_stands_on_its_line(_rt: HostRuntime) -> Result<(), Fail> {
     let bytes = b"\nint.void: 1\n\nvoid.int: 2";
     expect(line_of_entry(bytes, 0) == 2, "the first entry")?;
     expect(line_of_entry(bytes, 1) == 4, "the second entry")
+}
+
+// How many lines the long file has.
+const LINES: usize = 100_000;
+
+// A file of so many lines, each of a channel of its own.
+fn long_file(alloc: Global) -> Result<Vec<u8>, NoMemory> {
+    let mut bytes = Vec::new(alloc);
+    for number in 0..LINES {
+        let line = format!(in alloc; "a.x{number:05}:\n")?;
+        bytes.extend_from_slice(line.as_bytes())?;
+    }
+    Ok(bytes)
+}
+
+// How many channels a file has that may be long, or the first wrong line.
+fn count_of(alloc: Global, bytes: &[u8]) -> Result<usize, BadInput> {
+    if bytes.len() > LONGEST_INPUTS {
+        return Err(BadInput::Line(0));
+    }
+    let inputs = read_inputs(alloc, bytes)?;
+    Ok(inputs.channels.len())
+}
+
+#[test]
+fn a_file_may_have_100000_lines(rt: HostRuntime) -> Result<(), Fail> {
+    let mut bytes = long_file(rt.alloc())?;
+    let all = count_of(rt.alloc(), bytes.as_slice())?;
+    expect(all == LINES, "each line is an entry")?;
+    bytes.extend_from_slice(b"a.x00000: 1\n")?;
+    expect(
+        count_of(rt.alloc(), bytes.as_slice()) == Err(BadInput::Line(100_001)),
+        "the first channel once more",
+    )
 }

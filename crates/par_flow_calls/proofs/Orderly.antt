@@ -5,11 +5,12 @@ use Rattle.std.specs.List.{AllByRecursion}
 use Rattle.par_typed.specs.declared.table.Table.{Table}
 use Rattle.par_typed.specs.declared.table.ClassInfo.{ClassInfo}
 use Rattle.par_typed.specs.Plain.{Body}
+use Rattle.par_bodies.specs.Members as members
 use Rattle.par_well_typed.specs.Orderly as well
 use Rattle.par_verdict.specs.Accepted as verdict
 use Rattle.par_verdict.specs.Accepted.{IsOrderlyBody}
 
-same_methods : (o : Option ClassInfo) → verdict.methods_in o ≡ well.methods_in o
+same_methods : (o : Option ClassInfo) → verdict.methods_in o ≡ members.methods_in o
 same_methods None = refl
 same_methods (Some class) = refl
 

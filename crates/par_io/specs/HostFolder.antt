@@ -3,7 +3,7 @@ use Rattle.par_io.specs.Causes.{FolderCounts}
 use Rattle.par_io.specs.declared.host_folder.HostFolder.{HostFolder}
 
 -- its calls, and its answers of each kind
-abbrev pub counts_of : {R F D : Type 0} → HostFolder R F D → FolderCounts
+abbrev pub counts_of : {R : Type 0} → HostFolder R → FolderCounts
 counts_of f = record {
   reads = f.reads;
   writes = f.writes;

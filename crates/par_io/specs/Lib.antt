@@ -4,3 +4,4 @@ pub mod MemFolder
 pub mod MemSink
 pub mod HostFolder
 pub mod HostSink
+pub mod Opening

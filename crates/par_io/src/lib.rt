@@ -10,6 +10,7 @@ mod host_folder;
 mod host_sink;
 mod mem_folder;
 mod mem_sink;
+mod opener;
 mod outside;
 mod whole;
 
@@ -17,4 +18,5 @@ pub use host_folder::HostFolder;
 pub use host_sink::HostSink;
 pub use mem_folder::MemFolder;
 pub use mem_sink::MemSink;
+pub use opener::Opener;
 pub use outside::{Folder, NoMemory, PutFailed, ReadFail, Sink, WriteFail};

@@ -11,10 +11,18 @@ use Rattle.par_typed.specs.declared.table.ClassInfo.{ClassInfo}
 use Rattle.par_typed.specs.declared.table.Table.{Table}
 use Rattle.par_typed.specs.Plain.{Body}
 use Rattle.par_typed.specs.Shown.{bodies}
+use Rattle.par_typed.specs.First.{first_of}
+use Rattle.par_types.specs.Inferred.{all_inferred}
+use Rattle.par_faults.proofs.Few.{none_is_nothing}
+use Rattle.par_well_typed.specs.WellTyped.{IsWellTyped}
+use Rattle.par_declared.specs.Births.{AreFieldsWritten}
+use Rattle.par_declared.specs.Declared.{IsWellDeclared}
+use Rattle.par_tables.proofs.Written.{fields_are_written}
 use Rattle.par_resolved.specs.Resolved.{table_of}
 use Rattle.par_scope.specs.Names.{IsFewTable}
 use Rattle.par_typing.proofs.Limits.{limits_kept}
 use Rattle.par_typing.proofs.Tables.{few_table}
+use Rattle.par_bodies.specs.Members as members
 use Rattle.par_well_typed.specs.Orderly as well
 use Rattle.par_verdict.specs.Accepted as verdict
 use Rattle.par_verdict.specs.Accepted.{IsOrderlyBody}
@@ -23,7 +31,7 @@ use Rattle.par_observer.specs.declared.error.JudgeError.{JudgeError}
 use Rattle.par_observer.specs.declared.error.JudgeError.TheVariants.{Refused, Memory}
 use Rattle.par_observer.specs.Passes.{tree_faults}
 use Rattle.par_observer.specs.Trees.{bodies_of, IsTypedTree, IsFlowRefused, IsTreeRefused}
-use Rattle.par_observer.specs.Trees.{IsAcceptedTreeAs, has_flow}
+use Rattle.par_observer.specs.Trees.{IsAcceptedTreeAs, IsWellFormed, has_flow}
 
 -- what is said of the typed program holds of the tree
 of_tree : (C : Table → List Body → Type 0) (tree : Source) (typed : Typed)
@@ -47,6 +55,22 @@ accepts of tree typed (Ok a) is faultless same kept =
     )
 accepts of tree typed (Err e) is faultless same kept = tt
 
+-- the program that is accepted is well formed, where no field of the tree is inferred
+pub well_formed : {A : Type 0} (of : A → Typed) (tree : Source) (typed : Typed)
+    (r : Result A JudgeError) → IsTypedTree tree typed
+    → IsWellTyped typed.table (bodies typed.bodies) → IsWellDeclared typed.table
+    → None ≡ first_of None (all_inferred tree)
+    → IfOk r (λ a. of a ≡ typed) → IfOk r (λ a. IsWellFormed (of a))
+well_formed of tree typed (Ok a) is well_typed well_declared none same =
+    subst IsWellFormed (sym same) (record {
+      typed_well = well_typed;
+      declared_well = well_declared;
+      written =
+          subst AreFieldsWritten (sym is.typed_is.table_is)
+          (fields_are_written tree (none_is_nothing (all_inferred tree) none));
+    })
+well_formed of tree typed (Err e) is well_typed well_declared none same = tt
+
 refuses_so : (tree : Source) (typed : Typed) (e : JudgeError) → IsTypedTree tree typed
     → tree_faults tree ≡ [] → IsFlowRefused typed e → IsTreeRefused tree e
 refuses_so tree typed (Refused f) is faultless first =
@@ -59,7 +83,7 @@ pub refuses : {A : Type 0} (tree : Source) (typed : Typed) (r : Result A JudgeEr
 refuses tree typed (Ok a) is faultless first = tt
 refuses tree typed (Err e) is faultless first = refuses_so tree typed e is faultless first
 
-same_methods : (o : Option ClassInfo) → verdict.methods_in o ≡ well.methods_in o
+same_methods : (o : Option ClassInfo) → verdict.methods_in o ≡ members.methods_in o
 same_methods None = refl
 same_methods (Some class) = refl
 

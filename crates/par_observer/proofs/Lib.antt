@@ -6,3 +6,5 @@ pub mod Unread
 pub mod OfTree
 pub mod Clashes
 pub mod Flowing
+pub mod Few
+pub mod Securing

@@ -10,6 +10,9 @@ use Rattle.par_faults.specs.Faults.{all_faults}
 use Rattle.par_annotate.specs.Bodies.{typed_program}
 use Rattle.par_typed.specs.Plain.{Body}
 use Rattle.par_typing.specs.Typed.{IsTyped, written}
+use Rattle.par_well_typed.specs.WellTyped.{IsWellTyped}
+use Rattle.par_declared.specs.Births.{AreFieldsWritten}
+use Rattle.par_declared.specs.Declared.{IsWellDeclared}
 use Rattle.par_checks.specs.Verdict.{IsAccepted}
 use Rattle.par_verdict.specs.Judged.{IsFirstBroken}
 use Rattle.par_observer.specs.declared.error.JudgeError.{JudgeError}
@@ -30,6 +33,13 @@ pub record IsAcceptedTree (tree : Source) : Type 0 where
 pub record IsProgramOf (tree : Source) (typed : Typed) : Type 0 where
   pub table_is : typed.table ≡ table_of tree
   pub bodies_are : bodies typed.bodies ≡ bodies_of tree
+
+-- What later layers may ask of an accepted program, without its source: it is well typed, its table
+-- is well declared, and no policy of a field is left to be inferred.
+pub record IsWellFormed (typed : Typed) : Type 0 where
+  pub typed_well : IsWellTyped typed.table (bodies typed.bodies)
+  pub declared_well : IsWellDeclared typed.table
+  pub written : AreFieldsWritten typed.table
 
 abbrev pub IsAcceptedTreeAs : Source → Typed → Type 0
 IsAcceptedTreeAs tree typed = IsAcceptedTree tree × IsProgramOf tree typed

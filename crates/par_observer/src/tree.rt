@@ -1,6 +1,6 @@
 //! The passes over the tree of a source: names, limits, types, fields without a policy, flows.
 
-ghost use Rattle.std.specs.Prelude.{◌≡◌, ◌≤◌, [], None, IfOk, IfErr, length};
+ghost use Rattle.std.specs.Prelude.{◌≡◌, ◌≤◌, [], None, IfOk, IfErr, length, map};
 ghost use Rattle.std.specs.List.{AllByRecursion};
 ghost use Rattle.par_lexer.specs.Spans.{IsLaid};
 ghost use Rattle.par_lexer.specs.Tokens.{HasTokens};
@@ -15,10 +15,12 @@ ghost use Rattle.par_sources.specs.Sizes.{source_texts};
 ghost use Rattle.par_observer.specs.Judgements.{IsAcceptedAs, IsUnread};
 ghost use Rattle.par_typed.specs.Shown.{bodies};
 ghost use Rattle.par_well_typed.specs.WellTyped.{IsWellTyped};
-ghost use Rattle.par_verdict.specs.Accepted.{IsOrderlyBody};
+ghost use Rattle.par_declared.specs.Declared.{IsWellDeclared};
+ghost use Rattle.par_verdict.specs.Accepted.{IsAcceptedBy, IsOrderlyBody, MOST_BODIES};
 ghost use Rattle.par_verdict.specs.Judged.{IsVerdict};
 ghost use Rattle.par_observer.specs.Trees.{IsAcceptedTreeAs, IsTreeRefused, IsTypedTree};
-ghost use Rattle.par_observer.specs.Trees.{IsFlowRefused};
+ghost use Rattle.par_observer.specs.Trees.{IsFlowRefused, IsWellFormed};
+ghost use Rattle.par_flow.specs.Table.{facts_in};
 
 use crate::error::JudgeError;
 use par_check::{Accepted, CheckError, check};
@@ -45,6 +47,9 @@ pub(crate) fn judge_tree(
     requires sentence { syntax.HasTree tokens.now (tree_of_program tree.now) }
     requires size { source_size (tree_of_program tree.now) ≤ length tokens.now }
     ensures accepted { IfOk result (λ accepted. IsAcceptedAs source.now accepted.typed) }
+    ensures well_formed { IfOk result (λ accepted. IsWellFormed accepted.typed) }
+    ensures kept { IfOk result (λ accepted.
+        IsAcceptedBy accepted.typed (map facts_in accepted.facts)) }
     ensures refused { IfErr result (IsUnread source.now) }
 {
     passes(alloc, tree)
@@ -59,6 +64,9 @@ fn passes(alloc: Global, tree: &Tree) -> Result<Accepted, JudgeError>
     requires texts { source_texts (tree_of_program tree.now) ≤ LONGEST_SOURCE }
     ensures accepted { IfOk result (λ accepted.
         IsAcceptedTreeAs (tree_of_program tree.now) accepted.typed) }
+    ensures well_formed { IfOk result (λ accepted. IsWellFormed accepted.typed) }
+    ensures kept { IfOk result (λ accepted.
+        IsAcceptedBy accepted.typed (map facts_in accepted.facts)) }
     ensures refused { IfErr result (IsTreeRefused (tree_of_program tree.now)) }
 {
     let typed = typed_of(alloc, tree)?;
@@ -72,8 +80,11 @@ fn passes(alloc: Global, tree: &Tree) -> Result<Accepted, JudgeError>
 fn flows(alloc: Global, typed: Typed) -> Result<Accepted, JudgeError>
     requires policies { length typed.table.policies ≤ 256 }
     requires classes { length typed.table.classes ≤ 65536 }
+    requires few { length typed.bodies ≤ MOST_BODIES }
     requires orderly { AllByRecursion (IsOrderlyBody typed.table) (bodies typed.bodies) }
     ensures program { IfOk result (λ accepted. accepted.typed ≡ typed) }
+    ensures kept { IfOk result (λ accepted.
+        IsAcceptedBy accepted.typed (map facts_in accepted.facts)) }
     ensures accepted { IfOk result (λ _. IsVerdict typed.table (bodies typed.bodies) None) }
     ensures refused { IfErr result (IsFlowRefused typed) }
 {
@@ -94,6 +105,7 @@ fn typed_of(alloc: Global, tree: &Tree) -> Result<Typed, JudgeError>
     requires texts { source_texts (tree_of_program tree.now) ≤ LONGEST_SOURCE }
     ensures typed { IfOk result (IsTypedTree (tree_of_program tree.now)) }
     ensures well_typed { IfOk result (λ typed. IsWellTyped typed.table (bodies typed.bodies)) }
+    ensures well_declared { IfOk result (λ typed. IsWellDeclared typed.table) }
     ensures refused { IfErr result (IsTreeRefused (tree_of_program tree.now)) }
 {
     let table = table_of(alloc, tree)?;

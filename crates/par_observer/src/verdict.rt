@@ -1,7 +1,12 @@
 //! The judgement of a source.
 
-ghost use Rattle.std.specs.Prelude.{◌≡◌, ◌≤◌, ◌<◌, IfOk, IfErr, length};
+ghost use Rattle.std.specs.Prelude.{◌≡◌, ◌≤◌, ◌<◌, IfOk, IfErr, length, map};
+ghost use Rattle.par_flow.specs.Table.{facts_in};
+ghost use Rattle.par_verdict.specs.Accepted.{IsAcceptedBy};
+ghost use Rattle.par_secrecy.specs.Secure.{Secure};
+ghost use Rattle.par_alike.specs.Subject.{subject};
 ghost use Rattle.par_observer.specs.Judgements.{IsAcceptedAs, IsRefused, IsUnread, overlong};
+ghost use Rattle.par_observer.specs.Trees.{IsWellFormed};
 
 use crate::error::JudgeError;
 use crate::reading::{read_sentence, tokens_of};
@@ -16,9 +21,15 @@ const TOO_LONG: u16 = 5;
 
 /// Reads a source, and looks whether it keeps all rules: its length first, then its tokens, its
 /// sentence, its names, its limits, its types, fields without a policy, and its flows. What is
-/// accepted has a typed program and facts of each of its bodies.
+/// accepted has a typed program and facts of each of its bodies, of which there are at most 65,536:
+/// closed ones, at or below all others, and they keep all rules on flows. What may be asked of the
+/// program is said of its table and its bodies as well, without the source. The program is secure.
 pub fn judge(alloc: Global, source: &[u8]) -> Result<Accepted, JudgeError>
     ensures accepted { IfOk result (λ accepted. IsAcceptedAs source.now accepted.typed) }
+    ensures well_formed { IfOk result (λ accepted. IsWellFormed accepted.typed) }
+    ensures kept { IfOk result (λ accepted.
+        IsAcceptedBy accepted.typed (map facts_in accepted.facts)) }
+    ensures secure { IfOk result (λ accepted. Secure (subject accepted.typed)) }
     ensures refused { IfErr result (IsRefused source.now) }
 {
     if source.len() > LONGEST_SOURCE {
@@ -31,6 +42,9 @@ pub fn judge(alloc: Global, source: &[u8]) -> Result<Accepted, JudgeError>
 fn judge_short(alloc: Global, source: &[u8]) -> Result<Accepted, JudgeError>
     requires { length source.now ≤ LONGEST_SOURCE }
     ensures accepted { IfOk result (λ accepted. IsAcceptedAs source.now accepted.typed) }
+    ensures well_formed { IfOk result (λ accepted. IsWellFormed accepted.typed) }
+    ensures kept { IfOk result (λ accepted.
+        IsAcceptedBy accepted.typed (map facts_in accepted.facts)) }
     ensures refused { IfErr result (IsUnread source.now) }
 {
     let tokens = tokens_of(alloc, source)?;

@@ -6,6 +6,7 @@ use Rattle.par_policy.specs.declared.clauses.Clause.{Clause}
 use Rattle.par_bits.specs.Sets.{Set, IsWithin, none, union, adding}
 use Rattle.par_rules.specs.Lattice.{Seen, seen_by, IsSeenBelow, numbers, policies, unseen}
 use Rattle.par_pass.specs.Low.{Stands}
+use Rattle.par_pass.specs.Seens.{given_of, seen_as}
 use Rattle.par_pass.proofs.Order.{sub_trans, union_l, union_r, union_least, sub_refl}
 
 pub among : Stands numbers
@@ -51,6 +52,26 @@ seen table = record {
   up = λ s p q f g n h actor locks k. f n h actor locks (g actor locks k);
   given =
       λ m n h. subst (λ j. IsSeenBelow (seen_by (slice_get table j)) (seen_by (slice_get table m)))
+      (sym (eqb-true n m h)) (λ actor locks k. k);
+}
+
+-- each policy of the set is below, whichever policies have the numbers
+abbrev pub AreBelow : List Seen → Set → Seen → Type 0
+AreBelow ps s p = (n : ℕ) → IsTrue (s n) → IsSeenBelow (given_of ps n) p
+
+unfoldable pub stands : (ps : List Seen) → Stands (seen_as ps)
+stands ps = record {
+  IsUnder = AreBelow ps;
+  least = λ p n h. cc;
+  both = λ s t p f g n. in_either (s n) (t n) (IsSeenBelow (given_of ps n) p) (f n) (g n);
+  joined =
+      λ s t p q f g n. in_either (s n) (t n)
+      (IsSeenBelow (given_of ps n) (λ actor locks. p actor locks && q actor locks))
+      (λ h actor locks k. f n h actor locks (in_both_l (p actor locks) (q actor locks) k))
+      (λ h actor locks k. g n h actor locks (in_both_r (p actor locks) (q actor locks) k));
+  up = λ s p q f g n h actor locks k. f n h actor locks (g actor locks k);
+  given =
+      λ m n h. subst (λ j. IsSeenBelow (given_of ps j) (given_of ps m))
       (sym (eqb-true n m h)) (λ actor locks k. k);
 }
 

@@ -6,6 +6,7 @@ pub mod Least
 pub mod Instances
 pub mod Settles
 pub mod Points
+pub mod Possible
 pub mod Tables
 pub mod Along
 pub mod Rows

@@ -20,11 +20,13 @@ use Rattle.par_rules.specs.Numbered.{next, IsNumbered}
 use Rattle.par_pass.specs.Pass.{HeadWays, Event, Row, Into, pass}
 use Rattle.par_pass.specs.Low.{Stands, IsLow, AreLow, AreHeadsLow}
 use Rattle.par_pass.specs.Settled.{AllSay}
+use Rattle.par_pass.specs.Possible.{HasPossibleExits}
 use Rattle.par_pass.specs.Written.{blanks, written, table, AllFit}
 use Rattle.par_pass.proofs.Order.{flows_refl, sub_refl}
 use Rattle.par_pass.proofs.Under.{blank_low, flow_up}
 use Rattle.par_pass.proofs.Least.{pass_low}
 use Rattle.par_pass.proofs.Settles.{pass_settled}
+use Rattle.par_pass.proofs.Possible.{node_possible}
 use Rattle.par_pass.proofs.Points.{AreWithin, IsApart, AreApart, pass_spread}
 
 set_case : (t : List (Fact numbers)) (p q : ℕ) (f : Fact numbers)
@@ -152,27 +154,37 @@ say h lo hi (Row q f ∷ l) t p w d g =
       say h lo hi l (set t q f) p w.2 d.1 (omega (arith, e, g)),
     )
 
--- the facts of a settled pass are closed
-pub table_closed : (declared : Declares) (b : Body) (h : HeadWays) (points : ℕ)
-    (t : List (Fact numbers)) → IsSettled declared b h points t
-    → IsNumbered 0 (sta declared b.body) → next (sta declared b.body) ≤ points
-    → IsClosed numbers declared b (table t)
-table_closed declared b h points t s n g =
-    let m = first numbers (declared.method b.class b.method) in
-    let l = (pass h (sta declared b.body) m).events in
-    let r = pass_spread h (sta declared b.body) 0 n m in let e = length_blanks points in
-    let x =
-    pass_settled (table (written l (blanks points))) h (sta declared b.body) m
-    (say h 0 (next (sta declared b.body)) l (blanks points) s.fits r.within r.apart
-    (omega (arith, g, e))) in
-    subst (λ t. IsClosed numbers declared b (table t)) (sym s.facts)
-    (record {
-      entered =
-          subst (λ p. rules.MayFlow numbers (Some m) (table (written l (blanks points)) p).entry)
-          (spot_is declared b.body)
-          (subst (λ f. rules.MayFlow numbers (Some m) f.entry) (sym x.is) (flows_refl m));
-      obeyed = x.obeyed;
-    })
+module _ (declared : Declares) (b : Body) (h : HeadWays) (points : ℕ) (t : List (Fact numbers))
+    (s : IsSettled declared b h points t) (n : IsNumbered 0 (sta declared b.body))
+    (g : next (sta declared b.body) ≤ points) where
+  abbrev start : Way
+  start = first numbers (declared.method b.class b.method)
+
+  -- the facts of a settled pass are those that it notes
+  table_says : AllSay (table t) h (pass h (sta declared b.body) start).events
+  table_says =
+      let l = (pass h (sta declared b.body) start).events in
+      let r = pass_spread h (sta declared b.body) 0 n start in let e = length_blanks points in
+      subst (λ t. AllSay (table t) h l) (sym s.facts)
+      (say h 0 (next (sta declared b.body)) l (blanks points) s.fits r.within r.apart
+      (omega (arith, g, e)))
+
+  -- they are closed
+  pub table_closed : IsClosed numbers declared b (table t)
+  table_closed =
+      let x = pass_settled (table t) h (sta declared b.body) start table_says in
+      record {
+        entered =
+            subst (λ p. rules.MayFlow numbers (Some start) (table t p).entry)
+            (spot_is declared b.body)
+            (subst (λ f. rules.MayFlow numbers (Some start) f.entry) (sym x.is)
+            (flows_refl start));
+        obeyed = x.obeyed;
+      }
+
+  -- and have exits for possible completions alone
+  pub table_possible : HasPossibleExits numbers (table t) (sta declared b.body)
+  table_possible = node_possible h (table t) (sta declared b.body) start table_says
 
 there_up : (o : Option Way) (p : Option (rules.Way numbers)) → MayFlow numbers among o p
     → IsThere numbers o → IsThere numbers p

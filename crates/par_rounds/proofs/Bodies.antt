@@ -22,9 +22,11 @@ use Rattle.par_pass.specs.Low.{Stands, AreHeadsLow}
 use Rattle.par_pass.specs.Written.{table}
 use Rattle.par_pass.specs.Result as result
 use Rattle.par_pass.specs.Result.{AreLeast}
-use Rattle.par_pass.proofs.Instances.{among, seen, alone}
+use Rattle.par_pass.specs.Seens.{seen_as}
+use Rattle.par_pass.specs.Possible.{HasPossibleExits}
+use Rattle.par_pass.proofs.Instances.{among, seen, stands, alone}
 use Rattle.par_pass.proofs.Points.{next_above}
-use Rattle.par_pass.proofs.Tables.{round_low, table_low, table_closed, exact}
+use Rattle.par_pass.proofs.Tables.{round_low, table_low, table_closed, table_possible, exact}
 use Rattle.par_rounds.specs.declared.fact.Fact.{Fact}
 use Rattle.par_rounds.specs.Seen.{seen_facts}
 use Rattle.par_rounds.specs.Took.{MayBeSmall}
@@ -126,6 +128,11 @@ module _ (d : Declares) (b : Body) where
     closed_rows n g =
         table_closed d b (heads_after root start s.rounds) points (seen_facts rows) as_settled n g
 
+    possible_rows : IsNumbered 0 root → next root ≤ points
+        → HasPossibleExits numbers (table (seen_facts rows)) root
+    possible_rows n g =
+        table_possible d b (heads_after root start s.rounds) points (seen_facts rows) as_settled n g
+
 pub rows_least : (t : Table) (b : Body) (points : ℕ) (rows : List Fact)
     → IsSettled (sta (declares t) b.body)
     (first numbers ((declares t).method b.class b.method)) points rows
@@ -138,6 +145,9 @@ rows_least t b points rows s n g =
       closed = c;
       sets = l;
       policies = least_over (declares t) b points rows s (policies t.policies) (seen t.policies);
+      whichever =
+          λ ps. least_over (declares t) b points rows s (seen_as ps) (stands ps);
       locks = least_over (declares t) b points rows s unseen alone;
       exact = exact (declares t) b (table (seen_facts rows)) c l;
+      possible = possible_rows (declares t) b points rows s n g;
     }

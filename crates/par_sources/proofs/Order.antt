@@ -172,6 +172,7 @@ in_order lo hi tree h = record {
   arities = h.arities;
   classes = ascends_from lo hi (map class_place (declared_classes tree)) h.classes;
   methods = h.methods;
+  members = h.members;
   exceptions = h.exceptions;
 }
 

@@ -1,13 +1,14 @@
 -- Places that climb from one bound to another.
 use Rattle.std.proofs.Common.{◌≡◌, ℕ, suc, ◌<◌, ◌≤◌, List, [], ◌∷◌, ◌++◌, refl, sym, ap, subst, ◌∙◌}
-use Rattle.std.proofs.Common.{append_assoc, map, arith}
-use Rattle.std.specs.Prelude.{flat_map}
-use Rattle.std.specs.List.{AllByRecursion}
+use Rattle.std.proofs.Common.{append_assoc, map, arith, false}
+use Rattle.std.specs.Prelude.{flat_map, nat_eq}
+use Rattle.std.specs.List.{AllByRecursion, IsDistinct}
+use Rattle.std.proofs.lemmas.Bool.Decides.{nat_tests}
 use Rattle.par_tree.specs.declared.decl.LockDecl.{LockDecl}
 use Rattle.par_tree.specs.Plain.{Class, Method, Declaration, Source, Actors, Lock, Policy, Declared}
 use Rattle.par_names.specs.Declarations.{locks, locks_in, classes_in, declared_classes}
 use Rattle.par_places.proofs.Lists.{pushed}
-use Rattle.par_sources.specs.Order.{Ascend, IsBare}
+use Rattle.par_sources.specs.Order.{Ascend, IsBare, HasOwnPlaces}
 
 -- a place between two bounds that is not the first
 pub record Lies (lo hi at : ℕ) : Type 0 where
@@ -62,6 +63,62 @@ module _ {A : Type 0} (place : A → ℕ) where
         climbs_to (suc (place y)) mid low hi xs x h.1 le own,
       )
 
+-- ---- places that differ
+
+-- these places are below a bound, and no two of them are equal
+pub record Apart (hi : ℕ) (places : List ℕ) : Type 0 where
+  pub below : AllByRecursion (λ at. at < hi) places
+  pub differ : IsDistinct nat_eq places
+
+pub none_apart : (hi : ℕ) → Apart hi []
+unfolding IsDistinct
+none_apart hi = record { below = tt; differ = tt }
+
+all_below : (mid hi : ℕ) (places : List ℕ) → mid ≤ hi → AllByRecursion (λ at. at < mid) places
+    → AllByRecursion (λ at. at < hi) places
+all_below mid hi [] le h = tt
+all_below mid hi (at ∷ places) le h = (omega (arith, le, h.0), all_below mid hi places le h.1)
+
+pub apart_further : (mid hi : ℕ) (places : List ℕ) → mid ≤ hi → Apart mid places → Apart hi places
+apart_further mid hi places le h =
+    record { below = all_below mid hi places le h.below; differ = h.differ }
+
+-- a later place differs from all of these
+behind : (hi at : ℕ) (places : List ℕ) → hi ≤ at → AllByRecursion (λ n. n < hi) places
+    → AllByRecursion (λ n. nat_eq at n ≡ false) places
+behind hi at [] le h = tt
+behind hi at (n ∷ places) le h =
+    let lt : n < hi = h.0 in (grind (arith, nat_tests), behind hi at places le h.1)
+
+with_later : (at n : ℕ) (xs ys : List ℕ) → nat_eq n at ≡ false
+    → AllByRecursion (λ m. nat_eq n m ≡ false) (xs ++ ys)
+    → AllByRecursion (λ m. nat_eq n m ≡ false) (xs ++ at ∷ ys)
+with_later at n [] ys own h = (own, h)
+with_later at n (x ∷ xs) ys own h = (h.0, with_later at n xs ys own h.1)
+
+below_with : (hi at : ℕ) (xs ys : List ℕ) → at < hi → AllByRecursion (λ n. n < hi) (xs ++ ys)
+    → AllByRecursion (λ n. n < hi) (xs ++ at ∷ ys)
+below_with hi at [] ys own h = (own, h)
+below_with hi at (x ∷ xs) ys own h = (h.0, below_with hi at xs ys own h.1)
+
+distinct_with : (mid at : ℕ) (xs ys : List ℕ) → mid ≤ at
+    → AllByRecursion (λ n. n < mid) (xs ++ ys)
+    → IsDistinct nat_eq (xs ++ ys) → IsDistinct nat_eq (xs ++ at ∷ ys)
+unfolding IsDistinct
+distinct_with mid at [] ys le below h = (behind mid at ys le below, h)
+distinct_with mid at (x ∷ xs) ys le below h =
+    let lt : x < mid = below.0 in
+    let own : nat_eq x at ≡ false = grind (arith, nat_tests) in
+    (with_later at x xs ys own h.0, distinct_with mid at xs ys le below.1 h.1)
+
+-- one more place behind all of these, wherever it stands among them
+pub apart_with : (mid hi at : ℕ) (xs ys : List ℕ) → mid ≤ at → at < hi → Apart mid (xs ++ ys)
+    → Apart hi (xs ++ at ∷ ys)
+apart_with mid hi at xs ys le lt h = record {
+  below = below_with hi at xs ys lt (all_below mid hi (xs ++ ys) (omega (arith, le, lt)) h.below);
+  differ = distinct_with mid at xs ys le h.below h.differ;
+}
+
 -- ---- declarations
 
 abbrev pub class_place : Class → ℕ
@@ -73,9 +130,10 @@ method_place m = m.id.at
 abbrev pub MethodsAscend : Class → Type 0
 MethodsAscend c = Ascend 0 (map method_place c.methods)
 
--- a class at such a place, with methods in order, and with no members where it is an exception
+-- a class at such a place, with methods in order and members apart, and with no members where it is
+-- an exception
 abbrev pub ClassLies : ℕ → ℕ → Class → Type 0
-ClassLies lo hi c = Lies lo hi (class_place c) × MethodsAscend c × IsBare c
+ClassLies lo hi c = Lies lo hi (class_place c) × MethodsAscend c × HasOwnPlaces c × IsBare c
 
 abbrev pub DeclarationLies : ℕ → ℕ → Declaration → Type 0
 DeclarationLies lo hi (Actors ids) = Unit {0}
@@ -95,6 +153,9 @@ Classes lo hi classes = Climb lo hi (map class_place classes)
 abbrev Methods : List Class → Type 0
 Methods classes = AllByRecursion MethodsAscend classes
 
+abbrev Members : List Class → Type 0
+Members classes = AllByRecursion HasOwnPlaces classes
+
 abbrev Exceptions : List Class → Type 0
 Exceptions classes = AllByRecursion IsBare classes
 
@@ -102,6 +163,7 @@ pub record SourceLies (lo hi : ℕ) (source : Source) : Type 0 where
   pub arities : Arities (locks source)
   pub classes : Classes lo hi (declared_classes source)
   pub methods : Methods (declared_classes source)
+  pub members : Members (declared_classes source)
   pub exceptions : Exceptions (declared_classes source)
 
 same : {A : Type 0} (f : Declaration → List A) (ds : Source) (d : Declaration) → f d ≡ []
@@ -123,7 +185,7 @@ declaration_further lo mid hi (Actors ids) le h = tt
 declaration_further lo mid hi (Lock lock) le h = h
 declaration_further lo mid hi (Policy policy) le h = tt
 declaration_further lo mid hi (Declared class) le h =
-    (wider lo mid hi (class_place class) le h.0, h.1, h.2)
+    (wider lo mid hi (class_place class) le h.0, h.1, h.2, h.3)
 
 pub source_further : (lo mid hi : ℕ) (ds : Source) → mid ≤ hi → SourceLies lo mid ds
     → SourceLies lo hi ds
@@ -131,6 +193,7 @@ source_further lo mid hi ds le h = record {
   arities = h.arities;
   classes = further lo mid hi (map class_place (declared_classes ds)) le h.classes;
   methods = h.methods;
+  members = h.members;
   exceptions = h.exceptions;
 }
 
@@ -144,6 +207,7 @@ source_to lo mid low hi ds (Actors ids) h le up own = record {
       subst (Classes lo hi) (sym (same classes_in ds (Actors ids) refl))
       (further lo mid hi (map class_place (declared_classes ds)) (omega arith) h.classes);
   methods = subst Methods (sym (same classes_in ds (Actors ids) refl)) h.methods;
+  members = subst Members (sym (same classes_in ds (Actors ids) refl)) h.members;
   exceptions = subst Exceptions (sym (same classes_in ds (Actors ids) refl)) h.exceptions;
 }
 source_to lo mid low hi ds (Lock lock) h le up own = record {
@@ -154,6 +218,7 @@ source_to lo mid low hi ds (Lock lock) h le up own = record {
       subst (Classes lo hi) (sym (same classes_in ds (Lock lock) refl))
       (further lo mid hi (map class_place (declared_classes ds)) (omega arith) h.classes);
   methods = subst Methods (sym (same classes_in ds (Lock lock) refl)) h.methods;
+  members = subst Members (sym (same classes_in ds (Lock lock) refl)) h.members;
   exceptions = subst Exceptions (sym (same classes_in ds (Lock lock) refl)) h.exceptions;
 }
 source_to lo mid low hi ds (Policy policy) h le up own = record {
@@ -162,6 +227,7 @@ source_to lo mid low hi ds (Policy policy) h le up own = record {
       subst (Classes lo hi) (sym (same classes_in ds (Policy policy) refl))
       (further lo mid hi (map class_place (declared_classes ds)) (omega arith) h.classes);
   methods = subst Methods (sym (same classes_in ds (Policy policy) refl)) h.methods;
+  members = subst Members (sym (same classes_in ds (Policy policy) refl)) h.members;
   exceptions = subst Exceptions (sym (same classes_in ds (Policy policy) refl)) h.exceptions;
 }
 source_to lo mid low hi ds (Declared class) h le up own = record {
@@ -172,7 +238,10 @@ source_to lo mid low hi ds (Declared class) h le up own = record {
   methods =
       subst Methods (sym (one_behind classes_in ds (Declared class) class refl))
       (pushed MethodsAscend (declared_classes ds) class h.methods own.1);
+  members =
+      subst Members (sym (one_behind classes_in ds (Declared class) class refl))
+      (pushed HasOwnPlaces (declared_classes ds) class h.members own.2);
   exceptions =
       subst Exceptions (sym (one_behind classes_in ds (Declared class) class refl))
-      (pushed IsBare (declared_classes ds) class h.exceptions own.2);
+      (pushed IsBare (declared_classes ds) class h.exceptions own.3);
 }

@@ -1,8 +1,13 @@
 -- Each builder keeps the order of the places of what it puts together.
-use Rattle.std.proofs.Common.{ℕ, ◌≤◌, ◌≡◌, Bool, true, false, List, [], ◌∷◌, ◌++◌, map, arith, refl}
-use Rattle.std.specs.Prelude.{nat_le}
+use Rattle.std.proofs.Common.{ℕ, ◌≤◌, ◌<◌, ◌≡◌, Bool, true, false, List, [], ◌∷◌, ◌++◌, map, arith}
+use Rattle.std.proofs.Common.{None, refl, sym, ap, subst, ◌∙◌, append_assoc, append-nil}
+use Rattle.std.specs.Prelude.{nat_le, nat_eq}
+use Rattle.std.specs.List.{IsDistinct}
+use Rattle.std.proofs.lemmas.List.{map-append}
 use Rattle.std.proofs.lemmas.Bool.Decides.{nat_tests}
 use Rattle.par_lexer.specs.declared.operator.BinOp.{BinOp}
+use Rattle.par_tree.specs.declared.decl.FieldDecl.{FieldDecl}
+use Rattle.par_tree.specs.declared.decl.ChannelDecl.{ChannelDecl}
 use Rattle.par_tree.specs.Plain as plain
 use Rattle.par_tree.specs.Grammar.{Builders}
 use Rattle.par_tree.specs.Grammar as g
@@ -10,6 +15,7 @@ use Rattle.par_tree.specs.Values.{Value, Values, Members, tok, exp, exps, may, b
 use Rattle.par_tree.specs.Values.{sta, stas, other, handler, catches, term, whole, may_whole}
 use Rattle.par_tree.specs.Values.{clause, clauses, lock, needs, idents, typed, gives, flag, many}
 use Rattle.par_tree.specs.Values.{param, listed, says, members, decl, source}
+use Rattle.par_tree.specs.Values.{no_members, with_field, with_channel, with_method}
 use Rattle.par_tree.specs.Values.{built, ident, channel, binary, next_method}
 use Rattle.par_tree.specs.Values.{next_decl, actors_decl, lock_decl, policy_decl, exception_decl}
 use Rattle.par_tree.specs.Values.{class_decl, next_ident, inferred_field, field, some_result}
@@ -24,7 +30,9 @@ use Rattle.par_tree.specs.Values.{close_stmt, when_stmt, some_block, local_stmt,
 use Rattle.par_tree.specs.Values.{assign_stmt, call_stmt, constant, true_expr, false_expr}
 use Rattle.par_tree.specs.Values.{null_expr, this_expr, create, variable, select, call_own, call_on}
 use Rattle.par_tree.specs.Values.{negate, invert, next_arg}
+use Rattle.par_names.proofs.Lookups.{map-map}
 use Rattle.par_sources.proofs.Places.{Lies, wider, Climb, further, ascends_from, climbs_to}
+use Rattle.par_sources.proofs.Places.{Apart, none_apart, apart_further, apart_with}
 use Rattle.par_sources.proofs.Places.{method_place, DeclarationLies, declaration_further}
 use Rattle.par_sources.proofs.Places.{SourceLies, source_further, source_to}
 
@@ -33,11 +41,23 @@ use Rattle.par_sources.proofs.Places.{SourceLies, source_further, source_to}
 abbrev places : Members → List ℕ
 places ms = map method_place ms.methods
 
+abbrev field_places : Members → List ℕ
+field_places ms = map (λ f. f.id.at) ms.fields
+
+abbrev channel_places : Members → List ℕ
+channel_places ms = map (λ k. k.id.at) ms.channels
+
+-- methods in order, and members apart
+pub record MembersLie (lo hi : ℕ) (ms : Members) : Type 0 where
+  pub methods : Climb lo hi (places ms)
+  pub fields : Apart hi (field_places ms)
+  pub callees : Apart hi (channel_places ms ++ places ms)
+
 -- what a value says of the tokens between two places
 abbrev pub ValueLies : ℕ → ℕ → Value → Type 0
 ValueLies lo hi (tok x) = Lies lo hi x.from
 ValueLies lo hi (many n) = n ≤ 2
-ValueLies lo hi (members ms) = Climb lo hi (places ms)
+ValueLies lo hi (members ms) = MembersLie lo hi ms
 ValueLies lo hi (decl d) = DeclarationLies lo hi d
 ValueLies lo hi (source ds) = SourceLies lo hi ds
 ValueLies lo hi _ = Unit {0}
@@ -48,9 +68,17 @@ abbrev pub Stack : ℕ → Values → Type 0
 Stack hi [] = Unit {0}
 Stack hi (v ∷ vs) = (lo : ℕ) × (lo ≤ hi) × ValueLies lo hi v × Stack lo vs
 
+members_further : (lo mid hi : ℕ) (ms : Members) → mid ≤ hi → MembersLie lo mid ms
+    → MembersLie lo hi ms
+members_further lo mid hi ms le h = record {
+  methods = further lo mid hi (places ms) le h.methods;
+  fields = apart_further mid hi (field_places ms) le h.fields;
+  callees = apart_further mid hi (channel_places ms ++ places ms) le h.callees;
+}
+
 value_further : (lo mid hi : ℕ) (v : Value) → mid ≤ hi → ValueLies lo mid v → ValueLies lo hi v
 value_further lo mid hi (tok x) le h = wider lo mid hi x.from le h
-value_further lo mid hi (members ms) le h = further lo mid hi (places ms) le h
+value_further lo mid hi (members ms) le h = members_further lo mid hi ms le h
 value_further lo mid hi (decl d) le h = declaration_further lo mid hi d le h
 value_further lo mid hi (source ds) le h = source_further lo mid hi ds le h
 value_further lo mid hi v le h = h
@@ -82,11 +110,75 @@ policy_decl_lies : (hi : ℕ) (vs : Values) → Stack hi vs → Stack hi (policy
 policy_decl_lies hi (whole p ∷ tok x ∷ vs) h = (h.3.0, omega (arith, h.1, h.3.1), tt, h.3.3)
 policy_decl_lies hi vs h = h
 
+-- ---- one more member
+
+field_joins : (lo mid hi : ℕ) (ms : Members) (f : FieldDecl) → MembersLie lo mid ms
+    → mid ≤ f.id.at → f.id.at < hi → MembersLie lo hi (with_field ms f)
+field_joins lo mid hi ms f h le lt = record {
+  methods = further lo mid hi (places ms) (omega (arith, le, lt)) h.methods;
+  fields =
+      subst (Apart hi) (sym (map-append (λ f. f.id.at) ms.fields (f ∷ [])))
+      (apart_with mid hi f.id.at (field_places ms) [] le lt
+      (subst (Apart mid) (sym (append-nil (field_places ms))) h.fields));
+  callees = apart_further mid hi (channel_places ms ++ places ms) (omega (arith, le, lt)) h.callees;
+}
+
+channel_joins : (lo mid hi : ℕ) (ms : Members) (k : ChannelDecl) → MembersLie lo mid ms
+    → mid ≤ k.id.at → k.id.at < hi → MembersLie lo hi (with_channel ms k)
+channel_joins lo mid hi ms k h le lt = record {
+  methods = further lo mid hi (places ms) (omega (arith, le, lt)) h.methods;
+  fields = apart_further mid hi (field_places ms) (omega (arith, le, lt)) h.fields;
+  callees =
+      subst (Apart hi) (sym (ap (λ xs. xs ++ places ms)
+      (map-append (λ k. k.id.at) ms.channels (k ∷ []))
+      ∙ append_assoc (channel_places ms) (k.id.at ∷ []) (places ms)))
+      (apart_with mid hi k.id.at (channel_places ms) (places ms) le lt h.callees);
+}
+
+method_joins : (lo mid low hi : ℕ) (ms : Members) (m : plain.Method) → MembersLie lo mid ms
+    → mid ≤ low → Lies low hi (method_place m) → MembersLie lo hi (with_method ms m)
+method_joins lo mid low hi ms m h le own =
+    let le_own : mid ≤ m.id.at = omega (arith, le, own.above) in
+    let lt : m.id.at < hi = own.below in
+    let whole : Apart mid ((channel_places ms ++ places ms) ++ []) =
+    subst (Apart mid) (sym (append-nil (channel_places ms ++ places ms))) h.callees in
+    record {
+      methods = climbs_to method_place lo mid low hi ms.methods m h.methods le own;
+      fields = apart_further mid hi (field_places ms) (omega (arith, le_own, lt)) h.fields;
+      callees =
+          subst (Apart hi) (append_assoc (channel_places ms) (places ms) (m.id.at ∷ [])
+          ∙ ap (λ ys. channel_places ms ++ ys)
+          (sym (map-append method_place ms.methods (m ∷ []))))
+          (apart_with mid hi m.id.at (channel_places ms ++ places ms) [] le_own lt whole);
+    }
+
+-- ---- builders of declarations
+
+no_places : IsDistinct nat_eq []
+unfolding IsDistinct
+no_places = tt
+
+callees_differ : (hi : ℕ) (ms : Members) → Apart hi (channel_places ms ++ places ms)
+    → IsDistinct nat_eq
+    (map (λ id. id.at) (map (λ k. k.id) ms.channels ++ map (λ m. m.id) ms.methods))
+callees_differ hi ms h =
+    subst (IsDistinct nat_eq)
+    (sym (map-append (λ id. id.at) (map (λ k. k.id) ms.channels) (map (λ m. m.id) ms.methods)
+    ∙ ap (λ xs. xs ++ map (λ id. id.at) (map (λ m. m.id) ms.methods))
+    (map-map (λ id. id.at) (λ k. k.id) ms.channels)
+    ∙ ap (λ ys. channel_places ms ++ ys) (map-map (λ id. id.at) (λ m. m.id) ms.methods)))
+    h.differ
+
 exception_decl_lies : (hi : ℕ) (vs : Values) → Stack hi vs → Stack hi (exception_decl vs)
 exception_decl_lies hi (tok x ∷ vs) h = (
   h.0,
   h.1,
-  (h.2, tt, λ is. record { fields = refl; channels = refl; methods = refl }),
+  (
+    h.2,
+    tt,
+    record { fields = no_places; callees = no_places },
+    λ is. record { fields = refl; channels = refl; methods = refl },
+  ),
   h.3,
 )
 exception_decl_lies hi vs h = h
@@ -94,8 +186,17 @@ exception_decl_lies hi vs h = h
 class_decl_lies : (hi : ℕ) (vs : Values) → Stack hi vs → Stack hi (class_decl vs)
 class_decl_lies hi (members ms ∷ may_whole p ∷ tok x ∷ vs) h =
     let name = wider h.3.3.0 h.3.0 hi x.from (omega (arith, h.1, h.3.1)) h.3.3.2 in
-    let methods = ascends_from h.0 hi (places ms) h.2 in
-    (h.3.3.0, omega (arith, h.1, h.3.1, h.3.3.1), (name, methods, λ is. absurd (cc is)), h.3.3.3)
+    let methods = ascends_from h.0 hi (places ms) h.2.methods in (
+      h.3.3.0,
+      omega (arith, h.1, h.3.1, h.3.3.1),
+      (
+        name,
+        methods,
+        record { fields = h.2.fields.differ; callees = callees_differ hi ms h.2.callees },
+        λ is. absurd (cc is),
+      ),
+      h.3.3.3,
+    )
 class_decl_lies hi vs h = h
 
 next_ident_lies : (hi : ℕ) (vs : Values) → Stack hi vs → Stack hi (next_ident vs)
@@ -106,14 +207,22 @@ inferred_field_lies : (hi : ℕ) (vs : Values) → Stack hi vs → Stack hi (inf
 inferred_field_lies hi (tok x ∷ typed t ∷ flag s ∷ members ms ∷ vs) h =
     let le : h.3.3.0 ≤ hi = omega (arith, h.1, h.3.1, h.3.3.1) in
     let own = h.3.3.3 in
-    (own.0, omega (arith, le, own.1), further own.0 h.3.3.0 hi (places ms) le own.2, own.3)
+    let behind : h.3.3.0 ≤ x.from = omega (arith, h.2.above, h.3.1, h.3.3.1) in
+    let inferred : FieldDecl =
+    record { id = ident x; is_static = s; ty = t; policy = None; inferred = true } in
+    let all = field_joins own.0 h.3.3.0 hi ms inferred own.2 behind h.2.below in
+    (own.0, omega (arith, le, own.1), all, own.3)
 inferred_field_lies hi vs h = h
 
 field_lies : (hi : ℕ) (vs : Values) → Stack hi vs → Stack hi (field vs)
 field_lies hi (tok x ∷ typed t ∷ flag s ∷ may_whole p ∷ members ms ∷ vs) h =
     let le : h.3.3.3.0 ≤ hi = omega (arith, h.1, h.3.1, h.3.3.1, h.3.3.3.1) in
     let own = h.3.3.3.3 in
-    (own.0, omega (arith, le, own.1), further own.0 h.3.3.3.0 hi (places ms) le own.2, own.3)
+    let behind : h.3.3.3.0 ≤ x.from = omega (arith, h.2.above, h.3.1, h.3.3.1, h.3.3.3.1) in
+    let written : FieldDecl =
+    record { id = ident x; is_static = s; ty = t; policy = p; inferred = false } in
+    let all = field_joins own.0 h.3.3.3.0 hi ms written own.2 behind h.2.below in
+    (own.0, omega (arith, le, own.1), all, own.3)
 field_lies hi vs h = h
 
 some_result_lies : (hi : ℕ) (vs : Values) → Stack hi vs → Stack hi (some_result vs)
@@ -359,7 +468,10 @@ channel_lies : (i : Bool) (hi : ℕ) (vs : Values) → Stack hi vs → Stack hi 
 channel_lies i hi (tok x ∷ may_whole p ∷ members ms ∷ vs) h =
     let le : h.3.0 ≤ hi = omega (arith, h.1, h.3.1) in
     let own = h.3.3 in
-    (own.0, omega (arith, le, own.1), further own.0 h.3.0 hi (places ms) le own.2, own.3)
+    let behind : h.3.0 ≤ x.from = omega (arith, h.2.above, h.3.1) in
+    let channel : ChannelDecl = record { id = ident x; is_input = i; policy = p } in
+    let all = channel_joins own.0 h.3.0 hi ms channel own.2 behind h.2.below in
+    (own.0, omega (arith, le, own.1), all, own.3)
 channel_lies i hi vs h = h
 
 binary_lies : (op : BinOp) (hi : ℕ) (vs : Values) → Stack hi vs → Stack hi (binary op vs)
@@ -387,13 +499,11 @@ next_method_lies hi
     let policy = h.3.3.3.3.3.3 in
     let others = policy.3 in
     let before : policy.0 ≤ name.0 = omega (arith, name.3.1, name.3.3.1, policy.1) in
-    let with_it =
-    climbs_to method_place others.0 policy.0 name.0 h.3.3.0 ms.methods method others.2
-    before name.2 in
+    let with_it = method_joins others.0 policy.0 name.0 h.3.3.0 ms method others.2 before name.2 in
     let behind : h.3.3.0 ≤ hi = omega (arith, h.1, h.3.1) in
     let low : others.0 ≤ hi = omega (arith, behind, name.1, before, others.1) in
-    let places_of = map method_place (ms.methods ++ method ∷ []) in
-    (others.0, low, further others.0 h.3.3.0 hi places_of behind with_it, others.3)
+    let all = members_further others.0 h.3.3.0 hi (with_method ms method) behind with_it in
+    (others.0, low, all, others.3)
 next_method_lies hi vs h = h
 
 -- a family of locks has at most two actors
@@ -405,7 +515,7 @@ pub built_lies : (hi : ℕ) (b : Builders) (vs : Values) → small_builder b ≡
     → Stack hi (built b vs)
 built_lies hi g.NoDecls vs k h =
     let none : SourceLies hi hi [] =
-    record { arities = tt; classes = omega arith; methods = tt; exceptions = tt } in
+    record { arities = tt; classes = omega arith; methods = tt; members = tt; exceptions = tt } in
     (hi, omega arith, none, h)
 built_lies hi g.NextDecl vs k h = next_decl_lies hi vs h
 built_lies hi g.ActorsDecl vs k h = actors_decl_lies hi vs h
@@ -416,7 +526,10 @@ built_lies hi g.ClassDecl vs k h = class_decl_lies hi vs h
 built_lies hi g.NoIdents vs k h = (hi, omega arith, tt, h)
 built_lies hi g.NextIdent vs k h = next_ident_lies hi vs h
 built_lies hi (g.OfArity n) vs k h = (hi, omega arith, grind (arith, nat_tests), h)
-built_lies hi g.NoMembers vs k h = (hi, omega arith, omega arith, h)
+built_lies hi g.NoMembers vs k h =
+    let none : MembersLie hi hi no_members =
+    record { methods = omega arith; fields = none_apart hi; callees = none_apart hi } in
+    (hi, omega arith, none, h)
 built_lies hi g.InferredField vs k h = inferred_field_lies hi vs h
 built_lies hi g.InputChannel vs k h = channel_lies true hi vs h
 built_lies hi g.OutputChannel vs k h = channel_lies false hi vs h

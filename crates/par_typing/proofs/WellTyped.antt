@@ -1,4 +1,4 @@
--- The typed program of a source is well typed.
+-- The typed program of a source is well typed, and its table is well declared.
 use Rattle.std.proofs.Common.{◌≡◌, ◌≤◌, List, [], sym, ap, subst, ◌∙◌}
 use Rattle.par_lexer.specs.declared.cut.TheConstants.{LONGEST_SOURCE}
 use Rattle.par_tree.specs.Plain.{Source}
@@ -12,6 +12,8 @@ use Rattle.par_resolved.specs.Resolved.{table_of}
 use Rattle.par_faults.specs.Faults.{all_faults}
 use Rattle.par_well_typed.specs.WellTyped.{IsWellTyped}
 use Rattle.par_well_typed.proofs.Whole.{sources_are_well_typed}
+use Rattle.par_declared.specs.Declared.{IsWellDeclared}
+use Rattle.par_tables.proofs.Whole as tables
 use Rattle.par_typing.specs.Typed.{written}
 
 pub well_typed : (table : Table) (source : Source) (found : List Body) → all_faults source ≡ []
@@ -24,3 +26,8 @@ well_typed table source found named ordered short is types made =
     let same = made ∙ ap (λ t. typed_program (written source) t source) is in
     subst (λ t. IsWellTyped t found) (sym is)
     (subst (IsWellTyped (table_of source)) (sym same) whole)
+
+pub well_declared : (table : Table) (source : Source) → all_faults source ≡ [] → IsInOrder source
+    → table ≡ table_of source → IsWellDeclared table
+well_declared table source named ordered is =
+    subst IsWellDeclared (sym is) (tables.well_declared source ordered named)

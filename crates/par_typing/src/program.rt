@@ -15,6 +15,7 @@ ghost use Rattle.par_sources.specs.Numbers.{SourceHasNumbers};
 ghost use Rattle.par_sources.specs.Order.{IsInOrder};
 ghost use Rattle.par_sources.specs.Sizes.{source_texts};
 ghost use Rattle.par_well_typed.specs.WellTyped.{IsWellTyped};
+ghost use Rattle.par_declared.specs.Declared.{IsWellDeclared};
 ghost use Rattle.par_typing.specs.Typed.{IsTyped, IsRefused, written};
 
 use crate::error::TypeError;
@@ -71,8 +72,8 @@ fn first_broken(
     check_bodies(alloc, table, program)
 }
 
-/// The typed program over this table, exactly where no rule on types is broken. It is well typed. A
-/// refusal drops the table.
+/// The typed program over this table, exactly where no rule on types is broken. It is well typed,
+/// and its table is well declared. A refusal drops the table.
 pub fn type_program(alloc: Global, table: Table, program: &Program) -> Result<Typed, TypeError>
     requires named { all_faults (source program.now) ≡ [] }
     requires tabled { table ≡ table_of (source program.now) }
@@ -81,6 +82,7 @@ pub fn type_program(alloc: Global, table: Table, program: &Program) -> Result<Ty
     requires texts { source_texts (source program.now) ≤ LONGEST_SOURCE }
     ensures typed { IfOk result (IsTyped table (source program.now)) }
     ensures well_typed { IfOk result (λ typed. IsWellTyped typed.table (bodies typed.bodies)) }
+    ensures well_declared { IfOk result (λ typed. IsWellDeclared typed.table) }
     ensures refused { IfErr result (IsRefused (type_faults table (source program.now))) }
 {
     match first_broken(alloc, &table, program)? {

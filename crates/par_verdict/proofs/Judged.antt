@@ -1,6 +1,6 @@
 -- The broken rules of least facts are those that all closed facts break.
-use Rattle.std.proofs.Common.{◌≡◌, ℕ, Bool, true, false, not, Option, Some, None, List, [], ◌∷◌}
-use Rattle.std.proofs.Common.{◌++◌, length, refl, sym, subst, ◌∙◌, ⊎_elim}
+use Rattle.std.proofs.Common.{◌≡◌, ◌≤◌, ℕ, Bool, true, false, not, Option, Some, None, List, []}
+use Rattle.std.proofs.Common.{◌∷◌, ◌++◌, length, refl, sym, subst, ◌∙◌, ⊎_elim}
 use Rattle.std.specs.Prelude.{Contains, IsTrue}
 use Rattle.std.proofs.lemmas.Bool.{false≢true}
 use Rattle.std.proofs.lemmas.List.Elements.{All-contains, Contains-append_cases}
@@ -25,7 +25,8 @@ use Rattle.par_checks.proofs.Kept.{keep_accept, meant, kept}
 use Rattle.par_checks.proofs.Failed.{fail_refuse}
 use Rattle.par_verdict.specs.Told.{AreBroken, AreAllBroken}
 use Rattle.par_verdict.specs.Judged.{AreRight, AreAllRight, IsVerdict}
-use Rattle.par_verdict.specs.Accepted.{AreAllKept, IsAcceptedBy}
+use Rattle.par_verdict.specs.Accepted.{MOST_BODIES, AreKept, AreAllKept}
+use Rattle.par_verdict.specs.Accepted.{IsAcceptedBy}
 
 -- ---- one list of rules
 
@@ -230,18 +231,38 @@ all_kept table (b ∷ bs) (f ∷ fs) told (own, of_own, (rest, h, e)) right none
 
 -- facts of which nothing is told
 pub accepted_by : (typed : Typed) (bs : List TBody) (fs gs : List (Facts numbers))
-    (told : List Refusal) → bs ≡ typed.bodies → fs ≡ gs
+    (told : List Refusal) → bs ≡ typed.bodies → fs ≡ gs → length typed.bodies ≤ MOST_BODIES
     → length gs ≡ length typed.bodies → AreAllRight typed.table (bodies typed.bodies) gs
     → AreAllBroken typed.table (bodies bs) fs told → told ≡ []
     → IsAcceptedBy typed gs
-accepted_by typed bs fs gs told same alike many right breaks none =
+accepted_by typed bs fs gs told same alike few many right breaks none =
     let here = subst
     (λ (hs : List (Facts numbers)). AreAllBroken typed.table (bodies typed.bodies) hs told)
     alike
     (subst (λ (xs : List TBody). AreAllBroken typed.table (bodies xs) fs told) same breaks) in
     record {
+      few = few;
       many = many;
       right = right;
       kept = all_kept typed.table (bodies typed.bodies) gs told
           here right none;
     }
+
+body_kept : (table : Table) (bs : List Body) (fs : List (Facts numbers)) → AreAllRight table bs fs
+    → AreAllKept table bs fs → (b : Body) → Contains bs b
+    → (f : Facts numbers) × AreKept table b f
+body_kept table [] fs right kept b there = absurd (Contains-nil b there)
+body_kept table (x ∷ xs) [] right kept b there = absurd right
+body_kept table (x ∷ xs) (f ∷ fs) right kept b there =
+    ⊎_elim
+    (λ is. subst (λ y. (g : Facts numbers) × AreKept table y g) (sym is)
+    (f, record { right = right.0; kept = kept.0 }))
+    (λ in_xs. body_kept table xs fs right.1 kept.1 b in_xs)
+    (Contains-cons_cases x xs b there)
+
+-- each body of an accepted program has such facts
+pub each_kept : (typed : Typed) (fs : List (Facts numbers)) → IsAcceptedBy typed fs → (b : Body)
+    → Contains (bodies typed.bodies) b
+    → (f : Facts numbers) × AreKept typed.table b f
+each_kept typed fs accepted =
+    body_kept typed.table (bodies typed.bodies) fs accepted.right accepted.kept

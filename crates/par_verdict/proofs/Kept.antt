@@ -8,16 +8,17 @@ use Rattle.par_rules.specs.Rules.{Holds}
 use Rattle.par_checks.specs.Asked.{Condition, Open, Released, Worth, Joined, Context, Effect, Among}
 use Rattle.par_checks.specs.Asked.{Never}
 use Rattle.par_checks.specs.Keeps.{Satisfies}
-use Rattle.par_checks.specs.Verdict.{KeepsNumbered}
+use Rattle.par_checks.specs.Verdict.{given, KeepsNumbered}
 use Rattle.par_asked.specs.declared.check.Check.{Check}
 use Rattle.par_asked.specs.Seen.{seen_check, seen_condition}
 use Rattle.par_verdict.specs.declared.known.Known.{Known}
-use Rattle.par_verdict.specs.Standing.{standing, stand, stands, Meets, MeetsThere}
+use Rattle.par_verdict.specs.Standing.{standing, stand, stands, value_of, Meets}
+use Rattle.par_verdict.specs.Standing.{MeetsThere}
 use Rattle.par_verdict.specs.Spots.{at_spot}
 
 meets_iff : (table : Table) (f : Facts numbers) (o : Option (Way numbers)) (c : Condition)
     → MeetsThere table f (standing o) c
-    ↔ Holds numbers o (λ w. Satisfies numbers (joined table.policies) table.policies f w c)
+    ↔ Holds numbers o (λ w. Satisfies numbers (joined table.policies) (given table) f w c)
 meets_iff table f None c = (λ h. h, λ h. h)
 meets_iff table f (Some w) (Open locks) = (λ h. h, λ h. h)
 meets_iff table f (Some w) (Released v p) = (λ h. h, λ h. h)
@@ -45,7 +46,8 @@ kept_unreached table f c e =
 -- and where it is
 pub kept_reached : (table : Table) (f : Facts numbers) (c : Check) (k : Known)
     → stands (Some k) ≡ at_spot f c.point c.way
-    → Meets table f (stand k) (seen_condition c.condition) ↔ KeepsNumbered table f (seen_check c)
+    → Meets table (value_of f (seen_condition c.condition)) (stand k) (seen_condition c.condition)
+    ↔ KeepsNumbered table f (seen_check c)
 kept_reached table f c k e = (
   λ h. (keeps_iff table f c).0 (subst (λ o. MeetsThere table f o (seen_condition c.condition)) e h),
   λ h. subst (λ o. MeetsThere table f o (seen_condition c.condition)) (sym e)

@@ -13,38 +13,33 @@ use Rattle.par_asked.specs.declared.check.Condition.TheVariants.{Released, Worth
 use Rattle.par_asked.specs.declared.check.Condition.TheVariants.{Context, Effect}
 use Rattle.par_asked.specs.Seen.{seen_check, seen_condition}
 use Rattle.par_verdict.specs.declared.known.Known.{Known}
-use Rattle.par_verdict.specs.Standing.{Standing, stand, stands, Meets}
+use Rattle.par_verdict.specs.Standing.{Standing, stand, stands, value_of, Meets}
 use Rattle.par_verdict.specs.Spots.{at_spot}
 use Rattle.par_verdict.proofs.Kept.{kept_reached}
 
 abbrev Tells : {E : Type 0} → Result Bool E → Type 0 → Type 0
 Tells r P = IfOk r (λ b. IsTrue b ↔ P)
 
-module _ (table : Table) (f : Facts numbers) (s : Standing) {E : Type 0} (r : Result Bool E) where
+module _ (table : Table) (v : Set) (s : Standing) {E : Type 0} (r : Result Bool E) where
   abbrev TellsBelow : Set → ℕ → Type 0
   TellsBelow set p =
       Tells r (IsSeenBelow (joined table.policies set) (seen_by (slice_get table.policies p)))
 
   abbrev TellsMet : Condition → Type 0
-  TellsMet c = Tells r (Meets table f s (seen_condition c))
+  TellsMet c = Tells r (Meets table v s (seen_condition c))
 
-  pub met_released : (c : Condition) (v p : ℕ) (set : Set) → c ≡ Released v p → set ≡ (f v).value
-      → Tells r (IsSeenBelowAt (joined table.policies set) s.locks
+  pub met_released : (c : Condition) (e p : ℕ) → c ≡ Released e p
+      → Tells r (IsSeenBelowAt (joined table.policies v) s.locks
       (seen_by (slice_get table.policies p)))
       → TellsMet c
-  met_released c v p set is value h =
-      subst TellsMet (sym is)
-      (subst (λ t. Tells r (IsSeenBelowAt (joined table.policies t) s.locks
-      (seen_by (slice_get table.policies p)))) value h)
+  met_released c e p is h = subst TellsMet (sym is) h
 
-  pub met_worth : (c : Condition) (v p : ℕ) (set : Set) → c ≡ Worth v p → set ≡ (f v).value
-      → TellsBelow set p → TellsMet c
-  met_worth c v p set is value h =
-      subst TellsMet (sym is) (subst (λ t. TellsBelow t p) value h)
+  pub met_worth : (c : Condition) (e p : ℕ) → c ≡ Worth e p → TellsBelow v p → TellsMet c
+  met_worth c e p is h = subst TellsMet (sym is) h
 
-  pub met_joined : (c : Condition) (v p : ℕ) (set : Set) → c ≡ Joined v p
-      → set ≡ union (f v).value s.context → TellsBelow set p → TellsMet c
-  met_joined c v p set is value h =
+  pub met_joined : (c : Condition) (e p : ℕ) (set : Set) → c ≡ Joined e p
+      → set ≡ union v s.context → TellsBelow set p → TellsMet c
+  met_joined c e p set is value h =
       subst TellsMet (sym is) (subst (λ t. TellsBelow t p) value h)
 
   pub met_context : (c : Condition) (p : ℕ) → c ≡ Context p → TellsBelow s.context p → TellsMet c
@@ -57,12 +52,13 @@ module _ (table : Table) (f : Facts numbers) (s : Standing) {E : Type 0} (r : Re
   met_effect c e p is h = subst TellsMet (sym is) h
 
 -- and rules that are kept
-pub kept_met : {E : Type 0} (table : Table) (f : Facts numbers) (c : Check) (k : Known)
+pub kept_met : {E : Type 0} (table : Table) (f : Facts numbers) (c : Check) (v : Set) (k : Known)
     (r : Result Bool E)
-    → stands (Some k) ≡ at_spot f c.point c.way
-    → Tells r (Meets table f (stand k) (seen_condition c.condition))
+    → stands (Some k) ≡ at_spot f c.point c.way → v ≡ value_of f (seen_condition c.condition)
+    → Tells r (Meets table v (stand k) (seen_condition c.condition))
     → Tells r (KeepsNumbered table f (seen_check c))
-kept_met table f c k (Err e) reached h = h
-kept_met table f c k (Ok b) reached h =
+kept_met table f c v k (Err e) reached is h = h
+kept_met table f c v k (Ok b) reached is h =
     let iff = kept_reached table f c k reached in
-    (λ t. iff.0 (h.0 t), λ t. h.1 (iff.1 t))
+    let met = subst (λ u. IsTrue b ↔ Meets table u (stand k) (seen_condition c.condition)) is h in
+    (λ t. iff.0 (met.0 t), λ t. met.1 (iff.1 t))

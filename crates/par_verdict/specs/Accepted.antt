@@ -1,5 +1,6 @@
 -- What is kept of an accepted program, and why one is refused.
-use Rattle.std.specs.Prelude.{◌≡◌, Option, Some, None, List, [], ◌∷◌, Contains, length, slice_get}
+use Rattle.std.specs.Prelude.{◌≡◌, ◌≤◌, ℕ, Option, Some, None, List, [], ◌∷◌, Contains, length}
+use Rattle.std.specs.Prelude.{slice_get}
 use Rattle.par_typed.specs.declared.table.Table.{Table}
 use Rattle.par_typed.specs.declared.table.ClassInfo.{ClassInfo}
 use Rattle.par_typed.specs.declared.table.MethodInfo.{MethodInfo}
@@ -13,7 +14,7 @@ use Rattle.par_rules.specs.Ranges.{IsOrderly}
 use Rattle.par_checks.specs.Asked.{Check}
 use Rattle.par_checks.specs.Checks.{checks}
 use Rattle.par_checks.specs.Verdict.{KeepsNumbered}
-use Rattle.par_verdict.specs.Judged.{AreAllRight, IsFirstBroken}
+use Rattle.par_verdict.specs.Judged.{AreRight, AreAllRight, IsFirstBroken}
 use Rattle.par_verdict.specs.declared.error.CheckError.{CheckError}
 use Rattle.par_verdict.specs.declared.error.CheckError.TheVariants.{Broken, Memory}
 
@@ -36,11 +37,21 @@ AreAllKept table (b ∷ bs) [] = ⊥
 AreAllKept table (b ∷ bs) (f ∷ fs) =
     ((c : Check) → Contains (checks table b) c → KeepsNumbered table f c) × AreAllKept table bs fs
 
--- these are closed and least facts of the bodies, and they keep all rules
+-- how many bodies have numbers
+abbrev pub MOST_BODIES : ℕ
+MOST_BODIES = 65536
+
+-- these are closed and least facts of the bodies, which have numbers, and they keep all rules
 pub record IsAcceptedBy (typed : Typed) (fs : List (Facts numbers)) : Type 0 where
+  pub few : length typed.bodies ≤ MOST_BODIES
   pub many : length fs ≡ length typed.bodies
   pub right : AreAllRight typed.table (bodies typed.bodies) fs
   pub kept : AreAllKept typed.table (bodies typed.bodies) fs
+
+-- closed and least facts of one body, which keep all of its rules
+pub record AreKept (table : Table) (b : Body) (f : Facts numbers) : Type 0 where
+  pub right : AreRight table b f
+  pub kept : (c : Check) → Contains (checks table b) c → KeepsNumbered table f c
 
 -- the first broken rule, or want of memory
 abbrev pub IsRefused : Typed → CheckError → Type 0

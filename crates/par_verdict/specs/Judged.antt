@@ -4,18 +4,24 @@ use Rattle.par_typed.specs.declared.table.Table.{Table}
 use Rattle.par_typed.specs.declared.refusal.Refusal.{Refusal}
 use Rattle.par_typed.specs.First.{broken, comes_before}
 use Rattle.par_typed.specs.Plain.{Body}
-use Rattle.par_rules.specs.Lattice.{numbers}
+use Rattle.par_rules.specs.Lattice.{Seen, numbers}
 use Rattle.par_rules.specs.Facts.{Facts}
 use Rattle.par_rules.specs.Declares.{declares}
+use Rattle.par_rules.specs.Body.{sta}
 use Rattle.par_rules.specs.Closed.{IsClosed}
+use Rattle.par_pass.specs.Seens.{seen_as}
+use Rattle.par_pass.specs.Possible.{HasPossibleExits}
 use Rattle.par_pass.specs.Result.{AreLeast}
-use Rattle.par_pass.proofs.Instances.{seen}
+use Rattle.par_pass.proofs.Instances.{seen, stands}
 use Rattle.par_checks.specs.Verdict.{among, IsAccepted, IsBroken}
 
--- the facts are closed, and at or below all others that are
+-- the facts are closed, and at or below all others that are, whichever policies have the numbers; a
+-- completion that is not possible has no exit
 pub record AreRight (table : Table) (b : Body) (f : Facts numbers) : Type 0 where
   pub closed : IsClosed numbers (declares table) b f
   pub least : AreLeast (among table) (seen table.policies) (declares table) b f
+  pub whichever : (ps : List Seen) → AreLeast (seen_as ps) (stands ps) (declares table) b f
+  pub possible : HasPossibleExits numbers f (sta (declares table) b.body)
 
 -- those of each body are
 abbrev pub AreAllRight : Table → List Body → List (Facts numbers) → Type 0

@@ -5,8 +5,10 @@ use Rattle.par_typed.specs.declared.table.Table.{Table}
 use Rattle.par_rules.specs.Lattice.{numbers, joined}
 use Rattle.par_rules.specs.Ways.{Way}
 use Rattle.par_rules.specs.Facts.{Facts}
-use Rattle.par_checks.specs.Asked.{Condition}
+use Rattle.par_checks.specs.Asked.{Condition, Open, Released, Worth, Joined, Context, Effect, Among}
+use Rattle.par_checks.specs.Asked.{Never}
 use Rattle.par_checks.specs.Keeps.{Satisfies}
+use Rattle.par_checks.specs.Verdict.{given}
 use Rattle.par_verdict.specs.declared.known.Known.{Known}
 
 pub record Standing : Type 0 where
@@ -34,10 +36,26 @@ heightened by (Some s) = Some (record s { context = union s.context by })
 abbrev pub as_way : Standing → Way numbers
 as_way s = record { context = s.context; env = λ i. none; locks = s.locks }
 
--- the condition holds of what is known there
-abbrev pub Meets : Table → Facts numbers → Standing → Condition → Type 0
-Meets table f s c = Satisfies numbers (joined table.policies) table.policies f (as_way s) c
+-- the value that the condition speaks of; none where it speaks of no value
+abbrev pub value_of : Facts numbers → Condition → Set
+value_of f (Released v p) = (f v).value
+value_of f (Worth v p) = (f v).value
+value_of f (Joined v p) = (f v).value
+value_of f (Open locks) = none
+value_of f (Context p) = none
+value_of f (Effect e p) = none
+value_of f (Among locks those) = none
+value_of f Never = none
+
+-- facts in which each value is this one
+abbrev pub valued : Set → Facts numbers
+valued value point = record { entry = None; value = value; exit = λ k. None }
+
+-- the condition holds of this value, and of what is known at its spot
+abbrev pub Meets : Table → Set → Standing → Condition → Type 0
+Meets table value s c =
+    Satisfies numbers (joined table.policies) (given table) (valued value) (as_way s) c
 
 abbrev pub MeetsThere : Table → Facts numbers → Option Standing → Condition → Type 0
 MeetsThere table f None c = Unit {0}
-MeetsThere table f (Some s) c = Meets table f s c
+MeetsThere table f (Some s) c = Meets table (value_of f c) s c

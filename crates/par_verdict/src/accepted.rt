@@ -4,7 +4,7 @@ ghost use Rattle.std.specs.Prelude.{◌≡◌, ◌<◌, ◌≤◌, length, map, 
 ghost use Rattle.std.specs.List.{AllByRecursion};
 ghost use Rattle.par_typed.specs.Shown as shown;
 ghost use Rattle.par_verdict.specs.Judged.{AreAllRight, AreRight, IsVerdict};
-ghost use Rattle.par_verdict.specs.Accepted.{IsAcceptedBy, IsOrderlyBody, IsRefused};
+ghost use Rattle.par_verdict.specs.Accepted.{IsAcceptedBy, IsOrderlyBody, IsRefused, MOST_BODIES};
 
 use crate::error::CheckError;
 use crate::first::first_broken;
@@ -65,6 +65,7 @@ fn all_facts<F: FindsFacts>(alloc: Global, typed: &Typed) -> Result<List<F>, NoM
 pub fn check<F: FindsFacts>(alloc: Global, typed: Typed) -> Result<Accepted<F>, CheckError>
     requires policies { length typed.table.policies ≤ 256 }
     requires classes { length typed.table.classes ≤ 65536 }
+    requires few { length typed.bodies ≤ MOST_BODIES }
     requires orderly { AllByRecursion (IsOrderlyBody typed.table) (shown.bodies typed.bodies) }
     ensures program { IfOk result (λ accepted. accepted.typed ≡ typed) }
     ensures kept { IfOk result (λ accepted.

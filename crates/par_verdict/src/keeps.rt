@@ -5,13 +5,14 @@ ghost use Rattle.par_bits.specs.Sets.{has};
 ghost use Rattle.par_rules.specs.Lattice.{IsSeenBelow, joined, seen_by};
 ghost use Rattle.par_asked.specs.Seen.{seen_check, seen_condition};
 ghost use Rattle.par_checks.specs.Verdict.{KeepsNumbered};
-ghost use Rattle.par_verdict.specs.Standing.{Meets, stand};
+ghost use Rattle.par_verdict.specs.Standing.{Meets, stand, value_of};
 
 use crate::known::{Known, KnownFacts};
 use crate::locks::{are_among, are_open};
 use crate::policies::Policies;
 use crate::ways::known_at;
 use par_asked::check::{Check, Condition};
+use par_atoms::Atoms;
 use par_lexer::list::NoMemory;
 
 // Whether the context is below the policy, whichever locks are open.
@@ -29,28 +30,40 @@ fn is_context_below(
     policies.is_below(&known.context, policy)
 }
 
-// Whether the condition holds of what is known at its spot.
-fn is_met<F: KnownFacts>(
-    facts: &F,
+/// The value that the condition speaks of: no policies where it speaks of no value.
+pub fn value_of<F: KnownFacts>(facts: &F, condition: Condition<'_>) -> Atoms
+    ensures { has result ≡ value_of (F.facts facts.now) (seen_condition condition.entry) }
+{
+    match condition {
+        Condition::Released(value, _) => facts.value(value),
+        Condition::Worth(value, _) => facts.value(value),
+        Condition::Joined(value, _) => facts.value(value),
+        Condition::Open(_) => Atoms::empty(),
+        Condition::Context(_) => Atoms::empty(),
+        Condition::Effect(_, _) => Atoms::empty(),
+        Condition::Among(_, _) => Atoms::empty(),
+        Condition::Never => Atoms::empty(),
+    }
+}
+
+/// Whether the condition holds of the value that it speaks of, and of what is known at its spot.
+pub fn is_met(
     policies: &mut Policies<'_>,
-    known: Known,
+    value: &Atoms,
+    known: &Known,
     condition: Condition<'_>,
 ) -> Result<bool, NoMemory>
     requires { length policies.old.policies ≤ 256 }
     ensures table { policies.new ≡ policies.old }
     ensures met { IfOk result (λ met. IsTrue met
-        ↔ Meets policies.old (F.facts facts.now) (stand known) (seen_condition condition.entry)) }
+        ↔ Meets policies.old (has value.now) (stand known.now) (seen_condition condition.entry)) }
 {
     match condition {
         Condition::Open(locks) => Ok(are_open(locks, &known.locks)),
-        Condition::Released(value, policy) => {
-            policies.is_below_at(&facts.value(value), &known.locks, policy)
-        }
-        Condition::Worth(value, policy) => policies.is_below(&facts.value(value), policy),
-        Condition::Joined(value, policy) => {
-            policies.is_below(&facts.value(value).union(&known.context), policy)
-        }
-        Condition::Context(policy) => is_context_below(policies, &known, policy),
+        Condition::Released(_, policy) => policies.is_below_at(value, &known.locks, policy),
+        Condition::Worth(_, policy) => policies.is_below(value, policy),
+        Condition::Joined(_, policy) => policies.is_below(&value.union(&known.context), policy),
+        Condition::Context(policy) => is_context_below(policies, known, policy),
         Condition::Effect(effect, policy) => policies.is_number_below(effect, policy),
         Condition::Among(locks, those) => Ok(are_among(locks, those)),
         Condition::Never => Ok(false),
@@ -71,6 +84,9 @@ pub(crate) fn keeps<F: KnownFacts>(
 {
     match known_at(facts, check.point, check.way) {
         None => Ok(true),
-        Some(known) => is_met(facts, policies, known, check.condition),
+        Some(known) => {
+            let value = value_of(facts, check.condition);
+            is_met(policies, &value, &known, check.condition)
+        }
     }
 }

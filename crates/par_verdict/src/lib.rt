@@ -17,3 +17,6 @@ mod ways;
 pub use accepted::{Accepted, FindsFacts, check};
 pub use error::CheckError;
 pub use first::first_broken;
+pub use keeps::{is_met, value_of};
+pub use policies::Policies;
+pub use ways::known_at;

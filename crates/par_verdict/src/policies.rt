@@ -16,7 +16,7 @@ use std::marker::Model;
 
 /// A table with what is known of the order of its policies. Contracts see the table alone.
 #[derive(Drop)]
-pub(crate) struct Policies<'a> {
+pub struct Policies<'a> {
     table: &'a Table,
     order: Order<'a>,
 }
@@ -48,7 +48,7 @@ fn is_none(policies: &[Policy], set: &Atoms) -> bool
 
 impl<'a> Policies<'a> {
     /// The policies of a table, of whose order nothing is known.
-    pub(crate) fn of(alloc: Global, table: &'a Table) -> Policies<'a>
+    pub fn of(alloc: Global, table: &'a Table) -> Policies<'a>
         ensures { result ≡ table.entry.now }
     {
         Policies {
@@ -58,7 +58,7 @@ impl<'a> Policies<'a> {
     }
 
     /// The table.
-    pub(crate) fn table(&self) -> &'a Table
+    pub fn table(&self) -> &'a Table
         ensures { result.now ≡ self.now }
     {
         self.table
@@ -66,7 +66,7 @@ impl<'a> Policies<'a> {
 
     /// Whether the join of these policies, specialised to the locks, is below the policy of a
     /// number. What is no policy of the table is seen by all.
-    pub(crate) fn is_below_at(
+    pub fn is_below_at(
         &mut self,
         set: &Atoms,
         locks: &Bits<4>,
@@ -87,7 +87,7 @@ impl<'a> Policies<'a> {
     }
 
     /// Whether the join of these policies is below the policy of a number.
-    pub(crate) fn is_below(&mut self, set: &Atoms, policy: u16) -> Result<bool, NoMemory>
+    pub fn is_below(&mut self, set: &Atoms, policy: u16) -> Result<bool, NoMemory>
         requires { length self.old.policies ≤ 256 }
         ensures table { self.new ≡ self.old }
         ensures below { IfOk result (λ below. IsTrue below
@@ -98,7 +98,7 @@ impl<'a> Policies<'a> {
     }
 
     /// Whether one policy is below another, by their numbers.
-    pub(crate) fn is_number_below(&mut self, one: u16, other: u16) -> Result<bool, NoMemory>
+    pub fn is_number_below(&mut self, one: u16, other: u16) -> Result<bool, NoMemory>
         requires { length self.old.policies ≤ 256 }
         ensures table { self.new ≡ self.old }
         ensures below { IfOk result (λ below. IsTrue below

@@ -73,7 +73,7 @@ fn called<F: KnownFacts>(facts: &F, point: u32, of: Option<u32>, args: &[TExpr])
 
 /// What is known at a spot, where it is reached.
 #[tactic(auto, using(crate::proofs::Spots::spots))]
-pub(crate) fn known_at<F: KnownFacts>(facts: &F, point: u32, way: Way<'_>) -> Option<Known>
+pub fn known_at<F: KnownFacts>(facts: &F, point: u32, way: Way<'_>) -> Option<Known>
     ensures { stands result ≡ at_spot (F.facts facts.now) point way.entry }
 {
     match way {

@@ -20,7 +20,7 @@ use Rattle.par_resolved.specs.Numbers.{result_of}
 use Rattle.par_resolved.specs.Resolved.{Resolved, resolved, param_info, lock_set, method_info}
 use Rattle.par_resolved.specs.Resolved.{class_infos, has_main, table_of}
 use Rattle.par_sources.specs.Order.{IsInOrder}
-use Rattle.par_well_typed.specs.Orderly.{methods_in}
+use Rattle.par_bodies.specs.Members.{methods_in}
 use Rattle.par_well_typed.specs.Beginning as table
 use Rattle.par_well_typed.specs.Beginning.{HasMain}
 use Rattle.par_well_typed.proofs.Lists.{none_left, none_right}

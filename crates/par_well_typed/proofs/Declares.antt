@@ -37,7 +37,7 @@ use Rattle.par_resolved.specs.Resolved.{Resolved, resolved, table_of}
 use Rattle.par_resolved.specs.Statements.{inside, in_braces, in_may_braces, in_else, in_all}
 use Rattle.par_resolved.specs.Statements.{in_catches}
 use Rattle.par_resolved.specs.Written.{stmt_types}
-use Rattle.par_well_typed.specs.Makes.{IsOrdinary}
+use Rattle.par_bodies.specs.Makes.{IsOrdinary}
 use Rattle.par_well_typed.specs.Signatures.{IsValueType}
 use Rattle.par_well_typed.proofs.Lists.{none_left, none_right, of_both}
 use Rattle.par_well_typed.proofs.Programs.{names-class_infos}

@@ -33,8 +33,10 @@ use Rattle.par_resolved.specs.Resolved.{ground_locks_from, query_numbers, ground
 use Rattle.par_resolved.specs.Resolved.{field_infos, channel_info, param_info, throw_info, lock_set}
 use Rattle.par_resolved.specs.Resolved.{this_type, local_types, method_info, class_info}
 use Rattle.par_resolved.specs.Resolved.{class_infos, has_main, table_of}
-use Rattle.par_well_typed.specs.Tables.{IsPolicy, IsLock, IsClass, MayBePolicy, AreLocks, IsType}
-use Rattle.par_well_typed.specs.Tables.{arrivals, FieldInRange, ChannelInRange, ParamInRange}
+use Rattle.par_bodies.specs.Members.{IsClass}
+use Rattle.par_well_typed.specs.Tables.{IsPolicy, IsLock, MayBePolicy, AreLocks, IsType}
+use Rattle.par_bodies.specs.Locals.{arrivals}
+use Rattle.par_well_typed.specs.Tables.{FieldInRange, ChannelInRange, ParamInRange}
 use Rattle.par_well_typed.specs.Tables.{ThrowInRange, MethodInRange, ClassInRange, LockInRange}
 use Rattle.par_well_typed.specs.Tables as tables
 use Rattle.par_faults.specs.Faults.{all_faults}
@@ -71,7 +73,7 @@ set_in P ns h = folded (AllByRecursion P) P with_number [] ns (λ c x h k. with_
 
 -- ---- what is known keeps its numbers
 
-numbers_stay : (k : Known) (ds : List PolicyDecl) → (known_behind k ds).numbers ≡ k.numbers
+pub numbers_stay : (k : Known) (ds : List PolicyDecl) → (known_behind k ds).numbers ≡ k.numbers
 unfolding known_behind
 numbers_stay k [] = refl
 numbers_stay k (d ∷ ds) = numbers_stay (with_value k (value_of k d.policy)) ds

@@ -10,12 +10,13 @@ use Rattle.par_typed.specs.declared.table.Table.{Table}
 use Rattle.par_typed.specs.Plain.{Mark, mark, Int, Boolean, Null, Local, TSta, Block, Break}
 use Rattle.par_typed.specs.Plain.{SetLocal, SetStatic, Then, End}
 use Rattle.par_well_typed.specs.Orderly.{IsBodyOf}
-use Rattle.par_well_typed.specs.Members.{ExpNames, StaNames}
+use Rattle.par_bodies.specs.Names.{ExpNames, StaNames}
 use Rattle.par_well_typed.specs.Fits.{ExpFits, StaFits}
 use Rattle.par_well_typed.specs.Control.{StaReached}
 use Rattle.par_typed.specs.Nodes.{nodes, stmt_nodes}
 use Rattle.par_annotate.specs.Points.{count_from, points, stmt_points}
-use Rattle.par_well_typed.specs.SetFirst.{SetsFirst, behind}
+use Rattle.par_bodies.specs.Locals.{behind}
+use Rattle.par_well_typed.specs.SetFirst.{SetsFirst}
 use Rattle.par_well_typed.specs.Numbers.{ExpReads, StaInRange}
 
 -- `static int got;`

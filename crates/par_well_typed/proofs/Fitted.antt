@@ -39,8 +39,9 @@ use Rattle.par_resolved.specs.Statements.{in_braces}
 use Rattle.par_resolved.specs.Written.{stmt_types}
 use Rattle.par_faults.specs.Faults.{all_faults}
 use Rattle.par_sources.specs.Order.{Ascend, IsInOrder}
-use Rattle.par_well_typed.specs.Orderly.{method_at}
-use Rattle.par_well_typed.specs.Fits.{arriving, arriving_sure, BeginsWith, StaFits, ValuesFit}
+use Rattle.par_bodies.specs.Members.{method_at}
+use Rattle.par_bodies.specs.Locals.{arriving, arriving_sure, BeginsWith}
+use Rattle.par_well_typed.specs.Fits.{StaFits, ValuesFit}
 use Rattle.par_well_typed.specs.Typed.{written_in, bodies_of}
 use Rattle.par_well_typed.proofs.Lists.{none_left, none_right, none_of, of_both}
 use Rattle.par_well_typed.proofs.Members.{IsThere}

@@ -54,8 +54,9 @@ use Rattle.par_annotate.specs.Exprs.{number_of, selection, own_receiver, method_
 use Rattle.par_annotate.specs.Exprs.{callee_on, first, by_way, through, call, typed_exp, typed_may}
 use Rattle.par_annotate.specs.Exprs.{typed_args, mark_of}
 use Rattle.par_resolved.specs.Resolved.{resolved, class_info, table_of}
-use Rattle.par_well_typed.specs.Members as members
-use Rattle.par_well_typed.specs.Fits.{Fits, Is, IsSure, IsReadOf, ParamsTake, IsCallOf, AreOperands}
+use Rattle.par_bodies.specs.Names as members
+use Rattle.par_bodies.specs.Types.{Is}
+use Rattle.par_well_typed.specs.Fits.{Fits, IsSure, IsReadOf, ParamsTake, IsCallOf, AreOperands}
 use Rattle.par_well_typed.specs.Fits.{ExpFits, MayExpFits, ExpsFit}
 use Rattle.par_well_typed.proofs.Lists.{none_left, none_right}
 use Rattle.par_well_typed.proofs.Unbroken.{is_kept}

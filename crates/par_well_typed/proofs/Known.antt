@@ -45,7 +45,7 @@ use Rattle.par_types.specs.Exprs.{count_fault, member_fault, is_known}
 use Rattle.par_types.specs.Methods.{home_of}
 use Rattle.par_annotate.specs.Frames.{Frame, Var, var_at, var_named}
 use Rattle.par_resolved.specs.Resolved.{Resolved, resolved, class_info, class_infos, table_of}
-use Rattle.par_well_typed.specs.Members.{IsField}
+use Rattle.par_bodies.specs.Names.{IsField}
 use Rattle.par_well_typed.proofs.Lists.{none_left, none_right}
 use Rattle.par_well_typed.proofs.Ranges.{MayBe}
 use Rattle.par_well_typed.proofs.Unbroken.{is_kept}

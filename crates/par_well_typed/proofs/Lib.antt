@@ -31,5 +31,8 @@ pub mod Declares
 pub mod Signatures
 pub mod Beginning
 pub mod Bodied
+pub mod Asked
+pub mod Keeps
+pub mod Proper
 pub mod Whole
 mod Examples

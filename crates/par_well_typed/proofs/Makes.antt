@@ -49,7 +49,7 @@ use Rattle.par_annotate.specs.Exprs.{selection, own_receiver, method_on}
 use Rattle.par_annotate.specs.Exprs.{callee_on, first, by_way, through, call, typed_exp, typed_may}
 use Rattle.par_annotate.specs.Exprs.{typed_args, mark_of}
 use Rattle.par_resolved.specs.Resolved.{resolved, table_of}
-use Rattle.par_well_typed.specs.Makes.{IsOrdinary, ExpMakes, MayExpMakes, ExpsMake}
+use Rattle.par_bodies.specs.Makes.{IsOrdinary, ExpMakes, MayExpMakes, ExpsMake}
 use Rattle.par_well_typed.proofs.Lists.{none_left, none_right}
 use Rattle.par_well_typed.proofs.Ranges.{MayBe}
 use Rattle.par_well_typed.proofs.Unbroken.{is_kept}

@@ -50,8 +50,8 @@ use Rattle.par_annotate.specs.Stmts.{typed_sta, typed_braces, typed_may_braces, 
 use Rattle.par_annotate.specs.Stmts.{typed_stas, typed_catches}
 use Rattle.par_annotate.specs.Bodies.{with_params}
 use Rattle.par_resolved.specs.Resolved.{table_of}
-use Rattle.par_well_typed.specs.Makes.{ExpMakes, MayExpMakes, StaMakes, ElseMakes, StasMake}
-use Rattle.par_well_typed.specs.Makes.{CatchesMake}
+use Rattle.par_bodies.specs.Makes.{ExpMakes, MayExpMakes, StaMakes, ElseMakes, StasMake}
+use Rattle.par_bodies.specs.Makes.{CatchesMake}
 use Rattle.par_well_typed.proofs.Lists.{none_left, none_right}
 use Rattle.par_well_typed.proofs.Ranges.{MayBe}
 use Rattle.par_well_typed.proofs.Members.{IsThere, PlaceOf, selected_is}

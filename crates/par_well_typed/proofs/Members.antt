@@ -26,8 +26,8 @@ use Rattle.par_scope.specs.Meaning.{object_field, selected, channel_or_method, c
 use Rattle.par_scope.specs.Meaning.{when_it_does, static_callee, object_callee, called}
 use Rattle.par_index.proofs.Places.{position-within}
 use Rattle.par_types.specs.Methods.{home_of}
-use Rattle.par_well_typed.specs.Members as m
-use Rattle.par_well_typed.specs.Members.{IsField}
+use Rattle.par_bodies.specs.Members as m
+use Rattle.par_bodies.specs.Names.{IsField}
 use Rattle.par_well_typed.proofs.Ranges.{MayBe}
 
 -- ---- there is something

@@ -41,9 +41,9 @@ use Rattle.par_annotate.specs.Exprs.{known, numbered, own_this, own_field, name_
 use Rattle.par_annotate.specs.Exprs.{number_of, selection, own_receiver, method_on}
 use Rattle.par_annotate.specs.Exprs.{callee_on, first, by_way, through, call, typed_exp, typed_may}
 use Rattle.par_annotate.specs.Exprs.{typed_args, mark_of}
-use Rattle.par_well_typed.specs.Tables.{IsClass}
-use Rattle.par_well_typed.specs.Members.{IsField, IsChannel, IsCalled, IsObject, MayBeObject}
-use Rattle.par_well_typed.specs.Members.{is_present, how_many, ExpNames, MayExpNames, ExpsName}
+use Rattle.par_bodies.specs.Members.{IsClass}
+use Rattle.par_bodies.specs.Names.{IsField, IsChannel, IsCalled, IsObject, MayBeObject}
+use Rattle.par_bodies.specs.Names.{is_present, how_many, ExpNames, MayExpNames, ExpsName}
 use Rattle.par_well_typed.proofs.Lists.{none_left, none_right}
 use Rattle.par_well_typed.proofs.Ranges.{MayBe}
 use Rattle.par_well_typed.proofs.Unbroken.{is_kept}

@@ -54,9 +54,9 @@ use Rattle.par_annotate.specs.Stmts.{typed_sta, typed_braces, typed_may_braces, 
 use Rattle.par_annotate.specs.Stmts.{typed_stas, typed_catches}
 use Rattle.par_annotate.specs.Bodies.{no_frame, with_params, typed_method, typed_methods}
 use Rattle.par_annotate.specs.Bodies.{typed_class, typed_declaration, typed_declarations}
-use Rattle.par_well_typed.specs.Members as m
-use Rattle.par_well_typed.specs.Members.{IsField, IsException, IsObject, ExpNames, MayExpNames}
-use Rattle.par_well_typed.specs.Members.{StaNames, ElseNames, StasName, CatchesName}
+use Rattle.par_bodies.specs.Members as m
+use Rattle.par_bodies.specs.Names.{IsField, IsException, IsObject, ExpNames, MayExpNames}
+use Rattle.par_bodies.specs.Names.{StaNames, ElseNames, StasName, CatchesName}
 use Rattle.par_well_typed.proofs.Lists.{none_left, none_right, of_both}
 use Rattle.par_well_typed.proofs.Ranges.{MayBe}
 use Rattle.par_well_typed.proofs.Unbroken.{is_kept}

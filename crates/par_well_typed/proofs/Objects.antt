@@ -22,8 +22,8 @@ use Rattle.par_annotate.specs.Bodies.{typed_declaration, typed_declarations}
 use Rattle.par_resolved.specs.Resolved.{Resolved, resolved, class_info, method_info, table_of}
 use Rattle.par_faults.specs.Faults.{all_faults}
 use Rattle.par_sources.specs.Order.{Ascend, IsInOrder}
-use Rattle.par_well_typed.specs.Orderly.{method_at}
-use Rattle.par_well_typed.specs.Makes.{StaMakes, MakesObjects}
+use Rattle.par_bodies.specs.Members.{method_at}
+use Rattle.par_bodies.specs.Makes.{StaMakes, MakesObjects}
 use Rattle.par_well_typed.specs.Typed.{written_in, bodies_of}
 use Rattle.par_well_typed.proofs.Lists.{none_left, none_right, of_both}
 use Rattle.par_well_typed.proofs.Places.{Differ}

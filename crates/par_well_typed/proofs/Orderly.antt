@@ -11,7 +11,8 @@ use Rattle.par_rules.specs.Declares.{declares, methods_of, method_of, params_of}
 use Rattle.par_rules.specs.Ranges as rules
 use Rattle.par_rules.specs.Ranges.{IsOrderly}
 use Rattle.par_well_typed.specs.Tables.{IsInRange, ClassInRange, MethodInRange}
-use Rattle.par_well_typed.specs.Orderly.{methods_in, method_at, IsBodyOf, HasMethod, IsOrderlyBody}
+use Rattle.par_bodies.specs.Members.{methods_in, method_at}
+use Rattle.par_well_typed.specs.Orderly.{IsBodyOf, HasMethod, IsOrderlyBody}
 use Rattle.par_well_typed.proofs.Numbered.{numbered}
 use Rattle.par_well_typed.proofs.Ranges.{MayBe, at_place, MethodWithin, declared_within, sta_within}
 

@@ -45,13 +45,14 @@ use Rattle.par_annotate.proofs.Laws.{points_count}
 use Rattle.par_sources.specs.Order.{Ascend, IsInOrder}
 use Rattle.par_well_typed.specs.Numbers.{StaInRange}
 use Rattle.par_well_typed.specs.Typed.{written_in, bodies_of}
-use Rattle.par_well_typed.specs.Orderly as bodies
-use Rattle.par_well_typed.specs.Orderly.{method_at, HasMethod}
+use Rattle.par_bodies.specs.Members as bodies
+use Rattle.par_bodies.specs.Members.{method_at}
+use Rattle.par_bodies.specs.Locals.{arrivals, set_by_call}
+use Rattle.par_well_typed.specs.Orderly.{HasMethod}
 use Rattle.par_well_typed.proofs.Lists.{none_left, none_right, of_both, each_is}
 use Rattle.par_well_typed.proofs.Places.{Differ, number_is, Apart, apart, apart_behind, above}
 use Rattle.par_well_typed.proofs.Places.{others_differ, differ, doubled}
-use Rattle.par_well_typed.specs.Tables.{arrivals}
-use Rattle.par_well_typed.specs.SetFirst.{SetsFirst, set_by_call}
+use Rattle.par_well_typed.specs.SetFirst.{SetsFirst}
 use Rattle.par_well_typed.proofs.SetFirst.{braces_first, params_set}
 use Rattle.par_well_typed.proofs.Bodies.{AreVars, with_local_in, braces_in}
 use Rattle.par_well_typed.proofs.Unbroken.{IsKept, IsKeptClass, IsKeptMethod, kept, methods_kept}

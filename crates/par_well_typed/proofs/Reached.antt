@@ -44,9 +44,10 @@ use Rattle.par_resolved.specs.Numbers.{result_of}
 use Rattle.par_resolved.specs.Resolved.{Resolved, resolved, class_info, method_info, table_of}
 use Rattle.par_faults.specs.Faults.{all_faults}
 use Rattle.par_sources.specs.Order.{Ascend, IsInOrder}
-use Rattle.par_well_typed.specs.Orderly.{method_at}
+use Rattle.par_bodies.specs.Members.{method_at}
 use Rattle.par_well_typed.specs.Control.{StaReached, ElseReached, AllReached, CatchesReached}
-use Rattle.par_well_typed.specs.Control.{IsEnded, IsControlled}
+use Rattle.par_bodies.specs.Types.{IsEnded}
+use Rattle.par_well_typed.specs.Control.{IsControlled}
 use Rattle.par_well_typed.specs.Typed.{written_in, bodies_of}
 use Rattle.par_well_typed.proofs.Lists.{none_left, none_right, of_both}
 use Rattle.par_well_typed.proofs.Places.{Differ}

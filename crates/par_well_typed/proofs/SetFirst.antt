@@ -34,15 +34,16 @@ use Rattle.par_annotate.specs.Stmts.{typed_sta, typed_braces, typed_may_braces, 
 use Rattle.par_annotate.specs.Stmts.{typed_stas, typed_catches}
 use Rattle.par_annotate.specs.Bodies.{with_params}
 use Rattle.par_well_typed.specs.Numbers.{ExpReads}
-use Rattle.par_well_typed.specs.SetFirst as set_first
-use Rattle.par_well_typed.specs.SetFirst.{IsSet, SetsFirst, ElseSetsFirst, AllSetFirst}
+use Rattle.par_bodies.specs.Locals as set_first
+use Rattle.par_bodies.specs.Locals.{IsSet}
+use Rattle.par_well_typed.specs.SetFirst.{SetsFirst, ElseSetsFirst, AllSetFirst}
 use Rattle.par_well_typed.specs.SetFirst.{CatchesSetFirst}
 use Rattle.par_well_typed.proofs.Lists.{of_both, each_is}
 use Rattle.par_well_typed.proofs.Bodies.{AreLocals, IsLocal, exp_in, may_in, this_in}
 
 -- ---- sets
 
-one_more : (x y : ℕ) (set : List ℕ) → IsSet set y → IsSet (x ∷ set) y
+pub one_more : (x y : ℕ) (set : List ℕ) → IsSet set y → IsSet (x ∷ set) y
 one_more x y set h = by (nat_eq x y) where
   by : (b : Bool) → IsTrue (b || has set y)
   by true = refl

@@ -38,8 +38,8 @@ use Rattle.par_resolved.specs.Statements.{in_braces}
 use Rattle.par_resolved.specs.Written.{stmt_types}
 use Rattle.par_faults.specs.Faults.{all_faults}
 use Rattle.par_sources.specs.Order.{IsBare, IsInOrder}
-use Rattle.par_well_typed.specs.Makes.{IsOrdinary}
-use Rattle.par_well_typed.specs.Members.{IsException}
+use Rattle.par_bodies.specs.Makes.{IsOrdinary}
+use Rattle.par_bodies.specs.Names.{IsException}
 use Rattle.par_well_typed.specs.Signatures.{HasNoMembers, IsValueType, IsResultType, FieldHasType}
 use Rattle.par_well_typed.specs.Signatures.{ParamHasType, ThrowsException, HasSignature}
 use Rattle.par_well_typed.specs.Signatures.{HasSignatures, AreSigned}

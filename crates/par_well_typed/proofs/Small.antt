@@ -23,7 +23,7 @@ use Rattle.par_annotate.specs.Stmts.{Written}
 use Rattle.par_annotate.specs.Bodies.{typed_methods, typed_class, typed_declaration}
 use Rattle.par_annotate.specs.Bodies.{typed_declarations}
 use Rattle.par_faults.specs.Faults.{all_faults}
-use Rattle.par_well_typed.specs.Orderly.{method_at}
+use Rattle.par_bodies.specs.Members.{method_at}
 use Rattle.par_well_typed.specs.Sizes.{IsSmallBody}
 use Rattle.par_sources.specs.Order.{Ascend, IsInOrder}
 use Rattle.par_well_typed.specs.Typed.{written_in, bodies_of}

@@ -112,7 +112,7 @@ fits d lock h = let same = is_kept (nat_eq (length lock.actors) d.arity) _ h in 
     (arith, nat_tests)
 
 module _ (source : Source) where
-  actor_within : (actor : Ident) → actor_fault (view_behind source []) actor ≡ []
+  pub actor_within : (actor : Ident) → actor_fault (view_behind source []) actor ≡ []
       → actor_number (numbers source) actor < length (actors source)
   actor_within actor h =
       let there : has (map (λ a. a.name) (actors source)) actor.name ≡ true = is_kept _ _ h in

@@ -5,6 +5,7 @@ use Rattle.par_resolved.specs.Resolved.{table_of}
 use Rattle.par_well_typed.specs.Laws.{TablesAreInRange, BodiesHaveMethods, SuchBodiesAreOrderly}
 use Rattle.par_well_typed.specs.Laws.{BodiesAreOrderly, ClassesAndMembersAreNamed, BodiesAreSmall}
 use Rattle.par_well_typed.specs.Laws.{BodiesMakeObjects, TypesFit, BodiesAreControlled}
+use Rattle.par_well_typed.specs.Laws.{BodiesAreProper}
 use Rattle.par_well_typed.specs.Laws.{TablesHaveTexts, TablesHaveBuiltIns, TablesAreSigned}
 use Rattle.par_well_typed.specs.Laws.{TablesHaveMain, MethodsHaveBodies, SourcesAreWellTyped}
 use Rattle.par_well_typed.specs.Orderly.{HasMethod, IsOrderlyBody}
@@ -20,6 +21,8 @@ use Rattle.par_well_typed.proofs.Fitted as fitted
 use Rattle.par_well_typed.proofs.Texts as texts
 use Rattle.par_well_typed.proofs.Reached as reached
 use Rattle.par_well_typed.proofs.Signatures as signatures
+use Rattle.par_well_typed.proofs.Keeps.{bodies_keep_this}
+use Rattle.par_well_typed.proofs.Proper as proper
 use Rattle.par_well_typed.proofs.Beginning as beginning
 use Rattle.par_well_typed.proofs.Bodied as bodied
 use Rattle.par_well_typed.proofs.Unbroken.{names_kept}
@@ -72,6 +75,15 @@ pub tables_have_main : TablesHaveMain
 tables_have_main source ordered none =
     beginning.tables_have_main source ordered (names_kept source none)
 
+pub bodies_are_proper : BodiesAreProper
+bodies_are_proper source ordered none types =
+    proper.all_proper (table_of source) (tables_are_in_range source ordered none)
+    (tables_are_signed source ordered none types) (bodies_of source)
+    (bodies_have_methods source ordered none) (classes_and_members_are_named source types)
+    (bodies_make_objects source ordered none types) (types_fit source ordered none types)
+    (bodies_are_controlled source ordered none types)
+    (bodies_keep_this source ordered (names_kept source none))
+
 pub methods_have_bodies : MethodsHaveBodies
 methods_have_bodies source ordered none =
     bodied.methods_have_bodies source ordered (names_kept source none)
@@ -91,4 +103,5 @@ sources_are_well_typed source ordered none types short = record {
   fitting = types_fit source ordered none types;
   controlled = bodies_are_controlled source ordered none types;
   small = bodies_are_small source ordered none types;
+  proper = bodies_are_proper source ordered none types;
 }

@@ -4,7 +4,7 @@ use Rattle.std.specs.Str.{bytes_eq}
 use Rattle.par_typed.specs.declared.ty.Ty.TheVariants as ty
 use Rattle.par_typed.specs.declared.table.MethodInfo.{MethodInfo}
 use Rattle.par_typed.specs.declared.table.Table.{Table}
-use Rattle.par_well_typed.specs.Orderly.{methods_in}
+use Rattle.par_bodies.specs.Members.{methods_in}
 
 -- those of the methods that are named `main`
 abbrev pub mains : List MethodInfo → List MethodInfo

@@ -1,15 +1,14 @@
 -- Control in typed bodies: each statement is reached, a break and a continue stand in a loop, and
 -- nothing comes to the end of a body that has a result.
 use Rattle.std.specs.Prelude.{◌≡◌, Bool, true, false, Some}
-use Rattle.par_typed.specs.declared.ty.Ty.{Ty}
-use Rattle.par_typed.specs.declared.ty.Ty.TheVariants as ty
 use Rattle.par_typed.specs.declared.table.MethodInfo.{MethodInfo}
 use Rattle.par_typed.specs.declared.table.Table.{Table}
 use Rattle.par_typed.specs.Plain.{TSta, Block, If, While, Try, Return, Break, Continue, Throw, Open}
 use Rattle.par_typed.specs.Plain.{Close, SetLocal, SetStatic, SetField, Eval, When, MayTSta, NoElse}
 use Rattle.par_typed.specs.Plain.{Otherwise, TStas, End, Then, TCatches, NoCatch, Catch, Body}
 use Rattle.par_completes.specs.Typed.{completes}
-use Rattle.par_well_typed.specs.Orderly.{method_at}
+use Rattle.par_bodies.specs.Members.{method_at}
+use Rattle.par_bodies.specs.Types.{IsEnded}
 
 -- all that stands in a statement, in a loop or in none
 unfoldable mutual
@@ -43,14 +42,6 @@ unfoldable mutual
   pub CatchesReached : Bool → TCatches → Type 0
   CatchesReached looped NoCatch = Unit {0}
   CatchesReached looped (Catch class s cs) = StaReached looped s × CatchesReached looped cs
-
--- with a result of this type control does not come behind a body
-abbrev pub IsEnded : Ty → Bool → Type 0
-IsEnded ty.Int comes = comes ≡ false
-IsEnded ty.Boolean comes = comes ≡ false
-IsEnded (ty.Class class) comes = comes ≡ false
-IsEnded ty.Null comes = comes ≡ false
-IsEnded ty.Void comes = Unit {0}
 
 -- the control in the body of this method
 pub record IsControlledOf (table : Table) (b : Body) (m : MethodInfo) : Type 0 where

@@ -1,6 +1,6 @@
 -- The types of values fit where they stand. That what stands before a member is an object of its
 -- class is said where members are named.
-use Rattle.std.specs.Prelude.{◌≡◌, ℕ, cond, Bool, true, false, List, [], ◌∷◌, ◌++◌, map, Option}
+use Rattle.std.specs.Prelude.{◌≡◌, ℕ, Bool, true, false, List, [], ◌∷◌, Option}
 use Rattle.std.specs.Prelude.{Some, None, slice_get}
 use Rattle.par_typed.specs.declared.ty.Ty.{Ty}
 use Rattle.par_typed.specs.declared.ty.Ty.TheVariants as ty
@@ -17,8 +17,9 @@ use Rattle.par_typed.specs.Plain.{Close, SetLocal, SetStatic, SetField, Eval, Wh
 use Rattle.par_typed.specs.Plain.{Otherwise, TStas, End, Then, TCatches, NoCatch, Catch, Body}
 use Rattle.par_scope.specs.Meaning.{op_type}
 use Rattle.par_types.specs.Fits.{operand}
-use Rattle.par_well_typed.specs.Orderly.{method_at}
-use Rattle.par_well_typed.specs.Members.{field_at}
+use Rattle.par_bodies.specs.Members.{method_at, field_at}
+use Rattle.par_bodies.specs.Locals.{arriving, arriving_sure, BeginsWith}
+use Rattle.par_bodies.specs.Types.{IsMarked, Is}
 
 -- ---- one type and another
 
@@ -48,13 +49,6 @@ Fits ty.Null t = IsReference t
 Fits ty.Void t = ⊥
 
 -- ---- values
-
--- of this type, and never null or not
-abbrev pub IsMarked : Ty → Bool → Mark → Type 0
-IsMarked t sure m = (m.ty ≡ t) × (m.sure ≡ sure)
-
-abbrev pub Is : Ty → TExp → Type 0
-Is t e = (mark e).ty ≡ t
 
 -- never null, where that is asked
 abbrev pub IsSure : Bool → TExp → Type 0
@@ -167,17 +161,6 @@ module _ (table : Table) (class : ℕ) (locals : List Ty) (sures : List Bool) wh
       CatchesFit (Catch c s cs) = StaFits s × CatchesFit cs
 
 -- ---- bodies
-
--- `this`, where there is one, and the parameters: their types, and which are never null
-
-abbrev pub arriving : ℕ → MethodInfo → List Ty
-arriving class m = cond m.is_static [] (ty.Class class ∷ []) ++ map (λ p. p.ty) m.params
-
-abbrev pub arriving_sure : MethodInfo → List Bool
-arriving_sure m = cond m.is_static [] (true ∷ []) ++ map (λ p. p.notnull) m.params
-
-abbrev pub BeginsWith : {A : Type 0} → List A → List A → Type 0
-BeginsWith {A} front xs = (rest : List A) × (xs ≡ front ++ rest)
 
 -- the values in the body of this method fit, where these of its locals are never null
 pub record IsFittingOf (table : Table) (b : Body) (m : MethodInfo) (sures : List Bool)

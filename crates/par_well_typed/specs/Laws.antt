@@ -8,10 +8,11 @@ use Rattle.par_typed.specs.Plain.{Body}
 use Rattle.par_resolved.specs.Resolved.{table_of}
 use Rattle.par_types.specs.Program.{type_faults}
 use Rattle.par_faults.specs.Faults.{all_faults}
+use Rattle.par_bodies.specs.Proper.{IsProper}
 use Rattle.par_well_typed.specs.Tables.{IsInRange}
 use Rattle.par_well_typed.specs.Orderly.{HasMethod, IsOrderlyBody}
 use Rattle.par_well_typed.specs.WellTyped.{NamesMembers, IsWellTyped}
-use Rattle.par_well_typed.specs.Makes.{MakesObjects}
+use Rattle.par_bodies.specs.Makes.{MakesObjects}
 use Rattle.par_well_typed.specs.Fits.{ValuesFit}
 use Rattle.par_well_typed.specs.Control.{IsControlled}
 use Rattle.par_well_typed.specs.Signatures.{HasBuiltIns, AreSigned}
@@ -83,6 +84,13 @@ BodiesAreControlled =
     (source : Source) → IsInOrder source → all_faults source ≡ []
     → type_faults (table_of source) source ≡ []
     → AllByRecursion (IsControlled (table_of source)) (bodies_of source)
+
+-- all that what is made of a body asks of its forms
+abbrev pub BodiesAreProper : Type 0
+BodiesAreProper =
+    (source : Source) → IsInOrder source → all_faults source ≡ []
+    → type_faults (table_of source) source ≡ []
+    → AllByRecursion (IsProper (table_of source)) (bodies_of source)
 
 -- the names and descriptors of a table have as many bytes as those of its source
 abbrev pub TablesHaveTexts : Type 0

@@ -4,8 +4,6 @@ pub mod SetFirst
 pub mod Sizes
 pub mod Texts
 pub mod Orderly
-pub mod Members
-pub mod Makes
 pub mod Fits
 pub mod Control
 pub mod Signatures

@@ -1,7 +1,6 @@
 -- Bodies over a table, as the rules of flow need them.
-use Rattle.std.specs.Prelude.{◌≡◌, ℕ, List, [], Option, Some, None, length, slice_get}
+use Rattle.std.specs.Prelude.{◌≡◌, Some, length}
 use Rattle.par_typed.specs.declared.table.MethodInfo.{MethodInfo}
-use Rattle.par_typed.specs.declared.table.ClassInfo.{ClassInfo}
 use Rattle.par_typed.specs.declared.table.Table.{Table}
 use Rattle.par_typed.specs.Plain.{Body}
 use Rattle.par_typed.specs.Nodes.{stmt_nodes}
@@ -9,15 +8,9 @@ use Rattle.par_annotate.specs.Points.{count_from, stmt_points}
 use Rattle.par_rules.specs.Declares.{declares}
 use Rattle.par_rules.specs.Ranges.{IsOrderly}
 use Rattle.par_well_typed.specs.Numbers.{StaInRange}
-use Rattle.par_well_typed.specs.SetFirst.{SetsFirst, set_by_call}
-
-abbrev pub methods_in : Option ClassInfo → List MethodInfo
-methods_in None = []
-methods_in (Some class) = class.methods
-
--- a method by the number of its class and its own number there
-abbrev pub method_at : Table → ℕ → ℕ → Option MethodInfo
-method_at table class method = slice_get (methods_in (slice_get table.classes class)) method
+use Rattle.par_bodies.specs.Members.{method_at}
+use Rattle.par_bodies.specs.Locals.{set_by_call}
+use Rattle.par_well_typed.specs.SetFirst.{SetsFirst}
 
 -- the body of this method: its points are the numbers below the count of its nodes, each once, in
 -- their order, its locals, locks and policies are those of the method and the table, and locals are

@@ -1,35 +1,10 @@
 -- Locals are set before they are read: what a block sets is not read behind it.
-use Rattle.std.specs.Prelude.{ℕ, List, ◌∷◌, IsTrue}
-use Rattle.std.specs.List.{range_with_len}
-use Rattle.par_policy.specs.Numbers.{has}
-use Rattle.par_typed.specs.declared.table.MethodInfo.{MethodInfo}
+use Rattle.std.specs.Prelude.{ℕ, List}
 use Rattle.par_typed.specs.Plain.{TSta, Block, If, While, Try, Return, Break, Continue, Throw, Open}
 use Rattle.par_typed.specs.Plain.{Close, SetLocal, SetStatic, SetField, Eval, When, MayTSta, NoElse}
 use Rattle.par_typed.specs.Plain.{Otherwise, TStas, End, Then, TCatches, NoCatch, Catch}
-use Rattle.par_well_typed.specs.Tables.{arrivals}
+use Rattle.par_bodies.specs.Locals.{IsSet, behind}
 use Rattle.par_well_typed.specs.Numbers.{ExpReads, MayExpRead}
-
--- it is one of those that are set
-abbrev pub IsSet : List ℕ → ℕ → Type 0
-IsSet set x = IsTrue (has set x)
-
--- those that are set behind a statement
-unfoldable pub behind : List ℕ → TSta → List ℕ
-behind set (Block ss at p) = set
-behind set (If e s o at p) = set
-behind set (While e s at p) = set
-behind set (Try s cs at p) = set
-behind set (Return e at p) = set
-behind set (Break at p) = set
-behind set (Continue at p) = set
-behind set (Throw class at p) = set
-behind set (Open lock at p) = set
-behind set (Close lock at p) = set
-behind set (SetLocal x policy e at p) = x ∷ set
-behind set (SetStatic c f e at p) = set
-behind set (SetField o c f e at p) = set
-behind set (Eval e at p) = set
-behind set (When lock s o at p) = set
 
 unfoldable mutual
   pub SetsFirst : List ℕ → TSta → Type 0
@@ -61,7 +36,3 @@ unfoldable mutual
   pub CatchesSetFirst : List ℕ → TCatches → Type 0
   CatchesSetFirst set NoCatch = Unit {0}
   CatchesSetFirst set (Catch class s cs) = SetsFirst set s × CatchesSetFirst set cs
-
--- `this` and the parameters, which a call sets
-abbrev pub set_by_call : MethodInfo → List ℕ
-set_by_call m = range_with_len 0 (arrivals m)

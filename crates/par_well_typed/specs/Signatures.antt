@@ -9,8 +9,8 @@ use Rattle.par_typed.specs.declared.table.ThrowInfo.{ThrowInfo}
 use Rattle.par_typed.specs.declared.table.MethodInfo.{MethodInfo}
 use Rattle.par_typed.specs.declared.table.ClassInfo.{ClassInfo}
 use Rattle.par_typed.specs.declared.table.Table.{Table}
-use Rattle.par_well_typed.specs.Members.{IsException}
-use Rattle.par_well_typed.specs.Makes.{IsOrdinary}
+use Rattle.par_bodies.specs.Names.{IsException}
+use Rattle.par_bodies.specs.Makes.{IsOrdinary}
 use Rattle.par_well_typed.specs.Texts.{BUILT_IN}
 
 -- the name of a class, and whether it is an exception class

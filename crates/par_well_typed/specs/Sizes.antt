@@ -8,7 +8,7 @@ use Rattle.par_typed.specs.Plain.{TExps, NoExps, More}
 use Rattle.par_typed.specs.Plain.{TSta, Block, If, While, Try, Return, Break, Continue, Throw, Open}
 use Rattle.par_typed.specs.Plain.{Close, SetLocal, SetStatic, SetField, Eval, When, MayTSta, NoElse}
 use Rattle.par_typed.specs.Plain.{Otherwise, TStas, End, Then, TCatches, NoCatch, Catch, Body}
-use Rattle.par_well_typed.specs.Orderly.{method_at}
+use Rattle.par_bodies.specs.Members.{method_at}
 
 -- ---- the nodes of a body, where a `this` that is a receiver is not counted
 

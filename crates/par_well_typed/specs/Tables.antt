@@ -1,5 +1,5 @@
 -- The numbers in a table are those of its policies, its ground locks and its classes.
-use Rattle.std.specs.Prelude.{ℕ, suc, ◌<◌, ◌≤◌, cond, List, length, Option, Some, None}
+use Rattle.std.specs.Prelude.{ℕ, ◌<◌, ◌≤◌, List, length, Option, Some, None}
 use Rattle.std.specs.List.{AllByRecursion}
 use Rattle.par_typed.specs.declared.ty.Ty.{Ty}
 use Rattle.par_typed.specs.declared.ty.Ty.TheVariants as ty
@@ -11,14 +11,12 @@ use Rattle.par_typed.specs.declared.table.ThrowInfo.{ThrowInfo}
 use Rattle.par_typed.specs.declared.table.MethodInfo.{MethodInfo}
 use Rattle.par_typed.specs.declared.table.ClassInfo.{ClassInfo}
 use Rattle.par_typed.specs.declared.table.Table.{Table}
+use Rattle.par_bodies.specs.Members.{IsClass}
+use Rattle.par_bodies.specs.Locals.{arrivals}
 
 -- how many policies a table has at most, and how many ground locks
 abbrev pub MOST : ℕ
 MOST = 256
-
--- the locals that a method has from its call: `this` in an instance method, and its parameters
-abbrev pub arrivals : MethodInfo → ℕ
-arrivals m = cond m.is_static (length m.params) (suc (length m.params))
 
 module _ (table : Table) where
   abbrev pub IsPolicy : ℕ → Type 0
@@ -26,9 +24,6 @@ module _ (table : Table) where
 
   abbrev pub IsLock : ℕ → Type 0
   IsLock n = n < length table.locks
-
-  abbrev pub IsClass : ℕ → Type 0
-  IsClass n = n < length table.classes
 
   abbrev pub MayBePolicy : Option ℕ → Type 0
   MayBePolicy None = Unit {0}
@@ -40,7 +35,7 @@ module _ (table : Table) where
   abbrev pub IsType : Ty → Type 0
   IsType ty.Int = Unit {0}
   IsType ty.Boolean = Unit {0}
-  IsType (ty.Class class) = IsClass class
+  IsType (ty.Class class) = IsClass table class
   IsType ty.Null = Unit {0}
   IsType ty.Void = Unit {0}
 
@@ -56,7 +51,7 @@ module _ (table : Table) where
   ParamInRange p = IsType p.ty × IsPolicy p.policy
 
   abbrev pub ThrowInRange : ThrowInfo → Type 0
-  ThrowInRange t = IsClass t.class × IsPolicy t.policy
+  ThrowInRange t = IsClass table t.class × IsPolicy t.policy
 
   pub record MethodInRange (m : MethodInfo) : Type 0 where
     pub result : IsType m.result
@@ -85,4 +80,4 @@ module _ (table : Table) where
     pub few_locks : length table.locks ≤ MOST
     pub locks : AllByRecursion LockInRange table.locks
     pub classes : AllByRecursion ClassInRange table.classes
-    pub main : IsClass table.main
+    pub main : IsClass table table.main

@@ -4,10 +4,11 @@ use Rattle.std.specs.List.{AllByRecursion}
 use Rattle.par_lexer.specs.declared.cut.TheConstants.{LONGEST_SOURCE}
 use Rattle.par_typed.specs.declared.table.Table.{Table}
 use Rattle.par_typed.specs.Plain.{Body}
+use Rattle.par_bodies.specs.Proper.{IsProper}
 use Rattle.par_well_typed.specs.Tables.{IsInRange}
 use Rattle.par_well_typed.specs.Orderly.{HasMethod, IsOrderlyBody}
-use Rattle.par_well_typed.specs.Members.{StaNames}
-use Rattle.par_well_typed.specs.Makes.{MakesObjects}
+use Rattle.par_bodies.specs.Names.{StaNames}
+use Rattle.par_bodies.specs.Makes.{MakesObjects}
 use Rattle.par_well_typed.specs.Fits.{ValuesFit}
 use Rattle.par_well_typed.specs.Control.{IsControlled}
 use Rattle.par_well_typed.specs.Signatures.{HasBuiltIns, AreSigned}
@@ -27,7 +28,9 @@ NamesMembers table b = StaNames table b.body
 -- Of the bodies: each method has one; each obeys what the rules of flow ask of numbers, names the
 -- classes and members that it should, makes objects of ordinary classes, has `this` where there is
 -- a receiver, has values of types that fit where they stand, has no statement that is not reached
--- and no end that is reached without a result, and has at most 2,000 nodes.
+-- and no end that is reached without a result, and has at most 2,000 nodes. The last of the fields
+-- joins what code and runs need of these, form by form, and says more: local 0 of an instance
+-- method is never set, and a lock that a `when` asks for has a policy.
 pub record IsWellTyped (table : Table) (bodies : List Body) : Type 0 where
   pub in_range : IsInRange table
   pub built_in : HasBuiltIns table
@@ -42,3 +45,4 @@ pub record IsWellTyped (table : Table) (bodies : List Body) : Type 0 where
   pub fitting : AllByRecursion (ValuesFit table) bodies
   pub controlled : AllByRecursion (IsControlled table) bodies
   pub small : AllByRecursion (IsSmallBody table) bodies
+  pub proper : AllByRecursion (IsProper table) bodies

@@ -4,7 +4,8 @@ ghost use Rattle.par_well_typed.specs.Laws.{TablesAreInRange, BodiesHaveMethods}
 ghost use Rattle.par_well_typed.specs.Laws.{SuchBodiesAreOrderly, BodiesAreOrderly};
 ghost use Rattle.par_well_typed.specs.Laws.{ClassesAndMembersAreNamed, BodiesAreSmall};
 ghost use Rattle.par_well_typed.specs.Laws.{BodiesMakeObjects, TypesFit};
-ghost use Rattle.par_well_typed.specs.Laws.{BodiesAreControlled, TablesHaveTexts};
+ghost use Rattle.par_well_typed.specs.Laws.{BodiesAreControlled, BodiesAreProper};
+ghost use Rattle.par_well_typed.specs.Laws.{TablesHaveTexts};
 ghost use Rattle.par_well_typed.specs.Laws.{TablesHaveBuiltIns, TablesAreSigned};
 ghost use Rattle.par_well_typed.specs.Laws.{TablesHaveMain, MethodsHaveBodies};
 ghost use Rattle.par_well_typed.specs.Laws.{SourcesAreWellTyped};
@@ -67,6 +68,13 @@ pub fn types_fit()
 /// a loop, and control does not come to the end of a body that has a result.
 pub fn bodies_are_controlled()
     ensures { BodiesAreControlled }
+{}
+
+/// The typed bodies of such a source are proper: each form has all that code and runs need of it,
+/// in one place. Local 0 of an instance method, which is `this`, is never set, and a lock that a
+/// `when` asks for has a policy in the table.
+pub fn bodies_are_proper()
+    ensures { BodiesAreProper }
 {}
 
 /// The names of the declared classes in the table of a source that breaks no rule on names, those

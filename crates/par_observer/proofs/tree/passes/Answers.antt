@@ -4,7 +4,9 @@ use Rattle.par_typed.specs.Shown.{bodies}
 use Rattle.par_observer.specs.Passes.{tree_faults}
 use Rattle.par_observer.specs.Trees.{has_fault}
 use Rattle.par_observer.proofs.Passing.{inferred_answer}
+use Rattle.par_observer.proofs.Few.{few_bodies}
 use Rattle.par_observer.proofs.Flowing.{accepts, refuses, orderly_bodies, few_classes}
+use Rattle.par_observer.proofs.Flowing.{well_formed}
 use Rattle.par_observer.proofs.tree.passes.Goals as goal
 
 pub returns-in-Some-clause-refused : goal.returns-in-Some-clause-refused
@@ -21,6 +23,10 @@ pub flows-requires-clause-classes : goal.flows-requires-clause-classes
 flows-requires-clause-classes c =
     few_classes (tree_of_program c.args.tree.now) c.in_ok-typed.typed c.in_ok-typed.ensures.typed
 
+pub flows-requires-clause-few : goal.flows-requires-clause-few
+flows-requires-clause-few c =
+    few_bodies (tree_of_program c.args.tree.now) c.in_ok-typed.typed c.in_ok-typed.ensures.typed
+
 pub flows-requires-clause-orderly : goal.flows-requires-clause-orderly
 flows-requires-clause-orderly c =
     orderly_bodies c.in_ok-typed.typed.table (bodies c.in_ok-typed.typed.bodies)
@@ -35,6 +41,13 @@ returns-clause-accepted c =
     inferred_answer tree None is.right is.typed_is.right found in
     accepts _ tree c.in_ok-typed.typed c.flows.result is faultless c.flows.ensures.program
     c.flows.ensures.accepted
+
+pub returns-clause-well_formed : goal.returns-clause-well_formed
+returns-clause-well_formed c =
+    well_formed _ (tree_of_program c.args.tree.now) c.in_ok-typed.typed c.flows.result
+    c.in_ok-typed.ensures.typed c.in_ok-typed.ensures.well_typed
+    c.in_ok-typed.ensures.well_declared (rw c.in_default.is at c.first_inferred.ensures)
+    c.flows.ensures.program
 
 pub returns-clause-refused : goal.returns-clause-refused
 returns-clause-refused c =

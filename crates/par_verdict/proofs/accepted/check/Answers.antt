@@ -13,6 +13,7 @@ returns-in-None-clause-kept g c =
     let silent : noted.0 ≡ [] = subst (IsAnswer noted.0) c.in-None.is noted.2 in
     accepted_by c.args.typed c.as_slice-2.result.now (map F c.as_slice.result.now)
     (map F c.in_ok-facts.facts) noted.0 c.as_slice-2.ensures (ap (map F) c.as_slice.ensures)
+    c.requires.few
     (length-map c.in_ok-facts.facts F ∙ c.in_ok-facts.ensures.many) c.in_ok-facts.ensures.right
     noted.1 silent
 
@@ -24,6 +25,7 @@ invariant_of-result g c =
     let kept : IsAcceptedBy c.args.typed (map F c.in_ok-facts.facts) =
     accepted_by c.args.typed c.as_slice-2.result.now (map F c.as_slice.result.now)
     (map F c.in_ok-facts.facts) noted.0 c.as_slice-2.ensures (ap (map F) c.as_slice.ensures)
+    c.requires.few
     (length-map c.in_ok-facts.facts F ∙ c.in_ok-facts.ensures.many) c.in_ok-facts.ensures.right
     noted.1 silent in
     record { kept = ∣ kept ∣₁ }

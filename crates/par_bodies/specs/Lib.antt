@@ -1,0 +1,9 @@
+pub mod Members
+pub mod Locals
+pub mod Types
+pub mod Names
+pub mod Makes
+pub mod Uses
+pub mod Forms
+pub mod Proper
+pub mod Laws

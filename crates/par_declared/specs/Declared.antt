@@ -1,0 +1,14 @@
+-- What later layers may ask of a table.
+use Rattle.par_typed.specs.declared.table.Table.{Table}
+use Rattle.par_declared.specs.Names.{AreNamesApart}
+use Rattle.par_declared.specs.Births.{AreBirthsBelow}
+use Rattle.par_declared.specs.Inferred.{AreOfFields}
+use Rattle.par_declared.specs.Policies.{ArePoliciesShared}
+
+-- Names differ, births are below the fields of objects, inferred numbers are those of fields alone,
+-- and each policy that is written stands in the table once.
+pub record IsWellDeclared (table : Table) : Type 0 where
+  pub names : AreNamesApart table
+  pub births : AreBirthsBelow table
+  pub inferred : AreOfFields table
+  pub policies : ArePoliciesShared table

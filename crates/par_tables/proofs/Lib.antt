@@ -1,0 +1,10 @@
+pub mod Lists
+pub mod Names
+pub mod Shared
+pub mod Births
+pub mod Actors
+pub mod Sound
+pub mod Numbers
+pub mod Policies
+pub mod Written
+pub mod Whole
