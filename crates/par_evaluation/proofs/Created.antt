@@ -228,7 +228,7 @@ module _ (ctx : Setting) where
       (InvokeSpecial (initializer kind.AnyObject to.Nothing))
       (with b (v ∷ [])) b g (omega arith) h1 tt
       (ap (λ l. calls (env.wants_exception above (codes "<init>") (codes "()V"))
-      (op.of_method InvokeSpecial (op.Misnamed 1 0) l) 1) link_is
+      (op.of_method InvokeSpecial (op.Misnamed (kind.Anything ∷ []) 0) l) 1) link_is
       ∙ ap (λ z. calls z (InvokeSpecial (initializer kind.AnyObject to.Nothing)) 1) wants_is)
       (well b)
       (record {
@@ -303,7 +303,7 @@ module _ (ctx : Setting) where
           (init_target (lay.number cl) o))) (suc (lead xs))
       the_link o e =
           ap (λ l. calls (env.wants_exception (w.class cl) (codes "<init>") (codes "()V"))
-          (op.of_method InvokeSpecial (op.Misnamed 1 0) l) (suc (lead xs)))
+          (op.of_method InvokeSpecial (op.Misnamed (kind.Anything ∷ []) 0) l) (suc (lead xs)))
           (lays.init_link cl is)
           ∙ ap (λ z. calls z (InvokeSpecial (initializer (kind.Object (w.class cl))
           (init_target (lay.number cl) (lay.init_at cl)))) (suc (lead xs)))
@@ -502,7 +502,7 @@ module _ (ctx : Setting) where
       let l2 : length ks ≡ length me.takes = each_kind me.takes in
       invoked c i me is k d p x xs (InvokeStatic (link_to c i me)) set ops vs s a rest deep h lives
       (ap (λ l. calls (env.wants_exception (w.class c) (w.method c i) (w.method_type c i))
-      (op.of_method InvokeStatic (op.Misnamed 0 0) l) (suc (lead xs)))
+      (op.of_method InvokeStatic (op.Misnamed [] 0) l) (suc (lead xs)))
       (lays.method_link c i me is)
       ∙ ap (λ z. calls z (InvokeStatic (link_to c i me)) (suc (lead xs)))
       (lays.method_plain c i me is))
@@ -579,7 +579,7 @@ module _ (ctx : Setting) where
           (w.method_type c i) ∷ xs) ≡ silent (InvokeVirtual (link_to c i me)) (suc (lead xs))
       found_is =
           ap (λ l. calls (env.wants_exception (w.class c) (w.method c i) (w.method_type c i))
-          (op.of_method InvokeVirtual (op.Misnamed 1 0) l) (suc (lead xs)))
+          (op.of_method InvokeVirtual (op.Misnamed (kind.Anything ∷ []) 0) l) (suc (lead xs)))
           (lays.method_link c i me is)
           ∙ ap (λ z. calls z (InvokeVirtual (link_to c i me)) (suc (lead xs)))
           (lays.method_plain c i me is)

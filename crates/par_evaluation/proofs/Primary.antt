@@ -229,7 +229,7 @@ module _ (ctx : Setting) where
         kind = kind_of w m.ty;
         place = lay.static_at cl f;
       })) a ops ops (moved lay (s.statics cl f)) _ (omega arith) h lives
-      (ap (λ l. silent (op.of_field GetStatic (op.Misnamed 0 1) l) (suc (lead xs)))
+      (ap (λ l. silent (op.of_field GetStatic (op.Misnamed [] 1) l) (suc (lead xs)))
       (lays.static_link cl f m.ty tp.0))
       (record {
         enough = omega arith;
@@ -262,7 +262,7 @@ module _ (ctx : Setting) where
       (areas.push (value.Int (areas.next (a.inputs (w.class cl) (w.channel cl i))))
       (areas.take_input (w.class cl) (w.channel cl i) (with a ops))) _ (omega arith) h lives
       (ap (λ l. calls (env.wants_exception (w.class cl) (w.channel cl i) (codes "()I"))
-      (op.of_method InvokeStatic (op.Misnamed 0 0) l) (suc (lead xs))) (lays.in_link cl i tp.0)
+      (op.of_method InvokeStatic (op.Misnamed [] 0) l) (suc (lead xs))) (lays.in_link cl i tp.0)
       ∙ ap (λ z. calls z (InvokeStatic (record {
         is_static = true;
         is_initializer = false;
@@ -314,7 +314,7 @@ module _ (ctx : Setting) where
       (with a2 (moved lay v ∷ ops)) (with a2 ops) (Out (w.class cl) (w.channel cl i)
       (number_of v)) s2.locks (rest Normal nothing s2) (omega arith) h2 lives
       (ap (λ l. calls (env.wants_exception (w.class cl) (w.channel cl i) (codes "(I)V"))
-      (op.of_method InvokeStatic (op.Misnamed 0 0) l) (suc (lead xs))) (lays.out_link cl i tp.0)
+      (op.of_method InvokeStatic (op.Misnamed [] 0) l) (suc (lead xs))) (lays.out_link cl i tp.0)
       ∙ ap (λ z. calls z (InvokeStatic (record {
         is_static = true;
         is_initializer = false;
@@ -368,7 +368,7 @@ module _ (ctx : Setting) where
       fails ctx k (c + 16) p 1 (codes "NullPointerException") set
       (Member 180 (w.class cl) (w.field cl f) (w.field_type cl f)) xs (GetField fl)
       (value.Null ∷ ops) nothing s2 a2 rest lays.null_pointer lays.one_thrown h
-      (ap (λ l. silent (op.of_field GetField (op.Misnamed 1 1) l) (suc (lead xs)))
+      (ap (λ l. silent (op.of_field GetField (op.Misnamed (kind.AnyObject ∷ []) 1) l) (suc (lead xs)))
       (lays.own_link cl f u own))
       (record {
         enough = omega arith;
@@ -397,7 +397,7 @@ module _ (ctx : Setting) where
       makes ctx k c (c + 16) p (Member 180 (w.class cl) (w.field cl f)
       (w.field_type cl f)) xs (GetField fl) a2 (value.Ref (lay.number d) n ∷ ops) ops (moved
       lay (s2.fields cl n f)) _ (omega arith) h lives
-      (ap (λ l. silent (op.of_field GetField (op.Misnamed 1 1) l) (suc (lead xs)))
+      (ap (λ l. silent (op.of_field GetField (op.Misnamed (kind.AnyObject ∷ []) 1) l) (suc (lead xs)))
       (lays.own_link cl f u own))
       (record {
         enough = omega arith;

@@ -8,6 +8,7 @@ use Rattle.par_code_form.specs.declared.item.Item.TheVariants.{Label, Op, Const,
 use Rattle.par_code_form.specs.declared.item.Item.TheVariants.{ClassOp, LockOp}
 use Rattle.par_code_form.specs.declared.labelled.Handler.{Handler}
 use Rattle.par_values.specs.declared.kind.Kind.{Kind}
+use Rattle.par_values.specs.declared.kind.Kind.TheVariants.{Anything, AnyObject}
 use Rattle.par_values.specs.declared.link.Link.{Link}
 use Rattle.par_values.specs.declared.link.Link.TheVariants as link
 use Rattle.par_values.specs.Areas.{Name}
@@ -53,16 +54,16 @@ branch opcode to =
 -- an instruction on a field, and an invoke
 abbrev pub on_field : ℕ → Link → Operation
 on_field opcode l =
-    if opcode == 178 then of_field GetStatic (Misnamed 0 1) l
-    else if opcode == 179 then of_field PutStatic (Misnamed 1 0) l
-    else if opcode == 180 then of_field GetField (Misnamed 1 1) l
-    else of_field PutField (Misnamed 2 0) l
+    if opcode == 178 then of_field GetStatic (Misnamed [] 1) l
+    else if opcode == 179 then of_field PutStatic (Misnamed (Anything ∷ []) 0) l
+    else if opcode == 180 then of_field GetField (Misnamed (AnyObject ∷ []) 1) l
+    else of_field PutField (Misnamed (Anything ∷ AnyObject ∷ []) 0) l
 
 abbrev pub on_method : ℕ → Link → Operation
 on_method opcode l =
-    if opcode == 182 then of_method InvokeVirtual (Misnamed 1 0) l
-    else if opcode == 183 then of_method InvokeSpecial (Misnamed 1 0) l
-    else of_method InvokeStatic (Misnamed 0 0) l
+    if opcode == 182 then of_method InvokeVirtual (Misnamed (Anything ∷ []) 0) l
+    else if opcode == 183 then of_method InvokeSpecial (Misnamed (Anything ∷ []) 0) l
+    else of_method InvokeStatic (Misnamed [] 0) l
 
 -- the position of a label
 abbrev pub spot : List Item → ℕ → ℕ

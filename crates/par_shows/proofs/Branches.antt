@@ -298,7 +298,7 @@ module _ (ctx : Setting) (result : Ty) where
       spend ctx result k c _ _
       (on env labelled mname cls mth fs k (c + 12) (c + 16) p (LockOp 178 i1) us (GetStatic fl)
       (with a []) (with a (truth b ∷ [])) _ (omega arith) h tt
-      (ap (λ l. silent (op.of_field GetStatic (op.Misnamed 0 1) l) 1) g.1)
+      (ap (λ l. silent (op.of_field GetStatic (op.Misnamed [] 1) l) 1) g.1)
       (record {
         enough = omega arith;
         fits = refl;
