@@ -1,7 +1,7 @@
 -- The form that is written is the shortest, and of equal lengths the one of the least tag.
-use Rattle.std.proofs.Common.{◌≡◌, ℕ, ◌+◌, ◌-◌, ◌<◌, ◌≤◌, ◌⊎◌, inl, inr, ⊎_elim}
-use Rattle.std.proofs.Common.{Bool, true, false, cond, List, [], ◌∷◌, ◌++◌, length, take, drop}
-use Rattle.std.proofs.Common.{Option, Some, None, refl, sym, ap, subst, ◌∙◌, length-append, arith}
+use Rattle.std.proofs.Common.{◌≡◌, ℕ, ◌+◌, ◌-◌, ◌<◌, ◌≤◌, ◌⊎◌, inl, inr, ⊎_elim, Bool, true, false}
+use Rattle.std.proofs.Common.{cond, List, [], ◌∷◌, ◌++◌, length, take, drop, Option, Some, None}
+use Rattle.std.proofs.Common.{refl, sym, ap, subst, ◌∙◌, length-append, arith}
 use Rattle.std.specs.Prelude.{nat_le, nat_lt}
 use Rattle.std.proofs.lemmas.Bool.{ltb-true, ltb-false, leb-true, leb-false, eqb-true, eq-eqb}
 use Rattle.std.proofs.lemmas.List.{take_at, take-append-drop, length-take}
@@ -13,8 +13,8 @@ use Rattle.par_frame_forms.specs.declared.form.FrameForm.{FrameForm}
 use Rattle.par_frame_forms.specs.declared.form.FrameForm.TheVariants.{Same, OneOperand}
 use Rattle.par_frame_forms.specs.declared.form.FrameForm.TheVariants.{OneOperandFar, Cut, More}
 use Rattle.par_frame_forms.specs.declared.form.FrameForm.TheVariants.{Full}
-use Rattle.par_frame_forms.specs.Spelled.{spelled, spelled_type, spelled_types, TypesFit}
-use Rattle.par_frame_forms.specs.Spelled.{Said, says, Spells, IsNoLater, IsWritten}
+use Rattle.par_frame_forms.specs.Spelled.{spelled, spelled_type, spelled_types, TypesFit, Said}
+use Rattle.par_frame_forms.specs.Spelled.{says, Spells, IsNoLater, IsWritten}
 use Rattle.par_frame_forms.specs.Written.{same_type, behind, full, bare, single, by_stack}
 use Rattle.par_frame_forms.specs.Laws.{SaidFits, WrittenIsShortest}
 

@@ -10,4 +10,4 @@ pub mod form;
 mod laws;
 
 pub use form::{FrameForm, PlaceType};
-pub use laws::{spelled_forms_are_read, written_is_shortest};
+pub use laws::{read_forms_are_spelled, spelled_forms_are_read, written_is_shortest};
