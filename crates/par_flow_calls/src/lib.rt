@@ -8,6 +8,8 @@ mod auction;
 #[cfg(test)]
 mod facts;
 #[cfg(test)]
+mod insecure;
+#[cfg(test)]
 mod meaning;
 #[cfg(test)]
 mod observers;

@@ -1,6 +1,6 @@
 -- Frames of a method, given for some offsets of its code, that fit.
-use Rattle.std.specs.Prelude.{◌≡◌, ℕ, ◌≤◌, ℤ, pos, Bool, true, ◌&&◌, nat_le, nat_lt, List, []}
-use Rattle.std.specs.Prelude.{◌∷◌, length, Option, Some}
+use Rattle.std.specs.Prelude.{◌≡◌, ℕ, ◌≤◌, ℤ, pos, Bool, true, ◌&&◌, nat_le, nat_lt, List, [], ◌∷◌}
+use Rattle.std.specs.Prelude.{length, Option, Some}
 use Rattle.par_instr.specs.declared.instr.Instr.{Instr}
 use Rattle.par_instr.specs.Decoding.{Decoded, decoded_at}
 use Rattle.par_class.specs.declared.file.Catch.{Catch}

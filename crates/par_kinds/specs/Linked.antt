@@ -1,7 +1,7 @@
 -- The same at linked class files: what each index is to an instruction is that of the machine.
-use Rattle.std.specs.Prelude.{◌≡◌, ℕ, ◌-◌, Bool, true, false, not, ◌||◌, ◌==◌}
-use Rattle.std.specs.Prelude.{if◌then◌else◌, List, [], ◌∷◌, ◌++◌, length, map, replicate}
-use Rattle.std.specs.Prelude.{Option, Some, None, is_none, is_some, codes}
+use Rattle.std.specs.Prelude.{◌≡◌, ℕ, ◌-◌, Bool, true, false, not, ◌||◌, ◌==◌, if◌then◌else◌, List}
+use Rattle.std.specs.Prelude.{[], ◌∷◌, ◌++◌, length, map, replicate, Option, Some, None, is_none}
+use Rattle.std.specs.Prelude.{is_some, codes}
 use Rattle.par_instr.specs.declared.instr.Instr.{Instr}
 use Rattle.par_class.specs.declared.file.Catch.{Catch}
 use Rattle.par_class.specs.declared.file.MethodFile.{MethodFile}
@@ -11,11 +11,11 @@ use Rattle.par_values.specs.declared.kind.Kind.TheVariants.{Number, Object}
 use Rattle.par_values.specs.declared.link.Target.{Target}
 use Rattle.par_values.specs.declared.link.Target.TheVariants as target
 use Rattle.par_values.specs.Areas.{Name, class_named}
-use Rattle.par_values.specs.Operations.{Operation, Push, PushNull, Load, Store, Copy}
-use Rattle.par_values.specs.Operations.{Combine, Negate, Increase, Jump, JumpIf, JumpIfBoth}
-use Rattle.par_values.specs.Operations.{JumpIfSame, JumpIfNull, GetStatic, GetField}
-use Rattle.par_values.specs.Operations.{InvokeStatic, InvokeSpecial, InvokeVirtual}
-use Rattle.par_values.specs.Operations.{Create, Throw, Leave, LeaveWith, operation, takes}
+use Rattle.par_values.specs.Operations.{Operation, Push, PushNull, Load, Store, Copy, Combine}
+use Rattle.par_values.specs.Operations.{Negate, Increase, Jump, JumpIf, JumpIfBoth, JumpIfSame}
+use Rattle.par_values.specs.Operations.{JumpIfNull, GetStatic, GetField, InvokeStatic}
+use Rattle.par_values.specs.Operations.{InvokeSpecial, InvokeVirtual, Create, Throw, Leave}
+use Rattle.par_values.specs.Operations.{LeaveWith, operation, takes}
 use Rattle.par_values.specs.Reasons.{misnamed, disagrees, is_result}
 use Rattle.par_link.specs.declared.entry.Builtin.{Builtin}
 use Rattle.par_link.specs.declared.entry.Builtin.TheVariants as builtin
@@ -33,8 +33,8 @@ use Rattle.par_kinds.specs.declared.frame.VKind.TheVariants.{Top as ATop, Int as
 use Rattle.par_kinds.specs.declared.frame.VKind.TheVariants.{Null as ANull, Object as AnObject}
 use Rattle.par_kinds.specs.declared.frame.VKind.TheVariants.{Base as ABase}
 use Rattle.par_kinds.specs.Kinds.{KFrame, vkind}
-use Rattle.par_kinds.specs.Acts.{Act, Also, Leaves, Flow, Gives, Loads, Copies, Stores}
-use Rattle.par_kinds.specs.Acts.{Throwable, Exceptional, Result, Local, InRange, Onward, Jumps, Branches}
+use Rattle.par_kinds.specs.Acts.{Act, Also, Leaves, Flow, Gives, Loads, Copies, Stores, Throwable}
+use Rattle.par_kinds.specs.Acts.{Exceptional, Result, Local, InRange, Onward, Jumps, Branches}
 use Rattle.par_kinds.specs.Acts.{Nowhere}
 use Rattle.par_kinds.specs.Acts as act
 use Rattle.par_kinds.specs.Fits.{Given, Fitting}

@@ -1,6 +1,6 @@
 -- The same by the texts of a constant pool, for any map of members and any list of exceptions.
-use Rattle.std.specs.Prelude.{◌≡◌, ℕ, Bool, true, false, not, ◌||◌, List, [], ◌∷◌, ◌++◌}
-use Rattle.std.specs.Prelude.{reverse, Option, Some, None, codes}
+use Rattle.std.specs.Prelude.{◌≡◌, ℕ, Bool, true, false, not, ◌||◌, List, [], ◌∷◌, ◌++◌, reverse}
+use Rattle.std.specs.Prelude.{Option, Some, None, codes, ◌==◌, if◌then◌else◌}
 use Rattle.std.specs.List.{slice_get}
 use Rattle.std.specs.Option.{option_map}
 use Rattle.par_instr.specs.declared.instr.Instr.{Instr}
@@ -8,6 +8,7 @@ use Rattle.par_instr.specs.declared.instr.Instr.TheVariants as instr
 use Rattle.par_pool.specs.declared.constant.Constant.{Constant}
 use Rattle.par_pool.specs.declared.constant.Constant.TheVariants as constant
 use Rattle.par_pool.specs.Entries.{entry_at}
+use Rattle.par_class.specs.declared.file.Catch.{Catch}
 use Rattle.par_class.specs.declared.file.ClassFile.{ClassFile}
 use Rattle.par_values.specs.declared.kind.Kind.{Kind}
 use Rattle.par_values.specs.declared.kind.Kind.TheVariants.{Object, AnyObject, Anything}
@@ -28,10 +29,12 @@ use Rattle.par_steps.specs.Methods.{class_pool}
 use Rattle.par_steps.specs.Links.{link_at}
 use Rattle.par_kinds.specs.declared.frame.VKind.{VKind}
 use Rattle.par_kinds.specs.declared.frame.VKind.TheVariants.{Int as AnInt, Object as AnObject}
+use Rattle.par_kinds.specs.declared.frame.VKind.TheVariants.{Base as ABase}
 use Rattle.par_kinds.specs.Kinds.{vkind}
 use Rattle.par_kinds.specs.Acts.{Act, Also, Gives, Exceptional, Onward}
 use Rattle.par_kinds.specs.Acts as act
 use Rattle.par_kinds.specs.Linked.{acted, also_received, results_of, kinds_given}
+use Rattle.par_kinds.specs.Linked.{builtin_kind}
 
 pub record MethodShape : Type 0 where
   pub static : Bool
@@ -88,7 +91,8 @@ static_act _ = misnamed_act []
 
 abbrev pub special_act : Shape → Act
 special_act (Method m) =
-    plain_act (not m.initializer || m.static || false) (reverse m.takes ++ m.receiver ∷ []) m.also m.results
+    plain_act (not m.initializer || m.static || false) (reverse m.takes ++ m.receiver ∷ []) m.also
+    m.results
 special_act _ = misnamed_act (Anything ∷ [])
 
 abbrev pub virtual_act : Shape → Act
@@ -176,6 +180,22 @@ abbrev pub shape_in : (fields methods : Members) → List Constant → ℕ → S
 shape_in fields methods entries index =
     shape_of_entry fields methods entries (entry_at entries index)
 
+-- ---- handlers
+
+-- what a handler takes, by the name of its class
+abbrev pub text_kind : Option Builtin → Name → VKind
+text_kind (Some b) name = builtin_kind b
+text_kind None name = AnObject name
+
+abbrev pub caught_of_entry : List Constant → Option Constant → VKind
+caught_of_entry entries (Some (constant.Class name)) =
+    text_kind (builtins.builtin (text_at entries name)) (text_at entries name)
+caught_of_entry entries _ = ABase false
+
+abbrev pub caught_in : List Constant → Catch → VKind
+caught_in entries c =
+    if c.class == 0 then ABase true else caught_of_entry entries (entry_at entries c.class)
+
 -- ---- at linked files
 
 abbrev pub shape_of_link : List ClassFile → Named → Link → Shape
@@ -199,11 +219,13 @@ shape_at files class index =
 
 abbrev pub field_standing : Option ClassFile → ℕ → Option Bool
 field_standing None place = None
-field_standing (Some file) place = option_map (λ f. is_static f.access) (slice_get file.fields place)
+field_standing (Some file) place =
+    option_map (λ f. is_static f.access) (slice_get file.fields place)
 
 abbrev pub method_standing : Option ClassFile → ℕ → Option Bool
 method_standing None place = None
-method_standing (Some file) place = option_map (λ m. is_static m.access) (slice_get file.methods place)
+method_standing (Some file) place =
+    option_map (λ m. is_static m.access) (slice_get file.methods place)
 
 abbrev pub standing : List ClassFile → Named → Option Bool
 standing files (named.Field d) = field_standing (slice_get files d.class) d.place
@@ -212,8 +234,8 @@ standing files (named.Lock n) = Some true
 standing files (named.Initializer b) = Some false
 standing files _ = None
 
--- the members of linked files, of the built-in classes and of the locks; descriptors tell fields and
--- methods apart, so that one map would do
+-- The members of linked files, of the built-in classes and of the locks. Descriptors tell fields
+-- and methods apart, so that one map would do.
 abbrev pub fields_in : List ClassFile → Members
 fields_in files m = standing files (field_declared files m)
 

@@ -1,10 +1,11 @@
 -- What is known of linked files where each method that is not native has code.
-use Rattle.std.proofs.Common.{◌≡◌, ℕ, zero, suc, ◌+◌, ◌<◌, ◌≤◌, ◌==◌, Bool, true, false, not, ◌&&◌, ◌||◌, cond}
-use Rattle.std.proofs.Common.{List, [], ◌∷◌, ◌++◌, map, take, length, replicate, Some, None, Option, refl, sym, ap}
-use Rattle.std.proofs.Common.{subst, ◌∙◌, arith, codes, is_some, length-append}
-use Rattle.std.specs.List.{slice_get, filter}
+use Rattle.std.proofs.Common.{◌≡◌, ℕ, zero, suc, ◌+◌, ◌<◌, ◌≤◌, ◌==◌, Bool, true, false, not, ◌&&◌}
+use Rattle.std.proofs.Common.{◌||◌, cond, List, [], ◌∷◌, ◌++◌, map, take, length, replicate, Some}
+use Rattle.std.proofs.Common.{None, Option, refl, sym, ap, subst, ◌∙◌, arith, codes, is_some}
+use Rattle.std.proofs.Common.{length-append, ◌⊎◌, inl, inr, ⊎_elim}
+use Rattle.std.specs.List.{slice_get, filter, position}
 use Rattle.std.specs.Str.{bytes_eq}
-use Rattle.std.proofs.lemmas.Bool.{and_parts}
+use Rattle.std.proofs.lemmas.Bool.{and_parts, leb-true}
 use Rattle.std.proofs.lemmas.List.{length-map}
 use Rattle.std.proofs.lemmas.Option.{slice_get_within, slice_get_past}
 use Rattle.par_pool.specs.declared.constant.Constant.{Constant}
@@ -15,7 +16,7 @@ use Rattle.par_class.specs.declared.file.MethodFile.{MethodFile}
 use Rattle.par_class.specs.declared.file.ClassFile.{ClassFile}
 use Rattle.par_class.specs.Spelling.{is_native}
 use Rattle.par_values.specs.declared.kind.Kind.{Kind}
-use Rattle.par_values.specs.declared.kind.Kind.TheVariants.{Number}
+use Rattle.par_values.specs.declared.kind.Kind.TheVariants.{Number, Object}
 use Rattle.par_values.specs.declared.link.Link.{Link}
 use Rattle.par_values.specs.declared.link.MethodLink.{MethodLink}
 use Rattle.par_values.specs.Areas.{Name, class_named, name_or_none}
@@ -23,52 +24,43 @@ use Rattle.par_link.specs.declared.entry.Builtin.{Builtin}
 use Rattle.par_link.specs.declared.entry.Builtin.TheVariants as builtin
 use Rattle.par_link.specs.declared.entry.Named.{Named}
 use Rattle.par_link.specs.declared.entry.Named.TheVariants as named
-use Rattle.par_link.specs.Linked.{AreLinked, named_at}
-use Rattle.par_single.specs.Members.{text_at, own_name, own_names, is_static}
-use Rattle.par_single.specs.Links.{signature_said}
-use Rattle.par_single.specs.Single.{is_channel_right, is_of_channel}
+use Rattle.par_link.specs.Linked.{AreLinked, named_at, named_in}
+use Rattle.par_single.specs.Members.{text_at, own_name, own_names, is_static, Member}
+use Rattle.par_single.specs.Members.{is_initializer}
+use Rattle.par_single.specs.Links.{signature_said, locals_of}
+use Rattle.par_single.specs.Single.{is_channel_right, is_of_channel, method_named}
 use Rattle.par_steps.specs.Classes.{class_names, exceptions_from, is_exception}
 use Rattle.par_steps.specs.Fields.{is_shared, is_own, kind_of, class_statics, first_statics}
 use Rattle.par_steps.specs.Fields.{many_of, lock_place}
 use Rattle.par_steps.specs.Links.{link_of, number_or, class_link, field_in, field_link, method_in}
-use Rattle.par_steps.specs.Links.{method_link, builtin_class, builtin_initializer}
-use Rattle.par_steps.specs.Methods.{class_pool}
-use Rattle.std.proofs.Common.{◌⊎◌, inl, inr, ⊎_elim}
+use Rattle.par_steps.specs.Links.{method_link, builtin_class, builtin_initializer, channel_of}
+use Rattle.par_steps.specs.Methods.{class_pool, method_file, method_descriptor, descriptor_in}
+use Rattle.par_steps.specs.Methods.{pool_of, code_in, code_or_none, methods_of as methods_in}
 use Rattle.std.specs.Prelude.{nat_le}
-use Rattle.std.specs.List.{position}
 use Rattle.std.specs.Option.{option_map_or}
-use Rattle.std.proofs.lemmas.Bool.{leb-true}
 use Rattle.par_lexer.specs.Names.{is_name}
 use Rattle.par_lexer.specs.Pieces.{value}
 use Rattle.par_inputs.specs.Numbers.{magnitude_of, is_decimal}
 use Rattle.par_class.specs.declared.file.CodeAttr.{CodeAttr}
-use Rattle.par_values.specs.declared.kind.Kind.TheVariants.{Object}
 use Rattle.par_values.specs.declared.link.Target.{Target}
 use Rattle.par_values.specs.declared.link.Target.TheVariants.{Code}
 use Rattle.par_link.proofs.Passing.{same_text}
-use Rattle.par_link.specs.Linked.{named_in}
-use Rattle.par_link.specs.Named.{named_by, class_of, field_of, method_of, declared, place_in, fields_of, methods_of}
+use Rattle.par_link.specs.Named.{named_by, class_of, field_of, method_of, declared, place_in}
+use Rattle.par_link.specs.Named.{fields_of, methods_of}
 use Rattle.par_link.specs.Builtins.{builtin_field, builtin_method, lock_number, lock_or_nothing}
-use Rattle.par_single.specs.Members.{Member, is_initializer}
 use Rattle.par_single.specs.declared.descriptor.Signature.{Signature}
 use Rattle.par_single.specs.Descriptors.{method_signature}
 use Rattle.par_single.specs.Descriptors as said
-use Rattle.par_single.specs.Single.{method_named}
-use Rattle.par_single.specs.Links.{locals_of}
-use Rattle.par_steps.specs.Links.{channel_of}
-use Rattle.par_steps.specs.Methods.{method_file, method_descriptor, descriptor_in, pool_of, code_in, code_or_none}
-use Rattle.par_steps.specs.Methods.{methods_of as methods_in}
 use Rattle.par_kinds.specs.Linked.{coded_in, static_in}
 use Rattle.par_sound.specs.States.{kinds_in, static_kinds, all_shared, shared_kinds, class_kinds}
 use Rattle.par_linked_frames.specs.Laws.{AreCoded, LinkedFilesAreRight}
-use Rattle.par_sound.specs.Right.{AreRight, LinkRight, ClassRight, CodeRight}
-use Rattle.par_sound.specs.Right.{TargetRight}
+use Rattle.par_sound.specs.Right.{AreRight, LinkRight, ClassRight, CodeRight, TargetRight}
 use Rattle.par_kinds.specs.Kinds.{Each}
 use Rattle.par_link.proofs.Faultless.{names-apart, method-right}
 
 -- ---- lists
 
-get-front : {A : Type 0} (xs ys : List A) (n : ℕ) (x : A) → slice_get xs n ≡ Some x
+pub get-front : {A : Type 0} (xs ys : List A) (n : ℕ) (x : A) → slice_get xs n ≡ Some x
     → slice_get (xs ++ ys) n ≡ Some x
 get-front [] ys n x is = absurd (cc is)
 get-front (y ∷ xs) ys zero x is = is
@@ -80,7 +72,7 @@ get-behind [] ys n i e = ap (slice_get ys) (omega (arith, e))
 get-behind (x ∷ xs) ys zero i e = absurd (omega (arith, e))
 get-behind (x ∷ xs) ys (suc n) i e = get-behind xs ys n i (omega (arith, e))
 
-get-map : {A B : Type 0} (f : A → B) (xs : List A) (n : ℕ) (x : A) → slice_get xs n ≡ Some x
+pub get-map : {A B : Type 0} (f : A → B) (xs : List A) (n : ℕ) (x : A) → slice_get xs n ≡ Some x
     → slice_get (map f xs) n ≡ Some (f x)
 get-map f [] n x is = absurd (cc is)
 get-map f (y ∷ xs) zero x is = let same : y ≡ x = cc is in ap (λ z. Some (f z)) same
@@ -109,7 +101,8 @@ unfolding class_statics all_shared
 statics-many [] = refl
 statics-many (file ∷ files) =
     let one : length (first_statics file) ≡ length (shared_kinds file) =
-    length-map (filter is_shared file.fields) _ ∙ sym (length-map (filter is_shared file.fields) _) in
+    length-map (filter is_shared file.fields) _
+    ∙ sym (length-map (filter is_shared file.fields) _) in
     let both = length-append (first_statics file) (class_statics files) in
     let other = length-append (shared_kinds file) (all_shared files) in
     omega (arith, one, both, other, statics-many files)
@@ -151,7 +144,8 @@ get-there [] n lt = absurd (omega (arith, lt))
 get-there (x ∷ xs) zero lt = (x, refl)
 get-there (x ∷ xs) (suc n) lt = get-there xs n (omega (arith, lt))
 
-get-replicate : {A : Type 0} (many n : ℕ) (x : A) → n < many → slice_get (replicate many x) n ≡ Some x
+get-replicate : {A : Type 0} (many n : ℕ) (x : A) → n < many → slice_get (replicate many x) n
+    ≡ Some x
 get-replicate zero n x lt = absurd (omega (arith, lt))
 get-replicate (suc many) zero x lt = refl
 get-replicate (suc many) (suc n) x lt = get-replicate many n x (omega (arith, lt))
@@ -173,7 +167,8 @@ small-magnitude : (text : List ℕ) (n : ℕ) → magnitude_of 255 text ≡ Some
 small-magnitude text n is =
     small-number (is_decimal text && nat_le (value text) 255) (value text) n
     (λ both.
-    let le = leb-true (value text) 255 (and_parts (is_decimal text) (nat_le (value text) 255) both).1 in
+    let le = leb-true (value text) 255
+    (and_parts (is_decimal text) (nat_le (value text) 255) both).1 in
     omega (arith, le))
     is
 
@@ -318,7 +313,8 @@ module _ (files : List ClassFile) (linked : AreLinked files) (coded : AreCoded f
           λ st. ap (λ b. slice_get (static_kinds files) (cond b shared own)) st
               ∙ get-front (all_shared files) (replicate 256 Number) shared kind
               (shared-at files class (many_of is_shared file place) file kind is
-              (get-map (kind_of entries) (filter is_shared file.fields) (many_of is_shared file place) f
+              (get-map (kind_of entries) (filter is_shared file.fields)
+              (many_of is_shared file place) f
               (filtered is_shared file.fields place f at st))),
           λ st. record {
             class = class;
@@ -368,7 +364,8 @@ module _ (files : List ClassFile) (linked : AreLinked files) (coded : AreCoded f
           → is_of_channel (text_at file.pool.entries m.descriptor) ≡ true
       of-channel native =
           let right = method-right files linked class file is place m at in
-          let second = (and_parts (is_some (method_signature (text_at file.pool.entries m.descriptor)))
+          let second = (and_parts (is_some
+          (method_signature (text_at file.pool.entries m.descriptor)))
           (not (is_native m.access) || is_channel_right file.pool.entries m) right).1 in
           let channel : is_channel_right file.pool.entries m ≡ true =
           sym (ap (λ b. not b || is_channel_right file.pool.entries m) native) ∙ second in
@@ -380,17 +377,28 @@ module _ (files : List ClassFile) (linked : AreLinked files) (coded : AreCoded f
 
       channel-right : (class_name name : Name) (text : List ℕ) (native : is_of_channel text ≡ true)
           → (t : Target) → TargetRight files
-          (record (this t) { takes = (signature_said text).takes; gives = is_some (signature_said text).gives })
+          (record (this t) {
+            takes = (signature_said text).takes;
+            gives = is_some (signature_said text).gives;
+          })
           (channel_of class_name name (signature_said text).takes)
       unfolding said.kinds_in said.kind_at
       channel-right class_name name text native t =
           ⊎_elim
           (λ e. subst (λ (text : List ℕ). TargetRight files
-          (record (this t) { takes = (signature_said text).takes; gives = is_some (signature_said text).gives })
-          (channel_of class_name name (signature_said text).takes)) (sym (same_text text (codes "()I") e)) refl)
+          (record (this t) {
+            takes = (signature_said text).takes;
+            gives = is_some (signature_said text).gives;
+          })
+          (channel_of class_name name (signature_said text).takes))
+          (sym (same_text text (codes "()I") e)) refl)
           (λ e. subst (λ (text : List ℕ). TargetRight files
-          (record (this t) { takes = (signature_said text).takes; gives = is_some (signature_said text).gives })
-          (channel_of class_name name (signature_said text).takes)) (sym (same_text text (codes "(I)V") e)) refl)
+          (record (this t) {
+            takes = (signature_said text).takes;
+            gives = is_some (signature_said text).gives;
+          })
+          (channel_of class_name name (signature_said text).takes))
+          (sym (same_text text (codes "(I)V") e)) refl)
           (or-cases (bytes_eq text (codes "()I")) (bytes_eq text (codes "(I)V")) native)
 
       target-right : (t : Target) (b : Bool) → is_native m.access ≡ b
@@ -423,10 +431,12 @@ module _ (files : List ClassFile) (linked : AreLinked files) (coded : AreCoded f
       ≡ name_or_none (slice_get (codes "ArithmeticException" ∷ codes "NullPointerException" ∷ []) i)
   past-names i =
       ap name_or_none
-      (get-behind (own_names files) _ (length files + i) i (omega (arith, length-map files own_name)))
+      (get-behind (own_names files) _ (length files + i) i
+      (omega (arith, length-map files own_name)))
 
   exception-right : (i : ℕ) → i < 2 → ClassRight files (record {
-    name = name_or_none (slice_get (codes "ArithmeticException" ∷ codes "NullPointerException" ∷ []) i);
+    name = name_or_none (slice_get (codes "ArithmeticException" ∷ codes "NullPointerException" ∷ [])
+        i);
     number = length files + i;
     fields = [];
     is_exception = true;
@@ -474,7 +484,8 @@ module _ (files : List ClassFile) (linked : AreLinked files) (coded : AreCoded f
   named-right (named.Initializer b) small = initializer-right b
   named-right named.Nothing small = tt
 
-  number-right : (l : Link) (c : Option Constant) → LinkRight files l → LinkRight files (number_or l c)
+  number-right : (l : Link) (c : Option Constant) → LinkRight files l
+      → LinkRight files (number_or l c)
   number-right l (Some (constant.Integer n)) known = tt
   number-right l c known = known
 
@@ -483,7 +494,8 @@ module _ (files : List ClassFile) (linked : AreLinked files) (coded : AreCoded f
     differ = names-differ;
     exceptions = exceptions-in files 0 (length (class_names files)) (omega (arith, all-many));
     links = λ class index.
-        number-right (link_of files (named_at files class index)) (entry_at (class_pool files class) index)
+        number-right (link_of files (named_at files class index))
+        (entry_at (class_pool files class) index)
         (named-right (named_at files class index) (small-at files class index));
   }
 

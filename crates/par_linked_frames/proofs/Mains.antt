@@ -1,9 +1,11 @@
 -- The method with which a run starts is the static one, since no two have its name and descriptor.
-use Rattle.std.proofs.Common.{◌≡◌, ℕ, zero, suc, ◌<◌, Bool, true, false, not, ◌&&◌, ◌||◌, List, [], ◌∷◌, map}
-use Rattle.std.proofs.Common.{take, Some, None, Option, refl, sym, ap, subst, ◌∙◌, arith, codes, is_some}
+use Rattle.std.proofs.Common.{◌≡◌, ℕ, zero, suc, ◌<◌, Bool, true, false, not, ◌&&◌, ◌||◌, List, []}
+use Rattle.std.proofs.Common.{◌∷◌, take, Some, None, Option, refl, sym, ap, subst, ◌∙◌, arith}
+use Rattle.std.proofs.Common.{codes, is_some}
 use Rattle.std.specs.List.{slice_get, list_any, position}
 use Rattle.std.specs.Prelude.{nat_lt, cond, IsTrue, ◌+◌}
-use Rattle.par_single.specs.Single.{method_in, is_begun_with}
+use Rattle.par_single.specs.Single.{method_in, is_begun_with, main_member, method_named}
+use Rattle.par_single.specs.Single.{is_channel_right, is_of_channel}
 use Rattle.par_values.specs.Areas.{Name}
 use Rattle.std.specs.Str.{bytes_eq}
 use Rattle.std.proofs.lemmas.Bool.{and_parts, ltb-true, ltb-false}
@@ -18,7 +20,6 @@ use Rattle.par_link.specs.Linked.{AreLinked}
 use Rattle.par_link.specs.Named.{is_same, methods_of}
 use Rattle.par_link.specs.Order.{at}
 use Rattle.par_single.specs.Members.{text_at, own_name, is_static, is_method_of, method_place}
-use Rattle.par_single.specs.Single.{main_member, method_named, is_channel_right, is_of_channel}
 use Rattle.par_single.specs.Descriptors.{method_signature}
 use Rattle.par_single.specs.Descriptors as said
 use Rattle.par_single.specs.Links.{signature_said}
@@ -34,7 +35,7 @@ use Rattle.par_linked_frames.specs.Laws.{FramesKeepProgramsFromBadCode}
 use Rattle.par_sound.proofs.Whole.{fitting_files_are_never_bad}
 use Rattle.par_steps.specs.Run.{class_number}
 use Rattle.par_link.proofs.Apart.{fresh}
-use Rattle.par_linked_frames.proofs.Linking.{are_right}
+use Rattle.par_linked_frames.proofs.Linking.{are_right, get-map}
 use Rattle.par_link.proofs.Faultless.{unbroken, methods-apart, method-right}
 
 get-take : {A : Type 0} (xs : List A) (n i : ℕ) → i < n → slice_get (take n xs) i ≡ slice_get xs i
@@ -42,12 +43,6 @@ get-take xs zero i lt = absurd (omega (arith, lt))
 get-take [] (suc n) i lt = refl
 get-take (x ∷ xs) (suc n) zero lt = refl
 get-take (x ∷ xs) (suc n) (suc i) lt = get-take xs n i (omega (arith, lt))
-
-get-mapped : {A B : Type 0} (f : A → B) (xs : List A) (n : ℕ) (x : A) → slice_get xs n ≡ Some x
-    → slice_get (map f xs) n ≡ Some (f x)
-get-mapped f [] n x is = absurd (cc is)
-get-mapped f (y ∷ xs) zero x is = let same : y ≡ x = cc is in ap (λ z. Some (f z)) same
-get-mapped f (y ∷ xs) (suc n) x is = get-mapped f xs n x is
 
 module _ (files : List ClassFile) (linked : AreLinked files) (coded : AreCoded files) (class : ℕ)
     (file : ClassFile) (listed : slice_get files class ≡ Some file) where
@@ -61,9 +56,9 @@ module _ (files : List ClassFile) (linked : AreLinked files) (coded : AreCoded f
   not-before i n x y lt one other same =
       let named = method_named file.pool.entries in
       let free = fresh is_same [] (methods_of file) none-repeated n (named y)
-      (get-mapped named file.methods n y other) in
+      (get-map named file.methods n y other) in
       let here : slice_get (take n (methods_of file)) i ≡ Some (named x) =
-      get-take (methods_of file) n i lt ∙ get-mapped named file.methods i x one in
+      get-take (methods_of file) n i lt ∙ get-map named file.methods i x one in
       let any = any-at (is_same (named y)) (take n (methods_of file)) i (named x) here same in
       let both : true ≡ false = sym any ∙ free in cc both
 
@@ -135,7 +130,8 @@ module _ (files : List ClassFile) (linked : AreLinked files) (coded : AreCoded f
       → IsMain files class place
   main-at place at_first None found there = absurd (cc there)
   main-at place at_first (Some n) found there =
-      let first = found_at (is_method_of file.pool.entries (main_member (own_name file))) file.methods
+      let first = found_at (is_method_of file.pool.entries (main_member (own_name file)))
+      file.methods
       place at_first in
       let other = found_at (is_main file) file.methods n found in
       let both = and_parts (is_static (other.item).access)
@@ -201,17 +197,20 @@ begun-static : (file : ClassFile) (main : Name) (o : Option ℕ)
     → IsTrue (list_any (is_main file) file.methods)
 begun-static file main None at begun = absurd (cc begun)
 begun-static file main (Some place) at begun =
-    let found = found_at (is_method_of file.pool.entries (main_member main)) file.methods place at in
+    let found = found_at (is_method_of file.pool.entries (main_member main)) file.methods place
+    at in
     let here : IsTrue (is_begun_with (Some found.item)) =
     subst (λ (o : Option MethodFile). IsTrue (is_begun_with o)) found.stands begun in
-    let static = (and_parts (is_static (found.item).access) (not (is_native (found.item).access)) here).0 in
+    let static = (and_parts (is_static (found.item).access) (not (is_native (found.item).access))
+    here).0 in
     let passes : is_main file found.item ≡ true =
     ap (λ (b : Bool). b && is_method_of file.pool.entries (main_member []) found.item) static
     ∙ found.passes in
     any-at (is_main file) file.methods place found.item found.stands passes
 
 pub frames_keep_programs_from_bad_code : FramesKeepProgramsFromBadCode
-frames_keep_programs_from_bad_code files given main file inputs m linked coded fit listed own begun =
+frames_keep_programs_from_bad_code files given main file inputs m linked coded fit listed own
+    begun =
     frames_keep_from_bad_code files given main file inputs m linked coded fit
     (ap (slice_get files) (first-number files main file listed own) ∙ listed)
     (begun-static file main (method_place file (main_member main)) refl begun)

@@ -8,19 +8,20 @@ use Rattle.par_values.specs.declared.kind.Kind.TheVariants.{AnyObject, Anything}
 use Rattle.par_values.specs.declared.link.Link.{Link}
 use Rattle.par_values.specs.declared.link.Link.TheVariants as link
 use Rattle.par_values.specs.Operations.{GetStatic, PutStatic, GetField, PutField, InvokeStatic}
-use Rattle.par_values.specs.Operations.{InvokeSpecial, InvokeVirtual, Misnamed, of_field, of_method, of_class}
-use Rattle.par_values.specs.Operations.{constant}
+use Rattle.par_values.specs.Operations.{InvokeSpecial, InvokeVirtual, Misnamed, of_field, of_method}
+use Rattle.par_values.specs.Operations.{of_class, constant}
 use Rattle.par_link.specs.declared.entry.Named.{Named}
 use Rattle.par_link.specs.declared.entry.Named.TheVariants as named
 use Rattle.par_link.specs.Linked.{named_at}
 use Rattle.par_steps.specs.Links.{link_at}
 use Rattle.par_kinds.specs.Linked.{acted, act_at, result_of}
 use Rattle.par_kinds.specs.Shapes.{act_of, shape_at, shape_of_link, constant_act, getstatic_act}
-use Rattle.par_kinds.specs.Shapes.{putstatic_act, getfield_act, putfield_act, static_act, special_act}
-use Rattle.par_kinds.specs.Shapes.{virtual_act, new_act}
+use Rattle.par_kinds.specs.Shapes.{putstatic_act, getfield_act, putfield_act, static_act}
+use Rattle.par_kinds.specs.Shapes.{special_act, virtual_act, new_act}
 
 module _ (files : List ClassFile) (gives : Option Kind) (n : Named) where
-  constants : (l : Link) → acted files gives named.Nothing (constant l) ≡ constant_act (shape_of_link files n l)
+  constants : (l : Link) → acted files gives named.Nothing (constant l)
+      ≡ constant_act (shape_of_link files n l)
   constants (link.Number v) = refl
   constants (link.Field f) = refl
   constants (link.Method m) = refl
@@ -34,7 +35,8 @@ module _ (files : List ClassFile) (gives : Option Kind) (n : Named) where
       ≡ putstatic_act (shape_of_link files n l))
       × (acted files gives named.Nothing (of_field GetField (Misnamed (AnyObject ∷ []) 1) l)
       ≡ getfield_act (shape_of_link files n l))
-      × (acted files gives named.Nothing (of_field PutField (Misnamed (Anything ∷ AnyObject ∷ []) 0) l)
+      × (acted files gives named.Nothing
+      (of_field PutField (Misnamed (Anything ∷ AnyObject ∷ []) 0) l)
       ≡ putfield_act (shape_of_link files n l))
   fields (link.Number v) = (refl, refl, refl, refl)
   fields (link.Field f) = (refl, refl, refl, refl)
@@ -55,7 +57,8 @@ module _ (files : List ClassFile) (gives : Option Kind) (n : Named) where
   methods (link.Class c) = (refl, refl, refl)
   methods link.Other = (refl, refl, refl)
 
-  classes : (l : Link) → acted files gives named.Nothing (of_class l) ≡ new_act (shape_of_link files n l)
+  classes : (l : Link) → acted files gives named.Nothing (of_class l)
+      ≡ new_act (shape_of_link files n l)
   classes (link.Number v) = refl
   classes (link.Field f) = refl
   classes (link.Method m) = refl
@@ -77,11 +80,14 @@ acts_agree files class method (instr.Getfield n) =
 acts_agree files class method (instr.Putfield n) =
     (fields files (result_of files class method) (named_at files class n) (link_at files class n)).3
 acts_agree files class method (instr.Invokestatic n) =
-    (methods files (result_of files class method) (named_at files class n) (link_at files class n)).0
+    (methods files (result_of files class method) (named_at files class n)
+    (link_at files class n)).0
 acts_agree files class method (instr.Invokespecial n) =
-    (methods files (result_of files class method) (named_at files class n) (link_at files class n)).1
+    (methods files (result_of files class method) (named_at files class n)
+    (link_at files class n)).1
 acts_agree files class method (instr.Invokevirtual n) =
-    (methods files (result_of files class method) (named_at files class n) (link_at files class n)).2
+    (methods files (result_of files class method) (named_at files class n)
+    (link_at files class n)).2
 acts_agree files class method (instr.New n) =
     classes files (result_of files class method) (named_at files class n) (link_at files class n)
 acts_agree files class method i = refl

@@ -2,6 +2,7 @@
 use Rattle.std.specs.Prelude.{◌≡◌, ℕ, false, ◌&&◌, Bool, List, [], Some, IsTrue, is_some, slice_get}
 use Rattle.std.specs.List.{list_any}
 use Rattle.par_instr.specs.declared.instr.Instr.{Instr}
+use Rattle.par_class.specs.declared.file.Catch.{Catch}
 use Rattle.par_class.specs.declared.file.MethodFile.{MethodFile}
 use Rattle.par_class.specs.declared.file.ClassFile.{ClassFile}
 use Rattle.par_class.specs.Spelling.{is_native}
@@ -13,8 +14,8 @@ use Rattle.par_single.specs.Single.{main_member, method_in, is_begun_with}
 use Rattle.par_steps.specs.Methods.{class_pool}
 use Rattle.par_steps.specs.Run.{class_number, machine_run}
 use Rattle.par_steps.specs.State.{main_place}
-use Rattle.par_kinds.specs.Linked.{AllGiven, AllFit, act_at, result_of}
-use Rattle.par_kinds.specs.Shapes.{act_of, shape_in, fields_in, methods_in}
+use Rattle.par_kinds.specs.Linked.{AllGiven, AllFit, act_at, result_of, caught_kind}
+use Rattle.par_kinds.specs.Shapes.{act_of, shape_in, fields_in, methods_in, caught_in}
 use Rattle.par_sound.specs.Right.{AreRight}
 use Rattle.par_sound.specs.Laws.{IsFine, MainRight}
 
@@ -35,6 +36,12 @@ TextsTellActs =
     → act_at files class method i
     ≡ act_of (result_of files class method)
     (shape_in (fields_in files) (methods_in files) (class_pool files class)) i
+
+-- and so is the kind of what a handler takes
+abbrev pub TextsTellHandlers : Type 0
+TextsTellHandlers =
+    (files : List ClassFile) → AreLinked files → (class : ℕ) (c : Catch)
+    → caught_kind files class c ≡ caught_in (class_pool files class) c
 
 -- a static method `main` without arguments and result
 abbrev pub is_main : ClassFile → MethodFile → Bool

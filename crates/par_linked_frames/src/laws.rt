@@ -1,4 +1,5 @@
 ghost use Rattle.par_linked_frames.specs.Laws.{LinkedFilesAreRight, TextsTellActs, MainsAreRight};
+ghost use Rattle.par_linked_frames.specs.Laws.{TextsTellHandlers};
 ghost use Rattle.par_linked_frames.specs.Laws.{FramesKeepFromBadCode};
 ghost use Rattle.par_linked_frames.specs.Laws.{FramesKeepProgramsFromBadCode};
 
@@ -10,6 +11,11 @@ pub fn linked_files_are_right()
 /// What an instruction asks of a frame and leaves is what the texts of its constant pool say.
 pub fn texts_tell_acts()
     ensures { TextsTellActs }
+{}
+
+/// What a handler takes is what the text of its class says.
+pub fn texts_tell_handlers()
+    ensures { TextsTellHandlers }
 {}
 
 /// Where a class has a static method `main` without arguments and result, runs begin in it.

@@ -9,5 +9,5 @@ mod laws;
 
 pub use laws::{
     frames_keep_from_bad_code, frames_keep_programs_from_bad_code, linked_files_are_right,
-    mains_are_right, texts_tell_acts,
+    mains_are_right, texts_tell_acts, texts_tell_handlers,
 };

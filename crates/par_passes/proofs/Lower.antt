@@ -1,23 +1,20 @@
 -- What fits a frame fits each frame below it.
-use Rattle.std.proofs.Common.{◌≡◌, ℕ, zero, suc, ◌<◌, ◌≤◌, Bool, true, false, not, ◌&&◌, List, [], ◌∷◌, ◌++◌}
-use Rattle.std.proofs.Common.{length, drop, set, refl, sym, ap, subst, ◌∙◌, arith}
-use Rattle.std.specs.List.{slice_get}
-use Rattle.std.specs.Prelude.{nat_lt}
-use Rattle.std.proofs.lemmas.Bool.{and_parts, ltb-true, lt-ltb}
+use Rattle.std.proofs.Common.{◌≡◌, ℕ, zero, suc, Bool, true, false, not, ◌&&◌, List, []}
+use Rattle.std.proofs.Common.{◌∷◌, length, drop, refl, ap, arith}
+use Rattle.std.proofs.lemmas.Bool.{ltb-true, lt-ltb}
 use Rattle.par_values.specs.declared.kind.Kind.{Kind}
 use Rattle.par_values.specs.Areas.{Name}
 use Rattle.par_kinds.specs.declared.frame.VKind.{VKind}
-use Rattle.par_kinds.specs.declared.frame.VKind.TheVariants.{Top as ATop}
-use Rattle.par_kinds.specs.Kinds.{KFrame, into, accepts, throwable, kind_at, Both, Front, Into}
+use Rattle.par_kinds.specs.Kinds.{KFrame, into, accepts, kind_at, Both, Front, Into}
 use Rattle.par_kinds.specs.Kinds.{FrameInto}
-use Rattle.par_kinds.specs.Acts.{Act, Also, ActFits, AlsoFits, Accepts, Leaves, Gives, Loads, Copies, Stores}
-use Rattle.par_kinds.specs.Acts.{left_by}
+use Rattle.par_kinds.specs.Acts.{Act, Also, ActFits, AlsoFits, Accepts, Leaves, Gives, Loads}
+use Rattle.par_kinds.specs.Acts.{Copies, Stores, left_by}
 use Rattle.par_kinds.specs.Acts as also
-use Rattle.par_passes.specs.Passes.{all_into, merge_all, merge_frames, frame_into, takes_fit, also_fits}
-use Rattle.par_passes.specs.Passes.{act_fits}
+use Rattle.par_passes.specs.Passes.{all_into, merge_all, merge_frames, frame_into, takes_fit}
+use Rattle.par_passes.specs.Passes.{also_fits, act_fits}
 use Rattle.par_kinds.proofs.Lists.{both-append, both-drop, both-set, both-length}
-use Rattle.par_passes.proofs.Merging.{into-same, into-then, into-both, accepts-less, throwable-less, exceptional-less}
-use Rattle.par_passes.proofs.Merging.{merge-left, merge-right, merge-least}
+use Rattle.par_passes.proofs.Merging.{into-same, into-then, into-both, accepts-less, throwable-less}
+use Rattle.par_passes.proofs.Merging.{exceptional-less, merge-left, merge-least}
 
 pub all_both : (a b : Bool) → (a && b) ≡ true → (a ≡ true) × (b ≡ true)
 all_both true b e = (refl, e)
@@ -75,7 +72,8 @@ module _ (exc : List Name) where
   merged-left (k ∷ ks) (l ∷ ls) (u ∷ us) one other =
       (merge-left exc k l, merged-left ks ls us one.1 other.1)
 
-  merged-least : (ks ls us : List VKind) → Below ks us → Below ls us → Below (merge_all exc ks ls) us
+  merged-least : (ks ls us : List VKind) → Below ks us → Below ls us
+      → Below (merge_all exc ks ls) us
   merged-least [] [] [] one other = tt
   merged-least [] [] (u ∷ us) one other = absurd one
   merged-least [] (l ∷ ls) [] one other = absurd other
@@ -184,7 +182,8 @@ module _ (exc : List Name) where
     );
   }
   left-below (Stores x) n k l below = record {
-    locals = both-set (Into exc) k.locals l.locals x (kind_at k.stack 0) (kind_at l.stack 0) below.locals
+    locals = both-set (Into exc) k.locals l.locals x (kind_at k.stack 0) (kind_at l.stack 0)
+        below.locals
         (kind-below k.stack l.stack 0 below.stack);
     stack = both-drop (Into exc) n k.stack l.stack below.stack;
   }

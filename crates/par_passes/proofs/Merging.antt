@@ -1,20 +1,19 @@
 -- Kinds are ordered, and a merge is the least above both.
-use Rattle.std.proofs.Common.{◌≡◌, ℕ, zero, suc, ◌<◌, ◌≤◌, Bool, true, false, cond, not, ◌&&◌, List, [], ◌∷◌, length}
-use Rattle.std.proofs.Common.{refl, sym, ap, subst, ◌∙◌, arith}
-use Rattle.std.specs.List.{list_any}
+use Rattle.std.proofs.Common.{◌≡◌, Bool, true, false, cond, ◌&&◌, List}
+use Rattle.std.proofs.Common.{refl, sym, ap, subst, ◌∙◌}
 use Rattle.std.specs.Str.{bytes_eq}
 use Rattle.std.proofs.lemmas.Slice.Eq.{bytes_eq-Decides}
 use Rattle.par_values.specs.declared.kind.Kind.{Kind}
 use Rattle.par_values.specs.declared.kind.Kind.TheVariants.{Number, Object, AnyObject, Anything}
 use Rattle.par_values.specs.Areas.{Name}
-use Rattle.par_link.proofs.Passing.{same_text, eq_turned}
+use Rattle.par_link.proofs.Passing.{same_text}
 use Rattle.par_kinds.specs.declared.frame.VKind.{VKind}
 use Rattle.par_kinds.specs.declared.frame.VKind.TheVariants.{Top as ATop, Int as AnInt}
 use Rattle.par_kinds.specs.declared.frame.VKind.TheVariants.{Null as ANull, Object as AnObject}
 use Rattle.par_kinds.specs.declared.frame.VKind.TheVariants.{Base as ABase}
-use Rattle.par_kinds.specs.Kinds.{KFrame, into, accepts, throwable, exceptional, is_in, Both, Into}
-use Rattle.par_kinds.specs.Kinds.{FrameInto}
-use Rattle.par_passes.specs.Passes.{merge, merge_all}
+use Rattle.par_kinds.specs.Kinds.{into, accepts, throwable, exceptional, is_in}
+use Rattle.par_passes.specs.Passes.{merge}
+use Rattle.par_passes.specs.Laws.{MergesAreLeast}
 
 same-itself : (name : Name) → bytes_eq name name ≡ true
 same-itself name = (bytes_eq-Decides name name).1 refl
@@ -156,7 +155,8 @@ module _ (exc : List Name) where
   pub merge-left : (k l : VKind) → into exc k (merge exc k l) ≡ true
   unfolding into
   merge-left k l =
-      pick (λ m. into exc k m ≡ true) (into exc k l) (into exc l k) (throwable exc k && throwable exc l)
+      pick (λ m. into exc k m ≡ true) (into exc k l) (into exc l k)
+      (throwable exc k && throwable exc l)
       (accepts AnyObject k && accepts AnyObject l) k l (ABase true) (ABase false) ATop
       (λ a. a) (λ a b. into-same k)
       (λ a b c. throwable-base k (and-both (throwable exc k) (throwable exc l) c).0)
@@ -166,7 +166,8 @@ module _ (exc : List Name) where
   pub merge-right : (k l : VKind) → into exc l (merge exc k l) ≡ true
   unfolding into
   merge-right k l =
-      pick (λ m. into exc l m ≡ true) (into exc k l) (into exc l k) (throwable exc k && throwable exc l)
+      pick (λ m. into exc l m ≡ true) (into exc k l) (into exc l k)
+      (throwable exc k && throwable exc l)
       (accepts AnyObject k && accepts AnyObject l) k l (ABase true) (ABase false) ATop
       (λ a. into-same l) (λ a b. b)
       (λ a b c. throwable-base l (and-both (throwable exc k) (throwable exc l) c).1)
@@ -274,17 +275,20 @@ module _ (exc : List Name) where
   least-top k l (AnObject n) one other a d =
       absurd (both-false (accepts AnyObject k && accepts AnyObject l)
       (both-true (accepts AnyObject k) (accepts AnyObject l)
-      (accepts-less AnyObject k (AnObject n) one refl) (accepts-less AnyObject l (AnObject n) other refl)) d)
+      (accepts-less AnyObject k (AnObject n) one refl)
+      (accepts-less AnyObject l (AnObject n) other refl)) d)
   least-top k l (ABase t) one other a d =
       absurd (both-false (accepts AnyObject k && accepts AnyObject l)
       (both-true (accepts AnyObject k) (accepts AnyObject l)
-      (accepts-less AnyObject k (ABase t) one refl) (accepts-less AnyObject l (ABase t) other refl)) d)
+      (accepts-less AnyObject k (ABase t) one refl) (accepts-less AnyObject l (ABase t) other refl))
+      d)
 
   -- the merge is below each kind that is above both
   pub merge-least : (k l u : VKind) → into exc k u ≡ true → into exc l u ≡ true
       → into exc (merge exc k l) u ≡ true
   merge-least k l u one other =
-      pick (λ m. into exc m u ≡ true) (into exc k l) (into exc l k) (throwable exc k && throwable exc l)
+      pick (λ m. into exc m u ≡ true) (into exc k l) (into exc l k)
+      (throwable exc k && throwable exc l)
       (accepts AnyObject k && accepts AnyObject l) k l (ABase true) (ABase false) ATop
       (λ a. other) (λ a b. one)
       (λ a b c. least-throwable k l u one other a b
@@ -292,3 +296,10 @@ module _ (exc : List Name) where
       (λ a b c d. least-object k l u one other a b c
       (and-both (accepts AnyObject k) (accepts AnyObject l) d).1)
       (λ a b c d. least-top k l u one other a d)
+
+pub merges_are_least : MergesAreLeast
+merges_are_least exc k l = record {
+  left = merge-left exc k l;
+  right = merge-right exc k l;
+  least = merge-least exc k l;
+}

@@ -1,9 +1,8 @@
 -- Where a pass raises nothing, the table fits.
-use Rattle.std.proofs.Common.{◌≡◌, ℕ, ℤ, zero, suc, pos, negsuc, ◌==◌, ◌⊎◌, inl, inr, ⊎_elim, Bool, true, false, not}
-use Rattle.std.proofs.Common.{◌&&◌, ◌||◌, cond, List, [], ◌∷◌, ◌++◌, length, set, Some, None, Option, refl, sym, ap}
-use Rattle.std.proofs.Common.{subst, ◌∙◌, arith, ◌+◌, ◌≤◌, ◌<◌}
-use Rattle.std.specs.List.{slice_get, Contains}
-use Rattle.std.specs.Prelude.{nat_le}
+use Rattle.std.proofs.Common.{◌≡◌, ℕ, ℤ, pos, negsuc, ◌⊎◌, ⊎_elim, Bool}
+use Rattle.std.proofs.Common.{true, false, not, ◌&&◌, ◌||◌, cond, List, [], ◌∷◌, ◌++◌, length, set}
+use Rattle.std.proofs.Common.{is_some, Some, None, Option, refl, sym, ap, subst, ◌∙◌}
+use Rattle.std.proofs.Common.{◌≤◌}
 use Rattle.par_instr.specs.declared.instr.Instr.{Instr}
 use Rattle.par_instr.specs.Decoding.{Decoded, decoded_at}
 use Rattle.par_class.specs.declared.file.Catch.{Catch}
@@ -11,13 +10,14 @@ use Rattle.par_class.specs.declared.file.CodeAttr.{CodeAttr}
 use Rattle.par_values.specs.Areas.{Name}
 use Rattle.par_single.specs.Walk.{starts_at}
 use Rattle.par_kinds.specs.declared.frame.VKind.{VKind}
-use Rattle.par_kinds.specs.Kinds.{KFrame, into, Both, Into, FrameInto, Each}
+use Rattle.par_kinds.specs.Kinds.{KFrame, FrameInto, Each}
 use Rattle.par_kinds.specs.Acts.{Act, ActFits, left_by, next_offsets}
-use Rattle.par_kinds.specs.Fits.{Given, around, GoesTo, CatchFits, FitsAt, Fitting}
-use Rattle.par_passes.specs.Passes.{Table, frame_at, Way, Step, landed, landed_at, land_to, land, land_all}
-use Rattle.par_passes.specs.Passes.{and_then, rose_with, onward, handled, ways, visit_with, visit_at, visit, pass}
-use Rattle.par_passes.specs.Passes.{all_into, frame_into, merge_frames, act_fits, same_lengths}
-use Rattle.par_passes.proofs.Lower.{all-below, below-both, frame-below, act-decided, all_both}
+use Rattle.par_kinds.specs.Fits.{Given, around, GoesTo, CatchFits, Fitting}
+use Rattle.par_passes.specs.Passes.{Table, frame_at, Way, Step, landed, landed_at, land_to, land}
+use Rattle.par_passes.specs.Passes.{land_all, and_then, rose_with, onward, handled, ways}
+use Rattle.par_passes.specs.Passes.{visit_with, visit_at, visit, pass, all_into, frame_into}
+use Rattle.par_passes.specs.Passes.{merge_frames, act_fits, same_lengths}
+use Rattle.par_passes.proofs.Lower.{all-below, below-both, frame-below, act-decided}
 
 pub neither : (a b : Bool) → (a || b) ≡ false → (a ≡ false) × (b ≡ false)
 neither false b e = (refl, e)
@@ -31,7 +31,8 @@ abbrev pub Among : ℕ → List ℕ → Type 0
 Among n [] = ⊥
 Among n (m ∷ ms) = (n ≡ m) ⊎ Among n ms
 
-module _ (exc : List Name) (act : Instr → Act) (handler_kind : Catch → VKind) (code : CodeAttr) where
+module _ (exc : List Name) (act : Instr → Act) (handler_kind : Catch → VKind) (code : CodeAttr)
+    (start : Given) where
   -- a way goes on in a frame of the table
   pub record Lies (t : Table) (w : Way) : Type 0 where
     at : ℕ
@@ -45,12 +46,13 @@ module _ (exc : List Name) (act : Instr → Act) (handler_kind : Catch → VKind
   abbrev pub Rests : Table → Type 0 → Option Step → Type 0
   Rests t P o = (s : Step) → o ≡ Some s → s.rose ≡ false → (s.table ≡ t) × P
 
-  landed-rests : (t : Table) (at : ℕ) (w : Way) (l : KFrame) → w.to ≡ pos at → frame_at t at ≡ Some l
-      → Rests t (Lies t w) (landed exc act handler_kind code t at w l)
+  landed-rests : (t : Table) (at : ℕ) (w : Way) (l : KFrame) → w.to ≡ pos at → frame_at t at
+      ≡ Some l
+      → Rests t (Lies t w) (landed exc act handler_kind code start t at w l)
   unfolding landed
   landed-rests t at w l to is s =
       tests w.exact refl (all_into exc l.stack w.frame.stack) refl (frame_into exc w.frame l) refl
-      ((at == 0) || not (same_lengths w.frame l))
+      (is_some (start at) || not (same_lengths w.frame l))
     where
       raised : Step
       raised = record { table = set t at (Some (merge_frames exc w.frame l)); rose = true }
@@ -58,7 +60,8 @@ module _ (exc : List Name) (act : Instr → Act) (handler_kind : Catch → VKind
       still : Step
       still = record { table = t; rose = false }
 
-      lies : (x y : Bool) → w.exact ≡ x → all_into exc l.stack w.frame.stack ≡ y → (x && not y) ≡ false
+      lies : (x y : Bool) → w.exact ≡ x → all_into exc l.stack w.frame.stack ≡ y → (x && not y)
+          ≡ false
           → frame_into exc w.frame l ≡ true → Lies t w
       lies x y ex al test below =
           let h = frame-below exc w.frame l below in
@@ -93,7 +96,7 @@ module _ (exc : List Name) (act : Instr → Act) (handler_kind : Catch → VKind
           let same : raised ≡ s = cc e in
           let both : true ≡ false = ap (λ (s : Step). s.rose) same ∙ no_rise in absurd (cc both)
 
-  land-rests : (t : Table) (w : Way) → Rests t (Lies t w) (land exc act handler_kind code t w)
+  land-rests : (t : Table) (w : Way) → Rests t (Lies t w) (land exc act handler_kind code start t w)
   land-rests t w = in_to w.to refl where
     new : (at : ℕ) (b : Bool) (s : Step)
         → cond b (Some (record { table = set t at (Some w.frame); rose = true })) None ≡ Some s
@@ -104,21 +107,21 @@ module _ (exc : List Name) (act : Instr → Act) (handler_kind : Catch → VKind
     new at false s e no_rise = absurd (cc e)
 
     in_at : (at : ℕ) → w.to ≡ pos at → (o : Option KFrame) → frame_at t at ≡ o
-        → Rests t (Lies t w) (landed_at exc act handler_kind code t at w o)
+        → Rests t (Lies t w) (landed_at exc act handler_kind code start t at w o)
     in_at at to (Some l) is = landed-rests t at w l to is
     in_at at to None is = λ s. new at _ s
 
-    in_to : (z : ℤ) → w.to ≡ z → Rests t (Lies t w) (land_to exc act handler_kind code t w z)
+    in_to : (z : ℤ) → w.to ≡ z → Rests t (Lies t w) (land_to exc act handler_kind code start t w z)
     in_to (pos at) to = in_at at to (frame_at t at) refl
     in_to (negsuc n) to = λ s e no_rise. absurd (cc e)
 
   then-rests : (P Q : Type 0) (t : Table) (o : Option Step) (next : Table → Option Step)
       → Rests t P o → Rests t Q (next t)
-      → Rests t (P × Q) (and_then exc act handler_kind code o next)
+      → Rests t (P × Q) (and_then exc act handler_kind code start o next)
   then-rests P Q t None next one other s e no_rise = absurd (cc e)
   then-rests P Q t (Some r) next one other s e no_rise = in_case (next r.table) refl e where
     in_case : (o : Option Step) → next r.table ≡ o
-        → rose_with exc act handler_kind code r.rose o ≡ Some s → (s.table ≡ t) × (P × Q)
+        → rose_with exc act handler_kind code start r.rose o ≡ Some s → (s.table ≡ t) × (P × Q)
     in_case None is e = absurd (cc e)
     in_case (Some q) is e =
         let same : record q { rose = r.rose || q.rose } ≡ s = cc e in
@@ -128,34 +131,35 @@ module _ (exc : List Name) (act : Instr → Act) (handler_kind : Catch → VKind
         (sym (ap (λ (s : Step). s.table) same) ∙ second.0, (first.1, second.1))
 
   all-rests : (ws : List Way) (t : Table)
-      → Rests t (Each (Lies t) ws) (land_all exc act handler_kind code ws t)
+      → Rests t (Each (Lies t) ws) (land_all exc act handler_kind code start ws t)
   all-rests [] t =
       λ s e no_rise. let same : record { table = t; rose = false } ≡ s = cc e in
       (sym (ap (λ (s : Step). s.table) same), tt)
   all-rests (w ∷ ws) t =
-      then-rests (Lies t w) (Each (Lies t) ws) t (land exc act handler_kind code t w)
-      (land_all exc act handler_kind code ws) (land-rests t w) (all-rests ws t)
+      then-rests (Lies t w) (Each (Lies t) ws) t (land exc act handler_kind code start t w)
+      (land_all exc act handler_kind code start ws) (land-rests t w) (all-rests ws t)
 
   -- an instruction whose frame fits
   pub record Settled (t : Table) (at : ℕ) (k : KFrame) : Type 0 where
     does : Decoded
     found : decoded_at code.code at ≡ Some does
     fits : ActFits exc (act does.instr) k
-    lies : Each (Lies t) (ways exc act handler_kind code at does k)
+    lies : Each (Lies t) (ways exc act handler_kind code start at does k)
 
   abbrev pub SettledAt : Table → ℕ → Type 0
   SettledAt t at = (k : KFrame) → frame_at t at ≡ Some k → Settled t at k
 
   visit-rests : (at : ℕ) (t : Table)
-      → Rests t (SettledAt t at) (visit exc act handler_kind code at t)
+      → Rests t (SettledAt t at) (visit exc act handler_kind code start at t)
   visit-rests at t = in_frame (frame_at t at) refl where
     tested : (k : KFrame) (d : Decoded) → decoded_at code.code at ≡ Some d → (b : Bool)
         → act_fits exc (act d.instr) k ≡ b
         → Rests t (Settled t at k)
-        (cond b (land_all exc act handler_kind code (ways exc act handler_kind code at d k) t) None)
+        (cond b (land_all exc act handler_kind code start
+        (ways exc act handler_kind code start at d k) t) None)
     tested k d found false test s e no_rise = absurd (cc e)
     tested k d found true test s e no_rise =
-        let done = all-rests (ways exc act handler_kind code at d k) t s e no_rise in (
+        let done = all-rests (ways exc act handler_kind code start at d k) t s e no_rise in (
           done.0,
           record {
             does = d;
@@ -166,13 +170,13 @@ module _ (exc : List Name) (act : Instr → Act) (handler_kind : Catch → VKind
         )
 
     in_code : (k : KFrame) (o : Option Decoded) → decoded_at code.code at ≡ o
-        → Rests t (Settled t at k) (visit_with exc act handler_kind code at k o t)
+        → Rests t (Settled t at k) (visit_with exc act handler_kind code start at k o t)
     in_code k None found s e no_rise = absurd (cc e)
     in_code k (Some d) found s e no_rise =
         tested k d found (act_fits exc (act d.instr) k) refl s e no_rise
 
     in_frame : (o : Option KFrame) → frame_at t at ≡ o
-        → Rests t (SettledAt t at) (visit_at exc act handler_kind code at o t)
+        → Rests t (SettledAt t at) (visit_at exc act handler_kind code start at o t)
     in_frame None is s e no_rise =
         let same : record { table = t; rose = false } ≡ s = cc e in (
           sym (ap (λ (s : Step). s.table) same),
@@ -186,13 +190,14 @@ module _ (exc : List Name) (act : Instr → Act) (handler_kind : Catch → VKind
         )
 
   pub pass-rests : (ats : List ℕ) (t : Table)
-      → Rests t (Each (SettledAt t) ats) (pass exc act handler_kind code ats t)
+      → Rests t (Each (SettledAt t) ats) (pass exc act handler_kind code start ats t)
   pass-rests [] t =
       λ s e no_rise. let same : record { table = t; rose = false } ≡ s = cc e in
       (sym (ap (λ (s : Step). s.table) same), tt)
   pass-rests (at ∷ ats) t =
-      then-rests (SettledAt t at) (Each (SettledAt t) ats) t (visit exc act handler_kind code at t)
-      (pass exc act handler_kind code ats) (visit-rests at t) (pass-rests ats t)
+      then-rests (SettledAt t at) (Each (SettledAt t) ats) t
+      (visit exc act handler_kind code start at t)
+      (pass exc act handler_kind code start ats) (visit-rests at t) (pass-rests ats t)
 
   among-each : (P : ℕ → Type 0) (ats : List ℕ) (n : ℕ) → Each P ats → Among n ats → P n
   among-each P [] n each is = absurd is
@@ -220,7 +225,7 @@ module _ (exc : List Name) (act : Instr → Act) (handler_kind : Catch → VKind
       }
 
   catches : (t : Table) (k : KFrame) (at : ℕ) (cs : List Catch)
-      → Each (Lies t) (handled exc act handler_kind code at k cs)
+      → Each (Lies t) (handled exc act handler_kind code start at k cs)
       → Each (λ c. around at c ≡ true → CatchFits exc act handler_kind code (frame_at t) k c) cs
   unfolding handled
   catches t k at [] each = tt
@@ -233,9 +238,9 @@ module _ (exc : List Name) (act : Instr → Act) (handler_kind : Catch → VKind
     }
 
     in_case : (b : Bool) → around at c ≡ b
-        → Each (Lies t) (cond b (way ∷ handled exc act handler_kind code at k cs)
-        (handled exc act handler_kind code at k cs))
-        → (Each (Lies t) (handled exc act handler_kind code at k cs)
+        → Each (Lies t) (cond b (way ∷ handled exc act handler_kind code start at k cs)
+        (handled exc act handler_kind code start at k cs))
+        → (Each (Lies t) (handled exc act handler_kind code start at k cs)
         → Each (λ c. around at c ≡ true → CatchFits exc act handler_kind code (frame_at t) k c) cs)
         → (around at c ≡ true → CatchFits exc act handler_kind code (frame_at t) k c)
         × Each (λ c. around at c ≡ true → CatchFits exc act handler_kind code (frame_at t) k c) cs
@@ -244,7 +249,8 @@ module _ (exc : List Name) (act : Instr → Act) (handler_kind : Catch → VKind
         (λ is. let both : false ≡ true = sym e ∙ is in absurd (cc both), later each)
 
   lies-split : (t : Table) (k : KFrame) (tos : List ℤ) (at : ℕ) (cs : List Catch) (left : KFrame)
-      → Each (Lies t) (onward exc act handler_kind code left tos ++ handled exc act handler_kind code at k cs)
+      → Each (Lies t) (onward exc act handler_kind code start left tos
+      ++ handled exc act handler_kind code start at k cs)
       → Each (GoesTo exc act handler_kind code (frame_at t) left) tos
       × Each (λ c. around at c ≡ true → CatchFits exc act handler_kind code (frame_at t) k c) cs
   lies-split t k (to ∷ tos) at cs left each =
@@ -258,7 +264,7 @@ module _ (exc : List Name) (act : Instr → Act) (handler_kind : Catch → VKind
   pub still-fits : (ats : List ℕ) (t : Table) (first : KFrame) (s : Step)
       → frame_at t 0 ≡ Some first
       → ((at : ℕ) (k : KFrame) → frame_at t at ≡ Some k → Among at ats × IsSized at k)
-      → pass exc act handler_kind code ats t ≡ Some s → s.rose ≡ false
+      → pass exc act handler_kind code start ats t ≡ Some s → s.rose ≡ false
       → Fitting exc act handler_kind code (frame_at t) first
   still-fits ats t first s begins covered passed no_rise = record {
     begins = begins;
@@ -266,7 +272,8 @@ module _ (exc : List Name) (act : Instr → Act) (handler_kind : Catch → VKind
         let settled = among-each (SettledAt t) ats at (pass-rests ats t s passed no_rise).1
         (covered at k has).0 k has in
         let size = (covered at k has).1 in
-        let both = lies-split t k (next_offsets (act settled.does.instr).flow at settled.does.size) at
+        let both = lies-split t k (next_offsets (act settled.does.instr).flow at settled.does.size)
+        at
         code.catches
         (left_by (act settled.does.instr).leaves (length (act settled.does.instr).takes) k)
         settled.lies in

@@ -1,7 +1,8 @@
 -- The least frames of a method, by passes over its code by offset: what each instruction leaves is
 -- merged into the frames of those at which it goes on.
-use Rattle.std.specs.Prelude.{◌≡◌, ℕ, zero, suc, ◌+◌, ◌*◌, ◌==◌, ℤ, pos, negsuc, Bool, true, false, not, ◌&&◌, ◌||◌}
-use Rattle.std.specs.Prelude.{if◌then◌else◌, nat_le, nat_lt, List, [], ◌∷◌, ◌++◌, length, map, slice_set, Option, Some, None}
+use Rattle.std.specs.Prelude.{◌≡◌, ℕ, zero, suc, ◌+◌, ◌*◌, ◌==◌, ℤ, pos, negsuc, Bool, true, false}
+use Rattle.std.specs.Prelude.{not, ◌&&◌, ◌||◌, if◌then◌else◌, nat_le, nat_lt, is_some, List, []}
+use Rattle.std.specs.Prelude.{◌∷◌, ◌++◌, length, slice_set, Option, Some, None}
 use Rattle.std.specs.List.{slice_get}
 use Rattle.par_instr.specs.declared.instr.Instr.{Instr}
 use Rattle.par_instr.specs.Decoding.{Decoded, decoded_at}
@@ -15,8 +16,8 @@ use Rattle.par_kinds.specs.declared.frame.VKind.{VKind}
 use Rattle.par_kinds.specs.declared.frame.VKind.TheVariants.{Top as ATop, Int as AnInt}
 use Rattle.par_kinds.specs.declared.frame.VKind.TheVariants.{Null as ANull, Object as AnObject}
 use Rattle.par_kinds.specs.declared.frame.VKind.TheVariants.{Base as ABase}
-use Rattle.par_kinds.specs.Kinds.{KFrame, into, accepts, throwable, exceptional, kind_at, Both}
-use Rattle.par_kinds.specs.Kinds.{Into, FrameInto, Each}
+use Rattle.par_kinds.specs.Kinds.{KFrame, into, accepts, throwable, exceptional, kind_at}
+use Rattle.par_kinds.specs.Kinds.{FrameInto}
 use Rattle.par_kinds.specs.Acts.{Act, Also, ActFits, left_by, next_offsets}
 use Rattle.par_kinds.specs.Acts as also
 use Rattle.par_kinds.specs.Fits.{Given, around}
@@ -95,13 +96,15 @@ pub record Step : Type 0 where
 abbrev pub same_lengths : KFrame → KFrame → Bool
 same_lengths k l = length k.locals == length l.locals && length k.stack == length l.stack
 
-module _ (exc : List Name) (act : Instr → Act) (handler_kind : Catch → VKind) (code : CodeAttr) where
-  -- into a frame that is kept; at offset 0 none rises
+-- `start` gives the frames that are there from the start: none of them rises
+module _ (exc : List Name) (act : Instr → Act) (handler_kind : Catch → VKind) (code : CodeAttr)
+    (start : Given) where
+  -- into a frame that is kept
   unfoldable pub landed : Table → ℕ → Way → KFrame → Option Step
   landed t at w l =
       if w.exact && not (all_into exc l.stack w.frame.stack) then None
       else if frame_into exc w.frame l then Some (record { table = t; rose = false })
-      else if at == 0 || not (same_lengths w.frame l) then None
+      else if is_some (start at) || not (same_lengths w.frame l) then None
       else Some (record {
         table = slice_set t at (Some (merge_frames exc w.frame l));
         rose = true;
@@ -178,6 +181,15 @@ Below exc t u =
     (at : ℕ) (k : KFrame) → frame_at t at ≡ Some k →
     (l : KFrame) × (u at ≡ Some l) × FrameInto exc k l
 
+-- frames are those that are there from the start
+abbrev pub StartsWith : Given → Given → Type 0
+StartsWith start u = (at : ℕ) (k : KFrame) → start at ≡ Some k → u at ≡ Some k
+
+-- what is found are such frames and below all such frames, or there are none
+abbrev pub Judged : List Name → (Given → Type 0) → Option Table → Type 0
+Judged exc Fits None = (u : Given) → Fits u → ⊥
+Judged exc Fits (Some t) = Fits (frame_at t) × ((u : Given) → Fits u → Below exc t u)
+
 -- how far a kind can rise
 abbrev pub height : VKind → ℕ
 height ATop = 0
@@ -205,28 +217,62 @@ abbrev pub round_on : Option Step → (Table → Option Table) → Option Table
 round_on None next = None
 round_on (Some s) next = if s.rose then next s.table else Some s.table
 
-module _ (exc : List Name) (act : Instr → Act) (handler_kind : Catch → VKind) (code : CodeAttr) where
-  -- passes until one raises nothing
-  unfoldable pub rounds : List ℕ → ℕ → Table → Option Table
-  rounds ats zero t = None
-  rounds ats (suc n) t = round_on (pass exc act handler_kind code ats t) (rounds ats n)
-
--- the first frame at offset 0, and none elsewhere
-abbrev pub first_table : KFrame → List ℕ → Table
-first_table first [] = []
-first_table first (op ∷ bytes) = Some first ∷ map (λ b. None) bytes
+-- the frames that are there from the start, by the offsets of code
+abbrev pub start_table : Given → ℕ → List ℕ → Table
+start_table start at [] = []
+start_table start at (op ∷ bytes) = start at ∷ start_table start (suc at) bytes
 
 -- the offsets of code
 abbrev pub offsets_from : ℕ → List ℕ → List ℕ
 offsets_from at [] = []
 offsets_from at (op ∷ bytes) = at ∷ offsets_from (suc at) bytes
 
-module _ (exc : List Name) (act : Instr → Act) (handler_kind : Catch → VKind) (code : CodeAttr) where
-  -- the least frames of a method that begins with this one, where there are some
-  abbrev pub least_frames : KFrame → Option Table
-  least_frames first =
-      if length first.locals == code.max_locals then rounds exc act handler_kind code
-      (offsets_from 0 code.code)
-      (suc (weights (4 * (code.max_locals + code.max_stack)) (first_table first code.code)))
-      (first_table first code.code)
+-- a frame that stands where an instruction does, and has the numbers of places that it needs
+abbrev pub is_sized : CodeAttr → ℕ → KFrame → Bool
+is_sized code at k =
+    starts_at code.code at && length k.locals == code.max_locals
+    && nat_le (length k.stack) code.max_stack
+
+abbrev pub are_sized : CodeAttr → ℕ → Table → Bool
+are_sized code at [] = true
+are_sized code at (None ∷ t) = are_sized code (suc at) t
+are_sized code at (Some k ∷ t) = is_sized code at k && are_sized code (suc at) t
+
+module _ (exc : List Name) (act : Instr → Act) (handler_kind : Catch → VKind) (code : CodeAttr)
+    (start : Given) where
+  -- passes until one raises nothing
+  unfoldable pub rounds : List ℕ → ℕ → Table → Option Table
+  rounds ats zero t = None
+  rounds ats (suc n) t = round_on (pass exc act handler_kind code start ats t) (rounds ats n)
+
+  -- the least frames, where there are some
+  abbrev pub least_from : Table → Option Table
+  least_from t =
+      if are_sized code 0 t
+      then rounds (offsets_from 0 code.code)
+      (suc (weights (4 * (code.max_locals + code.max_stack)) t)) t
       else None
+
+-- the frame of a call at offset 0, and those that are told behind it
+abbrev pub from_start : KFrame → Given → Given
+from_start first told zero = Some first
+from_start first told (suc at) = told (suc at)
+
+-- what is told of offset 0 is the frame of a call
+abbrev pub begins_as : List Name → KFrame → Option KFrame → Bool
+begins_as exc first None = true
+begins_as exc first (Some k) = frame_into exc k first && frame_into exc first k
+
+module _ (exc : List Name) (act : Instr → Act) (handler_kind : Catch → VKind) (code : CodeAttr)
+    (first : KFrame) where
+  -- the least frames of a method that begins with this one, of which some are told
+  abbrev pub frames_as_told : Given → Option Table
+  frames_as_told told =
+      if starts_at code.code 0 && begins_as exc first (told 0)
+      then least_from exc act handler_kind code (from_start first told)
+      (start_table (from_start first told) 0 code.code)
+      else None
+
+  -- the least of all
+  abbrev pub least_frames : Option Table
+  least_frames = frames_as_told (λ at. None)

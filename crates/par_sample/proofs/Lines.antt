@@ -70,7 +70,8 @@ begin_class bs first class = ap (λ l. bs ++ l) (sym (append-nil (line (class_te
 
 -- and has one method more
 pub more_methods : (bs : Text) (first class method : ℕ)
-    → (bs ++ flat_map line (class_begun first class method)) ++ line (method_line first class method)
+    → (bs ++ flat_map line (class_begun first class method))
+    ++ line (method_line first class method)
     ≡ bs ++ flat_map line (class_begun first class (method + 1))
 more_methods bs first class method =
     flat_map_more line bs (class_begun first class method) (method_line first class method)

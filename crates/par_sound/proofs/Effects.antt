@@ -1,7 +1,7 @@
 -- What an operation leaves is of the kinds that its act leaves.
-use Rattle.std.proofs.Common.{◌≡◌, ℕ, ℤ, zero, suc, ◌+◌, ◌<◌, Bool, true, false, not, ◌||◌, List, []}
-use Rattle.std.proofs.Common.{◌∷◌, ◌++◌, map, length, take, drop, reverse, Some, None, Option, refl, sym}
-use Rattle.std.proofs.Common.{ap, subst, ◌∙◌, arith, is_none, cond}
+use Rattle.std.proofs.Common.{◌≡◌, ℕ, ℤ, zero, suc, ◌+◌, ◌<◌, Bool, true, false, not, ◌||◌, List}
+use Rattle.std.proofs.Common.{[], ◌∷◌, ◌++◌, map, length, take, drop, reverse, Some, None, Option}
+use Rattle.std.proofs.Common.{refl, sym, ap, subst, ◌∙◌, arith, is_none, cond}
 use Rattle.std.specs.List.{slice_get}
 use Rattle.std.proofs.lemmas.List.{length-reverse}
 use mathlib.Core.List.{reverse-cons}
@@ -15,16 +15,18 @@ use Rattle.par_values.specs.declared.link.FieldLink.{FieldLink}
 use Rattle.par_values.specs.declared.link.MethodLink.{MethodLink}
 use Rattle.par_values.specs.declared.link.Target.{Target}
 use Rattle.par_values.specs.declared.link.Target.TheVariants as target
-use Rattle.par_values.specs.Areas.{Areas, Objects, class_named, value_or_null, operand, local_at, pop}
-use Rattle.par_values.specs.Areas.{Name, push, set_field, with_object, first_locals, first_value, next_number, fits, field_at}
+use Rattle.par_values.specs.Areas.{Areas, Objects, class_named, value_or_null, operand, local_at}
+use Rattle.par_values.specs.Areas.{pop, Name, push, set_field, with_object, first_locals}
+use Rattle.par_values.specs.Areas.{first_value, next_number, fits, field_at}
 use Rattle.par_values.specs.Operations.{Operation, Push, PushNull, Load, Store, Discard, Copy}
 use Rattle.par_values.specs.Operations.{Combine, Negate, Increase, Jump, JumpIf, JumpIfBoth}
 use Rattle.par_values.specs.Operations.{JumpIfSame, JumpIfNull, GetStatic, PutStatic, GetField}
 use Rattle.par_values.specs.Operations.{PutField, InvokeStatic, InvokeSpecial, InvokeVirtual}
 use Rattle.par_values.specs.Operations.{Create, Throw, Leave, LeaveWith, Misnamed}
-use Rattle.par_values.specs.Effects.{Effect, Goes, Happens, Calls, Throws, ThrowsObject}
-use Rattle.par_values.specs.Effects.{Returns, ReturnsWith, effect, called, called_on, arguments, jumps_if}
-use Rattle.par_values.specs.Effects.{combines, field_read, field_written, thrown, created, is_same, comes}
+use Rattle.par_values.specs.Effects.{Effect, Goes, Happens, Calls, Throws, ThrowsObject, Returns}
+use Rattle.par_values.specs.Effects.{ReturnsWith, effect, called, called_on, arguments, jumps_if}
+use Rattle.par_values.specs.Effects.{combines, field_read, field_written, thrown, created, is_same}
+use Rattle.par_values.specs.Effects.{comes}
 use Rattle.par_values.specs.Effects as to
 use Rattle.par_values.specs.Reasons.{is_of, is_result}
 use Rattle.par_values.specs.declared.run.Event.{Event}
@@ -39,19 +41,19 @@ use Rattle.par_kinds.specs.declared.frame.VKind.TheVariants.{Top as ATop, Int as
 use Rattle.par_kinds.specs.declared.frame.VKind.TheVariants.{Null as ANull, Object as AnObject}
 use Rattle.par_kinds.specs.declared.frame.VKind.TheVariants.{Base as ABase}
 use Rattle.par_kinds.specs.Kinds.{KFrame, vkind, Both, kind_at, accepts, Front}
-use Rattle.par_kinds.specs.Acts.{Act, ActFits, Flow, Onward, Jumps, Branches, left_by}
-use Rattle.par_kinds.specs.Acts.{Gives, Also, Accepts}
-use Rattle.par_kinds.specs.Linked.{acted, also_asked, exception_names, results_of, kinds_given, result_of, coded_at}
-use Rattle.par_kinds.specs.Linked.{first_frame, given_to, taken_by, static_at, arguments_of}
+use Rattle.par_kinds.specs.Acts.{Act, ActFits, Flow, Onward, Jumps, Branches, left_by, Gives, Also}
+use Rattle.par_kinds.specs.Acts.{Accepts}
+use Rattle.par_kinds.specs.Linked.{acted, also_asked, exception_names, results_of, kinds_given}
+use Rattle.par_kinds.specs.Linked.{result_of, coded_at, first_frame, given_to, taken_by, static_at}
+use Rattle.par_kinds.specs.Linked.{arguments_of}
 use Rattle.par_sound.specs.States.{Has, Live, Good, Holds, HeapFits, Keeps, class_kinds}
-use Rattle.par_sound.specs.Right.{AreRight, FieldRight, TargetRight, ClassRight}
-use Rattle.par_sound.specs.Right.{OwnField}
+use Rattle.par_sound.specs.Right.{AreRight, FieldRight, TargetRight, ClassRight, OwnField}
 use Rattle.par_kinds.proofs.Lists.{both-drop, both-put, both-set, both-length}
-use Rattle.par_sound.proofs.Values.{int-good, null-good, fits-has, fits-accepted, has-fits, thrown-throwable}
-use Rattle.par_sound.proofs.Values.{live_class}
+use Rattle.par_sound.proofs.Values.{int-good, null-good, fits-has, fits-accepted, has-fits}
+use Rattle.par_sound.proofs.Values.{thrown-throwable, live_class}
 use Rattle.par_sound.proofs.Heap.{Grows, grows-not, goods-grow, held-grow, static-put, static-got}
-use Rattle.par_sound.proofs.Heap.{field-got, field-put, field-grows, birth-grows, birth-fits, birth-live}
-use Rattle.par_sound.proofs.Heap.{first-fields}
+use Rattle.par_sound.proofs.Heap.{field-got, field-put, field-grows, birth-grows, birth-fits}
+use Rattle.par_sound.proofs.Heap.{birth-live, first-fields}
 use Rattle.par_sound.proofs.Places.{operand-good, local-holds, held-good, one-taken, kept-good}
 use Rattle.par_sound.proofs.Places.{entered-holds, arguments-keep}
 
@@ -138,7 +140,8 @@ module _ (files : List ClassFile) (right : AreRight files) (gives : Option Kind)
   Fine act e = EffectFits files a.objects gives act k e
 
   -- operands are taken and others are pushed
-  pushed : (n : ℕ) (ks : List VKind) (vs : List MVal) → Both (Good files a.objects) (ks ++ drop n k.stack) (vs ++ drop n a.operands)
+  pushed : (n : ℕ) (ks : List VKind) (vs : List MVal)
+      → Both (Good files a.objects) (ks ++ drop n k.stack) (vs ++ drop n a.operands)
       → After files a.objects (record { locals = k.locals; stack = ks ++ drop n k.stack })
       (record a { operands = vs ++ drop n a.operands })
   pushed n ks vs both =
@@ -301,7 +304,8 @@ module _ (files : List ClassFile) (right : AreRight files) (gives : Option Kind)
         locals = locals;
         operands = (
           int-good files right _ a.objects,
-          subst (λ (j : ℕ). Both (Good files a.objects) (drop j k.stack) (drop n a.operands)) (sym same-many) (dropped n),
+          subst (λ (j : ℕ). Both (Good files a.objects) (drop j k.stack) (drop n a.operands))
+              (sym same-many) (dropped n),
         );
       },
     )
@@ -316,17 +320,21 @@ module _ (files : List ClassFile) (right : AreRight files) (gives : Option Kind)
     called-fits (target.Code class method many_locals) known =
         let kept : Both (Keeps files a.objects) order (arguments n a) =
         subst (λ (j : ℕ). Both (Keeps files a.objects) order (reverse (take j a.operands))) many
-        (arguments-keep files right a.objects order kinds k.stack a.operands turned front operands) in
+        (arguments-keep files right a.objects order kinds k.stack a.operands turned front
+        operands) in
         let goods = kept-good files right a.objects order (arguments n a) kept in
         let whole : Both (Good files a.objects) (arguments_of files class method) (arguments n a) =
         subst (λ (o : List Kind). Both (Good files a.objects) (map vkind o) (arguments n a))
         known.2 goods in
-        let same = both-length (Good files a.objects) (arguments_of files class method) (arguments n a) whole in
+        let same = both-length (Good files a.objects) (arguments_of files class method)
+        (arguments n a) whole in
         record {
           coded = known.0;
-          left = subst (λ (j : ℕ). After files a.objects (without j k) (pop n a)) (sym same-many) (popped n);
+          left = subst (λ (j : ℕ). After files a.objects (without j k) (pop n a)) (sym same-many)
+              (popped n);
           entered = subst
-              (λ (l : ℕ). Both (Holds files a.objects) (first_frame files class method).locals (first_locals l (arguments n a)))
+              (λ (l : ℕ). Both (Holds files a.objects) (first_frame files class method).locals
+              (first_locals l (arguments n a)))
               (sym known.1)
               (entered-holds files right a.objects (method_code files class method).max_locals
               (arguments_of files class method) (arguments n a) same whole);
@@ -392,7 +400,8 @@ module _ (files : List ClassFile) (right : AreRight files) (gives : Option Kind)
           locals = held-grow files a.objects after grows k.locals a.locals locals;
           operands = (
             record {
-              has = (bytes_eq-Decides (class_named (class_names files) c.number) c.name).1 known.named;
+              has = (bytes_eq-Decides (class_named (class_names files) c.number) c.name).1
+                  known.named;
               live = birth-live files right a heap c.number fields known.in_range;
             },
             goods-grow files a.objects after grows k.stack a.operands operands,
@@ -478,7 +487,8 @@ module _ (files : List ClassFile) (right : AreRight files) (gives : Option Kind)
       (tt, one 0 (vkind f.kind) _ (static-got files right a heap f.place f.kind (known.0 is)))
   effect-fits (PutStatic f) n known fits =
       let is = truly f.is_static (neither (not f.is_static) false fits.right).0 in
-      let value = one-taken files right a.objects (f.kind ∷ []) k.stack a.operands 0 f.kind fits.takes operands refl in (
+      let value = one-taken files right a.objects (f.kind ∷ []) k.stack a.operands 0 f.kind
+      fits.takes operands refl in (
         tt,
         record {
           grows = grows-not a.objects;
@@ -494,10 +504,10 @@ module _ (files : List ClassFile) (right : AreRight files) (gives : Option Kind)
       got-fits (operand 0 a) f (acted files gives n (GetField f)) (known.1 is) object refl refl
   effect-fits (PutField f) n known fits =
       let is = (neither f.is_static false fits.right).0 in
-      let object = one-taken files right a.objects (f.kind ∷ Object f.class ∷ []) k.stack a.operands 1
-      (Object f.class) fits.takes operands refl in
-      let value = one-taken files right a.objects (f.kind ∷ Object f.class ∷ []) k.stack a.operands 0
-      f.kind fits.takes operands refl in
+      let object = one-taken files right a.objects (f.kind ∷ Object f.class ∷ []) k.stack a.operands
+      1 (Object f.class) fits.takes operands refl in
+      let value = one-taken files right a.objects (f.kind ∷ Object f.class ∷ []) k.stack a.operands
+      0 f.kind fits.takes operands refl in
       put-fits (operand 1 a) (operand 0 a) f (acted files gives n (PutField f)) (known.1 is) object
       value refl refl
   effect-fits (InvokeStatic m) n known fits =

@@ -1,7 +1,7 @@
 -- Where an exception goes, frames fit.
 use Rattle.std.proofs.Common.{◌≡◌, ℕ, zero, suc, ◌+◌, ◌≤◌, ◌==◌, Bool, true, false, not, ◌&&◌, ◌||◌}
-use Rattle.std.proofs.Common.{cond, List, [], ◌∷◌, length, Some, None, Option, refl, sym, ap, subst, ◌∙◌, arith, codes}
-use Rattle.std.proofs.Common.{◌++◌}
+use Rattle.std.proofs.Common.{cond, List, [], ◌∷◌, length, Some, None, Option, refl, sym, ap, subst}
+use Rattle.std.proofs.Common.{◌∙◌, arith, codes, ◌++◌}
 use Rattle.std.proofs.lemmas.List.{length-map}
 use Rattle.std.specs.List.{slice_get}
 use Rattle.std.proofs.lemmas.Slice.Eq.{bytes_eq-Decides}
@@ -19,18 +19,18 @@ use Rattle.par_link.specs.declared.entry.Builtin.TheVariants as builtin
 use Rattle.par_link.specs.declared.entry.Named.{Named}
 use Rattle.par_link.specs.declared.entry.Named.TheVariants as named
 use Rattle.par_link.specs.Linked.{named_at}
-use Rattle.par_steps.specs.Classes.{class_names, exceptions, arithmetic_exception, null_pointer_exception}
+use Rattle.par_steps.specs.Classes.{class_names, exceptions, arithmetic_exception}
+use Rattle.par_steps.specs.Classes.{null_pointer_exception}
 use Rattle.par_steps.specs.Methods.{method_code}
 use Rattle.par_steps.specs.State.{Frame}
-use Rattle.par_steps.specs.Handlers.{caught, caught_by, handler_in, first_handler, is_lost, is_roomless}
-use Rattle.par_steps.specs.Handlers.{covers, named_takes, builtin_takes}
-use Rattle.par_steps.specs.Handlers.{takes}
+use Rattle.par_steps.specs.Handlers.{caught, caught_by, handler_in, first_handler, is_lost}
+use Rattle.par_steps.specs.Handlers.{is_roomless, covers, named_takes, builtin_takes, takes}
 use Rattle.par_kinds.specs.declared.frame.VKind.{VKind}
 use Rattle.par_kinds.specs.declared.frame.VKind.TheVariants.{Base as ABase}
 use Rattle.par_kinds.specs.Kinds.{KFrame, Each, Both, Into}
 use Rattle.par_kinds.specs.Fits.{FitsAt, CatchFits, around}
-use Rattle.par_kinds.specs.Linked.{AllGiven, AllFit, exception_names, act_at, caught_kind, named_kind}
-use Rattle.par_kinds.specs.Linked.{builtin_kind, result_of}
+use Rattle.par_kinds.specs.Linked.{AllGiven, AllFit, exception_names, act_at, caught_kind}
+use Rattle.par_kinds.specs.Linked.{named_kind, builtin_kind, result_of}
 use Rattle.par_sound.specs.States.{Has, Live, Good, Holds, Stands, Runs, Below}
 use Rattle.par_sound.specs.Right.{AreRight}
 use Rattle.par_kinds.proofs.Lists.{both-length}
@@ -48,7 +48,8 @@ past (x ∷ xs) ys zero i e = absurd (omega (arith, e))
 past (x ∷ xs) ys (suc n) i e = past xs ys n i (omega (arith, e))
 
 module _ (files : List ClassFile) (given : AllGiven) (right : AreRight files)
-    (fit : AllFit files given) (objects : Objects) (many : length objects ≡ length (class_names files)) where
+    (fit : AllFit files given) (objects : Objects)
+    (many : length objects ≡ length (class_names files)) where
   -- what is known of the place of a frame
   abbrev pub At : (f : Frame) → KFrame → Type 0
   At f k =
@@ -139,7 +140,8 @@ module _ (files : List ClassFile) (given : AllGiven) (right : AreRight files)
   unfolding Has
   named-takes (named.Class own) class n is taken =
       let same : class ≡ own = eqb-true class own taken in
-      (bytes_eq-Decides (class_named (class_names files) class) (class_named (class_names files) own)).1
+      (bytes_eq-Decides (class_named (class_names files) class)
+      (class_named (class_names files) own)).1
       (ap (class_named (class_names files)) same)
   named-takes (named.Builtin b) class n is taken = builtin-takes b class n is taken
   named-takes m class n is taken = absurd (cc taken)

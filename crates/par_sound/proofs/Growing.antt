@@ -10,7 +10,8 @@ use Rattle.par_kinds.specs.Linked.{AllGiven, result_of}
 use Rattle.par_sound.specs.States.{Stands, Below, Takes}
 use Rattle.par_sound.proofs.Heap.{Grows, goods-grow, held-grow}
 
-module _ (files : List ClassFile) (given : AllGiven) (some more : Objects) (grows : Grows some more) where
+module _ (files : List ClassFile) (given : AllGiven) (some more : Objects)
+    (grows : Grows some more) where
   pub stands-grow : (f : Frame) → Stands files given some f → Stands files given more f
   stands-grow f s = record {
     coded = s.coded;

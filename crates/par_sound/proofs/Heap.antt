@@ -1,21 +1,19 @@
 -- Objects are never lost, and fields keep values of their kinds.
-use Rattle.std.proofs.Common.{◌≡◌, ℕ, zero, suc, ◌+◌, ◌<◌, ◌≤◌, List, [], ◌∷◌, ◌++◌}
-use Rattle.std.proofs.Common.{map, length, set, Some, None, Option, refl, sym, subst, ◌∙◌, arith}
-use Rattle.std.proofs.Common.{length-set, length-append}
+use Rattle.std.proofs.Common.{◌≡◌, ℕ, zero, suc, ◌+◌, ◌<◌, ◌≤◌, List, [], ◌∷◌, ◌++◌, map, length}
+use Rattle.std.proofs.Common.{set, Some, None, Option, refl, sym, subst, ◌∙◌, arith, length-set}
+use Rattle.std.proofs.Common.{length-append}
 use Rattle.std.specs.List.{slice_get}
 use Rattle.par_class.specs.declared.file.ClassFile.{ClassFile}
 use Rattle.par_values.specs.declared.value.MVal.{MVal}
 use Rattle.par_values.specs.declared.value.MVal.TheVariants.{Int, Null, Ref}
 use Rattle.par_values.specs.declared.kind.Kind.{Kind}
-use Rattle.par_values.specs.Areas.{Areas, Objects, first_value, list_or_none}
-use Rattle.par_values.specs.Areas.{value_or_null, object_at, field_at, set_field, with_object}
-use Rattle.par_values.specs.Areas.{next_number}
+use Rattle.par_values.specs.Areas.{Areas, Objects, first_value, list_or_none, value_or_null}
+use Rattle.par_values.specs.Areas.{object_at, field_at, set_field, with_object, next_number}
 use Rattle.par_steps.specs.Classes.{class_names}
 use Rattle.par_kinds.specs.declared.frame.VKind.{VKind}
 use Rattle.par_kinds.specs.declared.frame.VKind.TheVariants.{Top as ATop}
 use Rattle.par_kinds.specs.Kinds.{vkind, Each, Both}
-use Rattle.par_sound.specs.States.{Live, Good, Holds, HeapFits, Keeps, static_kinds}
-use Rattle.par_sound.specs.States.{class_kinds}
+use Rattle.par_sound.specs.States.{Live, Good, Holds, HeapFits, Keeps, static_kinds, class_kinds}
 use Rattle.par_sound.specs.Right.{AreRight}
 use Rattle.par_kinds.proofs.Lists.{both-more, both-put, both-get, each-more, each-append, each-set}
 use Rattle.par_sound.proofs.Values.{first-good}

@@ -1,7 +1,6 @@
 -- What places of kinds hold.
-use Rattle.std.proofs.Common.{◌≡◌, ℕ, zero, suc, ◌-◌, ◌≤◌, true, List, [], ◌∷◌}
-use Rattle.std.proofs.Common.{map, length, take, reverse, replicate, Some, None, Option, refl}
-use Rattle.std.proofs.Common.{ap, subst, ◌∙◌, arith}
+use Rattle.std.proofs.Common.{◌≡◌, ℕ, zero, suc, ◌-◌, ◌≤◌, true, List, [], ◌∷◌, map, length, take}
+use Rattle.std.proofs.Common.{reverse, replicate, Some, None, Option, refl, ap, subst, ◌∙◌, arith}
 use Rattle.std.specs.List.{slice_get}
 use Rattle.std.proofs.lemmas.List.{length-reverse, reverse-append}
 use mathlib.Core.List.{reverse-cons}
@@ -107,7 +106,8 @@ module _ (files : List ClassFile) (right : AreRight files) (objects : Objects) w
       both-append (Holds files objects) ks (replicate (many - length ks) ATop) (map Some vs)
       (replicate (many - length vs) None) (some-held ks vs both)
       (subst
-      (λ (n : ℕ). Both (Holds files objects) (replicate (many - length ks) ATop) (replicate (many - n) None))
+      (λ (n : ℕ). Both (Holds files objects) (replicate (many - length ks) ATop)
+      (replicate (many - n) None))
       same (both-replicate (Holds files objects) (many - length ks) ATop None tt))
 
   -- arguments in their order
@@ -123,7 +123,8 @@ module _ (files : List ClassFile) (right : AreRight files) (objects : Objects) w
       subst
       (λ (n : ℕ). Both (Keeps files objects) (reverse (reverse order)) (reverse (take n vs)))
       (length-reverse order) some in
-      subst (λ (kinds : List Kind). Both (Keeps files objects) kinds (reverse (take (length order) vs)))
+      subst (λ (kinds : List Kind). Both (Keeps files objects) kinds
+      (reverse (take (length order) vs)))
       (reverse-twice order) turned
 
   pub all-fit : (kinds : List Kind) (ks : List VKind) (vs : List MVal) → Front Accepts kinds ks

@@ -1,10 +1,10 @@
 -- No reason stands against an operation whose act fits.
-use Rattle.std.proofs.Common.{◌≡◌, ℕ, ℤ, pos, ◌+ℤ◌, suc, ◌+◌, ◌-◌, ◌≤◌, Bool, true, false, not, ◌&&◌, ◌||◌}
-use Rattle.std.proofs.Common.{cond, List, [], ◌∷◌, ◌++◌, length, drop, replicate, Some, None, Option}
-use Rattle.std.proofs.Common.{refl, sym, ap, subst, ◌∙◌, arith, is_none, is_some, length-append, length-drop}
+use Rattle.std.proofs.Common.{◌≡◌, ℕ, ℤ, pos, ◌+ℤ◌, suc, ◌+◌, ◌-◌, ◌≤◌, Bool, true, false, not}
+use Rattle.std.proofs.Common.{◌&&◌, ◌||◌, cond, List, [], ◌∷◌, ◌++◌, length, drop, replicate, Some}
+use Rattle.std.proofs.Common.{None, Option, refl, sym, ap, subst, ◌∙◌, arith, is_none, is_some}
+use Rattle.std.proofs.Common.{length-append, length-drop, codes}
 use Rattle.std.proofs.lemmas.Bool.{le-ltb, lt-ltb}
-use Rattle.std.proofs.lemmas.List.{length-map}
-use Rattle.std.proofs.lemmas.List.{length-replicate}
+use Rattle.std.proofs.lemmas.List.{length-map, length-replicate}
 use Rattle.par_instr.specs.declared.instr.Instr.{Instr}
 use Rattle.par_instr.specs.declared.instr.Instr.TheVariants as instr
 use Rattle.par_class.specs.declared.file.CodeAttr.{CodeAttr}
@@ -24,13 +24,12 @@ use Rattle.par_values.specs.Operations.{JumpIfSame, JumpIfNull, GetStatic, PutSt
 use Rattle.par_values.specs.Operations.{PutField, InvokeStatic, InvokeSpecial, InvokeVirtual}
 use Rattle.par_values.specs.Operations.{Create, Throw, Leave, LeaveWith, Misnamed, takes, gives}
 use Rattle.par_values.specs.Operations.{operation, of_field, of_method, of_class, constant}
-use Rattle.par_values.specs.Effects.{Effect, Goes, Happens, Calls, Throws, ThrowsObject}
-use Rattle.par_values.specs.Effects.{Returns, ReturnsWith, effect}
+use Rattle.par_values.specs.Effects.{Effect, Goes, Happens, Calls, Throws, ThrowsObject, Returns}
+use Rattle.par_values.specs.Effects.{ReturnsWith, effect}
 use Rattle.par_values.specs.Effects as to
 use Rattle.par_values.specs.Reasons.{Spot, reason, reasons, least_from, misnamed, disagrees, lacks}
-use Rattle.par_values.specs.Reasons.{unfit, misgiven, exceeds, misplaced, falls, misreturns, misused, throws}
-use Rattle.par_values.specs.Reasons.{unfit_result, holds, is_crowded}
-use Rattle.std.proofs.Common.{codes}
+use Rattle.par_values.specs.Reasons.{unfit, misgiven, exceeds, misplaced, falls, misreturns}
+use Rattle.par_values.specs.Reasons.{misused, throws, unfit_result, holds, is_crowded}
 use Rattle.std.specs.Str.{bytes_eq}
 use Rattle.par_values.specs.declared.run.Event.{Event}
 use Rattle.par_values.specs.declared.run.Event.TheVariants as event
@@ -43,18 +42,19 @@ use Rattle.par_single.specs.Walk.{stands_at}
 use Rattle.par_steps.specs.Classes.{class_names, exceptions}
 use Rattle.par_steps.specs.Methods.{method_code}
 use Rattle.par_steps.specs.Links.{link_at}
-use Rattle.par_steps.specs.Step.{is_misreceived, is_no_exception, called_on_object, next_of, without_locks}
+use Rattle.par_steps.specs.Step.{is_misreceived, is_no_exception, called_on_object, next_of}
+use Rattle.par_steps.specs.Step.{without_locks}
 use Rattle.par_kinds.specs.declared.frame.VKind.{VKind}
 use Rattle.par_kinds.specs.declared.frame.VKind.TheVariants.{Top as ATop, Int as AnInt}
 use Rattle.par_kinds.specs.declared.frame.VKind.TheVariants.{Null as ANull, Object as AnObject}
-use Rattle.par_kinds.specs.Kinds.{KFrame, vkind, Each, Both, kind_at, accepts}
-use Rattle.par_kinds.specs.Kinds.{Into}
+use Rattle.par_kinds.specs.Kinds.{KFrame, vkind, Each, Both, kind_at, accepts, Into}
 use Rattle.par_kinds.specs.Acts.{Act, ActFits, Flow, Onward, Jumps, Branches, Nowhere, left_by}
 use Rattle.par_kinds.specs.Acts.{next_offsets, AlsoFits}
 use Rattle.par_kinds.specs.Fits.{FitsAt, GoesTo}
-use Rattle.par_kinds.specs.Linked.{AllGiven, AllFit, acted, act_at, exception_names, results_of, named_by}
-use Rattle.par_kinds.specs.Linked.{result_of, coded_at, first_frame, kinds_given, left, flow_of, misgives}
-use Rattle.par_kinds.specs.Linked.{arguments_of, given_to, static_at, taken_by, caught_kind, also_received}
+use Rattle.par_kinds.specs.Linked.{AllGiven, AllFit, acted, act_at, exception_names, results_of}
+use Rattle.par_kinds.specs.Linked.{named_by, result_of, coded_at, first_frame, kinds_given, left}
+use Rattle.par_kinds.specs.Linked.{flow_of, misgives, arguments_of, given_to, static_at, taken_by}
+use Rattle.par_kinds.specs.Linked.{caught_kind, also_received}
 use Rattle.par_sound.specs.States.{Good, Holds, HeapFits}
 use Rattle.par_sound.specs.Right.{AreRight, LinkRight, TargetRight}
 use Rattle.par_kinds.proofs.Lists.{both-length}
@@ -122,15 +122,16 @@ module _ (files : List ClassFile) (right : AreRight files) (class : ℕ) where
 
   -- ---- the receiver of the initializer of all exceptions
 
-  module _ (given : Option Kind) (a : Areas) (k : KFrame) (heap : HeapFits files a.statics a.objects)
+  module _ (given : Option Kind) (a : Areas) (k : KFrame)
+      (heap : HeapFits files a.statics a.objects)
       (operands : Both (Good files a.objects) k.stack a.operands) where
     received : (n : Named) → AlsoFits (exception_names files) (also_received n) k
         → is_no_exception (exceptions files) n (operand 0 a) ≡ false
     received (named.Initializer builtin.Exception) also =
         let good = operand-good files right a.objects k.stack a.operands 0 operands in
         let can = exceptional-thrown files right (kind_at k.stack 0) also in
-        ap not (thrown-throwable files right (kind_at k.stack 0) (operand 0 a) a.objects heap.many can
-        good.has good.live)
+        ap not (thrown-throwable files right (kind_at k.stack 0) (operand 0 a) a.objects heap.many
+        can good.has good.live)
     received n also = refl
 
     virtual-received : (n : Named) (l : Link)
@@ -439,7 +440,8 @@ module _ (files : List ClassFile) (given : AllGiven) (right : AreRight files)
       let rest : length (replicate (max - length args) ATop) ≡ max - length args =
       length-replicate (max - length args) ATop in
       let same : length args ≡ length order =
-      length-map (given_to (static_at files c p) (class_named (class_names files) c) (taken_by files c p)) vkind
+      length-map (given_to (static_at files c p) (class_named (class_names files) c)
+      (taken_by files c p)) vkind
       ∙ ap length (sym known.2) in
       le-ltb many n (omega (arith, first.locals, whole, rest, same, known.1, is))
 
@@ -457,7 +459,8 @@ module _ (files : List ClassFile) (given : AllGiven) (right : AreRight files)
       (local-holds files right a.objects k.locals a.locals x locals))
   misplaced-not (InvokeStatic m) n known fits e =
       crowded-not m.target m.takes (length m.takes) refl
-      (static-order files right result a k heap locals operands m m.target (truly m.is_static e) known)
+      (static-order files right result a k heap locals operands m m.target (truly m.is_static e)
+      known)
   misplaced-not (InvokeSpecial m) n known fits e =
       crowded-not m.target (m.receiver ∷ m.takes) (length m.takes + 1) (omega arith)
       (own-order files right result a k heap locals operands m m.target e known)
@@ -503,10 +506,12 @@ module _ (files : List ClassFile) (given : AllGiven) (right : AreRight files)
       none-of 1 (reasons (class_names files) (spot_of stands lost roomless) o a) (
         lacks-not,
         (
-          nor (misgiven (class_names files) (spot_of stands lost roomless) o a) (unfit (class_names files) o a)
+          nor (misgiven (class_names files) (spot_of stands lost roomless) o a)
+              (unfit (class_names files) o a)
               (misgiven-not o n stands lost roomless here.fits) unfit-not,
           (
-            nor (roomless && throws done) (exceeds code.max_stack o a) (nand roomless (throws done) none)
+            nor (roomless && throws done) (exceeds code.max_stack o a)
+                (nand roomless (throws done) none)
                 exceeds-not,
             (
               misplaced-not o n known here.fits disagrees-not,

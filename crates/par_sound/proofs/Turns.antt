@@ -1,7 +1,7 @@
 -- Where frames fit, each instruction is run and leaves a state that fits.
-use Rattle.std.proofs.Common.{◌≡◌, ℕ, ℤ, pos, suc, ◌+◌, ◌+ℤ◌, ◌<◌, ◌==◌, Bool, true, false}
-use Rattle.std.proofs.Common.{cond, ◌||◌, ◌⊎◌, inl, inr, ⊎_elim, List, [], ◌∷◌, ◌++◌, length, drop, Some, None, Option}
-use Rattle.std.proofs.Common.{refl, sym, ap, subst, ◌∙◌, arith, codes, length-append}
+use Rattle.std.proofs.Common.{◌≡◌, ℕ, ℤ, pos, suc, ◌+◌, ◌+ℤ◌, ◌<◌, ◌==◌, Bool, true, false, cond}
+use Rattle.std.proofs.Common.{◌||◌, ◌⊎◌, inl, inr, ⊎_elim, List, [], ◌∷◌, ◌++◌, length, drop, Some}
+use Rattle.std.proofs.Common.{None, Option, refl, sym, ap, subst, ◌∙◌, arith, codes, length-append}
 use Rattle.std.specs.List.{list_any}
 use Rattle.std.specs.Str.{bytes_eq}
 use Rattle.std.proofs.lemmas.List.{length-map}
@@ -14,40 +14,39 @@ use Rattle.par_values.specs.declared.value.MVal.TheVariants.{Int, Null, Ref}
 use Rattle.par_values.specs.declared.kind.Kind.{Kind}
 use Rattle.par_values.specs.declared.run.Event.TheVariants as event
 use Rattle.par_values.specs.Areas.{Areas, Objects, Name, first_locals, with_object, next_number}
-use Rattle.par_values.specs.Effects.{Effect, Goes, Happens, Calls, Throws, ThrowsObject}
-use Rattle.par_values.specs.Effects.{Returns, ReturnsWith, effect}
+use Rattle.par_values.specs.Effects.{Effect, Goes, Happens, Calls, Throws, ThrowsObject, Returns}
+use Rattle.par_values.specs.Effects.{ReturnsWith, effect}
 use Rattle.par_values.specs.Effects as to
 use Rattle.par_values.specs.Reasons.{is_of, reason}
 use Rattle.par_values.specs.Operations.{operation}
 use Rattle.par_steps.specs.Links.{link_at}
 use Rattle.par_single.specs.Members.{own_name, own_names}
-use Rattle.par_steps.specs.Classes.{class_names, is_exception, exceptions, exceptions_from, exception_named}
+use Rattle.par_steps.specs.Classes.{class_names, is_exception, exceptions, exceptions_from}
+use Rattle.par_steps.specs.Classes.{exception_named}
 use Rattle.par_steps.specs.Methods.{method_code}
 use Rattle.par_steps.specs.State.{Frame, State, entered}
 use Rattle.par_steps.specs.Handlers.{caught, is_lost, is_roomless}
-use Rattle.par_steps.specs.Step.{turn, turn_of, turn_at, decided, applied}
-use Rattle.par_steps.specs.Step.{areas_of, moved, state_with, offset, past, returned, returned_with}
-use Rattle.par_steps.specs.Step.{thrown_to, done_by, without_locks, reason_against, handlers}
-use Rattle.par_steps.specs.Step.{thrown_class, spot, or_2, called_on_object, size_of}
-use Rattle.par_steps.specs.Step.{is_misreceived}
+use Rattle.par_steps.specs.Step.{turn, turn_of, turn_at, decided, applied, areas_of, moved}
+use Rattle.par_steps.specs.Step.{state_with, offset, past, returned, returned_with, thrown_to}
+use Rattle.par_steps.specs.Step.{done_by, without_locks, reason_against, handlers, thrown_class}
+use Rattle.par_steps.specs.Step.{spot, or_2, called_on_object, size_of, is_misreceived}
 use Rattle.par_kinds.specs.declared.frame.VKind.{VKind}
 use Rattle.par_kinds.specs.Kinds.{KFrame, vkind, Both, Into, FrameInto}
 use Rattle.par_kinds.specs.Acts.{Act, left_by, Gives}
 use Rattle.par_kinds.specs.Fits.{FitsAt, GoesTo}
 use Rattle.par_kinds.specs.Linked.{AllGiven, AllFit, exception_names, result_of, first_frame}
 use Rattle.par_kinds.specs.Linked.{kinds_given, act_at, caught_kind}
-use Rattle.par_sound.specs.States.{Live, Good, HeapFits, Runs, Below}
-use Rattle.par_sound.specs.States.{FramesFit, StateFits, TurnFits, Takes, Keeps, class_kinds}
-use Rattle.par_sound.specs.States.{kinds_in}
+use Rattle.par_sound.specs.States.{Live, Good, HeapFits, Runs, Below, FramesFit, StateFits}
+use Rattle.par_sound.specs.States.{TurnFits, Takes, Keeps, class_kinds, kinds_in}
 use Rattle.par_sound.specs.Right.{AreRight}
 use Rattle.par_sound.specs.Laws.{StatesStayFit}
 use Rattle.par_sound.proofs.Values.{good-into}
-use Rattle.par_sound.proofs.Heap.{Grows, birth-grows, birth-fits}
-use Rattle.par_sound.proofs.Heap.{birth-live}
+use Rattle.par_sound.proofs.Heap.{Grows, birth-grows, birth-fits, birth-live}
 use Rattle.par_sound.proofs.Growing.{stands-grow, below-grow}
 use Rattle.par_sound.proofs.Effects.{EffectFits, After, Behind, Towards, Called, after_act}
 use Rattle.par_sound.proofs.Frames.{CaughtFit, caught-fit, caught-found, locals-into, stack-into}
-use Rattle.par_sound.proofs.Reasons.{here, done, done-fits, reason-none, goes-behind, goes-to, not-misreceived}
+use Rattle.par_sound.proofs.Reasons.{here, done, done-fits, reason-none, goes-behind, goes-to}
+use Rattle.par_sound.proofs.Reasons.{not-misreceived}
 
 -- ---- the exceptions that every program has
 
@@ -111,12 +110,14 @@ module _ (files : List ClassFile) (given : AllGiven) (right : AreRight files)
 
   -- what writes to a lock does is the same without its event
   locks-fit : (e : Effect) (objects : Objects) (gives : Option Kind) (act : Act) (k : KFrame)
-      → EffectFits files objects gives act k e → EffectFits files objects gives act k (without_locks e)
+      → EffectFits files objects gives act k e
+      → EffectFits files objects gives act k (without_locks e)
   locks-fit (Happens (event.Set class name v) a) objects gives act k fits =
       in_case (bytes_eq class (codes "paragon/Locks"))
     where
       in_case : (b : Bool)
-          → EffectFits files objects gives act k (cond b (Goes a) (Happens (event.Set class name v) a))
+          → EffectFits files objects gives act k
+          (cond b (Goes a) (Happens (event.Set class name v) a))
       in_case true = fits
       in_case false = fits
   locks-fit e objects gives act k fits = fits
@@ -137,7 +138,8 @@ module _ (files : List ClassFile) (given : AllGiven) (right : AreRight files)
     abbrev place : FitsAt (exception_names files) (act_at files f.class f.method)
         (caught_kind files f.class) (method_code files f.class f.method) (given f.class f.method)
         f.at k
-    place = here files given right fit f.class f.method f.at runs.stands.coded a k runs.stands.at heap
+    place =
+        here files given right fit f.class f.method f.at runs.stands.coded a k runs.stands.at heap
         runs.stands.locals runs.operands
 
     abbrev d : Decoded
@@ -206,8 +208,7 @@ module _ (files : List ClassFile) (given : AllGiven) (right : AreRight files)
         ∙ ap (given f.class f.method) (sym same) ∙ g.has in
         let fits : FrameInto (exception_names files)
         (left_by (Gives (kinds_given (result_of files c p))) (length act.takes) k) g.frame =
-        subst
-        (λ l. FrameInto (exception_names files) (left_by l (length act.takes) k) g.frame)
+        subst (λ l. FrameInto (exception_names files) (left_by l (length act.takes) k) g.frame)
         called.leaves g.fits in
         record {
           heap = h.heap;
@@ -263,19 +264,21 @@ module _ (files : List ClassFile) (given : AllGiven) (right : AreRight files)
       heap-after : HeapFits files after.statics after.objects
       heap-after =
           birth-fits files right a heap class []
-          (subst (λ (ks : List Kind). Both (Keeps files s.objects) ks []) (sym (named-fieldless name)) tt)
+          (subst (λ (ks : List Kind). Both (Keeps files s.objects) ks [])
+          (sym (named-fieldless name)) tt)
 
       next-caught : CaughtFit files given right fit after.objects heap-after.many
           (Ref class (next_number class a)) (caught files class (f ∷ frames))
       next-caught =
-          caught-fit files given right fit after.objects heap-after.many class (next_number class a) f
-          frames (named-exception name (next_number class a))
+          caught-fit files given right fit after.objects heap-after.many class (next_number class a)
+          f frames (named-exception name (next_number class a))
           (birth-live files right a heap class [] (named-in-range name))
           (stands-grow files given s.objects after.objects grows f runs.stands)
           (below-grow files given s.objects after.objects grows result frames below)
 
     object-caught : (c n : ℕ) → Live s.objects (Ref c n) → is_of (exceptions files) (Ref c n) ≡ true
-        → CaughtFit files given right fit s.objects heap.many (Ref c n) (caught files c (f ∷ frames))
+        → CaughtFit files given right fit s.objects heap.many (Ref c n)
+        (caught files c (f ∷ frames))
     object-caught c n live is =
         caught-fit files given right fit s.objects heap.many c n f frames is live runs.stands below
 
@@ -377,7 +380,8 @@ module _ (files : List ClassFile) (given : AllGiven) (right : AreRight files)
     applied-fits (to.Jumps j after) fits =
         let g = towards j fits.0 in
         let same : offset (pos f.at +ℤ j) ≡ g.at = ap offset g.is in
-        subst (λ (at : ℕ). StateFits files given (state_with (moved at after f ∷ frames) after)) (sym same)
+        subst (λ (at : ℕ). StateFits files given (state_with (moved at after f ∷ frames) after))
+        (sym same)
         (moved-fits g.at after
         (record { at = g.at; is = refl; frame = g.frame; has = g.has; fits = g.fits }) fits.1)
     applied-fits (Calls c p many args after) fits =
@@ -386,7 +390,8 @@ module _ (files : List ClassFile) (given : AllGiven) (right : AreRight files)
         thrown-fits (Ref (class name) (next_number (class name) a)) (class name)
         (caught files (class name) (f ∷ frames)) (after name) (heap-after name) (next-caught name)
     applied-fits (ThrowsObject (Ref c n)) fits =
-        thrown-fits (Ref c n) c (caught files c (f ∷ frames)) a heap (object-caught c n fits.0 fits.1)
+        thrown-fits (Ref c n) c (caught files c (f ∷ frames)) a heap
+        (object-caught c n fits.0 fits.1)
     applied-fits (ThrowsObject Null) fits = tt
     applied-fits (ThrowsObject (Int v)) fits = tt
     applied-fits Returns fits =
@@ -398,7 +403,8 @@ module _ (files : List ClassFile) (given : AllGiven) (right : AreRight files)
 
     effect-here : EffectFits files s.objects result act k (done_by files f.class d.instr a)
     effect-here =
-        locks-fit (done files given right fit f.class f.method f.at runs.stands.coded a k runs.stands.at
+        locks-fit (done files given right fit f.class f.method f.at runs.stands.coded a k
+        runs.stands.at
         heap runs.stands.locals runs.operands) s.objects result act k
         (done-fits files given right fit f.class f.method f.at runs.stands.coded a k runs.stands.at
         heap runs.stands.locals runs.operands)
@@ -406,14 +412,14 @@ module _ (files : List ClassFile) (given : AllGiven) (right : AreRight files)
     nothing-against : reason_against files d f frames a ≡ None
     nothing-against =
         let found = thrown-found (done_by files f.class d.instr a) effect-here in
-        let left = handlers files (thrown_class files (done_by files f.class d.instr a)) (f ∷ frames) in
+        let left = handlers files (thrown_class files (done_by files f.class d.instr a))
+        (f ∷ frames) in
         let none = reason-none files given right fit f.class f.method f.at runs.stands.coded a k
         runs.stands.at heap runs.stands.locals runs.operands (is_lost files left)
         (is_roomless files left) found.0 found.1 in
         let received : is_misreceived files f.class (called_on_object d.instr) a ≡ false =
         not-misreceived files right f.class result a k heap runs.operands d.instr place.fits in
-        ap
-        (λ b. or_2 b (reason (class_names files)
+        ap (λ b. or_2 b (reason (class_names files)
         (spot files f frames d.size (done_by files f.class d.instr a))
         (operation (link_at files f.class) d.instr) a)) received ∙ none
 
@@ -430,4 +436,5 @@ module _ (files : List ClassFile) (given : AllGiven) (right : AreRight files)
 
 pub states_stay_fit : StatesStayFit
 unfolding turn
-states_stay_fit files given s right fit fits = frames-fit files given right fit s.frames s fits.heap fits.frames
+states_stay_fit files given s right fit fits =
+    frames-fit files given right fit s.frames s fits.heap fits.frames

@@ -1,6 +1,7 @@
 -- Values of kinds.
 use Rattle.std.proofs.Common.{◌≡◌, ℕ, ℤ, zero, suc, ◌<◌, ◌==◌, Bool, true, false, ◌||◌, List, []}
-use Rattle.std.proofs.Common.{◌∷◌, map, length, Some, None, Option, refl, sym, ap, subst, ◌∙◌, arith}
+use Rattle.std.proofs.Common.{◌∷◌, map, length, Some, None, Option, refl, sym, ap, subst, ◌∙◌}
+use Rattle.std.proofs.Common.{arith}
 use Rattle.std.specs.List.{slice_get, list_any}
 use Rattle.std.specs.Str.{bytes_eq}
 use Rattle.std.proofs.lemmas.Bool.{eq-eqb}
@@ -17,8 +18,7 @@ use Rattle.par_kinds.specs.declared.frame.VKind.{VKind}
 use Rattle.par_kinds.specs.declared.frame.VKind.TheVariants.{Top as ATop, Int as AnInt}
 use Rattle.par_kinds.specs.declared.frame.VKind.TheVariants.{Null as ANull, Object as AnObject}
 use Rattle.par_kinds.specs.declared.frame.VKind.TheVariants.{Base as ABase}
-use Rattle.par_kinds.specs.Kinds.{vkind, into, accepts, throwable, exceptional, Each}
-use Rattle.par_kinds.specs.Kinds.{Into}
+use Rattle.par_kinds.specs.Kinds.{vkind, into, accepts, throwable, exceptional, Each, Into}
 use Rattle.par_sound.specs.States.{Has, Live, Good, Holds, is_object}
 use Rattle.par_sound.specs.Right.{AreRight}
 use Rattle.par_kinds.specs.Linked.{exception_names}

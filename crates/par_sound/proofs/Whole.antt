@@ -1,6 +1,6 @@
 -- A run of files whose frames fit never comes to bad code.
-use Rattle.std.proofs.Common.{◌≡◌, ℕ, zero, suc, ◌+◌, ◌-◌, List, [], ◌∷◌, map, length}
-use Rattle.std.proofs.Common.{replicate, pos, Some, None, Option, refl, sym, ap, subst, ◌∙◌, arith}
+use Rattle.std.proofs.Common.{◌≡◌, ℕ, zero, suc, ◌+◌, ◌-◌, List, [], ◌∷◌, map, length, replicate}
+use Rattle.std.proofs.Common.{pos, Some, None, Option, refl, sym, ap, subst, ◌∙◌, arith}
 use Rattle.std.specs.List.{slice_get, filter}
 use Rattle.std.proofs.lemmas.List.{length-replicate}
 use Rattle.par_class.specs.declared.file.FieldFile.{FieldFile}
@@ -19,7 +19,8 @@ use Rattle.par_steps.specs.Run.{run, followed, class_number}
 use Rattle.par_kinds.specs.declared.frame.VKind.{VKind}
 use Rattle.par_kinds.specs.declared.frame.VKind.TheVariants.{Top as ATop}
 use Rattle.par_kinds.specs.Kinds.{vkind, Each, Both}
-use Rattle.par_kinds.specs.Linked.{AllGiven, AllFit, first_frame, arguments_of, padded, given_to, taken_by}
+use Rattle.par_kinds.specs.Linked.{AllGiven, AllFit, first_frame, arguments_of, padded, given_to}
+use Rattle.par_kinds.specs.Linked.{taken_by}
 use Rattle.par_sound.specs.States.{HeapFits, StateFits, TurnFits, FramesFit, Holds, Keeps}
 use Rattle.par_sound.specs.States.{all_shared, shared_kinds, class_kinds}
 use Rattle.par_sound.specs.Right.{AreRight}
@@ -48,7 +49,8 @@ module _ (files : List ClassFile) (given : AllGiven) (right : AreRight files)
   none = no_objects files
 
   firsts : (entries : List Constant) (fs : List FieldFile)
-      → Both (Keeps files none) (map (kind_of entries) fs) (map (λ f. first_value (kind_of entries f)) fs)
+      → Both (Keeps files none) (map (kind_of entries) fs)
+      (map (λ f. first_value (kind_of entries f)) fs)
   firsts entries [] = tt
   firsts entries (f ∷ fs) = (first-good files right (kind_of entries f) none, firsts entries fs)
 
@@ -65,7 +67,8 @@ module _ (files : List ClassFile) (given : AllGiven) (right : AreRight files)
   start-heap = record {
     fields = both-append (Keeps files none) (all_shared files) (replicate 256 Number)
         (class_statics files) (replicate 256 (Int (pos 0))) (first-fields files)
-        (both-replicate (Keeps files none) 256 Number (Int (pos 0)) (first-good files right Number none));
+        (both-replicate (Keeps files none) 256 Number (Int (pos 0))
+        (first-good files right Number none));
     many = nones-many (length files + 2) ∙ sym (all-many files given right fit);
     each = λ c. subst (Each (Both (Keeps files none) (class_kinds files c)))
         (sym (no-objects-of (length files + 2) c)) tt;
@@ -80,14 +83,14 @@ module _ (files : List ClassFile) (given : AllGiven) (right : AreRight files)
       ap
       (λ s. map vkind
       (given_to s (class_named (class_names files) class) (taken_by files class method)))
-      is.static
-      ∙ ap (map vkind) is.takes in (
+      is.static ∙ ap (map vkind) is.takes in (
         record {
           stands = record {
             coded = is.coded;
             kinds = first_frame files class method;
             at = (fit class method is.coded).begins;
-            locals = subst (λ (ks : List VKind). Both (Holds files none) (padded max ks) (replicate max None))
+            locals = subst (λ (ks : List VKind). Both (Holds files none) (padded max ks)
+                (replicate max None))
                 (sym bare)
                 (subst
                 (λ (n : ℕ). Both (Holds files none) (replicate n ATop) (replicate max None))
@@ -109,7 +112,8 @@ module _ (files : List ClassFile) (given : AllGiven) (right : AreRight files)
   run-fine : (m : ℕ) (s : State) → StateFits files given s → IsFine (run files m s).ending
   run-fine zero s fits = tt
   run-fine (suc m) s fits =
-      followed-fine (turn files s) (run files m) (states_stay_fit files given s right fit fits) (run-fine m)
+      followed-fine (turn files s) (run files m) (states_stay_fit files given s right fit fits)
+      (run-fine m)
 
 pub fitting_files_are_never_bad : FittingFilesAreNeverBad
 fitting_files_are_never_bad files given main inputs m right fit is =

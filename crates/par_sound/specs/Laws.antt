@@ -1,6 +1,5 @@
 -- Where frames fit, code is never bad.
-use Rattle.std.specs.Prelude.{◌≡◌, ℕ, true, List, []}
-use Rattle.std.specs.Prelude.{Option, Some, None}
+use Rattle.std.specs.Prelude.{◌≡◌, ℕ, true, List, [], Option, Some, None}
 use Rattle.std.specs.List.{slice_get}
 use Rattle.par_class.specs.declared.file.ClassFile.{ClassFile}
 use Rattle.par_values.specs.declared.inputs.Inputs.{Inputs}
@@ -9,8 +8,7 @@ use Rattle.par_steps.specs.Run.{class_number, machine_run}
 use Rattle.par_values.specs.Areas.{Name}
 use Rattle.par_steps.specs.State.{State, main_place}
 use Rattle.par_steps.specs.Step.{turn}
-use Rattle.par_kinds.specs.Linked.{AllGiven, AllFit, taken_by, static_at}
-use Rattle.par_kinds.specs.Linked.{coded_at}
+use Rattle.par_kinds.specs.Linked.{AllGiven, AllFit, taken_by, static_at, coded_at}
 use Rattle.par_sound.specs.States.{StateFits, TurnFits}
 use Rattle.par_sound.specs.Right.{AreRight}
 

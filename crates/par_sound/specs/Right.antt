@@ -1,6 +1,5 @@
 -- What is known of the links of class files: each says what is so.
-use Rattle.std.specs.Prelude.{◌≡◌, ℕ, ◌<◌, true, false, List, length}
-use Rattle.std.specs.Prelude.{Some, is_some}
+use Rattle.std.specs.Prelude.{◌≡◌, ℕ, ◌<◌, true, false, List, length, Some, is_some}
 use Rattle.std.specs.List.{slice_get}
 use Rattle.par_class.specs.declared.file.ClassFile.{ClassFile}
 use Rattle.par_values.specs.declared.kind.Kind.TheVariants.{Object}
@@ -16,8 +15,7 @@ use Rattle.par_steps.specs.Classes.{class_names, exceptions}
 use Rattle.par_steps.specs.Methods.{method_code}
 use Rattle.par_steps.specs.Links.{link_at}
 use Rattle.par_kinds.specs.Kinds.{Each}
-use Rattle.par_kinds.specs.Linked.{result_of, taken_by, static_at}
-use Rattle.par_kinds.specs.Linked.{coded_at}
+use Rattle.par_kinds.specs.Linked.{result_of, taken_by, static_at, coded_at}
 use Rattle.par_sound.specs.States.{static_kinds, class_kinds}
 
 pub record OwnField (files : List ClassFile) (f : FieldLink) : Type 0 where
@@ -31,13 +29,14 @@ FieldRight files f =
     (f.is_static ≡ true → slice_get (static_kinds files) f.place ≡ Some f.kind)
     × (f.is_static ≡ false → OwnField files f)
 
-pub record CodeRight (files : List ClassFile) (m : MethodLink) (class method locals : ℕ) : Type 0 where
-  pub coded : coded_at files class method ≡ true
-  pub room : locals ≡ (method_code files class method).max_locals
-  pub takes : m.takes ≡ taken_by files class method
-  pub gives : m.gives ≡ is_some (result_of files class method)
-  pub static : m.is_static ≡ static_at files class method
-  pub receiver : m.receiver ≡ Object (class_named (class_names files) class)
+pub record CodeRight (files : List ClassFile) (m : MethodLink) (class method locals : ℕ) : Type 0
+  where
+    pub coded : coded_at files class method ≡ true
+    pub room : locals ≡ (method_code files class method).max_locals
+    pub takes : m.takes ≡ taken_by files class method
+    pub gives : m.gives ≡ is_some (result_of files class method)
+    pub static : m.is_static ≡ static_at files class method
+    pub receiver : m.receiver ≡ Object (class_named (class_names files) class)
 
 abbrev pub TargetRight : List ClassFile → MethodLink → Target → Type 0
 TargetRight files m (target.Input class name) = m.gives ≡ true

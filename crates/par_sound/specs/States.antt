@@ -18,8 +18,7 @@ use Rattle.par_kinds.specs.declared.frame.VKind.TheVariants.{Top as ATop, Int as
 use Rattle.par_kinds.specs.declared.frame.VKind.TheVariants.{Null as ANull, Object as AnObject}
 use Rattle.par_kinds.specs.declared.frame.VKind.TheVariants.{Base as ABase}
 use Rattle.par_kinds.specs.Kinds.{KFrame, vkind, Both, Each, Into}
-use Rattle.par_kinds.specs.Linked.{AllGiven, result_of}
-use Rattle.par_kinds.specs.Linked.{coded_at, exception_names}
+use Rattle.par_kinds.specs.Linked.{AllGiven, result_of, coded_at, exception_names}
 
 -- ---- values
 
@@ -77,11 +76,12 @@ class_kinds files class = kinds_in (slice_get files class)
 abbrev pub Keeps : List ClassFile → Objects → Kind → MVal → Type 0
 Keeps files objects kind v = Good files objects (vkind kind) v
 
-pub record HeapFits (files : List ClassFile) (statics : List MVal) (objects : Objects) : Type 0 where
-  pub fields : Both (Keeps files objects) (static_kinds files) statics
-  pub many : length objects ≡ length (class_names files)
-  pub each : (c : ℕ) →
-      Each (Both (Keeps files objects) (class_kinds files c)) (list_or_none (slice_get objects c))
+pub record HeapFits (files : List ClassFile) (statics : List MVal) (objects : Objects) : Type 0
+  where
+    pub fields : Both (Keeps files objects) (static_kinds files) statics
+    pub many : length objects ≡ length (class_names files)
+    pub each : (c : ℕ) →
+        Each (Both (Keeps files objects) (class_kinds files c)) (list_or_none (slice_get objects c))
 
 -- ---- frames
 

@@ -27,5 +27,6 @@ returns-clause-text c first at =
     let ten : c.loop-method.method ≡ 10 =
     omega (arith, c.loop-method-test.false, c.loop-method.auto.method-end) in
     on_ok_weaker c.add_line-2.result
-    (all_lines _ _ (string_bytes c.add_line-2.new.text) first c.args.class c.loop-method.method ten text)
+    (all_lines _ _ (string_bytes c.add_line-2.new.text) first c.args.class c.loop-method.method ten
+    text)
     c.add_line-2.ensures
