@@ -14,4 +14,6 @@ mod meaning;
 #[cfg(test)]
 mod observers;
 #[cfg(test)]
+mod releases;
+#[cfg(test)]
 mod typed_trees;

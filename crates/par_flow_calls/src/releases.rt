@@ -1,0 +1,89 @@
+//! Releases of worked programs: where an open lock matters to an actor.
+
+use crate::typed_trees::typed;
+use par_audit::{Release, audit};
+use par_check::{Accepted, check};
+use par_lexer::list::List;
+use par_worked::{AUCTION, expect};
+use std::alloc::Global;
+use std::rt::HostRuntime;
+use std::test::Fail;
+
+const SHOP: &[u8] = b"actor alice, bob;
+lock Paid;
+class Shop {
+  ?{alice:; bob: Paid} input int key();
+  ?{alice:; bob:} output void show(int v);
+  static void main() !bottom {
+    open Paid; show(key());
+  }
+}
+";
+
+const ALICE: u8 = 0;
+
+const BOB: u8 = 1;
+
+// Where the key is put out, and where the best bid is set.
+const SHOWS: u32 = 171;
+
+const SETS: u32 = 339;
+
+// The most policies and classes that a table has, and the most bodies of a program.
+const POLICIES: usize = 256;
+
+const CLASSES: usize = 65_536;
+
+const BODIES: usize = 65_536;
+
+fn accepted(alloc: Global, source: &[u8]) -> Result<Accepted, Fail> {
+    let typed = typed(alloc, source)?;
+    if typed.table.policies.len() > POLICIES || typed.table.classes.len() > CLASSES {
+        return Err(Fail::new("a table that is too long"));
+    }
+    if typed.bodies.len() > BODIES {
+        return Err(Fail::new("too many bodies"));
+    }
+    Ok(check(alloc, typed)?)
+}
+
+fn releases(alloc: Global, source: &[u8], actor: u8) -> Result<List<Release>, Fail> {
+    let accepted = accepted(alloc, source)?;
+    let table = &accepted.typed().table;
+    if table.policies.len() > POLICIES || table.classes.len() > CLASSES {
+        return Err(Fail::new("a table that is too long"));
+    }
+    if usize::from(actor) >= table.actors.len() {
+        return Err(Fail::new("no such actor"));
+    }
+    Ok(audit(alloc, &accepted, actor)?)
+}
+
+// One release and no other.
+fn is_only(releases: &List<Release>, rule: u16, at: u32) -> bool {
+    match releases.get(0) {
+        None => false,
+        Some(first) => releases.len() == 1 && first.rule == rule && first.at == at,
+    }
+}
+
+#[test]
+fn the_shop_releases_its_key_to_bob_alone(rt: HostRuntime) -> Result<(), Fail> {
+    let alloc = rt.alloc();
+    let to_bob = releases(alloc, SHOP, BOB)?;
+    expect(
+        is_only(&to_bob, 403, SHOWS),
+        "where the key is shown to bob",
+    )?;
+    let to_alice = releases(alloc, SHOP, ALICE)?;
+    expect(to_alice.len() == 0, "alice may see it at any time")
+}
+
+#[test]
+fn the_auction_releases_the_price_to_both(rt: HostRuntime) -> Result<(), Fail> {
+    let alloc = rt.alloc();
+    let to_alice = releases(alloc, AUCTION, ALICE)?;
+    expect(is_only(&to_alice, 401, SETS), "the best bid to alice")?;
+    let to_bob = releases(alloc, AUCTION, BOB)?;
+    expect(is_only(&to_bob, 401, SETS), "the best bid to bob")
+}
