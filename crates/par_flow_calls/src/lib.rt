@@ -6,6 +6,8 @@
 #[cfg(test)]
 mod auction;
 #[cfg(test)]
+mod erased;
+#[cfg(test)]
 mod facts;
 #[cfg(test)]
 mod insecure;
