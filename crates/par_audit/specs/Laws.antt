@@ -24,7 +24,8 @@ ClausesDecide =
     (ps : List (List Clause)) (v : Set) (q : List Clause) (actor : ℕ)
     → IsTrue (is_released ps v q actor) ↔ IsReleased ps v q actor
 
--- where nothing of an accepted program is a release for the actor, the locks do not matter
+-- where nothing of an accepted program is a release for the actor, it is secure for that actor,
+-- whatever locks are open
 abbrev pub NoReleaseIsSecure : Type 0
 NoReleaseIsSecure =
     (typed : Typed) (fs : List (Facts numbers)) (actor : ℕ)
@@ -33,7 +34,7 @@ NoReleaseIsSecure =
     → all_releases typed.table actor (bodies typed.bodies) fs ≡ []
     → SecureFor (subject typed) actor
 
--- nor do they for files that show the program
+-- and so are files that show the program
 abbrev pub ShownFilesAreSecureFor : Type 0
 ShownFilesAreSecureFor =
     (target : Target) (subject : Subject) (actor : ℕ) → Shows target subject

@@ -8,13 +8,14 @@ pub fn clauses_decide()
     ensures { ClausesDecide }
 {}
 
-/// Where nothing of an accepted program is a release for an actor, what the actor is shown does not
-/// depend on which locks are open.
+/// Where nothing of an accepted program is a release for an actor, it is secure for that actor
+/// whatever locks are open: as long as the events that are shown of two runs are equal, the next
+/// ones are.
 pub fn no_release_is_secure()
     ensures { NoReleaseIsSecure }
 {}
 
-/// Nor does what files show of such a program.
+/// So are secure files that show such a program.
 pub fn shown_files_are_secure_for()
     ensures { ShownFilesAreSecureFor }
 {}

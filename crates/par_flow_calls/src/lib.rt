@@ -6,8 +6,6 @@
 #[cfg(test)]
 mod auction;
 #[cfg(test)]
-mod erased;
-#[cfg(test)]
 mod facts;
 #[cfg(test)]
 mod insecure;
