@@ -1,5 +1,5 @@
 -- Where a program's classes and members stand in a machine, and what is asked of typed code.
-use Rattle.std.specs.Prelude.{◌≡◌, ℕ, suc, ◌<◌, ◌⊎◌, Bool, true, false, List, [], ◌∷◌, IsTrue}
+use Rattle.std.specs.Prelude.{◌≡◌, ℕ, suc, ◌≤◌, ◌<◌, ◌⊎◌, Bool, true, false, List, [], ◌∷◌, IsTrue}
 use Rattle.std.specs.Prelude.{Option, Some, if◌then◌else◌}
 use Rattle.par_policy.specs.Numbers.{has}
 use Rattle.par_typed.specs.declared.ty.Ty.{Ty}
@@ -18,6 +18,7 @@ use Rattle.par_values.specs.declared.value.MVal.TheVariants as value
 use Rattle.par_completes.specs.Typed.{is_true}
 use Rattle.par_code_form.specs.Code.{Words, Shape, Calculates, Compares, Sames, Decides, shape_of}
 use Rattle.par_code_form.specs.Code.{is_number}
+use Rattle.par_code_form.specs.Operands.{with_result}
 
 -- a method: what it takes and gives, the types of its locals, how many there are, and its body
 pub record Meth : Type 0 where
@@ -151,7 +152,7 @@ module _ (lay : Layout) (tys : ℕ → Ty) (many room : ℕ) where
         × (below < room)
     Typed set below (Call c i Absent es m) =
         (me : Meth) × HasMethod lay c i me × (m.ty ≡ me.result) × (me.static ≡ true)
-        × TypedArgs set below me.takes es × (below < room)
+        × TypedArgs set below me.takes es × (with_result me.result below ≤ room)
     Typed set below (Call c i (Present e) es m) =
         (me : Meth) × HasMethod lay c i me × (m.ty ≡ me.result) × (me.static ≡ false)
         × TypedArgs set (suc below) me.takes es × (below < room)

@@ -32,6 +32,7 @@ use Rattle.par_code_form.specs.declared.item.Item.{Item}
 use Rattle.par_code_form.specs.declared.item.Item.TheVariants.{Op, Member}
 use Rattle.par_matching.specs.Labelled.{Labelled, Naming, lead, skip, found, silent}
 use Rattle.par_code_form.specs.Code.{Words, is_void}
+use Rattle.par_code_form.specs.Operands.{with_result}
 use Rattle.par_agreeing.specs.Laid.{Layout, moved, HasType, kind_of}
 use Rattle.par_matching.proofs.Rules.{Told, weaken, spend_rule}
 use Rattle.par_matching.proofs.Steps.{Lives, Here, next, P, here, frame, Can, on}
@@ -474,17 +475,22 @@ module _ (ctx : Setting) where
   at_most_one true = omega arith
   at_most_one false = omega arith
 
+  -- where what is left fits, there is room for a result, if there is one
+  room_of : (b : Bool) (h n : ℕ) → cond b h (h + 1) ≤ n → h + cond (not b) 1 0 ≤ n
+  room_of true h n le = omega (arith, le)
+  room_of false h n le = omega (arith, le)
+
   -- a static call
   pub static_call : (c i : ℕ) (me : Meth) → HasMethod lay c i me
       → (k d p : ℕ) (xs : List Item) (set : List ℕ) (ops vs : List MVal) (s : State) (a : Areas)
       (rest : Rests)
       → me.static ≡ true → k ≤ suc depth → Here C p (Member 184 (w.class c) (w.method c i)
       (w.method_type c i) ∷ xs) → Lives xs
-      → length ops < C.max_stack → AllTyped lay s.births me.takes vs → Fits' set s a
-      → R set s k d xs ops me.result rest → X set k d p xs rest
+      → with_result me.result (length ops) ≤ C.max_stack → AllTyped lay s.births me.takes vs
+      → Fits' set s a → R set s k d xs ops me.result rest → X set k d p xs rest
       → N k (d + 16) (pos_of p a (pushed (map (moved lay) vs) ops)) (calls_of run c i vs rest s)
   unfolding effect
-  static_call c i me is k d p xs set ops vs s a rest st deep h lives lt ht fit ready raises =
+  static_call c i me is k d p xs set ops vs s a rest st deep h lives le ht fit ready raises =
       let ks = map (kind_of w) me.takes in
       let mvs = map (moved lay) vs in
       let x = Member 184 (w.class c) (w.method c i) (w.method_type c i) in
@@ -494,7 +500,7 @@ module _ (ctx : Setting) where
       let takes_are : length (reverse ks) ≡ length ks = ap length turned ∙ pushed_length ks []
       ∙ omega arith in
       let all : length (pushed mvs ops) ≡ length mvs + length ops = pushed_length mvs ops in
-      let one = at_most_one (is_void me.result) in
+      let roomy = room_of (is_void me.result) (length ops) C.max_stack le in
       let fitting = lays.method_room c i me is in
       let given_are : given_types c me ≡ me.takes = ap (λ b. cond b me.takes (ty.Class c ∷
       me.takes)) st in
@@ -510,7 +516,7 @@ module _ (ctx : Setting) where
         enough = omega (arith, takes_are, all, many_is);
         fits = ap (λ z. all_fit env.names z (pushed mvs ops)) turned
             ∙ pushed_fit env.names ks [] mvs ops ef refl;
-        short = omega (arith, takes_are, all, many_is, one, lt);
+        short = omega (arith, takes_are, all, many_is, roomy);
         placed = le-ltb me.many (length ks) (omega (arith, fitting, g2, l2));
         named = refl;
         agrees = ap not st;

@@ -151,8 +151,8 @@ module _ (ctx : Setting) where
       spend ctx k c _ _ (ihs tp.0.takes n k (c + 16) p set (x ∷ xs) ops (calls_of run cl i) rest s a
       tp.4 deep fit tt h
       (λ q hq vs s2 a2 gr hvs fit2.
-      static_call ctx cl i tp.0 tp.1 k c q xs set ops vs s2 a2 rest tp.3 deep hq lives (omega
-      (arith, tp.5)) hvs fit2
+      static_call ctx cl i tp.0 tp.1 k c q xs set ops vs s2 a2 rest tp.3 deep hq lives tp.5
+      hvs fit2
       (result_ready set s s2 k c xs ops m.ty tp.0.result rest tp.2 gr ready)
       (raises_on ctx set k c c p q xs xs rest rest (omega (arith, h.fits, hq.fits, g)) (omega arith)
       (omega arith) (λ x v s. refl) raises))
