@@ -1,8 +1,8 @@
 -- What rules compare, and sets that gain it.
-use Rattle.std.proofs.Common.{◌≡◌, ℕ, ◌+◌, ◌<◌, ◌≤◌, Bool, true, false, ◌||◌, ◌&&◌, List, [], ◌∷◌}
-use Rattle.std.proofs.Common.{Option, Some, None, length, get_or, set, drop, refl, sym, ap, subst}
-use Rattle.std.proofs.Common.{◌∙◌, eq-eqb, arith}
-use Rattle.std.specs.Prelude.{IsTrue, nat_eq, slice_index_or, Contains}
+use Rattle.std.proofs.Common.{◌≡◌, ℕ, ◌<◌, Bool, true, false, ◌||◌, ◌&&◌, List, ◌∷◌}
+use Rattle.std.proofs.Common.{Option, Some, None, length, set, refl, sym, ap, subst}
+use Rattle.std.proofs.Common.{◌∙◌, eq-eqb}
+use Rattle.std.specs.Prelude.{IsTrue, nat_eq}
 use Rattle.std.proofs.lemmas.Bool.{eqb-true}
 use Rattle.std.proofs.lemmas.List.{get_or-set_same, get_or-set_other, length-set}
 use Rattle.par_policy.proofs.Ordered.{Contains-first, Contains-later}
@@ -14,13 +14,13 @@ use Rattle.par_checks.specs.Asked.{Condition, Open, Released, Worth, Joined, Con
 use Rattle.par_checks.specs.Asked as asked
 use Rattle.par_checks.specs.Asked.{Never}
 use Rattle.par_asked.specs.declared.check.Check.{Check}
-use Rattle.par_asked.specs.Seen.{seen_check, seen_checks, seen_condition}
+use Rattle.par_asked.specs.Seen.{seen_check, seen_condition}
 use Rattle.par_verdict.specs.declared.known.Known.{Known}
-use Rattle.par_verdict.specs.Standing.{Standing, standing, stand, stands, value_of}
+use Rattle.par_verdict.specs.Standing.{Standing, standing, stands, value_of}
 use Rattle.par_verdict.specs.Spots.{at_spot}
 use Rattle.par_reached.specs.Reached.{set_at}
 use Rattle.par_infer.specs.Keeps.{limit}
-use Rattle.par_infer.specs.Bounds.{compared_at, is_at, asked_above, all_above}
+use Rattle.par_infer.specs.Bounds.{compared_at, is_at}
 use Rattle.par_infer.specs.Collected.{compared_of, asked_of, Gains, HaveSmallEffects}
 use Rattle.par_infer.proofs.Choices.{by_cases}
 use Rattle.par_infer.proofs.Replaced.{clash}

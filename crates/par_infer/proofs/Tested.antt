@@ -2,10 +2,10 @@
 use Rattle.std.proofs.Common.{◌≡◌, ◌↔◌, ℕ, zero, suc, Bool, true, false, ◌||◌, ◌&&◌, not, Option}
 use Rattle.std.proofs.Common.{Some, None, sym, subst, ap, refl, ◌∙◌}
 use Rattle.std.proofs.Math.Path.{fun_ext}
-use Rattle.std.specs.Prelude.{IsTrue, IfOk, Result, Ok, Err, slice_get}
+use Rattle.std.specs.Prelude.{IsTrue, IfOk, Result, Ok, Err}
 use Rattle.par_bits.specs.Sets.{Set, has, union}
 use Rattle.par_typed.specs.declared.table.Table.{Table}
-use Rattle.par_rules.specs.Lattice.{numbers, joined, seen_by, IsSeenBelow}
+use Rattle.par_rules.specs.Lattice.{numbers, joined, IsSeenBelow}
 use Rattle.par_rules.specs.Ways.{Way}
 use Rattle.par_rules.specs.Facts.{Facts}
 use Rattle.par_rules.specs.Rules.{Holds}

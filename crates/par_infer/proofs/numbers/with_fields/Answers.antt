@@ -1,4 +1,4 @@
-use Rattle.std.proofs.Common.{◌≡◌, ◌<◌, ◌+◌, ℕ, drop, subst, ap, ◌∙◌}
+use Rattle.std.proofs.Common.{◌<◌, ◌+◌, ℕ, drop, subst, ap, ◌∙◌}
 use Rattle.std.specs.Prelude.{IsTrue}
 use Rattle.par_bits.specs.Sets.{Set, has}
 use Rattle.par_declared.specs.Inferred.{inferred_among}
