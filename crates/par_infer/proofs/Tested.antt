@@ -143,7 +143,8 @@ kept_reached table is σ f c spoken value k other (Ok b) same there said v conte
     (record { context = replaced is σ (has k.context); locks = has k.locks }) cond) values
     (subst (λ x. IsTrue b ↔ Meets table value (record { context = x; locks = has k.locks }) cond)
     contexts
-    (subst (λ l. IsTrue b ↔ Meets table value (record { context = has other.context; locks = has l })
+    (subst (λ l. IsTrue b ↔ Meets table value
+    (record { context = has other.context; locks = has l })
     cond) locks h)) in
     let iff = reached table is σ f c (stand k) there in
     let by_is : IsTrue b ↔ KeepsBy table is σ f c =

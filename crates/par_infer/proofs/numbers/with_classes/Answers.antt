@@ -25,4 +25,5 @@ loop-class-preserved c =
     (subst (λ (s : Set). Goes all s old now)
     (classes_left c.args.classes.now i item c.loop-class-test.true c.class-item.is)
     c.loop-class.invariant)
-    (λ n. c.with_fields-result.ensures n ∙ ap (λ fs. now n || inferred_among fs n) c.as_slice.ensures)
+    (λ n. c.with_fields-result.ensures n ∙ ap (λ fs. now n || inferred_among fs n)
+    c.as_slice.ensures)
