@@ -1,20 +1,19 @@
 -- Operands that are pushed, popped and kept.
-use Rattle.std.proofs.Common.{◌≡◌, ℕ, zero, suc, ◌+◌, ◌-◌, ◌<◌, ◌≤◌, true, false, not, nat_lt, List}
-use Rattle.std.proofs.Common.{[], ◌∷◌, length, replicate, Option, Some, None, slice_get, refl, ap}
+use Rattle.std.proofs.Common.{◌≡◌, ℕ, ◌+◌, ◌-◌, ◌<◌, ◌≤◌, true, false, not, nat_lt, List}
+use Rattle.std.proofs.Common.{[], ◌∷◌, length, Option, Some, None, slice_get, refl, ap}
 use Rattle.std.proofs.Common.{◌∙◌, arith}
 use Rattle.std.proofs.lemmas.Bool.{lt-ltb, le-ltb}
-use Rattle.std.proofs.lemmas.List.{length-replicate}
 use Rattle.par_values.specs.declared.value.MVal.{MVal}
 use Rattle.par_values.specs.declared.kind.Kind.{Kind}
 use Rattle.par_values.specs.declared.kind.Kind.TheVariants.{Anything}
 use Rattle.par_values.specs.Areas.{Name, Areas, fits, local_value}
-use Rattle.par_values.specs.Operations.{Load, Store, Discard, Copy, Misnamed}
+use Rattle.par_values.specs.Operations.{Load, Store, Discard, Copy}
 use Rattle.par_values.specs.Effects.{Goes, effect}
 use Rattle.par_values.specs.Reasons.{Spot, all_fit, holds, reason}
 use Rattle.par_stack.specs.Frames.{Frame, pushed, popped, with_local}
 use Rattle.par_actions.specs.Done.{areas_in}
 use Rattle.par_actions.specs.Last.{IsLast, IsWrong}
-use Rattle.par_actions.proofs.Reasons.{reason_1, reason_2, too_many, misheld, astray, wrong_index}
+use Rattle.par_actions.proofs.Reasons.{reason_1, reason_2, too_many, misheld, astray}
 use Rattle.par_actions.proofs.Reasons.{free}
 use Rattle.par_actions.proofs.Shapes.{one_lacks, one_is, one_fits, one_unfit, one_there}
 use Rattle.par_actions.proofs.Shapes.{one_missing, roomy}
@@ -157,64 +156,6 @@ module _ (classes : List Name) (spot : Spot) (program : Areas) (f : Frame) where
       copy_does,
     )
 
-  -- ---- an index of a wrong kind
-
-  module _ (takes gives : ℕ) where
-    any_fit : (n : ℕ) (vs : List MVal) → not (all_fit classes (replicate n Anything) vs) ≡ false
-    any_fit zero vs = refl
-    any_fit (suc n) [] = refl
-    any_fit (suc n) (v ∷ vs) = any_fit n vs
-
-    misnamed_does : effect classes (Misnamed takes gives) (areas_in program f)
-        ≡ Goes (areas_in program f)
-    unfolding effect
-    misnamed_does = refl
-
-    pub misnamed_1 : length f.operands < takes
-        → reason classes spot (Misnamed takes gives) (areas_in program f) ≡ Some 1
-    misnamed_1 few =
-        reason_1 classes spot (Misnamed takes gives) (areas_in program f)
-        (ap (λ (n : ℕ). nat_lt (length f.operands) n) (length-replicate takes Anything)
-        ∙ lt-ltb _ _ few)
-
-    module _ (there : takes ≤ length f.operands)
-        (room : spot.room ≡ length f.operands + f.free) where
-      lacks_none : nat_lt (length f.operands) (length (replicate takes Anything)) ≡ false
-      lacks_none =
-          ap (λ (n : ℕ). nat_lt (length f.operands) n) (length-replicate takes Anything)
-          ∙ le-ltb _ _ there
-
-      over : (many : ℕ) → many ≡ takes
-          → nat_lt spot.room (length f.operands - many + gives)
-          ≡ nat_lt spot.room (length f.operands - takes + gives)
-      over many same = ap (λ (n : ℕ). nat_lt spot.room (length f.operands - n + gives)) same
-
-      pub misnamed_3 : f.free < gives - takes
-          → reason classes spot (Misnamed takes gives) (areas_in program f) ≡ Some 3
-      misnamed_3 many =
-          too_many classes spot (Misnamed takes gives) (areas_in program f) lacks_none
-          (any_fit takes f.operands)
-          (over (length (replicate takes Anything)) (length-replicate takes Anything)
-          ∙ lt-ltb _ _ (omega arith))
-
-      pub misnamed_5 : gives - takes ≤ f.free → spot.stands ≡ false
-          → reason classes spot (Misnamed takes gives) (areas_in program f) ≡ Some 5
-      misnamed_5 few stands =
-          astray classes spot (Misnamed takes gives) (areas_in program f)
-          (Goes (areas_in program f)) misnamed_does refl (ap not stands)
-          lacks_none (any_fit takes f.operands)
-          (over (length (replicate takes Anything)) (length-replicate takes Anything)
-          ∙ le-ltb _ _ (omega arith)) refl
-
-      pub misnamed_6 : gives - takes ≤ f.free → spot.stands ≡ true
-          → reason classes spot (Misnamed takes gives) (areas_in program f) ≡ Some 6
-      misnamed_6 few stands =
-          wrong_index classes spot (Misnamed takes gives) (areas_in program f)
-          (Goes (areas_in program f)) misnamed_does refl (ap not stands)
-          lacks_none (any_fit takes f.operands)
-          (over (length (replicate takes Anything)) (length-replicate takes Anything)
-          ∙ le-ltb _ _ (omega arith)) refl refl
-
   -- ---- a local that is pushed
 
   module _ (kind : Kind) (place : ℕ) (v : MVal)
@@ -262,5 +203,3 @@ pub ruleset storing = (store_1, store_2)
 pub ruleset discarding = (discard_1, discard_5)
 
 pub ruleset copying = (copy_1, copy_3, copy_5)
-
-pub ruleset misnaming = (misnamed_1, misnamed_3, misnamed_5, misnamed_6)

@@ -1,6 +1,7 @@
 pub mod Reasons
 pub mod Shapes
 pub mod Keeping
+pub mod Indices
 pub mod Making
 pub mod Jumping
 pub mod Departing

@@ -17,6 +17,7 @@ pub mod done;
 pub mod fields;
 pub mod fit;
 mod leaving;
+mod misnaming;
 mod objects;
 mod operands;
 mod values;
@@ -30,8 +31,8 @@ pub use done::{Done, Ways};
 pub use fields::{Field, get_static, put_static};
 pub use fit::{Fit, accepts};
 pub use leaving::{Gives, is_exception, leave, leave_number, leave_object, throw};
+pub use misnaming::{misnamed, misnamed_read, misnamed_write};
 pub use objects::{get_field, put_field};
 pub use values::{
-    copy, discard, load_number, load_object, misnamed, push_null, push_number, store_number,
-    store_object,
+    copy, discard, load_number, load_object, push_null, push_number, store_number, store_object,
 };

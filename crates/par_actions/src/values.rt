@@ -4,7 +4,7 @@ ghost use Rattle.std.specs.Prelude.{◌≡◌, List, not, true, IsTrue};
 ghost use Rattle.par_values.specs.Areas.{Name, Areas, fits};
 ghost use Rattle.par_values.specs.declared.kind.Kind.{Kind};
 ghost use Rattle.par_values.specs.declared.kind.Kind.TheVariants as kind;
-ghost use Rattle.par_values.specs.Operations.{Push, PushNull, Load, Store, Discard, Copy, Misnamed};
+ghost use Rattle.par_values.specs.Operations.{Push, PushNull, Load, Store, Discard, Copy};
 ghost use Rattle.par_values.specs.Reasons.{Spot};
 ghost use Rattle.par_stack.specs.Frames.{running};
 ghost use Rattle.par_actions.specs.Done.{IsAt, Comes, Keeps, is_still};
@@ -189,20 +189,4 @@ pub fn copy(stack: &mut Stack, ahead: bool) -> Done
     }
     stack.push(value);
     Done::Goes
-}
-
-/// What an index of a wrong kind comes to, where so many operands are taken and pushed whatever the
-/// index names.
-#[tactic(auto, using(crate::proofs::Keeping::misnaming))]
-pub fn misnamed(stack: &Stack, takes: u8, gives: u8, ahead: bool) -> Done
-    ensures { (classes : List Name) (spot : Spot) (program : Areas) → IsAt spot ahead stack.now →
-        Comes result classes spot (Misnamed takes gives) program stack.now stack.now }
-{
-    if stack.count() < takes as usize {
-        return Done::Bad(1);
-    }
-    if stack.free() < (gives.saturating_sub(takes)) as usize {
-        return Done::Bad(3);
-    }
-    Done::Bad(if ahead { 6 } else { 5 })
 }

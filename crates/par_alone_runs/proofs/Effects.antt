@@ -106,7 +106,7 @@ module _ (file : ClassFile) (rest : List MVal) (objects : Objects)
   effect-whole (InvokeSpecial m) a line agrees h =
       called_on-whole (operand (length m.takes) a) (length m.takes) m.target a
   effect-whole Leave a line agrees h = refl
-  effect-whole (Misnamed n k) a line agrees h = refl
+  effect-whole (Misnamed kinds n) a line agrees h = refl
   effect-whole _ a line agrees h = absurd line
 
 -- ---- where it goes on
@@ -142,7 +142,7 @@ falls-whole file rest objects classes others stands (InvokeSpecial m) a line =
     falls-called_on stands (operand (length m.takes) a) (length m.takes) m.target
     (whole file rest objects a) a
 falls-whole file rest objects classes others stands Leave a line = refl
-falls-whole file rest objects classes others stands (Misnamed n k) a line = refl
+falls-whole file rest objects classes others stands (Misnamed kinds n) a line = refl
 falls-whole file rest objects classes others stands _ a line = absurd line
 
 module _ (at size : ℕ) where
@@ -180,7 +180,7 @@ module _ (at size : ℕ) where
   next-line file classes (InvokeSpecial m) a line =
       next-called_on (operand (length m.takes) a) (length m.takes) m.target a
   next-line file classes Leave a line = refl
-  next-line file classes (Misnamed n k) a line = refl
+  next-line file classes (Misnamed kinds n) a line = refl
   next-line file classes _ a line = absurd line
 
 -- ---- no lock
@@ -221,7 +221,7 @@ lockless file classes (InvokeStatic m) a free line = lockless-called (length m.t
 lockless file classes (InvokeSpecial m) a free line =
     lockless-called_on (operand (length m.takes) a) (length m.takes) m.target a
 lockless file classes Leave a free line = refl
-lockless file classes (Misnamed n k) a free line = refl
+lockless file classes (Misnamed kinds n) a free line = refl
 lockless file classes _ a free line = absurd line
 
 -- ---- no object
@@ -313,5 +313,5 @@ module _ (file : ClassFile) where
   makes_none classes (InvokeSpecial m) a line own h =
       none-called_on (operand (length m.takes) a) (length m.takes) m.target m.gives a own h
   makes_none classes Leave a line own h = tt
-  makes_none classes (Misnamed n k) a line own h = h
+  makes_none classes (Misnamed kinds n) a line own h = h
   makes_none classes _ a line own h = absurd line

@@ -1,12 +1,15 @@
 -- An instruction of straight-line code is the same operation by both definitions, but for the
 -- places of fields.
-use Rattle.std.proofs.Common.{◌≡◌, ℕ, true, false, [], ◌∷◌, IsTrue, refl, sym, ap, ◌∙◌}
+use Rattle.std.proofs.Common.{◌≡◌, ℕ, true, false, List, [], ◌∷◌, IsTrue, refl, sym, ap}
+use Rattle.std.proofs.Common.{◌∙◌}
 use Rattle.par_instr.specs.declared.instr.Instr.{Instr}
 use Rattle.par_instr.specs.declared.instr.Instr.TheVariants.{Iconst, Bipush, Sipush, Ldc, LdcW}
 use Rattle.par_instr.specs.declared.instr.Instr.TheVariants.{Iload, IloadShort, AloadShort, Istore}
 use Rattle.par_instr.specs.declared.instr.Instr.TheVariants.{IstoreShort, Iadd, Return, Getstatic}
 use Rattle.par_instr.specs.declared.instr.Instr.TheVariants.{Putstatic, Invokespecial, Invokestatic}
 use Rattle.par_class.specs.declared.file.ClassFile.{ClassFile}
+use Rattle.par_values.specs.declared.kind.Kind.{Kind}
+use Rattle.par_values.specs.declared.kind.Kind.TheVariants.{Anything}
 use Rattle.par_values.specs.declared.link.FieldLink.{FieldLink}
 use Rattle.par_values.specs.declared.link.MethodLink.{MethodLink}
 use Rattle.par_values.specs.declared.link.Link.{Link}
@@ -61,8 +64,8 @@ module _ (file : ClassFile) where
   constant-placed link.Other = refl
 
   read-placed : (l : Link)
-      → of_field GetStatic (Misnamed 0 1) (placed_link file l)
-      ≡ placed file (of_field GetStatic (Misnamed 0 1) l)
+      → of_field GetStatic (Misnamed [] 1) (placed_link file l)
+      ≡ placed file (of_field GetStatic (Misnamed [] 1) l)
   read-placed (link.Number v) = refl
   read-placed (link.Field f) = refl
   read-placed (link.Method m) = refl
@@ -70,8 +73,8 @@ module _ (file : ClassFile) where
   read-placed link.Other = refl
 
   write-placed : (l : Link)
-      → of_field PutStatic (Misnamed 1 0) (placed_link file l)
-      ≡ placed file (of_field PutStatic (Misnamed 1 0) l)
+      → of_field PutStatic (Misnamed (Anything ∷ []) 0) (placed_link file l)
+      ≡ placed file (of_field PutStatic (Misnamed (Anything ∷ []) 0) l)
   write-placed (link.Number v) = refl
   write-placed (link.Field f) = refl
   write-placed (link.Method m) = refl
@@ -79,8 +82,8 @@ module _ (file : ClassFile) where
   write-placed link.Other = refl
 
   special-placed : (l : Link)
-      → of_method InvokeSpecial (Misnamed 1 0) (placed_link file l)
-      ≡ placed file (of_method InvokeSpecial (Misnamed 1 0) l)
+      → of_method InvokeSpecial (Misnamed (Anything ∷ []) 0) (placed_link file l)
+      ≡ placed file (of_method InvokeSpecial (Misnamed (Anything ∷ []) 0) l)
   special-placed (link.Number v) = refl
   special-placed (link.Field f) = refl
   special-placed (link.Method m) = refl
@@ -88,8 +91,8 @@ module _ (file : ClassFile) where
   special-placed link.Other = refl
 
   static-placed : (l : Link)
-      → of_method InvokeStatic (Misnamed 0 0) (placed_link file l)
-      ≡ placed file (of_method InvokeStatic (Misnamed 0 0) l)
+      → of_method InvokeStatic (Misnamed [] 0) (placed_link file l)
+      ≡ placed file (of_method InvokeStatic (Misnamed [] 0) l)
   static-placed (link.Number v) = refl
   static-placed (link.Field f) = refl
   static-placed (link.Method m) = refl
@@ -105,22 +108,23 @@ module _ (file : ClassFile) where
   constant-line (link.Class c) = tt
   constant-line link.Other = tt
 
-  field-line : (form : FieldLink → Operation) (n k : ℕ) (l : Link)
+  field-line : (form : FieldLink → Operation) (kinds : List Kind) (k : ℕ) (l : Link)
       → ((f : FieldLink) → IsOwnField file f → IsLine file (form f))
-      → NamesOwnField file l → IsLine file (of_field form (Misnamed n k) l)
-  field-line form n k (link.Number v) each own = tt
-  field-line form n k (link.Field f) each own = each f own
-  field-line form n k (link.Method m) each own = tt
-  field-line form n k (link.Class c) each own = tt
-  field-line form n k link.Other each own = tt
+      → NamesOwnField file l → IsLine file (of_field form (Misnamed kinds k) l)
+  field-line form kinds k (link.Number v) each own = tt
+  field-line form kinds k (link.Field f) each own = each f own
+  field-line form kinds k (link.Method m) each own = tt
+  field-line form kinds k (link.Class c) each own = tt
+  field-line form kinds k link.Other each own = tt
 
-  method-line : (form : MethodLink → Operation) (n k : ℕ) (l : Link)
-      → ((m : MethodLink) → IsLine file (form m)) → IsLine file (of_method form (Misnamed n k) l)
-  method-line form n k (link.Number v) each = tt
-  method-line form n k (link.Field f) each = tt
-  method-line form n k (link.Method m) each = each m
-  method-line form n k (link.Class c) each = tt
-  method-line form n k link.Other each = tt
+  method-line : (form : MethodLink → Operation) (kinds : List Kind) (k : ℕ) (l : Link)
+      → ((m : MethodLink) → IsLine file (form m))
+      → IsLine file (of_method form (Misnamed kinds k) l)
+  method-line form kinds k (link.Number v) each = tt
+  method-line form kinds k (link.Field f) each = tt
+  method-line form kinds k (link.Method m) each = each m
+  method-line form kinds k (link.Class c) each = tt
+  method-line form kinds k link.Other each = tt
 
 module _ (file : ClassFile) (main : Text) (runs : IsTrue (runs_alone file main)) where
   one : ℕ → Link
@@ -153,17 +157,19 @@ module _ (file : ClassFile) (main : Text) (runs : IsTrue (runs_alone file main))
   operation-in Iadd line = refl
   operation-in Return line = refl
   operation-in (Getstatic n) line =
-      sym (field-unclassed file GetStatic (Misnamed 0 1) (other n))
-      ∙ ap (of_field GetStatic (Misnamed 0 1)) (named n).alike ∙ read-placed file (one n)
+      sym (field-unclassed file GetStatic (Misnamed [] 1) (other n))
+      ∙ ap (of_field GetStatic (Misnamed [] 1)) (named n).alike ∙ read-placed file (one n)
   operation-in (Putstatic n) line =
-      sym (field-unclassed file PutStatic (Misnamed 1 0) (other n))
-      ∙ ap (of_field PutStatic (Misnamed 1 0)) (named n).alike ∙ write-placed file (one n)
+      sym (field-unclassed file PutStatic (Misnamed (Anything ∷ []) 0) (other n))
+      ∙ ap (of_field PutStatic (Misnamed (Anything ∷ []) 0)) (named n).alike
+      ∙ write-placed file (one n)
   operation-in (Invokespecial n) line =
-      sym (method-unclassed file InvokeSpecial (Misnamed 1 0) (other n))
-      ∙ ap (of_method InvokeSpecial (Misnamed 1 0)) (named n).alike ∙ special-placed file (one n)
+      sym (method-unclassed file InvokeSpecial (Misnamed (Anything ∷ []) 0) (other n))
+      ∙ ap (of_method InvokeSpecial (Misnamed (Anything ∷ []) 0)) (named n).alike
+      ∙ special-placed file (one n)
   operation-in (Invokestatic n) line =
-      sym (method-unclassed file InvokeStatic (Misnamed 0 0) (other n))
-      ∙ ap (of_method InvokeStatic (Misnamed 0 0)) (named n).alike ∙ static-placed file (one n)
+      sym (method-unclassed file InvokeStatic (Misnamed [] 0) (other n))
+      ∙ ap (of_method InvokeStatic (Misnamed [] 0)) (named n).alike ∙ static-placed file (one n)
   operation-in _ line = absurd (cc line)
 
   line-in : (i : Instr) → is_straight_line i ≡ true → IsLine file (operation one i)
@@ -179,10 +185,12 @@ module _ (file : ClassFile) (main : Text) (runs : IsTrue (runs_alone file main))
   line-in (IstoreShort n) line = tt
   line-in Iadd line = tt
   line-in Return line = tt
-  line-in (Getstatic n) line = field-line file GetStatic 0 1 (one n) (λ f own. own) (named n).own
-  line-in (Putstatic n) line = field-line file PutStatic 1 0 (one n) (λ f own. own) (named n).own
-  line-in (Invokespecial n) line = method-line file InvokeSpecial 1 0 (one n) (λ m. tt)
-  line-in (Invokestatic n) line = method-line file InvokeStatic 0 0 (one n) (λ m. tt)
+  line-in (Getstatic n) line = field-line file GetStatic [] 1 (one n) (λ f own. own) (named n).own
+  line-in (Putstatic n) line =
+      field-line file PutStatic (Anything ∷ []) 0 (one n) (λ f own. own) (named n).own
+  line-in (Invokespecial n) line =
+      method-line file InvokeSpecial (Anything ∷ []) 0 (one n) (λ m. tt)
+  line-in (Invokestatic n) line = method-line file InvokeStatic [] 0 (one n) (λ m. tt)
   line-in _ line = absurd (cc line)
 
   -- what an instruction is to do is the same

@@ -52,5 +52,5 @@ module _ (file : ClassFile) where
   IsLine (InvokeStatic m) = Unit {0}
   IsLine (InvokeSpecial m) = Unit {0}
   IsLine Leave = Unit {0}
-  IsLine (Misnamed n k) = Unit {0}
+  IsLine (Misnamed kinds n) = Unit {0}
   IsLine _ = ⊥

@@ -70,7 +70,7 @@ module _ (file : ClassFile) where
     misgiven-whole s t (InvokeStatic m) line = refl
     misgiven-whole s t (InvokeSpecial m) line = refl
     misgiven-whole s t Leave line = refl
-    misgiven-whole s t (Misnamed n k) line = refl
+    misgiven-whole s t (Misnamed kinds n) line = refl
     misgiven-whole s t _ line = absurd line
 
     misplaced-whole : (o : Operation) → IsLine file o → HasNoObject file a
@@ -85,7 +85,7 @@ module _ (file : ClassFile) where
     misplaced-whole (InvokeStatic m) line h = refl
     misplaced-whole (InvokeSpecial m) line h = refl
     misplaced-whole Leave line h = refl
-    misplaced-whole (Misnamed n k) line h = refl
+    misplaced-whole (Misnamed kinds n) line h = refl
     misplaced-whole _ line h = absurd line
 
     misused-whole : (exceptions none : List ℕ) (o : Operation) → IsLine file o
@@ -99,7 +99,7 @@ module _ (file : ClassFile) where
     misused-whole exceptions none (InvokeStatic m) line = refl
     misused-whole exceptions none (InvokeSpecial m) line = refl
     misused-whole exceptions none Leave line = refl
-    misused-whole exceptions none (Misnamed n k) line = refl
+    misused-whole exceptions none (Misnamed kinds n) line = refl
     misused-whole exceptions none _ line = absurd line
 
     unfit-whole : (o : Operation) → HasNoObject file a

@@ -3,3 +3,4 @@ pub mod Births
 pub mod Inferred
 pub mod Policies
 pub mod Declared
+pub mod Laws

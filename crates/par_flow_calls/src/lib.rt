@@ -4,7 +4,11 @@
 #![tactic(auto)]
 
 #[cfg(test)]
+mod auction;
+#[cfg(test)]
 mod facts;
+#[cfg(test)]
+mod insecure;
 #[cfg(test)]
 mod meaning;
 #[cfg(test)]

@@ -1,7 +1,7 @@
 -- What comes of a file of the system that is read or written whole: how it is opened, and what then
 -- is handed out, or is in it.
-use Rattle.std.specs.Prelude.{◌≡◌, ℕ, ◌<◌, ◌↔◌, true, List, length, Vec, Option, IfSome, Result, IfOk}
-use Rattle.std.specs.Prelude.{IsOkAnd, IfErr, IsErr, IsErrOf, IsErrAnd}
+use Rattle.std.specs.Prelude.{◌≡◌, ℕ, ◌<◌, ◌↔◌, true, List, length, Vec, Option, IfSome, Result}
+use Rattle.std.specs.Prelude.{IfOk, IsOkAnd, IfErr, IsErr, IsErrOf, IsErrAnd}
 use Rattle.std.specs.Result.{result_ok}
 use Rattle.std.specs.Fs.{new_options, with_read, with_write, with_create, with_truncate}
 use Rattle.std.specs.Io.KnownBytes.{Appends}

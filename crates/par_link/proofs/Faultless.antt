@@ -17,14 +17,15 @@ use Rattle.par_lexer.specs.Names.{IsName}
 use Rattle.par_link.specs.Conditions.{IsSmall}
 use Rattle.par_link.specs.Linked.{AreLinked}
 use Rattle.par_link.specs.Order.{at, in_class, member_fault, description_fault, constant_fault}
-use Rattle.par_link.specs.Order.{code_fault, file_fault, first_in, list_fault}
-use Rattle.par_link.specs.Rules.{repeated_class, wrong_field, wrong_method, earlier}
+use Rattle.par_link.specs.Order.{code_fault, file_fault, first_in, list_fault, first_broken}
+use Rattle.par_link.specs.Rules.{repeated_class, repeated_field, repeated_method, wrong_field}
+use Rattle.par_link.specs.Rules.{wrong_method, earlier}
+use Rattle.par_link.specs.Named.{is_same, methods_of}
 use Rattle.par_link.specs.Firsts.{first_repeated}
 use Rattle.par_single.specs.Members.{own_name, own_names}
 use Rattle.par_single.specs.Single.{is_taken, is_field_right, is_method_right}
 use Rattle.par_values.specs.Areas.{Name}
-use Rattle.par_steps.specs.Classes.{class_names}
-use Rattle.par_method_area.proofs.Apart.{AreApart, apart, apart-push}
+use Rattle.par_link.proofs.Apart.{AreApart, apart, apart-push}
 
 turned : (b : Bool) → not b ≡ false → b ≡ true
 turned true is = refl
@@ -32,11 +33,11 @@ turned false is = absurd (cc is)
 
 -- ---- nothing of what is looked for one behind the other
 
-or-none : {A : Type 0} (a b : Option A) → option_or a b ≡ None → (a ≡ None) × (b ≡ None)
+pub or-none : {A : Type 0} (a b : Option A) → option_or a b ≡ None → (a ≡ None) × (b ≡ None)
 or-none None b none = (refl, none)
 or-none (Some a) b none = absurd (cc none)
 
-map-none : {A B : Type 0} (f : A → B) (o : Option A) → option_map f o ≡ None → o ≡ None
+pub map-none : {A B : Type 0} (f : A → B) (o : Option A) → option_map f o ≡ None → o ≡ None
 map-none f None none = refl
 map-none f (Some a) none = absurd (cc none)
 
@@ -54,6 +55,72 @@ any-fewer p q (x ∷ xs) each none = in_case (p x) (q x) refl refl none (any-few
   in_case true b is other some later = absurd (cc some)
   in_case false true is other rest later = absurd (cc (sym (each x other) ∙ is))
   in_case false false is other rest later = later rest
+
+-- ---- one of the files
+
+-- each file breaks no rule, where none is broken
+file-none : (files some : List ClassFile) (class n : ℕ) (file : ClassFile)
+    → first_in files class some ≡ None → slice_get some n ≡ Some file → file_fault files file ≡ None
+unfolding first_in
+file-none files [] class n file none at = absurd (cc at)
+file-none files (f ∷ some) class zero file none at =
+    let same : f ≡ file = cc at in
+    ap (file_fault files) (sym same)
+    ∙ map-none _ (file_fault files f)
+    (or-none (in_class class (file_fault files f)) (first_in files (class + 1) some) none).0
+file-none files (f ∷ some) class (suc n) file none at =
+    file-none files some (class + 1) n file
+    (or-none (in_class class (file_fault files f)) (first_in files (class + 1) some) none).1 at
+
+pub each-unbroken : (files : List ClassFile) → first_broken files ≡ None → (class : ℕ)
+    (file : ClassFile) → slice_get files class ≡ Some file → file_fault files file ≡ None
+each-unbroken files none class file listed =
+    file-none files files 0 class file (or-none (list_fault files) (first_in files 0 files) none).1
+    listed
+
+-- a file that breaks no rule
+module _ (files : List ClassFile) (file : ClassFile) (unbroken : file_fault files file ≡ None) where
+  members-and-descriptions : (member_fault file ≡ None) × (description_fault file ≡ None)
+  members-and-descriptions =
+      let all =
+      or-none (option_or (option_or (member_fault file) (description_fault file))
+      (constant_fault files file)) (code_fault file) unbroken in
+      let three =
+      or-none (option_or (member_fault file) (description_fault file))
+      (constant_fault files file) all.0 in
+      or-none (member_fault file) (description_fault file) three.0
+
+  -- no two of its methods have one name and descriptor
+  pub methods-apart : first_repeated is_same (methods_of file) ≡ None
+  unfolding member_fault
+  methods-apart =
+      map-none _ (repeated_method file)
+      (or-none (at 43 (repeated_field file)) (at 43 (repeated_method file))
+      members-and-descriptions.0).1
+
+  both-right : (wrong_field file ≡ None) × (wrong_method file ≡ None)
+  unfolding description_fault
+  both-right =
+      let both =
+      or-none (at 44 (wrong_field file)) (at 44 (wrong_method file)) members-and-descriptions.1 in
+      (map-none _ (wrong_field file) both.0, map-none _ (wrong_method file) both.1)
+
+  -- its fields and methods have the names and descriptors that they need
+  pub field-fits : (place : ℕ) (f : FieldFile) → slice_get file.fields place ≡ Some f
+      → is_field_right file.pool.entries f ≡ true
+  field-fits place f is =
+      turned (is_field_right file.pool.entries f)
+      (position-none (λ x. not (is_field_right file.pool.entries x)) file.fields
+      both-right.0 place f is)
+
+  pub method-fits : (place : ℕ) (m : MethodFile) → slice_get file.methods place ≡ Some m
+      → is_method_right file.pool.entries m ≡ true
+  method-fits place m is =
+      turned (is_method_right file.pool.entries m)
+      (position-none (λ x. not (is_method_right file.pool.entries x)) file.methods
+      both-right.1 place m is)
+
+-- ---- linked files
 
 module _ (files : List ClassFile) (linked : AreLinked files) where
   list-none : list_fault files ≡ None
@@ -99,8 +166,9 @@ module _ (files : List ClassFile) (linked : AreLinked files) where
       either true = refl
       either false = refl
 
-  -- no two classes have one name
-  pub names-apart : AreApart (class_names files)
+  -- no two classes have one name, nor one of the two exceptions that every program has
+  pub names-apart : AreApart
+      (own_names files ++ codes "ArithmeticException" ∷ codes "NullPointerException" ∷ [])
   names-apart =
       let own = own_names files in
       let first : Name = codes "ArithmeticException" in
@@ -114,58 +182,18 @@ module _ (files : List ClassFile) (linked : AreLinked files) where
       (apart-push (own ++ first ∷ []) second
       (apart-push own first (apart own none-repeated.1) arithmetic-free) new)
 
-  -- ---- one of the files
-
-  file-none : (some : List ClassFile) (class n : ℕ) (file : ClassFile)
-      → first_in files class some ≡ None → slice_get some n ≡ Some file
-      → file_fault files file ≡ None
-  unfolding first_in
-  file-none [] class n file none at = absurd (cc at)
-  file-none (f ∷ some) class zero file none at =
-      let same : f ≡ file = cc at in
-      ap (file_fault files) (sym same)
-      ∙ map-none _ (file_fault files f)
-      (or-none (in_class class (file_fault files f)) (first_in files (class + 1) some) none).0
-  file-none (f ∷ some) class (suc n) file none at =
-      file-none some (class + 1) n file
-      (or-none (in_class class (file_fault files f)) (first_in files (class + 1) some) none).1 at
-
   module _ (class : ℕ) (file : ClassFile) (listed : slice_get files class ≡ Some file) where
-    unbroken : file_fault files file ≡ None
-    unbroken =
-        file-none files 0 class file
-        (or-none (list_fault files) (first_in files 0 files) linked.unbroken).1 listed
+    -- it breaks no rule
+    pub unbroken : file_fault files file ≡ None
+    unbroken = each-unbroken files linked.unbroken class file listed
 
-    described : description_fault file ≡ None
-    described =
-        let all =
-        or-none (option_or (option_or (member_fault file) (description_fault file))
-        (constant_fault files file)) (code_fault file) unbroken in
-        let three =
-        or-none (option_or (member_fault file) (description_fault file))
-        (constant_fault files file) all.0 in
-        (or-none (member_fault file) (description_fault file) three.0).1
-
-    both-right : (wrong_field file ≡ None) × (wrong_method file ≡ None)
-    unfolding description_fault
-    both-right =
-        let both = or-none (at 44 (wrong_field file)) (at 44 (wrong_method file)) described in
-        (map-none _ (wrong_field file) both.0, map-none _ (wrong_method file) both.1)
-
-    -- its fields and methods have the names and descriptors that they need
     pub field-right : (place : ℕ) (f : FieldFile) → slice_get file.fields place ≡ Some f
         → is_field_right file.pool.entries f ≡ true
-    field-right place f is =
-        turned (is_field_right file.pool.entries f)
-        (position-none (λ x. not (is_field_right file.pool.entries x)) file.fields
-        both-right.0 place f is)
+    field-right = field-fits files file unbroken
 
     pub method-right : (place : ℕ) (m : MethodFile) → slice_get file.methods place ≡ Some m
         → is_method_right file.pool.entries m ≡ true
-    method-right place m is =
-        turned (is_method_right file.pool.entries m)
-        (position-none (λ x. not (is_method_right file.pool.entries x)) file.methods
-        both-right.1 place m is)
+    method-right = method-fits files file unbroken
 
     -- its class has a name, and it has few items
     pub own-name : IsName (own_name file)

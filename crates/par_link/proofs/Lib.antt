@@ -16,3 +16,5 @@ pub mod Unrepeated
 pub mod Walked
 pub mod There
 pub mod Unbroken
+pub mod Apart
+pub mod Faultless

@@ -10,3 +10,5 @@ pub mod Loop
 pub mod Linking
 pub mod Judging
 pub mod Alone
+pub mod Coded
+pub mod Mains

@@ -3,7 +3,7 @@ use Rattle.std.proofs.Common.{◌≡◌, ℕ, zero, suc, ◌+◌, ◌-◌, ◌<�
 use Rattle.std.proofs.Common.{slice_get, Option, Some, None, Result, Ok, Err, IsErrAnd, refl, sym}
 use Rattle.std.proofs.Common.{ap, subst, ◌∙◌, arith}
 use Rattle.std.proofs.lemmas.List.{length-append}
-use Rattle.std.proofs.lemmas.List.Elements.{All-push}
+use Rattle.std.proofs.lemmas.List.Elements.{All-push, All-weaker}
 use Rattle.std.specs.List.{All}
 use Rattle.par_io.specs.Causes.{FolderCounts, Makes, NoneFalls, Files}
 use Rattle.par_class.specs.declared.file.ClassFile.{ClassFile}
@@ -29,13 +29,19 @@ pub record IsLoading (files : Option Files) (file : ClassFile) (fs : List ClassF
   pub few : count ≤ 129
   pub makes : Makes reads 0 before now
   pub falls : NoneFalls before now
-  pub spelled : All IsSpelled fs
+  pub read : All (IsRead files) fs
   pub first : slice_get fs 0 ≡ Some file
   pub so_far : IsSoFar files (own_name file) fs (129 - count)
 
-one_spelled : (f : ClassFile) → IsSpelled f → All IsSpelled (f ∷ [])
-one_spelled f h zero d within = h
-one_spelled f h (suc n) d within = absurd (omega arith)
+one_read : (files : Option Files) (f : ClassFile) → IsRead files f → All (IsRead files) (f ∷ [])
+one_read files f h zero d within = h
+one_read files f h (suc n) d within = absurd (omega arith)
+
+-- files that were read are spelled by what was read
+pub all_spelled : (files : Option Files) (fs : List ClassFile) → All (IsRead files) fs
+    → All IsSpelled fs
+all_spelled files fs =
+    All-weaker (IsRead files) IsSpelled (λ f read. (read.bytes, read.spells)) fs
 
 same_first : (fs : List ClassFile) (f first : ClassFile) → slice_get fs 0 ≡ Some first
     → slice_get (fs ++ f ∷ []) 0 ≡ Some first
@@ -51,7 +57,7 @@ begins files f fs counts read is = record {
   few = omega arith;
   makes = makes_none counts;
   falls = falls_never counts;
-  spelled = subst (All IsSpelled) (sym is) (one_spelled f (read.bytes, read.spells));
+  read = subst (All (IsRead files)) (sym is) (one_read files f read);
   first = ap (λ (xs : List ClassFile). slice_get xs 0) is;
   so_far =
       subst (λ (xs : List ClassFile). IsSoFar files (own_name f) xs 128) (sym is)
@@ -72,10 +78,10 @@ module _ (files : Option Files) (file : ClassFile) (fs : List ClassFile) (count 
 
   pub goes : (f : ClassFile) (all : List ClassFile)
       → ((o : Option Text) × WasFound files m.name o × Steps (step m o) between after (Ok f))
-      → own_name f ≡ m.name → IsSpelled f
+      → own_name f ≡ m.name → IsRead files f
       → NoneFalls between after → all ≡ fs ++ f ∷ []
       → IsLoading files file all (count + 1) before after
-  goes f all stepped own spelled falls is =
+  goes f all stepped own read falls is =
       let longer : length (fs ++ f ∷ []) ≡ length fs + 1 = length-append fs (f ∷ []) in
       record {
         reads = 1 + h.reads;
@@ -84,7 +90,8 @@ module _ (files : Option Files) (file : ClassFile) (fs : List ClassFile) (count 
         few = omega (arith, left);
         makes = makes_both h.reads 1 before between after h.makes stepped.2.1;
         falls = none_falls before between after h.falls falls;
-        spelled = subst (All IsSpelled) (sym is) (All-push IsSpelled fs f h.spelled spelled);
+        read =
+            subst (All (IsRead files)) (sym is) (All-push (IsRead files) fs f h.read read);
         first = ap (λ (xs : List ClassFile). slice_get xs 0) is ∙ same_first fs f file h.first;
         so_far = subst (λ (xs : List ClassFile). IsSoFar files main xs (129 - (count + 1))) (sym is)
             (gone_on files main fs (129 - (count + 1)) m stepped.0 so_far next stepped.1 f

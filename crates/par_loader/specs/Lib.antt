@@ -5,3 +5,4 @@ pub mod Loaded
 pub mod Judged
 pub mod Ends
 pub mod Alone
+pub mod Begun

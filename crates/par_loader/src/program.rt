@@ -1,6 +1,7 @@
 //! All class files of a program.
 
-ghost use Rattle.std.specs.Prelude.{◌≡◌, ◌≤◌, ◌<◌, Option, Some, IfOk, IsTrue, length, slice_get};
+ghost use Rattle.std.specs.Prelude.{◌≡◌, ◌≤◌, ◌<◌, Option, Some, None, IfOk, OnOk, IsTrue, length};
+ghost use Rattle.std.specs.Prelude.{slice_get};
 ghost use Rattle.std.specs.List.{All};
 ghost use Rattle.par_io.specs.Causes.{Makes, NoneFalls};
 ghost use Rattle.par_lexer.specs.Names.{IsName};
@@ -8,6 +9,8 @@ ghost use Rattle.par_single.specs.Members as members;
 ghost use Rattle.par_loader.specs.Reads.{Text, WasFound, IsSpelled};
 ghost use Rattle.par_loader.specs.Mentions.{naming};
 ghost use Rattle.par_loader.specs.Loaded.{step};
+ghost use Rattle.par_link.specs.Order.{first_broken};
+ghost use Rattle.par_loader.specs.Begun.{AreCoded, BeginsMain};
 ghost use Rattle.par_loader.specs.Judged.{is_main, has_main, begins};
 ghost use Rattle.par_loader.specs.Ends.{IsBadAs, AnswersFor, AnswersFirst, Steps, StepsFirst};
 ghost use Rattle.par_loader.specs.Ends.{IsRead, Loads, Links, Judges, FaultsStand};
@@ -145,7 +148,7 @@ fn loading_of<F: Folder>(
     ensures first { IfOk result (λ loading. slice_get loading.files 0 ≡ Some file) }
     ensures some { IfOk result (λ loading. 0 < length loading.files) }
     ensures few { IfOk result (λ loading. length loading.files ≤ MOST_READ) }
-    ensures spelled { IfOk result (λ loading. All IsSpelled loading.files) }
+    ensures read { IfOk result (λ loading. All (IsRead (F.files folder.old)) loading.files) }
     ensures loads { Loads (F.files folder.old) (members.own_name file)
         (F.counts folder.old) (F.counts folder.new) result }
 {
@@ -198,6 +201,7 @@ fn linked(alloc: Global, loading: Loading) -> Result<Linked, Unloaded>
     ensures links { Links loading.files result }
     ensures files { IfOk result (λ linked. linked ≡ loading.files) }
     ensures begun { IfOk result (λ linked. IsTrue (begins linked)) }
+    ensures unbroken { OnOk result (first_broken loading.files ≡ None) }
 {
     let Loading { files, names, .. } = loading;
     match link(alloc, files) {
@@ -219,7 +223,8 @@ fn linked(alloc: Global, loading: Loading) -> Result<Linked, Unloaded>
 }
 
 /// The files of a program, which link and of which the first has a method that a run begins with:
-/// that of the class that is asked for, and all that are loaded for it.
+/// that of the class that is asked for, and all that are loaded for it. Each is spelled by the
+/// bytes that were read for its class.
 pub fn linked_program<F: Folder>(
     alloc: Global,
     folder: &mut F,
@@ -235,6 +240,9 @@ pub fn linked_program<F: Folder>(
         (F.counts folder.old) (F.counts folder.new) result }
     ensures first { IfOk result (λ linked. slice_get linked 0 ≡ Some file) }
     ensures begun { IfOk result (λ linked. IsTrue (begins linked)) }
+    ensures read { IfOk result (λ linked. All (IsRead (F.files folder.old)) linked) }
+    ensures coded { IfOk result (λ linked. AreCoded linked) }
+    ensures main { IfOk result (λ linked. BeginsMain (members.own_name file) linked) }
 {
     let loading = loading_of(alloc, folder, file)?;
     linked(alloc, loading)

@@ -1,7 +1,8 @@
 -- Operations, by what is known of their indices.
-use Rattle.std.proofs.Common.{◌≡◌, ℕ, ℤ, List, Some, None, refl, sym, ap, ◌∙◌}
+use Rattle.std.proofs.Common.{[], ◌≡◌, ℕ, ℤ, List, Some, None, refl, sym, ap, ◌∙◌}
 use Rattle.par_instr.specs.declared.instr.Instr.{Instr}
 use Rattle.par_class.specs.declared.file.ClassFile.{ClassFile}
+use Rattle.par_values.specs.declared.kind.Kind.{Kind}
 use Rattle.par_values.specs.declared.link.FieldLink.{FieldLink}
 use Rattle.par_values.specs.declared.link.ClassLink.{ClassLink}
 use Rattle.par_values.specs.declared.link.Link.{Link}
@@ -37,7 +38,7 @@ number_known (link.Class c) n is = absurd (cc)
 number_known link.Other n is = absurd (cc)
 
 -- where it is of none, it is of another kind
-pub number_unknown : (l : Link) → None ≡ linked_number l → constant l ≡ Misnamed 0 1
+pub number_unknown : (l : Link) → None ≡ linked_number l → constant l ≡ Misnamed [] 1
 number_unknown (link.Number v) is = absurd (cc)
 number_unknown (link.Field f) is = refl
 number_unknown (link.Method m) is = refl
@@ -54,14 +55,15 @@ field_known classes (link.Class c) x known = absurd known
 field_known classes link.Other x known = absurd known
 
 -- where no field is known, the index is of another kind
-pub field_unknown : (classes : List Name) (l : Link) (form : FieldLink → Operation) (n k : ℕ)
+pub field_unknown : (classes : List Name) (l : Link) (form : FieldLink → Operation)
+    (kinds : List Kind) (k : ℕ)
     → KnowsField classes l None
-    → of_field form (Misnamed n k) l ≡ Misnamed n k
-field_unknown classes (link.Number v) form n k known = refl
-field_unknown classes (link.Field f) form n k known = absurd known
-field_unknown classes (link.Method m) form n k known = refl
-field_unknown classes (link.Class c) form n k known = refl
-field_unknown classes link.Other form n k known = refl
+    → of_field form (Misnamed kinds k) l ≡ Misnamed kinds k
+field_unknown classes (link.Number v) form kinds k known = refl
+field_unknown classes (link.Field f) form kinds k known = absurd known
+field_unknown classes (link.Method m) form kinds k known = refl
+field_unknown classes (link.Class c) form kinds k known = refl
+field_unknown classes link.Other form kinds k known = refl
 
 -- a class is known only where the index names one
 pub class_known : (classes : List Name) (l : Link) (x : Class) → KnowsClass classes l (Some x)
@@ -74,7 +76,7 @@ class_known classes link.Other x known = absurd known
 
 -- where no class is known, the index is of another kind
 pub class_unknown : (classes : List Name) (l : Link) → KnowsClass classes l None
-    → of_class l ≡ Misnamed 0 1
+    → of_class l ≡ Misnamed [] 1
 class_unknown classes (link.Number v) known = refl
 class_unknown classes (link.Field f) known = refl
 class_unknown classes (link.Method m) known = refl

@@ -53,14 +53,15 @@ method_known area n (link.Class c) x known = absurd known
 method_known area n link.Other x known = absurd known
 
 -- where no method is known, the index is of another kind
-pub method_unknown : (area : Area) (n : Named) (l : Link) (form : MethodLink → Operation) (k j : ℕ)
+pub method_unknown : (area : Area) (n : Named) (l : Link) (form : MethodLink → Operation)
+    (kinds : List Kind) (k : ℕ)
     → KnowsMethod area n l None
-    → of_method form (Misnamed k j) l ≡ Misnamed k j
-method_unknown area n (link.Number v) form k j known = refl
-method_unknown area n (link.Field f) form k j known = refl
-method_unknown area n (link.Method m) form k j known = absurd known
-method_unknown area n (link.Class c) form k j known = refl
-method_unknown area n link.Other form k j known = refl
+    → of_method form (Misnamed kinds k) l ≡ Misnamed kinds k
+method_unknown area n (link.Number v) form kinds k known = refl
+method_unknown area n (link.Field f) form kinds k known = refl
+method_unknown area n (link.Method m) form kinds k known = absurd known
+method_unknown area n (link.Class c) form kinds k known = refl
+method_unknown area n link.Other form kinds k known = refl
 
 -- ---- the initializer of all exceptions, which takes no argument
 

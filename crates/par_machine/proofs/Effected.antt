@@ -138,4 +138,4 @@ effect_of classes (Create c) a = created_of c c.is_exception _ _
 effect_of classes Throw a = thrown_of (operand 0 a)
 effect_of classes Leave a = refl
 effect_of classes (LeaveWith kind) a = (kind, refl)
-effect_of classes (Misnamed n k) a = tt
+effect_of classes (Misnamed kinds n) a = tt

@@ -5,6 +5,7 @@ use Rattle.std.proofs.Common.{Err, IfOk, IsTrue, refl, sym, ap, ap₂, subst, �
 use Rattle.std.proofs.lemmas.Bool.{ltb-false}
 use Rattle.par_class.specs.declared.file.ClassFile.{ClassFile}
 use Rattle.par_instr.specs.declared.instr.Instr.{Instr}
+use Rattle.par_values.specs.declared.kind.Kind.{Kind}
 use Rattle.par_values.specs.declared.inputs.ChannelInput.{ChannelInput}
 use Rattle.par_values.specs.declared.link.MethodLink.{MethodLink}
 use Rattle.par_values.specs.declared.link.Link.TheVariants as link
@@ -109,13 +110,13 @@ module _ (area : Area) (old : Running) (s : Site) (ahead : Bool) (is_sound : IsS
       (effect_of (class_names area.files) op before)
 
   -- nothing is changed, since its index is of another kind
-  pub call_missed : (d : Done) (k j : ℕ) → is_misreceived area.files (here old).class
-      (called_on_object s.instr) before ≡ false
-      → op ≡ Misnamed k j
-      → Comes d (class_names area.files) (spot_of area.files old s) (Misnamed k j) before old.stack
-      old.stack
+  pub call_missed : (d : Done) (kinds : List Kind) (k : ℕ)
+      → is_misreceived area.files (here old).class (called_on_object s.instr) before ≡ false
+      → op ≡ Misnamed kinds k
+      → Comes d (class_names area.files) (spot_of area.files old s) (Misnamed kinds k) before
+      old.stack old.stack
       → IsPerformed area old s d old
-  call_missed d k j received op_is comes =
+  call_missed d kinds k received op_is comes =
       let kept : Keeps old.stack old.stack = record { point = refl; room = refl; waiting = refl } in
       let come =
       came area.files old s d old.stack there.point put received

@@ -15,6 +15,7 @@ use Rattle.par_machine.specs.Site.{IsThere, IsCome, CameTo, IsKnown, IsPerformed
 use Rattle.par_machine.specs.declared.running.Running.{Running}
 use Rattle.par_machine.specs.declared.site.Site.{Site}
 use Rattle.par_instr.specs.declared.instr.Instr.{Instr}
+use Rattle.par_values.specs.declared.kind.Kind.{Kind}
 use Rattle.par_values.specs.Operations.{Operation, Misnamed}
 use Rattle.par_values.specs.Effects.{effect}
 use Rattle.par_steps.specs.Classes.{class_names}
@@ -118,14 +119,14 @@ performs area old s ahead d frames i o sound there instr_is plain uncalled o_is 
 
 -- the same, where nothing is changed since its index is of another kind
 pub missed : (area : Area) (old : Running) (s : Site) (ahead : Bool) (d : Done) (i : Instr)
-    (n k : ℕ)
+    (kinds : List Kind) (k : ℕ)
     → IsSound area old → IsThere area.files old s ahead → s.instr ≡ i → may_put i ≡ false
     → called_on_object i ≡ None
-    → operation_at area.files old s ≡ Misnamed n k
-    → Comes d (class_names area.files) (spot_of area.files old s) (Misnamed n k)
+    → operation_at area.files old s ≡ Misnamed kinds k
+    → Comes d (class_names area.files) (spot_of area.files old s) (Misnamed kinds k)
     (areas_at area.files old) old.stack old.stack
     → IsPerformed area old s d old
-missed area old s ahead d i n k sound there instr_is plain uncalled o_is comes =
-    performs area old s ahead d old.stack i (Misnamed n k) sound there instr_is plain uncalled o_is
-    refl comes
+missed area old s ahead d i kinds k sound there instr_is plain uncalled o_is comes =
+    performs area old s ahead d old.stack i (Misnamed kinds k) sound there instr_is plain uncalled
+    o_is refl comes
     (record { point = refl; room = refl; waiting = refl }) (λ still. refl)

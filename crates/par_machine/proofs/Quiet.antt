@@ -8,6 +8,7 @@ use Rattle.par_heap.specs.Heap.{objects_of}
 use Rattle.par_instr.specs.declared.instr.Instr.{Instr}
 use Rattle.par_instr.specs.declared.instr.Instr.TheVariants as instr
 use Rattle.par_instr.specs.Decoding.{decoded_at}
+use Rattle.par_values.specs.declared.kind.Kind.{Kind}
 use Rattle.par_values.specs.declared.run.Event.{Event}
 use Rattle.par_values.specs.declared.run.Event.TheVariants.{Out, Set, Put, Born}
 use Rattle.par_values.specs.declared.link.FieldLink.{FieldLink}
@@ -66,20 +67,20 @@ quiet_constant (link.Method m) = refl
 quiet_constant (link.Class c) = refl
 quiet_constant link.Other = refl
 
-quiet_field : (form : FieldLink → Operation) (n k : ℕ)
+quiet_field : (form : FieldLink → Operation) (kinds : List Kind) (k : ℕ)
     → ((f : FieldLink) → tells (form f) ≡ false) → (l : Link)
-    → tells (of_field form (Misnamed n k) l) ≡ false
-quiet_field form n k is (link.Number v) = refl
-quiet_field form n k is (link.Field f) = is f
-quiet_field form n k is (link.Method f) = refl
-quiet_field form n k is (link.Class c) = refl
-quiet_field form n k is link.Other = refl
+    → tells (of_field form (Misnamed kinds k) l) ≡ false
+quiet_field form kinds k is (link.Number v) = refl
+quiet_field form kinds k is (link.Field f) = is f
+quiet_field form kinds k is (link.Method f) = refl
+quiet_field form kinds k is (link.Class c) = refl
+quiet_field form kinds k is link.Other = refl
 
 quiet : (names : ℕ → Link) (i : Instr) → is_loud i ≡ false → tells (operation names i) ≡ false
 quiet names (instr.Ldc n) is = quiet_constant (names n)
 quiet names (instr.LdcW n) is = quiet_constant (names n)
-quiet names (instr.Getstatic n) is = quiet_field GetStatic 0 1 (λ f. refl) (names n)
-quiet names (instr.Getfield n) is = quiet_field GetField 1 1 (λ f. refl) (names n)
+quiet names (instr.Getstatic n) is = quiet_field GetStatic _ _ (λ f. refl) (names n)
+quiet names (instr.Getfield n) is = quiet_field GetField _ _ (λ f. refl) (names n)
 quiet names (instr.Putstatic n) is = absurd (cc)
 quiet names (instr.Putfield n) is = absurd (cc)
 quiet names (instr.Invokevirtual n) is = absurd (cc)

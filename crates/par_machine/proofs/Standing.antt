@@ -5,6 +5,7 @@ use Rattle.std.specs.Str.{bytes_eq}
 use Rattle.std.proofs.lemmas.Bool.{false≢true}
 use Rattle.par_instr.specs.declared.instr.Instr.{Instr}
 use Rattle.par_instr.specs.declared.instr.Instr.TheVariants as instr
+use Rattle.par_values.specs.declared.kind.Kind.{Kind}
 use Rattle.par_values.specs.declared.run.Event.{Event}
 use Rattle.par_values.specs.declared.run.Event.TheVariants.{Out, Set, Put, Born}
 use Rattle.par_values.specs.declared.link.FieldLink.{FieldLink}
@@ -91,21 +92,21 @@ plain_constant (link.Method f) = record { fork = refl; distance = refl }
 plain_constant (link.Class c) = record { fork = refl; distance = refl }
 plain_constant link.Other = record { fork = refl; distance = refl }
 
-plain_field : (form : FieldLink → Operation) (n k : ℕ) → ((f : FieldLink) → IsPlain (form f))
-    → (l : Link) → IsPlain (of_field form (Misnamed n k) l)
-plain_field form n k is (link.Number v) = record { fork = refl; distance = refl }
-plain_field form n k is (link.Field f) = is f
-plain_field form n k is (link.Method f) = record { fork = refl; distance = refl }
-plain_field form n k is (link.Class c) = record { fork = refl; distance = refl }
-plain_field form n k is link.Other = record { fork = refl; distance = refl }
+plain_field : (form : FieldLink → Operation) (kinds : List Kind) (k : ℕ)
+    → ((f : FieldLink) → IsPlain (form f)) → (l : Link) → IsPlain (of_field form (Misnamed kinds k) l)
+plain_field form kinds k is (link.Number v) = record { fork = refl; distance = refl }
+plain_field form kinds k is (link.Field f) = is f
+plain_field form kinds k is (link.Method f) = record { fork = refl; distance = refl }
+plain_field form kinds k is (link.Class c) = record { fork = refl; distance = refl }
+plain_field form kinds k is link.Other = record { fork = refl; distance = refl }
 
-plain_method : (form : MethodLink → Operation) (n k : ℕ) → ((m : MethodLink) → IsPlain (form m))
-    → (l : Link) → IsPlain (of_method form (Misnamed n k) l)
-plain_method form n k is (link.Number v) = record { fork = refl; distance = refl }
-plain_method form n k is (link.Field f) = record { fork = refl; distance = refl }
-plain_method form n k is (link.Method m) = is m
-plain_method form n k is (link.Class c) = record { fork = refl; distance = refl }
-plain_method form n k is link.Other = record { fork = refl; distance = refl }
+plain_method : (form : MethodLink → Operation) (kinds : List Kind) (k : ℕ)
+    → ((m : MethodLink) → IsPlain (form m)) → (l : Link) → IsPlain (of_method form (Misnamed kinds k) l)
+plain_method form kinds k is (link.Number v) = record { fork = refl; distance = refl }
+plain_method form kinds k is (link.Field f) = record { fork = refl; distance = refl }
+plain_method form kinds k is (link.Method m) = is m
+plain_method form kinds k is (link.Class c) = record { fork = refl; distance = refl }
+plain_method form kinds k is link.Other = record { fork = refl; distance = refl }
 
 plain_class : (l : Link) → IsPlain (of_class l)
 plain_class (link.Number v) = record { fork = refl; distance = refl }
@@ -118,20 +119,20 @@ plain_class link.Other = record { fork = refl; distance = refl }
 pub is_plain : (names : ℕ → Link) (i : Instr) → is_branch i ≡ false → IsPlain (operation names i)
 is_plain names (instr.Ldc n) plain = plain_constant (names n)
 is_plain names (instr.LdcW n) plain = plain_constant (names n)
-is_plain names (instr.Getstatic n) plain = plain_field GetStatic 0 1
+is_plain names (instr.Getstatic n) plain = plain_field GetStatic _ _
     (λ f. record { fork = refl; distance = refl }) (names n)
-is_plain names (instr.Putstatic n) plain = plain_field PutStatic 1 0
+is_plain names (instr.Putstatic n) plain = plain_field PutStatic _ _
     (λ f. record { fork = refl; distance = refl }) (names n)
-is_plain names (instr.Getfield n) plain = plain_field GetField 1 1
+is_plain names (instr.Getfield n) plain = plain_field GetField _ _
     (λ f. record { fork = refl; distance = refl }) (names n)
-is_plain names (instr.Putfield n) plain = plain_field PutField 2 0
+is_plain names (instr.Putfield n) plain = plain_field PutField _ _
     (λ f. record { fork = refl; distance = refl }) (names n)
 is_plain names (instr.Invokevirtual n) plain =
-    plain_method InvokeVirtual 1 0 (λ f. record { fork = refl; distance = refl }) (names n)
+    plain_method InvokeVirtual _ _ (λ f. record { fork = refl; distance = refl }) (names n)
 is_plain names (instr.Invokespecial n) plain =
-    plain_method InvokeSpecial 1 0 (λ f. record { fork = refl; distance = refl }) (names n)
+    plain_method InvokeSpecial _ _ (λ f. record { fork = refl; distance = refl }) (names n)
 is_plain names (instr.Invokestatic n) plain =
-    plain_method InvokeStatic 0 0 (λ f. record { fork = refl; distance = refl }) (names n)
+    plain_method InvokeStatic _ _ (λ f. record { fork = refl; distance = refl }) (names n)
 is_plain names (instr.New n) plain = plain_class (names n)
 is_plain names (instr.If test to) plain = absurd (cc)
 is_plain names (instr.IfIcmp test to) plain = absurd (cc)
@@ -156,23 +157,23 @@ distance_is names (instr.Invokestatic n) = (is_plain names (instr.Invokestatic n
 distance_is names (instr.New n) = (is_plain names (instr.New n) refl).distance
 distance_is names _ = refl
 
-not_put_field : (form : FieldLink → Operation) (n k : ℕ)
+not_put_field : (form : FieldLink → Operation) (kinds : List Kind) (k : ℕ)
     → ((f : FieldLink) → is_put (form f) ≡ false) → (l : Link)
-    → is_put (of_field form (Misnamed n k) l) ≡ false
-not_put_field form n k is (link.Number v) = refl
-not_put_field form n k is (link.Field f) = is f
-not_put_field form n k is (link.Method f) = refl
-not_put_field form n k is (link.Class c) = refl
-not_put_field form n k is link.Other = refl
+    → is_put (of_field form (Misnamed kinds k) l) ≡ false
+not_put_field form kinds k is (link.Number v) = refl
+not_put_field form kinds k is (link.Field f) = is f
+not_put_field form kinds k is (link.Method f) = refl
+not_put_field form kinds k is (link.Class c) = refl
+not_put_field form kinds k is link.Other = refl
 
-not_put_method : (form : MethodLink → Operation) (n k : ℕ)
+not_put_method : (form : MethodLink → Operation) (kinds : List Kind) (k : ℕ)
     → ((m : MethodLink) → is_put (form m) ≡ false) → (l : Link)
-    → is_put (of_method form (Misnamed n k) l) ≡ false
-not_put_method form n k is (link.Number v) = refl
-not_put_method form n k is (link.Field f) = refl
-not_put_method form n k is (link.Method m) = is m
-not_put_method form n k is (link.Class c) = refl
-not_put_method form n k is link.Other = refl
+    → is_put (of_method form (Misnamed kinds k) l) ≡ false
+not_put_method form kinds k is (link.Number v) = refl
+not_put_method form kinds k is (link.Field f) = refl
+not_put_method form kinds k is (link.Method m) = is m
+not_put_method form kinds k is (link.Class c) = refl
+not_put_method form kinds k is link.Other = refl
 
 not_put_constant : (l : Link) → is_put (constant l) ≡ false
 not_put_constant (link.Number v) = refl
@@ -193,13 +194,13 @@ pub not_put : (names : ℕ → Link) (i : Instr) → may_put i ≡ false
     → is_put (operation names i) ≡ false
 not_put names (instr.Ldc n) plain = not_put_constant (names n)
 not_put names (instr.LdcW n) plain = not_put_constant (names n)
-not_put names (instr.Getstatic n) plain = not_put_field GetStatic 0 1 (λ f. refl) (names n)
+not_put names (instr.Getstatic n) plain = not_put_field GetStatic _ _ (λ f. refl) (names n)
 not_put names (instr.Putstatic n) plain = absurd (cc)
-not_put names (instr.Getfield n) plain = not_put_field GetField 1 1 (λ f. refl) (names n)
-not_put names (instr.Putfield n) plain = not_put_field PutField 2 0 (λ f. refl) (names n)
-not_put names (instr.Invokevirtual n) plain = not_put_method InvokeVirtual 1 0 (λ f. refl) (names n)
-not_put names (instr.Invokespecial n) plain = not_put_method InvokeSpecial 1 0 (λ f. refl) (names n)
-not_put names (instr.Invokestatic n) plain = not_put_method InvokeStatic 0 0 (λ f. refl) (names n)
+not_put names (instr.Getfield n) plain = not_put_field GetField _ _ (λ f. refl) (names n)
+not_put names (instr.Putfield n) plain = not_put_field PutField _ _ (λ f. refl) (names n)
+not_put names (instr.Invokevirtual n) plain = not_put_method InvokeVirtual _ _ (λ f. refl) (names n)
+not_put names (instr.Invokespecial n) plain = not_put_method InvokeSpecial _ _ (λ f. refl) (names n)
+not_put names (instr.Invokestatic n) plain = not_put_method InvokeStatic _ _ (λ f. refl) (names n)
 not_put names (instr.New n) plain = not_put_class (names n)
 not_put names _ plain = refl
 

@@ -5,6 +5,7 @@ use Rattle.std.specs.Str.{bytes_eq}
 use Rattle.par_class.specs.declared.file.ClassFile.{ClassFile}
 use Rattle.par_instr.specs.declared.instr.Instr.{Instr}
 use Rattle.par_instr.specs.declared.instr.Instr.TheVariants.{Putstatic}
+use Rattle.par_values.specs.declared.kind.Kind.{Kind}
 use Rattle.par_values.specs.declared.value.MVal.{MVal}
 use Rattle.par_values.specs.declared.link.FieldLink.{FieldLink}
 use Rattle.par_values.specs.declared.link.Link.TheVariants as link
@@ -201,13 +202,13 @@ static_performed area old s ahead index f x d frames statics sound there instr_i
 
 -- the same, where nothing is changed since its index is of another kind
 pub missed_write : (area : Area) (old : Running) (s : Site) (ahead : Bool) (d : Done) (i : Instr)
-    (n k : ℕ)
+    (kinds : List Kind) (k : ℕ)
     → IsSound area old → IsThere area.files old s ahead → s.instr ≡ i → called_on_object i ≡ None
-    → operation_at area.files old s ≡ Misnamed n k
-    → Comes d (class_names area.files) (spot_of area.files old s) (Misnamed n k)
+    → operation_at area.files old s ≡ Misnamed kinds k
+    → Comes d (class_names area.files) (spot_of area.files old s) (Misnamed kinds k)
     (areas_at area.files old) old.stack old.stack
     → IsPerformed area old s d old
-missed_write area old s ahead d i n k sound there instr_is uncalled o_is comes =
+missed_write area old s ahead d i kinds k sound there instr_is uncalled o_is comes =
     let files = area.files in
     let classes = class_names files in
     let a = areas_at files old in
@@ -215,13 +216,13 @@ missed_write area old s ahead d i n k sound there instr_is uncalled o_is comes =
     let received : is_misreceived files (here old).class (called_on_object s.instr) a ≡ false =
     ap (λ i. is_misreceived files (here old).class (called_on_object i) a) instr_is
     ∙ ap (λ n. is_misreceived files (here old).class n a) uncalled in
-    let against_is : against files old s ≡ reason classes sp (Misnamed n k) a =
+    let against_is : against files old s ≡ reason classes sp (Misnamed kinds k) a =
     ap (λ b. or_2 b (reason classes sp (operation_at files old s) a)) received
     ∙ ap (λ o. reason classes sp o a) o_is in
     let plainly : does files old s ≡ effect classes (operation_at files old s) a =
     no_lock (operation_at files old s) _ (ap is_put o_is)
     (effect_of classes (operation_at files old s) a) in
-    let does_is : does files old s ≡ effect classes (Misnamed n k) a = plainly
+    let does_is : does files old s ≡ effect classes (Misnamed kinds k) a = plainly
     ∙ ap (λ o. effect classes o a) o_is in
     let kept : Keeps old.stack old.stack = record { point = refl; room = refl; waiting = refl } in
     let come : IsCome files old s d old = record {
@@ -230,9 +231,10 @@ missed_write area old s ahead d i n k sound there instr_is uncalled o_is comes =
       state = state_is files old s old a kept refl refl refl;
       is =
           subst (λ o. IsDone d classes o sp (against files old s) (does files old s) a) (sym o_is)
-          (subst (λ r. IsDone d classes (Misnamed n k) sp r (does files old s) a) (sym against_is)
-          (subst (λ e. IsDone d classes (Misnamed n k) sp (reason classes sp (Misnamed n k) a) e a)
-          (sym does_is) comes));
+          (subst (λ r. IsDone d classes (Misnamed kinds k) sp r (does files old s) a)
+          (sym against_is)
+          (subst (λ e. IsDone d classes (Misnamed kinds k) sp
+          (reason classes sp (Misnamed kinds k) a) e a) (sym does_is) comes));
       still = λ is. refl;
     } in
     frame_performed area old s ahead d old.stack sound there come kept

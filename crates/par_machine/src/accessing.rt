@@ -7,7 +7,7 @@ ghost use Rattle.par_machine.specs.Site.{IsThere, IsPerformed, IsNumberSite};
 
 use crate::running::Running;
 use crate::site::Site;
-use par_actions::{Done, get_field, get_static, misnamed, push_number};
+use par_actions::{Done, get_field, get_static, misnamed, misnamed_read, push_number};
 use par_method_area::MethodArea;
 
 impl Running {
@@ -67,7 +67,7 @@ impl Running {
     {
         match area.field(site.point.class, index) {
             Some(named) => get_field(&mut self.stack, &self.heap, named.owner, named.field, ahead),
-            None => misnamed(&self.stack, 1, 1, ahead),
+            None => misnamed_read(&self.stack, ahead),
         }
     }
 }

@@ -7,7 +7,7 @@ ghost use Rattle.par_machine.specs.Site.{IsThere, IsPerformed, unless_lock};
 
 use crate::running::Running;
 use crate::site::Site;
-use par_actions::{Done, misnamed, put_field, put_static};
+use par_actions::{Done, misnamed, misnamed_write, put_field, put_static};
 use par_method_area::MethodArea;
 
 /// A write to a lock's field is not told.
@@ -64,7 +64,7 @@ impl Running {
                     ahead,
                 )
             }
-            None => misnamed(&self.stack, 2, 0, ahead),
+            None => misnamed_write(&self.stack, ahead),
         }
     }
 }

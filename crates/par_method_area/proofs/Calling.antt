@@ -46,13 +46,13 @@ use Rattle.par_method_area.specs.Methods.{IsMethodRow, line_in, line_row, signat
 use Rattle.par_method_area.specs.Signatures.{Told, said_by, signature_in}
 use Rattle.par_method_area.specs.Known.{signature_at, KnowsMethod, is_exception_initializer}
 use Rattle.par_method_area.specs.Targets.{gives_result, target_of}
-use Rattle.par_method_area.proofs.Apart.{AreApart}
+use Rattle.par_link.proofs.Apart.{AreApart}
 use Rattle.par_method_area.proofs.Beside.{found, missing}
 use Rattle.par_method_area.proofs.Taking.{takes, takes-own, all-take}
 use Rattle.par_method_area.proofs.Signing.{said-at}
 use Rattle.par_method_area.proofs.Saying.{IsSaid, signature-said}
 use Rattle.par_method_area.proofs.Numbered.{name-at, some-name}
-use Rattle.par_method_area.proofs.Unbroken.{names-apart, own-name, method-right}
+use Rattle.par_link.proofs.Faultless.{names-apart, own-name, method-right}
 
 -- ---- results
 

@@ -27,7 +27,7 @@ use Rattle.par_method_area.specs.Methods.{signature_of}
 use Rattle.par_method_area.specs.Signatures.{Told}
 use Rattle.par_method_area.proofs.Calling.{as-said, own-row, said-of}
 use Rattle.par_method_area.proofs.Saying.{signature-said}
-use Rattle.par_method_area.proofs.Unbroken.{names-apart, small}
+use Rattle.par_link.proofs.Faultless.{names-apart, small}
 
 pub all-at : {A : Type 0} (p : A → Bool) (xs : List A) (n : ℕ) (x : A) → list_all p xs ≡ true
     → Some x ≡ slice_get xs n → p x ≡ true

@@ -1,6 +1,4 @@
 pub mod Beside
-pub mod Apart
-pub mod Unbroken
 pub mod Taking
 pub mod Saying
 pub mod Signing

@@ -18,7 +18,7 @@ use Rattle.par_steps.specs.Links.{field_in, field_link, method_in, method_link, 
 use Rattle.par_method_area.specs.declared.known.MemberNames.{MemberNames}
 use Rattle.par_method_area.specs.Known.{KnowsNames, AreNames}
 use Rattle.par_method_area.specs.Methods.{signature_of}
-use Rattle.par_method_area.proofs.Unbroken.{field-right, method-right, own-name}
+use Rattle.par_link.proofs.Faultless.{field-right, method-right, own-name}
 
 pub is-name : (name : Name) → is_name name ≡ true → IsName name
 is-name name is =

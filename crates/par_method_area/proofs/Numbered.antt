@@ -13,7 +13,7 @@ use Rattle.par_single.specs.Members.{own_name}
 use Rattle.par_values.specs.Areas.{Name}
 use Rattle.par_steps.specs.Classes.{class_names, is_exception}
 use Rattle.par_method_area.specs.Classes.{exception_flags}
-use Rattle.par_method_area.proofs.Unbroken.{own-name}
+use Rattle.par_link.proofs.Faultless.{own-name}
 
 -- a name has some bytes
 pub some-name : (name : Name) → IsName name → bytes_eq [] name ≡ false

@@ -28,7 +28,7 @@ use Rattle.par_method_area.proofs.Taking.{takes, takes-own, takes-none}
 use Rattle.par_method_area.proofs.Saying.{kind-named, field-said, told-kind}
 use Rattle.par_method_area.proofs.Numbered.{name-at, some-name, not-locks, locks-missed}
 use Rattle.par_method_area.proofs.Counts.{many-few}
-use Rattle.par_method_area.proofs.Unbroken.{names-apart, field-right, own-name, small}
+use Rattle.par_link.proofs.Faultless.{names-apart, field-right, own-name, small}
 
 module _ (files : List ClassFile) (rows : List ClassRow) (exceptions : List Bool)
     (statics : List MVal)

@@ -20,7 +20,7 @@ use Rattle.par_method_area.specs.Classes.{IsClassRow}
 use Rattle.par_method_area.specs.Methods.{IsMethodRow}
 use Rattle.par_method_area.proofs.Beside.{found, missing}
 use Rattle.par_method_area.proofs.Coded.{all-at}
-use Rattle.par_method_area.proofs.Unbroken.{small}
+use Rattle.par_link.proofs.Faultless.{small}
 
 nothing : (at : ℕ) → decoded_at [] at ≡ None
 nothing at = ap decoded (drop-nil {A = ℕ} at)

@@ -1,6 +1,6 @@
 -- A program has as many bodies as methods, and few enough to number.
-use Rattle.std.proofs.Common.{◌≡◌, ℕ, ◌≤◌, ◌*◌, List, [], ◌∷◌, Option, Some, None, length, refl, sym}
-use Rattle.std.proofs.Common.{subst, arith}
+use Rattle.std.proofs.Common.{◌≡◌, ℕ, ◌≤◌, ◌*◌, List, [], ◌∷◌, Option, Some, None, length, refl}
+use Rattle.std.proofs.Common.{sym, subst, arith}
 use Rattle.std.specs.List.{flat_map, AllByRecursion}
 use Rattle.std.proofs.lemmas.List.{length-append}
 use Rattle.par_tree.specs.Plain.{Method, Class, Source, Actors, Lock, Policy, Declared}

@@ -7,3 +7,4 @@ pub mod OfTree
 pub mod Clashes
 pub mod Flowing
 pub mod Few
+pub mod Securing

@@ -3,6 +3,8 @@
 ghost use Rattle.std.specs.Prelude.{◌≡◌, ◌≤◌, ◌<◌, IfOk, IfErr, length, map};
 ghost use Rattle.par_flow.specs.Table.{facts_in};
 ghost use Rattle.par_verdict.specs.Accepted.{IsAcceptedBy};
+ghost use Rattle.par_secrecy.specs.Secure.{Secure};
+ghost use Rattle.par_alike.specs.Subject.{subject};
 ghost use Rattle.par_observer.specs.Judgements.{IsAcceptedAs, IsRefused, IsUnread, overlong};
 ghost use Rattle.par_observer.specs.Trees.{IsWellFormed};
 
@@ -21,12 +23,13 @@ const TOO_LONG: u16 = 5;
 /// sentence, its names, its limits, its types, fields without a policy, and its flows. What is
 /// accepted has a typed program and facts of each of its bodies, of which there are at most 65,536:
 /// closed ones, at or below all others, and they keep all rules on flows. What may be asked of the
-/// program is said of its table and its bodies as well, without the source.
+/// program is said of its table and its bodies as well, without the source. The program is secure.
 pub fn judge(alloc: Global, source: &[u8]) -> Result<Accepted, JudgeError>
     ensures accepted { IfOk result (λ accepted. IsAcceptedAs source.now accepted.typed) }
     ensures well_formed { IfOk result (λ accepted. IsWellFormed accepted.typed) }
     ensures kept { IfOk result (λ accepted.
         IsAcceptedBy accepted.typed (map facts_in accepted.facts)) }
+    ensures secure { IfOk result (λ accepted. Secure (subject accepted.typed)) }
     ensures refused { IfErr result (IsRefused source.now) }
 {
     if source.len() > LONGEST_SOURCE {

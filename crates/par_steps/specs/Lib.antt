@@ -8,3 +8,4 @@ pub mod Step
 pub mod Run
 pub mod Target
 pub mod Places
+pub mod FieldLaws

@@ -9,4 +9,4 @@
 
 mod laws;
 
-pub use laws::more_instructions_extend;
+pub use laws::{more_instructions_extend, own_fields_stand_apart, static_fields_stand_apart};

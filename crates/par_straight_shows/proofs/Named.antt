@@ -6,6 +6,7 @@ use Rattle.par_instr.specs.declared.instr.Instr.{Instr}
 use Rattle.par_pool.specs.Entries.{IsFieldAt, IsMethodAt}
 use Rattle.par_class.specs.declared.file.ClassFile.{ClassFile}
 use Rattle.par_values.specs.declared.value.MVal.{MVal}
+use Rattle.par_values.specs.declared.kind.Kind.TheVariants.{Anything}
 use Rattle.par_values.specs.declared.link.Link.{Link}
 use Rattle.par_values.specs.declared.link.Link.TheVariants as link
 use Rattle.par_values.specs.Operations.{GetStatic, PutStatic, InvokeStatic, Misnamed, of_field}
@@ -81,7 +82,7 @@ module _ (p : Program) (file : ClassFile) (h : IsFileOf p file) (r : IsRunnable 
       let is =
       places.is_item file.pool.entries p.class (main_code p file h r).code at
       (get (field_name p f)) items here in
-      ap (operation names) is.is ∙ ap (of_field GetStatic (Misnamed 0 1))
+      ap (operation names) is.is ∙ ap (of_field GetStatic (Misnamed [] 1))
       (field_is f is.index declared is.names)
 
   pub put_is : (f at : ℕ) (items : List Item) (here : Stands at (put (field_name p f) ∷ items))
@@ -92,7 +93,7 @@ module _ (p : Program) (file : ClassFile) (h : IsFileOf p file) (r : IsRunnable 
       let is =
       places.is_item file.pool.entries p.class (main_code p file h r).code at
       (put (field_name p f)) items here in
-      ap (operation names) is.is ∙ ap (of_field PutStatic (Misnamed 1 0))
+      ap (operation names) is.is ∙ ap (of_field PutStatic (Misnamed (Anything ∷ []) 0))
       (field_is f is.index declared is.names)
 
   pub read_is : (c at : ℕ) (items : List Item) (here : Stands at (read (channel_name p c) ∷ items))
@@ -106,7 +107,7 @@ module _ (p : Program) (file : ClassFile) (h : IsFileOf p file) (r : IsRunnable 
       let named : IsMethodAt file.pool.entries is.index p.class d.name (codes "()I") =
       subst (λ (n : Name). IsMethodAt file.pool.entries is.index p.class n (codes "()I"))
       (ap channel_name_of e) is.names in
-      ap (operation names) is.is ∙ ap (of_method InvokeStatic (Misnamed 0 0))
+      ap (operation names) is.is ∙ ap (of_method InvokeStatic (Misnamed [] 0))
       (input_linked p file h r c d e is.index direction named)
 
   pub write_is : (c at : ℕ) (items : List Item)
@@ -121,7 +122,7 @@ module _ (p : Program) (file : ClassFile) (h : IsFileOf p file) (r : IsRunnable 
       let named : IsMethodAt file.pool.entries is.index p.class d.name (codes "(I)V") =
       subst (λ (n : Name). IsMethodAt file.pool.entries is.index p.class n (codes "(I)V"))
       (ap channel_name_of e) is.names in
-      ap (operation names) is.is ∙ ap (of_method InvokeStatic (Misnamed 0 0))
+      ap (operation names) is.is ∙ ap (of_method InvokeStatic (Misnamed [] 0))
       (output_linked p file h r c d e is.index direction named)
 
   pub plain_is : (i : Instr) (at : ℕ) (items : List Item) (here : Stands at (plain i ∷ items))

@@ -29,7 +29,8 @@ use Rattle.par_tables.specs.Laws.{InferredAreOfFields}
 
 -- ---- inferred numbers come one after the other
 
-ranges_join : (a m n : ℕ) → range_with_len a m ++ range_with_len (a + m) n ≡ range_with_len a (m + n)
+ranges_join : (a m n : ℕ)
+    → range_with_len a m ++ range_with_len (a + m) n ≡ range_with_len a (m + n)
 ranges_join a zero n =
     let first : a + 0 ≡ a = omega arith in
     let count : n ≡ 0 + n = omega arith in
@@ -158,7 +159,8 @@ module _ (source : Source) where
   method_shares : (class : ℕ) (m : Method) → MethodShares shared (method_info r class m)
   method_shares class m = record {
     result = may_within source m.policy;
-    params = each (λ p. p.policy < shared) (param_info r) m.params (λ p. may_within source p.policy);
+    params =
+        each (λ p. p.policy < shared) (param_info r) m.params (λ p. may_within source p.policy);
     effect = may_within source (slice_get m.effects 0);
     throws = each (λ x. x.policy < shared) (throw_info r) m.throws (λ x. number_within source _);
   }

@@ -7,7 +7,7 @@ use Rattle.std.specs.Prelude.{if◌then◌else◌}
 use Rattle.std.specs.List.{AllByRecursion, list_any}
 use Rattle.std.specs.Option.{option_to_list}
 use Rattle.std.specs.Str.{bytes_eq}
-use Rattle.std.proofs.lemmas.Bool.{eqb-true}
+use Rattle.std.proofs.lemmas.Bool.{eqb-true, and_parts, or_left, or_right}
 use Rattle.std.proofs.lemmas.Bool.Decides.{nat_tests}
 use Rattle.std.proofs.lemmas.List.{map-append}
 use Rattle.std.proofs.lemmas.List.Folds.{list_any-append}
@@ -30,10 +30,6 @@ use Rattle.par_resolved.specs.Resolved.{resolved, number_of, may_number, table_o
 use Rattle.par_tables.proofs.Lists.{all_left, all_right, all_unmapped, in_front}
 
 -- ---- equal policies
-
-and_parts : (a b : Bool) → (a && b) ≡ true → (a ≡ true) × (b ≡ true)
-and_parts true b h = (refl, h)
-and_parts false b h = absurd (cc h)
 
 one_clause : (c d : Clause) → same_clause c d ≡ true → c ≡ d
 one_clause c d h =
@@ -69,14 +65,6 @@ itself (c ∷ p) =
 abbrev pub IsThere : List Entry → List Clause → Type 0
 IsThere es p = list_any (λ f. same_policy p f.policy) es ≡ true
 
-or_left : (a b : Bool) → a ≡ true → (a || b) ≡ true
-or_left true b h = refl
-or_left false b h = absurd (cc h)
-
-or_right : (a : Bool) → (a || true) ≡ true
-or_right true = refl
-or_right false = refl
-
 grows : (es : List Entry) (e : Entry) (p : List Clause) → IsThere es p → IsThere (with_new es e) p
 grows es e p h = in_case (list_any (λ f. same_policy e.policy f.policy) es) where
   in_case : (b : Bool) → IsThere (if b then es else es ++ e ∷ []) p
@@ -93,7 +81,7 @@ joins es e = in_case (list_any (λ f. same_policy e.policy f.policy) es) refl wh
   in_case false h =
       list_any-append (λ f. same_policy e.policy f.policy) es (e ∷ [])
       ∙ ap (λ b. list_any (λ f. same_policy e.policy f.policy) es || (b || false)) (itself e.policy)
-      ∙ or_right (list_any (λ f. same_policy e.policy f.policy) es)
+      ∙ or_right (list_any (λ f. same_policy e.policy f.policy) es) true refl
 
 stays : (es more : List Entry) (p : List Clause) → IsThere es p → IsThere (fold with_new es more) p
 stays es [] p h = h

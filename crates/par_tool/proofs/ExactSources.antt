@@ -13,16 +13,25 @@ use Rattle.par_tool.specs.declared.answer.Answer.TheVariants.{Absent, ReadFault,
 use Rattle.par_tool.specs.declared.answer.Answer.TheVariants.{TooLong, NotBuilt}
 use Rattle.par_tool.specs.Texts.{status}
 use Rattle.par_tool.specs.Outside.{Text, NotRead, IsThere, IsMissing, IsOverlong}
-use Rattle.par_tool.specs.Sources.{IsBroken, IsCompiledAs, IsNotBuilt, ReadSource, ReadCompiled}
-use Rattle.par_tool.specs.Sources.{Checked, CompiledSo}
+use Rattle.par_tool.specs.Sources.{IsBroken, IsSecureSource, IsCompiledAs, IsNotBuilt, ReadSource}
+use Rattle.par_tool.specs.Sources.{ReadCompiled, Checked, CompiledSo}
 use Rattle.par_tool.specs.Exactly.{IsSaidBy, IsStatus, TellsSource, Checks, Compiles}
 use Rattle.par_tool.proofs.Statuses.{IsNear, same, near_status, compiles, read_there, missing_read}
 use Rattle.par_tool.proofs.Statuses.{overlong_read, missing_not_read, overlong_not_read}
 use Rattle.par_tool.proofs.Statuses.{there_not_read}
 
+-- a source whose program is secure is accepted
+pub secure_is_accepted : (source : Text) → IsSecureSource source → IsAcceptedSource source
+secure_is_accepted source (typed, h) = record {
+  tree = h.accepted.tree;
+  short = h.accepted.short;
+  is_tree = h.accepted.is_tree;
+  accepted = h.accepted.keeps.0;
+}
+
 -- what a check says of a source
 abbrev CheckVerdict : Text → Answer → Type 0
-CheckVerdict source Accepted = IsAcceptedSource source
+CheckVerdict source Accepted = IsSecureSource source
 CheckVerdict source (Refused rule line column limit count) =
     IsBroken source rule line column limit count
 CheckVerdict source _ = ⊥
@@ -62,7 +71,7 @@ check_refuses : (source : Text) (a : Answer) → CheckVerdict source a
     → (rule line column limit count : ℕ) → IsBroken source rule line column limit count
     → IsNear 1 a
 check_refuses source Accepted v rule line column limit count h =
-    absurd (clash source rule line column limit count v h)
+    absurd (clash source rule line column limit count (secure_is_accepted source v) h)
 check_refuses source (Refused r l c k n) v rule line column limit count h = same refl
 check_refuses source _ v rule line column limit count h = absurd v
 
@@ -93,7 +102,7 @@ compile_refuses source WriteFault v rule line column limit count h =
     absurd (clash source rule line column limit count v.0 h)
 compile_refuses source (Refused r l c k n) v rule line column limit count h = same refl
 compile_refuses source NotBuilt v rule line column limit count h =
-    absurd (clash source rule line column limit count v.accepted h)
+    absurd (clash source rule line column limit count (secure_is_accepted source v.accepted) h)
 compile_refuses source _ v rule line column limit count h = absurd v
 
 -- ---- files that the folder tells of
@@ -163,8 +172,11 @@ module _ (files : Option Files) (before after : FolderCounts) (file : Text) wher
   read_built : (P : Program → Type 0) → ReadCompiled files file P
       → ReadSource files file IsBuilt
   read_built P h =
-      let is : IsCompiledAs h.2.0 h.0 = h.2.2 in
-      (h.2.0, h.2.1, (is.accepted, (h.0, is.passed.has, is.passed.accepted)))
+      let is : IsCompiledAs h.2.0 h.0 = h.2.2 in (
+        h.2.0,
+        h.2.1,
+        (secure_is_accepted h.2.0 is.accepted, (h.0, is.passed.has, is.passed.accepted)),
+      )
 
   compiled_found : (later : Option Files) (a : Answer)
       → CompiledSo files later before after file a

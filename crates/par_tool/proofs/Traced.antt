@@ -11,7 +11,6 @@ use Rattle.par_resolved.specs.Resolved.{table_of}
 use Rattle.par_observer.specs.Trees.{bodies_of}
 use Rattle.par_values.specs.declared.inputs.Inputs.{Inputs}
 use Rattle.par_typed.specs.declared.program.Typed.{Typed}
-use Rattle.par_observer.specs.Judgements.{IsAcceptedAs}
 use Rattle.par_secrecy.specs.Runs.{Witnessed, Run}
 use Rattle.par_runs.specs.Source.{run_of, source}
 use Rattle.par_meaning.specs.Onward.{witnessed}
@@ -20,7 +19,7 @@ use Rattle.par_meaning.specs.declared.run.SourceRun.{SourceRun}
 use Rattle.par_trace.specs.Channels.{first_misfit}
 use Rattle.par_trace.specs.Texts as told
 use Rattle.par_tool.specs.Outside.{Text}
-use Rattle.par_tool.specs.Sources.{ReadSource}
+use Rattle.par_tool.specs.Sources.{ReadSource, IsSecureAs}
 use Rattle.par_tool.specs.Given.{AreInputs}
 use Rattle.par_tool.specs.Traces.{IsTraced, source_run}
 
@@ -41,12 +40,13 @@ as_told run =
 
 pub traced : (files : Option Files) (file name : Text) (bound n : ℕ) (typed : Typed)
     (run : SourceRun) (lists : Inputs) → n ≡ bound
-    → ReadSource files file (λ source. IsAcceptedAs source typed)
+    → ReadSource files file (λ source. IsSecureAs source typed)
     → AreInputs (first_misfit typed.table) files name lists
     → as_run run ≡ source typed lists n
     → IsTraced files file name bound typed.table run
 traced files file name bound n typed run lists same read given is =
-    let own : IsAcceptedAs read.0 typed = read.2 in
+    let is_secure : IsSecureAs read.0 typed = read.2 in
+    let own = is_secure.accepted in
     let table_is : typed.table ≡ table_of own.tree = own.keeps.1.table_is in
     record {
       tree = own.tree;
@@ -57,6 +57,9 @@ traced files file name bound n typed run lists same read given is =
           read = read.1;
           is_tree = own.is_tree;
           accepted = own.keeps.0;
+          typed = typed;
+          program = own.keeps.1;
+          secure = is_secure.secure;
         };
         lists = lists;
         given = subst (λ (t : Table). AreInputs (first_misfit t) files name lists) table_is given;

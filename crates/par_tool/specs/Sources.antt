@@ -6,6 +6,7 @@ use Rattle.par_class.specs.declared.file.ClassFile.{ClassFile}
 use Rattle.par_class.specs.Spelling.{Spells}
 use Rattle.par_values.specs.declared.inputs.Inputs.{Inputs}
 use Rattle.par_values.specs.declared.run.Ending.TheVariants.{Stopped}
+use Rattle.par_secrecy.specs.Secure.{Secure}
 use Rattle.par_secrecy.specs.Subject.{Fits}
 use Rattle.par_secrecy.specs.Target.{Target, fitting}
 use Rattle.par_secrecy.specs.Shows.{Shows, shown_run}
@@ -13,6 +14,7 @@ use Rattle.par_secrecy.specs.SecureFiles.{SecureFiles}
 use Rattle.par_straight.specs.declared.program.Program.{Program}
 use Rattle.par_straight.specs.Meaning.{source_run}
 use Rattle.par_straight.specs.Subject.{subject}
+use Rattle.par_alike.specs.Subject as program
 use Rattle.par_straight_compile.specs.Files.{IsFileOf}
 use Rattle.par_single.specs.Single.{runs_alone}
 use Rattle.par_steps.specs.Target.{target}
@@ -21,8 +23,9 @@ use Rattle.par_pool.specs.declared.reading.TheConstants.{LONGEST_CLASS}
 use Rattle.par_tool.specs.declared.answer.Answer.{Answer}
 use Rattle.par_tool.specs.declared.answer.Answer.TheVariants.{Accepted, Compiled, Refused}
 use Rattle.par_tool.specs.declared.answer.Answer.TheVariants.{WriteFault, NotBuilt}
+use Rattle.par_typed.specs.declared.program.Typed.{Typed}
 use Rattle.par_typed.specs.declared.refusal.Refusal.{Refusal}
-use Rattle.par_observer.specs.Judgements.{Breaks, IsAcceptedSource}
+use Rattle.par_observer.specs.Judgements.{Breaks, IsAcceptedAs}
 use Rattle.par_observer.specs.Straight.{HasPassed, IsPassed}
 use Rattle.par_tool.specs.Outside.{Text, WasRead, NotRead, class_file}
 
@@ -38,14 +41,23 @@ pub record IsBroken (source : Text) (rule line column limit count : ℕ) : Type 
   pub limit_is : limit ≡ refusal.limit
   pub count_is : count ≡ refusal.count
 
--- the source keeps all rules, and is a straight-line one whose own check lets its program pass
+-- The source keeps all rules, this is its program, and the program is secure.
+pub record IsSecureAs (source : Text) (typed : Typed) : Type 0 where
+  pub accepted : IsAcceptedAs source typed
+  pub secure : Secure (program.subject typed)
+
+-- the source keeps all rules, and its program is secure
+abbrev pub IsSecureSource : Text → Type 0
+IsSecureSource source = (typed : Typed) × IsSecureAs source typed
+
+-- the same, and it is a straight-line one whose own check lets its program pass
 pub record IsCompiledAs (source : Text) (p : Program) : Type 0 where
-  pub accepted : IsAcceptedSource source
+  pub accepted : IsSecureSource source
   pub passed : IsPassed source p
 
--- the source keeps all rules, and is no such straight-line source
+-- the source keeps all rules, its program is secure, and it is no such straight-line source
 pub record IsNotBuilt (source : Text) : Type 0 where
-  pub accepted : IsAcceptedSource source
+  pub accepted : IsSecureSource source
   pub other : HasPassed source → ⊥
 
 -- what is said of a source that is not accepted
@@ -84,7 +96,7 @@ ReadCompiled files file P =
 -- Why a check ends with an answer.
 module _ (files : Option Files) (before after : FolderCounts) (file : Text) where
   abbrev pub Checked : Answer → Type 0
-  Checked Accepted = ReadSource files file IsAcceptedSource
+  Checked Accepted = ReadSource files file IsSecureSource
   Checked answer = Rejected files before after file answer
 
 -- A run of the program that ends within n steps is shown whole within 16 n + 16 instructions.

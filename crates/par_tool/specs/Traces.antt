@@ -4,14 +4,17 @@ use Rattle.par_io.specs.Causes.{FolderCounts, Makes, Files}
 use Rattle.par_lexer.specs.declared.cut.TheConstants.{LONGEST_SOURCE}
 use Rattle.par_tree.specs.Plain.{Source}
 use Rattle.par_typed.specs.declared.table.Table.{Table}
+use Rattle.par_typed.specs.declared.program.Typed.{Typed}
 use Rattle.par_meaning.specs.declared.run.SourceRun.{SourceRun}
 use Rattle.par_values.specs.declared.inputs.ChannelInput.{ChannelInput}
 use Rattle.par_values.specs.declared.inputs.Inputs.{Inputs}
 use Rattle.par_inputs.specs.declared.read.TheConstants.{LONGEST_INPUTS}
 use Rattle.par_resolved.specs.Resolved.{table_of}
 use Rattle.par_observer.specs.Judgements.{IsTreeOf}
-use Rattle.par_observer.specs.Trees.{bodies_of, IsAcceptedTree}
+use Rattle.par_observer.specs.Trees.{bodies_of, IsAcceptedTree, IsProgramOf}
 use Rattle.par_secrecy.specs.Runs.{Run}
+use Rattle.par_secrecy.specs.Secure.{Secure}
+use Rattle.par_alike.specs.Subject.{subject}
 use Rattle.par_runs.specs.Source.{run_of}
 use Rattle.par_trace.specs.Channels.{first_misfit}
 use Rattle.par_trace.specs.Texts as told
@@ -29,12 +32,16 @@ source_run tree lines bound = run_of (table_of tree) (bodies_of tree) lines boun
 abbrev pub misfits : Source → Misfits
 misfits tree = first_misfit (table_of tree)
 
--- the source in a file was read, and this is its tree, which keeps all rules
+-- the source in a file was read, and this is its tree, which keeps all rules and whose program is
+-- secure
 pub record IsSourceIn (files : Option Files) (file : Text) (tree : Source) : Type 0 where
   pub source : Text
   pub read : WasRead files LONGEST_SOURCE file source
   pub is_tree : IsTreeOf source tree
   pub accepted : IsAcceptedTree tree
+  pub typed : Typed
+  pub program : IsProgramOf tree typed
+  pub secure : Secure (subject typed)
 
 -- the run of a source on an input file
 pub record IsTraceOf (files : Option Files) (file inputs : Text) (bound : ℕ) (tree : Source)

@@ -5,9 +5,9 @@ ghost use Rattle.par_io.specs.Causes.{Makes, NoneFalls};
 ghost use Rattle.par_lexer.specs.Names.{IsName};
 ghost use Rattle.par_tool.specs.Failures.{IsFailure, FaultsAreTold};
 ghost use Rattle.par_tool.specs.Outside.{Text, MakesAtMost};
-ghost use Rattle.par_observer.specs.Judgements.{IsAcceptedAs};
-ghost use Rattle.par_tool.specs.Sources.{IsCompiledAs, ReadSource, Rejected, Uncompiled, Checked};
-ghost use Rattle.par_tool.specs.Sources.{CompiledSo, IsUnaccepted, IsUncompiled, IsClassOf};
+ghost use Rattle.par_tool.specs.Sources.{IsSecureAs, IsCompiledAs, ReadSource, Rejected, Checked};
+ghost use Rattle.par_tool.specs.Sources.{Uncompiled, CompiledSo, IsUnaccepted, IsUncompiled};
+ghost use Rattle.par_tool.specs.Sources.{IsClassOf};
 
 use crate::answer::Answer;
 use crate::reading::{Failure, read};
@@ -23,7 +23,7 @@ use std::alloc::{AllocError, Global};
 /// What a source is accepted as.
 fn accepted(alloc: Global, source: &[u8]) -> Result<Accepted, Failure>
     requires { length source.now ≤ LONGEST_SOURCE }
-    ensures accepted { IfOk result (λ accepted. IsAcceptedAs source.now accepted.typed) }
+    ensures accepted { IfOk result (λ accepted. IsSecureAs source.now accepted.typed) }
     ensures failed { IfErr result (IsFailure (IsUnaccepted source.now)) }
 {
     match judge(alloc, source) {
@@ -69,7 +69,7 @@ pub fn accepted_source<F: Folder>(
     ensures faults_are_told { IsTrue F.counts_faults_alone →
         FaultsAreTold result (F.counts folder.old).faults (F.counts folder.new).faults }
     ensures accepted { IfOk result (λ accepted.
-        ReadSource (F.files folder.old) file.now (λ source. IsAcceptedAs source accepted.typed)) }
+        ReadSource (F.files folder.old) file.now (λ source. IsSecureAs source accepted.typed)) }
     ensures failed { IfErr result (IsFailure (Rejected (F.files folder.old)
         (F.counts folder.old) (F.counts folder.new) file.now)) }
 {

@@ -100,7 +100,7 @@ takes_gives classes Throw a call named has = either (operand 0 a) where
   either (Ref c n) = tt
 takes_gives classes Leave a call named has = tt
 takes_gives classes (LeaveWith kind) a call named has = tt
-takes_gives classes (Misnamed n k) a call named has = absurd (cc named)
+takes_gives classes (Misnamed kinds n) a call named has = absurd (cc named)
 
 pub takes_and_gives : TakesAndGives
 takes_and_gives = takes_gives

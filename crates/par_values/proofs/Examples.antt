@@ -6,7 +6,7 @@ use Rattle.std.proofs.Common.{negsuc, refl, codes}
 use Rattle.par_values.specs.declared.value.MVal.{MVal}
 use Rattle.par_values.specs.declared.value.MVal.TheVariants.{Int, Null, Ref}
 use Rattle.par_values.specs.declared.kind.Kind.{Kind}
-use Rattle.par_values.specs.declared.kind.Kind.TheVariants.{Number, Object, AnyObject}
+use Rattle.par_values.specs.declared.kind.Kind.TheVariants.{Number, Object, AnyObject, Anything}
 use Rattle.par_values.specs.declared.run.Event.TheVariants.{Out, Set, Put, Born}
 use Rattle.par_values.specs.declared.run.Val.TheVariants as shown
 use Rattle.par_values.specs.declared.link.ClassLink.{ClassLink}
@@ -16,8 +16,8 @@ use Rattle.par_values.specs.declared.link.Target.{Target}
 use Rattle.par_values.specs.declared.link.Target.TheVariants.{Input, Output, Code, Nothing}
 use Rattle.par_values.specs.declared.link.Link.TheVariants as link
 use Rattle.par_instr.specs.declared.instr.Instr.TheVariants.{AloadShort, IloadShort, Ldc, LdcW}
-use Rattle.par_instr.specs.declared.instr.Instr.TheVariants.{Getstatic, Putstatic, Invokespecial}
-use Rattle.par_instr.specs.declared.instr.Instr.TheVariants.{Invokestatic}
+use Rattle.par_instr.specs.declared.instr.Instr.TheVariants.{Getstatic, Putstatic, Getfield}
+use Rattle.par_instr.specs.declared.instr.Instr.TheVariants.{Putfield, Invokespecial, Invokestatic}
 use Rattle.par_values.specs.Areas.{Name, Areas, next, first_locals, first_value, shown_value}
 use Rattle.par_values.specs.Arithmetic.{Plus, Minus, Quotient, Remainder, ShiftLeft, ShiftRight}
 use Rattle.par_values.specs.Arithmetic.{ShiftRightUnsigned, Xor, combined}
@@ -131,7 +131,7 @@ at_the_end : reason classes (record plain { stands = false }) (Push (pos 1)) (ar
 unfolding reason effect
 at_the_end = refl
 
-wrong_index : why (Misnamed 0 1) [] [] ≡ Some 6
+wrong_index : why (Misnamed [] 1) [] [] ≡ Some 6
 unfolding reason effect
 wrong_index = refl
 
@@ -219,12 +219,12 @@ write_of_a_field_of_an_object = refl
 
 -- ---- several together: the least is told, also before null is acted on
 
-missing_first : reason classes (record plain { stands = false }) (Misnamed 1 0) (areas [] [])
-    ≡ Some 1
+missing_first : reason classes (record plain { stands = false }) (Misnamed (Anything ∷ []) 0)
+    (areas [] []) ≡ Some 1
 unfolding reason effect
 missing_first = refl
 
-room_first : why (Misnamed 0 1) [] (Null ∷ Null ∷ []) ≡ Some 3
+room_first : why (Misnamed [] 1) [] (Null ∷ Null ∷ []) ≡ Some 3
 unfolding reason effect
 room_first = refl
 
@@ -259,9 +259,25 @@ object_of_its_class : why (PutStatic (field true (Object (codes "B")))) [] (Ref 
 unfolding reason effect
 object_of_its_class = refl
 
-any_value_where_none_is_named : why (Misnamed 1 0) [] (Int (pos 1) ∷ []) ≡ Some 6
+any_value_where_none_is_named : why (Misnamed (Anything ∷ []) 0) [] (Int (pos 1) ∷ []) ≡ Some 6
 unfolding reason effect
 any_value_where_none_is_named = refl
+
+-- what stands where the object of a field must be is an object or null, whatever the index names
+
+number_where_an_object_is_read : why (Misnamed (AnyObject ∷ []) 1) [] (Int (pos 1) ∷ []) ≡ Some 2
+unfolding reason effect
+number_where_an_object_is_read = refl
+
+number_where_an_object_is_written : why (Misnamed (Anything ∷ AnyObject ∷ []) 0) []
+    (Int (pos 1) ∷ Int (pos 2) ∷ []) ≡ Some 2
+unfolding reason effect
+number_where_an_object_is_written = refl
+
+any_value_above_a_null : why (Misnamed (Anything ∷ AnyObject ∷ []) 0) []
+    (Int (pos 1) ∷ Null ∷ []) ≡ Some 6
+unfolding reason effect
+any_value_above_a_null = refl
 
 push_into_the_last_room : why (Push (pos 1)) [] (Null ∷ []) ≡ None
 unfolding reason effect
@@ -296,20 +312,28 @@ object_local = refl
 number_local : operation (λ n. link.Other) (IloadShort 2) ≡ Load 2 Number
 number_local = refl
 
-constant_of_a_field : operation (λ n. link.Field (field true Number)) (Ldc 1) ≡ Misnamed 0 1
+constant_of_a_field : operation (λ n. link.Field (field true Number)) (Ldc 1) ≡ Misnamed [] 1
 constant_of_a_field = refl
 
-read_of_a_number : operation (λ n. link.Number (pos 5)) (Getstatic 1) ≡ Misnamed 0 1
+read_of_a_number : operation (λ n. link.Number (pos 5)) (Getstatic 1) ≡ Misnamed [] 1
 read_of_a_number = refl
 
-write_of_a_number : operation (λ n. link.Number (pos 5)) (Putstatic 1) ≡ Misnamed 1 0
+write_of_a_number : operation (λ n. link.Number (pos 5)) (Putstatic 1) ≡ Misnamed (Anything ∷ []) 0
 write_of_a_number = refl
 
+read_of_an_object_by_a_number : operation (λ n. link.Number (pos 5)) (Getfield 1)
+    ≡ Misnamed (AnyObject ∷ []) 1
+read_of_an_object_by_a_number = refl
+
+write_of_an_object_by_a_number : operation (λ n. link.Number (pos 5)) (Putfield 1)
+    ≡ Misnamed (Anything ∷ AnyObject ∷ []) 0
+write_of_an_object_by_a_number = refl
+
 special_call_of_a_field : operation (λ n. link.Field (field true Number)) (Invokespecial 1)
-    ≡ Misnamed 1 0
+    ≡ Misnamed (Anything ∷ []) 0
 special_call_of_a_field = refl
 
-call_of_a_field : operation (λ n. link.Field (field true Number)) (Invokestatic 1) ≡ Misnamed 0 0
+call_of_a_field : operation (λ n. link.Field (field true Number)) (Invokestatic 1) ≡ Misnamed [] 0
 call_of_a_field = refl
 
 named_number : operation (λ n. link.Number (pos n)) (LdcW 300) ≡ Push (pos 300)

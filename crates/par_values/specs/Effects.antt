@@ -158,4 +158,4 @@ effect classes (Create c) a = created c a
 effect classes Throw a = thrown (operand 0 a)
 effect classes Leave a = Returns
 effect classes (LeaveWith kind) a = ReturnsWith (operand 0 a)
-effect classes (Misnamed n k) a = Goes a
+effect classes (Misnamed kinds n) a = Goes a

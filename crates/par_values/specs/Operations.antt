@@ -1,6 +1,5 @@
 -- What an instruction is to do, with what its index names in place of the index.
 use Rattle.std.specs.Prelude.{ℕ, ℤ, Bool, true, false, if◌then◌else◌, List, [], ◌∷◌, ◌++◌, reverse}
-use Rattle.std.specs.Prelude.{replicate}
 use Rattle.par_instr.specs.declared.instr.Instr.{Instr}
 use Rattle.par_instr.specs.declared.instr.Instr.TheVariants.{AconstNull, Iconst, Bipush, Sipush}
 use Rattle.par_instr.specs.declared.instr.Instr.TheVariants.{Ldc, LdcW, Iload, Aload, IloadShort}
@@ -67,12 +66,13 @@ pub data Operation : Type 0 where
   Leave : Operation
   -- leaves it with a result of this kind
   LeaveWith : Kind → Operation
-  -- an index of a wrong kind; so many operands are taken and pushed whatever the index names
-  Misnamed : (takes gives : ℕ) → Operation
+  -- an index of a wrong kind; operands of these kinds are taken, and so many pushed, whatever the
+  -- index names
+  Misnamed : (takes : List Kind) → (gives : ℕ) → Operation
 
 abbrev pub constant : Link → Operation
 constant (link.Number v) = Push v
-constant _ = Misnamed 0 1
+constant _ = Misnamed [] 1
 
 -- the operation of a field instruction
 abbrev pub of_field : (FieldLink → Operation) → Operation → Link → Operation
@@ -86,7 +86,7 @@ of_method form other _ = other
 
 abbrev pub of_class : Link → Operation
 of_class (link.Class c) = Create c
-of_class _ = Misnamed 0 1
+of_class _ = Misnamed [] 1
 
 -- what an instruction is to do, where each index names what it does
 abbrev pub operation : (ℕ → Link) → Instr → Operation
@@ -127,13 +127,13 @@ operation names (instr.Goto to) = Jump to
 operation names Ireturn = LeaveWith Number
 operation names Areturn = LeaveWith AnyObject
 operation names instr.Return = Leave
-operation names (Getstatic n) = of_field GetStatic (Misnamed 0 1) (names n)
-operation names (Putstatic n) = of_field PutStatic (Misnamed 1 0) (names n)
-operation names (Getfield n) = of_field GetField (Misnamed 1 1) (names n)
-operation names (Putfield n) = of_field PutField (Misnamed 2 0) (names n)
-operation names (Invokevirtual n) = of_method InvokeVirtual (Misnamed 1 0) (names n)
-operation names (Invokespecial n) = of_method InvokeSpecial (Misnamed 1 0) (names n)
-operation names (Invokestatic n) = of_method InvokeStatic (Misnamed 0 0) (names n)
+operation names (Getstatic n) = of_field GetStatic (Misnamed [] 1) (names n)
+operation names (Putstatic n) = of_field PutStatic (Misnamed (Anything ∷ []) 0) (names n)
+operation names (Getfield n) = of_field GetField (Misnamed (AnyObject ∷ []) 1) (names n)
+operation names (Putfield n) = of_field PutField (Misnamed (Anything ∷ AnyObject ∷ []) 0) (names n)
+operation names (Invokevirtual n) = of_method InvokeVirtual (Misnamed (Anything ∷ []) 0) (names n)
+operation names (Invokespecial n) = of_method InvokeSpecial (Misnamed (Anything ∷ []) 0) (names n)
+operation names (Invokestatic n) = of_method InvokeStatic (Misnamed [] 0) (names n)
 operation names (New n) = of_class (names n)
 operation names Athrow = Throw
 operation names (Ifnull to) = JumpIfNull true to
@@ -166,7 +166,7 @@ takes (Create c) = []
 takes Throw = AnyObject ∷ []
 takes Leave = []
 takes (LeaveWith kind) = kind ∷ []
-takes (Misnamed n k) = replicate n Anything
+takes (Misnamed kinds n) = kinds
 
 -- how many operands it pushes
 abbrev pub gives : Operation → ℕ
@@ -195,4 +195,4 @@ gives (Create c) = 1
 gives Throw = 0
 gives Leave = 0
 gives (LeaveWith kind) = 0
-gives (Misnamed n k) = k
+gives (Misnamed kinds n) = n

@@ -100,7 +100,7 @@ falls stands is_lost (ReturnsWith v) = false
 
 -- 6: an index is of the wrong kind, or names a method that invokespecial does not call
 abbrev pub misnamed : Operation → Bool
-misnamed (Misnamed n k) = true
+misnamed (Misnamed kinds n) = true
 misnamed (InvokeSpecial m) = not m.is_initializer
 misnamed _ = false
 

@@ -7,11 +7,12 @@ use Rattle.par_single.specs.Members.{own_name, own_names}
 use Rattle.par_loader.specs.declared.error.Unloaded.{Unloaded}
 use Rattle.par_loader.specs.Reads.{Text, WasFound}
 use Rattle.par_loader.specs.Loaded.{step}
-use Rattle.par_loader.specs.Ends.{Steps, Loads}
+use Rattle.par_loader.specs.Ends.{IsRead, Steps, Loads}
 use Rattle.par_loader.specs.Mentions.{naming, next_named}
 use Rattle.par_loader.proofs.Unread.{unread_is_new, no_map}
 use Rattle.par_loader.proofs.Ended.{loads_lacks}
 use Rattle.par_loader.proofs.Loop.{begins, goes, fails, lacks, ends_named, ends_read}
+use Rattle.par_loader.proofs.Loop.{all_spelled}
 use Rattle.par_loader.proofs.program.loading_of.Goals as goal
 
 pub returns-in_err-loading-clause-loads : goal.returns-in_err-loading-clause-loads
@@ -88,14 +89,15 @@ loop-preserved g c =
     subst (λ (fs : Option Files). (o : Option Text) × WasFound fs m.name o
     × Steps (step m o) (g.F.Folder.counts c.loop.folder) after (Ok f)) c.loop.invariant.0
     c.in_ok-file.ensures.step in
-    let read = c.in_ok-file.ensures.read in (
+    let read = subst (λ (fs : Option Files). IsRead fs f) c.loop.invariant.0
+    c.in_ok-file.ensures.read in (
       c.named_file.ensures.kept ∙ c.loop.invariant.0,
       (λ alone. c.in_ok-file.ensures.faults_are_told alone ∙ c.loop.invariant.1 alone),
       goes files c.args.file c.loop.loading.files c.loop.counter before
           (g.F.Folder.counts c.loop.folder) after c.loop.invariant.2
           (omega (arith, c.loop-test.true)) m (sym c.in-Some.ensures.first)
           f c.in_ok-loading-2.loading.files stepped c.in_ok-file.ensures.own
-          (read.bytes, read.spells) c.named_file.ensures.none_falls c.in_ok-loading-2.ensures,
+          read c.named_file.ensures.none_falls c.in_ok-loading-2.ensures,
     )
 
 pub returns-clause-loads : goal.returns-clause-loads
@@ -103,3 +105,7 @@ returns-clause-loads g c =
     ends_read (g.F.Folder.files c.args.folder.now) _ c.loop.loading c.loop.counter
     (g.F.Folder.counts c.args.folder.now) (g.F.Folder.counts c.loop.folder) c.loop.invariant.2
     (omega (arith, c.loop-test.false))
+
+pub next-requires : goal.next-requires
+next-requires g c =
+    all_spelled (g.F.Folder.files c.args.folder.now) c.loop.loading.files c.loop.invariant.2.read

@@ -1,8 +1,9 @@
-use Rattle.std.proofs.Common.{length, refl, ap, ◌∙◌}
+use Rattle.std.proofs.Common.{[], ◌∷◌, length, refl, ap, ◌∙◌}
 use Rattle.std.proofs.lemmas.Result.{IfOk-weaker}
 use Rattle.par_instr.specs.declared.instr.Instr.TheVariants.{Invokespecial}
 use Rattle.par_link.specs.Linked.{named_at}
 use Rattle.par_values.specs.Areas.{operand}
+use Rattle.par_values.specs.declared.kind.Kind.TheVariants.{Anything}
 use Rattle.par_values.specs.Operations.{InvokeSpecial, Misnamed, of_method}
 use Rattle.par_steps.specs.Classes.{class_names, exceptions}
 use Rattle.par_steps.specs.Links.{link_at}
@@ -36,7 +37,7 @@ returns-in-Some-clause-done c =
     c.in-Some.callee n c.args.index known.2 known.1
     (InvokeSpecial known.0)
     (at_instr files old c.args.site (Invokespecial c.args.index) c.requires.there.point
-    c.requires.instr ∙ ap (of_method InvokeSpecial (Misnamed 1 0)) known.1)
+    c.requires.instr ∙ ap (of_method InvokeSpecial (Misnamed (Anything ∷ []) 0)) known.1)
     refl refl (special_leaves (class_names files) known.0 (areas_at files old)) refl
     c.invoke_special.result
     (IfOk-weaker c.invoke_special.result _ _
@@ -56,7 +57,7 @@ returns-in-None-clause-done c =
     let at = is_at files old c.args.site c.args.ahead c.requires.there
     (ap is_branch c.requires.instr) in
     call_missed c.args.area.now old c.args.site c.args.ahead c.requires.sound c.requires.there
-    (ap may_put c.requires.instr) c.misnamed.result 1 0
+    (ap may_put c.requires.instr) c.misnamed.result (Anything ∷ []) 0
     (received_on files old c.args.site (Invokespecial c.args.index) c.args.index
     c.requires.there.point c.requires.instr refl
     ∙ received_unknown c.args.area.now c.args.site.point.class c.args.index
@@ -64,5 +65,5 @@ returns-in-None-clause-done c =
     (at_instr files old c.args.site (Invokespecial c.args.index) c.requires.there.point
     c.requires.instr
     ∙ method_unknown c.args.area.now n (link_at files c.args.site.point.class c.args.index)
-    InvokeSpecial 1 0 c.in-None.ensures)
+    InvokeSpecial (Anything ∷ []) 0 c.in-None.ensures)
     (c.misnamed.ensures (class_names files) (spot_of files old c.args.site) (areas_at files old) at)

@@ -1,4 +1,4 @@
-use Rattle.std.proofs.Common.{false, refl, ap, ◌∙◌}
+use Rattle.std.proofs.Common.{[], false, refl, ap, ◌∙◌}
 use Rattle.std.proofs.lemmas.Result.{IfOk-weaker}
 use Rattle.par_instr.specs.declared.instr.Instr.TheVariants.{Invokestatic}
 use Rattle.par_link.specs.Linked.{named_at}
@@ -32,7 +32,7 @@ returns-in-Some-clause-done c =
     c.in-Some.callee n c.args.index known.2 known.1
     (InvokeStatic known.0)
     (at_instr files old c.args.site (Invokestatic c.args.index) c.requires.there.point
-    c.requires.instr ∙ ap (of_method InvokeStatic (Misnamed 0 0)) known.1)
+    c.requires.instr ∙ ap (of_method InvokeStatic (Misnamed [] 0)) known.1)
     refl refl (static_leaves (class_names files) known.0 (areas_at files old)) refl
     c.invoke_static.result
     (IfOk-weaker c.invoke_static.result _ _
@@ -50,11 +50,11 @@ returns-in-None-clause-done c =
     let at = is_at files c.args.self.now c.args.site c.args.ahead c.requires.there
     (ap is_branch c.requires.instr) in
     missed c.args.area.now c.args.self.now c.args.site c.args.ahead c.misnamed.result
-    (Invokestatic c.args.index) 0 0
+    (Invokestatic c.args.index) [] 0
     c.requires.sound c.requires.there c.requires.instr refl refl
     (at_instr files c.args.self.now c.args.site (Invokestatic c.args.index) c.requires.there.point
     c.requires.instr
     ∙ method_unknown c.args.area.now n (link_at files c.args.site.point.class c.args.index)
-    InvokeStatic 0 0 c.in-None.ensures)
+    InvokeStatic [] 0 c.in-None.ensures)
     (c.misnamed.ensures (class_names files) (spot_of files c.args.self.now c.args.site)
     (areas_at files c.args.self.now) at)

@@ -1,4 +1,4 @@
-use Rattle.std.proofs.Common.{refl, ap, subst, ◌∙◌, ◌<◌, arith}
+use Rattle.std.proofs.Common.{[], refl, ap, subst, ◌∙◌, ◌<◌, arith}
 use Rattle.std.proofs.lemmas.Result.{IfOk-weaker}
 use Rattle.par_instr.specs.declared.instr.Instr.TheVariants.{New}
 use Rattle.par_values.specs.Operations.{of_class}
@@ -52,7 +52,7 @@ returns-in-None-clause-done c =
     let at = is_at files c.args.self.now c.args.site c.args.ahead c.requires.there
     (ap is_branch c.requires.instr) in
     missed c.args.area.now c.args.self.now c.args.site c.args.ahead c.misnamed.result
-    (New c.args.index) 0 1
+    (New c.args.index) [] 1
     c.requires.sound c.requires.there c.requires.instr refl refl
     (at_instr files c.args.self.now c.args.site (New c.args.index) c.requires.there.point
     c.requires.instr

@@ -1,5 +1,5 @@
-use Rattle.std.proofs.Common.{◌≡◌, false, None, refl, ap, subst, ◌∙◌, inl, inr, rules, to_z, of_z}
-use Rattle.std.proofs.Common.{w32}
+use Rattle.std.proofs.Common.{[], ◌≡◌, false, None, refl, ap, subst, ◌∙◌, inl, inr, rules, to_z}
+use Rattle.std.proofs.Common.{of_z, w32}
 use Rattle.par_instr.specs.declared.instr.Instr.{Instr}
 use Rattle.par_instr.specs.declared.instr.Instr.TheVariants.{Ldc, LdcW}
 use Rattle.par_values.specs.Operations.{Push, operation, constant}
@@ -58,7 +58,7 @@ returns-in-None c = elim c.requires.instr [
         (link_at c.args.area.now.files c.args.site.point.class c.args.index)
         → IsPerformed c.args.area.now c.args.self.now c.args.site c.misnamed.result c.args.self.now
     by i is plain unput uncalled o =
-        missed c.args.area.now c.args.self.now c.args.site c.args.ahead c.misnamed.result i 0 1
+        missed c.args.area.now c.args.self.now c.args.site c.args.ahead c.misnamed.result i [] 1
         c.requires.sound c.requires.there is unput uncalled
         (at_instr c.args.area.now.files c.args.self.now c.args.site i c.requires.there.point is ∙ o
         ∙ number_unknown (link_at c.args.area.now.files c.args.site.point.class c.args.index)

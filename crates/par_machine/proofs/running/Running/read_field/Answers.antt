@@ -1,5 +1,6 @@
-use Rattle.std.proofs.Common.{refl, ap, ◌∙◌}
+use Rattle.std.proofs.Common.{[], ◌∷◌, refl, ap, ◌∙◌}
 use Rattle.par_instr.specs.declared.instr.Instr.TheVariants.{Getfield}
+use Rattle.par_values.specs.declared.kind.Kind.TheVariants.{AnyObject}
 use Rattle.par_values.specs.Operations.{GetField, Misnamed, of_field}
 use Rattle.par_steps.specs.Classes.{class_names}
 use Rattle.par_steps.specs.Links.{link_at}
@@ -23,7 +24,7 @@ returns-in-Some c =
     (GetField known.0) c.requires.sound c.requires.there c.requires.instr refl refl
     (at_instr files c.args.self.now c.args.site (Getfield c.args.index) c.requires.there.point
     c.requires.instr
-    ∙ ap (of_field GetField (Misnamed 1 1)) known.1) refl
+    ∙ ap (of_field GetField (Misnamed (AnyObject ∷ []) 1)) known.1) refl
     (c.get_field.ensures.done (class_names files) (spot_of files c.args.self.now c.args.site)
     (areas_at files c.args.self.now) known.0 known.2.is known.2.owner
     (are_shown files c.args.self.now.heap (areas_at files c.args.self.now) c.requires.sound.objects
@@ -35,12 +36,12 @@ returns-in-None c =
     let files = c.args.area.now.files in
     let at = is_at files c.args.self.now c.args.site c.args.ahead c.requires.there
     (ap is_branch c.requires.instr) in
-    missed c.args.area.now c.args.self.now c.args.site c.args.ahead c.misnamed.result
-    (Getfield c.args.index) 1 1
+    missed c.args.area.now c.args.self.now c.args.site c.args.ahead c.misnamed_read.result
+    (Getfield c.args.index) (AnyObject ∷ []) 1
     c.requires.sound c.requires.there c.requires.instr refl refl
     (at_instr files c.args.self.now c.args.site (Getfield c.args.index) c.requires.there.point
     c.requires.instr
     ∙ field_unknown (class_names files) (link_at files c.args.site.point.class c.args.index)
-    GetField 1 1 c.in-None.ensures)
-    (c.misnamed.ensures (class_names files) (spot_of files c.args.self.now c.args.site)
+    GetField (AnyObject ∷ []) 1 c.in-None.ensures)
+    (c.misnamed_read.ensures (class_names files) (spot_of files c.args.self.now c.args.site)
     (areas_at files c.args.self.now) at)

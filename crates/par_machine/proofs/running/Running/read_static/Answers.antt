@@ -1,4 +1,4 @@
-use Rattle.std.proofs.Common.{refl, ap, ◌∙◌}
+use Rattle.std.proofs.Common.{[], refl, ap, ◌∙◌}
 use Rattle.par_instr.specs.declared.instr.Instr.TheVariants.{Getstatic}
 use Rattle.par_values.specs.Operations.{GetStatic, Misnamed, of_field}
 use Rattle.par_steps.specs.Classes.{class_names}
@@ -22,7 +22,7 @@ returns-in-Some c =
     (GetStatic known.0) c.requires.sound c.requires.there c.requires.instr refl refl
     (at_instr files c.args.self.now c.args.site (Getstatic c.args.index) c.requires.there.point
     c.requires.instr
-    ∙ ap (of_field GetStatic (Misnamed 0 1)) known.1) refl
+    ∙ ap (of_field GetStatic (Misnamed [] 1)) known.1) refl
     (c.get_static.ensures.done (class_names files) (spot_of files c.args.self.now c.args.site)
     (areas_at files c.args.self.now) known.0 known.2.is refl at)
     c.get_static.ensures.kept c.get_static.ensures.still
@@ -33,11 +33,11 @@ returns-in-None c =
     let at = is_at files c.args.self.now c.args.site c.args.ahead c.requires.there
     (ap is_branch c.requires.instr) in
     missed c.args.area.now c.args.self.now c.args.site c.args.ahead c.misnamed.result
-    (Getstatic c.args.index) 0 1
+    (Getstatic c.args.index) [] 1
     c.requires.sound c.requires.there c.requires.instr refl refl
     (at_instr files c.args.self.now c.args.site (Getstatic c.args.index) c.requires.there.point
     c.requires.instr
     ∙ field_unknown (class_names files) (link_at files c.args.site.point.class c.args.index)
-    GetStatic 0 1 c.in-None.ensures)
+    GetStatic [] 1 c.in-None.ensures)
     (c.misnamed.ensures (class_names files) (spot_of files c.args.self.now c.args.site)
     (areas_at files c.args.self.now) at)

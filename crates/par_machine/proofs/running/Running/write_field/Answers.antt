@@ -1,5 +1,6 @@
-use Rattle.std.proofs.Common.{refl, ap, ◌∙◌}
+use Rattle.std.proofs.Common.{[], ◌∷◌, refl, ap, ◌∙◌}
 use Rattle.par_instr.specs.declared.instr.Instr.TheVariants.{Putfield}
+use Rattle.par_values.specs.declared.kind.Kind.TheVariants.{AnyObject, Anything}
 use Rattle.par_values.specs.Operations.{PutField, Misnamed, of_field}
 use Rattle.par_steps.specs.Classes.{class_names}
 use Rattle.par_steps.specs.Links.{link_at}
@@ -24,7 +25,7 @@ returns-in-Some c =
     known.0 c.in-Some.named
     (at_instr files c.args.self.now c.args.site (Putfield c.args.index) c.requires.there.point
     c.requires.instr
-    ∙ ap (of_field PutField (Misnamed 2 0)) known.1)
+    ∙ ap (of_field PutField (Misnamed (Anything ∷ AnyObject ∷ []) 0)) known.1)
     (ap (λ i. link_at files c.args.site.point.class (index_of i)) c.requires.instr ∙ known.1)
     known.2
     c.put_field.new.stack c.put_field.new.heap c.put_field.ensures.kept c.put_field.result
@@ -39,12 +40,12 @@ returns-in-None c =
     let files = c.args.area.now.files in
     let at = is_at files c.args.self.now c.args.site c.args.ahead c.requires.there
     (ap is_branch c.requires.instr) in
-    missed c.args.area.now c.args.self.now c.args.site c.args.ahead c.misnamed.result
-    (Putfield c.args.index) 2 0
+    missed c.args.area.now c.args.self.now c.args.site c.args.ahead c.misnamed_write.result
+    (Putfield c.args.index) (Anything ∷ AnyObject ∷ []) 0
     c.requires.sound c.requires.there c.requires.instr refl refl
     (at_instr files c.args.self.now c.args.site (Putfield c.args.index) c.requires.there.point
     c.requires.instr
     ∙ field_unknown (class_names files) (link_at files c.args.site.point.class c.args.index)
-    PutField 2 0 c.in-None.ensures)
-    (c.misnamed.ensures (class_names files) (spot_of files c.args.self.now c.args.site)
+    PutField (Anything ∷ AnyObject ∷ []) 0 c.in-None.ensures)
+    (c.misnamed_write.ensures (class_names files) (spot_of files c.args.self.now c.args.site)
     (areas_at files c.args.self.now) at)

@@ -1,5 +1,6 @@
-use Rattle.std.proofs.Common.{refl, sym, ap, subst, ◌∙◌}
+use Rattle.std.proofs.Common.{[], ◌∷◌, refl, sym, ap, subst, ◌∙◌}
 use Rattle.par_instr.specs.declared.instr.Instr.TheVariants.{Putstatic}
+use Rattle.par_values.specs.declared.kind.Kind.TheVariants.{Anything}
 use Rattle.par_values.specs.Operations.{PutStatic, Misnamed, of_field}
 use Rattle.par_steps.specs.Classes.{class_names}
 use Rattle.par_steps.specs.Links.{link_at}
@@ -29,7 +30,7 @@ returns c =
     c.requires.instr
     (at_instr files c.args.self.now c.args.site (Putstatic c.args.index) c.requires.there.point
     c.requires.instr
-    ∙ ap (of_field PutStatic (Misnamed 1 0)) known.1)
+    ∙ ap (of_field PutStatic (Misnamed (Anything ∷ []) 0)) known.1)
     (ap (λ i. link_at files c.args.site.point.class (index_of i)) c.requires.instr ∙ known.1)
     known.2
     (c.put_static-done.ensures.done (class_names files) (spot_of files c.args.self.now c.args.site)
@@ -42,11 +43,11 @@ returns-in_default c =
     let at = is_at files c.args.self.now c.args.site c.args.ahead c.requires.there
     (ap is_branch c.requires.instr) in
     missed_write c.args.area.now c.args.self.now c.args.site c.args.ahead c.misnamed.result
-    (Putstatic c.args.index) 1 0
+    (Putstatic c.args.index) (Anything ∷ []) 0
     c.requires.sound c.requires.there c.requires.instr refl
     (at_instr files c.args.self.now c.args.site (Putstatic c.args.index) c.requires.there.point
     c.requires.instr
     ∙ field_unknown (class_names files) (link_at files c.args.site.point.class c.args.index)
-    PutStatic 1 0 c.in_default.ensures)
+    PutStatic (Anything ∷ []) 0 c.in_default.ensures)
     (c.misnamed.ensures (class_names files) (spot_of files c.args.self.now c.args.site)
     (areas_at files c.args.self.now) at)

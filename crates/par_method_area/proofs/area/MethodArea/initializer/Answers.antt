@@ -12,7 +12,7 @@ use Rattle.par_method_area.specs.Known.{KnowsMethod}
 use Rattle.par_method_area.proofs.Taking.{takes, takes-own}
 use Rattle.par_method_area.proofs.Calling.{initializer-found}
 use Rattle.par_method_area.proofs.Numbered.{arithmetic-at, null-at}
-use Rattle.par_method_area.proofs.Unbroken.{names-apart}
+use Rattle.par_link.proofs.Faultless.{names-apart}
 use Rattle.par_method_area.proofs.area.MethodArea.initializer.Goals as goal
 
 pub returns-in-Object : goal.returns-in-Object

@@ -1,0 +1,5 @@
+pub mod Good
+pub mod Kept
+pub mod Values
+pub mod Operators
+pub mod Pushed

@@ -1,0 +1,4 @@
+pub mod Joins
+pub mod Releases
+pub mod Files
+pub mod Listed

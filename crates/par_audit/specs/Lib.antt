@@ -1,0 +1,3 @@
+pub mod Release
+pub mod SecureFor
+pub mod Laws

@@ -1,0 +1,14 @@
+//! The releases of an accepted program for an actor: the places where it can learn more than the
+//! policies alone allow, since a lock is open there.
+//!
+//! The list is exact, and laws say what it is good for: where it is empty, what the actor is shown
+//! does not depend on which locks are open. The crate finds no facts and judges no source.
+#![tactic(auto)]
+
+mod clauses;
+mod laws;
+mod release;
+
+pub use clauses::needs_lock;
+pub use laws::{clauses_decide, no_release_is_secure, shown_files_are_secure_for};
+pub use release::{Release, audit};

@@ -1,0 +1,54 @@
+use par_sample::{Summary, sample};
+use par_worked::expect;
+use std::test::Fail;
+
+// A number for a text, which no other text at hand has.
+fn checksum(bytes: &[u8]) -> u64 {
+    let mut sum = 0u64;
+    for byte in bytes {
+        sum = sum.wrapping_mul(31).wrapping_add(u64::from(*byte));
+    }
+    sum
+}
+
+// What a script of some lines makes of the same definition, by the number of the sample.
+const SAMPLES: &[(&str, u64, usize, u64)] = &[
+    ("the least", 0, 133_250, 15_785_707_589_938_619_503),
+    ("any", 7, 133_257, 1_484_861_604_966_169_048),
+    (
+        "the greatest",
+        18_446_744_073_709_551_615,
+        133_221,
+        18_419_415_756_760_014_854,
+    ),
+];
+
+#[test]
+fn samples_are_those_of_a_script(rt: HostRuntime) -> Result<(), Fail> {
+    for (row, number, length, sum) in SAMPLES {
+        let text = sample(rt.alloc(), *number)?;
+        expect(
+            text.as_slice().starts_with(b"actor alice, bob;\n"),
+            "the first line",
+        )?;
+        expect(text.len() == *length, row)?;
+        expect(checksum(text.as_slice()) == *sum, row)?;
+    }
+    Ok(())
+}
+
+#[test]
+fn a_sample_has_its_line(rt: HostRuntime) -> Result<(), Fail> {
+    let summary = Summary {
+        number: 7,
+        classes: 101,
+        methods: 1001,
+        nodes: 17_007,
+        files: 101,
+    };
+    let line = summary.line(rt.alloc())?;
+    expect(
+        line.as_str() == "sample 7 classes 101 methods 1001 nodes 17007 accepted 101\n",
+        "its counts are told",
+    )
+}

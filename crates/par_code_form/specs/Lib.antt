@@ -1,0 +1,7 @@
+pub mod Items
+pub mod Opcodes
+pub mod Code
+pub mod Named
+pub mod Operands
+pub mod Frames
+pub mod Method

@@ -1,0 +1,5 @@
+pub mod Shown
+pub mod ExprForms
+pub mod StmtForms
+pub mod Copies
+pub mod Bodies

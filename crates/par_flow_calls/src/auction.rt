@@ -1,0 +1,99 @@
+//! What two runs of the auction show to a bidder who cannot tell their inputs apart.
+
+use crate::typed_trees::typed;
+use par_alike::alike;
+use par_lexer::list::List;
+use par_lexer::name::Name;
+use par_meaning::{SourceEvent, SourceRun, run_source};
+use par_policy::{Lockset, sees};
+use par_typed::program::Typed;
+use par_values::inputs::{ChannelInput, Inputs};
+use par_values::run::{Event, Val};
+use par_worked::{AUCTION, expect};
+use std::alloc::Global;
+use std::rt::HostRuntime;
+use std::test::Fail;
+
+const ALICE: u8 = 0;
+
+const DONE: u16 = 0;
+
+// The number of the class, and of its field `best`.
+const CLASS: usize = 2;
+
+const BEST: usize = 0;
+
+const BOUND: u64 = 1000;
+
+fn line(alloc: Global, channel: &[u8], bid: i32) -> Result<ChannelInput, Fail> {
+    let mut numbers = List::new(alloc);
+    numbers.push(bid)?;
+    Ok(ChannelInput {
+        class: Name::new(alloc, b"Auction")?,
+        channel: Name::new(alloc, channel)?,
+        numbers,
+    })
+}
+
+// Alice bids 30, and bob bids this.
+fn bids(alloc: Global, of_bob: i32) -> Result<Inputs, Fail> {
+    let mut channels = List::new(alloc);
+    channels.push(line(alloc, b"aliceBids", 30)?)?;
+    channels.push(line(alloc, b"bobBids", of_bob)?)?;
+    Ok(Inputs { channels })
+}
+
+// Alice sees the price without a lock.
+fn is_price_shown(program: &Typed, no_lock: &Lockset) -> bool {
+    let class = program.table.classes.get(CLASS);
+    let Some(field) = class.and_then(|class| class.fields.get(BEST)) else {
+        return false;
+    };
+    match program.table.policies.get(usize::from(field.policy)) {
+        Some(policy) => sees(policy, ALICE, no_lock),
+        None => false,
+    }
+}
+
+fn sets_price(seen: &SourceEvent, price: i32) -> bool {
+    match &seen.event {
+        Event::Set(class, field, Val::Int(number)) => {
+            class.bytes() == b"Auction".as_slice()
+                && field.bytes() == b"best".as_slice()
+                && *number == price
+        }
+        _ => false,
+    }
+}
+
+// The first event of a run sets this price while Done is open.
+fn begins_with(run: &SourceRun, price: i32) -> bool {
+    match run.events.get(0) {
+        Some(seen) => sets_price(seen, price) && seen.locks.has(DONE),
+        None => false,
+    }
+}
+
+#[test]
+fn bids_that_alice_cannot_tell_apart_show_once_both_are_done(rt: HostRuntime) -> Result<(), Fail> {
+    let alloc = rt.alloc();
+    let program = typed(alloc, AUCTION)?;
+    let no_lock = Lockset::new(alloc);
+    let low = bids(alloc, 45)?;
+    let high = bids(alloc, 50)?;
+    expect(
+        alike(&low, &high, &program, ALICE, &no_lock),
+        "they are alike for alice",
+    )?;
+    expect(is_price_shown(&program, &no_lock), "alice sees the price")?;
+    let first = run_source(alloc, &program, &low, BOUND)?;
+    let second = run_source(alloc, &program, &high, BOUND)?;
+    expect(
+        begins_with(&first, 45),
+        "the first price comes while Done is open",
+    )?;
+    expect(
+        begins_with(&second, 50),
+        "the second price differs while Done is open",
+    )
+}

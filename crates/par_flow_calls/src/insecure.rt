@@ -1,0 +1,146 @@
+//! Programs that an observer learns a secret from. The rules on flows refuse each of them, and each
+//! would be accepted if one rule were laxer.
+
+use crate::typed_trees::typed;
+use par_alike::alike;
+use par_lexer::list::List;
+use par_lexer::name::Name;
+use par_meaning::{SourceEvent, SourceRun, run_source};
+use par_policy::Lockset;
+use par_typed::program::Typed;
+use par_values::inputs::{ChannelInput, Inputs};
+use par_values::run::{Event, Val};
+use par_worked::expect;
+use std::alloc::Global;
+use std::rt::HostRuntime;
+use std::test::Fail;
+
+// Bob is to learn the key where Paid is open, and sees all that happens.
+const BEFORE: &[u8] = b"actor alice, bob;
+lock Paid;
+class Shop {
+  ?{alice:; bob: Paid} input int key();
+  ?{alice:; bob:} output void show(int v);
+  ?{alice:; bob:} static int got;
+  static void leave() { if (key() > 0) { return; } show(1); }
+  static void divide() { int x = 1 / key(); show(1); }
+  static void main() {
+";
+
+const BEHIND: &[u8] = b"
+  }
+}
+";
+
+const BOB: u8 = 1;
+
+const PAID: u16 = 0;
+
+const BOUND: u64 = 1000;
+
+fn program(alloc: Global, body: &[u8]) -> Result<Typed, Fail> {
+    let mut source = Vec::new(alloc);
+    source.extend_from_slice(BEFORE)?;
+    source.extend_from_slice(body)?;
+    source.extend_from_slice(BEHIND)?;
+    typed(alloc, source.as_slice())
+}
+
+fn key(alloc: Global, number: i32) -> Result<Inputs, Fail> {
+    let mut numbers = List::new(alloc);
+    numbers.push(number)?;
+    let mut channels = List::new(alloc);
+    channels.push(ChannelInput {
+        class: Name::new(alloc, b"Shop")?,
+        channel: Name::new(alloc, b"key")?,
+        numbers,
+    })?;
+    Ok(Inputs { channels })
+}
+
+// What a run tells at a place: the number that is shown or written there, while Paid is not open.
+fn told_by(seen: &SourceEvent) -> Option<i32> {
+    if seen.locks.has(PAID) {
+        return None;
+    }
+    match &seen.event {
+        Event::Out(_, _, number) => Some(*number),
+        Event::Set(_, _, Val::Int(number)) => Some(*number),
+        _ => None,
+    }
+}
+
+fn told(run: &SourceRun, place: usize) -> Option<i32> {
+    match run.events.get(place) {
+        Some(seen) => told_by(seen),
+        None => None,
+    }
+}
+
+// A body with two keys, and what the runs on them tell where they first differ.
+struct Row {
+    name: &'static str,
+    body: &'static [u8],
+    keys: (i32, i32),
+    place: usize,
+    tell: (i32, i32),
+}
+
+const ROWS: &[Row] = &[
+    Row {
+        name: "a context that an open lock lowers",
+        body: b"int h = key(); open Paid; if (h > 0) { got = 1; }
+            if (got == 1) { close Paid; show(5); } else { got = 1; close Paid; show(6); }",
+        keys: (1, 0),
+        place: 1,
+        tell: (5, 6),
+    },
+    Row {
+        name: "a lock that is open in one branch",
+        body: b"if (got == 1) { open Paid; } show(key());",
+        keys: (1, 2),
+        place: 0,
+        tell: (1, 2),
+    },
+    Row {
+        name: "what comes behind a return",
+        body: b"leave(); show(2);",
+        keys: (1, 0),
+        place: 0,
+        tell: (2, 1),
+    },
+    Row {
+        name: "what comes behind a division",
+        body: b"try { divide(); } catch (ArithmeticException e) { } show(2);",
+        keys: (1, 0),
+        place: 0,
+        tell: (1, 2),
+    },
+    Row {
+        name: "what a loop brings to its next turn",
+        body: b"int a = 0; int n = 0; while (n < 2) { show(a); a = key(); n = n + 1; }",
+        keys: (1, 2),
+        place: 1,
+        tell: (1, 2),
+    },
+];
+
+fn tells_apart(alloc: Global, row: &Row) -> Result<bool, Fail> {
+    let program = program(alloc, row.body)?;
+    let one = key(alloc, row.keys.0)?;
+    let other = key(alloc, row.keys.1)?;
+    let no_lock = Lockset::new(alloc);
+    let first = run_source(alloc, &program, &one, BOUND)?;
+    let second = run_source(alloc, &program, &other, BOUND)?;
+    let differ = told(&first, row.place) == Some(row.tell.0)
+        && told(&second, row.place) == Some(row.tell.1);
+    Ok(alike(&one, &other, &program, BOB, &no_lock) && differ)
+}
+
+#[test]
+fn laxer_rules_let_bob_learn_the_key(rt: HostRuntime) -> Result<(), Fail> {
+    for row in ROWS {
+        expect(tells_apart(rt.alloc(), row)?, row.name)?;
+    }
+    Ok(())
+}

@@ -1,0 +1,7 @@
+pub mod Merging
+pub mod Lower
+pub mod Passing
+pub mod Still
+pub mod Ending
+pub mod Least
+pub mod Example

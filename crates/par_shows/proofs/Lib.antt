@@ -1,0 +1,13 @@
+pub mod Spans
+pub mod Handlers
+pub mod Exits
+pub mod Leaves
+pub mod Branches
+pub mod Loops
+pub mod Blocks
+pub mod Tries
+pub mod Stmts
+pub mod Labels
+pub mod Sound
+pub mod Methods
+pub mod Whole

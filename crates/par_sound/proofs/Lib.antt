@@ -1,0 +1,9 @@
+pub mod Values
+pub mod Heap
+pub mod Places
+pub mod Effects
+pub mod Frames
+pub mod Growing
+pub mod Reasons
+pub mod Turns
+pub mod Whole
