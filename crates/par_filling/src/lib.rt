@@ -1,0 +1,11 @@
+//! The least policies for fields that leave theirs to be inferred, or the rule that no policies for
+//! them keep.
+#![tactic(auto)]
+
+mod births;
+mod bodies;
+mod least;
+
+pub use births::note_births;
+pub use bodies::note_bodies;
+pub use least::least_sets;
