@@ -1,2 +1,3 @@
 pub mod Born
 pub mod Carried
+pub mod Failed

@@ -5,7 +5,9 @@
 mod births;
 mod bodies;
 mod least;
+mod verdict;
 
 pub use births::note_births;
 pub use bodies::note_bodies;
 pub use least::least_sets;
+pub use verdict::first_failed;
