@@ -4,10 +4,16 @@
 
 mod births;
 mod bodies;
+mod error;
+mod filling;
 mod least;
+mod solve;
 mod verdict;
 
 pub use births::note_births;
 pub use bodies::note_bodies;
+pub use error::InferError;
+pub use filling::{FilledField, Filling, fill};
 pub use least::least_sets;
+pub use solve::infer_fields;
 pub use verdict::first_failed;
