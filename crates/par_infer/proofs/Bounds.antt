@@ -105,7 +105,8 @@ module _ (is : Set) (ps : List Seen) (f : Facts numbers) where
       → IsSeenBelow (given_of ps n) (given_of ps i))
       → Keeps numbers (join_of ps) (given_of ps) f (strict is c)
   above_kept c s g =
-      above_holds (way numbers (f c.spot.point).entry (map f c.spot.parts) c.spot.from) c.condition s
+      above_holds (way numbers (f c.spot.point).entry (map f c.spot.parts) c.spot.from)
+      c.condition s
       (λ i n e j h. g i n e (and_from _ _ j h))
 
 -- ---- lists

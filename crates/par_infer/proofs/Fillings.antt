@@ -72,7 +72,8 @@ class_inferred (d ∷ cs) c n m h =
     (λ e. or_left _ _ (subst (λ (d : ClassInfo). IsTrue (inferred_among d.fields n)) e h))
     (λ m. or_right _ _ (class_inferred cs c n m h)) m
 
-bound_of : (is : Set) (o : Option ℕ) (i : ℕ) → IsTrue (is_at o i) → IsTrue (is i) → is_in is o ≡ true
+bound_of : (is : Set) (o : Option ℕ) (i : ℕ) → IsTrue (is_at o i) → IsTrue (is i)
+    → is_in is o ≡ true
 bound_of is None i h e = cc
 bound_of is (Some p) i h e = subst (λ j. is j ≡ true) (sym (eqb-true p i h)) e
 
@@ -86,7 +87,8 @@ module _ (table : Table) (ψ : Filling) (policies : ArePolicies table ψ)
   inside : (i : ℕ) → IsTrue (inferred table i) → given_of with_ i ≡ ψ i
   inside i e = filled_inside table.policies (inferred table) ψ i e (ranges i e)
 
-  outside : (n : ℕ) → inferred table n ≡ false → given_of with_ n ≡ given_of (plain table.policies) n
+  outside : (n : ℕ) → inferred table n ≡ false
+      → given_of with_ n ≡ given_of (plain table.policies) n
   outside n e = filled_outside table.policies (inferred table) ψ n e
 
   pub are_policies : (n : ℕ) → IsPolicy (given_of with_ n)
@@ -249,7 +251,8 @@ module _ (table : Table) (bs : List Body) (fs : List (Facts numbers))
           facts = meant qs p f;
           closed = closed_along (seen_as qs) (stand_for qs) f (declares table) d found.0.closed;
           kept = λ c asked. kept qs p f (strict is c)
-              (by_cases (is_bound table c) (Keeps numbers (join_of qs) (given_of qs) f (strict is c))
+              (by_cases (is_bound table c)
+              (Keeps numbers (join_of qs) (given_of qs) f (strict is c))
               (writes.0 c asked)
               (λ e. new_kept table.policies is own (replaced is σ) f
               (replaced_upper table.policies is σ fields.ranges fields.few) c e
@@ -289,7 +292,8 @@ module _ (table : Table) (bs : List Body) (fs : List (Facts numbers))
       pub failed : (ψ : Filling) → MeetsBounds table bs fs ψ
           → (a : Facts (seen_as (with_filling table ψ)))
           → IsClosed (seen_as (with_filling table ψ)) (declares table) b a
-          → Keeps (seen_as (with_filling table ψ)) (λ p. p) (given_of (with_filling table ψ)) a (strict is c)
+          → Keeps (seen_as (with_filling table ψ)) (λ p. p) (given_of (with_filling table ψ)) a
+          (strict is c)
           → ⊥
       failed ψ m a closed k =
           let qs = with_filling table ψ in
@@ -320,7 +324,8 @@ sets_are_below table bs fs σ fields few right least =
 
 pub kept_accepted : KeptSetsAreAccepted
 kept_accepted table bs fs σ fields few right least others =
-    own_accepted table bs fs (apart table bs fields few) σ least (all_right table bs fs right) others
+    own_accepted table bs fs (apart table bs fields few) σ least (all_right table bs fs right)
+    others
 
 pub failed_refuses : FailedRuleRefuses
 failed_refuses table bs fs σ fields few right least b f c there found asked other fails =

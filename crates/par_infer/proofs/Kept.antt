@@ -130,5 +130,6 @@ module _ (ps : List Seen) (policies : (n : ℕ) → IsPolicy (given_of ps n)) wh
         holds_below (way numbers (f spot.point).entry (map f spot.parts) spot.from)
         (way (seen_as ps) (a spot.point).entry (map a spot.parts) spot.from)
         (way_low (seen_as ps) (stands ps) (f spot.point).entry (a spot.point).entry
-        (map f spot.parts) (map a spot.parts) (low spot.point).entry (parts_low spot.parts) spot.from)
+        (map f spot.parts) (map a spot.parts) (low spot.point).entry (parts_low spot.parts)
+        spot.from)
         c.condition k

@@ -34,7 +34,8 @@ module _ (ps : List (List Clause)) (s : Set) (below : ℕ → ℕ → Bool) (o :
       let up : Below n x = λ actor locks z.
       (o.exact n m h q.0).0 p.1 actor locks ((o.exact m x q.0 t.0).0 r.1 actor locks z) in
       and_from _ _
-      (and_from _ _ t.0 (not_true (nat_eq x n) (apart n m x h q p.1 r.1))) ((o.exact n x h t.0).1 up)
+      (and_from _ _ t.0 (not_true (nat_eq x n) (apart n m x h q p.1 r.1)))
+      ((o.exact n x h t.0).1 up)
     where
       apart : (n m x : ℕ) → IsTrue (s n) → IsTrue (s m) × IsTrue (not (nat_eq m n))
           → IsTrue (below n m) → IsTrue (below m x) → nat_eq x n ≡ false

@@ -38,7 +38,8 @@ any_in (suc k) p i h e =
     (λ s. or_left _ _ (subst (λ j. IsTrue (p j)) (eqb-true i k s) e))
     (λ s. or_right _ _ (any_in k p i (below i k h s) e))
 
-pub in_any : (k : ℕ) (p : Set) (C : Type 0) → ((i : ℕ) → IsTrue (p i) → C) → IsTrue (any_below k p) → C
+pub in_any : (k : ℕ) (p : Set) (C : Type 0) → ((i : ℕ) → IsTrue (p i) → C)
+    → IsTrue (any_below k p) → C
 in_any zero p C g h = cc
 in_any (suc k) p C g h = in_either (p k) (any_below k p) C (g k) (in_any k p C g) h
 
@@ -98,7 +99,8 @@ module _ (ps : List (List Clause)) (is : Set) (σ : ℕ → Set)
         in_replaced is σ s n (IsSeenBelow (given_of (plain ps) n) (join_of placed s))
         (λ e o actor locks h. subst (λ (q : Seen). IsTrue (q actor locks)) (placed_out n o)
         (join_member placed s n e actor locks h))
-        (λ i e d m actor locks h. set_member i n d m actor locks (join_member placed s i e actor locks h))
+        (λ i e d m actor locks h. set_member i n d m actor locks
+        (join_member placed s i e actor locks h))
         k) actor locks h)
 
     pub replaced_upper : (s : Set) → IsSeenBelow (join_of placed s) (joined ps (replaced is σ s))
@@ -153,7 +155,8 @@ module _ (ps : List (List Clause)) (is : Set) (ψ : ℕ → Seen) (r : Set → S
           subst (New w) (sym (open_out v p e)) (λ actor locks h.
           upper (f v).value actor _ (k actor locks (to_plain p e actor locks h)))
       new_satisfied w (Worth v p) e d k =
-          λ actor locks h. upper (f v).value actor locks (k actor locks (to_plain p e actor locks h))
+          λ actor locks h. upper (f v).value actor locks
+          (k actor locks (to_plain p e actor locks h))
       new_satisfied w (Joined v p) e d k =
           λ actor locks h. upper (union (f v).value w.context) actor locks
           (k actor locks (to_plain p e actor locks h))
@@ -175,7 +178,8 @@ module _ (ps : List (List Clause)) (is : Set) (ψ : ℕ → Seen) (r : Set → S
           → Keeps numbers (λ s. joined ps (r s)) (λ n. seen_by (slice_get ps n)) f c
           → Keeps numbers (join_of qs) (given_of qs) f (strict is c)
       new_kept c e d k =
-          new_holds (way numbers (f c.spot.point).entry (map f c.spot.parts) c.spot.from) c.condition
+          new_holds (way numbers (f c.spot.point).entry (map f c.spot.parts) c.spot.from)
+          c.condition
           e d k
 
     module _ (lower : (s : Set) → IsSeenBelow (joined ps (r s)) (join_of qs s)) where
@@ -186,7 +190,8 @@ module _ (ps : List (List Clause)) (is : Set) (ψ : ℕ → Seen) (r : Set → S
           let k : New w (Released v p) = subst (New w) (open_out v p e) k in
           lower (f v).value actor _ (k actor locks (of_plain p e actor locks h))
       old_satisfied w (Worth v p) e d k =
-          λ actor locks h. lower (f v).value actor locks (k actor locks (of_plain p e actor locks h))
+          λ actor locks h. lower (f v).value actor locks
+          (k actor locks (of_plain p e actor locks h))
       old_satisfied w (Joined v p) e d k =
           λ actor locks h. lower (union (f v).value w.context) actor locks
           (k actor locks (of_plain p e actor locks h))
@@ -208,5 +213,6 @@ module _ (ps : List (List Clause)) (is : Set) (ψ : ℕ → Seen) (r : Set → S
           → Keeps numbers (join_of qs) (given_of qs) f (strict is c)
           → Keeps numbers (λ s. joined ps (r s)) (λ n. seen_by (slice_get ps n)) f c
       old_kept c e d k =
-          old_holds (way numbers (f c.spot.point).entry (map f c.spot.parts) c.spot.from) c.condition
+          old_holds (way numbers (f c.spot.point).entry (map f c.spot.parts) c.spot.from)
+          c.condition
           e d k

@@ -1,5 +1,6 @@
 -- Joins of policies in a list.
-use Rattle.std.proofs.Common.{◌≡◌, ℕ, zero, suc, ◌<◌, Bool, true, false, cond, ◌||◌, ◌&&◌, not, List}
+use Rattle.std.proofs.Common.{◌≡◌, ℕ, zero, suc, ◌<◌, Bool, true, false, cond, ◌||◌, ◌&&◌, not}
+use Rattle.std.proofs.Common.{List}
 use Rattle.std.proofs.Common.{[], ◌∷◌, refl, ap, sym, subst, eq-eqb, arith, length}
 use Rattle.std.specs.Prelude.{IsTrue, slice_get}
 use Rattle.std.proofs.lemmas.Bool.{eqb-true}
@@ -57,7 +58,8 @@ join_given ps n = member_below ps (adding none n) n (eq-eqb n n refl)
 pub given_join : (ps : List Seen) (n : ℕ) → IsSeenBelow (join_of ps (adding none n)) (given_of ps n)
 given_join ps n =
     join_below ps (adding none n) (given_of ps n) (λ m e.
-    subst (λ k. IsSeenBelow (given_of ps k) (given_of ps n)) (sym (eqb-true m n e)) (λ actor locks h. h))
+    subst (λ k. IsSeenBelow (given_of ps k) (given_of ps n)) (sym (eqb-true m n e))
+    (λ actor locks h. h))
 
 -- policies are seen with more locks, and so is their join
 pub join_more : (ps : List Seen) → ((n : ℕ) → IsPolicy (given_of ps n)) → (s : Set)

@@ -44,6 +44,10 @@ abbrev pub KeepsReplaced : (table : Table) → (ℕ → Set) → Facts numbers �
 KeepsReplaced table σ f c =
     Keeps numbers (λ s. joined table.policies (replaced (inferred table) σ s)) (given table) f c
 
+-- they do, or the rule is a lower bound
+abbrev pub KeepsOther : (table : Table) → (ℕ → Set) → Facts numbers → Check → Type 0
+KeepsOther table σ f c = is_bound table c ≡ false → KeepsReplaced table σ f c
+
 -- all other rules are kept by the facts with numbers replaced
 abbrev pub KeepOthers : Table → (ℕ → Set) → Body → Facts numbers → Type 0
 KeepOthers table σ b f =

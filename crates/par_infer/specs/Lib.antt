@@ -1,6 +1,7 @@
 pub mod Seens
 pub mod Keeps
 pub mod Bounds
+pub mod Collected
 pub mod Filling
 pub mod Laws
 pub mod Printed

@@ -1,9 +1,12 @@
-use Rattle.std.proofs.Common.{◌≡◌, ◌<◌, ◌+◌, suc, true, false, ap, ◌∙◌, arith, refl, subst, sym, length}
+use Rattle.std.proofs.Common.{◌≡◌, ◌<◌, ◌+◌, suc, true, false, ap, ◌∙◌, arith, refl, subst, sym}
+use Rattle.std.proofs.Common.{length}
 use Rattle.par_bits.specs.Sets.{has}
 use Rattle.par_reached.specs.Reached.{set_at}
 use Rattle.par_reached.proofs.Kept.{AreSoFar, starts, skips, passes, ends, by_cases}
 use Rattle.par_reached.proofs.passes.reach.Goals as goal
-use Rattle.par_reached.proofs.passes.reach.Goals.{then-over-lt256+then-has, else-over-lt256, else-over-lt256-via-then-over-lt256+else-has, else-over-lt256-via-else-over-lt256}
+use Rattle.par_reached.proofs.passes.reach.Goals.{then-over-lt256+then-has, else-over-lt256}
+use Rattle.par_reached.proofs.passes.reach.Goals.{else-over-lt256-via-then-over-lt256+else-has}
+use Rattle.par_reached.proofs.passes.reach.Goals.{else-over-lt256-via-else-over-lt256}
 
 pub loop-over-init : goal.loop-over-init
 loop-over-init c =

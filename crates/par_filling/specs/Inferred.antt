@@ -1,0 +1,50 @@
+-- What is found for a program with inferred fields.
+use Rattle.std.specs.Prelude.{◌≡◌, ℕ, false, IsTrue, List}
+use Rattle.par_bits.specs.Sets.{Set}
+use Rattle.par_typed.specs.declared.table.Table.{Table}
+use Rattle.par_typed.specs.declared.program.Typed.{Typed}
+use Rattle.par_typed.specs.declared.refusal.Refusal.{Refusal}
+use Rattle.par_typed.specs.Plain.{Body}
+use Rattle.par_typed.specs.Shown.{bodies}
+use Rattle.par_rules.specs.Lattice.{numbers}
+use Rattle.par_rules.specs.Facts.{Facts}
+use Rattle.par_declared.specs.Inferred.{inferred}
+use Rattle.par_reached.specs.Reached.{AreLeastSets, set_at}
+use Rattle.par_verdict.specs.Judged.{AreAllRight}
+use Rattle.par_infer.specs.Bounds.{bounds}
+use Rattle.par_infer.specs.Filling.{Filling, IsAccepted, IsFillingBelow, join_filling}
+use Rattle.par_infer.specs.First.{IsFirstAlways}
+use Rattle.par_filling.specs.declared.filling.FilledField.{FilledField}
+use Rattle.par_filling.specs.declared.error.InferError.{InferError}
+use Rattle.par_filling.specs.declared.error.InferError.TheVariants.{Broken, Memory}
+use Rattle.par_filling.specs.Filled.{filled_in}
+
+-- the joins of the sets are the least accepted filling, and none holds the number of an inferred
+-- field
+pub record AreLeastAccepted (table : Table) (bs : List Body) (σ : ℕ → Set) : Type 0 where
+  pub accepted : IsAccepted table bs (join_filling table σ)
+  pub least : (ψ : Filling) → IsAccepted table bs ψ
+      → IsFillingBelow table (join_filling table σ) ψ
+  pub known : (i n : ℕ) → IsTrue (inferred table i) → IsTrue (σ i n) → inferred table n ≡ false
+
+-- these are the inferred fields with such sets, the least that meet the bounds over closed and least
+-- facts of the bodies
+pub record IsInferred (typed : Typed) (fields : List FilledField) : Type 0 where
+  pub facts : List (Facts numbers)
+  pub right : AreAllRight typed.table (bodies typed.bodies) facts
+  pub sets : List ℕ
+  pub least : AreLeastSets (inferred typed.table) (bounds typed.table (bodies typed.bodies) facts)
+      (set_at sets)
+  pub filled : fields ≡ filled_in sets 0 typed.table.classes
+  pub accepted : AreLeastAccepted typed.table (bodies typed.bodies) (set_at sets)
+
+-- no filling is accepted, and this is the first rule that fails with each filling that meets the
+-- bounds over such facts
+pub record IsBrokenFirst (typed : Typed) (r : Refusal) : Type 0 where
+  pub facts : List (Facts numbers)
+  pub right : AreAllRight typed.table (bodies typed.bodies) facts
+  pub first : IsFirstAlways typed.table (bodies typed.bodies) facts r
+
+abbrev pub IsRefused : Typed → InferError → Type 0
+IsRefused typed (Broken r) = IsBrokenFirst typed r
+IsRefused typed Memory = Unit {0}

@@ -1,0 +1,5 @@
+pub mod Births
+pub mod Least
+pub mod Judged
+pub mod Filled
+pub mod Inferred
