@@ -8,6 +8,8 @@ mod auction;
 #[cfg(test)]
 mod facts;
 #[cfg(test)]
+mod inferred;
+#[cfg(test)]
 mod insecure;
 #[cfg(test)]
 mod meaning;

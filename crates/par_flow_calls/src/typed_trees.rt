@@ -2,6 +2,7 @@
 
 ghost use Rattle.std.specs.Prelude.{IfOk};
 ghost use Rattle.std.specs.List.{AllByRecursion};
+ghost use Rattle.par_declared.specs.Declared.{IsWellDeclared};
 ghost use Rattle.par_typed.specs.Shown.{bodies};
 ghost use Rattle.par_verdict.specs.Accepted.{IsOrderlyBody};
 
@@ -21,8 +22,9 @@ use std::rt::HostRuntime;
 use std::test::Fail;
 
 pub(crate) fn typed(alloc: Global, source: &[u8]) -> Result<Typed, Fail>
-    ensures { IfOk result
+    ensures orderly { IfOk result
         (λ typed. AllByRecursion (IsOrderlyBody typed.table) (bodies typed.bodies)) }
+    ensures declared { IfOk result (λ typed. IsWellDeclared typed.table) }
 {
     let tokens = lex(alloc, source)?;
     if tokens.len() > 262_144 {
