@@ -27,8 +27,8 @@ pub record AreLeastAccepted (table : Table) (bs : List Body) (σ : ℕ → Set) 
       → IsFillingBelow table (join_filling table σ) ψ
   pub known : (i n : ℕ) → IsTrue (inferred table i) → IsTrue (σ i n) → inferred table n ≡ false
 
--- these are the inferred fields with such sets, the least that meet the bounds over closed and least
--- facts of the bodies
+-- these are the inferred fields with such sets, the least ones that meet the bounds over closed and
+-- least facts of the bodies
 pub record IsInferred (typed : Typed) (fields : List FilledField) : Type 0 where
   pub facts : List (Facts numbers)
   pub right : AreAllRight typed.table (bodies typed.bodies) facts

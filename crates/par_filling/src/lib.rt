@@ -7,6 +7,7 @@ mod bodies;
 mod error;
 mod filling;
 mod least;
+mod program;
 mod solve;
 mod verdict;
 
@@ -15,5 +16,6 @@ pub use bodies::note_bodies;
 pub use error::InferError;
 pub use filling::{FilledField, Filling, fill};
 pub use least::least_sets;
+pub use program::infer;
 pub use solve::infer_fields;
 pub use verdict::first_failed;
