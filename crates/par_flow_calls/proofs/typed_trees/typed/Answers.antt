@@ -39,7 +39,7 @@ type_program-requires-clause-texts c =
     let short = at_most (length c.args.source.now) LONGEST_SOURCE (λ more. cc (long.1 more)) in
     omega (arith, covered, short)
 
-pub returns : goal.returns
-returns c =
+pub returns-clause-orderly : goal.returns-clause-orderly
+returns-clause-orderly c =
     let made = c.in_ok-typed in
     all_orderly made.typed.table (bodies made.typed.bodies) made.ensures.well_typed.orderly
