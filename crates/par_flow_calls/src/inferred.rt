@@ -1,9 +1,13 @@
 //! Inferred policies of fields of worked programs.
 
+ghost use Rattle.std.specs.Prelude.{IsTrue};
+ghost use Rattle.std.specs.List.{AllByRecursion};
+ghost use Rattle.par_filling.specs.Filled.{HasFewFields};
+
 use crate::typed_trees::typed;
-use par_filling::{Filling, InferError, infer};
-use par_flow::FactTable;
+use par_inferred::{Filling, InferError, infer};
 use par_typed::program::Typed;
+use par_typed::table::ClassInfo;
 use par_worked::expect;
 use std::alloc::Global;
 use std::rt::HostRuntime;
@@ -50,21 +54,24 @@ const CLASSES: usize = 65_536;
 
 const FIELDS: usize = 65_536;
 
+fn are_few(classes: &[ClassInfo]) -> bool
+    ensures { IsTrue result → AllByRecursion HasFewFields classes.now }
+{
+    match classes {
+        [] => true,
+        [first, rest @ ..] => first.fields.len() <= FIELDS && are_few(rest),
+    }
+}
+
 fn inferred(alloc: Global, source: &[u8]) -> Result<Result<Filling, InferError>, Fail> {
     let typed: Typed = typed(alloc, source)?;
     if typed.table.policies.len() > POLICIES || typed.table.classes.len() > CLASSES {
         return Err(Fail::new("a table that is too long"));
     }
-    if !typed
-        .table
-        .classes
-        .as_slice()
-        .iter()
-        .all(|class| class.fields.len() <= FIELDS)
-    {
+    if !are_few(typed.table.classes.as_slice()) {
         return Err(Fail::new("a class that is too long"));
     }
-    Ok(infer::<FactTable>(alloc, typed))
+    Ok(infer(alloc, typed))
 }
 
 fn is_kept(filling: &Filling) -> bool {
