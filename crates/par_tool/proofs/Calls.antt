@@ -18,7 +18,7 @@ use Rattle.par_trace.specs.Texts as traced
 use Rattle.par_words.specs.declared.words.Which.{Which}
 use Rattle.par_words.specs.declared.words.Unread.{Unread}
 use Rattle.par_words.specs.declared.words.Unread.TheVariants as unread
-use Rattle.par_words.specs.Words.{Wanted, Check, Compile, Trace, Run, Asks}
+use Rattle.par_words.specs.Words.{Wanted, Check, Compile, Trace, Audit, Run, Asks}
 use Rattle.par_tool.specs.declared.answer.Answer.{Answer}
 use Rattle.par_tool.specs.declared.reading.Failure.{Failure}
 use Rattle.par_tool.specs.declared.reading.Failure.TheVariants.{Answered, Memory}
@@ -28,7 +28,8 @@ use Rattle.par_tool.specs.Sources.{Checked, CompiledSo}
 use Rattle.par_tool.specs.Classes.{NotRun, Starts}
 use Rattle.par_meaning.specs.declared.run.SourceRun.{SourceRun}
 use Rattle.par_tool.specs.Traces.{Untraced, IsTraced}
-use Rattle.par_tool.specs.Answers.{Scene, Stand, Ends, misses, lacks_words, answers, runs, traces}
+use Rattle.par_tool.specs.Audits.{Unaudited, IsAuditOf}
+use Rattle.par_tool.specs.Answers.{Scene, Stand, Ends, misses, lacks_words, answers, runs, traces, audits}
 use Rattle.par_tool.specs.Answers.{lacks_memory, ReadsOnly, Concludes, BreaksOff}
 use Rattle.par_tool.proofs.Spending.{at_most}
 
@@ -89,6 +90,23 @@ module _ (which : Which) (words : List (String Global)) (s : Scene) (result : �
       traces (Trace file inputs bound) h.tree (traced.run_of t) asks (h.is_trace, (makes, stand))
       (subst (λ (table : Table). Said (told.status (Fine (traced.run_of t).ending))
       (traced.lines table (traced.run_of t)) result old new before after) h.table_is said)
+
+  pub audit_fails : (actor file : Text) (failure : Failure)
+      → Asks which words (Audit actor file) → Makes 1 0 s.before s.after → Stand s
+      → IsFailure (Unaudited s.files s.before s.after actor file) failure
+      → BreaksOff failure result old new before after
+      → Ends which words s result old new before after
+  audit_fails actor file (Answered answer) asks makes stand failed said =
+      answers (Audit actor file) answer asks (failed, (makes, stand)) said
+  audit_fails actor file Memory asks makes stand failed said =
+      lacks_memory (Audit actor file) asks said.0 said.1 (at_most 1 0 s.before s.after makes) stand
+
+  pub audit_ends : (actor file : Text) (lines : List Text)
+      → Asks which words (Audit actor file) → Makes 1 0 s.before s.after → Stand s
+      → IsAuditOf s.files actor file lines → Said 0 lines result old new before after
+      → Ends which words s result old new before after
+  audit_ends actor file lines asks makes stand h said =
+      audits (Audit actor file) lines asks (h, (makes, stand)) said
 
   pub run_fails : (main inputs : Text) (steps : ℕ) (failure : Failure)
       → Asks which words (Run main inputs steps) → Stand s

@@ -11,19 +11,20 @@ use Rattle.par_trace.specs.Texts as traced
 use Rattle.par_runner.specs.Texts as told
 use Rattle.par_words.specs.declared.words.Which.{Which}
 use Rattle.par_words.specs.Commands.{Text}
-use Rattle.par_words.specs.Words.{Wanted, Check, Compile, Trace, Run, Asks}
+use Rattle.par_words.specs.Words.{Wanted, Check, Compile, Trace, Audit, Run, Asks}
 use Rattle.par_loader.specs.Judged.{judged}
 use Rattle.par_words.proofs.Asking.{one_wanted}
 use Rattle.par_tool.specs.declared.answer.Answer.{Answer}
 use Rattle.par_tool.specs.Texts.{status, text}
 use Rattle.par_tool.specs.Answers.{Scene, Cause, RunCause, TraceCause, Ends, misses, lacks_words}
-use Rattle.par_tool.specs.Answers.{answers, runs, traces, lacks_memory}
+use Rattle.par_tool.specs.Answers.{answers, runs, traces, audits, lacks_memory, AuditCause}
 use Rattle.par_tool.specs.Exactly as exactly
 use Rattle.par_tool.specs.Exactly.{IsSaidBy, IsStatus, Checks, Compiles, IsExact, Traces}
-use Rattle.par_tool.specs.Exactly.{TellsSource, TellsClass}
+use Rattle.par_tool.specs.Exactly.{TellsSource, TellsClass, Audits}
 use Rattle.par_tool.proofs.Statuses.{said_status}
 use Rattle.par_tool.proofs.ExactSources.{tells_check, tells_compile}
 use Rattle.par_tool.proofs.ExactTraces.{tells_untraced, tells_traced}
+use Rattle.par_tool.proofs.ExactAudits.{tells_unaudited, tells_audited}
 use Rattle.par_tool.proofs.ExactRuns.{any_end, instead, tells_instead, tells_ran}
 
 -- ---- the status
@@ -36,6 +37,8 @@ answer_is_exact s (Compile file) a result cause said =
     tells_compile s.files s.before s.after file s.later result a cause said
 answer_is_exact s (Trace file inputs bound) a result cause said =
     tells_untraced s.files s.before s.after file inputs bound result a cause.0 said
+answer_is_exact s (Audit actor file) a result cause said =
+    tells_unaudited s.files s.before s.after actor file result a cause.0 said
 answer_is_exact s (Run main inputs steps) a result cause said =
     tells_instead s.files s.before s.after main inputs steps result a
     (instead s.files s.before s.after main inputs a cause.0) said
@@ -45,6 +48,7 @@ run_is_exact : (s : Scene) (w : Wanted) (ran : Ran) (result : ℕ) → RunCause 
 run_is_exact s (Check file) ran result cause said = absurd cause
 run_is_exact s (Compile file) ran result cause said = absurd cause
 run_is_exact s (Trace file inputs bound) ran result cause said = absurd cause
+run_is_exact s (Audit actor file) ran result cause said = absurd cause
 run_is_exact s (Run main inputs steps) ran result cause said =
     tells_ran s.files s.before s.after main inputs steps result cause.0 ran cause.1 said
 
@@ -55,7 +59,17 @@ trace_is_exact s (Check file) tree run result cause said = absurd cause
 trace_is_exact s (Compile file) tree run result cause said = absurd cause
 trace_is_exact s (Trace file inputs bound) tree run result cause said =
     tells_traced s.files file inputs bound tree run cause.0 result said
+trace_is_exact s (Audit actor file) tree run result cause said = absurd cause
 trace_is_exact s (Run main inputs steps) tree run result cause said = absurd cause
+
+audit_is_exact : (s : Scene) (w : Wanted) (lines : List Text) (result : ℕ) → AuditCause s w lines
+    → IsSaidBy result 0 → IsExact s.files w result
+audit_is_exact s (Check file) lines result cause said = absurd cause
+audit_is_exact s (Compile file) lines result cause said = absurd cause
+audit_is_exact s (Trace file inputs bound) lines result cause said = absurd cause
+audit_is_exact s (Audit actor file) lines result cause said =
+    tells_audited s.files actor file lines cause.0 result said
+audit_is_exact s (Run main inputs steps) lines result cause said = absurd cause
 
 -- want of memory comes in the place of any status
 wanting : (result number : ℕ) → result ≡ 7 → IsStatus result number
@@ -84,6 +98,12 @@ trace_wants files inputs bound source result seven = record {
   };
 }
 
+audit_wants : (actor source : Text) (result : ℕ) → result ≡ 7 → Audits actor source result
+audit_wants actor source result seven = record {
+  audited = λ tree number is_tree is. wanting result 0 seven;
+  no_actor = λ tree is_tree is. wanting result 15 seven;
+}
+
 class_wants : (files : Option Files) (main inputs : Text) (steps result : ℕ) → result ≡ 7
     → TellsClass files main inputs steps result
 class_wants files main inputs steps result seven = record {
@@ -105,6 +125,9 @@ wants files (Compile file) result seven = source_wants Compiles files file resul
 wants files (Trace file inputs bound) result seven =
     source_wants (Traces files inputs bound) files file result seven
     (λ source. trace_wants files inputs bound source result seven)
+wants files (Audit actor file) result seven =
+    source_wants (Audits actor) files file result seven
+    (λ source. audit_wants actor source result seven)
 wants files (Run main inputs steps) result seven = class_wants files main inputs steps result seven
 
 pub exact : (which : Which) (words : List (String Global)) (s : Scene) (result : ℕ)
@@ -127,6 +150,9 @@ exact which words s result old new f g (traces v tree run asks cause said) w ask
     (trace_is_exact s v tree run result cause
     (said_status (told.status (Fine run.ending)) result
     (traced.lines (table_of tree) run) old new f g said))
+exact which words s result old new f g (audits v lines asks cause said) w asked =
+    subst (λ (x : Wanted). IsExact s.files x result) (one_wanted which words v w asks asked)
+    (audit_is_exact s v lines result cause (said_status 0 result lines old new f g said))
 exact which words s result old new f g (lacks_memory v asks seven put few stand) w asked =
     wants s.files w result seven
 
@@ -141,5 +167,6 @@ usage which words s result old new f g (lacks_words seven put stand) h = exactly
 usage which words s result old new f g (answers v a asks cause said) h = absurd (h v asks)
 usage which words s result old new f g (runs v ran asks cause said) h = absurd (h v asks)
 usage which words s result old new f g (traces v tree run asks cause said) h = absurd (h v asks)
+usage which words s result old new f g (audits v lines asks cause said) h = absurd (h v asks)
 usage which words s result old new f g (lacks_memory v asks seven put few stand) h =
     exactly.lacks_memory seven

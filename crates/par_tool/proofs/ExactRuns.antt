@@ -19,7 +19,7 @@ use Rattle.par_tool.specs.declared.answer.Answer.{Answer}
 use Rattle.par_tool.specs.declared.answer.Answer.TheVariants.{Accepted, Compiled, Refused, Usage}
 use Rattle.par_tool.specs.declared.answer.Answer.TheVariants.{Absent, ReadFault, WriteFault}
 use Rattle.par_tool.specs.declared.answer.Answer.TheVariants.{TooLong, NotBuilt, BadClass}
-use Rattle.par_tool.specs.declared.answer.Answer.TheVariants.{BadInputs}
+use Rattle.par_tool.specs.declared.answer.Answer.TheVariants.{BadInputs, NoActor}
 use Rattle.par_tool.specs.Texts.{status}
 use Rattle.par_tool.specs.Outside.{Text, NotRead, IsThere, IsMissing, IsOverlong, class_file}
 use Rattle.par_loader.specs.Reads.{Classes, AreOf}
@@ -102,6 +102,7 @@ module _ (files : Option Files) (before after : FolderCounts) (main inputs : Tex
   instead (Compiled many) h = absurd h
   instead (Refused rule line column limit count) h = absurd h
   instead Usage h = absurd h
+  instead NoActor h = absurd h
   instead WriteFault h = absurd h
   instead NotBuilt h = absurd h
 

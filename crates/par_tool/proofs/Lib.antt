@@ -6,6 +6,9 @@ pub mod Linked
 pub mod Inputs
 pub mod ExactSources
 pub mod ExactTraces
+pub mod ExactAudits
+pub mod Lined
+pub mod Audited
 pub mod ExactRuns
 pub mod Exact
 pub mod Compiling

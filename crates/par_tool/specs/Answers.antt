@@ -6,7 +6,7 @@ use Rattle.par_io.specs.Causes.{FolderCounts, SinkCounts, Makes, Files}
 use Rattle.par_io.specs.Saying.{Said}
 use Rattle.par_values.specs.Ran.{Ran, Fine}
 use Rattle.par_words.specs.declared.words.Which.{Which}
-use Rattle.par_words.specs.Words.{Wanted, Check, Compile, Trace, Run, Asks}
+use Rattle.par_words.specs.Words.{Wanted, Check, Compile, Trace, Audit, Run, Asks}
 use Rattle.par_tree.specs.Plain.{Source}
 use Rattle.par_resolved.specs.Resolved.{table_of}
 use Rattle.par_secrecy.specs.Runs as source
@@ -21,6 +21,7 @@ use Rattle.par_tool.specs.Outside.{Text, MakesAtMost}
 use Rattle.par_tool.specs.Sources.{Checked, CompiledSo}
 use Rattle.par_tool.specs.Classes.{NotRun, IsRunOf}
 use Rattle.par_tool.specs.Traces.{Untraced, IsTraceOf}
+use Rattle.par_tool.specs.Audits.{Unaudited, IsAuditOf}
 
 -- What a call sees: the files before and after it, and the folder's counts.
 pub record Scene : Type 0 where
@@ -43,6 +44,7 @@ abbrev pub most_reads : Wanted → ℕ
 most_reads (Check file) = 1
 most_reads (Compile file) = 1
 most_reads (Trace file inputs bound) = 2
+most_reads (Audit actor file) = 1
 most_reads (Run main inputs steps) = 130
 
 -- and the most that are written: the class file of a source
@@ -50,6 +52,7 @@ abbrev pub most_writes : Wanted → ℕ
 most_writes (Check file) = 0
 most_writes (Compile file) = 1
 most_writes (Trace file inputs bound) = 0
+most_writes (Audit actor file) = 0
 most_writes (Run main inputs steps) = 0
 
 -- nothing was put
@@ -70,6 +73,8 @@ Cause s (Check file) answer = Checked s.files s.before s.after file answer × Re
 Cause s (Compile file) answer = CompiledSo s.files s.later s.before s.after file answer
 Cause s (Trace file inputs bound) answer =
     Untraced s.files s.before s.after file inputs answer × Stand s
+Cause s (Audit actor file) answer =
+    Unaudited s.files s.before s.after actor file answer × ReadsOnly 1 s
 Cause s (Run main inputs steps) answer =
     NotRun s.files s.before s.after main inputs answer × Stand s
 
@@ -78,6 +83,7 @@ abbrev pub RunCause : Scene → Wanted → Ran → Type 0
 RunCause s (Check file) ran = ⊥
 RunCause s (Compile file) ran = ⊥
 RunCause s (Trace file inputs bound) ran = ⊥
+RunCause s (Audit actor file) ran = ⊥
 RunCause s (Run main inputs steps) ran =
     (reads : ℕ) × IsRunOf s.files main inputs steps reads ran × ReadsOnly (suc reads) s
 
@@ -86,6 +92,11 @@ abbrev pub TraceCause : Scene → Wanted → Source → source.Run → Type 0
 TraceCause s (Trace file inputs bound) tree run =
     IsTraceOf s.files file inputs bound tree run × ReadsOnly 2 s
 TraceCause s _ tree run = ⊥
+
+-- Why the lines of an audit are told.
+abbrev pub AuditCause : Scene → Wanted → List Text → Type 0
+AuditCause s (Audit actor file) lines = IsAuditOf s.files actor file lines × ReadsOnly 1 s
+AuditCause s _ lines = ⊥
 
 -- the status and the lines that tell of a run of the source with a tree
 abbrev pub IsToldRun : Source → source.Run → (result : ℕ) → (old new : Option Text)
@@ -109,6 +120,8 @@ module _ (which : Which) (words : List (String Global)) (scene : Scene) (result 
         → Said (told.status ran.ending) (told.lines ran) result old new before after → Ends
     traces : (w : Wanted) (tree : Source) (run : source.Run) → Asks which words w
         → TraceCause scene w tree run → IsToldRun tree run result old new before after → Ends
+    audits : (w : Wanted) (lines : List Text) → Asks which words w → AuditCause scene w lines
+        → Said 0 lines result old new before after → Ends
     lacks_memory : (w : Wanted) → Asks which words w → result ≡ 7 → IsUnput old new before after
         → MakesAtMost (most_reads w) (most_writes w) scene.before scene.after → Stand scene
         → Ends

@@ -1,5 +1,5 @@
 -- Which status a call has whose files are there.
-use Rattle.std.specs.Prelude.{◌≡◌, ℕ, ◌⊎◌, List, Option, None}
+use Rattle.std.specs.Prelude.{◌≡◌, ℕ, ◌⊎◌, List, Option, Some, None}
 use Rattle.par_io.specs.Causes.{Files}
 use Rattle.par_values.specs.declared.inputs.Inputs.{Inputs}
 use Rattle.par_class.specs.declared.file.ClassFile.{ClassFile}
@@ -8,12 +8,13 @@ use Rattle.par_inputs.specs.Rules.{entries, IsRight}
 use Rattle.par_link.specs.Inputs.{first_misfit}
 use Rattle.par_steps.specs.Run.{machine_run}
 use Rattle.par_runner.specs.Texts as told
-use Rattle.par_words.specs.Words.{Wanted, Check, Compile, Trace, Run}
+use Rattle.par_words.specs.Words.{Wanted, Check, Compile, Trace, Audit, Run}
 use Rattle.par_lexer.specs.declared.cut.TheConstants.{LONGEST_SOURCE}
 use Rattle.par_inputs.specs.declared.read.TheConstants.{LONGEST_INPUTS}
 use Rattle.par_pool.specs.declared.reading.TheConstants.{LONGEST_CLASS}
 use Rattle.par_values.specs.Ran.{Fine}
 use Rattle.par_tree.specs.Plain.{Source}
+use Rattle.par_resolved.specs.Resolved.{table_of}
 use Rattle.par_observer.specs.Judgements.{IsAcceptedSource, IsTreeOf}
 use Rattle.par_observer.specs.Straight.{HasPassed}
 use Rattle.par_loader.specs.Reads.{Classes, AreOf}
@@ -24,6 +25,7 @@ use Rattle.par_tool.specs.Outside.{Text, IsThere, IsMissing, IsOverlong, class_f
 use Rattle.par_tool.specs.Sources.{IsBroken}
 use Rattle.par_tool.specs.Given.{IsBad}
 use Rattle.par_tool.specs.Traces.{misfits, source_run}
+use Rattle.par_tool.specs.Audits.{actor_of}
 
 -- what has this status is said, but for a failed put or want of memory
 pub data IsSaidBy (result number : ℕ) : Type 0 where
@@ -95,6 +97,13 @@ pub record Traces (files : Option Files) (inputs : Text) (bound : ℕ) (source :
   pub there : (tree : Source) (text : Text) → IsTreeOf source tree
       → IsThere files LONGEST_INPUTS inputs text → TracesOn tree text bound result
 
+-- An accepted source that is audited: 15 exactly where it does not declare the actor.
+pub record Audits (actor source : Text) (result : ℕ) : Type 0 where
+  pub audited : (tree : Source) (number : ℕ) → IsTreeOf source tree
+      → actor_of (table_of tree) actor ≡ Some number → IsStatus result 0
+  pub no_actor : (tree : Source) → IsTreeOf source tree
+      → actor_of (table_of tree) actor ≡ None → IsStatus result 15
+
 -- Which status a class has by what its class files come to: 12 where one is refused or absent, and
 -- that of their run where they link.
 module _ (files : Option Files) (main inputs : Text) (steps result : ℕ) where
@@ -121,4 +130,5 @@ module _ (files : Option Files) where
   IsExact (Compile file) result = TellsSource Compiles files file result
   IsExact (Trace file inputs bound) result =
       TellsSource (Traces files inputs bound) files file result
+  IsExact (Audit actor file) result = TellsSource (Audits actor) files file result
   IsExact (Run main inputs steps) result = TellsClass files main inputs steps result

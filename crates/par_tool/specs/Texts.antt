@@ -6,7 +6,7 @@ use Rattle.par_tool.specs.declared.answer.Answer.{Answer}
 use Rattle.par_tool.specs.declared.answer.Answer.TheVariants.{Accepted, Compiled, Refused, Usage}
 use Rattle.par_tool.specs.declared.answer.Answer.TheVariants.{Absent, ReadFault, WriteFault}
 use Rattle.par_tool.specs.declared.answer.Answer.TheVariants.{TooLong, NotBuilt, BadClass}
-use Rattle.par_tool.specs.declared.answer.Answer.TheVariants.{BadInputs}
+use Rattle.par_tool.specs.declared.answer.Answer.TheVariants.{BadInputs, NoActor}
 
 abbrev pub status : Answer → ℕ
 status Accepted = 0
@@ -20,6 +20,7 @@ status TooLong = 8
 status NotBuilt = 9
 status (BadClass class number value) = 12
 status (BadInputs line) = 13
+status NoActor = 15
 
 -- the number of class files that are written
 abbrev pub compiled_text : ℕ → List ℕ
@@ -62,6 +63,7 @@ text TooLong = codes "too long\n"
 text NotBuilt = codes "not built\n"
 text (BadClass class number value) = class_text class number value
 text (BadInputs line) = inputs_text line
+text NoActor = codes "no actor\n"
 
 -- whether the answer tells of a fault that has happened
 abbrev pub is_fault : Answer → Bool

@@ -49,6 +49,8 @@ pub enum Answer {
     },
     /// A line of the input file, counted from 1, is wrong.
     BadInputs(u32),
+    /// The source declares no actor of the name.
+    NoActor,
 }
 
 /// The status of an answer.
@@ -67,6 +69,7 @@ pub fn status_of(answer: &Answer) -> u8
         Answer::NotBuilt => 9,
         Answer::BadClass { .. } => 12,
         Answer::BadInputs(_) => 13,
+        Answer::NoActor => 15,
     }
 }
 
@@ -124,6 +127,7 @@ fn line_of(alloc: Global, answer: &Answer) -> Result<Line, AllocError>
             value,
         } => Ok(Line::Made(class_line(alloc, class, *number, *value)?)),
         Answer::BadInputs(line) => Ok(Line::Made(inputs_line(alloc, *line)?)),
+        Answer::NoActor => Ok(Line::Fixed(b"no actor\n")),
     }
 }
 

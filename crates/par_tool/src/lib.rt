@@ -6,7 +6,9 @@
 #![tactic(auto)]
 
 pub mod answer;
+mod audits;
 mod classes;
+mod lines;
 mod reading;
 mod sources;
 pub mod tool;

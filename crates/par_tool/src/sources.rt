@@ -1,8 +1,11 @@
 //! What is done with a source: it is read and judged, and its program is compiled.
 
-ghost use Rattle.std.specs.Prelude.{◌≡◌, ◌≤◌, ◌^◌, ◌<◌, IsTrue, IfOk, IfErr, length, string_bytes};
+ghost use Rattle.std.specs.Prelude.{◌≡◌, ◌≤◌, ◌^◌, ◌<◌, IsTrue, IfOk, IfErr, length, map, string_bytes};
 ghost use Rattle.par_io.specs.Causes.{Makes, NoneFalls};
 ghost use Rattle.par_lexer.specs.Names.{IsName};
+ghost use Rattle.par_verdict.specs.Accepted.{IsAcceptedBy};
+ghost use Rattle.par_flow.specs.Table.{facts_in};
+ghost use Rattle.par_observer.specs.Trees.{IsWellFormed};
 ghost use Rattle.par_tool.specs.Failures.{IsFailure, FaultsAreTold};
 ghost use Rattle.par_tool.specs.Outside.{Text, MakesAtMost};
 ghost use Rattle.par_tool.specs.Sources.{IsSecureAs, IsCompiledAs, ReadSource, Rejected, Checked};
@@ -21,9 +24,12 @@ use par_straight_compile::compile;
 use std::alloc::{AllocError, Global};
 
 /// What a source is accepted as.
-fn accepted(alloc: Global, source: &[u8]) -> Result<Accepted, Failure>
+pub fn accepted(alloc: Global, source: &[u8]) -> Result<Accepted, Failure>
     requires { length source.now ≤ LONGEST_SOURCE }
     ensures accepted { IfOk result (λ accepted. IsSecureAs source.now accepted.typed) }
+    ensures well_formed { IfOk result (λ accepted. IsWellFormed accepted.typed) }
+    ensures kept { IfOk result (λ accepted.
+        IsAcceptedBy accepted.typed (map facts_in accepted.facts)) }
     ensures failed { IfErr result (IsFailure (IsUnaccepted source.now)) }
 {
     match judge(alloc, source) {

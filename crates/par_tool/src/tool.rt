@@ -10,7 +10,9 @@ ghost use Rattle.par_tool.specs.Exactly.{IsExact, IsSaidBy};
 ghost use Rattle.par_words.specs.Words.{Asks, Wanted};
 
 use crate::answer::{Answer, say};
+use crate::audits::audit_source;
 use crate::classes::started;
+use crate::lines::tell_lines;
 use crate::reading::Failure;
 use crate::sources::{check, compile_file};
 use crate::traces::{Traced, trace_source};
@@ -58,6 +60,10 @@ pub fn tool<F: Folder, S: Sink>(
             bound,
         } => match trace_source(alloc, folder, file, inputs, bound) {
             Ok(traced) => tell_trace(alloc, &traced, out),
+            Err(failure) => break_off(alloc, failure, out),
+        },
+        Request::Audit { actor, file } => match audit_source(alloc, folder, actor, file) {
+            Ok(lines) => tell_lines(lines.as_slice(), out),
             Err(failure) => break_off(alloc, failure, out),
         },
         Request::Run {

@@ -14,7 +14,8 @@ use Rattle.par_inputs.specs.Numbers.{is_decimal, magnitude_of}
 use Rattle.par_words.specs.declared.words.Which.{Which}
 use Rattle.par_words.specs.declared.words.Which.TheVariants.{Compiler, Runner}
 use Rattle.par_words.specs.Commands.{Text, texts, rows, values, has_flag}
-use Rattle.par_words.specs.Words.{Wanted, Check, Compile, Trace, Run, AreRun, AskRun, AreTraced}
+use Rattle.par_words.specs.Words.{Wanted, Check, Compile, Trace, Audit, Run, AreRun, AskRun}
+use Rattle.par_words.specs.Words.{AreTraced, AreAudited, AskAudit, IsAudit}
 use Rattle.par_words.specs.Words.{AskTrace, AskSource, IsSource, IsTrace, IsCompiler, IsRun, IsForm}
 use Rattle.par_words.specs.Words.{Asks, most_steps}
 
@@ -24,15 +25,19 @@ one_file true file (Check f) (Check g) x y = ap Check (sym x ∙ y)
 one_file false file (Compile f) (Compile g) x y = ap Compile (sym x ∙ y)
 one_file true file (Compile f) w x y = absurd x
 one_file true file (Trace f i n) w x y = absurd x
+one_file true file (Audit a f) w x y = absurd x
 one_file true file (Run m i s) w x y = absurd x
 one_file true file (Check f) (Compile g) x y = absurd y
 one_file true file (Check f) (Trace g i n) x y = absurd y
+one_file true file (Check f) (Audit a g) x y = absurd y
 one_file true file (Check f) (Run m i s) x y = absurd y
 one_file false file (Check f) w x y = absurd x
 one_file false file (Trace f i n) w x y = absurd x
+one_file false file (Audit a f) w x y = absurd x
 one_file false file (Run m i s) w x y = absurd x
 one_file false file (Compile f) (Check g) x y = absurd y
 one_file false file (Compile f) (Trace g i n) x y = absurd y
+one_file false file (Compile f) (Audit a g) x y = absurd y
 one_file false file (Compile f) (Run m i s) x y = absurd y
 
 one_source : (checked : Bool) (vs : List Text) (v w : Wanted) → IsSource checked vs v
@@ -54,9 +59,11 @@ one_trace : (a b c : Text) (v w : Wanted) → AskTrace a b c v → AskTrace a b 
 one_trace a b c (Trace f i m) (Trace g j n) x y = trace_is a b c f g i j m n x y
 one_trace a b c (Check f) w x y = absurd x
 one_trace a b c (Compile f) w x y = absurd x
+one_trace a b c (Audit d f) w x y = absurd x
 one_trace a b c (Run m i s) w x y = absurd x
 one_trace a b c (Trace f i m) (Check g) x y = absurd y
 one_trace a b c (Trace f i m) (Compile g) x y = absurd y
+one_trace a b c (Trace f i m) (Audit d g) x y = absurd y
 one_trace a b c (Trace f i m) (Run g j s) x y = absurd y
 
 traces_once : (vs : List Text) (v w : Wanted) → IsTrace vs v → IsTrace vs w → v ≡ w
@@ -66,11 +73,37 @@ traces_once (a ∷ b ∷ []) v w x y = absurd x
 traces_once (a ∷ b ∷ c ∷ []) v w x y = one_trace a b c v w x y
 traces_once (a ∷ b ∷ c ∷ d ∷ more) v w x y = absurd x
 
-compiles_once : (checked traced : Bool) (vs : List Text) (v w : Wanted)
-    → IsCompiler checked traced vs v → IsCompiler checked traced vs w → v ≡ w
-compiles_once checked false vs v w x y = one_source checked vs v w x y
-compiles_once false true vs v w x y = traces_once vs v w x y
-compiles_once true true vs v w x y = absurd x
+audit_is : (a b d e f g : Text) → AreAudited a b d f → AreAudited a b e g → Audit d f ≡ Audit e g
+audit_is a b d e f g x y =
+    let actor : d ≡ e = sym x.actor_is ∙ y.actor_is in
+    let file : f ≡ g = sym x.file_is ∙ y.file_is in
+    cc
+
+one_audit : (a b : Text) (v w : Wanted) → AskAudit a b v → AskAudit a b w → v ≡ w
+one_audit a b (Audit d f) (Audit e g) x y = audit_is a b d e f g x y
+one_audit a b (Check f) w x y = absurd x
+one_audit a b (Compile f) w x y = absurd x
+one_audit a b (Trace f i m) w x y = absurd x
+one_audit a b (Run m i s) w x y = absurd x
+one_audit a b (Audit d f) (Check g) x y = absurd y
+one_audit a b (Audit d f) (Compile g) x y = absurd y
+one_audit a b (Audit d f) (Trace g i m) x y = absurd y
+one_audit a b (Audit d f) (Run m i s) x y = absurd y
+
+audits_once : (vs : List Text) (v w : Wanted) → IsAudit vs v → IsAudit vs w → v ≡ w
+audits_once [] v w x y = absurd x
+audits_once (a ∷ []) v w x y = absurd x
+audits_once (a ∷ b ∷ []) v w x y = one_audit a b v w x y
+audits_once (a ∷ b ∷ c ∷ more) v w x y = absurd x
+
+compiles_once : (checked traced audited : Bool) (vs : List Text) (v w : Wanted)
+    → IsCompiler checked traced audited vs v → IsCompiler checked traced audited vs w → v ≡ w
+compiles_once checked false false vs v w x y = one_source checked vs v w x y
+compiles_once false true false vs v w x y = traces_once vs v w x y
+compiles_once false false true vs v w x y = audits_once vs v w x y
+compiles_once true true audited vs v w x y = absurd x
+compiles_once true false true vs v w x y = absurd x
+compiles_once false true true vs v w x y = absurd x
 
 run_is : (a b c m n i j : Text) (s t : ℕ) → AreRun a b c m i s → AreRun a b c n j t
     → Run m i s ≡ Run n j t
@@ -86,9 +119,11 @@ one_run a b c (Run m i s) (Run n j t) x y = run_is a b c m n i j s t x y
 one_run a b c (Check f) w x y = absurd x
 one_run a b c (Compile f) w x y = absurd x
 one_run a b c (Trace f i n) w x y = absurd x
+one_run a b c (Audit d f) w x y = absurd x
 one_run a b c (Run m i s) (Check f) x y = absurd y
 one_run a b c (Run m i s) (Compile f) x y = absurd y
 one_run a b c (Run m i s) (Trace f j n) x y = absurd y
+one_run a b c (Run m i s) (Audit d f) x y = absurd y
 
 runs_once : (vs : List Text) (v w : Wanted) → IsRun vs v → IsRun vs w → v ≡ w
 runs_once [] v w x y = absurd x
@@ -101,7 +136,7 @@ one_form : (which : Which) (found : List Row) (v w : Wanted) → IsForm which fo
     → IsForm which found w → v ≡ w
 one_form Compiler found v w x y =
     compiles_once (has_flag (codes "check") found) (has_flag (codes "trace") found)
-    (values found) v w x y
+    (has_flag (codes "audit") found) (values found) v w x y
 one_form Runner found v w x y = runs_once (values found) v w x y
 
 -- words ask for one thing
@@ -124,12 +159,22 @@ no_source true (file ∷ []) main inputs steps asks = asks
 no_source false (file ∷ []) main inputs steps asks = asks
 no_source checked (file ∷ another ∷ more) main inputs steps asks = asks
 
+no_audit : (vs : List Text) (main inputs : Text) (steps : ℕ)
+    → IsAudit vs (Run main inputs steps) → ⊥
+no_audit [] main inputs steps asks = asks
+no_audit (a ∷ []) main inputs steps asks = asks
+no_audit (a ∷ b ∷ []) main inputs steps asks = asks
+no_audit (a ∷ b ∷ c ∷ more) main inputs steps asks = asks
+
 -- the compiler runs no class
-no_run : (checked traced : Bool) (vs : List Text) (main inputs : Text) (steps : ℕ)
-    → IsCompiler checked traced vs (Run main inputs steps) → ⊥
-no_run checked false vs main inputs steps asks = no_source checked vs main inputs steps asks
-no_run false true vs main inputs steps asks = no_trace vs main inputs steps asks
-no_run true true vs main inputs steps asks = asks
+no_run : (checked traced audited : Bool) (vs : List Text) (main inputs : Text) (steps : ℕ)
+    → IsCompiler checked traced audited vs (Run main inputs steps) → ⊥
+no_run checked false false vs main inputs steps asks = no_source checked vs main inputs steps asks
+no_run false true false vs main inputs steps asks = no_trace vs main inputs steps asks
+no_run false false true vs main inputs steps asks = no_audit vs main inputs steps asks
+no_run true true audited vs main inputs steps asks = asks
+no_run true false true vs main inputs steps asks = asks
+no_run false true true vs main inputs steps asks = asks
 
 run_named : (vs : List Text) (main inputs : Text) (steps : ℕ) → IsRun vs (Run main inputs steps)
     → IsName main
@@ -143,7 +188,7 @@ form_named : (which : Which) (found : List Row) (main inputs : Text) (steps : �
     → IsForm which found (Run main inputs steps) → IsName main
 form_named Compiler found main inputs steps asks =
     absurd (no_run (has_flag (codes "check") found) (has_flag (codes "trace") found)
-    (values found) main inputs steps asks)
+    (has_flag (codes "audit") found) (values found) main inputs steps asks)
 form_named Runner found main inputs steps asks = run_named (values found) main inputs steps asks
 
 -- the name of the class of a run is one
@@ -180,7 +225,7 @@ form_few : (which : Which) (found : List Row) (main inputs : Text) (steps : ℕ)
     → IsForm which found (Run main inputs steps) → steps ≤ most_steps
 form_few Compiler found main inputs steps asks =
     absurd (no_run (has_flag (codes "check") found) (has_flag (codes "trace") found)
-    (values found) main inputs steps asks)
+    (has_flag (codes "audit") found) (values found) main inputs steps asks)
 form_few Runner found main inputs steps asks = run_few (values found) main inputs steps asks
 
 -- is at most the greatest

@@ -43,7 +43,9 @@ bare name =
 abbrev pub compiler : App
 compiler =
     with_rule
+    (with_rule
     (with_rule (with_rule (bare (codes "paragonc")) (flag (codes "check"))) (flag (codes "trace")))
+    (flag (codes "audit")))
     values_rule
 
 abbrev pub runner : App

@@ -1,10 +1,11 @@
 -- What a request that was read asks for.
 use Rattle.par_words.specs.declared.words.Request.{Request}
 use Rattle.par_words.specs.declared.words.Request.TheVariants as read
-use Rattle.par_words.specs.Words.{Wanted, Check, Compile, Trace, Run}
+use Rattle.par_words.specs.Words.{Wanted, Check, Compile, Trace, Audit, Run}
 
 abbrev pub wanted : Request → Wanted
 wanted (read.Check file) = Check file.now
 wanted (read.Compile file) = Compile file.now
 wanted (read.Trace file inputs bound) = Trace file.now inputs.now bound
+wanted (read.Audit actor file) = Audit actor.now file.now
 wanted (read.Run main inputs steps) = Run main.now inputs.now steps

@@ -17,6 +17,8 @@ pub data Wanted : Type 0 where
   Compile : (file : Text) → Wanted
   -- to tell of the run of a source on an input file, at most so many steps
   Trace : (file inputs : Text) → (bound : ℕ) → Wanted
+  -- to audit a source for an actor
+  Audit : (actor file : Text) → Wanted
   -- to run a class on an input file, at most so many instructions
   Run : (main inputs : Text) → (steps : ℕ) → Wanted
 
@@ -56,6 +58,17 @@ AskTrace first second third (Trace file inputs bound) =
     AreTraced first second third file inputs bound
 AskTrace first second third _ = ⊥
 
+-- a name and a file
+pub record AreAudited (first second actor file : Text) : Type 0 where
+  pub actor_is : first ≡ actor
+  pub name : IsName actor
+  pub file_is : second ≡ file
+
+-- two values ask for an audit
+abbrev pub AskAudit : (first second : Text) → Wanted → Type 0
+AskAudit first second (Audit actor file) = AreAudited first second actor file
+AskAudit first second _ = ⊥
+
 -- a file is checked where `--check` is there, and compiled where it is not
 abbrev pub AskSource : (checked : Bool) → Text → Wanted → Type 0
 AskSource true text (Check file) = text ≡ file
@@ -76,11 +89,21 @@ IsTrace (first ∷ second ∷ []) w = ⊥
 IsTrace (first ∷ second ∷ third ∷ []) w = AskTrace first second third w
 IsTrace (first ∷ second ∷ third ∷ fourth ∷ more) w = ⊥
 
+-- `--audit ACTOR FILE`
+abbrev pub IsAudit : (values : List Text) → Wanted → Type 0
+IsAudit [] w = ⊥
+IsAudit (first ∷ []) w = ⊥
+IsAudit (first ∷ second ∷ []) w = AskAudit first second w
+IsAudit (first ∷ second ∷ third ∷ more) w = ⊥
+
 -- at most one of the compiler's flags is set
-abbrev pub IsCompiler : (checked traced : Bool) → (values : List Text) → Wanted → Type 0
-IsCompiler checked false values w = IsSource checked values w
-IsCompiler false true values w = IsTrace values w
-IsCompiler true true values w = ⊥
+abbrev pub IsCompiler : (checked traced audited : Bool) → (values : List Text) → Wanted → Type 0
+IsCompiler checked false false values w = IsSource checked values w
+IsCompiler false true false values w = IsTrace values w
+IsCompiler false false true values w = IsAudit values w
+IsCompiler true true audited values w = ⊥
+IsCompiler true false true values w = ⊥
+IsCompiler false true true values w = ⊥
 
 -- `MAIN INPUTS STEPS`
 abbrev pub IsRun : (values : List Text) → Wanted → Type 0
@@ -93,7 +116,8 @@ IsRun (first ∷ second ∷ third ∷ fourth ∷ more) w = ⊥
 -- what is found of a program's flags and values asks for this
 abbrev pub IsForm : Which → (found : List Row) → Wanted → Type 0
 IsForm Compiler found w =
-    IsCompiler (has_flag (codes "check") found) (has_flag (codes "trace") found) (values found) w
+    IsCompiler (has_flag (codes "check") found) (has_flag (codes "trace") found)
+    (has_flag (codes "audit") found) (values found) w
 IsForm Runner found w = IsRun (values found) w
 
 -- What the words ask of each program: its command takes them, and what it makes of them is of one

@@ -57,6 +57,7 @@ fn command<'a>(alloc: Global, which: Which) -> Result<Command<'a>, AllocError>
         Which::Compiler => bare(alloc, "paragonc")
             .arg(flag(alloc, "check"))?
             .arg(flag(alloc, "trace"))?
+            .arg(flag(alloc, "audit"))?
             .arg(every_value(alloc)),
         Which::Runner => bare(alloc, "paragon").arg(every_value(alloc)),
     }

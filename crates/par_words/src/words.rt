@@ -3,7 +3,7 @@
 ghost use Rattle.std.specs.Prelude.{◌≡◌, ◌≤◌, ℕ, MatchOption, MatchResult, map};
 ghost use Rattle.clap.specs.Words.{found_of, rows_of};
 ghost use Rattle.par_words.specs.Words.{Asks, Wanted, IsForm, IsCompiler, IsSource, IsTrace};
-ghost use Rattle.par_words.specs.Words.{AskTrace, IsRun, AskRun, Counts};
+ghost use Rattle.par_words.specs.Words.{AskTrace, IsAudit, AskAudit, IsRun, AskRun, Counts};
 ghost use Rattle.par_words.specs.Requests.{wanted};
 
 use crate::commands::{has_flag, taken, values};
@@ -33,6 +33,11 @@ pub enum Request<'a> {
         file: &'a str,
         inputs: &'a str,
         bound: u32,
+    },
+    /// To audit the source in a file for the actor of this name.
+    Audit {
+        actor: &'a str,
+        file: &'a str,
     },
     /// To run the class of this name on an input file, at most so many instructions.
     Run {
@@ -91,6 +96,7 @@ fn request_of<'a>(which: Which, matches: &ArgMatches<'a>) -> Option<Request<'a>>
             compiler_request(
                 has_flag(matches, "check"),
                 has_flag(matches, "trace"),
+                has_flag(matches, "audit"),
                 values,
             )
         }
@@ -99,15 +105,21 @@ fn request_of<'a>(which: Which, matches: &ArgMatches<'a>) -> Option<Request<'a>>
 }
 
 /// What values ask of the compiler, with these flags.
-fn compiler_request<'a>(checked: bool, traced: bool, values: &[&'a str]) -> Option<Request<'a>>
+fn compiler_request<'a>(
+    checked: bool,
+    traced: bool,
+    audited: bool,
+    values: &[&'a str],
+) -> Option<Request<'a>>
     ensures { let texts = map (λ text. text.now) values.entry.now in MatchOption result
-        ((w : Wanted) → IsCompiler checked traced texts w → ⊥)
-        (λ request. IsCompiler checked traced texts (wanted request)) }
+        ((w : Wanted) → IsCompiler checked traced audited texts w → ⊥)
+        (λ request. IsCompiler checked traced audited texts (wanted request)) }
 {
-    match (checked, traced) {
-        (checked, false) => source_request(checked, values),
-        (false, true) => trace_request(values),
-        (true, true) => None,
+    match (checked, traced, audited) {
+        (checked, false, false) => source_request(checked, values),
+        (false, true, false) => trace_request(values),
+        (false, false, true) => audit_request(values),
+        (true, true, _) | (true, false, true) | (false, true, true) => None,
     }
 }
 
@@ -150,6 +162,29 @@ fn trace_of<'a>(file: &'a str, inputs: &'a str, bound: &str) -> Option<Request<'
         inputs,
         bound,
     })
+}
+
+/// An audit, where there are two values.
+fn audit_request<'a>(values: &[&'a str]) -> Option<Request<'a>>
+    ensures { MatchOption result
+        ((w : Wanted) → IsAudit (map (λ text. text.now) values.entry.now) w → ⊥)
+        (λ request. IsAudit (map (λ text. text.now) values.entry.now) (wanted request)) }
+{
+    match values {
+        [actor, file] => audit_of(actor, file),
+        _ => None,
+    }
+}
+
+/// An audit, where the first word is a name.
+fn audit_of<'a>(actor: &'a str, file: &'a str) -> Option<Request<'a>>
+    ensures { MatchOption result ((w : Wanted) → AskAudit actor.now file.now w → ⊥)
+        (λ request. AskAudit actor.now file.now (wanted request)) }
+{
+    if !Name::is_name(actor.as_bytes()) {
+        return None;
+    }
+    Some(Request::Audit { actor, file })
 }
 
 /// A run, where there are three values.

@@ -1,10 +1,10 @@
-use Rattle.std.proofs.Common.{refl, subst, arith}
+use Rattle.std.proofs.Common.{refl, subst, arith, map, string_bytes}
 use Rattle.par_words.proofs.Asking.{asks_named, asks_few}
 use Rattle.par_tool.specs.declared.reading.Failure.{Failure}
 use Rattle.par_tool.specs.Answers.{BreaksOff}
 use Rattle.par_tool.proofs.Exact as exactly
 use Rattle.par_tool.proofs.Calls.{words_end, check_ends, compile_ends, trace_ends, trace_fails}
-use Rattle.par_tool.proofs.Calls.{run_ends, run_fails}
+use Rattle.par_tool.proofs.Calls.{run_ends, run_fails, audit_ends, audit_fails}
 use Rattle.par_tool.proofs.Faults.{outcome_said, failure_said}
 use Rattle.par_tool.proofs.tool.tool.Goals as goal
 
@@ -56,6 +56,23 @@ returns-in-Err-trace_source-clause-ends g c =
     c.in-Err-trace_source.ensures.failed c.in-Err-trace_source.ensures.memory
     c.break_off-in-Err-trace_source.ensures.said
 
+pub returns-in-Ok-audit_source-clause-ends : goal.returns-in-Ok-audit_source-clause-ends
+returns-in-Ok-audit_source-clause-ends g c =
+    let asks = rw c.in-Audit.is at c.in-Ok.ensures in
+    let said = rw c.as_slice.ensures.value at c.tell_lines.ensures.said in
+    audit_ends _ _ _ _ _ _ _ _ c.in-Audit.actor.now c.in-Audit.file.now
+    (map string_bytes c.in-Ok-audit_source.lines.items) asks
+    c.in-Ok-audit_source.ensures.counted c.in-Ok-audit_source.ensures.kept
+    c.in-Ok-audit_source.ensures.audited said
+
+pub returns-in-Err-audit_source-clause-ends : goal.returns-in-Err-audit_source-clause-ends
+returns-in-Err-audit_source-clause-ends g c =
+    let asks = rw c.in-Audit.is at c.in-Ok.ensures in
+    audit_fails _ _ _ _ _ _ _ _ c.in-Audit.actor.now c.in-Audit.file.now
+    c.in-Err-audit_source.failure asks c.in-Err-audit_source.ensures.counted
+    c.in-Err-audit_source.ensures.kept c.in-Err-audit_source.ensures.failed
+    c.break_off-in-Err-audit_source.ensures.said
+
 pub returns-in-Ok-started-clause-ends : goal.returns-in-Ok-started-clause-ends
 returns-in-Ok-started-clause-ends g c =
     let asks = rw c.in-Run.is at c.in-Ok.ensures in
@@ -88,6 +105,14 @@ pub returns-in-Err-trace_source-clause-usage : goal.returns-in-Err-trace_source-
 returns-in-Err-trace_source-clause-usage g c =
     exactly.usage _ _ _ _ _ _ _ _ (returns-in-Err-trace_source-clause-ends g c)
 
+pub returns-in-Ok-audit_source-clause-usage : goal.returns-in-Ok-audit_source-clause-usage
+returns-in-Ok-audit_source-clause-usage g c =
+    exactly.usage _ _ _ _ _ _ _ _ (returns-in-Ok-audit_source-clause-ends g c)
+
+pub returns-in-Err-audit_source-clause-usage : goal.returns-in-Err-audit_source-clause-usage
+returns-in-Err-audit_source-clause-usage g c =
+    exactly.usage _ _ _ _ _ _ _ _ (returns-in-Err-audit_source-clause-ends g c)
+
 pub returns-in-Ok-started-clause-usage : goal.returns-in-Ok-started-clause-usage
 returns-in-Ok-started-clause-usage g c =
     exactly.usage _ _ _ _ _ _ _ _ (returns-in-Ok-started-clause-ends g c)
@@ -114,6 +139,14 @@ pub returns-in-Err-trace_source-clause-exact : goal.returns-in-Err-trace_source-
 returns-in-Err-trace_source-clause-exact g c =
     exactly.exact _ _ _ _ _ _ _ _ (returns-in-Err-trace_source-clause-ends g c)
 
+pub returns-in-Ok-audit_source-clause-exact : goal.returns-in-Ok-audit_source-clause-exact
+returns-in-Ok-audit_source-clause-exact g c =
+    exactly.exact _ _ _ _ _ _ _ _ (returns-in-Ok-audit_source-clause-ends g c)
+
+pub returns-in-Err-audit_source-clause-exact : goal.returns-in-Err-audit_source-clause-exact
+returns-in-Err-audit_source-clause-exact g c =
+    exactly.exact _ _ _ _ _ _ _ _ (returns-in-Err-audit_source-clause-ends g c)
+
 pub returns-in-Ok-started-clause-exact : goal.returns-in-Ok-started-clause-exact
 returns-in-Ok-started-clause-exact g c =
     exactly.exact _ _ _ _ _ _ _ _ (returns-in-Ok-started-clause-ends g c)
@@ -138,6 +171,13 @@ returns-in-Err-trace_source-clause-faults_are_told g c =
     λ alone four five six. failure_said _ _ _ _ _ _ _ four five six c.in-Err-trace_source.failure
     c.break_off-in-Err-trace_source.ensures.said
     (c.in-Err-trace_source.ensures.faults_are_told alone)
+
+pub returns-in-Err-audit_source-clause-faults_are_told
+    : goal.returns-in-Err-audit_source-clause-faults_are_told
+returns-in-Err-audit_source-clause-faults_are_told g c =
+    λ alone four five six. failure_said _ _ _ _ _ _ _ four five six c.in-Err-audit_source.failure
+    c.break_off-in-Err-audit_source.ensures.said
+    (c.in-Err-audit_source.ensures.faults_are_told alone)
 
 pub returns-in-Err-started-clause-faults_are_told
     : goal.returns-in-Err-started-clause-faults_are_told
