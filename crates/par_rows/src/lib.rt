@@ -8,6 +8,8 @@
 #![tactic(auto)]
 
 #[cfg(test)]
+mod audits;
+#[cfg(test)]
 mod examples;
 #[cfg(test)]
 mod faults;
