@@ -40,8 +40,8 @@ const BODIES: &[(&str, &str, Answer)] = &[
     ),
     (
         "open Paid; show(key());",
-        "paragonc shop.par bob --audit",
-        ("absent\n", 3),
+        "paragonc carol shop.par --audit",
+        NO_ACTOR,
     ),
 ];
 
