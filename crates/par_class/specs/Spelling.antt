@@ -164,7 +164,7 @@ pub record FitsMethod (entries : List Constant) (m : Method) : Type 0 where
 
 -- whether a major version is read
 abbrev pub is_version : ℕ → Bool
-is_version major = nat_le 45 major && nat_le major 50
+is_version major = nat_le 45 major && nat_le major 51
 
 pub record IsLayout (l : Layout) : Type 0 where
   pub minor : l.minor < 2 ^ 16

@@ -1,7 +1,7 @@
 //! Class files as bytes: what is read is spelled so, and what is written is read again.
 //!
 //! The format is that of the Java Virtual Machine Specification, Java SE 7, chapter 4, narrowed to
-//! what this product writes: the versions 45 to 50, no interfaces, one of two superclasses, and no
+//! what this product writes: the versions 45 to 51, no interfaces, one of two superclasses, and no
 //! attribute that is looked into but the Code of a method. The crate knows nothing of what a class
 //! means: it never resolves a name, and never looks at an instruction.
 #![tactic(auto)]

@@ -38,13 +38,13 @@ fn magic(short: ClassError, bytes: &[u8]) -> Result<(u32, &[u8]), ClassError>
     Ok((number, rest))
 }
 
-/// The major version, from 45 to 50.
+/// The major version, from 45 to 51.
 #[tactic(auto, unfolding(crate::specs::Reading::major_at))]
 fn major_version(short: ClassError, bytes: &[u8]) -> Result<(u16, &[u8]), ClassError>
     ensures { Gives (λ x. (x.0, x.1.now)) result (reading.major_at short bytes.now) }
 {
     let (major, rest) = u2(short, bytes)?;
-    if major < 45 || major > 50 {
+    if major < 45 || major > 51 {
         return Err(ClassError::Version(major));
     }
     Ok((major, rest))
