@@ -34,5 +34,7 @@ pub mod Bodied
 pub mod Asked
 pub mod Keeps
 pub mod Proper
+pub mod Blocks
+pub mod Limited
 pub mod Whole
 mod Examples

@@ -8,6 +8,8 @@ use Rattle.par_well_typed.specs.Laws.{BodiesMakeObjects, TypesFit, BodiesAreCont
 use Rattle.par_well_typed.specs.Laws.{BodiesAreProper}
 use Rattle.par_well_typed.specs.Laws.{TablesHaveTexts, TablesHaveBuiltIns, TablesAreSigned}
 use Rattle.par_well_typed.specs.Laws.{TablesHaveMain, MethodsHaveBodies, SourcesAreWellTyped}
+use Rattle.par_well_typed.specs.Laws.{BodiesHaveBlocks, MethodsTakeFew, ClassesHaveFewMembers}
+use Rattle.par_well_typed.specs.Laws.{TablesHaveFewClasses}
 use Rattle.par_well_typed.specs.Orderly.{HasMethod, IsOrderlyBody}
 use Rattle.par_well_typed.specs.Typed.{bodies_of, written_in}
 use Rattle.par_well_typed.proofs.Lists.{each_is}
@@ -25,6 +27,8 @@ use Rattle.par_well_typed.proofs.Keeps.{bodies_keep_this}
 use Rattle.par_well_typed.proofs.Proper as proper
 use Rattle.par_well_typed.proofs.Beginning as beginning
 use Rattle.par_well_typed.proofs.Bodied as bodied
+use Rattle.par_well_typed.proofs.Blocks as blocks
+use Rattle.par_well_typed.proofs.Limited as limited
 use Rattle.par_well_typed.proofs.Unbroken.{names_kept}
 
 pub tables_are_in_range : TablesAreInRange
@@ -88,6 +92,18 @@ pub methods_have_bodies : MethodsHaveBodies
 methods_have_bodies source ordered none =
     bodied.methods_have_bodies source ordered (names_kept source none)
 
+pub bodies_have_blocks : BodiesHaveBlocks
+bodies_have_blocks source = blocks.bodies_have_blocks source
+
+pub methods_take_few : MethodsTakeFew
+methods_take_few source none = limited.methods_take_few source none
+
+pub classes_have_few_members : ClassesHaveFewMembers
+classes_have_few_members source none = limited.classes_have_few_members source none
+
+pub tables_have_few_classes : TablesHaveFewClasses
+tables_have_few_classes source none = limited.tables_have_few_classes source none
+
 pub sources_are_well_typed : SourcesAreWellTyped
 sources_are_well_typed source ordered none types short = record {
   in_range = tables_are_in_range source ordered none;
@@ -104,4 +120,8 @@ sources_are_well_typed source ordered none types short = record {
   controlled = bodies_are_controlled source ordered none types;
   small = bodies_are_small source ordered none types;
   proper = bodies_are_proper source ordered none types;
+  blocks = bodies_have_blocks source;
+  few_params = methods_take_few source none;
+  few_members = classes_have_few_members source none;
+  few_classes = tables_have_few_classes source none;
 }

@@ -11,7 +11,8 @@ use Rattle.par_faults.specs.Faults.{all_faults}
 use Rattle.par_bodies.specs.Proper.{IsProper}
 use Rattle.par_well_typed.specs.Tables.{IsInRange}
 use Rattle.par_well_typed.specs.Orderly.{HasMethod, IsOrderlyBody}
-use Rattle.par_well_typed.specs.WellTyped.{NamesMembers, IsWellTyped}
+use Rattle.par_well_typed.specs.WellTyped.{NamesMembers, CatchesInBlocks, IsWellTyped}
+use Rattle.par_well_typed.specs.Limits.{HasFewParams, HasFewMembers, HasFewClasses}
 use Rattle.par_bodies.specs.Makes.{MakesObjects}
 use Rattle.par_well_typed.specs.Fits.{ValuesFit}
 use Rattle.par_well_typed.specs.Control.{IsControlled}
@@ -118,6 +119,24 @@ abbrev pub MethodsHaveBodies : Type 0
 MethodsHaveBodies =
     (source : Source) → IsInOrder source → all_faults source ≡ []
     → AreBodiesOf (table_of source) (bodies_of source)
+
+-- the body of each catch is a block
+abbrev pub BodiesHaveBlocks : Type 0
+BodiesHaveBlocks = (source : Source) → AllByRecursion CatchesInBlocks (bodies_of source)
+
+-- methods have few parameters
+abbrev pub MethodsTakeFew : Type 0
+MethodsTakeFew = (source : Source) → all_faults source ≡ [] → HasFewParams (table_of source)
+
+-- classes have few members, and few nodes in their methods
+abbrev pub ClassesHaveFewMembers : Type 0
+ClassesHaveFewMembers =
+    (source : Source) → all_faults source ≡ [] → HasFewMembers (table_of source)
+
+-- tables have few classes
+abbrev pub TablesHaveFewClasses : Type 0
+TablesHaveFewClasses =
+    (source : Source) → all_faults source ≡ [] → HasFewClasses (table_of source)
 
 -- the program of a source that breaks no rule on names and types and exceeds no limit is well typed
 abbrev pub SourcesAreWellTyped : Type 0

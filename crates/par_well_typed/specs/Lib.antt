@@ -9,6 +9,8 @@ pub mod Control
 pub mod Signatures
 pub mod Beginning
 pub mod Bodied
+pub mod Blocks
+pub mod Limits
 pub mod WellTyped
 pub mod Typed
 pub mod Laws

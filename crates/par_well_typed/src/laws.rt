@@ -8,6 +8,8 @@ ghost use Rattle.par_well_typed.specs.Laws.{BodiesAreControlled, BodiesAreProper
 ghost use Rattle.par_well_typed.specs.Laws.{TablesHaveTexts};
 ghost use Rattle.par_well_typed.specs.Laws.{TablesHaveBuiltIns, TablesAreSigned};
 ghost use Rattle.par_well_typed.specs.Laws.{TablesHaveMain, MethodsHaveBodies};
+ghost use Rattle.par_well_typed.specs.Laws.{BodiesHaveBlocks, MethodsTakeFew};
+ghost use Rattle.par_well_typed.specs.Laws.{ClassesHaveFewMembers, TablesHaveFewClasses};
 ghost use Rattle.par_well_typed.specs.Laws.{SourcesAreWellTyped};
 
 /// In the table of a source that breaks no rule on names and exceeds no limit all numbers are in
@@ -107,6 +109,28 @@ pub fn tables_have_main()
 /// Each method of that table has one body among those of the source, in the order of the methods.
 pub fn methods_have_bodies()
     ensures { MethodsHaveBodies }
+{}
+
+/// In the typed bodies of a source the body of each catch is a block.
+pub fn bodies_have_blocks()
+    ensures { BodiesHaveBlocks }
+{}
+
+/// In the table of a source that exceeds no limit each method has at most 16 parameters.
+pub fn methods_take_few()
+    ensures { MethodsTakeFew }
+{}
+
+/// In the table of a source that exceeds no limit each class has at most 256 fields and channels,
+/// and 128 methods with 8,000 nodes in all.
+pub fn classes_have_few_members()
+    ensures { ClassesHaveFewMembers }
+{}
+
+/// The table of a source that exceeds no limit has at most 130 classes, the two exceptions that
+/// every program has among them.
+pub fn tables_have_few_classes()
+    ensures { TablesHaveFewClasses }
 {}
 
 /// All of the above holds of the typed bodies of a source that breaks no rule on names and types
