@@ -1,0 +1,4 @@
+pub mod Shown
+pub mod Named
+pub mod Asked
+pub mod Erased
