@@ -1,5 +1,5 @@
 -- What locals and operands hold at labels, followed by what is given last: a frame at each label
--- that a branch or an exception can go to.
+-- that a branch or an exception goes to, and at no other.
 use Rattle.std.specs.Prelude.{ℕ, ◌+◌, Bool, true, false, if◌then◌else◌, List, [], ◌∷◌, ◌++◌, map}
 use Rattle.std.specs.Prelude.{Option}
 use Rattle.std.specs.Prelude.{Some, None, slice_get, slice_set}
@@ -16,6 +16,7 @@ use Rattle.par_code_form.specs.declared.labelled.Slot.{Slot}
 use Rattle.par_code_form.specs.declared.labelled.Slot.TheVariants as slots
 use Rattle.par_code_form.specs.declared.labelled.LabelFrame.{LabelFrame}
 use Rattle.par_completes.specs.Typed.{completes, is_true}
+use Rattle.par_code_form.specs.Again.{goes_again}
 use Rattle.par_code_form.specs.Code.{Words, Shape, Calculates, Compares, Sames, Decides, shape_of}
 use Rattle.par_code_form.specs.Code.{shape_labels, expr_labels, may_labels, labels}
 
@@ -135,9 +136,9 @@ module _ (w : Words) (declared : Types) where
         expr_frames w e (n + 2) scope [] (frames s i scope (frame w n scope []
         ∷ else_frames o (labels s i) scope (frame_if w (completes s) (n + 1) scope k)))
     frames (While e s at p) n scope k =
-        frame w n scope [] ∷ loop_frames w (is_true e) e (n + 2) scope
+        frame_if w (goes_again s) n scope (loop_frames w (is_true e) e (n + 2) scope
         (frames s (expr_labels e (n + 2)) scope
-        (frame_if w (completes (While e s at p)) (n + 1) scope k))
+        (frame_if w (completes (While e s at p)) (n + 1) scope k)))
     frames (Try s cs at p) n scope k =
         frames s (n + 3) scope (catch_frames cs (labels s (n + 3)) scope
         (frame_if w (completes (Try s cs at p)) (n + 2) scope k))

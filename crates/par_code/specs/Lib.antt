@@ -1,0 +1,4 @@
+pub mod Shapes
+pub mod Drafts
+pub mod Statements
+pub mod Codes

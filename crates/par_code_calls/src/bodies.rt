@@ -1,0 +1,774 @@
+//! What code small bodies have, over the trees that the reader and the typing give, with ample
+//! memory.
+
+use par_code::{Item, LabelFrame, Labelled, Slot, code_of};
+use par_code_form::opcode::{
+    GETFIELD, GETSTATIC, GOTO, IF_ACMPEQ, IF_ACMPNE, IF_ICMPEQ, IFEQ, IFNE, INVOKESPECIAL,
+    INVOKESTATIC, INVOKEVIRTUAL, NEW, PUTFIELD, PUTSTATIC,
+};
+use par_erase::{Plain, erase};
+use par_instr::Instr;
+use par_lexer::lex;
+use par_parser::parse;
+use par_table::build;
+use par_typed::program::Typed;
+use par_typing::type_program;
+use par_worked::expect;
+use std::alloc::Global;
+use std::rt::HostRuntime;
+use std::test::Fail;
+
+// What stands around the body of `main`.
+pub const BEFORE: &[u8] = b"lock Paid;
+class Bad extends Exception { }
+class Item { int f; Item me() { return this; } int take(int n) { return n; } }
+class Shop {
+  input int key();
+  output void show(int v);
+  static int got;
+  static void shut() { throw new Bad(); }
+  static void main() {
+";
+
+pub const BEHIND: &[u8] = b"
+  }
+}
+";
+
+const PAID: u16 = 0;
+
+pub const IF_ICMPLT: u8 = IF_ICMPEQ + 2;
+
+/// An item as it is written here.
+#[derive(Clone, Copy)]
+pub enum Wanted {
+    Label(u32),
+    Op(Instr),
+    Const(i32),
+    Jump(u8, u32),
+    Member(u8, &'static str, &'static str, &'static str),
+    Class(u8, &'static str),
+    Lock(u8, u16),
+}
+
+pub const KEY: Wanted = Wanted::Member(INVOKESTATIC, "Shop", "key", "()I");
+
+pub const SHOW: Wanted = Wanted::Member(INVOKESTATIC, "Shop", "show", "(I)V");
+
+pub const SHUT: Wanted = Wanted::Member(INVOKESTATIC, "Shop", "shut", "()V");
+
+pub const GET: Wanted = Wanted::Member(GETSTATIC, "Shop", "got", "I");
+
+pub const SET: Wanted = Wanted::Member(PUTSTATIC, "Shop", "got", "I");
+
+pub const RETURN: Wanted = Wanted::Op(Instr::Return);
+
+pub fn is_item(item: &Item, wanted: Wanted) -> bool {
+    match wanted {
+        Wanted::Label(wanted) => match item {
+            Item::Label(label) => *label == wanted,
+            _ => false,
+        },
+        Wanted::Op(wanted) => match item {
+            Item::Op(instr) => *instr == wanted,
+            _ => false,
+        },
+        Wanted::Const(wanted) => match item {
+            Item::Const(number) => *number == wanted,
+            _ => false,
+        },
+        Wanted::Jump(branch, to) => match item {
+            Item::Jump(opcode, label) => *opcode == branch && *label == to,
+            _ => false,
+        },
+        Wanted::Member(wanted, owner, named, ty) => match item {
+            Item::Member(opcode, class, name, descriptor) => {
+                *opcode == wanted
+                    && class.bytes() == owner.as_bytes()
+                    && name.as_slice() == named.as_bytes()
+                    && descriptor.as_slice() == ty.as_bytes()
+            }
+            _ => false,
+        },
+        Wanted::Class(wanted, name) => match item {
+            Item::ClassOp(opcode, class) => *opcode == wanted && class.bytes() == name.as_bytes(),
+            _ => false,
+        },
+        Wanted::Lock(wanted, number) => match item {
+            Item::LockOp(opcode, lock) => *opcode == wanted && *lock == number,
+            _ => false,
+        },
+    }
+}
+
+pub fn are_items(items: &[Item], wanted: &[Wanted]) -> bool {
+    if items.len() != wanted.len() {
+        return false;
+    }
+    for (item, wanted) in items.iter().zip(wanted) {
+        if !is_item(item, *wanted) {
+            return false;
+        }
+    }
+    true
+}
+
+pub fn typed(alloc: Global, source: &[u8]) -> Result<Typed, Fail> {
+    let tokens = lex(alloc, source)?;
+    if tokens.len() > 262_144 {
+        return Err(Fail::new("too many tokens"));
+    }
+    let program = parse(alloc, tokens.as_slice())?;
+    let table = build(alloc, &program)?;
+    let typed = type_program(alloc, table, &program)?;
+    Ok(typed)
+}
+
+pub fn program(alloc: Global, body: &[u8]) -> Result<Plain, Fail> {
+    let mut source = Vec::new(alloc);
+    source.extend_from_slice(BEFORE)?;
+    source.extend_from_slice(body)?;
+    source.extend_from_slice(BEHIND)?;
+    let typed = typed(alloc, source.as_slice())?;
+    Ok(erase(alloc, &typed)?)
+}
+
+pub fn code(alloc: Global, body: &[u8]) -> Result<Labelled, Fail> {
+    let plain = program(alloc, body)?;
+    Ok(code_of(alloc, &plain, SHOP, MAIN)?)
+}
+
+// The numbers of classes, and of methods there.
+const ITEM: u16 = 3;
+
+pub const SHOP: u16 = 4;
+
+const TAKE: u16 = 1;
+
+pub const MAIN: u16 = 1;
+
+// A body, and the most operands and the items of its code.
+struct Row {
+    body: &'static [u8],
+    most: u16,
+    items: &'static [Wanted],
+}
+
+const ROWS: &[Row] = &[
+    Row {
+        body: b"int a = 1;",
+        most: 1,
+        items: &[Wanted::Const(1), Wanted::Op(Instr::IstoreShort(0)), RETURN],
+    },
+    Row {
+        body: b"int a = key(); show(-a);",
+        most: 1,
+        items: &[
+            KEY,
+            Wanted::Op(Instr::IstoreShort(0)),
+            Wanted::Op(Instr::IloadShort(0)),
+            Wanted::Op(Instr::Ineg),
+            SHOW,
+            RETURN,
+        ],
+    },
+    Row {
+        body: b"got = 1 + 2 * 3;",
+        most: 3,
+        items: &[
+            Wanted::Const(1),
+            Wanted::Const(2),
+            Wanted::Const(3),
+            Wanted::Op(Instr::Imul),
+            Wanted::Op(Instr::Iadd),
+            SET,
+            RETURN,
+        ],
+    },
+    Row {
+        body: b"if (1 < 2) { got = 1; } else { got = 2; }",
+        most: 2,
+        items: &[
+            Wanted::Const(1),
+            Wanted::Const(2),
+            Wanted::Jump(IF_ICMPLT, 2),
+            Wanted::Const(0),
+            Wanted::Jump(GOTO, 3),
+            Wanted::Label(2),
+            Wanted::Const(1),
+            Wanted::Label(3),
+            Wanted::Jump(IFEQ, 0),
+            Wanted::Const(1),
+            SET,
+            Wanted::Jump(GOTO, 1),
+            Wanted::Label(0),
+            Wanted::Const(2),
+            SET,
+            Wanted::Label(1),
+            RETURN,
+        ],
+    },
+    Row {
+        body: b"if (got == 1) { return; } got = 2;",
+        most: 2,
+        items: &[
+            GET,
+            Wanted::Const(1),
+            Wanted::Jump(IF_ICMPEQ, 2),
+            Wanted::Const(0),
+            Wanted::Jump(GOTO, 3),
+            Wanted::Label(2),
+            Wanted::Const(1),
+            Wanted::Label(3),
+            Wanted::Jump(IFEQ, 0),
+            RETURN,
+            Wanted::Label(0),
+            Wanted::Label(1),
+            Wanted::Const(2),
+            SET,
+            RETURN,
+        ],
+    },
+    Row {
+        body: b"while (true) { break; }",
+        most: 0,
+        items: &[
+            Wanted::Label(0),
+            Wanted::Jump(GOTO, 1),
+            Wanted::Label(1),
+            RETURN,
+        ],
+    },
+    Row {
+        body: b"while (got < 3) { got = got + 1; }",
+        most: 2,
+        items: &[
+            Wanted::Label(0),
+            GET,
+            Wanted::Const(3),
+            Wanted::Jump(IF_ICMPLT, 2),
+            Wanted::Const(0),
+            Wanted::Jump(GOTO, 3),
+            Wanted::Label(2),
+            Wanted::Const(1),
+            Wanted::Label(3),
+            Wanted::Jump(IFEQ, 1),
+            GET,
+            Wanted::Const(1),
+            Wanted::Op(Instr::Iadd),
+            SET,
+            Wanted::Jump(GOTO, 0),
+            Wanted::Label(1),
+            RETURN,
+        ],
+    },
+    Row {
+        body: b"while (key() == 1) { continue; }",
+        most: 2,
+        items: &[
+            Wanted::Label(0),
+            KEY,
+            Wanted::Const(1),
+            Wanted::Jump(IF_ICMPEQ, 2),
+            Wanted::Const(0),
+            Wanted::Jump(GOTO, 3),
+            Wanted::Label(2),
+            Wanted::Const(1),
+            Wanted::Label(3),
+            Wanted::Jump(IFEQ, 1),
+            Wanted::Jump(GOTO, 0),
+            Wanted::Label(1),
+            RETURN,
+        ],
+    },
+    Row {
+        body: b"boolean b = got == 1 && !true;",
+        most: 2,
+        items: &[
+            GET,
+            Wanted::Const(1),
+            Wanted::Jump(IF_ICMPEQ, 1),
+            Wanted::Const(0),
+            Wanted::Jump(GOTO, 2),
+            Wanted::Label(1),
+            Wanted::Const(1),
+            Wanted::Label(2),
+            Wanted::Op(Instr::Dup),
+            Wanted::Jump(IFEQ, 0),
+            Wanted::Op(Instr::Pop),
+            Wanted::Const(1),
+            Wanted::Jump(IFEQ, 3),
+            Wanted::Const(0),
+            Wanted::Jump(GOTO, 4),
+            Wanted::Label(3),
+            Wanted::Const(1),
+            Wanted::Label(4),
+            Wanted::Label(0),
+            Wanted::Op(Instr::IstoreShort(0)),
+            RETURN,
+        ],
+    },
+    Row {
+        body: b"boolean b = true || false;",
+        most: 2,
+        items: &[
+            Wanted::Const(1),
+            Wanted::Op(Instr::Dup),
+            Wanted::Jump(IFNE, 0),
+            Wanted::Op(Instr::Pop),
+            Wanted::Const(0),
+            Wanted::Label(0),
+            Wanted::Op(Instr::IstoreShort(0)),
+            RETURN,
+        ],
+    },
+    Row {
+        body: b"throw new Bad();",
+        most: 2,
+        items: &[
+            Wanted::Class(NEW, "Bad"),
+            Wanted::Op(Instr::Dup),
+            Wanted::Member(INVOKESPECIAL, "Bad", "<init>", "()V"),
+            Wanted::Op(Instr::Athrow),
+        ],
+    },
+    Row {
+        body: b"try { shut(); } catch (Bad e) { got = 1; }",
+        most: 1,
+        items: &[
+            Wanted::Label(0),
+            SHUT,
+            Wanted::Jump(GOTO, 2),
+            Wanted::Label(1),
+            Wanted::Label(3),
+            Wanted::Op(Instr::Pop),
+            Wanted::Const(1),
+            SET,
+            Wanted::Jump(GOTO, 2),
+            Wanted::Label(2),
+            RETURN,
+        ],
+    },
+    Row {
+        body: b"open Paid; when (Paid) { got = 1; } close Paid;",
+        most: 1,
+        items: &[
+            Wanted::Const(1),
+            Wanted::Lock(PUTSTATIC, PAID),
+            Wanted::Lock(GETSTATIC, PAID),
+            Wanted::Jump(IFEQ, 0),
+            Wanted::Const(1),
+            SET,
+            Wanted::Jump(GOTO, 1),
+            Wanted::Label(0),
+            Wanted::Label(1),
+            Wanted::Const(0),
+            Wanted::Lock(PUTSTATIC, PAID),
+            RETURN,
+        ],
+    },
+    Row {
+        body: b"Item i = new Item(); i.f = i.me().take(2); got = i.f;",
+        most: 3,
+        items: &[
+            Wanted::Class(NEW, "Item"),
+            Wanted::Op(Instr::Dup),
+            Wanted::Member(INVOKESPECIAL, "Item", "<init>", "()V"),
+            Wanted::Op(Instr::AstoreShort(0)),
+            Wanted::Op(Instr::AloadShort(0)),
+            Wanted::Op(Instr::AloadShort(0)),
+            Wanted::Member(INVOKEVIRTUAL, "Item", "me", "()LItem;"),
+            Wanted::Const(2),
+            Wanted::Member(INVOKEVIRTUAL, "Item", "take", "(I)I"),
+            Wanted::Member(PUTFIELD, "Item", "f", "I"),
+            Wanted::Op(Instr::AloadShort(0)),
+            Wanted::Member(GETFIELD, "Item", "f", "I"),
+            SET,
+            RETURN,
+        ],
+    },
+    Row {
+        body: b"Item i = null; boolean b = i == null; i.me();",
+        most: 2,
+        items: &[
+            Wanted::Op(Instr::AconstNull),
+            Wanted::Op(Instr::AstoreShort(0)),
+            Wanted::Op(Instr::AloadShort(0)),
+            Wanted::Op(Instr::AconstNull),
+            Wanted::Jump(IF_ACMPEQ, 0),
+            Wanted::Const(0),
+            Wanted::Jump(GOTO, 1),
+            Wanted::Label(0),
+            Wanted::Const(1),
+            Wanted::Label(1),
+            Wanted::Op(Instr::IstoreShort(1)),
+            Wanted::Op(Instr::AloadShort(0)),
+            Wanted::Member(INVOKEVIRTUAL, "Item", "me", "()LItem;"),
+            Wanted::Op(Instr::Pop),
+            RETURN,
+        ],
+    },
+    Row {
+        body: b"while (got < 3) { try { shut(); break; } catch (Bad e) { continue; } }",
+        most: 2,
+        items: &[
+            Wanted::Label(0),
+            GET,
+            Wanted::Const(3),
+            Wanted::Jump(IF_ICMPLT, 2),
+            Wanted::Const(0),
+            Wanted::Jump(GOTO, 3),
+            Wanted::Label(2),
+            Wanted::Const(1),
+            Wanted::Label(3),
+            Wanted::Jump(IFEQ, 1),
+            Wanted::Label(4),
+            SHUT,
+            Wanted::Jump(GOTO, 1),
+            Wanted::Label(5),
+            Wanted::Label(7),
+            Wanted::Op(Instr::Pop),
+            Wanted::Jump(GOTO, 0),
+            Wanted::Label(6),
+            Wanted::Label(1),
+            RETURN,
+        ],
+    },
+    Row {
+        body: b"while (true) { return; }",
+        most: 0,
+        items: &[Wanted::Label(0), RETURN, Wanted::Label(1)],
+    },
+    Row {
+        body: b"Item i = new Item(); got = 1 + i.take(2 + key());",
+        most: 4,
+        items: &[
+            Wanted::Class(NEW, "Item"),
+            Wanted::Op(Instr::Dup),
+            Wanted::Member(INVOKESPECIAL, "Item", "<init>", "()V"),
+            Wanted::Op(Instr::AstoreShort(0)),
+            Wanted::Const(1),
+            Wanted::Op(Instr::AloadShort(0)),
+            Wanted::Const(2),
+            KEY,
+            Wanted::Op(Instr::Iadd),
+            Wanted::Member(INVOKEVIRTUAL, "Item", "take", "(I)I"),
+            Wanted::Op(Instr::Iadd),
+            SET,
+            RETURN,
+        ],
+    },
+    Row {
+        body: b"got = got & 1 ^ 2 | 3;",
+        most: 2,
+        items: &[
+            GET,
+            Wanted::Const(1),
+            Wanted::Op(Instr::Iand),
+            Wanted::Const(2),
+            Wanted::Op(Instr::Ixor),
+            Wanted::Const(3),
+            Wanted::Op(Instr::Ior),
+            SET,
+            RETURN,
+        ],
+    },
+    Row {
+        body: b"got = got << 1 >> 2 >>> 3;",
+        most: 2,
+        items: &[
+            GET,
+            Wanted::Const(1),
+            Wanted::Op(Instr::Ishl),
+            Wanted::Const(2),
+            Wanted::Op(Instr::Ishr),
+            Wanted::Const(3),
+            Wanted::Op(Instr::Iushr),
+            SET,
+            RETURN,
+        ],
+    },
+    Row {
+        body: b"got = got - 1 / 2 % 3;",
+        most: 3,
+        items: &[
+            GET,
+            Wanted::Const(1),
+            Wanted::Const(2),
+            Wanted::Op(Instr::Idiv),
+            Wanted::Const(3),
+            Wanted::Op(Instr::Irem),
+            Wanted::Op(Instr::Isub),
+            SET,
+            RETURN,
+        ],
+    },
+    Row {
+        body: b"boolean a = got <= 1; boolean b = got > 2;",
+        most: 2,
+        items: &[
+            GET,
+            Wanted::Const(1),
+            Wanted::Jump(IF_ICMPEQ + 5, 0),
+            Wanted::Const(0),
+            Wanted::Jump(GOTO, 1),
+            Wanted::Label(0),
+            Wanted::Const(1),
+            Wanted::Label(1),
+            Wanted::Op(Instr::IstoreShort(0)),
+            GET,
+            Wanted::Const(2),
+            Wanted::Jump(IF_ICMPEQ + 4, 2),
+            Wanted::Const(0),
+            Wanted::Jump(GOTO, 3),
+            Wanted::Label(2),
+            Wanted::Const(1),
+            Wanted::Label(3),
+            Wanted::Op(Instr::IstoreShort(1)),
+            RETURN,
+        ],
+    },
+    Row {
+        body: b"boolean a = got >= 1; boolean b = got != 2;",
+        most: 2,
+        items: &[
+            GET,
+            Wanted::Const(1),
+            Wanted::Jump(IF_ICMPEQ + 3, 0),
+            Wanted::Const(0),
+            Wanted::Jump(GOTO, 1),
+            Wanted::Label(0),
+            Wanted::Const(1),
+            Wanted::Label(1),
+            Wanted::Op(Instr::IstoreShort(0)),
+            GET,
+            Wanted::Const(2),
+            Wanted::Jump(IF_ICMPEQ + 1, 2),
+            Wanted::Const(0),
+            Wanted::Jump(GOTO, 3),
+            Wanted::Label(2),
+            Wanted::Const(1),
+            Wanted::Label(3),
+            Wanted::Op(Instr::IstoreShort(1)),
+            RETURN,
+        ],
+    },
+    Row {
+        body: b"boolean a = new Item() != null;",
+        most: 2,
+        items: &[
+            Wanted::Class(NEW, "Item"),
+            Wanted::Op(Instr::Dup),
+            Wanted::Member(INVOKESPECIAL, "Item", "<init>", "()V"),
+            Wanted::Op(Instr::AconstNull),
+            Wanted::Jump(IF_ACMPNE, 0),
+            Wanted::Const(0),
+            Wanted::Jump(GOTO, 1),
+            Wanted::Label(0),
+            Wanted::Const(1),
+            Wanted::Label(1),
+            Wanted::Op(Instr::IstoreShort(0)),
+            RETURN,
+        ],
+    },
+    Row {
+        body: b"int a = 1; int b = 2; int c = 3; int d = 4; int e = a; got = e;",
+        most: 1,
+        items: &[
+            Wanted::Const(1),
+            Wanted::Op(Instr::IstoreShort(0)),
+            Wanted::Const(2),
+            Wanted::Op(Instr::IstoreShort(1)),
+            Wanted::Const(3),
+            Wanted::Op(Instr::IstoreShort(2)),
+            Wanted::Const(4),
+            Wanted::Op(Instr::IstoreShort(3)),
+            Wanted::Op(Instr::IloadShort(0)),
+            Wanted::Op(Instr::Istore(4)),
+            Wanted::Op(Instr::Iload(4)),
+            SET,
+            RETURN,
+        ],
+    },
+];
+
+#[test]
+fn bodies_have_these_items(rt: HostRuntime) -> Result<(), Fail> {
+    for row in ROWS {
+        let code = code(rt.alloc(), row.body)?;
+        expect(code.max_stack == row.most, "the most operands")?;
+        expect(are_items(code.items.as_slice(), row.items), "the items")?;
+    }
+    Ok(())
+}
+
+const CAUGHT: &[u8] = b"int a = 1; try { shut(); } catch (Bad e) { int b = 2; while (true) { } }";
+
+fn is_int(slot: &Slot) -> bool {
+    matches!(slot, Slot::Int)
+}
+
+fn is_unset(slot: &Slot) -> bool {
+    matches!(slot, Slot::Unset)
+}
+
+// Two locals, of which the first `ints` are in scope, all of them numbers.
+fn are_locals(frame: &LabelFrame, ints: usize) -> bool {
+    let locals = frame.locals.as_slice();
+    if locals.len() != 2 {
+        return false;
+    }
+    for (place, slot) in locals.iter().enumerate() {
+        if (place < ints && !is_int(slot)) || (place >= ints && !is_unset(slot)) {
+            return false;
+        }
+    }
+    true
+}
+
+#[test]
+fn a_catch_has_a_handler_and_a_frame(rt: HostRuntime) -> Result<(), Fail> {
+    let code = code(rt.alloc(), CAUGHT)?;
+    expect(code.max_locals == 2, "the locals")?;
+    expect(code.start.as_slice().is_empty(), "the start")?;
+    let [handler] = code.handlers.as_slice() else {
+        return Err(Fail::new("the handlers"));
+    };
+    expect(
+        handler.from == 0 && handler.to == 1 && handler.goes == 3,
+        "the range",
+    )?;
+    expect(handler.class.bytes() == b"Bad".as_slice(), "the class")?;
+    let [caught, again, behind] = code.frames.as_slice() else {
+        return Err(Fail::new("the frames"));
+    };
+    expect(
+        caught.label == 3 && are_locals(caught, 1),
+        "the locals of the catch",
+    )?;
+    expect(caught.stack.as_slice().len() == 1, "the exception")?;
+    expect(
+        again.label == 4 && are_locals(again, 2),
+        "the frame of the loop",
+    )?;
+    expect(
+        behind.label == 2 && are_locals(behind, 1),
+        "the frame behind the try",
+    )?;
+    expect(
+        behind.stack.as_slice().is_empty(),
+        "the operands behind the try",
+    )
+}
+
+#[test]
+fn a_receiver_is_the_first_local(rt: HostRuntime) -> Result<(), Fail> {
+    let plain = program(rt.alloc(), b"")?;
+    let code = code_of(rt.alloc(), &plain, ITEM, TAKE)?;
+    let wanted = [Wanted::Op(Instr::IloadShort(1)), Wanted::Op(Instr::Ireturn)];
+    expect(
+        are_items(code.items.as_slice(), wanted.as_slice()),
+        "the items",
+    )?;
+    expect(code.max_locals == 2 && code.max_stack == 1, "the sizes")?;
+    let [receiver, number] = code.start.as_slice() else {
+        return Err(Fail::new("the start"));
+    };
+    expect(is_int(number), "the argument")?;
+    match receiver {
+        Slot::Class(class) => expect(class.bytes() == b"Item".as_slice(), "the receiver"),
+        _ => Err(Fail::new("the receiver")),
+    }
+}
+
+const NESTED: &[u8] =
+    b"try { try { shut(); } catch (Bad a) { got = 1; } } catch (Bad b) { got = 2; }";
+
+#[test]
+fn handlers_of_an_inner_try_come_first(rt: HostRuntime) -> Result<(), Fail> {
+    let code = code(rt.alloc(), NESTED)?;
+    let [inner, outer] = code.handlers.as_slice() else {
+        return Err(Fail::new("the handlers"));
+    };
+    expect(
+        inner.from == 3 && inner.to == 4 && inner.goes == 6,
+        "the inner one",
+    )?;
+    expect(
+        outer.from == 0 && outer.to == 1 && outer.goes == 7,
+        "the outer one",
+    )
+}
+
+// A body, and the labels of its frames.
+struct Framed {
+    body: &'static [u8],
+    labels: &'static [u32],
+}
+
+const FRAMED: &[Framed] = &[
+    Framed {
+        body: b"while (true) { return; }",
+        labels: &[],
+    },
+    Framed {
+        body: b"while (true) { break; }",
+        labels: &[1],
+    },
+    Framed {
+        body: b"while (true) { while (true) { continue; } }",
+        labels: &[2],
+    },
+    Framed {
+        body: b"while (true) { while (true) { break; } }",
+        labels: &[0, 3],
+    },
+    Framed {
+        body: b"while (got < 3) { if (got < 1) { continue; } return; }",
+        labels: &[0, 2, 3, 6, 7, 4, 1],
+    },
+    Framed {
+        body: b"if (got < 1) { return; } got = 2;",
+        labels: &[2, 3, 0],
+    },
+    Framed {
+        body: b"if (got < 1) { got = 1; } else { return; }",
+        labels: &[2, 3, 0, 1],
+    },
+    Framed {
+        body: b"when (Paid) { return; }",
+        labels: &[0],
+    },
+    Framed {
+        body: b"try { shut(); return; } catch (Bad e) { return; }",
+        labels: &[3],
+    },
+    Framed {
+        body: b"try { shut(); return; } catch (Bad e) { got = 1; }",
+        labels: &[3, 2],
+    },
+];
+
+pub fn have_labels(frames: &[LabelFrame], labels: &[u32]) -> bool {
+    if frames.len() != labels.len() {
+        return false;
+    }
+    for (frame, label) in frames.iter().zip(labels) {
+        if frame.label != *label {
+            return false;
+        }
+    }
+    true
+}
+
+#[test]
+fn frames_stand_where_control_goes(rt: HostRuntime) -> Result<(), Fail> {
+    for row in FRAMED {
+        let code = code(rt.alloc(), row.body)?;
+        expect(
+            have_labels(code.frames.as_slice(), row.labels),
+            "the frames",
+        )?;
+    }
+    Ok(())
+}

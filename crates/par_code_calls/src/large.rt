@@ -1,0 +1,235 @@
+//! The code of the largest methods: as many nodes and as many locals as a method may have.
+
+use crate::bodies::{BEFORE, BEHIND, MAIN, RETURN, SET, SHOP, Wanted, is_item, typed};
+use par_code::{Item, Labelled, code_of};
+use par_erase::erase;
+use par_instr::Instr;
+use par_typed::program::Typed;
+use par_worked::expect;
+use std::alloc::Global;
+use std::rt::HostRuntime;
+use std::test::Fail;
+
+const LOCALS: u8 = 200;
+
+// The first of them has this number in its name and as its value.
+const FIRST: i32 = 100;
+
+const NODES: u32 = 2_000;
+
+const DIGITS: &[u8] = b"0123456789";
+
+fn push_local(number: &[u8], source: &mut Vec<u8>) -> Result<(), Fail> {
+    source.extend_from_slice(b"int a")?;
+    source.extend_from_slice(number)?;
+    source.extend_from_slice(b" = ")?;
+    source.extend_from_slice(number)?;
+    source.extend_from_slice(b";\n")?;
+    Ok(())
+}
+
+fn push_ten(hundreds: u8, tens: u8, source: &mut Vec<u8>) -> Result<(), Fail> {
+    for ones in DIGITS {
+        let number = [hundreds, tens, *ones];
+        push_local(number.as_slice(), source)?;
+    }
+    Ok(())
+}
+
+fn push_hundred(hundreds: u8, source: &mut Vec<u8>) -> Result<(), Fail> {
+    for tens in DIGITS {
+        push_ten(hundreds, *tens, source)?;
+    }
+    Ok(())
+}
+
+fn push_times(part: &[u8], times: u32, source: &mut Vec<u8>) -> Result<(), Fail> {
+    for _ in 0..times {
+        source.extend_from_slice(part)?;
+    }
+    Ok(())
+}
+
+// How many nodes the source of `main` has.
+fn nodes(typed: &Typed) -> u32 {
+    match typed.table.classes.get(usize::from(SHOP)) {
+        None => 0,
+        Some(class) => match class.methods.get(usize::from(MAIN)) {
+            None => 0,
+            Some(method) => method.nodes,
+        },
+    }
+}
+
+fn whole(alloc: Global, body: &[u8]) -> Result<Typed, Fail> {
+    let mut source = Vec::new(alloc);
+    source.extend_from_slice(BEFORE)?;
+    source.extend_from_slice(body)?;
+    source.extend_from_slice(BEHIND)?;
+    typed(alloc, source.as_slice())
+}
+
+fn code(alloc: Global, typed: &Typed) -> Result<Labelled, Fail> {
+    let plain = erase(alloc, typed)?;
+    Ok(code_of(alloc, &plain, SHOP, MAIN)?)
+}
+
+fn stands(items: &[Item], place: usize, wanted: Wanted) -> bool {
+    match items.get(place) {
+        None => false,
+        Some(item) => is_item(item, wanted),
+    }
+}
+
+fn store(local: u8) -> Instr {
+    if local <= 3 {
+        Instr::IstoreShort(local)
+    } else {
+        Instr::Istore(local)
+    }
+}
+
+// Each local is given its number, two items for each.
+fn are_set(items: &[Item]) -> bool {
+    for local in 0..LOCALS {
+        let place = usize::from(local) * 2;
+        let number = i32::from(local) + FIRST;
+        if !stands(items, place, Wanted::Const(number))
+            || !stands(items, place + 1, Wanted::Op(store(local)))
+        {
+            return false;
+        }
+    }
+    true
+}
+
+#[test]
+fn two_hundred_locals_have_their_places(rt: HostRuntime) -> Result<(), Fail> {
+    let alloc = rt.alloc();
+    let mut body = Vec::new(alloc);
+    push_hundred(b'1', &mut body)?;
+    push_hundred(b'2', &mut body)?;
+    body.extend_from_slice(b"got = a299;")?;
+    let typed = whole(alloc, body.as_slice())?;
+    let code = code(alloc, &typed)?;
+    let items = code.items.as_slice();
+    expect(code.max_locals == 200, "the locals")?;
+    expect(code.max_stack == 1, "the operands")?;
+    expect(items.len() == 403 && are_set(items), "the locals are set")?;
+    let last = stands(items, 400, Wanted::Op(Instr::Iload(199)))
+        && stands(items, 401, SET)
+        && stands(items, 402, RETURN);
+    expect(last, "the last local is read")
+}
+
+// What is counted of code.
+#[derive(Clone, Copy)]
+struct Counts {
+    items: usize,
+    labels: u32,
+    bytes: u32,
+    handlers: usize,
+    frames: usize,
+}
+
+fn count_labels(items: &[Item]) -> u32 {
+    let mut count: u32 = 0;
+    for item in items {
+        if matches!(item, Item::Label(_)) {
+            count = count.wrapping_add(1);
+        }
+    }
+    count
+}
+
+// How long an item is, where numbers and locals are small.
+fn length(item: &Item) -> u32 {
+    match item {
+        Item::Label(_) => 0,
+        Item::Op(_) | Item::Const(_) => 1,
+        Item::Jump(_, _) | Item::Member(_, _, _, _) | Item::ClassOp(_, _) | Item::LockOp(_, _) => 3,
+    }
+}
+
+fn count_bytes(items: &[Item]) -> u32 {
+    let mut count: u32 = 0;
+    for item in items {
+        count = count.wrapping_add(length(item));
+    }
+    count
+}
+
+fn has_counts(code: &Labelled, wanted: &Counts) -> bool {
+    let items = code.items.as_slice();
+    items.len() == wanted.items
+        && count_labels(items) == wanted.labels
+        && count_bytes(items) == wanted.bytes
+        && code.handlers.len() == wanted.handlers
+        && code.frames.len() == wanted.frames
+}
+
+// A body of 1 node, 666 assignments of 3 and a block of 1.
+#[test]
+fn the_longest_row_of_assignments(rt: HostRuntime) -> Result<(), Fail> {
+    let alloc = rt.alloc();
+    let mut body = Vec::new(alloc);
+    push_times(b"got = 1;\n", 666, &mut body)?;
+    body.extend_from_slice(b"{ }")?;
+    let typed = whole(alloc, body.as_slice())?;
+    expect(nodes(&typed) == NODES, "the nodes of assignments")?;
+    let code = code(alloc, &typed)?;
+    let wanted = Counts {
+        items: 1_333,
+        labels: 0,
+        bytes: 2_665,
+        handlers: 0,
+        frames: 0,
+    };
+    expect(has_counts(&code, &wanted), "the code of assignments")?;
+    expect(
+        code.max_stack == 1 && code.max_locals == 0,
+        "the sizes of assignments",
+    )
+}
+
+// A declaration of 1 node, an assignment of 2, and below each some signs and a `true`.
+fn push_turned(before: &[u8], signs: u32, source: &mut Vec<u8>) -> Result<(), Fail> {
+    source.extend_from_slice(before)?;
+    push_times(b"!", signs, source)?;
+    source.extend_from_slice(b"true;\n")?;
+    Ok(())
+}
+
+fn push_all_turned(statements: u32, source: &mut Vec<u8>) -> Result<(), Fail> {
+    for _ in 0..statements {
+        push_turned(b"b = ", 60, source)?;
+    }
+    Ok(())
+}
+
+// Of all nodes `!` has the most items, the most labels and the most frames. The nodes are 1 of the
+// body, 62, 30 times 63, and 47: 1,904 signs with 6 items and 8 bytes each, 32 numbers that are
+// stored, and a return.
+#[test]
+fn the_most_labels(rt: HostRuntime) -> Result<(), Fail> {
+    let alloc = rt.alloc();
+    let mut body = Vec::new(alloc);
+    push_turned(b"boolean b = ", 60, &mut body)?;
+    push_all_turned(30, &mut body)?;
+    push_turned(b"b = ", 44, &mut body)?;
+    let typed = whole(alloc, body.as_slice())?;
+    expect(nodes(&typed) == NODES, "the nodes of signs")?;
+    let code = code(alloc, &typed)?;
+    let wanted = Counts {
+        items: 11_489,
+        labels: 3_808,
+        bytes: 15_297,
+        handlers: 0,
+        frames: 3_808,
+    };
+    expect(has_counts(&code, &wanted), "the code of signs")?;
+    expect(
+        code.max_stack == 1 && code.max_locals == 1,
+        "the sizes of signs",
+    )
+}
