@@ -5,7 +5,8 @@ use Rattle.std.proofs.Common.{length, refl, ap, sym, ◌∙◌, subst}
 use Rattle.std.specs.Prelude.{ℤ, pos, ◌+ℤ◌, nat_lt}
 use Rattle.std.proofs.lemmas.Bool.{or_parts, or_from}
 use Rattle.par_values.specs.declared.value.MVal.{MVal}
-use Rattle.par_values.specs.Areas.{Name, Areas}
+use Rattle.par_values.specs.declared.value.MVal.TheVariants.{Ref}
+use Rattle.par_values.specs.Areas.{Name, Areas, next_number, with_object}
 use Rattle.par_values.specs.Operations.{Operation, takes, gives}
 use Rattle.par_values.specs.Reasons.{throws, Spot, reasons, reason, least_from, lacks, misgiven}
 use Rattle.par_values.specs.Reasons.{unfit, exceeds, misplaced, falls, misnamed, disagrees}
@@ -14,17 +15,18 @@ use Rattle.par_values.specs.declared.run.Event.TheVariants as ev
 use Rattle.std.specs.Prelude.{if◌then◌else◌}
 use Rattle.par_values.specs.Effects.{Effect, Goes, Happens, Jumps, Calls, Throws, ThrowsObject}
 use Rattle.par_values.specs.Effects.{Returns, ReturnsWith, effect}
-use Rattle.par_values.specs.Ran.{Ran, Fine}
+use Rattle.par_values.specs.Ran.{Ran, with_event}
 use Rattle.par_secrecy.specs.Shows.{IsFine}
 use Rattle.par_steps.specs.State.{Frame, State}
 use Rattle.par_steps.specs.Handlers.{caught_by}
 use Rattle.par_steps.specs.Step.{Turn, Silent, Shows, Ends, IsBad, areas_of, without_locks, or_2}
-use Rattle.par_steps.specs.Step.{next_of}
+use Rattle.par_steps.specs.Step.{next_of, number_of_class, thrown_to}
+use Rattle.par_steps.specs.Run.{followed}
 use Rattle.par_engine.specs.Engine.{Found, Program, turn, run, caught}
 use Rattle.par_engine.specs.Engine as gen
 use Rattle.par_relocated.specs.Relocated.{Places, there, moved, moved_all, moved_state, moved_to}
 use Rattle.par_relocated.specs.Relocated.{Shifts, Kin, IsPlaced, IsReal, AreReal, moved_turn}
-use Rattle.par_relocated.specs.Relocated.{IsGood, AfterReal, SameTurns, SameRuns}
+use Rattle.par_relocated.specs.Relocated.{IsGood, below, SameTurns, SameRuns}
 
 un_not : (b : Bool) → not b ≡ false → b ≡ true
 un_not true h = refl
@@ -360,8 +362,7 @@ module _ (p : Program) (places : Places) where
             ),
           ),
         ) in
-        ap (λ b. or_2 (gen.is_misreceived p b a) (reason p.names sp2 y.op a)) k.wants
-        ∙ ap (λ b. or_2 b (reason p.names sp2 y.op a)) both.0 ∙ r
+        ap (λ b. or_2 b (reason p.names sp2 y.op a)) (k.wants a both.0) ∙ r
 
     -- one instruction is the same on both sides
     pub turn-moved : (s : State) → AreReal p places s.frames → IsGood p places (turn p s)
@@ -401,28 +402,121 @@ module _ (p : Program) (places : Places) where
     good_of (Ends e) rest h = tt
     good_of (IsBad c m o r) rest h = let e = h.1 in cc
 
-    follows : (t : Turn) (one other : State → Ran) → AfterReal p places t
-        → IsFine (Rattle.par_steps.specs.Run.followed t other).ending
-        → ((s : State) → AreReal p places s.frames → IsFine (other s).ending
+    -- ---- frames below the first stand at instructions
+
+    abbrev BelowReal : Turn → Type 0
+    BelowReal (Silent s) = AreReal p places (below s.frames)
+    BelowReal (Shows e s) = AreReal p places (below s.frames)
+    BelowReal (Ends e) = Unit {0}
+    BelowReal (IsBad c m o r) = Unit {0}
+
+    caught-real : (x : ℕ) (fs : List Frame) → AreReal p places fs
+        → AreReal p places (below (caught p x fs))
+    unfolding caught
+    caught-real x [] h = tt
+    caught-real x (f ∷ fs) h =
+        pick (p.handler x f.class f.method f.at) (caught p x fs) (caught-real x fs h.1)
+      where
+        pick : (o : Option ℕ) (rest : List Frame) → AreReal p places (below rest)
+            → AreReal p places (below (caught_by o f fs rest))
+        pick None rest k = k
+        pick (Some q) rest k = h.1
+
+    thrown-real : (v : MVal) (x : ℕ) (fs : List Frame) (a : Areas) → AreReal p places (below fs)
+        → BelowReal (thrown_to p.names v x fs a)
+    thrown-real v x [] a h = tt
+    thrown-real v x (f ∷ fs) a h = h
+
+    throws-real : (v : MVal) (o : Option ℕ) (fs : List Frame) (a : Areas) → AreReal p places fs
+        → BelowReal (gen.throws p v o fs a)
+    throws-real v None fs a h = tt
+    throws-real v (Some x) fs a h = thrown-real v x (caught p x fs) a (caught-real x fs h)
+
+    returned-real : (fs : List Frame) (s : State) → AreReal p places fs
+        → BelowReal (gen.returned p fs s)
+    returned-real [] s h = tt
+    returned-real (f ∷ fs) s h = h.1
+
+    returned-with-real : (v : MVal) (fs : List Frame) (s : State) → AreReal p places fs
+        → BelowReal (gen.returned_with p v fs s)
+    returned-with-real v [] s h = tt
+    returned-with-real v (f ∷ fs) s h = h.1
+
+    -- a call leaves the caller at its invoke
+    applied-real : (e : Effect) (n : ℕ) (f : Frame) (fs : List Frame) (s : State)
+        → AreReal p places (f ∷ fs) → BelowReal (gen.applied p e n f fs s)
+    applied-real (Goes a) n f fs s h = h.1
+    applied-real (Happens v a) n f fs s h = h.1
+    applied-real (Jumps z a) n f fs s h = h.1
+    applied-real (Calls c i l vs a) n f fs s h = h
+    applied-real (Throws name) n f fs s h =
+        let x = p.exception_named name in
+        let a = areas_of f s in
+        throws-real (Ref x (next_number x a)) (Some x) (f ∷ fs) (with_object x [] a) h
+    applied-real (ThrowsObject v) n f fs s h =
+        throws-real v (number_of_class v) (f ∷ fs) (areas_of f s) h
+    applied-real Returns n f fs s h = returned-real fs s h.1
+    applied-real (ReturnsWith v) n f fs s h = returned-with-real v fs s h.1
+
+    decided-real : (r : Option ℕ) (x : Found) (f : Frame) (fs : List Frame) (s : State)
+        → AreReal p places (f ∷ fs) → BelowReal (gen.decided p r x f fs s)
+    decided-real (Some r) x f fs s h = tt
+    decided-real None x f fs s h =
+        applied-real (gen.done_by p x.op (areas_of f s)) x.size f fs s h
+
+    turn-real : (s : State) → AreReal p places s.frames → BelowReal (turn p s)
+    unfolding turn
+    turn-real s h = pick s.frames h
+      where
+        at : (o : Option Found) (f : Frame) (fs : List Frame) → AreReal p places (f ∷ fs)
+            → BelowReal (gen.turn_at p o f fs s)
+        at None f fs h = tt
+        at (Some x) f fs h =
+            decided-real (gen.reason_against p x f fs (areas_of f s)) x f fs s h
+
+        pick : (frames : List Frame) → AreReal p places frames
+            → BelowReal (gen.turn_of p frames s)
+        pick [] h = tt
+        pick (f ∷ fs) h = at (p.found f.class f.method f.at) f fs h
+
+    -- a turn that is no bad code is that of a frame at an instruction
+    first-real : (s : State) → AreReal p places (below s.frames) → IsGood p places (turn p s)
+        → AreReal p places s.frames
+    unfolding turn
+    first-real s h good = pick s.frames h good
+      where
+        stands : (f : Frame) (fs : List Frame) (o : Option Found)
+            → p.found f.class f.method f.at ≡ o → IsGood p places (gen.turn_at p o f fs s)
+            → IsReal p places f
+        stands f fs None e g = absurd g
+        stands f fs (Some x) e g = (x, e)
+
+        pick : (frames : List Frame) → AreReal p places (below frames)
+            → IsGood p places (gen.turn_of p frames s) → AreReal p places frames
+        pick [] h g = tt
+        pick (f ∷ fs) h g = (stands f fs (p.found f.class f.method f.at) refl g, h)
+
+    follows : (t : Turn) (one other : State → Ran) → BelowReal t
+        → IsFine (followed t other).ending
+        → ((s : State) → AreReal p places (below s.frames) → IsFine (other s).ending
         → one (moved_state p places s) ≡ other s)
-        → Rattle.par_steps.specs.Run.followed (moved_turn p places t) one ≡
-        Rattle.par_steps.specs.Run.followed t other
+        → followed (moved_turn p places t) one ≡ followed t other
     follows (Silent s) one other r h k = k s r h
-    follows (Shows e s) one other r h k = ap (Rattle.par_values.specs.Ran.with_event e) (k s r h)
+    follows (Shows e s) one other r h k = ap (with_event e) (k s r h)
     follows (Ends e) one other r h k = refl
     follows (IsBad c m o r') one other r h k = refl
 
-    -- where real frames stay real, whole runs that end fine are the same, instruction by
-    -- instruction
-    pub run-moved : ((s : State) → AreReal p places s.frames → IsGood p places (turn p s)
-        → AfterReal p places (turn p s))
-        → (m : ℕ) (s : State) → AreReal p places s.frames → IsFine (run p m s).ending
+    -- whole runs that end fine are the same, instruction by instruction
+    pub run-moved : (m : ℕ) (s : State) → AreReal p places (below s.frames)
+        → IsFine (run p m s).ending
         → run (there p places) m (moved_state p places s) ≡ run p m s
-    run-moved stay zero s h fine = refl
-    run-moved stay (suc m) s h fine =
+    run-moved zero s h fine = refl
+    run-moved (suc m) s h fine =
         let g = good_of (turn p s) (run p m) fine in
-        ap (λ t. Rattle.par_steps.specs.Run.followed t (run (there p places) m)) (turn-moved s h g)
-        ∙ follows (turn p s) (run (there p places) m) (run p m) (stay s h g) fine (run-moved stay m)
+        let real = first-real s h g in
+        ap (λ t. followed t (run (there p places) m)) (turn-moved s real g)
+        ∙ follows (turn p s) (run (there p places) m) (run p m) (turn-real s real) fine
+        (run-moved m)
 
 pub same_turns : SameTurns
 same_turns p places pl = turn-moved p places pl

@@ -1,5 +1,6 @@
 -- A program at other places: as code at byte offsets in place of positions in a list of items.
-use Rattle.std.specs.Prelude.{◌≡◌, ℕ, ◌+◌, Bool, true, List, [], ◌∷◌, map, Option, Some, None}
+use Rattle.std.specs.Prelude.{◌≡◌, ℕ, ◌+◌, Bool, true, false, List, [], ◌∷◌, map, Option, Some}
+use Rattle.std.specs.Prelude.{None}
 use Rattle.std.specs.Prelude.{ℤ, pos, ◌+ℤ◌}
 use Rattle.par_values.specs.Areas.{Areas}
 use Rattle.par_values.specs.Operations.{takes, gives}
@@ -9,7 +10,7 @@ use Rattle.par_values.specs.Effects.{Effect, Jumps, effect}
 use Rattle.par_secrecy.specs.Shows.{IsFine}
 use Rattle.par_steps.specs.State.{Frame, State}
 use Rattle.par_steps.specs.Step.{Turn, Silent, Shows, Ends, IsBad}
-use Rattle.par_engine.specs.Engine.{Found, Program, turn, run}
+use Rattle.par_engine.specs.Engine.{Found, Program, is_misreceived, turn, run}
 
 -- where each place goes, and what stands there
 pub record Places : Type 0 where
@@ -63,7 +64,9 @@ module _ (p : Program) (places : Places) where
   -- the same instruction at both places
   pub record Kin (c m q : ℕ) (x y : Found) : Type 0 where
     pub size : off c m q + y.size ≡ off c m (q + x.size)
-    pub wants : y.wants_exception ≡ x.wants_exception
+    -- it takes each object that the other takes
+    pub wants : (a : Areas) → is_misreceived p x.wants_exception a ≡ false
+        → is_misreceived p y.wants_exception a ≡ false
     pub takes_same : takes y.op ≡ takes x.op
     pub gives_same : gives y.op ≡ gives x.op
     pub placed : (a : Areas) → misplaced p.names y.op a ≡ misplaced p.names x.op a
@@ -106,13 +109,6 @@ module _ (p : Program) (places : Places) where
   IsGood (Ends e) = Unit {0}
   IsGood (IsBad c m o r) = ⊥
 
-  -- the frames behind it stand at instructions
-  abbrev pub AfterReal : Turn → Type 0
-  AfterReal (Silent s) = AreReal s.frames
-  AfterReal (Shows e s) = AreReal s.frames
-  AfterReal (Ends e) = Unit {0}
-  AfterReal (IsBad c m o r) = Unit {0}
-
 -- ---- laws
 
 -- One instruction that is no bad code is the same at both places.
@@ -122,11 +118,15 @@ SameTurns =
     → IsGood p places (turn p s)
     → turn (there p places) (moved_state p places s) ≡ moved_turn p places (turn p s)
 
--- Where frames stay at instructions, a run that ends well is the same, instruction by instruction.
+-- the frames below the first
+abbrev pub below : List Frame → List Frame
+below [] = []
+below (f ∷ fs) = fs
+
+-- A run that is never bad code is the same, instruction by instruction, where the frames below the
+-- first stand at instructions: a first frame that stands at none is bad code.
 abbrev pub SameRuns : Type 0
 SameRuns =
-    (p : Program) (places : Places) → IsPlaced p places
-    → ((s : State) → AreReal p places s.frames → IsGood p places (turn p s)
-    → AfterReal p places (turn p s))
-    → (m : ℕ) (s : State) → AreReal p places s.frames → IsFine (run p m s).ending
+    (p : Program) (places : Places) → IsPlaced p places → (m : ℕ) (s : State)
+    → AreReal p places (below s.frames) → IsFine (run p m s).ending
     → run (there p places) m (moved_state p places s) ≡ run p m s

@@ -7,7 +7,7 @@ pub fn places_do_not_matter()
 {}
 
 /// Runs that end without bad code are the same wherever instructions stand, for each bound on
-/// instructions, where each frame stays at an instruction.
+/// instructions.
 pub fn places_do_not_matter_to_runs()
     ensures { SameRuns }
 {}

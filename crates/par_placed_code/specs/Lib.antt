@@ -1,0 +1,5 @@
+pub mod Instructions
+pub mod Named
+pub mod Placed
+pub mod Placeable
+pub mod Framed
