@@ -1,0 +1,6 @@
+mod Classes
+mod Steps
+mod Indexing
+mod Listed
+mod Said
+mod Again

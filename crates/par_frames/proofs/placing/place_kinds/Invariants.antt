@@ -1,0 +1,10 @@
+use Rattle.std.proofs.Common.{drop}
+use Rattle.par_frame_forms.specs.Spelled.{TypeFits}
+use Rattle.par_frames.specs.Names.{class_of, StandsFor}
+use Rattle.par_frames.proofs.Steps.{Placing}
+use Rattle.par_frames.proofs.placing.place_kinds.Given as goal
+
+abbrev pub invariant-loop-kind : goal.invariant-loop-kind
+invariant-loop-kind l =
+    Placing class_of StandsFor TypeFits l.initial.pool l.pool l.kinds (drop l.kind-index l.kinds)
+    l.types
