@@ -1,0 +1,16 @@
+pub mod Tops
+pub mod Operators
+pub mod Marks
+pub mod Sets
+pub mod Laying
+pub mod Exps
+pub mod Stas
+pub mod Members
+pub mod Bodies
+pub mod Kept
+pub mod Main
+pub mod Whole
+pub mod Items
+pub mod Asked
+pub mod ItsLocks
+pub mod Compiled

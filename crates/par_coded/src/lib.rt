@@ -1,0 +1,9 @@
+//! That the labelled code of a well-typed program is code of typed bodies, as laws of definitions.
+//!
+//! A well-typed program says of each expression what its parts are, and code asks of it what a
+//! machine needs: values of their types, locals that are set, and room for operands. The crate has
+//! no code. What a layout owes is asked one by one of what a body names, so that a layout of a part
+//! of the program will do.
+#![tactic(auto)]
+
+pub mod laws;

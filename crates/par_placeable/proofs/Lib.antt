@@ -1,0 +1,15 @@
+pub mod Ends
+pub mod Counts
+pub mod Fitting
+pub mod Light
+pub mod Spots
+pub mod Items
+pub mod Framed
+pub mod Caught
+pub mod Apart
+pub mod Whole
+pub mod Kept
+pub mod Bodies
+pub mod Words
+pub mod Slots
+pub mod Ranges
