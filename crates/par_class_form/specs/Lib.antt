@@ -1,0 +1,3 @@
+pub mod Members
+pub mod Constants
+pub mod Files

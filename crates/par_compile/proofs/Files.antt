@@ -1,0 +1,191 @@
+-- The parts of a class's file, put together.
+use Rattle.std.proofs.Common.{◌≡◌, ℕ, ◌+◌, ◌*◌, ◌≤◌, List, [], ◌∷◌, ◌++◌, length, map, Some}
+use Rattle.std.proofs.Common.{inr, sym, ap, subst, ◌∙◌, length-append, arith}
+use Rattle.std.specs.Prelude.{true, false, codes, slice_get}
+use Rattle.std.specs.List.{All, AllZip}
+use Rattle.std.proofs.lemmas.List.{length-map}
+use Rattle.std.proofs.lemmas.List.Elements.{All-nil, All-cons}
+use Rattle.par_pool.specs.declared.constant.Constant.{Constant}
+use Rattle.par_pool.specs.Entries.{IsUtf8At, IsClassAt, IsDistinct}
+use Rattle.par_pool.specs.Spelling.{IsPool}
+use Rattle.par_typed.specs.declared.table.ClassInfo.{ClassInfo}
+use Rattle.par_typed.specs.declared.table.Table.{Table}
+use Rattle.par_class.specs.declared.file.MethodFile.{MethodFile}
+use Rattle.par_class.specs.declared.file.ClassFile.{ClassFile}
+use Rattle.par_values.specs.Areas.{Name}
+use Rattle.par_erase.specs.declared.program.PlainMethod.{PlainMethod}
+use Rattle.par_erase.specs.declared.program.PlainClass.{PlainClass}
+use Rattle.par_erase.specs.declared.program.Plain.{Plain}
+use Rattle.par_erase.specs.Shown.{field_info, class_info, table_of, bodies_of}
+use Rattle.par_class_form.specs.Members.{Member, above}
+use Rattle.par_class_form.specs.Constants.{IsConstant, code_text, this_class, super_class, of_field}
+use Rattle.par_class_form.specs.Constants.{of_member}
+use Rattle.par_class_form.specs.Files.{IsFieldOf, IsMethodOf, IsFileOf, HasBareCode}
+use Rattle.par_compile.specs.declared.draft.Draft.{Draft}
+use Rattle.par_compile.specs.Growing.{Stays, Grows, IsOneText, IsOneClass, IsOfFields, IsOfMembers}
+use Rattle.par_compile.specs.Room.{HasRoom}
+use Rattle.par_compile.specs.Own.{channel_in, method_in, own_members, methods_entries}
+use Rattle.par_compile.specs.Own.{class_entries}
+use Rattle.par_compile.specs.Drafts.{IsPut, Puts}
+use Rattle.par_compile.specs.Whole.{IsOwnFile}
+use Rattle.par_compile.proofs.Growing.{extends, extends_then, stays_later, stays_now, grows_then}
+use Rattle.par_compile.proofs.Growing.{room_now}
+use Rattle.par_compile.proofs.Bodies.{members_are}
+
+-- ---- how many there are
+
+methods-few : (p : Plain) (ms : List PlainMethod) → 2 * length ms ≤ methods_entries p ms
+methods-few p [] = omega arith
+methods-few p (m ∷ ms) = omega (arith, methods-few p ms)
+
+members-long : (p : Plain) (k : PlainClass)
+    → length (own_members p k) ≡ 1 + (length k.inputs + (length k.outputs + length k.methods))
+members-long p k =
+    let inputs = map (channel_in true) k.inputs in
+    let outputs = map (channel_in false) k.outputs in
+    let methods = map (method_in p) k.methods in
+    omega (
+      arith,
+      length-append inputs (outputs ++ methods),
+      length-append outputs methods,
+      length-map k.inputs (channel_in true),
+      length-map k.outputs (channel_in false),
+      length-map k.methods (method_in p),
+    )
+
+-- ---- the whole file
+
+module _ (p : Plain) (k : PlainClass) where
+  abbrev table : Table
+  table = table_of p
+
+  abbrev class : ClassInfo
+  class = class_info k
+
+  abbrev methods_ : List Member
+  methods_ = own_members p k
+
+  abbrev Is : List Constant → Constant → Type 0
+  Is q c = IsConstant q table class methods_ c
+
+  -- the file, whose parts the pool has kept
+  pub own_file : (file : ClassFile) (start mid end : Draft) (a b : List Constant) (text : ℕ)
+      (name : Name) (size : List Name)
+      → HasRoom [] (class_entries p k) size
+      → file.minor ≡ 0 → file.major ≡ 49 → file.access ≡ 0x0031 → file.attributes ≡ []
+      → file.pool.entries ≡ end.pool → IsDistinct file.pool.entries → IsPool file.pool.entries
+      → Grows (IsOneText (codes "Code")) [] a
+      → Stays a (λ q. IsUtf8At q text (codes "Code"))
+      → name ≡ k.name
+      → Grows (IsOneClass name) a b → Stays b (λ q. IsClassAt q file.this_class name)
+      → Grows (IsOneClass (above k.exception)) b start.pool
+      → Stays start.pool (λ q. IsClassAt q file.super_class (above k.exception))
+      → Grows (IsOfFields table class.fields) start.pool mid.pool
+      → Stays mid.pool (λ q. AllZip (IsFieldOf table q) class.fields file.fields)
+      → mid.methods ≡ [] → Puts methods_ mid end → file.methods ≡ end.methods
+      → IsOwnFile table class methods_ file
+  own_file file start mid end a b text name size room minor major access attributes pool distinct
+      is-pool coded code-at same bc this cd super de fields none puts methods-are =
+      let eb = extends (IsOneClass name) a b bc in
+      let ec = extends (IsOneClass (above k.exception)) b start.pool cd in
+      let ed = extends (IsOfFields table class.fields) start.pool mid.pool de in
+      let ee = extends (IsOfMembers methods_) mid.pool end.pool puts.grows in
+      let de-end = extends_then start.pool mid.pool end.pool ed ee in
+      let b-end = extends_then b start.pool end.pool ec de-end in
+      let a-end = extends_then a b end.pool eb b-end in
+      let g1 : Grows Is [] b =
+      grows_then (IsOneText (codes "Code")) (IsOneClass name) Is [] a b (λ q c e. code_text e)
+      (λ q c e. this_class (subst (λ (n : Name). IsOneClass n q c) same e)) coded bc in
+      let g2 : Grows Is [] start.pool =
+      grows_then Is (IsOneClass (above k.exception)) Is [] b start.pool (λ q c e. e)
+      (λ q c e. super_class e) g1 cd in
+      let g3 : Grows Is [] mid.pool =
+      grows_then Is (IsOfFields table class.fields) Is [] start.pool mid.pool (λ q c e. e)
+      (λ q c e. of_field e.0 e.1 e.2) g2 de in
+      let g4 : Grows Is [] end.pool =
+      grows_then Is (IsOfMembers methods_) Is [] mid.pool end.pool (λ q c e. e)
+      (λ q c e. of_member e.0 e.1 e.2) g3 puts.grows in
+      let long = members-long p k in
+      let few = room_now [] (class_entries p k) size room in
+      let many = methods-few p k.methods in
+      record {
+        minor = minor;
+        major = major;
+        distinct = distinct;
+        pool = is-pool;
+        constants = subst (λ (q : List Constant). All (Is q) q) (sym pool)
+            (subst (λ (q : List Constant). All (Is end.pool) q) (sym g4.behind)
+            (stays_now end.pool (λ q. All (Is q) g4.more) g4.parts));
+        code_named = (
+          text,
+          subst (λ (q : List Constant). IsUtf8At q text (codes "Code")) (sym pool)
+              (stays_now end.pool (λ q. IsUtf8At q text (codes "Code"))
+              (stays_later a end.pool (λ q. IsUtf8At q text (codes "Code")) a-end code-at)),
+        );
+        access = access;
+        this_class = subst (λ (q : List Constant). IsClassAt q file.this_class k.name) (sym pool)
+            (subst (λ (n : Name). IsClassAt end.pool file.this_class n) same
+            (stays_now end.pool (λ q. IsClassAt q file.this_class name)
+            (stays_later b end.pool (λ q. IsClassAt q file.this_class name) b-end this)));
+        super_class =
+            subst (λ (q : List Constant). IsClassAt q file.super_class (above k.exception))
+            (sym pool)
+            (stays_now end.pool (λ q. IsClassAt q file.super_class (above k.exception))
+            (stays_later start.pool end.pool
+            (λ q. IsClassAt q file.super_class (above k.exception)) de-end super));
+        few_fields = omega (arith, few, length-map k.fields field_info);
+        fields =
+            subst (λ (q : List Constant). AllZip (IsFieldOf table q) class.fields file.fields)
+            (sym pool)
+            (stays_now end.pool (λ q. AllZip (IsFieldOf table q) class.fields file.fields)
+            (stays_later mid.pool end.pool
+            (λ q. AllZip (IsFieldOf table q) class.fields file.fields) ee fields));
+        few_methods = omega (arith, few, long, many);
+        methods = subst (λ (q : List Constant). AllZip (IsPut q) methods_ file.methods) (sym pool)
+            (subst (λ (fs : List MethodFile). AllZip (IsPut end.pool) methods_ fs)
+            (sym (methods-are ∙ (puts.behind
+            ∙ ap (λ (fs : List MethodFile). fs ++ puts.more) none)))
+            (stays_now end.pool (λ q. AllZip (IsPut q) methods_ puts.more) puts.are));
+        attributes = attributes;
+      }
+
+-- ---- the file of a class of this number
+
+method-of : (q : List Constant) (ms : List Member) (fs : List MethodFile)
+    → AllZip (IsPut q) ms fs → AllZip (IsMethodOf q) ms fs
+method-of q [] [] h = h
+method-of q [] (f ∷ fs) h = h
+method-of q (m ∷ ms) [] h = h
+method-of q (m ∷ ms) (f ∷ fs) h = (h.0.is, method-of q ms fs h.1)
+
+-- none of them has an attribute in its code
+pub all_bare : (q : List Constant) (ms : List Member) (fs : List MethodFile)
+    → AllZip (IsPut q) ms fs → All HasBareCode fs
+all_bare q [] [] h = All-nil HasBareCode
+all_bare q [] (f ∷ fs) h = absurd h
+all_bare q (m ∷ ms) [] h = absurd h
+all_bare q (m ∷ ms) (f ∷ fs) h = All-cons HasBareCode f fs h.0.bare (all_bare q ms fs h.1)
+
+pub is_file : (p : Plain) (k : PlainClass) (file : ClassFile) (c : ℕ)
+    → slice_get p.classes c ≡ Some k
+    → IsOwnFile (table_of p) (class_info k) (own_members p k) file
+    → IsFileOf (table_of p) (bodies_of p) c (class_info k) file
+is_file p k file c there h =
+    let same = sym (members_are p c k there) in
+    let q = file.pool.entries in
+    record {
+      minor = h.minor;
+      major = inr h.major;
+      distinct = h.distinct;
+      constants =
+          subst (λ (ms : List Member). All (IsConstant q (table_of p) (class_info k) ms) q) same
+          h.constants;
+      code_named = h.code_named;
+      access = h.access;
+      this_class = h.this_class;
+      super_class = h.super_class;
+      fields = h.fields;
+      methods = subst (λ (ms : List Member). AllZip (IsMethodOf q) ms file.methods) same
+          (method-of q (own_members p k) file.methods h.methods);
+      attributes = h.attributes;
+    }

@@ -1,0 +1,13 @@
+pub mod Growing
+pub mod Lists
+pub mod Texts
+pub mod FieldFiles
+pub mod Members
+pub mod Placing
+pub mod Bodies
+pub mod Laid
+pub mod Files
+pub mod Each
+pub mod Initializers
+pub mod Gathered
+pub mod Ready

@@ -1,0 +1,32 @@
+use Rattle.std.proofs.Common.{[], ◌∷◌, sym, length-append, arith}
+use Rattle.par_compile.proofs.Each.{each_more, all_compiled}
+use Rattle.par_compile.proofs.program.compile_plain.Goals as goal
+
+pub loop-class-preserved : goal.loop-class-preserved
+loop-class-preserved c = record {
+  many =
+      rw c.in_ok-push.ensures.ok
+      (omega (
+        arith,
+        length-append c.loop-class.files (c.in_ok-file.file ∷ []),
+        c.loop-class.invariant.many,
+      ));
+  each =
+      rw c.in_ok-push.ensures.ok
+      (each_more c.args.plain.now c.declared-classes.result.now c.loop-class.files
+      c.loop-class.class-index c.class-item.result c.in_ok-file.file c.declared-classes.ensures
+      c.loop-class-test.true (sym c.class-item.is) c.loop-class.invariant.many
+      c.in_ok-file.ensures c.loop-class.invariant.each);
+}
+
+pub returns : goal.returns
+returns c =
+    all_compiled c.args.plain.now c.declared-classes.result.now c.loop-class.files
+    c.declared-classes.ensures
+    (omega (
+      arith,
+      c.loop-class.invariant.many,
+      c.loop-class-test.false,
+      c.loop-class.auto.class-index-end,
+    ))
+    c.loop-class.invariant.each

@@ -1,0 +1,46 @@
+//! The file of a class.
+
+ghost use Rattle.std.specs.Prelude.{◌≡◌, IfOk};
+ghost use Rattle.par_erase.specs.Shown.{class_info, table_of};
+ghost use Rattle.par_compile.specs.Own.{AreNamed, IsReady, own_members};
+ghost use Rattle.par_compile.specs.Whole.{IsOwnFile};
+
+use crate::access::CLASS;
+use crate::draft::Draft;
+use crate::entries::{above, class as class_index, text};
+use crate::fields::field_files;
+use crate::methods::put_members;
+use par_class::ClassFile;
+use par_erase::{Plain, PlainClass};
+use par_lexer::list::{List, NoMemory};
+use par_pool::PoolBuilder;
+use std::alloc::Global;
+
+/// The file of a class of the program.
+pub fn class_file(alloc: Global, plain: &Plain, class: &PlainClass) -> Result<ClassFile, NoMemory>
+    requires named { AreNamed plain.now }
+    requires ready { IsReady plain.now class.now }
+    ensures { IfOk result (IsOwnFile (table_of plain.now) (class_info class.now)
+        (own_members plain.now class.now)) }
+{
+    let mut draft = Draft {
+        pool: PoolBuilder::new(alloc),
+        methods: List::new(alloc),
+    };
+    text(&mut draft.pool, b"Code")?;
+    let this_class = class_index(&mut draft.pool, class.name.bytes())?;
+    let super_class = class_index(&mut draft.pool, above(class.exception))?;
+    let fields = field_files(alloc, plain, class.fields.as_slice(), &mut draft.pool)?;
+    put_members(alloc, plain, class, &mut draft)?;
+    Ok(ClassFile {
+        minor: 0,
+        major: 49,
+        pool: draft.pool.finish(),
+        access: CLASS,
+        this_class,
+        super_class,
+        fields,
+        methods: draft.methods,
+        attributes: List::new(alloc),
+    })
+}
