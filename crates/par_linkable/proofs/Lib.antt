@@ -1,0 +1,4 @@
+pub mod Bodies
+pub mod Channels
+pub mod Tables
+pub mod Whole

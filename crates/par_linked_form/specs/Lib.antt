@@ -1,0 +1,4 @@
+pub mod Parts
+pub mod Linkable
+pub mod Bodies
+pub mod Laws
