@@ -1,8 +1,8 @@
 //! The releases of an accepted program for an actor: the places where it can learn more than the
 //! policies alone allow, since a lock is open there.
 //!
-//! The list is exact, and laws say what it is good for: where it is empty, the program is secure for
-//! the actor whatever locks are open. The crate finds no facts and judges no source.
+//! The list is exact, and laws say what it is good for: where it is empty, the program is secure
+//! for the actor whatever locks are open. The crate finds no facts and judges no source.
 #![tactic(auto)]
 
 mod clauses;

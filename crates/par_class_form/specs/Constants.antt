@@ -1,5 +1,5 @@
--- What the constants of a class's file are: names and descriptors of it and of its members, and what
--- its code and frames name. So no file tells of policies, actors and locks that nothing asks for.
+-- What the constants of a class's file are: names and descriptors of it and of its members, and
+-- what its code and frames name.
 use Rattle.std.specs.Prelude.{◌≡◌, ◌⊎◌, List, [], ◌∷◌, ◌++◌, Contains, Option, Some, None, codes}
 use Rattle.std.specs.List.{flat_map}
 use Rattle.par_typed.specs.declared.table.ClassInfo.{ClassInfo}
