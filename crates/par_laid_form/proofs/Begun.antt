@@ -5,7 +5,7 @@ use Rattle.std.proofs.Common.{◌∙◌, codes}
 use Rattle.std.specs.List.{position, position_from, position_or_len}
 use Rattle.std.specs.Str.{bytes_eq}
 use Rattle.par_index.proofs.Places.{position-from, position-map}
-use Rattle.par_link.proofs.Passing.{eq_turned}
+use Rattle.par_naming.proofs.par_link.Passing.{eq_turned}
 use Rattle.par_typed.specs.declared.ty.Ty.{Ty}
 use Rattle.par_typed.specs.declared.ty.Ty.TheVariants as ty
 use Rattle.par_typed.specs.declared.table.ClassInfo.{ClassInfo}
@@ -18,14 +18,14 @@ use Rattle.par_class.specs.declared.file.MethodFile.{MethodFile}
 use Rattle.par_values.specs.Areas.{Name}
 use Rattle.par_runs.specs.Names.{body_of, main_of, main_in, place_of}
 use Rattle.par_single.specs.Members.{own_name, is_method_of, text_at}
-use Rattle.par_single.specs.Single.{main_member, method_named}
-use Rattle.par_link.specs.Named.{is_same, methods_of}
-use Rattle.par_steps.specs.State.{main_place}
+use Rattle.par_single.specs.Described.{main_member, method_named}
+use Rattle.par_naming.specs.par_link.Named.{is_same, methods_of}
+use Rattle.par_naming.specs.par_steps.State.{main_place}
 use Rattle.par_code_form.specs.declared.labelled.Labelled.{Labelled}
 use Rattle.par_code_form.specs.Named.{class_word, descriptor, descriptors, method_descriptor}
 use Rattle.par_naming.specs.Naming.{member}
 use Rattle.par_class_form.specs.Members.{method}
-use Rattle.par_agreeing.specs.Laid.{Meth, HasMethod, given_types}
+use Rattle.par_coded.specs.par_agreeing.Laid.{Meth, HasMethod, given_types}
 use Rattle.par_laid_form.specs.Layout.{layout_of}
 use Rattle.par_laid_form.specs.Code.{code_at}
 use Rattle.par_laid_form.specs.Parts.{Known}

@@ -25,12 +25,13 @@ use Rattle.par_values.specs.Areas.{Name}
 use Rattle.par_runs.specs.Names.{body_of}
 use Rattle.par_single.specs.Members.{Member, text_at, is_static, is_initializer}
 use Rattle.par_single.specs.Links.{signature_said, locals_of}
-use Rattle.par_single.specs.Single.{method_named}
-use Rattle.par_link.specs.declared.entry.Named.TheVariants as named
-use Rattle.par_link.specs.Named.{is_same, methods_of, declared, method_of, method_declared}
-use Rattle.par_link.proofs.Faultless.{unbroken, methods-apart}
-use Rattle.par_steps.specs.Links.{link_of, method_link, method_in, channel_of}
-use Rattle.par_engine.specs.Files.{is_of_exceptions}
+use Rattle.par_single.specs.Described.{method_named}
+use Rattle.par_naming.specs.par_link.declared.entry.Named.TheVariants as named
+use Rattle.par_naming.specs.par_link.Named.{is_same, methods_of, declared, method_of}
+use Rattle.par_naming.specs.par_link.Named.{method_declared}
+use Rattle.par_naming.proofs.par_link.Faultless.{unbroken, methods-apart}
+use Rattle.par_naming.specs.par_steps.Links.{link_of, method_link, method_in, channel_of}
+use Rattle.par_naming.specs.par_engine.Files.{is_of_exceptions}
 use Rattle.par_code_form.specs.declared.labelled.Labelled.{Labelled}
 use Rattle.par_code_form.specs.Named.{class_word}
 use Rattle.par_naming.specs.Naming.{member, method_of_name}

@@ -16,8 +16,8 @@ use Rattle.par_values.specs.declared.link.Target.{Target}
 use Rattle.par_values.specs.declared.link.Target.TheVariants as to
 use Rattle.par_values.specs.Areas.{Name}
 use Rattle.par_single.specs.Descriptors.{kind_at, kinds_in}
-use Rattle.par_link.specs.Named.{method_declared}
-use Rattle.par_engine.specs.Files.{is_of_exceptions}
+use Rattle.par_naming.specs.par_link.Named.{method_declared}
+use Rattle.par_naming.specs.par_engine.Files.{is_of_exceptions}
 use Rattle.par_code_form.specs.Named.{of_class, of_channel, class_word, words_of}
 use Rattle.par_naming.specs.Naming.{member, method_of_name}
 use Rattle.par_class_form.specs.Members.{CHANNEL_ACCESS, channel}

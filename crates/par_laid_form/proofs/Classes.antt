@@ -20,15 +20,16 @@ use Rattle.par_values.specs.declared.link.Link.TheVariants as link
 use Rattle.par_values.specs.Areas.{Name}
 use Rattle.par_single.specs.Members.{own_name, own_names}
 use Rattle.par_single.specs.Descriptors.{kind_at, kinds_in}
-use Rattle.par_link.specs.Builtins.{builtin_method}
-use Rattle.par_link.specs.Named.{method_of, method_declared}
-use Rattle.par_steps.specs.Classes.{class_names, is_exception, exceptions_from, exceptions}
-use Rattle.par_steps.specs.Fields.{is_own, kind_of, object_kinds}
-use Rattle.par_steps.specs.Links.{link_of, class_link}
-use Rattle.par_engine.specs.Files.{is_of_exceptions}
+use Rattle.par_naming.specs.par_link.Builtins.{builtin_method}
+use Rattle.par_naming.specs.par_link.Named.{method_of, method_declared}
+use Rattle.par_naming.specs.par_steps.Classes.{class_names, is_exception, exceptions_from}
+use Rattle.par_naming.specs.par_steps.Classes.{exceptions}
+use Rattle.par_naming.specs.par_steps.Fields.{is_own, kind_of, object_kinds}
+use Rattle.par_naming.specs.par_steps.Links.{link_of, class_link}
+use Rattle.par_naming.specs.par_engine.Files.{is_of_exceptions}
 use Rattle.par_code_form.specs.Named.{class_word}
 use Rattle.par_naming.specs.Naming.{member, class_of_name, method_of_name}
-use Rattle.par_agreeing.specs.Agreement.{initializer, init_target}
+use Rattle.par_coded.specs.par_agreeing.Agreement.{initializer, init_target}
 use Rattle.par_class_form.specs.Members.{above, member_access}
 use Rattle.par_class_form.specs.Members as form
 use Rattle.par_class_form.specs.Files.{IsFieldOf}

@@ -1,5 +1,6 @@
 -- The labelled code of loaded classes, by the places of their files.
-use Rattle.std.proofs.Common.{◌≡◌, ℕ, zero, suc, ◌+◌, ◌-◌, ◌<◌, ◌≤◌, Bool, true, false, not, cond, ◌⊎◌}
+use Rattle.std.proofs.Common.{◌≡◌, ℕ, zero, suc, ◌+◌, ◌-◌, ◌<◌, ◌≤◌, Bool, true, false, not, cond}
+use Rattle.std.proofs.Common.{◌⊎◌}
 use Rattle.std.proofs.Common.{inl, inr, List, [], ◌∷◌, ◌++◌, length, map, Option, Some, None}
 use Rattle.std.proofs.Common.{slice_get, is_some, refl, sym, ap, subst, ◌∙◌, arith}
 use Rattle.std.specs.List.{position_or_len}
@@ -20,20 +21,21 @@ use Rattle.par_runs.specs.Names.{body_of, main_of}
 use Rattle.par_single.specs.Descriptors.{kind_at, kinds_in}
 use Rattle.par_single.specs.Links.{signature_said, signature_or_none}
 use Rattle.par_single.specs.Members.{own_name, own_names}
-use Rattle.par_link.proofs.Apart.{AreApart, apart}
-use Rattle.par_link.proofs.Faultless.{or-none, map-none}
-use Rattle.par_link.specs.Firsts.{first_repeated}
-use Rattle.par_link.specs.Linked.{AreLinked}
-use Rattle.par_link.specs.Order.{first_in, list_fault}
-use Rattle.par_link.specs.Rules.{earlier, repeated_class}
-use Rattle.par_single.specs.Single.{is_taken}
+use Rattle.par_naming.proofs.par_link.Apart.{AreApart, apart}
+use Rattle.par_naming.proofs.par_link.Faultless.{or-none, map-none}
+use Rattle.par_naming.specs.par_link.Firsts.{first_repeated}
+use Rattle.par_naming.specs.par_link.Linked.{AreLinked}
+use Rattle.par_naming.specs.par_link.Order.{first_in, list_fault}
+use Rattle.par_naming.specs.par_link.Rules.{earlier, repeated_class}
+use Rattle.par_single.specs.Described.{is_taken}
 use Rattle.std.specs.List.{position}
-use Rattle.par_steps.specs.Methods.{method_descriptor, descriptor_in, pool_of, methods_of}
+use Rattle.par_naming.specs.par_steps.Methods.{method_descriptor, descriptor_in, pool_of}
+use Rattle.par_naming.specs.par_steps.Methods.{methods_of}
 use Rattle.par_code_form.specs.Method.{labelled}
 use Rattle.par_code_form.specs.Named.{class_word, words_of}
 use Rattle.par_code_form.specs.declared.labelled.Labelled.{Labelled}
-use Rattle.par_agreeing.specs.Laid.{Meth, HasMethod}
-use Rattle.par_evaluation.specs.Programs.{Init, Inits, given_kind}
+use Rattle.par_coded.specs.par_agreeing.Laid.{Meth, HasMethod}
+use Rattle.par_coded.specs.par_evaluation.Programs.{Init, Inits, given_kind}
 use Rattle.par_described.specs.Laws as said
 use Rattle.par_described.proofs.Described.{methods_are_described}
 use Rattle.par_class_form.specs.Members.{Member, above, members, methods_from, channel, method}

@@ -19,9 +19,9 @@ use Rattle.par_class.specs.declared.file.ClassFile.{ClassFile}
 use Rattle.par_class.specs.declared.file.CodeAttr.{CodeAttr}
 use Rattle.par_values.specs.Areas.{Name}
 use Rattle.par_runs.specs.Names.{body_of}
-use Rattle.par_link.specs.Builtins.{builtin}
-use Rattle.par_link.specs.Named.{class_named, class_of, listed, class_place}
-use Rattle.par_link.specs.Rules.{is_nothing}
+use Rattle.par_naming.specs.par_link.Builtins.{builtin}
+use Rattle.par_naming.specs.par_link.Named.{class_named, class_of, listed, class_place}
+use Rattle.par_naming.specs.par_link.Rules.{is_nothing}
 use Rattle.par_code_form.specs.declared.item.Item.{Item}
 use Rattle.par_code_form.specs.declared.item.Item.TheVariants.{Label, Op, Const, Jump, Member}
 use Rattle.par_code_form.specs.declared.item.Item.TheVariants.{ClassOp, LockOp}
@@ -30,11 +30,11 @@ use Rattle.par_code_form.specs.declared.labelled.Labelled.{Labelled}
 use Rattle.par_code_form.specs.Code.{Words, body_code, body_handlers}
 use Rattle.par_code_form.specs.Method.{labelled}
 use Rattle.par_code_form.specs.Named.{class_word, words_of}
-use Rattle.par_placed_code.specs.Named.{full_name, is_builtin, Names}
-use Rattle.par_placed_code.specs.Placed.{IsCatch, IsPlaced, offset_of}
+use Rattle.par_naming.specs.par_placed_code.Named.{full_name, is_builtin, Names}
+use Rattle.par_naming.specs.par_placed_code.Placed.{IsCatch, IsPlaced, offset_of}
 use Rattle.par_class_form.specs.Files.{IsCode}
 use Rattle.par_class_form.specs.Members.{method}
-use Rattle.par_agreeing.specs.Laid.{Meth, HasMethod}
+use Rattle.par_coded.specs.par_agreeing.Laid.{Meth, HasMethod}
 use Rattle.par_coded.specs.Named.{Named, Made, Raised, OfClass, OfObject, Reads, Writes, Calls}
 use Rattle.par_coded.specs.Named.{Uses, EachInSta}
 use Rattle.par_coded.specs.Items.{ItemPasses, HandlerPasses, NamedPasses}

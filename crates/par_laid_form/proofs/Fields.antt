@@ -18,23 +18,24 @@ use Rattle.par_values.specs.declared.link.Link.TheVariants as link
 use Rattle.par_values.specs.Areas.{Name}
 use Rattle.par_single.specs.Members.{Member, text_at, is_static}
 use Rattle.par_single.specs.Links.{kind_or_any, kind_said}
-use Rattle.par_single.specs.Single.{field_named}
-use Rattle.par_link.specs.declared.entry.Named.TheVariants as named
-use Rattle.par_link.specs.Firsts.{first_repeated}
-use Rattle.par_link.specs.Named.{is_same, fields_of, declared, field_of}
-use Rattle.par_link.specs.Named.{field_declared}
-use Rattle.par_link.specs.Order.{at, member_fault, description_fault, constant_fault, code_fault}
-use Rattle.par_link.specs.Order.{file_fault}
-use Rattle.par_link.specs.Rules.{repeated_field, repeated_method}
-use Rattle.par_link.proofs.Faultless.{or-none, map-none, unbroken}
+use Rattle.par_single.specs.Described.{field_named}
+use Rattle.par_naming.specs.par_link.declared.entry.Named.TheVariants as named
+use Rattle.par_naming.specs.par_link.Firsts.{first_repeated}
+use Rattle.par_naming.specs.par_link.Named.{is_same, fields_of, declared, field_of}
+use Rattle.par_naming.specs.par_link.Named.{field_declared}
+use Rattle.par_naming.specs.par_link.Order.{at, member_fault, description_fault, constant_fault}
+use Rattle.par_naming.specs.par_link.Order.{code_fault}
+use Rattle.par_naming.specs.par_link.Order.{file_fault}
+use Rattle.par_naming.specs.par_link.Rules.{repeated_field, repeated_method}
+use Rattle.par_naming.proofs.par_link.Faultless.{or-none, map-none, unbroken}
 use Rattle.std.specs.Option.{option_or}
-use Rattle.par_steps.specs.Fields.{is_shared, field_place}
-use Rattle.par_steps.specs.Fields as fields
-use Rattle.par_steps.specs.FieldLaws.{IsFieldOf}
-use Rattle.par_steps.specs.Links.{link_of, field_link, field_in}
+use Rattle.par_naming.specs.par_steps.Fields.{is_shared, field_place}
+use Rattle.par_naming.specs.par_steps.Fields as fields
+use Rattle.par_naming.specs.par_steps.FieldLaws.{IsFieldOf}
+use Rattle.par_naming.specs.par_steps.Links.{link_of, field_link, field_in}
 use Rattle.par_code_form.specs.Named.{of_class, of_field, class_word, descriptor, words_of}
 use Rattle.par_naming.specs.Naming.{member, field_of_name}
-use Rattle.par_agreeing.specs.Laid as laid
+use Rattle.par_coded.specs.par_agreeing.Laid as laid
 use Rattle.par_described.specs.Laws.{IsValueType}
 use Rattle.par_described.specs.Laws as said
 use Rattle.par_described.proofs.Described.{fields_are_described}

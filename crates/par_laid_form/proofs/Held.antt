@@ -14,8 +14,9 @@ use Rattle.par_bodies.specs.Members.{fields_in, channels_in, methods_in, field_a
 use Rattle.par_bodies.specs.Members.{method_at}
 use Rattle.par_class.specs.declared.file.ClassFile.{ClassFile}
 use Rattle.par_runs.specs.Names.{body_of}
-use Rattle.par_agreeing.specs.Laid.{Meth, IsMade, IsThrown, HasStatic, HasOwn, IsInput, IsOutput}
-use Rattle.par_agreeing.specs.Laid.{HasMethod}
+use Rattle.par_coded.specs.par_agreeing.Laid.{Meth, IsMade, IsThrown, HasStatic, HasOwn, IsInput}
+use Rattle.par_coded.specs.par_agreeing.Laid.{IsOutput}
+use Rattle.par_coded.specs.par_agreeing.Laid.{HasMethod}
 use Rattle.par_coded.specs.Methods.{meth, may_meth, meth_at, is_ordinary, is_exception, static_type}
 use Rattle.par_coded.specs.Methods.{own_type, is_input, is_output}
 use Rattle.par_laid_form.specs.Layout.{file_place, is_loaded, layout_of}

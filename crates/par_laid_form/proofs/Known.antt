@@ -12,11 +12,11 @@ use Rattle.par_typed.specs.Plain.{Body}
 use Rattle.par_declared.proofs.Names.{names_stand_once}
 use Rattle.par_class.specs.declared.file.ClassFile.{ClassFile}
 use Rattle.par_single.specs.Members.{own_name, own_names}
-use Rattle.par_link.specs.declared.entry.Named.TheVariants as named
-use Rattle.par_link.specs.Named.{class_named, class_of, listed, class_place}
-use Rattle.par_link.proofs.Faultless.{own-name}
+use Rattle.par_naming.specs.par_link.declared.entry.Named.TheVariants as named
+use Rattle.par_naming.specs.par_link.Named.{class_named, class_of, listed, class_place}
+use Rattle.par_naming.proofs.par_link.Faultless.{own-name}
 use Rattle.par_code_form.specs.Named.{of_class, class_word}
-use Rattle.par_placed_code.specs.Named.{full_name, is_builtin}
+use Rattle.par_naming.specs.par_placed_code.Named.{full_name, is_builtin}
 use Rattle.par_class_form.specs.Files.{FIRST_DECLARED, IsFileOf}
 use Rattle.par_laid_form.specs.Layout.{file_place, number_of}
 use Rattle.par_laid_form.specs.Parts.{IsOf, Known}

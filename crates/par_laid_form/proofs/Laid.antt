@@ -17,24 +17,27 @@ use Rattle.par_values.specs.declared.link.Link.TheVariants as link
 use Rattle.par_values.specs.Areas.{Name, first_value, name_or_none}
 use Rattle.par_values.specs.Areas as areas
 use Rattle.par_runs.specs.Names as names
-use Rattle.par_link.specs.Builtins.{builtin_method}
-use Rattle.par_link.specs.Named.{method_of, method_declared}
-use Rattle.par_engine.specs.Files.{is_of_exceptions}
-use Rattle.par_steps.specs.Classes.{class_names}
+use Rattle.par_naming.specs.par_link.Builtins.{builtin_method}
+use Rattle.par_naming.specs.par_link.Named.{method_of, method_declared}
+use Rattle.par_naming.specs.par_engine.Files.{is_of_exceptions}
+use Rattle.par_naming.specs.par_steps.Classes.{class_names}
 use Rattle.par_class.specs.declared.file.FieldFile.{FieldFile}
-use Rattle.par_steps.specs.Fields.{is_shared, object_kinds, all_statics, field_place, lock_place}
-use Rattle.par_steps.specs.Fields as steps
-use Rattle.par_steps.specs.FieldLaws.{IsFieldOf}
-use Rattle.par_steps.proofs.Placing.{static_fields_apart, static_fields_stand, own_fields_apart}
-use Rattle.par_steps.proofs.Placing.{own_fields_stand}
+use Rattle.par_naming.specs.par_steps.Fields.{is_shared, object_kinds, all_statics, field_place}
+use Rattle.par_naming.specs.par_steps.Fields.{lock_place}
+use Rattle.par_naming.specs.par_steps.Fields as steps
+use Rattle.par_naming.specs.par_steps.FieldLaws.{IsFieldOf}
+use Rattle.par_naming.proofs.par_steps.Placing.{static_fields_apart, static_fields_stand}
+use Rattle.par_naming.proofs.par_steps.Placing.{own_fields_apart}
+use Rattle.par_naming.proofs.par_steps.Placing.{own_fields_stand}
 use Rattle.par_code_form.specs.Code.{Words}
 use Rattle.par_code_form.specs.Named.{class_word, words_of}
 use Rattle.par_naming.specs.Naming.{class_of_name, method_of_name, naming_of}
 use Rattle.par_naming.specs.Naming as naming
-use Rattle.par_agreeing.specs.Laid.{Layout, Meth, IsMade, IsThrown, HasStatic, HasOwn, IsInput}
-use Rattle.par_agreeing.specs.Laid.{IsOutput, HasMethod, IsLock, moved, HasType}
-use Rattle.par_agreeing.specs.Laid as laid
-use Rattle.par_agreeing.specs.Agreement.{Lays, initializer, init_target}
+use Rattle.par_coded.specs.par_agreeing.Laid.{Layout, Meth, IsMade, IsThrown, HasStatic, HasOwn}
+use Rattle.par_coded.specs.par_agreeing.Laid.{IsInput}
+use Rattle.par_coded.specs.par_agreeing.Laid.{IsOutput, HasMethod, IsLock, moved, HasType}
+use Rattle.par_coded.specs.par_agreeing.Laid as laid
+use Rattle.par_coded.specs.par_agreeing.Agreement.{Lays, initializer, init_target}
 use Rattle.par_described.specs.Laws.{IsValueType}
 use Rattle.par_coded.specs.Methods.{is_exception}
 use Rattle.par_laid_form.specs.Layout.{is_loaded, number_of, spot, layout_of}

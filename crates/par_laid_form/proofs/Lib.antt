@@ -14,3 +14,4 @@ pub mod Each
 pub mod Covered
 pub mod Placed
 pub mod Begun
+pub use Rattle.par_coded.proofs as par_coded

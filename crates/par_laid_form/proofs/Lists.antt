@@ -6,9 +6,9 @@ use Rattle.std.specs.List.{AllZip, AllByRecursion, position}
 use Rattle.std.proofs.lemmas.List.Quantifiers.{position-Some}
 use Rattle.std.proofs.lemmas.Option.{slice_get-get_or, slice_get_within, get_or_from_slice_get}
 use Rattle.par_index.proofs.Places.{position-found}
-use Rattle.par_link.specs.Firsts.{first_repeated}
-use Rattle.par_link.proofs.Apart.{fresh}
-use Rattle.par_link.proofs.Passing.{position-none}
+use Rattle.par_naming.specs.par_link.Firsts.{first_repeated}
+use Rattle.par_naming.proofs.par_link.Apart.{fresh}
+use Rattle.par_naming.proofs.par_link.Passing.{position-none}
 
 -- ---- options
 

@@ -28,15 +28,15 @@ use Rattle.par_values.specs.Areas.{Name}
 use Rattle.par_runs.specs.Names.{body_of}
 use Rattle.par_single.specs.declared.descriptor.Signature.{Signature}
 use Rattle.par_single.specs.Links.{signature_said, signature_or_none}
-use Rattle.par_link.specs.Named.{method_declared}
-use Rattle.par_steps.specs.Links.{channel_of}
-use Rattle.par_engine.specs.Files.{is_of_exceptions}
+use Rattle.par_naming.specs.par_link.Named.{method_declared}
+use Rattle.par_naming.specs.par_steps.Links.{channel_of}
+use Rattle.par_naming.specs.par_engine.Files.{is_of_exceptions}
 use Rattle.par_code_form.specs.Code.{Words, is_void}
 use Rattle.par_code_form.specs.Method.{labelled}
 use Rattle.par_code_form.specs.Named.{of_class, of_method, class_word, method_descriptor, words_of}
 use Rattle.par_naming.specs.Naming.{member, method_of_name}
-use Rattle.par_agreeing.specs.Laid.{Meth, OfValues, given_types}
-use Rattle.par_agreeing.specs.Laid as laid
+use Rattle.par_coded.specs.par_agreeing.Laid.{Meth, OfValues, given_types}
+use Rattle.par_coded.specs.par_agreeing.Laid as laid
 use Rattle.par_described.specs.Laws.{IsValueType, HasValueTypes, given_kind}
 use Rattle.par_described.specs.Laws as said
 use Rattle.par_described.proofs.Described.{methods_are_described}

@@ -8,10 +8,10 @@ use Rattle.par_pool.specs.declared.constant.Constant.{Constant}
 use Rattle.par_class.specs.declared.file.ClassFile.{ClassFile}
 use Rattle.par_class.specs.declared.file.CodeAttr.{CodeAttr}
 use Rattle.par_class.specs.declared.file.MethodFile.{MethodFile}
-use Rattle.par_steps.specs.Methods as steps
-use Rattle.par_steps.specs.Methods.{pool_of, methods_of, code_in}
+use Rattle.par_naming.specs.par_steps.Methods as steps
+use Rattle.par_naming.specs.par_steps.Methods.{pool_of, methods_of, code_in}
 use Rattle.par_code_form.specs.declared.labelled.Labelled.{Labelled}
-use Rattle.par_placed_code.specs.Placed.{IsPlaced}
+use Rattle.par_naming.specs.par_placed_code.Placed.{IsPlaced}
 use Rattle.par_class_form.specs.Files.{IsCode, IsMethodOf}
 use Rattle.par_class_form.specs.Members.{Member, members}
 use Rattle.par_laid_form.specs.Code.{no_code, code_or_none, code_of, members_in}

@@ -11,12 +11,12 @@ use Rattle.par_values.specs.declared.inputs.ChannelInput.{ChannelInput}
 use Rattle.par_values.specs.declared.value.MVal.{MVal}
 use Rattle.par_values.specs.Areas.{list_or_none}
 use Rattle.par_runs.specs.Source.{given_to, start}
-use Rattle.par_steps.specs.State.{no_objects}
-use Rattle.par_steps.proofs.Placing.{locks_stand}
+use Rattle.par_naming.specs.par_steps.State.{no_objects}
+use Rattle.par_naming.proofs.par_steps.Placing.{locks_stand}
 use Rattle.par_code_form.specs.Named.{words_of}
 use Rattle.par_naming.specs.Naming.{naming_of}
-use Rattle.par_agreeing.specs.Laid.{IsMade}
-use Rattle.par_agreeing.specs.Agreement.{Fine}
+use Rattle.par_coded.specs.par_agreeing.Laid.{IsMade}
+use Rattle.par_coded.specs.par_agreeing.Agreement.{Fine}
 use Rattle.par_laid_form.specs.Layout.{LOCKS, number_of, layout_of}
 use Rattle.par_laid_form.specs.Parts.{first_areas}
 use Rattle.par_laid_form.specs.Parts.{Known}

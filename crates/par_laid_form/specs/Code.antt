@@ -10,7 +10,7 @@ use Rattle.par_values.specs.Areas.{Name}
 use Rattle.par_class.specs.declared.file.ClassFile.{ClassFile}
 use Rattle.par_single.specs.Members.{own_name}
 use Rattle.par_code_form.specs.declared.labelled.Labelled.{Labelled}
-use Rattle.par_matching.specs.Labelled as matching
+use Rattle.par_naming.specs.par_matching.Labelled as matching
 use Rattle.par_naming.specs.Naming.{to_run}
 use Rattle.par_class_form.specs.Members.{Member, members}
 

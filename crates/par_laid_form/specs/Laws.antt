@@ -7,15 +7,15 @@ use Rattle.par_class.specs.declared.file.ClassFile.{ClassFile}
 use Rattle.par_values.specs.declared.inputs.ChannelInput.{ChannelInput}
 use Rattle.par_runs.specs.Names.{main_of}
 use Rattle.par_runs.specs.Source.{start}
-use Rattle.par_steps.specs.Methods.{class_pool, method_code}
-use Rattle.par_steps.specs.Run.{class_number}
-use Rattle.par_steps.specs.State.{main_place}
+use Rattle.par_naming.specs.par_steps.Methods.{class_pool, method_code}
+use Rattle.par_naming.specs.par_steps.Run.{class_number}
+use Rattle.par_naming.specs.par_steps.State.{main_place}
 use Rattle.par_code_form.specs.Named.{class_word, words_of}
-use Rattle.par_placed_code.specs.Placed.{IsPlaced}
+use Rattle.par_naming.specs.par_placed_code.Placed.{IsPlaced}
 use Rattle.par_naming.specs.Naming.{naming_of}
-use Rattle.par_agreeing.specs.Laid.{Meth, HasMethod, given_types}
-use Rattle.par_agreeing.specs.Agreement.{Lays, Fine}
-use Rattle.par_evaluation.specs.Programs.{Inits}
+use Rattle.par_coded.specs.par_agreeing.Laid.{Meth, HasMethod, given_types}
+use Rattle.par_coded.specs.par_agreeing.Agreement.{Lays, Fine}
+use Rattle.par_coded.specs.par_evaluation.Programs.{Inits}
 use Rattle.par_coded.specs.Compiled.{IsLaidOut}
 use Rattle.par_laid_form.specs.Layout.{layout_of}
 use Rattle.par_laid_form.specs.Code.{code_at, labelled_of}

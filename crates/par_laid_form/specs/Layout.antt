@@ -7,10 +7,10 @@ use Rattle.par_typed.specs.Plain.{Body}
 use Rattle.par_bodies.specs.Members.{channels_in, field_at, channel_at}
 use Rattle.par_class.specs.declared.file.ClassFile.{ClassFile}
 use Rattle.par_class.specs.declared.file.FieldFile.{FieldFile}
-use Rattle.par_link.specs.Named.{class_place}
-use Rattle.par_steps.specs.Fields.{field_place, lock_place}
+use Rattle.par_naming.specs.par_link.Named.{class_place}
+use Rattle.par_naming.specs.par_steps.Fields.{field_place, lock_place}
 use Rattle.par_code_form.specs.Named.{class_word}
-use Rattle.par_agreeing.specs.Laid.{Layout}
+use Rattle.par_coded.specs.par_agreeing.Laid.{Layout}
 use Rattle.par_class_form.specs.Files.{FIRST_DECLARED}
 use Rattle.par_coded.specs.Methods.{meth_at, is_ordinary, is_exception, static_type, own_type}
 use Rattle.par_coded.specs.Methods.{is_input, is_output}

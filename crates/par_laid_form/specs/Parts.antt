@@ -1,5 +1,6 @@
 -- What is asked of the class files of a program that are loaded, and what a machine begins with.
-use Rattle.std.specs.Prelude.{◌≡◌, ℕ, ◌<◌, ◌≤◌, true, false, List, [], map, length, Some, slice_get, codes}
+use Rattle.std.specs.Prelude.{◌≡◌, ℕ, ◌<◌, ◌≤◌, true, false, List, [], map, length, Some, slice_get}
+use Rattle.std.specs.Prelude.{codes}
 use Rattle.std.specs.List.{AllByRecursion}
 use Rattle.par_lexer.specs.Names.{IsName}
 use Rattle.par_typed.specs.declared.table.ClassInfo.{ClassInfo}
@@ -14,17 +15,17 @@ use Rattle.par_values.specs.declared.inputs.ChannelInput.{ChannelInput}
 use Rattle.par_values.specs.Areas.{Name, Areas}
 use Rattle.par_pool.specs.Entries.{IsClassAt}
 use Rattle.par_single.specs.Members.{own_name}
-use Rattle.par_link.specs.Linked.{AreLinked}
-use Rattle.par_link.specs.Named.{class_named}
-use Rattle.par_link.specs.Rules.{is_nothing}
-use Rattle.par_steps.specs.Fields.{all_statics}
-use Rattle.par_steps.specs.State.{no_objects, whole_inputs}
+use Rattle.par_naming.specs.par_link.Linked.{AreLinked}
+use Rattle.par_naming.specs.par_link.Named.{class_named}
+use Rattle.par_naming.specs.par_link.Rules.{is_nothing}
+use Rattle.par_naming.specs.par_steps.Fields.{all_statics}
+use Rattle.par_naming.specs.par_steps.State.{no_objects, whole_inputs}
 use Rattle.par_code_form.specs.declared.item.Item.{Item}
 use Rattle.par_code_form.specs.declared.item.Item.TheVariants.{Label, Op, Const, Jump, Member}
 use Rattle.par_code_form.specs.declared.item.Item.TheVariants.{ClassOp, LockOp}
 use Rattle.par_code_form.specs.Code.{body_code}
 use Rattle.par_code_form.specs.Named.{class_word, words_of}
-use Rattle.par_agreeing.specs.Laid.{Meth}
+use Rattle.par_coded.specs.par_agreeing.Laid.{Meth}
 use Rattle.par_described.specs.Laws.{IsValueType, HasValueTypes}
 use Rattle.par_class_form.specs.Files.{FIRST_DECLARED, IsFileOf}
 use Rattle.par_coded.specs.Methods.{meth_at}

@@ -3,9 +3,9 @@ use Rattle.std.proofs.Common.{◌*◌, ◌<◌, ◌≤◌, ◌^◌, List, [], �
 use Rattle.std.proofs.lemmas.List.{length-append}
 use Rattle.std.proofs.lemmas.List.Elements.{All-head, All-tail}
 use Rattle.std.specs.List.{All, flat_map}
-use Rattle.par_pool.specs.declared.constant.Constant.{Constant}
-use Rattle.par_pool.specs.declared.constant.Constant.TheVariants as constant
-use Rattle.par_class.specs.declared.file.ClassFile.{ClassFile}
+use Rattle.par_single.specs.par_pool.declared.constant.Constant.{Constant}
+use Rattle.par_single.specs.par_pool.declared.constant.Constant.TheVariants as constant
+use Rattle.par_single.specs.par_class.declared.file.ClassFile.{ClassFile}
 use Rattle.par_link.specs.Conditions.{IsSmall}
 use Rattle.par_link.specs.Placed.{text_in, texts_in, all_texts}
 

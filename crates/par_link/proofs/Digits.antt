@@ -4,8 +4,8 @@ use Rattle.std.proofs.Common.{◌&&◌, List, [], ◌∷◌, length, Some, None,
 use Rattle.std.specs.Prelude.{nat_lt, nat_le}
 use Rattle.std.proofs.lemmas.Bool.{and_parts, leb-true, lt-ltb}
 use Rattle.std.specs.List.{fold, list_all}
-use Rattle.par_lexer.specs.Names.{is_digit}
-use Rattle.par_lexer.specs.Pieces.{with_digit, value, has_leading_zero}
+use Rattle.par_index.specs.par_lexer.Names.{is_digit}
+use Rattle.par_index.specs.par_lexer.Pieces.{with_digit, value, has_leading_zero}
 use Rattle.par_inputs.specs.Numbers.{is_decimal, magnitude_of}
 
 grows : (n : ℕ) (digits : List ℕ) → n ≤ fold with_digit n digits

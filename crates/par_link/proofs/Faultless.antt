@@ -7,13 +7,13 @@ use Rattle.std.proofs.lemmas.Option.{slice_get_within, get_or_from_slice_get}
 use Rattle.std.specs.List.{list_any, position}
 use Rattle.std.specs.Option.{option_map, option_or}
 use Rattle.std.specs.Str.{bytes_eq}
-use Rattle.par_class.specs.declared.file.ClassFile.{ClassFile}
-use Rattle.par_class.specs.declared.file.FieldFile.{FieldFile}
-use Rattle.par_class.specs.declared.file.MethodFile.{MethodFile}
-use Rattle.par_pool.proofs.Positions.{position-none}
+use Rattle.par_single.specs.par_class.declared.file.ClassFile.{ClassFile}
+use Rattle.par_single.specs.par_class.declared.file.FieldFile.{FieldFile}
+use Rattle.par_single.specs.par_class.declared.file.MethodFile.{MethodFile}
+use Rattle.par_single.proofs.par_pool.Positions.{position-none}
 use Rattle.par_index.proofs.Places.{any-map, position-is_some}
 use Rattle.par_link.proofs.Passing.{eq_turned}
-use Rattle.par_lexer.specs.Names.{IsName}
+use Rattle.par_index.specs.par_lexer.Names.{IsName}
 use Rattle.par_link.specs.Conditions.{IsSmall}
 use Rattle.par_link.specs.Linked.{AreLinked}
 use Rattle.par_link.specs.Order.{at, in_class, member_fault, description_fault, constant_fault}
@@ -23,8 +23,8 @@ use Rattle.par_link.specs.Rules.{wrong_method, earlier}
 use Rattle.par_link.specs.Named.{is_same, methods_of}
 use Rattle.par_link.specs.Firsts.{first_repeated}
 use Rattle.par_single.specs.Members.{own_name, own_names}
-use Rattle.par_single.specs.Single.{is_taken, is_field_right, is_method_right}
-use Rattle.par_values.specs.Areas.{Name}
+use Rattle.par_single.specs.Described.{is_taken, is_field_right, is_method_right}
+use Rattle.par_inputs.specs.par_values.Areas.{Name}
 use Rattle.par_link.proofs.Apart.{AreApart, apart, apart-push}
 
 turned : (b : Bool) → not b ≡ false → b ≡ true

@@ -1,7 +1,7 @@
 -- Linked class files are few.
 use Rattle.std.proofs.Common.{◌≡◌, ◌≤◌, Bool, true, false, List, length, None, refl, sym, ◌∙◌}
 use Rattle.std.proofs.lemmas.Bool.{ltb-false}
-use Rattle.par_class.specs.declared.file.ClassFile.{ClassFile}
+use Rattle.par_single.specs.par_class.declared.file.ClassFile.{ClassFile}
 use Rattle.par_link.specs.Order.{first_broken}
 use Rattle.par_link.specs.Rules.{are_too_many}
 use Rattle.par_link.proofs.Ordering.{broken-many}

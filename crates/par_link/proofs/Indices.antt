@@ -6,10 +6,10 @@ use Rattle.std.proofs.lemmas.Bool.{and_parts, leb-true}
 use Rattle.std.specs.Option.{option_map, option_or, option_and_then}
 use Rattle.std.proofs.lemmas.List.{length-map, length-append}
 use Rattle.std.specs.List.{list_all, list_any, position}
-use Rattle.par_class.specs.declared.file.ClassFile.{ClassFile}
-use Rattle.par_class.specs.declared.file.CodeAttr.{CodeAttr}
-use Rattle.par_class.specs.declared.file.MethodFile.{MethodFile}
-use Rattle.par_single.specs.Single.{field_named, method_named}
+use Rattle.par_single.specs.par_class.declared.file.ClassFile.{ClassFile}
+use Rattle.par_single.specs.par_class.declared.file.CodeAttr.{CodeAttr}
+use Rattle.par_single.specs.par_class.declared.file.MethodFile.{MethodFile}
+use Rattle.par_single.specs.Described.{field_named, method_named}
 use Rattle.par_link.specs.declared.fault.Fault.{Fault}
 use Rattle.par_link.specs.declared.sort.Sort.{Sort}
 use Rattle.par_link.specs.declared.sort.Sort.TheVariants.{Class, Field, Method}

@@ -13,8 +13,5 @@ pub mod Spread
 pub mod Stopping
 pub mod Passing
 pub mod Unrepeated
-pub mod Walked
-pub mod There
-pub mod Unbroken
 pub mod Apart
 pub mod Faultless

@@ -1,20 +1,14 @@
--- What tests say of all items of a list.
-use Rattle.std.proofs.Common.{◌≡◌, ℕ, zero, suc, Bool, true, false, cond, ◌||◌, List, [], ◌∷◌}
-use Rattle.std.proofs.Common.{Option, Some, None, slice_get, is_some, refl, sym, ap, ◌∙◌, inl, inr}
-use Rattle.std.proofs.Common.{◌⊎◌}
-use Rattle.std.proofs.lemmas.Bool.{and_parts}
+-- What tests say of items of a list, and when texts are the same.
+use Rattle.std.proofs.Common.{◌≡◌, ℕ, zero, suc, Bool, true, false, ◌||◌, List, [], ◌∷◌, Option}
+use Rattle.std.proofs.Common.{Some, None, slice_get, is_some, refl, sym, ap, ◌∙◌}
 use Rattle.std.proofs.lemmas.Slice.Eq.{bytes_eq-Decides}
-use Rattle.std.specs.List.{list_all, list_any, position, position_from}
+use Rattle.std.specs.List.{list_any, position}
 use Rattle.std.specs.Option.{option_or}
 use Rattle.std.specs.Str.{bytes_eq}
-use Rattle.par_index.proofs.Places.{position-from, position-is_some}
+use Rattle.par_index.proofs.Places.{position-is_some}
 use Rattle.par_single.specs.Descriptors.{Text}
 
--- ---- one test
-
-pub either : (a b : Bool) → (a || b) ≡ true → (a ≡ true) ⊎ (b ≡ true)
-either true b is = inl refl
-either false b is = inr is
+-- ---- what is not there
 
 pub none_of : {A : Type 0} (o : Option A) → is_some o ≡ false → o ≡ None
 none_of None e = refl
@@ -25,23 +19,9 @@ or-none a b first second = ap (λ o. option_or o b) first ∙ second
 
 -- ---- all items
 
--- where one test passes for all items, another passes for none
-pub any-not : {A : Type 0} (test other : A → Bool) (xs : List A)
-    → ((x : A) → other x ≡ true → test x ≡ false) → list_all other xs ≡ true
-    → list_any test xs ≡ false
-any-not test other [] each all = refl
-any-not test other (x ∷ xs) each all =
-    let both = and_parts (other x) (list_all other xs) all in
-    ap (λ b. b || list_any test xs) (each x both.0) ∙ any-not test other xs each both.1
-
 pub position-none : {A : Type 0} (test : A → Bool) (xs : List A) → list_any test xs ≡ false
     → position test xs ≡ None
 position-none test xs never = none_of (position test xs) (position-is_some test xs ∙ never)
-
-pub none-found : {A : Type 0} (test other : A → Bool) (xs : List A)
-    → ((x : A) → other x ≡ true → test x ≡ false) → list_all other xs ≡ true
-    → position test xs ≡ None
-none-found test other xs each all = position-none test xs (any-not test other xs each all)
 
 -- an item that stands there and passes
 pub any-at : {A : Type 0} (test : A → Bool) (xs : List A) (place : ℕ) (x : A)
@@ -55,18 +35,6 @@ any-at test (y ∷ xs) (suc place) x is passes = in_case (test y) (any-at test x
     in_case : (b : Bool) → list_any test xs ≡ true → (b || list_any test xs) ≡ true
     in_case true later = refl
     in_case false later = later
-
--- ---- one item
-
-pub one_found : {A : Type 0} (test : A → Bool) (x : A) → test x ≡ true
-    → position test (x ∷ []) ≡ Some 0
-one_found test x passes =
-    position-from test (x ∷ []) ∙ ap (λ b. cond b (Some 0) (position_from test 1 [])) passes
-
-pub one_missed : {A : Type 0} (test : A → Bool) (x : A) → test x ≡ false
-    → position test (x ∷ []) ≡ None
-one_missed test x fails =
-    position-from test (x ∷ []) ∙ ap (λ b. cond b (Some 0) (position_from test 1 [])) fails
 
 -- ---- texts
 

@@ -4,14 +4,14 @@ use Rattle.std.proofs.Common.{refl, ap, subst, ◌∙◌, arith}
 use Rattle.std.proofs.lemmas.Bool.{and_parts}
 use Rattle.std.proofs.lemmas.List.{length-map}
 use Rattle.std.specs.List.{AllByRecursion, list_all}
-use Rattle.par_pool.specs.declared.constant.Constant.{Constant}
-use Rattle.par_class.specs.declared.file.ClassFile.{ClassFile}
-use Rattle.par_class.specs.declared.file.CodeAttr.{CodeAttr}
-use Rattle.par_class.specs.declared.file.Piece.{Piece}
-use Rattle.par_class.specs.declared.file.Piece.TheVariants.{Plain, Code}
-use Rattle.par_class.specs.Layout.{Method, Layout, later, method_of, file_of}
-use Rattle.par_class.specs.Layout as layout
-use Rattle.par_class.specs.Spelling.{FitsPiece, FitsMethod, IsLayout, Spells}
+use Rattle.par_single.specs.par_pool.declared.constant.Constant.{Constant}
+use Rattle.par_single.specs.par_class.declared.file.ClassFile.{ClassFile}
+use Rattle.par_single.specs.par_class.declared.file.CodeAttr.{CodeAttr}
+use Rattle.par_single.specs.par_class.declared.file.Piece.{Piece}
+use Rattle.par_single.specs.par_class.declared.file.Piece.TheVariants.{Plain, Code}
+use Rattle.par_single.specs.par_class.Layout.{Method, Layout, later, method_of, file_of}
+use Rattle.par_single.specs.par_class.Layout as layout
+use Rattle.par_single.specs.par_class.Spelling.{FitsPiece, FitsMethod, IsLayout, Spells}
 use Rattle.par_link.specs.Conditions.{is_short, IsSmall}
 
 later-short : (o : Option CodeAttr) (c : CodeAttr) → is_short o ≡ true → is_short (Some c) ≡ true

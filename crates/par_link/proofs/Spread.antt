@@ -9,8 +9,8 @@ use Rattle.std.specs.Str.{bytes_eq}
 use Rattle.std.proofs.lemmas.Bool.{cases_lt, and_parts, and_from}
 use Rattle.std.proofs.lemmas.Option.{none-some, same_Some, slice_get_within, slice_get-get_or}
 use Rattle.std.proofs.lemmas.Slice.Eq.{bytes_eq-Decides}
-use Rattle.par_class.specs.declared.file.ClassFile.{ClassFile}
-use Rattle.par_class.specs.declared.file.MethodFile.{MethodFile}
+use Rattle.par_single.specs.par_class.declared.file.ClassFile.{ClassFile}
+use Rattle.par_single.specs.par_class.declared.file.MethodFile.{MethodFile}
 use Rattle.par_single.specs.Descriptors.{Text}
 use Rattle.par_single.specs.Members.{text_at, own_name}
 use Rattle.par_link.specs.declared.entry.Declared.{Declared}

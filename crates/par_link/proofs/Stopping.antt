@@ -6,10 +6,10 @@ use Rattle.std.specs.Option.{option_or}
 use Rattle.std.proofs.lemmas.Grind.{common_steps}
 use Rattle.std.proofs.lemmas.Bool.Decides.{nat_tests}
 use Rattle.std.proofs.lemmas.Bool.{cases_lt}
-use Rattle.par_instr.specs.declared.instr.Instr.{Instr}
-use Rattle.par_instr.specs.Decoding.{Decoded, sized, decoded, decoded_at}
-use Rattle.par_instr.specs.Spelling.{operand_bytes, IsUnlisted}
-use Rattle.par_class.specs.declared.file.MethodFile.{MethodFile}
+use Rattle.par_inputs.specs.par_instr.declared.instr.Instr.{Instr}
+use Rattle.par_inputs.specs.par_instr.Decoding.{Decoded, sized, decoded, decoded_at}
+use Rattle.par_inputs.specs.par_instr.Spelling.{operand_bytes, IsUnlisted}
+use Rattle.par_single.specs.par_class.declared.file.MethodFile.{MethodFile}
 use Rattle.par_link.specs.Stops.{passed, left_after, left, is_unlisted, is_cut, stop_in, first_stop}
 
 -- operands are passed over

@@ -1,12 +1,11 @@
 -- Members that differ are not repeated.
 use Rattle.std.proofs.Common.{◌≡◌, Bool, true, false, cond, not, ◌&&◌, ◌||◌, List, [], ◌∷◌, ◌++◌}
-use Rattle.std.proofs.Common.{length, map, Some, None, refl, ap, ◌∙◌}
+use Rattle.std.proofs.Common.{length, Some, None, refl, ap, ◌∙◌}
 use Rattle.std.proofs.lemmas.Bool.{and_parts, or_parts, not-true}
 use Rattle.std.proofs.lemmas.List.Folds.{list_any-append}
 use Rattle.std.specs.List.{list_all, list_any}
-use Rattle.par_single.specs.Single.{differ}
+use Rattle.par_single.specs.Described.{differ}
 use Rattle.par_link.specs.Firsts.{repeated_after, first_repeated}
-use Rattle.par_link.proofs.Placing.{repeated-map}
 
 module _ {A : Type 0} (same : A → A → Bool) where
   -- an item is the same as none of these
@@ -50,14 +49,3 @@ module _ {A : Type 0} (same : A → A → Bool) where
   -- items of which none is the same as a later one are not repeated
   pub differ-none : (xs : List A) → differ turned xs ≡ true → first_repeated same xs ≡ None
   differ-none xs differs = differ-after [] xs (all-fresh xs) differs
-
-  -- one item is not repeated
-  pub one-none : (x : A) → first_repeated same (x ∷ []) ≡ None
-  unfolding repeated_after
-  one-none x = refl
-
--- nor is what is made of them
-pub made-none : {A B : Type 0} (same : B → B → Bool) (f : A → B) (xs : List A)
-    → differ (λ x y. same (f y) (f x)) xs ≡ true → first_repeated same (map f xs) ≡ None
-made-none same f xs differs =
-    repeated-map same f xs ∙ differ-none (λ x y. same (f x) (f y)) xs differs

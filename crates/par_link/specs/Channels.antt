@@ -5,8 +5,8 @@ use Rattle.std.specs.Hash.FoldHasher as folding
 use Rattle.std.specs.List.{Contains}
 use Rattle.std.specs.Option.{option_map_or}
 use Rattle.std.specs.Str.{bytes_eq}
-use Rattle.par_class.specs.declared.file.ClassFile.{ClassFile}
-use Rattle.par_class.specs.declared.file.MethodFile.{MethodFile}
+use Rattle.par_single.specs.par_class.declared.file.ClassFile.{ClassFile}
+use Rattle.par_single.specs.par_class.declared.file.MethodFile.{MethodFile}
 use Rattle.par_single.specs.Descriptors.{Text}
 use Rattle.par_single.specs.Members.{text_at, own_name}
 use Rattle.par_link.specs.declared.entry.Declared.{Declared}

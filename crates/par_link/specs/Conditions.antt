@@ -1,8 +1,8 @@
 -- What class files that are linked have: few items, as the numbers of their bytes tell.
 use Rattle.std.specs.Prelude.{◌+◌, ◌<◌, ◌^◌, Bool, true, nat_le, length, Option, Some, None, IsTrue}
 use Rattle.std.specs.List.{list_all}
-use Rattle.par_class.specs.declared.file.CodeAttr.{CodeAttr}
-use Rattle.par_class.specs.declared.file.ClassFile.{ClassFile}
+use Rattle.par_single.specs.par_class.declared.file.CodeAttr.{CodeAttr}
+use Rattle.par_single.specs.par_class.declared.file.ClassFile.{ClassFile}
 
 -- code has at most 65,535 bytes
 abbrev pub is_short : Option CodeAttr → Bool

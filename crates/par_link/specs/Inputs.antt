@@ -2,11 +2,11 @@
 use Rattle.std.specs.Prelude.{ℕ, Bool, not, ◌&&◌, nat_le, if◌then◌else◌, List, Option, codes}
 use Rattle.std.specs.List.{list_any, position}
 use Rattle.std.specs.Str.{bytes_eq}
-use Rattle.par_pool.specs.declared.constant.Constant.{Constant}
-use Rattle.par_class.specs.declared.file.MethodFile.{MethodFile}
-use Rattle.par_class.specs.declared.file.ClassFile.{ClassFile}
-use Rattle.par_class.specs.Spelling.{is_native}
-use Rattle.par_values.specs.declared.inputs.ChannelInput.{ChannelInput}
+use Rattle.par_single.specs.par_pool.declared.constant.Constant.{Constant}
+use Rattle.par_single.specs.par_class.declared.file.MethodFile.{MethodFile}
+use Rattle.par_single.specs.par_class.declared.file.ClassFile.{ClassFile}
+use Rattle.par_single.specs.par_class.Spelling.{is_native}
+use Rattle.par_inputs.specs.par_values.declared.inputs.ChannelInput.{ChannelInput}
 use Rattle.par_single.specs.Descriptors.{Text}
 use Rattle.par_single.specs.Members.{text_at, own_name, is_static}
 

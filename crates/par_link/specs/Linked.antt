@@ -3,9 +3,9 @@ use Rattle.std.specs.Prelude.{◌≡◌, ℕ, zero, suc, ◌<◌, ◌≤◌, ◌
 use Rattle.std.specs.Prelude.{None, slice_get}
 use Rattle.std.specs.List.{All}
 use Rattle.std.specs.Option.{option_map_or, unwrap_or}
-use Rattle.par_lexer.specs.Names.{IsName}
-use Rattle.par_pool.specs.Entries.{entry_at}
-use Rattle.par_class.specs.declared.file.ClassFile.{ClassFile}
+use Rattle.par_index.specs.par_lexer.Names.{IsName}
+use Rattle.par_single.specs.par_pool.Entries.{entry_at}
+use Rattle.par_single.specs.par_class.declared.file.ClassFile.{ClassFile}
 use Rattle.par_single.specs.Members.{own_name}
 use Rattle.par_link.specs.declared.entry.Declared.{Declared}
 use Rattle.par_link.specs.declared.entry.Named.{Named}

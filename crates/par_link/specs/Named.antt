@@ -4,12 +4,12 @@ use Rattle.std.specs.Prelude.{ℕ, Bool, ◌&&◌, List, map, Option, Some, None
 use Rattle.std.specs.Option.{option_and_then}
 use Rattle.std.specs.List.{position}
 use Rattle.std.specs.Str.{bytes_eq}
-use Rattle.par_pool.specs.declared.constant.Constant.{Constant}
-use Rattle.par_pool.specs.declared.constant.Constant.TheVariants as constant
-use Rattle.par_class.specs.declared.file.ClassFile.{ClassFile}
+use Rattle.par_single.specs.par_pool.declared.constant.Constant.{Constant}
+use Rattle.par_single.specs.par_pool.declared.constant.Constant.TheVariants as constant
+use Rattle.par_single.specs.par_class.declared.file.ClassFile.{ClassFile}
 use Rattle.par_single.specs.Descriptors.{Text}
 use Rattle.par_single.specs.Members.{Member, text_at, member_at, own_names}
-use Rattle.par_single.specs.Single.{field_named, method_named}
+use Rattle.par_single.specs.Described.{field_named, method_named}
 use Rattle.par_link.specs.declared.entry.Builtin.{Builtin}
 use Rattle.par_link.specs.declared.entry.Declared.{Declared}
 use Rattle.par_link.specs.declared.entry.Named.{Named}

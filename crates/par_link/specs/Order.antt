@@ -1,7 +1,7 @@
 -- Which rule is the first that linked class files break.
 use Rattle.std.specs.Prelude.{ℕ, ◌+◌, ◌-◌, if◌then◌else◌, List, [], ◌∷◌, length, Option, Some, None}
 use Rattle.std.specs.Option.{option_map, option_or}
-use Rattle.par_class.specs.declared.file.ClassFile.{ClassFile}
+use Rattle.par_single.specs.par_class.declared.file.ClassFile.{ClassFile}
 use Rattle.par_link.specs.declared.sort.Sort.TheVariants.{Class, Field, Method}
 use Rattle.par_link.specs.declared.fault.Fault.{Fault}
 use Rattle.par_link.specs.Rules.{are_too_many, repeated_class, repeated_field, repeated_method}

@@ -6,9 +6,9 @@ use Rattle.std.specs.List.{flat_map, list_any, position}
 use Rattle.std.specs.Option.{option_and_then, unwrap_or}
 use Rattle.std.specs.Str.{bytes_eq}
 use Rattle.indexmap.specs.IndexMap.{get}
-use Rattle.par_pool.specs.declared.constant.Constant.{Constant}
-use Rattle.par_pool.specs.declared.constant.Constant.TheVariants.{Utf8}
-use Rattle.par_class.specs.declared.file.ClassFile.{ClassFile}
+use Rattle.par_single.specs.par_pool.declared.constant.Constant.{Constant}
+use Rattle.par_single.specs.par_pool.declared.constant.Constant.TheVariants.{Utf8}
+use Rattle.par_single.specs.par_class.declared.file.ClassFile.{ClassFile}
 use Rattle.par_index.specs.declared.firsts.Firsts.{Firsts}
 use Rattle.par_index.specs.Texts.{same_text}
 use Rattle.par_single.specs.Descriptors.{Text, method_signature}

@@ -4,11 +4,11 @@ use Rattle.std.specs.Prelude.{Option, Some, None}
 use Rattle.std.specs.Option.{option_map}
 use Rattle.std.specs.List.{position}
 use Rattle.std.specs.Str.{bytes_eq}
-use Rattle.par_pool.specs.declared.constant.Constant.{Constant}
-use Rattle.par_pool.specs.declared.constant.Constant.TheVariants as constant
-use Rattle.par_class.specs.declared.file.ClassFile.{ClassFile}
+use Rattle.par_single.specs.par_pool.declared.constant.Constant.{Constant}
+use Rattle.par_single.specs.par_pool.declared.constant.Constant.TheVariants as constant
+use Rattle.par_single.specs.par_class.declared.file.ClassFile.{ClassFile}
 use Rattle.par_single.specs.Members.{own_name, own_names}
-use Rattle.par_single.specs.Single.{is_taken, is_field_right, is_method_right}
+use Rattle.par_single.specs.Described.{is_taken, is_field_right, is_method_right}
 use Rattle.par_link.specs.declared.entry.Named.{Named}
 use Rattle.par_link.specs.declared.entry.Named.TheVariants.{Nothing}
 use Rattle.par_link.specs.declared.sort.Sort.{Sort}

@@ -2,11 +2,11 @@
 use Rattle.std.specs.Prelude.{ℕ, zero, suc, ◌-◌, Bool, true, false, nat_lt, if◌then◌else◌, List, []}
 use Rattle.std.specs.Prelude.{◌∷◌, length, Option, Some, None, is_none, is_some}
 use Rattle.std.specs.Option.{option_and_then, option_or}
-use Rattle.par_instr.specs.Spelling.{operand_bytes}
-use Rattle.par_instr.specs.declared.instr.InstrError.{InstrError}
-use Rattle.par_instr.specs.declared.instr.InstrError.TheVariants.{Unsupported, Cut}
-use Rattle.par_class.specs.declared.file.CodeAttr.{CodeAttr}
-use Rattle.par_class.specs.declared.file.MethodFile.{MethodFile}
+use Rattle.par_inputs.specs.par_instr.Spelling.{operand_bytes}
+use Rattle.par_inputs.specs.par_instr.declared.instr.InstrError.{InstrError}
+use Rattle.par_inputs.specs.par_instr.declared.instr.InstrError.TheVariants.{Unsupported, Cut}
+use Rattle.par_single.specs.par_class.declared.file.CodeAttr.{CodeAttr}
+use Rattle.par_single.specs.par_class.declared.file.MethodFile.{MethodFile}
 
 -- An opcode with so many operand bytes is passed where all of them are there.
 abbrev pub passed : List ℕ → (ℕ → List ℕ) → Option ℕ → List ℕ

@@ -4,7 +4,7 @@
 ghost use Rattle.std.specs.Prelude.{◌≡◌, ◌<◌, ◌≤◌, ◌^◌, ◌%◌, ◌++◌, ◌∷◌, ℕ, [], length, slice_get};
 ghost use Rattle.std.specs.Prelude.{Some, IfOk, OnOk, IsTrue};
 ghost use Rattle.std.specs.List.{All, Contains, list_any};
-ghost use Rattle.par_class.specs.declared.file.MethodFile.{MethodFile};
+ghost use Rattle.par_single.specs.par_class.declared.file.MethodFile.{MethodFile};
 ghost use Rattle.par_single.specs.Members.{text_at, own_name};
 ghost use Rattle.par_link.specs.Channels.{is_channel_in, is_channel, hash_of, bucket_at, bucket_of};
 ghost use Rattle.par_link.specs.Channels.{Keeps, AreIn, AreSpread};
@@ -12,11 +12,11 @@ ghost use Rattle.par_link.specs.Conditions.{IsSmall};
 ghost use Rattle.par_link.specs.Inputs.{is_input, is_input_of, has_input};
 
 use crate::entry::Declared;
-use par_class::file::{ClassFile, MethodFile};
-use par_class::is_native;
-use par_lexer::list::{List, NoMemory};
-use par_pool::constant::Constant;
+use par_index::par_lexer::list::{List, NoMemory};
 use par_single::member::{is_static, own_name, text_at};
+use par_single::par_class::file::{ClassFile, MethodFile};
+use par_single::par_class::is_native;
+use par_single::par_pool::constant::Constant;
 use std::alloc::Global;
 use std::hash::{FoldHasher, Hasher};
 

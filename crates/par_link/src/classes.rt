@@ -4,15 +4,15 @@ ghost use Rattle.std.specs.Prelude.{◌≡◌, ◌<◌, ◌^◌, length, positio
 ghost use Rattle.par_index.specs.Firsts.{AreFirst};
 ghost use Rattle.par_index.specs.Texts.{texts, same_text};
 ghost use Rattle.par_single.specs.Members.{own_name, own_names};
-ghost use Rattle.par_single.specs.Single.{is_taken};
+ghost use Rattle.par_single.specs.Described.{is_taken};
 ghost use Rattle.par_link.specs.Named.{class_place};
 ghost use Rattle.par_link.specs.Rules.{earlier, repeated_class};
 
 use crate::places::{first_repeated, narrow};
-use par_class::file::ClassFile;
 use par_index::Firsts;
-use par_lexer::list::NoMemory;
+use par_index::par_lexer::list::NoMemory;
 use par_single::member::{is_taken, own_name};
+use par_single::par_class::file::ClassFile;
 use std::alloc::Global;
 
 /// The classes of some files.

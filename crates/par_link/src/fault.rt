@@ -12,8 +12,8 @@ use crate::rules::{CUT, ILL_DESCRIBED, NO_CLASS, NO_FIELD, NO_METHOD, TWICE, UNL
 use crate::sort::Sort;
 use crate::tables::Tables;
 use crate::walk::{first_cut, first_unlisted};
-use par_class::file::ClassFile;
 use par_single::described::is_field_right;
+use par_single::par_class::file::ClassFile;
 
 /// A rule that a file breaks: its number, and the index of what breaks it.
 #[derive(Clone, Copy)]

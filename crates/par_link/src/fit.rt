@@ -5,7 +5,7 @@ ghost use Rattle.std.specs.Option.{option_map};
 ghost use Rattle.par_link.specs.Inputs.{has_input, first_misfit, told_place};
 
 use crate::linked::Linked;
-use par_values::inputs::{ChannelInput, Inputs};
+use par_inputs::par_values::inputs::{ChannelInput, Inputs};
 
 /// The greatest place that is told.
 const LAST_PLACE: usize = 4_294_967_295;

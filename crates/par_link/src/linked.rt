@@ -5,8 +5,8 @@ ghost use Rattle.par_link.specs.Linked.{AreLinked, name_at, named_at};
 
 use crate::channels::Channels;
 use crate::entry::Named;
-use par_class::file::ClassFile;
-use par_lexer::list::List;
+use par_index::par_lexer::list::List;
+use par_single::par_class::file::ClassFile;
 use std::marker::Model;
 
 /// Class files that break no rule of linking, in their order. Contracts see them as the list of
@@ -20,7 +20,7 @@ pub struct Linked {
 
 impl Model for Linked {
     ghost use Rattle.std.specs.Prelude.{List as Items};
-    ghost use Rattle.par_class.specs.declared.file.ClassFile.{ClassFile as File};
+    ghost use Rattle.par_single.specs.par_class.declared.file.ClassFile.{ClassFile as File};
     ghost use Rattle.par_link.specs.Linked.{IsLinked};
 
     ghost Value = { Items File };

@@ -3,8 +3,8 @@
 ghost use Rattle.std.specs.Prelude.{◌≡◌, ◌<◌, ◌^◌, ℕ, List as Items, length, map, None, IfOk, OnOk};
 ghost use Rattle.std.specs.Prelude.{IfErr};
 ghost use Rattle.std.specs.List.{All};
-ghost use Rattle.par_lexer.specs.Names.{IsName};
-ghost use Rattle.par_class.specs.Spelling.{Spells};
+ghost use Rattle.par_index.specs.par_lexer.Names.{IsName};
+ghost use Rattle.par_single.specs.par_class.Spelling.{Spells};
 ghost use Rattle.par_single.specs.Members.{own_name};
 ghost use Rattle.par_link.specs.Conditions.{IsSmall};
 ghost use Rattle.par_link.specs.Named.{names_of};
@@ -19,8 +19,8 @@ use crate::linked::Linked;
 use crate::members::Members;
 use crate::rules::{TOO_MANY, TWICE};
 use crate::tables::Tables;
-use par_class::file::ClassFile;
-use par_lexer::list::{List, NoMemory};
+use par_index::par_lexer::list::{List, NoMemory};
+use par_single::par_class::file::ClassFile;
 use std::alloc::Global;
 
 /// The most files that are linked.

@@ -2,7 +2,7 @@
 
 ghost use Rattle.std.specs.Prelude.{◌≡◌, ℕ, position, IfOk};
 ghost use Rattle.par_single.specs.Members.{text_at, class_name_at, member_at};
-ghost use Rattle.par_single.specs.Single.{is_method_right};
+ghost use Rattle.par_single.specs.Described.{is_method_right};
 ghost use Rattle.par_link.specs.Conditions.{IsSmall};
 ghost use Rattle.par_link.specs.Firsts.{first_repeated};
 ghost use Rattle.par_link.specs.Named.{is_same, fields_of, methods_of, class_named};
@@ -12,12 +12,12 @@ use crate::entry::Named;
 use crate::keys::{Key, Keys};
 use crate::places::narrow;
 use crate::texts::{TextIndex, Texts};
-use par_class::file::{ClassFile, MethodFile};
-use par_class::is_native;
-use par_lexer::list::NoMemory;
-use par_pool::constant::Constant;
-use par_pool::kind::entry;
+use par_index::par_lexer::list::NoMemory;
 use par_single::described::is_method_right;
+use par_single::par_class::file::{ClassFile, MethodFile};
+use par_single::par_class::is_native;
+use par_single::par_pool::constant::Constant;
+use par_single::par_pool::kind::entry;
 use std::alloc::Global;
 
 /// The fields and the methods of one of some files, and what its constants name.

@@ -1,7 +1,7 @@
 ghost use Rattle.std.specs.Prelude.{◌≡◌};
 ghost use Rattle.par_link.specs.Rules.{is_of};
 
-use par_pool::constant::Constant;
+use par_single::par_pool::constant::Constant;
 
 /// What a constant is to name.
 #[derive(Clone, Copy)]

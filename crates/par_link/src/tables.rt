@@ -17,10 +17,10 @@ use crate::entry::{Declared, Named};
 use crate::keys::Key;
 use crate::members::Members;
 use crate::texts::TextIndex;
-use par_class::file::ClassFile;
-use par_lexer::list::NoMemory;
-use par_pool::constant::Constant;
+use par_index::par_lexer::list::NoMemory;
 use par_single::member::naming_at;
+use par_single::par_class::file::ClassFile;
+use par_single::par_pool::constant::Constant;
 use std::alloc::Global;
 
 /// Some files, with their classes and the members of each.

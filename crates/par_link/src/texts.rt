@@ -16,12 +16,12 @@ use crate::builtin::builtin;
 use crate::classes::Classes;
 use crate::entry::Named;
 use crate::keys::Key;
-use par_class::file::ClassFile;
 use par_index::Firsts;
-use par_lexer::list::{List, NoMemory};
-use par_pool::constant::Constant;
+use par_index::par_lexer::list::{List, NoMemory};
 use par_single::descriptor::method_gives;
 use par_single::member::text_at;
+use par_single::par_class::file::ClassFile;
+use par_single::par_pool::constant::Constant;
 use std::alloc::Global;
 
 /// The texts of the constant pools of some files, each by the first place that has it, and the

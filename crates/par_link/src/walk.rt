@@ -4,8 +4,8 @@ ghost use Rattle.std.specs.Prelude.{◌≡◌, ◌≤◌, length, drop};
 ghost use Rattle.par_link.specs.Stops.{left, is_unlisted, is_unsupported, is_cut, stop_at, stop_in};
 ghost use Rattle.par_link.specs.Stops.{first_stop};
 
-use par_class::file::{CodeAttr, MethodFile};
-use par_instr::{InstrError, decode};
+use par_inputs::par_instr::{InstrError, decode};
+use par_single::par_class::file::{CodeAttr, MethodFile};
 
 /// The offset at which the walk through code stops, its length where it comes to the end.
 fn stop(code: &[u8]) -> usize

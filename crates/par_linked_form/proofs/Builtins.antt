@@ -4,13 +4,14 @@ use Rattle.std.proofs.Common.{ap}
 use Rattle.std.proofs.Common.{◌∙◌}
 use Rattle.std.specs.Str.{bytes_eq}
 use Rattle.par_lexer.specs.Names.{is_name}
-use Rattle.par_single.specs.Descriptors.{Text}
-use Rattle.par_link.specs.declared.entry.Builtin.{Builtin}
-use Rattle.par_link.specs.declared.entry.Builtin.TheVariants.{Object, Exception}
-use Rattle.par_link.specs.declared.entry.Builtin.TheVariants.{ArithmeticException}
-use Rattle.par_link.specs.declared.entry.Builtin.TheVariants.{NullPointerException, Locks}
-use Rattle.par_link.specs.Builtins.{builtin}
-use Rattle.par_link.proofs.Passing.{same_text}
+use Rattle.par_described.specs.par_single.Descriptors.{Text}
+use Rattle.par_loader.specs.par_link.declared.entry.Builtin.{Builtin}
+use Rattle.par_loader.specs.par_link.declared.entry.Builtin.TheVariants.{Object, Exception}
+use Rattle.par_loader.specs.par_link.declared.entry.Builtin.TheVariants.{ArithmeticException}
+use Rattle.par_loader.specs.par_link.declared.entry.Builtin.TheVariants.{NullPointerException}
+use Rattle.par_loader.specs.par_link.declared.entry.Builtin.TheVariants.{Locks}
+use Rattle.par_loader.specs.par_link.Builtins.{builtin}
+use Rattle.par_loader.proofs.par_link.Passing.{same_text}
 
 -- a text that is no name is not this name
 unlike : (name text : Text) → is_name name ≡ true → is_name text ≡ false

@@ -7,15 +7,16 @@ use Rattle.par_pool.specs.declared.constant.Constant.TheVariants as constant
 use Rattle.par_pool.specs.Entries.{entry_at, IsClassAt}
 use Rattle.par_class.specs.declared.file.Catch.{Catch}
 use Rattle.par_class.specs.declared.file.ClassFile.{ClassFile}
-use Rattle.par_single.specs.Descriptors.{Text}
-use Rattle.par_single.specs.Members.{text_at}
-use Rattle.par_code_form.specs.declared.item.Item.{Item}
-use Rattle.par_code_form.specs.declared.item.Item.TheVariants.{Label, Op, Const, Jump, Member}
-use Rattle.par_code_form.specs.declared.item.Item.TheVariants.{ClassOp, LockOp}
-use Rattle.par_code_form.specs.declared.labelled.Handler.{Handler}
-use Rattle.par_placed_code.specs.Named.{full_name, Names}
-use Rattle.par_placed_code.specs.Placed.{IsCatch, offset_of}
-use Rattle.par_link.proofs.Passing.{any-at}
+use Rattle.par_described.specs.par_single.Descriptors.{Text}
+use Rattle.par_described.specs.par_single.Members.{text_at}
+use Rattle.par_described.specs.par_code_form.declared.item.Item.{Item}
+use Rattle.par_described.specs.par_code_form.declared.item.Item.TheVariants.{Label, Op, Const, Jump}
+use Rattle.par_described.specs.par_code_form.declared.item.Item.TheVariants.{Member}
+use Rattle.par_described.specs.par_code_form.declared.item.Item.TheVariants.{ClassOp, LockOp}
+use Rattle.par_described.specs.par_code_form.declared.labelled.Handler.{Handler}
+use Rattle.par_class_form.specs.par_placed_code.Named.{full_name, Names}
+use Rattle.par_class_form.specs.par_placed_code.Placed.{IsCatch, offset_of}
+use Rattle.par_loader.proofs.par_link.Passing.{any-at}
 use Rattle.par_loader.specs.Mentions.{is_unread, names_unread}
 use Rattle.par_linked_form.specs.Parts.{IsClosedIn}
 use Rattle.par_linked_form.specs.Laws.{ItemIsRead, NamedClassesAreLoaded}

@@ -21,20 +21,25 @@ use Rattle.par_instr.specs.declared.instr.Instr.TheVariants.{IloadShort, Iload, 
 use Rattle.par_instr.specs.declared.instr.Instr.TheVariants.{IstoreShort, Istore, AstoreShort}
 use Rattle.par_instr.specs.declared.instr.Instr.TheVariants.{Astore, Ireturn, Areturn}
 use Rattle.par_instr.specs.declared.instr.Instr.TheVariants as instr
-use Rattle.par_code_form.specs.declared.item.Item.{Item}
-use Rattle.par_code_form.specs.declared.item.Item.TheVariants.{Label, Op, Jump, Member}
-use Rattle.par_code_form.specs.declared.labelled.Handler.{Handler}
-use Rattle.par_code_form.specs.Code.{Words, is_number, is_void, load, store, Shape, Calculates}
-use Rattle.par_code_form.specs.Code.{Compares, Sames, Decides, shape_of, shape_labels, shape_code}
-use Rattle.par_code_form.specs.Code.{between, expr_labels, may_labels, invoke, made}
-use Rattle.par_code_form.specs.Code.{expr_code, may_code, args_code, labels}
-use Rattle.par_code_form.specs.Code.{Loop, give_back, dropped, goes_on}
-use Rattle.par_code_form.specs.Code.{loop_test, code, else_code, all_code, catch_code, handlers}
-use Rattle.par_code_form.specs.Code.{else_handlers, all_handlers, catch_handlers, ending, no_loop}
-use Rattle.par_code_form.specs.Code.{body_code, body_handlers}
-use Rattle.par_code_form.specs.Opcodes.{IFEQ, PUTSTATIC, PUTFIELD}
-use Rattle.par_code_form.specs.Named.{of_class, of_field, of_channel, of_method}
-use Rattle.par_code_form.specs.Named.{descriptor, method_descriptor, words_of}
+use Rattle.par_described.specs.par_code_form.declared.item.Item.{Item}
+use Rattle.par_described.specs.par_code_form.declared.item.Item.TheVariants.{Label, Op, Jump}
+use Rattle.par_described.specs.par_code_form.declared.item.Item.TheVariants.{Member}
+use Rattle.par_described.specs.par_code_form.declared.labelled.Handler.{Handler}
+use Rattle.par_described.specs.par_code_form.Code.{Words, is_number, is_void, load, store, Shape}
+use Rattle.par_described.specs.par_code_form.Code.{Calculates}
+use Rattle.par_described.specs.par_code_form.Code.{Compares, Sames, Decides, shape_of, shape_labels}
+use Rattle.par_described.specs.par_code_form.Code.{shape_code}
+use Rattle.par_described.specs.par_code_form.Code.{between, expr_labels, may_labels, invoke, made}
+use Rattle.par_described.specs.par_code_form.Code.{expr_code, may_code, args_code, labels}
+use Rattle.par_described.specs.par_code_form.Code.{Loop, give_back, dropped, goes_on}
+use Rattle.par_described.specs.par_code_form.Code.{loop_test, code, else_code, all_code, catch_code}
+use Rattle.par_described.specs.par_code_form.Code.{handlers}
+use Rattle.par_described.specs.par_code_form.Code.{else_handlers, all_handlers, catch_handlers}
+use Rattle.par_described.specs.par_code_form.Code.{ending, no_loop}
+use Rattle.par_described.specs.par_code_form.Code.{body_code, body_handlers}
+use Rattle.par_described.specs.par_code_form.Opcodes.{IFEQ, PUTSTATIC, PUTFIELD}
+use Rattle.par_described.specs.par_code_form.Named.{of_class, of_field, of_channel, of_method}
+use Rattle.par_described.specs.par_code_form.Named.{descriptor, method_descriptor, words_of}
 use Rattle.par_linked_form.specs.Bodies.{IsField, IsChannel, IsMethod, ExpLinks, MayExpLinks}
 use Rattle.par_linked_form.specs.Bodies.{ExpsLink, StaLinks, ElseLinks, StasLink, CatchesLink}
 use Rattle.par_linked_form.specs.Linkable.{IsClassWord, IsFieldWord, IsCalleeWord, channelled}

@@ -12,18 +12,18 @@ use Rattle.par_pool.specs.declared.constant.Constant.TheVariants as constant
 use Rattle.par_pool.specs.Entries.{IsClassAt, IsNameTypeAt}
 use Rattle.par_pool.specs.Growth.{IsClassPart, IsNameTypePart, IsMemberPart}
 use Rattle.par_class.specs.declared.file.ClassFile.{ClassFile}
-use Rattle.par_single.specs.Descriptors.{Text}
-use Rattle.par_single.specs.Members as single
-use Rattle.par_single.specs.Members.{text_at, member_at}
-use Rattle.par_code_form.specs.declared.item.Item.{Item}
-use Rattle.par_code_form.specs.declared.item.Item.TheVariants as item
-use Rattle.par_code_form.specs.declared.labelled.Handler.{Handler}
-use Rattle.par_code_form.specs.declared.labelled.Labelled.{Labelled}
-use Rattle.par_code_form.specs.Opcodes.{INVOKEVIRTUAL}
-use Rattle.par_placed_code.specs.Named.{full_name, IsPartOf}
-use Rattle.par_placed_code.specs.Named.{IsConstantOf}
-use Rattle.par_link.specs.Builtins.{builtin_field, builtin_method}
-use Rattle.par_link.specs.Named.{fields_of, methods_of}
+use Rattle.par_described.specs.par_single.Descriptors.{Text}
+use Rattle.par_described.specs.par_single.Members as single
+use Rattle.par_described.specs.par_single.Members.{text_at, member_at}
+use Rattle.par_described.specs.par_code_form.declared.item.Item.{Item}
+use Rattle.par_described.specs.par_code_form.declared.item.Item.TheVariants as item
+use Rattle.par_described.specs.par_code_form.declared.labelled.Handler.{Handler}
+use Rattle.par_described.specs.par_code_form.declared.labelled.Labelled.{Labelled}
+use Rattle.par_described.specs.par_code_form.Opcodes.{INVOKEVIRTUAL}
+use Rattle.par_class_form.specs.par_placed_code.Named.{full_name, IsPartOf}
+use Rattle.par_class_form.specs.par_placed_code.Named.{IsConstantOf}
+use Rattle.par_loader.specs.par_link.Builtins.{builtin_field, builtin_method}
+use Rattle.par_loader.specs.par_link.Named.{fields_of, methods_of}
 use Rattle.par_loader.specs.Mentions.{is_unread}
 use Rattle.par_class_form.specs.Constants.{frame_classes, IsOfCode, named, framed, IsOfMayCode}
 use Rattle.par_class_form.specs.Constants.{IsConstant, code_text, frames_text, this_class}

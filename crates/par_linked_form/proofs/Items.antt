@@ -21,33 +21,35 @@ use Rattle.par_lexer.specs.Names.{IsName}
 use Rattle.par_typed.specs.declared.ty.Ty.{Ty}
 use Rattle.par_typed.specs.declared.ty.Ty.TheVariants as ty
 use Rattle.par_class.specs.declared.file.ClassFile.{ClassFile}
-use Rattle.par_single.specs.Descriptors.{Text}
-use Rattle.par_single.specs.Members as single
-use Rattle.par_single.specs.Members.{own_name}
-use Rattle.par_runs.specs.Names.{body_of}
-use Rattle.par_code_form.specs.declared.item.Item.{Item}
-use Rattle.par_code_form.specs.declared.item.Item.TheVariants as item
-use Rattle.par_code_form.specs.declared.labelled.Labelled.{Labelled}
-use Rattle.par_code_form.specs.Method.{labelled}
-use Rattle.par_code_form.specs.Named.{class_word, descriptor, method_descriptor, words_of}
-use Rattle.par_code_form.specs.Opcodes.{INVOKEVIRTUAL}
-use Rattle.par_placed_code.specs.Named.{full_name, LOCKS, LOCK_TYPE, lock_field}
-use Rattle.par_link.specs.declared.entry.Builtin.{Builtin}
-use Rattle.par_link.specs.declared.entry.Builtin.TheVariants.{Object, Exception}
-use Rattle.par_link.specs.declared.entry.Builtin.TheVariants.{ArithmeticException}
-use Rattle.par_link.specs.declared.entry.Builtin.TheVariants.{NullPointerException, Locks}
-use Rattle.par_link.specs.declared.entry.Named.{Named}
-use Rattle.par_link.specs.Builtins.{builtin, builtin_field, builtin_method}
-use Rattle.par_link.specs.Named.{is_same, fields_of, methods_of}
-use Rattle.par_link.specs.Rules.{is_nothing}
-use Rattle.par_link.proofs.Passing.{any-at}
+use Rattle.par_described.specs.par_single.Descriptors.{Text}
+use Rattle.par_described.specs.par_single.Members as single
+use Rattle.par_described.specs.par_single.Members.{own_name}
+use Rattle.par_class_form.specs.par_runs.Names.{body_of}
+use Rattle.par_described.specs.par_code_form.declared.item.Item.{Item}
+use Rattle.par_described.specs.par_code_form.declared.item.Item.TheVariants as item
+use Rattle.par_described.specs.par_code_form.declared.labelled.Labelled.{Labelled}
+use Rattle.par_described.specs.par_code_form.Method.{labelled}
+use Rattle.par_described.specs.par_code_form.Named.{class_word, descriptor, method_descriptor}
+use Rattle.par_described.specs.par_code_form.Named.{words_of}
+use Rattle.par_described.specs.par_code_form.Opcodes.{INVOKEVIRTUAL}
+use Rattle.par_class_form.specs.par_placed_code.Named.{full_name, LOCKS, LOCK_TYPE, lock_field}
+use Rattle.par_loader.specs.par_link.declared.entry.Builtin.{Builtin}
+use Rattle.par_loader.specs.par_link.declared.entry.Builtin.TheVariants.{Object, Exception}
+use Rattle.par_loader.specs.par_link.declared.entry.Builtin.TheVariants.{ArithmeticException}
+use Rattle.par_loader.specs.par_link.declared.entry.Builtin.TheVariants.{NullPointerException}
+use Rattle.par_loader.specs.par_link.declared.entry.Builtin.TheVariants.{Locks}
+use Rattle.par_loader.specs.par_link.declared.entry.Named.{Named}
+use Rattle.par_loader.specs.par_link.Builtins.{builtin, builtin_field, builtin_method}
+use Rattle.par_loader.specs.par_link.Named.{is_same, fields_of, methods_of}
+use Rattle.par_loader.specs.par_link.Rules.{is_nothing}
+use Rattle.par_loader.proofs.par_link.Passing.{any-at}
 use Rattle.par_loader.specs.Mentions.{is_unread}
 use Rattle.par_class_form.specs.Constants.{frame_classes}
 use Rattle.par_class_form.specs.Files.{FIRST_DECLARED, declared_classes}
 use Rattle.par_class_form.specs.Members.{Member, above, initializer_of, initializer, channel}
 use Rattle.par_class_form.specs.Members.{method}
 use Rattle.par_class_form.specs.Members.{methods_from, members}
-use Rattle.par_link.proofs.Apart.{same-itself}
+use Rattle.par_loader.proofs.par_link.Apart.{same-itself}
 use Rattle.par_linked_form.specs.Parts.{AreFilesOf}
 use Rattle.par_linked_form.specs.Linkable.{IsClassWord, IsFieldWord, IsChannelWord, IsMethodWord}
 use Rattle.par_linked_form.specs.Linkable.{IsInitializerWord, IsCalleeWord, made, channelled}

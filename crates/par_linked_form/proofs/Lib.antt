@@ -17,3 +17,4 @@ pub mod Whole
 pub mod Coding
 pub mod Frames
 pub mod ClassesRead
+pub use Rattle.par_loader.proofs.par_link as par_link

@@ -8,8 +8,8 @@ use Rattle.std.specs.Cmp.{IsEquivalence}
 use Rattle.std.proofs.lemmas.Bool.{or_from}
 use Rattle.std.proofs.lemmas.Option.{slice_get-map, slice_get_within, get_or_from_slice_get}
 use Rattle.par_values.specs.Areas.{Name}
-use Rattle.par_link.proofs.Apart.{same-itself}
-use Rattle.par_link.proofs.Passing.{same_text, eq_turned}
+use Rattle.par_loader.proofs.par_link.Apart.{same-itself}
+use Rattle.par_loader.proofs.par_link.Passing.{same_text, eq_turned}
 
 pub bytes_equiv : IsEquivalence bytes_eq
 bytes_equiv = record {

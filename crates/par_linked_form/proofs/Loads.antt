@@ -14,11 +14,11 @@ use Rattle.par_pool.specs.declared.constant.Constant.{Constant}
 use Rattle.par_pool.specs.declared.constant.Constant.TheVariants as constant
 use Rattle.par_class.specs.declared.file.ClassFile.{ClassFile}
 use Rattle.par_class.proofs.Files.{file_only}
-use Rattle.par_single.specs.Descriptors.{Text}
-use Rattle.par_single.specs.Members.{own_name, own_names, class_name_of, text_at}
-use Rattle.par_single.proofs.Owned.{FoundAt, found_at}
-use Rattle.par_link.specs.Builtins.{builtin}
-use Rattle.par_link.proofs.Faultless.{or-none, map-none}
+use Rattle.par_described.specs.par_single.Descriptors.{Text}
+use Rattle.par_described.specs.par_single.Members.{own_name, own_names, class_name_of, text_at}
+use Rattle.par_described.proofs.par_single.Found.{FoundAt, found_at}
+use Rattle.par_loader.specs.par_link.Builtins.{builtin}
+use Rattle.par_loader.proofs.par_link.Faultless.{or-none, map-none}
 use Rattle.par_loader.specs.Reads.{Classes}
 use Rattle.par_loader.specs.Mentions.{Naming, is_unread, names_unread, naming_in, first_of}
 use Rattle.par_loader.specs.Mentions.{first_among, next_named}
@@ -30,7 +30,7 @@ use Rattle.par_loader.specs.Judged.{begins, linked, judged, has_main}
 use Rattle.par_loader.proofs.Finding.{short_is, taken_file}
 use Rattle.par_loader.proofs.Linking.{begins_so}
 use Rattle.par_loader.proofs.Unread.{names_more}
-use Rattle.par_link.proofs.Apart.{same-itself}
+use Rattle.par_loader.proofs.par_link.Apart.{same-itself}
 use Rattle.par_linked_form.specs.Parts.{ArePart, IsFoundIn, AreFound, IsClosedIn}
 use Rattle.par_linked_form.proofs.Lists.{bytes_equiv}
 use Rattle.par_linked_form.proofs.Named.{IsFirst, first-file, read-class}

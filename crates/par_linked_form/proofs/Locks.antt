@@ -3,10 +3,10 @@ use Rattle.std.proofs.Common.{◌≡◌, ℕ, zero, suc, ◌<◌, Bool, true, fa
 use Rattle.std.proofs.Common.{None, refl, ap, ◌∙◌, arith}
 use Rattle.std.proofs.lemmas.Bool.{and_parts, ltb-true, ltb-false}
 use Rattle.std.specs.Fmt.{digits}
-use Rattle.par_link.specs.declared.entry.Builtin.TheVariants.{Locks}
-use Rattle.par_link.specs.Builtins.{lock_number, builtin_field, lock_or_nothing}
-use Rattle.par_link.specs.Rules.{is_nothing}
-use Rattle.par_placed_code.specs.Named.{LOCKS, LOCK_TYPE, lock_field}
+use Rattle.par_loader.specs.par_link.declared.entry.Builtin.TheVariants.{Locks}
+use Rattle.par_loader.specs.par_link.Builtins.{lock_number, builtin_field, lock_or_nothing}
+use Rattle.par_loader.specs.par_link.Rules.{is_nothing}
+use Rattle.par_class_form.specs.par_placed_code.Named.{LOCKS, LOCK_TYPE, lock_field}
 
 -- whether the field of a lock is one that there is
 abbrev is_numbered : Option ℕ → Bool

@@ -23,25 +23,29 @@ use Rattle.par_class.specs.declared.file.ClassFile.{ClassFile}
 use Rattle.par_class.specs.declared.file.FieldFile.{FieldFile}
 use Rattle.par_class.specs.declared.file.MethodFile.{MethodFile}
 use Rattle.par_class.specs.Spelling.{is_native}
-use Rattle.par_single.specs.Descriptors.{Text, kind_at, kinds_in, field_kind, method_signature}
-use Rattle.par_single.specs.Members.{text_at, is_static}
-use Rattle.par_single.specs.Members as single
-use Rattle.par_single.specs.Single.{differ, field_named, method_named, is_field_right}
-use Rattle.par_single.specs.Single.{is_of_channel, is_channel_right, is_method_right}
-use Rattle.par_runs.specs.Names.{body_of}
-use Rattle.par_code_form.specs.Named.{class_word, descriptor, method_descriptor}
+use Rattle.par_described.specs.par_single.Descriptors.{Text, kind_at, kinds_in, field_kind}
+use Rattle.par_described.specs.par_single.Descriptors.{method_signature}
+use Rattle.par_described.specs.par_single.Members.{text_at, is_static}
+use Rattle.par_described.specs.par_single.Members as single
+use Rattle.par_described.specs.par_single.Described.{differ, field_named, method_named}
+use Rattle.par_described.specs.par_single.Described.{is_field_right}
+use Rattle.par_described.specs.par_single.Described.{is_of_channel, is_channel_right}
+use Rattle.par_described.specs.par_single.Described.{is_method_right}
+use Rattle.par_class_form.specs.par_runs.Names.{body_of}
+use Rattle.par_described.specs.par_code_form.Named.{class_word, descriptor, method_descriptor}
 use Rattle.par_described.specs.Laws.{HasValueTypes}
 use Rattle.par_described.specs.Laws as said
 use Rattle.par_described.proofs.Described.{fields_are_described, methods_are_described}
-use Rattle.par_link.specs.Firsts.{first_repeated}
-use Rattle.par_link.specs.Named.{is_same, fields_of, methods_of}
-use Rattle.par_link.specs.Rules.{repeated_field, repeated_method, wrong_field, wrong_method}
-use Rattle.par_link.proofs.Passing.{position-none}
-use Rattle.par_link.proofs.Unrepeated.{differ-none}
+use Rattle.par_loader.specs.par_link.Firsts.{first_repeated}
+use Rattle.par_loader.specs.par_link.Named.{is_same, fields_of, methods_of}
+use Rattle.par_loader.specs.par_link.Rules.{repeated_field, repeated_method, wrong_field}
+use Rattle.par_loader.specs.par_link.Rules.{wrong_method}
+use Rattle.par_loader.proofs.par_link.Passing.{position-none}
+use Rattle.par_loader.proofs.par_link.Unrepeated.{differ-none}
 use Rattle.par_class_form.specs.Members.{Member, member_access, initializer, channel, method}
 use Rattle.par_class_form.specs.Members.{methods_from, members}
 use Rattle.par_class_form.specs.Files.{IsFieldOf, IsMethodOf, IsFileOf}
-use Rattle.par_link.proofs.Passing.{same_text}
+use Rattle.par_loader.proofs.par_link.Passing.{same_text}
 use Rattle.par_linked_form.specs.Linkable.{FieldLinks, MethodLinks, ClassLinks, IsValueType}
 use Rattle.par_linked_form.proofs.Lists.{bytes_equiv}
 use Rattle.par_linked_form.proofs.Zips.{zip-made, zip-none, all-append, all-made, made-again}

@@ -13,22 +13,25 @@ use Rattle.par_pool.specs.declared.constant.Constant.{Constant}
 use Rattle.par_pool.specs.declared.constant.Constant.TheVariants as constant
 use Rattle.par_pool.specs.Entries.{entry_at}
 use Rattle.par_class.specs.declared.file.ClassFile.{ClassFile}
-use Rattle.par_single.specs.Descriptors.{Text}
-use Rattle.par_single.specs.Members.{Member, text_at, own_name, own_names, member_at, class_name_of}
-use Rattle.par_single.specs.Members.{class_name_at, member_of}
-use Rattle.par_single.proofs.Owned.{found_at}
-use Rattle.par_link.specs.declared.entry.Builtin.{Builtin}
-use Rattle.par_link.specs.declared.entry.Declared.{Declared}
-use Rattle.par_link.specs.declared.entry.Named.{Named}
-use Rattle.par_link.specs.declared.entry.Named.TheVariants as named
-use Rattle.par_link.specs.Builtins.{builtin, builtin_field, builtin_method}
-use Rattle.par_link.specs.Named.{is_same, fields_of, methods_of, class_place, class_of, class_named}
-use Rattle.par_link.specs.Named.{listed, declared, place_in, field_of, method_of, named_by}
-use Rattle.par_link.specs.Named.{field_declared, method_declared}
-use Rattle.par_link.specs.Rules.{is_nothing}
-use Rattle.par_link.proofs.Passing.{same_text}
+use Rattle.par_described.specs.par_single.Descriptors.{Text}
+use Rattle.par_described.specs.par_single.Members.{Member, text_at, own_name, own_names, member_at}
+use Rattle.par_described.specs.par_single.Members.{class_name_of}
+use Rattle.par_described.specs.par_single.Members.{class_name_at, member_of}
+use Rattle.par_described.proofs.par_single.Found.{found_at}
+use Rattle.par_loader.specs.par_link.declared.entry.Builtin.{Builtin}
+use Rattle.par_loader.specs.par_link.declared.entry.Declared.{Declared}
+use Rattle.par_loader.specs.par_link.declared.entry.Named.{Named}
+use Rattle.par_loader.specs.par_link.declared.entry.Named.TheVariants as named
+use Rattle.par_loader.specs.par_link.Builtins.{builtin, builtin_field, builtin_method}
+use Rattle.par_loader.specs.par_link.Named.{is_same, fields_of, methods_of, class_place, class_of}
+use Rattle.par_loader.specs.par_link.Named.{class_named}
+use Rattle.par_loader.specs.par_link.Named.{listed, declared, place_in, field_of, method_of}
+use Rattle.par_loader.specs.par_link.Named.{named_by}
+use Rattle.par_loader.specs.par_link.Named.{field_declared, method_declared}
+use Rattle.par_loader.specs.par_link.Rules.{is_nothing}
+use Rattle.par_loader.proofs.par_link.Passing.{same_text}
 use Rattle.par_linked_form.proofs.Builtins.{unbuilt}
-use Rattle.par_link.proofs.Passing.{position-none}
+use Rattle.par_loader.proofs.par_link.Passing.{position-none}
 use Rattle.par_loader.specs.Mentions.{is_unread, names_unread}
 use Rattle.par_linked_form.specs.Parts.{ArePart}
 use Rattle.par_linked_form.proofs.Lists.{IsMadeOf, made-of}

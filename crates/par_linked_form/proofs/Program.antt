@@ -11,15 +11,15 @@ use Rattle.par_typed.specs.declared.table.Table.{Table}
 use Rattle.par_typed.specs.Plain.{Body}
 use Rattle.par_bodies.specs.Members.{IsClass}
 use Rattle.par_class.specs.declared.file.ClassFile.{ClassFile}
-use Rattle.par_single.specs.Descriptors.{Text}
-use Rattle.par_single.specs.Members.{own_name, own_names}
-use Rattle.par_code_form.specs.Named.{of_class, class_word}
-use Rattle.par_placed_code.specs.Named.{is_builtin, full_name}
-use Rattle.par_link.specs.Builtins.{builtin}
-use Rattle.par_link.proofs.Passing.{any-at}
+use Rattle.par_described.specs.par_single.Descriptors.{Text}
+use Rattle.par_described.specs.par_single.Members.{own_name, own_names}
+use Rattle.par_described.specs.par_code_form.Named.{of_class, class_word}
+use Rattle.par_class_form.specs.par_placed_code.Named.{is_builtin, full_name}
+use Rattle.par_loader.specs.par_link.Builtins.{builtin}
+use Rattle.par_loader.proofs.par_link.Passing.{any-at}
 use Rattle.par_loader.specs.Mentions.{is_unread}
 use Rattle.par_class_form.specs.Files.{FIRST_DECLARED, declared_classes, IsFileOf}
-use Rattle.par_link.proofs.Apart.{same-itself}
+use Rattle.par_loader.proofs.par_link.Apart.{same-itself}
 use Rattle.par_linked_form.specs.Parts.{AreFilesOf}
 use Rattle.par_linked_form.specs.Linkable.{BuiltInsLink, ClassLinks, IsLinkable}
 use Rattle.par_linked_form.proofs.Lists.{bytes_equiv, each-of, made-at, IsItem, item-at}

@@ -8,15 +8,16 @@ use Rattle.par_pool.specs.declared.constant.Constant.{Constant}
 use Rattle.par_pool.specs.declared.constant.Constant.TheVariants as constant
 use Rattle.par_pool.specs.Entries.{entry_at}
 use Rattle.par_class.specs.declared.file.ClassFile.{ClassFile}
-use Rattle.par_single.specs.Members.{Member, text_at, own_name, own_names, member_at}
-use Rattle.par_single.specs.Single.{is_taken}
-use Rattle.par_link.specs.declared.entry.Builtin.{Builtin}
-use Rattle.par_link.specs.declared.entry.Named.{Named}
-use Rattle.par_link.specs.Builtins.{builtin, builtin_field, builtin_method}
-use Rattle.par_link.specs.Named.{is_same, fields_of, methods_of}
-use Rattle.par_link.specs.Rules.{is_nothing, repeated_field, repeated_method, wrong_field}
-use Rattle.par_link.specs.Rules.{wrong_method}
-use Rattle.par_link.specs.Stops.{first_stop}
+use Rattle.par_described.specs.par_single.Members.{Member, text_at, own_name, own_names, member_at}
+use Rattle.par_described.specs.par_single.Described.{is_taken}
+use Rattle.par_loader.specs.par_link.declared.entry.Builtin.{Builtin}
+use Rattle.par_loader.specs.par_link.declared.entry.Named.{Named}
+use Rattle.par_loader.specs.par_link.Builtins.{builtin, builtin_field, builtin_method}
+use Rattle.par_loader.specs.par_link.Named.{is_same, fields_of, methods_of}
+use Rattle.par_loader.specs.par_link.Rules.{is_nothing, repeated_field, repeated_method}
+use Rattle.par_loader.specs.par_link.Rules.{wrong_field}
+use Rattle.par_loader.specs.par_link.Rules.{wrong_method}
+use Rattle.par_loader.specs.par_link.Stops.{first_stop}
 use Rattle.par_loader.specs.Mentions.{is_unread}
 
 -- a member of the class of one of the files

@@ -2,9 +2,9 @@
 use Rattle.std.proofs.Common.{◌≡◌, ℕ, List, ap, ◌∙◌}
 use Rattle.par_pool.specs.declared.constant.Constant.{Constant}
 use Rattle.par_pool.specs.Entries.{IsUtf8At, IsClassAt, IsNameTypeAt}
-use Rattle.par_single.specs.Descriptors.{Text}
-use Rattle.par_single.specs.Members.{text_of, text_at, class_name_of, class_name_at}
-use Rattle.par_single.specs.Members.{member_of, member_at}
+use Rattle.par_described.specs.par_single.Descriptors.{Text}
+use Rattle.par_described.specs.par_single.Members.{text_of, text_at, class_name_of, class_name_at}
+use Rattle.par_described.specs.par_single.Members.{member_of, member_at}
 
 module _ (pool : List Constant) where
   pub text-is : (index : ℕ) (text : Text) → IsUtf8At pool index text → text_at pool index ≡ text

@@ -12,18 +12,20 @@ use Rattle.std.specs.Str.{bytes_eq}
 use Rattle.par_pool.specs.declared.constant.Constant.{Constant}
 use Rattle.par_pool.specs.declared.constant.Constant.TheVariants as constant
 use Rattle.par_class.specs.declared.file.ClassFile.{ClassFile}
-use Rattle.par_single.specs.Descriptors.{Text}
-use Rattle.par_single.specs.Members.{own_name, own_names}
-use Rattle.par_single.specs.Single.{is_taken, differ}
-use Rattle.par_link.specs.Firsts.{first_repeated}
-use Rattle.par_link.specs.Order.{at, in_class, member_fault, description_fault, constant_fault}
-use Rattle.par_link.specs.Order.{code_fault, file_fault, first_in, list_fault, first_broken}
-use Rattle.par_link.specs.Rules.{is_of, are_too_many, repeated_class, repeated_field}
-use Rattle.par_link.specs.Rules.{repeated_method}
-use Rattle.par_link.specs.Rules.{wrong_field, wrong_method, unlisted, cut, earlier}
-use Rattle.par_link.specs.Stops.{is_unlisted, is_cut}
-use Rattle.par_link.proofs.Passing.{or-none, any-at, position-none}
-use Rattle.par_link.proofs.Unrepeated.{differ-none}
+use Rattle.par_described.specs.par_single.Descriptors.{Text}
+use Rattle.par_described.specs.par_single.Members.{own_name, own_names}
+use Rattle.par_described.specs.par_single.Described.{is_taken, differ}
+use Rattle.par_loader.specs.par_link.Firsts.{first_repeated}
+use Rattle.par_loader.specs.par_link.Order.{at, in_class, member_fault, description_fault}
+use Rattle.par_loader.specs.par_link.Order.{constant_fault}
+use Rattle.par_loader.specs.par_link.Order.{code_fault, file_fault, first_in, list_fault}
+use Rattle.par_loader.specs.par_link.Order.{first_broken}
+use Rattle.par_loader.specs.par_link.Rules.{is_of, are_too_many, repeated_class, repeated_field}
+use Rattle.par_loader.specs.par_link.Rules.{repeated_method}
+use Rattle.par_loader.specs.par_link.Rules.{wrong_field, wrong_method, unlisted, cut, earlier}
+use Rattle.par_loader.specs.par_link.Stops.{is_unlisted, is_cut}
+use Rattle.par_loader.proofs.par_link.Passing.{or-none, any-at, position-none}
+use Rattle.par_loader.proofs.par_link.Unrepeated.{differ-none}
 use Rattle.par_linked_form.specs.Parts.{ArePart}
 use Rattle.par_linked_form.proofs.Lists.{bytes_equiv, any-none, Passes, passing}
 use Rattle.par_linked_form.proofs.Lists.{IsMadeOf, made-of, made-at}

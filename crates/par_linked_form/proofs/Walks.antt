@@ -11,9 +11,10 @@ use Rattle.par_instr.proofs.Spellings.{each_is_listed}
 use Rattle.par_pool.specs.declared.constant.Constant.{Constant}
 use Rattle.par_class.specs.declared.file.CodeAttr.{CodeAttr}
 use Rattle.par_class.specs.declared.file.MethodFile.{MethodFile}
-use Rattle.par_code_form.specs.declared.labelled.Labelled.{Labelled}
-use Rattle.par_placed_code.specs.Placed.{bytes_of, IsWritable, offset_of, instructions}
-use Rattle.par_link.specs.Stops.{passed, left_after, left, stop_at, first_stop}
+use Rattle.par_described.specs.par_code_form.declared.labelled.Labelled.{Labelled}
+use Rattle.par_class_form.specs.par_placed_code.Placed.{bytes_of, IsWritable, offset_of}
+use Rattle.par_class_form.specs.par_placed_code.Placed.{instructions}
+use Rattle.par_loader.specs.par_link.Stops.{passed, left_after, left, stop_at, first_stop}
 use Rattle.par_class_form.specs.Members.{Member}
 use Rattle.par_class_form.specs.Files.{IsCode, IsMethodOf}
 

@@ -10,10 +10,10 @@ use Rattle.par_typed.specs.Plain.{Body}
 use Rattle.par_pool.specs.declared.constant.Constant.{Constant}
 use Rattle.par_pool.specs.declared.constant.Constant.TheVariants as constant
 use Rattle.par_class.specs.declared.file.ClassFile.{ClassFile}
-use Rattle.par_placed_code.specs.Named.{full_name}
-use Rattle.par_single.specs.Single.{is_taken}
-use Rattle.par_link.specs.Linked.{AreLinked}
-use Rattle.par_link.proofs.Smallness.{spelled-small}
+use Rattle.par_class_form.specs.par_placed_code.Named.{full_name}
+use Rattle.par_described.specs.par_single.Described.{is_taken}
+use Rattle.par_loader.specs.par_link.Linked.{AreLinked}
+use Rattle.par_loader.proofs.par_link.Smallness.{spelled-small}
 use Rattle.par_class_form.specs.Constants.{IsConstant}
 use Rattle.par_class_form.specs.Files.{FIRST_DECLARED, declared_classes}
 use Rattle.par_class_form.specs.Members.{members}

@@ -4,18 +4,19 @@ use Rattle.par_typed.specs.declared.table.Table.{Table}
 use Rattle.par_typed.specs.declared.table.MethodInfo.{MethodInfo}
 use Rattle.par_typed.specs.Plain.{TSta, Body}
 use Rattle.par_class.specs.declared.file.ClassFile.{ClassFile}
-use Rattle.par_code_form.specs.Method.{labelled}
-use Rattle.par_code_form.specs.Named.{class_word, words_of}
-use Rattle.par_code_form.specs.declared.item.Item.{Item}
-use Rattle.par_code_form.specs.declared.item.Item.TheVariants.{Label, Op, Const, Jump, Member}
-use Rattle.par_code_form.specs.declared.item.Item.TheVariants.{ClassOp, LockOp}
-use Rattle.par_code_form.specs.declared.labelled.Labelled.{Labelled}
+use Rattle.par_described.specs.par_code_form.Method.{labelled}
+use Rattle.par_described.specs.par_code_form.Named.{class_word, words_of}
+use Rattle.par_described.specs.par_code_form.declared.item.Item.{Item}
+use Rattle.par_described.specs.par_code_form.declared.item.Item.TheVariants.{Label, Op, Const, Jump}
+use Rattle.par_described.specs.par_code_form.declared.item.Item.TheVariants.{Member}
+use Rattle.par_described.specs.par_code_form.declared.item.Item.TheVariants.{ClassOp, LockOp}
+use Rattle.par_described.specs.par_code_form.declared.labelled.Labelled.{Labelled}
 use Rattle.par_class.specs.declared.file.CodeAttr.{CodeAttr}
-use Rattle.par_placed_code.specs.Named.{full_name}
-use Rattle.par_placed_code.specs.Placed.{IsPlaced}
+use Rattle.par_class_form.specs.par_placed_code.Named.{full_name}
+use Rattle.par_class_form.specs.par_placed_code.Placed.{IsPlaced}
 use Rattle.std.specs.List.{AllByRecursion}
 use Rattle.par_loader.specs.Mentions.{is_unread}
-use Rattle.par_link.specs.Order.{first_broken}
+use Rattle.par_loader.specs.par_link.Order.{first_broken}
 use Rattle.par_loader.specs.Reads.{Classes}
 use Rattle.par_loader.specs.Loaded.{whole}
 use Rattle.par_loader.specs.Judged.{judged}

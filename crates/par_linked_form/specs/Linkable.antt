@@ -15,14 +15,16 @@ use Rattle.par_typed.specs.Plain.{TSta, Body}
 use Rattle.par_bodies.specs.Members.{IsClass, field_at, channel_at, method_at}
 use Rattle.par_declared.specs.Names.{AreNamesApart}
 use Rattle.par_values.specs.Areas.{Name}
-use Rattle.par_runs.specs.Names.{body_of}
-use Rattle.par_code_form.specs.declared.item.Item.{Item}
-use Rattle.par_code_form.specs.declared.item.Item.TheVariants.{Label, Op, Const, Jump, Member}
-use Rattle.par_code_form.specs.declared.item.Item.TheVariants.{ClassOp, LockOp}
-use Rattle.par_code_form.specs.declared.labelled.Labelled.{Labelled}
-use Rattle.par_code_form.specs.Method.{labelled}
-use Rattle.par_code_form.specs.Named.{class_word, descriptor, method_descriptor, words_of}
-use Rattle.par_code_form.specs.Opcodes.{INVOKEVIRTUAL}
+use Rattle.par_class_form.specs.par_runs.Names.{body_of}
+use Rattle.par_described.specs.par_code_form.declared.item.Item.{Item}
+use Rattle.par_described.specs.par_code_form.declared.item.Item.TheVariants.{Label, Op, Const, Jump}
+use Rattle.par_described.specs.par_code_form.declared.item.Item.TheVariants.{Member}
+use Rattle.par_described.specs.par_code_form.declared.item.Item.TheVariants.{ClassOp, LockOp}
+use Rattle.par_described.specs.par_code_form.declared.labelled.Labelled.{Labelled}
+use Rattle.par_described.specs.par_code_form.Method.{labelled}
+use Rattle.par_described.specs.par_code_form.Named.{class_word, descriptor, method_descriptor}
+use Rattle.par_described.specs.par_code_form.Named.{words_of}
+use Rattle.par_described.specs.par_code_form.Opcodes.{INVOKEVIRTUAL}
 use Rattle.par_class_form.specs.Constants.{frame_classes}
 use Rattle.par_class_form.specs.Files.{FIRST_DECLARED, declared_classes}
 

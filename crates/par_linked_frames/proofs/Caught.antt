@@ -9,22 +9,25 @@ use Rattle.par_pool.specs.declared.constant.Constant.TheVariants as constant
 use Rattle.par_pool.specs.Entries.{entry_at}
 use Rattle.par_class.specs.declared.file.ClassFile.{ClassFile}
 use Rattle.par_values.specs.Areas.{Name, class_named, name_or_none}
-use Rattle.par_link.specs.declared.entry.Builtin.{Builtin}
-use Rattle.par_link.specs.declared.entry.Builtin.TheVariants as builtin
-use Rattle.par_link.specs.declared.entry.Named.{Named}
-use Rattle.par_link.specs.declared.entry.Named.TheVariants as named
-use Rattle.par_link.specs.Builtins as builtins
-use Rattle.par_link.specs.Linked.{AreLinked, named_in}
-use Rattle.par_link.specs.Named.{named_by, class_of, class_place, field_of, method_of, declared}
-use Rattle.par_link.specs.Named.{place_in, fields_of, methods_of, field_declared, method_declared}
-use Rattle.par_link.specs.Named as links
-use Rattle.par_link.specs.Rules.{is_nothing}
+use Rattle.par_sound.specs.par_link.declared.entry.Builtin.{Builtin}
+use Rattle.par_sound.specs.par_link.declared.entry.Builtin.TheVariants as builtin
+use Rattle.par_sound.specs.par_link.declared.entry.Named.{Named}
+use Rattle.par_sound.specs.par_link.declared.entry.Named.TheVariants as named
+use Rattle.par_sound.specs.par_link.Builtins as builtins
+use Rattle.par_sound.specs.par_link.Linked.{AreLinked, named_in}
+use Rattle.par_sound.specs.par_link.Named.{named_by, class_of, class_place, field_of, method_of}
+use Rattle.par_sound.specs.par_link.Named.{declared}
+use Rattle.par_sound.specs.par_link.Named.{place_in, fields_of, methods_of, field_declared}
+use Rattle.par_sound.specs.par_link.Named.{method_declared}
+use Rattle.par_sound.specs.par_link.Named as links
+use Rattle.par_sound.specs.par_link.Rules.{is_nothing}
 use Rattle.par_single.specs.Members.{Member, text_at, own_name, own_names, is_initializer}
-use Rattle.par_steps.specs.Classes.{class_names}
-use Rattle.par_steps.specs.Methods.{pool_of}
-use Rattle.par_kinds.specs.declared.frame.VKind.TheVariants.{Object as AnObject, Base as ABase}
-use Rattle.par_kinds.specs.Linked.{named_kind}
-use Rattle.par_kinds.specs.Shapes.{text_kind, caught_of_entry}
+use Rattle.par_sound.specs.par_steps.Classes.{class_names}
+use Rattle.par_sound.specs.par_steps.Methods.{pool_of}
+use Rattle.par_sound.specs.par_kinds.declared.frame.VKind.TheVariants.{Object as AnObject}
+use Rattle.par_sound.specs.par_kinds.declared.frame.VKind.TheVariants.{Base as ABase}
+use Rattle.par_sound.specs.par_kinds.Linked.{named_kind}
+use Rattle.par_sound.specs.par_kinds.Shapes.{text_kind, caught_of_entry}
 use Rattle.par_linked_frames.specs.Laws.{TextsTellHandlers}
 use Rattle.par_linked_frames.proofs.Linking.{get-front, get-map}
 use Rattle.par_linked_frames.proofs.Texts.{class-there, file-found}

@@ -20,22 +20,27 @@ use Rattle.par_values.specs.declared.kind.Kind.TheVariants.{Number, Object}
 use Rattle.par_values.specs.declared.link.Link.{Link}
 use Rattle.par_values.specs.declared.link.MethodLink.{MethodLink}
 use Rattle.par_values.specs.Areas.{Name, class_named, name_or_none}
-use Rattle.par_link.specs.declared.entry.Builtin.{Builtin}
-use Rattle.par_link.specs.declared.entry.Builtin.TheVariants as builtin
-use Rattle.par_link.specs.declared.entry.Named.{Named}
-use Rattle.par_link.specs.declared.entry.Named.TheVariants as named
-use Rattle.par_link.specs.Linked.{AreLinked, named_at, named_in}
+use Rattle.par_sound.specs.par_link.declared.entry.Builtin.{Builtin}
+use Rattle.par_sound.specs.par_link.declared.entry.Builtin.TheVariants as builtin
+use Rattle.par_sound.specs.par_link.declared.entry.Named.{Named}
+use Rattle.par_sound.specs.par_link.declared.entry.Named.TheVariants as named
+use Rattle.par_sound.specs.par_link.Linked.{AreLinked, named_at, named_in}
 use Rattle.par_single.specs.Members.{text_at, own_name, own_names, is_static, Member}
 use Rattle.par_single.specs.Members.{is_initializer}
 use Rattle.par_single.specs.Links.{signature_said, locals_of}
-use Rattle.par_single.specs.Single.{is_channel_right, is_of_channel, method_named}
-use Rattle.par_steps.specs.Classes.{class_names, exceptions_from, is_exception}
-use Rattle.par_steps.specs.Fields.{is_shared, is_own, kind_of, class_statics, first_statics}
-use Rattle.par_steps.specs.Fields.{many_of, lock_place}
-use Rattle.par_steps.specs.Links.{link_of, number_or, class_link, field_in, field_link, method_in}
-use Rattle.par_steps.specs.Links.{method_link, builtin_class, builtin_initializer, channel_of}
-use Rattle.par_steps.specs.Methods.{class_pool, method_file, method_descriptor, descriptor_in}
-use Rattle.par_steps.specs.Methods.{pool_of, code_in, code_or_none, methods_of as methods_in}
+use Rattle.par_single.specs.Described.{is_channel_right, is_of_channel, method_named}
+use Rattle.par_sound.specs.par_steps.Classes.{class_names, exceptions_from, is_exception}
+use Rattle.par_sound.specs.par_steps.Fields.{is_shared, is_own, kind_of, class_statics}
+use Rattle.par_sound.specs.par_steps.Fields.{first_statics}
+use Rattle.par_sound.specs.par_steps.Fields.{many_of, lock_place}
+use Rattle.par_sound.specs.par_steps.Links.{link_of, number_or, class_link, field_in, field_link}
+use Rattle.par_sound.specs.par_steps.Links.{method_in}
+use Rattle.par_sound.specs.par_steps.Links.{method_link, builtin_class, builtin_initializer}
+use Rattle.par_sound.specs.par_steps.Links.{channel_of}
+use Rattle.par_sound.specs.par_steps.Methods.{class_pool, method_file, method_descriptor}
+use Rattle.par_sound.specs.par_steps.Methods.{descriptor_in}
+use Rattle.par_sound.specs.par_steps.Methods.{pool_of, code_in, code_or_none}
+use Rattle.par_sound.specs.par_steps.Methods.{methods_of as methods_in}
 use Rattle.std.specs.Prelude.{nat_le}
 use Rattle.std.specs.Option.{option_map_or}
 use Rattle.par_lexer.specs.Names.{is_name}
@@ -44,19 +49,21 @@ use Rattle.par_inputs.specs.Numbers.{magnitude_of, is_decimal}
 use Rattle.par_class.specs.declared.file.CodeAttr.{CodeAttr}
 use Rattle.par_values.specs.declared.link.Target.{Target}
 use Rattle.par_values.specs.declared.link.Target.TheVariants.{Code}
-use Rattle.par_link.proofs.Passing.{same_text}
-use Rattle.par_link.specs.Named.{named_by, class_of, field_of, method_of, declared, place_in}
-use Rattle.par_link.specs.Named.{fields_of, methods_of}
-use Rattle.par_link.specs.Builtins.{builtin_field, builtin_method, lock_number, lock_or_nothing}
+use Rattle.par_sound.proofs.par_link.Passing.{same_text}
+use Rattle.par_sound.specs.par_link.Named.{named_by, class_of, field_of, method_of, declared}
+use Rattle.par_sound.specs.par_link.Named.{place_in}
+use Rattle.par_sound.specs.par_link.Named.{fields_of, methods_of}
+use Rattle.par_sound.specs.par_link.Builtins.{builtin_field, builtin_method, lock_number}
+use Rattle.par_sound.specs.par_link.Builtins.{lock_or_nothing}
 use Rattle.par_single.specs.declared.descriptor.Signature.{Signature}
 use Rattle.par_single.specs.Descriptors.{method_signature}
 use Rattle.par_single.specs.Descriptors as said
-use Rattle.par_kinds.specs.Linked.{coded_in, static_in}
+use Rattle.par_sound.specs.par_kinds.Linked.{coded_in, static_in}
 use Rattle.par_sound.specs.States.{kinds_in, static_kinds, all_shared, shared_kinds, class_kinds}
 use Rattle.par_linked_frames.specs.Laws.{AreCoded, LinkedFilesAreRight}
 use Rattle.par_sound.specs.Right.{AreRight, LinkRight, ClassRight, CodeRight, TargetRight}
-use Rattle.par_kinds.specs.Kinds.{Each}
-use Rattle.par_link.proofs.Faultless.{names-apart, method-right}
+use Rattle.par_sound.specs.par_kinds.Kinds.{Each}
+use Rattle.par_sound.proofs.par_link.Faultless.{names-apart, method-right}
 
 -- ---- lists
 

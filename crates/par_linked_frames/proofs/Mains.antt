@@ -4,8 +4,8 @@ use Rattle.std.proofs.Common.{◌∷◌, take, Some, None, Option, refl, sym, ap
 use Rattle.std.proofs.Common.{codes, is_some}
 use Rattle.std.specs.List.{slice_get, list_any, position}
 use Rattle.std.specs.Prelude.{nat_lt, cond, IsTrue, ◌+◌}
-use Rattle.par_single.specs.Single.{method_in, is_begun_with, main_member, method_named}
-use Rattle.par_single.specs.Single.{is_channel_right, is_of_channel}
+use Rattle.par_single.specs.Described.{method_in, is_begun_with, main_member, method_named}
+use Rattle.par_single.specs.Described.{is_channel_right, is_of_channel}
 use Rattle.par_values.specs.Areas.{Name}
 use Rattle.std.specs.Str.{bytes_eq}
 use Rattle.std.proofs.lemmas.Bool.{and_parts, ltb-true, ltb-false}
@@ -14,29 +14,29 @@ use Rattle.par_class.specs.declared.file.MethodFile.{MethodFile}
 use Rattle.par_class.specs.declared.file.ClassFile.{ClassFile}
 use Rattle.par_class.specs.Spelling.{is_native}
 use Rattle.par_index.proofs.Places.{position-is_some}
-use Rattle.par_link.proofs.Passing.{same_text, any-at}
-use Rattle.par_link.specs.Firsts.{first_repeated}
-use Rattle.par_link.specs.Linked.{AreLinked}
-use Rattle.par_link.specs.Named.{is_same, methods_of}
-use Rattle.par_link.specs.Order.{at}
+use Rattle.par_sound.proofs.par_link.Passing.{same_text, any-at}
+use Rattle.par_sound.specs.par_link.Firsts.{first_repeated}
+use Rattle.par_sound.specs.par_link.Linked.{AreLinked}
+use Rattle.par_sound.specs.par_link.Named.{is_same, methods_of}
+use Rattle.par_sound.specs.par_link.Order.{at}
 use Rattle.par_single.specs.Members.{text_at, own_name, is_static, is_method_of, method_place}
 use Rattle.par_single.specs.Descriptors.{method_signature}
 use Rattle.par_single.specs.Descriptors as said
 use Rattle.par_single.specs.Links.{signature_said}
-use Rattle.par_single.proofs.Owned.{found_at}
+use Rattle.par_single.proofs.Found.{found_at}
 use Rattle.par_lexer.specs.Names.{is_name}
-use Rattle.par_steps.specs.Methods.{method_descriptor, descriptor_in, pool_of}
-use Rattle.par_steps.specs.Methods.{methods_of as methods_at}
-use Rattle.par_steps.specs.State.{main_place}
-use Rattle.par_kinds.specs.Linked.{static_in, coded_in}
+use Rattle.par_sound.specs.par_steps.Methods.{method_descriptor, descriptor_in, pool_of}
+use Rattle.par_sound.specs.par_steps.Methods.{methods_of as methods_at}
+use Rattle.par_sound.specs.par_steps.State.{main_place}
+use Rattle.par_sound.specs.par_kinds.Linked.{static_in, coded_in}
 use Rattle.par_sound.specs.Laws.{MainRight, IsMain}
 use Rattle.par_linked_frames.specs.Laws.{AreCoded, is_main, MainsAreRight, FramesKeepFromBadCode}
 use Rattle.par_linked_frames.specs.Laws.{FramesKeepProgramsFromBadCode}
 use Rattle.par_sound.proofs.Whole.{fitting_files_are_never_bad}
-use Rattle.par_steps.specs.Run.{class_number}
-use Rattle.par_link.proofs.Apart.{fresh}
+use Rattle.par_sound.specs.par_steps.Run.{class_number}
+use Rattle.par_sound.proofs.par_link.Apart.{fresh}
 use Rattle.par_linked_frames.proofs.Linking.{are_right, get-map}
-use Rattle.par_link.proofs.Faultless.{unbroken, methods-apart, method-right}
+use Rattle.par_sound.proofs.par_link.Faultless.{unbroken, methods-apart, method-right}
 
 get-take : {A : Type 0} (xs : List A) (n i : ℕ) → i < n → slice_get (take n xs) i ≡ slice_get xs i
 get-take xs zero i lt = absurd (omega (arith, lt))

@@ -10,14 +10,15 @@ use Rattle.par_values.specs.declared.link.Link.TheVariants as link
 use Rattle.par_values.specs.Operations.{GetStatic, PutStatic, GetField, PutField, InvokeStatic}
 use Rattle.par_values.specs.Operations.{InvokeSpecial, InvokeVirtual, Misnamed, of_field, of_method}
 use Rattle.par_values.specs.Operations.{of_class, constant}
-use Rattle.par_link.specs.declared.entry.Named.{Named}
-use Rattle.par_link.specs.declared.entry.Named.TheVariants as named
-use Rattle.par_link.specs.Linked.{named_at}
-use Rattle.par_steps.specs.Links.{link_at}
-use Rattle.par_kinds.specs.Linked.{acted, act_at, result_of}
-use Rattle.par_kinds.specs.Shapes.{act_of, shape_at, shape_of_link, constant_act, getstatic_act}
-use Rattle.par_kinds.specs.Shapes.{putstatic_act, getfield_act, putfield_act, static_act}
-use Rattle.par_kinds.specs.Shapes.{special_act, virtual_act, new_act}
+use Rattle.par_sound.specs.par_link.declared.entry.Named.{Named}
+use Rattle.par_sound.specs.par_link.declared.entry.Named.TheVariants as named
+use Rattle.par_sound.specs.par_link.Linked.{named_at}
+use Rattle.par_sound.specs.par_steps.Links.{link_at}
+use Rattle.par_sound.specs.par_kinds.Linked.{acted, act_at, result_of}
+use Rattle.par_sound.specs.par_kinds.Shapes.{act_of, shape_at, shape_of_link, constant_act}
+use Rattle.par_sound.specs.par_kinds.Shapes.{getstatic_act}
+use Rattle.par_sound.specs.par_kinds.Shapes.{putstatic_act, getfield_act, putfield_act, static_act}
+use Rattle.par_sound.specs.par_kinds.Shapes.{special_act, virtual_act, new_act}
 
 module _ (files : List ClassFile) (gives : Option Kind) (n : Named) where
   constants : (l : Link) → acted files gives named.Nothing (constant l)

@@ -16,39 +16,48 @@ use Rattle.par_class.specs.declared.file.ClassFile.{ClassFile}
 use Rattle.par_class.specs.Spelling.{is_native}
 use Rattle.par_values.specs.declared.kind.Kind.TheVariants.{Object}
 use Rattle.par_values.specs.Areas.{Name}
-use Rattle.par_link.proofs.Passing.{same_text}
-use Rattle.par_link.specs.declared.entry.Builtin.{Builtin}
-use Rattle.par_link.specs.declared.entry.Builtin.TheVariants as builtin
-use Rattle.par_link.specs.declared.entry.Named.TheVariants as named
-use Rattle.par_link.specs.Builtins as builtins
-use Rattle.par_link.specs.Linked.{AreLinked, named_in}
-use Rattle.par_link.specs.Named.{named_by, class_of, class_named, class_place, field_of, method_of}
-use Rattle.par_link.specs.Named.{declared, place_in, fields_of, methods_of, is_same, listed}
-use Rattle.par_link.specs.Named.{field_declared, method_declared}
-use Rattle.par_link.specs.Order.{at, member_fault, description_fault, constant_fault, code_fault}
-use Rattle.par_link.specs.Rules.{is_nothing, is_of}
+use Rattle.par_sound.proofs.par_link.Passing.{same_text}
+use Rattle.par_sound.specs.par_link.declared.entry.Builtin.{Builtin}
+use Rattle.par_sound.specs.par_link.declared.entry.Builtin.TheVariants as builtin
+use Rattle.par_sound.specs.par_link.declared.entry.Named.TheVariants as named
+use Rattle.par_sound.specs.par_link.Builtins as builtins
+use Rattle.par_sound.specs.par_link.Linked.{AreLinked, named_in}
+use Rattle.par_sound.specs.par_link.Named.{named_by, class_of, class_named, class_place, field_of}
+use Rattle.par_sound.specs.par_link.Named.{method_of}
+use Rattle.par_sound.specs.par_link.Named.{declared, place_in, fields_of, methods_of, is_same}
+use Rattle.par_sound.specs.par_link.Named.{listed}
+use Rattle.par_sound.specs.par_link.Named.{field_declared, method_declared}
+use Rattle.par_sound.specs.par_link.Order.{at, member_fault, description_fault, constant_fault}
+use Rattle.par_sound.specs.par_link.Order.{code_fault}
+use Rattle.par_sound.specs.par_link.Rules.{is_nothing, is_of}
 use Rattle.par_single.specs.Members.{Member, member_at, text_at, own_name, own_names}
 use Rattle.par_single.specs.Members.{is_initializer, is_static}
 use Rattle.par_single.specs.Links.{kind_said, signature_said, locals_of}
-use Rattle.par_single.specs.Single.{field_named, method_named, is_channel_right, is_of_channel}
-use Rattle.par_single.proofs.Owned.{found_at}
+use Rattle.par_single.specs.Described.{field_named, method_named, is_channel_right, is_of_channel}
+use Rattle.par_single.proofs.Found.{found_at}
 use Rattle.par_single.specs.Descriptors as said
 use Rattle.par_single.specs.Descriptors.{method_signature}
 use Rattle.par_lexer.specs.Names.{is_name}
 use Rattle.par_values.specs.declared.link.Target.TheVariants.{Code}
-use Rattle.par_steps.specs.Links.{channel_of, method_link, builtin_initializer, link_of, field_link}
-use Rattle.par_steps.specs.Links.{number_or, class_link, field_in, method_in, builtin_class}
-use Rattle.par_steps.specs.Methods.{method_descriptor, descriptor_in, methods_of as methods_at}
-use Rattle.par_steps.specs.Methods.{class_pool, pool_of}
-use Rattle.par_kinds.specs.Linked.{results_of, kinds_given, act_at, result_of}
-use Rattle.par_kinds.specs.Shapes.{method_standing, receiver_of, receiver_also, Shape, Number}
-use Rattle.par_kinds.specs.Shapes.{Class, Other, simple, is_made, class_shape, shape_at, shape_in}
-use Rattle.par_kinds.specs.Shapes.{shape_of_entry, shape_of_link, fields_in, methods_in}
-use Rattle.par_kinds.specs.Shapes.{ShapesAgree, field_shape, method_shape, standing, field_standing}
-use Rattle.par_kinds.specs.Shapes.{act_of}
+use Rattle.par_sound.specs.par_steps.Links.{channel_of, method_link, builtin_initializer, link_of}
+use Rattle.par_sound.specs.par_steps.Links.{field_link}
+use Rattle.par_sound.specs.par_steps.Links.{number_or, class_link, field_in, method_in}
+use Rattle.par_sound.specs.par_steps.Links.{builtin_class}
+use Rattle.par_sound.specs.par_steps.Methods.{method_descriptor, descriptor_in}
+use Rattle.par_sound.specs.par_steps.Methods.{methods_of as methods_at}
+use Rattle.par_sound.specs.par_steps.Methods.{class_pool, pool_of}
+use Rattle.par_sound.specs.par_kinds.Linked.{results_of, kinds_given, act_at, result_of}
+use Rattle.par_sound.specs.par_kinds.Shapes.{method_standing, receiver_of, receiver_also, Shape}
+use Rattle.par_sound.specs.par_kinds.Shapes.{Number}
+use Rattle.par_sound.specs.par_kinds.Shapes.{Class, Other, simple, is_made, class_shape, shape_at}
+use Rattle.par_sound.specs.par_kinds.Shapes.{shape_in}
+use Rattle.par_sound.specs.par_kinds.Shapes.{shape_of_entry, shape_of_link, fields_in, methods_in}
+use Rattle.par_sound.specs.par_kinds.Shapes.{ShapesAgree, field_shape, method_shape, standing}
+use Rattle.par_sound.specs.par_kinds.Shapes.{field_standing}
+use Rattle.par_sound.specs.par_kinds.Shapes.{act_of}
 use Rattle.par_linked_frames.specs.Laws.{TextsTellActs}
-use Rattle.par_link.proofs.Faultless.{method-right, unbroken, or-none, map-none}
-use Rattle.par_kinds.specs.Shapes as shape
+use Rattle.par_sound.proofs.par_link.Faultless.{method-right, unbroken, or-none, map-none}
+use Rattle.par_sound.specs.par_kinds.Shapes as shape
 use Rattle.par_instr.specs.declared.instr.Instr.{Instr}
 use Rattle.par_linked_frames.proofs.Shaped.{acts_agree}
 

@@ -8,14 +8,14 @@ use Rattle.par_class.specs.declared.file.ClassFile.{ClassFile}
 use Rattle.par_class.specs.Spelling.{is_native}
 use Rattle.par_values.specs.declared.inputs.Inputs.{Inputs}
 use Rattle.par_values.specs.Areas.{Name}
-use Rattle.par_link.specs.Linked.{AreLinked}
+use Rattle.par_sound.specs.par_link.Linked.{AreLinked}
 use Rattle.par_single.specs.Members.{is_static, is_method_of, own_name, method_place}
-use Rattle.par_single.specs.Single.{main_member, method_in, is_begun_with}
-use Rattle.par_steps.specs.Methods.{class_pool}
-use Rattle.par_steps.specs.Run.{class_number, machine_run}
-use Rattle.par_steps.specs.State.{main_place}
-use Rattle.par_kinds.specs.Linked.{AllGiven, AllFit, act_at, result_of, caught_kind}
-use Rattle.par_kinds.specs.Shapes.{act_of, shape_in, fields_in, methods_in, caught_in}
+use Rattle.par_single.specs.Described.{main_member, method_in, is_begun_with}
+use Rattle.par_sound.specs.par_steps.Methods.{class_pool}
+use Rattle.par_sound.specs.par_steps.Run.{class_number, machine_run}
+use Rattle.par_sound.specs.par_steps.State.{main_place}
+use Rattle.par_sound.specs.par_kinds.Linked.{AllGiven, AllFit, act_at, result_of, caught_kind}
+use Rattle.par_sound.specs.par_kinds.Shapes.{act_of, shape_in, fields_in, methods_in, caught_in}
 use Rattle.par_sound.specs.Right.{AreRight}
 use Rattle.par_sound.specs.Laws.{IsFine, MainRight}
 

@@ -1,7 +1,7 @@
 -- Counts of reads, one job after another.
 use Rattle.std.proofs.Common.{◌≡◌, ◌∙◌, ap, ℕ, zero, suc, ◌+◌, ◌≤◌, refl, subst, inl, inr, arith}
 use Rattle.par_io.specs.Causes.{FolderCounts, Makes, NoneFalls, Rose, raised, raised_by}
-use Rattle.par_loader.specs.Reads.{MakesAtMost}
+use Rattle.par_loader.specs.Reads.{MakesAtMost, FailsWithin}
 
 -- a count that rises later has risen
 pub rose_since : (a b c : ℕ) → a ≤ b → Rose b c → Rose a c
@@ -48,3 +48,42 @@ most_both first more most before between after few makes rest =
     subst (λ n. Makes rest.read n between after) none rest.makes in
     at_most (rest.read + first) most before after (omega (arith, few, rest.few_reads))
     (makes_both first rest.read before between after makes here)
+
+-- a read that fails behind others
+pub fails_both : (first more most : ℕ) (before between after : FolderCounts) → first + more ≤ most
+    → Makes first 0 before between → NoneFalls before between → FailsWithin more between after
+    → FailsWithin most before after
+fails_both first more most before between after few makes falls h =
+    let within = h.within in
+    let e : suc h.earlier + first ≡ suc (h.earlier + first) = omega arith in
+    record {
+      earlier = h.earlier + first;
+      within = omega (arith, few, within);
+      makes =
+          subst (λ n. Makes n 0 before after) e
+          (makes_both first (suc h.earlier) before between after makes h.makes);
+      rose = rose_since before.faults between.faults after.faults falls.0 h.rose;
+    }
+
+pub more_fails : (some all : ℕ) (before after : FolderCounts) → some ≤ all
+    → FailsWithin some before after → FailsWithin all before after
+more_fails some all before after less h =
+    let within = h.within in
+    record {
+      earlier = h.earlier;
+      within = omega (arith, less, within);
+      makes = h.makes;
+      rose = h.rose;
+    }
+
+pub more_reads : (some all : ℕ) (before after : FolderCounts) → some ≤ all
+    → MakesAtMost some 0 before after → MakesAtMost all 0 before after
+more_reads some all before after less h =
+    let few = h.few_reads in
+    record {
+      read = h.read;
+      written = h.written;
+      few_reads = omega (arith, less, few);
+      few_writes = h.few_writes;
+      makes = h.makes;
+    }

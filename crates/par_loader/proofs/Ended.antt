@@ -8,19 +8,22 @@ use Rattle.par_loader.specs.declared.error.Unloaded.TheVariants.{Absent, TooLong
 use Rattle.par_loader.specs.declared.error.Unloaded.TheVariants.{Memory}
 use Rattle.par_loader.specs.declared.found.Unfound.{Unfound}
 use Rattle.par_loader.specs.declared.found.Unfound.TheVariants as unfound
-use Rattle.par_loader.specs.Reads.{Text, MakesAtMost, WasFound}
+use Rattle.par_loader.specs.Reads.{Text, MakesAtMost, FailsWithin, WasFound}
 use Rattle.par_loader.specs.Mentions.{Naming}
 use Rattle.par_loader.specs.Found as found
 use Rattle.par_loader.specs.Found.{Found, found_in, Finds, Rises}
 use Rattle.par_lexer.specs.Names.{is_name}
 use Rattle.par_loader.proofs.Finding.{some_there}
 use Rattle.par_loader.specs.Loaded.{Loaded, whole, missing, overlong, refused, absent, Load, Step}
-use Rattle.par_loader.specs.Loaded.{ends, step_of, step, main_naming, main_step_of, loaded}
+use Rattle.par_loader.specs.Loaded.{ends, asked, behind_first, step_of, step, main_naming}
+use Rattle.par_loader.specs.Loaded.{main_step, main_step_of, loaded}
 use Rattle.par_loader.specs.Ends.{IsRefusal, Reads, Unended, IsBadAs, AnswersFor, AnswersFirst}
 use Rattle.par_loader.specs.Ends.{Steps, StepsFirst, FaultsStand, Loads, comes_to}
 use Rattle.par_loader.specs.declared.loading.Loading.{Loading}
 use Rattle.par_loader.proofs.Seen.{seen, seen_of}
-use Rattle.par_loader.proofs.Counting.{rose_since, makes_both, at_most, most_both}
+use Rattle.par_loader.proofs.Asked.{asks_one, asks_first}
+use Rattle.par_loader.proofs.Counting.{rose_since, makes_both, at_most, most_both, fails_both}
+use Rattle.par_loader.proofs.Counting.{more_fails, more_reads}
 
 -- what is told of a class file that is refused
 bad : (E : ℕ → Loaded → Type 0) (most : ℕ) (before after : FolderCounts) (class : Text)
@@ -43,69 +46,85 @@ module _ (E : ℕ → Loaded → Type 0) (most : ℕ) (before after : FolderCoun
   as_told e f same h = subst (Unended E most before after) (sym same) h
 
 -- a name that no class can have
-pub unnamed : (m : Naming) (E : ℕ → Loaded → Type 0) (counts : FolderCounts) (e : Unloaded)
-    → E 0 (refused m.class 40 m.index) → IsBadAs m.class 40 m.index e → Unended E 1 counts counts e
-unnamed m E counts e is told =
-    bad E 1 counts counts m.class 40 m.index e told (0, (refl, refl), inl is)
-    (at_most 0 1 counts counts (omega arith) (refl, refl))
+pub unnamed : (m : Naming) (E : ℕ → Loaded → Type 0) (most : ℕ) (counts : FolderCounts)
+    (e : Unloaded) → E 0 (refused m.class 40 m.index) → IsBadAs m.class 40 m.index e
+    → Unended E most counts counts e
+unnamed m E most counts e is told =
+    bad E most counts counts m.class 40 m.index e told (0, (refl, refl), inl is)
+    (at_most 0 most counts counts (omega arith) (refl, refl))
+
+-- the only read that is made fails
+only_fails : (reads : ℕ) (before after : FolderCounts) → reads ≡ 1 → Makes 1 0 before after
+    → Rose before.faults after.faults → FailsWithin reads before after
+only_fails reads before after one makes rose =
+    record { earlier = 0; within = omega (arith, one); makes = makes; rose = rose }
 
 module _ (m : Naming) (f : Found) (before after : FolderCounts)
     (makes : Makes 1 0 before after) where
-  few : MakesAtMost 1 0 before after
-  few = at_most 1 1 before after (omega arith) makes
+  abbrev one : ℕ
+  one = asked (step_of m f)
+
+  few : MakesAtMost one 0 before after
+  few = let is = asks_one m f in at_most 1 one before after (omega (arith, is)) makes
 
   -- a class has no file that is taken
   pub untaken : (u : Unfound) (e : Unloaded) → AnswersFor m u e → Finds (Err u) f
-      → Rises u before after → Unended (λ reads end. step_of m f ≡ ends reads end) 1 before after e
+      → Rises u before after
+      → Unended (λ reads end. step_of m f ≡ ends reads end) one before after e
   unfolding Finds
   untaken unfound.Absent e told is rose =
-      bad (λ reads end. step_of m f ≡ ends reads end) 1 before after m.class 40 m.index e told
+      bad (λ reads end. step_of m f ≡ ends reads end) one before after m.class 40 m.index e told
       (1, makes, inr (ap (step_of m) is, refl, rose)) few
   untaken unfound.TooLong e told is rose =
-      as_told (λ reads end. step_of m f ≡ ends reads end) 1 before after e TooLong told
+      as_told (λ reads end. step_of m f ≡ ends reads end) one before after e TooLong told
       (1, makes, (ap (step_of m) is, rose))
   untaken unfound.Failed e told is rose =
-      as_told (λ reads end. step_of m f ≡ ends reads end) 1 before after e Failed told (few, rose)
+      as_told (λ reads end. step_of m f ≡ ends reads end) one before after e Failed told
+      (only_fails one before after (asks_one m f) makes rose)
   untaken unfound.Another e told is rose =
-      bad (λ reads end. step_of m f ≡ ends reads end) 1 before after m.class 40 m.index e told
+      bad (λ reads end. step_of m f ≡ ends reads end) one before after m.class 40 m.index e told
       (1, makes, inl (ap (step_of m) is)) few
   untaken (unfound.Broken number value) e told is rose =
-      bad (λ reads end. step_of m f ≡ ends reads end) 1 before after m.name number value e told
+      bad (λ reads end. step_of m f ≡ ends reads end) one before after m.name number value e told
       (1, makes, inl (ap (step_of m) is)) few
   untaken unfound.Memory e told is rose =
-      as_told (λ reads end. step_of m f ≡ ends reads end) 1 before after e Memory told few
+      as_told (λ reads end. step_of m f ≡ ends reads end) one before after e Memory told few
 
 -- the same of the class that is asked for
 module _ (main : Text) (f : Found) (before after : FolderCounts)
     (makes : Makes 1 0 before after) where
-  few_main : MakesAtMost 1 0 before after
-  few_main = at_most 1 1 before after (omega arith) makes
+  abbrev made : ℕ
+  made = asked (main_step_of main f)
+
+  few_first : MakesAtMost made 0 before after
+  few_first =
+      let is = asks_first main f in at_most 1 made before after (omega (arith, is)) makes
 
   pub main_missing : Finds (Err unfound.Absent) f → Rose before.absents after.absents
-      → Unended (λ reads end. main_step_of main f ≡ ends reads end) 1 before after Absent
+      → Unended (λ reads end. main_step_of main f ≡ ends reads end) made before after Absent
   unfolding Finds
   main_missing is rose = (1, makes, (ap (main_step_of main) is, rose))
 
   pub main_untaken : (u : Unfound) (e : Unloaded) → (u ≡ unfound.Absent → ⊥)
       → AnswersFor (main_naming main) u e → Finds (Err u) f → Rises u before after
-      → Unended (λ reads end. main_step_of main f ≡ ends reads end) 1 before after e
+      → Unended (λ reads end. main_step_of main f ≡ ends reads end) made before after e
   unfolding Finds
   main_untaken unfound.Absent e other told is rose = absurd (other refl)
   main_untaken unfound.TooLong e other told is rose =
-      as_told (λ reads end. main_step_of main f ≡ ends reads end) 1 before after e TooLong told
+      as_told (λ reads end. main_step_of main f ≡ ends reads end) made before after e TooLong told
       (1, makes, (ap (main_step_of main) is, rose))
   main_untaken unfound.Failed e other told is rose =
-      as_told (λ reads end. main_step_of main f ≡ ends reads end) 1 before after e Failed told
-      (few_main, rose)
+      as_told (λ reads end. main_step_of main f ≡ ends reads end) made before after e Failed told
+      (only_fails made before after (asks_first main f) makes rose)
   main_untaken unfound.Another e other told is rose =
-      bad (λ reads end. main_step_of main f ≡ ends reads end) 1 before after main 40 0 e told
-      (1, makes, inl (ap (main_step_of main) is)) few_main
+      bad (λ reads end. main_step_of main f ≡ ends reads end) made before after main 40 0 e told
+      (1, makes, inl (ap (main_step_of main) is)) few_first
   main_untaken (unfound.Broken number value) e other told is rose =
-      bad (λ reads end. main_step_of main f ≡ ends reads end) 1 before after main number value e
-      told (1, makes, inl (ap (main_step_of main) is)) few_main
+      bad (λ reads end. main_step_of main f ≡ ends reads end) made before after main number value e
+      told (1, makes, inl (ap (main_step_of main) is)) few_first
   main_untaken unfound.Memory e other told is rose =
-      as_told (λ reads end. main_step_of main f ≡ ends reads end) 1 before after e Memory
-      told few_main
+      as_told (λ reads end. main_step_of main f ≡ ends reads end) made before after e Memory
+      told few_first
 
 -- no files are loaded
 abbrev pub IsStop : Loaded → Type 0
@@ -124,6 +143,15 @@ weaker E F most before after to (BadClass c n v) (reads, makes, inl is) =
 weaker E F most before after to (BadClass c n v) (reads, makes, inr is) =
     (reads, makes, inr (to reads (absent c v) tt is.0, is.1, is.2))
 weaker E F most before after to Memory h = h
+
+-- the same of more reads
+pub longer : (E : ℕ → Loaded → Type 0) (some all : ℕ) (before after : FolderCounts) → some ≤ all
+    → (e : Unloaded) → Unended E some before after e → Unended E all before after e
+longer E some all before after less Absent h = h
+longer E some all before after less TooLong h = h
+longer E some all before after less Failed h = more_fails some all before after less h
+longer E some all before after less (BadClass c n v) h = h
+longer E some all before after less Memory h = more_reads some all before after less h
 
 -- ---- one class, found or not
 
@@ -144,7 +172,7 @@ module _ (files : Option Files) (m : Naming) (before after : FolderCounts) where
       let some = some_there files m.name in (
         some.0,
         some.1,
-        unnamed m (λ reads end. step m some.0 ≡ ends reads end) before e
+        unnamed m (λ reads end. step m some.0 ≡ ends reads end) (asked (step m some.0)) before e
             (unnamed_is m some.0 unnamed_) told,
       )
 
@@ -155,7 +183,7 @@ module _ (files : Option Files) (m : Naming) (before after : FolderCounts) where
         some.0,
         some.1,
         subst (λ (x : Unloaded). Steps (step m some.0) before before (Err x)) (sym is)
-            (at_most 0 1 before before (omega arith) (refl, refl)),
+            (at_most 0 (asked (step m some.0)) before before (omega arith) (refl, refl)),
       )
 
   pub step_lacks : (r : Result ClassFile Unloaded) → IsErrAnd r (λ e. e ≡ Memory)
@@ -177,10 +205,14 @@ module _ (files : Option Files) (m : Naming) (before after : FolderCounts) where
   step_untaken u e yes_named makes told rose h = (
     h.0,
     h.1,
-    weaker (λ reads end. step_of m (found_in m.name h.0) ≡ ends reads end)
-        (λ reads end. step m h.0 ≡ ends reads end) 1 before after
-        (λ reads end stop is. named_is m h.0 yes_named ∙ is) e
-        (untaken m (found_in m.name h.0) before after makes u e told h.2 rose),
+    let named = named_is m h.0 yes_named in
+        subst (λ (n : ℕ). Unended (λ reads end. step m h.0 ≡ ends reads end) n before after e)
+        (sym (ap asked named))
+        (weaker (λ reads end. step_of m (found_in m.name h.0) ≡ ends reads end)
+        (λ reads end. step m h.0 ≡ ends reads end)
+        (asked (step_of m (found_in m.name h.0))) before after
+        (λ reads end stop is. named ∙ is) e
+        (untaken m (found_in m.name h.0) before after makes u e told h.2 rose)),
   )
 
 module _ (files : Option Files) (main : Text) (before after : FolderCounts) where
@@ -191,7 +223,7 @@ module _ (files : Option Files) (main : Text) (before after : FolderCounts) wher
         some.0,
         some.1,
         subst (λ (x : Unloaded). StepsFirst main some.0 before before (Err x)) (sym is)
-            (at_most 0 1 before before (omega arith) (refl, refl)),
+            (at_most 0 (asked (main_step main some.0)) before before (omega arith) (refl, refl)),
       )
 
   pub first_lacks : (r : Result ClassFile Unloaded) → IsErrAnd r (λ e. e ≡ Memory)
@@ -240,10 +272,11 @@ module _ (files : Option Files) (main : Text) (before after : FolderCounts) wher
 
 module _ (s : Step) (load : Load) (first most : ℕ) (before between after : FolderCounts)
     (ended : (reads : ℕ) (end : Loaded) → s ≡ ends reads end → comes_to load (reads + first) end)
-    (few : first + 1 ≤ most) (makes : Makes first 0 before between)
+    (few : first + asked s ≤ most) (makes : Makes first 0 before between)
     (none_falls : NoneFalls before between)
   where
-    pub ended_all : (e : Unloaded) → Unended (λ reads end. s ≡ ends reads end) 1 between after e
+    pub ended_all : (e : Unloaded)
+        → Unended (λ reads end. s ≡ ends reads end) (asked s) between after e
         → Unended (comes_to load) most before after e
     ended_all Absent h = (
       h.0 + first,
@@ -255,10 +288,7 @@ module _ (s : Step) (load : Load) (first most : ℕ) (before between after : Fol
       makes_both first h.0 before between after makes h.1,
       (ended h.0 overlong h.2.0, rose_since _ _ _ none_falls.2 h.2.1),
     )
-    ended_all Failed h = (
-      most_both first 1 most before between after few makes h.0,
-      rose_since _ _ _ none_falls.0 h.1,
-    )
+    ended_all Failed h = fails_both first (asked s) most before between after few makes none_falls h
     ended_all (BadClass c n v) (reads, more, inl is) = (
       reads + first,
       makes_both first reads before between after makes more,
@@ -269,7 +299,7 @@ module _ (s : Step) (load : Load) (first most : ℕ) (before between after : Fol
       makes_both first reads before between after makes more,
       inr (ended reads (absent c v) is.0, is.1, rose_since _ _ _ none_falls.1 is.2),
     )
-    ended_all Memory h = most_both first 1 most before between after few makes h
+    ended_all Memory h = most_both first (asked s) most before between after few makes h
 
 stands : (e : Unloaded) (before after : ℕ) → after ≡ before
     → FaultsStand {A = ClassFile} (Err e) before after
@@ -310,6 +340,7 @@ loads_lacks files main before (Ok loading) is = absurd is
 loads_lacks files main before (Err e) is = (
   seen files,
   seen_of files,
-  subst (λ (x : Unloaded). Unended (comes_to (loaded (seen files) main)) 128 before before x)
-      (sym is) (at_most 0 128 before before (omega arith) (refl, refl)),
+  let load = loaded (seen files) main in
+      subst (λ (x : Unloaded). Unended (comes_to load) (behind_first load) before before x)
+      (sym is) (at_most 0 (behind_first load) before before (omega arith) (refl, refl)),
 )

@@ -1,5 +1,6 @@
 pub mod Ascii
 pub mod Counting
+pub mod Asked
 pub mod Finding
 pub mod Read
 pub mod Unread
@@ -9,6 +10,6 @@ pub mod Ended
 pub mod Loop
 pub mod Linking
 pub mod Judging
-pub mod Alone
 pub mod Coded
 pub mod Mains
+pub use Rattle.par_link.proofs as par_link

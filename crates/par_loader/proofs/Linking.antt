@@ -11,7 +11,7 @@ use Rattle.std.proofs.lemmas.Option.{slice_get-map, slice_get-get_or}
 use Rattle.par_lexer.specs.Names.{IsName}
 use Rattle.par_class.specs.declared.file.ClassFile.{ClassFile}
 use Rattle.par_single.specs.Members.{own_name, own_names}
-use Rattle.par_single.specs.Single.{is_taken}
+use Rattle.par_single.specs.Described.{is_taken}
 use Rattle.par_link.specs.Order.{Broken, in_class, file_fault, first_in, list_fault, first_broken}
 use Rattle.par_link.specs.Rules.{are_too_many, repeated_class}
 use Rattle.par_link.proofs.Indices.{IsBelow, first-below, place-below, earlier-below}

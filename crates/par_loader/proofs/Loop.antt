@@ -13,11 +13,12 @@ use Rattle.par_loader.specs.declared.error.Unloaded.TheVariants.{Memory}
 use Rattle.par_loader.specs.declared.loading.Loading.{Loading}
 use Rattle.par_loader.specs.Reads.{Text, WasFound, IsSpelled}
 use Rattle.par_loader.specs.Mentions.{Naming, next_named}
-use Rattle.par_loader.specs.Loaded.{Loaded, whole, Load, step, loaded}
+use Rattle.par_loader.specs.Loaded.{Loaded, whole, Load, asked, behind_first, step}
+use Rattle.par_loader.specs.Loaded.{loaded}
 use Rattle.par_loader.specs.Ends.{IsRead, Steps, Unended, comes_to, Loads}
 use Rattle.par_loader.proofs.Counting.{makes_both, at_most, none_falls, falls_never, makes_none}
-use Rattle.par_loader.proofs.SoFar.{IsSoFar, begun, gone_on, ended, now, now_of, none_left}
-use Rattle.par_loader.proofs.SoFar.{all_read}
+use Rattle.par_loader.proofs.SoFar.{IsSoFar, begun, gone_on, ended, now, now_of, asks}
+use Rattle.par_loader.proofs.SoFar.{none_left, all_read}
 use Rattle.par_loader.proofs.Ended.{ended_all}
 
 -- So many files were read, all but the first by reads that were made since then.
@@ -105,16 +106,18 @@ module _ (files : Option Files) (file : ClassFile) (fs : List ClassFile) (count 
       let o = stepped.0 in
       let was = stepped.1 in
       let known = now files main fs (129 - (count + 1)) m o so_far next was in
+      let all = asks files main fs (129 - (count + 1)) m o so_far next was in
       let counted = h.counted in
       let many = h.many in (
         known,
         now_of files main fs (129 - (count + 1)) m o so_far next was,
-        ended_all (step m o) (loaded known main) h.reads 128 before between after
+        ended_all (step m o) (loaded known main) h.reads (behind_first (loaded known main)) before
+            between after
             (λ reads end is.
             let same : length fs + reads ≡ suc (reads + h.reads) = omega (arith, counted, many) in
             ended files main fs (129 - (count + 1)) m o so_far next was reads end is
             ∙ ap (λ (n : ℕ). load_of n end) same)
-            (omega (arith, counted, left)) h.makes h.falls e stepped.2,
+            (omega (arith, counted, many, all)) h.makes h.falls e stepped.2,
       )
     where
       load_of : ℕ → Loaded → Load
@@ -127,12 +130,20 @@ module _ (files : Option Files) (file : ClassFile) (fs : List ClassFile) (count 
       → Loads files main before after r
   lacks f (Ok loading) stepped is = absurd is
   lacks f (Err e) stepped is =
-      let counted = h.counted in (
-        h.so_far.classes,
-        h.so_far.of,
-        subst (λ (x : Unloaded). Unended
-            (comes_to (loaded h.so_far.classes main)) 128 before after x) (sym is)
-            (at_most (1 + h.reads) 128 before after (omega (arith, counted, left))
+      let o = stepped.0 in
+      let was = stepped.1 in
+      let known = now files main fs (129 - (count + 1)) m o so_far next was in
+      let load = loaded known main in
+      let one = ap asked stepped.2.0 in
+      let all = asks files main fs (129 - (count + 1)) m o so_far next was in
+      let counted = h.counted in
+      let many = h.many in (
+        known,
+        now_of files main fs (129 - (count + 1)) m o so_far next was,
+        subst (λ (x : Unloaded). Unended (comes_to load) (behind_first load) before after x)
+            (sym is)
+            (at_most (1 + h.reads) (behind_first load) before after
+            (omega (arith, counted, many, one, all))
             (makes_both h.reads 1 before between after h.makes stepped.2.1)),
       )
 

@@ -12,11 +12,13 @@ use Rattle.par_class.specs.declared.file.MethodFile.{MethodFile}
 use Rattle.par_class.specs.declared.file.ClassFile.{ClassFile}
 use Rattle.par_class.specs.Spelling.{is_native}
 use Rattle.par_index.proofs.Places.{position-is_some}
-use Rattle.par_single.specs.Members.{text_at, own_name, is_static, is_method_of, method_place}
-use Rattle.par_single.specs.Single.{main_member, method_named, is_channel_right, is_of_channel}
-use Rattle.par_single.specs.Single.{method_in, is_begun_with}
+use Rattle.par_single.specs.Members.{text_at, own_name, is_static, is_method_of}
+use Rattle.par_single.specs.Members.{method_place}
+use Rattle.par_single.specs.Described.{main_member, method_named, is_channel_right}
+use Rattle.par_single.specs.Described.{is_of_channel}
+use Rattle.par_single.specs.Described.{method_in, is_begun_with}
 use Rattle.par_single.specs.Descriptors.{method_signature}
-use Rattle.par_single.proofs.Owned.{found_at}
+use Rattle.par_single.proofs.Found.{found_at}
 use Rattle.par_link.specs.Named.{is_same, methods_of}
 use Rattle.par_link.specs.Order.{first_broken}
 use Rattle.par_link.specs.declared.linked.Linked.{Linked}

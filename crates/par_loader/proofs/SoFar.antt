@@ -1,6 +1,6 @@
 -- Loading, one step after the other.
-use Rattle.std.proofs.Common.{◌≡◌, ℕ, zero, suc, ◌+◌, false, List, [], ◌∷◌, ◌++◌, length, Option}
-use Rattle.std.proofs.Common.{Some, None, refl, ap, subst, ◌∙◌}
+use Rattle.std.proofs.Common.{◌≡◌, ℕ, zero, suc, ◌+◌, ◌≤◌, false, List, [], ◌∷◌, ◌++◌, length}
+use Rattle.std.proofs.Common.{Option, Some, None, refl, sym, ap, subst, ◌∙◌}
 use Rattle.std.specs.List.{list_any}
 use Rattle.std.specs.Str.{bytes_eq}
 use Rattle.par_io.specs.Causes.{Files}
@@ -9,9 +9,11 @@ use Rattle.par_single.specs.Members.{own_name, own_names}
 use Rattle.par_loader.specs.Reads.{Text, Classes, AreOf, WasFound}
 use Rattle.par_loader.specs.Mentions.{Naming, next_named}
 use Rattle.par_loader.specs.Found.{Found}
-use Rattle.par_loader.specs.Loaded.{Loaded, whole, Load, goes_on, ends, step, main_step}
+use Rattle.par_loader.specs.Loaded.{Loaded, whole, Load, goes_on, ends, asked, step}
+use Rattle.par_loader.specs.Loaded.{main_step}
 use Rattle.par_loader.specs.Loaded.{main_step_of, after, with_next, further, loaded}
 use Rattle.par_loader.specs.Ends.{IsRead}
+use Rattle.par_loader.proofs.Asked.{step_counted, files_counted}
 use Rattle.par_loader.proofs.Unread.{unread_is_new, names_more}
 use Rattle.par_loader.proofs.Seen.{seen, seen_of, put, put_of, put_here, Agrees, put_agrees}
 use Rattle.par_loader.proofs.Seen.{front_among, back_among}
@@ -94,6 +96,15 @@ module _ (files : Option Files) (main : Text) (fs : List ClassFile) (more : ℕ)
 
   pub now_of : AreOf files now
   now_of = put_of files h.classes m.name found h.of was
+
+  -- the files that were read, and that of the step, are among those that are asked for
+  pub asks : length fs + asked (step m found) ≤ (loaded now main).reads
+  asks =
+      let is =
+      stepped now (put_agrees h.classes m.name found (own_names fs) new)
+      (put_here h.classes m.name found) in
+      subst (λ (l : Load). length fs + asked (step m found) ≤ l.reads) (sym is)
+      (step_counted now more (files_counted now more) fs (step m found))
 
 module _ (files : Option Files) (main : Text) (fs : List ClassFile) where
   -- nothing more is named

@@ -18,7 +18,8 @@ use Rattle.par_pool.specs.declared.constant.Constant.TheVariants.{Utf8, Integer,
 use Rattle.par_pool.specs.declared.constant.Constant.TheVariants.{Text as String_, Field, Method}
 use Rattle.par_pool.specs.declared.constant.Constant.TheVariants.{NameType}
 use Rattle.par_class.specs.declared.file.ClassFile.{ClassFile}
-use Rattle.par_single.specs.Members.{own_name, own_names, text_at, class_name_of, class_name_at}
+use Rattle.par_single.specs.Members.{own_name, own_names, text_at, class_name_of}
+use Rattle.par_single.specs.Members.{class_name_at}
 use Rattle.indexmap.specs.IndexSet.{insert_key}
 use Rattle.par_link.specs.Builtins.{builtin}
 use Rattle.par_index.proofs.Places.{position-is_some, any-map}

@@ -5,7 +5,7 @@ use Rattle.par_class.specs.declared.file.MethodFile.{MethodFile}
 use Rattle.par_class.specs.declared.file.ClassFile.{ClassFile}
 use Rattle.par_class.specs.Spelling.{is_native}
 use Rattle.par_single.specs.Members.{own_name, method_place}
-use Rattle.par_single.specs.Single.{main_member, method_in, is_begun_with}
+use Rattle.par_single.specs.Described.{main_member, method_in, is_begun_with}
 use Rattle.par_loader.specs.Reads.{Text}
 
 -- each method of these files that is not native has code

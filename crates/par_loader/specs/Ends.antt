@@ -13,11 +13,13 @@ use Rattle.par_link.specs.declared.linked.Linked.{Linked}
 use Rattle.par_loader.specs.declared.found.Unfound.{Unfound}
 use Rattle.par_loader.specs.declared.found.Unfound.TheVariants as unfound
 use Rattle.par_loader.specs.declared.loading.Loading.{Loading}
-use Rattle.par_loader.specs.Reads.{Text, MakesAtMost, Classes, AreOf, WasFound}
+use Rattle.par_loader.specs.Reads.{Text, MakesAtMost, FailsWithin, Classes, AreOf}
+use Rattle.par_loader.specs.Reads.{WasFound}
 use Rattle.par_loader.specs.Mentions.{Naming}
 use Rattle.par_loader.specs.Found.{file, found_in}
 use Rattle.par_loader.specs.Loaded.{Loaded, whole, missing, overlong, refused, absent, Load, Step}
-use Rattle.par_loader.specs.Loaded.{goes_on, ends, main_naming, main_step, loaded}
+use Rattle.par_loader.specs.Loaded.{goes_on, ends, asked, behind_first, main_naming, main_step}
+use Rattle.par_loader.specs.Loaded.{loaded}
 use Rattle.par_loader.specs.Judged.{name_of, linked, judged}
 
 -- what a class file is refused for: number 40 also stands for a class that has no file
@@ -32,18 +34,18 @@ abbrev pub Reads : (ℕ → Loaded → Type 0) → (before after : FolderCounts)
     → ((Loaded → Type 0) → Type 0) → Type 0
 Reads E before after P = (reads : ℕ) × Makes reads 0 before after × P (E reads)
 
--- Why there are no files, where E tells of ends and of their numbers of reads. A read may have
--- failed, or memory be wanting, before the last read of at most so many.
+-- Why there are no files, where E tells of ends and of their numbers of reads, and so many reads
+-- are made where none fails. A read that failed is one of these, and none is made behind it; where
+-- memory is wanting, no more than these are made.
 abbrev pub Unended : (ℕ → Loaded → Type 0) → ℕ → (before after : FolderCounts) → Unloaded → Type 0
-Unended E most before after Absent =
+Unended E all before after Absent =
     Reads E before after (λ is. is missing × Rose before.absents after.absents)
-Unended E most before after TooLong =
+Unended E all before after TooLong =
     Reads E before after (λ is. is overlong × Rose before.longs after.longs)
-Unended E most before after (BadClass class number value) =
+Unended E all before after (BadClass class number value) =
     Reads E before after (λ is. IsRefusal is before after class number value)
-Unended E most before after Failed =
-    MakesAtMost most 0 before after × Rose before.faults after.faults
-Unended E most before after Memory = MakesAtMost most 0 before after
+Unended E all before after Failed = FailsWithin all before after
+Unended E all before after Memory = MakesAtMost all 0 before after
 
 -- no read failed, unless that is told
 abbrev pub FaultsStand : {A : Type 0} → Result A Unloaded → (before after : ℕ) → Type 0
@@ -75,7 +77,8 @@ AnswersFirst main u e = AnswersFor (main_naming main) u e
 -- a step gives a file, by one read, or ends
 abbrev pub Steps : Step → (before after : FolderCounts) → Result ClassFile Unloaded → Type 0
 Steps s before after (Ok f) = (s ≡ goes_on f) × Makes 1 0 before after
-Steps s before after (Err e) = Unended (λ reads end. s ≡ ends reads end) 1 before after e
+Steps s before after (Err e) =
+    Unended (λ reads end. s ≡ ends reads end) (asked s) before after e
 
 abbrev pub StepsFirst : Text → Option Text → (before after : FolderCounts)
     → Result ClassFile Unloaded → Type 0
@@ -100,7 +103,8 @@ abbrev pub LoadsAs : Load → (before after : FolderCounts) → Result Loading U
 LoadsAs load before after (Ok loading) =
     (reads : ℕ) × Makes reads 0 before after × comes_to load reads (whole loading.files)
     × (length loading.files ≡ suc reads)
-LoadsAs load before after (Err e) = Unended (comes_to load) 128 before after e
+LoadsAs load before after (Err e) =
+    Unended (comes_to load) (behind_first load) before after e
 
 abbrev pub Loads : Option Files → Text → (before after : FolderCounts) → Result Loading Unloaded
     → Type 0
@@ -123,7 +127,8 @@ Links files result = LinksAs (linked (main_of files) (whole files)) result
 -- the program was loaded and linked, behind the first file, or there is none
 abbrev pub JudgesAs : Load → (before after : FolderCounts) → Result Linked Unloaded → Type 0
 JudgesAs load before after (Ok files) = Reads (comes_to load) before after (λ is. is (whole files))
-JudgesAs load before after (Err e) = Unended (comes_to load) 128 before after e
+JudgesAs load before after (Err e) =
+    Unended (comes_to load) (behind_first load) before after e
 
 abbrev pub Judges : Option Files → Text → (before after : FolderCounts) → Result Linked Unloaded
     → Type 0

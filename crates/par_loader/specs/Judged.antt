@@ -6,7 +6,7 @@ use Rattle.par_pool.specs.declared.constant.Constant.{Constant}
 use Rattle.par_class.specs.declared.file.ClassFile.{ClassFile}
 use Rattle.par_class.specs.declared.file.MethodFile.{MethodFile}
 use Rattle.par_single.specs.Members.{own_name, is_method_of, is_static}
-use Rattle.par_single.specs.Single.{main_member}
+use Rattle.par_single.specs.Described.{main_member}
 use Rattle.par_link.specs.Order.{Broken, first_broken}
 use Rattle.par_loader.specs.Reads.{Text, Classes}
 use Rattle.par_loader.specs.Loaded.{Loaded, whole, refused, Load, loaded}

@@ -4,5 +4,5 @@ pub mod Found
 pub mod Loaded
 pub mod Judged
 pub mod Ends
-pub mod Alone
 pub mod Begun
+pub use Rattle.par_link.specs as par_link

@@ -1,6 +1,6 @@
 -- The class files that are loaded for a class, or why they are not.
-use Rattle.std.specs.Prelude.{ℕ, zero, suc, ◌+◌, if◌then◌else◌, List, [], ◌∷◌, ◌++◌, length, Option}
-use Rattle.std.specs.Prelude.{Some, None}
+use Rattle.std.specs.Prelude.{ℕ, zero, suc, ◌+◌, ◌-◌, if◌then◌else◌, List, [], ◌∷◌, ◌++◌, length}
+use Rattle.std.specs.Prelude.{Option, Some, None}
 use Rattle.par_lexer.specs.Names.{is_name}
 use Rattle.par_class.specs.declared.file.ClassFile.{ClassFile}
 use Rattle.par_loader.specs.Reads.{Text, Classes}
@@ -31,6 +31,11 @@ pub data Step : Type 0 where
   goes_on : ClassFile → Step
   ends : (reads : ℕ) → Loaded → Step
 
+-- how many files a step asks for
+abbrev pub asked : Step → ℕ
+asked (goes_on f) = 1
+asked (ends reads end) = reads
+
 -- Number 40 stands with the class whose file holds the constant, and with its index there; what
 -- the bytes are refused by stands with their own class.
 abbrev pub step_of : Naming → Found → Step
@@ -56,6 +61,10 @@ main_step_of main f = step_of (main_naming main) f
 
 abbrev pub main_step : Text → Option Text → Step
 main_step main bytes = main_step_of main (found_in main bytes)
+
+-- how many reads there are behind the first
+abbrev pub behind_first : Load → ℕ
+behind_first load = load.reads - 1
 
 -- what follows a step, behind files that were read
 abbrev pub after : List ClassFile → (List ClassFile → Load) → Step → Load

@@ -1,8 +1,8 @@
 -- Which files are asked for, and how many reads are made.
-use Rattle.std.specs.Prelude.{◌≡◌, ℕ, ◌≤◌, List, ◌++◌, Option, codes}
+use Rattle.std.specs.Prelude.{◌≡◌, ℕ, suc, ◌<◌, ◌≤◌, List, ◌++◌, Option, codes}
 use Rattle.par_class.specs.declared.file.ClassFile.{ClassFile}
 use Rattle.par_class.specs.Spelling.{Spells}
-use Rattle.par_io.specs.Causes.{FolderCounts, Makes, Files, Told}
+use Rattle.par_io.specs.Causes.{FolderCounts, Makes, Rose, Files, Told}
 
 abbrev pub Text : Type 0
 Text = List ℕ
@@ -14,6 +14,13 @@ pub record MakesAtMost (reads writes : ℕ) (before after : FolderCounts) : Type
   pub few_reads : read ≤ reads
   pub few_writes : written ≤ writes
   pub makes : Makes read written before after
+
+-- One of the first so many reads failed, and it is the last that was made.
+pub record FailsWithin (reads : ℕ) (before after : FolderCounts) : Type 0 where
+  pub earlier : ℕ
+  pub within : earlier < reads
+  pub makes : Makes (suc earlier) 0 before after
+  pub rose : Rose before.faults after.faults
 
 -- the file of a class
 abbrev pub class_file : Text → Text

@@ -12,13 +12,11 @@
 mod builtin;
 pub mod error;
 mod found;
-mod laws;
 mod loading;
 mod mention;
 pub mod naming;
 mod program;
 
 pub use error::Unloaded;
-pub use laws::alone_is_whole;
 pub use naming::{class_file_name, text_of};
 pub use program::{linked_program, main_file};

@@ -6,7 +6,7 @@ use Rattle.std.proofs.lemmas.Bool.{and_parts, false≢true}
 use Rattle.par_class.specs.declared.file.MethodFile.{MethodFile}
 use Rattle.par_class.specs.declared.file.ClassFile.{ClassFile}
 use Rattle.par_single.specs.Members.{own_name, is_static, is_method_of}
-use Rattle.par_single.specs.Single.{main_member}
+use Rattle.par_single.specs.Described.{main_member}
 use Rattle.par_index.proofs.Places.{position-is_some}
 use Rattle.par_steps.specs.State.{main_place}
 use Rattle.par_loader.specs.Judged.{is_main, has_main}

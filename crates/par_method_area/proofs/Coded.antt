@@ -9,7 +9,7 @@ use Rattle.par_class.specs.declared.file.ClassFile.{ClassFile}
 use Rattle.par_class.specs.declared.file.CodeAttr.{CodeAttr}
 use Rattle.par_class.specs.declared.file.MethodFile.{MethodFile}
 use Rattle.par_values.specs.declared.value.MVal.{MVal}
-use Rattle.par_link.specs.Conditions.{is_short}
+use Rattle.par_steps.specs.par_link.Conditions.{is_short}
 use Rattle.par_single.specs.declared.descriptor.Signature.{Signature}
 use Rattle.par_single.specs.Members.{text_at}
 use Rattle.par_single.specs.Links.{signature_said}
@@ -27,7 +27,7 @@ use Rattle.par_method_area.specs.Methods.{signature_of}
 use Rattle.par_method_area.specs.Signatures.{Told}
 use Rattle.par_method_area.proofs.Calling.{as-said, own-row, said-of}
 use Rattle.par_method_area.proofs.Saying.{signature-said}
-use Rattle.par_link.proofs.Faultless.{names-apart, small}
+use Rattle.par_steps.proofs.par_link.Faultless.{names-apart, small}
 
 pub all-at : {A : Type 0} (p : A → Bool) (xs : List A) (n : ℕ) (x : A) → list_all p xs ≡ true
     → Some x ≡ slice_get xs n → p x ≡ true

@@ -9,7 +9,7 @@ use Rattle.par_class.specs.declared.file.FieldFile.{FieldFile}
 use Rattle.par_values.specs.declared.value.MVal.{MVal}
 use Rattle.par_values.specs.declared.kind.Kind.TheVariants as kind
 use Rattle.par_values.specs.declared.link.FieldLink.{FieldLink}
-use Rattle.par_link.specs.Linked.{AreLinked}
+use Rattle.par_steps.specs.par_link.Linked.{AreLinked}
 use Rattle.par_lexer.specs.Names.{is_name}
 use Rattle.par_single.specs.Descriptors.{field_kind}
 use Rattle.par_single.specs.Members.{own_name, text_at}
@@ -28,7 +28,7 @@ use Rattle.par_method_area.proofs.Taking.{takes, takes-own, takes-none}
 use Rattle.par_method_area.proofs.Saying.{kind-named, field-said, told-kind}
 use Rattle.par_method_area.proofs.Numbered.{name-at, some-name, not-locks, locks-missed}
 use Rattle.par_method_area.proofs.Counts.{many-few}
-use Rattle.par_link.proofs.Faultless.{names-apart, field-right, own-name, small}
+use Rattle.par_steps.proofs.par_link.Faultless.{names-apart, field-right, own-name, small}
 
 module _ (files : List ClassFile) (rows : List ClassRow) (exceptions : List Bool)
     (statics : List MVal)

@@ -7,7 +7,7 @@ use Rattle.par_class.specs.declared.file.ClassFile.{ClassFile}
 use Rattle.par_class.specs.declared.file.CodeAttr.{CodeAttr}
 use Rattle.par_class.specs.declared.file.MethodFile.{MethodFile}
 use Rattle.par_instr.specs.Decoding.{decoded, decoded_at}
-use Rattle.par_link.specs.Conditions.{is_short}
+use Rattle.par_steps.specs.par_link.Conditions.{is_short}
 use Rattle.par_values.specs.declared.value.MVal.{MVal}
 use Rattle.par_starts.specs.Standing.{IsStanding, KnowsStanding}
 use Rattle.par_starts.specs.declared.standing.Standing.{Standing}
@@ -20,7 +20,7 @@ use Rattle.par_method_area.specs.Classes.{IsClassRow}
 use Rattle.par_method_area.specs.Methods.{IsMethodRow}
 use Rattle.par_method_area.proofs.Beside.{found, missing}
 use Rattle.par_method_area.proofs.Coded.{all-at}
-use Rattle.par_link.proofs.Faultless.{small}
+use Rattle.par_steps.proofs.par_link.Faultless.{small}
 
 nothing : (at : ℕ) → decoded_at [] at ≡ None
 nothing at = ap decoded (drop-nil {A = ℕ} at)

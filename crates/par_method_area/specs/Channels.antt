@@ -5,7 +5,7 @@ use Rattle.std.specs.Str.{bytes_eq}
 use Rattle.indexmap.specs.IndexMap.{get}
 use Rattle.par_index.specs.declared.firsts.Firsts.{Firsts}
 use Rattle.par_method_area.specs.declared.channels.Channel.{Channel}
-use Rattle.par_lines.specs.Lines as lines
+use Rattle.par_actions.specs.par_lines.Lines as lines
 
 -- the names of the class and of the channel
 abbrev pub named : Channel → lines.Channel

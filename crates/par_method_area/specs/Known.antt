@@ -19,9 +19,9 @@ use Rattle.par_values.specs.Reasons.{Spot}
 use Rattle.par_single.specs.declared.descriptor.Signature.{Signature}
 use Rattle.par_single.specs.Links.{kind_or_any, signature_said}
 use Rattle.par_single.specs.Walk.{starts_at}
-use Rattle.par_link.specs.declared.entry.Builtin.TheVariants.{Exception}
-use Rattle.par_link.specs.declared.entry.Named.{Named}
-use Rattle.par_link.specs.declared.entry.Named.TheVariants as named
+use Rattle.par_steps.specs.par_link.declared.entry.Builtin.TheVariants.{Exception}
+use Rattle.par_steps.specs.par_link.declared.entry.Named.{Named}
+use Rattle.par_steps.specs.par_link.declared.entry.Named.TheVariants as named
 use Rattle.par_steps.specs.Classes.{class_names}
 use Rattle.par_steps.specs.Methods.{method_file, method_code, method_descriptor}
 use Rattle.par_actions.specs.declared.creating.Class.{Class}
@@ -35,7 +35,7 @@ use Rattle.par_actions.specs.declared.callee.Target.TheVariants as aim
 use Rattle.par_method_area.specs.declared.known.Code.{Code}
 use Rattle.par_method_area.specs.declared.known.NamedField.{NamedField}
 use Rattle.par_method_area.specs.declared.known.MemberNames.{MemberNames}
-use Rattle.par_lines.specs.Lines.{Channel}
+use Rattle.par_actions.specs.par_lines.Lines.{Channel}
 use Rattle.par_actions.specs.Callee.{IsCallee, GivesInput}
 use Rattle.par_method_area.specs.Area.{Area, KnowsLines}
 

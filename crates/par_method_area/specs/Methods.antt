@@ -5,14 +5,14 @@ use Rattle.par_class.specs.declared.file.MethodFile.{MethodFile}
 use Rattle.par_class.specs.declared.file.ClassFile.{ClassFile}
 use Rattle.par_single.specs.declared.descriptor.Signature.{Signature}
 use Rattle.par_single.specs.Members.{text_at, own_name, is_initializer}
-use Rattle.par_single.specs.Single.{method_named}
+use Rattle.par_single.specs.Described.{method_named}
 use Rattle.par_single.specs.Links.{signature_said}
 use Rattle.par_single.specs.Walk.{starts_at}
 use Rattle.par_starts.specs.Standing.{IsStanding}
 use Rattle.par_starts.specs.declared.standing.Standing.{Standing}
 use Rattle.par_steps.specs.Methods.{code_or_none}
 use Rattle.par_method_area.specs.declared.methods.MethodRow.{MethodRow}
-use Rattle.par_lines.specs.Lines.{Channel, line_of}
+use Rattle.par_actions.specs.par_lines.Lines.{Channel, line_of}
 use Rattle.par_method_area.specs.Signatures.{Said, signature_in}
 
 -- it is told of each offset whether an instruction of the code starts there

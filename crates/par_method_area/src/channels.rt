@@ -2,7 +2,7 @@
 
 ghost use Rattle.std.specs.Prelude.{◌≡◌, map, IfOk};
 ghost use Rattle.std.specs.List.{All};
-ghost use Rattle.par_lines.specs.Lines.{channels_of, line_of};
+ghost use Rattle.par_actions.specs.par_lines.Lines.{channels_of, line_of};
 ghost use Rattle.par_method_area.specs.Channels.{named, IsShort};
 
 use par_index::Firsts;

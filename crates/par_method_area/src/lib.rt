@@ -25,3 +25,6 @@ mod told;
 
 pub use area::MethodArea;
 pub use known::{Code, MemberNames, NamedField};
+pub use par_actions;
+pub use par_steps;
+pub use par_steps::par_link;

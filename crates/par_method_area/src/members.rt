@@ -1,7 +1,7 @@
 //! What an index of a constant pool names, as it is told once.
 
 ghost use Rattle.std.specs.Prelude.{◌≡◌, [], true, false, slice_get};
-ghost use Rattle.par_link.specs.Linked.{named_at};
+ghost use Rattle.par_steps.specs.par_link.Linked.{named_at};
 ghost use Rattle.par_steps.specs.Classes.{class_names};
 ghost use Rattle.par_steps.specs.Links.{class_link, builtin_class, field_in, lock_link, method_in};
 ghost use Rattle.par_steps.specs.Links.{builtin_initializer, link_at};
@@ -15,10 +15,10 @@ use crate::statics::LOCKS;
 use par_actions::{Callee, Class, Field, Fit, Gives, Target};
 use par_class::file::MethodFile;
 use par_class::is_native;
-use par_link::{Builtin, Declared, Named};
 use par_pool::constant::Constant;
 use par_pool::kind::entry;
 use par_single::member::is_static;
+use par_steps::par_link::{Builtin, Declared, Named};
 
 /// Whether a method gives a result.
 fn gives_result(gives: Gives) -> bool

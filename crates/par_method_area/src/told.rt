@@ -11,8 +11,8 @@ ghost use Rattle.par_method_area.specs.Known.{KnowsNames};
 use crate::area::MethodArea;
 use crate::known::MemberNames;
 use crate::names::{ARITHMETIC_EXCEPTION, NULL_POINTER_EXCEPTION};
-use par_link::{Declared, Named};
 use par_single::member::{own_name, text_at};
+use par_steps::par_link::{Declared, Named};
 
 /// No names.
 const NAMELESS: MemberNames<'static> = MemberNames {

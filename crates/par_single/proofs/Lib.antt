@@ -1,5 +1,3 @@
-pub mod Walks
 pub mod Following
-pub mod Owned
-pub mod Alone
+pub mod Found
 pub mod Descriptions

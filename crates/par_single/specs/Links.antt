@@ -3,9 +3,9 @@
 use Rattle.std.specs.Prelude.{ℕ, Bool, suc, ◌+◌, true, false, if◌then◌else◌, List, [], ◌∷◌, length}
 use Rattle.std.specs.Prelude.{Option, Some, None, slice_get, codes, is_some}
 use Rattle.std.specs.Str.{bytes_eq}
-use Rattle.par_pool.specs.declared.constant.Constant.{Constant}
-use Rattle.par_pool.specs.declared.constant.Constant.TheVariants.{Integer, Field, Method}
-use Rattle.par_pool.specs.Entries.{entry_at}
+use Rattle.par_class.specs.par_pool.declared.constant.Constant.{Constant}
+use Rattle.par_class.specs.par_pool.declared.constant.Constant.TheVariants.{Integer, Field, Method}
+use Rattle.par_class.specs.par_pool.Entries.{entry_at}
 use Rattle.par_class.specs.declared.file.CodeAttr.{CodeAttr}
 use Rattle.par_class.specs.declared.file.FieldFile.{FieldFile}
 use Rattle.par_class.specs.declared.file.MethodFile.{MethodFile}

@@ -1,11 +1,10 @@
 -- What the indices of a constant pool say as texts, and where members stand in their classes.
-use Rattle.std.specs.Prelude.{ℕ, Bool, not, ◌&&◌, ◌==◌, bit_and, if◌then◌else◌, List, [], Option}
-use Rattle.std.specs.Prelude.{Some, None, map, codes}
+use Rattle.std.specs.Prelude.{ℕ, Bool, not, ◌&&◌, ◌==◌, bit_and, List, [], Option, Some, map, codes}
 use Rattle.std.specs.List.{position}
 use Rattle.std.specs.Str.{bytes_eq}
-use Rattle.par_pool.specs.declared.constant.Constant.{Constant}
-use Rattle.par_pool.specs.declared.constant.Constant.TheVariants.{Utf8, Class, NameType}
-use Rattle.par_pool.specs.Entries.{entry_at}
+use Rattle.par_class.specs.par_pool.declared.constant.Constant.{Constant}
+use Rattle.par_class.specs.par_pool.declared.constant.Constant.TheVariants.{Utf8, Class, NameType}
+use Rattle.par_class.specs.par_pool.Entries.{entry_at}
 use Rattle.par_class.specs.declared.file.FieldFile.{FieldFile}
 use Rattle.par_class.specs.declared.file.MethodFile.{MethodFile}
 use Rattle.par_class.specs.declared.file.ClassFile.{ClassFile}
@@ -77,14 +76,6 @@ field_place file m = position (is_field_of file.pool.entries m) file.fields
 
 abbrev pub method_place : ClassFile → Member → Option ℕ
 method_place file m = position (is_method_of file.pool.entries m) file.methods
-
--- the place of a field of the class of the file
-abbrev pub own_field : ClassFile → Member → Option ℕ
-own_field file m = if bytes_eq (own_name file) m.class then field_place file m else None
-
--- the place of a method of the class of the file
-abbrev pub own_method : ClassFile → Member → Option ℕ
-own_method file m = if bytes_eq (own_name file) m.class then method_place file m else None
 
 -- whether a member is the initializer, which takes and gives nothing
 abbrev pub is_initializer : Member → Bool

@@ -1,32 +1,12 @@
 -- The walk through code, from offset 0 on: opcodes, each with its operand bytes behind it.
-use Rattle.std.specs.Prelude.{ℕ, zero, suc, ℤ, pos, negsuc, Bool, true, false, ◌&&◌, List, [], ◌∷◌}
+use Rattle.std.specs.Prelude.{ℕ, zero, suc, ℤ, pos, negsuc, Bool, true, false, List, [], ◌∷◌}
 use Rattle.std.specs.Prelude.{Option, Some, None}
-use Rattle.par_instr.specs.Decoding.{Decoded, decoded}
-use Rattle.par_instr.specs.Spelling.{operand_bytes}
-use Rattle.par_single.specs.StraightLine.{is_straight_line}
+use Rattle.par_values.specs.par_instr.Spelling.{operand_bytes}
 
 -- what is asked of the number of an opcode's operand bytes; only a listed opcode passes
 abbrev pub if_listed : (ℕ → Bool) → Option ℕ → Bool
 if_listed test None = false
 if_listed test (Some operands) = test operands
-
--- whether an instruction is there, and one of straight-line code
-abbrev pub is_straight : Option Decoded → Bool
-is_straight None = false
-is_straight (Some d) = is_straight_line d.instr
-
--- Whether bytes are so many operand bytes, and behind them opcodes of straight-line code with
--- theirs.
-unfoldable pub walks_after : List ℕ → ℕ → Bool
-walks_after [] zero = true
-walks_after [] (suc operands) = false
-walks_after (op ∷ bytes) zero =
-    is_straight (decoded (op ∷ bytes)) && if_listed (walks_after bytes) (operand_bytes op)
-walks_after (operand ∷ bytes) (suc operands) = walks_after bytes operands
-
--- whether code is straight-line instructions, one behind the other, to its end
-abbrev pub walks : List ℕ → Bool
-walks code = walks_after code 0
 
 -- Whether an opcode stands at an offset of bytes that begin with so many operand bytes.
 unfoldable pub starts_after : List ℕ → ℕ → ℕ → Bool

@@ -2,15 +2,15 @@
 
 ghost use Rattle.std.specs.Prelude.{◌≡◌};
 ghost use Rattle.par_class.specs.Spelling.{is_native};
-ghost use Rattle.par_single.specs.Single.{is_field_right, is_of_channel, is_channel_right};
-ghost use Rattle.par_single.specs.Single.{is_method_right};
+ghost use Rattle.par_single.specs.Described.{is_field_right, is_of_channel, is_channel_right};
+ghost use Rattle.par_single.specs.Described.{is_method_right};
 
 use crate::descriptor::{field_said, method_gives};
 use crate::member::{is_static, text_at};
 use par_class::file::{FieldFile, MethodFile};
 use par_class::is_native;
-use par_lexer::name::Name;
-use par_pool::constant::Constant;
+use par_class::par_pool::constant::Constant;
+use par_values::par_lexer::name::Name;
 
 /// Whether a field has a name and the descriptor of a field.
 pub fn is_field_right(entries: &[Constant], field: &FieldFile) -> bool

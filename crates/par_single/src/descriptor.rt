@@ -5,9 +5,9 @@ ghost use Rattle.par_single.specs.Descriptors.{Text, kind_at, alone, field_kind,
 ghost use Rattle.par_single.specs.Descriptors.{kinds_at, result_kind, method_signature, kind_of};
 ghost use Rattle.par_single.specs.Descriptors.{IsSaid, ends_name, object_to};
 
-use par_lexer::list::{List, NoMemory};
-use par_lexer::name::Name;
 use par_values::kind::Kind;
+use par_values::par_lexer::list::{List, NoMemory};
+use par_values::par_lexer::name::Name;
 use std::alloc::Global;
 
 /// A kind of value as it stands in a descriptor.

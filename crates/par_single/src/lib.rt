@@ -1,10 +1,8 @@
 //! What a class file says of itself: the texts that its constant pool has, its members, and what
 //! their descriptors say.
 //!
-//! The definitions also say which class files run by themselves: whose descriptors say kinds, whose
-//! code is straight-line instructions to its end, and whose classes, fields and methods are all
-//! their own. No code asks that: it is said of what is compiled, and laws tell that such a file
-//! runs alike wherever it is linked.
+//! The definitions also say what each index of a constant pool names once names are looked up among
+//! some files (specs/Links.antt), and where instructions start in code (specs/Walk.antt).
 //!
 //! The crate runs nothing and knows no second file.
 #![tactic(auto)]
@@ -12,3 +10,6 @@
 pub mod described;
 pub mod descriptor;
 pub mod member;
+
+pub use par_class;
+pub use par_class::par_pool;

@@ -3,11 +3,11 @@
 ghost use Rattle.std.specs.Prelude.{◌≡◌, []};
 ghost use Rattle.par_single.specs.Members.{text_at, class_name_at, own_name, member_at, named};
 ghost use Rattle.par_single.specs.Members.{is_method_of, method_place, is_static, is_initializer};
-ghost use Rattle.par_single.specs.Single.{is_taken};
+ghost use Rattle.par_single.specs.Described.{is_taken};
 
 use par_class::file::{ClassFile, MethodFile};
-use par_pool::constant::Constant;
-use par_pool::kind::entry;
+use par_class::par_pool::constant::Constant;
+use par_class::par_pool::kind::entry;
 
 /// The text that an index names, no bytes where it names none.
 pub fn text_at(entries: &[Constant], index: u16) -> &[u8]

@@ -3,22 +3,23 @@
 -- bad code, which events there are, and where a run is stopped.
 use Rattle.std.specs.Int.{int_wrap}
 use Rattle.std.proofs.Common.{◌≡◌, ℕ, List, [], ◌∷◌, Some, refl, codes}
-use Rattle.par_pool.specs.declared.constant.Constant.{Constant}
-use Rattle.par_pool.specs.declared.constant.Constant.TheVariants.{Utf8, Class, Field, Method}
-use Rattle.par_pool.specs.declared.constant.Constant.TheVariants.{NameType}
-use Rattle.par_class.specs.declared.file.Catch.{Catch}
-use Rattle.par_class.specs.declared.file.MethodFile.{MethodFile}
-use Rattle.par_class.specs.declared.file.ClassFile.{ClassFile}
-use Rattle.par_values.specs.declared.run.Event.TheVariants.{Born}
-use Rattle.par_values.specs.declared.run.Ending.TheVariants.{End, Uncaught}
-use Rattle.par_values.specs.Areas.{Name}
-use Rattle.par_values.specs.Effects.{effect}
-use Rattle.par_values.specs.Reasons.{reason}
-use Rattle.par_values.specs.Ran.{Ran, Fine, BadCode, ended, stopped, with_event}
-use Rattle.par_instr.specs.Spelling.{opcode_row}
-use Rattle.par_instr.specs.Decoding.{instruction}
-use Rattle.par_single.specs.Descriptors.{kind_at, kinds_in}
-use Rattle.par_single.specs.Walk.{starts_after}
+use Rattle.par_link.specs.par_pool.declared.constant.Constant.{Constant}
+use Rattle.par_link.specs.par_pool.declared.constant.Constant.TheVariants.{Utf8, Class, Field}
+use Rattle.par_link.specs.par_pool.declared.constant.Constant.TheVariants.{Method}
+use Rattle.par_link.specs.par_pool.declared.constant.Constant.TheVariants.{NameType}
+use Rattle.par_link.specs.par_class.declared.file.Catch.{Catch}
+use Rattle.par_link.specs.par_class.declared.file.MethodFile.{MethodFile}
+use Rattle.par_link.specs.par_class.declared.file.ClassFile.{ClassFile}
+use Rattle.par_secrecy.specs.par_values.declared.run.Event.TheVariants.{Born}
+use Rattle.par_secrecy.specs.par_values.declared.run.Ending.TheVariants.{End, Uncaught}
+use Rattle.par_secrecy.specs.par_values.Areas.{Name}
+use Rattle.par_secrecy.specs.par_values.Effects.{effect}
+use Rattle.par_secrecy.specs.par_values.Reasons.{reason}
+use Rattle.par_secrecy.specs.par_values.Ran.{Ran, Fine, BadCode, ended, stopped, with_event}
+use Rattle.par_secrecy.specs.par_instr.Spelling.{opcode_row}
+use Rattle.par_secrecy.specs.par_instr.Decoding.{instruction}
+use Rattle.par_link.specs.par_single.Descriptors.{kind_at, kinds_in}
+use Rattle.par_link.specs.par_single.Walk.{starts_after}
 use Rattle.par_link.specs.Builtins.{builtin_field, builtin_method, lock_number}
 use Rattle.par_link.specs.Named.{named_by, field_of, method_of}
 use Rattle.par_steps.specs.Classes.{exceptions_from}

@@ -1,8 +1,8 @@
 -- Runs with more instructions go on where those with fewer were stopped.
 use Rattle.std.proofs.Common.{ℕ, zero, suc, ◌≤◌, List, [], ◌∷◌, refl, ap, arith}
-use Rattle.par_class.specs.declared.file.ClassFile.{ClassFile}
-use Rattle.par_values.specs.declared.run.Event.{Event}
-use Rattle.par_values.specs.Ran.{Ran, Outcome, ended, stopped, with_event}
+use Rattle.par_link.specs.par_class.declared.file.ClassFile.{ClassFile}
+use Rattle.par_secrecy.specs.par_values.declared.run.Event.{Event}
+use Rattle.par_secrecy.specs.par_values.Ran.{Ran, Outcome, ended, stopped, with_event}
 use Rattle.par_steps.specs.State.{State, start}
 use Rattle.par_steps.specs.Step.{Turn, Silent, Shows, Ends, IsBad, turn}
 use Rattle.par_steps.specs.Run.{followed, run, class_number, Extends, MoreInstructionsExtend}

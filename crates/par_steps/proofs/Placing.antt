@@ -4,10 +4,10 @@ use Rattle.std.proofs.Common.{◌∷◌, ◌++◌, length, take, map, replicate,
 use Rattle.std.proofs.Common.{ap, subst, ◌∙◌, arith, length-append, pos}
 use Rattle.std.proofs.lemmas.Option.{slice_get_within}
 use Rattle.std.specs.List.{filter}
-use Rattle.par_class.specs.declared.file.ClassFile.{ClassFile}
-use Rattle.par_class.specs.declared.file.FieldFile.{FieldFile}
-use Rattle.par_values.specs.declared.value.MVal.TheVariants.{Int}
-use Rattle.par_values.specs.Areas.{first_value}
+use Rattle.par_link.specs.par_class.declared.file.ClassFile.{ClassFile}
+use Rattle.par_link.specs.par_class.declared.file.FieldFile.{FieldFile}
+use Rattle.par_secrecy.specs.par_values.declared.value.MVal.TheVariants.{Int}
+use Rattle.par_secrecy.specs.par_values.Areas.{first_value}
 use Rattle.par_steps.specs.Fields.{is_shared, is_own, kind_of, object_kinds, first_statics}
 use Rattle.par_steps.specs.Fields.{class_statics, field_place, many_of}
 use Rattle.par_steps.specs.FieldLaws.{IsFieldOf, StaticFieldsApart, StaticFieldsStand}

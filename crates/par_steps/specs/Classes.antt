@@ -2,9 +2,9 @@
 -- behind them the two exceptions that every program has.
 use Rattle.std.specs.Prelude.{ℕ, suc, ◌+◌, Bool, if◌then◌else◌, List, [], ◌∷◌, ◌++◌, length, codes}
 use Rattle.std.specs.Str.{bytes_eq}
-use Rattle.par_class.specs.declared.file.ClassFile.{ClassFile}
-use Rattle.par_values.specs.Areas.{Name}
-use Rattle.par_single.specs.Members.{class_name_at, own_names}
+use Rattle.par_link.specs.par_class.declared.file.ClassFile.{ClassFile}
+use Rattle.par_secrecy.specs.par_values.Areas.{Name}
+use Rattle.par_link.specs.par_single.Members.{class_name_at, own_names}
 
 -- the name of each class, as a run shows it
 abbrev pub class_names : List ClassFile → List Name

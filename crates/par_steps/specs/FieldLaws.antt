@@ -2,10 +2,10 @@
 -- and what stands there first is what a field of its kind holds before it is written.
 use Rattle.std.specs.Prelude.{◌≡◌, ℕ, ◌<◌, ◌≤◌, true, false, pos, List, length, map, Some}
 use Rattle.std.specs.Prelude.{slice_get}
-use Rattle.par_class.specs.declared.file.FieldFile.{FieldFile}
-use Rattle.par_class.specs.declared.file.ClassFile.{ClassFile}
-use Rattle.par_values.specs.declared.value.MVal.TheVariants.{Int}
-use Rattle.par_values.specs.Areas.{first_value}
+use Rattle.par_link.specs.par_class.declared.file.FieldFile.{FieldFile}
+use Rattle.par_link.specs.par_class.declared.file.ClassFile.{ClassFile}
+use Rattle.par_secrecy.specs.par_values.declared.value.MVal.TheVariants.{Int}
+use Rattle.par_secrecy.specs.par_values.Areas.{first_value}
 use Rattle.par_steps.specs.Fields.{is_shared, kind_of, object_kinds, class_statics, all_statics}
 use Rattle.par_steps.specs.Fields.{field_place, lock_place}
 

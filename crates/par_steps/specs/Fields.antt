@@ -3,15 +3,15 @@
 use Rattle.std.specs.Prelude.{ℕ, ◌+◌, Bool, not, if◌then◌else◌, pos, List, [], ◌∷◌, ◌++◌, length}
 use Rattle.std.specs.Prelude.{map, take, replicate}
 use Rattle.std.specs.List.{filter}
-use Rattle.par_pool.specs.declared.constant.Constant.{Constant}
-use Rattle.par_class.specs.declared.file.FieldFile.{FieldFile}
-use Rattle.par_class.specs.declared.file.ClassFile.{ClassFile}
-use Rattle.par_values.specs.declared.kind.Kind.{Kind}
-use Rattle.par_values.specs.declared.value.MVal.{MVal}
-use Rattle.par_values.specs.declared.value.MVal.TheVariants.{Int}
-use Rattle.par_values.specs.Areas.{first_value}
-use Rattle.par_single.specs.Members.{text_at, is_static}
-use Rattle.par_single.specs.Links.{kind_said}
+use Rattle.par_link.specs.par_pool.declared.constant.Constant.{Constant}
+use Rattle.par_link.specs.par_class.declared.file.FieldFile.{FieldFile}
+use Rattle.par_link.specs.par_class.declared.file.ClassFile.{ClassFile}
+use Rattle.par_secrecy.specs.par_values.declared.kind.Kind.{Kind}
+use Rattle.par_secrecy.specs.par_values.declared.value.MVal.{MVal}
+use Rattle.par_secrecy.specs.par_values.declared.value.MVal.TheVariants.{Int}
+use Rattle.par_secrecy.specs.par_values.Areas.{first_value}
+use Rattle.par_link.specs.par_single.Members.{text_at, is_static}
+use Rattle.par_link.specs.par_single.Links.{kind_said}
 
 abbrev pub is_shared : FieldFile → Bool
 is_shared f = is_static f.access

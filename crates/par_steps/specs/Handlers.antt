@@ -2,14 +2,14 @@
 -- that one are dropped (Java Virtual Machine Specification, Java SE 7, section 2.10).
 use Rattle.std.specs.Prelude.{ℕ, Bool, true, false, not, ◌&&◌, ◌||◌, ◌==◌, nat_lt, nat_le}
 use Rattle.std.specs.Prelude.{if◌then◌else◌, List, [], ◌∷◌, Option, Some, None}
-use Rattle.par_class.specs.declared.file.Catch.{Catch}
-use Rattle.par_class.specs.declared.file.ClassFile.{ClassFile}
+use Rattle.par_link.specs.par_class.declared.file.Catch.{Catch}
+use Rattle.par_link.specs.par_class.declared.file.ClassFile.{ClassFile}
 use Rattle.par_link.specs.declared.entry.Builtin.{Builtin}
 use Rattle.par_link.specs.declared.entry.Builtin.TheVariants as builtin
 use Rattle.par_link.specs.declared.entry.Named.{Named}
 use Rattle.par_link.specs.declared.entry.Named.TheVariants as named
 use Rattle.par_link.specs.Linked.{named_at}
-use Rattle.par_single.specs.Walk.{starts_at}
+use Rattle.par_link.specs.par_single.Walk.{starts_at}
 use Rattle.par_steps.specs.Classes.{arithmetic_exception, null_pointer_exception}
 use Rattle.par_steps.specs.Methods.{method_code}
 use Rattle.par_steps.specs.State.{Frame}

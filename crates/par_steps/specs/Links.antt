@@ -1,24 +1,24 @@
 -- What each index of a constant pool is to an instruction.
 use Rattle.std.specs.Prelude.{ℕ, Bool, true, false, if◌then◌else◌, List, [], ◌∷◌, Option, Some}
 use Rattle.std.specs.Prelude.{None, slice_get, is_some, codes}
-use Rattle.par_pool.specs.declared.constant.Constant.{Constant}
-use Rattle.par_pool.specs.declared.constant.Constant.TheVariants.{Integer}
-use Rattle.par_pool.specs.Entries.{entry_at}
-use Rattle.par_class.specs.declared.file.FieldFile.{FieldFile}
-use Rattle.par_class.specs.declared.file.MethodFile.{MethodFile}
-use Rattle.par_class.specs.declared.file.ClassFile.{ClassFile}
-use Rattle.par_class.specs.Spelling.{is_native}
-use Rattle.par_values.specs.declared.kind.Kind.{Kind}
-use Rattle.par_values.specs.declared.kind.Kind.TheVariants.{Number, Object, AnyObject}
-use Rattle.par_values.specs.declared.link.Target.{Target}
-use Rattle.par_values.specs.declared.link.Target.TheVariants.{Input, Output, Code}
-use Rattle.par_values.specs.declared.link.Target.TheVariants as target
-use Rattle.par_values.specs.declared.link.Link.{Link}
-use Rattle.par_values.specs.declared.link.Link.TheVariants as link
-use Rattle.par_values.specs.Areas.{Name}
-use Rattle.par_single.specs.Members.{text_at, own_name, is_static, is_initializer}
-use Rattle.par_single.specs.Links.{signature_said, locals_of}
-use Rattle.par_single.specs.Single.{method_named}
+use Rattle.par_link.specs.par_pool.declared.constant.Constant.{Constant}
+use Rattle.par_link.specs.par_pool.declared.constant.Constant.TheVariants.{Integer}
+use Rattle.par_link.specs.par_pool.Entries.{entry_at}
+use Rattle.par_link.specs.par_class.declared.file.FieldFile.{FieldFile}
+use Rattle.par_link.specs.par_class.declared.file.MethodFile.{MethodFile}
+use Rattle.par_link.specs.par_class.declared.file.ClassFile.{ClassFile}
+use Rattle.par_link.specs.par_class.Spelling.{is_native}
+use Rattle.par_secrecy.specs.par_values.declared.kind.Kind.{Kind}
+use Rattle.par_secrecy.specs.par_values.declared.kind.Kind.TheVariants.{Number, Object, AnyObject}
+use Rattle.par_secrecy.specs.par_values.declared.link.Target.{Target}
+use Rattle.par_secrecy.specs.par_values.declared.link.Target.TheVariants.{Input, Output, Code}
+use Rattle.par_secrecy.specs.par_values.declared.link.Target.TheVariants as target
+use Rattle.par_secrecy.specs.par_values.declared.link.Link.{Link}
+use Rattle.par_secrecy.specs.par_values.declared.link.Link.TheVariants as link
+use Rattle.par_secrecy.specs.par_values.Areas.{Name}
+use Rattle.par_link.specs.par_single.Members.{text_at, own_name, is_static, is_initializer}
+use Rattle.par_link.specs.par_single.Links.{signature_said, locals_of}
+use Rattle.par_link.specs.par_single.Described.{method_named}
 use Rattle.par_link.specs.declared.entry.Builtin.{Builtin}
 use Rattle.par_link.specs.declared.entry.Builtin.TheVariants as builtin
 use Rattle.par_link.specs.declared.entry.Named.{Named}

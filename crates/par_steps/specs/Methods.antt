@@ -1,11 +1,11 @@
 -- The methods of a program by the number of their class and their place in its table.
 use Rattle.std.specs.Prelude.{ℕ, List, [], Option, Some, None, slice_get}
-use Rattle.par_pool.specs.declared.constant.Constant.{Constant}
-use Rattle.par_class.specs.declared.file.CodeAttr.{CodeAttr}
-use Rattle.par_class.specs.declared.file.MethodFile.{MethodFile}
-use Rattle.par_class.specs.declared.file.ClassFile.{ClassFile}
-use Rattle.par_values.specs.Areas.{Name}
-use Rattle.par_single.specs.Members.{text_at}
+use Rattle.par_link.specs.par_pool.declared.constant.Constant.{Constant}
+use Rattle.par_link.specs.par_class.declared.file.CodeAttr.{CodeAttr}
+use Rattle.par_link.specs.par_class.declared.file.MethodFile.{MethodFile}
+use Rattle.par_link.specs.par_class.declared.file.ClassFile.{ClassFile}
+use Rattle.par_secrecy.specs.par_values.Areas.{Name}
+use Rattle.par_link.specs.par_single.Members.{text_at}
 
 abbrev pub pool_of : Option ClassFile → List Constant
 pool_of None = []

@@ -2,8 +2,8 @@
 use Rattle.std.specs.Prelude.{ℕ, ◌-◌, List, ◌++◌, length, map, replicate, reverse, Option, Some}
 use Rattle.std.specs.Prelude.{None}
 use Rattle.std.specs.List.{flat_map}
-use Rattle.par_class.specs.declared.file.ClassFile.{ClassFile}
-use Rattle.par_values.specs.declared.value.MVal.{MVal}
+use Rattle.par_link.specs.par_class.declared.file.ClassFile.{ClassFile}
+use Rattle.par_secrecy.specs.par_values.declared.value.MVal.{MVal}
 use Rattle.par_steps.specs.Methods.{method_code}
 use Rattle.par_steps.specs.State.{Frame}
 

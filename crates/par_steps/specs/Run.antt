@@ -2,13 +2,13 @@
 use Rattle.std.specs.Prelude.{◌≡◌, ℕ, zero, suc, ◌≤◌, List, ◌++◌}
 use Rattle.std.specs.List.{position_or_len}
 use Rattle.std.specs.Str.{bytes_eq}
-use Rattle.par_class.specs.declared.file.ClassFile.{ClassFile}
-use Rattle.par_values.specs.declared.run.Event.{Event}
-use Rattle.par_values.specs.declared.run.Ending.TheVariants.{Stopped}
-use Rattle.par_values.specs.declared.inputs.Inputs.{Inputs}
-use Rattle.par_values.specs.Areas.{Name}
-use Rattle.par_values.specs.Ran.{Ran, Fine, BadCode, ended, stopped, with_event}
-use Rattle.par_single.specs.Members.{own_name}
+use Rattle.par_link.specs.par_class.declared.file.ClassFile.{ClassFile}
+use Rattle.par_secrecy.specs.par_values.declared.run.Event.{Event}
+use Rattle.par_secrecy.specs.par_values.declared.run.Ending.TheVariants.{Stopped}
+use Rattle.par_secrecy.specs.par_values.declared.inputs.Inputs.{Inputs}
+use Rattle.par_secrecy.specs.par_values.Areas.{Name}
+use Rattle.par_secrecy.specs.par_values.Ran.{Ran, Fine, BadCode, ended, stopped, with_event}
+use Rattle.par_link.specs.par_single.Members.{own_name}
 use Rattle.par_steps.specs.State.{State, start}
 use Rattle.par_steps.specs.Step.{Turn, Silent, Shows, Ends, IsBad, turn}
 

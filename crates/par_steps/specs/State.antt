@@ -2,13 +2,13 @@
 -- Specification, Java SE 7, sections 2.5 and 2.6).
 use Rattle.std.specs.Prelude.{ℕ, ◌+◌, List, [], ◌∷◌, Option, Some, None, slice_get, replicate}
 use Rattle.std.specs.Prelude.{length}
-use Rattle.par_class.specs.declared.file.ClassFile.{ClassFile}
-use Rattle.par_values.specs.declared.value.MVal.{MVal}
-use Rattle.par_values.specs.declared.inputs.Inputs.{Inputs}
-use Rattle.par_values.specs.declared.inputs.ChannelInput.{ChannelInput}
-use Rattle.par_values.specs.Areas.{InputLists, Objects}
-use Rattle.par_single.specs.Members.{own_name, method_place}
-use Rattle.par_single.specs.Single.{main_member}
+use Rattle.par_link.specs.par_class.declared.file.ClassFile.{ClassFile}
+use Rattle.par_secrecy.specs.par_values.declared.value.MVal.{MVal}
+use Rattle.par_secrecy.specs.par_values.declared.inputs.Inputs.{Inputs}
+use Rattle.par_secrecy.specs.par_values.declared.inputs.ChannelInput.{ChannelInput}
+use Rattle.par_secrecy.specs.par_values.Areas.{InputLists, Objects}
+use Rattle.par_link.specs.par_single.Members.{own_name, method_place}
+use Rattle.par_link.specs.par_single.Described.{main_member}
 use Rattle.par_secrecy.specs.Subject.{given}
 use Rattle.par_steps.specs.Methods.{method_code}
 use Rattle.par_steps.specs.Fields.{all_statics}

@@ -2,28 +2,31 @@
 use Rattle.std.specs.Prelude.{ℕ, ◌+◌, ℤ, pos, negsuc, ◌+ℤ◌, Bool, true, false, not, if◌then◌else◌}
 use Rattle.std.specs.Prelude.{min, List, [], ◌∷◌, Option, Some, None, is_none, codes}
 use Rattle.std.specs.Str.{bytes_eq}
-use Rattle.par_instr.specs.declared.instr.Instr.{Instr}
-use Rattle.par_instr.specs.declared.instr.Instr.TheVariants.{Invokevirtual, Invokespecial}
-use Rattle.par_instr.specs.Decoding.{Decoded, decoded_at}
-use Rattle.par_class.specs.declared.file.ClassFile.{ClassFile}
-use Rattle.par_values.specs.declared.value.MVal.{MVal}
-use Rattle.par_values.specs.declared.value.MVal.TheVariants.{Int, Null, Ref}
-use Rattle.par_values.specs.declared.run.Event.{Event}
-use Rattle.par_values.specs.declared.run.Event.TheVariants.{Set}
-use Rattle.par_values.specs.declared.run.Ending.{Ending}
-use Rattle.par_values.specs.declared.run.Ending.TheVariants.{End, Uncaught}
-use Rattle.par_values.specs.Areas.{Name, Areas, class_named, first_locals, operand, next_number}
-use Rattle.par_values.specs.Areas.{with_object}
-use Rattle.par_values.specs.Operations.{operation}
-use Rattle.par_values.specs.Reasons.{Spot, reason, is_of}
-use Rattle.par_values.specs.Effects.{Effect, Goes, Happens, Jumps, Calls, Throws, ThrowsObject}
-use Rattle.par_values.specs.Effects.{Returns, ReturnsWith, effect}
+use Rattle.par_secrecy.specs.par_instr.declared.instr.Instr.{Instr}
+use Rattle.par_secrecy.specs.par_instr.declared.instr.Instr.TheVariants.{Invokevirtual}
+use Rattle.par_secrecy.specs.par_instr.declared.instr.Instr.TheVariants.{Invokespecial}
+use Rattle.par_secrecy.specs.par_instr.Decoding.{Decoded, decoded_at}
+use Rattle.par_link.specs.par_class.declared.file.ClassFile.{ClassFile}
+use Rattle.par_secrecy.specs.par_values.declared.value.MVal.{MVal}
+use Rattle.par_secrecy.specs.par_values.declared.value.MVal.TheVariants.{Int, Null, Ref}
+use Rattle.par_secrecy.specs.par_values.declared.run.Event.{Event}
+use Rattle.par_secrecy.specs.par_values.declared.run.Event.TheVariants.{Set}
+use Rattle.par_secrecy.specs.par_values.declared.run.Ending.{Ending}
+use Rattle.par_secrecy.specs.par_values.declared.run.Ending.TheVariants.{End, Uncaught}
+use Rattle.par_secrecy.specs.par_values.Areas.{Name, Areas, class_named, first_locals, operand}
+use Rattle.par_secrecy.specs.par_values.Areas.{next_number}
+use Rattle.par_secrecy.specs.par_values.Areas.{with_object}
+use Rattle.par_secrecy.specs.par_values.Operations.{operation}
+use Rattle.par_secrecy.specs.par_values.Reasons.{Spot, reason, is_of}
+use Rattle.par_secrecy.specs.par_values.Effects.{Effect, Goes, Happens, Jumps, Calls, Throws}
+use Rattle.par_secrecy.specs.par_values.Effects.{ThrowsObject}
+use Rattle.par_secrecy.specs.par_values.Effects.{Returns, ReturnsWith, effect}
 use Rattle.par_link.specs.declared.entry.Builtin.TheVariants.{Exception}
 use Rattle.par_link.specs.declared.entry.Named.{Named}
 use Rattle.par_link.specs.declared.entry.Named.TheVariants.{Initializer}
 use Rattle.par_link.specs.Linked.{named_at}
-use Rattle.par_single.specs.Links.{kind_or_any, signature_said}
-use Rattle.par_single.specs.Walk.{stands_at}
+use Rattle.par_link.specs.par_single.Links.{kind_or_any, signature_said}
+use Rattle.par_link.specs.par_single.Walk.{stands_at}
 use Rattle.par_steps.specs.Classes.{class_names, exception_named, exceptions}
 use Rattle.par_steps.specs.Methods.{method_code, method_name, method_descriptor}
 use Rattle.par_steps.specs.Links.{link_at}

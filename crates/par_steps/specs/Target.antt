@@ -1,8 +1,8 @@
 -- Linked class files as what runs a program.
 use Rattle.std.specs.Prelude.{List}
-use Rattle.par_class.specs.declared.file.ClassFile.{ClassFile}
+use Rattle.par_link.specs.par_class.declared.file.ClassFile.{ClassFile}
 use Rattle.par_secrecy.specs.Target.{Target}
-use Rattle.par_values.specs.Areas.{Name}
+use Rattle.par_secrecy.specs.par_values.Areas.{Name}
 use Rattle.par_link.specs.Inputs.{has_input}
 use Rattle.par_steps.specs.Run.{machine_run}
 

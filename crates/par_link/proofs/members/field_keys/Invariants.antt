@@ -1,5 +1,5 @@
 use Rattle.std.proofs.Common.{◌≡◌, map, take}
-use Rattle.par_single.specs.Single.{field_named}
+use Rattle.par_single.specs.Described.{field_named}
 use Rattle.par_link.specs.Placed.{keys_of}
 use Rattle.par_link.proofs.members.field_keys.Given as goal
 

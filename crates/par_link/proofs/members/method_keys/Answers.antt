@@ -1,6 +1,6 @@
 use Rattle.std.proofs.Common.{◌≡◌, ◌<◌, [], ◌∷◌, ◌++◌, List, length, get_or, ap, subst, ◌∙◌}
-use Rattle.par_class.specs.declared.file.MethodFile.{MethodFile}
-use Rattle.par_pool.specs.declared.constant.Constant.{Constant}
+use Rattle.par_single.specs.par_class.declared.file.MethodFile.{MethodFile}
+use Rattle.par_single.specs.par_pool.declared.constant.Constant.{Constant}
 use Rattle.par_single.specs.Members.{text_at}
 use Rattle.par_link.proofs.Keyed.{keys-more}
 use Rattle.par_link.specs.declared.keys.Key.{Key}

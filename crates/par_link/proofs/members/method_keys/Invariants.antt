@@ -1,5 +1,5 @@
 use Rattle.std.proofs.Common.{◌≡◌, map, take}
-use Rattle.par_single.specs.Single.{method_named}
+use Rattle.par_single.specs.Described.{method_named}
 use Rattle.par_link.specs.Placed.{keys_of}
 use Rattle.par_link.proofs.members.method_keys.Given as goal
 

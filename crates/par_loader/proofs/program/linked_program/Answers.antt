@@ -21,7 +21,7 @@ returns-clause-judges g c =
     judges (g.F.Folder.files c.args.folder.now) (own_name c.args.file)
     (g.F.Folder.counts c.args.folder.now) (g.F.Folder.counts c.loading_of.new.folder)
     c.in_ok-loading.loading c.linked.result c.in_ok-loading.ensures.loads
-    (ap name_of c.in_ok-loading.ensures.first) c.in_ok-loading.ensures.few c.linked.ensures.links
+    (ap name_of c.in_ok-loading.ensures.first) c.linked.ensures.links
 
 pub returns-clause-read : goal.returns-clause-read
 returns-clause-read g c =

@@ -1,6 +1,6 @@
 use Rattle.std.proofs.Common.{◌≡◌, map, take}
 use Rattle.std.specs.List.{All}
-use Rattle.par_lines.specs.Lines.{channels_of}
+use Rattle.par_actions.specs.par_lines.Lines.{channels_of}
 use Rattle.par_method_area.specs.Channels.{named, IsShort}
 use Rattle.par_method_area.proofs.channels.channels.Given as goal
 

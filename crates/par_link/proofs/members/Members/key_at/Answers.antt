@@ -1,7 +1,7 @@
 use Rattle.std.proofs.Common.{◌≡◌, [], List, Option, Some, sym, ap, ◌∙◌}
-use Rattle.par_pool.specs.declared.constant.Constant.{Constant}
-use Rattle.par_pool.specs.declared.constant.Constant.TheVariants.{NameType}
-use Rattle.par_pool.specs.Entries.{entry_at}
+use Rattle.par_single.specs.par_pool.declared.constant.Constant.{Constant}
+use Rattle.par_single.specs.par_pool.declared.constant.Constant.TheVariants.{NameType}
+use Rattle.par_single.specs.par_pool.Entries.{entry_at}
 use Rattle.par_single.specs.Members.{text_at, member_of}
 use Rattle.par_link.specs.Placed.{key_of}
 use Rattle.par_link.proofs.members.Members.key_at.Goals as goal

@@ -1,5 +1,5 @@
 use Rattle.std.proofs.Common.{◌+◌, Some, length, sym, subst, ap, ◌∙◌, codes, arith}
-use Rattle.par_link.specs.declared.entry.Builtin.{Builtin}
+use Rattle.par_steps.specs.par_link.declared.entry.Builtin.{Builtin}
 use Rattle.par_steps.specs.Classes.{class_names}
 use Rattle.par_steps.specs.Links.{builtin_class}
 use Rattle.par_method_area.specs.Area.{Area}

@@ -6,7 +6,7 @@ use Rattle.par_method_area.specs.Area.{Area}
 use Rattle.par_method_area.specs.Known.{KnowsField}
 use Rattle.par_method_area.proofs.Placed.{lock-found}
 use Rattle.par_method_area.proofs.Counts.{all-count, statics-few}
-use Rattle.par_link.proofs.Faultless.{small}
+use Rattle.par_steps.proofs.par_link.Faultless.{small}
 use Rattle.par_method_area.proofs.area.MethodArea.lock.Goals as goal
 
 pub overflow_cast-result : goal.overflow_cast-result

@@ -1,5 +1,5 @@
 use Rattle.std.proofs.Common.{sym, ap, ◌∙◌, arith}
-use Rattle.par_lines.specs.Lines.{line_of}
+use Rattle.par_actions.specs.par_lines.Lines.{line_of}
 use Rattle.par_method_area.proofs.Lining.{long-none}
 use Rattle.par_method_area.proofs.channels.ChannelLines.line.Goals as goal
 

@@ -1,9 +1,0 @@
-use Rattle.std.proofs.Common.{◌≡◌, drop}
-use Rattle.par_secrecy.specs.Subject.{given}
-use Rattle.par_straight.proofs.lines.given.Given as goal
-
--- the lines so far are not for this channel
-abbrev pub invariant-loop-line : goal.invariant-loop-line
-invariant-loop-line l =
-    given l.inputs.channels l.class l.channel
-    ≡ given (drop l.line-index l.line-items) l.class l.channel

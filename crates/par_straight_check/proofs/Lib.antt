@@ -1,4 +1,0 @@
-pub mod Joins
-pub mod Worths
-pub mod Steps
-pub mod Reached

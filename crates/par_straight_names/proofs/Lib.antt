@@ -1,4 +1,0 @@
-pub mod Counting
-pub mod Numbering
-pub mod Declarations
-pub mod Permissions

@@ -1,4 +1,0 @@
-pub mod Passes
-pub mod Pending
-pub mod Follows
-pub mod Sentences
