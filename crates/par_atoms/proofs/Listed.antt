@@ -1,6 +1,6 @@
 -- The members of a set as a list.
-use Rattle.std.proofs.Common.{◌≡◌, ℕ, ◌+◌, ◌<◌, ◌≤◌, false, ◌&&◌, List, [], get_or, Contains, sym}
-use Rattle.std.proofs.Common.{ap, ◌∙◌, arith}
+use Rattle.std.proofs.Common.{◌≡◌, ℕ, ◌+◌, ◌<◌, ◌≤◌, Bool, true, false, ◌&&◌, List, [], get_or}
+use Rattle.std.proofs.Common.{Contains, sym, ap, ◌∙◌, refl, arith}
 use Rattle.std.specs.Prelude.{IsTrue, ◌↔◌, nat_lt}
 use Rattle.std.specs.List.{filter, range_with_len}
 use Rattle.std.proofs.lemmas.Bool.{and_parts, and_from, ltb-true, lt-ltb, le-ltb}
@@ -15,7 +15,7 @@ use Rattle.par_policy.proofs.Seen.{same_tests}
 use Rattle.par_policy.proofs.Members.{Contains-from_has, has-from_Contains}
 use Rattle.par_policy.proofs.Filtered.{Contains-from_filter, Contains-filter}
 use Rattle.par_policy.proofs.Below.{join_below-from_each, each_below-from_join}
-use Rattle.par_bits.specs.Sets.{has}
+use Rattle.par_policy.specs.par_bits.Sets.{has}
 use Rattle.par_atoms.specs.Atoms.{members}
 
 Contains-range : (bound n : ℕ) → n < bound → Contains (range_with_len 0 bound) n
@@ -97,3 +97,18 @@ has_below set n below = sym (ap (λ b. b && has set n) (lt-ltb n 256 below)) ∙
 
 pub has_not_above : (set n : ℕ) → 256 ≤ n → false ≡ numbers.has (members set) n
 has_not_above set n above = sym (ap (λ b. b && has set n) (le-ltb n 256 above)) ∙ has_members set n
+
+and_false : (a : Bool) → (a && false) ≡ false
+and_false true = refl
+and_false false = refl
+
+-- a set without numbers above is that of its members
+pub has_listed : (set : ℕ) → ((n : ℕ) → IsTrue (has set n) → n < 256) → (n : ℕ)
+    → has set n ≡ numbers.has (members set) n
+has_listed set small n = by_test (has set n) refl
+  where
+    by_test : (b : Bool) → has set n ≡ b → has set n ≡ numbers.has (members set) n
+    by_test true h = has_below set n (small n h)
+    by_test false h =
+        h ∙ sym (and_false (nat_lt n 256)) ∙ ap (λ b. nat_lt n 256 && b) (sym h)
+        ∙ has_members set n

@@ -3,7 +3,7 @@ use Rattle.std.specs.Prelude.{ℕ, List}
 use Rattle.std.specs.List.{filter, range_with_len}
 use Rattle.par_policy.specs.declared.clauses.Clause.{Clause}
 use Rattle.par_policy.specs.Order.{IsJoinBelowAt, policies_of}
-use Rattle.par_bits.specs.Sets.{has}
+use Rattle.par_policy.specs.par_bits.Sets.{has}
 
 -- the members of the set, ascending
 unfoldable pub members : ℕ → List ℕ

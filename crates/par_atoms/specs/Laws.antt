@@ -3,7 +3,7 @@ use Rattle.std.specs.Prelude.{ℕ, ◌<◌, ◌↔◌, List, [], Contains, IsTru
 use Rattle.par_policy.specs.declared.clauses.Clause.{Clause}
 use Rattle.par_policy.specs.Numbers.{IsAscending}
 use Rattle.par_policy.specs.Order.{IsBelowAt, IsJoinBelowAt, policies_of}
-use Rattle.par_bits.specs.Sets.{has}
+use Rattle.par_policy.specs.par_bits.Sets.{has}
 use Rattle.par_atoms.specs.Atoms.{members}
 
 -- the members are exactly the numbers below 256 that the set has, each above those before it

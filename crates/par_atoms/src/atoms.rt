@@ -1,10 +1,11 @@
 // Joins of policies.
-ghost use Rattle.std.specs.Prelude.{◌≡◌, ℕ, ◌<◌, ◌↔◌, IsTrue, length};
-ghost use Rattle.par_bits.specs.Sets.{has, none, adding, union, minus, IsWithin};
-ghost use Rattle.par_atoms.specs.Atoms.{IsSetBelowAt};
+ghost use Rattle.std.specs.Prelude.{◌≡◌, ℕ, ◌<◌, ◌↔◌, [], IsTrue, length, slice_index_or};
+ghost use Rattle.par_policy.specs.par_bits.Sets.{has, none, adding, union, minus, IsWithin};
+ghost use Rattle.par_policy.specs.Order.{IsBelowAt};
+ghost use Rattle.par_atoms.specs.Atoms.{members, IsSetBelowAt};
 
 use crate::opened::Opened;
-use par_bits::Bits;
+use par_policy::par_bits::Bits;
 use par_policy::{Policy, leq_where};
 use std::marker::Model;
 
@@ -25,6 +26,16 @@ impl Model for Atoms {
     ghost view = { λ a. a.policies };
 
     ghost inverse = { λ n. record { policies = n } };
+}
+
+/// Whether the policy of a number, specialised to the locks, is below `q`.
+pub fn is_below_at(policies: &[Policy], number: u16, locks: &Bits<4>, q: &Policy) -> bool
+    requires { number < length policies.now }
+    ensures { IsTrue result
+        ↔ IsBelowAt (slice_index_or policies.now number []) (members locks.now) q.now }
+{
+    let opened = Opened { locks };
+    leq_where(&policies[usize::from(number)], &opened, q)
 }
 
 impl Atoms {

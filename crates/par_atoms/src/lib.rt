@@ -7,5 +7,5 @@ mod atoms;
 mod laws;
 mod opened;
 
-pub use atoms::Atoms;
+pub use atoms::{Atoms, is_below_at};
 pub use laws::{join_is_below_where_each_is, members_are_those_had};

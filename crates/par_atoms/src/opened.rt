@@ -1,8 +1,8 @@
 // Open locks as bits.
 ghost use Rattle.par_atoms.specs.Atoms.{members};
 
-use par_bits::Bits;
 use par_policy::OpenLocks;
+use par_policy::par_bits::Bits;
 
 const LOCKS: u16 = 256;
 
@@ -17,5 +17,10 @@ impl OpenLocks for Opened<'_> {
 
     fn is_open(&self, lock: u16) -> bool {
         lock < LOCKS && self.locks.has(u32::from(lock))
+    }
+
+    fn as_bits(&self) -> Option<Bits<4>> {
+        self.locks.members_are_below();
+        Some(*self.locks)
     }
 }

@@ -12,7 +12,7 @@ both true false f g = sym (f refl)
 both false true f g = g refl
 both false false f g = refl
 
-same_within : (a b : ℕ) → IsWithin (has a) (has b) → IsWithin (has b) (has a) → a ≡ b
+pub same_within : (a b : ℕ) → IsWithin (has a) (has b) → IsWithin (has b) (has a) → a ≡ b
 same_within a b f g = same_members a b (λ n. both (has a n) (has b n) (f n) (g n))
 
 within_same : (a b : ℕ) → a ≡ b → IsWithin (has a) (has b)

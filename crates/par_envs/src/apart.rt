@@ -1,5 +1,5 @@
 // Where two environments differ.
-ghost use Rattle.std.specs.Prelude.{◌≡◌, ◌≢◌, ℕ, nat_eq, MatchOption};
+ghost use Rattle.std.specs.Prelude.{◌≡◌, ◌≢◌, ℕ, nat_eq, MatchOption, length};
 ghost use Rattle.par_envs.specs.Same.{policy, AreSame};
 
 use par_atoms::Atoms;
@@ -22,8 +22,22 @@ pub fn is_same(one: &Atoms, other: &Atoms) -> bool
     one.within(other) && other.within(one)
 }
 
-/// A local whose policies differ, if there is one.
-pub fn difference(one: &[Atoms], other: &[Atoms]) -> Option<usize>
+// The first local whose policies differ, if there is one.
+fn first_apart(one: &[Atoms], other: &[Atoms]) -> Option<usize>
+    requires { length one.now ≡ length other.now }
+    ensures { MatchOption result (AreSame one.now other.now)
+        (λ i. policy one.now i ≢ policy other.now i) }
+{
+    for (local, policy) in one.iter().enumerate() {
+        if !is_same(policy, &other[local]) {
+            return Some(local);
+        }
+    }
+    None
+}
+
+// The same of lists of which one may end before the other.
+fn first_apart_within(one: &[Atoms], other: &[Atoms]) -> Option<usize>
     ensures { MatchOption result (AreSame one.now other.now)
         (λ i. policy one.now i ≢ policy other.now i) }
 {
@@ -33,4 +47,16 @@ pub fn difference(one: &[Atoms], other: &[Atoms]) -> Option<usize>
         }
     }
     None
+}
+
+/// A local whose policies differ, if there is one.
+pub fn difference(one: &[Atoms], other: &[Atoms]) -> Option<usize>
+    ensures { MatchOption result (AreSame one.now other.now)
+        (λ i. policy one.now i ≢ policy other.now i) }
+{
+    if one.len() == other.len() {
+        first_apart(one, other)
+    } else {
+        first_apart_within(one, other)
+    }
 }

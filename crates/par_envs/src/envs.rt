@@ -3,7 +3,8 @@ ghost use Rattle.std.specs.Prelude.{◌≡◌, [], ◌∷◌, ◌++◌, IfOk, On
 ghost use Rattle.std.specs.Option.{option_copied};
 ghost use Rattle.par_envs.specs.Numbered.{envs, reached, Adds, AreFound, Extends, Names};
 
-use crate::apart::{difference, is_same, policy_of};
+use crate::apart::{is_same, policy_of};
+use crate::env::{Env, difference};
 use par_atoms::Atoms;
 use par_lexer::list::{List, NoMemory};
 use std::alloc::Global;
@@ -12,7 +13,7 @@ use std::alloc::Global;
 /// that a local has there and not here.
 #[derive(Drop)]
 struct Entry {
-    env: List<Atoms>,
+    env: Env,
     near: usize,
     local: usize,
     policy: Atoms,
@@ -56,12 +57,13 @@ impl Envs {
 
     // The number of the only one that may be the same: at each question that tells it from a later
     // one, the later one is taken where the local has another policy.
-    fn find(&self, env: &[Atoms]) -> usize
+    fn find(&self, env: &Env) -> usize
         ensures { result ≡ reached self.now.entries.items 0 env.now 0 }
     {
+        let policies = env.as_slice();
         let mut number = 0;
         for (later, entry) in self.entries.iter().enumerate() {
-            if number == entry.near && !is_same(&policy_of(env, entry.local), &entry.policy) {
+            if number == entry.near && !is_same(&policy_of(policies, entry.local), &entry.policy) {
                 number = later;
             }
         }
@@ -72,7 +74,7 @@ impl Envs {
     fn keep(
         &mut self,
         alloc: Global,
-        env: &[Atoms],
+        env: &Env,
         near: usize,
         local: usize,
         policy: Atoms,
@@ -82,7 +84,7 @@ impl Envs {
             ++ record { env = env.now; near = near; local = local; policy = policy } ∷ []) }
     {
         let number = number_at(self.entries.len())?;
-        let env = List::wrap(Vec::from_slice(alloc, env)?);
+        let env = Env::new(alloc, List::wrap(Vec::from_slice(alloc, env.as_slice())?))?;
         self.entries.push(Entry {
             env,
             near,
@@ -93,7 +95,7 @@ impl Envs {
     }
 
     /// The number of an environment, which is kept if there is none like it.
-    pub fn number(&mut self, alloc: Global, env: &[Atoms]) -> Result<u32, NoMemory>
+    pub fn number(&mut self, alloc: Global, env: &Env) -> Result<u32, NoMemory>
         requires { AreFound self.old.entries.items }
         ensures found { OnOk result (AreFound self.new.entries.items) }
         ensures names { IfOk result (λ n. Names (envs self.new.entries.items) n env.now) }
@@ -108,7 +110,7 @@ impl Envs {
                 let number = self.keep(alloc, env, 1, 0, Atoms::empty())?;
                 Ok(number)
             }
-            Some(entry) => match difference(entry.env.as_slice(), env) {
+            Some(entry) => match difference(&entry.env, env) {
                 None => {
                     let number = number_at(near)?;
                     Ok(number)

@@ -5,6 +5,8 @@
 #![tactic(auto)]
 
 mod apart;
+mod env;
 mod envs;
 
+pub use env::Env;
 pub use envs::Envs;

@@ -1,3 +1,4 @@
+pub mod SameSets
 pub mod Points
 pub mod Ways
 pub mod Rows

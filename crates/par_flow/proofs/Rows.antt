@@ -14,7 +14,7 @@ use Rattle.par_rules.specs.Lattice.{numbers}
 use Rattle.par_rules.specs.Ways.{Way}
 use Rattle.par_rules.specs.Kinds.{Kind}
 use Rattle.par_rules.specs.Facts.{Fact, blank}
-use Rattle.par_pass.specs.Written.{table as by_point}
+use Rattle.par_locks.specs.par_pass.Written.{table as by_point}
 use Rattle.par_envs.specs.Numbered.{Extends, AreFound}
 use Rattle.par_envs.proofs.Found.{different}
 use Rattle.par_rounds.specs.declared.exits.Exit.{Exit}
@@ -74,7 +74,7 @@ shows_still : (es gs : List (List ℕ)) → Extends es gs → (r : Row) (f : Fac
 shows_still es gs x r f s = record {
   entry = may_still es gs x r.entry f.entry s.entry;
   value = s.value;
-  exits = λ k. may_still es gs x (exit_of r.exits k) (f.exit k) (s.exits k);
+  exits = λ k. may_still es gs x (exit_of r.exits.value k) (f.exit k) (s.exits k);
   once = s.once;
 }
 
@@ -121,7 +121,7 @@ fact_same : (es : List (List ℕ)) (r : Row) (f : Fact numbers) → ShowsFact es
     → fact_in es (Some r) ≡ f
 fact_same es r f s =
     fact_as _ f.entry _ f.value _ f.exit (may_same es r.entry f.entry s.entry) s.value
-    (fun_ext λ k. may_same es (exit_of r.exits k) (f.exit k) (s.exits k))
+    (fun_ext λ k. may_same es (exit_of r.exits.value k) (f.exit k) (s.exits k))
 
 same_at : (es : List (List ℕ)) (rs : List Row) (fs : List (Fact numbers)) → AllShow es rs fs
     → (p : ℕ) → fact_in es (slice_get rs p) ≡ get_or fs p (blank numbers)
@@ -199,13 +199,14 @@ module _ (t : FactTable) (fs : List (Fact numbers)) (shown : AllShow (envs_in t)
     exits_of p None e ways h k = absurd (let g : None ≡ Some ways = h in cc)
     exits_of p (Some r) e ways h k =
         subst (λ w. MayShow (envs_in t) (exit_of w k) ((fact_in (envs_in t) (Some r)).exit k))
-        (held r.entry r.exits ways h) ((shown_at (envs_in t) t.rows.items fs shown p r e).exits k)
+        (held r.entry r.exits.value ways h)
+        ((shown_at (envs_in t) t.rows.items fs shown p r e).exits k)
 
     once_of : (p : ℕ) (o : Option Row) → slice_get t.rows.items p ≡ o → (ways : KeptWays)
         → exits_in o ≡ Some ways → AreOnce ways.throws
     once_of p None e ways h = absurd (let g : None ≡ Some ways = h in cc)
     once_of p (Some r) e ways h =
-        subst (λ w. AreOnce w.throws) (held r.entry r.exits ways h)
+        subst (λ w. AreOnce w.throws) (held r.entry r.exits.value ways h)
         (shown_at (envs_in t) t.rows.items fs shown p r e).once
 
     values_of : (o : Option Row) (v : ℕ) → value_in o ≡ Some v
@@ -215,7 +216,7 @@ module _ (t : FactTable) (fs : List (Fact numbers)) (shown : AllShow (envs_in t)
 
     left_of : (o : Option Row) → is_some (exits_in o) ≡ is_some (entry_in o)
     left_of None = refl
-    left_of (Some r) = left_some r.entry r.exits
+    left_of (Some r) = left_some r.entry r.exits.value
 
     valued_of : (p : ℕ) (o : Option Row) → slice_get t.rows.items p ≡ o
         → is_some (value_in o) ≡ (is_some (entry_in o) && not (is_among listed p))

@@ -98,9 +98,9 @@ exits_add a b d e f g ways normal ret brk cont throws =
     (λ n h. (kind.Normal, h)) (λ n h. h)
 
 pub row_adds : (es fs gs : List (List ℕ)) (r : Row) → AddsOnly es fs (λ n. HasEnv n r.entry)
-    → AddsOnly fs gs (λ n. Leaves n r.exits) → AddsOnly es gs (λ n. IsNamedIn n r)
+    → AddsOnly fs gs (λ n. Leaves n r.exits.value) → AddsOnly es gs (λ n. IsNamedIn n r)
 row_adds es fs gs r entry exits =
-    adds_then es fs gs (λ n. HasEnv n r.entry) (λ n. Leaves n r.exits) (λ n. IsNamedIn n r)
+    adds_then es fs gs (λ n. HasEnv n r.entry) (λ n. Leaves n r.exits.value) (λ n. IsNamedIn n r)
     entry exits (λ n h. inl h) (λ n h. inr h)
 
 -- one more row

@@ -10,9 +10,9 @@ use Rattle.par_rules.specs.Lattice.{numbers}
 use Rattle.par_rules.specs.Ways.{Way}
 use Rattle.par_rules.specs.Kinds as kind
 use Rattle.par_rules.specs.Kinds.{Kind, Throw, same}
-use Rattle.par_except.specs.Seen.{locals, seen}
-use Rattle.par_except.specs.declared.way.Way as code
-use Rattle.par_pass.specs.Exits.{Exit, at}
+use Rattle.par_locks.specs.par_except.Seen.{locals, seen}
+use Rattle.par_locks.specs.par_except.declared.way.Way as code
+use Rattle.par_locks.specs.par_pass.Exits.{Exit, at}
 use Rattle.par_envs.specs.Same.{AreSame}
 use Rattle.par_envs.specs.Numbered.{Extends, Names}
 use Rattle.par_flow.specs.declared.kept.KeptWay.{KeptWay}

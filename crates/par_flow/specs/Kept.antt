@@ -6,8 +6,8 @@ use Rattle.par_rules.specs.Lattice.{numbers}
 use Rattle.par_rules.specs.Ways.{Way}
 use Rattle.par_rules.specs.Kinds as kind
 use Rattle.par_rules.specs.Kinds.{Kind}
-use Rattle.par_except.specs.Seen.{locals}
-use Rattle.par_pass.specs.Exits.{Exit, at}
+use Rattle.par_locks.specs.par_except.Seen.{locals}
+use Rattle.par_locks.specs.par_pass.Exits.{Exit, at}
 use Rattle.par_flow.specs.declared.kept.KeptWay.{KeptWay}
 use Rattle.par_flow.specs.declared.kept.KeptWays.{KeptWays}
 

@@ -1,3 +1,4 @@
 pub mod Kept
 pub mod Statements
 pub mod Table
+pub use Rattle.par_locks.specs.par_verdict as par_verdict

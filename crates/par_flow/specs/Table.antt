@@ -35,7 +35,7 @@ value_in (Some r) = reached r.entry (cond r.is_statement None (Some r.value))
 
 abbrev pub exits_in : Option Row → Option KeptWays
 exits_in None = None
-exits_in (Some r) = reached r.entry (Some r.exits)
+exits_in (Some r) = reached r.entry (Some r.exits.value)
 
 abbrev pub row_at : FactTable → ℕ → Option Row
 row_at t point = slice_get t.rows.items point
@@ -57,8 +57,8 @@ envs_in t = envs t.numbered.entries.items
 pub record ShowsFact (es : List (List ℕ)) (r : Row) (f : Fact numbers) : Type 0 where
   pub entry : MayShow es r.entry f.entry
   pub value : has r.value ≡ f.value
-  pub exits : (k : Kind) → MayShow es (exit_of r.exits k) (f.exit k)
-  pub once : AreOnce r.exits.throws
+  pub exits : (k : Kind) → MayShow es (exit_of r.exits.value k) (f.exit k)
+  pub once : AreOnce r.exits.value.throws
 
 abbrev pub AllShow : List (List ℕ) → List Row → List (Fact numbers) → Type 0
 AllShow es [] [] = Unit {0}
@@ -79,7 +79,7 @@ fact_in es None = blank numbers
 fact_in es (Some r) = record {
   entry = may_way es r.entry;
   value = has r.value;
-  exit = λ k. may_way es (exit_of r.exits k);
+  exit = λ k. may_way es (exit_of r.exits.value k);
 }
 
 -- the facts that the table keeps
@@ -89,7 +89,7 @@ facts_in t point = fact_in (envs_in t) (row_at t point)
 -- the way that enters the point has the environment of the number, or one that leaves it; no way
 -- leaves a point that is not reached
 abbrev pub IsNamedIn : ℕ → Row → Type 0
-IsNamedIn n r = HasEnv n r.entry ⊎ Leaves n r.exits
+IsNamedIn n r = HasEnv n r.entry ⊎ Leaves n r.exits.value
 
 abbrev pub IsNamedAt : ℕ → Option Row → Type 0
 IsNamedAt n None = ⊥

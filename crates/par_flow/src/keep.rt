@@ -5,8 +5,8 @@ ghost use Rattle.std.specs.Option.{option_copied};
 ghost use Rattle.par_rules.specs.Kinds as kinds;
 ghost use Rattle.par_rules.specs.Kinds.{Kind as Completion};
 ghost use Rattle.par_nodes.specs.Seen.{seen_kind};
-ghost use Rattle.par_except.specs.Seen.{may_see, seen, HasLocals, MayHaveLocals};
-ghost use Rattle.par_pass.specs.Exits.{at, Exit as Left};
+ghost use Rattle.par_locks.specs.par_except.Seen.{may_see, seen, HasLocals, MayHaveLocals};
+ghost use Rattle.par_locks.specs.par_pass.Exits.{at, Exit as Left};
 ghost use Rattle.par_envs.specs.Numbered.{AreFound, Extends, envs};
 ghost use Rattle.par_rounds.specs.Seen.{seen_exit, seen_exits, AreWide};
 ghost use Rattle.par_flow.specs.Kept.{exit_of, AddsOnly, AreLong, AreOnce, HasEnv, Leaves};
@@ -33,7 +33,7 @@ fn keep_way(alloc: Global, numbered: &mut Envs, way: &SharedWay) -> Result<KeptW
         → AreLong n (envs numbered.old.entries.items)
         → AreLong n (envs numbered.new.entries.items)) }
 {
-    let env = numbered.number(alloc, way.env())?;
+    let env = numbered.number(alloc, way.compared_env())?;
     Ok(KeptWay {
         context: way.context(),
         env,

@@ -7,6 +7,7 @@
 
 mod keep;
 mod kept;
+mod same;
 mod statements;
 mod table;
 

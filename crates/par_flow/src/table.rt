@@ -7,7 +7,7 @@ ghost use Rattle.std.specs.Option.{option_copied};
 ghost use Rattle.par_typed.specs.Plain.{Body};
 ghost use Rattle.par_typed.specs.Shown as shown;
 ghost use Rattle.par_envs.specs.Numbered.{AreFound, Extends, envs};
-ghost use Rattle.par_except.specs.Seen.{may_see, MayHaveLocals};
+ghost use Rattle.par_locks.specs.par_except.Seen.{may_see, MayHaveLocals};
 ghost use Rattle.par_rounds.specs.Seen.{seen_fact, seen_facts, AreRowsWide, IsRowWide};
 ghost use Rattle.par_verdict.specs.Accepted.{IsOrderlyBody};
 ghost use Rattle.par_verdict.specs.Standing.{stands};
@@ -19,6 +19,7 @@ ghost use Rattle.par_flow.specs.Table.{AllShow, IsNamedAt, IsNamedIn, IsTableOf,
 
 use crate::keep::{keep_exits, may_keep};
 use crate::kept::{KeptWay, KeptWays, exit_of};
+use crate::same::are_same;
 use crate::statements::list_points;
 use par_atoms::Atoms;
 use par_envs::Envs;
@@ -31,15 +32,16 @@ use par_typed::table::Table;
 use par_verdict::FindsFacts;
 use par_verdict::known::{Known, KnownFacts};
 use std::alloc::Global;
+use std::rc::Rc;
 
 /// The way that enters a node, if it is reached, its value if it is an expression, and how it is
-/// left.
+/// left, which one row after the other shares as long as it stays the same.
 #[derive(Drop)]
 struct Row {
     entry: Option<KeptWay>,
     value: Atoms,
     is_statement: bool,
-    exits: KeptWays,
+    exits: Rc<KeptWays>,
 }
 
 /// The least facts of a body, by the points of its nodes.
@@ -103,12 +105,27 @@ impl FactTable {
     }
 }
 
+// The exits, which are those of the row before where they are the same.
+fn shared(alloc: Global, exits: KeptWays, before: Option<&Row>) -> Result<Rc<KeptWays>, NoMemory>
+    ensures { IfOk result (λ kept. kept.value ≡ exits) }
+{
+    if let Some(row) = before {
+        if are_same(&row.exits, &exits) {
+            let kept = row.exits.clone()?;
+            return Ok(kept);
+        }
+    }
+    let kept = Rc::new(alloc, exits)?;
+    Ok(kept)
+}
+
 // What is kept of the fact of a point.
 fn keep_row(
     alloc: Global,
     numbered: &mut Envs,
     fact: &Fact,
     is_statement: bool,
+    before: Option<&Row>,
 ) -> Result<Row, NoMemory>
     requires { AreFound numbered.old.entries.items }
     ensures found { OnOk result (AreFound numbered.new.entries.items) }
@@ -124,7 +141,8 @@ fn keep_row(
         → AreLong n (envs numbered.new.entries.items)) }
 {
     let entry = may_keep(alloc, numbered, entry_of(fact))?;
-    let exits = keep_exits(alloc, numbered, &fact.exits)?;
+    let left = keep_exits(alloc, numbered, &fact.exits)?;
+    let exits = shared(alloc, left, before)?;
     Ok(Row {
         entry,
         value: fact.value,
@@ -155,9 +173,9 @@ fn keep_rows(alloc: Global, facts: &[Fact], statements: &[bool]) -> Result<FactT
     ensures long { IfOk result (λ t. (n : ℕ) → AreRowsWide n facts.now → AreLong n (envs_in t)) }
 {
     let mut numbered = Envs::new(alloc);
-    let mut rows = Vec::new(alloc);
+    let mut rows: Vec<Row> = Vec::with_capacity(alloc, facts.len())?;
     for (place, fact) in facts.iter().enumerate() {
-        let row = keep_row(alloc, &mut numbered, fact, statements[place])?;
+        let row = keep_row(alloc, &mut numbered, fact, statements[place], rows.last())?;
         rows.push(row)?;
     }
     Ok(FactTable { numbered, rows })

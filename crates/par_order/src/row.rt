@@ -6,7 +6,7 @@ ghost use Rattle.par_bits.specs.Sets.{has, none};
 ghost use Rattle.par_atoms.specs.Atoms.{members};
 ghost use Rattle.par_order.specs.Rows.{AreBelowAt, IsRow};
 
-use par_atoms::Atoms;
+use par_atoms::{Atoms, is_below_at};
 use par_bits::Bits;
 use par_policy::Policy;
 
@@ -15,17 +15,6 @@ use par_policy::Policy;
 pub(crate) struct Row {
     pub(crate) below: Atoms,
     apart: Atoms,
-}
-
-// Whether the policy of the number, specialised to the locks, is below another one.
-#[tactic(auto, using(crate::proofs::OneByOne::of_one))]
-fn is_released(policies: &[Policy], number: u16, locks: &Bits<4>, q: &Policy) -> bool
-    requires number { number < 256 }
-    requires policy { number < length policies.now }
-    ensures { IsTrue result
-        ↔ IsBelowAt (slice_index_or policies.now number []) (members locks.now) q.now }
-{
-    Atoms::empty().with(number).leq_at(policies, locks, q)
 }
 
 impl Row {
@@ -55,7 +44,7 @@ impl Row {
         if self.apart.has(number) {
             return false;
         }
-        let is_below = is_released(policies, number, locks, q);
+        let is_below = is_below_at(policies, number, locks, q);
         if is_below {
             self.below = self.below.with(number);
         } else {

@@ -2,6 +2,7 @@ pub mod Members
 pub mod Inserted
 pub mod Seen
 pub mod Below
+pub mod Marks
 pub mod Kept
 pub mod Ordered
 pub mod Filtered

@@ -1,9 +1,11 @@
 -- The tests of sets of numbers, and std's words for what they test.
 use Rattle.std.proofs.Common.{◌≡◌, ℕ, ◌||◌, ◌↔◌, List, [], ◌∷◌, ◌++◌, All, Contains, refl, subst}
+use Rattle.std.proofs.Common.{get_or}
 use Rattle.std.specs.Prelude.{IsTrue, nat_eq}
 use Rattle.std.specs.List.{list_all}
 use Rattle.std.proofs.lemmas.Bool.{and_parts, and_from, eqb-true, eq-eqb}
 use Rattle.std.proofs.lemmas.List.Elements.{All-nil, All-cons, All-head, All-tail}
+use Rattle.std.proofs.lemmas.List.Elements.{Contains-get_or}
 use Rattle.std.proofs.lemmas.List.Folds.{Any-from_list_any, list_any-append, list_any_at}
 use Rattle.par_policy.specs.Numbers.{has, within}
 
@@ -18,6 +20,10 @@ has-from_Contains xs x (k, inside, at) =
 
 pub has_iff : (xs : List ℕ) (x : ℕ) → IsTrue (has xs x) ↔ Contains xs x
 has_iff xs x = (Contains-from_has xs x, has-from_Contains xs x)
+
+-- each number of the list has the property
+pub All-from_members : (P : ℕ → Type 0) (xs : List ℕ) → ((n : ℕ) → Contains xs n → P n) → All P xs
+All-from_members P xs h k d short = h (get_or xs k d) (Contains-get_or xs k d short)
 
 pub All-from_within : (inner outer : List ℕ) → IsTrue (within inner outer)
     → All (Contains outer) inner

@@ -31,6 +31,13 @@ abbrev pub AllowsWith : Clause → Clause → List ℕ → Type 0
 AllowsWith special c opened =
     (actor : ℕ) (locks : List ℕ) → allows actor locks special ≡ allows actor (locks ++ opened) c
 
+-- the new clauses are seen by exactly those that see the old ones, or that both clauses allow
+abbrev pub GainsBoth : List Clause → List Clause → Clause → Clause → Type 0
+GainsBoth old new c d =
+    (actor : ℕ) (locks : List ℕ)
+    → sees new actor locks ≡
+    (sees old actor locks || (allows actor locks c && allows actor locks d))
+
 -- the new clauses are seen by exactly those that see the old ones, or that this clause allows and
 -- that see the others
 abbrev pub GainsJoined : List Clause → List Clause → Clause → List Clause → Type 0

@@ -1,13 +1,16 @@
 // Join and meet of policies, and policies specialised to open locks.
 ghost use Rattle.std.specs.Prelude.{◌≡◌, IfOk, OnOk};
 ghost use Rattle.par_policy.specs.Lattice.{IsJoin, IsMeet, IsSpecialised};
-ghost use Rattle.par_policy.specs.Lattice.{AllowsBoth, AllowsWith, GainsJoined};
+ghost use Rattle.par_policy.specs.Lattice.{AllowsBoth, AllowsWith, GainsBoth, GainsJoined};
 ghost use Rattle.par_policy.specs.Normal.{IsNormal};
+ghost use Rattle.par_policy.specs.Numbers.{IsAscending, IsUnion};
+ghost use Rattle.par_policy.specs.Sees.{sees_at};
 
-use crate::clauses::Clause;
+use crate::clauses::{Clause, allows_at};
 use crate::locks::Lockset;
 use crate::memory::NoMemory;
-use crate::normal::{keep, keep_all};
+use crate::normal::{keep, keep_all, put};
+use crate::order::{leq, sees};
 use crate::policies::Policy;
 use std::alloc::Global;
 
@@ -16,11 +19,17 @@ pub fn join(alloc: Global, p: &Policy, q: &Policy) -> Result<Policy, NoMemory>
     ensures seen { IfOk result (λ r. IsJoin r p.now q.now) }
     ensures normal { IfOk result (λ r. IsNormal r) }
 {
+    if leq(p, q) {
+        return q.share();
+    }
+    if leq(q, p) {
+        return p.share();
+    }
     let mut kept = Vec::new(alloc);
     for clause in p.clauses() {
-        keep_joined(&mut kept, alloc, clause, q.clauses())?;
+        keep_join(&mut kept, alloc, clause, q)?;
     }
-    Ok(Policy::of_normal(kept))
+    Policy::of_normal(alloc, kept)
 }
 
 /// The most restrictive policy that each of the two is at least as restrictive as.
@@ -28,10 +37,16 @@ pub fn meet(alloc: Global, p: &Policy, q: &Policy) -> Result<Policy, NoMemory>
     ensures seen { IfOk result (λ r. IsMeet r p.now q.now) }
     ensures normal { IfOk result (λ r. IsNormal r) }
 {
+    if leq(p, q) {
+        return p.share();
+    }
+    if leq(q, p) {
+        return q.share();
+    }
     let mut kept = Vec::new(alloc);
     keep_all(&mut kept, p.clauses())?;
     keep_all(&mut kept, q.clauses())?;
-    Ok(Policy::of_normal(kept))
+    Policy::of_normal(alloc, kept)
 }
 
 /// The policy without the locks, which are open.
@@ -44,7 +59,26 @@ pub fn special(alloc: Global, p: &Policy, locks: &Lockset) -> Result<Policy, NoM
         let rest = without(alloc, clause, locks)?;
         keep(&mut kept, &rest)?;
     }
-    Ok(Policy::of_normal(kept))
+    Policy::of_normal(alloc, kept)
+}
+
+// Keeps the join of this clause with the policy: the clause itself where the policy is seen by whom
+// the clause allows.
+fn keep_join(
+    kept: &mut Vec<Clause>,
+    alloc: Global,
+    clause: &Clause,
+    policy: &Policy,
+) -> Result<(), NoMemory>
+    requires { IsNormal kept.old.items }
+    ensures normal { OnOk result (IsNormal kept.new.items) }
+    ensures seen { OnOk result (GainsJoined kept.old.items kept.new.items clause.now policy.now) }
+{
+    if sees(policy, clause.actor, &clause.locks) {
+        keep(kept, clause)
+    } else {
+        keep_joined(kept, alloc, clause, policy.clauses())
+    }
 }
 
 // Keeps the join of this clause with each of the others that has its actor.
@@ -60,17 +94,46 @@ fn keep_joined(
 {
     for other in others {
         if clause.actor == other.actor {
-            let both = with_locks_of(alloc, clause, other)?;
-            keep(kept, &both)?;
+            keep_both(kept, alloc, clause, other)?;
         }
     }
     Ok(())
 }
 
+// Keeps the join of the two clauses, which is made only where none that is kept covers it.
+fn keep_both(
+    kept: &mut Vec<Clause>,
+    alloc: Global,
+    clause: &Clause,
+    other: &Clause,
+) -> Result<(), NoMemory>
+    requires same { clause.now.actor ≡ other.now.actor }
+    requires normal { IsNormal kept.old.items }
+    ensures normal { OnOk result (IsNormal kept.new.items) }
+    ensures seen { OnOk result (GainsBoth kept.old.items kept.new.items clause.now other.now) }
+{
+    if is_covered_by_both(kept, clause, other) {
+        return Ok(());
+    }
+    let both = with_locks_of(alloc, clause, other)?;
+    put(kept, both)
+}
+
+// Whether one of the clauses covers the join of these two.
+fn is_covered_by_both(kept: &[Clause], clause: &Clause, other: &Clause) -> bool
+    ensures { result
+        ≡ sees_at kept.now other.now.locks clause.now.actor clause.now.locks }
+{
+    kept.iter().any(|held| allows_at(held, &other.locks, clause.actor, &clause.locks))
+}
+
 // The clause with the locks of the other one too.
 fn with_locks_of(alloc: Global, clause: &Clause, other: &Clause) -> Result<Clause, NoMemory>
     requires { clause.now.actor ≡ other.now.actor }
-    ensures { IfOk result (λ both. AllowsBoth both clause.now other.now) }
+    ensures actor { IfOk result (λ both. both.actor ≡ clause.now.actor) }
+    ensures locks { IfOk result (λ both. IsUnion both.locks clause.now.locks other.now.locks) }
+    ensures ascending { IfOk result (λ both. IsAscending both.locks) }
+    ensures seen { IfOk result (λ both. AllowsBoth both clause.now other.now) }
 {
     Ok(Clause {
         actor: clause.actor,

@@ -27,4 +27,5 @@ pub use locks::Lockset;
 pub use memory::NoMemory;
 pub use open::OpenLocks;
 pub use order::{leq, leq_at, leq_where, sees};
+pub use par_bits;
 pub use policies::Policy;

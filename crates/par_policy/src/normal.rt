@@ -34,9 +34,20 @@ pub(crate) fn keep(kept: &mut Vec<Clause>, clause: &Clause) -> Result<(), NoMemo
         return Ok(());
     }
     let copy = clause.clone()?;
-    drop_covered(kept, clause);
-    let place = position_of(kept, clause);
-    kept.insert(place, copy)?;
+    put(kept, copy)
+}
+
+// Puts the clause, which none of them covers, in place of those that it covers.
+pub(crate) fn put(kept: &mut Vec<Clause>, clause: Clause) -> Result<(), NoMemory>
+    requires normal { IsNormal kept.old.items }
+    requires ascending { IsAscending clause.locks }
+    requires uncovered { list_any (λ c. covers c clause) kept.old.items ≡ false }
+    ensures normal { OnOk result (IsNormal kept.new.items) }
+    ensures alike { OnOk result (IsSeenAlike kept.new.items (kept.old.items ++ clause ∷ [])) }
+{
+    drop_covered(kept, &clause);
+    let place = position_of(kept, &clause);
+    kept.insert(place, clause)?;
     Ok(())
 }
 

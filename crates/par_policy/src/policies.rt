@@ -8,12 +8,13 @@ use crate::memory::NoMemory;
 use crate::normal::keep_all;
 use std::alloc::{AllocError, Global};
 use std::marker::Model;
+use std::rc::Rc;
 
 /// A policy, which contracts see as its list of clauses in normal form: no clause covers another
-/// one, and they ascend by actor and then by lock list.
+/// one, and they ascend by actor and then by lock list. Copies share the list.
 #[derive(Drop)]
 pub struct Policy {
-    clauses: Vec<Clause>,
+    clauses: Rc<Vec<Clause>>,
 }
 
 impl Model for Policy {
@@ -23,9 +24,9 @@ impl Model for Policy {
 
     ghost Value = { List Clause };
 
-    ghost view = { λ p. p.clauses.items };
+    ghost view = { λ p. p.clauses.value.items };
 
-    ghost invariant = { λ p. IsNormal p.clauses.items };
+    ghost invariant = { λ p. IsNormal p.clauses.value.items };
 }
 
 impl Policy {
@@ -36,14 +37,24 @@ impl Policy {
     {
         let mut kept = Vec::new(alloc);
         keep_all(&mut kept, clauses)?;
-        Ok(Policy::of_normal(kept))
+        Policy::of_normal(alloc, kept)
     }
 
-    pub(crate) fn of_normal(clauses: Vec<Clause>) -> Policy
+    pub(crate) fn of_normal(alloc: Global, clauses: Vec<Clause>) -> Result<Policy, NoMemory>
         requires { IsNormal clauses.items }
-        ensures { result ≡ clauses.items }
+        ensures { IfOk result (λ p. p ≡ clauses.items) }
     {
-        Policy { clauses }
+        let clauses = Rc::new(alloc, clauses)?;
+        Ok(Policy { clauses })
+    }
+
+    // The policy once more, with the same list.
+    pub(crate) fn share(&self) -> Result<Policy, NoMemory>
+        ensures same { IfOk result (λ p. p ≡ self.now) }
+        ensures normal { IfOk result (λ p. IsNormal p) }
+    {
+        let clauses = self.clauses.clone()?;
+        Ok(Policy { clauses })
     }
 
     /// The clauses of the normal form. It takes no memory.

@@ -2,8 +2,8 @@
 use Rattle.std.proofs.Common.{◌≡◌, ℕ, zero, suc, ◌+◌, ◌<◌, List, [], ◌∷◌, ◌++◌, length, take, map}
 use Rattle.std.proofs.Common.{get_or, Option, Some, None, refl, sym, ap, ◌∙◌, subst, arith}
 use Rattle.std.specs.List.{range_with_len}
-use Rattle.par_policy.specs.declared.clauses.Clause.{Clause}
-use Rattle.par_policy.specs.Numbers.{IsAscending, Gains}
+use Rattle.par_typed.specs.par_policy.declared.clauses.Clause.{Clause}
+use Rattle.par_typed.specs.par_policy.Numbers.{IsAscending, Gains}
 use Rattle.par_resolved.specs.Sets.{set_of, with_number, with_lock_set, normal}
 use Rattle.par_resolved.specs.Policies.{all_some}
 use Rattle.par_resolved.proofs.NumberSets.{one_set, set_push, set_is_ascending}

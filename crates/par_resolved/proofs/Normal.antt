@@ -11,13 +11,14 @@ use Rattle.std.proofs.lemmas.Bool.Decides.{nat_tests}
 use Rattle.std.proofs.lemmas.List.Sums.{prefix_len-le-length}
 use Rattle.std.proofs.lemmas.List.Folds.{list_any-append, list_all-append}
 use Rattle.std.proofs.lemmas.List.Elements.{All-nil}
-use Rattle.par_policy.specs.declared.clauses.Clause.{Clause}
-use Rattle.par_policy.specs.Numbers.{IsAscending, within}
-use Rattle.par_policy.specs.Sees.{allows, sees, IsSeenAlike}
-use Rattle.par_policy.specs.Normal.{IsNormal, clause_cmp, covers}
-use Rattle.par_policy.specs.Lattice.{IsJoin, IsMeet}
-use Rattle.par_policy.proofs.Kept.{IsNormal-kept, alike-kept, alike-from_covered, sees_push}
-use Rattle.par_policy.proofs.Antisymmetry.{same_normal_forms}
+use Rattle.par_typed.specs.par_policy.declared.clauses.Clause.{Clause}
+use Rattle.par_typed.specs.par_policy.Numbers.{IsAscending, within}
+use Rattle.par_typed.specs.par_policy.Sees.{allows, sees, IsSeenAlike}
+use Rattle.par_typed.specs.par_policy.Normal.{IsNormal, clause_cmp, covers}
+use Rattle.par_typed.specs.par_policy.Lattice.{IsJoin, IsMeet}
+use Rattle.par_typed.proofs.par_policy.Kept.{IsNormal-kept, alike-kept, alike-from_covered}
+use Rattle.par_typed.proofs.par_policy.Kept.{sees_push}
+use Rattle.par_typed.proofs.par_policy.Antisymmetry.{same_normal_forms}
 use Rattle.par_resolved.specs.Sets.{with_lock_set, beside, placed, with_clause, normal}
 use Rattle.par_resolved.specs.Sets.{with_locks_of, joined, met}
 use Rattle.par_resolved.proofs.NumberSets.{set_is_ascending, set_within}

@@ -8,11 +8,11 @@ use Rattle.std.proofs.lemmas.List.Elements.{All-nil, All-cons, All-head, All-tai
 use Rattle.std.proofs.lemmas.List.Elements.{All-contains, All-contains_itself}
 use Rattle.std.proofs.lemmas.List.Sums.{fold-append}
 use Rattle.std.proofs.lemmas.List.Kept.{AllPairs-cons}
-use Rattle.par_policy.specs.Numbers.{IsAscending, has, within, Gains}
-use Rattle.par_policy.proofs.Members.{All-from_within, within-from_All, Contains-from_has}
-use Rattle.par_policy.proofs.Members.{has-from_Contains}
-use Rattle.par_policy.proofs.Seen.{within_itself}
-use Rattle.par_policy.proofs.Ordered.{AllPairs-head, AllPairs-tail, same_numbers}
+use Rattle.par_typed.specs.par_policy.Numbers.{IsAscending, has, within, Gains}
+use Rattle.par_typed.proofs.par_policy.Members.{All-from_within, within-from_All, Contains-from_has}
+use Rattle.par_typed.proofs.par_policy.Members.{has-from_Contains}
+use Rattle.par_typed.proofs.par_policy.Seen.{within_itself}
+use Rattle.par_typed.proofs.par_policy.Ordered.{AllPairs-head, AllPairs-tail, same_numbers}
 use Rattle.par_resolved.specs.Sets.{with_number, set_of}
 
 -- what holds of all and of the new one, holds with the new one

@@ -1,7 +1,7 @@
 -- Joins from the left, step by step, and policies that are all there.
 use Rattle.std.proofs.Common.{◌≡◌, ℕ, true, false, List, [], ◌∷◌, ◌++◌, map, Option, Some, None}
 use Rattle.std.proofs.Common.{refl, sym, ap, ◌∙◌}
-use Rattle.par_policy.specs.declared.clauses.Clause.{Clause}
+use Rattle.par_typed.specs.par_policy.declared.clauses.Clause.{Clause}
 use Rattle.par_typed.proofs.First.{first_of_none}
 use Rattle.par_resolved.specs.Sets.{joined}
 use Rattle.par_resolved.specs.Policies.{all_some, and_more, fits, join_with, join_of}

@@ -1,8 +1,8 @@
 -- The birth policies of classes: who may learn that an object is made.
 use Rattle.std.specs.Prelude.{not, ◌&&◌, Bool, List, [], ◌∷◌, map, filter, fold, Option, None, Some}
 use Rattle.std.specs.List.{list_all}
-use Rattle.par_policy.specs.declared.clauses.Clause.{Clause}
-use Rattle.par_policy.specs.Sees.{sees}
+use Rattle.par_typed.specs.par_policy.declared.clauses.Clause.{Clause}
+use Rattle.par_typed.specs.par_policy.Sees.{sees}
 use Rattle.par_tree.specs.declared.policy.PolicyExpr.{PolicyExpr}
 use Rattle.par_tree.specs.declared.decl.FieldDecl.{FieldDecl}
 use Rattle.par_tree.specs.Plain.{Class}

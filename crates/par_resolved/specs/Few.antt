@@ -1,7 +1,7 @@
 -- What is known of numbers within the limits.
 use Rattle.std.specs.Prelude.{◌≡◌, ℕ, ◌≤◌, List, All, length, sum_by}
-use Rattle.par_index.specs.declared.names.NameIndex.{NameIndex}
-use Rattle.par_index.specs.Texts.{texts}
+use Rattle.par_names.specs.par_index.declared.names.NameIndex.{NameIndex}
+use Rattle.par_names.specs.par_index.Texts.{texts}
 use Rattle.par_tree.specs.Plain.{Source}
 use Rattle.par_names.specs.Declarations.{actors, locks}
 use Rattle.par_resolved.specs.declared.limits.TheConstants.{MOST_ACTORS, MOST_GROUND_LOCKS}

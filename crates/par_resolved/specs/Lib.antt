@@ -11,3 +11,5 @@ pub mod Births
 pub mod Numbered
 pub mod Limits
 pub mod Resolved
+pub use Rattle.par_names.specs as par_names
+pub use Rattle.par_names.specs.par_tree as par_tree

@@ -5,7 +5,7 @@ use Rattle.std.specs.Prelude.{None, Some}
 use Rattle.std.specs.Option.{is_none}
 use Rattle.std.specs.List.{list_any}
 use Rattle.std.specs.Str.{bytes_eq}
-use Rattle.par_policy.specs.declared.clauses.Clause.{Clause}
+use Rattle.par_typed.specs.par_policy.declared.clauses.Clause.{Clause}
 use Rattle.par_tree.specs.declared.policy.PolicyExpr.{PolicyExpr}
 use Rattle.par_tree.specs.declared.decl.LockDecl.{LockDecl}
 use Rattle.par_tree.specs.declared.decl.FieldDecl.{FieldDecl}

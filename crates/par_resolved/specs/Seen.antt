@@ -1,5 +1,5 @@
 -- What the code keeps, as the definitions have it.
-use Rattle.par_index.specs.Texts.{texts}
+use Rattle.par_names.specs.par_index.Texts.{texts}
 use Rattle.par_resolved.specs.declared.numbers.Numbers as code
 use Rattle.par_resolved.specs.declared.known.Known as known
 use Rattle.par_resolved.specs.Numbers.{Numbers}

@@ -3,8 +3,8 @@ use Rattle.std.specs.Prelude.{ℕ, not, nat_lt, nat_eq, if◌then◌else◌, Lis
 use Rattle.std.specs.Prelude.{flat_map, filter, insert}
 use Rattle.std.specs.List.{list_any, prefix_len}
 use Rattle.std.specs.Ordering.{is_lt}
-use Rattle.par_policy.specs.declared.clauses.Clause.{Clause}
-use Rattle.par_policy.specs.Normal.{clause_cmp, covers}
+use Rattle.par_typed.specs.par_policy.declared.clauses.Clause.{Clause}
+use Rattle.par_typed.specs.par_policy.Normal.{clause_cmp, covers}
 
 -- ---- sets of numbers
 

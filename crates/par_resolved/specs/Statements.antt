@@ -1,9 +1,12 @@
 -- The statements of a body, each with those inside it, in source order.
 use Rattle.std.specs.Prelude.{List, [], ◌∷◌, ◌++◌}
-use Rattle.par_tree.specs.Plain.{Sta, Block, If, While, Try, Return, Break, Continue, Throw, Open}
+use Rattle.par_tree.specs.Plain.{Sta, Block, If, While, Try, Return, Break, Continue}
+use Rattle.par_tree.specs.Plain.{Throw, Open}
 use Rattle.par_tree.specs.Plain.{Close}
-use Rattle.par_tree.specs.Plain.{Declare, Assign, Do, When, Braces, In, MayBraces, NoBraces, Some}
-use Rattle.par_tree.specs.Plain.{Else, NoElse, Otherwise, Stas, End, Then, Catches, NoCatch, Catch}
+use Rattle.par_tree.specs.Plain.{Declare, Assign, Do, When, Braces, In, MayBraces}
+use Rattle.par_tree.specs.Plain.{NoBraces, Some}
+use Rattle.par_tree.specs.Plain.{Else, NoElse, Otherwise, Stas, End, Then, Catches}
+use Rattle.par_tree.specs.Plain.{NoCatch, Catch}
 use Rattle.par_tree.specs.Plain.{Handler, On}
 
 unfoldable mutual

@@ -13,9 +13,9 @@ use crate::joins::note_form;
 use crate::known::{Known, bottom};
 use crate::limits::BIRTH_RULE;
 use crate::memory::NoMemory;
-use par_policy::Policy;
 use par_tree::decl::{ClassDecl, FieldDecl};
 use par_tree::policy::PolicyExpr;
+use par_typed::par_policy::Policy;
 use par_typed::refusal::Findings;
 use std::alloc::Global;
 
@@ -85,7 +85,7 @@ pub fn birth_policy(
 fn is_below(p: &Policy, q: &Policy) -> bool
     ensures { result ≡ is_below p.now q.now }
 {
-    par_policy::leq(p, q)
+    par_typed::par_policy::leq(p, q)
 }
 
 fn is_below_all(p: &Policy, policies: &[Policy]) -> bool

@@ -1,7 +1,7 @@
 // What a program declares, each kind in the order of the source.
 ghost use Rattle.std.specs.Prelude.{◌≡◌, ◌++◌, map, IfOk, OnOk};
 ghost use Rattle.par_tree.specs.Shown.{source, class_of};
-ghost use Rattle.par_index.specs.Texts.{texts};
+ghost use Rattle.par_names.specs.par_index.Texts.{texts};
 ghost use Rattle.par_names.specs.Declarations as names;
 ghost use Rattle.par_resolved.specs.Gathered.{all_of, classes_of};
 ghost use Rattle.par_resolved.specs.Numbered.{declared};

@@ -6,8 +6,8 @@ ghost use Rattle.par_resolved.specs.Numbered.{written_entry, by_place};
 
 use crate::known::Known;
 use crate::memory::NoMemory;
-use par_policy::Policy;
 use par_tree::policy::PolicyExpr;
+use par_typed::par_policy::Policy;
 use std::alloc::Global;
 
 /// A policy of the table, and the place that it is counted at.

@@ -3,7 +3,7 @@ ghost use Rattle.std.specs.Prelude.{◌≡◌, IfOk};
 ghost use Rattle.par_resolved.specs.Sets.{normal, joined, met};
 
 use crate::memory::NoMemory;
-use par_policy::{Clause, Policy};
+use par_typed::par_policy::{Clause, Policy};
 use std::alloc::Global;
 
 /// The policy of these clauses.
@@ -18,7 +18,7 @@ pub fn form(alloc: Global, clauses: &[Clause]) -> Result<Policy, NoMemory>
 pub fn joined(alloc: Global, p: &Policy, q: &Policy) -> Result<Policy, NoMemory>
     ensures { IfOk result (λ r. r ≡ joined p.now q.now) }
 {
-    let policy = par_policy::join(alloc, p, q)?;
+    let policy = par_typed::par_policy::join(alloc, p, q)?;
     Ok(policy)
 }
 
@@ -26,6 +26,6 @@ pub fn joined(alloc: Global, p: &Policy, q: &Policy) -> Result<Policy, NoMemory>
 pub fn met(alloc: Global, p: &Policy, q: &Policy) -> Result<Policy, NoMemory>
     ensures { IfOk result (λ r. r ≡ met p.now q.now) }
 {
-    let policy = par_policy::meet(alloc, p, q)?;
+    let policy = par_typed::par_policy::meet(alloc, p, q)?;
     Ok(policy)
 }

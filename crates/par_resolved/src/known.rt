@@ -15,10 +15,10 @@ use crate::forms::form;
 use crate::joins::join_all;
 use crate::memory::NoMemory;
 use crate::numbers::Numbers;
-use par_index::NameIndex;
 use par_lexer::name::Name;
-use par_policy::{Clause, Lockset, Policy};
+use par_names::par_index::NameIndex;
 use par_tree::policy::{ClauseTree, LockTree, PolicyExpr, PolicyTerm};
+use par_typed::par_policy::{Clause, Lockset, Policy};
 use par_typed::refusal::Findings;
 use std::alloc::Global;
 

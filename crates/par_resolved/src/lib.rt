@@ -23,3 +23,5 @@ pub mod types;
 pub mod written;
 
 pub use memory::NoMemory;
+pub use par_names;
+pub use par_names::par_tree;

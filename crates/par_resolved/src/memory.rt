@@ -17,8 +17,8 @@ impl<T: Drop> From<AllocFailed<T>> for NoMemory {
     }
 }
 
-impl From<par_policy::NoMemory> for NoMemory {
-    fn from(_: par_policy::NoMemory) -> NoMemory {
+impl From<par_typed::par_policy::NoMemory> for NoMemory {
+    fn from(_: par_typed::par_policy::NoMemory) -> NoMemory {
         NoMemory
     }
 }

@@ -7,7 +7,7 @@ ghost use Rattle.par_resolved.specs.Numbers.{actor_number, lock_number, place_in
 use crate::declared::{actor_names, lock_names, locks};
 use crate::firsts::firsts;
 use crate::memory::NoMemory;
-use par_index::NameIndex;
+use par_names::par_index::NameIndex;
 use par_tree::decl::Program;
 use par_tree::ident::Ident;
 use par_tree::policy::LockTree;

@@ -12,7 +12,7 @@ use crate::declared::{policies, policy_names};
 use crate::known::Known;
 use crate::memory::NoMemory;
 use crate::numbers::Numbers;
-use par_index::NameIndex;
+use par_names::par_index::NameIndex;
 use par_tree::decl::{PolicyDecl, Program};
 use par_tree::policy::PolicyExpr;
 use par_typed::refusal::{Findings, Refusal};

@@ -1,6 +1,7 @@
 // The statements of a body, each with those inside it, in source order.
 ghost use Rattle.std.specs.Prelude.{◌≡◌, ◌++◌, IfOk, OnOk};
-ghost use Rattle.par_tree.specs.Shown.{does, braces, otherwise, may_braces, all_do, all_catch};
+ghost use Rattle.par_tree.specs.Shown.{does, braces, otherwise, may_braces, all_do};
+ghost use Rattle.par_tree.specs.Shown.{all_catch};
 ghost use Rattle.par_tree.specs.Shown.{handler};
 ghost use Rattle.par_resolved.specs.Statements as statement;
 ghost use Rattle.par_resolved.specs.Gathered.{statements_of};

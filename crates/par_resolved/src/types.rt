@@ -1,6 +1,6 @@
 // Types by the numbers of their classes.
 ghost use Rattle.std.specs.Prelude.{◌≡◌, ◌++◌, ◌≤◌, ◌^◌, length, flat_map, IfOk, OnOk};
-ghost use Rattle.par_index.specs.Texts.{texts};
+ghost use Rattle.par_names.specs.par_index.Texts.{texts};
 ghost use Rattle.par_tree.specs.Shown.{braces, does};
 ghost use Rattle.par_resolved.specs.Numbers.{number, type_of, result_of};
 ghost use Rattle.par_resolved.specs.Statements.{in_braces};
@@ -9,8 +9,8 @@ ghost use Rattle.par_resolved.specs.Gathered.{statements_of, all_of};
 
 use crate::memory::NoMemory;
 use crate::statements::statements;
-use par_index::NameIndex;
 use par_lexer::name::Name;
+use par_names::par_index::NameIndex;
 use par_tree::stmt::{Block, Stmt, StmtKind};
 use par_tree::types::TypeTree;
 use par_typed::ty::Ty;

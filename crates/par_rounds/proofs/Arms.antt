@@ -7,8 +7,8 @@ use Rattle.par_rules.specs.Kinds.{Kind, normal, absorbed, Absorber}
 use Rattle.par_rules.specs.Facts.{Fact}
 use Rattle.par_rules.specs.Rules.{From, Worth, Node, node, Rules, Done, Part, Test, Heads, Leaves}
 use Rattle.par_rules.specs.Rules.{Worths, spot, way, worth}
-use Rattle.par_except.specs.declared.way.Way as code_way
-use Rattle.par_except.specs.Seen.{may_see}
+use Rattle.par_pass.specs.par_except.declared.way.Way as code_way
+use Rattle.par_pass.specs.par_except.Seen.{may_see}
 use Rattle.par_pass.specs.Exits.{Way, Exit, all, at, leaving, leave, restored}
 use Rattle.par_pass.specs.Pass as plain
 use Rattle.par_pass.specs.Pass.{HeadWays, Event, Row, nothing, fact, visited, ended, into, pass}

@@ -15,7 +15,7 @@ use Rattle.par_rules.specs.Body.{sta}
 use Rattle.par_rules.specs.Closed.{IsClosed, first, arriving, locals as entering}
 use Rattle.par_rules.specs.Numbered.{next, next_by, IsNumbered, AreNumbered}
 use Rattle.par_rules.specs.Ranges.{MOST, IsInRange, AreInRange}
-use Rattle.par_except.specs.Weight.{IsSmall}
+use Rattle.par_pass.specs.par_except.Weight.{IsSmall}
 use Rattle.par_pass.specs.Exits.{Way}
 use Rattle.par_pass.specs.Pass.{pass}
 use Rattle.par_pass.specs.Low.{Stands, AreHeadsLow}

@@ -1,9 +1,9 @@
 -- Rounds, one after the other, and their end.
-use Rattle.std.proofs.Common.{◌≡◌, ℕ, suc, ◌<◌, true, Option, Some, None, List, length, sym}
-use Rattle.std.proofs.Common.{ap, ◌∙◌, subst}
+use Rattle.std.proofs.Common.{◌≡◌, ℕ, suc, ◌<◌, true, false, Option, Some, None, List, length}
+use Rattle.std.proofs.Common.{sym, ap, ◌∙◌, subst}
 use Rattle.std.proofs.Math.Path.{fun_ext}
 use Rattle.par_rules.specs.Rules.{Node}
-use Rattle.par_except.specs.declared.way.Way as code
+use Rattle.par_pass.specs.par_except.declared.way.Way as code
 use Rattle.par_pass.specs.Exits.{Way}
 use Rattle.par_pass.specs.Pass.{pass}
 use Rattle.par_pass.specs.Written.{blanks, written, AllFit}
@@ -52,3 +52,15 @@ module _ (k points : ℕ) (n : Node) (w : Way) (hs : List (Option code.Way))
     fits = subst (λ h. AllFit h (pass h n w).events) a.ways f;
     rows = r.rows ∙ ap (λ h. written (pass h n w).events (blanks points)) a.ways;
   }
+
+-- the round in which no head is reached yet
+module _ (k points : ℕ) (n : Node) (w : Way) (hs : List (Option code.Way))
+    (none : (i : ℕ) → ways_of hs i ≡ None) (wide : AreHeadsWide k hs) (size : length hs ≡ points)
+    (notes : Notes) (r : IsRound k points hs (pass (ways_of hs) n w).events notes) where
+  pub first_after : AreAfter k points n w notes.heads.items
+  first_after =
+      after_next k points n w hs (after_none k points n w hs none wide size) points notes r
+
+  pub first_settled : notes.rose ≡ false → IsSettled n w points notes.rows.items
+  first_settled e =
+      settled k points n w hs (after_none k points n w hs none wide size) notes (r.fits e) r

@@ -10,8 +10,8 @@ use Rattle.par_rules.specs.Lattice.{numbers}
 use Rattle.par_rules.specs.Declares.{Method, params_of}
 use Rattle.par_rules.specs.Closed.{arriving, locals as entering}
 use Rattle.par_rules.specs.Ranges.{MOST, arrivals}
-use Rattle.par_except.specs.Seen.{locals}
-use Rattle.par_except.proofs.Locals.{locals_front, locals_last, locals_past}
+use Rattle.par_pass.specs.par_except.Seen.{locals}
+use Rattle.par_pass.proofs.par_except.Locals.{locals_front, locals_last, locals_past}
 
 arriving_at : (ps : List ParamInfo) (i : ℕ) (d : ParamInfo) → i < length ps
     → arriving numbers (params_of ps) i ≡ adding none (get_or ps i d).policy

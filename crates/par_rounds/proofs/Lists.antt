@@ -6,8 +6,8 @@ use Rattle.std.proofs.Math.Seq.{drop-cons}
 use Rattle.par_bits.specs.Sets.{Set}
 use Rattle.par_rules.specs.Kinds.{Kind, Normal, same}
 use Rattle.par_nodes.specs.Seen.{seen_kind}
-use Rattle.par_except.specs.Joins.{join}
-use Rattle.par_except.specs.Seen.{seen}
+use Rattle.par_pass.specs.par_except.Joins.{join}
+use Rattle.par_pass.specs.par_except.Seen.{seen}
 use Rattle.par_pass.specs.Exits as pass
 use Rattle.par_pass.specs.Exits.{add, with_context, set_context}
 use Rattle.par_rounds.specs.declared.exits.Exit.{Exit}

@@ -6,7 +6,7 @@ use Rattle.par_rules.specs.Lattice.{Lattice}
 use Rattle.par_rules.specs.Ways as rules
 use Rattle.par_rules.specs.Facts.{Facts}
 use Rattle.par_rules.specs.Rules.{Node, Obeys, spot}
-use Rattle.par_except.specs.Joins.{may_join}
+use Rattle.par_pass.specs.par_except.Joins.{may_join}
 use Rattle.par_pass.specs.Exits.{Way}
 use Rattle.par_pass.specs.Pass.{HeadWays, Event, Row, Into, pass}
 use Rattle.par_pass.specs.Low.{Stands, MayFlow, AreLow, AreHeadsLow}

@@ -6,8 +6,8 @@ use Rattle.par_rules.specs.Kinds.{Kind, Absorber}
 use Rattle.par_rules.specs.Ranges.{IsFromInRange, IsWorthInRange}
 use Rattle.par_rules.specs.Rules.{From, Worth, Node, node, Rules, Part, Test, Heads, Leaves, Worths}
 use Rattle.par_rules.specs.Rules.{spot}
-use Rattle.par_except.specs.declared.way.Way.{Way}
-use Rattle.par_except.specs.Seen.{HasLocals}
+use Rattle.par_pass.specs.par_except.declared.way.Way.{Way}
+use Rattle.par_pass.specs.par_except.Seen.{HasLocals}
 use Rattle.par_pass.specs.Pass.{Event}
 use Rattle.par_rounds.specs.declared.fact.Fact.{Fact}
 use Rattle.par_rounds.specs.declared.notes.Notes.{Notes}

@@ -11,9 +11,9 @@ use Rattle.par_bits.specs.Sets.{Set, IsWithin, union, meet}
 use Rattle.par_rules.specs.Lattice.{numbers}
 use Rattle.par_rules.specs.Facts.{Fact, blank}
 use Rattle.par_rules.specs.Ways.{Flows, MayFlow}
-use Rattle.par_except.specs.declared.way.Way as code
-use Rattle.par_except.specs.Joins.{join, may_join}
-use Rattle.par_except.specs.Seen.{may_see, MayHaveLocals}
+use Rattle.par_pass.specs.par_except.declared.way.Way as code
+use Rattle.par_pass.specs.par_except.Joins.{join, may_join}
+use Rattle.par_pass.specs.par_except.Seen.{may_see, MayHaveLocals}
 use Rattle.par_pass.specs.Exits.{Way}
 use Rattle.par_pass.specs.Pass.{HeadWays, Row, Into}
 use Rattle.par_pass.specs.Written.{blanks, table}

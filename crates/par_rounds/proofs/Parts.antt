@@ -21,7 +21,7 @@ use Rattle.par_nodes.specs.declared.rule.Worth.{Worth}
 use Rattle.par_nodes.specs.declared.rule.Worth.TheVariants as code_worth
 use Rattle.par_nodes.specs.Seen.{seen_kind, seen_origin, seen_start, seen_worth}
 use Rattle.par_nodes.specs.Seen as step
-use Rattle.par_except.specs.Seen.{locals}
+use Rattle.par_pass.specs.par_except.Seen.{locals}
 use Rattle.par_rounds.specs.declared.fact.Fact as code
 use Rattle.par_rounds.specs.Seen.{seen_fact, latest_first}
 use Rattle.par_rounds.specs.Changes.{seen_locks, assigned_by, tested_by, raised_by, shut_by}

@@ -3,8 +3,8 @@ use Rattle.std.specs.Prelude.{◌≡◌, ◌<◌, ℕ, Option, Some, None, List,
 use Rattle.par_bits.specs.Sets.{has}
 use Rattle.par_rules.specs.Ranges.{IsFromInRange, IsWorthInRange}
 use Rattle.par_rules.specs.Rules.{Node, node, Rules, Done, Part, Test, Heads, Leaves, Worths, spot}
-use Rattle.par_except.specs.declared.way.Way.{Way}
-use Rattle.par_except.specs.Seen.{HasLocals}
+use Rattle.par_pass.specs.par_except.declared.way.Way.{Way}
+use Rattle.par_pass.specs.par_except.Seen.{HasLocals}
 use Rattle.par_pass.specs.Pass as plain
 use Rattle.par_pass.specs.Pass.{Event}
 use Rattle.par_rounds.specs.declared.notes.Notes.{Notes}

@@ -1,7 +1,7 @@
 -- Rounds of passes, and what the last one leaves.
 use Rattle.std.specs.Prelude.{◌≡◌, ◌<◌, ℕ, zero, suc, true, false, Option, None, List, length}
 use Rattle.par_rules.specs.Rules.{Node}
-use Rattle.par_except.specs.declared.way.Way as code
+use Rattle.par_pass.specs.par_except.declared.way.Way as code
 use Rattle.par_pass.specs.Exits.{Way}
 use Rattle.par_pass.specs.Pass.{HeadWays, Event, pass}
 use Rattle.par_pass.specs.Written.{blanks, written, AllFit}

@@ -4,8 +4,8 @@ use Rattle.par_bits.specs.Sets.{has}
 use Rattle.par_rules.specs.Lattice.{numbers}
 use Rattle.par_rules.specs.Facts as rules
 use Rattle.par_nodes.specs.Seen.{seen_kind}
-use Rattle.par_except.specs.declared.way.Way.{Way}
-use Rattle.par_except.specs.Seen.{may_see, seen, HasLocals, MayHaveLocals}
+use Rattle.par_pass.specs.par_except.declared.way.Way.{Way}
+use Rattle.par_pass.specs.par_except.Seen.{may_see, seen, HasLocals, MayHaveLocals}
 use Rattle.par_pass.specs.Exits as pass
 use Rattle.par_pass.specs.Exits.{at}
 use Rattle.par_pass.specs.Pass.{HeadWays}

@@ -2,9 +2,9 @@
 use Rattle.std.specs.Prelude.{◌≡◌, ◌<◌, ◌≤◌, ◌+◌, ◌*◌, ℕ, suc, true, false, cond, nat_eq, Option}
 use Rattle.std.specs.Prelude.{Some, None, List, [], ◌∷◌, length}
 use Rattle.par_bits.specs.Sets.{has}
-use Rattle.par_except.specs.declared.way.Way as code
-use Rattle.par_except.specs.Joins.{may_join}
-use Rattle.par_except.specs.Weight.{IsSmall, weight}
+use Rattle.par_pass.specs.par_except.declared.way.Way as code
+use Rattle.par_pass.specs.par_except.Joins.{may_join}
+use Rattle.par_pass.specs.par_except.Weight.{IsSmall, weight}
 use Rattle.par_pass.specs.Exits.{Way}
 use Rattle.par_pass.specs.Pass.{HeadWays, Event, Row, Into}
 use Rattle.par_pass.specs.Written.{written, AllFit}

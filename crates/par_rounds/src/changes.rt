@@ -1,5 +1,5 @@
 // The ways at a node: one that enters it or leaves a part, and what becomes of it.
-ghost use Rattle.std.specs.Prelude.{◌≡◌, ◌<◌, ℕ, [], IfOk, IsSome, length};
+ghost use Rattle.std.specs.Prelude.{◌≡◌, ◌<◌, ℕ, [], IfOk, IsSome, IsTrue, length};
 ghost use Rattle.std.specs.Option.{option_copied};
 ghost use Rattle.par_policy.specs.Numbers.{has as is_among};
 ghost use Rattle.par_bits.specs.Sets.{has, union, none};
@@ -7,7 +7,7 @@ ghost use Rattle.par_rules.specs.Lattice.{numbers};
 ghost use Rattle.par_rules.specs.Ranges.{AreLocks, IsFromInRange, IsWorthInRange};
 ghost use Rattle.par_rules.specs.Rules.{way as way_from, worth as worth_of};
 ghost use Rattle.par_nodes.specs.Seen.{seen_origin, seen_start, seen_worth};
-ghost use Rattle.par_except.specs.Seen.{may_see, seen, HasLocals, MayHaveLocals};
+ghost use Rattle.par_pass.specs.par_except.Seen.{locals, may_see, seen, HasLocals, MayHaveLocals};
 ghost use Rattle.par_rounds.specs.Seen.{latest_first, AreFactsWide};
 ghost use Rattle.par_rounds.specs.Changes.{assigned_by, tested_by, raised_by, shut_by, opened_by};
 ghost use Rattle.par_rounds.specs.Changes.{seen_locks, may_have, HaveRange, HasLocal, HasPolicy};
@@ -17,9 +17,9 @@ use crate::fact::{Fact, exit_of, value_of};
 use crate::way::SharedWay;
 use par_atoms::Atoms;
 use par_bits::Bits;
-use par_except::Way;
 use par_lexer::list::NoMemory;
 use par_nodes::rule::{Locks, Origin, Start, Worth};
+use par_pass::par_except::Way;
 use par_policy::Lockset;
 use std::alloc::Global;
 
@@ -58,6 +58,16 @@ fn start_of<'a>(way: &'a SharedWay, parts: &'a [Fact], start: Start) -> Option<&
     }
 }
 
+// Whether the local has exactly these policies.
+fn is_held(way: &SharedWay, local: u16, policy: &Atoms) -> bool
+    requires { local < length way.now.env }
+    ensures { IsTrue result → locals way.now.env local ≡ has policy.now }
+{
+    let held = way.env()[usize::from(local)];
+    held.within(policy) && policy.within(&held)
+}
+
+// The way behind the assignment, which has the same list where that changes nothing.
 fn assigned(
     alloc: Global,
     way: &SharedWay,
@@ -73,6 +83,9 @@ fn assigned(
         None => way.share(),
         Some((local, part)) => {
             let policy = value_of(parts, part).union(&way.context());
+            if is_held(way, local, &policy) {
+                return way.share();
+            }
             let env = env::with_local(alloc, way.env(), local, policy)?;
             let assigned = Way {
                 context: way.context(),
@@ -84,52 +97,42 @@ fn assigned(
     }
 }
 
-fn tested(way: SharedWay, parts: &[Fact], part: Option<usize>) -> SharedWay
-    ensures way { seen result ≡ tested_by part (latest_first parts.now []) (seen way) }
-    ensures locals { length result.env ≡ length way.env }
+fn test(way: &mut SharedWay, parts: &[Fact], part: Option<usize>)
+    ensures way { seen way.new ≡ tested_by part (latest_first parts.now []) (seen way.old) }
+    ensures locals { length way.new.env ≡ length way.old.env }
 {
-    match part {
-        None => way,
-        Some(part) => way.raised(&value_of(parts, part)),
+    if let Some(part) = part {
+        way.raise(&value_of(parts, part));
     }
 }
 
-fn raised(way: SharedWay, policy: Option<u16>) -> SharedWay
+fn raise(way: &mut SharedWay, policy: Option<u16>)
     requires { HasPolicy policy }
-    ensures way { seen result ≡ raised_by policy (seen way) }
-    ensures locals { length result.env ≡ length way.env }
+    ensures way { seen way.new ≡ raised_by policy (seen way.old) }
+    ensures locals { length way.new.env ≡ length way.old.env }
 {
-    match policy {
-        None => way,
-        Some(policy) => way.raised(&Atoms::empty().with(policy)),
+    if let Some(policy) = policy {
+        way.raise(&Atoms::empty().with(policy));
     }
 }
 
-fn shut(way: SharedWay, locks: Locks) -> SharedWay
+fn shut(way: &mut SharedWay, locks: Locks)
     requires { HaveRange (seen_locks locks) }
-    ensures way { seen result ≡ shut_by (seen_locks locks.entry) (seen way) }
-    ensures locals { length result.env ≡ length way.env }
+    ensures way { seen way.new ≡ shut_by (seen_locks locks.entry) (seen way.old) }
+    ensures locals { length way.new.env ≡ length way.old.env }
 {
-    match bits_of(locks) {
-        None => way,
-        Some(bits) => {
-            let locks = way.locks().minus(&bits);
-            way.with_locks(locks)
-        }
+    if let Some(bits) = bits_of(locks) {
+        way.set_locks(way.locks().minus(&bits));
     }
 }
 
-fn opened(way: SharedWay, locks: Locks) -> SharedWay
+fn open(way: &mut SharedWay, locks: Locks)
     requires { HaveRange (seen_locks locks) }
-    ensures way { seen result ≡ opened_by (seen_locks locks.entry) (seen way) }
-    ensures locals { length result.env ≡ length way.env }
+    ensures way { seen way.new ≡ opened_by (seen_locks locks.entry) (seen way.old) }
+    ensures locals { length way.new.env ≡ length way.old.env }
 {
-    match bits_of(locks) {
-        None => way,
-        Some(bits) => {
-            let locks = way.locks().union(&bits);
-            way.with_locks(locks)
-        }
+    if let Some(bits) = bits_of(locks) {
+        way.set_locks(way.locks().union(&bits));
     }
 }
 
@@ -146,11 +149,12 @@ fn changed(
         (assigned_by from.now.assigned (latest_first parts.now []) (seen start.now)))))) }
     ensures locals { IfOk result (λ w. length w.env ≡ length start.now.env) }
 {
-    let way = assigned(alloc, start, parts, from.assigned)?;
-    let way = tested(way, parts, from.tested);
-    let way = raised(way, from.raised);
-    let way = shut(way, from.shut);
-    Ok(opened(way, from.opened))
+    let mut way = assigned(alloc, start, parts, from.assigned)?;
+    test(&mut way, parts, from.tested);
+    raise(&mut way, from.raised);
+    shut(&mut way, from.shut);
+    open(&mut way, from.opened);
+    Ok(way)
 }
 
 /// The way at a node that this way enters, behind these parts.

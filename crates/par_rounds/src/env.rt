@@ -3,14 +3,14 @@ ghost use Rattle.std.specs.Prelude.{◌≡◌, ◌↔◌, ◌<◌, ℕ, IsTrue, 
 ghost use Rattle.par_bits.specs.Sets.{has, union, IsWithin};
 ghost use Rattle.par_rules.specs.Lattice.{numbers};
 ghost use Rattle.par_rules.specs.Ways.{put};
-ghost use Rattle.par_except.specs.Seen.{locals};
+ghost use Rattle.par_pass.specs.par_except.Seen.{locals};
 
 use par_atoms::Atoms;
+use par_envs::Env;
 use par_lexer::list::{List, NoMemory};
 use std::alloc::Global;
 
-/// Whether the policies of each local are within the other ones.
-pub fn flows(one: &[Atoms], other: &[Atoms]) -> bool
+fn are_within(one: &[Atoms], other: &[Atoms]) -> bool
     requires { length one.now ≡ length other.now }
     ensures { IsTrue result ↔ ((i : ℕ) → IsWithin (locals one.now i) (locals other.now i)) }
 {
@@ -22,8 +22,19 @@ pub fn flows(one: &[Atoms], other: &[Atoms]) -> bool
     true
 }
 
+/// Whether the policies of each local are within the other ones.
+pub fn flows(one: &Env, other: &Env) -> bool
+    requires { length one.now ≡ length other.now }
+    ensures { IsTrue result ↔ ((i : ℕ) → IsWithin (locals one.now i) (locals other.now i)) }
+{
+    if one.is_told_same(other) {
+        return true;
+    }
+    are_within(one.as_slice(), other.as_slice())
+}
+
 /// Whether each local has the same policies.
-pub fn is_same(one: &[Atoms], other: &[Atoms]) -> bool
+pub fn is_same(one: &Env, other: &Env) -> bool
     requires { length one.now ≡ length other.now }
     ensures { IsTrue result ↔ (locals one.now ≡ locals other.now) }
 {

@@ -4,8 +4,8 @@ ghost use Rattle.std.specs.Option.{option_copied};
 ghost use Rattle.par_bits.specs.Sets.{has};
 ghost use Rattle.par_rules.specs.Kinds.{absorbed};
 ghost use Rattle.par_nodes.specs.Seen.{seen_absorber, seen_kind};
-ghost use Rattle.par_except.specs.Joins.{join};
-ghost use Rattle.par_except.specs.Seen.{may_see, seen, HasLocals, MayHaveLocals};
+ghost use Rattle.par_pass.specs.par_except.Joins.{join};
+ghost use Rattle.par_pass.specs.par_except.Seen.{may_see, seen, HasLocals, MayHaveLocals};
 ghost use Rattle.par_pass.specs.Exits.{add, all, at, contexts, leaving, restored, with_context};
 ghost use Rattle.par_rounds.specs.Seen.{seen_exit, seen_exits, AreWide};
 ghost use Rattle.par_rounds.specs.Places.{IsPlace, HasNoPlace};
@@ -75,11 +75,12 @@ fn joined(
     ensures way { IfOk result (λ w. seen w ≡ join (seen way.now) (seen other.now)) }
     ensures locals { IfOk result (λ w. length w.env ≡ length way.now.env) }
 {
-    let joined = way.join(alloc, other)?;
-    if joined.has_env_of(way) || joined.has_env_of(other) {
-        return Ok(joined);
+    let joined = way.joined(alloc, other)?;
+    if joined.is_made {
+        alike(joined.way, exits)
+    } else {
+        Ok(joined.way)
     }
-    alike(joined, exits)
 }
 
 /// Joins an exit with that of its kind, where there is one.
@@ -183,7 +184,7 @@ pub fn restore(exits: &mut Vec<Exit>, way: &SharedWay)
 pub fn copy(alloc: Global, exits: &[Exit]) -> Result<Vec<Exit>, NoMemory>
     ensures { IfOk result (λ copies. copies.items ≡ exits.now) }
 {
-    let mut copies = Vec::new(alloc);
+    let mut copies = Vec::with_capacity(alloc, exits.len())?;
     for exit in exits {
         let way = exit.way.share()?;
         copies.push(Exit {

@@ -5,7 +5,7 @@ ghost use Rattle.par_bits.specs.Sets.{has};
 ghost use Rattle.par_rules.specs.Lattice.{numbers};
 ghost use Rattle.par_rules.specs.Rules.{part_at};
 ghost use Rattle.par_nodes.specs.Seen.{seen_kind};
-ghost use Rattle.par_except.specs.Seen.{may_see, MayHaveLocals};
+ghost use Rattle.par_pass.specs.par_except.Seen.{may_see, MayHaveLocals};
 ghost use Rattle.par_pass.specs.Written.{table as by_point};
 ghost use Rattle.par_rounds.specs.Seen.{latest_first, seen_facts, AreFactsWide};
 

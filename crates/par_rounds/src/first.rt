@@ -6,12 +6,12 @@ ghost use Rattle.par_rules.specs.Lattice.{numbers};
 ghost use Rattle.par_rules.specs.Declares.{method_of, params_of};
 ghost use Rattle.par_rules.specs.Closed.{arriving, first, locals as entering};
 ghost use Rattle.par_rules.specs.Ranges.{AreLocks, MOST, arrivals};
-ghost use Rattle.par_except.specs.Seen.{locals, seen};
+ghost use Rattle.par_pass.specs.par_except.Seen.{locals, seen};
 
 use crate::changes::all_locks;
 use par_atoms::Atoms;
-use par_except::Way;
 use par_lexer::list::{List, NoMemory};
+use par_pass::par_except::Way;
 use par_typed::table::{MethodInfo, ParamInfo};
 use std::alloc::Global;
 

@@ -1,9 +1,10 @@
 //! The facts of a tree of rules, found in rounds.
 //!
 //! A pass goes over the whole tree once, from the head ways of its loops as they stand, and raises
-//! the heads of the next pass. Only heads last from round to round. Where a round raises none, one
-//! more from the same heads gives the rows, which are the facts. This crate knows no program: it
-//! is given the tree and the way that enters it.
+//! the heads of the next pass. The first one keeps rows, which are the facts where it raises no
+//! head. Behind it only heads last from round to round. Where a round raises none, one more from
+//! the same heads gives the rows. This crate knows no program: it is given the tree and the way
+//! that enters it.
 #![tactic(auto)]
 
 mod body;
@@ -22,5 +23,8 @@ pub use body::{facts_of_body, next};
 pub use exits::Exit;
 pub use fact::{Fact, entry_at, exit_at, value_at};
 pub use first::first_way;
+pub use par_nodes;
+pub use par_pass;
+pub use par_pass::par_except;
 pub use rounds::settle;
 pub use way::SharedWay;

@@ -3,7 +3,7 @@ ghost use Rattle.std.specs.Prelude.{◌≡◌, ◌<◌, ℕ, false, [], ◌∷�
 ghost use Rattle.par_bits.specs.Sets.{has};
 ghost use Rattle.par_rules.specs.Lattice.{numbers};
 ghost use Rattle.par_rules.specs.Facts.{blank};
-ghost use Rattle.par_except.specs.Seen.{may_see, seen, HasLocals, MayHaveLocals};
+ghost use Rattle.par_pass.specs.par_except.Seen.{may_see, seen, HasLocals, MayHaveLocals};
 ghost use Rattle.par_pass.specs.Exits.{at};
 ghost use Rattle.par_pass.specs.Pass.{Row, Into};
 ghost use Rattle.par_pass.specs.Written.{blanks};
@@ -148,7 +148,7 @@ fn no_fact(alloc: Global) -> Fact
 fn copied(alloc: Global, heads: &[Option<SharedWay>]) -> Result<Vec<Option<SharedWay>>, NoMemory>
     ensures { IfOk result (λ copies. copies.items ≡ heads.now) }
 {
-    let mut copies = Vec::new(alloc);
+    let mut copies = Vec::with_capacity(alloc, heads.len())?;
     for head in heads {
         let copy = may_share(head)?;
         copies.push(copy)?;
@@ -160,7 +160,7 @@ fn no_rows(alloc: Global, points: usize) -> Result<Vec<Fact>, NoMemory>
     ensures rows { IfOk result (λ rows. seen_facts rows.items ≡ blanks points) }
     ensures locals { IfOk result (λ rows. (n : ℕ) → AreRowsWide n rows.items) }
 {
-    let mut rows = Vec::new(alloc);
+    let mut rows = Vec::with_capacity(alloc, points)?;
     for _ in 0..points {
         rows.push(no_fact(alloc))?;
     }

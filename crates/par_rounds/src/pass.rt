@@ -7,7 +7,7 @@ ghost use Rattle.par_rules.specs.Ranges.{IsFromInRange};
 ghost use Rattle.par_rules.specs.Rules.{spot, way as way_from};
 ghost use Rattle.par_nodes.specs.Seen.{seen_absorber, seen_kind, seen_node, seen_origin};
 ghost use Rattle.par_nodes.specs.Seen.{seen_rules};
-ghost use Rattle.par_except.specs.Seen.{may_see, seen, HasLocals, MayHaveLocals};
+ghost use Rattle.par_pass.specs.par_except.Seen.{may_see, seen, HasLocals, MayHaveLocals};
 ghost use Rattle.par_pass.specs.Exits.{all, leave as left, leaving};
 ghost use Rattle.par_pass.specs.Pass.{Event, ended, into, pass, pass_all, visited};
 ghost use Rattle.par_rounds.specs.Seen.{latest_first, seen_exits, seen_fact, ways_of};

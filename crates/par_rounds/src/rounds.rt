@@ -1,7 +1,7 @@
 // Rounds of passes, until one raises no head.
 ghost use Rattle.std.specs.Prelude.{◌≡◌, ℕ, IfOk, length};
 ghost use Rattle.par_nodes.specs.Seen.{seen_node};
-ghost use Rattle.par_except.specs.Seen.{seen};
+ghost use Rattle.par_pass.specs.par_except.Seen.{seen};
 ghost use Rattle.par_pass.specs.Pass.{pass};
 ghost use Rattle.par_pass.specs.Written.{AllFit};
 ghost use Rattle.par_rounds.specs.Seen.{ways_of, AreHeadsWide, AreRowsWide};
@@ -41,28 +41,31 @@ fn no_heads(alloc: Global, points: usize) -> Result<Vec<Option<SharedWay>>, NoMe
     ensures locals { IfOk result (λ heads. (n : ℕ) → AreHeadsWide n heads.items) }
     ensures size { IfOk result (λ heads. length heads.items ≡ points) }
 {
-    let mut heads = Vec::new(alloc);
+    let mut heads = Vec::with_capacity(alloc, points)?;
     for _ in 0..points {
         heads.push(None)?;
     }
     Ok(heads)
 }
 
-// The heads after so many rounds that one more would raise none.
+// The heads after so many rounds that one more would raise none, from those after some rounds.
 fn quiet(
     alloc: Global,
     node: &Node,
     way: &SharedWay,
     points: usize,
+    first: Vec<Option<SharedWay>>,
 ) -> Result<Vec<Option<SharedWay>>, NoMemory>
     requires node { IsPassable (length way.now.env) points (seen_node node.now) }
     requires small { MayBeSmall (Some (seen way.now)) }
+    requires after { AreAfter (length way.now.env) points
+        (seen_node node.now) (seen way.now) first.items }
     ensures after { IfOk result (λ heads. AreAfter (length way.now.env) points
         (seen_node node.now) (seen way.now) heads.items) }
     ensures fits { IfOk result (λ heads. AllFit (ways_of heads.items)
         (pass (ways_of heads.items) (seen_node node.now) (seen way.now)).events) }
 {
-    let mut heads = no_heads(alloc, points)?;
+    let mut heads = first;
     loop {
         let notes = round(alloc, node, way, &heads, 0)?;
         if !notes.rose {
@@ -72,7 +75,8 @@ fn quiet(
     }
 }
 
-/// The facts of a node that the way enters, by points.
+/// The facts of a node that the way enters, by points. The first round keeps facts, since it is the
+/// only one where there are no loops.
 pub fn settle(
     alloc: Global,
     node: &Node,
@@ -85,7 +89,13 @@ pub fn settle(
         (λ rows. IsSettled (seen_node node.now) (seen way.now) points rows.items) }
     ensures locals { IfOk result (λ rows. AreRowsWide (length way.now.env) rows.items) }
 {
-    let heads = quiet(alloc, node, way, points)?;
-    let notes = round(alloc, node, way, &heads, points)?;
-    Ok(notes.rows)
+    let unreached = no_heads(alloc, points)?;
+    let first = round(alloc, node, way, &unreached, points)?;
+    if !first.rose {
+        return Ok(first.rows);
+    }
+    drop(first.rows);
+    let heads = quiet(alloc, node, way, points, first.heads)?;
+    let last = round(alloc, node, way, &heads, points)?;
+    Ok(last.rows)
 }

@@ -3,14 +3,15 @@ ghost use Rattle.std.specs.Prelude.{◌≡◌, ◌↔◌, ℕ, IsTrue, IfOk, len
 ghost use Rattle.par_bits.specs.Sets.{has, union};
 ghost use Rattle.par_rules.specs.Lattice.{numbers};
 ghost use Rattle.par_rules.specs.Ways.{raised};
-ghost use Rattle.par_except.specs.Joins.{join};
-ghost use Rattle.par_except.specs.Seen.{locals, seen};
+ghost use Rattle.par_pass.specs.par_except.Joins.{join};
+ghost use Rattle.par_pass.specs.par_except.Seen.{locals, seen};
 
 use crate::env;
 use par_atoms::Atoms;
 use par_bits::Bits;
-use par_except::Way;
-use par_lexer::list::{List, NoMemory};
+use par_envs::Env;
+use par_lexer::list::NoMemory;
+use par_pass::par_except::Way;
 use std::alloc::Global;
 use std::marker::Model;
 use std::rc::Rc;
@@ -20,12 +21,12 @@ use std::rc::Rc;
 #[derive(Drop)]
 pub struct SharedWay {
     context: Atoms,
-    env: Rc<List<Atoms>>,
+    env: Rc<Env>,
     locks: Bits<4>,
 }
 
 impl Model for SharedWay {
-    ghost use Rattle.par_except.specs.declared.way.Way.{Way as Known};
+    ghost use Rattle.par_pass.specs.par_except.declared.way.Way.{Way as Known};
 
     ghost Value = { Known };
 
@@ -36,12 +37,27 @@ impl Model for SharedWay {
     } };
 }
 
+/// The join of two ways, and whether a list of policies was made for it.
+#[derive(Drop)]
+pub(crate) struct Joined {
+    pub(crate) way: SharedWay,
+    pub(crate) is_made: bool,
+}
+
+// The same of the policies of locals.
+#[derive(Drop)]
+struct JoinedEnv {
+    env: Rc<Env>,
+    is_made: bool,
+}
+
 impl SharedWay {
     /// The way, to be shared from here on.
     pub fn new(alloc: Global, way: Way) -> Result<SharedWay, NoMemory>
         ensures { IfOk result (λ w. w ≡ way) }
     {
-        let env = Rc::new(alloc, way.env)?;
+        let env = Env::new(alloc, way.env)?;
+        let env = Rc::new(alloc, env)?;
         Ok(SharedWay {
             context: way.context,
             env,
@@ -61,6 +77,13 @@ impl SharedWay {
         ensures { result.now ≡ self.now.env }
     {
         self.env.as_slice()
+    }
+
+    /// The policies of the locals, to be compared.
+    pub fn compared_env(&self) -> &Env
+        ensures { result.now ≡ self.now.env }
+    {
+        &self.env
     }
 
     /// The locks that are open.
@@ -93,27 +116,23 @@ impl SharedWay {
         self.context = context;
     }
 
-    /// The way with these policies joined to its context.
-    pub fn raised(self, by: &Atoms) -> SharedWay
-        ensures way { seen result ≡ raised numbers (has by.now) (seen self) }
-        ensures env { result.env ≡ self.env }
+    /// Joins these policies to the context.
+    pub fn raise(&mut self, by: &Atoms)
+        ensures way { seen self.new ≡ raised numbers (has by.now) (seen self.old) }
+        ensures env { self.new.env ≡ self.old.env }
     {
-        SharedWay {
-            context: self.context.union(by),
-            env: self.env,
-            locks: self.locks,
-        }
+        self.context = self.context.union(by);
     }
 
-    /// The way with these locks open.
-    pub fn with_locks(self, locks: Bits<4>) -> SharedWay
-        ensures { result ≡ record { context = self.context; env = self.env; locks = locks } }
+    /// Gives the way other open locks.
+    pub fn set_locks(&mut self, locks: Bits<4>)
+        ensures { self.new ≡ record {
+          context = self.old.context;
+          env = self.old.env;
+          locks = locks;
+        } }
     {
-        SharedWay {
-            context: self.context,
-            env: self.env,
-            locks,
-        }
+        self.locks = locks;
     }
 
     /// Whether both ways have the same policies of locals.
@@ -121,7 +140,7 @@ impl SharedWay {
         requires { length self.now.env ≡ length other.now.env }
         ensures { IsTrue result ↔ (locals self.now.env ≡ locals other.now.env) }
     {
-        env::is_same(self.env.as_slice(), other.env.as_slice())
+        env::is_same(&self.env, &other.env)
     }
 
     /// The way with the list of the other one.
@@ -147,32 +166,45 @@ impl SharedWay {
         ensures way { IfOk result (λ w. seen w ≡ join (seen self.now) (seen other.now)) }
         ensures locals { IfOk result (λ w. length w.env ≡ length self.now.env) }
     {
-        let env = joined_env(alloc, &self.env, &other.env)?;
-        Ok(SharedWay {
+        let joined = self.joined(alloc, other)?;
+        Ok(joined.way)
+    }
+
+    /// The least way that both flow into. No list is made for it if the policies of one of them are
+    /// within those of the other.
+    pub(crate) fn joined(&self, alloc: Global, other: &SharedWay) -> Result<Joined, NoMemory>
+        requires { length self.now.env ≡ length other.now.env }
+        ensures way { IfOk result (λ j. seen j.way ≡ join (seen self.now) (seen other.now)) }
+        ensures locals { IfOk result (λ j. length j.way.env ≡ length self.now.env) }
+    {
+        let JoinedEnv { env, is_made } = joined_env(alloc, &self.env, &other.env)?;
+        let way = SharedWay {
             context: self.context.union(&other.context),
             env,
             locks: self.locks.meet(&other.locks),
-        })
+        };
+        Ok(Joined { way, is_made })
     }
 }
 
 // The join of the policies of each local.
-fn joined_env(
-    alloc: Global,
-    one: &Rc<List<Atoms>>,
-    other: &Rc<List<Atoms>>,
-) -> Result<Rc<List<Atoms>>, NoMemory>
+fn joined_env(alloc: Global, one: &Rc<Env>, other: &Rc<Env>) -> Result<JoinedEnv, NoMemory>
     requires { length one.now.value ≡ length other.now.value }
-    ensures policies { IfOk result (λ e. locals e.value
+    ensures policies { IfOk result (λ e. locals e.env.value
         ≡ (λ (i : ℕ). union (locals one.now.value i) (locals other.now.value i))) }
-    ensures length { IfOk result (λ e. length e.value ≡ length one.now.value) }
+    ensures length { IfOk result (λ e. length e.env.value ≡ length one.now.value) }
 {
-    if env::flows(other.as_slice(), one.as_slice()) {
-        return Ok(one.clone()?);
+    let is_made = false;
+    if env::flows(other, one) {
+        let env = one.clone()?;
+        return Ok(JoinedEnv { env, is_made });
     }
-    if env::flows(one.as_slice(), other.as_slice()) {
-        return Ok(other.clone()?);
+    if env::flows(one, other) {
+        let env = other.clone()?;
+        return Ok(JoinedEnv { env, is_made });
     }
     let joined = env::join(alloc, one.as_slice(), other.as_slice())?;
-    Ok(Rc::new(alloc, joined)?)
+    let joined = Env::new(alloc, joined)?;
+    let env = Rc::new(alloc, joined)?;
+    Ok(JoinedEnv { env, is_made: true })
 }

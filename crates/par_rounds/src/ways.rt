@@ -2,8 +2,8 @@
 ghost use Rattle.std.specs.Prelude.{◌≡◌, ◌↔◌, ℕ, IsTrue, IfOk, length};
 ghost use Rattle.par_rules.specs.Lattice.{numbers};
 ghost use Rattle.par_rules.specs.Ways.{Flows, MayFlow};
-ghost use Rattle.par_except.specs.Joins.{may_join};
-ghost use Rattle.par_except.specs.Seen.{may_see, seen, MayHaveLocals};
+ghost use Rattle.par_pass.specs.par_except.Joins.{may_join};
+ghost use Rattle.par_pass.specs.par_except.Seen.{may_see, seen, MayHaveLocals};
 
 use crate::env;
 use crate::way::SharedWay;
@@ -15,7 +15,7 @@ fn flows(way: &SharedWay, other: &SharedWay) -> bool
     ensures { IsTrue result ↔ Flows numbers (seen way.now) (seen other.now) }
 {
     let context = way.context().within(&other.context());
-    let env = env::flows(way.env(), other.env());
+    let env = env::flows(way.compared_env(), other.compared_env());
     let locks = other.locks().within(&way.locks());
     context && env && locks
 }

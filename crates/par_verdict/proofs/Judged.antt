@@ -14,15 +14,15 @@ use Rattle.par_typed.specs.declared.program.TBody.{TBody}
 use Rattle.par_typed.specs.declared.program.Typed.{Typed}
 use Rattle.par_typed.specs.Shown.{bodies}
 use Rattle.par_typed.specs.Plain.{Body}
-use Rattle.par_rules.specs.Lattice.{numbers}
-use Rattle.par_rules.specs.Facts.{Facts}
-use Rattle.par_rules.specs.Declares.{declares}
-use Rattle.par_pass.proofs.Along.{closed_along, stand_for}
-use Rattle.par_checks.specs.Asked.{Check}
-use Rattle.par_checks.specs.Checks.{checks}
-use Rattle.par_checks.specs.Verdict.{among, KeepsNumbered, IsAccepted, IsBroken}
-use Rattle.par_checks.proofs.Kept.{keep_accept, meant, kept}
-use Rattle.par_checks.proofs.Failed.{fail_refuse}
+use Rattle.par_asked.specs.par_rules.Lattice.{numbers}
+use Rattle.par_asked.specs.par_rules.Facts.{Facts}
+use Rattle.par_asked.specs.par_rules.Declares.{declares}
+use Rattle.par_asked.proofs.par_pass.Along.{closed_along, stand_for}
+use Rattle.par_asked.specs.par_checks.Asked.{Check}
+use Rattle.par_asked.specs.par_checks.Checks.{checks}
+use Rattle.par_asked.specs.par_checks.Verdict.{among, KeepsNumbered, IsAccepted, IsBroken}
+use Rattle.par_asked.proofs.par_checks.Kept.{keep_accept, meant, kept}
+use Rattle.par_asked.proofs.par_checks.Failed.{fail_refuse}
 use Rattle.par_verdict.specs.Told.{AreBroken, AreAllBroken}
 use Rattle.par_verdict.specs.Judged.{AreRight, AreAllRight, IsVerdict}
 use Rattle.par_verdict.specs.Accepted.{MOST_BODIES, AreKept, AreAllKept}

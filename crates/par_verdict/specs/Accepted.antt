@@ -7,13 +7,13 @@ use Rattle.par_typed.specs.declared.table.MethodInfo.{MethodInfo}
 use Rattle.par_typed.specs.declared.program.Typed.{Typed}
 use Rattle.par_typed.specs.Plain.{Body}
 use Rattle.par_typed.specs.Shown.{bodies}
-use Rattle.par_rules.specs.Lattice.{numbers}
-use Rattle.par_rules.specs.Facts.{Facts}
-use Rattle.par_rules.specs.Declares.{declares}
-use Rattle.par_rules.specs.Ranges.{IsOrderly}
-use Rattle.par_checks.specs.Asked.{Check}
-use Rattle.par_checks.specs.Checks.{checks}
-use Rattle.par_checks.specs.Verdict.{KeepsNumbered}
+use Rattle.par_asked.specs.par_rules.Lattice.{numbers}
+use Rattle.par_asked.specs.par_rules.Facts.{Facts}
+use Rattle.par_asked.specs.par_rules.Declares.{declares}
+use Rattle.par_asked.specs.par_rules.Ranges.{IsOrderly}
+use Rattle.par_asked.specs.par_checks.Asked.{Check}
+use Rattle.par_asked.specs.par_checks.Checks.{checks}
+use Rattle.par_asked.specs.par_checks.Verdict.{KeepsNumbered}
 use Rattle.par_verdict.specs.Judged.{AreRight, AreAllRight, IsFirstBroken}
 use Rattle.par_verdict.specs.declared.error.CheckError.{CheckError}
 use Rattle.par_verdict.specs.declared.error.CheckError.TheVariants.{Broken, Memory}

@@ -4,16 +4,16 @@ use Rattle.par_typed.specs.declared.table.Table.{Table}
 use Rattle.par_typed.specs.declared.refusal.Refusal.{Refusal}
 use Rattle.par_typed.specs.First.{broken, comes_before}
 use Rattle.par_typed.specs.Plain.{Body}
-use Rattle.par_rules.specs.Lattice.{Seen, numbers}
-use Rattle.par_rules.specs.Facts.{Facts}
-use Rattle.par_rules.specs.Declares.{declares}
-use Rattle.par_rules.specs.Body.{sta}
-use Rattle.par_rules.specs.Closed.{IsClosed}
-use Rattle.par_pass.specs.Seens.{seen_as}
-use Rattle.par_pass.specs.Possible.{HasPossibleExits}
-use Rattle.par_pass.specs.Result.{AreLeast}
-use Rattle.par_pass.proofs.Instances.{seen, stands}
-use Rattle.par_checks.specs.Verdict.{among, IsAccepted, IsBroken}
+use Rattle.par_asked.specs.par_rules.Lattice.{Seen, numbers}
+use Rattle.par_asked.specs.par_rules.Facts.{Facts}
+use Rattle.par_asked.specs.par_rules.Declares.{declares}
+use Rattle.par_asked.specs.par_rules.Body.{sta}
+use Rattle.par_asked.specs.par_rules.Closed.{IsClosed}
+use Rattle.par_asked.specs.par_pass.Seens.{seen_as}
+use Rattle.par_asked.specs.par_pass.Possible.{HasPossibleExits}
+use Rattle.par_asked.specs.par_pass.Result.{AreLeast}
+use Rattle.par_asked.proofs.par_pass.Instances.{seen, stands}
+use Rattle.par_asked.specs.par_checks.Verdict.{among, IsAccepted, IsBroken}
 
 -- the facts are closed, and at or below all others that are, whichever policies have the numbers; a
 -- completion that is not possible has no exit

@@ -3,3 +3,5 @@ pub mod Spots
 pub mod Told
 pub mod Judged
 pub mod Accepted
+pub use Rattle.par_asked.specs as par_asked
+pub use Rattle.par_asked.specs.par_checks as par_checks

@@ -9,7 +9,7 @@ pub returns-clause-way : goal.returns-clause-way
 returns-clause-way c =
     let es = envs c.number.new.self.entries.items in
     shows_named es _ c.args.way.now c.context.ensures c.locks.ensures
-    (subst (Names es c.in_ok-env.env) c.env.ensures c.in_ok-env.ensures.names)
+    (subst (Names es c.in_ok-env.env) c.compared_env.ensures c.in_ok-env.ensures.names)
 
 pub returns-clause-adds : goal.returns-clause-adds
 returns-clause-adds c =
@@ -20,4 +20,4 @@ returns-clause-adds c =
 pub returns-clause-long : goal.returns-clause-long
 returns-clause-long c = λ n wide h.
     number_long (envs c.args.numbered.now.entries.items) (envs c.number.new.self.entries.items)
-    c.env.result.now n (ap length c.env.ensures ∙ wide) c.in_ok-env.ensures.adds h
+    c.compared_env.result.now n (ap length c.compared_env.ensures ∙ wide) c.in_ok-env.ensures.adds h

@@ -1,5 +1,5 @@
-use Rattle.par_policy.proofs.Seen.{same_tests}
-use Rattle.par_policy.proofs.Below.{below_iff}
+use Rattle.par_typed.proofs.par_policy.Seen.{same_tests}
+use Rattle.par_typed.proofs.par_policy.Below.{below_iff}
 use Rattle.par_resolved.specs.Births.{is_below}
 use Rattle.par_resolved.proofs.births.is_below.Goals as goal
 

@@ -1,6 +1,6 @@
 use Rattle.std.proofs.Common.{◌≡◌, ◌++◌, drop, map}
 use Rattle.par_tree.specs.Shown.{all_declared}
-use Rattle.par_index.specs.Texts.{texts}
+use Rattle.par_names.specs.par_index.Texts.{texts}
 use Rattle.par_names.specs.Declarations.{actors}
 use Rattle.par_resolved.proofs.declared.actor_names.Given as goal
 

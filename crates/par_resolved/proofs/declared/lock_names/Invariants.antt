@@ -1,5 +1,5 @@
 use Rattle.std.proofs.Common.{◌≡◌, ◌++◌, drop, map}
-use Rattle.par_index.specs.Texts.{texts}
+use Rattle.par_names.specs.par_index.Texts.{texts}
 use Rattle.par_resolved.specs.Gathered.{all_of}
 use Rattle.par_resolved.proofs.declared.lock_names.Given as goal
 

@@ -1,5 +1,5 @@
 use Rattle.std.proofs.Common.{◌≡◌, ◌++◌, drop, map}
-use Rattle.par_index.specs.Texts.{texts}
+use Rattle.par_names.specs.par_index.Texts.{texts}
 use Rattle.par_resolved.proofs.declared.push_names.Given as goal
 
 -- those found so far, and those of what is left

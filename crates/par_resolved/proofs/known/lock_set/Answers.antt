@@ -1,5 +1,5 @@
 use Rattle.std.proofs.Common.{subst}
-use Rattle.par_policy.specs.Numbers.{Gains}
+use Rattle.par_typed.specs.par_policy.Numbers.{Gains}
 use Rattle.par_resolved.specs.Numbers.{lock_number}
 use Rattle.par_resolved.specs.Seen.{seen}
 use Rattle.par_resolved.proofs.Made.{set_more}

@@ -1,6 +1,6 @@
 use Rattle.std.proofs.Common.{ap, ◌∙◌, ◌++◌, ◌∷◌, [], List, Option}
-use Rattle.par_policy.specs.declared.clauses.Clause.{Clause}
-use Rattle.par_index.specs.Texts.{texts}
+use Rattle.par_typed.specs.par_policy.declared.clauses.Clause.{Clause}
+use Rattle.par_names.specs.par_index.Texts.{texts}
 use Rattle.par_resolved.specs.Policies.{Known}
 use Rattle.par_resolved.specs.Seen.{seen, known_seen}
 use Rattle.par_resolved.proofs.Behind.{read_more, read_all}

@@ -6,7 +6,7 @@ use Rattle.par_rules.specs.Declares.{declares, method_of}
 use Rattle.par_rules.specs.Numbered.{IsNumbered, next}
 use Rattle.par_rules.specs.Ranges.{AreLocks, IsInRange, MOST}
 use Rattle.par_nodes.specs.Seen.{seen_node}
-use Rattle.par_except.specs.Seen.{seen}
+use Rattle.par_pass.specs.par_except.Seen.{seen}
 use Rattle.par_rounds.specs.Passes.{IsPassable}
 use Rattle.par_rounds.specs.Rounds.{IsSettled}
 use Rattle.par_rounds.specs.Seen.{AreRowsWide}

@@ -6,12 +6,12 @@ pub assigned-requires : goal.assigned-requires
 assigned-requires c =
     (steps_range (length c.args.start.now.env) c.args.from.now c.requires).assigned
 
-pub raised-way-requires : goal.raised-way-requires
-raised-way-requires c =
+pub raise-requires : goal.raise-requires
+raise-requires c =
     (steps_range (length c.args.start.now.env) c.args.from.now c.requires).raised
 
-pub shut-way-requires : goal.shut-way-requires
-shut-way-requires c = (steps_range (length c.args.start.now.env) c.args.from.now c.requires).shut
+pub shut-requires : goal.shut-requires
+shut-requires c = (steps_range (length c.args.start.now.env) c.args.from.now c.requires).shut
 
-pub opened-requires : goal.opened-requires
-opened-requires c = (steps_range (length c.args.start.now.env) c.args.from.now c.requires).opened
+pub open-requires : goal.open-requires
+open-requires c = (steps_range (length c.args.start.now.env) c.args.from.now c.requires).opened

@@ -6,7 +6,7 @@ use Rattle.par_rules.specs.Ranges.{IsFromInRange, IsWorthInRange}
 use Rattle.par_rules.specs.Rules.{way, worth as worth_of}
 use Rattle.par_nodes.specs.Seen.{seen_kind, seen_origin, seen_worth, seen_absorber, seen_rules}
 use Rattle.par_nodes.specs.Seen.{seen_node}
-use Rattle.par_except.specs.Seen.{seen, HasLocals, MayHaveLocals}
+use Rattle.par_pass.specs.par_except.Seen.{seen, HasLocals, MayHaveLocals}
 use Rattle.par_bits.specs.Sets.{has, union}
 use Rattle.par_rounds.specs.Seen.{latest_first, ways_of, AreWide}
 use Rattle.par_rounds.proofs.Trees.{is_done, is_part, is_test, is_heads, is_leaves, is_worths}

@@ -1,19 +1,12 @@
 use Rattle.std.proofs.Common.{length, subst}
 use Rattle.std.proofs.lemmas.Bool.{not-false}
 use Rattle.par_nodes.specs.Seen.{seen_node}
-use Rattle.par_except.specs.Seen.{seen}
+use Rattle.par_pass.specs.par_except.Seen.{seen}
 use Rattle.par_pass.specs.Pass.{pass}
 use Rattle.par_rounds.specs.Seen.{ways_of}
 use Rattle.par_rounds.specs.Rounds.{IsRound}
-use Rattle.par_rounds.proofs.Ends.{after_none, after_next, after_falls}
+use Rattle.par_rounds.proofs.Ends.{after_next, after_falls}
 use Rattle.par_rounds.proofs.rounds.quiet.Goals as goal
-
-pub loop-heads-init : goal.loop-heads-init
-loop-heads-init c =
-    let k = length c.args.way.now.env in
-    after_none k c.args.points (seen_node c.args.node.now)
-    (seen c.args.way.now) c.in_ok-heads.heads.items c.in_ok-heads.ensures.way
-    (c.in_ok-heads.ensures.locals k) c.in_ok-heads.ensures.size
 
 pub loop-heads-smaller : goal.loop-heads-smaller
 loop-heads-smaller c =

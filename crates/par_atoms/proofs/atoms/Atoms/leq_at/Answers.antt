@@ -3,7 +3,7 @@ use Rattle.std.specs.Prelude.{IsTrue}
 use Rattle.std.proofs.lemmas.Bool.{both_ways, false≢true}
 use Rattle.std.proofs.lemmas.List.{get_or_default}
 use Rattle.par_policy.specs.Order.{IsBelowAt}
-use Rattle.par_bits.specs.Sets.{has}
+use Rattle.par_policy.specs.par_bits.Sets.{has}
 use Rattle.par_atoms.specs.Atoms.{members}
 use Rattle.par_atoms.proofs.Listed.{join_below_iff}
 use Rattle.par_atoms.proofs.atoms.Atoms.leq_at.Goals as goal

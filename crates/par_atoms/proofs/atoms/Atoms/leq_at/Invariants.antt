@@ -1,7 +1,7 @@
 use Rattle.std.proofs.Common.{ℕ, ◌<◌, [], get_or}
 use Rattle.std.specs.Prelude.{IsTrue}
 use Rattle.par_policy.specs.Order.{IsBelowAt}
-use Rattle.par_bits.specs.Sets.{has}
+use Rattle.par_policy.specs.par_bits.Sets.{has}
 use Rattle.par_atoms.specs.Atoms.{members}
 use Rattle.par_atoms.proofs.atoms.Atoms.leq_at.Given as goal
 

@@ -1,6 +1,6 @@
 use Rattle.std.proofs.Common.{ap, ◌∙◌}
 use Rattle.std.proofs.lemmas.Bool.{le-ltb}
-use Rattle.par_bits.specs.Sets.{has}
+use Rattle.par_policy.specs.par_bits.Sets.{has}
 use Rattle.par_atoms.proofs.Listed.{has_below, has_not_above}
 use Rattle.par_atoms.proofs.opened.OpenedOpenLocks.is_open.Goals as goal
 

@@ -41,7 +41,7 @@ returns-in_ok-number-in-None-difference-clause-names c =
       y.env,
       ap (slice_get (envs xs)) c.in_ok-number-in-None-difference.ensures
           ∙ get_env xs c.find-near.result y at,
-      λ i. ap (λ e. policy e i) (sym c.as_slice.ensures) ∙ c.in-None-difference.ensures i,
+      λ i. c.in-None-difference.ensures i,
     )
 
 pub returns-in_ok-number-in-Some-difference-clause-found
@@ -55,12 +55,12 @@ returns-in_ok-number-in-Some-difference-clause-found c =
     ∙ slice_get_read c.deref.result.now
     (length c.deref.result.now) c.find-near.result y refl h.3.0 h.1 in
     let has : policy y.env i ≡ c.policy_of-policy.result =
-    sym (c.policy_of-policy.ensures ∙ ap (λ e. policy e i) c.as_slice-in-Some-difference.ensures) in
+    sym (c.policy_of-policy.ensures ∙ ap (λ e. policy e i) c.as_slice.ensures) in
     found_kept xs c.keep-in-Some-difference.new.self.entries.items _
     c.in_ok-number-in-Some-difference.number c.in_ok-number-in-Some-difference.ensures.entries
     c.in_ok-number-in-Some-difference.ensures.number
     c.find-near.result (sym c.find-near.ensures) refl c.requires y at has
-    (λ e. c.in-Some-difference.ensures (ap (λ l. policy l i) c.as_slice.ensures ∙ has ∙ sym e))
+    (λ e. c.in-Some-difference.ensures (has ∙ sym e))
 
 pub returns-in_ok-number-in-Some-difference-clause-names
     : goal.returns-in_ok-number-in-Some-difference-clause-names

@@ -1,4 +1,5 @@
 use Rattle.par_policy.proofs.locks.Lockset.both.Goals as goal
 
 pub returns-clause-numbers : goal.returns-clause-numbers
-returns-clause-numbers c = rw (← c.self.view_is, ← c.other.view_is) c.in_ok-both.ensures.numbers
+returns-clause-numbers c =
+    rw (c.of.ensures, ← c.self.view_is, ← c.other.view_is) c.in_ok-locks.ensures.numbers

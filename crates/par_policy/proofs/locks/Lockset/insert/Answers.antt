@@ -1,4 +1,4 @@
 use Rattle.par_policy.proofs.locks.Lockset.insert.Goals as goal
 
 pub returns-clause-ok : goal.returns-clause-ok
-returns-clause-ok c = rw (← c.self.view_is) c.insert.ensures.ok
+returns-clause-ok c = rw (← c.self.view_is) c.in_ok-insert.ensures.ok

@@ -1,4 +1,5 @@
 use Rattle.par_policy.proofs.locks.Lockset.union.Goals as goal
 
 pub returns-clause-numbers : goal.returns-clause-numbers
-returns-clause-numbers c = rw (← c.self.view_is, ← c.other.view_is) c.in_ok-union.ensures.numbers
+returns-clause-numbers c =
+    rw (c.of.ensures, ← c.self.view_is, ← c.other.view_is) c.in_ok-locks.ensures.numbers

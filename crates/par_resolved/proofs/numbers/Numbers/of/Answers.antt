@@ -3,7 +3,7 @@ use Rattle.std.proofs.lemmas.List.{length-map}
 use Rattle.std.specs.Borrow.{Bor}
 use Rattle.par_tree.specs.declared.decl.LockDecl.{LockDecl}
 use Rattle.par_tree.specs.declared.ident.Ident.{Ident}
-use Rattle.par_index.specs.Texts.{texts}
+use Rattle.par_names.specs.par_index.Texts.{texts}
 use Rattle.par_tree.specs.Shown.{source}
 use Rattle.par_names.specs.Declarations.{actors, locks}
 use Rattle.par_resolved.specs.Numbers.{Numbers, firsts_from}

@@ -2,8 +2,8 @@ use Rattle.std.proofs.Common.{None, refl, sym, ap, ◌∙◌, subst}
 use Rattle.std.specs.Prelude.{IsTrue}
 use Rattle.par_rules.specs.Lattice.{numbers}
 use Rattle.par_rules.specs.Ways.{MayFlow}
-use Rattle.par_except.specs.Joins.{may_join}
-use Rattle.par_except.specs.Seen.{may_see}
+use Rattle.par_pass.specs.par_except.Joins.{may_join}
+use Rattle.par_pass.specs.par_except.Seen.{may_see}
 use Rattle.par_rounds.specs.Seen.{ways_of}
 use Rattle.par_rounds.specs.Took.{HaveSmallLocks}
 use Rattle.par_rounds.proofs.Heads.{read_none}

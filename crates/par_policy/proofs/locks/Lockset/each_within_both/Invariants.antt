@@ -1,6 +1,6 @@
 use Rattle.std.proofs.Common.{◌≡◌, true, take, ◌++◌}
 use Rattle.par_policy.specs.Numbers.{within}
-use Rattle.par_policy.proofs.locks.Lockset.within_both.Given as goal
+use Rattle.par_policy.proofs.locks.Lockset.each_within_both.Given as goal
 
 abbrev pub invariant-loop-lock : goal.invariant-loop-lock
 invariant-loop-lock g l =

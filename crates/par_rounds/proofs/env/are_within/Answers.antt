@@ -1,6 +1,6 @@
 use Rattle.std.proofs.Common.{refl, rules}
 use Rattle.par_rounds.proofs.Envs.{within_more, within_here, within_all}
-use Rattle.par_rounds.proofs.env.flows.Goals as goal
+use Rattle.par_rounds.proofs.env.are_within.Goals as goal
 
 pub loop-place-preserved : goal.loop-place-preserved
 loop-place-preserved c =
