@@ -1,9 +1,11 @@
 -- Whether a loop is begun again.
 use Rattle.std.specs.Prelude.{Bool, true, false, ◌||◌}
-use Rattle.par_typed.specs.Plain.{TSta, Block, If, While, Try, Return, Break, Continue, Throw, Open}
-use Rattle.par_typed.specs.Plain.{Close, SetLocal, SetStatic, SetField, Eval, When}
-use Rattle.par_typed.specs.Plain.{MayTSta, NoElse, Otherwise, TStas, End, Then, TCatches, NoCatch}
-use Rattle.par_typed.specs.Plain.{Catch}
+use Rattle.par_completes.specs.par_typed.Plain.{TSta, Block, If, While, Try, Return, Break}
+use Rattle.par_completes.specs.par_typed.Plain.{Continue, Throw, Open}
+use Rattle.par_completes.specs.par_typed.Plain.{Close, SetLocal, SetStatic, SetField, Eval, When}
+use Rattle.par_completes.specs.par_typed.Plain.{MayTSta, NoElse, Otherwise, TStas, End, Then}
+use Rattle.par_completes.specs.par_typed.Plain.{TCatches, NoCatch}
+use Rattle.par_completes.specs.par_typed.Plain.{Catch}
 use Rattle.par_completes.specs.Typed.{completes}
 
 -- a continue of the loop around it is inside; a loop takes its own

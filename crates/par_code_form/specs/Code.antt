@@ -3,25 +3,33 @@
 use Rattle.std.specs.Prelude.{ℕ, ◌+◌, nat_le, pos, Bool, true, false}
 use Rattle.std.specs.Prelude.{if◌then◌else◌, List, [], ◌∷◌}
 use Rattle.std.specs.Prelude.{codes}
-use Rattle.par_lexer.specs.declared.operator.BinOp.{BinOp}
-use Rattle.par_lexer.specs.declared.operator.BinOp.TheVariants as bin
-use Rattle.par_instr.specs.declared.instr.Instr.{Instr}
-use Rattle.par_instr.specs.declared.instr.Instr.TheVariants.{AconstNull, Iload, Aload, IloadShort}
-use Rattle.par_instr.specs.declared.instr.Instr.TheVariants.{AloadShort, Istore, Astore, Pop, Dup}
-use Rattle.par_instr.specs.declared.instr.Instr.TheVariants.{IstoreShort, AstoreShort, Iadd, Isub}
-use Rattle.par_instr.specs.declared.instr.Instr.TheVariants.{Imul, Idiv, Irem, Ineg, Ishl, Ishr}
-use Rattle.par_instr.specs.declared.instr.Instr.TheVariants.{Iushr, Iand, Ior, Ixor, Ireturn}
-use Rattle.par_instr.specs.declared.instr.Instr.TheVariants.{Areturn, Athrow}
-use Rattle.par_instr.specs.declared.instr.Instr.TheVariants as instr
-use Rattle.par_typed.specs.declared.ty.Ty.{Ty}
-use Rattle.par_typed.specs.declared.ty.Ty.TheVariants as ty
-use Rattle.par_typed.specs.Plain.{mark, TExp, Int, Boolean, Null, This, New, Local, Static}
-use Rattle.par_typed.specs.Plain.{Field, Input, Output, Call, Neg, Not, Binary}
-use Rattle.par_typed.specs.Plain.{MayTExp, Absent, Present, TExps, NoExps, More}
-use Rattle.par_typed.specs.Plain.{TSta, Block, If, While, Try, Return, Break, Continue, Throw, Open}
-use Rattle.par_typed.specs.Plain.{Close, SetLocal, SetStatic, SetField, Eval, When}
-use Rattle.par_typed.specs.Plain.{MayTSta, NoElse, Otherwise, TStas, End, Then, TCatches, NoCatch}
-use Rattle.par_typed.specs.Plain.{Catch}
+use Rattle.par_values.specs.par_lexer.declared.operator.BinOp.{BinOp}
+use Rattle.par_values.specs.par_lexer.declared.operator.BinOp.TheVariants as bin
+use Rattle.par_values.specs.par_instr.declared.instr.Instr.{Instr}
+use Rattle.par_values.specs.par_instr.declared.instr.Instr.TheVariants.{AconstNull, Iload, Aload}
+use Rattle.par_values.specs.par_instr.declared.instr.Instr.TheVariants.{IloadShort}
+use Rattle.par_values.specs.par_instr.declared.instr.Instr.TheVariants.{AloadShort, Istore, Astore}
+use Rattle.par_values.specs.par_instr.declared.instr.Instr.TheVariants.{Pop, Dup}
+use Rattle.par_values.specs.par_instr.declared.instr.Instr.TheVariants.{IstoreShort, AstoreShort}
+use Rattle.par_values.specs.par_instr.declared.instr.Instr.TheVariants.{Iadd, Isub}
+use Rattle.par_values.specs.par_instr.declared.instr.Instr.TheVariants.{Imul, Idiv, Irem, Ineg}
+use Rattle.par_values.specs.par_instr.declared.instr.Instr.TheVariants.{Ishl, Ishr}
+use Rattle.par_values.specs.par_instr.declared.instr.Instr.TheVariants.{Iushr, Iand, Ior, Ixor}
+use Rattle.par_values.specs.par_instr.declared.instr.Instr.TheVariants.{Ireturn}
+use Rattle.par_values.specs.par_instr.declared.instr.Instr.TheVariants.{Areturn, Athrow}
+use Rattle.par_values.specs.par_instr.declared.instr.Instr.TheVariants as instr
+use Rattle.par_completes.specs.par_typed.declared.ty.Ty.{Ty}
+use Rattle.par_completes.specs.par_typed.declared.ty.Ty.TheVariants as ty
+use Rattle.par_completes.specs.par_typed.Plain.{mark, TExp, Int, Boolean, Null, This, New, Local}
+use Rattle.par_completes.specs.par_typed.Plain.{Static}
+use Rattle.par_completes.specs.par_typed.Plain.{Field, Input, Output, Call, Neg, Not, Binary}
+use Rattle.par_completes.specs.par_typed.Plain.{MayTExp, Absent, Present, TExps, NoExps, More}
+use Rattle.par_completes.specs.par_typed.Plain.{TSta, Block, If, While, Try, Return, Break}
+use Rattle.par_completes.specs.par_typed.Plain.{Continue, Throw, Open}
+use Rattle.par_completes.specs.par_typed.Plain.{Close, SetLocal, SetStatic, SetField, Eval, When}
+use Rattle.par_completes.specs.par_typed.Plain.{MayTSta, NoElse, Otherwise, TStas, End, Then}
+use Rattle.par_completes.specs.par_typed.Plain.{TCatches, NoCatch}
+use Rattle.par_completes.specs.par_typed.Plain.{Catch}
 use Rattle.par_values.specs.Areas.{Name}
 use Rattle.par_values.specs.Arithmetic.{Operator}
 use Rattle.par_values.specs.Arithmetic as arithmetic

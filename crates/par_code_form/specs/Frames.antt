@@ -3,15 +3,18 @@
 use Rattle.std.specs.Prelude.{ℕ, ◌+◌, Bool, true, false, if◌then◌else◌, List, [], ◌∷◌, ◌++◌, map}
 use Rattle.std.specs.Prelude.{Option}
 use Rattle.std.specs.Prelude.{Some, None, slice_get, slice_set}
-use Rattle.par_typed.specs.declared.ty.Ty.{Ty}
-use Rattle.par_typed.specs.declared.ty.Ty.TheVariants as ty
-use Rattle.par_typed.specs.Plain.{mark, TExp, Int, Boolean, Null, This, New, Local, Static}
-use Rattle.par_typed.specs.Plain.{Field, Input, Output, Call, Neg, Not, Binary}
-use Rattle.par_typed.specs.Plain.{MayTExp, Absent, Present, TExps, NoExps, More}
-use Rattle.par_typed.specs.Plain.{TSta, Block, If, While, Try, Return, Break, Continue, Throw, Open}
-use Rattle.par_typed.specs.Plain.{Close, SetLocal, SetStatic, SetField, Eval, When}
-use Rattle.par_typed.specs.Plain.{MayTSta, NoElse, Otherwise, TStas, End, Then, TCatches, NoCatch}
-use Rattle.par_typed.specs.Plain.{Catch}
+use Rattle.par_completes.specs.par_typed.declared.ty.Ty.{Ty}
+use Rattle.par_completes.specs.par_typed.declared.ty.Ty.TheVariants as ty
+use Rattle.par_completes.specs.par_typed.Plain.{mark, TExp, Int, Boolean, Null, This, New, Local}
+use Rattle.par_completes.specs.par_typed.Plain.{Static}
+use Rattle.par_completes.specs.par_typed.Plain.{Field, Input, Output, Call, Neg, Not, Binary}
+use Rattle.par_completes.specs.par_typed.Plain.{MayTExp, Absent, Present, TExps, NoExps, More}
+use Rattle.par_completes.specs.par_typed.Plain.{TSta, Block, If, While, Try, Return, Break}
+use Rattle.par_completes.specs.par_typed.Plain.{Continue, Throw, Open}
+use Rattle.par_completes.specs.par_typed.Plain.{Close, SetLocal, SetStatic, SetField, Eval, When}
+use Rattle.par_completes.specs.par_typed.Plain.{MayTSta, NoElse, Otherwise, TStas, End, Then}
+use Rattle.par_completes.specs.par_typed.Plain.{TCatches, NoCatch}
+use Rattle.par_completes.specs.par_typed.Plain.{Catch}
 use Rattle.par_code_form.specs.declared.labelled.Slot.{Slot}
 use Rattle.par_code_form.specs.declared.labelled.Slot.TheVariants as slots
 use Rattle.par_code_form.specs.declared.labelled.LabelFrame.{LabelFrame}

@@ -1,9 +1,9 @@
 -- The labelled code of a method.
 use Rattle.std.specs.Prelude.{ℕ, ◌+◌, ◌-◌, if◌then◌else◌, [], ◌++◌, map, length, take}
 use Rattle.std.specs.Prelude.{replicate}
-use Rattle.par_typed.specs.declared.ty.Ty.TheVariants as ty
-use Rattle.par_typed.specs.declared.table.MethodInfo.{MethodInfo}
-use Rattle.par_typed.specs.Plain.{TSta}
+use Rattle.par_completes.specs.par_typed.declared.ty.Ty.TheVariants as ty
+use Rattle.par_completes.specs.par_typed.declared.table.MethodInfo.{MethodInfo}
+use Rattle.par_completes.specs.par_typed.Plain.{TSta}
 use Rattle.par_code_form.specs.declared.labelled.Labelled.{Labelled}
 use Rattle.par_code_form.specs.Code.{Words, body_code, body_handlers}
 use Rattle.par_code_form.specs.Operands.{top}

@@ -1,13 +1,13 @@
 -- What the numbers of a program are called in class files.
 use Rattle.std.specs.Prelude.{ℕ, List, [], ◌∷◌, ◌++◌, Option, Some, None, slice_get, codes}
-use Rattle.par_typed.specs.declared.ty.Ty.{Ty}
-use Rattle.par_typed.specs.declared.ty.Ty.TheVariants as ty
-use Rattle.par_typed.specs.declared.table.FieldInfo.{FieldInfo}
-use Rattle.par_typed.specs.declared.table.ChannelInfo.{ChannelInfo}
-use Rattle.par_typed.specs.declared.table.ParamInfo.{ParamInfo}
-use Rattle.par_typed.specs.declared.table.MethodInfo.{MethodInfo}
-use Rattle.par_typed.specs.declared.table.ClassInfo.{ClassInfo}
-use Rattle.par_typed.specs.declared.table.Table.{Table}
+use Rattle.par_completes.specs.par_typed.declared.ty.Ty.{Ty}
+use Rattle.par_completes.specs.par_typed.declared.ty.Ty.TheVariants as ty
+use Rattle.par_completes.specs.par_typed.declared.table.FieldInfo.{FieldInfo}
+use Rattle.par_completes.specs.par_typed.declared.table.ChannelInfo.{ChannelInfo}
+use Rattle.par_completes.specs.par_typed.declared.table.ParamInfo.{ParamInfo}
+use Rattle.par_completes.specs.par_typed.declared.table.MethodInfo.{MethodInfo}
+use Rattle.par_completes.specs.par_typed.declared.table.ClassInfo.{ClassInfo}
+use Rattle.par_completes.specs.par_typed.declared.table.Table.{Table}
 use Rattle.par_values.specs.Areas.{Name}
 use Rattle.par_code_form.specs.Code.{Words}
 

@@ -1,13 +1,15 @@
 -- The most operands that lie there at any time while code runs.
 use Rattle.std.specs.Prelude.{ℕ, ◌+◌, max, if◌then◌else◌}
-use Rattle.par_typed.specs.declared.ty.Ty.{Ty}
-use Rattle.par_typed.specs.Plain.{TExp, Int, Boolean, Null, This, New, Local, Static}
-use Rattle.par_typed.specs.Plain.{Field, Input, Output, Call, Neg, Not, Binary}
-use Rattle.par_typed.specs.Plain.{MayTExp, Absent, Present, TExps, NoExps, More}
-use Rattle.par_typed.specs.Plain.{TSta, Block, If, While, Try, Return, Break, Continue, Throw, Open}
-use Rattle.par_typed.specs.Plain.{Close, SetLocal, SetStatic, SetField, Eval, When}
-use Rattle.par_typed.specs.Plain.{MayTSta, NoElse, Otherwise, TStas, End, Then, TCatches, NoCatch}
-use Rattle.par_typed.specs.Plain.{Catch}
+use Rattle.par_completes.specs.par_typed.declared.ty.Ty.{Ty}
+use Rattle.par_completes.specs.par_typed.Plain.{TExp, Int, Boolean, Null, This, New, Local, Static}
+use Rattle.par_completes.specs.par_typed.Plain.{Field, Input, Output, Call, Neg, Not, Binary}
+use Rattle.par_completes.specs.par_typed.Plain.{MayTExp, Absent, Present, TExps, NoExps, More}
+use Rattle.par_completes.specs.par_typed.Plain.{TSta, Block, If, While, Try, Return, Break}
+use Rattle.par_completes.specs.par_typed.Plain.{Continue, Throw, Open}
+use Rattle.par_completes.specs.par_typed.Plain.{Close, SetLocal, SetStatic, SetField, Eval, When}
+use Rattle.par_completes.specs.par_typed.Plain.{MayTSta, NoElse, Otherwise, TStas, End, Then}
+use Rattle.par_completes.specs.par_typed.Plain.{TCatches, NoCatch}
+use Rattle.par_completes.specs.par_typed.Plain.{Catch}
 use Rattle.par_completes.specs.Typed.{is_true}
 use Rattle.par_code_form.specs.Code.{Shape, Calculates, Compares, Sames, Decides, shape_of, is_void}
 

@@ -1,3 +1,4 @@
 pub mod Again
 pub mod Exact
+pub mod Known
 pub mod Shortest

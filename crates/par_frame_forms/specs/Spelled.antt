@@ -77,11 +77,21 @@ abbrev pub CanFollow : List PlaceType → FrameForm → Type 0
 CanFollow listed (Cut many delta) = many ≤ length listed
 CanFollow listed f = Unit {0}
 
+-- Lists of locals that tell the same of each: a local that is not listed is not known.
+abbrev pub Alike : List PlaceType → List PlaceType → Type 0
+Alike ts us = (n : ℕ) → get_or ts n Top ≡ get_or us n Top
+
+-- two ways to say one frame
+pub record IsSame (x y : Said) : Type 0 where
+  pub delta : x.delta ≡ y.delta
+  pub locals : Alike x.locals y.locals
+  pub stack : x.stack ≡ y.stack
+
 -- a form that says a frame behind one that lists these locals
 pub record Spells (listed : List PlaceType) (said : Said) (f : FrameForm) : Type 0 where
   pub fits : FormFits f
   pub follows : CanFollow listed f
-  pub same : says listed f ≡ said
+  pub same : IsSame (says listed f) said
 
 abbrev pub tag : FrameForm → ℕ
 tag f = get_or (spelled f) 0 0
@@ -92,7 +102,10 @@ IsNoLater f g =
     (length (spelled f) < length (spelled g))
     ⊎ ((length (spelled f) ≡ length (spelled g)) × (tag f ≤ tag g))
 
--- the form that is written for a frame: the shortest, of equal lengths the one of the least tag
+-- The form that is written for a frame: the shortest, of equal lengths the one of the least tag. It
+-- lists no more locals than the frame before or than this one.
 pub record IsWritten (listed : List PlaceType) (said : Said) (f : FrameForm) : Type 0 where
   pub spells : Spells listed said f
   pub least : (g : FrameForm) → Spells listed said g → IsNoLater f g
+  pub few : (most : ℕ) → length listed ≤ most → length said.locals ≤ most
+      → length (says listed f).locals ≤ most

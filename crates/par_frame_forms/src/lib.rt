@@ -11,3 +11,4 @@ mod laws;
 
 pub use form::{FrameForm, PlaceType};
 pub use laws::{read_forms_are_spelled, spelled_forms_are_read, written_is_shortest};
+pub use par_pool;

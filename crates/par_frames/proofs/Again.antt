@@ -1,14 +1,15 @@
 -- Classes that kinds name are found again by their whole names.
-use Rattle.std.proofs.Common.{◌≡◌, Bool, true, false, List, [], ◌∷◌, Some, None, refl, sym, ap, subst, ◌∙◌}
+use Rattle.std.proofs.Common.{◌≡◌, Bool, true, false, List, [], ◌∷◌, Some, None, refl, sym, ap}
+use Rattle.std.proofs.Common.{subst, ◌∙◌}
 use Rattle.std.specs.Prelude.{if◌then◌else◌, codes}
 use Rattle.std.specs.Option.{option_map}
 use Rattle.std.specs.Str.{bytes_eq}
 use Rattle.std.proofs.lemmas.Slice.Eq.{bytes_eq-Decides}
 use Rattle.par_lexer.specs.Names.{IsName, is_spelled}
-use Rattle.par_pool.specs.declared.constant.Constant.{Constant}
-use Rattle.par_values.specs.Areas.{Name}
-use Rattle.par_single.specs.Members.{text_of}
-use Rattle.par_link.specs.Builtins.{builtin}
+use Rattle.par_frame_forms.specs.par_pool.declared.constant.Constant.{Constant}
+use Rattle.par_kinds.specs.par_values.Areas.{Name}
+use Rattle.par_kinds.specs.par_single.Members.{text_of}
+use Rattle.par_kinds.specs.par_link.Builtins.{builtin}
 use Rattle.par_frame_forms.specs.declared.form.PlaceType.{PlaceType}
 use Rattle.par_kinds.specs.declared.frame.VKind.{VKind}
 use Rattle.par_kinds.specs.declared.frame.VKind.TheVariants.{Top, Int, Null, Object, Base}

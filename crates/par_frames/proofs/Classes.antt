@@ -1,6 +1,7 @@
 -- A class in a pool, and the room that is left behind it.
 use Rattle.std.proofs.Common.{◌≡◌, ℕ, suc, inl, inr, List, [], ◌∷◌, ◌++◌, length}
-use Rattle.std.proofs.Common.{refl, sym, ap, subst, ◌∙◌, append_assoc, length-append, arith, Bool, true}
+use Rattle.std.proofs.Common.{refl, sym, ap, subst, ◌∙◌, append_assoc, length-append, arith}
+use Rattle.std.proofs.Common.{Bool, true}
 use Rattle.std.specs.Prelude.{Contains, ◌⊎◌, ◌&&◌, nat_lt, false, if◌then◌else◌, codes}
 use Rattle.std.specs.Str.{bytes_eq}
 use Rattle.std.specs.List.{list_all}
@@ -8,15 +9,15 @@ use Rattle.std.proofs.lemmas.Bool.{and_parts, and_from}
 use Rattle.std.proofs.lemmas.List.{append-nil}
 use Rattle.std.proofs.lemmas.List.Elements.{Contains-append_left, Contains-append_right}
 use Rattle.std.proofs.lemmas.List.Elements.{All-nil, All-append, All-weaker}
-use Rattle.par_policy.proofs.Ordered.{Contains-cons_cases, Contains-nil}
+use Rattle.par_kinds.proofs.par_policy.Ordered.{Contains-cons_cases, Contains-nil}
 use Rattle.par_lexer.specs.Names.{IsName, is_letter, is_spelled, goes_on}
-use Rattle.par_pool.specs.declared.constant.Constant.{Constant}
-use Rattle.par_pool.specs.declared.constant.Constant.TheVariants.{Utf8}
-use Rattle.par_pool.specs.Entries.{IsClassAt}
-use Rattle.par_pool.specs.Growth.{Adds, IsClassPart}
-use Rattle.par_pool.specs.Spelling.{is_plain, IsText}
-use Rattle.par_pool.proofs.Growth.{at-append}
-use Rattle.par_values.specs.Areas.{Name}
+use Rattle.par_frame_forms.specs.par_pool.declared.constant.Constant.{Constant}
+use Rattle.par_frame_forms.specs.par_pool.declared.constant.Constant.TheVariants.{Utf8}
+use Rattle.par_frame_forms.specs.par_pool.Entries.{IsClassAt}
+use Rattle.par_frame_forms.specs.par_pool.Growth.{Adds, IsClassPart}
+use Rattle.par_frame_forms.specs.par_pool.Spelling.{is_plain, IsText}
+use Rattle.par_frame_forms.proofs.par_pool.Growth.{at-append}
+use Rattle.par_kinds.specs.par_values.Areas.{Name}
 use Rattle.par_frame_forms.specs.declared.form.PlaceType.{PlaceType}
 use Rattle.par_kinds.specs.declared.frame.VKind.{VKind}
 use Rattle.par_kinds.specs.declared.frame.VKind.TheVariants.{Top, Int, Null, Object, Base}
@@ -246,5 +247,14 @@ pub room_among : (pool : List Constant) (spare : ℕ) (names more : List Name)
 room_among pool spare names more h = record {
   missing = h.missing;
   covered = λ n c. h.covered n (Contains-append_left names more n c);
+  room = h.room;
+}
+
+-- names that are said before others need no room
+pub room_behind : (pool : List Constant) (spare : ℕ) (names more : List Name)
+    → HasRoom pool spare (names ++ more) → HasRoom pool spare more
+room_behind pool spare names more h = record {
+  missing = h.missing;
+  covered = λ n c. h.covered n (Contains-append_right names more n c);
   room = h.room;
 }

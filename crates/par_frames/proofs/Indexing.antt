@@ -1,12 +1,12 @@
 -- A frame whose locals and operands are placed one after the other.
-use Rattle.std.proofs.Common.{◌≡◌, ℕ, ◌≤◌, ◌<◌, ◌^◌, List, ◌++◌, length, refl, sym, subst}
-use Rattle.std.proofs.Common.{arith}
+use Rattle.std.proofs.Common.{◌≡◌, ℕ, ◌+◌, ◌≤◌, ◌<◌, ◌^◌, List, [], ◌∷◌, ◌++◌, length, get_or}
+use Rattle.std.proofs.Common.{refl, sym, ap, ◌∙◌, subst, arith}
 use Rattle.std.specs.Prelude.{Contains}
-use Rattle.std.specs.List.{AllZip}
+use Rattle.std.specs.List.{AllZip, AllByRecursion}
 use Rattle.std.proofs.lemmas.List.Elements.{Contains-append_left}
 use Rattle.std.proofs.lemmas.Slice.Zip.{AllZip-long}
-use Rattle.par_pool.specs.declared.constant.Constant.{Constant}
-use Rattle.par_values.specs.Areas.{Name}
+use Rattle.par_frame_forms.specs.par_pool.declared.constant.Constant.{Constant}
+use Rattle.par_kinds.specs.par_values.Areas.{Name}
 use Rattle.par_frame_forms.specs.declared.form.PlaceType.{PlaceType}
 use Rattle.par_frame_forms.specs.Spelled.{TypesFit}
 use Rattle.par_kinds.specs.declared.frame.VKind.{VKind}
@@ -15,7 +15,7 @@ use Rattle.par_frames.specs.declared.indexed.IndexedFrame.{IndexedFrame}
 use Rattle.par_frames.specs.Names.{StandsFor, classes_of, classes_in}
 use Rattle.par_frames.specs.Attribute.{AddsClasses}
 use Rattle.par_frames.specs.Room.{HasRoom, IsShort, SPARE}
-use Rattle.par_frames.specs.Forms.{IsIndexed, IndexedFits}
+use Rattle.par_frames.specs.Forms.{IsIndexed, IndexedFits, last_behind, last_locals}
 use Rattle.par_frames.proofs.Classes.{kind_kept, adds_among, adds_then, room_among}
 use Rattle.par_frames.proofs.Steps.{zip_kept}
 
@@ -97,3 +97,58 @@ indexed_fits b c s t f offset locals stack e g short p r x y = record {
       (subst (λ (ks : List VKind). length ks ≤ 65535) (sym g) short.stack);
   stack = y;
 }
+
+-- ---- the last frame
+
+last-at : (j : IndexedFrame) (js : List IndexedFrame) (i : IndexedFrame)
+    → i ≡ get_or (j ∷ js) (length js) i → i.locals ≡ last_behind j js
+last-at j [] i is = ap (λ (k : IndexedFrame). k.locals) is
+last-at j (k ∷ ks) i is = last-at k ks i is
+
+pub last_is : (is : List IndexedFrame) (n : ℕ) (i : IndexedFrame) (slice : List PlaceType)
+    → length is ≡ n + 1 → i ≡ get_or is n i → slice ≡ i.locals → slice ≡ last_locals is
+last_is [] n i slice long at e = absurd (omega (arith, long))
+last_is (j ∷ js) n i slice long at e =
+    let same : n ≡ length js = omega (arith, long) in
+    e ∙ last-at j js i (at ∙ ap (λ (k : ℕ). get_or (j ∷ js) k i) same)
+
+last-pushed : (j : IndexedFrame) (js : List IndexedFrame) (i : IndexedFrame)
+    → last_behind j (js ++ i ∷ []) ≡ i.locals
+last-pushed j [] i = refl
+last-pushed j (k ∷ ks) i = last-pushed k ks i
+
+pushed : (is : List IndexedFrame) (i : IndexedFrame) → last_locals (is ++ i ∷ []) ≡ i.locals
+pushed [] i = refl
+pushed (j ∷ js) i = last-pushed j js i
+
+-- the locals of a frame that was placed last
+pub last_known : (pool : List Constant) (f : PlacedFrame) (i : IndexedFrame)
+    (made more : List IndexedFrame) (slice : List VKind) → IsIndexed pool f i
+    → more ≡ made ++ i ∷ [] → slice ≡ f.frame.locals
+    → AllZip (StandsFor pool) slice (last_locals more)
+last_known pool f i made more slice h e same =
+    subst (λ (ks : List VKind). AllZip (StandsFor pool) ks (last_locals more)) (sym same)
+    (subst (λ (ts : List PlaceType). AllZip (StandsFor pool) f.frame.locals ts)
+    (sym (ap (λ (is : List IndexedFrame). last_locals is) e ∙ pushed made i)) h.locals)
+
+behind-fits : (j : IndexedFrame) (js : List IndexedFrame)
+    → AllByRecursion IndexedFits (j ∷ js) → TypesFit (last_behind j js)
+behind-fits j [] h = h.0.locals
+behind-fits j (k ∷ ks) h = behind-fits k ks h.1
+
+last-fits : (is : List IndexedFrame) → AllByRecursion IndexedFits is → TypesFit (last_locals is)
+last-fits [] h = tt
+last-fits (j ∷ js) h = behind-fits j js h
+
+pub last_fits : (slice : List PlaceType) (some is : List IndexedFrame)
+    → slice ≡ last_locals some → some ≡ is → AllByRecursion IndexedFits is → TypesFit slice
+last_fits slice some is e same h =
+    subst (λ (ts : List PlaceType). TypesFit ts)
+    (sym (e ∙ ap (λ (js : List IndexedFrame). last_locals js) same)) (last-fits is h)
+
+pub last_stands : (pool : List Constant) (ks : List VKind) (slice : List PlaceType)
+    (some is : List IndexedFrame) → slice ≡ last_locals some → some ≡ is
+    → AllZip (StandsFor pool) ks (last_locals is) → AllZip (StandsFor pool) ks slice
+last_stands pool ks slice some is e same h =
+    subst (λ (ts : List PlaceType). AllZip (StandsFor pool) ks ts)
+    (sym (e ∙ ap (λ (js : List IndexedFrame). last_locals js) same)) h

@@ -1,6 +1,6 @@
-mod Classes
-mod Steps
+pub mod Classes
+pub mod Steps
 mod Indexing
 mod Listed
-mod Said
-mod Again
+pub mod Said
+pub mod Again

@@ -1,5 +1,5 @@
 -- Kinds that are found among the locals of a frame.
-use Rattle.std.proofs.Common.{◌≡◌, ℕ, zero, suc, ◌<◌, true, false, List, [], ◌∷◌}
+use Rattle.std.proofs.Common.{◌≡◌, ℕ, zero, suc, ◌<◌, Bool, true, false, List, [], ◌∷◌}
 use Rattle.std.proofs.Common.{length, get_or, Some, None, refl, sym, ap, subst, ◌∙◌, arith, ◌+◌}
 use Rattle.std.proofs.Common.{◌≤◌, ◌++◌, drop, append_assoc, Result}
 use Rattle.std.specs.Prelude.{Contains, IfOk}
@@ -8,8 +8,8 @@ use Rattle.std.proofs.lemmas.List.Quantifiers.{position-Some}
 use Rattle.std.proofs.lemmas.Option.{slice_get-get_or}
 use Rattle.std.proofs.lemmas.List.{append-nil, drop_all}
 use Rattle.std.proofs.lemmas.Slice.Eq.{bytes_eq-Decides}
-use Rattle.par_pool.specs.declared.constant.Constant.{Constant}
-use Rattle.par_pool.proofs.Positions.{position-none}
+use Rattle.par_frame_forms.specs.par_pool.declared.constant.Constant.{Constant}
+use Rattle.par_frame_forms.proofs.par_pool.Positions.{position-none}
 use Rattle.par_frame_forms.specs.declared.form.PlaceType.{PlaceType}
 use Rattle.par_frame_forms.specs.declared.form.PlaceType.TheVariants.{Class}
 use Rattle.par_kinds.specs.declared.frame.VKind.{VKind}
@@ -87,6 +87,20 @@ found pool kind first types place t is e zip =
     (sym (same-is kind (get_or first place kind) there.1))
     (subst (λ (u : PlaceType). StandsFor pool (get_or first place kind) u) (sym e)
     (zip-at (StandsFor pool) first types place kind (Class 0) zip there.0))
+
+-- a kind that another frame has at a place is written as there
+pub known : (pool : List Constant) (kind other : VKind) (earlier : List VKind)
+    (types : List PlaceType) (place : ℕ) (same : Bool) (t u : PlaceType)
+    → place < length earlier → other ≡ get_or earlier place other
+    → same ≡ same_kind kind other → same ≡ true → t ≡ get_or types place t → u ≡ t
+    → AllZip (StandsFor pool) earlier types → StandsFor pool kind u
+known pool kind other earlier types place same t u lt is asked truly there copy zip =
+    subst (λ (v : PlaceType). StandsFor pool kind v) (sym copy)
+    (subst (λ (k : VKind). StandsFor pool k t)
+    (sym (same-is kind other (sym asked ∙ truly)))
+    (subst (λ (k : VKind). StandsFor pool k t) (sym is)
+    (subst (λ (v : PlaceType). StandsFor pool (get_or earlier place other) v) (sym there)
+    (zip-at (StandsFor pool) earlier types place other t zip lt))))
 
 -- a kind that is not found is not there
 pub not_found : (kind : VKind) (first : List VKind) → None ≡ position (same_kind kind) first

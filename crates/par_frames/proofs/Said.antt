@@ -3,18 +3,19 @@ use Rattle.std.proofs.Common.{◌≡◌, ℕ, ◌+◌, ◌≤◌, suc, List, [],
 use Rattle.std.proofs.Common.{subst, ◌∙◌, arith, ◌++◌}
 use Rattle.std.proofs.lemmas.List.{length-map}
 use Rattle.std.proofs.lemmas.Slice.Zip.{AllZip-long}
-use Rattle.par_pool.specs.Spelling.{u2}
+use Rattle.par_frame_forms.specs.par_pool.Spelling.{u2}
 use Rattle.par_frame_forms.specs.Spelled.{spelled_all}
 use Rattle.par_kinds.specs.declared.frame.VKind.{VKind}
 use Rattle.std.specs.List.{AllZip, AllByRecursion}
-use Rattle.par_pool.specs.declared.constant.Constant.{Constant}
+use Rattle.par_frame_forms.specs.par_pool.declared.constant.Constant.{Constant}
 use Rattle.par_frame_forms.specs.declared.form.PlaceType.{PlaceType}
 use Rattle.par_frame_forms.proofs.Shortest.{written_is_shortest}
 use Rattle.par_kinds.specs.declared.frame.PlacedFrame.{PlacedFrame}
 use Rattle.par_frames.specs.declared.indexed.IndexedFrame.{IndexedFrame}
 use Rattle.par_frames.specs.Attribute.{AreSaid, IsListed, IsAttribute, first_locals}
 use Rattle.par_frames.specs.Room.{Ascend, offsets}
-use Rattle.par_frames.specs.Forms.{IsIndexed, IndexedFits, said_from, forms_from}
+use Rattle.par_frames.specs.Forms.{IsIndexed, IndexedFits, said_from, listed_by}
+use Rattle.par_frames.specs.Forms.{forms_from}
 
 pub same_offsets : (pool : List Constant) (fs : List PlacedFrame) (placed : List IndexedFrame)
     → AllZip (IsIndexed pool) fs placed → map (λ i. i.offset) placed ≡ offsets fs
@@ -37,7 +38,8 @@ pub length_forms : (from : ℕ) (listed : List PlaceType) (placed : List Indexed
 unfolding forms_from
 length_forms from listed [] = refl
 length_forms from listed (i ∷ placed) =
-    ap (λ (n : ℕ). suc n) (length_forms (i.offset + 1) i.locals placed)
+    ap (λ (n : ℕ). suc n)
+    (length_forms (i.offset + 1) (listed_by listed (said_from from i)) placed)
 
 pub are_said : (pool : List Constant) (from : ℕ) (listed : List PlaceType) (fs : List PlacedFrame)
     (placed : List IndexedFrame) → AllZip (IsIndexed pool) fs placed
@@ -62,9 +64,10 @@ are_said pool from listed (f ∷ fs) (i ∷ placed) h fit up = (
     stack = fit.0.stack;
   }),
   subst
-      (λ (at : ℕ). AreSaid pool (f.offset + 1) i.locals fs (forms_from (at + 1) i.locals placed))
+      (λ (at : ℕ). AreSaid pool (f.offset + 1) (listed_by listed (said_from from i)) fs
+      (forms_from (at + 1) (listed_by listed (said_from from i)) placed))
       (sym h.0.offset)
-      (are_said pool (f.offset + 1) i.locals fs placed h.1 fit.1 up.2),
+      (are_said pool (f.offset + 1) (listed_by listed (said_from from i)) fs placed h.1 fit.1 up.2),
 )
 
 -- ---- the attribute

@@ -6,8 +6,8 @@ use Rattle.std.specs.List.{AllZip, AllByRecursion, flat_map}
 use Rattle.std.proofs.lemmas.Grind.{flat_map-append}
 use Rattle.std.proofs.lemmas.List.{append-nil}
 use Rattle.std.proofs.lemmas.List.Elements.{Contains-append_left}
-use Rattle.par_pool.specs.declared.constant.Constant.{Constant}
-use Rattle.par_values.specs.Areas.{Name}
+use Rattle.par_frame_forms.specs.par_pool.declared.constant.Constant.{Constant}
+use Rattle.par_kinds.specs.par_values.Areas.{Name}
 use Rattle.par_frames.specs.Attribute.{AddsClasses}
 use Rattle.par_frames.specs.Room.{HasRoom, SPARE}
 use Rattle.par_frames.proofs.Classes.{adds_none, adds_among, adds_then, room_among}

@@ -1,14 +1,14 @@
 -- What the attribute of a method's frames is.
 use Rattle.std.specs.Prelude.{◌≡◌, ℕ, ◌+◌, ◌⊎◌, List, [], ◌∷◌, ◌++◌, length, Contains}
 use Rattle.std.specs.List.{AllZip, All}
-use Rattle.par_pool.specs.declared.constant.Constant.{Constant}
-use Rattle.par_pool.specs.Spelling.{u2}
-use Rattle.par_pool.specs.Growth.{IsClassPart}
-use Rattle.par_values.specs.Areas.{Name}
+use Rattle.par_frame_forms.specs.par_pool.declared.constant.Constant.{Constant}
+use Rattle.par_frame_forms.specs.par_pool.Spelling.{u2}
+use Rattle.par_frame_forms.specs.par_pool.Growth.{IsClassPart}
+use Rattle.par_kinds.specs.par_values.Areas.{Name}
 use Rattle.par_frame_forms.specs.declared.form.PlaceType.{PlaceType}
 use Rattle.par_frame_forms.specs.declared.form.PlaceType.TheVariants as place
 use Rattle.par_frame_forms.specs.declared.form.FrameForm.{FrameForm}
-use Rattle.par_frame_forms.specs.Spelled.{Said, IsWritten, spelled_all}
+use Rattle.par_frame_forms.specs.Spelled.{Said, says, IsWritten, spelled_all}
 use Rattle.par_kinds.specs.declared.frame.VKind.{VKind}
 use Rattle.par_kinds.specs.declared.frame.PlacedFrame.{PlacedFrame}
 use Rattle.par_frames.specs.Names.{StandsFor}
@@ -20,14 +20,15 @@ pub record IsSaid (pool : List Constant) (from : ℕ) (f : PlacedFrame) (said : 
   pub stack : AllZip (StandsFor pool) f.frame.stack said.stack
 
 -- Frames, each in its shortest form, behind one that lists these locals: the distance of the first
--- counts from an offset, that of a later one from the offset behind the frame before.
+-- counts from an offset, that of a later one from the offset behind the frame before. Each stands
+-- behind those locals that the form before lists.
 abbrev pub AreSaid :
     List Constant → ℕ → List PlaceType → List PlacedFrame → List FrameForm → Type 0
 AreSaid pool from listed [] forms = forms ≡ []
 AreSaid pool from listed (f ∷ fs) [] = ⊥
 AreSaid pool from listed (f ∷ fs) (form ∷ forms) =
     (said : Said) × IsSaid pool from f said × IsWritten listed said form
-    × AreSaid pool (f.offset + 1) said.locals fs forms
+    × AreSaid pool (f.offset + 1) (says listed form).locals fs forms
 
 -- the locals of the first frame
 abbrev pub first_locals : List PlacedFrame → List VKind

@@ -2,10 +2,10 @@
 use Rattle.std.specs.Prelude.{◌≡◌, ℕ, ◌<◌, ◌≤◌, ℤ, pos, ◌==◌, Bool, true, false, List, []}
 use Rattle.std.specs.Prelude.{length, Option, Some, None, Contains}
 use Rattle.std.specs.List.{All, slice_get}
-use Rattle.par_class.specs.declared.file.CodeAttr.{CodeAttr}
-use Rattle.par_class.specs.declared.file.MethodFile.{MethodFile}
-use Rattle.par_class.specs.declared.file.ClassFile.{ClassFile}
-use Rattle.par_single.specs.Walk.{starts_at}
+use Rattle.par_kinds.specs.par_class.declared.file.CodeAttr.{CodeAttr}
+use Rattle.par_kinds.specs.par_class.declared.file.MethodFile.{MethodFile}
+use Rattle.par_kinds.specs.par_class.declared.file.ClassFile.{ClassFile}
+use Rattle.par_kinds.specs.par_single.Walk.{starts_at}
 use Rattle.par_kinds.specs.declared.frame.PlacedFrame.{PlacedFrame}
 use Rattle.par_kinds.specs.declared.frame.MethodFrames.{MethodFrames}
 use Rattle.par_frames.specs.Given.{frames_given}

@@ -3,14 +3,14 @@ use Rattle.std.specs.Prelude.{ℕ, ◌+◌, ◌-◌, nat_le, Bool, if◌then◌e
 use Rattle.std.specs.Prelude.{length, take, map, Option, Some, None, codes}
 use Rattle.std.specs.List.{filter}
 use Rattle.std.specs.Option.{option_map}
-use Rattle.par_pool.specs.declared.constant.Constant.{Constant}
-use Rattle.par_pool.specs.Entries.{entry_at}
-use Rattle.par_class.specs.declared.file.Attribute.{Attribute}
-use Rattle.par_class.specs.declared.file.MethodFile.{MethodFile}
-use Rattle.par_class.specs.declared.file.ClassFile.{ClassFile}
-use Rattle.par_class.specs.Spelling.{is_named}
-use Rattle.par_single.specs.Members.{own_name, text_at, is_static}
-use Rattle.par_single.specs.Links.{signature_said}
+use Rattle.par_frame_forms.specs.par_pool.declared.constant.Constant.{Constant}
+use Rattle.par_frame_forms.specs.par_pool.Entries.{entry_at}
+use Rattle.par_kinds.specs.par_class.declared.file.Attribute.{Attribute}
+use Rattle.par_kinds.specs.par_class.declared.file.MethodFile.{MethodFile}
+use Rattle.par_kinds.specs.par_class.declared.file.ClassFile.{ClassFile}
+use Rattle.par_kinds.specs.par_class.Spelling.{is_named}
+use Rattle.par_kinds.specs.par_single.Members.{own_name, text_at, is_static}
+use Rattle.par_kinds.specs.par_single.Links.{signature_said}
 use Rattle.par_frame_forms.specs.declared.form.PlaceType.{PlaceType}
 use Rattle.par_frame_forms.specs.declared.form.FrameForm.{FrameForm}
 use Rattle.par_frame_forms.specs.declared.form.FrameForm.TheVariants.{OneOperand, OneOperandFar}

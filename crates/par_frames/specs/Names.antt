@@ -1,16 +1,17 @@
 -- Classes in kinds and in an attribute, where the built-in exceptions have their whole names.
-use Rattle.std.specs.Prelude.{◌≡◌, ℕ, Bool, true, false, not, if◌then◌else◌, List, [], ◌∷◌, ◌++◌, Option}
+use Rattle.std.specs.Prelude.{◌≡◌, ℕ, Bool, true, false, not, if◌then◌else◌, List, [], ◌∷◌, ◌++◌}
+use Rattle.std.specs.Prelude.{Option}
 use Rattle.std.specs.Prelude.{Some, None, codes}
 use Rattle.std.specs.List.{flat_map}
 use Rattle.std.specs.Str.{bytes_eq}
-use Rattle.par_pool.specs.declared.constant.Constant.{Constant}
-use Rattle.par_pool.specs.declared.constant.Constant.TheVariants as constant
-use Rattle.par_pool.specs.Entries.{entry_at, IsClassAt}
-use Rattle.par_values.specs.Areas.{Name}
-use Rattle.par_single.specs.Members.{text_at}
-use Rattle.par_link.specs.declared.entry.Builtin.{Builtin}
-use Rattle.par_link.specs.declared.entry.Builtin.TheVariants as builtin
-use Rattle.par_link.specs.Builtins as builtins
+use Rattle.par_frame_forms.specs.par_pool.declared.constant.Constant.{Constant}
+use Rattle.par_frame_forms.specs.par_pool.declared.constant.Constant.TheVariants as constant
+use Rattle.par_frame_forms.specs.par_pool.Entries.{entry_at, IsClassAt}
+use Rattle.par_kinds.specs.par_values.Areas.{Name}
+use Rattle.par_kinds.specs.par_single.Members.{text_at}
+use Rattle.par_kinds.specs.par_link.declared.entry.Builtin.{Builtin}
+use Rattle.par_kinds.specs.par_link.declared.entry.Builtin.TheVariants as builtin
+use Rattle.par_kinds.specs.par_link.Builtins as builtins
 use Rattle.par_frame_forms.specs.declared.form.PlaceType.{PlaceType}
 use Rattle.par_frame_forms.specs.declared.form.PlaceType.TheVariants as place
 use Rattle.par_kinds.specs.declared.frame.VKind.{VKind}

@@ -3,11 +3,11 @@ use Rattle.std.specs.Prelude.{◌≡◌, ℕ, ◌+◌, ℤ, pos, ◌+ℤ◌, ◌
 use Rattle.std.specs.Prelude.{◌⊎◌, length, Some, Contains}
 use Rattle.par_instr.specs.declared.instr.Instr.{Instr}
 use Rattle.par_instr.specs.Decoding.{Decoded, decoded_at}
-use Rattle.par_class.specs.declared.file.Catch.{Catch}
-use Rattle.par_class.specs.declared.file.CodeAttr.{CodeAttr}
-use Rattle.par_values.specs.declared.link.Link.TheVariants as link
-use Rattle.par_values.specs.Operations.{operation}
-use Rattle.par_single.specs.Walk.{starts_at}
+use Rattle.par_kinds.specs.par_class.declared.file.Catch.{Catch}
+use Rattle.par_kinds.specs.par_class.declared.file.CodeAttr.{CodeAttr}
+use Rattle.par_kinds.specs.par_values.declared.link.Link.TheVariants as link
+use Rattle.par_kinds.specs.par_values.Operations.{operation}
+use Rattle.par_kinds.specs.par_single.Walk.{starts_at}
 use Rattle.par_kinds.specs.Acts.{Flow, Onward, Jumps, Branches, Nowhere}
 use Rattle.par_kinds.specs.Linked.{flow_of}
 

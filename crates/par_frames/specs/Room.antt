@@ -1,8 +1,8 @@
 -- Which frames an attribute and a pool have room for.
 use Rattle.std.specs.Prelude.{ℕ, ◌+◌, ◌*◌, ◌<◌, ◌≤◌, ◌⊎◌, List, [], ◌∷◌, length, map, Contains}
-use Rattle.par_pool.specs.declared.constant.Constant.{Constant}
-use Rattle.par_pool.specs.Entries.{IsClassAt}
-use Rattle.par_values.specs.Areas.{Name}
+use Rattle.par_frame_forms.specs.par_pool.declared.constant.Constant.{Constant}
+use Rattle.par_frame_forms.specs.par_pool.Entries.{IsClassAt}
+use Rattle.par_kinds.specs.par_values.Areas.{Name}
 use Rattle.par_kinds.specs.declared.frame.PlacedFrame.{PlacedFrame}
 
 -- how many entries a pool has room for beside those of classes

@@ -1,15 +1,16 @@
 //! Which form is written for a frame: the shortest.
 
-ghost use Rattle.std.specs.Prelude.{◌≡◌, ◌++◌, ◌<◌, ◌^◌, None, Some, [], ◌∷◌, length, OnOk};
-ghost use Rattle.std.specs.Prelude.{MatchOption, map};
-ghost use Rattle.std.specs.List.{AllByRecursion};
-ghost use Rattle.par_frame_forms.specs.Spelled.{spelled, spelled_all};
-ghost use Rattle.par_frame_forms.specs.Written.{same_type, behind, written};
+ghost use Rattle.std.specs.Prelude.{◌≡◌, ◌++◌, ◌≤◌, ◌<◌, ◌^◌, None, Some, [], ◌∷◌, length, OnOk};
+ghost use Rattle.std.specs.Prelude.{MatchOption, IfSome, IfOk, map};
+ghost use Rattle.std.specs.List.{AllByRecursion, list_all};
+ghost use Rattle.par_frame_forms.specs.Spelled.{spelled, spelled_all, says};
+ghost use Rattle.par_frame_forms.specs.Written.{same_type, behind, is_top, known, many_cut};
+ghost use Rattle.par_frame_forms.specs.Written.{shorter, bare, by_stack, written};
 ghost use Rattle.par_frames.specs.Room.{Ascend};
-ghost use Rattle.par_frames.specs.Forms.{IndexedFits, forms_from};
+ghost use Rattle.par_frames.specs.Forms.{IndexedFits, listed_by, forms_from};
 
 use crate::indexed::IndexedFrame;
-use crate::spelling::{FEW, put_cut, put_full, put_longer, put_operand};
+use crate::spelling::{FEW, NEAR, put_cut, put_full, put_more, put_operand};
 use par_frame_forms::PlaceType;
 use par_lexer::list::NoMemory;
 
@@ -28,8 +29,9 @@ fn is_same(t: &PlaceType, u: &PlaceType) -> bool
 /// What a list has behind another with which it begins.
 #[tactic(auto, unfolding(par_frame_forms::specs::Written::behind))]
 fn behind<'l>(listed: &[PlaceType], locals: &'l [PlaceType]) -> Option<&'l [PlaceType]>
-    ensures { MatchOption result (behind listed.now locals.now ≡ None)
+    ensures behind { MatchOption result (behind listed.now locals.now ≡ None)
         (λ rest. behind listed.now locals.now ≡ Some rest.now) }
+    ensures whole { IfSome result (λ rest. locals.now ≡ listed.now ++ rest.now) }
 {
     let mut front = listed;
     let mut rest = locals;
@@ -46,62 +48,153 @@ fn behind<'l>(listed: &[PlaceType], locals: &'l [PlaceType]) -> Option<&'l [Plac
     Some(rest)
 }
 
-/// Puts a frame without operands, behind one that lists these locals.
-fn put_bare(
-    out: &mut Vec<u8>,
-    listed: &[PlaceType],
-    delta: u16,
-    locals: &[PlaceType],
-) -> Result<(), NoMemory>
-    requires { length locals.now < 2 ^ 16 }
-    ensures { OnOk result (out.new.items ≡ out.old.items ++ spelled
-        (written listed.now (record { delta = delta; locals = locals.now; stack = [] }))) }
+fn is_top(t: &PlaceType) -> bool
+    ensures { result ≡ is_top t.now }
 {
-    if let Some(more) = behind(listed, locals) {
-        return put_longer(out, delta, locals, more);
-    }
-    match behind(locals, listed) {
-        Some(fewer) if fewer.len() <= FEW => put_cut(out, fewer.len() as u8, delta),
-        _ => put_full(out, delta, locals, &[]),
-    }
+    matches!(t, PlaceType::Top)
 }
 
-/// Puts a frame with one operand, behind one that lists these locals.
-fn put_single(
+/// Whether no local is known.
+fn are_tops(locals: &[PlaceType]) -> bool
+    ensures { result ≡ list_all is_top locals.now }
+{
+    locals.iter().all(|t| is_top(t))
+}
+
+/// Locals up to the last one that is known.
+fn known(locals: &[PlaceType]) -> &[PlaceType]
+    ensures { result.now ≡ known locals.now }
+{
+    let mut rest = locals;
+    while let Some(split) = rest.split_last()
+        && is_top(split.0)
+    {
+        rest = split.1;
+    }
+    rest
+}
+
+/// As many of these locals as a form can cut.
+fn many_cut(rest: &[PlaceType]) -> usize
+    ensures many { result ≡ many_cut rest.now }
+    ensures within { result ≤ length rest.now }
+    ensures few { result ≤ 3 }
+{
+    if rest.len() <= FEW { rest.len() } else { FEW }
+}
+
+/// Puts a frame without operands, behind one that lists its locals and then others: what is listed
+/// for the next one.
+fn put_shorter<'l>(
     out: &mut Vec<u8>,
-    listed: &[PlaceType],
+    listed: &'l [PlaceType],
     delta: u16,
-    locals: &[PlaceType],
+    locals: &'l [PlaceType],
+    rest: &[PlaceType],
+) -> Result<&'l [PlaceType], NoMemory>
+    requires few { length locals.now < 2 ^ 16 }
+    requires begins { length rest.now ≤ length listed.now }
+    ensures bytes { OnOk result (out.new.items ≡ out.old.items ++ spelled
+        (shorter (record { delta = delta; locals = locals.now; stack = [] }) rest.now)) }
+    ensures listed { IfOk result (λ next. next.now ≡ (says listed.now
+        (shorter (record { delta = delta; locals = locals.now; stack = [] }) rest.now)).locals) }
+{
+    if are_tops(rest) && delta < NEAR {
+        out.push(delta as u8)?;
+        return Ok(listed);
+    }
+    if rest.is_empty() {
+        put_more(out, delta, &[])?;
+        return Ok(listed);
+    }
+    let many = many_cut(rest);
+    if are_tops(&rest[..rest.len() - many]) {
+        put_cut(out, many as u8, delta)?;
+        return Ok(&listed[..listed.len() - many]);
+    }
+    put_full(out, delta, locals, &[])?;
+    Ok(locals)
+}
+
+/// Puts a frame without operands, behind one that lists these locals: what is listed for the next
+/// one.
+fn put_bare<'l>(
+    out: &mut Vec<u8>,
+    listed: &'l [PlaceType],
+    delta: u16,
+    locals: &'l [PlaceType],
+) -> Result<&'l [PlaceType], NoMemory>
+    requires { length locals.now < 2 ^ 16 }
+    ensures bytes { OnOk result (out.new.items ≡ out.old.items ++ spelled
+        (bare (record { delta = delta; locals = locals.now; stack = [] })
+        (behind locals.now listed.now) (behind listed.now locals.now))) }
+    ensures listed { IfOk result (λ next. next.now ≡ (says listed.now
+        (bare (record { delta = delta; locals = locals.now; stack = [] })
+        (behind locals.now listed.now) (behind listed.now locals.now))).locals) }
+{
+    if let Some(rest) = behind(locals, listed) {
+        return put_shorter(out, listed, delta, locals, rest);
+    }
+    match behind(listed, locals) {
+        Some(more) if more.len() <= FEW => put_more(out, delta, more)?,
+        _ => put_full(out, delta, locals, &[])?,
+    }
+    Ok(locals)
+}
+
+/// Puts a frame with one operand, behind one that lists these locals: what is listed for the next
+/// one.
+fn put_single<'l>(
+    out: &mut Vec<u8>,
+    listed: &'l [PlaceType],
+    delta: u16,
+    locals: &'l [PlaceType],
     stack: &[PlaceType],
-) -> Result<(), NoMemory>
+) -> Result<&'l [PlaceType], NoMemory>
     requires few { length locals.now < 2 ^ 16 }
     requires one { length stack.now ≡ 1 }
-    ensures { OnOk result (out.new.items ≡ out.old.items ++ spelled
-        (written listed.now (record { delta = delta; locals = locals.now; stack = stack.now }))) }
+    ensures bytes { OnOk result (out.new.items ≡ out.old.items ++ spelled
+        (by_stack listed.now (record { delta = delta; locals = locals.now; stack = stack.now })
+        stack.now)) }
+    ensures listed { IfOk result (λ next. next.now ≡ (says listed.now
+        (by_stack listed.now (record { delta = delta; locals = locals.now; stack = stack.now })
+        stack.now)).locals) }
 {
-    match behind(listed, locals) {
-        Some(more) if more.is_empty() => put_operand(out, delta, &stack[0]),
-        _ => put_full(out, delta, locals, stack),
+    match behind(locals, listed) {
+        Some(rest) if are_tops(rest) => {
+            put_operand(out, delta, &stack[0])?;
+            Ok(listed)
+        }
+        _ => {
+            put_full(out, delta, locals, stack)?;
+            Ok(locals)
+        }
     }
 }
 
-/// Puts a frame behind one that lists these locals.
-fn put_frame(
+/// Puts a frame behind one that lists these locals: what is listed for the next one.
+fn put_frame<'l>(
     out: &mut Vec<u8>,
-    listed: &[PlaceType],
+    listed: &'l [PlaceType],
     delta: u16,
-    locals: &[PlaceType],
+    locals: &'l [PlaceType],
     stack: &[PlaceType],
-) -> Result<(), NoMemory>
+) -> Result<&'l [PlaceType], NoMemory>
     requires few { length locals.now < 2 ^ 16 }
     requires low { length stack.now < 2 ^ 16 }
-    ensures { OnOk result (out.new.items ≡ out.old.items ++ spelled
+    ensures bytes { OnOk result (out.new.items ≡ out.old.items ++ spelled
         (written listed.now (record { delta = delta; locals = locals.now; stack = stack.now }))) }
+    ensures listed { IfOk result (λ next. next.now ≡ listed_by listed.now
+        (record { delta = delta; locals = locals.now; stack = stack.now })) }
 {
+    let own = known(locals);
     match stack.len() {
-        0 => put_bare(out, listed, delta, locals),
-        1 => put_single(out, listed, delta, locals, stack),
-        _ => put_full(out, delta, locals, stack),
+        0 => put_bare(out, listed, delta, own),
+        1 => put_single(out, listed, delta, own, stack),
+        _ => {
+            put_full(out, delta, own, stack)?;
+            Ok(own)
+        }
     }
 }
 
@@ -123,9 +216,8 @@ pub(crate) fn put_frames(
     let mut rest = frames;
     while let [f, behind @ ..] = rest {
         let delta = (f.offset - next) as u16;
-        put_frame(out, earlier, delta, f.locals.as_slice(), f.stack.as_slice())?;
+        earlier = put_frame(out, earlier, delta, f.locals.as_slice(), f.stack.as_slice())?;
         next = f.offset + 1;
-        earlier = f.locals.as_slice();
         rest = behind;
     }
     Ok(())

@@ -1,8 +1,8 @@
 //! The frames of a method as an attribute of its code has them: `StackMapTable` (Java Virtual
 //! Machine Specification, Java SE 7, section 4.7.4, narrowed to ints, nulls and named classes).
 //!
-//! Frames are written, each in its shortest form, and the frames of a class file are read, or a
-//! method is refused that has none. Whether frames fit the code is not asked here.
+//! Frames are written, each in its shortest form; definitions say what the frames of a class file
+//! are, and which method has none. Whether frames fit the code is not asked here.
 #![tactic(auto)]
 
 pub mod error;
@@ -16,5 +16,7 @@ mod writing;
 
 pub use error::{FrameError, KindName};
 pub use laws::written_kinds_are_read;
+pub use par_kinds;
 pub use par_kinds::frame::{Frame, MethodFrames, PlacedFrame, VKind};
+pub use par_kinds::{par_link, par_steps};
 pub use writing::write_frames;

@@ -3,7 +3,7 @@
 ghost use Rattle.std.specs.Prelude.{◌≡◌, List as Items, IfOk, length, get_or};
 ghost use Rattle.std.specs.List.{AllZip, position};
 ghost use Rattle.par_frame_forms.specs.declared.form.PlaceType.TheVariants.{Class};
-ghost use Rattle.par_pool.specs.declared.constant.Constant.{Constant};
+ghost use Rattle.par_frame_forms.specs.par_pool.declared.constant.Constant.{Constant};
 ghost use Rattle.par_frames.specs.Names.{StandsFor, same_kind};
 ghost use Rattle.par_frames.specs.Attribute.{IsListed, first_locals};
 ghost use Rattle.par_frames.specs.Forms.{IsIndexed};
@@ -16,7 +16,7 @@ use std::alloc::Global;
 
 /// Whether two kinds are the same.
 #[tactic(auto, unfolding(crate::specs::Names::same_kind))]
-fn is_same_kind(kind: &VKind, other: &VKind) -> bool
+pub(crate) fn is_same_kind(kind: &VKind, other: &VKind) -> bool
     ensures { result ≡ same_kind kind.now other.now }
 {
     match kind {
@@ -35,7 +35,7 @@ fn is_same_kind(kind: &VKind, other: &VKind) -> bool
 }
 
 /// A second type like this one.
-fn copied(t: &PlaceType) -> PlaceType
+pub(crate) fn copied(t: &PlaceType) -> PlaceType
     ensures { result ≡ t.now }
 {
     match t {

@@ -1,18 +1,18 @@
 //! Forms of frames, put behind the bytes that a vector has.
 
-ghost use Rattle.std.specs.Prelude.{◌≡◌, ◌++◌, ◌≤◌, ◌<◌, ◌^◌, length, OnOk, []};
+ghost use Rattle.std.specs.Prelude.{◌≡◌, ◌++◌, ◌≤◌, ◌<◌, ◌^◌, length, OnOk};
 ghost use Rattle.par_frame_forms.specs.declared.form.FrameForm.TheVariants.{Cut, More, Full};
 ghost use Rattle.par_frame_forms.specs.Spelled.{spelled_type, spelled_types, spelled};
-ghost use Rattle.par_frames.specs.Forms.{longer, operand};
+ghost use Rattle.par_frames.specs.Forms.{operand};
 
 use par_frame_forms::PlaceType;
+use par_frame_forms::par_pool::writing::put_u2;
 use par_lexer::list::NoMemory;
-use par_pool::writing::put_u2;
 
 /// Distances below this one need no bytes of their own.
-const NEAR: u16 = 64;
+pub(crate) const NEAR: u16 = 64;
 
-/// The most locals by which a form tells a frame from the one before.
+/// The most locals that a form cuts, or lists behind those of the frame before.
 pub(crate) const FEW: usize = 3;
 
 /// Puts the type of a local or an operand.
@@ -80,28 +80,6 @@ pub(crate) fn put_cut(out: &mut Vec<u8>, many: u8, delta: u16) -> Result<(), NoM
 {
     out.push(251 - many)?;
     put_u2(out, delta)
-}
-
-/// Puts a frame without operands, and with these locals behind the listed ones.
-pub(crate) fn put_longer(
-    out: &mut Vec<u8>,
-    delta: u16,
-    locals: &[PlaceType],
-    more: &[PlaceType],
-) -> Result<(), NoMemory>
-    requires { length locals.now < 2 ^ 16 }
-    ensures { OnOk result
-        (out.new.items ≡ out.old.items ++ spelled (longer delta locals.now more.now)) }
-{
-    if more.is_empty() && delta < NEAR {
-        out.push(delta as u8)?;
-        return Ok(());
-    }
-    if more.len() <= FEW {
-        put_more(out, delta, more)
-    } else {
-        put_full(out, delta, locals, &[])
-    }
 }
 
 /// Puts a frame with the listed locals and one operand.

@@ -3,7 +3,7 @@
 ghost use Rattle.std.specs.Prelude.{ℕ, ◌++◌, IfOk};
 ghost use Rattle.std.specs.Prelude.{List as Items};
 ghost use Rattle.std.specs.List.{All};
-ghost use Rattle.par_values.specs.Areas.{Name};
+ghost use Rattle.par_kinds.specs.par_values.Areas.{Name};
 ghost use Rattle.par_frames.specs.Names.{classes_named};
 ghost use Rattle.par_frames.specs.Room.{HasRoom, IsShort, Ascend, offsets, SPARE};
 ghost use Rattle.par_frames.specs.Attribute.{IsAttribute, AddsClasses};
@@ -11,10 +11,10 @@ ghost use Rattle.par_frames.specs.Attribute.{IsAttribute, AddsClasses};
 use crate::forms::put_frames;
 use crate::listing::list_start;
 use crate::placing::place_frames;
+use par_frame_forms::par_pool::PoolBuilder;
+use par_frame_forms::par_pool::writing::put_u2;
 use par_kinds::frame::{MethodFrames, VKind};
 use par_lexer::list::NoMemory;
-use par_pool::PoolBuilder;
-use par_pool::writing::put_u2;
 use std::alloc::Global;
 
 /// The bytes of the attribute of a method's frames, where `start` lists the receiver and the

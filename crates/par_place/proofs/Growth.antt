@@ -7,11 +7,13 @@ use Rattle.par_pool.specs.declared.constant.Constant.{Constant}
 use Rattle.par_pool.specs.declared.constant.Constant.TheVariants.{Utf8, Integer}
 use Rattle.par_pool.specs.declared.constant.Constant.TheVariants.{Field, Method}
 use Rattle.par_pool.specs.Entries.{IsAt, IsMemberAt}
-use Rattle.par_pool.specs.Growth.{Adds, IsClassPart, IsNameTypePart, IsNamingPart, IsMemberPart}
+use Rattle.par_pool.specs.Growth.{Adds, IsClassPart, IsNameTypePart, IsNamingPart}
+use Rattle.par_pool.specs.Growth.{IsMemberPart}
 use Rattle.par_pool.proofs.Growth.{at_kept, class_kept, name_type_kept}
 use Rattle.par_class.specs.declared.file.Catch.{Catch}
 use Rattle.par_code_form.specs.declared.item.Item.{Item}
-use Rattle.par_code_form.specs.declared.item.Item.TheVariants.{Label, Op, Const, Jump, Member}
+use Rattle.par_code_form.specs.declared.item.Item.TheVariants.{Label, Op, Const}
+use Rattle.par_code_form.specs.declared.item.Item.TheVariants.{Jump, Member}
 use Rattle.par_code_form.specs.declared.item.Item.TheVariants.{ClassOp, LockOp}
 use Rattle.par_code_form.specs.declared.labelled.Handler.{Handler}
 use Rattle.par_code_form.specs.Opcodes.{INVOKEVIRTUAL}

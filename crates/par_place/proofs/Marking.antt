@@ -7,7 +7,8 @@ use Rattle.std.specs.Prelude.{◌⊎◌, ◌==◌, slice_get, count_by}
 use Rattle.std.proofs.lemmas.List.{drop_more, drop_all}
 use Rattle.std.proofs.lemmas.List.Sums.{sum_by-cons}
 use Rattle.par_code_form.specs.declared.item.Item.{Item}
-use Rattle.par_code_form.specs.declared.item.Item.TheVariants.{Label, Op, Const, Jump, Member}
+use Rattle.par_code_form.specs.declared.item.Item.TheVariants.{Label, Op, Const}
+use Rattle.par_code_form.specs.declared.item.Item.TheVariants.{Jump, Member}
 use Rattle.par_code_form.specs.declared.item.Item.TheVariants.{ClassOp, LockOp}
 use Rattle.par_placed_code.specs.Placed.{size, is_label, offset_of}
 use Rattle.par_placed_code.specs.Placeable.{StandsOnce}

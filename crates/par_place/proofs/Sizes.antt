@@ -11,7 +11,8 @@ use Rattle.par_instr.specs.declared.instr.Instr.TheVariants.{If, IfIcmp, IfAcmpe
 use Rattle.par_instr.specs.declared.instr.Instr.TheVariants.{Ifnull, Ifnonnull, New}
 use Rattle.par_instr.specs.Spelling.{spelling}
 use Rattle.par_code_form.specs.declared.item.Item.{Item}
-use Rattle.par_code_form.specs.declared.item.Item.TheVariants.{Label, Op, Const, Jump, Member}
+use Rattle.par_code_form.specs.declared.item.Item.TheVariants.{Label, Op, Const}
+use Rattle.par_code_form.specs.declared.item.Item.TheVariants.{Jump, Member}
 use Rattle.par_code_form.specs.declared.item.Item.TheVariants.{ClassOp, LockOp}
 use Rattle.par_code_form.specs.Opcodes.{IFEQ, IF_ICMPEQ, IF_ACMPEQ, IF_ACMPNE, GOTO}
 use Rattle.par_placed_code.specs.Instructions.{IFNULL, push, branch, on_member, instruction}

@@ -16,9 +16,11 @@ use Rattle.par_pool.specs.Spelling.{is_class}
 use Rattle.par_pool.proofs.Growth.{adds_then}
 use Rattle.par_class.specs.declared.file.Catch.{Catch}
 use Rattle.par_class.specs.declared.file.CodeAttr.{CodeAttr}
-use Rattle.par_class.specs.Spelling.{FitsCatch, FitsCode, FitsAttribute, AllFit, catches_class}
+use Rattle.par_class.specs.Spelling.{FitsCatch, FitsCode, FitsAttribute, AllFit}
+use Rattle.par_class.specs.Spelling.{catches_class}
 use Rattle.par_code_form.specs.declared.item.Item.{Item}
-use Rattle.par_code_form.specs.declared.item.Item.TheVariants.{Label, Op, Const, Jump, Member}
+use Rattle.par_code_form.specs.declared.item.Item.TheVariants.{Label, Op, Const}
+use Rattle.par_code_form.specs.declared.item.Item.TheVariants.{Jump, Member}
 use Rattle.par_code_form.specs.declared.item.Item.TheVariants.{ClassOp, LockOp}
 use Rattle.par_code_form.specs.declared.labelled.Handler.{Handler}
 use Rattle.par_code_form.specs.declared.labelled.Labelled.{Labelled}
@@ -29,7 +31,8 @@ use Rattle.par_placed_code.specs.Placed.{size, offset_of, distance, instructions
 use Rattle.par_placed_code.specs.Placed.{offset_at, IsWritable, IsPlaced}
 use Rattle.par_placed_code.specs.Placeable.{StandsOnce, FitsItem, HasTarget, FitsHandler}
 use Rattle.par_placed_code.specs.Placeable.{HasInstruction, MOST_BYTES, IsPlaceable}
-use Rattle.par_place.specs.Offsets.{HasOffsets, HasOffset, HasLabels}
+use Rattle.par_place.specs.Offsets.{HasOffsets, HasOffset, HasLabels, AreSmall}
+use Rattle.par_place.specs.Labels.{IsPlacedAt}
 use Rattle.par_place.proofs.Sizes.{offset_is, upto_le, upto_less, code_length}
 use Rattle.par_place.proofs.Growth.{all_names_kept, named_kept}
 
@@ -265,6 +268,23 @@ placed code pool indices offsets bytes catches attr can d code-is catches-is sta
       max_stack = stack;
       max_locals = locals;
       attributes = none;
+    }
+
+-- the same beside the offsets of the labels
+pub placed_at : (code : Labelled) (pool : List Constant) (indices offsets bytes : List ℕ)
+    (catches : List Catch) (attr : CodeAttr) → IsPlaceable code
+    → IsDrafted code pool indices offsets bytes catches → attr.code ≡ bytes
+    → attr.catches ≡ catches → attr.max_stack ≡ code.max_stack
+    → attr.max_locals ≡ code.max_locals → attr.attributes ≡ [] → AreSmall offsets
+    → IsPlacedAt pool code attr offsets
+unfolding placed
+placed_at code pool indices offsets bytes catches attr can d code-is catches-is stack locals none
+    small = record {
+      placed_ =
+          placed code pool indices offsets bytes catches attr can d code-is catches-is stack locals
+          none;
+      labels = d.labels;
+      small = small;
     }
 
 -- how many entries there are in the end

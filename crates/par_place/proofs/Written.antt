@@ -13,9 +13,11 @@ use Rattle.par_instr.specs.declared.instr.Instr.TheVariants.{Putfield, Invokevir
 use Rattle.par_instr.specs.declared.instr.Instr.TheVariants.{Invokespecial, Invokestatic}
 use Rattle.par_instr.specs.Spelling.{spelling, is_constant}
 use Rattle.par_code_form.specs.declared.item.Item.{Item}
-use Rattle.par_code_form.specs.declared.item.Item.TheVariants.{Label, Op, Const, Jump, Member}
+use Rattle.par_code_form.specs.declared.item.Item.TheVariants.{Label, Op, Const}
+use Rattle.par_code_form.specs.declared.item.Item.TheVariants.{Jump, Member}
 use Rattle.par_code_form.specs.declared.item.Item.TheVariants.{ClassOp, LockOp}
-use Rattle.par_code_form.specs.Opcodes.{GETSTATIC, PUTSTATIC, GETFIELD, PUTFIELD, INVOKEVIRTUAL}
+use Rattle.par_code_form.specs.Opcodes.{GETSTATIC, PUTSTATIC, GETFIELD, PUTFIELD}
+use Rattle.par_code_form.specs.Opcodes.{INVOKEVIRTUAL}
 use Rattle.par_code_form.specs.Opcodes.{INVOKESPECIAL}
 use Rattle.par_placed_code.specs.Instructions.{within, instruction}
 use Rattle.par_placed_code.specs.Placed.{bytes_of, IsWritable, size, distance, instructions}
@@ -45,7 +47,7 @@ member-most false false false false true f n = omega arith
 member-most false false false false false true n = omega arith
 member-most false false false false false false n = omega arith
 
-size-most : (x : Item) (n : ℕ) → size x n ≤ most_bytes x
+pub size-most : (x : Item) (n : ℕ) → size x n ≤ most_bytes x
 size-most (Label l) n = omega arith
 size-most (Op i) n = omega arith
 size-most (Const v) n =

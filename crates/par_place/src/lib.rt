@@ -15,4 +15,4 @@ mod place;
 mod writing;
 
 pub use laws::placed_instructions_stand;
-pub use place::place_code;
+pub use place::{PlacedCode, place_code, place_labels};

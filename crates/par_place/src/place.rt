@@ -6,6 +6,7 @@ ghost use Rattle.par_class.specs.Spelling.{FitsCode};
 ghost use Rattle.par_placed_code.specs.Named.{IsConstantOf, entry_count};
 ghost use Rattle.par_placed_code.specs.Placed.{IsPlaced};
 ghost use Rattle.par_placed_code.specs.Placeable.{IsPlaceable};
+ghost use Rattle.par_place.specs.Labels.{IsPlacedAt};
 
 use crate::handlers::catches_of;
 use crate::named::indices_of;
@@ -42,6 +43,39 @@ fn attribute(
     }
 }
 
+/// Placed code, and the offset of each label by its number.
+#[derive(Drop)]
+pub struct PlacedCode {
+    pub attr: CodeAttr,
+    pub offsets: Vec<u16>,
+}
+
+/// The code of a method, without frames, over the pool of its class file, and where its labels
+/// stand. A number that no label has may have any offset.
+///
+/// After want of memory the pool may hold some of the constants that the code names.
+pub fn place_labels(
+    alloc: Global,
+    code: &Labelled,
+    pool: &mut PoolBuilder,
+) -> Result<PlacedCode, NoMemory>
+    requires placeable { IsPlaceable code.now }
+    requires room { length pool.old + entry_count code.now < 65535 }
+    ensures placed { IfOk result (λ placed.
+        IsPlacedAt pool.new code.now placed.attr placed.offsets.items) }
+    ensures fits { IfOk result (λ placed. FitsCode pool.new placed.attr) }
+    ensures added { Adds pool.old pool.new (entry_count code.now)
+        (IsConstantOf pool.new code.now) }
+{
+    let items = code.items.as_slice();
+    let indices = indices_of(alloc, items, pool)?;
+    let offsets = label_offsets(alloc, items, &indices)?;
+    let bytes = write(alloc, items, &indices, &offsets)?;
+    let catches = catches_of(alloc, code.handlers.as_slice(), &offsets, pool)?;
+    let attr = attribute(alloc, code.max_stack, code.max_locals, bytes, catches);
+    Ok(PlacedCode { attr, offsets })
+}
+
 /// The code of a method, without frames, over the pool of its class file.
 ///
 /// After want of memory the pool may hold some of the constants that the code names.
@@ -57,10 +91,6 @@ pub fn place_code(
     ensures added { Adds pool.old pool.new (entry_count code.now)
         (IsConstantOf pool.new code.now) }
 {
-    let items = code.items.as_slice();
-    let indices = indices_of(alloc, items, pool)?;
-    let offsets = label_offsets(alloc, items, &indices)?;
-    let bytes = write(alloc, items, &indices, &offsets)?;
-    let catches = catches_of(alloc, code.handlers.as_slice(), &offsets, pool)?;
-    Ok(attribute(alloc, code.max_stack, code.max_locals, bytes, catches))
+    let placed = place_labels(alloc, code, pool)?;
+    Ok(placed.attr)
 }

@@ -3,22 +3,22 @@
 use Rattle.std.specs.Prelude.{◌≡◌, ℕ, ◌+◌, ◌==◌, ◌⊎◌, Bool, true, if◌then◌else◌, List, []}
 use Rattle.std.specs.Prelude.{◌∷◌, ◌++◌, map, Option, Some, None, Contains, codes}
 use Rattle.std.specs.List.{flat_map}
-use Rattle.par_pool.specs.declared.constant.Constant.{Constant}
-use Rattle.par_pool.specs.declared.constant.Constant.TheVariants.{Utf8}
-use Rattle.par_pool.specs.Entries.{IsUtf8At}
-use Rattle.par_pool.specs.Growth.{IsClassPart}
-use Rattle.par_class.specs.declared.file.Attribute.{Attribute}
-use Rattle.par_class.specs.declared.file.CodeAttr.{CodeAttr}
-use Rattle.par_values.specs.Areas.{Name}
-use Rattle.par_code_form.specs.declared.item.Item.{Item}
-use Rattle.par_code_form.specs.declared.item.Item.TheVariants.{Label}
-use Rattle.par_code_form.specs.declared.labelled.Slot.{Slot}
-use Rattle.par_code_form.specs.declared.labelled.Slot.TheVariants as slot
-use Rattle.par_code_form.specs.declared.labelled.LabelFrame.{LabelFrame}
-use Rattle.par_code_form.specs.declared.labelled.Labelled.{Labelled}
-use Rattle.par_kinds.specs.declared.frame.VKind.{VKind}
-use Rattle.par_kinds.specs.declared.frame.VKind.TheVariants as kind
-use Rattle.par_kinds.specs.declared.frame.PlacedFrame.{PlacedFrame}
+use Rattle.par_placed_code.specs.par_pool.declared.constant.Constant.{Constant}
+use Rattle.par_placed_code.specs.par_pool.declared.constant.Constant.TheVariants.{Utf8}
+use Rattle.par_placed_code.specs.par_pool.Entries.{IsUtf8At}
+use Rattle.par_placed_code.specs.par_pool.Growth.{IsClassPart}
+use Rattle.par_placed_code.specs.par_class.declared.file.Attribute.{Attribute}
+use Rattle.par_placed_code.specs.par_class.declared.file.CodeAttr.{CodeAttr}
+use Rattle.par_placed_code.specs.par_values.Areas.{Name}
+use Rattle.par_placed_code.specs.par_code_form.declared.item.Item.{Item}
+use Rattle.par_placed_code.specs.par_code_form.declared.item.Item.TheVariants.{Label}
+use Rattle.par_placed_code.specs.par_code_form.declared.labelled.Slot.{Slot}
+use Rattle.par_placed_code.specs.par_code_form.declared.labelled.Slot.TheVariants as slot
+use Rattle.par_placed_code.specs.par_code_form.declared.labelled.LabelFrame.{LabelFrame}
+use Rattle.par_placed_code.specs.par_code_form.declared.labelled.Labelled.{Labelled}
+use Rattle.par_frames.specs.par_kinds.declared.frame.VKind.{VKind}
+use Rattle.par_frames.specs.par_kinds.declared.frame.VKind.TheVariants as kind
+use Rattle.par_frames.specs.par_kinds.declared.frame.PlacedFrame.{PlacedFrame}
 use Rattle.par_frames.specs.Names.{classes_of}
 use Rattle.par_frames.specs.Attribute.{IsAttribute}
 use Rattle.par_placed_code.specs.Named.{IsConstantOf, entry_count}
@@ -69,11 +69,13 @@ abbrev pub last_ones : List PlacedFrame → List PlacedFrame
 last_ones [] = []
 last_ones (f ∷ fs) = before f (last_ones fs)
 
--- The frames of code, in the order of the labels. Of labels with nothing but labels between them
--- only the last has one.
+-- The frames of code whose labels stand at these offsets, in the order of the labels. Of labels
+-- with nothing but labels between them only the last has one.
+abbrev pub frames_with : (ℕ → ℕ) → Labelled → List PlacedFrame
+frames_with offset code = last_ones (flat_map (frame_of offset code.frames) code.items)
+
 abbrev pub frames_of : Labelled → List ℕ → List PlacedFrame
-frames_of code indices =
-    last_ones (flat_map (frame_of (offset_of code.items indices) code.frames) code.items)
+frames_of code indices = frames_with (offset_of code.items indices) code
 
 -- ---- the attribute
 

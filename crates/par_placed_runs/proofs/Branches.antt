@@ -18,10 +18,10 @@ use Rattle.par_values.specs.Operations.{operation, takes, gives}
 use Rattle.par_values.specs.Reasons.{Spot, misplaced, misnamed, disagrees, misused, misreturns}
 use Rattle.par_values.specs.Reasons.{misgiven}
 use Rattle.par_values.specs.Effects.{effect, jumps_if, comes, is_same}
-use Rattle.par_steps.specs.Step.{called_on_object}
-use Rattle.par_engine.specs.Engine.{Found, Program}
-use Rattle.par_matching.specs.Labelled as matching
-use Rattle.par_placed_code.specs.Instructions as placed
+use Rattle.par_relocated.specs.par_steps.Step.{called_on_object}
+use Rattle.par_relocated.specs.par_engine.Engine.{Found, Program}
+use Rattle.par_naming.specs.par_matching.Labelled as matching
+use Rattle.par_place.specs.par_placed_code.Instructions as placed
 use Rattle.par_relocated.specs.Relocated.{Places, Shifts, Kin}
 use Rattle.par_placed_runs.proofs.Operations.{IsAsFar, TakesAll}
 

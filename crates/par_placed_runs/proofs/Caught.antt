@@ -14,26 +14,26 @@ use Rattle.par_class.specs.declared.file.ClassFile.{ClassFile}
 use Rattle.par_values.specs.declared.link.ClassLink.{ClassLink}
 use Rattle.par_values.specs.declared.link.Link.TheVariants as link
 use Rattle.par_values.specs.Areas.{Name}
-use Rattle.par_link.specs.declared.entry.Builtin.{Builtin}
-use Rattle.par_link.specs.declared.entry.Builtin.TheVariants as builtin
-use Rattle.par_link.specs.declared.entry.Named.{Named}
-use Rattle.par_link.specs.declared.entry.Named.TheVariants as named
-use Rattle.par_link.specs.Builtins as builtins
-use Rattle.par_link.specs.Named.{class_of, class_place, class_named}
-use Rattle.par_link.specs.Linked.{named_at}
-use Rattle.par_steps.specs.Methods.{class_pool}
-use Rattle.par_steps.specs.Links.{link_of, class_link}
-use Rattle.par_steps.specs.State.{Frame}
-use Rattle.par_steps.specs.Handlers.{named_takes, takes, first_handler, covers}
-use Rattle.par_engine.specs.Files.{frame_at}
-use Rattle.par_code_form.specs.declared.item.Item.{Item}
-use Rattle.par_code_form.specs.declared.labelled.Handler.{Handler}
-use Rattle.par_matching.specs.Labelled as matching
-use Rattle.par_matching.specs.Labelled.{spot, target, handled}
-use Rattle.par_placed_code.specs.Instructions.{is_instruction}
-use Rattle.par_placed_code.specs.Named.{full_name}
-use Rattle.par_placed_code.specs.Placed.{offset_of, offset_at, IsCatch}
-use Rattle.par_placed_code.specs.Placeable.{FitsItem}
+use Rattle.par_relocated.specs.par_link.declared.entry.Builtin.{Builtin}
+use Rattle.par_relocated.specs.par_link.declared.entry.Builtin.TheVariants as builtin
+use Rattle.par_relocated.specs.par_link.declared.entry.Named.{Named}
+use Rattle.par_relocated.specs.par_link.declared.entry.Named.TheVariants as named
+use Rattle.par_relocated.specs.par_link.Builtins as builtins
+use Rattle.par_relocated.specs.par_link.Named.{class_of, class_place, class_named}
+use Rattle.par_relocated.specs.par_link.Linked.{named_at}
+use Rattle.par_relocated.specs.par_steps.Methods.{class_pool}
+use Rattle.par_relocated.specs.par_steps.Links.{link_of, class_link}
+use Rattle.par_relocated.specs.par_steps.State.{Frame}
+use Rattle.par_relocated.specs.par_steps.Handlers.{named_takes, takes, first_handler, covers}
+use Rattle.par_relocated.specs.par_engine.Files.{frame_at}
+use Rattle.par_place.specs.par_code_form.declared.item.Item.{Item}
+use Rattle.par_place.specs.par_code_form.declared.labelled.Handler.{Handler}
+use Rattle.par_naming.specs.par_matching.Labelled as matching
+use Rattle.par_naming.specs.par_matching.Labelled.{spot, target, handled}
+use Rattle.par_place.specs.par_placed_code.Instructions.{is_instruction}
+use Rattle.par_place.specs.par_placed_code.Named.{full_name}
+use Rattle.par_place.specs.par_placed_code.Placed.{offset_of, offset_at, IsCatch}
+use Rattle.par_place.specs.par_placed_code.Placeable.{FitsItem}
 use Rattle.par_place.proofs.Sizes.{upto_le, upto_less}
 use Rattle.par_naming.specs.Naming.{naming_of, number_of, class_of_name}
 use Rattle.par_placed_runs.specs.Laid.{IsOfMade}

@@ -35,24 +35,27 @@ use Rattle.par_values.specs.Areas.{Name, Areas}
 use Rattle.par_values.specs.Operations.{Operation, Push, operation, constant, of_class, of_field}
 use Rattle.par_values.specs.Operations.{of_method, GetStatic, PutStatic, GetField, PutField}
 use Rattle.par_values.specs.Operations.{InvokeStatic, InvokeSpecial, InvokeVirtual, Misnamed}
-use Rattle.par_steps.specs.Methods.{class_pool, method_code}
-use Rattle.par_link.specs.Linked.{named_at}
-use Rattle.par_steps.specs.Links.{link_at, lock_link}
-use Rattle.par_steps.specs.Step.{called_on_object}
-use Rattle.par_engine.specs.Engine.{Found, Program, is_misreceived}
-use Rattle.par_engine.specs.Files.{found_in, found_of, index_wants, is_of_exceptions, of_files}
-use Rattle.par_code_form.specs.declared.item.Item.{Item}
-use Rattle.par_code_form.specs.declared.item.Item.TheVariants.{Label, Op, Const, Jump, Member}
-use Rattle.par_code_form.specs.declared.item.Item.TheVariants.{ClassOp, LockOp}
-use Rattle.par_code_form.specs.declared.labelled.Labelled.{Labelled}
-use Rattle.par_matching.specs.Labelled as matching
-use Rattle.par_matching.specs.Labelled.{lead, target, found, on_field, on_method}
-use Rattle.par_placed_code.specs.Instructions.{push, on_member, instruction, within, is_member}
-use Rattle.par_placed_code.specs.Instructions.{is_branch}
-use Rattle.par_placed_code.specs.Instructions as placed
-use Rattle.par_placed_code.specs.Named.{Names, full_name}
-use Rattle.par_placed_code.specs.Placed.{offset_of, offset_at, distance}
-use Rattle.par_placed_code.specs.Placeable.{FitsItem, stands_alone, is_lock_opcode}
+use Rattle.par_relocated.specs.par_steps.Methods.{class_pool, method_code}
+use Rattle.par_relocated.specs.par_link.Linked.{named_at}
+use Rattle.par_relocated.specs.par_steps.Links.{link_at, lock_link}
+use Rattle.par_relocated.specs.par_steps.Step.{called_on_object}
+use Rattle.par_relocated.specs.par_engine.Engine.{Found, Program, is_misreceived}
+use Rattle.par_relocated.specs.par_engine.Files.{found_in, found_of, index_wants, is_of_exceptions}
+use Rattle.par_relocated.specs.par_engine.Files.{of_files}
+use Rattle.par_place.specs.par_code_form.declared.item.Item.{Item}
+use Rattle.par_place.specs.par_code_form.declared.item.Item.TheVariants.{Label, Op, Const, Jump}
+use Rattle.par_place.specs.par_code_form.declared.item.Item.TheVariants.{Member}
+use Rattle.par_place.specs.par_code_form.declared.item.Item.TheVariants.{ClassOp, LockOp}
+use Rattle.par_place.specs.par_code_form.declared.labelled.Labelled.{Labelled}
+use Rattle.par_naming.specs.par_matching.Labelled as matching
+use Rattle.par_naming.specs.par_matching.Labelled.{lead, target, found, on_field, on_method}
+use Rattle.par_place.specs.par_placed_code.Instructions.{push, on_member, instruction, within}
+use Rattle.par_place.specs.par_placed_code.Instructions.{is_member}
+use Rattle.par_place.specs.par_placed_code.Instructions.{is_branch}
+use Rattle.par_place.specs.par_placed_code.Instructions as placed
+use Rattle.par_place.specs.par_placed_code.Named.{Names, full_name}
+use Rattle.par_place.specs.par_placed_code.Placed.{offset_of, offset_at, distance}
+use Rattle.par_place.specs.par_placed_code.Placeable.{FitsItem, stands_alone, is_lock_opcode}
 use Rattle.par_place.proofs.Standing.{placed_stand}
 use Rattle.par_naming.specs.Naming.{naming_of, class_of_name, field_of_name, method_of_name}
 use Rattle.par_relocated.specs.Relocated.{Places, Kin}
@@ -66,7 +69,7 @@ use Rattle.par_placed_runs.proofs.Named.{number_at, lock_link_at}
 
 -- ---- an instruction that stands alone
 
-alone_same : (i : Instr) (one other : ℕ → Link) → IsTrue (stands_alone i)
+pub alone_same : (i : Instr) (one other : ℕ → Link) → IsTrue (stands_alone i)
     → operation one i ≡ operation other i
 alone_same (Ldc n) one other h = absurd (cc h)
 alone_same (LdcW n) one other h = absurd (cc h)
@@ -101,7 +104,7 @@ alone_stays (Ifnull to) names h = absurd (cc h)
 alone_stays (Ifnonnull to) names h = absurd (cc h)
 alone_stays _ names h = refl
 
-alone_calls_none : (i : Instr) → IsTrue (stands_alone i) → called_on_object i ≡ None
+pub alone_calls_none : (i : Instr) → IsTrue (stands_alone i) → called_on_object i ≡ None
 alone_calls_none (Invokevirtual n) h = absurd (cc h)
 alone_calls_none (Invokespecial n) h = absurd (cc h)
 alone_calls_none _ h = refl
@@ -136,12 +139,12 @@ class_stays link.Other = refl
 -- ---- a number that is pushed
 
 module _ (names : ℕ → Link) (v : ℤ) (n : ℕ) where
-  abbrev pushed : (a b c d : Bool) → Instr
+  abbrev pub pushed : (a b c d : Bool) → Instr
   pushed a b c d =
       if a then Iconst v else if b then Bipush v else if c then Sipush v
       else if d then Ldc n else LdcW n
 
-  pushes : (a b c d : Bool) → cond c (Unit {0}) (names n ≡ link.Number v)
+  pub pushes : (a b c d : Bool) → cond c (Unit {0}) (names n ≡ link.Number v)
       → operation names (pushed a b c d) ≡ Push v
   pushes true b c d h = refl
   pushes false true c d h = refl
@@ -149,7 +152,7 @@ module _ (names : ℕ → Link) (v : ℤ) (n : ℕ) where
   pushes false false false true h = ap constant h
   pushes false false false false h = ap constant h
 
-  pushes_none : (a b c d : Bool) → called_on_object (pushed a b c d) ≡ None
+  pub pushes_none : (a b c d : Bool) → called_on_object (pushed a b c d) ≡ None
   pushes_none true b c d = refl
   pushes_none false true c d = refl
   pushes_none false false true d = refl

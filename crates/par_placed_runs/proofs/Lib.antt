@@ -1,10 +1,10 @@
 mod Positions
-mod Walk
+pub mod Walk
 mod Locks
-mod Named
+pub mod Named
 mod Operations
-mod Branches
-mod Found
+pub mod Branches
+pub mod Found
 mod Caught
 pub mod Runs
 pub mod Made

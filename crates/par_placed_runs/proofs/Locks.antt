@@ -12,8 +12,8 @@ use Rattle.std.proofs.lemmas.List.Sums.{fold-append}
 use Rattle.par_lexer.specs.Names.{is_digit}
 use Rattle.par_lexer.specs.Pieces.{with_digit, value, begins, has_leading_zero}
 use Rattle.par_inputs.specs.Numbers.{is_decimal, magnitude_of}
-use Rattle.par_link.specs.Builtins.{lock_number}
-use Rattle.par_placed_code.specs.Named.{lock_field}
+use Rattle.par_relocated.specs.par_link.Builtins.{lock_number}
+use Rattle.par_place.specs.par_placed_code.Named.{lock_field}
 
 -- digits that write a number, the first of which is no 0 but that of the number 0
 record Writes (n : ℕ) (ds : List ℕ) : Type 0 where

@@ -18,21 +18,22 @@ use Rattle.par_index.proofs.Places.{position-within}
 use Rattle.par_values.specs.declared.link.ClassLink.{ClassLink}
 use Rattle.par_values.specs.declared.link.Link.TheVariants as link
 use Rattle.par_values.specs.Areas.{Name}
-use Rattle.par_single.specs.Members.{own_name, own_names, text_of}
-use Rattle.par_link.specs.Builtins as builtins
-use Rattle.par_link.specs.Linked.{AreLinked}
-use Rattle.par_link.specs.Named.{class_of, class_place, class_named, named_by}
-use Rattle.par_link.specs.Order.{at, member_fault, description_fault, constant_fault, code_fault}
-use Rattle.par_link.specs.Order.{file_fault, ◌or◌}
-use Rattle.par_link.specs.Rules.{is_of, is_nothing}
-use Rattle.par_link.proofs.Faultless.{or-none, map-none, each-unbroken}
-use Rattle.par_link.proofs.Passing.{same_text}
-use Rattle.par_steps.specs.Methods.{pool_of, class_pool, method_code}
+use Rattle.par_relocated.specs.par_single.Members.{own_name, own_names, text_of}
+use Rattle.par_relocated.specs.par_link.Builtins as builtins
+use Rattle.par_relocated.specs.par_link.Linked.{AreLinked}
+use Rattle.par_relocated.specs.par_link.Named.{class_of, class_place, class_named, named_by}
+use Rattle.par_relocated.specs.par_link.Order.{at, member_fault, description_fault, constant_fault}
+use Rattle.par_relocated.specs.par_link.Order.{code_fault}
+use Rattle.par_relocated.specs.par_link.Order.{file_fault, ◌or◌}
+use Rattle.par_relocated.specs.par_link.Rules.{is_of, is_nothing}
+use Rattle.par_relocated.proofs.par_link.Faultless.{or-none, map-none, each-unbroken}
+use Rattle.par_relocated.proofs.par_link.Passing.{same_text}
+use Rattle.par_relocated.specs.par_steps.Methods.{pool_of, class_pool, method_code}
 use Rattle.par_class.specs.declared.file.Catch.{Catch}
-use Rattle.par_code_form.specs.declared.labelled.Handler.{Handler}
-use Rattle.par_placed_code.specs.Placed.{offset_of, IsCatch}
-use Rattle.par_steps.specs.Links.{link_of, class_link}
-use Rattle.par_placed_code.specs.Named.{is_builtin, full_name}
+use Rattle.par_place.specs.par_code_form.declared.labelled.Handler.{Handler}
+use Rattle.par_place.specs.par_placed_code.Placed.{offset_of, IsCatch}
+use Rattle.par_relocated.specs.par_steps.Links.{link_of, class_link}
+use Rattle.par_place.specs.par_placed_code.Named.{is_builtin, full_name}
 use Rattle.par_placed_runs.specs.Laid.{IsOfMade}
 use Rattle.par_placed_runs.specs.Made.{IsMade, HandlersNameMade, has_slash, IsSimple}
 use Rattle.par_placed_runs.specs.Made.{PlacedCodeIsLaid}

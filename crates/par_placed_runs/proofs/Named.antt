@@ -9,17 +9,19 @@ use Rattle.par_pool.specs.Entries.{IsAt, IsClassAt, IsNameTypeAt, IsFieldAt, IsM
 use Rattle.par_class.specs.declared.file.ClassFile.{ClassFile}
 use Rattle.par_values.specs.declared.link.Link.TheVariants as link
 use Rattle.par_values.specs.Areas.{Name}
-use Rattle.par_single.specs.Members.{Member, text_of, text_at, class_name_of, class_name_at}
-use Rattle.par_single.specs.Members.{member_of, member_at}
-use Rattle.par_link.specs.declared.entry.Named.TheVariants as named
-use Rattle.par_link.specs.declared.entry.Named.TheVariants.{Nothing}
-use Rattle.par_link.specs.Builtins.{lock_or_nothing, builtin_field}
-use Rattle.par_link.specs.Named.{class_named, field_of, field_declared, method_declared, named_by}
-use Rattle.par_link.specs.Linked.{named_in, named_at}
-use Rattle.par_steps.specs.Methods.{pool_of, class_pool}
-use Rattle.par_steps.specs.Links.{link_of, lock_link, number_or, link_at}
-use Rattle.par_placed_code.specs.Named.{LOCKS, LOCK_TYPE}
-use Rattle.par_placed_code.specs.Named as placed
+use Rattle.par_relocated.specs.par_single.Members.{Member, text_of, text_at, class_name_of}
+use Rattle.par_relocated.specs.par_single.Members.{class_name_at}
+use Rattle.par_relocated.specs.par_single.Members.{member_of, member_at}
+use Rattle.par_relocated.specs.par_link.declared.entry.Named.TheVariants as named
+use Rattle.par_relocated.specs.par_link.declared.entry.Named.TheVariants.{Nothing}
+use Rattle.par_relocated.specs.par_link.Builtins.{lock_or_nothing, builtin_field}
+use Rattle.par_relocated.specs.par_link.Named.{class_named, field_of, field_declared}
+use Rattle.par_relocated.specs.par_link.Named.{method_declared, named_by}
+use Rattle.par_relocated.specs.par_link.Linked.{named_in, named_at}
+use Rattle.par_relocated.specs.par_steps.Methods.{pool_of, class_pool}
+use Rattle.par_relocated.specs.par_steps.Links.{link_of, lock_link, number_or, link_at}
+use Rattle.par_place.specs.par_placed_code.Named.{LOCKS, LOCK_TYPE}
+use Rattle.par_place.specs.par_placed_code.Named as placed
 use Rattle.par_placed_runs.proofs.Locks.{lock_named}
 
 abbrev pub member : (class name descriptor : Name) → Member

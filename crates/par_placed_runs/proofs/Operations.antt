@@ -19,7 +19,7 @@ use Rattle.par_values.specs.Reasons.{misgiven, is_result, unfit_result}
 use Rattle.par_values.specs.Effects.{Effect, Goes, Happens, Jumps, Calls, Throws, ThrowsObject}
 use Rattle.par_values.specs.Effects.{Returns, ReturnsWith, effect, called, called_on, field_read}
 use Rattle.par_values.specs.Effects.{field_written, thrown}
-use Rattle.par_engine.specs.Engine.{Found, Program, is_misreceived}
+use Rattle.par_relocated.specs.par_engine.Engine.{Found, Program, is_misreceived}
 use Rattle.par_relocated.specs.Relocated.{Places, Shifts, Kin}
 
 -- ---- what makes no jump

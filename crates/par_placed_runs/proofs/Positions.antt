@@ -3,11 +3,12 @@ use Rattle.std.proofs.Common.{◌≡◌, ℕ, zero, suc, ◌+◌, Bool, true, fa
 use Rattle.std.proofs.Common.{drop, Some, refl, sym, ap, subst, ◌∙◌, arith}
 use Rattle.std.specs.Prelude.{◌==◌, if◌then◌else◌, slice_get}
 use Rattle.std.specs.List.{AllZip}
-use Rattle.par_code_form.specs.declared.item.Item.{Item}
-use Rattle.par_code_form.specs.declared.item.Item.TheVariants.{Label, Op, Const, Jump, Member}
-use Rattle.par_code_form.specs.declared.item.Item.TheVariants.{ClassOp, LockOp}
-use Rattle.par_matching.specs.Labelled.{spot, lead, skip, target}
-use Rattle.par_placed_code.specs.Placed.{size, offset_of, offset_at}
+use Rattle.par_place.specs.par_code_form.declared.item.Item.{Item}
+use Rattle.par_place.specs.par_code_form.declared.item.Item.TheVariants.{Label, Op, Const, Jump}
+use Rattle.par_place.specs.par_code_form.declared.item.Item.TheVariants.{Member}
+use Rattle.par_place.specs.par_code_form.declared.item.Item.TheVariants.{ClassOp, LockOp}
+use Rattle.par_naming.specs.par_matching.Labelled.{spot, lead, skip, target}
+use Rattle.par_place.specs.par_placed_code.Placed.{size, offset_of, offset_at}
 
 pub drop_next : {A : Type 0} (xs : List A) (p : ℕ) (x : A) (rest : List A)
     → drop p xs ≡ x ∷ rest → drop (suc p) xs ≡ rest

@@ -7,20 +7,21 @@ use Rattle.std.proofs.lemmas.Slice.Zip.{AllZip-long}
 use Rattle.par_class.specs.declared.file.ClassFile.{ClassFile}
 use Rattle.par_values.specs.declared.value.MVal.{MVal}
 use Rattle.par_values.specs.declared.inputs.Inputs.{Inputs}
-use Rattle.par_single.specs.Walk.{starts_at}
-use Rattle.par_steps.specs.Methods.{class_pool, method_code}
-use Rattle.par_steps.specs.State.{State, entered, start, main_place, frame_of}
-use Rattle.par_engine.specs.Engine.{Found, Program, run}
-use Rattle.par_engine.specs.Files.{of_files}
-use Rattle.par_engine.proofs.Bridge.{run-same}
-use Rattle.par_code_form.specs.declared.item.Item.{Item}
-use Rattle.par_code_form.specs.declared.item.Item.TheVariants.{Label, Op, Const, Jump, Member}
-use Rattle.par_code_form.specs.declared.item.Item.TheVariants.{ClassOp, LockOp}
-use Rattle.par_code_form.specs.declared.labelled.Labelled.{Labelled}
-use Rattle.par_matching.specs.Labelled.{skip, found, is_there, handled}
-use Rattle.par_placed_code.specs.Instructions.{is_instruction}
-use Rattle.par_placed_code.specs.Named.{Names}
-use Rattle.par_placed_code.specs.Placed.{offset_of, offset_at}
+use Rattle.par_relocated.specs.par_single.Walk.{starts_at}
+use Rattle.par_relocated.specs.par_steps.Methods.{class_pool, method_code}
+use Rattle.par_relocated.specs.par_steps.State.{State, entered, start, main_place, frame_of}
+use Rattle.par_relocated.specs.par_engine.Engine.{Found, Program, run}
+use Rattle.par_relocated.specs.par_engine.Files.{of_files}
+use Rattle.par_relocated.proofs.par_engine.Bridge.{run-same}
+use Rattle.par_place.specs.par_code_form.declared.item.Item.{Item}
+use Rattle.par_place.specs.par_code_form.declared.item.Item.TheVariants.{Label, Op, Const, Jump}
+use Rattle.par_place.specs.par_code_form.declared.item.Item.TheVariants.{Member}
+use Rattle.par_place.specs.par_code_form.declared.item.Item.TheVariants.{ClassOp, LockOp}
+use Rattle.par_place.specs.par_code_form.declared.labelled.Labelled.{Labelled}
+use Rattle.par_naming.specs.par_matching.Labelled.{skip, found, is_there, handled}
+use Rattle.par_place.specs.par_placed_code.Instructions.{is_instruction}
+use Rattle.par_place.specs.par_placed_code.Named.{Names}
+use Rattle.par_place.specs.par_placed_code.Placed.{offset_of, offset_at}
 use Rattle.par_naming.specs.Naming.{naming_of}
 use Rattle.par_relocated.specs.Relocated.{IsPlaced, there, moved_state, moved_to}
 use Rattle.par_relocated.proofs.Placed as relocated

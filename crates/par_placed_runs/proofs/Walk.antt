@@ -8,12 +8,12 @@ use Rattle.std.proofs.lemmas.List.Elements.{All-head, All-tail}
 use Rattle.par_instr.specs.declared.instr.Instr.{Instr}
 use Rattle.par_instr.specs.Spelling.{spelling, IsSpelled}
 use Rattle.par_instr.proofs.Spellings.{each_is_listed}
-use Rattle.par_single.specs.Walk.{starts_after, starts_at, if_listed}
-use Rattle.par_code_form.specs.declared.item.Item.{Item}
-use Rattle.par_placed_code.specs.Instructions.{instruction, is_instruction}
-use Rattle.par_placed_code.specs.Placed.{bytes_of, IsWritable, size, offset_at, distance}
-use Rattle.par_placed_code.specs.Placed.{instructions}
-use Rattle.par_placed_code.specs.Placeable.{FitsItem}
+use Rattle.par_relocated.specs.par_single.Walk.{starts_after, starts_at, if_listed}
+use Rattle.par_place.specs.par_code_form.declared.item.Item.{Item}
+use Rattle.par_place.specs.par_placed_code.Instructions.{instruction, is_instruction}
+use Rattle.par_place.specs.par_placed_code.Placed.{bytes_of, IsWritable, size, offset_at, distance}
+use Rattle.par_place.specs.par_placed_code.Placed.{instructions}
+use Rattle.par_place.specs.par_placed_code.Placeable.{FitsItem}
 use Rattle.par_place.proofs.Sizes.{size_any, size_some}
 
 -- operand bytes are passed over

@@ -7,16 +7,16 @@ use Rattle.par_values.specs.declared.link.ClassLink.{ClassLink}
 use Rattle.par_values.specs.declared.link.Link.TheVariants as link
 use Rattle.par_values.specs.declared.inputs.Inputs.{Inputs}
 use Rattle.par_values.specs.Areas.{first_locals}
-use Rattle.par_secrecy.specs.Shows.{IsFine}
-use Rattle.par_steps.specs.Methods.{class_pool, method_code, method_name}
-use Rattle.par_steps.specs.State.{State, entered, start, main_place}
-use Rattle.par_steps.specs.Run as files_run
-use Rattle.par_engine.specs.Engine.{Program, run}
-use Rattle.par_code_form.specs.declared.labelled.Labelled.{Labelled}
-use Rattle.par_code_form.specs.declared.labelled.Handler.{Handler}
-use Rattle.par_matching.specs.Labelled.{of_labelled}
-use Rattle.par_placed_code.specs.Placed.{IsPlaced}
-use Rattle.par_placed_code.specs.Placeable.{FitsItem}
+use Rattle.par_relocated.specs.par_secrecy.Shows.{IsFine}
+use Rattle.par_relocated.specs.par_steps.Methods.{class_pool, method_code, method_name}
+use Rattle.par_relocated.specs.par_steps.State.{State, entered, start, main_place}
+use Rattle.par_relocated.specs.par_steps.Run as files_run
+use Rattle.par_relocated.specs.par_engine.Engine.{Program, run}
+use Rattle.par_place.specs.par_code_form.declared.labelled.Labelled.{Labelled}
+use Rattle.par_place.specs.par_code_form.declared.labelled.Handler.{Handler}
+use Rattle.par_naming.specs.par_matching.Labelled.{of_labelled}
+use Rattle.par_place.specs.par_placed_code.Placed.{IsPlaced}
+use Rattle.par_place.specs.par_placed_code.Placeable.{FitsItem}
 use Rattle.par_naming.specs.Naming.{class_of_name, naming_of, to_run}
 
 -- code without its attributes

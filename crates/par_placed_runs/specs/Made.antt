@@ -6,13 +6,13 @@ use Rattle.par_class.specs.declared.file.ClassFile.{ClassFile}
 use Rattle.par_values.specs.declared.link.ClassLink.{ClassLink}
 use Rattle.par_values.specs.declared.link.Link.TheVariants as link
 use Rattle.par_values.specs.Areas.{Name}
-use Rattle.par_link.specs.Linked.{AreLinked}
-use Rattle.par_steps.specs.Methods.{class_pool, method_code}
-use Rattle.par_code_form.specs.declared.labelled.Labelled.{Labelled}
-use Rattle.par_code_form.specs.declared.labelled.Handler.{Handler}
-use Rattle.par_placed_code.specs.Named.{full_name}
-use Rattle.par_placed_code.specs.Placed.{IsPlaced}
-use Rattle.par_placed_code.specs.Placeable.{FitsItem}
+use Rattle.par_relocated.specs.par_link.Linked.{AreLinked}
+use Rattle.par_relocated.specs.par_steps.Methods.{class_pool, method_code}
+use Rattle.par_place.specs.par_code_form.declared.labelled.Labelled.{Labelled}
+use Rattle.par_place.specs.par_code_form.declared.labelled.Handler.{Handler}
+use Rattle.par_place.specs.par_placed_code.Named.{full_name}
+use Rattle.par_place.specs.par_placed_code.Placed.{IsPlaced}
+use Rattle.par_place.specs.par_placed_code.Placeable.{FitsItem}
 use Rattle.par_naming.specs.Naming.{class_of_name}
 use Rattle.par_placed_runs.specs.Laid.{bare, IsLaid}
 

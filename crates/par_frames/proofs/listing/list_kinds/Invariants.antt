@@ -1,6 +1,6 @@
 use Rattle.std.proofs.Common.{List, drop}
 use Rattle.std.specs.List.{AllZip}
-use Rattle.par_pool.specs.declared.constant.Constant.{Constant}
+use Rattle.par_frame_forms.specs.par_pool.declared.constant.Constant.{Constant}
 use Rattle.par_frames.specs.Names.{StandsFor}
 use Rattle.par_frames.specs.Attribute.{IsListed}
 use Rattle.par_frames.proofs.Listed.{Listing}

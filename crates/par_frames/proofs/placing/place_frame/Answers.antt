@@ -1,9 +1,9 @@
 use Rattle.par_frames.proofs.Indexing.{first_room, first_added, both_added, indexed, indexed_fits}
 use Rattle.par_frames.proofs.placing.place_frame.Goals as goal
 
-pub place_kinds-requires : goal.place_kinds-requires
-place_kinds-requires c =
-    record { room = first_room _ _ c.args.f.now c.as_slice.ensures c.requires.room }
+pub place_kinds-requires-clause-room : goal.place_kinds-requires-clause-room
+place_kinds-requires-clause-room c =
+    first_room _ _ c.args.f.now c.as_slice.ensures c.requires.room
 
 pub returns-in_err-locals-clause-added : goal.returns-in_err-locals-clause-added
 returns-in_err-locals-clause-added c =

@@ -4,7 +4,7 @@ use Rattle.par_frames.specs.Names.{class_of, StandsFor}
 use Rattle.par_frames.proofs.Steps.{Placing}
 use Rattle.par_frames.proofs.placing.place_kinds.Given as goal
 
-abbrev pub invariant-loop-kind : goal.invariant-loop-kind
-invariant-loop-kind l =
-    Placing class_of StandsFor TypeFits l.initial.pool l.pool l.kinds (drop l.kind-index l.kinds)
-    l.types
+abbrev pub invariant-loop-place : goal.invariant-loop-place
+invariant-loop-place l =
+    Placing class_of StandsFor TypeFits l.initial.pool l.pool l.kinds (drop l.place l.kinds)
+    l.made

@@ -4,9 +4,9 @@ use Rattle.std.proofs.lemmas.Slice.Zip.{AllZip-long}
 use Rattle.par_placed_code.specs.Named.{Names, IsConstantOf, entry_count}
 use Rattle.par_placed_code.specs.Placeable.{HasTarget, FitsHandler}
 use Rattle.par_place.specs.Offsets.{HasOffset, HasLabels}
-use Rattle.par_place.proofs.Whole.{targets_within, all_labels_within, whole_added, drafted, placed}
-use Rattle.par_place.proofs.Whole.{spelled_code, few_entries}
-use Rattle.par_place.proofs.place.place_code.Goals as goal
+use Rattle.par_place.proofs.Whole.{targets_within, all_labels_within, whole_added, drafted}
+use Rattle.par_place.proofs.Whole.{placed_at, spelled_code, few_entries}
+use Rattle.par_place.proofs.place.place_labels.Goals as goal
 
 pub label_offsets-requires-clause-same : goal.label_offsets-requires-clause-same
 label_offsets-requires-clause-same c =
@@ -51,9 +51,9 @@ returns-clause-added c =
 
 pub returns-clause-placed : goal.returns-clause-placed
 returns-clause-placed c =
-    placed c.args.code.now c.catches_of.new.pool c.in_ok-indices.indices.items
+    placed_at c.args.code.now c.catches_of.new.pool c.in_ok-indices.indices.items
     c.in_ok-offsets.offsets.items c.in_ok-bytes.bytes.items c.in_ok-catches.catches
-    c.attribute.result
+    c.attribute-attr.result
     c.requires.placeable
     (drafted c.args.code.now c.indices_of.new.pool c.catches_of.new.pool
     c.as_slice-items.result.now c.as_slice.result.now c.in_ok-indices.indices.items
@@ -63,14 +63,14 @@ returns-clause-placed c =
     c.deref-3.ensures.value c.deref-4.ensures.value c.in_ok-catches.ensures.added
     c.in_ok-indices.ensures.named c.in_ok-offsets.ensures.offsets c.in_ok-bytes.ensures.bytes
     c.in_ok-bytes.ensures.writable c.in_ok-bytes.ensures.short c.in_ok-catches.ensures.are)
-    c.attribute.ensures.bytes c.attribute.ensures.catches c.attribute.ensures.max_stack
-    c.attribute.ensures.max_locals c.attribute.ensures.attributes
+    c.attribute-attr.ensures.bytes c.attribute-attr.ensures.catches c.attribute-attr.ensures.max_stack
+    c.attribute-attr.ensures.max_locals c.attribute-attr.ensures.attributes c.in_ok-offsets.ensures.small
 
 pub returns-clause-fits : goal.returns-clause-fits
 returns-clause-fits c =
     spelled_code c.args.code.now c.catches_of.new.pool c.in_ok-indices.indices.items
     c.in_ok-offsets.offsets.items c.in_ok-bytes.bytes.items c.in_ok-catches.catches
-    c.attribute.result
+    c.attribute-attr.result
     c.requires.placeable
     (drafted c.args.code.now c.indices_of.new.pool c.catches_of.new.pool
     c.as_slice-items.result.now c.as_slice.result.now c.in_ok-indices.indices.items
@@ -80,8 +80,8 @@ returns-clause-fits c =
     c.deref-3.ensures.value c.deref-4.ensures.value c.in_ok-catches.ensures.added
     c.in_ok-indices.ensures.named c.in_ok-offsets.ensures.offsets c.in_ok-bytes.ensures.bytes
     c.in_ok-bytes.ensures.writable c.in_ok-bytes.ensures.short c.in_ok-catches.ensures.are)
-    c.attribute.ensures.bytes c.attribute.ensures.catches c.attribute.ensures.attributes
-    c.attribute.ensures.few_operands c.attribute.ensures.few_locals
+    c.attribute-attr.ensures.bytes c.attribute-attr.ensures.catches c.attribute-attr.ensures.attributes
+    c.attribute-attr.ensures.few_operands c.attribute-attr.ensures.few_locals
     (few_entries c.args.pool.now c.catches_of.new.pool (entry_count c.args.code.now)
     (IsConstantOf c.catches_of.new.pool c.args.code.now)
     (whole_added c.args.pool.now c.indices_of.new.pool c.catches_of.new.pool c.args.code.now

@@ -1,0 +1,9 @@
+//! Labelled code in a class file, with its frames or without them.
+//!
+//! The frames stand in one attribute of the code. Whether they fit the code is not asked here.
+#![tactic(auto)]
+
+mod attribute;
+mod placing;
+
+pub use placing::place;

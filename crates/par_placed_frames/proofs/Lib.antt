@@ -1,0 +1,1 @@
+pub use Rattle.par_frames.proofs as par_frames
