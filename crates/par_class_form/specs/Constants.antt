@@ -2,19 +2,19 @@
 -- what its code and frames name.
 use Rattle.std.specs.Prelude.{◌≡◌, ◌⊎◌, List, [], ◌∷◌, ◌++◌, Contains, Option, Some, None, codes}
 use Rattle.std.specs.List.{flat_map}
-use Rattle.par_typed.specs.declared.table.ClassInfo.{ClassInfo}
-use Rattle.par_typed.specs.declared.table.FieldInfo.{FieldInfo}
-use Rattle.par_typed.specs.declared.table.Table.{Table}
+use Rattle.par_runs.specs.par_typed.declared.table.ClassInfo.{ClassInfo}
+use Rattle.par_runs.specs.par_typed.declared.table.FieldInfo.{FieldInfo}
+use Rattle.par_runs.specs.par_typed.declared.table.Table.{Table}
 use Rattle.par_pool.specs.declared.constant.Constant.{Constant}
 use Rattle.par_pool.specs.declared.constant.Constant.TheVariants.{Utf8}
 use Rattle.par_pool.specs.Growth.{IsClassPart}
 use Rattle.par_values.specs.Areas.{Name}
-use Rattle.par_code_form.specs.declared.labelled.Labelled.{Labelled}
-use Rattle.par_code_form.specs.declared.labelled.LabelFrame.{LabelFrame}
-use Rattle.par_code_form.specs.declared.labelled.Slot.{Slot}
-use Rattle.par_code_form.specs.declared.labelled.Slot.TheVariants as slot
-use Rattle.par_code_form.specs.Named.{descriptor}
-use Rattle.par_placed_code.specs.Named.{full_name, IsConstantOf}
+use Rattle.par_placed_frames.specs.par_code_form.declared.labelled.Labelled.{Labelled}
+use Rattle.par_placed_frames.specs.par_code_form.declared.labelled.LabelFrame.{LabelFrame}
+use Rattle.par_placed_frames.specs.par_code_form.declared.labelled.Slot.{Slot}
+use Rattle.par_placed_frames.specs.par_code_form.declared.labelled.Slot.TheVariants as slot
+use Rattle.par_placed_frames.specs.par_code_form.Named.{descriptor}
+use Rattle.par_placed_frames.specs.par_placed_code.Named.{full_name, IsConstantOf}
 use Rattle.par_class_form.specs.Members.{Member, above}
 
 -- the class that a local or an operand holds, if it holds one

@@ -1,22 +1,24 @@
 -- The class files of a program without policies.
-use Rattle.std.specs.Prelude.{◌≡◌, ℕ, ◌≤◌, ◌⊎◌, List, [], length, Option, Some, None, codes}
-use Rattle.std.specs.Prelude.{drop}
+use Rattle.std.specs.Prelude.{◌≡◌, ℕ, ◌<◌, ◌≤◌, ◌⊎◌, Bool, true, false, if◌then◌else◌, List, []}
+use Rattle.std.specs.Prelude.{length, Option, Some, None, codes, drop}
 use Rattle.std.specs.List.{All, AllZip}
-use Rattle.par_typed.specs.declared.table.ClassInfo.{ClassInfo}
-use Rattle.par_typed.specs.declared.table.FieldInfo.{FieldInfo}
-use Rattle.par_typed.specs.declared.table.Table.{Table}
-use Rattle.par_typed.specs.Plain.{Body}
+use Rattle.par_runs.specs.par_typed.declared.table.ClassInfo.{ClassInfo}
+use Rattle.par_runs.specs.par_typed.declared.table.FieldInfo.{FieldInfo}
+use Rattle.par_runs.specs.par_typed.declared.table.Table.{Table}
+use Rattle.par_runs.specs.par_typed.Plain.{Body}
 use Rattle.par_pool.specs.declared.reading.TheConstants.{LONGEST_CLASS}
 use Rattle.par_pool.specs.declared.constant.Constant.{Constant}
 use Rattle.par_pool.specs.Entries.{IsUtf8At, IsClassAt, IsDistinct}
-use Rattle.par_class.specs.declared.file.CodeAttr.{CodeAttr}
-use Rattle.par_class.specs.declared.file.FieldFile.{FieldFile}
-use Rattle.par_class.specs.declared.file.MethodFile.{MethodFile}
-use Rattle.par_class.specs.declared.file.ClassFile.{ClassFile}
-use Rattle.par_class.specs.Spelling.{Spells}
-use Rattle.par_code_form.specs.declared.labelled.Labelled.{Labelled}
-use Rattle.par_code_form.specs.Named.{descriptor}
-use Rattle.par_placed_code.specs.Placed.{IsPlaced}
+use Rattle.par_placed_frames.specs.par_class.declared.file.CodeAttr.{CodeAttr}
+use Rattle.par_placed_frames.specs.par_class.declared.file.FieldFile.{FieldFile}
+use Rattle.par_placed_frames.specs.par_class.declared.file.MethodFile.{MethodFile}
+use Rattle.par_placed_frames.specs.par_class.declared.file.ClassFile.{ClassFile}
+use Rattle.par_placed_frames.specs.par_class.Spelling.{Spells, layout}
+use Rattle.par_placed_frames.specs.par_class.Writing.{layout_of}
+use Rattle.par_placed_frames.specs.par_code_form.declared.labelled.Labelled.{Labelled}
+use Rattle.par_placed_frames.specs.par_code_form.Named.{descriptor}
+use Rattle.par_placed_frames.specs.par_placed_code.Placed.{IsPlaced}
+use Rattle.par_placed_frames.specs.Framed.{IsPlacedWith}
 use Rattle.par_class_form.specs.Members.{Member, CLASS_ACCESS, member_access, above, members}
 use Rattle.par_class_form.specs.Constants.{IsConstant}
 
@@ -66,21 +68,47 @@ pub record IsFileOf (table : Table) (bodies : List Body) (c : ℕ) (class : Clas
   pub methods : AllZip (IsMethodOf file.pool.entries) (members table bodies c class) file.methods
   pub attributes : file.attributes ≡ []
 
--- code, if there is any, has no attributes
-abbrev pub IsBare : Option CodeAttr → Type 0
-IsBare None = Unit {0}
-IsBare (Some attr) = attr.attributes ≡ []
+-- ---- files with frames and without them
 
-abbrev pub HasBareCode : MethodFile → Type 0
-HasBareCode file = IsBare file.code
+-- labelled code at offsets, with its frames or without attributes
+abbrev pub IsCodeWith : Bool → List Constant → Option Labelled → Option CodeAttr → Type 0
+IsCodeWith frames pool None None = Unit {0}
+IsCodeWith frames pool None (Some attr) = ⊥
+IsCodeWith frames pool (Some code) None = ⊥
+IsCodeWith frames pool (Some code) (Some attr) = IsPlacedWith frames pool code attr
 
--- The bytes spell a file of the class, and are few enough to be read again. It is of a version that
--- asks for no frames, and its code has no attributes.
+abbrev pub HasCodeWith : Bool → List Constant → Member → MethodFile → Type 0
+HasCodeWith frames pool m file = IsCodeWith frames pool m.code file.code
+
+-- the version of files whose code has its frames, and of those whose code has no attributes
+abbrev pub version : Bool → ℕ
+version frames = if frames then 51 else 49
+
+-- a file of these methods in one of the two versions
+pub record IsVersioned (frames : Bool) (methods : List Member) (file : ClassFile) : Type 0 where
+  pub major : file.major ≡ version frames
+  pub code : AllZip (HasCodeWith frames file.pool.entries) methods file.methods
+
+-- the bytes as which a file is written, whether or not they can be read again
+abbrev pub written : ClassFile → List ℕ
+written file = layout (layout_of file)
+
+-- a file of the class with frames that has too many bytes to be read again
+pub record HasLongFile (table : Table) (bodies : List Body) (c : ℕ) (class : ClassInfo)
+    : Type 0 where
+  pub file : ClassFile
+  pub is : IsFileOf table bodies c class file
+  pub versioned : IsVersioned true (members table bodies c class) file
+  pub long : LONGEST_CLASS < length (written file)
+
+-- The bytes spell a file of the class, and are few enough to be read again. It has frames, unless
+-- the file with frames has too many bytes.
 pub record IsCompiled (table : Table) (bodies : List Body) (c : ℕ) (class : ClassInfo)
     (bytes : List ℕ) : Type 0 where
   pub file : ClassFile
   pub is : IsFileOf table bodies c class file
-  pub version : file.major ≡ 49
-  pub bare : All HasBareCode file.methods
+  pub frames : Bool
+  pub versioned : IsVersioned frames (members table bodies c class) file
+  pub unframed : frames ≡ false → HasLongFile table bodies c class
   pub spells : Spells bytes file
   pub short : length bytes ≤ LONGEST_CLASS

@@ -1,19 +1,20 @@
 -- The members of a class in its file: a method `<init>`, the channels, and the methods.
-use Rattle.std.specs.Prelude.{ℕ, suc, Bool, false, if◌then◌else◌, List, [], ◌∷◌, ◌++◌, Option, Some, None}
+use Rattle.std.specs.Prelude.{ℕ, suc, Bool, false, if◌then◌else◌, List, [], ◌∷◌, ◌++◌, Option, Some}
+use Rattle.std.specs.Prelude.{None}
 use Rattle.std.specs.Prelude.{map, codes}
 use Rattle.std.specs.Option.{option_map}
-use Rattle.par_typed.specs.declared.table.ChannelInfo.{ChannelInfo}
-use Rattle.par_typed.specs.declared.table.ClassInfo.{ClassInfo}
-use Rattle.par_typed.specs.declared.table.MethodInfo.{MethodInfo}
-use Rattle.par_typed.specs.declared.table.Table.{Table}
-use Rattle.par_typed.specs.Plain.{TSta, Body}
+use Rattle.par_runs.specs.par_typed.declared.table.ChannelInfo.{ChannelInfo}
+use Rattle.par_runs.specs.par_typed.declared.table.ClassInfo.{ClassInfo}
+use Rattle.par_runs.specs.par_typed.declared.table.MethodInfo.{MethodInfo}
+use Rattle.par_runs.specs.par_typed.declared.table.Table.{Table}
+use Rattle.par_runs.specs.par_typed.Plain.{TSta, Body}
 use Rattle.par_values.specs.Areas.{Name}
 use Rattle.par_runs.specs.Names.{body_of}
-use Rattle.par_code_form.specs.declared.labelled.Labelled.{Labelled}
-use Rattle.par_code_form.specs.declared.labelled.Slot.TheVariants as slot
-use Rattle.par_code_form.specs.Code.{initializer_code}
-use Rattle.par_code_form.specs.Method.{labelled}
-use Rattle.par_code_form.specs.Named.{method_descriptor, words_of}
+use Rattle.par_placed_frames.specs.par_code_form.declared.labelled.Labelled.{Labelled}
+use Rattle.par_placed_frames.specs.par_code_form.declared.labelled.Slot.TheVariants as slot
+use Rattle.par_placed_frames.specs.par_code_form.Code.{initializer_code}
+use Rattle.par_placed_frames.specs.par_code_form.Method.{labelled}
+use Rattle.par_placed_frames.specs.par_code_form.Named.{method_descriptor, words_of}
 
 abbrev pub CLASS_ACCESS : ℕ
 CLASS_ACCESS = 0x0031

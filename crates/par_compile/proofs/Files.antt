@@ -1,10 +1,9 @@
 -- The parts of a class's file, put together.
 use Rattle.std.proofs.Common.{◌≡◌, ℕ, ◌+◌, ◌*◌, ◌≤◌, List, [], ◌∷◌, ◌++◌, length, map, Some}
-use Rattle.std.proofs.Common.{inr, sym, ap, subst, ◌∙◌, length-append, arith}
-use Rattle.std.specs.Prelude.{true, false, codes, slice_get}
+use Rattle.std.proofs.Common.{inl, inr, sym, ap, subst, ◌∙◌, length-append, arith}
+use Rattle.std.specs.Prelude.{◌⊎◌, Bool, true, false, codes, slice_get}
 use Rattle.std.specs.List.{All, AllZip}
 use Rattle.std.proofs.lemmas.List.{length-map}
-use Rattle.std.proofs.lemmas.List.Elements.{All-nil, All-cons}
 use Rattle.par_pool.specs.declared.constant.Constant.{Constant}
 use Rattle.par_pool.specs.Entries.{IsUtf8At, IsClassAt, IsDistinct}
 use Rattle.par_pool.specs.Spelling.{IsPool}
@@ -17,26 +16,35 @@ use Rattle.par_erase.specs.declared.program.PlainMethod.{PlainMethod}
 use Rattle.par_erase.specs.declared.program.PlainClass.{PlainClass}
 use Rattle.par_erase.specs.declared.program.Plain.{Plain}
 use Rattle.par_erase.specs.Shown.{field_info, class_info, table_of, bodies_of}
-use Rattle.par_class_form.specs.Members.{Member, above}
+use Rattle.par_class_form.specs.Members.{Member, above, members}
 use Rattle.par_class_form.specs.Constants.{IsConstant, code_text, this_class, super_class, of_field}
-use Rattle.par_class_form.specs.Constants.{of_member}
-use Rattle.par_class_form.specs.Files.{IsFieldOf, IsMethodOf, IsFileOf, HasBareCode}
+use Rattle.par_class_form.specs.Constants.{of_member, frames_text}
+use Rattle.par_class_form.specs.Files.{IsFieldOf, IsMethodOf, IsFileOf, HasCodeWith, IsVersioned}
+use Rattle.par_class_form.specs.Files.{HasLongFile, IsCompiled, version}
 use Rattle.par_compile.specs.declared.draft.Draft.{Draft}
 use Rattle.par_compile.specs.Growing.{Stays, Grows, IsOneText, IsOneClass, IsOfFields, IsOfMembers}
-use Rattle.par_compile.specs.Room.{HasRoom}
+use Rattle.par_framing.specs.par_frames.Room.{HasRoom, SPARE}
+use Rattle.par_framing.proofs.par_frames.Steps.{zip_kept}
 use Rattle.par_compile.specs.Own.{channel_in, method_in, own_members, methods_entries}
 use Rattle.par_compile.specs.Own.{class_entries}
 use Rattle.par_compile.specs.Drafts.{IsPut, Puts}
-use Rattle.par_compile.specs.Whole.{IsOwnFile}
+use Rattle.par_compile.specs.Whole.{IsOwnFile, IsLongFile, IsOwnBytes}
 use Rattle.par_compile.proofs.Growing.{extends, extends_then, stays_later, stays_now, grows_then}
 use Rattle.par_compile.proofs.Growing.{room_now}
 use Rattle.par_compile.proofs.Bodies.{members_are}
 
 -- ---- how many there are
 
-methods-few : (p : Plain) (ms : List PlainMethod) → 2 * length ms ≤ methods_entries p ms
-methods-few p [] = omega arith
-methods-few p (m ∷ ms) = omega (arith, methods-few p ms)
+methods-few : (frames : Bool) (p : Plain) (ms : List PlainMethod)
+    → 2 * length ms ≤ methods_entries frames p ms
+methods-few frames p [] = omega arith
+methods-few frames p (m ∷ ms) = omega (arith, methods-few frames p ms)
+
+-- some stay free
+pub spare_stays : (frames : Bool) (p : Plain) (ms : List PlainMethod)
+    → SPARE ≤ methods_entries frames p ms
+spare_stays frames p [] = omega arith
+spare_stays frames p (m ∷ ms) = omega (arith, spare_stays frames p ms)
 
 members-long : (p : Plain) (k : PlainClass)
     → length (own_members p k) ≡ 1 + (length k.inputs + (length k.outputs + length k.methods))
@@ -55,7 +63,7 @@ members-long p k =
 
 -- ---- the whole file
 
-module _ (p : Plain) (k : PlainClass) where
+module _ (frames : Bool) (p : Plain) (k : PlainClass) where
   abbrev table : Table
   table = table_of p
 
@@ -68,11 +76,15 @@ module _ (p : Plain) (k : PlainClass) where
   abbrev Is : List Constant → Constant → Type 0
   Is q c = IsConstant q table class methods_ c
 
+  of-members : (q : List Constant) (c : Constant) → IsOfMembers methods_ q c → Is q c
+  of-members q c (inl e) = frames_text e
+  of-members q c (inr h) = of_member h.0 h.1 h.2
+
   -- the file, whose parts the pool has kept
   pub own_file : (file : ClassFile) (start mid end : Draft) (a b : List Constant) (text : ℕ)
       (name : Name) (size : List Name)
-      → HasRoom [] (class_entries p k) size
-      → file.minor ≡ 0 → file.major ≡ 49 → file.access ≡ 0x0031 → file.attributes ≡ []
+      → HasRoom [] (class_entries frames p k) size
+      → file.minor ≡ 0 → file.major ≡ version frames → file.access ≡ 0x0031 → file.attributes ≡ []
       → file.pool.entries ≡ end.pool → IsDistinct file.pool.entries → IsPool file.pool.entries
       → Grows (IsOneText (codes "Code")) [] a
       → Stays a (λ q. IsUtf8At q text (codes "Code"))
@@ -82,8 +94,8 @@ module _ (p : Plain) (k : PlainClass) where
       → Stays start.pool (λ q. IsClassAt q file.super_class (above k.exception))
       → Grows (IsOfFields table class.fields) start.pool mid.pool
       → Stays mid.pool (λ q. AllZip (IsFieldOf table q) class.fields file.fields)
-      → mid.methods ≡ [] → Puts methods_ mid end → file.methods ≡ end.methods
-      → IsOwnFile table class methods_ file
+      → mid.methods ≡ [] → Puts frames methods_ mid end → file.methods ≡ end.methods
+      → IsOwnFile frames table class methods_ file
   own_file file start mid end a b text name size room minor major access attributes pool distinct
       is-pool coded code-at same bc this cd super de fields none puts methods-are =
       let eb = extends (IsOneClass name) a b bc in
@@ -104,10 +116,10 @@ module _ (p : Plain) (k : PlainClass) where
       (λ q c e. of_field e.0 e.1 e.2) g2 de in
       let g4 : Grows Is [] end.pool =
       grows_then Is (IsOfMembers methods_) Is [] mid.pool end.pool (λ q c e. e)
-      (λ q c e. of_member e.0 e.1 e.2) g3 puts.grows in
+      of-members g3 puts.grows in
       let long = members-long p k in
-      let few = room_now [] (class_entries p k) size room in
-      let many = methods-few p k.methods in
+      let few = room_now [] (class_entries frames p k) size room in
+      let many = methods-few frames p k.methods in
       record {
         minor = minor;
         major = major;
@@ -141,41 +153,43 @@ module _ (p : Plain) (k : PlainClass) where
             (stays_later mid.pool end.pool
             (λ q. AllZip (IsFieldOf table q) class.fields file.fields) ee fields));
         few_methods = omega (arith, few, long, many);
-        methods = subst (λ (q : List Constant). AllZip (IsPut q) methods_ file.methods) (sym pool)
-            (subst (λ (fs : List MethodFile). AllZip (IsPut end.pool) methods_ fs)
+        methods =
+            subst (λ (q : List Constant). AllZip (IsPut frames q) methods_ file.methods)
+            (sym pool)
+            (subst (λ (fs : List MethodFile). AllZip (IsPut frames end.pool) methods_ fs)
             (sym (methods-are ∙ (puts.behind
             ∙ ap (λ (fs : List MethodFile). fs ++ puts.more) none)))
-            (stays_now end.pool (λ q. AllZip (IsPut q) methods_ puts.more) puts.are));
+            (stays_now end.pool (λ q. AllZip (IsPut frames q) methods_ puts.more) puts.are));
         attributes = attributes;
       }
 
 -- ---- the file of a class of this number
 
-method-of : (q : List Constant) (ms : List Member) (fs : List MethodFile)
-    → AllZip (IsPut q) ms fs → AllZip (IsMethodOf q) ms fs
-method-of q [] [] h = h
-method-of q [] (f ∷ fs) h = h
-method-of q (m ∷ ms) [] h = h
-method-of q (m ∷ ms) (f ∷ fs) h = (h.0.is, method-of q ms fs h.1)
+method-of : (frames : Bool) (q : List Constant) (ms : List Member) (fs : List MethodFile)
+    → AllZip (IsPut frames q) ms fs → AllZip (IsMethodOf q) ms fs
+method-of frames q ms fs h =
+    zip_kept (IsPut frames q) (IsMethodOf q) ms fs (λ m f put. put.is) h
 
--- none of them has an attribute in its code
-pub all_bare : (q : List Constant) (ms : List Member) (fs : List MethodFile)
-    → AllZip (IsPut q) ms fs → All HasBareCode fs
-all_bare q [] [] h = All-nil HasBareCode
-all_bare q [] (f ∷ fs) h = absurd h
-all_bare q (m ∷ ms) [] h = absurd h
-all_bare q (m ∷ ms) (f ∷ fs) h = All-cons HasBareCode f fs h.0.bare (all_bare q ms fs h.1)
+code-of : (frames : Bool) (q : List Constant) (ms : List Member) (fs : List MethodFile)
+    → AllZip (IsPut frames q) ms fs → AllZip (HasCodeWith frames q) ms fs
+code-of frames q ms fs h =
+    zip_kept (IsPut frames q) (HasCodeWith frames q) ms fs (λ m f put. put.with_) h
 
-pub is_file : (p : Plain) (k : PlainClass) (file : ClassFile) (c : ℕ)
+either-version : (frames : Bool) (major : ℕ) → major ≡ version frames
+    → (major ≡ 51) ⊎ (major ≡ 49)
+either-version true major e = inl e
+either-version false major e = inr e
+
+pub is_file : (frames : Bool) (p : Plain) (k : PlainClass) (file : ClassFile) (c : ℕ)
     → slice_get p.classes c ≡ Some k
-    → IsOwnFile (table_of p) (class_info k) (own_members p k) file
+    → IsOwnFile frames (table_of p) (class_info k) (own_members p k) file
     → IsFileOf (table_of p) (bodies_of p) c (class_info k) file
-is_file p k file c there h =
+is_file frames p k file c there h =
     let same = sym (members_are p c k there) in
     let q = file.pool.entries in
     record {
       minor = h.minor;
-      major = inr h.major;
+      major = either-version frames file.major h.major;
       distinct = h.distinct;
       constants =
           subst (λ (ms : List Member). All (IsConstant q (table_of p) (class_info k) ms) q) same
@@ -186,6 +200,45 @@ is_file p k file c there h =
       super_class = h.super_class;
       fields = h.fields;
       methods = subst (λ (ms : List Member). AllZip (IsMethodOf q) ms file.methods) same
-          (method-of q (own_members p k) file.methods h.methods);
+          (method-of frames q (own_members p k) file.methods h.methods);
       attributes = h.attributes;
     }
+
+pub is_versioned : (frames : Bool) (p : Plain) (k : PlainClass) (file : ClassFile) (c : ℕ)
+    → slice_get p.classes c ≡ Some k
+    → IsOwnFile frames (table_of p) (class_info k) (own_members p k) file
+    → IsVersioned frames (members (table_of p) (bodies_of p) c (class_info k)) file
+is_versioned frames p k file c there h =
+    let q = file.pool.entries in
+    record {
+      major = h.major;
+      code = subst (λ (ms : List Member). AllZip (HasCodeWith frames q) ms file.methods)
+          (sym (members_are p c k there))
+          (code-of frames q (own_members p k) file.methods h.methods);
+    }
+
+-- ---- what is handed out
+
+long-file : (p : Plain) (k : PlainClass) (c : ℕ) → slice_get p.classes c ≡ Some k
+    → IsLongFile true (table_of p) (class_info k) (own_members p k)
+    → HasLongFile (table_of p) (bodies_of p) c (class_info k)
+long-file p k c there h = record {
+  file = h.file;
+  is = is_file true p k h.file c there h.is;
+  versioned = is_versioned true p k h.file c there h.is;
+  long = h.long;
+}
+
+pub is_compiled : (p : Plain) (k : PlainClass) (bytes : List ℕ) (c : ℕ)
+    → slice_get p.classes c ≡ Some k
+    → IsOwnBytes (table_of p) (class_info k) (own_members p k) bytes
+    → IsCompiled (table_of p) (bodies_of p) c (class_info k) bytes
+is_compiled p k bytes c there h = record {
+  file = h.is.file;
+  is = is_file h.frames p k h.is.file c there h.is.is;
+  frames = h.frames;
+  versioned = is_versioned h.frames p k h.is.file c there h.is.is;
+  unframed = λ e. long-file p k c there (h.unframed e);
+  spells = h.is.spells;
+  short = h.is.short;
+}

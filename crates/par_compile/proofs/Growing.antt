@@ -15,7 +15,9 @@ use Rattle.par_code_form.specs.Code.{initializer}
 use Rattle.par_place.proofs.Growth.{part_kept}
 use Rattle.par_class_form.specs.Members.{above}
 use Rattle.par_compile.specs.Growing.{Extends, Stays, Grows, IsOneText, IsOneClass, IsSuperCall}
-use Rattle.par_compile.specs.Room.{HasClass, HasRoom, Leaves}
+use Rattle.par_framing.specs.par_frames.Room.{HasClass, HasRoom, SPARE}
+use Rattle.par_framing.specs.Added.{spare_with}
+use Rattle.par_compile.specs.Room.{Leaves}
 
 -- ---- pools that extend others
 
@@ -76,10 +78,10 @@ member_stays form pool i class name kind h = λ later e. record {
       h.member name kind h.is_member;
 }
 
-class-part : (a b : List Constant) → Extends a b → (name : Name) (c : Constant)
+pub class_part : (a b : List Constant) → Extends a b → (name : Name) (c : Constant)
     → IsClassPart a name c → IsClassPart b name c
-class-part a b e name c (inl h) = inl h
-class-part a b e name c (inr h) = inr (h.0, h.1, text_stays a h.0 name h.2 b e)
+class_part a b e name c (inl h) = inl h
+class_part a b e name c (inr h) = inr (h.0, h.1, text_stays a h.0 name h.2 b e)
 
 -- ---- growth
 
@@ -128,7 +130,7 @@ class_grows a b name h = record {
   more = h.more;
   behind = h.behind;
   parts = λ later e.
-      All-weaker (IsClassPart b name) (IsClassPart later name) (class-part b later e name) h.more
+      All-weaker (IsClassPart b name) (IsClassPart later name) (class_part b later e name) h.more
       h.parts;
 }
 
@@ -172,10 +174,6 @@ room_left few spare names a b e le h = record {
   room = omega (arith, le, h.room);
 }
 
-pub leaves_few : (few : ℕ) (a b : List Constant) → Extends a b → length b ≤ length a + few
-    → Leaves few [] a b
-leaves_few few a b e le = λ spare later h. room_left few spare later a b e le h
-
 pub leaves_then : (few more : ℕ) (names : List Name) (a b c : List Constant)
     → Leaves few names a b → Extends b c → length c ≤ length b + more
     → Leaves (few + more) names a c
@@ -185,13 +183,28 @@ leaves_then few more names a b c left e le = λ spare later h.
     (left (more + spare) later (subst (λ (n : ℕ). HasRoom a n (names ++ later)) same h))
 
 -- room for more is room for less
-pub room_less : (few spare : ℕ) (names more : List Name) (pool : List Constant)
-    → HasRoom pool (few + spare) (names ++ more) → HasRoom pool few names
-room_less few spare names more pool h = record {
+pub room_less : (few less spare : ℕ) (names more : List Name) (pool : List Constant)
+    → less ≤ spare → HasRoom pool (few + spare) (names ++ more) → HasRoom pool (few + less) names
+room_less few less spare names more pool le h = record {
   missing = h.missing;
   covered = λ name at. h.covered name (Contains-append_left names more name at);
-  room = omega (arith, h.room);
+  room = omega (arith, le, h.room);
 }
+
+pub room_smaller : (pool : List Constant) (few less : ℕ) (names : List Name) → less ≤ few
+    → HasRoom pool few names → HasRoom pool less names
+room_smaller pool few less names le h =
+    record { missing = h.missing; covered = h.covered; room = omega (arith, le, h.room) }
+
+pub room_alone : (pool : List Constant) (few less : ℕ) (names : List Name) → less ≤ few
+    → HasRoom pool few names → HasRoom pool less (names ++ [])
+room_alone pool few less names le h =
+    subst (λ (ns : List Name). HasRoom pool less ns) (sym (append-nil names))
+    (room_smaller pool few less names le h)
+
+pub spare_few : (frames : Bool) → spare_with frames ≤ SPARE
+spare_few true = omega arith
+spare_few false = omega arith
 
 pub room_now : (pool : List Constant) (few : ℕ) (names : List Name) → HasRoom pool few names
     → length pool + few < 65535

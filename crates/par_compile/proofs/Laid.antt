@@ -26,14 +26,15 @@ use Rattle.par_class.specs.Spelling.{is_named, is_class_named, is_super, is_nati
 use Rattle.par_class.specs.Spelling.{is_coded, is_version}
 use Rattle.par_class.specs.Spelling.{AllFit, IsTextIndex, IsClassIndex, FitsAttribute}
 use Rattle.par_class.specs.Spelling.{FitsPiece, FitsField, FitsMethod, IsLayout, Spells}
-use Rattle.par_compile.specs.Whole.{IsOwnFile}
+use Rattle.par_compile.specs.Whole.{IsOwnFile, has_long_code}
 use Rattle.par_class.specs.Writing.{least_code, code_piece, pieces_of, method_laid, layout_of}
 use Rattle.par_class.proofs.Written.{least_named, has_spelling}
 use Rattle.par_values.specs.Areas.{Name}
 use Rattle.par_code_form.specs.Named.{descriptor}
 use Rattle.par_class_form.specs.Members.{Member, member_access, above}
-use Rattle.par_class_form.specs.Files.{IsFieldOf}
-use Rattle.par_compile.specs.Drafts.{CodeFits, IsShort, IsPut}
+use Rattle.par_class_form.specs.Files.{IsFieldOf, version}
+use Rattle.par_compile.specs.Drafts.{CodeFits, IsShort, HasShortCode, IsPut}
+use Rattle.par_compile.proofs.Long.{all_short}
 
 module _ (entries : List Constant) (few : length entries + 1 < 2 ^ 16) where
   -- ---- indices
@@ -100,30 +101,30 @@ module _ (entries : List Constant) (few : length entries + 1 < 2 ^ 16) where
     coded : IsTrue (is_coded access ps)
 
   pieces-fine : (named : ℕ) (access : ℕ) (o : Option CodeAttr)
-      → IsUtf8At entries named (codes "Code") → CodeFits entries o → IsShort o
+      → IsUtf8At entries named (codes "Code") → CodeFits entries o → IsShort o → HasShortCode o
       → is_native access ≡ not (is_some o) → AreFine access (code_piece least o ++ [])
-  pieces-fine named access None at fits short native = record {
+  pieces-fine named access None at fits short small native = record {
     fit = (omega arith, tt);
     coded = ap (λ (b : Bool). 0 == (if b then 0 else 1)) native;
   }
-  pieces-fine named access (Some c) at fits short native =
+  pieces-fine named access (Some c) at fits short small native =
       let name = least_named entries named few (ap (is_named (codes "Code")) at) in
       record {
         fit = (
           omega arith,
-          ((record { name = name.0; size = short }, fits, name.1), tt),
+          ((record { name = name.0; size = short small }, fits small, name.1), tt),
         );
         coded = ap (λ (b : Bool). 1 == (if b then 0 else 1)) native;
       }
 
-  method-fits : (named : ℕ) (m : Member) (f : MethodFile)
-      → IsUtf8At entries named (codes "Code") → IsPut entries m f
+  method-fits : (frames : Bool) (named : ℕ) (m : Member) (f : MethodFile)
+      → IsUtf8At entries named (codes "Code") → IsPut frames entries m f → HasShortCode f.code
       → FitsMethod entries (method_laid least f)
-  method-fits named m f at h =
+  method-fits frames named m f at h small =
       let fine : AreFine m.access (pieces_of least f) =
       subst (λ (xs : List Attribute).
       AreFine m.access (code_piece least f.code ++ map (λ a. Plain a) xs)) (sym h.is.attributes)
-      (pieces-fine named m.access f.code at h.fits h.short h.native) in
+      (pieces-fine named m.access f.code at h.fits h.short small h.native) in
       record {
         access = omega (arith, h.is.access, h.small);
         name = text-index f.name m.name h.is.name;
@@ -133,24 +134,32 @@ module _ (entries : List Constant) (few : length entries + 1 < 2 ^ 16) where
             fine.coded;
       }
 
-  methods-fit : (named : ℕ) (ms : List Member) (fs : List MethodFile)
-      → IsUtf8At entries named (codes "Code") → AllZip (IsPut entries) ms fs
+  methods-fit : (frames : Bool) (named : ℕ) (ms : List Member) (fs : List MethodFile)
+      → IsUtf8At entries named (codes "Code") → AllZip (IsPut frames entries) ms fs
+      → AllByRecursion (λ f. HasShortCode f.code) fs
       → AllByRecursion (FitsMethod entries) (map (method_laid least) fs)
-  methods-fit named [] [] at h = tt
-  methods-fit named [] (f ∷ fs) at h = absurd h
-  methods-fit named (m ∷ ms) [] at h = absurd h
-  methods-fit named (m ∷ ms) (f ∷ fs) at h =
-      (method-fits named m f at h.0, methods-fit named ms fs at h.1)
+  methods-fit frames named [] [] at h short = tt
+  methods-fit frames named [] (f ∷ fs) at h short = absurd h
+  methods-fit frames named (m ∷ ms) [] at h short = absurd h
+  methods-fit frames named (m ∷ ms) (f ∷ fs) at h short =
+      (method-fits frames named m f at h.0 short.0, methods-fit frames named ms fs at h.1 short.1)
+
+-- both versions are read
+version-fits : (frames : Bool) → (version frames < 2 ^ 16) × IsTrue (is_version (version frames))
+version-fits true = (omega arith, refl)
+version-fits false = (omega arith, refl)
 
 -- each item of the file fits its place
-layout-fits : (table : Table) (class : ClassInfo) (ms : List Member) (file : ClassFile)
-    → IsOwnFile table class ms file → IsLayout (layout_of file)
-layout-fits table class ms file h =
+layout-fits : (frames : Bool) (table : Table) (class : ClassInfo) (ms : List Member)
+    (file : ClassFile) → IsOwnFile frames table class ms file
+    → AllByRecursion (λ f. HasShortCode f.code) file.methods → IsLayout (layout_of file)
+layout-fits frames table class ms file h short =
     let entries = file.pool.entries in
     record {
       minor = omega (arith, h.minor);
       major =
-          subst (λ (n : ℕ). (n < 2 ^ 16) × IsTrue (is_version n)) (sym h.major) (omega arith, refl);
+          subst (λ (n : ℕ). (n < 2 ^ 16) × IsTrue (is_version n)) (sym h.major)
+          (version-fits frames);
       entries = h.pool;
       access = omega (arith, h.access);
       this_class = class-index entries h.pool.few file.this_class class.name h.this_class;
@@ -170,15 +179,18 @@ layout-fits table class ms file h =
         omega (
           arith,
           length-map file.methods (method_laid (least_code entries)),
-          AllZip-long (IsPut entries) ms file.methods h.methods,
+          AllZip-long (IsPut frames entries) ms file.methods h.methods,
           h.few_methods,
         ),
-        methods-fit entries h.pool.few h.code_named.0 ms file.methods h.code_named.1 h.methods,
+        methods-fit entries h.pool.few frames h.code_named.0 ms file.methods h.code_named.1
+            h.methods short,
       );
       attributes = none-fit entries h.pool.few file.attributes h.attributes;
     }
 
 -- there are bytes that spell the file
-pub file_spelled : (table : Table) (class : ClassInfo) (ms : List Member) (file : ClassFile)
-    → IsOwnFile table class ms file → (bytes : List ℕ) × Spells bytes file
-file_spelled table class ms file h = has_spelling file (layout-fits table class ms file h)
+pub file_spelled : (frames : Bool) (table : Table) (class : ClassInfo) (ms : List Member)
+    (file : ClassFile) → IsOwnFile frames table class ms file
+    → has_long_code file.methods ≡ false → (bytes : List ℕ) × Spells bytes file
+file_spelled frames table class ms file h short =
+    has_spelling file (layout-fits frames table class ms file h (all_short file.methods short))

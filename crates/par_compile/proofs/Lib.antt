@@ -4,6 +4,8 @@ pub mod Texts
 pub mod FieldFiles
 pub mod Members
 pub mod Placing
+pub mod Framed
+pub mod Long
 pub mod Bodies
 pub mod Laid
 pub mod Files

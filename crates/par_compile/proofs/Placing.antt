@@ -1,22 +1,22 @@
 -- Placed code stays what it is while the pool grows.
 use Rattle.std.proofs.Common.{◌≡◌, ℕ, ◌+◌, ◌*◌, ◌<◌, ◌^◌, Bool, true, false, List, [], ◌∷◌}
 use Rattle.std.proofs.Common.{◌++◌, length, Option, Some, None, inl, inr, refl, sym, ap, ◌∙◌}
-use Rattle.std.proofs.Common.{length-append, arith}
-use Rattle.std.specs.Prelude.{◌||◌, ◌==◌, codes, nat_lt, nat_le}
+use Rattle.std.proofs.Common.{◌≤◌, subst, length-append, arith}
+use Rattle.std.specs.Prelude.{◌||◌, ◌==◌, codes, nat_lt, nat_le, if◌then◌else◌}
 use Rattle.std.specs.List.{AllByRecursion, flat_map}
 use Rattle.std.proofs.lemmas.Bool.{false≢true, and_parts, leb-true}
 use Rattle.std.proofs.lemmas.List.{append-nil}
-use Rattle.std.proofs.lemmas.List.Elements.{All-weaker}
 use Rattle.par_instr.specs.declared.instr.Instr.TheVariants.{AloadShort, Invokespecial, Return}
 use Rattle.par_instr.specs.Spelling.{spelling}
 use Rattle.par_pool.specs.declared.constant.Constant.{Constant}
 use Rattle.par_pool.specs.Entries.{entry_at, IsMethodAt}
-use Rattle.par_pool.specs.Growth.{Adds}
+use Rattle.par_pool.specs.declared.reading.TheConstants.{LONGEST_CLASS}
 use Rattle.par_pool.specs.Spelling.{u2, is_class, is_text}
 use Rattle.par_class.specs.declared.file.Attribute.{Attribute}
 use Rattle.par_class.specs.declared.file.Catch.{Catch}
 use Rattle.par_class.specs.declared.file.CodeAttr.{CodeAttr}
-use Rattle.par_class.specs.Spelling.{catch, code, FitsAttribute, FitsCatch, FitsCode}
+use Rattle.par_class.specs.Spelling.{attribute, catch, code, FitsAttribute, FitsCatch}
+use Rattle.par_class.specs.Spelling.{FitsCode}
 use Rattle.par_typed.specs.declared.table.ClassInfo.{ClassInfo}
 use Rattle.par_code_form.specs.declared.labelled.Labelled.{Labelled}
 use Rattle.par_code_form.specs.declared.labelled.Slot.TheVariants as slot
@@ -26,35 +26,29 @@ use Rattle.par_placed_code.specs.Placed.{bytes_of, offset_of, IsWritable, IsPlac
 use Rattle.par_place.proofs.Growth.{named_kept, caught_kept, all_names_kept, all_catches_kept}
 use Rattle.par_class_form.specs.Members.{above, initializer_of}
 use Rattle.par_class_form.specs.Constants.{IsOfCode, named}
-use Rattle.par_class_form.specs.Files.{IsCode}
+use Rattle.par_class_form.specs.Files.{IsCodeWith}
+use Rattle.par_framing.specs.par_kinds.declared.frame.PlacedFrame.{PlacedFrame}
+use Rattle.par_framing.specs.par_placed_frames.Framed.{AreAttributes, frames_of}
+use Rattle.par_framing.specs.Added.{AreSized}
+use Rattle.par_compile.specs.Drafts.{AreShort, CodeFits, IsShort}
 use Rattle.par_compile.specs.Growing.{Extends, Stays, Grows, IsOneCode, IsSuperCall}
 use Rattle.par_compile.specs.Initializers.{super_attr, super_call}
 use Rattle.par_compile.proofs.Growing.{adds, at_stays, grows_as}
 
 -- ---- what code names
 
-constant-stays : (a b : List Constant) → Extends a b → (code : Labelled) (c : Constant)
+pub constant_stays : (a b : List Constant) → Extends a b → (code : Labelled) (c : Constant)
     → IsConstantOf a code c → IsConstantOf b code c
-constant-stays a b e code c (inl h) =
+constant_stays a b e code c (inl h) =
     inl (named_kept a b (length e.more) (λ _. Unit {0}) (adds a b e) code.items c h)
-constant-stays a b e code c (inr h) =
+constant_stays a b e code c (inr h) =
     inr (caught_kept a b (length e.more) (λ _. Unit {0}) (adds a b e) code.handlers c h)
-
-pub code_grows : (a b : List Constant) (few : ℕ) (code : Labelled)
-    → Adds a b few (IsConstantOf b code) → Grows (IsOneCode code) a b
-code_grows a b few code h = record {
-  more = h.more;
-  behind = h.behind;
-  parts = λ later e.
-      All-weaker (IsConstantOf b code) (IsOfCode later code)
-      (λ c x. named (constant-stays b later e code c x)) h.more h.parts;
-}
 
 -- ---- code at offsets
 
-placed-stays : (a b : List Constant) → Extends a b → (code : Labelled) (attr : CodeAttr)
+unfoldable pub placed_stays : (a b : List Constant) → Extends a b → (code : Labelled) (attr : CodeAttr)
     → IsPlaced a code attr → IsPlaced b code (record attr { attributes = [] })
-placed-stays a b e code attr h = record {
+placed_stays a b e code attr h = record {
   indices = h.indices;
   named =
       all_names_kept a b (length e.more) (λ _. Unit {0}) (adds a b e) code.items h.indices
@@ -68,10 +62,6 @@ placed-stays a b e code attr h = record {
   max_locals = h.max_locals;
   attributes = refl;
 }
-
-pub code_stays : (pool : List Constant) (code : Labelled) (attr : CodeAttr)
-    → IsPlaced pool code attr → Stays pool (λ q. IsCode q (Some code) (Some attr))
-code_stays pool code attr h = λ later e. placed-stays pool later e code attr h
 
 -- ---- code has a spelling
 
@@ -152,7 +142,7 @@ pub super_code_grows : (k : ClassInfo) (a b : List Constant) → Grows (IsSuperC
     → Grows (IsOneCode (initializer_of k)) a b
 super_code_grows k a b g =
     grows_as (IsSuperCall k.exception) (IsOneCode (initializer_of k)) a b
-    (λ q c h. super-named k.exception q c h k.name) g
+    (λ q c h. inr (super-named k.exception q c h k.name)) g
 
 whole : (index : ℕ) → (super_attr index).code ≡ flat_map bytes_of (super_call index)
 whole index =
@@ -191,16 +181,27 @@ super-placed false name q index w h = record {
   attributes = refl;
 }
 
-pub super_code_stays : (k : ClassInfo) (pool : List Constant) (index : ℕ)
+-- without frames there is no attribute
+no-frames : (frames : Bool) (q : List Constant) (code : Labelled) (fs : List PlacedFrame) → fs ≡ []
+    → AreAttributes q code (if frames then fs else []) []
+no-frames true q code fs e =
+    subst (λ (gs : List PlacedFrame). AreAttributes q code gs []) (sym e) refl
+no-frames false q code fs e = refl
+
+pub super_code_stays : (frames : Bool) (k : ClassInfo) (pool : List Constant) (index : ℕ)
     → AllByRecursion IsWritable (super_call index)
     → Stays pool (λ q. IsMethodAt q index (above k.exception) (codes "<init>") (codes "()V"))
-    → Stays pool (λ q. IsCode q (Some (initializer_of k)) (Some (super_attr index)))
-super_code_stays k pool index w s =
-    λ later e. super-placed k.exception k.name later index w (s later e)
+    → Stays pool (λ q. IsCodeWith frames q (Some (initializer_of k)) (Some (super_attr index)))
+super_code_stays frames k pool index w s =
+    λ later e. let p = super-placed k.exception k.name later index w (s later e) in record {
+      placed_ = p;
+      attributes = no-frames frames later (initializer_of k)
+          (frames_of (initializer_of k) p.indices) refl;
+    }
 
 pub super_fits : (pool : List Constant) (index : ℕ)
-    → Stays pool (λ q. FitsCode q (super_attr index))
-super_fits pool index = λ later e. record {
+    → Stays pool (λ q. CodeFits q (Some (super_attr index)))
+super_fits pool index = λ later e short. record {
   max_stack = omega arith;
   max_locals = omega arith;
   length_ = refl;
@@ -219,27 +220,48 @@ catches-long [] = refl
 catches-long (c ∷ cs) =
     omega (arith, length-append (catch c) (flat_map catch cs), catch-long c, catches-long cs)
 
-code-long : (c : CodeAttr) → c.attributes ≡ []
-    → length (code c) ≡ length c.code + 8 * length c.catches + 12
+pub attribute_long : (a : Attribute) → length (attribute a) ≡ 6 + length a.bytes
+unfolding attribute
+attribute_long a = omega arith
+
+pub code_long : (c : CodeAttr) → length (code c)
+    ≡ length c.code + 8 * length c.catches + 12 + length (flat_map attribute c.attributes)
 unfolding code
-code-long c e =
-    let bare : length (code (record c { attributes = [] }))
-    ≡ length c.code + 8 * length c.catches + 12 =
+code_long c =
+    let attributes = u2 (length c.attributes) ++ flat_map attribute c.attributes in
     omega (
       arith,
-      length-append c.code (u2 (length c.catches) ++ flat_map catch c.catches ++ (0 ∷ 0 ∷ [])),
-      length-append (flat_map catch c.catches) (0 ∷ 0 ∷ []),
+      length-append c.code (u2 (length c.catches) ++ flat_map catch c.catches ++ attributes),
+      length-append (flat_map catch c.catches) attributes,
       catches-long c.catches,
-    ) in
-    ap (λ (xs : List Attribute). length (code (record c { attributes = xs }))) e ∙ bare
+    )
 
--- code without attributes is short enough for an attribute
+-- one short attribute at most
+few-long : (attributes : List Attribute) → length attributes ≤ 1 → AreShort attributes
+    → length (flat_map attribute attributes) ≤ LONGEST_CLASS + 6
+few-long [] few short = omega arith
+few-long (a ∷ []) few short =
+    omega (arith, length-append (attribute a) [], attribute_long a, short.0)
+few-long (a ∷ b ∷ more) few short = absurd (omega (arith, few))
+
+-- code with one short attribute at most is short enough for an attribute
 pub code_short : (pool : List Constant) (attr : CodeAttr) → FitsCode pool attr
-    → attr.attributes ≡ [] → length (code attr) < 2 ^ 32
-code_short pool attr fits e =
+    → length attr.attributes ≤ 1 → AreShort attr.attributes → length (code attr) < 2 ^ 32
+code_short pool attr fits few short =
     let most = leb-true (length attr.code) 65535
     (and_parts (nat_lt 0 (length attr.code)) (nat_le (length attr.code) 65535) fits.length_).1 in
-    omega (arith, code-long attr e, fits.catches.0, most)
+    omega (
+      arith,
+      code_long attr,
+      fits.catches.0,
+      most,
+      few-long attr.attributes few short,
+    )
 
-pub super_short : (index : ℕ) → length (code (super_attr index)) < 2 ^ 32
-super_short index = omega (arith, code-long (super_attr index) refl)
+pub super_short : (index : ℕ) → IsShort (Some (super_attr index))
+super_short index = λ short. omega (arith, code_long (super_attr index))
+
+-- short attributes have few enough bytes to be written
+pub short_sized : (attributes : List Attribute) → AreShort attributes → AreSized attributes
+short_sized [] h = tt
+short_sized (a ∷ more) h = (omega (arith, h.0), short_sized more h.1)

@@ -12,6 +12,7 @@ use Rattle.par_code_form.specs.Code.{initializer}
 use Rattle.par_placed_code.specs.Named.{IsPartOf}
 use Rattle.par_class_form.specs.Members.{Member, above}
 use Rattle.par_class_form.specs.Constants.{IsOfCode, IsOfField, IsOfMember}
+use Rattle.par_framing.specs.par_placed_frames.Framed.{TABLE}
 
 -- each index keeps its entry
 pub record Extends (old new : List Constant) : Type 0 where
@@ -46,9 +47,9 @@ IsOneClass name pool c = IsClassPart pool name c
 abbrev pub IsSuperCall : Bool → List Constant → Constant → Type 0
 IsSuperCall exception pool c = IsPartOf pool (initializer (above exception)) c
 
--- what code names
+-- the name of the attribute of frames, or what code names
 abbrev pub IsOneCode : Labelled → List Constant → Constant → Type 0
-IsOneCode code pool c = IsOfCode pool code c
+IsOneCode code pool c = (c ≡ Utf8 TABLE) ⊎ IsOfCode pool code c
 
 -- the name or the descriptor of a field
 abbrev pub IsOneField : Table → FieldInfo → List Constant → Constant → Type 0
@@ -58,6 +59,7 @@ IsOneField table f pool c = IsOfField pool table f c
 abbrev pub IsOfFields : Table → List FieldInfo → List Constant → Constant → Type 0
 IsOfFields table fs pool c = (f : FieldInfo) × Contains fs f × IsOfField pool table f c
 
--- what some of these methods name
+-- the name of the attribute of frames, or what some of these methods name
 abbrev pub IsOfMembers : List Member → List Constant → Constant → Type 0
-IsOfMembers ms pool c = (m : Member) × Contains ms m × IsOfMember pool m c
+IsOfMembers ms pool c =
+    (c ≡ Utf8 TABLE) ⊎ ((m : Member) × Contains ms m × IsOfMember pool m c)

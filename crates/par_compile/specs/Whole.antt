@@ -1,21 +1,27 @@
 -- The file of a class, before anything is said of the numbers of classes.
-use Rattle.std.specs.Prelude.{◌≡◌, ℕ, ◌<◌, ◌^◌, List, [], length, codes}
-use Rattle.std.specs.List.{All, AllZip}
+use Rattle.std.specs.Prelude.{◌≡◌, ℕ, ◌<◌, ◌≤◌, ◌^◌, nat_lt, Bool, true, false, List, [], length}
+use Rattle.std.specs.Prelude.{Option, Some, None, codes}
+use Rattle.std.specs.List.{All, AllZip, list_any}
 use Rattle.par_typed.specs.declared.table.ClassInfo.{ClassInfo}
 use Rattle.par_typed.specs.declared.table.Table.{Table}
 use Rattle.par_pool.specs.Entries.{IsUtf8At, IsClassAt, IsDistinct}
 use Rattle.par_pool.specs.Spelling.{IsPool}
+use Rattle.par_pool.specs.declared.reading.TheConstants.{LONGEST_CLASS}
+use Rattle.par_class.specs.declared.file.Attribute.{Attribute}
+use Rattle.par_class.specs.declared.file.CodeAttr.{CodeAttr}
+use Rattle.par_class.specs.declared.file.MethodFile.{MethodFile}
 use Rattle.par_class.specs.declared.file.ClassFile.{ClassFile}
+use Rattle.par_class.specs.Spelling.{Spells}
 use Rattle.par_class_form.specs.Members.{Member, CLASS_ACCESS, above}
 use Rattle.par_class_form.specs.Constants.{IsConstant}
-use Rattle.par_class_form.specs.Files.{IsFieldOf}
+use Rattle.par_class_form.specs.Files.{IsFieldOf, version, written}
 use Rattle.par_compile.specs.Drafts.{IsPut}
 
--- the file of a class that has these methods
-pub record IsOwnFile (table : Table) (class : ClassInfo) (ms : List Member) (file : ClassFile)
-    : Type 0 where
+-- the file of a class that has these methods, with their frames or without them
+pub record IsOwnFile (frames : Bool) (table : Table) (class : ClassInfo) (ms : List Member)
+    (file : ClassFile) : Type 0 where
   pub minor : file.minor ≡ 0
-  pub major : file.major ≡ 49
+  pub major : file.major ≡ version frames
   pub distinct : IsDistinct file.pool.entries
   pub pool : IsPool file.pool.entries
   pub constants : All (IsConstant file.pool.entries table class ms) file.pool.entries
@@ -26,5 +32,41 @@ pub record IsOwnFile (table : Table) (class : ClassInfo) (ms : List Member) (fil
   pub few_fields : length class.fields < 2 ^ 16
   pub fields : AllZip (IsFieldOf table file.pool.entries) class.fields file.fields
   pub few_methods : length ms < 2 ^ 16
-  pub methods : AllZip (IsPut file.pool.entries) ms file.methods
+  pub methods : AllZip (IsPut frames file.pool.entries) ms file.methods
   pub attributes : file.attributes ≡ []
+
+-- the bytes spell such a file, and are few enough to be read again
+pub record IsShortFile (frames : Bool) (table : Table) (class : ClassInfo) (ms : List Member)
+    (bytes : List ℕ) : Type 0 where
+  pub file : ClassFile
+  pub is : IsOwnFile frames table class ms file
+  pub spells : Spells bytes file
+  pub short : length bytes ≤ LONGEST_CLASS
+
+-- such a file has too many bytes to be read again
+pub record IsLongFile (frames : Bool) (table : Table) (class : ClassInfo) (ms : List Member)
+    : Type 0 where
+  pub file : ClassFile
+  pub is : IsOwnFile frames table class ms file
+  pub long : LONGEST_CLASS < length (written file)
+
+-- the bytes of the file with frames, or where that is long of the one without
+pub record IsOwnBytes (table : Table) (class : ClassInfo) (ms : List Member) (bytes : List ℕ)
+    : Type 0 where
+  pub frames : Bool
+  pub is : IsShortFile frames table class ms bytes
+  pub unframed : frames ≡ false → IsLongFile true table class ms
+
+-- ---- attributes that are longer than a class file may be
+
+abbrev pub any_long : List Attribute → Bool
+any_long attributes = list_any (λ a. nat_lt LONGEST_CLASS (length a.bytes)) attributes
+
+-- whether code, if there is any, has one
+abbrev pub has_long_attribute : Option CodeAttr → Bool
+has_long_attribute None = false
+has_long_attribute (Some attr) = any_long attr.attributes
+
+-- whether the code of a method has one
+abbrev pub has_long_code : List MethodFile → Bool
+has_long_code methods = list_any (λ m. has_long_attribute m.code) methods

@@ -1,6 +1,6 @@
 //! The channels of a class's file.
 
-ghost use Rattle.std.specs.Prelude.{◌≡◌, ◌+◌, ◌*◌, ◌<◌, ◌≤◌, [], ◌∷◌, length, map, OnOk};
+ghost use Rattle.std.specs.Prelude.{◌≡◌, ◌+◌, ◌*◌, ◌<◌, ◌≤◌, [], ◌∷◌, length, map, OnOk, Bool};
 ghost use Rattle.par_pool.specs.Spelling.{IsText};
 ghost use Rattle.par_compile.specs.Drafts.{Puts};
 ghost use Rattle.par_compile.specs.Own.{channel_in, channel_kind};
@@ -30,7 +30,8 @@ fn put_channel(
     draft: &mut Draft,
 ) -> Result<(), NoMemory>
     requires { length draft.old.pool + 2 < 65535 }
-    ensures puts { OnOk result (Puts (channel_in is_input name.now ∷ []) draft.old draft.new) }
+    ensures puts { OnOk result ((frames : Bool) →
+        Puts frames (channel_in is_input name.now ∷ []) draft.old draft.new) }
     ensures few { OnOk result (length draft.new.pool ≤ length draft.old.pool + 2) }
 {
     draft.put(alloc, CHANNEL, name.bytes(), descriptor(is_input), None)?;
@@ -45,8 +46,8 @@ pub fn put_channels(
     draft: &mut Draft,
 ) -> Result<(), NoMemory>
     requires { length draft.old.pool + 2 * length names.now < 65535 }
-    ensures puts { OnOk result
-        (Puts (map (channel_in is_input) names.now) draft.old draft.new) }
+    ensures puts { OnOk result ((frames : Bool) →
+        Puts frames (map (channel_in is_input) names.now) draft.old draft.new) }
     ensures few { OnOk result
         (length draft.new.pool ≤ length draft.old.pool + 2 * length names.now) }
 {

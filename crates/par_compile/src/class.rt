@@ -1,6 +1,7 @@
 //! The file of a class.
 
 ghost use Rattle.std.specs.Prelude.{◌≡◌, IfOk};
+ghost use Rattle.par_class_form.specs.Files as files;
 ghost use Rattle.par_erase.specs.Shown.{class_info, table_of};
 ghost use Rattle.par_compile.specs.Own.{AreNamed, IsReady, own_members};
 ghost use Rattle.par_compile.specs.Whole.{IsOwnFile};
@@ -16,11 +17,23 @@ use par_lexer::list::{List, NoMemory};
 use par_pool::PoolBuilder;
 use std::alloc::Global;
 
-/// The file of a class of the program.
-pub fn class_file(alloc: Global, plain: &Plain, class: &PlainClass) -> Result<ClassFile, NoMemory>
+/// The version of a file: code of version 51 has its frames, code of version 49 asks for none.
+fn version(frames: bool) -> u16
+    ensures { result ≡ files.version frames }
+{
+    if frames { 51 } else { 49 }
+}
+
+/// The file of a class of the program, with frames or without them.
+pub fn class_file(
+    alloc: Global,
+    plain: &Plain,
+    class: &PlainClass,
+    frames: bool,
+) -> Result<ClassFile, NoMemory>
     requires named { AreNamed plain.now }
     requires ready { IsReady plain.now class.now }
-    ensures { IfOk result (IsOwnFile (table_of plain.now) (class_info class.now)
+    ensures { IfOk result (IsOwnFile frames (table_of plain.now) (class_info class.now)
         (own_members plain.now class.now)) }
 {
     let mut draft = Draft {
@@ -31,10 +44,10 @@ pub fn class_file(alloc: Global, plain: &Plain, class: &PlainClass) -> Result<Cl
     let this_class = class_index(&mut draft.pool, class.name.bytes())?;
     let super_class = class_index(&mut draft.pool, above(class.exception))?;
     let fields = field_files(alloc, plain, class.fields.as_slice(), &mut draft.pool)?;
-    put_members(alloc, plain, class, &mut draft)?;
+    put_members(alloc, plain, class, &mut draft, frames)?;
     Ok(ClassFile {
         minor: 0,
-        major: 49,
+        major: version(frames),
         pool: draft.pool.finish(),
         access: CLASS,
         this_class,

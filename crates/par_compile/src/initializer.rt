@@ -1,7 +1,7 @@
 //! The initializer of a class, which calls that of the class above.
 
 ghost use Rattle.std.specs.Prelude.{◌≡◌, ◌+◌, ◌<◌, ◌≤◌, [], ◌∷◌, ◌++◌, length, codes, IfOk, OnOk};
-ghost use Rattle.std.specs.Prelude.{IsTrue};
+ghost use Rattle.std.specs.Prelude.{IsTrue, Bool};
 ghost use Rattle.std.specs.List.{AllByRecursion};
 ghost use Rattle.par_placed_code.specs.Placed.{IsWritable};
 ghost use Rattle.par_pool.specs.Entries.{IsMethodAt};
@@ -68,8 +68,8 @@ fn super_call(alloc: Global, index: u16) -> Result<CodeAttr, NoMemory>
 /// The initializer.
 pub fn put_initializer(alloc: Global, class: &PlainClass, draft: &mut Draft) -> Result<(), NoMemory>
     requires { length draft.old.pool + 8 < 65535 }
-    ensures puts { OnOk result
-        (Puts (initializer (class_info class.now) ∷ []) draft.old draft.new) }
+    ensures puts { OnOk result ((frames : Bool) →
+        Puts frames (initializer (class_info class.now) ∷ []) draft.old draft.new) }
     ensures few { OnOk result (length draft.new.pool ≤ length draft.old.pool + 8) }
 {
     let index = super_initializer(class.exception, &mut draft.pool)?;

@@ -4,16 +4,15 @@ ghost use Rattle.std.specs.Prelude.{◌≡◌, ℕ, slice_get, Some, IfOk, OnOk,
 ghost use Rattle.std.specs.List.{All};
 ghost use Rattle.par_class_form.specs.Files.{FIRST_DECLARED};
 ghost use Rattle.par_typed.specs.Shown.{bodies};
-ghost use Rattle.par_well_typed.specs.WellTyped.{IsWellTyped};
+ghost use Rattle.par_placeable.specs.par_well_typed.WellTyped.{IsWellTyped};
 ghost use Rattle.par_erase.specs.Erased.{erased_table, erased_bodies};
 ghost use Rattle.par_erase.specs.Named as names;
 ghost use Rattle.par_erase.specs.Shown.{class_info, table_of, bodies_of};
 ghost use Rattle.par_compile.specs.Own.{AreNamed, IsReady};
 ghost use Rattle.par_compile.specs.Compiled.{IsCompiledClass, AreCompiled};
 
-use crate::class::class_file;
+use crate::bytes::class_bytes;
 use crate::compiled::CompiledClass;
-use par_class::{LONGEST_CLASS, write_class};
 use par_erase::{Plain, PlainClass, erase};
 use par_lexer::list::{List, NoMemory};
 use par_typed::program::Typed;
@@ -32,18 +31,14 @@ fn declared(plain: &Plain) -> &[PlainClass]
     }
 }
 
-/// The file of a class, few enough bytes to be read again.
+/// The file of a class, under the name of the class.
 fn compiled(alloc: Global, plain: &Plain, class: &PlainClass) -> Result<CompiledClass, NoMemory>
     requires named { AreNamed plain.now }
     requires ready { IsReady plain.now class.now }
     ensures { IfOk result (λ file. (c : ℕ) → slice_get plain.now.classes c ≡ Some class.now →
         IsCompiledClass (table_of plain.now) (bodies_of plain.now) c (class_info class.now) file) }
 {
-    let file = class_file(alloc, plain, class)?;
-    let bytes = List::wrap(write_class(alloc, &file)?);
-    if bytes.len() > LONGEST_CLASS {
-        return Err(NoMemory);
-    }
+    let bytes = class_bytes(alloc, plain, class)?;
     Ok(CompiledClass {
         name: class.name.copy(alloc)?,
         bytes,
@@ -51,7 +46,8 @@ fn compiled(alloc: Global, plain: &Plain, class: &PlainClass) -> Result<Compiled
 }
 
 /// The files of the declared classes, in the order of the source. A file that is too long to be
-/// read again is not handed out. That the limits of sources leave none so long is not proved.
+/// read again, even without frames, is not handed out. That the limits of sources leave none so
+/// long is not proved.
 pub fn compile_plain(alloc: Global, plain: &Plain) -> Result<List<CompiledClass>, NoMemory>
     requires named { AreNamed plain.now }
     requires ready { All (IsReady plain.now) (drop FIRST_DECLARED plain.now.classes) }

@@ -12,11 +12,11 @@ put-requires-clause-name c =
     subst IsText (sym c.bytes.ensures.bytes) (name_text c.args.name.now c.bytes.ensures.spelled)
 
 pub returns-clause-puts : goal.returns-clause-puts
-returns-clause-puts c =
+returns-clause-puts c = λ frames.
     let m = channel_in c.args.is_input c.args.name.now in
     let start = c.args.draft.now in
-    puts_member m None start start c.put.new.self refl
-    (grows_nothing (IsItsCode m) start.pool start.pool refl) (λ later e. tt) tt (λ later e. tt) tt
+    puts_member frames m None start start c.put.new.self refl
+    (grows_nothing (IsItsCode m) start.pool start.pool refl) (λ later e. tt) (λ later e. tt) tt
     (omega arith) refl
     (subst (λ (t : List ℕ). PutsMember 0x0109 c.args.name.now t None start c.put.new.self)
     c.descriptor.ensures.is

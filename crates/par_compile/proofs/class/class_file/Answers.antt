@@ -1,4 +1,4 @@
-use Rattle.std.proofs.Common.{List, ℕ, [], codes, map, refl, sym, subst}
+use Rattle.std.proofs.Common.{List, ℕ, [], codes, length, map, refl, sym, ap, subst, arith}
 use Rattle.std.specs.List.{AllZip}
 use Rattle.par_pool.specs.declared.constant.Constant.{Constant}
 use Rattle.par_pool.specs.Entries.{IsClassAt}
@@ -9,9 +9,9 @@ use Rattle.par_erase.specs.declared.program.PlainField.{PlainField}
 use Rattle.par_erase.specs.Shown.{field_info, table_of}
 use Rattle.par_compile.specs.declared.draft.Draft.{Draft}
 use Rattle.par_compile.specs.Growing.{Stays, Grows, IsOneText, IsOneClass, IsOfFields}
-use Rattle.par_compile.specs.Own.{methods_classes}
+use Rattle.par_compile.specs.Own.{methods_classes, class_entries}
 use Rattle.par_compile.proofs.Texts.{name_text}
-use Rattle.par_compile.proofs.Growing.{extends}
+use Rattle.par_compile.proofs.Growing.{extends, room_now}
 use Rattle.par_compile.proofs.Gathered.{class_room}
 use Rattle.par_compile.proofs.Files.{own_file}
 use Rattle.par_compile.proofs.class.class_file.Goals as goal
@@ -21,13 +21,28 @@ class-requires-clause-text c =
     subst IsText (sym c.bytes.ensures.bytes)
     (name_text c.args.class.now.name c.bytes.ensures.spelled)
 
+pub field_files-requires-clause-room : goal.field_files-requires-clause-room
+field_files-requires-clause-room c =
+    let f = c.args.frames in
+    let p = c.args.plain.now in
+    let k = c.args.class.now in
+    omega (
+      arith,
+      room_now [] (class_entries f p k) (methods_classes f p k.methods) (c.requires.ready.room f),
+      ap length c.new.ensures,
+      ap length c.as_slice.ensures,
+      c.in_ok-text.ensures.few,
+      c.in_ok-this_class.ensures.few,
+      c.in_ok-super_class.ensures.few,
+    )
+
 pub put_members-requires-clause-room : goal.put_members-requires-clause-room
 put_members-requires-clause-room c =
     let table = table_of c.args.plain.now in
     let fields = c.as_slice.result.now in
-    class_room c.args.plain.now c.args.class.now fields
-    (methods_classes c.args.plain.now c.args.class.now.methods) c.new.result c.text.new.pool
-    c.class.new.pool c.class-2.new.pool c.field_files.new.pool c.new.ensures c.as_slice.ensures
+    class_room c.args.frames c.args.plain.now c.args.class.now fields
+    (methods_classes c.args.frames c.args.plain.now c.args.class.now.methods) c.new.result
+    c.text.new.pool c.class.new.pool c.class-2.new.pool c.field_files.new.pool c.new.ensures c.as_slice.ensures
     (extends (IsOneText (codes "Code")) c.new.result c.text.new.pool c.in_ok-text.ensures.grows)
     (extends (IsOneClass c.bytes.result.now) c.text.new.pool c.class.new.pool
     c.in_ok-this_class.ensures.grows)
@@ -36,7 +51,7 @@ put_members-requires-clause-room c =
     (extends (IsOfFields table (map field_info fields)) c.class-2.new.pool c.field_files.new.pool
     c.in_ok-fields.ensures.grows)
     c.in_ok-text.ensures.few c.in_ok-this_class.ensures.few c.in_ok-super_class.ensures.few
-    c.in_ok-fields.ensures.few c.requires.ready.room
+    c.in_ok-fields.ensures.few (c.requires.ready.room c.args.frames)
 
 pub returns : goal.returns
 returns c =
@@ -51,7 +66,7 @@ returns c =
     let mid : Draft = record { pool = e; methods = c.new-2.result } in
     let file : ClassFile = record {
       minor = 0;
-      major = 49;
+      major = c.version.result;
       pool = c.finish.result;
       access = 49;
       this_class = c.in_ok-this_class.this_class;
@@ -60,8 +75,9 @@ returns c =
       methods = c.put_members.new.draft.methods;
       attributes = c.new-3.result;
     } in
-    own_file p k file start mid c.put_members.new.draft a b c.in_ok-text.field-0
-    c.bytes.result.now (methods_classes p k.methods) c.requires.ready.room refl refl refl
+    own_file c.args.frames p k file start mid c.put_members.new.draft a b c.in_ok-text.field-0
+    c.bytes.result.now (methods_classes c.args.frames p k.methods)
+    (c.requires.ready.room c.args.frames) refl c.version.ensures refl
     c.new-3.ensures c.finish.ensures.same c.finish.ensures.distinct c.finish.ensures.spelled
     (subst (λ (q : List Constant). Grows (IsOneText (codes "Code")) q a) c.new.ensures
     c.in_ok-text.ensures.grows)

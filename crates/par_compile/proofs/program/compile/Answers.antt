@@ -6,7 +6,7 @@ use Rattle.par_erase.specs.Shown.{bodies_of}
 use Rattle.par_erase.specs.Erased.{erased_table}
 use Rattle.par_erase.specs.Named.{AreNamed}
 use Rattle.par_class_form.specs.Files.{FIRST_DECLARED}
-use Rattle.par_placeable.proofs.Bodies.{all_ready}
+use Rattle.par_placeable.proofs.Bodies.{all_ready, all_named}
 use Rattle.par_placeable.proofs.Words.{words_are_texts}
 use Rattle.par_compile.specs.Compiled.{AreCompiled}
 use Rattle.par_compile.proofs.Ready.{classes_named, classes_ready}
@@ -18,7 +18,7 @@ compile_plain-requires-clause-named c =
 
 pub compile_plain-requires-clause-ready : goal.compile_plain-requires-clause-ready
 compile_plain-requires-clause-ready c =
-    classes_ready all_ready words_are_texts c.args.typed.now.table
+    classes_ready all_ready words_are_texts all_named c.args.typed.now.table
     (bodies c.args.typed.now.bodies) c.requires c.in_ok-plain.plain c.in_ok-plain.ensures.named
     c.in_ok-plain.ensures.table c.in_ok-plain.ensures.bodies FIRST_DECLARED
 

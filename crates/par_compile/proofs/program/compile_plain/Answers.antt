@@ -1,6 +1,16 @@
-use Rattle.std.proofs.Common.{[], ◌∷◌, sym, length-append, arith}
+use Rattle.std.proofs.Common.{List, [], ◌∷◌, sym, subst, length-append, arith}
+use Rattle.std.specs.List.{All}
+use Rattle.par_erase.specs.declared.program.PlainClass.{PlainClass}
+use Rattle.par_compile.specs.Own.{IsReady}
 use Rattle.par_compile.proofs.Each.{each_more, all_compiled}
 use Rattle.par_compile.proofs.program.compile_plain.Goals as goal
+
+pub compiled-requires-clause-ready : goal.compiled-requires-clause-ready
+compiled-requires-clause-ready c =
+    let ready = subst (λ (ks : List PlainClass). All (IsReady c.args.plain.now) ks)
+    (sym c.declared-classes.ensures) c.requires.ready in
+    subst (IsReady c.args.plain.now) (sym c.class-item.is)
+    (ready c.loop-class.class-index c.class-item.result c.loop-class-test.true)
 
 pub loop-class-preserved : goal.loop-class-preserved
 loop-class-preserved c = record {

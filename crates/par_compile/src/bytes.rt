@@ -1,0 +1,86 @@
+//! The bytes of a class's file.
+
+ghost use Rattle.std.specs.Prelude.{◌≡◌, false, true, IfOk, MatchOption};
+ghost use Rattle.std.specs.List.{list_any};
+ghost use Rattle.par_erase.specs.Shown.{class_info, table_of};
+ghost use Rattle.par_compile.specs.Own.{AreNamed, IsReady, own_members};
+ghost use Rattle.par_compile.specs.Whole as whole;
+ghost use Rattle.par_compile.specs.Whole.{IsShortFile, IsLongFile, IsOwnBytes};
+
+use crate::class::class_file;
+use par_class::{Attribute, LONGEST_CLASS, MethodFile, write_class};
+use par_erase::{Plain, PlainClass};
+use par_lexer::list::{List, NoMemory};
+use std::alloc::Global;
+
+/// Whether one of these is longer than a class file may be.
+fn any_long(attributes: &[Attribute]) -> bool
+    ensures { result ≡ whole.any_long attributes.now }
+{
+    attributes
+        .iter()
+        .any(|attribute| attribute.bytes.len() > LONGEST_CLASS)
+}
+
+/// Whether an attribute of a method's code is.
+fn has_long_attribute(method: &MethodFile) -> bool
+    ensures { result ≡ whole.has_long_attribute method.now.code }
+{
+    match &method.code {
+        None => false,
+        Some(attr) => any_long(attr.attributes.as_slice()),
+    }
+}
+
+/// Whether one of the methods has such code.
+fn has_long_code(methods: &[MethodFile]) -> bool
+    ensures { result ≡ whole.has_long_code methods.now }
+{
+    methods.iter().any(|method| has_long_attribute(method))
+}
+
+/// The bytes of a file with frames or without them; none where they are too many to be read again.
+fn file_bytes(
+    alloc: Global,
+    plain: &Plain,
+    class: &PlainClass,
+    frames: bool,
+) -> Result<Option<List<u8>>, NoMemory>
+    requires named { AreNamed plain.now }
+    requires ready { IsReady plain.now class.now }
+    ensures { IfOk result (λ found. MatchOption found
+        (IsLongFile frames (table_of plain.now) (class_info class.now)
+        (own_members plain.now class.now))
+        (IsShortFile frames (table_of plain.now) (class_info class.now)
+        (own_members plain.now class.now))) }
+{
+    let file = class_file(alloc, plain, class, frames)?;
+    let long = has_long_code(file.methods.as_slice());
+    if long {
+        return Ok(None);
+    }
+    let bytes = List::wrap(write_class(alloc, &file)?);
+    if bytes.len() > LONGEST_CLASS {
+        return Ok(None);
+    }
+    Ok(Some(bytes))
+}
+
+/// The bytes of the file of a class: with frames where these are few enough to be read again.
+///
+/// A file that is too long even without frames is not handed out. That the limits of sources leave
+/// none so long is not proved.
+pub fn class_bytes(alloc: Global, plain: &Plain, class: &PlainClass) -> Result<List<u8>, NoMemory>
+    requires named { AreNamed plain.now }
+    requires ready { IsReady plain.now class.now }
+    ensures { IfOk result (IsOwnBytes (table_of plain.now) (class_info class.now)
+        (own_members plain.now class.now)) }
+{
+    if let Some(bytes) = file_bytes(alloc, plain, class, true)? {
+        return Ok(bytes);
+    }
+    match file_bytes(alloc, plain, class, false)? {
+        None => Err(NoMemory),
+        Some(bytes) => Ok(bytes),
+    }
+}

@@ -1,0 +1,106 @@
+//! What the files of a program hold, and what they do not hold.
+
+use crate::sources::{bytes_at, file_at, files_of};
+use par_pool::Constant;
+use par_worked::expect;
+use std::alloc::Global;
+use std::rt::HostRuntime;
+use std::test::Fail;
+
+const SOURCE: &[u8] = b"actor alice;
+lock Shown ?bottom;
+class Bad extends Exception { }
+class Item { int f; Item me() { return this; } int take(int n) { return n; } }
+class Shop {
+  input int key();
+  output void show(int v);
+  static int got;
+  static Item item;
+  static boolean is(boolean a, Item b, int c) { return a && c < 70000; }
+  static void main() {
+    open Shown;
+    item = new Item();
+    try {
+      while (got < 3) { got = got + key(); if (got == 2) { throw new Bad(); } }
+    } catch (Bad e) {
+      when (Shown) { show(item.me().take(100000)); } else { show(-7); }
+    }
+  }
+}
+";
+
+// The files are those of the three classes, and of so many methods.
+const METHODS: &[usize] = &[1, 3, 5];
+
+#[test]
+fn files_of_a_program_are_read(rt: HostRuntime) -> Result<(), Fail> {
+    let alloc = rt.alloc();
+    let files = files_of(alloc, SOURCE)?;
+    expect(files.len() == METHODS.len(), "a file for each class")?;
+    for (place, count) in METHODS.iter().enumerate() {
+        let read = file_at(alloc, files.as_slice(), place)?;
+        expect(read.major == 51, "the version")?;
+        expect(read.methods.len() == *count, "the methods")?;
+    }
+    Ok(())
+}
+
+// Two sources that differ in policies and locks alone.
+const GUARDED: &[u8] = b"actor alice, bob;
+lock Paid;
+class Shop {
+?{alice:; bob: Paid} input int key();
+?{alice:; bob:} output void show(int v);
+?{alice:; bob:} static int got;
+static void main() !bottom {
+open Paid; show(key());
+}
+}
+";
+
+const OPEN: &[u8] = b"actor alice, bob;
+lock Paid;
+class Shop {
+?{alice:; bob:} input int key();
+?{alice:; bob:} output void show(int v);
+?{alice:; bob:} static int got;
+static void main() !bottom {
+{ } show(key());
+}
+}
+";
+
+// Whether a constant is this text.
+fn spells(constant: &Constant, text: &[u8]) -> bool {
+    match constant {
+        Constant::Utf8(bytes) => bytes.as_slice() == text,
+        _ => false,
+    }
+}
+
+#[test]
+fn no_entry_spells_an_actor_or_a_lock(rt: HostRuntime) -> Result<(), Fail> {
+    let alloc = rt.alloc();
+    let files = files_of(alloc, GUARDED)?;
+    let read = file_at(alloc, files.as_slice(), 0)?;
+    for constant in read.pool.entries.as_slice() {
+        expect(!spells(constant, b"alice"), "an actor")?;
+        expect(!spells(constant, b"bob"), "another actor")?;
+        expect(!spells(constant, b"Paid"), "a lock")?;
+    }
+    Ok(())
+}
+
+#[test]
+fn files_are_the_same_again(rt: HostRuntime) -> Result<(), Fail> {
+    let alloc = rt.alloc();
+    let first = files_of(alloc, GUARDED)?;
+    let again = files_of(alloc, GUARDED)?;
+    let open = files_of(alloc, OPEN)?;
+    let bytes = bytes_at(first.as_slice(), 0)?;
+    expect(bytes == bytes_at(again.as_slice(), 0)?, "a second time")?;
+    expect(
+        bytes == bytes_at(open.as_slice(), 0)?,
+        "other policies and locks",
+    )
+}

@@ -1,0 +1,90 @@
+//! The most classes that a program may have, and code about as long as a method may have.
+
+use crate::sources::{file_at, files_of};
+use par_compile::CompiledClass;
+use par_worked::expect;
+use std::alloc::Global;
+use std::rt::HostRuntime;
+use std::test::Fail;
+
+// 128 classes, of which the first and the last have names of their own.
+fn many(alloc: Global) -> Result<Vec<u8>, Fail> {
+    let mut source = Vec::from_slice(alloc, b"class Shop { static void main() { } }\n")?;
+    for first in b"abcdefg" {
+        for second in b"abcdefghijklmnopqr" {
+            put_class(&mut source, *first, *second)?;
+        }
+    }
+    source.extend_from_slice(b"class Last { }\n")?;
+    Ok(source)
+}
+
+fn put_class(source: &mut Vec<u8>, first: u8, second: u8) -> Result<(), Fail> {
+    source.extend_from_slice(b"class K")?;
+    source.extend_from_slice(&[first, second])?;
+    source.extend_from_slice(b" { }\n")?;
+    Ok(())
+}
+
+fn expect_name(files: &[CompiledClass], place: usize, name: &[u8]) -> Result<(), Fail> {
+    match files.get(place) {
+        None => Err(Fail::new("too few files")),
+        Some(file) => expect(file.name.bytes() == name, "the name of a file"),
+    }
+}
+
+#[test]
+fn each_of_128_classes_has_a_file(rt: HostRuntime) -> Result<(), Fail> {
+    let alloc = rt.alloc();
+    let source = many(alloc)?;
+    let files = files_of(alloc, source.as_slice())?;
+    expect(files.len() == 128, "128 files")?;
+    expect_name(files.as_slice(), 0, b"Shop")?;
+    expect_name(files.as_slice(), 1, b"Kaa")?;
+    expect_name(files.as_slice(), 127, b"Last")
+}
+
+// A loop of 31 statements, each of which turns a value 60 times: 1,929 nodes, most of which have
+// as much code as any node has.
+fn long(alloc: Global) -> Result<Vec<u8>, Fail> {
+    let mut source = Vec::from_slice(alloc, b"class Shop { static void main() {")?;
+    source.extend_from_slice(b"boolean b = false; while (b) {\n")?;
+    for _ in 0..31u32 {
+        put_turns(&mut source)?;
+    }
+    source.extend_from_slice(b"} } }\n")?;
+    Ok(source)
+}
+
+fn put_turns(source: &mut Vec<u8>) -> Result<(), Fail> {
+    source.extend_from_slice(b"b = ")?;
+    for _ in 0..60u32 {
+        source.push(b'!')?;
+    }
+    source.extend_from_slice(b"b;\n")?;
+    Ok(())
+}
+
+// Each turn has 8 bytes, and each statement two more.
+#[test]
+fn long_code_branches_far(rt: HostRuntime) -> Result<(), Fail> {
+    let alloc = rt.alloc();
+    let source = long(alloc)?;
+    let files = files_of(alloc, source.as_slice())?;
+    let shop = file_at(alloc, files.as_slice(), 0)?;
+    let Some(method) = shop.methods.get(1) else {
+        return Err(Fail::new("no method behind the initializer"));
+    };
+    let Some(attribute) = &method.code else {
+        return Err(Fail::new("a method without code"));
+    };
+    let code = attribute.code.as_slice();
+    expect(code.len() == 14_952, "the bytes of the code")?;
+    let out = Some([0x99u8, 0x3a, 0x64].as_slice());
+    expect(code.get(3..6) == out, "out of the loop, by 14,948 bytes")?;
+    let again = Some([0xa7u8, 0xc5, 0x9e].as_slice());
+    expect(
+        code.get(14_948..14_951) == again,
+        "again, by 14,946 bytes back",
+    )
+}

@@ -1,0 +1,54 @@
+//! Sources of tests, and their files.
+
+ghost use Rattle.std.specs.Prelude.{IfOk};
+ghost use Rattle.par_typed.specs.Shown.{bodies};
+ghost use Rattle.par_well_typed.specs.WellTyped.{IsWellTyped};
+
+use par_class::{ClassFile, LONGEST_CLASS, read_class};
+use par_compile::{CompiledClass, compile};
+use par_lexer::lex;
+use par_lexer::list::List;
+use par_parser::parse;
+use par_table::build;
+use par_typed::program::Typed;
+use par_typing::type_program;
+use std::alloc::Global;
+use std::test::Fail;
+
+/// The typed program of a source.
+fn typed(alloc: Global, source: &[u8]) -> Result<Typed, Fail>
+    ensures { IfOk result (λ typed. IsWellTyped typed.table (bodies typed.bodies)) }
+{
+    let tokens = lex(alloc, source)?;
+    if tokens.len() > 262_144 {
+        return Err(Fail::new("too many tokens"));
+    }
+    let program = parse(alloc, tokens.as_slice())?;
+    let table = build(alloc, &program)?;
+    let typed = type_program(alloc, table, &program)?;
+    Ok(typed)
+}
+
+/// The class files of a source.
+pub fn files_of(alloc: Global, source: &[u8]) -> Result<List<CompiledClass>, Fail> {
+    let typed = typed(alloc, source)?;
+    let files = compile(alloc, &typed)?;
+    Ok(files)
+}
+
+/// The bytes of the file at a place.
+pub fn bytes_at(files: &[CompiledClass], place: usize) -> Result<&[u8], Fail> {
+    match files.get(place) {
+        None => Err(Fail::new("too few files")),
+        Some(file) => Ok(file.bytes.as_slice()),
+    }
+}
+
+/// The file at a place, read again.
+pub fn file_at(alloc: Global, files: &[CompiledClass], place: usize) -> Result<ClassFile, Fail> {
+    let bytes = bytes_at(files, place)?;
+    if bytes.len() > LONGEST_CLASS {
+        return Err(Fail::new("a long file"));
+    }
+    Ok(read_class(alloc, bytes)?)
+}
