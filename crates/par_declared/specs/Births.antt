@@ -1,9 +1,9 @@
 -- Who sees a field of an object may learn that the object is made.
 use Rattle.std.specs.Prelude.{◌≡◌, ℕ, false, slice_get}
 use Rattle.std.specs.List.{AllByRecursion}
-use Rattle.par_typed.specs.declared.table.FieldInfo.{FieldInfo}
-use Rattle.par_typed.specs.declared.table.ClassInfo.{ClassInfo}
-use Rattle.par_typed.specs.declared.table.Table.{Table}
+use Rattle.par_rules.specs.par_typed.declared.table.FieldInfo.{FieldInfo}
+use Rattle.par_rules.specs.par_typed.declared.table.ClassInfo.{ClassInfo}
+use Rattle.par_rules.specs.par_typed.declared.table.Table.{Table}
 use Rattle.par_rules.specs.Lattice.{Seen, IsSeenBelow, seen_by}
 
 module _ (table : Table) where

@@ -1,9 +1,15 @@
 -- What later layers may ask of a table.
-use Rattle.par_typed.specs.declared.table.Table.{Table}
+use Rattle.std.specs.Prelude.{◌≤◌, length}
+use Rattle.par_rules.specs.par_typed.declared.table.ClassInfo.{ClassInfo}
+use Rattle.par_rules.specs.par_typed.declared.table.Table.{Table}
 use Rattle.par_declared.specs.Names.{AreNamesApart}
 use Rattle.par_declared.specs.Births.{AreBirthsBelow}
 use Rattle.par_declared.specs.Inferred.{AreOfFields}
 use Rattle.par_declared.specs.Policies.{ArePoliciesShared}
+
+-- the fields of the class have numbers
+abbrev pub HasFewFields : ClassInfo → Type 0
+HasFewFields c = length c.fields ≤ 65536
 
 -- Names differ, births are below the fields of objects, inferred numbers are those of fields alone,
 -- and each policy that is written stands in the table once.

@@ -1,9 +1,9 @@
 -- The numbers of inferred fields.
 use Rattle.std.specs.Prelude.{◌≡◌, ◌<◌, ℕ, false, ◌||◌, ◌&&◌, nat_eq, IsTrue, List, [], ◌∷◌, length}
 use Rattle.par_bits.specs.Sets.{Set}
-use Rattle.par_typed.specs.declared.table.FieldInfo.{FieldInfo}
-use Rattle.par_typed.specs.declared.table.ClassInfo.{ClassInfo}
-use Rattle.par_typed.specs.declared.table.Table.{Table}
+use Rattle.par_rules.specs.par_typed.declared.table.FieldInfo.{FieldInfo}
+use Rattle.par_rules.specs.par_typed.declared.table.ClassInfo.{ClassInfo}
+use Rattle.par_rules.specs.par_typed.declared.table.Table.{Table}
 use Rattle.par_rules.specs.Declares.{declares}
 
 abbrev pub inferred_among : List FieldInfo → Set

@@ -2,8 +2,8 @@
 use Rattle.std.specs.Prelude.{ℕ, ◌++◌, List, map}
 use Rattle.std.specs.List.{AllByRecursion, IsDistinct}
 use Rattle.std.specs.Str.{bytes_eq}
-use Rattle.par_typed.specs.declared.table.ClassInfo.{ClassInfo}
-use Rattle.par_typed.specs.declared.table.Table.{Table}
+use Rattle.par_rules.specs.par_typed.declared.table.ClassInfo.{ClassInfo}
+use Rattle.par_rules.specs.par_typed.declared.table.Table.{Table}
 
 -- no two of these names are equal
 abbrev pub AreApart : List (List ℕ) → Type 0

@@ -1,19 +1,28 @@
 -- The policies of a table: first those of all that is written or omitted, each once, and behind
 -- them one for each inferred field.
 use Rattle.std.specs.Prelude.{◌≡◌, ◌≢◌, ℕ, ◌+◌, ◌<◌, false, nat_lt, List, length, slice_get}
+use Rattle.std.specs.Prelude.{Option, Some, None}
 use Rattle.std.specs.Prelude.{map, filter, flat_map}
 use Rattle.std.specs.List.{AllByRecursion, range_with_len}
-use Rattle.par_policy.specs.declared.clauses.Clause.{Clause}
-use Rattle.par_policy.specs.Normal.{IsNormal}
-use Rattle.par_typed.specs.declared.table.FieldInfo.{FieldInfo}
-use Rattle.par_typed.specs.declared.table.MethodInfo.{MethodInfo}
-use Rattle.par_typed.specs.declared.table.ClassInfo.{ClassInfo}
-use Rattle.par_typed.specs.declared.table.Table.{Table}
+use Rattle.par_rules.specs.par_policy.declared.clauses.Clause.{Clause}
+use Rattle.par_rules.specs.par_policy.Normal.{IsNormal}
+use Rattle.par_rules.specs.par_typed.declared.table.GroundLock.{GroundLock}
+use Rattle.par_rules.specs.par_typed.declared.table.FieldInfo.{FieldInfo}
+use Rattle.par_rules.specs.par_typed.declared.table.MethodInfo.{MethodInfo}
+use Rattle.par_rules.specs.par_typed.declared.table.ClassInfo.{ClassInfo}
+use Rattle.par_rules.specs.par_typed.declared.table.Table.{Table}
 use Rattle.par_rules.specs.Lattice.{IsSeenBelow}
 use Rattle.par_declared.specs.Births.{seen_at}
 
 -- numbers below this one
 module _ (shared : ℕ) where
+  abbrev pub MayShare : Option ℕ → Type 0
+  MayShare None = Unit {0}
+  MayShare (Some n) = n < shared
+
+  abbrev pub LockShares : GroundLock → Type 0
+  LockShares l = MayShare l.policy
+
   abbrev pub FieldShares : FieldInfo → Type 0
   FieldShares f = f.inferred ≡ false → f.policy < shared
 
@@ -42,6 +51,7 @@ pub record ArePoliciesShared (table : Table) : Type 0 where
   -- so many are shared
   pub shared : ℕ
   pub some : 0 < shared
+  pub locks : AllByRecursion (LockShares shared) table.locks
   pub classes : AllByRecursion (ClassShares shared) table.classes
   -- the others are those of the inferred fields, one by one
   pub count : length table.policies ≡ shared + length (inferred_numbers table)

@@ -15,8 +15,8 @@ use Rattle.par_typed.specs.Plain.{Body}
 use Rattle.par_typed.proofs.First.{first_of_append, first_of_none}
 use Rattle.par_rules.specs.Lattice.{numbers}
 use Rattle.par_rules.specs.Facts.{Facts}
-use Rattle.par_checks.specs.Asked.{Check}
-use Rattle.par_checks.specs.Checks.{checks}
+use Rattle.par_infer.specs.par_checks.Asked.{Check}
+use Rattle.par_infer.specs.par_checks.Checks.{checks}
 use Rattle.par_verdict.specs.Judged.{AreRight, AreAllRight}
 use Rattle.par_verdict.specs.Told.{AreBroken}
 use Rattle.par_verdict.proofs.Told.{Goes, Noted}

@@ -1,12 +1,8 @@
 -- The inferred fields of a table, in source order, with sets by the numbers of their policies.
-use Rattle.std.specs.Prelude.{ℕ, ◌+◌, ◌≤◌, cond, List, [], ◌∷◌, ◌++◌, slice_index_or, length}
+use Rattle.std.specs.Prelude.{ℕ, ◌+◌, cond, List, [], ◌∷◌, ◌++◌, slice_index_or}
 use Rattle.par_typed.specs.declared.table.FieldInfo.{FieldInfo}
 use Rattle.par_typed.specs.declared.table.ClassInfo.{ClassInfo}
 use Rattle.par_filling.specs.declared.filling.FilledField.{FilledField}
-
--- the field has a number
-abbrev pub HasFewFields : ClassInfo → Type 0
-HasFewFields c = length c.fields ≤ 65536
 
 module _ (sets : List ℕ) where
   abbrev pub filled_field : ℕ → ℕ → FieldInfo → List FilledField

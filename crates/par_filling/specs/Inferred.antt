@@ -1,15 +1,18 @@
 -- What is found for a program with inferred fields.
-use Rattle.std.specs.Prelude.{◌≡◌, ℕ, false, IsTrue, List}
+use Rattle.std.specs.Prelude.{◌≡◌, ℕ, false, IsTrue, List, Contains}
 use Rattle.par_bits.specs.Sets.{Set}
 use Rattle.par_typed.specs.declared.table.Table.{Table}
 use Rattle.par_typed.specs.declared.program.Typed.{Typed}
 use Rattle.par_typed.specs.declared.refusal.Refusal.{Refusal}
+use Rattle.par_typed.specs.First.{broken}
 use Rattle.par_typed.specs.Plain.{Body}
 use Rattle.par_typed.specs.Shown.{bodies}
 use Rattle.par_rules.specs.Lattice.{numbers}
 use Rattle.par_rules.specs.Facts.{Facts}
 use Rattle.par_declared.specs.Inferred.{inferred}
 use Rattle.par_reached.specs.Reached.{AreLeastSets, set_at}
+use Rattle.par_infer.specs.par_checks.Asked.{Check}
+use Rattle.par_infer.specs.par_checks.Checks.{checks}
 use Rattle.par_verdict.specs.Judged.{AreAllRight}
 use Rattle.par_infer.specs.Bounds.{bounds}
 use Rattle.par_infer.specs.Filling.{Filling, IsAccepted, IsFillingBelow, join_filling}
@@ -38,12 +41,21 @@ pub record IsInferred (typed : Typed) (fields : List FilledField) : Type 0 where
   pub filled : fields ≡ filled_in sets 0 typed.table.classes
   pub accepted : AreLeastAccepted typed.table (bodies typed.bodies) (set_at sets)
 
+-- some rule on a body, at its place
+pub record IsAsked (table : Table) (bs : List Body) (r : Refusal) : Type 0 where
+  pub body : Body
+  pub there : Contains bs body
+  pub check : Check
+  pub asked : Contains (checks table body) check
+  pub is : r ≡ broken check.rule check.at
+
 -- no filling is accepted, and this is the first rule that fails with each filling that meets the
 -- bounds over such facts
 pub record IsBrokenFirst (typed : Typed) (r : Refusal) : Type 0 where
   pub facts : List (Facts numbers)
   pub right : AreAllRight typed.table (bodies typed.bodies) facts
   pub first : IsFirstAlways typed.table (bodies typed.bodies) facts r
+  pub asked : IsAsked typed.table (bodies typed.bodies) r
 
 abbrev pub IsRefused : Typed → InferError → Type 0
 IsRefused typed (Broken r) = IsBrokenFirst typed r

@@ -6,7 +6,7 @@ use Rattle.par_typed.specs.declared.refusal.Refusal.{Refusal}
 use Rattle.par_typed.specs.Plain.{Body}
 use Rattle.par_rules.specs.Lattice.{numbers}
 use Rattle.par_rules.specs.Facts.{Facts}
-use Rattle.par_checks.specs.Checks.{checks}
+use Rattle.par_infer.specs.par_checks.Checks.{checks}
 use Rattle.par_verdict.specs.Told.{AreBroken}
 use Rattle.par_infer.specs.Laws.{AreAll, KeepOthers, KeepsOther}
 use Rattle.par_infer.specs.First.{IsFirstFailed}

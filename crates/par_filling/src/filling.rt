@@ -3,7 +3,8 @@
 ghost use Rattle.std.specs.Prelude.{◌≡◌, ◌<◌, ◌≤◌, ◌++◌, ℕ, IsTrue, OnOk, IfOk, length};
 ghost use Rattle.std.specs.List.{AllByRecursion};
 ghost use Rattle.par_declared.specs.Inferred.{inferred_among, inferred_in};
-ghost use Rattle.par_filling.specs.Filled.{filled_field, filled_among, filled_in, HasFewFields};
+ghost use Rattle.par_declared.specs.Declared.{HasFewFields};
+ghost use Rattle.par_filling.specs.Filled.{filled_field, filled_among, filled_in};
 
 use par_atoms::Atoms;
 use par_lexer::list::{List, NoMemory};

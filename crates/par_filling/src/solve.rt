@@ -3,14 +3,13 @@
 ghost use Rattle.std.specs.Prelude.{◌≡◌, ◌≤◌, ℕ, false, IfOk, IfErr, OnOk, length, map};
 ghost use Rattle.std.specs.List.{AllByRecursion};
 ghost use Rattle.par_bits.specs.Sets.{has};
-ghost use Rattle.par_declared.specs.Declared.{IsWellDeclared};
+ghost use Rattle.par_declared.specs.Declared.{HasFewFields, IsWellDeclared};
 ghost use Rattle.par_declared.specs.Inferred.{inferred};
 ghost use Rattle.par_reached.specs.Reached.{AreLeastSets, set_at};
 ghost use Rattle.par_typed.specs.Shown as shown;
 ghost use Rattle.par_verdict.specs.Judged.{AreAllRight};
 ghost use Rattle.par_verdict.specs.Accepted.{IsOrderlyBody};
 ghost use Rattle.par_infer.specs.Bounds.{bounds};
-ghost use Rattle.par_filling.specs.Filled.{HasFewFields};
 ghost use Rattle.par_filling.specs.Inferred.{IsInferred, IsRefused};
 ghost use Rattle.par_filling.specs.Judged.{IsJudged};
 

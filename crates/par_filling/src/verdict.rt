@@ -8,7 +8,7 @@ ghost use Rattle.par_reached.specs.Reached.{set_at};
 ghost use Rattle.par_typed.specs.declared.refusal.Refusal.{Refusal as Told};
 ghost use Rattle.par_typed.specs.First.{first_of};
 ghost use Rattle.par_typed.specs.Shown as shown;
-ghost use Rattle.par_checks.specs.Checks.{checks};
+ghost use Rattle.par_infer.specs.par_checks.Checks.{checks};
 ghost use Rattle.par_verdict.specs.Judged.{AreAllRight};
 ghost use Rattle.par_verdict.specs.Told.{AreBroken};
 ghost use Rattle.par_infer.specs.Laws.{KeepsOther};

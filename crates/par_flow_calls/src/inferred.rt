@@ -2,7 +2,7 @@
 
 ghost use Rattle.std.specs.Prelude.{IsTrue};
 ghost use Rattle.std.specs.List.{AllByRecursion};
-ghost use Rattle.par_filling.specs.Filled.{HasFewFields};
+ghost use Rattle.par_declared.specs.Declared.{HasFewFields};
 
 use crate::typed_trees::typed;
 use par_inferred::{Filling, InferError, infer};

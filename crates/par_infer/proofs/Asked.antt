@@ -10,9 +10,10 @@ use Rattle.par_bits.specs.Sets.{Set, has, none}
 use Rattle.par_rules.specs.Lattice.{numbers}
 use Rattle.par_rules.specs.Ways.{Way}
 use Rattle.par_rules.specs.Facts.{Facts}
-use Rattle.par_checks.specs.Asked.{Condition, Open, Released, Worth, Joined, Context, Effect, Among}
-use Rattle.par_checks.specs.Asked as asked
-use Rattle.par_checks.specs.Asked.{Never}
+use Rattle.par_verdict.specs.par_checks.Asked.{Condition, Open, Released, Worth, Joined, Context}
+use Rattle.par_verdict.specs.par_checks.Asked.{Effect, Among}
+use Rattle.par_verdict.specs.par_checks.Asked as asked
+use Rattle.par_verdict.specs.par_checks.Asked.{Never}
 use Rattle.par_asked.specs.declared.check.Check.{Check}
 use Rattle.par_asked.specs.Seen.{seen_check, seen_condition}
 use Rattle.par_verdict.specs.declared.known.Known.{Known}

@@ -13,10 +13,11 @@ use Rattle.par_rules.specs.Lattice.{Seen, numbers, IsSeenBelow}
 use Rattle.par_rules.specs.Ways.{Way}
 use Rattle.par_rules.specs.Facts.{Facts}
 use Rattle.par_rules.specs.Rules.{way, Holds}
-use Rattle.par_checks.specs.Asked.{Condition, Open, Released, Worth, Joined, Context, Effect, Among}
-use Rattle.par_checks.specs.Asked.{Never, Check}
+use Rattle.par_verdict.specs.par_checks.Asked.{Condition, Open, Released, Worth, Joined, Context}
+use Rattle.par_verdict.specs.par_checks.Asked.{Effect, Among}
+use Rattle.par_verdict.specs.par_checks.Asked.{Never, Check}
 use Rattle.par_pass.specs.Seens.{given_of, join_of}
-use Rattle.par_checks.specs.Keeps.{Satisfies, Keeps}
+use Rattle.par_verdict.specs.par_checks.Keeps.{Satisfies, Keeps}
 use Rattle.par_infer.specs.Keeps.{unopened, strict, limit}
 use Rattle.par_infer.specs.Bounds.{compared, compared_at, is_at, asked_above, all_above, born_above}
 use Rattle.par_infer.specs.Bounds.{births_above}

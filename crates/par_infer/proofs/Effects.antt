@@ -9,11 +9,14 @@ use Rattle.par_typed.specs.Plain.{TExp, MayTExp, TExps, TSta, MayTSta, TStas, TC
 use Rattle.par_rules.specs.Declares.{Method, Thrown, declares}
 use Rattle.par_rules.specs.Rules.{Entry}
 use Rattle.par_rules.specs.Body.{args_past, args_tested}
-use Rattle.par_checks.specs.Asked.{Effect, Spot, Check}
-use Rattle.par_checks.specs.Checks.{exp_checks, args_checks, may_checks, sta_checks, other_checks}
-use Rattle.par_checks.specs.Checks.{stas_checks, catches_checks, arguments, called, returned, set}
-use Rattle.par_checks.specs.Checks.{locked, lock_written, throws_checks, undeclared_checks}
-use Rattle.par_checks.specs.Checks.{method_checks, checks, others, points_past}
+use Rattle.par_verdict.specs.par_checks.Asked.{Effect, Spot, Check}
+use Rattle.par_verdict.specs.par_checks.Checks.{exp_checks, args_checks, may_checks, sta_checks}
+use Rattle.par_verdict.specs.par_checks.Checks.{other_checks}
+use Rattle.par_verdict.specs.par_checks.Checks.{stas_checks, catches_checks, arguments, called}
+use Rattle.par_verdict.specs.par_checks.Checks.{returned, set}
+use Rattle.par_verdict.specs.par_checks.Checks.{locked, lock_written, throws_checks}
+use Rattle.par_verdict.specs.par_checks.Checks.{undeclared_checks}
+use Rattle.par_verdict.specs.par_checks.Checks.{method_checks, checks, others, points_past}
 use Rattle.par_declared.specs.Inferred.{inferred, AreOfFields}
 use Rattle.par_infer.proofs.Choices.{first_or_later}
 

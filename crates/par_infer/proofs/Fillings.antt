@@ -16,13 +16,13 @@ use Rattle.par_rules.specs.Declares.{declares}
 use Rattle.par_rules.specs.Closed.{IsClosed}
 use Rattle.par_pass.proofs.Instances.{in_either}
 use Rattle.par_pass.proofs.Along.{closed_along}
-use Rattle.par_checks.specs.Asked.{Check}
-use Rattle.par_checks.specs.Checks.{checks}
-use Rattle.par_checks.proofs.Monotone.{joined_more}
+use Rattle.par_verdict.specs.par_checks.Asked.{Check}
+use Rattle.par_verdict.specs.par_checks.Checks.{checks}
+use Rattle.par_verdict.proofs.par_checks.Monotone.{joined_more}
 use Rattle.par_reached.specs.Reached.{AreLeastSets, Reaches, Straight, Through}
 use Rattle.par_pass.specs.Seens.{given_of, join_of, seen_as, plain}
 use Rattle.par_infer.specs.Seens.{IsPolicy}
-use Rattle.par_checks.specs.Keeps.{Keeps}
+use Rattle.par_verdict.specs.par_checks.Keeps.{Keeps}
 use Rattle.par_infer.specs.Keeps.{limit, strict}
 use Rattle.par_declared.specs.Inferred.{inferred, inferred_among, inferred_in}
 use Rattle.par_infer.specs.Bounds.{bounds, replaced}

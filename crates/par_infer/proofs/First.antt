@@ -11,11 +11,11 @@ use Rattle.par_rules.specs.Lattice.{numbers}
 use Rattle.par_rules.specs.Facts.{Facts}
 use Rattle.par_rules.specs.Declares.{declares}
 use Rattle.par_pass.proofs.Along.{closed_along}
-use Rattle.par_checks.specs.Asked.{Check}
-use Rattle.par_checks.specs.Checks.{checks}
+use Rattle.par_verdict.specs.par_checks.Asked.{Check}
+use Rattle.par_verdict.specs.par_checks.Checks.{checks}
 use Rattle.par_reached.specs.Reached.{AreLeastSets}
 use Rattle.par_pass.specs.Seens.{given_of, seen_as, join_of}
-use Rattle.par_checks.specs.Keeps.{Keeps}
+use Rattle.par_verdict.specs.par_checks.Keeps.{Keeps}
 use Rattle.par_infer.specs.Keeps.{strict}
 use Rattle.par_declared.specs.Inferred.{inferred}
 use Rattle.par_infer.specs.Bounds.{bounds, replaced}

@@ -14,12 +14,13 @@ use Rattle.par_pass.proofs.Order.{sub_trans, union_l, union_r}
 use Rattle.std.proofs.lemmas.Bool.{and_from}
 use Rattle.par_pass.proofs.Along.{as_way, as_may, as_facts, as_all, way_lower}
 use Rattle.par_pass.proofs.Under.{AreAllLow, way_low}
-use Rattle.par_checks.specs.Asked.{Condition, Open, Released, Worth, Joined, Context, Effect, Among}
-use Rattle.par_checks.specs.Asked.{Never, Check}
-use Rattle.par_checks.proofs.Monotone.{more_open}
+use Rattle.par_verdict.specs.par_checks.Asked.{Condition, Open, Released, Worth, Joined, Context}
+use Rattle.par_verdict.specs.par_checks.Asked.{Effect, Among}
+use Rattle.par_verdict.specs.par_checks.Asked.{Never, Check}
+use Rattle.par_verdict.proofs.par_checks.Monotone.{more_open}
 use Rattle.par_pass.specs.Seens.{given_of, join_of, seen_as}
 use Rattle.par_infer.specs.Seens.{IsPolicy}
-use Rattle.par_checks.specs.Keeps.{Satisfies, Keeps}
+use Rattle.par_verdict.specs.par_checks.Keeps.{Satisfies, Keeps}
 use Rattle.par_infer.proofs.Seens.{join_order, join_more, join_below}
 use Rattle.par_pass.proofs.Instances.{stands}
 use Rattle.par_infer.proofs.Instances.{stand_for}

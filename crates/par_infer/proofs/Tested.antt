@@ -10,17 +10,18 @@ use Rattle.par_rules.specs.Ways.{Way}
 use Rattle.par_rules.specs.Facts.{Facts}
 use Rattle.par_rules.specs.Rules.{Holds}
 use Rattle.par_declared.specs.Inferred.{inferred}
-use Rattle.par_checks.specs.Asked.{Condition, Open, Released, Worth, Joined, Context, Effect, Among}
-use Rattle.par_checks.specs.Asked.{Never}
-use Rattle.par_checks.specs.Keeps.{Satisfies, Keeps}
-use Rattle.par_checks.specs.Verdict.{given}
+use Rattle.par_verdict.specs.par_checks.Asked.{Condition, Open, Released, Worth, Joined, Context}
+use Rattle.par_verdict.specs.par_checks.Asked.{Effect, Among}
+use Rattle.par_verdict.specs.par_checks.Asked.{Never}
+use Rattle.par_verdict.specs.par_checks.Keeps.{Satisfies, Keeps}
+use Rattle.par_verdict.specs.par_checks.Verdict.{given}
 use Rattle.par_asked.specs.declared.check.Check.{Check}
 use Rattle.par_asked.specs.Seen.{seen_check, seen_condition}
 use Rattle.par_verdict.specs.declared.known.Known.{Known}
 use Rattle.par_verdict.specs.Standing.{Standing, standing, stand, stands, value_of, Meets}
 use Rattle.par_verdict.specs.Spots.{at_spot}
 use Rattle.par_infer.specs.Bounds.{any_below, replaced}
-use Rattle.par_checks.specs.Asked as asked
+use Rattle.par_verdict.specs.par_checks.Asked as asked
 use Rattle.par_infer.specs.Keeps.{limit}
 use Rattle.par_infer.specs.Laws.{is_in, KeepsOther, KeepsReplaced}
 

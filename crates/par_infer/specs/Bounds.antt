@@ -10,9 +10,10 @@ use Rattle.par_rules.specs.Lattice.{numbers}
 use Rattle.par_rules.specs.Ways.{Way}
 use Rattle.par_rules.specs.Facts.{Facts}
 use Rattle.par_rules.specs.Rules.{way}
-use Rattle.par_checks.specs.Asked.{Condition, Open, Released, Worth, Joined, Context, Effect, Among}
-use Rattle.par_checks.specs.Asked.{Never, Check}
-use Rattle.par_checks.specs.Checks.{checks}
+use Rattle.par_verdict.specs.par_checks.Asked.{Condition, Open, Released, Worth, Joined, Context}
+use Rattle.par_verdict.specs.par_checks.Asked.{Effect, Among}
+use Rattle.par_verdict.specs.par_checks.Asked.{Never, Check}
+use Rattle.par_verdict.specs.par_checks.Checks.{checks}
 use Rattle.par_infer.specs.Keeps.{limit}
 
 -- ---- bounds

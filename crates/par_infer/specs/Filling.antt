@@ -9,11 +9,11 @@ use Rattle.par_rules.specs.Lattice.{Seen, IsSeenBelow, joined}
 use Rattle.par_rules.specs.Facts.{Facts}
 use Rattle.par_rules.specs.Declares.{declares}
 use Rattle.par_rules.specs.Closed.{IsClosed}
-use Rattle.par_checks.specs.Asked.{Check}
-use Rattle.par_checks.specs.Checks.{checks}
+use Rattle.par_verdict.specs.par_checks.Asked.{Check}
+use Rattle.par_verdict.specs.par_checks.Checks.{checks}
 use Rattle.par_pass.specs.Seens.{seen_as, given_of}
 use Rattle.par_infer.specs.Seens.{filled, IsPolicy}
-use Rattle.par_checks.specs.Keeps.{Keeps}
+use Rattle.par_verdict.specs.par_checks.Keeps.{Keeps}
 use Rattle.par_infer.specs.Keeps.{strict}
 use Rattle.par_declared.specs.Inferred.{inferred}
 

@@ -1,8 +1,9 @@
 -- Rules on inferred fields.
 use Rattle.std.specs.Prelude.{ℕ, cond, Option, Some, None}
 use Rattle.par_bits.specs.Sets.{Set}
-use Rattle.par_checks.specs.Asked.{Condition, Open, Released, Worth, Joined, Context, Effect, Among}
-use Rattle.par_checks.specs.Asked.{Never, Check}
+use Rattle.par_verdict.specs.par_checks.Asked.{Condition, Open, Released, Worth, Joined, Context}
+use Rattle.par_verdict.specs.par_checks.Asked.{Effect, Among}
+use Rattle.par_verdict.specs.par_checks.Asked.{Never, Check}
 
 -- at an inferred field a value is written as if no lock were open
 abbrev pub unopened : Set → Condition → Condition

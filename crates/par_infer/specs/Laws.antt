@@ -8,13 +8,13 @@ use Rattle.par_rules.specs.Lattice.{numbers, joined}
 use Rattle.par_rules.specs.Facts.{Facts}
 use Rattle.par_rules.specs.Declares.{declares}
 use Rattle.par_rules.specs.Closed.{IsClosed}
-use Rattle.par_checks.specs.Asked.{Check}
-use Rattle.par_checks.specs.Checks.{checks}
-use Rattle.par_checks.specs.Verdict.{given}
+use Rattle.par_verdict.specs.par_checks.Asked.{Check}
+use Rattle.par_verdict.specs.par_checks.Checks.{checks}
+use Rattle.par_verdict.specs.par_checks.Verdict.{given}
 use Rattle.par_verdict.specs.Judged.{AreRight, AreAllRight}
 use Rattle.par_reached.specs.Reached.{AreLeastSets}
 use Rattle.par_pass.specs.Seens.{given_of, seen_as, join_of}
-use Rattle.par_checks.specs.Keeps.{Keeps}
+use Rattle.par_verdict.specs.par_checks.Keeps.{Keeps}
 use Rattle.par_infer.specs.Keeps.{limit, strict}
 use Rattle.par_declared.specs.Inferred.{inferred, AreOfFields}
 use Rattle.par_infer.specs.Bounds.{bounds, Cover, replaced}

@@ -3,9 +3,8 @@
 ghost use Rattle.std.specs.Prelude.{◌≤◌, length, IfOk, IfErr};
 ghost use Rattle.std.specs.List.{AllByRecursion};
 ghost use Rattle.par_typed.specs.Shown as shown;
-ghost use Rattle.par_declared.specs.Declared.{IsWellDeclared};
-ghost use Rattle.par_verdict.specs.Accepted.{IsOrderlyBody};
-ghost use Rattle.par_filling.specs.Filled.{HasFewFields};
+ghost use Rattle.par_declared.specs.Declared.{HasFewFields, IsWellDeclared};
+ghost use Rattle.par_flow.specs.par_verdict.Accepted.{IsOrderlyBody};
 ghost use Rattle.par_filling.specs.Inferred.{IsInferred, IsRefused};
 
 use par_filling::{Filling, InferError};
@@ -26,4 +25,18 @@ pub fn infer(alloc: Global, typed: Typed) -> Result<Filling, InferError>
     ensures refused { IfErr result (IsRefused typed) }
 {
     par_filling::infer::<FactTable>(alloc, typed)
+}
+
+/// The same of a program that stays.
+pub fn infer_fields(alloc: Global, typed: &Typed) -> Result<Filling, InferError>
+    requires policies { length typed.now.table.policies ≤ 256 }
+    requires classes { length typed.now.table.classes ≤ 65536 }
+    requires fields { AllByRecursion HasFewFields typed.now.table.classes }
+    requires orderly { AllByRecursion (IsOrderlyBody typed.now.table)
+        (shown.bodies typed.now.bodies) }
+    requires declared { IsWellDeclared typed.now.table }
+    ensures filled { IfOk result (λ filling. IsInferred typed.now filling.fields) }
+    ensures refused { IfErr result (IsRefused typed.now) }
+{
+    par_filling::infer_fields::<FactTable>(alloc, typed)
 }

@@ -6,5 +6,5 @@
 
 mod inferred;
 
-pub use inferred::infer;
+pub use inferred::{infer, infer_fields};
 pub use par_filling::{FilledField, Filling, InferError};

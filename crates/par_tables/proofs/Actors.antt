@@ -26,11 +26,13 @@ use Rattle.par_names.specs.Methods.{field_faults, inferred_fault, channel_faults
 use Rattle.par_names.specs.Methods.{effect_faults, throw_faults, head_faults, method_faults}
 use Rattle.par_names.specs.Methods.{class_faults}
 use Rattle.par_names.specs.Program.{view_behind, declaration_faults}
-use Rattle.par_resolved.specs.Numbers.{numbers, actor_number}
-use Rattle.par_resolved.specs.Statements.{inside, in_braces, in_may_braces, in_else, in_all}
-use Rattle.par_resolved.specs.Statements.{in_catches, in_handler}
-use Rattle.par_resolved.specs.Written.{stmt_policies, method_policies, class_policies}
-use Rattle.par_resolved.specs.Written.{declaration_policies, written}
+use Rattle.par_well_typed.specs.par_resolved.Numbers.{numbers, actor_number}
+use Rattle.par_well_typed.specs.par_resolved.Statements.{inside, in_braces, in_may_braces, in_else}
+use Rattle.par_well_typed.specs.par_resolved.Statements.{in_all}
+use Rattle.par_well_typed.specs.par_resolved.Statements.{in_catches, in_handler}
+use Rattle.par_well_typed.specs.par_resolved.Written.{stmt_policies, method_policies}
+use Rattle.par_well_typed.specs.par_resolved.Written.{class_policies}
+use Rattle.par_well_typed.specs.par_resolved.Written.{declaration_policies, written}
 use Rattle.par_well_typed.proofs.Lists.{none_left, none_right, none_of, each_is, all_mapped}
 use Rattle.par_well_typed.proofs.Lists.{of_both, of_parts}
 use Rattle.par_well_typed.proofs.Unbroken.{actor_within, IsKept}

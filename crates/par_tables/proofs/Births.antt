@@ -16,18 +16,20 @@ use Rattle.par_tree.specs.Plain as plain
 use Rattle.par_tree.specs.Plain.{Class, Declaration, Source}
 use Rattle.par_typed.specs.declared.table.Table.{Table}
 use Rattle.par_names.specs.Declarations.{classes_in, declared_classes}
-use Rattle.par_resolved.specs.Sets.{met}
-use Rattle.par_resolved.specs.Policies.{Known, known, bottom, policy_of}
-use Rattle.par_resolved.specs.Written.{written, declaration_policies, class_policies}
-use Rattle.par_resolved.specs.Written.{method_policies}
-use Rattle.par_resolved.specs.Births.{policy_or_bottom, is_known_part, part_policies, meet_of}
-use Rattle.par_resolved.specs.Births.{birth_policy, is_below, birth_faults}
-use Rattle.par_resolved.specs.Numbered.{declared, numbered}
-use Rattle.par_resolved.specs.Limits.{one_too_many}
-use Rattle.par_resolved.specs.Resolved.{Resolved, resolved, field_infos, may_number, class_info}
-use Rattle.par_resolved.specs.Resolved.{class_infos, table_of}
-use Rattle.par_resolved.specs.declared.limits.TheConstants.{MOST_POLICIES}
-use Rattle.par_resolved.proofs.Normal.{normal_alike}
+use Rattle.par_well_typed.specs.par_resolved.Sets.{met}
+use Rattle.par_well_typed.specs.par_resolved.Policies.{Known, known, bottom, policy_of}
+use Rattle.par_well_typed.specs.par_resolved.Written.{written, declaration_policies, class_policies}
+use Rattle.par_well_typed.specs.par_resolved.Written.{method_policies}
+use Rattle.par_well_typed.specs.par_resolved.Births.{policy_or_bottom, is_known_part, part_policies}
+use Rattle.par_well_typed.specs.par_resolved.Births.{meet_of}
+use Rattle.par_well_typed.specs.par_resolved.Births.{birth_policy, is_below, birth_faults}
+use Rattle.par_well_typed.specs.par_resolved.Numbered.{declared, numbered}
+use Rattle.par_well_typed.specs.par_resolved.Limits.{one_too_many}
+use Rattle.par_well_typed.specs.par_resolved.Resolved.{Resolved, resolved, field_infos, may_number}
+use Rattle.par_well_typed.specs.par_resolved.Resolved.{class_info}
+use Rattle.par_well_typed.specs.par_resolved.Resolved.{class_infos, table_of}
+use Rattle.par_well_typed.specs.par_resolved.declared.limits.TheConstants.{MOST_POLICIES}
+use Rattle.par_well_typed.proofs.par_resolved.Normal.{normal_alike}
 use Rattle.par_rules.specs.Lattice.{IsSeenBelow, seen_by}
 use Rattle.par_well_typed.proofs.Lists.{none_right, none_of, each_is, of_parts}
 use Rattle.par_well_typed.proofs.Unbroken.{is_kept, table_kept}

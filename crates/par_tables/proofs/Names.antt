@@ -21,8 +21,9 @@ use Rattle.par_names.specs.Program.{view_behind, program_doubles, declarations_f
 use Rattle.par_names.specs.Program.{mains_faults, name_faults}
 use Rattle.par_names.proofs.Lookups.{map-map}
 use Rattle.par_sources.specs.Order.{Ascend, HasOwnPlaces, IsInOrder}
-use Rattle.par_resolved.specs.Resolved.{Resolved, resolved, field_infos, channel_info, method_info}
-use Rattle.par_resolved.specs.Resolved.{class_info, class_infos, table_of}
+use Rattle.par_well_typed.specs.par_resolved.Resolved.{Resolved, resolved, field_infos}
+use Rattle.par_well_typed.specs.par_resolved.Resolved.{channel_info, method_info}
+use Rattle.par_well_typed.specs.par_resolved.Resolved.{class_info, class_infos, table_of}
 use Rattle.par_well_typed.proofs.Lists.{none_left, none_right, none_of}
 use Rattle.par_well_typed.proofs.Unbroken.{names_kept, IsKeptClass, classes_kept}
 use Rattle.par_declared.specs.Names.{AreApart, HasOwnNames}

@@ -1,30 +1,38 @@
 -- The numbers of policies: shared ones first, and behind them one for each inferred field.
 use Rattle.std.proofs.Common.{◌≡◌, ℕ, zero, suc, ◌+◌, ◌<◌, ◌≤◌, Bool, true, false, cond}
-use Rattle.std.proofs.Common.{◌&&◌, List, [], ◌∷◌, ◌++◌, length, map, refl}
+use Rattle.std.proofs.Common.{◌&&◌, List, [], ◌∷◌, ◌++◌, length, map, refl, Option, Some, None}
 use Rattle.std.proofs.Common.{sym, ap, ◌∙◌, arith, ⊎_elim}
 use Rattle.std.specs.Prelude.{IsTrue, nat_eq, filter, flat_map, count_by}
 use Rattle.std.specs.Prelude.{slice_get, if◌then◌else◌}
-use Rattle.std.specs.List.{AllByRecursion, range_with_len}
+use Rattle.std.specs.List.{AllByRecursion, range_with_len, list_any}
 use Rattle.std.proofs.lemmas.Bool.{or_cases, eqb-true}
 use Rattle.std.proofs.lemmas.List.{map-append}
 use Rattle.std.proofs.lemmas.List.Elements.{filter-append}
 use Rattle.std.proofs.lemmas.List.Sums.{sum_by-cons}
+use Rattle.par_tree.specs.declared.policy.PolicyExpr.{PolicyExpr}
+use Rattle.par_tree.specs.declared.decl.LockDecl.{LockDecl}
 use Rattle.par_tree.specs.declared.decl.FieldDecl.{FieldDecl}
 use Rattle.par_tree.specs.Plain.{Method, Class, Source}
 use Rattle.par_typed.specs.declared.table.Table.{Table}
 use Rattle.par_names.specs.Declarations.{classes, declared_classes}
-use Rattle.par_resolved.specs.Policies.{known}
-use Rattle.par_resolved.specs.Numbered.{shared_policies}
-use Rattle.par_resolved.specs.Resolved.{Resolved, resolved, may_number, field_info, field_infos}
-use Rattle.par_resolved.specs.Resolved.{channel_info, param_info, throw_info, method_info}
-use Rattle.par_resolved.specs.Resolved.{class_infos, table_of}
+use Rattle.par_well_typed.specs.par_resolved.Policies.{known}
+use Rattle.par_well_typed.specs.par_resolved.Numbered.{shared_policies}
+use Rattle.par_well_typed.specs.par_resolved.Resolved.{Resolved, resolved, may_number, field_info}
+use Rattle.par_well_typed.specs.par_resolved.Resolved.{field_infos}
+use Rattle.par_well_typed.specs.par_resolved.Resolved.{channel_info, param_info, throw_info}
+use Rattle.par_well_typed.specs.par_resolved.Resolved.{method_info}
+use Rattle.par_well_typed.specs.par_resolved.Resolved.{class_infos, table_of, lock_policy}
+use Rattle.par_well_typed.specs.par_resolved.Resolved.{ground_lock, family}
+use Rattle.par_well_typed.specs.par_resolved.Resolved.{ground_locks_from}
+use Rattle.par_well_typed.specs.par_resolved.Numbers.{ground_count, choices, place_in_family}
 use Rattle.par_rules.specs.Declares.{declares, methods_of, method_of}
-use Rattle.par_well_typed.proofs.Lists.{all_mapped, of_each}
+use Rattle.par_well_typed.proofs.Lists.{all_mapped, of_each, of_both}
 use Rattle.par_well_typed.proofs.Policies.{some_shared, number_within, may_within, is_inferred}
 use Rattle.par_well_typed.proofs.Policies.{inferred_in, length-numbered}
 use Rattle.par_declared.specs.Inferred as own
 use Rattle.par_declared.specs.Inferred.{inferred, inferred_among, AreOfFields}
-use Rattle.par_declared.specs.Policies.{FieldShares, MethodShares, ClassShares}
+use Rattle.par_declared.specs.Policies.{MayShare, LockShares, FieldShares, MethodShares}
+use Rattle.par_declared.specs.Policies.{ClassShares}
 use Rattle.par_tables.specs.Laws.{InferredAreOfFields}
 
 -- ---- inferred numbers come one after the other
@@ -155,6 +163,25 @@ module _ (source : Source) where
       → AllByRecursion Q (map f xs)
   each Q f xs h =
       all_mapped (λ x. Unit {0}) Q f xs (λ x own. h x) (of_each (λ x. Unit {0}) xs (λ x. tt))
+
+  lock_shares : (b : Bool) (o : Option PolicyExpr) → MayShare shared (lock_policy r b o)
+  unfolding lock_policy
+  lock_shares true None = number_within source []
+  lock_shares false None = tt
+  lock_shares true (Some e) = number_within source _
+  lock_shares false (Some e) = number_within source _
+
+  pub locks_share : (queries : List ℕ) (first : ℕ) (ls : List LockDecl)
+      → AllByRecursion (LockShares shared) (ground_locks_from r queries first ls)
+  locks_share queries first [] = tt
+  locks_share queries first (l ∷ ls) =
+      let many = length r.known.numbers.actors in
+      of_both (LockShares shared) (family r queries l first)
+      (ground_locks_from r queries (first + ground_count many l) ls)
+      (each (LockShares shared) (ground_lock r queries l first) (choices many l.arity)
+      (λ chosen. lock_shares
+      (list_any (nat_eq (first + place_in_family many chosen)) queries) l.policy))
+      (locks_share queries (first + ground_count many l) ls)
 
   method_shares : (class : ℕ) (m : Method) → MethodShares shared (method_info r class m)
   method_shares class m = record {

@@ -19,13 +19,13 @@ use Rattle.par_policy.proofs.Seen.{same_tests}
 use Rattle.par_index.proofs.Places.{any-map}
 use Rattle.par_tree.specs.Plain.{Source}
 use Rattle.par_typed.specs.declared.table.Table.{Table}
-use Rattle.par_names.specs.Declarations.{actors, policies, classes, declared_classes}
-use Rattle.par_resolved.specs.declared.entries.Entry.{Entry}
-use Rattle.par_resolved.specs.Policies.{Known, known, nothing_known}
-use Rattle.par_resolved.specs.Numbered.{same_policy, entries, with_new, distinct}
-use Rattle.par_resolved.specs.Numbered.{shared_policies}
-use Rattle.par_resolved.specs.Resolved.{resolved, table_of}
-use Rattle.par_resolved.proofs.Normal.{normal_alike}
+use Rattle.par_names.specs.Declarations.{actors, locks, policies, classes, declared_classes}
+use Rattle.par_well_typed.specs.par_resolved.declared.entries.Entry.{Entry}
+use Rattle.par_well_typed.specs.par_resolved.Policies.{Known, known, nothing_known}
+use Rattle.par_well_typed.specs.par_resolved.Numbered.{same_policy, entries, with_new, distinct}
+use Rattle.par_well_typed.specs.par_resolved.Numbered.{shared_policies}
+use Rattle.par_well_typed.specs.par_resolved.Resolved.{resolved, query_numbers, table_of}
+use Rattle.par_well_typed.proofs.par_resolved.Normal.{normal_alike}
 use Rattle.par_rules.specs.Lattice.{IsSeenBelow, seen_by}
 use Rattle.par_well_typed.proofs.Lists.{each_is}
 use Rattle.par_well_typed.proofs.Policies.{some_shared, inferred_in, length-numbered}
@@ -38,7 +38,7 @@ use Rattle.par_tables.proofs.Lists.{all_at, in_front}
 use Rattle.par_tables.proofs.Shared.{one_policy, itself, policies_of, policies_are, bottom_stands}
 use Rattle.par_tables.proofs.Actors.{written_know}
 use Rattle.par_tables.proofs.Sound.{Sound, policies_sound}
-use Rattle.par_tables.proofs.Numbers.{classes_in_turn, classes_share}
+use Rattle.par_tables.proofs.Numbers.{classes_in_turn, locks_share, classes_share}
 
 -- ---- equal policies are the same
 
@@ -210,6 +210,8 @@ policies_shared source none =
     record {
       shared = shared source;
       some = some_shared source;
+      locks =
+          locks_share source (query_numbers (known source).numbers source) 0 (locks source);
       classes = classes_share source 0 (shared source) (classes source);
       count = omega (arith, count, whole, few);
       behind = in_turn source ∙ ap (range_with_len (shared source)) (sym count);

@@ -18,15 +18,18 @@ use Rattle.par_policy.specs.declared.clauses.Clause.{Clause}
 use Rattle.par_index.proofs.Places.{position-is_some, any-map}
 use Rattle.par_tree.specs.declared.policy.PolicyExpr.{PolicyExpr}
 use Rattle.par_tree.specs.Plain.{Class, Source}
-use Rattle.par_resolved.specs.declared.entries.Entry.{Entry}
-use Rattle.par_resolved.specs.Policies.{Known, known, bottom, policy_of}
-use Rattle.par_resolved.specs.Written.{written}
-use Rattle.par_resolved.specs.Births.{birth_policy, policy_or_bottom}
-use Rattle.par_resolved.specs.Numbered.{same_clause, same_policy, written_entry, query_entries}
-use Rattle.par_resolved.specs.Numbered.{with_entry, by_place, declared, birth_entry, entries}
-use Rattle.par_resolved.specs.Numbered.{with_new, distinct, inferred_fields, inferred_entry}
-use Rattle.par_resolved.specs.Numbered.{shared_policies, policy_number}
-use Rattle.par_resolved.specs.Resolved.{resolved, number_of, may_number, table_of}
+use Rattle.par_well_typed.specs.par_resolved.declared.entries.Entry.{Entry}
+use Rattle.par_well_typed.specs.par_resolved.Policies.{Known, known, bottom, policy_of}
+use Rattle.par_well_typed.specs.par_resolved.Written.{written}
+use Rattle.par_well_typed.specs.par_resolved.Births.{birth_policy, policy_or_bottom}
+use Rattle.par_well_typed.specs.par_resolved.Numbered.{same_clause, same_policy, written_entry}
+use Rattle.par_well_typed.specs.par_resolved.Numbered.{query_entries}
+use Rattle.par_well_typed.specs.par_resolved.Numbered.{with_entry, by_place, declared, birth_entry}
+use Rattle.par_well_typed.specs.par_resolved.Numbered.{entries}
+use Rattle.par_well_typed.specs.par_resolved.Numbered.{with_new, distinct, inferred_fields}
+use Rattle.par_well_typed.specs.par_resolved.Numbered.{inferred_entry}
+use Rattle.par_well_typed.specs.par_resolved.Numbered.{shared_policies, policy_number}
+use Rattle.par_well_typed.specs.par_resolved.Resolved.{resolved, number_of, may_number, table_of}
 use Rattle.par_tables.proofs.Lists.{all_left, all_right, all_unmapped, in_front}
 
 -- ---- equal policies

@@ -18,24 +18,33 @@ use Rattle.par_tree.specs.declared.decl.PolicyDecl.{PolicyDecl}
 use Rattle.par_tree.specs.Plain as plain
 use Rattle.par_tree.specs.Plain.{Class, Declaration, Source}
 use Rattle.par_names.specs.Declarations.{actors, locks, policies, policies_in, lock_named}
-use Rattle.par_resolved.specs.Sets.{with_lock_set, beside, placed, with_clause, normal}
-use Rattle.par_resolved.specs.Sets.{with_locks_of, joined, met}
-use Rattle.par_resolved.specs.Numbers.{numbers, actor_number}
-use Rattle.par_resolved.specs.Policies.{Known, clause_of, bottom, value_at, term_value, and_more}
-use Rattle.par_resolved.specs.Policies.{all_some, term_values, fits, join_with, join_of, value_of}
-use Rattle.par_resolved.specs.Policies.{policy_of, with_value, known_behind, nothing_known, known}
-use Rattle.par_resolved.specs.Births.{policy_or_bottom, is_known_part, part_policies, meet_of}
-use Rattle.par_resolved.specs.Births.{birth_policy}
-use Rattle.par_resolved.specs.Written.{written, queried, declaration_policies, class_policies}
-use Rattle.par_resolved.specs.Written.{method_policies}
-use Rattle.par_resolved.specs.declared.entries.Entry.{Entry}
-use Rattle.par_resolved.specs.Numbered.{same_policy, has_no_policy, written_entry, query_entries}
-use Rattle.par_resolved.specs.Numbered.{with_entry, by_place, declared, birth_entry, entries}
-use Rattle.par_resolved.specs.Numbered.{with_new, distinct, inferred_fields, inferred_entry}
-use Rattle.par_resolved.specs.Numbered.{numbered}
-use Rattle.par_resolved.specs.Resolved.{table_of}
-use Rattle.par_resolved.proofs.Normal.{normal_is}
-use Rattle.par_faults.proofs.Kept.{May, got, taken, dropped, chosen}
+use Rattle.par_well_typed.specs.par_resolved.Sets.{with_lock_set, beside, placed, with_clause}
+use Rattle.par_well_typed.specs.par_resolved.Sets.{normal}
+use Rattle.par_well_typed.specs.par_resolved.Sets.{with_locks_of, joined, met}
+use Rattle.par_well_typed.specs.par_resolved.Numbers.{numbers, actor_number}
+use Rattle.par_well_typed.specs.par_resolved.Policies.{Known, clause_of, bottom, value_at}
+use Rattle.par_well_typed.specs.par_resolved.Policies.{term_value, and_more}
+use Rattle.par_well_typed.specs.par_resolved.Policies.{all_some, term_values, fits, join_with}
+use Rattle.par_well_typed.specs.par_resolved.Policies.{join_of, value_of}
+use Rattle.par_well_typed.specs.par_resolved.Policies.{policy_of, with_value, known_behind}
+use Rattle.par_well_typed.specs.par_resolved.Policies.{nothing_known, known}
+use Rattle.par_well_typed.specs.par_resolved.Births.{policy_or_bottom, is_known_part, part_policies}
+use Rattle.par_well_typed.specs.par_resolved.Births.{meet_of}
+use Rattle.par_well_typed.specs.par_resolved.Births.{birth_policy}
+use Rattle.par_well_typed.specs.par_resolved.Written.{written, queried, declaration_policies}
+use Rattle.par_well_typed.specs.par_resolved.Written.{class_policies}
+use Rattle.par_well_typed.specs.par_resolved.Written.{method_policies}
+use Rattle.par_well_typed.specs.par_resolved.declared.entries.Entry.{Entry}
+use Rattle.par_well_typed.specs.par_resolved.Numbered.{same_policy, has_no_policy, written_entry}
+use Rattle.par_well_typed.specs.par_resolved.Numbered.{query_entries}
+use Rattle.par_well_typed.specs.par_resolved.Numbered.{with_entry, by_place, declared, birth_entry}
+use Rattle.par_well_typed.specs.par_resolved.Numbered.{entries}
+use Rattle.par_well_typed.specs.par_resolved.Numbered.{with_new, distinct, inferred_fields}
+use Rattle.par_well_typed.specs.par_resolved.Numbered.{inferred_entry}
+use Rattle.par_well_typed.specs.par_resolved.Numbered.{numbered}
+use Rattle.par_well_typed.specs.par_resolved.Resolved.{table_of}
+use Rattle.par_well_typed.proofs.par_resolved.Normal.{normal_is}
+use Rattle.par_well_typed.proofs.par_faults.Kept.{May, got, taken, dropped, chosen}
 use Rattle.std.proofs.lemmas.List.{length-map}
 use Rattle.par_well_typed.proofs.Lists.{all_mapped, of_both, of_each, of_parts, folded, ranged}
 use Rattle.par_declared.specs.Policies.{HasActors}

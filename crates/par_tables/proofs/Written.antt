@@ -8,8 +8,9 @@ use Rattle.par_tree.specs.Plain.{Class, Declaration, Source}
 use Rattle.par_typed.specs.declared.refusal.Refusal.{Refusal}
 use Rattle.par_typed.specs.First.{when}
 use Rattle.par_names.specs.Declarations.{classes_in, declared_classes}
-use Rattle.par_types.specs.Inferred.{fields_inferred, declaration_inferred, all_inferred}
-use Rattle.par_resolved.specs.Resolved.{Resolved, resolved, field_infos, class_infos}
+use Rattle.par_well_typed.specs.par_types.Inferred.{fields_inferred, declaration_inferred}
+use Rattle.par_well_typed.specs.par_types.Inferred.{all_inferred}
+use Rattle.par_well_typed.specs.par_resolved.Resolved.{Resolved, resolved, field_infos, class_infos}
 use Rattle.par_well_typed.proofs.Lists.{none_left, none_right, of_both}
 use Rattle.par_tables.specs.Laws.{FieldsAreWritten}
 

@@ -2,9 +2,9 @@
 use Rattle.std.specs.Prelude.{◌≡◌, []}
 use Rattle.par_tree.specs.Plain.{Source}
 use Rattle.par_sources.specs.Order.{IsInOrder}
-use Rattle.par_resolved.specs.Resolved.{table_of}
-use Rattle.par_faults.specs.Faults.{all_faults}
-use Rattle.par_types.specs.Inferred.{all_inferred}
+use Rattle.par_well_typed.specs.par_resolved.Resolved.{table_of}
+use Rattle.par_well_typed.specs.par_faults.Faults.{all_faults}
+use Rattle.par_well_typed.specs.par_types.Inferred.{all_inferred}
 use Rattle.par_declared.specs.Names.{AreNamesApart}
 use Rattle.par_declared.specs.Births.{AreBirthsBelow, AreFieldsWritten}
 use Rattle.par_declared.specs.Inferred.{AreOfFields}

@@ -22,10 +22,10 @@ pub fn inferred_are_of_fields()
     ensures { InferredAreOfFields }
 {}
 
-/// All that is written or omitted has one of the policies that come first in the table. These
-/// differ, and behind them each inferred field has one of its own, in the order of the fields. All
-/// are in normal form, with declared actors alone. Policy 0 is `bottom`, which all declared actors
-/// see, so it is below each of them.
+/// All that is written or omitted, of locks too, has one of the policies that come first in the
+/// table. These differ, and behind them each inferred field has one of its own, in the order of the
+/// fields. All are in normal form, with declared actors alone. Policy 0 is `bottom`, which all
+/// declared actors see, so it is below each of them.
 pub fn policies_are_shared()
     ensures { PoliciesAreShared }
 {}

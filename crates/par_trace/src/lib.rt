@@ -2,7 +2,8 @@
 //! one for the ending. It also finds the first line of the inputs that names no input channel.
 //!
 //! The crate runs nothing and reads no file: a run is handed in whole, and what is told of it is
-//! what it holds. Numbers of locks and actors that name nothing have no text.
+//! what it holds. Numbers of locks and actors that name nothing have no text. Who tells of policies
+//! spells locks and actors by it too.
 #![tactic(auto)]
 
 mod channels;
@@ -11,3 +12,4 @@ mod text;
 
 pub use channels::inputs_fit;
 pub use telling::tell_source;
+pub use text::{actor_name, add_lock};

@@ -12,7 +12,7 @@ use par_typed::table::Table;
 use std::alloc::Global;
 
 /// The name of an actor.
-fn actor_name(table: &Table, actor: u8) -> &[u8]
+pub fn actor_name(table: &Table, actor: u8) -> &[u8]
     ensures { result.now ≡ spec.actor_text table.now actor }
 {
     match table.actors.get(usize::from(actor)) {
@@ -52,7 +52,7 @@ fn add_choice(text: &mut Vec<u8>, table: &Table, actors: &[u8]) -> Result<(), No
 }
 
 /// Adds a lock.
-fn add_lock(text: &mut Vec<u8>, table: &Table, lock: u16) -> Result<(), NoMemory>
+pub fn add_lock(text: &mut Vec<u8>, table: &Table, lock: u16) -> Result<(), NoMemory>
     ensures { OnOk result (text.new.items ≡ text.old.items ++ spec.lock_text table.now lock) }
 {
     let Some(ground) = table.locks.get(usize::from(lock)) else {

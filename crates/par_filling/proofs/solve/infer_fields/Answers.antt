@@ -3,6 +3,7 @@ use Rattle.par_typed.specs.declared.table.ClassInfo.{ClassInfo}
 use Rattle.par_typed.specs.Shown.{bodies}
 use Rattle.par_reached.specs.Reached.{set_at}
 use Rattle.par_verdict.specs.Judged.{AreAllRight}
+use Rattle.par_infer.specs.First.{IsFirstFailed}
 use Rattle.par_infer.proofs.First.{first_always}
 use Rattle.par_filling.specs.Filled.{filled_in}
 use Rattle.par_filling.specs.Judged.{IsJudged}
@@ -18,14 +19,23 @@ returns-in-Some-clause-refused g c =
     let right : AreAllRight t bs fs =
     subst (λ xs. AreAllRight t bs (map F xs)) (sym c.as_slice.ensures)
     c.in_ok-facts.ensures.right in
+    let failed : IsFirstFailed t bs fs (set_at c.decide.new.sets) c.in-Some.refusal =
+    subst (IsJudged t bs fs (set_at c.decide.new.sets)) c.in-Some.is
+    c.in_ok-refusal.ensures.judged in
     record {
       facts = fs;
       right = right;
       first =
           first_always t bs fs (set_at c.decide.new.sets) c.in-Some.refusal
           c.requires.declared.inferred c.requires.policies right c.in_ok-refusal.ensures.least
-          (subst (IsJudged t bs fs (set_at c.decide.new.sets)) c.in-Some.is
-          c.in_ok-refusal.ensures.judged);
+          failed;
+      asked = record {
+        body = failed.body;
+        there = failed.there;
+        check = failed.check;
+        asked = failed.asked;
+        is = failed.is;
+      };
     }
 
 pub returns-clause-filled : goal.returns-clause-filled

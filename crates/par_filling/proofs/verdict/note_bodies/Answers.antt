@@ -4,7 +4,7 @@ use Rattle.par_typed.specs.Plain.{Body}
 use Rattle.par_typed.specs.Shown.{body, bodies}
 use Rattle.par_rules.specs.Lattice.{numbers}
 use Rattle.par_rules.specs.Facts.{Facts}
-use Rattle.par_checks.specs.Checks.{checks}
+use Rattle.par_infer.specs.par_checks.Checks.{checks}
 use Rattle.par_reached.specs.Reached.{set_at}
 use Rattle.par_verdict.specs.Told.{AreBroken}
 use Rattle.par_verdict.proofs.Told.{Goes, Noted, bodies_left, no_bodies_left, facts_left}

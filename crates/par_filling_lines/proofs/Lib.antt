@@ -1,0 +1,2 @@
+pub mod Joined
+pub use Rattle.par_told.proofs as par_told

@@ -1,0 +1,2 @@
+pub mod Texts
+pub use Rattle.par_told.specs as par_told
