@@ -8,14 +8,15 @@ use Rattle.par_rules.specs.Lattice.{numbers}
 use Rattle.par_rules.specs.Facts.{Facts}
 use Rattle.par_declared.specs.Births.{AreFieldsWritten}
 use Rattle.par_declared.specs.Declared.{IsWellDeclared}
-use Rattle.par_well_typed.specs.WellTyped.{IsWellTyped}
+use Rattle.par_secure.specs.par_well_typed.WellTyped.{IsWellTyped}
 use Rattle.par_verdict.specs.Accepted.{IsAcceptedBy}
 use Rattle.par_secrecy.specs.Subject.{Subject}
 use Rattle.par_secrecy.specs.Target.{Target}
 use Rattle.par_secrecy.specs.Shows.{Shows}
 use Rattle.par_secrecy.specs.SecureFiles.{SecureFiles}
 use Rattle.par_alike.specs.Subject.{subject}
-use Rattle.par_audit.specs.Release.{IsReleased, is_released, all_releases}
+use Rattle.par_released.specs.Released.{IsReleased, is_released}
+use Rattle.par_audit.specs.Release.{all_releases}
 use Rattle.par_audit.specs.SecureFor.{SecureFor, SecureFilesFor}
 
 -- the clauses of the actor tell whether something is a release for it

@@ -1,28 +1,16 @@
 -- The places of a program whose flow needs an open lock for an actor.
-use Rattle.std.specs.Prelude.{ℕ, Bool, false, ◌&&◌, not, nat_eq, IsTrue, List, [], ◌∷◌, ◌++◌, map}
-use Rattle.std.specs.List.{list_any, filter}
+use Rattle.std.specs.Prelude.{ℕ, Bool, false, List, [], ◌∷◌, ◌++◌, map}
+use Rattle.std.specs.List.{filter}
 use Rattle.std.specs.List.Sorted.{IsPermutation, IsNonDecreasingBy}
-use Rattle.par_policy.specs.declared.clauses.Clause.{Clause}
-use Rattle.par_policy.specs.Sees.{sees}
-use Rattle.par_bits.specs.Sets.{Set}
 use Rattle.par_typed.specs.declared.table.Table.{Table}
 use Rattle.par_typed.specs.Plain.{Body}
-use Rattle.par_rules.specs.Lattice.{numbers, joined}
+use Rattle.par_rules.specs.Lattice.{numbers}
 use Rattle.par_rules.specs.Facts.{Facts}
 use Rattle.par_checks.specs.Asked.{Condition, Released, Check}
 use Rattle.par_checks.specs.Checks.{checks}
 use Rattle.par_alike.specs.Subject.{policy_at}
+use Rattle.par_released.specs.Released.{is_released}
 use Rattle.par_audit.specs.declared.release.Release.{Release}
-
--- with some locks the actor sees the policy and not the join
-abbrev pub IsReleased : List (List Clause) → Set → List Clause → ℕ → Type 0
-IsReleased ps v q actor =
-    (locks : List ℕ) × IsTrue (sees q actor locks) × (IsTrue (joined ps v actor locks) → ⊥)
-
--- the actor does not see the join with the locks of some clause of its own
-abbrev pub is_released : List (List Clause) → Set → List Clause → ℕ → Bool
-is_released ps v q actor =
-    list_any (λ c. nat_eq c.actor actor && not (joined ps v actor c.locks)) q
 
 abbrev pub as_release : Check → Release
 as_release c = record { rule = c.rule; at = c.at }

@@ -5,10 +5,8 @@
 //! for the actor whatever locks are open. The crate finds no facts and judges no source.
 #![tactic(auto)]
 
-mod clauses;
 mod laws;
 mod release;
 
-pub use clauses::needs_lock;
 pub use laws::{clauses_decide, no_release_is_secure, shown_files_are_secure_for};
 pub use release::{Release, audit};

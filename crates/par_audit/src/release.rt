@@ -4,14 +4,15 @@ ghost use Rattle.std.specs.Prelude.{◌≡◌, ◌<◌, ◌≤◌, ◌++◌, len
 ghost use Rattle.par_typed.specs.Shown as shown;
 ghost use Rattle.par_checks.specs.Checks.{checks};
 ghost use Rattle.par_asked.specs.Seen.{seen_checks, seen_condition};
-ghost use Rattle.par_flow.specs.Table.{facts_in};
-ghost use Rattle.par_audit.specs.Release.{is_release, releases, all_releases, AreReleases};
+ghost use Rattle.par_check.specs.par_flow.Table.{facts_in};
+ghost use Rattle.par_audit.specs.Release as all;
+ghost use Rattle.par_audit.specs.Release.{is_release, all_releases, AreReleases};
 
-use crate::clauses::needs_lock;
 use par_asked::body::checks_of;
 use par_asked::check::{Check, Condition};
 use par_check::Accepted;
 use par_lexer::list::{List, NoMemory};
+use par_released::Releases;
 use par_typed::program::TBody;
 use par_typed::table::Table;
 use par_verdict::known::KnownFacts;
@@ -25,39 +26,43 @@ pub struct Release {
 }
 
 /// Whether what the condition asks is a release for the actor.
-fn is_release<F: KnownFacts>(table: &Table, facts: &F, condition: Condition<'_>, actor: u8) -> bool
-    requires { length table.now.policies ≤ 256 }
-    ensures { result ≡ is_release table.now actor (F.facts facts.now)
+fn is_release<F: KnownFacts>(
+    table: &Table,
+    releases: &mut Releases<'_>,
+    facts: &F,
+    condition: Condition<'_>,
+) -> bool
+    requires policies { length table.now.policies ≤ 256 }
+    requires asked { releases.old.0 ≡ table.now.policies }
+    ensures stands { releases.new ≡ releases.old }
+    ensures released { result ≡ is_release table.now releases.old.1 (F.facts facts.now)
         (seen_condition condition.entry) }
 {
     let Condition::Released(value, policy) = condition else {
         return false;
     };
-    match table.policies.get(usize::from(policy)) {
-        None => false,
-        Some(policy) => needs_lock(
-            table.policies.as_slice(),
-            &facts.value(value),
-            policy,
-            actor,
-        ),
+    if usize::from(policy) >= table.policies.len() {
+        return false;
     }
+    releases.is_released(&facts.value(value), policy)
 }
 
 /// Notes those of a list of rules.
 fn note_releases<F: KnownFacts>(
     table: &Table,
+    releases: &mut Releases<'_>,
     facts: &F,
     asked: &[Check<'_>],
-    actor: u8,
     found: &mut Vec<Release>,
 ) -> Result<(), NoMemory>
-    requires { length table.now.policies ≤ 256 }
-    ensures { OnOk result (found.new.items ≡ found.old.items
-        ++ releases table.now actor (F.facts facts.now) (seen_checks asked.now)) }
+    requires policies { length table.now.policies ≤ 256 }
+    requires asked { releases.old.0 ≡ table.now.policies }
+    ensures stands { releases.new ≡ releases.old }
+    ensures noted { OnOk result (found.new.items ≡ found.old.items
+        ++ all.releases table.now releases.old.1 (F.facts facts.now) (seen_checks asked.now)) }
 {
     for check in asked {
-        if is_release(table, facts, check.condition, actor) {
+        if is_release(table, releases, facts, check.condition) {
             found.push(Release {
                 rule: check.rule,
                 at: check.at,
@@ -71,19 +76,21 @@ fn note_releases<F: KnownFacts>(
 fn note_body<F: KnownFacts>(
     alloc: Global,
     table: &Table,
+    releases: &mut Releases<'_>,
     facts: &F,
     body: &TBody,
-    actor: u8,
     found: &mut Vec<Release>,
 ) -> Result<(), NoMemory>
     requires policies { length table.now.policies ≤ 256 }
     requires classes { length table.now.classes ≤ 65536 }
-    ensures { OnOk result (found.new.items ≡ found.old.items
-        ++ releases table.now actor (F.facts facts.now)
+    requires asked { releases.old.0 ≡ table.now.policies }
+    ensures stands { releases.new ≡ releases.old }
+    ensures noted { OnOk result (found.new.items ≡ found.old.items
+        ++ all.releases table.now releases.old.1 (F.facts facts.now)
         (checks table.now (shown.body body.now))) }
 {
     let asked = checks_of(alloc, table, body)?;
-    note_releases(table, facts, asked.as_slice(), actor, found)
+    note_releases(table, releases, facts, asked.as_slice(), found)
 }
 
 /// Those of all bodies, one body after another.
@@ -94,10 +101,11 @@ fn releases_of(alloc: Global, accepted: &Accepted, actor: u8) -> Result<Vec<Rele
         (shown.bodies accepted.now.typed.bodies) (map facts_in accepted.now.facts)) }
 {
     let typed = accepted.typed();
+    let mut releases = Releases::of(alloc, typed.table.policies.as_slice(), actor)?;
     let mut found = Vec::new(alloc);
     for (place, body) in typed.bodies.as_slice().iter().enumerate() {
         let facts = accepted.facts(place as u16);
-        note_body(alloc, &typed.table, facts, body, actor, &mut found)?;
+        note_body(alloc, &typed.table, &mut releases, facts, body, &mut found)?;
     }
     Ok(found)
 }

@@ -2,7 +2,7 @@ use Rattle.std.proofs.Common.{List, map, rules, sym, subst}
 use Rattle.std.specs.List.Sorted.{IsPermutation}
 use Rattle.std.proofs.lemmas.List.Sorted.{IsNonDecreasingBy-from_sort_by_key}
 use Rattle.par_typed.specs.Shown.{bodies}
-use Rattle.par_flow.specs.Table.{facts_in}
+use Rattle.par_check.specs.par_flow.Table.{facts_in}
 use Rattle.par_audit.specs.declared.release.Release.{Release}
 use Rattle.par_audit.specs.Release.{all_releases, AreReleases}
 use Rattle.par_audit.proofs.release.audit.Goals as goal
