@@ -1,10 +1,11 @@
 //! The whole source.
 
-ghost use Rattle.std.specs.Prelude.{◌≡◌, IfOk};
+ghost use Rattle.std.specs.Prelude.{◌≡◌, ◌≤◌, IfOk, length};
 ghost use Rattle.par_sample.specs.Source.{source};
 
 use crate::classes::add_class;
 use crate::numbers::Numbers;
+use par_lexer::LONGEST_SOURCE;
 use par_lexer::list::NoMemory;
 use std::alloc::Global;
 
@@ -23,7 +24,8 @@ static void main() !bottom { open Paid; show(G0.m0(key())); }
 /// The source that is made of this number: about 133,000 bytes. The same number always gives the
 /// same text.
 pub fn sample(alloc: Global, n: u64) -> Result<Vec<u8>, NoMemory>
-    ensures { IfOk result (λ text. text.items ≡ source n) }
+    ensures made { IfOk result (λ text. text.items ≡ source n) }
+    ensures short { IfOk result (λ text. length text.items ≤ LONGEST_SOURCE) }
 {
     let mut text = String::from_str(alloc, OPENING)?;
     let mut numbers = Numbers::behind(n);

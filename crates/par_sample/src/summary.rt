@@ -3,8 +3,7 @@
 ghost use Rattle.std.specs.Prelude.{◌≡◌, IfOk, string_bytes};
 ghost use Rattle.par_sample.specs.Summary.{summary_line};
 
-use par_lexer::list::NoMemory;
-use std::alloc::Global;
+use std::alloc::{AllocError, Global};
 
 /// What is told of a sample once it is accepted.
 #[derive(Clone, Copy)]
@@ -23,7 +22,7 @@ pub struct Summary {
 
 impl Summary {
     /// Its line, with its end.
-    pub fn line(&self, alloc: Global) -> Result<String, NoMemory>
+    pub fn line(&self, alloc: Global) -> Result<String, AllocError>
         ensures { IfOk result (λ line. string_bytes line ≡ summary_line self.now) }
     {
         let Summary {
@@ -33,8 +32,8 @@ impl Summary {
             nodes,
             files,
         } = *self;
-        Ok(format!(in alloc;
+        format!(in alloc;
             "sample {number} classes {classes} methods {methods} nodes {nodes} accepted {files}\n"
-        )?)
+        )
     }
 }

@@ -14,7 +14,8 @@ use Rattle.clap.specs.declared.parser.matches.Found.{Found}
 use Rattle.clap.proofs.WalkLemmas.{first_value-rows}
 use Rattle.par_words.specs.declared.words.Which.{Which}
 use Rattle.par_words.specs.declared.words.Which.TheVariants.{Compiler, Runner}
-use Rattle.par_words.specs.Commands.{Text, command_of, IsTaken, rows, has_flag}
+use Rattle.par_words.specs.declared.commands.Flag.{Flag}
+use Rattle.par_words.specs.Commands.{Text, command_of, name_of, IsTaken, rows, has_flag}
 
 -- both commands are simple, and no argument has a rule on another
 simple : (which : Which) → is_simple (command_of which) ≡ true
@@ -50,8 +51,8 @@ module _ (which : Which) (a : App) (is : a ≡ command_of which) (words : List T
       ]
 
 -- whether a flag was found, by its first value
-pub flag_so : (name : Text) (f : Found) (o : Option Text) → o ≡ first_value f name
-    → option_map_or (λ text. bytes_eq text (codes "true")) o false ≡ has_flag name (rows_of f)
-flag_so name f o is =
+pub flag_so : (flag : Flag) (f : Found) (o : Option Text) → o ≡ first_value f (name_of flag)
+    → option_map_or (λ text. bytes_eq text (codes "true")) o false ≡ has_flag (rows_of f) flag
+flag_so flag f o is =
     ap (λ (x : Option Text). option_map_or (λ text. bytes_eq text (codes "true")) x false)
-    (is ∙ first_value-rows f name)
+    (is ∙ first_value-rows f (name_of flag))

@@ -1,6 +1,6 @@
 -- The programs' words, as those of one simple command each, and what such a command makes of them.
-use Rattle.std.specs.Prelude.{◌≡◌, ℕ, Bool, true, false, List, [], Some, codes}
-use Rattle.std.specs.Prelude.{unwrap_or, map, string_bytes}
+use Rattle.std.specs.Prelude.{◌≡◌, ℕ, Bool, true, false, List, [], ◌∷◌, Some, codes}
+use Rattle.std.specs.Prelude.{unwrap_or, map, filter, fold, string_bytes}
 use Rattle.std.specs.Option.{option_map_or}
 use Rattle.std.specs.Str.{bytes_eq}
 use Rattle.std.specs.declared.string.String.{String}
@@ -11,11 +11,31 @@ use Rattle.clap.specs.Simple.{on_top}
 use Rattle.clap.specs.declared.builder.action.ArgAction.TheVariants.{Append, SetTrue}
 use Rattle.par_words.specs.declared.words.Which.{Which}
 use Rattle.par_words.specs.declared.words.Which.TheVariants.{Compiler, Runner}
+use Rattle.par_words.specs.declared.commands.Flag.{Flag}
+use Rattle.par_words.specs.declared.commands.Flag.TheVariants.{Check, Trace, Audit, Infer, Sample}
+use Rattle.par_words.specs.declared.commands.Flag.TheVariants.{Verify}
 
 abbrev pub Text : Type 0
 Text = List ℕ
 
 -- ---- the commands
+
+abbrev pub name_of : Flag → Text
+name_of Check = codes "check"
+name_of Trace = codes "trace"
+name_of Audit = codes "audit"
+name_of Infer = codes "infer"
+name_of Sample = codes "sample"
+name_of Verify = codes "verify"
+
+-- the flags of a program
+abbrev pub flags_of : Which → List Flag
+flags_of Compiler = Check ∷ Trace ∷ Audit ∷ Infer ∷ Sample ∷ []
+flags_of Runner = Verify ∷ []
+
+abbrev pub program_of : Which → Text
+program_of Compiler = codes "paragonc"
+program_of Runner = codes "paragon"
 
 -- the flag of a name, as `--check`
 abbrev pub flag : Text → Rule
@@ -40,20 +60,12 @@ bare name =
     })
     (new_app name)
 
-abbrev pub compiler : App
-compiler =
-    with_rule
-    (with_rule
-    (with_rule (with_rule (bare (codes "paragonc")) (flag (codes "check"))) (flag (codes "trace")))
-    (flag (codes "audit")))
-    values_rule
-
-abbrev pub runner : App
-runner = with_rule (bare (codes "paragon")) values_rule
+-- a command that has these flags too
+abbrev pub with_flags : App → List Flag → App
+with_flags app flags = fold (λ (a : App) f. with_rule a (flag (name_of f))) app flags
 
 abbrev pub command_of : Which → App
-command_of Compiler = compiler
-command_of Runner = runner
+command_of which = with_rule (with_flags (bare (program_of which)) (flags_of which)) values_rule
 
 -- ---- what they make of words
 
@@ -72,7 +84,11 @@ rows which words = matches_of (command_of which) words
 abbrev pub values : List Row → List Text
 values found = unwrap_or (all_of (codes "values") found) []
 
--- whether the flag of a name is among the words
-abbrev pub has_flag : Text → List Row → Bool
-has_flag name found =
-    option_map_or (λ text. bytes_eq text (codes "true")) (first_of name found) false
+-- whether a flag is among the words
+abbrev pub has_flag : List Row → Flag → Bool
+has_flag found flag =
+    option_map_or (λ text. bytes_eq text (codes "true")) (first_of (name_of flag) found) false
+
+-- the flags among the words
+abbrev pub set_flags : Which → List Row → List Flag
+set_flags which found = filter (has_flag found) (flags_of which)

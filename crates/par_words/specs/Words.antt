@@ -1,5 +1,5 @@
 -- The words behind a program's name, and what they ask for.
-use Rattle.std.specs.Prelude.{◌≡◌, ℕ, ◌≤◌, Bool, true, false, List, [], ◌∷◌, Some, codes}
+use Rattle.std.specs.Prelude.{◌≡◌, ℕ, ◌≤◌, List, [], ◌∷◌, Some}
 use Rattle.std.specs.declared.string.String.{String}
 use Rattle.std.specs.declared.alloc.Global.{Global}
 use Rattle.par_lexer.specs.Names.{IsName}
@@ -7,7 +7,9 @@ use Rattle.par_inputs.specs.Numbers.{magnitude_of}
 use Rattle.clap.specs.Words.{Row}
 use Rattle.par_words.specs.declared.words.Which.{Which}
 use Rattle.par_words.specs.declared.words.Which.TheVariants.{Compiler, Runner}
-use Rattle.par_words.specs.Commands.{Text, texts, IsTaken, rows, values, has_flag}
+use Rattle.par_words.specs.declared.commands.Flag.{Flag}
+use Rattle.par_words.specs.declared.commands.Flag.TheVariants as flag
+use Rattle.par_words.specs.Commands.{Text, texts, IsTaken, rows, values, set_flags}
 
 -- what words ask for
 pub data Wanted : Type 0 where
@@ -19,6 +21,12 @@ pub data Wanted : Type 0 where
   Trace : (file inputs : Text) → (bound : ℕ) → Wanted
   -- to audit a source for an actor
   Audit : (actor file : Text) → Wanted
+  -- to infer the policies that a source leaves open
+  Infer : (file : Text) → Wanted
+  -- to judge and compile the source that is made of a number
+  Sample : (number : ℕ) → Wanted
+  -- to verify the class files of a class and of all that it names
+  Verify : (main : Text) → Wanted
   -- to run a class on an input file, at most so many instructions
   Run : (main inputs : Text) → (steps : ℕ) → Wanted
 
@@ -30,95 +38,90 @@ most_steps = 1000000000
 abbrev pub most_bound : ℕ
 most_bound = 10000000
 
+-- the greatest number of which a source is made
+abbrev pub most_sample : ℕ
+most_sample = 18446744073709551615
+
 -- some bytes write a number from 1 to the greatest
 abbrev pub Counts : (most : ℕ) → Text → ℕ → Type 0
 Counts most text n = (magnitude_of most text ≡ Some n) × (1 ≤ n)
 
--- a name, a file and a number
-pub record AreRun (first second third main inputs : Text) (steps : ℕ) : Type 0 where
-  pub main_is : first ≡ main
-  pub name : IsName main
-  pub inputs_are : second ≡ inputs
-  pub number : Counts most_steps third steps
+-- ---- what values ask for
 
--- three values ask for a run
-abbrev pub AskRun : (first second third : Text) → Wanted → Type 0
-AskRun first second third (Run main inputs steps) = AreRun first second third main inputs steps
-AskRun first second third _ = ⊥
+-- a name, a file and a number
+pub record AskRun (main inputs third : Text) (w : Wanted) : Type 0 where
+  pub steps : ℕ
+  pub number : Counts most_steps third steps
+  pub name : IsName main
+  pub is : w ≡ Run main inputs steps
 
 -- two files and a number
-pub record AreTraced (first second third file inputs : Text) (bound : ℕ) : Type 0 where
-  pub file_is : first ≡ file
-  pub inputs_are : second ≡ inputs
+pub record AskTrace (file inputs third : Text) (w : Wanted) : Type 0 where
+  pub bound : ℕ
   pub number : Counts most_bound third bound
-
--- three values ask for the run of a source
-abbrev pub AskTrace : (first second third : Text) → Wanted → Type 0
-AskTrace first second third (Trace file inputs bound) =
-    AreTraced first second third file inputs bound
-AskTrace first second third _ = ⊥
+  pub is : w ≡ Trace file inputs bound
 
 -- a name and a file
-pub record AreAudited (first second actor file : Text) : Type 0 where
-  pub actor_is : first ≡ actor
+pub record AskAudit (actor file : Text) (w : Wanted) : Type 0 where
   pub name : IsName actor
-  pub file_is : second ≡ file
+  pub is : w ≡ Audit actor file
 
--- two values ask for an audit
-abbrev pub AskAudit : (first second : Text) → Wanted → Type 0
-AskAudit first second (Audit actor file) = AreAudited first second actor file
-AskAudit first second _ = ⊥
+-- a number from 0 on
+pub record AskSample (text : Text) (w : Wanted) : Type 0 where
+  pub of : ℕ
+  pub number : magnitude_of most_sample text ≡ Some of
+  pub is : w ≡ Sample of
 
--- a file is checked where `--check` is there, and compiled where it is not
-abbrev pub AskSource : (checked : Bool) → Text → Wanted → Type 0
-AskSource true text (Check file) = text ≡ file
-AskSource false text (Compile file) = text ≡ file
-AskSource checked text _ = ⊥
+-- a name
+pub record AskVerify (main : Text) (w : Wanted) : Type 0 where
+  pub name : IsName main
+  pub is : w ≡ Verify main
 
--- `--check FILE` or `FILE`
-abbrev pub IsSource : (checked : Bool) → (values : List Text) → Wanted → Type 0
-IsSource checked [] w = ⊥
-IsSource checked (file ∷ []) w = AskSource checked file w
-IsSource checked (file ∷ another ∷ more) w = ⊥
+-- just so many values, of which something is asked
+abbrev pub OfOne : (Text → Wanted → Type 0) → (values : List Text) → Wanted → Type 0
+OfOne asks [] w = ⊥
+OfOne asks (first ∷ []) w = asks first w
+OfOne asks (first ∷ second ∷ more) w = ⊥
 
--- `--trace FILE INPUTS BOUND`
-abbrev pub IsTrace : (values : List Text) → Wanted → Type 0
-IsTrace [] w = ⊥
-IsTrace (first ∷ []) w = ⊥
-IsTrace (first ∷ second ∷ []) w = ⊥
-IsTrace (first ∷ second ∷ third ∷ []) w = AskTrace first second third w
-IsTrace (first ∷ second ∷ third ∷ fourth ∷ more) w = ⊥
+abbrev pub OfTwo : (Text → Text → Wanted → Type 0) → (values : List Text) → Wanted → Type 0
+OfTwo asks [] w = ⊥
+OfTwo asks (first ∷ []) w = ⊥
+OfTwo asks (first ∷ second ∷ []) w = asks first second w
+OfTwo asks (first ∷ second ∷ third ∷ more) w = ⊥
 
--- `--audit ACTOR FILE`
-abbrev pub IsAudit : (values : List Text) → Wanted → Type 0
-IsAudit [] w = ⊥
-IsAudit (first ∷ []) w = ⊥
-IsAudit (first ∷ second ∷ []) w = AskAudit first second w
-IsAudit (first ∷ second ∷ third ∷ more) w = ⊥
+abbrev pub OfThree : (Text → Text → Text → Wanted → Type 0) → (values : List Text) → Wanted → Type 0
+OfThree asks [] w = ⊥
+OfThree asks (first ∷ []) w = ⊥
+OfThree asks (first ∷ second ∷ []) w = ⊥
+OfThree asks (first ∷ second ∷ third ∷ []) w = asks first second third w
+OfThree asks (first ∷ second ∷ third ∷ fourth ∷ more) w = ⊥
 
--- at most one of the compiler's flags is set
-abbrev pub IsCompiler : (checked traced audited : Bool) → (values : List Text) → Wanted → Type 0
-IsCompiler checked false false values w = IsSource checked values w
-IsCompiler false true false values w = IsTrace values w
-IsCompiler false false true values w = IsAudit values w
-IsCompiler true true audited values w = ⊥
-IsCompiler true false true values w = ⊥
-IsCompiler false true true values w = ⊥
+-- ---- the forms
 
--- `MAIN INPUTS STEPS`
-abbrev pub IsRun : (values : List Text) → Wanted → Type 0
-IsRun [] w = ⊥
-IsRun (first ∷ []) w = ⊥
-IsRun (first ∷ second ∷ []) w = ⊥
-IsRun (first ∷ second ∷ third ∷ []) w = AskRun first second third w
-IsRun (first ∷ second ∷ third ∷ fourth ∷ more) w = ⊥
+-- `FILE` of the compiler, `MAIN INPUTS STEPS` of the machine
+abbrev pub IsPlain : Which → (values : List Text) → Wanted → Type 0
+IsPlain Compiler values w = OfOne (λ file v. v ≡ Compile file) values w
+IsPlain Runner values w = OfThree AskRun values w
+
+-- `--check FILE`, `--trace FILE INPUTS BOUND`, `--audit ACTOR FILE`, `--infer FILE`, `--sample N`
+-- and `--verify MAIN`
+abbrev pub IsFlagged : Flag → (values : List Text) → Wanted → Type 0
+IsFlagged flag.Check values w = OfOne (λ file v. v ≡ Check file) values w
+IsFlagged flag.Trace values w = OfThree AskTrace values w
+IsFlagged flag.Audit values w = OfTwo AskAudit values w
+IsFlagged flag.Infer values w = OfOne (λ file v. v ≡ Infer file) values w
+IsFlagged flag.Sample values w = OfOne AskSample values w
+IsFlagged flag.Verify values w = OfOne AskVerify values w
+
+-- at most one flag is set
+abbrev pub IsSet : Which → (flags : List Flag) → (values : List Text) → Wanted → Type 0
+IsSet which [] values w = IsPlain which values w
+IsSet which (flag ∷ []) values w = IsFlagged flag values w
+IsSet which (flag ∷ another ∷ more) values w = ⊥
 
 -- what is found of a program's flags and values asks for this
 abbrev pub IsForm : Which → (found : List Row) → Wanted → Type 0
-IsForm Compiler found w =
-    IsCompiler (has_flag (codes "check") found) (has_flag (codes "trace") found)
-    (has_flag (codes "audit") found) (values found) w
-IsForm Runner found w = IsRun (values found) w
+IsForm which found w = IsSet which (set_flags which found) (values found) w
 
 -- What the words ask of each program: its command takes them, and what it makes of them is of one
 -- of the program's forms.

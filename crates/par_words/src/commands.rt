@@ -1,7 +1,7 @@
 //! The programs' words, as those of one simple command each.
 
 ghost use Rattle.std.specs.Prelude.{◌≡◌, ◌≢◌, [], false, codes, IfOk, IfErr, map, option_map};
-ghost use Rattle.clap.specs.Words.{all_of, app_of, fault_of, found_of, rows_of, rule_of};
+ghost use Rattle.clap.specs.Words.{all_of, app_of, fault_of, found_of, rows_of, rule_of, with_rule};
 ghost use Rattle.par_words.specs.Commands as spec;
 ghost use Rattle.par_words.specs.Commands.{command_of, texts};
 
@@ -9,6 +9,53 @@ use crate::words::{Unread, Which};
 use clap::error::ErrorKind;
 use clap::{Arg, ArgAction, ArgMatches, Command};
 use std::alloc::{AllocError, Global};
+
+/// A flag of one of the programs.
+#[derive(Clone, Copy)]
+pub(crate) enum Flag {
+    Check,
+    Trace,
+    Audit,
+    Infer,
+    Sample,
+    Verify,
+}
+
+impl Flag {
+    /// The name, which stands behind two dashes.
+    fn name<'a>(self) -> &'a str
+        ensures { result.now ≡ spec.name_of self }
+    {
+        match self {
+            Flag::Check => "check",
+            Flag::Trace => "trace",
+            Flag::Audit => "audit",
+            Flag::Infer => "infer",
+            Flag::Sample => "sample",
+            Flag::Verify => "verify",
+        }
+    }
+}
+
+const COMPILER_FLAGS: &[Flag] = &[
+    Flag::Check,
+    Flag::Trace,
+    Flag::Audit,
+    Flag::Infer,
+    Flag::Sample,
+];
+
+const RUNNER_FLAGS: &[Flag] = &[Flag::Verify];
+
+/// The flags of a program.
+fn flags_of(which: Which) -> &'static [Flag]
+    ensures { result.now ≡ spec.flags_of which }
+{
+    match which {
+        Which::Compiler => COMPILER_FLAGS,
+        Which::Runner => RUNNER_FLAGS,
+    }
+}
 
 /// The words of a program that its command takes.
 pub(crate) fn taken<'a>(
@@ -31,11 +78,27 @@ pub(crate) fn taken<'a>(
     }
 }
 
-/// Whether the flag of a name is among the words.
-pub(crate) fn has_flag(matches: &ArgMatches, name: &str) -> bool
-    ensures { result ≡ spec.has_flag name.now (rows_of (found_of matches.now)) }
+/// The flags of a program that are among the words, in their own order.
+pub(crate) fn set_flags(
+    alloc: Global,
+    which: Which,
+    matches: &ArgMatches,
+) -> Result<Vec<Flag>, AllocError>
+    ensures { IfOk result (λ flags.
+        flags.items ≡ spec.set_flags which (rows_of (found_of matches.now))) }
 {
-    match matches.get_str(name) {
+    flags_of(which)
+        .iter()
+        .copied()
+        .filter(|flag| has_flag(matches, *flag))
+        .collect(alloc)
+}
+
+/// Whether a flag is among the words.
+fn has_flag(matches: &ArgMatches, flag: Flag) -> bool
+    ensures { result ≡ spec.has_flag (rows_of (found_of matches.now)) flag }
+{
+    match matches.get_str(flag.name()) {
         Some(text) => text == "true",
         None => false,
     }
@@ -53,14 +116,25 @@ pub(crate) fn values<'m, 'a>(matches: &'m ArgMatches<'a>) -> Option<&'m [&'a str
 fn command<'a>(alloc: Global, which: Which) -> Result<Command<'a>, AllocError>
     ensures { IfOk result (λ command. app_of command ≡ command_of which) }
 {
-    match which {
-        Which::Compiler => bare(alloc, "paragonc")
-            .arg(flag(alloc, "check"))?
-            .arg(flag(alloc, "trace"))?
-            .arg(flag(alloc, "audit"))?
-            .arg(every_value(alloc)),
-        Which::Runner => bare(alloc, "paragon").arg(every_value(alloc)),
+    let name = match which {
+        Which::Compiler => "paragonc",
+        Which::Runner => "paragon",
+    };
+    with_flags(alloc, bare(alloc, name), flags_of(which))?.arg(every_value(alloc))
+}
+
+/// A command that has these flags too.
+fn with_flags<'a>(
+    alloc: Global,
+    mut command: Command<'a>,
+    flags: &[Flag],
+) -> Result<Command<'a>, AllocError>
+    ensures { IfOk result (λ more. app_of more ≡ spec.with_flags (app_of command.entry) flags.now) }
+{
+    for own in flags {
+        command = command.arg(flag_named(alloc, own.name()))?;
     }
+    Ok(command)
 }
 
 /// A command without help and version, whose words do not begin with the program's name.
@@ -74,7 +148,7 @@ fn bare<'a>(alloc: Global, name: &'a str) -> Command<'a>
 }
 
 /// The flag of a name, as `--check`.
-fn flag<'a>(alloc: Global, name: &'a str) -> Arg<'a>
+fn flag_named<'a>(alloc: Global, name: &'a str) -> Arg<'a>
     ensures rule { rule_of result ≡ spec.flag name.entry.now }
     ensures own { result.global ≡ false }
 {

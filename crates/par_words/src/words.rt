@@ -1,13 +1,13 @@
 //! What words ask for.
 
 ghost use Rattle.std.specs.Prelude.{◌≡◌, ◌≤◌, ℕ, MatchOption, MatchResult, map};
-ghost use Rattle.clap.specs.Words.{found_of, rows_of};
-ghost use Rattle.par_words.specs.Words.{Asks, Wanted, IsForm, IsCompiler, IsSource, IsTrace};
-ghost use Rattle.par_words.specs.Words.{AskTrace, IsAudit, AskAudit, IsRun, AskRun, Counts};
+ghost use Rattle.par_words.specs.Words.{Asks, Wanted, IsSet, IsPlain, IsFlagged, OfOne, OfTwo};
+ghost use Rattle.par_words.specs.Words.{OfThree, AskTrace, AskAudit, AskSample, AskVerify, AskRun};
+ghost use Rattle.par_words.specs.Words.{Check, Compile, Infer, Counts};
 ghost use Rattle.par_words.specs.Requests.{wanted};
 
-use crate::commands::{has_flag, taken, values};
-use clap::ArgMatches;
+use crate::commands::{Flag, set_flags, taken, values};
+use crate::number::long_magnitude_of;
 use par_inputs::magnitude_of;
 use par_lexer::name::Name;
 use std::alloc::{AllocError, Global};
@@ -39,6 +39,12 @@ pub enum Request<'a> {
         actor: &'a str,
         file: &'a str,
     },
+    /// To infer the policies that the source in a file leaves open.
+    Infer(&'a str),
+    /// To judge and compile the source that is made of a number.
+    Sample(u64),
+    /// To verify the class files of the class of this name and of all that it names.
+    Verify(&'a str),
     /// To run the class of this name on an input file, at most so many instructions.
     Run {
         main: &'a str,
@@ -82,68 +88,95 @@ pub fn read_words<'a>(
         (λ unread. unread ≡ Unread.NoForm → (w : Wanted) → Asks which words.entry.now w → ⊥) }
 {
     let matches = taken(alloc, which, words)?;
-    request_of(which, &matches).ok_or(Unread::NoForm)
+    let flags = set_flags(alloc, which, &matches)?;
+    match values(&matches) {
+        Some(values) => request_of(which, &flags, values).ok_or(Unread::NoForm),
+        None => Err(Unread::NoForm),
+    }
 }
 
-/// What the flags and values of a program ask for.
-fn request_of<'a>(which: Which, matches: &ArgMatches<'a>) -> Option<Request<'a>>
-    ensures { let found = rows_of (found_of matches.entry.now) in MatchOption result
-        ((w : Wanted) → IsForm which found w → ⊥) (λ request. IsForm which found (wanted request)) }
+/// What values ask of a program with these flags.
+fn request_of<'a>(which: Which, flags: &[Flag], values: &[&'a str]) -> Option<Request<'a>>
+    ensures { let texts = map (λ text. text.now) values.entry.now in MatchOption result
+        ((w : Wanted) → IsSet which flags.now texts w → ⊥)
+        (λ request. IsSet which flags.now texts (wanted request)) }
 {
-    let values = values(matches)?;
+    match flags {
+        [] => plain_request(which, values),
+        [flag] => flagged_request(*flag, values),
+        _ => None,
+    }
+}
+
+/// What values ask of a program without a flag.
+fn plain_request<'a>(which: Which, values: &[&'a str]) -> Option<Request<'a>>
+    ensures { let texts = map (λ text. text.now) values.entry.now in MatchOption result
+        ((w : Wanted) → IsPlain which texts w → ⊥)
+        (λ request. IsPlain which texts (wanted request)) }
+{
     match which {
-        Which::Compiler => {
-            compiler_request(
-                has_flag(matches, "check"),
-                has_flag(matches, "trace"),
-                has_flag(matches, "audit"),
-                values,
-            )
-        }
+        Which::Compiler => compile_request(values),
         Which::Runner => run_request(values),
     }
 }
 
-/// What values ask of the compiler, with these flags.
-fn compiler_request<'a>(
-    checked: bool,
-    traced: bool,
-    audited: bool,
-    values: &[&'a str],
-) -> Option<Request<'a>>
+/// What values ask beside a flag.
+fn flagged_request<'a>(flag: Flag, values: &[&'a str]) -> Option<Request<'a>>
     ensures { let texts = map (λ text. text.now) values.entry.now in MatchOption result
-        ((w : Wanted) → IsCompiler checked traced audited texts w → ⊥)
-        (λ request. IsCompiler checked traced audited texts (wanted request)) }
+        ((w : Wanted) → IsFlagged flag texts w → ⊥)
+        (λ request. IsFlagged flag texts (wanted request)) }
 {
-    match (checked, traced, audited) {
-        (checked, false, false) => source_request(checked, values),
-        (false, true, false) => trace_request(values),
-        (false, false, true) => audit_request(values),
-        (true, true, _) | (true, false, true) | (false, true, true) => None,
+    match flag {
+        Flag::Check => check_request(values),
+        Flag::Trace => trace_request(values),
+        Flag::Audit => audit_request(values),
+        Flag::Infer => infer_request(values),
+        Flag::Sample => sample_request(values),
+        Flag::Verify => verify_request(values),
     }
 }
 
-/// A check or a compilation, where there is one value.
-fn source_request<'a>(checked: bool, values: &[&'a str]) -> Option<Request<'a>>
-    ensures { MatchOption result
-        ((w : Wanted) → IsSource checked (map (λ text. text.now) values.entry.now) w → ⊥)
-        (λ request. IsSource checked (map (λ text. text.now) values.entry.now) (wanted request)) }
+/// A compilation, where there is one value.
+fn compile_request<'a>(values: &[&'a str]) -> Option<Request<'a>>
+    ensures { let texts = map (λ text. text.now) values.entry.now in MatchOption result
+        ((w : Wanted) → OfOne (λ file v. v ≡ Compile file) texts w → ⊥)
+        (λ request. OfOne (λ file v. v ≡ Compile file) texts (wanted request)) }
 {
     match values {
-        [file] => Some(if checked {
-            Request::Check(file)
-        } else {
-            Request::Compile(file)
-        }),
+        [file] => Some(Request::Compile(file)),
+        _ => None,
+    }
+}
+
+/// A check, where there is one value.
+fn check_request<'a>(values: &[&'a str]) -> Option<Request<'a>>
+    ensures { let texts = map (λ text. text.now) values.entry.now in MatchOption result
+        ((w : Wanted) → OfOne (λ file v. v ≡ Check file) texts w → ⊥)
+        (λ request. OfOne (λ file v. v ≡ Check file) texts (wanted request)) }
+{
+    match values {
+        [file] => Some(Request::Check(file)),
+        _ => None,
+    }
+}
+
+/// An inference, where there is one value.
+fn infer_request<'a>(values: &[&'a str]) -> Option<Request<'a>>
+    ensures { let texts = map (λ text. text.now) values.entry.now in MatchOption result
+        ((w : Wanted) → OfOne (λ file v. v ≡ Infer file) texts w → ⊥)
+        (λ request. OfOne (λ file v. v ≡ Infer file) texts (wanted request)) }
+{
+    match values {
+        [file] => Some(Request::Infer(file)),
         _ => None,
     }
 }
 
 /// The run of a source, where there are three values.
 fn trace_request<'a>(values: &[&'a str]) -> Option<Request<'a>>
-    ensures { MatchOption result
-        ((w : Wanted) → IsTrace (map (λ text. text.now) values.entry.now) w → ⊥)
-        (λ request. IsTrace (map (λ text. text.now) values.entry.now) (wanted request)) }
+    ensures { let texts = map (λ text. text.now) values.entry.now in MatchOption result
+        ((w : Wanted) → OfThree AskTrace texts w → ⊥)
+        (λ request. OfThree AskTrace texts (wanted request)) }
 {
     match values {
         [file, inputs, bound] => trace_of(file, inputs, bound),
@@ -166,9 +199,9 @@ fn trace_of<'a>(file: &'a str, inputs: &'a str, bound: &str) -> Option<Request<'
 
 /// An audit, where there are two values.
 fn audit_request<'a>(values: &[&'a str]) -> Option<Request<'a>>
-    ensures { MatchOption result
-        ((w : Wanted) → IsAudit (map (λ text. text.now) values.entry.now) w → ⊥)
-        (λ request. IsAudit (map (λ text. text.now) values.entry.now) (wanted request)) }
+    ensures { let texts = map (λ text. text.now) values.entry.now in MatchOption result
+        ((w : Wanted) → OfTwo AskAudit texts w → ⊥)
+        (λ request. OfTwo AskAudit texts (wanted request)) }
 {
     match values {
         [actor, file] => audit_of(actor, file),
@@ -187,11 +220,54 @@ fn audit_of<'a>(actor: &'a str, file: &'a str) -> Option<Request<'a>>
     Some(Request::Audit { actor, file })
 }
 
+/// A sample, where there is one value.
+fn sample_request<'a>(values: &[&'a str]) -> Option<Request<'a>>
+    ensures { let texts = map (λ text. text.now) values.entry.now in MatchOption result
+        ((w : Wanted) → OfOne AskSample texts w → ⊥)
+        (λ request. OfOne AskSample texts (wanted request)) }
+{
+    match values {
+        [number] => sample_of(number),
+        _ => None,
+    }
+}
+
+/// A sample, where the word is a number.
+fn sample_of<'a>(number: &str) -> Option<Request<'a>>
+    ensures { MatchOption result ((w : Wanted) → AskSample number.now w → ⊥)
+        (λ request. AskSample number.now (wanted request)) }
+{
+    Some(Request::Sample(long_magnitude_of(number.as_bytes())?))
+}
+
+/// A verification, where there is one value.
+fn verify_request<'a>(values: &[&'a str]) -> Option<Request<'a>>
+    ensures { let texts = map (λ text. text.now) values.entry.now in MatchOption result
+        ((w : Wanted) → OfOne AskVerify texts w → ⊥)
+        (λ request. OfOne AskVerify texts (wanted request)) }
+{
+    match values {
+        [main] => verify_of(main),
+        _ => None,
+    }
+}
+
+/// A verification, where the word is a name.
+fn verify_of<'a>(main: &'a str) -> Option<Request<'a>>
+    ensures { MatchOption result ((w : Wanted) → AskVerify main.now w → ⊥)
+        (λ request. AskVerify main.now (wanted request)) }
+{
+    if !Name::is_name(main.as_bytes()) {
+        return None;
+    }
+    Some(Request::Verify(main))
+}
+
 /// A run, where there are three values.
 fn run_request<'a>(values: &[&'a str]) -> Option<Request<'a>>
-    ensures { MatchOption result
-        ((w : Wanted) → IsRun (map (λ text. text.now) values.entry.now) w → ⊥)
-        (λ request. IsRun (map (λ text. text.now) values.entry.now) (wanted request)) }
+    ensures { let texts = map (λ text. text.now) values.entry.now in MatchOption result
+        ((w : Wanted) → OfThree AskRun texts w → ⊥)
+        (λ request. OfThree AskRun texts (wanted request)) }
 {
     match values {
         [main, inputs, steps] => run_of(main, inputs, steps),

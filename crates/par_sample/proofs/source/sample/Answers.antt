@@ -1,4 +1,6 @@
-use Rattle.std.proofs.Common.{◌≡◌, ◌∙◌, ◌++◌, arith, ap, sym}
+use Rattle.std.proofs.Common.{◌≡◌, ◌≤◌, ◌∙◌, ◌++◌, length, arith, ap, sym, subst}
+use Rattle.par_lexer.specs.declared.cut.TheConstants.{LONGEST_SOURCE}
+use Rattle.par_sample.proofs.Short.{source-short}
 use Rattle.std.specs.List.{flat_map}
 use Rattle.par_sample.specs.Source.{line, class_lines}
 use Rattle.par_sample.proofs.Lines.{number_first, more_classes, all_classes}
@@ -26,6 +28,11 @@ pub returns : goal.returns
 returns c =
     let hundred : c.loop-class.class ≡ 100 =
     omega (arith, c.loop-class-test.false, c.loop-class.auto.class-end) in
+    let made =
     ap (λ bytes. bytes.items) c.into_bytes.ensures.value
     ∙ c.loop-class.invariant.text
-    ∙ all_classes c.args.n c.loop-class.class hundred
+    ∙ all_classes c.args.n c.loop-class.class hundred in
+    record {
+      made = made;
+      short = subst (λ text. length text ≤ LONGEST_SOURCE) (sym made) (source-short c.args.n);
+    }

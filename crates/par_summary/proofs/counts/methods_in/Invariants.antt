@@ -1,0 +1,7 @@
+use Rattle.std.proofs.Common.{◌≡◌, ◌+◌, drop}
+use Rattle.par_summary.specs.Counted.{method_count}
+use Rattle.par_summary.proofs.counts.methods_in.Given as goal
+
+abbrev pub invariant-loop-class : goal.invariant-loop-class
+invariant-loop-class l =
+    l.methods + method_count (drop l.class-index l.classes) ≡ method_count l.classes
