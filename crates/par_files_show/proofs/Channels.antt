@@ -15,18 +15,19 @@ use Rattle.par_class.specs.declared.file.MethodFile.{MethodFile}
 use Rattle.par_class.specs.Spelling.{is_native}
 use Rattle.par_pool.specs.declared.constant.Constant.{Constant}
 use Rattle.par_secrecy.specs.Subject.{Name, InputChannel}
-use Rattle.par_alike.specs.Subject.{input_of, inputs_in, input_channels}
+use Rattle.par_plain_runs.specs.par_alike.Subject.{input_of, inputs_in, input_channels}
 use Rattle.par_single.specs.Members.{text_at, own_name, is_static}
-use Rattle.par_link.specs.Inputs.{is_input_of, has_input_in, has_input}
+use Rattle.par_shows.specs.par_link.Inputs.{is_input_of, has_input_in, has_input}
 use Rattle.par_erase.specs.Shown.{channel_info}
 use Rattle.par_erase.specs.Erased.{erased_table, erased_class, erased_channels, inputs_among}
 use Rattle.par_erase.specs.Erased.{outputs_among}
-use Rattle.par_class_form.specs.Files.{IsMethodOf}
-use Rattle.par_class_form.specs.Members.{Member, member_access, channel, methods_from, members}
-use Rattle.par_laid_form.specs.Parts.{IsOf, Known}
-use Rattle.par_laid_form.proofs.Lists.{mapped-from}
-use Rattle.par_laid_form.proofs.Texts.{same-text, text-itself, text-said}
-use Rattle.par_laid_form.proofs.Known.{own-is}
+use Rattle.par_laid_loaded.specs.par_class_form.Files.{IsMethodOf}
+use Rattle.par_laid_loaded.specs.par_class_form.Members.{Member, member_access, channel}
+use Rattle.par_laid_loaded.specs.par_class_form.Members.{methods_from, members}
+use Rattle.par_laid_loaded.specs.par_laid_form.Parts.{IsOf, Known}
+use Rattle.par_laid_loaded.proofs.par_laid_form.Lists.{mapped-from}
+use Rattle.par_laid_loaded.proofs.par_laid_form.Texts.{same-text, text-itself, text-said}
+use Rattle.par_laid_loaded.proofs.par_laid_form.Known.{own-is}
 use Rattle.par_files_show.proofs.Simple.{each}
 
 -- ---- lists

@@ -24,32 +24,33 @@ use Rattle.par_code_form.specs.declared.labelled.Labelled.{Labelled}
 use Rattle.par_code_form.specs.Code.{Words}
 use Rattle.par_code_form.specs.Method.{labelled}
 use Rattle.par_code_form.specs.Named.{of_class, class_word, words_of}
-use Rattle.par_steps.specs.Methods.{method_name}
-use Rattle.par_steps.specs.Run.{class_number, machine_run}
-use Rattle.par_steps.specs.Run as files_run
-use Rattle.par_steps.specs.State.{State, start}
-use Rattle.par_steps.specs.Target.{target}
-use Rattle.par_steps.proofs.Extending.{more_instructions}
-use Rattle.par_engine.specs.Engine.{Program, run}
-use Rattle.par_matching.specs.Labelled.{Naming, of_labelled}
-use Rattle.par_naming.specs.Naming.{naming_of}
-use Rattle.par_placed_code.specs.Placeable.{FitsItem}
-use Rattle.par_agreeing.specs.Laid.{Layout, Meth}
-use Rattle.par_evaluation.specs.Programs.{IsCompiled, begins}
+use Rattle.par_shows.specs.par_steps.Methods.{method_name}
+use Rattle.par_shows.specs.par_steps.Run.{class_number, machine_run}
+use Rattle.par_shows.specs.par_steps.Run as files_run
+use Rattle.par_shows.specs.par_steps.State.{State, start}
+use Rattle.par_shows.specs.par_steps.Target.{target}
+use Rattle.par_shows.proofs.par_steps.Extending.{more_instructions}
+use Rattle.par_placed_runs.specs.par_engine.Engine.{Program, run}
+use Rattle.par_placed_runs.specs.par_matching.Labelled.{Naming, of_labelled}
+use Rattle.par_placed_runs.specs.par_naming.Naming.{naming_of}
+use Rattle.par_placeable.specs.par_placed_code.Placeable.{FitsItem}
+use Rattle.par_shows.specs.par_agreeing.Laid.{Layout, Meth}
+use Rattle.par_shows.specs.par_evaluation.Programs.{IsCompiled, begins}
 use Rattle.par_shows.specs.Laws.{ShowsRuns, Begins, LabelledCodeShows}
 use Rattle.par_plain_runs.specs.Laws.{PlainRunsShow, PlainFrontsAreFronts}
-use Rattle.par_coded.specs.Laws.{BodiesAreErased}
-use Rattle.par_coded.specs.Compiled.{WellTypedProgramsAreCompiled}
-use Rattle.par_coded.proofs.Bodies.{found}
+use Rattle.par_laid_loaded.specs.par_coded.Laws.{BodiesAreErased}
+use Rattle.par_laid_loaded.specs.par_coded.Compiled.{WellTypedProgramsAreCompiled}
+use Rattle.par_laid_loaded.proofs.par_coded.Bodies.{found}
 use Rattle.par_placeable.specs.Laws.{IsReadyBody, LabelledCodeIsPlaceable, WordsAreTexts}
 use Rattle.par_placed_runs.specs.Laid.{IsLaid, PlacedCodeRuns, begun}
 use Rattle.par_placed_runs.specs.Made.{PlacedCodeIsLaid}
-use Rattle.par_laid_form.specs.Layout.{layout_of}
-use Rattle.par_laid_form.specs.Code.{code_at, labelled_of}
-use Rattle.par_laid_form.specs.Parts.{Known, first_areas}
-use Rattle.par_laid_form.specs.Laws.{NamesAreLaidOut, InitializersStand, FilesAreLaidOut}
-use Rattle.par_laid_form.specs.Laws.{StatesBeginAlike, CodeIsPlaced, BeginsAtMain}
-use Rattle.par_laid_form.specs.Laws.{ProgramsBeginAtMain}
+use Rattle.par_laid_loaded.specs.par_laid_form.Layout.{layout_of}
+use Rattle.par_laid_loaded.specs.par_laid_form.Code.{code_at, labelled_of}
+use Rattle.par_laid_loaded.specs.par_laid_form.Parts.{Known, first_areas}
+use Rattle.par_laid_loaded.specs.par_laid_form.Laws.{NamesAreLaidOut, InitializersStand}
+use Rattle.par_laid_loaded.specs.par_laid_form.Laws.{FilesAreLaidOut}
+use Rattle.par_laid_loaded.specs.par_laid_form.Laws.{StatesBeginAlike, CodeIsPlaced, BeginsAtMain}
+use Rattle.par_laid_loaded.specs.par_laid_form.Laws.{ProgramsBeginAtMain}
 use Rattle.par_laid_loaded.specs.Laws.{ErasedTablesHaveKinds, LoadedFilesAreKnown}
 use Rattle.par_files_show.specs.Laws.{AreLoadedFor, main_class, FilesShow, FilesShowWhole}
 use Rattle.par_files_show.proofs.Simple.{all_named}
@@ -94,34 +95,34 @@ module _ (parts : Parts) (t : Table) (all : List Body) (files : List ClassFile)
     (are : AreLoadedFor t all files) where
   -- ---- the program without its policies
 
-  abbrev plain : Table
+  abbrev pub plain : Table
   plain = erased_table t
 
-  abbrev plain_bodies : List Body
+  abbrev pub plain_bodies : List Body
   plain_bodies = erased_bodies t all
 
-  abbrev w : Words
+  abbrev pub w : Words
   w = words_of plain
 
-  abbrev env : Naming
+  abbrev pub env : Naming
   env = naming_of files
 
-  abbrev lay : Layout
+  abbrev pub lay : Layout
   lay = layout_of files plain plain_bodies
 
-  abbrev code : ℕ → ℕ → Labelled
+  abbrev pub code : ℕ → ℕ → Labelled
   code = code_at plain plain_bodies files
 
   abbrev machine : Program
   machine = of_labelled env (labelled_of plain plain_bodies files) (method_name files)
 
-  known : Known plain plain_bodies files
+  pub known : Known plain plain_bodies files
   known =
       parts.known plain plain_bodies files are.linkable
       (parts.kinds t are.well_typed.built_in are.well_typed.signed are.well_typed.in_range)
       are.loaded
 
-  compiled : IsCompiled env (labelled_of plain plain_bodies files) w lay plain plain_bodies
+  pub compiled : IsCompiled env (labelled_of plain plain_bodies files) w lay plain plain_bodies
   compiled =
       parts.compiled t all are.well_typed.one_each are.well_typed.main are.well_typed.proper env
       (labelled_of plain plain_bodies files) w lay (parts.names plain plain_bodies files known)
@@ -130,7 +131,7 @@ module _ (parts : Parts) (t : Table) (all : List Body) (files : List ClassFile)
 
   -- ---- its code stands in the files
 
-  bodies_fit : BodiesFit plain plain_bodies
+  pub bodies_fit : BodiesFit plain plain_bodies
   bodies_fit c i m body there has =
       let texts =
       parts.texts t (all_named plain plain_bodies are.linkable) are.well_typed.few_params in

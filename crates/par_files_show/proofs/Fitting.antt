@@ -19,15 +19,17 @@ use Rattle.par_code_form.specs.declared.labelled.Labelled.{Labelled}
 use Rattle.par_code_form.specs.Code.{body_handlers, initializer_code}
 use Rattle.par_code_form.specs.Method.{labelled}
 use Rattle.par_code_form.specs.Named.{words_of}
-use Rattle.par_placed_code.specs.Named.{full_name}
-use Rattle.par_placed_code.specs.Placeable.{FitsItem}
-use Rattle.par_class_form.specs.Members.{Member, above, channel, method, methods_from, members}
-use Rattle.par_class_form.specs.Members.{initializer_of}
-use Rattle.par_linked_form.specs.Linkable.{IsLinkable, IsClassWord}
+use Rattle.par_placeable.specs.par_placed_code.Named.{full_name}
+use Rattle.par_placeable.specs.par_placed_code.Placeable.{FitsItem}
+use Rattle.par_laid_loaded.specs.par_class_form.Members.{Member, above, channel, method}
+use Rattle.par_laid_loaded.specs.par_class_form.Members.{methods_from, members}
+use Rattle.par_laid_loaded.specs.par_class_form.Members.{initializer_of}
+use Rattle.par_laid_loaded.specs.par_linked_form.Linkable.{IsLinkable, IsClassWord}
 use Rattle.par_placed_runs.specs.Made.{IsSimple}
-use Rattle.par_laid_form.specs.Code.{class_of, no_code, code_or_none, code_of, members_of}
-use Rattle.par_laid_form.specs.Code.{members_in, code_at}
-use Rattle.par_laid_form.proofs.Lists.{each-item}
+use Rattle.par_laid_loaded.specs.par_laid_form.Code.{class_of, no_code, code_or_none, code_of}
+use Rattle.par_laid_loaded.specs.par_laid_form.Code.{members_of}
+use Rattle.par_laid_loaded.specs.par_laid_form.Code.{members_in, code_at}
+use Rattle.par_laid_loaded.proofs.par_laid_form.Lists.{each-item}
 use Rattle.par_files_show.proofs.Simple.{each, said_simple}
 
 pub record IsFit (code : Labelled) : Type 0 where
@@ -49,7 +51,7 @@ above_text : (exception : Bool) → IsText (full_name (above exception))
 above_text true = record { short = omega arith; plain = refl }
 above_text false = record { short = omega arith; plain = refl }
 
-initializer_fits : (class : ClassInfo) → IsFit (initializer_of class)
+pub initializer_fits : (class : ClassInfo) → IsFit (initializer_of class)
 initializer_fits class = record {
   items =
       All-from_recursion FitsItem (initializer_code (above class.exception)) (

@@ -15,21 +15,21 @@ use Rattle.par_secrecy.specs.Target.{fitting}
 use Rattle.par_secrecy.proofs.Fitting.{fitting_gives_the_same}
 use Rattle.par_runs.specs.Source.{start}
 use Rattle.par_single.specs.Members.{text_at, own_name, is_static}
-use Rattle.par_link.specs.Inputs.{is_input_of, has_input_in, has_input}
-use Rattle.par_link.proofs.Passing.{any-at}
-use Rattle.par_steps.specs.Target.{target}
+use Rattle.par_shows.specs.par_link.Inputs.{is_input_of, has_input_in, has_input}
+use Rattle.par_shows.proofs.par_link.Passing.{any-at}
+use Rattle.par_shows.specs.par_steps.Target.{target}
 use Rattle.par_code_form.specs.Named.{class_word, words_of}
-use Rattle.par_class_form.specs.Members.{channel}
-use Rattle.par_naming.specs.Naming.{naming_of}
-use Rattle.par_agreeing.specs.Laid.{IsInput}
-use Rattle.par_agreeing.specs.Agreement.{Fine}
-use Rattle.par_laid_form.specs.Layout.{layout_of}
-use Rattle.par_laid_form.specs.Parts.{Known, first_areas}
-use Rattle.par_laid_form.proofs.Texts.{text-said, text-itself}
-use Rattle.par_laid_form.proofs.Known.{own-said}
-use Rattle.par_laid_form.proofs.Callees.{there, channel-at}
-use Rattle.par_laid_form.proofs.Held.{input-here, input-in}
-use Rattle.par_laid_form.proofs.Channels.{name-word}
+use Rattle.par_laid_loaded.specs.par_class_form.Members.{channel}
+use Rattle.par_placed_runs.specs.par_naming.Naming.{naming_of}
+use Rattle.par_shows.specs.par_agreeing.Laid.{IsInput}
+use Rattle.par_shows.specs.par_agreeing.Agreement.{Fine}
+use Rattle.par_laid_loaded.specs.par_laid_form.Layout.{layout_of}
+use Rattle.par_laid_loaded.specs.par_laid_form.Parts.{Known, first_areas}
+use Rattle.par_laid_loaded.proofs.par_laid_form.Texts.{text-said, text-itself}
+use Rattle.par_laid_loaded.proofs.par_laid_form.Known.{own-said}
+use Rattle.par_laid_loaded.proofs.par_laid_form.Callees.{there, channel-at}
+use Rattle.par_laid_loaded.proofs.par_laid_form.Held.{input-here, input-in}
+use Rattle.par_laid_loaded.proofs.par_laid_form.Channels.{name-word}
 
 module _ (table : Table) (bodies : List Body) (files : List ClassFile)
     (known : Known table bodies files) where

@@ -10,10 +10,11 @@ use Rattle.par_typed.specs.declared.table.Table.{Table}
 use Rattle.par_typed.specs.Plain.{Body}
 use Rattle.par_erase.specs.Named.{IsNamed, AreNamed}
 use Rattle.par_code_form.specs.Named.{of_class, class_word}
-use Rattle.par_linked_form.specs.Linkable.{IsLinkable, ClassLinks, FieldLinks, MethodLinks}
-use Rattle.par_linked_form.specs.Linkable.{IsClassWord}
+use Rattle.par_laid_loaded.specs.par_linked_form.Linkable.{IsLinkable, ClassLinks, FieldLinks}
+use Rattle.par_laid_loaded.specs.par_linked_form.Linkable.{MethodLinks}
+use Rattle.par_laid_loaded.specs.par_linked_form.Linkable.{IsClassWord}
 use Rattle.par_placed_runs.specs.Made.{has_slash}
-use Rattle.par_laid_form.proofs.Lists.{each-item}
+use Rattle.par_laid_loaded.proofs.par_laid_form.Lists.{each-item}
 
 pub each : {X : Type 0} (P Q : X → Type 0) → ((x : X) → P x → Q x) → (xs : List X)
     → AllByRecursion P xs → AllByRecursion Q xs

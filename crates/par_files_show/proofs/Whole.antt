@@ -1,14 +1,15 @@
 -- The loaded files of a well-typed program show its runs.
-use Rattle.par_coded.proofs.Bodies.{bodies_are_erased}
-use Rattle.par_coded.proofs.Compiled.{well_typed_programs_are_compiled}
+use Rattle.par_laid_loaded.proofs.par_coded.Bodies.{bodies_are_erased}
+use Rattle.par_laid_loaded.proofs.par_coded.Compiled.{well_typed_programs_are_compiled}
 use Rattle.par_placeable.proofs.Bodies.{all_ready}
 use Rattle.par_placeable.proofs.Words.{words_are_texts}
-use Rattle.par_laid_form.proofs.Codes.{inits, methods-are, methods-coded, main-there, others}
-use Rattle.par_laid_form.proofs.Covered.{named}
-use Rattle.par_laid_form.proofs.Laid.{lays}
-use Rattle.par_laid_form.proofs.Start.{begins}
-use Rattle.par_laid_form.proofs.Placed.{code_is_placed}
-use Rattle.par_laid_form.proofs.Begun.{begins_at_main}
+use Rattle.par_laid_loaded.proofs.par_laid_form.Codes.{inits, methods-are, methods-coded}
+use Rattle.par_laid_loaded.proofs.par_laid_form.Codes.{main-there, others}
+use Rattle.par_laid_loaded.proofs.par_laid_form.Covered.{named}
+use Rattle.par_laid_loaded.proofs.par_laid_form.Laid.{lays}
+use Rattle.par_laid_loaded.proofs.par_laid_form.Start.{begins}
+use Rattle.par_laid_loaded.proofs.par_laid_form.Placed.{code_is_placed}
+use Rattle.par_laid_loaded.proofs.par_laid_form.Begun.{begins_at_main}
 use Rattle.par_laid_loaded.proofs.Erasure.{erased_tables_have_kinds}
 use Rattle.par_laid_loaded.proofs.Given.{loaded_files_are_known}
 use Rattle.par_placed_runs.proofs.Made.{laid}
@@ -18,7 +19,7 @@ use Rattle.par_plain_runs.proofs.Whole.{plain_runs_show, plain_fronts_are_fronts
 use Rattle.par_files_show.specs.Laws.{FilesShow, FilesShowWhole}
 use Rattle.par_files_show.proofs.Composed.{Parts, files_show_by, files_show_whole_by}
 
-parts : Parts
+pub parts : Parts
 parts = record {
   erased = bodies_are_erased;
   compiled = well_typed_programs_are_compiled;

@@ -4,7 +4,7 @@ use Rattle.par_typed.specs.declared.program.Typed.{Typed}
 use Rattle.par_typed.specs.declared.table.Table.{Table}
 use Rattle.par_typed.specs.Plain.{Body}
 use Rattle.par_typed.specs.Shown.{bodies}
-use Rattle.par_well_typed.specs.WellTyped.{IsWellTyped}
+use Rattle.par_placeable.specs.par_well_typed.WellTyped.{IsWellTyped}
 use Rattle.par_class.specs.declared.file.ClassFile.{ClassFile}
 use Rattle.par_values.specs.declared.inputs.Inputs.{Inputs}
 use Rattle.par_values.specs.declared.run.Ending.TheVariants.{Stopped}
@@ -12,14 +12,14 @@ use Rattle.par_values.specs.Areas.{Name}
 use Rattle.par_secrecy.specs.Subject.{Fits}
 use Rattle.par_secrecy.specs.Target.{fitting}
 use Rattle.par_secrecy.specs.Shows.{Shows, shown_run}
-use Rattle.par_alike.specs.Subject.{subject}
+use Rattle.par_plain_runs.specs.par_alike.Subject.{subject}
 use Rattle.par_runs.specs.Source.{source}
 use Rattle.par_erase.specs.Erased.{erased_table, erased_bodies}
 use Rattle.par_code_form.specs.Named.{class_word}
-use Rattle.par_linked_form.specs.Linkable.{IsLinkable}
-use Rattle.par_linked_form.specs.Parts.{AreLoadedFiles}
-use Rattle.par_steps.specs.Target.{target}
-use Rattle.par_steps.specs.Run.{machine_run}
+use Rattle.par_laid_loaded.specs.par_linked_form.Linkable.{IsLinkable}
+use Rattle.par_laid_loaded.specs.par_linked_form.Parts.{AreLoadedFiles}
+use Rattle.par_shows.specs.par_steps.Target.{target}
+use Rattle.par_shows.specs.par_steps.Run.{machine_run}
 
 -- These files are loaded for a well-typed program: they are files of what is left of it without
 -- policies, which links.

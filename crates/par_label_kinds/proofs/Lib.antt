@@ -1,0 +1,1 @@
+pub use Rattle.par_agreeing.proofs as par_agreeing

@@ -1,0 +1,12 @@
+pub mod Steps
+pub mod Valued
+pub mod Scopes
+pub mod Exprs
+pub mod Rest
+pub mod Stas
+pub mod Handled
+pub mod Tallies
+pub mod Framed
+pub mod Unframed
+pub mod Entries
+pub mod Body
