@@ -1,0 +1,13 @@
+mod Parted
+mod Repeated
+mod Counted
+mod Tables
+mod Meeting
+mod Placing
+mod Saying
+mod Classes
+pub mod Firsts
+mod Giving
+mod Having
+pub mod Written
+pub use Rattle.par_frames.proofs as par_frames

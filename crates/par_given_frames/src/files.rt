@@ -1,0 +1,57 @@
+//! The frames of all methods of a class file.
+
+ghost use Rattle.std.specs.Prelude.{IfOk};
+ghost use Rattle.par_lexer.specs.Names.{IsName};
+ghost use Rattle.par_single.specs.Members.{own_name};
+ghost use Rattle.par_frames.specs.par_link.Conditions.{IsSmall};
+ghost use Rattle.par_given_frames.specs.Named.{AreNamed};
+ghost use Rattle.par_given_frames.specs.Answers.{IsFirstBroken, FramesOf};
+
+use crate::error::Unread;
+use crate::methods::{has_frames, method_frames};
+use par_class::file::ClassFile;
+use par_frames::{FrameError, MethodFrames};
+use par_lexer::list::{List, NoMemory};
+use std::alloc::Global;
+
+/// The number of a method that lacks frames, or whose frames stand where they may not.
+pub const UNFRAMED: u16 = 46;
+
+/// The place of the first method that has no frames. None is kept, so that the work and the memory
+/// grow as the file does.
+pub fn first_unframed(alloc: Global, file: &ClassFile) -> Result<Option<u32>, NoMemory>
+    requires { IsSmall file.now }
+    ensures { IfOk result (λ method. IsFirstBroken file.now method) }
+{
+    let methods = file.methods.as_slice();
+    for place in 0..methods.len() {
+        if !has_frames(alloc, file, &methods[place])? {
+            return Ok(Some(place as u32));
+        }
+    }
+    Ok(None)
+}
+
+/// The frames of each method of a class file, in the order of the table.
+pub fn frames_of(alloc: Global, file: &ClassFile) -> Result<List<MethodFrames>, FrameError>
+    requires small { IsSmall file.now }
+    requires own { IsName (own_name file.now) }
+    requires named { AreNamed file.now.pool.entries }
+    ensures { FramesOf file.now result }
+{
+    let methods = file.methods.as_slice();
+    let mut frames = List::new(alloc);
+    for place in 0..methods.len() {
+        match method_frames(alloc, file, &methods[place]) {
+            Ok(of_method) => frames.push(of_method)?,
+            Err(Unread::Refused) => {
+                return Err(FrameError::Broken {
+                    number: UNFRAMED,
+                    method: place as u32,
+                });
+            }
+            Err(Unread::Memory) => return Err(FrameError::Memory),
+        }
+    }
+    Ok(frames)
+}

@@ -1,0 +1,201 @@
+//! The frames of a method.
+
+ghost use Rattle.std.specs.Prelude.{◌≡◌, ◌↔◌, ℕ, ◌≤◌, ◌<◌, ◌^◌, false, length, replicate, IsTrue};
+ghost use Rattle.std.specs.Prelude.{slice_index_or, IfOk};
+ghost use Rattle.std.specs.List.{list_any};
+ghost use Rattle.par_lexer.specs.Names.{IsName};
+ghost use Rattle.par_single.specs.Members as members;
+ghost use Rattle.par_single.specs.Walk.{starts_at};
+ghost use Rattle.par_frames.specs.par_link.Conditions.{is_short};
+ghost use Rattle.par_frames.specs.Given as given;
+ghost use Rattle.par_frames.specs.Given.{frames_given};
+ghost use Rattle.par_frames.specs.Broken.{HasFrames};
+ghost use Rattle.par_given_frames.specs.Reads.{Gives};
+ghost use Rattle.par_given_frames.specs.Named as named;
+ghost use Rattle.par_given_frames.specs.Named.{AreNamed, GivesFrames};
+ghost use Rattle.par_given_frames.specs.Answers.{AnswersFor, AreRight};
+
+use crate::error::Unread;
+use crate::frames::{frames_said, start_of};
+use crate::needed::are_met;
+use crate::reading::forms_in;
+use crate::sizes::place_all;
+use par_class::file::{Attribute, ClassFile, CodeAttr, MethodFile};
+use par_frame_forms::FrameForm;
+use par_kinds::frame::{MethodFrames, PlacedFrame};
+use par_lexer::list::{List, NoMemory};
+use par_pool::constant::Constant;
+use par_pool::kind::entry;
+use par_single::descriptor::method_signature;
+use par_single::member::{is_static, text_at};
+use par_starts::Starts;
+use std::alloc::Global;
+
+/// The version of class files whose methods have frames.
+const FRAMED: u16 = 51;
+
+/// Whether an attribute has the frames of a method.
+fn is_table(entries: &[Constant], attribute: &Attribute) -> bool
+    ensures { result ≡ given.is_table entries.now attribute.now }
+{
+    match entry(entries, attribute.name) {
+        Some(Constant::Utf8(text)) => text.as_slice() == b"StackMapTable".as_slice(),
+        _ => false,
+    }
+}
+
+/// Whether some attribute has.
+fn has_table(entries: &[Constant], attributes: &[Attribute]) -> bool
+    ensures { result ≡ list_any (given.is_table entries.now) attributes.now }
+{
+    attributes.iter().any(|a| is_table(entries, a))
+}
+
+/// The forms that the attributes of code spell, of which one may have frames.
+fn forms_given(
+    alloc: Global,
+    entries: &[Constant],
+    attributes: &[Attribute],
+) -> Result<List<FrameForm>, Unread>
+    ensures forms { Gives (λ forms. forms) result (named.forms_given entries.now attributes.now) }
+    ensures few { IfOk result (λ forms. length forms < 2 ^ 16) }
+{
+    let mut rest = attributes;
+    while let [a, behind @ ..] = rest {
+        if is_table(entries, a) {
+            if has_table(entries, behind) {
+                return Err(Unread::Refused);
+            }
+            return forms_in(alloc, a.bytes.as_slice());
+        }
+        rest = behind;
+    }
+    Ok(List::new(alloc))
+}
+
+/// The number of the receiver and the arguments of a method.
+fn many_given(alloc: Global, file: &ClassFile, m: &MethodFile) -> Result<usize, NoMemory>
+    ensures many { IfOk result (λ many. many ≡ length (given.start_of file.now m.now)) }
+    ensures few { IfOk result (λ many. many < 2 ^ 63) }
+{
+    let descriptor = text_at(file.pool.entries.as_slice(), m.descriptor);
+    let arguments = match method_signature(alloc, descriptor)? {
+        Some(signature) => signature.takes.as_slice().len(),
+        None => 0,
+    };
+    Ok(if is_static(m.access) {
+        arguments
+    } else {
+        arguments + 1
+    })
+}
+
+/// Whether all forms say frames that stand where they may, and all needed offsets have one.
+fn are_right(
+    flags: &mut [bool],
+    starts: &Starts,
+    code: &CodeAttr,
+    entries: &[Constant],
+    listed: usize,
+    forms: &[FrameForm],
+) -> bool
+    requires blank { flags.old ≡ replicate (length code.now.code) false }
+    requires short { length code.now.code ≤ 65535 }
+    requires starts { (k : ℕ) → slice_index_or starts.now k false ≡ starts_at code.now.code k }
+    requires few { listed < 2 ^ 63 }
+    ensures { IsTrue result ↔ AreRight code.now entries.now listed forms.now }
+{
+    place_all(flags, starts, code, entries, listed, forms) && are_met(flags, starts, code)
+}
+
+/// Whether the attributes of code give frames.
+fn gives_frames(
+    alloc: Global,
+    file: &ClassFile,
+    m: &MethodFile,
+    code: &CodeAttr,
+) -> Result<bool, NoMemory>
+    requires { length code.now.code ≤ 65535 }
+    ensures { IfOk result (λ gives. IsTrue gives ↔ GivesFrames file.now m.now code.now) }
+{
+    let entries = file.pool.entries.as_slice();
+    let forms = match forms_given(alloc, entries, code.attributes.as_slice()) {
+        Ok(forms) => forms,
+        Err(Unread::Refused) => return Ok(false),
+        Err(Unread::Memory) => return Err(NoMemory),
+    };
+    let bytes = code.code.as_slice();
+    let starts = Starts::of(alloc, bytes)?;
+    let mut flags = vec![in alloc; false; bytes.len()]?;
+    let listed = many_given(alloc, file, m)?;
+    Ok(are_right(
+        flags.as_mut_slice(),
+        &starts,
+        code,
+        entries,
+        listed,
+        forms.as_slice(),
+    ))
+}
+
+/// Whether a method has frames, of which none is kept.
+pub(crate) fn has_frames(alloc: Global, file: &ClassFile, m: &MethodFile) -> Result<bool, NoMemory>
+    requires { IsTrue (is_short m.now.code) }
+    ensures { IfOk result (λ has. IsTrue has ↔ HasFrames file.now m.now) }
+{
+    if file.major != FRAMED {
+        return Ok(true);
+    }
+    match &m.code {
+        Some(code) => gives_frames(alloc, file, m, code),
+        None => Ok(true),
+    }
+}
+
+/// The frames that the attributes of code say.
+fn given_frames(
+    alloc: Global,
+    file: &ClassFile,
+    m: &MethodFile,
+    code: &CodeAttr,
+) -> Result<List<PlacedFrame>, Unread>
+    requires own { IsName (members.own_name file.now) }
+    requires named { AreNamed file.now.pool.entries }
+    ensures { Gives (λ frames. frames) result
+        (frames_given file.now m.now code.now.attributes) }
+{
+    let entries = file.pool.entries.as_slice();
+    let forms = forms_given(alloc, entries, code.attributes.as_slice())?;
+    let start = start_of(alloc, file, m)?;
+    frames_said(alloc, entries, start.as_slice(), forms.as_slice())
+}
+
+/// The frames of a method.
+pub(crate) fn method_frames(
+    alloc: Global,
+    file: &ClassFile,
+    m: &MethodFile,
+) -> Result<MethodFrames, Unread>
+    requires short { IsTrue (is_short m.now.code) }
+    requires own { IsName (members.own_name file.now) }
+    requires named { AreNamed file.now.pool.entries }
+    ensures { AnswersFor file.now m.now result }
+{
+    if file.major != FRAMED {
+        return Ok(MethodFrames {
+            at: List::new(alloc),
+        });
+    }
+    if !has_frames(alloc, file, m)? {
+        return Err(Unread::Refused);
+    }
+    match &m.code {
+        Some(code) => {
+            let at = given_frames(alloc, file, m, code)?;
+            Ok(MethodFrames { at })
+        }
+        None => Ok(MethodFrames {
+            at: List::new(alloc),
+        }),
+    }
+}
