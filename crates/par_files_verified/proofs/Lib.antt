@@ -1,0 +1,4 @@
+pub mod Told
+pub mod Whole
+pub mod Orders
+pub mod All

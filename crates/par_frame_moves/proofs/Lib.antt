@@ -1,0 +1,2 @@
+pub mod Locals
+pub use Rattle.par_frame_steps.proofs.par_kinds as par_kinds

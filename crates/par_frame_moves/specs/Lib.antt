@@ -1,0 +1,2 @@
+pub mod Briefs
+pub use Rattle.par_frame_steps.specs.par_kinds as par_kinds

@@ -1,0 +1,104 @@
+//! Whether an instruction can be run on every frame of some kinds.
+
+ghost use Rattle.std.specs.Prelude.{◌≡◌, List as Items};
+ghost use Rattle.par_values.specs.Areas.{Name};
+ghost use Rattle.par_kinds.specs.Kinds.{accepts, kind_at};
+ghost use Rattle.par_frame_steps.specs.par_passes.Passes.{takes_fit, also_fits, act_fits};
+ghost use Rattle.par_frame_steps.specs.Marks.{kind_of, kinds_of, frame_of};
+ghost use Rattle.par_frame_moves.specs.declared.brief.Takes.TheVariants as takes;
+ghost use Rattle.par_frame_moves.specs.Briefs.{want_of, takes_of, also_of, act_of};
+
+use crate::brief::{Brief, Takes, Want, Work};
+use par_frame_steps::{PlaceFrame, PlaceKind};
+
+impl Want {
+    /// Whether each value of a kind is one that is asked for.
+    #[tactic(auto, unfolding(par_kinds::specs::Kinds::accepts))]
+    fn accepts(self, kind: PlaceKind) -> bool
+        ensures { result ≡ accepts (want_of self) (kind_of kind.entry) }
+    {
+        match self {
+            Want::Number => kind.is_int(),
+            Want::Reference => kind.is_reference(),
+            Want::Anything => true,
+        }
+    }
+}
+
+/// The kind of a place, where those that are not listed hold anything.
+fn kind_at<'f>(kinds: &[PlaceKind<'f>], place: usize) -> PlaceKind<'f>
+    ensures { kind_of result ≡ kind_at (kinds_of kinds.entry.now) place }
+{
+    match kinds.get(place) {
+        Some(kind) => *kind,
+        None => PlaceKind::Top,
+    }
+}
+
+/// The kind of a local.
+#[tactic(auto, using(par_frame_steps::proofs::Padded::padded_at))]
+pub(crate) fn local<'f>(frame: &PlaceFrame<'f>, local: u8) -> PlaceKind<'f>
+    ensures { kind_of result ≡ kind_at (frame_of frame.entry.now).locals local }
+{
+    kind_at(&frame.locals, local as usize)
+}
+
+/// The kind of the operand that was pushed last.
+pub(crate) fn operand<'f>(frame: &PlaceFrame<'f>) -> PlaceKind<'f>
+    ensures { kind_of result ≡ kind_at (frame_of frame.entry.now).stack 0 }
+{
+    kind_at(&frame.stack, 0)
+}
+
+/// Whether an operand of a kind comes first.
+#[tactic(auto)]
+fn one_fits(want: Want, stack: &[PlaceKind]) -> bool
+    ensures { result ≡ takes_fit (takes_of (takes.One want)) (kinds_of stack.now) }
+{
+    match stack.split_first() {
+        Some((kind, _)) => want.accepts(*kind),
+        None => false,
+    }
+}
+
+impl Takes {
+    /// Whether operands of these kinds can be taken.
+    #[tactic(auto)]
+    fn fits(self, stack: &[PlaceKind]) -> bool
+        ensures { result ≡ takes_fit (takes_of self) (kinds_of stack.now) }
+    {
+        match self {
+            Takes::Nothing => true,
+            Takes::One(want) => one_fits(want, stack),
+            Takes::Two(want) => match stack.split_first() {
+                Some((kind, rest)) => want.accepts(*kind) && one_fits(want, rest),
+                None => false,
+            },
+        }
+    }
+}
+
+impl Work {
+    /// Whether a frame has what is asked beside.
+    fn fits(self, frame: &PlaceFrame) -> bool
+        ensures { (exceptions : Items Name) →
+            result ≡ also_fits exceptions (also_of self) (frame_of frame.now) }
+    {
+        match self {
+            Work::Load(x, want) => want.accepts(local(frame, x)),
+            Work::Increase(x) => local(frame, x).is_int(),
+            Work::Store(x) => (x as usize) < frame.places(),
+            _ => true,
+        }
+    }
+}
+
+impl Brief {
+    /// Whether the instruction can be run on every frame of these kinds.
+    pub fn fits(&self, frame: &PlaceFrame) -> bool
+        ensures { (exceptions : Items Name) →
+            result ≡ act_fits exceptions (act_of self.now) (frame_of frame.now) }
+    {
+        self.takes.fits(&frame.stack) && self.work.fits(frame)
+    }
+}

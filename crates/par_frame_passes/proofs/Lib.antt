@@ -1,0 +1,5 @@
+pub mod Landed
+pub mod Puts
+pub mod Tabled
+pub mod Visits
+pub mod Ways

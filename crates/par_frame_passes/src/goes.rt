@@ -1,0 +1,130 @@
+//! Where the frame of an instruction goes on.
+
+ghost use Rattle.std.specs.Prelude.{◌≡◌, ℕ, ◌+◌, ◌≤◌, false, [], ◌∷◌};
+ghost use Rattle.par_frame_moves.specs.par_kinds.Acts.{next_offsets};
+ghost use Rattle.par_frame_moves.specs.par_kinds.Fits.{Given, around};
+ghost use Rattle.par_passes.specs.Passes.{onward, handled};
+ghost use Rattle.par_frame_steps.specs.Marks.{frame_of, flow_of};
+ghost use Rattle.par_frame_passes.specs.Methods.{exc_of, act_in, handler_in, code_in, IsToldOf};
+ghost use Rattle.par_frame_passes.specs.Sweeps.{Went};
+ghost use Rattle.par_frame_passes.specs.Tables.{table_of, taken_by};
+
+use crate::course::Course;
+use crate::landing::arrive;
+use crate::method::Method;
+use par_class::file::Catch;
+use par_frame_acts::caught;
+use par_frame_steps::frame::copied;
+use par_frame_steps::{Flow, PlaceFrame};
+use par_lexer::list::NoMemory;
+use std::alloc::Global;
+
+/// Lets a frame go on where code goes on from an offset, of an instruction before another offset.
+pub(crate) fn go_on<'f>(
+    alloc: Global,
+    method: &Method<'_, 'f>,
+    table: &mut [Option<PlaceFrame<'f>>],
+    frame: PlaceFrame<'f>,
+    flow: Flow,
+    at: u32,
+    next: u32,
+) -> Result<Course, NoMemory>
+    requires at { at ≤ 65535 }
+    requires next { next ≤ 65535 }
+    ensures { (start : Given) (size : ℕ) → IsToldOf method.now start → at + size ≡ next →
+        Went (exc_of method.now) (act_in method.now) (handler_in method.now)
+        (code_in method.now) start at
+        (onward (exc_of method.now) (act_in method.now) (handler_in method.now)
+        (code_in method.now) start (frame_of frame.entry)
+        (next_offsets (flow_of flow) at size))
+        (table_of table.old) result (table_of table.new) }
+{
+    match flow {
+        Flow::Onward => go_to(alloc, method, table, frame, next as i32, at),
+        Flow::Jumps(to) => go_to(alloc, method, table, frame, at as i32 + i32::from(to), at),
+        Flow::Branches(to) => {
+            let other = frame.copied(alloc)?;
+            let ahead = go_to(alloc, method, table, frame, next as i32, at)?;
+            let aside = go_to(alloc, method, table, other, at as i32 + i32::from(to), at)?;
+            Ok(ahead.joined(aside))
+        }
+        Flow::Nowhere => Ok(Course::Calm),
+    }
+}
+
+/// Lets a frame go on at an offset.
+fn go_to<'f>(
+    alloc: Global,
+    method: &Method<'_, 'f>,
+    table: &mut [Option<PlaceFrame<'f>>],
+    frame: PlaceFrame<'f>,
+    to: i32,
+    at: u32,
+) -> Result<Course, NoMemory>
+    ensures { (start : Given) → IsToldOf method.now start →
+        Went (exc_of method.now) (act_in method.now) (handler_in method.now)
+        (code_in method.now) start at
+        (record { to = to; frame = frame_of frame.entry; exact = false } ∷ [])
+        (table_of table.old) result (table_of table.new) }
+{
+    arrive(alloc, method, table, frame, to, false, at as usize)
+}
+
+/// Lets the locals of a frame go on at a handler, with what it takes as the one operand.
+fn handle<'f>(
+    alloc: Global,
+    method: &Method<'_, 'f>,
+    table: &mut [Option<PlaceFrame<'f>>],
+    frame: &PlaceFrame<'f>,
+    catch: &Catch,
+    at: u32,
+) -> Result<Course, NoMemory>
+    ensures { (start : Given) → IsToldOf method.now start →
+        Went (exc_of method.now) (act_in method.now) (handler_in method.now)
+        (code_in method.now) start at
+        (taken_by (handler_in method.now) (frame_of frame.now) catch.now ∷ [])
+        (table_of table.old) result (table_of table.new) }
+{
+    let mut stack = Vec::new(alloc);
+    stack.push(caught(method.linked, method.class, catch))?;
+    let frame = PlaceFrame {
+        many: frame.many,
+        locals: copied(alloc, &frame.locals)?,
+        stack,
+    };
+    let to = i32::from(catch.handler);
+    arrive(alloc, method, table, frame, to, true, at as usize)
+}
+
+/// Lets the frame of an offset go on at each of some handlers that is around it.
+pub(crate) fn go_to_handlers<'f>(
+    alloc: Global,
+    method: &Method<'_, 'f>,
+    table: &mut [Option<PlaceFrame<'f>>],
+    frame: &PlaceFrame<'f>,
+    at: u32,
+    catches: &[Catch],
+) -> Result<Course, NoMemory>
+    ensures { (start : Given) → IsToldOf method.now start →
+        Went (exc_of method.now) (act_in method.now) (handler_in method.now)
+        (code_in method.now) start at
+        (handled (exc_of method.now) (act_in method.now) (handler_in method.now)
+        (code_in method.now) start at (frame_of frame.now) catches.now)
+        (table_of table.old) result (table_of table.new) }
+{
+    let mut course = Course::Calm;
+    for catch in catches {
+        if is_around(at, catch) {
+            let then = handle(alloc, method, table, frame, catch, at)?;
+            course = course.joined(then);
+        }
+    }
+    Ok(course)
+}
+
+/// Whether a handler is around an offset.
+fn is_around(at: u32, catch: &Catch) -> bool
+    ensures { result ≡ around at catch.now }
+{
+    u32::from(catch.start) <= at && at < u32::from(catch.end)
+}

@@ -1,0 +1,57 @@
+//! All instructions, until nothing rises.
+
+ghost use Rattle.std.specs.Prelude.{◌≡◌, ◌≤◌, length, Some, IfOk};
+ghost use Rattle.par_frame_moves.specs.par_kinds.Kinds.{KFrame};
+ghost use Rattle.par_frame_moves.specs.par_kinds.Fits.{Given};
+ghost use Rattle.par_frame_passes.specs.Methods.{exc_of, act_in, handler_in, code_in, IsToldOf};
+ghost use Rattle.par_frame_passes.specs.Sweeps.{Kept, Settles};
+ghost use Rattle.par_frame_passes.specs.Tables.{table_of};
+
+use crate::back::{back_offsets, is_marked, mark};
+use crate::course::Course;
+use crate::method::Method;
+use crate::visiting::visit;
+use par_frame_steps::PlaceFrame;
+use par_lexer::list::NoMemory;
+use std::alloc::Global;
+
+/// Goes through the code, and back to each frame that rises, until nothing does on a whole way:
+/// whether frames are found.
+pub fn passes<'f>(
+    alloc: Global,
+    method: &Method<'_, 'f>,
+    table: &mut [Option<PlaceFrame<'f>>],
+) -> Result<bool, NoMemory>
+    requires { length (code_in method.now).code ≤ 65535 }
+    ensures { IfOk result (λ found. (start : Given) (first : KFrame) →
+        IsToldOf method.now start → start 0 ≡ Some first →
+        Kept (exc_of method.now) (act_in method.now) (handler_in method.now)
+        (code_in method.now) start (table_of table.old) →
+        Settles (exc_of method.now) (act_in method.now) (handler_in method.now)
+        (code_in method.now) start found) }
+{
+    let mut back = back_offsets(alloc, method)?;
+    let mut at = 0;
+    let mut again = false;
+    // Frames rise seldom enough: the steps never come to an end.
+    for _step in 0..u64::MAX {
+        if at >= method.code.code.len() {
+            if !again {
+                return Ok(true);
+            }
+            at = 0;
+            again = false;
+        } else {
+            match visit(alloc, method, table, at, is_marked(&back, at))? {
+                Course::Refused => return Ok(false),
+                Course::Calm => at += 1,
+                Course::Rises(to) => {
+                    mark(&mut back, to);
+                    again = true;
+                    at = to.min(at + 1);
+                }
+            }
+        }
+    }
+    Err(NoMemory)
+}

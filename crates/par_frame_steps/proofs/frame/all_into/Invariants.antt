@@ -1,0 +1,11 @@
+use Rattle.std.proofs.Common.{◌≡◌, drop}
+use Rattle.par_passes.specs.Passes.{all_into}
+use Rattle.par_frame_steps.specs.Marks.{names, kinds_of}
+use Rattle.par_frame_steps.proofs.frame.all_into.Given as goal
+
+-- what is left decides
+abbrev pub invariant-loop-place : goal.invariant-loop-place
+invariant-loop-place l =
+    all_into (names l.exceptions) (kinds_of (drop l.place l.kinds))
+    (kinds_of (drop l.place l.others))
+    ≡ all_into (names l.exceptions) (kinds_of l.kinds) (kinds_of l.others)

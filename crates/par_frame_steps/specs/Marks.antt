@@ -1,0 +1,85 @@
+-- The kinds, frames and acts that a verifier keeps, as those that they stand for.
+use Rattle.std.specs.Prelude.{ℕ, List, [], ◌∷◌, Option, Some, None, map}
+use Rattle.std.specs.Borrow.{Bor}
+use Rattle.par_values.specs.Areas.{Name}
+use Rattle.par_values.specs.declared.kind.Kind.{Kind}
+use Rattle.par_values.specs.declared.kind.Kind.TheVariants as asks
+use Rattle.par_kinds.specs.declared.frame.VKind.{VKind}
+use Rattle.par_kinds.specs.declared.frame.VKind.TheVariants.{Top, Int, Null, Object}
+use Rattle.par_kinds.specs.declared.frame.VKind.TheVariants.{Base}
+use Rattle.par_kinds.specs.Kinds.{KFrame}
+use Rattle.par_kinds.specs.Linked.{padded}
+use Rattle.par_kinds.specs.Acts as spec
+use Rattle.par_frame_steps.specs.declared.kind.PlaceKind.{PlaceKind}
+use Rattle.par_frame_steps.specs.declared.kind.PlaceKind.TheVariants as place
+use Rattle.par_frame_steps.specs.declared.frame.PlaceFrame.{PlaceFrame}
+use Rattle.par_frame_steps.specs.declared.act.Asked.{Asked}
+use Rattle.par_frame_steps.specs.declared.act.Asked.TheVariants as asked
+use Rattle.par_frame_steps.specs.declared.act.Also.{Also}
+use Rattle.par_frame_steps.specs.declared.act.Also.TheVariants as also
+use Rattle.par_frame_steps.specs.declared.act.Leaves.{Leaves}
+use Rattle.par_frame_steps.specs.declared.act.Leaves.TheVariants as leaves
+use Rattle.par_frame_steps.specs.declared.act.Flow.{Flow}
+use Rattle.par_frame_steps.specs.declared.act.Flow.TheVariants as flow
+use Rattle.par_frame_steps.specs.declared.act.Act.{Act}
+
+abbrev pub names : List (Bor (List ℕ)) → List Name
+names all = map (λ name. name.now) all
+
+abbrev pub kind_of : PlaceKind → VKind
+kind_of place.Top = Top
+kind_of place.Int = Int
+kind_of place.Null = Null
+kind_of (place.Object name) = Object name.now
+kind_of (place.Base exception) = Base exception
+
+abbrev pub kinds_of : List PlaceKind → List VKind
+kinds_of kinds = map kind_of kinds
+
+-- locals that are not listed hold anything
+abbrev pub locals_of : PlaceFrame → List VKind
+locals_of f = padded f.many (kinds_of f.locals.items)
+
+abbrev pub frame_of : PlaceFrame → KFrame
+frame_of f = record { locals = locals_of f; stack = kinds_of f.stack.items }
+
+-- ---- acts
+
+abbrev pub asked_of : Asked → Kind
+asked_of asked.Number = asks.Number
+asked_of (asked.Object name) = asks.Object name.now
+asked_of asked.AnyObject = asks.AnyObject
+asked_of asked.Anything = asks.Anything
+
+abbrev pub also_of : Also → spec.Also
+also_of also.Nothing = spec.Nothing
+also_of also.Throwable = spec.Throwable
+also_of also.Exceptional = spec.Exceptional
+also_of (also.Result kind) = spec.Result (asked_of kind)
+also_of (also.Local x kind) = spec.Local x (asked_of kind)
+also_of (also.InRange x) = spec.InRange x
+
+abbrev pub given : Option PlaceKind → List VKind
+given None = []
+given (Some k) = kind_of k ∷ []
+
+abbrev pub leaves_of : Leaves → spec.Leaves
+leaves_of (leaves.Gives k) = spec.Gives (given k)
+leaves_of (leaves.Loads x) = spec.Loads x
+leaves_of leaves.Copies = spec.Copies
+leaves_of (leaves.Stores x) = spec.Stores x
+
+abbrev pub flow_of : Flow → spec.Flow
+flow_of flow.Onward = spec.Onward
+flow_of (flow.Jumps to) = spec.Jumps to
+flow_of (flow.Branches to) = spec.Branches to
+flow_of flow.Nowhere = spec.Nowhere
+
+abbrev pub act_of : Act → spec.Act
+act_of a = record {
+  wrong = a.wrong;
+  takes = map asked_of a.takes.items;
+  also = also_of a.also;
+  leaves = leaves_of a.leaves;
+  flow = flow_of a.flow;
+}

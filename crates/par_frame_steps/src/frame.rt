@@ -1,0 +1,169 @@
+//! Frames of kinds.
+
+ghost use Rattle.std.specs.Prelude.{◌≡◌, IsTrue, IfOk, length};
+ghost use Rattle.par_passes.specs.Passes.{all_into, merge_all, frame_into, merge_frames};
+ghost use Rattle.par_kinds.specs.Kinds.{kind_at};
+ghost use Rattle.par_passes.specs.Passes.{same_lengths};
+ghost use Rattle.par_frame_steps.specs.Listed.{listed_into};
+ghost use Rattle.par_frame_steps.specs.Marks.{names, kind_of, kinds_of, locals_of, frame_of};
+
+use crate::kind::PlaceKind;
+use par_lexer::list::NoMemory;
+use std::alloc::Global;
+
+/// What locals and operands hold; the operand that was pushed last comes first. Locals that are not
+/// listed hold anything, so that a frame takes no memory for them.
+#[derive(Drop)]
+pub struct PlaceFrame<'f> {
+    /// How many locals there are, where no more are listed.
+    pub many: usize,
+    pub locals: Vec<PlaceKind<'f>>,
+    pub stack: Vec<PlaceKind<'f>>,
+}
+
+/// Whether each kind fits into the one at its place, of as many.
+pub(crate) fn all_into(exceptions: &[&[u8]], kinds: &[PlaceKind], others: &[PlaceKind]) -> bool
+    ensures { result ≡ all_into (names exceptions.now) (kinds_of kinds.now) (kinds_of others.now) }
+{
+    if kinds.len() != others.len() {
+        return false;
+    }
+    for (place, kind) in kinds.iter().enumerate() {
+        if !kind.fits_into(exceptions, others[place]) {
+            return false;
+        }
+    }
+    true
+}
+
+/// The least kind into which both fit, of each place that both list.
+fn merged<'f>(
+    alloc: Global,
+    exceptions: &[&[u8]],
+    kinds: &[PlaceKind<'f>],
+    others: &[PlaceKind<'f>],
+) -> Result<Vec<PlaceKind<'f>>, NoMemory>
+    ensures { IfOk result (λ all. kinds_of all.items
+        ≡ merge_all (names exceptions.now) (kinds_of kinds.entry.now)
+        (kinds_of others.entry.now)) }
+{
+    let mut all = Vec::new(alloc);
+    for (place, kind) in kinds.iter().enumerate() {
+        if place >= others.len() {
+            return Ok(all);
+        }
+        all.push(kind.merged(exceptions, others[place]))?;
+    }
+    Ok(all)
+}
+
+/// A copy of kinds.
+pub fn copied<'f>(alloc: Global, kinds: &[PlaceKind<'f>]) -> Result<Vec<PlaceKind<'f>>, NoMemory>
+    ensures { IfOk result (λ all. all.items ≡ kinds.entry.now) }
+{
+    let mut all = Vec::new(alloc);
+    all.extend_from_slice(kinds)?;
+    Ok(all)
+}
+
+/// The kind of a place, where those that are not listed hold anything.
+pub(crate) fn kind_at<'f>(kinds: &[PlaceKind<'f>], place: usize) -> PlaceKind<'f>
+    ensures { kind_of result ≡ kind_at (kinds_of kinds.entry.now) place }
+{
+    match kinds.get(place) {
+        Some(kind) => *kind,
+        None => PlaceKind::Top,
+    }
+}
+
+/// Whether each kind fits into the one at its place that is listed.
+fn listed_into(exceptions: &[&[u8]], kinds: &[PlaceKind], others: &[PlaceKind]) -> bool
+    ensures { result
+        ≡ listed_into (names exceptions.now) (kinds_of kinds.now) (kinds_of others.now) }
+{
+    for (place, other) in others.iter().enumerate() {
+        if !kind_at(kinds, place).fits_into(exceptions, *other) {
+            return false;
+        }
+    }
+    true
+}
+
+impl<'f> PlaceFrame<'f> {
+    /// How many locals there are.
+    #[tactic(auto, using(crate::proofs::Padded::padded_length))]
+    pub fn places(&self) -> usize
+        ensures { result ≡ length (frame_of self.now).locals }
+    {
+        let listed = self.locals.len();
+        if self.many < listed {
+            return listed;
+        }
+        self.many
+    }
+
+    /// Whether its locals fit into those of another.
+    #[tactic(auto, using(crate::proofs::Padded::padded_into, crate::proofs::Padded::padded_differ))]
+    fn locals_fit_into(&self, exceptions: &[&[u8]], other: &PlaceFrame) -> bool
+        ensures { result
+            ≡ all_into (names exceptions.now) (locals_of self.now) (locals_of other.now) }
+    {
+        if self.places() != other.places() {
+            return false;
+        }
+        listed_into(exceptions, &self.locals, &other.locals)
+    }
+
+    /// Whether it fits into another.
+    pub fn fits_into(&self, exceptions: &[&[u8]], other: &PlaceFrame) -> bool
+        ensures { result
+            ≡ frame_into (names exceptions.now) (frame_of self.now) (frame_of other.now) }
+    {
+        self.locals_fit_into(exceptions, other) && all_into(exceptions, &self.stack, &other.stack)
+    }
+
+    /// Whether its operands fit into those of another.
+    pub fn operands_fit_into(&self, exceptions: &[&[u8]], other: &PlaceFrame) -> bool
+        ensures { result ≡ all_into (names exceptions.now) (kinds_of self.now.stack.items)
+            (kinds_of other.now.stack.items) }
+    {
+        all_into(exceptions, &self.stack, &other.stack)
+    }
+
+    /// Whether another has as many locals and operands.
+    pub fn has_lengths_of(&self, other: &PlaceFrame) -> bool
+        ensures { result ≡ same_lengths (frame_of self.now) (frame_of other.now) }
+    {
+        self.places() == other.places() && self.stack.len() == other.stack.len()
+    }
+
+    /// The least frame into which both fit, where both have as many locals and operands.
+    #[tactic(auto, using(crate::proofs::Padded::padded_merged))]
+    pub fn merged(
+        &self,
+        alloc: Global,
+        exceptions: &[&[u8]],
+        other: &PlaceFrame<'f>,
+    ) -> Result<PlaceFrame<'f>, NoMemory>
+        requires { IsTrue (same_lengths (frame_of self.now) (frame_of other.now)) }
+        ensures { IfOk result (λ frame. frame_of frame
+            ≡ merge_frames (names exceptions.now) (frame_of self.now) (frame_of other.now)) }
+    {
+        Ok(PlaceFrame {
+            many: self.places(),
+            locals: merged(alloc, exceptions, &self.locals, &other.locals)?,
+            stack: merged(alloc, exceptions, &self.stack, &other.stack)?,
+        })
+    }
+
+    /// A copy.
+    pub fn copied(&self, alloc: Global) -> Result<PlaceFrame<'f>, NoMemory>
+        ensures { IfOk result (λ frame. frame_of frame ≡ frame_of self.now) }
+    {
+        Ok(PlaceFrame {
+            many: self.many,
+            locals: copied(alloc, &self.locals)?,
+            stack: copied(alloc, &self.stack)?,
+        })
+    }
+}

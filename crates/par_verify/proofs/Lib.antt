@@ -1,0 +1,9 @@
+pub mod Counting
+pub mod Deciding
+pub mod Judged
+pub mod Methods
+pub mod Naming
+pub mod Padding
+pub mod Starting
+pub mod Telling
+pub use Rattle.par_verified.proofs as par_verified

@@ -1,0 +1,33 @@
+use par_lexer::list::NoMemory;
+use std::alloc::AllocError;
+
+/// Why class files are not verified.
+#[derive(Clone, Copy, Debug, PartialEq, Eq)]
+pub enum VerifyError {
+    /// The first method that no frames fit: the place of its file in the list, and its own in the
+    /// table of methods.
+    Broken { class: u16, method: u32 },
+    Memory,
+}
+
+impl From<NoMemory> for VerifyError {
+    ghost use Rattle.std.specs.Prelude.{◌≡◌};
+    ghost use Rattle.par_verify.specs.declared.error.VerifyError.TheVariants.{Memory};
+
+    ghost from_gives = { λ _ e. e ≡ Memory };
+
+    fn from(_: NoMemory) -> VerifyError {
+        VerifyError::Memory
+    }
+}
+
+impl From<AllocError> for VerifyError {
+    ghost use Rattle.std.specs.Prelude.{◌≡◌};
+    ghost use Rattle.par_verify.specs.declared.error.VerifyError.TheVariants.{Memory};
+
+    ghost from_gives = { λ _ e. e ≡ Memory };
+
+    fn from(_: AllocError) -> VerifyError {
+        VerifyError::Memory
+    }
+}

@@ -1,0 +1,120 @@
+//! Whether frames fit one method.
+
+ghost use Rattle.std.specs.Prelude.{◌≡◌, ◌≤◌, ◌<◌, ℕ, Some, map, is_some, length, option_map, IfOk};
+ghost use Rattle.par_single.specs.Descriptors.{kind_of};
+ghost use Rattle.par_kinds.specs.Kinds.{KFrame};
+ghost use Rattle.par_kinds.specs.Linked.{caught_kind};
+ghost use Rattle.par_kinds.specs.Shapes as shapes;
+ghost use Rattle.par_kinds.specs.Shapes.{shape_at};
+ghost use Rattle.par_kinds.specs.Fits.{Given};
+ghost use Rattle.par_verified.specs.par_passes.Passes.{begins_as, frames_as_told, least_from};
+ghost use Rattle.par_verified.specs.par_passes.Passes.{start_table};
+ghost use Rattle.par_frame_steps.specs.Marks.{names, frame_of};
+ghost use Rattle.par_frame_passes.specs.Methods.{exc_of, act_in, handler_in, code_in, IsToldOf};
+ghost use Rattle.par_frame_passes.specs.Tables.{table_of};
+ghost use Rattle.par_verify.specs.Starts.{told_of};
+
+use crate::begun::start_table;
+use crate::sizes::are_sized;
+use crate::told::told_at;
+use par_class::file::CodeAttr;
+use par_frame_passes::{Method, Table, passes};
+use par_frame_steps::PlaceFrame;
+use par_kinds::PlacedFrame;
+use par_lexer::list::NoMemory;
+use par_link::Linked;
+use par_single::descriptor::Said;
+use par_starts::Starts;
+use std::alloc::Global;
+
+/// A method with code, and what is known of its file and of all.
+#[derive(Clone, Copy)]
+pub(crate) struct Site<'m, 'f> {
+    pub(crate) linked: &'f Linked,
+    pub(crate) class: u16,
+    pub(crate) code: &'f CodeAttr,
+    pub(crate) gives: Option<Said<'f>>,
+    pub(crate) exceptions: &'m [&'f [u8]],
+}
+
+/// Of each offset whether the frame from which the passes start stays as it is.
+fn fixed(alloc: Global, table: &[Option<PlaceFrame>]) -> Result<Vec<bool>, NoMemory>
+    ensures { IfOk result (λ fixed. fixed.items ≡ map is_some (table_of table.now)) }
+{
+    let mut fixed = Vec::new(alloc);
+    for frame in table {
+        fixed.push(frame.is_some())?;
+    }
+    Ok(fixed)
+}
+
+/// Whether what is told of offset 0 is the frame of a call.
+fn begins_as(exceptions: &[&[u8]], first: &PlaceFrame, told: &Option<PlaceFrame>) -> bool
+    ensures { result ≡ begins_as (names exceptions.now) (frame_of first.now)
+        (option_map frame_of told.now) }
+{
+    match told {
+        Some(told) => { told.fits_into(exceptions, first) && first.fits_into(exceptions, told) }
+        None => true,
+    }
+}
+
+/// Whether frames that fit are found from these.
+fn settle<'f>(
+    alloc: Global,
+    method: &Method<'_, 'f>,
+    mut table: Table<'f>,
+) -> Result<bool, NoMemory>
+    requires small { length (code_in method.now).code ≤ 65535 }
+    requires many { length table.items ≤ 65535 }
+    ensures { IfOk result (λ found. (start : Given) (first : KFrame) →
+        IsToldOf method.now start → start 0 ≡ Some first →
+        ((at : ℕ) (k : KFrame) → start at ≡ Some k → at < length (code_in method.now).code) →
+        table_of table.entry.items ≡ start_table start 0 (code_in method.now).code →
+        found ≡ is_some (least_from (exc_of method.now) (act_in method.now)
+        (handler_in method.now) (code_in method.now) start (table_of table.entry.items))) }
+{
+    if !are_sized(method, &table) {
+        return Ok(false);
+    }
+    passes(alloc, method, table.as_mut_slice())
+}
+
+/// Whether frames fit the code of a method that begins with this one, and are those that are told.
+pub(crate) fn judge<'f>(
+    alloc: Global,
+    site: Site<'_, 'f>,
+    first: &PlaceFrame<'f>,
+    frames: &'f [PlacedFrame],
+) -> Result<bool, NoMemory>
+    requires small { length site.code.now.code ≤ 65535 }
+    requires within { (at : ℕ) (k : KFrame) →
+        told_of site.code.now.max_locals frames.now at ≡ Some k →
+        at < length site.code.now.code }
+    ensures { IfOk result (λ found. found ≡ is_some (frames_as_told
+        (names site.entry.exceptions.now)
+        (shapes.act_of (option_map kind_of site.entry.gives)
+        (shape_at site.entry.linked.now site.entry.class))
+        (caught_kind site.entry.linked.now site.entry.class) site.entry.code.now
+        (frame_of first.now)
+        (told_of site.entry.code.now.max_locals frames.entry.now))) }
+{
+    let code = site.code;
+    let starts = Starts::of(alloc, code.code.as_slice())?;
+    let told = told_at(alloc, code.max_locals, frames, 0)?;
+    if !starts.has(0) || !begins_as(site.exceptions, first, &told) {
+        return Ok(false);
+    }
+    let table = start_table(alloc, first, code.max_locals, frames, code.code.as_slice())?;
+    let fixed = fixed(alloc, &table)?;
+    let method = Method {
+        linked: site.linked,
+        class: site.class,
+        code,
+        gives: site.gives,
+        exceptions: site.exceptions,
+        starts: &starts,
+        fixed: fixed.as_slice(),
+    };
+    settle(alloc, &method, table)
+}
