@@ -8,3 +8,4 @@ pub mod Fields
 pub mod Objects
 pub mod Callee
 pub mod Calls
+pub use Rattle.par_lines.specs as par_lines

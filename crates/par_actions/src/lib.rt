@@ -33,6 +33,7 @@ pub use fit::{Fit, accepts};
 pub use leaving::{Gives, is_exception, leave, leave_number, leave_object, throw};
 pub use misnaming::{misnamed, misnamed_read, misnamed_write};
 pub use objects::{get_field, put_field};
+pub use par_lines;
 pub use values::{
     copy, discard, load_number, load_object, push_null, push_number, store_number, store_object,
 };

@@ -12,22 +12,24 @@ use Rattle.std.specs.Str.{bytes_eq}
 use Rattle.std.proofs.lemmas.Bool.{cases_eq, eq-eqb, ne_eqb, eqb-true, cond-true, cond-false}
 use Rattle.par_policy.specs.Numbers.{has}
 use Rattle.std.proofs.lemmas.Slice.Eq.{bytes_eq-Decides}
-use Rattle.par_typed.specs.declared.ty.Ty.{Ty}
-use Rattle.par_typed.specs.declared.ty.Ty.TheVariants as ty
-use Rattle.par_typed.specs.declared.table.Table.{Table}
-use Rattle.par_values.specs.declared.kind.Kind.{Kind}
-use Rattle.par_values.specs.declared.kind.Kind.TheVariants as kind
+use Rattle.par_runs.specs.par_typed.declared.ty.Ty.{Ty}
+use Rattle.par_runs.specs.par_typed.declared.ty.Ty.TheVariants as ty
+use Rattle.par_runs.specs.par_typed.declared.table.Table.{Table}
+use Rattle.par_runs.specs.par_values.declared.kind.Kind.{Kind}
+use Rattle.par_runs.specs.par_values.declared.kind.Kind.TheVariants as kind
 use Rattle.par_runs.specs.Values.{truth}
-use Rattle.par_values.specs.declared.value.MVal.{MVal}
-use Rattle.par_values.specs.declared.value.MVal.TheVariants as value
-use Rattle.par_values.specs.Areas.{Name, Areas, InputLists, Objects, fits, first_value, local_value}
-use Rattle.par_values.specs.Areas.{objects_of, list_or_none, value_or_null, class_named, taken_from}
-use Rattle.par_values.specs.Areas.{left}
-use Rattle.par_values.specs.Areas as areas
+use Rattle.par_runs.specs.par_values.declared.value.MVal.{MVal}
+use Rattle.par_runs.specs.par_values.declared.value.MVal.TheVariants as value
+use Rattle.par_runs.specs.par_values.Areas.{Name, Areas, InputLists, Objects, fits, first_value}
+use Rattle.par_runs.specs.par_values.Areas.{local_value}
+use Rattle.par_runs.specs.par_values.Areas.{objects_of, list_or_none, value_or_null, class_named}
+use Rattle.par_runs.specs.par_values.Areas.{taken_from}
+use Rattle.par_runs.specs.par_values.Areas.{left}
+use Rattle.par_runs.specs.par_values.Areas as areas
 use Rattle.par_runs.specs.State.{State, put, set_local, set_static, with_object, take_input}
 use Rattle.par_runs.specs.Names as names
 use Rattle.par_matching.specs.Labelled.{Naming}
-use Rattle.par_code_form.specs.Code.{Words, is_number}
+use Rattle.par_matching.specs.par_code_form.Code.{Words, is_number}
 use Rattle.par_agreeing.specs.Laid.{Layout, moved, HasType, IsSet, kind_of}
 
 abbrev pub Grows : State → State → Type 0
@@ -504,7 +506,7 @@ module _ (env : Naming) (w : Words) (lay : Layout) (t : Table) (lays : Lays env 
   value_shown b ty.Int (value.Ref c n) h nv = absurd h
   value_shown b ty.Boolean (value.Ref c n) h nv = absurd h
   value_shown b (ty.Class d) (value.Ref c n) h nv =
-      ap (λ x. Rattle.par_values.specs.declared.run.Val.TheVariants.Ref x n)
+      ap (λ x. Rattle.par_runs.specs.par_values.declared.run.Val.TheVariants.Ref x n)
       (lays.number_named c h.1)
       ∙ ap (λ o. Rattle.par_runs.specs.Values.shown_object o n) (sym (lays.class_named c h.1))
   value_shown b ty.Null (value.Ref c n) h nv = absurd h

@@ -10,16 +10,16 @@ use Rattle.std.proofs.lemmas.List.{length-set}
 use Rattle.std.proofs.lemmas.Option.{slice_get_within}
 use Rattle.std.proofs.lemmas.Bool.{cases_eq, eq-eqb, ne_eqb, eqb-true, cond-true, lt-ltb}
 use Rattle.par_policy.specs.Numbers.{has}
-use Rattle.par_typed.specs.declared.ty.Ty.{Ty}
-use Rattle.par_typed.specs.declared.table.Table.{Table}
-use Rattle.par_values.specs.declared.value.MVal.{MVal}
-use Rattle.par_values.specs.declared.value.MVal.TheVariants as value
-use Rattle.par_values.specs.Areas.{Areas, local_value, list_or_none, objects_of, object_at}
-use Rattle.par_values.specs.Areas as areas
+use Rattle.par_runs.specs.par_typed.declared.ty.Ty.{Ty}
+use Rattle.par_runs.specs.par_typed.declared.table.Table.{Table}
+use Rattle.par_runs.specs.par_values.declared.value.MVal.{MVal}
+use Rattle.par_runs.specs.par_values.declared.value.MVal.TheVariants as value
+use Rattle.par_runs.specs.par_values.Areas.{Areas, local_value, list_or_none, objects_of, object_at}
+use Rattle.par_runs.specs.par_values.Areas as areas
 use Rattle.par_runs.specs.State.{State, put, set_field, open_lock, close_lock, opened, closed}
 use Rattle.par_runs.specs.State.{restored}
 use Rattle.par_runs.specs.Values.{truth}
-use Rattle.par_code_form.specs.Code.{Words}
+use Rattle.par_matching.specs.par_code_form.Code.{Words}
 use Rattle.par_matching.specs.Labelled.{Naming}
 use Rattle.par_agreeing.specs.Laid.{Layout, moved, HasType, IsSet}
 use Rattle.par_agreeing.specs.Agreement.{Lays, Fine}

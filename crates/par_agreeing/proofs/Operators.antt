@@ -3,17 +3,18 @@ use Rattle.std.proofs.Common.{◌≡◌, ℕ, ◌+◌, Bool, true, false, not, r
 use Rattle.std.specs.Prelude.{ℤ, pos}
 use Rattle.par_lexer.specs.declared.operator.BinOp.{BinOp}
 use Rattle.par_lexer.specs.declared.operator.BinOp.TheVariants as bin
-use Rattle.par_values.specs.declared.link.Link.TheVariants as link
-use Rattle.par_values.specs.declared.value.MVal.{MVal}
-use Rattle.par_values.specs.declared.value.MVal.TheVariants as value
-use Rattle.par_values.specs.Areas.{number_of}
-use Rattle.par_values.specs.Arithmetic.{divides_by_zero, compares}
-use Rattle.par_values.specs.Operations.{operation, Combine, JumpIf, JumpIfBoth, JumpIfSame}
-use Rattle.par_values.specs.Effects.{comes}
+use Rattle.par_runs.specs.par_values.declared.link.Link.TheVariants as link
+use Rattle.par_runs.specs.par_values.declared.value.MVal.{MVal}
+use Rattle.par_runs.specs.par_values.declared.value.MVal.TheVariants as value
+use Rattle.par_runs.specs.par_values.Areas.{number_of}
+use Rattle.par_runs.specs.par_values.Arithmetic.{divides_by_zero, compares}
+use Rattle.par_runs.specs.par_values.Operations.{operation, Combine, JumpIf, JumpIfBoth, JumpIfSame}
+use Rattle.par_runs.specs.par_values.Effects.{comes}
 use Rattle.par_runs.specs.Values.{decides, throws, applied, calculated, truth, same}
 use Rattle.par_matching.specs.Labelled.{branch}
-use Rattle.par_code_form.specs.Code.{Shape, Calculates, Compares, Sames, Decides, shape}
-use Rattle.par_code_form.specs.Code.{same_opcode}
+use Rattle.par_matching.specs.par_code_form.Code.{Shape, Calculates, Compares, Sames, Decides}
+use Rattle.par_matching.specs.par_code_form.Code.{shape}
+use Rattle.par_matching.specs.par_code_form.Code.{same_opcode}
 
 abbrev pub Means : BinOp → Shape → Type 0
 Means op (Calculates o i) =

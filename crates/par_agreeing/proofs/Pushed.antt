@@ -4,10 +4,10 @@ use Rattle.std.proofs.Common.{length, take, drop, reverse, Some, refl, ap, sym, 
 use Rattle.std.proofs.Common.{append_assoc}
 use Rattle.std.specs.List.{slice_get}
 use Rattle.std.proofs.lemmas.List.{reverse-append, reverse-reverse, append-nil}
-use Rattle.par_values.specs.declared.kind.Kind.{Kind}
-use Rattle.par_values.specs.declared.value.MVal.{MVal}
-use Rattle.par_values.specs.Areas.{Name, fits}
-use Rattle.par_values.specs.Reasons.{all_fit}
+use Rattle.par_runs.specs.par_values.declared.kind.Kind.{Kind}
+use Rattle.par_runs.specs.par_values.declared.value.MVal.{MVal}
+use Rattle.par_runs.specs.par_values.Areas.{Name, fits}
+use Rattle.par_runs.specs.par_values.Reasons.{all_fit}
 
 -- the first of these was pushed first
 abbrev pub pushed : {A : Type 0} → List A → List A → List A

@@ -4,23 +4,23 @@ use Rattle.std.proofs.Common.{◌≡◌, ℕ, Bool, true, false, ◌&&◌, refl,
 use Rattle.std.specs.Prelude.{◌==◌, nat_le, cond}
 use Rattle.std.proofs.lemmas.Bool.{eq-eqb, ne_eqb, cases_eq}
 use Rattle.std.proofs.Common.{inl, inr, ◌⊎◌}
-use Rattle.par_typed.specs.declared.ty.Ty.{Ty}
-use Rattle.par_typed.specs.declared.table.Table.{Table}
+use Rattle.par_runs.specs.par_typed.declared.ty.Ty.{Ty}
+use Rattle.par_runs.specs.par_typed.declared.table.Table.{Table}
 use Rattle.par_instr.specs.declared.instr.Instr.{Instr}
 use Rattle.par_instr.specs.declared.instr.Instr.TheVariants.{Iload, Aload, IloadShort, AloadShort}
 use Rattle.par_instr.specs.declared.instr.Instr.TheVariants.{Istore, Astore, IstoreShort}
 use Rattle.par_instr.specs.declared.instr.Instr.TheVariants.{AstoreShort}
-use Rattle.par_values.specs.declared.kind.Kind.{Kind}
-use Rattle.par_values.specs.declared.kind.Kind.TheVariants as kind
-use Rattle.par_values.specs.declared.link.Link.TheVariants as link
-use Rattle.par_values.specs.declared.value.MVal.{MVal}
-use Rattle.par_values.specs.declared.value.MVal.TheVariants as value
-use Rattle.par_values.specs.Operations.{operation, Load, Store}
-use Rattle.par_values.specs.Effects.{is_same}
+use Rattle.par_runs.specs.par_values.declared.kind.Kind.{Kind}
+use Rattle.par_runs.specs.par_values.declared.kind.Kind.TheVariants as kind
+use Rattle.par_runs.specs.par_values.declared.link.Link.TheVariants as link
+use Rattle.par_runs.specs.par_values.declared.value.MVal.{MVal}
+use Rattle.par_runs.specs.par_values.declared.value.MVal.TheVariants as value
+use Rattle.par_runs.specs.par_values.Operations.{operation, Load, Store}
+use Rattle.par_runs.specs.par_values.Effects.{is_same}
 use Rattle.par_runs.specs.Values.{same}
-use Rattle.par_code_form.specs.declared.item.Item.TheVariants.{Op}
+use Rattle.par_matching.specs.par_code_form.declared.item.Item.TheVariants.{Op}
 use Rattle.par_matching.specs.Labelled.{Naming}
-use Rattle.par_code_form.specs.Code.{Words, is_number, load, store}
+use Rattle.par_matching.specs.par_code_form.Code.{Words, is_number, load, store}
 use Rattle.par_agreeing.specs.Laid.{Layout, moved}
 use Rattle.par_agreeing.specs.Agreement.{Lays}
 use Rattle.par_agreeing.proofs.Good.{IsReference, Object}

@@ -7,27 +7,29 @@ use Rattle.std.specs.Prelude.{◌==◌}
 use Rattle.std.specs.List.{slice_get}
 use Rattle.std.specs.Str.{bytes_eq}
 use Rattle.par_policy.specs.Numbers.{has}
-use Rattle.par_typed.specs.declared.ty.Ty.{Ty}
-use Rattle.par_typed.specs.declared.ty.Ty.TheVariants as ty
-use Rattle.par_typed.specs.declared.table.Table.{Table}
-use Rattle.par_values.specs.declared.kind.Kind.{Kind}
-use Rattle.par_values.specs.declared.kind.Kind.TheVariants as kind
-use Rattle.par_values.specs.declared.link.Link.TheVariants as link
-use Rattle.par_values.specs.declared.link.Target.TheVariants as to
-use Rattle.par_values.specs.declared.link.MethodLink.{MethodLink}
-use Rattle.par_values.specs.declared.link.Target.{Target}
+use Rattle.par_runs.specs.par_typed.declared.ty.Ty.{Ty}
+use Rattle.par_runs.specs.par_typed.declared.ty.Ty.TheVariants as ty
+use Rattle.par_runs.specs.par_typed.declared.table.Table.{Table}
+use Rattle.par_runs.specs.par_values.declared.kind.Kind.{Kind}
+use Rattle.par_runs.specs.par_values.declared.kind.Kind.TheVariants as kind
+use Rattle.par_runs.specs.par_values.declared.link.Link.TheVariants as link
+use Rattle.par_runs.specs.par_values.declared.link.Target.TheVariants as to
+use Rattle.par_runs.specs.par_values.declared.link.MethodLink.{MethodLink}
+use Rattle.par_runs.specs.par_values.declared.link.Target.{Target}
 use Rattle.par_runs.specs.Values.{truth}
-use Rattle.par_values.specs.declared.value.MVal.{MVal}
-use Rattle.par_values.specs.declared.value.MVal.TheVariants as value
-use Rattle.par_values.specs.Areas.{Name, Areas, InputLists, Objects, fits, first_value, local_value}
-use Rattle.par_values.specs.Areas.{objects_of, list_or_none, value_or_null, class_named, taken_from}
-use Rattle.par_values.specs.Areas.{left}
-use Rattle.par_values.specs.Areas as areas
-use Rattle.par_values.specs.Reasons.{is_of}
+use Rattle.par_runs.specs.par_values.declared.value.MVal.{MVal}
+use Rattle.par_runs.specs.par_values.declared.value.MVal.TheVariants as value
+use Rattle.par_runs.specs.par_values.Areas.{Name, Areas, InputLists, Objects, fits, first_value}
+use Rattle.par_runs.specs.par_values.Areas.{local_value}
+use Rattle.par_runs.specs.par_values.Areas.{objects_of, list_or_none, value_or_null, class_named}
+use Rattle.par_runs.specs.par_values.Areas.{taken_from}
+use Rattle.par_runs.specs.par_values.Areas.{left}
+use Rattle.par_runs.specs.par_values.Areas as areas
+use Rattle.par_runs.specs.par_values.Reasons.{is_of}
 use Rattle.par_runs.specs.State.{State}
 use Rattle.par_runs.specs.Names as names
 use Rattle.par_matching.specs.Labelled.{Naming}
-use Rattle.par_code_form.specs.Code.{Words, is_void}
+use Rattle.par_matching.specs.par_code_form.Code.{Words, is_void}
 use Rattle.par_agreeing.specs.Laid.{Layout, Meth, OfValues, given_types, moved, HasType, IsSet}
 use Rattle.par_agreeing.specs.Laid.{kind_of}
 

@@ -2,23 +2,26 @@
 use Rattle.std.specs.Prelude.{◌≡◌, ℕ, suc, ◌≤◌, ◌<◌, ◌⊎◌, Bool, true, false, List, [], ◌∷◌, IsTrue}
 use Rattle.std.specs.Prelude.{Option, Some, if◌then◌else◌}
 use Rattle.par_policy.specs.Numbers.{has}
-use Rattle.par_typed.specs.declared.ty.Ty.{Ty}
-use Rattle.par_typed.specs.declared.ty.Ty.TheVariants as ty
-use Rattle.par_typed.specs.Plain.{mark, TExp, Int, Boolean, Null, This, New, Local, Static}
-use Rattle.par_typed.specs.Plain.{Field, Input, Output, Call, Neg, Not, Binary}
-use Rattle.par_typed.specs.Plain.{TSta, Block, If, While, Try, Return, Break, Continue, Throw, Open}
-use Rattle.par_typed.specs.Plain.{Close, SetLocal, SetStatic, SetField, Eval, When}
-use Rattle.par_typed.specs.Plain.{MayTSta, NoElse, Otherwise, TStas, End, Then, TCatches, NoCatch}
-use Rattle.par_typed.specs.Plain.{Catch}
-use Rattle.par_typed.specs.Plain.{Absent, Present, TExps, NoExps, More}
-use Rattle.par_values.specs.declared.kind.Kind.{Kind}
-use Rattle.par_values.specs.declared.kind.Kind.TheVariants as kind
-use Rattle.par_values.specs.declared.value.MVal.{MVal}
-use Rattle.par_values.specs.declared.value.MVal.TheVariants as value
-use Rattle.par_completes.specs.Typed.{is_true}
-use Rattle.par_code_form.specs.Code.{Words, Shape, Calculates, Compares, Sames, Decides, shape_of}
-use Rattle.par_code_form.specs.Code.{is_number}
-use Rattle.par_code_form.specs.Operands.{with_result}
+use Rattle.par_runs.specs.par_typed.declared.ty.Ty.{Ty}
+use Rattle.par_runs.specs.par_typed.declared.ty.Ty.TheVariants as ty
+use Rattle.par_runs.specs.par_typed.Plain.{mark, TExp, Int, Boolean, Null, This, New, Local, Static}
+use Rattle.par_runs.specs.par_typed.Plain.{Field, Input, Output, Call, Neg, Not, Binary}
+use Rattle.par_runs.specs.par_typed.Plain.{TSta, Block, If, While, Try, Return, Break, Continue}
+use Rattle.par_runs.specs.par_typed.Plain.{Throw, Open}
+use Rattle.par_runs.specs.par_typed.Plain.{Close, SetLocal, SetStatic, SetField, Eval, When}
+use Rattle.par_runs.specs.par_typed.Plain.{MayTSta, NoElse, Otherwise, TStas, End, Then, TCatches}
+use Rattle.par_runs.specs.par_typed.Plain.{NoCatch}
+use Rattle.par_runs.specs.par_typed.Plain.{Catch}
+use Rattle.par_runs.specs.par_typed.Plain.{Absent, Present, TExps, NoExps, More}
+use Rattle.par_runs.specs.par_values.declared.kind.Kind.{Kind}
+use Rattle.par_runs.specs.par_values.declared.kind.Kind.TheVariants as kind
+use Rattle.par_runs.specs.par_values.declared.value.MVal.{MVal}
+use Rattle.par_runs.specs.par_values.declared.value.MVal.TheVariants as value
+use Rattle.par_matching.specs.par_completes.Typed.{is_true}
+use Rattle.par_matching.specs.par_code_form.Code.{Words, Shape, Calculates, Compares, Sames}
+use Rattle.par_matching.specs.par_code_form.Code.{Decides, shape_of}
+use Rattle.par_matching.specs.par_code_form.Code.{is_number}
+use Rattle.par_matching.specs.par_code_form.Operands.{with_result}
 
 -- a method: what it takes and gives, the types of its locals, how many there are, and its body
 pub record Meth : Type 0 where

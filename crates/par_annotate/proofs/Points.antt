@@ -1,23 +1,25 @@
 -- The points of a typed tree are the numbers from its own on, each once, in the order of the nodes.
 use Rattle.std.proofs.Common.{◌≡◌, ℕ, zero, suc, ◌+◌, Bool, true, false, List, [], ◌∷◌, ◌++◌}
 use Rattle.std.proofs.Common.{Option, Some, None, refl, sym, ap, subst, ◌∙◌, arith}
-use Rattle.par_tree.specs.Plain.{Exp, Int, True, False, Null, This, New, Name, Field, Call, Neg}
-use Rattle.par_tree.specs.Plain.{Not, Binary}
-use Rattle.par_tree.specs.Plain.{Exps, NoExps, More, MayExp, Absent, Present}
-use Rattle.par_typed.specs.declared.table.ChannelInfo.{ChannelInfo}
-use Rattle.par_typed.specs.declared.ty.Ty.TheVariants as ty
-use Rattle.par_typed.specs.Plain as typed
-use Rattle.par_typed.specs.Plain.{Mark, TExp, MayTExp, TExps}
-use Rattle.par_typed.specs.Nodes.{nodes, may_nodes, args_nodes}
-use Rattle.par_scope.specs.declared.members.Place.{Place}
-use Rattle.par_scope.specs.declared.meaning.Receiver.{Receiver}
-use Rattle.par_scope.specs.declared.meaning.Receiver.TheVariants.{Own, Class, Object}
-use Rattle.par_scope.specs.declared.meaning.Callee.{Callee}
-use Rattle.par_scope.specs.declared.meaning.Callee.TheVariants.{Unknown, Channel, Method}
-use Rattle.par_scope.specs.Home.{Home}
-use Rattle.par_scope.specs.Members.{field_at, channel_at, method_at, field_is_static}
-use Rattle.par_scope.specs.Members.{method_is_static}
-use Rattle.par_scope.specs.Meaning.{type_of, called_on, receiver_of, selected, called, sure}
+use Rattle.par_types.specs.par_tree.Plain.{Exp, Int, True, False, Null, This, New, Name, Field}
+use Rattle.par_types.specs.par_tree.Plain.{Call, Neg}
+use Rattle.par_types.specs.par_tree.Plain.{Not, Binary}
+use Rattle.par_types.specs.par_tree.Plain.{Exps, NoExps, More, MayExp, Absent, Present}
+use Rattle.par_types.specs.par_typed.declared.table.ChannelInfo.{ChannelInfo}
+use Rattle.par_types.specs.par_typed.declared.ty.Ty.TheVariants as ty
+use Rattle.par_types.specs.par_typed.Plain as typed
+use Rattle.par_types.specs.par_typed.Plain.{Mark, TExp, MayTExp, TExps}
+use Rattle.par_types.specs.par_typed.Nodes.{nodes, may_nodes, args_nodes}
+use Rattle.par_types.specs.par_scope.declared.members.Place.{Place}
+use Rattle.par_types.specs.par_scope.declared.meaning.Receiver.{Receiver}
+use Rattle.par_types.specs.par_scope.declared.meaning.Receiver.TheVariants.{Own, Class, Object}
+use Rattle.par_types.specs.par_scope.declared.meaning.Callee.{Callee}
+use Rattle.par_types.specs.par_scope.declared.meaning.Callee.TheVariants.{Unknown, Channel, Method}
+use Rattle.par_types.specs.par_scope.Home.{Home}
+use Rattle.par_types.specs.par_scope.Members.{field_at, channel_at, method_at, field_is_static}
+use Rattle.par_types.specs.par_scope.Members.{method_is_static}
+use Rattle.par_types.specs.par_scope.Meaning.{type_of, called_on, receiver_of, selected, called}
+use Rattle.par_types.specs.par_scope.Meaning.{sure}
 use Rattle.par_annotate.specs.Frames.{Frame, Var, var_named}
 use Rattle.par_annotate.specs.Exprs.{own_this, own_field, field_named, name_typed, negation}
 use Rattle.par_annotate.specs.Exprs.{number_of, selection, own_receiver, method_on}

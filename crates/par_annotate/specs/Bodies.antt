@@ -1,13 +1,14 @@
 -- The typed bodies of a program.
 use Rattle.std.specs.Prelude.{ℕ, Bool, true, false, List, [], ◌∷◌, ◌++◌, Option, Some, None}
 use Rattle.std.specs.Prelude.{slice_get}
-use Rattle.par_tree.specs.declared.decl.ParamDecl.{ParamDecl}
-use Rattle.par_tree.specs.Plain.{Method, Class, Declaration, Source, Actors, Lock, Policy, Declared}
-use Rattle.par_typed.specs.declared.table.Table.{Table}
-use Rattle.par_typed.specs.Plain.{Body}
-use Rattle.par_scope.specs.Names.{Names, names_of, number_in, methods_in}
-use Rattle.par_scope.specs.Locals.{no_locals}
-use Rattle.par_scope.specs.Home.{Home, class_named, result_written}
+use Rattle.par_types.specs.par_tree.declared.decl.ParamDecl.{ParamDecl}
+use Rattle.par_types.specs.par_tree.Plain.{Method, Class, Declaration, Source, Actors, Lock, Policy}
+use Rattle.par_types.specs.par_tree.Plain.{Declared}
+use Rattle.par_types.specs.par_typed.declared.table.Table.{Table}
+use Rattle.par_types.specs.par_typed.Plain.{Body}
+use Rattle.par_types.specs.par_scope.Names.{Names, names_of, number_in, methods_in}
+use Rattle.par_types.specs.par_scope.Locals.{no_locals}
+use Rattle.par_types.specs.par_scope.Home.{Home, class_named, result_written}
 use Rattle.par_types.specs.Methods.{home_of, param_slot}
 use Rattle.par_annotate.specs.Frames.{Frame, with_local}
 use Rattle.par_annotate.specs.Exprs.{numbered}

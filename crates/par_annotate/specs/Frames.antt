@@ -1,8 +1,8 @@
 -- What a body knows where a typed tree is made.
 use Rattle.std.specs.Prelude.{ℕ, ◌+◌, List, [], ◌∷◌, ◌++◌, Option, Some, None, slice_get}
-use Rattle.par_scope.specs.declared.locals.Slot.{Slot}
-use Rattle.par_scope.specs.Names.{number_in}
-use Rattle.par_scope.specs.Locals.{Scope, declared}
+use Rattle.par_types.specs.par_scope.declared.locals.Slot.{Slot}
+use Rattle.par_types.specs.par_scope.Names.{number_in}
+use Rattle.par_types.specs.par_scope.Locals.{Scope, declared}
 
 -- the number of a local, and that of the policy that its declaration writes
 pub record Var : Type 0 where

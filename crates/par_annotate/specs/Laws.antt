@@ -1,8 +1,8 @@
 -- The law of points.
 use Rattle.std.specs.Prelude.{◌≡◌}
-use Rattle.par_tree.specs.Plain.{Method}
-use Rattle.par_typed.specs.Nodes.{stmt_nodes}
-use Rattle.par_scope.specs.Home.{Home}
+use Rattle.par_types.specs.par_tree.Plain.{Method}
+use Rattle.par_types.specs.par_typed.Nodes.{stmt_nodes}
+use Rattle.par_types.specs.par_scope.Home.{Home}
 use Rattle.par_annotate.specs.Stmts.{Written}
 use Rattle.par_annotate.specs.Bodies.{typed_body}
 use Rattle.par_annotate.specs.Points.{count_from, stmt_points}

@@ -1,12 +1,16 @@
 -- The points of a typed tree, in the order of its nodes: each node before its parts, and the parts
 -- in source order.
 use Rattle.std.specs.Prelude.{ℕ, zero, suc, ◌+◌, List, [], ◌∷◌, ◌++◌}
-use Rattle.par_typed.specs.Plain.{TExp, Int, Boolean, Null, This, New, Local, Static, Field, Input}
-use Rattle.par_typed.specs.Plain.{Output, Call, Neg, Not, Binary, MayTExp, Absent, Present}
-use Rattle.par_typed.specs.Plain.{TExps, NoExps, More}
-use Rattle.par_typed.specs.Plain.{TSta, Block, If, While, Try, Return, Break, Continue, Throw, Open}
-use Rattle.par_typed.specs.Plain.{Close, SetLocal, SetStatic, SetField, Eval, When, MayTSta, NoElse}
-use Rattle.par_typed.specs.Plain.{Otherwise, TStas, End, Then, TCatches, NoCatch, Catch}
+use Rattle.par_types.specs.par_typed.Plain.{TExp, Int, Boolean, Null, This, New, Local, Static}
+use Rattle.par_types.specs.par_typed.Plain.{Field, Input}
+use Rattle.par_types.specs.par_typed.Plain.{Output, Call, Neg, Not, Binary, MayTExp, Absent}
+use Rattle.par_types.specs.par_typed.Plain.{Present}
+use Rattle.par_types.specs.par_typed.Plain.{TExps, NoExps, More}
+use Rattle.par_types.specs.par_typed.Plain.{TSta, Block, If, While, Try, Return, Break, Continue}
+use Rattle.par_types.specs.par_typed.Plain.{Throw, Open}
+use Rattle.par_types.specs.par_typed.Plain.{Close, SetLocal, SetStatic, SetField, Eval, When}
+use Rattle.par_types.specs.par_typed.Plain.{MayTSta, NoElse}
+use Rattle.par_types.specs.par_typed.Plain.{Otherwise, TStas, End, Then, TCatches, NoCatch, Catch}
 
 -- so many numbers from one on
 unfoldable pub count_from : ℕ → ℕ → List ℕ

@@ -1,24 +1,28 @@
 -- The typed tree of a statement.
 use Rattle.std.specs.Prelude.{ℕ, ◌+◌, Bool, true, false, Option, Some, None}
-use Rattle.par_tree.specs.declared.policy.LockTree.{LockTree}
-use Rattle.par_tree.specs.declared.policy.PolicyExpr.{PolicyExpr}
-use Rattle.par_tree.specs.Plain.{Exp, Int, True, False, Null, This, New, Name, Field, Call, Neg}
-use Rattle.par_tree.specs.Plain.{Not, Binary}
-use Rattle.par_tree.specs.Plain.{Sta, Block, If, While, Try, Return, Break, Continue, Throw, Open}
-use Rattle.par_tree.specs.Plain.{Close}
-use Rattle.par_tree.specs.Plain.{Declare, Assign, Do, When, Braces, In, MayBraces, NoBraces}
-use Rattle.par_tree.specs.Plain.{Else, NoElse, Otherwise, Stas, End, Then, Catches, NoCatch, Catch}
-use Rattle.par_tree.specs.Plain.{Handler, On}
-use Rattle.par_tree.specs.Plain as plain
-use Rattle.par_typed.specs.Plain as typed
-use Rattle.par_typed.specs.Plain.{TExp, TSta, TStas, MayTSta, TCatches}
-use Rattle.par_typed.specs.Nodes.{nodes, stmt_nodes}
-use Rattle.par_scope.specs.declared.members.Place.{Place}
-use Rattle.par_scope.specs.declared.meaning.Receiver.{Receiver}
-use Rattle.par_scope.specs.declared.meaning.Receiver.TheVariants.{Own, Class, Object}
-use Rattle.par_scope.specs.Home.{Home, class_named}
-use Rattle.par_scope.specs.Members.{field_at, field_is_static}
-use Rattle.par_scope.specs.Meaning.{type_of, receiver_of, selected}
+use Rattle.par_types.specs.par_tree.declared.policy.LockTree.{LockTree}
+use Rattle.par_types.specs.par_tree.declared.policy.PolicyExpr.{PolicyExpr}
+use Rattle.par_types.specs.par_tree.Plain.{Exp, Int, True, False, Null, This, New, Name, Field}
+use Rattle.par_types.specs.par_tree.Plain.{Call, Neg}
+use Rattle.par_types.specs.par_tree.Plain.{Not, Binary}
+use Rattle.par_types.specs.par_tree.Plain.{Sta, Block, If, While, Try, Return, Break, Continue}
+use Rattle.par_types.specs.par_tree.Plain.{Throw, Open}
+use Rattle.par_types.specs.par_tree.Plain.{Close}
+use Rattle.par_types.specs.par_tree.Plain.{Declare, Assign, Do, When, Braces, In, MayBraces}
+use Rattle.par_types.specs.par_tree.Plain.{NoBraces}
+use Rattle.par_types.specs.par_tree.Plain.{Else, NoElse, Otherwise, Stas, End, Then, Catches}
+use Rattle.par_types.specs.par_tree.Plain.{NoCatch, Catch}
+use Rattle.par_types.specs.par_tree.Plain.{Handler, On}
+use Rattle.par_types.specs.par_tree.Plain as plain
+use Rattle.par_types.specs.par_typed.Plain as typed
+use Rattle.par_types.specs.par_typed.Plain.{TExp, TSta, TStas, MayTSta, TCatches}
+use Rattle.par_types.specs.par_typed.Nodes.{nodes, stmt_nodes}
+use Rattle.par_types.specs.par_scope.declared.members.Place.{Place}
+use Rattle.par_types.specs.par_scope.declared.meaning.Receiver.{Receiver}
+use Rattle.par_types.specs.par_scope.declared.meaning.Receiver.TheVariants.{Own, Class, Object}
+use Rattle.par_types.specs.par_scope.Home.{Home, class_named}
+use Rattle.par_types.specs.par_scope.Members.{field_at, field_is_static}
+use Rattle.par_types.specs.par_scope.Meaning.{type_of, receiver_of, selected}
 use Rattle.par_types.specs.Stmts.{slot_of}
 use Rattle.par_annotate.specs.Frames.{Frame, Var, var_named, with_local, further}
 use Rattle.par_annotate.specs.Exprs.{numbered, own_this, typed_exp, typed_may}

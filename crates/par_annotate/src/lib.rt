@@ -4,3 +4,6 @@
 //! and a point for each node, and a node for each `this` that is not written. It says nothing of
 //! sources that break a rule: there the tree is whatever its parts make of it.
 #![tactic(auto)]
+
+pub use par_types;
+pub use par_types::par_scope;

@@ -16,7 +16,7 @@ use Rattle.par_typed.specs.declared.program.TBody.{TBody}
 use Rattle.par_typed.specs.Shown.{body, bodies}
 use Rattle.par_scope.specs.Names.{Names}
 use Rattle.par_scope.specs.Home.{Home, class_named}
-use Rattle.par_types.specs.Methods.{param_slot}
+use Rattle.par_annotate.specs.par_types.Methods.{param_slot}
 use Rattle.par_annotate.specs.Frames.{Frame, with_local}
 use Rattle.par_annotate.specs.Stmts.{Written}
 use Rattle.par_annotate.specs.Bodies.{with_params, typed_method, typed_methods, typed_class}

@@ -22,7 +22,7 @@ use Rattle.par_scope.specs.declared.meaning.Receiver.TheVariants.{Own}
 use Rattle.par_scope.specs.Home.{Home, class_named, class_type}
 use Rattle.par_scope.specs.Meaning.{type_of, receiver_of, selected, op_type}
 use Rattle.par_scope.specs.Meaning.{sure}
-use Rattle.par_types.specs.declared.exprs.TheConstants.{TOO_LARGE}
+use Rattle.par_annotate.specs.par_types.declared.exprs.TheConstants.{TOO_LARGE}
 use Rattle.par_annotate.specs.Frames.{Frame, var_named}
 use Rattle.par_annotate.specs.Exprs.{numbered, mark_of, own_this, name_typed, number_of, negation}
 use Rattle.par_annotate.specs.Exprs.{selection, call, typed_exp, typed_may, typed_args}

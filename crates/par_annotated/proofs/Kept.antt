@@ -8,7 +8,7 @@ use Rattle.par_tree.specs.Plain.{Declare, Assign, Do, When}
 use Rattle.par_scope.specs.declared.locals.Slot.{Slot}
 use Rattle.par_scope.specs.Locals.{Scope}
 use Rattle.par_scope.specs.Home.{Home}
-use Rattle.par_types.specs.Stmts.{slot_of}
+use Rattle.par_annotate.specs.par_types.Stmts.{slot_of}
 use Rattle.par_annotate.specs.Frames.{Frame, Var, further}
 use Rattle.par_annotate.specs.Stmts.{Written, may_policy, behind, locals_in}
 use Rattle.par_annotated.specs.declared.frame.Var as code

@@ -15,7 +15,7 @@ use Rattle.par_tree.specs.Nodes.{all_nodes, catch_nodes, handler_nodes}
 use Rattle.par_typed.specs.Plain as typed
 use Rattle.par_typed.specs.Nodes as count
 use Rattle.par_scope.specs.Home.{Home, class_named}
-use Rattle.par_types.specs.Stmts.{slot_of}
+use Rattle.par_annotate.specs.par_types.Stmts.{slot_of}
 use Rattle.par_annotate.specs.Frames.{Frame, with_local, further}
 use Rattle.par_annotate.specs.Exprs.{numbered, typed_exp, typed_may}
 use Rattle.par_annotate.specs.Stmts.{Written, may_policy, target, target_nodes, assignment, behind}

@@ -9,7 +9,7 @@ use Rattle.par_tree.specs.Plain.{Declare, Assign, Do, When, Braces, In, MayBrace
 use Rattle.par_tree.specs.Plain.{Else, NoElse, Otherwise, Stas, End, Then, Catches, NoCatch, Catch}
 use Rattle.par_tree.specs.Plain.{Handler, On}
 use Rattle.par_tree.specs.Plain as plain
-use Rattle.par_types.specs.declared.exprs.TheConstants.{TOO_LARGE}
+use Rattle.par_annotate.specs.par_types.declared.exprs.TheConstants.{TOO_LARGE}
 use Rattle.par_annotate.specs.Exprs.{number_of}
 
 abbrev pub one_unless : Bool → ℕ

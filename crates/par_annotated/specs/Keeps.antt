@@ -1,6 +1,6 @@
 -- What is kept of a frame while statements are made.
 use Rattle.std.specs.Prelude.{◌≡◌, ℕ, ◌+◌, take, length}
-use Rattle.par_types.specs.Kept.{IsKept}
+use Rattle.par_annotate.specs.par_types.Kept.{IsKept}
 use Rattle.par_annotate.specs.Frames.{Frame}
 
 -- what was in scope still is, and so many more locals were declared

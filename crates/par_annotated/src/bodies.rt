@@ -5,7 +5,7 @@ ghost use Rattle.par_tree.specs.Shown as tree;
 ghost use Rattle.par_typed.specs.Shown.{body, bodies};
 ghost use Rattle.par_scope.specs.Home.{seen, class_named};
 ghost use Rattle.par_scope.specs.Names.{IsFewTable, names_of};
-ghost use Rattle.par_types.specs.Methods.{param_slot};
+ghost use Rattle.par_annotate.specs.par_types.Methods.{param_slot};
 ghost use Rattle.par_annotate.specs.Bodies as is;
 ghost use Rattle.par_annotated.specs.Seen.{frame_seen};
 ghost use Rattle.par_annotated.specs.Numbers.{written_by};

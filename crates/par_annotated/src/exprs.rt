@@ -17,7 +17,7 @@ ghost use Rattle.par_annotated.specs.Ints.{no_ints, may_no_ints, args_no_ints};
 ghost use Rattle.par_annotated.specs.Seen.{frame_seen, marked};
 ghost use Rattle.par_annotated.specs.Calls.{call_at, call_named, called_type};
 ghost use Rattle.par_typed.specs.declared.ty.Ty.TheVariants as ty;
-ghost use Rattle.par_types.specs.declared.exprs.TheConstants.{TOO_LARGE};
+ghost use Rattle.par_annotate.specs.par_types.declared.exprs.TheConstants.{TOO_LARGE};
 
 use crate::frame::Frame;
 use crate::members::{method_receiver, name_made, own_this, selection};

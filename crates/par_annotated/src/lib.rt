@@ -15,4 +15,7 @@ mod targets;
 mod written;
 
 pub use bodies::type_bodies;
+pub use par_annotate;
+pub use par_annotate::par_types;
+pub use par_resolved;
 pub use written::Numbering;

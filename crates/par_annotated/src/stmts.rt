@@ -10,7 +10,7 @@ ghost use Rattle.par_typed.specs.Plain as plain;
 ghost use Rattle.par_typed.specs.Shown as typed;
 ghost use Rattle.par_typed.specs.Nodes as count;
 ghost use Rattle.par_scope.specs.Home.{seen, class_named};
-ghost use Rattle.par_types.specs.Stmts.{slot_of};
+ghost use Rattle.par_annotate.specs.par_types.Stmts.{slot_of};
 ghost use Rattle.par_annotate.specs.Frames.{further};
 ghost use Rattle.par_annotate.specs.Exprs.{numbered, typed_exp, typed_may};
 ghost use Rattle.par_annotate.specs.Stmts as is;

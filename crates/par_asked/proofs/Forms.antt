@@ -6,9 +6,10 @@ use Rattle.std.specs.Prelude.{slice_get}
 use Rattle.par_lexer.specs.declared.operator.BinOp.{BinOp}
 use Rattle.par_typed.specs.declared.table.Table.{Table}
 use Rattle.par_typed.specs.Plain as typed
-use Rattle.par_typed.specs.Plain.{TExp, MayTExp, TExps, TSta, MayTSta, TStas, TCatches, Mark, mark}
+use Rattle.par_typed.specs.Plain.{TExp, MayTExp, TExps, TSta, MayTSta, TStas, TCatches}
+use Rattle.par_typed.specs.Plain.{Mark, mark}
 use Rattle.par_typed.proofs.Shown.{shows, doings, shown_mark}
-use Rattle.par_rules.specs.Declares.{Method, declares}
+use Rattle.par_nodes.specs.par_rules.Declares.{Method, declares}
 use Rattle.par_checks.specs.Asked.{Check, Context, Effect, Released}
 use Rattle.par_checks.specs.Checks.{ask, entry_of, behind, learns, lock_written, locked, returned}
 use Rattle.par_checks.specs.Checks.{set, arguments}

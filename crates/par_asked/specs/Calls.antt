@@ -2,7 +2,7 @@
 use Rattle.std.specs.Prelude.{ℕ, Option, Some, None, List, ◌++◌}
 use Rattle.par_typed.specs.declared.table.Table.{Table}
 use Rattle.par_typed.specs.Plain.{MayTExp, Absent, Present, TExps, mark}
-use Rattle.par_rules.specs.Declares.{Method}
+use Rattle.par_nodes.specs.par_rules.Declares.{Method}
 use Rattle.par_checks.specs.Asked.{Check}
 use Rattle.par_checks.specs.Checks.{arguments, called}
 use Rattle.par_asked.specs.Seen.{called_at}

@@ -11,3 +11,8 @@ pub mod check;
 mod expr;
 mod method;
 mod stmt;
+
+pub use par_checks;
+pub use par_checks::par_pass;
+pub use par_nodes;
+pub use par_nodes::{par_rules, par_typed};

@@ -2,8 +2,9 @@
 
 ghost use Rattle.std.specs.Prelude.{◌≡◌, [], ◌∷◌, ◌++◌, OnOk, slice_get};
 ghost use Rattle.par_bits.specs.Sets.{adding, none};
-ghost use Rattle.par_typed.specs.Shown.{all_catch, all_do, does, may_shown, otherwise, shown};
-ghost use Rattle.par_rules.specs.Declares.{declares};
+ghost use Rattle.par_typed.specs.Shown.{all_catch, all_do, does, may_shown, otherwise};
+ghost use Rattle.par_typed.specs.Shown.{shown};
+ghost use Rattle.par_nodes.specs.par_rules.Declares.{declares};
 ghost use Rattle.par_checks.specs.Checks.{catches_checks, exp_checks, lock_written, locked};
 ghost use Rattle.par_checks.specs.Checks.{may_checks, other_checks, returned, set, sta_checks};
 ghost use Rattle.par_checks.specs.Checks.{stas_checks};

@@ -3,13 +3,18 @@ use Rattle.std.proofs.Common.{◌≡◌, ℕ, suc, Bool, true, false, not, List,
 use Rattle.std.proofs.Common.{refl, sym, ap, subst}
 use Rattle.std.specs.Prelude.{slice_get}
 use Rattle.std.proofs.lemmas.Option.{slice_get_within}
-use Rattle.par_typed.specs.declared.table.ParamInfo.{ParamInfo}
-use Rattle.par_typed.specs.Plain.{TExp, Int, Boolean, Null, This, New, Local, Static, Field, Input}
-use Rattle.par_typed.specs.Plain.{Output, Call, Neg, Not, Binary, MayTExp, Absent, Present}
-use Rattle.par_typed.specs.Plain.{TExps, NoExps, More}
-use Rattle.par_typed.specs.Plain.{TSta, Block, If, While, Try, Return, Break, Continue, Throw, Open}
-use Rattle.par_typed.specs.Plain.{Close, SetLocal, SetStatic, SetField, Eval, When, MayTSta, NoElse}
-use Rattle.par_typed.specs.Plain.{Otherwise, TStas, End, Then, TCatches, NoCatch, Catch}
+use Rattle.par_completes.specs.par_typed.declared.table.ParamInfo.{ParamInfo}
+use Rattle.par_completes.specs.par_typed.Plain.{TExp, Int, Boolean, Null, This, New, Local, Static}
+use Rattle.par_completes.specs.par_typed.Plain.{Field, Input}
+use Rattle.par_completes.specs.par_typed.Plain.{Output, Call, Neg, Not, Binary, MayTExp, Absent}
+use Rattle.par_completes.specs.par_typed.Plain.{Present}
+use Rattle.par_completes.specs.par_typed.Plain.{TExps, NoExps, More}
+use Rattle.par_completes.specs.par_typed.Plain.{TSta, Block, If, While, Try, Return, Break}
+use Rattle.par_completes.specs.par_typed.Plain.{Continue, Throw, Open}
+use Rattle.par_completes.specs.par_typed.Plain.{Close, SetLocal, SetStatic, SetField, Eval, When}
+use Rattle.par_completes.specs.par_typed.Plain.{MayTSta, NoElse}
+use Rattle.par_completes.specs.par_typed.Plain.{Otherwise, TStas, End, Then, TCatches, NoCatch}
+use Rattle.par_completes.specs.par_typed.Plain.{Catch}
 use Rattle.par_completes.specs.Typed.{completes}
 use Rattle.par_bodies.specs.Locals.{set_by_call, behind}
 use Rattle.par_bodies.specs.Names.{IsField, IsChannel, IsException, is_present, how_many, IsCalled}

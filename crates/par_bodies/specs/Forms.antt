@@ -1,16 +1,17 @@
 -- What each form of a body asks, without what its parts ask.
 use Rattle.std.specs.Prelude.{◌≡◌, ℕ, ◌<◌, Bool, true, false, List, [], ◌∷◌, Option, Some}
 use Rattle.std.specs.Prelude.{length, slice_get}
-use Rattle.par_typed.specs.declared.ty.Ty.{Ty}
-use Rattle.par_typed.specs.declared.ty.Ty.TheVariants as ty
-use Rattle.par_typed.specs.declared.table.GroundLock.{GroundLock}
-use Rattle.par_typed.specs.declared.table.FieldInfo.{FieldInfo}
-use Rattle.par_typed.specs.declared.table.ChannelInfo.{ChannelInfo}
-use Rattle.par_typed.specs.declared.table.ParamInfo.{ParamInfo}
-use Rattle.par_typed.specs.declared.table.MethodInfo.{MethodInfo}
-use Rattle.par_typed.specs.declared.table.ClassInfo.{ClassInfo}
-use Rattle.par_typed.specs.declared.table.Table.{Table}
-use Rattle.par_typed.specs.Plain.{Mark, mark, TExp, MayTExp, Absent, Present, TExps, NoExps, More}
+use Rattle.par_completes.specs.par_typed.declared.ty.Ty.{Ty}
+use Rattle.par_completes.specs.par_typed.declared.ty.Ty.TheVariants as ty
+use Rattle.par_completes.specs.par_typed.declared.table.GroundLock.{GroundLock}
+use Rattle.par_completes.specs.par_typed.declared.table.FieldInfo.{FieldInfo}
+use Rattle.par_completes.specs.par_typed.declared.table.ChannelInfo.{ChannelInfo}
+use Rattle.par_completes.specs.par_typed.declared.table.ParamInfo.{ParamInfo}
+use Rattle.par_completes.specs.par_typed.declared.table.MethodInfo.{MethodInfo}
+use Rattle.par_completes.specs.par_typed.declared.table.ClassInfo.{ClassInfo}
+use Rattle.par_completes.specs.par_typed.declared.table.Table.{Table}
+use Rattle.par_completes.specs.par_typed.Plain.{Mark, mark, TExp, MayTExp, Absent, Present, TExps}
+use Rattle.par_completes.specs.par_typed.Plain.{NoExps, More}
 use Rattle.par_bodies.specs.Members.{field_at, channel_at, method_at}
 use Rattle.par_bodies.specs.Locals.{IsSet}
 use Rattle.par_bodies.specs.Types.{IsMarked, Is, IsValue, IsResult, Accepts, IsGiven}

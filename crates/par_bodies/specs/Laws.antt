@@ -1,6 +1,6 @@
 -- What a proper body is, one thing by itself.
-use Rattle.par_typed.specs.declared.table.Table.{Table}
-use Rattle.par_typed.specs.Plain.{Body}
+use Rattle.par_completes.specs.par_typed.declared.table.Table.{Table}
+use Rattle.par_completes.specs.par_typed.Plain.{Body}
 use Rattle.par_bodies.specs.Names.{StaNames}
 use Rattle.par_bodies.specs.Makes.{MakesObjects}
 use Rattle.par_bodies.specs.Uses.{LeavesThis}

@@ -2,12 +2,13 @@
 use Rattle.std.specs.Prelude.{◌≡◌, ℕ, suc, cond, Bool, true, List, [], ◌∷◌, ◌++◌, map, length}
 use Rattle.std.specs.Prelude.{IsTrue}
 use Rattle.std.specs.List.{range_with_len}
-use Rattle.par_policy.specs.Numbers.{has}
-use Rattle.par_typed.specs.declared.ty.Ty.{Ty}
-use Rattle.par_typed.specs.declared.ty.Ty.TheVariants as ty
-use Rattle.par_typed.specs.declared.table.MethodInfo.{MethodInfo}
-use Rattle.par_typed.specs.Plain.{TSta, Block, If, While, Try, Return, Break, Continue, Throw, Open}
-use Rattle.par_typed.specs.Plain.{Close, SetLocal, SetStatic, SetField, Eval, When}
+use Rattle.par_completes.specs.par_policy.Numbers.{has}
+use Rattle.par_completes.specs.par_typed.declared.ty.Ty.{Ty}
+use Rattle.par_completes.specs.par_typed.declared.ty.Ty.TheVariants as ty
+use Rattle.par_completes.specs.par_typed.declared.table.MethodInfo.{MethodInfo}
+use Rattle.par_completes.specs.par_typed.Plain.{TSta, Block, If, While, Try, Return, Break}
+use Rattle.par_completes.specs.par_typed.Plain.{Continue, Throw, Open}
+use Rattle.par_completes.specs.par_typed.Plain.{Close, SetLocal, SetStatic, SetField, Eval, When}
 
 -- ---- from the call: `this` in an instance method, and the parameters
 

@@ -1,16 +1,21 @@
 -- Proper bodies: all that what is made of them asks of each form.
 use Rattle.std.specs.Prelude.{◌≡◌, ℕ, Bool, true, false, List, Some}
 use Rattle.std.specs.List.{AllByRecursion}
-use Rattle.par_typed.specs.declared.ty.Ty.TheVariants as ty
-use Rattle.par_typed.specs.declared.table.MethodInfo.{MethodInfo}
-use Rattle.par_typed.specs.declared.table.Table.{Table}
-use Rattle.par_typed.specs.Plain.{mark}
-use Rattle.par_typed.specs.Plain.{TExp, Int, Boolean, Null, This, New, Local, Static, Field, Input}
-use Rattle.par_typed.specs.Plain.{Output, Call, Neg, Not, Binary, MayTExp, Absent, Present}
-use Rattle.par_typed.specs.Plain.{TExps, NoExps, More}
-use Rattle.par_typed.specs.Plain.{TSta, Block, If, While, Try, Return, Break, Continue, Throw, Open}
-use Rattle.par_typed.specs.Plain.{Close, SetLocal, SetStatic, SetField, Eval, When, MayTSta, NoElse}
-use Rattle.par_typed.specs.Plain.{Otherwise, TStas, End, Then, TCatches, NoCatch, Catch, Body}
+use Rattle.par_completes.specs.par_typed.declared.ty.Ty.TheVariants as ty
+use Rattle.par_completes.specs.par_typed.declared.table.MethodInfo.{MethodInfo}
+use Rattle.par_completes.specs.par_typed.declared.table.Table.{Table}
+use Rattle.par_completes.specs.par_typed.Plain.{mark}
+use Rattle.par_completes.specs.par_typed.Plain.{TExp, Int, Boolean, Null, This, New, Local, Static}
+use Rattle.par_completes.specs.par_typed.Plain.{Field, Input}
+use Rattle.par_completes.specs.par_typed.Plain.{Output, Call, Neg, Not, Binary, MayTExp, Absent}
+use Rattle.par_completes.specs.par_typed.Plain.{Present}
+use Rattle.par_completes.specs.par_typed.Plain.{TExps, NoExps, More}
+use Rattle.par_completes.specs.par_typed.Plain.{TSta, Block, If, While, Try, Return, Break}
+use Rattle.par_completes.specs.par_typed.Plain.{Continue, Throw, Open}
+use Rattle.par_completes.specs.par_typed.Plain.{Close, SetLocal, SetStatic, SetField, Eval, When}
+use Rattle.par_completes.specs.par_typed.Plain.{MayTSta, NoElse}
+use Rattle.par_completes.specs.par_typed.Plain.{Otherwise, TStas, End, Then, TCatches, NoCatch}
+use Rattle.par_completes.specs.par_typed.Plain.{Catch, Body}
 use Rattle.par_completes.specs.Typed.{completes}
 use Rattle.par_bodies.specs.Members.{method_at}
 use Rattle.par_bodies.specs.Locals.{arriving, arriving_sure, BeginsWith, set_by_call, behind}

@@ -1,10 +1,10 @@
 -- Which values may stand where, by their types.
 use Rattle.std.specs.Prelude.{◌≡◌, ℕ, ◌⊎◌, Bool, true, false}
-use Rattle.par_lexer.specs.declared.operator.BinOp.{BinOp}
-use Rattle.par_lexer.specs.declared.operator.BinOp.TheVariants as op
-use Rattle.par_typed.specs.declared.ty.Ty.{Ty}
-use Rattle.par_typed.specs.declared.ty.Ty.TheVariants as ty
-use Rattle.par_typed.specs.Plain.{Mark, mark, TExp}
+use Rattle.par_completes.specs.par_lexer.declared.operator.BinOp.{BinOp}
+use Rattle.par_completes.specs.par_lexer.declared.operator.BinOp.TheVariants as op
+use Rattle.par_completes.specs.par_typed.declared.ty.Ty.{Ty}
+use Rattle.par_completes.specs.par_typed.declared.ty.Ty.TheVariants as ty
+use Rattle.par_completes.specs.par_typed.Plain.{Mark, mark, TExp}
 
 -- of this type, and never null or not
 abbrev pub IsMarked : Ty → Bool → Mark → Type 0

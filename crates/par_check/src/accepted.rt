@@ -4,7 +4,8 @@ ghost use Rattle.std.specs.Prelude.{◌≡◌, ◌≤◌, length, map, None, IfO
 ghost use Rattle.std.specs.List.{AllByRecursion};
 ghost use Rattle.par_typed.specs.Shown as shown;
 ghost use Rattle.par_verdict.specs.Judged.{IsVerdict};
-ghost use Rattle.par_verdict.specs.Accepted.{IsAcceptedBy, IsOrderlyBody, IsRefused, MOST_BODIES};
+ghost use Rattle.par_verdict.specs.Accepted.{IsAcceptedBy, IsOrderlyBody, IsRefused};
+ghost use Rattle.par_verdict.specs.Accepted.{MOST_BODIES};
 ghost use Rattle.par_flow.specs.Table.{facts_in};
 
 use par_flow::FactTable;

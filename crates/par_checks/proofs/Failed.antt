@@ -2,11 +2,11 @@
 use Rattle.std.proofs.Common.{ℕ, ◌&&◌, Option, Some, None, List, [], ◌∷◌, refl}
 use Rattle.std.specs.Prelude.{map}
 use Rattle.par_bits.specs.Sets.{union}
-use Rattle.par_typed.specs.declared.table.Table.{Table}
-use Rattle.par_rules.specs.Lattice.{numbers, joined}
-use Rattle.par_rules.specs.Ways as rules
-use Rattle.par_rules.specs.Facts.{Facts}
-use Rattle.par_rules.specs.Rules.{way, Holds}
+use Rattle.par_pass.specs.par_typed.declared.table.Table.{Table}
+use Rattle.par_pass.specs.par_rules.Lattice.{numbers, joined}
+use Rattle.par_pass.specs.par_rules.Ways as rules
+use Rattle.par_pass.specs.par_rules.Facts.{Facts}
+use Rattle.par_pass.specs.par_rules.Rules.{way, Holds}
 use Rattle.par_pass.specs.Exits.{Way}
 use Rattle.par_pass.specs.Low.{IsLow, FlowsUnder, MayFlow}
 use Rattle.par_pass.proofs.Order.{sub_trans}

@@ -3,13 +3,13 @@ use Rattle.std.proofs.Common.{◌≡◌, ℕ, Option, Some, None, List, [], ◌�
 use Rattle.std.specs.Prelude.{map}
 use Rattle.std.proofs.lemmas.Bool.{and_from}
 use Rattle.par_bits.specs.Sets.{Set, IsWithin, union}
-use Rattle.par_typed.specs.declared.table.Table.{Table}
-use Rattle.par_rules.specs.Lattice.{numbers, joined, IsSeenBelow}
-use Rattle.par_rules.specs.Ways as rules
-use Rattle.par_rules.specs.Ways.{Flows, MayFlow}
-use Rattle.par_rules.specs.Facts.{Facts}
-use Rattle.par_rules.specs.Declares.{declares}
-use Rattle.par_rules.specs.Rules.{way, Holds}
+use Rattle.par_pass.specs.par_typed.declared.table.Table.{Table}
+use Rattle.par_pass.specs.par_rules.Lattice.{numbers, joined, IsSeenBelow}
+use Rattle.par_pass.specs.par_rules.Ways as rules
+use Rattle.par_pass.specs.par_rules.Ways.{Flows, MayFlow}
+use Rattle.par_pass.specs.par_rules.Facts.{Facts}
+use Rattle.par_pass.specs.par_rules.Declares.{declares}
+use Rattle.par_pass.specs.par_rules.Rules.{way, Holds}
 use Rattle.par_pass.specs.Exits.{Way}
 use Rattle.par_pass.proofs.Order.{sub_trans, union_l, union_r}
 use Rattle.par_pass.proofs.Along.{as_way, as_may, as_facts, as_all, way_lower, closed_along}

@@ -5,16 +5,16 @@ use Rattle.std.specs.List.{range_with_len}
 use Rattle.std.proofs.lemmas.Bool.{and_parts, and_from}
 use Rattle.std.proofs.lemmas.List.Elements.{All-append, All-nil, All-cons, Contains-append_left}
 use Rattle.std.proofs.lemmas.List.Elements.{Contains-append_right}
-use Rattle.par_policy.specs.declared.clauses.Clause.{Clause}
-use Rattle.par_policy.specs.Numbers.{within}
-use Rattle.par_policy.specs.Sees.{sees}
-use Rattle.par_policy.proofs.Members.{within-from_All}
-use Rattle.par_policy.proofs.Ordered.{Contains-first, Contains-later}
-use Rattle.par_policy.proofs.Filtered.{Contains-filter, Contains-from_filter}
-use Rattle.par_policy.proofs.Seen.{sees_more}
+use Rattle.par_pass.specs.par_policy.declared.clauses.Clause.{Clause}
+use Rattle.par_pass.specs.par_policy.Numbers.{within}
+use Rattle.par_pass.specs.par_policy.Sees.{sees}
+use Rattle.par_pass.proofs.par_policy.Members.{within-from_All}
+use Rattle.par_pass.proofs.par_policy.Ordered.{Contains-first, Contains-later}
+use Rattle.par_pass.proofs.par_policy.Filtered.{Contains-filter, Contains-from_filter}
+use Rattle.par_pass.proofs.par_policy.Seen.{sees_more}
 use Rattle.par_bits.specs.Sets.{Set, IsWithin}
-use Rattle.par_rules.specs.Lattice.{Seen, IsSeenBelow, joined}
-use Rattle.par_rules.specs.Ranges.{MOST}
+use Rattle.par_pass.specs.par_rules.Lattice.{Seen, IsSeenBelow, joined}
+use Rattle.par_pass.specs.par_rules.Ranges.{MOST}
 use Rattle.par_pass.proofs.Instances.{AreSeenBelow}
 use Rattle.par_checks.specs.Keeps.{locks_in}
 

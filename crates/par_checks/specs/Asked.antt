@@ -1,7 +1,7 @@
 -- What can be asked of facts.
 use Rattle.std.specs.Prelude.{ℕ, List}
 use Rattle.par_bits.specs.Sets.{Set}
-use Rattle.par_rules.specs.Rules.{From}
+use Rattle.par_pass.specs.par_rules.Rules.{From}
 
 -- a condition where a spot is reached; values are those of the expressions at their points, and
 -- policies have their numbers

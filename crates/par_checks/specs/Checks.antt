@@ -3,17 +3,18 @@ use Rattle.std.specs.Prelude.{ℕ, Bool, not, cond, nat_eq, Option, Some, None, 
 use Rattle.std.specs.Prelude.{length, slice_get}
 use Rattle.std.specs.List.{list_any, filter, range_with_len}
 use Rattle.par_bits.specs.Sets.{none, adding}
-use Rattle.par_typed.specs.declared.table.GroundLock.{GroundLock}
-use Rattle.par_typed.specs.declared.table.ClassInfo.{ClassInfo}
-use Rattle.par_typed.specs.declared.table.MethodInfo.{MethodInfo}
-use Rattle.par_typed.specs.declared.table.Table.{Table}
-use Rattle.par_typed.specs.Plain as typed
-use Rattle.par_typed.specs.Plain.{TExp, MayTExp, TExps, TSta, MayTSta, TStas, TCatches, Body, mark}
-use Rattle.par_typed.specs.Plain.{point}
-use Rattle.par_rules.specs.Kinds as kind
-use Rattle.par_rules.specs.Declares.{Method, Thrown, declares}
-use Rattle.par_rules.specs.Rules.{From, Entry, After, Tested}
-use Rattle.par_rules.specs.Body.{past, args_past, args_tested}
+use Rattle.par_pass.specs.par_typed.declared.table.GroundLock.{GroundLock}
+use Rattle.par_pass.specs.par_typed.declared.table.ClassInfo.{ClassInfo}
+use Rattle.par_pass.specs.par_typed.declared.table.MethodInfo.{MethodInfo}
+use Rattle.par_pass.specs.par_typed.declared.table.Table.{Table}
+use Rattle.par_pass.specs.par_typed.Plain as typed
+use Rattle.par_pass.specs.par_typed.Plain.{TExp, MayTExp, TExps, TSta, MayTSta, TStas, TCatches}
+use Rattle.par_pass.specs.par_typed.Plain.{Body, mark}
+use Rattle.par_pass.specs.par_typed.Plain.{point}
+use Rattle.par_pass.specs.par_rules.Kinds as kind
+use Rattle.par_pass.specs.par_rules.Declares.{Method, Thrown, declares}
+use Rattle.par_pass.specs.par_rules.Rules.{From, Entry, After, Tested}
+use Rattle.par_pass.specs.par_rules.Body.{past, args_past, args_tested}
 use Rattle.par_checks.specs.Asked.{Condition, Open, Released, Worth, Joined, Context, Effect, Among}
 use Rattle.par_checks.specs.Asked.{Never, Spot, Check}
 

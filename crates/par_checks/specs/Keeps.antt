@@ -2,11 +2,11 @@
 use Rattle.std.specs.Prelude.{ℕ, List, IsTrue, ◌++◌, map}
 use Rattle.std.specs.List.{filter, range_with_len}
 use Rattle.par_bits.specs.Sets.{Set, IsWithin}
-use Rattle.par_rules.specs.Lattice.{Lattice, Seen, IsSeenBelow}
-use Rattle.par_rules.specs.Ways.{Way}
-use Rattle.par_rules.specs.Facts.{Facts}
-use Rattle.par_rules.specs.Ranges.{MOST}
-use Rattle.par_rules.specs.Rules.{way, Holds}
+use Rattle.par_pass.specs.par_rules.Lattice.{Lattice, Seen, IsSeenBelow}
+use Rattle.par_pass.specs.par_rules.Ways.{Way}
+use Rattle.par_pass.specs.par_rules.Facts.{Facts}
+use Rattle.par_pass.specs.par_rules.Ranges.{MOST}
+use Rattle.par_pass.specs.par_rules.Rules.{way, Holds}
 use Rattle.par_checks.specs.Asked.{Condition, Open, Released, Worth, Joined, Context, Effect, Among}
 use Rattle.par_checks.specs.Asked.{Never, Check}
 

@@ -1,11 +1,11 @@
 -- The least facts decide.
 use Rattle.std.specs.Prelude.{Contains}
-use Rattle.par_typed.specs.declared.table.Table.{Table}
-use Rattle.par_typed.specs.Plain.{Body}
-use Rattle.par_rules.specs.Lattice.{numbers}
-use Rattle.par_rules.specs.Facts.{Facts}
-use Rattle.par_rules.specs.Declares.{declares}
-use Rattle.par_rules.specs.Closed.{IsClosed}
+use Rattle.par_pass.specs.par_typed.declared.table.Table.{Table}
+use Rattle.par_pass.specs.par_typed.Plain.{Body}
+use Rattle.par_pass.specs.par_rules.Lattice.{numbers}
+use Rattle.par_pass.specs.par_rules.Facts.{Facts}
+use Rattle.par_pass.specs.par_rules.Declares.{declares}
+use Rattle.par_pass.specs.par_rules.Closed.{IsClosed}
 use Rattle.par_pass.specs.Result.{AreLeast}
 use Rattle.par_pass.proofs.Instances.{seen}
 use Rattle.par_checks.specs.Asked.{Check}

@@ -3,3 +3,4 @@ pub mod Checks
 pub mod Keeps
 pub mod Verdict
 pub mod Laws
+pub use Rattle.par_pass.specs as par_pass

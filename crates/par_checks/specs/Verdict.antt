@@ -1,11 +1,11 @@
 -- When a body is accepted, and where it breaks a rule.
 use Rattle.std.specs.Prelude.{◌≡◌, ℕ, Contains, slice_get}
-use Rattle.par_typed.specs.declared.table.Table.{Table}
-use Rattle.par_typed.specs.Plain.{Body}
-use Rattle.par_rules.specs.Lattice.{Lattice, Seen, policies, numbers, joined, seen_by}
-use Rattle.par_rules.specs.Facts.{Facts}
-use Rattle.par_rules.specs.Declares.{declares}
-use Rattle.par_rules.specs.Closed.{IsClosed}
+use Rattle.par_pass.specs.par_typed.declared.table.Table.{Table}
+use Rattle.par_pass.specs.par_typed.Plain.{Body}
+use Rattle.par_pass.specs.par_rules.Lattice.{Lattice, Seen, policies, numbers, joined, seen_by}
+use Rattle.par_pass.specs.par_rules.Facts.{Facts}
+use Rattle.par_pass.specs.par_rules.Declares.{declares}
+use Rattle.par_pass.specs.par_rules.Closed.{IsClosed}
 use Rattle.par_checks.specs.Asked.{Check}
 use Rattle.par_checks.specs.Checks.{checks}
 use Rattle.par_checks.specs.Keeps.{Keeps}

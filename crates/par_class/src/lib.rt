@@ -20,6 +20,7 @@ mod writing;
 pub use file::{Attribute, Catch, ClassFile, CodeAttr, FieldFile, MethodFile};
 pub use laws::{spelling_is_one, written_is_read_again};
 pub use member::is_native;
+pub use par_pool;
 pub use par_pool::LONGEST_CLASS;
 pub use reading::read_class;
 pub use whole::write_class;

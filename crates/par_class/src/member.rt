@@ -11,10 +11,10 @@ use crate::code::code_inside;
 use crate::file::{Attribute, CodeAttr, FieldFile, MethodFile, Piece};
 use crate::name::names_code;
 use crate::place::place;
-use par_lexer::list::List;
 use par_pool::constant::Constant;
 use par_pool::error::ClassError;
 use par_pool::item::u2;
+use par_pool::par_lexer::list::List;
 use std::alloc::Global;
 
 /// A field.

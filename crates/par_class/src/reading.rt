@@ -11,10 +11,10 @@ use crate::file::ClassFile;
 use crate::member::{fields_of, methods_of};
 use crate::name::is_super;
 use crate::place::place;
-use par_lexer::list::List;
 use par_pool::constant::{Constant, Pool};
 use par_pool::error::ClassError;
 use par_pool::item::{u2, u4};
+use par_pool::par_lexer::list::List;
 use par_pool::{LONGEST_CLASS, entries_of};
 use std::alloc::Global;
 

@@ -11,9 +11,9 @@ use Rattle.par_typed.specs.declared.table.ClassInfo.{ClassInfo}
 use Rattle.par_typed.specs.declared.table.MethodInfo.{MethodInfo}
 use Rattle.par_typed.specs.declared.table.Table.{Table}
 use Rattle.par_typed.specs.Plain.{TSta, Body}
-use Rattle.par_bodies.specs.Members.{methods_in, method_at}
+use Rattle.par_well_typed.specs.par_bodies.Members.{methods_in, method_at}
 use Rattle.par_well_typed.specs.Bodied.{Spot, spot_of, methods_from}
-use Rattle.par_runs.specs.Names.{body_of}
+use Rattle.par_evaluation.specs.par_runs.Names.{body_of}
 use Rattle.par_erase.specs.Shown.{numbered}
 use Rattle.par_erase.specs.Asked.{Locks, asked_in}
 use Rattle.par_coded.specs.Laws.{erased_body, BodiesAreErased}

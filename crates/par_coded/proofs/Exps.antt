@@ -10,14 +10,15 @@ use Rattle.par_typed.specs.Plain.{mark, TExp, Int, Boolean, Null, This, New, Loc
 use Rattle.par_typed.specs.Plain.{Field, Input, Output, Call, Neg, Not, Binary}
 use Rattle.par_typed.specs.Plain.{Absent, Present, TExps, NoExps, More}
 use Rattle.par_lexer.specs.declared.operator.BinOp.{BinOp}
-use Rattle.par_bodies.specs.Types.{Is, Accepts, Operates}
-use Rattle.par_bodies.specs.Forms.{Setting, IsReceiver, AreArguments}
-use Rattle.par_bodies.specs.Proper.{ExpIsProper, ExpsAreProper}
+use Rattle.par_well_typed.specs.par_bodies.Types.{Is, Accepts, Operates}
+use Rattle.par_well_typed.specs.par_bodies.Forms.{Setting, IsReceiver, AreArguments}
+use Rattle.par_well_typed.specs.par_bodies.Proper.{ExpIsProper, ExpsAreProper}
 use Rattle.par_erase.specs.Erased.{erased_exp, erased_args}
-use Rattle.par_code_form.specs.Code.{is_number, shape_of}
-use Rattle.par_code_form.specs.Operands.{expr_top, args_top, with_result, below_second}
-use Rattle.par_agreeing.specs.Laid.{Layout, Meth, HasMethod, Typed, TypedArgs}
-use Rattle.par_agreeing.specs.Laid as laid
+use Rattle.par_evaluation.specs.par_code_form.Code.{is_number, shape_of}
+use Rattle.par_evaluation.specs.par_code_form.Operands.{expr_top, args_top, with_result}
+use Rattle.par_evaluation.specs.par_code_form.Operands.{below_second}
+use Rattle.par_evaluation.specs.par_agreeing.Laid.{Layout, Meth, HasMethod, Typed, TypedArgs}
+use Rattle.par_evaluation.specs.par_agreeing.Laid as laid
 use Rattle.par_coded.specs.Named.{Named, EachInExp, EachInExps}
 use Rattle.par_coded.proofs.Laying.{Lays, IsMethod}
 use Rattle.par_coded.proofs.Marks.{type_of, none_sure}

@@ -12,18 +12,24 @@ use Rattle.par_typed.specs.Plain.{Close, SetLocal, SetStatic, SetField, Eval, Wh
 use Rattle.par_typed.specs.Plain.{MayTSta, NoElse, Otherwise, TStas, End, Then, TCatches, NoCatch}
 use Rattle.par_typed.specs.Plain.{Catch}
 use Rattle.par_values.specs.Areas.{Name}
-use Rattle.par_completes.specs.Typed.{completes, is_true}
-use Rattle.par_code_form.specs.declared.item.Item.{Item}
-use Rattle.par_code_form.specs.declared.item.Item.TheVariants.{Label, Jump, Member}
-use Rattle.par_code_form.specs.declared.labelled.Handler.{Handler}
-use Rattle.par_code_form.specs.Opcodes.{IFEQ, GETFIELD, PUTFIELD, PUTSTATIC, INVOKESTATIC}
-use Rattle.par_code_form.specs.Code.{Words, Shape, Calculates, Compares, Sames, Decides, shape_of}
-use Rattle.par_code_form.specs.Code.{shape_labels, shape_code, between, expr_labels, may_labels}
-use Rattle.par_code_form.specs.Code.{expr_code, may_code, args_code, invoke, test_code}
-use Rattle.par_code_form.specs.Code.{labels, Loop, give_back}
-use Rattle.par_code_form.specs.Code.{dropped, goes_on, loop_test, store, code, else_code, all_code}
-use Rattle.par_code_form.specs.Code.{catch_code, handlers, else_handlers, all_handlers}
-use Rattle.par_code_form.specs.Code.{catch_handlers, no_loop, ending}
+use Rattle.par_well_typed.specs.par_completes.Typed.{completes, is_true}
+use Rattle.par_evaluation.specs.par_code_form.declared.item.Item.{Item}
+use Rattle.par_evaluation.specs.par_code_form.declared.item.Item.TheVariants.{Label, Jump, Member}
+use Rattle.par_evaluation.specs.par_code_form.declared.labelled.Handler.{Handler}
+use Rattle.par_evaluation.specs.par_code_form.Opcodes.{IFEQ, GETFIELD, PUTFIELD, PUTSTATIC}
+use Rattle.par_evaluation.specs.par_code_form.Opcodes.{INVOKESTATIC}
+use Rattle.par_evaluation.specs.par_code_form.Code.{Words, Shape, Calculates, Compares, Sames}
+use Rattle.par_evaluation.specs.par_code_form.Code.{Decides, shape_of}
+use Rattle.par_evaluation.specs.par_code_form.Code.{shape_labels, shape_code, between, expr_labels}
+use Rattle.par_evaluation.specs.par_code_form.Code.{may_labels}
+use Rattle.par_evaluation.specs.par_code_form.Code.{expr_code, may_code, args_code, invoke}
+use Rattle.par_evaluation.specs.par_code_form.Code.{test_code}
+use Rattle.par_evaluation.specs.par_code_form.Code.{labels, Loop, give_back}
+use Rattle.par_evaluation.specs.par_code_form.Code.{dropped, goes_on, loop_test, store, code}
+use Rattle.par_evaluation.specs.par_code_form.Code.{else_code, all_code}
+use Rattle.par_evaluation.specs.par_code_form.Code.{catch_code, handlers, else_handlers}
+use Rattle.par_evaluation.specs.par_code_form.Code.{all_handlers}
+use Rattle.par_evaluation.specs.par_code_form.Code.{catch_handlers, no_loop, ending}
 use Rattle.par_coded.specs.Named.{EachInExp, EachInMay, EachInExps, EachInSta, EachInElse}
 use Rattle.par_coded.specs.Named.{EachInStas, EachInCatches, Named}
 use Rattle.par_coded.specs.Items.{ItemPasses, HandlerPasses, NamedPasses}

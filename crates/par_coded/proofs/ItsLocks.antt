@@ -11,13 +11,17 @@ use Rattle.par_typed.specs.Plain.{Close, SetLocal, SetStatic, SetField, Eval, Wh
 use Rattle.par_typed.specs.Plain.{MayTSta, NoElse, Otherwise, TStas, End, Then, TCatches, NoCatch}
 use Rattle.par_typed.specs.Plain.{Catch}
 use Rattle.std.specs.Prelude.{nat_le, if◌then◌else◌}
-use Rattle.par_completes.specs.Typed.{completes, is_true}
-use Rattle.par_code_form.specs.declared.item.Item.{Item}
-use Rattle.par_code_form.specs.Code.{Words, Shape, Calculates, Compares, Sames, Decides, shape_of}
-use Rattle.par_code_form.specs.Code.{shape_labels, shape_code, between, expr_labels, may_labels}
-use Rattle.par_code_form.specs.Code.{expr_code, may_code, args_code, load, is_number}
-use Rattle.par_code_form.specs.Code.{labels, Loop, give_back, dropped, goes_on, loop_test, store}
-use Rattle.par_code_form.specs.Code.{code, else_code, all_code, catch_code, no_loop, ending}
+use Rattle.par_well_typed.specs.par_completes.Typed.{completes, is_true}
+use Rattle.par_evaluation.specs.par_code_form.declared.item.Item.{Item}
+use Rattle.par_evaluation.specs.par_code_form.Code.{Words, Shape, Calculates, Compares, Sames}
+use Rattle.par_evaluation.specs.par_code_form.Code.{Decides, shape_of}
+use Rattle.par_evaluation.specs.par_code_form.Code.{shape_labels, shape_code, between, expr_labels}
+use Rattle.par_evaluation.specs.par_code_form.Code.{may_labels}
+use Rattle.par_evaluation.specs.par_code_form.Code.{expr_code, may_code, args_code, load, is_number}
+use Rattle.par_evaluation.specs.par_code_form.Code.{labels, Loop, give_back, dropped, goes_on}
+use Rattle.par_evaluation.specs.par_code_form.Code.{loop_test, store}
+use Rattle.par_evaluation.specs.par_code_form.Code.{code, else_code, all_code, catch_code, no_loop}
+use Rattle.par_evaluation.specs.par_code_form.Code.{ending}
 use Rattle.par_coded.specs.Named.{EachInSta, EachInElse, EachInStas, EachInCatches, Named}
 use Rattle.par_coded.specs.Items.{ItemLockPasses, LockPasses}
 use Rattle.par_coded.specs.Laws.{CodeUsesItsLocks}

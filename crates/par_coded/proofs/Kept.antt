@@ -1,6 +1,6 @@
 -- Each method of a program is one of its erased program.
 use Rattle.std.proofs.Common.{Some, ap, ◌∙◌}
-use Rattle.par_runs.specs.Names.{body_of}
+use Rattle.par_evaluation.specs.par_runs.Names.{body_of}
 use Rattle.par_erase.specs.Erased.{erased_method, erased_bodies}
 use Rattle.par_coded.specs.Methods.{may_meth}
 use Rattle.par_coded.specs.Laws.{MethodsAreKept}

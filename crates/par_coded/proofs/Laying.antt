@@ -6,10 +6,11 @@ use Rattle.par_typed.specs.declared.table.ChannelInfo.{ChannelInfo}
 use Rattle.par_typed.specs.declared.table.MethodInfo.{MethodInfo}
 use Rattle.par_typed.specs.declared.table.ClassInfo.{ClassInfo}
 use Rattle.par_typed.specs.declared.table.Table.{Table}
-use Rattle.par_bodies.specs.Members.{field_at, channel_at, method_at}
+use Rattle.par_well_typed.specs.par_bodies.Members.{field_at, channel_at, method_at}
 use Rattle.par_erase.specs.Erased.{inputs_in, input_place, output_place}
-use Rattle.par_agreeing.specs.Laid.{Layout, Meth, HasMethod, HasOwn, HasStatic, IsInput, IsOutput}
-use Rattle.par_agreeing.specs.Laid.{IsLock, IsMade, IsThrown}
+use Rattle.par_evaluation.specs.par_agreeing.Laid.{Layout, Meth, HasMethod, HasOwn, HasStatic}
+use Rattle.par_evaluation.specs.par_agreeing.Laid.{IsInput, IsOutput}
+use Rattle.par_evaluation.specs.par_agreeing.Laid.{IsLock, IsMade, IsThrown}
 use Rattle.par_coded.specs.Named.{Named, Made, Raised, OfClass, OfObject, Reads, Writes, Calls}
 use Rattle.par_coded.specs.Named.{Uses}
 

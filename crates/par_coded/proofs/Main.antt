@@ -10,9 +10,9 @@ use Rattle.par_typed.specs.declared.ty.Ty.TheVariants as ty
 use Rattle.par_typed.specs.declared.table.ClassInfo.{ClassInfo}
 use Rattle.par_typed.specs.declared.table.MethodInfo.{MethodInfo}
 use Rattle.par_typed.specs.declared.table.ParamInfo.{ParamInfo}
-use Rattle.par_bodies.specs.Members.{methods_in, method_at}
+use Rattle.par_well_typed.specs.par_bodies.Members.{methods_in, method_at}
 use Rattle.par_well_typed.specs.Beginning.{mains}
-use Rattle.par_runs.specs.Names.{place_of, main_in, main_of}
+use Rattle.par_evaluation.specs.par_runs.Names.{place_of, main_in, main_of}
 use Rattle.par_erase.specs.Erased.{erased_class, erased_method, erased_param, erased_table}
 use Rattle.par_erase.specs.Erased.{erased_bodies}
 use Rattle.par_coded.specs.Methods.{meth, meth_at}

@@ -6,9 +6,10 @@ use Rattle.par_typed.specs.Plain.{TSta, Block, If, While, Try, Return, Break, Co
 use Rattle.par_typed.specs.Plain.{Close, SetLocal, SetStatic, SetField, Eval, When, MayTSta, NoElse}
 use Rattle.par_typed.specs.Plain.{Otherwise, TStas, End, Then, TCatches, NoCatch, Catch}
 use Rattle.par_typed.specs.declared.table.Table.{Table}
-use Rattle.par_completes.specs.Typed.{is_true, breaks, else_breaks, some_break, some_catch_breaks}
-use Rattle.par_completes.specs.Typed.{completes, else_completes, last_completes}
-use Rattle.par_completes.specs.Typed.{some_catch_completes}
+use Rattle.par_well_typed.specs.par_completes.Typed.{is_true, breaks, else_breaks, some_break}
+use Rattle.par_well_typed.specs.par_completes.Typed.{some_catch_breaks}
+use Rattle.par_well_typed.specs.par_completes.Typed.{completes, else_completes, last_completes}
+use Rattle.par_well_typed.specs.par_completes.Typed.{some_catch_completes}
 use Rattle.par_erase.specs.Asked.{Locks}
 use Rattle.par_erase.specs.Erased.{erased_exp, erased_sta, erased_else, erased_all, erased_catches}
 use Rattle.par_erase.specs.Erased.{set_if}

@@ -13,8 +13,8 @@ use Rattle.par_typed.specs.declared.table.FieldInfo.{FieldInfo}
 use Rattle.par_typed.specs.declared.table.MethodInfo.{MethodInfo}
 use Rattle.par_typed.specs.declared.table.ParamInfo.{ParamInfo}
 use Rattle.par_typed.specs.declared.table.Table.{Table}
-use Rattle.par_bodies.specs.Members.{fields_in, channels_in, methods_in}
-use Rattle.par_bodies.specs.Members.{field_at, channel_at, method_at}
+use Rattle.par_well_typed.specs.par_bodies.Members.{fields_in, channels_in, methods_in}
+use Rattle.par_well_typed.specs.par_bodies.Members.{field_at, channel_at, method_at}
 use Rattle.par_erase.specs.Shown.{channel_info}
 use Rattle.par_erase.specs.Erased.{erased_table, erased_class, erased_field, erased_method}
 use Rattle.par_erase.specs.Erased.{erased_param, erased_channels, inputs_among, outputs_among}

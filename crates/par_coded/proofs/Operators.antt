@@ -6,11 +6,12 @@ use Rattle.par_lexer.specs.declared.operator.BinOp.{BinOp}
 use Rattle.par_lexer.specs.declared.operator.BinOp.TheVariants as op
 use Rattle.par_typed.specs.declared.ty.Ty.{Ty}
 use Rattle.par_typed.specs.declared.ty.Ty.TheVariants as ty
-use Rattle.par_bodies.specs.Types.{Accepts, AreBoth, Equates, Operates, IsValue, IsEnded}
-use Rattle.par_code_form.specs.Code.{Compares, Sames, shape, is_number}
-use Rattle.par_code_form.specs.Operands.{between_top}
-use Rattle.par_agreeing.specs.Laid.{OfShape}
-use Rattle.par_agreeing.specs.Laid as laid
+use Rattle.par_well_typed.specs.par_bodies.Types.{Accepts, AreBoth, Equates, Operates, IsValue}
+use Rattle.par_well_typed.specs.par_bodies.Types.{IsEnded}
+use Rattle.par_evaluation.specs.par_code_form.Code.{Compares, Sames, shape, is_number}
+use Rattle.par_evaluation.specs.par_code_form.Operands.{between_top}
+use Rattle.par_evaluation.specs.par_agreeing.Laid.{OfShape}
+use Rattle.par_evaluation.specs.par_agreeing.Laid as laid
 
 -- ---- values
 

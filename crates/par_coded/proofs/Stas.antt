@@ -8,17 +8,20 @@ use Rattle.par_typed.specs.Plain.{mark, Absent, Present}
 use Rattle.par_typed.specs.Plain.{TSta, Block, If, While, Try, Return, Break, Continue, Throw, Open}
 use Rattle.par_typed.specs.Plain.{Close, SetLocal, SetStatic, SetField, Eval, When, MayTSta, NoElse}
 use Rattle.par_typed.specs.Plain.{Otherwise, TStas, End, Then, TCatches, NoCatch, Catch}
-use Rattle.par_completes.specs.Typed.{completes, is_true}
-use Rattle.par_bodies.specs.Locals.{behind}
-use Rattle.par_bodies.specs.Forms.{Setting}
-use Rattle.par_bodies.specs.Proper.{StaIsProper, ElseIsProper, AllAreProper, CatchesAreProper}
-use Rattle.par_bodies.specs.Proper.{ExpIsProper}
+use Rattle.par_well_typed.specs.par_completes.Typed.{completes, is_true}
+use Rattle.par_well_typed.specs.par_bodies.Locals.{behind}
+use Rattle.par_well_typed.specs.par_bodies.Forms.{Setting}
+use Rattle.par_well_typed.specs.par_bodies.Proper.{StaIsProper, ElseIsProper, AllAreProper}
+use Rattle.par_well_typed.specs.par_bodies.Proper.{CatchesAreProper}
+use Rattle.par_well_typed.specs.par_bodies.Proper.{ExpIsProper}
 use Rattle.par_erase.specs.Asked.{Locks}
 use Rattle.par_erase.specs.Erased.{erased_exp, erased_sta, erased_else, erased_all, erased_catches}
 use Rattle.par_erase.specs.Erased.{erased_may, set_if}
-use Rattle.par_code_form.specs.Operands.{expr_top, may_top, top, else_top, all_top, catch_top}
-use Rattle.par_agreeing.specs.Laid.{Layout, Typed, TypedS, TypedElse, TypedAll, TypedCatches}
-use Rattle.par_agreeing.specs.Laid as laid
+use Rattle.par_evaluation.specs.par_code_form.Operands.{expr_top, may_top, top, else_top, all_top}
+use Rattle.par_evaluation.specs.par_code_form.Operands.{catch_top}
+use Rattle.par_evaluation.specs.par_agreeing.Laid.{Layout, Typed, TypedS, TypedElse, TypedAll}
+use Rattle.par_evaluation.specs.par_agreeing.Laid.{TypedCatches}
+use Rattle.par_evaluation.specs.par_agreeing.Laid as laid
 use Rattle.par_coded.specs.Named.{Named, EachInSta, EachInElse, EachInStas, EachInCatches}
 use Rattle.par_coded.specs.Named.{EachInMay}
 use Rattle.par_coded.proofs.Laying.{Lays}

@@ -3,9 +3,9 @@ use Rattle.std.proofs.Common.{◌≡◌, ℕ, suc, ◌≤◌, ◌<◌, max, Bool
 use Rattle.std.specs.Prelude.{if◌then◌else◌}
 use Rattle.par_typed.specs.declared.ty.Ty.{Ty}
 use Rattle.par_typed.specs.declared.ty.Ty.TheVariants as ty
-use Rattle.par_code_form.specs.Code.{Shape, Calculates, Compares, Sames, Decides}
-use Rattle.par_code_form.specs.Operands.{below_second, between_top, with_result}
-use Rattle.par_agreeing.specs.Laid as laid
+use Rattle.par_evaluation.specs.par_code_form.Code.{Shape, Calculates, Compares, Sames, Decides}
+use Rattle.par_evaluation.specs.par_code_form.Operands.{below_second, between_top, with_result}
+use Rattle.par_evaluation.specs.par_agreeing.Laid as laid
 
 pub left_le : (a b r : ℕ) → max a b ≤ r → a ≤ r
 left_le a b r h = omega arith

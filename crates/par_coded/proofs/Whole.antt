@@ -12,18 +12,18 @@ use Rattle.par_typed.specs.declared.table.ParamInfo.{ParamInfo}
 use Rattle.par_typed.specs.declared.table.MethodInfo.{MethodInfo}
 use Rattle.par_typed.specs.declared.table.Table.{Table}
 use Rattle.par_typed.specs.Plain.{TSta, Body}
-use Rattle.par_completes.specs.Typed.{completes}
-use Rattle.par_bodies.specs.Members.{method_at}
-use Rattle.par_bodies.specs.Locals.{BeginsWith, arriving, arrivals}
-use Rattle.par_bodies.specs.Forms.{Setting}
-use Rattle.par_bodies.specs.Proper.{IsProper, IsProperOf}
-use Rattle.par_runs.specs.Names.{body_of}
+use Rattle.par_well_typed.specs.par_completes.Typed.{completes}
+use Rattle.par_well_typed.specs.par_bodies.Members.{method_at}
+use Rattle.par_well_typed.specs.par_bodies.Locals.{BeginsWith, arriving, arrivals}
+use Rattle.par_well_typed.specs.par_bodies.Forms.{Setting}
+use Rattle.par_well_typed.specs.par_bodies.Proper.{IsProper, IsProperOf}
+use Rattle.par_evaluation.specs.par_runs.Names.{body_of}
 use Rattle.par_erase.specs.Asked.{asked_in}
 use Rattle.par_erase.specs.Erased.{erased_table, erased_method, erased_sta}
 use Rattle.par_erase.specs.Erased.{erased_bodies}
-use Rattle.par_code_form.specs.Code.{Words}
-use Rattle.par_matching.specs.Labelled.{Labelled}
-use Rattle.par_agreeing.specs.Laid.{Layout, Meth, given_types}
+use Rattle.par_evaluation.specs.par_code_form.Code.{Words}
+use Rattle.par_evaluation.specs.par_matching.Labelled.{Labelled}
+use Rattle.par_evaluation.specs.par_agreeing.Laid.{Layout, Meth, given_types}
 use Rattle.par_evaluation.specs.Programs.{Coded, first_set}
 use Rattle.par_coded.specs.Named.{EachInSta}
 use Rattle.par_coded.specs.Methods.{meth, may_meth, local_type, IsLaid, IsCodeOf}

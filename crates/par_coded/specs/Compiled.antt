@@ -3,15 +3,15 @@ use Rattle.std.specs.Prelude.{◌≡◌, ℕ, ◌⊎◌, List, [], Some}
 use Rattle.std.specs.List.{AllByRecursion}
 use Rattle.par_typed.specs.declared.table.Table.{Table}
 use Rattle.par_typed.specs.Plain.{Body}
-use Rattle.par_bodies.specs.Proper.{IsProper}
+use Rattle.par_well_typed.specs.par_bodies.Proper.{IsProper}
 use Rattle.par_well_typed.specs.Bodied.{AreBodiesOf}
 use Rattle.par_well_typed.specs.Beginning.{HasMain}
-use Rattle.par_runs.specs.Names.{main_of}
+use Rattle.par_evaluation.specs.par_runs.Names.{main_of}
 use Rattle.par_erase.specs.Erased.{erased_table, erased_bodies}
-use Rattle.par_code_form.specs.Code.{Words}
-use Rattle.par_matching.specs.Labelled.{Labelled, Naming}
-use Rattle.par_agreeing.specs.Laid.{Layout, Meth, HasMethod}
-use Rattle.par_agreeing.specs.Agreement.{Lays}
+use Rattle.par_evaluation.specs.par_code_form.Code.{Words}
+use Rattle.par_evaluation.specs.par_matching.Labelled.{Labelled, Naming}
+use Rattle.par_evaluation.specs.par_agreeing.Laid.{Layout, Meth, HasMethod}
+use Rattle.par_evaluation.specs.par_agreeing.Agreement.{Lays}
 use Rattle.par_evaluation.specs.Programs.{Inits, IsCompiled}
 use Rattle.par_coded.specs.Named.{EachInSta}
 use Rattle.par_coded.specs.Methods.{meth_at, IsLaid, IsCodeOf}

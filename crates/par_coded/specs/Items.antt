@@ -1,11 +1,12 @@
 -- Which classes and locks code names.
 use Rattle.std.specs.Prelude.{◌≡◌, ℕ, Bool, true}
 use Rattle.par_values.specs.Areas.{Name}
-use Rattle.par_code_form.specs.declared.item.Item.{Item}
-use Rattle.par_code_form.specs.declared.item.Item.TheVariants.{Label, Op, Const, Jump, Member}
-use Rattle.par_code_form.specs.declared.item.Item.TheVariants.{ClassOp, LockOp}
-use Rattle.par_code_form.specs.declared.labelled.Handler.{Handler}
-use Rattle.par_code_form.specs.Code.{Words}
+use Rattle.par_evaluation.specs.par_code_form.declared.item.Item.{Item}
+use Rattle.par_evaluation.specs.par_code_form.declared.item.Item.TheVariants.{Label, Op, Const}
+use Rattle.par_evaluation.specs.par_code_form.declared.item.Item.TheVariants.{Jump, Member}
+use Rattle.par_evaluation.specs.par_code_form.declared.item.Item.TheVariants.{ClassOp, LockOp}
+use Rattle.par_evaluation.specs.par_code_form.declared.labelled.Handler.{Handler}
+use Rattle.par_evaluation.specs.par_code_form.Code.{Words}
 use Rattle.par_coded.specs.Named.{Named, Made, Raised, OfClass, OfObject, Reads, Writes, Calls}
 use Rattle.par_coded.specs.Named.{Uses}
 

@@ -5,18 +5,18 @@ use Rattle.par_typed.specs.declared.ty.Ty.TheVariants as ty
 use Rattle.par_typed.specs.declared.table.MethodInfo.{MethodInfo}
 use Rattle.par_typed.specs.declared.table.Table.{Table}
 use Rattle.par_typed.specs.Plain.{TSta, Body}
-use Rattle.par_bodies.specs.Members.{method_at}
-use Rattle.par_bodies.specs.Proper.{IsProper}
-use Rattle.par_completes.specs.Typed.{completes}
+use Rattle.par_well_typed.specs.par_bodies.Members.{method_at}
+use Rattle.par_well_typed.specs.par_bodies.Proper.{IsProper}
+use Rattle.par_well_typed.specs.par_completes.Typed.{completes}
 use Rattle.par_erase.specs.Asked.{Locks, asked_in}
 use Rattle.par_erase.specs.Erased.{erased_table, erased_method, erased_sta, erased_bodies}
 use Rattle.par_well_typed.specs.Bodied.{AreBodiesOf}
 use Rattle.par_well_typed.specs.Beginning.{HasMain}
-use Rattle.par_runs.specs.Names.{main_of}
+use Rattle.par_evaluation.specs.par_runs.Names.{main_of}
 use Rattle.par_values.specs.Areas.{Name}
-use Rattle.par_code_form.specs.Code.{Words, body_code, body_handlers}
-use Rattle.par_matching.specs.Labelled.{Labelled}
-use Rattle.par_agreeing.specs.Laid.{Layout, Meth, given_types}
+use Rattle.par_evaluation.specs.par_code_form.Code.{Words, body_code, body_handlers}
+use Rattle.par_evaluation.specs.par_matching.Labelled.{Labelled}
+use Rattle.par_evaluation.specs.par_agreeing.Laid.{Layout, Meth, given_types}
 use Rattle.par_evaluation.specs.Programs.{Coded}
 use Rattle.par_coded.specs.Named.{EachInSta}
 use Rattle.par_coded.specs.Items.{ItemPasses, HandlerPasses, NamedPasses, LockPasses}

@@ -10,12 +10,12 @@ use Rattle.par_typed.specs.declared.table.MethodInfo.{MethodInfo}
 use Rattle.par_typed.specs.declared.table.ClassInfo.{ClassInfo}
 use Rattle.par_typed.specs.declared.table.Table.{Table}
 use Rattle.par_typed.specs.Plain.{TSta, Body}
-use Rattle.par_bodies.specs.Members.{field_at, channel_at, method_at}
-use Rattle.par_runs.specs.Names.{body_of}
-use Rattle.par_code_form.specs.Code.{Words, body_code, body_handlers}
-use Rattle.par_code_form.specs.Operands.{top}
-use Rattle.par_matching.specs.Labelled.{Labelled}
-use Rattle.par_agreeing.specs.Laid.{Layout, Meth, IsLock}
+use Rattle.par_well_typed.specs.par_bodies.Members.{field_at, channel_at, method_at}
+use Rattle.par_evaluation.specs.par_runs.Names.{body_of}
+use Rattle.par_evaluation.specs.par_code_form.Code.{Words, body_code, body_handlers}
+use Rattle.par_evaluation.specs.par_code_form.Operands.{top}
+use Rattle.par_evaluation.specs.par_matching.Labelled.{Labelled}
+use Rattle.par_evaluation.specs.par_agreeing.Laid.{Layout, Meth, IsLock}
 use Rattle.par_evaluation.specs.Programs.{given_kind}
 use Rattle.par_coded.specs.Named.{Named, Made, Raised, OfClass, OfObject, Reads, Writes, Calls}
 use Rattle.par_coded.specs.Named.{Uses}

@@ -19,3 +19,7 @@ mod rule;
 
 pub use counts::{check_counts, check_declared};
 pub use names::first_broken_name;
+pub use par_names;
+pub use par_names::par_places;
+pub use par_parser;
+pub use par_tree;

@@ -10,11 +10,11 @@ use Rattle.std.proofs.lemmas.List.{append-nil}
 use Rattle.std.proofs.lemmas.Bool.{and_parts, and_from, or_left, eqb-true, le-leb}
 use Rattle.par_lexer.specs.Names.{IsName, is_name, is_spelled, is_letter, is_digit, goes_on}
 use Rattle.par_index.proofs.Places.{position-from}
-use Rattle.par_typed.specs.declared.ty.Ty.{Ty}
-use Rattle.par_typed.specs.declared.ty.Ty.TheVariants as ty
-use Rattle.par_typed.specs.declared.table.MethodInfo.{MethodInfo}
-use Rattle.par_typed.specs.declared.table.ParamInfo.{ParamInfo}
-use Rattle.par_typed.specs.declared.table.Table.{Table}
+use Rattle.par_code_form.specs.par_typed.declared.ty.Ty.{Ty}
+use Rattle.par_code_form.specs.par_typed.declared.ty.Ty.TheVariants as ty
+use Rattle.par_code_form.specs.par_typed.declared.table.MethodInfo.{MethodInfo}
+use Rattle.par_code_form.specs.par_typed.declared.table.ParamInfo.{ParamInfo}
+use Rattle.par_code_form.specs.par_typed.declared.table.Table.{Table}
 use Rattle.par_values.specs.declared.kind.Kind.TheVariants.{Object}
 use Rattle.par_single.specs.Descriptors.{Text, ends_name, object_to, kind_at, kind_before, kinds_at}
 use Rattle.par_single.specs.Descriptors.{alone, field_kind, signature_with, signature_of}

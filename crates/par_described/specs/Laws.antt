@@ -2,10 +2,10 @@
 use Rattle.std.specs.Prelude.{◌≡◌, map, Option, Some, None}
 use Rattle.std.specs.List.{AllByRecursion}
 use Rattle.par_lexer.specs.Names.{IsName}
-use Rattle.par_typed.specs.declared.ty.Ty.{Ty}
-use Rattle.par_typed.specs.declared.ty.Ty.TheVariants as ty
-use Rattle.par_typed.specs.declared.table.MethodInfo.{MethodInfo}
-use Rattle.par_typed.specs.declared.table.Table.{Table}
+use Rattle.par_code_form.specs.par_typed.declared.ty.Ty.{Ty}
+use Rattle.par_code_form.specs.par_typed.declared.ty.Ty.TheVariants as ty
+use Rattle.par_code_form.specs.par_typed.declared.table.MethodInfo.{MethodInfo}
+use Rattle.par_code_form.specs.par_typed.declared.table.Table.{Table}
 use Rattle.par_values.specs.declared.kind.Kind.{Kind}
 use Rattle.par_values.specs.declared.kind.Kind.TheVariants.{Number, Object, AnyObject, Anything}
 use Rattle.par_single.specs.Descriptors.{field_kind, method_signature}

@@ -2,7 +2,7 @@
 use Rattle.std.proofs.Common.{◌≡◌, ℕ, zero, suc, ◌+◌, Bool, List, [], ◌∷◌, Option, Some, None}
 use Rattle.std.proofs.Common.{refl, ap, ◌∙◌}
 use Rattle.par_instr.specs.Decoding.{Decoded, decoded_at}
-use Rattle.par_class.specs.declared.file.ClassFile.{ClassFile}
+use Rattle.par_steps.specs.par_class.declared.file.ClassFile.{ClassFile}
 use Rattle.par_values.specs.declared.value.MVal.{MVal}
 use Rattle.par_values.specs.declared.value.MVal.TheVariants.{Ref}
 use Rattle.par_values.specs.Areas.{Areas, next_number, with_object}
@@ -12,12 +12,12 @@ use Rattle.par_values.specs.Ran.{Ran}
 use Rattle.par_steps.specs.Classes.{exception_named, class_names}
 use Rattle.par_steps.specs.Links.{link_at}
 use Rattle.par_steps.specs.Methods.{method_code}
-use Rattle.par_link.specs.Linked.{named_at}
+use Rattle.par_steps.specs.par_link.Linked.{named_at}
 use Rattle.par_values.specs.Effects.{Effect, Goes, Happens, Jumps, Calls, Throws, ThrowsObject}
 use Rattle.par_values.specs.Effects.{Returns, ReturnsWith}
-use Rattle.par_link.specs.declared.entry.Builtin.TheVariants as builtin
-use Rattle.par_link.specs.declared.entry.Named.{Named}
-use Rattle.par_link.specs.declared.entry.Named.TheVariants as named
+use Rattle.par_steps.specs.par_link.declared.entry.Builtin.TheVariants as builtin
+use Rattle.par_steps.specs.par_link.declared.entry.Named.{Named}
+use Rattle.par_steps.specs.par_link.declared.entry.Named.TheVariants as named
 use Rattle.par_steps.specs.State.{Frame, State}
 use Rattle.par_steps.specs.Step.{Turn, Silent, Shows, Ends, IsBad}
 use Rattle.par_steps.specs.Step as steps

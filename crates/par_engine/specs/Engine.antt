@@ -13,7 +13,7 @@ use Rattle.par_values.specs.Reasons.{Spot, reason, is_of}
 use Rattle.par_values.specs.Effects.{Effect, Goes, Happens, Jumps, Calls, Throws, ThrowsObject}
 use Rattle.par_values.specs.Effects.{Returns, ReturnsWith, effect}
 use Rattle.par_values.specs.Ran.{Ran, stopped}
-use Rattle.par_single.specs.Links.{kind_or_any}
+use Rattle.par_steps.specs.par_single.Links.{kind_or_any}
 use Rattle.par_steps.specs.State.{Frame, State, entered}
 use Rattle.par_steps.specs.Handlers.{caught_by}
 use Rattle.par_steps.specs.Step.{Turn, Silent, Shows, Ends, IsBad, areas_of, without_locks}

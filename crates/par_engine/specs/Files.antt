@@ -1,14 +1,14 @@
 -- Linked class files as a program for the machine.
 use Rattle.std.specs.Prelude.{ℕ, Bool, true, false, List, [], Option, Some, None}
 use Rattle.par_instr.specs.Decoding.{Decoded, decoded_at}
-use Rattle.par_class.specs.declared.file.ClassFile.{ClassFile}
+use Rattle.par_steps.specs.par_class.declared.file.ClassFile.{ClassFile}
 use Rattle.par_values.specs.Operations.{operation}
-use Rattle.par_link.specs.declared.entry.Builtin.TheVariants as builtin
-use Rattle.par_link.specs.declared.entry.Named.{Named}
-use Rattle.par_link.specs.declared.entry.Named.TheVariants.{Initializer}
-use Rattle.par_link.specs.Linked.{named_at}
-use Rattle.par_single.specs.Links.{signature_said}
-use Rattle.par_single.specs.Walk.{stands_at}
+use Rattle.par_steps.specs.par_link.declared.entry.Builtin.TheVariants as builtin
+use Rattle.par_steps.specs.par_link.declared.entry.Named.{Named}
+use Rattle.par_steps.specs.par_link.declared.entry.Named.TheVariants.{Initializer}
+use Rattle.par_steps.specs.par_link.Linked.{named_at}
+use Rattle.par_steps.specs.par_single.Links.{signature_said}
+use Rattle.par_steps.specs.par_single.Walk.{stands_at}
 use Rattle.par_steps.specs.Classes.{class_names, exception_named, exceptions}
 use Rattle.par_steps.specs.Methods.{method_code, method_name, method_descriptor}
 use Rattle.par_steps.specs.Links.{link_at}

@@ -1,6 +1,6 @@
 -- Linked class files run as a program of the engine.
 use Rattle.std.specs.Prelude.{◌≡◌, ℕ, List}
-use Rattle.par_class.specs.declared.file.ClassFile.{ClassFile}
+use Rattle.par_steps.specs.par_class.declared.file.ClassFile.{ClassFile}
 use Rattle.par_steps.specs.State.{State}
 use Rattle.par_steps.specs.Step as steps
 use Rattle.par_steps.specs.Run as steps_run

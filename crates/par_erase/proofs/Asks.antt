@@ -3,8 +3,8 @@ use Rattle.std.proofs.Common.{◌≡◌, ℕ, ◌+◌, ◌<◌, ◌≤◌, Bool,
 use Rattle.std.proofs.Common.{List, [], length, get_or, drop, Option, refl, ap, sym}
 use Rattle.std.specs.Prelude.{IsTrue, nat_eq}
 use Rattle.std.proofs.lemmas.Bool.{or_left, or_right, eqb-true, eq-eqb}
-use Rattle.par_policy.specs.Numbers.{has, Gains}
-use Rattle.par_policy.proofs.Members.{Contains-from_has, has-from_Contains}
+use Rattle.par_typed.specs.par_policy.Numbers.{has, Gains}
+use Rattle.par_typed.proofs.par_policy.Members.{Contains-from_has, has-from_Contains}
 use Rattle.par_typed.specs.declared.program.TBody.{TBody}
 use Rattle.par_typed.specs.Plain.{TExp, MayTExp}
 use Rattle.par_typed.specs.Plain.{TSta, Block, If, While, Try, Return, Break, Continue, Throw, Open}

@@ -1,13 +1,13 @@
 //! Which locks some `when` asks for.
 
 ghost use Rattle.std.specs.Prelude.{◌≡◌, IfOk, OnOk};
-ghost use Rattle.par_policy.specs.Numbers.{has};
+ghost use Rattle.par_typed.specs.par_policy.Numbers.{has};
 ghost use Rattle.par_typed.specs.Shown as typed;
 ghost use Rattle.par_erase.specs.Asked.{only, either, asks, else_asks, all_ask, catches_ask};
 ghost use Rattle.par_erase.specs.Asked.{asked_in};
 
 use par_lexer::list::NoMemory;
-use par_policy::Lockset;
+use par_typed::par_policy::Lockset;
 use par_typed::program::TBody;
 use par_typed::stmt::{TCatch, TStmt, TStmtKind};
 use std::alloc::Global;

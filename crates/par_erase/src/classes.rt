@@ -3,7 +3,7 @@
 ghost use Rattle.std.specs.Prelude.{◌≡◌, IfOk, map, drop};
 ghost use Rattle.std.specs.List.{AllByRecursion};
 ghost use Rattle.par_lexer.specs.Names.{IsName};
-ghost use Rattle.par_policy.specs.Numbers.{has};
+ghost use Rattle.par_typed.specs.par_policy.Numbers.{has};
 ghost use Rattle.par_typed.specs.Shown.{bodies};
 ghost use Rattle.par_erase.specs.Shown.{does, method_info, class_info, own_bodies};
 ghost use Rattle.par_erase.specs.Named.{IsNamed, AreNamed};
@@ -18,7 +18,7 @@ use crate::program::{Plain, PlainClass, PlainMethod};
 use crate::stmt::PStmt;
 use crate::stmts::erase_stmt;
 use par_lexer::list::{List, NoMemory};
-use par_policy::Lockset;
+use par_typed::par_policy::Lockset;
 use par_typed::program::{TBody, Typed};
 use par_typed::table::{ClassInfo, MethodInfo, Table};
 use std::alloc::Global;

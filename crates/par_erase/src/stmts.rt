@@ -3,7 +3,7 @@
 ghost use Rattle.std.specs.Prelude.{◌≡◌, ℕ, IfOk};
 ghost use Rattle.par_typed.specs.Shown as typed;
 ghost use Rattle.par_erase.specs.Shown as plain;
-ghost use Rattle.par_policy.specs.Numbers.{has};
+ghost use Rattle.par_typed.specs.par_policy.Numbers.{has};
 ghost use Rattle.par_erase.specs.Erased.{inputs_in, set_if, erased_may, erased_sta};
 ghost use Rattle.par_erase.specs.Erased.{erased_else, erased_all, erased_catches};
 
@@ -11,8 +11,8 @@ use crate::expr::PExpr;
 use crate::exprs::erase_expr;
 use crate::stmt::{PCatch, PStmt};
 use par_lexer::list::{List, NoMemory};
-use par_policy::Lockset;
 use par_typed::expr::TExpr;
+use par_typed::par_policy::Lockset;
 use par_typed::stmt::{TCatch, TStmt, TStmtKind};
 use par_typed::table::Table;
 use std::alloc::Global;

@@ -4,10 +4,10 @@ use Rattle.std.proofs.Common.{◌∷◌}
 use Rattle.std.proofs.Common.{length, refl, ap, sym, ◌∙◌, subst, arith, codes}
 use Rattle.std.specs.Prelude.{ℤ, pos, ◌-ℤ◌, if◌then◌else◌}
 use Rattle.par_lexer.specs.declared.operator.BinOp.{BinOp}
-use Rattle.par_typed.specs.declared.ty.Ty.{Ty}
-use Rattle.par_typed.specs.declared.ty.Ty.TheVariants as ty
-use Rattle.par_typed.specs.declared.table.Table.{Table}
-use Rattle.par_typed.specs.Plain.{mark, TExp}
+use Rattle.par_runs.specs.par_typed.declared.ty.Ty.{Ty}
+use Rattle.par_runs.specs.par_typed.declared.ty.Ty.TheVariants as ty
+use Rattle.par_runs.specs.par_typed.declared.table.Table.{Table}
+use Rattle.par_runs.specs.par_typed.Plain.{mark, TExp}
 use Rattle.par_values.specs.declared.value.MVal.{MVal}
 use Rattle.par_values.specs.declared.value.MVal.TheVariants as value
 use Rattle.par_values.specs.Areas.{Name, Areas, number_of, fits}
@@ -19,18 +19,21 @@ use Rattle.par_values.specs.Effects.{Goes, Throws, effect, jumps_if}
 use Rattle.par_runs.specs.State.{State}
 use Rattle.par_runs.specs.Tasks.{Normal, Thrown, Rests, Task, gives, and_then, follow}
 use Rattle.par_runs.specs.Meaning.{Calls, eval}
-use Rattle.par_steps.specs.State as steps
-use Rattle.par_steps.specs.Step.{Turn}
-use Rattle.par_code_form.specs.declared.item.Item.{Item}
-use Rattle.par_code_form.specs.declared.item.Item.TheVariants.{Label, Op, Jump}
-use Rattle.par_matching.specs.Labelled.{Labelled, Naming, lead, skip, target, silent, stands}
-use Rattle.par_code_form.specs.Code.{Words, is_number, is_void, Shape, Calculates, Compares, Sames}
-use Rattle.par_code_form.specs.Code.{Decides, between, shape_code}
-use Rattle.par_code_form.specs.Code.{test_code, expr_code}
+use Rattle.par_agreeing.specs.par_steps.State as steps
+use Rattle.par_agreeing.specs.par_steps.Step.{Turn}
+use Rattle.par_agreeing.specs.par_code_form.declared.item.Item.{Item}
+use Rattle.par_agreeing.specs.par_code_form.declared.item.Item.TheVariants.{Label, Op, Jump}
+use Rattle.par_agreeing.specs.par_matching.Labelled.{Labelled, Naming, lead, skip, target, silent}
+use Rattle.par_agreeing.specs.par_matching.Labelled.{stands}
+use Rattle.par_agreeing.specs.par_code_form.Code.{Words, is_number, is_void, Shape, Calculates}
+use Rattle.par_agreeing.specs.par_code_form.Code.{Compares, Sames}
+use Rattle.par_agreeing.specs.par_code_form.Code.{Decides, between, shape_code}
+use Rattle.par_agreeing.specs.par_code_form.Code.{test_code, expr_code}
 use Rattle.par_agreeing.specs.Laid.{Layout, moved, HasType, OfShape, Typed}
-use Rattle.par_matching.proofs.Rules.{Told, spent}
-use Rattle.par_matching.proofs.Steps.{Lives, Here, next, Distinct, on, jumps, target_is}
-use Rattle.par_matching.proofs.Steps.{stands_here}
+use Rattle.par_agreeing.proofs.par_matching.Rules.{Told, spent}
+use Rattle.par_agreeing.proofs.par_matching.Steps.{Lives, Here, next, Distinct, on, jumps}
+use Rattle.par_agreeing.proofs.par_matching.Steps.{target_is}
+use Rattle.par_agreeing.proofs.par_matching.Steps.{stands_here}
 use Rattle.par_agreeing.specs.Agreement.{Lays}
 use Rattle.par_agreeing.proofs.Good.{Grows, grows_same, grows_on, typed_on, number_is, reference_is}
 use Rattle.par_agreeing.proofs.Good.{any_fits, IsReference}
@@ -42,8 +45,8 @@ use Rattle.par_values.specs.Arithmetic.{Operator}
 use Rattle.par_instr.specs.declared.instr.Instr.{Instr}
 use Rattle.par_instr.specs.declared.instr.Instr.TheVariants.{Dup, Pop}
 use Rattle.par_values.specs.Operations.{operation}
-use Rattle.par_matching.specs.Labelled.{branch}
-use Rattle.par_code_form.specs.Code.{same_opcode}
+use Rattle.par_agreeing.specs.par_matching.Labelled.{branch}
+use Rattle.par_agreeing.specs.par_code_form.Code.{same_opcode}
 use Rattle.par_values.specs.declared.link.Link.TheVariants as link
 use Rattle.par_runs.specs.Tasks.{done, nothing}
 use Rattle.par_runs.specs.Tasks.{ARITHMETIC}
@@ -56,7 +59,8 @@ use Rattle.par_evaluation.proofs.Parts.{Setting}
 use Rattle.par_evaluation.proofs.Parts.{with, not_void, M, at, Fit, Ready, Handed}
 use Rattle.par_evaluation.proofs.Parts.{Raises, Holds, number_moved}
 use Rattle.par_evaluation.proofs.Parts.{fails}
-use Rattle.par_evaluation.proofs.Values.{giv, hand, hand_truth, int_fits, later, makes, number_fits, one_fits, raises_on, spend, test, two_fit}
+use Rattle.par_evaluation.proofs.Values.{giv, hand, hand_truth, int_fits, later, makes, number_fits}
+use Rattle.par_evaluation.proofs.Values.{one_fits, raises_on, spend, test, two_fit}
 
 module _ (ctx : Setting) where
   abbrev env : Naming

@@ -7,10 +7,10 @@ use Rattle.std.specs.Prelude.{cond}
 use Rattle.std.specs.Str.{bytes_eq}
 use Rattle.std.proofs.lemmas.Bool.{le-ltb}
 use Rattle.par_instr.specs.declared.instr.Instr.TheVariants.{AconstNull, AloadShort, Ineg}
-use Rattle.par_typed.specs.declared.ty.Ty.{Ty}
-use Rattle.par_typed.specs.declared.ty.Ty.TheVariants as ty
-use Rattle.par_typed.specs.declared.table.Table.{Table}
-use Rattle.par_typed.specs.Plain.{TExp}
+use Rattle.par_runs.specs.par_typed.declared.ty.Ty.{Ty}
+use Rattle.par_runs.specs.par_typed.declared.ty.Ty.TheVariants as ty
+use Rattle.par_runs.specs.par_typed.declared.table.Table.{Table}
+use Rattle.par_runs.specs.par_typed.Plain.{TExp}
 use Rattle.par_values.specs.declared.kind.Kind.TheVariants as kind
 use Rattle.par_values.specs.declared.value.MVal.{MVal}
 use Rattle.par_values.specs.declared.value.MVal.TheVariants as value
@@ -24,18 +24,18 @@ use Rattle.par_values.specs.Effects.{Effect, Goes, Happens, Jumps, Throws, effec
 use Rattle.par_runs.specs.State.{State}
 use Rattle.par_runs.specs.Tasks.{Normal, Thrown, Rests}
 use Rattle.par_runs.specs.Meaning.{Calls}
-use Rattle.par_steps.specs.State as steps
-use Rattle.par_steps.specs.Step.{Turn}
-use Rattle.par_engine.specs.Engine.{Program, turn}
-use Rattle.par_engine.specs.Engine as gen
-use Rattle.par_code_form.specs.declared.item.Item.{Item}
-use Rattle.par_code_form.specs.declared.item.Item.TheVariants.{Op, Member}
-use Rattle.par_matching.specs.Labelled.{Labelled, Naming, lead, skip, found, silent}
-use Rattle.par_code_form.specs.Code.{Words, is_void}
-use Rattle.par_code_form.specs.Operands.{with_result}
+use Rattle.par_agreeing.specs.par_steps.State as steps
+use Rattle.par_agreeing.specs.par_steps.Step.{Turn}
+use Rattle.par_agreeing.specs.par_engine.Engine.{Program, turn}
+use Rattle.par_agreeing.specs.par_engine.Engine as gen
+use Rattle.par_agreeing.specs.par_code_form.declared.item.Item.{Item}
+use Rattle.par_agreeing.specs.par_code_form.declared.item.Item.TheVariants.{Op, Member}
+use Rattle.par_agreeing.specs.par_matching.Labelled.{Labelled, Naming, lead, skip, found, silent}
+use Rattle.par_agreeing.specs.par_code_form.Code.{Words, is_void}
+use Rattle.par_agreeing.specs.par_code_form.Operands.{with_result}
 use Rattle.par_agreeing.specs.Laid.{Layout, moved, HasType, kind_of}
-use Rattle.par_matching.proofs.Rules.{Told, weaken, spend_rule}
-use Rattle.par_matching.proofs.Steps.{Lives, Here, next, P, here, frame, Can, on}
+use Rattle.par_agreeing.proofs.par_matching.Rules.{Told, weaken, spend_rule}
+use Rattle.par_agreeing.proofs.par_matching.Steps.{Lives, Here, next, P, here, frame, Can, on}
 use Rattle.par_agreeing.specs.Agreement.{Lays}
 use Rattle.par_agreeing.proofs.Good.{class_fits, kind_fits}
 use Rattle.par_values.specs.Effects.{comes, is_same, combines}
@@ -58,13 +58,13 @@ use Rattle.par_values.specs.Effects.{ThrowsObject, called, called_on, arguments}
 use Rattle.par_values.specs.Reasons.{is_of}
 use Rattle.par_values.specs.Operations.{InvokeSpecial, InvokeVirtual, Copy, Leave}
 use Rattle.par_values.specs.Areas.{first_locals}
-use Rattle.par_steps.specs.Step.{Silent, thrown_to}
+use Rattle.par_agreeing.specs.par_steps.Step.{Silent, thrown_to}
 use Rattle.par_runs.specs.State.{restored, entered}
 use Rattle.par_runs.specs.Tasks.{leave}
 use Rattle.par_runs.specs.Meaning.{calls as calls_of}
-use Rattle.par_matching.specs.Labelled.{calls}
-use Rattle.par_matching.proofs.Rules.{next_rule}
-use Rattle.par_matching.proofs.Steps.{on_wanting, enters_turn, past_is, leaves_turn}
+use Rattle.par_agreeing.specs.par_matching.Labelled.{calls}
+use Rattle.par_agreeing.proofs.par_matching.Rules.{next_rule}
+use Rattle.par_agreeing.proofs.par_matching.Steps.{on_wanting, enters_turn, past_is, leaves_turn}
 use Rattle.par_agreeing.specs.Laid.{Meth, OfValues, given_types}
 use Rattle.std.proofs.Common.{reverse}
 use Rattle.std.proofs.lemmas.List.{append-nil}
@@ -75,7 +75,7 @@ use Rattle.par_agreeing.specs.Agreement.{initializer, init_target}
 use Rattle.par_agreeing.proofs.Kept.{left_fit}
 use Rattle.par_agreeing.proofs.Pushed.{pushed, pushed_taken, pushed_left, pushed_before}
 use Rattle.par_agreeing.proofs.Pushed.{pushed_length, EachFits, pushed_fit, each_length}
-use Rattle.par_code_form.specs.Code.{initializer as init_item, initializer_code}
+use Rattle.par_agreeing.specs.par_code_form.Code.{initializer as init_item, initializer_code}
 use Rattle.par_evaluation.specs.Programs.{Init, Inits, framed, callee}
 use Rattle.par_evaluation.proofs.Parts.{AllTyped}
 

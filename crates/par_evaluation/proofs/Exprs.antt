@@ -3,36 +3,37 @@ use Rattle.std.proofs.Common.{◌≡◌, ℕ, suc, ◌+◌, ◌≤◌, true, fal
 use Rattle.std.proofs.Common.{◌∷◌}
 use Rattle.std.proofs.Common.{length, refl, ap, sym, subst, arith}
 use Rattle.std.specs.Prelude.{pos}
-use Rattle.par_typed.specs.declared.ty.Ty.{Ty}
-use Rattle.par_typed.specs.declared.ty.Ty.TheVariants as ty
-use Rattle.par_typed.specs.declared.table.Table.{Table}
-use Rattle.par_typed.specs.Plain.{Mark, mark, TExp, Int, Boolean, Null, This, New, Local, Static}
-use Rattle.par_typed.specs.Plain.{Field, Input, Output, Call, Neg, Not, Binary}
+use Rattle.par_runs.specs.par_typed.declared.ty.Ty.{Ty}
+use Rattle.par_runs.specs.par_typed.declared.ty.Ty.TheVariants as ty
+use Rattle.par_runs.specs.par_typed.declared.table.Table.{Table}
+use Rattle.par_runs.specs.par_typed.Plain.{Mark, mark, TExp, Int, Boolean, Null, This, New, Local}
+use Rattle.par_runs.specs.par_typed.Plain.{Static}
+use Rattle.par_runs.specs.par_typed.Plain.{Field, Input, Output, Call, Neg, Not, Binary}
 use Rattle.par_values.specs.declared.value.MVal.{MVal}
 use Rattle.par_values.specs.declared.value.MVal.TheVariants as value
 use Rattle.par_values.specs.Areas.{Areas}
 use Rattle.par_runs.specs.State.{State}
 use Rattle.par_runs.specs.Tasks.{Rests, Task, follow}
 use Rattle.par_runs.specs.Meaning.{Calls, eval}
-use Rattle.par_steps.specs.Step.{Turn}
-use Rattle.par_code_form.specs.declared.item.Item.{Item}
-use Rattle.par_code_form.specs.declared.item.Item.TheVariants.{Member}
-use Rattle.par_matching.specs.Labelled.{Labelled, skip}
-use Rattle.par_code_form.specs.Code.{Words, is_number, is_void}
-use Rattle.par_code_form.specs.Code.{shape_of, shape_labels}
-use Rattle.par_code_form.specs.Code.{expr_labels, expr_code}
+use Rattle.par_agreeing.specs.par_steps.Step.{Turn}
+use Rattle.par_agreeing.specs.par_code_form.declared.item.Item.{Item}
+use Rattle.par_agreeing.specs.par_code_form.declared.item.Item.TheVariants.{Member}
+use Rattle.par_agreeing.specs.par_matching.Labelled.{Labelled, skip}
+use Rattle.par_agreeing.specs.par_code_form.Code.{Words, is_number, is_void}
+use Rattle.par_agreeing.specs.par_code_form.Code.{shape_of, shape_labels}
+use Rattle.par_agreeing.specs.par_code_form.Code.{expr_labels, expr_code}
 use Rattle.par_agreeing.specs.Laid.{Layout, moved, HasType, Typed}
-use Rattle.par_matching.proofs.Rules.{Told}
-use Rattle.par_matching.proofs.Steps.{Lives, Here}
+use Rattle.par_agreeing.proofs.par_matching.Rules.{Told}
+use Rattle.par_agreeing.proofs.par_matching.Steps.{Lives, Here}
 use Rattle.par_agreeing.proofs.Good.{Grows, grows_same, grows_on, typed_on}
 use Rattle.par_evaluation.proofs.Lengths.{expr_grows}
 use Rattle.std.proofs.Common.{map}
 use Rattle.par_runs.specs.Tasks.{tested}
 use Rattle.par_agreeing.proofs.Operators.{means}
 use Rattle.par_evaluation.proofs.Created.{static_call, object_call}
-use Rattle.par_typed.specs.Plain.{Absent, Present, TExps, NoExps, More}
+use Rattle.par_runs.specs.par_typed.Plain.{Absent, Present, TExps, NoExps, More}
 use Rattle.par_runs.specs.Meaning.{eval_all, calls as calls_of}
-use Rattle.par_code_form.specs.Code.{args_code}
+use Rattle.par_agreeing.specs.par_code_form.Code.{args_code}
 use Rattle.par_agreeing.specs.Laid.{TypedArgs}
 use Rattle.par_agreeing.proofs.Pushed.{pushed}
 use Rattle.par_evaluation.proofs.Parts.{Setting, AllTyped}
@@ -41,7 +42,8 @@ use Rattle.par_evaluation.proofs.Parts.{not_void, M, at, Fit, Ready}
 use Rattle.par_evaluation.proofs.Parts.{Raises, Holds}
 use Rattle.par_evaluation.proofs.Parts.{local_ok, const_ok}
 use Rattle.par_evaluation.proofs.Values.{accepts, giv, later, raises_on, spend}
-use Rattle.par_evaluation.proofs.Primary.{field_ok, input_ok, neg_ok, new_ok, not_ok, null_ok, output_ok, static_ok, this_ok}
+use Rattle.par_evaluation.proofs.Primary.{field_ok, input_ok, neg_ok, new_ok, not_ok, null_ok}
+use Rattle.par_evaluation.proofs.Primary.{output_ok, static_ok, this_ok}
 use Rattle.par_evaluation.proofs.Binary.{binary}
 
 module _ (ctx : Setting) where

@@ -1,18 +1,21 @@
 -- A code is no shorter than what follows it, and lives where that lives.
 use Rattle.std.proofs.Common.{ℕ, ◌+◌, ◌≤◌, ◌<◌, Bool, true, false, List, ◌∷◌, length, arith, codes}
 use Rattle.std.specs.Prelude.{pos, nat_le}
-use Rattle.par_typed.specs.declared.ty.Ty.{Ty}
-use Rattle.par_typed.specs.Plain.{TExp, Int, Boolean, Null, This, New, Local, Static}
-use Rattle.par_typed.specs.Plain.{Field, Input, Output, Call, Neg, Not, Binary}
-use Rattle.par_typed.specs.Plain.{MayTExp, Absent, Present, TExps, NoExps, More}
-use Rattle.par_code_form.specs.declared.item.Item.{Item}
-use Rattle.par_code_form.specs.declared.item.Item.TheVariants.{Op, Member}
-use Rattle.par_matching.specs.Labelled.{Labelled}
-use Rattle.par_code_form.specs.Code.{Words, Shape, Calculates, Compares, Sames, Decides, is_number}
-use Rattle.par_code_form.specs.Code.{load, store, shape_of, shape_labels, shape_code, between}
-use Rattle.par_code_form.specs.Code.{test_code, expr_labels, expr_code, may_labels, may_code}
-use Rattle.par_code_form.specs.Code.{args_code, invoke}
-use Rattle.par_matching.proofs.Steps.{Lives, Here, next}
+use Rattle.par_runs.specs.par_typed.declared.ty.Ty.{Ty}
+use Rattle.par_runs.specs.par_typed.Plain.{TExp, Int, Boolean, Null, This, New, Local, Static}
+use Rattle.par_runs.specs.par_typed.Plain.{Field, Input, Output, Call, Neg, Not, Binary}
+use Rattle.par_runs.specs.par_typed.Plain.{MayTExp, Absent, Present, TExps, NoExps, More}
+use Rattle.par_agreeing.specs.par_code_form.declared.item.Item.{Item}
+use Rattle.par_agreeing.specs.par_code_form.declared.item.Item.TheVariants.{Op, Member}
+use Rattle.par_agreeing.specs.par_matching.Labelled.{Labelled}
+use Rattle.par_agreeing.specs.par_code_form.Code.{Words, Shape, Calculates, Compares, Sames}
+use Rattle.par_agreeing.specs.par_code_form.Code.{Decides, is_number}
+use Rattle.par_agreeing.specs.par_code_form.Code.{load, store, shape_of, shape_labels, shape_code}
+use Rattle.par_agreeing.specs.par_code_form.Code.{between}
+use Rattle.par_agreeing.specs.par_code_form.Code.{test_code, expr_labels, expr_code, may_labels}
+use Rattle.par_agreeing.specs.par_code_form.Code.{may_code}
+use Rattle.par_agreeing.specs.par_code_form.Code.{args_code, invoke}
+use Rattle.par_agreeing.proofs.par_matching.Steps.{Lives, Here, next}
 
 shape_grows : (s : Shape) (n : ℕ) (xs : List Item) → length xs < length (shape_code s n xs)
 shape_grows (Calculates o i) n xs = omega arith

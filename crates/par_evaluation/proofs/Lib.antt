@@ -5,3 +5,5 @@ pub mod Values
 pub mod Primary
 pub mod Binary
 pub mod Exprs
+pub use Rattle.par_agreeing.proofs as par_agreeing
+pub use Rattle.par_agreeing.proofs.par_matching as par_matching

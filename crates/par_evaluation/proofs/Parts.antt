@@ -4,10 +4,10 @@ use Rattle.par_agreeing.specs.Laid.{HasMethod, IsThrown}
 use Rattle.std.proofs.Common.{◌≡◌, ℕ, suc, ◌+◌, ◌≤◌, ◌<◌, Bool, true, false, not, List, [], ◌∷◌}
 use Rattle.std.proofs.Common.{length, Some, refl, ap, sym, ◌∙◌, subst, arith}
 use Rattle.std.specs.Prelude.{ℤ, pos, ◌-ℤ◌, cond}
-use Rattle.par_typed.specs.declared.ty.Ty.{Ty}
-use Rattle.par_typed.specs.declared.ty.Ty.TheVariants as ty
-use Rattle.par_typed.specs.declared.table.Table.{Table}
-use Rattle.par_typed.specs.Plain.{Mark, mark, TExp, Local}
+use Rattle.par_runs.specs.par_typed.declared.ty.Ty.{Ty}
+use Rattle.par_runs.specs.par_typed.declared.ty.Ty.TheVariants as ty
+use Rattle.par_runs.specs.par_typed.declared.table.Table.{Table}
+use Rattle.par_runs.specs.par_typed.Plain.{Mark, mark, TExp, Local}
 use Rattle.par_values.specs.declared.kind.Kind.{Kind}
 use Rattle.par_values.specs.declared.kind.Kind.TheVariants as kind
 use Rattle.par_values.specs.declared.value.MVal.{MVal}
@@ -24,18 +24,20 @@ use Rattle.par_runs.specs.Tasks.{Exit, Normal, Thrown, Rest, Rests, Task, paid, 
 use Rattle.par_runs.specs.Tasks.{follow}
 use Rattle.par_runs.specs.Meaning.{Calls, eval}
 use Rattle.par_runs.specs.Values.{truth}
-use Rattle.par_steps.specs.State as steps
-use Rattle.par_steps.specs.Step.{Turn}
-use Rattle.par_engine.specs.Engine.{Program, turn}
-use Rattle.par_engine.specs.Engine as gen
-use Rattle.par_code_form.specs.declared.item.Item.{Item}
-use Rattle.par_code_form.specs.declared.item.Item.TheVariants.{Label, Op, Const, Jump}
-use Rattle.par_matching.specs.Labelled.{Labelled, Naming, lead, skip, target, found, silent, stands}
-use Rattle.par_code_form.specs.Code.{Words, is_number, is_void, test_code, expr_code}
+use Rattle.par_agreeing.specs.par_steps.State as steps
+use Rattle.par_agreeing.specs.par_steps.Step.{Turn}
+use Rattle.par_agreeing.specs.par_engine.Engine.{Program, turn}
+use Rattle.par_agreeing.specs.par_engine.Engine as gen
+use Rattle.par_agreeing.specs.par_code_form.declared.item.Item.{Item}
+use Rattle.par_agreeing.specs.par_code_form.declared.item.Item.TheVariants.{Label, Op, Const, Jump}
+use Rattle.par_agreeing.specs.par_matching.Labelled.{Labelled, Naming, lead, skip, target, found}
+use Rattle.par_agreeing.specs.par_matching.Labelled.{silent, stands}
+use Rattle.par_agreeing.specs.par_code_form.Code.{Words, is_number, is_void, test_code, expr_code}
 use Rattle.par_agreeing.specs.Laid.{Layout, moved, HasType, IsSet, Typed}
-use Rattle.par_matching.proofs.Rules.{Told, Matches, spend_rule, spent}
-use Rattle.par_matching.proofs.Steps.{Lives, Here, next, Distinct, IsSound, P, here, frame, Can, on}
-use Rattle.par_matching.proofs.Steps.{jumps, throws_turn, target_is, stands_here}
+use Rattle.par_agreeing.proofs.par_matching.Rules.{Told, Matches, spend_rule, spent}
+use Rattle.par_agreeing.proofs.par_matching.Steps.{Lives, Here, next, Distinct, IsSound, P, here}
+use Rattle.par_agreeing.proofs.par_matching.Steps.{frame, Can, on}
+use Rattle.par_agreeing.proofs.par_matching.Steps.{jumps, throws_turn, target_is, stands_here}
 use Rattle.par_agreeing.specs.Agreement.{Lays, Fine}
 use Rattle.par_agreeing.proofs.Good.{Grows, grows_same, number_is, reference_is, any_fits}
 use Rattle.par_agreeing.proofs.Good.{born_thrown}
@@ -43,7 +45,7 @@ use Rattle.par_agreeing.proofs.Values.{kind_in, load_is}
 use Rattle.par_values.specs.Reasons.{holds}
 use Rattle.std.proofs.Common.{map}
 use Rattle.par_values.specs.Areas.{first_locals}
-use Rattle.par_steps.specs.Step.{thrown_to}
+use Rattle.par_agreeing.specs.par_steps.Step.{thrown_to}
 use Rattle.par_runs.specs.State.{restored, entered}
 use Rattle.par_runs.specs.Tasks.{leave}
 use Rattle.par_agreeing.specs.Laid.{Meth, given_types}

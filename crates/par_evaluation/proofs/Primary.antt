@@ -5,11 +5,11 @@ use Rattle.std.proofs.Common.{◌∷◌}
 use Rattle.std.proofs.Common.{length, refl, ap, sym, ◌∙◌, subst, arith, codes}
 use Rattle.std.specs.Prelude.{pos, ◌-ℤ◌, cond}
 use Rattle.par_instr.specs.declared.instr.Instr.TheVariants.{AconstNull, AloadShort, Ineg}
-use Rattle.par_typed.specs.declared.ty.Ty.{Ty}
-use Rattle.par_typed.specs.declared.ty.Ty.TheVariants as ty
-use Rattle.par_typed.specs.declared.table.Table.{Table}
-use Rattle.par_typed.specs.Plain.{Mark, mark, TExp, Null, This, New, Static}
-use Rattle.par_typed.specs.Plain.{Field, Input, Output, Neg, Not}
+use Rattle.par_runs.specs.par_typed.declared.ty.Ty.{Ty}
+use Rattle.par_runs.specs.par_typed.declared.ty.Ty.TheVariants as ty
+use Rattle.par_runs.specs.par_typed.declared.table.Table.{Table}
+use Rattle.par_runs.specs.par_typed.Plain.{Mark, mark, TExp, Null, This, New, Static}
+use Rattle.par_runs.specs.par_typed.Plain.{Field, Input, Output, Neg, Not}
 use Rattle.par_values.specs.declared.kind.Kind.TheVariants as kind
 use Rattle.par_values.specs.declared.value.MVal.{MVal}
 use Rattle.par_values.specs.declared.value.MVal.TheVariants as value
@@ -25,16 +25,16 @@ use Rattle.par_runs.specs.State.{State}
 use Rattle.par_runs.specs.Tasks.{Normal, Rests, gives, follow}
 use Rattle.par_runs.specs.Meaning.{eval}
 use Rattle.par_runs.specs.Values.{truth}
-use Rattle.par_steps.specs.State as steps
-use Rattle.par_steps.specs.Step.{Turn}
-use Rattle.par_code_form.specs.declared.item.Item.{Item}
-use Rattle.par_code_form.specs.declared.item.Item.TheVariants.{Op, Member, ClassOp}
-use Rattle.par_matching.specs.Labelled.{Labelled, Naming, lead, skip, target, silent}
-use Rattle.par_code_form.specs.Code.{Words, is_void}
-use Rattle.par_code_form.specs.Code.{test_code, expr_code}
+use Rattle.par_agreeing.specs.par_steps.State as steps
+use Rattle.par_agreeing.specs.par_steps.Step.{Turn}
+use Rattle.par_agreeing.specs.par_code_form.declared.item.Item.{Item}
+use Rattle.par_agreeing.specs.par_code_form.declared.item.Item.TheVariants.{Op, Member, ClassOp}
+use Rattle.par_agreeing.specs.par_matching.Labelled.{Labelled, Naming, lead, skip, target, silent}
+use Rattle.par_agreeing.specs.par_code_form.Code.{Words, is_void}
+use Rattle.par_agreeing.specs.par_code_form.Code.{test_code, expr_code}
 use Rattle.par_agreeing.specs.Laid.{Layout, moved, HasType, Typed, kind_of}
-use Rattle.par_matching.proofs.Rules.{Told}
-use Rattle.par_matching.proofs.Steps.{Lives, Here, next, on, says}
+use Rattle.par_agreeing.proofs.par_matching.Rules.{Told}
+use Rattle.par_agreeing.proofs.par_matching.Steps.{Lives, Here, next, on, says}
 use Rattle.par_agreeing.specs.Agreement.{Lays}
 use Rattle.par_agreeing.proofs.Good.{grows_same, grows_on, reference_is}
 use Rattle.par_agreeing.proofs.Good.{any_fits, class_fits}
@@ -56,16 +56,17 @@ use Rattle.par_runs.specs.Values.{is_true}
 use Rattle.par_runs.specs.Values.{object_number}
 use Rattle.par_runs.specs.Meaning.{outputs, born}
 use Rattle.par_agreeing.proofs.Operators.{not_not}
-use Rattle.par_matching.specs.Labelled.{calls}
+use Rattle.par_agreeing.specs.par_matching.Labelled.{calls}
 use Rattle.std.proofs.Common.{inl}
-use Rattle.par_code_form.specs.Code.{initializer as init_item}
+use Rattle.par_agreeing.specs.par_code_form.Code.{initializer as init_item}
 use Rattle.par_evaluation.proofs.Created.{init_ok}
 use Rattle.par_evaluation.proofs.Parts.{Setting}
 use Rattle.par_agreeing.proofs.Good.{taken_fit, born_fit, born_grows, put_here}
 use Rattle.par_evaluation.proofs.Parts.{with, not_void, M, at, Fit, Handed}
 use Rattle.par_evaluation.proofs.Parts.{Raises, Holds, number_moved, loads}
 use Rattle.par_evaluation.proofs.Parts.{fails}
-use Rattle.par_evaluation.proofs.Values.{giv, hand, hand_truth, int_fits, makes, number_fits, one_fits, raises_on, spend, test}
+use Rattle.par_evaluation.proofs.Values.{giv, hand, hand_truth, int_fits, makes, number_fits}
+use Rattle.par_evaluation.proofs.Values.{one_fits, raises_on, spend, test}
 
 module _ (ctx : Setting) where
   abbrev env : Naming

@@ -3,9 +3,9 @@ use Rattle.std.proofs.Common.{◌≡◌, ℕ, suc, ◌+◌, ◌≤◌, ◌<◌, 
 use Rattle.std.proofs.Common.{◌∷◌}
 use Rattle.std.proofs.Common.{length, refl, ap, sym, ◌∙◌, subst, arith}
 use Rattle.std.specs.Prelude.{pos, ◌-ℤ◌}
-use Rattle.par_typed.specs.declared.ty.Ty.{Ty}
-use Rattle.par_typed.specs.declared.ty.Ty.TheVariants as ty
-use Rattle.par_typed.specs.declared.table.Table.{Table}
+use Rattle.par_runs.specs.par_typed.declared.ty.Ty.{Ty}
+use Rattle.par_runs.specs.par_typed.declared.ty.Ty.TheVariants as ty
+use Rattle.par_runs.specs.par_typed.declared.table.Table.{Table}
 use Rattle.par_values.specs.declared.kind.Kind.TheVariants as kind
 use Rattle.par_values.specs.declared.value.MVal.{MVal}
 use Rattle.par_values.specs.declared.value.MVal.TheVariants as value
@@ -15,15 +15,16 @@ use Rattle.par_values.specs.Effects.{Goes, effect, jumps_if}
 use Rattle.par_runs.specs.State.{State}
 use Rattle.par_runs.specs.Tasks.{Normal, Thrown, Rests}
 use Rattle.par_runs.specs.Values.{truth}
-use Rattle.par_steps.specs.State as steps
-use Rattle.par_steps.specs.Step.{Turn}
-use Rattle.par_code_form.specs.declared.item.Item.{Item}
-use Rattle.par_matching.specs.Labelled.{Labelled, Naming, lead, skip, target, found, silent}
-use Rattle.par_code_form.specs.Code.{Words, is_number, is_void}
-use Rattle.par_code_form.specs.Code.{test_code}
+use Rattle.par_agreeing.specs.par_steps.State as steps
+use Rattle.par_agreeing.specs.par_steps.Step.{Turn}
+use Rattle.par_agreeing.specs.par_code_form.declared.item.Item.{Item}
+use Rattle.par_agreeing.specs.par_matching.Labelled.{Labelled, Naming, lead, skip, target, found}
+use Rattle.par_agreeing.specs.par_matching.Labelled.{silent}
+use Rattle.par_agreeing.specs.par_code_form.Code.{Words, is_number, is_void}
+use Rattle.par_agreeing.specs.par_code_form.Code.{test_code}
 use Rattle.par_agreeing.specs.Laid.{Layout, moved, HasType}
-use Rattle.par_matching.proofs.Rules.{Told, weaken, spend_rule, spent}
-use Rattle.par_matching.proofs.Steps.{Lives, Here, Distinct, Can, on}
+use Rattle.par_agreeing.proofs.par_matching.Rules.{Told, weaken, spend_rule, spent}
+use Rattle.par_agreeing.proofs.par_matching.Steps.{Lives, Here, Distinct, Can, on}
 use Rattle.par_agreeing.specs.Agreement.{Lays}
 use Rattle.par_agreeing.proofs.Good.{Grows, grows_on, number_is}
 use Rattle.par_agreeing.proofs.Good.{kind_fits}

@@ -2,19 +2,20 @@
 use Rattle.std.specs.Prelude.{◌≡◌, ℕ, zero, suc, ◌<◌, ◌⊎◌, true, false, cond, List, [], ◌∷◌, length}
 use Rattle.std.specs.Prelude.{Option, Some, None, codes}
 use Rattle.std.specs.List.{slice_get}
-use Rattle.par_typed.specs.declared.ty.Ty.{Ty}
-use Rattle.par_typed.specs.declared.ty.Ty.TheVariants as ty
-use Rattle.par_typed.specs.declared.table.Table.{Table}
-use Rattle.par_typed.specs.Plain.{Body}
-use Rattle.par_completes.specs.Typed.{completes}
+use Rattle.par_runs.specs.par_typed.declared.ty.Ty.{Ty}
+use Rattle.par_runs.specs.par_typed.declared.ty.Ty.TheVariants as ty
+use Rattle.par_runs.specs.par_typed.declared.table.Table.{Table}
+use Rattle.par_runs.specs.par_typed.Plain.{Body}
+use Rattle.par_agreeing.specs.par_completes.Typed.{completes}
 use Rattle.par_values.specs.declared.kind.Kind.{Kind}
 use Rattle.par_values.specs.declared.value.MVal.{MVal}
 use Rattle.par_values.specs.Areas.{Name, Areas, first_locals}
 use Rattle.par_runs.specs.Names.{body_of, main_of}
-use Rattle.par_steps.specs.State.{Frame, State, entered}
-use Rattle.par_engine.specs.Engine.{Program}
-use Rattle.par_code_form.specs.Code.{Words, is_void, body_code, body_handlers, initializer_code}
-use Rattle.par_matching.specs.Labelled.{Labelled, Naming}
+use Rattle.par_agreeing.specs.par_steps.State.{Frame, State, entered}
+use Rattle.par_agreeing.specs.par_engine.Engine.{Program}
+use Rattle.par_agreeing.specs.par_code_form.Code.{Words, is_void, body_code, body_handlers}
+use Rattle.par_agreeing.specs.par_code_form.Code.{initializer_code}
+use Rattle.par_agreeing.specs.par_matching.Labelled.{Labelled, Naming}
 use Rattle.par_agreeing.specs.Laid.{Layout, Meth, HasMethod, IsMade, IsThrown, TypedS, given_types}
 use Rattle.par_agreeing.specs.Laid.{kind_of}
 use Rattle.par_agreeing.specs.Agreement.{Lays}

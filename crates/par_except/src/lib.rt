@@ -13,5 +13,7 @@ mod ways;
 
 pub use absorb::{absorb_loop, absorb_throw};
 pub use merge::join;
+pub use par_rules;
+pub use par_rules::{par_lexer, par_policy, par_typed};
 pub use way::{Way, raise};
 pub use ways::Ways;

@@ -3,7 +3,7 @@ use Rattle.std.proofs.Common.{◌≡◌, ◌∷◌, [], ◌++◌, Ok, Err, Resul
 use Rattle.par_grammar.specs.Grammar.{builds}
 use Rattle.par_grammar.specs.Derivation.{Input}
 use Rattle.par_grammar.proofs.Run.{run}
-use Rattle.par_reader.specs.declared.error.ParseError.{ParseError}
+use Rattle.par_language.specs.par_reader.declared.error.ParseError.{ParseError}
 use Rattle.par_tree.specs.declared.expr.Expr.{Expr}
 use Rattle.par_tree.specs.Plain.{Exp}
 use Rattle.par_tree.specs.Grammar.{Builders}

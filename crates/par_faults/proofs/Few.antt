@@ -12,13 +12,13 @@ use Rattle.par_tree.specs.Plain.{Source}
 use Rattle.par_typed.specs.declared.refusal.Refusal.{Refusal}
 use Rattle.par_typed.specs.First.{when, in_passes, first_of, IsAnswer}
 use Rattle.par_typed.proofs.First.{answered}
-use Rattle.par_names.specs.Declarations.{actors, locks}
+use Rattle.par_declarations.specs.par_names.Declarations.{actors, locks}
 use Rattle.par_declarations.specs.declared.limit.Limit.{Limit}
 use Rattle.par_declarations.specs.declared.limit.TheConstants.{ACTORS, LOCKS}
 use Rattle.par_declarations.specs.Limits.{told, one_too_many, actor_places, ground, lock_limit}
 use Rattle.par_declarations.specs.Limits.{locks_limit, declared_limits}
-use Rattle.par_resolved.specs.Few.{HasFew}
-use Rattle.par_resolved.specs.Numbers.{ground_count}
+use Rattle.par_limits.specs.par_resolved.Few.{HasFew}
+use Rattle.par_limits.specs.par_resolved.Numbers.{ground_count}
 
 -- nothing is broken where nothing is first
 pub none_is_nothing : (fs : List Refusal) → None ≡ first_of None fs → fs ≡ []

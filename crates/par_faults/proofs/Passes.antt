@@ -3,7 +3,8 @@ use Rattle.std.proofs.Common.{◌≡◌, List, [], ◌∷◌, Option, Some, None
 use Rattle.std.specs.Prelude.{Result, Ok, Err}
 use Rattle.par_typed.specs.declared.refusal.Refusal.{Refusal}
 use Rattle.par_typed.specs.First.{first_of, in_passes, IsAnswer, IsFirst}
-use Rattle.par_typed.proofs.First.{answered, first_of_none, first_stops, answer_passes_on}
+use Rattle.par_typed.proofs.First.{answered, first_of_none, first_stops}
+use Rattle.par_typed.proofs.First.{answer_passes_on}
 use Rattle.par_faults.specs.Faults.{where_none}
 use Rattle.par_faults.proofs.Few.{none_is_nothing}
 

@@ -1,12 +1,12 @@
 -- Rules on names and limits are broken at places of the tree, or at its beginning.
 use Rattle.std.proofs.Common.{ℕ, List, [], ◌∷◌}
 use Rattle.par_typed.specs.declared.refusal.Refusal.{Refusal}
-use Rattle.par_places.proofs.Broken.{Within, join, passes_within}
-use Rattle.par_names.proofs.Places.{names_broken_within}
+use Rattle.par_declarations.proofs.par_places.Broken.{Within, join, passes_within}
+use Rattle.par_declarations.proofs.par_names.Places.{names_broken_within}
 use Rattle.par_declarations.specs.Limits.{declared_limits, count_faults}
-use Rattle.par_resolved.specs.Sizes.{all_literal_faults}
-use Rattle.par_resolved.specs.Limits.{policy_faults}
-use Rattle.par_names.specs.Program.{name_faults}
+use Rattle.par_limits.specs.par_resolved.Sizes.{all_literal_faults}
+use Rattle.par_limits.specs.par_resolved.Limits.{policy_faults}
+use Rattle.par_declarations.specs.par_names.Program.{name_faults}
 use Rattle.par_faults.specs.Faults.{where_none, policies_faults, limit_faults}
 use Rattle.par_faults.specs.Places.{FaultsLieWithin}
 use Rattle.par_faults.proofs.Counted.{counts_in}

@@ -2,26 +2,32 @@
 use Rattle.std.proofs.Common.{ℕ, ◌≤◌, List, [], ◌∷◌, ◌++◌, map, length, Option, Some, None, arith}
 use Rattle.std.specs.Prelude.{fold, nat_le}
 use Rattle.std.specs.List.{AllByRecursion, flat_map, list_any}
-use Rattle.par_policy.specs.declared.clauses.Clause.{Clause}
+use Rattle.par_limits.specs.par_policy.declared.clauses.Clause.{Clause}
 use Rattle.par_tree.specs.declared.policy.PolicyExpr.{PolicyExpr}
 use Rattle.par_tree.specs.Plain.{Class, Source}
 use Rattle.par_typed.specs.declared.refusal.Refusal.{Refusal}
-use Rattle.par_names.specs.Declarations.{locks, lock_named}
-use Rattle.par_places.specs.Within.{IdentIn, LockIn, PolicyIn, FieldIn, ClassIn, IsWithin}
-use Rattle.par_places.proofs.Broken as broken
-use Rattle.par_places.proofs.Broken.{both, each, mapped, filtered}
-use Rattle.par_resolved.specs.Sets.{joined}
-use Rattle.par_resolved.specs.Policies.{Known, known, term_values, fits}
-use Rattle.par_resolved.specs.Written.{written, queried}
-use Rattle.par_resolved.specs.Sizes.{exceeded_by, literal_sizes, literal_locks, size_faults}
-use Rattle.par_resolved.specs.Sizes.{form_faults, literal_faults, all_literal_faults, steps_faults}
-use Rattle.par_resolved.specs.Sizes.{join_faults, expression_faults}
-use Rattle.par_resolved.specs.Births.{birth_policy, birth_faults}
-use Rattle.par_resolved.specs.declared.entries.Entry.{Entry}
-use Rattle.par_resolved.specs.Numbered.{same_policy, has_no_policy, written_entry, query_entries}
-use Rattle.par_resolved.specs.Numbered.{with_entry, by_place, declared, birth_entry, entries}
-use Rattle.par_resolved.specs.Numbered.{with_new, inferred_fields, inferred_entry, numbered}
-use Rattle.par_resolved.specs.Limits.{one_too_many, table_faults, policy_faults}
+use Rattle.par_declarations.specs.par_names.Declarations.{locks, lock_named}
+use Rattle.par_declarations.specs.par_places.Within.{IdentIn, LockIn, PolicyIn, FieldIn, ClassIn}
+use Rattle.par_declarations.specs.par_places.Within.{IsWithin}
+use Rattle.par_declarations.proofs.par_places.Broken as broken
+use Rattle.par_declarations.proofs.par_places.Broken.{both, each, mapped, filtered}
+use Rattle.par_limits.specs.par_resolved.Sets.{joined}
+use Rattle.par_limits.specs.par_resolved.Policies.{Known, known, term_values, fits}
+use Rattle.par_limits.specs.par_resolved.Written.{written, queried}
+use Rattle.par_limits.specs.par_resolved.Sizes.{exceeded_by, literal_sizes, literal_locks}
+use Rattle.par_limits.specs.par_resolved.Sizes.{size_faults}
+use Rattle.par_limits.specs.par_resolved.Sizes.{form_faults, literal_faults, all_literal_faults}
+use Rattle.par_limits.specs.par_resolved.Sizes.{steps_faults}
+use Rattle.par_limits.specs.par_resolved.Sizes.{join_faults, expression_faults}
+use Rattle.par_limits.specs.par_resolved.Births.{birth_policy, birth_faults}
+use Rattle.par_limits.specs.par_resolved.declared.entries.Entry.{Entry}
+use Rattle.par_limits.specs.par_resolved.Numbered.{same_policy, has_no_policy, written_entry}
+use Rattle.par_limits.specs.par_resolved.Numbered.{query_entries}
+use Rattle.par_limits.specs.par_resolved.Numbered.{with_entry, by_place, declared, birth_entry}
+use Rattle.par_limits.specs.par_resolved.Numbered.{entries}
+use Rattle.par_limits.specs.par_resolved.Numbered.{with_new, inferred_fields, inferred_entry}
+use Rattle.par_limits.specs.par_resolved.Numbered.{numbered}
+use Rattle.par_limits.specs.par_resolved.Limits.{one_too_many, table_faults, policy_faults}
 use Rattle.par_faults.proofs.Kept.{May, got, chosen}
 use Rattle.par_faults.proofs.Written.{written_in, queried_in}
 use Rattle.par_faults.proofs.Counted.{classes_are_in}

@@ -5,17 +5,23 @@ use Rattle.std.specs.Option.{option_to_list}
 use Rattle.par_tree.specs.declared.policy.LockTree.{LockTree}
 use Rattle.par_tree.specs.declared.policy.PolicyExpr.{PolicyExpr}
 use Rattle.par_tree.specs.Plain as plain
-use Rattle.par_tree.specs.Plain.{Sta, Stas, Braces, In, MayBraces, Else, Catches, Catch, NoCatch}
+use Rattle.par_tree.specs.Plain.{Sta, Stas, Braces, In, MayBraces, Else, Catches}
+use Rattle.par_tree.specs.Plain.{Catch, NoCatch}
 use Rattle.par_tree.specs.Plain.{Handler, On, Method, Class, Declaration, Source}
-use Rattle.par_places.specs.Within.{LockIn, PolicyIn, MayPolicyIn, StaIn, BracesIn, MayBracesIn}
-use Rattle.par_places.specs.Within.{ElseIn, StasIn, CatchesIn, HandlerIn, FieldIn, ChannelIn}
-use Rattle.par_places.specs.Within.{ParamIn, ThrowIn, MethodIn, ClassIn, DeclarationIn, IsWithin}
-use Rattle.par_places.proofs.Broken.{both, each, mapped}
-use Rattle.par_resolved.specs.Statements.{inside, in_braces, in_may_braces, in_else, in_all}
-use Rattle.par_resolved.specs.Statements.{in_catches, in_handler}
-use Rattle.par_resolved.specs.Written.{stmt_policies, stmt_queries, method_policies, class_policies}
-use Rattle.par_resolved.specs.Written.{declaration_policies, written, method_queries}
-use Rattle.par_resolved.specs.Written.{declaration_queries, queried}
+use Rattle.par_declarations.specs.par_places.Within.{LockIn, PolicyIn, MayPolicyIn, StaIn, BracesIn}
+use Rattle.par_declarations.specs.par_places.Within.{MayBracesIn}
+use Rattle.par_declarations.specs.par_places.Within.{ElseIn, StasIn, CatchesIn, HandlerIn, FieldIn}
+use Rattle.par_declarations.specs.par_places.Within.{ChannelIn}
+use Rattle.par_declarations.specs.par_places.Within.{ParamIn, ThrowIn, MethodIn, ClassIn}
+use Rattle.par_declarations.specs.par_places.Within.{DeclarationIn, IsWithin}
+use Rattle.par_declarations.proofs.par_places.Broken.{both, each, mapped}
+use Rattle.par_limits.specs.par_resolved.Statements.{inside, in_braces, in_may_braces, in_else}
+use Rattle.par_limits.specs.par_resolved.Statements.{in_all}
+use Rattle.par_limits.specs.par_resolved.Statements.{in_catches, in_handler}
+use Rattle.par_limits.specs.par_resolved.Written.{stmt_policies, stmt_queries, method_policies}
+use Rattle.par_limits.specs.par_resolved.Written.{class_policies}
+use Rattle.par_limits.specs.par_resolved.Written.{declaration_policies, written, method_queries}
+use Rattle.par_limits.specs.par_resolved.Written.{declaration_queries, queried}
 
 module _ (m : ℕ) where
   abbrev Stmts : List Sta → Type 0

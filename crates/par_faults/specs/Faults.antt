@@ -3,9 +3,9 @@ use Rattle.std.specs.Prelude.{List, [], ◌∷◌, ◌++◌}
 use Rattle.par_tree.specs.Plain.{Source}
 use Rattle.par_typed.specs.declared.refusal.Refusal.{Refusal}
 use Rattle.par_typed.specs.First.{in_passes}
-use Rattle.par_names.specs.Program.{name_faults}
-use Rattle.par_resolved.specs.Sizes.{all_literal_faults}
-use Rattle.par_resolved.specs.Limits.{policy_faults}
+use Rattle.par_declarations.specs.par_names.Program.{name_faults}
+use Rattle.par_limits.specs.par_resolved.Sizes.{all_literal_faults}
+use Rattle.par_limits.specs.par_resolved.Limits.{policy_faults}
 use Rattle.par_declarations.specs.Limits.{declared_limits, count_faults}
 
 -- these, where none of the first are broken

@@ -1,10 +1,10 @@
-ghost use Rattle.std.specs.Prelude.{◌≡◌, ℕ};
-ghost use Rattle.par_steps.specs.Handlers.{builtin_takes, named_takes, takes, first_handler};
-ghost use Rattle.par_steps.specs.Handlers.{handler_in};
-ghost use Rattle.par_handlers.specs.Standing.{standing};
+ghost use Rattle.std.specs.Prelude.{◌≡◌, ℕ, true, Some};
+ghost use Rattle.par_steps.specs.Handlers.{builtin_takes, named_takes, covers, takes};
+ghost use Rattle.par_steps.specs.Handlers.{first_handler, handler_in};
+ghost use Rattle.par_handlers.specs.Standing.{standing, class_takes};
 
 use par_class::file::Catch;
-use par_link::{Builtin, Linked, Named};
+use par_steps::par_link::{Builtin, Linked, Named};
 
 /// Whether a class that every program has is that of an exception of a class, or of all exceptions.
 fn is_builtin_taken(linked: &Linked, thrown: u16, class: Builtin) -> bool
@@ -30,17 +30,30 @@ fn is_taken(linked: &Linked, thrown: u16, named: Named) -> bool
     }
 }
 
-/// Whether a handler of a frame of a class takes an exception at an offset.
-fn takes(linked: &Linked, thrown: u16, class: u16, at: u32, catch: &Catch) -> bool
-    ensures { (method : ℕ) →
-        result ≡ takes linked.now thrown (standing class method at) catch.now }
+/// Whether a handler that names this class, or none, takes an exception of a class.
+fn is_class_taken(linked: &Linked, thrown: u16, class: u16, named: u16) -> bool
+    ensures { result ≡ class_takes linked.now thrown class named }
+{
+    named == 0 || is_taken(linked, thrown, linked.named(class, named))
+}
+
+/// Whether a handler covers an offset.
+fn covers(at: u32, catch: &Catch) -> bool
+    ensures { (class method : ℕ) → result ≡ covers (standing class method at) catch.now }
 {
     let at_or_behind_start = catch.start as u32 <= at;
     let before_end = at < catch.end as u32;
-    if !(at_or_behind_start && before_end) {
-        return false;
+    at_or_behind_start && before_end
+}
+
+/// Whether a class is the one that is refused.
+fn is_refused(refused: Option<u16>, named: u16) -> bool
+    ensures { result ≡ true → refused ≡ Some named }
+{
+    match refused {
+        Some(class) => class == named,
+        None => false,
     }
-    catch.class == 0 || is_taken(linked, thrown, linked.named(class, catch.class))
 }
 
 /// The offset to which the first of some handlers takes it.
@@ -48,9 +61,14 @@ fn first(linked: &Linked, thrown: u16, class: u16, at: u32, catches: &[Catch]) -
     ensures { (method : ℕ) → result
         ≡ first_handler (takes linked.now thrown (standing class method at)) catches.now }
 {
+    // What one handler refuses, the next ones of its class need not be asked.
+    let mut refused = None;
     for catch in catches {
-        if takes(linked, thrown, class, at, catch) {
-            return Some(catch.handler);
+        if covers(at, catch) && !is_refused(refused, catch.class) {
+            if is_class_taken(linked, thrown, class, catch.class) {
+                return Some(catch.handler);
+            }
+            refused = Some(catch.class);
         }
     }
     None

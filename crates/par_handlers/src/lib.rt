@@ -8,3 +8,5 @@
 mod catching;
 
 pub use catching::handler;
+pub use par_steps;
+pub use par_steps::par_link;

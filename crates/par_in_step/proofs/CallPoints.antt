@@ -26,8 +26,8 @@ use Rattle.par_rules.specs.Body.{exp, if_not, args, sta, past}
 use Rattle.par_rules.specs.Body as body
 use Rattle.par_typed.specs.Plain as plain
 use Rattle.par_typed.specs.Plain.{TExp, TExps, MayTExp, TSta, TStas, TCatches, Mark, mark, point}
-use Rattle.par_checks.specs.Asked.{Spot}
-use Rattle.par_checks.specs.Checks as checks
+use Rattle.par_two_runs.specs.par_checks.Asked.{Spot}
+use Rattle.par_two_runs.specs.par_checks.Checks as checks
 use Rattle.std.specs.Prelude.{map}
 use Rattle.par_typed.specs.Plain.{Body}
 use Rattle.par_runs.specs.Meaning.{Calls, calls}

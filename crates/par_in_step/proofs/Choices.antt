@@ -15,14 +15,14 @@ use Rattle.par_rules.specs.Rules.{can}
 use Rattle.par_rules.specs.Body.{exp, if_not, args, sta, past}
 use Rattle.par_rules.specs.Body as body
 use Rattle.par_typed.specs.Plain.{TSta, TCatches, point}
-use Rattle.par_checks.specs.Checks as checks
+use Rattle.par_two_runs.specs.par_checks.Checks as checks
 use Rattle.par_runs.specs.Meaning.{Calls, go_catch}
 use Rattle.par_bodies.specs.Names.{CatchesName}
 use Rattle.par_in_step.proofs.Needs.{CatchesReady}
 use Rattle.par_bodies.specs.Makes.{CatchesMake}
 use Rattle.par_values.specs.declared.value.MVal.{MVal}
 use Rattle.par_runs.specs.Tasks.{Exit, Broken, Continued, Returned, Thrown, Task, asked, caught}
-use Rattle.par_checks.specs.Checks.{lock_written}
+use Rattle.par_two_runs.specs.par_checks.Checks.{lock_written}
 use Rattle.par_pass.proofs.Along.{and_r}
 use Rattle.par_two_runs.proofs.States.{Watch, Any, Exits, Frame, Gives, Other, Restores, Sees}
 use Rattle.par_two_runs.proofs.States.{Unseen, Way, broken, continued, declared, each_exit, exits}

@@ -14,7 +14,7 @@ use Rattle.par_rules.specs.Rules as rules
 use Rattle.par_rules.specs.Rules.{From, Entry, After, Tested, node, Rules, Node}
 use Rattle.par_rules.specs.Kinds.{Next, Loop, Catches, Absorber}
 use Rattle.par_rules.specs.Rules.{can}
-use Rattle.par_checks.specs.Checks as checks
+use Rattle.par_two_runs.specs.par_checks.Checks as checks
 use Rattle.par_runs.specs.Tasks.{Thrown}
 use Rattle.par_two_runs.proofs.LockSets.{or_cases}
 use Rattle.par_two_runs.proofs.States.{Watch, Sees, Way, exits, lattice, ranged}

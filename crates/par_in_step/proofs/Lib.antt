@@ -13,3 +13,4 @@ pub mod Choices
 pub mod Stas
 pub mod Runs
 pub mod Ends
+pub use Rattle.par_two_runs.proofs as par_two_runs

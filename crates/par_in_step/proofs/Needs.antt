@@ -2,7 +2,7 @@
 use Rattle.std.specs.Prelude.{◌≡◌, ℕ, Bool, Some, slice_get}
 use Rattle.par_typed.specs.declared.table.Table.{Table}
 use Rattle.par_typed.specs.Plain.{TSta, TStas, TCatches}
-use Rattle.par_checks.specs.Checks.{lock_written}
+use Rattle.par_two_runs.specs.par_checks.Checks.{lock_written}
 use Rattle.par_bodies.specs.Uses.{StaUses, StasUse, CatchesUse, IsNotThis}
 
 module _ (table : Table) (is_static : Bool) where

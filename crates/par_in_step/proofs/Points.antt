@@ -15,11 +15,11 @@ use Rattle.par_rules.specs.Rules.{can}
 use Rattle.par_rules.specs.Body.{exp, if_not}
 use Rattle.par_typed.specs.Plain as plain
 use Rattle.par_typed.specs.Plain.{TExp, TExps, MayTExp, TSta, TStas, TCatches, Mark, mark, point}
-use Rattle.par_checks.specs.Asked as ask
+use Rattle.par_two_runs.specs.par_checks.Asked as ask
 use Rattle.par_in_step.specs.Release.{IsRelease}
 use Rattle.par_pass.specs.Possible.{HasPossibleExits, HavePossibleExits}
-use Rattle.par_checks.specs.Asked.{Condition, Check, Spot}
-use Rattle.par_checks.specs.Checks as checks
+use Rattle.par_two_runs.specs.par_checks.Asked.{Condition, Check, Spot}
+use Rattle.par_two_runs.specs.par_checks.Checks as checks
 use Rattle.std.specs.Prelude.{map}
 use Rattle.par_typed.specs.Plain.{Body}
 use Rattle.par_bodies.specs.Names.{ExpNames}

@@ -18,9 +18,9 @@ use Rattle.par_rules.specs.Body.{exp, if_not, args, sta, past}
 use Rattle.par_rules.specs.Body as body
 use Rattle.par_typed.specs.Plain as plain
 use Rattle.par_typed.specs.Plain.{TExp, TExps, MayTExp, TSta, TStas, TCatches, Mark, mark, point}
-use Rattle.par_checks.specs.Asked as ask
-use Rattle.par_checks.specs.Asked.{Condition, Check, Spot}
-use Rattle.par_checks.specs.Checks as checks
+use Rattle.par_two_runs.specs.par_checks.Asked as ask
+use Rattle.par_two_runs.specs.par_checks.Asked.{Condition, Check, Spot}
+use Rattle.par_two_runs.specs.par_checks.Checks as checks
 use Rattle.par_bodies.specs.Uses.{StaUses}
 use Rattle.par_typed.specs.Plain.{Body}
 use Rattle.par_runs.specs.Meaning.{Calls, eval, go, go_else, go_all, go_catch}

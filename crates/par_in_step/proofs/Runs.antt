@@ -13,7 +13,7 @@ use Rattle.par_rules.specs.Rules.{From, Entry, After, Tested, node, Rules, Node}
 use Rattle.par_rules.specs.Rules.{can}
 use Rattle.par_rules.specs.Body.{sta}
 use Rattle.par_typed.specs.Plain.{TSta, point}
-use Rattle.par_checks.specs.Checks as checks
+use Rattle.par_two_runs.specs.par_checks.Checks as checks
 use Rattle.par_pass.specs.Possible.{HasPossibleExits}
 use Rattle.std.specs.Prelude.{take}
 use Rattle.par_typed.specs.Plain.{Body}

@@ -18,11 +18,11 @@ use Rattle.par_rules.specs.Body.{exp, if_not, args, sta, past}
 use Rattle.par_rules.specs.Body as body
 use Rattle.par_typed.specs.Plain as plain
 use Rattle.par_typed.specs.Plain.{TExp, TExps, MayTExp, TSta, TStas, TCatches, Mark, mark, point}
-use Rattle.par_checks.specs.Asked as ask
+use Rattle.par_two_runs.specs.par_checks.Asked as ask
 use Rattle.par_pass.specs.Possible.{HasPossibleExits}
 use Rattle.par_rules.specs.Rules.{node, Node}
-use Rattle.par_checks.specs.Asked.{Condition, Check, Spot}
-use Rattle.par_checks.specs.Checks as checks
+use Rattle.par_two_runs.specs.par_checks.Asked.{Condition, Check, Spot}
+use Rattle.par_two_runs.specs.par_checks.Checks as checks
 use Rattle.std.specs.Prelude.{map}
 use Rattle.par_typed.specs.Plain.{Body}
 use Rattle.par_bodies.specs.Names.{StaNames, IsException}
@@ -30,7 +30,7 @@ use Rattle.par_in_step.proofs.Needs.{StaReady}
 use Rattle.par_bodies.specs.Makes.{StaMakes}
 use Rattle.par_typed.specs.declared.table.ClassInfo.{ClassInfo}
 use Rattle.par_runs.specs.Tasks.{Exit, Thrown}
-use Rattle.par_checks.specs.Checks.{lock_written}
+use Rattle.par_two_runs.specs.par_checks.Checks.{lock_written}
 use Rattle.std.proofs.lemmas.Bool.{and_from}
 use Rattle.par_two_runs.proofs.States.{Watch, FlowsTo, Frame, Leaves, Merges, Sees, Way, Writes}
 use Rattle.par_two_runs.proofs.States.{declared, exits, flows_is, kind_of, lands_is, lattice}

@@ -9,7 +9,7 @@ use Rattle.std.proofs.lemmas.Bool.{and_parts}
 use Rattle.std.proofs.lemmas.Bool.Decides.{nat_tests}
 use Rattle.std.proofs.lemmas.List.Elements.{All-cons}
 use Rattle.std.proofs.lemmas.Option.{option_and_then_some, none-some, same_Some}
-use Rattle.par_lexer.specs.Pieces.{value}
+use Rattle.par_values.specs.par_lexer.Pieces.{value}
 use Rattle.par_inputs.specs.Lines.{Text}
 use Rattle.par_inputs.specs.Numbers.{is_decimal, magnitude_of, number_of, before_others, numbers_in}
 use Rattle.par_inputs.specs.Numbers.{numbers_behind, numbers_of}

@@ -3,8 +3,8 @@ use Rattle.std.specs.Prelude.{ℕ, ℤ, pos, neg_ℤ, List, [], ◌∷◌, ◌&&
 use Rattle.std.specs.Prelude.{Bool, Option, Some, None, length, if◌then◌else◌}
 use Rattle.std.specs.List.{list_all, slice_split}
 use Rattle.std.specs.Option.{option_map, option_and_then}
-use Rattle.par_lexer.specs.Names.{is_digit}
-use Rattle.par_lexer.specs.Pieces.{value, has_leading_zero}
+use Rattle.par_values.specs.par_lexer.Names.{is_digit}
+use Rattle.par_values.specs.par_lexer.Pieces.{value, has_leading_zero}
 use Rattle.par_inputs.specs.Lines.{Text}
 
 -- digits, at least one, of which the first is no 0 that stands before others

@@ -1,8 +1,8 @@
 ghost use Rattle.std.specs.Prelude.{◌≡◌, ◌≤◌, ℤ, pos, neg_ℤ, nat_lt, if◌then◌else◌, IsTrue, Some};
 ghost use Rattle.std.specs.Prelude.{None};
 ghost use Rattle.std.specs.List.{All, list_all};
-ghost use Rattle.par_lexer.specs.Names.{is_digit};
-ghost use Rattle.par_lexer.specs.Pieces.{value, has_leading_zero};
+ghost use Rattle.par_values.specs.par_lexer.Names.{is_digit};
+ghost use Rattle.par_values.specs.par_lexer.Pieces.{value, has_leading_zero};
 ghost use Rattle.par_inputs.specs.Numbers.{is_decimal, magnitude_of, number_of};
 
 // The greatest number behind a minus sign, and that of the numbers without one.

@@ -8,8 +8,9 @@ use Rattle.par_typed.specs.declared.table.MethodInfo.{MethodInfo}
 use Rattle.par_typed.specs.declared.table.Table.{Table}
 use Rattle.par_bodies.specs.Members.{methods_in}
 use Rattle.par_bodies.specs.Locals.{arrivals}
-use Rattle.par_well_typed.specs.Signatures.{kind_of, HasBuiltIns, AreSigned, HasSignatures}
-use Rattle.par_well_typed.specs.Tables.{IsInRange, ClassInRange, MethodInRange}
+use Rattle.par_laid_form.specs.par_well_typed.Signatures.{kind_of, HasBuiltIns, AreSigned}
+use Rattle.par_laid_form.specs.par_well_typed.Signatures.{HasSignatures}
+use Rattle.par_laid_form.specs.par_well_typed.Tables.{IsInRange, ClassInRange, MethodInRange}
 use Rattle.par_erase.specs.Erased.{erased_field, erased_param, erased_channels, erased_method}
 use Rattle.par_erase.specs.Erased.{erased_class, erased_table}
 use Rattle.par_laid_loaded.specs.Laws.{HasKinds, ErasedTablesHaveKinds}

@@ -24,21 +24,21 @@ use Rattle.par_pool.specs.declared.constant.Constant.TheVariants as constant
 use Rattle.par_pool.specs.Entries.{IsClassAt}
 use Rattle.par_single.specs.Members.{own_names}
 use Rattle.par_values.specs.Areas.{Name}
-use Rattle.par_link.specs.declared.entry.Builtin.{Builtin}
-use Rattle.par_link.specs.Builtins.{builtin}
-use Rattle.par_link.specs.Named.{class_named, class_of, listed, class_place}
-use Rattle.par_link.specs.Rules.{is_nothing}
-use Rattle.par_link.proofs.Passing.{any-at}
-use Rattle.par_loader.specs.Mentions.{is_unread, names_unread}
+use Rattle.par_linked_form.specs.par_link.declared.entry.Builtin.{Builtin}
+use Rattle.par_linked_form.specs.par_link.Builtins.{builtin}
+use Rattle.par_linked_form.specs.par_link.Named.{class_named, class_of, listed, class_place}
+use Rattle.par_linked_form.specs.par_link.Rules.{is_nothing}
+use Rattle.par_linked_form.proofs.par_link.Passing.{any-at}
+use Rattle.par_linked_form.specs.par_loader.Mentions.{is_unread, names_unread}
 use Rattle.par_code_form.specs.declared.item.Item.{Item}
 use Rattle.par_code_form.specs.declared.item.Item.TheVariants.{Label, Op, Const, Jump, Member}
 use Rattle.par_code_form.specs.declared.item.Item.TheVariants.{ClassOp, LockOp}
 use Rattle.par_code_form.specs.Code.{body_code}
 use Rattle.par_code_form.specs.Named.{class_word, words_of}
-use Rattle.par_agreeing.specs.Laid.{Meth}
-use Rattle.par_described.specs.Laws.{HasValueTypes, IsResultType}
-use Rattle.par_described.specs.Laws as said
-use Rattle.par_coded.specs.Methods.{meth, may_meth}
+use Rattle.par_laid_form.specs.par_agreeing.Laid.{Meth}
+use Rattle.par_laid_form.specs.par_described.Laws.{HasValueTypes, IsResultType}
+use Rattle.par_laid_form.specs.par_described.Laws as said
+use Rattle.par_laid_form.specs.par_coded.Methods.{meth, may_meth}
 use Rattle.par_linked_form.specs.Linkable.{IsLinkable, ClassLinks, FieldLinks, MethodLinks}
 use Rattle.par_linked_form.specs.Linkable.{IsValueType, NamesThere}
 use Rattle.par_linked_form.specs.Parts.{AreLoadedFiles}

@@ -7,10 +7,10 @@ use Rattle.par_typed.specs.Plain.{Body}
 use Rattle.par_bodies.specs.Members.{method_at}
 use Rattle.par_bodies.specs.Locals.{arrivals}
 use Rattle.par_class.specs.declared.file.ClassFile.{ClassFile}
-use Rattle.par_well_typed.specs.Signatures.{HasBuiltIns, AreSigned}
-use Rattle.par_well_typed.specs.Tables.{IsInRange}
+use Rattle.par_laid_form.specs.par_well_typed.Signatures.{HasBuiltIns, AreSigned}
+use Rattle.par_laid_form.specs.par_well_typed.Tables.{IsInRange}
 use Rattle.par_erase.specs.Erased.{erased_table}
-use Rattle.par_class_form.specs.Files.{FIRST_DECLARED}
+use Rattle.par_linked_form.specs.par_class_form.Files.{FIRST_DECLARED}
 use Rattle.par_linked_form.specs.Linkable.{IsLinkable}
 use Rattle.par_linked_form.specs.Parts.{AreLoadedFiles}
 use Rattle.par_laid_form.specs.Parts.{Known}

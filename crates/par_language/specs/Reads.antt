@@ -1,6 +1,6 @@
 -- What it means that a function reads some symbols of the grammar of Paragon.
 use Rattle.std.specs.Prelude.{Result}
-use Rattle.par_grammar.specs.Derivation.{Input}
+use Rattle.par_reader.specs.par_grammar.Derivation.{Input}
 use Rattle.par_reader.specs.declared.error.ParseError.{ParseError}
 use Rattle.par_reader.specs.Reads as general
 use Rattle.par_tree.specs.Grammar.{Symbols}

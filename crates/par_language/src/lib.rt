@@ -24,3 +24,5 @@ impl Language for Paragon {
 
     ghost founded = { founded };
 }
+
+pub use par_reader;

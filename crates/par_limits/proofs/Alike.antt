@@ -3,7 +3,7 @@ use Rattle.std.proofs.Common.{◌≡◌, ◌≢◌, ℕ, suc, ◌+◌, ◌<◌, 
 use Rattle.std.proofs.Common.{[], ◌∷◌, length, drop, get_or, refl, sym, ap, ◌∙◌}
 use Rattle.std.specs.List.{list_any}
 use Rattle.std.specs.Borrow.{Bor}
-use Rattle.par_policy.specs.declared.clauses.Clause.{Clause}
+use Rattle.par_typed.specs.par_policy.declared.clauses.Clause.{Clause}
 use Rattle.par_resolved.specs.Numbered.{same_clause, same_policy}
 use Rattle.par_resolved.specs.Gathered.{all_of}
 use Rattle.par_resolved.proofs.Loops.{drop_more, none_left}

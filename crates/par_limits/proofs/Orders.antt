@@ -2,7 +2,7 @@
 use Rattle.std.proofs.Common.{◌≡◌, ℕ, true, arith, List, [], ◌∷◌, ◌++◌, map, refl, ap, ◌∙◌}
 use Rattle.std.specs.Prelude.{nat_le, if◌then◌else◌}
 use Rattle.std.proofs.lemmas.Bool.Decides.{nat_tests}
-use Rattle.par_policy.specs.declared.clauses.Clause.{Clause}
+use Rattle.par_typed.specs.par_policy.declared.clauses.Clause.{Clause}
 use Rattle.par_tree.specs.declared.policy.PolicyExpr.{PolicyExpr}
 use Rattle.par_tree.specs.Plain.{Source}
 use Rattle.par_resolved.specs.declared.entries.Entry.{Entry}

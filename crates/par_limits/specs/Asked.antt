@@ -2,7 +2,7 @@
 use Rattle.std.specs.Prelude.{Bool, List, [], map, filter}
 use Rattle.par_tree.specs.declared.policy.LockTree.{LockTree}
 use Rattle.par_tree.specs.declared.decl.LockDecl.{LockDecl}
-use Rattle.par_names.specs.Declarations.{lock_named}
+use Rattle.par_resolved.specs.par_names.Declarations.{lock_named}
 use Rattle.par_resolved.specs.declared.entries.Entry.{Entry}
 use Rattle.par_resolved.specs.Numbered.{has_no_policy}
 

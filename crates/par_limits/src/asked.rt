@@ -5,10 +5,10 @@ ghost use Rattle.par_resolved.specs.Numbered.{has_no_policy};
 ghost use Rattle.par_resolved.specs.Gathered.{all_of};
 ghost use Rattle.par_limits.specs.Asked.{asked_entries};
 
-use par_names::Locks;
 use par_resolved::NoMemory;
 use par_resolved::entries::Entry;
 use par_resolved::known::top;
+use par_resolved::par_names::Locks;
 use par_tree::decl::LockDecl;
 use par_tree::policy::LockTree;
 use std::alloc::Global;

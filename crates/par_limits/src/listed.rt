@@ -8,12 +8,12 @@ ghost use Rattle.par_resolved.specs.Numbered.{query_entries, birth_entry, declar
 ghost use Rattle.par_limits.specs.Listed.{by_place_entries};
 
 use crate::asked::push_asked;
-use par_names::Locks;
 use par_resolved::NoMemory;
 use par_resolved::births::birth_policy;
 use par_resolved::declared::locks;
 use par_resolved::entries::{Entry, push_written, sort_entries};
 use par_resolved::known::{Known, bottom};
+use par_resolved::par_names::Locks;
 use par_resolved::queried::queried;
 use par_tree::decl::{ClassDecl, Program};
 use par_tree::policy::PolicyExpr;

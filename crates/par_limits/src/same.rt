@@ -4,8 +4,8 @@ ghost use Rattle.std.specs.List.{list_any};
 ghost use Rattle.par_resolved.specs.Numbered.{same_clause, same_policy};
 ghost use Rattle.par_resolved.specs.Gathered.{all_of};
 
-use par_policy::{Clause, Policy};
 use par_resolved::entries::Entry;
+use par_typed::par_policy::{Clause, Policy};
 
 fn same_clause(c: &Clause, d: &Clause) -> bool
     ensures { result ≡ same_clause c.now d.now }

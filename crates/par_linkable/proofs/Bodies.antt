@@ -27,8 +27,8 @@ use Rattle.par_bodies.specs.Types.{Operates}
 use Rattle.par_bodies.specs.Forms.{Setting}
 use Rattle.par_bodies.specs.Proper.{ExpIsProper, MayExpIsProper, ExpsAreProper, StaIsProper}
 use Rattle.par_bodies.specs.Proper.{ElseIsProper, AllAreProper, CatchesAreProper}
-use Rattle.par_well_typed.specs.Tables.{IsType, IsInRange, ClassInRange, FieldInRange}
-use Rattle.par_well_typed.specs.Tables.{MethodInRange}
+use Rattle.par_coded.specs.par_well_typed.Tables.{IsType, IsInRange, ClassInRange, FieldInRange}
+use Rattle.par_coded.specs.par_well_typed.Tables.{MethodInRange}
 use Rattle.par_erase.specs.Asked.{Locks}
 use Rattle.par_erase.specs.Shown.{channel_info}
 use Rattle.par_erase.specs.Erased.{erased_table, erased_class, erased_field, erased_method}

@@ -17,17 +17,18 @@ use Rattle.par_typed.specs.declared.table.Table.{Table}
 use Rattle.par_bodies.specs.Members.{methods_in}
 use Rattle.par_bodies.specs.Makes.{IsOrdinary}
 use Rattle.par_declared.specs.Names.{HasOwnNames, AreNamesApart}
-use Rattle.par_well_typed.specs.Beginning.{mains, IsMainOf}
-use Rattle.par_well_typed.specs.Beginning as beginning
-use Rattle.par_well_typed.specs.Signatures.{kind_of, HasBuiltIns, HasNoMembers, IsResultType}
-use Rattle.par_well_typed.specs.Signatures.{FieldHasType, ParamHasType, HasSignature}
-use Rattle.par_well_typed.specs.Signatures.{HasSignatures, AreSigned}
-use Rattle.par_well_typed.specs.Signatures as signed
-use Rattle.par_well_typed.specs.Tables.{IsInRange}
+use Rattle.par_coded.specs.par_well_typed.Beginning.{mains, IsMainOf}
+use Rattle.par_coded.specs.par_well_typed.Beginning as beginning
+use Rattle.par_coded.specs.par_well_typed.Signatures.{kind_of, HasBuiltIns, HasNoMembers}
+use Rattle.par_coded.specs.par_well_typed.Signatures.{IsResultType}
+use Rattle.par_coded.specs.par_well_typed.Signatures.{FieldHasType, ParamHasType, HasSignature}
+use Rattle.par_coded.specs.par_well_typed.Signatures.{HasSignatures, AreSigned}
+use Rattle.par_coded.specs.par_well_typed.Signatures as signed
+use Rattle.par_coded.specs.par_well_typed.Tables.{IsInRange}
 use Rattle.par_erase.specs.Named.{IsNamed, AreNamed}
 use Rattle.par_erase.specs.Erased.{erased_table, erased_class, erased_field, erased_method}
 use Rattle.par_erase.specs.Erased.{erased_param, erased_channels}
-use Rattle.par_class_form.specs.Files.{FIRST_DECLARED}
+use Rattle.par_linked_form.specs.par_class_form.Files.{FIRST_DECLARED}
 use Rattle.par_coded.proofs.Members.{method_erased}
 use Rattle.par_link.proofs.Passing.{same_text}
 use Rattle.par_linked_form.specs.Linkable.{FieldLinks, MethodLinks, ClassLinks, BuiltInsLink}

@@ -14,11 +14,11 @@ use Rattle.par_runs.specs.Names.{body_of}
 use Rattle.par_erase.specs.Asked.{Locks, asked_in}
 use Rattle.par_erase.specs.Erased.{erased_table, erased_class, erased_method, erased_sta}
 use Rattle.par_erase.specs.Erased.{erased_bodies}
-use Rattle.par_well_typed.specs.Tables.{IsType}
-use Rattle.par_well_typed.specs.WellTyped.{IsWellTyped}
+use Rattle.par_coded.specs.par_well_typed.Tables.{IsType}
+use Rattle.par_coded.specs.par_well_typed.WellTyped.{IsWellTyped}
 use Rattle.par_code_form.specs.Method.{labelled}
 use Rattle.par_code_form.specs.Named.{words_of}
-use Rattle.par_class_form.specs.Files.{FIRST_DECLARED}
+use Rattle.par_linked_form.specs.par_class_form.Files.{FIRST_DECLARED}
 use Rattle.par_coded.specs.Laws.{erased_body}
 use Rattle.par_coded.proofs.Bodies.{bodies_are_erased, IsFound, found}
 use Rattle.par_coded.proofs.Members.{method_erased}

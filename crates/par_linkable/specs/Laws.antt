@@ -5,7 +5,7 @@ use Rattle.par_typed.specs.Plain.{Body}
 use Rattle.par_declared.specs.Names.{AreNamesApart}
 use Rattle.par_erase.specs.Named.{AreNamed}
 use Rattle.par_erase.specs.Erased.{erased_table, erased_bodies}
-use Rattle.par_well_typed.specs.WellTyped.{IsWellTyped}
+use Rattle.par_coded.specs.par_well_typed.WellTyped.{IsWellTyped}
 use Rattle.par_linked_form.specs.Linkable.{IsLinkable}
 
 -- what is left of a well-typed program without policies is linkable

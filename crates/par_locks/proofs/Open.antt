@@ -9,7 +9,7 @@ use Rattle.par_typed.specs.Shown.{body, bodies}
 use Rattle.par_bits.specs.Sets.{Set}
 use Rattle.par_rules.specs.Lattice.{numbers}
 use Rattle.par_rules.specs.Facts.{blank}
-use Rattle.par_except.specs.Seen.{may_see}
+use Rattle.par_rounds.specs.par_except.Seen.{may_see}
 use Rattle.par_rounds.specs.declared.fact.Fact.{Fact}
 use Rattle.par_rounds.specs.Seen.{seen_facts}
 use Rattle.par_locks.specs.Open.{entering, may_have}

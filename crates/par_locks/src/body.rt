@@ -5,7 +5,7 @@ ghost use Rattle.std.specs.Option.{option_copied};
 ghost use Rattle.par_typed.specs.Shown as shown;
 ghost use Rattle.par_rules.specs.Declares.{declares, method_of};
 ghost use Rattle.par_rules.specs.Ranges.{IsOrderly};
-ghost use Rattle.par_pass.specs.Written.{table as by_point};
+ghost use Rattle.par_rounds.specs.par_pass.Written.{table as by_point};
 ghost use Rattle.par_rounds.specs.Seen.{seen_facts, AreRowsWide};
 ghost use Rattle.par_rounds.specs.Bodies.{AreLeastClosed};
 ghost use Rattle.par_verdict.specs.Accepted.{IsOrderlyBody, methods_in};

@@ -4,9 +4,9 @@ use Rattle.std.proofs.Common.{refl, ap, ◌∙◌, inl, arith}
 use Rattle.std.proofs.lemmas.Bool.{false≢true}
 use Rattle.par_class.specs.declared.file.ClassFile.{ClassFile}
 use Rattle.par_heap.specs.Heap.{objects_of}
-use Rattle.par_actions.specs.declared.done.Done.{Done}
-use Rattle.par_actions.specs.declared.done.Done.TheVariants as done
-use Rattle.par_actions.specs.Done.{is_still}
+use Rattle.par_method_area.specs.par_actions.declared.done.Done.{Done}
+use Rattle.par_method_area.specs.par_actions.declared.done.Done.TheVariants as done
+use Rattle.par_method_area.specs.par_actions.Done.{is_still}
 use Rattle.par_method_area.specs.Area.{Area}
 use Rattle.par_machine.specs.Advanced.{IsAdvanced}
 use Rattle.par_machine.specs.Running.{state_in}

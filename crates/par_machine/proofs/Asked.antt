@@ -12,8 +12,8 @@ use Rattle.par_values.specs.Operations.{Operation, Push, Misnamed, operation, co
 use Rattle.par_values.specs.Operations.{of_class}
 use Rattle.par_stack.specs.declared.point.Point.{Point}
 use Rattle.par_stack.specs.Frames.{running}
-use Rattle.par_steps.specs.Links.{link_at}
-use Rattle.par_actions.specs.declared.creating.Class.{Class}
+use Rattle.par_method_area.specs.par_steps.Links.{link_at}
+use Rattle.par_method_area.specs.par_actions.declared.creating.Class.{Class}
 use Rattle.par_method_area.specs.declared.known.NamedField.{NamedField}
 use Rattle.par_method_area.specs.Known.{linked_number, KnowsField, IsNamedField, KnowsClass}
 use Rattle.par_method_area.specs.Known.{IsNamedClass}

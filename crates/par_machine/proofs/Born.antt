@@ -9,9 +9,9 @@ use Rattle.par_class.specs.declared.file.ClassFile.{ClassFile}
 use Rattle.par_values.specs.declared.value.MVal.{MVal}
 use Rattle.par_values.specs.Areas.{Areas, Objects, list_or_none, objects_of, with_object}
 use Rattle.par_heap.specs.Heap as heap
-use Rattle.par_actions.specs.Objects.{AreShown}
-use Rattle.par_actions.proofs.Bearing.{born_shown}
-use Rattle.par_actions.proofs.Writing.{or_empty}
+use Rattle.par_method_area.specs.par_actions.Objects.{AreShown}
+use Rattle.par_method_area.proofs.par_actions.Bearing.{born_shown}
+use Rattle.par_method_area.proofs.par_actions.Writing.{or_empty}
 use Rattle.par_machine.specs.Objects.{count_classes, objects_in, width, AreObjects}
 use Rattle.par_machine.proofs.Held.{are_shown, objects_are, objects_stay, length-objects_in}
 

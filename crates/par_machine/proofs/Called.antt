@@ -26,18 +26,20 @@ use Rattle.par_values.specs.Effects.{Calls, effect, called, called_on}
 use Rattle.par_values.specs.Operations.{Operation, InvokeStatic, InvokeSpecial, InvokeVirtual}
 use Rattle.par_values.specs.Operations.{Misnamed, of_method, takes}
 use Rattle.par_values.specs.Reasons.{is_of}
-use Rattle.par_link.specs.declared.entry.Builtin.TheVariants as builtin
-use Rattle.par_link.specs.declared.entry.Named.{Named}
-use Rattle.par_link.specs.declared.entry.Named.TheVariants as named
-use Rattle.par_link.specs.Linked.{named_at}
-use Rattle.par_steps.specs.Classes.{exceptions}
-use Rattle.par_steps.specs.Links.{link_of, link_at, number_or, class_link, field_in, field_link}
-use Rattle.par_steps.specs.Links.{method_in, method_link, initializer_link, channel_of}
-use Rattle.par_steps.specs.Methods.{class_pool}
-use Rattle.par_steps.specs.State.{whole_inputs}
-use Rattle.par_steps.specs.Step.{is_no_exception}
-use Rattle.par_actions.specs.declared.callee.Callee.{Callee}
-use Rattle.par_actions.specs.Calls.{is_misreceived}
+use Rattle.par_method_area.specs.par_link.declared.entry.Builtin.TheVariants as builtin
+use Rattle.par_method_area.specs.par_link.declared.entry.Named.{Named}
+use Rattle.par_method_area.specs.par_link.declared.entry.Named.TheVariants as named
+use Rattle.par_method_area.specs.par_link.Linked.{named_at}
+use Rattle.par_method_area.specs.par_steps.Classes.{exceptions}
+use Rattle.par_method_area.specs.par_steps.Links.{link_of, link_at, number_or, class_link, field_in}
+use Rattle.par_method_area.specs.par_steps.Links.{field_link}
+use Rattle.par_method_area.specs.par_steps.Links.{method_in, method_link, initializer_link}
+use Rattle.par_method_area.specs.par_steps.Links.{channel_of}
+use Rattle.par_method_area.specs.par_steps.Methods.{class_pool}
+use Rattle.par_method_area.specs.par_steps.State.{whole_inputs}
+use Rattle.par_method_area.specs.par_steps.Step.{is_no_exception}
+use Rattle.par_method_area.specs.par_actions.declared.callee.Callee.{Callee}
+use Rattle.par_method_area.specs.par_actions.Calls.{is_misreceived}
 use Rattle.par_lines.specs.Lines.{AreLeft}
 use Rattle.par_method_area.specs.Area.{Area}
 use Rattle.par_method_area.specs.Known.{KnowsMethod, IsNamedMethod, is_exception_initializer}

@@ -7,18 +7,20 @@ use Rattle.par_values.specs.Areas.{Areas, Objects, InputLists}
 use Rattle.par_values.specs.Effects.{Effect, effect}
 use Rattle.par_values.specs.Reasons.{reason}
 use Rattle.par_single.specs.Walk.{starts_at, stands_at}
-use Rattle.par_steps.specs.Classes.{class_names}
-use Rattle.par_steps.specs.Links.{link_at}
-use Rattle.par_steps.specs.State.{State, whole_inputs}
-use Rattle.par_steps.specs.Step.{is_misreceived, called_on_object, or_2, moved, state_with}
+use Rattle.par_method_area.specs.par_steps.Classes.{class_names}
+use Rattle.par_method_area.specs.par_steps.Links.{link_at}
+use Rattle.par_method_area.specs.par_steps.State.{State, whole_inputs}
+use Rattle.par_method_area.specs.par_steps.Step.{is_misreceived, called_on_object, or_2, moved}
+use Rattle.par_method_area.specs.par_steps.Step.{state_with}
 use Rattle.par_stack.specs.declared.point.Point.{Point}
 use Rattle.par_stack.specs.Frames as stack
 use Rattle.par_stack.specs.Frames.{running, waiting}
 use Rattle.par_unwinding.specs.Shown.{frame_of, frames_of}
-use Rattle.par_actions.specs.declared.done.Done.{Done}
-use Rattle.par_actions.specs.declared.done.Ways.{Ways}
-use Rattle.par_actions.specs.Done.{IsAt, IsAtFork, areas_in, distance, Comes, IsDone, Keeps}
-use Rattle.par_actions.specs.Done.{is_still}
+use Rattle.par_method_area.specs.par_actions.declared.done.Done.{Done}
+use Rattle.par_method_area.specs.par_actions.declared.done.Ways.{Ways}
+use Rattle.par_method_area.specs.par_actions.Done.{IsAt, IsAtFork, areas_in, distance, Comes}
+use Rattle.par_method_area.specs.par_actions.Done.{IsDone, Keeps}
+use Rattle.par_method_area.specs.par_actions.Done.{is_still}
 use Rattle.par_machine.specs.Frames.{code_of}
 use Rattle.par_machine.specs.Instructions.{is_branch}
 use Rattle.par_machine.specs.Objects.{count_classes, objects_in}

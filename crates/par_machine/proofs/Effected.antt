@@ -21,7 +21,7 @@ use Rattle.par_values.specs.Operations.{Create, Throw, Leave, LeaveWith, Misname
 use Rattle.par_values.specs.Effects.{Effect, Goes, Happens, Jumps, Calls, Throws, ThrowsObject}
 use Rattle.par_values.specs.Effects.{Returns, ReturnsWith, effect, called, called_on, jumps_if}
 use Rattle.par_values.specs.Effects.{field_read, field_written, thrown}
-use Rattle.par_actions.specs.Done.{distance}
+use Rattle.par_method_area.specs.par_actions.Done.{distance}
 
 -- the method that an operation calls
 abbrev pub callee_of : Operation → Option MethodLink

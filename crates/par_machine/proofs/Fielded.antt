@@ -23,16 +23,16 @@ use Rattle.par_values.specs.Effects.{Effect, Goes, Happens, Jumps, ThrowsObject,
 use Rattle.par_values.specs.Effects.{effect, field_written}
 use Rattle.par_values.specs.Reasons.{Spot, reason}
 use Rattle.par_heap.specs.Heap as heap
-use Rattle.par_steps.specs.Classes.{class_names}
-use Rattle.par_steps.specs.State.{whole_inputs}
-use Rattle.par_steps.specs.Step.{is_misreceived, called_on_object, or_2}
+use Rattle.par_method_area.specs.par_steps.Classes.{class_names}
+use Rattle.par_method_area.specs.par_steps.State.{whole_inputs}
+use Rattle.par_method_area.specs.par_steps.Step.{is_misreceived, called_on_object, or_2}
 use Rattle.par_stack.specs.Frames as stack
 use Rattle.par_stack.specs.Frames.{running, waiting}
-use Rattle.par_actions.specs.declared.done.Done.{Done}
-use Rattle.par_actions.specs.declared.done.Done.TheVariants as done
-use Rattle.par_actions.specs.Done.{IsDone, ComesTo, Keeps, is_still, areas_in}
-use Rattle.par_actions.specs.Objects.{Writes}
-use Rattle.par_actions.proofs.Writing.{or_empty}
+use Rattle.par_method_area.specs.par_actions.declared.done.Done.{Done}
+use Rattle.par_method_area.specs.par_actions.declared.done.Done.TheVariants as done
+use Rattle.par_method_area.specs.par_actions.Done.{IsDone, ComesTo, Keeps, is_still, areas_in}
+use Rattle.par_method_area.specs.par_actions.Objects.{Writes}
+use Rattle.par_method_area.proofs.par_actions.Writing.{or_empty}
 use Rattle.par_method_area.specs.Area.{Area}
 use Rattle.par_method_area.specs.declared.known.NamedField.{NamedField}
 use Rattle.par_method_area.specs.Known.{IsNamedField}

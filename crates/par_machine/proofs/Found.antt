@@ -9,10 +9,10 @@ use Rattle.par_class.specs.declared.file.MethodFile.{MethodFile}
 use Rattle.par_instr.specs.Decoding.{Decoded, decoded, decoded_at}
 use Rattle.par_stack.specs.declared.point.Point.{Point}
 use Rattle.par_stack.specs.Frames.{Frame, running}
-use Rattle.par_steps.specs.Methods.{code_or_none, code_in, method_code, method_file}
-use Rattle.par_steps.specs.State.{State}
-use Rattle.par_steps.specs.Step as plain
-use Rattle.par_steps.specs.Step.{turn}
+use Rattle.par_method_area.specs.par_steps.Methods.{code_or_none, code_in, method_code, method_file}
+use Rattle.par_method_area.specs.par_steps.State.{State}
+use Rattle.par_method_area.specs.par_steps.Step as plain
+use Rattle.par_method_area.specs.par_steps.Step.{turn}
 use Rattle.par_method_area.specs.Area.{Area}
 use Rattle.par_method_area.specs.Known.{code_at, IsCode, KnowsCode}
 use Rattle.par_method_area.specs.declared.known.Code.{Code}

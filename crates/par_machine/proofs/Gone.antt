@@ -10,15 +10,17 @@ use Rattle.par_values.specs.Operations.{operation}
 use Rattle.par_stack.specs.declared.point.Point.{Point}
 use Rattle.par_stack.specs.Frames as stack
 use Rattle.par_stack.specs.Frames.{running, with_running, at_offset}
-use Rattle.par_steps.specs.Classes.{class_names, exception_named}
-use Rattle.par_steps.specs.Links.{link_at}
-use Rattle.par_steps.specs.State.{Frame, State}
-use Rattle.par_steps.specs.Step.{Turn, Silent, Shows, turn_at, areas_of, done_by, spot}
-use Rattle.par_steps.specs.Step.{reason_against, decided, applied, moved, state_with, offset}
-use Rattle.par_steps.specs.Step.{handlers, thrown_class}
-use Rattle.par_actions.specs.declared.done.Done.{Done}
-use Rattle.par_actions.specs.declared.done.Done.TheVariants as done
-use Rattle.par_actions.specs.Done.{IsDone, thrown_reason, distance}
+use Rattle.par_method_area.specs.par_steps.Classes.{class_names, exception_named}
+use Rattle.par_method_area.specs.par_steps.Links.{link_at}
+use Rattle.par_method_area.specs.par_steps.State.{Frame, State}
+use Rattle.par_method_area.specs.par_steps.Step.{Turn, Silent, Shows, turn_at, areas_of, done_by}
+use Rattle.par_method_area.specs.par_steps.Step.{spot}
+use Rattle.par_method_area.specs.par_steps.Step.{reason_against, decided, applied, moved}
+use Rattle.par_method_area.specs.par_steps.Step.{state_with, offset}
+use Rattle.par_method_area.specs.par_steps.Step.{handlers, thrown_class}
+use Rattle.par_method_area.specs.par_actions.declared.done.Done.{Done}
+use Rattle.par_method_area.specs.par_actions.declared.done.Done.TheVariants as done
+use Rattle.par_method_area.specs.par_actions.Done.{IsDone, thrown_reason, distance}
 use Rattle.par_method_area.specs.Area.{Area}
 use Rattle.par_machine.specs.Frames.{code_of, Stands}
 use Rattle.par_starts.specs.Standing.{reach_of}

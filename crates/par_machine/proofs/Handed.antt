@@ -9,12 +9,12 @@ use Rattle.par_values.specs.declared.value.MVal.{MVal}
 use Rattle.par_values.specs.declared.run.Event.{Event}
 use Rattle.par_stack.specs.Frames as stack
 use Rattle.par_stack.specs.Frames.{running, with_running, at_offset}
-use Rattle.par_steps.specs.Classes.{exception_named}
-use Rattle.par_steps.specs.Step as plain
-use Rattle.par_steps.specs.Step.{offset}
-use Rattle.par_actions.specs.declared.done.Done.{Done}
-use Rattle.par_actions.specs.declared.done.Done.TheVariants as done
-use Rattle.par_actions.specs.Done.{is_still}
+use Rattle.par_method_area.specs.par_steps.Classes.{exception_named}
+use Rattle.par_method_area.specs.par_steps.Step as plain
+use Rattle.par_method_area.specs.par_steps.Step.{offset}
+use Rattle.par_method_area.specs.par_actions.declared.done.Done.{Done}
+use Rattle.par_method_area.specs.par_actions.declared.done.Done.TheVariants as done
+use Rattle.par_method_area.specs.par_actions.Done.{is_still}
 use Rattle.par_method_area.specs.Area.{Area}
 use Rattle.par_machine.specs.Frames.{code_of}
 use Rattle.par_starts.specs.Standing.{reach_of}

@@ -9,7 +9,7 @@ use Rattle.par_class.specs.declared.file.ClassFile.{ClassFile}
 use Rattle.par_values.specs.Areas as areas
 use Rattle.par_values.specs.Areas.{Areas, Objects, list_or_none}
 use Rattle.par_heap.specs.Heap as heap
-use Rattle.par_actions.specs.Objects.{AreShown}
+use Rattle.par_method_area.specs.par_actions.Objects.{AreShown}
 use Rattle.par_machine.specs.Objects.{objects_in, count_classes, width, AreObjects}
 
 shown_at : (many : ℕ) (held : heap.Objects) (class : ℕ) → class < many

@@ -14,23 +14,24 @@ use Rattle.par_values.specs.Areas.{Areas, InputLists, operand, first_locals}
 use Rattle.par_values.specs.Effects.{Effect, Calls, effect}
 use Rattle.par_values.specs.Operations.{Operation, Misnamed, takes, gives}
 use Rattle.par_values.specs.Reasons.{reason, exceeds}
-use Rattle.par_link.specs.declared.entry.Named.{Named}
-use Rattle.par_link.specs.Linked.{named_at}
-use Rattle.par_steps.specs.Classes.{class_names, exceptions}
-use Rattle.par_steps.specs.Links.{link_at}
-use Rattle.par_steps.specs.State.{Frame, State, entered}
-use Rattle.par_steps.specs.Step.{is_misreceived, is_no_exception, called_on_object, or_2, moved}
-use Rattle.par_steps.specs.Step.{state_with}
+use Rattle.par_method_area.specs.par_link.declared.entry.Named.{Named}
+use Rattle.par_method_area.specs.par_link.Linked.{named_at}
+use Rattle.par_method_area.specs.par_steps.Classes.{class_names, exceptions}
+use Rattle.par_method_area.specs.par_steps.Links.{link_at}
+use Rattle.par_method_area.specs.par_steps.State.{Frame, State, entered}
+use Rattle.par_method_area.specs.par_steps.Step.{is_misreceived, is_no_exception, called_on_object}
+use Rattle.par_method_area.specs.par_steps.Step.{or_2, moved}
+use Rattle.par_method_area.specs.par_steps.Step.{state_with}
 use Rattle.par_stack.specs.declared.point.Point.{Point}
 use Rattle.par_stack.specs.Frames as stack
 use Rattle.par_stack.specs.Frames.{running, waiting}
 use Rattle.par_unwinding.specs.Shown.{frame_of, frames_of}
-use Rattle.par_actions.specs.declared.done.Done.{Done}
-use Rattle.par_actions.specs.declared.done.Done.TheVariants as done
-use Rattle.par_actions.specs.declared.callee.Callee.{Callee}
-use Rattle.par_actions.specs.Calls as act
-use Rattle.par_actions.specs.Calls.{IsCalled, Invoked, acting, with_inputs}
-use Rattle.par_actions.specs.Done.{areas_in, Comes, IsDone, Keeps, is_still}
+use Rattle.par_method_area.specs.par_actions.declared.done.Done.{Done}
+use Rattle.par_method_area.specs.par_actions.declared.done.Done.TheVariants as done
+use Rattle.par_method_area.specs.par_actions.declared.callee.Callee.{Callee}
+use Rattle.par_method_area.specs.par_actions.Calls as act
+use Rattle.par_method_area.specs.par_actions.Calls.{IsCalled, Invoked, acting, with_inputs}
+use Rattle.par_method_area.specs.par_actions.Done.{areas_in, Comes, IsDone, Keeps, is_still}
 use Rattle.par_lines.specs.Lines.{channels_of, AreLeft}
 use Rattle.par_method_area.specs.Area.{Area, KnowsLines}
 use Rattle.par_method_area.specs.Known.{IsNamedMethod}

@@ -22,22 +22,23 @@ use Rattle.par_values.specs.Operations.{InvokeVirtual, Create, Throw, LeaveWith}
 use Rattle.par_values.specs.Effects.{Effect, Happens, Jumps, ThrowsObject, ReturnsWith, effect}
 use Rattle.par_values.specs.Effects.{thrown}
 use Rattle.par_values.specs.Reasons.{is_of}
-use Rattle.par_actions.specs.declared.done.Done.{Done}
-use Rattle.par_actions.specs.declared.done.Done.TheVariants as done
-use Rattle.par_actions.specs.Done.{lesser, thrown_reason, distance, target_of, out_by, born_event}
-use Rattle.par_actions.specs.Done.{set_event, put_event}
+use Rattle.par_method_area.specs.par_actions.declared.done.Done.{Done}
+use Rattle.par_method_area.specs.par_actions.declared.done.Done.TheVariants as done
+use Rattle.par_method_area.specs.par_actions.Done.{lesser, thrown_reason, distance, target_of}
+use Rattle.par_method_area.specs.par_actions.Done.{out_by, born_event}
+use Rattle.par_method_area.specs.par_actions.Done.{set_event, put_event}
 use Rattle.par_single.specs.Links.{signature_said}
 use Rattle.par_single.specs.Walk.{stands_at}
 use Rattle.par_values.specs.Operations.{operation}
 use Rattle.par_values.specs.Reasons.{falls, misreturns, misused}
 use Rattle.par_stack.specs.declared.point.Point.{Point}
 use Rattle.par_stack.specs.Frames.{running}
-use Rattle.par_steps.specs.Classes.{class_names, exceptions}
-use Rattle.par_steps.specs.Handlers.{is_lost, is_roomless}
-use Rattle.par_steps.specs.Links.{link_at}
-use Rattle.par_steps.specs.Methods.{method_descriptor}
-use Rattle.par_steps.specs.Step.{next_of, offset, handlers, number_of_class}
-use Rattle.par_steps.specs.Step.{thrown_class}
+use Rattle.par_method_area.specs.par_steps.Classes.{class_names, exceptions}
+use Rattle.par_method_area.specs.par_steps.Handlers.{is_lost, is_roomless}
+use Rattle.par_method_area.specs.par_steps.Links.{link_at}
+use Rattle.par_method_area.specs.par_steps.Methods.{method_descriptor}
+use Rattle.par_method_area.specs.par_steps.Step.{next_of, offset, handlers, number_of_class}
+use Rattle.par_method_area.specs.par_steps.Step.{thrown_class}
 use Rattle.par_machine.specs.Frames.{code_of, gives}
 use Rattle.par_starts.specs.Standing.{reach_of}
 use Rattle.par_machine.specs.Instructions.{index_of}
@@ -53,7 +54,7 @@ use Rattle.par_machine.proofs.Within.{stand_within}
 use Rattle.par_machine.proofs.Effected.{callee_of, IsEventOf, IsEffectOf, effect_of}
 use Rattle.par_machine.proofs.Linking.{IsLinkOf}
 use Rattle.par_machine.specs.Site.{IsMade, IsOutput, is_object}
-use Rattle.par_steps.specs.Classes.{is_exception, exceptions_from}
+use Rattle.par_method_area.specs.par_steps.Classes.{is_exception, exceptions_from}
 
 -- whether an operation writes a field
 abbrev pub is_write : Operation → Bool

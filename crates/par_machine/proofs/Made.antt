@@ -26,23 +26,25 @@ use Rattle.par_values.specs.Operations.{Operation, Create}
 use Rattle.par_values.specs.Effects.{Goes, Happens, effect}
 use Rattle.par_values.specs.Reasons.{Spot, reason}
 use Rattle.par_heap.specs.Heap as heap
-use Rattle.par_link.specs.declared.entry.Builtin.{Builtin}
-use Rattle.par_link.specs.declared.entry.Builtin.TheVariants as builtin
-use Rattle.par_link.specs.declared.entry.Named.{Named}
-use Rattle.par_link.specs.declared.entry.Named.TheVariants as named
-use Rattle.par_link.specs.Linked.{named_at}
-use Rattle.par_steps.specs.Classes.{class_names}
-use Rattle.par_steps.specs.Links.{class_link, field_link, field_in, method_link, method_in}
-use Rattle.par_steps.specs.Links.{builtin_class, builtin_initializer, link_of, number_or, link_at}
-use Rattle.par_steps.specs.Methods.{class_pool}
+use Rattle.par_method_area.specs.par_link.declared.entry.Builtin.{Builtin}
+use Rattle.par_method_area.specs.par_link.declared.entry.Builtin.TheVariants as builtin
+use Rattle.par_method_area.specs.par_link.declared.entry.Named.{Named}
+use Rattle.par_method_area.specs.par_link.declared.entry.Named.TheVariants as named
+use Rattle.par_method_area.specs.par_link.Linked.{named_at}
+use Rattle.par_method_area.specs.par_steps.Classes.{class_names}
+use Rattle.par_method_area.specs.par_steps.Links.{class_link, field_link, field_in, method_link}
+use Rattle.par_method_area.specs.par_steps.Links.{method_in}
+use Rattle.par_method_area.specs.par_steps.Links.{builtin_class, builtin_initializer, link_of}
+use Rattle.par_method_area.specs.par_steps.Links.{number_or, link_at}
+use Rattle.par_method_area.specs.par_steps.Methods.{class_pool}
 use Rattle.par_stack.specs.Frames as stack
 use Rattle.par_stack.specs.Frames.{running}
-use Rattle.par_actions.specs.declared.creating.Class.{Class}
-use Rattle.par_actions.specs.declared.done.Done.{Done}
-use Rattle.par_actions.specs.declared.done.Done.TheVariants as done
-use Rattle.par_actions.specs.Done.{IsDone, ComesTo, Keeps, is_still, areas_in}
-use Rattle.par_actions.specs.Objects.{IsClass, Creates}
-use Rattle.par_actions.proofs.Bearing.{born_shown}
+use Rattle.par_method_area.specs.par_actions.declared.creating.Class.{Class}
+use Rattle.par_method_area.specs.par_actions.declared.done.Done.{Done}
+use Rattle.par_method_area.specs.par_actions.declared.done.Done.TheVariants as done
+use Rattle.par_method_area.specs.par_actions.Done.{IsDone, ComesTo, Keeps, is_still, areas_in}
+use Rattle.par_method_area.specs.par_actions.Objects.{IsClass, Creates}
+use Rattle.par_method_area.proofs.par_actions.Bearing.{born_shown}
 use Rattle.par_method_area.specs.Area.{Area}
 use Rattle.par_machine.specs.Objects.{count_classes, kinds_in, width, AreObjects}
 use Rattle.par_machine.specs.Running.{IsSound}

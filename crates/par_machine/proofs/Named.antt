@@ -6,14 +6,14 @@ use Rattle.par_values.specs.declared.link.Link.{Link}
 use Rattle.par_values.specs.declared.link.Link.TheVariants as link
 use Rattle.par_values.specs.declared.run.Event.TheVariants.{Out}
 use Rattle.par_values.specs.Areas.{Name, class_named}
-use Rattle.par_actions.specs.Done.{out_by}
+use Rattle.par_method_area.specs.par_actions.Done.{out_by}
 use Rattle.par_method_area.specs.declared.known.MemberNames.{MemberNames}
 use Rattle.par_method_area.specs.Known.{AreNames, KnowsNames, KnowsClass}
-use Rattle.par_actions.specs.declared.creating.Class.{Class}
+use Rattle.par_method_area.specs.par_actions.declared.creating.Class.{Class}
 use Rattle.par_values.specs.declared.link.ClassLink.{ClassLink}
-use Rattle.par_steps.specs.Classes.{class_names}
+use Rattle.par_method_area.specs.par_steps.Classes.{class_names}
 use Rattle.par_class.specs.declared.file.ClassFile.{ClassFile}
-use Rattle.par_steps.specs.Links.{link_at}
+use Rattle.par_method_area.specs.par_steps.Links.{link_at}
 use Rattle.par_machine.specs.Instructions.{index_of}
 use Rattle.par_machine.specs.Site.{IsOutput, IsMade, named_by}
 use Rattle.par_machine.specs.declared.site.Site.{Site}

@@ -7,17 +7,17 @@ use Rattle.par_instr.specs.declared.instr.Instr.TheVariants as instr
 use Rattle.par_class.specs.declared.file.ClassFile.{ClassFile}
 use Rattle.par_values.specs.declared.link.Link.{Link}
 use Rattle.par_values.specs.Operations.{operation}
-use Rattle.par_steps.specs.Links.{link_at}
-use Rattle.par_steps.specs.Step.{called_on_object}
-use Rattle.par_steps.specs.Classes.{class_names}
-use Rattle.par_steps.specs.Methods.{method_descriptor}
+use Rattle.par_method_area.specs.par_steps.Links.{link_at}
+use Rattle.par_method_area.specs.par_steps.Step.{called_on_object}
+use Rattle.par_method_area.specs.par_steps.Classes.{class_names}
+use Rattle.par_method_area.specs.par_steps.Methods.{method_descriptor}
 use Rattle.par_single.specs.Links.{kind_or_any, signature_said}
 use Rattle.par_single.specs.Walk.{stands_at}
 use Rattle.par_stack.specs.declared.point.Point.{Point}
 use Rattle.par_stack.specs.Frames.{running}
-use Rattle.par_actions.specs.Done.{distance}
-use Rattle.par_actions.specs.Leaving.{HasResult}
-use Rattle.par_actions.specs.declared.leaving.Gives.{Gives}
+use Rattle.par_method_area.specs.par_actions.Done.{distance}
+use Rattle.par_method_area.specs.par_actions.Leaving.{HasResult}
+use Rattle.par_method_area.specs.par_actions.declared.leaving.Gives.{Gives}
 use Rattle.par_method_area.specs.Known.{GivesAsSaid, signature_at}
 use Rattle.par_machine.specs.Frames.{code_of}
 use Rattle.par_starts.specs.Standing.{reach_of}

@@ -5,9 +5,9 @@ use Rattle.par_class.specs.declared.file.ClassFile.{ClassFile}
 use Rattle.par_stack.specs.declared.point.Point.{Point}
 use Rattle.par_stack.specs.Frames as stack
 use Rattle.par_stack.specs.Frames.{running, waiting}
-use Rattle.par_actions.specs.declared.done.Done.{Done}
-use Rattle.par_actions.specs.declared.done.Done.TheVariants as done
-use Rattle.par_actions.specs.Done.{Comes, Keeps, is_still}
+use Rattle.par_method_area.specs.par_actions.declared.done.Done.{Done}
+use Rattle.par_method_area.specs.par_actions.declared.done.Done.TheVariants as done
+use Rattle.par_method_area.specs.par_actions.Done.{Comes, Keeps, is_still}
 use Rattle.par_method_area.specs.Area.{Area}
 use Rattle.par_machine.specs.Frames.{code_of, gives, are_sound, Stands}
 use Rattle.par_machine.specs.Running.{here, IsSound}
@@ -18,9 +18,9 @@ use Rattle.par_instr.specs.declared.instr.Instr.{Instr}
 use Rattle.par_values.specs.declared.kind.Kind.{Kind}
 use Rattle.par_values.specs.Operations.{Operation, Misnamed}
 use Rattle.par_values.specs.Effects.{effect}
-use Rattle.par_steps.specs.Classes.{class_names}
-use Rattle.par_steps.specs.Links.{link_at}
-use Rattle.par_steps.specs.Step.{is_misreceived, called_on_object}
+use Rattle.par_method_area.specs.par_steps.Classes.{class_names}
+use Rattle.par_method_area.specs.par_steps.Links.{link_at}
+use Rattle.par_method_area.specs.par_steps.Step.{is_misreceived, called_on_object}
 use Rattle.par_machine.specs.Site.{areas_at, operation_at, does, spot_of}
 use Rattle.par_machine.proofs.Coming.{came}
 use Rattle.par_machine.proofs.Effected.{effect_of}

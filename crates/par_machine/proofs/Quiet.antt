@@ -23,15 +23,15 @@ use Rattle.par_values.specs.Operations.{Create, operation, constant, of_field}
 use Rattle.par_stack.specs.declared.point.Point.{Point}
 use Rattle.par_stack.specs.Frames as stack
 use Rattle.par_stack.specs.Frames.{running, with_running, at_offset}
-use Rattle.par_steps.specs.Classes.{class_names}
+use Rattle.par_method_area.specs.par_steps.Classes.{class_names}
 use Rattle.par_starts.specs.declared.standing.Standing.{Standing}
 use Rattle.par_starts.specs.Standing.{reach_of, KnowsStanding}
-use Rattle.par_steps.specs.Links.{link_at}
-use Rattle.par_steps.specs.State.{State}
-use Rattle.par_steps.specs.Step as plain
-use Rattle.par_steps.specs.Step.{turn, offset}
-use Rattle.par_actions.specs.declared.done.Done.{Done}
-use Rattle.par_actions.specs.declared.done.Done.TheVariants as done
+use Rattle.par_method_area.specs.par_steps.Links.{link_at}
+use Rattle.par_method_area.specs.par_steps.State.{State}
+use Rattle.par_method_area.specs.par_steps.Step as plain
+use Rattle.par_method_area.specs.par_steps.Step.{turn, offset}
+use Rattle.par_method_area.specs.par_actions.declared.done.Done.{Done}
+use Rattle.par_method_area.specs.par_actions.declared.done.Done.TheVariants as done
 use Rattle.par_method_area.specs.Area.{Area}
 use Rattle.par_machine.specs.Frames.{code_of}
 use Rattle.par_machine.specs.Instructions.{is_work}

@@ -18,10 +18,10 @@ use Rattle.par_values.specs.Operations.{PutField, InvokeStatic, InvokeSpecial, I
 use Rattle.par_values.specs.Operations.{operation, constant, of_field, of_method, of_class}
 use Rattle.par_values.specs.Effects.{Effect, Goes, Happens, Jumps, Calls, Throws, ThrowsObject}
 use Rattle.par_values.specs.Effects.{Returns, ReturnsWith}
-use Rattle.par_steps.specs.Step.{without_locks, unless_lock, next_of}
+use Rattle.par_method_area.specs.par_steps.Step.{without_locks, unless_lock, next_of}
 use Rattle.par_single.specs.Walk.{starts_at, stands_at}
-use Rattle.par_actions.specs.declared.done.Ways.{Ways}
-use Rattle.par_actions.specs.Done.{distance, way_of}
+use Rattle.par_method_area.specs.par_actions.declared.done.Ways.{Ways}
+use Rattle.par_method_area.specs.par_actions.Done.{distance, way_of}
 use Rattle.par_starts.specs.Standing.{reach_of}
 use Rattle.par_machine.specs.Instructions.{is_branch}
 use Rattle.par_machine.proofs.Effected.{is_fork, IsEffectOf}

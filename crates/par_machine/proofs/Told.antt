@@ -21,11 +21,12 @@ use Rattle.par_values.specs.Operations.{Operation, PutStatic, PutField, InvokeSt
 use Rattle.par_values.specs.Operations.{InvokeVirtual, Create, operation}
 use Rattle.par_stack.specs.declared.point.Point.{Point}
 use Rattle.par_stack.specs.Frames.{running}
-use Rattle.par_steps.specs.Classes.{class_names}
-use Rattle.par_steps.specs.Links.{link_at}
-use Rattle.par_steps.specs.Step.{without_locks}
-use Rattle.par_actions.specs.declared.done.Done.TheVariants as done
-use Rattle.par_actions.specs.Done.{set_event, put_event, born_event, out_event, out_by, target_of}
+use Rattle.par_method_area.specs.par_steps.Classes.{class_names}
+use Rattle.par_method_area.specs.par_steps.Links.{link_at}
+use Rattle.par_method_area.specs.par_steps.Step.{without_locks}
+use Rattle.par_method_area.specs.par_actions.declared.done.Done.TheVariants as done
+use Rattle.par_method_area.specs.par_actions.Done.{set_event, put_event, born_event, out_event}
+use Rattle.par_method_area.specs.par_actions.Done.{out_by, target_of}
 use Rattle.par_machine.specs.Instructions.{index_of}
 use Rattle.par_machine.specs.Site.{areas_at, operation_at, does, against, named_by, IsCome}
 use Rattle.par_machine.specs.declared.running.Running.{Running}

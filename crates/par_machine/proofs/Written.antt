@@ -14,14 +14,16 @@ use Rattle.par_values.specs.Areas.{Name, Areas, shown_value, operand}
 use Rattle.par_values.specs.Operations.{PutStatic, Misnamed}
 use Rattle.par_values.specs.Effects.{Effect, Goes, Happens, effect}
 use Rattle.par_values.specs.Reasons.{Spot, reason}
-use Rattle.par_steps.specs.Classes.{class_names}
-use Rattle.par_steps.specs.Step.{without_locks, is_misreceived, called_on_object, or_2}
+use Rattle.par_method_area.specs.par_steps.Classes.{class_names}
+use Rattle.par_method_area.specs.par_steps.Step.{without_locks, is_misreceived, called_on_object}
+use Rattle.par_method_area.specs.par_steps.Step.{or_2}
 use Rattle.par_stack.specs.Frames as stack
 use Rattle.par_stack.specs.Frames.{running, waiting}
-use Rattle.par_actions.specs.declared.done.Done.{Done}
-use Rattle.par_actions.specs.declared.done.Done.TheVariants as done
-use Rattle.par_actions.specs.Done.{IsDone, Comes, ComesTo, Keeps, is_still, areas_in}
-use Rattle.par_actions.specs.Fields.{with_statics}
+use Rattle.par_method_area.specs.par_actions.declared.done.Done.{Done}
+use Rattle.par_method_area.specs.par_actions.declared.done.Done.TheVariants as done
+use Rattle.par_method_area.specs.par_actions.Done.{IsDone, Comes, ComesTo, Keeps, is_still}
+use Rattle.par_method_area.specs.par_actions.Done.{areas_in}
+use Rattle.par_method_area.specs.par_actions.Fields.{with_statics}
 use Rattle.par_method_area.specs.Area.{Area}
 use Rattle.par_method_area.specs.declared.known.NamedField.{NamedField}
 use Rattle.par_method_area.specs.Known.{IsNamedField}

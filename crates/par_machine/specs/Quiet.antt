@@ -9,9 +9,9 @@ use Rattle.par_starts.specs.declared.standing.Standing.{Standing}
 use Rattle.par_starts.specs.Standing.{KnowsStanding}
 use Rattle.par_stack.specs.declared.point.Point.{Point}
 use Rattle.par_stack.specs.Frames.{running}
-use Rattle.par_steps.specs.State.{State}
-use Rattle.par_steps.specs.Step as plain
-use Rattle.par_steps.specs.Step.{turn}
+use Rattle.par_method_area.specs.par_steps.State.{State}
+use Rattle.par_method_area.specs.par_steps.Step as plain
+use Rattle.par_method_area.specs.par_steps.Step.{turn}
 use Rattle.par_method_area.specs.Area.{Area}
 use Rattle.par_machine.specs.Frames.{code_of}
 use Rattle.par_machine.specs.Running.{state_in, IsSound}

@@ -5,12 +5,12 @@ use Rattle.par_class.specs.declared.file.ClassFile.{ClassFile}
 use Rattle.par_heap.specs.Heap.{objects_of}
 use Rattle.par_values.specs.declared.run.Event.{Event}
 use Rattle.par_values.specs.Effects.{Happens}
-use Rattle.par_steps.specs.State.{Frame, State}
-use Rattle.par_steps.specs.Step as plain
-use Rattle.par_steps.specs.Step.{turn_at}
-use Rattle.par_actions.specs.declared.done.Done.{Done}
-use Rattle.par_actions.specs.declared.done.Done.TheVariants as done
-use Rattle.par_actions.specs.Done.{is_still}
+use Rattle.par_method_area.specs.par_steps.State.{Frame, State}
+use Rattle.par_method_area.specs.par_steps.Step as plain
+use Rattle.par_method_area.specs.par_steps.Step.{turn_at}
+use Rattle.par_method_area.specs.par_actions.declared.done.Done.{Done}
+use Rattle.par_method_area.specs.par_actions.declared.done.Done.TheVariants as done
+use Rattle.par_method_area.specs.par_actions.Done.{is_still}
 use Rattle.par_method_area.specs.Area.{Area}
 use Rattle.par_machine.specs.Running.{here, below, state_in, IsSound}
 use Rattle.par_machine.specs.Site.{decoded, does, against, IsCome, CameTo}

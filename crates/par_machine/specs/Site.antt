@@ -15,13 +15,14 @@ use Rattle.par_values.specs.Effects.{Effect, Calls}
 use Rattle.par_values.specs.Operations.{Operation, operation}
 use Rattle.par_values.specs.Reasons.{Spot, is_of}
 use Rattle.par_stack.specs.Frames.{running}
-use Rattle.par_steps.specs.Classes.{class_names, exceptions}
-use Rattle.par_steps.specs.Links.{link_at}
-use Rattle.par_steps.specs.State.{entered}
-use Rattle.par_steps.specs.Step.{areas_of, done_by, spot, reason_against, moved, state_with, offset}
-use Rattle.par_actions.specs.declared.done.Done.{Done}
-use Rattle.par_actions.specs.declared.done.Done.TheVariants as done
-use Rattle.par_actions.specs.Done.{IsDone, is_still}
+use Rattle.par_method_area.specs.par_steps.Classes.{class_names, exceptions}
+use Rattle.par_method_area.specs.par_steps.Links.{link_at}
+use Rattle.par_method_area.specs.par_steps.State.{entered}
+use Rattle.par_method_area.specs.par_steps.Step.{areas_of, done_by, spot, reason_against, moved}
+use Rattle.par_method_area.specs.par_steps.Step.{state_with, offset}
+use Rattle.par_method_area.specs.par_actions.declared.done.Done.{Done}
+use Rattle.par_method_area.specs.par_actions.declared.done.Done.TheVariants as done
+use Rattle.par_method_area.specs.par_actions.Done.{IsDone, is_still}
 use Rattle.par_machine.specs.Frames.{code_of, gives, Stands}
 use Rattle.par_single.specs.Walk.{starts_at, stands_at}
 use Rattle.par_starts.specs.Standing.{reach_of}

@@ -4,15 +4,16 @@ use Rattle.par_class.specs.declared.file.ClassFile.{ClassFile}
 use Rattle.par_values.specs.declared.value.MVal.{MVal}
 use Rattle.par_values.specs.Areas.{Areas, class_named}
 use Rattle.par_values.specs.Effects.{ThrowsObject}
-use Rattle.par_steps.specs.Classes.{class_names}
-use Rattle.par_steps.specs.Handlers.{caught, is_lost, is_roomless}
-use Rattle.par_steps.specs.Methods.{method_name}
-use Rattle.par_steps.specs.State.{Frame}
-use Rattle.par_steps.specs.Step.{Turn, IsBad, handlers, number_of_class, thrown_class, throws}
-use Rattle.par_steps.specs.Step.{throws_next}
+use Rattle.par_method_area.specs.par_steps.Classes.{class_names}
+use Rattle.par_method_area.specs.par_steps.Handlers.{caught, is_lost, is_roomless}
+use Rattle.par_method_area.specs.par_steps.Methods.{method_name}
+use Rattle.par_method_area.specs.par_steps.State.{Frame}
+use Rattle.par_method_area.specs.par_steps.Step.{Turn, IsBad, handlers, number_of_class}
+use Rattle.par_method_area.specs.par_steps.Step.{thrown_class, throws}
+use Rattle.par_method_area.specs.par_steps.Step.{throws_next}
 use Rattle.par_stack.specs.declared.point.Point.{Point}
 use Rattle.par_stack.specs.Frames as stack
-use Rattle.par_actions.specs.Done.{lesser}
+use Rattle.par_method_area.specs.par_actions.Done.{lesser}
 use Rattle.par_unwinding.specs.Shown.{frames_of}
 use Rattle.par_unwinding.specs.Landing.{Lands}
 use Rattle.par_unwinding.specs.declared.unwinding.Landing.{Landing}

@@ -7,8 +7,10 @@ ghost use Rattle.par_machine.specs.Site.{IsThere, IsPerformed, IsNumberSite};
 
 use crate::running::Running;
 use crate::site::Site;
-use par_actions::{Done, get_field, get_static, misnamed, misnamed_read, push_number};
 use par_method_area::MethodArea;
+use par_method_area::par_actions::{
+    Done, get_field, get_static, misnamed, misnamed_read, push_number,
+};
 
 impl Running {
     /// Pushes the number that an index is.

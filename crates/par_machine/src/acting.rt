@@ -5,14 +5,14 @@ ghost use Rattle.par_values.specs.Areas.{Name, Areas};
 ghost use Rattle.par_values.specs.declared.link.Link.{Link};
 ghost use Rattle.par_values.specs.Operations.{operation};
 ghost use Rattle.par_values.specs.Reasons.{Spot};
-ghost use Rattle.par_actions.specs.Done.{IsRoomy, Comes};
-ghost use Rattle.par_actions.specs.Leaving.{HasResult};
-ghost use Rattle.par_steps.specs.Classes.{exceptions};
+ghost use Rattle.par_method_area.specs.par_actions.Done.{IsRoomy, Comes};
+ghost use Rattle.par_method_area.specs.par_actions.Leaving.{HasResult};
+ghost use Rattle.par_method_area.specs.par_steps.Classes.{exceptions};
 ghost use Rattle.par_machine.specs.Instructions.{is_departure};
 
-use par_actions::{Done, Gives, leave, leave_number, leave_object, throw};
 use par_instr::Instr;
 use par_method_area::MethodArea;
+use par_method_area::par_actions::{Done, Gives, leave, leave_number, leave_object, throw};
 use par_stack::Stack;
 
 /// Leaves its method, which gives this, by a return or a throw.

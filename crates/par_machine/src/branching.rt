@@ -5,11 +5,13 @@ ghost use Rattle.par_values.specs.Areas.{Name, Areas};
 ghost use Rattle.par_values.specs.declared.link.Link.{Link};
 ghost use Rattle.par_values.specs.Operations.{operation};
 ghost use Rattle.par_values.specs.Reasons.{Spot};
-ghost use Rattle.par_actions.specs.Done.{IsAtFork, Comes, Keeps, is_still};
+ghost use Rattle.par_method_area.specs.par_actions.Done.{IsAtFork, Comes, Keeps, is_still};
 ghost use Rattle.par_machine.specs.Instructions.{is_branch};
 
-use par_actions::{Done, Ways, jump, jump_if, jump_if_both, jump_if_null, jump_if_same};
 use par_instr::Instr;
+use par_method_area::par_actions::{
+    Done, Ways, jump, jump_if, jump_if_both, jump_if_null, jump_if_same,
+};
 use par_stack::Stack;
 
 /// Branches, or goes on behind.

@@ -3,7 +3,7 @@
 ghost use Rattle.std.specs.Prelude.{◌≡◌, ◌≤◌, ◌+◌, ℕ, true, false, length, MatchOption};
 ghost use Rattle.par_heap.specs.Heap.{objects_of};
 ghost use Rattle.par_stack.specs.Frames.{running};
-ghost use Rattle.par_steps.specs.Step.{turn};
+ghost use Rattle.par_method_area.specs.par_steps.Step.{turn};
 ghost use Rattle.par_machine.specs.Frames.{code_of};
 ghost use Rattle.par_machine.specs.Quiet.{is_loud, AreRows, IsSameMethod, GoesOn, IsTried};
 ghost use Rattle.par_machine.specs.Running.{state_in, IsSound};
@@ -13,12 +13,12 @@ ghost use Rattle.par_machine.specs.Site.{IsThere, IsPerformed};
 use crate::running::Running;
 use crate::settling::target;
 use crate::site::Site;
-use par_actions::{
+use par_instr::Instr;
+use par_method_area::MethodArea;
+use par_method_area::par_actions::{
     Done, Operator, combine, copy, discard, increase, load_number, load_object, negate, push_null,
     push_number, store_number, store_object,
 };
-use par_instr::Instr;
-use par_method_area::MethodArea;
 use par_stack::Point;
 use par_starts::{Standing, distance, standing_at};
 

@@ -25,3 +25,5 @@ mod throwing;
 pub mod turn;
 mod working;
 mod writing;
+
+pub use par_method_area::par_steps;

@@ -8,8 +8,8 @@ use crate::running::Running;
 use crate::starting::begin;
 use crate::turn::{Stuck, Turn};
 use par_lexer::list::NoMemory;
-use par_link::Linked;
 use par_method_area::MethodArea;
+use par_method_area::par_link::Linked;
 use par_values::inputs::Inputs;
 use par_values::value::MVal;
 use std::alloc::Global;
@@ -32,9 +32,9 @@ pub struct Machine {
 impl Machine {
     ghost use Rattle.std.specs.Prelude.{◌≡◌, ◌<◌, ◌≤◌, ◌+◌, ◌⊎◌, true, IfOk, IsErrOf, IsSome};
     ghost use Rattle.std.specs.Prelude.{IsTrue, slice_get};
-    ghost use Rattle.par_steps.specs.State.{start, main_place};
-    ghost use Rattle.par_steps.specs.Step.{turn};
-    ghost use Rattle.par_steps.specs.Places.{all_places};
+    ghost use Rattle.par_method_area.specs.par_steps.State.{start, main_place};
+    ghost use Rattle.par_method_area.specs.par_steps.Step.{turn};
+    ghost use Rattle.par_method_area.specs.par_steps.Places.{all_places};
     ghost use Rattle.par_machine.specs.Machine.{files_of, state_of, steps_of, is_asking_at};
     ghost use Rattle.par_machine.specs.Quiet.{GoesOn};
     ghost use Rattle.par_machine.specs.Turn.{IsTurn, MakesOrTells, is_over};

@@ -8,9 +8,9 @@ ghost use Rattle.par_machine.specs.Site.{IsThere, IsPerformed};
 
 use crate::running::Running;
 use crate::site::Site;
-use par_actions::{Done, create, misnamed};
 use par_lexer::list::NoMemory;
 use par_method_area::MethodArea;
+use par_method_area::par_actions::{Done, create, misnamed};
 
 impl Running {
     /// Makes an object of the class that an index names.

@@ -13,10 +13,10 @@ use crate::branching::branch;
 use crate::running::Running;
 use crate::site::Site;
 use crate::working::work;
-use par_actions::{Done, Ways};
 use par_instr::Instr;
 use par_lexer::list::NoMemory;
 use par_method_area::MethodArea;
+use par_method_area::par_actions::{Done, Ways};
 
 impl Running {
     /// Works on the frame that runs alone.

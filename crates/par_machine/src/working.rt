@@ -5,14 +5,14 @@ ghost use Rattle.par_values.specs.Areas.{Name, Areas};
 ghost use Rattle.par_values.specs.declared.link.Link.{Link};
 ghost use Rattle.par_values.specs.Operations.{operation};
 ghost use Rattle.par_values.specs.Reasons.{Spot};
-ghost use Rattle.par_actions.specs.Done.{IsAt, Comes, Keeps, is_still};
+ghost use Rattle.par_method_area.specs.par_actions.Done.{IsAt, Comes, Keeps, is_still};
 ghost use Rattle.par_machine.specs.Instructions.{is_work, is_arithmetic};
 
-use par_actions::{
+use par_instr::Instr;
+use par_method_area::par_actions::{
     Done, Operator, combine, copy, discard, increase, load_number, load_object, negate, push_null,
     push_number, store_number, store_object,
 };
-use par_instr::Instr;
 use par_stack::Stack;
 
 /// Makes one number of two.

@@ -7,8 +7,8 @@ ghost use Rattle.par_machine.specs.Site.{IsThere, IsPerformed, unless_lock};
 
 use crate::running::Running;
 use crate::site::Site;
-use par_actions::{Done, misnamed, misnamed_write, put_field, put_static};
 use par_method_area::MethodArea;
+use par_method_area::par_actions::{Done, misnamed, misnamed_write, put_field, put_static};
 
 /// A write to a lock's field is not told.
 fn unless_lock(is_lock: bool, done: Done) -> Done

@@ -1,16 +1,16 @@
 -- When the machine's run from a turn on shows a run of the source.
 use Rattle.std.proofs.Common.{◌≡◌, ℕ, zero, suc, ◌+◌, ◌*◌, ◌≤◌, List, [], ◌∷◌, refl, ap, sym, ◌∙◌}
 use Rattle.std.proofs.Common.{subst, arith}
-use Rattle.par_values.specs.declared.run.Event.{Event}
-use Rattle.par_values.specs.declared.run.Ending.{Ending}
-use Rattle.par_values.specs.Ran.{Ran, Fine, ended, with_event}
-use Rattle.par_values.specs.Ran as ran
-use Rattle.par_secrecy.specs.Runs.{Run, stopped, with_first}
-use Rattle.par_secrecy.specs.Secure.{events}
-use Rattle.par_secrecy.specs.Shows.{shown_run, IsFrontOf}
-use Rattle.par_steps.specs.State.{State}
-use Rattle.par_steps.specs.Step.{Turn, Silent, Shows, Ends}
-use Rattle.par_steps.specs.Run.{followed}
+use Rattle.par_code_form.specs.par_values.declared.run.Event.{Event}
+use Rattle.par_code_form.specs.par_values.declared.run.Ending.{Ending}
+use Rattle.par_code_form.specs.par_values.Ran.{Ran, Fine, ended, with_event}
+use Rattle.par_code_form.specs.par_values.Ran as ran
+use Rattle.par_engine.specs.par_secrecy.Runs.{Run, stopped, with_first}
+use Rattle.par_engine.specs.par_secrecy.Secure.{events}
+use Rattle.par_engine.specs.par_secrecy.Shows.{shown_run, IsFrontOf}
+use Rattle.par_engine.specs.par_steps.State.{State}
+use Rattle.par_engine.specs.par_steps.Step.{Turn, Silent, Shows, Ends}
+use Rattle.par_engine.specs.par_steps.Run.{followed}
 use Rattle.par_engine.specs.Engine.{Program, turn, run}
 
 abbrev pub Told : Type 0

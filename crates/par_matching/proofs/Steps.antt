@@ -5,30 +5,33 @@ use Rattle.std.proofs.Common.{length, drop, Option, Some, None, refl, ap, sym, �
 use Rattle.std.specs.Prelude.{pos, ◌+ℤ◌, ◌-ℤ◌, ◌==◌}
 use Rattle.std.proofs.lemmas.Bool.{le-ltb, ne_eqb}
 use Rattle.std.specs.Prelude.{neg_ℤ, if◌then◌else◌, is_none}
-use Rattle.par_values.specs.declared.kind.Kind.{Kind}
-use Rattle.par_single.specs.Links.{kind_or_any}
+use Rattle.par_code_form.specs.par_values.declared.kind.Kind.{Kind}
+use Rattle.par_engine.specs.par_single.Links.{kind_or_any}
 use Rattle.std.proofs.Math.IntN.{+ℤ_comm, +ℤ_assoc, +ℤ_invl, +ℤ_idr}
-use Rattle.par_values.specs.declared.value.MVal.{MVal}
-use Rattle.par_values.specs.declared.value.MVal.TheVariants.{Ref}
-use Rattle.par_values.specs.declared.run.Event.{Event}
-use Rattle.par_values.specs.Areas.{Name, Areas}
-use Rattle.par_values.specs.Operations.{Operation, takes, gives}
-use Rattle.par_values.specs.Reasons.{Spot, reasons, reason, least_from, lacks, misgiven, unfit}
-use Rattle.par_values.specs.Reasons.{throws, exceeds, misplaced, falls, misnamed, disagrees}
-use Rattle.par_values.specs.Reasons.{all_fit}
-use Rattle.par_values.specs.Reasons.{misreturns, misused}
-use Rattle.par_values.specs.Effects.{Goes, Happens, Jumps, Calls, Throws, ThrowsObject, Returns}
-use Rattle.par_values.specs.Effects.{ReturnsWith, effect}
-use Rattle.par_steps.specs.State.{Frame, State}
-use Rattle.par_steps.specs.Step.{Silent, Shows, without_locks, state_with, offset, or_2}
+use Rattle.par_code_form.specs.par_values.declared.value.MVal.{MVal}
+use Rattle.par_code_form.specs.par_values.declared.value.MVal.TheVariants.{Ref}
+use Rattle.par_code_form.specs.par_values.declared.run.Event.{Event}
+use Rattle.par_code_form.specs.par_values.Areas.{Name, Areas}
+use Rattle.par_code_form.specs.par_values.Operations.{Operation, takes, gives}
+use Rattle.par_code_form.specs.par_values.Reasons.{Spot, reasons, reason, least_from, lacks}
+use Rattle.par_code_form.specs.par_values.Reasons.{misgiven, unfit}
+use Rattle.par_code_form.specs.par_values.Reasons.{throws, exceeds, misplaced, falls, misnamed}
+use Rattle.par_code_form.specs.par_values.Reasons.{disagrees}
+use Rattle.par_code_form.specs.par_values.Reasons.{all_fit}
+use Rattle.par_code_form.specs.par_values.Reasons.{misreturns, misused}
+use Rattle.par_code_form.specs.par_values.Effects.{Goes, Happens, Jumps, Calls, Throws}
+use Rattle.par_code_form.specs.par_values.Effects.{ThrowsObject, Returns}
+use Rattle.par_code_form.specs.par_values.Effects.{ReturnsWith, effect}
+use Rattle.par_engine.specs.par_steps.State.{Frame, State}
+use Rattle.par_engine.specs.par_steps.Step.{Silent, Shows, without_locks, state_with, offset, or_2}
 use Rattle.par_engine.specs.Engine.{Found, Program, turn, applied, done_by, spot, decided, turn_at}
 use Rattle.par_engine.specs.Engine.{reason_against, caught}
 use Rattle.par_engine.specs.Engine as gen
 use Rattle.par_code_form.specs.declared.item.Item.{Item}
 use Rattle.par_code_form.specs.declared.item.Item.TheVariants.{Label, Op, Const, Jump, Member}
 use Rattle.par_code_form.specs.declared.item.Item.TheVariants.{ClassOp, LockOp}
-use Rattle.par_values.specs.Areas.{first_locals}
-use Rattle.par_steps.specs.State.{entered}
+use Rattle.par_code_form.specs.par_values.Areas.{first_locals}
+use Rattle.par_engine.specs.par_steps.State.{entered}
 use Rattle.par_matching.specs.Labelled.{calls, Labelled, Naming, lead, skip, target, found, silent}
 use Rattle.par_matching.specs.Labelled.{is_there, stands, of_labelled}
 use Rattle.par_matching.specs.Labelled as labelled
@@ -167,7 +170,7 @@ caught_found p sound x (f ∷ fs) =
     pick (caught_found p sound x fs) (p.handler x f.class f.method f.at) refl
   where
     pick : IsFound p (caught p x fs) → (o : Option ℕ) → p.handler x f.class f.method f.at ≡ o
-        → IsFound p (Rattle.par_steps.specs.Handlers.caught_by o f fs (caught p x fs))
+        → IsFound p (Rattle.par_engine.specs.par_steps.Handlers.caught_by o f fs (caught p x fs))
     pick g None e = g
     pick g (Some to) e = let h = sound x f.class f.method f.at to e in
         (ap not h.0, positive _ h.1)
@@ -444,7 +447,7 @@ module _ (env : Naming) (codes : ℕ → ℕ → Labelled) (mname : ℕ → ℕ 
           → Here code p (x ∷ xs)
           → found env code.items p (x ∷ xs) ≡ silent o (suc (lead xs)) → Can o a
           → effect env.names o a ≡ ThrowsObject (Ref c n)
-          → Rattle.par_values.specs.Reasons.is_of env.exceptions (Ref c n) ≡ true
+          → Rattle.par_code_form.specs.par_values.Reasons.is_of env.exceptions (Ref c n) ≡ true
           → turn P (here p a) ≡ gen.throws P (Ref c n) (Some c) (frame p a ∷ fs) a
       object_turn p x xs o a c n h f can e is =
           let g = caught_found P sound c (frame p a ∷ fs) in

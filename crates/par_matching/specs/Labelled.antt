@@ -7,16 +7,19 @@ use Rattle.par_code_form.specs.declared.item.Item.{Item}
 use Rattle.par_code_form.specs.declared.item.Item.TheVariants.{Label, Op, Const, Jump, Member}
 use Rattle.par_code_form.specs.declared.item.Item.TheVariants.{ClassOp, LockOp}
 use Rattle.par_code_form.specs.declared.labelled.Handler.{Handler}
-use Rattle.par_values.specs.declared.kind.Kind.{Kind}
-use Rattle.par_values.specs.declared.kind.Kind.TheVariants.{Anything, AnyObject}
-use Rattle.par_values.specs.declared.link.Link.{Link}
-use Rattle.par_values.specs.declared.link.Link.TheVariants as link
-use Rattle.par_values.specs.Areas.{Name}
-use Rattle.par_values.specs.Operations.{Operation, operation, of_field, of_method, of_class}
-use Rattle.par_values.specs.Operations.{Misnamed}
-use Rattle.par_values.specs.Operations.{Push, Jump as Goes_to, JumpIf, JumpIfBoth, JumpIfSame}
-use Rattle.par_values.specs.Operations.{JumpIfNull, GetStatic, PutStatic, GetField, PutField}
-use Rattle.par_values.specs.Operations.{InvokeStatic, InvokeSpecial, InvokeVirtual}
+use Rattle.par_code_form.specs.par_values.declared.kind.Kind.{Kind}
+use Rattle.par_code_form.specs.par_values.declared.kind.Kind.TheVariants.{Anything, AnyObject}
+use Rattle.par_code_form.specs.par_values.declared.link.Link.{Link}
+use Rattle.par_code_form.specs.par_values.declared.link.Link.TheVariants as link
+use Rattle.par_code_form.specs.par_values.Areas.{Name}
+use Rattle.par_code_form.specs.par_values.Operations.{Operation, operation, of_field, of_method}
+use Rattle.par_code_form.specs.par_values.Operations.{of_class}
+use Rattle.par_code_form.specs.par_values.Operations.{Misnamed}
+use Rattle.par_code_form.specs.par_values.Operations.{Push, Jump as Goes_to, JumpIf, JumpIfBoth}
+use Rattle.par_code_form.specs.par_values.Operations.{JumpIfSame}
+use Rattle.par_code_form.specs.par_values.Operations.{JumpIfNull, GetStatic, PutStatic, GetField}
+use Rattle.par_code_form.specs.par_values.Operations.{PutField}
+use Rattle.par_code_form.specs.par_values.Operations.{InvokeStatic, InvokeSpecial, InvokeVirtual}
 use Rattle.par_engine.specs.Engine.{Found, Program}
 
 -- the code of a method, and the kind of what the method gives

@@ -1,10 +1,12 @@
 -- The broken rules on names of each form of an expression.
 use Rattle.std.proofs.Common.{◌≡◌, ℕ, Bool, ◌++◌, List, [], Option, Some, None, refl}
-use Rattle.par_lexer.specs.declared.operator.BinOp.{BinOp}
+use Rattle.par_index.specs.par_lexer.declared.operator.BinOp.{BinOp}
 use Rattle.par_tree.specs.declared.ident.Ident.{Ident}
-use Rattle.par_tree.specs.Plain.{Exp, Int, True, False, Null, This, New, Name, Field, Call, Neg}
+use Rattle.par_tree.specs.Plain.{Exp, Int, True, False, Null, This, New, Name, Field}
+use Rattle.par_tree.specs.Plain.{Call, Neg}
 use Rattle.par_tree.specs.Plain.{Not, Binary}
-use Rattle.par_tree.specs.Plain.{Exps, NoExps, More, MayExp, Absent, Present, Class, place}
+use Rattle.par_tree.specs.Plain.{Exps, NoExps, More, MayExp, Absent, Present, Class}
+use Rattle.par_tree.specs.Plain.{place}
 use Rattle.par_tree.proofs.Shown.{shows}
 use Rattle.par_typed.specs.declared.refusal.Refusal.{Refusal}
 use Rattle.par_typed.specs.First.{when, broken}

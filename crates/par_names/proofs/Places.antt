@@ -11,7 +11,8 @@ use Rattle.par_tree.specs.declared.types.TypeTree.TheVariants as type
 use Rattle.par_tree.specs.declared.policy.LockTree.{LockTree}
 use Rattle.par_tree.specs.declared.policy.ClauseTree.{ClauseTree}
 use Rattle.par_tree.specs.declared.policy.PolicyTerm.{PolicyTerm}
-use Rattle.par_tree.specs.declared.policy.PolicyTerm.TheVariants.{Clauses, Named, Bottom, Top}
+use Rattle.par_tree.specs.declared.policy.PolicyTerm.TheVariants.{Clauses, Named, Bottom}
+use Rattle.par_tree.specs.declared.policy.PolicyTerm.TheVariants.{Top}
 use Rattle.par_tree.specs.declared.policy.PolicyExpr.{PolicyExpr}
 use Rattle.par_tree.specs.declared.decl.FieldDecl.{FieldDecl}
 use Rattle.par_tree.specs.declared.decl.ChannelDecl.{ChannelDecl}
@@ -20,8 +21,10 @@ use Rattle.par_tree.specs.declared.decl.ThrowDecl.{ThrowDecl}
 use Rattle.par_tree.specs.declared.decl.LockDecl.{LockDecl}
 use Rattle.par_tree.specs.declared.decl.PolicyDecl.{PolicyDecl}
 use Rattle.par_tree.specs.Plain as plain
-use Rattle.par_tree.specs.Plain.{Exp, Exps, MayExp, Sta, Stas, Braces, In, MayBraces, Else, Catches}
-use Rattle.par_tree.specs.Plain.{Catch, NoCatch, Handler, On, Local, Method, Class, Declaration}
+use Rattle.par_tree.specs.Plain.{Exp, Exps, MayExp, Sta, Stas, Braces, In, MayBraces}
+use Rattle.par_tree.specs.Plain.{Else, Catches}
+use Rattle.par_tree.specs.Plain.{Catch, NoCatch, Handler, On, Local, Method, Class}
+use Rattle.par_tree.specs.Plain.{Declaration}
 use Rattle.par_tree.specs.Plain.{Source, place}
 use Rattle.par_typed.specs.declared.refusal.Refusal.{Refusal}
 use Rattle.par_places.specs.Within.{IdentIn, AreIn, TypeIn, ResultIn, LockIn, LocksIn, ClauseIn}

@@ -3,10 +3,13 @@ use Rattle.std.proofs.Common.{◌≡◌, ℕ, ◌≤◌, ◌++◌, List, [], len
 use Rattle.std.proofs.lemmas.List.{take-append-le, length-take}
 use Rattle.par_tree.specs.declared.ident.Ident.{Ident}
 use Rattle.par_tree.specs.declared.policy.LockTree.{LockTree}
-use Rattle.par_tree.specs.Plain.{Exp, MayExp, Local, Sta, Block, If, While, Try, Return, Break}
+use Rattle.par_tree.specs.Plain.{Exp, MayExp, Local, Sta, Block, If, While, Try, Return}
+use Rattle.par_tree.specs.Plain.{Break}
 use Rattle.par_tree.specs.Plain.{Continue, Throw, Open, Close}
-use Rattle.par_tree.specs.Plain.{Declare, Assign, Do, When, Braces, In, MayBraces, NoBraces, Some}
-use Rattle.par_tree.specs.Plain.{Else, NoElse, Otherwise, Stas, End, Then, Catches, NoCatch, Catch}
+use Rattle.par_tree.specs.Plain.{Declare, Assign, Do, When, Braces, In, MayBraces}
+use Rattle.par_tree.specs.Plain.{NoBraces, Some}
+use Rattle.par_tree.specs.Plain.{Else, NoElse, Otherwise, Stas, End, Then, Catches}
+use Rattle.par_tree.specs.Plain.{NoCatch, Catch}
 use Rattle.par_tree.specs.Plain.{Handler, On}
 use Rattle.par_tree.proofs.Shown.{shows, doings}
 use Rattle.par_typed.proofs.First.{firsts}

@@ -6,7 +6,8 @@ use Rattle.std.specs.Str.{bytes_eq}
 use Rattle.par_tree.specs.declared.ident.Ident.{Ident}
 use Rattle.par_tree.specs.declared.decl.LockDecl.{LockDecl}
 use Rattle.par_tree.specs.declared.decl.PolicyDecl.{PolicyDecl}
-use Rattle.par_tree.specs.Plain.{Class, Declaration, Source, Actors, Lock, Policy, Declared}
+use Rattle.par_tree.specs.Plain.{Class, Declaration, Source, Actors, Lock, Policy}
+use Rattle.par_tree.specs.Plain.{Declared}
 use Rattle.par_typed.specs.declared.refusal.Refusal.{Refusal}
 use Rattle.par_typed.specs.First.{when, broken}
 

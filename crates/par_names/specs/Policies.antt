@@ -9,7 +9,8 @@ use Rattle.par_tree.specs.declared.types.TypeTree.TheVariants as type
 use Rattle.par_tree.specs.declared.policy.LockTree.{LockTree}
 use Rattle.par_tree.specs.declared.policy.ClauseTree.{ClauseTree}
 use Rattle.par_tree.specs.declared.policy.PolicyTerm.{PolicyTerm}
-use Rattle.par_tree.specs.declared.policy.PolicyTerm.TheVariants.{Clauses, Named, Bottom, Top}
+use Rattle.par_tree.specs.declared.policy.PolicyTerm.TheVariants.{Clauses, Named, Bottom}
+use Rattle.par_tree.specs.declared.policy.PolicyTerm.TheVariants.{Top}
 use Rattle.par_tree.specs.declared.policy.PolicyExpr.{PolicyExpr}
 use Rattle.par_tree.specs.declared.decl.LockDecl.{LockDecl}
 use Rattle.par_tree.specs.Plain.{Class}

@@ -4,7 +4,8 @@ use Rattle.std.specs.Prelude.{length, drop, codes}
 use Rattle.std.specs.Option.{is_none}
 use Rattle.std.specs.List.{filter}
 use Rattle.std.specs.Str.{bytes_eq}
-use Rattle.par_tree.specs.Plain.{Method, Declaration, Source, Actors, Lock, Policy, Declared}
+use Rattle.par_tree.specs.Plain.{Method, Declaration, Source, Actors, Lock, Policy}
+use Rattle.par_tree.specs.Plain.{Declared}
 use Rattle.par_typed.specs.declared.refusal.Refusal.{Refusal}
 use Rattle.par_typed.specs.First.{when, broken}
 use Rattle.par_names.specs.Declarations.{actors, locks, policies, policies_in, classes, doubles}

@@ -2,7 +2,8 @@
 
 ghost use Rattle.std.specs.Prelude.{◌≡◌, ◌++◌, ◌∷◌, [], map, take, length, OnOk};
 ghost use Rattle.par_tree.specs.Shown as tree;
-ghost use Rattle.par_tree.specs.Shown.{does, braces, otherwise, may_braces, all_do, all_catch};
+ghost use Rattle.par_tree.specs.Shown.{does, braces, otherwise, may_braces, all_do};
+ghost use Rattle.par_tree.specs.Shown.{all_catch};
 ghost use Rattle.par_tree.specs.Shown.{handler, shown};
 ghost use Rattle.par_typed.specs.First.{first_of};
 ghost use Rattle.par_names.specs.Declarations.{doubles};
@@ -18,7 +19,7 @@ use crate::policy::{check_class, check_lock, check_may_policy, check_type};
 use crate::rule::SECOND_NAME;
 use crate::scope::Scope;
 use crate::view::{Home, View};
-use par_lexer::list::NoMemory;
+use par_index::par_lexer::list::NoMemory;
 use par_tree::decl::ParamDecl;
 use par_tree::expr::Expr;
 use par_tree::ident::Ident;

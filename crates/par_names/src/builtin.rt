@@ -1,12 +1,12 @@
 //! The classes that every program has.
 
 ghost use Rattle.std.specs.Prelude.{◌≡◌, map, IfOk};
-ghost use Rattle.par_lexer.specs.Names.{IsName};
+ghost use Rattle.par_index.specs.par_lexer.Names.{IsName};
 ghost use Rattle.par_tree.specs.Shown.{class_of};
 ghost use Rattle.par_names.specs.Declarations.{builtin, builtins};
 
-use par_lexer::list::{List, NoMemory};
-use par_lexer::name::Name;
+use par_index::par_lexer::list::{List, NoMemory};
+use par_index::par_lexer::name::Name;
 use par_tree::decl::ClassDecl;
 use par_tree::ident::Ident;
 use std::alloc::Global;

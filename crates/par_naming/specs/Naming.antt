@@ -1,18 +1,18 @@
 -- Labelled code among linked class files: what names are to its instructions. A class stands under
 -- its simple name there.
 use Rattle.std.specs.Prelude.{ℕ, List}
-use Rattle.par_class.specs.declared.file.ClassFile.{ClassFile}
+use Rattle.par_placed_code.specs.par_class.declared.file.ClassFile.{ClassFile}
 use Rattle.par_values.specs.declared.link.Link.{Link}
 use Rattle.par_values.specs.declared.link.Link.TheVariants as link
 use Rattle.par_values.specs.Areas.{Name}
-use Rattle.par_single.specs.Links.{signature_said}
-use Rattle.par_single.specs.Members.{Member}
-use Rattle.par_link.specs.Named.{class_named, field_declared, method_declared}
-use Rattle.par_steps.specs.Classes.{class_names, exceptions, exception_named}
-use Rattle.par_steps.specs.Links.{link_of, lock_link}
-use Rattle.par_steps.specs.Methods.{method_descriptor}
-use Rattle.par_engine.specs.Files.{is_of_exceptions}
-use Rattle.par_code_form.specs.declared.labelled.Labelled.{Labelled}
+use Rattle.par_matching.specs.par_single.Links.{signature_said}
+use Rattle.par_matching.specs.par_single.Members.{Member}
+use Rattle.par_matching.specs.par_link.Named.{class_named, field_declared, method_declared}
+use Rattle.par_matching.specs.par_steps.Classes.{class_names, exceptions, exception_named}
+use Rattle.par_matching.specs.par_steps.Links.{link_of, lock_link}
+use Rattle.par_matching.specs.par_steps.Methods.{method_descriptor}
+use Rattle.par_matching.specs.par_engine.Files.{is_of_exceptions}
+use Rattle.par_placed_code.specs.par_code_form.declared.labelled.Labelled.{Labelled}
 use Rattle.par_matching.specs.Labelled.{Naming}
 use Rattle.par_matching.specs.Labelled as matching
 use Rattle.par_placed_code.specs.Named.{full_name}

@@ -9,9 +9,11 @@ use Rattle.par_typed.specs.declared.expr.TExpr.{TExpr}
 use Rattle.par_typed.specs.declared.expr.TExprKind.{TExprKind}
 use Rattle.par_typed.specs.declared.expr.TExprKind.TheVariants as expr
 use Rattle.par_typed.specs.Shown.{shown, all_shown, kind_at, receiver}
-use Rattle.par_typed.proofs.Shown.{shown_int, shown_bool, shown_null, shown_this, shown_new}
+use Rattle.par_typed.proofs.Shown.{shown_int, shown_bool, shown_null, shown_this}
+use Rattle.par_typed.proofs.Shown.{shown_new}
 use Rattle.par_typed.proofs.Shown.{shown_local, shown_static, shown_field, shown_input}
-use Rattle.par_typed.proofs.Shown.{shown_output, shown_call, shown_neg, shown_not, shown_binary}
+use Rattle.par_typed.proofs.Shown.{shown_output, shown_call, shown_neg, shown_not}
+use Rattle.par_typed.proofs.Shown.{shown_binary}
 use Rattle.par_rules.specs.Kinds.{Next}
 use Rattle.par_rules.specs.Declares.{Declares}
 use Rattle.par_rules.specs.Rules.{From, Entry, Given, Held, Value, node, Rules, Done, Part}

@@ -9,10 +9,13 @@ use Rattle.par_typed.specs.declared.stmt.TStmt.{TStmt}
 use Rattle.par_typed.specs.declared.stmt.TCatch.{TCatch}
 use Rattle.par_typed.specs.declared.stmt.TStmtKind.{TStmtKind}
 use Rattle.par_typed.specs.declared.stmt.TStmtKind.TheVariants as stmt
-use Rattle.par_typed.specs.Shown.{shown, may_shown, does, does_at, otherwise, all_do, all_catch}
+use Rattle.par_typed.specs.Shown.{shown, may_shown, does, does_at, otherwise, all_do}
+use Rattle.par_typed.specs.Shown.{all_catch}
 use Rattle.par_typed.proofs.Shown.{does_block, does_if, does_while, does_try, does_return}
-use Rattle.par_typed.proofs.Shown.{does_break, does_continue, does_throw, does_open, does_close}
-use Rattle.par_typed.proofs.Shown.{does_set_local, does_set_static, does_set_field, does_eval}
+use Rattle.par_typed.proofs.Shown.{does_break, does_continue, does_throw, does_open}
+use Rattle.par_typed.proofs.Shown.{does_close}
+use Rattle.par_typed.proofs.Shown.{does_set_local, does_set_static, does_set_field}
+use Rattle.par_typed.proofs.Shown.{does_eval}
 use Rattle.par_typed.proofs.Shown.{does_when}
 use Rattle.par_rules.specs.Kinds as kinds
 use Rattle.par_rules.specs.Kinds.{Next, Normal, Loop, Catches}

@@ -1,6 +1,6 @@
 -- What the tree of nodes and rules means.
 use Rattle.std.specs.Prelude.{ℕ, Option, Some, None}
-use Rattle.par_policy.specs.Numbers.{has}
+use Rattle.par_rules.specs.par_policy.Numbers.{has}
 use Rattle.par_bits.specs.Sets.{none, adding}
 use Rattle.par_rules.specs.Kinds as kinds
 use Rattle.par_rules.specs.Rules as plain

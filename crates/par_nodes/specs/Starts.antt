@@ -1,6 +1,7 @@
 -- Parts in a row, and the parts of a call.
 use Rattle.std.specs.Prelude.{ℕ, zero, suc, cond}
-use Rattle.par_typed.specs.Plain.{MayTExp, Absent, Present, TExps, MayTSta, NoElse, Otherwise}
+use Rattle.par_typed.specs.Plain.{MayTExp, Absent, Present, TExps, MayTSta, NoElse}
+use Rattle.par_typed.specs.Plain.{Otherwise}
 use Rattle.par_rules.specs.Kinds as kinds
 use Rattle.par_rules.specs.Kinds.{Next}
 use Rattle.par_rules.specs.Declares.{Declares, Method}

@@ -1,7 +1,7 @@
 //! What a called method does.
 
 ghost use Rattle.std.specs.Prelude.{◌≡◌, IfOk, None, Some};
-ghost use Rattle.par_policy.specs.Numbers.{has};
+ghost use Rattle.par_rules.specs.par_policy.Numbers.{has};
 ghost use Rattle.par_rules.specs.Declares.{declares, method_of, throws_of};
 ghost use Rattle.par_rules.specs.Kinds as kinds;
 ghost use Rattle.par_rules.specs.Rules as plain;
@@ -12,7 +12,7 @@ use crate::draft::Draft;
 use crate::rule::{Kind, Locks, Origin, Start, Worth};
 use crate::{declared, make};
 use par_lexer::list::NoMemory;
-use par_policy::Lockset;
+use par_rules::par_policy::Lockset;
 use par_typed::table::{MethodInfo, Table, ThrowInfo};
 use std::alloc::Global;
 

@@ -15,3 +15,6 @@ mod make;
 pub mod possible;
 pub mod rule;
 pub mod stmt;
+
+pub use par_rules;
+pub use par_rules::par_typed;

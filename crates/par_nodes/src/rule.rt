@@ -1,7 +1,7 @@
 //! Nodes and their rules.
 
 use par_lexer::list::List;
-use par_policy::Lockset;
+use par_rules::par_policy::Lockset;
 
 /// How an expression or a statement completes.
 #[derive(Clone, Copy)]

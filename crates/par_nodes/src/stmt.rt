@@ -1,7 +1,8 @@
 //! Nodes of statements.
 
 ghost use Rattle.std.specs.Prelude.{◌≡◌, IfOk};
-ghost use Rattle.par_typed.specs.Shown.{all_catch, all_do, does, may_shown, otherwise, shown};
+ghost use Rattle.par_typed.specs.Shown.{all_catch, all_do, does, may_shown, otherwise};
+ghost use Rattle.par_typed.specs.Shown.{shown};
 ghost use Rattle.par_bits.specs.Sets.{adding, none};
 ghost use Rattle.par_rules.specs.Declares.{declares};
 ghost use Rattle.par_rules.specs.Kinds as kinds;

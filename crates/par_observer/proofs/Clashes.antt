@@ -1,14 +1,10 @@
 -- A source has one verdict at most.
-use Rattle.std.proofs.Common.{◌≡◌, ℕ, ◌≤◌, List, [], ◌∷◌, Ok, Err, length, subst, ap, arith, refl}
+use Rattle.std.proofs.Common.{◌≡◌, ℕ, List, [], ◌∷◌, None, Ok, Err, subst, ap}
 use Rattle.std.specs.Prelude.{Contains}
 use Rattle.par_lexer.specs.declared.token.Token.{Token}
 use Rattle.par_lexer.specs.declared.token.LexError.{LexError}
 use Rattle.par_lexer.specs.Tokens as lexed
-use Rattle.par_lexer.specs.declared.token.LexError.TheVariants.{BadByte, NumberTooLarge}
-use Rattle.par_lexer.specs.declared.token.LexError.TheVariants.{OpenComment}
-use Rattle.par_lexer.specs.declared.token.LexError.TheVariants.{NameTooLong, SourceTooLong, Memory}
-use Rattle.par_lexer.specs.declared.cut.TheConstants.{LONGEST_SOURCE}
-use Rattle.par_lexer.specs.Tokens.{HasTokens, LexBroken, IsRefusal}
+use Rattle.par_lexer.specs.Tokens.{HasTokens, LexBroken}
 use Rattle.par_lexer.proofs.Cuts as cuts
 use Rattle.par_grammar.specs.Derivation.{Fault, Input, Outcome}
 use Rattle.par_grammar.proofs.Total as total
@@ -19,14 +15,24 @@ use Rattle.par_tree.specs.Values as whole
 use Rattle.par_policy.proofs.Ordered.{Contains-nil}
 use Rattle.par_typed.specs.declared.refusal.Refusal.{Refusal}
 use Rattle.par_typed.specs.declared.table.Table.{Table}
+use Rattle.par_typed.specs.declared.program.Typed.{Typed}
+use Rattle.par_typed.proofs.First.{answer_passes_on}
 use Rattle.par_typed.specs.Plain.{Body}
 use Rattle.par_resolved.specs.Resolved.{table_of}
+use Rattle.par_table.specs.par_faults.Faults.{all_faults}
+use Rattle.par_types.specs.Program.{type_faults}
 use Rattle.par_checks.specs.Verdict.{IsAccepted, IsBroken, Fails}
-use Rattle.par_straight.proofs.One.{one_cut}
-use Rattle.par_observer.specs.Straight.{HasPassed}
-use Rattle.par_observer.specs.Trees.{IsAcceptedTree, BreaksRule, has_fault, has_flow}
-use Rattle.par_observer.specs.Judgements.{Breaks, has_no_tokens, is_no_sentence, has_tree}
+use Rattle.par_observer.specs.Passes.{typing_faults}
+use Rattle.par_observer.specs.Trees.{IsAcceptedTree, IsTypedTree, BreaksRule, BreaksTyping}
+use Rattle.par_observer.specs.Trees.{has_fault, has_flow}
+use Rattle.par_observer.specs.Judgements.{BreaksAs, Breaks, has_no_tokens, is_no_sentence}
+use Rattle.par_observer.specs.Judgements.{has_tree}
 use Rattle.par_observer.specs.Judgements.{IsTreeOf, IsAcceptedSource}
+
+-- a source has one list of tokens at most
+one_cut : (source : List ℕ) (one other : List Token) → HasTokens source one
+    → HasTokens source other → one ≡ other
+one_cut source one other is was = let same = cuts.decided is was in cc
 
 -- no source has tokens and a first fault
 tokens_or_fault : (source : List ℕ) (tokens : List Token) (error : LexError)
@@ -73,31 +79,35 @@ tree_or_broken tree f is (has_flow faultless first) =
     is.accepted body first.there in
     accepted_or_flow (table_of tree) body f.rule f.at own first.breaks
 
+-- a source whose tree is not refused so is not refused so
+one_outcome : (Of : Source → Refusal → Type 0) (source : List ℕ) (tree : Source) (f : Refusal)
+    → IsTreeOf source tree → (Of tree f → ⊥) → BreaksAs Of source f → ⊥
+one_outcome Of source tree f is none (has_no_tokens error broken fault) =
+    tokens_or_fault source is.tokens error is.cut broken
+one_outcome Of source tree f is none (is_no_sentence tokens cut refused plain) =
+    let same : is.tokens ≡ tokens = one_cut source is.tokens tokens is.cut cut in
+    sentence_or_fault tokens refused.fault (subst IsSentence same (tree, is.derived))
+    refused.found
+one_outcome Of source tree f is none (has_tree other is_other breaks) =
+    let same : other ≡ tree = one_tree source other tree is_other is in
+    none (subst (λ (t : Source). Of t f) same breaks)
+
 -- no source is accepted and broken
 pub accepted_or_broken : (source : List ℕ) (f : Refusal) → IsAcceptedSource source
     → Breaks source f → ⊥
-accepted_or_broken source f is (has_no_tokens error broken fault) =
-    tokens_or_fault source is.is_tree.tokens error is.is_tree.cut broken
-accepted_or_broken source f is (is_no_sentence tokens cut refused plain) =
-    let same : is.is_tree.tokens ≡ tokens =
-    one_cut source is.is_tree.tokens tokens is.is_tree.cut cut in
-    sentence_or_fault tokens refused.fault
-    (subst IsSentence same (is.tree, is.is_tree.derived)) refused.found
-accepted_or_broken source f is (has_tree tree is_tree breaks) =
-    let same : is.tree ≡ tree = one_tree source is.tree tree is.is_tree is_tree in
-    tree_or_broken tree f (subst IsAcceptedTree same is.accepted) breaks
+accepted_or_broken source f is =
+    one_outcome BreaksRule source is.tree f is.is_tree (tree_or_broken is.tree f is.accepted)
 
--- a source at fault has no program
-pub without_tokens : (source : List ℕ) (error : LexError) → IsRefusal source error
-    → length source ≤ LONGEST_SOURCE → (error ≡ Memory → ⊥) → HasPassed source → ⊥
-without_tokens source (BadByte n) refused short fault h =
-    tokens_or_fault source h.1.tokens (BadByte n) h.1.cut refused.1
-without_tokens source (NumberTooLarge n) refused short fault h =
-    tokens_or_fault source h.1.tokens (NumberTooLarge n) h.1.cut refused.1
-without_tokens source (OpenComment n) refused short fault h =
-    tokens_or_fault source h.1.tokens (OpenComment n) h.1.cut refused.1
-without_tokens source (NameTooLong n) refused short fault h =
-    tokens_or_fault source h.1.tokens (NameTooLong n) h.1.cut refused.1
-without_tokens source (SourceTooLong n) refused short fault h =
-    omega (arith, refused.0, short)
-without_tokens source Memory refused short fault h = fault refl
+-- a source that keeps all rules up to types breaks none of them
+pub typed_or_broken : (source : List ℕ) (tree : Source) (f : Refusal) → IsTreeOf source tree
+    → typing_faults tree ≡ [] → BreaksAs BreaksTyping source f → ⊥
+typed_or_broken source tree f is none =
+    one_outcome BreaksTyping source tree f is
+    (λ first. Contains-nil f (subst (λ fs. Contains fs f) none first.among))
+
+-- it has a typed program
+pub typed_keeps : (tree : Source) (typed : Typed) → IsTypedTree tree typed
+    → typing_faults tree ≡ []
+typed_keeps tree typed is =
+    answer_passes_on (all_faults tree) (type_faults (table_of tree) tree) None is.right
+    is.typed_is.right

@@ -1,7 +1,9 @@
 -- What is said of a tree holds of its source.
-use Rattle.std.proofs.Common.{ℕ, ◌≤◌, List, [], ◌∷◌, length, arith, Result, Ok, Err}
+use Rattle.std.proofs.Common.{◌≡◌, ℕ, ◌≤◌, List, [], ◌∷◌, length, arith, Result, Ok, Err, subst}
+use Rattle.std.proofs.Common.{sym}
 use Rattle.std.specs.Prelude.{Contains}
 use Rattle.std.specs.List.{AllByRecursion}
+use Rattle.std.specs.Prelude.{IsErrAnd}
 use Rattle.std.specs.Result.{IfErr}
 use Rattle.std.proofs.lemmas.List.Elements.{recursion_from_All, All-from_recursion, All-contains}
 use Rattle.par_lexer.specs.declared.token.Token.{Token}
@@ -18,10 +20,11 @@ use Rattle.par_places.proofs.Trees.{trees_lie}
 use Rattle.par_observer.specs.declared.error.JudgeError.{JudgeError}
 use Rattle.par_observer.specs.declared.error.JudgeError.TheVariants.{Refused, Memory}
 use Rattle.par_observer.specs.Passes.{tree_faults}
-use Rattle.par_observer.specs.Trees.{IsTreeRefused, BreaksRule, has_fault}
-use Rattle.par_observer.specs.Trees.{has_flow}
-use Rattle.par_observer.specs.Judgements.{IsTreeOf, IsUnread, IsRefused, has_tree}
+use Rattle.par_observer.specs.Trees.{IsTreeRefused, IsTreeUntyped, BreaksRule, BreaksTyping}
+use Rattle.par_observer.specs.Trees.{has_fault, has_flow}
+use Rattle.par_observer.specs.Judgements.{IsTreeOf, IsStoppedAs, IsRefused, IsUntyped, has_tree}
 use Rattle.par_observer.specs.Judgements.{breaks}
+use Rattle.par_observer.proofs.Passing.{typing_stops}
 use Rattle.par_observer.proofs.Placed.{tree_within, flow_within}
 
 -- tokens that stand in a source begin in it
@@ -33,7 +36,7 @@ begin source (t ∷ ts) h = (
   begin source ts h.1,
 )
 
-begin_in : (source : List ℕ) (tokens : List Token) → IsLaid source tokens
+pub begin_in : (source : List ℕ) (tokens : List Token) → IsLaid source tokens
     → BeginWithin (length source) tokens
 begin_in source tokens laid =
     begin source tokens (recursion_from_All (Stands source) tokens laid.stand)
@@ -53,7 +56,7 @@ breaks_in m tree f within (has_flow faultless first) = flow_within m tree f with
 
 refused_so : (source : List ℕ) (tokens : List Token) (tree : Source) (e : JudgeError)
     → length source ≤ LONGEST_SOURCE → HasTokens source tokens → IsLaid source tokens
-    → syntax.HasTree tokens tree → IsTreeRefused tree e → IsUnread source e
+    → syntax.HasTree tokens tree → IsTreeRefused tree e → IsStoppedAs BreaksRule source e
 refused_so source tokens tree (Refused f) short cut laid derived broken =
     let is_tree : IsTreeOf source tree =
     record { tokens = tokens; cut = cut; derived = derived } in
@@ -65,18 +68,67 @@ refused_so source tokens tree Memory short cut laid derived broken = tt
 pub refused_of_tree : {A : Type 0} (source : List ℕ) (tokens : List Token) (tree : Source)
     (r : Result A JudgeError) → length source ≤ LONGEST_SOURCE → HasTokens source tokens
     → IsLaid source tokens → syntax.HasTree tokens tree → IfErr r (IsTreeRefused tree)
-    → IfErr r (IsUnread source)
+    → IfErr r (IsStoppedAs BreaksRule source)
 refused_of_tree source tokens tree (Ok a) short cut laid derived broken = tt
 refused_of_tree source tokens tree (Err e) short cut laid derived broken =
     refused_so source tokens tree e short cut laid derived broken
 
+-- a rule up to types that is broken is one that is broken
+pub untyped_refused : (tree : Source) (e : JudgeError) → IsTreeUntyped tree e
+    → IsTreeRefused tree e
+untyped_refused tree (Refused f) first = has_fault (typing_stops tree f first)
+untyped_refused tree Memory first = tt
+
+-- and so of its source
+untyped_so : (source : List ℕ) (tokens : List Token) (tree : Source) (e : JudgeError)
+    → length source ≤ LONGEST_SOURCE → HasTokens source tokens → IsLaid source tokens
+    → syntax.HasTree tokens tree → IsTreeUntyped tree e → IsStoppedAs BreaksTyping source e
+untyped_so source tokens tree (Refused f) short cut laid derived first =
+    let is_tree : IsTreeOf source tree =
+    record { tokens = tokens; cut = cut; derived = derived } in
+    let within : IsWithin (length source) tree =
+    trees_lie (length source) tokens tree (begin_in source tokens laid) derived in (
+      has_tree tree is_tree first,
+      among_in (length source) (tree_faults tree) f (tree_within (length source) tree within)
+          (typing_stops tree f first).among,
+    )
+untyped_so source tokens tree Memory short cut laid derived first = tt
+
+pub untyped_of_tree : {A : Type 0} (source : List ℕ) (tokens : List Token) (tree : Source)
+    (r : Result A JudgeError) → length source ≤ LONGEST_SOURCE → HasTokens source tokens
+    → IsLaid source tokens → syntax.HasTree tokens tree → IfErr r (IsTreeUntyped tree)
+    → IfErr r (IsStoppedAs BreaksTyping source)
+untyped_of_tree source tokens tree (Ok a) short cut laid derived first = tt
+untyped_of_tree source tokens tree (Err e) short cut laid derived first =
+    untyped_so source tokens tree e short cut laid derived first
+
 -- why a source that is short enough is refused
 short_so : (source : List ℕ) (e : JudgeError) → length source ≤ LONGEST_SOURCE
-    → IsUnread source e → IsRefused source e
+    → IsStoppedAs BreaksRule source e → IsRefused source e
 short_so source (Refused f) short broken = breaks short broken
 short_so source Memory short broken = tt
 
 pub short_refused : {A : Type 0} (source : List ℕ) (r : Result A JudgeError)
-    → length source ≤ LONGEST_SOURCE → IfErr r (IsUnread source) → IfErr r (IsRefused source)
+    → length source ≤ LONGEST_SOURCE → IfErr r (IsStoppedAs BreaksRule source)
+    → IfErr r (IsRefused source)
 short_refused source (Ok a) short broken = tt
 short_refused source (Err e) short broken = short_so source e short broken
+
+-- and why it has no typed program
+untyped_short : (source : List ℕ) (e : JudgeError) → length source ≤ LONGEST_SOURCE
+    → IsStoppedAs BreaksTyping source e → IsUntyped source e
+untyped_short source (Refused f) short broken = breaks short broken
+untyped_short source Memory short broken = tt
+
+pub short_untyped : {A : Type 0} (source : List ℕ) (r : Result A JudgeError)
+    → length source ≤ LONGEST_SOURCE → IfErr r (IsStoppedAs BreaksTyping source)
+    → IfErr r (IsUntyped source)
+short_untyped source (Ok a) short broken = tt
+short_untyped source (Err e) short broken = untyped_short source e short broken
+
+-- where a call hands on that a tree has no typed program
+pub untyped_handed : {A : Type 0} (tree : Source) (r : Result A JudgeError) (e : JudgeError)
+    → IsErrAnd r (λ x. x ≡ e) → IsTreeUntyped tree e → IfErr r (IsTreeRefused tree)
+untyped_handed tree (Ok a) e is h = tt
+untyped_handed tree (Err x) e is h =
+    untyped_refused tree x (subst (IsTreeUntyped tree) (sym is) h)

@@ -4,7 +4,7 @@ use Rattle.par_typed.specs.declared.refusal.Refusal.{Refusal}
 use Rattle.par_typed.specs.declared.table.Table.{Table}
 use Rattle.par_rules.specs.Declares.{declares}
 use Rattle.par_checks.specs.Verdict.{Fails}
-use Rattle.par_verdict.specs.Judged.{IsFirstBroken}
+use Rattle.par_secure.specs.par_verdict.Judged.{IsFirstBroken}
 use Rattle.par_typing.specs.Typed.{written}
 use Rattle.par_observer.specs.Trees.{bodies_of}
 use Rattle.par_placed.proofs.Law.{checks_lie}
@@ -18,8 +18,8 @@ use Rattle.par_resolved.specs.Resolved.{table_of}
 use Rattle.par_places.specs.Within.{IsWithin, FieldIn, DeclarationIn}
 use Rattle.par_places.specs.Broken.{AreBrokenWithin}
 use Rattle.par_places.proofs.Broken.{join, there, passes_within}
-use Rattle.par_faults.specs.Faults.{all_faults}
-use Rattle.par_faults.proofs.Places.{all_within}
+use Rattle.par_table.specs.par_faults.Faults.{all_faults}
+use Rattle.par_table.proofs.par_faults.Places.{all_within}
 use Rattle.par_types.specs.Program.{type_faults}
 use Rattle.par_types.specs.Inferred.{fields_inferred, declaration_inferred, all_inferred}
 use Rattle.par_types.proofs.Places.{types_broken_within}

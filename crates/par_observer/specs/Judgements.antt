@@ -12,7 +12,8 @@ use Rattle.par_typed.specs.First.{broken}
 use Rattle.par_typed.specs.declared.program.Typed.{Typed}
 use Rattle.par_observer.specs.declared.error.JudgeError.{JudgeError}
 use Rattle.par_observer.specs.declared.error.JudgeError.TheVariants.{Refused, Memory}
-use Rattle.par_observer.specs.Trees.{IsAcceptedTree, IsAcceptedTreeAs, BreaksRule}
+use Rattle.par_observer.specs.Trees.{IsAcceptedTree, IsAcceptedTreeAs, IsTypedTree, BreaksRule}
+use Rattle.par_observer.specs.Trees.{BreaksTyping}
 
 abbrev pub Tokens : Type 0
 Tokens = List Token
@@ -37,18 +38,24 @@ pub record IsTreeOf (source : List ℕ) (tree : Source) : Type 0 where
   pub derived : syntax.HasTree tokens tree
 
 -- What a source that is not too long is refused by: it has no tokens, or they are no sentence
--- within
--- the nesting, or its tree breaks a rule.
-pub data Breaks (source : List ℕ) (f : Refusal) : Type 0 where
+-- within the nesting, or its tree is refused so.
+pub data BreaksAs (Of : Source → Refusal → Type 0) (source : List ℕ) (f : Refusal) : Type 0 where
   has_no_tokens : (error : LexError) → LexBroken source error → IsFaultOf error f
-      → Breaks source f
+      → BreaksAs Of source f
   is_no_sentence : (tokens : Tokens) → HasTokens source tokens
-      → syntax.IsRefused tokens (length source) f.rule f.at → IsPlain f → Breaks source f
-  has_tree : (tree : Source) → IsTreeOf source tree → BreaksRule tree f → Breaks source f
+      → syntax.IsRefused tokens (length source) f.rule f.at → IsPlain f → BreaksAs Of source f
+  has_tree : (tree : Source) → IsTreeOf source tree → Of tree f → BreaksAs Of source f
+
+-- its tree breaks a rule
+abbrev pub Breaks : List ℕ → Refusal → Type 0
+Breaks source f = BreaksAs BreaksRule source f
 
 -- the same, and the place lies in the source or behind its last byte
+abbrev pub IsBrokenAs : (Source → Refusal → Type 0) → List ℕ → Refusal → Type 0
+IsBrokenAs Of source f = BreaksAs Of source f × (f.at ≤ length source)
+
 abbrev pub IsBrokenBy : List ℕ → Refusal → Type 0
-IsBrokenBy source f = Breaks source f × (f.at ≤ length source)
+IsBrokenBy source f = IsBrokenAs BreaksRule source f
 
 -- the greatest length that a refusal can tell
 abbrev pub MOST_TOLD : ℕ
@@ -64,20 +71,33 @@ overlong n = record {
 }
 
 -- why a source of this length is refused
-pub data IsRefusedBy (source : List ℕ) (f : Refusal) : Type 0 where
+pub data IsRefusedAs (Of : Source → Refusal → Type 0) (source : List ℕ) (f : Refusal)
+    : Type 0 where
   too_long : LONGEST_SOURCE < length source → f ≡ overlong (length source)
-      → IsRefusedBy source f
-  breaks : length source ≤ LONGEST_SOURCE → IsBrokenBy source f → IsRefusedBy source f
+      → IsRefusedAs Of source f
+  breaks : length source ≤ LONGEST_SOURCE → IsBrokenAs Of source f → IsRefusedAs Of source f
+
+abbrev pub IsRefusedBy : List ℕ → Refusal → Type 0
+IsRefusedBy source f = IsRefusedAs BreaksRule source f
 
 -- memory may be wanting at any time
 abbrev pub IsRefused : List ℕ → JudgeError → Type 0
 IsRefused source (Refused f) = IsRefusedBy source f
 IsRefused source Memory = Unit {0}
 
--- why a source has no tree
+-- why a source has no typed program
+abbrev pub IsUntyped : List ℕ → JudgeError → Type 0
+IsUntyped source (Refused f) = IsRefusedAs BreaksTyping source f
+IsUntyped source Memory = Unit {0}
+
+-- why a pass over a source that is short enough stops
+abbrev pub IsStoppedAs : (Source → Refusal → Type 0) → List ℕ → JudgeError → Type 0
+IsStoppedAs Of source (Refused f) = IsBrokenAs Of source f
+IsStoppedAs Of source Memory = Unit {0}
+
+-- it has no tree
 abbrev pub IsUnread : List ℕ → JudgeError → Type 0
-IsUnread source (Refused f) = IsBrokenBy source f
-IsUnread source Memory = Unit {0}
+IsUnread source e = IsStoppedAs (λ tree f. ⊥) source e
 
 -- The source has a tree that keeps all rules.
 pub record IsAcceptedSource (source : List ℕ) : Type 0 where
@@ -92,3 +112,10 @@ pub record IsAcceptedAs (source : List ℕ) (typed : Typed) : Type 0 where
   pub short : length source ≤ LONGEST_SOURCE
   pub is_tree : IsTreeOf source tree
   pub keeps : IsAcceptedTreeAs tree typed
+
+-- the source has a tree, and this is its typed program
+pub record IsTypedAs (source : List ℕ) (typed : Typed) : Type 0 where
+  pub tree : Source
+  pub short : length source ≤ LONGEST_SOURCE
+  pub is_tree : IsTreeOf source tree
+  pub keeps : IsTypedTree tree typed

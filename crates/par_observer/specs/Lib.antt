@@ -1,4 +1,5 @@
 pub mod Passes
 pub mod Trees
 pub mod Judgements
-pub mod Straight
+pub use Rattle.par_table.specs.par_faults as par_faults
+pub use Rattle.par_typing.specs as par_typing

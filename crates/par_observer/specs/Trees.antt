@@ -1,23 +1,27 @@
 -- What each judgement of a tree says.
-use Rattle.std.specs.Prelude.{◌≡◌, List, [], Contains}
+use Rattle.std.specs.Prelude.{◌≡◌, ℕ, ◌≤◌, List, [], Contains, length}
+use Rattle.std.specs.List.{AllByRecursion}
 use Rattle.par_tree.specs.Plain.{Source}
 use Rattle.par_typed.specs.declared.program.Typed.{Typed}
 use Rattle.par_typed.specs.declared.refusal.Refusal.{Refusal}
 use Rattle.par_typed.specs.First.{IsFirst}
 use Rattle.par_typed.specs.Shown.{bodies}
 use Rattle.par_resolved.specs.Resolved.{table_of}
-use Rattle.par_faults.specs.Faults.{all_faults}
-use Rattle.par_annotate.specs.Bodies.{typed_program}
+use Rattle.par_table.specs.par_faults.Faults.{all_faults}
+use Rattle.par_placed.specs.par_annotate.Bodies.{typed_program}
 use Rattle.par_typed.specs.Plain.{Body}
 use Rattle.par_typing.specs.Typed.{IsTyped, written}
-use Rattle.par_well_typed.specs.WellTyped.{IsWellTyped}
+use Rattle.par_secure.specs.par_well_typed.WellTyped.{IsWellTyped}
 use Rattle.par_declared.specs.Births.{AreFieldsWritten}
-use Rattle.par_declared.specs.Declared.{IsWellDeclared}
+use Rattle.par_declared.specs.Declared.{HasFewFields, IsWellDeclared}
+use Rattle.par_checks.specs.Asked.{Check}
+use Rattle.par_checks.specs.Checks.{checks}
 use Rattle.par_checks.specs.Verdict.{IsAccepted}
-use Rattle.par_verdict.specs.Judged.{IsFirstBroken}
+use Rattle.par_secure.specs.par_verdict.Accepted.{IsOrderlyBody, MOST_BODIES}
+use Rattle.par_secure.specs.par_verdict.Judged.{IsFirstBroken}
 use Rattle.par_observer.specs.declared.error.JudgeError.{JudgeError}
 use Rattle.par_observer.specs.declared.error.JudgeError.TheVariants.{Refused, Memory}
-use Rattle.par_observer.specs.Passes.{tree_faults}
+use Rattle.par_observer.specs.Passes.{typing_faults, tree_faults}
 
 -- the typed bodies of a tree, over its table
 abbrev pub bodies_of : Source → List Body
@@ -41,6 +45,23 @@ pub record IsWellFormed (typed : Typed) : Type 0 where
   pub declared_well : IsWellDeclared typed.table
   pub written : AreFieldsWritten typed.table
 
+-- What the rules on flows ask of a typed program, fields of which may be left to be inferred: it is
+-- well typed, its table is well declared, and there are few enough of its parts to number.
+pub record IsReady (typed : Typed) : Type 0 where
+  pub typed_well : IsWellTyped typed.table (bodies typed.bodies)
+  pub declared_well : IsWellDeclared typed.table
+  pub few_policies : length typed.table.policies ≤ 256
+  pub few_classes : length typed.table.classes ≤ 65536
+  pub few_fields : AllByRecursion HasFewFields typed.table.classes
+  pub few_bodies : length typed.bodies ≤ MOST_BODIES
+  pub orderly : AllByRecursion (IsOrderlyBody typed.table) (bodies typed.bodies)
+
+-- the rules on flows stand at places up to this one
+abbrev pub ChecksLie : ℕ → Typed → Type 0
+ChecksLie most typed =
+    (b : Body) → Contains (bodies typed.bodies) b → (c : Check)
+    → Contains (checks typed.table b) c → c.at ≤ most
+
 abbrev pub IsAcceptedTreeAs : Source → Typed → Type 0
 IsAcceptedTreeAs tree typed = IsAcceptedTree tree × IsProgramOf tree typed
 
@@ -50,7 +71,15 @@ pub data BreaksRule (tree : Source) (f : Refusal) : Type 0 where
   has_flow : tree_faults tree ≡ [] → IsFirstBroken (table_of tree) (bodies_of tree) f
       → BreaksRule tree f
 
+-- What a tree without a typed program is refused by: the first broken rule up to types.
+abbrev pub BreaksTyping : Source → Refusal → Type 0
+BreaksTyping tree f = IsFirst (typing_faults tree) f
+
 -- memory may be wanting at any time
+abbrev pub IsTreeUntyped : Source → JudgeError → Type 0
+IsTreeUntyped tree (Refused f) = BreaksTyping tree f
+IsTreeUntyped tree Memory = Unit {0}
+
 abbrev pub IsTreeRefused : Source → JudgeError → Type 0
 IsTreeRefused tree (Refused f) = BreaksRule tree f
 IsTreeRefused tree Memory = Unit {0}

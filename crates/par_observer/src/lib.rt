@@ -2,17 +2,14 @@
 //! which a rule is broken.
 //!
 //! The crate composes the passes and holds no reasoning of its own about trees, names, policies or
-//! facts. It reads no file and says nothing. What it tells of straight-line sources besides is for
-//! those who compile them.
+//! facts. It reads no file and says nothing.
 #![tactic(auto)]
 
 mod error;
 mod reading;
-mod straight;
 mod tree;
 mod verdict;
 
 pub use error::JudgeError;
 pub use par_alike::alike;
-pub use straight::straight_line;
-pub use verdict::judge;
+pub use verdict::{judge, typed_of};

@@ -8,19 +8,20 @@ ghost use Rattle.par_tree.specs.Shown.{source as tree_of_program};
 ghost use Rattle.par_parser.specs.Bodies.{source_size};
 ghost use Rattle.par_parser.specs.Sentence as syntax;
 ghost use Rattle.par_resolved.specs.Resolved.{table_of};
-ghost use Rattle.par_faults.specs.Faults.{all_faults};
+ghost use Rattle.par_table.specs.par_faults.Faults.{all_faults};
 ghost use Rattle.par_sources.specs.Numbers.{SourceHasNumbers};
 ghost use Rattle.par_sources.specs.Order.{IsInOrder};
 ghost use Rattle.par_sources.specs.Sizes.{source_texts};
-ghost use Rattle.par_observer.specs.Judgements.{IsAcceptedAs, IsUnread};
+ghost use Rattle.par_observer.specs.Judgements.{IsAcceptedAs, IsTypedAs, IsStoppedAs};
 ghost use Rattle.par_typed.specs.Shown.{bodies};
-ghost use Rattle.par_well_typed.specs.WellTyped.{IsWellTyped};
+ghost use Rattle.par_secure.specs.par_well_typed.WellTyped.{IsWellTyped};
 ghost use Rattle.par_declared.specs.Declared.{IsWellDeclared};
-ghost use Rattle.par_verdict.specs.Accepted.{IsAcceptedBy, IsOrderlyBody, MOST_BODIES};
-ghost use Rattle.par_verdict.specs.Judged.{IsVerdict};
+ghost use Rattle.par_secure.specs.par_verdict.Accepted.{IsAcceptedBy, IsOrderlyBody, MOST_BODIES};
+ghost use Rattle.par_secure.specs.par_verdict.Judged.{IsVerdict};
 ghost use Rattle.par_observer.specs.Trees.{IsAcceptedTreeAs, IsTreeRefused, IsTypedTree};
-ghost use Rattle.par_observer.specs.Trees.{IsFlowRefused, IsWellFormed};
-ghost use Rattle.par_flow.specs.Table.{facts_in};
+ghost use Rattle.par_observer.specs.Trees.{IsTreeUntyped, BreaksRule, BreaksTyping};
+ghost use Rattle.par_observer.specs.Trees.{IsFlowRefused, IsWellFormed, IsReady, ChecksLie};
+ghost use Rattle.par_check.specs.par_flow.Table.{facts_in};
 
 use crate::error::JudgeError;
 use par_check::{Accepted, CheckError, check};
@@ -50,9 +51,29 @@ pub(crate) fn judge_tree(
     ensures well_formed { IfOk result (λ accepted. IsWellFormed accepted.typed) }
     ensures kept { IfOk result (λ accepted.
         IsAcceptedBy accepted.typed (map facts_in accepted.facts)) }
-    ensures refused { IfErr result (IsUnread source.now) }
+    ensures refused { IfErr result (IsStoppedAs BreaksRule source.now) }
 {
     passes(alloc, tree)
+}
+
+/// The typed program of a source whose tokens are a sentence with this tree.
+pub(crate) fn type_tree(
+    alloc: Global,
+    source: &[u8],
+    tokens: &[Token],
+    tree: &Tree,
+) -> Result<Typed, JudgeError>
+    requires short { length source.now ≤ LONGEST_SOURCE }
+    requires cut { HasTokens source.now tokens.now }
+    requires laid { IsLaid source.now tokens.now }
+    requires sentence { syntax.HasTree tokens.now (tree_of_program tree.now) }
+    requires size { source_size (tree_of_program tree.now) ≤ length tokens.now }
+    ensures typed { IfOk result (IsTypedAs source.now) }
+    ensures ready { IfOk result IsReady }
+    ensures placed { IfOk result (ChecksLie (length source.now)) }
+    ensures refused { IfErr result (IsStoppedAs BreaksTyping source.now) }
+{
+    typed_tree(alloc, tree)
 }
 
 /// What the passes say of a tree: it is accepted, or the first broken rule of the earliest pass in
@@ -69,7 +90,7 @@ fn passes(alloc: Global, tree: &Tree) -> Result<Accepted, JudgeError>
         IsAcceptedBy accepted.typed (map facts_in accepted.facts)) }
     ensures refused { IfErr result (IsTreeRefused (tree_of_program tree.now)) }
 {
-    let typed = typed_of(alloc, tree)?;
+    let typed = typed_tree(alloc, tree)?;
     if let Some(refusal) = first_inferred(tree) {
         return Err(JudgeError::Refused(refusal));
     }
@@ -98,7 +119,7 @@ fn flows(alloc: Global, typed: Typed) -> Result<Accepted, JudgeError>
 }
 
 /// The typed program of a tree.
-fn typed_of(alloc: Global, tree: &Tree) -> Result<Typed, JudgeError>
+fn typed_tree(alloc: Global, tree: &Tree) -> Result<Typed, JudgeError>
     requires size { source_size (tree_of_program tree.now) ≤ LONGEST_SOURCE }
     requires numbers { SourceHasNumbers (tree_of_program tree.now) }
     requires order { IsInOrder (tree_of_program tree.now) }
@@ -106,7 +127,7 @@ fn typed_of(alloc: Global, tree: &Tree) -> Result<Typed, JudgeError>
     ensures typed { IfOk result (IsTypedTree (tree_of_program tree.now)) }
     ensures well_typed { IfOk result (λ typed. IsWellTyped typed.table (bodies typed.bodies)) }
     ensures well_declared { IfOk result (λ typed. IsWellDeclared typed.table) }
-    ensures refused { IfErr result (IsTreeRefused (tree_of_program tree.now)) }
+    ensures refused { IfErr result (IsTreeUntyped (tree_of_program tree.now)) }
 {
     let table = table_of(alloc, tree)?;
     match type_program(alloc, table, tree) {
@@ -123,7 +144,7 @@ fn table_of(alloc: Global, tree: &Tree) -> Result<Table, JudgeError>
     requires { source_size (tree_of_program tree.now) ≤ LONGEST_SOURCE }
     ensures right { IfOk result (λ table. all_faults (tree_of_program tree.now) ≡ []) }
     ensures table { IfOk result (λ table. table ≡ table_of (tree_of_program tree.now)) }
-    ensures refused { IfErr result (IsTreeRefused (tree_of_program tree.now)) }
+    ensures refused { IfErr result (IsTreeUntyped (tree_of_program tree.now)) }
 {
     match build(alloc, tree) {
         Ok(table) => Ok(table),

@@ -1,18 +1,21 @@
 //! The judgement of a source.
 
 ghost use Rattle.std.specs.Prelude.{◌≡◌, ◌≤◌, ◌<◌, IfOk, IfErr, length, map};
-ghost use Rattle.par_flow.specs.Table.{facts_in};
-ghost use Rattle.par_verdict.specs.Accepted.{IsAcceptedBy};
+ghost use Rattle.par_check.specs.par_flow.Table.{facts_in};
+ghost use Rattle.par_secure.specs.par_verdict.Accepted.{IsAcceptedBy};
 ghost use Rattle.par_secrecy.specs.Secure.{Secure};
 ghost use Rattle.par_alike.specs.Subject.{subject};
-ghost use Rattle.par_observer.specs.Judgements.{IsAcceptedAs, IsRefused, IsUnread, overlong};
-ghost use Rattle.par_observer.specs.Trees.{IsWellFormed};
+ghost use Rattle.par_observer.specs.Judgements.{IsAcceptedAs, IsRefused, IsTypedAs, IsUntyped};
+ghost use Rattle.par_observer.specs.Judgements.{IsStoppedAs, overlong};
+ghost use Rattle.par_observer.specs.Trees.{IsWellFormed, IsReady, ChecksLie};
+ghost use Rattle.par_observer.specs.Trees.{BreaksRule, BreaksTyping};
 
 use crate::error::JudgeError;
 use crate::reading::{read_sentence, tokens_of};
-use crate::tree::judge_tree;
+use crate::tree::{judge_tree, type_tree};
 use par_check::Accepted;
 use par_lexer::LONGEST_SOURCE;
+use par_typed::program::Typed;
 use par_typed::refusal::Refusal;
 use std::alloc::Global;
 
@@ -45,12 +48,42 @@ fn judge_short(alloc: Global, source: &[u8]) -> Result<Accepted, JudgeError>
     ensures well_formed { IfOk result (λ accepted. IsWellFormed accepted.typed) }
     ensures kept { IfOk result (λ accepted.
         IsAcceptedBy accepted.typed (map facts_in accepted.facts)) }
-    ensures refused { IfErr result (IsUnread source.now) }
+    ensures refused { IfErr result (IsStoppedAs BreaksRule source.now) }
 {
     let tokens = tokens_of(alloc, source)?;
     let tokens = tokens.as_slice();
     let tree = read_sentence(alloc, source, tokens)?;
     judge_tree(alloc, source, tokens, &tree)
+}
+
+/// Reads a source, and runs the passes up to types: its length, its tokens, its sentence, its
+/// names, its limits and its types. Fields of the program that it gives may be left to be inferred.
+/// What the rules on flows ask of a program is said of it, and these rules stand at places of the
+/// source.
+pub fn typed_of(alloc: Global, source: &[u8]) -> Result<Typed, JudgeError>
+    ensures typed { IfOk result (IsTypedAs source.now) }
+    ensures ready { IfOk result IsReady }
+    ensures placed { IfOk result (ChecksLie (length source.now)) }
+    ensures refused { IfErr result (IsUntyped source.now) }
+{
+    if source.len() > LONGEST_SOURCE {
+        return Err(JudgeError::Refused(overlong(source.len())));
+    }
+    type_short(alloc, source)
+}
+
+/// The typed program of a source that is not too long.
+fn type_short(alloc: Global, source: &[u8]) -> Result<Typed, JudgeError>
+    requires { length source.now ≤ LONGEST_SOURCE }
+    ensures typed { IfOk result (IsTypedAs source.now) }
+    ensures ready { IfOk result IsReady }
+    ensures placed { IfOk result (ChecksLie (length source.now)) }
+    ensures refused { IfErr result (IsStoppedAs BreaksTyping source.now) }
+{
+    let tokens = tokens_of(alloc, source)?;
+    let tokens = tokens.as_slice();
+    let tree = read_sentence(alloc, source, tokens)?;
+    type_tree(alloc, source, tokens, &tree)
 }
 
 /// The refusal of a source of this length.

@@ -4,7 +4,7 @@ use Rattle.std.proofs.Math.Nat.{le_refl}
 use Rattle.std.proofs.lemmas.List.{length-append}
 use Rattle.std.proofs.lemmas.List.Sums.{sum_by_push}
 use Rattle.par_lexer.specs.declared.operator.BinOp.{BinOp}
-use Rattle.par_reader.proofs.Sizes as sizes
+use Rattle.par_stmts.proofs.par_reader.Sizes as sizes
 use Rattle.par_tree.specs.Plain.{Exp, Exps, NoExps, More, Sta, Braces, In, Stas, End, Then, Catches}
 use Rattle.par_tree.specs.Plain.{NoCatch, Catch, Handler, with_exp, with_sta, with_catch}
 use Rattle.par_tree.specs.Nodes.{nodes, may_nodes, args_nodes, stmt_nodes, braces_nodes}

@@ -3,22 +3,22 @@
 ghost use Rattle.std.specs.Prelude.{◌≡◌, ◌<◌, ◌≤◌, [], ◌∷◌, length, OnOk};
 ghost use Rattle.par_grammar.specs.Grammar as symbol;
 ghost use Rattle.par_grammar.specs.declared.sort.Sort.TheVariants as sort;
-ghost use Rattle.par_language.specs.Reads.{Reads};
+ghost use Rattle.par_stmts.specs.par_language.Reads.{Reads};
 ghost use Rattle.par_lexer.specs.declared.sign.TheConstants as signs;
 ghost use Rattle.par_lexer.specs.declared.word.TheConstants as words;
-ghost use Rattle.par_reader.specs.Reads.{input};
+ghost use Rattle.par_stmts.specs.par_reader.Reads.{input};
 ghost use Rattle.par_tree.specs.Grammar as g;
 ghost use Rattle.par_parser.specs.Reads.{a_decl, an_arity, the_decls};
 
 use crate::class::class;
 use par_grammar::sort::Sort;
-use par_language::Paragon;
 use par_lexer::list::List;
 use par_lexer::{sign, word};
-use par_policies::ident::{ident, idents};
-use par_policies::policy::{may_policy, policy};
-use par_reader::cursor::Cursor;
-use par_reader::error::ParseError;
+use par_stmts::par_language::Paragon;
+use par_stmts::par_policies::ident::{ident, idents};
+use par_stmts::par_policies::policy::{may_policy, policy};
+use par_stmts::par_reader::cursor::Cursor;
+use par_stmts::par_reader::error::ParseError;
 use par_tree::decl::{Decl, LockDecl, PolicyDecl};
 use std::alloc::Global;
 

@@ -12,5 +12,5 @@ pub mod member;
 pub mod method;
 mod source;
 
-pub use par_reader::error::ParseError;
+pub use par_stmts::par_reader::error::ParseError;
 pub use source::parse;

@@ -2,10 +2,10 @@
 
 ghost use Rattle.std.specs.Prelude.{◌≡◌, ◌≢◌, ◌≤◌, [], ◌∷◌, length, IfOk, IfErr};
 ghost use Rattle.par_grammar.specs.Grammar as symbol;
-ghost use Rattle.par_language.specs.Reads.{Reads};
-ghost use Rattle.par_reader.specs.declared.error.ParseError.TheVariants.{Memory};
-ghost use Rattle.par_reader.specs.declared.limit.TheConstants as limit;
-ghost use Rattle.par_reader.specs.Reads.{fault_of, input};
+ghost use Rattle.par_stmts.specs.par_language.Reads.{Reads};
+ghost use Rattle.par_stmts.specs.par_reader.declared.error.ParseError.TheVariants.{Memory};
+ghost use Rattle.par_stmts.specs.par_reader.declared.limit.TheConstants as limit;
+ghost use Rattle.par_stmts.specs.par_reader.Reads.{fault_of, input};
 ghost use Rattle.par_tree.specs.Grammar as g;
 ghost use Rattle.par_tree.specs.Plain.{Source};
 ghost use Rattle.par_tree.specs.Shown.{source};
@@ -14,10 +14,10 @@ ghost use Rattle.par_parser.specs.Reads.{a_program};
 ghost use Rattle.par_parser.specs.Sentence.{HasFault, HasTree};
 
 use crate::decl::decls;
-use par_language::Paragon;
 use par_lexer::token::Token;
-use par_reader::cursor::Cursor;
-use par_reader::error::ParseError;
+use par_stmts::par_language::Paragon;
+use par_stmts::par_reader::cursor::Cursor;
+use par_stmts::par_reader::error::ParseError;
 use par_tree::decl::Program;
 use std::alloc::Global;
 use std::marker::PhantomData;

@@ -4,25 +4,29 @@ use Rattle.std.proofs.Common.{Some, None, List, [], ◌∷◌, refl, ap}
 use Rattle.std.proofs.lemmas.Bool.{eqb-true}
 use Rattle.std.proofs.Common.{eq-eqb}
 use Rattle.std.specs.Prelude.{nat_eq, IsTrue, slice_get}
-use Rattle.par_policy.specs.declared.clauses.Clause.{Clause}
-use Rattle.par_policy.specs.Sees.{sees}
+use Rattle.par_except.specs.par_policy.declared.clauses.Clause.{Clause}
+use Rattle.par_except.specs.par_policy.Sees.{sees}
 use Rattle.par_bits.specs.Sets.{Set, IsWithin, none, adding, union}
-use Rattle.par_typed.specs.Plain.{Body, point}
-use Rattle.par_rules.specs.Lattice.{Lattice, numbers, policies, seen_by, joined}
-use Rattle.par_rules.specs.Kinds as kind
-use Rattle.par_rules.specs.Kinds.{Kind, Normal, normal}
-use Rattle.par_rules.specs.Ways as rules
-use Rattle.par_rules.specs.Ways.{Flows, Lands, MayFlow, MayLand, MayRaise, raised, assigned, opened}
-use Rattle.par_rules.specs.Ways.{shut, moved}
-use Rattle.par_rules.specs.Facts.{Fact, Facts}
-use Rattle.par_rules.specs.Declares.{Declares}
-use Rattle.par_rules.specs.Rules.{From, Entry, After, Tested, Raised, Opened, Shut, Assigned}
-use Rattle.par_rules.specs.Rules.{Worth, Given, Held, Value}
-use Rattle.par_rules.specs.Rules.{Node, node, Rules, Done, Part, Test, Heads, Leaves, Worths, spot}
-use Rattle.par_rules.specs.Rules.{way, worth, held, part_at, Holds, WhereReached, MayLeave, MayHead}
-use Rattle.par_rules.specs.Rules.{Restores, Obeys, ObeysAll}
-use Rattle.par_rules.specs.Body.{sta}
-use Rattle.par_rules.specs.Closed.{IsClosed, first, arriving, locals}
+use Rattle.par_except.specs.par_typed.Plain.{Body, point}
+use Rattle.par_except.specs.par_rules.Lattice.{Lattice, numbers, policies, seen_by, joined}
+use Rattle.par_except.specs.par_rules.Kinds as kind
+use Rattle.par_except.specs.par_rules.Kinds.{Kind, Normal, normal}
+use Rattle.par_except.specs.par_rules.Ways as rules
+use Rattle.par_except.specs.par_rules.Ways.{Flows, Lands, MayFlow, MayLand, MayRaise, raised}
+use Rattle.par_except.specs.par_rules.Ways.{assigned, opened}
+use Rattle.par_except.specs.par_rules.Ways.{shut, moved}
+use Rattle.par_except.specs.par_rules.Facts.{Fact, Facts}
+use Rattle.par_except.specs.par_rules.Declares.{Declares}
+use Rattle.par_except.specs.par_rules.Rules.{From, Entry, After, Tested, Raised, Opened, Shut}
+use Rattle.par_except.specs.par_rules.Rules.{Assigned}
+use Rattle.par_except.specs.par_rules.Rules.{Worth, Given, Held, Value}
+use Rattle.par_except.specs.par_rules.Rules.{Node, node, Rules, Done, Part, Test, Heads, Leaves}
+use Rattle.par_except.specs.par_rules.Rules.{Worths, spot}
+use Rattle.par_except.specs.par_rules.Rules.{way, worth, held, part_at, Holds, WhereReached}
+use Rattle.par_except.specs.par_rules.Rules.{MayLeave, MayHead}
+use Rattle.par_except.specs.par_rules.Rules.{Restores, Obeys, ObeysAll}
+use Rattle.par_except.specs.par_rules.Body.{sta}
+use Rattle.par_except.specs.par_rules.Closed.{IsClosed, first, arriving, locals}
 use Rattle.par_pass.specs.Exits.{Way}
 use Rattle.par_pass.proofs.Order.{sub_refl, sub_trans, union_l, union_r, union_mono, minus_mono}
 

@@ -2,9 +2,10 @@
 use Rattle.std.proofs.Common.{ℕ, Bool, true, false, ◌||◌, ◌&&◌, List, refl, sym, subst}
 use Rattle.std.specs.Prelude.{IsTrue, slice_get}
 use Rattle.std.proofs.lemmas.Bool.{eqb-true}
-use Rattle.par_policy.specs.declared.clauses.Clause.{Clause}
+use Rattle.par_except.specs.par_policy.declared.clauses.Clause.{Clause}
 use Rattle.par_bits.specs.Sets.{Set, IsWithin, none, union, adding}
-use Rattle.par_rules.specs.Lattice.{Seen, seen_by, IsSeenBelow, numbers, policies, unseen}
+use Rattle.par_except.specs.par_rules.Lattice.{Seen, seen_by, IsSeenBelow, numbers, policies}
+use Rattle.par_except.specs.par_rules.Lattice.{unseen}
 use Rattle.par_pass.specs.Low.{Stands}
 use Rattle.par_pass.specs.Seens.{given_of, seen_as}
 use Rattle.par_pass.proofs.Order.{sub_trans, union_l, union_r, union_least, sub_refl}

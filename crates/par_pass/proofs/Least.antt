@@ -1,13 +1,15 @@
 -- What a pass finds is below all closed facts that are above its heads.
 use Rattle.std.proofs.Common.{◌≡◌, ℕ, Bool, false, Option, Some, None, List, [], ◌∷◌, ◌++◌}
-use Rattle.par_rules.specs.Lattice.{Lattice, numbers}
-use Rattle.par_rules.specs.Kinds as kind
-use Rattle.par_rules.specs.Kinds.{Kind, normal, absorbed}
-use Rattle.par_rules.specs.Ways as rules
-use Rattle.par_rules.specs.Facts.{Fact, Facts}
-use Rattle.par_rules.specs.Rules.{Node, node, Rules, Done, Part, Test, Heads, Leaves, Worths}
-use Rattle.par_rules.specs.Rules.{spot, way, worth, WhereReached, MayLeave, MayHead, Restores}
-use Rattle.par_rules.specs.Rules.{Obeys, ObeysAll}
+use Rattle.par_except.specs.par_rules.Lattice.{Lattice, numbers}
+use Rattle.par_except.specs.par_rules.Kinds as kind
+use Rattle.par_except.specs.par_rules.Kinds.{Kind, normal, absorbed}
+use Rattle.par_except.specs.par_rules.Ways as rules
+use Rattle.par_except.specs.par_rules.Facts.{Fact, Facts}
+use Rattle.par_except.specs.par_rules.Rules.{Node, node, Rules, Done, Part, Test, Heads, Leaves}
+use Rattle.par_except.specs.par_rules.Rules.{Worths}
+use Rattle.par_except.specs.par_rules.Rules.{spot, way, worth, WhereReached, MayLeave, MayHead}
+use Rattle.par_except.specs.par_rules.Rules.{Restores}
+use Rattle.par_except.specs.par_rules.Rules.{Obeys, ObeysAll}
 use Rattle.par_pass.specs.Exits.{Way, all, leaving, restored, leave}
 use Rattle.par_pass.specs.Pass.{HeadWays, Event, Found, nothing, fact, visited, ended, into, pass}
 use Rattle.par_pass.specs.Pass.{pass_all}

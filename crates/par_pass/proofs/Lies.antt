@@ -2,11 +2,11 @@
 use Rattle.std.proofs.Common.{◌≡◌, Bool, true, false, cond, Option, Some, None, List, [], ◌∷◌, refl}
 use Rattle.std.proofs.Common.{sym, subst}
 use Rattle.par_bits.specs.Sets.{Set, union}
-use Rattle.par_rules.specs.Lattice.{Lattice}
-use Rattle.par_rules.specs.Kinds.{Kind, Normal, same, normal}
-use Rattle.par_rules.specs.Ways as rules
-use Rattle.par_rules.specs.Ways.{MayRaise}
-use Rattle.par_rules.specs.Rules.{Holds}
+use Rattle.par_except.specs.par_rules.Lattice.{Lattice}
+use Rattle.par_except.specs.par_rules.Kinds.{Kind, Normal, same, normal}
+use Rattle.par_except.specs.par_rules.Ways as rules
+use Rattle.par_except.specs.par_rules.Ways.{MayRaise}
+use Rattle.par_except.specs.par_rules.Rules.{Holds}
 use Rattle.par_except.specs.Joins.{join}
 use Rattle.par_pass.specs.Exits.{Way, Exit, at, add, all, leaving, contexts, with_context, restored}
 use Rattle.par_pass.specs.Exits.{leave}

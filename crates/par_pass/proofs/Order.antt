@@ -4,9 +4,9 @@ use Rattle.std.specs.Prelude.{IsTrue}
 use Rattle.std.proofs.lemmas.Bool.{eqb-true}
 use Rattle.std.proofs.Common.{eq-eqb}
 use Rattle.par_bits.specs.Sets.{Set, IsWithin, union, meet, minus}
-use Rattle.par_rules.specs.Lattice.{numbers}
-use Rattle.par_rules.specs.Kinds.{Kind, Normal, Return, Break, Continue, Throw, same}
-use Rattle.par_rules.specs.Ways.{Lands, Flows, MayFlow, MayLand}
+use Rattle.par_except.specs.par_rules.Lattice.{numbers}
+use Rattle.par_except.specs.par_rules.Kinds.{Kind, Normal, Return, Break, Continue, Throw, same}
+use Rattle.par_except.specs.par_rules.Ways.{Lands, Flows, MayFlow, MayLand}
 use Rattle.par_except.specs.Joins.{join}
 use Rattle.par_pass.specs.Exits.{Way}
 

@@ -1,10 +1,11 @@
 -- A pass over a numbered body notes each point once at most.
 use Rattle.std.proofs.Common.{◌≡◌, ℕ, suc, ◌<◌, ◌≤◌, Option, Some, None, List, [], ◌∷◌, ◌++◌, arith}
-use Rattle.par_rules.specs.Lattice.{numbers}
-use Rattle.par_rules.specs.Facts.{Fact}
-use Rattle.par_rules.specs.Rules.{Node, node, Rules, Done, Part, Test, Heads, Leaves, Worths, spot}
-use Rattle.par_rules.specs.Rules.{way}
-use Rattle.par_rules.specs.Numbered.{next, next_by, IsNumbered, AreNumbered}
+use Rattle.par_except.specs.par_rules.Lattice.{numbers}
+use Rattle.par_except.specs.par_rules.Facts.{Fact}
+use Rattle.par_except.specs.par_rules.Rules.{Node, node, Rules, Done, Part, Test, Heads, Leaves}
+use Rattle.par_except.specs.par_rules.Rules.{Worths, spot}
+use Rattle.par_except.specs.par_rules.Rules.{way}
+use Rattle.par_except.specs.par_rules.Numbered.{next, next_by, IsNumbered, AreNumbered}
 use Rattle.par_pass.specs.Exits.{Way}
 use Rattle.par_pass.specs.Pass.{HeadWays, Event, Row, Into, Found, nothing, fact, visited, into}
 use Rattle.par_pass.specs.Pass.{pass, pass_all}

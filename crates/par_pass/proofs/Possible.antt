@@ -4,13 +4,16 @@ use Rattle.std.proofs.Common.{◌⊎◌, inl, inr, ⊎_elim}
 use Rattle.std.proofs.Common.{Option, Some, None, List, [], ◌∷◌, ◌++◌, refl, ap, sym, ◌∙◌, subst}
 use Rattle.std.proofs.lemmas.Bool.{or_parts, not-false}
 use Rattle.par_bits.specs.Sets.{Set}
-use Rattle.par_rules.specs.Lattice.{Lattice, numbers}
-use Rattle.par_rules.specs.Kinds.{Kind, Normal, same, normal, absorbed}
-use Rattle.par_rules.specs.Ways.{moved}
-use Rattle.par_rules.specs.Facts.{Fact, Facts}
-use Rattle.par_rules.specs.Rules.{From, Entry, After, Tested, Raised, Opened, Shut, Assigned}
-use Rattle.par_rules.specs.Rules.{Node, node, Rules, Done, Part, Test, Heads, Leaves, Worths, spot}
-use Rattle.par_rules.specs.Rules.{way, part_at, part_can, comes, can, can_by, WhereReached}
+use Rattle.par_except.specs.par_rules.Lattice.{Lattice, numbers}
+use Rattle.par_except.specs.par_rules.Kinds.{Kind, Normal, same, normal, absorbed}
+use Rattle.par_except.specs.par_rules.Ways.{moved}
+use Rattle.par_except.specs.par_rules.Facts.{Fact, Facts}
+use Rattle.par_except.specs.par_rules.Rules.{From, Entry, After, Tested, Raised, Opened, Shut}
+use Rattle.par_except.specs.par_rules.Rules.{Assigned}
+use Rattle.par_except.specs.par_rules.Rules.{Node, node, Rules, Done, Part, Test, Heads, Leaves}
+use Rattle.par_except.specs.par_rules.Rules.{Worths, spot}
+use Rattle.par_except.specs.par_rules.Rules.{way, part_at, part_can, comes, can, can_by}
+use Rattle.par_except.specs.par_rules.Rules.{WhereReached}
 use Rattle.par_except.specs.Joins.{join}
 use Rattle.par_pass.specs.Exits.{Way, Exit, at, add, all, leaving, set_context, with_context, leave}
 use Rattle.par_pass.specs.Pass.{HeadWays, Event, Found, nothing, fact, visited, pass, pass_all}

@@ -3,18 +3,20 @@ use Rattle.std.proofs.Common.{◌≡◌, ℕ, zero, suc, Bool, true, false, Opti
 use Rattle.std.proofs.Common.{refl, cond, nat_eq}
 use Rattle.std.specs.Prelude.{pos}
 use Rattle.par_bits.specs.Sets.{Set, none, adding}
-use Rattle.par_lexer.specs.declared.operator.BinOp.TheVariants.{Gt}
-use Rattle.par_typed.specs.declared.ty.Ty.TheVariants as ty
-use Rattle.par_typed.specs.Plain.{TExp, Int, Local, Static, Input, Output, Call, Binary, Absent}
-use Rattle.par_typed.specs.Plain.{NoExps, Mark}
-use Rattle.par_typed.specs.Plain as plain
-use Rattle.par_typed.specs.Plain.{TSta, Block, If, Try, Throw, Open, SetLocal, Eval, When, NoElse}
-use Rattle.par_typed.specs.Plain.{Otherwise, End, Then, NoCatch, Catch}
-use Rattle.par_rules.specs.Lattice.{numbers}
-use Rattle.par_rules.specs.Declares.{Declares, Method, NO_METHOD}
-use Rattle.par_rules.specs.Rules.{way, worth, can, can_by, comes}
-use Rattle.par_rules.specs.Body.{exp, args, sta, stas, catches}
-use Rattle.par_rules.specs.Closed.{first}
+use Rattle.par_except.specs.par_lexer.declared.operator.BinOp.TheVariants.{Gt}
+use Rattle.par_except.specs.par_typed.declared.ty.Ty.TheVariants as ty
+use Rattle.par_except.specs.par_typed.Plain.{TExp, Int, Local, Static, Input, Output, Call, Binary}
+use Rattle.par_except.specs.par_typed.Plain.{Absent}
+use Rattle.par_except.specs.par_typed.Plain.{NoExps, Mark}
+use Rattle.par_except.specs.par_typed.Plain as plain
+use Rattle.par_except.specs.par_typed.Plain.{TSta, Block, If, Try, Throw, Open, SetLocal, Eval}
+use Rattle.par_except.specs.par_typed.Plain.{When, NoElse}
+use Rattle.par_except.specs.par_typed.Plain.{Otherwise, End, Then, NoCatch, Catch}
+use Rattle.par_except.specs.par_rules.Lattice.{numbers}
+use Rattle.par_except.specs.par_rules.Declares.{Declares, Method, NO_METHOD}
+use Rattle.par_except.specs.par_rules.Rules.{way, worth, can, can_by, comes}
+use Rattle.par_except.specs.par_rules.Body.{exp, args, sta, stas, catches}
+use Rattle.par_except.specs.par_rules.Closed.{first}
 use Rattle.par_pass.specs.Exits.{Way}
 use Rattle.par_pass.specs.Pass.{pass, pass_all}
 use Rattle.par_pass.specs.Written.{blanks, written, table}

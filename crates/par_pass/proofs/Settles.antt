@@ -2,15 +2,17 @@
 use Rattle.std.proofs.Common.{◌≡◌, ℕ, Bool, true, false, cond, ◌||◌, Option, Some, None, List, []}
 use Rattle.std.proofs.Common.{◌∷◌, ◌++◌, refl, sym, ap, subst}
 use Rattle.par_bits.specs.Sets.{IsWithin, union}
-use Rattle.par_rules.specs.Lattice.{numbers}
-use Rattle.par_rules.specs.Kinds as kind
-use Rattle.par_rules.specs.Kinds.{Kind, Normal, normal, absorbed, Absorber, Next, Loop}
-use Rattle.par_rules.specs.Kinds.{Catches}
-use Rattle.par_rules.specs.Ways.{MayFlow, MayLand, MayRaise}
-use Rattle.par_rules.specs.Facts.{Fact, Facts}
-use Rattle.par_rules.specs.Rules.{Node, node, Rules, Done, Part, Test, Heads, Leaves, Worths}
-use Rattle.par_rules.specs.Rules.{spot, way, worth, WhereReached, MayLeave, MayHead, Holds}
-use Rattle.par_rules.specs.Rules.{Restores, Passes, Obeys, ObeysAll}
+use Rattle.par_except.specs.par_rules.Lattice.{numbers}
+use Rattle.par_except.specs.par_rules.Kinds as kind
+use Rattle.par_except.specs.par_rules.Kinds.{Kind, Normal, normal, absorbed, Absorber, Next, Loop}
+use Rattle.par_except.specs.par_rules.Kinds.{Catches}
+use Rattle.par_except.specs.par_rules.Ways.{MayFlow, MayLand, MayRaise}
+use Rattle.par_except.specs.par_rules.Facts.{Fact, Facts}
+use Rattle.par_except.specs.par_rules.Rules.{Node, node, Rules, Done, Part, Test, Heads, Leaves}
+use Rattle.par_except.specs.par_rules.Rules.{Worths}
+use Rattle.par_except.specs.par_rules.Rules.{spot, way, worth, WhereReached, MayLeave, MayHead}
+use Rattle.par_except.specs.par_rules.Rules.{Holds}
+use Rattle.par_except.specs.par_rules.Rules.{Restores, Passes, Obeys, ObeysAll}
 use Rattle.par_pass.specs.Exits.{Way, Exit, at, all, leaving, leave}
 use Rattle.par_pass.specs.Pass.{HeadWays, Event, Found, nothing, fact, visited, ended, into, pass}
 use Rattle.par_pass.specs.Pass.{pass_all}

@@ -4,19 +4,19 @@ use Rattle.std.proofs.Common.{List, [], ◌∷◌, length, set, refl, sym, ap, �
 use Rattle.std.proofs.Common.{inl, inr}
 use Rattle.par_pass.specs.Exits.{Way}
 use Rattle.std.specs.Prelude.{◌⊎◌}
-use Rattle.par_typed.specs.Plain.{Body, TSta, point}
-use Rattle.par_rules.specs.Lattice.{Lattice, numbers}
-use Rattle.par_rules.specs.Ways as rules
+use Rattle.par_except.specs.par_typed.Plain.{Body, TSta, point}
+use Rattle.par_except.specs.par_rules.Lattice.{Lattice, numbers}
+use Rattle.par_except.specs.par_rules.Ways as rules
 use Rattle.par_pass.specs.Result.{IsSettled, AreLeast, AreExact}
 use Rattle.par_pass.proofs.Instances.{among}
-use Rattle.par_typed.specs.Plain as plain
+use Rattle.par_except.specs.par_typed.Plain as plain
 use Rattle.par_pass.specs.Low.{MayFlow}
-use Rattle.par_rules.specs.Facts.{Fact, Facts}
-use Rattle.par_rules.specs.Declares.{Declares, Method}
-use Rattle.par_rules.specs.Rules.{spot}
-use Rattle.par_rules.specs.Body.{sta}
-use Rattle.par_rules.specs.Closed.{IsClosed, IsThere, first, arriving, locals}
-use Rattle.par_rules.specs.Numbered.{next, IsNumbered}
+use Rattle.par_except.specs.par_rules.Facts.{Fact, Facts}
+use Rattle.par_except.specs.par_rules.Declares.{Declares, Method}
+use Rattle.par_except.specs.par_rules.Rules.{spot}
+use Rattle.par_except.specs.par_rules.Body.{sta}
+use Rattle.par_except.specs.par_rules.Closed.{IsClosed, IsThere, first, arriving, locals}
+use Rattle.par_except.specs.par_rules.Numbered.{next, IsNumbered}
 use Rattle.par_pass.specs.Pass.{HeadWays, Event, Row, Into, pass}
 use Rattle.par_pass.specs.Low.{Stands, IsLow, AreLow, AreHeadsLow}
 use Rattle.par_pass.specs.Settled.{AllSay}

@@ -3,12 +3,13 @@ use Rattle.std.proofs.Common.{ℕ, zero, suc, Bool, true, false, cond, Option, S
 use Rattle.std.proofs.Common.{◌∷◌}
 use Rattle.std.specs.Prelude.{nat_eq}
 use Rattle.par_bits.specs.Sets.{Set}
-use Rattle.par_rules.specs.Lattice.{Lattice, numbers}
-use Rattle.par_rules.specs.Ways as rules
-use Rattle.par_rules.specs.Ways.{raised, assigned, opened, shut, moved}
-use Rattle.par_rules.specs.Facts.{Fact, blank}
-use Rattle.par_rules.specs.Rules.{From, Entry, After, Tested, Raised, Opened, Shut, Assigned}
-use Rattle.par_rules.specs.Rules.{Worth, Given, Held, Value, way, worth, held, part_at}
+use Rattle.par_except.specs.par_rules.Lattice.{Lattice, numbers}
+use Rattle.par_except.specs.par_rules.Ways as rules
+use Rattle.par_except.specs.par_rules.Ways.{raised, assigned, opened, shut, moved}
+use Rattle.par_except.specs.par_rules.Facts.{Fact, blank}
+use Rattle.par_except.specs.par_rules.Rules.{From, Entry, After, Tested, Raised, Opened, Shut}
+use Rattle.par_except.specs.par_rules.Rules.{Assigned}
+use Rattle.par_except.specs.par_rules.Rules.{Worth, Given, Held, Value, way, worth, held, part_at}
 use Rattle.par_except.specs.Joins.{join}
 use Rattle.par_pass.specs.Exits.{Way}
 use Rattle.par_pass.specs.Low.{Stands, LandsUnder, FlowsUnder, MayLand, MayFlow, IsLow}

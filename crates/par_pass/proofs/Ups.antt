@@ -2,10 +2,10 @@
 use Rattle.std.proofs.Common.{◌≡◌, Bool, true, false, cond, Option, Some, None, List, [], ◌∷◌, refl}
 use Rattle.std.proofs.Common.{sym, ap, ◌∙◌, subst}
 use Rattle.par_bits.specs.Sets.{Set, IsWithin, union}
-use Rattle.par_rules.specs.Lattice.{numbers}
-use Rattle.par_rules.specs.Kinds.{Kind, Normal, same, normal}
-use Rattle.par_rules.specs.Ways.{MayFlow, MayLand, MayRaise}
-use Rattle.par_rules.specs.Rules.{Holds}
+use Rattle.par_except.specs.par_rules.Lattice.{numbers}
+use Rattle.par_except.specs.par_rules.Kinds.{Kind, Normal, same, normal}
+use Rattle.par_except.specs.par_rules.Ways.{MayFlow, MayLand, MayRaise}
+use Rattle.par_except.specs.par_rules.Rules.{Holds}
 use Rattle.par_except.specs.Joins.{join}
 use Rattle.par_pass.specs.Exits.{Way, Exit, at, add, all, leaving, contexts, with_context, restored}
 use Rattle.par_pass.proofs.Order.{sub_refl, sub_trans, union_l, union_r, flows_refl, may_refl}

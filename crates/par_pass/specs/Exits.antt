@@ -1,9 +1,9 @@
 -- Exits as a pass makes them: a list with one way a kind.
 use Rattle.std.specs.Prelude.{Bool, cond, Option, Some, None, List, [], ◌∷◌}
 use Rattle.par_bits.specs.Sets.{Set, union}
-use Rattle.par_rules.specs.Lattice.{numbers}
-use Rattle.par_rules.specs.Kinds.{Kind, Normal, same}
-use Rattle.par_rules.specs.Ways as rules
+use Rattle.par_except.specs.par_rules.Lattice.{numbers}
+use Rattle.par_except.specs.par_rules.Kinds.{Kind, Normal, same}
+use Rattle.par_except.specs.par_rules.Ways as rules
 use Rattle.par_except.specs.Joins.{join}
 
 abbrev pub Way : Type 0

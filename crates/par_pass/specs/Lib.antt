@@ -6,3 +6,7 @@ pub mod Possible
 pub mod Seens
 pub mod Written
 pub mod Result
+pub use Rattle.par_except.specs as par_except
+pub use Rattle.par_except.specs.par_policy as par_policy
+pub use Rattle.par_except.specs.par_rules as par_rules
+pub use Rattle.par_except.specs.par_typed as par_typed

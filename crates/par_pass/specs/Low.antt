@@ -1,10 +1,10 @@
 -- What is found, below facts over any lattice of policies.
 use Rattle.std.specs.Prelude.{ℕ, Option, Some, None, List, [], ◌∷◌}
 use Rattle.par_bits.specs.Sets.{Set, none, adding, union, IsWithin}
-use Rattle.par_rules.specs.Lattice.{Lattice, numbers}
-use Rattle.par_rules.specs.Kinds.{Kind}
-use Rattle.par_rules.specs.Ways as rules
-use Rattle.par_rules.specs.Facts.{Fact, Facts}
+use Rattle.par_except.specs.par_rules.Lattice.{Lattice, numbers}
+use Rattle.par_except.specs.par_rules.Kinds.{Kind}
+use Rattle.par_except.specs.par_rules.Ways as rules
+use Rattle.par_except.specs.par_rules.Facts.{Fact, Facts}
 use Rattle.par_pass.specs.Exits.{Way}
 use Rattle.par_pass.specs.Pass.{HeadWays, Event, Row, Into}
 

@@ -1,11 +1,12 @@
 -- What one pass over the rules of a body finds, from a way and the heads of loops.
 use Rattle.std.specs.Prelude.{ℕ, Option, Some, None, List, [], ◌∷◌, ◌++◌}
 use Rattle.par_bits.specs.Sets.{Set, none, union}
-use Rattle.par_rules.specs.Lattice.{numbers}
-use Rattle.par_rules.specs.Kinds.{normal, absorbed}
-use Rattle.par_rules.specs.Facts.{Fact, blank}
-use Rattle.par_rules.specs.Rules.{Node, node, Rules, Done, Part, Test, Heads, Leaves, Worths}
-use Rattle.par_rules.specs.Rules.{spot, way, worth}
+use Rattle.par_except.specs.par_rules.Lattice.{numbers}
+use Rattle.par_except.specs.par_rules.Kinds.{normal, absorbed}
+use Rattle.par_except.specs.par_rules.Facts.{Fact, blank}
+use Rattle.par_except.specs.par_rules.Rules.{Node, node, Rules, Done, Part, Test, Heads, Leaves}
+use Rattle.par_except.specs.par_rules.Rules.{Worths}
+use Rattle.par_except.specs.par_rules.Rules.{spot, way, worth}
 use Rattle.par_pass.specs.Exits.{Way, Exit, at, all, leaving, restored, leave}
 
 -- the head ways of loops, at the points of their tests

@@ -1,10 +1,11 @@
 -- Facts with exits for possible completions alone.
 use Rattle.std.specs.Prelude.{◌≡◌, false, None}
-use Rattle.par_rules.specs.Lattice.{Lattice}
-use Rattle.par_rules.specs.Kinds.{Kind}
-use Rattle.par_rules.specs.Facts.{Facts}
-use Rattle.par_rules.specs.Rules.{Node, node, Rules, Done, Part, Test, Heads, Leaves, Worths, spot}
-use Rattle.par_rules.specs.Rules.{can, WhereReached}
+use Rattle.par_except.specs.par_rules.Lattice.{Lattice}
+use Rattle.par_except.specs.par_rules.Kinds.{Kind}
+use Rattle.par_except.specs.par_rules.Facts.{Facts}
+use Rattle.par_except.specs.par_rules.Rules.{Node, node, Rules, Done, Part, Test, Heads, Leaves}
+use Rattle.par_except.specs.par_rules.Rules.{Worths, spot}
+use Rattle.par_except.specs.par_rules.Rules.{can, WhereReached}
 
 module _ (P : Lattice) (a : Facts P) where
   unfoldable mutual

@@ -1,12 +1,12 @@
 -- What the rounds leave: the facts of a pass that raises no head, over heads that are low.
 use Rattle.std.specs.Prelude.{◌≡◌, ◌↔◌, ℕ, List}
-use Rattle.par_typed.specs.Plain.{Body}
-use Rattle.par_rules.specs.Lattice.{Lattice, numbers}
-use Rattle.par_rules.specs.Kinds.{Kind}
-use Rattle.par_rules.specs.Facts.{Fact, Facts}
-use Rattle.par_rules.specs.Declares.{Declares}
-use Rattle.par_rules.specs.Body.{sta}
-use Rattle.par_rules.specs.Closed.{IsClosed, IsThere, IsReached, IsPossible, first}
+use Rattle.par_except.specs.par_typed.Plain.{Body}
+use Rattle.par_except.specs.par_rules.Lattice.{Lattice, numbers}
+use Rattle.par_except.specs.par_rules.Kinds.{Kind}
+use Rattle.par_except.specs.par_rules.Facts.{Fact, Facts}
+use Rattle.par_except.specs.par_rules.Declares.{Declares}
+use Rattle.par_except.specs.par_rules.Body.{sta}
+use Rattle.par_except.specs.par_rules.Closed.{IsClosed, IsThere, IsReached, IsPossible, first}
 use Rattle.par_pass.specs.Low.{Stands, IsLow}
 use Rattle.par_pass.specs.Pass.{HeadWays, pass}
 use Rattle.par_pass.specs.Written.{blanks, written, AllFit}

@@ -1,9 +1,9 @@
 -- Policies by who sees them, in a list by their numbers.
 use Rattle.std.specs.Prelude.{ℕ, zero, suc, true, ◌&&◌, ◌||◌, not, List, [], ◌∷◌}
-use Rattle.par_policy.specs.declared.clauses.Clause.{Clause}
-use Rattle.par_policy.specs.Sees.{sees}
+use Rattle.par_except.specs.par_policy.declared.clauses.Clause.{Clause}
+use Rattle.par_except.specs.par_policy.Sees.{sees}
 use Rattle.par_bits.specs.Sets.{Set}
-use Rattle.par_rules.specs.Lattice.{Lattice, Seen, IsSeenBelow}
+use Rattle.par_except.specs.par_rules.Lattice.{Lattice, Seen, IsSeenBelow}
 
 -- the policy of a number; what is no policy of the list all see
 abbrev pub given_of : List Seen → ℕ → Seen

@@ -1,8 +1,8 @@
 -- Facts that hold what a pass finds, where no head is raised.
 use Rattle.std.specs.Prelude.{◌≡◌, List, [], ◌∷◌}
-use Rattle.par_rules.specs.Lattice.{numbers}
-use Rattle.par_rules.specs.Ways.{MayFlow}
-use Rattle.par_rules.specs.Facts.{Facts}
+use Rattle.par_except.specs.par_rules.Lattice.{numbers}
+use Rattle.par_except.specs.par_rules.Ways.{MayFlow}
+use Rattle.par_except.specs.par_rules.Facts.{Facts}
 use Rattle.par_pass.specs.Pass.{HeadWays, Event, Row, Into}
 
 -- the fact of the point is the noted one, and the way flows into its head as it stands

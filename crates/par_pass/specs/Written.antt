@@ -1,8 +1,8 @@
 -- What a list of events makes of a table of facts by points.
 use Rattle.std.specs.Prelude.{ℕ, zero, suc, List, [], ◌∷◌, slice_index_or, slice_set}
-use Rattle.par_rules.specs.Lattice.{numbers}
-use Rattle.par_rules.specs.Ways.{MayFlow}
-use Rattle.par_rules.specs.Facts.{Fact, Facts, blank}
+use Rattle.par_except.specs.par_rules.Lattice.{numbers}
+use Rattle.par_except.specs.par_rules.Ways.{MayFlow}
+use Rattle.par_except.specs.par_rules.Facts.{Fact, Facts, blank}
 use Rattle.par_pass.specs.Pass.{HeadWays, Event, Row, Into}
 
 abbrev pub blanks : ℕ → List (Fact numbers)

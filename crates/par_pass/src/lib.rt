@@ -4,3 +4,6 @@
 //! and facts that hold what a pass finds are closed where no head is raised. The crate has no code:
 //! passes that run are proved equal to this one.
 #![tactic(auto)]
+
+pub use par_except;
+pub use par_except::{par_policy, par_rules, par_typed};

@@ -6,14 +6,14 @@ use Rattle.std.proofs.Common.{◌*◌, ◌≤◌, ◌<◌, length-set}
 use Rattle.std.specs.List.{slice_get}
 use Rattle.std.specs.Prelude.{nat_le}
 use Rattle.std.proofs.lemmas.Bool.{eqb-true, leb-true, leb-false}
-use Rattle.par_link.proofs.Passing.{eq_turned}
+use Rattle.par_kinds.proofs.par_link.Passing.{eq_turned}
 use Rattle.par_instr.specs.declared.instr.Instr.{Instr}
 use Rattle.par_instr.specs.Decoding.{Decoded, decoded_at}
-use Rattle.par_class.specs.declared.file.Catch.{Catch}
-use Rattle.par_class.specs.declared.file.CodeAttr.{CodeAttr}
+use Rattle.par_kinds.specs.par_class.declared.file.Catch.{Catch}
+use Rattle.par_kinds.specs.par_class.declared.file.CodeAttr.{CodeAttr}
 use Rattle.par_values.specs.Areas.{Name}
 use Rattle.par_instr.specs.Spelling.{operand_bytes}
-use Rattle.par_single.specs.Walk.{starts_at, starts_after, if_listed}
+use Rattle.par_kinds.specs.par_single.Walk.{starts_at, starts_after, if_listed}
 use Rattle.par_kinds.specs.declared.frame.VKind.{VKind}
 use Rattle.par_kinds.specs.declared.frame.VKind.TheVariants.{Top as ATop, Int as AnInt}
 use Rattle.par_kinds.specs.declared.frame.VKind.TheVariants.{Null as ANull, Object as AnObject}

@@ -3,11 +3,11 @@ use Rattle.std.proofs.Common.{◌≡◌, ℕ, true, List, [], ◌∷◌, Some, N
 use Rattle.par_instr.specs.declared.instr.Instr.{Instr}
 use Rattle.par_instr.specs.Spelling.{opcode_row}
 use Rattle.par_instr.specs.Decoding.{instruction}
-use Rattle.par_class.specs.declared.file.CodeAttr.{CodeAttr}
+use Rattle.par_kinds.specs.par_class.declared.file.CodeAttr.{CodeAttr}
 use Rattle.par_values.specs.Operations.{operation}
 use Rattle.par_values.specs.declared.link.Link.TheVariants as link
-use Rattle.par_link.specs.declared.entry.Named.TheVariants as named
-use Rattle.par_single.specs.Walk.{starts_after}
+use Rattle.par_kinds.specs.par_link.declared.entry.Named.TheVariants as named
+use Rattle.par_kinds.specs.par_single.Walk.{starts_after}
 use Rattle.par_kinds.specs.declared.frame.VKind.TheVariants.{Top as ATop}
 use Rattle.par_kinds.specs.declared.frame.VKind.TheVariants.{Base as ABase}
 use Rattle.par_kinds.specs.Kinds.{KFrame, into, accepts, throwable, exceptional}

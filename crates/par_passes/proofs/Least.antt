@@ -5,10 +5,10 @@ use Rattle.std.proofs.Common.{arith, ◌+◌, ◌*◌, ◌≤◌, ◌<◌}
 use Rattle.std.specs.Prelude.{nat_le}
 use Rattle.std.proofs.lemmas.Bool.{eqb-true, eq-eqb, leb-true, le-leb}
 use Rattle.par_instr.specs.declared.instr.Instr.{Instr}
-use Rattle.par_class.specs.declared.file.Catch.{Catch}
-use Rattle.par_class.specs.declared.file.CodeAttr.{CodeAttr}
+use Rattle.par_kinds.specs.par_class.declared.file.Catch.{Catch}
+use Rattle.par_kinds.specs.par_class.declared.file.CodeAttr.{CodeAttr}
 use Rattle.par_values.specs.Areas.{Name}
-use Rattle.par_single.specs.Walk.{starts_at}
+use Rattle.par_kinds.specs.par_single.Walk.{starts_at}
 use Rattle.par_kinds.specs.declared.frame.VKind.{VKind}
 use Rattle.par_kinds.specs.Kinds.{KFrame, FrameInto}
 use Rattle.par_kinds.specs.Acts.{Act}

@@ -6,10 +6,10 @@ use Rattle.std.specs.Prelude.{nat_le}
 use Rattle.std.proofs.lemmas.Bool.{eq-eqb, le-leb}
 use Rattle.par_instr.specs.declared.instr.Instr.{Instr}
 use Rattle.par_instr.specs.Decoding.{decoded_at}
-use Rattle.par_class.specs.declared.file.Catch.{Catch}
-use Rattle.par_class.specs.declared.file.CodeAttr.{CodeAttr}
+use Rattle.par_kinds.specs.par_class.declared.file.Catch.{Catch}
+use Rattle.par_kinds.specs.par_class.declared.file.CodeAttr.{CodeAttr}
 use Rattle.par_values.specs.Areas.{Name}
-use Rattle.par_single.specs.Walk.{starts_at}
+use Rattle.par_kinds.specs.par_single.Walk.{starts_at}
 use Rattle.par_kinds.specs.declared.frame.VKind.{VKind}
 use Rattle.par_kinds.specs.Kinds.{KFrame, Both, Into, FrameInto, Each}
 use Rattle.par_kinds.specs.Acts.{Act, left_by, next_offsets}

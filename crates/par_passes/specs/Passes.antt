@@ -6,12 +6,12 @@ use Rattle.std.specs.Prelude.{◌∷◌, ◌++◌, length, slice_set, Option, So
 use Rattle.std.specs.List.{slice_get}
 use Rattle.par_instr.specs.declared.instr.Instr.{Instr}
 use Rattle.par_instr.specs.Decoding.{Decoded, decoded_at}
-use Rattle.par_class.specs.declared.file.Catch.{Catch}
-use Rattle.par_class.specs.declared.file.CodeAttr.{CodeAttr}
+use Rattle.par_kinds.specs.par_class.declared.file.Catch.{Catch}
+use Rattle.par_kinds.specs.par_class.declared.file.CodeAttr.{CodeAttr}
 use Rattle.par_values.specs.declared.kind.Kind.{Kind}
 use Rattle.par_values.specs.declared.kind.Kind.TheVariants.{AnyObject}
 use Rattle.par_values.specs.Areas.{Name}
-use Rattle.par_single.specs.Walk.{starts_at}
+use Rattle.par_kinds.specs.par_single.Walk.{starts_at}
 use Rattle.par_kinds.specs.declared.frame.VKind.{VKind}
 use Rattle.par_kinds.specs.declared.frame.VKind.TheVariants.{Top as ATop, Int as AnInt}
 use Rattle.par_kinds.specs.declared.frame.VKind.TheVariants.{Null as ANull, Object as AnObject}

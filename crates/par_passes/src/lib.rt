@@ -9,3 +9,5 @@
 mod laws;
 
 pub use laws::{frames_as_told_are_least, least_frames_are_least, merges_are_least};
+pub use par_kinds;
+pub use par_kinds::par_steps;

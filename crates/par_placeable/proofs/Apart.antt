@@ -8,17 +8,21 @@ use Rattle.par_typed.specs.Plain.{TSta, Block, If, While, Try, Return, Break, Co
 use Rattle.par_typed.specs.Plain.{Close, SetLocal, SetStatic, SetField, Eval, When}
 use Rattle.par_typed.specs.Plain.{MayTSta, NoElse, Otherwise, TStas, End, Then, TCatches, NoCatch}
 use Rattle.par_typed.specs.Plain.{Catch}
-use Rattle.par_completes.specs.Typed.{completes, is_true}
-use Rattle.par_code_form.specs.declared.labelled.LabelFrame.{LabelFrame}
-use Rattle.par_code_form.specs.Code.{Words, Shape, Calculates, Compares, Sames, Decides}
-use Rattle.par_code_form.specs.Code.{shape_of, shape_labels}
-use Rattle.par_code_form.specs.Code.{expr_labels, may_labels, args_labels}
-use Rattle.par_code_form.specs.Code.{labels, else_labels, all_labels, catch_labels}
-use Rattle.par_code_form.specs.Again.{goes_again}
-use Rattle.par_code_form.specs.Frames.{Types, scope_behind, with_operand, with_receiver, below}
-use Rattle.par_code_form.specs.Frames.{frame, frame_if, test_frames, shape_frames, expr_frames}
-use Rattle.par_code_form.specs.Frames.{may_frames, args_frames, loop_frames, frames, else_frames}
-use Rattle.par_code_form.specs.Frames.{all_frames, catch_frames}
+use Rattle.par_well_typed.specs.par_completes.Typed.{completes, is_true}
+use Rattle.par_placed_code.specs.par_code_form.declared.labelled.LabelFrame.{LabelFrame}
+use Rattle.par_placed_code.specs.par_code_form.Code.{Words, Shape, Calculates, Compares, Sames}
+use Rattle.par_placed_code.specs.par_code_form.Code.{Decides}
+use Rattle.par_placed_code.specs.par_code_form.Code.{shape_of, shape_labels}
+use Rattle.par_placed_code.specs.par_code_form.Code.{expr_labels, may_labels, args_labels}
+use Rattle.par_placed_code.specs.par_code_form.Code.{labels, else_labels, all_labels, catch_labels}
+use Rattle.par_placed_code.specs.par_code_form.Again.{goes_again}
+use Rattle.par_placed_code.specs.par_code_form.Frames.{Types, scope_behind, with_operand}
+use Rattle.par_placed_code.specs.par_code_form.Frames.{with_receiver, below}
+use Rattle.par_placed_code.specs.par_code_form.Frames.{frame, frame_if, test_frames, shape_frames}
+use Rattle.par_placed_code.specs.par_code_form.Frames.{expr_frames}
+use Rattle.par_placed_code.specs.par_code_form.Frames.{may_frames, args_frames, loop_frames, frames}
+use Rattle.par_placed_code.specs.par_code_form.Frames.{else_frames}
+use Rattle.par_placed_code.specs.par_code_form.Frames.{all_frames, catch_frames}
 use Rattle.par_placeable.proofs.Counts.{bit, under, step, step_two, step_three, true_labels}
 
 -- how many frames stand at a label

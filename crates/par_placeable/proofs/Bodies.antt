@@ -6,12 +6,12 @@ use Rattle.std.specs.List.{AllByRecursion}
 use Rattle.par_typed.specs.declared.table.MethodInfo.{MethodInfo}
 use Rattle.par_typed.specs.declared.table.Table.{Table}
 use Rattle.par_typed.specs.Plain.{Body}
-use Rattle.par_bodies.specs.Forms.{Setting}
-use Rattle.par_bodies.specs.Locals.{set_by_call}
-use Rattle.par_bodies.specs.Members.{method_at}
-use Rattle.par_bodies.specs.Proper.{IsProper, IsProperOf}
-use Rattle.par_code_form.specs.Code.{Words}
-use Rattle.par_code_form.specs.Method.{labelled, first_scope}
+use Rattle.par_well_typed.specs.par_bodies.Forms.{Setting}
+use Rattle.par_well_typed.specs.par_bodies.Locals.{set_by_call}
+use Rattle.par_well_typed.specs.par_bodies.Members.{method_at}
+use Rattle.par_well_typed.specs.par_bodies.Proper.{IsProper, IsProperOf}
+use Rattle.par_placed_code.specs.par_code_form.Code.{Words}
+use Rattle.par_placed_code.specs.par_code_form.Method.{labelled, first_scope}
 use Rattle.par_erase.specs.Asked.{Locks}
 use Rattle.par_erase.specs.Erased.{erased_method, erased_sta}
 use Rattle.par_well_typed.specs.Sizes.{IsSmallBody}

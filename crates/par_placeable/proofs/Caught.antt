@@ -5,14 +5,16 @@ use Rattle.par_typed.specs.Plain.{TSta, Block, If, While, Try, Return, Break, Co
 use Rattle.par_typed.specs.Plain.{Close, SetLocal, SetStatic, SetField, Eval, When}
 use Rattle.par_typed.specs.Plain.{MayTSta, NoElse, Otherwise, TStas, End, Then, TCatches, NoCatch}
 use Rattle.par_typed.specs.Plain.{Catch}
-use Rattle.par_completes.specs.Typed.{completes}
+use Rattle.par_well_typed.specs.par_completes.Typed.{completes}
 use Rattle.par_pool.specs.Spelling.{IsText}
-use Rattle.par_code_form.specs.declared.item.Item.{Item}
-use Rattle.par_code_form.specs.declared.item.Item.TheVariants.{Label}
-use Rattle.par_code_form.specs.declared.labelled.Handler.{Handler}
-use Rattle.par_code_form.specs.Code.{Words, expr_labels, Loop, goes_on, labels, code, else_code}
-use Rattle.par_code_form.specs.Code.{all_code, catch_code}
-use Rattle.par_code_form.specs.Code.{handlers, else_handlers, all_handlers, catch_handlers}
+use Rattle.par_placed_code.specs.par_code_form.declared.item.Item.{Item}
+use Rattle.par_placed_code.specs.par_code_form.declared.item.Item.TheVariants.{Label}
+use Rattle.par_placed_code.specs.par_code_form.declared.labelled.Handler.{Handler}
+use Rattle.par_placed_code.specs.par_code_form.Code.{Words, expr_labels, Loop, goes_on, labels}
+use Rattle.par_placed_code.specs.par_code_form.Code.{code, else_code}
+use Rattle.par_placed_code.specs.par_code_form.Code.{all_code, catch_code}
+use Rattle.par_placed_code.specs.par_code_form.Code.{handlers, else_handlers, all_handlers}
+use Rattle.par_placed_code.specs.par_code_form.Code.{catch_handlers}
 use Rattle.par_placed_code.specs.Named.{full_name}
 use Rattle.par_placeable.specs.Texts.{AreTexts}
 use Rattle.par_placeable.proofs.Ends.{IsEnd, here, past, chain, IsBefore, HasOp, at_head, none}

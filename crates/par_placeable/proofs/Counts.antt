@@ -11,23 +11,30 @@ use Rattle.par_typed.specs.Plain.{TSta, Block, If, While, Try, Return, Break, Co
 use Rattle.par_typed.specs.Plain.{Close, SetLocal, SetStatic, SetField, Eval, When}
 use Rattle.par_typed.specs.Plain.{MayTSta, NoElse, Otherwise, TStas, End, Then, TCatches, NoCatch}
 use Rattle.par_typed.specs.Plain.{Catch}
-use Rattle.par_completes.specs.Typed.{completes, is_true}
-use Rattle.par_code_form.specs.declared.item.Item.{Item}
-use Rattle.par_code_form.specs.declared.item.Item.TheVariants.{Label, Op, Jump, Member}
-use Rattle.par_code_form.specs.Opcodes.{IFEQ, IF_ICMPEQ, GETFIELD, PUTSTATIC, PUTFIELD}
-use Rattle.par_code_form.specs.Opcodes.{INVOKESTATIC}
+use Rattle.par_well_typed.specs.par_completes.Typed.{completes, is_true}
+use Rattle.par_placed_code.specs.par_code_form.declared.item.Item.{Item}
+use Rattle.par_placed_code.specs.par_code_form.declared.item.Item.TheVariants.{Label, Op, Jump}
+use Rattle.par_placed_code.specs.par_code_form.declared.item.Item.TheVariants.{Member}
+use Rattle.par_placed_code.specs.par_code_form.Opcodes.{IFEQ, IF_ICMPEQ, GETFIELD, PUTSTATIC}
+use Rattle.par_placed_code.specs.par_code_form.Opcodes.{PUTFIELD}
+use Rattle.par_placed_code.specs.par_code_form.Opcodes.{INVOKESTATIC}
 use Rattle.par_instr.specs.declared.instr.Instr.TheVariants.{Iload, Aload, IloadShort, AloadShort}
 use Rattle.par_instr.specs.declared.instr.Instr.TheVariants.{Istore, Astore, IstoreShort}
 use Rattle.par_instr.specs.declared.instr.Instr.TheVariants.{AstoreShort, Ireturn, Areturn, Pop}
 use Rattle.par_instr.specs.declared.instr.Instr.TheVariants.{Ineg}
-use Rattle.par_code_form.specs.Code.{Words, Shape, Calculates, Compares, Sames, Decides, shape_of}
-use Rattle.par_code_form.specs.Code.{shape_labels, shape_code, between, test_code}
-use Rattle.par_code_form.specs.Code.{expr_labels, may_labels, args_labels, expr_code, may_code}
-use Rattle.par_code_form.specs.Code.{args_code}
-use Rattle.par_code_form.specs.Code.{Loop, goes_on, loop_test, labels, else_labels, all_labels}
-use Rattle.par_code_form.specs.Code.{catch_labels, code, else_code, all_code, catch_code, ending}
-use Rattle.par_code_form.specs.Code.{is_number, is_void, no_loop, body_code, invoke, store}
-use Rattle.par_code_form.specs.Code.{give_back, dropped, same_opcode}
+use Rattle.par_placed_code.specs.par_code_form.Code.{Words, Shape, Calculates, Compares, Sames}
+use Rattle.par_placed_code.specs.par_code_form.Code.{Decides, shape_of}
+use Rattle.par_placed_code.specs.par_code_form.Code.{shape_labels, shape_code, between, test_code}
+use Rattle.par_placed_code.specs.par_code_form.Code.{expr_labels, may_labels, args_labels}
+use Rattle.par_placed_code.specs.par_code_form.Code.{expr_code, may_code}
+use Rattle.par_placed_code.specs.par_code_form.Code.{args_code}
+use Rattle.par_placed_code.specs.par_code_form.Code.{Loop, goes_on, loop_test, labels, else_labels}
+use Rattle.par_placed_code.specs.par_code_form.Code.{all_labels}
+use Rattle.par_placed_code.specs.par_code_form.Code.{catch_labels, code, else_code, all_code}
+use Rattle.par_placed_code.specs.par_code_form.Code.{catch_code, ending}
+use Rattle.par_placed_code.specs.par_code_form.Code.{is_number, is_void, no_loop, body_code, invoke}
+use Rattle.par_placed_code.specs.par_code_form.Code.{store}
+use Rattle.par_placed_code.specs.par_code_form.Code.{give_back, dropped, same_opcode}
 use Rattle.par_placed_code.specs.Placed.{is_label}
 
 abbrev pub bit : Bool → ℕ

@@ -10,13 +10,17 @@ use Rattle.par_typed.specs.Plain.{TSta, Block, If, While, Try, Return, Break, Co
 use Rattle.par_typed.specs.Plain.{Close, SetLocal, SetStatic, SetField, Eval, When}
 use Rattle.par_typed.specs.Plain.{MayTSta, NoElse, Otherwise, TStas, End, Then, TCatches, NoCatch}
 use Rattle.par_typed.specs.Plain.{Catch}
-use Rattle.par_completes.specs.Typed.{completes, is_true}
-use Rattle.par_code_form.specs.declared.item.Item.{Item}
-use Rattle.par_code_form.specs.Code.{Words, Shape, Calculates, Compares, Sames, Decides, shape_of}
-use Rattle.par_code_form.specs.Code.{shape_labels, shape_code, between, test_code, made}
-use Rattle.par_code_form.specs.Code.{expr_labels, may_labels, expr_code, may_code, args_code}
-use Rattle.par_code_form.specs.Code.{Loop, goes_on, loop_test, labels, code, else_code, all_code}
-use Rattle.par_code_form.specs.Code.{catch_code, is_void}
+use Rattle.par_well_typed.specs.par_completes.Typed.{completes, is_true}
+use Rattle.par_placed_code.specs.par_code_form.declared.item.Item.{Item}
+use Rattle.par_placed_code.specs.par_code_form.Code.{Words, Shape, Calculates, Compares, Sames}
+use Rattle.par_placed_code.specs.par_code_form.Code.{Decides, shape_of}
+use Rattle.par_placed_code.specs.par_code_form.Code.{shape_labels, shape_code, between, test_code}
+use Rattle.par_placed_code.specs.par_code_form.Code.{made}
+use Rattle.par_placed_code.specs.par_code_form.Code.{expr_labels, may_labels, expr_code, may_code}
+use Rattle.par_placed_code.specs.par_code_form.Code.{args_code}
+use Rattle.par_placed_code.specs.par_code_form.Code.{Loop, goes_on, loop_test, labels, code}
+use Rattle.par_placed_code.specs.par_code_form.Code.{else_code, all_code}
+use Rattle.par_placed_code.specs.par_code_form.Code.{catch_code, is_void}
 use Rattle.par_placed_code.specs.Instructions.{is_instruction}
 
 -- these items stand at the end of those

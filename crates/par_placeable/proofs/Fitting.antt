@@ -7,7 +7,7 @@ use Rattle.par_typed.specs.Plain.{TSta, Block, If, While, Try, Return, Break, Co
 use Rattle.par_typed.specs.Plain.{Close, SetLocal, SetStatic, SetField, Eval, When}
 use Rattle.par_typed.specs.Plain.{MayTSta, NoElse, Otherwise, TStas, End, Then, TCatches, NoCatch}
 use Rattle.par_typed.specs.Plain.{Catch}
-use Rattle.par_code_form.specs.Code.{is_void}
+use Rattle.par_placed_code.specs.par_code_form.Code.{is_void}
 
 -- a value is left
 abbrev pub Gives : TExp → Type 0

@@ -14,24 +14,32 @@ use Rattle.par_typed.specs.Plain.{TSta, Block, If, While, Try, Return, Break, Co
 use Rattle.par_typed.specs.Plain.{Close, SetLocal, SetStatic, SetField, Eval, When}
 use Rattle.par_typed.specs.Plain.{MayTSta, NoElse, Otherwise, TStas, End, Then, TCatches, NoCatch}
 use Rattle.par_typed.specs.Plain.{Catch}
-use Rattle.par_completes.specs.Typed.{completes, else_completes, last_completes, is_true}
-use Rattle.par_code_form.specs.declared.item.Item.{Item}
-use Rattle.par_code_form.specs.declared.item.Item.TheVariants.{Label, Op}
-use Rattle.par_code_form.specs.declared.labelled.LabelFrame.{LabelFrame}
-use Rattle.par_code_form.specs.Code.{Words, Shape, Calculates, Compares, Sames, Decides}
-use Rattle.par_code_form.specs.Code.{shape_of, shape_labels, shape_code, test_code}
-use Rattle.par_code_form.specs.Code.{expr_labels, may_labels, expr_code, may_code, args_code}
-use Rattle.par_code_form.specs.Code.{Loop, loop_test, labels, code, else_code, all_code}
-use Rattle.par_code_form.specs.Code.{catch_code, is_void, is_number}
-use Rattle.par_code_form.specs.Operands.{expr_top, may_top, receivers, args_top, below_second}
-use Rattle.par_code_form.specs.Operands.{between_top, top, else_top, all_top}
-use Rattle.par_code_form.specs.Operands.{catch_top}
-use Rattle.par_code_form.specs.Again.{goes_again}
-use Rattle.par_code_form.specs.Frames.{Types, with_local, scope_behind}
-use Rattle.par_code_form.specs.Frames.{with_operand, with_receiver, below, slot, frame, frame_if}
-use Rattle.par_code_form.specs.Frames.{test_frames, shape_frames, expr_frames, may_frames}
-use Rattle.par_code_form.specs.Frames.{args_frames, loop_frames, frames, else_frames, all_frames}
-use Rattle.par_code_form.specs.Frames.{catch_frames}
+use Rattle.par_well_typed.specs.par_completes.Typed.{completes, else_completes, last_completes}
+use Rattle.par_well_typed.specs.par_completes.Typed.{is_true}
+use Rattle.par_placed_code.specs.par_code_form.declared.item.Item.{Item}
+use Rattle.par_placed_code.specs.par_code_form.declared.item.Item.TheVariants.{Label, Op}
+use Rattle.par_placed_code.specs.par_code_form.declared.labelled.LabelFrame.{LabelFrame}
+use Rattle.par_placed_code.specs.par_code_form.Code.{Words, Shape, Calculates, Compares, Sames}
+use Rattle.par_placed_code.specs.par_code_form.Code.{Decides}
+use Rattle.par_placed_code.specs.par_code_form.Code.{shape_of, shape_labels, shape_code, test_code}
+use Rattle.par_placed_code.specs.par_code_form.Code.{expr_labels, may_labels, expr_code, may_code}
+use Rattle.par_placed_code.specs.par_code_form.Code.{args_code}
+use Rattle.par_placed_code.specs.par_code_form.Code.{Loop, loop_test, labels, code, else_code}
+use Rattle.par_placed_code.specs.par_code_form.Code.{all_code}
+use Rattle.par_placed_code.specs.par_code_form.Code.{catch_code, is_void, is_number}
+use Rattle.par_placed_code.specs.par_code_form.Operands.{expr_top, may_top, receivers, args_top}
+use Rattle.par_placed_code.specs.par_code_form.Operands.{below_second}
+use Rattle.par_placed_code.specs.par_code_form.Operands.{between_top, top, else_top, all_top}
+use Rattle.par_placed_code.specs.par_code_form.Operands.{catch_top}
+use Rattle.par_placed_code.specs.par_code_form.Again.{goes_again}
+use Rattle.par_placed_code.specs.par_code_form.Frames.{Types, with_local, scope_behind}
+use Rattle.par_placed_code.specs.par_code_form.Frames.{with_operand, with_receiver, below, slot}
+use Rattle.par_placed_code.specs.par_code_form.Frames.{frame, frame_if}
+use Rattle.par_placed_code.specs.par_code_form.Frames.{test_frames, shape_frames, expr_frames}
+use Rattle.par_placed_code.specs.par_code_form.Frames.{may_frames}
+use Rattle.par_placed_code.specs.par_code_form.Frames.{args_frames, loop_frames, frames}
+use Rattle.par_placed_code.specs.par_code_form.Frames.{else_frames, all_frames}
+use Rattle.par_placed_code.specs.par_code_form.Frames.{catch_frames}
 use Rattle.par_placeable.proofs.Fitting.{Gives, ExpFits, MayFits, ArgsFit, StaFits, ElseFits}
 use Rattle.par_placeable.proofs.Fitting.{AllFit, CatchesFit}
 use Rattle.par_placeable.proofs.Ends.{IsEnd, here, more, past, chain, HasOp, in_more, at_head, none}

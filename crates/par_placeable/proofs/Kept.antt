@@ -13,13 +13,14 @@ use Rattle.par_typed.specs.Plain.{TSta, Block, If, While, Try, Return, Break, Co
 use Rattle.par_typed.specs.Plain.{Close, SetLocal, SetStatic, SetField, Eval, When}
 use Rattle.par_typed.specs.Plain.{MayTSta, NoElse, Otherwise, TStas, End, Then, TCatches, NoCatch}
 use Rattle.par_typed.specs.Plain.{Catch}
-use Rattle.par_bodies.specs.Types.{Is}
-use Rattle.par_bodies.specs.Forms.{Setting}
-use Rattle.par_bodies.specs.Proper.{ExpIsProper, MayExpIsProper, ExpsAreProper}
-use Rattle.par_bodies.specs.Proper.{StaIsProper, ElseIsProper, AllAreProper, CatchesAreProper}
-use Rattle.par_bodies.specs.Locals.{behind}
-use Rattle.par_completes.specs.Typed.{completes}
-use Rattle.par_code_form.specs.Code.{is_void}
+use Rattle.par_well_typed.specs.par_bodies.Types.{Is}
+use Rattle.par_well_typed.specs.par_bodies.Forms.{Setting}
+use Rattle.par_well_typed.specs.par_bodies.Proper.{ExpIsProper, MayExpIsProper, ExpsAreProper}
+use Rattle.par_well_typed.specs.par_bodies.Proper.{StaIsProper, ElseIsProper, AllAreProper}
+use Rattle.par_well_typed.specs.par_bodies.Proper.{CatchesAreProper}
+use Rattle.par_well_typed.specs.par_bodies.Locals.{behind}
+use Rattle.par_well_typed.specs.par_completes.Typed.{completes}
+use Rattle.par_placed_code.specs.par_code_form.Code.{is_void}
 use Rattle.par_erase.specs.Asked.{Locks}
 use Rattle.par_erase.specs.Erased.{erased_exp, erased_may, erased_args}
 use Rattle.par_erase.specs.Erased.{erased_sta, erased_else, erased_all, erased_catches, set_if}

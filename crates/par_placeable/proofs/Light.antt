@@ -12,19 +12,27 @@ use Rattle.par_typed.specs.Plain.{TSta, Block, If, While, Try, Return, Break, Co
 use Rattle.par_typed.specs.Plain.{Close, SetLocal, SetStatic, SetField, Eval, When}
 use Rattle.par_typed.specs.Plain.{MayTSta, NoElse, Otherwise, TStas, End, Then, TCatches, NoCatch}
 use Rattle.par_typed.specs.Plain.{Catch}
-use Rattle.par_completes.specs.Typed.{completes, is_true}
-use Rattle.par_code_form.specs.declared.item.Item.{Item}
-use Rattle.par_code_form.specs.declared.item.Item.TheVariants.{Label, Op, Const, Jump, Member}
-use Rattle.par_code_form.specs.declared.labelled.Handler.{Handler}
-use Rattle.par_code_form.specs.Code.{Words, Shape, Calculates, Compares, Sames, Decides, shape}
-use Rattle.par_code_form.specs.Code.{shape_of, shape_labels, shape_code, between}
-use Rattle.par_code_form.specs.Code.{expr_labels, may_labels, expr_code, may_code, args_code}
-use Rattle.par_code_form.specs.Code.{Loop, goes_on, loop_test, labels, code, else_code, all_code}
-use Rattle.par_code_form.specs.Code.{catch_code, ending, load, store, give_back, dropped}
-use Rattle.par_code_form.specs.Code.{handlers, else_handlers, all_handlers, catch_handlers}
-use Rattle.par_code_form.specs.Code.{is_number, is_void, no_loop, body_code, body_handlers}
-use Rattle.par_code_form.specs.Code.{invoke, test_code}
-use Rattle.par_code_form.specs.Opcodes.{IFEQ, GETFIELD, PUTSTATIC, PUTFIELD, INVOKESTATIC}
+use Rattle.par_well_typed.specs.par_completes.Typed.{completes, is_true}
+use Rattle.par_placed_code.specs.par_code_form.declared.item.Item.{Item}
+use Rattle.par_placed_code.specs.par_code_form.declared.item.Item.TheVariants.{Label, Op, Const}
+use Rattle.par_placed_code.specs.par_code_form.declared.item.Item.TheVariants.{Jump, Member}
+use Rattle.par_placed_code.specs.par_code_form.declared.labelled.Handler.{Handler}
+use Rattle.par_placed_code.specs.par_code_form.Code.{Words, Shape, Calculates, Compares, Sames}
+use Rattle.par_placed_code.specs.par_code_form.Code.{Decides, shape}
+use Rattle.par_placed_code.specs.par_code_form.Code.{shape_of, shape_labels, shape_code, between}
+use Rattle.par_placed_code.specs.par_code_form.Code.{expr_labels, may_labels, expr_code, may_code}
+use Rattle.par_placed_code.specs.par_code_form.Code.{args_code}
+use Rattle.par_placed_code.specs.par_code_form.Code.{Loop, goes_on, loop_test, labels, code}
+use Rattle.par_placed_code.specs.par_code_form.Code.{else_code, all_code}
+use Rattle.par_placed_code.specs.par_code_form.Code.{catch_code, ending, load, store, give_back}
+use Rattle.par_placed_code.specs.par_code_form.Code.{dropped}
+use Rattle.par_placed_code.specs.par_code_form.Code.{handlers, else_handlers, all_handlers}
+use Rattle.par_placed_code.specs.par_code_form.Code.{catch_handlers}
+use Rattle.par_placed_code.specs.par_code_form.Code.{is_number, is_void, no_loop, body_code}
+use Rattle.par_placed_code.specs.par_code_form.Code.{body_handlers}
+use Rattle.par_placed_code.specs.par_code_form.Code.{invoke, test_code}
+use Rattle.par_placed_code.specs.par_code_form.Opcodes.{IFEQ, GETFIELD, PUTSTATIC, PUTFIELD}
+use Rattle.par_placed_code.specs.par_code_form.Opcodes.{INVOKESTATIC}
 use Rattle.par_instr.specs.declared.instr.Instr.TheVariants.{Ineg, Pop}
 use Rattle.par_instr.specs.Spelling.{is_constant}
 use Rattle.par_typed.specs.declared.ty.Ty.{Ty}

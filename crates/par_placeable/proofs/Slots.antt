@@ -16,17 +16,22 @@ use Rattle.par_typed.specs.Plain.{TSta, Block, If, While, Try, Return, Break, Co
 use Rattle.par_typed.specs.Plain.{Close, SetLocal, SetStatic, SetField, Eval, When}
 use Rattle.par_typed.specs.Plain.{MayTSta, NoElse, Otherwise, TStas, End, Then, TCatches, NoCatch}
 use Rattle.par_typed.specs.Plain.{Catch}
-use Rattle.par_completes.specs.Typed.{completes, is_true}
-use Rattle.par_code_form.specs.declared.labelled.LabelFrame.{LabelFrame}
-use Rattle.par_code_form.specs.Code.{Words, Shape, Calculates, Compares, Sames, Decides, shape_of}
-use Rattle.par_code_form.specs.Code.{shape_labels, expr_labels, may_labels, labels}
-use Rattle.par_code_form.specs.Again.{goes_again}
-use Rattle.par_code_form.specs.Frames.{Types, declared_type, with_local, scope_behind}
-use Rattle.par_code_form.specs.Frames.{with_operand, with_receiver, below, slot, frame, frame_if}
-use Rattle.par_code_form.specs.Frames.{test_frames, shape_frames, expr_frames, may_frames}
-use Rattle.par_code_form.specs.Frames.{args_frames, loop_frames, frames, else_frames, all_frames}
-use Rattle.par_code_form.specs.Frames.{catch_frames}
-use Rattle.par_code_form.specs.Method.{first_scope, set_by_call}
+use Rattle.par_well_typed.specs.par_completes.Typed.{completes, is_true}
+use Rattle.par_placed_code.specs.par_code_form.declared.labelled.LabelFrame.{LabelFrame}
+use Rattle.par_placed_code.specs.par_code_form.Code.{Words, Shape, Calculates, Compares, Sames}
+use Rattle.par_placed_code.specs.par_code_form.Code.{Decides, shape_of}
+use Rattle.par_placed_code.specs.par_code_form.Code.{shape_labels, expr_labels, may_labels, labels}
+use Rattle.par_placed_code.specs.par_code_form.Again.{goes_again}
+use Rattle.par_placed_code.specs.par_code_form.Frames.{Types, declared_type, with_local}
+use Rattle.par_placed_code.specs.par_code_form.Frames.{scope_behind}
+use Rattle.par_placed_code.specs.par_code_form.Frames.{with_operand, with_receiver, below, slot}
+use Rattle.par_placed_code.specs.par_code_form.Frames.{frame, frame_if}
+use Rattle.par_placed_code.specs.par_code_form.Frames.{test_frames, shape_frames, expr_frames}
+use Rattle.par_placed_code.specs.par_code_form.Frames.{may_frames}
+use Rattle.par_placed_code.specs.par_code_form.Frames.{args_frames, loop_frames, frames}
+use Rattle.par_placed_code.specs.par_code_form.Frames.{else_frames, all_frames}
+use Rattle.par_placed_code.specs.par_code_form.Frames.{catch_frames}
+use Rattle.par_placed_code.specs.par_code_form.Method.{first_scope, set_by_call}
 use Rattle.par_placeable.specs.Slots.{IsOfClass, IsOfClasses}
 
 -- a class below this number, or no class

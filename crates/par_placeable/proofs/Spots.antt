@@ -7,11 +7,13 @@ use Rattle.par_typed.specs.Plain.{mark, TExp, Absent, Present}
 use Rattle.par_typed.specs.Plain.{TSta, Block, If, While, Try, Return, Break, Continue, Throw, Open}
 use Rattle.par_typed.specs.Plain.{Close, SetLocal, SetStatic, SetField, Eval, When}
 use Rattle.par_typed.specs.Plain.{MayTSta, NoElse, Otherwise, TStas, End, Then, TCatches}
-use Rattle.par_completes.specs.Typed.{completes, else_completes, last_completes, is_true}
-use Rattle.par_code_form.specs.declared.item.Item.{Item}
-use Rattle.par_code_form.specs.declared.item.Item.TheVariants.{Label, Op, Jump}
-use Rattle.par_code_form.specs.Code.{Words, expr_labels, Loop, goes_on, loop_test}
-use Rattle.par_code_form.specs.Code.{labels, code, else_code, all_code, catch_code, is_number}
+use Rattle.par_well_typed.specs.par_completes.Typed.{completes, else_completes, last_completes}
+use Rattle.par_well_typed.specs.par_completes.Typed.{is_true}
+use Rattle.par_placed_code.specs.par_code_form.declared.item.Item.{Item}
+use Rattle.par_placed_code.specs.par_code_form.declared.item.Item.TheVariants.{Label, Op, Jump}
+use Rattle.par_placed_code.specs.par_code_form.Code.{Words, expr_labels, Loop, goes_on, loop_test}
+use Rattle.par_placed_code.specs.par_code_form.Code.{labels, code, else_code, all_code, catch_code}
+use Rattle.par_placed_code.specs.par_code_form.Code.{is_number}
 use Rattle.par_placeable.proofs.Ends.{IsEnd, here, more, past, chain, IsBefore, in_more}
 use Rattle.par_placeable.proofs.Ends.{at_head, expr_end, made_end, goes_end, loop_end}
 use Rattle.par_placeable.proofs.Ends.{sta_end, else_end, all_end, catch_end}

@@ -11,16 +11,18 @@ use Rattle.std.proofs.lemmas.List.Elements.{All-from_recursion}
 use Rattle.std.proofs.lemmas.Option.{slice_get-get_or}
 use Rattle.par_typed.specs.declared.table.MethodInfo.{MethodInfo}
 use Rattle.par_typed.specs.Plain.{TSta}
-use Rattle.par_completes.specs.Typed.{completes}
-use Rattle.par_code_form.specs.declared.item.Item.{Item}
-use Rattle.par_code_form.specs.declared.item.Item.TheVariants.{Label, Op, Const, Jump, Member}
-use Rattle.par_code_form.specs.declared.item.Item.TheVariants.{ClassOp, LockOp}
-use Rattle.par_code_form.specs.declared.labelled.Handler.{Handler}
-use Rattle.par_code_form.specs.declared.labelled.LabelFrame.{LabelFrame}
-use Rattle.par_code_form.specs.Code.{Words, labels, no_loop, ending, body_code, body_handlers}
-use Rattle.par_code_form.specs.Operands.{top}
-use Rattle.par_code_form.specs.Frames.{frames}
-use Rattle.par_code_form.specs.Method.{labelled, first_scope, set_by_call}
+use Rattle.par_well_typed.specs.par_completes.Typed.{completes}
+use Rattle.par_placed_code.specs.par_code_form.declared.item.Item.{Item}
+use Rattle.par_placed_code.specs.par_code_form.declared.item.Item.TheVariants.{Label, Op, Const}
+use Rattle.par_placed_code.specs.par_code_form.declared.item.Item.TheVariants.{Jump, Member}
+use Rattle.par_placed_code.specs.par_code_form.declared.item.Item.TheVariants.{ClassOp, LockOp}
+use Rattle.par_placed_code.specs.par_code_form.declared.labelled.Handler.{Handler}
+use Rattle.par_placed_code.specs.par_code_form.declared.labelled.LabelFrame.{LabelFrame}
+use Rattle.par_placed_code.specs.par_code_form.Code.{Words, labels, no_loop, ending, body_code}
+use Rattle.par_placed_code.specs.par_code_form.Code.{body_handlers}
+use Rattle.par_placed_code.specs.par_code_form.Operands.{top}
+use Rattle.par_placed_code.specs.par_code_form.Frames.{frames}
+use Rattle.par_placed_code.specs.par_code_form.Method.{labelled, first_scope, set_by_call}
 use Rattle.par_placed_code.specs.Named.{entry_count, entries}
 use Rattle.par_placed_code.specs.Placeable.{most_bytes, FitsItem, StandsOnce, HasTarget}
 use Rattle.par_placed_code.specs.Placeable.{Covers, Leads, FitsHandler}

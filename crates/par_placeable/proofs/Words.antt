@@ -20,8 +20,10 @@ use Rattle.par_typed.specs.declared.table.ParamInfo.{ParamInfo}
 use Rattle.par_typed.specs.declared.table.Table.{Table}
 use Rattle.par_erase.specs.Named.{IsNamed, AreNamed}
 use Rattle.par_erase.specs.Erased.{erased_table, erased_class, erased_method, erased_param}
-use Rattle.par_code_form.specs.Named.{of_class, of_field, of_channel, of_method, class_word}
-use Rattle.par_code_form.specs.Named.{descriptor, descriptors, method_descriptor, words_of}
+use Rattle.par_placed_code.specs.par_code_form.Named.{of_class, of_field, of_channel, of_method}
+use Rattle.par_placed_code.specs.par_code_form.Named.{class_word}
+use Rattle.par_placed_code.specs.par_code_form.Named.{descriptor, descriptors, method_descriptor}
+use Rattle.par_placed_code.specs.par_code_form.Named.{words_of}
 use Rattle.par_placed_code.specs.Named.{is_builtin, full_name}
 use Rattle.par_well_typed.specs.Limits.{TakesFew, HaveFewParams, HasFewParams}
 use Rattle.par_placeable.specs.Texts.{AreTexts}

@@ -4,11 +4,11 @@ use Rattle.std.specs.List.{AllByRecursion}
 use Rattle.par_typed.specs.declared.table.MethodInfo.{MethodInfo}
 use Rattle.par_typed.specs.declared.table.Table.{Table}
 use Rattle.par_typed.specs.Plain.{Body}
-use Rattle.par_bodies.specs.Members.{method_at}
-use Rattle.par_code_form.specs.declared.labelled.Labelled.{Labelled}
-use Rattle.par_code_form.specs.Code.{Words}
-use Rattle.par_code_form.specs.Method.{labelled}
-use Rattle.par_code_form.specs.Named.{words_of}
+use Rattle.par_well_typed.specs.par_bodies.Members.{method_at}
+use Rattle.par_placed_code.specs.par_code_form.declared.labelled.Labelled.{Labelled}
+use Rattle.par_placed_code.specs.par_code_form.Code.{Words}
+use Rattle.par_placed_code.specs.par_code_form.Method.{labelled}
+use Rattle.par_placed_code.specs.par_code_form.Named.{words_of}
 use Rattle.par_erase.specs.Asked.{Locks}
 use Rattle.par_erase.specs.Erased.{erased_table, erased_method, erased_sta}
 use Rattle.par_erase.specs.Named.{AreNamed}

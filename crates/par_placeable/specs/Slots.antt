@@ -1,10 +1,10 @@
 -- The classes that frames name are those of a program.
 use Rattle.std.specs.Prelude.{◌≡◌, ℕ, ◌<◌}
 use Rattle.std.specs.List.{AllByRecursion}
-use Rattle.par_code_form.specs.declared.labelled.LabelFrame.{LabelFrame}
-use Rattle.par_code_form.specs.declared.labelled.Slot.{Slot}
-use Rattle.par_code_form.specs.declared.labelled.Slot.TheVariants as slot
-use Rattle.par_code_form.specs.Code.{Words}
+use Rattle.par_placed_code.specs.par_code_form.declared.labelled.LabelFrame.{LabelFrame}
+use Rattle.par_placed_code.specs.par_code_form.declared.labelled.Slot.{Slot}
+use Rattle.par_placed_code.specs.par_code_form.declared.labelled.Slot.TheVariants as slot
+use Rattle.par_placed_code.specs.par_code_form.Code.{Words}
 
 module _ (w : Words) (classes : ℕ) where
   -- what it holds is no object, or one of a class of a number below this

@@ -1,7 +1,7 @@
 -- What a program's numbers are called has a place in a constant pool.
 use Rattle.std.specs.Prelude.{ℕ}
 use Rattle.par_pool.specs.Spelling.{IsText}
-use Rattle.par_code_form.specs.Code.{Words}
+use Rattle.par_placed_code.specs.par_code_form.Code.{Words}
 use Rattle.par_placed_code.specs.Named.{full_name}
 
 pub record AreTexts (w : Words) : Type 0 where

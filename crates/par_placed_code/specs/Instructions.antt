@@ -2,14 +2,18 @@
 -- chapter 6).
 use Rattle.std.specs.Prelude.{ℕ, ◌-◌, ◌==◌, nat_lt, nat_le, ℤ, pos, negsuc, Bool, true, false}
 use Rattle.std.specs.Prelude.{◌&&◌, ◌||◌, if◌then◌else◌, Option, Some, None}
-use Rattle.par_instr.specs.declared.instr.Instr.{Instr}
-use Rattle.par_instr.specs.declared.instr.Instr.TheVariants.{Iconst, Bipush, Sipush, Ldc, LdcW, If}
-use Rattle.par_instr.specs.declared.instr.Instr.TheVariants.{IfIcmp, IfAcmpeq, IfAcmpne, Goto}
-use Rattle.par_instr.specs.declared.instr.Instr.TheVariants.{Getstatic, Putstatic, Getfield}
-use Rattle.par_instr.specs.declared.instr.Instr.TheVariants.{Putfield, Invokevirtual}
-use Rattle.par_instr.specs.declared.instr.Instr.TheVariants.{Invokespecial, Invokestatic, New}
-use Rattle.par_instr.specs.declared.instr.Instr.TheVariants.{Ifnull, Ifnonnull}
-use Rattle.par_instr.specs.Spelling.{is_constant}
+use Rattle.par_code_form.specs.par_instr.declared.instr.Instr.{Instr}
+use Rattle.par_code_form.specs.par_instr.declared.instr.Instr.TheVariants.{Iconst, Bipush, Sipush}
+use Rattle.par_code_form.specs.par_instr.declared.instr.Instr.TheVariants.{Ldc, LdcW, If}
+use Rattle.par_code_form.specs.par_instr.declared.instr.Instr.TheVariants.{IfIcmp, IfAcmpeq}
+use Rattle.par_code_form.specs.par_instr.declared.instr.Instr.TheVariants.{IfAcmpne, Goto}
+use Rattle.par_code_form.specs.par_instr.declared.instr.Instr.TheVariants.{Getstatic, Putstatic}
+use Rattle.par_code_form.specs.par_instr.declared.instr.Instr.TheVariants.{Getfield}
+use Rattle.par_code_form.specs.par_instr.declared.instr.Instr.TheVariants.{Putfield, Invokevirtual}
+use Rattle.par_code_form.specs.par_instr.declared.instr.Instr.TheVariants.{Invokespecial}
+use Rattle.par_code_form.specs.par_instr.declared.instr.Instr.TheVariants.{Invokestatic, New}
+use Rattle.par_code_form.specs.par_instr.declared.instr.Instr.TheVariants.{Ifnull, Ifnonnull}
+use Rattle.par_code_form.specs.par_instr.Spelling.{is_constant}
 use Rattle.par_code_form.specs.declared.item.Item.{Item}
 use Rattle.par_code_form.specs.declared.item.Item.TheVariants.{Label, Op, Const, Jump, Member}
 use Rattle.par_code_form.specs.declared.item.Item.TheVariants.{ClassOp, LockOp}

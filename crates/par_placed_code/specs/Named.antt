@@ -4,11 +4,11 @@ use Rattle.std.specs.Prelude.{◌≡◌, ℕ, ◌+◌, ◌*◌, nat_lt, Bool, fa
 use Rattle.std.specs.Prelude.{List, cond, length, ◌++◌, ◌⊎◌, Contains, sum_by, codes}
 use Rattle.std.specs.Fmt.{decimal}
 use Rattle.std.specs.Str.{bytes_eq}
-use Rattle.par_pool.specs.declared.constant.Constant.{Constant}
-use Rattle.par_pool.specs.declared.constant.Constant.TheVariants.{Integer, Field, Method}
-use Rattle.par_pool.specs.Entries.{IsAt, IsClassAt, IsMemberAt, IsFieldAt}
-use Rattle.par_pool.specs.Growth.{IsClassPart, IsMemberPart}
-use Rattle.par_values.specs.Areas.{Name}
+use Rattle.par_class.specs.par_pool.declared.constant.Constant.{Constant}
+use Rattle.par_class.specs.par_pool.declared.constant.Constant.TheVariants.{Integer, Field, Method}
+use Rattle.par_class.specs.par_pool.Entries.{IsAt, IsClassAt, IsMemberAt, IsFieldAt}
+use Rattle.par_class.specs.par_pool.Growth.{IsClassPart, IsMemberPart}
+use Rattle.par_code_form.specs.par_values.Areas.{Name}
 use Rattle.par_code_form.specs.declared.labelled.Labelled.{Labelled}
 use Rattle.par_code_form.specs.declared.item.Item.{Item}
 use Rattle.par_code_form.specs.declared.item.Item.TheVariants.{Label, Op, Const, Jump, Member}

@@ -1,14 +1,18 @@
 -- Which labelled code can be placed.
 use Rattle.std.specs.Prelude.{◌≡◌, ℕ, ◌<◌, ◌≤◌, ◌==◌, Bool, true, false, ◌||◌, if◌then◌else◌}
 use Rattle.std.specs.Prelude.{List, length, Some, slice_get, All, sum_by, count_by, IsTrue}
-use Rattle.par_instr.specs.declared.instr.Instr.{Instr}
-use Rattle.par_instr.specs.declared.instr.Instr.TheVariants.{Ldc, LdcW, If, IfIcmp, IfAcmpeq}
-use Rattle.par_instr.specs.declared.instr.Instr.TheVariants.{IfAcmpne, Goto, Getstatic, Putstatic}
-use Rattle.par_instr.specs.declared.instr.Instr.TheVariants.{Getfield, Putfield, Invokevirtual}
-use Rattle.par_instr.specs.declared.instr.Instr.TheVariants.{Invokespecial, Invokestatic, New}
-use Rattle.par_instr.specs.declared.instr.Instr.TheVariants.{Ifnull, Ifnonnull}
-use Rattle.par_instr.specs.Spelling.{spelling, has_spelling, is_constant}
-use Rattle.par_pool.specs.Spelling.{IsText}
+use Rattle.par_code_form.specs.par_instr.declared.instr.Instr.{Instr}
+use Rattle.par_code_form.specs.par_instr.declared.instr.Instr.TheVariants.{Ldc, LdcW, If, IfIcmp}
+use Rattle.par_code_form.specs.par_instr.declared.instr.Instr.TheVariants.{IfAcmpeq}
+use Rattle.par_code_form.specs.par_instr.declared.instr.Instr.TheVariants.{IfAcmpne, Goto}
+use Rattle.par_code_form.specs.par_instr.declared.instr.Instr.TheVariants.{Getstatic, Putstatic}
+use Rattle.par_code_form.specs.par_instr.declared.instr.Instr.TheVariants.{Getfield, Putfield}
+use Rattle.par_code_form.specs.par_instr.declared.instr.Instr.TheVariants.{Invokevirtual}
+use Rattle.par_code_form.specs.par_instr.declared.instr.Instr.TheVariants.{Invokespecial}
+use Rattle.par_code_form.specs.par_instr.declared.instr.Instr.TheVariants.{Invokestatic, New}
+use Rattle.par_code_form.specs.par_instr.declared.instr.Instr.TheVariants.{Ifnull, Ifnonnull}
+use Rattle.par_code_form.specs.par_instr.Spelling.{spelling, has_spelling, is_constant}
+use Rattle.par_class.specs.par_pool.Spelling.{IsText}
 use Rattle.par_code_form.specs.declared.labelled.Labelled.{Labelled}
 use Rattle.par_code_form.specs.declared.item.Item.{Item}
 use Rattle.par_code_form.specs.declared.item.Item.TheVariants.{Label, Op, Const, Jump, Member}

@@ -3,10 +3,10 @@
 use Rattle.std.specs.Prelude.{◌≡◌, ℕ, zero, suc, ◌+◌, ◌==◌, ℤ, pos, ◌-ℤ◌, Bool, false}
 use Rattle.std.specs.Prelude.{if◌then◌else◌, List, [], ◌∷◌, length, Option, Some, None}
 use Rattle.std.specs.List.{flat_map, AllZip, AllByRecursion}
-use Rattle.par_instr.specs.declared.instr.Instr.{Instr}
-use Rattle.par_instr.specs.Spelling.{spelling, IsSpelled}
-use Rattle.par_pool.specs.declared.constant.Constant.{Constant}
-use Rattle.par_pool.specs.Entries.{IsClassAt}
+use Rattle.par_code_form.specs.par_instr.declared.instr.Instr.{Instr}
+use Rattle.par_code_form.specs.par_instr.Spelling.{spelling, IsSpelled}
+use Rattle.par_class.specs.par_pool.declared.constant.Constant.{Constant}
+use Rattle.par_class.specs.par_pool.Entries.{IsClassAt}
 use Rattle.par_class.specs.declared.file.Catch.{Catch}
 use Rattle.par_class.specs.declared.file.CodeAttr.{CodeAttr}
 use Rattle.par_code_form.specs.declared.labelled.Labelled.{Labelled}

@@ -1,7 +1,7 @@
 -- Each builder keeps the places of what it puts together.
 use Rattle.std.proofs.Common.{ℕ, ◌≤◌, Bool, true, false, ◌∷◌, None}
 use Rattle.std.specs.List.{AllByRecursion}
-use Rattle.par_lexer.specs.declared.operator.BinOp.{BinOp}
+use Rattle.par_typed.specs.par_lexer.declared.operator.BinOp.{BinOp}
 use Rattle.par_tree.specs.Plain.{Exp, Braces, In, place}
 use Rattle.par_tree.specs.Plain as plain
 use Rattle.par_tree.specs.Grammar.{Builders}

@@ -2,14 +2,17 @@
 use Rattle.std.proofs.Common.{◌+◌, Bool, true, false, List, [], ◌∷◌, Option, Some, None, Ok, Err}
 use Rattle.std.proofs.Common.{subst, if◌then◌else◌, nat_le}
 use Rattle.std.specs.List.{AllByRecursion}
-use Rattle.par_lexer.specs.declared.token.Token.{Token}
-use Rattle.par_grammar.specs.declared.sort.Sort.TheVariants.{End}
-use Rattle.par_grammar.specs.Sorts.{same}
-use Rattle.par_grammar.specs.Grammar.{Symbols, token, kept, finish, counts, restarts, enters}
-use Rattle.par_grammar.specs.Grammar.{leaves, name, builds, Grammar, alternative}
-use Rattle.par_grammar.specs.Derivation.{Input, next, Syntax, TooDeep, Outcome, State, Step, goes}
-use Rattle.par_grammar.specs.Derivation.{ends, state, stops, takes, keeps, nests, replaces, step_by}
-use Rattle.par_grammar.specs.Derivation.{step, Comes, last, more}
+use Rattle.par_typed.specs.par_lexer.declared.token.Token.{Token}
+use Rattle.par_tree.specs.par_grammar.declared.sort.Sort.TheVariants.{End}
+use Rattle.par_tree.specs.par_grammar.Sorts.{same}
+use Rattle.par_tree.specs.par_grammar.Grammar.{Symbols, token, kept, finish, counts, restarts}
+use Rattle.par_tree.specs.par_grammar.Grammar.{enters}
+use Rattle.par_tree.specs.par_grammar.Grammar.{leaves, name, builds, Grammar, alternative}
+use Rattle.par_tree.specs.par_grammar.Derivation.{Input, next, Syntax, TooDeep, Outcome, State}
+use Rattle.par_tree.specs.par_grammar.Derivation.{Step, goes}
+use Rattle.par_tree.specs.par_grammar.Derivation.{ends, state, stops, takes, keeps, nests, replaces}
+use Rattle.par_tree.specs.par_grammar.Derivation.{step_by}
+use Rattle.par_tree.specs.par_grammar.Derivation.{step, Comes, last, more}
 
 module _ {Names Builders Values : Type 0} (g : Grammar Names Builders Values) (P : Values → Type 0)
     (Q : Token → Type 0) where

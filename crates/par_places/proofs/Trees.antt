@@ -1,6 +1,6 @@
 -- The places in a tree are those of tokens.
 use Rattle.std.proofs.Common.{◌≤◌}
-use Rattle.par_lexer.specs.declared.token.Token.{Token}
+use Rattle.par_typed.specs.par_lexer.declared.token.Token.{Token}
 use Rattle.par_tree.specs.Values.{paragon}
 use Rattle.par_places.specs.Law.{TreesLieWithin}
 use Rattle.par_places.proofs.Steps.{holds}

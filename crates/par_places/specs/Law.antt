@@ -1,10 +1,10 @@
 -- The places in the tree of some tokens are those of tokens.
 use Rattle.std.specs.Prelude.{ℕ, ◌≤◌, List, [], ◌∷◌, Ok}
 use Rattle.std.specs.List.{AllByRecursion}
-use Rattle.par_lexer.specs.declared.token.Token.{Token}
+use Rattle.par_typed.specs.par_lexer.declared.token.Token.{Token}
 use Rattle.par_tree.specs.Plain.{Source}
-use Rattle.par_grammar.specs.Grammar.{name}
-use Rattle.par_grammar.specs.Derivation.{Input, whole, state, Comes}
+use Rattle.par_tree.specs.par_grammar.Grammar.{name}
+use Rattle.par_tree.specs.par_grammar.Derivation.{Input, whole, state, Comes}
 use Rattle.par_tree.specs.Grammar as g
 use Rattle.par_tree.specs.Values.{paragon, source}
 use Rattle.par_places.specs.Within.{IsWithin}

@@ -11,3 +11,7 @@ ghost use Rattle.par_places.specs.Law.{TreesLieWithin};
 pub fn trees_lie_within()
     ensures { TreesLieWithin }
 {}
+
+pub use par_tree;
+pub use par_tree::par_grammar;
+pub use par_typed;

@@ -10,3 +10,6 @@ pub mod ident;
 pub mod lock;
 pub mod policy;
 pub mod types;
+
+pub use par_language;
+pub use par_language::par_reader;

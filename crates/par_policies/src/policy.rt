@@ -6,7 +6,7 @@ ghost use Rattle.par_grammar.specs.declared.sort.Sort.TheVariants as sort;
 ghost use Rattle.par_language.specs.Reads.{Reads};
 ghost use Rattle.par_lexer.specs.declared.sign.TheConstants as signs;
 ghost use Rattle.par_lexer.specs.declared.word.TheConstants as words;
-ghost use Rattle.par_reader.specs.Reads.{input};
+ghost use Rattle.par_language.specs.par_reader.Reads.{input};
 ghost use Rattle.par_tree.specs.Grammar as g;
 ghost use Rattle.par_policies.specs.Reads.{a_policy, a_term, may_be_policy};
 
@@ -14,10 +14,10 @@ use crate::clause::clauses;
 use crate::ident::ident;
 use par_grammar::sort::Sort;
 use par_language::Paragon;
+use par_language::par_reader::cursor::Cursor;
+use par_language::par_reader::error::ParseError;
 use par_lexer::list::List;
 use par_lexer::{sign, word};
-use par_reader::cursor::Cursor;
-use par_reader::error::ParseError;
 use par_tree::policy::{PolicyExpr, PolicyTerm};
 use std::alloc::Global;
 

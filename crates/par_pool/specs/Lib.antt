@@ -4,3 +4,4 @@ pub mod Spelling
 pub mod Reading
 pub mod Constants
 pub mod Placed
+pub use Rattle.par_lexer.specs as par_lexer

@@ -2,7 +2,7 @@
 -- at most and no builder adds.
 use Rattle.std.proofs.Common.{ℕ, ◌+◌, ◌≤◌, Bool, true, false, List, [], ◌∷◌, length, Option, Some}
 use Rattle.std.proofs.Common.{None, Ok, Err, subst, arith, if◌then◌else◌, nat_le}
-use Rattle.par_lexer.specs.declared.token.Token.{Token}
+use Rattle.par_grammar.specs.par_lexer.declared.token.Token.{Token}
 use Rattle.par_grammar.specs.declared.sort.Sort.TheVariants.{End}
 use Rattle.par_grammar.specs.Sorts.{same}
 use Rattle.par_grammar.specs.Grammar.{Symbols, token, kept, finish, counts, restarts, enters}

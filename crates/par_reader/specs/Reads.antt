@@ -1,7 +1,7 @@
 -- What it means that a function reads some symbols of a grammar.
 use Rattle.std.specs.Prelude.{◌≡◌, ◌≢◌, true, List, [], ◌∷◌, ◌++◌, Result, Ok, Err}
 use Rattle.std.specs.Borrow.{Bor}
-use Rattle.par_lexer.specs.declared.token.Token.{Token}
+use Rattle.par_grammar.specs.par_lexer.declared.token.Token.{Token}
 use Rattle.par_grammar.specs.declared.sort.Sort.{Sort}
 use Rattle.par_grammar.specs.Sorts.{same, sort_of}
 use Rattle.par_grammar.specs.Grammar.{Grammar, Symbols}

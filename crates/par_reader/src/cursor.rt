@@ -6,8 +6,8 @@ ghost use Rattle.par_reader.specs.declared.limit.TheConstants as limit;
 use crate::error::ParseError;
 use crate::language::Language;
 use crate::limit::DEEPEST;
+use par_grammar::par_lexer::token::Token;
 use par_grammar::sort::{Sort, same, sort_of};
-use par_lexer::token::Token;
 use std::marker::PhantomData;
 
 /// The tokens that are left, the number of those before, and the nesting: the blocks that are open,

@@ -10,3 +10,5 @@ pub mod cursor;
 pub mod error;
 pub mod language;
 pub mod limit;
+
+pub use par_grammar;

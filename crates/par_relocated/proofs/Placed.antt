@@ -16,7 +16,7 @@ use Rattle.std.specs.Prelude.{if◌then◌else◌}
 use Rattle.par_values.specs.Effects.{Effect, Goes, Happens, Jumps, Calls, Throws, ThrowsObject}
 use Rattle.par_values.specs.Effects.{Returns, ReturnsWith, effect}
 use Rattle.par_values.specs.Ran.{Ran, with_event}
-use Rattle.par_secrecy.specs.Shows.{IsFine}
+use Rattle.par_steps.specs.par_secrecy.Shows.{IsFine}
 use Rattle.par_steps.specs.State.{Frame, State}
 use Rattle.par_steps.specs.Handlers.{caught_by}
 use Rattle.par_steps.specs.Step.{Turn, Silent, Shows, Ends, IsBad, areas_of, without_locks, or_2}

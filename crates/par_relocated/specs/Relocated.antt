@@ -7,7 +7,7 @@ use Rattle.par_values.specs.Operations.{takes, gives}
 use Rattle.par_values.specs.Reasons.{Spot, misgiven, misplaced, misnamed, disagrees, misreturns}
 use Rattle.par_values.specs.Reasons.{misused}
 use Rattle.par_values.specs.Effects.{Effect, Jumps, effect}
-use Rattle.par_secrecy.specs.Shows.{IsFine}
+use Rattle.par_steps.specs.par_secrecy.Shows.{IsFine}
 use Rattle.par_steps.specs.State.{Frame, State}
 use Rattle.par_steps.specs.Step.{Turn, Silent, Shows, Ends, IsBad}
 use Rattle.par_engine.specs.Engine.{Found, Program, is_misreceived, turn, run}

@@ -16,11 +16,8 @@ pub type Answer = (&'static str, u8);
 /// A source is accepted, and nothing is written.
 pub const ACCEPTED: Answer = ("accepted\n", 0);
 
-/// A source is accepted, and its class file is written.
+/// A source with one class is accepted, and its class file is written.
 pub const COMPILED: Answer = ("accepted 1\n", 0);
-
-/// A source is accepted, and is no straight-line source that its own check lets pass.
-pub const NOT_BUILT: Answer = ("not built\n", 9);
 
 /// A body that reads the key and shows it.
 pub const SHOWS_KEY: &str = "open Paid; show(key());";

@@ -3,8 +3,10 @@
 //! A test reads no file, so each text stands here and in `examples/`, `README.md` or `docs/`. They
 //! are kept equal, and `bench/same_examples.sh` compares them.
 
-use par_row_calls::{ACCEPTED, Answer, check_sources, traces_as};
+use par_io::NoMemory;
+use par_row_calls::{ACCEPTED, Answer, COMPILED, answers, check_sources, folder_of, traces_as};
 use par_worked::expect;
+use std::alloc::Global;
 use std::test::Fail;
 
 const SHOP_IN_BRIEF: &str = "\
@@ -362,6 +364,46 @@ fn examples_are_accepted(rt: HostRuntime) -> Result<(), Fail> {
     check_sources(rt.alloc(), EXAMPLES)
 }
 
+/// A source, the command that audits it, and what is told. Who may never see what is bought, as the
+/// guest of the article, and who may see it at any time have no release.
+const AUDITS: &[(&str, &str, Answer)] = &[
+    (
+        SEALED_BIDS,
+        "paragonc --audit alice shop.par",
+        ("release 401 at 21:5\naudited 1\n", 0),
+    ),
+    (
+        SEALED_BIDS,
+        "paragonc --audit bob shop.par",
+        ("release 401 at 21:5\naudited 1\n", 0),
+    ),
+    (SHOP, "paragonc --audit alice shop.par", ("audited 0\n", 0)),
+    (
+        SHOP,
+        "paragonc --audit bob shop.par",
+        ("release 403 at 15:5\naudited 1\n", 0),
+    ),
+    (
+        PAID_ARTICLE,
+        "paragonc --audit reader shop.par",
+        ("release 403 at 24:7\naudited 1\n", 0),
+    ),
+    (
+        PAID_ARTICLE,
+        "paragonc --audit guest shop.par",
+        ("audited 0\n", 0),
+    ),
+];
+
+#[test]
+fn examples_are_audited(rt: HostRuntime) -> Result<(), Fail> {
+    for (source, command, answer) in AUDITS {
+        let mut folder = folder_of(rt.alloc(), source)?;
+        expect(answers(rt.alloc(), command, &mut folder, *answer)?, command)?;
+    }
+    Ok(())
+}
+
 /// A source, its input file, and what is told of its run.
 const TRACES: &[(&str, &str, Answer)] = &[
     (
@@ -401,6 +443,132 @@ fn runs_of_examples_are_told(rt: HostRuntime) -> Result<(), Fail> {
     for (source, inputs, answer) in TRACES {
         let told = traces_as(rt.alloc(), source, inputs, TRACE, *answer)?;
         expect(told, source)?;
+    }
+    Ok(())
+}
+
+/// A source, its input file, how its compilation is answered, the command that runs its class
+/// files, and what is told of the run.
+const RUNS: &[(&str, &str, Answer, &str, Answer)] = &[
+    (
+        SHOP,
+        "Shop.key: 42\n",
+        COMPILED,
+        "paragon Shop in.txt 1000",
+        ("out Shop.show 42\nend\n", 0),
+    ),
+    (
+        AUCTION,
+        "Auction.aliceBids: 40\nAuction.bobBids: 35\n",
+        COMPILED,
+        "paragon Auction in.txt 1000",
+        (
+            "out Auction.announce 40\nout Auction.announce 35\nset Auction.total 75\nend\n",
+            0,
+        ),
+    ),
+    (
+        PAID_CONTENT,
+        "Story.title: 7\nStory.chapter: 101 102\n",
+        COMPILED,
+        "paragon Story in.txt 1000",
+        (
+            "set Story.draft 101\nout Story.show 7\nout Story.show 101\nout Story.show 102\nend\n",
+            0,
+        ),
+    ),
+    (
+        SEALED_BIDS,
+        "Auction.aliceBids: 30\nAuction.bobBids: 45\n",
+        COMPILED,
+        "paragon Auction in.txt 1000",
+        ("set Auction.price 45\nout Auction.announce 45\nend\n", 0),
+    ),
+    (
+        PAID_ARTICLE,
+        "Shop.bank: 1\nShop.article: 77\n",
+        ("accepted 2\n", 0),
+        "paragon Shop in.txt 1000",
+        ("out Shop.show 77\nout Shop.greet 1\nend\n", 0),
+    ),
+    (
+        PAID_ARTICLE,
+        "Shop.bank: 0\nShop.article: 77\n",
+        ("accepted 2\n", 0),
+        "paragon Shop in.txt 1000",
+        ("out Shop.show 0\nout Shop.greet 1\nend\n", 0),
+    ),
+    (
+        SURVEY,
+        "Survey.answers: 1 2 1 1 2 1\n",
+        COMPILED,
+        "paragon Survey in.txt 1000",
+        (
+            "set Survey.yes 1\nset Survey.no 1\nset Survey.yes 2\nset Survey.yes 3\n\
+             set Survey.no 2\nset Survey.yes 4\nout Survey.tell 4\nout Survey.tell 2\nend\n",
+            0,
+        ),
+    ),
+    (
+        PASSWORD,
+        "Door.password: 4711\nDoor.guess: 4711\n",
+        COMPILED,
+        "paragon Door in.txt 1000",
+        ("out Door.answer 1\nset Door.tries 1\nend\n", 0),
+    ),
+];
+
+/// Whether a source is compiled and its class files are run so.
+fn runs_as(alloc: Global, run: &(&str, &str, Answer, &str, Answer)) -> Result<bool, NoMemory> {
+    let mut folder = folder_of(alloc, run.0)?;
+    folder.add("in.txt", run.1.as_bytes())?;
+    let is_compiled = answers(alloc, "paragonc shop.par", &mut folder, run.2)?;
+    Ok(is_compiled && answers(alloc, run.3, &mut folder, run.4)?)
+}
+
+#[test]
+fn examples_are_compiled_and_run(rt: HostRuntime) -> Result<(), Fail> {
+    for run in RUNS {
+        expect(runs_as(rt.alloc(), run)?, run.0)?;
+    }
+    Ok(())
+}
+
+/// Sealed bids, what is told of the run of the source with the locks that are open, and what is
+/// told of the run of its class files. Of the first two a third actor, who may see neither bid,
+/// is shown the same. Of the first and the third alice, who may see her own bid alone before Done
+/// is open, is shown nothing that differs before it is.
+const BIDS: &[(&str, &str, &str)] = &[
+    (
+        "Auction.aliceBids: 30\nAuction.bobBids: 45\n",
+        "set Auction.price 45 [Done]\nout Auction.announce 45 [Done]\nend\n",
+        "set Auction.price 45\nout Auction.announce 45\nend\n",
+    ),
+    (
+        "Auction.aliceBids: 44\nAuction.bobBids: 45\n",
+        "set Auction.price 45 [Done]\nout Auction.announce 45 [Done]\nend\n",
+        "set Auction.price 45\nout Auction.announce 45\nend\n",
+    ),
+    (
+        "Auction.aliceBids: 30\nAuction.bobBids: 40\n",
+        "set Auction.price 40 [Done]\nout Auction.announce 40 [Done]\nend\n",
+        "set Auction.price 40\nout Auction.announce 40\nend\n",
+    ),
+];
+
+fn bids_are_told(
+    alloc: Global,
+    bids: &(&'static str, &'static str, &'static str),
+) -> Result<bool, NoMemory> {
+    let is_traced = traces_as(alloc, SEALED_BIDS, bids.0, TRACE, (bids.1, 0))?;
+    let run = "paragon Auction in.txt 1000";
+    Ok(is_traced && runs_as(alloc, &(SEALED_BIDS, bids.0, COMPILED, run, (bids.2, 0)))?)
+}
+
+#[test]
+fn sealed_bids_stay_sealed(rt: HostRuntime) -> Result<(), Fail> {
+    for bids in BIDS {
+        expect(bids_are_told(rt.alloc(), bids)?, bids.0)?;
     }
     Ok(())
 }

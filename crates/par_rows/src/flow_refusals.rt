@@ -1,4 +1,4 @@
-//! The refusals by rules on locks and flows, as docs/REFUSALS.md shows them, each with its mend.
+//! The refusals by rules on locks and flows, as docs/REFUSALS.md shows them, each with its mends.
 
 use par_row_calls::{ACCEPTED, Answer, check_sources};
 use std::test::Fail;
@@ -568,6 +568,108 @@ class Shop {
 }
 ";
 
+const ACCOUNT_TO_PARAMETER: &str = "\
+actor alice, bob;
+class Account {
+  ?{alice:} int balance;
+}
+class Bank {
+  static void main() {
+    notnull Account a = new Account();
+    notnull Account b = new Account();
+    transfer(a, b);
+  }
+  static void transfer(notnull Account from, notnull Account to) !{alice:} {
+    to.balance = to.balance + from.balance;
+    from.balance = 0;
+  }
+}
+";
+
+const ACCOUNT_TO_ITS_PARAMETER: &str = "\
+actor alice, bob;
+class Account {
+  ?{alice:} int balance;
+}
+class Bank {
+  static void main() {
+    notnull Account a = new Account();
+    notnull Account b = new Account();
+    transfer(a, b);
+  }
+  static void transfer(?{alice:} notnull Account from, ?{alice:} notnull Account to) !{alice:} {
+    to.balance = to.balance + from.balance;
+    from.balance = 0;
+  }
+}
+";
+
+const ACCOUNT_FOR_ALL: &str = "\
+actor alice, bob;
+class Account ?bottom {
+  ?{alice:} int balance;
+}
+class Bank {
+  static void main() {
+    notnull Account a = new Account();
+    notnull Account b = new Account();
+    transfer(a, b);
+  }
+  static void transfer(notnull Account from, notnull Account to) !{alice:} {
+    to.balance = to.balance + from.balance;
+    from.balance = 0;
+  }
+}
+";
+
+const DEPOSIT_FOR_ALL: &str = "\
+actor alice, bob;
+class Account {
+  ?{alice:} int balance;
+  void deposit(int v) {
+    balance = balance + v;
+  }
+}
+class Bank {
+  static void main() {
+    notnull Account a = new Account();
+    a.deposit(3);
+  }
+}
+";
+
+const DEPOSIT_WITH_EFFECT: &str = "\
+actor alice, bob;
+class Account {
+  ?{alice:} int balance;
+  void deposit(int v) !{alice:} {
+    balance = balance + v;
+  }
+}
+class Bank {
+  static void main() {
+    notnull Account a = new Account();
+    a.deposit(3);
+  }
+}
+";
+
+const DEPOSIT_TO_ACCOUNT_FOR_ALL: &str = "\
+actor alice, bob;
+class Account ?bottom {
+  ?{alice:} int balance;
+  void deposit(int v) {
+    balance = balance + v;
+  }
+}
+class Bank {
+  static void main() {
+    notnull Account a = new Account();
+    a.deposit(3);
+  }
+}
+";
+
 const LOCKS_AND_VALUES: &[(&str, Answer)] = &[
     (LOCK_NOT_OPEN, ("refused 301 at 7:5\n", 1)),
     (LOCK_OPENED, ACCEPTED),
@@ -609,6 +711,21 @@ const CALLS_AND_OBJECTS: &[(&str, Answer)] = &[
 #[test]
 fn calls_and_objects(rt: HostRuntime) -> Result<(), Fail> {
     check_sources(rt.alloc(), CALLS_AND_OBJECTS)
+}
+
+/// Objects are worth their birth policy, which comes from the fields where it is not written.
+const ACCOUNTS: &[(&str, Answer)] = &[
+    (ACCOUNT_TO_PARAMETER, ("refused 405 at 9:14\n", 1)),
+    (ACCOUNT_TO_ITS_PARAMETER, ACCEPTED),
+    (ACCOUNT_FOR_ALL, ACCEPTED),
+    (DEPOSIT_FOR_ALL, ("refused 407 at 11:7\n", 1)),
+    (DEPOSIT_WITH_EFFECT, ACCEPTED),
+    (DEPOSIT_TO_ACCOUNT_FOR_ALL, ACCEPTED),
+];
+
+#[test]
+fn accounts_are_worth_their_births(rt: HostRuntime) -> Result<(), Fail> {
+    check_sources(rt.alloc(), ACCOUNTS)
 }
 
 const LOCALS_LOCKS_AND_EXCEPTIONS: &[(&str, Answer)] = &[

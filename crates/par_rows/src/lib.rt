@@ -16,6 +16,8 @@ mod faults;
 #[cfg(test)]
 mod flow_refusals;
 #[cfg(test)]
+mod inferences;
+#[cfg(test)]
 mod limits;
 #[cfg(test)]
 mod name_refusals;
@@ -23,6 +25,8 @@ mod name_refusals;
 mod names;
 #[cfg(test)]
 mod refusals;
+#[cfg(test)]
+mod samples;
 #[cfg(test)]
 mod sentences;
 #[cfg(test)]

@@ -204,7 +204,7 @@ fn limits_are_kept(rt: HostRuntime) -> Result<(), Fail> {
     check_limits(rt.alloc(), ROWS)
 }
 
-/// Limits of what straight-line sources do not have.
+/// Limits of nodes, classes, methods, parameters, locks and clauses.
 static MORE: &[Row] = &[
     (
         "2000 nodes with an empty block",

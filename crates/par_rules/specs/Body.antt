@@ -1,9 +1,9 @@
 -- The rules of each expression and statement.
 use Rattle.std.specs.Prelude.{ℕ, zero, suc, pos, Bool, true, false, not, cond, List, [], ◌∷◌}
 use Rattle.std.specs.Ordering.{int_eq}
-use Rattle.par_bits.specs.Sets.{none, adding}
-use Rattle.par_lexer.specs.declared.operator.BinOp.{BinOp}
-use Rattle.par_lexer.specs.declared.operator.BinOp.TheVariants.{And, Or, Div, Rem}
+use Rattle.par_typed.specs.par_bits.Sets.{none, adding}
+use Rattle.par_typed.specs.par_lexer.declared.operator.BinOp.{BinOp}
+use Rattle.par_typed.specs.par_lexer.declared.operator.BinOp.TheVariants.{And, Or, Div, Rem}
 use Rattle.par_typed.specs.Plain as plain
 use Rattle.par_typed.specs.Plain.{TExp, TExps, TSta, TStas, TCatches, mark}
 use Rattle.par_typed.specs.Plain.{point}

@@ -1,7 +1,7 @@
 -- What the declarations of a program say of flow, by numbers.
 use Rattle.std.specs.Prelude.{ℕ, Bool, true, Option, Some, None, List, [], ◌∷◌, slice_get}
-use Rattle.par_policy.specs.Numbers.{has}
-use Rattle.par_bits.specs.Sets.{Set, none}
+use Rattle.par_typed.specs.par_policy.Numbers.{has}
+use Rattle.par_typed.specs.par_bits.Sets.{Set, none}
 use Rattle.par_typed.specs.declared.table.Table.{Table}
 use Rattle.par_typed.specs.declared.table.ClassInfo.{ClassInfo}
 use Rattle.par_typed.specs.declared.table.FieldInfo.{FieldInfo}

@@ -1,6 +1,6 @@
 -- How an expression or a statement completes.
 use Rattle.std.specs.Prelude.{ℕ, Bool, true, false, ◌||◌, nat_eq, List}
-use Rattle.par_policy.specs.Numbers.{has}
+use Rattle.par_typed.specs.par_policy.Numbers.{has}
 
 pub data Kind : Type 0 where
   Normal : Kind

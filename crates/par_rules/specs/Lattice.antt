@@ -1,9 +1,9 @@
 -- Policies, by what the rules of flow ask of them.
 use Rattle.std.specs.Prelude.{ℕ, suc, Bool, true, ◌&&◌, ◌||◌, not, Option, Some, None, List, []}
 use Rattle.std.specs.Prelude.{◌∷◌, IsTrue, slice_get}
-use Rattle.par_policy.specs.declared.clauses.Clause.{Clause}
-use Rattle.par_policy.specs.Sees.{sees}
-use Rattle.par_bits.specs.Sets.{Set, none, adding, union, IsWithin}
+use Rattle.par_typed.specs.par_policy.declared.clauses.Clause.{Clause}
+use Rattle.par_typed.specs.par_policy.Sees.{sees}
+use Rattle.par_typed.specs.par_bits.Sets.{Set, none, adding, union, IsWithin}
 
 -- an order with joins, and the policies of a table by their numbers
 pub record Lattice : Type 1 where

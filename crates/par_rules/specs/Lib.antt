@@ -8,3 +8,6 @@ pub mod Body
 pub mod Closed
 pub mod Numbered
 pub mod Ranges
+pub use Rattle.par_typed.specs.par_lexer as par_lexer
+pub use Rattle.par_typed.specs.par_policy as par_policy
+pub use Rattle.par_typed.specs as par_typed

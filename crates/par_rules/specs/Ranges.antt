@@ -1,6 +1,6 @@
 -- Numbers in range: policies and locks are below 256, and locals are those of the method.
 use Rattle.std.specs.Prelude.{ℕ, suc, ◌<◌, ◌≤◌, cond, IsTrue, All, length}
-use Rattle.par_bits.specs.Sets.{Set}
+use Rattle.par_typed.specs.par_bits.Sets.{Set}
 use Rattle.par_typed.specs.Plain.{Body}
 use Rattle.par_rules.specs.Declares.{Declares, Method}
 use Rattle.par_rules.specs.Rules.{From, Entry, After, Tested, Raised, Opened, Shut, Assigned}

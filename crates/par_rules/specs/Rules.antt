@@ -1,7 +1,7 @@
 -- What the flow of a node must obey, part by part in the order of evaluation.
 use Rattle.std.specs.Prelude.{◌≡◌, ℕ, zero, suc, Bool, true, false, ◌&&◌, ◌||◌, not, Option, Some}
 use Rattle.std.specs.Prelude.{None, List, [], ◌∷◌}
-use Rattle.par_bits.specs.Sets.{Set}
+use Rattle.par_typed.specs.par_bits.Sets.{Set}
 use Rattle.par_rules.specs.Lattice.{Lattice}
 use Rattle.par_rules.specs.Kinds.{Kind, Normal, same, normal, Absorber, absorbed}
 use Rattle.par_rules.specs.Ways.{Way, MayFlow, MayLand, MayRaise, raised, assigned, opened, shut}

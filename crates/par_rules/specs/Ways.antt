@@ -1,6 +1,6 @@
 -- Ways, and when one flows into another.
 use Rattle.std.specs.Prelude.{ℕ, cond, nat_eq, Option, Some, None}
-use Rattle.par_bits.specs.Sets.{Set, IsWithin, union, minus}
+use Rattle.par_typed.specs.par_bits.Sets.{Set, IsWithin, union, minus}
 use Rattle.par_rules.specs.Lattice.{Lattice}
 
 module _ (P : Lattice) where

@@ -5,3 +5,6 @@
 //! lattice of policies: policies by who sees them, and sets of their numbers, which stand for
 //! joins. How facts are found, and what they are compared with, is no matter of this crate.
 #![tactic(auto)]
+
+pub use par_typed;
+pub use par_typed::{par_lexer, par_policy};

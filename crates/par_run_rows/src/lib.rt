@@ -6,6 +6,8 @@
 #[cfg(test)]
 mod compiled;
 #[cfg(test)]
+mod frames;
+#[cfg(test)]
 mod hand_made;
 #[cfg(test)]
 mod linking;
@@ -23,5 +25,9 @@ mod programs;
 mod reasons;
 #[cfg(test)]
 mod runs;
+#[cfg(test)]
+mod verified;
+#[cfg(test)]
+mod versions;
 #[cfg(test)]
 mod worked;

@@ -11,9 +11,9 @@ use Rattle.par_machine.specs.declared.turn.Stuck.{Stuck}
 use Rattle.par_machine.specs.Machine.{files_of, state_of}
 use Rattle.par_machine.specs.Quiet.{GoesOn}
 use Rattle.par_machine.specs.Turn.{IsTurn}
-use Rattle.par_steps.specs.State.{State}
-use Rattle.par_steps.specs.Step.{Turn, turn}
-use Rattle.par_steps.specs.Run.{run, followed}
+use Rattle.par_machine.specs.par_steps.State.{State}
+use Rattle.par_machine.specs.par_steps.Step.{Turn, turn}
+use Rattle.par_machine.specs.par_steps.Run.{run, followed}
 use Rattle.par_runner.specs.declared.memory.NoMemory.{NoMemory}
 use Rattle.par_runner.specs.declared.running.Moved.{Moved}
 use Rattle.par_runner.specs.declared.telling.Untold.{Untold}

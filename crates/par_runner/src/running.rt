@@ -2,9 +2,9 @@
 
 ghost use Rattle.std.specs.Prelude.{◌≡◌, ◌<◌, ◌+◌, ℕ, suc, IfOk};
 ghost use Rattle.par_values.specs.Ran.{Ran};
-ghost use Rattle.par_steps.specs.State.{State};
-ghost use Rattle.par_steps.specs.Step as plain;
-ghost use Rattle.par_steps.specs.Run.{followed};
+ghost use Rattle.par_machine.specs.par_steps.State.{State};
+ghost use Rattle.par_machine.specs.par_steps.Step as plain;
+ghost use Rattle.par_machine.specs.par_steps.Run.{followed};
 ghost use Rattle.par_machine.specs.Machine.{steps_of};
 ghost use Rattle.par_machine.specs.Turn.{IsTurn};
 ghost use Rattle.par_runner.specs.Running.{runs_of, Moves};

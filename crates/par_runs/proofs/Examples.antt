@@ -3,8 +3,9 @@
 use Rattle.std.specs.Int.{int_wrap}
 use Rattle.std.proofs.Common.{◌≡◌, ℕ, ℤ, Bool, true, false, List, [], ◌∷◌, None, pos, negsuc, refl}
 use Rattle.std.proofs.Common.{codes}
-use Rattle.par_lexer.specs.declared.operator.BinOp.TheVariants.{Or, And, Gt, Div, Rem, Shl, Ushr}
-use Rattle.par_lexer.specs.declared.operator.BinOp.TheVariants.{Shr}
+use Rattle.par_typed.specs.par_lexer.declared.operator.BinOp.TheVariants.{Or, And, Gt, Div, Rem}
+use Rattle.par_typed.specs.par_lexer.declared.operator.BinOp.TheVariants.{Shl, Ushr}
+use Rattle.par_typed.specs.par_lexer.declared.operator.BinOp.TheVariants.{Shr}
 use Rattle.par_typed.specs.declared.ty.Ty.{Ty}
 use Rattle.par_typed.specs.declared.ty.Ty.TheVariants as ty
 use Rattle.par_typed.specs.declared.table.ChannelInfo.{ChannelInfo}
@@ -18,11 +19,11 @@ use Rattle.par_typed.specs.Plain.{Absent, NoExps, More}
 use Rattle.par_typed.specs.Plain.{TSta, Block, If, While, Try, Break, Continue, Throw, Open, Close}
 use Rattle.par_typed.specs.Plain.{SetLocal, SetStatic, SetField, Eval, When}
 use Rattle.par_typed.specs.Plain.{NoElse, Otherwise, TStas, End, Then, NoCatch, Catch}
-use Rattle.par_values.specs.declared.inputs.ChannelInput.{ChannelInput}
-use Rattle.par_values.specs.declared.run.Event.TheVariants as event
-use Rattle.par_values.specs.declared.run.Ending.{Ending}
-use Rattle.par_values.specs.declared.run.Ending.TheVariants as ending
-use Rattle.par_values.specs.declared.run.Val.TheVariants as shown
+use Rattle.par_secrecy.specs.par_values.declared.inputs.ChannelInput.{ChannelInput}
+use Rattle.par_secrecy.specs.par_values.declared.run.Event.TheVariants as event
+use Rattle.par_secrecy.specs.par_values.declared.run.Ending.{Ending}
+use Rattle.par_secrecy.specs.par_values.declared.run.Ending.TheVariants as ending
+use Rattle.par_secrecy.specs.par_values.declared.run.Val.TheVariants as shown
 use Rattle.par_secrecy.specs.Runs.{Run, Witnessed}
 use Rattle.par_runs.specs.Meaning.{eval, eval_all, go, go_else, go_all, go_catch, method}
 use Rattle.par_runs.specs.Source.{run_of}

@@ -6,10 +6,12 @@ use Rattle.std.specs.Prelude.{IsTrue, nat_eq, nat_lt, ◌==◌}
 use Rattle.std.proofs.lemmas.Bool.{or_left, or_right, cond_both, or_cases, eq-eqb, eqb-true}
 use Rattle.std.proofs.lemmas.List.Kept.{AllPairs-cons}
 use Rattle.std.proofs.lemmas.List.Elements.{All-nil, All-cons, All-head, All-tail, All-weaker}
-use Rattle.par_policy.specs.Numbers.{IsAscending, has, Gains, IsDifference}
-use Rattle.par_policy.proofs.Members.{Contains-from_has, has-from_Contains}
-use Rattle.par_policy.proofs.Filtered.{IsAscending-filter, Contains-filter, Contains-from_filter}
-use Rattle.par_policy.proofs.Ordered.{AllPairs-head, AllPairs-tail, same_numbers, Contains-nil}
+use Rattle.par_typed.specs.par_policy.Numbers.{IsAscending, has, Gains, IsDifference}
+use Rattle.par_typed.proofs.par_policy.Members.{Contains-from_has, has-from_Contains}
+use Rattle.par_typed.proofs.par_policy.Filtered.{IsAscending-filter, Contains-filter}
+use Rattle.par_typed.proofs.par_policy.Filtered.{Contains-from_filter}
+use Rattle.par_typed.proofs.par_policy.Ordered.{AllPairs-head, AllPairs-tail, same_numbers}
+use Rattle.par_typed.proofs.par_policy.Ordered.{Contains-nil}
 use Rattle.par_runs.specs.State.{opened, closed}
 
 has_new : (l : ℕ) (ls : List ℕ) → IsTrue (has (opened l ls) l)

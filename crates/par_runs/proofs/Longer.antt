@@ -3,7 +3,7 @@
 use Rattle.std.proofs.Common.{◌≡◌, ℕ, zero, suc, ◌<◌, ◌≤◌, ◌-◌, ◌+◌, Bool, true, false}
 use Rattle.std.proofs.Common.{if◌then◌else◌, List, [], ◌∷◌, Option, Some, None, refl, sym, ap}
 use Rattle.std.proofs.Common.{◌==◌, subst, arith}
-use Rattle.par_policy.specs.Numbers.{has}
+use Rattle.par_typed.specs.par_policy.Numbers.{has}
 use Rattle.par_typed.specs.declared.table.Table.{Table}
 use Rattle.par_typed.specs.declared.program.Typed.{Typed}
 use Rattle.par_typed.specs.Shown.{bodies}
@@ -14,12 +14,12 @@ use Rattle.par_typed.specs.Plain.{TSta, Block, If, While, Try, Return, Break, Co
 use Rattle.par_typed.specs.Plain.{Close, SetLocal, SetStatic, SetField, Eval, When}
 use Rattle.par_typed.specs.Plain.{MayTSta, NoElse, Otherwise, TStas, End, Then, TCatches, NoCatch}
 use Rattle.par_typed.specs.Plain.{Catch}
-use Rattle.par_values.specs.declared.run.Event.{Event}
-use Rattle.par_values.specs.declared.run.Event.TheVariants.{Born}
-use Rattle.par_values.specs.declared.value.MVal.{MVal}
-use Rattle.par_values.specs.declared.value.MVal.TheVariants as value
-use Rattle.par_values.specs.Areas.{number_of}
-use Rattle.par_values.specs.Arithmetic.{negated}
+use Rattle.par_secrecy.specs.par_values.declared.run.Event.{Event}
+use Rattle.par_secrecy.specs.par_values.declared.run.Event.TheVariants.{Born}
+use Rattle.par_secrecy.specs.par_values.declared.value.MVal.{MVal}
+use Rattle.par_secrecy.specs.par_values.declared.value.MVal.TheVariants as value
+use Rattle.par_secrecy.specs.par_values.Areas.{number_of}
+use Rattle.par_secrecy.specs.par_values.Arithmetic.{negated}
 use Rattle.par_secrecy.specs.Longer.{Extends}
 use Rattle.par_secrecy.specs.Runs.{Run, stopped, with_first}
 use Rattle.par_secrecy.proofs.Extension.{extends_itself, extends_stopped, extends_behind}

@@ -3,7 +3,7 @@ use Rattle.std.specs.Prelude.{ℕ, ◌≤◌, List}
 use Rattle.par_typed.specs.declared.program.Typed.{Typed}
 use Rattle.par_typed.specs.declared.table.Table.{Table}
 use Rattle.par_typed.specs.Plain.{Body}
-use Rattle.par_values.specs.declared.inputs.Inputs.{Inputs}
+use Rattle.par_secrecy.specs.par_values.declared.inputs.Inputs.{Inputs}
 use Rattle.par_secrecy.specs.Longer.{Extends}
 use Rattle.par_runs.specs.State.{State}
 use Rattle.par_runs.specs.Meaning.{method}

@@ -3,8 +3,8 @@
 -- each further test of a loop and each entering of a called body.
 use Rattle.std.specs.Prelude.{ℕ, zero, suc, not, if◌then◌else◌, ◌==◌, List, [], ◌∷◌, Option, Some}
 use Rattle.std.specs.Prelude.{None}
-use Rattle.par_lexer.specs.declared.operator.BinOp.{BinOp}
-use Rattle.par_policy.specs.Numbers.{has}
+use Rattle.par_typed.specs.par_lexer.declared.operator.BinOp.{BinOp}
+use Rattle.par_typed.specs.par_policy.Numbers.{has}
 use Rattle.par_typed.specs.declared.table.Table.{Table}
 use Rattle.par_typed.specs.Plain.{mark, Body, TExp, Int, Boolean, Null, This, New, Local, Static}
 use Rattle.par_typed.specs.Plain.{Field, Input, Output, Call, Neg, Not, Binary}
@@ -13,11 +13,11 @@ use Rattle.par_typed.specs.Plain.{TSta, Block, If, While, Try, Return, Break, Co
 use Rattle.par_typed.specs.Plain.{Close, SetLocal, SetStatic, SetField, Eval, When}
 use Rattle.par_typed.specs.Plain.{MayTSta, NoElse, Otherwise, TStas, End, Then, TCatches, NoCatch}
 use Rattle.par_typed.specs.Plain.{Catch}
-use Rattle.par_values.specs.declared.run.Event.TheVariants.{Out, Set, Put, Born}
-use Rattle.par_values.specs.declared.value.MVal.{MVal}
-use Rattle.par_values.specs.declared.value.MVal.TheVariants as value
-use Rattle.par_values.specs.Areas.{number_of, next}
-use Rattle.par_values.specs.Arithmetic.{negated}
+use Rattle.par_secrecy.specs.par_values.declared.run.Event.TheVariants.{Out, Set, Put, Born}
+use Rattle.par_secrecy.specs.par_values.declared.value.MVal.{MVal}
+use Rattle.par_secrecy.specs.par_values.declared.value.MVal.TheVariants as value
+use Rattle.par_secrecy.specs.par_values.Areas.{number_of, next}
+use Rattle.par_secrecy.specs.par_values.Arithmetic.{negated}
 use Rattle.par_secrecy.specs.Runs.{stopped}
 use Rattle.par_runs.specs.Names.{Name, made_named, field_named, channel_named, first_field, body_of}
 use Rattle.par_runs.specs.State.{set_local, set_result, set_static, set_field, with_object}

@@ -4,11 +4,11 @@ use Rattle.par_typed.specs.declared.program.Typed.{Typed}
 use Rattle.par_typed.specs.declared.table.Table.{Table}
 use Rattle.par_typed.specs.Plain.{Body}
 use Rattle.par_typed.specs.Shown.{bodies}
-use Rattle.par_values.specs.declared.inputs.ChannelInput.{ChannelInput}
-use Rattle.par_values.specs.declared.inputs.Inputs.{Inputs}
-use Rattle.par_values.specs.declared.run.Ending.{Ending}
-use Rattle.par_values.specs.declared.run.Ending.TheVariants.{End, Uncaught}
-use Rattle.par_values.specs.declared.value.MVal.TheVariants.{Null}
+use Rattle.par_secrecy.specs.par_values.declared.inputs.ChannelInput.{ChannelInput}
+use Rattle.par_secrecy.specs.par_values.declared.inputs.Inputs.{Inputs}
+use Rattle.par_secrecy.specs.par_values.declared.run.Ending.{Ending}
+use Rattle.par_secrecy.specs.par_values.declared.run.Ending.TheVariants.{End, Uncaught}
+use Rattle.par_secrecy.specs.par_values.declared.value.MVal.TheVariants.{Null}
 use Rattle.par_secrecy.specs.Runs.{Run}
 use Rattle.par_secrecy.specs.Subject.{given}
 use Rattle.par_runs.specs.Names.{Name, Member, class_named, channel_named, first_field, main_of}

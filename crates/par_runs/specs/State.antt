@@ -1,9 +1,9 @@
 -- What a run remembers.
 use Rattle.std.specs.Prelude.{ℕ, ◌+◌, not, ◌==◌, nat_lt, if◌then◌else◌, ℤ, List, [], ◌∷◌}
 use Rattle.std.specs.List.{filter, slice_get}
-use Rattle.par_values.specs.declared.value.MVal.{MVal}
-use Rattle.par_values.specs.declared.value.MVal.TheVariants.{Null}
-use Rattle.par_values.specs.Areas.{value_or_null, left}
+use Rattle.par_secrecy.specs.par_values.declared.value.MVal.{MVal}
+use Rattle.par_secrecy.specs.par_values.declared.value.MVal.TheVariants.{Null}
+use Rattle.par_secrecy.specs.par_values.Areas.{value_or_null, left}
 
 pub record State : Type 0 where
   -- of the method that runs: what its locals hold, and what it is to return

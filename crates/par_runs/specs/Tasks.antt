@@ -1,8 +1,8 @@
 -- A run by what follows each way to complete: a task is given that, and is the run from here on.
 use Rattle.std.specs.Prelude.{ℕ, zero, suc, Bool, if◌then◌else◌, List, Option, Some, None}
-use Rattle.par_values.specs.declared.run.Event.{Event}
-use Rattle.par_values.specs.declared.value.MVal.{MVal}
-use Rattle.par_values.specs.declared.value.MVal.TheVariants.{Int, Null, Ref}
+use Rattle.par_secrecy.specs.par_values.declared.run.Event.{Event}
+use Rattle.par_secrecy.specs.par_values.declared.value.MVal.{MVal}
+use Rattle.par_secrecy.specs.par_values.declared.value.MVal.TheVariants.{Int, Null, Ref}
 use Rattle.par_secrecy.specs.Runs.{Run, stopped, with_first}
 use Rattle.par_runs.specs.State.{State, entered, restored}
 

@@ -4,18 +4,20 @@
 use Rattle.std.specs.Prelude.{ℕ, Bool, true, false, not, ◌==◌, ◌&&◌, int_lt, pos, Option, Some}
 use Rattle.std.specs.Prelude.{None}
 use Rattle.std.specs.Ordering.{int_eq}
-use Rattle.par_lexer.specs.declared.operator.BinOp.{BinOp}
-use Rattle.par_lexer.specs.declared.operator.BinOp.TheVariants.{Or, And, BitOr, BitXor, BitAnd, Eq}
-use Rattle.par_lexer.specs.declared.operator.BinOp.TheVariants.{Ne, Lt, Le, Gt, Ge, Shl, Shr, Ushr}
-use Rattle.par_lexer.specs.declared.operator.BinOp.TheVariants.{Add, Sub, Mul, Div, Rem}
+use Rattle.par_typed.specs.par_lexer.declared.operator.BinOp.{BinOp}
+use Rattle.par_typed.specs.par_lexer.declared.operator.BinOp.TheVariants.{Or, And, BitOr, BitXor}
+use Rattle.par_typed.specs.par_lexer.declared.operator.BinOp.TheVariants.{BitAnd, Eq}
+use Rattle.par_typed.specs.par_lexer.declared.operator.BinOp.TheVariants.{Ne, Lt, Le, Gt, Ge, Shl}
+use Rattle.par_typed.specs.par_lexer.declared.operator.BinOp.TheVariants.{Shr, Ushr}
+use Rattle.par_typed.specs.par_lexer.declared.operator.BinOp.TheVariants.{Add, Sub, Mul, Div, Rem}
 use Rattle.par_typed.specs.declared.table.Table.{Table}
-use Rattle.par_values.specs.declared.value.MVal.{MVal}
-use Rattle.par_values.specs.declared.value.MVal.TheVariants.{Int, Null, Ref}
-use Rattle.par_values.specs.declared.run.Val.{Val}
-use Rattle.par_values.specs.declared.run.Val.TheVariants as shown
-use Rattle.par_values.specs.Areas.{number_of}
-use Rattle.par_values.specs.Arithmetic.{Operator, combined, divides_by_zero}
-use Rattle.par_values.specs.Arithmetic as arithmetic
+use Rattle.par_secrecy.specs.par_values.declared.value.MVal.{MVal}
+use Rattle.par_secrecy.specs.par_values.declared.value.MVal.TheVariants.{Int, Null, Ref}
+use Rattle.par_secrecy.specs.par_values.declared.run.Val.{Val}
+use Rattle.par_secrecy.specs.par_values.declared.run.Val.TheVariants as shown
+use Rattle.par_secrecy.specs.par_values.Areas.{number_of}
+use Rattle.par_secrecy.specs.par_values.Arithmetic.{Operator, combined, divides_by_zero}
+use Rattle.par_secrecy.specs.par_values.Arithmetic as arithmetic
 use Rattle.par_runs.specs.Names.{Name, class_named}
 
 abbrev pub truth : Bool → MVal

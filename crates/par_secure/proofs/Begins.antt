@@ -22,11 +22,11 @@ use Rattle.par_secrecy.specs.Shown.{sees, Alike}
 use Rattle.par_runs.specs.Names.{channel_named, channel_of, channel_member, place_of, main_of}
 use Rattle.par_runs.specs.Names.{main_in}
 use Rattle.par_runs.specs.Source.{given_to}
-use Rattle.par_alike.specs.Subject.{input_of, inputs_in, input_channels, subject}
+use Rattle.par_in_step.specs.par_alike.Subject.{input_of, inputs_in, input_channels, subject}
 use Rattle.par_bodies.specs.Members.{method_at, methods_in, channel_at, channels_in}
 use Rattle.par_bodies.specs.Names.{IsChannel}
-use Rattle.par_two_runs.specs.Watched.{IsThere}
-use Rattle.par_two_runs.proofs.States.{Watch, Sees, declared}
+use Rattle.par_in_step.specs.par_two_runs.Watched.{IsThere}
+use Rattle.par_in_step.proofs.par_two_runs.States.{Watch, Sees, declared}
 use Rattle.par_in_step.proofs.CallPoints.{method_is}
 use Rattle.par_secure.proofs.Tables.{all_at, seen_in_range}
 

@@ -41,7 +41,7 @@ use Rattle.par_checks.specs.Checks.{lock_written}
 use Rattle.par_in_step.proofs.Needs.{IsAsked}
 use Rattle.par_bodies.specs.Proper.{IsProper}
 use Rattle.par_well_typed.specs.Bodied.{Spot, spot_of, methods_from, AreBodiesOf}
-use Rattle.par_two_runs.specs.Watched.{IsThere}
+use Rattle.par_in_step.specs.par_two_runs.Watched.{IsThere}
 use Rattle.par_pass.proofs.Along.{and_l, and_r}
 use Rattle.std.proofs.lemmas.Bool.{and_from}
 use Rattle.par_in_step.proofs.CallPoints.{method_is}

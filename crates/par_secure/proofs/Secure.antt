@@ -29,7 +29,7 @@ use Rattle.par_secrecy.specs.Runs.{Witnessed}
 use Rattle.par_secrecy.specs.Shown.{Observer, sees}
 use Rattle.par_secrecy.specs.Secure.{Secure}
 use Rattle.par_runs.specs.Source.{source}
-use Rattle.par_alike.specs.Subject.{subject, policy_or_none}
+use Rattle.par_in_step.specs.par_alike.Subject.{subject, policy_or_none}
 use Rattle.par_in_step.proofs.Runs.{explained}
 use Rattle.par_secure.specs.Explained.{IsPair, Here, Later, Explains, IsExplained}
 use Rattle.par_secure.proofs.Watching.{within_has, had, watch, explains}

@@ -21,12 +21,12 @@ use Rattle.par_values.specs.declared.value.MVal.{MVal}
 use Rattle.par_values.specs.declared.value.MVal.TheVariants as value
 use Rattle.par_runs.specs.Names.{Name, Member, channel_named, field_named, made_named}
 use Rattle.par_runs.specs.Values.{shown_value, shown_object}
-use Rattle.par_alike.specs.Subject.{event_policy, policy_at, channel_policy}
-use Rattle.par_alike.specs.Subject.{field_policy, of_class}
+use Rattle.par_in_step.specs.par_alike.Subject.{event_policy, policy_at, channel_policy}
+use Rattle.par_in_step.specs.par_alike.Subject.{field_policy, of_class}
 use Rattle.par_bodies.specs.Members.{field_at}
 use Rattle.par_bodies.specs.Names.{IsField}
-use Rattle.par_two_runs.proofs.States.{Watch, HasPolicy, IsMade, Sees, declared}
-use Rattle.par_two_runs.proofs.Leaves.{Sound, Throws}
+use Rattle.par_in_step.proofs.par_two_runs.States.{Watch, HasPolicy, IsMade, Sees, declared}
+use Rattle.par_in_step.proofs.par_two_runs.Leaves.{Sound, Throws}
 use Rattle.par_in_step.proofs.CallPoints.{method_is}
 use Rattle.par_secure.proofs.Tables.{all_at, found, channels_look, fields_look, classes_look}
 use Rattle.par_secure.proofs.Tables.{distinct_front, Channel, channel_is, Field, field_is}

@@ -23,11 +23,11 @@ use Rattle.par_secrecy.specs.Shown.{Observer, sees}
 use Rattle.par_runs.specs.Names.{Name, Member, channel_named, channel_of, channel_member}
 use Rattle.par_runs.specs.Names.{field_named, field_of, field_member, made_named, made_name}
 use Rattle.par_runs.specs.Names.{class_named, class_name}
-use Rattle.par_alike.specs.Subject.{policy_at, policy_or_none, channel_policy}
-use Rattle.par_alike.specs.Subject.{field_policy, of_class}
+use Rattle.par_in_step.specs.par_alike.Subject.{policy_at, policy_or_none, channel_policy}
+use Rattle.par_in_step.specs.par_alike.Subject.{field_policy, of_class}
 use Rattle.par_bodies.specs.Members.{method_at, methods_in, field_at, fields_in}
 use Rattle.par_bodies.specs.Names.{IsField}
-use Rattle.par_two_runs.proofs.Leaves.{Throws, first_of, later_of}
+use Rattle.par_in_step.proofs.par_two_runs.Leaves.{Throws, first_of, later_of}
 
 -- ---- lists
 

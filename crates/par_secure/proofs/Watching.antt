@@ -29,11 +29,11 @@ use Rattle.par_checks.specs.Keeps.{Satisfies, locks_in}
 use Rattle.par_checks.specs.Verdict.{KeepsNumbered, given}
 use Rattle.par_secrecy.specs.Runs.{Witnessed}
 use Rattle.par_secrecy.specs.Shown.{Observer}
-use Rattle.par_two_runs.specs.Watched.{watched}
+use Rattle.par_in_step.specs.par_two_runs.Watched.{watched}
 use Rattle.par_pass.proofs.Along.{and_l, and_r}
 use Rattle.std.proofs.lemmas.Bool.{and_from}
-use Rattle.par_two_runs.proofs.LockSets.{or_cases}
-use Rattle.par_two_runs.proofs.States.{Watch, Explained}
+use Rattle.par_in_step.proofs.par_two_runs.LockSets.{or_cases}
+use Rattle.par_in_step.proofs.par_two_runs.States.{Watch, Explained}
 use Rattle.par_in_step.specs.Release.{IsRelease}
 use Rattle.par_in_step.proofs.Points.{Demand, Kept, AllKept}
 use Rattle.par_secure.specs.Explained.{IsPair, Explains}

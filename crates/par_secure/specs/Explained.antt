@@ -16,7 +16,7 @@ use Rattle.par_secrecy.specs.Runs.{Witnessed}
 use Rattle.par_secrecy.specs.Subject.{Subject, Fits}
 use Rattle.par_secrecy.specs.Shown.{Observer, sees, shown, Alike}
 use Rattle.par_secrecy.specs.Secure.{events}
-use Rattle.par_alike.specs.Subject.{policy_at}
+use Rattle.par_in_step.specs.par_alike.Subject.{policy_at}
 use Rattle.par_in_step.specs.Release.{IsRelease}
 
 -- the body and the facts stand at the same place of the lists

@@ -9,7 +9,7 @@ use Rattle.par_declared.specs.Declared.{IsWellDeclared}
 use Rattle.par_well_typed.specs.WellTyped.{IsWellTyped}
 use Rattle.par_verdict.specs.Accepted.{IsAcceptedBy}
 use Rattle.par_secrecy.specs.Secure.{Secure}
-use Rattle.par_alike.specs.Subject.{subject}
+use Rattle.par_in_step.specs.par_alike.Subject.{subject}
 use Rattle.par_secure.specs.Explained.{Explains, IsExplained}
 
 -- A first difference of what an observer is shown of an accepted program is explained: where the

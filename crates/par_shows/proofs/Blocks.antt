@@ -9,9 +9,9 @@ use Rattle.par_runs.specs.State.{State}
 use Rattle.par_steps.specs.Step.{Turn}
 use Rattle.par_code_form.specs.declared.item.Item.{Item}
 use Rattle.par_code_form.specs.declared.labelled.Handler.{Handler}
-use Rattle.par_matching.specs.Labelled.{Labelled, Naming, skip}
-use Rattle.par_matching.proofs.Rules.{Told}
-use Rattle.par_matching.proofs.Steps.{Lives, Here, Distinct}
+use Rattle.par_evaluation.specs.par_matching.Labelled.{Labelled, Naming, skip}
+use Rattle.par_evaluation.proofs.par_matching.Rules.{Told}
+use Rattle.par_evaluation.proofs.par_matching.Steps.{Lives, Here, Distinct}
 use Rattle.std.proofs.Common.{inl, inr}
 use Rattle.std.proofs.lemmas.Bool.{or_right}
 use Rattle.par_typed.specs.Plain.{TSta, Block}
@@ -25,7 +25,7 @@ use Rattle.par_code_form.specs.Code.{handlers, all_handlers}
 use Rattle.par_shows.proofs.Handlers.{outside, all_outside}
 use Rattle.par_evaluation.proofs.Parts.{Setting}
 use Rattle.par_code_form.specs.Code.{Words, Loop, labels, code, all_code}
-use Rattle.par_agreeing.specs.Laid.{Layout, IsSet, TypedS, TypedAll, behind}
+use Rattle.par_evaluation.specs.par_agreeing.Laid.{Layout, IsSet, TypedS, TypedAll, behind}
 use Rattle.par_shows.proofs.Spans.{grows, all_grows, all_lives, ends}
 use Rattle.par_evaluation.proofs.Parts.{M, at, Fit, wider}
 use Rattle.par_shows.proofs.Exits.{Catches, Holds', Normally, Sides, alike, behind_more, less}

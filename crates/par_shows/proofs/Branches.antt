@@ -21,10 +21,10 @@ use Rattle.par_steps.specs.Step.{Turn}
 use Rattle.par_code_form.specs.declared.item.Item.{Item}
 use Rattle.par_code_form.specs.declared.item.Item.TheVariants.{Label, Jump, LockOp}
 use Rattle.par_code_form.specs.declared.labelled.Handler.{Handler}
-use Rattle.par_matching.specs.Labelled.{Labelled, Naming, skip, silent}
-use Rattle.par_matching.proofs.Rules.{Told}
-use Rattle.par_matching.proofs.Steps.{Lives, Here, next, Distinct, on}
-use Rattle.par_agreeing.specs.Agreement.{Lays}
+use Rattle.par_evaluation.specs.par_matching.Labelled.{Labelled, Naming, skip, silent}
+use Rattle.par_evaluation.proofs.par_matching.Rules.{Told}
+use Rattle.par_evaluation.proofs.par_matching.Steps.{Lives, Here, next, Distinct, on}
+use Rattle.par_evaluation.specs.par_agreeing.Agreement.{Lays}
 use Rattle.par_values.specs.Operations.{InvokeStatic, PutStatic}
 use Rattle.par_values.specs.declared.link.FieldLink.{FieldLink}
 use Rattle.par_values.specs.Areas.{first_value}
@@ -49,7 +49,8 @@ use Rattle.par_shows.proofs.Handlers.{outside, else_outside}
 use Rattle.par_shows.proofs.Spans.{goes_grows, goes_lives, goes_ends}
 use Rattle.par_evaluation.proofs.Parts.{Setting}
 use Rattle.par_code_form.specs.Code.{Words, Loop, expr_labels, labels, code, else_code}
-use Rattle.par_agreeing.specs.Laid.{Layout, moved, HasType, TypedS, TypedElse, behind}
+use Rattle.par_evaluation.specs.par_agreeing.Laid.{Layout, moved, HasType, TypedS, TypedElse}
+use Rattle.par_evaluation.specs.par_agreeing.Laid.{behind}
 use Rattle.par_evaluation.proofs.Lengths.{expr_ends, expr_grows}
 use Rattle.par_shows.proofs.Spans.{grows, else_grows, lives, else_lives, ends, else_ends}
 use Rattle.par_evaluation.proofs.Parts.{with, M, at, Fit, wider, given}

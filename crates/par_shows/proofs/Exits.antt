@@ -1,5 +1,5 @@
 -- What is asked of the code of a statement: the machine at each of its exits.
-use Rattle.par_agreeing.specs.Laid.{IsThrown}
+use Rattle.par_evaluation.specs.par_agreeing.Laid.{IsThrown}
 use Rattle.std.proofs.Common.{◌≡◌, ℕ, suc, ◌+◌, ◌-◌, ◌≤◌, Bool, true, false, not, List, [], ◌∷◌}
 use Rattle.std.proofs.Common.{length, Option, refl, ap, sym, ◌∙◌, subst, arith}
 use Rattle.std.specs.Prelude.{pos, ◌-ℤ◌, ◌==◌, if◌then◌else◌, cond}
@@ -18,20 +18,21 @@ use Rattle.par_values.specs.Effects.{effect, jumps_if}
 use Rattle.par_runs.specs.State.{State}
 use Rattle.par_steps.specs.State as steps
 use Rattle.par_steps.specs.Step.{Turn}
-use Rattle.par_engine.specs.Engine.{Program, turn}
-use Rattle.par_engine.specs.Engine as gen
+use Rattle.par_evaluation.specs.par_engine.Engine.{Program, turn}
+use Rattle.par_evaluation.specs.par_engine.Engine as gen
 use Rattle.par_code_form.specs.declared.item.Item.{Item}
 use Rattle.par_code_form.specs.declared.item.Item.TheVariants.{Label, Jump}
 use Rattle.par_code_form.specs.declared.labelled.Handler.{Handler}
-use Rattle.par_matching.specs.Labelled.{Labelled, Naming, skip, target, stands}
-use Rattle.par_matching.proofs.Rules.{Told, weaken, spend_rule, spent}
-use Rattle.par_matching.proofs.Steps.{Lives, Here, next, Distinct, P, here, frame, on, jumps}
-use Rattle.par_matching.proofs.Steps.{target_is, stands_here}
-use Rattle.par_agreeing.specs.Agreement.{Lays}
+use Rattle.par_evaluation.specs.par_matching.Labelled.{Labelled, Naming, skip, target, stands}
+use Rattle.par_evaluation.proofs.par_matching.Rules.{Told, weaken, spend_rule, spent}
+use Rattle.par_evaluation.proofs.par_matching.Steps.{Lives, Here, next, Distinct, P, here, frame}
+use Rattle.par_evaluation.proofs.par_matching.Steps.{on, jumps}
+use Rattle.par_evaluation.proofs.par_matching.Steps.{target_is, stands_here}
+use Rattle.par_evaluation.specs.par_agreeing.Agreement.{Lays}
 use Rattle.par_values.specs.Operations.{InvokeStatic, PutStatic}
 use Rattle.par_values.specs.Operations.{operation}
 use Rattle.par_runs.specs.Values.{is_true}
-use Rattle.par_agreeing.proofs.Operators.{not_not}
+use Rattle.par_evaluation.proofs.par_agreeing.Operators.{not_not}
 use Rattle.std.proofs.lemmas.Bool.{or_right}
 use Rattle.par_typed.specs.Plain.{mark, TExp}
 use Rattle.par_typed.specs.Plain.{TSta, Block, If, While, Try, Return, Break, Continue, Throw, Open}
@@ -45,14 +46,16 @@ use Rattle.par_completes.specs.Typed.{breaks}
 use Rattle.par_values.specs.Operations.{PutField}
 use Rattle.par_steps.specs.Handlers.{caught_by}
 use Rattle.par_steps.specs.Step.{thrown_to}
-use Rattle.par_matching.specs.Labelled.{handled}
+use Rattle.par_evaluation.specs.par_matching.Labelled.{handled}
 use Rattle.par_code_form.specs.Code.{goes_on}
 use Rattle.par_code_form.specs.Code.{handlers}
 use Rattle.par_evaluation.proofs.Parts.{Setting, Enters, fails}
 use Rattle.par_code_form.specs.Code.{Words, Loop, is_void, expr_code, code}
-use Rattle.par_agreeing.specs.Laid.{Layout, moved, HasType, IsSet, Typed, TypedS, behind, Accepts}
-use Rattle.par_agreeing.proofs.Good.{fit_less}
-use Rattle.par_evaluation.proofs.Parts.{with, not_void, Q, M, the_code, at, Fit, Within, wider, after}
+use Rattle.par_evaluation.specs.par_agreeing.Laid.{Layout, moved, HasType, IsSet, Typed, TypedS}
+use Rattle.par_evaluation.specs.par_agreeing.Laid.{behind, Accepts}
+use Rattle.par_evaluation.proofs.par_agreeing.Good.{fit_less}
+use Rattle.par_evaluation.proofs.Parts.{with, not_void, Q, M, the_code, at, Fit, Within, wider}
+use Rattle.par_evaluation.proofs.Parts.{after}
 use Rattle.par_evaluation.proofs.Parts.{Ready, Handed, handed, given, thrown, Raises, Holds}
 use Rattle.par_evaluation.proofs.Parts.{number_moved, Simple, kind_in_fits}
 use Rattle.par_evaluation.proofs.Values.{raises_on, number_fits, one_fits, accepts}

@@ -15,8 +15,8 @@ use Rattle.par_code_form.specs.declared.labelled.Handler.{Handler}
 use Rattle.par_code_form.specs.Code.{Words, Loop, goes_on, expr_labels, labels, code, else_code}
 use Rattle.par_code_form.specs.Code.{all_code, catch_code}
 use Rattle.par_code_form.specs.Code.{handlers, else_handlers, all_handlers, catch_handlers}
-use Rattle.par_matching.specs.Labelled.{Labelled, Naming, spot, handled, target}
-use Rattle.par_matching.proofs.Steps.{Here, next, Distinct}
+use Rattle.par_evaluation.specs.par_matching.Labelled.{Labelled, Naming, spot, handled, target}
+use Rattle.par_evaluation.proofs.par_matching.Steps.{Here, next, Distinct}
 use Rattle.par_evaluation.proofs.Lengths.{expr_grows, expr_ends}
 use Rattle.par_shows.proofs.Spans.{goes_grows, goes_ends, test_grows, test_ends, grows, else_grows}
 use Rattle.par_shows.proofs.Spans.{all_grows, catch_grows, ends}

@@ -23,8 +23,8 @@ use Rattle.par_code_form.specs.Code.{args_code}
 use Rattle.par_code_form.specs.Code.{Loop, goes_on, loop_test, labels, else_labels, all_labels}
 use Rattle.par_code_form.specs.Code.{catch_labels, code, else_code, all_code, catch_code, ending}
 use Rattle.par_code_form.specs.Code.{no_loop, body_code}
-use Rattle.par_matching.specs.Labelled.{Labelled, spot}
-use Rattle.par_matching.proofs.Steps.{Distinct}
+use Rattle.par_evaluation.specs.par_matching.Labelled.{Labelled, spot}
+use Rattle.par_evaluation.proofs.par_matching.Steps.{Distinct}
 
 abbrev pub Absent : ℕ → List Item → Type 0
 Absent l [] = Unit {0}

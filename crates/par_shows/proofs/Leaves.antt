@@ -1,5 +1,5 @@
 -- The code of a statement without parts shows its run.
-use Rattle.par_agreeing.specs.Laid.{HasOwn, IsLock, IsMade}
+use Rattle.par_evaluation.specs.par_agreeing.Laid.{HasOwn, IsLock, IsMade}
 use Rattle.std.proofs.Common.{◌≡◌, ℕ, suc, ◌+◌, ◌-◌, ◌≤◌, ◌<◌, Bool, true, false, not, List, []}
 use Rattle.std.proofs.Common.{◌∷◌}
 use Rattle.std.proofs.Common.{length, Option, Some, None, refl, ap, sym, ◌∙◌, subst, arith, codes}
@@ -25,13 +25,14 @@ use Rattle.par_steps.specs.State as steps
 use Rattle.par_steps.specs.Step.{Turn}
 use Rattle.par_code_form.specs.declared.item.Item.{Item}
 use Rattle.par_code_form.specs.declared.item.Item.TheVariants.{Op, Const, Member, ClassOp, LockOp}
-use Rattle.par_matching.specs.Labelled.{Labelled, Naming, lead, skip, silent}
-use Rattle.par_matching.proofs.Rules.{Told}
-use Rattle.par_matching.proofs.Steps.{Lives, Here, next, IsSound, P, on, says, leaves_turn}
-use Rattle.par_matching.proofs.Steps.{leaves_with_turn}
-use Rattle.par_agreeing.specs.Agreement.{Lays}
-use Rattle.par_agreeing.proofs.Good.{typed_on, class_fits, kind_fits, born_thrown}
-use Rattle.par_agreeing.proofs.Values.{kind_in, store_is}
+use Rattle.par_evaluation.specs.par_matching.Labelled.{Labelled, Naming, lead, skip, silent}
+use Rattle.par_evaluation.proofs.par_matching.Rules.{Told}
+use Rattle.par_evaluation.proofs.par_matching.Steps.{Lives, Here, next, IsSound, P, on, says}
+use Rattle.par_evaluation.proofs.par_matching.Steps.{leaves_turn}
+use Rattle.par_evaluation.proofs.par_matching.Steps.{leaves_with_turn}
+use Rattle.par_evaluation.specs.par_agreeing.Agreement.{Lays}
+use Rattle.par_evaluation.proofs.par_agreeing.Good.{typed_on, class_fits, kind_fits, born_thrown}
+use Rattle.par_evaluation.proofs.par_agreeing.Values.{kind_in, store_is}
 use Rattle.par_values.specs.Operations.{InvokeStatic, PutStatic}
 use Rattle.par_values.specs.declared.link.FieldLink.{FieldLink}
 use Rattle.par_values.specs.declared.link.ClassLink.{ClassLink}
@@ -63,16 +64,16 @@ use Rattle.par_values.specs.declared.run.Event.TheVariants.{Put}
 use Rattle.par_runs.specs.State.{set_field, open_lock, close_lock}
 use Rattle.par_runs.specs.Tasks.{unless_null, tested}
 use Rattle.par_runs.specs.Meaning.{writes_field}
-use Rattle.par_matching.proofs.Steps.{hushed, object_turn}
-use Rattle.par_agreeing.proofs.Kept.{open_fit, close_fit, field_fit}
+use Rattle.par_evaluation.proofs.par_matching.Steps.{hushed, object_turn}
+use Rattle.par_evaluation.proofs.par_agreeing.Kept.{open_fit, close_fit, field_fit}
 use Rattle.par_code_form.specs.Code.{initializer as init_item}
 use Rattle.par_code_form.specs.Code.{handlers}
 use Rattle.par_evaluation.proofs.Created.{init_ok}
 use Rattle.par_evaluation.proofs.Parts.{Setting, fails}
 use Rattle.par_code_form.specs.Code.{Words, is_number, is_void, store, give_back, dropped}
 use Rattle.par_code_form.specs.Code.{expr_labels, expr_code, code}
-use Rattle.par_agreeing.specs.Laid.{Layout, moved, HasType, TypedS, Accepts, kind_of}
-use Rattle.par_agreeing.proofs.Good.{set_fit, static_fit, value_shown}
+use Rattle.par_evaluation.specs.par_agreeing.Laid.{Layout, moved, HasType, TypedS, Accepts, kind_of}
+use Rattle.par_evaluation.proofs.par_agreeing.Good.{set_fit, static_fit, value_shown}
 use Rattle.par_evaluation.proofs.Lengths.{expr_grows, expr_lives}
 use Rattle.par_evaluation.proofs.Parts.{with, not_void, M, at, Fit, given, Raises, kind_in_fits}
 use Rattle.par_evaluation.proofs.Values.{raises_on, one_fits, two_fit, makes}

@@ -11,3 +11,5 @@ pub mod Labels
 pub mod Sound
 pub mod Methods
 pub mod Whole
+pub use Rattle.par_steps.proofs as par_steps
+pub use Rattle.par_steps.proofs.par_link as par_link

@@ -11,13 +11,13 @@ use Rattle.par_values.specs.declared.value.MVal.TheVariants as value
 use Rattle.par_values.specs.Areas.{Name, Areas}
 use Rattle.par_runs.specs.State.{State}
 use Rattle.par_steps.specs.Step.{Turn}
-use Rattle.par_engine.specs.Engine.{Program}
+use Rattle.par_evaluation.specs.par_engine.Engine.{Program}
 use Rattle.par_code_form.specs.declared.item.Item.{Item}
 use Rattle.par_code_form.specs.declared.item.Item.TheVariants.{Label, Jump}
 use Rattle.par_code_form.specs.declared.labelled.Handler.{Handler}
-use Rattle.par_matching.specs.Labelled.{Labelled, Naming, skip, target, stands}
-use Rattle.par_matching.proofs.Rules.{Told, weaken, stopped_rule, spent}
-use Rattle.par_matching.proofs.Steps.{Lives, Here, next, Distinct, P}
+use Rattle.par_evaluation.specs.par_matching.Labelled.{Labelled, Naming, skip, target, stands}
+use Rattle.par_evaluation.proofs.par_matching.Rules.{Told, weaken, stopped_rule, spent}
+use Rattle.par_evaluation.proofs.par_matching.Steps.{Lives, Here, next, Distinct, P}
 use Rattle.par_runs.specs.Values.{is_true}
 use Rattle.std.proofs.Common.{inl}
 use Rattle.std.proofs.lemmas.Bool.{or_right}
@@ -42,7 +42,7 @@ use Rattle.par_shows.proofs.Handlers.{outside}
 use Rattle.par_shows.proofs.Spans.{goes_grows, goes_lives, goes_ends, test_ends}
 use Rattle.par_evaluation.proofs.Parts.{Setting}
 use Rattle.par_code_form.specs.Code.{Words, Loop, expr_labels, code}
-use Rattle.par_agreeing.specs.Laid.{Layout, Typed, TypedS, behind}
+use Rattle.par_evaluation.specs.par_agreeing.Laid.{Layout, Typed, TypedS, behind}
 use Rattle.par_evaluation.proofs.Lengths.{expr_ends, expr_grows, expr_lives}
 use Rattle.par_shows.proofs.Spans.{grows, lives, ends}
 use Rattle.par_evaluation.proofs.Parts.{M, at, Fit, wider, given}

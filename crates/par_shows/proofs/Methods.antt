@@ -1,5 +1,5 @@
 -- A call of a method shows the run of its body.
-use Rattle.par_agreeing.specs.Laid.{HasMethod}
+use Rattle.par_evaluation.specs.par_agreeing.Laid.{HasMethod}
 use Rattle.std.proofs.Common.{◌≡◌, ℕ, zero, suc, ◌+◌, ◌-◌, ◌≤◌, ◌<◌, Bool, true, false, not, List}
 use Rattle.std.proofs.Common.{[], ◌∷◌, ◌++◌}
 use Rattle.std.proofs.Common.{length, map, replicate, Option, Some, None, refl, ap, sym, ◌∙◌, subst}
@@ -23,16 +23,16 @@ use Rattle.par_runs.specs.State.{State, restored, entered}
 use Rattle.par_runs.specs.Tasks.{Rests, leave, nothing}
 use Rattle.par_runs.specs.Meaning.{go, method, within}
 use Rattle.par_steps.specs.State as steps
-use Rattle.par_engine.specs.Engine.{Program, turn}
+use Rattle.par_evaluation.specs.par_engine.Engine.{Program, turn}
 use Rattle.par_code_form.specs.declared.item.Item.{Item}
 use Rattle.par_code_form.specs.declared.item.Item.TheVariants.{Op}
 use Rattle.par_code_form.specs.Code.{Words, ending, no_loop, body_code}
-use Rattle.par_matching.specs.Labelled.{Labelled, Naming, handled, skip}
-use Rattle.par_matching.proofs.Rules.{Matches, weaken, stopped_rule}
-use Rattle.par_matching.proofs.Steps.{Lives, Here, IsSound, P, here, leaves_turn}
-use Rattle.par_agreeing.specs.Laid.{Layout, Meth, moved, HasType, IsSet, given_types}
-use Rattle.par_agreeing.specs.Agreement.{Lays, Fine}
-use Rattle.par_agreeing.proofs.Kept.{entered_fit}
+use Rattle.par_evaluation.specs.par_matching.Labelled.{Labelled, Naming, handled, skip}
+use Rattle.par_evaluation.proofs.par_matching.Rules.{Matches, weaken, stopped_rule}
+use Rattle.par_evaluation.proofs.par_matching.Steps.{Lives, Here, IsSound, P, here, leaves_turn}
+use Rattle.par_evaluation.specs.par_agreeing.Laid.{Layout, Meth, moved, HasType, IsSet, given_types}
+use Rattle.par_evaluation.specs.par_agreeing.Agreement.{Lays, Fine}
+use Rattle.par_evaluation.proofs.par_agreeing.Kept.{entered_fit}
 use Rattle.par_evaluation.specs.Programs.{Inits, Coded, framed, callee, first_set, given_kind}
 use Rattle.par_shows.proofs.Labels.{body_distinct}
 use Rattle.par_evaluation.proofs.Parts.{Setting, Enters, Back, AllTyped, with}

@@ -14,9 +14,11 @@ use Rattle.par_code_form.specs.declared.labelled.Handler.{Handler}
 use Rattle.par_code_form.specs.Code.{Words, Loop, expr_labels, labels, code, else_code, all_code}
 use Rattle.par_code_form.specs.Code.{catch_code}
 use Rattle.par_code_form.specs.Code.{handlers, else_handlers, all_handlers, catch_handlers}
-use Rattle.par_matching.specs.Labelled.{Labelled, Naming, target, handled, covers, stands}
-use Rattle.par_matching.proofs.Steps.{Here, next, Distinct, target_is, stands_here}
-use Rattle.par_agreeing.specs.Laid.{Layout, TypedS, TypedElse, TypedAll, TypedCatches}
+use Rattle.par_evaluation.specs.par_matching.Labelled.{Labelled, Naming, target, handled, covers}
+use Rattle.par_evaluation.specs.par_matching.Labelled.{stands}
+use Rattle.par_evaluation.proofs.par_matching.Steps.{Here, next, Distinct, target_is, stands_here}
+use Rattle.par_evaluation.specs.par_agreeing.Laid.{Layout, TypedS, TypedElse, TypedAll}
+use Rattle.par_evaluation.specs.par_agreeing.Laid.{TypedCatches}
 use Rattle.par_evaluation.proofs.Lengths.{expr_ends}
 use Rattle.par_shows.proofs.Spans.{goes_ends, test_ends, ends}
 

@@ -11,12 +11,12 @@ use Rattle.par_typed.specs.Plain.{MayTSta, NoElse, Otherwise, TStas, End, Then, 
 use Rattle.par_typed.specs.Plain.{Catch}
 use Rattle.par_code_form.specs.declared.item.Item.{Item}
 use Rattle.par_code_form.specs.declared.item.Item.TheVariants.{Label, Op, Jump, Member}
-use Rattle.par_matching.specs.Labelled.{Labelled}
+use Rattle.par_evaluation.specs.par_matching.Labelled.{Labelled}
 use Rattle.par_completes.specs.Typed.{completes, else_completes, last_completes, is_true}
 use Rattle.par_code_form.specs.Code.{goes_on, loop_test, Words, Loop, is_void, is_number, store}
 use Rattle.par_code_form.specs.Code.{give_back, dropped, expr_labels, expr_code, labels, code}
 use Rattle.par_code_form.specs.Code.{else_code, all_code, catch_code}
-use Rattle.par_matching.proofs.Steps.{Lives, Here, next}
+use Rattle.par_evaluation.proofs.par_matching.Steps.{Lives, Here, next}
 use Rattle.par_evaluation.proofs.Lengths.{expr_grows, expr_lives, expr_ends, store_lives}
 
 dropped_grows : (b : Bool) (xs : List Item) → length xs ≤ length (cond b xs (Op Pop ∷ xs))

@@ -1,7 +1,7 @@
 -- The code of a statement shows its run.
 use Rattle.std.proofs.Common.{◌≡◌, ℕ}
 use Rattle.par_typed.specs.declared.ty.Ty.{Ty}
-use Rattle.par_matching.specs.Labelled.{Labelled}
+use Rattle.par_evaluation.specs.par_matching.Labelled.{Labelled}
 use Rattle.par_typed.specs.Plain.{Absent, Present}
 use Rattle.par_typed.specs.Plain.{TSta, Block, If, While, Try, Return, Break, Continue, Throw, Open}
 use Rattle.par_typed.specs.Plain.{Close, SetLocal, SetStatic, SetField, Eval, When}

@@ -1,5 +1,5 @@
 -- The code of a `try` and of its catches shows their run.
-use Rattle.par_agreeing.specs.Laid.{IsThrown}
+use Rattle.par_evaluation.specs.par_agreeing.Laid.{IsThrown}
 use Rattle.std.proofs.Common.{◌≡◌, ℕ, suc, ◌+◌, ◌-◌, ◌≤◌, ◌<◌, Bool, true, false, ◌||◌, List, []}
 use Rattle.std.proofs.Common.{◌∷◌}
 use Rattle.std.proofs.Common.{Option, Some, refl, ap, sym, ◌∙◌, subst, arith}
@@ -15,15 +15,16 @@ use Rattle.par_values.specs.Effects.{effect}
 use Rattle.par_runs.specs.State.{State}
 use Rattle.par_steps.specs.State as steps
 use Rattle.par_steps.specs.Step.{Turn}
-use Rattle.par_engine.specs.Engine.{Program, turn}
-use Rattle.par_engine.specs.Engine as gen
+use Rattle.par_evaluation.specs.par_engine.Engine.{Program, turn}
+use Rattle.par_evaluation.specs.par_engine.Engine as gen
 use Rattle.par_code_form.specs.declared.item.Item.{Item}
 use Rattle.par_code_form.specs.declared.item.Item.TheVariants.{Label, Op}
 use Rattle.par_code_form.specs.declared.labelled.Handler.{Handler}
-use Rattle.par_matching.specs.Labelled.{Labelled, Naming, target}
-use Rattle.par_matching.proofs.Rules.{Told}
-use Rattle.par_matching.proofs.Steps.{Lives, Here, next, Distinct, P, here, frame, on, target_is}
-use Rattle.par_agreeing.specs.Agreement.{Lays}
+use Rattle.par_evaluation.specs.par_matching.Labelled.{Labelled, Naming, target}
+use Rattle.par_evaluation.proofs.par_matching.Rules.{Told}
+use Rattle.par_evaluation.proofs.par_matching.Steps.{Lives, Here, next, Distinct, P, here, frame}
+use Rattle.par_evaluation.proofs.par_matching.Steps.{on, target_is}
+use Rattle.par_evaluation.specs.par_agreeing.Agreement.{Lays}
 use Rattle.std.proofs.Common.{inl, inr, ◌⊎◌}
 use Rattle.std.proofs.lemmas.Bool.{or_right}
 use Rattle.par_instr.specs.declared.instr.Instr.TheVariants.{Pop}
@@ -39,16 +40,16 @@ use Rattle.par_steps.specs.Handlers.{caught_by}
 use Rattle.par_steps.specs.Step.{thrown_to}
 use Rattle.par_runs.specs.Tasks.{caught}
 use Rattle.par_runs.specs.Meaning.{go_catch}
-use Rattle.par_matching.proofs.Rules.{next_rule}
-use Rattle.par_matching.specs.Labelled.{spot, handled}
-use Rattle.par_agreeing.specs.Laid.{TypedCatches}
+use Rattle.par_evaluation.proofs.par_matching.Rules.{next_rule}
+use Rattle.par_evaluation.specs.par_matching.Labelled.{spot, handled}
+use Rattle.par_evaluation.specs.par_agreeing.Laid.{TypedCatches}
 use Rattle.par_code_form.specs.Code.{goes_on, catch_code}
 use Rattle.par_code_form.specs.Code.{handlers, catch_handlers}
 use Rattle.par_shows.proofs.Handlers.{outside, catch_outside, passed_over, covering}
 use Rattle.par_shows.proofs.Spans.{goes_grows, goes_lives, goes_ends, catch_grows, catch_ends}
 use Rattle.par_evaluation.proofs.Parts.{Setting}
 use Rattle.par_code_form.specs.Code.{Words, Loop, labels, code}
-use Rattle.par_agreeing.specs.Laid.{Layout, TypedS, behind}
+use Rattle.par_evaluation.specs.par_agreeing.Laid.{Layout, TypedS, behind}
 use Rattle.par_shows.proofs.Spans.{grows, lives, ends}
 use Rattle.par_evaluation.proofs.Parts.{with, M, at, Fit, wider}
 use Rattle.par_shows.proofs.Exits.{Catches, Holds', Normally, Sides, alike, behind_more}

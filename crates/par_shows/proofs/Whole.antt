@@ -27,13 +27,13 @@ use Rattle.par_runs.specs.Names.{main_of}
 use Rattle.par_runs.specs.Source.{start, run_of, final, uncaught}
 use Rattle.par_runs.proofs.Longer as longer
 use Rattle.par_steps.specs.Step.{Ends}
-use Rattle.par_engine.specs.Engine.{Program, turn, run}
-use Rattle.par_engine.specs.Engine as gen
+use Rattle.par_evaluation.specs.par_engine.Engine.{Program, turn, run}
+use Rattle.par_evaluation.specs.par_engine.Engine as gen
 use Rattle.par_code_form.specs.Code.{Words, body_code, ending, no_loop}
-use Rattle.par_matching.specs.Labelled.{Labelled, Naming, handled, stands}
-use Rattle.par_matching.proofs.Rules.{Told, Matches, onward, onward-run, ends_rule}
-use Rattle.par_matching.proofs.Steps.{Here, IsSound, P}
-use Rattle.par_agreeing.specs.Laid.{Layout, Meth, HasMethod, given_types}
+use Rattle.par_evaluation.specs.par_matching.Labelled.{Labelled, Naming, handled, stands}
+use Rattle.par_evaluation.proofs.par_matching.Rules.{Told, Matches, onward, onward-run, ends_rule}
+use Rattle.par_evaluation.proofs.par_matching.Steps.{Here, IsSound, P}
+use Rattle.par_evaluation.specs.par_agreeing.Laid.{Layout, Meth, HasMethod, given_types}
 use Rattle.par_evaluation.specs.Programs.{IsCompiled, begins, first_set}
 use Rattle.par_shows.specs.Laws.{ShowsRuns, Begins, LabelledCodeShows}
 use Rattle.par_shows.proofs.Labels.{body_distinct}
@@ -141,7 +141,7 @@ module _ (env : Naming) (labelled : ℕ → ℕ → Labelled) (mname : ℕ → �
 
     -- what is thrown out of the last method ends the run
     out_of : (k x n : ℕ) (v : MVal) (s : State) (b : Areas)
-        → Rattle.par_agreeing.specs.Laid.IsThrown lay x
+        → Rattle.par_evaluation.specs.par_agreeing.Laid.IsThrown lay x
         → Matches Mach k 1 (Rattle.par_steps.specs.Step.thrown_to env.names (value.Ref (lay.number
         x) n) (lay.number x) (gen.caught Mach (lay.number x) []) b) (final t (Thrown x) v s)
     unfolding gen.caught

@@ -10,11 +10,11 @@ use Rattle.par_secrecy.specs.Runs.{Run}
 use Rattle.par_secrecy.specs.Shows.{shown_run, IsFrontOf, IsFine}
 use Rattle.par_runs.specs.Names.{main_of}
 use Rattle.par_runs.specs.Source.{start, run_of}
-use Rattle.par_engine.specs.Engine.{run}
+use Rattle.par_evaluation.specs.par_engine.Engine.{run}
 use Rattle.par_code_form.specs.Code.{Words}
-use Rattle.par_matching.specs.Labelled.{Labelled, Naming, of_labelled}
-use Rattle.par_agreeing.specs.Laid.{Layout}
-use Rattle.par_agreeing.specs.Agreement.{Fine}
+use Rattle.par_evaluation.specs.par_matching.Labelled.{Labelled, Naming, of_labelled}
+use Rattle.par_evaluation.specs.par_agreeing.Laid.{Layout}
+use Rattle.par_evaluation.specs.par_agreeing.Agreement.{Fine}
 use Rattle.par_evaluation.specs.Programs.{IsCompiled, begins}
 
 -- Runs of a machine by their numbers of instructions show those of a program by their steps: no

@@ -30,12 +30,12 @@ use Rattle.par_values.specs.Effects.{comes}
 use Rattle.par_values.specs.Effects as to
 use Rattle.par_values.specs.Reasons.{is_of, is_result}
 use Rattle.par_values.specs.declared.run.Event.{Event}
-use Rattle.par_link.proofs.Passing.{same_text}
+use Rattle.par_kinds.proofs.par_link.Passing.{same_text}
 use Rattle.std.proofs.lemmas.Slice.Eq.{bytes_eq-Decides}
-use Rattle.par_link.specs.declared.entry.Named.{Named}
+use Rattle.par_kinds.specs.par_link.declared.entry.Named.{Named}
 use Rattle.par_single.specs.Links.{kind_or_any}
-use Rattle.par_steps.specs.Classes.{class_names, exceptions}
-use Rattle.par_steps.specs.Methods.{method_code}
+use Rattle.par_kinds.specs.par_steps.Classes.{class_names, exceptions}
+use Rattle.par_kinds.specs.par_steps.Methods.{method_code}
 use Rattle.par_kinds.specs.declared.frame.VKind.{VKind}
 use Rattle.par_kinds.specs.declared.frame.VKind.TheVariants.{Top as ATop, Int as AnInt}
 use Rattle.par_kinds.specs.declared.frame.VKind.TheVariants.{Null as ANull, Object as AnObject}

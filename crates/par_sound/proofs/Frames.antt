@@ -14,17 +14,19 @@ use Rattle.par_values.specs.declared.kind.Kind.{Kind}
 use Rattle.par_values.specs.Areas.{Objects, class_named, name_or_none}
 use Rattle.par_values.specs.Reasons.{is_of}
 use Rattle.par_single.specs.Members.{own_names, own_name}
-use Rattle.par_link.specs.declared.entry.Builtin.{Builtin}
-use Rattle.par_link.specs.declared.entry.Builtin.TheVariants as builtin
-use Rattle.par_link.specs.declared.entry.Named.{Named}
-use Rattle.par_link.specs.declared.entry.Named.TheVariants as named
-use Rattle.par_link.specs.Linked.{named_at}
-use Rattle.par_steps.specs.Classes.{class_names, exceptions, arithmetic_exception}
-use Rattle.par_steps.specs.Classes.{null_pointer_exception}
-use Rattle.par_steps.specs.Methods.{method_code}
-use Rattle.par_steps.specs.State.{Frame}
-use Rattle.par_steps.specs.Handlers.{caught, caught_by, handler_in, first_handler, is_lost}
-use Rattle.par_steps.specs.Handlers.{is_roomless, covers, named_takes, builtin_takes, takes}
+use Rattle.par_kinds.specs.par_link.declared.entry.Builtin.{Builtin}
+use Rattle.par_kinds.specs.par_link.declared.entry.Builtin.TheVariants as builtin
+use Rattle.par_kinds.specs.par_link.declared.entry.Named.{Named}
+use Rattle.par_kinds.specs.par_link.declared.entry.Named.TheVariants as named
+use Rattle.par_kinds.specs.par_link.Linked.{named_at}
+use Rattle.par_kinds.specs.par_steps.Classes.{class_names, exceptions, arithmetic_exception}
+use Rattle.par_kinds.specs.par_steps.Classes.{null_pointer_exception}
+use Rattle.par_kinds.specs.par_steps.Methods.{method_code}
+use Rattle.par_kinds.specs.par_steps.State.{Frame}
+use Rattle.par_kinds.specs.par_steps.Handlers.{caught, caught_by, handler_in, first_handler}
+use Rattle.par_kinds.specs.par_steps.Handlers.{is_lost}
+use Rattle.par_kinds.specs.par_steps.Handlers.{is_roomless, covers, named_takes, builtin_takes}
+use Rattle.par_kinds.specs.par_steps.Handlers.{takes}
 use Rattle.par_kinds.specs.declared.frame.VKind.{VKind}
 use Rattle.par_kinds.specs.declared.frame.VKind.TheVariants.{Base as ABase}
 use Rattle.par_kinds.specs.Kinds.{KFrame, Each, Both, Into}

@@ -4,7 +4,7 @@ use Rattle.par_class.specs.declared.file.ClassFile.{ClassFile}
 use Rattle.par_values.specs.declared.value.MVal.{MVal}
 use Rattle.par_values.specs.declared.kind.Kind.{Kind}
 use Rattle.par_values.specs.Areas.{Objects}
-use Rattle.par_steps.specs.State.{Frame}
+use Rattle.par_kinds.specs.par_steps.State.{Frame}
 use Rattle.par_kinds.specs.declared.frame.VKind.{VKind}
 use Rattle.par_kinds.specs.Linked.{AllGiven, result_of}
 use Rattle.par_sound.specs.States.{Stands, Below, Takes}

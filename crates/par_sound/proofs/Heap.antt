@@ -9,7 +9,7 @@ use Rattle.par_values.specs.declared.value.MVal.TheVariants.{Int, Null, Ref}
 use Rattle.par_values.specs.declared.kind.Kind.{Kind}
 use Rattle.par_values.specs.Areas.{Areas, Objects, first_value, list_or_none, value_or_null}
 use Rattle.par_values.specs.Areas.{object_at, field_at, set_field, with_object, next_number}
-use Rattle.par_steps.specs.Classes.{class_names}
+use Rattle.par_kinds.specs.par_steps.Classes.{class_names}
 use Rattle.par_kinds.specs.declared.frame.VKind.{VKind}
 use Rattle.par_kinds.specs.declared.frame.VKind.TheVariants.{Top as ATop}
 use Rattle.par_kinds.specs.Kinds.{vkind, Each, Both}

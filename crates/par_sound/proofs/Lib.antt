@@ -7,3 +7,4 @@ pub mod Growing
 pub mod Reasons
 pub mod Turns
 pub mod Whole
+pub use Rattle.par_kinds.proofs.par_link as par_link

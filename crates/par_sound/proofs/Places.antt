@@ -10,7 +10,7 @@ use Rattle.par_values.specs.declared.value.MVal.TheVariants.{Null}
 use Rattle.par_values.specs.declared.kind.Kind.{Kind}
 use Rattle.par_values.specs.Areas.{Objects, value_or_null, local_value, fits, first_locals}
 use Rattle.par_values.specs.Reasons.{all_fit}
-use Rattle.par_steps.specs.Classes.{class_names}
+use Rattle.par_kinds.specs.par_steps.Classes.{class_names}
 use Rattle.par_kinds.specs.declared.frame.VKind.{VKind}
 use Rattle.par_kinds.specs.declared.frame.VKind.TheVariants.{Top as ATop}
 use Rattle.par_kinds.specs.Kinds.{vkind, Both, Front, kind_at, accepts}

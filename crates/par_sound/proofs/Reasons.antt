@@ -33,17 +33,18 @@ use Rattle.par_values.specs.Reasons.{misused, throws, unfit_result, holds, is_cr
 use Rattle.std.specs.Str.{bytes_eq}
 use Rattle.par_values.specs.declared.run.Event.{Event}
 use Rattle.par_values.specs.declared.run.Event.TheVariants as event
-use Rattle.par_link.specs.declared.entry.Builtin.TheVariants as builtin
-use Rattle.par_link.specs.declared.entry.Named.{Named}
-use Rattle.par_link.specs.declared.entry.Named.TheVariants as named
-use Rattle.par_link.specs.Linked.{named_at}
+use Rattle.par_kinds.specs.par_link.declared.entry.Builtin.TheVariants as builtin
+use Rattle.par_kinds.specs.par_link.declared.entry.Named.{Named}
+use Rattle.par_kinds.specs.par_link.declared.entry.Named.TheVariants as named
+use Rattle.par_kinds.specs.par_link.Linked.{named_at}
 use Rattle.par_single.specs.Links.{kind_or_any}
 use Rattle.par_single.specs.Walk.{stands_at}
-use Rattle.par_steps.specs.Classes.{class_names, exceptions}
-use Rattle.par_steps.specs.Methods.{method_code}
-use Rattle.par_steps.specs.Links.{link_at}
-use Rattle.par_steps.specs.Step.{is_misreceived, is_no_exception, called_on_object, next_of}
-use Rattle.par_steps.specs.Step.{without_locks}
+use Rattle.par_kinds.specs.par_steps.Classes.{class_names, exceptions}
+use Rattle.par_kinds.specs.par_steps.Methods.{method_code}
+use Rattle.par_kinds.specs.par_steps.Links.{link_at}
+use Rattle.par_kinds.specs.par_steps.Step.{is_misreceived, is_no_exception, called_on_object}
+use Rattle.par_kinds.specs.par_steps.Step.{next_of}
+use Rattle.par_kinds.specs.par_steps.Step.{without_locks}
 use Rattle.par_kinds.specs.declared.frame.VKind.{VKind}
 use Rattle.par_kinds.specs.declared.frame.VKind.TheVariants.{Top as ATop, Int as AnInt}
 use Rattle.par_kinds.specs.declared.frame.VKind.TheVariants.{Null as ANull, Object as AnObject}

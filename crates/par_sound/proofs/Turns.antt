@@ -19,17 +19,21 @@ use Rattle.par_values.specs.Effects.{ReturnsWith, effect}
 use Rattle.par_values.specs.Effects as to
 use Rattle.par_values.specs.Reasons.{is_of, reason}
 use Rattle.par_values.specs.Operations.{operation}
-use Rattle.par_steps.specs.Links.{link_at}
+use Rattle.par_kinds.specs.par_steps.Links.{link_at}
 use Rattle.par_single.specs.Members.{own_name, own_names}
-use Rattle.par_steps.specs.Classes.{class_names, is_exception, exceptions, exceptions_from}
-use Rattle.par_steps.specs.Classes.{exception_named}
-use Rattle.par_steps.specs.Methods.{method_code}
-use Rattle.par_steps.specs.State.{Frame, State, entered}
-use Rattle.par_steps.specs.Handlers.{caught, is_lost, is_roomless}
-use Rattle.par_steps.specs.Step.{turn, turn_of, turn_at, decided, applied, areas_of, moved}
-use Rattle.par_steps.specs.Step.{state_with, offset, past, returned, returned_with, thrown_to}
-use Rattle.par_steps.specs.Step.{done_by, without_locks, reason_against, handlers, thrown_class}
-use Rattle.par_steps.specs.Step.{spot, or_2, called_on_object, size_of, is_misreceived}
+use Rattle.par_kinds.specs.par_steps.Classes.{class_names, is_exception, exceptions}
+use Rattle.par_kinds.specs.par_steps.Classes.{exceptions_from}
+use Rattle.par_kinds.specs.par_steps.Classes.{exception_named}
+use Rattle.par_kinds.specs.par_steps.Methods.{method_code}
+use Rattle.par_kinds.specs.par_steps.State.{Frame, State, entered}
+use Rattle.par_kinds.specs.par_steps.Handlers.{caught, is_lost, is_roomless}
+use Rattle.par_kinds.specs.par_steps.Step.{turn, turn_of, turn_at, decided, applied, areas_of}
+use Rattle.par_kinds.specs.par_steps.Step.{moved}
+use Rattle.par_kinds.specs.par_steps.Step.{state_with, offset, past, returned, returned_with}
+use Rattle.par_kinds.specs.par_steps.Step.{thrown_to}
+use Rattle.par_kinds.specs.par_steps.Step.{done_by, without_locks, reason_against, handlers}
+use Rattle.par_kinds.specs.par_steps.Step.{thrown_class}
+use Rattle.par_kinds.specs.par_steps.Step.{spot, or_2, called_on_object, size_of, is_misreceived}
 use Rattle.par_kinds.specs.declared.frame.VKind.{VKind}
 use Rattle.par_kinds.specs.Kinds.{KFrame, vkind, Both, Into, FrameInto}
 use Rattle.par_kinds.specs.Acts.{Act, left_by, Gives}

@@ -12,8 +12,8 @@ use Rattle.par_values.specs.declared.kind.Kind.{Kind}
 use Rattle.par_values.specs.declared.kind.Kind.TheVariants.{Number, Object, AnyObject, Anything}
 use Rattle.par_values.specs.Areas.{Name, Objects, class_named, fits, first_value, list_or_none}
 use Rattle.par_values.specs.Reasons.{is_of}
-use Rattle.par_link.proofs.Passing.{same_text, eq_turned}
-use Rattle.par_steps.specs.Classes.{class_names, exceptions}
+use Rattle.par_kinds.proofs.par_link.Passing.{same_text, eq_turned}
+use Rattle.par_kinds.specs.par_steps.Classes.{class_names, exceptions}
 use Rattle.par_kinds.specs.declared.frame.VKind.{VKind}
 use Rattle.par_kinds.specs.declared.frame.VKind.TheVariants.{Top as ATop, Int as AnInt}
 use Rattle.par_kinds.specs.declared.frame.VKind.TheVariants.{Null as ANull, Object as AnObject}

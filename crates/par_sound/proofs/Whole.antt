@@ -10,12 +10,13 @@ use Rattle.par_values.specs.declared.value.MVal.TheVariants.{Int}
 use Rattle.par_values.specs.declared.kind.Kind.TheVariants.{Number}
 use Rattle.par_values.specs.Areas.{class_named, Objects, first_value, list_or_none}
 use Rattle.par_values.specs.Ran.{Ran}
-use Rattle.par_steps.specs.Classes.{class_names}
-use Rattle.par_steps.specs.Fields.{class_statics, all_statics, first_statics, kind_of, is_shared}
-use Rattle.par_steps.specs.Methods.{method_code}
-use Rattle.par_steps.specs.State.{State, start, frame_of, no_objects, main_place}
-use Rattle.par_steps.specs.Step.{Turn, Silent, Shows, Ends, IsBad, turn}
-use Rattle.par_steps.specs.Run.{run, followed, class_number}
+use Rattle.par_kinds.specs.par_steps.Classes.{class_names}
+use Rattle.par_kinds.specs.par_steps.Fields.{class_statics, all_statics, first_statics, kind_of}
+use Rattle.par_kinds.specs.par_steps.Fields.{is_shared}
+use Rattle.par_kinds.specs.par_steps.Methods.{method_code}
+use Rattle.par_kinds.specs.par_steps.State.{State, start, frame_of, no_objects, main_place}
+use Rattle.par_kinds.specs.par_steps.Step.{Turn, Silent, Shows, Ends, IsBad, turn}
+use Rattle.par_kinds.specs.par_steps.Run.{run, followed, class_number}
 use Rattle.par_kinds.specs.declared.frame.VKind.{VKind}
 use Rattle.par_kinds.specs.declared.frame.VKind.TheVariants.{Top as ATop}
 use Rattle.par_kinds.specs.Kinds.{vkind, Each, Both}

@@ -4,10 +4,10 @@ use Rattle.std.specs.List.{slice_get}
 use Rattle.par_class.specs.declared.file.ClassFile.{ClassFile}
 use Rattle.par_values.specs.declared.inputs.Inputs.{Inputs}
 use Rattle.par_values.specs.Ran.{Outcome, Fine, BadCode}
-use Rattle.par_steps.specs.Run.{class_number, machine_run}
+use Rattle.par_kinds.specs.par_steps.Run.{class_number, machine_run}
 use Rattle.par_values.specs.Areas.{Name}
-use Rattle.par_steps.specs.State.{State, main_place}
-use Rattle.par_steps.specs.Step.{turn}
+use Rattle.par_kinds.specs.par_steps.State.{State, main_place}
+use Rattle.par_kinds.specs.par_steps.Step.{turn}
 use Rattle.par_kinds.specs.Linked.{AllGiven, AllFit, taken_by, static_at, coded_at}
 use Rattle.par_sound.specs.States.{StateFits, TurnFits}
 use Rattle.par_sound.specs.Right.{AreRight}

@@ -11,9 +11,9 @@ use Rattle.par_values.specs.declared.link.Link.TheVariants as link
 use Rattle.par_values.specs.declared.link.Target.{Target}
 use Rattle.par_values.specs.declared.link.Target.TheVariants as target
 use Rattle.par_values.specs.Areas.{class_named}
-use Rattle.par_steps.specs.Classes.{class_names, exceptions}
-use Rattle.par_steps.specs.Methods.{method_code}
-use Rattle.par_steps.specs.Links.{link_at}
+use Rattle.par_kinds.specs.par_steps.Classes.{class_names, exceptions}
+use Rattle.par_kinds.specs.par_steps.Methods.{method_code}
+use Rattle.par_kinds.specs.par_steps.Links.{link_at}
 use Rattle.par_kinds.specs.Kinds.{Each}
 use Rattle.par_kinds.specs.Linked.{result_of, taken_by, static_at, coded_at}
 use Rattle.par_sound.specs.States.{static_kinds, class_kinds}

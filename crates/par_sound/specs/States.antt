@@ -9,10 +9,10 @@ use Rattle.par_values.specs.declared.kind.Kind.{Kind}
 use Rattle.par_values.specs.declared.kind.Kind.TheVariants.{Number, Object}
 use Rattle.par_values.specs.Areas.{Objects, fits, list_or_none}
 use Rattle.par_values.specs.Reasons.{is_of}
-use Rattle.par_steps.specs.Classes.{class_names, exceptions}
-use Rattle.par_steps.specs.Fields.{is_shared, kind_of, object_kinds}
-use Rattle.par_steps.specs.State.{Frame, State}
-use Rattle.par_steps.specs.Step.{Turn, Silent, Shows, Ends, IsBad, past}
+use Rattle.par_kinds.specs.par_steps.Classes.{class_names, exceptions}
+use Rattle.par_kinds.specs.par_steps.Fields.{is_shared, kind_of, object_kinds}
+use Rattle.par_kinds.specs.par_steps.State.{Frame, State}
+use Rattle.par_kinds.specs.par_steps.Step.{Turn, Silent, Shows, Ends, IsBad, past}
 use Rattle.par_kinds.specs.declared.frame.VKind.{VKind}
 use Rattle.par_kinds.specs.declared.frame.VKind.TheVariants.{Top as ATop, Int as AnInt}
 use Rattle.par_kinds.specs.declared.frame.VKind.TheVariants.{Null as ANull, Object as AnObject}

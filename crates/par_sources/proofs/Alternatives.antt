@@ -3,14 +3,16 @@ use Rattle.std.proofs.Common.{◌≡◌, ℕ, ◌+◌, Bool, true, false, ◌&&�
 use Rattle.std.proofs.Common.{Some, None, refl, ap, ◌∙◌}
 use Rattle.std.specs.Prelude.{nat_lt, if◌then◌else◌}
 use Rattle.par_lexer.specs.declared.operator.BinOp.{BinOp}
-use Rattle.par_grammar.specs.declared.sort.Sort.{Sort}
-use Rattle.par_grammar.specs.Sorts.{same}
-use Rattle.par_grammar.specs.Grammar.{Choice, token, kept, finish, counts, restarts, enters, leaves}
-use Rattle.par_grammar.specs.Grammar.{name, builds, chosen, alternative}
-use Rattle.par_tree.specs.Grammar.{Names, Builders, Symbols, choices, otherwise, operations}
-use Rattle.par_tree.specs.Grammar.{operators, level, lines}
-use Rattle.par_tree.specs.Grammar as g
-use Rattle.par_tree.specs.Values.{paragon}
+use Rattle.par_names.specs.par_grammar.declared.sort.Sort.{Sort}
+use Rattle.par_names.specs.par_grammar.Sorts.{same}
+use Rattle.par_names.specs.par_grammar.Grammar.{Choice, token, kept, finish, counts, restarts}
+use Rattle.par_names.specs.par_grammar.Grammar.{enters, leaves}
+use Rattle.par_names.specs.par_grammar.Grammar.{name, builds, chosen, alternative}
+use Rattle.par_names.specs.par_tree.Grammar.{Names, Builders, Symbols, choices, otherwise}
+use Rattle.par_names.specs.par_tree.Grammar.{operations}
+use Rattle.par_names.specs.par_tree.Grammar.{operators, level, lines}
+use Rattle.par_names.specs.par_tree.Grammar as g
+use Rattle.par_names.specs.par_tree.Values.{paragon}
 use Rattle.par_sources.proofs.Standing.{small_builder}
 
 -- ---- tests of symbols

@@ -6,15 +6,17 @@ use Rattle.std.specs.Prelude.{nat_le, nat_lt, if◌then◌else◌}
 use Rattle.std.proofs.lemmas.Bool.Decides.{nat_tests}
 use Rattle.par_lexer.specs.declared.operator.BinOp.{BinOp}
 use Rattle.par_lexer.specs.declared.word.TheConstants as word
-use Rattle.par_grammar.specs.declared.sort.Sort.{Sort}
-use Rattle.par_grammar.specs.declared.sort.Sort.TheVariants as sort
-use Rattle.par_grammar.specs.Sorts.{same}
-use Rattle.par_grammar.specs.Grammar.{token, kept, finish, counts, restarts, enters, leaves, name}
-use Rattle.par_grammar.specs.Grammar.{builds, alternative}
-use Rattle.par_tree.specs.Grammar.{Names, Builders, Symbols, choices, otherwise, operations}
-use Rattle.par_tree.specs.Grammar.{operators, level, lines}
-use Rattle.par_tree.specs.Grammar as g
-use Rattle.par_tree.specs.Values.{paragon}
+use Rattle.par_names.specs.par_grammar.declared.sort.Sort.{Sort}
+use Rattle.par_names.specs.par_grammar.declared.sort.Sort.TheVariants as sort
+use Rattle.par_names.specs.par_grammar.Sorts.{same}
+use Rattle.par_names.specs.par_grammar.Grammar.{token, kept, finish, counts, restarts, enters}
+use Rattle.par_names.specs.par_grammar.Grammar.{leaves, name}
+use Rattle.par_names.specs.par_grammar.Grammar.{builds, alternative}
+use Rattle.par_names.specs.par_tree.Grammar.{Names, Builders, Symbols, choices, otherwise}
+use Rattle.par_names.specs.par_tree.Grammar.{operations}
+use Rattle.par_names.specs.par_tree.Grammar.{operators, level, lines}
+use Rattle.par_names.specs.par_tree.Grammar as g
+use Rattle.par_names.specs.par_tree.Values.{paragon}
 use Rattle.par_sources.proofs.Gaps.{gap}
 use Rattle.par_sources.proofs.Alternatives.{each_choice, if_any, chosen_has}
 

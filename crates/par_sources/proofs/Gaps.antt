@@ -18,7 +18,7 @@ use Rattle.par_lexer.specs.Spans.{IsText, Reaches}
 use Rattle.par_lexer.specs.Tokens.{Outcome, Cut, ends, passes, takes, breaks, token_at, before}
 use Rattle.par_lexer.specs.Tokens.{HasTokens}
 use Rattle.par_lexer.proofs.Reach.{reaches}
-use Rattle.par_tree.specs.Values.{text}
+use Rattle.par_names.specs.par_tree.Values.{text}
 
 -- ---- kinds
 

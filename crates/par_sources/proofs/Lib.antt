@@ -9,3 +9,4 @@ pub mod Gaps
 pub mod Costs
 pub mod Weights
 pub mod Short
+pub use Rattle.par_names.proofs as par_names

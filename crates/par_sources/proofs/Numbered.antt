@@ -4,30 +4,45 @@ use Rattle.std.specs.Prelude.{nat_le}
 use Rattle.std.specs.List.{AllByRecursion}
 use Rattle.std.proofs.lemmas.Bool.Decides.{nat_tests}
 use Rattle.par_lexer.specs.declared.operator.BinOp.{BinOp}
-use Rattle.par_tree.specs.Plain.{Exp, Exps, NoExps, More, Braces, In, Sta, Stas, End, Then, Catches}
-use Rattle.par_tree.specs.Plain.{NoCatch, Catch, Handler, with_exp, with_sta, with_catch}
-use Rattle.par_tree.specs.Plain as plain
-use Rattle.par_tree.specs.Grammar.{Builders}
-use Rattle.par_tree.specs.Grammar as g
-use Rattle.par_tree.specs.Values.{Value, Values, tok, exp, exps, may, braces, may_braces, sta, stas}
-use Rattle.par_tree.specs.Values.{other, handler, catches, term, whole, may_whole, clause, clauses}
-use Rattle.par_tree.specs.Values.{lock, needs, idents, typed, gives, flag, many, param, listed}
-use Rattle.par_tree.specs.Values.{says, members, decl, source}
-use Rattle.par_tree.specs.Values.{number, built, ident, as_stmt, channel, binary, next_method}
-use Rattle.par_tree.specs.Values.{next_decl, actors_decl, lock_decl, policy_decl, exception_decl}
-use Rattle.par_tree.specs.Values.{class_decl, next_ident, inferred_field, field, some_result}
-use Rattle.par_tree.specs.Values.{one_param, next_param, next_write, next_expect, next_open}
-use Rattle.par_tree.specs.Values.{next_close, next_throw, int_type, boolean_type, class_type}
-use Rattle.par_tree.specs.Values.{some_policy, first_term, next_term, clauses_term, named_term}
-use Rattle.par_tree.specs.Values.{bottom_term, top_term, one_clause, next_clause, one_lock}
-use Rattle.par_tree.specs.Values.{next_lock, next_stmt, whole_block, block_stmt, if_stmt, some_else}
-use Rattle.par_tree.specs.Values.{while_stmt, one_catch, next_catch, try_stmt, some_value}
-use Rattle.par_tree.specs.Values.{return_stmt, break_stmt, continue_stmt, throw_stmt, open_stmt}
-use Rattle.par_tree.specs.Values.{close_stmt, when_stmt, some_block, local_stmt, class_local}
-use Rattle.par_tree.specs.Values.{assign_stmt, call_stmt, constant, true_expr, false_expr}
-use Rattle.par_tree.specs.Values.{null_expr, this_expr, create, variable, select, call_own, call_on}
-use Rattle.par_tree.specs.Values.{negate, invert, next_arg}
-use Rattle.par_places.proofs.Lists.{pushed}
+use Rattle.par_names.specs.par_tree.Plain.{Exp, Exps, NoExps, More, Braces, In, Sta, Stas, End}
+use Rattle.par_names.specs.par_tree.Plain.{Then, Catches}
+use Rattle.par_names.specs.par_tree.Plain.{NoCatch, Catch, Handler, with_exp, with_sta, with_catch}
+use Rattle.par_names.specs.par_tree.Plain as plain
+use Rattle.par_names.specs.par_tree.Grammar.{Builders}
+use Rattle.par_names.specs.par_tree.Grammar as g
+use Rattle.par_names.specs.par_tree.Values.{Value, Values, tok, exp, exps, may, braces, may_braces}
+use Rattle.par_names.specs.par_tree.Values.{sta, stas}
+use Rattle.par_names.specs.par_tree.Values.{other, handler, catches, term, whole, may_whole, clause}
+use Rattle.par_names.specs.par_tree.Values.{clauses}
+use Rattle.par_names.specs.par_tree.Values.{lock, needs, idents, typed, gives, flag, many, param}
+use Rattle.par_names.specs.par_tree.Values.{listed}
+use Rattle.par_names.specs.par_tree.Values.{says, members, decl, source}
+use Rattle.par_names.specs.par_tree.Values.{number, built, ident, as_stmt, channel, binary}
+use Rattle.par_names.specs.par_tree.Values.{next_method}
+use Rattle.par_names.specs.par_tree.Values.{next_decl, actors_decl, lock_decl, policy_decl}
+use Rattle.par_names.specs.par_tree.Values.{exception_decl}
+use Rattle.par_names.specs.par_tree.Values.{class_decl, next_ident, inferred_field, field}
+use Rattle.par_names.specs.par_tree.Values.{some_result}
+use Rattle.par_names.specs.par_tree.Values.{one_param, next_param, next_write, next_expect}
+use Rattle.par_names.specs.par_tree.Values.{next_open}
+use Rattle.par_names.specs.par_tree.Values.{next_close, next_throw, int_type, boolean_type}
+use Rattle.par_names.specs.par_tree.Values.{class_type}
+use Rattle.par_names.specs.par_tree.Values.{some_policy, first_term, next_term, clauses_term}
+use Rattle.par_names.specs.par_tree.Values.{named_term}
+use Rattle.par_names.specs.par_tree.Values.{bottom_term, top_term, one_clause, next_clause}
+use Rattle.par_names.specs.par_tree.Values.{one_lock}
+use Rattle.par_names.specs.par_tree.Values.{next_lock, next_stmt, whole_block, block_stmt, if_stmt}
+use Rattle.par_names.specs.par_tree.Values.{some_else}
+use Rattle.par_names.specs.par_tree.Values.{while_stmt, one_catch, next_catch, try_stmt, some_value}
+use Rattle.par_names.specs.par_tree.Values.{return_stmt, break_stmt, continue_stmt, throw_stmt}
+use Rattle.par_names.specs.par_tree.Values.{open_stmt}
+use Rattle.par_names.specs.par_tree.Values.{close_stmt, when_stmt, some_block, local_stmt}
+use Rattle.par_names.specs.par_tree.Values.{class_local}
+use Rattle.par_names.specs.par_tree.Values.{assign_stmt, call_stmt, constant, true_expr, false_expr}
+use Rattle.par_names.specs.par_tree.Values.{null_expr, this_expr, create, variable, select}
+use Rattle.par_names.specs.par_tree.Values.{call_own, call_on}
+use Rattle.par_names.specs.par_tree.Values.{negate, invert, next_arg}
+use Rattle.par_names.proofs.par_places.Lists.{pushed}
 use Rattle.par_sources.specs.Numbers.{GREATEST, one_unless, HasNumbers, DeclarationHasNumbers}
 use Rattle.par_sources.specs.Numbers.{SourceHasNumbers}
 use Rattle.par_sources.specs.Numbers.{too_great, may_too_great, args_too_great, stmt_too_great}

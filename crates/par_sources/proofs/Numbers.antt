@@ -1,6 +1,6 @@
 -- The numbers in the tree of a source are those of its tokens.
-use Rattle.par_tree.specs.Values.{paragon}
-use Rattle.par_places.proofs.Steps.{holds}
+use Rattle.par_names.specs.par_tree.Values.{paragon}
+use Rattle.par_names.proofs.par_places.Steps.{holds}
 use Rattle.par_sources.specs.Laws.{TreesHaveNumbers}
 use Rattle.par_sources.proofs.Tokens.{HasNumber, tokens_have_numbers}
 use Rattle.par_sources.proofs.Numbered.{ValueHas, built_has}

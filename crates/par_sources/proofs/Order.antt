@@ -3,17 +3,20 @@ use Rattle.std.proofs.Common.{◌≡◌, ℕ, zero, suc, ◌+◌, ◌<◌, ◌�
 use Rattle.std.proofs.Common.{◌++◌, Option, Some, None, Ok, Err, refl, subst, map, if◌then◌else◌}
 use Rattle.std.proofs.Common.{nat_le, arith}
 use Rattle.par_lexer.specs.declared.token.Token.{Token}
-use Rattle.par_grammar.specs.declared.sort.Sort.TheVariants.{End}
-use Rattle.par_grammar.specs.Sorts.{same}
-use Rattle.par_grammar.specs.Grammar.{token, kept, finish, counts, restarts, enters, leaves, name}
-use Rattle.par_grammar.specs.Grammar.{builds, alternative}
-use Rattle.par_grammar.specs.Derivation.{Input, next, Syntax, TooDeep, Outcome, State, Step, goes}
-use Rattle.par_grammar.specs.Derivation.{ends, state, stops, takes, keeps, nests, replaces, step_by}
-use Rattle.par_grammar.specs.Derivation.{step, Comes, last, more}
-use Rattle.par_tree.specs.Plain.{Source}
-use Rattle.par_tree.specs.Grammar.{Names, Builders, Symbols}
-use Rattle.par_tree.specs.Grammar as g
-use Rattle.par_tree.specs.Values.{Value, Values, tok, paragon}
+use Rattle.par_names.specs.par_grammar.declared.sort.Sort.TheVariants.{End}
+use Rattle.par_names.specs.par_grammar.Sorts.{same}
+use Rattle.par_names.specs.par_grammar.Grammar.{token, kept, finish, counts, restarts, enters}
+use Rattle.par_names.specs.par_grammar.Grammar.{leaves, name}
+use Rattle.par_names.specs.par_grammar.Grammar.{builds, alternative}
+use Rattle.par_names.specs.par_grammar.Derivation.{Input, next, Syntax, TooDeep, Outcome, State}
+use Rattle.par_names.specs.par_grammar.Derivation.{Step, goes}
+use Rattle.par_names.specs.par_grammar.Derivation.{ends, state, stops, takes, keeps, nests}
+use Rattle.par_names.specs.par_grammar.Derivation.{replaces, step_by}
+use Rattle.par_names.specs.par_grammar.Derivation.{step, Comes, last, more}
+use Rattle.par_names.specs.par_tree.Plain.{Source}
+use Rattle.par_names.specs.par_tree.Grammar.{Names, Builders, Symbols}
+use Rattle.par_names.specs.par_tree.Grammar as g
+use Rattle.par_names.specs.par_tree.Values.{Value, Values, tok, paragon}
 use Rattle.par_names.specs.Declarations.{declared_classes}
 use Rattle.par_sources.specs.Order.{IsInOrder}
 use Rattle.par_sources.specs.Laws.{TreesAreInOrder}

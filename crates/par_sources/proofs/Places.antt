@@ -4,10 +4,11 @@ use Rattle.std.proofs.Common.{append_assoc, map, arith, false}
 use Rattle.std.specs.Prelude.{flat_map, nat_eq}
 use Rattle.std.specs.List.{AllByRecursion, IsDistinct}
 use Rattle.std.proofs.lemmas.Bool.Decides.{nat_tests}
-use Rattle.par_tree.specs.declared.decl.LockDecl.{LockDecl}
-use Rattle.par_tree.specs.Plain.{Class, Method, Declaration, Source, Actors, Lock, Policy, Declared}
+use Rattle.par_names.specs.par_tree.declared.decl.LockDecl.{LockDecl}
+use Rattle.par_names.specs.par_tree.Plain.{Class, Method, Declaration, Source, Actors, Lock, Policy}
+use Rattle.par_names.specs.par_tree.Plain.{Declared}
 use Rattle.par_names.specs.Declarations.{locks, locks_in, classes_in, declared_classes}
-use Rattle.par_places.proofs.Lists.{pushed}
+use Rattle.par_names.proofs.par_places.Lists.{pushed}
 use Rattle.par_sources.specs.Order.{Ascend, IsBare, HasOwnPlaces}
 
 -- a place between two bounds that is not the first

@@ -5,17 +5,20 @@ use Rattle.std.proofs.Common.{arith}
 use Rattle.par_lexer.specs.declared.token.Kind.{Kind}
 use Rattle.par_lexer.specs.declared.token.Kind.TheVariants as kind
 use Rattle.par_lexer.specs.declared.token.Token.{Token}
-use Rattle.par_grammar.specs.declared.sort.Sort.{Sort}
-use Rattle.par_grammar.specs.declared.sort.Sort.TheVariants as sort
-use Rattle.par_grammar.specs.Sorts.{sort_of, same}
-use Rattle.par_grammar.specs.Grammar.{token, kept, finish, counts, restarts, enters, leaves, name}
-use Rattle.par_grammar.specs.Grammar.{builds, alternative}
-use Rattle.par_grammar.specs.Derivation.{Input, next, Syntax, TooDeep, Outcome, State, Step, goes}
-use Rattle.par_grammar.specs.Derivation.{ends, state, stops, takes, keeps, nests, replaces, step_by}
-use Rattle.par_grammar.specs.Derivation.{step, Comes, last, more}
-use Rattle.par_tree.specs.Grammar.{Names, Builders, Symbols}
-use Rattle.par_tree.specs.Grammar as g
-use Rattle.par_tree.specs.Values.{Value, Values, tok, paragon}
+use Rattle.par_names.specs.par_grammar.declared.sort.Sort.{Sort}
+use Rattle.par_names.specs.par_grammar.declared.sort.Sort.TheVariants as sort
+use Rattle.par_names.specs.par_grammar.Sorts.{sort_of, same}
+use Rattle.par_names.specs.par_grammar.Grammar.{token, kept, finish, counts, restarts, enters}
+use Rattle.par_names.specs.par_grammar.Grammar.{leaves, name}
+use Rattle.par_names.specs.par_grammar.Grammar.{builds, alternative}
+use Rattle.par_names.specs.par_grammar.Derivation.{Input, next, Syntax, TooDeep, Outcome, State}
+use Rattle.par_names.specs.par_grammar.Derivation.{Step, goes}
+use Rattle.par_names.specs.par_grammar.Derivation.{ends, state, stops, takes, keeps, nests}
+use Rattle.par_names.specs.par_grammar.Derivation.{replaces, step_by}
+use Rattle.par_names.specs.par_grammar.Derivation.{step, Comes, last, more}
+use Rattle.par_names.specs.par_tree.Grammar.{Names, Builders, Symbols}
+use Rattle.par_names.specs.par_tree.Grammar as g
+use Rattle.par_names.specs.par_tree.Values.{Value, Values, tok, paragon}
 use Rattle.par_sources.specs.Laws.{TreesAreShort}
 use Rattle.par_sources.proofs.Gaps.{is_wordy, is_name, gap, Behind, within, tokens_behind}
 use Rattle.par_sources.proofs.Costs.{is_wordy_sort, is_name_sort, needs, alternative_pays}

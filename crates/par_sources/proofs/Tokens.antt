@@ -18,7 +18,7 @@ use Rattle.par_lexer.specs.Pieces.{named, name_at, number_at, longest_sign, sign
 use Rattle.par_lexer.specs.Tokens.{Outcome, Cut, ends, passes, takes, breaks, token_at, before}
 use Rattle.par_lexer.specs.Tokens.{HasTokens}
 use Rattle.par_lexer.specs.Spans.{IsLaid, Stands}
-use Rattle.par_tree.specs.Values.{number}
+use Rattle.par_names.specs.par_tree.Values.{number}
 use Rattle.par_sources.specs.Numbers.{GREATEST}
 
 -- ---- numbers

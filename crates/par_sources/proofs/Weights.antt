@@ -3,32 +3,45 @@ use Rattle.std.proofs.Common.{ℕ, ◌+◌, ◌-◌, ◌≤◌, ◌≡◌, Bool,
 use Rattle.std.proofs.Common.{length, Option, Some, None, arith}
 use Rattle.std.specs.List.{AllByRecursion}
 use Rattle.par_lexer.specs.declared.operator.BinOp.{BinOp}
-use Rattle.par_tree.specs.declared.types.TypeTree.{TypeTree}
-use Rattle.par_tree.specs.declared.types.TypeTree.TheVariants as type
-use Rattle.par_tree.specs.declared.decl.FieldDecl.{FieldDecl}
-use Rattle.par_tree.specs.declared.decl.ChannelDecl.{ChannelDecl}
-use Rattle.par_tree.specs.declared.decl.ParamDecl.{ParamDecl}
-use Rattle.par_tree.specs.Plain.{Method, Declaration, Source}
-use Rattle.par_tree.specs.Grammar.{Builders}
-use Rattle.par_tree.specs.Grammar as g
-use Rattle.par_tree.specs.Values.{Value, Values, Members, tok, exp, exps, may, braces, may_braces}
-use Rattle.par_tree.specs.Values.{sta, stas, other, handler, catches, term, whole, may_whole}
-use Rattle.par_tree.specs.Values.{clause, clauses, lock, needs, idents, typed, gives, flag, many}
-use Rattle.par_tree.specs.Values.{param, listed, says, members, decl, source}
-use Rattle.par_tree.specs.Values.{built, ident, channel, binary, next_method}
-use Rattle.par_tree.specs.Values.{next_decl, actors_decl, lock_decl, policy_decl, exception_decl}
-use Rattle.par_tree.specs.Values.{class_decl, next_ident, inferred_field, field, some_result}
-use Rattle.par_tree.specs.Values.{one_param, next_param, next_write, next_expect, next_open}
-use Rattle.par_tree.specs.Values.{next_close, next_throw, int_type, boolean_type, class_type}
-use Rattle.par_tree.specs.Values.{some_policy, first_term, next_term, clauses_term, named_term}
-use Rattle.par_tree.specs.Values.{bottom_term, top_term, one_clause, next_clause, one_lock}
-use Rattle.par_tree.specs.Values.{next_lock, next_stmt, whole_block, block_stmt, if_stmt, some_else}
-use Rattle.par_tree.specs.Values.{while_stmt, one_catch, next_catch, try_stmt, some_value}
-use Rattle.par_tree.specs.Values.{return_stmt, break_stmt, continue_stmt, throw_stmt, open_stmt}
-use Rattle.par_tree.specs.Values.{close_stmt, when_stmt, some_block, local_stmt, class_local}
-use Rattle.par_tree.specs.Values.{assign_stmt, call_stmt, constant, true_expr, false_expr}
-use Rattle.par_tree.specs.Values.{null_expr, this_expr, create, variable, select, call_own, call_on}
-use Rattle.par_tree.specs.Values.{negate, invert, next_arg}
+use Rattle.par_names.specs.par_tree.declared.types.TypeTree.{TypeTree}
+use Rattle.par_names.specs.par_tree.declared.types.TypeTree.TheVariants as type
+use Rattle.par_names.specs.par_tree.declared.decl.FieldDecl.{FieldDecl}
+use Rattle.par_names.specs.par_tree.declared.decl.ChannelDecl.{ChannelDecl}
+use Rattle.par_names.specs.par_tree.declared.decl.ParamDecl.{ParamDecl}
+use Rattle.par_names.specs.par_tree.Plain.{Method, Declaration, Source}
+use Rattle.par_names.specs.par_tree.Grammar.{Builders}
+use Rattle.par_names.specs.par_tree.Grammar as g
+use Rattle.par_names.specs.par_tree.Values.{Value, Values, Members, tok, exp, exps, may, braces}
+use Rattle.par_names.specs.par_tree.Values.{may_braces}
+use Rattle.par_names.specs.par_tree.Values.{sta, stas, other, handler, catches, term, whole}
+use Rattle.par_names.specs.par_tree.Values.{may_whole}
+use Rattle.par_names.specs.par_tree.Values.{clause, clauses, lock, needs, idents, typed, gives}
+use Rattle.par_names.specs.par_tree.Values.{flag, many}
+use Rattle.par_names.specs.par_tree.Values.{param, listed, says, members, decl, source}
+use Rattle.par_names.specs.par_tree.Values.{built, ident, channel, binary, next_method}
+use Rattle.par_names.specs.par_tree.Values.{next_decl, actors_decl, lock_decl, policy_decl}
+use Rattle.par_names.specs.par_tree.Values.{exception_decl}
+use Rattle.par_names.specs.par_tree.Values.{class_decl, next_ident, inferred_field, field}
+use Rattle.par_names.specs.par_tree.Values.{some_result}
+use Rattle.par_names.specs.par_tree.Values.{one_param, next_param, next_write, next_expect}
+use Rattle.par_names.specs.par_tree.Values.{next_open}
+use Rattle.par_names.specs.par_tree.Values.{next_close, next_throw, int_type, boolean_type}
+use Rattle.par_names.specs.par_tree.Values.{class_type}
+use Rattle.par_names.specs.par_tree.Values.{some_policy, first_term, next_term, clauses_term}
+use Rattle.par_names.specs.par_tree.Values.{named_term}
+use Rattle.par_names.specs.par_tree.Values.{bottom_term, top_term, one_clause, next_clause}
+use Rattle.par_names.specs.par_tree.Values.{one_lock}
+use Rattle.par_names.specs.par_tree.Values.{next_lock, next_stmt, whole_block, block_stmt, if_stmt}
+use Rattle.par_names.specs.par_tree.Values.{some_else}
+use Rattle.par_names.specs.par_tree.Values.{while_stmt, one_catch, next_catch, try_stmt, some_value}
+use Rattle.par_names.specs.par_tree.Values.{return_stmt, break_stmt, continue_stmt, throw_stmt}
+use Rattle.par_names.specs.par_tree.Values.{open_stmt}
+use Rattle.par_names.specs.par_tree.Values.{close_stmt, when_stmt, some_block, local_stmt}
+use Rattle.par_names.specs.par_tree.Values.{class_local}
+use Rattle.par_names.specs.par_tree.Values.{assign_stmt, call_stmt, constant, true_expr, false_expr}
+use Rattle.par_names.specs.par_tree.Values.{null_expr, this_expr, create, variable, select}
+use Rattle.par_names.specs.par_tree.Values.{call_own, call_on}
+use Rattle.par_names.specs.par_tree.Values.{negate, invert, next_arg}
 use Rattle.par_sources.specs.Sizes.{type_size, result_size, params_size, field_size, channel_size}
 use Rattle.par_sources.specs.Sizes.{method_size, fields_size, channels_size, methods_size}
 use Rattle.par_sources.specs.Sizes.{declaration_size, source_texts}

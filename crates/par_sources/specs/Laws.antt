@@ -3,8 +3,8 @@ use Rattle.std.specs.Prelude.{ℕ, ◌≤◌, List, length}
 use Rattle.par_lexer.specs.declared.token.Token.{Token}
 use Rattle.par_lexer.specs.Tokens.{HasTokens}
 use Rattle.par_lexer.specs.Spans.{IsLaid}
-use Rattle.par_tree.specs.Plain.{Source}
-use Rattle.par_places.specs.Law.{ComesToTree}
+use Rattle.par_names.specs.par_tree.Plain.{Source}
+use Rattle.par_names.specs.par_places.Law.{ComesToTree}
 use Rattle.par_sources.specs.Numbers.{SourceHasNumbers}
 use Rattle.par_sources.specs.Order.{IsInOrder}
 use Rattle.par_sources.specs.Sizes.{source_texts}

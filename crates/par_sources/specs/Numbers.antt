@@ -1,16 +1,21 @@
 -- How many numbers of a tree are greater than any number of a source.
 use Rattle.std.specs.Prelude.{◌≡◌, ℕ, ◌+◌, Bool, true, false, nat_le}
 use Rattle.std.specs.List.{AllByRecursion}
-use Rattle.par_tree.specs.Plain.{Exp, Int, True, False, Null, This, New, Name, Field, Call, Neg}
-use Rattle.par_tree.specs.Plain.{Not, Binary}
-use Rattle.par_tree.specs.Plain.{Exps, NoExps, More, MayExp, Absent, Present}
-use Rattle.par_tree.specs.Plain.{Sta, Block, If, While, Try, Return, Break, Continue, Throw, Open}
-use Rattle.par_tree.specs.Plain.{Close}
-use Rattle.par_tree.specs.Plain.{Declare, Assign, Do, When, Braces, In, MayBraces, NoBraces}
-use Rattle.par_tree.specs.Plain.{Else, NoElse, Otherwise, Stas, End, Then, Catches, NoCatch, Catch}
-use Rattle.par_tree.specs.Plain.{Handler, On}
-use Rattle.par_tree.specs.Plain.{Method, Declaration, Source, Actors, Lock, Policy, Declared}
-use Rattle.par_tree.specs.Plain as plain
+use Rattle.par_names.specs.par_tree.Plain.{Exp, Int, True, False, Null, This, New, Name, Field}
+use Rattle.par_names.specs.par_tree.Plain.{Call, Neg}
+use Rattle.par_names.specs.par_tree.Plain.{Not, Binary}
+use Rattle.par_names.specs.par_tree.Plain.{Exps, NoExps, More, MayExp, Absent, Present}
+use Rattle.par_names.specs.par_tree.Plain.{Sta, Block, If, While, Try, Return, Break, Continue}
+use Rattle.par_names.specs.par_tree.Plain.{Throw, Open}
+use Rattle.par_names.specs.par_tree.Plain.{Close}
+use Rattle.par_names.specs.par_tree.Plain.{Declare, Assign, Do, When, Braces, In, MayBraces}
+use Rattle.par_names.specs.par_tree.Plain.{NoBraces}
+use Rattle.par_names.specs.par_tree.Plain.{Else, NoElse, Otherwise, Stas, End, Then, Catches}
+use Rattle.par_names.specs.par_tree.Plain.{NoCatch, Catch}
+use Rattle.par_names.specs.par_tree.Plain.{Handler, On}
+use Rattle.par_names.specs.par_tree.Plain.{Method, Declaration, Source, Actors, Lock, Policy}
+use Rattle.par_names.specs.par_tree.Plain.{Declared}
+use Rattle.par_names.specs.par_tree.Plain as plain
 
 -- the greatest number that a token may be
 abbrev pub GREATEST : ℕ

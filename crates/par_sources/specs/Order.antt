@@ -1,7 +1,7 @@
 -- Declarations stand in the order of their places, and exception classes have no members.
 use Rattle.std.specs.Prelude.{◌≡◌, ℕ, ◌<◌, ◌≤◌, true, nat_eq, List, [], ◌∷◌, map}
 use Rattle.std.specs.List.{AllByRecursion, IsDistinct}
-use Rattle.par_tree.specs.Plain.{Class, Source}
+use Rattle.par_names.specs.par_tree.Plain.{Class, Source}
 use Rattle.par_names.specs.Declarations.{locks, declared_classes}
 use Rattle.par_names.specs.Members.{callee_ids}
 

@@ -1,11 +1,12 @@
 -- How many bytes the names of classes and members have, with the descriptors of the members.
 use Rattle.std.specs.Prelude.{ℕ, ◌+◌, cond, List, [], ◌∷◌, length, Option, Some, None}
-use Rattle.par_tree.specs.declared.types.TypeTree.{TypeTree}
-use Rattle.par_tree.specs.declared.types.TypeTree.TheVariants as type
-use Rattle.par_tree.specs.declared.decl.FieldDecl.{FieldDecl}
-use Rattle.par_tree.specs.declared.decl.ChannelDecl.{ChannelDecl}
-use Rattle.par_tree.specs.declared.decl.ParamDecl.{ParamDecl}
-use Rattle.par_tree.specs.Plain.{Method, Class, Declaration, Source, Actors, Lock, Policy, Declared}
+use Rattle.par_names.specs.par_tree.declared.types.TypeTree.{TypeTree}
+use Rattle.par_names.specs.par_tree.declared.types.TypeTree.TheVariants as type
+use Rattle.par_names.specs.par_tree.declared.decl.FieldDecl.{FieldDecl}
+use Rattle.par_names.specs.par_tree.declared.decl.ChannelDecl.{ChannelDecl}
+use Rattle.par_names.specs.par_tree.declared.decl.ParamDecl.{ParamDecl}
+use Rattle.par_names.specs.par_tree.Plain.{Method, Class, Declaration, Source, Actors, Lock, Policy}
+use Rattle.par_names.specs.par_tree.Plain.{Declared}
 
 -- `I`, `Z` or `LName;`
 abbrev pub type_size : TypeTree → ℕ

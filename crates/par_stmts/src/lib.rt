@@ -12,3 +12,6 @@ pub mod local;
 pub mod make;
 pub mod simple;
 pub mod stmt;
+
+pub use par_policies;
+pub use par_policies::{par_language, par_reader};

@@ -4,9 +4,9 @@ ghost use Rattle.std.specs.Prelude.{◌≡◌, ◌<◌, ◌≤◌, [], ◌∷◌
 ghost use Rattle.par_grammar.specs.Grammar as symbol;
 ghost use Rattle.par_lexer.specs.declared.sign.TheConstants as signs;
 ghost use Rattle.par_lexer.specs.declared.word.TheConstants as words;
-ghost use Rattle.par_reader.specs.Reads.{input};
+ghost use Rattle.par_policies.specs.par_reader.Reads.{input};
 ghost use Rattle.par_tree.specs.Grammar as g;
-ghost use Rattle.par_language.specs.Reads.{Reads};
+ghost use Rattle.par_policies.specs.par_language.Reads.{Reads};
 ghost use Rattle.par_stmts.specs.Reads.{a_block, may_be_block, a_stmt, the_stmts, an_else};
 ghost use Rattle.par_stmts.specs.Reads.{a_catch, the_catches};
 
@@ -14,11 +14,11 @@ use crate::head::{lock_in_parens, test_in_parens};
 use crate::make;
 use crate::simple::simple;
 use par_grammar::sort::Sort;
-use par_language::Paragon;
 use par_lexer::list::List;
 use par_lexer::{sign, word};
-use par_reader::cursor::Cursor;
-use par_reader::error::ParseError;
+use par_policies::par_language::Paragon;
+use par_policies::par_reader::cursor::Cursor;
+use par_policies::par_reader::error::ParseError;
 use par_tree::stmt::{Block, CatchTree, Stmt};
 use std::alloc::Global;
 

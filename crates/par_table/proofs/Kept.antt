@@ -12,16 +12,18 @@ use Rattle.par_lexer.specs.declared.cut.TheConstants.{LONGEST_SOURCE}
 use Rattle.par_tree.specs.Nodes.{method_nodes}
 use Rattle.par_tree.specs.Plain as plain
 use Rattle.par_tree.specs.Plain.{Method, Declaration, Source}
-use Rattle.par_parser.specs.Bodies.{method_size, methods_size, declaration_size, source_size}
+use Rattle.par_faults.specs.par_parser.Bodies.{method_size, methods_size, declaration_size}
+use Rattle.par_faults.specs.par_parser.Bodies.{source_size}
 use Rattle.par_typed.specs.declared.refusal.Refusal.{Refusal}
 use Rattle.par_typed.specs.First.{in_passes, first_of}
 use Rattle.par_typed.proofs.First.{first_of_none}
 use Rattle.par_names.specs.Declarations.{builtins, classes_in, classes, declared_classes}
 use Rattle.par_names.specs.Program.{name_faults}
-use Rattle.par_declarations.specs.declared.limit.Limit.{Limit}
-use Rattle.par_declarations.specs.declared.limit.TheConstants.{CLASSES}
-use Rattle.par_declarations.specs.Limits.{told, one_too_many, class_places, declared_limits}
-use Rattle.par_declarations.specs.Limits.{count_faults}
+use Rattle.par_faults.specs.par_declarations.declared.limit.Limit.{Limit}
+use Rattle.par_faults.specs.par_declarations.declared.limit.TheConstants.{CLASSES}
+use Rattle.par_faults.specs.par_declarations.Limits.{told, one_too_many, class_places}
+use Rattle.par_faults.specs.par_declarations.Limits.{declared_limits}
+use Rattle.par_faults.specs.par_declarations.Limits.{count_faults}
 use Rattle.par_resolved.specs.declared.limits.TheConstants.{MOST_POLICIES}
 use Rattle.par_resolved.specs.declared.entries.Entry.{Entry}
 use Rattle.par_resolved.specs.Policies.{known}

@@ -7,3 +7,4 @@ pub mod Mains
 pub mod Loops
 pub mod Whole
 pub mod Kept
+pub use Rattle.par_faults.proofs as par_faults

@@ -13,7 +13,8 @@ use Rattle.par_resolved.specs.Numbers.{numbers}
 use Rattle.par_resolved.specs.Policies.{Known, known, known_behind, with_value, value_of}
 use Rattle.par_resolved.specs.Policies.{nothing_known}
 use Rattle.par_resolved.specs.Numbered.{numbered}
-use Rattle.par_resolved.specs.Resolved.{resolved, ground_locks, class_infos, has_main, table_of}
+use Rattle.par_resolved.specs.Resolved.{resolved, ground_locks, class_infos, has_main}
+use Rattle.par_resolved.specs.Resolved.{table_of}
 use Rattle.par_resolved.proofs.Behind.{behind_none, behind_more}
 
 numbers_behind : (k : Known) (ds : List PolicyDecl) → (known_behind k ds).numbers ≡ k.numbers

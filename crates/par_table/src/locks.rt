@@ -5,12 +5,15 @@ ghost use Rattle.std.specs.Prelude.{length, IfOk, OnOk, Some, None, true, if◌t
 ghost use Rattle.std.specs.List.{range_with_len};
 ghost use Rattle.par_tree.specs.Shown.{source};
 ghost use Rattle.par_names.specs.Declarations as names;
-ghost use Rattle.par_resolved.specs.declared.limits.TheConstants.{MOST_ACTORS, MOST_GROUND_LOCKS};
+ghost use Rattle.par_resolved.specs.declared.limits.TheConstants.{MOST_ACTORS};
+ghost use Rattle.par_resolved.specs.declared.limits.TheConstants.{MOST_GROUND_LOCKS};
 ghost use Rattle.par_resolved.specs.Sets.{set_of};
 ghost use Rattle.par_resolved.specs.Seen.{seen};
 ghost use Rattle.par_resolved.specs.Gathered.{all_of};
-ghost use Rattle.par_resolved.specs.Numbers.{lock_number, ground_count, choices, place_in_family};
-ghost use Rattle.par_resolved.specs.Resolved.{lock_policy, family, ground_locks_from, ground_locks};
+ghost use Rattle.par_resolved.specs.Numbers.{lock_number, ground_count, choices};
+ghost use Rattle.par_resolved.specs.Numbers.{place_in_family};
+ghost use Rattle.par_resolved.specs.Resolved.{lock_policy, family, ground_locks_from};
+ghost use Rattle.par_resolved.specs.Resolved.{ground_locks};
 ghost use Rattle.par_table.specs.Parts.{lock_with, made_lock};
 ghost use Rattle.par_table.specs.Seen.{resolved_seen};
 

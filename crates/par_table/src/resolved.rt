@@ -57,7 +57,8 @@ fn number_among(policies: &[Policy], policy: &Policy) -> u16
 }
 
 impl<'a> Resolved<'a> {
-    ghost use Rattle.par_resolved.specs.Resolved.{resolved, number_of, expression_number};
+    ghost use Rattle.par_resolved.specs.Resolved.{resolved, number_of};
+    ghost use Rattle.par_resolved.specs.Resolved.{expression_number};
     ghost use Rattle.par_resolved.specs.Resolved.{may_number};
     ghost use Rattle.par_table.specs.Seen.{resolved_seen};
 

@@ -3,7 +3,7 @@
 ghost use Rattle.std.specs.Prelude.{◌≡◌, ◌≤◌, [], IfOk, OnOk, Err};
 ghost use Rattle.par_lexer.specs.declared.cut.TheConstants.{LONGEST_SOURCE};
 ghost use Rattle.par_tree.specs.Shown.{source};
-ghost use Rattle.par_parser.specs.Bodies.{source_size};
+ghost use Rattle.par_faults.specs.par_parser.Bodies.{source_size};
 ghost use Rattle.par_typed.specs.First.{IsFirst};
 ghost use Rattle.par_typed.specs.declared.refusal.Refusal.{Refusal};
 ghost use Rattle.par_resolved.specs.Resolved.{table_of};

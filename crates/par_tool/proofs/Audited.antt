@@ -14,32 +14,25 @@ use Rattle.par_lexer.proofs.Laying.{laid}
 use Rattle.par_places.specs.Law.{BeginWithin}
 use Rattle.par_places.specs.Within.{IsWithin}
 use Rattle.par_places.proofs.Trees.{trees_lie}
-use Rattle.par_typed.specs.declared.refusal.Refusal.{Refusal}
 use Rattle.par_typed.specs.declared.table.Table.{Table}
 use Rattle.par_typed.specs.declared.program.Typed.{Typed}
-use Rattle.par_typed.specs.First.{in_passes}
 use Rattle.par_typed.specs.Plain.{Body}
 use Rattle.par_typed.specs.Shown.{bodies}
 use Rattle.par_resolved.specs.Resolved.{table_of}
 use Rattle.par_resolved.specs.Numbers.{Numbers}
 use Rattle.par_resolved.specs.Policies.{nothing_known}
-use Rattle.par_well_typed.proofs.Entries.{numbers_stay}
+use Rattle.par_audit.proofs.par_well_typed.Entries.{numbers_stay}
 use Rattle.par_names.specs.Declarations.{actors, policies}
-use Rattle.par_scope.specs.Names.{IsFewTable}
-use Rattle.par_faults.specs.Faults.{all_faults}
-use Rattle.par_typing.specs.Typed.{written}
-use Rattle.par_typing.proofs.Limits.{IsWithinLimits, limits_kept}
-use Rattle.par_typing.proofs.Tables.{few_table}
-use Rattle.par_placed.proofs.Law.{checks_lie}
+use Rattle.par_observer.specs.par_typing.Typed.{written}
+use Rattle.par_observer.proofs.par_placed.Law.{checks_lie}
 use Rattle.par_rules.specs.Lattice.{numbers}
 use Rattle.par_rules.specs.Facts.{Facts}
 use Rattle.par_checks.specs.Asked.{Check}
 use Rattle.par_checks.specs.Checks.{checks}
-use Rattle.par_verdict.specs.Accepted.{IsAcceptedBy}
+use Rattle.par_audit.specs.par_verdict.Accepted.{IsAcceptedBy}
 use Rattle.par_secrecy.proofs.Carried.{shown_files_are_secure}
 use Rattle.par_secrecy.specs.Secure.{Secure}
 use Rattle.par_alike.specs.Subject.{subject}
-use Rattle.par_observer.specs.Passes.{typed_faults}
 use Rattle.par_observer.specs.Trees.{IsWellFormed, bodies_of}
 use Rattle.par_observer.specs.Judgements.{IsAcceptedAs, IsTreeOf}
 use Rattle.par_audit.specs.declared.release.Release.{Release}
@@ -48,11 +41,7 @@ use Rattle.par_audit.proofs.Releases.{no_release_secure}
 use Rattle.par_audit.proofs.Files.{files_for}
 use Rattle.par_tool.specs.Outside.{Text}
 use Rattle.par_tool.specs.Audits.{IsSecureFor}
-
-first_pass : (fs gs : List Refusal) → in_passes fs gs ≡ [] → fs ≡ []
-unfolding in_passes
-first_pass [] gs h = refl
-first_pass (f ∷ fs) gs h = absurd (cc h)
+use Rattle.par_tool.proofs.Within.{within_limits, most_classes}
 
 -- tokens that stand in a source begin in it
 begin : (source : Text) (tokens : List Token) → AllByRecursion (Stands source) tokens
@@ -64,14 +53,9 @@ begin source (t ∷ ts) h = (
 )
 
 module _ (source : Text) (typed : Typed) (is : IsAcceptedAs source typed) where
-  within_limits : IsWithinLimits is.tree
-  within_limits =
-      limits_kept is.tree
-      (first_pass (all_faults is.tree) (typed_faults is.tree) is.keeps.0.faultless)
-
   pub few_actors : length typed.table.actors ≤ 256
   few_actors =
-      let few : length (actors is.tree) ≤ 16 = within_limits.few.few_actors in
+      let few : length (actors is.tree) ≤ 16 = (within_limits source typed is).few.few_actors in
       let named : length (table_of is.tree).actors ≡ length (actors is.tree) =
       ap (λ (n : Numbers). length n.actors)
       (numbers_stay (nothing_known is.tree) (policies is.tree))
@@ -80,11 +64,7 @@ module _ (source : Text) (typed : Typed) (is : IsAcceptedAs source typed) where
       (omega (arith, few, named))
 
   pub few_classes : length typed.table.classes ≤ 65536
-  few_classes =
-      let few : IsFewTable (table_of is.tree) = few_table is.tree within_limits in
-      let named = length-map (table_of is.tree).classes (λ c. c.name) in
-      subst (λ (t : Table). length t.classes ≤ 65536) (sym is.keeps.1.table_is)
-      (omega (arith, few.classes, named))
+  few_classes = let few = most_classes source typed is in omega (arith, few)
 
   lies : IsWithin (length source) is.tree
   lies =

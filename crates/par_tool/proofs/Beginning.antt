@@ -14,7 +14,7 @@ use Rattle.par_lexer.specs.Names.{is_name}
 use Rattle.par_class.specs.declared.file.MethodFile.{MethodFile}
 use Rattle.par_class.specs.declared.file.ClassFile.{ClassFile}
 use Rattle.par_single.specs.Members.{own_name, is_static, is_method_of}
-use Rattle.par_single.specs.Single.{main_member}
+use Rattle.par_single.specs.Described.{main_member}
 use Rattle.par_steps.specs.Run.{class_number}
 use Rattle.par_steps.specs.State.{main_place}
 use Rattle.par_loader.specs.Reads.{Text, Classes}
@@ -116,7 +116,7 @@ unfolding further
 few_further classes zero fs = omega arith
 few_further classes (suc more) fs = named classes more fs (few_further classes more) (next_named fs)
 
-few_judged : (classes : Classes) (main : Text) → (judged classes main).reads ≤ 129
+pub few_judged : (classes : Classes) (main : Text) → (judged classes main).reads ≤ 129
 few_judged classes main =
     let few =
     stepped classes 128 [] (few_further classes 128) (main_step main (classes main))

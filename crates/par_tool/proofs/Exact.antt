@@ -11,20 +11,24 @@ use Rattle.par_trace.specs.Texts as traced
 use Rattle.par_runner.specs.Texts as told
 use Rattle.par_words.specs.declared.words.Which.{Which}
 use Rattle.par_words.specs.Commands.{Text}
-use Rattle.par_words.specs.Words.{Wanted, Check, Compile, Trace, Audit, Run, Asks}
+use Rattle.par_words.specs.Words.{Wanted, Check, Compile, Trace, Sample, Audit, Infer, Verify}
+use Rattle.par_words.specs.Words.{Run, Asks}
 use Rattle.par_loader.specs.Judged.{judged}
 use Rattle.par_words.proofs.Asking.{one_wanted}
 use Rattle.par_tool.specs.declared.answer.Answer.{Answer}
 use Rattle.par_tool.specs.Texts.{status, text}
 use Rattle.par_tool.specs.Answers.{Scene, Cause, RunCause, TraceCause, Ends, misses, lacks_words}
-use Rattle.par_tool.specs.Answers.{answers, runs, traces, audits, lacks_memory, AuditCause}
+use Rattle.par_tool.specs.Answers.{answers, runs, traces, lists, lacks_memory, ListCause}
 use Rattle.par_tool.specs.Exactly as exactly
 use Rattle.par_tool.specs.Exactly.{IsSaidBy, IsStatus, Checks, Compiles, IsExact, Traces}
-use Rattle.par_tool.specs.Exactly.{TellsSource, TellsClass, Audits}
+use Rattle.par_tool.specs.Exactly.{Judges, TellsSource, TellsClass, Audits, Infers}
 use Rattle.par_tool.proofs.Statuses.{said_status}
 use Rattle.par_tool.proofs.ExactSources.{tells_check, tells_compile}
 use Rattle.par_tool.proofs.ExactTraces.{tells_untraced, tells_traced}
+use Rattle.par_tool.proofs.ExactSamples.{tells_sample}
 use Rattle.par_tool.proofs.ExactAudits.{tells_unaudited, tells_audited}
+use Rattle.par_tool.proofs.ExactInferences.{tells_unfilled, tells_filled}
+use Rattle.par_tool.proofs.ExactVerifications.{tells_verified, verification_wants}
 use Rattle.par_tool.proofs.ExactRuns.{any_end, instead, tells_instead, tells_ran}
 
 -- ---- the status
@@ -37,8 +41,13 @@ answer_is_exact s (Compile file) a result cause said =
     tells_compile s.files s.before s.after file s.later result a cause said
 answer_is_exact s (Trace file inputs bound) a result cause said =
     tells_untraced s.files s.before s.after file inputs bound result a cause.0 said
+answer_is_exact s (Sample number) a result cause said = tells_sample number result a cause.0 said
 answer_is_exact s (Audit actor file) a result cause said =
     tells_unaudited s.files s.before s.after actor file result a cause.0 said
+answer_is_exact s (Infer file) a result cause said =
+    tells_unfilled s.files s.before s.after file result a cause.0 said
+answer_is_exact s (Verify main) a result cause said =
+    tells_verified s.files s.before s.after main result a cause.0 said
 answer_is_exact s (Run main inputs steps) a result cause said =
     tells_instead s.files s.before s.after main inputs steps result a
     (instead s.files s.before s.after main inputs a cause.0) said
@@ -48,7 +57,10 @@ run_is_exact : (s : Scene) (w : Wanted) (ran : Ran) (result : ℕ) → RunCause 
 run_is_exact s (Check file) ran result cause said = absurd cause
 run_is_exact s (Compile file) ran result cause said = absurd cause
 run_is_exact s (Trace file inputs bound) ran result cause said = absurd cause
+run_is_exact s (Sample number) ran result cause said = absurd cause
 run_is_exact s (Audit actor file) ran result cause said = absurd cause
+run_is_exact s (Infer file) ran result cause said = absurd cause
+run_is_exact s (Verify main) ran result cause said = absurd cause
 run_is_exact s (Run main inputs steps) ran result cause said =
     tells_ran s.files s.before s.after main inputs steps result cause.0 ran cause.1 said
 
@@ -59,17 +71,24 @@ trace_is_exact s (Check file) tree run result cause said = absurd cause
 trace_is_exact s (Compile file) tree run result cause said = absurd cause
 trace_is_exact s (Trace file inputs bound) tree run result cause said =
     tells_traced s.files file inputs bound tree run cause.0 result said
+trace_is_exact s (Sample number) tree run result cause said = absurd cause
 trace_is_exact s (Audit actor file) tree run result cause said = absurd cause
+trace_is_exact s (Infer file) tree run result cause said = absurd cause
+trace_is_exact s (Verify main) tree run result cause said = absurd cause
 trace_is_exact s (Run main inputs steps) tree run result cause said = absurd cause
 
-audit_is_exact : (s : Scene) (w : Wanted) (lines : List Text) (result : ℕ) → AuditCause s w lines
+list_is_exact : (s : Scene) (w : Wanted) (lines : List Text) (result : ℕ) → ListCause s w lines
     → IsSaidBy result 0 → IsExact s.files w result
-audit_is_exact s (Check file) lines result cause said = absurd cause
-audit_is_exact s (Compile file) lines result cause said = absurd cause
-audit_is_exact s (Trace file inputs bound) lines result cause said = absurd cause
-audit_is_exact s (Audit actor file) lines result cause said =
+list_is_exact s (Check file) lines result cause said = absurd cause
+list_is_exact s (Compile file) lines result cause said = absurd cause
+list_is_exact s (Trace file inputs bound) lines result cause said = absurd cause
+list_is_exact s (Sample number) lines result cause said = absurd cause
+list_is_exact s (Audit actor file) lines result cause said =
     tells_audited s.files actor file lines cause.0 result said
-audit_is_exact s (Run main inputs steps) lines result cause said = absurd cause
+list_is_exact s (Infer file) lines result cause said =
+    tells_filled s.files file lines cause.0 result said
+list_is_exact s (Verify main) lines result cause said = absurd cause
+list_is_exact s (Run main inputs steps) lines result cause said = absurd cause
 
 -- want of memory comes in the place of any status
 wanting : (result number : ℕ) → result ≡ 7 → IsStatus result number
@@ -77,7 +96,7 @@ wanting result number seven = exactly.said (exactly.lacks_memory seven)
 
 source_wants : (Accepts : Text → ℕ → Type 0) (files : Option Files) (file : Text) (result : ℕ)
     → result ≡ 7
-    → ((source : Text) → Accepts source result) → TellsSource Accepts files file result
+    → ((source : Text) → Accepts source result) → TellsSource (Judges Accepts) files file result
 source_wants Accepts files file result seven accepts = record {
   missing = λ h. wanting result 3 seven;
   overlong = λ h. wanting result 8 seven;
@@ -104,6 +123,13 @@ audit_wants actor source result seven = record {
   no_actor = λ tree is_tree is. wanting result 15 seven;
 }
 
+infer_wants : (source : Text) (result : ℕ) → result ≡ 7 → Infers source result
+infer_wants source result seven = record {
+  filled = λ tree φ is_tree none accepted. wanting result 0 seven;
+  unfilled = λ tree is_tree none never. wanting result 1 seven;
+  untyped = λ f broken. wanting result 1 seven;
+}
+
 class_wants : (files : Option Files) (main inputs : Text) (steps result : ℕ) → result ≡ 7
     → TellsClass files main inputs steps result
 class_wants files main inputs steps result seven = record {
@@ -117,17 +143,25 @@ class_wants files main inputs steps result seven = record {
 wants : (files : Option Files) (w : Wanted) (result : ℕ) → result ≡ 7 → IsExact files w result
 wants files (Check file) result seven =
     source_wants Checks files file result seven (λ source. wanting result 0 seven)
-wants files (Compile file) result seven = source_wants Compiles files file result seven
-    (λ source. record {
-      compiled = λ h. inl (wanting result 0 seven);
-      not_built = λ h. wanting result 9 seven;
-    })
+wants files (Compile file) result seven =
+    source_wants Compiles files file result seven (λ source. inl (wanting result 0 seven))
 wants files (Trace file inputs bound) result seven =
     source_wants (Traces files inputs bound) files file result seven
     (λ source. trace_wants files inputs bound source result seven)
+wants files (Sample number) result seven = record {
+  accepted = λ is. exactly.lacks_memory seven;
+  refused = λ rule line column limit count broken. exactly.lacks_memory seven;
+}
 wants files (Audit actor file) result seven =
     source_wants (Audits actor) files file result seven
     (λ source. audit_wants actor source result seven)
+wants files (Infer file) result seven = record {
+  missing = λ h. wanting result 3 seven;
+  overlong = λ h. wanting result 8 seven;
+  there = λ source there. infer_wants source result seven;
+}
+wants files (Verify main) result seven =
+    verification_wants files main result (λ number. wanting result number seven)
 wants files (Run main inputs steps) result seven = class_wants files main inputs steps result seven
 
 pub exact : (which : Which) (words : List (String Global)) (s : Scene) (result : ℕ)
@@ -150,10 +184,10 @@ exact which words s result old new f g (traces v tree run asks cause said) w ask
     (trace_is_exact s v tree run result cause
     (said_status (told.status (Fine run.ending)) result
     (traced.lines (table_of tree) run) old new f g said))
-exact which words s result old new f g (audits v lines asks cause said) w asked =
+exact which words s result old new f g (lists v lines asks cause said) w asked =
     subst (λ (x : Wanted). IsExact s.files x result) (one_wanted which words v w asks asked)
-    (audit_is_exact s v lines result cause (said_status 0 result lines old new f g said))
-exact which words s result old new f g (lacks_memory v asks seven put few stand) w asked =
+    (list_is_exact s v lines result cause (said_status 0 result lines old new f g said))
+exact which words s result old new f g (lacks_memory v asks seven put few had stand) w asked =
     wants s.files w result seven
 
 -- words of no form
@@ -167,6 +201,6 @@ usage which words s result old new f g (lacks_words seven put stand) h = exactly
 usage which words s result old new f g (answers v a asks cause said) h = absurd (h v asks)
 usage which words s result old new f g (runs v ran asks cause said) h = absurd (h v asks)
 usage which words s result old new f g (traces v tree run asks cause said) h = absurd (h v asks)
-usage which words s result old new f g (audits v lines asks cause said) h = absurd (h v asks)
-usage which words s result old new f g (lacks_memory v asks seven put few stand) h =
+usage which words s result old new f g (lists v lines asks cause said) h = absurd (h v asks)
+usage which words s result old new f g (lacks_memory v asks seven put few had stand) h =
     exactly.lacks_memory seven

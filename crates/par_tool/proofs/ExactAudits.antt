@@ -16,7 +16,7 @@ use Rattle.par_tool.specs.Texts.{status}
 use Rattle.par_tool.specs.Outside.{Text, IsThere}
 use Rattle.par_tool.specs.Sources.{IsBroken, IsSecureAs}
 use Rattle.par_tool.specs.Audits.{actor_of, IsUnaudited, IsAuditedAs, IsAuditOf, Unaudited}
-use Rattle.par_tool.specs.Exactly.{IsSaidBy, TellsSource, Audits}
+use Rattle.par_tool.specs.Exactly.{IsSaidBy, Judges, TellsSource, Audits}
 use Rattle.par_tool.proofs.ExactSources.{IsAnyhow, clash, Found, near_there, tells_source}
 use Rattle.par_tool.proofs.ExactSources.{secure_is_accepted}
 use Rattle.par_tool.proofs.Statuses.{IsNear, same, near_status, same_status, read_there}
@@ -95,7 +95,7 @@ module _ (files : Option Files) (before after : FolderCounts) (actor file : Text
 
   -- where an answer stands in the place of the audit
   pub tells_unaudited : (result : ℕ) (a : Answer) → Unaudited files before after actor file a
-      → IsSaidBy result (status a) → TellsSource (Audits actor) files file result
+      → IsSaidBy result (status a) → TellsSource (Judges (Audits actor)) files file result
   tells_unaudited result a h said =
       tells_source Verdict files before after file (Audits actor) result a
       (unaudited_found a h) (accepts result a said) (λ source. refuses source a) said
@@ -111,7 +111,7 @@ module _ (files : Option Files) (actor file : Text) (lines : List Text)
 
   -- where the audit is told
   pub tells_audited : (result : ℕ) → IsSaidBy result 0
-      → TellsSource (Audits actor) files file result
+      → TellsSource (Judges (Audits actor)) files file result
   tells_audited result said = record {
     missing = λ m. absurd (missing_read files LONGEST_SOURCE file h.0 m h.1);
     overlong = λ m. absurd (overlong_read files LONGEST_SOURCE file h.0 m h.1);

@@ -16,9 +16,11 @@ use Rattle.par_runner.specs.Texts as told
 use Rattle.par_inputs.specs.declared.read.TheConstants.{LONGEST_INPUTS}
 use Rattle.par_pool.specs.declared.reading.TheConstants.{LONGEST_CLASS}
 use Rattle.par_tool.specs.declared.answer.Answer.{Answer}
-use Rattle.par_tool.specs.declared.answer.Answer.TheVariants.{Accepted, Compiled, Refused, Usage}
+use Rattle.par_tool.specs.declared.answer.Answer.TheVariants.{Accepted, Compiled, Sampled}
+use Rattle.par_tool.specs.declared.answer.Answer.TheVariants.{Verified}
+use Rattle.par_tool.specs.declared.answer.Answer.TheVariants.{Refused, Usage}
 use Rattle.par_tool.specs.declared.answer.Answer.TheVariants.{Absent, ReadFault, WriteFault}
-use Rattle.par_tool.specs.declared.answer.Answer.TheVariants.{TooLong, NotBuilt, BadClass}
+use Rattle.par_tool.specs.declared.answer.Answer.TheVariants.{TooLong, BadClass}
 use Rattle.par_tool.specs.declared.answer.Answer.TheVariants.{BadInputs, NoActor}
 use Rattle.par_tool.specs.Texts.{status}
 use Rattle.par_tool.specs.Outside.{Text, NotRead, IsThere, IsMissing, IsOverlong, class_file}
@@ -28,9 +30,11 @@ use Rattle.par_loader.specs.Loaded as loaded
 use Rattle.par_loader.specs.Loaded.{Loaded, Load, main_step}
 use Rattle.par_loader.specs.Judged.{judged}
 use Rattle.par_loader.proofs.Ended.{IsStop}
+use Rattle.par_framed_program.specs.Framed.{AreFramed, IsUnframed}
 use Rattle.par_tool.specs.Given.{IsBad, HasBadLine}
 use Rattle.par_tool.specs.Classes.{ends_so, AreLinked, NotRun, IsRunOf}
-use Rattle.par_tool.specs.Exactly.{IsSaidBy, IsStatus, TellsRun, TellsEnd, TellsClass}
+use Rattle.par_tool.specs.Exactly.{IsSaidBy, IsStatus, TellsRun, TellsFrames}
+use Rattle.par_tool.specs.Exactly.{TellsEnd, TellsClass}
 use Rattle.par_tool.proofs.Loads.{same_judged, stops_first}
 use Rattle.par_tool.proofs.Inputs.{right_or_bad}
 use Rattle.par_tool.proofs.Statuses as near
@@ -39,11 +43,17 @@ use Rattle.par_tool.proofs.Statuses.{missing_read, overlong_read, missing_not_re
 use Rattle.par_tool.proofs.Statuses.{overlong_not_read, there_not_read}
 
 -- inputs are their channels
-inputs_are : (a b : Inputs) → a.channels ≡ b.channels → a ≡ b
+pub inputs_are : (a b : Inputs) → a.channels ≡ b.channels → a ≡ b
 inputs_are a b e = ap (λ cs. let x : Inputs = record { channels = cs } in x) e
 
+-- where all methods have frames, none lacks them
+pub none_lacks : (all : List ClassFile) (class : Text) (number value : ℕ) → AreFramed all
+    → IsUnframed all class number value → ⊥
+none_lacks all class number value framed u =
+    u.broken.has_none (framed u.place u.file u.there value u.broken.broken u.broken.there)
+
 -- the status that class files come to that do not link
-abbrev stop_status : Loaded → ℕ
+abbrev pub stop_status : Loaded → ℕ
 stop_status (loaded.whole all) = 0
 stop_status loaded.missing = 3
 stop_status loaded.overlong = 8
@@ -55,10 +65,13 @@ module _ (files : Option Files) (main inputs : Text) (steps result : ℕ) where
   pub any_end : ((number : ℕ) → IsStatus result number) → (end : Loaded)
       → TellsEnd files main inputs steps result end
   any_end any (loaded.whole all) = record {
-    missing = λ m. any 3;
-    overlong = λ m. any 8;
-    there =
-        λ text at. record { ran = λ lists right are fit. any _; bad_inputs = λ number bad. any 13 };
+    framed = λ framed. record {
+      missing = λ m. any 3;
+      overlong = λ m. any 8;
+      there = λ text at.
+          record { ran = λ lists right are fit. any _; bad_inputs = λ number bad. any 13 };
+    };
+    unframed = λ class number value u. any 12;
   }
   any_end any loaded.missing = any 3
   any_end any loaded.overlong = any 8
@@ -76,35 +89,41 @@ module _ (files : Option Files) (main inputs : Text) (steps result : ℕ) where
 
 module _ (files : Option Files) (before after : FolderCounts) (main inputs : Text) where
   -- what stands in the place of a run: a read failed, or the class files do not link; or they do,
-  -- and the input file was not had, or has a wrong line
+  -- and a method has no frames, or the input file was not had, or has a wrong line
   pub data Instead (a : Answer) : Type 0 where
     faulty : a ≡ ReadFault → Instead a
     unlinked : (classes : Classes) → AreOf files classes → (reads : ℕ) (end : Loaded) → IsStop end
         → ends_so (judged classes main) reads end → status a ≡ stop_status end → Instead a
+    lacks_frames : (reads : ℕ) (all : List ClassFile) → AreLinked files main reads all
+        → (class : Text) (number value : ℕ) → IsUnframed all class number value
+        → status a ≡ 12 → Instead a
     no_inputs : (reads : ℕ) (all : List ClassFile) → AreLinked files main reads all
-        → NotRead files before after LONGEST_INPUTS inputs a → Instead a
+        → AreFramed all → NotRead files before after LONGEST_INPUTS inputs a → Instead a
     bad_line : (number : ℕ) → a ≡ BadInputs number → (reads : ℕ) (all : List ClassFile)
-        → AreLinked files main reads all
+        → AreLinked files main reads all → AreFramed all
         → HasBadLine (first_misfit all) files inputs number → Instead a
 
   pub instead : (a : Answer) → NotRun files before after main inputs a → Instead a
   instead Absent (inl h) = unlinked h.0 h.1 h.2.0 loaded.missing tt h.2.2.0 refl
-  instead Absent (inr h) = no_inputs h.0 h.2.0 h.2.1 h.2.2
+  instead Absent (inr h) = no_inputs h.0 h.2.0 h.2.1 h.2.2 h.2.3
   instead TooLong (inl h) = unlinked h.0 h.1 h.2.0 loaded.overlong tt h.2.2.0 refl
-  instead TooLong (inr h) = no_inputs h.0 h.2.0 h.2.1 h.2.2
+  instead TooLong (inr h) = no_inputs h.0 h.2.0 h.2.1 h.2.2 h.2.3
   instead ReadFault h = faulty refl
-  instead (BadClass class number value) (classes, of, (reads, makes, inl is)) =
+  instead (BadClass class number value) (inl (classes, of, (reads, makes, inl is))) =
       unlinked classes of reads (loaded.refused class number value) tt is refl
-  instead (BadClass class number value) (classes, of, (reads, makes, inr is)) =
+  instead (BadClass class number value) (inl (classes, of, (reads, makes, inr is))) =
       unlinked classes of reads (loaded.absent class value) tt is.0 refl
-  instead (BadInputs number) h = bad_line number refl h.0 h.2.0 h.2.1 h.2.2
+  instead (BadClass class number value) (inr h) =
+      lacks_frames h.0 h.2.0 h.2.1 class number value h.2.2 refl
+  instead (BadInputs number) h = bad_line number refl h.0 h.2.0 h.2.1 h.2.2 h.2.3
   instead Accepted h = absurd h
   instead (Compiled many) h = absurd h
+  instead (Sampled summary) h = absurd h
+  instead (Verified files) h = absurd h
   instead (Refused rule line column limit count) h = absurd h
   instead Usage h = absurd h
   instead NoActor h = absurd h
   instead WriteFault h = absurd h
-  instead NotBuilt h = absurd h
 
   -- ---- the file of the class is not there
 
@@ -113,7 +132,7 @@ module _ (files : Option Files) (before after : FolderCounts) (main inputs : Tex
   none_there None classes of gone = absurd gone
   none_there (Some m) classes of gone = of main ∙ gone
 
-  ends_missing : (classes : Classes) → AreOf files classes → IsMissing files (class_file main)
+  pub ends_missing : (classes : Classes) → AreOf files classes → IsMissing files (class_file main)
       → ends_so (judged classes main) 1 loaded.missing
   ends_missing classes of gone =
       stops_first classes main None (none_there files classes of gone) 1 loaded.missing tt refl
@@ -131,7 +150,7 @@ module _ (files : Option Files) (before after : FolderCounts) (main inputs : Tex
       ap (λ b. loaded.main_step_of main
       (cond b (found.taken_as main (file_at bytes)) found.overlong)) no
 
-  ends_overlong : (classes : Classes) → AreOf files classes
+  pub ends_overlong : (classes : Classes) → AreOf files classes
       → IsOverlong files LONGEST_CLASS (class_file main)
       → ends_so (judged classes main) 1 loaded.overlong
   ends_overlong classes of long =
@@ -140,7 +159,7 @@ module _ (files : Option Files) (before after : FolderCounts) (main inputs : Tex
       (too_long found.0 found.2)
 
   -- class files that link do not stop
-  links_or_stops : (reads more : ℕ) (all : List ClassFile) (end : Loaded)
+  pub links_or_stops : (reads more : ℕ) (all : List ClassFile) (end : Loaded)
       (h : AreLinked files main reads all) → IsStop end
       → ends_so (judged h.classes main) more end → ⊥
   links_or_stops reads more all end h stop is =
@@ -154,16 +173,19 @@ module _ (files : Option Files) (before after : FolderCounts) (main inputs : Tex
   stops_so more end stop ends a (faulty e) = near.reads (ap status e)
   stops_so more end stop ends a (unlinked classes of reads other stops is stands) =
       same (stands ∙ ap (λ (l : Load). stop_status l.end) (sym is ∙ ends classes of))
-  stops_so more end stop ends a (no_inputs reads all h read) =
+  stops_so more end stop ends a (lacks_frames reads all h class number value u stands) =
       absurd (links_or_stops reads more all end h stop (ends h.classes h.of))
-  stops_so more end stop ends a (bad_line number e reads all h bad) =
+  stops_so more end stop ends a (no_inputs reads all h framed read) =
+      absurd (links_or_stops reads more all end h stop (ends h.classes h.of))
+  stops_so more end stop ends a (bad_line number e reads all h framed bad) =
       absurd (links_or_stops reads more all end h stop (ends h.classes h.of))
 
   -- ---- the file of the class is there
 
   -- the same class files come to the same, where the folder tells them
-  as_judged : (fs : Option Files) (bytes : Text) → IsThere fs LONGEST_CLASS (class_file main) bytes
-      → (one other : Classes) → AreOf fs one → AreOf fs other → judged one main ≡ judged other main
+  pub as_judged : (fs : Option Files) (bytes : Text)
+      → IsThere fs LONGEST_CLASS (class_file main) bytes → (one other : Classes) → AreOf fs one
+      → AreOf fs other → judged one main ≡ judged other main
   as_judged None bytes there one other x y = absurd there
   as_judged (Some m) bytes there one other x y =
       same_judged one other (λ name. x name ∙ sym (y name)) main
@@ -237,6 +259,24 @@ module _ (files : Option Files) (before after : FolderCounts) (main inputs : Tex
           };
     }
 
+    -- where all methods have frames the run is told
+    with_frames : (all : List ClassFile) → AreFramed all
+        → TellsRun files all main inputs steps result
+        → TellsFrames files all main inputs steps result
+    with_frames all framed told = record {
+      framed = λ again. told;
+      unframed =
+          λ class number value u. absurd (none_lacks all class number value framed u);
+    }
+
+    without_frames : (all : List ClassFile) (a : Answer) (class : Text) (number value : ℕ)
+        → IsUnframed all class number value → status a ≡ 12 → IsSaidBy result (status a)
+        → TellsFrames files all main inputs steps result
+    without_frames all a class number value u stands said = record {
+      framed = λ framed. absurd (none_lacks all class number value framed u);
+      unframed = λ other n v is. near_status 12 result a (same stands) said;
+    }
+
     -- the class files that are there come to what they were found to come to
     tells_so : (bytes : Text) → IsThere files LONGEST_CLASS (class_file main) bytes
         → (classes others : Classes) → AreOf files classes → AreOf files others
@@ -258,12 +298,16 @@ module _ (files : Option Files) (before after : FolderCounts) (main inputs : Tex
         tells_so bytes there classes others of are reads end is
         (stop_end files main inputs steps result end stop
         (near_status (stop_status end) result a (same stands) said))
-    instead_there a (no_inputs reads all h read) said bytes there classes of =
+    instead_there a (lacks_frames reads all h class number value u stands) said bytes there classes
+        of =
         tells_so bytes there classes h.classes of h.of reads (loaded.whole all) h.links
-        (lacks_inputs all a read said)
-    instead_there a (bad_line number e reads all h bad) said bytes there classes of =
+        (without_frames all a class number value u stands said)
+    instead_there a (no_inputs reads all h framed read) said bytes there classes of =
         tells_so bytes there classes h.classes of h.of reads (loaded.whole all) h.links
-        (has_bad_line all a number e bad said)
+        (with_frames all framed (lacks_inputs all a read said))
+    instead_there a (bad_line number e reads all h framed bad) said bytes there classes of =
+        tells_so bytes there classes h.classes of h.of reads (loaded.whole all) h.links
+        (with_frames all framed (has_bad_line all a number e bad said))
 
     -- where an answer stands in the place of the run
     pub tells_instead : (a : Answer) → Instead a → IsSaidBy result (status a)
@@ -290,5 +334,6 @@ module _ (files : Option Files) (before after : FolderCounts) (main inputs : Tex
           (ends_overlong h.linked.classes h.linked.of m));
       there = λ bytes at classes of.
           tells_so bytes at classes h.linked.classes of h.linked.of reads
-          (loaded.whole h.all) h.linked.links (ran_tells reads ran h said);
+          (loaded.whole h.all) h.linked.links
+          (with_frames h.all h.loaded.framed (ran_tells reads ran h said));
     }

@@ -1,21 +1,20 @@
 -- The status of a check and of a compilation is the one that the source asks for.
-use Rattle.std.proofs.Common.{◌≡◌, ℕ, Option, refl, sym, subst, inl, inr}
+use Rattle.std.proofs.Common.{◌≡◌, ℕ, List, Option, refl, sym, subst, inl, inr}
 use Rattle.std.specs.Prelude.{◌⊎◌}
 use Rattle.par_io.specs.Causes.{FolderCounts, Files}
-use Rattle.par_straight.specs.declared.program.Program.{Program}
+use Rattle.par_compile.specs.declared.compiled.CompiledClass.{CompiledClass}
 use Rattle.par_lexer.specs.declared.cut.TheConstants.{LONGEST_SOURCE}
 use Rattle.par_observer.specs.Judgements.{IsAcceptedSource}
-use Rattle.par_observer.specs.Straight.{HasPassed}
 use Rattle.par_observer.proofs.Clashes.{accepted_or_broken}
 use Rattle.par_tool.specs.declared.answer.Answer.{Answer}
 use Rattle.par_tool.specs.declared.answer.Answer.TheVariants.{Accepted, Compiled, Refused}
 use Rattle.par_tool.specs.declared.answer.Answer.TheVariants.{Absent, ReadFault, WriteFault}
-use Rattle.par_tool.specs.declared.answer.Answer.TheVariants.{TooLong, NotBuilt}
+use Rattle.par_tool.specs.declared.answer.Answer.TheVariants.{TooLong}
 use Rattle.par_tool.specs.Texts.{status}
 use Rattle.par_tool.specs.Outside.{Text, NotRead, IsThere, IsMissing, IsOverlong}
-use Rattle.par_tool.specs.Sources.{IsBroken, IsSecureSource, IsCompiledAs, IsNotBuilt, ReadSource}
-use Rattle.par_tool.specs.Sources.{ReadCompiled, Checked, CompiledSo}
-use Rattle.par_tool.specs.Exactly.{IsSaidBy, IsStatus, TellsSource, Checks, Compiles}
+use Rattle.par_tool.specs.Sources.{IsBroken, IsSecureAs, IsSecureSource, ReadSource, ReadCompiled}
+use Rattle.par_tool.specs.Sources.{Checked, CompiledSo}
+use Rattle.par_tool.specs.Exactly.{IsSaidBy, Judges, TellsSource, Checks, Compiles}
 use Rattle.par_tool.proofs.Statuses.{IsNear, same, near_status, compiles, read_there, missing_read}
 use Rattle.par_tool.proofs.Statuses.{overlong_read, missing_not_read, overlong_not_read}
 use Rattle.par_tool.proofs.Statuses.{there_not_read}
@@ -36,17 +35,12 @@ CheckVerdict source (Refused rule line column limit count) =
     IsBroken source rule line column limit count
 CheckVerdict source _ = ⊥
 
--- an accepted source that is compiled
-abbrev IsBuilt : Text → Type 0
-IsBuilt source = IsAcceptedSource source × HasPassed source
-
 -- what a compilation says of a source
 abbrev CompileVerdict : Text → Answer → Type 0
-CompileVerdict source (Compiled many) = IsBuilt source
-CompileVerdict source WriteFault = IsBuilt source
+CompileVerdict source (Compiled many) = IsAcceptedSource source
+CompileVerdict source WriteFault = IsAcceptedSource source
 CompileVerdict source (Refused rule line column limit count) =
     IsBroken source rule line column limit count
-CompileVerdict source NotBuilt = IsNotBuilt source
 CompileVerdict source _ = ⊥
 
 -- no read failed that this answer would tell of
@@ -75,34 +69,22 @@ check_refuses source Accepted v rule line column limit count h =
 check_refuses source (Refused r l c k n) v rule line column limit count h = same refl
 check_refuses source _ v rule line column limit count h = absurd v
 
-compile_builds : (source : Text) (a : Answer) → CompileVerdict source a
-    → IsAcceptedSource source → HasPassed source → IsNear 0 a ⊎ (a ≡ WriteFault)
-compile_builds source (Compiled many) v h passed = inl (same refl)
-compile_builds source WriteFault v h passed = inr refl
-compile_builds source (Refused rule line column limit count) v h passed =
+compile_accepts : (source : Text) (a : Answer) → CompileVerdict source a
+    → IsAcceptedSource source → IsNear 0 a ⊎ (a ≡ WriteFault)
+compile_accepts source (Compiled many) v h = inl (same refl)
+compile_accepts source WriteFault v h = inr refl
+compile_accepts source (Refused rule line column limit count) v h =
     absurd (clash source rule line column limit count h v)
-compile_builds source NotBuilt v h passed = absurd (v.other passed)
-compile_builds source _ v h passed = absurd v
-
-compile_leaves : (source : Text) (a : Answer) → CompileVerdict source a
-    → IsAcceptedSource source → (HasPassed source → ⊥) → IsNear 9 a
-compile_leaves source (Compiled many) v h other = absurd (other v.1)
-compile_leaves source WriteFault v h other = absurd (other v.1)
-compile_leaves source (Refused rule line column limit count) v h other =
-    absurd (clash source rule line column limit count h v)
-compile_leaves source NotBuilt v h other = same refl
-compile_leaves source _ v h other = absurd v
+compile_accepts source _ v h = absurd v
 
 compile_refuses : (source : Text) (a : Answer) → CompileVerdict source a
     → (rule line column limit count : ℕ) → IsBroken source rule line column limit count
     → IsNear 1 a
 compile_refuses source (Compiled many) v rule line column limit count h =
-    absurd (clash source rule line column limit count v.0 h)
+    absurd (clash source rule line column limit count v h)
 compile_refuses source WriteFault v rule line column limit count h =
-    absurd (clash source rule line column limit count v.0 h)
+    absurd (clash source rule line column limit count v h)
 compile_refuses source (Refused r l c k n) v rule line column limit count h = same refl
-compile_refuses source NotBuilt v rule line column limit count h =
-    absurd (clash source rule line column limit count (secure_is_accepted source v.accepted) h)
 compile_refuses source _ v rule line column limit count h = absurd v
 
 -- ---- files that the folder tells of
@@ -115,19 +97,19 @@ module _ (V : Text → Answer → Type 0) (files : Option Files) (before after :
       (ReadSource files file (λ source. V source a))
       ⊎ NotRead files before after LONGEST_SOURCE file a
 
-  missing_near : IsMissing files file → (a : Answer) → Found a → IsNear 3 a
+  pub missing_near : IsMissing files file → (a : Answer) → Found a → IsNear 3 a
   missing_near missing a (inl h) =
       absurd (missing_read files LONGEST_SOURCE file h.0 missing h.1)
   missing_near missing a (inr h) =
       missing_not_read files before after LONGEST_SOURCE file missing a h
 
-  overlong_near : IsOverlong files LONGEST_SOURCE file → (a : Answer) → Found a → IsNear 8 a
+  pub overlong_near : IsOverlong files LONGEST_SOURCE file → (a : Answer) → Found a → IsNear 8 a
   overlong_near long a (inl h) = absurd (overlong_read files LONGEST_SOURCE file h.0 long h.1)
   overlong_near long a (inr h) =
       overlong_not_read files before after LONGEST_SOURCE file long a h
 
   -- of a source that is there: its verdict, or a read that failed
-  there_found : (source : Text) → IsThere files LONGEST_SOURCE file source → (a : Answer)
+  pub there_found : (source : Text) → IsThere files LONGEST_SOURCE file source → (a : Answer)
       → Found a → V source a ⊎ IsAnyhow a
   there_found source there a (inl h) =
       let is : h.0 ≡ source = sym (read_there files LONGEST_SOURCE file source h.0 there h.1) in
@@ -146,7 +128,7 @@ module _ (V : Text → Answer → Type 0) (files : Option Files) (before after :
       → Accepts source result)
       → ((source : Text) → V source a → (rule line column limit count : ℕ)
       → IsBroken source rule line column limit count → IsNear 1 a)
-      → IsSaidBy result (status a) → TellsSource Accepts files file result
+      → IsSaidBy result (status a) → TellsSource (Judges Accepts) files file result
   tells_source Accepts result a found accepts refuses said = record {
     missing = λ h. near_status 3 result a (missing_near h a found) said;
     overlong = λ h. near_status 8 result a (overlong_near h a found) said;
@@ -169,22 +151,21 @@ module _ (files : Option Files) (before after : FolderCounts) (file : Text) wher
   checked_found TooLong h = inr h
   checked_found _ h = absurd h
 
-  read_built : (P : Program → Type 0) → ReadCompiled files file P
-      → ReadSource files file IsBuilt
-  read_built P h =
-      let is : IsCompiledAs h.2.0 h.0 = h.2.2 in (
-        h.2.0,
-        h.2.1,
-        (secure_is_accepted h.2.0 is.accepted, (h.0, is.passed.has, is.passed.accepted)),
-      )
+  read_accepted : (P : List CompiledClass → Type 0) → ReadCompiled files file P
+      → ReadSource files file IsAcceptedSource
+  read_accepted P h =
+      let at = h.4 in (at.0, at.1, secure_is_accepted at.0 (h.0, at.2))
 
   compiled_found : (later : Option Files) (a : Answer)
       → CompiledSo files later before after file a
       → Found CompileVerdict files before after file a
-  compiled_found later (Compiled many) h = inl (read_built _ h.2)
-  compiled_found later WriteFault h = inl (read_built _ h.2)
+  compiled_found later (Compiled many) h =
+      let done = h.1 in
+      let is : IsSecureAs done.source done.typed =
+      record { accepted = done.accepted; secure = done.secure } in
+      inl (done.source, done.read, secure_is_accepted done.source (done.typed, is))
+  compiled_found later WriteFault h = inl (read_accepted _ h.3)
   compiled_found later (Refused rule line column limit count) h = inl h.2
-  compiled_found later NotBuilt h = inl h.2
   compiled_found later Absent h = inr h.2
   compiled_found later ReadFault h = inr h.2
   compiled_found later TooLong h = inr h.2
@@ -198,32 +179,21 @@ module _ (files : Option Files) (before after : FolderCounts) (file : Text) wher
       (λ v. check_accepts source a v h) v) said
 
   pub tells_check : (result : ℕ) (a : Answer) → Checked files before after file a
-      → IsSaidBy result (status a) → TellsSource Checks files file result
+      → IsSaidBy result (status a) → TellsSource (Judges Checks) files file result
   tells_check result a h said =
       tells_source CheckVerdict files before after file Checks result a (checked_found a h)
       (check_accepted result a said) (λ source. check_refuses source a) said
 
-  built : (result : ℕ) (a : Answer) → IsSaidBy result (status a) → (source : Text)
-      → CompileVerdict source a ⊎ IsAnyhow a → IsAcceptedSource source → HasPassed source
-      → IsStatus result 0 ⊎ (result ≡ 5)
-  built result a said source (inl v) h passed =
-      compiles result a said (compile_builds source a v h passed)
-  built result a said source (inr reads) h passed = compiles result a said (inl (reads 0))
-
   compile_accepted : (result : ℕ) (a : Answer) → IsSaidBy result (status a) → (source : Text)
       → CompileVerdict source a ⊎ IsAnyhow a → IsAcceptedSource source
       → Compiles source result
-  compile_accepted result a said source v h = record {
-    compiled = λ passed. built result a said source v h passed;
-    not_built = λ other.
-        near_status 9 result a
-        (near_there CompileVerdict files before after file 9 source a
-        (λ v. compile_leaves source a v h other) v) said;
-  }
+  compile_accepted result a said source (inl v) h =
+      compiles result a said (compile_accepts source a v h)
+  compile_accepted result a said source (inr reads) h = compiles result a said (inl (reads 0))
 
   pub tells_compile : (later : Option Files) (result : ℕ) (a : Answer)
       → CompiledSo files later before after file a → IsSaidBy result (status a)
-      → TellsSource Compiles files file result
+      → TellsSource (Judges Compiles) files file result
   tells_compile later result a h said =
       tells_source CompileVerdict files before after file Compiles result a
       (compiled_found later a h) (compile_accepted result a said)

@@ -22,7 +22,7 @@ use Rattle.par_tool.specs.Outside.{Text, NotRead, IsThere, IsMissing, IsOverlong
 use Rattle.par_tool.specs.Sources.{IsBroken}
 use Rattle.par_tool.specs.Given.{IsBad, HasBadLine}
 use Rattle.par_tool.specs.Traces.{IsSourceIn, IsTraceOf, Untraced, misfits, source_run}
-use Rattle.par_tool.specs.Exactly.{IsSaidBy, TellsSource, Traces}
+use Rattle.par_tool.specs.Exactly.{IsSaidBy, Judges, TellsSource, Traces}
 use Rattle.par_tool.proofs.Inputs.{right_or_bad}
 use Rattle.par_tool.proofs.ExactSources.{IsAnyhow, clash, Found, near_there, tells_source}
 use Rattle.par_tool.proofs.Statuses.{IsNear, same, near_status, same_status, read_there}
@@ -128,7 +128,7 @@ module _ (files : Option Files) (before after : FolderCounts) (file inputs : Tex
 
   -- where an answer stands in the place of the run
   pub tells_untraced : (bound result : ℕ) (a : Answer) → Untraced files before after file inputs a
-      → IsSaidBy result (status a) → TellsSource (Traces files inputs bound) files file result
+      → IsSaidBy result (status a) → TellsSource (Judges (Traces files inputs bound)) files file result
   tells_untraced bound result a h said =
       tells_source Verdict files before after file (Traces files inputs bound) result a
       (untraced_found a h) (accepts bound result a said) (λ source. refuses source a) said
@@ -173,7 +173,7 @@ module _ (files : Option Files) (file inputs : Text) (bound : ℕ) (tree : Sourc
 
   -- where the run is told
   pub tells_traced : (result : ℕ) → IsSaidBy result (told.status (Fine run.ending))
-      → TellsSource (Traces files inputs bound) files file result
+      → TellsSource (Judges (Traces files inputs bound)) files file result
   tells_traced result said = record {
     missing = λ m. absurd (missing_read files LONGEST_SOURCE file h.source.source m h.source.read);
     overlong =

@@ -6,12 +6,19 @@ pub mod Linked
 pub mod Inputs
 pub mod ExactSources
 pub mod ExactTraces
+pub mod ExactSamples
 pub mod ExactAudits
+pub mod ExactInferences
+pub mod ExactVerifications
+pub mod Verifying
+pub mod Safe
 pub mod Lined
 pub mod Audited
+pub mod Inferred
 pub mod ExactRuns
 pub mod Exact
 pub mod Compiling
+pub mod Counted
 pub mod Refusals
 pub mod Traced
 pub mod Calls
@@ -19,3 +26,5 @@ pub mod Few
 pub mod Saying
 pub mod Faults
 pub mod Spending
+pub mod Within
+pub mod WrittenFiles

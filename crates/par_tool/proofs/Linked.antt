@@ -1,6 +1,6 @@
 -- Class files that are linked are run.
-use Rattle.std.proofs.Common.{◌≡◌, ℕ, suc, ◌+◌, List, Option, Some, Ok, slice_get, sym, ap, subst}
-use Rattle.std.proofs.Common.{◌∙◌, arith}
+use Rattle.std.proofs.Common.{◌≡◌, ℕ, suc, ◌+◌, List, Option, Some, Ok, Err, slice_get, sym, ap}
+use Rattle.std.proofs.Common.{subst, ◌∙◌, arith, inl, inr}
 use Rattle.par_io.specs.Causes.{FolderCounts, Makes, NoneFalls, Files}
 use Rattle.par_values.specs.declared.inputs.Inputs.{Inputs}
 use Rattle.par_class.specs.declared.file.ClassFile.{ClassFile}
@@ -9,38 +9,66 @@ use Rattle.par_link.specs.Inputs.{first_misfit}
 use Rattle.par_steps.specs.State.{start}
 use Rattle.par_machine.specs.declared.machine.Machine.{Machine}
 use Rattle.par_machine.specs.Machine.{files_of, state_of, steps_of}
+use Rattle.par_loader.specs.declared.error.Unloaded.{Unloaded}
 use Rattle.par_loader.specs.Ends.{Judges}
 use Rattle.par_loader.proofs.Counting.{makes_both, none_falls}
 use Rattle.par_tool.specs.declared.reading.Failure.{Failure}
-use Rattle.par_tool.specs.Failures.{IsFailure}
+use Rattle.par_framed_program.specs.Framed.{AreFramed, Framed}
+use Rattle.par_tool.specs.Failures.{IsFailure, failure_of}
 use Rattle.par_tool.specs.Given.{AreInputs, IsUngiven}
-use Rattle.par_tool.specs.Outside.{Text, MakesAtMost}
-use Rattle.par_tool.specs.Classes.{AreLinked, AreLoaded, NotRun, Starts}
+use Rattle.par_tool.specs.Outside.{Text}
+use Rattle.par_tool.specs.Classes.{AreLinked, AreLoaded, NotRun, LacksMemory, Starts}
 use Rattle.par_tool.proofs.Beginning.{first_number}
-use Rattle.par_tool.proofs.Loads.{all_reads, inputs_fail}
+use Rattle.par_tool.proofs.Loads.{linked_reads, frames_fail, inputs_fail}
 
-module _ (files : Option Files) (main name : Text) (first before between after : FolderCounts)
+-- class files that are linked
+module _ (files : Option Files) (main name : Text) (first before between : FolderCounts)
     (all : List ClassFile) (behind : Makes 1 0 first before)
-    (h : Judges files main before between (Ok all)) (makes : Makes 1 0 between after) where
+    (h : Judges files main before between (Ok all)) where
   links_all : AreLinked files main (suc h.2.0) all
   links_all = record { classes = h.0; of = h.1; links = h.2.2 }
 
+  makes_linked : Makes (suc h.2.0) 0 first between
+  makes_linked =
+      let e : h.2.0 + 1 ≡ suc h.2.0 = omega arith in
+      subst (λ (n : ℕ). Makes n 0 first between) e
+      (makes_both 1 h.2.0 first before between behind h.2.1)
+
+  -- a method has no frames
+  pub unframed : (e : Unloaded) → Framed {A = Unit {0}} (λ _. AreFramed all) all (Err e)
+      → IsFailure (NotRun files first between main name) (failure_of e)
+  unframed e why =
+      frames_fail files main name first between (suc h.2.0) all makes_linked links_all e why
+
+  -- memory is wanting for what is told of a method without frames
+  pub looked_wants : LacksMemory files first between main name
+  looked_wants =
+      inl (h.0, h.1, linked_reads h.0 main (suc h.2.0) all h.2.2 first between makes_linked)
+
+-- behind which the input file was asked for
+module _ (files : Option Files) (main name : Text) (first before between after : FolderCounts)
+    (all : List ClassFile) (behind : Makes 1 0 first before)
+    (h : Judges files main before between (Ok all)) (makes : Makes 1 0 between after) where
+  linked_so : AreLinked files main (suc h.2.0) all
+  linked_so = links_all files main name first before between all behind h
+
   makes_all : Makes (suc (suc h.2.0)) 0 first after
   makes_all =
-      let e : 1 + (h.2.0 + 1) ≡ suc (suc h.2.0) = omega arith in
+      let e : 1 + suc h.2.0 ≡ suc (suc h.2.0) = omega arith in
       subst (λ (n : ℕ). Makes n 0 first after) e
-      (makes_both (h.2.0 + 1) 1 first between after
-      (makes_both 1 h.2.0 first before between behind h.2.1) makes)
+      (makes_both (suc h.2.0) 1 first between after
+      (makes_linked files main name first before between all behind h) makes)
 
-  pub fails : NoneFalls first before → NoneFalls before between → (failure : Failure)
+  pub fails : NoneFalls first before → NoneFalls before between → AreFramed all
+      → (failure : Failure)
       → IsFailure (IsUngiven (first_misfit all) files between after name) failure
       → IsFailure (NotRun files first after main name) failure
-  fails fell falls failure unfit =
+  fails fell falls framed failure unfit =
       inputs_fail files main name first between after (suc h.2.0) all makes_all
-      (none_falls first before between fell falls) links_all failure unfit
+      (none_falls first before between fell falls) linked_so framed failure unfit
 
-  pub wants : MakesAtMost 130 0 first after
-  wants = all_reads files main (suc h.2.0) all links_all first after makes_all
+  pub wants : AreFramed all → LacksMemory files first after main name
+  wants framed = inr (suc h.2.0, makes_all, (all, linked_so, framed, tt))
 
   pub starts : (f : ClassFile) → slice_get all 0 ≡ Some f → own_name f ≡ main
       → AreLoaded files main all → (m : Machine) (lists : Inputs)
@@ -52,7 +80,7 @@ module _ (files : Option Files) (main name : Text) (first before between after :
     record {
       all = all;
       lists = lists;
-      linked = links_all;
+      linked = linked_so;
       loaded = loaded;
       given = given;
       runs = same;

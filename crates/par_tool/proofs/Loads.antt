@@ -9,15 +9,17 @@ use Rattle.par_link.specs.Inputs.{first_misfit}
 use Rattle.par_loader.specs.declared.error.Unloaded.{Unloaded}
 use Rattle.par_loader.specs.declared.error.Unloaded.TheVariants as un
 use Rattle.par_loader.specs.Reads as reads
-use Rattle.par_loader.specs.Reads.{Classes, AreOf, WasFound}
+use Rattle.par_loader.specs.Reads.{Classes, WasFound}
 use Rattle.par_loader.specs.Mentions.{Naming, next_named}
 use Rattle.par_loader.specs.Loaded.{Loaded, whole, missing, overlong, refused, absent, Load, Step}
 use Rattle.par_loader.specs.Loaded.{goes_on, ends, step, main_step, after, with_next, further}
-use Rattle.par_loader.specs.Loaded.{loaded}
+use Rattle.par_loader.specs.Loaded.{asked, behind_first, loaded}
 use Rattle.par_loader.specs.Judged.{linked, judged}
-use Rattle.par_loader.specs.Ends.{Unended, Judges, FaultsStand}
-use Rattle.par_loader.proofs.Counting.{rose_since, makes_both, most_both}
-use Rattle.par_loader.proofs.Ended.{IsStop}
+use Rattle.par_loader.specs.Ends.{Unended, Judges, FaultsStand, comes_to}
+use Rattle.par_loader.specs.Found.{found_in}
+use Rattle.par_loader.proofs.Asked.{asks_first, some_asked}
+use Rattle.par_loader.proofs.Counting.{rose_since, makes_both, at_most, most_both, fails_both}
+use Rattle.par_loader.proofs.Ended.{IsStop, weaker, longer}
 use Rattle.par_loader.proofs.Seen.{seen, seen_of, put, put_of, put_here}
 use Rattle.par_tool.specs.declared.answer.Answer.TheVariants.{Absent, ReadFault, TooLong, BadInputs}
 use Rattle.par_tool.specs.declared.reading.Failure.{Failure}
@@ -25,8 +27,9 @@ use Rattle.par_tool.specs.declared.reading.Failure.TheVariants.{Answered, Memory
 use Rattle.par_tool.specs.Failures.{IsFailure, ToldIn, failure_of}
 use Rattle.par_tool.specs.Outside.{Text, MakesAtMost}
 use Rattle.par_tool.specs.Given.{IsUngiven}
-use Rattle.par_tool.specs.Classes.{ends_so, AreLinked, NotRun}
-use Rattle.par_tool.proofs.Beginning.{few_linked}
+use Rattle.par_framed_program.specs.Framed.{AreFramed, Framed}
+use Rattle.par_tool.specs.Classes.{ends_so, AreLinked, IsUnlinked, NotRun, LacksMemory}
+use Rattle.par_tool.proofs.Beginning.{few_judged, few_linked}
 
 abbrev pub judging : Text → Load → Load
 judging main load = record { reads = load.reads; end = linked main load.end }
@@ -96,133 +99,154 @@ few_reads most all before after less few =
       makes = few.makes;
     }
 
-one_more : (many : ℕ) (before between after : FolderCounts) → Makes 1 0 before between
+pub one_more : (many : ℕ) (before between after : FolderCounts) → Makes 1 0 before between
     → Makes many 0 between after → Makes (suc many) 0 before after
 one_more many before between after first rest =
     let e : many + 1 ≡ suc many = omega arith in
     subst (λ (n : ℕ). Makes n 0 before after) e (makes_both 1 many before between after first rest)
 
-pub one_read_more : (most all : ℕ) (before between after : FolderCounts) → 1 + most ≤ all
-    → Makes 1 0 before between → reads.MakesAtMost most 0 between after
-    → MakesAtMost all 0 before after
-one_read_more most all before between after less first few =
-    few_reads all all before after (omega arith)
-    (most_both 1 most all before between after less first few)
+-- one read, and those behind the first
+pub behind_one : (load : Load) → 1 ≤ load.reads → 1 + behind_first load ≤ load.reads
+behind_one load some = omega (arith, some)
 
-pub all_reads : (files : Option Files) (main : Text) (reads : ℕ) (all : List ClassFile)
-    → AreLinked files main reads all
-    → (before after : FolderCounts) → Makes (suc reads) 0 before after
-    → MakesAtMost 130 0 before after
-all_reads files main reads all linked before after makes =
-    let few = few_linked files main reads all linked in
+-- as many reads as linked files ask for
+pub linked_reads : (classes : Classes) (main : Text) (many : ℕ) (all : List ClassFile)
+    → ends_so (judged classes main) many (whole all) → (before after : FolderCounts)
+    → Makes many 0 before after → reads.MakesAtMost (judged classes main).reads 0 before after
+linked_reads classes main many all links before after makes =
+    let same : (judged classes main).reads ≡ many = ap (λ (l : Load). l.reads) links in
+    at_most many (judged classes main).reads before after (omega (arith, same)) makes
+
+-- at most 129 class files are asked for
+pub few_classes : (files : Option Files) (main : Text) (most : ℕ) (before after : FolderCounts)
+    → 129 ≤ most → IsUnlinked files before after main un.Memory → MakesAtMost most 0 before after
+few_classes files main most before after less h =
+    let few = few_judged h.0 main in
+    few_reads (judged h.0 main).reads most before after (omega (arith, less, few)) h.2
+
+-- and to run them one file more
+pub few_to_run : (files : Option Files) (before after : FolderCounts) (main inputs : Text)
+    → LacksMemory files before after main inputs → MakesAtMost 130 0 before after
+few_to_run files before after main inputs (inl h) =
+    few_classes files main 130 before after (omega arith) h
+few_to_run files before after main inputs (inr (many, makes, (all, links, framed, none))) =
+    let few = few_linked files main many all links in
     record {
-      read = suc reads;
+      read = suc many;
       written = 0;
       few_reads = omega (arith, few);
       few_writes = omega arith;
       makes = makes;
     }
 
+-- ---- why class files are not linked
+
+-- an end that is told behind the first file is one of all files
+module _ (load : Load) (some : 1 ≤ load.reads) (before between after : FolderCounts)
+    (first : Makes 1 0 before between) (falls : NoneFalls before between) where
+  pub behind : (e : Unloaded) → Unended (comes_to load) (behind_first load) between after e
+      → Unended (ends_so load) load.reads before after e
+  behind un.Absent h = (
+    suc h.0,
+    one_more h.0 before between after first h.1,
+    (h.2.0, rose_since _ _ _ falls.1 h.2.1),
+  )
+  behind un.TooLong h = (
+    suc h.0,
+    one_more h.0 before between after first h.1,
+    (h.2.0, rose_since _ _ _ falls.2 h.2.1),
+  )
+  behind un.Failed h =
+      fails_both 1 (behind_first load) load.reads before between after (behind_one load some)
+      first falls h
+  behind (un.BadClass c n v) (reads, makes, inl is) =
+      (suc reads, one_more reads before between after first makes, inl is)
+  behind (un.BadClass c n v) (reads, makes, inr is) = (
+    suc reads,
+    one_more reads before between after first makes,
+    inr (is.0, is.1, rose_since _ _ _ falls.1 is.2),
+  )
+  behind un.Memory h =
+      most_both 1 (behind_first load) load.reads before between after (behind_one load some) first h
+
+module _ (files : Option Files) (main : Text) where
+  -- the first file is not had
+  pub main_unlinked : (before after : FolderCounts) (found : Option Text)
+      → WasFound files main found → (e : Unloaded)
+      → Unended (λ reads end. main_step main found ≡ ends reads end)
+      (asked (main_step main found)) before after e
+      → IsUnlinked files before after main e
+  main_unlinked before after found was e h =
+      let classes : Classes = put (seen files) main found in
+      let one = asks_first main (found_in main found) in
+      let some = some_asked classes main in (
+        classes,
+        put_of files (seen files) main found (seen_of files) was,
+        longer (ends_so (judged classes main)) (asked (main_step main found))
+            (judged classes main).reads before after (omega (arith, one, some)) e
+            (weaker (λ reads end. main_step main found ≡ ends reads end)
+            (ends_so (judged classes main)) (asked (main_step main found)) before after
+            (stops_first classes main found (put_here (seen files) main found)) e h),
+      )
+
+  -- the others are not had, or do not link
+  pub rest_unlinked : (before between after : FolderCounts) → Makes 1 0 before between
+      → NoneFalls before between → (e : Unloaded) → Judges files main between after (Err e)
+      → IsUnlinked files before after main e
+  rest_unlinked before between after first falls e h = (
+    h.0,
+    h.1,
+    behind (judged h.0 main) (some_asked h.0 main) before between after first falls e h.2,
+  )
+
+  pub unlinked_wants : (before after : FolderCounts) (e : Unloaded)
+      → IsUnlinked files before after main e → failure_of e ≡ Memory
+      → IsUnlinked files before after main un.Memory
+  unlinked_wants before after un.Memory h is = h
+  unlinked_wants before after un.Absent h is = absurd (cc is)
+  unlinked_wants before after un.TooLong h is = absurd (cc is)
+  unlinked_wants before after un.Failed h is = absurd (cc is)
+  unlinked_wants before after (un.BadClass c n v) h is = absurd (cc is)
+
 -- ---- why no run begins
 
 module _ (files : Option Files) (main inputs : Text) where
-  pub main_fails : (before after : FolderCounts) (found : Option Text) → WasFound files main found
-      → (e : Unloaded) → Unended (λ reads end. main_step main found ≡ ends reads end) 1
-      before after e
+  pub unlinked_fails : (before after : FolderCounts) (e : Unloaded)
+      → IsUnlinked files before after main e
       → IsFailure (NotRun files before after main inputs) (failure_of e)
-  main_fails before after found was e h = in_case e h
-    where
-      classes : Classes
-      classes = put (seen files) main found
+  unlinked_fails before after un.Absent h = inl h
+  unlinked_fails before after un.TooLong h = inl h
+  unlinked_fails before after un.Failed h = inl h
+  unlinked_fails before after (un.BadClass c n v) h = inl h
+  unlinked_fails before after un.Memory h = tt
 
-      of : AreOf files classes
-      of = put_of files (seen files) main found (seen_of files) was
-
-      to : (reads : ℕ) (end : Loaded) → IsStop end → main_step main found ≡ ends reads end
-          → ends_so (judged classes main) reads end
-      to = stops_first classes main found (put_here (seen files) main found)
-
-      in_case : (e : Unloaded) → Unended (λ reads end. main_step main found ≡ ends reads end) 1
-          before after e → IsFailure (NotRun files before after main inputs) (failure_of e)
-      in_case un.Absent h = inl (classes, of, (h.0, h.1, (to h.0 missing tt h.2.0, h.2.1)))
-      in_case un.TooLong h = inl (classes, of, (h.0, h.1, (to h.0 overlong tt h.2.0, h.2.1)))
-      in_case un.Failed h = (few_reads 1 130 before after (omega arith) h.0, h.1)
-      in_case (un.BadClass c n v) (reads, makes, inl is) =
-          (classes, of, (reads, makes, inl (to reads (refused c n v) tt is)))
-      in_case (un.BadClass c n v) (reads, makes, inr is) =
-          (classes, of, (reads, makes, inr (to reads (absent c v) tt is.0, is.1, is.2)))
-      in_case un.Memory h = tt
-
-  pub program_fails : (before between after : FolderCounts) → Makes 1 0 before between
-      → NoneFalls before between
-      → (e : Unloaded) → Judges files main between after (Err e)
+  -- a method has no frames
+  pub frames_fail : (before after : FolderCounts) (reads : ℕ) (all : List ClassFile)
+      → Makes reads 0 before after → AreLinked files main reads all → (e : Unloaded)
+      → Framed {A = Unit {0}} (λ _. AreFramed all) all (Err e)
       → IsFailure (NotRun files before after main inputs) (failure_of e)
-  program_fails before between after first falls un.Absent h =
-      inl (
-        h.0,
-        h.1,
-        (
-          suc h.2.0,
-          one_more h.2.0 before between after first h.2.1,
-          (h.2.2.0, rose_since _ _ _ falls.1 h.2.2.1),
-        ),
-      )
-  program_fails before between after first falls un.TooLong h =
-      inl (
-        h.0,
-        h.1,
-        (
-          suc h.2.0,
-          one_more h.2.0 before between after first h.2.1,
-          (h.2.2.0, rose_since _ _ _ falls.2 h.2.2.1),
-        ),
-      )
-  program_fails before between after first falls un.Failed h = (
-    one_read_more 128 130 before between after (omega arith) first h.2.0,
-    rose_since _ _ _ falls.0 h.2.1,
-  )
-  program_fails before between after first falls (un.BadClass c n v)
-      (classes, of, (reads, makes, inl is)) =
-      (classes, of, (suc reads, one_more reads before between after first makes, inl is))
-  program_fails before between after first falls (un.BadClass c n v)
-      (classes, of, (reads, makes, inr is)) = (
-        classes,
-        of,
-        (
-          suc reads,
-          one_more reads before between after first makes,
-          inr (is.0, is.1, rose_since _ _ _ falls.1 is.2),
-        ),
-      )
-  program_fails before between after first falls un.Memory h = tt
+  frames_fail before after reads all makes linked un.Absent h = absurd h
+  frames_fail before after reads all makes linked un.TooLong h = absurd h
+  frames_fail before after reads all makes linked un.Failed h = absurd h
+  frames_fail before after reads all makes linked (un.BadClass c n v) h =
+      inr (reads, makes, (all, linked, h))
+  frames_fail before after reads all makes linked un.Memory h = tt
 
   pub inputs_fail : (before mid after : FolderCounts) (reads : ℕ) (all : List ClassFile)
       → Makes (suc reads) 0 before after → NoneFalls before mid → AreLinked files main reads all
+      → AreFramed all
       → (failure : Failure) → IsFailure (IsUngiven (first_misfit all) files mid after inputs)
       failure → IsFailure (NotRun files before after main inputs) failure
-  inputs_fail before mid after reads all makes falls linked (Answered Absent) h =
-      inr (reads, makes, (all, linked, (rose_since _ _ _ falls.1 h.0, h.1)))
-  inputs_fail before mid after reads all makes falls linked (Answered TooLong) h =
-      inr (reads, makes, (all, linked, (rose_since _ _ _ falls.2 h.0, h.1)))
-  inputs_fail before mid after reads all makes falls linked (Answered ReadFault) h =
-      (all_reads files main reads all linked before after makes, rose_since _ _ _ falls.0 h)
-  inputs_fail before mid after reads all makes falls linked (Answered (BadInputs number)) h =
-      (reads, makes, (all, linked, h))
-  inputs_fail before mid after reads all makes falls linked (Answered _) h = absurd h
-  inputs_fail before mid after reads all makes falls linked Memory h = tt
-
--- ---- where memory is wanting
-
-pub program_wants : (files : Option Files) (main : Text) (before between after : FolderCounts)
-    → Makes 1 0 before between
-    → (e : Unloaded) → Judges files main between after (Err e) → failure_of e ≡ Memory
-    → MakesAtMost 130 0 before after
-program_wants files main before between after first un.Memory h is =
-    one_read_more 128 130 before between after (omega arith) first h.2
-program_wants files main before between after first un.Absent h is = absurd (cc is)
-program_wants files main before between after first un.TooLong h is = absurd (cc is)
-program_wants files main before between after first un.Failed h is = absurd (cc is)
-program_wants files main before between after first (un.BadClass c n v) h is = absurd (cc is)
+  inputs_fail before mid after reads all makes falls linked framed (Answered Absent) h =
+      inr (reads, makes, (all, linked, framed, (rose_since _ _ _ falls.1 h.0, h.1)))
+  inputs_fail before mid after reads all makes falls linked framed (Answered TooLong) h =
+      inr (reads, makes, (all, linked, framed, (rose_since _ _ _ falls.2 h.0, h.1)))
+  inputs_fail before mid after reads all makes falls linked framed (Answered ReadFault) h =
+      inr (reads, makes, (all, linked, framed, rose_since _ _ _ falls.0 h))
+  inputs_fail before mid after reads all makes falls linked framed (Answered (BadInputs number))
+      h = (reads, makes, (all, linked, framed, h))
+  inputs_fail before mid after reads all makes falls linked framed (Answered _) h = absurd h
+  inputs_fail before mid after reads all makes falls linked framed Memory h = tt
 
 -- ---- faults are told
 

@@ -1,8 +1,9 @@
 -- A source that was read and accepted, and its run.
-use Rattle.std.proofs.Common.{◌≡◌, ℕ, List, Option, sym, ap, subst, ◌∙◌}
+use Rattle.std.proofs.Common.{◌≡◌, ℕ, List, Option, sym, ap, subst, ◌∙◌, inr}
 use Rattle.std.specs.Prelude.{map}
 use Rattle.std.proofs.lemmas.List.{append-nil}
-use Rattle.par_io.specs.Causes.{Files}
+use Rattle.par_io.specs.Causes.{FolderCounts, Makes, Files}
+use Rattle.par_lexer.specs.declared.cut.TheConstants.{LONGEST_SOURCE}
 use Rattle.par_typed.specs.declared.table.Table.{Table}
 use Rattle.par_typed.specs.Plain.{Body}
 use Rattle.par_typed.specs.Shown.{bodies}
@@ -18,10 +19,10 @@ use Rattle.par_meaning.specs.Whole.{as_run}
 use Rattle.par_meaning.specs.declared.run.SourceRun.{SourceRun}
 use Rattle.par_trace.specs.Channels.{first_misfit}
 use Rattle.par_trace.specs.Texts as told
-use Rattle.par_tool.specs.Outside.{Text}
+use Rattle.par_tool.specs.Outside.{Text, WasRead}
 use Rattle.par_tool.specs.Sources.{ReadSource, IsSecureAs}
 use Rattle.par_tool.specs.Given.{AreInputs}
-use Rattle.par_tool.specs.Traces.{IsTraced, source_run}
+use Rattle.par_tool.specs.Traces.{IsSourceIn, IsTraced, LacksMemory, source_run}
 
 -- the run of a program is that of its tree
 of_tree : (typed : Typed) (tree : Source) (lists : Inputs) (bound : ℕ)
@@ -38,6 +39,28 @@ as_told run =
     ap (λ (es : List Witnessed). let r : Run = record { events = es; ending = run.ending } in r)
     (sym (append-nil (map witnessed run.events)))
 
+-- the source in a file, by its tree
+source_in : (files : Option Files) (file source : Text) (typed : Typed)
+    → WasRead files LONGEST_SOURCE file source → (h : IsSecureAs source typed)
+    → IsSourceIn files file h.accepted.tree
+source_in files file source typed read h = record {
+  source = source;
+  read = read;
+  is_tree = h.accepted.is_tree;
+  accepted = h.accepted.keeps.0;
+  typed = typed;
+  program = h.accepted.keeps.1;
+  secure = h.secure;
+}
+
+-- memory is wanting behind it
+pub source_stands : (files : Option Files) (before after : FolderCounts) (file inputs : Text)
+    (typed : Typed) → ReadSource files file (λ source. IsSecureAs source typed)
+    → Makes 2 0 before after → LacksMemory files before after file inputs
+source_stands files before after file inputs typed read makes =
+    let h : IsSecureAs read.0 typed = read.2 in
+    inr (makes, (h.accepted.tree, source_in files file read.0 typed read.1 h, tt))
+
 pub traced : (files : Option Files) (file name : Text) (bound n : ℕ) (typed : Typed)
     (run : SourceRun) (lists : Inputs) → n ≡ bound
     → ReadSource files file (λ source. IsSecureAs source typed)
@@ -52,15 +75,7 @@ traced files file name bound n typed run lists same read given is =
       tree = own.tree;
       table_is = table_is;
       is_trace = record {
-        source = record {
-          source = read.0;
-          read = read.1;
-          is_tree = own.is_tree;
-          accepted = own.keeps.0;
-          typed = typed;
-          program = own.keeps.1;
-          secure = is_secure.secure;
-        };
+        source = source_in files file read.0 typed read.1 is_secure;
         lists = lists;
         given = subst (λ (t : Table). AreInputs (first_misfit t) files name lists) table_is given;
         is_run =

@@ -6,22 +6,29 @@ use Rattle.par_io.specs.Causes.{FolderCounts, SinkCounts, Makes, Files}
 use Rattle.par_io.specs.Saying.{Said}
 use Rattle.par_values.specs.Ran.{Ran, Fine}
 use Rattle.par_words.specs.declared.words.Which.{Which}
-use Rattle.par_words.specs.Words.{Wanted, Check, Compile, Trace, Audit, Run, Asks}
+use Rattle.par_words.specs.Words.{Wanted, Check, Compile, Trace, Sample, Audit, Infer, Verify}
+use Rattle.par_words.specs.Words.{Run, Asks}
 use Rattle.par_tree.specs.Plain.{Source}
 use Rattle.par_resolved.specs.Resolved.{table_of}
 use Rattle.par_secrecy.specs.Runs as source
 use Rattle.par_runner.specs.Texts as told
 use Rattle.par_trace.specs.Texts as traced
+use Rattle.par_loader.specs.declared.error.Unloaded.TheVariants as unloaded
 use Rattle.par_tool.specs.declared.answer.Answer.{Answer}
 use Rattle.par_tool.specs.declared.answer.Answer.TheVariants.{Usage}
 use Rattle.par_tool.specs.declared.reading.Failure.{Failure}
 use Rattle.par_tool.specs.declared.reading.Failure.TheVariants.{Answered, Memory}
 use Rattle.par_tool.specs.Texts.{status, text, is_fault}
 use Rattle.par_tool.specs.Outside.{Text, MakesAtMost}
-use Rattle.par_tool.specs.Sources.{Checked, CompiledSo}
-use Rattle.par_tool.specs.Classes.{NotRun, IsRunOf}
+use Rattle.par_tool.specs.Sources.{Checked, CompiledSo, IsCutShort, MOST_FILES}
+use Rattle.par_tool.specs.Classes as running
+use Rattle.par_tool.specs.Classes.{IsUnlinked, NotRun, IsRunOf}
+use Rattle.par_tool.specs.Traces as tracing
 use Rattle.par_tool.specs.Traces.{Untraced, IsTraceOf}
+use Rattle.par_tool.specs.Samples.{Sampled}
 use Rattle.par_tool.specs.Audits.{Unaudited, IsAuditOf}
+use Rattle.par_tool.specs.Inferences.{Unfilled, IsFillingOf}
+use Rattle.par_tool.specs.Verifications.{VerifiedSo}
 
 -- What a call sees: the files before and after it, and the folder's counts.
 pub record Scene : Type 0 where
@@ -39,20 +46,26 @@ abbrev pub ReadsOnly : ℕ → Scene → Type 0
 ReadsOnly reads s = Makes reads 0 s.before s.after × Stand s
 
 -- the most files that are read for what the words want: a source; a source and an input file; class
--- files, of which at most 128 are linked, and an input file
+-- files, of which at most 128 are linked; these and an input file
 abbrev pub most_reads : Wanted → ℕ
 most_reads (Check file) = 1
 most_reads (Compile file) = 1
 most_reads (Trace file inputs bound) = 2
+most_reads (Sample number) = 0
 most_reads (Audit actor file) = 1
+most_reads (Infer file) = 1
+most_reads (Verify main) = 129
 most_reads (Run main inputs steps) = 130
 
--- and the most that are written: the class file of a source
+-- and the most that are written: the class files of a source
 abbrev pub most_writes : Wanted → ℕ
 most_writes (Check file) = 0
-most_writes (Compile file) = 1
+most_writes (Compile file) = MOST_FILES
 most_writes (Trace file inputs bound) = 0
+most_writes (Sample number) = 0
 most_writes (Audit actor file) = 0
+most_writes (Infer file) = 0
+most_writes (Verify main) = 0
 most_writes (Run main inputs steps) = 0
 
 -- nothing was put
@@ -73,8 +86,11 @@ Cause s (Check file) answer = Checked s.files s.before s.after file answer × Re
 Cause s (Compile file) answer = CompiledSo s.files s.later s.before s.after file answer
 Cause s (Trace file inputs bound) answer =
     Untraced s.files s.before s.after file inputs answer × Stand s
+Cause s (Sample number) answer = Sampled number answer × ReadsOnly 0 s
 Cause s (Audit actor file) answer =
     Unaudited s.files s.before s.after actor file answer × ReadsOnly 1 s
+Cause s (Infer file) answer = Unfilled s.files s.before s.after file answer × ReadsOnly 1 s
+Cause s (Verify main) answer = VerifiedSo s.files s.before s.after main answer × Stand s
 Cause s (Run main inputs steps) answer =
     NotRun s.files s.before s.after main inputs answer × Stand s
 
@@ -83,7 +99,10 @@ abbrev pub RunCause : Scene → Wanted → Ran → Type 0
 RunCause s (Check file) ran = ⊥
 RunCause s (Compile file) ran = ⊥
 RunCause s (Trace file inputs bound) ran = ⊥
+RunCause s (Sample number) ran = ⊥
 RunCause s (Audit actor file) ran = ⊥
+RunCause s (Infer file) ran = ⊥
+RunCause s (Verify main) ran = ⊥
 RunCause s (Run main inputs steps) ran =
     (reads : ℕ) × IsRunOf s.files main inputs steps reads ran × ReadsOnly (suc reads) s
 
@@ -93,10 +112,11 @@ TraceCause s (Trace file inputs bound) tree run =
     IsTraceOf s.files file inputs bound tree run × ReadsOnly 2 s
 TraceCause s _ tree run = ⊥
 
--- Why the lines of an audit are told.
-abbrev pub AuditCause : Scene → Wanted → List Text → Type 0
-AuditCause s (Audit actor file) lines = IsAuditOf s.files actor file lines × ReadsOnly 1 s
-AuditCause s _ lines = ⊥
+-- Why the lines of an audit or of inferred policies are told.
+abbrev pub ListCause : Scene → Wanted → List Text → Type 0
+ListCause s (Audit actor file) lines = IsAuditOf s.files actor file lines × ReadsOnly 1 s
+ListCause s (Infer file) lines = IsFillingOf s.files file lines × ReadsOnly 1 s
+ListCause s _ lines = ⊥
 
 -- the status and the lines that tell of a run of the source with a tree
 abbrev pub IsToldRun : Source → source.Run → (result : ℕ) → (old new : Option Text)
@@ -104,6 +124,26 @@ abbrev pub IsToldRun : Source → source.Run → (result : ℕ) → (old new : O
 IsToldRun tree run result old new before after =
     Said (told.status (Fine run.ending)) (traced.lines (table_of tree) run) result old new
     before after
+
+-- What was asked for where memory was wanting: a source once; an input file behind an accepted
+-- source, or behind linked class files; of class files no more than there are to ask for. What is
+-- left of class files that are written tells of them.
+abbrev pub HasAsked : Scene → Wanted → Type 0
+HasAsked s (Check file) = Makes 1 0 s.before s.after
+HasAsked s (Compile file) = Unit {0}
+HasAsked s (Trace file inputs bound) =
+    tracing.LacksMemory s.files s.before s.after file inputs
+HasAsked s (Sample number) = Makes 0 0 s.before s.after
+HasAsked s (Audit actor file) = Makes 1 0 s.before s.after
+HasAsked s (Infer file) = Makes 1 0 s.before s.after
+HasAsked s (Verify main) = IsUnlinked s.files s.before s.after main unloaded.Memory
+HasAsked s (Run main inputs steps) = running.LacksMemory s.files s.before s.after main inputs
+
+-- What is left of the files where memory was wanting: they stand, but for the first class files of
+-- a source that is compiled.
+abbrev pub IsLeft : Scene → Wanted → Type 0
+IsLeft s (Compile file) = IsCutShort s.files s.later s.before s.after file
+IsLeft s _ = Stand s
 
 -- How a call ends that has said something with a cause, or was in want of memory and said nothing.
 module _ (which : Which) (words : List (String Global)) (scene : Scene) (result : ℕ)
@@ -120,11 +160,11 @@ module _ (which : Which) (words : List (String Global)) (scene : Scene) (result 
         → Said (told.status ran.ending) (told.lines ran) result old new before after → Ends
     traces : (w : Wanted) (tree : Source) (run : source.Run) → Asks which words w
         → TraceCause scene w tree run → IsToldRun tree run result old new before after → Ends
-    audits : (w : Wanted) (lines : List Text) → Asks which words w → AuditCause scene w lines
+    lists : (w : Wanted) (lines : List Text) → Asks which words w → ListCause scene w lines
         → Said 0 lines result old new before after → Ends
     lacks_memory : (w : Wanted) → Asks which words w → result ≡ 7 → IsUnput old new before after
-        → MakesAtMost (most_reads w) (most_writes w) scene.before scene.after → Stand scene
-        → Ends
+        → MakesAtMost (most_reads w) (most_writes w) scene.before scene.after
+        → HasAsked scene w → IsLeft scene w → Ends
 
 -- what saying the answer in the place of a job's end comes to
 abbrev pub BreaksOff : Failure → (result : ℕ) → (old new : Option Text)

@@ -10,7 +10,7 @@ use Rattle.par_typed.specs.declared.program.Typed.{Typed}
 use Rattle.par_typed.specs.Shown.{bodies}
 use Rattle.par_rules.specs.Lattice.{numbers}
 use Rattle.par_rules.specs.Facts.{Facts}
-use Rattle.par_verdict.specs.Accepted.{IsAcceptedBy}
+use Rattle.par_audit.specs.par_verdict.Accepted.{IsAcceptedBy}
 use Rattle.par_secrecy.specs.Subject.{Subject}
 use Rattle.par_secrecy.specs.Target.{Target}
 use Rattle.par_secrecy.specs.Shows.{Shows}
@@ -29,11 +29,15 @@ actor_of table name = position (λ actor. bytes_eq actor name) table.actors
 
 -- ---- the lines
 
--- the rule that a release is listed under, and the line and the column of its place
+-- the rule that a release is listed under, and a line and a column
+abbrev pub told_at : (rule line column : ℕ) → Text
+told_at rule line column =
+    codes "release " ++ (decimal rule ++ (codes " at " ++ (decimal line
+    ++ (codes ":" ++ (decimal column ++ codes "\n")))))
+
+-- the same at its place
 abbrev pub release_text : (source : Text) → Release → Text
-release_text source r =
-    codes "release " ++ (decimal r.rule ++ (codes " at " ++ (decimal (line_at source r.at)
-    ++ (codes ":" ++ (decimal (column_at source r.at) ++ codes "\n")))))
+release_text source r = told_at r.rule (line_at source r.at) (column_at source r.at)
 
 -- the number of releases
 abbrev pub audited_text : ℕ → Text

@@ -1,9 +1,12 @@
 -- What is said of sources: to check and to compile them.
-use Rattle.std.specs.Prelude.{◌≡◌, ℕ, ◌+◌, ◌*◌, ◌≤◌, Option, IsTrue, ◌∷◌, [], length}
-use Rattle.par_io.specs.Causes.{FolderCounts, Makes, Rose, Files, ToldBoth, Sets, StandBut}
+use Rattle.std.specs.Prelude.{◌≡◌, ℕ, ◌+◌, ◌*◌, ◌≤◌, ◌⊎◌, List, [], length, Option, Some, None}
+use Rattle.std.specs.List.{AllByRecursion, AllZip}
+use Rattle.par_io.specs.Causes.{FolderCounts, Makes, Rose, Files, Told, ToldBoth}
 use Rattle.par_lexer.specs.Places.{line_at, column_at}
+use Rattle.par_lexer.specs.declared.cut.TheConstants.{LONGEST_SOURCE}
 use Rattle.par_class.specs.declared.file.ClassFile.{ClassFile}
 use Rattle.par_class.specs.Spelling.{Spells}
+use Rattle.par_link.specs.Order.{first_broken}
 use Rattle.par_values.specs.declared.inputs.Inputs.{Inputs}
 use Rattle.par_values.specs.declared.run.Ending.TheVariants.{Stopped}
 use Rattle.par_secrecy.specs.Secure.{Secure}
@@ -11,29 +14,34 @@ use Rattle.par_secrecy.specs.Subject.{Fits}
 use Rattle.par_secrecy.specs.Target.{Target, fitting}
 use Rattle.par_secrecy.specs.Shows.{Shows, shown_run}
 use Rattle.par_secrecy.specs.SecureFiles.{SecureFiles}
-use Rattle.par_straight.specs.declared.program.Program.{Program}
-use Rattle.par_straight.specs.Meaning.{source_run}
-use Rattle.par_straight.specs.Subject.{subject}
-use Rattle.par_alike.specs.Subject as program
-use Rattle.par_straight_compile.specs.Files.{IsFileOf}
-use Rattle.par_single.specs.Single.{runs_alone}
+use Rattle.par_alike.specs.Subject.{subject}
+use Rattle.par_runs.specs.Source as runs
+use Rattle.par_erase.specs.Erased.{erased_table, erased_bodies}
 use Rattle.par_steps.specs.Target.{target}
-use Rattle.par_lexer.specs.declared.cut.TheConstants.{LONGEST_SOURCE}
-use Rattle.par_pool.specs.declared.reading.TheConstants.{LONGEST_CLASS}
-use Rattle.par_tool.specs.declared.answer.Answer.{Answer}
-use Rattle.par_tool.specs.declared.answer.Answer.TheVariants.{Accepted, Compiled, Refused}
-use Rattle.par_tool.specs.declared.answer.Answer.TheVariants.{WriteFault, NotBuilt}
+use Rattle.par_loader.specs.Reads.{Classes}
+use Rattle.par_loader.specs.Loaded.{whole}
+use Rattle.par_loader.specs.Judged.{judged}
+use Rattle.par_framed_program.specs.Framed.{AreFramed}
+use Rattle.par_verify.specs.par_verified.Verified.{AllFrames, AreFramesOf, AreVerified}
+use Rattle.par_compile.specs.declared.compiled.CompiledClass.{CompiledClass}
+use Rattle.par_compile.specs.Compiled.{AreCompiled}
+use Rattle.par_class_writer.specs.Written.{SetsBut, FailsAt, StopsBehind}
+use Rattle.par_files_verified.specs.Laws.{main_class, AreAllVerified}
 use Rattle.par_typed.specs.declared.program.Typed.{Typed}
 use Rattle.par_typed.specs.declared.refusal.Refusal.{Refusal}
+use Rattle.par_typed.specs.Shown.{bodies}
 use Rattle.par_observer.specs.Judgements.{Breaks, IsAcceptedAs}
-use Rattle.par_observer.specs.Straight.{HasPassed, IsPassed}
+use Rattle.par_tool.specs.declared.answer.Answer.{Answer}
+use Rattle.par_tool.specs.declared.answer.Answer.TheVariants.{Accepted, Compiled, Refused}
+use Rattle.par_tool.specs.declared.answer.Answer.TheVariants.{WriteFault}
 use Rattle.par_tool.specs.Outside.{Text, WasRead, NotRead, class_file}
 
--- The source is refused by this rule at the place that has this line and this column, with this
--- limit and this count; the end of the source may be that place.
-pub record IsBroken (source : Text) (rule line column limit count : ℕ) : Type 0 where
+-- The source is refused, for some reason, by this rule at the place that has this line and this
+-- column, with this limit and this count; the end of the source may be that place.
+pub record IsRefusedFor (Why : Refusal → Type 0) (source : Text)
+    (rule line column limit count : ℕ) : Type 0 where
   pub refusal : Refusal
-  pub breaks : Breaks source refusal
+  pub breaks : Why refusal
   pub within : refusal.at ≤ length source
   pub rule_is : rule ≡ refusal.rule
   pub line_is : line ≡ line_at source refusal.at
@@ -41,24 +49,23 @@ pub record IsBroken (source : Text) (rule line column limit count : ℕ) : Type 
   pub limit_is : limit ≡ refusal.limit
   pub count_is : count ≡ refusal.count
 
+-- what is answered to a refusal
+abbrev pub refused_at : Text → Refusal → Answer
+refused_at source f = Refused f.rule (line_at source f.at) (column_at source f.at) f.limit f.count
+
+-- a rule is broken
+abbrev pub IsBroken : Text → (rule line column limit count : ℕ) → Type 0
+IsBroken source rule line column limit count =
+    IsRefusedFor (Breaks source) source rule line column limit count
+
 -- The source keeps all rules, this is its program, and the program is secure.
 pub record IsSecureAs (source : Text) (typed : Typed) : Type 0 where
   pub accepted : IsAcceptedAs source typed
-  pub secure : Secure (program.subject typed)
+  pub secure : Secure (subject typed)
 
 -- the source keeps all rules, and its program is secure
 abbrev pub IsSecureSource : Text → Type 0
 IsSecureSource source = (typed : Typed) × IsSecureAs source typed
-
--- the same, and it is a straight-line one whose own check lets its program pass
-pub record IsCompiledAs (source : Text) (p : Program) : Type 0 where
-  pub accepted : IsSecureSource source
-  pub passed : IsPassed source p
-
--- the source keeps all rules, its program is secure, and it is no such straight-line source
-pub record IsNotBuilt (source : Text) : Type 0 where
-  pub accepted : IsSecureSource source
-  pub other : HasPassed source → ⊥
 
 -- what is said of a source that is not accepted
 abbrev pub IsUnaccepted : Text → Answer → Type 0
@@ -66,32 +73,16 @@ IsUnaccepted source (Refused rule line column limit count) =
     IsBroken source rule line column limit count
 IsUnaccepted source _ = ⊥
 
--- what is said of a source that is not compiled
-abbrev pub IsUncompiled : Text → Answer → Type 0
-IsUncompiled source (Refused rule line column limit count) =
-    IsBroken source rule line column limit count
-IsUncompiled source NotBuilt = IsNotBuilt source
-IsUncompiled source _ = ⊥
-
 -- a source that was read
 abbrev pub ReadSource : Option Files → Text → (Text → Type 0) → Type 0
 ReadSource files file P = (source : Text) × WasRead files LONGEST_SOURCE file source × P source
 
--- Why a source in a file is not accepted, and why it is not compiled.
+-- Why a source in a file is not accepted.
 module _ (files : Option Files) (before after : FolderCounts) (file : Text) where
   abbrev pub Rejected : Answer → Type 0
   Rejected (Refused rule line column limit count) =
       ReadSource files file (λ source. IsBroken source rule line column limit count)
   Rejected answer = NotRead files before after LONGEST_SOURCE file answer
-
-  abbrev pub Uncompiled : Answer → Type 0
-  Uncompiled NotBuilt = ReadSource files file IsNotBuilt
-  Uncompiled answer = Rejected answer
-
--- the program of a source that was read and is compiled
-abbrev pub ReadCompiled : Option Files → Text → (Program → Type 0) → Type 0
-ReadCompiled files file P =
-    (p : Program) × P p × ReadSource files file (λ source. IsCompiledAs source p)
 
 -- Why a check ends with an answer.
 module _ (files : Option Files) (before after : FolderCounts) (file : Text) where
@@ -99,40 +90,102 @@ module _ (files : Option Files) (before after : FolderCounts) (file : Text) wher
   Checked Accepted = ReadSource files file IsSecureSource
   Checked answer = Rejected files before after file answer
 
+-- ---- class files
+
 -- A run of the program that ends within n steps is shown whole within 16 n + 16 instructions.
-abbrev pub ShowsWhole : Target → Program → Type 0
-ShowsWhole target p =
-    (inputs : Inputs) → Fits (subject p) inputs → (n steps : ℕ)
-    → ((source_run p inputs n).ending ≡ Stopped → ⊥) → 16 * n + 16 ≤ steps
-    → target.run (fitting target inputs) steps ≡ shown_run (source_run p inputs n)
+abbrev pub ShowsWhole : Target → Typed → Type 0
+ShowsWhole target typed =
+    (inputs : Inputs) → Fits (subject typed) inputs → (n steps : ℕ)
+    → ((runs.source typed inputs n).ending ≡ Stopped → ⊥) → 16 * n + 16 ≤ steps
+    → target.run (fitting target inputs) steps ≡ shown_run (runs.source typed inputs n)
 
--- The class file that was written for a program: it can be read again, it has the program's members
--- and nothing of its policies, its runs are those of the program, and they are secure.
-pub record IsClassOf (p : Program) (bytes : Text) : Type 0 where
-  pub file : ClassFile
-  pub short : length bytes ≤ LONGEST_CLASS
-  pub spells : Spells bytes file
-  pub is : IsFileOf p file
-  pub alone : IsTrue (runs_alone file p.class)
-  pub shows : Shows (target (file ∷ []) p.class) (subject p)
-  pub whole : ShowsWhole (target (file ∷ []) p.class) p
-  pub secure : SecureFiles (target (file ∷ []) p.class) (subject p)
+-- What is loaded for the class where the program begins, from class files that are found by the
+-- names of their classes.
+pub record RunsAsProgram (typed : Typed) (found : Classes) : Type 0 where
+  -- these files, which link, nothing is refused, each method has its frames, and whichever frames
+  -- the files tell, some fit each method with code
+  pub part : List ClassFile
+  pub loaded :
+      judged found (main_class typed) ≡ record { reads = length part; end = whole part }
+  pub framed : AreFramed part
+  pub verified : (frames : AllFrames) → AreFramesOf part frames → AreVerified part frames
+  -- their runs are those of the program, events and endings
+  pub shows : Shows (target part (main_class typed)) (subject typed)
+  pub shows_whole : ShowsWhole (target part (main_class typed)) typed
+  -- as long as two runs of them, on inputs that an observer cannot tell apart, have shown it the
+  -- same events, the next ones are equal, where it has the locks that are open at them
+  pub secure : SecureFiles (target part (main_class typed)) (subject typed)
 
--- One class file was written, and all other files stand.
-pub record IsWritten (p : Program) (files later : Option Files) : Type 0 where
-  pub bytes : Text
-  pub is_class : IsClassOf p bytes
-  pub sets : ToldBoth files later (Sets (class_file p.class) bytes)
+-- the class files that the bytes spell, which link together; loaded or not, each method has its
+-- frames, and whichever frames the files tell, some fit each method with code
+pub record LinkTogether (classes : List CompiledClass) : Type 0 where
+  pub files : List ClassFile
+  pub spelled : AllZip (λ c file. Spells c.bytes file) classes files
+  pub unbroken : first_broken files ≡ None
+  pub verified : AreAllVerified files
+
+-- The class files of a program.
+pub record AreClassesOf (typed : Typed) (classes : List CompiledClass) : Type 0 where
+  -- one for each declared class, in the order of the source: it can be read again, and has the
+  -- members of the class and nothing of its policies
+  pub spelled : AreCompiled (erased_table typed.table)
+      (erased_bodies typed.table (bodies typed.bodies)) classes
+  pub linked : LinkTogether classes
+  -- wherever they are found by the names of their classes, they run as the program
+  pub run : (found : Classes) → AllByRecursion (λ c. found c.name ≡ Some c.bytes) classes
+      → RunsAsProgram typed found
+
+-- this holds of the class files of a source that was read and is accepted
+abbrev pub ReadCompiled : Option Files → Text → (List CompiledClass → Type 0) → Type 0
+ReadCompiled files file P =
+    (typed : Typed) × (classes : List CompiledClass) × AreClassesOf typed classes × P classes
+    × ReadSource files file (λ source. IsSecureAs source typed)
+
+-- The headline: the source in a file is compiled, and what is then loaded from the folder keeps
+-- what the source promises.
+pub record CompilesSecurely (files later : Option Files) (file : Text) (many : ℕ)
+    : Type 0 where
+  pub source : Text
+  pub read : WasRead files LONGEST_SOURCE file source
+  -- it keeps all rules, and its program is secure
+  pub typed : Typed
+  pub accepted : IsAcceptedAs source typed
+  pub secure : Secure (subject typed)
+  -- the file of each declared class is set, and all other files stand
+  pub classes : List CompiledClass
+  pub counted : many ≡ length classes
+  pub written : ToldBoth files later (SetsBut classes [])
+  -- they are the class files of the program
+  pub are : AreClassesOf typed classes
+  -- what is loaded from the folder for the class of `main` shows the runs of the source, and is
+  -- secure
+  pub runs : Told later (λ m. RunsAsProgram typed (λ name. m (class_file name)))
+
+-- the most class files of a source
+abbrev pub MOST_FILES : ℕ
+MOST_FILES = 128
 
 -- Why a compilation ends with an answer, and what of the files it changes: one read of the source,
--- and one write for each class file that is made, up to the one that fails.
+-- and one write for each class file, up to the one that fails.
 module _ (files later : Option Files) (before after : FolderCounts) (file : Text) where
   abbrev pub CompiledSo : Answer → Type 0
   CompiledSo (Compiled many) =
-      (many ≡ 1) × Makes 1 many before after
-      × ReadCompiled files file (λ p. IsWritten p files later)
+      Makes 1 many before after × CompilesSecurely files later file many
   CompiledSo WriteFault =
-      Rose before.faults after.faults × Makes 1 1 before after
-      × ReadCompiled files file (λ p. ToldBoth files later (StandBut (class_file p.class)))
+      (place : ℕ) × Rose before.faults after.faults × Makes 1 (place + 1) before after
+      × ReadCompiled files file (λ classes. FailsAt classes files later place)
   CompiledSo answer =
-      (later ≡ files) × Makes 1 0 before after × Uncompiled files before after file answer
+      (later ≡ files) × Makes 1 0 before after × Rejected files before after file answer
+
+-- What is left of a compilation where memory was wanting: the files stand, and none was written; or
+-- the first of the class files are whole, and all other files stand.
+module _ (files later : Option Files) (before after : FolderCounts) (file : Text) where
+  -- as many were written as are whole, and the next one may have been asked for
+  abbrev pub StopsThere : List CompiledClass → Type 0
+  StopsThere classes =
+      (stops : StopsBehind classes files later) × (written : ℕ)
+      × (length stops.first ≤ written) × (written ≤ length stops.first + 1)
+      × Makes 1 written before after
+
+  abbrev pub IsCutShort : Type 0
+  IsCutShort = (later ≡ files) × Makes 1 0 before after ⊎ ReadCompiled files file StopsThere

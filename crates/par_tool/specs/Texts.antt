@@ -3,21 +3,25 @@ use Rattle.std.specs.Prelude.{ℕ, Bool, true, false, nat_eq, if◌then◌else�
 use Rattle.std.specs.Fmt.{decimal}
 use Rattle.par_typed.specs.declared.refusal.TheConstants.{LIMIT_RULE}
 use Rattle.par_tool.specs.declared.answer.Answer.{Answer}
-use Rattle.par_tool.specs.declared.answer.Answer.TheVariants.{Accepted, Compiled, Refused, Usage}
+use Rattle.par_sample.specs.Summary.{summary_line}
+use Rattle.par_tool.specs.declared.answer.Answer.TheVariants.{Accepted, Compiled, Sampled}
+use Rattle.par_tool.specs.declared.answer.Answer.TheVariants.{Verified}
+use Rattle.par_tool.specs.declared.answer.Answer.TheVariants.{Refused, Usage}
 use Rattle.par_tool.specs.declared.answer.Answer.TheVariants.{Absent, ReadFault, WriteFault}
-use Rattle.par_tool.specs.declared.answer.Answer.TheVariants.{TooLong, NotBuilt, BadClass}
+use Rattle.par_tool.specs.declared.answer.Answer.TheVariants.{TooLong, BadClass}
 use Rattle.par_tool.specs.declared.answer.Answer.TheVariants.{BadInputs, NoActor}
 
 abbrev pub status : Answer → ℕ
 status Accepted = 0
 status (Compiled files) = 0
+status (Sampled summary) = 0
+status (Verified files) = 0
 status (Refused rule line column limit count) = 1
 status Usage = 2
 status Absent = 3
 status ReadFault = 4
 status WriteFault = 5
 status TooLong = 8
-status NotBuilt = 9
 status (BadClass class number value) = 12
 status (BadInputs line) = 13
 status NoActor = 15
@@ -25,6 +29,10 @@ status NoActor = 15
 -- the number of class files that are written
 abbrev pub compiled_text : ℕ → List ℕ
 compiled_text files = codes "accepted " ++ (decimal files ++ codes "\n")
+
+-- the number of class files that are verified
+abbrev pub verified_text : ℕ → List ℕ
+verified_text files = codes "verified " ++ (decimal files ++ codes "\n")
 
 -- the rule that is broken, and the line and the column of its place
 abbrev pub refused_text : ℕ → ℕ → ℕ → List ℕ
@@ -52,6 +60,8 @@ inputs_text line = codes "bad inputs line " ++ (decimal line ++ codes "\n")
 abbrev pub text : Answer → List ℕ
 text Accepted = codes "accepted\n"
 text (Compiled files) = compiled_text files
+text (Sampled summary) = summary_line summary
+text (Verified files) = verified_text files
 text (Refused rule line column limit count) =
     if nat_eq rule LIMIT_RULE then exceeded_text line column limit count
     else refused_text rule line column
@@ -60,7 +70,6 @@ text Absent = codes "absent\n"
 text ReadFault = codes "read fault\n"
 text WriteFault = codes "write fault\n"
 text TooLong = codes "too long\n"
-text NotBuilt = codes "not built\n"
 text (BadClass class number value) = class_text class number value
 text (BadInputs line) = inputs_text line
 text NoActor = codes "no actor\n"

@@ -69,6 +69,10 @@ module _ (files : Option Files) (before after : FolderCounts) (file inputs : Tex
   abbrev pub HasSource : (Source → Type 0) → Type 0
   HasSource P = Makes 2 0 before after × ((tree : Source) × IsSourceIn files file tree × P tree)
 
+  -- memory is wanting before the input file is asked for, or behind that
+  abbrev pub LacksMemory : Type 0
+  LacksMemory = Makes 1 0 before after ⊎ HasSource (λ tree. Unit {0})
+
   abbrev pub Untraced : Answer → Type 0
   Untraced (BadInputs number) =
       HasSource (λ tree. HasBadLine (misfits tree) files inputs number)

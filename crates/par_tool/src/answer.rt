@@ -9,6 +9,7 @@ ghost use Rattle.par_tool.specs.Texts.{status, text, is_fault};
 use par_io::Sink;
 use par_lexer::name::Name;
 use par_loader::text_of;
+use par_sample::Summary;
 use par_typed::refusal::LIMIT_RULE;
 use std::alloc::{AllocError, Global};
 
@@ -20,6 +21,10 @@ pub enum Answer {
     Accepted,
     /// The source is accepted, and so many class files are written.
     Compiled(u32),
+    /// The source of a sample is accepted, and this is what it has in it.
+    Sampled(Summary),
+    /// So many class files are verified.
+    Verified(u32),
     /// The source breaks a rule at a line and a column, both counted from 1. The limit and the
     /// count are 0 but for an exceeded limit.
     Refused {
@@ -39,8 +44,6 @@ pub enum Answer {
     WriteFault,
     /// A file is too long.
     TooLong,
-    /// The source is of a form that is not built yet.
-    NotBuilt,
     /// A class file is refused: the class, the number of the refusal, and what it carries.
     BadClass {
         class: Name,
@@ -60,13 +63,14 @@ pub fn status_of(answer: &Answer) -> u8
     match answer {
         Answer::Accepted => 0,
         Answer::Compiled(_) => 0,
+        Answer::Sampled(_) => 0,
+        Answer::Verified(_) => 0,
         Answer::Refused { .. } => 1,
         Answer::Usage => 2,
         Answer::Absent => 3,
         Answer::ReadFault => 4,
         Answer::WriteFault => 5,
         Answer::TooLong => 8,
-        Answer::NotBuilt => 9,
         Answer::BadClass { .. } => 12,
         Answer::BadInputs(_) => 13,
         Answer::NoActor => 15,
@@ -101,6 +105,8 @@ fn line_of(alloc: Global, answer: &Answer) -> Result<Line, AllocError>
     match answer {
         Answer::Accepted => Ok(Line::Fixed(b"accepted\n")),
         Answer::Compiled(files) => Ok(Line::Made(compiled_line(alloc, *files)?)),
+        Answer::Sampled(summary) => Ok(Line::Made(summary.line(alloc)?)),
+        Answer::Verified(files) => Ok(Line::Made(verified_line(alloc, *files)?)),
         Answer::Refused {
             rule,
             line,
@@ -120,7 +126,6 @@ fn line_of(alloc: Global, answer: &Answer) -> Result<Line, AllocError>
         Answer::ReadFault => Ok(Line::Fixed(b"read fault\n")),
         Answer::WriteFault => Ok(Line::Fixed(b"write fault\n")),
         Answer::TooLong => Ok(Line::Fixed(b"too long\n")),
-        Answer::NotBuilt => Ok(Line::Fixed(b"not built\n")),
         Answer::BadClass {
             class,
             number,
@@ -135,6 +140,12 @@ fn compiled_line(alloc: Global, files: u32) -> Result<String, AllocError>
     ensures { IfOk result (λ text. string_bytes text ≡ spec.compiled_text files) }
 {
     format!(in alloc; "accepted {files}\n")
+}
+
+fn verified_line(alloc: Global, files: u32) -> Result<String, AllocError>
+    ensures { IfOk result (λ text. string_bytes text ≡ spec.verified_text files) }
+{
+    format!(in alloc; "verified {files}\n")
 }
 
 fn refused_line(alloc: Global, rule: u16, line: u32, column: u32) -> Result<String, AllocError>

@@ -1,21 +1,23 @@
 //! What is done to audit a source for an actor: the source is read and judged, and a line is made
 //! for each release of its program.
 
-ghost use Rattle.std.specs.Prelude.{◌≡◌, ◌≤◌, IsTrue, IfOk, IfErr, length, map, string_bytes};
+ghost use Rattle.std.specs.Prelude.{◌≡◌, ◌≤◌, IsTrue, IfOk, IfErr, length};
 ghost use Rattle.std.specs.List.{AllByRecursion, position};
 ghost use Rattle.std.specs.Str.{bytes_eq};
 ghost use Rattle.par_io.specs.Causes.{Makes};
 ghost use Rattle.par_tool.specs.Audits as spec;
 ghost use Rattle.par_tool.specs.Audits.{IsAuditedAs, IsAuditOf, IsUnaudited, Unaudited};
 ghost use Rattle.par_tool.specs.Failures.{IsFailure, FaultsAreTold};
+ghost use Rattle.par_tool.specs.Lines.{texts_of};
 
 use crate::answer::Answer;
 use crate::reading::{Failure, read};
 use crate::sources::accepted;
+use crate::spots::{START, Spot};
 use par_audit::{Release, audit};
 use par_io::Folder;
+use par_lexer::LONGEST_SOURCE;
 use par_lexer::name::Name;
-use par_lexer::{LONGEST_SOURCE, place_of};
 use par_typed::table::Table;
 use std::alloc::{AllocError, Global};
 
@@ -42,34 +44,33 @@ fn actor_number(table: &Table, name: &str) -> Option<u8>
     Some(place as u8)
 }
 
-/// The line of a release.
-fn release_line(alloc: Global, source: &[u8], release: Release) -> Result<String, AllocError>
-    requires within { release.at ≤ length source.now }
-    requires short { length source.now ≤ LONGEST_SOURCE }
-    ensures { IfOk result (λ text. string_bytes text ≡ spec.release_text source.now release) }
+/// The line of a release at that place.
+fn release_line(alloc: Global, rule: u16, spot: Spot) -> Result<Vec<u8>, AllocError>
+    ensures { IfOk result (λ text. text.items ≡ spec.told_at rule spot.line spot.column) }
 {
-    let rule = release.rule;
-    let (line, column) = place_of(source, release.at);
-    format!(in alloc; "release {rule} at {line}:{column}\n")
+    let Spot { line, column, .. } = spot;
+    Ok(format!(in alloc; "release {rule} at {line}:{column}\n")?.into_bytes())
 }
 
 /// The line that tells how many releases there are.
-fn audited_line(alloc: Global, number: usize) -> Result<String, AllocError>
-    ensures { IfOk result (λ text. string_bytes text ≡ spec.audited_text number) }
+fn audited_line(alloc: Global, number: usize) -> Result<Vec<u8>, AllocError>
+    ensures { IfOk result (λ text. text.items ≡ spec.audited_text number) }
 {
-    format!(in alloc; "audited {number}\n")
+    Ok(format!(in alloc; "audited {number}\n")?.into_bytes())
 }
 
 /// The lines of an audit that finds these releases.
-fn audit_lines(alloc: Global, source: &[u8], found: &[Release]) -> Result<Vec<String>, AllocError>
+fn audit_lines(alloc: Global, source: &[u8], found: &[Release]) -> Result<Vec<Vec<u8>>, AllocError>
     requires within { AllByRecursion (λ release. release.at ≤ length source.now) found.now }
     requires short { length source.now ≤ LONGEST_SOURCE }
     ensures { IfOk result (λ lines.
-        map string_bytes lines.items ≡ spec.audit_lines source.now found.now) }
+        texts_of lines.items ≡ spec.audit_lines source.now found.now) }
 {
     let mut lines = Vec::new(alloc);
+    let mut spot = START;
     for release in found {
-        let line = release_line(alloc, source, *release)?;
+        spot = spot.moved(source, release.at);
+        let line = release_line(alloc, release.rule, spot)?;
         lines.push(line)?;
     }
     let last = audited_line(alloc, found.len())?;
@@ -78,10 +79,10 @@ fn audit_lines(alloc: Global, source: &[u8], found: &[Release]) -> Result<Vec<St
 }
 
 /// The lines of the audit of a source for the actor of a name.
-fn audited(alloc: Global, source: &[u8], actor: &str) -> Result<Vec<String>, Failure>
+fn audited(alloc: Global, source: &[u8], actor: &str) -> Result<Vec<Vec<u8>>, Failure>
     requires { length source.now ≤ LONGEST_SOURCE }
     ensures audited { IfOk result (λ lines.
-        IsAuditedAs source.now actor.now (map string_bytes lines.items)) }
+        IsAuditedAs source.now actor.now (texts_of lines.items)) }
     ensures failed { IfErr result (IsFailure (IsUnaudited source.now actor.now)) }
 {
     let accepted = accepted(alloc, source)?;
@@ -98,13 +99,13 @@ pub fn audit_source<F: Folder>(
     folder: &mut F,
     actor: &str,
     file: &str,
-) -> Result<Vec<String>, Failure>
+) -> Result<Vec<Vec<u8>>, Failure>
     ensures kept { F.files folder.new ≡ F.files folder.old }
     ensures counted { Makes 1 0 (F.counts folder.old) (F.counts folder.new) }
     ensures faults_are_told { IsTrue F.counts_faults_alone →
         FaultsAreTold result (F.counts folder.old).faults (F.counts folder.new).faults }
     ensures audited { IfOk result (λ lines.
-        IsAuditOf (F.files folder.old) actor.now file.now (map string_bytes lines.items)) }
+        IsAuditOf (F.files folder.old) actor.now file.now (texts_of lines.items)) }
     ensures failed { IfErr result (IsFailure (Unaudited (F.files folder.old)
         (F.counts folder.old) (F.counts folder.new) actor.now file.now)) }
 {

@@ -6,12 +6,12 @@ ghost use Rattle.par_io.specs.Causes.{Makes, NoneFalls};
 ghost use Rattle.par_lexer.specs.Names.{IsName};
 ghost use Rattle.par_link.specs.Inputs.{first_misfit};
 ghost use Rattle.par_tool.specs.Given.{AreInputs, IsUngiven};
-ghost use Rattle.par_tool.specs.Classes.{NotRun, Starts};
+ghost use Rattle.par_tool.specs.Classes.{NotRun, LacksMemory, Starts};
 ghost use Rattle.par_tool.specs.Failures.{IsFailure, FaultsAreTold};
-ghost use Rattle.par_tool.specs.Outside.{MakesAtMost};
 
 use crate::answer::Answer;
 use crate::reading::{Failure, read};
+use par_framed_program::framed;
 use par_inputs::error::BadInput;
 use par_inputs::{LONGEST_INPUTS, line_of_entry, read_inputs};
 use par_io::Folder;
@@ -69,10 +69,12 @@ pub fn started<F: Folder>(
     ensures failed { IfErr result (IsFailure (NotRun (F.files folder.old)
         (F.counts folder.old) (F.counts folder.new) main.now name.now)) }
     ensures memory { IfErr result (λ e. e ≡ Failure.Memory →
-        MakesAtMost 130 0 (F.counts folder.old) (F.counts folder.new)) }
+        LacksMemory (F.files folder.old) (F.counts folder.old) (F.counts folder.new)
+        main.now name.now) }
 {
     let file = main_file(alloc, folder, main)?;
     let linked = linked_program(alloc, folder, file)?;
+    framed(alloc, &linked)?;
     let inputs = inputs(alloc, folder, &linked, name)?;
     match Machine::start(alloc, linked, 0, inputs) {
         Ok(machine) => Ok(machine),

@@ -8,10 +8,14 @@
 pub mod answer;
 mod audits;
 mod classes;
+mod inferences;
 mod lines;
 mod reading;
+mod samples;
 mod sources;
+mod spots;
 pub mod tool;
 mod traces;
+mod verifications;
 
 pub use par_words::Which;

@@ -1,32 +1,33 @@
 //! Lines that are put one after another.
 
-ghost use Rattle.std.specs.Prelude.{◌≡◌, ◌≢◌, map, string_bytes, IsTrue, IfErr, OnOk};
+ghost use Rattle.std.specs.Prelude.{◌≡◌, ◌≢◌, IsTrue, IfErr, OnOk};
 ghost use Rattle.par_io.specs.Saying.{Said};
 ghost use Rattle.par_runner.specs.Telling.{IsCutOff, PutsAreTold};
 ghost use Rattle.par_trace.specs.Puts.{ArePut};
+ghost use Rattle.par_tool.specs.Lines.{texts_of};
 
 use par_io::Sink;
 use par_runner::{Untold, put_line, untold_status};
 
 /// Puts lines, each by one put.
-fn put_lines<S: Sink>(lines: &[String], out: &mut S) -> Result<(), Untold>
+fn put_lines<S: Sink>(lines: &[Vec<u8>], out: &mut S) -> Result<(), Untold>
     ensures faults_stand { IsTrue S.counts_faults_alone →
         PutsAreTold result (S.counts out.old).faults (S.counts out.new).faults }
-    ensures put { OnOk result (ArePut (map string_bytes lines.now)
+    ensures put { OnOk result (ArePut (texts_of lines.now)
         (S.held out.old) (S.held out.new) (S.counts out.old) (S.counts out.new)) }
-    ensures untold { IfErr result (IsCutOff (map string_bytes lines.now)
+    ensures untold { IfErr result (IsCutOff (texts_of lines.now)
         (S.held out.old) (S.held out.new) (S.counts out.old) (S.counts out.new)) }
 {
     for line in lines {
-        put_line(line.as_bytes(), out)?;
+        put_line(line.as_slice(), out)?;
     }
     Ok(())
 }
 
 /// Says lines, and gives the status of a call that says them and nothing else.
 #[tactic(auto, using(par_trace::proofs::Told::said_whole, par_trace::proofs::Told::said_untold))]
-pub fn tell_lines<S: Sink>(lines: &[String], out: &mut S) -> u8
-    ensures said { Said 0 (map string_bytes lines.now) result
+pub fn tell_lines<S: Sink>(lines: &[Vec<u8>], out: &mut S) -> u8
+    ensures said { Said 0 (texts_of lines.now) result
         (S.held out.old) (S.held out.new) (S.counts out.old) (S.counts out.new) }
     ensures failed_puts_are_told { IsTrue S.counts_faults_alone →
         result ≢ 6 → (S.counts out.new).faults ≡ (S.counts out.old).faults }

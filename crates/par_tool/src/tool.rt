@@ -7,15 +7,21 @@ ghost use Rattle.par_runner.specs.Texts as told;
 ghost use Rattle.par_trace.specs.Texts.{run_of, lines};
 ghost use Rattle.par_tool.specs.Answers.{Scene, Ends, Concludes, BreaksOff};
 ghost use Rattle.par_tool.specs.Exactly.{IsExact, IsSaidBy};
-ghost use Rattle.par_words.specs.Words.{Asks, Wanted};
+ghost use Rattle.par_tool.specs.Outside.{Text};
+ghost use Rattle.par_tool.specs.WrittenFiles.{IsComplete};
+ghost use Rattle.par_tool.specs.Verifications.{IsSafe};
+ghost use Rattle.par_words.specs.Words.{Asks, Wanted, Verify};
 
 use crate::answer::{Answer, say};
 use crate::audits::audit_source;
 use crate::classes::started;
+use crate::inferences::infer_source;
 use crate::lines::tell_lines;
 use crate::reading::Failure;
+use crate::samples::make_sample;
 use crate::sources::{check, compile_file};
 use crate::traces::{Traced, trace_source};
+use crate::verifications::verify_class;
 use par_io::{Folder, Sink};
 use par_runner::tell_run;
 use par_trace::tell_source;
@@ -41,6 +47,11 @@ pub fn tool<F: Folder, S: Sink>(
         (S.counts out.old) (S.counts out.new) }
     ensures usage { ((w : Wanted) → Asks which words.now w → ⊥) → IsSaidBy result 2 }
     ensures exact { (w : Wanted) → Asks which words.now w → IsExact (F.files folder.old) w result }
+    ensures complete { (w : Wanted) → Asks which words.now w →
+        IsComplete result (S.held out.old) (S.held out.new) (S.counts out.old) (S.counts out.new)
+        (F.files folder.old) w }
+    ensures verified { (main : Text) → Asks which words.now (Verify main) → result ≡ 0 →
+        IsSafe (F.files folder.old) main }
     ensures faults_are_told { IsTrue F.counts_faults_alone →
         result ≢ 4 → result ≢ 5 → result ≢ 6 →
         (F.counts folder.new).faults ≡ (F.counts folder.old).faults }
@@ -54,6 +65,8 @@ pub fn tool<F: Folder, S: Sink>(
     match request {
         Request::Check(file) => conclude(alloc, check(alloc, folder, file), out),
         Request::Compile(file) => conclude(alloc, compile_file(alloc, folder, file), out),
+        Request::Sample(number) => conclude(alloc, make_sample(alloc, number), out),
+        Request::Verify(main) => conclude(alloc, verify_class(alloc, folder, main), out),
         Request::Trace {
             file,
             inputs,
@@ -63,6 +76,10 @@ pub fn tool<F: Folder, S: Sink>(
             Err(failure) => break_off(alloc, failure, out),
         },
         Request::Audit { actor, file } => match audit_source(alloc, folder, actor, file) {
+            Ok(lines) => tell_lines(lines.as_slice(), out),
+            Err(failure) => break_off(alloc, failure, out),
+        },
+        Request::Infer(file) => match infer_source(alloc, folder, file) {
             Ok(lines) => tell_lines(lines.as_slice(), out),
             Err(failure) => break_off(alloc, failure, out),
         },

@@ -6,8 +6,7 @@ ghost use Rattle.par_io.specs.Causes.{Makes, NoneFalls};
 ghost use Rattle.par_trace.specs.Channels.{first_misfit};
 ghost use Rattle.par_tool.specs.Failures.{IsFailure, FaultsAreTold};
 ghost use Rattle.par_tool.specs.Given.{AreInputs, IsUngiven};
-ghost use Rattle.par_tool.specs.Outside.{MakesAtMost};
-ghost use Rattle.par_tool.specs.Traces.{IsTraced, Untraced};
+ghost use Rattle.par_tool.specs.Traces.{IsTraced, LacksMemory, Untraced};
 
 use crate::answer::Answer;
 use crate::reading::{Failure, read};
@@ -77,7 +76,8 @@ pub fn trace_source<F: Folder>(
     ensures failed { IfErr result (IsFailure (Untraced (F.files folder.old)
         (F.counts folder.old) (F.counts folder.new) file.now name.now)) }
     ensures memory { IfErr result (λ e. e ≡ Failure.Memory →
-        MakesAtMost 2 0 (F.counts folder.old) (F.counts folder.new)) }
+        LacksMemory (F.files folder.old) (F.counts folder.old) (F.counts folder.new)
+        file.now name.now) }
 {
     let accepted = accepted_source(alloc, folder, file)?;
     let inputs = inputs(alloc, folder, &accepted.typed().table, name)?;

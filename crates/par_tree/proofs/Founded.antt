@@ -2,7 +2,7 @@
 use Rattle.std.proofs.Common.{◌≡◌, ◌+◌, ◌-◌, ℕ, Bool, true, false, refl, lit<, arith, if◌then◌else◌}
 use Rattle.std.proofs.Common.{List, [], ◌∷◌, nat_lt}
 use Rattle.std.proofs.lemmas.Bool.Decides.{nat_tests}
-use Rattle.par_lexer.specs.declared.operator.BinOp.{BinOp}
+use Rattle.par_grammar.specs.par_lexer.declared.operator.BinOp.{BinOp}
 use Rattle.par_grammar.specs.Grammar.{name}
 use Rattle.par_grammar.proofs.Total.{Founded, AllLight, LightIfAny, Lighter}
 use Rattle.par_tree.specs.Grammar.{Names, Builders, lines, operations, operators}

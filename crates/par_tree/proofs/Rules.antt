@@ -3,8 +3,8 @@ use Rattle.std.proofs.Common.{◌≡◌, ◌∷◌, refl}
 use Rattle.par_grammar.specs.Grammar.{builds, finish, name, restarts}
 use Rattle.par_grammar.specs.Derivation.{Input}
 use Rattle.par_grammar.proofs.Run.{run, run_builds, run_name}
-use Rattle.par_lexer.specs.declared.word.TheConstants as word
-use Rattle.par_lexer.specs.declared.sign.TheConstants as sign
+use Rattle.par_grammar.specs.par_lexer.declared.word.TheConstants as word
+use Rattle.par_grammar.specs.par_lexer.declared.sign.TheConstants as sign
 use Rattle.par_tree.specs.Grammar.{Builders, Symbols}
 use Rattle.par_tree.specs.Grammar as g
 use Rattle.par_tree.specs.Values.{Values, paragon, built}

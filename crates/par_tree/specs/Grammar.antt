@@ -5,10 +5,10 @@ use Rattle.par_grammar.specs.declared.sort.Sort.{Sort}
 use Rattle.par_grammar.specs.declared.sort.Sort.TheVariants as sort
 use Rattle.par_grammar.specs.Grammar.{Symbol, Choice, token, kept, finish, counts, restarts, enters}
 use Rattle.par_grammar.specs.Grammar.{leaves, name, builds}
-use Rattle.par_lexer.specs.declared.word.TheConstants as word
-use Rattle.par_lexer.specs.declared.sign.TheConstants as sign
-use Rattle.par_lexer.specs.declared.operator.BinOp.{BinOp}
-use Rattle.par_lexer.specs.declared.operator.BinOp.TheVariants as op
+use Rattle.par_grammar.specs.par_lexer.declared.word.TheConstants as word
+use Rattle.par_grammar.specs.par_lexer.declared.sign.TheConstants as sign
+use Rattle.par_grammar.specs.par_lexer.declared.operator.BinOp.{BinOp}
+use Rattle.par_grammar.specs.par_lexer.declared.operator.BinOp.TheVariants as op
 
 -- The names of the grammar. More is what may follow the first of several.
 pub data Names : Type 0 where

@@ -1,7 +1,7 @@
 -- The tree of a source as plain data: no pointers, and lists of their own where a tree holds
 -- itself.
 use Rattle.std.specs.Prelude.{ℕ, Bool, List, Option}
-use Rattle.par_lexer.specs.declared.operator.BinOp.{BinOp}
+use Rattle.par_grammar.specs.par_lexer.declared.operator.BinOp.{BinOp}
 use Rattle.par_tree.specs.declared.ident.Ident.{Ident}
 use Rattle.par_tree.specs.declared.types.TypeTree.{TypeTree}
 use Rattle.par_tree.specs.declared.policy.LockTree.{LockTree}

@@ -1,9 +1,9 @@
 -- What a derivation builds: the tree of a source.
 use Rattle.std.specs.Prelude.{ℕ, Bool, true, false, List, [], ◌∷◌, ◌++◌, Option, Some, None}
-use Rattle.par_lexer.specs.declared.token.Token.{Token}
-use Rattle.par_lexer.specs.declared.token.Kind.{Kind}
-use Rattle.par_lexer.specs.declared.token.Kind.TheVariants as kind
-use Rattle.par_lexer.specs.declared.operator.BinOp.{BinOp}
+use Rattle.par_grammar.specs.par_lexer.declared.token.Token.{Token}
+use Rattle.par_grammar.specs.par_lexer.declared.token.Kind.{Kind}
+use Rattle.par_grammar.specs.par_lexer.declared.token.Kind.TheVariants as kind
+use Rattle.par_grammar.specs.par_lexer.declared.operator.BinOp.{BinOp}
 use Rattle.par_grammar.specs.Grammar.{Grammar}
 use Rattle.par_tree.specs.declared.ident.Ident.{Ident}
 use Rattle.par_tree.specs.declared.types.TypeTree.{TypeTree}

@@ -1,9 +1,9 @@
 //! Expressions.
 
 use crate::ident::Ident;
-use par_lexer::list::List;
-use par_lexer::name::Name;
-pub use par_lexer::operator::BinOp;
+use par_grammar::par_lexer::list::List;
+use par_grammar::par_lexer::name::Name;
+pub use par_grammar::par_lexer::operator::BinOp;
 
 /// An expression with its place: that of its operator, of the member's name in a selection or a
 /// call, else of its first token.

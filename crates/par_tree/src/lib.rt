@@ -12,3 +12,5 @@ pub mod nodes;
 pub mod policy;
 pub mod stmt;
 pub mod types;
+
+pub use par_grammar;

@@ -3,7 +3,7 @@ use Rattle.std.proofs.Common.{◌≡◌, ℕ, zero, suc, Bool, true, false, List
 use Rattle.std.specs.Prelude.{IsTrue, slice_get}
 use Rattle.par_rules.specs.Closed as closed
 use Rattle.par_values.specs.Areas.{value_or_null}
-use Rattle.par_runs.specs.Values.{truth}
+use Rattle.par_alike.specs.par_runs.Values.{truth}
 use Rattle.par_values.specs.declared.value.MVal.{MVal}
 use Rattle.par_two_runs.proofs.States.{Watch, IsMade, Sees, lattice}
 use Rattle.par_two_runs.proofs.Calls.{AreMade}

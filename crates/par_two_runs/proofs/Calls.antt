@@ -7,15 +7,16 @@ use Rattle.par_rules.specs.Ways as ways
 use Rattle.par_rules.specs.Ways.{Flows, Lands, MayFlow, MayLand, MayRaise}
 use Rattle.par_rules.specs.Closed as closed
 use Rattle.par_values.specs.Areas.{value_or_null}
-use Rattle.par_runs.specs.Tasks.{leave, enter}
+use Rattle.par_alike.specs.par_runs.Tasks.{leave, enter}
 use Rattle.par_bodies.specs.Members.{method_at}
 use Rattle.par_two_runs.specs.Watched.{IsThere}
 use Rattle.par_rules.specs.Declares.{Method}
-use Rattle.par_runs.specs.Meaning.{Calls}
+use Rattle.par_alike.specs.par_runs.Meaning.{Calls}
 use Rattle.par_values.specs.declared.value.MVal.{MVal}
-use Rattle.par_runs.specs.State.{State, entered, restored}
-use Rattle.par_runs.specs.Tasks.{Normal, Broken, Continued, Returned, Thrown, Task, nothing}
-use Rattle.par_pass.proofs.Along.{and_l, and_r}
+use Rattle.par_alike.specs.par_runs.State.{State, entered, restored}
+use Rattle.par_alike.specs.par_runs.Tasks.{Normal, Broken, Continued, Returned, Thrown, Task}
+use Rattle.par_alike.specs.par_runs.Tasks.{nothing}
+use Rattle.par_checks.proofs.par_pass.Along.{and_l, and_r}
 use Rattle.par_two_runs.proofs.LockSets.{or_cases, not_true}
 use Rattle.std.proofs.lemmas.Bool.{or_left, or_right}
 use Rattle.par_two_runs.proofs.States.{Watch, Agrees, Any, BodyFlowsTo, Calm, Exits, FlowsTo}

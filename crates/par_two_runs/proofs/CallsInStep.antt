@@ -7,12 +7,12 @@ use Rattle.par_rules.specs.Ways as ways
 use Rattle.par_rules.specs.Ways.{Flows, Lands, MayFlow, MayLand, MayRaise}
 use Rattle.par_rules.specs.Closed as closed
 use Rattle.par_values.specs.Areas.{value_or_null}
-use Rattle.par_runs.specs.Tasks.{leave, enter}
+use Rattle.par_alike.specs.par_runs.Tasks.{leave, enter}
 use Rattle.par_rules.specs.Declares.{Method}
 use Rattle.par_values.specs.declared.value.MVal.{MVal}
-use Rattle.par_runs.specs.State.{State, entered, restored}
-use Rattle.par_runs.specs.Tasks.{Exit, Normal, Thrown, Rests, Task, nothing}
-use Rattle.par_pass.proofs.Along.{and_r}
+use Rattle.par_alike.specs.par_runs.State.{State, entered, restored}
+use Rattle.par_alike.specs.par_runs.Tasks.{Exit, Normal, Thrown, Rests, Task, nothing}
+use Rattle.par_checks.proofs.par_pass.Along.{and_r}
 use Rattle.par_two_runs.proofs.States.{Watch, Agrees, Any, Exits, FlowsTo, Frame, Like, Restores}
 use Rattle.par_two_runs.proofs.States.{Sees, Unseen, Values, Way, each_exit, lattice, like_body}
 use Rattle.par_two_runs.proofs.States.{raised, thrown}

@@ -9,11 +9,12 @@ use Rattle.par_values.specs.declared.value.MVal.{MVal}
 use Rattle.par_values.specs.declared.value.MVal.TheVariants as value
 use Rattle.par_values.specs.declared.run.Val.{Val}
 use Rattle.par_values.specs.Areas.{next, left}
-use Rattle.par_runs.specs.Names.{Name, Member, made_named, field_named, channel_named}
-use Rattle.par_runs.specs.State.{State, take_input}
-use Rattle.par_runs.specs.Values.{shown_value}
-use Rattle.par_runs.specs.Meaning.{inputs}
-use Rattle.par_runs.specs.Tasks.{Normal, Task, nothing, read, named, NULL_POINTER, ARITHMETIC}
+use Rattle.par_alike.specs.par_runs.Names.{Name, Member, made_named, field_named, channel_named}
+use Rattle.par_alike.specs.par_runs.State.{State, take_input}
+use Rattle.par_alike.specs.par_runs.Values.{shown_value}
+use Rattle.par_alike.specs.par_runs.Meaning.{inputs}
+use Rattle.par_alike.specs.par_runs.Tasks.{Normal, Task, nothing, read, named, NULL_POINTER}
+use Rattle.par_alike.specs.par_runs.Tasks.{ARITHMETIC}
 use Rattle.par_bodies.specs.Members.{field_at, channel_at}
 use Rattle.par_bodies.specs.Names.{IsField, IsChannel}
 use Rattle.par_two_runs.proofs.States.{Watch, BodyFlowsTo, Exits, Frame, HasPolicy, IsMade, Keeps}

@@ -2,8 +2,8 @@
 use Rattle.std.proofs.Common.{◌≡◌, ℕ, zero, suc, Bool, true, false, cond, ◌⊎◌, inl, inr, ⊎_elim}
 use Rattle.std.proofs.Common.{List, [], ◌∷◌, Some, refl, sym, subst, take}
 use Rattle.std.specs.Prelude.{IsTrue, slice_get}
-use Rattle.par_secrecy.specs.Runs.{Witnessed}
-use Rattle.par_secrecy.specs.Secure.{events}
+use Rattle.par_alike.specs.par_secrecy.Runs.{Witnessed}
+use Rattle.par_alike.specs.par_secrecy.Secure.{events}
 
 module _ (R : Witnessed → Witnessed → Type 0) where
   -- as far as both go, the events are equal up to a first pair that is in R

@@ -4,8 +4,8 @@ use Rattle.std.specs.Prelude.{IsTrue, nat_eq}
 use Rattle.par_rules.specs.Ways as ways
 use Rattle.par_rules.specs.Ways.{Flows, Lands, MayFlow, MayLand, MayRaise}
 use Rattle.par_values.specs.declared.value.MVal.{MVal}
-use Rattle.par_runs.specs.State.{State, set_local, set_result}
-use Rattle.par_pass.proofs.Along.{and_l, and_r}
+use Rattle.par_alike.specs.par_runs.State.{State, set_local, set_result}
+use Rattle.par_checks.proofs.par_pass.Along.{and_l, and_r}
 use Rattle.par_two_runs.proofs.States.{Watch, Frame, IsMade, Keeps, Like, Made, Sees, Unseen}
 use Rattle.par_two_runs.proofs.States.{Values, Way, lattice}
 use Rattle.par_two_runs.proofs.Puts.{put_all, put_keep, put_like}

@@ -2,10 +2,10 @@
 use Rattle.std.proofs.Common.{◌≡◌, ℕ, Bool, true, false, cond, ◌&&◌, ◌||◌, not, ◌⊎◌, inl, inr}
 use Rattle.std.proofs.Common.{List, [], ◌∷◌, refl, sym, subst, ◌∙◌}
 use Rattle.std.specs.Prelude.{IsTrue, nat_eq, nat_lt, ◌==◌}
-use Rattle.par_pass.proofs.Along.{and_l, and_r}
+use Rattle.par_checks.proofs.par_pass.Along.{and_l, and_r}
 use Rattle.std.proofs.lemmas.Bool.{and_from, or_left, or_right, eqb-true, eq-eqb, cond_both}
 use Rattle.par_policy.specs.Numbers.{has}
-use Rattle.par_runs.specs.State.{opened, closed}
+use Rattle.par_alike.specs.par_runs.State.{opened, closed}
 
 -- one of two that hold
 pub or_cases : (a b : Bool) → IsTrue (a || b) → IsTrue a ⊎ IsTrue b

@@ -8,11 +8,11 @@ use Rattle.par_bits.specs.Sets.{adding, none}
 use Rattle.par_rules.specs.Ways as ways
 use Rattle.par_rules.specs.Ways.{Flows, Lands, MayFlow, MayLand, MayRaise}
 use Rattle.par_values.specs.declared.value.MVal.{MVal}
-use Rattle.par_secrecy.specs.Runs.{Witnessed}
-use Rattle.par_runs.specs.State.{State, open_lock, close_lock, opened, closed}
-use Rattle.par_runs.specs.Tasks.{Rests, Task, asked}
+use Rattle.par_alike.specs.par_secrecy.Runs.{Witnessed}
+use Rattle.par_alike.specs.par_runs.State.{State, open_lock, close_lock, opened, closed}
+use Rattle.par_alike.specs.par_runs.Tasks.{Rests, Task, asked}
 use Rattle.par_checks.specs.Checks.{lock_written}
-use Rattle.par_pass.proofs.Along.{and_l, and_r}
+use Rattle.par_checks.proofs.par_pass.Along.{and_l, and_r}
 use Rattle.std.proofs.lemmas.Bool.{and_from, or_left, or_right}
 use Rattle.par_two_runs.proofs.LockSets.{or_cases}
 use Rattle.par_two_runs.proofs.LockSets.{or_false, is_not, has_old, opened_has, closed_has}

@@ -6,11 +6,12 @@ use Rattle.par_rules.specs.Ways.{Flows}
 use Rattle.par_values.specs.declared.run.Event.{Event}
 use Rattle.par_values.specs.declared.value.MVal.{MVal}
 use Rattle.par_values.specs.Areas.{next}
-use Rattle.par_secrecy.specs.Runs.{Witnessed}
-use Rattle.par_secrecy.specs.Shown.{sees}
-use Rattle.par_runs.specs.State.{State}
-use Rattle.par_runs.specs.Tasks.{Exit, Normal, Broken, Continued, Returned, Thrown, Rests, Task}
-use Rattle.par_runs.specs.Tasks.{done, paid, change, happens, asked, follow, and_then}
+use Rattle.par_alike.specs.par_secrecy.Runs.{Witnessed}
+use Rattle.par_alike.specs.par_secrecy.Shown.{sees}
+use Rattle.par_alike.specs.par_runs.State.{State}
+use Rattle.par_alike.specs.par_runs.Tasks.{Exit, Normal, Broken, Continued, Returned, Thrown, Rests}
+use Rattle.par_alike.specs.par_runs.Tasks.{Task}
+use Rattle.par_alike.specs.par_runs.Tasks.{done, paid, change, happens, asked, follow, and_then}
 use Rattle.par_alike.specs.Subject.{event_policy}
 use Rattle.par_two_runs.proofs.Lists.{agree_skip}
 use Rattle.par_two_runs.proofs.States.{Watch, Agrees, Blocked, BodyFlowsTo, Calm, Exits}

@@ -6,10 +6,11 @@ use Rattle.par_rules.specs.Ways.{Lands}
 use Rattle.par_values.specs.declared.value.MVal.{MVal}
 use Rattle.par_values.specs.declared.value.MVal.TheVariants as value
 use Rattle.par_values.specs.Areas.{next, left}
-use Rattle.par_runs.specs.State.{State}
-use Rattle.par_runs.specs.Tasks.{Exit, Normal, Broken, Continued, Returned, Thrown, Rests, Task}
-use Rattle.par_runs.specs.Tasks.{nothing, done, follow, and_then, tested, NULL_POINTER}
-use Rattle.par_pass.proofs.Along.{and_r}
+use Rattle.par_alike.specs.par_runs.State.{State}
+use Rattle.par_alike.specs.par_runs.Tasks.{Exit, Normal, Broken, Continued, Returned, Thrown, Rests}
+use Rattle.par_alike.specs.par_runs.Tasks.{Task}
+use Rattle.par_alike.specs.par_runs.Tasks.{nothing, done, follow, and_then, tested, NULL_POINTER}
+use Rattle.par_checks.proofs.par_pass.Along.{and_r}
 use Rattle.par_two_runs.proofs.States.{Watch, Agrees, Any, Exits, FlowsTo, Frame, Gives, IsMade}
 use Rattle.par_two_runs.proofs.States.{Leaves, Like, Merges, Other, Restores, Unseen, Values, Way}
 use Rattle.par_two_runs.proofs.States.{broken, continued, each_exit, exit_cases, lands_raised}

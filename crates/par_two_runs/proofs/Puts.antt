@@ -1,7 +1,7 @@
 -- Updated values: where two updates agree, and what one leaves as it was.
 use Rattle.std.proofs.Common.{◌≡◌, ℕ, Bool, true, false, cond, refl, ap, ◌∙◌, subst, ◌==◌}
 use Rattle.std.proofs.lemmas.Bool.{eqb-true}
-use Rattle.par_runs.specs.State.{put}
+use Rattle.par_alike.specs.par_runs.State.{put}
 
 -- equal choices
 pick : {X : Type 0} (b : Bool) (u v p q : X) → (b ≡ true → u ≡ v) → (b ≡ false → p ≡ q)

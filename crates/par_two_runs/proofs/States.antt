@@ -18,18 +18,18 @@ use Rattle.par_rules.specs.Kinds.{Next, Loop, Catches, Absorber}
 use Rattle.par_values.specs.declared.run.Event.{Event}
 use Rattle.par_values.specs.declared.value.MVal.{MVal}
 use Rattle.par_values.specs.declared.value.MVal.TheVariants as value
-use Rattle.par_secrecy.specs.Runs.{Witnessed}
-use Rattle.par_secrecy.specs.Shown.{Observer, sees}
-use Rattle.par_runs.specs.Names.{Name, made_named}
-use Rattle.par_runs.specs.State.{State}
-use Rattle.par_runs.specs.Tasks.{Exit, Normal, Broken, Continued, Returned, Thrown}
+use Rattle.par_alike.specs.par_secrecy.Runs.{Witnessed}
+use Rattle.par_alike.specs.par_secrecy.Shown.{Observer, sees}
+use Rattle.par_alike.specs.par_runs.Names.{Name, made_named}
+use Rattle.par_alike.specs.par_runs.State.{State}
+use Rattle.par_alike.specs.par_runs.Tasks.{Exit, Normal, Broken, Continued, Returned, Thrown}
 use Rattle.par_alike.specs.Subject.{event_policy, policy_at}
 use Rattle.par_two_runs.specs.Watched.{watched}
 use Rattle.par_bodies.specs.Names.{IsField}
 use Rattle.par_checks.specs.Checks.{lock_written}
 use Rattle.par_bodies.specs.Members.{field_at, channel_at}
 use Rattle.par_bodies.specs.Names.{IsChannel}
-use Rattle.par_pass.proofs.Along.{and_l}
+use Rattle.par_checks.proofs.par_pass.Along.{and_l}
 use Rattle.par_two_runs.proofs.Lists.{Agree, agree_swap}
 
 -- An observer over a table, and what may explain that it is shown different events: a release to

@@ -4,10 +4,10 @@ use Rattle.std.proofs.Common.{◌∷◌, sym, subst, if◌then◌else◌}
 use Rattle.par_rules.specs.Ways.{Lands}
 use Rattle.par_values.specs.declared.run.Event.{Event}
 use Rattle.par_values.specs.declared.value.MVal.{MVal}
-use Rattle.par_secrecy.specs.Runs.{Witnessed}
-use Rattle.par_secrecy.specs.Shown.{sees}
-use Rattle.par_runs.specs.State.{State}
-use Rattle.par_runs.specs.Tasks.{Exit, Normal, Rests, Task, done, paid, change, happens}
+use Rattle.par_alike.specs.par_secrecy.Runs.{Witnessed}
+use Rattle.par_alike.specs.par_secrecy.Shown.{sees}
+use Rattle.par_alike.specs.par_runs.State.{State}
+use Rattle.par_alike.specs.par_runs.Tasks.{Exit, Normal, Rests, Task, done, paid, change, happens}
 use Rattle.par_alike.specs.Subject.{event_policy}
 use Rattle.par_two_runs.proofs.Lists.{Agree, agree_emit}
 use Rattle.par_two_runs.proofs.States.{Watch, Agrees, BodyFlowsTo, Calm, Exits, Explained}

@@ -9,16 +9,16 @@ use Rattle.par_values.specs.declared.run.Event.TheVariants.{Out, Set as SetEvent
 use Rattle.par_values.specs.declared.value.MVal.{MVal}
 use Rattle.par_values.specs.declared.value.MVal.TheVariants as value
 use Rattle.par_values.specs.Areas.{number_of}
-use Rattle.par_runs.specs.Names.{Name, made_named, field_named, channel_named}
-use Rattle.par_runs.specs.State.{State, put, set_static, set_field, with_object}
-use Rattle.par_runs.specs.Names.{first_field, first_in, first_held, first_value}
+use Rattle.par_alike.specs.par_runs.Names.{Name, made_named, field_named, channel_named}
+use Rattle.par_alike.specs.par_runs.State.{State, put, set_static, set_field, with_object}
+use Rattle.par_alike.specs.par_runs.Names.{first_field, first_in, first_held, first_value}
 use Rattle.par_typed.specs.declared.ty.Ty.{Ty}
 use Rattle.par_typed.specs.declared.ty.Ty.TheVariants as ty
 use Rattle.par_typed.specs.declared.table.FieldInfo.{FieldInfo}
 use Rattle.par_typed.specs.declared.table.ClassInfo.{ClassInfo}
-use Rattle.par_runs.specs.Values.{shown_value, object_number}
-use Rattle.par_runs.specs.Meaning.{outputs, born, writes_static, writes_field}
-use Rattle.par_runs.specs.Tasks.{Normal, nothing}
+use Rattle.par_alike.specs.par_runs.Values.{shown_value, object_number}
+use Rattle.par_alike.specs.par_runs.Meaning.{outputs, born, writes_static, writes_field}
+use Rattle.par_alike.specs.par_runs.Tasks.{Normal, nothing}
 use Rattle.par_bodies.specs.Members.{field_at}
 use Rattle.par_bodies.specs.Names.{IsField}
 use Rattle.par_two_runs.proofs.Leaves.{Level, Sound, keeps_level, like_level, step_named}

@@ -3,7 +3,7 @@ use Rattle.std.specs.Prelude.{Bool, true, ◌&&◌, List, Option, Some, None, sl
 use Rattle.par_policy.specs.declared.clauses.Clause.{Clause}
 use Rattle.par_typed.specs.declared.table.MethodInfo.{MethodInfo}
 use Rattle.par_rules.specs.Lattice.{Lattice, seen_by}
-use Rattle.par_secrecy.specs.Shown.{Observer}
+use Rattle.par_alike.specs.par_secrecy.Shown.{Observer}
 
 -- the lattice of one observer: a policy is whether it sees what has it
 abbrev pub watched : List (List Clause) → Observer → Lattice

@@ -3,3 +3,6 @@ pub mod First
 pub mod Nodes
 pub mod Plain
 pub mod Shown
+pub use Rattle.par_policy.specs.par_bits as par_bits
+pub use Rattle.par_lexer.specs as par_lexer
+pub use Rattle.par_policy.specs as par_policy

@@ -11,3 +11,7 @@ pub mod refusal;
 pub mod stmt;
 pub mod table;
 pub mod ty;
+
+pub use par_lexer;
+pub use par_policy;
+pub use par_policy::par_bits;

@@ -12,10 +12,10 @@ use Rattle.par_tree.specs.Plain as plain
 use Rattle.par_tree.specs.Plain.{Exp, Exps, MayExp, Sta, Stas, Braces, In, MayBraces, Else, Catches}
 use Rattle.par_tree.specs.Plain.{Catch, NoCatch, Handler, On, Local, Method, Declaration}
 use Rattle.par_tree.specs.Plain.{place}
-use Rattle.par_typed.specs.declared.ty.Ty.{Ty}
-use Rattle.par_typed.specs.declared.table.Table.{Table}
-use Rattle.par_typed.specs.declared.refusal.Refusal.{Refusal}
-use Rattle.par_typed.specs.First.{when, broken}
+use Rattle.par_completes.specs.par_typed.declared.ty.Ty.{Ty}
+use Rattle.par_completes.specs.par_typed.declared.table.Table.{Table}
+use Rattle.par_completes.specs.par_typed.declared.refusal.Refusal.{Refusal}
+use Rattle.par_completes.specs.par_typed.First.{when, broken}
 use Rattle.par_places.specs.Within.{IdentIn, TypeIn, ResultIn, ExpIn, MayExpIn, ExpsIn, LocalIn}
 use Rattle.par_places.specs.Within.{StaIn, BracesIn, MayBracesIn, ElseIn, StasIn, CatchesIn}
 use Rattle.par_places.specs.Within.{HandlerIn, FieldIn, ParamIn, ThrowIn, MethodIn, ClassIn}
@@ -33,7 +33,7 @@ use Rattle.par_scope.specs.Home.{Home}
 use Rattle.par_scope.specs.Members.{any_value, value_of}
 use Rattle.par_scope.specs.Meaning.{param_at}
 use Rattle.par_types.specs.Fits.{is_void, operand}
-use Rattle.par_typed.specs.declared.ty.Ty.TheVariants as ty
+use Rattle.par_completes.specs.par_typed.declared.ty.Ty.TheVariants as ty
 use Rattle.par_types.specs.Exprs.{misfits, number_fault, is_number, unless_number, exception_fault}
 use Rattle.par_types.specs.Exprs.{member_fault, count_fault, misfit, expr_faults, receiver_faults}
 use Rattle.par_types.specs.Exprs.{args_faults, value_faults}

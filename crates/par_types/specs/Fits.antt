@@ -2,8 +2,9 @@
 use Rattle.std.specs.Prelude.{ℕ, Bool, true, false, not, ◌||◌, nat_eq, Option, Some, None}
 use Rattle.par_lexer.specs.declared.operator.BinOp.{BinOp}
 use Rattle.par_lexer.specs.declared.operator.BinOp.TheVariants as op
-use Rattle.par_typed.specs.declared.ty.Ty.{Ty}
-use Rattle.par_typed.specs.declared.ty.Ty.TheVariants.{Int, Boolean, Class, Null, Void}
+use Rattle.par_completes.specs.par_typed.declared.ty.Ty.{Ty}
+use Rattle.par_completes.specs.par_typed.declared.ty.Ty.TheVariants.{Int, Boolean, Class, Null}
+use Rattle.par_completes.specs.par_typed.declared.ty.Ty.TheVariants.{Void}
 use Rattle.par_scope.specs.declared.locals.Slot.{Slot}
 use Rattle.par_scope.specs.Members.{any_value, value_of}
 

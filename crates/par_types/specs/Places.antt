@@ -1,7 +1,7 @@
 -- Where rules on types are broken.
 use Rattle.std.specs.Prelude.{ℕ}
 use Rattle.par_tree.specs.Plain.{Source}
-use Rattle.par_typed.specs.declared.table.Table.{Table}
+use Rattle.par_completes.specs.par_typed.declared.table.Table.{Table}
 use Rattle.par_places.specs.Within.{IsWithin}
 use Rattle.par_places.specs.Broken.{AreBrokenWithin}
 use Rattle.par_types.specs.Program.{type_faults}

@@ -1,8 +1,8 @@
 -- The rules on types of a whole program.
 use Rattle.std.specs.Prelude.{List, [], ◌∷◌, ◌++◌}
 use Rattle.par_tree.specs.Plain.{Declaration, Source, Actors, Lock, Policy, Declared}
-use Rattle.par_typed.specs.declared.table.Table.{Table}
-use Rattle.par_typed.specs.declared.refusal.Refusal.{Refusal}
+use Rattle.par_completes.specs.par_typed.declared.table.Table.{Table}
+use Rattle.par_completes.specs.par_typed.declared.refusal.Refusal.{Refusal}
 use Rattle.par_scope.specs.Names.{Names, names_of}
 use Rattle.par_scope.specs.Home.{class_named}
 use Rattle.par_types.specs.Methods.{class_faults}

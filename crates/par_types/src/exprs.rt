@@ -2,14 +2,16 @@
 
 ghost use Rattle.std.specs.Prelude.{◌≡◌, length, Some};
 ghost use Rattle.par_tree.specs.Shown.{shown, receiver, all_shown};
-ghost use Rattle.par_typed.specs.declared.ty.Ty.TheVariants as ty;
-ghost use Rattle.par_typed.specs.First.{first_of};
+ghost use Rattle.par_completes.specs.par_typed.declared.ty.Ty.TheVariants as ty;
+ghost use Rattle.par_completes.specs.par_typed.First.{first_of};
 ghost use Rattle.par_scope.specs.Home.{seen, class_named, class_type};
 ghost use Rattle.par_scope.specs.Members.{value_of};
 ghost use Rattle.par_scope.specs.Meaning.{type_of, called_on};
 ghost use Rattle.par_types.specs.Exprs as is;
 
 use crate::fits::{any_value, are_alike, operand, suits, value_of};
+use par_completes::par_typed::refusal::Findings;
+use par_completes::par_typed::ty::Ty;
 use par_scope::home::{Home, class_type};
 use par_scope::locals::{Locals, Slot};
 use par_scope::meaning::{
@@ -19,8 +21,6 @@ use par_scope::meaning::{
 use par_scope::members::is_exception;
 use par_tree::expr::{Expr, ExprKind};
 use par_tree::ident::Ident;
-use par_typed::refusal::Findings;
-use par_typed::ty::Ty;
 
 /// The least number that is no int without a `-`.
 pub const TOO_LARGE: u32 = 2_147_483_648;

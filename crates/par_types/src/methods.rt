@@ -2,21 +2,21 @@
 
 ghost use Rattle.std.specs.Prelude.{◌≡◌, OnOk};
 ghost use Rattle.par_tree.specs.Shown.{method, methods, class_of};
-ghost use Rattle.par_typed.specs.First.{first_of};
+ghost use Rattle.par_completes.specs.par_typed.First.{first_of};
 ghost use Rattle.par_scope.specs.Home.{seen};
 ghost use Rattle.par_types.specs.Methods as is;
 
 use crate::fits::is_void;
 use crate::stmts::{check_block, check_thrown, check_type};
 use par_completes::block_completes;
+use par_completes::par_typed::refusal::Findings;
+use par_completes::par_typed::table::Table;
 use par_lexer::list::NoMemory;
 use par_scope::home::{Home, result_written, type_written};
 use par_scope::index::TableIndex;
 use par_scope::locals::{Locals, Slot};
 use par_tree::decl::{ClassDecl, FieldDecl, MethodDecl, ParamDecl, ThrowDecl};
 use par_tree::types::TypeTree;
-use par_typed::refusal::Findings;
-use par_typed::table::Table;
 use std::alloc::Global;
 
 fn param_slot(home: &Home<'_>, param: &ParamDecl) -> Slot

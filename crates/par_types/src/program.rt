@@ -2,16 +2,16 @@
 
 ghost use Rattle.std.specs.Prelude.{◌≡◌, None, OnOk, IfOk};
 ghost use Rattle.par_tree.specs.Shown.{declared, all_declared, source};
-ghost use Rattle.par_typed.specs.First.{first_of};
+ghost use Rattle.par_completes.specs.par_typed.First.{first_of};
 ghost use Rattle.par_scope.specs.Names.{IsFewTable};
 ghost use Rattle.par_types.specs.Program.{declaration_faults, declarations_faults, type_faults};
 
 use crate::methods::check_class;
+use par_completes::par_typed::refusal::{Findings, Refusal};
+use par_completes::par_typed::table::Table;
 use par_lexer::list::NoMemory;
 use par_scope::index::TableIndex;
 use par_tree::decl::{Decl, Program};
-use par_typed::refusal::{Findings, Refusal};
-use par_typed::table::Table;
 use std::alloc::Global;
 
 #[tactic(auto, using(crate::proofs::MethodForms::found_in))]
@@ -54,7 +54,7 @@ fn check_decls(
 
 /// The first broken rule on types of a program, whose table this is: the one at the least place,
 /// and there the least rule.
-#[tactic(auto, using(par_typed::proofs::First::firsts))]
+#[tactic(auto, using(par_completes::proofs::par_typed::First::firsts))]
 pub fn check_bodies(
     alloc: Global,
     table: &Table,

@@ -3,7 +3,7 @@
 ghost use Rattle.std.specs.Prelude.{◌≡◌, ◌++◌, true, take, length, OnOk};
 ghost use Rattle.par_tree.specs.Shown.{shown, may_shown, does, braces, otherwise, may_braces};
 ghost use Rattle.par_tree.specs.Shown.{all_do, all_catch, handler, local};
-ghost use Rattle.par_typed.specs.First.{first_of};
+ghost use Rattle.par_completes.specs.par_typed.First.{first_of};
 ghost use Rattle.par_scope.specs.Home.{seen};
 ghost use Rattle.par_scope.specs.Locals.{declared};
 ghost use Rattle.par_types.specs.Exprs.{expr_faults};
@@ -13,6 +13,8 @@ ghost use Rattle.par_types.specs.Kept.{IsKept};
 use crate::exprs::{check_expr, check_no_exception, check_value};
 use crate::fits::{any_value, is_void, value_of};
 use par_completes::completes;
+use par_completes::par_typed::refusal::Findings;
+use par_completes::par_typed::ty::Ty;
 use par_lexer::list::NoMemory;
 use par_scope::home::{Home, type_written};
 use par_scope::locals::{Locals, Slot};
@@ -21,8 +23,6 @@ use par_tree::expr::{Expr, ExprKind};
 use par_tree::ident::Ident;
 use par_tree::stmt::{Block, CatchTree, LocalDecl, Stmt, StmtKind};
 use par_tree::types::TypeTree;
-use par_typed::refusal::Findings;
-use par_typed::ty::Ty;
 
 /// Notes an exception class as a type.
 #[tactic(auto, using(crate::proofs::Forms::finds), unfolding(crate::specs::Stmts::type_fault))]

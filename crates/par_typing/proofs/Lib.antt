@@ -6,3 +6,4 @@ pub mod Small
 pub mod Tables
 pub mod Written
 pub mod WellTyped
+pub use Rattle.par_tables.proofs as par_tables

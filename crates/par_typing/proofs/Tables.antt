@@ -11,9 +11,10 @@ use Rattle.par_scope.specs.Names.{member_names, IsFewMembers, IsFewTable}
 use Rattle.par_names.specs.Declarations.{builtin, builtins, declared_classes, classes}
 use Rattle.par_resolved.specs.Policies.{known}
 use Rattle.par_resolved.specs.Numbered.{numbered}
-use Rattle.par_resolved.specs.Resolved.{Resolved, resolved, field_infos, channel_info, method_info}
+use Rattle.par_resolved.specs.Resolved.{Resolved, resolved, field_infos, channel_info}
+use Rattle.par_resolved.specs.Resolved.{method_info}
 use Rattle.par_resolved.specs.Resolved.{class_info, class_infos, table_of}
-use Rattle.par_declarations.specs.Limits.{in_order, earlier, member_places, class_limits}
+use Rattle.par_tables.specs.par_declarations.Limits.{in_order, earlier, member_places, class_limits}
 use Rattle.par_typing.proofs.Limits.{IsWithinLimits, ClassIsWithin, class_within}
 
 -- none of two lists in order is lost

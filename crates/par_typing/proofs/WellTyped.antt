@@ -5,13 +5,13 @@ use Rattle.par_tree.specs.Plain.{Source}
 use Rattle.par_typed.specs.declared.table.Table.{Table}
 use Rattle.par_typed.specs.Plain.{Body}
 use Rattle.par_types.specs.Program.{type_faults}
-use Rattle.par_annotate.specs.Bodies.{typed_program}
+use Rattle.par_annotated.specs.par_annotate.Bodies.{typed_program}
 use Rattle.par_sources.specs.Order.{IsInOrder}
 use Rattle.par_sources.specs.Sizes.{source_texts}
 use Rattle.par_resolved.specs.Resolved.{table_of}
-use Rattle.par_faults.specs.Faults.{all_faults}
-use Rattle.par_well_typed.specs.WellTyped.{IsWellTyped}
-use Rattle.par_well_typed.proofs.Whole.{sources_are_well_typed}
+use Rattle.par_tables.specs.par_faults.Faults.{all_faults}
+use Rattle.par_tables.specs.par_well_typed.WellTyped.{IsWellTyped}
+use Rattle.par_tables.proofs.par_well_typed.Whole.{sources_are_well_typed}
 use Rattle.par_declared.specs.Declared.{IsWellDeclared}
 use Rattle.par_tables.proofs.Whole as tables
 use Rattle.par_typing.specs.Typed.{written}

@@ -9,15 +9,18 @@ use Rattle.par_index.proofs.Places.{position-from}
 use Rattle.par_policy.specs.declared.clauses.Clause.{Clause}
 use Rattle.par_tree.specs.declared.decl.FieldDecl.{FieldDecl}
 use Rattle.par_tree.specs.Plain.{Source}
-use Rattle.par_annotate.specs.Stmts.{Written}
+use Rattle.par_annotated.specs.par_annotate.Stmts.{Written}
 use Rattle.par_resolved.specs.declared.entries.Entry.{Entry}
 use Rattle.par_resolved.specs.declared.known.Known as code
 use Rattle.par_resolved.specs.Seen.{known_seen}
 use Rattle.par_resolved.specs.Numbers.{lock_number}
 use Rattle.par_resolved.specs.Policies.{Known, known, bottom, policy_of}
-use Rattle.par_resolved.specs.Numbered.{same_policy, by_place, written_entry, query_entries}
-use Rattle.par_resolved.specs.Numbered.{birth_entry, declared, entries, with_new, distinct}
-use Rattle.par_resolved.specs.Numbered.{inferred_fields, inferred_entry, shared_policies}
+use Rattle.par_resolved.specs.Numbered.{same_policy, by_place, written_entry}
+use Rattle.par_resolved.specs.Numbered.{query_entries}
+use Rattle.par_resolved.specs.Numbered.{birth_entry, declared, entries, with_new}
+use Rattle.par_resolved.specs.Numbered.{distinct}
+use Rattle.par_resolved.specs.Numbered.{inferred_fields, inferred_entry}
+use Rattle.par_resolved.specs.Numbered.{shared_policies}
 use Rattle.par_resolved.specs.Numbered.{policy_number}
 use Rattle.par_resolved.specs.Written as said
 use Rattle.par_resolved.specs.Resolved.{table_of}

@@ -7,8 +7,8 @@ use Rattle.par_typed.specs.declared.refusal.Refusal.{Refusal}
 use Rattle.par_typed.specs.First.{IsFirst}
 use Rattle.par_typed.specs.Shown.{bodies}
 use Rattle.par_types.specs.Program.{type_faults}
-use Rattle.par_annotate.specs.Stmts.{Written}
-use Rattle.par_annotate.specs.Bodies.{typed_program}
+use Rattle.par_annotated.specs.par_annotate.Stmts.{Written}
+use Rattle.par_annotated.specs.par_annotate.Bodies.{typed_program}
 use Rattle.par_resolved.specs.Numbers.{lock_number}
 use Rattle.par_resolved.specs.Resolved.{resolved, expression_number}
 use Rattle.par_typing.specs.declared.error.TypeError.{TypeError}

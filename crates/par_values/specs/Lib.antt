@@ -5,3 +5,5 @@ pub mod Effects
 pub mod Reasons
 pub mod Ran
 pub mod Laws
+pub use Rattle.par_instr.specs as par_instr
+pub use Rattle.par_lexer.specs as par_lexer

@@ -8,19 +8,21 @@ use Rattle.std.specs.List.{AllByRecursion, list_any, range_with_len}
 use Rattle.std.proofs.lemmas.List.{length-map, map-append}
 use Rattle.std.proofs.lemmas.List.FromFn.{length-range_with_len}
 use Rattle.std.proofs.lemmas.Bool.Decides.{nat_tests}
-use Rattle.par_tree.specs.declared.policy.LockTree.{LockTree}
-use Rattle.par_tree.specs.declared.policy.PolicyExpr.{PolicyExpr}
-use Rattle.par_tree.specs.declared.decl.LockDecl.{LockDecl}
-use Rattle.par_tree.specs.Plain.{Source}
-use Rattle.par_typed.specs.declared.table.GroundLock.{GroundLock}
-use Rattle.par_typed.specs.declared.table.Table.{Table}
-use Rattle.par_names.specs.Declarations.{locks}
-use Rattle.par_resolved.specs.Numbers.{lock_number, ground_count, choices, place_in_family}
-use Rattle.par_resolved.specs.Policies.{known}
-use Rattle.par_resolved.specs.Written.{queried}
-use Rattle.par_resolved.specs.Resolved.{Resolved, resolved, number_of, expression_number}
-use Rattle.par_resolved.specs.Resolved.{lock_policy, ground_lock, family, ground_locks_from}
-use Rattle.par_resolved.specs.Resolved.{query_numbers, table_of}
+use Rattle.par_bodies.specs.par_tree.declared.policy.LockTree.{LockTree}
+use Rattle.par_bodies.specs.par_tree.declared.policy.PolicyExpr.{PolicyExpr}
+use Rattle.par_bodies.specs.par_tree.declared.decl.LockDecl.{LockDecl}
+use Rattle.par_bodies.specs.par_tree.Plain.{Source}
+use Rattle.par_rules.specs.par_typed.declared.table.GroundLock.{GroundLock}
+use Rattle.par_rules.specs.par_typed.declared.table.Table.{Table}
+use Rattle.par_sources.specs.par_names.Declarations.{locks}
+use Rattle.par_faults.specs.par_resolved.Numbers.{lock_number, ground_count, choices}
+use Rattle.par_faults.specs.par_resolved.Numbers.{place_in_family}
+use Rattle.par_faults.specs.par_resolved.Policies.{known}
+use Rattle.par_faults.specs.par_resolved.Written.{queried}
+use Rattle.par_faults.specs.par_resolved.Resolved.{Resolved, resolved, number_of, expression_number}
+use Rattle.par_faults.specs.par_resolved.Resolved.{lock_policy, ground_lock, family}
+use Rattle.par_faults.specs.par_resolved.Resolved.{ground_locks_from}
+use Rattle.par_faults.specs.par_resolved.Resolved.{query_numbers, table_of}
 use Rattle.par_well_typed.specs.Typed.{written_in}
 use Rattle.par_well_typed.proofs.Lists.{each_is}
 use Rattle.par_well_typed.proofs.Locks.{length-choices}

@@ -8,17 +8,19 @@ use Rattle.std.specs.Option.{is_none}
 use Rattle.std.specs.Str.{bytes_eq}
 use Rattle.std.proofs.lemmas.List.Elements.{filter-append}
 use Rattle.std.proofs.lemmas.Bool.Decides.{nat_tests}
-use Rattle.par_tree.specs.declared.types.TypeTree.{TypeTree}
-use Rattle.par_tree.specs.Plain.{Class, Method, Source}
-use Rattle.par_typed.specs.declared.ty.Ty.TheVariants as ty
-use Rattle.par_typed.specs.declared.table.MethodInfo.{MethodInfo}
-use Rattle.par_typed.specs.First.{when, broken}
-use Rattle.par_names.specs.Declarations.{classes}
-use Rattle.par_names.specs.Program.{program_doubles, declarations_faults, mains, main_fault}
-use Rattle.par_names.specs.Program.{mains_faults, name_faults}
-use Rattle.par_resolved.specs.Numbers.{result_of}
-use Rattle.par_resolved.specs.Resolved.{Resolved, resolved, param_info, lock_set, method_info}
-use Rattle.par_resolved.specs.Resolved.{class_infos, has_main, table_of}
+use Rattle.par_bodies.specs.par_tree.declared.types.TypeTree.{TypeTree}
+use Rattle.par_bodies.specs.par_tree.Plain.{Class, Method, Source}
+use Rattle.par_rules.specs.par_typed.declared.ty.Ty.TheVariants as ty
+use Rattle.par_rules.specs.par_typed.declared.table.MethodInfo.{MethodInfo}
+use Rattle.par_rules.specs.par_typed.First.{when, broken}
+use Rattle.par_sources.specs.par_names.Declarations.{classes}
+use Rattle.par_sources.specs.par_names.Program.{program_doubles, declarations_faults, mains}
+use Rattle.par_sources.specs.par_names.Program.{main_fault}
+use Rattle.par_sources.specs.par_names.Program.{mains_faults, name_faults}
+use Rattle.par_faults.specs.par_resolved.Numbers.{result_of}
+use Rattle.par_faults.specs.par_resolved.Resolved.{Resolved, resolved, param_info, lock_set}
+use Rattle.par_faults.specs.par_resolved.Resolved.{method_info}
+use Rattle.par_faults.specs.par_resolved.Resolved.{class_infos, has_main, table_of}
 use Rattle.par_sources.specs.Order.{IsInOrder}
 use Rattle.par_bodies.specs.Members.{methods_in}
 use Rattle.par_well_typed.specs.Beginning as table

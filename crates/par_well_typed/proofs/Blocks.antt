@@ -1,17 +1,20 @@
 -- The body of each catch in a typed body is a block.
 use Rattle.std.proofs.Common.{◌≡◌, ℕ, ◌+◌, true, List, [], ◌∷◌, Option, Some, None, refl}
 use Rattle.std.specs.List.{AllByRecursion}
-use Rattle.par_tree.specs.Plain.{Sta, Block, If, While, Try, Return, Break, Continue, Throw, Open}
-use Rattle.par_tree.specs.Plain.{Close}
-use Rattle.par_tree.specs.Plain.{Declare, Assign, Do, When, Braces, In, MayBraces, NoBraces}
-use Rattle.par_tree.specs.Plain.{Else, NoElse, Otherwise, Stas, End, Then, Catches, NoCatch, Catch}
-use Rattle.par_tree.specs.Plain.{Handler, On, Method, Class, Declaration, Source}
-use Rattle.par_tree.specs.Plain as plain
-use Rattle.par_typed.specs.declared.table.Table.{Table}
-use Rattle.par_typed.specs.Nodes.{nodes, stmt_nodes}
-use Rattle.par_typed.specs.Plain.{TExp, Body}
-use Rattle.par_scope.specs.Names.{Names, names_of}
-use Rattle.par_scope.specs.Home.{Home, class_named}
+use Rattle.par_bodies.specs.par_tree.Plain.{Sta, Block, If, While, Try, Return, Break, Continue}
+use Rattle.par_bodies.specs.par_tree.Plain.{Throw, Open}
+use Rattle.par_bodies.specs.par_tree.Plain.{Close}
+use Rattle.par_bodies.specs.par_tree.Plain.{Declare, Assign, Do, When, Braces, In, MayBraces}
+use Rattle.par_bodies.specs.par_tree.Plain.{NoBraces}
+use Rattle.par_bodies.specs.par_tree.Plain.{Else, NoElse, Otherwise, Stas, End, Then, Catches}
+use Rattle.par_bodies.specs.par_tree.Plain.{NoCatch, Catch}
+use Rattle.par_bodies.specs.par_tree.Plain.{Handler, On, Method, Class, Declaration, Source}
+use Rattle.par_bodies.specs.par_tree.Plain as plain
+use Rattle.par_rules.specs.par_typed.declared.table.Table.{Table}
+use Rattle.par_rules.specs.par_typed.Nodes.{nodes, stmt_nodes}
+use Rattle.par_rules.specs.par_typed.Plain.{TExp, Body}
+use Rattle.par_annotate.specs.par_scope.Names.{Names, names_of}
+use Rattle.par_annotate.specs.par_scope.Home.{Home, class_named}
 use Rattle.par_annotate.specs.Frames.{Frame, further}
 use Rattle.par_annotate.specs.Exprs.{typed_exp}
 use Rattle.par_annotate.specs.Stmts.{Written, Target, Nowhere, ToLocal, ToStatic, ToField, target}
@@ -21,9 +24,9 @@ use Rattle.par_annotate.specs.Stmts.{typed_sta, typed_braces, typed_may_braces, 
 use Rattle.par_annotate.specs.Stmts.{typed_stas, typed_catches, typed_handler}
 use Rattle.par_annotate.specs.Bodies.{no_frame, with_params, typed_methods}
 use Rattle.par_annotate.specs.Bodies.{typed_class, typed_declaration, typed_declarations}
-use Rattle.par_types.specs.Methods.{home_of}
-use Rattle.par_scope.specs.Home.{result_written}
-use Rattle.par_resolved.specs.Resolved.{table_of}
+use Rattle.par_annotate.specs.par_types.Methods.{home_of}
+use Rattle.par_annotate.specs.par_scope.Home.{result_written}
+use Rattle.par_faults.specs.par_resolved.Resolved.{table_of}
 use Rattle.par_well_typed.specs.Blocks.{is_block, HasBlocks, ElseHasBlocks, AllHaveBlocks}
 use Rattle.par_well_typed.specs.Blocks.{CatchesHaveBlocks}
 use Rattle.par_well_typed.specs.WellTyped.{CatchesInBlocks}

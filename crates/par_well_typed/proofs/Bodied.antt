@@ -4,18 +4,19 @@ use Rattle.std.proofs.Common.{◌∙◌, append_assoc, map}
 use Rattle.std.specs.Prelude.{flat_map, slice_get, count_by}
 use Rattle.std.specs.List.{AllByRecursion, range_with_len}
 use Rattle.std.proofs.lemmas.List.{length-map, length-append, map-append}
-use Rattle.par_tree.specs.Plain.{Class, Method, Declaration, Source}
-use Rattle.par_tree.specs.Plain as plain
-use Rattle.par_typed.specs.declared.table.Table.{Table}
-use Rattle.par_names.specs.Declarations.{classes, builtins, classes_in}
-use Rattle.par_names.specs.Program.{name_faults}
-use Rattle.par_scope.specs.Names.{names_of}
-use Rattle.par_scope.specs.Home.{class_named}
+use Rattle.par_bodies.specs.par_tree.Plain.{Class, Method, Declaration, Source}
+use Rattle.par_bodies.specs.par_tree.Plain as plain
+use Rattle.par_rules.specs.par_typed.declared.table.Table.{Table}
+use Rattle.par_sources.specs.par_names.Declarations.{classes, builtins, classes_in}
+use Rattle.par_sources.specs.par_names.Program.{name_faults}
+use Rattle.par_annotate.specs.par_scope.Names.{names_of}
+use Rattle.par_annotate.specs.par_scope.Home.{class_named}
 use Rattle.par_annotate.specs.Stmts.{Written}
 use Rattle.par_annotate.specs.Bodies.{typed_methods, typed_class, typed_declaration}
 use Rattle.par_annotate.specs.Bodies.{typed_declarations}
-use Rattle.par_resolved.specs.Resolved.{Resolved, resolved, class_info, class_infos, method_info}
-use Rattle.par_resolved.specs.Resolved.{table_of}
+use Rattle.par_faults.specs.par_resolved.Resolved.{Resolved, resolved, class_info, class_infos}
+use Rattle.par_faults.specs.par_resolved.Resolved.{method_info}
+use Rattle.par_faults.specs.par_resolved.Resolved.{table_of}
 use Rattle.par_sources.specs.Order.{Ascend, IsInOrder}
 use Rattle.par_well_typed.specs.Bodied.{Spot, spot_of, methods_from, AreBodiesOf}
 use Rattle.par_well_typed.specs.Typed.{written_in, bodies_of}

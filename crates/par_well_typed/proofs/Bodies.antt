@@ -2,43 +2,50 @@
 use Rattle.std.proofs.Common.{◌≡◌, ℕ, ◌+◌, ◌<◌, ◌≤◌, Bool, true, false, List, [], ◌∷◌, Option, Some}
 use Rattle.std.proofs.Common.{None, refl, sym, subst, arith, add-zero}
 use Rattle.std.specs.List.{AllByRecursion}
-use Rattle.par_tree.specs.declared.policy.LockTree.{LockTree}
-use Rattle.par_tree.specs.declared.policy.PolicyExpr.{PolicyExpr}
-use Rattle.par_tree.specs.Plain.{Exp, Int, True, False, Null, This, New, Name, Field, Call, Neg}
-use Rattle.par_tree.specs.Plain.{Not, Binary}
-use Rattle.par_tree.specs.Plain.{Exps, NoExps, More, MayExp, Absent, Present, Source}
-use Rattle.par_tree.specs.Plain.{Sta, Block, If, While, Try, Return, Break, Continue, Throw, Open}
-use Rattle.par_tree.specs.Plain.{Close}
-use Rattle.par_tree.specs.Plain.{Declare, Assign, Do, When, Braces, In, MayBraces, NoBraces}
-use Rattle.par_tree.specs.Plain.{Else, NoElse, Otherwise, Stas, End, Then, Catches, NoCatch, Catch}
-use Rattle.par_tree.specs.Plain.{Handler, On}
-use Rattle.par_tree.specs.Plain as plain
-use Rattle.par_typed.specs.declared.ty.Ty.TheVariants as ty
-use Rattle.par_typed.specs.declared.table.ChannelInfo.{ChannelInfo}
-use Rattle.par_typed.specs.declared.table.Table.{Table}
-use Rattle.par_typed.specs.Plain as typed
-use Rattle.par_typed.specs.Plain.{Mark, TExp, MayTExp, TExps}
-use Rattle.par_typed.specs.Nodes.{may_nodes}
-use Rattle.par_names.specs.Exprs as names
-use Rattle.par_names.specs.Declarations.{locks, doubles}
-use Rattle.par_names.specs.Policies.{View, lock_faults}
-use Rattle.par_names.specs.Program.{view_behind}
-use Rattle.par_names.specs.Stmts.{declares, all_caught, stmt_faults, braces_faults}
-use Rattle.par_names.specs.Stmts.{may_braces_faults, else_faults, stmts_faults, catches_faults}
-use Rattle.par_names.specs.Stmts.{handler_faults}
-use Rattle.par_scope.specs.declared.members.Place.{Place}
-use Rattle.par_scope.specs.declared.locals.Slot.{Slot}
-use Rattle.par_scope.specs.declared.meaning.Receiver.{Receiver}
-use Rattle.par_scope.specs.declared.meaning.Receiver.TheVariants.{Own, Class, Object}
-use Rattle.par_scope.specs.declared.meaning.Callee.{Callee}
-use Rattle.par_scope.specs.declared.meaning.Callee.TheVariants.{Unknown, Channel, Method}
-use Rattle.par_scope.specs.Names.{number_in}
-use Rattle.par_scope.specs.Home.{Home}
-use Rattle.par_scope.specs.Members.{field_at, channel_at, method_at, field_is_static}
-use Rattle.par_scope.specs.Members.{method_is_static}
-use Rattle.par_scope.specs.Meaning.{type_of, called_on, receiver_of, selected, called, sure}
-use Rattle.par_types.specs.Stmts.{slot_of}
-use Rattle.par_resolved.specs.Resolved.{table_of}
+use Rattle.par_bodies.specs.par_tree.declared.policy.LockTree.{LockTree}
+use Rattle.par_bodies.specs.par_tree.declared.policy.PolicyExpr.{PolicyExpr}
+use Rattle.par_bodies.specs.par_tree.Plain.{Exp, Int, True, False, Null, This, New, Name, Field}
+use Rattle.par_bodies.specs.par_tree.Plain.{Call, Neg}
+use Rattle.par_bodies.specs.par_tree.Plain.{Not, Binary}
+use Rattle.par_bodies.specs.par_tree.Plain.{Exps, NoExps, More, MayExp, Absent, Present, Source}
+use Rattle.par_bodies.specs.par_tree.Plain.{Sta, Block, If, While, Try, Return, Break, Continue}
+use Rattle.par_bodies.specs.par_tree.Plain.{Throw, Open}
+use Rattle.par_bodies.specs.par_tree.Plain.{Close}
+use Rattle.par_bodies.specs.par_tree.Plain.{Declare, Assign, Do, When, Braces, In, MayBraces}
+use Rattle.par_bodies.specs.par_tree.Plain.{NoBraces}
+use Rattle.par_bodies.specs.par_tree.Plain.{Else, NoElse, Otherwise, Stas, End, Then, Catches}
+use Rattle.par_bodies.specs.par_tree.Plain.{NoCatch, Catch}
+use Rattle.par_bodies.specs.par_tree.Plain.{Handler, On}
+use Rattle.par_bodies.specs.par_tree.Plain as plain
+use Rattle.par_rules.specs.par_typed.declared.ty.Ty.TheVariants as ty
+use Rattle.par_rules.specs.par_typed.declared.table.ChannelInfo.{ChannelInfo}
+use Rattle.par_rules.specs.par_typed.declared.table.Table.{Table}
+use Rattle.par_rules.specs.par_typed.Plain as typed
+use Rattle.par_rules.specs.par_typed.Plain.{Mark, TExp, MayTExp, TExps}
+use Rattle.par_rules.specs.par_typed.Nodes.{may_nodes}
+use Rattle.par_sources.specs.par_names.Exprs as names
+use Rattle.par_sources.specs.par_names.Declarations.{locks, doubles}
+use Rattle.par_sources.specs.par_names.Policies.{View, lock_faults}
+use Rattle.par_sources.specs.par_names.Program.{view_behind}
+use Rattle.par_sources.specs.par_names.Stmts.{declares, all_caught, stmt_faults, braces_faults}
+use Rattle.par_sources.specs.par_names.Stmts.{may_braces_faults, else_faults, stmts_faults}
+use Rattle.par_sources.specs.par_names.Stmts.{catches_faults}
+use Rattle.par_sources.specs.par_names.Stmts.{handler_faults}
+use Rattle.par_annotate.specs.par_scope.declared.members.Place.{Place}
+use Rattle.par_annotate.specs.par_scope.declared.locals.Slot.{Slot}
+use Rattle.par_annotate.specs.par_scope.declared.meaning.Receiver.{Receiver}
+use Rattle.par_annotate.specs.par_scope.declared.meaning.Receiver.TheVariants.{Own, Class, Object}
+use Rattle.par_annotate.specs.par_scope.declared.meaning.Callee.{Callee}
+use Rattle.par_annotate.specs.par_scope.declared.meaning.Callee.TheVariants.{Unknown, Channel}
+use Rattle.par_annotate.specs.par_scope.declared.meaning.Callee.TheVariants.{Method}
+use Rattle.par_annotate.specs.par_scope.Names.{number_in}
+use Rattle.par_annotate.specs.par_scope.Home.{Home}
+use Rattle.par_annotate.specs.par_scope.Members.{field_at, channel_at, method_at, field_is_static}
+use Rattle.par_annotate.specs.par_scope.Members.{method_is_static}
+use Rattle.par_annotate.specs.par_scope.Meaning.{type_of, called_on, receiver_of, selected, called}
+use Rattle.par_annotate.specs.par_scope.Meaning.{sure}
+use Rattle.par_annotate.specs.par_types.Stmts.{slot_of}
+use Rattle.par_faults.specs.par_resolved.Resolved.{table_of}
 use Rattle.par_annotate.specs.Frames.{Frame, Var, var_at, var_named, with_local, further}
 use Rattle.par_annotate.specs.Exprs.{own_this, own_field, name_typed, negation, number_of}
 use Rattle.par_annotate.specs.Exprs.{selection, own_receiver, method_on}

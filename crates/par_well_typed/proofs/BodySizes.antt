@@ -1,38 +1,45 @@
 -- Typed statements have at most as many nodes as those of the source.
 use Rattle.std.proofs.Common.{◌≡◌, ℕ, ◌+◌, ◌≤◌, Bool, true, false, not, List, [], ◌++◌, Option}
 use Rattle.std.proofs.Common.{Some, None, ap, ◌∙◌, arith, cond}
-use Rattle.par_tree.specs.Plain.{Exp, Int, True, False, Null, This, New, Name, Field, Call, Neg}
-use Rattle.par_tree.specs.Plain.{Not, Binary}
-use Rattle.par_tree.specs.Plain.{MayExp, Absent, Present, Method}
-use Rattle.par_tree.specs.Plain.{Sta, Block, If, While, Try, Return, Break, Continue, Throw, Open}
-use Rattle.par_tree.specs.Plain.{Close}
-use Rattle.par_tree.specs.Plain.{Declare, Assign, Do, When, Braces, In, MayBraces, NoBraces}
-use Rattle.par_tree.specs.Plain.{Else, NoElse, Otherwise, Stas, End, Then, Catches, NoCatch, Catch}
-use Rattle.par_tree.specs.Plain.{On}
-use Rattle.par_tree.specs.Plain as plain
-use Rattle.par_tree.specs.Nodes as source
-use Rattle.par_typed.specs.declared.table.Table.{Table}
-use Rattle.par_typed.specs.declared.refusal.Refusal.{Refusal}
-use Rattle.par_typed.specs.First.{when, broken}
-use Rattle.par_typed.specs.Plain.{TExp}
-use Rattle.par_typed.specs.Nodes.{nodes, stmt_nodes}
-use Rattle.par_scope.specs.declared.members.Place.{Place}
-use Rattle.par_scope.specs.declared.meaning.Receiver as meaning
-use Rattle.par_scope.specs.declared.meaning.Receiver.TheVariants as receiver
-use Rattle.par_scope.specs.Names.{names_of}
-use Rattle.par_scope.specs.Locals.{Scope, no_locals}
-use Rattle.par_scope.specs.Home.{Home, result_written}
-use Rattle.par_scope.specs.Members.{field_at, field_is_static, any_value}
-use Rattle.par_scope.specs.Meaning.{selected, type_of, receiver_of}
-use Rattle.par_completes.specs.Completes.{completes}
-use Rattle.par_types.specs.Fits.{is_void}
-use Rattle.par_types.specs.Exprs.{expr_faults, misfit, value_faults}
-use Rattle.par_types.specs.Stmts as types
-use Rattle.par_types.specs.Stmts.{throw_fault, test_faults, slot_of, target_slot, result_faults}
-use Rattle.par_types.specs.Stmts.{declares, stmt_faults, braces_faults, may_braces_faults}
-use Rattle.par_types.specs.Stmts.{else_faults, stmts_faults, catches_faults, handler_faults}
-use Rattle.par_types.specs.Methods as types_methods
-use Rattle.par_types.specs.Methods.{home_of, end_fault, method_faults}
+use Rattle.par_bodies.specs.par_tree.Plain.{Exp, Int, True, False, Null, This, New, Name, Field}
+use Rattle.par_bodies.specs.par_tree.Plain.{Call, Neg}
+use Rattle.par_bodies.specs.par_tree.Plain.{Not, Binary}
+use Rattle.par_bodies.specs.par_tree.Plain.{MayExp, Absent, Present, Method}
+use Rattle.par_bodies.specs.par_tree.Plain.{Sta, Block, If, While, Try, Return, Break, Continue}
+use Rattle.par_bodies.specs.par_tree.Plain.{Throw, Open}
+use Rattle.par_bodies.specs.par_tree.Plain.{Close}
+use Rattle.par_bodies.specs.par_tree.Plain.{Declare, Assign, Do, When, Braces, In, MayBraces}
+use Rattle.par_bodies.specs.par_tree.Plain.{NoBraces}
+use Rattle.par_bodies.specs.par_tree.Plain.{Else, NoElse, Otherwise, Stas, End, Then, Catches}
+use Rattle.par_bodies.specs.par_tree.Plain.{NoCatch, Catch}
+use Rattle.par_bodies.specs.par_tree.Plain.{On}
+use Rattle.par_bodies.specs.par_tree.Plain as plain
+use Rattle.par_bodies.specs.par_tree.Nodes as source
+use Rattle.par_rules.specs.par_typed.declared.table.Table.{Table}
+use Rattle.par_rules.specs.par_typed.declared.refusal.Refusal.{Refusal}
+use Rattle.par_rules.specs.par_typed.First.{when, broken}
+use Rattle.par_rules.specs.par_typed.Plain.{TExp}
+use Rattle.par_rules.specs.par_typed.Nodes.{nodes, stmt_nodes}
+use Rattle.par_annotate.specs.par_scope.declared.members.Place.{Place}
+use Rattle.par_annotate.specs.par_scope.declared.meaning.Receiver as meaning
+use Rattle.par_annotate.specs.par_scope.declared.meaning.Receiver.TheVariants as receiver
+use Rattle.par_annotate.specs.par_scope.Names.{names_of}
+use Rattle.par_annotate.specs.par_scope.Locals.{Scope, no_locals}
+use Rattle.par_annotate.specs.par_scope.Home.{Home, result_written}
+use Rattle.par_annotate.specs.par_scope.Members.{field_at, field_is_static, any_value}
+use Rattle.par_annotate.specs.par_scope.Meaning.{selected, type_of, receiver_of}
+use Rattle.par_bodies.specs.par_completes.Completes.{completes}
+use Rattle.par_annotate.specs.par_types.Fits.{is_void}
+use Rattle.par_annotate.specs.par_types.Exprs.{expr_faults, misfit, value_faults}
+use Rattle.par_annotate.specs.par_types.Stmts as types
+use Rattle.par_annotate.specs.par_types.Stmts.{throw_fault, test_faults, slot_of, target_slot}
+use Rattle.par_annotate.specs.par_types.Stmts.{result_faults}
+use Rattle.par_annotate.specs.par_types.Stmts.{declares, stmt_faults, braces_faults}
+use Rattle.par_annotate.specs.par_types.Stmts.{may_braces_faults}
+use Rattle.par_annotate.specs.par_types.Stmts.{else_faults, stmts_faults, catches_faults}
+use Rattle.par_annotate.specs.par_types.Stmts.{handler_faults}
+use Rattle.par_annotate.specs.par_types.Methods as types_methods
+use Rattle.par_annotate.specs.par_types.Methods.{home_of, end_fault, method_faults}
 use Rattle.par_annotate.specs.Frames.{Frame, Var, var_named, further}
 use Rattle.par_annotate.specs.Exprs.{own_this, typed_exp, typed_may}
 use Rattle.par_annotate.specs.Stmts.{Written, Target, Nowhere, ToLocal, ToStatic, ToField, target}

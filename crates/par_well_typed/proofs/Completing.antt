@@ -1,30 +1,38 @@
 -- Control comes behind a typed statement exactly where it comes behind that of the source.
 use Rattle.std.proofs.Common.{◌≡◌, ℕ, ◌+◌, Bool, true, false, not, ◌||◌, Option, Some, None, refl}
 use Rattle.std.proofs.Common.{ap, ◌∙◌}
-use Rattle.par_tree.specs.Plain.{Exp, Int, True, False, Null, This, New, Name, Field, Call, Neg}
-use Rattle.par_tree.specs.Plain.{Not, Binary}
-use Rattle.par_tree.specs.Plain.{Sta, Block, If, While, Try, Return, Break, Continue, Throw, Open}
-use Rattle.par_tree.specs.Plain.{Close}
-use Rattle.par_tree.specs.Plain.{Declare, Assign, Do, When, Braces, In, MayBraces, NoBraces}
-use Rattle.par_tree.specs.Plain.{Else, NoElse, Otherwise, Stas, End, Then, Catches, NoCatch, Catch}
-use Rattle.par_tree.specs.Plain.{On}
-use Rattle.par_tree.specs.Plain as plain
-use Rattle.par_typed.specs.declared.table.ChannelInfo.{ChannelInfo}
-use Rattle.par_typed.specs.Plain.{Mark, TExp, MayTExp, TExps}
-use Rattle.par_typed.specs.Nodes.{may_nodes}
-use Rattle.par_completes.specs.Completes.{is_true, breaks, braces_break, may_braces_break}
-use Rattle.par_completes.specs.Completes.{else_breaks, some_break, some_catch_breaks}
-use Rattle.par_completes.specs.Completes.{completes, braces_complete, may_braces_complete}
-use Rattle.par_completes.specs.Completes.{else_completes, last_completes, some_catch_completes}
-use Rattle.par_completes.specs.Typed as ends
-use Rattle.par_scope.specs.declared.members.Place.{Place}
-use Rattle.par_scope.specs.declared.meaning.Receiver.{Receiver}
-use Rattle.par_scope.specs.declared.meaning.Receiver.TheVariants as on
-use Rattle.par_scope.specs.declared.meaning.Callee.{Callee}
-use Rattle.par_scope.specs.declared.meaning.Callee.TheVariants as callee
-use Rattle.par_scope.specs.Home.{Home}
-use Rattle.par_scope.specs.Members.{field_at, channel_at, field_is_static}
-use Rattle.par_scope.specs.Meaning.{type_of, called_on, receiver_of, selected, called, sure}
+use Rattle.par_bodies.specs.par_tree.Plain.{Exp, Int, True, False, Null, This, New, Name, Field}
+use Rattle.par_bodies.specs.par_tree.Plain.{Call, Neg}
+use Rattle.par_bodies.specs.par_tree.Plain.{Not, Binary}
+use Rattle.par_bodies.specs.par_tree.Plain.{Sta, Block, If, While, Try, Return, Break, Continue}
+use Rattle.par_bodies.specs.par_tree.Plain.{Throw, Open}
+use Rattle.par_bodies.specs.par_tree.Plain.{Close}
+use Rattle.par_bodies.specs.par_tree.Plain.{Declare, Assign, Do, When, Braces, In, MayBraces}
+use Rattle.par_bodies.specs.par_tree.Plain.{NoBraces}
+use Rattle.par_bodies.specs.par_tree.Plain.{Else, NoElse, Otherwise, Stas, End, Then, Catches}
+use Rattle.par_bodies.specs.par_tree.Plain.{NoCatch, Catch}
+use Rattle.par_bodies.specs.par_tree.Plain.{On}
+use Rattle.par_bodies.specs.par_tree.Plain as plain
+use Rattle.par_rules.specs.par_typed.declared.table.ChannelInfo.{ChannelInfo}
+use Rattle.par_rules.specs.par_typed.Plain.{Mark, TExp, MayTExp, TExps}
+use Rattle.par_rules.specs.par_typed.Nodes.{may_nodes}
+use Rattle.par_bodies.specs.par_completes.Completes.{is_true, breaks, braces_break}
+use Rattle.par_bodies.specs.par_completes.Completes.{may_braces_break}
+use Rattle.par_bodies.specs.par_completes.Completes.{else_breaks, some_break, some_catch_breaks}
+use Rattle.par_bodies.specs.par_completes.Completes.{completes, braces_complete}
+use Rattle.par_bodies.specs.par_completes.Completes.{may_braces_complete}
+use Rattle.par_bodies.specs.par_completes.Completes.{else_completes, last_completes}
+use Rattle.par_bodies.specs.par_completes.Completes.{some_catch_completes}
+use Rattle.par_bodies.specs.par_completes.Typed as ends
+use Rattle.par_annotate.specs.par_scope.declared.members.Place.{Place}
+use Rattle.par_annotate.specs.par_scope.declared.meaning.Receiver.{Receiver}
+use Rattle.par_annotate.specs.par_scope.declared.meaning.Receiver.TheVariants as on
+use Rattle.par_annotate.specs.par_scope.declared.meaning.Callee.{Callee}
+use Rattle.par_annotate.specs.par_scope.declared.meaning.Callee.TheVariants as callee
+use Rattle.par_annotate.specs.par_scope.Home.{Home}
+use Rattle.par_annotate.specs.par_scope.Members.{field_at, channel_at, field_is_static}
+use Rattle.par_annotate.specs.par_scope.Meaning.{type_of, called_on, receiver_of, selected, called}
+use Rattle.par_annotate.specs.par_scope.Meaning.{sure}
 use Rattle.par_annotate.specs.Frames.{Frame, Var, var_named, further}
 use Rattle.par_annotate.specs.Exprs.{own_this, own_field, name_typed, negation, number_of}
 use Rattle.par_annotate.specs.Exprs.{selection, callee_on, by_way, through, call, typed_exp}

@@ -3,40 +3,47 @@ use Rattle.std.proofs.Common.{◌≡◌, ℕ, Bool, true, not, List, [], ◌∷�
 use Rattle.std.proofs.Common.{Some, None, refl, ap, subst, ◌∙◌}
 use Rattle.std.specs.Prelude.{slice_get, unwrap_or}
 use Rattle.std.specs.List.{AllByRecursion}
-use Rattle.par_tree.specs.declared.types.TypeTree.{TypeTree}
-use Rattle.par_tree.specs.declared.types.TypeTree.TheVariants as type
-use Rattle.par_tree.specs.Plain.{Class, Source}
-use Rattle.par_tree.specs.Plain.{Sta, Block, If, While, Try, Return, Break, Continue, Throw, Open}
-use Rattle.par_tree.specs.Plain.{Close}
-use Rattle.par_tree.specs.Plain.{Declare, Assign, Do, When, Braces, In, MayBraces, NoBraces}
-use Rattle.par_tree.specs.Plain.{Else, NoElse, Otherwise, Stas, End, Then, Catches, NoCatch, Catch}
-use Rattle.par_tree.specs.Plain.{On}
-use Rattle.par_tree.specs.Plain as plain
-use Rattle.par_typed.specs.declared.ty.Ty.{Ty}
-use Rattle.par_typed.specs.declared.table.Table.{Table}
-use Rattle.par_typed.specs.First.{when, broken}
-use Rattle.par_names.specs.Exprs as names
-use Rattle.par_names.specs.Declarations.{classes, doubles}
-use Rattle.par_names.specs.Policies.{View, class_fault, lock_faults, may_policy_faults, type_fault}
-use Rattle.par_names.specs.Program.{view_behind}
-use Rattle.par_names.specs.Stmts as rules
-use Rattle.par_scope.specs.Names.{names_of}
-use Rattle.par_scope.specs.Locals.{Scope}
-use Rattle.par_scope.specs.Home.{Home, class_named}
-use Rattle.par_completes.specs.Completes.{completes}
-use Rattle.par_types.specs.Exprs.{value_faults}
-use Rattle.par_types.specs.Stmts as types
-use Rattle.par_types.specs.Stmts.{throw_fault, test_faults, slot_of, declares, stmt_faults}
-use Rattle.par_types.specs.Stmts.{braces_faults, may_braces_faults, else_faults, stmts_faults}
-use Rattle.par_types.specs.Stmts.{catches_faults, handler_faults}
-use Rattle.par_types.specs.Methods.{home_of}
+use Rattle.par_bodies.specs.par_tree.declared.types.TypeTree.{TypeTree}
+use Rattle.par_bodies.specs.par_tree.declared.types.TypeTree.TheVariants as type
+use Rattle.par_bodies.specs.par_tree.Plain.{Class, Source}
+use Rattle.par_bodies.specs.par_tree.Plain.{Sta, Block, If, While, Try, Return, Break, Continue}
+use Rattle.par_bodies.specs.par_tree.Plain.{Throw, Open}
+use Rattle.par_bodies.specs.par_tree.Plain.{Close}
+use Rattle.par_bodies.specs.par_tree.Plain.{Declare, Assign, Do, When, Braces, In, MayBraces}
+use Rattle.par_bodies.specs.par_tree.Plain.{NoBraces}
+use Rattle.par_bodies.specs.par_tree.Plain.{Else, NoElse, Otherwise, Stas, End, Then, Catches}
+use Rattle.par_bodies.specs.par_tree.Plain.{NoCatch, Catch}
+use Rattle.par_bodies.specs.par_tree.Plain.{On}
+use Rattle.par_bodies.specs.par_tree.Plain as plain
+use Rattle.par_rules.specs.par_typed.declared.ty.Ty.{Ty}
+use Rattle.par_rules.specs.par_typed.declared.table.Table.{Table}
+use Rattle.par_rules.specs.par_typed.First.{when, broken}
+use Rattle.par_sources.specs.par_names.Exprs as names
+use Rattle.par_sources.specs.par_names.Declarations.{classes, doubles}
+use Rattle.par_sources.specs.par_names.Policies.{View, class_fault, lock_faults, may_policy_faults}
+use Rattle.par_sources.specs.par_names.Policies.{type_fault}
+use Rattle.par_sources.specs.par_names.Program.{view_behind}
+use Rattle.par_sources.specs.par_names.Stmts as rules
+use Rattle.par_annotate.specs.par_scope.Names.{names_of}
+use Rattle.par_annotate.specs.par_scope.Locals.{Scope}
+use Rattle.par_annotate.specs.par_scope.Home.{Home, class_named}
+use Rattle.par_bodies.specs.par_completes.Completes.{completes}
+use Rattle.par_annotate.specs.par_types.Exprs.{value_faults}
+use Rattle.par_annotate.specs.par_types.Stmts as types
+use Rattle.par_annotate.specs.par_types.Stmts.{throw_fault, test_faults, slot_of, declares}
+use Rattle.par_annotate.specs.par_types.Stmts.{stmt_faults}
+use Rattle.par_annotate.specs.par_types.Stmts.{braces_faults, may_braces_faults, else_faults}
+use Rattle.par_annotate.specs.par_types.Stmts.{stmts_faults}
+use Rattle.par_annotate.specs.par_types.Stmts.{catches_faults, handler_faults}
+use Rattle.par_annotate.specs.par_types.Methods.{home_of}
 use Rattle.par_annotate.specs.Exprs.{numbered}
-use Rattle.par_resolved.specs.Numbers as numbers
-use Rattle.par_resolved.specs.Numbers.{number}
-use Rattle.par_resolved.specs.Resolved.{Resolved, resolved, table_of}
-use Rattle.par_resolved.specs.Statements.{inside, in_braces, in_may_braces, in_else, in_all}
-use Rattle.par_resolved.specs.Statements.{in_catches}
-use Rattle.par_resolved.specs.Written.{stmt_types}
+use Rattle.par_faults.specs.par_resolved.Numbers as numbers
+use Rattle.par_faults.specs.par_resolved.Numbers.{number}
+use Rattle.par_faults.specs.par_resolved.Resolved.{Resolved, resolved, table_of}
+use Rattle.par_faults.specs.par_resolved.Statements.{inside, in_braces, in_may_braces, in_else}
+use Rattle.par_faults.specs.par_resolved.Statements.{in_all}
+use Rattle.par_faults.specs.par_resolved.Statements.{in_catches}
+use Rattle.par_faults.specs.par_resolved.Written.{stmt_types}
 use Rattle.par_bodies.specs.Makes.{IsOrdinary}
 use Rattle.par_well_typed.specs.Signatures.{IsValueType}
 use Rattle.par_well_typed.proofs.Lists.{none_left, none_right, of_both}

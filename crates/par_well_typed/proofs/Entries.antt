@@ -7,32 +7,36 @@ use Rattle.std.specs.List.{AllByRecursion, list_any, range_with_len}
 use Rattle.std.proofs.lemmas.List.{length-map, length-append}
 use Rattle.std.proofs.lemmas.List.Sums.{sum_by-cons}
 use Rattle.std.specs.Str.{bytes_eq}
-use Rattle.par_tree.specs.declared.types.TypeTree.{TypeTree}
-use Rattle.par_tree.specs.declared.types.TypeTree.TheVariants as type
-use Rattle.par_tree.specs.declared.policy.LockTree.{LockTree}
-use Rattle.par_tree.specs.declared.policy.PolicyExpr.{PolicyExpr}
-use Rattle.par_tree.specs.declared.decl.LockDecl.{LockDecl}
-use Rattle.par_tree.specs.declared.decl.FieldDecl.{FieldDecl}
-use Rattle.par_tree.specs.declared.decl.PolicyDecl.{PolicyDecl}
-use Rattle.par_tree.specs.Plain.{Class, Method, Source}
-use Rattle.par_typed.specs.declared.table.Table.{Table}
-use Rattle.par_names.specs.Declarations.{actors, locks, policies, classes, declared_classes}
-use Rattle.par_names.specs.Program.{name_faults}
-use Rattle.par_resolved.specs.Sets.{with_number, set_of}
-use Rattle.par_resolved.specs.Numbers.{numbers, number, lock_number, type_of, result_of}
-use Rattle.par_resolved.specs.Numbers.{ground_count, choices, place_in_family}
-use Rattle.par_resolved.specs.Policies.{Known, known, nothing_known, known_behind, with_value}
-use Rattle.par_resolved.specs.Policies.{value_of, policy_of}
-use Rattle.par_resolved.specs.Statements.{in_braces}
-use Rattle.par_resolved.specs.Written.{stmt_types}
-use Rattle.par_resolved.specs.Births.{birth_policy}
-use Rattle.par_resolved.specs.Numbered.{declared, shared_policies}
-use Rattle.par_resolved.specs.Resolved.{Resolved, resolved, number_of, may_number}
-use Rattle.par_resolved.specs.Resolved.{expression_number, lock_policy, ground_lock, family}
-use Rattle.par_resolved.specs.Resolved.{ground_locks_from, query_numbers, ground_locks}
-use Rattle.par_resolved.specs.Resolved.{field_infos, channel_info, param_info, throw_info, lock_set}
-use Rattle.par_resolved.specs.Resolved.{this_type, local_types, method_info, class_info}
-use Rattle.par_resolved.specs.Resolved.{class_infos, has_main, table_of}
+use Rattle.par_bodies.specs.par_tree.declared.types.TypeTree.{TypeTree}
+use Rattle.par_bodies.specs.par_tree.declared.types.TypeTree.TheVariants as type
+use Rattle.par_bodies.specs.par_tree.declared.policy.LockTree.{LockTree}
+use Rattle.par_bodies.specs.par_tree.declared.policy.PolicyExpr.{PolicyExpr}
+use Rattle.par_bodies.specs.par_tree.declared.decl.LockDecl.{LockDecl}
+use Rattle.par_bodies.specs.par_tree.declared.decl.FieldDecl.{FieldDecl}
+use Rattle.par_bodies.specs.par_tree.declared.decl.PolicyDecl.{PolicyDecl}
+use Rattle.par_bodies.specs.par_tree.Plain.{Class, Method, Source}
+use Rattle.par_rules.specs.par_typed.declared.table.Table.{Table}
+use Rattle.par_sources.specs.par_names.Declarations.{actors, locks, policies, classes}
+use Rattle.par_sources.specs.par_names.Declarations.{declared_classes}
+use Rattle.par_sources.specs.par_names.Program.{name_faults}
+use Rattle.par_faults.specs.par_resolved.Sets.{with_number, set_of}
+use Rattle.par_faults.specs.par_resolved.Numbers.{numbers, number, lock_number, type_of, result_of}
+use Rattle.par_faults.specs.par_resolved.Numbers.{ground_count, choices, place_in_family}
+use Rattle.par_faults.specs.par_resolved.Policies.{Known, known, nothing_known, known_behind}
+use Rattle.par_faults.specs.par_resolved.Policies.{with_value}
+use Rattle.par_faults.specs.par_resolved.Policies.{value_of, policy_of}
+use Rattle.par_faults.specs.par_resolved.Statements.{in_braces}
+use Rattle.par_faults.specs.par_resolved.Written.{stmt_types}
+use Rattle.par_faults.specs.par_resolved.Births.{birth_policy}
+use Rattle.par_faults.specs.par_resolved.Numbered.{declared, shared_policies}
+use Rattle.par_faults.specs.par_resolved.Resolved.{Resolved, resolved, number_of, may_number}
+use Rattle.par_faults.specs.par_resolved.Resolved.{expression_number, lock_policy, ground_lock}
+use Rattle.par_faults.specs.par_resolved.Resolved.{family}
+use Rattle.par_faults.specs.par_resolved.Resolved.{ground_locks_from, query_numbers, ground_locks}
+use Rattle.par_faults.specs.par_resolved.Resolved.{field_infos, channel_info, param_info}
+use Rattle.par_faults.specs.par_resolved.Resolved.{throw_info, lock_set}
+use Rattle.par_faults.specs.par_resolved.Resolved.{this_type, local_types, method_info, class_info}
+use Rattle.par_faults.specs.par_resolved.Resolved.{class_infos, has_main, table_of}
 use Rattle.par_bodies.specs.Members.{IsClass}
 use Rattle.par_well_typed.specs.Tables.{IsPolicy, IsLock, MayBePolicy, AreLocks, IsType}
 use Rattle.par_bodies.specs.Locals.{arrivals}

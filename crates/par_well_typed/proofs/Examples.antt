@@ -1,19 +1,20 @@
 -- Worked bodies, over a table of one class with a static method.
 use Rattle.std.proofs.Common.{◌≡◌, ℕ, ◌<◌, pos, Bool, true, false, [], ◌∷◌, None, refl, arith}
 use Rattle.std.specs.Prelude.{codes}
-use Rattle.par_typed.specs.declared.ty.Ty.{Ty}
-use Rattle.par_typed.specs.declared.ty.Ty.TheVariants as ty
-use Rattle.par_typed.specs.declared.table.FieldInfo.{FieldInfo}
-use Rattle.par_typed.specs.declared.table.MethodInfo.{MethodInfo}
-use Rattle.par_typed.specs.declared.table.ClassInfo.{ClassInfo}
-use Rattle.par_typed.specs.declared.table.Table.{Table}
-use Rattle.par_typed.specs.Plain.{Mark, mark, Int, Boolean, Null, Local, TSta, Block, Break}
-use Rattle.par_typed.specs.Plain.{SetLocal, SetStatic, Then, End}
+use Rattle.par_rules.specs.par_typed.declared.ty.Ty.{Ty}
+use Rattle.par_rules.specs.par_typed.declared.ty.Ty.TheVariants as ty
+use Rattle.par_rules.specs.par_typed.declared.table.FieldInfo.{FieldInfo}
+use Rattle.par_rules.specs.par_typed.declared.table.MethodInfo.{MethodInfo}
+use Rattle.par_rules.specs.par_typed.declared.table.ClassInfo.{ClassInfo}
+use Rattle.par_rules.specs.par_typed.declared.table.Table.{Table}
+use Rattle.par_rules.specs.par_typed.Plain.{Mark, mark, Int, Boolean, Null, Local, TSta, Block}
+use Rattle.par_rules.specs.par_typed.Plain.{Break}
+use Rattle.par_rules.specs.par_typed.Plain.{SetLocal, SetStatic, Then, End}
 use Rattle.par_well_typed.specs.Orderly.{IsBodyOf}
 use Rattle.par_bodies.specs.Names.{ExpNames, StaNames}
 use Rattle.par_well_typed.specs.Fits.{ExpFits, StaFits}
 use Rattle.par_well_typed.specs.Control.{StaReached}
-use Rattle.par_typed.specs.Nodes.{nodes, stmt_nodes}
+use Rattle.par_rules.specs.par_typed.Nodes.{nodes, stmt_nodes}
 use Rattle.par_annotate.specs.Points.{count_from, points, stmt_points}
 use Rattle.par_bodies.specs.Locals.{behind}
 use Rattle.par_well_typed.specs.SetFirst.{SetsFirst}

@@ -5,38 +5,45 @@ use Rattle.std.proofs.Common.{append-nil, add-zero, map}
 use Rattle.std.specs.Prelude.{flat_map, slice_get}
 use Rattle.std.specs.List.{AllByRecursion}
 use Rattle.std.proofs.lemmas.List.{length-map, length-append}
-use Rattle.par_tree.specs.declared.decl.ParamDecl.{ParamDecl}
-use Rattle.par_tree.specs.declared.types.TypeTree.{TypeTree}
-use Rattle.par_tree.specs.Plain.{Sta, Block, If, While, Try, Return, Break, Continue, Throw, Open}
-use Rattle.par_tree.specs.Plain.{Close}
-use Rattle.par_tree.specs.Plain.{Declare, Assign, Do, When, Class, Method, Declaration, Source}
-use Rattle.par_tree.specs.Plain as plain
-use Rattle.par_typed.specs.declared.ty.Ty.{Ty}
-use Rattle.par_typed.specs.declared.table.Table.{Table}
-use Rattle.par_names.specs.Declarations.{classes, builtins, classes_in, doubles}
-use Rattle.par_names.specs.Methods as named
-use Rattle.par_names.specs.Methods.{head_faults, param_faults, effect_faults, throw_faults}
-use Rattle.par_names.specs.Policies.{View, policy_faults, may_policy_faults, lock_faults}
-use Rattle.par_names.specs.Policies.{type_fault, result_fault}
-use Rattle.par_names.specs.Program.{view_behind, name_faults}
-use Rattle.par_scope.specs.Names.{names_of}
-use Rattle.par_scope.specs.Locals.{no_locals}
-use Rattle.par_scope.specs.Home.{Home, class_named, result_written}
-use Rattle.par_types.specs.Stmts.{braces_faults}
-use Rattle.par_types.specs.Methods as rules
-use Rattle.par_types.specs.Methods.{home_of, param_slot, end_fault, fields_faults, method_faults}
-use Rattle.par_types.specs.Methods.{methods_faults, class_faults}
-use Rattle.par_types.specs.Program.{declaration_faults, declarations_faults, type_faults}
+use Rattle.par_bodies.specs.par_tree.declared.decl.ParamDecl.{ParamDecl}
+use Rattle.par_bodies.specs.par_tree.declared.types.TypeTree.{TypeTree}
+use Rattle.par_bodies.specs.par_tree.Plain.{Sta, Block, If, While, Try, Return, Break, Continue}
+use Rattle.par_bodies.specs.par_tree.Plain.{Throw, Open}
+use Rattle.par_bodies.specs.par_tree.Plain.{Close}
+use Rattle.par_bodies.specs.par_tree.Plain.{Declare, Assign, Do, When, Class, Method, Declaration}
+use Rattle.par_bodies.specs.par_tree.Plain.{Source}
+use Rattle.par_bodies.specs.par_tree.Plain as plain
+use Rattle.par_rules.specs.par_typed.declared.ty.Ty.{Ty}
+use Rattle.par_rules.specs.par_typed.declared.table.Table.{Table}
+use Rattle.par_sources.specs.par_names.Declarations.{classes, builtins, classes_in, doubles}
+use Rattle.par_sources.specs.par_names.Methods as named
+use Rattle.par_sources.specs.par_names.Methods.{head_faults, param_faults, effect_faults}
+use Rattle.par_sources.specs.par_names.Methods.{throw_faults}
+use Rattle.par_sources.specs.par_names.Policies.{View, policy_faults, may_policy_faults}
+use Rattle.par_sources.specs.par_names.Policies.{lock_faults}
+use Rattle.par_sources.specs.par_names.Policies.{type_fault, result_fault}
+use Rattle.par_sources.specs.par_names.Program.{view_behind, name_faults}
+use Rattle.par_annotate.specs.par_scope.Names.{names_of}
+use Rattle.par_annotate.specs.par_scope.Locals.{no_locals}
+use Rattle.par_annotate.specs.par_scope.Home.{Home, class_named, result_written}
+use Rattle.par_annotate.specs.par_types.Stmts.{braces_faults}
+use Rattle.par_annotate.specs.par_types.Methods as rules
+use Rattle.par_annotate.specs.par_types.Methods.{home_of, param_slot, end_fault, fields_faults}
+use Rattle.par_annotate.specs.par_types.Methods.{method_faults}
+use Rattle.par_annotate.specs.par_types.Methods.{methods_faults, class_faults}
+use Rattle.par_annotate.specs.par_types.Program.{declaration_faults, declarations_faults}
+use Rattle.par_annotate.specs.par_types.Program.{type_faults}
 use Rattle.par_annotate.specs.Frames.{Frame, with_local}
 use Rattle.par_annotate.specs.Stmts.{Written}
 use Rattle.par_annotate.specs.Bodies.{first_number, no_frame, with_params, typed_body}
 use Rattle.par_annotate.specs.Bodies.{typed_methods, typed_class, typed_declaration}
 use Rattle.par_annotate.specs.Bodies.{typed_declarations}
-use Rattle.par_resolved.specs.Numbers.{type_of, result_of}
-use Rattle.par_resolved.specs.Resolved.{Resolved, resolved, class_info, method_info, param_info}
-use Rattle.par_resolved.specs.Resolved.{this_type, local_types, table_of}
-use Rattle.par_resolved.specs.Statements.{in_braces}
-use Rattle.par_resolved.specs.Written.{stmt_types}
+use Rattle.par_faults.specs.par_resolved.Numbers.{type_of, result_of}
+use Rattle.par_faults.specs.par_resolved.Resolved.{Resolved, resolved, class_info, method_info}
+use Rattle.par_faults.specs.par_resolved.Resolved.{param_info}
+use Rattle.par_faults.specs.par_resolved.Resolved.{this_type, local_types, table_of}
+use Rattle.par_faults.specs.par_resolved.Statements.{in_braces}
+use Rattle.par_faults.specs.par_resolved.Written.{stmt_types}
 use Rattle.par_faults.specs.Faults.{all_faults}
 use Rattle.par_sources.specs.Order.{Ascend, IsInOrder}
 use Rattle.par_bodies.specs.Members.{method_at}

@@ -8,52 +8,59 @@ use Rattle.std.proofs.lemmas.Bool.Decides.{nat_tests}
 use Rattle.std.proofs.lemmas.List.{length-append}
 use Rattle.par_lexer.specs.declared.operator.BinOp.{BinOp}
 use Rattle.par_lexer.specs.declared.operator.BinOp.TheVariants as op
-use Rattle.par_tree.specs.declared.ident.Ident.{Ident}
-use Rattle.par_tree.specs.Plain.{Exp, Int, True, False, Null, This, New, Name, Field, Call, Neg}
-use Rattle.par_tree.specs.Plain.{Not, Binary}
-use Rattle.par_tree.specs.Plain.{Exps, NoExps, More, MayExp, Absent, Present, Class, Source, place}
-use Rattle.par_typed.specs.declared.ty.Ty.{Ty}
-use Rattle.par_typed.specs.declared.ty.Ty.TheVariants as ty
-use Rattle.par_typed.specs.declared.table.FieldInfo.{FieldInfo}
-use Rattle.par_typed.specs.declared.table.ChannelInfo.{ChannelInfo}
-use Rattle.par_typed.specs.declared.table.ParamInfo.{ParamInfo}
-use Rattle.par_typed.specs.declared.table.MethodInfo.{MethodInfo}
-use Rattle.par_typed.specs.declared.table.Table.{Table}
-use Rattle.par_typed.specs.First.{when, broken}
-use Rattle.par_typed.specs.Plain as typed
-use Rattle.par_typed.specs.Plain.{Mark, TExp, MayTExp, TExps, mark}
-use Rattle.par_typed.specs.Nodes.{nodes, may_nodes}
-use Rattle.par_names.specs.Exprs as names
-use Rattle.par_names.specs.Members.{selected_named, callee_named}
-use Rattle.par_names.specs.Policies.{View}
-use Rattle.par_names.specs.Program.{view_behind}
-use Rattle.par_scope.specs.declared.locals.Slot.{Slot}
-use Rattle.par_scope.specs.declared.members.Place.{Place}
-use Rattle.par_scope.specs.declared.meaning.Receiver.{Receiver}
-use Rattle.par_scope.specs.declared.meaning.Receiver.TheVariants as on
-use Rattle.par_scope.specs.declared.meaning.Callee.{Callee}
-use Rattle.par_scope.specs.declared.meaning.Callee.TheVariants as callee
-use Rattle.par_scope.specs.Names.{names_of}
-use Rattle.par_scope.specs.Locals.{local_named, is_notnull}
-use Rattle.par_scope.specs.Home.{Home, class_named, class_type}
-use Rattle.par_scope.specs.Members.{field_at, channel_at, method_at, field_type, field_is_static}
-use Rattle.par_scope.specs.Members.{channel_type, channel_arity, way_type, way_arity, method_type}
-use Rattle.par_scope.specs.Members.{method_is_static, method_params, method_arity, any_value}
-use Rattle.par_scope.specs.Members.{value_of, param_slot, number_slot}
-use Rattle.par_scope.specs.Meaning.{type_of, name_type, called_on, receiver_of, selected, called}
-use Rattle.par_scope.specs.Meaning.{arity, param_at, sure, place_type, callee_type}
-use Rattle.par_types.specs.Fits.{are_alike, is_int, is_boolean, is_of_class, is_reference, operand}
-use Rattle.par_types.specs.Fits.{suits}
-use Rattle.par_types.specs.Exprs as types
-use Rattle.par_types.specs.Exprs.{misfit, misfits, count_fault, member_fault, is_known}
-use Rattle.par_types.specs.Exprs.{unless_number, is_number}
-use Rattle.par_types.specs.Methods.{home_of}
+use Rattle.par_bodies.specs.par_tree.declared.ident.Ident.{Ident}
+use Rattle.par_bodies.specs.par_tree.Plain.{Exp, Int, True, False, Null, This, New, Name, Field}
+use Rattle.par_bodies.specs.par_tree.Plain.{Call, Neg}
+use Rattle.par_bodies.specs.par_tree.Plain.{Not, Binary}
+use Rattle.par_bodies.specs.par_tree.Plain.{Exps, NoExps, More, MayExp, Absent, Present, Class}
+use Rattle.par_bodies.specs.par_tree.Plain.{Source, place}
+use Rattle.par_rules.specs.par_typed.declared.ty.Ty.{Ty}
+use Rattle.par_rules.specs.par_typed.declared.ty.Ty.TheVariants as ty
+use Rattle.par_rules.specs.par_typed.declared.table.FieldInfo.{FieldInfo}
+use Rattle.par_rules.specs.par_typed.declared.table.ChannelInfo.{ChannelInfo}
+use Rattle.par_rules.specs.par_typed.declared.table.ParamInfo.{ParamInfo}
+use Rattle.par_rules.specs.par_typed.declared.table.MethodInfo.{MethodInfo}
+use Rattle.par_rules.specs.par_typed.declared.table.Table.{Table}
+use Rattle.par_rules.specs.par_typed.First.{when, broken}
+use Rattle.par_rules.specs.par_typed.Plain as typed
+use Rattle.par_rules.specs.par_typed.Plain.{Mark, TExp, MayTExp, TExps, mark}
+use Rattle.par_rules.specs.par_typed.Nodes.{nodes, may_nodes}
+use Rattle.par_sources.specs.par_names.Exprs as names
+use Rattle.par_sources.specs.par_names.Members.{selected_named, callee_named}
+use Rattle.par_sources.specs.par_names.Policies.{View}
+use Rattle.par_sources.specs.par_names.Program.{view_behind}
+use Rattle.par_annotate.specs.par_scope.declared.locals.Slot.{Slot}
+use Rattle.par_annotate.specs.par_scope.declared.members.Place.{Place}
+use Rattle.par_annotate.specs.par_scope.declared.meaning.Receiver.{Receiver}
+use Rattle.par_annotate.specs.par_scope.declared.meaning.Receiver.TheVariants as on
+use Rattle.par_annotate.specs.par_scope.declared.meaning.Callee.{Callee}
+use Rattle.par_annotate.specs.par_scope.declared.meaning.Callee.TheVariants as callee
+use Rattle.par_annotate.specs.par_scope.Names.{names_of}
+use Rattle.par_annotate.specs.par_scope.Locals.{local_named, is_notnull}
+use Rattle.par_annotate.specs.par_scope.Home.{Home, class_named, class_type}
+use Rattle.par_annotate.specs.par_scope.Members.{field_at, channel_at, method_at, field_type}
+use Rattle.par_annotate.specs.par_scope.Members.{field_is_static}
+use Rattle.par_annotate.specs.par_scope.Members.{channel_type, channel_arity, way_type, way_arity}
+use Rattle.par_annotate.specs.par_scope.Members.{method_type}
+use Rattle.par_annotate.specs.par_scope.Members.{method_is_static, method_params, method_arity}
+use Rattle.par_annotate.specs.par_scope.Members.{any_value}
+use Rattle.par_annotate.specs.par_scope.Members.{value_of, param_slot, number_slot}
+use Rattle.par_annotate.specs.par_scope.Meaning.{type_of, name_type, called_on, receiver_of}
+use Rattle.par_annotate.specs.par_scope.Meaning.{selected, called}
+use Rattle.par_annotate.specs.par_scope.Meaning.{arity, param_at, sure, place_type, callee_type}
+use Rattle.par_annotate.specs.par_types.Fits.{are_alike, is_int, is_boolean, is_of_class}
+use Rattle.par_annotate.specs.par_types.Fits.{is_reference, operand}
+use Rattle.par_annotate.specs.par_types.Fits.{suits}
+use Rattle.par_annotate.specs.par_types.Exprs as types
+use Rattle.par_annotate.specs.par_types.Exprs.{misfit, misfits, count_fault, member_fault, is_known}
+use Rattle.par_annotate.specs.par_types.Exprs.{unless_number, is_number}
+use Rattle.par_annotate.specs.par_types.Methods.{home_of}
 use Rattle.par_annotate.specs.Frames.{Frame, Var, var_named}
 use Rattle.par_annotate.specs.Exprs.{known, numbered, own_this, own_field, name_typed, negation}
 use Rattle.par_annotate.specs.Exprs.{number_of, selection, own_receiver, method_on}
 use Rattle.par_annotate.specs.Exprs.{callee_on, first, by_way, through, call, typed_exp, typed_may}
 use Rattle.par_annotate.specs.Exprs.{typed_args, mark_of}
-use Rattle.par_resolved.specs.Resolved.{resolved, class_info, table_of}
+use Rattle.par_faults.specs.par_resolved.Resolved.{resolved, class_info, table_of}
 use Rattle.par_bodies.specs.Names as members
 use Rattle.par_bodies.specs.Types.{Is}
 use Rattle.par_well_typed.specs.Fits.{Fits, IsSure, IsReadOf, ParamsTake, IsCallOf, AreOperands}

@@ -4,46 +4,56 @@ use Rattle.std.proofs.Common.{Option, Some, None, refl, sym, ap, subst, ◌∙�
 use Rattle.std.specs.Prelude.{flat_map, slice_get, unwrap_or}
 use Rattle.std.specs.Option.{is_some}
 use Rattle.std.proofs.lemmas.List.{length-append}
-use Rattle.par_tree.specs.declared.types.TypeTree.{TypeTree}
-use Rattle.par_tree.specs.declared.types.TypeTree.TheVariants as type
-use Rattle.par_tree.specs.Plain.{Exp, Int, True, False, Null, This, New, Name, Field, Call, Neg}
-use Rattle.par_tree.specs.Plain.{Not, Binary}
-use Rattle.par_tree.specs.Plain.{MayExp, Absent, Present, Class, Source, place}
-use Rattle.par_tree.specs.Plain.{Sta, Block, If, While, Try, Return, Break, Continue, Throw, Open}
-use Rattle.par_tree.specs.Plain.{Close}
-use Rattle.par_tree.specs.Plain.{Declare, Assign, Do, When, Braces, In, MayBraces, NoBraces, Local}
-use Rattle.par_tree.specs.Plain.{Else, NoElse, Otherwise, Stas, End, Then, Catches, NoCatch, Catch}
-use Rattle.par_tree.specs.Plain.{On}
-use Rattle.par_tree.specs.Plain as plain
-use Rattle.par_typed.specs.declared.ty.Ty.{Ty}
-use Rattle.par_typed.specs.declared.ty.Ty.TheVariants as ty
-use Rattle.par_typed.specs.declared.table.FieldInfo.{FieldInfo}
-use Rattle.par_typed.specs.declared.table.Table.{Table}
-use Rattle.par_typed.specs.First.{when, broken}
-use Rattle.par_typed.specs.Plain.{TExp, mark}
-use Rattle.par_names.specs.Exprs as names
-use Rattle.par_names.specs.Declarations.{classes, doubles}
-use Rattle.par_names.specs.Members.{selected_named}
-use Rattle.par_names.specs.Policies.{View, class_fault, lock_faults, may_policy_faults, type_fault}
-use Rattle.par_names.specs.Program.{view_behind}
-use Rattle.par_names.specs.Stmts as rules
-use Rattle.par_scope.specs.declared.members.Place.{Place}
-use Rattle.par_scope.specs.declared.locals.Slot.{Slot}
-use Rattle.par_scope.specs.declared.meaning.Receiver as meaning
-use Rattle.par_scope.specs.declared.meaning.Receiver.TheVariants as on
-use Rattle.par_scope.specs.Names.{names_of}
-use Rattle.par_scope.specs.Locals.{local_named, is_notnull}
-use Rattle.par_scope.specs.Home.{Home, class_named, class_type, type_written}
-use Rattle.par_scope.specs.Members.{field_at, field_type, field_is_static, any_value, value_of}
-use Rattle.par_scope.specs.Meaning.{type_of, name_type, receiver_of, selected, place_type}
-use Rattle.par_completes.specs.Completes.{completes}
-use Rattle.par_types.specs.Fits.{is_void}
-use Rattle.par_types.specs.Exprs.{expr_faults, member_fault, value_faults}
-use Rattle.par_types.specs.Stmts as types
-use Rattle.par_types.specs.Stmts.{throw_fault, test_faults, slot_of, refuses_null, target_slot}
-use Rattle.par_types.specs.Stmts.{result_faults, stmt_faults, braces_faults, may_braces_faults}
-use Rattle.par_types.specs.Stmts.{else_faults, stmts_faults, catches_faults, handler_faults}
-use Rattle.par_types.specs.Methods.{home_of}
+use Rattle.par_bodies.specs.par_tree.declared.types.TypeTree.{TypeTree}
+use Rattle.par_bodies.specs.par_tree.declared.types.TypeTree.TheVariants as type
+use Rattle.par_bodies.specs.par_tree.Plain.{Exp, Int, True, False, Null, This, New, Name, Field}
+use Rattle.par_bodies.specs.par_tree.Plain.{Call, Neg}
+use Rattle.par_bodies.specs.par_tree.Plain.{Not, Binary}
+use Rattle.par_bodies.specs.par_tree.Plain.{MayExp, Absent, Present, Class, Source, place}
+use Rattle.par_bodies.specs.par_tree.Plain.{Sta, Block, If, While, Try, Return, Break, Continue}
+use Rattle.par_bodies.specs.par_tree.Plain.{Throw, Open}
+use Rattle.par_bodies.specs.par_tree.Plain.{Close}
+use Rattle.par_bodies.specs.par_tree.Plain.{Declare, Assign, Do, When, Braces, In, MayBraces}
+use Rattle.par_bodies.specs.par_tree.Plain.{NoBraces, Local}
+use Rattle.par_bodies.specs.par_tree.Plain.{Else, NoElse, Otherwise, Stas, End, Then, Catches}
+use Rattle.par_bodies.specs.par_tree.Plain.{NoCatch, Catch}
+use Rattle.par_bodies.specs.par_tree.Plain.{On}
+use Rattle.par_bodies.specs.par_tree.Plain as plain
+use Rattle.par_rules.specs.par_typed.declared.ty.Ty.{Ty}
+use Rattle.par_rules.specs.par_typed.declared.ty.Ty.TheVariants as ty
+use Rattle.par_rules.specs.par_typed.declared.table.FieldInfo.{FieldInfo}
+use Rattle.par_rules.specs.par_typed.declared.table.Table.{Table}
+use Rattle.par_rules.specs.par_typed.First.{when, broken}
+use Rattle.par_rules.specs.par_typed.Plain.{TExp, mark}
+use Rattle.par_sources.specs.par_names.Exprs as names
+use Rattle.par_sources.specs.par_names.Declarations.{classes, doubles}
+use Rattle.par_sources.specs.par_names.Members.{selected_named}
+use Rattle.par_sources.specs.par_names.Policies.{View, class_fault, lock_faults, may_policy_faults}
+use Rattle.par_sources.specs.par_names.Policies.{type_fault}
+use Rattle.par_sources.specs.par_names.Program.{view_behind}
+use Rattle.par_sources.specs.par_names.Stmts as rules
+use Rattle.par_annotate.specs.par_scope.declared.members.Place.{Place}
+use Rattle.par_annotate.specs.par_scope.declared.locals.Slot.{Slot}
+use Rattle.par_annotate.specs.par_scope.declared.meaning.Receiver as meaning
+use Rattle.par_annotate.specs.par_scope.declared.meaning.Receiver.TheVariants as on
+use Rattle.par_annotate.specs.par_scope.Names.{names_of}
+use Rattle.par_annotate.specs.par_scope.Locals.{local_named, is_notnull}
+use Rattle.par_annotate.specs.par_scope.Home.{Home, class_named, class_type, type_written}
+use Rattle.par_annotate.specs.par_scope.Members.{field_at, field_type, field_is_static, any_value}
+use Rattle.par_annotate.specs.par_scope.Members.{value_of}
+use Rattle.par_annotate.specs.par_scope.Meaning.{type_of, name_type, receiver_of, selected}
+use Rattle.par_annotate.specs.par_scope.Meaning.{place_type}
+use Rattle.par_bodies.specs.par_completes.Completes.{completes}
+use Rattle.par_annotate.specs.par_types.Fits.{is_void}
+use Rattle.par_annotate.specs.par_types.Exprs.{expr_faults, member_fault, value_faults}
+use Rattle.par_annotate.specs.par_types.Stmts as types
+use Rattle.par_annotate.specs.par_types.Stmts.{throw_fault, test_faults, slot_of, refuses_null}
+use Rattle.par_annotate.specs.par_types.Stmts.{target_slot}
+use Rattle.par_annotate.specs.par_types.Stmts.{result_faults, stmt_faults, braces_faults}
+use Rattle.par_annotate.specs.par_types.Stmts.{may_braces_faults}
+use Rattle.par_annotate.specs.par_types.Stmts.{else_faults, stmts_faults, catches_faults}
+use Rattle.par_annotate.specs.par_types.Stmts.{handler_faults}
+use Rattle.par_annotate.specs.par_types.Methods.{home_of}
 use Rattle.par_annotate.specs.Frames.{Frame, Var, var_named, further}
 use Rattle.par_annotate.specs.Exprs.{own_this, typed_exp, typed_may}
 use Rattle.par_annotate.specs.Stmts.{Written, may_policy, Target, Nowhere, ToLocal, ToStatic}
@@ -52,11 +62,12 @@ use Rattle.par_annotate.specs.Stmts.{own_target, name_target, selected_target, b
 use Rattle.par_annotate.specs.Stmts.{braces_locals, handler_locals}
 use Rattle.par_annotate.specs.Stmts.{typed_sta, typed_braces, typed_may_braces, typed_else}
 use Rattle.par_annotate.specs.Stmts.{typed_stas, typed_catches}
-use Rattle.par_resolved.specs.Numbers as numbers
-use Rattle.par_resolved.specs.Resolved.{resolved, class_info, table_of}
-use Rattle.par_resolved.specs.Statements.{inside, in_braces, in_may_braces, in_else, in_all}
-use Rattle.par_resolved.specs.Statements.{in_catches}
-use Rattle.par_resolved.specs.Written.{stmt_types}
+use Rattle.par_faults.specs.par_resolved.Numbers as numbers
+use Rattle.par_faults.specs.par_resolved.Resolved.{resolved, class_info, table_of}
+use Rattle.par_faults.specs.par_resolved.Statements.{inside, in_braces, in_may_braces, in_else}
+use Rattle.par_faults.specs.par_resolved.Statements.{in_all}
+use Rattle.par_faults.specs.par_resolved.Statements.{in_catches}
+use Rattle.par_faults.specs.par_resolved.Written.{stmt_types}
 use Rattle.par_well_typed.specs.Fits.{Fits, IsSure, LocalTakes, FieldTakes, IsReturned, ExpFits}
 use Rattle.par_well_typed.specs.Fits.{MayExpFits, StaFits, ElseFits, StasFit, CatchesFit}
 use Rattle.par_well_typed.proofs.Lists.{none_left, none_right}

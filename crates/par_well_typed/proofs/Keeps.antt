@@ -5,33 +5,39 @@ use Rattle.std.proofs.Common.{map}
 use Rattle.std.specs.Prelude.{flat_map, slice_get}
 use Rattle.std.specs.List.{AllByRecursion}
 use Rattle.std.proofs.lemmas.Grind.{flat_map-append}
-use Rattle.par_tree.specs.declared.decl.ParamDecl.{ParamDecl}
-use Rattle.par_tree.specs.Plain.{Exp, Int, True, False, Null, This, New, Name, Field, Call, Neg}
-use Rattle.par_tree.specs.Plain.{Not, Binary}
-use Rattle.par_tree.specs.Plain.{Sta, Block, If, While, Try, Return, Break, Continue, Throw, Open}
-use Rattle.par_tree.specs.Plain.{Close}
-use Rattle.par_tree.specs.Plain.{Declare, Assign, Do, When, Braces, In, MayBraces, NoBraces}
-use Rattle.par_tree.specs.Plain.{Else, NoElse, Otherwise, Stas, End, Then, Catches, NoCatch, Catch}
-use Rattle.par_tree.specs.Plain.{Handler, On, Class, Method, Declaration, Source}
-use Rattle.par_tree.specs.Plain as plain
-use Rattle.par_typed.specs.declared.table.MethodInfo.{MethodInfo}
-use Rattle.par_typed.specs.declared.table.Table.{Table}
-use Rattle.par_typed.specs.Plain.{TExp, TSta, Body}
-use Rattle.par_names.specs.Declarations.{classes, builtins, classes_in}
-use Rattle.par_names.specs.Program.{name_faults}
-use Rattle.par_scope.specs.declared.locals.Slot.{Slot}
-use Rattle.par_scope.specs.declared.members.Place.{Place}
-use Rattle.par_scope.specs.declared.meaning.Receiver.{Receiver}
-use Rattle.par_scope.specs.declared.meaning.Receiver.TheVariants as receiver
-use Rattle.par_scope.specs.Names.{number_in, names_of}
-use Rattle.par_scope.specs.Home.{Home, class_named, result_written}
-use Rattle.par_scope.specs.Members.{field_at, field_is_static}
-use Rattle.par_scope.specs.Meaning.{type_of, receiver_of, selected}
-use Rattle.par_types.specs.Methods.{home_of, param_slot}
-use Rattle.par_resolved.specs.Statements.{inside, in_braces, in_may_braces, in_else, in_all}
-use Rattle.par_resolved.specs.Statements.{in_catches}
-use Rattle.par_resolved.specs.Written.{stmt_queries, method_queries, declaration_queries}
-use Rattle.par_resolved.specs.Resolved.{Resolved, resolved, class_info, method_info, table_of}
+use Rattle.par_bodies.specs.par_tree.declared.decl.ParamDecl.{ParamDecl}
+use Rattle.par_bodies.specs.par_tree.Plain.{Exp, Int, True, False, Null, This, New, Name, Field}
+use Rattle.par_bodies.specs.par_tree.Plain.{Call, Neg}
+use Rattle.par_bodies.specs.par_tree.Plain.{Not, Binary}
+use Rattle.par_bodies.specs.par_tree.Plain.{Sta, Block, If, While, Try, Return, Break, Continue}
+use Rattle.par_bodies.specs.par_tree.Plain.{Throw, Open}
+use Rattle.par_bodies.specs.par_tree.Plain.{Close}
+use Rattle.par_bodies.specs.par_tree.Plain.{Declare, Assign, Do, When, Braces, In, MayBraces}
+use Rattle.par_bodies.specs.par_tree.Plain.{NoBraces}
+use Rattle.par_bodies.specs.par_tree.Plain.{Else, NoElse, Otherwise, Stas, End, Then, Catches}
+use Rattle.par_bodies.specs.par_tree.Plain.{NoCatch, Catch}
+use Rattle.par_bodies.specs.par_tree.Plain.{Handler, On, Class, Method, Declaration, Source}
+use Rattle.par_bodies.specs.par_tree.Plain as plain
+use Rattle.par_rules.specs.par_typed.declared.table.MethodInfo.{MethodInfo}
+use Rattle.par_rules.specs.par_typed.declared.table.Table.{Table}
+use Rattle.par_rules.specs.par_typed.Plain.{TExp, TSta, Body}
+use Rattle.par_sources.specs.par_names.Declarations.{classes, builtins, classes_in}
+use Rattle.par_sources.specs.par_names.Program.{name_faults}
+use Rattle.par_annotate.specs.par_scope.declared.locals.Slot.{Slot}
+use Rattle.par_annotate.specs.par_scope.declared.members.Place.{Place}
+use Rattle.par_annotate.specs.par_scope.declared.meaning.Receiver.{Receiver}
+use Rattle.par_annotate.specs.par_scope.declared.meaning.Receiver.TheVariants as receiver
+use Rattle.par_annotate.specs.par_scope.Names.{number_in, names_of}
+use Rattle.par_annotate.specs.par_scope.Home.{Home, class_named, result_written}
+use Rattle.par_annotate.specs.par_scope.Members.{field_at, field_is_static}
+use Rattle.par_annotate.specs.par_scope.Meaning.{type_of, receiver_of, selected}
+use Rattle.par_annotate.specs.par_types.Methods.{home_of, param_slot}
+use Rattle.par_faults.specs.par_resolved.Statements.{inside, in_braces, in_may_braces, in_else}
+use Rattle.par_faults.specs.par_resolved.Statements.{in_all}
+use Rattle.par_faults.specs.par_resolved.Statements.{in_catches}
+use Rattle.par_faults.specs.par_resolved.Written.{stmt_queries, method_queries, declaration_queries}
+use Rattle.par_faults.specs.par_resolved.Resolved.{Resolved, resolved, class_info, method_info}
+use Rattle.par_faults.specs.par_resolved.Resolved.{table_of}
 use Rattle.par_annotate.specs.Frames.{Frame, Var, var_at, var_named, with_local, further}
 use Rattle.par_annotate.specs.Exprs.{own_this, typed_exp}
 use Rattle.par_annotate.specs.Stmts.{Written, Target, Nowhere, ToLocal, ToStatic, ToField, target}

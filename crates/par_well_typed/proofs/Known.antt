@@ -7,44 +7,51 @@ use Rattle.std.specs.Option.{option_map, is_some}
 use Rattle.std.specs.Str.{bytes_eq}
 use Rattle.par_index.specs.Texts.{has}
 use Rattle.par_index.proofs.Places.{position-within, position-is_some}
-use Rattle.par_tree.specs.declared.ident.Ident.{Ident}
-use Rattle.par_tree.specs.Plain.{Exp, Int, True, False, Null, This, New, Name, Field, Call, Neg}
-use Rattle.par_tree.specs.Plain.{Not, Binary}
-use Rattle.par_tree.specs.Plain.{Absent, Present, Class, Source, place}
-use Rattle.par_typed.specs.declared.ty.Ty.{Ty}
-use Rattle.par_typed.specs.declared.ty.Ty.TheVariants as ty
-use Rattle.par_typed.specs.declared.table.FieldInfo.{FieldInfo}
-use Rattle.par_typed.specs.declared.table.ChannelInfo.{ChannelInfo}
-use Rattle.par_typed.specs.declared.table.MethodInfo.{MethodInfo}
-use Rattle.par_typed.specs.declared.table.Table.{Table}
-use Rattle.par_typed.specs.First.{when}
-use Rattle.par_names.specs.Exprs as names
-use Rattle.par_names.specs.Declarations as declarations
-use Rattle.par_names.specs.Declarations.{classes}
-use Rattle.par_names.specs.Members.{selected_named, callee_named, is_static}
-use Rattle.par_names.specs.Policies.{View, class_fault}
-use Rattle.par_names.specs.Program.{view_behind}
-use Rattle.par_names.proofs.Lookups.{at, found}
-use Rattle.par_scope.specs.declared.locals.Slot.{Slot}
-use Rattle.par_scope.specs.declared.members.Place.{Place}
-use Rattle.par_scope.specs.declared.meaning.Receiver.{Receiver}
-use Rattle.par_scope.specs.declared.meaning.Receiver.TheVariants as on
-use Rattle.par_scope.specs.declared.meaning.Callee.{Callee}
-use Rattle.par_scope.specs.declared.meaning.Callee.TheVariants as callee
-use Rattle.par_scope.specs.Names.{names_of, number_in}
-use Rattle.par_scope.specs.Locals.{slot_at, local_named}
-use Rattle.par_scope.specs.Home.{Home, class_named, class_type}
-use Rattle.par_scope.specs.Members.{field_at, channel_at, method_at, field_type, field_is_static}
-use Rattle.par_scope.specs.Members.{channel_type, method_type, method_is_static, any_value}
-use Rattle.par_scope.specs.Meaning.{type_of, type_of_name, name_type, receiver_of, name_receiver}
-use Rattle.par_scope.specs.Meaning.{is_value, place_type, callee_type, arity}
-use Rattle.par_scope.specs.Meaning.{class_of, field_in, when_it_is, static_field, selected}
-use Rattle.par_scope.specs.Meaning.{callee_in, when_it_does, static_callee, object_callee, called}
-use Rattle.par_types.specs.Exprs as types
-use Rattle.par_types.specs.Exprs.{count_fault, member_fault, is_known}
-use Rattle.par_types.specs.Methods.{home_of}
+use Rattle.par_bodies.specs.par_tree.declared.ident.Ident.{Ident}
+use Rattle.par_bodies.specs.par_tree.Plain.{Exp, Int, True, False, Null, This, New, Name, Field}
+use Rattle.par_bodies.specs.par_tree.Plain.{Call, Neg}
+use Rattle.par_bodies.specs.par_tree.Plain.{Not, Binary}
+use Rattle.par_bodies.specs.par_tree.Plain.{Absent, Present, Class, Source, place}
+use Rattle.par_rules.specs.par_typed.declared.ty.Ty.{Ty}
+use Rattle.par_rules.specs.par_typed.declared.ty.Ty.TheVariants as ty
+use Rattle.par_rules.specs.par_typed.declared.table.FieldInfo.{FieldInfo}
+use Rattle.par_rules.specs.par_typed.declared.table.ChannelInfo.{ChannelInfo}
+use Rattle.par_rules.specs.par_typed.declared.table.MethodInfo.{MethodInfo}
+use Rattle.par_rules.specs.par_typed.declared.table.Table.{Table}
+use Rattle.par_rules.specs.par_typed.First.{when}
+use Rattle.par_sources.specs.par_names.Exprs as names
+use Rattle.par_sources.specs.par_names.Declarations as declarations
+use Rattle.par_sources.specs.par_names.Declarations.{classes}
+use Rattle.par_sources.specs.par_names.Members.{selected_named, callee_named, is_static}
+use Rattle.par_sources.specs.par_names.Policies.{View, class_fault}
+use Rattle.par_sources.specs.par_names.Program.{view_behind}
+use Rattle.par_sources.proofs.par_names.Lookups.{at, found}
+use Rattle.par_annotate.specs.par_scope.declared.locals.Slot.{Slot}
+use Rattle.par_annotate.specs.par_scope.declared.members.Place.{Place}
+use Rattle.par_annotate.specs.par_scope.declared.meaning.Receiver.{Receiver}
+use Rattle.par_annotate.specs.par_scope.declared.meaning.Receiver.TheVariants as on
+use Rattle.par_annotate.specs.par_scope.declared.meaning.Callee.{Callee}
+use Rattle.par_annotate.specs.par_scope.declared.meaning.Callee.TheVariants as callee
+use Rattle.par_annotate.specs.par_scope.Names.{names_of, number_in}
+use Rattle.par_annotate.specs.par_scope.Locals.{slot_at, local_named}
+use Rattle.par_annotate.specs.par_scope.Home.{Home, class_named, class_type}
+use Rattle.par_annotate.specs.par_scope.Members.{field_at, channel_at, method_at, field_type}
+use Rattle.par_annotate.specs.par_scope.Members.{field_is_static}
+use Rattle.par_annotate.specs.par_scope.Members.{channel_type, method_type, method_is_static}
+use Rattle.par_annotate.specs.par_scope.Members.{any_value}
+use Rattle.par_annotate.specs.par_scope.Meaning.{type_of, type_of_name, name_type, receiver_of}
+use Rattle.par_annotate.specs.par_scope.Meaning.{name_receiver}
+use Rattle.par_annotate.specs.par_scope.Meaning.{is_value, place_type, callee_type, arity}
+use Rattle.par_annotate.specs.par_scope.Meaning.{class_of, field_in, when_it_is, static_field}
+use Rattle.par_annotate.specs.par_scope.Meaning.{selected}
+use Rattle.par_annotate.specs.par_scope.Meaning.{callee_in, when_it_does, static_callee}
+use Rattle.par_annotate.specs.par_scope.Meaning.{object_callee, called}
+use Rattle.par_annotate.specs.par_types.Exprs as types
+use Rattle.par_annotate.specs.par_types.Exprs.{count_fault, member_fault, is_known}
+use Rattle.par_annotate.specs.par_types.Methods.{home_of}
 use Rattle.par_annotate.specs.Frames.{Frame, Var, var_at, var_named}
-use Rattle.par_resolved.specs.Resolved.{Resolved, resolved, class_info, class_infos, table_of}
+use Rattle.par_faults.specs.par_resolved.Resolved.{Resolved, resolved, class_info, class_infos}
+use Rattle.par_faults.specs.par_resolved.Resolved.{table_of}
 use Rattle.par_bodies.specs.Names.{IsField}
 use Rattle.par_well_typed.proofs.Lists.{none_left, none_right}
 use Rattle.par_well_typed.proofs.Ranges.{MayBe}

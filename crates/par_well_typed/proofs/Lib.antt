@@ -38,3 +38,5 @@ pub mod Blocks
 pub mod Limited
 pub mod Whole
 mod Examples
+pub use Rattle.par_faults.proofs as par_faults
+pub use Rattle.par_faults.proofs.par_resolved as par_resolved

@@ -6,22 +6,27 @@ use Rattle.std.specs.List.{AllByRecursion, sum_by}
 use Rattle.std.proofs.lemmas.Bool.{leb-true}
 use Rattle.std.proofs.lemmas.List.{length-map, length-append, length-take, length-drop}
 use Rattle.std.proofs.lemmas.List.Sums.{sum_by-cons}
-use Rattle.par_tree.specs.declared.decl.FieldDecl.{FieldDecl}
-use Rattle.par_tree.specs.Nodes.{method_nodes}
-use Rattle.par_tree.specs.Plain.{Class, Method, Source}
-use Rattle.par_typed.specs.declared.table.ClassInfo.{ClassInfo}
-use Rattle.par_typed.specs.declared.table.MethodInfo.{MethodInfo}
-use Rattle.par_typed.specs.First.{when}
-use Rattle.par_names.specs.Declarations.{builtin, builtins, declared_classes}
-use Rattle.par_resolved.specs.Resolved.{Resolved, resolved, field_infos, channel_info, param_info}
-use Rattle.par_resolved.specs.Resolved.{method_info, class_info, class_infos, table_of}
-use Rattle.par_declarations.specs.declared.limit.Limit.{Limit}
-use Rattle.par_declarations.specs.declared.limit.TheConstants.{NODES, PARAMS, LOCALS, MEMBERS}
-use Rattle.par_declarations.specs.declared.limit.TheConstants.{METHODS, CLASS_NODES, CLASSES}
-use Rattle.par_declarations.specs.Limits.{told, one_too_many, in_order, earlier, member_places}
-use Rattle.par_declarations.specs.Limits.{over, method_limits, class_limits, declared_limits}
-use Rattle.par_declarations.specs.Limits.{class_places}
-use Rattle.par_declarations.specs.Locals.{method_locals}
+use Rattle.par_bodies.specs.par_tree.declared.decl.FieldDecl.{FieldDecl}
+use Rattle.par_bodies.specs.par_tree.Nodes.{method_nodes}
+use Rattle.par_bodies.specs.par_tree.Plain.{Class, Method, Source}
+use Rattle.par_rules.specs.par_typed.declared.table.ClassInfo.{ClassInfo}
+use Rattle.par_rules.specs.par_typed.declared.table.MethodInfo.{MethodInfo}
+use Rattle.par_rules.specs.par_typed.First.{when}
+use Rattle.par_sources.specs.par_names.Declarations.{builtin, builtins, declared_classes}
+use Rattle.par_faults.specs.par_resolved.Resolved.{Resolved, resolved, field_infos, channel_info}
+use Rattle.par_faults.specs.par_resolved.Resolved.{param_info}
+use Rattle.par_faults.specs.par_resolved.Resolved.{method_info, class_info, class_infos, table_of}
+use Rattle.par_faults.specs.par_declarations.declared.limit.Limit.{Limit}
+use Rattle.par_faults.specs.par_declarations.declared.limit.TheConstants.{NODES, PARAMS, LOCALS}
+use Rattle.par_faults.specs.par_declarations.declared.limit.TheConstants.{MEMBERS}
+use Rattle.par_faults.specs.par_declarations.declared.limit.TheConstants.{METHODS, CLASS_NODES}
+use Rattle.par_faults.specs.par_declarations.declared.limit.TheConstants.{CLASSES}
+use Rattle.par_faults.specs.par_declarations.Limits.{told, one_too_many, in_order, earlier}
+use Rattle.par_faults.specs.par_declarations.Limits.{member_places}
+use Rattle.par_faults.specs.par_declarations.Limits.{over, method_limits, class_limits}
+use Rattle.par_faults.specs.par_declarations.Limits.{declared_limits}
+use Rattle.par_faults.specs.par_declarations.Limits.{class_places}
+use Rattle.par_faults.specs.par_declarations.Locals.{method_locals}
 use Rattle.par_faults.specs.Faults.{all_faults}
 use Rattle.par_well_typed.specs.Limits.{TakesFew, HaveFewParams, HasFewParams, IsLimitedClass}
 use Rattle.par_well_typed.specs.Limits.{HasFewMembers, HasFewClasses}

@@ -5,50 +5,55 @@ use Rattle.std.specs.Prelude.{slice_get, if◌then◌else◌}
 use Rattle.std.specs.Option.{is_some}
 use Rattle.std.specs.Str.{bytes_eq}
 use Rattle.par_index.specs.Texts.{has}
-use Rattle.par_tree.specs.declared.ident.Ident.{Ident}
-use Rattle.par_tree.specs.Plain.{Exp, Int, True, False, Null, This, New, Name, Field, Call, Neg}
-use Rattle.par_tree.specs.Plain.{Not, Binary}
-use Rattle.par_tree.specs.Plain.{Exps, NoExps, More, MayExp, Absent, Present, Class, Source, place}
-use Rattle.par_typed.specs.declared.ty.Ty.{Ty}
-use Rattle.par_typed.specs.declared.ty.Ty.TheVariants as ty
-use Rattle.par_typed.specs.declared.table.FieldInfo.{FieldInfo}
-use Rattle.par_typed.specs.declared.table.ChannelInfo.{ChannelInfo}
-use Rattle.par_typed.specs.declared.table.MethodInfo.{MethodInfo}
-use Rattle.par_typed.specs.declared.table.ClassInfo.{ClassInfo}
-use Rattle.par_typed.specs.declared.table.Table.{Table}
-use Rattle.par_typed.specs.declared.refusal.Refusal.{Refusal}
-use Rattle.par_typed.specs.First.{when, broken}
-use Rattle.par_typed.specs.Plain as typed
-use Rattle.par_typed.specs.Plain.{Mark, TExp, MayTExp, TExps}
-use Rattle.par_typed.specs.Nodes.{may_nodes}
-use Rattle.par_names.specs.Exprs as names
-use Rattle.par_names.specs.Declarations.{classes}
-use Rattle.par_names.specs.Members.{selected_named, callee_named}
-use Rattle.par_names.specs.Policies.{View, class_fault}
-use Rattle.par_names.specs.Program.{view_behind}
-use Rattle.par_names.proofs.Lookups.{at, found}
-use Rattle.par_scope.specs.declared.members.Place.{Place}
-use Rattle.par_scope.specs.declared.meaning.Receiver.{Receiver}
-use Rattle.par_scope.specs.declared.meaning.Receiver.TheVariants as on
-use Rattle.par_scope.specs.declared.meaning.Callee.{Callee}
-use Rattle.par_scope.specs.declared.meaning.Callee.TheVariants as callee
-use Rattle.par_scope.specs.Names.{names_of}
-use Rattle.par_scope.specs.Home.{Home, class_named}
-use Rattle.par_scope.specs.Members.{field_at, channel_at, method_at, field_is_static}
-use Rattle.par_scope.specs.Members.{method_is_static, is_exception, class_is_exception, any_value}
-use Rattle.par_scope.specs.Meaning.{type_of, called_on, receiver_of, selected, called, arity}
-use Rattle.par_scope.specs.Meaning.{param_at, sure}
-use Rattle.par_types.specs.Fits.{operand}
-use Rattle.par_types.specs.Exprs as types
-use Rattle.par_types.specs.Exprs.{misfit, count_fault, member_fault, is_known, unless_number}
-use Rattle.par_types.specs.Exprs.{is_number, exception_fault}
-use Rattle.par_types.specs.Methods.{home_of}
+use Rattle.par_bodies.specs.par_tree.declared.ident.Ident.{Ident}
+use Rattle.par_bodies.specs.par_tree.Plain.{Exp, Int, True, False, Null, This, New, Name, Field}
+use Rattle.par_bodies.specs.par_tree.Plain.{Call, Neg}
+use Rattle.par_bodies.specs.par_tree.Plain.{Not, Binary}
+use Rattle.par_bodies.specs.par_tree.Plain.{Exps, NoExps, More, MayExp, Absent, Present, Class}
+use Rattle.par_bodies.specs.par_tree.Plain.{Source, place}
+use Rattle.par_rules.specs.par_typed.declared.ty.Ty.{Ty}
+use Rattle.par_rules.specs.par_typed.declared.ty.Ty.TheVariants as ty
+use Rattle.par_rules.specs.par_typed.declared.table.FieldInfo.{FieldInfo}
+use Rattle.par_rules.specs.par_typed.declared.table.ChannelInfo.{ChannelInfo}
+use Rattle.par_rules.specs.par_typed.declared.table.MethodInfo.{MethodInfo}
+use Rattle.par_rules.specs.par_typed.declared.table.ClassInfo.{ClassInfo}
+use Rattle.par_rules.specs.par_typed.declared.table.Table.{Table}
+use Rattle.par_rules.specs.par_typed.declared.refusal.Refusal.{Refusal}
+use Rattle.par_rules.specs.par_typed.First.{when, broken}
+use Rattle.par_rules.specs.par_typed.Plain as typed
+use Rattle.par_rules.specs.par_typed.Plain.{Mark, TExp, MayTExp, TExps}
+use Rattle.par_rules.specs.par_typed.Nodes.{may_nodes}
+use Rattle.par_sources.specs.par_names.Exprs as names
+use Rattle.par_sources.specs.par_names.Declarations.{classes}
+use Rattle.par_sources.specs.par_names.Members.{selected_named, callee_named}
+use Rattle.par_sources.specs.par_names.Policies.{View, class_fault}
+use Rattle.par_sources.specs.par_names.Program.{view_behind}
+use Rattle.par_sources.proofs.par_names.Lookups.{at, found}
+use Rattle.par_annotate.specs.par_scope.declared.members.Place.{Place}
+use Rattle.par_annotate.specs.par_scope.declared.meaning.Receiver.{Receiver}
+use Rattle.par_annotate.specs.par_scope.declared.meaning.Receiver.TheVariants as on
+use Rattle.par_annotate.specs.par_scope.declared.meaning.Callee.{Callee}
+use Rattle.par_annotate.specs.par_scope.declared.meaning.Callee.TheVariants as callee
+use Rattle.par_annotate.specs.par_scope.Names.{names_of}
+use Rattle.par_annotate.specs.par_scope.Home.{Home, class_named}
+use Rattle.par_annotate.specs.par_scope.Members.{field_at, channel_at, method_at, field_is_static}
+use Rattle.par_annotate.specs.par_scope.Members.{method_is_static, is_exception, class_is_exception}
+use Rattle.par_annotate.specs.par_scope.Members.{any_value}
+use Rattle.par_annotate.specs.par_scope.Meaning.{type_of, called_on, receiver_of, selected, called}
+use Rattle.par_annotate.specs.par_scope.Meaning.{arity}
+use Rattle.par_annotate.specs.par_scope.Meaning.{param_at, sure}
+use Rattle.par_annotate.specs.par_types.Fits.{operand}
+use Rattle.par_annotate.specs.par_types.Exprs as types
+use Rattle.par_annotate.specs.par_types.Exprs.{misfit, count_fault, member_fault, is_known}
+use Rattle.par_annotate.specs.par_types.Exprs.{unless_number}
+use Rattle.par_annotate.specs.par_types.Exprs.{is_number, exception_fault}
+use Rattle.par_annotate.specs.par_types.Methods.{home_of}
 use Rattle.par_annotate.specs.Frames.{Frame, Var, var_named}
 use Rattle.par_annotate.specs.Exprs.{numbered, own_this, own_field, name_typed, negation, number_of}
 use Rattle.par_annotate.specs.Exprs.{selection, own_receiver, method_on}
 use Rattle.par_annotate.specs.Exprs.{callee_on, first, by_way, through, call, typed_exp, typed_may}
 use Rattle.par_annotate.specs.Exprs.{typed_args, mark_of}
-use Rattle.par_resolved.specs.Resolved.{resolved, table_of}
+use Rattle.par_faults.specs.par_resolved.Resolved.{resolved, table_of}
 use Rattle.par_bodies.specs.Makes.{IsOrdinary, ExpMakes, MayExpMakes, ExpsMake}
 use Rattle.par_well_typed.proofs.Lists.{none_left, none_right}
 use Rattle.par_well_typed.proofs.Ranges.{MayBe}

@@ -2,44 +2,51 @@
 use Rattle.std.proofs.Common.{◌≡◌, ℕ, ◌+◌, Bool, true, false, not, List, [], ◌∷◌, ◌++◌, Option}
 use Rattle.std.proofs.Common.{Some, None, refl, sym, ap, subst, ◌∙◌, append_assoc, append-nil, map}
 use Rattle.std.proofs.lemmas.List.{length-append}
-use Rattle.par_tree.specs.declared.decl.ParamDecl.{ParamDecl}
-use Rattle.par_tree.specs.Plain.{Exp, Int, True, False, Null, This, New, Name, Field, Call, Neg}
-use Rattle.par_tree.specs.Plain.{Not, Binary}
-use Rattle.par_tree.specs.Plain.{MayExp, Absent, Present, Class, Source, place}
-use Rattle.par_tree.specs.Plain.{Sta, Block, If, While, Try, Return, Break, Continue, Throw, Open}
-use Rattle.par_tree.specs.Plain.{Close}
-use Rattle.par_tree.specs.Plain.{Declare, Assign, Do, When, Braces, In, MayBraces, NoBraces}
-use Rattle.par_tree.specs.Plain.{Else, NoElse, Otherwise, Stas, End, Then, Catches, NoCatch, Catch}
-use Rattle.par_tree.specs.Plain.{On}
-use Rattle.par_tree.specs.Plain as plain
-use Rattle.par_typed.specs.declared.ty.Ty.{Ty}
-use Rattle.par_typed.specs.declared.table.FieldInfo.{FieldInfo}
-use Rattle.par_typed.specs.declared.table.Table.{Table}
-use Rattle.par_typed.specs.declared.refusal.Refusal.{Refusal}
-use Rattle.par_typed.specs.First.{when, broken}
-use Rattle.par_typed.specs.Plain.{TExp}
-use Rattle.par_names.specs.Exprs as names
-use Rattle.par_names.specs.Declarations.{doubles}
-use Rattle.par_names.specs.Members.{selected_named}
-use Rattle.par_names.specs.Policies.{View, class_fault, lock_faults, may_policy_faults, type_fault}
-use Rattle.par_names.specs.Program.{view_behind}
-use Rattle.par_names.specs.Stmts as rules
-use Rattle.par_scope.specs.declared.members.Place.{Place}
-use Rattle.par_scope.specs.declared.locals.Slot.{Slot}
-use Rattle.par_scope.specs.declared.meaning.Receiver as meaning
-use Rattle.par_scope.specs.declared.meaning.Receiver.TheVariants as on
-use Rattle.par_scope.specs.Names.{names_of}
-use Rattle.par_scope.specs.Home.{Home}
-use Rattle.par_scope.specs.Members.{field_at, field_is_static, any_value}
-use Rattle.par_scope.specs.Meaning.{type_of, receiver_of, selected}
-use Rattle.par_completes.specs.Completes.{completes}
-use Rattle.par_types.specs.Fits.{is_void}
-use Rattle.par_types.specs.Exprs.{expr_faults, misfit, value_faults}
-use Rattle.par_types.specs.Stmts as types
-use Rattle.par_types.specs.Stmts.{throw_fault, test_faults, slot_of, target_slot, result_faults}
-use Rattle.par_types.specs.Stmts.{stmt_faults, braces_faults, may_braces_faults, else_faults}
-use Rattle.par_types.specs.Stmts.{stmts_faults, catches_faults, handler_faults}
-use Rattle.par_types.specs.Methods.{home_of, param_slot}
+use Rattle.par_bodies.specs.par_tree.declared.decl.ParamDecl.{ParamDecl}
+use Rattle.par_bodies.specs.par_tree.Plain.{Exp, Int, True, False, Null, This, New, Name, Field}
+use Rattle.par_bodies.specs.par_tree.Plain.{Call, Neg}
+use Rattle.par_bodies.specs.par_tree.Plain.{Not, Binary}
+use Rattle.par_bodies.specs.par_tree.Plain.{MayExp, Absent, Present, Class, Source, place}
+use Rattle.par_bodies.specs.par_tree.Plain.{Sta, Block, If, While, Try, Return, Break, Continue}
+use Rattle.par_bodies.specs.par_tree.Plain.{Throw, Open}
+use Rattle.par_bodies.specs.par_tree.Plain.{Close}
+use Rattle.par_bodies.specs.par_tree.Plain.{Declare, Assign, Do, When, Braces, In, MayBraces}
+use Rattle.par_bodies.specs.par_tree.Plain.{NoBraces}
+use Rattle.par_bodies.specs.par_tree.Plain.{Else, NoElse, Otherwise, Stas, End, Then, Catches}
+use Rattle.par_bodies.specs.par_tree.Plain.{NoCatch, Catch}
+use Rattle.par_bodies.specs.par_tree.Plain.{On}
+use Rattle.par_bodies.specs.par_tree.Plain as plain
+use Rattle.par_rules.specs.par_typed.declared.ty.Ty.{Ty}
+use Rattle.par_rules.specs.par_typed.declared.table.FieldInfo.{FieldInfo}
+use Rattle.par_rules.specs.par_typed.declared.table.Table.{Table}
+use Rattle.par_rules.specs.par_typed.declared.refusal.Refusal.{Refusal}
+use Rattle.par_rules.specs.par_typed.First.{when, broken}
+use Rattle.par_rules.specs.par_typed.Plain.{TExp}
+use Rattle.par_sources.specs.par_names.Exprs as names
+use Rattle.par_sources.specs.par_names.Declarations.{doubles}
+use Rattle.par_sources.specs.par_names.Members.{selected_named}
+use Rattle.par_sources.specs.par_names.Policies.{View, class_fault, lock_faults, may_policy_faults}
+use Rattle.par_sources.specs.par_names.Policies.{type_fault}
+use Rattle.par_sources.specs.par_names.Program.{view_behind}
+use Rattle.par_sources.specs.par_names.Stmts as rules
+use Rattle.par_annotate.specs.par_scope.declared.members.Place.{Place}
+use Rattle.par_annotate.specs.par_scope.declared.locals.Slot.{Slot}
+use Rattle.par_annotate.specs.par_scope.declared.meaning.Receiver as meaning
+use Rattle.par_annotate.specs.par_scope.declared.meaning.Receiver.TheVariants as on
+use Rattle.par_annotate.specs.par_scope.Names.{names_of}
+use Rattle.par_annotate.specs.par_scope.Home.{Home}
+use Rattle.par_annotate.specs.par_scope.Members.{field_at, field_is_static, any_value}
+use Rattle.par_annotate.specs.par_scope.Meaning.{type_of, receiver_of, selected}
+use Rattle.par_bodies.specs.par_completes.Completes.{completes}
+use Rattle.par_annotate.specs.par_types.Fits.{is_void}
+use Rattle.par_annotate.specs.par_types.Exprs.{expr_faults, misfit, value_faults}
+use Rattle.par_annotate.specs.par_types.Stmts as types
+use Rattle.par_annotate.specs.par_types.Stmts.{throw_fault, test_faults, slot_of, target_slot}
+use Rattle.par_annotate.specs.par_types.Stmts.{result_faults}
+use Rattle.par_annotate.specs.par_types.Stmts.{stmt_faults, braces_faults, may_braces_faults}
+use Rattle.par_annotate.specs.par_types.Stmts.{else_faults}
+use Rattle.par_annotate.specs.par_types.Stmts.{stmts_faults, catches_faults, handler_faults}
+use Rattle.par_annotate.specs.par_types.Methods.{home_of, param_slot}
 use Rattle.par_annotate.specs.Frames.{Frame, Var, var_named, with_local, further}
 use Rattle.par_annotate.specs.Exprs.{own_this, typed_exp, typed_may}
 use Rattle.par_annotate.specs.Stmts.{Written, may_policy, Target, Nowhere, ToLocal, ToStatic}
@@ -49,7 +56,7 @@ use Rattle.par_annotate.specs.Stmts.{braces_locals, handler_locals}
 use Rattle.par_annotate.specs.Stmts.{typed_sta, typed_braces, typed_may_braces, typed_else}
 use Rattle.par_annotate.specs.Stmts.{typed_stas, typed_catches}
 use Rattle.par_annotate.specs.Bodies.{with_params}
-use Rattle.par_resolved.specs.Resolved.{table_of}
+use Rattle.par_faults.specs.par_resolved.Resolved.{table_of}
 use Rattle.par_bodies.specs.Makes.{ExpMakes, MayExpMakes, StaMakes, ElseMakes, StasMake}
 use Rattle.par_bodies.specs.Makes.{CatchesMake}
 use Rattle.par_well_typed.proofs.Lists.{none_left, none_right}

@@ -6,26 +6,32 @@ use Rattle.std.specs.Option.{option_map}
 use Rattle.std.specs.Str.{bytes_eq}
 use Rattle.std.proofs.lemmas.List.{length-map}
 use Rattle.std.proofs.lemmas.Option.{slice_get-map}
-use Rattle.par_typed.specs.declared.ty.Ty.{Ty}
-use Rattle.par_typed.specs.declared.ty.Ty.TheVariants as ty
-use Rattle.par_typed.specs.declared.table.FieldInfo.{FieldInfo}
-use Rattle.par_typed.specs.declared.table.ClassInfo.{ClassInfo}
-use Rattle.par_typed.specs.declared.table.Table.{Table}
-use Rattle.par_scope.specs.declared.members.Place.{Place}
-use Rattle.par_scope.specs.declared.meaning.Receiver.{Receiver}
-use Rattle.par_scope.specs.declared.meaning.Receiver.TheVariants.{Own, Class, Object}
-use Rattle.par_scope.specs.declared.meaning.Callee.{Callee}
-use Rattle.par_scope.specs.declared.meaning.Callee.TheVariants.{Unknown, Channel, Method}
-use Rattle.par_scope.specs.Names.{names_of, member_names, number_in, fields_in, channels_in}
-use Rattle.par_scope.specs.Names.{methods_in}
-use Rattle.par_scope.specs.Home.{Home}
-use Rattle.par_scope.specs.Members.{class_fields, class_channels, class_methods, field_at}
-use Rattle.par_scope.specs.Members.{channel_at, method_at, field_is_static, method_is_static}
-use Rattle.par_scope.specs.Meaning.{class_of, placed, field_in, when_it_is, static_field}
-use Rattle.par_scope.specs.Meaning.{object_field, selected, channel_or_method, callee_in}
-use Rattle.par_scope.specs.Meaning.{when_it_does, static_callee, object_callee, called}
+use Rattle.par_rules.specs.par_typed.declared.ty.Ty.{Ty}
+use Rattle.par_rules.specs.par_typed.declared.ty.Ty.TheVariants as ty
+use Rattle.par_rules.specs.par_typed.declared.table.FieldInfo.{FieldInfo}
+use Rattle.par_rules.specs.par_typed.declared.table.ClassInfo.{ClassInfo}
+use Rattle.par_rules.specs.par_typed.declared.table.Table.{Table}
+use Rattle.par_annotate.specs.par_scope.declared.members.Place.{Place}
+use Rattle.par_annotate.specs.par_scope.declared.meaning.Receiver.{Receiver}
+use Rattle.par_annotate.specs.par_scope.declared.meaning.Receiver.TheVariants.{Own, Class, Object}
+use Rattle.par_annotate.specs.par_scope.declared.meaning.Callee.{Callee}
+use Rattle.par_annotate.specs.par_scope.declared.meaning.Callee.TheVariants.{Unknown, Channel}
+use Rattle.par_annotate.specs.par_scope.declared.meaning.Callee.TheVariants.{Method}
+use Rattle.par_annotate.specs.par_scope.Names.{names_of, member_names, number_in, fields_in}
+use Rattle.par_annotate.specs.par_scope.Names.{channels_in}
+use Rattle.par_annotate.specs.par_scope.Names.{methods_in}
+use Rattle.par_annotate.specs.par_scope.Home.{Home}
+use Rattle.par_annotate.specs.par_scope.Members.{class_fields, class_channels, class_methods}
+use Rattle.par_annotate.specs.par_scope.Members.{field_at}
+use Rattle.par_annotate.specs.par_scope.Members.{channel_at, method_at, field_is_static}
+use Rattle.par_annotate.specs.par_scope.Members.{method_is_static}
+use Rattle.par_annotate.specs.par_scope.Meaning.{class_of, placed, field_in, when_it_is}
+use Rattle.par_annotate.specs.par_scope.Meaning.{static_field}
+use Rattle.par_annotate.specs.par_scope.Meaning.{object_field, selected, channel_or_method}
+use Rattle.par_annotate.specs.par_scope.Meaning.{callee_in}
+use Rattle.par_annotate.specs.par_scope.Meaning.{when_it_does, static_callee, object_callee, called}
 use Rattle.par_index.proofs.Places.{position-within}
-use Rattle.par_types.specs.Methods.{home_of}
+use Rattle.par_annotate.specs.par_types.Methods.{home_of}
 use Rattle.par_bodies.specs.Members as m
 use Rattle.par_bodies.specs.Names.{IsField}
 use Rattle.par_well_typed.proofs.Ranges.{MayBe}

@@ -6,36 +6,39 @@ use Rattle.std.proofs.lemmas.Bool.Decides.{nat_tests}
 use Rattle.std.specs.Str.{bytes_eq}
 use Rattle.std.proofs.lemmas.List.{length-map}
 use Rattle.par_index.proofs.Places.{position-within}
-use Rattle.par_types.specs.Fits.{operand}
-use Rattle.par_tree.specs.Plain.{Exp, Int, True, False, Null, This, New, Name, Field, Call, Neg}
-use Rattle.par_tree.specs.Plain.{Not, Binary}
-use Rattle.par_tree.specs.Plain.{Exps, NoExps, More, MayExp, Absent, Present}
-use Rattle.par_typed.specs.declared.ty.Ty.{Ty}
-use Rattle.par_typed.specs.declared.ty.Ty.TheVariants as ty
-use Rattle.par_typed.specs.declared.table.FieldInfo.{FieldInfo}
-use Rattle.par_typed.specs.declared.table.ChannelInfo.{ChannelInfo}
-use Rattle.par_typed.specs.declared.table.MethodInfo.{MethodInfo}
-use Rattle.par_typed.specs.declared.table.Table.{Table}
-use Rattle.par_typed.specs.Plain as typed
-use Rattle.par_typed.specs.Plain.{Mark, TExp, MayTExp, TExps, mark}
-use Rattle.par_typed.specs.Nodes.{nodes, may_nodes}
-use Rattle.par_typed.specs.declared.refusal.Refusal.{Refusal}
-use Rattle.par_scope.specs.declared.members.Place.{Place}
-use Rattle.par_scope.specs.declared.meaning.Receiver.{Receiver}
-use Rattle.par_scope.specs.declared.meaning.Receiver.TheVariants.{Own, Class, Object}
-use Rattle.par_scope.specs.declared.meaning.Callee.{Callee}
-use Rattle.par_scope.specs.declared.meaning.Callee.TheVariants.{Unknown, Channel, Method}
-use Rattle.par_scope.specs.Names.{names_of}
-use Rattle.par_scope.specs.Locals.{Scope}
-use Rattle.par_scope.specs.Home.{Home, class_named}
-use Rattle.par_scope.specs.Members.{field_at, channel_at, method_at, field_is_static}
-use Rattle.par_scope.specs.Members.{method_is_static, method_arity, any_value}
-use Rattle.par_scope.specs.Meaning.{selected, called, type_of, called_on, receiver_of}
-use Rattle.par_scope.specs.Meaning.{name_receiver, is_value, sure, arity, param_at}
-use Rattle.par_types.specs.Exprs as types
-use Rattle.par_types.specs.Exprs.{expr_faults, receiver_faults, args_faults, misfit, count_fault}
-use Rattle.par_types.specs.Exprs.{member_fault, is_known, unless_number, is_number}
-use Rattle.par_types.specs.Methods.{home_of}
+use Rattle.par_annotate.specs.par_types.Fits.{operand}
+use Rattle.par_bodies.specs.par_tree.Plain.{Exp, Int, True, False, Null, This, New, Name, Field}
+use Rattle.par_bodies.specs.par_tree.Plain.{Call, Neg}
+use Rattle.par_bodies.specs.par_tree.Plain.{Not, Binary}
+use Rattle.par_bodies.specs.par_tree.Plain.{Exps, NoExps, More, MayExp, Absent, Present}
+use Rattle.par_rules.specs.par_typed.declared.ty.Ty.{Ty}
+use Rattle.par_rules.specs.par_typed.declared.ty.Ty.TheVariants as ty
+use Rattle.par_rules.specs.par_typed.declared.table.FieldInfo.{FieldInfo}
+use Rattle.par_rules.specs.par_typed.declared.table.ChannelInfo.{ChannelInfo}
+use Rattle.par_rules.specs.par_typed.declared.table.MethodInfo.{MethodInfo}
+use Rattle.par_rules.specs.par_typed.declared.table.Table.{Table}
+use Rattle.par_rules.specs.par_typed.Plain as typed
+use Rattle.par_rules.specs.par_typed.Plain.{Mark, TExp, MayTExp, TExps, mark}
+use Rattle.par_rules.specs.par_typed.Nodes.{nodes, may_nodes}
+use Rattle.par_rules.specs.par_typed.declared.refusal.Refusal.{Refusal}
+use Rattle.par_annotate.specs.par_scope.declared.members.Place.{Place}
+use Rattle.par_annotate.specs.par_scope.declared.meaning.Receiver.{Receiver}
+use Rattle.par_annotate.specs.par_scope.declared.meaning.Receiver.TheVariants.{Own, Class, Object}
+use Rattle.par_annotate.specs.par_scope.declared.meaning.Callee.{Callee}
+use Rattle.par_annotate.specs.par_scope.declared.meaning.Callee.TheVariants.{Unknown, Channel}
+use Rattle.par_annotate.specs.par_scope.declared.meaning.Callee.TheVariants.{Method}
+use Rattle.par_annotate.specs.par_scope.Names.{names_of}
+use Rattle.par_annotate.specs.par_scope.Locals.{Scope}
+use Rattle.par_annotate.specs.par_scope.Home.{Home, class_named}
+use Rattle.par_annotate.specs.par_scope.Members.{field_at, channel_at, method_at, field_is_static}
+use Rattle.par_annotate.specs.par_scope.Members.{method_is_static, method_arity, any_value}
+use Rattle.par_annotate.specs.par_scope.Meaning.{selected, called, type_of, called_on, receiver_of}
+use Rattle.par_annotate.specs.par_scope.Meaning.{name_receiver, is_value, sure, arity, param_at}
+use Rattle.par_annotate.specs.par_types.Exprs as types
+use Rattle.par_annotate.specs.par_types.Exprs.{expr_faults, receiver_faults, args_faults, misfit}
+use Rattle.par_annotate.specs.par_types.Exprs.{count_fault}
+use Rattle.par_annotate.specs.par_types.Exprs.{member_fault, is_known, unless_number, is_number}
+use Rattle.par_annotate.specs.par_types.Methods.{home_of}
 use Rattle.par_annotate.specs.Frames.{Frame, Var, var_named}
 use Rattle.par_annotate.specs.Exprs.{known, numbered, own_this, own_field, name_typed, negation}
 use Rattle.par_annotate.specs.Exprs.{number_of, selection, own_receiver, method_on}

@@ -4,10 +4,12 @@ use Rattle.std.proofs.Common.{length, refl, sym, ap, subst, ◌∙◌, arith}
 use Rattle.std.proofs.lemmas.List.{length-append}
 use Rattle.par_lexer.specs.declared.operator.BinOp.{BinOp}
 use Rattle.par_lexer.specs.declared.operator.BinOp.TheVariants as op
-use Rattle.par_typed.specs.Plain as plain
-use Rattle.par_typed.specs.Plain.{TExp, MayTExp, TExps, TSta, MayTSta, TStas, TCatches, mark}
-use Rattle.par_typed.specs.Nodes.{nodes, may_nodes, args_nodes, stmt_nodes, else_nodes, all_nodes}
-use Rattle.par_typed.specs.Nodes.{catch_nodes}
+use Rattle.par_rules.specs.par_typed.Plain as plain
+use Rattle.par_rules.specs.par_typed.Plain.{TExp, MayTExp, TExps, TSta, MayTSta, TStas, TCatches}
+use Rattle.par_rules.specs.par_typed.Plain.{mark}
+use Rattle.par_rules.specs.par_typed.Nodes.{nodes, may_nodes, args_nodes, stmt_nodes, else_nodes}
+use Rattle.par_rules.specs.par_typed.Nodes.{all_nodes}
+use Rattle.par_rules.specs.par_typed.Nodes.{catch_nodes}
 use Rattle.par_annotate.specs.Points.{count_from, points, may_points, args_points, stmt_points}
 use Rattle.par_annotate.specs.Points.{else_points, all_points, catch_points}
 use Rattle.par_annotate.proofs.Points.{count_more, count_append}

@@ -3,23 +3,25 @@ use Rattle.std.proofs.Common.{◌≡◌, ℕ, false, List, [], ◌∷◌, ◌++�
 use Rattle.std.proofs.Common.{subst, ◌∙◌, append_assoc, map}
 use Rattle.std.specs.Prelude.{flat_map, slice_get}
 use Rattle.std.specs.List.{AllByRecursion}
-use Rattle.par_tree.specs.Plain.{Class, Method, Declaration, Source}
-use Rattle.par_tree.specs.Plain as plain
-use Rattle.par_typed.specs.declared.table.Table.{Table}
-use Rattle.par_names.specs.Declarations.{classes, builtins, classes_in}
-use Rattle.par_names.specs.Program.{name_faults}
-use Rattle.par_scope.specs.Names.{names_of}
-use Rattle.par_scope.specs.Locals.{no_locals}
-use Rattle.par_scope.specs.Home.{class_named, result_written}
-use Rattle.par_types.specs.Stmts.{braces_faults}
-use Rattle.par_types.specs.Methods as rules
-use Rattle.par_types.specs.Methods.{home_of, end_fault, fields_faults, method_faults}
-use Rattle.par_types.specs.Methods.{methods_faults, class_faults}
-use Rattle.par_types.specs.Program.{declaration_faults, declarations_faults, type_faults}
+use Rattle.par_bodies.specs.par_tree.Plain.{Class, Method, Declaration, Source}
+use Rattle.par_bodies.specs.par_tree.Plain as plain
+use Rattle.par_rules.specs.par_typed.declared.table.Table.{Table}
+use Rattle.par_sources.specs.par_names.Declarations.{classes, builtins, classes_in}
+use Rattle.par_sources.specs.par_names.Program.{name_faults}
+use Rattle.par_annotate.specs.par_scope.Names.{names_of}
+use Rattle.par_annotate.specs.par_scope.Locals.{no_locals}
+use Rattle.par_annotate.specs.par_scope.Home.{class_named, result_written}
+use Rattle.par_annotate.specs.par_types.Stmts.{braces_faults}
+use Rattle.par_annotate.specs.par_types.Methods as rules
+use Rattle.par_annotate.specs.par_types.Methods.{home_of, end_fault, fields_faults, method_faults}
+use Rattle.par_annotate.specs.par_types.Methods.{methods_faults, class_faults}
+use Rattle.par_annotate.specs.par_types.Program.{declaration_faults, declarations_faults}
+use Rattle.par_annotate.specs.par_types.Program.{type_faults}
 use Rattle.par_annotate.specs.Stmts.{Written}
 use Rattle.par_annotate.specs.Bodies.{no_frame, with_params, typed_body, typed_methods, typed_class}
 use Rattle.par_annotate.specs.Bodies.{typed_declaration, typed_declarations}
-use Rattle.par_resolved.specs.Resolved.{Resolved, resolved, class_info, method_info, table_of}
+use Rattle.par_faults.specs.par_resolved.Resolved.{Resolved, resolved, class_info, method_info}
+use Rattle.par_faults.specs.par_resolved.Resolved.{table_of}
 use Rattle.par_faults.specs.Faults.{all_faults}
 use Rattle.par_sources.specs.Order.{Ascend, IsInOrder}
 use Rattle.par_bodies.specs.Members.{method_at}

@@ -8,31 +8,35 @@ use Rattle.std.specs.Str.{bytes_eq}
 use Rattle.std.proofs.lemmas.Option.{slice_get-map}
 use Rattle.par_index.specs.Texts.{has}
 use Rattle.par_index.proofs.Places.{position-within, position-is_some}
-use Rattle.par_tree.specs.declared.decl.FieldDecl.{FieldDecl}
-use Rattle.par_tree.specs.Plain.{Class, Method, Source}
-use Rattle.par_typed.specs.declared.ty.Ty.{Ty}
-use Rattle.par_typed.specs.declared.table.FieldInfo.{FieldInfo}
-use Rattle.par_typed.specs.declared.table.MethodInfo.{MethodInfo}
-use Rattle.par_typed.specs.declared.table.Table.{Table}
-use Rattle.par_typed.specs.First.{when}
-use Rattle.par_names.specs.Exprs.{own_fault}
-use Rattle.par_names.specs.Members.{static_of, selected_named, callee_named, earlier_callee}
-use Rattle.par_names.specs.Members.{channel_named, method_named}
-use Rattle.par_names.proofs.Lookups.{at, found, map-map}
-use Rattle.par_scope.specs.declared.members.Place.{Place}
-use Rattle.par_scope.specs.declared.meaning.Receiver.TheVariants.{Own}
-use Rattle.par_scope.specs.declared.meaning.Callee.{Callee}
-use Rattle.par_scope.specs.declared.meaning.Callee.TheVariants as callee
-use Rattle.par_scope.specs.Names.{names_of, member_names, number_in, fields_in, channels_in}
-use Rattle.par_scope.specs.Names.{methods_in}
-use Rattle.par_scope.specs.Home.{Home}
-use Rattle.par_scope.specs.Members.{class_fields, class_methods, field_at, method_at}
-use Rattle.par_scope.specs.Meaning.{placed, field_in, selected, channel_or_method, callee_in}
-use Rattle.par_scope.specs.Meaning.{called}
-use Rattle.par_types.specs.Methods.{home_of}
+use Rattle.par_bodies.specs.par_tree.declared.decl.FieldDecl.{FieldDecl}
+use Rattle.par_bodies.specs.par_tree.Plain.{Class, Method, Source}
+use Rattle.par_rules.specs.par_typed.declared.ty.Ty.{Ty}
+use Rattle.par_rules.specs.par_typed.declared.table.FieldInfo.{FieldInfo}
+use Rattle.par_rules.specs.par_typed.declared.table.MethodInfo.{MethodInfo}
+use Rattle.par_rules.specs.par_typed.declared.table.Table.{Table}
+use Rattle.par_rules.specs.par_typed.First.{when}
+use Rattle.par_sources.specs.par_names.Exprs.{own_fault}
+use Rattle.par_sources.specs.par_names.Members.{static_of, selected_named, callee_named}
+use Rattle.par_sources.specs.par_names.Members.{earlier_callee}
+use Rattle.par_sources.specs.par_names.Members.{channel_named, method_named}
+use Rattle.par_sources.proofs.par_names.Lookups.{at, found, map-map}
+use Rattle.par_annotate.specs.par_scope.declared.members.Place.{Place}
+use Rattle.par_annotate.specs.par_scope.declared.meaning.Receiver.TheVariants.{Own}
+use Rattle.par_annotate.specs.par_scope.declared.meaning.Callee.{Callee}
+use Rattle.par_annotate.specs.par_scope.declared.meaning.Callee.TheVariants as callee
+use Rattle.par_annotate.specs.par_scope.Names.{names_of, member_names, number_in, fields_in}
+use Rattle.par_annotate.specs.par_scope.Names.{channels_in}
+use Rattle.par_annotate.specs.par_scope.Names.{methods_in}
+use Rattle.par_annotate.specs.par_scope.Home.{Home}
+use Rattle.par_annotate.specs.par_scope.Members.{class_fields, class_methods, field_at, method_at}
+use Rattle.par_annotate.specs.par_scope.Meaning.{placed, field_in, selected, channel_or_method}
+use Rattle.par_annotate.specs.par_scope.Meaning.{callee_in}
+use Rattle.par_annotate.specs.par_scope.Meaning.{called}
+use Rattle.par_annotate.specs.par_types.Methods.{home_of}
 use Rattle.par_annotate.specs.Frames.{Frame, var_at, var_named}
-use Rattle.par_resolved.specs.Resolved.{Resolved, resolved, field_infos, channel_info, method_info}
-use Rattle.par_resolved.specs.Resolved.{class_info, table_of}
+use Rattle.par_faults.specs.par_resolved.Resolved.{Resolved, resolved, field_infos, channel_info}
+use Rattle.par_faults.specs.par_resolved.Resolved.{method_info}
+use Rattle.par_faults.specs.par_resolved.Resolved.{class_info, table_of}
 use Rattle.par_well_typed.proofs.Members.{IsThere, there}
 
 -- ---- the members of a class in its table

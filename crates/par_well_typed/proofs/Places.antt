@@ -8,9 +8,9 @@ use Rattle.std.specs.Str.{bytes_eq}
 use Rattle.std.proofs.lemmas.Bool.Decides.{nat_tests}
 use Rattle.std.proofs.lemmas.Slice.Eq.{bytes_eq-Decides}
 use Rattle.par_index.proofs.Places.{position-from}
-use Rattle.par_tree.specs.declared.ident.Ident.{Ident}
-use Rattle.par_typed.specs.First.{when, broken}
-use Rattle.par_names.specs.Declarations.{has_earlier, double_fault, doubles}
+use Rattle.par_bodies.specs.par_tree.declared.ident.Ident.{Ident}
+use Rattle.par_rules.specs.par_typed.First.{when, broken}
+use Rattle.par_sources.specs.par_names.Declarations.{has_earlier, double_fault, doubles}
 use Rattle.par_sources.specs.Order.{Ascend}
 use Rattle.par_well_typed.proofs.Lists.{none_of, each_is}
 

@@ -9,17 +9,19 @@ use Rattle.std.proofs.lemmas.List.Elements.{filter-append}
 use Rattle.std.proofs.lemmas.Option.{slice_get-get_or}
 use Rattle.std.proofs.lemmas.Bool.{leb-true}
 use Rattle.std.proofs.lemmas.Bool.Decides.{nat_tests}
-use Rattle.par_policy.specs.declared.clauses.Clause.{Clause}
-use Rattle.par_tree.specs.declared.policy.PolicyExpr.{PolicyExpr}
-use Rattle.par_tree.specs.declared.decl.FieldDecl.{FieldDecl}
-use Rattle.par_tree.specs.Plain.{Class, Source}
-use Rattle.par_resolved.specs.declared.entries.Entry.{Entry}
-use Rattle.par_resolved.specs.declared.limits.TheConstants.{MOST_POLICIES}
-use Rattle.par_resolved.specs.Policies.{known, policy_of}
-use Rattle.par_resolved.specs.Numbered.{with_new, distinct, entries, same_policy, numbered}
-use Rattle.par_resolved.specs.Numbered.{declared, inferred_fields, inferred_entry, shared_policies}
-use Rattle.par_resolved.specs.Limits.{one_too_many, table_faults}
-use Rattle.par_resolved.specs.Resolved.{resolved, number_of, may_number}
+use Rattle.par_rules.specs.par_policy.declared.clauses.Clause.{Clause}
+use Rattle.par_bodies.specs.par_tree.declared.policy.PolicyExpr.{PolicyExpr}
+use Rattle.par_bodies.specs.par_tree.declared.decl.FieldDecl.{FieldDecl}
+use Rattle.par_bodies.specs.par_tree.Plain.{Class, Source}
+use Rattle.par_faults.specs.par_resolved.declared.entries.Entry.{Entry}
+use Rattle.par_faults.specs.par_resolved.declared.limits.TheConstants.{MOST_POLICIES}
+use Rattle.par_faults.specs.par_resolved.Policies.{known, policy_of}
+use Rattle.par_faults.specs.par_resolved.Numbered.{with_new, distinct, entries, same_policy}
+use Rattle.par_faults.specs.par_resolved.Numbered.{numbered}
+use Rattle.par_faults.specs.par_resolved.Numbered.{declared, inferred_fields, inferred_entry}
+use Rattle.par_faults.specs.par_resolved.Numbered.{shared_policies}
+use Rattle.par_faults.specs.par_resolved.Limits.{one_too_many, table_faults}
+use Rattle.par_faults.specs.par_resolved.Resolved.{resolved, number_of, may_number}
 use Rattle.par_well_typed.proofs.Lists.{none_left, found_within}
 
 -- ---- distinct policies

@@ -9,32 +9,39 @@ use Rattle.std.specs.Str.{bytes_eq}
 use Rattle.std.proofs.lemmas.List.{length-map, length-append, map-append}
 use Rattle.std.proofs.lemmas.List.Concat.{flat_map-append}
 use Rattle.std.proofs.lemmas.Option.{slice_get-map}
-use Rattle.par_tree.specs.declared.ident.Ident.{Ident}
-use Rattle.par_tree.specs.declared.decl.ParamDecl.{ParamDecl}
-use Rattle.par_tree.specs.Plain.{Sta, Block, If, While, Try, Return, Break, Continue, Throw, Open}
-use Rattle.par_tree.specs.Plain.{Close}
-use Rattle.par_tree.specs.Plain.{Declare, Assign, Do, When, Braces, In, MayBraces, NoBraces}
-use Rattle.par_tree.specs.Plain.{Else, NoElse, Otherwise, Stas, End, Then, Catches, NoCatch, Catch}
-use Rattle.par_tree.specs.Plain.{Handler, On}
-use Rattle.par_tree.specs.Plain as plain
-use Rattle.par_tree.specs.Plain.{Class, Method, Declaration, Source}
-use Rattle.par_resolved.specs.Statements.{inside, in_braces, in_may_braces, in_else, in_all}
-use Rattle.par_resolved.specs.Statements.{in_catches, in_handler}
-use Rattle.par_resolved.specs.Written.{stmt_types}
+use Rattle.par_bodies.specs.par_tree.declared.ident.Ident.{Ident}
+use Rattle.par_bodies.specs.par_tree.declared.decl.ParamDecl.{ParamDecl}
+use Rattle.par_bodies.specs.par_tree.Plain.{Sta, Block, If, While, Try, Return, Break, Continue}
+use Rattle.par_bodies.specs.par_tree.Plain.{Throw, Open}
+use Rattle.par_bodies.specs.par_tree.Plain.{Close}
+use Rattle.par_bodies.specs.par_tree.Plain.{Declare, Assign, Do, When, Braces, In, MayBraces}
+use Rattle.par_bodies.specs.par_tree.Plain.{NoBraces}
+use Rattle.par_bodies.specs.par_tree.Plain.{Else, NoElse, Otherwise, Stas, End, Then, Catches}
+use Rattle.par_bodies.specs.par_tree.Plain.{NoCatch, Catch}
+use Rattle.par_bodies.specs.par_tree.Plain.{Handler, On}
+use Rattle.par_bodies.specs.par_tree.Plain as plain
+use Rattle.par_bodies.specs.par_tree.Plain.{Class, Method, Declaration, Source}
+use Rattle.par_faults.specs.par_resolved.Statements.{inside, in_braces, in_may_braces, in_else}
+use Rattle.par_faults.specs.par_resolved.Statements.{in_all}
+use Rattle.par_faults.specs.par_resolved.Statements.{in_catches, in_handler}
+use Rattle.par_faults.specs.par_resolved.Written.{stmt_types}
 use Rattle.par_annotate.specs.Stmts.{locals_in, braces_locals, may_braces_locals, else_locals}
 use Rattle.par_annotate.specs.Stmts.{all_locals, catches_locals, handler_locals}
-use Rattle.par_typed.specs.declared.table.Table.{Table}
-use Rattle.par_names.specs.Declarations.{classes, builtins, declared_classes, classes_in, doubles}
-use Rattle.par_names.specs.Declarations.{locks}
-use Rattle.par_names.specs.Members.{callee_ids}
-use Rattle.par_names.specs.Methods.{method_faults, channel_faults}
-use Rattle.par_names.specs.Program.{view_behind, program_doubles, mains, mains_faults, name_faults}
-use Rattle.par_scope.specs.Names.{names_of, member_names, number_in, methods_in}
-use Rattle.par_scope.specs.Home.{Home, class_named, result_written}
-use Rattle.par_types.specs.Methods.{home_of, param_slot}
-use Rattle.par_resolved.specs.Numbers.{type_of}
-use Rattle.par_resolved.specs.Resolved.{Resolved, resolved, class_info, class_infos, method_info}
-use Rattle.par_resolved.specs.Resolved.{param_info, local_types, this_type, table_of}
+use Rattle.par_rules.specs.par_typed.declared.table.Table.{Table}
+use Rattle.par_sources.specs.par_names.Declarations.{classes, builtins, declared_classes}
+use Rattle.par_sources.specs.par_names.Declarations.{classes_in, doubles}
+use Rattle.par_sources.specs.par_names.Declarations.{locks}
+use Rattle.par_sources.specs.par_names.Members.{callee_ids}
+use Rattle.par_sources.specs.par_names.Methods.{method_faults, channel_faults}
+use Rattle.par_sources.specs.par_names.Program.{view_behind, program_doubles, mains, mains_faults}
+use Rattle.par_sources.specs.par_names.Program.{name_faults}
+use Rattle.par_annotate.specs.par_scope.Names.{names_of, member_names, number_in, methods_in}
+use Rattle.par_annotate.specs.par_scope.Home.{Home, class_named, result_written}
+use Rattle.par_annotate.specs.par_types.Methods.{home_of, param_slot}
+use Rattle.par_faults.specs.par_resolved.Numbers.{type_of}
+use Rattle.par_faults.specs.par_resolved.Resolved.{Resolved, resolved, class_info, class_infos}
+use Rattle.par_faults.specs.par_resolved.Resolved.{method_info}
+use Rattle.par_faults.specs.par_resolved.Resolved.{param_info, local_types, this_type, table_of}
 use Rattle.par_annotate.specs.Frames.{Frame, with_local}
 use Rattle.par_annotate.specs.Exprs.{numbered}
 use Rattle.par_annotate.specs.Stmts.{Written}

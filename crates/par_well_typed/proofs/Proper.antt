@@ -6,24 +6,29 @@ use Rattle.std.specs.Prelude.{slice_get}
 use Rattle.std.specs.List.{AllByRecursion, range_with_len}
 use Rattle.par_lexer.specs.declared.operator.BinOp.{BinOp}
 use Rattle.par_lexer.specs.declared.operator.BinOp.TheVariants as op
-use Rattle.par_typed.specs.declared.ty.Ty.{Ty}
-use Rattle.par_typed.specs.declared.ty.Ty.TheVariants as ty
-use Rattle.par_typed.specs.declared.table.FieldInfo.{FieldInfo}
-use Rattle.par_typed.specs.declared.table.ChannelInfo.{ChannelInfo}
-use Rattle.par_typed.specs.declared.table.ParamInfo.{ParamInfo}
-use Rattle.par_typed.specs.declared.table.MethodInfo.{MethodInfo}
-use Rattle.par_typed.specs.declared.table.ClassInfo.{ClassInfo}
-use Rattle.par_typed.specs.declared.table.Table.{Table}
-use Rattle.par_typed.specs.Plain.{Mark, mark}
-use Rattle.par_typed.specs.Plain.{TExp, Int, Boolean, Null, This, New, Local, Static, Field, Input}
-use Rattle.par_typed.specs.Plain.{Output, Call, Neg, Not, Binary, MayTExp, Absent, Present}
-use Rattle.par_typed.specs.Plain.{TExps, NoExps, More}
-use Rattle.par_typed.specs.Plain.{TSta, Block, If, While, Try, Return, Break, Continue, Throw, Open}
-use Rattle.par_typed.specs.Plain.{Close, SetLocal, SetStatic, SetField, Eval, When, MayTSta, NoElse}
-use Rattle.par_typed.specs.Plain.{Otherwise, TStas, End, Then, TCatches, NoCatch, Catch, Body}
-use Rattle.par_scope.specs.Meaning.{op_type}
-use Rattle.par_types.specs.Fits.{operand}
-use Rattle.par_completes.specs.Typed.{completes}
+use Rattle.par_rules.specs.par_typed.declared.ty.Ty.{Ty}
+use Rattle.par_rules.specs.par_typed.declared.ty.Ty.TheVariants as ty
+use Rattle.par_rules.specs.par_typed.declared.table.FieldInfo.{FieldInfo}
+use Rattle.par_rules.specs.par_typed.declared.table.ChannelInfo.{ChannelInfo}
+use Rattle.par_rules.specs.par_typed.declared.table.ParamInfo.{ParamInfo}
+use Rattle.par_rules.specs.par_typed.declared.table.MethodInfo.{MethodInfo}
+use Rattle.par_rules.specs.par_typed.declared.table.ClassInfo.{ClassInfo}
+use Rattle.par_rules.specs.par_typed.declared.table.Table.{Table}
+use Rattle.par_rules.specs.par_typed.Plain.{Mark, mark}
+use Rattle.par_rules.specs.par_typed.Plain.{TExp, Int, Boolean, Null, This, New, Local, Static}
+use Rattle.par_rules.specs.par_typed.Plain.{Field, Input}
+use Rattle.par_rules.specs.par_typed.Plain.{Output, Call, Neg, Not, Binary, MayTExp, Absent}
+use Rattle.par_rules.specs.par_typed.Plain.{Present}
+use Rattle.par_rules.specs.par_typed.Plain.{TExps, NoExps, More}
+use Rattle.par_rules.specs.par_typed.Plain.{TSta, Block, If, While, Try, Return, Break, Continue}
+use Rattle.par_rules.specs.par_typed.Plain.{Throw, Open}
+use Rattle.par_rules.specs.par_typed.Plain.{Close, SetLocal, SetStatic, SetField, Eval, When}
+use Rattle.par_rules.specs.par_typed.Plain.{MayTSta, NoElse}
+use Rattle.par_rules.specs.par_typed.Plain.{Otherwise, TStas, End, Then, TCatches, NoCatch, Catch}
+use Rattle.par_rules.specs.par_typed.Plain.{Body}
+use Rattle.par_annotate.specs.par_scope.Meaning.{op_type}
+use Rattle.par_annotate.specs.par_types.Fits.{operand}
+use Rattle.par_bodies.specs.par_completes.Typed.{completes}
 use Rattle.par_bodies.specs.Members.{fields_in, methods_in, field_at, channel_at, method_at}
 use Rattle.par_bodies.specs.Locals.{arriving, arriving_sure, BeginsWith, set_by_call, IsSet, behind}
 use Rattle.par_bodies.specs.Types.{IsMarked, IsValue, IsResult, Accepts, IsGiven, AreCompared}

@@ -7,18 +7,18 @@ use Rattle.std.proofs.lemmas.Bool.Decides.{nat_tests}
 use Rattle.std.proofs.lemmas.List.Elements.{All-nil, All-cons}
 use Rattle.par_lexer.specs.declared.operator.BinOp.{BinOp}
 use Rattle.par_lexer.specs.declared.operator.BinOp.TheVariants as op
-use Rattle.par_policy.specs.Numbers.{has}
+use Rattle.par_rules.specs.par_policy.Numbers.{has}
 use Rattle.par_bits.specs.Sets.{adding, none}
-use Rattle.par_typed.specs.declared.table.GroundLock.{GroundLock}
-use Rattle.par_typed.specs.declared.table.FieldInfo.{FieldInfo}
-use Rattle.par_typed.specs.declared.table.ChannelInfo.{ChannelInfo}
-use Rattle.par_typed.specs.declared.table.ParamInfo.{ParamInfo}
-use Rattle.par_typed.specs.declared.table.ThrowInfo.{ThrowInfo}
-use Rattle.par_typed.specs.declared.table.MethodInfo.{MethodInfo}
-use Rattle.par_typed.specs.declared.table.ClassInfo.{ClassInfo}
-use Rattle.par_typed.specs.declared.table.Table.{Table}
-use Rattle.par_typed.specs.Plain as plain
-use Rattle.par_typed.specs.Plain.{TExp, TExps, TSta, TStas, TCatches, mark}
+use Rattle.par_rules.specs.par_typed.declared.table.GroundLock.{GroundLock}
+use Rattle.par_rules.specs.par_typed.declared.table.FieldInfo.{FieldInfo}
+use Rattle.par_rules.specs.par_typed.declared.table.ChannelInfo.{ChannelInfo}
+use Rattle.par_rules.specs.par_typed.declared.table.ParamInfo.{ParamInfo}
+use Rattle.par_rules.specs.par_typed.declared.table.ThrowInfo.{ThrowInfo}
+use Rattle.par_rules.specs.par_typed.declared.table.MethodInfo.{MethodInfo}
+use Rattle.par_rules.specs.par_typed.declared.table.ClassInfo.{ClassInfo}
+use Rattle.par_rules.specs.par_typed.declared.table.Table.{Table}
+use Rattle.par_rules.specs.par_typed.Plain as plain
+use Rattle.par_rules.specs.par_typed.Plain.{TExp, TExps, TSta, TStas, TCatches, mark}
 use Rattle.par_rules.specs.Kinds as kind
 use Rattle.par_rules.specs.Kinds.{Kind}
 use Rattle.par_rules.specs.Declares.{Declares, Method, Thrown, NO_METHOD, declares, method_of}

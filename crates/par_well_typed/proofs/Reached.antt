@@ -5,34 +5,42 @@ use Rattle.std.proofs.Common.{length, Option, Some, None, refl, sym, ap, subst, 
 use Rattle.std.proofs.Common.{map}
 use Rattle.std.specs.Prelude.{flat_map, slice_get}
 use Rattle.std.specs.List.{AllByRecursion}
-use Rattle.par_tree.specs.Plain.{Sta, Block, If, While, Try, Return, Break, Continue, Throw, Open}
-use Rattle.par_tree.specs.Plain.{Close}
-use Rattle.par_tree.specs.Plain.{Declare, Assign, Do, When, Braces, In, MayBraces, NoBraces}
-use Rattle.par_tree.specs.Plain.{Else, NoElse, Otherwise, Stas, End, Then, Catches, NoCatch, Catch}
-use Rattle.par_tree.specs.Plain.{On}
-use Rattle.par_tree.specs.Plain as plain
-use Rattle.par_tree.specs.Plain.{Class, Method, Declaration, Source}
-use Rattle.par_typed.specs.declared.ty.Ty.{Ty}
-use Rattle.par_typed.specs.declared.ty.Ty.TheVariants as ty
-use Rattle.par_typed.specs.declared.table.Table.{Table}
-use Rattle.par_typed.specs.First.{when, broken}
-use Rattle.par_typed.specs.Plain.{TExp}
-use Rattle.par_completes.specs.Completes.{completes, braces_complete}
-use Rattle.par_completes.specs.Typed as ends
-use Rattle.par_names.specs.Declarations.{classes, builtins, classes_in}
-use Rattle.par_names.specs.Program.{view_behind, name_faults}
-use Rattle.par_scope.specs.Names.{names_of}
-use Rattle.par_scope.specs.Locals.{no_locals}
-use Rattle.par_scope.specs.Home.{Home, class_named, result_written}
-use Rattle.par_types.specs.Fits.{is_void}
-use Rattle.par_types.specs.Stmts as types
-use Rattle.par_types.specs.Stmts.{throw_fault, test_faults, declares, stmt_faults, braces_faults}
-use Rattle.par_types.specs.Stmts.{may_braces_faults, else_faults, stmts_faults, catches_faults}
-use Rattle.par_types.specs.Stmts.{handler_faults}
-use Rattle.par_types.specs.Methods as rules
-use Rattle.par_types.specs.Methods.{home_of, result_fault, params_faults, throws_faults, end_fault}
-use Rattle.par_types.specs.Methods.{fields_faults, method_faults, methods_faults, class_faults}
-use Rattle.par_types.specs.Program.{declaration_faults, declarations_faults, type_faults}
+use Rattle.par_bodies.specs.par_tree.Plain.{Sta, Block, If, While, Try, Return, Break, Continue}
+use Rattle.par_bodies.specs.par_tree.Plain.{Throw, Open}
+use Rattle.par_bodies.specs.par_tree.Plain.{Close}
+use Rattle.par_bodies.specs.par_tree.Plain.{Declare, Assign, Do, When, Braces, In, MayBraces}
+use Rattle.par_bodies.specs.par_tree.Plain.{NoBraces}
+use Rattle.par_bodies.specs.par_tree.Plain.{Else, NoElse, Otherwise, Stas, End, Then, Catches}
+use Rattle.par_bodies.specs.par_tree.Plain.{NoCatch, Catch}
+use Rattle.par_bodies.specs.par_tree.Plain.{On}
+use Rattle.par_bodies.specs.par_tree.Plain as plain
+use Rattle.par_bodies.specs.par_tree.Plain.{Class, Method, Declaration, Source}
+use Rattle.par_rules.specs.par_typed.declared.ty.Ty.{Ty}
+use Rattle.par_rules.specs.par_typed.declared.ty.Ty.TheVariants as ty
+use Rattle.par_rules.specs.par_typed.declared.table.Table.{Table}
+use Rattle.par_rules.specs.par_typed.First.{when, broken}
+use Rattle.par_rules.specs.par_typed.Plain.{TExp}
+use Rattle.par_bodies.specs.par_completes.Completes.{completes, braces_complete}
+use Rattle.par_bodies.specs.par_completes.Typed as ends
+use Rattle.par_sources.specs.par_names.Declarations.{classes, builtins, classes_in}
+use Rattle.par_sources.specs.par_names.Program.{view_behind, name_faults}
+use Rattle.par_annotate.specs.par_scope.Names.{names_of}
+use Rattle.par_annotate.specs.par_scope.Locals.{no_locals}
+use Rattle.par_annotate.specs.par_scope.Home.{Home, class_named, result_written}
+use Rattle.par_annotate.specs.par_types.Fits.{is_void}
+use Rattle.par_annotate.specs.par_types.Stmts as types
+use Rattle.par_annotate.specs.par_types.Stmts.{throw_fault, test_faults, declares, stmt_faults}
+use Rattle.par_annotate.specs.par_types.Stmts.{braces_faults}
+use Rattle.par_annotate.specs.par_types.Stmts.{may_braces_faults, else_faults, stmts_faults}
+use Rattle.par_annotate.specs.par_types.Stmts.{catches_faults}
+use Rattle.par_annotate.specs.par_types.Stmts.{handler_faults}
+use Rattle.par_annotate.specs.par_types.Methods as rules
+use Rattle.par_annotate.specs.par_types.Methods.{home_of, result_fault, params_faults}
+use Rattle.par_annotate.specs.par_types.Methods.{throws_faults, end_fault}
+use Rattle.par_annotate.specs.par_types.Methods.{fields_faults, method_faults, methods_faults}
+use Rattle.par_annotate.specs.par_types.Methods.{class_faults}
+use Rattle.par_annotate.specs.par_types.Program.{declaration_faults, declarations_faults}
+use Rattle.par_annotate.specs.par_types.Program.{type_faults}
 use Rattle.par_annotate.specs.Frames.{Frame, further}
 use Rattle.par_annotate.specs.Stmts.{Written, Target, Nowhere, ToLocal, ToStatic, ToField, target}
 use Rattle.par_annotate.specs.Stmts.{assignment, behind, braces_locals, handler_locals}
@@ -40,8 +48,9 @@ use Rattle.par_annotate.specs.Stmts.{typed_sta, typed_braces, typed_may_braces, 
 use Rattle.par_annotate.specs.Stmts.{typed_stas, typed_catches}
 use Rattle.par_annotate.specs.Bodies.{no_frame, with_params, typed_body, typed_methods, typed_class}
 use Rattle.par_annotate.specs.Bodies.{typed_declaration, typed_declarations}
-use Rattle.par_resolved.specs.Numbers.{result_of}
-use Rattle.par_resolved.specs.Resolved.{Resolved, resolved, class_info, method_info, table_of}
+use Rattle.par_faults.specs.par_resolved.Numbers.{result_of}
+use Rattle.par_faults.specs.par_resolved.Resolved.{Resolved, resolved, class_info, method_info}
+use Rattle.par_faults.specs.par_resolved.Resolved.{table_of}
 use Rattle.par_faults.specs.Faults.{all_faults}
 use Rattle.par_sources.specs.Order.{Ascend, IsInOrder}
 use Rattle.par_bodies.specs.Members.{method_at}

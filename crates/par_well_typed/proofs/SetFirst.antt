@@ -4,26 +4,30 @@ use Rattle.std.proofs.Common.{◌∷◌, length, Option, Some, None, IsTrue, ref
 use Rattle.std.specs.Prelude.{nat_eq}
 use Rattle.std.specs.List.{range_with_len}
 use Rattle.std.proofs.lemmas.Bool.Decides.{nat_tests}
-use Rattle.par_policy.specs.Numbers.{has}
-use Rattle.par_tree.specs.declared.decl.ParamDecl.{ParamDecl}
-use Rattle.par_tree.specs.Plain.{Exp, Int, True, False, Null, This, New, Name, Field, Call, Neg}
-use Rattle.par_tree.specs.Plain.{Not, Binary}
-use Rattle.par_tree.specs.Plain.{Sta, Block, If, While, Try, Return, Break, Continue, Throw, Open}
-use Rattle.par_tree.specs.Plain.{Close}
-use Rattle.par_tree.specs.Plain.{Declare, Assign, Do, When, Braces, In, MayBraces, NoBraces}
-use Rattle.par_tree.specs.Plain.{Else, NoElse, Otherwise, Stas, End, Then, Catches, NoCatch, Catch}
-use Rattle.par_tree.specs.Plain.{On}
-use Rattle.par_tree.specs.Plain as plain
-use Rattle.par_typed.specs.Plain.{TExp}
-use Rattle.par_scope.specs.declared.members.Place.{Place}
-use Rattle.par_scope.specs.declared.locals.Slot.{Slot}
-use Rattle.par_scope.specs.declared.meaning.Receiver as meaning
-use Rattle.par_scope.specs.declared.meaning.Receiver.TheVariants as receiver
-use Rattle.par_scope.specs.Home.{Home}
-use Rattle.par_scope.specs.Members.{field_at, field_is_static}
-use Rattle.par_scope.specs.Meaning.{type_of, receiver_of, selected}
-use Rattle.par_types.specs.Methods.{param_slot}
-use Rattle.par_types.specs.Stmts.{slot_of}
+use Rattle.par_rules.specs.par_policy.Numbers.{has}
+use Rattle.par_bodies.specs.par_tree.declared.decl.ParamDecl.{ParamDecl}
+use Rattle.par_bodies.specs.par_tree.Plain.{Exp, Int, True, False, Null, This, New, Name, Field}
+use Rattle.par_bodies.specs.par_tree.Plain.{Call, Neg}
+use Rattle.par_bodies.specs.par_tree.Plain.{Not, Binary}
+use Rattle.par_bodies.specs.par_tree.Plain.{Sta, Block, If, While, Try, Return, Break, Continue}
+use Rattle.par_bodies.specs.par_tree.Plain.{Throw, Open}
+use Rattle.par_bodies.specs.par_tree.Plain.{Close}
+use Rattle.par_bodies.specs.par_tree.Plain.{Declare, Assign, Do, When, Braces, In, MayBraces}
+use Rattle.par_bodies.specs.par_tree.Plain.{NoBraces}
+use Rattle.par_bodies.specs.par_tree.Plain.{Else, NoElse, Otherwise, Stas, End, Then, Catches}
+use Rattle.par_bodies.specs.par_tree.Plain.{NoCatch, Catch}
+use Rattle.par_bodies.specs.par_tree.Plain.{On}
+use Rattle.par_bodies.specs.par_tree.Plain as plain
+use Rattle.par_rules.specs.par_typed.Plain.{TExp}
+use Rattle.par_annotate.specs.par_scope.declared.members.Place.{Place}
+use Rattle.par_annotate.specs.par_scope.declared.locals.Slot.{Slot}
+use Rattle.par_annotate.specs.par_scope.declared.meaning.Receiver as meaning
+use Rattle.par_annotate.specs.par_scope.declared.meaning.Receiver.TheVariants as receiver
+use Rattle.par_annotate.specs.par_scope.Home.{Home}
+use Rattle.par_annotate.specs.par_scope.Members.{field_at, field_is_static}
+use Rattle.par_annotate.specs.par_scope.Meaning.{type_of, receiver_of, selected}
+use Rattle.par_annotate.specs.par_types.Methods.{param_slot}
+use Rattle.par_annotate.specs.par_types.Stmts.{slot_of}
 use Rattle.par_annotate.specs.Frames.{Frame, Var, var_named, with_local, further}
 use Rattle.par_annotate.specs.Exprs.{own_this, typed_exp}
 use Rattle.par_annotate.specs.Stmts.{Written, may_policy, Target, Nowhere, ToLocal, ToStatic}

@@ -4,38 +4,43 @@ use Rattle.std.proofs.Common.{Some, None, refl, sym, ap, subst, ◌∙◌, appen
 use Rattle.std.specs.Prelude.{flat_map, slice_get, count_by, if◌then◌else◌, codes}
 use Rattle.std.specs.List.{AllByRecursion}
 use Rattle.std.proofs.lemmas.List.{length-append}
-use Rattle.par_tree.specs.declared.types.TypeTree.{TypeTree}
-use Rattle.par_tree.specs.declared.policy.PolicyExpr.{PolicyExpr}
-use Rattle.par_tree.specs.declared.decl.FieldDecl.{FieldDecl}
-use Rattle.par_tree.specs.declared.decl.ParamDecl.{ParamDecl}
-use Rattle.par_tree.specs.declared.decl.ThrowDecl.{ThrowDecl}
-use Rattle.par_tree.specs.Plain.{Class, Method, Declaration, Source}
-use Rattle.par_tree.specs.Plain as plain
-use Rattle.par_typed.specs.declared.ty.Ty.{Ty}
-use Rattle.par_typed.specs.declared.ty.Ty.TheVariants as ty
-use Rattle.par_typed.specs.declared.table.Table.{Table}
-use Rattle.par_names.specs.Declarations.{classes, builtin, builtins, classes_in}
-use Rattle.par_names.specs.Declarations.{declared_classes, doubles}
-use Rattle.par_names.specs.Members.{callee_ids}
-use Rattle.par_names.specs.Methods as named
-use Rattle.par_names.specs.Methods.{field_faults, channel_faults, inferred_fault, param_faults}
-use Rattle.par_names.specs.Policies.{may_policy_faults, type_fault, result_fault}
-use Rattle.par_names.specs.Program.{view_behind, name_faults}
-use Rattle.par_scope.specs.Names.{names_of}
-use Rattle.par_scope.specs.Locals.{no_locals}
-use Rattle.par_scope.specs.Home.{Home, class_named, result_written}
-use Rattle.par_types.specs.Stmts as types
-use Rattle.par_types.specs.Stmts.{throw_fault, braces_faults}
-use Rattle.par_types.specs.Methods as rules
-use Rattle.par_types.specs.Methods.{home_of, params_faults, throws_faults, fields_faults, end_fault}
-use Rattle.par_types.specs.Methods.{method_faults, methods_faults, class_faults}
-use Rattle.par_types.specs.Program.{declaration_faults, declarations_faults, type_faults}
-use Rattle.par_resolved.specs.Numbers.{type_of, result_of}
-use Rattle.par_resolved.specs.Resolved.{Resolved, resolved, field_infos, channel_info, param_info}
-use Rattle.par_resolved.specs.Resolved.{throw_info, this_type, local_types, method_info, class_info}
-use Rattle.par_resolved.specs.Resolved.{class_infos, table_of}
-use Rattle.par_resolved.specs.Statements.{in_braces}
-use Rattle.par_resolved.specs.Written.{stmt_types}
+use Rattle.par_bodies.specs.par_tree.declared.types.TypeTree.{TypeTree}
+use Rattle.par_bodies.specs.par_tree.declared.policy.PolicyExpr.{PolicyExpr}
+use Rattle.par_bodies.specs.par_tree.declared.decl.FieldDecl.{FieldDecl}
+use Rattle.par_bodies.specs.par_tree.declared.decl.ParamDecl.{ParamDecl}
+use Rattle.par_bodies.specs.par_tree.declared.decl.ThrowDecl.{ThrowDecl}
+use Rattle.par_bodies.specs.par_tree.Plain.{Class, Method, Declaration, Source}
+use Rattle.par_bodies.specs.par_tree.Plain as plain
+use Rattle.par_rules.specs.par_typed.declared.ty.Ty.{Ty}
+use Rattle.par_rules.specs.par_typed.declared.ty.Ty.TheVariants as ty
+use Rattle.par_rules.specs.par_typed.declared.table.Table.{Table}
+use Rattle.par_sources.specs.par_names.Declarations.{classes, builtin, builtins, classes_in}
+use Rattle.par_sources.specs.par_names.Declarations.{declared_classes, doubles}
+use Rattle.par_sources.specs.par_names.Members.{callee_ids}
+use Rattle.par_sources.specs.par_names.Methods as named
+use Rattle.par_sources.specs.par_names.Methods.{field_faults, channel_faults, inferred_fault}
+use Rattle.par_sources.specs.par_names.Methods.{param_faults}
+use Rattle.par_sources.specs.par_names.Policies.{may_policy_faults, type_fault, result_fault}
+use Rattle.par_sources.specs.par_names.Program.{view_behind, name_faults}
+use Rattle.par_annotate.specs.par_scope.Names.{names_of}
+use Rattle.par_annotate.specs.par_scope.Locals.{no_locals}
+use Rattle.par_annotate.specs.par_scope.Home.{Home, class_named, result_written}
+use Rattle.par_annotate.specs.par_types.Stmts as types
+use Rattle.par_annotate.specs.par_types.Stmts.{throw_fault, braces_faults}
+use Rattle.par_annotate.specs.par_types.Methods as rules
+use Rattle.par_annotate.specs.par_types.Methods.{home_of, params_faults, throws_faults}
+use Rattle.par_annotate.specs.par_types.Methods.{fields_faults, end_fault}
+use Rattle.par_annotate.specs.par_types.Methods.{method_faults, methods_faults, class_faults}
+use Rattle.par_annotate.specs.par_types.Program.{declaration_faults, declarations_faults}
+use Rattle.par_annotate.specs.par_types.Program.{type_faults}
+use Rattle.par_faults.specs.par_resolved.Numbers.{type_of, result_of}
+use Rattle.par_faults.specs.par_resolved.Resolved.{Resolved, resolved, field_infos, channel_info}
+use Rattle.par_faults.specs.par_resolved.Resolved.{param_info}
+use Rattle.par_faults.specs.par_resolved.Resolved.{throw_info, this_type, local_types, method_info}
+use Rattle.par_faults.specs.par_resolved.Resolved.{class_info}
+use Rattle.par_faults.specs.par_resolved.Resolved.{class_infos, table_of}
+use Rattle.par_faults.specs.par_resolved.Statements.{in_braces}
+use Rattle.par_faults.specs.par_resolved.Written.{stmt_types}
 use Rattle.par_faults.specs.Faults.{all_faults}
 use Rattle.par_sources.specs.Order.{IsBare, IsInOrder}
 use Rattle.par_bodies.specs.Makes.{IsOrdinary}

@@ -3,30 +3,35 @@ use Rattle.std.proofs.Common.{◌≡◌, ℕ, ◌+◌, ◌≤◌, Bool, true, fa
 use Rattle.std.proofs.Common.{None, refl, ap, ◌∙◌, arith, cond}
 use Rattle.std.specs.Prelude.{nat_eq}
 use Rattle.std.proofs.lemmas.Bool.Decides.{nat_tests}
-use Rattle.par_tree.specs.Plain.{Exp, Int, True, False, Null, This, New, Name, Field, Call, Neg}
-use Rattle.par_tree.specs.Plain.{Not, Binary}
-use Rattle.par_tree.specs.Plain.{Exps, NoExps, More, MayExp, Absent, Present}
-use Rattle.par_tree.specs.Nodes as source
-use Rattle.par_typed.specs.declared.ty.Ty.TheVariants as ty
-use Rattle.par_typed.specs.declared.table.ChannelInfo.{ChannelInfo}
-use Rattle.par_typed.specs.declared.refusal.Refusal.{Refusal}
-use Rattle.par_typed.specs.Plain as typed
-use Rattle.par_typed.specs.Plain.{Mark, TExp, MayTExp, TExps}
-use Rattle.par_typed.specs.Nodes.{nodes, may_nodes}
-use Rattle.par_scope.specs.declared.members.Place.{Place}
-use Rattle.par_scope.specs.declared.meaning.Receiver as meaning
-use Rattle.par_scope.specs.declared.meaning.Receiver.TheVariants as receiver
-use Rattle.par_scope.specs.declared.meaning.Callee.{Callee}
-use Rattle.par_scope.specs.declared.meaning.Callee.TheVariants.{Unknown, Channel, Method}
-use Rattle.par_scope.specs.Home.{Home}
-use Rattle.par_scope.specs.Members.{field_at, channel_at, method_at, field_is_static}
-use Rattle.par_scope.specs.Members.{method_is_static, channel_arity, way_arity, any_value}
-use Rattle.par_scope.specs.Meaning.{selected, called, type_of, called_on, receiver_of, sure, arity}
-use Rattle.par_scope.specs.Meaning.{param_at}
-use Rattle.par_types.specs.Exprs as types
-use Rattle.par_types.specs.Exprs.{expr_faults, receiver_faults, args_faults, misfit, count_fault}
-use Rattle.par_types.specs.Exprs.{member_fault, is_known, unless_number, is_number}
-use Rattle.par_types.specs.Fits.{operand}
+use Rattle.par_bodies.specs.par_tree.Plain.{Exp, Int, True, False, Null, This, New, Name, Field}
+use Rattle.par_bodies.specs.par_tree.Plain.{Call, Neg}
+use Rattle.par_bodies.specs.par_tree.Plain.{Not, Binary}
+use Rattle.par_bodies.specs.par_tree.Plain.{Exps, NoExps, More, MayExp, Absent, Present}
+use Rattle.par_bodies.specs.par_tree.Nodes as source
+use Rattle.par_rules.specs.par_typed.declared.ty.Ty.TheVariants as ty
+use Rattle.par_rules.specs.par_typed.declared.table.ChannelInfo.{ChannelInfo}
+use Rattle.par_rules.specs.par_typed.declared.refusal.Refusal.{Refusal}
+use Rattle.par_rules.specs.par_typed.Plain as typed
+use Rattle.par_rules.specs.par_typed.Plain.{Mark, TExp, MayTExp, TExps}
+use Rattle.par_rules.specs.par_typed.Nodes.{nodes, may_nodes}
+use Rattle.par_annotate.specs.par_scope.declared.members.Place.{Place}
+use Rattle.par_annotate.specs.par_scope.declared.meaning.Receiver as meaning
+use Rattle.par_annotate.specs.par_scope.declared.meaning.Receiver.TheVariants as receiver
+use Rattle.par_annotate.specs.par_scope.declared.meaning.Callee.{Callee}
+use Rattle.par_annotate.specs.par_scope.declared.meaning.Callee.TheVariants.{Unknown, Channel}
+use Rattle.par_annotate.specs.par_scope.declared.meaning.Callee.TheVariants.{Method}
+use Rattle.par_annotate.specs.par_scope.Home.{Home}
+use Rattle.par_annotate.specs.par_scope.Members.{field_at, channel_at, method_at, field_is_static}
+use Rattle.par_annotate.specs.par_scope.Members.{method_is_static, channel_arity, way_arity}
+use Rattle.par_annotate.specs.par_scope.Members.{any_value}
+use Rattle.par_annotate.specs.par_scope.Meaning.{selected, called, type_of, called_on, receiver_of}
+use Rattle.par_annotate.specs.par_scope.Meaning.{sure, arity}
+use Rattle.par_annotate.specs.par_scope.Meaning.{param_at}
+use Rattle.par_annotate.specs.par_types.Exprs as types
+use Rattle.par_annotate.specs.par_types.Exprs.{expr_faults, receiver_faults, args_faults, misfit}
+use Rattle.par_annotate.specs.par_types.Exprs.{count_fault}
+use Rattle.par_annotate.specs.par_types.Exprs.{member_fault, is_known, unless_number, is_number}
+use Rattle.par_annotate.specs.par_types.Fits.{operand}
 use Rattle.par_annotate.specs.Frames.{Frame, Var, var_named}
 use Rattle.par_annotate.specs.Exprs.{own_this, own_field, name_typed, negation, number_of}
 use Rattle.par_annotate.specs.Exprs.{selection, own_receiver, method_on}

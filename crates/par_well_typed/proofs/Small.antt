@@ -4,21 +4,25 @@ use Rattle.std.proofs.Common.{subst, ◌∙◌, map, append_assoc}
 use Rattle.std.specs.Prelude.{flat_map, slice_get, nat_le}
 use Rattle.std.specs.List.{AllByRecursion}
 use Rattle.std.proofs.lemmas.Bool.{leb-true}
-use Rattle.par_tree.specs.Nodes.{method_nodes}
-use Rattle.par_tree.specs.Plain as plain
-use Rattle.par_tree.specs.Plain.{Class, Method, Declaration, Source}
-use Rattle.par_typed.specs.declared.table.Table.{Table}
-use Rattle.par_names.specs.Declarations.{classes, builtins, declared_classes, classes_in}
-use Rattle.par_names.specs.Program.{name_faults}
-use Rattle.par_declarations.specs.declared.limit.TheConstants.{NODES, PARAMS, LOCALS}
-use Rattle.par_declarations.specs.Limits.{over, method_limits, class_limits}
-use Rattle.par_declarations.specs.Locals.{method_locals}
-use Rattle.par_scope.specs.Names.{names_of}
-use Rattle.par_scope.specs.Home.{class_named}
-use Rattle.par_types.specs.Methods.{home_of, fields_faults, method_faults, methods_faults}
-use Rattle.par_types.specs.Methods.{class_faults}
-use Rattle.par_types.specs.Program.{declaration_faults, declarations_faults, type_faults}
-use Rattle.par_resolved.specs.Resolved.{Resolved, resolved, class_info, method_info, table_of}
+use Rattle.par_bodies.specs.par_tree.Nodes.{method_nodes}
+use Rattle.par_bodies.specs.par_tree.Plain as plain
+use Rattle.par_bodies.specs.par_tree.Plain.{Class, Method, Declaration, Source}
+use Rattle.par_rules.specs.par_typed.declared.table.Table.{Table}
+use Rattle.par_sources.specs.par_names.Declarations.{classes, builtins, declared_classes}
+use Rattle.par_sources.specs.par_names.Declarations.{classes_in}
+use Rattle.par_sources.specs.par_names.Program.{name_faults}
+use Rattle.par_faults.specs.par_declarations.declared.limit.TheConstants.{NODES, PARAMS, LOCALS}
+use Rattle.par_faults.specs.par_declarations.Limits.{over, method_limits, class_limits}
+use Rattle.par_faults.specs.par_declarations.Locals.{method_locals}
+use Rattle.par_annotate.specs.par_scope.Names.{names_of}
+use Rattle.par_annotate.specs.par_scope.Home.{class_named}
+use Rattle.par_annotate.specs.par_types.Methods.{home_of, fields_faults, method_faults}
+use Rattle.par_annotate.specs.par_types.Methods.{methods_faults}
+use Rattle.par_annotate.specs.par_types.Methods.{class_faults}
+use Rattle.par_annotate.specs.par_types.Program.{declaration_faults, declarations_faults}
+use Rattle.par_annotate.specs.par_types.Program.{type_faults}
+use Rattle.par_faults.specs.par_resolved.Resolved.{Resolved, resolved, class_info, method_info}
+use Rattle.par_faults.specs.par_resolved.Resolved.{table_of}
 use Rattle.par_annotate.specs.Stmts.{Written}
 use Rattle.par_annotate.specs.Bodies.{typed_methods, typed_class, typed_declaration}
 use Rattle.par_annotate.specs.Bodies.{typed_declarations}

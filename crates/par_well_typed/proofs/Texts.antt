@@ -8,26 +8,28 @@ use Rattle.std.specs.Str.{bytes_eq}
 use Rattle.std.proofs.lemmas.List.{length-map}
 use Rattle.std.proofs.lemmas.List.Quantifiers.{position-Some}
 use Rattle.std.proofs.lemmas.Slice.Eq.{bytes_eq-Decides}
-use Rattle.par_tree.specs.declared.types.TypeTree.{TypeTree}
-use Rattle.par_tree.specs.declared.types.TypeTree.TheVariants as type
-use Rattle.par_tree.specs.declared.policy.PolicyExpr.{PolicyExpr}
-use Rattle.par_tree.specs.declared.decl.FieldDecl.{FieldDecl}
-use Rattle.par_tree.specs.declared.decl.ChannelDecl.{ChannelDecl}
-use Rattle.par_tree.specs.declared.decl.ParamDecl.{ParamDecl}
-use Rattle.par_tree.specs.Plain as plain
-use Rattle.par_tree.specs.Plain.{Class, Method, Declaration, Source}
-use Rattle.par_typed.specs.declared.table.ClassInfo.{ClassInfo}
-use Rattle.par_typed.specs.declared.table.Table.{Table}
-use Rattle.par_names.specs.Declarations.{classes, classes_in, declared_classes, doubles}
-use Rattle.par_names.specs.Members.{callee_ids}
-use Rattle.par_names.specs.Methods.{inferred_fault, field_faults, channel_faults, param_faults}
-use Rattle.par_names.specs.Methods.{method_faults}
-use Rattle.par_names.specs.Policies.{may_policy_faults, type_fault, result_fault}
-use Rattle.par_names.specs.Program.{view_behind, name_faults}
-use Rattle.par_names.proofs.Lookups.{at, found}
-use Rattle.par_resolved.specs.Numbers.{type_of, result_of}
-use Rattle.par_resolved.specs.Resolved.{Resolved, resolved, field_infos, channel_info, param_info}
-use Rattle.par_resolved.specs.Resolved.{method_info, class_infos, table_of}
+use Rattle.par_bodies.specs.par_tree.declared.types.TypeTree.{TypeTree}
+use Rattle.par_bodies.specs.par_tree.declared.types.TypeTree.TheVariants as type
+use Rattle.par_bodies.specs.par_tree.declared.policy.PolicyExpr.{PolicyExpr}
+use Rattle.par_bodies.specs.par_tree.declared.decl.FieldDecl.{FieldDecl}
+use Rattle.par_bodies.specs.par_tree.declared.decl.ChannelDecl.{ChannelDecl}
+use Rattle.par_bodies.specs.par_tree.declared.decl.ParamDecl.{ParamDecl}
+use Rattle.par_bodies.specs.par_tree.Plain as plain
+use Rattle.par_bodies.specs.par_tree.Plain.{Class, Method, Declaration, Source}
+use Rattle.par_rules.specs.par_typed.declared.table.ClassInfo.{ClassInfo}
+use Rattle.par_rules.specs.par_typed.declared.table.Table.{Table}
+use Rattle.par_sources.specs.par_names.Declarations.{classes, classes_in, declared_classes, doubles}
+use Rattle.par_sources.specs.par_names.Members.{callee_ids}
+use Rattle.par_sources.specs.par_names.Methods.{inferred_fault, field_faults, channel_faults}
+use Rattle.par_sources.specs.par_names.Methods.{param_faults}
+use Rattle.par_sources.specs.par_names.Methods.{method_faults}
+use Rattle.par_sources.specs.par_names.Policies.{may_policy_faults, type_fault, result_fault}
+use Rattle.par_sources.specs.par_names.Program.{view_behind, name_faults}
+use Rattle.par_sources.proofs.par_names.Lookups.{at, found}
+use Rattle.par_faults.specs.par_resolved.Numbers.{type_of, result_of}
+use Rattle.par_faults.specs.par_resolved.Resolved.{Resolved, resolved, field_infos, channel_info}
+use Rattle.par_faults.specs.par_resolved.Resolved.{param_info}
+use Rattle.par_faults.specs.par_resolved.Resolved.{method_info, class_infos, table_of}
 use Rattle.par_sources.specs.Sizes as source
 use Rattle.par_sources.specs.Sizes.{source_texts}
 use Rattle.par_well_typed.specs.Texts.{name_size, channels_size, type_size, params_size}

@@ -7,31 +7,36 @@ use Rattle.std.specs.Str.{bytes_eq}
 use Rattle.std.proofs.lemmas.List.{length-map}
 use Rattle.std.proofs.lemmas.Bool.Decides.{nat_tests}
 use Rattle.par_index.specs.Texts.{has}
-use Rattle.par_tree.specs.declared.ident.Ident.{Ident}
-use Rattle.par_tree.specs.declared.policy.LockTree.{LockTree}
-use Rattle.par_tree.specs.declared.decl.LockDecl.{LockDecl}
-use Rattle.par_tree.specs.Plain as plain
-use Rattle.par_tree.specs.Plain.{Class, Method, Declaration, Source}
-use Rattle.par_typed.specs.declared.refusal.Refusal.{Refusal}
-use Rattle.par_typed.specs.First.{when, in_passes, first_of}
-use Rattle.par_typed.proofs.First.{first_of_none}
-use Rattle.par_names.specs.Declarations.{actors, locks, classes_in, declared_classes, lock_named}
-use Rattle.par_names.specs.Declarations.{doubles}
-use Rattle.par_names.specs.Policies.{lock_faults, arity_fault, actor_fault}
-use Rattle.par_names.specs.Methods.{class_faults, method_faults, head_faults, throw_faults}
-use Rattle.par_names.specs.Stmts.{braces_faults}
-use Rattle.par_names.specs.Program.{view_behind, declaration_faults, declarations_faults}
-use Rattle.par_names.specs.Program.{program_doubles, mains, mains_faults, name_faults}
-use Rattle.par_names.proofs.Lookups.{found}
-use Rattle.par_resolved.specs.Few.{HasFew}
-use Rattle.par_resolved.specs.Numbers.{numbers, number, actor_number, lock_number, ground_count}
-use Rattle.par_resolved.specs.Numbers.{place_in_family}
-use Rattle.par_resolved.specs.Limits as resolved
-use Rattle.par_resolved.specs.Sizes.{all_literal_faults, all_join_faults}
-use Rattle.par_resolved.specs.Policies.{known}
-use Rattle.par_declarations.specs.Limits.{declared_limits, one_too_many, class_places, class_limits}
-use Rattle.par_declarations.specs.Limits.{count_faults}
-use Rattle.par_declarations.specs.declared.limit.TheConstants.{CLASSES}
+use Rattle.par_bodies.specs.par_tree.declared.ident.Ident.{Ident}
+use Rattle.par_bodies.specs.par_tree.declared.policy.LockTree.{LockTree}
+use Rattle.par_bodies.specs.par_tree.declared.decl.LockDecl.{LockDecl}
+use Rattle.par_bodies.specs.par_tree.Plain as plain
+use Rattle.par_bodies.specs.par_tree.Plain.{Class, Method, Declaration, Source}
+use Rattle.par_rules.specs.par_typed.declared.refusal.Refusal.{Refusal}
+use Rattle.par_rules.specs.par_typed.First.{when, in_passes, first_of}
+use Rattle.par_rules.proofs.par_typed.First.{first_of_none}
+use Rattle.par_sources.specs.par_names.Declarations.{actors, locks, classes_in, declared_classes}
+use Rattle.par_sources.specs.par_names.Declarations.{lock_named}
+use Rattle.par_sources.specs.par_names.Declarations.{doubles}
+use Rattle.par_sources.specs.par_names.Policies.{lock_faults, arity_fault, actor_fault}
+use Rattle.par_sources.specs.par_names.Methods.{class_faults, method_faults, head_faults}
+use Rattle.par_sources.specs.par_names.Methods.{throw_faults}
+use Rattle.par_sources.specs.par_names.Stmts.{braces_faults}
+use Rattle.par_sources.specs.par_names.Program.{view_behind, declaration_faults}
+use Rattle.par_sources.specs.par_names.Program.{declarations_faults}
+use Rattle.par_sources.specs.par_names.Program.{program_doubles, mains, mains_faults, name_faults}
+use Rattle.par_sources.proofs.par_names.Lookups.{found}
+use Rattle.par_faults.specs.par_resolved.Few.{HasFew}
+use Rattle.par_faults.specs.par_resolved.Numbers.{numbers, number, actor_number, lock_number}
+use Rattle.par_faults.specs.par_resolved.Numbers.{ground_count}
+use Rattle.par_faults.specs.par_resolved.Numbers.{place_in_family}
+use Rattle.par_faults.specs.par_resolved.Limits as resolved
+use Rattle.par_faults.specs.par_resolved.Sizes.{all_literal_faults, all_join_faults}
+use Rattle.par_faults.specs.par_resolved.Policies.{known}
+use Rattle.par_faults.specs.par_declarations.Limits.{declared_limits, one_too_many, class_places}
+use Rattle.par_faults.specs.par_declarations.Limits.{class_limits}
+use Rattle.par_faults.specs.par_declarations.Limits.{count_faults}
+use Rattle.par_faults.specs.par_declarations.declared.limit.TheConstants.{CLASSES}
 use Rattle.par_faults.specs.Faults.{where_none, policies_faults, limit_faults, all_faults}
 use Rattle.par_faults.proofs.Few.{has_few}
 use Rattle.par_well_typed.proofs.Lists.{none_left, none_right, none_of, of_parts, all_mapped}

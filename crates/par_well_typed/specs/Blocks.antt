@@ -1,9 +1,11 @@
 -- The body of each catch is a block, as the grammar has it.
 use Rattle.std.specs.Prelude.{◌≡◌, Bool, true, false}
-use Rattle.par_typed.specs.Plain.{TSta, Block, If, While, Try, Return, Break, Continue, Throw, Open}
-use Rattle.par_typed.specs.Plain.{Close, SetLocal, SetStatic, SetField, Eval, When}
-use Rattle.par_typed.specs.Plain.{MayTSta, NoElse, Otherwise, TStas, End, Then, TCatches, NoCatch}
-use Rattle.par_typed.specs.Plain.{Catch}
+use Rattle.par_rules.specs.par_typed.Plain.{TSta, Block, If, While, Try, Return, Break, Continue}
+use Rattle.par_rules.specs.par_typed.Plain.{Throw, Open}
+use Rattle.par_rules.specs.par_typed.Plain.{Close, SetLocal, SetStatic, SetField, Eval, When}
+use Rattle.par_rules.specs.par_typed.Plain.{MayTSta, NoElse, Otherwise, TStas, End, Then, TCatches}
+use Rattle.par_rules.specs.par_typed.Plain.{NoCatch}
+use Rattle.par_rules.specs.par_typed.Plain.{Catch}
 
 abbrev pub is_block : TSta → Bool
 is_block (Block ss at p) = true

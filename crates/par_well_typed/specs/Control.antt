@@ -1,12 +1,15 @@
 -- Control in typed bodies: each statement is reached, a break and a continue stand in a loop, and
 -- nothing comes to the end of a body that has a result.
 use Rattle.std.specs.Prelude.{◌≡◌, Bool, true, false, Some}
-use Rattle.par_typed.specs.declared.table.MethodInfo.{MethodInfo}
-use Rattle.par_typed.specs.declared.table.Table.{Table}
-use Rattle.par_typed.specs.Plain.{TSta, Block, If, While, Try, Return, Break, Continue, Throw, Open}
-use Rattle.par_typed.specs.Plain.{Close, SetLocal, SetStatic, SetField, Eval, When, MayTSta, NoElse}
-use Rattle.par_typed.specs.Plain.{Otherwise, TStas, End, Then, TCatches, NoCatch, Catch, Body}
-use Rattle.par_completes.specs.Typed.{completes}
+use Rattle.par_rules.specs.par_typed.declared.table.MethodInfo.{MethodInfo}
+use Rattle.par_rules.specs.par_typed.declared.table.Table.{Table}
+use Rattle.par_rules.specs.par_typed.Plain.{TSta, Block, If, While, Try, Return, Break, Continue}
+use Rattle.par_rules.specs.par_typed.Plain.{Throw, Open}
+use Rattle.par_rules.specs.par_typed.Plain.{Close, SetLocal, SetStatic, SetField, Eval, When}
+use Rattle.par_rules.specs.par_typed.Plain.{MayTSta, NoElse}
+use Rattle.par_rules.specs.par_typed.Plain.{Otherwise, TStas, End, Then, TCatches, NoCatch, Catch}
+use Rattle.par_rules.specs.par_typed.Plain.{Body}
+use Rattle.par_bodies.specs.par_completes.Typed.{completes}
 use Rattle.par_bodies.specs.Members.{method_at}
 use Rattle.par_bodies.specs.Types.{IsEnded}
 

@@ -2,11 +2,11 @@
 use Rattle.std.specs.Prelude.{◌≡◌, ◌≤◌, []}
 use Rattle.std.specs.List.{AllByRecursion}
 use Rattle.par_lexer.specs.declared.cut.TheConstants.{LONGEST_SOURCE}
-use Rattle.par_tree.specs.Plain.{Source}
-use Rattle.par_typed.specs.declared.table.Table.{Table}
-use Rattle.par_typed.specs.Plain.{Body}
-use Rattle.par_resolved.specs.Resolved.{table_of}
-use Rattle.par_types.specs.Program.{type_faults}
+use Rattle.par_bodies.specs.par_tree.Plain.{Source}
+use Rattle.par_rules.specs.par_typed.declared.table.Table.{Table}
+use Rattle.par_rules.specs.par_typed.Plain.{Body}
+use Rattle.par_faults.specs.par_resolved.Resolved.{table_of}
+use Rattle.par_annotate.specs.par_types.Program.{type_faults}
 use Rattle.par_faults.specs.Faults.{all_faults}
 use Rattle.par_bodies.specs.Proper.{IsProper}
 use Rattle.par_well_typed.specs.Tables.{IsInRange}

@@ -14,3 +14,9 @@ pub mod Limits
 pub mod WellTyped
 pub mod Typed
 pub mod Laws
+pub use Rattle.par_bodies.specs as par_bodies
+pub use Rattle.par_bodies.specs.par_completes as par_completes
+pub use Rattle.par_faults.specs.par_declarations as par_declarations
+pub use Rattle.par_faults.specs as par_faults
+pub use Rattle.par_faults.specs.par_resolved as par_resolved
+pub use Rattle.par_annotate.specs.par_types as par_types

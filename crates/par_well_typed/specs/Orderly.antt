@@ -1,9 +1,9 @@
 -- Bodies over a table, as the rules of flow need them.
 use Rattle.std.specs.Prelude.{◌≡◌, Some, length}
-use Rattle.par_typed.specs.declared.table.MethodInfo.{MethodInfo}
-use Rattle.par_typed.specs.declared.table.Table.{Table}
-use Rattle.par_typed.specs.Plain.{Body}
-use Rattle.par_typed.specs.Nodes.{stmt_nodes}
+use Rattle.par_rules.specs.par_typed.declared.table.MethodInfo.{MethodInfo}
+use Rattle.par_rules.specs.par_typed.declared.table.Table.{Table}
+use Rattle.par_rules.specs.par_typed.Plain.{Body}
+use Rattle.par_rules.specs.par_typed.Nodes.{stmt_nodes}
 use Rattle.par_annotate.specs.Points.{count_from, stmt_points}
 use Rattle.par_rules.specs.Declares.{declares}
 use Rattle.par_rules.specs.Ranges.{IsOrderly}

@@ -1,8 +1,10 @@
 -- Locals are set before they are read: what a block sets is not read behind it.
 use Rattle.std.specs.Prelude.{ℕ, List}
-use Rattle.par_typed.specs.Plain.{TSta, Block, If, While, Try, Return, Break, Continue, Throw, Open}
-use Rattle.par_typed.specs.Plain.{Close, SetLocal, SetStatic, SetField, Eval, When, MayTSta, NoElse}
-use Rattle.par_typed.specs.Plain.{Otherwise, TStas, End, Then, TCatches, NoCatch, Catch}
+use Rattle.par_rules.specs.par_typed.Plain.{TSta, Block, If, While, Try, Return, Break, Continue}
+use Rattle.par_rules.specs.par_typed.Plain.{Throw, Open}
+use Rattle.par_rules.specs.par_typed.Plain.{Close, SetLocal, SetStatic, SetField, Eval, When}
+use Rattle.par_rules.specs.par_typed.Plain.{MayTSta, NoElse}
+use Rattle.par_rules.specs.par_typed.Plain.{Otherwise, TStas, End, Then, TCatches, NoCatch, Catch}
 use Rattle.par_bodies.specs.Locals.{IsSet, behind}
 use Rattle.par_well_typed.specs.Numbers.{ExpReads, MayExpRead}
 

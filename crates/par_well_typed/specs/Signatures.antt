@@ -1,14 +1,14 @@
 -- The declarations of a table have the types and the exceptions that they may have.
 use Rattle.std.specs.Prelude.{◌≡◌, ℕ, Bool, true, List, [], ◌∷◌, map, take, slice_get, codes}
 use Rattle.std.specs.List.{AllByRecursion}
-use Rattle.par_typed.specs.declared.ty.Ty.{Ty}
-use Rattle.par_typed.specs.declared.ty.Ty.TheVariants as ty
-use Rattle.par_typed.specs.declared.table.FieldInfo.{FieldInfo}
-use Rattle.par_typed.specs.declared.table.ParamInfo.{ParamInfo}
-use Rattle.par_typed.specs.declared.table.ThrowInfo.{ThrowInfo}
-use Rattle.par_typed.specs.declared.table.MethodInfo.{MethodInfo}
-use Rattle.par_typed.specs.declared.table.ClassInfo.{ClassInfo}
-use Rattle.par_typed.specs.declared.table.Table.{Table}
+use Rattle.par_rules.specs.par_typed.declared.ty.Ty.{Ty}
+use Rattle.par_rules.specs.par_typed.declared.ty.Ty.TheVariants as ty
+use Rattle.par_rules.specs.par_typed.declared.table.FieldInfo.{FieldInfo}
+use Rattle.par_rules.specs.par_typed.declared.table.ParamInfo.{ParamInfo}
+use Rattle.par_rules.specs.par_typed.declared.table.ThrowInfo.{ThrowInfo}
+use Rattle.par_rules.specs.par_typed.declared.table.MethodInfo.{MethodInfo}
+use Rattle.par_rules.specs.par_typed.declared.table.ClassInfo.{ClassInfo}
+use Rattle.par_rules.specs.par_typed.declared.table.Table.{Table}
 use Rattle.par_bodies.specs.Names.{IsException}
 use Rattle.par_bodies.specs.Makes.{IsOrdinary}
 use Rattle.par_well_typed.specs.Texts.{BUILT_IN}

@@ -1,10 +1,10 @@
 -- The typed bodies of a source, over its table.
 use Rattle.std.specs.Prelude.{List}
-use Rattle.par_tree.specs.Plain.{Source}
-use Rattle.par_typed.specs.Plain.{Body}
-use Rattle.par_resolved.specs.Numbers.{lock_number}
-use Rattle.par_resolved.specs.Policies.{known}
-use Rattle.par_resolved.specs.Resolved.{resolved, expression_number, table_of}
+use Rattle.par_bodies.specs.par_tree.Plain.{Source}
+use Rattle.par_rules.specs.par_typed.Plain.{Body}
+use Rattle.par_faults.specs.par_resolved.Numbers.{lock_number}
+use Rattle.par_faults.specs.par_resolved.Policies.{known}
+use Rattle.par_faults.specs.par_resolved.Resolved.{resolved, expression_number, table_of}
 use Rattle.par_annotate.specs.Stmts.{Written}
 use Rattle.par_annotate.specs.Bodies.{typed_program}
 

@@ -1,5 +1,5 @@
 use Rattle.std.proofs.Common.{◌≡◌, drop}
-use Rattle.par_policy.specs.Numbers.{has}
+use Rattle.par_typed.specs.par_policy.Numbers.{has}
 use Rattle.par_typed.specs.Shown as typed
 use Rattle.par_erase.specs.Asked.{either, all_ask, catches_ask}
 use Rattle.par_erase.proofs.asked.+asked.Given as goal

@@ -1,5 +1,5 @@
 use Rattle.std.proofs.Common.{◌≡◌, drop}
-use Rattle.par_policy.specs.Numbers.{has}
+use Rattle.par_typed.specs.par_policy.Numbers.{has}
 use Rattle.par_typed.specs.Shown as typed
 use Rattle.par_erase.specs.Asked.{either, asked_in}
 use Rattle.par_erase.proofs.asked.asked_in.Given as goal

@@ -1,5 +1,5 @@
 use Rattle.std.proofs.Common.{arith}
-use Rattle.par_policy.specs.Numbers.{has}
+use Rattle.par_typed.specs.par_policy.Numbers.{has}
 use Rattle.par_erase.proofs.Bodies.{no_body_there, hands}
 use Rattle.par_erase.proofs.classes.erase_body.Goals as goal
 

@@ -1,7 +1,7 @@
 use Rattle.std.proofs.Common.{◌≡◌, ◌++◌, drop, map}
 use Rattle.std.specs.List.{AllByRecursion}
 use Rattle.par_lexer.specs.Names.{IsName}
-use Rattle.par_policy.specs.Numbers.{has}
+use Rattle.par_typed.specs.par_policy.Numbers.{has}
 use Rattle.par_typed.specs.Shown.{bodies}
 use Rattle.par_erase.specs.Shown.{does, method_info}
 use Rattle.par_erase.specs.Erased.{inputs_in, erased_method, handed}

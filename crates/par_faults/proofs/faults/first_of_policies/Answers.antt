@@ -1,8 +1,8 @@
 use Rattle.std.proofs.Common.{◌≡◌, sym, ◌∙◌, subst, IfOk}
 use Rattle.par_tree.specs.Shown.{source}
 use Rattle.par_declarations.specs.Limits.{declared_limits}
-use Rattle.par_resolved.specs.Sizes.{all_literal_faults}
-use Rattle.par_resolved.specs.Limits.{policy_faults}
+use Rattle.par_limits.specs.par_resolved.Sizes.{all_literal_faults}
+use Rattle.par_limits.specs.par_resolved.Limits.{policy_faults}
 use Rattle.par_faults.specs.Faults.{where_none}
 use Rattle.par_faults.proofs.Passes.{later_passed, later_stopped}
 use Rattle.par_faults.proofs.faults.first_of_policies.Goals as goal

@@ -1,5 +1,5 @@
 use Rattle.std.proofs.Common.{◌<◌, get_or, refl, arith}
-use Rattle.par_lexer.specs.Pieces.{with_digit}
+use Rattle.par_values.specs.par_lexer.Pieces.{with_digit}
 use Rattle.par_inputs.proofs.Values.{above}
 use Rattle.par_inputs.proofs.number.value_of.Goals as goal
 

@@ -1,5 +1,5 @@
 use Rattle.std.proofs.Common.{◌≡◌, ◌≤◌, fold, drop}
-use Rattle.par_lexer.specs.Pieces.{with_digit, value}
+use Rattle.par_values.specs.par_lexer.Pieces.{with_digit, value}
 use Rattle.par_inputs.proofs.number.value_of.Given as goal
 
 -- the digits that are left go on from the number so far

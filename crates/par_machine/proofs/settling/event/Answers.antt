@@ -1,6 +1,6 @@
 use Rattle.std.proofs.Common.{◌≡◌, ap, ◌∙◌, rules, to_z, of_z, w32}
 use Rattle.std.proofs.lemmas.Result.{IfOk-weaker}
-use Rattle.par_actions.specs.Done.{out_by}
+use Rattle.par_method_area.specs.par_actions.Done.{out_by}
 use Rattle.par_machine.proofs.Told.{sets_told, puts_told, born_told, outs_told}
 use Rattle.par_machine.proofs.settling.event.Goals as goal
 

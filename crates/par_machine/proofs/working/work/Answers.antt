@@ -1,6 +1,6 @@
 use Rattle.std.proofs.Common.{◌≡◌, rules, subst, to_z, of_z, w8, w16, w32}
 use Rattle.par_values.specs.Operations.{Push, Increase}
-use Rattle.par_actions.specs.Done.{Comes}
+use Rattle.par_method_area.specs.par_actions.Done.{Comes}
 use Rattle.par_machine.proofs.working.work.Goals as goal
 
 pub returns-in-Iconst-clause-done : goal.returns-in-Iconst-clause-done

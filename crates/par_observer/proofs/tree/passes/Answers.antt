@@ -5,6 +5,7 @@ use Rattle.par_observer.specs.Passes.{tree_faults}
 use Rattle.par_observer.specs.Trees.{has_fault}
 use Rattle.par_observer.proofs.Passing.{inferred_answer}
 use Rattle.par_observer.proofs.Few.{few_bodies}
+use Rattle.par_observer.proofs.OfTree.{untyped_handed}
 use Rattle.par_observer.proofs.Flowing.{accepts, refuses, orderly_bodies, few_classes}
 use Rattle.par_observer.proofs.Flowing.{well_formed}
 use Rattle.par_observer.proofs.tree.passes.Goals as goal
@@ -57,3 +58,8 @@ returns-clause-refused c =
     let faultless : tree_faults tree ≡ [] =
     inferred_answer tree None is.right is.typed_is.right found in
     refuses tree c.in_ok-typed.typed c.flows.result is faultless c.flows.ensures.refused
+
+pub returns-in_err-typed-clause-refused : goal.returns-in_err-typed-clause-refused
+returns-in_err-typed-clause-refused c =
+    untyped_handed (tree_of_program c.args.tree.now) c.from_residual.result
+    c.in_err-typed.field-0.0 c.from_residual.ensures.1 c.in_err-typed.ensures.refused

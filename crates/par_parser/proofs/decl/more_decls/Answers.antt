@@ -1,7 +1,8 @@
 use Rattle.std.proofs.Common.{◌∙◌, ◌∷◌, [], arith, refl, sym}
 use Rattle.par_grammar.specs.Grammar as symbol
-use Rattle.par_reader.specs.Reads.{input}
-use Rattle.par_reader.proofs.Alternatives.{again, continued, fails_again, handed, keeping, opens}
+use Rattle.par_stmts.specs.par_reader.Reads.{input}
+use Rattle.par_stmts.proofs.par_reader.Alternatives.{again, continued, fails_again, handed, keeping}
+use Rattle.par_stmts.proofs.par_reader.Alternatives.{opens}
 use Rattle.par_tree.specs.Grammar as g
 use Rattle.par_tree.specs.Values.{paragon}
 use Rattle.par_tree.proofs.Founded.{founded}

@@ -1,5 +1,5 @@
 use Rattle.std.proofs.Common.{◌∙◌, sym}
-use Rattle.par_reader.proofs.Alternatives.{opens}
+use Rattle.par_stmts.proofs.par_reader.Alternatives.{opens}
 use Rattle.par_tree.specs.Values.{paragon}
 use Rattle.par_tree.proofs.Founded.{founded}
 use Rattle.par_parser.proofs.member.static_member.Goals as goal

@@ -4,12 +4,12 @@ use Rattle.par_lexer.specs.declared.token.Token.{Token}
 use Rattle.par_grammar.specs.Grammar.{name}
 use Rattle.par_grammar.specs.Derivation.{Input, whole}
 use Rattle.par_grammar.proofs.Total.{decided}
-use Rattle.par_language.specs.Reads.{Reads}
-use Rattle.par_reader.specs.declared.error.ParseError.{ParseError}
-use Rattle.par_reader.specs.declared.error.ParseError.TheVariants.{Memory}
-use Rattle.par_reader.specs.Reads.{fault_of}
-use Rattle.par_reader.proofs.Ends.{comes_to, comes_to_fault}
-use Rattle.par_reader.proofs.Sizes.{sized}
+use Rattle.par_stmts.specs.par_language.Reads.{Reads}
+use Rattle.par_stmts.specs.par_reader.declared.error.ParseError.{ParseError}
+use Rattle.par_stmts.specs.par_reader.declared.error.ParseError.TheVariants.{Memory}
+use Rattle.par_stmts.specs.par_reader.Reads.{fault_of}
+use Rattle.par_stmts.proofs.par_reader.Ends.{comes_to, comes_to_fault}
+use Rattle.par_stmts.proofs.par_reader.Sizes.{sized}
 use Rattle.par_tree.specs.declared.decl.Program.{Program}
 use Rattle.par_tree.specs.Grammar as g
 use Rattle.par_tree.specs.Plain.{Source}

@@ -1,16 +1,18 @@
 use Rattle.std.proofs.Common.{Option}
 use Rattle.par_io.specs.Causes.{FolderCounts, Files}
-use Rattle.par_tool.proofs.Spending.{at_most, two_reads, on_memory}
-use Rattle.par_tool.proofs.Traced.{traced}
+use Rattle.par_tool.proofs.Spending.{two_reads, on_memory}
+use Rattle.par_tool.proofs.Traced.{traced, source_stands}
 use Rattle.par_tool.proofs.traces.trace_source.Goals as goal
 
 pub returns-in_err-inputs-clause-memory : goal.returns-in_err-inputs-clause-memory
 returns-in_err-inputs-clause-memory g c =
+    let files : Option Files = g.F.Folder.files c.args.folder.now in
     let before : FolderCounts = g.F.Folder.counts c.args.folder.now in
     let between : FolderCounts = g.F.Folder.counts c.accepted_source.new.folder in
     let after : FolderCounts = g.F.Folder.counts c.inputs.new.folder in
     on_memory c.from_residual-in_err-inputs.result
-    (at_most 2 0 before after
+    (source_stands files before after c.args.file.now c.args.name.now
+    c.in_ok-accepted.accepted.typed c.in_ok-accepted.ensures.accepted
     (two_reads before between after c.accepted_source.ensures.counted c.inputs.ensures.counted))
 
 pub returns-in-Ok-clause-traced : goal.returns-in-Ok-clause-traced
@@ -25,8 +27,10 @@ returns-in-Ok-clause-traced g c =
 
 pub returns-in-Err-clause-memory : goal.returns-in-Err-clause-memory
 returns-in-Err-clause-memory g c =
+    let files : Option Files = g.F.Folder.files c.args.folder.now in
     let before : FolderCounts = g.F.Folder.counts c.args.folder.now in
     let between : FolderCounts = g.F.Folder.counts c.accepted_source.new.folder in
     let after : FolderCounts = g.F.Folder.counts c.inputs.new.folder in
-    λ is. at_most 2 0 before after
+    λ is. source_stands files before after c.args.file.now c.args.name.now
+    c.in_ok-accepted.accepted.typed c.in_ok-accepted.ensures.accepted
     (two_reads before between after c.accepted_source.ensures.counted c.inputs.ensures.counted)

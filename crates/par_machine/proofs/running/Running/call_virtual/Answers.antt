@@ -1,13 +1,13 @@
 use Rattle.std.proofs.Common.{[], ◌∷◌, length, refl, ap, ◌∙◌}
 use Rattle.std.proofs.lemmas.Result.{IfOk-weaker}
 use Rattle.par_instr.specs.declared.instr.Instr.TheVariants.{Invokevirtual}
-use Rattle.par_link.specs.Linked.{named_at}
+use Rattle.par_method_area.specs.par_link.Linked.{named_at}
 use Rattle.par_values.specs.Areas.{operand}
 use Rattle.par_values.specs.declared.kind.Kind.TheVariants.{Anything}
 use Rattle.par_values.specs.Operations.{InvokeVirtual, Misnamed, of_method}
-use Rattle.par_steps.specs.Classes.{class_names, exceptions}
-use Rattle.par_steps.specs.Links.{link_at}
-use Rattle.par_actions.specs.Calls.{is_misreceived}
+use Rattle.par_method_area.specs.par_steps.Classes.{class_names, exceptions}
+use Rattle.par_method_area.specs.par_steps.Links.{link_at}
+use Rattle.par_method_area.specs.par_actions.Calls.{is_misreceived}
 use Rattle.par_machine.specs.Instructions.{is_branch}
 use Rattle.par_machine.specs.Site.{areas_at, spot_of}
 use Rattle.par_machine.proofs.Asked.{at_instr}

@@ -1,7 +1,7 @@
 use Rattle.std.proofs.Common.{◌≡◌, refl, rules, subst, to_z, of_z, w8, w16, w32}
 use Rattle.par_instr.specs.declared.instr.Instr.TheVariants as instr
 use Rattle.par_values.specs.Operations.{Push, Increase}
-use Rattle.par_actions.specs.Done.{Comes}
+use Rattle.par_method_area.specs.par_actions.Done.{Comes}
 use Rattle.par_machine.proofs.Worked.{worked}
 use Rattle.par_machine.proofs.running.Running.try_perform.Goals as goal
 

@@ -1,0 +1,1 @@
+pub use Rattle.par_flow.specs as par_flow

@@ -1,0 +1,228 @@
+//! Class files with frames, without them, and with frames where none can stand.
+
+use crate::hand_made::folder_with;
+use par_io::NoMemory;
+use par_row_calls::{Answer, answers};
+use par_worked::expect;
+use std::alloc::Global;
+use std::test::Fail;
+
+/// The constants of a class A with a method `main`, and all up to the attributes of its code.
+const BEHIND_VERSION: &[u8] = &[
+    0, 9, 1, 0, 1, b'A', 7, 0, 1, 1, 0, 16, b'j', b'a', b'v', b'a', b'/', b'l', b'a', b'n', b'g',
+    b'/', b'O', b'b', b'j', b'e', b'c', b't', 7, 0, 3, 1, 0, 4, b'm', b'a', b'i', b'n', 1, 0, 3,
+    b'(', b')', b'V', 1, 0, 4, b'C', b'o', b'd', b'e', 1, 0, 13, b'S', b't', b'a', b'c', b'k',
+    b'M', b'a', b'p', b'T', b'a', b'b', b'l', b'e', 0, 49, 0, 2, 0, 4, 0, 0, 0, 0, 0, 1, 0, 9, 0,
+    5, 0, 6, 0, 1, 0, 7,
+];
+
+/// Code of five bytes without handlers, with room for one operand and for no local.
+const CODE_FRONT: &[u8] = &[0, 1, 0, 0, 0, 0, 0, 5];
+
+/// A branch to offset 4, behind a zero, and a return behind it.
+const BRANCH: [u8; 5] = [3, 0x99, 0, 3, 0xb1];
+
+/// A jump over a return to another one, at offset 4.
+const JUMP: [u8; 5] = [0xa7, 0, 4, 0xb1, 0xb1];
+
+/// Zeros that are pushed and popped, and a return.
+const STRAIGHT: [u8; 5] = [3, 87, 3, 87, 0xb1];
+
+/// The class file of A in this version, whose method has this code with these tables of frames.
+fn class_a(
+    alloc: Global,
+    version: u8,
+    code: [u8; 5],
+    tables: &[&[u8]],
+) -> Result<Vec<u8>, NoMemory> {
+    let mut attributes = Vec::new(alloc);
+    for table in tables {
+        attributes.extend_from_slice(&[0, 8, 0, 0, 0, table.len().min(255) as u8])?;
+        attributes.extend_from_slice(table)?;
+    }
+    let length = attributes.len().min(200) as u8 + 17;
+    let mut file = [0xca, 0xfe, 0xba, 0xbe, 0, 0, 0, version].to_vec(alloc)?;
+    file.extend_from_slice(BEHIND_VERSION)?;
+    file.extend_from_slice(&[0, 0, 0, length])?;
+    file.extend_from_slice(CODE_FRONT)?;
+    file.extend_from_slice(&code)?;
+    file.extend_from_slice(&[0, 0, 0, tables.len().min(255) as u8])?;
+    file.extend_from_slice(attributes.as_slice())?;
+    file.extend_from_slice(&[0, 0])?;
+    Ok(file)
+}
+
+/// What a run of A says where its method has the frames that it needs.
+const FRAMED: Answer = ("end\n", 0);
+
+/// What it says where the method has none of its own.
+const UNFRAMED: Answer = ("bad class A 46 0\n", 12);
+
+/// A row's name, the version of A, its code, its tables of frames, and what a run says.
+type FrameRow = (&'static str, u8, [u8; 5], &'static [&'static [u8]], Answer);
+
+const ROWS: &[FrameRow] = &[
+    ("no frame where a branch goes", 51, BRANCH, &[], UNFRAMED),
+    ("its frame", 51, BRANCH, &[&[0, 1, 4]], FRAMED),
+    (
+        "a frame at no instruction",
+        51,
+        BRANCH,
+        &[&[0, 1, 5]],
+        UNFRAMED,
+    ),
+    ("version 49 needs no frames", 49, BRANCH, &[], FRAMED),
+    ("nor does version 50", 50, BRANCH, &[], FRAMED),
+    (
+        "frames of version 50 are passed over",
+        50,
+        BRANCH,
+        &[&[0, 1, 5]],
+        FRAMED,
+    ),
+    ("a table of no frames", 51, BRANCH, &[&[0, 0]], UNFRAMED),
+    (
+        "a frame more, at the first instruction",
+        51,
+        BRANCH,
+        &[&[0, 2, 0, 3]],
+        FRAMED,
+    ),
+    (
+        "a later distance counts from behind the frame before",
+        51,
+        BRANCH,
+        &[&[0, 2, 0, 4]],
+        UNFRAMED,
+    ),
+    (
+        "two tables",
+        51,
+        BRANCH,
+        &[&[0, 1, 4], &[0, 1, 4]],
+        UNFRAMED,
+    ),
+    (
+        "two tables where none is needed",
+        51,
+        STRAIGHT,
+        &[&[0, 0], &[0, 0]],
+        UNFRAMED,
+    ),
+    (
+        "a byte behind the frames",
+        51,
+        BRANCH,
+        &[&[0, 1, 4, 0]],
+        UNFRAMED,
+    ),
+    ("a frame too few", 51, BRANCH, &[&[0, 2, 4]], UNFRAMED),
+    ("a tag that is none", 51, BRANCH, &[&[0, 1, 200]], UNFRAMED),
+    (
+        "the long form of the same frame",
+        51,
+        BRANCH,
+        &[&[0, 1, 251, 0, 4]],
+        FRAMED,
+    ),
+    (
+        "the full form of the same frame",
+        51,
+        BRANCH,
+        &[&[0, 1, 255, 0, 4, 0, 0, 0, 0]],
+        FRAMED,
+    ),
+    (
+        "a cut of more locals than are listed",
+        51,
+        BRANCH,
+        &[&[0, 1, 250, 0, 4]],
+        UNFRAMED,
+    ),
+    (
+        "more locals than the method has",
+        51,
+        BRANCH,
+        &[&[0, 1, 252, 0, 4, 1]],
+        UNFRAMED,
+    ),
+    (
+        "an operand, though none lies there",
+        51,
+        BRANCH,
+        &[&[0, 1, 68, 1]],
+        FRAMED,
+    ),
+    (
+        "more operands than there is room for",
+        51,
+        BRANCH,
+        &[&[0, 1, 255, 0, 4, 0, 0, 0, 2, 1, 1]],
+        UNFRAMED,
+    ),
+    (
+        "an operand of a float",
+        51,
+        BRANCH,
+        &[&[0, 1, 68, 2]],
+        UNFRAMED,
+    ),
+    (
+        "an operand of a class",
+        51,
+        BRANCH,
+        &[&[0, 1, 68, 7, 0, 2]],
+        FRAMED,
+    ),
+    (
+        "an operand of a class by what is a text",
+        51,
+        BRANCH,
+        &[&[0, 1, 68, 7, 0, 1]],
+        UNFRAMED,
+    ),
+    (
+        "frames behind a jump and where it goes",
+        51,
+        JUMP,
+        &[&[0, 2, 3, 0]],
+        FRAMED,
+    ),
+    ("none behind a jump", 51, JUMP, &[&[0, 1, 4]], UNFRAMED),
+    ("none where a jump goes", 51, JUMP, &[&[0, 1, 3]], UNFRAMED),
+    ("none behind the last return", 51, STRAIGHT, &[], FRAMED),
+    (
+        "none behind a return",
+        51,
+        [3, 87, 0xb1, 0xb1, 0xb1],
+        &[],
+        UNFRAMED,
+    ),
+];
+
+/// Whether a run of A on these input files has this answer.
+fn runs_as(alloc: Global, row: &FrameRow, inputs: &str, answer: Answer) -> Result<bool, NoMemory> {
+    let file = class_a(alloc, row.1, row.2, row.3)?;
+    let mut folder = folder_with(alloc, &[("A.class", file.as_slice())], "")?;
+    let mut command = String::from_str(alloc, "paragon A ")?;
+    command.push_str(inputs)?;
+    command.push_str(" 9")?;
+    answers(alloc, command.as_str(), &mut folder, answer)
+}
+
+#[test]
+fn frames_stand_where_they_are_needed(rt: HostRuntime) -> Result<(), Fail> {
+    for row in ROWS {
+        expect(runs_as(rt.alloc(), row, "in.txt", row.4)?, row.0)?;
+    }
+    Ok(())
+}
+
+#[test]
+fn frames_are_looked_at_before_inputs(rt: HostRuntime) -> Result<(), Fail> {
+    for row in ROWS {
+        let answer = if row.4.1 == 0 { ("absent\n", 3) } else { row.4 };
+        expect(runs_as(rt.alloc(), row, "none.txt", answer)?, row.0)?;
+    }
+    Ok(())
+}

@@ -1,0 +1,124 @@
+-- From how class files are loaded and linked to what their verification comes to.
+use Rattle.std.proofs.Common.{◌≡◌, ℕ, suc, List, IfOk, IfErr, Option, Result, Ok, Err}
+use Rattle.std.proofs.Common.{sym, subst, inl, inr}
+use Rattle.std.specs.Bool.{OnFalse}
+use Rattle.std.specs.Prelude.{Bool, true, false}
+use Rattle.par_io.specs.Causes.{FolderCounts, Makes, Files}
+use Rattle.par_class.specs.declared.file.ClassFile.{ClassFile}
+use Rattle.par_link.specs.Linked as link
+use Rattle.par_verify.specs.par_verified.Verified.{AllFrames, AreFramesOf, IsUnverified}
+use Rattle.par_verify.proofs.par_verified.Never.{verified_programs_are_never_bad}
+use Rattle.par_framed_program.specs.Framed.{Framed}
+use Rattle.par_loader.specs.declared.error.Unloaded.{Unloaded}
+use Rattle.par_loader.specs.declared.error.Unloaded.TheVariants as un
+use Rattle.par_loader.specs.Begun.{AreCoded, BeginsMain}
+use Rattle.par_loader.specs.Ends.{Judges}
+use Rattle.par_tool.specs.declared.answer.Answer.{Answer}
+use Rattle.par_tool.specs.declared.answer.Answer.TheVariants.{Verified, BadClass}
+use Rattle.par_tool.specs.declared.reading.Failure.{Failure}
+use Rattle.par_tool.specs.declared.reading.Failure.TheVariants.{Answered, Memory}
+use Rattle.par_tool.specs.Failures.{IsFailure, FaultsAreTold, failure_of}
+use Rattle.par_tool.specs.Texts.{is_fault}
+use Rattle.par_tool.specs.Outside.{Text}
+use Rattle.par_tool.specs.Classes.{IsUnlinked, AreLinked}
+use Rattle.par_tool.specs.Verifications.{AreFit, AreNeverBad, IsAnsweredFor, IsUnfit}
+use Rattle.par_tool.specs.Verifications.{IsUnverifiable, VerifiedSo}
+use Rattle.par_tool.proofs.Loads.{one_more, linked_reads}
+
+-- files whose methods frames fit come to no bad code
+pub never_bad : (main : Text) (all : List ClassFile) → link.AreLinked all → AreCoded all
+    → BeginsMain main all → AreFit all → AreNeverBad main all
+never_bad main all linked coded begins fit =
+    λ inputs m. verified_programs_are_never_bad all fit.frames main begins.file inputs m linked
+    coded fit.verified begins.first begins.own begins.begun
+
+-- ---- why files are not had
+
+module _ (files : Option Files) (main : Text) where
+  pub classes_fail : (before after : FolderCounts) (e : Unloaded)
+      → IsUnlinked files before after main e
+      → IsFailure (VerifiedSo files before after main) (failure_of e)
+  classes_fail before after un.Absent h = h
+  classes_fail before after un.TooLong h = h
+  classes_fail before after un.Failed h = h
+  classes_fail before after (un.BadClass c n v) h = inl h
+  classes_fail before after un.Memory h = tt
+
+  -- ---- what linked files come to
+
+  module _ (before between after : FolderCounts) (all : List ClassFile)
+      (first : Makes 1 0 before between) (h : Judges files main between after (Ok all)) where
+    links : AreLinked files main (suc h.2.0) all
+    links = record { classes = h.0; of = h.1; links = h.2.2 }
+
+    makes : Makes (suc h.2.0) 0 before after
+    makes = one_more h.2.0 before between after first h.2.1
+
+    answered : (a : Answer) → (AreFit all → AreNeverBad main all) → IsAnsweredFor all a
+        → VerifiedSo files before after main a
+    answered (Verified many) safe is =
+        (suc h.2.0, makes, (all, links, (is, safe is.1)))
+    answered _ safe is = absurd is
+
+    pub all_fit : (r : Result Answer Failure) → (AreFit all → AreNeverBad main all)
+        → IfOk r (IsAnsweredFor all) → IfOk r (VerifiedSo files before after main)
+    all_fit (Ok a) safe is = answered a safe is
+    all_fit (Err e) safe is = tt
+
+    refuses : (f : Failure) → IsFailure (IsUnverifiable all) f
+        → IsFailure (VerifiedSo files before after main) f
+    refuses (Answered (BadClass class number value)) is =
+        inr (suc h.2.0, makes, (all, links, is))
+    refuses (Answered _) is = absurd is
+    refuses Memory is = tt
+
+    pub all_unfit : (r : Result Answer Failure) → IfErr r (IsFailure (IsUnverifiable all))
+        → IfErr r (IsFailure (VerifiedSo files before after main))
+    all_unfit (Ok a) is = tt
+    all_unfit (Err f) is = refuses f is
+
+    -- memory is wanting for their frames
+    pub all_read : IsUnlinked files before after main un.Memory
+    all_read =
+        (h.0, h.1, linked_reads h.0 main (suc h.2.0) all h.2.2 before after makes)
+
+-- where nothing was asked for no fault is left untold
+pub none_untold : {A : Type 0} (r : Result A Failure) (before after : ℕ) → after ≡ before
+    → FaultsAreTold r before after
+none_untold (Ok x) before after same = same
+none_untold (Err Memory) before after same = same
+none_untold (Err (Answered a)) before after same = in_case (is_fault a) where
+  in_case : (b : Bool) → OnFalse b (after ≡ before)
+  in_case true = tt
+  in_case false = same
+
+-- ---- methods without frames
+
+-- what is told where frames are wanting
+pub unframed : {A : Type 0} (P : A → Type 0) (all : List ClassFile) (e : Unloaded)
+    → Framed P all (Err e) → IsFailure (IsUnverifiable all) (failure_of e)
+unframed P all (un.BadClass class number value) is = inl is
+unframed P all un.Memory is = tt
+unframed P all un.Absent is = absurd is
+unframed P all un.TooLong is = absurd is
+unframed P all un.Failed is = absurd is
+
+-- ---- a method that no frames fit
+
+pub unfit_so : (all : List ClassFile) (frames : AllFrames) (place method : ℕ) (f : Failure)
+    → AreFramesOf all frames → IsUnverified all frames place method
+    → IsFailure (IsUnfit all place method) f → IsFailure (IsUnverifiable all) f
+unfit_so all frames place method (Answered (BadClass class number value)) of unfit
+    (file, there, own, number_is, value_is) =
+    inr (record {
+      frames = frames;
+      of = of;
+      place = place;
+      unfit = subst (λ v. IsUnverified all frames place v) (sym value_is) unfit;
+      file = file;
+      there = there;
+      own = own;
+      number_is = number_is;
+    })
+unfit_so all frames place method (Answered _) of unfit is = absurd is
+unfit_so all frames place method Memory of unfit is = tt

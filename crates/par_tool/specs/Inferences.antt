@@ -1,0 +1,66 @@
+-- What is said of the policies that are inferred for sources.
+use Rattle.std.specs.Prelude.{◌≡◌, ℕ, List, Option}
+use Rattle.par_io.specs.Causes.{FolderCounts, Files}
+use Rattle.par_lexer.specs.declared.cut.TheConstants.{LONGEST_SOURCE}
+use Rattle.par_typed.specs.declared.program.Typed.{Typed}
+use Rattle.par_typed.specs.declared.refusal.Refusal.{Refusal}
+use Rattle.par_typed.specs.Shown.{bodies}
+use Rattle.par_rules.specs.Lattice.{numbers}
+use Rattle.par_rules.specs.Facts.{Facts}
+use Rattle.par_declared.specs.Inferred.{inferred}
+use Rattle.par_reached.specs.Reached.{AreLeastSets, set_at}
+use Rattle.par_audit.specs.par_verdict.Judged.{AreAllRight}
+use Rattle.par_inferred.specs.par_infer.Bounds.{bounds}
+use Rattle.par_observer.specs.Trees.{BreaksTyping}
+use Rattle.par_observer.specs.Judgements.{BreaksAs, IsTypedAs}
+use Rattle.par_inferred.specs.par_filling.declared.filling.FilledField.{FilledField}
+use Rattle.par_inferred.specs.par_filling.Filled.{filled_in}
+use Rattle.par_inferred.specs.par_filling.Inferred.{AreLeastAccepted, IsBrokenFirst}
+use Rattle.par_filling_lines.specs.par_told.Told.{told}
+use Rattle.par_filling_lines.specs.Texts.{filling_lines}
+use Rattle.par_tool.specs.declared.answer.Answer.{Answer}
+use Rattle.par_tool.specs.declared.answer.Answer.TheVariants.{Refused}
+use Rattle.par_tool.specs.Outside.{Text, NotRead}
+use Rattle.par_tool.specs.Sources.{IsRefusedFor, ReadSource}
+
+-- These are the lines of the inferred fields of a source. Their sets are the least ones that meet
+-- the bounds over closed and least facts of the bodies. For each field its line tells the policies
+-- of its set that are below no other, and the joins of what is told are a filling that is accepted
+-- and below each that is, field by field.
+pub record IsFilledAs (source : Text) (lines : List Text) : Type 0 where
+  pub typed : Typed
+  pub facts : List (Facts numbers)
+  pub sets : List ℕ
+  pub fields : List FilledField
+  pub is_typed : IsTypedAs source typed
+  pub right : AreAllRight typed.table (bodies typed.bodies) facts
+  pub exact : AreLeastSets (inferred typed.table) (bounds typed.table (bodies typed.bodies) facts)
+      (set_at sets)
+  pub filled : fields ≡ filled_in sets 0 typed.table.classes
+  pub least : AreLeastAccepted typed.table (bodies typed.bodies)
+      (λ i. told typed.table.policies (set_at sets i))
+  pub lines_are : lines ≡ filling_lines typed.table fields
+
+-- Why a source has no such lines: a rule up to types is broken, or no filling is accepted.
+pub data IsUnfilledBy (source : Text) (f : Refusal) : Type 0 where
+  is_untyped : BreaksAs BreaksTyping source f → IsUnfilledBy source f
+  is_unfilled : (typed : Typed) → IsTypedAs source typed → IsBrokenFirst typed f
+      → IsUnfilledBy source f
+
+-- what is said of such a source
+abbrev pub IsUnfilled : Text → Answer → Type 0
+IsUnfilled source (Refused rule line column limit count) =
+    IsRefusedFor (IsUnfilledBy source) source rule line column limit count
+IsUnfilled source _ = ⊥
+
+-- the source in a file was read, and these are its lines
+abbrev pub IsFillingOf : Option Files → (file : Text) → List Text → Type 0
+IsFillingOf files file lines = ReadSource files file (λ source. IsFilledAs source lines)
+
+-- Why no policies are inferred for a source in a file.
+module _ (files : Option Files) (before after : FolderCounts) (file : Text) where
+  abbrev pub Unfilled : Answer → Type 0
+  Unfilled (Refused rule line column limit count) =
+      ReadSource files file
+      (λ source. IsUnfilled source (Refused rule line column limit count))
+  Unfilled answer = NotRead files before after LONGEST_SOURCE file answer

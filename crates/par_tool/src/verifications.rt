@@ -1,0 +1,78 @@
+//! What is done to verify a class: its class files are read and linked, and frames are sought for
+//! each of their methods. No input file is read.
+
+ghost use Rattle.std.specs.Prelude.{◌≡◌, IsTrue, IfOk, IfErr, Some};
+ghost use Rattle.par_lexer.specs.Names.{IsName};
+ghost use Rattle.par_loader.specs.declared.error.Unloaded.TheVariants as unloaded;
+ghost use Rattle.par_tool.specs.Classes.{IsUnlinked};
+ghost use Rattle.par_tool.specs.Failures.{IsFailure, FaultsAreTold};
+ghost use Rattle.par_tool.specs.Verifications.{IsAnsweredFor, IsUnfit, IsUnverifiable, VerifiedSo};
+
+use crate::answer::Answer;
+use crate::reading::Failure;
+use par_framed_program::program_frames;
+use par_io::Folder;
+use par_lexer::name::Name;
+use par_link::Linked;
+use par_loader::{linked_program, main_file};
+use par_single::member::own_name;
+use par_verify::{VerifyError, verify};
+use std::alloc::Global;
+
+/// The number of a class with a method that no frames fit.
+pub const UNFIT: u16 = 47;
+
+/// What is told of the class at a place of the list, whose method at a place of its table is the
+/// first that no frames fit.
+fn unfit(alloc: Global, linked: &Linked, class: u16, method: u32) -> Failure
+    ensures { IsFailure (IsUnfit linked.now class method) result }
+{
+    let _ = linked.count();
+    let Some(file) = linked.file(class) else {
+        return Failure::Memory;
+    };
+    match Name::new(alloc, own_name(file)) {
+        Ok(class) => Failure::Answered(Answer::BadClass {
+            class,
+            number: UNFIT,
+            value: method,
+        }),
+        Err(_) => Failure::Memory,
+    }
+}
+
+/// Verifies linked class files: how many there are.
+fn verified(alloc: Global, linked: &Linked) -> Result<Answer, Failure>
+    ensures verified { IfOk result (IsAnsweredFor linked.now) }
+    ensures failed { IfErr result (IsFailure (IsUnverifiable linked.now)) }
+{
+    let frames = program_frames(alloc, linked)?;
+    match verify(alloc, linked, &frames) {
+        Ok(()) => Ok(Answer::Verified(u32::from(linked.count()))),
+        Err(error) => match error {
+            VerifyError::Broken { class, method } => Err(unfit(alloc, linked, class, method)),
+            VerifyError::Memory => Err(Failure::Memory),
+        },
+    }
+}
+
+/// Verifies the class files of a class.
+pub fn verify_class<F: Folder>(alloc: Global, folder: &mut F, main: &str) -> Result<Answer, Failure>
+    requires { IsName main.now }
+    ensures kept { F.files folder.new ≡ F.files folder.old }
+    ensures faults_are_told { IsTrue F.counts_faults_alone →
+        FaultsAreTold result (F.counts folder.old).faults (F.counts folder.new).faults }
+    ensures verified { IfOk result (VerifiedSo (F.files folder.old)
+        (F.counts folder.old) (F.counts folder.new) main.now) }
+    ensures failed { IfErr result (IsFailure (VerifiedSo (F.files folder.old)
+        (F.counts folder.old) (F.counts folder.new) main.now)) }
+    ensures memory { IfErr result (λ e. e ≡ Failure.Memory →
+        IsUnlinked (F.files folder.old) (F.counts folder.old) (F.counts folder.new)
+        main.now unloaded.Memory) }
+{
+    let file = main_file(alloc, folder, main)?;
+    let linked = linked_program(alloc, folder, file)?;
+    // Linked files break no rule of linking.
+    let _ = linked.count();
+    verified(alloc, &linked)
+}
