@@ -39,22 +39,23 @@ def class_file(wanted, fields, absent):
     return file + method + b"\0\0"
 
 
-paragon = os.path.abspath(sys.argv[1])
-wanted, fields = (list(map(int, sys.argv[2:])) + [50000, 60000][len(sys.argv) - 2:])[:2]
-files = [class_file(wanted // 2, fields // 2, False), class_file(wanted, fields, False)]
-files += [class_file(wanted, fields, True), files[1][:-1]]
-with tempfile.TemporaryDirectory() as folder:
-    open(os.path.join(folder, "in.txt"), "w").close()
-    java, before = launcher(folder), None
-    for bytes_ in files:
-        with open(os.path.join(folder, "Long.class"), "wb") as out:
-            out.write(bytes_)
-        words = [paragon, "Long", "in.txt", "1000"]
-        told, seconds, most = least(words, folder)
-        counted = instructions(words, folder)
-        line = f"{len(bytes_)} bytes: {told}, {seconds:.2f} s, {most} MB{growth(before, counted)}"
-        before = counted
-        if java and told == "end":
-            _, seconds, most = least([*java, "Long"], folder)
-            line += f"; java -Xint {seconds:.2f} s, {most} MB"
-        print(line, flush=True)
+if __name__ == "__main__":
+    paragon = os.path.abspath(sys.argv[1])
+    wanted, fields = (list(map(int, sys.argv[2:])) + [50000, 60000][len(sys.argv) - 2:])[:2]
+    files = [class_file(wanted // 2, fields // 2, False), class_file(wanted, fields, False)]
+    files += [class_file(wanted, fields, True), files[1][:-1]]
+    with tempfile.TemporaryDirectory() as folder:
+        open(os.path.join(folder, "in.txt"), "w").close()
+        java, before = launcher(folder), None
+        for bytes_ in files:
+            with open(os.path.join(folder, "Long.class"), "wb") as out:
+                out.write(bytes_)
+            words = [paragon, "Long", "in.txt", "1000"]
+            told, seconds, most = least(words, folder)
+            counted = instructions(words, folder)
+            line = f"{len(bytes_)} bytes: {told}, {seconds:.2f} s, {most} MB{growth(before, counted)}"
+            before = counted
+            if java and told == "end":
+                _, seconds, most = least([*java, "Long"], folder)
+                line += f"; java -Xint {seconds:.2f} s, {most} MB"
+            print(line, flush=True)

@@ -39,26 +39,27 @@ def class_file(own, named, length, constants):
     return file + b"".join(methods) + b"\0\0"
 
 
-paragon = os.path.abspath(sys.argv[1])
-constants, length = (list(map(int, sys.argv[2:])) + [65000, 65000][len(sys.argv) - 2:])[:2]
-rows = [
-    ("own class, half", {"Long": class_file("Long", "Long", length, constants // 2)}),
-    ("own class", {"Long": class_file("Long", "Long", length, constants)}),
-    ("other class", {
-        "Long": class_file("Long", "Far", length, constants),
-        "Far": class_file("Far", "Far", length, 0),
-    }),
-]
-before = None
-for row, files in rows:
-    with tempfile.TemporaryDirectory() as folder:
-        open(os.path.join(folder, "in.txt"), "w").close()
-        for name, bytes_ in files.items():
-            with open(os.path.join(folder, name + ".class"), "wb") as out:
-                out.write(bytes_)
-        words = [paragon, "Long", "in.txt", "1000"]
-        told, seconds, most = least(words, folder)
-        counted = instructions(words, folder)
-    size, grown = sum(map(len, files.values())), growth(before, counted)
-    print(f"{row}, {size} bytes: {told}, {seconds:.2f} s, {most} MB{grown}", flush=True)
-    before = counted
+if __name__ == "__main__":
+    paragon = os.path.abspath(sys.argv[1])
+    constants, length = (list(map(int, sys.argv[2:])) + [65000, 65000][len(sys.argv) - 2:])[:2]
+    rows = [
+        ("own class, half", {"Long": class_file("Long", "Long", length, constants // 2)}),
+        ("own class", {"Long": class_file("Long", "Long", length, constants)}),
+        ("other class", {
+            "Long": class_file("Long", "Far", length, constants),
+            "Far": class_file("Far", "Far", length, 0),
+        }),
+    ]
+    before = None
+    for row, files in rows:
+        with tempfile.TemporaryDirectory() as folder:
+            open(os.path.join(folder, "in.txt"), "w").close()
+            for name, bytes_ in files.items():
+                with open(os.path.join(folder, name + ".class"), "wb") as out:
+                    out.write(bytes_)
+            words = [paragon, "Long", "in.txt", "1000"]
+            told, seconds, most = least(words, folder)
+            counted = instructions(words, folder)
+        size, grown = sum(map(len, files.values())), growth(before, counted)
+        print(f"{row}, {size} bytes: {told}, {seconds:.2f} s, {most} MB{grown}", flush=True)
+        before = counted

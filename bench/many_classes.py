@@ -52,17 +52,18 @@ def class_file(own, files, wanted, members):
     return file + b"\0\0"
 
 
-paragon = os.path.abspath(sys.argv[1])
-files, wanted, members = (list(map(int, sys.argv[2:])) + [128, 20000, 256][len(sys.argv) - 2:])[:3]
-before = None
-for many in (files // 2, files):
-    with tempfile.TemporaryDirectory() as folder:
-        for own in range(many):
-            with open(os.path.join(folder, f"C{own:03}.class"), "wb") as out:
-                out.write(class_file(own, many, wanted, members))
-        open(os.path.join(folder, "in.txt"), "w").close()
-        words = [paragon, "C000", "in.txt", "1"]
-        told, seconds, most = least(words, folder)
-        counted = instructions(words, folder)
-    print(f"{many} files: {told}, {seconds:.2f} s, {most} MB{growth(before, counted)}", flush=True)
-    before = counted
+if __name__ == "__main__":
+    paragon = os.path.abspath(sys.argv[1])
+    files, wanted, members = (list(map(int, sys.argv[2:])) + [128, 20000, 256][len(sys.argv) - 2:])[:3]
+    before = None
+    for many in (files // 2, files):
+        with tempfile.TemporaryDirectory() as folder:
+            for own in range(many):
+                with open(os.path.join(folder, f"C{own:03}.class"), "wb") as out:
+                    out.write(class_file(own, many, wanted, members))
+            open(os.path.join(folder, "in.txt"), "w").close()
+            words = [paragon, "C000", "in.txt", "1"]
+            told, seconds, most = least(words, folder)
+            counted = instructions(words, folder)
+        print(f"{many} files: {told}, {seconds:.2f} s, {most} MB{growth(before, counted)}", flush=True)
+        before = counted

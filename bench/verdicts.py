@@ -99,8 +99,8 @@ def of_methods(most, declared, used):
         number += 1
 
 
-def classes():
-    room = MOST_BYTES // 128 - 60
+def classes(most=MOST_BYTES):
+    room = most // 128 - 60
     return "".join(
         f"class C{n}{{" + method("main" if n == 0 else "m", 5 * (room // 6), "int a=0;") + "}"
         for n in range(128)
@@ -129,8 +129,8 @@ def throws(classes=120):
 DECLARED = "int a=0;" + "".join(f"int x{n}=0;" for n in range(199))
 
 
-def locals_():
-    return of_methods(MOST_BYTES, DECLARED, 410)
+def locals_(most=MOST_BYTES):
+    return of_methods(most, DECLARED, 410)
 
 
 def copied(locals_used, deep, wanted):

@@ -1,0 +1,112 @@
+"""Class files that are made to take as much time or memory as their bytes allow; hostile.py times
+them.
+
+Each function takes a part of 1 and gives class files by name, as large as that part of what is
+allowed, and the words behind `paragon`. `FILES` has them under their names.
+"""
+import struct
+
+import long_class
+import long_texts
+import many_classes
+
+LONGEST = 1048576
+RUN = ["Long", "in.txt", "100000"]
+
+
+def file_of(entries, methods):
+    """A class `Long` of these constants, whose first seven are its own, and of these methods."""
+    pool = [long_class.utf8("Long"), b"\x07\0\x01", long_class.utf8("java/lang/Object")]
+    pool += [b"\x07\0\x03", long_class.utf8("Code"), long_class.utf8("main")]
+    pool += [long_class.utf8("()V"), *entries]
+    file = b"\xca\xfe\xba\xbe" + struct.pack(">HHH", 0, 49, len(pool) + 1) + b"".join(pool)
+    file += struct.pack(">HHHHHH", 0x0031, 2, 4, 0, 0, len(methods))
+    return file + b"".join(methods) + b"\0\0"
+
+
+def main(code, room, places, handlers=b""):
+    body = struct.pack(">HHI", room, places, len(code)) + code
+    body += struct.pack(">H", len(handlers) // 8) + handlers + b"\0\0"
+    return struct.pack(">HHHHHI", 0x0009, 6, 7, 1, 5, len(body)) + body
+
+
+def entries_and_fields(part):
+    wanted, fields = int(50000 * part), int(60000 * part)
+    return {"Long": long_class.class_file(wanted, fields, False)}, RUN
+
+
+def one_long_text(part):
+    return {"Long": long_texts.class_file("Long", "Long", 65000, int(65000 * part))}, RUN
+
+
+def files_that_name_each_other(part):
+    files = int(128 * part)
+    made = {f"C{n:03}": many_classes.class_file(n, files, 20000, 256) for n in range(files)}
+    return made, ["C000", "in.txt", "1"]
+
+
+def of_code(code, room, places, many, entries=()):
+    """A class with so many methods of that code, behind further constants."""
+    names = [long_class.utf8(f"m{n:05}") for n in range(many)]
+    body = struct.pack(">HHI", room, places, len(code)) + code + b"\0\0\0\0"
+    first = 8 + len(entries)
+    methods = [
+        struct.pack(">HHHHHI", 0x0009, first + n, 7, 1, 5, len(body)) + body for n in range(many)
+    ]
+    return {"Long": file_of([*entries, *names], [main(b"\xb1", 0, 0), *methods])}
+
+
+def long_code(part):
+    """Methods of 65,535 bytes of code, as many as fit."""
+    return of_code(b"\x03\x57" * 32767 + b"\xb1", 1, 0, int(15 * part)), RUN
+
+
+def objects_handed_on(part):
+    """Loops in which 252 locals hand on their objects, so that a pass tells of one local more that
+    it has objects of several classes."""
+    other = [long_class.utf8("java/lang/NullPointerException"), b"\x07\0\x08"]
+    code = b"".join(b"\xbb\0\x02\x3a" + bytes([n]) for n in range(252))
+    loop = b"".join(bytes([0x19, n, 0x3a, n + 1]) for n in reversed(range(251)))
+    loop += b"\x03\x57" * ((32000 - len(loop)) // 2) + b"\xbb\0\x09\x3a\0"
+    code += loop + b"\xa7" + struct.pack(">h", -len(loop)) + b"\xb1"
+    return of_code(code, 1, 252, int(30 * part), other), ["--verify", "Long"]
+
+
+def throws_past(part, named):
+    """A loop that divides by zero before handlers that take another class, but for the last."""
+    many = int(65000 * part)
+    code = b"\x04\x03\x6c\x57\xa7\xff\xfc\x57\xa7\xff\xf8\xb1"
+    other = [long_class.utf8("java/lang/NullPointerException"), b"\x07\0\x08", b"\x07\0\x08"]
+    passed = b"".join(struct.pack(">HHHH", 0, 3, 7, it) for it in named) * (many // len(named))
+    handlers = passed + struct.pack(">HHHH", 0, 3, 7, 0)
+    return {"Long": file_of(other, [main(code, 2, 0, handlers)])}, RUN
+
+
+def throws_past_handlers(part):
+    return throws_past(part, [9])
+
+
+def throws_past_two_names(part):
+    return throws_past(part, [9, 10])
+
+
+def calls_with_locals(part):
+    """Calls of a method by itself, each of which has 65,535 locals."""
+    named = [b"\x0c\0\x06\0\x07", b"\x0a\0\x02\0\x08"]
+    return {"Long": file_of(named, [main(b"\xb8\0\x09\xb1", 0, 65535)])}, [
+        "Long",
+        "in.txt",
+        str(int(400 * part)),
+    ]
+
+
+FILES = {
+    "50,000 constants and 60,000 fields": entries_and_fields,
+    "65,000 constants that share a text of 65,000 bytes": one_long_text,
+    "128 files that name each other's members": files_that_name_each_other,
+    "methods of 65,535 bytes of code": long_code,
+    "252 locals that hand on objects, verified": objects_handed_on,
+    "100,000 steps that throw past 65,000 handlers": throws_past_handlers,
+    "the same, which name two constants by turns": throws_past_two_names,
+    "400 calls with 65,535 locals each": calls_with_locals,
+}

@@ -1,0 +1,1 @@
+autocmd BufNewFile,BufRead *.par setfiletype paragon
