@@ -20,6 +20,7 @@ StandsAt [] place p = ⊥
 StandsAt (h ∷ hs) zero p = h.policy ≡ p
 StandsAt (h ∷ hs) (suc place) p = StandsAt hs place p
 
+-- what is kept, if anything is, tells the policies of each local
 abbrev pub MayTell : List ℕ → Option (List Held) → Type 0
 MayTell env None = Unit {0}
 MayTell env (Some hs) = (i : ℕ) → policy env i ≡ told hs i

@@ -11,7 +11,7 @@ use par_lexer::list::{List, NoMemory};
 use std::alloc::Global;
 use std::marker::Model;
 
-/// Policies that differ are told if they are no more than this.
+/// None are told where more different ones than this come before the last local.
 const MOST_HELD: usize = 8;
 
 /// Locals are told if they are no more than this.
@@ -25,8 +25,8 @@ struct Held {
 }
 
 /// The policies of locals. Where few are different, it is also kept which locals have each, so that
-/// two that are the same are found to be so without a look at each local. Contracts see the policies
-/// alone.
+/// two that are the same are found to be so without a look at each local. Contracts see the
+/// policies alone.
 #[derive(Drop)]
 pub struct Env {
     policies: List<Atoms>,

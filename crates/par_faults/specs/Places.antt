@@ -5,7 +5,7 @@ use Rattle.par_declarations.specs.par_places.Broken.{AreBrokenWithin}
 use Rattle.par_declarations.specs.par_places.Within.{IsWithin}
 use Rattle.par_faults.specs.Faults.{all_faults}
 
--- they are broken at places of the tree, or at its beginning
+-- none is broken behind the last place of the tree
 abbrev pub FaultsLieWithin : Type 0
 FaultsLieWithin =
     (m : ℕ) (source : Source) → IsWithin m source → AreBrokenWithin m (all_faults source)

@@ -2,8 +2,7 @@
 
 ghost use Rattle.par_faults.specs.Places.{FaultsLieWithin};
 
-/// The rules on names and the limits are broken at places of the tree, or at the beginning of the
-/// source.
+/// No rule on names and no limit is broken behind the last place of the tree.
 pub fn faults_lie_within()
     ensures { FaultsLieWithin }
 {}

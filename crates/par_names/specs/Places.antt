@@ -5,7 +5,7 @@ use Rattle.par_places.specs.Broken.{AreBrokenWithin}
 use Rattle.par_places.specs.Within.{IsWithin}
 use Rattle.par_names.specs.Program.{name_faults}
 
--- rules on names are broken at places of the tree, or at its beginning
+-- no rule on names is broken behind the last place of the tree
 abbrev pub NamesAreBrokenWithin : Type 0
 NamesAreBrokenWithin =
     (m : ℕ) (source : Source) → IsWithin m source → AreBrokenWithin m (name_faults source)

@@ -2,7 +2,7 @@
 
 ghost use Rattle.par_names.specs.Places.{NamesAreBrokenWithin};
 
-/// The rules on names are broken at places of the tree, or at the beginning of the source.
+/// No rule on names is broken behind the last place of the tree.
 pub fn names_are_broken_within()
     ensures { NamesAreBrokenWithin }
 {}

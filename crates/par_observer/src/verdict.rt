@@ -58,8 +58,8 @@ fn judge_short(alloc: Global, source: &[u8]) -> Result<Accepted, JudgeError>
 
 /// Reads a source, and runs the passes up to types: its length, its tokens, its sentence, its
 /// names, its limits and its types. Fields of the program that it gives may be left to be inferred.
-/// What the rules on flows ask of a program is said of it, and these rules stand at places of the
-/// source.
+/// What the rules on flows ask of a program is said of it, and none of these rules is asked behind
+/// the end of the source.
 pub fn typed_of(alloc: Global, source: &[u8]) -> Result<Typed, JudgeError>
     ensures typed { IfOk result (IsTypedAs source.now) }
     ensures ready { IfOk result IsReady }

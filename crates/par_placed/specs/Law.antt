@@ -1,4 +1,4 @@
--- The checks of the bodies of a source are at places of its tree.
+-- No check of the bodies of a source stands behind the last place of its tree.
 use Rattle.std.specs.Prelude.{ℕ, ◌≤◌, Contains}
 use Rattle.par_tree.specs.Plain.{Source}
 use Rattle.par_typed.specs.Plain.{Body}

@@ -8,7 +8,7 @@
 
 ghost use Rattle.par_placed.specs.Law.{ChecksLieWithin};
 
-/// The places of the checks of a source's bodies are among those of its tree, or before them.
+/// No check of a source's bodies stands behind the last place of its tree.
 pub fn checks_lie_within()
     ensures { ChecksLieWithin }
 {}

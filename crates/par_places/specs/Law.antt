@@ -1,4 +1,4 @@
--- The places in the tree of some tokens are those of tokens.
+-- No place in the tree of some tokens is behind the last place of a token.
 use Rattle.std.specs.Prelude.{ℕ, ◌≤◌, List, [], ◌∷◌, Ok}
 use Rattle.std.specs.List.{AllByRecursion}
 use Rattle.par_typed.specs.par_lexer.declared.token.Token.{Token}

@@ -6,7 +6,7 @@ use Rattle.par_places.specs.Within.{IsWithin}
 use Rattle.par_places.specs.Broken.{AreBrokenWithin}
 use Rattle.par_types.specs.Program.{type_faults}
 
--- rules on types are broken at places of the tree
+-- no rule on types is broken behind the last place of the tree
 abbrev pub TypesAreBrokenWithin : Type 0
 TypesAreBrokenWithin =
     (m : ℕ) (table : Table) (source : Source)

@@ -2,7 +2,7 @@
 
 ghost use Rattle.par_types.specs.Places.{TypesAreBrokenWithin};
 
-/// The rules on types are broken at places of the tree.
+/// No rule on types is broken behind the last place of the tree.
 pub fn types_are_broken_within()
     ensures { TypesAreBrokenWithin }
 {}
