@@ -116,22 +116,33 @@ fn own_name(rt: &HostRuntime, last: &str) -> Result<String, Fail> {
 }
 
 #[test]
-fn the_system_keeps_a_file_and_takes_lines(rt: HostRuntime) -> Result<(), Fail> {
-    let alloc = rt.alloc();
-    let place = env::temp_dir(&rt)?;
+fn the_system_keeps_a_file(rt: HostRuntime) -> Result<(), Fail> {
     let name = own_name(&rt, "")?;
-    let name = name.as_str();
     let mut folder = HostFolder::new(&rt);
-    expect(keeps(alloc, &mut folder, name), "a file is kept")?;
-    fs::remove_file(&rt, name)?;
+    expect(
+        keeps(rt.alloc(), &mut folder, name.as_str()),
+        "a file is kept",
+    )?;
+    fs::remove_file(&rt, name.as_str())?;
+    Ok(())
+}
+
+#[test]
+fn a_folder_is_no_file_of_the_system(rt: HostRuntime) -> Result<(), Fail> {
+    let place = env::temp_dir(&rt)?;
+    let mut folder = HostFolder::new(&rt);
     let place = place.as_str();
     expect(
-        fails(alloc, &mut folder, place, 9, ReadFail::Failed),
+        fails(rt.alloc(), &mut folder, place, 9, ReadFail::Failed),
         "a folder in place of a file",
-    )?;
+    )
+}
+
+#[test]
+fn the_system_takes_lines(rt: HostRuntime) -> Result<(), Fail> {
     let mut out = HostSink::new(&rt);
     expect(out.put(b"a line\n").is_ok(), "a line")?;
-    let line = long_line(alloc)?;
+    let line = long_line(rt.alloc())?;
     expect(out.put(line.as_slice()).is_ok(), "a line of 200,000 bytes")
 }
 

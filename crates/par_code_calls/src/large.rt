@@ -103,14 +103,18 @@ fn are_set(items: &[Item]) -> bool {
     true
 }
 
-#[test]
-fn two_hundred_locals_have_their_places(rt: HostRuntime) -> Result<(), Fail> {
-    let alloc = rt.alloc();
+fn with_locals(alloc: Global) -> Result<Typed, Fail> {
     let mut body = Vec::new(alloc);
     push_hundred(b'1', &mut body)?;
     push_hundred(b'2', &mut body)?;
     body.extend_from_slice(b"got = a299;")?;
-    let typed = whole(alloc, body.as_slice())?;
+    whole(alloc, body.as_slice())
+}
+
+#[test]
+fn two_hundred_locals_have_their_places(rt: HostRuntime) -> Result<(), Fail> {
+    let alloc = rt.alloc();
+    let typed = with_locals(alloc)?;
     let code = code(alloc, &typed)?;
     let items = code.items.as_slice();
     expect(code.max_locals == 200, "the locals")?;
@@ -169,13 +173,17 @@ fn has_counts(code: &Labelled, wanted: &Counts) -> bool {
 }
 
 // A body of 1 node, 666 assignments of 3 and a block of 1.
-#[test]
-fn the_longest_row_of_assignments(rt: HostRuntime) -> Result<(), Fail> {
-    let alloc = rt.alloc();
+fn with_assignments(alloc: Global) -> Result<Typed, Fail> {
     let mut body = Vec::new(alloc);
     push_times(b"got = 1;\n", 666, &mut body)?;
     body.extend_from_slice(b"{ }")?;
-    let typed = whole(alloc, body.as_slice())?;
+    whole(alloc, body.as_slice())
+}
+
+#[test]
+fn the_longest_row_of_assignments(rt: HostRuntime) -> Result<(), Fail> {
+    let alloc = rt.alloc();
+    let typed = with_assignments(alloc)?;
     expect(nodes(&typed) == NODES, "the nodes of assignments")?;
     let code = code(alloc, &typed)?;
     let wanted = Counts {
@@ -210,14 +218,18 @@ fn push_all_turned(statements: u32, source: &mut Vec<u8>) -> Result<(), Fail> {
 // Of all nodes `!` has the most items, the most labels and the most frames. The nodes are 1 of the
 // body, 62, 30 times 63, and 47: 1,904 signs with 6 items and 8 bytes each, 32 numbers that are
 // stored, and a return.
-#[test]
-fn the_most_labels(rt: HostRuntime) -> Result<(), Fail> {
-    let alloc = rt.alloc();
+fn with_signs(alloc: Global) -> Result<Typed, Fail> {
     let mut body = Vec::new(alloc);
     push_turned(b"boolean b = ", 60, &mut body)?;
     push_all_turned(30, &mut body)?;
     push_turned(b"b = ", 44, &mut body)?;
-    let typed = whole(alloc, body.as_slice())?;
+    whole(alloc, body.as_slice())
+}
+
+#[test]
+fn the_most_labels(rt: HostRuntime) -> Result<(), Fail> {
+    let alloc = rt.alloc();
+    let typed = with_signs(alloc)?;
     expect(nodes(&typed) == NODES, "the nodes of signs")?;
     let code = code(alloc, &typed)?;
     let wanted = Counts {

@@ -4,6 +4,7 @@ use crate::bodies::typed;
 use crate::runner::run;
 use par_code::{Labelled, code_of};
 use par_erase::erase;
+use par_typed::program::Typed;
 use par_worked::expect;
 use std::alloc::Global;
 use std::rt::HostRuntime;
@@ -135,12 +136,16 @@ const ROWS: &[Row] = &[
     },
 ];
 
-fn code(alloc: Global, body: &[u8]) -> Result<Labelled, Fail> {
+fn program(alloc: Global, body: &[u8]) -> Result<Typed, Fail> {
     let mut source = Vec::new(alloc);
     source.extend_from_slice(BEFORE)?;
     source.extend_from_slice(body)?;
     source.extend_from_slice(BEHIND)?;
-    let typed = typed(alloc, source.as_slice())?;
+    typed(alloc, source.as_slice())
+}
+
+fn code(alloc: Global, body: &[u8]) -> Result<Labelled, Fail> {
+    let typed = program(alloc, body)?;
     let plain = erase(alloc, &typed)?;
     Ok(code_of(alloc, &plain, SHOP, MAIN)?)
 }

@@ -1,6 +1,7 @@
 //! The most classes that a program may have, and code about as long as a method may have.
 
 use crate::sources::{file_at, files_of};
+use par_class::ClassFile;
 use par_compile::CompiledClass;
 use par_worked::expect;
 use std::alloc::Global;
@@ -66,12 +67,15 @@ fn put_turns(source: &mut Vec<u8>) -> Result<(), Fail> {
 }
 
 // Each turn has 8 bytes, and each statement two more.
-#[test]
-fn long_code_branches_far(rt: HostRuntime) -> Result<(), Fail> {
-    let alloc = rt.alloc();
+fn long_file(alloc: Global) -> Result<ClassFile, Fail> {
     let source = long(alloc)?;
     let files = files_of(alloc, source.as_slice())?;
-    let shop = file_at(alloc, files.as_slice(), 0)?;
+    file_at(alloc, files.as_slice(), 0)
+}
+
+#[test]
+fn long_code_branches_far(rt: HostRuntime) -> Result<(), Fail> {
+    let shop = long_file(rt.alloc())?;
     let Some(method) = shop.methods.get(1) else {
         return Err(Fail::new("no method behind the initializer"));
     };

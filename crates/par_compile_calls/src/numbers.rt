@@ -68,12 +68,20 @@ fn last_code(file: &ClassFile) -> Result<&[u8], Fail> {
     }
 }
 
-fn begins(alloc: Global, row: &Row) -> Result<(), Fail> {
+fn first_file(alloc: Global, source: &[u8]) -> Result<ClassFile, Fail> {
+    let files = files_of(alloc, source)?;
+    file_at(alloc, files.as_slice(), 0)
+}
+
+fn with_body(alloc: Global, body: &[u8]) -> Result<ClassFile, Fail> {
     let mut source = Vec::from_slice(alloc, BEFORE)?;
-    source.extend_from_slice(row.body)?;
+    source.extend_from_slice(body)?;
     source.extend_from_slice(BEHIND)?;
-    let files = files_of(alloc, source.as_slice())?;
-    let file = file_at(alloc, files.as_slice(), 0)?;
+    first_file(alloc, source.as_slice())
+}
+
+fn begins(alloc: Global, row: &Row) -> Result<(), Fail> {
+    let file = with_body(alloc, row.body)?;
     let code = last_code(&file)?;
     expect(code.get(..row.begins.len()) == Some(row.begins), "the code")
 }
@@ -109,12 +117,14 @@ fn contains(code: &[u8], bytes: &[u8]) -> bool
     code.windows(bytes.len()).any(|part| part == bytes)
 }
 
+fn of_many_numbers(alloc: Global) -> Result<ClassFile, Fail> {
+    let source = many_numbers(alloc)?;
+    first_file(alloc, source.as_slice())
+}
+
 #[test]
 fn an_index_beyond_255_takes_two_bytes(rt: HostRuntime) -> Result<(), Fail> {
-    let alloc = rt.alloc();
-    let source = many_numbers(alloc)?;
-    let files = files_of(alloc, source.as_slice())?;
-    let file = file_at(alloc, files.as_slice(), 0)?;
+    let file = of_many_numbers(rt.alloc())?;
     let code = last_code(&file)?;
     expect(contains(code, &[0x12, 0xff, 0xb8]), "ldc at 255")?;
     expect(contains(code, &[0x13, 0x01, 0x00, 0xb8]), "ldc_w at 256")

@@ -87,23 +87,30 @@ fn put_call(source: &mut Vec<u8>) -> Result<(), Fail> {
     Ok(())
 }
 
-#[test]
-fn a_class_of_many_frames_has_none(rt: HostRuntime) -> Result<(), Fail> {
-    let alloc = rt.alloc();
+// A small class, and one of many frames.
+fn big_source(alloc: Global) -> Result<Vec<u8>, Fail> {
     let mut source = Vec::from_slice(alloc, SHOP)?;
     source.extend_from_slice(b"Big.g1();")?;
     source.extend_from_slice(BEHIND)?;
     put_big(&mut source)?;
+    Ok(source)
+}
+
+#[test]
+fn a_class_of_many_frames_has_none(rt: HostRuntime) -> Result<(), Fail> {
+    let alloc = rt.alloc();
+    let source = big_source(alloc)?;
     let files = files_of(alloc, source.as_slice())?;
     expect(files.len() == 2, "two files")?;
-    let shop = file_at(alloc, files.as_slice(), 0)?;
-    expect(shop.major == 51, "the version of the small class")?;
-    let big = file_at(alloc, files.as_slice(), 1)?;
-    expect(big.major == 49, "the version of the large class")?;
-    for file in files.as_slice() {
-        expect(file.bytes.len() <= LONGEST_CLASS, "a short file")?;
-    }
-    Ok(())
+    let small = file_at(alloc, files.as_slice(), 0)?.major;
+    expect(small == 51, "the version of the small class")?;
+    let large = file_at(alloc, files.as_slice(), 1)?.major;
+    expect(large == 49, "the version of the large class")?;
+    let are_short = files
+        .as_slice()
+        .iter()
+        .all(|file| file.bytes.len() <= LONGEST_CLASS);
+    expect(are_short, "short files")
 }
 
 // A class of four methods with nearly as many nodes as there may be, and most of them objects.

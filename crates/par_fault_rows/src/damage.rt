@@ -30,20 +30,37 @@ fn is_refused(
 }
 
 /// Whether each shorter file of a class is told with its length, and a longer one with its place.
+// Whether each beginning of the file is told to be cut off.
+fn beginnings_are_told(
+    alloc: Global,
+    folder: &mut MemFolder,
+    file: (&str, &[u8]),
+    class: &str,
+) -> Result<bool, NoMemory> {
+    let (name, bytes) = file;
+    for length in 0..bytes.len() {
+        folder.add(name, &bytes[..length])?;
+        if !is_refused(alloc, folder, class, 32, length)? {
+            return Ok(false);
+        }
+    }
+    Ok(bytes.len() > 100)
+}
+
 fn lengths_are_told(alloc: Global, lines: Lines, class: &str) -> Result<bool, NoMemory> {
     let mut folder = class_files(alloc, lines)?;
     let name = format!(in alloc; "{class}.class")?;
     let mut whole = bytes_of(alloc, &folder, name.as_str())?;
-    for length in 0..whole.len() {
-        folder.add(name.as_str(), &whole[..length])?;
-        if !is_refused(alloc, &mut folder, class, 32, length)? {
-            return Ok(false);
-        }
-    }
     let length = whole.len();
+    let are_told = beginnings_are_told(
+        alloc,
+        &mut folder,
+        (name.as_str(), whole.as_slice()),
+        class,
+    )?;
     whole.push(0)?;
     folder.add(name.as_str(), whole.as_slice())?;
-    Ok(length > 100 && is_refused(alloc, &mut folder, class, 35, length)?)
+    Ok(are_told && is_refused(alloc, &mut folder, class, 35, length)?)
 }
 
 const WRITTEN: &[(&str, Lines, &str)] = &[
@@ -65,18 +82,21 @@ const LONGEST: usize = 1_048_576;
 
 /// Whether a file of a class that is filled up to the longest that is read is told with the first
 /// byte too many, and a longer one as too long.
+fn longer_by(alloc: Global, bytes: &[u8], length: usize) -> Result<Vec<u8>, NoMemory> {
+    let mut long = bytes.to_vec(alloc)?;
+    long.resize(length, 0)?;
+    Ok(long)
+}
+
 fn longest_are_told(alloc: Global, lines: Lines, class: &str) -> Result<bool, NoMemory> {
     let mut folder = class_files(alloc, lines)?;
     let name = format!(in alloc; "{class}.class")?;
-    let mut long = bytes_of(alloc, &folder, name.as_str())?;
-    let length = long.len();
-    for _ in length..LONGEST {
-        long.push(0)?;
-    }
-    folder.add(name.as_str(), long.as_slice())?;
-    let is_told = is_refused(alloc, &mut folder, class, 35, length)?;
-    long.push(0)?;
-    folder.add(name.as_str(), long.as_slice())?;
+    let whole = bytes_of(alloc, &folder, name.as_str())?;
+    let longest = longer_by(alloc, whole.as_slice(), LONGEST)?;
+    folder.add(name.as_str(), longest.as_slice())?;
+    let is_told = is_refused(alloc, &mut folder, class, 35, whole.len())?;
+    let longer = longer_by(alloc, longest.as_slice(), LONGEST + 1)?;
+    folder.add(name.as_str(), longer.as_slice())?;
     Ok(is_told && answers(alloc, RUN, &mut folder, ("too long\n", 8))?)
 }
 
@@ -132,14 +152,26 @@ fn is_named(status: u8, told: &[u8]) -> bool {
 
 /// Whether the class file is told of in one of these ways, and has no bad code where both files are
 /// verified.
-fn is_answered(alloc: Global, folder: &mut MemFolder, item: &[u8]) -> Result<bool, NoMemory> {
-    folder.add("Item.class", item)?;
+// Whether what the call of a run puts and answers is one of the named answers, and its status.
+fn status_of_run(alloc: Global, folder: &mut MemFolder) -> Result<Option<u8>, NoMemory> {
     let mut told = MemSink::new(alloc, 1000)?;
     let ran = call(alloc, RUN, folder, &mut told)?;
+    Ok(is_named(ran, told.bytes()).then_some(ran))
+}
+
+fn status_of_verifier(alloc: Global, folder: &mut MemFolder) -> Result<u8, NoMemory> {
     let mut out = MemSink::new(alloc, 1000)?;
-    let verified = call(alloc, VERIFY, folder, &mut out)?;
-    let is_kept = verified == 12 || verified == 0 && ran != 12 && ran != 14;
-    Ok(is_kept && is_named(ran, told.bytes()))
+    Ok(call(alloc, VERIFY, folder, &mut out)?)
+}
+
+fn is_answered(alloc: Global, folder: &mut MemFolder, item: &[u8]) -> Result<bool, NoMemory> {
+    folder.add("Item.class", item)?;
+    let ran = status_of_run(alloc, folder)?;
+    let verified = status_of_verifier(alloc, folder)?;
+    match ran {
+        Some(ran) => Ok(verified == 12 || verified == 0 && ran != 12 && ran != 14),
+        None => Ok(false),
+    }
 }
 
 /// What a byte is changed to: 0, 255, and each of its bits turned.

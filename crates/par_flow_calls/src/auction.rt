@@ -25,12 +25,12 @@ const BEST: usize = 0;
 
 const BOUND: u64 = 1000;
 
-fn line(alloc: Global, channel: Name, bid: i32) -> Result<ChannelInput, Fail> {
+fn line(alloc: Global, channel: &[u8], bid: i32) -> Result<ChannelInput, Fail> {
     let mut numbers = List::new(alloc);
     numbers.push(bid)?;
     Ok(ChannelInput {
         class: Name::new(alloc, b"Auction")?,
-        channel,
+        channel: Name::new(alloc, channel)?,
         numbers,
     })
 }
@@ -38,8 +38,8 @@ fn line(alloc: Global, channel: Name, bid: i32) -> Result<ChannelInput, Fail> {
 // Alice bids 30, and bob bids this.
 fn bids(alloc: Global, of_bob: i32) -> Result<Inputs, Fail> {
     let mut channels = List::new(alloc);
-    channels.push(line(alloc, Name::new(alloc, b"aliceBids")?, 30)?)?;
-    channels.push(line(alloc, Name::new(alloc, b"bobBids")?, of_bob)?)?;
+    channels.push(line(alloc, b"aliceBids", 30)?)?;
+    channels.push(line(alloc, b"bobBids", of_bob)?)?;
     Ok(Inputs { channels })
 }
 
@@ -74,26 +74,34 @@ fn begins_with(run: &SourceRun, price: i32) -> bool {
     }
 }
 
+// Whether a run on this bid of bob begins with this price.
+fn run_begins_with(alloc: Global, program: &Typed, bid: i32, price: i32) -> Result<bool, Fail> {
+    let inputs = bids(alloc, bid)?;
+    let run = run_source(alloc, program, &inputs, BOUND)?;
+    Ok(begins_with(&run, price))
+}
+
+fn are_alike(alloc: Global, program: &Typed) -> Result<bool, Fail> {
+    let low = bids(alloc, 45)?;
+    let high = bids(alloc, 50)?;
+    Ok(alike(&low, &high, program, ALICE, &Lockset::new(alloc)))
+}
+
 #[test]
 fn bids_that_alice_cannot_tell_apart_show_once_both_are_done(rt: HostRuntime) -> Result<(), Fail> {
     let alloc = rt.alloc();
     let program = typed(alloc, AUCTION)?;
-    let no_lock = Lockset::new(alloc);
-    let low = bids(alloc, 45)?;
-    let high = bids(alloc, 50)?;
+    expect(are_alike(alloc, &program)?, "they are alike for alice")?;
     expect(
-        alike(&low, &high, &program, ALICE, &no_lock),
-        "they are alike for alice",
+        is_price_shown(&program, &Lockset::new(alloc)),
+        "alice sees the price",
     )?;
-    expect(is_price_shown(&program, &no_lock), "alice sees the price")?;
-    let first = run_source(alloc, &program, &low, BOUND)?;
-    let second = run_source(alloc, &program, &high, BOUND)?;
     expect(
-        begins_with(&first, 45),
+        run_begins_with(alloc, &program, 45, 45)?,
         "the first price comes while Done is open",
     )?;
     expect(
-        begins_with(&second, 50),
+        run_begins_with(alloc, &program, 50, 50)?,
         "the second price differs while Done is open",
     )
 }

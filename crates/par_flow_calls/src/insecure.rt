@@ -46,15 +46,19 @@ fn program(alloc: Global, body: &[u8]) -> Result<Typed, Fail> {
     typed(alloc, source.as_slice())
 }
 
-fn key(alloc: Global, number: i32) -> Result<Inputs, Fail> {
+fn key_line(alloc: Global, number: i32) -> Result<ChannelInput, Fail> {
     let mut numbers = List::new(alloc);
     numbers.push(number)?;
-    let mut channels = List::new(alloc);
-    channels.push(ChannelInput {
+    Ok(ChannelInput {
         class: Name::new(alloc, b"Shop")?,
         channel: Name::new(alloc, b"key")?,
         numbers,
-    })?;
+    })
+}
+
+fn key(alloc: Global, number: i32) -> Result<Inputs, Fail> {
+    let mut channels = List::new(alloc);
+    channels.push(key_line(alloc, number)?)?;
     Ok(Inputs { channels })
 }
 
@@ -125,16 +129,25 @@ const ROWS: &[Row] = &[
     },
 ];
 
+// What the run on a key tells at a place.
+fn told_of(alloc: Global, program: &Typed, number: i32, place: usize) -> Result<Option<i32>, Fail> {
+    let inputs = key(alloc, number)?;
+    let run = run_source(alloc, program, &inputs, BOUND)?;
+    Ok(told(&run, place))
+}
+
+fn are_alike(alloc: Global, program: &Typed, keys: (i32, i32)) -> Result<bool, Fail> {
+    let one = key(alloc, keys.0)?;
+    let other = key(alloc, keys.1)?;
+    Ok(alike(&one, &other, program, BOB, &Lockset::new(alloc)))
+}
+
 fn tells_apart(alloc: Global, row: &Row) -> Result<bool, Fail> {
     let program = program(alloc, row.body)?;
-    let one = key(alloc, row.keys.0)?;
-    let other = key(alloc, row.keys.1)?;
-    let no_lock = Lockset::new(alloc);
-    let first = run_source(alloc, &program, &one, BOUND)?;
-    let second = run_source(alloc, &program, &other, BOUND)?;
-    let differ = told(&first, row.place) == Some(row.tell.0)
-        && told(&second, row.place) == Some(row.tell.1);
-    Ok(alike(&one, &other, &program, BOB, &no_lock) && differ)
+    let first = told_of(alloc, &program, row.keys.0, row.place)?;
+    let second = told_of(alloc, &program, row.keys.1, row.place)?;
+    let differ = first == Some(row.tell.0) && second == Some(row.tell.1);
+    Ok(differ && are_alike(alloc, &program, row.keys)?)
 }
 
 #[test]

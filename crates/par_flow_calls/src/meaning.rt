@@ -43,17 +43,21 @@ fn program(alloc: Global, body: &[u8]) -> Result<Typed, Fail> {
     typed(alloc, source.as_slice())
 }
 
-fn inputs(alloc: Global, given: &[i32]) -> Result<Inputs, Fail> {
+fn key_line(alloc: Global, given: &[i32]) -> Result<ChannelInput, Fail> {
     let mut numbers = List::new(alloc);
     for number in given {
         numbers.push(*number)?;
     }
-    let mut channels = List::new(alloc);
-    channels.push(ChannelInput {
+    Ok(ChannelInput {
         class: Name::new(alloc, b"Shop")?,
         channel: Name::new(alloc, b"key")?,
         numbers,
-    })?;
+    })
+}
+
+fn inputs(alloc: Global, given: &[i32]) -> Result<Inputs, Fail> {
+    let mut channels = List::new(alloc);
+    channels.push(key_line(alloc, given)?)?;
     Ok(Inputs { channels })
 }
 

@@ -51,12 +51,18 @@ fn with_locks(alloc: Global, event: Event, open: &[u16]) -> Result<SourceEvent, 
     Ok(SourceEvent { event, locks })
 }
 
+fn shown(alloc: Global) -> Result<Event, Fail> {
+    Ok(Event::Out(shop(alloc)?, Name::new(alloc, b"show")?, 42))
+}
+
+fn set(alloc: Global) -> Result<Event, Fail> {
+    Ok(Event::Set(shop(alloc)?, Name::new(alloc, b"last")?, Val::Int(7)))
+}
+
 fn run(alloc: Global) -> Result<SourceRun, Fail> {
-    let shown = Event::Out(shop(alloc)?, Name::new(alloc, b"show")?, 42);
-    let set = Event::Set(shop(alloc)?, Name::new(alloc, b"last")?, Val::Int(7));
     let mut events = List::new(alloc);
-    events.push(with_locks(alloc, shown, &[6, 3, 0])?)?;
-    events.push(with_locks(alloc, set, &[])?)?;
+    events.push(with_locks(alloc, shown(alloc)?, &[6, 3, 0])?)?;
+    events.push(with_locks(alloc, set(alloc)?, &[])?)?;
     Ok(SourceRun {
         events,
         ending: Ending::Stopped,

@@ -27,25 +27,34 @@ fn way(alloc: Global, context: u16, first: u16, second: u16, lock: u32) -> Resul
     })
 }
 
+// The throw of one class.
+fn thrown(alloc: Global, policy: u16, lock: u32) -> Result<Ways, NoMemory>
+    requires { (policy < 250) × (lock < 256) }
+    ensures once { IfOk result (λ w. AreOnce (seen_throws w.throws)) }
+    ensures locals { IfOk result (λ w. HaveLocals 2 w) }
+{
+    let mut throws = List::new(alloc);
+    throws.push((BAD, way(alloc, policy + 3, policy, 2, lock)?))?;
+    Ok(Ways {
+        normal: None,
+        ret: None,
+        brk: None,
+        cont: None,
+        throws,
+    })
+}
+
 // A normal exit, a break, a continue, and a throw.
 fn ways(alloc: Global, policy: u16, lock: u32) -> Result<Ways, NoMemory>
     requires { (policy < 250) × (lock < 256) }
     ensures once { IfOk result (λ w. AreOnce (seen_throws w.throws)) }
     ensures locals { IfOk result (λ w. HaveLocals 2 w) }
 {
-    let normal = way(alloc, policy, 1, 2, lock)?;
-    let brk = way(alloc, policy + 1, 1, 2, lock)?;
-    let cont = way(alloc, policy + 2, 1, 2, lock)?;
-    let thrown = way(alloc, policy + 3, policy, 2, lock)?;
-    let mut throws = List::new(alloc);
-    throws.push((BAD, thrown))?;
-    Ok(Ways {
-        normal: Some(normal),
-        ret: None,
-        brk: Some(brk),
-        cont: Some(cont),
-        throws,
-    })
+    let mut ways = thrown(alloc, policy, lock)?;
+    ways.normal = Some(way(alloc, policy, 1, 2, lock)?);
+    ways.brk = Some(way(alloc, policy + 1, 1, 2, lock)?);
+    ways.cont = Some(way(alloc, policy + 2, 1, 2, lock)?);
+    Ok(ways)
 }
 
 // The policies of its context and of its first local, and the locks of a way.

@@ -1,6 +1,6 @@
 //! Sources at a limit, and one above it.
 
-use par_io::{MemSink, NoMemory};
+use par_io::{MemFolder, MemSink, NoMemory};
 use par_row_calls::{
     ACCEPTED, Answer, KEY_42, call, checks_as, compiled, line_checks_as, with_body, with_line,
 };
@@ -552,13 +552,17 @@ fn sources_at_a_limit_run(rt: HostRuntime) -> Result<(), Fail> {
 
 /// Whether a source of so many numbers that need an entry of their own in the constant pool is
 /// compiled, and puts them out. Behind 256 entries the longer form of the instruction is written.
-fn shows_numbers(alloc: Global, many: u32) -> Result<bool, NoMemory> {
+fn folder_of_numbers(alloc: Global, many: u32) -> Result<MemFolder, NoMemory> {
     let body = repeated(alloc, &[("show(40000#); ", many)])?;
     let source = with_body(alloc, body.as_str())?;
-    let mut folder = compiled(alloc, source.as_str(), KEY_42)?;
+    compiled(alloc, source.as_str(), KEY_42)
+}
+
+fn shows_numbers(alloc: Global, many: u32) -> Result<bool, NoMemory> {
+    let mut folder = folder_of_numbers(alloc, many)?;
+    let lines = repeated(alloc, &[("out Shop.show 40000#\n", many), ("end\n", 1)])?;
     let mut out = MemSink::new(alloc, 20_000)?;
     let status = call(alloc, "paragon Shop in.txt 2000", &mut folder, &mut out)?;
-    let lines = repeated(alloc, &[("out Shop.show 40000#\n", many), ("end\n", 1)])?;
     Ok((status, out.bytes()) == (0, lines.as_bytes()))
 }
 

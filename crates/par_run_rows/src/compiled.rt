@@ -175,6 +175,13 @@ const SOURCES: &[(Lines, Answer, &str, Answer)] = &[
     ),
 ];
 
+fn folder_of_key(alloc: Global, lines: Lines) -> Result<MemFolder, NoMemory> {
+    let source = with_lines(alloc, lines)?;
+    let mut folder = folder_of(alloc, source.as_str())?;
+    folder.add("in.txt", KEY_42.as_bytes())?;
+    Ok(folder)
+}
+
 fn runs_as(
     alloc: Global,
     lines: Lines,
@@ -182,9 +189,7 @@ fn runs_as(
     command: &str,
     told: Answer,
 ) -> Result<bool, NoMemory> {
-    let source = with_lines(alloc, lines)?;
-    let mut folder = folder_of(alloc, source.as_str())?;
-    folder.add("in.txt", KEY_42.as_bytes())?;
+    let mut folder = folder_of_key(alloc, lines)?;
     let is_compiled = answers(alloc, "paragonc shop.par", &mut folder, answer)?;
     Ok(is_compiled && answers(alloc, command, &mut folder, told)?)
 }

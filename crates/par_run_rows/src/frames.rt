@@ -1,7 +1,7 @@
 //! Class files with frames, without them, and with frames where none can stand.
 
 use crate::hand_made::folder_with;
-use par_io::NoMemory;
+use par_io::{MemFolder, NoMemory};
 use par_row_calls::{Answer, answers};
 use par_worked::expect;
 use std::alloc::Global;
@@ -29,17 +29,23 @@ const JUMP: [u8; 5] = [0xa7, 0, 4, 0xb1, 0xb1];
 const STRAIGHT: [u8; 5] = [3, 87, 3, 87, 0xb1];
 
 /// The class file of A in this version, whose method has this code with these tables of frames.
+// The tables of frames, each as an attribute.
+fn attributes_of(alloc: Global, tables: &[&[u8]]) -> Result<Vec<u8>, NoMemory> {
+    let mut attributes = Vec::new(alloc);
+    for table in tables {
+        attributes.extend_from_slice(&[0, 8, 0, 0, 0, table.len().min(255) as u8])?;
+        attributes.extend_from_slice(table)?;
+    }
+    Ok(attributes)
+}
+
 fn class_a(
     alloc: Global,
     version: u8,
     code: [u8; 5],
     tables: &[&[u8]],
 ) -> Result<Vec<u8>, NoMemory> {
-    let mut attributes = Vec::new(alloc);
-    for table in tables {
-        attributes.extend_from_slice(&[0, 8, 0, 0, 0, table.len().min(255) as u8])?;
-        attributes.extend_from_slice(table)?;
-    }
+    let attributes = attributes_of(alloc, tables)?;
     let length = attributes.len().min(200) as u8 + 17;
     let mut file = [0xca, 0xfe, 0xba, 0xbe, 0, 0, 0, version].to_vec(alloc)?;
     file.extend_from_slice(BEHIND_VERSION)?;
@@ -201,12 +207,14 @@ const ROWS: &[FrameRow] = &[
 ];
 
 /// Whether a run of A on these input files has this answer.
-fn runs_as(alloc: Global, row: &FrameRow, inputs: &str, answer: Answer) -> Result<bool, NoMemory> {
+fn folder_of(alloc: Global, row: &FrameRow) -> Result<MemFolder, NoMemory> {
     let file = class_a(alloc, row.1, row.2, row.3)?;
-    let mut folder = folder_with(alloc, &[("A.class", file.as_slice())], "")?;
-    let mut command = String::from_str(alloc, "paragon A ")?;
-    command.push_str(inputs)?;
-    command.push_str(" 9")?;
+    folder_with(alloc, &[("A.class", file.as_slice())], "")
+}
+
+fn runs_as(alloc: Global, row: &FrameRow, inputs: &str, answer: Answer) -> Result<bool, NoMemory> {
+    let mut folder = folder_of(alloc, row)?;
+    let command = format!(in alloc; "paragon A {inputs} 9")?;
     answers(alloc, command.as_str(), &mut folder, answer)
 }
 

@@ -15,8 +15,8 @@ pub struct Code<'a> {
     pub handlers: &'a [Handler],
 }
 
-/// A class file whose last method, before whose attribute it is cut, has this code.
-pub fn with_code(alloc: Global, front: &[u8], code: Code<'_>) -> Result<Vec<u8>, NoMemory> {
+// What stands behind the length of a Code attribute.
+fn body_of(alloc: Global, code: Code<'_>) -> Result<Vec<u8>, NoMemory> {
     let mut body = Vec::new(alloc);
     let length = code.bytes.len().min(255) as u8;
     body.extend_from_slice(&[0, code.room, 0, code.locals, 0, 0, 0, length])?;
@@ -26,6 +26,12 @@ pub fn with_code(alloc: Global, front: &[u8], code: Code<'_>) -> Result<Vec<u8>,
         body.extend_from_slice(&[0, *start, 0, *end, 0, *at, 0, *class])?;
     }
     body.extend_from_slice(&[0, 0])?;
+    Ok(body)
+}
+
+/// A class file whose last method, before whose attribute it is cut, has this code.
+pub fn with_code(alloc: Global, front: &[u8], code: Code<'_>) -> Result<Vec<u8>, NoMemory> {
+    let body = body_of(alloc, code)?;
     let mut file = front.to_vec(alloc)?;
     file.extend_from_slice(&[0, 0, 0, body.len().min(255) as u8])?;
     file.extend_from_slice(body.as_slice())?;

@@ -227,6 +227,15 @@ const BANKS: &[(&str, usize, (usize, u8), Answer)] = &[
     ),
 ];
 
+fn folder_of_bank(alloc: Global, bank: &[u8]) -> Result<MemFolder, NoMemory> {
+    let shop = naming_bank(alloc)?;
+    let mut folder = MemFolder::new(alloc);
+    folder.add("Shop.class", shop.as_slice())?;
+    folder.add("Bank.class", bank)?;
+    folder.add("in.txt", b"")?;
+    Ok(folder)
+}
+
 fn bank_is_told(
     alloc: Global,
     length: usize,
@@ -235,10 +244,7 @@ fn bank_is_told(
 ) -> Result<bool, NoMemory> {
     let mut bank = changed(alloc, BANK, change, change)?;
     bank.truncate(length);
-    let mut folder = MemFolder::new(alloc);
-    folder.add("Shop.class", naming_bank(alloc)?.as_slice())?;
-    folder.add("Bank.class", bank.as_slice())?;
-    folder.add("in.txt", b"")?;
+    let mut folder = folder_of_bank(alloc, bank.as_slice())?;
     answers(alloc, "paragon Shop in.txt 1000", &mut folder, answer)
 }
 
@@ -306,6 +312,12 @@ const CHAINS: &[(u8, Answer)] = &[
     (130, ("bad class C128 45 129\n", 12)),
 ];
 
+fn add_link(alloc: Global, folder: &mut MemFolder, number: u8, next: u8) -> Result<(), NoMemory> {
+    let bytes = link_of_chain(alloc, number, next)?;
+    let name = format!(in alloc; "C{number:03}.class")?;
+    folder.add(name.as_str(), bytes.as_slice())
+}
+
 fn chain_is_told(alloc: Global, length: u8, answer: Answer) -> Result<bool, NoMemory> {
     let mut folder = MemFolder::new(alloc);
     for number in 0..length {
@@ -314,11 +326,7 @@ fn chain_is_told(alloc: Global, length: u8, answer: Answer) -> Result<bool, NoMe
         } else {
             number
         };
-        let bytes = link_of_chain(alloc, number, next)?;
-        folder.add(
-            format!(in alloc; "C{number:03}.class")?.as_str(),
-            bytes.as_slice(),
-        )?;
+        add_link(alloc, &mut folder, number, next)?;
     }
     folder.add("in.txt", b"")?;
     answers(alloc, "paragon C000 in.txt 1000", &mut folder, answer)

@@ -69,10 +69,15 @@ const CODES: &[(&str, &[u8], Answer)] = &[
     ),
 ];
 
-fn code_runs_as(alloc: Global, code: &[u8], answer: Answer) -> Result<bool, NoMemory> {
+fn shop_of(alloc: Global, code: &[u8]) -> Result<Vec<u8>, NoMemory> {
     let mut file = BEFORE.to_vec(alloc)?;
     file.extend_from_slice(code)?;
     file.extend_from_slice(BEHIND)?;
+    Ok(file)
+}
+
+fn code_runs_as(alloc: Global, code: &[u8], answer: Answer) -> Result<bool, NoMemory> {
+    let file = shop_of(alloc, code)?;
     let mut folder = MemFolder::new(alloc);
     folder.add("Shop.class", file.as_slice())?;
     folder.add("in.txt", b"")?;

@@ -10,6 +10,8 @@ ghost use Rattle.par_table.specs.Seen.{resolved_seen};
 
 use crate::resolved::Resolved;
 use par_lexer::list::List;
+use par_lexer::name::Name;
+use par_policy::Lockset;
 use par_resolved::NoMemory;
 use par_resolved::known::lock_set;
 use par_resolved::types::declared_types;
@@ -141,6 +143,61 @@ fn local_types(
 
 // ---- methods
 
+// What a method is called with.
+#[derive(Drop)]
+struct Shape {
+    name: Name,
+    params: List<ParamInfo>,
+    locals: List<Ty>,
+}
+
+fn shape_of(
+    alloc: Global,
+    resolved: &Resolved<'_>,
+    class: u16,
+    method: &MethodDecl,
+) -> Result<Shape, NoMemory>
+    ensures name { IfOk result (λ shape. shape.name ≡ (tree.method method.now).id.name) }
+    ensures params { IfOk result (λ shape. shape.params
+        ≡ map (info.param_info (resolved_seen resolved.now)) (tree.method method.now).params) }
+    ensures locals { IfOk result (λ shape. shape.locals
+        ≡ info.local_types (resolved_seen resolved.now).classes class (tree.method method.now)) }
+{
+    Ok(Shape {
+        name: method.id.name.copy(alloc)?,
+        params: param_infos(alloc, resolved, method.params.as_slice())?,
+        locals: local_types(alloc, resolved, class, method)?,
+    })
+}
+
+// What a method says of locks.
+#[derive(Drop)]
+struct Locking {
+    expects: Lockset,
+    opens: Lockset,
+    closes: Lockset,
+}
+
+fn locking_of(
+    alloc: Global,
+    resolved: &Resolved<'_>,
+    method: &MethodDecl,
+) -> Result<Locking, NoMemory>
+    ensures expects { IfOk result (λ locking. locking.expects
+        ≡ (info.method_info (resolved_seen resolved.now) 0 (tree.method method.now)).expects) }
+    ensures opens { IfOk result (λ locking. locking.opens
+        ≡ (info.method_info (resolved_seen resolved.now) 0 (tree.method method.now)).opens) }
+    ensures closes { IfOk result (λ locking. locking.closes
+        ≡ (info.method_info (resolved_seen resolved.now) 0 (tree.method method.now)).closes) }
+{
+    let numbers = &resolved.known.numbers;
+    Ok(Locking {
+        expects: lock_set(alloc, numbers, method.expects.as_slice())?,
+        opens: lock_set(alloc, numbers, method.opens.as_slice())?,
+        closes: lock_set(alloc, numbers, method.closes.as_slice())?,
+    })
+}
+
 // A method of the class of this number.
 fn method_info(
     alloc: Global,
@@ -152,21 +209,25 @@ fn method_info(
     ensures { IfOk result (λ made. made
         ≡ info.method_info (resolved_seen resolved.now) class (tree.method method.now)) }
 {
-    let numbers = &resolved.known.numbers;
+    let policy = resolved.may_number(alloc, method.policy.as_ref())?;
+    let effect = resolved.may_number(alloc, method.effects.get(0))?;
+    let shape = shape_of(alloc, resolved, class, method)?;
+    let locking = locking_of(alloc, resolved, method)?;
+    let throws = throw_infos(alloc, resolved, method.throws.as_slice())?;
     Ok(MethodInfo {
-        name: method.id.name.copy(alloc)?,
+        name: shape.name,
         at: method.id.at,
         nodes: nodes(method),
         is_static: method.is_static,
         result: resolved.result_of(&method.result),
-        policy: resolved.may_number(alloc, method.policy.as_ref())?,
-        params: param_infos(alloc, resolved, method.params.as_slice())?,
-        locals: local_types(alloc, resolved, class, method)?,
-        effect: resolved.may_number(alloc, method.effects.get(0))?,
-        expects: lock_set(alloc, numbers, method.expects.as_slice())?,
-        opens: lock_set(alloc, numbers, method.opens.as_slice())?,
-        closes: lock_set(alloc, numbers, method.closes.as_slice())?,
-        throws: throw_infos(alloc, resolved, method.throws.as_slice())?,
+        policy,
+        params: shape.params,
+        locals: shape.locals,
+        effect,
+        expects: locking.expects,
+        opens: locking.opens,
+        closes: locking.closes,
+        throws,
     })
 }
 
