@@ -1,7 +1,7 @@
 -- The first handler of a row, found by going from one to the next.
 use Rattle.std.proofs.Common.{◌≡◌, ℕ, zero, suc, ◌+◌, ◌<◌, ◌≤◌, Bool, true, false, List, [], ◌∷◌}
-use Rattle.std.proofs.Common.{length, drop, get_or, Option, Some, None, refl, ap, sym, ◌∙◌, arith}
-use Rattle.std.proofs.Common.{◌&&◌}
+use Rattle.std.proofs.Common.{length, drop, get_or, Some, None, refl, ap, sym, ◌∙◌, arith}
+use Rattle.std.proofs.Common.{◌&&◌, set, replicate}
 use Rattle.std.proofs.lemmas.List.{drop_all}
 use Rattle.par_class.specs.declared.file.Catch.{Catch}
 use Rattle.par_steps.specs.Handlers.{first_handler}
@@ -48,8 +48,19 @@ pub not-last : (a b : Bool) → b ≡ false → (a && b) ≡ false
 not-last true b other = other
 not-last false b other = refl
 
--- the class that is refused is another one now
-pub refused-anew : (takes : ℕ → Bool) (refused : Option ℕ) (class : ℕ) → refused ≡ Some class
-    → takes class ≡ false → (named : ℕ) → refused ≡ Some named → takes named ≡ false
-refused-anew takes refused class is none named e =
-    let same : class ≡ named = cc (is, e) in ap takes (sym same) ∙ none
+-- a place that is marked now is the one that refuses, or it was marked before
+pub marked-anew : (takes : ℕ → Bool) (marks : List Bool) (class : ℕ) → takes class ≡ false
+    → ((named : ℕ) → get_or marks named false ≡ true → takes named ≡ false)
+    → (named : ℕ) → get_or (set marks class true) named false ≡ true → takes named ≡ false
+marked-anew takes [] class refuses before named e = before named e
+marked-anew takes (m ∷ marks) zero refuses before zero e = refuses
+marked-anew takes (m ∷ marks) zero refuses before (suc named) e = before (suc named) e
+marked-anew takes (m ∷ marks) (suc class) refuses before zero e = before zero e
+marked-anew takes (m ∷ marks) (suc class) refuses before (suc named) e =
+    marked-anew (λ n. takes (suc n)) marks class refuses (λ n. before (suc n)) named e
+
+-- no place is marked at first
+pub unmarked : (many place : ℕ) → get_or (replicate many false) place false ≡ false
+unmarked zero place = refl
+unmarked (suc many) zero = refl
+unmarked (suc many) (suc place) = unmarked many place

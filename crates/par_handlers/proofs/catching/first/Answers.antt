@@ -1,8 +1,8 @@
-use Rattle.std.proofs.Common.{refl, sym, ◌∙◌, arith}
+use Rattle.std.proofs.Common.{◌≡◌, ℕ, List, Bool, true, false, get_or, refl, sym, ap, ◌∙◌, arith}
 use Rattle.par_class.specs.declared.file.Catch.{Catch}
 use Rattle.par_handlers.specs.Standing.{class_takes}
 use Rattle.par_handlers.proofs.First.{passed, found, over, both, not-first, not-last}
-use Rattle.par_handlers.proofs.First.{refused-anew}
+use Rattle.par_handlers.proofs.First.{marked-anew}
 use Rattle.par_handlers.proofs.catching.first.Goals as goal
 use Rattle.par_handlers.proofs.catching.first.Goals.{else-covers}
 use Rattle.par_handlers.proofs.catching.first.Goals.{then-covers+then-not-is_refused+else-is_class_taken}
@@ -12,8 +12,13 @@ use Rattle.par_handlers.proofs.catching.first.Goals.{else-covers-via-else-covers
 none : Catch
 none = record { start = 0; end = 0; handler = 0; class = 0 }
 
+-- marks that are the same
+kept : {marks now : List Bool} (named : ℕ) → now ≡ marks → get_or now named false ≡ true
+    → get_or marks named false ≡ true
+kept named same e = ap (λ (ms : List Bool). get_or ms named false) (sym same) ∙ e
+
 pub loop-catch-init : goal.loop-catch-init
-loop-catch-init c = record { passed = λ method. refl; refuses = λ named e. absurd (cc e) }
+loop-catch-init c = record { passed = λ method. refl; refuses = c.requires }
 
 pub returns-then-is_class_taken : goal.returns-then-is_class_taken
 unfolding none
@@ -37,8 +42,10 @@ loop-catch-preserved c =
                 before.passed method
                 ∙ passed _ c.args.catches.now i none c.loop-catch-test.true
                 (not-last _ _ refuses);
-            refuses = refused-anew (class_takes c.args.linked.now c.args.thrown c.args.class) _ _
-                w.refused-is refuses;
+            refuses = λ named e.
+                marked-anew (class_takes c.args.linked.now c.args.thrown c.args.class) _ _ refuses
+                before.refuses named
+                (kept named (w.refused-is ∙ w.refuse.ensures) e);
           }
       | else-covers w ↦
           elim w.else-covers.branch [
@@ -48,8 +55,9 @@ loop-catch-preserved c =
                       before.passed method
                       ∙ passed _ c.args.catches.now i none c.loop-catch-test.true
                       (not-last _ _
-                      (before.refuses _ (v.is_refused.ensures v.if-not-is_refused.false)));
-                  refuses = λ named e. before.refuses named (sym w.refused-is ∙ e);
+                      (before.refuses _
+                      (sym v.is_refused.ensures ∙ v.if-not-is_refused.false)));
+                  refuses = λ named e. before.refuses named (kept named w.refused-is e);
                 }
             | else-covers-via-else-covers v ↦
                 record {
@@ -58,7 +66,7 @@ loop-catch-preserved c =
                       ∙ passed _ c.args.catches.now i none c.loop-catch-test.true
                       (not-first _ _ (sym (c.covers.ensures c.args.class method)
                       ∙ v.if-covers.false));
-                  refuses = λ named e. before.refuses named (sym w.refused-is ∙ e);
+                  refuses = λ named e. before.refuses named (kept named w.refused-is e);
                 }
           ]
     ]
