@@ -10,9 +10,10 @@ too, of 65,536, of 131,072 and of 262,144 bytes at most:
     locals    methods of 2,000 nodes and 200 locals
 
 Printed are the kind, the bytes, the answer, the processor seconds, the wall seconds and the most
-memory; how many times the machine instructions of the source of half the bytes, where valgrind is
-there; the same of javac, its seconds less those that it takes for an empty class; and what part the
-one is of the other.
+memory; how many times the machine instructions of the source before, and how many times its bytes,
+where valgrind is there (classes and methods are whole, so these are seldom twice as many); the same
+of javac, its seconds less those that it takes for an empty class; and what part the one is of the
+other.
 """
 import os
 import shutil
@@ -46,19 +47,26 @@ def beside(source, start, seconds, most):
     return f"; javac {theirs:.2f} s, {wall:.2f} s of wall, {their_most} MB: {parts}"
 
 
+def grown(before, source, counted):
+    """How the instructions and the bytes grew since the source before, as the end of a line."""
+    if not before or not counted:
+        return ""
+    return f"{growth(before[1], counted)} for {len(source) / before[0]:.2f} times the bytes"
+
+
 def timed(paragonc, kind, source, start, before):
-    """Prints a line, and gives the instructions where they are counted."""
+    """Prints a line, and gives the bytes and the instructions where these are counted."""
     with tempfile.TemporaryDirectory() as folder:
         written(folder, "long.par", source)
         words = [paragonc, "long.par"]
         told, seconds, wall, most = quickest(words, folder)
         counted = instructions(words, folder)
     line = f"{kind}: {len(source)} bytes, {told}, {seconds:.3f} s, {wall:.3f} s of wall, {most} MB"
-    line += growth(before, counted)
+    line += grown(before, source, counted)
     if start:
         line += beside(source, start, seconds, most)
     print(line, flush=True)
-    return counted
+    return counted and (len(source), counted)
 
 
 def tried(paragonc, kinds):

@@ -1,7 +1,8 @@
 -- How files change where class files are written one after another.
 use Rattle.std.proofs.Common.{◌≡◌, ◌≢◌, ℕ, zero, suc, ◌+◌, ◌<◌, Bool, false, List, [], ◌∷◌, ◌++◌}
 use Rattle.std.proofs.Common.{length, map, take, drop, get_or, Option, Some, None, Result, Ok, Err}
-use Rattle.std.proofs.Common.{inl, inr, refl, sym, ap, subst, ◌∙◌, arith}
+use Rattle.std.proofs.Common.{String, Global, string_bytes, inl, inr, refl, sym, ap, subst, ◌∙◌}
+use Rattle.std.proofs.Common.{arith}
 use Rattle.std.specs.Prelude.{IsTrue, IfErr, codes}
 use Rattle.std.specs.Result.{IsErrAnd}
 use Rattle.std.specs.List.{AllByRecursion, IsDistinct}
@@ -16,8 +17,7 @@ use Rattle.par_io.specs.Causes.{FolderCounts, Makes, NoneFalls, Rose, Files, Tol
 use Rattle.par_io.specs.Causes.{StandBut, raised, raised_by}
 use Rattle.par_loader.specs.Reads.{Text, class_file}
 use Rattle.par_compile.specs.declared.compiled.CompiledClass.{CompiledClass}
-use Rattle.par_class_writer.specs.Written.{SetsBut, WritesAtMost, MayAskNext, IsWritten}
-use Rattle.par_class_writer.specs.Written.{IsUnwritten, IsCutOff}
+use Rattle.par_class_writer.specs.Written.{SetsBut, IsWritten, IsUnwritten, IsCutOff}
 
 abbrev Change : Type 1
 Change = Files → Files → Type 0
@@ -114,16 +114,25 @@ module _ (next : CompiledClass) (old mid new : Files) where
     others = λ name other touched. stand name touched.0 ∙ sets.others name other tt;
   }
 
--- ---- the loop
+-- ---- the names of the files
 
--- more calls behind others
-raised_sum : (more first count : ℕ)
-    → raised_by more (raised_by first count) ≡ raised_by (more + first) count
-raised_sum zero first count =
-    let e : first ≡ zero + first = omega arith in ap (λ n. raised_by n count) e
-raised_sum (suc more) first count =
-    let e : suc (more + first) ≡ suc more + first = omega arith in
-    ap raised (raised_sum more first count) ∙ ap (λ n. raised_by n count) e
+abbrev file_of : CompiledClass → Text
+file_of c = class_file c.name
+
+-- each class has its name at its place
+pub name_there : (names : List (String Global)) (classes : List CompiledClass)
+    → map string_bytes names ≡ map file_of classes → (i : ℕ) → i < length classes
+    → (name : String Global) (c : CompiledClass)
+    → string_bytes (get_or names i name) ≡ class_file (get_or classes i c).name
+name_there [] [] named i within name c = absurd (omega (arith, within))
+name_there [] (c ∷ cs) named i within name d = cc
+name_there (n ∷ ns) [] named i within name c = cc
+name_there (n ∷ ns) (c ∷ cs) named zero within name d = cc
+name_there (n ∷ ns) (c ∷ cs) named (suc i) within name d =
+    let behind : map string_bytes ns ≡ map file_of cs = cc in
+    name_there ns cs behind i (omega (arith, within)) name d
+
+-- ---- the loop
 
 none_set : (old : Option Files) → ToldBoth old old (SetsBut [] [])
 none_set None = tt
@@ -194,18 +203,6 @@ module _ (classes : List CompiledClass) (i : ℕ) (c : CompiledClass) (within : 
         subst (λ (cs : List CompiledClass). IsUnderWay alone cs old new before after)
         (sym taken) more
 
-    may_ask : WritesAtMost 1 between after → MayAskNext (length (take i classes)) before after
-    may_ask h = record {
-      written = h.written + length (take i classes);
-      least = omega arith;
-      most = (let one = h.few in omega (arith, one));
-      makes = (
-        h.makes.0 ∙ under.makes.0,
-        h.makes.1 ∙ ap (raised_by h.written) under.makes.1
-            ∙ raised_sum h.written (length (take i classes)) before.writes,
-      );
-    }
-
     rose_so : Rose between.faults after.faults → Rose before.faults after.faults
     rose_so (inl more) = let a = under.falls.0 in inl (omega (arith, a, more))
     rose_so (inr last) = inr last
@@ -229,7 +226,7 @@ module _ (classes : List CompiledClass) (i : ℕ) (c : CompiledClass) (within : 
       counts_more unwritten.1,
       rose_so unwritten.2,
     )
-    cut_there WriteFail.Memory unwritten = (
+    cut_there WriteFail.Memory unwritten = inr (
       record {
         first = take i classes;
         next = c;
@@ -239,5 +236,5 @@ module _ (classes : List CompiledClass) (i : ℕ) (c : CompiledClass) (within : 
             subst (λ (fs : Option Files). ToldBoth old fs (SetsBut (take i classes) []))
             (sym unwritten.0) under.sets;
       },
-      may_ask unwritten.1,
+      counts_more unwritten.1,
     )

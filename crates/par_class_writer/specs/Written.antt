@@ -1,5 +1,5 @@
 -- What of the files is changed where class files are written.
-use Rattle.std.specs.Prelude.{◌≡◌, ◌≢◌, ℕ, ◌+◌, ◌≤◌, List, [], ◌∷◌, ◌++◌, length, Option, Some}
+use Rattle.std.specs.Prelude.{◌≡◌, ◌≢◌, ℕ, ◌+◌, ◌⊎◌, List, [], ◌∷◌, ◌++◌, length, Option, Some}
 use Rattle.std.specs.List.{AllByRecursion}
 use Rattle.par_io.specs.declared.outside.WriteFail.{WriteFail}
 use Rattle.par_io.specs.Causes.{FolderCounts, Makes, Rose, Files, ToldBoth, Sets, StandBut}
@@ -14,19 +14,6 @@ pub record SetsBut (classes : List CompiledClass) (touched : List Text) (old new
   pub others : (name : Text) → AllByRecursion (λ c. name ≢ class_file c.name) classes
       → AllByRecursion (λ t. name ≢ t) touched → new name ≡ old name
 
--- At most so many writes were made, and no read.
-pub record WritesAtMost (writes : ℕ) (before after : FolderCounts) : Type 0 where
-  pub written : ℕ
-  pub few : written ≤ writes
-  pub makes : Makes 0 written before after
-
--- So many writes were made, and no read; the next write may have been asked for too.
-pub record MayAskNext (writes : ℕ) (before after : FolderCounts) : Type 0 where
-  pub written : ℕ
-  pub least : writes ≤ written
-  pub most : written ≤ writes + 1
-  pub makes : Makes 0 written before after
-
 -- ---- one class
 
 module _ (class : CompiledClass) (old new : Option Files) (before after : FolderCounts) where
@@ -34,12 +21,12 @@ module _ (class : CompiledClass) (old new : Option Files) (before after : Folder
   IsWritten =
       ToldBoth old new (Sets (class_file class.name) class.bytes) × Makes 0 1 before after
 
-  -- the write failed, and all other files stand; or memory was wanting, and all files stand
+  -- the write failed, and all other files stand; or it wanted memory, and all files stand
   abbrev pub IsUnwritten : WriteFail → Type 0
   IsUnwritten WriteFail.Failed =
       ToldBoth old new (StandBut (class_file class.name)) × Makes 0 1 before after
       × Rose before.faults after.faults
-  IsUnwritten WriteFail.Memory = (new ≡ old) × WritesAtMost 1 before after
+  IsUnwritten WriteFail.Memory = (new ≡ old) × Makes 0 1 before after
 
 -- ---- some classes
 
@@ -54,7 +41,8 @@ module _ (classes : List CompiledClass) (old new : Option Files) where
     pub place_is : place ≡ length first
     pub sets : ToldBoth old new (SetsBut first (class_file next.name ∷ []))
 
-  -- Memory was wanting for the class behind these: they are whole, and all files but theirs stand.
+  -- The write of the class behind these wanted memory: they are whole, and all files but theirs
+  -- stand.
   pub record StopsBehind : Type 0 where
     pub first : List CompiledClass
     pub next : CompiledClass
@@ -66,9 +54,12 @@ module _ (classes : List CompiledClass) (old new : Option Files) where
     abbrev pub AreWritten : Type 0
     AreWritten = ToldBoth old new (SetsBut classes []) × Makes 0 (length classes) before after
 
+    -- Where memory was wanting, no write was asked for, and all files stand; or the write that was
+    -- asked for last wanted it, and all before it are done. So nothing is made between two writes.
     abbrev pub IsCutOff : WriteFail → Type 0
     IsCutOff WriteFail.Failed =
         (place : ℕ) × FailsAt place × Makes 0 (place + 1) before after
         × Rose before.faults after.faults
     IsCutOff WriteFail.Memory =
-        (stops : StopsBehind) × MayAskNext (length stops.first) before after
+        (new ≡ old) × Makes 0 0 before after
+        ⊎ (stops : StopsBehind) × Makes 0 (length stops.first + 1) before after

@@ -1,8 +1,8 @@
 -- What is compiled from an accepted source are its class files, whose runs show the source's and
 -- are secure.
 use Rattle.std.proofs.Common.{◌≡◌, ℕ, zero, suc, ◌+◌, ◌≤◌, Bool, List, [], ◌∷◌, length, map, drop}
-use Rattle.std.proofs.Common.{Option, Some, None, slice_get, refl, sym, ap, ap₂, subst, ◌∙◌, inr}
-use Rattle.std.proofs.Common.{arith}
+use Rattle.std.proofs.Common.{Option, Some, None, slice_get, refl, sym, ap, ap₂, subst, ◌∙◌}
+use Rattle.std.proofs.Common.{inl, inr, arith}
 use Rattle.std.specs.List.{AllByRecursion, AllZip, IsDistinct}
 use Rattle.std.specs.Str.{bytes_eq}
 use Rattle.std.specs.Option.{option_map}
@@ -362,23 +362,21 @@ module _ (files mid later : Option Files) (before between after : FolderCounts) 
         (typed, classes, are, fails, read),
       )
 
-  -- memory was wanting
+  -- memory was wanting, for the names of the files or for a write
   pub cut_short : length classes ≤ MOST_FILES
       → IsCutOff classes mid later between after WriteFail.Memory
       → IsCutShort files later before after file × MakesAtMost 1 MOST_FILES before after
-  cut_short few cut =
+  cut_short few (inl none) = (
+    inl (none.0 ∙ kept, read_and_writes 0 before between after one none.1),
+    read_and_few 0 before between after (omega arith) one none.1,
+  )
+  cut_short few (inr cut) =
       let stops : StopsThere files later before after file classes =
-      subst (λ (fs : Option Files). StopsThere fs later before after file classes) kept (
-        cut.0,
-        cut.1.written,
-        cut.1.least,
-        cut.1.most,
-        read_and_writes cut.1.written before between after one cut.1.makes,
-      ) in
+      subst (λ (fs : Option Files). StopsThere fs later before after file classes) kept
+      (cut.0, read_and_writes (length cut.0.first + 1) before between after one cut.1) in
       let many = ap length cut.0.among in
-      let parts = length-append cut.0.first (cut.0.next ∷ cut.0.rest) in
-      let most = cut.1.most in (
+      let parts = length-append cut.0.first (cut.0.next ∷ cut.0.rest) in (
         inr (typed, classes, are, stops, read),
-        read_and_few cut.1.written before between after
-            (omega (arith, few, many, parts, most)) one cut.1.makes,
+        read_and_few (length cut.0.first + 1) before between after
+            (omega (arith, few, many, parts)) one cut.1,
       )

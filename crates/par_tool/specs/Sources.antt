@@ -177,15 +177,14 @@ module _ (files later : Option Files) (before after : FolderCounts) (file : Text
   CompiledSo answer =
       (later ≡ files) × Makes 1 0 before after × Rejected files before after file answer
 
--- What is left of a compilation where memory was wanting: the files stand, and none was written; or
--- the first of the class files are whole, and all other files stand.
+-- What is left of a compilation where memory was wanting: the files stand, and no write was asked
+-- for; or the first of the class files are whole, all other files stand, and the write that was
+-- asked for last, that of the class behind them, wanted it: no class file is made behind a write.
 module _ (files later : Option Files) (before after : FolderCounts) (file : Text) where
-  -- as many were written as are whole, and the next one may have been asked for
+  -- one write was asked for behind those of the files that are whole
   abbrev pub StopsThere : List CompiledClass → Type 0
   StopsThere classes =
-      (stops : StopsBehind classes files later) × (written : ℕ)
-      × (length stops.first ≤ written) × (written ≤ length stops.first + 1)
-      × Makes 1 written before after
+      (stops : StopsBehind classes files later) × Makes 1 (length stops.first + 1) before after
 
   abbrev pub IsCutShort : Type 0
   IsCutShort = (later ≡ files) × Makes 1 0 before after ⊎ ReadCompiled files file StopsThere
