@@ -6,7 +6,7 @@ PARAGONC and PARAGON are the paths of the built programs. The words choose rows 
 name. Each row of the table has the bytes of the source or of the class files, the last line that is
 put, the processor seconds and the most memory in MB, and how many times the seconds are those of
 half the size. A row is bold that takes more than 5 s or 512 MB, and a run is ended after 600 s of a
-processor.
+processor, and is given no more than 4 GB.
 """
 import os
 import resource
@@ -17,11 +17,12 @@ import tempfile
 from worst_files import FILES
 from worst_sources import SOURCES
 
-MOST_BYTES, MOST_SECONDS, MOST_MEMORY, PATIENCE = 262144, 5, 512, 600
+MOST_BYTES, MOST_SECONDS, MOST_MEMORY, PATIENCE, ROOM = 262144, 5, 512, 600, 4 << 30
 
 
 def patient():
     resource.setrlimit(resource.RLIMIT_CPU, (PATIENCE, PATIENCE))
+    resource.setrlimit(resource.RLIMIT_AS, (ROOM, ROOM))
 
 
 def run(words, folder):

@@ -12,6 +12,7 @@ import many_classes
 
 LONGEST = 1048576
 RUN = ["Long", "in.txt", "100000"]
+VERIFY = ["--verify", "Long"]
 
 
 def file_of(entries, methods):
@@ -69,14 +70,49 @@ def objects_handed_on(part):
     loop = b"".join(bytes([0x19, n, 0x3a, n + 1]) for n in reversed(range(251)))
     loop += b"\x03\x57" * ((32000 - len(loop)) // 2) + b"\xbb\0\x09\x3a\0"
     code += loop + b"\xa7" + struct.pack(">h", -len(loop)) + b"\xb1"
-    return of_code(code, 1, 252, int(30 * part), other), ["--verify", "Long"]
+    return of_code(code, 1, 252, int(30 * part), other), VERIFY
+
+
+def nested_loops(part):
+    """Loops 5,300 deep, each of which goes back once, with 255 locals."""
+    code = b"".join(b"\x01\x3a" + bytes([n]) for n in range(255))
+    heads = range(len(code), len(code) + 2 * 5300, 2)
+    code += b"\x03\x57" * len(heads) + b"\xbb\0\x02\x3a\0"
+    for head in reversed(heads):
+        code += b"\x03"
+        code += b"\x99" + struct.pack(">h", head - len(code))
+    return of_code(code + b"\xb1", 1, 255, int(30 * part)), VERIFY
+
+
+def operands_on_operands(part):
+    """Methods that push 65,534 operands."""
+    return of_code(b"\x01" * 65534 + b"\xb1", 65534, 0, int(15 * part)), VERIFY
+
+
+def frames_told(part):
+    """Frames that are told of every second offset, each with all locals of the first one."""
+    many = int(30000 * part)
+    table = struct.pack(">HBHH", many, 255, 2, many) + b"\0" * (many + 2) + b"\1" * (many - 1)
+    body = struct.pack(">HHI", 1, many, 2 * many + 1) + b"\x03\x57" * many + b"\xb1\0\0"
+    body += b"\0\1" + struct.pack(">HI", 8, len(table)) + table
+    method = struct.pack(">HHHHHI", 0x0009, 6, 7, 1, 5, len(body)) + body
+    file = file_of([long_class.utf8("StackMapTable")], [method])
+    return {"Long": file[:6] + b"\0\x33" + file[8:]}, VERIFY
+
+
+def handlers_around(part):
+    """Handlers around all code of a method, as many as code has bytes."""
+    many = int(65535 * part)
+    code = b"\x03\x57" * ((many - 3) // 2) + b"\xb1"
+    handlers = struct.pack(">HHHH", 0, len(code), len(code), 0) * many
+    return {"Long": file_of([], [main(code + b"\x57\xb1", 1, 255, handlers)])}, VERIFY
 
 
 def throws_past(part, named):
     """A loop that divides by zero before handlers that take another class, but for the last."""
     many = int(65000 * part)
     code = b"\x04\x03\x6c\x57\xa7\xff\xfc\x57\xa7\xff\xf8\xb1"
-    other = [long_class.utf8("java/lang/NullPointerException"), b"\x07\0\x08", b"\x07\0\x08"]
+    other = [long_class.utf8("java/lang/NullPointerException"), *[b"\x07\0\x08"] * 500]
     passed = b"".join(struct.pack(">HHHH", 0, 3, 7, it) for it in named) * (many // len(named))
     handlers = passed + struct.pack(">HHHH", 0, 3, 7, 0)
     return {"Long": file_of(other, [main(code, 2, 0, handlers)])}, RUN
@@ -88,6 +124,10 @@ def throws_past_handlers(part):
 
 def throws_past_two_names(part):
     return throws_past(part, [9, 10])
+
+
+def throws_past_names(part):
+    return throws_past(part, range(9, 9 + 500))
 
 
 def calls_with_locals(part):
@@ -106,7 +146,12 @@ FILES = {
     "128 files that name each other's members": files_that_name_each_other,
     "methods of 65,535 bytes of code": long_code,
     "252 locals that hand on objects, verified": objects_handed_on,
+    "loops 5,300 deep with 255 locals, verified": nested_loops,
+    "65,534 operands on one another, verified": operands_on_operands,
+    "30,000 frames of 30,000 locals that are told, verified": frames_told,
+    "65,535 handlers around all code, verified": handlers_around,
     "100,000 steps that throw past 65,000 handlers": throws_past_handlers,
     "the same, which name two constants by turns": throws_past_two_names,
+    "the same, which name 500 constants by turns": throws_past_names,
     "400 calls with 65,535 locals each": calls_with_locals,
 }

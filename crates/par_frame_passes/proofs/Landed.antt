@@ -42,7 +42,7 @@ some-there : {A : Type 0} (o : Option A) → is_some o ≡ true → (x : A) × (
 some-there None is = absurd (cc is)
 some-there (Some x) is = (x, refl)
 
-frame-same : (exc : List Name) (k : KFrame) → FrameInto exc k k
+pub frame-same : (exc : List Name) (k : KFrame) → FrameInto exc k k
 frame-same exc k = record { locals = below-same exc k.locals; stack = below-same exc k.stack }
 
 merged-many : (exc : List Name) (ks ls : List VKind) → length ks ≡ length ls

@@ -1,3 +1,4 @@
 pub mod Methods
 pub mod Sweeps
 pub mod Tables
+pub mod Telling

@@ -1,6 +1,6 @@
 //! The offsets to which code goes back: only their frames are needed twice.
 
-ghost use Rattle.std.specs.Prelude.{◌≤◌, length};
+ghost use Rattle.std.specs.Prelude.{◌≡◌, ◌≤◌, true, false, length, slice_set, slice_index_or};
 ghost use Rattle.par_frame_passes.specs.Methods.{code_in};
 
 use crate::method::Method;
@@ -10,14 +10,18 @@ use par_starts::distance;
 use std::alloc::Global;
 
 /// Marks an offset, if it is one of those that are told apart.
-pub(crate) fn mark(marks: &mut [bool], at: usize) {
+pub(crate) fn mark(marks: &mut [bool], at: usize)
+    ensures { marks.new ≡ slice_set marks.old at true }
+{
     if at < marks.len() {
         marks[at] = true;
     }
 }
 
 /// Whether an offset is marked.
-pub(crate) fn is_marked(marks: &[bool], at: usize) -> bool {
+pub(crate) fn is_marked(marks: &[bool], at: usize) -> bool
+    ensures { result ≡ slice_index_or marks.now at false }
+{
     match marks.get(at) {
         Some(mark) => *mark,
         None => false,

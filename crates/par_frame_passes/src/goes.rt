@@ -123,7 +123,7 @@ pub(crate) fn go_to_handlers<'f>(
 }
 
 /// Whether a handler is around an offset.
-fn is_around(at: u32, catch: &Catch) -> bool
+pub(crate) fn is_around(at: u32, catch: &Catch) -> bool
     ensures { result ≡ around at catch.now }
 {
     u32::from(catch.start) <= at && at < u32::from(catch.end)

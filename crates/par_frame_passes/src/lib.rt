@@ -8,12 +8,17 @@
 
 mod back;
 mod course;
+mod effect;
 mod goes;
+mod guess;
 mod landing;
 mod leaving;
 mod method;
 mod passing;
+mod piece;
+mod places;
 mod table;
+mod telling;
 mod visiting;
 
 pub use method::Method;

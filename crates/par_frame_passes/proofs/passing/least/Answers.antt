@@ -2,10 +2,10 @@ use Rattle.std.proofs.Common.{ap, arith}
 use Rattle.par_frame_passes.specs.Methods.{exc_of, act_in, handler_in, code_in}
 use Rattle.par_frame_passes.specs.Tables.{table_of}
 use Rattle.par_frame_passes.proofs.Visits.{swept-none, swept-all, gone-anew, gone-calm, gone-back}
-use Rattle.par_frame_passes.proofs.passing.passes.Goals as goal
-use Rattle.par_frame_passes.proofs.passing.passes.Goals.{then-at-len+else-not-again}
-use Rattle.par_frame_passes.proofs.passing.passes.Goals.{else-at-len+in_ok-visit+in-Calm}
-use Rattle.par_frame_passes.proofs.passing.passes.Goals.{else-at-len+in_ok-visit+in-Rises}
+use Rattle.par_frame_passes.proofs.passing.least.Goals as goal
+use Rattle.par_frame_passes.proofs.passing.least.Goals.{then-at-len+else-not-again}
+use Rattle.par_frame_passes.proofs.passing.least.Goals.{else-at-len+in_ok-visit+in-Calm}
+use Rattle.par_frame_passes.proofs.passing.least.Goals.{else-at-len+in_ok-visit+in-Rises}
 
 pub loop-step-init : goal.loop-step-init
 loop-step-init c =

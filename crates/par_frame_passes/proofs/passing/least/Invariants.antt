@@ -1,10 +1,9 @@
-use Rattle.std.proofs.Common.{◌≡◌, false, Some}
-use Rattle.par_frame_moves.specs.par_kinds.Kinds.{KFrame}
+use Rattle.std.proofs.Common.{◌≡◌, false}
 use Rattle.par_frame_moves.specs.par_kinds.Fits.{Given}
 use Rattle.par_frame_passes.specs.Methods.{exc_of, act_in, handler_in, code_in, IsToldOf}
 use Rattle.par_frame_passes.specs.Sweeps.{Kept, Swept}
 use Rattle.par_frame_passes.specs.Tables.{table_of}
-use Rattle.par_frame_passes.proofs.passing.passes.Given as goal
+use Rattle.par_frame_passes.proofs.passing.least.Given as goal
 
 -- the table is kept, and where nothing rose on this way so far it was gone through
 abbrev pub invariant-loop-step : goal.invariant-loop-step

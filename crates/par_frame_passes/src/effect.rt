@@ -1,0 +1,107 @@
+//! What straight code makes of any frame: which places it sets, and to what.
+
+use par_frame_steps::act::Leaves;
+use par_frame_steps::{Act, PlaceKind};
+use par_lexer::list::NoMemory;
+use std::alloc::Global;
+
+/// What a place holds behind the code.
+#[derive(Clone, Copy)]
+pub(crate) enum Held<'f> {
+    Kind(PlaceKind<'f>),
+    /// What a local held before it.
+    Local(u8),
+    /// What an operand held before it, 0 for the one that was pushed last.
+    Operand(usize),
+}
+
+/// A local that is set.
+#[derive(Clone, Copy)]
+pub(crate) struct Change<'f> {
+    pub(crate) local: u8,
+    pub(crate) to: Held<'f>,
+}
+
+/// What code makes of a frame.
+#[derive(Drop)]
+pub(crate) struct Effect<'f> {
+    pub(crate) changes: Vec<Change<'f>>,
+    /// How many operands it takes of those that were there.
+    pub(crate) taken: usize,
+    /// What it pushes then, the last at the end.
+    pub(crate) pushed: Vec<Held<'f>>,
+}
+
+impl<'f> Effect<'f> {
+    /// That of no code.
+    pub(crate) fn of_nothing(alloc: Global) -> Effect<'f> {
+        Effect {
+            changes: Vec::new(alloc),
+            taken: 0,
+            pushed: Vec::new(alloc),
+        }
+    }
+
+    /// What a local holds behind the code so far.
+    fn local(&self, local: u8) -> Held<'f> {
+        for change in self.changes.as_slice() {
+            if change.local == local {
+                return change.to;
+            }
+        }
+        Held::Local(local)
+    }
+
+    /// Sets a local.
+    fn set(&mut self, local: u8, to: Held<'f>) -> Result<(), NoMemory> {
+        for change in self.changes.as_mut_slice() {
+            if change.local == local {
+                change.to = to;
+                return Ok(());
+            }
+        }
+        self.changes.push(Change { local, to })?;
+        Ok(())
+    }
+
+    /// Takes an operand.
+    fn pop(&mut self) -> Held<'f> {
+        if let Some(held) = self.pushed.pop() {
+            return held;
+        }
+        let place = self.taken;
+        self.taken = self.taken.saturating_add(1);
+        Held::Operand(place)
+    }
+
+    /// Takes so many operands, and gives the first of them.
+    fn pop_all(&mut self, many: usize) -> Held<'f> {
+        if many == 0 {
+            return Held::Kind(PlaceKind::Top);
+        }
+        let first = self.pop();
+        for _other in 1..many {
+            self.pop();
+        }
+        first
+    }
+
+    /// Goes on by an instruction.
+    pub(crate) fn follow(&mut self, act: &Act<'f>) -> Result<(), NoMemory> {
+        let top = self.pop_all(act.takes.len());
+        match act.leaves {
+            Leaves::Gives(Some(kind)) => self.pushed.push(Held::Kind(kind))?,
+            Leaves::Gives(None) => {}
+            Leaves::Loads(x) => {
+                let held = self.local(x);
+                self.pushed.push(held)?;
+            }
+            Leaves::Copies => {
+                self.pushed.push(top)?;
+                self.pushed.push(top)?;
+            }
+            Leaves::Stores(x) => self.set(x, top)?,
+        }
+        Ok(())
+    }
+}
