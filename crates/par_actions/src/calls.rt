@@ -23,7 +23,7 @@ use crate::callee::{Callee, Target};
 use crate::done::Done;
 use crate::fit::{Fit, accepts};
 use crate::leaving::is_exception;
-use par_lexer::list::NoMemory;
+use par_base::memory::NoMemory;
 use par_lines::Lines;
 use par_stack::{Point, Stack};
 use par_values::value::MVal;

@@ -10,8 +10,8 @@ ghost use Rattle.par_actions.specs.Done.{IsAt, Keeps, is_still};
 ghost use Rattle.par_actions.specs.Objects.{AreShown, IsClass, Creates};
 
 use crate::done::Done;
+use par_base::memory::NoMemory;
 use par_heap::Heap;
-use par_lexer::list::NoMemory;
 use par_stack::Stack;
 use par_values::value::MVal;
 

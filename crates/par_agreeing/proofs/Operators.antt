@@ -1,8 +1,8 @@
 -- What operators mean is what their code does.
 use Rattle.std.proofs.Common.{◌≡◌, ℕ, ◌+◌, Bool, true, false, not, refl}
 use Rattle.std.specs.Prelude.{ℤ, pos}
-use Rattle.par_lexer.specs.declared.operator.BinOp.{BinOp}
-use Rattle.par_lexer.specs.declared.operator.BinOp.TheVariants as bin
+use Rattle.par_matching.specs.par_completes.par_lexer.declared.operator.BinOp.{BinOp}
+use Rattle.par_matching.specs.par_completes.par_lexer.declared.operator.BinOp.TheVariants as bin
 use Rattle.par_runs.specs.par_values.declared.link.Link.TheVariants as link
 use Rattle.par_runs.specs.par_values.declared.value.MVal.{MVal}
 use Rattle.par_runs.specs.par_values.declared.value.MVal.TheVariants as value

@@ -5,7 +5,7 @@ ghost use Rattle.par_runs.specs.par_secrecy.Shown.{Alike, sees};
 ghost use Rattle.par_alike.specs.Subject.{policy_at, subject};
 ghost use Rattle.par_alike.specs.Tests.{observer, class_tests, channel_test};
 
-use par_lexer::name::Name;
+use par_base::name::Name;
 use par_policy::{Lockset, sees};
 use par_typed::program::Typed;
 use par_typed::table::{ChannelInfo, ClassInfo, Table};

@@ -1,6 +1,6 @@
 -- How many nodes each form of a typed expression has.
 use Rattle.std.proofs.Common.{◌≡◌, ℕ, ℤ, ◌+◌, Bool, List, [], ◌∷◌, ◌++◌, refl, ap, arith}
-use Rattle.par_lexer.specs.declared.operator.BinOp.{BinOp}
+use Rattle.par_typed.specs.par_lexer.declared.operator.BinOp.{BinOp}
 use Rattle.par_typed.specs.declared.expr.TExpr.{TExpr}
 use Rattle.par_typed.specs.Plain.{Mark, TExp, Int, Boolean, Null, This, New, Local, Static, Field}
 use Rattle.par_typed.specs.Plain.{Input, Output, Call, Neg, Not, Binary, MayTExp, Absent, Present}

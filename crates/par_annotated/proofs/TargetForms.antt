@@ -1,6 +1,6 @@
 -- What each form of a target comes to.
 use Rattle.std.proofs.Common.{◌≡◌, ℕ, List, refl}
-use Rattle.par_lexer.specs.declared.operator.BinOp.{BinOp}
+use Rattle.par_typed.specs.par_lexer.declared.operator.BinOp.{BinOp}
 use Rattle.par_tree.specs.declared.ident.Ident.{Ident}
 use Rattle.par_tree.specs.Plain.{Exp, Int, True, False, Null, This, New, Name, Field, Call, Neg}
 use Rattle.par_tree.specs.Plain.{Not, Binary}

@@ -22,8 +22,9 @@ ghost use Rattle.par_annotate.specs.par_types.declared.exprs.TheConstants.{TOO_L
 use crate::frame::Frame;
 use crate::members::{method_receiver, name_made, own_this, selection};
 use crate::node::{Made, On, Spot, node, numbered, take_point, typed_node};
-use par_lexer::list::{List, NoMemory};
-use par_lexer::name::Name;
+use par_base::list::List;
+use par_base::memory::NoMemory;
+use par_base::name::Name;
 use par_scope::home::{Home, class_type};
 use par_scope::locals::Locals;
 use par_scope::meaning::{

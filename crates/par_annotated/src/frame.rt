@@ -5,8 +5,8 @@ ghost use Rattle.par_annotate.specs.Frames.{var_named, with_local};
 ghost use Rattle.par_annotate.specs.Bodies.{no_frame};
 ghost use Rattle.par_annotated.specs.Seen.{frame_seen, var_seen};
 
-use par_lexer::list::NoMemory;
-use par_lexer::name::Name;
+use par_base::memory::NoMemory;
+use par_base::name::Name;
 use par_scope::locals::{Locals, Slot};
 use std::alloc::Global;
 

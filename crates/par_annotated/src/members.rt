@@ -10,7 +10,7 @@ ghost use Rattle.par_annotated.specs.Seen.{marked, var_seen};
 
 use crate::frame::Var;
 use crate::node::{On, Spot, node};
-use par_lexer::list::NoMemory;
+use par_base::memory::NoMemory;
 use par_scope::home::Home;
 use par_scope::meaning::Receiver;
 use par_scope::members::{Place, field_at, method_at};

@@ -15,7 +15,7 @@ ghost use Rattle.par_annotated.specs.Targets.{target_seen};
 use crate::exprs::type_expr;
 use crate::frame::{Frame, Var};
 use crate::members::{field_is_static, own_this};
-use par_lexer::list::NoMemory;
+use par_base::memory::NoMemory;
 use par_scope::home::Home;
 use par_scope::meaning::{Receiver, receiver_of, selected};
 use par_scope::members::Place;

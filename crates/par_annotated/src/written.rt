@@ -3,7 +3,7 @@
 ghost use Rattle.std.specs.Prelude.{◌≡◌, ◌<◌, ◌^◌, length, position, IfOk};
 ghost use Rattle.par_resolved.specs.Numbered.{same_clause, same_policy, policy_number};
 
-use par_lexer::list::NoMemory;
+use par_base::memory::NoMemory;
 use par_policy::{Clause, Policy};
 use par_resolved::known::Known;
 use par_tree::policy::{LockTree, PolicyExpr};

@@ -9,7 +9,8 @@ ghost use Rattle.par_asked.specs.Seen.{own, seen_check, seen_checks, seen_condit
 ghost use Rattle.par_asked.specs.Seen.{seen_spot};
 
 use crate::check::{Check, Condition, Locks, Way};
-use par_lexer::list::{List, NoMemory};
+use par_base::list::List;
+use par_base::memory::NoMemory;
 use par_typed::table::{MethodInfo, Table};
 
 /// The table, and the method around.

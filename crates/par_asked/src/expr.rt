@@ -14,7 +14,8 @@ ghost use Rattle.par_asked.specs.Writes.{output};
 
 use crate::ask::{Home, Spot, closes, effect, expects};
 use crate::check::{Check, Condition, Way};
-use par_lexer::list::{List, NoMemory};
+use par_base::list::List;
+use par_base::memory::NoMemory;
 use par_nodes::declared;
 use par_typed::expr::{TExpr, TExprKind};
 use par_typed::table::{MethodInfo, ParamInfo};

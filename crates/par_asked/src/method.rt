@@ -11,7 +11,8 @@ ghost use Rattle.par_asked.specs.Seen.{own, seen_checks, seen_locks, table};
 
 use crate::ask::{Home, Spot};
 use crate::check::{Check, Condition, Locks, Way};
-use par_lexer::list::{List, NoMemory};
+use par_base::list::List;
+use par_base::memory::NoMemory;
 use par_nodes::rule::Kind;
 use par_typed::table::{MethodInfo, ThrowInfo};
 

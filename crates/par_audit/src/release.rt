@@ -10,8 +10,9 @@ ghost use Rattle.par_audit.specs.Release.{is_release, all_releases, AreReleases}
 
 use par_asked::body::checks_of;
 use par_asked::check::{Check, Condition};
+use par_base::list::List;
+use par_base::memory::NoMemory;
 use par_check::Accepted;
-use par_lexer::list::{List, NoMemory};
 use par_released::Releases;
 use par_typed::program::TBody;
 use par_typed::table::Table;

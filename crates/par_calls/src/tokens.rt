@@ -1,4 +1,5 @@
-use par_lexer::list::{List, NoMemory};
+use par_lexer::list::List;
+use par_lexer::memory::NoMemory;
 use par_lexer::name::Name;
 use par_lexer::token::{Kind, LexError, Token};
 use par_lexer::{lex, place_of, sign, word};

@@ -9,7 +9,7 @@ use par_pool::constant::Constant;
 use par_pool::error::ClassError;
 use par_pool::item::{taken, u2, u4};
 use par_pool::kind::{is_class, is_text};
-use par_pool::par_lexer::list::List;
+use par_pool::par_base::list::List;
 use std::alloc::Global;
 
 /// The index of a text.

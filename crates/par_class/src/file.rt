@@ -1,5 +1,5 @@
 use par_pool::constant::Pool;
-use par_pool::par_lexer::list::List;
+use par_pool::par_base::list::List;
 
 /// An attribute that is not looked into (Java Virtual Machine Specification, Java SE 7, section
 /// 4.7). The name is the index of a text.

@@ -14,7 +14,7 @@ use crate::place::place;
 use par_pool::constant::Constant;
 use par_pool::error::ClassError;
 use par_pool::item::u2;
-use par_pool::par_lexer::list::List;
+use par_pool::par_base::list::List;
 use std::alloc::Global;
 
 /// A field.

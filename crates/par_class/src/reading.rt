@@ -14,7 +14,7 @@ use crate::place::place;
 use par_pool::constant::{Constant, Pool};
 use par_pool::error::ClassError;
 use par_pool::item::{u2, u4};
-use par_pool::par_lexer::list::List;
+use par_pool::par_base::list::List;
 use par_pool::{LONGEST_CLASS, entries_of};
 use std::alloc::Global;
 

@@ -12,7 +12,7 @@ ghost use Rattle.par_class.specs.Writing.{layout_of, parts, each_method, back_wi
 use crate::file::{ClassFile, CodeAttr, MethodFile};
 use crate::writing::{put_attributes, put_code_attribute, put_each, put_each_field};
 use par_pool::constant::Constant;
-use par_pool::par_lexer::list::NoMemory;
+use par_pool::par_base::memory::NoMemory;
 use par_pool::writing::{put_pool, put_u2, put_u4};
 use std::alloc::Global;
 

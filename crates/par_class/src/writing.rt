@@ -6,7 +6,7 @@ ghost use Rattle.par_class.specs.Writing.{IsSized, SizedCode, SizedField};
 ghost use Rattle.par_class.specs.declared.file.Piece.TheVariants as pieces;
 
 use crate::file::{Attribute, Catch, CodeAttr, FieldFile};
-use par_pool::par_lexer::list::NoMemory;
+use par_pool::par_base::memory::NoMemory;
 use par_pool::writing::{put_u2, put_u4};
 use std::alloc::Global;
 

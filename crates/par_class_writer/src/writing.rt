@@ -7,9 +7,10 @@ ghost use Rattle.par_io.specs.Causes.{NoneFalls, WriteFaultsStand};
 ghost use Rattle.par_loader.specs.Reads.{class_file};
 ghost use Rattle.par_class_writer.specs.Written.{IsWritten, IsUnwritten, AreWritten, IsCutOff};
 
+use par_base::name::text_of;
 use par_compile::CompiledClass;
 use par_io::{Folder, NoMemory, WriteFail};
-use par_loader::{class_file_name, text_of};
+use par_loader::class_file_name;
 use std::alloc::Global;
 
 /// The names of the files of classes.

@@ -1,7 +1,7 @@
 -- How each form of a typed tree completes, and which breaks are inside.
 use Rattle.std.proofs.Common.{◌≡◌, ℕ, ◌+◌, ◌<◌, ◌≤◌, ℤ, Bool, true, false, not, ◌||◌, List}
 use Rattle.std.proofs.Common.{Option, length, get_or, drop, refl, ap}
-use Rattle.par_lexer.specs.declared.operator.BinOp.{BinOp}
+use Rattle.par_typed.specs.par_lexer.declared.operator.BinOp.{BinOp}
 use Rattle.par_typed.specs.Plain.{Mark, TExp, Int, Boolean, Null, This, New, Local, Static}
 use Rattle.par_typed.specs.Plain.{Field, Input, Output, Call, Neg, Not, Binary, MayTExp, TExps}
 use Rattle.par_typed.specs.Plain.{TSta, Block, If, While, Try, Return, Break, Continue, Throw, Open}

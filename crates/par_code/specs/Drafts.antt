@@ -1,6 +1,6 @@
 -- Labelled code in the making, and what a piece of code adds to it.
 use Rattle.std.specs.Prelude.{ℕ, ◌+◌, max, List, [], ◌∷◌, ◌++◌, length}
-use Rattle.par_lexer.specs.declared.operator.BinOp.{BinOp}
+use Rattle.par_typed.specs.par_lexer.declared.operator.BinOp.{BinOp}
 use Rattle.par_instr.specs.declared.instr.Instr.TheVariants.{Dup, Pop}
 use Rattle.par_typed.specs.declared.ty.Ty.{Ty}
 use Rattle.par_typed.specs.declared.ty.Ty.TheVariants as ty

@@ -9,11 +9,12 @@ ghost use Rattle.par_code.specs.Drafts.{seen};
 ghost use Rattle.par_code.specs.Statements.{jump_if, land_if, with_end};
 
 use crate::words::class_name;
+use par_base::list::List;
+use par_base::memory::NoMemory;
 use par_code_form::opcode::GOTO;
 use par_code_form::{Handler, Item, LabelFrame, Slot};
 use par_erase::Plain;
 use par_instr::Instr;
-use par_lexer::list::{List, NoMemory};
 use par_typed::ty::Ty;
 use std::alloc::Global;
 

@@ -15,11 +15,11 @@ use crate::shape::{Shape, is_number, load, shape_of};
 use crate::words::{
     class_name, field_item, initializer_item, input_item, method_item, output_item,
 };
+use par_base::memory::NoMemory;
 use par_code_form::Item;
 use par_code_form::opcode::{GETFIELD, GETSTATIC, GOTO, IFEQ, INVOKESTATIC, INVOKEVIRTUAL, NEW};
 use par_erase::{PExpr, PExprKind, Plain};
 use par_instr::Instr;
-use par_lexer::list::NoMemory;
 use par_typed::ty::Ty;
 use std::alloc::Global;
 

@@ -9,9 +9,9 @@ ghost use Rattle.par_code.specs.Codes.{code_at};
 use crate::draft::{Draft, slots};
 use crate::stmts::{Targets, put_stmt};
 use crate::ways::completes;
+use par_base::memory::NoMemory;
 use par_code_form::Labelled;
 use par_erase::{Plain, PlainMethod};
-use par_lexer::list::NoMemory;
 use par_typed::ty::Ty;
 use std::alloc::Global;
 

@@ -4,11 +4,11 @@ ghost use Rattle.std.specs.Prelude.{◌≡◌, IfOk};
 ghost use Rattle.par_code_form.specs.Code as form;
 ghost use Rattle.par_code.specs.Shapes.{made_of};
 
+use par_base::memory::NoMemory;
 use par_code_form::Item;
 use par_code_form::opcode::{IF_ACMPEQ, IF_ACMPNE, IF_ICMPEQ, IFEQ, IFNE};
 use par_instr::Instr;
-use par_lexer::list::NoMemory;
-use par_lexer::operator::BinOp;
+use par_typed::par_lexer::operator::BinOp;
 use par_typed::ty::Ty;
 
 /// How the value of an operator is made of its two parts.

@@ -20,11 +20,11 @@ use crate::exprs::{put_expr, put_new};
 use crate::shape::{give_back, store};
 use crate::ways::{completes, is_true};
 use crate::words::{class_name, field_item};
+use par_base::memory::NoMemory;
 use par_code_form::opcode::{GETSTATIC, GOTO, IFEQ, PUTFIELD, PUTSTATIC};
 use par_code_form::{Handler, Item};
 use par_erase::{PCatch, PExpr, PStmt, Plain};
 use par_instr::Instr;
-use par_lexer::list::NoMemory;
 use par_typed::ty::Ty;
 use std::alloc::Global;
 

@@ -6,11 +6,12 @@ ghost use Rattle.par_code_form.specs.Named.{words_of, class_word, descriptor, de
 ghost use Rattle.par_code_form.specs.Named.{method_descriptor};
 ghost use Rattle.par_erase.specs.Shown.{param_info, method_info, table_of, inputs_of};
 
+use par_base::list::List;
+use par_base::memory::NoMemory;
+use par_base::name::Name;
 use par_code_form::Item;
 use par_code_form::opcode::{INVOKESPECIAL, INVOKESTATIC};
 use par_erase::{Plain, PlainClass, PlainMethod};
-use par_lexer::list::{List, NoMemory};
-use par_lexer::name::Name;
 use par_typed::ty::Ty;
 use std::alloc::Global;
 

@@ -3,8 +3,8 @@
 use Rattle.std.specs.Prelude.{ℕ, ◌+◌, nat_le, pos, Bool, true, false}
 use Rattle.std.specs.Prelude.{if◌then◌else◌, List, [], ◌∷◌}
 use Rattle.std.specs.Prelude.{codes}
-use Rattle.par_values.specs.par_lexer.declared.operator.BinOp.{BinOp}
-use Rattle.par_values.specs.par_lexer.declared.operator.BinOp.TheVariants as bin
+use Rattle.par_completes.specs.par_lexer.declared.operator.BinOp.{BinOp}
+use Rattle.par_completes.specs.par_lexer.declared.operator.BinOp.TheVariants as bin
 use Rattle.par_values.specs.par_instr.declared.instr.Instr.{Instr}
 use Rattle.par_values.specs.par_instr.declared.instr.Instr.TheVariants.{AconstNull, Iload, Aload}
 use Rattle.par_values.specs.par_instr.declared.instr.Instr.TheVariants.{IloadShort}

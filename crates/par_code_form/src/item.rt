@@ -1,8 +1,8 @@
 //! The items of labelled code.
 
+use par_values::par_base::list::List;
+use par_values::par_base::name::Name;
 use par_values::par_instr::Instr;
-use par_values::par_lexer::list::List;
-use par_values::par_lexer::name::Name;
 
 /// An item of labelled code: the mark of a spot, or an instruction.
 #[derive(Drop)]

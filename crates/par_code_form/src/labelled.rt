@@ -1,8 +1,8 @@
 //! The labelled code of a method.
 
 use crate::item::Item;
-use par_values::par_lexer::list::List;
-use par_values::par_lexer::name::Name;
+use par_values::par_base::list::List;
+use par_values::par_base::name::Name;
 
 /// What is thrown between the labels `from` and `to` goes to the label `goes`, where it is of this
 /// class.

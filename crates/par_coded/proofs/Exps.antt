@@ -9,7 +9,7 @@ use Rattle.par_typed.specs.declared.table.Table.{Table}
 use Rattle.par_typed.specs.Plain.{mark, TExp, Int, Boolean, Null, This, New, Local, Static}
 use Rattle.par_typed.specs.Plain.{Field, Input, Output, Call, Neg, Not, Binary}
 use Rattle.par_typed.specs.Plain.{Absent, Present, TExps, NoExps, More}
-use Rattle.par_lexer.specs.declared.operator.BinOp.{BinOp}
+use Rattle.par_typed.specs.par_lexer.declared.operator.BinOp.{BinOp}
 use Rattle.par_well_typed.specs.par_bodies.Types.{Is, Accepts, Operates}
 use Rattle.par_well_typed.specs.par_bodies.Forms.{Setting, IsReceiver, AreArguments}
 use Rattle.par_well_typed.specs.par_bodies.Proper.{ExpIsProper, ExpsAreProper}

@@ -9,7 +9,7 @@ use Rattle.std.proofs.lemmas.Bool.{and_parts, and_from}
 use Rattle.std.proofs.lemmas.List.{length-map}
 use Rattle.std.proofs.lemmas.List.Folds.{list_all-append}
 use Rattle.std.proofs.lemmas.Option.{slice_get_within, get_or_from_slice_get, slice_get-map}
-use Rattle.par_lexer.specs.Names.{IsName, is_letter, is_spelled, goes_on}
+use Rattle.par_base.specs.Names.{IsName, is_letter, is_spelled, goes_on}
 use Rattle.par_pool.specs.Spelling.{is_plain, IsText}
 use Rattle.par_typed.specs.declared.ty.Ty.{Ty}
 use Rattle.par_typed.specs.declared.ty.Ty.TheVariants as ty

@@ -8,9 +8,10 @@ ghost use Rattle.par_compile.specs.Whole as whole;
 ghost use Rattle.par_compile.specs.Whole.{IsShortFile, IsLongFile, IsOwnBytes};
 
 use crate::class::class_file;
+use par_base::list::List;
+use par_base::memory::NoMemory;
 use par_class::{Attribute, LONGEST_CLASS, MethodFile, write_class};
 use par_erase::{Plain, PlainClass};
-use par_lexer::list::{List, NoMemory};
 use std::alloc::Global;
 
 /// Whether one of these is longer than a class file may be.

@@ -7,8 +7,8 @@ ghost use Rattle.par_compile.specs.Own.{channel_in, channel_kind};
 
 use crate::access::CHANNEL;
 use crate::draft::Draft;
-use par_lexer::list::NoMemory;
-use par_lexer::name::Name;
+use par_base::memory::NoMemory;
+use par_base::name::Name;
 use std::alloc::Global;
 
 /// The descriptor of a channel: one into the program gives a number, one out of it takes one.

@@ -11,9 +11,10 @@ use crate::draft::Draft;
 use crate::entries::{above, class as class_index, text};
 use crate::fields::field_files;
 use crate::methods::put_members;
+use par_base::list::List;
+use par_base::memory::NoMemory;
 use par_class::ClassFile;
 use par_erase::{Plain, PlainClass};
-use par_lexer::list::{List, NoMemory};
 use par_pool::PoolBuilder;
 use std::alloc::Global;
 

@@ -1,5 +1,5 @@
-use par_lexer::list::List;
-use par_lexer::name::Name;
+use par_base::list::List;
+use par_base::name::Name;
 
 /// The file of a class.
 #[derive(Drop)]

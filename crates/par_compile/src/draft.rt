@@ -5,8 +5,9 @@ ghost use Rattle.par_pool.specs.Spelling.{IsText};
 ghost use Rattle.par_compile.specs.Drafts.{PutsMember};
 
 use crate::entries::text;
+use par_base::list::List;
+use par_base::memory::NoMemory;
 use par_class::{CodeAttr, MethodFile};
-use par_lexer::list::{List, NoMemory};
 use par_pool::PoolBuilder;
 use std::alloc::Global;
 

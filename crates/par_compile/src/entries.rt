@@ -6,7 +6,7 @@ ghost use Rattle.par_pool.specs.Spelling.{IsText};
 ghost use Rattle.par_class_form.specs.Members as members;
 ghost use Rattle.par_compile.specs.Growing.{Grows, Stays, IsOneText, IsOneClass};
 
-use par_lexer::list::NoMemory;
+use par_base::memory::NoMemory;
 use par_pool::PoolBuilder;
 
 /// The index of a text.

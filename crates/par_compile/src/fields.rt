@@ -9,10 +9,11 @@ ghost use Rattle.par_compile.specs.Own.{AreNamed};
 
 use crate::access::member_access;
 use crate::entries::text;
+use par_base::list::List;
+use par_base::memory::NoMemory;
 use par_class::FieldFile;
 use par_code::words::type_text;
 use par_erase::{Plain, PlainField};
-use par_lexer::list::{List, NoMemory};
 use par_pool::PoolBuilder;
 use std::alloc::Global;
 

@@ -16,10 +16,11 @@ ghost use Rattle.par_compile.specs.Drafts.{Puts};
 use crate::access::PUBLIC;
 use crate::draft::Draft;
 use crate::entries;
+use par_base::list::List;
+use par_base::memory::NoMemory;
 use par_class::CodeAttr;
 use par_erase::PlainClass;
 use par_instr::{Instr, encode};
-use par_lexer::list::{List, NoMemory};
 use par_pool::PoolBuilder;
 use std::alloc::Global;
 

@@ -15,12 +15,12 @@ use crate::access::member_access;
 use crate::channels::put_channels;
 use crate::draft::Draft;
 use crate::initializer::put_initializer;
+use par_base::memory::NoMemory;
 use par_class::CodeAttr;
 use par_code::method::method_code;
 use par_code::words::method_text;
 use par_erase::{Plain, PlainClass, PlainMethod};
 use par_framing::place;
-use par_lexer::list::NoMemory;
 use par_pool::PoolBuilder;
 use std::alloc::Global;
 

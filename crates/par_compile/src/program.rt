@@ -13,8 +13,9 @@ ghost use Rattle.par_compile.specs.Compiled.{IsCompiledClass, AreCompiled};
 
 use crate::bytes::class_bytes;
 use crate::compiled::CompiledClass;
+use par_base::list::List;
+use par_base::memory::NoMemory;
 use par_erase::{Plain, PlainClass, erase};
-use par_lexer::list::{List, NoMemory};
 use par_typed::program::Typed;
 use std::alloc::Global;
 

@@ -10,7 +10,7 @@ ghost use Rattle.par_names.specs.Seen.{seen};
 
 use crate::members::{check_channels, check_fields, check_items};
 use crate::methods::check_methods;
-use par_lexer::list::NoMemory;
+use par_lexer::memory::NoMemory;
 use par_names::{ClassNames, View, check_doubles, check_may_policy, push_ids};
 use par_tree::decl::ClassDecl;
 use par_typed::refusal::Findings;

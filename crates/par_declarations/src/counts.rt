@@ -17,7 +17,7 @@ use crate::limit::{
 use crate::locals::locals;
 use crate::locks::check_locks;
 use crate::places::{actor_places, check_places, class_places, member_places, method_places};
-use par_lexer::list::NoMemory;
+use par_lexer::memory::NoMemory;
 use par_tree::decl::{ClassDecl, Decl, MethodDecl, Program};
 use par_tree::nodes::nodes;
 use par_typed::refusal::Findings;

@@ -8,7 +8,7 @@ ghost use Rattle.par_names.specs.Program.{mains, main_fault, mains_faults};
 ghost use Rattle.par_declarations.specs.Mains.{is_main, mains_in, second_main};
 
 use crate::rule::WRONG_MAIN;
-use par_lexer::list::NoMemory;
+use par_lexer::memory::NoMemory;
 use par_tree::decl::{Decl, MethodDecl, Program};
 use par_typed::refusal::Findings;
 use std::alloc::Global;

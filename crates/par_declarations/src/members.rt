@@ -11,7 +11,7 @@ ghost use Rattle.par_names.specs.Seen.{seen};
 ghost use Rattle.par_declarations.specs.Heads.{second_effect};
 
 use crate::rule::{SECOND_EFFECT, UNKNOWN_BIRTH};
-use par_lexer::list::NoMemory;
+use par_lexer::memory::NoMemory;
 use par_names::{
     Named, View, check_class, check_doubles, check_may_policy, check_policy, check_type, push_ids,
 };

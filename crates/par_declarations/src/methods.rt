@@ -8,7 +8,7 @@ ghost use Rattle.par_declarations.specs.Heads.{signature_faults, mark_faults, th
 ghost use Rattle.par_names.specs.Seen.{seen, class_seen};
 
 use crate::members::{check_effects, check_items, check_params, check_policies, check_throws};
-use par_lexer::list::NoMemory;
+use par_lexer::memory::NoMemory;
 use par_names::{ClassNames, Home, View, check_body, check_locks, check_may_policy, check_result};
 use par_tree::decl::MethodDecl;
 use par_typed::refusal::Findings;

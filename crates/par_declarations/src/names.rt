@@ -11,7 +11,7 @@ ghost use Rattle.par_names.specs.Seen.{seen, ShowsProgram};
 
 use crate::classes::check_class;
 use crate::mains::check_mains;
-use par_lexer::list::NoMemory;
+use par_lexer::memory::NoMemory;
 use par_names::{
     Declared, Named, View, actors, builtin_classes, check_doubles, check_may_policy, check_policy,
     classes, locks, policies, push_named,

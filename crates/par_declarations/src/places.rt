@@ -8,7 +8,7 @@ ghost use Rattle.par_declarations.specs.Limits.{one_too_many};
 ghost use Rattle.par_declarations.specs.Limits as place;
 
 use crate::limit::Limit;
-use par_lexer::list::NoMemory;
+use par_lexer::memory::NoMemory;
 use par_tree::decl::{ChannelDecl, ClassDecl, Decl, MethodDecl};
 use par_tree::ident::Ident;
 use par_typed::refusal::{Findings, LIMIT_RULE, Refusal};

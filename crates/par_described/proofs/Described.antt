@@ -8,7 +8,7 @@ use Rattle.std.specs.Str.{bytes_eq}
 use Rattle.std.specs.List.{position, position_from, list_all, AllByRecursion}
 use Rattle.std.proofs.lemmas.List.{append-nil}
 use Rattle.std.proofs.lemmas.Bool.{and_parts, and_from, or_left, eqb-true, le-leb}
-use Rattle.par_lexer.specs.Names.{IsName, is_name, is_spelled, is_letter, is_digit, goes_on}
+use Rattle.par_base.specs.Names.{IsName, is_name, is_spelled, is_letter, is_digit, goes_on}
 use Rattle.par_index.proofs.Places.{position-from}
 use Rattle.par_code_form.specs.par_typed.declared.ty.Ty.{Ty}
 use Rattle.par_code_form.specs.par_typed.declared.ty.Ty.TheVariants as ty

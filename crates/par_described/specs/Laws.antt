@@ -1,7 +1,7 @@
 -- What the descriptors of a program's fields and methods say.
 use Rattle.std.specs.Prelude.{◌≡◌, map, Option, Some, None}
 use Rattle.std.specs.List.{AllByRecursion}
-use Rattle.par_lexer.specs.Names.{IsName}
+use Rattle.par_base.specs.Names.{IsName}
 use Rattle.par_code_form.specs.par_typed.declared.ty.Ty.{Ty}
 use Rattle.par_code_form.specs.par_typed.declared.ty.Ty.TheVariants as ty
 use Rattle.par_code_form.specs.par_typed.declared.table.MethodInfo.{MethodInfo}

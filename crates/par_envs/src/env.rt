@@ -6,8 +6,9 @@ ghost use Rattle.par_envs.specs.Told.{told, IsFree, StandsAt, MayTell};
 
 use crate::apart::{difference as difference_of, is_same};
 use par_atoms::Atoms;
+use par_base::list::List;
+use par_base::memory::NoMemory;
 use par_bits::Bits;
-use par_lexer::list::{List, NoMemory};
 use std::alloc::Global;
 use std::marker::Model;
 

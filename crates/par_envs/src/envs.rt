@@ -6,7 +6,8 @@ ghost use Rattle.par_envs.specs.Numbered.{envs, reached, Adds, AreFound, Extends
 use crate::apart::{is_same, policy_of};
 use crate::env::{Env, difference};
 use par_atoms::Atoms;
-use par_lexer::list::{List, NoMemory};
+use par_base::list::List;
+use par_base::memory::NoMemory;
 use std::alloc::Global;
 
 /// An environment, and what tells it from an earlier one: the number of that one, and the policy

@@ -1,6 +1,6 @@
 -- What a table calls its classes and their members are names.
 use Rattle.std.specs.List.{AllByRecursion}
-use Rattle.par_lexer.specs.Names.{IsName}
+use Rattle.par_base.specs.Names.{IsName}
 use Rattle.par_typed.specs.declared.table.ClassInfo.{ClassInfo}
 use Rattle.par_typed.specs.declared.table.Table.{Table}
 

@@ -6,7 +6,7 @@ ghost use Rattle.par_typed.specs.Shown as typed;
 ghost use Rattle.par_erase.specs.Asked.{only, either, asks, else_asks, all_ask, catches_ask};
 ghost use Rattle.par_erase.specs.Asked.{asked_in};
 
-use par_lexer::list::NoMemory;
+use par_base::memory::NoMemory;
 use par_typed::par_policy::Lockset;
 use par_typed::program::TBody;
 use par_typed::stmt::{TCatch, TStmt, TStmtKind};

@@ -2,7 +2,7 @@
 
 ghost use Rattle.std.specs.Prelude.{◌≡◌, IfOk, map, drop};
 ghost use Rattle.std.specs.List.{AllByRecursion};
-ghost use Rattle.par_lexer.specs.Names.{IsName};
+ghost use Rattle.par_base.specs.Names.{IsName};
 ghost use Rattle.par_typed.specs.par_policy.Numbers.{has};
 ghost use Rattle.par_typed.specs.Shown.{bodies};
 ghost use Rattle.par_erase.specs.Shown.{does, method_info, class_info, own_bodies};
@@ -17,7 +17,8 @@ use crate::members::{copy_name, copy_types, erase_fields, erase_params, part_cha
 use crate::program::{Plain, PlainClass, PlainMethod};
 use crate::stmt::PStmt;
 use crate::stmts::erase_stmt;
-use par_lexer::list::{List, NoMemory};
+use par_base::list::List;
+use par_base::memory::NoMemory;
 use par_typed::par_policy::Lockset;
 use par_typed::program::{TBody, Typed};
 use par_typed::table::{ClassInfo, MethodInfo, Table};

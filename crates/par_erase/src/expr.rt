@@ -1,7 +1,7 @@
 //! Plain expressions.
 
-use par_lexer::list::List;
-use par_lexer::operator::BinOp;
+use par_base::list::List;
+use par_typed::par_lexer::operator::BinOp;
 use par_typed::ty::Ty;
 
 /// An expression with its type.

@@ -7,7 +7,8 @@ ghost use Rattle.par_erase.specs.Erased.{inputs_in, erased_exp, erased_may, eras
 
 use crate::channels::{input_place, output_place};
 use crate::expr::{PExpr, PExprKind};
-use par_lexer::list::{List, NoMemory};
+use par_base::list::List;
+use par_base::memory::NoMemory;
 use par_typed::expr::{TExpr, TExprKind};
 use par_typed::table::Table;
 use std::alloc::Global;

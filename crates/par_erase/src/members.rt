@@ -2,13 +2,14 @@
 
 ghost use Rattle.std.specs.Prelude.{◌≡◌, IfOk, OnOk, IsTrue, true, false, map, ◌++◌, ◌∷◌, []};
 ghost use Rattle.std.specs.List.{AllByRecursion};
-ghost use Rattle.par_lexer.specs.Names.{IsName};
+ghost use Rattle.par_base.specs.Names.{IsName};
 ghost use Rattle.par_erase.specs.Shown.{field_info, param_info};
 ghost use Rattle.par_erase.specs.Erased.{erased_field, erased_param, inputs_among, outputs_among};
 
 use crate::program::PlainField;
-use par_lexer::list::{List, NoMemory};
-use par_lexer::name::Name;
+use par_base::list::List;
+use par_base::memory::NoMemory;
+use par_base::name::Name;
 use par_typed::table::{ChannelInfo, FieldInfo, ParamInfo};
 use par_typed::ty::Ty;
 use std::alloc::Global;

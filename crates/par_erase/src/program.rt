@@ -1,8 +1,8 @@
 //! Plain programs.
 
 use crate::stmt::PStmt;
-use par_lexer::list::List;
-use par_lexer::name::Name;
+use par_base::list::List;
+use par_base::name::Name;
 use par_typed::ty::Ty;
 
 #[derive(Drop)]

@@ -1,7 +1,7 @@
 //! Plain statements.
 
 use crate::expr::PExpr;
-use par_lexer::list::List;
+use par_base::list::List;
 
 /// A statement. A member goes by the number of its class and its own number there, a local and a
 /// ground lock by its number.

@@ -10,7 +10,8 @@ ghost use Rattle.par_erase.specs.Erased.{erased_else, erased_all, erased_catches
 use crate::expr::PExpr;
 use crate::exprs::erase_expr;
 use crate::stmt::{PCatch, PStmt};
-use par_lexer::list::{List, NoMemory};
+use par_base::list::List;
+use par_base::memory::NoMemory;
 use par_typed::expr::TExpr;
 use par_typed::par_policy::Lockset;
 use par_typed::stmt::{TCatch, TStmt, TStmtKind};

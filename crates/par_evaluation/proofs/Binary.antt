@@ -3,7 +3,7 @@ use Rattle.std.proofs.Common.{◌≡◌, ℕ, suc, ◌+◌, ◌≤◌, ◌<◌, 
 use Rattle.std.proofs.Common.{◌∷◌}
 use Rattle.std.proofs.Common.{length, refl, ap, sym, ◌∙◌, subst, arith, codes}
 use Rattle.std.specs.Prelude.{ℤ, pos, ◌-ℤ◌, if◌then◌else◌}
-use Rattle.par_lexer.specs.declared.operator.BinOp.{BinOp}
+use Rattle.par_runs.specs.par_typed.par_lexer.declared.operator.BinOp.{BinOp}
 use Rattle.par_runs.specs.par_typed.declared.ty.Ty.{Ty}
 use Rattle.par_runs.specs.par_typed.declared.ty.Ty.TheVariants as ty
 use Rattle.par_runs.specs.par_typed.declared.table.Table.{Table}

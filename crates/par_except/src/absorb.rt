@@ -9,7 +9,7 @@ use crate::merge::copy;
 use crate::throws;
 use crate::way::Way;
 use crate::ways::Ways;
-use par_rules::par_lexer::list::NoMemory;
+use par_rules::par_base::memory::NoMemory;
 use std::alloc::Global;
 
 fn taken(alloc: Global, ways: &Ways, class: u16) -> Result<Option<Way>, NoMemory>

@@ -9,7 +9,7 @@ ghost use Rattle.par_except.specs.Throws.{both};
 use crate::throws;
 use crate::way::Way;
 use crate::ways::Ways;
-use par_rules::par_lexer::list::NoMemory;
+use par_rules::par_base::memory::NoMemory;
 use std::alloc::Global;
 
 /// A copy of the way, if there is one.

@@ -9,7 +9,8 @@ ghost use Rattle.par_except.specs.Seen.{seen};
 use crate::env;
 use par_atoms::Atoms;
 use par_bits::Bits;
-use par_rules::par_lexer::list::{List, NoMemory};
+use par_rules::par_base::list::List;
+use par_rules::par_base::memory::NoMemory;
 use std::alloc::Global;
 
 /// Who may learn that the spot is reached, the policy of each local by its number, and the locks

@@ -1,4 +1,4 @@
-use par_lexer::list::NoMemory;
+use par_base::memory::NoMemory;
 use par_single::descriptor::{Signature, field_kind, field_said, method_signature};
 use par_values::kind::Kind;
 use par_worked::expect;

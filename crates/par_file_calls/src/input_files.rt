@@ -1,6 +1,6 @@
+use par_base::memory::NoMemory;
 use par_inputs::error::BadInput;
 use par_inputs::{LONGEST_INPUTS, line_of_entry, read_inputs};
-use par_lexer::list::NoMemory;
 use par_values::inputs::{ChannelInput, Inputs};
 use par_worked::expect;
 use std::alloc::Global;

@@ -8,8 +8,8 @@ ghost use Rattle.par_infer.specs.Collected.{Gains};
 ghost use Rattle.par_filling.specs.Least.{HaveFewEffects};
 
 use par_atoms::Atoms;
+use par_base::memory::NoMemory;
 use par_infer::note_body;
-use par_lexer::list::NoMemory;
 use par_typed::program::TBody;
 use par_typed::table::Table;
 use par_verdict::known::KnownFacts;

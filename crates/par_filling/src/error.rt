@@ -3,7 +3,7 @@
 ghost use Rattle.std.specs.Prelude.{◌≡◌};
 ghost use Rattle.par_filling.specs.declared.error.InferError.TheVariants.{Memory};
 
-use par_lexer::list::NoMemory;
+use par_base::memory::NoMemory;
 use par_typed::refusal::Refusal;
 use thiserror::Error;
 

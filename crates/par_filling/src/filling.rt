@@ -7,7 +7,8 @@ ghost use Rattle.par_declared.specs.Declared.{HasFewFields};
 ghost use Rattle.par_filling.specs.Filled.{filled_field, filled_among, filled_in};
 
 use par_atoms::Atoms;
-use par_lexer::list::{List, NoMemory};
+use par_base::list::List;
+use par_base::memory::NoMemory;
 use par_typed::table::{ClassInfo, FieldInfo};
 use std::alloc::Global;
 

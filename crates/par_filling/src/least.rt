@@ -12,7 +12,7 @@ ghost use Rattle.par_filling.specs.Least.{HaveFewEffects};
 use crate::births::note_births;
 use crate::bodies::note_bodies;
 use par_atoms::Atoms;
-use par_lexer::list::NoMemory;
+use par_base::memory::NoMemory;
 use par_reached::reach;
 use par_typed::program::TBody;
 use par_typed::table::Table;

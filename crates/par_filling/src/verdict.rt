@@ -16,8 +16,8 @@ ghost use Rattle.par_filling.specs.Judged.{AreAllFailed, IsJudged};
 
 use par_asked::body::checks_of;
 use par_atoms::Atoms;
+use par_base::memory::NoMemory;
 use par_infer::note_failed;
-use par_lexer::list::NoMemory;
 use par_typed::program::TBody;
 use par_typed::refusal::{Findings, Refusal};
 use par_typed::table::Table;

@@ -13,8 +13,9 @@ ghost use Rattle.par_flow.specs.Kept.{exit_of, AddsOnly, AreLong, AreOnce, HasEn
 ghost use Rattle.par_flow.specs.Kept.{MayShow, ShowThrows, ShowsWay, Throws};
 
 use crate::kept::{KeptWay, KeptWays, thrown};
+use par_base::list::List;
+use par_base::memory::NoMemory;
 use par_envs::Envs;
-use par_lexer::list::{List, NoMemory};
 use par_nodes::possible::is_same;
 use par_nodes::rule::Kind;
 use par_rounds::{Exit, SharedWay};

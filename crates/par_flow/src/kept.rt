@@ -5,8 +5,8 @@ ghost use Rattle.par_nodes.specs.Seen.{seen_kind};
 ghost use Rattle.par_flow.specs.Kept.{exit_of, thrown};
 
 use par_atoms::Atoms;
+use par_base::list::List;
 use par_bits::Bits;
-use par_lexer::list::List;
 use par_nodes::rule::Kind;
 
 /// What is known at a spot: who may learn that it is reached, the number of the policies of locals,

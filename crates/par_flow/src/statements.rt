@@ -3,7 +3,7 @@ ghost use Rattle.std.specs.Prelude.{◌≡◌, ◌++◌, OnOk};
 ghost use Rattle.par_typed.specs.Shown.{all_catch, all_do, does, otherwise};
 ghost use Rattle.par_flow.specs.Statements.{catch_points, other_points, points, points_of_all};
 
-use par_lexer::list::NoMemory;
+use par_base::memory::NoMemory;
 use par_typed::stmt::{TCatch, TStmt, TStmtKind};
 
 /// Adds the point of a statement and those of the statements in it.

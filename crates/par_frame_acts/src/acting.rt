@@ -22,9 +22,9 @@ use crate::indexed::{
 use crate::leaving::{leave, leave_with};
 use crate::making::{branch, load, one, plain, right, store, two};
 use crate::shape::shape;
+use par_base::memory::NoMemory;
 use par_frame_steps::{Act, Also, Asked, Flow, Leaves, PlaceKind};
 use par_instr::Instr;
-use par_lexer::list::NoMemory;
 use par_link::Linked;
 use par_single::descriptor::Said;
 use std::alloc::Global;

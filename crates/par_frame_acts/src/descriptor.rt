@@ -7,8 +7,8 @@ ghost use Rattle.par_frame_steps.specs.par_kinds.Kinds.{vkind};
 ghost use Rattle.par_frame_steps.specs.Marks as marks;
 ghost use Rattle.par_frame_steps.specs.Marks.{asked_of};
 
+use par_base::memory::NoMemory;
 use par_frame_steps::{Asked, PlaceKind};
-use par_lexer::list::NoMemory;
 use par_single::descriptor::{Said, field_said, kind_at, method_gives};
 use std::alloc::Global;
 

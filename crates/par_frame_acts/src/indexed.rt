@@ -9,8 +9,8 @@ ghost use Rattle.par_frame_acts.specs.Shapes.{shape_of, callee_of};
 use crate::descriptor::asked_kind;
 use crate::making::{one, plain, two};
 use crate::shape::{Callee, PlaceShape};
+use par_base::memory::NoMemory;
 use par_frame_steps::{Act, Also, Asked, Flow, Leaves, PlaceKind};
-use par_lexer::list::NoMemory;
 use std::alloc::Global;
 
 /// An index of a wrong kind.

@@ -11,8 +11,8 @@ ghost use Rattle.par_frame_steps.specs.Marks.{act_of, asked_of};
 
 use crate::descriptor::asked;
 use crate::making::{one, right};
+use par_base::memory::NoMemory;
 use par_frame_steps::{Act, Also, Asked, Flow, Leaves};
-use par_lexer::list::NoMemory;
 use par_single::descriptor::Said;
 use std::alloc::Global;
 

@@ -5,8 +5,8 @@ ghost use Rattle.par_frame_steps.specs.par_kinds.Acts as act;
 ghost use Rattle.par_frame_steps.specs.Marks.{act_of, asked_of, also_of, leaves_of, flow_of};
 ghost use Rattle.par_frame_steps.specs.Marks.{given};
 
+use par_base::memory::NoMemory;
 use par_frame_steps::{Act, Also, Asked, Flow, Leaves, PlaceKind};
-use par_lexer::list::NoMemory;
 use std::alloc::Global;
 
 /// One operand that is taken.

@@ -14,10 +14,10 @@ ghost use Rattle.par_frame_steps.specs.Marks.{asked_of, also_of, given};
 ghost use Rattle.par_frame_acts.specs.Shapes.{shape_of, is_integer, result_in};
 
 use crate::descriptor::{asked, asked_kind, field_asked, gives_at, takes_at};
+use par_base::memory::NoMemory;
 use par_class::file::MethodFile;
 use par_class::is_native;
 use par_frame_steps::{Also, Asked, PlaceKind};
-use par_lexer::list::NoMemory;
 use par_link::{Builtin, Declared, Linked, Named};
 use par_pool::constant::Constant;
 use par_pool::kind::entry;

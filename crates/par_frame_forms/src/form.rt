@@ -1,6 +1,6 @@
 //! The forms of frames.
 
-use par_lexer::list::List;
+use par_base::list::List;
 
 /// What is spelled of a local or an operand.
 #[derive(Drop)]

@@ -9,8 +9,8 @@ ghost use Rattle.par_frame_moves.specs.Briefs.{takes_of, act_of};
 
 use crate::brief::{Brief, Takes, Work};
 use crate::fitting::{local, operand};
+use par_base::memory::NoMemory;
 use par_frame_steps::{PlaceFrame, PlaceKind};
-use par_lexer::list::NoMemory;
 use std::alloc::Global;
 
 /// Pushes an operand.

@@ -3,7 +3,7 @@ use Rattle.std.proofs.Common.{◌≡◌, ℕ, ◌<◌, ◌≤◌, ◌+◌, Bool,
 use Rattle.std.proofs.Common.{length, take, get_or, ℤ, Some, Option, Result, Ok, refl, sym, ap}
 use Rattle.std.proofs.Common.{subst, ◌∙◌, arith}
 use Rattle.std.proofs.lemmas.List.{take_more, take_all, append-nil}
-use Rattle.par_lexer.specs.declared.list.NoMemory.{NoMemory}
+use Rattle.par_base.specs.declared.memory.NoMemory.{NoMemory}
 use Rattle.par_instr.specs.declared.instr.Instr.{Instr}
 use Rattle.par_class.specs.declared.file.Catch.{Catch}
 use Rattle.par_class.specs.declared.file.CodeAttr.{CodeAttr}

@@ -3,7 +3,7 @@ use Rattle.std.specs.Prelude.{◌≡◌, ℕ, ◌<◌, ℤ, pos, Bool, true, fal
 use Rattle.std.specs.Prelude.{List, [], ◌∷◌, length, map, slice_set, Option, Some, None, Result}
 use Rattle.std.specs.Prelude.{Ok, Err}
 use Rattle.std.specs.Option.{option_map}
-use Rattle.par_lexer.specs.declared.list.NoMemory.{NoMemory}
+use Rattle.par_base.specs.declared.memory.NoMemory.{NoMemory}
 use Rattle.par_class.specs.declared.file.Catch.{Catch}
 use Rattle.par_frame_moves.specs.par_kinds.declared.frame.VKind.{VKind}
 use Rattle.par_values.specs.Areas.{Name}

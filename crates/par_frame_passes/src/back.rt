@@ -4,8 +4,8 @@ ghost use Rattle.std.specs.Prelude.{◌≡◌, ◌≤◌, true, false, length, s
 ghost use Rattle.par_frame_passes.specs.Methods.{code_in};
 
 use crate::method::Method;
+use par_base::memory::NoMemory;
 use par_instr::decode;
-use par_lexer::list::NoMemory;
 use par_starts::distance;
 use std::alloc::Global;
 

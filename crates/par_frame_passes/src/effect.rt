@@ -1,8 +1,8 @@
 //! What straight code makes of any frame: which places it sets, and to what.
 
+use par_base::memory::NoMemory;
 use par_frame_steps::act::Leaves;
 use par_frame_steps::{Act, PlaceKind};
-use par_lexer::list::NoMemory;
 use std::alloc::Global;
 
 /// What a place holds behind the code.

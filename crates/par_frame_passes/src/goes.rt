@@ -12,11 +12,11 @@ ghost use Rattle.par_frame_passes.specs.Tables.{table_of, taken_by};
 use crate::course::Course;
 use crate::landing::arrive;
 use crate::method::Method;
+use par_base::memory::NoMemory;
 use par_class::file::Catch;
 use par_frame_acts::caught;
 use par_frame_steps::frame::copied;
 use par_frame_steps::{Flow, PlaceFrame};
-use par_lexer::list::NoMemory;
 use std::alloc::Global;
 
 /// Lets a frame go on where code goes on from an offset, of an instruction before another offset.

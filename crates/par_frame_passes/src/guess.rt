@@ -12,9 +12,9 @@ use crate::method::Method;
 use crate::piece::{Goals, Piece, heads, piece_at};
 use crate::places::Places;
 use crate::table::kept;
+use par_base::memory::NoMemory;
 use par_frame_acts::caught;
 use par_frame_steps::PlaceFrame;
-use par_lexer::list::NoMemory;
 use std::alloc::Global;
 
 /// How many places are looked at for each byte of code, before nothing is guessed.

@@ -12,8 +12,8 @@ ghost use Rattle.par_frame_passes.specs.Sweeps.{Went};
 use crate::course::Course;
 use crate::method::Method;
 use crate::table::{is_new, kept, put};
+use par_base::memory::NoMemory;
 use par_frame_steps::PlaceFrame;
-use par_lexer::list::NoMemory;
 use std::alloc::Global;
 
 /// A frame that goes on at an offset, which may be none. At a handler the operand is the exception

@@ -8,11 +8,11 @@ ghost use Rattle.par_frame_passes.specs.Methods.{exc_of, act_in};
 ghost use Rattle.par_frame_passes.specs.Tables.{IsLeft};
 
 use crate::method::Method;
+use par_base::memory::NoMemory;
 use par_frame_acts::act;
 use par_frame_moves::{Brief, in_brief};
 use par_frame_steps::{Flow, PlaceFrame};
 use par_instr::Instr;
-use par_lexer::list::NoMemory;
 use std::alloc::Global;
 
 /// A frame that is left, and where it goes on.

@@ -13,8 +13,8 @@ use crate::guess::guessed;
 use crate::method::Method;
 use crate::telling::{standing, told};
 use crate::visiting::visit;
+use par_base::memory::NoMemory;
 use par_frame_steps::PlaceFrame;
-use par_lexer::list::NoMemory;
 use std::alloc::Global;
 
 /// Goes through the code, and back to each frame that rises, until nothing does on a whole way:

@@ -6,11 +6,11 @@ ghost use Rattle.par_frame_passes.specs.Methods.{code_in};
 use crate::back::{is_marked, mark};
 use crate::effect::Effect;
 use crate::method::Method;
+use par_base::memory::NoMemory;
 use par_class::file::Catch;
 use par_frame_acts::act;
 use par_frame_steps::{Flow, PlaceFrame};
 use par_instr::{Instr, decode};
-use par_lexer::list::NoMemory;
 use par_starts::distance;
 use std::alloc::Global;
 

@@ -1,8 +1,8 @@
 //! The places of a frame, of which a piece of code makes others.
 
 use crate::effect::{Effect, Held};
+use par_base::memory::NoMemory;
 use par_frame_steps::{PlaceFrame, PlaceKind};
-use par_lexer::list::NoMemory;
 use std::alloc::Global;
 
 /// Locals that instructions can name.

@@ -8,8 +8,8 @@ ghost use Rattle.par_frame_passes.specs.Methods.{fixed_at};
 ghost use Rattle.par_frame_passes.specs.Tables.{table_of, Taken, NewAt};
 
 use crate::method::Method;
+use par_base::memory::NoMemory;
 use par_frame_steps::PlaceFrame;
-use par_lexer::list::NoMemory;
 use std::alloc::Global;
 
 /// A frame for each offset that has one.

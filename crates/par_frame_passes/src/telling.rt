@@ -13,8 +13,8 @@ ghost use Rattle.par_frame_passes.specs.Telling.{Tells};
 use crate::guess::Guess;
 use crate::method::Method;
 use crate::table::{Table, kept};
+use par_base::memory::NoMemory;
 use par_frame_steps::PlaceFrame;
-use par_lexer::list::NoMemory;
 use std::alloc::Global;
 
 /// Whether a frame has the places that it needs.

@@ -11,9 +11,9 @@ use crate::goes::{go_on, go_to_handlers};
 use crate::leaving::leave;
 use crate::method::Method;
 use crate::table::taken;
+use par_base::memory::NoMemory;
 use par_frame_steps::PlaceFrame;
 use par_instr::decode;
-use par_lexer::list::NoMemory;
 use std::alloc::Global;
 
 /// Lets the frame of an offset go on, where it has one. It is kept no longer, unless it stays.

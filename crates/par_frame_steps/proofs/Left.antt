@@ -3,7 +3,7 @@ use Rattle.std.proofs.Common.{◌≡◌, ℕ, List, ◌∷◌, ◌++◌, Result,
 use Rattle.std.proofs.Common.{subst, ◌∙◌}
 use Rattle.std.proofs.lemmas.List.{drop-map, length-map}
 use Rattle.std.specs.Prelude.{IfOk}
-use Rattle.par_lexer.specs.declared.list.NoMemory.{NoMemory}
+use Rattle.par_base.specs.declared.memory.NoMemory.{NoMemory}
 use Rattle.par_kinds.specs.declared.frame.VKind.{VKind}
 use Rattle.par_kinds.specs.Kinds.{KFrame, kind_at}
 use Rattle.par_kinds.specs.Acts.{left_by, Gives, Loads, Copies, Stores}

@@ -8,7 +8,7 @@ ghost use Rattle.par_frame_steps.specs.Listed.{listed_into};
 ghost use Rattle.par_frame_steps.specs.Marks.{names, kind_of, kinds_of, locals_of, frame_of};
 
 use crate::kind::PlaceKind;
-use par_lexer::list::NoMemory;
+use par_base::memory::NoMemory;
 use std::alloc::Global;
 
 /// What locals and operands hold; the operand that was pushed last comes first. Locals that are not

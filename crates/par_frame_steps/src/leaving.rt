@@ -9,7 +9,7 @@ ghost use Rattle.par_frame_steps.specs.Listed.{with_place};
 use crate::act::{Act, Leaves};
 use crate::frame::{PlaceFrame, copied};
 use crate::kind::PlaceKind;
-use par_lexer::list::NoMemory;
+use par_base::memory::NoMemory;
 use std::alloc::Global;
 
 /// The operands behind so many.

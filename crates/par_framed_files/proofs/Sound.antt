@@ -5,7 +5,7 @@ use Rattle.std.proofs.Common.{length, Option, Some, None, refl, sym, ap, subst, 
 use Rattle.std.specs.Prelude.{slice_get, sum_by, All}
 use Rattle.std.specs.List.{AllByRecursion, flat_map}
 use Rattle.std.proofs.lemmas.List.Elements.{All-nil}
-use Rattle.par_lexer.specs.Names.{IsName}
+use Rattle.par_base.specs.Names.{IsName}
 use Rattle.par_typed.specs.declared.table.ClassInfo.{ClassInfo}
 use Rattle.par_typed.specs.declared.table.MethodInfo.{MethodInfo}
 use Rattle.par_typed.specs.declared.table.Table.{Table}

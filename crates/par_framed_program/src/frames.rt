@@ -2,17 +2,17 @@
 
 ghost use Rattle.std.specs.Prelude.{IfOk};
 ghost use Rattle.std.specs.List.{All};
-ghost use Rattle.par_lexer.specs.Names.{IsName};
+ghost use Rattle.par_base.specs.Names.{IsName};
 ghost use Rattle.par_single.specs.Members as members;
 ghost use Rattle.par_link.specs.Conditions.{IsSmall};
 ghost use Rattle.par_given_frames.specs.Named.{AreNamed};
 ghost use Rattle.par_framed_program.specs.Framed.{AreFramesOf, Framed};
 
 use crate::looking::unframed;
+use par_base::list::List;
 use par_class::file::ClassFile;
 use par_frames::{FrameError, MethodFrames};
 use par_given_frames::frames_of;
-use par_lexer::list::List;
 use par_link::Linked;
 use par_loader::Unloaded;
 use std::alloc::Global;

@@ -2,15 +2,15 @@
 
 ghost use Rattle.std.specs.Prelude.{length, IfOk};
 ghost use Rattle.std.specs.List.{All};
-ghost use Rattle.par_lexer.specs.Names.{IsName};
+ghost use Rattle.par_base.specs.Names.{IsName};
 ghost use Rattle.par_single.specs.Members as members;
 ghost use Rattle.par_link.specs.Conditions.{IsSmall};
 ghost use Rattle.par_loader.specs.Ends.{IsBadAs};
 ghost use Rattle.par_framed_program.specs.Framed.{AreFramed, Framed};
 
+use par_base::name::Name;
 use par_class::file::ClassFile;
 use par_given_frames::{UNFRAMED, first_unframed};
-use par_lexer::name::Name;
 use par_link::Linked;
 use par_loader::Unloaded;
 use par_single::member::own_name;

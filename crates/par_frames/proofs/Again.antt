@@ -5,7 +5,7 @@ use Rattle.std.specs.Prelude.{if◌then◌else◌, codes}
 use Rattle.std.specs.Option.{option_map}
 use Rattle.std.specs.Str.{bytes_eq}
 use Rattle.std.proofs.lemmas.Slice.Eq.{bytes_eq-Decides}
-use Rattle.par_lexer.specs.Names.{IsName, is_spelled}
+use Rattle.par_base.specs.Names.{IsName, is_spelled}
 use Rattle.par_frame_forms.specs.par_pool.declared.constant.Constant.{Constant}
 use Rattle.par_kinds.specs.par_values.Areas.{Name}
 use Rattle.par_kinds.specs.par_single.Members.{text_of}

@@ -10,7 +10,7 @@ use Rattle.std.proofs.lemmas.List.{append-nil}
 use Rattle.std.proofs.lemmas.List.Elements.{Contains-append_left, Contains-append_right}
 use Rattle.std.proofs.lemmas.List.Elements.{All-nil, All-append, All-weaker}
 use Rattle.par_kinds.proofs.par_policy.Ordered.{Contains-cons_cases, Contains-nil}
-use Rattle.par_lexer.specs.Names.{IsName, is_letter, is_spelled, goes_on}
+use Rattle.par_base.specs.Names.{IsName, is_letter, is_spelled, goes_on}
 use Rattle.par_frame_forms.specs.par_pool.declared.constant.Constant.{Constant}
 use Rattle.par_frame_forms.specs.par_pool.declared.constant.Constant.TheVariants.{Utf8}
 use Rattle.par_frame_forms.specs.par_pool.Entries.{IsClassAt}

@@ -1,7 +1,7 @@
 -- What kinds are written as is read as these kinds again.
 use Rattle.std.specs.Prelude.{◌≡◌, List, Some}
 use Rattle.std.specs.List.{AllZip, AllByRecursion}
-use Rattle.par_lexer.specs.Names.{IsName}
+use Rattle.par_base.specs.Names.{IsName}
 use Rattle.par_frame_forms.specs.par_pool.declared.constant.Constant.{Constant}
 use Rattle.par_frame_forms.specs.declared.form.PlaceType.{PlaceType}
 use Rattle.par_kinds.specs.declared.frame.VKind.{VKind}

@@ -1,5 +1,5 @@
-use par_lexer::list::NoMemory;
-use par_lexer::name::Name;
+use par_base::memory::NoMemory;
+use par_base::name::Name;
 use std::alloc::AllocError;
 
 /// The class of exceptions that a handler takes: one under its name, or a base of them all.

@@ -11,8 +11,8 @@ ghost use Rattle.par_frames.specs.Forms.{IndexedFits, listed_by, forms_from};
 
 use crate::indexed::IndexedFrame;
 use crate::spelling::{FEW, NEAR, put_cut, put_full, put_more, put_operand};
+use par_base::memory::NoMemory;
 use par_frame_forms::PlaceType;
-use par_lexer::list::NoMemory;
 
 #[tactic(auto, unfolding(par_frame_forms::specs::Written::same_type))]
 fn is_same(t: &PlaceType, u: &PlaceType) -> bool

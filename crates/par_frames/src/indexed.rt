@@ -1,7 +1,7 @@
 //! Frames whose classes have their indices.
 
+use par_base::list::List;
 use par_frame_forms::PlaceType;
-use par_lexer::list::List;
 
 /// A frame as it is written: each class by the index of its constant.
 #[derive(Drop)]

@@ -9,9 +9,10 @@ ghost use Rattle.par_frames.specs.Attribute.{IsListed, first_locals};
 ghost use Rattle.par_frames.specs.Forms.{IsIndexed};
 
 use crate::indexed::IndexedFrame;
+use par_base::list::List;
+use par_base::memory::NoMemory;
 use par_frame_forms::PlaceType;
 use par_kinds::frame::{PlacedFrame, VKind};
-use par_lexer::list::{List, NoMemory};
 use std::alloc::Global;
 
 /// Whether two kinds are the same.

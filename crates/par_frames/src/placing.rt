@@ -15,10 +15,11 @@ ghost use Rattle.par_frames.specs.Forms.{IsIndexed, IndexedFits, last_locals};
 
 use crate::indexed::IndexedFrame;
 use crate::listing::{copied, is_same_kind};
+use par_base::list::List;
+use par_base::memory::NoMemory;
 use par_frame_forms::PlaceType;
 use par_frame_forms::par_pool::PoolBuilder;
 use par_kinds::frame::{PlacedFrame, VKind};
-use par_lexer::list::{List, NoMemory};
 use std::alloc::Global;
 
 /// The name of a class in a class file; frames know two by simple names.

@@ -5,9 +5,9 @@ ghost use Rattle.par_frame_forms.specs.declared.form.FrameForm.TheVariants.{Cut,
 ghost use Rattle.par_frame_forms.specs.Spelled.{spelled_type, spelled_types, spelled};
 ghost use Rattle.par_frames.specs.Forms.{operand};
 
+use par_base::memory::NoMemory;
 use par_frame_forms::PlaceType;
 use par_frame_forms::par_pool::writing::put_u2;
-use par_lexer::list::NoMemory;
 
 /// Distances below this one need no bytes of their own.
 pub(crate) const NEAR: u16 = 64;

@@ -11,10 +11,10 @@ ghost use Rattle.par_frames.specs.Attribute.{IsAttribute, AddsClasses};
 use crate::forms::put_frames;
 use crate::listing::list_start;
 use crate::placing::place_frames;
+use par_base::memory::NoMemory;
 use par_frame_forms::par_pool::PoolBuilder;
 use par_frame_forms::par_pool::writing::put_u2;
 use par_kinds::frame::{MethodFrames, VKind};
-use par_lexer::list::NoMemory;
 use std::alloc::Global;
 
 /// The bytes of the attribute of a method's frames, where `start` lists the receiver and the

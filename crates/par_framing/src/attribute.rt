@@ -11,12 +11,13 @@ ghost use Rattle.par_label_frames.specs.par_placed_frames.Framed.{AreAttributes,
 ghost use Rattle.par_label_frames.specs.par_placed_frames.Framed.{frame_classes};
 ghost use Rattle.par_framing.specs.Added.{AddsTable, AreSized, HasLabelOffsets};
 
+use par_base::list::List;
+use par_base::memory::NoMemory;
 use par_class::Attribute;
 use par_code_form::Labelled;
 use par_frames::write_frames;
 use par_kinds::frame::{MethodFrames, PlacedFrame};
 use par_label_frames::{frames_at, kinds_of};
-use par_lexer::list::{List, NoMemory};
 use par_pool::PoolBuilder;
 use std::alloc::Global;
 

@@ -12,9 +12,9 @@ ghost use Rattle.par_label_frames.specs.par_placed_frames.Framed.{entries_with};
 ghost use Rattle.par_framing.specs.Added.{AddsConstants, AreSized, spare_with};
 
 use crate::attribute::attributes_of;
+use par_base::memory::NoMemory;
 use par_class::CodeAttr;
 use par_code_form::Labelled;
-use par_lexer::list::NoMemory;
 use par_place::{PlacedCode, place_labels};
 use par_pool::PoolBuilder;
 use std::alloc::Global;

@@ -1,4 +1,4 @@
-use par_lexer::list::NoMemory;
+use par_base::memory::NoMemory;
 use std::alloc::AllocError;
 
 /// Why there are no frames, or none could be kept.

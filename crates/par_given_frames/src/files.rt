@@ -1,7 +1,7 @@
 //! The frames of all methods of a class file.
 
 ghost use Rattle.std.specs.Prelude.{IfOk};
-ghost use Rattle.par_lexer.specs.Names.{IsName};
+ghost use Rattle.par_base.specs.Names.{IsName};
 ghost use Rattle.par_single.specs.Members.{own_name};
 ghost use Rattle.par_frames.specs.par_link.Conditions.{IsSmall};
 ghost use Rattle.par_given_frames.specs.Named.{AreNamed};
@@ -9,9 +9,10 @@ ghost use Rattle.par_given_frames.specs.Answers.{IsFirstBroken, FramesOf};
 
 use crate::error::Unread;
 use crate::methods::{has_frames, method_frames};
+use par_base::list::List;
+use par_base::memory::NoMemory;
 use par_class::file::ClassFile;
 use par_frames::{FrameError, MethodFrames};
-use par_lexer::list::{List, NoMemory};
 use std::alloc::Global;
 
 /// The number of a method that lacks frames, or whose frames stand where they may not.

@@ -1,7 +1,7 @@
 //! The frames that forms say.
 
 ghost use Rattle.std.specs.Prelude.{◌≡◌, ◌+◌, ◌≤◌, ◌<◌, ◌^◌, [], ◌∷◌, ◌++◌, length, map, IfOk};
-ghost use Rattle.par_lexer.specs.Names.{IsName};
+ghost use Rattle.par_base.specs.Names.{IsName};
 ghost use Rattle.par_single.specs.Members as members;
 ghost use Rattle.par_kinds.specs.Kinds.{vkind};
 ghost use Rattle.par_frames.specs.Given as given;
@@ -12,11 +12,12 @@ ghost use Rattle.par_given_frames.specs.Before.{next_from, listed_by};
 use crate::error::Unread;
 use crate::kinds::{all_copied, kind_of, put_kinds};
 use crate::sizes::delta;
+use par_base::list::List;
+use par_base::memory::NoMemory;
+use par_base::name::Name;
 use par_class::file::{ClassFile, MethodFile};
 use par_frame_forms::{FrameForm, PlaceType};
 use par_kinds::frame::{Frame, PlacedFrame, VKind};
-use par_lexer::list::{List, NoMemory};
-use par_lexer::name::Name;
 use par_pool::constant::Constant;
 use par_single::descriptor::method_signature;
 use par_single::member::{is_static, own_name, text_at};

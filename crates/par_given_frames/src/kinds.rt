@@ -3,7 +3,7 @@
 ghost use Rattle.std.specs.Prelude.{◌≡◌, ◌++◌, None, codes, IfOk};
 ghost use Rattle.std.specs.Option.{option_map};
 ghost use Rattle.std.specs.Str.{bytes_eq};
-ghost use Rattle.par_lexer.specs.Names.{IsName};
+ghost use Rattle.par_base.specs.Names.{IsName};
 ghost use Rattle.par_frames.specs.par_link.Builtins.{builtin};
 ghost use Rattle.par_frames.specs.Names as names;
 ghost use Rattle.par_frames.specs.Names.{kind_of_class};
@@ -13,10 +13,11 @@ ghost use Rattle.par_given_frames.specs.Named.{AreNamed};
 ghost use Rattle.par_given_frames.specs.Sizes as sizes;
 
 use crate::error::Unread;
+use par_base::list::List;
+use par_base::memory::NoMemory;
+use par_base::name::Name;
 use par_frame_forms::PlaceType;
 use par_kinds::frame::VKind;
-use par_lexer::list::{List, NoMemory};
-use par_lexer::name::Name;
 use par_pool::constant::Constant;
 use par_pool::kind::entry;
 use par_single::member::text_at;

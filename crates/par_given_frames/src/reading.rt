@@ -9,8 +9,8 @@ ghost use Rattle.par_given_frames.specs.Reads.{Gives, seen};
 
 use crate::error::Unread;
 use byteorder::{BigEndian, ByteOrder};
+use par_base::list::List;
 use par_frame_forms::{FrameForm, PlaceType};
-use par_lexer::list::List;
 use std::alloc::Global;
 
 /// The number of the first two bytes, and the bytes behind it.

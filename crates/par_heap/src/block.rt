@@ -6,7 +6,7 @@ ghost use Rattle.std.specs.List.{All, flat_map};
 ghost use Rattle.par_heap.specs.Cut.{cut, IsPlace};
 ghost use Rattle.par_heap.specs.Heap.{field_in, with_field_in};
 
-use par_lexer::list::NoMemory;
+use par_base::memory::NoMemory;
 use par_values::value::MVal;
 use std::alloc::Global;
 

@@ -4,7 +4,7 @@ ghost use Rattle.std.specs.List.{All, flat_map};
 ghost use Rattle.par_heap.specs.Heap.{objects_of, field_at, with_object, with_field};
 
 use crate::block::Block;
-use par_lexer::list::NoMemory;
+use par_base::memory::NoMemory;
 use par_values::value::MVal;
 use std::alloc::Global;
 use std::marker::Model;

@@ -1,6 +1,6 @@
 ghost use Rattle.std.specs.Prelude.{◌≡◌, length, nat_lt, slice_get, slice_set, IfOk};
 
-use par_lexer::list::NoMemory;
+use par_base::memory::NoMemory;
 use par_values::value::MVal;
 use std::alloc::Global;
 use std::marker::Model;

@@ -18,10 +18,13 @@ use Rattle.par_typed.specs.Plain.{TExp, TExps, MayTExp, TSta, TStas, TCatches, M
 use Rattle.std.specs.Prelude.{pos}
 use Rattle.par_typed.specs.Plain.{Body}
 use Rattle.std.specs.Ordering.{int_eq}
-use Rattle.par_lexer.specs.declared.operator.BinOp.{BinOp}
-use Rattle.par_lexer.specs.declared.operator.BinOp.TheVariants.{Or, And, BitOr, BitXor, BitAnd}
-use Rattle.par_lexer.specs.declared.operator.BinOp.TheVariants.{Eq, Ne, Lt, Le, Gt, Ge, Shl, Shr}
-use Rattle.par_lexer.specs.declared.operator.BinOp.TheVariants.{Ushr, Add, Sub, Mul, Div, Rem}
+use Rattle.par_typed.specs.par_lexer.declared.operator.BinOp.{BinOp}
+use Rattle.par_typed.specs.par_lexer.declared.operator.BinOp.TheVariants.{Or, And, BitOr, BitXor}
+use Rattle.par_typed.specs.par_lexer.declared.operator.BinOp.TheVariants.{BitAnd}
+use Rattle.par_typed.specs.par_lexer.declared.operator.BinOp.TheVariants.{Eq, Ne, Lt, Le, Gt, Ge}
+use Rattle.par_typed.specs.par_lexer.declared.operator.BinOp.TheVariants.{Shl, Shr}
+use Rattle.par_typed.specs.par_lexer.declared.operator.BinOp.TheVariants.{Ushr, Add, Sub, Mul, Div}
+use Rattle.par_typed.specs.par_lexer.declared.operator.BinOp.TheVariants.{Rem}
 use Rattle.par_runs.specs.Meaning.{Calls, eval, operates}
 use Rattle.par_runs.specs.Values.{decides, throws, applied}
 use Rattle.par_values.specs.declared.value.MVal.{MVal}

@@ -1,4 +1,4 @@
 pub mod Firsts
 pub mod Texts
 pub mod Placed
-pub use Rattle.par_lexer.specs as par_lexer
+pub use Rattle.par_base.specs as par_base

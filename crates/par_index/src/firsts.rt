@@ -3,7 +3,7 @@ ghost use Rattle.indexmap.specs.IndexMap.{get};
 ghost use Rattle.par_index.specs.Firsts.{AreFirst};
 
 use indexmap::IndexMap;
-use par_lexer::list::NoMemory;
+use par_base::memory::NoMemory;
 use std::alloc::Global;
 use std::hash::Hash;
 

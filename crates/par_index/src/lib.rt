@@ -10,4 +10,4 @@ mod names;
 
 pub use firsts::Firsts;
 pub use names::NameIndex;
-pub use par_lexer;
+pub use par_base;

@@ -5,8 +5,8 @@ ghost use Rattle.par_index.specs.Texts.{texts, has};
 ghost use Rattle.par_index.specs.Placed.{ArePlaced};
 
 use crate::firsts::Firsts;
-use par_lexer::list::NoMemory;
-use par_lexer::name::Name;
+use par_base::memory::NoMemory;
+use par_base::name::Name;
 use std::alloc::Global;
 
 /// Names in an order, each with the first place where it stands. A name may stand more than once.

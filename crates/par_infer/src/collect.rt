@@ -13,7 +13,7 @@ ghost use Rattle.par_infer.specs.Collected.{HaveSmallEffects};
 use par_asked::body::checks_of;
 use par_asked::check::{Check, Condition};
 use par_atoms::Atoms;
-use par_lexer::list::NoMemory;
+use par_base::memory::NoMemory;
 use par_typed::program::TBody;
 use par_typed::table::Table;
 use par_verdict::known::{Known, KnownFacts};

@@ -17,7 +17,7 @@ use crate::collect::{is_member, limit};
 use crate::sets::replace;
 use par_asked::check::Check;
 use par_atoms::Atoms;
-use par_lexer::list::NoMemory;
+use par_base::memory::NoMemory;
 use par_typed::refusal::Findings;
 use par_verdict::known::{Known, KnownFacts};
 use par_verdict::{Policies, is_met, known_at, value_of};

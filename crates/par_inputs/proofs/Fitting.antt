@@ -9,9 +9,10 @@ use Rattle.std.proofs.lemmas.Bool.{and_parts}
 use Rattle.std.proofs.lemmas.Bool.Decides.{nat_tests}
 use Rattle.std.proofs.lemmas.List.Elements.{All-cons}
 use Rattle.std.proofs.lemmas.Option.{option_and_then_some, none-some, same_Some}
-use Rattle.par_values.specs.par_lexer.Pieces.{value}
+use Rattle.par_base.specs.Numbers.{value}
 use Rattle.par_inputs.specs.Lines.{Text}
-use Rattle.par_inputs.specs.Numbers.{is_decimal, magnitude_of, number_of, before_others, numbers_in}
+use Rattle.par_base.specs.Numbers.{is_decimal, magnitude_of}
+use Rattle.par_inputs.specs.Numbers.{number_of, before_others, numbers_in}
 use Rattle.par_inputs.specs.Numbers.{numbers_behind, numbers_of}
 
 magnitude_by : (greatest n : ℕ) (text : Text) (right : Bool)

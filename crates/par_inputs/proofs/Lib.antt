@@ -1,4 +1,3 @@
-pub mod Values
 pub mod Sets
 pub mod Words
 pub mod FileLines

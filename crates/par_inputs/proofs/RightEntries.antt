@@ -13,7 +13,7 @@ use Rattle.std.proofs.lemmas.Option.{none-some}
 use Rattle.std.proofs.lemmas.List.Folds.{list_any_at}
 use Rattle.std.proofs.lemmas.List.Quantifiers.{all_pairs_push}
 use Rattle.std.proofs.Math.Seq.{take-suc, take-length}
-use Rattle.par_values.proofs.par_lexer.NameTests.{is_name-IsName}
+use Rattle.par_base.proofs.NameTests.{is_name-IsName}
 use Rattle.par_values.specs.declared.inputs.ChannelInput.{ChannelInput}
 use Rattle.par_inputs.specs.Lines.{Text, lines_of}
 use Rattle.par_inputs.specs.Entries.{line_of}

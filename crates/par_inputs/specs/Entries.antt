@@ -3,7 +3,7 @@ use Rattle.std.specs.Prelude.{ℕ, ◌+◌, ℤ, List, ◌&&◌, ◌==◌, Optio
 use Rattle.std.specs.Prelude.{if◌then◌else◌}
 use Rattle.std.specs.List.{position}
 use Rattle.std.specs.Option.{option_map, option_and_then}
-use Rattle.par_values.specs.par_lexer.Names.{is_name}
+use Rattle.par_base.specs.Names.{is_name}
 use Rattle.par_values.specs.declared.inputs.ChannelInput.{ChannelInput}
 use Rattle.par_inputs.specs.Lines.{Text}
 use Rattle.par_inputs.specs.Numbers.{numbers_of}

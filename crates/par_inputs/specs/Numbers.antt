@@ -1,20 +1,10 @@
 -- The numbers of a line.
-use Rattle.std.specs.Prelude.{ℕ, ℤ, pos, neg_ℤ, List, [], ◌∷◌, ◌&&◌, ◌==◌, not, nat_lt, nat_le}
-use Rattle.std.specs.Prelude.{Bool, Option, Some, None, length, if◌then◌else◌}
-use Rattle.std.specs.List.{list_all, slice_split}
+use Rattle.std.specs.Prelude.{ℤ, pos, neg_ℤ, List, [], ◌∷◌, ◌==◌}
+use Rattle.std.specs.Prelude.{Option, Some, None, length, if◌then◌else◌}
+use Rattle.std.specs.List.{slice_split}
 use Rattle.std.specs.Option.{option_map, option_and_then}
-use Rattle.par_values.specs.par_lexer.Names.{is_digit}
-use Rattle.par_values.specs.par_lexer.Pieces.{value, has_leading_zero}
+use Rattle.par_base.specs.Numbers.{magnitude_of}
 use Rattle.par_inputs.specs.Lines.{Text}
-
--- digits, at least one, of which the first is no 0 that stands before others
-abbrev pub is_decimal : Text → Bool
-is_decimal text = nat_lt 0 (length text) && list_all is_digit text && not (has_leading_zero text)
-
--- the number that digits write, at most the greatest
-abbrev pub magnitude_of : ℕ → Text → Option ℕ
-magnitude_of greatest text =
-    if is_decimal text && nat_le (value text) greatest then Some (value text) else None
 
 -- A number of 32 bits: digits, which may stand behind a minus sign.
 unfoldable pub number_of : Text → Option ℤ

@@ -5,7 +5,7 @@ use Rattle.std.specs.Int.{w32}
 use Rattle.std.specs.List.{All, AllPairs, filter_map, list_any}
 use Rattle.std.specs.Option.{option_map_or}
 use Rattle.std.specs.Str.{bytes_eq}
-use Rattle.par_values.specs.par_lexer.Names.{IsName}
+use Rattle.par_base.specs.Names.{IsName}
 use Rattle.par_values.specs.declared.inputs.ChannelInput.{ChannelInput}
 use Rattle.par_inputs.specs.declared.error.BadInput.{BadInput}
 use Rattle.par_inputs.specs.declared.error.BadInput.TheVariants.{Line, Memory}

@@ -1,7 +1,7 @@
 ghost use Rattle.std.specs.Prelude.{◌≡◌};
 ghost use Rattle.par_inputs.specs.declared.error.BadInput.TheVariants.{Memory};
 
-use par_values::par_lexer::list::NoMemory;
+use par_base::memory::NoMemory;
 use std::alloc::{AllocError, AllocFailed};
 use thiserror::Error;
 

@@ -14,7 +14,6 @@ mod read;
 mod seen;
 
 pub use laws::{entries_stand_on_their_lines, files_are_right_or_broken};
-pub use number::magnitude_of;
 pub use par_values;
 pub use par_values::par_instr;
 pub use place::line_of_entry;

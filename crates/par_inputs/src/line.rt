@@ -1,14 +1,14 @@
-ghost use Rattle.std.specs.Prelude.{◌≡◌, ◌&&◌, IfOk, IsTrue};
-ghost use Rattle.std.specs.List.{before_first};
-ghost use Rattle.par_values.specs.par_lexer.Names.{is_name};
+ghost use Rattle.std.specs.Prelude.{◌≡◌, ◌&&◌, IfOk};
+ghost use Rattle.par_base.specs.Names.{is_name};
 ghost use Rattle.par_inputs.specs.Entries.{line_of};
 ghost use Rattle.par_inputs.specs.Numbers.{numbers_of};
 
 use crate::cuts::{cut_at, first_word};
 use crate::number::number_of;
+use par_base::list::List;
+use par_base::memory::NoMemory;
+use par_base::name::Name;
 use par_values::inputs::ChannelInput;
-use par_values::par_lexer::list::{List, NoMemory};
-use par_values::par_lexer::name::Name;
 use std::alloc::Global;
 
 // Whether both texts are names.

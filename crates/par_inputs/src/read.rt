@@ -7,8 +7,8 @@ use crate::cuts::{first_line, length_before};
 use crate::error::BadInput;
 use crate::line::line_of;
 use crate::seen::take_in;
+use par_base::list::List;
 use par_values::inputs::Inputs;
-use par_values::par_lexer::list::List;
 use std::alloc::Global;
 use std::collections::BTreeSet;
 

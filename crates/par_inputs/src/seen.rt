@@ -2,7 +2,7 @@ ghost use Rattle.std.specs.Prelude.{◌≡◌, ℕ, List, ◌||◌, not, IfOk, O
 ghost use Rattle.std.specs.Str.{bytes_eq};
 ghost use Rattle.par_inputs.specs.Seen.{has};
 
-use par_values::par_lexer::list::NoMemory;
+use par_base::memory::NoMemory;
 use std::collections::BTreeSet;
 
 // Takes a text in, and says whether it is a new one.

@@ -1,4 +1,3 @@
-use std::alloc::AllocError;
 use thiserror::Error;
 
 /// An instruction of one method's code.
@@ -68,14 +67,4 @@ pub enum InstrError {
     /// The code ends there or within the operands.
     #[error("code is cut short")]
     Cut,
-}
-
-/// There was not enough memory.
-#[derive(Clone, Copy, Debug, PartialEq, Eq)]
-pub struct NoMemory;
-
-impl From<AllocError> for NoMemory {
-    fn from(_: AllocError) -> NoMemory {
-        NoMemory
-    }
 }

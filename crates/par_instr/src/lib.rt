@@ -16,8 +16,9 @@ mod opcodes;
 mod operands;
 mod spelling;
 
-pub use instr::{Instr, InstrError, NoMemory};
+pub use instr::{Instr, InstrError};
 pub use laws::{
     decoded_is_what_stands, spelling_ends_itself, spelling_is_one, spelling_is_read_again,
 };
+pub use par_base::memory::NoMemory;
 pub use spelling::{decode, encode, stack_effect};

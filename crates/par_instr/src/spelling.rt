@@ -4,9 +4,10 @@ ghost use Rattle.par_instr.specs.Decoding.{decoded_at};
 ghost use Rattle.par_instr.specs.Spelling.{size, spelling, has_spelling, effect, IsSpelled, Stands};
 ghost use Rattle.par_instr.specs.Spelling.{IsUnlisted, IsCut};
 
-use crate::instr::{Instr, InstrError, NoMemory};
+use crate::instr::{Instr, InstrError};
 use crate::numbers::Numbers;
 use crate::opcodes::{blank, fill, row_of};
+use par_base::memory::NoMemory;
 
 /// The instruction at an offset of the code, and the offset behind it.
 ///

@@ -19,4 +19,5 @@ pub use host_sink::HostSink;
 pub use mem_folder::MemFolder;
 pub use mem_sink::MemSink;
 pub use opener::Opener;
-pub use outside::{Folder, NoMemory, PutFailed, ReadFail, Sink, WriteFail};
+pub use outside::{Folder, PutFailed, ReadFail, Sink, WriteFail};
+pub use par_base::memory::NoMemory;

@@ -1,4 +1,4 @@
-ghost use Rattle.std.specs.Prelude.{◌≡◌, ◌≢◌, ℕ, ◌+◌, ◌-◌, ◌^◌, ◌<◌, ◌≤◌, ◌↔◌, List, Option, Some};
+ghost use Rattle.std.specs.Prelude.{◌≡◌, ◌≢◌, ℕ, ◌-◌, ◌^◌, ◌<◌, ◌≤◌, ◌↔◌, List, Option, Some};
 ghost use Rattle.std.specs.Prelude.{None, IfOk, IsTrue, IsErrOf, MatchResult, OnOk, OnErr, length};
 ghost use Rattle.std.specs.Prelude.{take, min, option_copied, true, false};
 ghost use Rattle.std.specs.Ordering.{nat_cmp};
@@ -7,7 +7,8 @@ ghost use Rattle.std.specs.BTreeSet.{contains};
 ghost use Rattle.par_io.specs.Causes.{untouched_folder, Sets, Makes, SameAnswers, CountsRead};
 ghost use Rattle.par_io.specs.Causes.{CountsWrite};
 
-use crate::outside::{Folder, NoMemory, ReadFail, WriteFail};
+use crate::outside::{Folder, ReadFail, WriteFail};
+use par_base::memory::NoMemory;
 use std::alloc::Global;
 use std::collections::{BTreeMap, BTreeSet};
 

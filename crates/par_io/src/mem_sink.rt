@@ -1,9 +1,10 @@
-ghost use Rattle.std.specs.Prelude.{◌≡◌, ◌≢◌, ℕ, ◌+◌, ◌-◌, ◌^◌, ◌<◌, ◌≤◌, ◌↔◌, ◌⊎◌, [], ◌++◌, List};
+ghost use Rattle.std.specs.Prelude.{◌≡◌, ◌≢◌, ℕ, ◌+◌, ◌-◌, ◌<◌, ◌≤◌, ◌↔◌, ◌⊎◌, [], ◌++◌};
 ghost use Rattle.std.specs.Prelude.{Some, None, IfOk, IsSome, IsErr, IsTrue, OnOk, OnErr, length};
 ghost use Rattle.std.specs.Prelude.{take, min, vec_capacity, vec_len, true, false};
 ghost use Rattle.par_io.specs.Causes.{untouched_sink, AppendsFront, raised};
 
-use crate::outside::{NoMemory, PutFailed, Sink};
+use crate::outside::{PutFailed, Sink};
+use par_base::memory::NoMemory;
 use std::alloc::Global;
 
 // A put that is set to fail, and how many of its bytes it is to keep.

@@ -6,23 +6,8 @@ ghost use Rattle.par_io.specs.Causes.{StandBut, Sets, appended, AppendsFront};
 ghost use Rattle.par_io.specs.declared.outside.ReadFail.{ReadFail};
 ghost use Rattle.par_io.specs.declared.outside.WriteFail.{WriteFail};
 
-use std::alloc::{AllocError, AllocFailed, Global};
-
-/// The answer of a call that lacked memory, where that is its only refusal.
-#[derive(Clone, Copy, Debug, PartialEq, Eq)]
-pub struct NoMemory;
-
-impl From<AllocError> for NoMemory {
-    fn from(_error: AllocError) -> NoMemory {
-        NoMemory
-    }
-}
-
-impl<T: Drop> From<AllocFailed<T>> for NoMemory {
-    fn from(_error: AllocFailed<T>) -> NoMemory {
-        NoMemory
-    }
-}
+use par_base::memory::NoMemory;
+use std::alloc::{AllocError, Global};
 
 /// Why a file was not read.
 #[derive(Clone, Copy, Debug, PartialEq, Eq)]

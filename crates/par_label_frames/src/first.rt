@@ -4,8 +4,8 @@ ghost use Rattle.std.specs.Prelude.{◌≡◌, ◌≢◌, ℕ, None, Some, get_o
 ghost use Rattle.std.specs.Prelude.{MatchOption};
 ghost use Rattle.par_label_frames.specs.First.{AreFirst, item_frame};
 
+use par_base::memory::NoMemory;
 use par_code_form::{Item, LabelFrame};
-use par_lexer::list::NoMemory;
 use std::alloc::Global;
 
 /// Gives a label this place; other labels that are not marked have the place `none`.

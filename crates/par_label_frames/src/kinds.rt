@@ -3,9 +3,10 @@
 ghost use Rattle.std.specs.Prelude.{◌≡◌, IfOk};
 ghost use Rattle.par_placed_frames.specs.Framed as spec;
 
+use par_base::list::List;
+use par_base::memory::NoMemory;
 use par_code_form::{LabelFrame, Slot};
 use par_kinds::frame::{Frame, PlacedFrame, VKind};
-use par_lexer::list::{List, NoMemory};
 use std::alloc::Global;
 
 fn kind_of(alloc: Global, slot: &Slot) -> Result<VKind, NoMemory>

@@ -10,9 +10,10 @@ ghost use Rattle.par_placed_frames.specs.Framed.{frames_with};
 
 use crate::first::{first_places, frame_of};
 use crate::kinds::placed;
+use par_base::list::List;
+use par_base::memory::NoMemory;
 use par_code_form::{Item, LabelFrame, Labelled};
 use par_kinds::frame::PlacedFrame;
-use par_lexer::list::{List, NoMemory};
 use std::alloc::Global;
 
 /// Whether the last frame stands at an offset.

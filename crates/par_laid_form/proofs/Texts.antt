@@ -4,7 +4,7 @@ use Rattle.std.proofs.Common.{Some, None, refl, sym, ap, ◌∙◌, codes}
 use Rattle.std.specs.Str.{bytes_eq}
 use Rattle.std.proofs.lemmas.Bool.{and_from, le-leb}
 use Rattle.std.proofs.lemmas.Slice.Eq.{bytes_eq-Decides}
-use Rattle.par_lexer.specs.Names.{IsName, is_name, is_spelled}
+use Rattle.par_base.specs.Names.{IsName, is_name, is_spelled}
 use Rattle.par_pool.specs.declared.constant.Constant.{Constant}
 use Rattle.par_pool.specs.Entries.{IsUtf8At, IsClassAt}
 use Rattle.par_values.specs.Areas.{Name}

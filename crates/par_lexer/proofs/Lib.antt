@@ -1,5 +1,4 @@
 pub mod Comments
-pub mod Numbers
 pub mod Prefixes
 pub mod Finds
 pub mod Reach
@@ -7,4 +6,3 @@ pub mod Cuts
 pub mod Progress
 pub mod Refusals
 pub mod Laying
-pub mod NameTests

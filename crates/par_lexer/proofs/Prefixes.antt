@@ -5,7 +5,8 @@ use Rattle.std.specs.List.{All, list_all, prefix_len, take_while}
 use Rattle.std.proofs.lemmas.List.Sums.{prefix_len_passes, take_while-cons}
 use Rattle.std.proofs.lemmas.List.{get_or-take}
 use Rattle.std.proofs.lemmas.List.Folds.{length-prefix_len}
-use Rattle.par_lexer.specs.Names.{is_letter, is_digit, goes_on, first_is, is_spelled}
+use Rattle.par_base.specs.Names.{is_letter, is_digit, goes_on, is_spelled}
+use Rattle.par_lexer.specs.Blanks.{first_is}
 
 both : (a b : Bool) → a ≡ true → b ≡ true → (a && b) ≡ true
 both a b first second = rw first second

@@ -12,15 +12,17 @@ use Rattle.std.proofs.lemmas.List.Folds.{length-prefix_len}
 use Rattle.std.proofs.lemmas.List.Elements.{Contains-append_cases}
 use Rattle.std.proofs.lemmas.Slice.Eq.{bytes_eq-Decides}
 use Rattle.std.proofs.lemmas.List.{length-take, length-drop}
-use Rattle.par_lexer.specs.Names.{is_letter, is_digit, is_blank, goes_on, first_is}
+use Rattle.par_base.specs.Names.{is_letter, is_digit, goes_on}
+use Rattle.par_base.specs.Numbers.{value, has_leading_zero}
+use Rattle.par_lexer.specs.Blanks.{is_blank, first_is}
 use Rattle.par_lexer.specs.Tables.{Row, words, signs}
 use Rattle.par_lexer.specs.Pieces.{begins, line_length, through_close, comment_at, named, name_at}
-use Rattle.par_lexer.specs.Pieces.{value, has_leading_zero, number_at, signs_of, longest_sign}
+use Rattle.par_lexer.specs.Pieces.{number_at, signs_of, longest_sign}
 use Rattle.par_lexer.specs.Pieces.{sign_at, piece_at}
 use Rattle.par_lexer.specs.Spans.{IsText, Reaches}
 use Rattle.par_lexer.specs.declared.token.Kind.{Kind}
 use Rattle.par_lexer.specs.declared.token.Kind.TheVariants.{Number}
-use Rattle.par_lexer.specs.declared.list.NoMemory.{NoMemory}
+use Rattle.par_base.specs.declared.memory.NoMemory.{NoMemory}
 use Rattle.par_lexer.specs.declared.piece.Piece.{Piece}
 use Rattle.par_lexer.specs.declared.piece.Piece.TheVariants as piece
 use Rattle.par_lexer.proofs.Finds.{found, filtered, passed, first_passes}

@@ -1,8 +1,8 @@
-pub mod Names
+pub mod Blanks
 pub mod Tables
 pub mod Pieces
 pub mod Tokens
 pub mod Spans
 pub mod Places
 pub mod Laws
-pub mod formers
+pub use Rattle.par_base.specs as par_base

@@ -1,11 +1,13 @@
 -- What stands at the head of some bytes: nothing, a blank, a comment, a token or a fault.
-use Rattle.std.specs.Prelude.{ℕ, ◌+◌, ◌-◌, ◌*◌, List, [], ◌∷◌, ◌++◌, Bool, not, ◌&&◌, ◌==◌, nat_eq}
-use Rattle.std.specs.Prelude.{nat_lt, if◌then◌else◌, length, take_while, drop, fold, find, filter}
+use Rattle.std.specs.Prelude.{ℕ, ◌+◌, List, [], ◌∷◌, ◌++◌, Bool, not, ◌==◌, nat_eq}
+use Rattle.std.specs.Prelude.{nat_lt, if◌then◌else◌, length, take_while, drop, find, filter}
 use Rattle.std.specs.Prelude.{Option, Some, None, codes}
 use Rattle.std.specs.List.{starts_with, prefix_len}
 use Rattle.std.specs.Option.{option_map}
 use Rattle.std.specs.Str.{bytes_eq}
-use Rattle.par_lexer.specs.Names.{is_letter, is_digit, is_blank, goes_on, first_is}
+use Rattle.par_base.specs.Names.{is_letter, is_digit, goes_on}
+use Rattle.par_base.specs.Numbers.{value, has_leading_zero}
+use Rattle.par_lexer.specs.Blanks.{is_blank, first_is}
 use Rattle.par_lexer.specs.Tables.{Row, words, signs}
 use Rattle.par_lexer.specs.declared.token.Kind.{Kind}
 use Rattle.par_lexer.specs.declared.token.Kind.TheVariants.{Word, Name, Number, Sign}
@@ -44,18 +46,6 @@ abbrev pub name_at : ℕ → List ℕ → Piece
 name_at at text =
     if nat_lt 64 (length text) then Fault (NameTooLong at)
     else Token (named text (find (λ row. bytes_eq row.1 text) words)) (length text)
-
--- a number with one more decimal digit behind it
-abbrev pub with_digit : ℕ → ℕ → ℕ
-with_digit n digit = 10 * n + (digit - 48)
-
--- the number that decimal digits write
-abbrev pub value : List ℕ → ℕ
-value digits = fold with_digit 0 digits
-
--- whether more than one digit stands there, the first of which is 0
-abbrev pub has_leading_zero : List ℕ → Bool
-has_leading_zero digits = begins (codes "0") digits && nat_lt 1 (length digits)
 
 -- the token of a longest run of digits, given the bytes behind it
 abbrev pub number_at : ℕ → List ℕ → List ℕ → Piece

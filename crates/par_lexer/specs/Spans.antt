@@ -2,7 +2,7 @@
 use Rattle.std.specs.Prelude.{◌≡◌, ℕ, ◌+◌, ◌<◌, ◌≤◌, List, length, take, slice_range}
 use Rattle.std.specs.List.{All, AllPairs, Contains}
 use Rattle.par_lexer.specs.Tables.{words, signs}
-use Rattle.par_lexer.specs.Pieces.{value}
+use Rattle.par_base.specs.Numbers.{value}
 use Rattle.par_lexer.specs.declared.token.Kind.{Kind}
 use Rattle.par_lexer.specs.declared.token.Kind.TheVariants.{Word, Name, Number, Sign}
 use Rattle.par_lexer.specs.declared.token.Token.{Token}

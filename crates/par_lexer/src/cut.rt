@@ -3,10 +3,11 @@ ghost use Rattle.par_lexer.specs.Pieces.{piece_at};
 ghost use Rattle.par_lexer.specs.Spans.{Reaches, IsLaid};
 ghost use Rattle.par_lexer.specs.Tokens.{HasTokens, IsRefusal, IsPlaced};
 
-use crate::list::{List, NoMemory};
 use crate::piece::Piece;
 use crate::scan::piece_at;
 use crate::token::{LexError, Token};
+use par_base::list::List;
+use par_base::memory::NoMemory;
 use std::alloc::Global;
 
 /// The most bytes that a source may have.

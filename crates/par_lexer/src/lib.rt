@@ -1,15 +1,12 @@
 //! The words of a Paragon source: its bytes are cut into tokens, with their places.
 //!
-//! The crate also has the list and the name that every later layer builds its trees of. It knows
-//! no grammar and no name that a program declares, and it never repairs a faulty source.
+//! It knows no grammar and no name that a program declares, and it never repairs a faulty source.
+//! The list and the name of which every layer builds are handed on.
 #![tactic(auto)]
 
 mod bytes;
 mod cut;
 mod laws;
-pub mod list;
-pub mod name;
-mod number;
 pub mod operator;
 mod piece;
 mod place;
@@ -22,4 +19,6 @@ pub mod word;
 
 pub use cut::{LONGEST_SOURCE, lex};
 pub use laws::sources_are_cut_one_way;
+pub use par_base;
+pub use par_base::{list, memory, name};
 pub use place::place_of;

@@ -2,10 +2,10 @@
 
 ghost use Rattle.std.specs.Prelude.{◌≡◌, ◌≤◌, IfSome, length};
 ghost use Rattle.std.specs.List.{prefix_len};
-ghost use Rattle.par_lexer.specs.Names.{is_digit, goes_on};
+ghost use Rattle.par_base.specs.Names.{is_digit, goes_on};
 ghost use Rattle.par_lexer.specs.Pieces.{line_length, through_close};
 
-use crate::bytes;
+use par_base::letters;
 
 // How many letters, digits and `_` there are.
 pub fn name_length(text: &[u8]) -> usize
@@ -13,7 +13,7 @@ pub fn name_length(text: &[u8]) -> usize
     ensures within { result ≤ length text.now }
 {
     text.iter()
-        .take_while(|byte| bytes::goes_on(**byte))
+        .take_while(|byte| letters::goes_on(**byte))
         .count()
 }
 
@@ -23,7 +23,7 @@ pub fn digits_length(text: &[u8]) -> usize
     ensures within { result ≤ length text.now }
 {
     text.iter()
-        .take_while(|byte| bytes::is_digit(**byte))
+        .take_while(|byte| letters::is_digit(**byte))
         .count()
 }
 

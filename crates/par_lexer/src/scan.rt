@@ -2,21 +2,25 @@ ghost use Rattle.std.specs.Prelude.{◌≡◌, ◌+◌, ◌≤◌, IfOk, IsTrue,
 ghost use Rattle.std.specs.Prelude.{drop};
 ghost use Rattle.std.specs.List.{prefix_len};
 ghost use Rattle.std.specs.Str.{bytes_eq};
-ghost use Rattle.par_lexer.specs.Names.{IsName, is_letter, is_digit, is_blank, goes_on, first_is};
+ghost use Rattle.par_base.specs.Names.{IsName, is_letter, is_digit, goes_on};
+ghost use Rattle.par_lexer.specs.Blanks.{first_is};
 ghost use Rattle.par_lexer.specs.Tables.{words};
 ghost use Rattle.par_lexer.specs.Pieces.{comment_at, through_close, named, name_at, number_at};
 ghost use Rattle.par_lexer.specs.Pieces.{sign_at, longest_sign, piece_at};
 
 use crate::bytes::{begins_gap, begins_name, begins_number};
 use crate::cut::LONGEST_SOURCE;
-use crate::list::NoMemory;
-use crate::name::{LONGEST, Name};
-use crate::number::value_of;
 use crate::piece::Piece;
 use crate::runs::{digits_length, line_length, name_length, through_close};
 use crate::table::{sign_of, word_of};
 use crate::token::{Kind, LexError};
+use par_base::memory::NoMemory;
+use par_base::name::{LONGEST, Name};
+use par_base::numbers::{has_leading_zero, value_of};
 use std::alloc::Global;
+
+// The greatest number that a source may write.
+const GREATEST: u32 = 2_147_483_648;
 
 // The comment that the bytes begin with.
 fn comment_at(at: u32, bytes: &[u8]) -> Piece
@@ -61,10 +65,10 @@ fn number_at(at: u32, bytes: &[u8]) -> Piece
         result ≡ number_at at (take digits bytes.now) (drop digits bytes.now) }
 {
     let (digits, behind) = bytes.split_at(digits_length(bytes));
-    if digits.starts_with(b"0") && digits.len() > 1 {
+    if has_leading_zero(digits) {
         return Piece::Fault(LexError::BadByte(at));
     }
-    let Some(value) = value_of(digits) else {
+    let Some(value) = value_of(digits, GREATEST) else {
         return Piece::Fault(LexError::NumberTooLarge(at));
     };
     if begins_name(behind) {

@@ -1,8 +1,8 @@
 ghost use Rattle.std.specs.Prelude.{◌≡◌};
 ghost use Rattle.par_lexer.specs.declared.token.LexError.TheVariants.{Memory};
 
-use crate::list::NoMemory;
-use crate::name::Name;
+use par_base::memory::NoMemory;
+use par_base::name::Name;
 use std::alloc::{AllocError, AllocFailed};
 use thiserror::Error;
 

@@ -2,7 +2,8 @@ ghost use Rattle.std.specs.Prelude.{◌≡◌, ◌<◌, slice_get, IfOk, OnSome}
 ghost use Rattle.par_values.specs.Areas.{next};
 ghost use Rattle.par_lines.specs.Lines.{left_at, taken_at};
 
-use par_lexer::list::{List, NoMemory};
+use par_base::list::List;
+use par_base::memory::NoMemory;
 use par_values::inputs::{ChannelInput, Inputs};
 use std::alloc::Global;
 use std::marker::Model;

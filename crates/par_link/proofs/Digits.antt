@@ -4,9 +4,9 @@ use Rattle.std.proofs.Common.{◌&&◌, List, [], ◌∷◌, length, Some, None,
 use Rattle.std.specs.Prelude.{nat_lt, nat_le}
 use Rattle.std.proofs.lemmas.Bool.{and_parts, leb-true, lt-ltb}
 use Rattle.std.specs.List.{fold, list_all}
-use Rattle.par_index.specs.par_lexer.Names.{is_digit}
-use Rattle.par_index.specs.par_lexer.Pieces.{with_digit, value, has_leading_zero}
-use Rattle.par_inputs.specs.Numbers.{is_decimal, magnitude_of}
+use Rattle.par_index.specs.par_base.Names.{is_digit}
+use Rattle.par_index.specs.par_base.Numbers.{with_digit, value, has_leading_zero}
+use Rattle.par_base.specs.Numbers.{is_decimal, magnitude_of}
 
 grows : (n : ℕ) (digits : List ℕ) → n ≤ fold with_digit n digits
 grows n [] = omega arith

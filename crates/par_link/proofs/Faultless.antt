@@ -13,7 +13,7 @@ use Rattle.par_single.specs.par_class.declared.file.MethodFile.{MethodFile}
 use Rattle.par_single.proofs.par_pool.Positions.{position-none}
 use Rattle.par_index.proofs.Places.{any-map, position-is_some}
 use Rattle.par_link.proofs.Passing.{eq_turned}
-use Rattle.par_index.specs.par_lexer.Names.{IsName}
+use Rattle.par_index.specs.par_base.Names.{IsName}
 use Rattle.par_link.specs.Conditions.{IsSmall}
 use Rattle.par_link.specs.Linked.{AreLinked}
 use Rattle.par_link.specs.Order.{at, in_class, member_fault, description_fault, constant_fault}

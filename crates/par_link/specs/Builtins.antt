@@ -1,7 +1,7 @@
 -- The classes that every program has, and their fields and methods.
 use Rattle.std.specs.Prelude.{ℕ, ◌==◌, if◌then◌else◌, [], ◌∷◌, Option, Some, None, codes}
 use Rattle.std.specs.Str.{bytes_eq}
-use Rattle.par_inputs.specs.Numbers.{magnitude_of}
+use Rattle.par_base.specs.Numbers.{magnitude_of}
 use Rattle.par_single.specs.Descriptors.{Text}
 use Rattle.par_single.specs.Members.{Member, is_initializer}
 use Rattle.par_link.specs.declared.entry.Builtin.{Builtin}

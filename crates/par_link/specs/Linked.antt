@@ -3,7 +3,7 @@ use Rattle.std.specs.Prelude.{◌≡◌, ℕ, zero, suc, ◌<◌, ◌≤◌, ◌
 use Rattle.std.specs.Prelude.{None, slice_get}
 use Rattle.std.specs.List.{All}
 use Rattle.std.specs.Option.{option_map_or, unwrap_or}
-use Rattle.par_index.specs.par_lexer.Names.{IsName}
+use Rattle.par_index.specs.par_base.Names.{IsName}
 use Rattle.par_single.specs.par_pool.Entries.{entry_at}
 use Rattle.par_single.specs.par_class.declared.file.ClassFile.{ClassFile}
 use Rattle.par_single.specs.Members.{own_name}

@@ -1,13 +1,13 @@
 //! The classes that every program has, and their members.
 
 ghost use Rattle.std.specs.Prelude.{◌≡◌};
-ghost use Rattle.par_inputs.specs.Numbers.{magnitude_of};
+ghost use Rattle.par_base.specs.Numbers.{magnitude_of};
 ghost use Rattle.par_single.specs.Members.{named};
 ghost use Rattle.par_link.specs.Builtins.{builtin, lock_number, lock_field, initializer};
 ghost use Rattle.par_link.specs.Builtins.{builtin_field, builtin_method};
 
 use crate::entry::{Builtin, Named};
-use par_inputs::magnitude_of;
+use par_base::numbers::magnitude_of;
 use par_single::member::{Naming, is_initializer};
 
 /// The greatest number of a lock that has a field.

@@ -12,7 +12,8 @@ ghost use Rattle.par_link.specs.Conditions.{IsSmall};
 ghost use Rattle.par_link.specs.Inputs.{is_input, is_input_of, has_input};
 
 use crate::entry::Declared;
-use par_index::par_lexer::list::{List, NoMemory};
+use par_index::par_base::list::List;
+use par_index::par_base::memory::NoMemory;
 use par_single::member::{is_static, own_name, text_at};
 use par_single::par_class::file::{ClassFile, MethodFile};
 use par_single::par_class::is_native;

@@ -10,7 +10,7 @@ ghost use Rattle.par_link.specs.Rules.{earlier, repeated_class};
 
 use crate::places::{first_repeated, narrow};
 use par_index::Firsts;
-use par_index::par_lexer::list::NoMemory;
+use par_index::par_base::memory::NoMemory;
 use par_single::member::{is_taken, own_name};
 use par_single::par_class::file::ClassFile;
 use std::alloc::Global;

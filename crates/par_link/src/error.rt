@@ -1,7 +1,7 @@
 ghost use Rattle.std.specs.Prelude.{◌≡◌};
 ghost use Rattle.par_link.specs.declared.error.LinkError.TheVariants.{Memory};
 
-use par_index::par_lexer::list::NoMemory;
+use par_index::par_base::memory::NoMemory;
 use std::alloc::{AllocError, AllocFailed};
 use thiserror::Error;
 

@@ -8,7 +8,7 @@ ghost use Rattle.par_link.specs.Placed.{same_key};
 
 use crate::places::first_repeated;
 use par_index::Firsts;
-use par_index::par_lexer::list::NoMemory;
+use par_index::par_base::memory::NoMemory;
 use std::alloc::Global;
 
 /// What tells a field or a method from the others of its class: its name and its descriptor, each

@@ -5,7 +5,7 @@ ghost use Rattle.par_link.specs.Linked.{AreLinked, name_at, named_at};
 
 use crate::channels::Channels;
 use crate::entry::Named;
-use par_index::par_lexer::list::List;
+use par_index::par_base::list::List;
 use par_single::par_class::file::ClassFile;
 use std::marker::Model;
 

@@ -3,7 +3,7 @@
 ghost use Rattle.std.specs.Prelude.{◌≡◌, ◌<◌, ◌^◌, ℕ, List as Items, length, map, None, IfOk, OnOk};
 ghost use Rattle.std.specs.Prelude.{IfErr};
 ghost use Rattle.std.specs.List.{All};
-ghost use Rattle.par_index.specs.par_lexer.Names.{IsName};
+ghost use Rattle.par_index.specs.par_base.Names.{IsName};
 ghost use Rattle.par_single.specs.par_class.Spelling.{Spells};
 ghost use Rattle.par_single.specs.Members.{own_name};
 ghost use Rattle.par_link.specs.Conditions.{IsSmall};
@@ -19,7 +19,8 @@ use crate::linked::Linked;
 use crate::members::Members;
 use crate::rules::{TOO_MANY, TWICE};
 use crate::tables::Tables;
-use par_index::par_lexer::list::{List, NoMemory};
+use par_index::par_base::list::List;
+use par_index::par_base::memory::NoMemory;
 use par_single::par_class::file::ClassFile;
 use std::alloc::Global;
 

@@ -12,7 +12,7 @@ use crate::entry::Named;
 use crate::keys::{Key, Keys};
 use crate::places::narrow;
 use crate::texts::{TextIndex, Texts};
-use par_index::par_lexer::list::NoMemory;
+use par_index::par_base::memory::NoMemory;
 use par_single::described::is_method_right;
 use par_single::par_class::file::{ClassFile, MethodFile};
 use par_single::par_class::is_native;

@@ -17,7 +17,7 @@ use crate::entry::{Declared, Named};
 use crate::keys::Key;
 use crate::members::Members;
 use crate::texts::TextIndex;
-use par_index::par_lexer::list::NoMemory;
+use par_index::par_base::memory::NoMemory;
 use par_single::member::naming_at;
 use par_single::par_class::file::ClassFile;
 use par_single::par_pool::constant::Constant;

@@ -3,7 +3,7 @@ use Rattle.std.proofs.Common.{◌≡◌, Bool, true, false, cond, Option, Some, 
 use Rattle.std.proofs.Common.{ap}
 use Rattle.std.proofs.Common.{◌∙◌}
 use Rattle.std.specs.Str.{bytes_eq}
-use Rattle.par_lexer.specs.Names.{is_name}
+use Rattle.par_base.specs.Names.{is_name}
 use Rattle.par_described.specs.par_single.Descriptors.{Text}
 use Rattle.par_loader.specs.par_link.declared.entry.Builtin.{Builtin}
 use Rattle.par_loader.specs.par_link.declared.entry.Builtin.TheVariants.{Object, Exception}

@@ -17,7 +17,7 @@ use Rattle.par_typed.specs.declared.table.Table.{Table}
 use Rattle.par_typed.specs.Plain.{TSta, Body}
 use Rattle.par_declared.specs.Names.{HasOwnNames}
 use Rattle.par_bodies.specs.Members.{IsClass, fields_in, channels_in, methods_in}
-use Rattle.par_lexer.specs.Names.{IsName}
+use Rattle.par_base.specs.Names.{IsName}
 use Rattle.par_typed.specs.declared.ty.Ty.{Ty}
 use Rattle.par_typed.specs.declared.ty.Ty.TheVariants as ty
 use Rattle.par_class.specs.declared.file.ClassFile.{ClassFile}

@@ -7,8 +7,8 @@ use Rattle.std.proofs.lemmas.Map.Keys.{IsDistinct-push}
 use Rattle.std.specs.List.{list_any, position, IsDistinct}
 use Rattle.std.specs.Option.{option_map, option_or}
 use Rattle.std.specs.Str.{bytes_eq}
-use Rattle.par_lexer.specs.Names.{is_name}
-use Rattle.par_lexer.proofs.NameTests.{IsName-is_name}
+use Rattle.par_base.specs.Names.{is_name}
+use Rattle.par_base.proofs.NameTests.{IsName-is_name}
 use Rattle.par_index.proofs.Places.{position-is_some}
 use Rattle.par_pool.specs.declared.constant.Constant.{Constant}
 use Rattle.par_pool.specs.declared.constant.Constant.TheVariants as constant

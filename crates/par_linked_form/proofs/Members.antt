@@ -6,8 +6,8 @@ use Rattle.std.proofs.lemmas.Bool.{and_from, or_left, or_right, not_from_false}
 use Rattle.std.proofs.lemmas.List.{map-append}
 use Rattle.std.specs.List.{list_any, AllByRecursion, IsDistinct}
 use Rattle.std.specs.Str.{bytes_eq}
-use Rattle.par_lexer.specs.Names.{IsName, is_name}
-use Rattle.par_lexer.proofs.NameTests.{IsName-is_name}
+use Rattle.par_base.specs.Names.{IsName, is_name}
+use Rattle.par_base.proofs.NameTests.{IsName-is_name}
 use Rattle.par_typed.specs.declared.ty.Ty.{Ty}
 use Rattle.par_typed.specs.declared.ty.Ty.TheVariants as ty
 use Rattle.par_typed.specs.declared.table.ChannelInfo.{ChannelInfo}

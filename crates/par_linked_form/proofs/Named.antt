@@ -5,8 +5,8 @@ use Rattle.std.proofs.Common.{◌∙◌, ◌⊎◌, inl, inr, option_map, ℤ}
 use Rattle.std.specs.List.{list_any, position, IsDistinct}
 use Rattle.std.specs.Option.{option_and_then}
 use Rattle.std.specs.Str.{bytes_eq}
-use Rattle.par_lexer.specs.Names.{is_name}
-use Rattle.par_lexer.proofs.NameTests.{IsName-is_name}
+use Rattle.par_base.specs.Names.{is_name}
+use Rattle.par_base.proofs.NameTests.{IsName-is_name}
 use Rattle.par_index.proofs.Places.{position-is_some}
 use Rattle.par_declared.proofs.Names.{names_stand_once}
 use Rattle.par_pool.specs.declared.constant.Constant.{Constant}

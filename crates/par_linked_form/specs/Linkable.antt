@@ -3,7 +3,7 @@
 use Rattle.std.specs.Prelude.{◌≡◌, ℕ, ◌<◌, ◌≤◌, nat_lt, ◌⊎◌, Bool, true, List, [], ◌∷◌, length}
 use Rattle.std.specs.Prelude.{map, take, cond, if◌then◌else◌, Some, codes}
 use Rattle.std.specs.List.{AllByRecursion, flat_map}
-use Rattle.par_lexer.specs.Names.{IsName}
+use Rattle.par_base.specs.Names.{IsName}
 use Rattle.par_typed.specs.declared.ty.Ty.{Ty}
 use Rattle.par_typed.specs.declared.ty.Ty.TheVariants as ty
 use Rattle.par_typed.specs.declared.table.ChannelInfo.{ChannelInfo}

@@ -43,9 +43,9 @@ use Rattle.par_sound.specs.par_steps.Methods.{pool_of, code_in, code_or_none}
 use Rattle.par_sound.specs.par_steps.Methods.{methods_of as methods_in}
 use Rattle.std.specs.Prelude.{nat_le}
 use Rattle.std.specs.Option.{option_map_or}
-use Rattle.par_lexer.specs.Names.{is_name}
-use Rattle.par_lexer.specs.Pieces.{value}
-use Rattle.par_inputs.specs.Numbers.{magnitude_of, is_decimal}
+use Rattle.par_base.specs.Names.{is_name}
+use Rattle.par_base.specs.Numbers.{value}
+use Rattle.par_base.specs.Numbers.{magnitude_of, is_decimal}
 use Rattle.par_class.specs.declared.file.CodeAttr.{CodeAttr}
 use Rattle.par_values.specs.declared.link.Target.{Target}
 use Rattle.par_values.specs.declared.link.Target.TheVariants.{Code}

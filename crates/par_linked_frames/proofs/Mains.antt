@@ -24,7 +24,7 @@ use Rattle.par_single.specs.Descriptors.{method_signature}
 use Rattle.par_single.specs.Descriptors as said
 use Rattle.par_single.specs.Links.{signature_said}
 use Rattle.par_single.proofs.Found.{found_at}
-use Rattle.par_lexer.specs.Names.{is_name}
+use Rattle.par_base.specs.Names.{is_name}
 use Rattle.par_sound.specs.par_steps.Methods.{method_descriptor, descriptor_in, pool_of}
 use Rattle.par_sound.specs.par_steps.Methods.{methods_of as methods_at}
 use Rattle.par_sound.specs.par_steps.State.{main_place}

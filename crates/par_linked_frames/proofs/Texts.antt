@@ -37,7 +37,7 @@ use Rattle.par_single.specs.Described.{field_named, method_named, is_channel_rig
 use Rattle.par_single.proofs.Found.{found_at}
 use Rattle.par_single.specs.Descriptors as said
 use Rattle.par_single.specs.Descriptors.{method_signature}
-use Rattle.par_lexer.specs.Names.{is_name}
+use Rattle.par_base.specs.Names.{is_name}
 use Rattle.par_values.specs.declared.link.Target.TheVariants.{Code}
 use Rattle.par_sound.specs.par_steps.Links.{channel_of, method_link, builtin_initializer, link_of}
 use Rattle.par_sound.specs.par_steps.Links.{field_link}

@@ -12,7 +12,7 @@ use Rattle.par_loader.specs.Reads.{Text, MakesAtMost, FailsWithin, WasFound}
 use Rattle.par_loader.specs.Mentions.{Naming}
 use Rattle.par_loader.specs.Found as found
 use Rattle.par_loader.specs.Found.{Found, found_in, Finds, Rises}
-use Rattle.par_lexer.specs.Names.{is_name}
+use Rattle.par_base.specs.Names.{is_name}
 use Rattle.par_loader.proofs.Finding.{some_there}
 use Rattle.par_loader.specs.Loaded.{Loaded, whole, missing, overlong, refused, absent, Load, Step}
 use Rattle.par_loader.specs.Loaded.{ends, asked, behind_first, step_of, step, main_naming}

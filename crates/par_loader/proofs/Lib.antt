@@ -1,4 +1,3 @@
-pub mod Ascii
 pub mod Counting
 pub mod Asked
 pub mod Finding

@@ -1,7 +1,7 @@
 -- The class files that are loaded for a class, or why they are not.
 use Rattle.std.specs.Prelude.{ℕ, zero, suc, ◌+◌, ◌-◌, if◌then◌else◌, List, [], ◌∷◌, ◌++◌, length}
 use Rattle.std.specs.Prelude.{Option, Some, None}
-use Rattle.par_lexer.specs.Names.{is_name}
+use Rattle.par_base.specs.Names.{is_name}
 use Rattle.par_class.specs.declared.file.ClassFile.{ClassFile}
 use Rattle.par_loader.specs.Reads.{Text, Classes}
 use Rattle.par_loader.specs.Mentions.{Naming, next_named}

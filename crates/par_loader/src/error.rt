@@ -1,8 +1,8 @@
 ghost use Rattle.std.specs.Prelude.{◌≡◌};
 ghost use Rattle.par_loader.specs.declared.error.Unloaded.TheVariants.{Memory};
 
-use par_lexer::list::NoMemory;
-use par_lexer::name::Name;
+use par_base::memory::NoMemory;
+use par_base::name::Name;
 use std::alloc::{AllocError, AllocFailed};
 
 /// Why a class has no files that link.

@@ -1,7 +1,7 @@
 //! The file of one class.
 
 ghost use Rattle.std.specs.Prelude.{◌≡◌, ◌≤◌, Err, Option, IfOk, IfErr, IsTrue, length};
-ghost use Rattle.par_io.specs.Causes.{Makes, NoneFalls, Rose};
+ghost use Rattle.par_io.specs.Causes.{Makes, NoneFalls};
 ghost use Rattle.par_class.specs.Reading.{file_at};
 ghost use Rattle.par_class.specs.Spelling.{Spells};
 ghost use Rattle.par_single.specs.Members as members;

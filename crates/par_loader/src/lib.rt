@@ -18,5 +18,5 @@ pub mod naming;
 mod program;
 
 pub use error::Unloaded;
-pub use naming::{class_file_name, text_of};
+pub use naming::class_file_name;
 pub use program::{linked_program, main_file};

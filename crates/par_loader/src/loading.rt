@@ -1,13 +1,13 @@
 //! The class files that were read so far.
 
 ghost use Rattle.std.specs.Prelude.{◌≡◌, ◌≤◌, ◌<◌, ◌-◌, ◌∷◌, [], ◌++◌, Some, None, false, IfOk};
-ghost use Rattle.std.specs.Prelude.{IfSome, OnOk};
+ghost use Rattle.std.specs.Prelude.{IfSome};
 ghost use Rattle.std.specs.Prelude.{length, map, position, take, slice_get};
 ghost use Rattle.std.specs.List.{All};
 ghost use Rattle.std.specs.Option.{option_map, unwrap_or};
 ghost use Rattle.std.specs.List.{list_any};
 ghost use Rattle.std.specs.Str.{bytes_eq};
-ghost use Rattle.par_lexer.specs.Names.{IsName};
+ghost use Rattle.par_base.specs.Names.{IsName};
 ghost use Rattle.par_single.specs.Members.{own_names};
 ghost use Rattle.par_single.specs.Members as members;
 ghost use Rattle.par_loader.specs.Reads.{IsSpelled};
@@ -17,8 +17,9 @@ ghost use Rattle.par_loader.specs.Mentions.{next_named, AreRead, AreReadAt};
 use crate::builtin::is_built_in;
 use crate::mention::Mention;
 use indexmap::IndexSet;
+use par_base::list::List;
+use par_base::memory::NoMemory;
 use par_class::ClassFile;
-use par_lexer::list::{List, NoMemory};
 use par_pool::constant::Constant;
 use par_single::member::{class_name_at, own_name, text_at};
 use std::alloc::Global;

@@ -11,7 +11,7 @@ ghost use Rattle.par_rounds.specs.Bodies.{AreLeastClosed};
 ghost use Rattle.par_verdict.specs.Accepted.{IsOrderlyBody, methods_in};
 ghost use Rattle.par_locks.specs.Locals.{locals_in};
 
-use par_lexer::list::NoMemory;
+use par_base::memory::NoMemory;
 use par_nodes::body::body_node;
 use par_rounds::{Fact, facts_of_body};
 use par_typed::program::{TBody, Typed};

@@ -11,8 +11,8 @@ ghost use Rattle.par_verdict.specs.Accepted.{IsOrderlyBody};
 ghost use Rattle.par_locks.specs.Open.{entering, may_have, open_at, AreOpenOf};
 
 use crate::body::{body_at, rows_of};
+use par_base::memory::NoMemory;
 use par_bits::Bits;
-use par_lexer::list::NoMemory;
 use par_rounds::Fact;
 use par_typed::program::Typed;
 use std::alloc::Global;

@@ -6,7 +6,7 @@ use Rattle.std.specs.List.{All}
 use Rattle.std.proofs.lemmas.Bool.{false≢true}
 use Rattle.std.proofs.lemmas.List.{length-set, length-map}
 use Rattle.std.proofs.lemmas.Option.{slice_get_past, slice_get_within}
-use Rattle.par_lexer.specs.declared.list.NoMemory.{NoMemory}
+use Rattle.par_base.specs.declared.memory.NoMemory.{NoMemory}
 use Rattle.par_pool.specs.declared.constant.Constant.{Constant}
 use Rattle.par_pool.specs.declared.constant.Constant.TheVariants.{Integer}
 use Rattle.par_pool.specs.Entries.{entry_at}

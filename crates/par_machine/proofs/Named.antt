@@ -1,6 +1,6 @@
 -- The names of what is told.
 use Rattle.std.proofs.Common.{◌≡◌, ℕ, ◌<◌, ℤ, List, length, Option, Some, None, sym, ap, subst, ◌∙◌}
-use Rattle.par_lexer.specs.Names.{IsName}
+use Rattle.par_base.specs.Names.{IsName}
 use Rattle.par_values.specs.declared.link.MethodLink.{MethodLink}
 use Rattle.par_values.specs.declared.link.Link.{Link}
 use Rattle.par_values.specs.declared.link.Link.TheVariants as link

@@ -7,7 +7,7 @@ ghost use Rattle.par_machine.specs.Site.{IsThere, IsPerformed};
 
 use crate::running::Running;
 use crate::site::Site;
-use par_lexer::list::NoMemory;
+use par_base::memory::NoMemory;
 use par_method_area::MethodArea;
 use par_method_area::par_actions::{Done, invoke_special, invoke_static, invoke_virtual, misnamed};
 

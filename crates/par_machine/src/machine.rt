@@ -7,7 +7,7 @@ ghost use Rattle.par_machine.specs.Running.{IsSound};
 use crate::running::Running;
 use crate::starting::begin;
 use crate::turn::{Stuck, Turn};
-use par_lexer::list::NoMemory;
+use par_base::memory::NoMemory;
 use par_method_area::MethodArea;
 use par_method_area::par_link::Linked;
 use par_values::inputs::Inputs;

@@ -13,8 +13,8 @@ use crate::branching::branch;
 use crate::running::Running;
 use crate::site::Site;
 use crate::working::work;
+use par_base::memory::NoMemory;
 use par_instr::Instr;
-use par_lexer::list::NoMemory;
 use par_method_area::MethodArea;
 use par_method_area::par_actions::{Done, Ways};
 

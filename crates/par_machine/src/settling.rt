@@ -14,7 +14,7 @@ use crate::running::Running;
 use crate::site::Site;
 use crate::telling::{born_event, out_event, put_event, set_event, stuck};
 use crate::turn::{Stuck, Turn};
-use par_lexer::list::NoMemory;
+use par_base::memory::NoMemory;
 use par_method_area::MethodArea;
 use par_method_area::par_actions::Done;
 use par_starts::distance;

@@ -9,8 +9,8 @@ ghost use Rattle.par_method_area.specs.par_steps.State.{main_place, start};
 ghost use Rattle.par_machine.specs.Running.{state_in, IsSound};
 
 use crate::running::Running;
+use par_base::memory::NoMemory;
 use par_heap::{Heap, Statics};
-use par_lexer::list::NoMemory;
 use par_lines::Lines;
 use par_method_area::MethodArea;
 use par_single::member::method_place;

@@ -20,9 +20,10 @@ ghost use Rattle.par_machine.specs.Turn.{IsTurn, is_over};
 
 use crate::site::Site;
 use crate::turn::{Stuck, Turn};
+use par_base::list::List;
+use par_base::memory::NoMemory;
+use par_base::name::Name;
 use par_instr::Instr;
-use par_lexer::list::{List, NoMemory};
-use par_lexer::name::Name;
 use par_method_area::MethodArea;
 use par_stack::Point;
 use par_values::run::{Ending, Event, Val};

@@ -1,7 +1,8 @@
 //! What one instruction comes to.
 
-use par_lexer::list::{List, NoMemory};
-use par_lexer::name::Name;
+use par_base::list::List;
+use par_base::memory::NoMemory;
+use par_base::name::Name;
 use par_values::run::{Ending, Event};
 
 /// What one instruction comes to.

@@ -2,7 +2,7 @@ ghost use Rattle.std.specs.Prelude.{◌≡◌, ◌<◌, IfOk, drop, length};
 ghost use Rattle.par_stack.specs.Frames.{running};
 
 use crate::linked::{SHOP, linked};
-use par_lexer::list::NoMemory;
+use par_base::memory::NoMemory;
 use par_link::Linked;
 use par_stack::{Point, Stack};
 use par_unwinding::{Landing, land, landing_of};

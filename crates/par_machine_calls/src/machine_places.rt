@@ -3,7 +3,8 @@ ghost use Rattle.par_loader.specs.Judged.{begins};
 ghost use Rattle.par_machine.specs.Machine.{steps_of};
 
 use crate::linked::{SHOP, linked};
-use par_lexer::list::{List, NoMemory};
+use par_base::list::List;
+use par_base::memory::NoMemory;
 use par_link::Linked;
 use par_machine::machine::Machine;
 use par_machine::turn::Turn;

@@ -3,8 +3,8 @@ ghost use Rattle.par_machine.specs.Machine.{steps_of};
 
 use crate::linked::linked;
 use crate::machine_places;
-use par_lexer::list::List;
-use par_lexer::name::Name;
+use par_base::list::List;
+use par_base::name::Name;
 use par_link::{Linked, inputs_fit};
 use par_machine::machine::Machine;
 use par_machine::turn::{Stuck, Turn};

@@ -1,7 +1,7 @@
 -- What is left to do, as the run from here on.
 use Rattle.std.specs.Prelude.{ℕ, suc, Bool, true, false, not, if◌then◌else◌, ◌==◌, List, [], ◌∷◌}
 use Rattle.std.specs.Prelude.{◌++◌, take, drop, reverse, slice_index_or, Option, Some, None}
-use Rattle.par_lexer.specs.declared.operator.BinOp.{BinOp}
+use Rattle.par_typed.specs.par_lexer.declared.operator.BinOp.{BinOp}
 use Rattle.par_typed.specs.declared.table.Table.{Table}
 use Rattle.par_typed.specs.Plain.{Body, TExp, MayTExp, Absent, Present, TExps, TSta, MayTSta, TStas}
 use Rattle.par_typed.specs.Plain.{TCatches, NoCatch, Catch, mark}

@@ -12,13 +12,13 @@ use crate::calls::{leave, one_more};
 use crate::events::output;
 use crate::fields::{read_field, write_field, write_static};
 use crate::machine::Machine;
-use crate::memory::NoMemory;
 use crate::operators::{applied, decides, is_true, negated, number, throws, truth};
 use crate::program::Program;
 use crate::stmts::{otherwise, statements};
 use crate::work::{ARITHMETIC, Exit, FINE, Next, Then, Waiting};
-use par_lexer::operator::BinOp;
+use par_base::memory::NoMemory;
 use par_typed::expr::TExpr;
+use par_typed::par_lexer::operator::BinOp;
 use par_typed::stmt::TStmt;
 use par_values::value::MVal;
 

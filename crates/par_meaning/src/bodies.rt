@@ -5,8 +5,8 @@ ghost use Rattle.par_typed.specs.Shown.{bodies};
 ghost use Rattle.par_runs.specs.Names.{body_of};
 ghost use Rattle.par_meaning.specs.Bodied.{ArePlaced, body_at, body_shown, main_body};
 
-use crate::memory::NoMemory;
 use crate::names;
+use par_base::memory::NoMemory;
 use par_index::Firsts;
 use par_typed::program::{TBody, Typed};
 use par_typed::stmt::TStmt;

@@ -11,10 +11,10 @@ ghost use Rattle.par_meaning.specs.Work.{Setting, Follows, called, run_calls, la
 ghost use Rattle.par_meaning.specs.Work.{evaluates_all, first_of};
 
 use crate::machine::Machine;
-use crate::memory::NoMemory;
 use crate::operators::is_there;
 use crate::program::Program;
 use crate::work::{Exit, FINE, NULL_POINTER, Next, Target, Then, Waiting};
+use par_base::memory::NoMemory;
 use par_typed::expr::TExpr;
 use par_values::value::MVal;
 

@@ -10,12 +10,12 @@ ghost use Rattle.par_meaning.specs.Stored.{holds};
 ghost use Rattle.par_meaning.specs.Onward.{Does, told};
 
 use crate::machine::Machine;
-use crate::memory::NoMemory;
 use crate::names;
 use crate::operators::{constant, number};
 use crate::program::Program;
 use crate::run::SourceEvent;
 use crate::work::{FINE, Then};
+use par_base::memory::NoMemory;
 use par_values::run::Event;
 use par_values::value::MVal;
 

@@ -9,11 +9,11 @@ use crate::calls::arguments;
 use crate::events::{born, input};
 use crate::fields::static_field;
 use crate::machine::Machine;
-use crate::memory::NoMemory;
 use crate::operators::{constant, truth};
 use crate::program::Program;
 use crate::work::{Target, Then, Waiting};
-use par_lexer::list::List;
+use par_base::list::List;
+use par_base::memory::NoMemory;
 use par_typed::expr::{TExpr, TExprKind};
 use par_values::value::MVal;
 

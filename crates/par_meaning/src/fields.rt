@@ -10,11 +10,11 @@ ghost use Rattle.par_meaning.specs.Work.{reads_field, sets_field};
 
 use crate::events::tell;
 use crate::machine::Machine;
-use crate::memory::NoMemory;
 use crate::names;
 use crate::operators::{is_there, object_number};
 use crate::program::Program;
 use crate::work::{Exit, FINE, NULL_POINTER, Then};
+use par_base::memory::NoMemory;
 use par_values::run::{Event, Val};
 use par_values::value::MVal;
 

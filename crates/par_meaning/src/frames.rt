@@ -2,7 +2,7 @@ ghost use Rattle.std.specs.Prelude.{◌≡◌, ◌<◌, ◌≤◌, [], ◌++◌,
 ghost use Rattle.par_runs.specs.State.{put};
 ghost use Rattle.par_meaning.specs.Frame.{held, left_by};
 
-use crate::memory::NoMemory;
+use par_base::memory::NoMemory;
 use par_values::value::MVal;
 use std::alloc::Global;
 use std::marker::Model;

@@ -16,7 +16,6 @@ mod fields;
 mod frames;
 mod lines;
 mod machine;
-mod memory;
 mod names;
 mod operators;
 mod program;
@@ -29,6 +28,6 @@ mod store;
 mod unwind;
 mod work;
 
-pub use memory::NoMemory;
+pub use par_base::memory::NoMemory;
 pub use run::{SourceEvent, SourceRun};
 pub use source::run_source;

@@ -6,10 +6,10 @@ ghost use Rattle.par_values.specs.Areas.{list_or_none};
 ghost use Rattle.par_meaning.specs.Lined.{AreLines, numbers_of, row_of, row_shown, rows_of};
 ghost use Rattle.par_meaning.specs.Lined.{rows_shown};
 
-use crate::memory::NoMemory;
+use par_base::list::List;
+use par_base::memory::NoMemory;
+use par_base::name::Name;
 use par_index::Firsts;
-use par_lexer::list::List;
-use par_lexer::name::Name;
 use par_typed::table::{ChannelInfo, ClassInfo};
 use par_values::inputs::ChannelInput;
 use std::alloc::Global;

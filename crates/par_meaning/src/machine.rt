@@ -6,7 +6,7 @@ use crate::frames::Frames;
 use crate::run::SourceEvent;
 use crate::stack::Stack;
 use crate::store::Store;
-use par_lexer::list::List;
+use par_base::list::List;
 use par_values::value::MVal;
 use std::alloc::Global;
 

@@ -6,7 +6,7 @@ ghost use Rattle.par_runs.specs.Names.{class_named, made_named, field_named, cha
 ghost use Rattle.par_runs.specs.Names.{first_field, first_value, place_of, main_of};
 ghost use Rattle.par_meaning.specs.Named.{member, name_of};
 
-use par_lexer::name::Name;
+use par_base::name::Name;
 use par_typed::table::{ClassInfo, MethodInfo, Table};
 use par_typed::ty::Ty;
 use par_values::value::MVal;

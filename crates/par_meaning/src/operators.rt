@@ -9,7 +9,7 @@ ghost use Rattle.par_meaning.specs.Work.{is_object};
 ghost use Rattle.par_runs.specs.Values.{truth, is_true, object_number, same, decides, throws};
 ghost use Rattle.par_runs.specs.Values.{applied};
 
-use par_lexer::operator::BinOp;
+use par_typed::par_lexer::operator::BinOp;
 use par_values::value::MVal;
 
 /// A number as a value.

@@ -7,10 +7,10 @@ ghost use Rattle.par_typed.specs.Shown.{bodies};
 ghost use Rattle.par_meaning.specs.Bodied.{ArePlaced, body_shown};
 ghost use Rattle.par_meaning.specs.Lined.{rows_of, rows_shown};
 
-use crate::memory::NoMemory;
 use crate::{bodies, lines};
+use par_base::list::List;
+use par_base::memory::NoMemory;
 use par_index::Firsts;
-use par_lexer::list::List;
 use par_typed::program::Typed;
 use par_typed::stmt::TStmt;
 use par_values::inputs::Inputs;

@@ -1,4 +1,4 @@
-use par_lexer::list::List;
+use par_base::list::List;
 use par_policy::Lockset;
 use par_values::run::{Ending, Event};
 

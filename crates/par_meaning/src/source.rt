@@ -9,13 +9,13 @@ ghost use Rattle.par_meaning.specs.Whole.{Begins, IsNew, ended, ends, as_run};
 
 use crate::bodies::main_body;
 use crate::machine::Machine;
-use crate::memory::NoMemory;
 use crate::names;
 use crate::program::Program;
 use crate::run::SourceRun;
 use crate::stack::Stack;
 use crate::steps::{Rest, settle, step};
 use crate::work::{Completion, Exit, FINE, Next, Then};
+use par_base::memory::NoMemory;
 use par_typed::program::Typed;
 use par_values::inputs::Inputs;
 use par_values::run::Ending;

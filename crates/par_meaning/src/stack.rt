@@ -1,7 +1,7 @@
 ghost use Rattle.std.specs.Prelude.{◌≡◌, [], ◌∷◌, length, take, drop, reverse, slice_get};
 ghost use Rattle.std.specs.Prelude.{MatchOption, IfOk, OnOk};
 
-use crate::memory::NoMemory;
+use par_base::memory::NoMemory;
 use std::alloc::Global;
 use std::marker::Model;
 

@@ -8,8 +8,8 @@ ghost use Rattle.par_meaning.specs.Onward.{Costs, Moves, Is};
 ghost use Rattle.par_meaning.specs.Work.{performs, performs_else, performs_all, returned};
 
 use crate::machine::Machine;
-use crate::memory::NoMemory;
 use crate::work::{Exit, FINE, Next, Then, Waiting};
+use par_base::memory::NoMemory;
 use par_typed::expr::TExpr;
 use par_typed::stmt::{TStmt, TStmtKind};
 

@@ -5,8 +5,8 @@ ghost use Rattle.par_meaning.specs.declared.work.Completion.TheVariants.{Normal,
 ghost use Rattle.par_meaning.specs.declared.work.Next.TheVariants.{Expr};
 ghost use Rattle.par_meaning.specs.declared.work.Then.TheVariants.{Waits, Ends};
 
-use par_lexer::operator::BinOp;
 use par_typed::expr::TExpr;
+use par_typed::par_lexer::operator::BinOp;
 use par_typed::stmt::{TCatch, TStmt};
 use par_values::value::MVal;
 

@@ -1,5 +1,5 @@
+use par_base::memory::NoMemory;
 use par_heap::{Heap, Statics};
-use par_lexer::list::NoMemory;
 use par_values::value::MVal;
 use par_worked::expect;
 use std::alloc::Global;

@@ -1,7 +1,7 @@
 ghost use Rattle.std.specs.Prelude.{◌≡◌, IfOk, length};
 ghost use Rattle.par_stack.specs.Frames.{running};
 
-use par_lexer::list::NoMemory;
+use par_base::memory::NoMemory;
 use par_stack::{Point, Stack};
 use par_values::value::MVal;
 use par_worked::expect;

@@ -5,7 +5,7 @@ use Rattle.std.proofs.Common.{ap, ◌∙◌, codes, arith}
 use Rattle.std.proofs.lemmas.Slice.Eq.{bytes_eq-Decides}
 use Rattle.std.specs.List.{position, list_any}
 use Rattle.std.specs.Str.{bytes_eq}
-use Rattle.par_lexer.specs.Names.{IsName, is_spelled}
+use Rattle.par_base.specs.Names.{IsName, is_spelled}
 use Rattle.par_class.specs.declared.file.ClassFile.{ClassFile}
 use Rattle.par_steps.specs.par_link.Linked.{AreLinked}
 use Rattle.par_steps.proofs.par_link.Passing.{position-none, eq_turned}

@@ -10,7 +10,7 @@ use Rattle.par_values.specs.declared.value.MVal.{MVal}
 use Rattle.par_values.specs.declared.kind.Kind.TheVariants as kind
 use Rattle.par_values.specs.declared.link.FieldLink.{FieldLink}
 use Rattle.par_steps.specs.par_link.Linked.{AreLinked}
-use Rattle.par_lexer.specs.Names.{is_name}
+use Rattle.par_base.specs.Names.{is_name}
 use Rattle.par_single.specs.Descriptors.{field_kind}
 use Rattle.par_single.specs.Members.{own_name, text_at}
 use Rattle.par_steps.specs.Classes.{class_names}

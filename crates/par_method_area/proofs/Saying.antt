@@ -4,7 +4,7 @@ use Rattle.std.proofs.Common.{◌∷◌, length, take, drop, Option, Some, None,
 use Rattle.std.specs.Option.{option_map}
 use Rattle.std.specs.List.{position, AllByRecursion}
 use Rattle.std.specs.Str.{bytes_eq}
-use Rattle.par_lexer.specs.Names.{is_name}
+use Rattle.par_base.specs.Names.{is_name}
 use Rattle.par_values.specs.declared.kind.Kind.{Kind}
 use Rattle.par_values.specs.declared.kind.Kind.TheVariants.{Number, Object, AnyObject, Anything}
 use Rattle.par_single.specs.declared.descriptor.Signature.{Signature}

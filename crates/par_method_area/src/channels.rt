@@ -5,9 +5,9 @@ ghost use Rattle.std.specs.List.{All};
 ghost use Rattle.par_actions.specs.par_lines.Lines.{channels_of, line_of};
 ghost use Rattle.par_method_area.specs.Channels.{named, IsShort};
 
+use par_base::memory::NoMemory;
+use par_base::name::LONGEST;
 use par_index::Firsts;
-use par_lexer::list::NoMemory;
-use par_lexer::name::LONGEST;
 use par_values::inputs::ChannelInput;
 use std::alloc::Global;
 use std::marker::Model;

@@ -14,8 +14,9 @@ use crate::methods::{MethodRow, method_rows};
 use crate::names::ClassNumbers;
 use crate::signatures::{Said, signatures};
 use par_actions::Field;
+use par_base::list::List;
+use par_base::memory::NoMemory;
 use par_class::file::ClassFile;
-use par_lexer::list::{List, NoMemory};
 use par_values::value::MVal;
 use std::alloc::Global;
 

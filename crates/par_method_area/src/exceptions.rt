@@ -4,8 +4,9 @@ ghost use Rattle.std.specs.Prelude.{◌≡◌, map, IfOk};
 ghost use Rattle.par_steps.specs.Classes.{is_exception};
 ghost use Rattle.par_method_area.specs.Classes.{exception_flags};
 
+use par_base::list::List;
+use par_base::memory::NoMemory;
 use par_class::file::ClassFile;
-use par_lexer::list::{List, NoMemory};
 use par_single::member::class_name_at;
 use std::alloc::Global;
 

@@ -10,8 +10,9 @@ ghost use Rattle.par_method_area.specs.Rows.{AreRows};
 
 use crate::names::ClassNumbers;
 use par_actions::Field;
+use par_base::list::List;
+use par_base::memory::NoMemory;
 use par_class::file::{ClassFile, FieldFile};
-use par_lexer::list::{List, NoMemory};
 use par_pool::constant::Constant;
 use par_single::descriptor::{Said, field_said};
 use par_single::member::{is_static, text_at};

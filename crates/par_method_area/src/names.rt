@@ -11,9 +11,9 @@ ghost use Rattle.par_method_area.specs.Fits.{fit_at, fit_or_any, gives_of};
 ghost use Rattle.par_method_area.specs.Names.{texts};
 
 use par_actions::{Fit, Gives};
+use par_base::memory::NoMemory;
 use par_class::file::ClassFile;
 use par_index::Firsts;
-use par_lexer::list::NoMemory;
 use par_single::descriptor::Said;
 use par_single::member::own_name;
 use std::alloc::Global;

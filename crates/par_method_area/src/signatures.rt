@@ -11,7 +11,8 @@ ghost use Rattle.par_method_area.specs.Signatures.{read, told, said_by, signatur
 
 use crate::names::ClassNumbers;
 use par_actions::{Fit, Gives};
-use par_lexer::list::{List, NoMemory};
+use par_base::list::List;
+use par_base::memory::NoMemory;
 use par_pool::constant::Constant;
 use par_single::descriptor::{kind_at, method_gives};
 use std::alloc::Global;

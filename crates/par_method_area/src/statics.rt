@@ -4,8 +4,9 @@ ghost use Rattle.std.specs.Prelude.{◌≡◌, IfOk};
 ghost use Rattle.par_steps.specs.Fields.{first_statics, class_statics, all_statics};
 
 use crate::fields::first_value;
+use par_base::list::List;
+use par_base::memory::NoMemory;
 use par_class::file::ClassFile;
-use par_lexer::list::{List, NoMemory};
 use par_single::member::is_static;
 use par_values::value::MVal;
 use std::alloc::Global;

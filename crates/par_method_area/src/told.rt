@@ -1,7 +1,7 @@
 //! Names, where something is handed out.
 
 ghost use Rattle.std.specs.Prelude.{◌≡◌, ◌<◌, length, slice_get};
-ghost use Rattle.par_lexer.specs.Names.{IsName};
+ghost use Rattle.par_base.specs.Names.{IsName};
 ghost use Rattle.par_steps.specs.Classes.{class_names};
 ghost use Rattle.par_steps.specs.Links.{field_in, method_in, link_at};
 ghost use Rattle.par_steps.specs.Methods.{method_name};

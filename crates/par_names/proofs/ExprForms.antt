@@ -1,6 +1,6 @@
 -- The broken rules on names of each form of an expression.
 use Rattle.std.proofs.Common.{◌≡◌, ℕ, Bool, ◌++◌, List, [], Option, Some, None, refl}
-use Rattle.par_index.specs.par_lexer.declared.operator.BinOp.{BinOp}
+use Rattle.par_typed.specs.par_lexer.declared.operator.BinOp.{BinOp}
 use Rattle.par_tree.specs.declared.ident.Ident.{Ident}
 use Rattle.par_tree.specs.Plain.{Exp, Int, True, False, Null, This, New, Name, Field}
 use Rattle.par_tree.specs.Plain.{Call, Neg}

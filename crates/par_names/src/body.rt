@@ -19,7 +19,7 @@ use crate::policy::{check_class, check_lock, check_may_policy, check_type};
 use crate::rule::SECOND_NAME;
 use crate::scope::Scope;
 use crate::view::{Home, View};
-use par_index::par_lexer::list::NoMemory;
+use par_index::par_base::memory::NoMemory;
 use par_tree::decl::ParamDecl;
 use par_tree::expr::Expr;
 use par_tree::ident::Ident;

@@ -1,12 +1,13 @@
 //! The classes that every program has.
 
 ghost use Rattle.std.specs.Prelude.{◌≡◌, map, IfOk};
-ghost use Rattle.par_index.specs.par_lexer.Names.{IsName};
+ghost use Rattle.par_index.specs.par_base.Names.{IsName};
 ghost use Rattle.par_tree.specs.Shown.{class_of};
 ghost use Rattle.par_names.specs.Declarations.{builtin, builtins};
 
-use par_index::par_lexer::list::{List, NoMemory};
-use par_index::par_lexer::name::Name;
+use par_index::par_base::list::List;
+use par_index::par_base::memory::NoMemory;
+use par_index::par_base::name::Name;
 use par_tree::decl::ClassDecl;
 use par_tree::ident::Ident;
 use std::alloc::Global;

@@ -7,7 +7,7 @@ ghost use Rattle.par_names.specs.Earliest.{is_below, place_of, AreEarliest, IsNo
 
 use crate::rule::SECOND_NAME;
 use indexmap::IndexMap;
-use par_index::par_lexer::list::NoMemory;
+use par_index::par_base::memory::NoMemory;
 use par_tree::ident::Ident;
 use par_typed::refusal::Findings;
 use std::alloc::Global;

@@ -14,7 +14,7 @@ use crate::policy::check_class;
 use crate::rule::UNKNOWN_NAME;
 use crate::scope::Scope;
 use crate::view::{Home, View};
-use par_index::par_lexer::name::Name;
+use par_index::par_base::name::Name;
 use par_tree::expr::{Expr, ExprKind};
 use par_tree::ident::Ident;
 use par_typed::refusal::Findings;

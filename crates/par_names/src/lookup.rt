@@ -10,8 +10,9 @@ ghost use Rattle.par_names.specs.Indexed.{AreLocks, AreMembers, AreClasses};
 
 use crate::named::{index, index_of, push_named};
 use par_index::NameIndex;
-use par_index::par_lexer::list::{List, NoMemory};
-use par_index::par_lexer::name::Name;
+use par_index::par_base::list::List;
+use par_index::par_base::memory::NoMemory;
+use par_index::par_base::name::Name;
 use par_tree::decl::{ChannelDecl, ClassDecl, FieldDecl, LockDecl, MethodDecl};
 use std::alloc::Global;
 

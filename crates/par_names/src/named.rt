@@ -5,7 +5,7 @@ ghost use Rattle.par_tree.specs.declared.ident.Ident.{Ident};
 ghost use Rattle.par_index.specs.Texts.{texts};
 
 use par_index::NameIndex;
-use par_index::par_lexer::list::NoMemory;
+use par_index::par_base::memory::NoMemory;
 use par_tree::decl::{
     ChannelDecl, ClassDecl, FieldDecl, LockDecl, MethodDecl, ParamDecl, PolicyDecl, ThrowDecl,
 };

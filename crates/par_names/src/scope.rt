@@ -5,8 +5,8 @@ ghost use Rattle.par_index.specs.Texts.{has, texts};
 ghost use Rattle.par_names.specs.Scoped.{is_text};
 
 use indexmap::IndexMap;
-use par_index::par_lexer::list::NoMemory;
-use par_index::par_lexer::name::Name;
+use par_index::par_base::memory::NoMemory;
+use par_index::par_base::name::Name;
 use std::alloc::Global;
 use std::marker::Model;
 

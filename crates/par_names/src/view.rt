@@ -10,7 +10,7 @@ ghost use Rattle.par_index.specs.Texts.{texts};
 use crate::lookup::{ClassNames, Classes, Locks};
 use crate::named::{index, push_ids, push_named};
 use par_index::NameIndex;
-use par_index::par_lexer::list::NoMemory;
+use par_index::par_base::memory::NoMemory;
 use par_tree::decl::{ClassDecl, Decl, LockDecl, PolicyDecl, Program};
 use par_tree::ident::Ident;
 use std::alloc::Global;

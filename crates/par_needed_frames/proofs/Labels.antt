@@ -4,8 +4,8 @@ use Rattle.std.proofs.Common.{◌∷◌, Some, refl, sym, ap, subst, ◌∙◌, 
 use Rattle.std.specs.Prelude.{nat_le, cond, if◌then◌else◌, ◌==◌, is_some}
 use Rattle.std.proofs.lemmas.Bool.{eq-eqb}
 use Rattle.std.specs.List.{AllByRecursion}
-use Rattle.par_lexer.specs.declared.operator.BinOp.{BinOp}
-use Rattle.par_lexer.specs.declared.operator.BinOp.TheVariants as bin
+use Rattle.par_typed.specs.par_lexer.declared.operator.BinOp.{BinOp}
+use Rattle.par_typed.specs.par_lexer.declared.operator.BinOp.TheVariants as bin
 use Rattle.par_instr.specs.declared.instr.Instr.TheVariants.{Iload, Aload, IloadShort}
 use Rattle.par_instr.specs.declared.instr.Instr.TheVariants.{AloadShort, Istore, Astore}
 use Rattle.par_instr.specs.declared.instr.Instr.TheVariants.{IstoreShort, AstoreShort}

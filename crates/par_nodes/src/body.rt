@@ -8,7 +8,7 @@ ghost use Rattle.par_nodes.specs.Seen.{seen_node};
 
 use crate::rule::Node;
 use crate::stmt;
-use par_lexer::list::NoMemory;
+use par_base::memory::NoMemory;
 use par_typed::program::TBody;
 use par_typed::table::Table;
 use std::alloc::Global;

@@ -11,7 +11,7 @@ ghost use Rattle.par_nodes.specs.Seen.{seen_origin, seen_rules, seen_start, test
 use crate::draft::Draft;
 use crate::rule::{Kind, Locks, Origin, Start, Worth};
 use crate::{declared, make};
-use par_lexer::list::NoMemory;
+use par_base::memory::NoMemory;
 use par_rules::par_policy::Lockset;
 use par_typed::table::{MethodInfo, Table, ThrowInfo};
 use std::alloc::Global;

@@ -7,7 +7,8 @@ ghost use Rattle.par_nodes.specs.Possible.{among, cans, parts_can};
 
 use crate::possible::completions;
 use crate::rule::{Kind, Node, Rules};
-use par_lexer::list::{List, NoMemory};
+use par_base::list::List;
+use par_base::memory::NoMemory;
 use std::alloc::Global;
 
 /// A node with the completions that are possible where it is reached.

@@ -14,9 +14,9 @@ use crate::declared;
 use crate::draft::{Draft, Known};
 use crate::make::{self, ENTRY, PAST, TESTED};
 use crate::rule::{Kind, Origin, Start, Worth};
-use par_lexer::list::NoMemory;
-use par_lexer::operator::BinOp;
+use par_base::memory::NoMemory;
 use par_typed::expr::{TExpr, TExprKind};
+use par_typed::par_lexer::operator::BinOp;
 use par_typed::table::Table;
 use std::alloc::Global;
 

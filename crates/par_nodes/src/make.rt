@@ -10,7 +10,8 @@ ghost use Rattle.par_nodes.specs.Seen.{seen_rules, seen_worth};
 
 use crate::draft::{Draft, Known};
 use crate::rule::{Absorber, Kind, Locks, Node, Origin, Rules, Start, Worth};
-use par_lexer::list::{List, NoMemory};
+use par_base::list::List;
+use par_base::memory::NoMemory;
 use std::alloc::Global;
 
 /// The way that enters the node.

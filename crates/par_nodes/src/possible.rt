@@ -8,7 +8,8 @@ ghost use Rattle.par_nodes.specs.Seen.{seen_absorber, seen_kind, seen_origin, se
 ghost use Rattle.par_nodes.specs.Possible.{among, apart, cans, either, if_so, parts_can};
 
 use crate::rule::{Absorber, Kind, Origin, Rules, Start};
-use par_lexer::list::{List, NoMemory};
+use par_base::list::List;
+use par_base::memory::NoMemory;
 use std::alloc::Global;
 
 /// Whether the completions are the same.

@@ -1,6 +1,6 @@
 //! Nodes and their rules.
 
-use par_lexer::list::List;
+use par_base::list::List;
 use par_rules::par_policy::Lockset;
 
 /// How an expression or a statement completes.

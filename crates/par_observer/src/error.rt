@@ -2,7 +2,7 @@ ghost use Rattle.std.specs.Prelude.{◌≡◌};
 ghost use Rattle.par_typed.specs.First.{broken};
 ghost use Rattle.par_observer.specs.declared.error.JudgeError.TheVariants.{Memory};
 
-use par_lexer::list::NoMemory;
+use par_lexer::memory::NoMemory;
 use par_typed::refusal::Refusal;
 use thiserror::Error;
 

@@ -3,8 +3,8 @@
 ghost use Rattle.std.specs.Prelude.{◌≡◌, IfOk};
 ghost use Rattle.par_atoms.specs.Atoms.{members};
 
+use par_base::memory::NoMemory;
 use par_bits::Bits;
-use par_lexer::list::NoMemory;
 use std::alloc::Global;
 
 const LOCKS: u16 = 256;

@@ -9,9 +9,10 @@ ghost use Rattle.par_placed_code.specs.Named.{IsCaughtIn};
 ghost use Rattle.par_placed_code.specs.Placed.{IsCatch};
 
 use crate::named::class_index;
+use par_base::list::List;
+use par_base::memory::NoMemory;
 use par_class::Catch;
 use par_code_form::Handler;
-use par_lexer::list::{List, NoMemory};
 use par_pool::PoolBuilder;
 use std::alloc::Global;
 

@@ -5,8 +5,8 @@ ghost use Rattle.par_placed_code.specs.Named as named;
 ghost use Rattle.par_placed_code.specs.Placeable.{MOST_LOCKS};
 ghost use Rattle.par_pool.specs.Spelling.{IsText};
 
-use par_lexer::list::NoMemory;
-use par_lexer::name::Name;
+use par_base::memory::NoMemory;
+use par_base::name::Name;
 use std::alloc::Global;
 
 /// Whether each program has this class, and may throw it.

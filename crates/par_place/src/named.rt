@@ -15,10 +15,10 @@ ghost use Rattle.par_placed_code.specs.Named.{lock_field};
 ghost use Rattle.par_placed_code.specs.Placeable.{FitsItem, MOST_LOCKS};
 
 use crate::name::{full_name, lock_field};
+use par_base::memory::NoMemory;
+use par_base::name::Name;
 use par_code_form::Item;
 use par_code_form::opcode::INVOKEVIRTUAL;
-use par_lexer::list::NoMemory;
-use par_lexer::name::Name;
 use par_pool::PoolBuilder;
 use std::alloc::Global;
 

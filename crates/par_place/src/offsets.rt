@@ -6,8 +6,8 @@ ghost use Rattle.par_place.specs.Offsets.{HasOffsets, AreSmall, Marks};
 ghost use Rattle.par_placed_code.specs.Placeable.{FitsItem, most_bytes, MOST_BYTES};
 
 use crate::instruction::size;
+use par_base::memory::NoMemory;
 use par_code_form::Item;
-use par_lexer::list::NoMemory;
 use std::alloc::Global;
 
 /// Marks where a label stands.

@@ -12,9 +12,10 @@ use crate::handlers::catches_of;
 use crate::named::indices_of;
 use crate::offsets::label_offsets;
 use crate::writing::write;
+use par_base::list::List;
+use par_base::memory::NoMemory;
 use par_class::{Catch, CodeAttr};
 use par_code_form::Labelled;
-use par_lexer::list::{List, NoMemory};
 use par_pool::PoolBuilder;
 use std::alloc::Global;
 

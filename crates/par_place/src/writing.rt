@@ -10,9 +10,9 @@ ghost use Rattle.par_placed_code.specs.Placed.{bytes_of, instructions, IsWritabl
 ghost use Rattle.par_placed_code.specs.Placeable.{FitsItem, most_bytes, MOST_BYTES};
 
 use crate::instruction::instruction;
+use par_base::memory::NoMemory;
 use par_code_form::Item;
 use par_instr::{Instr, encode};
-use par_lexer::list::NoMemory;
 use std::alloc::Global;
 
 /// How far an item branches that stands at this offset.

@@ -4,8 +4,8 @@ use Rattle.std.proofs.Common.{codes, arith}
 use Rattle.std.specs.Prelude.{nat_le, nat_lt, IsTrue, if◌then◌else◌}
 use Rattle.std.specs.List.{AllByRecursion}
 use Rattle.std.proofs.lemmas.Bool.Decides.{nat_tests}
-use Rattle.par_lexer.specs.declared.operator.BinOp.{BinOp}
-use Rattle.par_lexer.specs.declared.operator.BinOp.TheVariants as bin
+use Rattle.par_typed.specs.par_lexer.declared.operator.BinOp.{BinOp}
+use Rattle.par_typed.specs.par_lexer.declared.operator.BinOp.TheVariants as bin
 use Rattle.par_instr.specs.declared.instr.Instr.TheVariants.{Iload, Aload, IloadShort, AloadShort}
 use Rattle.par_instr.specs.declared.instr.Instr.TheVariants.{Istore, Astore, IstoreShort}
 use Rattle.par_instr.specs.declared.instr.Instr.TheVariants.{AstoreShort, Ireturn, Areturn, Pop}

@@ -3,8 +3,8 @@ use Rattle.std.proofs.Common.{◌≡◌, ℕ, ◌+◌, ◌*◌, ◌≤◌, ℤ, 
 use Rattle.std.proofs.Common.{length, refl, ap, ◌∙◌, arith, codes}
 use Rattle.std.specs.Prelude.{nat_le, sum_by, if◌then◌else◌}
 use Rattle.std.proofs.lemmas.List.Sums.{sum_by-cons}
-use Rattle.par_lexer.specs.declared.operator.BinOp.{BinOp}
-use Rattle.par_lexer.specs.declared.operator.BinOp.TheVariants as bin
+use Rattle.par_typed.specs.par_lexer.declared.operator.BinOp.{BinOp}
+use Rattle.par_typed.specs.par_lexer.declared.operator.BinOp.TheVariants as bin
 use Rattle.par_typed.specs.Plain.{mark, TExp, Int, Boolean, Null, This, New, Local, Static}
 use Rattle.par_typed.specs.Plain.{Field, Input, Output, Call, Neg, Not, Binary}
 use Rattle.par_typed.specs.Plain.{MayTExp, Absent, Present, TExps, NoExps, More}

@@ -5,8 +5,8 @@ use Rattle.std.specs.Prelude.{slice_get}
 use Rattle.std.specs.List.{AllByRecursion}
 use Rattle.std.proofs.lemmas.List.Elements.{All-from_recursion}
 use Rattle.std.proofs.lemmas.Option.{slice_get_within, get_or_from_slice_get}
-use Rattle.par_lexer.specs.declared.operator.BinOp.{BinOp}
-use Rattle.par_lexer.specs.declared.operator.BinOp.TheVariants as bin
+use Rattle.par_typed.specs.par_lexer.declared.operator.BinOp.{BinOp}
+use Rattle.par_typed.specs.par_lexer.declared.operator.BinOp.TheVariants as bin
 use Rattle.par_typed.specs.declared.ty.Ty.{Ty}
 use Rattle.par_typed.specs.declared.ty.Ty.TheVariants as ty
 use Rattle.par_typed.specs.declared.table.FieldInfo.{FieldInfo}

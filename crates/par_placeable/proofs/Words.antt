@@ -8,7 +8,7 @@ use Rattle.std.proofs.lemmas.List.{length-append, length-map}
 use Rattle.std.proofs.lemmas.List.Elements.{All-from_recursion}
 use Rattle.std.proofs.lemmas.List.Folds.{list_all-append}
 use Rattle.std.proofs.lemmas.Option.{slice_get_within, get_or_from_slice_get}
-use Rattle.par_lexer.specs.Names.{IsName, is_letter, is_spelled, goes_on}
+use Rattle.par_base.specs.Names.{IsName, is_letter, is_spelled, goes_on}
 use Rattle.par_pool.specs.Spelling.{is_plain, IsText}
 use Rattle.par_typed.specs.declared.ty.Ty.{Ty}
 use Rattle.par_typed.specs.declared.ty.Ty.TheVariants as ty

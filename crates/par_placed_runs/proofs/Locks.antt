@@ -9,9 +9,10 @@ use Rattle.std.proofs.lemmas.Bool.{and_from, lt-ltb, le-leb, ne_eqb}
 use Rattle.std.proofs.lemmas.Fmt.{decimal_by_steps}
 use Rattle.std.proofs.lemmas.List.Folds.{list_all-append}
 use Rattle.std.proofs.lemmas.List.Sums.{fold-append}
-use Rattle.par_lexer.specs.Names.{is_digit}
-use Rattle.par_lexer.specs.Pieces.{with_digit, value, begins, has_leading_zero}
-use Rattle.par_inputs.specs.Numbers.{is_decimal, magnitude_of}
+use Rattle.par_base.specs.Names.{is_digit}
+use Rattle.par_base.specs.Numbers.{with_digit, value, has_leading_zero}
+use Rattle.par_place.specs.par_code_form.par_completes.par_lexer.Pieces.{begins}
+use Rattle.par_base.specs.Numbers.{is_decimal, magnitude_of}
 use Rattle.par_relocated.specs.par_link.Builtins.{lock_number}
 use Rattle.par_place.specs.par_placed_code.Named.{lock_field}
 

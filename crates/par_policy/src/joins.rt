@@ -5,10 +5,10 @@ ghost use Rattle.par_policy.specs.Numbers.{IsAscending, within, Gains, GainsAll}
 ghost use Rattle.par_policy.specs.Order.{IsJoinBelowAt, policies_of};
 
 use crate::locks::Lockset;
-use crate::memory::NoMemory;
 use crate::numbers::NumberSet;
 use crate::order::leq_at;
 use crate::policies::Policy;
+use par_base::memory::NoMemory;
 use std::alloc::{AllocError, Global};
 use std::marker::Model;
 

@@ -8,10 +8,10 @@ ghost use Rattle.par_policy.specs.Sees.{sees_at};
 
 use crate::clauses::{Clause, allows_at};
 use crate::locks::Lockset;
-use crate::memory::NoMemory;
 use crate::normal::{keep, keep_all, put};
 use crate::order::{leq, sees};
 use crate::policies::Policy;
+use par_base::memory::NoMemory;
 use std::alloc::Global;
 
 /// The least restrictive policy that is at least as restrictive as both.

@@ -9,7 +9,6 @@ mod joins;
 mod lattice;
 mod laws;
 mod locks;
-mod memory;
 mod normal;
 mod numbers;
 mod open;
@@ -24,8 +23,8 @@ pub use laws::{
     order_is_antisymmetric, order_is_reflexive, order_is_transitive, specialised_is_below,
 };
 pub use locks::Lockset;
-pub use memory::NoMemory;
 pub use open::OpenLocks;
 pub use order::{leq, leq_at, leq_where, sees};
+pub use par_base::memory::NoMemory;
 pub use par_bits;
 pub use policies::Policy;

@@ -4,9 +4,9 @@ ghost use Rattle.par_policy.specs.Numbers.{IsAscending, has, within, Gains};
 ghost use Rattle.par_policy.specs.Numbers.{IsUnion, IsDifference, IsIntersection};
 ghost use Rattle.par_policy.specs.Marks.{AreMarks};
 
-use crate::memory::NoMemory;
 use crate::numbers::NumberSet;
 use crate::open::OpenLocks;
+use par_base::memory::NoMemory;
 use par_bits::Bits;
 use std::alloc::{AllocError, Global};
 use std::marker::Model;

@@ -1,6 +1,6 @@
 // The steps to the normal form.
-ghost use Rattle.std.specs.Prelude.{◌≡◌, ℕ, ◌<◌, ◌≤◌, ◌≢◌, ◌++◌, [], ◌∷◌, Bool, OnOk, IsTrue};
-ghost use Rattle.std.specs.Prelude.{false, length, vec_len, not};
+ghost use Rattle.std.specs.Prelude.{◌≡◌, ◌<◌, ◌≤◌, ◌≢◌, ◌++◌, [], ◌∷◌, OnOk};
+ghost use Rattle.std.specs.Prelude.{false, length, not};
 ghost use Rattle.std.specs.List.{list_any, filter, AllWithin, HoldsAt};
 ghost use Rattle.std.specs.declared.cmp.Ordering.TheVariants.{Less};
 ghost use Rattle.par_policy.specs.Sees.{IsSeenAlike};
@@ -9,7 +9,7 @@ ghost use Rattle.par_policy.specs.Normal.{IsNormal, clause_cmp, covers};
 ghost use Rattle.par_policy.specs.Numbers.{IsAscending};
 
 use crate::clauses::{Clause, compare, covers};
-use crate::memory::NoMemory;
+use par_base::memory::NoMemory;
 
 // Puts each of the clauses among those that are kept.
 pub(crate) fn keep_all(kept: &mut Vec<Clause>, clauses: &[Clause]) -> Result<(), NoMemory>

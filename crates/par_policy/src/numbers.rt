@@ -1,10 +1,9 @@
 // A finite set of numbers, which sets of locks and sets of policies are made of.
-ghost use Rattle.std.specs.Prelude.{◌≡◌, ◌||◌, [], IfOk, OnOk, OnErr};
-ghost use Rattle.std.specs.List.{list_all};
+ghost use Rattle.std.specs.Prelude.{◌≡◌, [], IfOk, OnOk, OnErr};
 ghost use Rattle.par_policy.specs.Numbers.{IsAscending, has, within, Gains, GainsAll};
 ghost use Rattle.par_policy.specs.Numbers.{IsUnion, IsDifference, IsIntersection};
 
-use crate::memory::NoMemory;
+use par_base::memory::NoMemory;
 use std::alloc::{AllocError, Global};
 use std::marker::Model;
 

@@ -1,11 +1,11 @@
 // Policies in normal form.
-ghost use Rattle.std.specs.Prelude.{◌≡◌, ◌++◌, [], ◌∷◌, IfOk, OnOk};
+ghost use Rattle.std.specs.Prelude.{◌≡◌, IfOk};
 ghost use Rattle.par_policy.specs.Sees.{IsSeenAlike};
 ghost use Rattle.par_policy.specs.Normal.{IsNormal};
 
 use crate::clauses::Clause;
-use crate::memory::NoMemory;
 use crate::normal::keep_all;
+use par_base::memory::NoMemory;
 use std::alloc::{AllocError, Global};
 use std::marker::Model;
 use std::rc::Rc;

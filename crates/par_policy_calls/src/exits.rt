@@ -3,9 +3,10 @@ ghost use Rattle.std.specs.Prelude.{◌≡◌, ◌<◌, ℕ, IfOk, length};
 ghost use Rattle.par_except.specs.Exits.{seen_throws, AreOnce, HaveLocals};
 
 use par_atoms::Atoms;
+use par_base::list::List;
+use par_base::memory::NoMemory;
 use par_bits::Bits;
 use par_except::{Way, Ways, absorb_loop, absorb_throw, join, raise};
-use par_lexer::list::{List, NoMemory};
 use par_worked::expect;
 use std::alloc::Global;
 use std::test::Fail;

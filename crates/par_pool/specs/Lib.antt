@@ -4,4 +4,4 @@ pub mod Spelling
 pub mod Reading
 pub mod Constants
 pub mod Placed
-pub use Rattle.par_lexer.specs as par_lexer
+pub use Rattle.par_base.specs as par_base

@@ -12,7 +12,8 @@ ghost use Rattle.par_pool.specs.Spelling.{constant as spelling, IsText, Fits, re
 use crate::constant::{Constant, Pool};
 use crate::writing::put_constant;
 use indexmap::IndexMap;
-use par_lexer::list::{List, NoMemory};
+use par_base::list::List;
+use par_base::memory::NoMemory;
 use std::alloc::Global;
 use std::marker::Model;
 

@@ -1,4 +1,4 @@
-use par_lexer::list::List;
+use par_base::list::List;
 
 /// An entry of a constant pool (Java Virtual Machine Specification, Java SE 7, section 4.4). The
 /// numbers are indices into the same pool, but for that of `Integer`.

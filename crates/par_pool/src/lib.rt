@@ -17,5 +17,5 @@ pub mod writing;
 pub use builder::PoolBuilder;
 pub use constant::{Constant, Pool};
 pub use error::ClassError;
-pub use par_lexer;
+pub use par_base;
 pub use reading::{LONGEST_CLASS, entries_of, read_pool};

@@ -16,7 +16,7 @@ use crate::error::ClassError;
 use crate::item::{taken, u1, u2, u4};
 use crate::kind::refers;
 use byteorder::{BigEndian, ByteOrder};
-use par_lexer::list::List;
+use par_base::list::List;
 use std::alloc::Global;
 
 /// The most bytes that a class file may have.

@@ -7,7 +7,7 @@ ghost use Rattle.par_pool.specs.Spelling.{u2, u4, Fits, IsPool};
 
 use crate::constant::Constant;
 use byteorder::{BigEndian, ByteOrder};
-use par_lexer::list::NoMemory;
+use par_base::memory::NoMemory;
 
 /// Puts a number of two bytes behind the others.
 pub fn put_u2(out: &mut Vec<u8>, number: u16) -> Result<(), NoMemory>

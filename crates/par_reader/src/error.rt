@@ -1,7 +1,7 @@
 ghost use Rattle.std.specs.Prelude.{◌≡◌};
 ghost use Rattle.par_reader.specs.declared.error.ParseError.TheVariants.{Memory};
 
-use par_grammar::par_lexer::list::NoMemory;
+use par_grammar::par_base::memory::NoMemory;
 use std::alloc::{AllocError, AllocFailed};
 use thiserror::Error;
 

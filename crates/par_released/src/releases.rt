@@ -6,7 +6,7 @@ ghost use Rattle.par_released.specs.Released.{is_released};
 
 use crate::row::Row;
 use par_atoms::Atoms;
-use par_lexer::list::NoMemory;
+use par_base::memory::NoMemory;
 use par_policy::Policy;
 use std::alloc::Global;
 use std::marker::Model;

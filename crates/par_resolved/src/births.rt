@@ -12,7 +12,7 @@ use crate::forms;
 use crate::joins::note_form;
 use crate::known::{Known, bottom};
 use crate::limits::BIRTH_RULE;
-use crate::memory::NoMemory;
+use par_base::memory::NoMemory;
 use par_tree::decl::{ClassDecl, FieldDecl};
 use par_tree::policy::PolicyExpr;
 use par_typed::par_policy::Policy;

@@ -6,7 +6,7 @@ ghost use Rattle.par_names.specs.Declarations as names;
 ghost use Rattle.par_resolved.specs.Gathered.{all_of, classes_of};
 ghost use Rattle.par_resolved.specs.Numbered.{declared};
 
-use crate::memory::NoMemory;
+use par_base::memory::NoMemory;
 use par_tree::decl::{ClassDecl, Decl, LockDecl, PolicyDecl, Program};
 use par_tree::ident::Ident;
 use std::alloc::Global;

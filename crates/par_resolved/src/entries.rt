@@ -5,7 +5,7 @@ ghost use Rattle.par_resolved.specs.Seen.{known_seen};
 ghost use Rattle.par_resolved.specs.Numbered.{written_entry, by_place};
 
 use crate::known::Known;
-use crate::memory::NoMemory;
+use par_base::memory::NoMemory;
 use par_tree::policy::PolicyExpr;
 use par_typed::par_policy::Policy;
 use std::alloc::Global;

@@ -4,7 +4,7 @@ ghost use Rattle.par_resolved.specs.Numbers.{ground_count, firsts_from};
 ghost use Rattle.par_resolved.specs.Gathered.{all_of};
 
 use crate::limits::MOST_GROUND_LOCKS;
-use crate::memory::NoMemory;
+use par_base::memory::NoMemory;
 use par_tree::decl::LockDecl;
 use std::alloc::Global;
 

@@ -2,7 +2,7 @@
 ghost use Rattle.std.specs.Prelude.{◌≡◌, IfOk};
 ghost use Rattle.par_resolved.specs.Sets.{normal, joined, met};
 
-use crate::memory::NoMemory;
+use par_base::memory::NoMemory;
 use par_typed::par_policy::{Clause, Policy};
 use std::alloc::Global;
 

@@ -8,7 +8,7 @@ ghost use Rattle.par_resolved.specs.Sizes.{exceeded_by, form_faults, steps_fault
 use crate::forms::joined;
 use crate::known::top;
 use crate::limits::{CLAUSE_LIMIT, LOCK_LIMIT, MOST_CLAUSES, MOST_LOCKS};
-use crate::memory::NoMemory;
+use par_base::memory::NoMemory;
 use par_typed::par_policy::{Clause, Policy};
 use par_typed::refusal::{Findings, LIMIT_RULE, Refusal};
 use std::alloc::Global;

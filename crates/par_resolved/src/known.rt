@@ -13,9 +13,9 @@ ghost use Rattle.par_typed.specs.First.{first_of};
 
 use crate::forms::form;
 use crate::joins::join_all;
-use crate::memory::NoMemory;
 use crate::numbers::Numbers;
-use par_lexer::name::Name;
+use par_base::memory::NoMemory;
+use par_base::name::Name;
 use par_names::par_index::NameIndex;
 use par_tree::policy::{ClauseTree, LockTree, PolicyExpr, PolicyTerm};
 use par_typed::par_policy::{Clause, Lockset, Policy};

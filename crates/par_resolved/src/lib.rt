@@ -14,7 +14,6 @@ mod joins;
 pub mod known;
 pub mod limits;
 pub mod literals;
-mod memory;
 pub mod numbers;
 pub mod queried;
 pub mod scope;
@@ -22,6 +21,6 @@ mod statements;
 pub mod types;
 pub mod written;
 
-pub use memory::NoMemory;
+pub use par_base::memory::NoMemory;
 pub use par_names;
 pub use par_names::par_tree;

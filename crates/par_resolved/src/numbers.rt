@@ -6,7 +6,7 @@ ghost use Rattle.par_resolved.specs.Numbers.{actor_number, lock_number, place_in
 
 use crate::declared::{actor_names, lock_names, locks};
 use crate::firsts::firsts;
-use crate::memory::NoMemory;
+use par_base::memory::NoMemory;
 use par_names::par_index::NameIndex;
 use par_tree::decl::Program;
 use par_tree::ident::Ident;

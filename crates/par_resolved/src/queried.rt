@@ -4,8 +4,8 @@ ghost use Rattle.par_tree.specs.Shown.{source, declared, method, methods, does};
 ghost use Rattle.par_resolved.specs.Written as queries;
 ghost use Rattle.par_resolved.specs.Gathered.{statements_of, all_of};
 
-use crate::memory::NoMemory;
 use crate::statements::statements;
+use par_base::memory::NoMemory;
 use par_tree::decl::{Decl, MethodDecl, Program};
 use par_tree::policy::LockTree;
 use par_tree::stmt::{Stmt, StmtKind};

@@ -10,8 +10,8 @@ ghost use Rattle.par_resolved.specs.Gathered.{all_of};
 
 use crate::declared::{policies, policy_names};
 use crate::known::Known;
-use crate::memory::NoMemory;
 use crate::numbers::Numbers;
+use par_base::memory::NoMemory;
 use par_names::par_index::NameIndex;
 use par_tree::decl::{PolicyDecl, Program};
 use par_tree::policy::PolicyExpr;

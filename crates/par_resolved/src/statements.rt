@@ -6,7 +6,7 @@ ghost use Rattle.par_tree.specs.Shown.{handler};
 ghost use Rattle.par_resolved.specs.Statements as statement;
 ghost use Rattle.par_resolved.specs.Gathered.{statements_of};
 
-use crate::memory::NoMemory;
+use par_base::memory::NoMemory;
 use par_tree::stmt::{Block, CatchTree, Stmt, StmtKind};
 use std::alloc::Global;
 

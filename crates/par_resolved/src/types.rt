@@ -7,9 +7,9 @@ ghost use Rattle.par_resolved.specs.Statements.{in_braces};
 ghost use Rattle.par_resolved.specs.Written.{stmt_types};
 ghost use Rattle.par_resolved.specs.Gathered.{statements_of, all_of};
 
-use crate::memory::NoMemory;
 use crate::statements::statements;
-use par_lexer::name::Name;
+use par_base::memory::NoMemory;
+use par_base::name::Name;
 use par_names::par_index::NameIndex;
 use par_tree::stmt::{Block, Stmt, StmtKind};
 use par_tree::types::TypeTree;

@@ -5,8 +5,8 @@ ghost use Rattle.par_tree.specs.Shown.{source, declared, class_of, method, metho
 ghost use Rattle.par_resolved.specs.Written as policies;
 ghost use Rattle.par_resolved.specs.Gathered.{statements_of, all_of};
 
-use crate::memory::NoMemory;
 use crate::statements::statements;
+use par_base::memory::NoMemory;
 use par_tree::decl::{
     ChannelDecl, ClassDecl, Decl, FieldDecl, MethodDecl, ParamDecl, Program, ThrowDecl,
 };

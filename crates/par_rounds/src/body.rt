@@ -14,7 +14,7 @@ use crate::fact::Fact;
 use crate::first::first_way;
 use crate::rounds::settle;
 use crate::way::SharedWay;
-use par_lexer::list::NoMemory;
+use par_base::memory::NoMemory;
 use par_nodes::rule::{Node, Rules};
 use par_typed::program::TBody;
 use par_typed::table::{MethodInfo, Table};

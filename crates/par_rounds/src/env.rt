@@ -6,8 +6,9 @@ ghost use Rattle.par_rules.specs.Ways.{put};
 ghost use Rattle.par_pass.specs.par_except.Seen.{locals};
 
 use par_atoms::Atoms;
+use par_base::list::List;
+use par_base::memory::NoMemory;
 use par_envs::Env;
-use par_lexer::list::{List, NoMemory};
 use std::alloc::Global;
 
 fn are_within(one: &[Atoms], other: &[Atoms]) -> bool

@@ -12,7 +12,7 @@ ghost use Rattle.par_rounds.specs.Places.{IsPlace, HasNoPlace};
 
 use crate::way::SharedWay;
 use par_atoms::Atoms;
-use par_lexer::list::NoMemory;
+use par_base::memory::NoMemory;
 use par_nodes::possible::{is_same, takes};
 use par_nodes::rule::{Absorber, Kind};
 use std::alloc::Global;

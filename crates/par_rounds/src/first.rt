@@ -10,7 +10,8 @@ ghost use Rattle.par_pass.specs.par_except.Seen.{locals, seen};
 
 use crate::changes::all_locks;
 use par_atoms::Atoms;
-use par_lexer::list::{List, NoMemory};
+use par_base::list::List;
+use par_base::memory::NoMemory;
 use par_pass::par_except::Way;
 use par_typed::table::{MethodInfo, ParamInfo};
 use std::alloc::Global;

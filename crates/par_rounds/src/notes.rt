@@ -16,7 +16,7 @@ use crate::fact::Fact;
 use crate::way::SharedWay;
 use crate::ways::{may_flow, may_join, may_share};
 use par_atoms::Atoms;
-use par_lexer::list::NoMemory;
+use par_base::memory::NoMemory;
 use std::alloc::Global;
 
 /// The head ways of the next pass, whether one of them rose, and the facts of points, where there

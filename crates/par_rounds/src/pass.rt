@@ -24,7 +24,7 @@ use crate::notes::Notes;
 use crate::way::SharedWay;
 use crate::ways::may_share;
 use par_atoms::Atoms;
-use par_lexer::list::NoMemory;
+use par_base::memory::NoMemory;
 use par_nodes::rule::{Absorber, Kind, Node, Origin, Rules};
 use std::alloc::Global;
 

@@ -13,7 +13,7 @@ use crate::fact::Fact;
 use crate::notes::Notes;
 use crate::pass::pass;
 use crate::way::SharedWay;
-use par_lexer::list::NoMemory;
+use par_base::memory::NoMemory;
 use par_nodes::rule::Node;
 use std::alloc::Global;
 

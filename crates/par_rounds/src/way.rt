@@ -8,9 +8,9 @@ ghost use Rattle.par_pass.specs.par_except.Seen.{locals, seen};
 
 use crate::env;
 use par_atoms::Atoms;
+use par_base::memory::NoMemory;
 use par_bits::Bits;
 use par_envs::Env;
-use par_lexer::list::NoMemory;
 use par_pass::par_except::Way;
 use std::alloc::Global;
 use std::marker::Model;

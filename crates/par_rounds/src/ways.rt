@@ -7,7 +7,7 @@ ghost use Rattle.par_pass.specs.par_except.Seen.{may_see, seen, MayHaveLocals};
 
 use crate::env;
 use crate::way::SharedWay;
-use par_lexer::list::NoMemory;
+use par_base::memory::NoMemory;
 use std::alloc::Global;
 
 fn flows(way: &SharedWay, other: &SharedWay) -> bool

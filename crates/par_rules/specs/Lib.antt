@@ -11,3 +11,4 @@ pub mod Ranges
 pub use Rattle.par_typed.specs.par_lexer as par_lexer
 pub use Rattle.par_typed.specs.par_policy as par_policy
 pub use Rattle.par_typed.specs as par_typed
+pub use Rattle.par_typed.specs.par_base as par_base

@@ -7,4 +7,4 @@
 #![tactic(auto)]
 
 pub use par_typed;
-pub use par_typed::{par_lexer, par_policy};
+pub use par_typed::{par_base, par_lexer, par_policy};

@@ -8,7 +8,7 @@ use Rattle.std.proofs.lemmas.Bool.{and_parts, and_from, le-leb}
 use Rattle.std.proofs.lemmas.Fmt.{decimal_by_steps}
 use Rattle.std.specs.Int.{w32}
 use lib.Signed.{mag}
-use Rattle.par_lexer.specs.Names.{is_letter, is_digit, goes_on, is_spelled, IsName}
+use Rattle.par_base.specs.Names.{is_letter, is_digit, goes_on, is_spelled, IsName}
 
 -- no byte of the text is this one
 abbrev pub Lacks : ℕ → List ℕ → Type 0

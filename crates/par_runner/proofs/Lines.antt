@@ -7,7 +7,7 @@ use Rattle.std.specs.Fmt.{decimal, signed_decimal}
 use Rattle.std.proofs.lemmas.List.{append_assoc, append_cancel_left, append_cancel_right}
 use Rattle.std.proofs.lemmas.Fmt.{decimal_injective, signed_decimal_injective}
 use Rattle.std.proofs.lemmas.Bool.{eqb-false}
-use Rattle.par_lexer.specs.Names.{is_digit, IsName}
+use Rattle.par_base.specs.Names.{is_digit, IsName}
 use Rattle.par_values.specs.declared.run.Val.{Val}
 use Rattle.par_values.specs.declared.run.Val.TheVariants.{Int, Null, Ref}
 use Rattle.par_values.specs.declared.run.Event.{Event}

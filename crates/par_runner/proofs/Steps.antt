@@ -14,7 +14,7 @@ use Rattle.par_machine.specs.Turn.{IsTurn}
 use Rattle.par_machine.specs.par_steps.State.{State}
 use Rattle.par_machine.specs.par_steps.Step.{Turn, turn}
 use Rattle.par_machine.specs.par_steps.Run.{run, followed}
-use Rattle.par_runner.specs.declared.memory.NoMemory.{NoMemory}
+use Rattle.par_base.specs.declared.memory.NoMemory.{NoMemory}
 use Rattle.par_runner.specs.declared.running.Moved.{Moved}
 use Rattle.par_runner.specs.declared.telling.Untold.{Untold}
 use Rattle.par_runner.specs.declared.telling.Untold.TheVariants.{Fault, Memory}

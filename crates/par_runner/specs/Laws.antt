@@ -1,7 +1,7 @@
 -- What lines tell of events: what is shown of a run is as good as its events.
 use Rattle.std.specs.Prelude.{◌≡◌, ◌<◌, ◌^◌, FitsSigned}
 use Rattle.std.specs.Int.{w32}
-use Rattle.par_lexer.specs.Names.{IsName}
+use Rattle.par_base.specs.Names.{IsName}
 use Rattle.par_values.specs.declared.run.Val.{Val}
 use Rattle.par_values.specs.declared.run.Val.TheVariants.{Int, Null, Ref}
 use Rattle.par_values.specs.declared.run.Event.{Event}

@@ -5,14 +5,13 @@
 #![tactic(auto)]
 
 mod laws;
-mod memory;
 mod run;
 mod running;
 mod telling;
 mod text;
 
 pub use laws::equal_lines_are_equal_events;
-pub use memory::NoMemory;
+pub use par_base::memory::NoMemory;
 pub use run::tell_run;
 pub use running::MOST_STEPS;
 pub use telling::{Untold, put_line, untold_status};

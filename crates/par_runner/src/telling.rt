@@ -7,11 +7,11 @@ ghost use Rattle.par_runner.specs.Outcome.{outcome};
 ghost use Rattle.par_runner.specs.Texts.{line, event_text, ending_text, status};
 ghost use Rattle.par_runner.specs.declared.telling.Untold.TheVariants.{Memory};
 
-use crate::memory::NoMemory;
 use crate::text::{add_event_line, bad_code_line, ending_line};
+use par_base::list::List;
+use par_base::memory::NoMemory;
+use par_base::name::Name;
 use par_io::Sink;
-use par_lexer::list::List;
-use par_lexer::name::Name;
 use par_values::run::{Ending, Event};
 use std::alloc::Global;
 

@@ -6,8 +6,8 @@ ghost use Rattle.par_values.specs.Ran.{Fine, BadCode};
 ghost use Rattle.par_runner.specs.Texts as spec;
 ghost use Rattle.par_runner.specs.Texts.{line};
 
-use crate::memory::NoMemory;
-use par_lexer::name::Name;
+use par_base::memory::NoMemory;
+use par_base::name::Name;
 use par_values::run::{Ending, Event, Val};
 use std::alloc::Global;
 

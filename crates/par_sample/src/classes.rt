@@ -6,7 +6,7 @@ ghost use Rattle.par_sample.specs.Numbers.{next, number, drawn_of};
 ghost use Rattle.par_sample.specs.Source.{line, method_text, class_text, class_lines, method_count};
 
 use crate::numbers::Numbers;
-use par_lexer::list::NoMemory;
+use par_lexer::memory::NoMemory;
 use std::alloc::{AllocError, Global};
 
 const METHODS: u32 = 10;

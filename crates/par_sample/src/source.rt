@@ -6,7 +6,7 @@ ghost use Rattle.par_sample.specs.Source.{source};
 use crate::classes::add_class;
 use crate::numbers::Numbers;
 use par_lexer::LONGEST_SOURCE;
-use par_lexer::list::NoMemory;
+use par_lexer::memory::NoMemory;
 use std::alloc::Global;
 
 const CLASSES: u32 = 100;

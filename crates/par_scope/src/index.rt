@@ -8,9 +8,9 @@ ghost use Rattle.par_scope.specs.Names.{methods_in, IsFewTable, IsFewMembers};
 ghost use Rattle.par_scope.specs.Indexed.{members_indexed};
 
 use crate::member_index::{MemberIndex, members_of_class};
+use par_base::memory::NoMemory;
+use par_base::name::Name;
 use par_index::NameIndex;
-use par_lexer::list::NoMemory;
-use par_lexer::name::Name;
 use par_typed::table::{ClassInfo, Table};
 use std::alloc::Global;
 use std::marker::Model;

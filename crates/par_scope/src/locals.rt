@@ -5,8 +5,8 @@ ghost use Rattle.par_scope.specs.Names.{number_in};
 ghost use Rattle.par_scope.specs.Locals.{no_locals, declared, local_named};
 
 use crate::stack::NameStack;
-use par_lexer::list::NoMemory;
-use par_lexer::name::Name;
+use par_base::memory::NoMemory;
+use par_base::name::Name;
 use par_typed::ty::Ty;
 use std::alloc::Global;
 use std::marker::Model;

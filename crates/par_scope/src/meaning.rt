@@ -13,7 +13,7 @@ use crate::members::{
     Place, channel_arity, channel_at, channel_type, field_at, field_is_static, field_type,
     method_arity, method_at, method_is_static, method_type, number_slot, param_slot,
 };
-use par_lexer::name::Name;
+use par_base::name::Name;
 use par_tree::expr::{BinOp, Expr, ExprKind};
 use par_typed::table::{MethodInfo, Table};
 use par_typed::ty::Ty;

@@ -5,8 +5,8 @@ ghost use Rattle.par_index.specs.Texts.{texts};
 ghost use Rattle.par_scope.specs.Names.{member_names};
 ghost use Rattle.par_scope.specs.Indexed.{members_indexed};
 
+use par_base::memory::NoMemory;
 use par_index::NameIndex;
-use par_lexer::list::NoMemory;
 use par_typed::table::{ChannelInfo, ClassInfo, FieldInfo, MethodInfo};
 use std::alloc::Global;
 

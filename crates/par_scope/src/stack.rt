@@ -6,8 +6,8 @@ ghost use Rattle.par_scope.specs.Names.{number_in};
 ghost use Rattle.par_scope.specs.Found.{AreFound, standing};
 
 use indexmap::IndexMap;
-use par_lexer::list::NoMemory;
-use par_lexer::name::Name;
+use par_base::memory::NoMemory;
+use par_base::name::Name;
 use std::alloc::Global;
 
 /// Names in an order, of which the last ones leave first. Each is found in constant time by the

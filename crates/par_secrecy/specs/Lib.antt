@@ -9,6 +9,6 @@ pub mod Shows
 pub mod SecureFiles
 pub mod ShownFiles
 pub use Rattle.par_values.specs.par_instr as par_instr
-pub use Rattle.par_values.specs.par_lexer as par_lexer
+pub use Rattle.par_values.specs.par_base as par_base
 pub use Rattle.par_policy.specs as par_policy
 pub use Rattle.par_values.specs as par_values

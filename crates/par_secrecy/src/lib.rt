@@ -15,4 +15,4 @@ pub use laws::{
 };
 pub use par_policy;
 pub use par_values;
-pub use par_values::{par_instr, par_lexer};
+pub use par_values::{par_base, par_instr};

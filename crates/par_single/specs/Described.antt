@@ -9,7 +9,7 @@ use Rattle.par_class.specs.declared.file.FieldFile.{FieldFile}
 use Rattle.par_class.specs.declared.file.MethodFile.{MethodFile}
 use Rattle.par_class.specs.declared.file.ClassFile.{ClassFile}
 use Rattle.par_class.specs.Spelling.{is_native}
-use Rattle.par_values.specs.par_lexer.Names.{is_name}
+use Rattle.par_values.specs.par_base.Names.{is_name}
 use Rattle.par_single.specs.Descriptors.{Text, field_kind, method_signature}
 use Rattle.par_single.specs.Members.{text_at, Member, is_static}
 

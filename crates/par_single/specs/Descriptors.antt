@@ -4,7 +4,7 @@ use Rattle.std.specs.Prelude.{ℕ, zero, suc, ◌+◌, ◌-◌, Bool, ◌||◌, 
 use Rattle.std.specs.Prelude.{◌∷◌, length, take, drop, Option, Some, None, option_map, codes}
 use Rattle.std.specs.List.{position}
 use Rattle.std.specs.Str.{bytes_eq}
-use Rattle.par_values.specs.par_lexer.Names.{IsName, is_name}
+use Rattle.par_values.specs.par_base.Names.{IsName, is_name}
 use Rattle.par_values.specs.declared.kind.Kind.{Kind}
 use Rattle.par_values.specs.declared.kind.Kind.TheVariants.{Number, Object}
 use Rattle.par_single.specs.declared.descriptor.Said.{Said}

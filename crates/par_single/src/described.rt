@@ -10,7 +10,7 @@ use crate::member::{is_static, text_at};
 use par_class::file::{FieldFile, MethodFile};
 use par_class::is_native;
 use par_class::par_pool::constant::Constant;
-use par_values::par_lexer::name::Name;
+use par_values::par_base::name::Name;
 
 /// Whether a field has a name and the descriptor of a field.
 pub fn is_field_right(entries: &[Constant], field: &FieldFile) -> bool

@@ -6,8 +6,9 @@ ghost use Rattle.par_single.specs.Descriptors.{kinds_at, result_kind, method_sig
 ghost use Rattle.par_single.specs.Descriptors.{IsSaid, ends_name, object_to};
 
 use par_values::kind::Kind;
-use par_values::par_lexer::list::{List, NoMemory};
-use par_values::par_lexer::name::Name;
+use par_values::par_base::list::List;
+use par_values::par_base::memory::NoMemory;
+use par_values::par_base::name::Name;
 use std::alloc::Global;
 
 /// A kind of value as it stands in a descriptor.

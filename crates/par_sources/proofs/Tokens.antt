@@ -11,9 +11,11 @@ use Rattle.par_lexer.specs.declared.token.Token.{Token}
 use Rattle.par_lexer.specs.declared.piece.Piece.{Piece}
 use Rattle.par_lexer.specs.declared.piece.Piece.TheVariants as piece
 use Rattle.par_lexer.specs.declared.token.LexError.TheVariants.{BadByte, NumberTooLarge}
-use Rattle.par_lexer.specs.Names.{is_letter, is_digit, is_blank, goes_on, first_is}
+use Rattle.par_lexer.specs.par_base.Names.{is_letter, is_digit, goes_on}
+use Rattle.par_lexer.specs.Blanks.{is_blank, first_is}
 use Rattle.par_lexer.specs.Tables.{Row, words}
-use Rattle.par_lexer.specs.Pieces.{value, begins, has_leading_zero, through_close, comment_at}
+use Rattle.par_lexer.specs.par_base.Numbers.{value, has_leading_zero}
+use Rattle.par_lexer.specs.Pieces.{begins, through_close, comment_at}
 use Rattle.par_lexer.specs.Pieces.{named, name_at, number_at, longest_sign, sign_at, piece_at}
 use Rattle.par_lexer.specs.Tokens.{Outcome, Cut, ends, passes, takes, breaks, token_at, before}
 use Rattle.par_lexer.specs.Tokens.{HasTokens}

@@ -8,7 +8,7 @@ ghost use Rattle.par_stack.specs.Frames.{last_operands, without_running, is_awai
 
 use crate::places::empty;
 use crate::point::{Extent, Point};
-use par_lexer::list::NoMemory;
+use par_base::memory::NoMemory;
 use par_values::value::MVal;
 use std::alloc::Global;
 use std::marker::Model;

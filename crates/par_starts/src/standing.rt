@@ -6,8 +6,8 @@ ghost use Rattle.par_single.specs.Walk.{starts_at, stands_at};
 ghost use Rattle.par_starts.specs.Standing.{reach_of, IsStanding};
 
 use crate::starts::Starts;
+use par_base::memory::NoMemory;
 use par_instr::{Instr, decode};
-use par_lexer::list::NoMemory;
 use std::alloc::Global;
 use std::marker::Model;
 

@@ -3,8 +3,8 @@
 ghost use Rattle.std.specs.Prelude.{◌≡◌, ℕ, false, length, replicate, slice_index_or, IfOk};
 ghost use Rattle.par_single.specs.Walk.{starts_at};
 
+use par_base::memory::NoMemory;
 use par_instr::decode;
-use par_lexer::list::NoMemory;
 use std::alloc::Global;
 use std::marker::Model;
 

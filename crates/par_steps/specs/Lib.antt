@@ -11,7 +11,7 @@ pub mod Places
 pub mod FieldLaws
 pub use Rattle.par_link.specs.par_class as par_class
 pub use Rattle.par_secrecy.specs.par_instr as par_instr
-pub use Rattle.par_secrecy.specs.par_lexer as par_lexer
+pub use Rattle.par_secrecy.specs.par_base as par_base
 pub use Rattle.par_link.specs as par_link
 pub use Rattle.par_secrecy.specs.par_policy as par_policy
 pub use Rattle.par_link.specs.par_pool as par_pool

@@ -10,7 +10,7 @@ use Rattle.std.proofs.lemmas.List.{length-append}
 use Rattle.std.proofs.lemmas.List.Sums.{position_or_len_is}
 use Rattle.std.proofs.lemmas.Slice.Eq.{bytes_eq-Decides}
 use Rattle.par_io.specs.Causes.{Files}
-use Rattle.par_lexer.specs.Names.{is_name}
+use Rattle.par_lexer.specs.par_base.Names.{is_name}
 use Rattle.par_class.specs.declared.file.MethodFile.{MethodFile}
 use Rattle.par_class.specs.declared.file.ClassFile.{ClassFile}
 use Rattle.par_single.specs.Members.{own_name, is_static, is_method_of}

@@ -7,8 +7,7 @@ ghost use Rattle.par_tool.specs.Texts as spec;
 ghost use Rattle.par_tool.specs.Texts.{status, text, is_fault};
 
 use par_io::Sink;
-use par_lexer::name::Name;
-use par_loader::text_of;
+use par_lexer::name::{Name, text_of};
 use par_sample::Summary;
 use par_typed::refusal::LIMIT_RULE;
 use std::alloc::{AllocError, Global};

@@ -3,7 +3,7 @@
 
 ghost use Rattle.std.specs.Prelude.{◌≡◌, IsTrue, IfOk, IfErr};
 ghost use Rattle.par_io.specs.Causes.{Makes, NoneFalls};
-ghost use Rattle.par_lexer.specs.Names.{IsName};
+ghost use Rattle.par_lexer.specs.par_base.Names.{IsName};
 ghost use Rattle.par_link.specs.Inputs.{first_misfit};
 ghost use Rattle.par_tool.specs.Given.{AreInputs, IsUngiven};
 ghost use Rattle.par_tool.specs.Classes.{NotRun, LacksMemory, Starts};

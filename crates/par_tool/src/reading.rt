@@ -8,7 +8,7 @@ ghost use Rattle.par_tool.specs.declared.reading.Failure.TheVariants.{Memory};
 
 use crate::answer::Answer;
 use par_io::{Folder, ReadFail};
-use par_lexer::list::NoMemory;
+use par_lexer::memory::NoMemory;
 use par_loader::Unloaded;
 use par_words::Unread;
 use std::alloc::{AllocError, Global};

@@ -2,7 +2,7 @@
 //! each of their methods. No input file is read.
 
 ghost use Rattle.std.specs.Prelude.{◌≡◌, IsTrue, IfOk, IfErr, Some};
-ghost use Rattle.par_lexer.specs.Names.{IsName};
+ghost use Rattle.par_lexer.specs.par_base.Names.{IsName};
 ghost use Rattle.par_loader.specs.declared.error.Unloaded.TheVariants as unloaded;
 ghost use Rattle.par_tool.specs.Classes.{IsUnlinked};
 ghost use Rattle.par_tool.specs.Failures.{IsFailure, FaultsAreTold};

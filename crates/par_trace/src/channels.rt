@@ -6,8 +6,8 @@ ghost use Rattle.par_index.specs.Firsts.{AreFirst};
 ghost use Rattle.par_trace.specs.Channels.{inputs_in, input_channels, is_among, first_misfit};
 ghost use Rattle.par_trace.specs.Keys.{named, same_key};
 
+use par_base::memory::NoMemory;
 use par_index::Firsts;
-use par_lexer::list::NoMemory;
 use par_typed::table::{ClassInfo, Table};
 use par_values::inputs::{ChannelInput, Inputs};
 use std::alloc::Global;

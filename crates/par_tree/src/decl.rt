@@ -4,7 +4,7 @@ use crate::ident::Ident;
 use crate::policy::{LockTree, PolicyExpr};
 use crate::stmt::Block;
 use crate::types::TypeTree;
-use par_grammar::par_lexer::list::List;
+use par_grammar::par_base::list::List;
 
 /// A source, declaration by declaration.
 #[derive(Drop)]

@@ -1,8 +1,8 @@
 //! Expressions.
 
 use crate::ident::Ident;
-use par_grammar::par_lexer::list::List;
-use par_grammar::par_lexer::name::Name;
+use par_grammar::par_base::list::List;
+use par_grammar::par_base::name::Name;
 pub use par_grammar::par_lexer::operator::BinOp;
 
 /// An expression with its place: that of its operator, of the member's name in a selection or a

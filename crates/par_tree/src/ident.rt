@@ -1,4 +1,4 @@
-use par_grammar::par_lexer::name::Name;
+use par_grammar::par_base::name::Name;
 
 /// A name that a program writes, with its place.
 #[derive(Drop)]

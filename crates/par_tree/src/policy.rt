@@ -1,7 +1,7 @@
 //! Policies and locks, as a program writes them.
 
 use crate::ident::Ident;
-use par_grammar::par_lexer::list::List;
+use par_grammar::par_base::list::List;
 
 /// A lock, with the actors of a family's member: none, one or two.
 #[derive(Drop)]

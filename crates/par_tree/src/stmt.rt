@@ -4,7 +4,7 @@ use crate::expr::Expr;
 use crate::ident::Ident;
 use crate::policy::{LockTree, PolicyExpr};
 use crate::types::TypeTree;
-use par_grammar::par_lexer::list::List;
+use par_grammar::par_base::list::List;
 
 /// Statements between braces, with the place of the first brace.
 #[derive(Drop)]

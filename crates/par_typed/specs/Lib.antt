@@ -6,3 +6,4 @@ pub mod Shown
 pub use Rattle.par_policy.specs.par_bits as par_bits
 pub use Rattle.par_lexer.specs as par_lexer
 pub use Rattle.par_policy.specs as par_policy
+pub use Rattle.par_lexer.specs.par_base as par_base

@@ -13,5 +13,6 @@ pub mod table;
 pub mod ty;
 
 pub use par_lexer;
+pub use par_lexer::par_base;
 pub use par_policy;
 pub use par_policy::par_bits;

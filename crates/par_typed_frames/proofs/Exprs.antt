@@ -5,7 +5,7 @@ use Rattle.std.proofs.Common.{◌∙◌, arith, inl, ◌⊎◌}
 use Rattle.std.proofs.lemmas.List.{append-nil}
 use Rattle.std.specs.Prelude.{pos, if◌then◌else◌, nat_le}
 use Rattle.std.specs.List.{AllByRecursion, slice_get}
-use Rattle.par_lexer.specs.declared.operator.BinOp.{BinOp}
+use Rattle.par_typed.specs.par_lexer.declared.operator.BinOp.{BinOp}
 use Rattle.par_instr.specs.declared.instr.Instr.TheVariants.{AconstNull, AloadShort, Pop, Dup, Ineg}
 use Rattle.par_typed.specs.declared.ty.Ty.{Ty}
 use Rattle.par_typed.specs.declared.ty.Ty.TheVariants as ty

@@ -1,7 +1,7 @@
 -- Which values fit a type.
 use Rattle.std.specs.Prelude.{ℕ, Bool, true, false, not, ◌||◌, nat_eq, Option, Some, None}
-use Rattle.par_lexer.specs.declared.operator.BinOp.{BinOp}
-use Rattle.par_lexer.specs.declared.operator.BinOp.TheVariants as op
+use Rattle.par_completes.specs.par_lexer.declared.operator.BinOp.{BinOp}
+use Rattle.par_completes.specs.par_lexer.declared.operator.BinOp.TheVariants as op
 use Rattle.par_completes.specs.par_typed.declared.ty.Ty.{Ty}
 use Rattle.par_completes.specs.par_typed.declared.ty.Ty.TheVariants.{Int, Boolean, Class, Null}
 use Rattle.par_completes.specs.par_typed.declared.ty.Ty.TheVariants.{Void}

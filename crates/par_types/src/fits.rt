@@ -4,8 +4,8 @@ ghost use Rattle.std.specs.Prelude.{◌≡◌};
 ghost use Rattle.par_scope.specs.Members.{any_value, value_of};
 ghost use Rattle.par_types.specs.Fits as is;
 
+use par_completes::par_lexer::operator::BinOp;
 use par_completes::par_typed::ty::Ty;
-use par_lexer::operator::BinOp;
 use par_scope::locals::Slot;
 
 /// Any value.

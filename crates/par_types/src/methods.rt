@@ -8,10 +8,10 @@ ghost use Rattle.par_types.specs.Methods as is;
 
 use crate::fits::is_void;
 use crate::stmts::{check_block, check_thrown, check_type};
+use par_base::memory::NoMemory;
 use par_completes::block_completes;
 use par_completes::par_typed::refusal::Findings;
 use par_completes::par_typed::table::Table;
-use par_lexer::list::NoMemory;
 use par_scope::home::{Home, result_written, type_written};
 use par_scope::index::TableIndex;
 use par_scope::locals::{Locals, Slot};

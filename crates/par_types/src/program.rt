@@ -7,9 +7,9 @@ ghost use Rattle.par_scope.specs.Names.{IsFewTable};
 ghost use Rattle.par_types.specs.Program.{declaration_faults, declarations_faults, type_faults};
 
 use crate::methods::check_class;
+use par_base::memory::NoMemory;
 use par_completes::par_typed::refusal::{Findings, Refusal};
 use par_completes::par_typed::table::Table;
-use par_lexer::list::NoMemory;
 use par_scope::index::TableIndex;
 use par_tree::decl::{Decl, Program};
 use std::alloc::Global;

@@ -12,10 +12,10 @@ ghost use Rattle.par_types.specs.Kept.{IsKept};
 
 use crate::exprs::{check_expr, check_no_exception, check_value};
 use crate::fits::{any_value, is_void, value_of};
+use par_base::memory::NoMemory;
 use par_completes::completes;
 use par_completes::par_typed::refusal::Findings;
 use par_completes::par_typed::ty::Ty;
-use par_lexer::list::NoMemory;
 use par_scope::home::{Home, type_written};
 use par_scope::locals::{Locals, Slot};
 use par_scope::members::is_exception;

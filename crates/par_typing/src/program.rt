@@ -20,7 +20,8 @@ ghost use Rattle.par_typing.specs.Typed.{IsTyped, IsRefused, written};
 
 use crate::error::TypeError;
 use par_annotated::{Numbering, type_bodies};
-use par_lexer::list::{List, NoMemory};
+use par_lexer::list::List;
+use par_lexer::memory::NoMemory;
 use par_resolved::known::Known;
 use par_resolved::scope;
 use par_tree::decl::Program;

@@ -6,4 +6,4 @@ pub mod Reasons
 pub mod Ran
 pub mod Laws
 pub use Rattle.par_instr.specs as par_instr
-pub use Rattle.par_lexer.specs as par_lexer
+pub use Rattle.par_base.specs as par_base

@@ -1,5 +1,5 @@
-use par_lexer::list::List;
-use par_lexer::name::Name;
+use par_base::list::List;
+use par_base::name::Name;
 
 /// The numbers of one input channel, the next one first.
 #[derive(Drop)]

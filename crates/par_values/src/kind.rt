@@ -1,4 +1,4 @@
-use par_lexer::name::Name;
+use par_base::name::Name;
 
 /// What kind of value a place of a machine takes.
 #[derive(Drop)]

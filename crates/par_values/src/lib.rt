@@ -13,5 +13,5 @@ pub mod run;
 pub mod value;
 
 pub use laws::stack_effect_is_what_is_done;
+pub use par_base;
 pub use par_instr;
-pub use par_lexer;

@@ -1,8 +1,8 @@
 //! What the indices of a constant pool name, once names are looked up.
 
 use crate::kind::Kind;
-use par_lexer::list::List;
-use par_lexer::name::Name;
+use par_base::list::List;
+use par_base::name::Name;
 
 /// A field.
 #[derive(Drop)]

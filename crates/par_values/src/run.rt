@@ -1,4 +1,4 @@
-use par_lexer::name::Name;
+use par_base::name::Name;
 
 /// A value of a field.
 #[derive(Drop)]

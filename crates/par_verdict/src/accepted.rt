@@ -9,7 +9,8 @@ ghost use Rattle.par_verdict.specs.Accepted.{IsAcceptedBy, IsOrderlyBody, IsRefu
 use crate::error::CheckError;
 use crate::first::first_broken;
 use crate::known::KnownFacts;
-use par_lexer::list::{List, NoMemory};
+use par_base::list::List;
+use par_base::memory::NoMemory;
 use par_typed::program::{TBody, Typed};
 use par_typed::table::Table;
 use std::alloc::Global;

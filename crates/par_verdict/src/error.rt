@@ -3,7 +3,7 @@
 ghost use Rattle.std.specs.Prelude.{◌≡◌};
 ghost use Rattle.par_verdict.specs.declared.error.CheckError.TheVariants.{Memory};
 
-use par_lexer::list::NoMemory;
+use par_base::memory::NoMemory;
 use par_typed::refusal::Refusal;
 use thiserror::Error;
 

@@ -15,7 +15,7 @@ use crate::known::KnownFacts;
 use crate::policies::Policies;
 use par_asked::body::checks_of;
 use par_asked::check::Check;
-use par_lexer::list::NoMemory;
+use par_base::memory::NoMemory;
 use par_typed::program::TBody;
 use par_typed::refusal::{Findings, Refusal};
 use par_typed::table::Table;

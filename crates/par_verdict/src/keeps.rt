@@ -13,7 +13,7 @@ use crate::policies::Policies;
 use crate::ways::known_at;
 use par_asked::check::{Check, Condition};
 use par_atoms::Atoms;
-use par_lexer::list::NoMemory;
+use par_base::memory::NoMemory;
 
 // Whether the context is below the policy, whichever locks are open.
 fn is_context_below(

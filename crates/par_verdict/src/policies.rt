@@ -6,8 +6,8 @@ ghost use Rattle.par_asked.specs.par_rules.Lattice.{IsSeenBelow, joined, seen_by
 ghost use Rattle.par_asked.specs.par_checks.Keeps.{IsSeenBelowAt};
 
 use par_atoms::Atoms;
+use par_base::memory::NoMemory;
 use par_bits::Bits;
-use par_lexer::list::NoMemory;
 use par_order::Order;
 use par_policy::Policy;
 use par_typed::table::Table;

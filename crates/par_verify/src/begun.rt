@@ -7,10 +7,10 @@ ghost use Rattle.par_frame_passes.specs.Tables.{table_of};
 ghost use Rattle.par_verify.specs.Starts.{told_of};
 
 use crate::told::frame_told;
+use par_base::memory::NoMemory;
 use par_frame_passes::Table;
 use par_frame_steps::PlaceFrame;
 use par_kinds::PlacedFrame;
-use par_lexer::list::NoMemory;
 use std::alloc::Global;
 
 /// No frame for any of so many offsets.

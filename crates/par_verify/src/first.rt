@@ -8,9 +8,9 @@ ghost use Rattle.par_frame_steps.specs.Marks.{asked_of, kinds_of};
 ghost use Rattle.par_verify.specs.Starts.{frame_with};
 ghost use Rattle.par_frame_steps.specs.Marks.{frame_of};
 
+use par_base::memory::NoMemory;
 use par_frame_acts::{arguments_at, asked_kind};
 use par_frame_steps::{Asked, PlaceFrame, PlaceKind};
-use par_lexer::list::NoMemory;
 use std::alloc::Global;
 
 /// Kinds, and behind them those of what is asked for.

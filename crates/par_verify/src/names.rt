@@ -6,8 +6,8 @@ ghost use Rattle.par_kinds.specs.Linked.{exception_names};
 ghost use Rattle.par_frame_steps.specs.Marks.{names};
 ghost use Rattle.par_verify.specs.Starts.{named_in};
 
+use par_base::memory::NoMemory;
 use par_class::file::ClassFile;
-use par_lexer::list::NoMemory;
 use par_link::Linked;
 use par_single::member::{class_name_at, own_name};
 use std::alloc::Global;

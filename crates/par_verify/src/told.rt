@@ -7,9 +7,9 @@ ghost use Rattle.par_frame_steps.specs.Marks.{kind_of, kinds_of, frame_of};
 ghost use Rattle.par_verified.specs.Verified.{whole};
 ghost use Rattle.par_verify.specs.Starts.{told_of};
 
+use par_base::memory::NoMemory;
 use par_frame_steps::{PlaceFrame, PlaceKind};
 use par_kinds::{Frame, PlacedFrame, VKind};
-use par_lexer::list::NoMemory;
 use std::alloc::Global;
 
 /// A kind that is told.

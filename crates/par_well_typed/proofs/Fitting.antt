@@ -6,8 +6,8 @@ use Rattle.std.specs.Prelude.{slice_get, nat_eq}
 use Rattle.std.specs.Option.{is_some}
 use Rattle.std.proofs.lemmas.Bool.Decides.{nat_tests}
 use Rattle.std.proofs.lemmas.List.{length-append}
-use Rattle.par_lexer.specs.declared.operator.BinOp.{BinOp}
-use Rattle.par_lexer.specs.declared.operator.BinOp.TheVariants as op
+use Rattle.par_rules.specs.par_lexer.declared.operator.BinOp.{BinOp}
+use Rattle.par_rules.specs.par_lexer.declared.operator.BinOp.TheVariants as op
 use Rattle.par_bodies.specs.par_tree.declared.ident.Ident.{Ident}
 use Rattle.par_bodies.specs.par_tree.Plain.{Exp, Int, True, False, Null, This, New, Name, Field}
 use Rattle.par_bodies.specs.par_tree.Plain.{Call, Neg}

@@ -2,8 +2,8 @@
 use Rattle.std.proofs.Common.{◌≡◌, ℕ, zero, suc, ◌+◌, Bool, true, false, List, [], ◌∷◌, ◌++◌}
 use Rattle.std.proofs.Common.{length, refl, sym, ap, subst, ◌∙◌, arith}
 use Rattle.std.proofs.lemmas.List.{length-append}
-use Rattle.par_lexer.specs.declared.operator.BinOp.{BinOp}
-use Rattle.par_lexer.specs.declared.operator.BinOp.TheVariants as op
+use Rattle.par_rules.specs.par_lexer.declared.operator.BinOp.{BinOp}
+use Rattle.par_rules.specs.par_lexer.declared.operator.BinOp.TheVariants as op
 use Rattle.par_rules.specs.par_typed.Plain as plain
 use Rattle.par_rules.specs.par_typed.Plain.{TExp, MayTExp, TExps, TSta, MayTSta, TStas, TCatches}
 use Rattle.par_rules.specs.par_typed.Plain.{mark}

@@ -4,8 +4,8 @@ use Rattle.std.proofs.Common.{◌++◌, length, map, Option, Some, None, inl, in
 use Rattle.std.proofs.Common.{subst, ◌∙◌, arith}
 use Rattle.std.specs.Prelude.{slice_get}
 use Rattle.std.specs.List.{AllByRecursion, range_with_len}
-use Rattle.par_lexer.specs.declared.operator.BinOp.{BinOp}
-use Rattle.par_lexer.specs.declared.operator.BinOp.TheVariants as op
+use Rattle.par_rules.specs.par_lexer.declared.operator.BinOp.{BinOp}
+use Rattle.par_rules.specs.par_lexer.declared.operator.BinOp.TheVariants as op
 use Rattle.par_rules.specs.par_typed.declared.ty.Ty.{Ty}
 use Rattle.par_rules.specs.par_typed.declared.ty.Ty.TheVariants as ty
 use Rattle.par_rules.specs.par_typed.declared.table.FieldInfo.{FieldInfo}

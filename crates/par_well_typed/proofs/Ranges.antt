@@ -5,8 +5,8 @@ use Rattle.std.specs.Prelude.{slice_get, nat_eq}
 use Rattle.std.specs.List.{AllByRecursion, All}
 use Rattle.std.proofs.lemmas.Bool.Decides.{nat_tests}
 use Rattle.std.proofs.lemmas.List.Elements.{All-nil, All-cons}
-use Rattle.par_lexer.specs.declared.operator.BinOp.{BinOp}
-use Rattle.par_lexer.specs.declared.operator.BinOp.TheVariants as op
+use Rattle.par_rules.specs.par_lexer.declared.operator.BinOp.{BinOp}
+use Rattle.par_rules.specs.par_lexer.declared.operator.BinOp.TheVariants as op
 use Rattle.par_rules.specs.par_policy.Numbers.{has}
 use Rattle.par_bits.specs.Sets.{adding, none}
 use Rattle.par_rules.specs.par_typed.declared.table.GroundLock.{GroundLock}

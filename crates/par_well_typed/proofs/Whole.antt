@@ -1,6 +1,6 @@
 -- The laws, of whole sources.
 use Rattle.std.proofs.Common.{◌≤◌, refl, sym, subst, arith}
-use Rattle.par_lexer.specs.declared.cut.TheConstants.{LONGEST_SOURCE}
+use Rattle.par_rules.specs.par_lexer.declared.cut.TheConstants.{LONGEST_SOURCE}
 use Rattle.par_faults.specs.par_resolved.Resolved.{table_of}
 use Rattle.par_well_typed.specs.Laws.{TablesAreInRange, BodiesHaveMethods, SuchBodiesAreOrderly}
 use Rattle.par_well_typed.specs.Laws.{BodiesAreOrderly, ClassesAndMembersAreNamed, BodiesAreSmall}

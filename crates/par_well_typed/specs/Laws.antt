@@ -1,7 +1,7 @@
 -- The laws of the tables and bodies of sources that break no rule on names and exceed no limit.
 use Rattle.std.specs.Prelude.{◌≡◌, ◌≤◌, []}
 use Rattle.std.specs.List.{AllByRecursion}
-use Rattle.par_lexer.specs.declared.cut.TheConstants.{LONGEST_SOURCE}
+use Rattle.par_rules.specs.par_lexer.declared.cut.TheConstants.{LONGEST_SOURCE}
 use Rattle.par_bodies.specs.par_tree.Plain.{Source}
 use Rattle.par_rules.specs.par_typed.declared.table.Table.{Table}
 use Rattle.par_rules.specs.par_typed.Plain.{Body}

@@ -1,7 +1,7 @@
 -- Well-typed programs.
 use Rattle.std.specs.Prelude.{◌≤◌, List}
 use Rattle.std.specs.List.{AllByRecursion}
-use Rattle.par_lexer.specs.declared.cut.TheConstants.{LONGEST_SOURCE}
+use Rattle.par_rules.specs.par_lexer.declared.cut.TheConstants.{LONGEST_SOURCE}
 use Rattle.par_rules.specs.par_typed.declared.table.Table.{Table}
 use Rattle.par_rules.specs.par_typed.Plain.{Body}
 use Rattle.par_bodies.specs.Proper.{IsProper}

@@ -8,9 +8,9 @@ use Rattle.std.proofs.lemmas.Bool.Decides.{nat_tests}
 use Rattle.std.proofs.lemmas.Option.{none-some, same_Some}
 use Rattle.std.specs.Prelude.{unwrap_or, codes}
 use Rattle.clap.specs.Words.{Row, all_of}
-use Rattle.par_lexer.specs.Names.{IsName}
-use Rattle.par_lexer.specs.Pieces.{value}
-use Rattle.par_inputs.specs.Numbers.{is_decimal, magnitude_of}
+use Rattle.par_base.specs.Names.{IsName}
+use Rattle.par_base.specs.Numbers.{value}
+use Rattle.par_base.specs.Numbers.{is_decimal, magnitude_of}
 use Rattle.par_words.specs.declared.commands.Flag.{Flag}
 use Rattle.par_words.specs.declared.commands.Flag.TheVariants as flag
 use Rattle.par_words.specs.declared.words.Which.{Which}

@@ -2,8 +2,8 @@
 use Rattle.std.specs.Prelude.{◌≡◌, ℕ, ◌≤◌, List, [], ◌∷◌, Some}
 use Rattle.std.specs.declared.string.String.{String}
 use Rattle.std.specs.declared.alloc.Global.{Global}
-use Rattle.par_lexer.specs.Names.{IsName}
-use Rattle.par_inputs.specs.Numbers.{magnitude_of}
+use Rattle.par_base.specs.Names.{IsName}
+use Rattle.par_base.specs.Numbers.{magnitude_of}
 use Rattle.clap.specs.Words.{Row}
 use Rattle.par_words.specs.declared.words.Which.{Which}
 use Rattle.par_words.specs.declared.words.Which.TheVariants.{Compiler, Runner}

@@ -1,7 +1,7 @@
 //! The programs' words, as those of one simple command each.
 
 ghost use Rattle.std.specs.Prelude.{◌≡◌, ◌≢◌, [], false, codes, IfOk, IfErr, map, option_map};
-ghost use Rattle.clap.specs.Words.{all_of, app_of, fault_of, found_of, rows_of, rule_of, with_rule};
+ghost use Rattle.clap.specs.Words.{all_of, app_of, fault_of, found_of, rows_of, rule_of};
 ghost use Rattle.par_words.specs.Commands as spec;
 ghost use Rattle.par_words.specs.Commands.{command_of, texts};
 

@@ -6,7 +6,6 @@
 #![tactic(auto)]
 
 mod commands;
-mod number;
 mod words;
 
 pub use words::{Request, Unread, Which, read_words};

@@ -7,9 +7,8 @@ ghost use Rattle.par_words.specs.Words.{Check, Compile, Infer, Counts};
 ghost use Rattle.par_words.specs.Requests.{wanted};
 
 use crate::commands::{Flag, set_flags, taken, values};
-use crate::number::long_magnitude_of;
-use par_inputs::magnitude_of;
-use par_lexer::name::Name;
+use par_base::name::Name;
+use par_base::numbers::{long_magnitude_of, magnitude_of};
 use std::alloc::{AllocError, Global};
 
 /// Which program was called.

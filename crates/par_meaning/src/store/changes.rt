@@ -3,8 +3,8 @@ ghost use Rattle.par_meaning.specs.Held.{nothing_held, numbers_left, write_stati
 ghost use Rattle.par_meaning.specs.Held.{write_field, keep_input, opens, closes};
 ghost use Rattle.par_meaning.specs.Stored.{holds};
 
-use crate::memory::NoMemory;
 use crate::store::Store;
+use par_base::memory::NoMemory;
 use par_policy::Lockset;
 use par_values::value::MVal;
 use std::alloc::Global;

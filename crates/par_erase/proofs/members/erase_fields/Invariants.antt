@@ -1,6 +1,6 @@
 use Rattle.std.proofs.Common.{◌≡◌, map, take}
 use Rattle.std.specs.List.{AllByRecursion}
-use Rattle.par_lexer.specs.Names.{IsName}
+use Rattle.par_base.specs.Names.{IsName}
 use Rattle.par_erase.specs.Shown.{field_info}
 use Rattle.par_erase.specs.Erased.{erased_field}
 use Rattle.par_erase.proofs.members.erase_fields.Given as goal

@@ -1,6 +1,6 @@
 use Rattle.std.proofs.Common.{◌≡◌, List, ℕ, IsTrue, take, subst, sym, ap, ◌∙◌, arith}
 use Rattle.std.specs.List.{prefix_len}
-use Rattle.par_lexer.specs.Names.{goes_on, is_spelled}
+use Rattle.par_base.specs.Names.{goes_on, is_spelled}
 use Rattle.par_lexer.proofs.Prefixes.{spelled_run}
 use Rattle.par_lexer.proofs.scan.name_at.Goals as goal
 

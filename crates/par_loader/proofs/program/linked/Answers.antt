@@ -1,5 +1,5 @@
 use Rattle.std.proofs.Common.{◌≡◌, ℕ, false, List, Some, None, slice_get, sym, ap, subst, ◌∙◌}
-use Rattle.par_lexer.specs.Names.{IsName}
+use Rattle.par_base.specs.Names.{IsName}
 use Rattle.par_link.specs.Order.{Broken, first_broken}
 use Rattle.par_loader.specs.Judged.{name_of, begins}
 use Rattle.par_loader.specs.Ends.{IsBadAs, main_of}

@@ -1,6 +1,6 @@
 use Rattle.std.proofs.Common.{◌≡◌, ◌<◌, None, length, List, get_or, sym, ap, subst, ◌∙◌}
 use Rattle.par_class.specs.declared.file.ClassFile.{ClassFile}
-use Rattle.par_lexer.specs.Names.{IsName}
+use Rattle.par_base.specs.Names.{IsName}
 use Rattle.par_single.specs.Members.{own_name}
 use Rattle.par_loader.specs.Reads.{IsSpelled}
 use Rattle.par_loader.specs.Mentions.{naming, first_of}

@@ -1,6 +1,6 @@
 use Rattle.std.proofs.Common.{◌≡◌, [], ◌∷◌, map, sym, ap, subst, ◌∙◌, arith, rules}
 use Rattle.std.specs.List.{All}
-use Rattle.par_lexer.specs.Names.{IsName}
+use Rattle.par_base.specs.Names.{IsName}
 use Rattle.par_single.specs.Members.{own_name, own_names}
 use Rattle.par_loader.proofs.Unread.{among_nil, one_named}
 use Rattle.par_loader.proofs.Read.{read_none}

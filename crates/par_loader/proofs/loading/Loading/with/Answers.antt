@@ -4,7 +4,7 @@ use Rattle.std.proofs.lemmas.List.{length-append}
 use Rattle.std.proofs.lemmas.List.Elements.{All-push}
 use Rattle.std.specs.List.{All, list_any}
 use Rattle.std.specs.Str.{bytes_eq}
-use Rattle.par_lexer.specs.Names.{IsName}
+use Rattle.par_base.specs.Names.{IsName}
 use Rattle.par_single.specs.Members.{own_name, own_names}
 use Rattle.par_loader.specs.Mentions.{first_among, AreReadAt}
 use Rattle.par_loader.proofs.Unread.{new_keys, names_more, still_done, among_names}

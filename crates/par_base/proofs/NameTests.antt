@@ -2,7 +2,7 @@
 use Rattle.std.proofs.Common.{◌≡◌, ℕ, List, true, length, nat_le, arith}
 use Rattle.std.proofs.lemmas.Bool.{and_parts}
 use Rattle.std.proofs.lemmas.Bool.Decides.{nat_tests}
-use Rattle.par_lexer.specs.Names.{is_spelled, IsName, is_name}
+use Rattle.par_base.specs.Names.{is_spelled, IsName, is_name}
 
 -- bytes that pass it are a name
 pub is_name-IsName : (bytes : List ℕ) → is_name bytes ≡ true → IsName bytes

@@ -1,7 +1,7 @@
 use Rattle.std.proofs.Common.{◌<◌, get_or, refl, arith}
-use Rattle.par_values.specs.par_lexer.Pieces.{with_digit}
-use Rattle.par_inputs.proofs.Values.{above}
-use Rattle.par_inputs.proofs.number.value_of.Goals as goal
+use Rattle.par_base.specs.Numbers.{with_digit}
+use Rattle.par_base.proofs.Values.{above}
+use Rattle.par_base.proofs.numbers.value_of.Goals as goal
 
 pub returns-then-longer-from : goal.returns-then-longer-from
 returns-then-longer-from c =

@@ -12,18 +12,9 @@ is_letter byte =
 abbrev pub is_digit : ℕ → Bool
 is_digit byte = nat_le 48 byte && nat_le byte 57
 
--- a tab, the end of a line, a form feed, a carriage return or a space
-abbrev pub is_blank : ℕ → Bool
-is_blank byte = byte == 9 || byte == 10 || byte == 12 || byte == 13 || byte == 32
-
 -- a byte that a name may go on with
 abbrev pub goes_on : ℕ → Bool
 goes_on byte = is_letter byte || is_digit byte
-
--- whether there is a first byte, and it passes
-abbrev pub first_is : (ℕ → Bool) → List ℕ → Bool
-first_is test [] = false
-first_is test (byte ∷ rest) = test byte
 
 -- letters, digits and `_`, of which the first is no digit
 abbrev pub is_spelled : List ℕ → Bool

@@ -1,5 +1,5 @@
-use Rattle.par_loader.proofs.Ascii.{name_is_text}
-use Rattle.par_loader.proofs.naming.text_of.Goals as goal
+use Rattle.par_base.proofs.Ascii.{name_is_text}
+use Rattle.par_base.proofs.name.text_of.Goals as goal
 
 pub unreachable-requires : goal.unreachable-requires
 unreachable-requires c = c.in-Err.ensures.cases.0 (name_is_text c.args.name.now c.requires)

@@ -6,7 +6,7 @@ use Rattle.std.specs.List.{list_all}
 use Rattle.std.proofs.lemmas.Str.{IsUtf8-from_ascii}
 use Rattle.std.proofs.lemmas.Bool.{and_parts}
 use Rattle.std.proofs.lemmas.Bool.Decides.{nat_tests}
-use Rattle.par_lexer.specs.Names.{is_letter, goes_on, is_spelled, IsName}
+use Rattle.par_base.specs.Names.{is_letter, goes_on, is_spelled, IsName}
 
 letter_below : (byte : ℕ) → IsTrue (is_letter byte) → byte < 128
 letter_below byte h = grind (arith, nat_tests, h)

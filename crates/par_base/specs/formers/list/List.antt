@@ -14,10 +14,10 @@ use Rattle.std.specs.formers.vec.Vec as vec
 use Rattle.std.specs.declared.alloc.Global.{Global}
 use Rattle.std.specs.contracts.alloc.Global as heap
 use Rattle.std.specs.contracts.impls.GlobalAllocator.TheImpl.{ghosts}
-use Rattle.par_lexer.specs.declared.list.List.TheInside.{Inside}
-use Rattle.par_lexer.specs.declared.list.List.TheView.{view, invariant}
-use Rattle.par_lexer.specs.contracts.list.List as seen
-use Rattle.par_lexer.specs.contracts.list.List.TheInside as inside
+use Rattle.par_base.specs.declared.list.List.TheInside.{Inside}
+use Rattle.par_base.specs.declared.list.List.TheView.{view, invariant}
+use Rattle.par_base.specs.contracts.list.List as seen
+use Rattle.par_base.specs.contracts.list.List.TheInside as inside
 
 -- a list of items is split as a list of antt is
 abbrev pub the_former : Former {0} → Former {0}

@@ -1,8 +1,10 @@
-ghost use Rattle.std.specs.Prelude.{◌≡◌, ◌↔◌, IsTrue, IfOk};
-ghost use Rattle.par_lexer.specs.Names.{IsName, is_name};
+//! Names, and a name as text.
 
-use crate::bytes::is_spelled;
-use crate::list::NoMemory;
+ghost use Rattle.std.specs.Prelude.{◌≡◌, ◌↔◌, IsTrue, IfOk};
+ghost use Rattle.par_base.specs.Names.{IsName, is_name};
+
+use crate::letters::is_spelled;
+use crate::memory::NoMemory;
 use std::alloc::Global;
 use std::marker::Model;
 
@@ -18,7 +20,7 @@ pub const LONGEST: usize = 64;
 
 impl Model for Name {
     ghost use Rattle.std.specs.Prelude.{List, ℕ};
-    ghost use Rattle.par_lexer.specs.Names.{IsName};
+    ghost use Rattle.par_base.specs.Names.{IsName};
 
     ghost Value = { List ℕ };
 
@@ -59,5 +61,16 @@ impl Name {
         ensures spelled { IsName self.now }
     {
         self.text.as_slice()
+    }
+}
+
+/// A name as text.
+pub fn text_of(name: &[u8]) -> &str
+    requires { IsName name.now }
+    ensures { result.now ≡ name.now }
+{
+    match str::from_utf8(name) {
+        Ok(text) => text,
+        Err(_) => unreachable!(),
     }
 }

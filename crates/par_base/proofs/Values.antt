@@ -2,7 +2,7 @@
 use Rattle.std.proofs.Common.{◌≡◌, ℕ, ◌+◌, ◌<◌, ◌≤◌, List, [], ◌∷◌, true, length, drop, fold}
 use Rattle.std.proofs.Common.{get_or, drop-cons, add-one, nat_lt, arith, ◌∙◌, ap, sym}
 use Rattle.std.proofs.lemmas.Bool.Decides.{nat_tests}
-use Rattle.par_values.specs.par_lexer.Pieces.{with_digit, value}
+use Rattle.par_base.specs.Numbers.{with_digit, value}
 
 -- further digits never lower a number
 at_least : (n : ℕ) (digits : List ℕ) → n ≤ fold with_digit n digits
