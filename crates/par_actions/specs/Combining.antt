@@ -1,11 +1,11 @@
 -- Operators as the program holds them.
 use Rattle.par_values.specs.Arithmetic as plain
-use Rattle.par_actions.specs.declared.combining.Operator.{Operator}
-use Rattle.par_actions.specs.declared.combining.Operator.TheVariants.{Plus, Minus, Times, Quotient}
-use Rattle.par_actions.specs.declared.combining.Operator.TheVariants.{Remainder, ShiftLeft}
-use Rattle.par_actions.specs.declared.combining.Operator.TheVariants.{ShiftRight}
-use Rattle.par_actions.specs.declared.combining.Operator.TheVariants.{ShiftRightUnsigned, And, Or}
-use Rattle.par_actions.specs.declared.combining.Operator.TheVariants.{Xor}
+use Rattle.par_actions.specs.declared.operators.Operator.{Operator}
+use Rattle.par_actions.specs.declared.operators.Operator.TheVariants.{Plus, Minus, Times, Quotient}
+use Rattle.par_actions.specs.declared.operators.Operator.TheVariants.{Remainder, ShiftLeft}
+use Rattle.par_actions.specs.declared.operators.Operator.TheVariants.{ShiftRight}
+use Rattle.par_actions.specs.declared.operators.Operator.TheVariants.{ShiftRightUnsigned, And, Or}
+use Rattle.par_actions.specs.declared.operators.Operator.TheVariants.{Xor}
 
 abbrev pub operator_of : Operator → plain.Operator
 operator_of Plus = plain.Plus

@@ -4,8 +4,8 @@ use Rattle.std.specs.List.{list_any}
 use Rattle.par_values.specs.declared.kind.Kind.TheVariants as kind
 use Rattle.par_values.specs.Areas.{Name}
 use Rattle.par_values.specs.Reasons.{Spot}
-use Rattle.par_actions.specs.declared.leaving.Gives.{Gives}
-use Rattle.par_actions.specs.declared.leaving.Gives.TheVariants.{Nothing, Number, Object}
+use Rattle.par_actions.specs.declared.departures.Gives.{Gives}
+use Rattle.par_actions.specs.declared.departures.Gives.TheVariants.{Nothing, Number, Object}
 use Rattle.par_actions.specs.declared.fit.Fit.{Fit}
 use Rattle.par_actions.specs.Fits.{Takes}
 

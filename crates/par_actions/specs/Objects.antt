@@ -8,7 +8,7 @@ use Rattle.par_values.specs.Reasons.{Spot}
 use Rattle.par_stack.specs.Frames.{Frame, running}
 use Rattle.par_heap.specs.Heap as heap
 use Rattle.par_actions.specs.declared.done.Done.{Done}
-use Rattle.par_actions.specs.declared.creating.Class.{Class}
+use Rattle.par_actions.specs.declared.births.Class.{Class}
 use Rattle.par_actions.specs.Done.{areas_in, ComesTo}
 
 -- the objects of a program are those of a heap

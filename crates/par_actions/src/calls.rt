@@ -20,9 +20,9 @@ ghost use Rattle.par_actions.specs.Leaving.{KnowsExceptions};
 ghost use Rattle.par_lines.specs.Lines.{channels_of, AreLeft};
 
 use crate::callee::{Callee, Target};
+use crate::departures::is_exception;
 use crate::done::Done;
 use crate::fit::{Fit, accepts};
-use crate::leaving::is_exception;
 use par_base::memory::NoMemory;
 use par_lines::Lines;
 use par_stack::{Point, Stack};

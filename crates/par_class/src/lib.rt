@@ -13,14 +13,14 @@ mod laws;
 mod member;
 mod name;
 mod place;
-mod reading;
+mod reader;
 mod whole;
-mod writing;
+mod writer;
 
 pub use file::{Attribute, Catch, ClassFile, CodeAttr, FieldFile, MethodFile};
 pub use laws::{spelling_is_one, written_is_read_again};
 pub use member::is_native;
 pub use par_pool;
 pub use par_pool::LONGEST_CLASS;
-pub use reading::read_class;
+pub use reader::read_class;
 pub use whole::write_class;

@@ -10,10 +10,10 @@ ghost use Rattle.par_class.specs.Writing.{least_code, code_piece, pieces_of, met
 ghost use Rattle.par_class.specs.Writing.{layout_of, parts, each_method, back_with};
 
 use crate::file::{ClassFile, CodeAttr, MethodFile};
-use crate::writing::{put_attributes, put_code_attribute, put_each, put_each_field};
+use crate::writer::{put_attributes, put_code_attribute, put_each, put_each_field};
 use par_pool::constant::Constant;
 use par_pool::par_base::memory::NoMemory;
-use par_pool::writing::{put_pool, put_u2, put_u4};
+use par_pool::writer::{put_pool, put_u2, put_u4};
 use std::alloc::Global;
 
 /// Whether a constant is the text `Code`.

@@ -6,7 +6,7 @@ use Rattle.par_runs.specs.par_typed.declared.table.ClassInfo.{ClassInfo}
 use Rattle.par_runs.specs.par_typed.declared.table.FieldInfo.{FieldInfo}
 use Rattle.par_runs.specs.par_typed.declared.table.Table.{Table}
 use Rattle.par_runs.specs.par_typed.Plain.{Body}
-use Rattle.par_pool.specs.declared.reading.TheConstants.{LONGEST_CLASS}
+use Rattle.par_pool.specs.declared.reader.TheConstants.{LONGEST_CLASS}
 use Rattle.par_pool.specs.declared.constant.Constant.{Constant}
 use Rattle.par_pool.specs.Entries.{IsUtf8At, IsClassAt, IsDistinct}
 use Rattle.par_placed_frames.specs.par_class.declared.file.CodeAttr.{CodeAttr}

@@ -4,6 +4,6 @@
 //! fails is said class by class. The crate makes no file and reads none.
 #![tactic(auto)]
 
-mod writing;
+mod class_files;
 
-pub use writing::write_classes;
+pub use class_files::write_classes;

@@ -10,7 +10,7 @@ use Rattle.par_instr.specs.declared.instr.Instr.TheVariants.{AloadShort, Invokes
 use Rattle.par_instr.specs.Spelling.{spelling}
 use Rattle.par_pool.specs.declared.constant.Constant.{Constant}
 use Rattle.par_pool.specs.Entries.{entry_at, IsMethodAt}
-use Rattle.par_pool.specs.declared.reading.TheConstants.{LONGEST_CLASS}
+use Rattle.par_pool.specs.declared.reader.TheConstants.{LONGEST_CLASS}
 use Rattle.par_pool.specs.Spelling.{u2, is_class, is_text}
 use Rattle.par_class.specs.declared.file.Attribute.{Attribute}
 use Rattle.par_class.specs.declared.file.Catch.{Catch}

@@ -1,5 +1,5 @@
 use par_base::memory::NoMemory;
-use par_pool::writing::{put_pool, put_u2, put_u4};
+use par_pool::writer::{put_pool, put_u2, put_u4};
 use par_pool::{ClassError, Constant, PoolBuilder, entries_of, read_pool};
 use par_worked::expect;
 use std::alloc::Global;

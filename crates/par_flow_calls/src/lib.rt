@@ -12,10 +12,10 @@ mod inferred;
 #[cfg(test)]
 mod insecure;
 #[cfg(test)]
-mod meaning;
-#[cfg(test)]
 mod observers;
 #[cfg(test)]
 mod releases;
+#[cfg(test)]
+mod source_runs;
 #[cfg(test)]
 mod typed_trees;

@@ -7,7 +7,7 @@ ghost use Rattle.par_frame_steps.specs.Marks.{act_of, asked_of, also_of, given};
 ghost use Rattle.par_frame_acts.specs.Shapes.{shape_of, callee_of};
 
 use crate::descriptor::asked_kind;
-use crate::making::{one, plain, two};
+use crate::forms::{one, plain, two};
 use crate::shape::{Callee, PlaceShape};
 use par_base::memory::NoMemory;
 use par_frame_steps::{Act, Also, Asked, Flow, Leaves, PlaceKind};

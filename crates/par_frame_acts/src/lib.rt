@@ -4,14 +4,14 @@
 //! the linked files, and descriptors are read where they stand. The crate works on no frame.
 #![tactic(auto)]
 
-mod acting;
+mod acts;
 mod descriptor;
+mod forms;
 mod handler;
 mod indexed;
-mod leaving;
-mod making;
+mod returns;
 mod shape;
 
-pub use acting::act;
+pub use acts::act;
 pub use descriptor::{arguments_at, asked_kind, gives_at};
 pub use handler::caught;

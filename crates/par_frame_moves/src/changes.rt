@@ -8,7 +8,7 @@ ghost use Rattle.par_frame_steps.specs.declared.kind.PlaceKind.TheVariants as pl
 ghost use Rattle.par_frame_moves.specs.Briefs.{takes_of, act_of};
 
 use crate::brief::{Brief, Takes, Work};
-use crate::fitting::{local, operand};
+use crate::fit::{local, operand};
 use par_base::memory::NoMemory;
 use par_frame_steps::{PlaceFrame, PlaceKind};
 use std::alloc::Global;

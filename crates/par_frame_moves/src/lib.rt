@@ -7,6 +7,6 @@
 
 pub mod brief;
 mod changes;
-mod fitting;
+mod fit;
 
 pub use brief::{Brief, in_brief};

@@ -14,10 +14,10 @@ use Rattle.par_frame_steps.specs.declared.frame.PlaceFrame.{PlaceFrame}
 use Rattle.par_frame_steps.specs.Marks.{frame_of, flow_of}
 use Rattle.par_frame_passes.specs.declared.course.Course.{Course}
 use Rattle.par_frame_passes.specs.declared.course.Course.TheVariants as course
-use Rattle.par_frame_passes.specs.declared.leaving.Left.{Left}
-use Rattle.par_frame_passes.specs.declared.landing.PlaceWay.{PlaceWay}
-use Rattle.par_frame_passes.specs.declared.landing.Landing.{Landing}
-use Rattle.par_frame_passes.specs.declared.landing.Landing.TheVariants as landing
+use Rattle.par_frame_passes.specs.declared.outcome.Left.{Left}
+use Rattle.par_frame_passes.specs.declared.landings.PlaceWay.{PlaceWay}
+use Rattle.par_frame_passes.specs.declared.landings.Landing.{Landing}
+use Rattle.par_frame_passes.specs.declared.landings.Landing.TheVariants as landing
 
 abbrev pub table_of : List (Option PlaceFrame) → Table
 table_of t = map (option_map frame_of) t

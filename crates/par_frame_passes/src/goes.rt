@@ -10,7 +10,7 @@ ghost use Rattle.par_frame_passes.specs.Sweeps.{Went};
 ghost use Rattle.par_frame_passes.specs.Tables.{table_of, taken_by};
 
 use crate::course::Course;
-use crate::landing::arrive;
+use crate::landings::arrive;
 use crate::method::Method;
 use par_base::memory::NoMemory;
 use par_class::file::Catch;

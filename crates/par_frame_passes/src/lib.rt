@@ -9,18 +9,18 @@
 mod back;
 mod course;
 mod effect;
+mod fixpoint;
 mod goes;
 mod guess;
-mod landing;
-mod leaving;
+mod landings;
 mod method;
-mod passing;
+mod outcome;
 mod piece;
 mod places;
 mod table;
-mod telling;
-mod visiting;
+mod told_frames;
+mod visit;
 
+pub use fixpoint::passes;
 pub use method::Method;
-pub use passing::passes;
 pub use table::Table;

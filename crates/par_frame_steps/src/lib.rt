@@ -6,10 +6,10 @@
 #![tactic(auto)]
 
 pub mod act;
-mod asking;
+mod demands;
 pub mod frame;
 pub mod kind;
-mod leaving;
+mod outcome;
 
 pub use act::{Act, Also, Asked, Flow, Leaves};
 pub use frame::PlaceFrame;

@@ -8,7 +8,7 @@ ghost use Rattle.par_link.specs.Conditions.{IsSmall};
 ghost use Rattle.par_given_frames.specs.Named.{AreNamed};
 ghost use Rattle.par_framed_program.specs.Framed.{AreFramesOf, Framed};
 
-use crate::looking::unframed;
+use crate::look::unframed;
 use par_base::list::List;
 use par_class::file::ClassFile;
 use par_frames::{FrameError, MethodFrames};

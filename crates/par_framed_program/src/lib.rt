@@ -6,7 +6,7 @@
 #![tactic(auto)]
 
 mod frames;
-mod looking;
+mod look;
 
 pub use frames::program_frames;
-pub use looking::framed;
+pub use look::framed;

@@ -9,8 +9,8 @@ ghost use Rattle.par_frame_forms.specs.Written.{shorter, bare, by_stack, written
 ghost use Rattle.par_frames.specs.Room.{Ascend};
 ghost use Rattle.par_frames.specs.Forms.{IndexedFits, listed_by, forms_from};
 
+use crate::form_bytes::{FEW, NEAR, put_cut, put_full, put_more, put_operand};
 use crate::indexed::IndexedFrame;
-use crate::spelling::{FEW, NEAR, put_cut, put_full, put_more, put_operand};
 use par_base::memory::NoMemory;
 use par_frame_forms::PlaceType;
 

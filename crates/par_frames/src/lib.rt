@@ -5,18 +5,18 @@
 //! are, and which method has none. Whether frames fit the code is not asked here.
 #![tactic(auto)]
 
+mod arguments;
+mod attribute;
 pub mod error;
+mod form_bytes;
 mod forms;
 pub mod indexed;
 mod laws;
-mod listing;
-mod placing;
-mod spelling;
-mod writing;
+mod pool_classes;
 
+pub use attribute::write_frames;
 pub use error::{FrameError, KindName};
 pub use laws::written_kinds_are_read;
 pub use par_kinds;
 pub use par_kinds::frame::{Frame, MethodFrames, PlacedFrame, VKind};
 pub use par_kinds::{par_link, par_steps};
-pub use writing::write_frames;

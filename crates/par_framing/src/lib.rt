@@ -4,6 +4,6 @@
 #![tactic(auto)]
 
 mod attribute;
-mod placing;
+mod placement;
 
-pub use placing::place;
+pub use placement::place;

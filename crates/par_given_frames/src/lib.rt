@@ -8,12 +8,12 @@
 
 mod error;
 mod files;
+mod form_reader;
 mod frames;
 mod kinds;
 mod laws;
 mod methods;
 mod needed;
-mod reading;
 mod sizes;
 
 pub use files::{UNFRAMED, first_unframed, frames_of};

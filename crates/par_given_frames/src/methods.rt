@@ -16,9 +16,9 @@ ghost use Rattle.par_given_frames.specs.Named.{AreNamed, GivesFrames};
 ghost use Rattle.par_given_frames.specs.Answers.{AnswersFor, AreRight};
 
 use crate::error::Unread;
+use crate::form_reader::forms_in;
 use crate::frames::{frames_said, start_of};
 use crate::needed::are_met;
-use crate::reading::forms_in;
 use crate::sizes::place_all;
 use par_base::list::List;
 use par_base::memory::NoMemory;

@@ -5,8 +5,8 @@
 //! never looks at another frame, and takes no memory.
 #![tactic(auto)]
 
-mod catching;
+mod catches;
 
-pub use catching::handler;
+pub use catches::handler;
 pub use par_steps;
 pub use par_steps::par_link;

@@ -6,7 +6,7 @@
 
 mod first;
 mod kinds;
-mod placing;
+mod placement;
 
 pub use kinds::kinds_of;
-pub use placing::frames_at;
+pub use placement::frames_at;

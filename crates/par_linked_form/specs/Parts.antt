@@ -5,7 +5,7 @@ use Rattle.std.specs.Str.{bytes_eq}
 use Rattle.par_typed.specs.declared.table.ClassInfo.{ClassInfo}
 use Rattle.par_typed.specs.declared.table.Table.{Table}
 use Rattle.par_typed.specs.Plain.{Body}
-use Rattle.par_pool.specs.declared.reading.TheConstants.{LONGEST_CLASS}
+use Rattle.par_pool.specs.declared.reader.TheConstants.{LONGEST_CLASS}
 use Rattle.par_class.specs.declared.file.ClassFile.{ClassFile}
 use Rattle.par_class.specs.Spelling.{Spells}
 use Rattle.par_described.specs.par_single.Members.{own_name, own_names}

@@ -19,7 +19,7 @@ use Rattle.par_loader.specs.Loaded.{ends, asked, behind_first, step_of, step, ma
 use Rattle.par_loader.specs.Loaded.{main_step, main_step_of, loaded}
 use Rattle.par_loader.specs.Ends.{IsRefusal, Reads, Unended, IsBadAs, AnswersFor, AnswersFirst}
 use Rattle.par_loader.specs.Ends.{Steps, StepsFirst, FaultsStand, Loads, comes_to}
-use Rattle.par_loader.specs.declared.loading.Loading.{Loading}
+use Rattle.par_loader.specs.declared.read_files.Loading.{Loading}
 use Rattle.par_loader.proofs.Seen.{seen, seen_of}
 use Rattle.par_loader.proofs.Asked.{asks_one, asks_first}
 use Rattle.par_loader.proofs.Counting.{rose_since, makes_both, at_most, most_both, fails_both}

@@ -4,7 +4,7 @@ use Rattle.std.proofs.Common.{Option, Some, None, Result, Ok, Err, refl, sym, ap
 use Rattle.std.proofs.lemmas.Bool.{le-leb, lt-leb}
 use Rattle.std.proofs.lemmas.List.{length-replicate}
 use Rattle.par_io.specs.Causes.{FolderCounts, Files, Told}
-use Rattle.par_pool.specs.declared.reading.TheConstants.{LONGEST_CLASS}
+use Rattle.par_pool.specs.declared.reader.TheConstants.{LONGEST_CLASS}
 use Rattle.par_class.specs.declared.file.ClassFile.{ClassFile}
 use Rattle.par_class.specs.Reading.{file_at}
 use Rattle.std.specs.Str.{bytes_eq}

@@ -7,7 +7,7 @@ use Rattle.par_link.specs.declared.linked.Linked.{Linked}
 use Rattle.par_loader.specs.declared.error.Unloaded.{Unloaded}
 use Rattle.par_loader.specs.declared.error.Unloaded.TheVariants.{Absent, TooLong, Failed, BadClass}
 use Rattle.par_loader.specs.declared.error.Unloaded.TheVariants.{Memory}
-use Rattle.par_loader.specs.declared.loading.Loading.{Loading}
+use Rattle.par_loader.specs.declared.read_files.Loading.{Loading}
 use Rattle.par_loader.specs.Reads.{Text, Classes}
 use Rattle.par_loader.specs.Loaded.{Loaded, whole, Load, behind_first, loaded}
 use Rattle.par_loader.specs.Judged.{linked, judged}

@@ -10,7 +10,7 @@ use Rattle.par_class.specs.declared.file.ClassFile.{ClassFile}
 use Rattle.par_single.specs.Members.{own_name}
 use Rattle.par_loader.specs.declared.error.Unloaded.{Unloaded}
 use Rattle.par_loader.specs.declared.error.Unloaded.TheVariants.{Memory}
-use Rattle.par_loader.specs.declared.loading.Loading.{Loading}
+use Rattle.par_loader.specs.declared.read_files.Loading.{Loading}
 use Rattle.par_loader.specs.Reads.{Text, WasFound, IsSpelled}
 use Rattle.par_loader.specs.Mentions.{Naming, next_named}
 use Rattle.par_loader.specs.Loaded.{Loaded, whole, Load, asked, behind_first, step}

@@ -2,7 +2,7 @@
 use Rattle.std.specs.Prelude.{◌≡◌, ℕ, suc, ◌≤◌, ◌⊎◌, length, List, Option, Some, Result, Ok, Err}
 use Rattle.std.specs.Prelude.{slice_get}
 use Rattle.par_io.specs.Causes.{FolderCounts, Makes, Rose, Files}
-use Rattle.par_pool.specs.declared.reading.TheConstants.{LONGEST_CLASS}
+use Rattle.par_pool.specs.declared.reader.TheConstants.{LONGEST_CLASS}
 use Rattle.par_class.specs.declared.file.ClassFile.{ClassFile}
 use Rattle.par_loader.specs.declared.error.Unloaded.{Unloaded}
 use Rattle.par_loader.specs.declared.error.Unloaded.TheVariants.{Absent, TooLong, Failed, BadClass}
@@ -12,7 +12,7 @@ use Rattle.par_single.specs.Members.{own_name}
 use Rattle.par_link.specs.declared.linked.Linked.{Linked}
 use Rattle.par_loader.specs.declared.found.Unfound.{Unfound}
 use Rattle.par_loader.specs.declared.found.Unfound.TheVariants as unfound
-use Rattle.par_loader.specs.declared.loading.Loading.{Loading}
+use Rattle.par_loader.specs.declared.read_files.Loading.{Loading}
 use Rattle.par_loader.specs.Reads.{Text, MakesAtMost, FailsWithin, Classes, AreOf}
 use Rattle.par_loader.specs.Reads.{WasFound}
 use Rattle.par_loader.specs.Mentions.{Naming}

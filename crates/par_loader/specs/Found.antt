@@ -5,7 +5,7 @@ use Rattle.std.specs.Str.{bytes_eq}
 use Rattle.par_io.specs.Causes.{FolderCounts, Rose}
 use Rattle.par_pool.specs.declared.error.ClassError.{ClassError}
 use Rattle.par_pool.specs.declared.error.ClassError.TheVariants as error
-use Rattle.par_pool.specs.declared.reading.TheConstants.{LONGEST_CLASS}
+use Rattle.par_pool.specs.declared.reader.TheConstants.{LONGEST_CLASS}
 use Rattle.par_class.specs.declared.file.ClassFile.{ClassFile}
 use Rattle.par_class.specs.Reading.{file_at}
 use Rattle.par_single.specs.Members.{own_name}

@@ -11,12 +11,12 @@
 
 mod builtin;
 pub mod error;
+pub mod file_names;
 mod found;
-mod loading;
 mod mention;
-pub mod naming;
 mod program;
+mod read_files;
 
 pub use error::Unloaded;
-pub use naming::class_file_name;
+pub use file_names::class_file_name;
 pub use program::{linked_program, main_file};

@@ -16,10 +16,10 @@ ghost use Rattle.par_loader.specs.Ends.{IsBadAs, AnswersFor, AnswersFirst, Steps
 ghost use Rattle.par_loader.specs.Ends.{IsRead, Loads, Links, Judges, FaultsStand};
 
 use crate::error::Unloaded;
+use crate::file_names::class_file_name;
 use crate::found::{Unfound, class_file};
-use crate::loading::{Loading, name_at};
 use crate::mention::Mention;
-use crate::naming::class_file_name;
+use crate::read_files::{Loading, name_at};
 use par_base::name::{Name, text_of};
 use par_class::{ClassFile, MethodFile};
 use par_io::Folder;

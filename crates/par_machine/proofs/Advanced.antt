@@ -13,7 +13,7 @@ use Rattle.par_machine.specs.Running.{state_in}
 use Rattle.par_machine.specs.Settled.{turn_from, IsSettled}
 use Rattle.par_machine.specs.Site.{CameTo, IsPerformed}
 use Rattle.par_machine.specs.Turn.{calls_or_makes}
-use Rattle.par_machine.specs.declared.running.Running.{Running}
+use Rattle.par_machine.specs.declared.run.Running.{Running}
 use Rattle.par_machine.specs.declared.site.Site.{Site}
 use Rattle.par_machine.specs.declared.turn.Turn.{Turn}
 use Rattle.par_machine.specs.declared.turn.Stuck.{Stuck}

@@ -13,12 +13,12 @@ use Rattle.par_values.specs.Operations.{of_class}
 use Rattle.par_stack.specs.declared.point.Point.{Point}
 use Rattle.par_stack.specs.Frames.{running}
 use Rattle.par_method_area.specs.par_steps.Links.{link_at}
-use Rattle.par_method_area.specs.par_actions.declared.creating.Class.{Class}
+use Rattle.par_method_area.specs.par_actions.declared.births.Class.{Class}
 use Rattle.par_method_area.specs.declared.known.NamedField.{NamedField}
 use Rattle.par_method_area.specs.Known.{linked_number, KnowsField, IsNamedField, KnowsClass}
 use Rattle.par_method_area.specs.Known.{IsNamedClass}
 use Rattle.par_machine.specs.Site.{operation_at}
-use Rattle.par_machine.specs.declared.running.Running.{Running}
+use Rattle.par_machine.specs.declared.run.Running.{Running}
 use Rattle.par_machine.specs.declared.site.Site.{Site}
 
 -- the operation at a site by its instruction

@@ -18,7 +18,7 @@ use Rattle.par_method_area.specs.par_steps.State.{no_objects}
 use Rattle.par_machine.specs.Frames.{are_sound}
 use Rattle.par_machine.specs.Objects.{count_classes, objects_in, AreObjects}
 use Rattle.par_machine.specs.Running.{state_in}
-use Rattle.par_machine.specs.declared.running.Running.{Running}
+use Rattle.par_machine.specs.declared.run.Running.{Running}
 use Rattle.par_machine.proofs.Sound as sound
 
 objects_none : (many : ℕ) → objects_in many [] ≡ replicate many []

@@ -26,7 +26,7 @@ use Rattle.par_machine.specs.Instructions.{is_branch}
 use Rattle.par_machine.specs.Objects.{count_classes, objects_in}
 use Rattle.par_machine.specs.Running.{here, below, state_in}
 use Rattle.par_machine.specs.Site.{areas_at, operation_at, does, spot_of, against, IsThere, IsCome}
-use Rattle.par_machine.specs.declared.running.Running.{Running}
+use Rattle.par_machine.specs.declared.run.Running.{Running}
 use Rattle.par_machine.specs.declared.site.Site.{Site}
 use Rattle.par_machine.proofs.Standing.{may_put, is_plain, not_put, no_lock, way_stands}
 use Rattle.par_machine.proofs.Standing.{ahead_stands}

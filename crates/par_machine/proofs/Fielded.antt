@@ -40,7 +40,7 @@ use Rattle.par_machine.specs.Objects.{count_classes, objects_in, width, AreObjec
 use Rattle.par_machine.specs.Running.{here, IsSound}
 use Rattle.par_machine.specs.Site.{areas_at, operation_at, does, spot_of, against, named_by}
 use Rattle.par_machine.specs.Site.{IsThere, IsCome, IsKnown, IsPerformed, IsTellable}
-use Rattle.par_machine.specs.declared.running.Running.{Running}
+use Rattle.par_machine.specs.declared.run.Running.{Running}
 use Rattle.par_machine.specs.declared.site.Site.{Site}
 use Rattle.par_machine.proofs.Born.{Fields, IsWide, set_at, wide_before, after_shown, after_stay}
 use Rattle.par_machine.proofs.Coming.{state_is}

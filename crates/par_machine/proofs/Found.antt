@@ -23,7 +23,7 @@ use Rattle.par_machine.specs.Settled.{turn_from}
 use Rattle.par_machine.specs.Site as site
 use Rattle.par_machine.specs.Throwing.{bad_at}
 use Rattle.par_machine.specs.Turn.{IsTurn, is_call_or_make, calls_or_makes, MakesOrTells}
-use Rattle.par_machine.specs.declared.running.Running.{Running}
+use Rattle.par_machine.specs.declared.run.Running.{Running}
 use Rattle.par_machine.specs.declared.site.Site.{Site}
 use Rattle.par_machine.specs.declared.turn.Turn.{Turn}
 use Rattle.par_machine.specs.declared.turn.Stuck.{Stuck}

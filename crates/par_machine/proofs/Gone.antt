@@ -28,7 +28,7 @@ use Rattle.par_machine.specs.Running.{here, below, state_in, IsSound}
 use Rattle.par_machine.specs.Settled.{turn_from, gone_to}
 use Rattle.par_machine.specs.Site.{areas_at, operation_at, does, spot_of, against, decoded, IsCome}
 use Rattle.par_machine.specs.Throwing.{landing_reason, unless, throw_of, throw_next_of}
-use Rattle.par_machine.specs.declared.running.Running.{Running}
+use Rattle.par_machine.specs.declared.run.Running.{Running}
 use Rattle.par_machine.specs.declared.site.Site.{Site}
 use Rattle.par_machine.proofs.Sound.{first_stands, passed_sound}
 use Rattle.par_machine.proofs.Standing.{distance_is}

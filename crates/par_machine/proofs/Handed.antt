@@ -23,7 +23,7 @@ use Rattle.par_machine.specs.Settled.{turn_from, is_told, Tells, IsSettled}
 use Rattle.par_machine.specs.Site.{areas_at, is_call, IsCome, CameTo}
 use Rattle.par_machine.specs.Throwing.{throw_of, throw_next_of}
 use Rattle.par_machine.specs.Turn.{IsTurn, is_over, MakesOrTells}
-use Rattle.par_machine.specs.declared.running.Running.{Running}
+use Rattle.par_machine.specs.declared.run.Running.{Running}
 use Rattle.par_machine.specs.declared.site.Site.{Site}
 use Rattle.par_machine.specs.declared.turn.Turn.{Turn}
 use Rattle.par_machine.specs.declared.turn.Turn.TheVariants.{Silent, Happened}

@@ -40,7 +40,7 @@ use Rattle.par_machine.specs.Frames as frame
 use Rattle.par_machine.specs.Running.{here, below, state_in, IsSound}
 use Rattle.par_machine.specs.Site.{areas_at, operation_at, does, spot_of, against, IsThere, IsCome}
 use Rattle.par_machine.specs.Site.{IsPerformed}
-use Rattle.par_machine.specs.declared.running.Running.{Running}
+use Rattle.par_machine.specs.declared.run.Running.{Running}
 use Rattle.par_machine.specs.declared.site.Site.{Site}
 use Rattle.par_machine.proofs.Called.{Leaves, code_listed, inputs_are}
 use Rattle.par_machine.proofs.Coming.{came, state_is}

@@ -45,7 +45,7 @@ use Rattle.par_machine.specs.Instructions.{index_of}
 use Rattle.par_machine.specs.Running.{here, below}
 use Rattle.par_machine.specs.Site.{areas_at, operation_at, does, spot_of, against, decoded}
 use Rattle.par_machine.specs.Site.{named_by, IsCome, IsKnown}
-use Rattle.par_machine.specs.declared.running.Running.{Running}
+use Rattle.par_machine.specs.declared.run.Running.{Running}
 use Rattle.par_machine.specs.declared.site.Site.{Site}
 use Rattle.par_machine.proofs.Free.{IsFree, is_free, or_2_none}
 use Rattle.par_machine.proofs.Linking.{link_of}

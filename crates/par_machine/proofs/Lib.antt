@@ -27,5 +27,5 @@ pub mod Handed
 pub mod Advanced
 pub mod Found
 pub mod Placed
-pub mod Quiet
+pub mod QuietSteps
 pub mod Worked

@@ -39,7 +39,7 @@ use Rattle.par_method_area.specs.par_steps.Links.{number_or, link_at}
 use Rattle.par_method_area.specs.par_steps.Methods.{class_pool}
 use Rattle.par_stack.specs.Frames as stack
 use Rattle.par_stack.specs.Frames.{running}
-use Rattle.par_method_area.specs.par_actions.declared.creating.Class.{Class}
+use Rattle.par_method_area.specs.par_actions.declared.births.Class.{Class}
 use Rattle.par_method_area.specs.par_actions.declared.done.Done.{Done}
 use Rattle.par_method_area.specs.par_actions.declared.done.Done.TheVariants as done
 use Rattle.par_method_area.specs.par_actions.Done.{IsDone, ComesTo, Keeps, is_still, areas_in}
@@ -50,7 +50,7 @@ use Rattle.par_machine.specs.Objects.{count_classes, kinds_in, width, AreObjects
 use Rattle.par_machine.specs.Running.{IsSound}
 use Rattle.par_machine.specs.Site.{areas_at, operation_at, does, spot_of, against, IsThere, IsCome}
 use Rattle.par_machine.specs.Site.{IsKnown, IsPerformed}
-use Rattle.par_machine.specs.declared.running.Running.{Running}
+use Rattle.par_machine.specs.declared.run.Running.{Running}
 use Rattle.par_machine.specs.declared.site.Site.{Site}
 use Rattle.par_machine.proofs.Born.{Fields, IsWide, born_wide, after_shown, after_stay, heap_grown}
 use Rattle.par_machine.proofs.Fielded.{plain_does, plain_done, still_come, still_performed}

@@ -9,7 +9,7 @@ use Rattle.par_values.specs.Areas.{Name, class_named}
 use Rattle.par_method_area.specs.par_actions.Done.{out_by}
 use Rattle.par_method_area.specs.declared.known.MemberNames.{MemberNames}
 use Rattle.par_method_area.specs.Known.{AreNames, KnowsNames, KnowsClass}
-use Rattle.par_method_area.specs.par_actions.declared.creating.Class.{Class}
+use Rattle.par_method_area.specs.par_actions.declared.births.Class.{Class}
 use Rattle.par_values.specs.declared.link.ClassLink.{ClassLink}
 use Rattle.par_method_area.specs.par_steps.Classes.{class_names}
 use Rattle.par_class.specs.declared.file.ClassFile.{ClassFile}

@@ -17,14 +17,14 @@ use Rattle.par_stack.specs.declared.point.Point.{Point}
 use Rattle.par_stack.specs.Frames.{running}
 use Rattle.par_method_area.specs.par_actions.Done.{distance}
 use Rattle.par_method_area.specs.par_actions.Leaving.{HasResult}
-use Rattle.par_method_area.specs.par_actions.declared.leaving.Gives.{Gives}
+use Rattle.par_method_area.specs.par_actions.declared.departures.Gives.{Gives}
 use Rattle.par_method_area.specs.Known.{GivesAsSaid, signature_at}
 use Rattle.par_machine.specs.Frames.{code_of}
 use Rattle.par_starts.specs.Standing.{reach_of}
 use Rattle.par_machine.specs.Instructions.{is_work, is_branch, is_departure}
 use Rattle.par_machine.specs.Running.{here}
 use Rattle.par_machine.specs.Site.{operation_at, spot_of}
-use Rattle.par_machine.specs.declared.running.Running.{Running}
+use Rattle.par_machine.specs.declared.run.Running.{Running}
 use Rattle.par_machine.specs.declared.site.Site.{Site}
 use Rattle.par_machine.proofs.Knowing.{is_write}
 use Rattle.par_machine.proofs.Standing.{may_put, distance_is}

@@ -12,7 +12,7 @@ use Rattle.par_method_area.specs.Area.{Area}
 use Rattle.par_machine.specs.Frames.{code_of, gives, are_sound, Stands}
 use Rattle.par_machine.specs.Running.{here, IsSound}
 use Rattle.par_machine.specs.Site.{IsThere, IsCome, CameTo, IsKnown, IsPerformed}
-use Rattle.par_machine.specs.declared.running.Running.{Running}
+use Rattle.par_machine.specs.declared.run.Running.{Running}
 use Rattle.par_machine.specs.declared.site.Site.{Site}
 use Rattle.par_instr.specs.declared.instr.Instr.{Instr}
 use Rattle.par_values.specs.declared.kind.Kind.{Kind}

@@ -23,7 +23,7 @@ use Rattle.par_method_area.specs.par_actions.Done.{lesser}
 use Rattle.par_method_area.specs.par_actions.Leaving.{KnowsExceptions}
 use Rattle.par_unwinding.specs.Shown.{frame_of, frames_of}
 use Rattle.par_unwinding.specs.Landing.{Lands, gone_on}
-use Rattle.par_unwinding.specs.declared.unwinding.Landing.{Landing}
+use Rattle.par_unwinding.specs.declared.landings.Landing.{Landing}
 use Rattle.par_machine.specs.Frames.{code_of, are_sound, Stands}
 use Rattle.par_machine.specs.Objects.{count_classes, objects_in, AreObjects}
 use Rattle.par_machine.specs.Running.{here, below, state_in}
@@ -31,7 +31,7 @@ use Rattle.par_machine.specs.Site.{areas_at}
 use Rattle.par_machine.specs.Throwing.{landing_reason, bad_at, unless, throw_of, throw_next_of}
 use Rattle.par_machine.specs.Throwing.{IsLanding}
 use Rattle.par_machine.specs.Turn.{IsTurn}
-use Rattle.par_machine.specs.declared.running.Running.{Running}
+use Rattle.par_machine.specs.declared.run.Running.{Running}
 use Rattle.par_machine.specs.declared.turn.Stuck.{Stuck}
 use Rattle.par_machine.specs.declared.turn.Turn as machine
 use Rattle.par_machine.proofs.Born.{born_is}

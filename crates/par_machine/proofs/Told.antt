@@ -29,7 +29,7 @@ use Rattle.par_method_area.specs.par_actions.Done.{set_event, put_event, born_ev
 use Rattle.par_method_area.specs.par_actions.Done.{out_by, target_of}
 use Rattle.par_machine.specs.Instructions.{index_of}
 use Rattle.par_machine.specs.Site.{areas_at, operation_at, does, against, named_by, IsCome}
-use Rattle.par_machine.specs.declared.running.Running.{Running}
+use Rattle.par_machine.specs.declared.run.Running.{Running}
 use Rattle.par_machine.specs.declared.site.Site.{Site}
 use Rattle.par_machine.proofs.Effected.{callee_of, IsEventOf, IsEffectOf, effect_of}
 use Rattle.par_machine.proofs.Linking.{IsLinkOf, link_of}

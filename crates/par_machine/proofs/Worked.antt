@@ -15,12 +15,12 @@ use Rattle.par_machine.specs.Instructions.{is_branch, is_work}
 use Rattle.par_machine.specs.Quiet.{is_loud}
 use Rattle.par_machine.specs.Running.{here, IsSound}
 use Rattle.par_machine.specs.Site.{areas_at, spot_of, IsThere, IsPerformed}
-use Rattle.par_machine.specs.declared.running.Running.{Running}
+use Rattle.par_machine.specs.declared.run.Running.{Running}
 use Rattle.par_machine.specs.declared.site.Site.{Site}
 use Rattle.par_machine.proofs.Coming.{is_at}
 use Rattle.par_machine.proofs.Owned.{work_own, work_unbranched}
 use Rattle.par_machine.proofs.Performed.{performs}
-use Rattle.par_machine.proofs.Quiet.{work_quiet}
+use Rattle.par_machine.proofs.QuietSteps.{work_quiet}
 
 pub worked : (area : Area) (old : Running) (s : Site) (d : Done) (frames : List stack.Frame)
     (i : Instr)

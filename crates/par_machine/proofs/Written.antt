@@ -31,7 +31,7 @@ use Rattle.par_machine.specs.Running.{here, state_in, IsSound}
 use Rattle.par_machine.specs.Site.{areas_at, operation_at, does, spot_of, against, named_by}
 use Rattle.par_machine.specs.Site.{unless_lock, IsThere, IsCome, IsKnown, IsPerformed, IsTellable}
 use Rattle.par_machine.specs.Site.{HasName}
-use Rattle.par_machine.specs.declared.running.Running.{Running}
+use Rattle.par_machine.specs.declared.run.Running.{Running}
 use Rattle.par_machine.specs.declared.site.Site.{Site}
 use Rattle.par_machine.proofs.Coming.{state_is}
 use Rattle.par_machine.proofs.Free.{is_free}

@@ -10,7 +10,7 @@ use Rattle.par_method_area.specs.Area.{Area}
 use Rattle.par_machine.specs.Frames.{code_of}
 use Rattle.par_machine.specs.Running.{state_in, IsSound}
 use Rattle.par_machine.specs.Turn.{IsTurn, is_over, MakesOrTells, is_call_or_make}
-use Rattle.par_machine.specs.declared.running.Running.{Running}
+use Rattle.par_machine.specs.declared.run.Running.{Running}
 use Rattle.par_machine.specs.declared.turn.Turn.{Turn}
 use Rattle.par_machine.specs.declared.turn.Stuck.{Stuck}
 use Rattle.par_machine.specs.declared.turn.Stuck.TheVariants.{Memory}

@@ -5,7 +5,7 @@ use Rattle.par_class.specs.declared.file.ClassFile.{ClassFile}
 use Rattle.par_heap.specs.Heap.{objects_of}
 use Rattle.par_instr.specs.declared.instr.Instr.{Instr}
 use Rattle.par_instr.specs.declared.instr.Instr.TheVariants as instr
-use Rattle.par_starts.specs.declared.standing.Standing.{Standing}
+use Rattle.par_starts.specs.declared.instructions.Standing.{Standing}
 use Rattle.par_starts.specs.Standing.{KnowsStanding}
 use Rattle.par_stack.specs.declared.point.Point.{Point}
 use Rattle.par_stack.specs.Frames.{running}
@@ -15,7 +15,7 @@ use Rattle.par_method_area.specs.par_steps.Step.{turn}
 use Rattle.par_method_area.specs.Area.{Area}
 use Rattle.par_machine.specs.Frames.{code_of}
 use Rattle.par_machine.specs.Running.{state_in, IsSound}
-use Rattle.par_machine.specs.declared.running.Running.{Running}
+use Rattle.par_machine.specs.declared.run.Running.{Running}
 
 -- So many turns from a state show nothing, and come to this state.
 abbrev pub GoesOn : List ClassFile → ℕ → (s t : State) → Type 0

@@ -8,7 +8,7 @@ use Rattle.par_unwinding.specs.Shown.{frame_of, frames_of}
 use Rattle.par_method_area.specs.Area.{Area, KnowsLines}
 use Rattle.par_machine.specs.Frames.{are_sound}
 use Rattle.par_machine.specs.Objects.{count_classes, objects_in, AreObjects}
-use Rattle.par_machine.specs.declared.running.Running.{Running}
+use Rattle.par_machine.specs.declared.run.Running.{Running}
 
 -- the frame that runs, and those that wait for it
 abbrev pub here : Running → Frame

@@ -15,7 +15,7 @@ use Rattle.par_method_area.specs.Area.{Area}
 use Rattle.par_machine.specs.Running.{here, below, state_in, IsSound}
 use Rattle.par_machine.specs.Site.{decoded, does, against, IsCome, CameTo}
 use Rattle.par_machine.specs.Turn.{IsTurn, is_over, MakesOrTells}
-use Rattle.par_machine.specs.declared.running.Running.{Running}
+use Rattle.par_machine.specs.declared.run.Running.{Running}
 use Rattle.par_machine.specs.declared.site.Site.{Site}
 use Rattle.par_machine.specs.declared.turn.Turn.{Turn}
 use Rattle.par_machine.specs.declared.turn.Stuck.{Stuck}

@@ -29,7 +29,7 @@ use Rattle.par_starts.specs.Standing.{reach_of}
 use Rattle.par_machine.specs.Instructions.{index_of}
 use Rattle.par_machine.specs.Objects.{count_classes}
 use Rattle.par_machine.specs.Running.{here, below, state_in, IsSound}
-use Rattle.par_machine.specs.declared.running.Running.{Running}
+use Rattle.par_machine.specs.declared.run.Running.{Running}
 use Rattle.par_machine.specs.declared.site.Site.{Site}
 use Rattle.par_heap.specs.Heap.{objects_of}
 use Rattle.par_method_area.specs.Area.{Area}

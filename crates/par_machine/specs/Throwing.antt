@@ -16,7 +16,7 @@ use Rattle.par_stack.specs.Frames as stack
 use Rattle.par_method_area.specs.par_actions.Done.{lesser}
 use Rattle.par_unwinding.specs.Shown.{frames_of}
 use Rattle.par_unwinding.specs.Landing.{Lands}
-use Rattle.par_unwinding.specs.declared.unwinding.Landing.{Landing}
+use Rattle.par_unwinding.specs.declared.landings.Landing.{Landing}
 
 -- the least reason against a throw that leaves these frames, against which this one stands too
 abbrev pub landing_reason : List ClassFile → List Frame → Option ℕ → Option ℕ

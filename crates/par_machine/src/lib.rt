@@ -6,24 +6,24 @@
 //! bad code is handed out.
 #![tactic(auto)]
 
-mod accessing;
-mod acting;
-mod advancing;
-mod branching;
-mod calling;
-mod going;
-mod leaving;
+mod births;
+mod branches;
+mod calls;
+mod departures;
+mod dispatch;
+mod events;
+mod field_writes;
+mod frame_work;
+mod index_reads;
 pub mod machine;
-mod making;
-mod performing;
-mod running;
-mod settling;
+mod outcome;
+mod quiet;
+mod returns;
+mod run;
 mod site;
-mod starting;
-mod telling;
-mod throwing;
+mod start;
+mod step;
+mod throws;
 pub mod turn;
-mod working;
-mod writing;
 
 pub use par_method_area::par_steps;

@@ -4,8 +4,8 @@ ghost use Rattle.std.specs.Prelude.{ℕ, ◌≤◌, length};
 ghost use Rattle.par_heap.specs.Heap.{objects_of};
 ghost use Rattle.par_machine.specs.Running.{IsSound};
 
-use crate::running::Running;
-use crate::starting::begin;
+use crate::run::Running;
+use crate::start::begin;
 use crate::turn::{Stuck, Turn};
 use par_base::memory::NoMemory;
 use par_method_area::MethodArea;

@@ -17,7 +17,7 @@ use Rattle.par_single.specs.Walk.{starts_at}
 use Rattle.par_steps.specs.Classes.{class_names}
 use Rattle.par_steps.specs.Methods.{methods_of, method_file, method_code, code_in, code_or_none}
 use Rattle.par_steps.specs.Methods.{pool_of, descriptor_in}
-use Rattle.par_actions.specs.declared.leaving.Gives.{Gives}
+use Rattle.par_actions.specs.declared.departures.Gives.{Gives}
 use Rattle.par_method_area.specs.declared.classes.ClassRow.{ClassRow}
 use Rattle.par_method_area.specs.declared.known.Code.{Code}
 use Rattle.par_method_area.specs.declared.methods.MethodRow.{MethodRow}

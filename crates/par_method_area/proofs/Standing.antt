@@ -10,7 +10,7 @@ use Rattle.par_instr.specs.Decoding.{decoded, decoded_at}
 use Rattle.par_steps.specs.par_link.Conditions.{is_short}
 use Rattle.par_values.specs.declared.value.MVal.{MVal}
 use Rattle.par_starts.specs.Standing.{IsStanding, KnowsStanding}
-use Rattle.par_starts.specs.declared.standing.Standing.{Standing}
+use Rattle.par_starts.specs.declared.instructions.Standing.{Standing}
 use Rattle.par_steps.specs.Classes.{class_names}
 use Rattle.par_steps.specs.Methods.{methods_of, method_code, code_in, code_or_none}
 use Rattle.par_method_area.specs.declared.classes.ClassRow.{ClassRow}

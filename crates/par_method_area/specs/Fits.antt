@@ -7,8 +7,8 @@ use Rattle.par_values.specs.declared.kind.Kind.{Kind}
 use Rattle.par_values.specs.declared.kind.Kind.TheVariants as kind
 use Rattle.par_actions.specs.declared.fit.Fit.{Fit}
 use Rattle.par_actions.specs.declared.fit.Fit.TheVariants as fit
-use Rattle.par_actions.specs.declared.leaving.Gives.{Gives}
-use Rattle.par_actions.specs.declared.leaving.Gives.TheVariants as gives
+use Rattle.par_actions.specs.declared.departures.Gives.{Gives}
+use Rattle.par_actions.specs.declared.departures.Gives.TheVariants as gives
 
 -- null, and objects of the class of this number where there is one
 abbrev pub fit_at : Option ℕ → Fit

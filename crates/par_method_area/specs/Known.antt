@@ -24,8 +24,8 @@ use Rattle.par_steps.specs.par_link.declared.entry.Named.{Named}
 use Rattle.par_steps.specs.par_link.declared.entry.Named.TheVariants as named
 use Rattle.par_steps.specs.Classes.{class_names}
 use Rattle.par_steps.specs.Methods.{method_file, method_code, method_descriptor}
-use Rattle.par_actions.specs.declared.creating.Class.{Class}
-use Rattle.par_actions.specs.declared.leaving.Gives.{Gives}
+use Rattle.par_actions.specs.declared.births.Class.{Class}
+use Rattle.par_actions.specs.declared.departures.Gives.{Gives}
 use Rattle.par_actions.specs.Fits.{Takes}
 use Rattle.par_actions.specs.Fields.{IsField}
 use Rattle.par_actions.specs.Leaving.{HasResult}

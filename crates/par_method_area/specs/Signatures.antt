@@ -7,8 +7,8 @@ use Rattle.par_values.specs.Areas.{Name}
 use Rattle.par_single.specs.Descriptors.{Text}
 use Rattle.par_single.specs.Links.{signature_said}
 use Rattle.par_actions.specs.declared.fit.Fit.{Fit}
-use Rattle.par_actions.specs.declared.leaving.Gives.{Gives}
-use Rattle.par_actions.specs.declared.leaving.Gives.TheVariants as gives
+use Rattle.par_actions.specs.declared.departures.Gives.{Gives}
+use Rattle.par_actions.specs.declared.departures.Gives.TheVariants as gives
 use Rattle.par_method_area.specs.declared.signatures.Signature.{Signature}
 use Rattle.par_method_area.specs.Fits.{fit_of, gives_of}
 

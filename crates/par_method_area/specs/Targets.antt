@@ -5,8 +5,8 @@ use Rattle.par_class.specs.Spelling.{is_native}
 use Rattle.par_steps.specs.par_link.declared.entry.Declared.{Declared}
 use Rattle.par_steps.specs.Methods.{code_or_none}
 use Rattle.par_actions.specs.declared.fit.Fit.{Fit}
-use Rattle.par_actions.specs.declared.leaving.Gives.{Gives}
-use Rattle.par_actions.specs.declared.leaving.Gives.TheVariants as gives
+use Rattle.par_actions.specs.declared.departures.Gives.{Gives}
+use Rattle.par_actions.specs.declared.departures.Gives.TheVariants as gives
 use Rattle.par_actions.specs.declared.callee.Target.{Target}
 use Rattle.par_actions.specs.declared.callee.Target.TheVariants.{Input, Output, Code}
 

@@ -6,7 +6,7 @@
 #![tactic(auto)]
 
 mod error;
-mod reading;
+mod sentence;
 mod tree;
 mod verdict;
 

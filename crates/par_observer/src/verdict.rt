@@ -11,7 +11,7 @@ ghost use Rattle.par_observer.specs.Trees.{IsWellFormed, IsReady, ChecksLie};
 ghost use Rattle.par_observer.specs.Trees.{BreaksRule, BreaksTyping};
 
 use crate::error::JudgeError;
-use crate::reading::{read_sentence, tokens_of};
+use crate::sentence::{read_sentence, tokens_of};
 use crate::tree::{judge_tree, type_tree};
 use par_check::Accepted;
 use par_lexer::LONGEST_SOURCE;

@@ -5,6 +5,7 @@
 //! constant, and knows nothing of what the code does.
 #![tactic(auto)]
 
+mod code_bytes;
 mod handlers;
 mod instruction;
 mod laws;
@@ -12,7 +13,6 @@ mod name;
 mod named;
 mod offsets;
 mod place;
-mod writing;
 
 pub use laws::placed_instructions_stand;
 pub use place::{PlacedCode, place_code, place_labels};

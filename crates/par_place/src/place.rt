@@ -8,10 +8,10 @@ ghost use Rattle.par_placed_code.specs.Placed.{IsPlaced};
 ghost use Rattle.par_placed_code.specs.Placeable.{IsPlaceable};
 ghost use Rattle.par_place.specs.Labels.{IsPlacedAt};
 
+use crate::code_bytes::write;
 use crate::handlers::catches_of;
 use crate::named::indices_of;
 use crate::offsets::label_offsets;
-use crate::writing::write;
 use par_base::list::List;
 use par_base::memory::NoMemory;
 use par_class::{Catch, CodeAttr};

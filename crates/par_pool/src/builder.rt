@@ -10,7 +10,7 @@ ghost use Rattle.par_pool.specs.Growth.{IsMemberPart};
 ghost use Rattle.par_pool.specs.Spelling.{constant as spelling, IsText, Fits, refers, IsPool};
 
 use crate::constant::{Constant, Pool};
-use crate::writing::put_constant;
+use crate::writer::put_constant;
 use indexmap::IndexMap;
 use par_base::list::List;
 use par_base::memory::NoMemory;

@@ -11,11 +11,11 @@ pub mod constant;
 pub mod error;
 pub mod item;
 pub mod kind;
-mod reading;
-pub mod writing;
+mod reader;
+pub mod writer;
 
 pub use builder::PoolBuilder;
 pub use constant::{Constant, Pool};
 pub use error::ClassError;
 pub use par_base;
-pub use reading::{LONGEST_CLASS, entries_of, read_pool};
+pub use reader::{LONGEST_CLASS, entries_of, read_pool};

@@ -10,9 +10,7 @@ mod frames;
 #[cfg(test)]
 mod hand_made;
 #[cfg(test)]
-mod linking;
-#[cfg(test)]
-mod loading;
+mod links;
 #[cfg(test)]
 mod machine_runs;
 #[cfg(test)]
@@ -23,6 +21,8 @@ mod objects;
 mod programs;
 #[cfg(test)]
 mod reasons;
+#[cfg(test)]
+mod refused_files;
 #[cfg(test)]
 mod runs;
 #[cfg(test)]

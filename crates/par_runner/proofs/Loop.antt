@@ -8,9 +8,9 @@ use Rattle.par_values.specs.Ran.{Ran, ended, stopped}
 use Rattle.par_machine.specs.declared.machine.Machine.{Machine}
 use Rattle.par_machine.specs.Machine.{files_of, state_of, steps_of}
 use Rattle.par_machine.specs.Quiet as quiet
-use Rattle.par_runner.specs.declared.telling.Closing.{Closing}
-use Rattle.par_runner.specs.declared.telling.Untold.{Untold}
-use Rattle.par_runner.specs.declared.telling.Untold.TheVariants.{Fault, Memory}
+use Rattle.par_runner.specs.declared.puts.Closing.{Closing}
+use Rattle.par_runner.specs.declared.puts.Untold.{Untold}
+use Rattle.par_runner.specs.declared.puts.Untold.TheVariants.{Fault, Memory}
 use Rattle.par_runner.specs.Texts.{Text, lines, status}
 use Rattle.par_runner.specs.Outcome.{outcome}
 use Rattle.par_runner.specs.Running.{runs_of}

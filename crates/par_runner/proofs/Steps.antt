@@ -15,9 +15,9 @@ use Rattle.par_machine.specs.par_steps.State.{State}
 use Rattle.par_machine.specs.par_steps.Step.{Turn, turn}
 use Rattle.par_machine.specs.par_steps.Run.{run, followed}
 use Rattle.par_base.specs.declared.memory.NoMemory.{NoMemory}
-use Rattle.par_runner.specs.declared.running.Moved.{Moved}
-use Rattle.par_runner.specs.declared.telling.Untold.{Untold}
-use Rattle.par_runner.specs.declared.telling.Untold.TheVariants.{Fault, Memory}
+use Rattle.par_runner.specs.declared.step.Moved.{Moved}
+use Rattle.par_runner.specs.declared.puts.Untold.{Untold}
+use Rattle.par_runner.specs.declared.puts.Untold.TheVariants.{Fault, Memory}
 use Rattle.par_runner.specs.Texts.{Text, line, event_text}
 use Rattle.par_runner.specs.Running.{runs_of, Moves}
 use Rattle.par_runner.specs.Telling.{IsUntold, IsUntoldTurn}

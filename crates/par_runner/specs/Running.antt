@@ -4,8 +4,8 @@ use Rattle.par_values.specs.Ran.{Ran, ended, with_event}
 use Rattle.par_machine.specs.declared.machine.Machine.{Machine}
 use Rattle.par_machine.specs.Machine.{files_of, state_of}
 use Rattle.par_machine.specs.par_steps.Run.{run}
-use Rattle.par_runner.specs.declared.running.Moved.{Moved}
-use Rattle.par_runner.specs.declared.running.Moved.TheVariants.{Silent, Happened, Closed}
+use Rattle.par_runner.specs.declared.step.Moved.{Moved}
+use Rattle.par_runner.specs.declared.step.Moved.TheVariants.{Silent, Happened, Closed}
 use Rattle.par_runner.specs.Outcome.{outcome}
 
 -- the run from where a machine stands, of at most so many instructions

@@ -4,9 +4,9 @@ use Rattle.par_io.specs.Causes.{SinkCounts, Rose, raised, appended, AppendsFront
 use Rattle.par_io.specs.Saying.{IsCut, IsLeftOff}
 use Rattle.par_values.specs.declared.run.Event.{Event}
 use Rattle.par_values.specs.Ran.{Ran, ended, with_event}
-use Rattle.par_runner.specs.declared.telling.Untold.{Untold}
-use Rattle.par_runner.specs.declared.telling.Untold.TheVariants.{Fault, Memory}
-use Rattle.par_runner.specs.declared.telling.Closing.{Closing}
+use Rattle.par_runner.specs.declared.puts.Untold.{Untold}
+use Rattle.par_runner.specs.declared.puts.Untold.TheVariants.{Fault, Memory}
+use Rattle.par_runner.specs.declared.puts.Closing.{Closing}
 use Rattle.par_runner.specs.Texts.{Text, line, event_text, ending_text, status}
 use Rattle.par_runner.specs.Outcome.{outcome}
 use Rattle.par_runner.specs.Progress.{IsUnderWay}

@@ -5,14 +5,14 @@
 #![tactic(auto)]
 
 mod laws;
+mod puts;
 mod run;
-mod running;
-mod telling;
+mod step;
 mod text;
 
 pub use laws::equal_lines_are_equal_events;
 pub use par_base::memory::NoMemory;
+pub use puts::{Untold, put_line, untold_status};
 pub use run::tell_run;
-pub use running::MOST_STEPS;
-pub use telling::{Untold, put_line, untold_status};
+pub use step::MOST_STEPS;
 pub use text::{add_event, bad_code_line, ending_line, event_line};

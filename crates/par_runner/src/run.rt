@@ -8,8 +8,8 @@ ghost use Rattle.par_runner.specs.Texts.{lines, status};
 ghost use Rattle.par_runner.specs.Telling.{GoesOn, ClosesBy, IsUntoldTurn, PutsAreTold, IsTold};
 ghost use Rattle.par_runner.specs.Telling.{IsCutOff, Closes};
 
-use crate::running::{MOST_STEPS, Moved, step};
-use crate::telling::{Closing, Untold, put_closing, put_event, status_of, untold_status};
+use crate::puts::{Closing, Untold, put_closing, put_event, status_of, untold_status};
+use crate::step::{MOST_STEPS, Moved, step};
 use par_io::Sink;
 use par_machine::machine::Machine;
 use par_values::run::Ending;

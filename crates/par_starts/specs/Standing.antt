@@ -5,7 +5,7 @@ use Rattle.par_instr.specs.declared.instr.Instr.{Instr}
 use Rattle.par_instr.specs.declared.instr.Instr.TheVariants as instr
 use Rattle.par_instr.specs.Decoding.{decoded_at}
 use Rattle.par_single.specs.Walk.{starts_at, stands_at}
-use Rattle.par_starts.specs.declared.standing.Standing.{Standing}
+use Rattle.par_starts.specs.declared.instructions.Standing.{Standing}
 
 -- how far from its offset a branch goes on, 0 where an instruction is none
 abbrev pub reach_of : Instr → ℤ

@@ -7,8 +7,8 @@
 //! The crate runs nothing, and knows no method and no class file.
 #![tactic(auto)]
 
-pub mod standing;
+pub mod instructions;
 pub mod starts;
 
-pub use standing::{Instructions, Standing, distance, standing_at};
+pub use instructions::{Instructions, Standing, distance, standing_at};
 pub use starts::Starts;

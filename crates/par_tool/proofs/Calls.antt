@@ -22,8 +22,8 @@ use Rattle.par_words.specs.Words.{Wanted, Check, Compile, Trace, Sample, Audit, 
 use Rattle.par_words.specs.Words.{Run, Asks}
 use Rattle.par_loader.specs.declared.error.Unloaded.TheVariants as un
 use Rattle.par_tool.specs.declared.answer.Answer.{Answer}
-use Rattle.par_tool.specs.declared.reading.Failure.{Failure}
-use Rattle.par_tool.specs.declared.reading.Failure.TheVariants.{Answered, Memory}
+use Rattle.par_tool.specs.declared.reads.Failure.{Failure}
+use Rattle.par_tool.specs.declared.reads.Failure.TheVariants.{Answered, Memory}
 use Rattle.par_tool.specs.Outside.{Text, MakesAtMost}
 use Rattle.par_tool.specs.Failures.{IsFailure, failure_for}
 use Rattle.par_tool.specs.Sources.{Checked, CompiledSo, IsCutShort, MOST_FILES}

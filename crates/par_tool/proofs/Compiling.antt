@@ -18,7 +18,7 @@ use Rattle.par_typed.specs.Plain.{Body}
 use Rattle.par_typed.specs.Shown.{bodies}
 use Rattle.par_erase.specs.Erased.{erased_table, erased_class, erased_bodies}
 use Rattle.par_erase.specs.Named.{AreNamed}
-use Rattle.par_pool.specs.declared.reading.TheConstants.{LONGEST_CLASS}
+use Rattle.par_pool.specs.declared.reader.TheConstants.{LONGEST_CLASS}
 use Rattle.par_class.specs.declared.file.ClassFile.{ClassFile}
 use Rattle.par_class.specs.Spelling.{Spells}
 use Rattle.par_single.specs.Members.{own_name}

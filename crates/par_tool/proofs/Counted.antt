@@ -10,8 +10,8 @@ use Rattle.par_summary.specs.Counted.{BUILT_IN_CLASSES, IsSmallClass}
 use Rattle.par_audit.specs.par_well_typed.Limits.{IsLimitedClass}
 use Rattle.par_audit.specs.par_well_typed.Signatures.{kind_of, HasBuiltIns}
 use Rattle.par_tool.specs.declared.answer.Answer.TheVariants.{Refused}
-use Rattle.par_tool.specs.declared.reading.Failure.{Failure}
-use Rattle.par_tool.specs.declared.reading.Failure.TheVariants.{Answered, Memory}
+use Rattle.par_tool.specs.declared.reads.Failure.{Failure}
+use Rattle.par_tool.specs.declared.reads.Failure.TheVariants.{Answered, Memory}
 use Rattle.par_tool.specs.Failures.{IsFailure}
 use Rattle.par_tool.specs.Outside.{Text}
 use Rattle.par_tool.specs.Sources.{IsUnaccepted, IsBroken}

@@ -14,7 +14,7 @@ use Rattle.par_link.specs.Inputs.{first_misfit}
 use Rattle.par_steps.specs.Run.{machine_run}
 use Rattle.par_runner.specs.Texts as told
 use Rattle.par_inputs.specs.declared.read.TheConstants.{LONGEST_INPUTS}
-use Rattle.par_pool.specs.declared.reading.TheConstants.{LONGEST_CLASS}
+use Rattle.par_pool.specs.declared.reader.TheConstants.{LONGEST_CLASS}
 use Rattle.par_tool.specs.declared.answer.Answer.{Answer}
 use Rattle.par_tool.specs.declared.answer.Answer.TheVariants.{Accepted, Compiled, Sampled}
 use Rattle.par_tool.specs.declared.answer.Answer.TheVariants.{Verified}

@@ -7,7 +7,7 @@ use Rattle.par_io.specs.Causes.{FolderCounts, Files}
 use Rattle.par_class.specs.declared.file.CodeAttr.{CodeAttr}
 use Rattle.par_class.specs.declared.file.MethodFile.{MethodFile}
 use Rattle.par_class.specs.declared.file.ClassFile.{ClassFile}
-use Rattle.par_pool.specs.declared.reading.TheConstants.{LONGEST_CLASS}
+use Rattle.par_pool.specs.declared.reader.TheConstants.{LONGEST_CLASS}
 use Rattle.par_kinds.specs.declared.frame.MethodFrames.{MethodFrames}
 use Rattle.par_kinds.specs.declared.frame.PlacedFrame.{PlacedFrame}
 use Rattle.par_verify.specs.par_frames.Broken.{AreFrames, AreFramesIf, AreGivenIn, HasFrames}

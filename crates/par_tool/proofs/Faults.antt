@@ -7,8 +7,8 @@ use Rattle.par_io.specs.Causes.{SinkCounts}
 use Rattle.par_io.specs.Saying.{Said, whole, cut, unsaid}
 use Rattle.par_tool.specs.declared.answer.Answer.{Answer}
 use Rattle.par_tool.specs.declared.answer.Answer.TheVariants.{ReadFault, WriteFault}
-use Rattle.par_tool.specs.declared.reading.Failure.{Failure}
-use Rattle.par_tool.specs.declared.reading.Failure.TheVariants.{Answered, Memory}
+use Rattle.par_tool.specs.declared.reads.Failure.{Failure}
+use Rattle.par_tool.specs.declared.reads.Failure.TheVariants.{Answered, Memory}
 use Rattle.par_tool.specs.Texts.{is_fault}
 use Rattle.par_tool.specs.Outside.{Text}
 use Rattle.par_tool.specs.Failures.{FaultsAreTold}

@@ -12,7 +12,7 @@ use Rattle.par_machine.specs.Machine.{files_of, state_of, steps_of}
 use Rattle.par_loader.specs.declared.error.Unloaded.{Unloaded}
 use Rattle.par_loader.specs.Ends.{Judges}
 use Rattle.par_loader.proofs.Counting.{makes_both, none_falls}
-use Rattle.par_tool.specs.declared.reading.Failure.{Failure}
+use Rattle.par_tool.specs.declared.reads.Failure.{Failure}
 use Rattle.par_framed_program.specs.Framed.{AreFramed, Framed}
 use Rattle.par_tool.specs.Failures.{IsFailure, failure_of}
 use Rattle.par_tool.specs.Given.{AreInputs, IsUngiven}

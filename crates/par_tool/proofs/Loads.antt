@@ -22,8 +22,8 @@ use Rattle.par_loader.proofs.Counting.{rose_since, makes_both, at_most, most_bot
 use Rattle.par_loader.proofs.Ended.{IsStop, weaker, longer}
 use Rattle.par_loader.proofs.Seen.{seen, seen_of, put, put_of, put_here}
 use Rattle.par_tool.specs.declared.answer.Answer.TheVariants.{Absent, ReadFault, TooLong, BadInputs}
-use Rattle.par_tool.specs.declared.reading.Failure.{Failure}
-use Rattle.par_tool.specs.declared.reading.Failure.TheVariants.{Answered, Memory}
+use Rattle.par_tool.specs.declared.reads.Failure.{Failure}
+use Rattle.par_tool.specs.declared.reads.Failure.TheVariants.{Answered, Memory}
 use Rattle.par_tool.specs.Failures.{IsFailure, ToldIn, failure_of}
 use Rattle.par_tool.specs.Outside.{Text, MakesAtMost}
 use Rattle.par_tool.specs.Given.{IsUngiven}

@@ -2,8 +2,8 @@
 use Rattle.std.proofs.Common.{◌≡◌, ◌∙◌, ap, ℕ, ◌≤◌, Option, Result, Ok, Err, IfErr, arith}
 use Rattle.std.proofs.Common.{inl, inr}
 use Rattle.par_io.specs.Causes.{FolderCounts, Makes, Files, raised, raised_by}
-use Rattle.par_tool.specs.declared.reading.Failure.{Failure}
-use Rattle.par_tool.specs.declared.reading.Failure.TheVariants.{Memory}
+use Rattle.par_tool.specs.declared.reads.Failure.{Failure}
+use Rattle.par_tool.specs.declared.reads.Failure.TheVariants.{Memory}
 use Rattle.par_tool.specs.Outside.{Text, MakesAtMost}
 use Rattle.par_tool.specs.Traces.{LacksMemory}
 use Rattle.par_tool.specs.Sources.{MOST_FILES}

@@ -15,8 +15,8 @@ use Rattle.par_loader.specs.Begun.{AreCoded, BeginsMain}
 use Rattle.par_loader.specs.Ends.{Judges}
 use Rattle.par_tool.specs.declared.answer.Answer.{Answer}
 use Rattle.par_tool.specs.declared.answer.Answer.TheVariants.{Verified, BadClass}
-use Rattle.par_tool.specs.declared.reading.Failure.{Failure}
-use Rattle.par_tool.specs.declared.reading.Failure.TheVariants.{Answered, Memory}
+use Rattle.par_tool.specs.declared.reads.Failure.{Failure}
+use Rattle.par_tool.specs.declared.reads.Failure.TheVariants.{Answered, Memory}
 use Rattle.par_tool.specs.Failures.{IsFailure, FaultsAreTold, failure_of}
 use Rattle.par_tool.specs.Texts.{is_fault}
 use Rattle.par_tool.specs.Outside.{Text}

@@ -16,8 +16,8 @@ use Rattle.par_trace.specs.Texts as traced
 use Rattle.par_loader.specs.declared.error.Unloaded.TheVariants as unloaded
 use Rattle.par_tool.specs.declared.answer.Answer.{Answer}
 use Rattle.par_tool.specs.declared.answer.Answer.TheVariants.{Usage}
-use Rattle.par_tool.specs.declared.reading.Failure.{Failure}
-use Rattle.par_tool.specs.declared.reading.Failure.TheVariants.{Answered, Memory}
+use Rattle.par_tool.specs.declared.reads.Failure.{Failure}
+use Rattle.par_tool.specs.declared.reads.Failure.TheVariants.{Answered, Memory}
 use Rattle.par_tool.specs.Texts.{status, text, is_fault}
 use Rattle.par_tool.specs.Outside.{Text, MakesAtMost}
 use Rattle.par_tool.specs.Sources.{Checked, CompiledSo, IsCutShort, MOST_FILES}

@@ -13,7 +13,7 @@ use Rattle.par_words.specs.Words.{Run}
 use Rattle.par_sample.specs.Source as sampled
 use Rattle.par_lexer.specs.declared.cut.TheConstants.{LONGEST_SOURCE}
 use Rattle.par_inputs.specs.declared.read.TheConstants.{LONGEST_INPUTS}
-use Rattle.par_pool.specs.declared.reading.TheConstants.{LONGEST_CLASS}
+use Rattle.par_pool.specs.declared.reader.TheConstants.{LONGEST_CLASS}
 use Rattle.par_values.specs.Ran.{Fine}
 use Rattle.par_tree.specs.Plain.{Source}
 use Rattle.par_resolved.specs.Resolved.{table_of}

@@ -8,8 +8,8 @@ use Rattle.par_words.specs.declared.words.Unread.{Unread}
 use Rattle.par_words.specs.declared.words.Unread.TheVariants as unread
 use Rattle.par_tool.specs.declared.answer.Answer.TheVariants.{Usage, Absent, TooLong, ReadFault}
 use Rattle.par_tool.specs.declared.answer.Answer.TheVariants.{BadClass}
-use Rattle.par_tool.specs.declared.reading.Failure.{Failure}
-use Rattle.par_tool.specs.declared.reading.Failure.TheVariants.{Answered, Memory}
+use Rattle.par_tool.specs.declared.reads.Failure.{Failure}
+use Rattle.par_tool.specs.declared.reads.Failure.TheVariants.{Answered, Memory}
 use Rattle.par_tool.specs.Texts.{is_fault}
 
 -- the answer has a cause; memory may be wanting at any time

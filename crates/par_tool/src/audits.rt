@@ -11,7 +11,7 @@ ghost use Rattle.par_tool.specs.Failures.{IsFailure, FaultsAreTold};
 ghost use Rattle.par_tool.specs.Lines.{texts_of};
 
 use crate::answer::Answer;
-use crate::reading::{Failure, read};
+use crate::reads::{Failure, read};
 use crate::sources::accepted;
 use crate::spots::{START, Spot};
 use par_audit::{Release, audit};

@@ -10,7 +10,7 @@ ghost use Rattle.par_tool.specs.Classes.{NotRun, LacksMemory, Starts};
 ghost use Rattle.par_tool.specs.Failures.{IsFailure, FaultsAreTold};
 
 use crate::answer::Answer;
-use crate::reading::{Failure, read};
+use crate::reads::{Failure, read};
 use par_framed_program::framed;
 use par_inputs::error::BadInput;
 use par_inputs::{LONGEST_INPUTS, line_of_entry, read_inputs};

@@ -10,7 +10,7 @@ ghost use Rattle.par_tool.specs.Failures.{IsFailure, FaultsAreTold};
 ghost use Rattle.par_tool.specs.Inferences.{IsFilledAs, IsFillingOf, IsUnfilled, Unfilled};
 ghost use Rattle.par_tool.specs.Lines.{texts_of};
 
-use crate::reading::{Failure, read};
+use crate::reads::{Failure, read};
 use crate::sources::refused;
 use par_filling_lines::filling_lines;
 use par_inferred::{Filling, InferError, infer_fields};

@@ -10,7 +10,7 @@ mod audits;
 mod classes;
 mod inferences;
 mod lines;
-mod reading;
+mod reads;
 mod samples;
 mod sources;
 mod spots;

@@ -6,7 +6,7 @@ ghost use Rattle.par_tool.specs.Failures.{IsFailure};
 ghost use Rattle.par_tool.specs.Samples.{Sampled};
 
 use crate::answer::Answer;
-use crate::reading::Failure;
+use crate::reads::Failure;
 use crate::sources::{accepted, class_files};
 use par_sample::sample;
 use par_summary::summary_of;

@@ -14,7 +14,7 @@ ghost use Rattle.par_tool.specs.Sources.{CompiledSo, IsCutShort, IsUnaccepted, r
 ghost use Rattle.par_tool.specs.Sources.{MOST_FILES};
 
 use crate::answer::Answer;
-use crate::reading::{Failure, read};
+use crate::reads::{Failure, read};
 use par_check::Accepted;
 use par_class_writer::write_classes;
 use par_compile::{CompiledClass, compile};

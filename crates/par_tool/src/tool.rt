@@ -17,7 +17,7 @@ use crate::audits::audit_source;
 use crate::classes::started;
 use crate::inferences::infer_source;
 use crate::lines::tell_lines;
-use crate::reading::Failure;
+use crate::reads::Failure;
 use crate::samples::make_sample;
 use crate::sources::{check, compile_file};
 use crate::traces::{Traced, trace_source};

@@ -9,7 +9,7 @@ ghost use Rattle.par_tool.specs.Given.{AreInputs, IsUngiven};
 ghost use Rattle.par_tool.specs.Traces.{IsTraced, LacksMemory, Untraced};
 
 use crate::answer::Answer;
-use crate::reading::{Failure, read};
+use crate::reads::{Failure, read};
 use crate::sources::accepted_source;
 use par_check::Accepted;
 use par_inputs::error::BadInput;

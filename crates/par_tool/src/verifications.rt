@@ -9,7 +9,7 @@ ghost use Rattle.par_tool.specs.Failures.{IsFailure, FaultsAreTold};
 ghost use Rattle.par_tool.specs.Verifications.{IsAnsweredFor, IsUnfit, IsUnverifiable, VerifiedSo};
 
 use crate::answer::Answer;
-use crate::reading::Failure;
+use crate::reads::Failure;
 use par_framed_program::program_frames;
 use par_io::Folder;
 use par_lexer::name::Name;

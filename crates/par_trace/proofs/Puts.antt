@@ -5,8 +5,8 @@ use Rattle.std.specs.List.{concat}
 use Rattle.std.proofs.lemmas.List.{append-nil, append_assoc}
 use Rattle.std.proofs.lemmas.List.Folds.{concat-append}
 use Rattle.par_io.specs.Causes.{SinkCounts, Rose, raised, raised_by, appended, AppendsFront}
-use Rattle.par_runner.specs.declared.telling.Untold.{Untold}
-use Rattle.par_runner.specs.declared.telling.Untold.TheVariants.{Fault, Memory}
+use Rattle.par_runner.specs.declared.puts.Untold.{Untold}
+use Rattle.par_runner.specs.declared.puts.Untold.TheVariants.{Fault, Memory}
 use Rattle.par_runner.specs.Texts.{Text}
 use Rattle.par_runner.specs.Telling.{IsUntold, IsCutOff}
 use Rattle.par_trace.specs.Puts.{ArePut}

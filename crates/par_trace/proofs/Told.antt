@@ -9,8 +9,8 @@ use Rattle.par_io.specs.Saying.{Said, whole, cut, unsaid}
 use Rattle.par_typed.specs.declared.table.Table.{Table}
 use Rattle.par_meaning.specs.declared.run.SourceEvent.{SourceEvent}
 use Rattle.par_meaning.specs.Onward.{witnessed}
-use Rattle.par_runner.specs.declared.telling.Untold.{Untold}
-use Rattle.par_runner.specs.declared.telling.Untold.TheVariants.{Fault, Memory}
+use Rattle.par_runner.specs.declared.puts.Untold.{Untold}
+use Rattle.par_runner.specs.declared.puts.Untold.TheVariants.{Fault, Memory}
 use Rattle.par_runner.specs.Texts.{Text, line}
 use Rattle.par_runner.specs.Telling.{IsUntold, IsCutOff, status_of_untold}
 use Rattle.par_trace.specs.Puts.{ArePut}

@@ -7,9 +7,9 @@
 #![tactic(auto)]
 
 mod channels;
-mod telling;
+mod run_lines;
 mod text;
 
 pub use channels::inputs_fit;
-pub use telling::tell_source;
+pub use run_lines::tell_source;
 pub use text::{actor_name, add_lock};

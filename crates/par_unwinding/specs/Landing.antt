@@ -4,7 +4,7 @@ use Rattle.par_class.specs.declared.file.ClassFile.{ClassFile}
 use Rattle.par_handlers.specs.par_steps.Handlers.{caught}
 use Rattle.par_stack.specs.Frames.{Frame, running, with_running, at_offset}
 use Rattle.par_unwinding.specs.Shown.{frames_of}
-use Rattle.par_unwinding.specs.declared.unwinding.Landing.{Landing}
+use Rattle.par_unwinding.specs.declared.landings.Landing.{Landing}
 
 -- the frames that are left where so many are dropped and the next one goes on at an offset
 abbrev pub gone_on : (above at : ℕ) → List Frame → List Frame

@@ -6,6 +6,6 @@
 //! memory.
 #![tactic(auto)]
 
-mod unwinding;
+mod landings;
 
-pub use unwinding::{Landing, land, landing_of};
+pub use landings::{Landing, land, landing_of};

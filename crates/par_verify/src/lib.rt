@@ -8,11 +8,11 @@
 mod begun;
 mod error;
 mod first;
-mod judging;
+mod judgement;
 mod names;
 mod sizes;
 mod told;
-mod verifying;
+mod verifier;
 
 pub use error::VerifyError;
-pub use verifying::verify;
+pub use verifier::verify;

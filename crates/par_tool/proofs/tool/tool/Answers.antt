@@ -1,6 +1,6 @@
 use Rattle.std.proofs.Common.{refl, subst, arith}
 use Rattle.par_words.proofs.Asking.{asks_named, asks_few, asks_verified}
-use Rattle.par_tool.specs.declared.reading.Failure.{Failure}
+use Rattle.par_tool.specs.declared.reads.Failure.{Failure}
 use Rattle.par_tool.specs.Answers.{BreaksOff}
 use Rattle.par_tool.specs.Lines.{texts_of}
 use Rattle.par_tool.proofs.Exact as exactly

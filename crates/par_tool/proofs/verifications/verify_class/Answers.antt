@@ -4,8 +4,8 @@ use Rattle.par_io.specs.Causes.{FolderCounts, Files}
 use Rattle.par_loader.specs.declared.error.Unloaded.TheVariants as unloaded
 use Rattle.par_loader.specs.Ends.{Judges}
 use Rattle.par_loader.specs.Begun.{BeginsMain}
-use Rattle.par_tool.specs.declared.reading.Failure.{Failure}
-use Rattle.par_tool.specs.declared.reading.Failure.TheVariants.{Memory}
+use Rattle.par_tool.specs.declared.reads.Failure.{Failure}
+use Rattle.par_tool.specs.declared.reads.Failure.TheVariants.{Memory}
 use Rattle.par_tool.specs.Failures.{IsFailure, failure_of}
 use Rattle.par_tool.specs.Outside.{Text}
 use Rattle.par_tool.specs.Classes.{IsUnlinked}

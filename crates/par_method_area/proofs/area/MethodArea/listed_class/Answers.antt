@@ -1,5 +1,5 @@
 use Rattle.std.proofs.Common.{Some, None, true, sym, refl}
-use Rattle.par_actions.specs.declared.creating.Class.{Class}
+use Rattle.par_actions.specs.declared.births.Class.{Class}
 use Rattle.par_method_area.proofs.Making.{class-gone, flag-there, class-found, moved}
 use Rattle.par_method_area.proofs.area.MethodArea.listed_class.Goals as goal
 

@@ -1,0 +1,116 @@
+//! All instructions, until nothing rises.
+
+ghost use Rattle.std.specs.Prelude.{◌≡◌, ◌≤◌, true, length, Some, IfOk};
+ghost use Rattle.par_frame_moves.specs.par_kinds.Kinds.{KFrame};
+ghost use Rattle.par_frame_moves.specs.par_kinds.Fits.{Given};
+ghost use Rattle.par_frame_passes.specs.Methods.{exc_of, act_in, handler_in, code_in, IsToldOf};
+ghost use Rattle.par_frame_passes.specs.Sweeps.{Kept, Settles};
+ghost use Rattle.par_frame_passes.specs.Tables.{table_of};
+
+use crate::back::{back_offsets, is_marked, mark};
+use crate::course::Course;
+use crate::guess::guessed;
+use crate::method::Method;
+use crate::told_frames::{standing, told};
+use crate::visit::visit;
+use par_base::memory::NoMemory;
+use par_frame_steps::PlaceFrame;
+use std::alloc::Global;
+
+/// Goes through the code, and back to each frame that rises, until nothing does on a whole way:
+/// whether frames are found.
+fn least<'f>(
+    alloc: Global,
+    method: &Method<'_, 'f>,
+    table: &mut [Option<PlaceFrame<'f>>],
+) -> Result<bool, NoMemory>
+    requires { length (code_in method.now).code ≤ 65535 }
+    ensures { IfOk result (λ found. (start : Given) (first : KFrame) →
+        IsToldOf method.now start → start 0 ≡ Some first →
+        Kept (exc_of method.now) (act_in method.now) (handler_in method.now)
+        (code_in method.now) start (table_of table.old) →
+        Settles (exc_of method.now) (act_in method.now) (handler_in method.now)
+        (code_in method.now) start found) }
+{
+    let mut back = back_offsets(alloc, method)?;
+    let mut at = 0;
+    let mut again = false;
+    // Frames rise seldom enough: the steps never come to an end.
+    for _step in 0..u64::MAX {
+        if at >= method.code.code.len() {
+            if !again {
+                return Ok(true);
+            }
+            at = 0;
+            again = false;
+        } else {
+            match visit(alloc, method, table, at, is_marked(&back, at))? {
+                Course::Refused => return Ok(false),
+                Course::Calm => at += 1,
+                Course::Rises(to) => {
+                    mark(&mut back, to);
+                    again = true;
+                    at = to.min(at + 1);
+                }
+            }
+        }
+    }
+    Err(NoMemory)
+}
+
+/// Whether frames are found among which those are that are guessed.
+fn is_guessed<'f>(
+    alloc: Global,
+    method: &Method<'_, 'f>,
+    table: &[Option<PlaceFrame<'f>>],
+) -> Result<bool, NoMemory>
+    requires { length (code_in method.now).code ≤ 65535 }
+    ensures { IfOk result (λ found. (start : Given) (first : KFrame) →
+        IsToldOf method.now start → start 0 ≡ Some first →
+        Kept (exc_of method.now) (act_in method.now) (handler_in method.now)
+        (code_in method.now) start (table_of table.entry.now) → found ≡ true →
+        Settles (exc_of method.now) (act_in method.now) (handler_in method.now)
+        (code_in method.now) start true) }
+{
+    let guesses = guessed(alloc, method, table)?;
+    if guesses.is_empty() {
+        return Ok(false);
+    }
+    let mut table = told(alloc, method, table, guesses)?;
+    let stand = table.as_slice();
+    let marks = standing(alloc, stand)?;
+    let fixed = marks.as_slice();
+    let told = Method {
+        linked: method.linked,
+        class: method.class,
+        code: method.code,
+        gives: method.gives,
+        exceptions: method.exceptions,
+        starts: method.starts,
+        fixed,
+    };
+    let frames = table.as_mut_slice();
+    let found = least(alloc, &told, frames)?;
+    Ok(found)
+}
+
+/// Goes through the code, with frames that are guessed where it goes back, or else until nothing
+/// rises: whether frames are found.
+pub fn passes<'f>(
+    alloc: Global,
+    method: &Method<'_, 'f>,
+    table: &mut [Option<PlaceFrame<'f>>],
+) -> Result<bool, NoMemory>
+    requires { length (code_in method.now).code ≤ 65535 }
+    ensures { IfOk result (λ found. (start : Given) (first : KFrame) →
+        IsToldOf method.now start → start 0 ≡ Some first →
+        Kept (exc_of method.now) (act_in method.now) (handler_in method.now)
+        (code_in method.now) start (table_of table.old) →
+        Settles (exc_of method.now) (act_in method.now) (handler_in method.now)
+        (code_in method.now) start found) }
+{
+    if is_guessed(alloc, method, table)? {
+        return Ok(true);
+    }
+    least(alloc, method, table)
+}

@@ -1,0 +1,11 @@
+use Rattle.std.proofs.Common.{◌≡◌, take}
+use Rattle.std.specs.Prelude.{slice_index}
+use Rattle.std.specs.List.{flat_map}
+use Rattle.par_placed_frames.specs.Framed.{frame_of, last_ones}
+use Rattle.par_label_frames.proofs.placement.frames_at.Given as goal
+
+abbrev pub invariant-loop-item : goal.invariant-loop-item
+invariant-loop-item l =
+    l.out.items
+    ≡ last_ones (flat_map (frame_of (slice_index l.offsets) l.frames)
+    (take l.item-index l.items))

@@ -1,0 +1,7 @@
+use Rattle.std.proofs.Common.{◌≡◌, map, take, is_some}
+use Rattle.par_frame_passes.specs.Tables.{table_of}
+use Rattle.par_verify.proofs.judgement.fixed.Given as goal
+
+abbrev pub invariant-loop-frame : goal.invariant-loop-frame
+invariant-loop-frame l =
+    l.fixed.items ≡ map is_some (table_of (take l.frame-index l.table))

@@ -1,0 +1,9 @@
+use Rattle.std.proofs.Common.{◌≡◌, ℕ, ◌<◌, true}
+use Rattle.par_kinds.specs.Linked.{coded_at}
+use Rattle.par_verified.specs.Verified.{IsVerified}
+use Rattle.par_verify.proofs.verifier.verify.Given as goal
+
+-- the files before are verified
+abbrev pub invariant-loop-class : goal.invariant-loop-class
+invariant-loop-class l =
+    (c m : ℕ) → c < l.class → coded_at l.linked c m ≡ true → IsVerified l.linked l.frames c m

@@ -1,6 +1,0 @@
-use Rattle.par_verify.specs.Answers.{VerifiedTo}
-use Rattle.par_verify.proofs.verifying.first_unfit.Given as goal
-
-abbrev pub invariant-loop-place : goal.invariant-loop-place
-invariant-loop-place l =
-    VerifiedTo l.program.linked.now l.program.frames.now l.class l.place
