@@ -15,8 +15,8 @@ use Rattle.par_typed.specs.declared.table.ClassInfo.{ClassInfo}
 use Rattle.par_typed.specs.declared.table.Table.{Table}
 use Rattle.par_typed.specs.declared.program.Typed.{Typed}
 use Rattle.par_values.specs.declared.inputs.Inputs.{Inputs}
-use Rattle.par_runs.specs.par_secrecy.Subject.{Name, InputChannel, given}
-use Rattle.par_runs.specs.par_secrecy.Shown.{Observer, sees, Alike}
+use Rattle.par_run_laws.specs.par_secrecy.Subject.{Name, InputChannel, given}
+use Rattle.par_run_laws.specs.par_secrecy.Shown.{Observer, sees, Alike}
 use Rattle.par_alike.specs.Subject.{policy_at, input_of, inputs_in, subject}
 use Rattle.par_alike.specs.Tests.{channel_test, class_tests}
 

@@ -10,8 +10,8 @@ use Rattle.par_typed.specs.declared.table.Table.{Table}
 use Rattle.par_typed.specs.declared.program.Typed.{Typed}
 use Rattle.par_values.specs.declared.run.Event.{Event}
 use Rattle.par_values.specs.declared.run.Event.TheVariants.{Out, Set, Put, Born}
-use Rattle.par_runs.specs.par_secrecy.Subject.{Name, Policy, InputChannel, Subject}
-use Rattle.par_runs.specs.Source.{source}
+use Rattle.par_run_laws.specs.par_secrecy.Subject.{Name, Policy, InputChannel, Subject}
+use Rattle.par_run_laws.specs.Source.{source}
 
 -- nobody sees what has no policy
 abbrev pub policy_or_none : Option Policy → Policy

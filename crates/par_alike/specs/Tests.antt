@@ -7,8 +7,8 @@ use Rattle.par_typed.specs.declared.table.ChannelInfo.{ChannelInfo}
 use Rattle.par_typed.specs.declared.table.ClassInfo.{ClassInfo}
 use Rattle.par_typed.specs.declared.table.Table.{Table}
 use Rattle.par_values.specs.declared.inputs.Inputs.{Inputs}
-use Rattle.par_runs.specs.par_secrecy.Subject.{Name, given}
-use Rattle.par_runs.specs.par_secrecy.Shown.{Observer, sees}
+use Rattle.par_run_laws.specs.par_secrecy.Subject.{Name, given}
+use Rattle.par_run_laws.specs.par_secrecy.Shown.{Observer, sees}
 use Rattle.par_alike.specs.Subject.{policy_at}
 
 abbrev pub observer : ℕ → List ℕ → Observer

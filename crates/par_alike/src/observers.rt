@@ -1,7 +1,7 @@
 ghost use Rattle.std.specs.Prelude.{◌≡◌, ◌↔◌, IsTrue};
 ghost use Rattle.std.specs.List.{list_all};
-ghost use Rattle.par_runs.specs.par_secrecy.Subject.{is_of, given};
-ghost use Rattle.par_runs.specs.par_secrecy.Shown.{Alike, sees};
+ghost use Rattle.par_run_laws.specs.par_secrecy.Subject.{is_of, given};
+ghost use Rattle.par_run_laws.specs.par_secrecy.Shown.{Alike, sees};
 ghost use Rattle.par_alike.specs.Subject.{policy_at, subject};
 ghost use Rattle.par_alike.specs.Tests.{observer, class_tests, channel_test};
 

@@ -9,12 +9,14 @@ use Rattle.par_typed.specs.Plain as typed
 use Rattle.par_typed.specs.Plain.{TExp, MayTExp, TExps, TSta, MayTSta, TStas, TCatches}
 use Rattle.par_typed.specs.Plain.{Mark, mark}
 use Rattle.par_typed.proofs.Shown.{shows, doings, shown_mark}
-use Rattle.par_nodes.specs.par_rules.Declares.{Method, declares}
-use Rattle.par_checks.specs.Asked.{Check, Context, Effect, Released}
-use Rattle.par_checks.specs.Checks.{ask, entry_of, behind, learns, lock_written, locked, returned}
-use Rattle.par_checks.specs.Checks.{set, arguments}
-use Rattle.par_checks.specs.Checks.{exp_checks, args_checks, may_checks, sta_checks, other_checks}
-use Rattle.par_checks.specs.Checks.{stas_checks, catches_checks}
+use Rattle.par_nodes.specs.par_flow_laws.Declares.{Method, declares}
+use Rattle.par_check_laws.specs.Asked.{Check, Context, Effect, Released}
+use Rattle.par_check_laws.specs.Checks.{ask, entry_of, behind, learns, lock_written, locked}
+use Rattle.par_check_laws.specs.Checks.{returned}
+use Rattle.par_check_laws.specs.Checks.{set, arguments}
+use Rattle.par_check_laws.specs.Checks.{exp_checks, args_checks, may_checks, sta_checks}
+use Rattle.par_check_laws.specs.Checks.{other_checks}
+use Rattle.par_check_laws.specs.Checks.{stas_checks, catches_checks}
 use Rattle.par_asked.specs.Calls.{calls}
 use Rattle.par_asked.specs.Writes.{closed, static_written, field_written}
 use Rattle.std.specs.declared.boxed.Box.{Box}

@@ -4,10 +4,10 @@ use Rattle.std.proofs.Common.{◌∷◌, ◌++◌, refl, sym, ap, ◌∙◌, app
 use Rattle.std.proofs.Common.{arith}
 use Rattle.std.specs.List.{range_with_len}
 use Rattle.std.proofs.lemmas.List.Elements.{filter-append}
-use Rattle.par_nodes.specs.par_rules.Declares.{Thrown}
-use Rattle.par_nodes.specs.par_rules.Kinds as kind
-use Rattle.par_checks.specs.Asked.{Check, Never}
-use Rattle.par_checks.specs.Checks.{ask, leaving, others, undeclared_checks, is_thrown}
+use Rattle.par_nodes.specs.par_flow_laws.Declares.{Thrown}
+use Rattle.par_nodes.specs.par_flow_laws.Kinds as kind
+use Rattle.par_check_laws.specs.Asked.{Check, Never}
+use Rattle.par_check_laws.specs.Checks.{ask, leaving, others, undeclared_checks, is_thrown}
 use Rattle.par_asked.specs.Others.{unless_thrown}
 
 range_more : (a n : ℕ) → range_with_len a (n + 1) ≡ range_with_len a n ++ (a + n) ∷ []

@@ -2,8 +2,8 @@ pub mod Seen
 pub mod Calls
 pub mod Writes
 pub mod Others
-pub use Rattle.par_checks.specs as par_checks
+pub use Rattle.par_check_laws.specs as par_check_laws
 pub use Rattle.par_nodes.specs as par_nodes
-pub use Rattle.par_checks.specs.par_pass as par_pass
-pub use Rattle.par_nodes.specs.par_rules as par_rules
+pub use Rattle.par_check_laws.specs.par_pass_laws as par_pass_laws
+pub use Rattle.par_nodes.specs.par_flow_laws as par_flow_laws
 pub use Rattle.par_nodes.specs.par_typed as par_typed

@@ -6,12 +6,12 @@ use Rattle.par_bits.specs.Sets.{Set, none, adding}
 use Rattle.par_typed.specs.declared.table.Table.{Table}
 use Rattle.par_typed.specs.Shown.{all_shown}
 use Rattle.par_typed.specs.Plain.{TExps}
-use Rattle.par_nodes.specs.par_rules.Declares.{Method, method_of}
-use Rattle.par_nodes.specs.par_rules.Rules.{Entry, After, Tested}
-use Rattle.par_nodes.specs.par_rules.Body.{past, args_past, args_tested}
+use Rattle.par_nodes.specs.par_flow_laws.Declares.{Method, method_of}
+use Rattle.par_nodes.specs.par_flow_laws.Rules.{Entry, After, Tested}
+use Rattle.par_nodes.specs.par_flow_laws.Body.{past, args_past, args_tested}
 use Rattle.par_nodes.specs.Seen.{seen_kind}
-use Rattle.par_checks.specs.Asked as asked
-use Rattle.par_checks.specs.Checks.{points_past}
+use Rattle.par_check_laws.specs.Asked as asked
+use Rattle.par_check_laws.specs.Checks.{points_past}
 use Rattle.par_asked.specs.declared.check.Locks as code_locks
 use Rattle.par_asked.specs.declared.check.Locks.TheVariants as locks
 use Rattle.par_asked.specs.declared.check.Way as code_way

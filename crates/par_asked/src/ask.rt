@@ -2,9 +2,9 @@
 
 ghost use Rattle.std.specs.Prelude.{◌≡◌, [], ◌∷◌, ◌++◌, OnOk};
 ghost use Rattle.std.specs.Option.{option_copied};
-ghost use Rattle.par_nodes.specs.par_rules.Declares.{method_of};
-ghost use Rattle.par_checks.specs.Asked as asked;
-ghost use Rattle.par_checks.specs.Checks.{ask};
+ghost use Rattle.par_nodes.specs.par_flow_laws.Declares.{method_of};
+ghost use Rattle.par_check_laws.specs.Asked as asked;
+ghost use Rattle.par_check_laws.specs.Checks.{ask};
 ghost use Rattle.par_asked.specs.Seen.{own, seen_check, seen_checks, seen_condition, seen_locks};
 ghost use Rattle.par_asked.specs.Seen.{seen_spot};
 

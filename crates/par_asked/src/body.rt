@@ -2,7 +2,7 @@
 
 ghost use Rattle.std.specs.Prelude.{◌≡◌, ◌≤◌, length, slice_get, IfOk};
 ghost use Rattle.par_typed.specs.Shown.{body};
-ghost use Rattle.par_checks.specs.Checks.{checks, name_at};
+ghost use Rattle.par_check_laws.specs.Checks.{checks, name_at};
 ghost use Rattle.par_asked.specs.Seen.{seen_checks};
 
 use crate::ask::Home;

@@ -12,7 +12,7 @@ mod expr;
 mod method;
 mod stmt;
 
-pub use par_checks;
-pub use par_checks::par_pass;
+pub use par_check_laws;
+pub use par_check_laws::par_pass_laws;
 pub use par_nodes;
-pub use par_nodes::{par_rules, par_typed};
+pub use par_nodes::{par_flow_laws, par_typed};

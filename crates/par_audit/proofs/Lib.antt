@@ -1,4 +1,4 @@
 pub mod Releases
 pub mod Files
 pub mod Listed
-pub use Rattle.par_secure.proofs.par_well_typed as par_well_typed
+pub use Rattle.par_secure_laws.proofs.par_typed_laws as par_typed_laws

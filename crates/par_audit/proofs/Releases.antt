@@ -12,16 +12,16 @@ use Rattle.par_bits.specs.Sets.{Set}
 use Rattle.par_typed.specs.declared.table.Table.{Table}
 use Rattle.par_typed.specs.Plain.{Body}
 use Rattle.par_typed.specs.Shown.{bodies}
-use Rattle.par_rules.specs.Lattice.{numbers, joined}
-use Rattle.par_rules.specs.Facts.{Facts}
-use Rattle.par_pass.proofs.Instances.{in_either}
-use Rattle.par_checks.specs.Asked.{Condition, Check}
-use Rattle.par_checks.specs.Checks.{checks}
-use Rattle.par_checks.proofs.Monotone.{joined_more}
+use Rattle.par_flow_laws.specs.Lattice.{numbers, joined}
+use Rattle.par_flow_laws.specs.Facts.{Facts}
+use Rattle.par_pass_laws.proofs.Instances.{in_either}
+use Rattle.par_check_laws.specs.Asked.{Condition, Check}
+use Rattle.par_check_laws.specs.Checks.{checks}
+use Rattle.par_check_laws.proofs.Monotone.{joined_more}
 use Rattle.par_secrecy.specs.Subject.{Subject}
 use Rattle.par_alike.specs.Subject.{policy_at, subject}
-use Rattle.par_secure.specs.Explained.{IsPair, Here, Later, Explains, IsExplained}
-use Rattle.par_secure.proofs.Secure.{differences_explained}
+use Rattle.par_secure_laws.specs.Explained.{IsPair, Here, Later, Explains, IsExplained}
+use Rattle.par_secure_laws.proofs.Secure.{differences_explained}
 use Rattle.par_audit.specs.declared.release.Release.{Release}
 use Rattle.par_released.specs.Released.{IsReleased, is_released}
 use Rattle.par_audit.specs.Release.{as_release, is_release}

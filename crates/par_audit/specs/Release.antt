@@ -4,10 +4,10 @@ use Rattle.std.specs.List.{filter}
 use Rattle.std.specs.List.Sorted.{IsPermutation, IsNonDecreasingBy}
 use Rattle.par_typed.specs.declared.table.Table.{Table}
 use Rattle.par_typed.specs.Plain.{Body}
-use Rattle.par_rules.specs.Lattice.{numbers}
-use Rattle.par_rules.specs.Facts.{Facts}
-use Rattle.par_checks.specs.Asked.{Condition, Released, Check}
-use Rattle.par_checks.specs.Checks.{checks}
+use Rattle.par_flow_laws.specs.Lattice.{numbers}
+use Rattle.par_flow_laws.specs.Facts.{Facts}
+use Rattle.par_check_laws.specs.Asked.{Condition, Released, Check}
+use Rattle.par_check_laws.specs.Checks.{checks}
 use Rattle.par_alike.specs.Subject.{policy_at}
 use Rattle.par_released.specs.Released.{is_released}
 use Rattle.par_audit.specs.declared.release.Release.{Release}

@@ -2,7 +2,7 @@
 
 ghost use Rattle.std.specs.Prelude.{◌≡◌, ◌<◌, ◌≤◌, ◌++◌, length, map, IfOk, OnOk};
 ghost use Rattle.par_typed.specs.Shown as shown;
-ghost use Rattle.par_checks.specs.Checks.{checks};
+ghost use Rattle.par_check_laws.specs.Checks.{checks};
 ghost use Rattle.par_asked.specs.Seen.{seen_checks, seen_condition};
 ghost use Rattle.par_check.specs.par_flow.Table.{facts_in};
 ghost use Rattle.par_audit.specs.Release as all;

@@ -1,2 +1,2 @@
 pub mod Written
-pub use Rattle.par_compile.specs.par_class_form as par_class_form
+pub use Rattle.par_compile.specs.par_compile_laws as par_compile_laws

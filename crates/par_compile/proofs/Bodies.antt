@@ -9,14 +9,14 @@ use Rattle.std.proofs.lemmas.Bool.{and_from, ne_eqb}
 use Rattle.std.proofs.lemmas.List.{map-append}
 use Rattle.std.proofs.lemmas.Option.{none-some, slice_get-map}
 use Rattle.par_typed.specs.Plain.{TSta, Body}
-use Rattle.par_runs.specs.Names.{body_of}
+use Rattle.par_run_laws.specs.Names.{body_of}
 use Rattle.par_erase.specs.declared.program.PlainMethod.{PlainMethod}
 use Rattle.par_erase.specs.declared.program.PlainClass.{PlainClass}
 use Rattle.par_erase.specs.declared.program.Plain.{Plain}
 use Rattle.par_erase.specs.Shown.{Name, does, method_info, channel_info, class_info, table_of}
 use Rattle.par_erase.specs.Shown.{bodies_of, inputs_of, numbered, own_bodies, class_bodies}
-use Rattle.par_class_form.specs.Members.{Member, initializer, channel, method, methods_from}
-use Rattle.par_class_form.specs.Members.{members}
+use Rattle.par_compile_laws.specs.Members.{Member, initializer, channel, method, methods_from}
+use Rattle.par_compile_laws.specs.Members.{members}
 use Rattle.par_compile.proofs.Lists.{some_is}
 use Rattle.par_compile.specs.Own.{method_in, channel_in, own_members}
 

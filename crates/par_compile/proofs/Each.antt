@@ -10,7 +10,7 @@ use Rattle.par_typed.specs.declared.table.ClassInfo.{ClassInfo}
 use Rattle.par_erase.specs.declared.program.PlainClass.{PlainClass}
 use Rattle.par_erase.specs.declared.program.Plain.{Plain}
 use Rattle.par_erase.specs.Shown.{class_info, table_of, bodies_of}
-use Rattle.par_class_form.specs.Files.{FIRST_DECLARED, declared_classes}
+use Rattle.par_compile_laws.specs.Files.{FIRST_DECLARED, declared_classes}
 use Rattle.par_compile.proofs.Lists.{some_is}
 use Rattle.par_compile.specs.declared.compiled.CompiledClass.{CompiledClass}
 use Rattle.par_compile.specs.Compiled.{IsCompiledClass, AreCompiled}

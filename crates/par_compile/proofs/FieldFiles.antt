@@ -12,8 +12,8 @@ use Rattle.par_typed.specs.declared.table.Table.{Table}
 use Rattle.par_class.specs.declared.file.FieldFile.{FieldFile}
 use Rattle.par_values.specs.Areas.{Name}
 use Rattle.par_code_form.specs.Named.{descriptor}
-use Rattle.par_class_form.specs.Members.{member_access}
-use Rattle.par_class_form.specs.Files.{IsFieldOf}
+use Rattle.par_compile_laws.specs.Members.{member_access}
+use Rattle.par_compile_laws.specs.Files.{IsFieldOf}
 use Rattle.par_compile.specs.Growing.{Stays, Grows, IsOneText, IsEither, IsOneField, IsOfFields}
 use Rattle.par_compile.proofs.Growing.{extends, stays_later, grows_then}
 use Rattle.par_compile.proofs.Lists.{zip_append, map_more, map_done}

@@ -16,11 +16,12 @@ use Rattle.par_erase.specs.declared.program.PlainMethod.{PlainMethod}
 use Rattle.par_erase.specs.declared.program.PlainClass.{PlainClass}
 use Rattle.par_erase.specs.declared.program.Plain.{Plain}
 use Rattle.par_erase.specs.Shown.{field_info, class_info, table_of, bodies_of}
-use Rattle.par_class_form.specs.Members.{Member, above, members}
-use Rattle.par_class_form.specs.Constants.{IsConstant, code_text, this_class, super_class, of_field}
-use Rattle.par_class_form.specs.Constants.{of_member, frames_text}
-use Rattle.par_class_form.specs.Files.{IsFieldOf, IsMethodOf, IsFileOf, HasCodeWith, IsVersioned}
-use Rattle.par_class_form.specs.Files.{HasLongFile, IsCompiled, version}
+use Rattle.par_compile_laws.specs.Members.{Member, above, members}
+use Rattle.par_compile_laws.specs.Constants.{IsConstant, code_text, this_class, super_class}
+use Rattle.par_compile_laws.specs.Constants.{of_field}
+use Rattle.par_compile_laws.specs.Constants.{of_member, frames_text}
+use Rattle.par_compile_laws.specs.Files.{IsFieldOf, IsMethodOf, IsFileOf, HasCodeWith, IsVersioned}
+use Rattle.par_compile_laws.specs.Files.{HasLongFile, IsCompiled, version}
 use Rattle.par_compile.specs.declared.draft.Draft.{Draft}
 use Rattle.par_compile.specs.Growing.{Stays, Grows, IsOneText, IsOneClass, IsOfFields, IsOfMembers}
 use Rattle.par_framing.specs.par_frames.Room.{HasRoom, SPARE}

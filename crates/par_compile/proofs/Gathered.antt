@@ -9,7 +9,7 @@ use Rattle.par_erase.specs.declared.program.PlainMethod.{PlainMethod}
 use Rattle.par_erase.specs.declared.program.PlainClass.{PlainClass}
 use Rattle.par_erase.specs.declared.program.Plain.{Plain}
 use Rattle.par_erase.specs.Shown.{class_info}
-use Rattle.par_class_form.specs.Members.{Member, initializer}
+use Rattle.par_compile_laws.specs.Members.{Member, initializer}
 use Rattle.par_compile.specs.declared.draft.Draft.{Draft}
 use Rattle.par_compile.specs.Growing.{Extends, IsOfMembers}
 use Rattle.par_compile.specs.Drafts.{Puts}

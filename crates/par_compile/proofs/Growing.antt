@@ -13,7 +13,7 @@ use Rattle.par_pool.proofs.Growth.{at_kept, class_kept, name_type_kept}
 use Rattle.par_values.specs.Areas.{Name}
 use Rattle.par_code_form.specs.Code.{initializer}
 use Rattle.par_place.proofs.Growth.{part_kept}
-use Rattle.par_class_form.specs.Members.{above}
+use Rattle.par_compile_laws.specs.Members.{above}
 use Rattle.par_compile.specs.Growing.{Extends, Stays, Grows, IsOneText, IsOneClass, IsSuperCall}
 use Rattle.par_framing.specs.par_frames.Room.{HasClass, HasRoom, SPARE}
 use Rattle.par_framing.specs.Added.{spare_with}

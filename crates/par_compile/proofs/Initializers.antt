@@ -5,9 +5,9 @@ use Rattle.std.specs.List.{AllByRecursion}
 use Rattle.par_pool.specs.Entries.{IsMethodAt}
 use Rattle.par_typed.specs.declared.table.ClassInfo.{ClassInfo}
 use Rattle.par_class.specs.declared.file.CodeAttr.{CodeAttr}
-use Rattle.par_placed_code.specs.Placed.{IsWritable}
-use Rattle.par_class_form.specs.Members.{above, initializer, initializer_of}
-use Rattle.par_class_form.specs.Files.{IsCodeWith}
+use Rattle.par_place_laws.specs.Placed.{IsWritable}
+use Rattle.par_compile_laws.specs.Members.{above, initializer, initializer_of}
+use Rattle.par_compile_laws.specs.Files.{IsCodeWith}
 use Rattle.par_compile.specs.declared.draft.Draft.{Draft}
 use Rattle.par_compile.specs.Growing.{Stays, Grows, IsSuperCall}
 use Rattle.par_compile.specs.Initializers.{super_attr, super_call}

@@ -31,8 +31,8 @@ use Rattle.par_class.specs.Writing.{least_code, code_piece, pieces_of, method_la
 use Rattle.par_class.proofs.Written.{least_named, has_spelling}
 use Rattle.par_values.specs.Areas.{Name}
 use Rattle.par_code_form.specs.Named.{descriptor}
-use Rattle.par_class_form.specs.Members.{Member, member_access, above}
-use Rattle.par_class_form.specs.Files.{IsFieldOf, version}
+use Rattle.par_compile_laws.specs.Members.{Member, member_access, above}
+use Rattle.par_compile_laws.specs.Files.{IsFieldOf, version}
 use Rattle.par_compile.specs.Drafts.{CodeFits, IsShort, HasShortCode, IsPut}
 use Rattle.par_compile.proofs.Long.{all_short}
 

@@ -16,7 +16,7 @@ use Rattle.par_class.specs.Layout.{Method}
 use Rattle.par_class.specs.Spelling.{attribute, code, piece, field, method, layout, counted, front}
 use Rattle.par_class.specs.Spelling.{back}
 use Rattle.par_class.specs.Writing.{code_piece, pieces_of, method_laid, layout_of, least_code}
-use Rattle.par_class_form.specs.Files.{written}
+use Rattle.par_compile_laws.specs.Files.{written}
 use Rattle.par_compile.specs.Drafts.{AreShort, HasShortCode}
 use Rattle.par_compile.specs.Whole.{has_long_attribute, has_long_code}
 use Rattle.par_compile.proofs.Placing.{attribute_long, code_long}

@@ -18,11 +18,11 @@ use Rattle.par_typed.specs.declared.table.ClassInfo.{ClassInfo}
 use Rattle.par_typed.specs.declared.table.MethodInfo.{MethodInfo}
 use Rattle.par_typed.specs.declared.table.Table.{Table}
 use Rattle.par_typed.specs.Plain.{Body}
-use Rattle.par_bodies.specs.Members.{methods_in, method_at}
-use Rattle.par_runs.specs.Names.{body_of}
-use Rattle.par_placeable.specs.par_well_typed.Limits.{TakesFew, HaveFewParams, IsLimitedClass}
-use Rattle.par_placeable.specs.par_well_typed.Sizes.{IsSmallOf, IsSmallBody}
-use Rattle.par_placeable.specs.par_well_typed.WellTyped.{IsWellTyped}
+use Rattle.par_body_laws.specs.Members.{methods_in, method_at}
+use Rattle.par_run_laws.specs.Names.{body_of}
+use Rattle.par_placeable_laws.specs.par_typed_laws.Limits.{TakesFew, HaveFewParams, IsLimitedClass}
+use Rattle.par_placeable_laws.specs.par_typed_laws.Sizes.{IsSmallOf, IsSmallBody}
+use Rattle.par_placeable_laws.specs.par_typed_laws.WellTyped.{IsWellTyped}
 use Rattle.par_code_form.specs.declared.labelled.Labelled.{Labelled}
 use Rattle.par_code_form.specs.declared.labelled.LabelFrame.{LabelFrame}
 use Rattle.par_code_form.specs.declared.labelled.Slot.{Slot}
@@ -30,9 +30,9 @@ use Rattle.par_code_form.specs.declared.labelled.Slot.TheVariants as slot
 use Rattle.par_code_form.specs.Code.{Words}
 use Rattle.par_code_form.specs.Method.{labelled}
 use Rattle.par_code_form.specs.Named.{words_of}
-use Rattle.par_placed_code.specs.Named.{entry_count}
-use Rattle.par_placed_code.specs.Placeable.{IsPlaceable}
-use Rattle.par_placed_code.specs.Framed.{AreFramesPlaceable}
+use Rattle.par_place_laws.specs.Named.{entry_count}
+use Rattle.par_place_laws.specs.Placeable.{IsPlaceable}
+use Rattle.par_place_laws.specs.Framed.{AreFramesPlaceable}
 use Rattle.par_erase.specs.declared.program.PlainMethod.{PlainMethod}
 use Rattle.par_erase.specs.declared.program.PlainClass.{PlainClass}
 use Rattle.par_erase.specs.declared.program.Plain.{Plain}
@@ -45,12 +45,12 @@ use Rattle.par_erase.specs.Shown.{Name, does, channel_info, field_info, param_in
 use Rattle.par_erase.specs.Shown.{class_info, table_of, bodies_of, inputs_of}
 use Rattle.par_framing.specs.par_frames.Names.{whole_name, classes_of}
 use Rattle.par_framing.specs.par_frames.Room.{SPARE}
-use Rattle.par_framing.specs.par_placed_frames.Framed.{kinds_of, classes_in, frame_classes}
-use Rattle.par_placeable.specs.Slots.{IsOfClass, IsOfClasses}
-use Rattle.par_placeable.specs.Laws.{IsReadyBody, LabelledCodeIsPlaceable, WordsAreTexts}
-use Rattle.par_placeable.specs.Laws.{NamesClasses, FramesNameClasses}
-use Rattle.par_coded.specs.Laws.{erased_body}
-use Rattle.par_coded.proofs.Bodies.{bodies_are_erased, found}
+use Rattle.par_framing.specs.par_frame_laws.Framed.{kinds_of, classes_in, frame_classes}
+use Rattle.par_placeable_laws.specs.Slots.{IsOfClass, IsOfClasses}
+use Rattle.par_placeable_laws.specs.Laws.{IsReadyBody, LabelledCodeIsPlaceable, WordsAreTexts}
+use Rattle.par_placeable_laws.specs.Laws.{NamesClasses, FramesNameClasses}
+use Rattle.par_source_code_laws.specs.Laws.{erased_body}
+use Rattle.par_source_code_laws.proofs.Bodies.{bodies_are_erased, found}
 use Rattle.par_compile.specs.Own.{IsMethodReady, IsReady, code_in, code_entries, methods_entries}
 use Rattle.par_compile.specs.Own.{methods_classes}
 use Rattle.par_compile.proofs.Lists.{some_is}

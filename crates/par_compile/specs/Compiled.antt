@@ -3,7 +3,7 @@ use Rattle.std.specs.Prelude.{◌≡◌, ℕ, ◌+◌, List, length, slice_get, 
 use Rattle.par_typed.specs.declared.table.ClassInfo.{ClassInfo}
 use Rattle.par_typed.specs.declared.table.Table.{Table}
 use Rattle.par_typed.specs.Plain.{Body}
-use Rattle.par_class_form.specs.Files.{FIRST_DECLARED, declared_classes, IsCompiled}
+use Rattle.par_compile_laws.specs.Files.{FIRST_DECLARED, declared_classes, IsCompiled}
 use Rattle.par_compile.specs.declared.compiled.CompiledClass.{CompiledClass}
 
 -- the file of a class of this number, under the name of the class

@@ -10,8 +10,8 @@ use Rattle.par_class.specs.declared.file.CodeAttr.{CodeAttr}
 use Rattle.par_class.specs.declared.file.MethodFile.{MethodFile}
 use Rattle.par_class.specs.Spelling.{FitsCode, code, is_native}
 use Rattle.par_values.specs.Areas.{Name}
-use Rattle.par_class_form.specs.Members.{Member}
-use Rattle.par_class_form.specs.Files.{IsMethodOf, HasCodeWith}
+use Rattle.par_compile_laws.specs.Members.{Member}
+use Rattle.par_compile_laws.specs.Files.{IsMethodOf, HasCodeWith}
 use Rattle.par_compile.specs.declared.draft.Draft.{Draft}
 use Rattle.par_compile.specs.Growing.{Stays, Grows, IsEither, IsOfMembers}
 

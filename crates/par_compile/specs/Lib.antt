@@ -5,4 +5,4 @@ pub mod Initializers
 pub mod Drafts
 pub mod Whole
 pub mod Compiled
-pub use Rattle.par_class_form.specs as par_class_form
+pub use Rattle.par_compile_laws.specs as par_compile_laws

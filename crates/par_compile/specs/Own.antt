@@ -7,16 +7,16 @@ use Rattle.par_base.specs.Names.{IsName}
 use Rattle.par_code_form.specs.declared.labelled.Labelled.{Labelled}
 use Rattle.par_code_form.specs.Method.{labelled}
 use Rattle.par_code_form.specs.Named.{words_of}
-use Rattle.par_placed_code.specs.Placeable.{IsPlaceable}
-use Rattle.par_placed_code.specs.Framed.{AreFramesPlaceable}
-use Rattle.par_framing.specs.par_placed_frames.Framed.{classes_with, entries_with}
+use Rattle.par_place_laws.specs.Placeable.{IsPlaceable}
+use Rattle.par_place_laws.specs.Framed.{AreFramesPlaceable}
+use Rattle.par_framing.specs.par_frame_laws.Framed.{classes_with, entries_with}
 use Rattle.par_framing.specs.par_frames.Room.{HasRoom, SPARE}
 use Rattle.par_erase.specs.declared.program.PlainMethod.{PlainMethod}
 use Rattle.par_erase.specs.declared.program.PlainClass.{PlainClass}
 use Rattle.par_erase.specs.declared.program.Plain.{Plain}
 use Rattle.par_erase.specs.Shown.{Name, does, method_info, channel_info, class_info, table_of}
 use Rattle.par_erase.specs.Shown.{bodies_of, inputs_of}
-use Rattle.par_class_form.specs.Members.{Member, initializer, channel, method}
+use Rattle.par_compile_laws.specs.Members.{Member, initializer, channel, method}
 
 -- the code of a method
 abbrev pub code_in : Plain → PlainMethod → Labelled

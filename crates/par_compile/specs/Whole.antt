@@ -12,9 +12,9 @@ use Rattle.par_class.specs.declared.file.CodeAttr.{CodeAttr}
 use Rattle.par_class.specs.declared.file.MethodFile.{MethodFile}
 use Rattle.par_class.specs.declared.file.ClassFile.{ClassFile}
 use Rattle.par_class.specs.Spelling.{Spells}
-use Rattle.par_class_form.specs.Members.{Member, CLASS_ACCESS, above}
-use Rattle.par_class_form.specs.Constants.{IsConstant}
-use Rattle.par_class_form.specs.Files.{IsFieldOf, version, written}
+use Rattle.par_compile_laws.specs.Members.{Member, CLASS_ACCESS, above}
+use Rattle.par_compile_laws.specs.Constants.{IsConstant}
+use Rattle.par_compile_laws.specs.Files.{IsFieldOf, version, written}
 use Rattle.par_compile.specs.Drafts.{IsPut}
 
 -- the file of a class that has these methods, with their frames or without them

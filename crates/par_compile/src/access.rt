@@ -2,7 +2,7 @@
 //! tables 4.1-A, 4.5-A and 4.6-A).
 
 ghost use Rattle.std.specs.Prelude.{◌≡◌};
-ghost use Rattle.par_class_form.specs.Members as members;
+ghost use Rattle.par_compile_laws.specs.Members as members;
 
 /// Of a class: public, final, and with the newer meaning of `invokespecial`.
 pub const CLASS: u16 = 0x0031;

@@ -1,7 +1,7 @@
 //! The file of a class.
 
 ghost use Rattle.std.specs.Prelude.{◌≡◌, IfOk};
-ghost use Rattle.par_class_form.specs.Files as files;
+ghost use Rattle.par_compile_laws.specs.Files as files;
 ghost use Rattle.par_erase.specs.Shown.{class_info, table_of};
 ghost use Rattle.par_compile.specs.Own.{AreNamed, IsReady, own_members};
 ghost use Rattle.par_compile.specs.Whole.{IsOwnFile};

@@ -3,7 +3,7 @@
 ghost use Rattle.std.specs.Prelude.{◌≡◌, ◌+◌, ◌<◌, ◌≤◌, length, IfOk, OnOk};
 ghost use Rattle.par_pool.specs.Entries.{IsUtf8At, IsClassAt};
 ghost use Rattle.par_pool.specs.Spelling.{IsText};
-ghost use Rattle.par_class_form.specs.Members as members;
+ghost use Rattle.par_compile_laws.specs.Members as members;
 ghost use Rattle.par_compile.specs.Growing.{Grows, Stays, IsOneText, IsOneClass};
 
 use par_base::memory::NoMemory;

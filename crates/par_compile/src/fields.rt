@@ -2,7 +2,7 @@
 
 ghost use Rattle.std.specs.Prelude.{◌≡◌, ◌+◌, ◌*◌, ◌<◌, ◌≤◌, length, map, IfOk, OnOk};
 ghost use Rattle.std.specs.List.{AllZip};
-ghost use Rattle.par_class_form.specs.Files.{IsFieldOf};
+ghost use Rattle.par_compile_laws.specs.Files.{IsFieldOf};
 ghost use Rattle.par_erase.specs.Shown.{field_info, table_of};
 ghost use Rattle.par_compile.specs.Growing.{Grows, Stays, IsOneField, IsOfFields};
 ghost use Rattle.par_compile.specs.Own.{AreNamed};

@@ -3,10 +3,10 @@
 ghost use Rattle.std.specs.Prelude.{◌≡◌, ◌+◌, ◌<◌, ◌≤◌, [], ◌∷◌, ◌++◌, length, codes, IfOk, OnOk};
 ghost use Rattle.std.specs.Prelude.{IsTrue, Bool};
 ghost use Rattle.std.specs.List.{AllByRecursion};
-ghost use Rattle.par_placed_code.specs.Placed.{IsWritable};
+ghost use Rattle.par_place_laws.specs.Placed.{IsWritable};
 ghost use Rattle.par_pool.specs.Entries.{IsMethodAt};
 ghost use Rattle.par_instr.specs.Spelling.{spelling, has_spelling, IsSpelled};
-ghost use Rattle.par_class_form.specs.Members.{above, initializer};
+ghost use Rattle.par_compile_laws.specs.Members.{above, initializer};
 ghost use Rattle.par_erase.specs.Shown.{class_info};
 ghost use Rattle.par_compile.specs.Growing.{Grows, Stays, IsSuperCall};
 ghost use Rattle.par_compile.specs.Initializers as specs;

@@ -2,7 +2,7 @@
 
 ghost use Rattle.std.specs.Prelude.{◌≡◌, ◌+◌, [], ◌∷◌, map, Some, IfOk, OnOk};
 ghost use Rattle.std.specs.List.{All};
-ghost use Rattle.par_class_form.specs.Files.{IsCodeWith};
+ghost use Rattle.par_compile_laws.specs.Files.{IsCodeWith};
 ghost use Rattle.par_framing.specs.par_frames.Room.{HasRoom, SPARE};
 ghost use Rattle.par_compile.specs.Drafts.{Puts, CodeFits, IsShort};
 ghost use Rattle.par_compile.specs.Growing.{Grows, Stays, IsOneCode};

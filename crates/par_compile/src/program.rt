@@ -2,9 +2,9 @@
 
 ghost use Rattle.std.specs.Prelude.{◌≡◌, ℕ, slice_get, Some, IfOk, OnOk, drop};
 ghost use Rattle.std.specs.List.{All};
-ghost use Rattle.par_class_form.specs.Files.{FIRST_DECLARED};
+ghost use Rattle.par_compile_laws.specs.Files.{FIRST_DECLARED};
 ghost use Rattle.par_typed.specs.Shown.{bodies};
-ghost use Rattle.par_placeable.specs.par_well_typed.WellTyped.{IsWellTyped};
+ghost use Rattle.par_placeable_laws.specs.par_typed_laws.WellTyped.{IsWellTyped};
 ghost use Rattle.par_erase.specs.Erased.{erased_table, erased_bodies};
 ghost use Rattle.par_erase.specs.Named as names;
 ghost use Rattle.par_erase.specs.Shown.{class_info, table_of, bodies_of};

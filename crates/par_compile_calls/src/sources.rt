@@ -2,7 +2,7 @@
 
 ghost use Rattle.std.specs.Prelude.{IfOk};
 ghost use Rattle.par_typed.specs.Shown.{bodies};
-ghost use Rattle.par_well_typed.specs.WellTyped.{IsWellTyped};
+ghost use Rattle.par_typed_laws.specs.WellTyped.{IsWellTyped};
 
 use par_class::{ClassFile, LONGEST_CLASS, read_class};
 use par_compile::{CompiledClass, compile};

@@ -2,13 +2,13 @@
 
 ghost use Rattle.std.specs.Prelude.{◌≡◌, IfOk, IfErr};
 ghost use Rattle.par_grammar.specs.declared.sort.Sort.TheVariants as sort;
-ghost use Rattle.par_language.specs.par_reader.Reads.{IsOf};
+ghost use Rattle.par_language_laws.specs.par_reader.Reads.{IsOf};
 ghost use Rattle.par_tree.specs.Plain as plain;
 ghost use Rattle.par_tree.specs.Shown.{shown, all_shown};
 ghost use Rattle.par_tree.specs.Values as value;
 ghost use Rattle.par_exprs.specs.Exprs.{Makes};
 
-use par_language::par_reader::error::ParseError;
+use par_language_laws::par_reader::error::ParseError;
 use par_lexer::list::List;
 use par_lexer::name::Name;
 use par_lexer::operator::BinOp;

@@ -108,7 +108,7 @@ fn files_of_the_longest_length_are_read(rt: HostRuntime) -> Result<(), Fail> {
     Ok(())
 }
 
-/// The class file A without members, as par_run_rows has it.
+/// The class file A without members, as par_machine_rows has it.
 const A: &[u8] = b"\
     \xca\xfe\xba\xbe\0\0\01\0\x05\x01\0\x01A\x07\0\x01\x01\0\x10java/lang/Object\x07\0\x03\01\
     \0\x02\0\x04\0\0\0\0\0\0\0\0";

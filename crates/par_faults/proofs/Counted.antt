@@ -8,11 +8,12 @@ use Rattle.par_typed.specs.declared.refusal.Refusal.{Refusal}
 use Rattle.par_declarations.specs.par_names.Declarations.{actors_in, locks_in, classes_in, actors}
 use Rattle.par_declarations.specs.par_names.Declarations.{locks}
 use Rattle.par_declarations.specs.par_names.Declarations.{declared_classes}
-use Rattle.par_declarations.specs.par_places.Within.{IdentIn, AreIn, FieldIn, ChannelIn, MethodIn}
-use Rattle.par_declarations.specs.par_places.Within.{ClassIn}
-use Rattle.par_declarations.specs.par_places.Within.{LockDeclIn, DeclarationIn, IsWithin}
-use Rattle.par_declarations.proofs.par_places.Broken as broken
-use Rattle.par_declarations.proofs.par_places.Broken.{both, each, mapped}
+use Rattle.par_declarations.specs.par_span_laws.Within.{IdentIn, AreIn, FieldIn, ChannelIn}
+use Rattle.par_declarations.specs.par_span_laws.Within.{MethodIn}
+use Rattle.par_declarations.specs.par_span_laws.Within.{ClassIn}
+use Rattle.par_declarations.specs.par_span_laws.Within.{LockDeclIn, DeclarationIn, IsWithin}
+use Rattle.par_declarations.proofs.par_span_laws.Broken as broken
+use Rattle.par_declarations.proofs.par_span_laws.Broken.{both, each, mapped}
 use Rattle.par_declarations.specs.declared.limit.Limit.{Limit}
 use Rattle.par_declarations.specs.Limits.{told, one_too_many, actor_places, class_places, earlier}
 use Rattle.par_declarations.specs.Limits.{in_order, member_places, ground, locks_limit}

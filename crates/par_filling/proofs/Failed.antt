@@ -13,10 +13,10 @@ use Rattle.par_typed.specs.declared.refusal.Refusal.{Refusal}
 use Rattle.par_typed.specs.First.{broken, comes_before, when, first_of, IsAnswer}
 use Rattle.par_typed.specs.Plain.{Body}
 use Rattle.par_typed.proofs.First.{first_of_append, first_of_none}
-use Rattle.par_rules.specs.Lattice.{numbers}
-use Rattle.par_rules.specs.Facts.{Facts}
-use Rattle.par_infer.specs.par_checks.Asked.{Check}
-use Rattle.par_infer.specs.par_checks.Checks.{checks}
+use Rattle.par_flow_laws.specs.Lattice.{numbers}
+use Rattle.par_flow_laws.specs.Facts.{Facts}
+use Rattle.par_infer.specs.par_check_laws.Asked.{Check}
+use Rattle.par_infer.specs.par_check_laws.Checks.{checks}
 use Rattle.par_verdict.specs.Judged.{AreRight, AreAllRight}
 use Rattle.par_verdict.specs.Told.{AreBroken}
 use Rattle.par_verdict.proofs.Told.{Goes, Noted}

@@ -8,12 +8,12 @@ use Rattle.par_typed.specs.declared.table.Table.{Table}
 use Rattle.par_typed.specs.declared.table.ClassInfo.{ClassInfo}
 use Rattle.par_typed.specs.declared.table.MethodInfo.{MethodInfo}
 use Rattle.par_typed.specs.Plain.{Body}
-use Rattle.par_rules.specs.Lattice.{numbers}
-use Rattle.par_rules.specs.Facts.{Facts}
-use Rattle.par_rules.specs.Declares.{declares, method_of, methods_of}
-use Rattle.par_declared.specs.Declared.{IsWellDeclared}
-use Rattle.par_declared.specs.Inferred.{inferred}
-use Rattle.par_declared.specs.Policies.{ClassShares, MethodShares}
+use Rattle.par_flow_laws.specs.Lattice.{numbers}
+use Rattle.par_flow_laws.specs.Facts.{Facts}
+use Rattle.par_flow_laws.specs.Declares.{declares, method_of, methods_of}
+use Rattle.par_table_laws.specs.Declared.{IsWellDeclared}
+use Rattle.par_table_laws.specs.Inferred.{inferred}
+use Rattle.par_table_laws.specs.Policies.{ClassShares, MethodShares}
 use Rattle.par_reached.specs.Reached.{AreLeastSets}
 use Rattle.par_verdict.specs.Judged.{AreAllRight}
 use Rattle.par_infer.specs.Bounds.{bounds}

@@ -7,12 +7,12 @@ use Rattle.par_typed.specs.declared.refusal.Refusal.{Refusal}
 use Rattle.par_typed.specs.First.{broken}
 use Rattle.par_typed.specs.Plain.{Body}
 use Rattle.par_typed.specs.Shown.{bodies}
-use Rattle.par_rules.specs.Lattice.{numbers}
-use Rattle.par_rules.specs.Facts.{Facts}
-use Rattle.par_declared.specs.Inferred.{inferred}
+use Rattle.par_flow_laws.specs.Lattice.{numbers}
+use Rattle.par_flow_laws.specs.Facts.{Facts}
+use Rattle.par_table_laws.specs.Inferred.{inferred}
 use Rattle.par_reached.specs.Reached.{AreLeastSets, set_at}
-use Rattle.par_infer.specs.par_checks.Asked.{Check}
-use Rattle.par_infer.specs.par_checks.Checks.{checks}
+use Rattle.par_infer.specs.par_check_laws.Asked.{Check}
+use Rattle.par_infer.specs.par_check_laws.Checks.{checks}
 use Rattle.par_verdict.specs.Judged.{AreAllRight}
 use Rattle.par_infer.specs.Bounds.{bounds}
 use Rattle.par_infer.specs.Filling.{Filling, IsAccepted, IsFillingBelow, join_filling}

@@ -2,7 +2,7 @@
 
 ghost use Rattle.std.specs.Prelude.{◌≤◌, IfOk, IfErr, length};
 ghost use Rattle.std.specs.List.{AllByRecursion};
-ghost use Rattle.par_declared.specs.Declared.{HasFewFields, IsWellDeclared};
+ghost use Rattle.par_table_laws.specs.Declared.{HasFewFields, IsWellDeclared};
 ghost use Rattle.par_typed.specs.Shown as shown;
 ghost use Rattle.par_verdict.specs.Accepted.{IsOrderlyBody};
 ghost use Rattle.par_filling.specs.Inferred.{IsInferred, IsRefused};

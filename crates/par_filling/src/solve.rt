@@ -3,8 +3,8 @@
 ghost use Rattle.std.specs.Prelude.{◌≡◌, ◌≤◌, ℕ, false, IfOk, IfErr, OnOk, length, map};
 ghost use Rattle.std.specs.List.{AllByRecursion};
 ghost use Rattle.par_bits.specs.Sets.{has};
-ghost use Rattle.par_declared.specs.Declared.{HasFewFields, IsWellDeclared};
-ghost use Rattle.par_declared.specs.Inferred.{inferred};
+ghost use Rattle.par_table_laws.specs.Declared.{HasFewFields, IsWellDeclared};
+ghost use Rattle.par_table_laws.specs.Inferred.{inferred};
 ghost use Rattle.par_reached.specs.Reached.{AreLeastSets, set_at};
 ghost use Rattle.par_typed.specs.Shown as shown;
 ghost use Rattle.par_verdict.specs.Judged.{AreAllRight};

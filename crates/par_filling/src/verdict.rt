@@ -3,12 +3,12 @@
 ghost use Rattle.std.specs.Prelude.{◌≡◌, ◌<◌, ◌≤◌, ℕ, IsTrue, IfOk, OnOk, length, map};
 ghost use Rattle.std.specs.Prelude.{List as Items};
 ghost use Rattle.par_bits.specs.Sets.{has};
-ghost use Rattle.par_declared.specs.Inferred.{inferred};
+ghost use Rattle.par_table_laws.specs.Inferred.{inferred};
 ghost use Rattle.par_reached.specs.Reached.{set_at};
 ghost use Rattle.par_typed.specs.declared.refusal.Refusal.{Refusal as Told};
 ghost use Rattle.par_typed.specs.First.{first_of};
 ghost use Rattle.par_typed.specs.Shown as shown;
-ghost use Rattle.par_infer.specs.par_checks.Checks.{checks};
+ghost use Rattle.par_infer.specs.par_check_laws.Checks.{checks};
 ghost use Rattle.par_verdict.specs.Judged.{AreAllRight};
 ghost use Rattle.par_verdict.specs.Told.{AreBroken};
 ghost use Rattle.par_infer.specs.Laws.{KeepsOther};

@@ -4,7 +4,7 @@ ghost use Rattle.std.specs.Prelude.{◌≡◌, ◌++◌, OnOk};
 ghost use Rattle.par_filling_lines.specs.Texts as spec;
 
 use par_policy::{Clause, Policy};
-use par_runner::NoMemory;
+use par_run_lines::NoMemory;
 use par_trace::{actor_name, add_lock};
 use par_typed::table::Table;
 

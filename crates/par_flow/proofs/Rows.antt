@@ -10,11 +10,11 @@ use Rattle.par_policy.specs.Numbers.{has as is_among}
 use Rattle.par_typed.specs.declared.table.Table.{Table}
 use Rattle.par_typed.specs.Plain.{Body}
 use Rattle.par_bits.specs.Sets.{Set, has}
-use Rattle.par_rules.specs.Lattice.{numbers}
-use Rattle.par_rules.specs.Ways.{Way}
-use Rattle.par_rules.specs.Kinds.{Kind}
-use Rattle.par_rules.specs.Facts.{Fact, blank}
-use Rattle.par_locks.specs.par_pass.Written.{table as by_point}
+use Rattle.par_flow_laws.specs.Lattice.{numbers}
+use Rattle.par_flow_laws.specs.Ways.{Way}
+use Rattle.par_flow_laws.specs.Kinds.{Kind}
+use Rattle.par_flow_laws.specs.Facts.{Fact, blank}
+use Rattle.par_locks.specs.par_pass_laws.Written.{table as by_point}
 use Rattle.par_envs.specs.Numbered.{Extends, AreFound}
 use Rattle.par_envs.proofs.Found.{different}
 use Rattle.par_rounds.specs.declared.exits.Exit.{Exit}

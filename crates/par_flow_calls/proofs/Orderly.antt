@@ -5,8 +5,8 @@ use Rattle.std.specs.List.{AllByRecursion}
 use Rattle.par_typed.specs.declared.table.Table.{Table}
 use Rattle.par_typed.specs.declared.table.ClassInfo.{ClassInfo}
 use Rattle.par_typed.specs.Plain.{Body}
-use Rattle.par_bodies.specs.Members as members
-use Rattle.par_well_typed.specs.Orderly as well
+use Rattle.par_body_laws.specs.Members as members
+use Rattle.par_typed_laws.specs.Orderly as well
 use Rattle.par_verdict.specs.Accepted as verdict
 use Rattle.par_verdict.specs.Accepted.{IsOrderlyBody}
 

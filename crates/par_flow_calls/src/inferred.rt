@@ -2,10 +2,10 @@
 
 ghost use Rattle.std.specs.Prelude.{IsTrue};
 ghost use Rattle.std.specs.List.{AllByRecursion};
-ghost use Rattle.par_declared.specs.Declared.{HasFewFields};
+ghost use Rattle.par_table_laws.specs.Declared.{HasFewFields};
 
 use crate::typed_trees::typed;
-use par_inferred::{Filling, InferError, infer};
+use par_program_filling::{Filling, InferError, infer};
 use par_typed::program::Typed;
 use par_typed::table::ClassInfo;
 use par_worked::expect;

@@ -2,7 +2,7 @@
 
 ghost use Rattle.std.specs.Prelude.{◌≡◌};
 ghost use Rattle.par_frame_steps.specs.par_kinds.Linked.{builtin_kind, named_kind, caught_kind};
-ghost use Rattle.par_frame_steps.specs.par_steps.Classes.{class_names};
+ghost use Rattle.par_frame_steps.specs.par_step_laws.Classes.{class_names};
 ghost use Rattle.par_values.specs.Areas.{class_named};
 ghost use Rattle.par_frame_steps.specs.Marks.{kind_of};
 

@@ -3,10 +3,10 @@
 ghost use Rattle.std.specs.Prelude.{◌≡◌, [], true, false, codes, List as Items, IfOk, slice_get};
 ghost use Rattle.par_class.specs.declared.file.ClassFile.{ClassFile as File};
 ghost use Rattle.par_pool.specs.Entries.{entry_at};
-ghost use Rattle.par_frame_steps.specs.par_steps.Methods.{class_pool};
-ghost use Rattle.par_frame_steps.specs.par_steps.Links.{class_link, builtin_class, field_in};
-ghost use Rattle.par_frame_steps.specs.par_steps.Links.{method_in};
-ghost use Rattle.par_frame_steps.specs.par_steps.Links.{builtin_initializer, link_of};
+ghost use Rattle.par_frame_steps.specs.par_step_laws.Methods.{class_pool};
+ghost use Rattle.par_frame_steps.specs.par_step_laws.Links.{class_link, builtin_class, field_in};
+ghost use Rattle.par_frame_steps.specs.par_step_laws.Links.{method_in};
+ghost use Rattle.par_frame_steps.specs.par_step_laws.Links.{builtin_initializer, link_of};
 ghost use Rattle.par_frame_steps.specs.par_kinds.Shapes.{shape_at, shape_of_link};
 ghost use Rattle.par_frame_steps.specs.par_kinds.Shapes.{Field, Class, Method};
 ghost use Rattle.par_values.specs.declared.kind.Kind.TheVariants as asks;

@@ -3,7 +3,7 @@ use Rattle.std.proofs.Common.{◌≡◌, ℕ, zero, suc, ◌<◌, ◌≤◌, ◌
 use Rattle.std.proofs.Common.{None}
 use Rattle.std.proofs.Common.{List, [], ◌∷◌, length, set, refl, sym, ap, subst, ◌∙◌, arith}
 use Rattle.par_frame_moves.specs.par_kinds.Kinds.{KFrame}
-use Rattle.par_passes.specs.Passes.{Table, frame_at}
+use Rattle.par_frame_pass_laws.specs.Passes.{Table, frame_at}
 
 -- what is put is there
 pub put-there : (t : Table) (at : ℕ) (o : Option KFrame) → at < length t

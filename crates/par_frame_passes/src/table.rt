@@ -2,7 +2,7 @@
 
 ghost use Rattle.std.specs.Prelude.{◌≡◌, ◌≤◌, slice_set, Some, IfOk};
 ghost use Rattle.std.specs.Option.{option_map};
-ghost use Rattle.par_passes.specs.Passes.{frame_at};
+ghost use Rattle.par_frame_pass_laws.specs.Passes.{frame_at};
 ghost use Rattle.par_frame_steps.specs.Marks.{frame_of};
 ghost use Rattle.par_frame_passes.specs.Methods.{fixed_at};
 ghost use Rattle.par_frame_passes.specs.Tables.{table_of, Taken, NewAt};
@@ -16,7 +16,7 @@ use std::alloc::Global;
 pub type Table<'f> = Vec<Option<PlaceFrame<'f>>>;
 
 /// The frame of an offset.
-#[tactic(auto, unfolding(par_passes::specs::Passes::frame_at))]
+#[tactic(auto, unfolding(par_frame_pass_laws::specs::Passes::frame_at))]
 pub(crate) fn kept<'t, 'f>(
     table: &'t [Option<PlaceFrame<'f>>],
     at: usize,

@@ -2,4 +2,4 @@ pub mod Into
 pub mod Lists
 pub mod Left
 pub mod Padded
-pub use Rattle.par_passes.proofs.par_kinds as par_kinds
+pub use Rattle.par_frame_pass_laws.proofs.par_kinds as par_kinds

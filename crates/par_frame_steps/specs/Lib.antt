@@ -1,5 +1,5 @@
 pub mod Listed
 pub mod Marks
-pub use Rattle.par_passes.specs.par_kinds as par_kinds
-pub use Rattle.par_passes.specs as par_passes
-pub use Rattle.par_passes.specs.par_steps as par_steps
+pub use Rattle.par_frame_pass_laws.specs.par_kinds as par_kinds
+pub use Rattle.par_frame_pass_laws.specs as par_frame_pass_laws
+pub use Rattle.par_frame_pass_laws.specs.par_step_laws as par_step_laws

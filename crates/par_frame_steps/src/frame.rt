@@ -1,9 +1,9 @@
 //! Frames of kinds.
 
 ghost use Rattle.std.specs.Prelude.{◌≡◌, IsTrue, IfOk, length};
-ghost use Rattle.par_passes.specs.Passes.{all_into, merge_all, frame_into, merge_frames};
+ghost use Rattle.par_frame_pass_laws.specs.Passes.{all_into, merge_all, frame_into, merge_frames};
 ghost use Rattle.par_kinds.specs.Kinds.{kind_at};
-ghost use Rattle.par_passes.specs.Passes.{same_lengths};
+ghost use Rattle.par_frame_pass_laws.specs.Passes.{same_lengths};
 ghost use Rattle.par_frame_steps.specs.Listed.{listed_into};
 ghost use Rattle.par_frame_steps.specs.Marks.{names, kind_of, kinds_of, locals_of, frame_of};
 

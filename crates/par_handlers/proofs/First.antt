@@ -4,7 +4,7 @@ use Rattle.std.proofs.Common.{length, drop, get_or, Some, None, refl, ap, sym, �
 use Rattle.std.proofs.Common.{◌&&◌, set, replicate}
 use Rattle.std.proofs.lemmas.List.{drop_all}
 use Rattle.par_class.specs.declared.file.Catch.{Catch}
-use Rattle.par_steps.specs.Handlers.{first_handler}
+use Rattle.par_step_laws.specs.Handlers.{first_handler}
 
 -- one that does not take it is passed
 pub passed : (takes : Catch → Bool) (catches : List Catch) (i : ℕ) (d : Catch) → i < length catches

@@ -1,9 +1,9 @@
 -- A frame of which only is known where it stands.
 use Rattle.std.specs.Prelude.{ℕ, Bool, ◌||◌, ◌==◌, List, []}
 use Rattle.par_class.specs.declared.file.ClassFile.{ClassFile}
-use Rattle.par_steps.specs.par_link.Linked.{named_at}
-use Rattle.par_steps.specs.State.{Frame}
-use Rattle.par_steps.specs.Handlers.{named_takes}
+use Rattle.par_step_laws.specs.par_link.Linked.{named_at}
+use Rattle.par_step_laws.specs.State.{Frame}
+use Rattle.par_step_laws.specs.Handlers.{named_takes}
 
 abbrev pub standing : (class method at : ℕ) → Frame
 standing class method at =

@@ -1,10 +1,10 @@
 ghost use Rattle.std.specs.Prelude.{◌≡◌, ℕ, ◌≤◌, true, false, Some, slice_set, slice_index_or};
-ghost use Rattle.par_steps.specs.Handlers.{builtin_takes, named_takes, covers, takes};
-ghost use Rattle.par_steps.specs.Handlers.{first_handler, handler_in};
+ghost use Rattle.par_step_laws.specs.Handlers.{builtin_takes, named_takes, covers, takes};
+ghost use Rattle.par_step_laws.specs.Handlers.{first_handler, handler_in};
 ghost use Rattle.par_handlers.specs.Standing.{standing, class_takes};
 
 use par_class::file::Catch;
-use par_steps::par_link::{Builtin, Linked, Named};
+use par_step_laws::par_link::{Builtin, Linked, Named};
 
 /// How many places there are in the pool of constants of a class file.
 const PLACES: usize = 65536;
@@ -116,7 +116,7 @@ fn first_of_many<const N: usize>(
 
 /// The offset of the handler to which an exception of a class goes in a frame that stands at this
 /// offset of a method, none where no handler takes it.
-#[tactic(auto, unfolding(par_steps::specs::Handlers::first_handler))]
+#[tactic(auto, unfolding(par_step_laws::specs::Handlers::first_handler))]
 pub fn handler(linked: &Linked, thrown: u16, class: u16, method: u16, at: u32) -> Option<u16>
     ensures { result ≡ handler_in linked.now thrown (standing class method at) }
 {

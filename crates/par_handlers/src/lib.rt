@@ -8,5 +8,5 @@
 mod catches;
 
 pub use catches::handler;
-pub use par_steps;
-pub use par_steps::par_link;
+pub use par_step_laws;
+pub use par_step_laws::par_link;

@@ -7,13 +7,14 @@ use Rattle.std.proofs.lemmas.Bool.{eqb-true}
 use Rattle.std.proofs.lemmas.List.{get_or-set_same, get_or-set_other, length-set}
 use Rattle.par_policy.proofs.Ordered.{Contains-first, Contains-later}
 use Rattle.par_bits.specs.Sets.{Set, has, none}
-use Rattle.par_rules.specs.Lattice.{numbers}
-use Rattle.par_rules.specs.Ways.{Way}
-use Rattle.par_rules.specs.Facts.{Facts}
-use Rattle.par_verdict.specs.par_checks.Asked.{Condition, Open, Released, Worth, Joined, Context}
-use Rattle.par_verdict.specs.par_checks.Asked.{Effect, Among}
-use Rattle.par_verdict.specs.par_checks.Asked as asked
-use Rattle.par_verdict.specs.par_checks.Asked.{Never}
+use Rattle.par_flow_laws.specs.Lattice.{numbers}
+use Rattle.par_flow_laws.specs.Ways.{Way}
+use Rattle.par_flow_laws.specs.Facts.{Facts}
+use Rattle.par_verdict.specs.par_check_laws.Asked.{Condition, Open, Released, Worth, Joined}
+use Rattle.par_verdict.specs.par_check_laws.Asked.{Context}
+use Rattle.par_verdict.specs.par_check_laws.Asked.{Effect, Among}
+use Rattle.par_verdict.specs.par_check_laws.Asked as asked
+use Rattle.par_verdict.specs.par_check_laws.Asked.{Never}
 use Rattle.par_asked.specs.declared.check.Check.{Check}
 use Rattle.par_asked.specs.Seen.{seen_check, seen_condition}
 use Rattle.par_verdict.specs.declared.known.Known.{Known}

@@ -9,20 +9,21 @@ use Rattle.par_policy.proofs.Ordered.{Contains-later}
 use Rattle.par_bits.specs.Sets.{Set, none, union}
 use Rattle.par_typed.specs.declared.table.ClassInfo.{ClassInfo}
 use Rattle.par_typed.specs.declared.table.FieldInfo.{FieldInfo}
-use Rattle.par_rules.specs.Lattice.{Seen, numbers, IsSeenBelow}
-use Rattle.par_rules.specs.Ways.{Way}
-use Rattle.par_rules.specs.Facts.{Facts}
-use Rattle.par_rules.specs.Rules.{way, Holds}
-use Rattle.par_verdict.specs.par_checks.Asked.{Condition, Open, Released, Worth, Joined, Context}
-use Rattle.par_verdict.specs.par_checks.Asked.{Effect, Among}
-use Rattle.par_verdict.specs.par_checks.Asked.{Never, Check}
-use Rattle.par_pass.specs.Seens.{given_of, join_of}
-use Rattle.par_verdict.specs.par_checks.Keeps.{Satisfies, Keeps}
+use Rattle.par_flow_laws.specs.Lattice.{Seen, numbers, IsSeenBelow}
+use Rattle.par_flow_laws.specs.Ways.{Way}
+use Rattle.par_flow_laws.specs.Facts.{Facts}
+use Rattle.par_flow_laws.specs.Rules.{way, Holds}
+use Rattle.par_verdict.specs.par_check_laws.Asked.{Condition, Open, Released, Worth, Joined}
+use Rattle.par_verdict.specs.par_check_laws.Asked.{Context}
+use Rattle.par_verdict.specs.par_check_laws.Asked.{Effect, Among}
+use Rattle.par_verdict.specs.par_check_laws.Asked.{Never, Check}
+use Rattle.par_pass_laws.specs.Seens.{given_of, join_of}
+use Rattle.par_verdict.specs.par_check_laws.Keeps.{Satisfies, Keeps}
 use Rattle.par_infer.specs.Keeps.{unopened, strict, limit}
 use Rattle.par_infer.specs.Bounds.{compared, compared_at, is_at, asked_above, all_above, born_above}
 use Rattle.par_infer.specs.Bounds.{births_above}
 use Rattle.par_infer.specs.Laws.{is_in}
-use Rattle.par_pass.proofs.Instances.{in_either}
+use Rattle.par_pass_laws.proofs.Instances.{in_either}
 use Rattle.par_infer.proofs.Choices.{first_or_later}
 use Rattle.par_infer.proofs.Seens.{join_below, join_member, given_join}
 

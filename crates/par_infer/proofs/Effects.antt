@@ -6,18 +6,18 @@ use Rattle.par_policy.proofs.Ordered.{Contains-nil}
 use Rattle.par_typed.specs.declared.table.Table.{Table}
 use Rattle.par_typed.specs.Plain as typed
 use Rattle.par_typed.specs.Plain.{TExp, MayTExp, TExps, TSta, MayTSta, TStas, TCatches, Body, mark}
-use Rattle.par_rules.specs.Declares.{Method, Thrown, declares}
-use Rattle.par_rules.specs.Rules.{Entry}
-use Rattle.par_rules.specs.Body.{args_past, args_tested}
-use Rattle.par_verdict.specs.par_checks.Asked.{Effect, Spot, Check}
-use Rattle.par_verdict.specs.par_checks.Checks.{exp_checks, args_checks, may_checks, sta_checks}
-use Rattle.par_verdict.specs.par_checks.Checks.{other_checks}
-use Rattle.par_verdict.specs.par_checks.Checks.{stas_checks, catches_checks, arguments, called}
-use Rattle.par_verdict.specs.par_checks.Checks.{returned, set}
-use Rattle.par_verdict.specs.par_checks.Checks.{locked, lock_written, throws_checks}
-use Rattle.par_verdict.specs.par_checks.Checks.{undeclared_checks}
-use Rattle.par_verdict.specs.par_checks.Checks.{method_checks, checks, others, points_past}
-use Rattle.par_declared.specs.Inferred.{inferred, AreOfFields}
+use Rattle.par_flow_laws.specs.Declares.{Method, Thrown, declares}
+use Rattle.par_flow_laws.specs.Rules.{Entry}
+use Rattle.par_flow_laws.specs.Body.{args_past, args_tested}
+use Rattle.par_verdict.specs.par_check_laws.Asked.{Effect, Spot, Check}
+use Rattle.par_verdict.specs.par_check_laws.Checks.{exp_checks, args_checks, may_checks, sta_checks}
+use Rattle.par_verdict.specs.par_check_laws.Checks.{other_checks}
+use Rattle.par_verdict.specs.par_check_laws.Checks.{stas_checks, catches_checks, arguments, called}
+use Rattle.par_verdict.specs.par_check_laws.Checks.{returned, set}
+use Rattle.par_verdict.specs.par_check_laws.Checks.{locked, lock_written, throws_checks}
+use Rattle.par_verdict.specs.par_check_laws.Checks.{undeclared_checks}
+use Rattle.par_verdict.specs.par_check_laws.Checks.{method_checks, checks, others, points_past}
+use Rattle.par_table_laws.specs.Inferred.{inferred, AreOfFields}
 use Rattle.par_infer.proofs.Choices.{first_or_later}
 
 module _ (table : Table) (own : Method) where

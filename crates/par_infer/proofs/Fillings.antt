@@ -10,21 +10,21 @@ use Rattle.par_typed.specs.declared.table.Table.{Table}
 use Rattle.par_typed.specs.declared.table.ClassInfo.{ClassInfo}
 use Rattle.par_typed.specs.declared.table.FieldInfo.{FieldInfo}
 use Rattle.par_typed.specs.Plain.{Body}
-use Rattle.par_rules.specs.Lattice.{Seen, numbers, IsSeenBelow, joined}
-use Rattle.par_rules.specs.Facts.{Facts}
-use Rattle.par_rules.specs.Declares.{declares}
-use Rattle.par_rules.specs.Closed.{IsClosed}
-use Rattle.par_pass.proofs.Instances.{in_either}
-use Rattle.par_pass.proofs.Along.{closed_along}
-use Rattle.par_verdict.specs.par_checks.Asked.{Check}
-use Rattle.par_verdict.specs.par_checks.Checks.{checks}
-use Rattle.par_verdict.proofs.par_checks.Monotone.{joined_more}
+use Rattle.par_flow_laws.specs.Lattice.{Seen, numbers, IsSeenBelow, joined}
+use Rattle.par_flow_laws.specs.Facts.{Facts}
+use Rattle.par_flow_laws.specs.Declares.{declares}
+use Rattle.par_flow_laws.specs.Closed.{IsClosed}
+use Rattle.par_pass_laws.proofs.Instances.{in_either}
+use Rattle.par_pass_laws.proofs.Along.{closed_along}
+use Rattle.par_verdict.specs.par_check_laws.Asked.{Check}
+use Rattle.par_verdict.specs.par_check_laws.Checks.{checks}
+use Rattle.par_verdict.proofs.par_check_laws.Monotone.{joined_more}
 use Rattle.par_reached.specs.Reached.{AreLeastSets, Reaches, Straight, Through}
-use Rattle.par_pass.specs.Seens.{given_of, join_of, seen_as, plain}
+use Rattle.par_pass_laws.specs.Seens.{given_of, join_of, seen_as, plain}
 use Rattle.par_infer.specs.Seens.{IsPolicy}
-use Rattle.par_verdict.specs.par_checks.Keeps.{Keeps}
+use Rattle.par_verdict.specs.par_check_laws.Keeps.{Keeps}
 use Rattle.par_infer.specs.Keeps.{limit, strict}
-use Rattle.par_declared.specs.Inferred.{inferred, inferred_among, inferred_in}
+use Rattle.par_table_laws.specs.Inferred.{inferred, inferred_among, inferred_in}
 use Rattle.par_infer.specs.Bounds.{bounds, replaced}
 use Rattle.par_infer.specs.Bounds.{bodies_above, births_above, all_above}
 use Rattle.par_infer.specs.Bounds.{is_at}

@@ -1,12 +1,12 @@
 -- What sets of numbers stand for, whichever policies have the numbers.
 use Rattle.std.proofs.Common.{List, refl}
 use Rattle.par_bits.specs.Sets.{union}
-use Rattle.par_rules.specs.Lattice.{Seen}
-use Rattle.par_pass.proofs.Order.{union_l, union_r}
+use Rattle.par_flow_laws.specs.Lattice.{Seen}
+use Rattle.par_pass_laws.proofs.Order.{union_l, union_r}
 use Rattle.std.proofs.lemmas.Bool.{and_from}
-use Rattle.par_pass.proofs.Along.{StandsFor}
-use Rattle.par_pass.proofs.Instances.{in_both_l, in_both_r}
-use Rattle.par_pass.specs.Seens.{join_of, seen_as}
+use Rattle.par_pass_laws.proofs.Along.{StandsFor}
+use Rattle.par_pass_laws.proofs.Instances.{in_both_l, in_both_r}
+use Rattle.par_pass_laws.specs.Seens.{join_of, seen_as}
 use Rattle.par_infer.proofs.Seens.{join_order, join_given}
 
 unfoldable pub stand_for : (ps : List Seen) → StandsFor (seen_as ps)

@@ -2,27 +2,28 @@
 use Rattle.std.proofs.Common.{◌≡◌, ℕ, ◌&&◌, Option, Some, None, List, [], ◌∷◌, refl, ap, subst}
 use Rattle.std.specs.Prelude.{map}
 use Rattle.par_bits.specs.Sets.{union}
-use Rattle.par_rules.specs.Lattice.{Seen, numbers}
-use Rattle.par_rules.specs.Ways as rules
-use Rattle.par_rules.specs.Ways.{Flows, MayFlow}
-use Rattle.par_rules.specs.Facts.{Facts}
-use Rattle.par_rules.specs.Rules.{way, Holds}
-use Rattle.par_pass.specs.Exits.{Way}
-use Rattle.par_pass.specs.Low as lower
-use Rattle.par_pass.specs.Low.{IsLow, FlowsUnder}
-use Rattle.par_pass.proofs.Order.{sub_trans, union_l, union_r}
+use Rattle.par_flow_laws.specs.Lattice.{Seen, numbers}
+use Rattle.par_flow_laws.specs.Ways as rules
+use Rattle.par_flow_laws.specs.Ways.{Flows, MayFlow}
+use Rattle.par_flow_laws.specs.Facts.{Facts}
+use Rattle.par_flow_laws.specs.Rules.{way, Holds}
+use Rattle.par_pass_laws.specs.Exits.{Way}
+use Rattle.par_pass_laws.specs.Low as lower
+use Rattle.par_pass_laws.specs.Low.{IsLow, FlowsUnder}
+use Rattle.par_pass_laws.proofs.Order.{sub_trans, union_l, union_r}
 use Rattle.std.proofs.lemmas.Bool.{and_from}
-use Rattle.par_pass.proofs.Along.{as_way, as_may, as_facts, as_all, way_lower}
-use Rattle.par_pass.proofs.Under.{AreAllLow, way_low}
-use Rattle.par_verdict.specs.par_checks.Asked.{Condition, Open, Released, Worth, Joined, Context}
-use Rattle.par_verdict.specs.par_checks.Asked.{Effect, Among}
-use Rattle.par_verdict.specs.par_checks.Asked.{Never, Check}
-use Rattle.par_verdict.proofs.par_checks.Monotone.{more_open}
-use Rattle.par_pass.specs.Seens.{given_of, join_of, seen_as}
+use Rattle.par_pass_laws.proofs.Along.{as_way, as_may, as_facts, as_all, way_lower}
+use Rattle.par_pass_laws.proofs.Under.{AreAllLow, way_low}
+use Rattle.par_verdict.specs.par_check_laws.Asked.{Condition, Open, Released, Worth, Joined}
+use Rattle.par_verdict.specs.par_check_laws.Asked.{Context}
+use Rattle.par_verdict.specs.par_check_laws.Asked.{Effect, Among}
+use Rattle.par_verdict.specs.par_check_laws.Asked.{Never, Check}
+use Rattle.par_verdict.proofs.par_check_laws.Monotone.{more_open}
+use Rattle.par_pass_laws.specs.Seens.{given_of, join_of, seen_as}
 use Rattle.par_infer.specs.Seens.{IsPolicy}
-use Rattle.par_verdict.specs.par_checks.Keeps.{Satisfies, Keeps}
+use Rattle.par_verdict.specs.par_check_laws.Keeps.{Satisfies, Keeps}
 use Rattle.par_infer.proofs.Seens.{join_order, join_more, join_below}
-use Rattle.par_pass.proofs.Instances.{stands}
+use Rattle.par_pass_laws.proofs.Instances.{stands}
 use Rattle.par_infer.proofs.Instances.{stand_for}
 
 module _ (ps : List Seen) (policies : (n : ℕ) → IsPolicy (given_of ps n)) where

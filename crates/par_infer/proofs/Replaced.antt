@@ -6,20 +6,21 @@ use Rattle.std.specs.Prelude.{IsTrue, nat_eq, map, slice_get}
 use Rattle.std.proofs.lemmas.Bool.{eqb-true, and_parts, and_from, or_left, or_right}
 use Rattle.par_policy.specs.declared.clauses.Clause.{Clause}
 use Rattle.par_bits.specs.Sets.{Set, union}
-use Rattle.par_rules.specs.Lattice.{Seen, numbers, IsSeenBelow, joined, seen_by}
-use Rattle.par_rules.specs.Ways.{Way}
-use Rattle.par_rules.specs.Facts.{Facts}
-use Rattle.par_rules.specs.Rules.{way, Holds}
-use Rattle.par_verdict.specs.par_checks.Asked.{Condition, Open, Released, Worth, Joined, Context}
-use Rattle.par_verdict.specs.par_checks.Asked.{Effect, Among}
-use Rattle.par_verdict.specs.par_checks.Asked.{Never, Check}
-use Rattle.par_pass.specs.Seens.{given_of, join_of, plain}
+use Rattle.par_flow_laws.specs.Lattice.{Seen, numbers, IsSeenBelow, joined, seen_by}
+use Rattle.par_flow_laws.specs.Ways.{Way}
+use Rattle.par_flow_laws.specs.Facts.{Facts}
+use Rattle.par_flow_laws.specs.Rules.{way, Holds}
+use Rattle.par_verdict.specs.par_check_laws.Asked.{Condition, Open, Released, Worth, Joined}
+use Rattle.par_verdict.specs.par_check_laws.Asked.{Context}
+use Rattle.par_verdict.specs.par_check_laws.Asked.{Effect, Among}
+use Rattle.par_verdict.specs.par_check_laws.Asked.{Never, Check}
+use Rattle.par_pass_laws.specs.Seens.{given_of, join_of, plain}
 use Rattle.par_infer.specs.Seens.{filled}
-use Rattle.par_verdict.specs.par_checks.Keeps.{Satisfies, Keeps}
+use Rattle.par_verdict.specs.par_check_laws.Keeps.{Satisfies, Keeps}
 use Rattle.par_infer.specs.Keeps.{unopened, strict, limit}
 use Rattle.par_infer.specs.Bounds.{any_below, replaced}
 use Rattle.par_infer.specs.Laws.{is_in}
-use Rattle.par_pass.proofs.Instances.{in_either}
+use Rattle.par_pass_laws.proofs.Instances.{in_either}
 use Rattle.par_infer.proofs.Choices.{by_cases, not_true, true_not}
 use Rattle.par_infer.proofs.Seens.{join_below, join_member, member_below, plain_join}
 use Rattle.par_infer.proofs.Seens.{plain_given, filled_inside, filled_outside}

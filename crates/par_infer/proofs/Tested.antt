@@ -5,23 +5,24 @@ use Rattle.std.proofs.Math.Path.{fun_ext}
 use Rattle.std.specs.Prelude.{IsTrue, IfOk, Result, Ok, Err}
 use Rattle.par_bits.specs.Sets.{Set, has, union}
 use Rattle.par_typed.specs.declared.table.Table.{Table}
-use Rattle.par_rules.specs.Lattice.{numbers, joined, IsSeenBelow}
-use Rattle.par_rules.specs.Ways.{Way}
-use Rattle.par_rules.specs.Facts.{Facts}
-use Rattle.par_rules.specs.Rules.{Holds}
-use Rattle.par_declared.specs.Inferred.{inferred}
-use Rattle.par_verdict.specs.par_checks.Asked.{Condition, Open, Released, Worth, Joined, Context}
-use Rattle.par_verdict.specs.par_checks.Asked.{Effect, Among}
-use Rattle.par_verdict.specs.par_checks.Asked.{Never}
-use Rattle.par_verdict.specs.par_checks.Keeps.{Satisfies, Keeps}
-use Rattle.par_verdict.specs.par_checks.Verdict.{given}
+use Rattle.par_flow_laws.specs.Lattice.{numbers, joined, IsSeenBelow}
+use Rattle.par_flow_laws.specs.Ways.{Way}
+use Rattle.par_flow_laws.specs.Facts.{Facts}
+use Rattle.par_flow_laws.specs.Rules.{Holds}
+use Rattle.par_table_laws.specs.Inferred.{inferred}
+use Rattle.par_verdict.specs.par_check_laws.Asked.{Condition, Open, Released, Worth, Joined}
+use Rattle.par_verdict.specs.par_check_laws.Asked.{Context}
+use Rattle.par_verdict.specs.par_check_laws.Asked.{Effect, Among}
+use Rattle.par_verdict.specs.par_check_laws.Asked.{Never}
+use Rattle.par_verdict.specs.par_check_laws.Keeps.{Satisfies, Keeps}
+use Rattle.par_verdict.specs.par_check_laws.Verdict.{given}
 use Rattle.par_asked.specs.declared.check.Check.{Check}
 use Rattle.par_asked.specs.Seen.{seen_check, seen_condition}
 use Rattle.par_verdict.specs.declared.known.Known.{Known}
 use Rattle.par_verdict.specs.Standing.{Standing, standing, stand, stands, value_of, Meets}
 use Rattle.par_verdict.specs.Spots.{at_spot}
 use Rattle.par_infer.specs.Bounds.{any_below, replaced}
-use Rattle.par_verdict.specs.par_checks.Asked as asked
+use Rattle.par_verdict.specs.par_check_laws.Asked as asked
 use Rattle.par_infer.specs.Keeps.{limit}
 use Rattle.par_infer.specs.Laws.{is_in, KeepsOther, KeepsReplaced}
 

@@ -1,12 +1,13 @@
 -- Bounds that are collected.
 use Rattle.std.specs.Prelude.{◌≡◌, ℕ, ◌<◌, ◌||◌, List, Contains, IsTrue, length, map}
 use Rattle.par_bits.specs.Sets.{Set, none, adding, union}
-use Rattle.par_rules.specs.Lattice.{numbers}
-use Rattle.par_rules.specs.Facts.{Facts}
-use Rattle.par_rules.specs.Rules.{way}
-use Rattle.par_verdict.specs.par_checks.Asked.{Condition, Open, Released, Worth, Joined, Context}
-use Rattle.par_verdict.specs.par_checks.Asked.{Effect, Among}
-use Rattle.par_verdict.specs.par_checks.Asked.{Never, Check}
+use Rattle.par_flow_laws.specs.Lattice.{numbers}
+use Rattle.par_flow_laws.specs.Facts.{Facts}
+use Rattle.par_flow_laws.specs.Rules.{way}
+use Rattle.par_verdict.specs.par_check_laws.Asked.{Condition, Open, Released, Worth, Joined}
+use Rattle.par_verdict.specs.par_check_laws.Asked.{Context}
+use Rattle.par_verdict.specs.par_check_laws.Asked.{Effect, Among}
+use Rattle.par_verdict.specs.par_check_laws.Asked.{Never, Check}
 use Rattle.par_reached.specs.Reached.{set_at}
 use Rattle.par_infer.specs.Bounds.{compared_at}
 

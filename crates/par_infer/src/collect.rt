@@ -3,7 +3,7 @@
 ghost use Rattle.std.specs.Prelude.{◌≡◌, ◌<◌, ◌≤◌, ℕ, IsTrue, OnOk, length};
 ghost use Rattle.par_bits.specs.Sets.{has};
 ghost use Rattle.par_typed.specs.Shown as shown;
-ghost use Rattle.par_verdict.specs.par_checks.Checks.{checks as all_checks};
+ghost use Rattle.par_verdict.specs.par_check_laws.Checks.{checks as all_checks};
 ghost use Rattle.par_asked.specs.Seen.{seen_check, seen_checks, seen_condition};
 ghost use Rattle.par_infer.specs.Keeps as keeps;
 ghost use Rattle.par_infer.specs.Bounds.{all_above, asked_above};

@@ -1,8 +1,8 @@
 -- What an instruction asks of a frame of kinds, and what it leaves.
 use Rattle.std.specs.Prelude.{◌≡◌, ℕ, ◌+◌, ◌<◌, ℤ, pos, ◌+ℤ◌, Bool, true, false, List, [], ◌∷◌}
 use Rattle.std.specs.Prelude.{◌++◌, length, drop, slice_set}
-use Rattle.par_steps.specs.par_values.declared.kind.Kind.{Kind}
-use Rattle.par_steps.specs.par_values.Areas.{Name}
+use Rattle.par_step_laws.specs.par_values.declared.kind.Kind.{Kind}
+use Rattle.par_step_laws.specs.par_values.Areas.{Name}
 use Rattle.par_kinds.specs.declared.frame.VKind.{VKind}
 use Rattle.par_kinds.specs.Kinds.{KFrame, kind_at, accepts, throwable, exceptional, Front}
 

@@ -1,12 +1,12 @@
 -- Frames of a method, given for some offsets of its code, that fit.
 use Rattle.std.specs.Prelude.{◌≡◌, ℕ, ◌≤◌, ℤ, pos, Bool, true, ◌&&◌, nat_le, nat_lt, List, [], ◌∷◌}
 use Rattle.std.specs.Prelude.{length, Option, Some}
-use Rattle.par_steps.specs.par_instr.declared.instr.Instr.{Instr}
-use Rattle.par_steps.specs.par_instr.Decoding.{Decoded, decoded_at}
-use Rattle.par_steps.specs.par_class.declared.file.Catch.{Catch}
-use Rattle.par_steps.specs.par_class.declared.file.CodeAttr.{CodeAttr}
-use Rattle.par_steps.specs.par_values.Areas.{Name}
-use Rattle.par_steps.specs.par_single.Walk.{starts_at}
+use Rattle.par_step_laws.specs.par_instr.declared.instr.Instr.{Instr}
+use Rattle.par_step_laws.specs.par_instr.Decoding.{Decoded, decoded_at}
+use Rattle.par_step_laws.specs.par_class.declared.file.Catch.{Catch}
+use Rattle.par_step_laws.specs.par_class.declared.file.CodeAttr.{CodeAttr}
+use Rattle.par_step_laws.specs.par_values.Areas.{Name}
+use Rattle.par_step_laws.specs.par_single.Walk.{starts_at}
 use Rattle.par_kinds.specs.declared.frame.VKind.{VKind}
 use Rattle.par_kinds.specs.Kinds.{KFrame, Into, Both, Each, FrameInto}
 use Rattle.par_kinds.specs.Acts.{Act, ActFits, left_by, next_offsets}

@@ -2,10 +2,10 @@
 use Rattle.std.specs.Prelude.{◌≡◌, ℕ, Bool, true, false, List, [], ◌∷◌, Option, Some, None}
 use Rattle.std.specs.List.{list_any, slice_get}
 use Rattle.std.specs.Str.{bytes_eq}
-use Rattle.par_steps.specs.par_values.declared.kind.Kind.{Kind}
-use Rattle.par_steps.specs.par_values.declared.kind.Kind.TheVariants.{Number, Object, AnyObject}
-use Rattle.par_steps.specs.par_values.declared.kind.Kind.TheVariants.{Anything}
-use Rattle.par_steps.specs.par_values.Areas.{Name}
+use Rattle.par_step_laws.specs.par_values.declared.kind.Kind.{Kind}
+use Rattle.par_step_laws.specs.par_values.declared.kind.Kind.TheVariants.{Number, Object, AnyObject}
+use Rattle.par_step_laws.specs.par_values.declared.kind.Kind.TheVariants.{Anything}
+use Rattle.par_step_laws.specs.par_values.Areas.{Name}
 use Rattle.par_kinds.specs.declared.frame.VKind.{VKind}
 use Rattle.par_kinds.specs.declared.frame.VKind.TheVariants.{Top as ATop, Int as AnInt}
 use Rattle.par_kinds.specs.declared.frame.VKind.TheVariants.{Null as ANull, Object as AnObject}

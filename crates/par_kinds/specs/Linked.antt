@@ -2,35 +2,35 @@
 use Rattle.std.specs.Prelude.{◌≡◌, ℕ, ◌-◌, Bool, true, false, not, ◌||◌, ◌==◌, if◌then◌else◌, List}
 use Rattle.std.specs.Prelude.{[], ◌∷◌, ◌++◌, length, map, replicate, Option, Some, None, is_none}
 use Rattle.std.specs.Prelude.{is_some, codes}
-use Rattle.par_steps.specs.par_instr.declared.instr.Instr.{Instr}
-use Rattle.par_steps.specs.par_class.declared.file.Catch.{Catch}
-use Rattle.par_steps.specs.par_class.declared.file.MethodFile.{MethodFile}
-use Rattle.par_steps.specs.par_class.declared.file.ClassFile.{ClassFile}
-use Rattle.par_steps.specs.par_values.declared.kind.Kind.{Kind}
-use Rattle.par_steps.specs.par_values.declared.kind.Kind.TheVariants.{Number, Object}
-use Rattle.par_steps.specs.par_values.declared.link.Target.{Target}
-use Rattle.par_steps.specs.par_values.declared.link.Target.TheVariants as target
-use Rattle.par_steps.specs.par_values.Areas.{Name, class_named}
-use Rattle.par_steps.specs.par_values.Operations.{Operation, Push, PushNull, Load, Store, Copy}
-use Rattle.par_steps.specs.par_values.Operations.{Combine}
-use Rattle.par_steps.specs.par_values.Operations.{Negate, Increase, Jump, JumpIf, JumpIfBoth}
-use Rattle.par_steps.specs.par_values.Operations.{JumpIfSame}
-use Rattle.par_steps.specs.par_values.Operations.{JumpIfNull, GetStatic, GetField, InvokeStatic}
-use Rattle.par_steps.specs.par_values.Operations.{InvokeSpecial, InvokeVirtual, Create, Throw}
-use Rattle.par_steps.specs.par_values.Operations.{Leave}
-use Rattle.par_steps.specs.par_values.Operations.{LeaveWith, operation, takes}
-use Rattle.par_steps.specs.par_values.Reasons.{misnamed, disagrees, is_result}
-use Rattle.par_steps.specs.par_link.declared.entry.Builtin.{Builtin}
-use Rattle.par_steps.specs.par_link.declared.entry.Builtin.TheVariants as builtin
-use Rattle.par_steps.specs.par_link.declared.entry.Named.{Named}
-use Rattle.par_steps.specs.par_link.declared.entry.Named.TheVariants as named
-use Rattle.par_steps.specs.par_link.Linked.{named_at}
-use Rattle.par_steps.specs.par_single.Members.{is_static}
-use Rattle.par_steps.specs.par_single.Links.{signature_said, kind_or_any}
-use Rattle.par_steps.specs.Classes.{class_names, exceptions}
-use Rattle.par_steps.specs.Methods.{method_code, method_file, method_descriptor}
-use Rattle.par_steps.specs.Links.{link_at}
-use Rattle.par_steps.specs.Step.{called_on_object}
+use Rattle.par_step_laws.specs.par_instr.declared.instr.Instr.{Instr}
+use Rattle.par_step_laws.specs.par_class.declared.file.Catch.{Catch}
+use Rattle.par_step_laws.specs.par_class.declared.file.MethodFile.{MethodFile}
+use Rattle.par_step_laws.specs.par_class.declared.file.ClassFile.{ClassFile}
+use Rattle.par_step_laws.specs.par_values.declared.kind.Kind.{Kind}
+use Rattle.par_step_laws.specs.par_values.declared.kind.Kind.TheVariants.{Number, Object}
+use Rattle.par_step_laws.specs.par_values.declared.link.Target.{Target}
+use Rattle.par_step_laws.specs.par_values.declared.link.Target.TheVariants as target
+use Rattle.par_step_laws.specs.par_values.Areas.{Name, class_named}
+use Rattle.par_step_laws.specs.par_values.Operations.{Operation, Push, PushNull, Load, Store, Copy}
+use Rattle.par_step_laws.specs.par_values.Operations.{Combine}
+use Rattle.par_step_laws.specs.par_values.Operations.{Negate, Increase, Jump, JumpIf, JumpIfBoth}
+use Rattle.par_step_laws.specs.par_values.Operations.{JumpIfSame}
+use Rattle.par_step_laws.specs.par_values.Operations.{JumpIfNull, GetStatic, GetField, InvokeStatic}
+use Rattle.par_step_laws.specs.par_values.Operations.{InvokeSpecial, InvokeVirtual, Create, Throw}
+use Rattle.par_step_laws.specs.par_values.Operations.{Leave}
+use Rattle.par_step_laws.specs.par_values.Operations.{LeaveWith, operation, takes}
+use Rattle.par_step_laws.specs.par_values.Reasons.{misnamed, disagrees, is_result}
+use Rattle.par_step_laws.specs.par_link.declared.entry.Builtin.{Builtin}
+use Rattle.par_step_laws.specs.par_link.declared.entry.Builtin.TheVariants as builtin
+use Rattle.par_step_laws.specs.par_link.declared.entry.Named.{Named}
+use Rattle.par_step_laws.specs.par_link.declared.entry.Named.TheVariants as named
+use Rattle.par_step_laws.specs.par_link.Linked.{named_at}
+use Rattle.par_step_laws.specs.par_single.Members.{is_static}
+use Rattle.par_step_laws.specs.par_single.Links.{signature_said, kind_or_any}
+use Rattle.par_step_laws.specs.Classes.{class_names, exceptions}
+use Rattle.par_step_laws.specs.Methods.{method_code, method_file, method_descriptor}
+use Rattle.par_step_laws.specs.Links.{link_at}
+use Rattle.par_step_laws.specs.Step.{called_on_object}
 use Rattle.par_kinds.specs.declared.frame.VKind.{VKind}
 use Rattle.par_kinds.specs.declared.frame.VKind.TheVariants.{Top as ATop, Int as AnInt}
 use Rattle.par_kinds.specs.declared.frame.VKind.TheVariants.{Null as ANull, Object as AnObject}

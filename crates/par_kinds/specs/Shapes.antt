@@ -3,31 +3,32 @@ use Rattle.std.specs.Prelude.{◌≡◌, ℕ, Bool, true, false, not, ◌||◌, 
 use Rattle.std.specs.Prelude.{Option, Some, None, codes, ◌==◌, if◌then◌else◌}
 use Rattle.std.specs.List.{slice_get}
 use Rattle.std.specs.Option.{option_map}
-use Rattle.par_steps.specs.par_instr.declared.instr.Instr.{Instr}
-use Rattle.par_steps.specs.par_instr.declared.instr.Instr.TheVariants as instr
-use Rattle.par_steps.specs.par_pool.declared.constant.Constant.{Constant}
-use Rattle.par_steps.specs.par_pool.declared.constant.Constant.TheVariants as constant
-use Rattle.par_steps.specs.par_pool.Entries.{entry_at}
-use Rattle.par_steps.specs.par_class.declared.file.Catch.{Catch}
-use Rattle.par_steps.specs.par_class.declared.file.ClassFile.{ClassFile}
-use Rattle.par_steps.specs.par_values.declared.kind.Kind.{Kind}
-use Rattle.par_steps.specs.par_values.declared.kind.Kind.TheVariants.{Object, AnyObject, Anything}
-use Rattle.par_steps.specs.par_values.declared.link.Link.{Link}
-use Rattle.par_steps.specs.par_values.declared.link.Link.TheVariants as link
-use Rattle.par_steps.specs.par_values.Areas.{Name}
-use Rattle.par_steps.specs.par_values.Operations.{operation}
-use Rattle.par_steps.specs.par_link.declared.entry.Builtin.{Builtin}
-use Rattle.par_steps.specs.par_link.declared.entry.Builtin.TheVariants as builtin
-use Rattle.par_steps.specs.par_link.declared.entry.Named.{Named}
-use Rattle.par_steps.specs.par_link.declared.entry.Named.TheVariants as named
-use Rattle.par_steps.specs.par_link.Builtins as builtins
-use Rattle.par_steps.specs.par_link.Linked.{named_at}
-use Rattle.par_steps.specs.par_link.Named.{field_declared, method_declared}
-use Rattle.par_steps.specs.par_single.Members.{Member, member_at, text_at, is_initializer}
-use Rattle.par_steps.specs.par_single.Members.{is_static}
-use Rattle.par_steps.specs.par_single.Links.{kind_said, signature_said}
-use Rattle.par_steps.specs.Methods.{class_pool}
-use Rattle.par_steps.specs.Links.{link_at}
+use Rattle.par_step_laws.specs.par_instr.declared.instr.Instr.{Instr}
+use Rattle.par_step_laws.specs.par_instr.declared.instr.Instr.TheVariants as instr
+use Rattle.par_step_laws.specs.par_pool.declared.constant.Constant.{Constant}
+use Rattle.par_step_laws.specs.par_pool.declared.constant.Constant.TheVariants as constant
+use Rattle.par_step_laws.specs.par_pool.Entries.{entry_at}
+use Rattle.par_step_laws.specs.par_class.declared.file.Catch.{Catch}
+use Rattle.par_step_laws.specs.par_class.declared.file.ClassFile.{ClassFile}
+use Rattle.par_step_laws.specs.par_values.declared.kind.Kind.{Kind}
+use Rattle.par_step_laws.specs.par_values.declared.kind.Kind.TheVariants.{Object, AnyObject}
+use Rattle.par_step_laws.specs.par_values.declared.kind.Kind.TheVariants.{Anything}
+use Rattle.par_step_laws.specs.par_values.declared.link.Link.{Link}
+use Rattle.par_step_laws.specs.par_values.declared.link.Link.TheVariants as link
+use Rattle.par_step_laws.specs.par_values.Areas.{Name}
+use Rattle.par_step_laws.specs.par_values.Operations.{operation}
+use Rattle.par_step_laws.specs.par_link.declared.entry.Builtin.{Builtin}
+use Rattle.par_step_laws.specs.par_link.declared.entry.Builtin.TheVariants as builtin
+use Rattle.par_step_laws.specs.par_link.declared.entry.Named.{Named}
+use Rattle.par_step_laws.specs.par_link.declared.entry.Named.TheVariants as named
+use Rattle.par_step_laws.specs.par_link.Builtins as builtins
+use Rattle.par_step_laws.specs.par_link.Linked.{named_at}
+use Rattle.par_step_laws.specs.par_link.Named.{field_declared, method_declared}
+use Rattle.par_step_laws.specs.par_single.Members.{Member, member_at, text_at, is_initializer}
+use Rattle.par_step_laws.specs.par_single.Members.{is_static}
+use Rattle.par_step_laws.specs.par_single.Links.{kind_said, signature_said}
+use Rattle.par_step_laws.specs.Methods.{class_pool}
+use Rattle.par_step_laws.specs.Links.{link_at}
 use Rattle.par_kinds.specs.declared.frame.VKind.{VKind}
 use Rattle.par_kinds.specs.declared.frame.VKind.TheVariants.{Int as AnInt, Object as AnObject}
 use Rattle.par_kinds.specs.declared.frame.VKind.TheVariants.{Base as ABase}

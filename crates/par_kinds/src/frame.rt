@@ -1,7 +1,7 @@
 //! Kinds of values, and frames of them.
 
-use par_steps::par_pool::par_base::list::List;
-use par_steps::par_pool::par_base::name::Name;
+use par_step_laws::par_pool::par_base::list::List;
+use par_step_laws::par_pool::par_base::name::Name;
 
 /// What kind of value a local or an operand holds. The exception classes that are built in stand
 /// under their simple names.

@@ -9,5 +9,5 @@
 pub mod frame;
 
 pub use frame::{Frame, MethodFrames, PlacedFrame, VKind};
-pub use par_steps;
-pub use par_steps::{par_class, par_link, par_policy, par_single, par_values};
+pub use par_step_laws;
+pub use par_step_laws::{par_class, par_link, par_policy, par_single, par_values};

@@ -1,3 +1,3 @@
 pub mod Joining
 pub mod Firsts
-pub use Rattle.par_placed_frames.proofs.par_frames as par_frames
+pub use Rattle.par_frame_laws.proofs.par_frames as par_frames

@@ -5,8 +5,8 @@ ghost use Rattle.std.specs.Vec.{vec_len};
 ghost use Rattle.par_label_frames.specs.First.{AreFirst};
 ghost use Rattle.par_label_frames.specs.Joined as joined;
 ghost use Rattle.par_label_frames.specs.Joined.{added, joined, HasLabel};
-ghost use Rattle.par_placed_frames.specs.Framed as spec;
-ghost use Rattle.par_placed_frames.specs.Framed.{frames_with};
+ghost use Rattle.par_frame_laws.specs.Framed as spec;
+ghost use Rattle.par_frame_laws.specs.Framed.{frames_with};
 
 use crate::first::{first_places, frame_of};
 use crate::kinds::placed;

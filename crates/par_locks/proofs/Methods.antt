@@ -5,8 +5,8 @@ use Rattle.par_typed.specs.declared.table.Table.{Table}
 use Rattle.par_typed.specs.declared.table.ClassInfo.{ClassInfo}
 use Rattle.par_typed.specs.declared.table.MethodInfo.{MethodInfo}
 use Rattle.par_typed.specs.Plain.{Body}
-use Rattle.par_rules.specs.Declares.{declares, methods_of, method_of}
-use Rattle.par_rules.specs.Ranges.{IsOrderly}
+use Rattle.par_flow_laws.specs.Declares.{declares, methods_of, method_of}
+use Rattle.par_flow_laws.specs.Ranges.{IsOrderly}
 use Rattle.par_verdict.specs.Accepted.{IsOrderlyBody, methods_in}
 
 of_class : (o : Option ClassInfo) (n : ℕ) (m : MethodInfo)

@@ -7,8 +7,8 @@ use Rattle.par_typed.specs.declared.program.TBody.{TBody}
 use Rattle.par_typed.specs.Plain.{Body}
 use Rattle.par_typed.specs.Shown.{body, bodies}
 use Rattle.par_bits.specs.Sets.{Set}
-use Rattle.par_rules.specs.Lattice.{numbers}
-use Rattle.par_rules.specs.Facts.{blank}
+use Rattle.par_flow_laws.specs.Lattice.{numbers}
+use Rattle.par_flow_laws.specs.Facts.{blank}
 use Rattle.par_rounds.specs.par_except.Seen.{may_see}
 use Rattle.par_rounds.specs.declared.fact.Fact.{Fact}
 use Rattle.par_rounds.specs.Seen.{seen_facts}

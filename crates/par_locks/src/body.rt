@@ -3,9 +3,9 @@
 ghost use Rattle.std.specs.Prelude.{◌≡◌, ◌<◌, IfOk, Some, length, slice_get};
 ghost use Rattle.std.specs.Option.{option_copied};
 ghost use Rattle.par_typed.specs.Shown as shown;
-ghost use Rattle.par_rules.specs.Declares.{declares, method_of};
-ghost use Rattle.par_rules.specs.Ranges.{IsOrderly};
-ghost use Rattle.par_rounds.specs.par_pass.Written.{table as by_point};
+ghost use Rattle.par_flow_laws.specs.Declares.{declares, method_of};
+ghost use Rattle.par_flow_laws.specs.Ranges.{IsOrderly};
+ghost use Rattle.par_rounds.specs.par_pass_laws.Written.{table as by_point};
 ghost use Rattle.par_rounds.specs.Seen.{seen_facts, AreRowsWide};
 ghost use Rattle.par_rounds.specs.Bodies.{AreLeastClosed};
 ghost use Rattle.par_verdict.specs.Accepted.{IsOrderlyBody, methods_in};

@@ -5,7 +5,7 @@ ghost use Rattle.std.specs.Option.{option_copied};
 ghost use Rattle.par_typed.specs.Plain.{Body};
 ghost use Rattle.par_typed.specs.Shown as shown;
 ghost use Rattle.par_rounds.specs.par_except.Seen.{may_see};
-ghost use Rattle.par_rounds.specs.par_pass.Written.{table as by_point};
+ghost use Rattle.par_rounds.specs.par_pass_laws.Written.{table as by_point};
 ghost use Rattle.par_rounds.specs.Seen.{seen_facts};
 ghost use Rattle.par_verdict.specs.Accepted.{IsOrderlyBody};
 ghost use Rattle.par_locks.specs.Open.{entering, may_have, open_at, AreOpenOf};

@@ -12,7 +12,7 @@ use Rattle.par_values.specs.Operations.{Operation, Push, Misnamed, operation, co
 use Rattle.par_values.specs.Operations.{of_class}
 use Rattle.par_stack.specs.declared.point.Point.{Point}
 use Rattle.par_stack.specs.Frames.{running}
-use Rattle.par_method_area.specs.par_steps.Links.{link_at}
+use Rattle.par_method_area.specs.par_step_laws.Links.{link_at}
 use Rattle.par_method_area.specs.par_actions.declared.births.Class.{Class}
 use Rattle.par_method_area.specs.declared.known.NamedField.{NamedField}
 use Rattle.par_method_area.specs.Known.{linked_number, KnowsField, IsNamedField, KnowsClass}

@@ -10,11 +10,11 @@ use Rattle.par_values.specs.declared.inputs.ChannelInput.{ChannelInput}
 use Rattle.par_values.specs.Areas.{Objects}
 use Rattle.par_stack.specs.declared.point.Point.{Point}
 use Rattle.par_stack.specs.Frames as stack
-use Rattle.par_method_area.specs.par_steps.Fields.{all_statics}
-use Rattle.par_method_area.specs.par_steps.Methods.{method_code}
-use Rattle.par_method_area.specs.par_steps.State.{Frame, State, entered, main_place, start}
-use Rattle.par_method_area.specs.par_steps.State.{frame_of, whole_inputs}
-use Rattle.par_method_area.specs.par_steps.State.{no_objects}
+use Rattle.par_method_area.specs.par_step_laws.Fields.{all_statics}
+use Rattle.par_method_area.specs.par_step_laws.Methods.{method_code}
+use Rattle.par_method_area.specs.par_step_laws.State.{Frame, State, entered, main_place, start}
+use Rattle.par_method_area.specs.par_step_laws.State.{frame_of, whole_inputs}
+use Rattle.par_method_area.specs.par_step_laws.State.{no_objects}
 use Rattle.par_machine.specs.Frames.{are_sound}
 use Rattle.par_machine.specs.Objects.{count_classes, objects_in, AreObjects}
 use Rattle.par_machine.specs.Running.{state_in}

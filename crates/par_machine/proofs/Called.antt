@@ -30,14 +30,15 @@ use Rattle.par_method_area.specs.par_link.declared.entry.Builtin.TheVariants as 
 use Rattle.par_method_area.specs.par_link.declared.entry.Named.{Named}
 use Rattle.par_method_area.specs.par_link.declared.entry.Named.TheVariants as named
 use Rattle.par_method_area.specs.par_link.Linked.{named_at}
-use Rattle.par_method_area.specs.par_steps.Classes.{exceptions}
-use Rattle.par_method_area.specs.par_steps.Links.{link_of, link_at, number_or, class_link, field_in}
-use Rattle.par_method_area.specs.par_steps.Links.{field_link}
-use Rattle.par_method_area.specs.par_steps.Links.{method_in, method_link, initializer_link}
-use Rattle.par_method_area.specs.par_steps.Links.{channel_of}
-use Rattle.par_method_area.specs.par_steps.Methods.{class_pool}
-use Rattle.par_method_area.specs.par_steps.State.{whole_inputs}
-use Rattle.par_method_area.specs.par_steps.Step.{is_no_exception}
+use Rattle.par_method_area.specs.par_step_laws.Classes.{exceptions}
+use Rattle.par_method_area.specs.par_step_laws.Links.{link_of, link_at, number_or, class_link}
+use Rattle.par_method_area.specs.par_step_laws.Links.{field_in}
+use Rattle.par_method_area.specs.par_step_laws.Links.{field_link}
+use Rattle.par_method_area.specs.par_step_laws.Links.{method_in, method_link, initializer_link}
+use Rattle.par_method_area.specs.par_step_laws.Links.{channel_of}
+use Rattle.par_method_area.specs.par_step_laws.Methods.{class_pool}
+use Rattle.par_method_area.specs.par_step_laws.State.{whole_inputs}
+use Rattle.par_method_area.specs.par_step_laws.Step.{is_no_exception}
 use Rattle.par_method_area.specs.par_actions.declared.callee.Callee.{Callee}
 use Rattle.par_method_area.specs.par_actions.Calls.{is_misreceived}
 use Rattle.par_lines.specs.Lines.{AreLeft}

@@ -7,11 +7,11 @@ use Rattle.par_values.specs.Areas.{Areas, Objects, InputLists}
 use Rattle.par_values.specs.Effects.{Effect, effect}
 use Rattle.par_values.specs.Reasons.{reason}
 use Rattle.par_single.specs.Walk.{starts_at, stands_at}
-use Rattle.par_method_area.specs.par_steps.Classes.{class_names}
-use Rattle.par_method_area.specs.par_steps.Links.{link_at}
-use Rattle.par_method_area.specs.par_steps.State.{State, whole_inputs}
-use Rattle.par_method_area.specs.par_steps.Step.{is_misreceived, called_on_object, or_2, moved}
-use Rattle.par_method_area.specs.par_steps.Step.{state_with}
+use Rattle.par_method_area.specs.par_step_laws.Classes.{class_names}
+use Rattle.par_method_area.specs.par_step_laws.Links.{link_at}
+use Rattle.par_method_area.specs.par_step_laws.State.{State, whole_inputs}
+use Rattle.par_method_area.specs.par_step_laws.Step.{is_misreceived, called_on_object, or_2, moved}
+use Rattle.par_method_area.specs.par_step_laws.Step.{state_with}
 use Rattle.par_stack.specs.declared.point.Point.{Point}
 use Rattle.par_stack.specs.Frames as stack
 use Rattle.par_stack.specs.Frames.{running, waiting}

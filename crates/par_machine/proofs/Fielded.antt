@@ -23,9 +23,9 @@ use Rattle.par_values.specs.Effects.{Effect, Goes, Happens, Jumps, ThrowsObject,
 use Rattle.par_values.specs.Effects.{effect, field_written}
 use Rattle.par_values.specs.Reasons.{Spot, reason}
 use Rattle.par_heap.specs.Heap as heap
-use Rattle.par_method_area.specs.par_steps.Classes.{class_names}
-use Rattle.par_method_area.specs.par_steps.State.{whole_inputs}
-use Rattle.par_method_area.specs.par_steps.Step.{is_misreceived, called_on_object, or_2}
+use Rattle.par_method_area.specs.par_step_laws.Classes.{class_names}
+use Rattle.par_method_area.specs.par_step_laws.State.{whole_inputs}
+use Rattle.par_method_area.specs.par_step_laws.Step.{is_misreceived, called_on_object, or_2}
 use Rattle.par_stack.specs.Frames as stack
 use Rattle.par_stack.specs.Frames.{running, waiting}
 use Rattle.par_method_area.specs.par_actions.declared.done.Done.{Done}

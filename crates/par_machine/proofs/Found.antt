@@ -9,10 +9,11 @@ use Rattle.par_class.specs.declared.file.MethodFile.{MethodFile}
 use Rattle.par_instr.specs.Decoding.{Decoded, decoded, decoded_at}
 use Rattle.par_stack.specs.declared.point.Point.{Point}
 use Rattle.par_stack.specs.Frames.{Frame, running}
-use Rattle.par_method_area.specs.par_steps.Methods.{code_or_none, code_in, method_code, method_file}
-use Rattle.par_method_area.specs.par_steps.State.{State}
-use Rattle.par_method_area.specs.par_steps.Step as plain
-use Rattle.par_method_area.specs.par_steps.Step.{turn}
+use Rattle.par_method_area.specs.par_step_laws.Methods.{code_or_none, code_in, method_code}
+use Rattle.par_method_area.specs.par_step_laws.Methods.{method_file}
+use Rattle.par_method_area.specs.par_step_laws.State.{State}
+use Rattle.par_method_area.specs.par_step_laws.Step as plain
+use Rattle.par_method_area.specs.par_step_laws.Step.{turn}
 use Rattle.par_method_area.specs.Area.{Area}
 use Rattle.par_method_area.specs.Known.{code_at, IsCode, KnowsCode}
 use Rattle.par_method_area.specs.declared.known.Code.{Code}

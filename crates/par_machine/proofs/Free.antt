@@ -7,7 +7,7 @@ use Rattle.par_values.specs.Effects.{effect}
 use Rattle.par_values.specs.Reasons.{Spot, lacks, misgiven, unfit, throws, exceeds, misplaced}
 use Rattle.par_values.specs.Reasons.{falls, misnamed, disagrees, misreturns, misused, least_from}
 use Rattle.par_values.specs.Reasons.{reason}
-use Rattle.par_method_area.specs.par_steps.Step.{or_2}
+use Rattle.par_method_area.specs.par_step_laws.Step.{or_2}
 
 pub record IsFree (classes : List Name) (spot : Spot) (o : Operation) (a : Areas) : Type 0 where
   pub lacks : lacks o a ≡ false

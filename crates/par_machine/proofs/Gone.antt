@@ -10,14 +10,15 @@ use Rattle.par_values.specs.Operations.{operation}
 use Rattle.par_stack.specs.declared.point.Point.{Point}
 use Rattle.par_stack.specs.Frames as stack
 use Rattle.par_stack.specs.Frames.{running, with_running, at_offset}
-use Rattle.par_method_area.specs.par_steps.Classes.{class_names, exception_named}
-use Rattle.par_method_area.specs.par_steps.Links.{link_at}
-use Rattle.par_method_area.specs.par_steps.State.{Frame, State}
-use Rattle.par_method_area.specs.par_steps.Step.{Turn, Silent, Shows, turn_at, areas_of, done_by}
-use Rattle.par_method_area.specs.par_steps.Step.{spot}
-use Rattle.par_method_area.specs.par_steps.Step.{reason_against, decided, applied, moved}
-use Rattle.par_method_area.specs.par_steps.Step.{state_with, offset}
-use Rattle.par_method_area.specs.par_steps.Step.{handlers, thrown_class}
+use Rattle.par_method_area.specs.par_step_laws.Classes.{class_names, exception_named}
+use Rattle.par_method_area.specs.par_step_laws.Links.{link_at}
+use Rattle.par_method_area.specs.par_step_laws.State.{Frame, State}
+use Rattle.par_method_area.specs.par_step_laws.Step.{Turn, Silent, Shows, turn_at, areas_of}
+use Rattle.par_method_area.specs.par_step_laws.Step.{done_by}
+use Rattle.par_method_area.specs.par_step_laws.Step.{spot}
+use Rattle.par_method_area.specs.par_step_laws.Step.{reason_against, decided, applied, moved}
+use Rattle.par_method_area.specs.par_step_laws.Step.{state_with, offset}
+use Rattle.par_method_area.specs.par_step_laws.Step.{handlers, thrown_class}
 use Rattle.par_method_area.specs.par_actions.declared.done.Done.{Done}
 use Rattle.par_method_area.specs.par_actions.declared.done.Done.TheVariants as done
 use Rattle.par_method_area.specs.par_actions.Done.{IsDone, thrown_reason, distance}

@@ -9,9 +9,9 @@ use Rattle.par_values.specs.declared.value.MVal.{MVal}
 use Rattle.par_values.specs.declared.run.Event.{Event}
 use Rattle.par_stack.specs.Frames as stack
 use Rattle.par_stack.specs.Frames.{running, with_running, at_offset}
-use Rattle.par_method_area.specs.par_steps.Classes.{exception_named}
-use Rattle.par_method_area.specs.par_steps.Step as plain
-use Rattle.par_method_area.specs.par_steps.Step.{offset}
+use Rattle.par_method_area.specs.par_step_laws.Classes.{exception_named}
+use Rattle.par_method_area.specs.par_step_laws.Step as plain
+use Rattle.par_method_area.specs.par_step_laws.Step.{offset}
 use Rattle.par_method_area.specs.par_actions.declared.done.Done.{Done}
 use Rattle.par_method_area.specs.par_actions.declared.done.Done.TheVariants as done
 use Rattle.par_method_area.specs.par_actions.Done.{is_still}

@@ -16,12 +16,13 @@ use Rattle.par_values.specs.Operations.{Operation, Misnamed, takes, gives}
 use Rattle.par_values.specs.Reasons.{reason, exceeds}
 use Rattle.par_method_area.specs.par_link.declared.entry.Named.{Named}
 use Rattle.par_method_area.specs.par_link.Linked.{named_at}
-use Rattle.par_method_area.specs.par_steps.Classes.{class_names, exceptions}
-use Rattle.par_method_area.specs.par_steps.Links.{link_at}
-use Rattle.par_method_area.specs.par_steps.State.{Frame, State, entered}
-use Rattle.par_method_area.specs.par_steps.Step.{is_misreceived, is_no_exception, called_on_object}
-use Rattle.par_method_area.specs.par_steps.Step.{or_2, moved}
-use Rattle.par_method_area.specs.par_steps.Step.{state_with}
+use Rattle.par_method_area.specs.par_step_laws.Classes.{class_names, exceptions}
+use Rattle.par_method_area.specs.par_step_laws.Links.{link_at}
+use Rattle.par_method_area.specs.par_step_laws.State.{Frame, State, entered}
+use Rattle.par_method_area.specs.par_step_laws.Step.{is_misreceived, is_no_exception}
+use Rattle.par_method_area.specs.par_step_laws.Step.{called_on_object}
+use Rattle.par_method_area.specs.par_step_laws.Step.{or_2, moved}
+use Rattle.par_method_area.specs.par_step_laws.Step.{state_with}
 use Rattle.par_stack.specs.declared.point.Point.{Point}
 use Rattle.par_stack.specs.Frames as stack
 use Rattle.par_stack.specs.Frames.{running, waiting}

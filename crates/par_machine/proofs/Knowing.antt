@@ -33,12 +33,12 @@ use Rattle.par_values.specs.Operations.{operation}
 use Rattle.par_values.specs.Reasons.{falls, misreturns, misused}
 use Rattle.par_stack.specs.declared.point.Point.{Point}
 use Rattle.par_stack.specs.Frames.{running}
-use Rattle.par_method_area.specs.par_steps.Classes.{class_names, exceptions}
-use Rattle.par_method_area.specs.par_steps.Handlers.{is_lost, is_roomless}
-use Rattle.par_method_area.specs.par_steps.Links.{link_at}
-use Rattle.par_method_area.specs.par_steps.Methods.{method_descriptor}
-use Rattle.par_method_area.specs.par_steps.Step.{next_of, offset, handlers, number_of_class}
-use Rattle.par_method_area.specs.par_steps.Step.{thrown_class}
+use Rattle.par_method_area.specs.par_step_laws.Classes.{class_names, exceptions}
+use Rattle.par_method_area.specs.par_step_laws.Handlers.{is_lost, is_roomless}
+use Rattle.par_method_area.specs.par_step_laws.Links.{link_at}
+use Rattle.par_method_area.specs.par_step_laws.Methods.{method_descriptor}
+use Rattle.par_method_area.specs.par_step_laws.Step.{next_of, offset, handlers, number_of_class}
+use Rattle.par_method_area.specs.par_step_laws.Step.{thrown_class}
 use Rattle.par_machine.specs.Frames.{code_of, gives}
 use Rattle.par_starts.specs.Standing.{reach_of}
 use Rattle.par_machine.specs.Instructions.{index_of}
@@ -54,7 +54,7 @@ use Rattle.par_machine.proofs.Within.{stand_within}
 use Rattle.par_machine.proofs.Effected.{callee_of, IsEventOf, IsEffectOf, effect_of}
 use Rattle.par_machine.proofs.Linking.{IsLinkOf}
 use Rattle.par_machine.specs.Site.{IsMade, IsOutput, is_object}
-use Rattle.par_method_area.specs.par_steps.Classes.{is_exception, exceptions_from}
+use Rattle.par_method_area.specs.par_step_laws.Classes.{is_exception, exceptions_from}
 
 -- whether an operation writes a field
 abbrev pub is_write : Operation → Bool

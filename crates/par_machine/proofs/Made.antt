@@ -31,12 +31,12 @@ use Rattle.par_method_area.specs.par_link.declared.entry.Builtin.TheVariants as 
 use Rattle.par_method_area.specs.par_link.declared.entry.Named.{Named}
 use Rattle.par_method_area.specs.par_link.declared.entry.Named.TheVariants as named
 use Rattle.par_method_area.specs.par_link.Linked.{named_at}
-use Rattle.par_method_area.specs.par_steps.Classes.{class_names}
-use Rattle.par_method_area.specs.par_steps.Links.{class_link, field_link, field_in, method_link}
-use Rattle.par_method_area.specs.par_steps.Links.{method_in}
-use Rattle.par_method_area.specs.par_steps.Links.{builtin_class, builtin_initializer, link_of}
-use Rattle.par_method_area.specs.par_steps.Links.{number_or, link_at}
-use Rattle.par_method_area.specs.par_steps.Methods.{class_pool}
+use Rattle.par_method_area.specs.par_step_laws.Classes.{class_names}
+use Rattle.par_method_area.specs.par_step_laws.Links.{class_link, field_link, field_in, method_link}
+use Rattle.par_method_area.specs.par_step_laws.Links.{method_in}
+use Rattle.par_method_area.specs.par_step_laws.Links.{builtin_class, builtin_initializer, link_of}
+use Rattle.par_method_area.specs.par_step_laws.Links.{number_or, link_at}
+use Rattle.par_method_area.specs.par_step_laws.Methods.{class_pool}
 use Rattle.par_stack.specs.Frames as stack
 use Rattle.par_stack.specs.Frames.{running}
 use Rattle.par_method_area.specs.par_actions.declared.births.Class.{Class}

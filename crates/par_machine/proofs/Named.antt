@@ -11,9 +11,9 @@ use Rattle.par_method_area.specs.declared.known.MemberNames.{MemberNames}
 use Rattle.par_method_area.specs.Known.{AreNames, KnowsNames, KnowsClass}
 use Rattle.par_method_area.specs.par_actions.declared.births.Class.{Class}
 use Rattle.par_values.specs.declared.link.ClassLink.{ClassLink}
-use Rattle.par_method_area.specs.par_steps.Classes.{class_names}
+use Rattle.par_method_area.specs.par_step_laws.Classes.{class_names}
 use Rattle.par_class.specs.declared.file.ClassFile.{ClassFile}
-use Rattle.par_method_area.specs.par_steps.Links.{link_at}
+use Rattle.par_method_area.specs.par_step_laws.Links.{link_at}
 use Rattle.par_machine.specs.Instructions.{index_of}
 use Rattle.par_machine.specs.Site.{IsOutput, IsMade, named_by}
 use Rattle.par_machine.specs.declared.site.Site.{Site}

@@ -7,10 +7,10 @@ use Rattle.par_instr.specs.declared.instr.Instr.TheVariants as instr
 use Rattle.par_class.specs.declared.file.ClassFile.{ClassFile}
 use Rattle.par_values.specs.declared.link.Link.{Link}
 use Rattle.par_values.specs.Operations.{operation}
-use Rattle.par_method_area.specs.par_steps.Links.{link_at}
-use Rattle.par_method_area.specs.par_steps.Step.{called_on_object}
-use Rattle.par_method_area.specs.par_steps.Classes.{class_names}
-use Rattle.par_method_area.specs.par_steps.Methods.{method_descriptor}
+use Rattle.par_method_area.specs.par_step_laws.Links.{link_at}
+use Rattle.par_method_area.specs.par_step_laws.Step.{called_on_object}
+use Rattle.par_method_area.specs.par_step_laws.Classes.{class_names}
+use Rattle.par_method_area.specs.par_step_laws.Methods.{method_descriptor}
 use Rattle.par_single.specs.Links.{kind_or_any, signature_said}
 use Rattle.par_single.specs.Walk.{stands_at}
 use Rattle.par_stack.specs.declared.point.Point.{Point}

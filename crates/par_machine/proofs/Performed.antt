@@ -18,9 +18,9 @@ use Rattle.par_instr.specs.declared.instr.Instr.{Instr}
 use Rattle.par_values.specs.declared.kind.Kind.{Kind}
 use Rattle.par_values.specs.Operations.{Operation, Misnamed}
 use Rattle.par_values.specs.Effects.{effect}
-use Rattle.par_method_area.specs.par_steps.Classes.{class_names}
-use Rattle.par_method_area.specs.par_steps.Links.{link_at}
-use Rattle.par_method_area.specs.par_steps.Step.{is_misreceived, called_on_object}
+use Rattle.par_method_area.specs.par_step_laws.Classes.{class_names}
+use Rattle.par_method_area.specs.par_step_laws.Links.{link_at}
+use Rattle.par_method_area.specs.par_step_laws.Step.{is_misreceived, called_on_object}
 use Rattle.par_machine.specs.Site.{areas_at, operation_at, does, spot_of}
 use Rattle.par_machine.proofs.Coming.{came}
 use Rattle.par_machine.proofs.Effected.{effect_of}

@@ -8,7 +8,7 @@ use Rattle.par_class.specs.declared.file.ClassFile.{ClassFile}
 use Rattle.par_values.specs.declared.value.MVal.{MVal}
 use Rattle.par_stack.specs.Frames as stack
 use Rattle.par_unwinding.specs.Shown.{frame_of, frames_of}
-use Rattle.par_method_area.specs.par_steps.Places as places
+use Rattle.par_method_area.specs.par_step_laws.Places as places
 use Rattle.par_machine.specs.Frames.{code_of, are_sound, Stands}
 use Rattle.par_machine.proofs.Sound.{first_stands, rest}
 

@@ -23,13 +23,13 @@ use Rattle.par_values.specs.Operations.{Create, operation, constant, of_field}
 use Rattle.par_stack.specs.declared.point.Point.{Point}
 use Rattle.par_stack.specs.Frames as stack
 use Rattle.par_stack.specs.Frames.{running, with_running, at_offset}
-use Rattle.par_method_area.specs.par_steps.Classes.{class_names}
+use Rattle.par_method_area.specs.par_step_laws.Classes.{class_names}
 use Rattle.par_starts.specs.declared.instructions.Standing.{Standing}
 use Rattle.par_starts.specs.Standing.{reach_of, KnowsStanding}
-use Rattle.par_method_area.specs.par_steps.Links.{link_at}
-use Rattle.par_method_area.specs.par_steps.State.{State}
-use Rattle.par_method_area.specs.par_steps.Step as plain
-use Rattle.par_method_area.specs.par_steps.Step.{turn, offset}
+use Rattle.par_method_area.specs.par_step_laws.Links.{link_at}
+use Rattle.par_method_area.specs.par_step_laws.State.{State}
+use Rattle.par_method_area.specs.par_step_laws.Step as plain
+use Rattle.par_method_area.specs.par_step_laws.Step.{turn, offset}
 use Rattle.par_method_area.specs.par_actions.declared.done.Done.{Done}
 use Rattle.par_method_area.specs.par_actions.declared.done.Done.TheVariants as done
 use Rattle.par_method_area.specs.Area.{Area}

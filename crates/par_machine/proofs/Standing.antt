@@ -18,7 +18,7 @@ use Rattle.par_values.specs.Operations.{PutField, InvokeStatic, InvokeSpecial, I
 use Rattle.par_values.specs.Operations.{operation, constant, of_field, of_method, of_class}
 use Rattle.par_values.specs.Effects.{Effect, Goes, Happens, Jumps, Calls, Throws, ThrowsObject}
 use Rattle.par_values.specs.Effects.{Returns, ReturnsWith}
-use Rattle.par_method_area.specs.par_steps.Step.{without_locks, unless_lock, next_of}
+use Rattle.par_method_area.specs.par_step_laws.Step.{without_locks, unless_lock, next_of}
 use Rattle.par_single.specs.Walk.{starts_at, stands_at}
 use Rattle.par_method_area.specs.par_actions.declared.done.Ways.{Ways}
 use Rattle.par_method_area.specs.par_actions.Done.{distance, way_of}

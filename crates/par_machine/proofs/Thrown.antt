@@ -13,12 +13,12 @@ use Rattle.par_heap.specs.Heap as heap
 use Rattle.par_stack.specs.declared.point.Point.{Point}
 use Rattle.par_stack.specs.Frames as stack
 use Rattle.par_stack.specs.Frames.{running, waiting, with_running, left_with}
-use Rattle.par_method_area.specs.par_steps.Classes.{class_names, exceptions}
-use Rattle.par_method_area.specs.par_steps.Handlers.{caught, is_lost, is_roomless}
-use Rattle.par_method_area.specs.par_steps.State.{Frame, State, whole_inputs, entered}
-use Rattle.par_method_area.specs.par_steps.Step.{Turn, Silent, spot, handlers, number_of_class}
-use Rattle.par_method_area.specs.par_steps.Step.{throws, thrown_to}
-use Rattle.par_method_area.specs.par_steps.Step.{throws_next, state_with}
+use Rattle.par_method_area.specs.par_step_laws.Classes.{class_names, exceptions}
+use Rattle.par_method_area.specs.par_step_laws.Handlers.{caught, is_lost, is_roomless}
+use Rattle.par_method_area.specs.par_step_laws.State.{Frame, State, whole_inputs, entered}
+use Rattle.par_method_area.specs.par_step_laws.Step.{Turn, Silent, spot, handlers, number_of_class}
+use Rattle.par_method_area.specs.par_step_laws.Step.{throws, thrown_to}
+use Rattle.par_method_area.specs.par_step_laws.Step.{throws_next, state_with}
 use Rattle.par_method_area.specs.par_actions.Done.{lesser}
 use Rattle.par_method_area.specs.par_actions.Leaving.{KnowsExceptions}
 use Rattle.par_unwinding.specs.Shown.{frame_of, frames_of}

@@ -21,9 +21,9 @@ use Rattle.par_values.specs.Operations.{Operation, PutStatic, PutField, InvokeSt
 use Rattle.par_values.specs.Operations.{InvokeVirtual, Create, operation}
 use Rattle.par_stack.specs.declared.point.Point.{Point}
 use Rattle.par_stack.specs.Frames.{running}
-use Rattle.par_method_area.specs.par_steps.Classes.{class_names}
-use Rattle.par_method_area.specs.par_steps.Links.{link_at}
-use Rattle.par_method_area.specs.par_steps.Step.{without_locks}
+use Rattle.par_method_area.specs.par_step_laws.Classes.{class_names}
+use Rattle.par_method_area.specs.par_step_laws.Links.{link_at}
+use Rattle.par_method_area.specs.par_step_laws.Step.{without_locks}
 use Rattle.par_method_area.specs.par_actions.declared.done.Done.TheVariants as done
 use Rattle.par_method_area.specs.par_actions.Done.{set_event, put_event, born_event, out_event}
 use Rattle.par_method_area.specs.par_actions.Done.{out_by, target_of}

@@ -3,11 +3,11 @@ use Rattle.std.proofs.Common.{◌≡◌, List, ◌∷◌, Option, Some, None, ap
 use Rattle.par_instr.specs.Decoding.{Decoded, decoded_at}
 use Rattle.par_class.specs.declared.file.ClassFile.{ClassFile}
 use Rattle.par_values.specs.Effects.{Effect}
-use Rattle.par_method_area.specs.par_steps.Methods.{method_code}
-use Rattle.par_method_area.specs.par_steps.State.{Frame, State}
-use Rattle.par_method_area.specs.par_steps.Step.{turn, turn_of, turn_at, areas_of, done_by}
-use Rattle.par_method_area.specs.par_steps.Step.{reason_against, decided}
-use Rattle.par_method_area.specs.par_steps.Step.{applied}
+use Rattle.par_method_area.specs.par_step_laws.Methods.{method_code}
+use Rattle.par_method_area.specs.par_step_laws.State.{Frame, State}
+use Rattle.par_method_area.specs.par_step_laws.Step.{turn, turn_of, turn_at, areas_of, done_by}
+use Rattle.par_method_area.specs.par_step_laws.Step.{reason_against, decided}
+use Rattle.par_method_area.specs.par_step_laws.Step.{applied}
 
 module _ (files : List ClassFile) (f : Frame) (frames : List Frame) (s : State) where
   -- where the frame stands, an instruction is found or is not

@@ -12,7 +12,7 @@ use Rattle.par_values.specs.declared.kind.Kind.TheVariants as kind
 use Rattle.par_values.specs.Areas.{Name, Areas, class_named, name_or_none, fits, shown_value}
 use Rattle.par_values.specs.Areas.{operand}
 use Rattle.par_values.specs.Reasons.{all_fit}
-use Rattle.par_method_area.specs.par_steps.Classes.{class_names}
+use Rattle.par_method_area.specs.par_step_laws.Classes.{class_names}
 use Rattle.par_method_area.specs.Known.{IsTold}
 use Rattle.par_method_area.proofs.Numbered.{many}
 use Rattle.par_machine.specs.Site.{HasName}

@@ -3,7 +3,7 @@ use Rattle.std.proofs.Common.{◌≡◌, ℕ, zero, suc, ◌<◌, ◌≤◌, ℤ
 use Rattle.std.proofs.Common.{◌∷◌, length, Option, Some, None, arith}
 use Rattle.par_instr.specs.Spelling.{operand_bytes}
 use Rattle.par_single.specs.Walk.{if_listed, starts_after, starts_at, stands_at}
-use Rattle.par_method_area.specs.par_steps.Step.{offset}
+use Rattle.par_method_area.specs.par_step_laws.Step.{offset}
 
 listed : (test : ℕ → Bool) (operands : Option ℕ) → if_listed test operands ≡ true
     → (n : ℕ) × (test n ≡ true)

@@ -6,8 +6,8 @@ use Rattle.par_stack.specs.Frames as stack
 use Rattle.par_values.specs.Areas.{Name, Areas}
 use Rattle.par_values.specs.Operations.{operation}
 use Rattle.par_values.specs.Reasons.{Spot}
-use Rattle.par_method_area.specs.par_steps.Classes.{class_names}
-use Rattle.par_method_area.specs.par_steps.Links.{link_at}
+use Rattle.par_method_area.specs.par_step_laws.Classes.{class_names}
+use Rattle.par_method_area.specs.par_step_laws.Links.{link_at}
 use Rattle.par_method_area.specs.par_actions.declared.done.Done.{Done}
 use Rattle.par_method_area.specs.par_actions.Done.{IsAt, Comes, Keeps, is_still}
 use Rattle.par_method_area.specs.Area.{Area}

@@ -14,9 +14,10 @@ use Rattle.par_values.specs.Areas.{Name, Areas, shown_value, operand}
 use Rattle.par_values.specs.Operations.{PutStatic, Misnamed}
 use Rattle.par_values.specs.Effects.{Effect, Goes, Happens, effect}
 use Rattle.par_values.specs.Reasons.{Spot, reason}
-use Rattle.par_method_area.specs.par_steps.Classes.{class_names}
-use Rattle.par_method_area.specs.par_steps.Step.{without_locks, is_misreceived, called_on_object}
-use Rattle.par_method_area.specs.par_steps.Step.{or_2}
+use Rattle.par_method_area.specs.par_step_laws.Classes.{class_names}
+use Rattle.par_method_area.specs.par_step_laws.Step.{without_locks, is_misreceived}
+use Rattle.par_method_area.specs.par_step_laws.Step.{called_on_object}
+use Rattle.par_method_area.specs.par_step_laws.Step.{or_2}
 use Rattle.par_stack.specs.Frames as stack
 use Rattle.par_stack.specs.Frames.{running, waiting}
 use Rattle.par_method_area.specs.par_actions.declared.done.Done.{Done}

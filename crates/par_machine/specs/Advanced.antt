@@ -5,7 +5,7 @@ use Rattle.par_heap.specs.Heap.{objects_of}
 use Rattle.par_instr.specs.Decoding.{decoded_at}
 use Rattle.par_class.specs.declared.file.ClassFile.{ClassFile}
 use Rattle.par_stack.specs.Frames.{running}
-use Rattle.par_method_area.specs.par_steps.Step as plain
+use Rattle.par_method_area.specs.par_step_laws.Step as plain
 use Rattle.par_method_area.specs.Area.{Area}
 use Rattle.par_machine.specs.Frames.{code_of}
 use Rattle.par_machine.specs.Running.{state_in, IsSound}

@@ -4,7 +4,7 @@ use Rattle.std.specs.Prelude.{List, [], ◌∷◌, length, is_some}
 use Rattle.par_class.specs.declared.file.ClassFile.{ClassFile}
 use Rattle.par_class.specs.declared.file.CodeAttr.{CodeAttr}
 use Rattle.par_single.specs.Links.{signature_said}
-use Rattle.par_method_area.specs.par_steps.Methods.{method_code, method_descriptor}
+use Rattle.par_method_area.specs.par_step_laws.Methods.{method_code, method_descriptor}
 use Rattle.par_stack.specs.declared.point.Point.{Point}
 use Rattle.par_stack.specs.Frames.{Frame}
 

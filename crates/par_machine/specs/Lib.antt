@@ -9,4 +9,4 @@ pub mod Settled
 pub mod Advanced
 pub mod Quiet
 pub mod Machine
-pub use Rattle.par_method_area.specs.par_steps as par_steps
+pub use Rattle.par_method_area.specs.par_step_laws as par_step_laws

@@ -1,7 +1,7 @@
 -- A machine as what it runs, where it stands, and how many instructions it has run.
 use Rattle.std.specs.Prelude.{ℕ, Bool, List}
 use Rattle.par_class.specs.declared.file.ClassFile.{ClassFile}
-use Rattle.par_method_area.specs.par_steps.State.{State}
+use Rattle.par_method_area.specs.par_step_laws.State.{State}
 use Rattle.par_machine.specs.Advanced.{is_asking}
 use Rattle.par_machine.specs.Running.{state_in}
 use Rattle.par_machine.specs.declared.machine.Machine.{Machine}

@@ -6,7 +6,7 @@ use Rattle.par_class.specs.declared.file.ClassFile.{ClassFile}
 use Rattle.par_values.specs.declared.kind.Kind.{Kind}
 use Rattle.par_values.specs.Areas.{Objects}
 use Rattle.par_heap.specs.Heap as heap
-use Rattle.par_method_area.specs.par_steps.Fields.{object_kinds}
+use Rattle.par_method_area.specs.par_step_laws.Fields.{object_kinds}
 
 unfoldable pub objects_in : ℕ → heap.Objects → Objects
 objects_in zero held = []

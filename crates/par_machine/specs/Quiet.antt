@@ -9,9 +9,9 @@ use Rattle.par_starts.specs.declared.instructions.Standing.{Standing}
 use Rattle.par_starts.specs.Standing.{KnowsStanding}
 use Rattle.par_stack.specs.declared.point.Point.{Point}
 use Rattle.par_stack.specs.Frames.{running}
-use Rattle.par_method_area.specs.par_steps.State.{State}
-use Rattle.par_method_area.specs.par_steps.Step as plain
-use Rattle.par_method_area.specs.par_steps.Step.{turn}
+use Rattle.par_method_area.specs.par_step_laws.State.{State}
+use Rattle.par_method_area.specs.par_step_laws.Step as plain
+use Rattle.par_method_area.specs.par_step_laws.Step.{turn}
 use Rattle.par_method_area.specs.Area.{Area}
 use Rattle.par_machine.specs.Frames.{code_of}
 use Rattle.par_machine.specs.Running.{state_in, IsSound}

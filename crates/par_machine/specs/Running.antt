@@ -3,7 +3,7 @@ use Rattle.std.specs.Prelude.{◌≡◌, true, List, ◌∷◌}
 use Rattle.par_class.specs.declared.file.ClassFile.{ClassFile}
 use Rattle.par_lines.specs.Lines.{channels_of}
 use Rattle.par_stack.specs.Frames.{running, waiting}
-use Rattle.par_method_area.specs.par_steps.State.{Frame, State, whole_inputs}
+use Rattle.par_method_area.specs.par_step_laws.State.{Frame, State, whole_inputs}
 use Rattle.par_unwinding.specs.Shown.{frame_of, frames_of}
 use Rattle.par_method_area.specs.Area.{Area, KnowsLines}
 use Rattle.par_machine.specs.Frames.{are_sound}

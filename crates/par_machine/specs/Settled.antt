@@ -5,9 +5,9 @@ use Rattle.par_class.specs.declared.file.ClassFile.{ClassFile}
 use Rattle.par_heap.specs.Heap.{objects_of}
 use Rattle.par_values.specs.declared.run.Event.{Event}
 use Rattle.par_values.specs.Effects.{Happens}
-use Rattle.par_method_area.specs.par_steps.State.{Frame, State}
-use Rattle.par_method_area.specs.par_steps.Step as plain
-use Rattle.par_method_area.specs.par_steps.Step.{turn_at}
+use Rattle.par_method_area.specs.par_step_laws.State.{Frame, State}
+use Rattle.par_method_area.specs.par_step_laws.Step as plain
+use Rattle.par_method_area.specs.par_step_laws.Step.{turn_at}
 use Rattle.par_method_area.specs.par_actions.declared.done.Done.{Done}
 use Rattle.par_method_area.specs.par_actions.declared.done.Done.TheVariants as done
 use Rattle.par_method_area.specs.par_actions.Done.{is_still}

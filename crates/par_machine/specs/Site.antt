@@ -15,11 +15,11 @@ use Rattle.par_values.specs.Effects.{Effect, Calls}
 use Rattle.par_values.specs.Operations.{Operation, operation}
 use Rattle.par_values.specs.Reasons.{Spot, is_of}
 use Rattle.par_stack.specs.Frames.{running}
-use Rattle.par_method_area.specs.par_steps.Classes.{class_names, exceptions}
-use Rattle.par_method_area.specs.par_steps.Links.{link_at}
-use Rattle.par_method_area.specs.par_steps.State.{entered}
-use Rattle.par_method_area.specs.par_steps.Step.{areas_of, done_by, spot, reason_against, moved}
-use Rattle.par_method_area.specs.par_steps.Step.{state_with, offset}
+use Rattle.par_method_area.specs.par_step_laws.Classes.{class_names, exceptions}
+use Rattle.par_method_area.specs.par_step_laws.Links.{link_at}
+use Rattle.par_method_area.specs.par_step_laws.State.{entered}
+use Rattle.par_method_area.specs.par_step_laws.Step.{areas_of, done_by, spot, reason_against, moved}
+use Rattle.par_method_area.specs.par_step_laws.Step.{state_with, offset}
 use Rattle.par_method_area.specs.par_actions.declared.done.Done.{Done}
 use Rattle.par_method_area.specs.par_actions.declared.done.Done.TheVariants as done
 use Rattle.par_method_area.specs.par_actions.Done.{IsDone, is_still}

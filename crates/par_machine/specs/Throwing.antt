@@ -4,13 +4,13 @@ use Rattle.par_class.specs.declared.file.ClassFile.{ClassFile}
 use Rattle.par_values.specs.declared.value.MVal.{MVal}
 use Rattle.par_values.specs.Areas.{Areas, class_named}
 use Rattle.par_values.specs.Effects.{ThrowsObject}
-use Rattle.par_method_area.specs.par_steps.Classes.{class_names}
-use Rattle.par_method_area.specs.par_steps.Handlers.{caught, is_lost, is_roomless}
-use Rattle.par_method_area.specs.par_steps.Methods.{method_name}
-use Rattle.par_method_area.specs.par_steps.State.{Frame}
-use Rattle.par_method_area.specs.par_steps.Step.{Turn, IsBad, handlers, number_of_class}
-use Rattle.par_method_area.specs.par_steps.Step.{thrown_class, throws}
-use Rattle.par_method_area.specs.par_steps.Step.{throws_next}
+use Rattle.par_method_area.specs.par_step_laws.Classes.{class_names}
+use Rattle.par_method_area.specs.par_step_laws.Handlers.{caught, is_lost, is_roomless}
+use Rattle.par_method_area.specs.par_step_laws.Methods.{method_name}
+use Rattle.par_method_area.specs.par_step_laws.State.{Frame}
+use Rattle.par_method_area.specs.par_step_laws.Step.{Turn, IsBad, handlers, number_of_class}
+use Rattle.par_method_area.specs.par_step_laws.Step.{thrown_class, throws}
+use Rattle.par_method_area.specs.par_step_laws.Step.{throws_next}
 use Rattle.par_stack.specs.declared.point.Point.{Point}
 use Rattle.par_stack.specs.Frames as stack
 use Rattle.par_method_area.specs.par_actions.Done.{lesser}

@@ -5,8 +5,8 @@ use Rattle.par_instr.specs.declared.instr.Instr.TheVariants.{Invokevirtual, Invo
 use Rattle.par_instr.specs.declared.instr.Instr.TheVariants.{Invokestatic, New}
 use Rattle.par_instr.specs.Decoding.{Decoded}
 use Rattle.par_values.specs.declared.run.Ending.TheVariants.{End, Uncaught, Stopped}
-use Rattle.par_method_area.specs.par_steps.State.{State}
-use Rattle.par_method_area.specs.par_steps.Step as plain
+use Rattle.par_method_area.specs.par_step_laws.State.{State}
+use Rattle.par_method_area.specs.par_step_laws.Step as plain
 use Rattle.par_machine.specs.declared.turn.Turn.{Turn}
 use Rattle.par_machine.specs.declared.turn.Turn.TheVariants.{Silent, Happened, Ended}
 use Rattle.par_machine.specs.declared.turn.Stuck.{Stuck}

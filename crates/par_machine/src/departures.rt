@@ -7,7 +7,7 @@ ghost use Rattle.par_values.specs.Operations.{operation};
 ghost use Rattle.par_values.specs.Reasons.{Spot};
 ghost use Rattle.par_method_area.specs.par_actions.Done.{IsRoomy, Comes};
 ghost use Rattle.par_method_area.specs.par_actions.Leaving.{HasResult};
-ghost use Rattle.par_method_area.specs.par_steps.Classes.{exceptions};
+ghost use Rattle.par_method_area.specs.par_step_laws.Classes.{exceptions};
 ghost use Rattle.par_machine.specs.Instructions.{is_departure};
 
 use par_instr::Instr;

@@ -26,4 +26,4 @@ mod step;
 mod throws;
 pub mod turn;
 
-pub use par_method_area::par_steps;
+pub use par_method_area::par_step_laws;

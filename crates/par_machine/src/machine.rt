@@ -32,9 +32,9 @@ pub struct Machine {
 impl Machine {
     ghost use Rattle.std.specs.Prelude.{◌≡◌, ◌<◌, ◌≤◌, ◌+◌, ◌⊎◌, true, IfOk, IsErrOf, IsSome};
     ghost use Rattle.std.specs.Prelude.{IsTrue, slice_get};
-    ghost use Rattle.par_method_area.specs.par_steps.State.{start, main_place};
-    ghost use Rattle.par_method_area.specs.par_steps.Step.{turn};
-    ghost use Rattle.par_method_area.specs.par_steps.Places.{all_places};
+    ghost use Rattle.par_method_area.specs.par_step_laws.State.{start, main_place};
+    ghost use Rattle.par_method_area.specs.par_step_laws.Step.{turn};
+    ghost use Rattle.par_method_area.specs.par_step_laws.Places.{all_places};
     ghost use Rattle.par_machine.specs.Machine.{files_of, state_of, steps_of, is_asking_at};
     ghost use Rattle.par_machine.specs.Quiet.{GoesOn};
     ghost use Rattle.par_machine.specs.Turn.{IsTurn, MakesOrTells, is_over};

@@ -4,7 +4,7 @@ ghost use Rattle.std.specs.Prelude.{◌≡◌, ◌<◌, ◌≤◌, ◌+◌, ℕ,
 ghost use Rattle.std.specs.Prelude.{IsTrue};
 ghost use Rattle.par_heap.specs.Heap.{objects_of};
 ghost use Rattle.par_stack.specs.Frames.{running};
-ghost use Rattle.par_method_area.specs.par_steps.Step.{offset};
+ghost use Rattle.par_method_area.specs.par_step_laws.Step.{offset};
 ghost use Rattle.par_machine.specs.Frames.{code_of};
 ghost use Rattle.par_machine.specs.Running.{IsSound};
 ghost use Rattle.par_machine.specs.Settled.{is_told, Tells, IsSettled};

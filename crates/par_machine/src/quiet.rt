@@ -3,7 +3,7 @@
 ghost use Rattle.std.specs.Prelude.{◌≡◌, ◌≤◌, ◌+◌, ℕ, true, false, length, MatchOption};
 ghost use Rattle.par_heap.specs.Heap.{objects_of};
 ghost use Rattle.par_stack.specs.Frames.{running};
-ghost use Rattle.par_method_area.specs.par_steps.Step.{turn};
+ghost use Rattle.par_method_area.specs.par_step_laws.Step.{turn};
 ghost use Rattle.par_machine.specs.Frames.{code_of};
 ghost use Rattle.par_machine.specs.Quiet.{is_loud, AreRows, IsSameMethod, GoesOn, IsTried};
 ghost use Rattle.par_machine.specs.Running.{state_in, IsSound};

@@ -3,7 +3,7 @@
 ghost use Rattle.std.specs.Prelude.{◌≡◌, ◌+◌, ◌≤◌, ◌<◌, ◌∷◌, length, true, Ok, IsTrue};
 ghost use Rattle.par_instr.specs.Decoding.{decoded_at};
 ghost use Rattle.par_stack.specs.Frames.{running, with_running, at_offset};
-ghost use Rattle.par_method_area.specs.par_steps.Step.{size_of, returned, returned_with};
+ghost use Rattle.par_method_area.specs.par_step_laws.Step.{size_of, returned, returned_with};
 ghost use Rattle.par_machine.specs.Frames.{code_of, gives, Stands};
 ghost use Rattle.par_machine.specs.Running.{below, state_in, IsSound};
 ghost use Rattle.par_machine.specs.Turn.{IsTurn, is_over};

@@ -4,8 +4,8 @@ ghost use Rattle.std.specs.Prelude.{◌≡◌, [], ◌∷◌, Some, slice_get, I
 ghost use Rattle.par_lines.specs.Lines.{channels_of};
 ghost use Rattle.par_method_area.specs.Area.{KnowsLines};
 ghost use Rattle.par_stack.specs.Frames.{entered};
-ghost use Rattle.par_method_area.specs.par_steps.Methods.{method_code};
-ghost use Rattle.par_method_area.specs.par_steps.State.{main_place, start};
+ghost use Rattle.par_method_area.specs.par_step_laws.Methods.{method_code};
+ghost use Rattle.par_method_area.specs.par_step_laws.State.{main_place, start};
 ghost use Rattle.par_machine.specs.Running.{state_in, IsSound};
 
 use crate::run::Running;

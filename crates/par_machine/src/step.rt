@@ -3,7 +3,7 @@
 ghost use Rattle.std.specs.Prelude.{◌≡◌, ◌<◌, ◌≤◌, ℕ, length, IsSome};
 ghost use Rattle.par_heap.specs.Heap.{objects_of};
 ghost use Rattle.par_method_area.specs.Known.{code_at};
-ghost use Rattle.par_method_area.specs.par_steps.Step.{turn};
+ghost use Rattle.par_method_area.specs.par_step_laws.Step.{turn};
 ghost use Rattle.par_machine.specs.Advanced.{is_asking, IsAdvanced};
 ghost use Rattle.par_machine.specs.Frames.{code_of};
 ghost use Rattle.par_machine.specs.Running.{state_in, IsSound};

@@ -5,8 +5,8 @@ ghost use Rattle.std.specs.Prelude.{length, if◌then◌else◌, IsTrue, IsErrOf
 ghost use Rattle.par_single.specs.Walk.{starts_at};
 ghost use Rattle.par_heap.specs.Heap.{objects_of};
 ghost use Rattle.par_values.specs.Reasons.{is_of};
-ghost use Rattle.par_method_area.specs.par_steps.Classes.{exceptions};
-ghost use Rattle.par_method_area.specs.par_steps.Handlers.{caught};
+ghost use Rattle.par_method_area.specs.par_step_laws.Classes.{exceptions};
+ghost use Rattle.par_method_area.specs.par_step_laws.Handlers.{caught};
 ghost use Rattle.par_method_area.specs.par_actions.Done.{lesser};
 ghost use Rattle.par_stack.specs.Frames.{running, Frame};
 ghost use Rattle.par_unwinding.specs.Shown.{frames_of};

@@ -8,7 +8,7 @@ use Rattle.par_class.specs.declared.file.ClassFile.{ClassFile}
 use Rattle.par_single.specs.Members.{own_name, is_static, is_method_of}
 use Rattle.par_single.specs.Described.{main_member}
 use Rattle.par_index.proofs.Places.{position-is_some}
-use Rattle.par_steps.specs.State.{main_place}
+use Rattle.par_step_laws.specs.State.{main_place}
 use Rattle.par_loader.specs.Judged.{is_main, has_main}
 
 module _ (p q : MethodFile → Bool) (each : (m : MethodFile) → p m ≡ true → q m ≡ true) where

@@ -14,11 +14,11 @@ use Rattle.par_typed.specs.Shown.{shown, all_shown, receiver, mark_of, does}
 use Rattle.par_typed.proofs.Shown.{shown_mark}
 use Rattle.par_values.specs.declared.value.MVal.{MVal}
 use Rattle.par_values.specs.declared.value.MVal.TheVariants.{Null}
-use Rattle.par_runs.specs.Meaning.{eval_all, calls, within}
-use Rattle.par_runs.specs.Names.{body_of}
-use Rattle.par_runs.specs.State.{State, entered, restored}
-use Rattle.par_runs.specs.Tasks.{Normal, Rests, Task, nothing, follow, tested, leave}
-use Rattle.par_runs.proofs.Deep.{method_deep}
+use Rattle.par_run_laws.specs.Meaning.{eval_all, calls, within}
+use Rattle.par_run_laws.specs.Names.{body_of}
+use Rattle.par_run_laws.specs.State.{State, entered, restored}
+use Rattle.par_run_laws.specs.Tasks.{Normal, Rests, Task, nothing, follow, tested, leave}
+use Rattle.par_run_laws.proofs.Deep.{method_deep}
 use Rattle.par_meaning.specs.declared.machine.Machine.{Machine}
 use Rattle.par_meaning.specs.declared.work.Completion.{Completion}
 use Rattle.par_meaning.specs.declared.work.Completion.TheVariants as completion

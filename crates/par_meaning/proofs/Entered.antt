@@ -17,10 +17,10 @@ use Rattle.par_typed.proofs.Shown.{shown_output, shown_call, shown_neg, shown_no
 use Rattle.par_typed.proofs.Shown.{shown_mark}
 use Rattle.par_values.specs.declared.value.MVal.{MVal}
 use Rattle.par_values.specs.declared.value.MVal.TheVariants as value
-use Rattle.par_runs.specs.Names.{made_named, first_field}
-use Rattle.par_runs.specs.Meaning.{eval, eval_all, inputs, born}
-use Rattle.par_runs.specs.Tasks.{Rests, Task, named, follow}
-use Rattle.par_runs.specs.Values.{truth}
+use Rattle.par_run_laws.specs.Names.{made_named, first_field}
+use Rattle.par_run_laws.specs.Meaning.{eval, eval_all, inputs, born}
+use Rattle.par_run_laws.specs.Tasks.{Rests, Task, named, follow}
+use Rattle.par_run_laws.specs.Values.{truth}
 use Rattle.par_meaning.specs.declared.machine.Machine.{Machine}
 use Rattle.par_meaning.specs.declared.program.Program.{Program}
 use Rattle.par_meaning.specs.declared.work.Completion.TheVariants.{Normal}

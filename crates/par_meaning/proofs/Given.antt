@@ -14,8 +14,8 @@ use Rattle.par_values.specs.Areas.{list_or_none}
 use Rattle.par_values.specs.declared.inputs.ChannelInput.{ChannelInput}
 use Rattle.par_secrecy.specs.Subject.{given}
 use Rattle.par_secrecy.proofs.Carried.{bytes_swapped}
-use Rattle.par_runs.specs.Names.{Name, channel_of, channel_member}
-use Rattle.par_runs.specs.Source.{given_to}
+use Rattle.par_run_laws.specs.Names.{Name, channel_of, channel_member}
+use Rattle.par_run_laws.specs.Source.{given_to}
 use Rattle.par_meaning.specs.Lined.{Names, same_names, is_line, numbers_of, row_of, rows_of}
 use Rattle.par_meaning.specs.Lined.{row_shown, rows_shown, named, names_of, names_shown, shown_of}
 

@@ -13,12 +13,12 @@ use Rattle.par_values.specs.declared.value.MVal.{MVal}
 use Rattle.par_values.specs.declared.value.MVal.TheVariants.{Int, Null, Ref}
 use Rattle.par_values.specs.Areas as areas
 use Rattle.par_secrecy.specs.Runs.{Run, with_first}
-use Rattle.par_runs.specs.Meaning.{inputs, born}
-use Rattle.par_runs.specs.Names.{Name, Member, first_field, channel_named}
-use Rattle.par_runs.specs.Source.{given_to}
-use Rattle.par_runs.specs.State.{State, put, with_object, set_static, set_field}
-use Rattle.par_runs.specs.Tasks.{Normal, Rests, Task, change, gives, fine, happens, named}
-use Rattle.par_runs.specs.Values.{shown_value, object_number}
+use Rattle.par_run_laws.specs.Meaning.{inputs, born}
+use Rattle.par_run_laws.specs.Names.{Name, Member, first_field, channel_named}
+use Rattle.par_run_laws.specs.Source.{given_to}
+use Rattle.par_run_laws.specs.State.{State, put, with_object, set_static, set_field}
+use Rattle.par_run_laws.specs.Tasks.{Normal, Rests, Task, change, gives, fine, happens, named}
+use Rattle.par_run_laws.specs.Values.{shown_value, object_number}
 use Rattle.par_meaning.specs.declared.work.Completion.TheVariants as normal
 use Rattle.par_meaning.specs.declared.work.Then.{Then}
 use Rattle.par_meaning.specs.declared.work.Then.TheVariants.{Ends}

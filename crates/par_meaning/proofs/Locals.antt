@@ -10,7 +10,7 @@ use Rattle.std.proofs.lemmas.Option.{unwrap_or-slice_get}
 use Rattle.par_values.specs.declared.value.MVal.{MVal}
 use Rattle.par_values.specs.declared.value.MVal.TheVariants.{Null}
 use Rattle.par_values.specs.Areas.{value_or_null}
-use Rattle.par_runs.specs.State.{put}
+use Rattle.par_run_laws.specs.State.{put}
 use Rattle.par_meaning.specs.Frame.{held}
 use Rattle.par_meaning.proofs.Puts.{put_here, put_other}
 

@@ -8,7 +8,7 @@ use Rattle.par_index.proofs.Places.{position-from}
 use Rattle.par_typed.specs.declared.program.TBody.{TBody}
 use Rattle.par_typed.specs.Plain.{TSta}
 use Rattle.par_typed.specs.Shown.{does, bodies}
-use Rattle.par_runs.specs.Names.{body_of}
+use Rattle.par_run_laws.specs.Names.{body_of}
 use Rattle.par_meaning.specs.Held.{same_member}
 use Rattle.par_meaning.specs.Bodied.{methods, body_at}
 

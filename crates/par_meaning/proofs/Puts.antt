@@ -6,7 +6,7 @@ use Rattle.std.proofs.lemmas.Bool.Decides.{nat_tests}
 use Rattle.std.proofs.Common.{ℤ, List, Option, Some, Result, Ok, Err, ◌<◌, ◌≤◌}
 use Rattle.std.specs.Prelude.{nat_lt, is_some, OnOk, OnErr}
 use Rattle.std.specs.Borrow.{Bor}
-use Rattle.par_runs.specs.State.{put}
+use Rattle.par_run_laws.specs.State.{put}
 use Rattle.par_meaning.specs.Held.{Kept, same_member, input_in, numbers_left}
 use Rattle.std.specs.HashMap.{get}
 use Rattle.par_values.specs.declared.value.MVal.{MVal}

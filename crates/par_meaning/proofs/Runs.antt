@@ -13,11 +13,11 @@ use Rattle.par_values.specs.declared.run.Ending.TheVariants as ending
 use Rattle.par_values.specs.declared.value.MVal.{MVal}
 use Rattle.par_values.specs.declared.value.MVal.TheVariants.{Null}
 use Rattle.par_secrecy.specs.Runs.{Run, stopped}
-use Rattle.par_runs.specs.Names.{first_field}
-use Rattle.par_runs.specs.Meaning.{Calls, eval, go, within, method}
-use Rattle.par_runs.specs.Source.{start, final, source}
-use Rattle.par_runs.specs.State.{State}
-use Rattle.par_runs.specs.Tasks.{Rests}
+use Rattle.par_run_laws.specs.Names.{first_field}
+use Rattle.par_run_laws.specs.Meaning.{Calls, eval, go, within, method}
+use Rattle.par_run_laws.specs.Source.{start, final, source}
+use Rattle.par_run_laws.specs.State.{State}
+use Rattle.par_run_laws.specs.Tasks.{Rests}
 use Rattle.par_meaning.specs.declared.machine.Machine.{Machine}
 use Rattle.par_meaning.specs.declared.program.Program.{Program}
 use Rattle.par_meaning.specs.declared.steps.Rest.{Rest}

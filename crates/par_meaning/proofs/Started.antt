@@ -17,12 +17,12 @@ use Rattle.par_typed.proofs.Shown.{does_return, does_break, does_continue, does_
 use Rattle.par_typed.proofs.Shown.{does_close, does_set_local, does_set_static, does_set_field}
 use Rattle.par_typed.proofs.Shown.{does_eval, does_when}
 use Rattle.par_policy.specs.Numbers.{has}
-use Rattle.par_runs.specs.Meaning.{go, go_else, go_all}
-use Rattle.par_runs.specs.State.{State, open_lock, close_lock}
-use Rattle.par_runs.specs.Tasks as exit
-use Rattle.par_runs.specs.Tasks.{Rests, Task, follow, and_then, caught, asked, nothing}
-use Rattle.par_runs.specs.Values.{is_true}
-use Rattle.par_runs.proofs.Deep.{turns_deep}
+use Rattle.par_run_laws.specs.Meaning.{go, go_else, go_all}
+use Rattle.par_run_laws.specs.State.{State, open_lock, close_lock}
+use Rattle.par_run_laws.specs.Tasks as exit
+use Rattle.par_run_laws.specs.Tasks.{Rests, Task, follow, and_then, caught, asked, nothing}
+use Rattle.par_run_laws.specs.Values.{is_true}
+use Rattle.par_run_laws.proofs.Deep.{turns_deep}
 use Rattle.par_meaning.specs.declared.machine.Machine.{Machine}
 use Rattle.par_meaning.specs.declared.work.Completion.TheVariants.{Abrupt}
 use Rattle.par_meaning.specs.declared.work.Exit.TheVariants.{Broken, Continued, Thrown}

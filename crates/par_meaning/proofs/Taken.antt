@@ -9,10 +9,10 @@ use Rattle.par_typed.specs.declared.stmt.TStmt.{TStmt}
 use Rattle.par_typed.specs.declared.stmt.TCatch.{TCatch}
 use Rattle.par_typed.specs.Shown.{does}
 use Rattle.par_typed.specs.Plain.{TSta, TCatches, NoCatch, Catch}
-use Rattle.par_runs.specs.Meaning.{go_catch}
-use Rattle.par_runs.specs.State.{State, put}
-use Rattle.par_runs.specs.Tasks as exit
-use Rattle.par_runs.specs.Tasks.{Task, Rests, done, nothing, looped, caught}
+use Rattle.par_run_laws.specs.Meaning.{go_catch}
+use Rattle.par_run_laws.specs.State.{State, put}
+use Rattle.par_run_laws.specs.Tasks as exit
+use Rattle.par_run_laws.specs.Tasks.{Task, Rests, done, nothing, looped, caught}
 use Rattle.par_meaning.specs.declared.machine.Machine.{Machine}
 use Rattle.par_meaning.specs.declared.program.Program.{Program}
 use Rattle.par_meaning.specs.declared.work.Completion.{Completion}

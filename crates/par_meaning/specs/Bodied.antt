@@ -9,7 +9,7 @@ use Rattle.par_typed.specs.declared.program.Typed.{Typed}
 use Rattle.par_typed.specs.declared.stmt.TStmt.{TStmt}
 use Rattle.par_typed.specs.Plain.{TSta}
 use Rattle.par_typed.specs.Shown.{does, bodies}
-use Rattle.par_runs.specs.Names.{body_of, main_of}
+use Rattle.par_run_laws.specs.Names.{body_of, main_of}
 use Rattle.par_meaning.specs.Held.{same_member}
 
 -- the methods of bodies, each by its class and its number there

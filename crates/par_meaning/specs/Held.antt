@@ -6,7 +6,7 @@ use Rattle.std.specs.HashMap.{HashMap, get}
 use Rattle.std.specs.declared.hash.FoldHasher.{FoldHasher}
 use Rattle.std.specs.declared.hash.BuildHasherDefault.{BuildHasherDefault}
 use Rattle.par_values.specs.declared.value.MVal.{MVal}
-use Rattle.par_runs.specs.State.{put, opened, closed}
+use Rattle.par_run_laws.specs.State.{put, opened, closed}
 
 pub record Held : Type 0 where
   -- the static fields that were written, by class and field

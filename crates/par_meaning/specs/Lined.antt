@@ -9,7 +9,7 @@ use Rattle.par_typed.specs.declared.table.ChannelInfo.{ChannelInfo}
 use Rattle.par_typed.specs.declared.table.ClassInfo.{ClassInfo}
 use Rattle.par_values.specs.declared.inputs.ChannelInput.{ChannelInput}
 use Rattle.par_secrecy.specs.Subject.{given}
-use Rattle.par_runs.specs.Names.{Name}
+use Rattle.par_run_laws.specs.Names.{Name}
 
 -- the names of a class and of a channel, as references
 abbrev pub Names : Type 0

@@ -1,7 +1,7 @@
 -- Names as references.
 use Rattle.std.specs.Prelude.{ℕ, List, Option, Some, None}
 use Rattle.std.specs.Borrow.{Bor}
-use Rattle.par_runs.specs.Names as names
+use Rattle.par_run_laws.specs.Names as names
 use Rattle.par_meaning.specs.declared.names.Member.{Member}
 
 abbrev pub name_of : Option (Bor (List ℕ)) → Option names.Name

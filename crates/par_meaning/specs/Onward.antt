@@ -4,10 +4,10 @@ use Rattle.par_typed.specs.Shown.{bodies}
 use Rattle.par_values.specs.declared.value.MVal.{MVal}
 use Rattle.par_values.specs.declared.run.Event.{Event}
 use Rattle.par_secrecy.specs.Runs.{Witnessed, Run}
-use Rattle.par_runs.specs.Names.{channel_named, first_field}
-use Rattle.par_runs.specs.Source.{given_to}
-use Rattle.par_runs.specs.State.{State}
-use Rattle.par_runs.specs.Tasks.{Rest, Rests, Task, nothing}
+use Rattle.par_run_laws.specs.Names.{channel_named, first_field}
+use Rattle.par_run_laws.specs.Source.{given_to}
+use Rattle.par_run_laws.specs.State.{State}
+use Rattle.par_run_laws.specs.Tasks.{Rest, Rests, Task, nothing}
 use Rattle.par_meaning.specs.declared.machine.Machine.{Machine}
 use Rattle.par_meaning.specs.declared.program.Program.{Program}
 use Rattle.par_meaning.specs.declared.run.SourceEvent.{SourceEvent}

@@ -3,7 +3,7 @@ use Rattle.std.specs.Prelude.{ℕ, nat_lt, if◌then◌else◌, unwrap_or}
 use Rattle.par_typed.specs.declared.table.Table.{Table}
 use Rattle.par_values.specs.declared.value.MVal.{MVal}
 use Rattle.par_values.specs.declared.value.MVal.TheVariants.{Null}
-use Rattle.par_runs.specs.Names.{first_field}
+use Rattle.par_run_laws.specs.Names.{first_field}
 use Rattle.par_meaning.specs.declared.store.Store.{Store}
 use Rattle.par_meaning.specs.Held.{Held, static_in, births_in, field_in, input_in}
 

@@ -6,9 +6,9 @@ use Rattle.par_values.specs.declared.run.Ending.{Ending}
 use Rattle.par_values.specs.declared.run.Ending.TheVariants.{End}
 use Rattle.par_values.specs.declared.value.MVal.{MVal}
 use Rattle.par_secrecy.specs.Runs.{Run}
-use Rattle.par_runs.specs.Meaning.{within}
-use Rattle.par_runs.specs.Source.{final, ending}
-use Rattle.par_runs.specs.State.{State}
+use Rattle.par_run_laws.specs.Meaning.{within}
+use Rattle.par_run_laws.specs.Source.{final, ending}
+use Rattle.par_run_laws.specs.State.{State}
 use Rattle.par_meaning.specs.declared.machine.Machine.{Machine}
 use Rattle.par_meaning.specs.declared.run.SourceEvent.{SourceEvent}
 use Rattle.par_meaning.specs.declared.run.SourceRun.{SourceRun}

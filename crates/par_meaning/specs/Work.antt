@@ -11,14 +11,14 @@ use Rattle.par_values.specs.declared.value.MVal.{MVal}
 use Rattle.par_values.specs.declared.value.MVal.TheVariants as value
 use Rattle.par_values.specs.Areas.{number_of}
 use Rattle.par_values.specs.Arithmetic.{negated}
-use Rattle.par_runs.specs.State.{set_local, set_result}
-use Rattle.par_runs.specs.Tasks as exit
-use Rattle.par_runs.specs.Tasks.{Rest, Rests, Task, nothing, done, gives, fine, change, read}
-use Rattle.par_runs.specs.Tasks.{follow, and_then, tested, leave, looped, turn, turns, caught}
-use Rattle.par_runs.specs.Values.{truth, is_true, object_number, decides}
-use Rattle.par_runs.specs.Meaning.{outputs, operates, writes_static, writes_field, Calls, calls}
-use Rattle.par_runs.specs.Meaning.{eval, eval_all, go, go_else, go_all, go_catch, method}
-use Rattle.par_runs.specs.Source.{final}
+use Rattle.par_run_laws.specs.State.{set_local, set_result}
+use Rattle.par_run_laws.specs.Tasks as exit
+use Rattle.par_run_laws.specs.Tasks.{Rest, Rests, Task, nothing, done, gives, fine, change, read}
+use Rattle.par_run_laws.specs.Tasks.{follow, and_then, tested, leave, looped, turn, turns, caught}
+use Rattle.par_run_laws.specs.Values.{truth, is_true, object_number, decides}
+use Rattle.par_run_laws.specs.Meaning.{outputs, operates, writes_static, writes_field, Calls, calls}
+use Rattle.par_run_laws.specs.Meaning.{eval, eval_all, go, go_else, go_all, go_catch, method}
+use Rattle.par_run_laws.specs.Source.{final}
 use Rattle.par_meaning.specs.Frame.{held, left_by}
 use Rattle.par_meaning.specs.declared.work.Completion.{Completion}
 use Rattle.par_meaning.specs.declared.work.Completion.TheVariants.{Normal, Abrupt}

@@ -1,8 +1,8 @@
 //! What waits takes a value up.
 
 ghost use Rattle.std.specs.Prelude.{if◌then◌else◌, IfOk};
-ghost use Rattle.par_runs.specs.Meaning.{operates};
-ghost use Rattle.par_runs.specs.Values.{is_true};
+ghost use Rattle.par_run_laws.specs.Meaning.{operates};
+ghost use Rattle.par_run_laws.specs.Values.{is_true};
 ghost use Rattle.par_typed.specs.Shown.{shown, does, otherwise};
 ghost use Rattle.par_meaning.specs.declared.work.Completion.TheVariants.{Normal};
 ghost use Rattle.par_meaning.specs.Onward.{Is, TakesUp};

@@ -2,7 +2,7 @@
 
 ghost use Rattle.std.specs.Prelude.{◌≡◌, slice_get, IfOk};
 ghost use Rattle.par_typed.specs.Shown.{bodies};
-ghost use Rattle.par_runs.specs.Names.{body_of};
+ghost use Rattle.par_run_laws.specs.Names.{body_of};
 ghost use Rattle.par_meaning.specs.Bodied.{ArePlaced, body_at, body_shown, main_body};
 
 use crate::names;

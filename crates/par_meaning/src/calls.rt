@@ -2,7 +2,7 @@
 
 ghost use Rattle.std.specs.Prelude.{◌≡◌, ◌<◌, ℕ, suc, ◌∷◌, ◌++◌, drop, IfOk};
 ghost use Rattle.par_typed.specs.Shown.{all_shown};
-ghost use Rattle.par_runs.specs.Meaning.{calls};
+ghost use Rattle.par_run_laws.specs.Meaning.{calls};
 ghost use Rattle.par_meaning.specs.declared.work.Completion.TheVariants.{Normal, Abrupt};
 ghost use Rattle.par_meaning.specs.declared.work.Waiting.TheVariants.{Leave};
 ghost use Rattle.par_values.specs.declared.value.MVal.{MVal};

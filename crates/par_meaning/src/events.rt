@@ -2,10 +2,10 @@
 
 ghost use Rattle.std.specs.Prelude.{◌≡◌, unwrap_or, IfOk, OnOk};
 ghost use Rattle.par_values.specs.declared.run.Event.{Event as Happened};
-ghost use Rattle.par_runs.specs.Meaning.{outputs, inputs, born};
-ghost use Rattle.par_runs.specs.Names.{made_named, channel_named};
-ghost use Rattle.par_runs.specs.Source.{given_to};
-ghost use Rattle.par_runs.specs.Tasks.{named};
+ghost use Rattle.par_run_laws.specs.Meaning.{outputs, inputs, born};
+ghost use Rattle.par_run_laws.specs.Names.{made_named, channel_named};
+ghost use Rattle.par_run_laws.specs.Source.{given_to};
+ghost use Rattle.par_run_laws.specs.Tasks.{named};
 ghost use Rattle.par_meaning.specs.Stored.{holds};
 ghost use Rattle.par_meaning.specs.Onward.{Does, told};
 

@@ -1,9 +1,9 @@
 //! What the fields of a program hold, and writes to them.
 
 ghost use Rattle.std.specs.Prelude.{◌≡◌, unwrap_or, IfOk};
-ghost use Rattle.par_runs.specs.Meaning.{writes_static, writes_field};
-ghost use Rattle.par_runs.specs.Names.{first_field};
-ghost use Rattle.par_runs.specs.Values.{shown_value, object_number};
+ghost use Rattle.par_run_laws.specs.Meaning.{writes_static, writes_field};
+ghost use Rattle.par_run_laws.specs.Names.{first_field};
+ghost use Rattle.par_run_laws.specs.Values.{shown_value, object_number};
 ghost use Rattle.par_meaning.specs.Stored.{holds, field_held};
 ghost use Rattle.par_meaning.specs.Onward.{Does};
 ghost use Rattle.par_meaning.specs.Work.{reads_field, sets_field};

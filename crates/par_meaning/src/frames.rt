@@ -1,5 +1,5 @@
 ghost use Rattle.std.specs.Prelude.{◌≡◌, ◌<◌, ◌≤◌, [], ◌++◌, length, IfOk, OnOk};
-ghost use Rattle.par_runs.specs.State.{put};
+ghost use Rattle.par_run_laws.specs.State.{put};
 ghost use Rattle.par_meaning.specs.Frame.{held, left_by};
 
 use par_base::memory::NoMemory;

@@ -2,8 +2,8 @@
 
 ghost use Rattle.std.specs.Prelude.{◌≡◌, codes, slice_get};
 ghost use Rattle.std.specs.Option.{option_copied};
-ghost use Rattle.par_runs.specs.Names.{class_named, made_named, field_named, channel_named};
-ghost use Rattle.par_runs.specs.Names.{first_field, first_value, place_of, main_of};
+ghost use Rattle.par_run_laws.specs.Names.{class_named, made_named, field_named, channel_named};
+ghost use Rattle.par_run_laws.specs.Names.{first_field, first_value, place_of, main_of};
 ghost use Rattle.par_meaning.specs.Named.{member, name_of};
 
 use par_base::name::Name;

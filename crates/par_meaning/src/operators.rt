@@ -6,8 +6,8 @@ ghost use Rattle.par_values.specs.declared.value.MVal.TheVariants.{Int};
 ghost use Rattle.par_values.specs.Arithmetic.{combined, negated, Plus, Minus, ShiftLeft};
 ghost use Rattle.par_values.specs.Arithmetic.{ShiftRight, ShiftRightUnsigned, Quotient};
 ghost use Rattle.par_meaning.specs.Work.{is_object};
-ghost use Rattle.par_runs.specs.Values.{truth, is_true, object_number, same, decides, throws};
-ghost use Rattle.par_runs.specs.Values.{applied};
+ghost use Rattle.par_run_laws.specs.Values.{truth, is_true, object_number, same, decides, throws};
+ghost use Rattle.par_run_laws.specs.Values.{applied};
 
 use par_typed::par_lexer::operator::BinOp;
 use par_values::value::MVal;

@@ -1,8 +1,8 @@
 //! What stays the same while a program runs.
 
 ghost use Rattle.std.specs.Prelude.{◌≡◌, IfOk};
-ghost use Rattle.par_runs.specs.Names.{channel_named, body_of};
-ghost use Rattle.par_runs.specs.Source.{given_to};
+ghost use Rattle.par_run_laws.specs.Names.{channel_named, body_of};
+ghost use Rattle.par_run_laws.specs.Source.{given_to};
 ghost use Rattle.par_typed.specs.Shown.{bodies};
 ghost use Rattle.par_meaning.specs.Bodied.{ArePlaced, body_shown};
 ghost use Rattle.par_meaning.specs.Lined.{rows_of, rows_shown};

@@ -1,8 +1,8 @@
 //! The run of a program.
 
 ghost use Rattle.std.specs.Prelude.{◌≡◌, ℕ, IfOk};
-ghost use Rattle.par_runs.specs.Names.{class_named};
-ghost use Rattle.par_runs.specs.Source.{source, uncaught};
+ghost use Rattle.par_run_laws.specs.Names.{class_named};
+ghost use Rattle.par_run_laws.specs.Source.{source, uncaught};
 ghost use Rattle.par_meaning.specs.Bodied.{main_body};
 ghost use Rattle.par_meaning.specs.Onward.{setting};
 ghost use Rattle.par_meaning.specs.Whole.{Begins, IsNew, ended, ends, as_run};

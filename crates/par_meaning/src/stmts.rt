@@ -2,7 +2,7 @@
 
 ghost use Rattle.std.specs.Prelude.{◌≡◌, IfOk};
 ghost use Rattle.par_policy.specs.Numbers.{has};
-ghost use Rattle.par_runs.specs.Tasks.{asked};
+ghost use Rattle.par_run_laws.specs.Tasks.{asked};
 ghost use Rattle.par_typed.specs.Shown.{may_shown, does, otherwise, all_do};
 ghost use Rattle.par_meaning.specs.Onward.{Costs, Moves, Is};
 ghost use Rattle.par_meaning.specs.Work.{performs, performs_else, performs_all, returned};

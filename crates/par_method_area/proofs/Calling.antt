@@ -12,8 +12,8 @@ use Rattle.par_values.specs.declared.kind.Kind.{Kind}
 use Rattle.par_values.specs.declared.kind.Kind.TheVariants as kind
 use Rattle.par_values.specs.Areas.{Name}
 use Rattle.par_values.specs.Reasons.{Spot}
-use Rattle.par_steps.specs.par_link.declared.entry.Declared.{Declared}
-use Rattle.par_steps.specs.par_link.declared.entry.Named.TheVariants as named
+use Rattle.par_step_laws.specs.par_link.declared.entry.Declared.{Declared}
+use Rattle.par_step_laws.specs.par_link.declared.entry.Named.TheVariants as named
 use Rattle.par_single.specs.Members.{own_name, text_at, is_static}
 use Rattle.std.proofs.lemmas.Bool.{and_parts, eqb-true}
 use Rattle.std.proofs.lemmas.Slice.Eq.{bytes_eq-Decides}
@@ -21,12 +21,12 @@ use Rattle.std.specs.Str.{bytes_eq}
 use Rattle.par_single.specs.Descriptors.{kind_at, kinds_in}
 use Rattle.par_single.specs.Described.{is_channel_right, is_of_channel}
 use Rattle.par_single.specs.Links.{kind_or_any, signature_said, locals_of}
-use Rattle.par_steps.specs.Classes.{class_names}
-use Rattle.par_steps.specs.par_link.declared.entry.Named.{Named}
-use Rattle.par_steps.specs.Links.{channel_of, method_in, method_link, initializer_link}
-use Rattle.par_steps.specs.Links as steps
-use Rattle.par_steps.specs.Methods.{pool_of, methods_of, method_code, method_descriptor}
-use Rattle.par_steps.specs.Methods.{descriptor_in, code_in, code_or_none}
+use Rattle.par_step_laws.specs.Classes.{class_names}
+use Rattle.par_step_laws.specs.par_link.declared.entry.Named.{Named}
+use Rattle.par_step_laws.specs.Links.{channel_of, method_in, method_link, initializer_link}
+use Rattle.par_step_laws.specs.Links as steps
+use Rattle.par_step_laws.specs.Methods.{pool_of, methods_of, method_code, method_descriptor}
+use Rattle.par_step_laws.specs.Methods.{descriptor_in, code_in, code_or_none}
 use Rattle.par_actions.specs.declared.fit.Fit.{Fit}
 use Rattle.par_actions.specs.declared.fit.Fit.TheVariants as fit
 use Rattle.par_actions.specs.Leaving.{HasResult}
@@ -46,13 +46,13 @@ use Rattle.par_method_area.specs.Methods.{IsMethodRow, line_in, line_row, signat
 use Rattle.par_method_area.specs.Signatures.{Told, said_by, signature_in}
 use Rattle.par_method_area.specs.Known.{signature_at, KnowsMethod, is_exception_initializer}
 use Rattle.par_method_area.specs.Targets.{gives_result, target_of}
-use Rattle.par_steps.proofs.par_link.Apart.{AreApart}
+use Rattle.par_step_laws.proofs.par_link.Apart.{AreApart}
 use Rattle.par_method_area.proofs.Beside.{found, missing}
 use Rattle.par_method_area.proofs.Taking.{takes, takes-own, all-take}
 use Rattle.par_method_area.proofs.Signing.{said-at}
 use Rattle.par_method_area.proofs.Saying.{IsSaid, signature-said}
 use Rattle.par_method_area.proofs.Numbered.{name-at, some-name}
-use Rattle.par_steps.proofs.par_link.Faultless.{names-apart, own-name, method-right}
+use Rattle.par_step_laws.proofs.par_link.Faultless.{names-apart, own-name, method-right}
 
 -- ---- results
 

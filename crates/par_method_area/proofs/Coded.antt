@@ -9,14 +9,14 @@ use Rattle.par_class.specs.declared.file.ClassFile.{ClassFile}
 use Rattle.par_class.specs.declared.file.CodeAttr.{CodeAttr}
 use Rattle.par_class.specs.declared.file.MethodFile.{MethodFile}
 use Rattle.par_values.specs.declared.value.MVal.{MVal}
-use Rattle.par_steps.specs.par_link.Conditions.{is_short}
+use Rattle.par_step_laws.specs.par_link.Conditions.{is_short}
 use Rattle.par_single.specs.declared.descriptor.Signature.{Signature}
 use Rattle.par_single.specs.Members.{text_at}
 use Rattle.par_single.specs.Links.{signature_said}
 use Rattle.par_single.specs.Walk.{starts_at}
-use Rattle.par_steps.specs.Classes.{class_names}
-use Rattle.par_steps.specs.Methods.{methods_of, method_file, method_code, code_in, code_or_none}
-use Rattle.par_steps.specs.Methods.{pool_of, descriptor_in}
+use Rattle.par_step_laws.specs.Classes.{class_names}
+use Rattle.par_step_laws.specs.Methods.{methods_of, method_file, method_code, code_in, code_or_none}
+use Rattle.par_step_laws.specs.Methods.{pool_of, descriptor_in}
 use Rattle.par_actions.specs.declared.departures.Gives.{Gives}
 use Rattle.par_method_area.specs.declared.classes.ClassRow.{ClassRow}
 use Rattle.par_method_area.specs.declared.known.Code.{Code}
@@ -27,7 +27,7 @@ use Rattle.par_method_area.specs.Methods.{signature_of}
 use Rattle.par_method_area.specs.Signatures.{Told}
 use Rattle.par_method_area.proofs.Calling.{as-said, own-row, said-of}
 use Rattle.par_method_area.proofs.Saying.{signature-said}
-use Rattle.par_steps.proofs.par_link.Faultless.{names-apart, small}
+use Rattle.par_step_laws.proofs.par_link.Faultless.{names-apart, small}
 
 pub all-at : {A : Type 0} (p : A → Bool) (xs : List A) (n : ℕ) (x : A) → list_all p xs ≡ true
     → Some x ≡ slice_get xs n → p x ≡ true

@@ -8,10 +8,11 @@ use Rattle.std.proofs.lemmas.Option.{slice_get_within, get_or_from_slice_get}
 use Rattle.std.proofs.lemmas.List.Elements.{filter-append}
 use Rattle.std.specs.List.{filter, All}
 use Rattle.par_class.specs.declared.file.ClassFile.{ClassFile}
-use Rattle.par_steps.specs.par_link.Conditions.{IsSmall}
+use Rattle.par_step_laws.specs.par_link.Conditions.{IsSmall}
 use Rattle.par_values.specs.declared.value.MVal.TheVariants.{Int}
-use Rattle.par_steps.specs.Fields.{first_statics, class_statics, all_statics, is_shared, many_of}
-use Rattle.par_steps.specs.Fields.{kind_of}
+use Rattle.par_step_laws.specs.Fields.{first_statics, class_statics, all_statics, is_shared}
+use Rattle.par_step_laws.specs.Fields.{many_of}
+use Rattle.par_step_laws.specs.Fields.{kind_of}
 use Rattle.par_values.specs.Areas.{first_value}
 
 pub filter-few : {A : Type 0} (p : A → Bool) (xs : List A) → length (filter p xs) ≤ length xs

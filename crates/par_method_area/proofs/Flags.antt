@@ -3,7 +3,7 @@ use Rattle.std.proofs.Common.{◌≡◌, ℕ, zero, suc, ◌+◌, ◌<◌, ◌==
 use Rattle.std.proofs.Common.{List, [], ◌∷◌, slice_index_or, ap, ◌∙◌, arith}
 use Rattle.std.specs.List.{list_any}
 use Rattle.par_class.specs.declared.file.ClassFile.{ClassFile}
-use Rattle.par_steps.specs.Classes.{is_exception, exceptions_from, exceptions}
+use Rattle.par_step_laws.specs.Classes.{is_exception, exceptions_from, exceptions}
 use Rattle.par_method_area.specs.Classes.{exception_flags}
 
 abbrev pub is_here : ℕ → List ℕ → Bool

@@ -10,7 +10,7 @@ use Rattle.indexmap.specs.IndexMap.{get}
 use Rattle.par_index.specs.declared.firsts.Firsts.{Firsts}
 use Rattle.par_index.specs.Firsts.{AreFirst}
 use Rattle.par_index.proofs.Places.{any-map, position-map}
-use Rattle.par_steps.proofs.par_link.Passing.{eq_turned, position-none}
+use Rattle.par_step_laws.proofs.par_link.Passing.{eq_turned, position-none}
 use Rattle.par_actions.specs.par_lines.Lines as lines
 use Rattle.par_values.specs.Areas.{Name}
 use Rattle.par_method_area.specs.declared.channels.Channel.{Channel}

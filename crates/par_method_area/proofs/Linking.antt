@@ -7,12 +7,12 @@ use Rattle.par_pool.specs.Entries.{entry_at}
 use Rattle.par_class.specs.declared.file.ClassFile.{ClassFile}
 use Rattle.par_values.specs.declared.link.Link.{Link}
 use Rattle.par_values.specs.Areas.{Name}
-use Rattle.par_steps.specs.par_link.declared.entry.Named.{Named}
-use Rattle.par_steps.specs.par_link.declared.entry.Named.TheVariants.{Nothing}
-use Rattle.par_steps.specs.par_link.Linked.{named_in, named_at}
-use Rattle.par_steps.specs.par_link.Named.{named_by}
-use Rattle.par_steps.specs.Methods.{pool_of, class_pool}
-use Rattle.par_steps.specs.Links.{link_of, link_at, number_or}
+use Rattle.par_step_laws.specs.par_link.declared.entry.Named.{Named}
+use Rattle.par_step_laws.specs.par_link.declared.entry.Named.TheVariants.{Nothing}
+use Rattle.par_step_laws.specs.par_link.Linked.{named_in, named_at}
+use Rattle.par_step_laws.specs.par_link.Named.{named_by}
+use Rattle.par_step_laws.specs.Methods.{pool_of, class_pool}
+use Rattle.par_step_laws.specs.Links.{link_of, link_at, number_or}
 use Rattle.par_method_area.specs.Known.{KnowsClass}
 
 module _ (files : List ClassFile) (index : ℕ) (l : Link) where

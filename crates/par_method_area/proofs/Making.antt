@@ -6,9 +6,9 @@ use Rattle.std.specs.List.{filter}
 use Rattle.par_class.specs.declared.file.ClassFile.{ClassFile}
 use Rattle.par_values.specs.declared.value.MVal.{MVal}
 use Rattle.par_values.specs.Areas.{Name, name_or_none, first_value}
-use Rattle.par_steps.specs.Classes.{class_names}
-use Rattle.par_steps.specs.Fields.{is_own, kind_of}
-use Rattle.par_steps.specs.Links.{class_link, unmade, exception_link}
+use Rattle.par_step_laws.specs.Classes.{class_names}
+use Rattle.par_step_laws.specs.Fields.{is_own, kind_of}
+use Rattle.par_step_laws.specs.Links.{class_link, unmade, exception_link}
 use Rattle.par_actions.specs.declared.births.Class.{Class}
 use Rattle.par_method_area.specs.declared.classes.ClassRow.{ClassRow}
 use Rattle.par_method_area.specs.Area.{Area, AreTold}

@@ -10,15 +10,15 @@ use Rattle.par_class.specs.Spelling.{is_native}
 use Rattle.par_values.specs.declared.kind.Kind.{Kind}
 use Rattle.par_values.specs.declared.link.Target.TheVariants as target
 use Rattle.par_values.specs.Areas.{Name}
-use Rattle.par_steps.specs.par_link.Linked.{AreLinked}
+use Rattle.par_step_laws.specs.par_link.Linked.{AreLinked}
 use Rattle.par_single.specs.Members.{own_name, text_at}
 use Rattle.par_single.specs.Described.{is_channel_right}
 use Rattle.par_single.specs.Links.{locals_of}
-use Rattle.par_steps.specs.Links.{field_in, field_link, method_in, method_link, channel_of}
+use Rattle.par_step_laws.specs.Links.{field_in, field_link, method_in, method_link, channel_of}
 use Rattle.par_method_area.specs.declared.known.MemberNames.{MemberNames}
 use Rattle.par_method_area.specs.Known.{KnowsNames, AreNames}
 use Rattle.par_method_area.specs.Methods.{signature_of}
-use Rattle.par_steps.proofs.par_link.Faultless.{field-right, method-right, own-name}
+use Rattle.par_step_laws.proofs.par_link.Faultless.{field-right, method-right, own-name}
 
 pub is-name : (name : Name) → is_name name ≡ true → IsName name
 is-name name is =

@@ -7,13 +7,13 @@ use Rattle.std.specs.List.{position, list_any}
 use Rattle.std.specs.Str.{bytes_eq}
 use Rattle.par_base.specs.Names.{IsName, is_spelled}
 use Rattle.par_class.specs.declared.file.ClassFile.{ClassFile}
-use Rattle.par_steps.specs.par_link.Linked.{AreLinked}
-use Rattle.par_steps.proofs.par_link.Passing.{position-none, eq_turned}
+use Rattle.par_step_laws.specs.par_link.Linked.{AreLinked}
+use Rattle.par_step_laws.proofs.par_link.Passing.{position-none, eq_turned}
 use Rattle.par_single.specs.Members.{own_name}
 use Rattle.par_values.specs.Areas.{Name}
-use Rattle.par_steps.specs.Classes.{class_names, is_exception}
+use Rattle.par_step_laws.specs.Classes.{class_names, is_exception}
 use Rattle.par_method_area.specs.Classes.{exception_flags}
-use Rattle.par_steps.proofs.par_link.Faultless.{own-name}
+use Rattle.par_step_laws.proofs.par_link.Faultless.{own-name}
 
 -- a name has some bytes
 pub some-name : (name : Name) → IsName name → bytes_eq [] name ≡ false

@@ -9,13 +9,14 @@ use Rattle.par_class.specs.declared.file.FieldFile.{FieldFile}
 use Rattle.par_values.specs.declared.value.MVal.{MVal}
 use Rattle.par_values.specs.declared.kind.Kind.TheVariants as kind
 use Rattle.par_values.specs.declared.link.FieldLink.{FieldLink}
-use Rattle.par_steps.specs.par_link.Linked.{AreLinked}
+use Rattle.par_step_laws.specs.par_link.Linked.{AreLinked}
 use Rattle.par_base.specs.Names.{is_name}
 use Rattle.par_single.specs.Descriptors.{field_kind}
 use Rattle.par_single.specs.Members.{own_name, text_at}
-use Rattle.par_steps.specs.Classes.{class_names}
-use Rattle.par_steps.specs.Fields.{class_statics, is_shared, is_own, many_of, kind_of, field_place}
-use Rattle.par_steps.specs.Links.{field_in, field_link, lock_link}
+use Rattle.par_step_laws.specs.Classes.{class_names}
+use Rattle.par_step_laws.specs.Fields.{class_statics, is_shared, is_own, many_of, kind_of}
+use Rattle.par_step_laws.specs.Fields.{field_place}
+use Rattle.par_step_laws.specs.Links.{field_in, field_link, lock_link}
 use Rattle.par_actions.specs.declared.fields.Field.{Field}
 use Rattle.par_actions.specs.declared.fit.Fit.TheVariants as fit
 use Rattle.par_method_area.specs.declared.classes.ClassRow.{ClassRow}
@@ -28,7 +29,7 @@ use Rattle.par_method_area.proofs.Taking.{takes, takes-own, takes-none}
 use Rattle.par_method_area.proofs.Saying.{kind-named, field-said, told-kind}
 use Rattle.par_method_area.proofs.Numbered.{name-at, some-name, not-locks, locks-missed}
 use Rattle.par_method_area.proofs.Counts.{many-few}
-use Rattle.par_steps.proofs.par_link.Faultless.{names-apart, field-right, own-name, small}
+use Rattle.par_step_laws.proofs.par_link.Faultless.{names-apart, field-right, own-name, small}
 
 module _ (files : List ClassFile) (rows : List ClassRow) (exceptions : List Bool)
     (statics : List MVal)

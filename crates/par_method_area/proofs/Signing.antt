@@ -5,8 +5,8 @@ use Rattle.std.specs.Option.{unwrap_or}
 use Rattle.par_pool.specs.declared.constant.Constant.{Constant}
 use Rattle.par_values.specs.Areas.{Name}
 use Rattle.par_single.specs.Members.{text_at}
-use Rattle.par_steps.specs.par_link.Placed.{pool_texts}
-use Rattle.par_steps.proofs.par_link.Keyed.{text-made}
+use Rattle.par_step_laws.specs.par_link.Placed.{pool_texts}
+use Rattle.par_step_laws.proofs.par_link.Keyed.{text-made}
 use Rattle.par_method_area.specs.Signatures.{Said, Told, told, said_by, signature_in}
 
 pub said-at : (classes : List Name) (entries : List Constant) (signatures : List Said) (index : ℕ)

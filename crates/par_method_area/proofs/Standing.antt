@@ -7,12 +7,12 @@ use Rattle.par_class.specs.declared.file.ClassFile.{ClassFile}
 use Rattle.par_class.specs.declared.file.CodeAttr.{CodeAttr}
 use Rattle.par_class.specs.declared.file.MethodFile.{MethodFile}
 use Rattle.par_instr.specs.Decoding.{decoded, decoded_at}
-use Rattle.par_steps.specs.par_link.Conditions.{is_short}
+use Rattle.par_step_laws.specs.par_link.Conditions.{is_short}
 use Rattle.par_values.specs.declared.value.MVal.{MVal}
 use Rattle.par_starts.specs.Standing.{IsStanding, KnowsStanding}
 use Rattle.par_starts.specs.declared.instructions.Standing.{Standing}
-use Rattle.par_steps.specs.Classes.{class_names}
-use Rattle.par_steps.specs.Methods.{methods_of, method_code, code_in, code_or_none}
+use Rattle.par_step_laws.specs.Classes.{class_names}
+use Rattle.par_step_laws.specs.Methods.{methods_of, method_code, code_in, code_or_none}
 use Rattle.par_method_area.specs.declared.classes.ClassRow.{ClassRow}
 use Rattle.par_method_area.specs.declared.methods.MethodRow.{MethodRow}
 use Rattle.par_method_area.specs.Area.{Area, AreTold}
@@ -20,7 +20,7 @@ use Rattle.par_method_area.specs.Classes.{IsClassRow}
 use Rattle.par_method_area.specs.Methods.{IsMethodRow}
 use Rattle.par_method_area.proofs.Beside.{found, missing}
 use Rattle.par_method_area.proofs.Coded.{all-at}
-use Rattle.par_steps.proofs.par_link.Faultless.{small}
+use Rattle.par_step_laws.proofs.par_link.Faultless.{small}
 
 nothing : (at : ℕ) → decoded_at [] at ≡ None
 nothing at = ap decoded (drop-nil {A = ℕ} at)

@@ -15,7 +15,7 @@ use Rattle.par_actions.specs.declared.fit.Fit.TheVariants.{OfClass, Nothing}
 use Rattle.par_actions.specs.Fits.{accepts, Takes}
 use Rattle.par_actions.specs.Callee.{AllTake}
 use Rattle.par_method_area.specs.Fits.{fit_at, fit_of}
-use Rattle.par_steps.proofs.par_link.Apart.{AreApart, same-itself}
+use Rattle.par_step_laws.proofs.par_link.Apart.{AreApart, same-itself}
 
 -- a kind whose class, where it has one, has a name of some bytes
 abbrev pub IsNamed : Kind → Type 0

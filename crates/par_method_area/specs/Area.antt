@@ -2,9 +2,9 @@
 use Rattle.std.specs.Prelude.{◌≡◌, ℕ, Bool, List, map, Option}
 use Rattle.par_class.specs.declared.file.ClassFile.{ClassFile}
 use Rattle.par_values.specs.declared.value.MVal.{MVal}
-use Rattle.par_steps.specs.par_link.Linked.{AreLinked}
-use Rattle.par_steps.specs.Classes.{class_names}
-use Rattle.par_steps.specs.Fields.{all_statics}
+use Rattle.par_step_laws.specs.par_link.Linked.{AreLinked}
+use Rattle.par_step_laws.specs.Classes.{class_names}
+use Rattle.par_step_laws.specs.Fields.{all_statics}
 use Rattle.par_method_area.specs.declared.classes.ClassRow.{ClassRow}
 use Rattle.par_actions.specs.par_lines.Lines.{Channel}
 use Rattle.par_method_area.specs.Rows.{AreRows}

@@ -3,9 +3,9 @@ use Rattle.std.specs.Prelude.{◌≡◌, ℕ, Bool, true, List, [], ◌∷◌, �
 use Rattle.std.specs.List.{filter}
 use Rattle.par_class.specs.declared.file.ClassFile.{ClassFile}
 use Rattle.par_values.specs.Areas.{Name, first_value}
-use Rattle.par_steps.specs.par_link.Placed.{pool_texts}
-use Rattle.par_steps.specs.Classes.{is_exception}
-use Rattle.par_steps.specs.Fields.{class_statics, is_own, kind_of}
+use Rattle.par_step_laws.specs.par_link.Placed.{pool_texts}
+use Rattle.par_step_laws.specs.Classes.{is_exception}
+use Rattle.par_step_laws.specs.Fields.{class_statics, is_own, kind_of}
 use Rattle.par_method_area.specs.declared.classes.ClassRow.{ClassRow}
 use Rattle.par_actions.specs.par_lines.Lines.{Channel}
 use Rattle.par_method_area.specs.Rows.{AreRows}

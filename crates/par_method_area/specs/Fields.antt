@@ -4,7 +4,7 @@ use Rattle.par_pool.specs.declared.constant.Constant.{Constant}
 use Rattle.par_class.specs.declared.file.FieldFile.{FieldFile}
 use Rattle.par_class.specs.declared.file.ClassFile.{ClassFile}
 use Rattle.par_values.specs.Areas.{Name}
-use Rattle.par_steps.specs.Fields.{is_shared, is_own, kind_of, many_of}
+use Rattle.par_step_laws.specs.Fields.{is_shared, is_own, kind_of, many_of}
 use Rattle.par_actions.specs.declared.fields.Field.{Field}
 use Rattle.par_method_area.specs.Fits.{fit_of}
 

@@ -10,5 +10,5 @@ pub mod Area
 pub mod Known
 pub mod Targets
 pub use Rattle.par_actions.specs as par_actions
-pub use Rattle.par_steps.specs.par_link as par_link
-pub use Rattle.par_steps.specs as par_steps
+pub use Rattle.par_step_laws.specs.par_link as par_link
+pub use Rattle.par_step_laws.specs as par_step_laws

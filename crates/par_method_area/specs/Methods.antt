@@ -10,7 +10,7 @@ use Rattle.par_single.specs.Links.{signature_said}
 use Rattle.par_single.specs.Walk.{starts_at}
 use Rattle.par_starts.specs.Standing.{IsStanding}
 use Rattle.par_starts.specs.declared.instructions.Standing.{Standing}
-use Rattle.par_steps.specs.Methods.{code_or_none}
+use Rattle.par_step_laws.specs.Methods.{code_or_none}
 use Rattle.par_method_area.specs.declared.methods.MethodRow.{MethodRow}
 use Rattle.par_actions.specs.par_lines.Lines.{Channel, line_of}
 use Rattle.par_method_area.specs.Signatures.{Said, signature_in}

@@ -2,8 +2,8 @@
 
 ghost use Rattle.std.specs.Prelude.{◌≡◌, ◌+◌, ◌≤◌, length, map, take, IfOk};
 ghost use Rattle.std.specs.List.{All};
-ghost use Rattle.par_steps.specs.par_link.Conditions.{IsSmall};
-ghost use Rattle.par_steps.specs.Fields.{class_statics};
+ghost use Rattle.par_step_laws.specs.par_link.Conditions.{IsSmall};
+ghost use Rattle.par_step_laws.specs.Fields.{class_statics};
 ghost use Rattle.par_method_area.specs.Classes.{IsFileRow, IsClassRow, lines_in, file_lines};
 ghost use Rattle.par_method_area.specs.Classes.{line_rows};
 ghost use Rattle.par_method_area.specs.Rows.{AreRows};

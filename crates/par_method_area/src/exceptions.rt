@@ -1,7 +1,7 @@
 //! Which classes are those of exceptions.
 
 ghost use Rattle.std.specs.Prelude.{◌≡◌, map, IfOk};
-ghost use Rattle.par_steps.specs.Classes.{is_exception};
+ghost use Rattle.par_step_laws.specs.Classes.{is_exception};
 ghost use Rattle.par_method_area.specs.Classes.{exception_flags};
 
 use par_base::list::List;

@@ -2,8 +2,8 @@
 
 ghost use Rattle.std.specs.Prelude.{◌≡◌, ◌+◌, ◌<◌, ◌≤◌, not, length, map, IfOk, if◌then◌else◌};
 ghost use Rattle.std.specs.List.{filter};
-ghost use Rattle.par_steps.specs.par_link.Conditions.{IsSmall};
-ghost use Rattle.par_steps.specs.Fields.{is_shared, is_own, kind_of};
+ghost use Rattle.par_step_laws.specs.par_link.Conditions.{IsSmall};
+ghost use Rattle.par_step_laws.specs.Fields.{is_shared, is_own, kind_of};
 ghost use Rattle.par_values.specs.Areas.{first_value};
 ghost use Rattle.par_method_area.specs.Fields.{place_behind, row_behind, IsFieldRow};
 ghost use Rattle.par_method_area.specs.Rows.{AreRows};

@@ -26,5 +26,5 @@ mod told;
 pub use area::MethodArea;
 pub use known::{Code, MemberNames, NamedField};
 pub use par_actions;
-pub use par_steps;
-pub use par_steps::par_link;
+pub use par_step_laws;
+pub use par_step_laws::par_link;

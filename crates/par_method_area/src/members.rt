@@ -1,10 +1,11 @@
 //! What an index of a constant pool names, as it is told once.
 
 ghost use Rattle.std.specs.Prelude.{◌≡◌, [], true, false, slice_get};
-ghost use Rattle.par_steps.specs.par_link.Linked.{named_at};
-ghost use Rattle.par_steps.specs.Classes.{class_names};
-ghost use Rattle.par_steps.specs.Links.{class_link, builtin_class, field_in, lock_link, method_in};
-ghost use Rattle.par_steps.specs.Links.{builtin_initializer, link_at};
+ghost use Rattle.par_step_laws.specs.par_link.Linked.{named_at};
+ghost use Rattle.par_step_laws.specs.Classes.{class_names};
+ghost use Rattle.par_step_laws.specs.Links.{class_link, builtin_class, field_in, lock_link};
+ghost use Rattle.par_step_laws.specs.Links.{method_in};
+ghost use Rattle.par_step_laws.specs.Links.{builtin_initializer, link_at};
 ghost use Rattle.par_method_area.specs.Known.{linked_number, KnowsField, KnowsClass, KnowsMethod};
 ghost use Rattle.par_method_area.specs.Targets.{gives_result, target_of};
 
@@ -18,7 +19,7 @@ use par_class::is_native;
 use par_pool::constant::Constant;
 use par_pool::kind::entry;
 use par_single::member::is_static;
-use par_steps::par_link::{Builtin, Declared, Named};
+use par_step_laws::par_link::{Builtin, Declared, Named};
 
 /// Whether a method gives a result.
 fn gives_result(gives: Gives) -> bool

@@ -6,7 +6,7 @@ ghost use Rattle.std.specs.Option.{option_map};
 ghost use Rattle.std.specs.Str.{bytes_eq};
 ghost use Rattle.par_single.specs.Descriptors.{kind_of};
 ghost use Rattle.par_single.specs.Members.{own_names};
-ghost use Rattle.par_steps.specs.Classes.{class_names};
+ghost use Rattle.par_step_laws.specs.Classes.{class_names};
 ghost use Rattle.par_method_area.specs.Fits.{fit_at, fit_or_any, gives_of};
 ghost use Rattle.par_method_area.specs.Names.{texts};
 

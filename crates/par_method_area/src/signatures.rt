@@ -5,7 +5,7 @@ ghost use Rattle.std.specs.Prelude.{◌≡◌, map, Some, IfOk, IfSome};
 ghost use Rattle.std.specs.Option.{option_copied};
 ghost use Rattle.par_single.specs.Descriptors.{kinds_at};
 ghost use Rattle.par_single.specs.Members.{text_of};
-ghost use Rattle.par_steps.specs.par_link.Placed.{pool_texts};
+ghost use Rattle.par_step_laws.specs.par_link.Placed.{pool_texts};
 ghost use Rattle.par_method_area.specs.Fits.{fit_of};
 ghost use Rattle.par_method_area.specs.Signatures.{read, told, said_by, signature_in};
 

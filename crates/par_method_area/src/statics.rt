@@ -1,7 +1,7 @@
 //! What the static fields of a program hold before they are written.
 
 ghost use Rattle.std.specs.Prelude.{◌≡◌, IfOk};
-ghost use Rattle.par_steps.specs.Fields.{first_statics, class_statics, all_statics};
+ghost use Rattle.par_step_laws.specs.Fields.{first_statics, class_statics, all_statics};
 
 use crate::fields::first_value;
 use par_base::list::List;

@@ -2,9 +2,9 @@
 
 ghost use Rattle.std.specs.Prelude.{◌≡◌, ◌<◌, length, slice_get};
 ghost use Rattle.par_base.specs.Names.{IsName};
-ghost use Rattle.par_steps.specs.Classes.{class_names};
-ghost use Rattle.par_steps.specs.Links.{field_in, method_in, link_at};
-ghost use Rattle.par_steps.specs.Methods.{method_name};
+ghost use Rattle.par_step_laws.specs.Classes.{class_names};
+ghost use Rattle.par_step_laws.specs.Links.{field_in, method_in, link_at};
+ghost use Rattle.par_step_laws.specs.Methods.{method_name};
 ghost use Rattle.par_values.specs.Areas.{class_named};
 ghost use Rattle.par_method_area.specs.Known.{KnowsNames};
 
@@ -12,7 +12,7 @@ use crate::area::MethodArea;
 use crate::known::MemberNames;
 use crate::names::{ARITHMETIC_EXCEPTION, NULL_POINTER_EXCEPTION};
 use par_single::member::{own_name, text_at};
-use par_steps::par_link::{Declared, Named};
+use par_step_laws::par_link::{Declared, Named};
 
 /// No names.
 const NAMELESS: MemberNames<'static> = MemberNames {

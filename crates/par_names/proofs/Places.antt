@@ -27,11 +27,12 @@ use Rattle.par_tree.specs.Plain.{Catch, NoCatch, Handler, On, Local, Method, Cla
 use Rattle.par_tree.specs.Plain.{Declaration}
 use Rattle.par_tree.specs.Plain.{Source, place}
 use Rattle.par_typed.specs.declared.refusal.Refusal.{Refusal}
-use Rattle.par_places.specs.Within.{IdentIn, AreIn, TypeIn, ResultIn, LockIn, LocksIn, ClauseIn}
-use Rattle.par_places.specs.Within.{TermIn, PolicyIn, MayPolicyIn, ExpIn, MayExpIn, ExpsIn, LocalIn}
-use Rattle.par_places.specs.Within.{StaIn, BracesIn, MayBracesIn, ElseIn, StasIn, CatchesIn}
-use Rattle.par_places.specs.Within.{HandlerIn, FieldIn, ChannelIn, ParamIn, ThrowIn, MethodIn}
-use Rattle.par_places.specs.Within.{ClassIn, LockDeclIn, PolicyDeclIn, DeclarationIn, IsWithin}
+use Rattle.par_span_laws.specs.Within.{IdentIn, AreIn, TypeIn, ResultIn, LockIn, LocksIn, ClauseIn}
+use Rattle.par_span_laws.specs.Within.{TermIn, PolicyIn, MayPolicyIn, ExpIn, MayExpIn, ExpsIn}
+use Rattle.par_span_laws.specs.Within.{LocalIn}
+use Rattle.par_span_laws.specs.Within.{StaIn, BracesIn, MayBracesIn, ElseIn, StasIn, CatchesIn}
+use Rattle.par_span_laws.specs.Within.{HandlerIn, FieldIn, ChannelIn, ParamIn, ThrowIn, MethodIn}
+use Rattle.par_span_laws.specs.Within.{ClassIn, LockDeclIn, PolicyDeclIn, DeclarationIn, IsWithin}
 use Rattle.par_names.specs.Declarations.{actors_in, locks_in, policies_in, classes_in, actors}
 use Rattle.par_names.specs.Declarations.{locks, policies, builtin, builtins, declared_classes}
 use Rattle.par_names.specs.Declarations.{classes, doubles}
@@ -50,10 +51,10 @@ use Rattle.par_names.specs.Methods.{effect_faults, throw_faults, head_faults, me
 use Rattle.par_names.specs.Methods.{class_faults}
 use Rattle.par_names.specs.Program.{declaration_faults, declarations_faults, mains}
 use Rattle.par_names.specs.Program.{mains_faults, program_doubles, name_faults}
-use Rattle.par_places.proofs.Built.{place_in}
-use Rattle.par_places.proofs.Broken.{both, each, mapped, filtered, behind_first}
+use Rattle.par_span_laws.proofs.Built.{place_in}
+use Rattle.par_span_laws.proofs.Broken.{both, each, mapped, filtered, behind_first}
 use Rattle.par_typed.specs.First.{when}
-use Rattle.par_places.proofs.Broken as broken
+use Rattle.par_span_laws.proofs.Broken as broken
 use Rattle.par_names.specs.Places.{NamesAreBrokenWithin}
 
 module _ (m : ℕ) where

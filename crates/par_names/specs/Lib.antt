@@ -10,8 +10,8 @@ pub mod Seen
 pub mod Earliest
 pub mod Scoped
 pub mod Places
-pub use Rattle.par_places.specs.par_grammar as par_grammar
+pub use Rattle.par_span_laws.specs.par_grammar as par_grammar
 pub use Rattle.par_index.specs as par_index
-pub use Rattle.par_places.specs as par_places
-pub use Rattle.par_places.specs.par_tree as par_tree
-pub use Rattle.par_places.specs.par_typed as par_typed
+pub use Rattle.par_span_laws.specs as par_span_laws
+pub use Rattle.par_span_laws.specs.par_tree as par_tree
+pub use Rattle.par_span_laws.specs.par_typed as par_typed

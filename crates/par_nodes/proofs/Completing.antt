@@ -4,10 +4,11 @@ use Rattle.std.proofs.Common.{not, Option, Some, None, List, [], ◌∷◌, ◌+
 use Rattle.std.proofs.Common.{drop-cons, add-one, refl, sym, ap, ◌∙◌, arith}
 use Rattle.std.proofs.lemmas.Bool.{eqb-true}
 use Rattle.std.proofs.Math.Path.{fun_ext}
-use Rattle.par_rules.specs.Kinds.{Kind, Normal, Return, Break, Continue, Throw, same, Absorber}
-use Rattle.par_rules.specs.Kinds.{absorbed, Next}
-use Rattle.par_rules.specs.Rules.{From, Worth, Node, node, Rules, Done, Part, Test, Heads, Leaves}
-use Rattle.par_rules.specs.Rules.{Worths, part_can, comes, can, can_by}
+use Rattle.par_flow_laws.specs.Kinds.{Kind, Normal, Return, Break, Continue, Throw, same, Absorber}
+use Rattle.par_flow_laws.specs.Kinds.{absorbed, Next}
+use Rattle.par_flow_laws.specs.Rules.{From, Worth, Node, node, Rules, Done, Part, Test, Heads}
+use Rattle.par_flow_laws.specs.Rules.{Leaves}
+use Rattle.par_flow_laws.specs.Rules.{Worths, part_can, comes, can, can_by}
 use Rattle.par_nodes.specs.declared.rule.Kind as code
 use Rattle.par_nodes.specs.declared.rule.Origin.{Origin}
 use Rattle.par_nodes.specs.declared.rule.Start.TheVariants as start

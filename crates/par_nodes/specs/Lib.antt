@@ -1,5 +1,5 @@
 pub mod Seen
 pub mod Possible
 pub mod Starts
-pub use Rattle.par_rules.specs as par_rules
-pub use Rattle.par_rules.specs.par_typed as par_typed
+pub use Rattle.par_flow_laws.specs as par_flow_laws
+pub use Rattle.par_flow_laws.specs.par_typed as par_typed

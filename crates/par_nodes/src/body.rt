@@ -2,8 +2,8 @@
 
 ghost use Rattle.std.specs.Prelude.{◌≡◌, IfOk};
 ghost use Rattle.par_typed.specs.Shown.{does};
-ghost use Rattle.par_rules.specs.Declares.{declares};
-ghost use Rattle.par_rules.specs.Body.{sta};
+ghost use Rattle.par_flow_laws.specs.Declares.{declares};
+ghost use Rattle.par_flow_laws.specs.Body.{sta};
 ghost use Rattle.par_nodes.specs.Seen.{seen_node};
 
 use crate::rule::Node;

@@ -16,5 +16,5 @@ pub mod possible;
 pub mod rule;
 pub mod stmt;
 
-pub use par_rules;
-pub use par_rules::par_typed;
+pub use par_flow_laws;
+pub use par_flow_laws::par_typed;

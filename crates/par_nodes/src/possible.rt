@@ -1,9 +1,9 @@
 //! Which completions of a node are possible.
 
 ghost use Rattle.std.specs.Prelude.{◌≡◌, Bool, IfOk, OnOk, [], ◌∷◌, List as Items};
-ghost use Rattle.par_rules.specs.par_policy.Numbers.{has};
-ghost use Rattle.par_rules.specs.Kinds as flow;
-ghost use Rattle.par_rules.specs.Rules as plain;
+ghost use Rattle.par_flow_laws.specs.par_policy.Numbers.{has};
+ghost use Rattle.par_flow_laws.specs.Kinds as flow;
+ghost use Rattle.par_flow_laws.specs.Rules as plain;
 ghost use Rattle.par_nodes.specs.Seen.{seen_absorber, seen_kind, seen_origin, seen_rules};
 ghost use Rattle.par_nodes.specs.Possible.{among, apart, cans, either, if_so, parts_can};
 

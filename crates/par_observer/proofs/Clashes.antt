@@ -20,8 +20,8 @@ use Rattle.par_typed.proofs.First.{answer_passes_on}
 use Rattle.par_typed.specs.Plain.{Body}
 use Rattle.par_resolved.specs.Resolved.{table_of}
 use Rattle.par_table.specs.par_faults.Faults.{all_faults}
-use Rattle.par_types.specs.Program.{type_faults}
-use Rattle.par_checks.specs.Verdict.{IsAccepted, IsBroken, Fails}
+use Rattle.par_type_rules.specs.Program.{type_faults}
+use Rattle.par_check_laws.specs.Verdict.{IsAccepted, IsBroken, Fails}
 use Rattle.par_observer.specs.Passes.{typing_faults}
 use Rattle.par_observer.specs.Trees.{IsAcceptedTree, IsTypedTree, BreaksRule, BreaksTyping}
 use Rattle.par_observer.specs.Trees.{has_fault, has_flow}

@@ -13,13 +13,14 @@ use Rattle.par_scope.specs.Names.{Names, names_of}
 use Rattle.par_scope.specs.Home.{class_named}
 use Rattle.par_names.specs.Declarations.{classes_in, declared_classes}
 use Rattle.par_table.specs.par_declarations.Limits.{class_limits}
-use Rattle.par_placed.specs.par_annotate.Stmts.{Written}
-use Rattle.par_placed.specs.par_annotate.Bodies.{typed_methods, typed_class, typed_declaration}
-use Rattle.par_placed.specs.par_annotate.Bodies.{typed_declarations}
+use Rattle.par_check_span_laws.specs.par_annotation_laws.Stmts.{Written}
+use Rattle.par_check_span_laws.specs.par_annotation_laws.Bodies.{typed_methods, typed_class}
+use Rattle.par_check_span_laws.specs.par_annotation_laws.Bodies.{typed_declaration}
+use Rattle.par_check_span_laws.specs.par_annotation_laws.Bodies.{typed_declarations}
 use Rattle.par_resolved.specs.Resolved.{table_of}
 use Rattle.par_typing.specs.Typed.{written}
 use Rattle.par_typing.proofs.Limits.{limits_kept, class_within}
-use Rattle.par_secure.specs.par_verdict.Accepted.{MOST_BODIES}
+use Rattle.par_secure_laws.specs.par_verdict.Accepted.{MOST_BODIES}
 use Rattle.par_observer.specs.Trees.{IsTypedTree}
 
 module _ (w : Written) (table : Table) (names : Names) where

@@ -12,21 +12,21 @@ use Rattle.par_typed.specs.declared.table.Table.{Table}
 use Rattle.par_typed.specs.Plain.{Body}
 use Rattle.par_typed.specs.Shown.{bodies}
 use Rattle.par_typed.specs.First.{first_of}
-use Rattle.par_types.specs.Inferred.{all_inferred}
+use Rattle.par_type_rules.specs.Inferred.{all_inferred}
 use Rattle.par_table.proofs.par_faults.Few.{none_is_nothing}
-use Rattle.par_secure.specs.par_well_typed.WellTyped.{IsWellTyped}
-use Rattle.par_declared.specs.Births.{AreFieldsWritten}
-use Rattle.par_declared.specs.Declared.{IsWellDeclared}
-use Rattle.par_typing.proofs.par_tables.Written.{fields_are_written}
+use Rattle.par_secure_laws.specs.par_typed_laws.WellTyped.{IsWellTyped}
+use Rattle.par_table_laws.specs.Births.{AreFieldsWritten}
+use Rattle.par_table_laws.specs.Declared.{IsWellDeclared}
+use Rattle.par_typing.proofs.par_source_table_laws.Written.{fields_are_written}
 use Rattle.par_resolved.specs.Resolved.{table_of}
 use Rattle.par_scope.specs.Names.{IsFewTable}
 use Rattle.par_typing.proofs.Limits.{limits_kept}
 use Rattle.par_typing.proofs.Tables.{few_table}
-use Rattle.par_bodies.specs.Members as members
-use Rattle.par_secure.specs.par_well_typed.Orderly as well
-use Rattle.par_secure.specs.par_verdict.Accepted as verdict
-use Rattle.par_secure.specs.par_verdict.Accepted.{IsOrderlyBody}
-use Rattle.par_secure.specs.par_verdict.Judged.{IsVerdict, IsFirstBroken}
+use Rattle.par_body_laws.specs.Members as members
+use Rattle.par_secure_laws.specs.par_typed_laws.Orderly as well
+use Rattle.par_secure_laws.specs.par_verdict.Accepted as verdict
+use Rattle.par_secure_laws.specs.par_verdict.Accepted.{IsOrderlyBody}
+use Rattle.par_secure_laws.specs.par_verdict.Judged.{IsVerdict, IsFirstBroken}
 use Rattle.par_observer.specs.declared.error.JudgeError.{JudgeError}
 use Rattle.par_observer.specs.declared.error.JudgeError.TheVariants.{Refused, Memory}
 use Rattle.par_observer.specs.Passes.{tree_faults}

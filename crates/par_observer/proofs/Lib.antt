@@ -8,5 +8,5 @@ pub mod Flowing
 pub mod Few
 pub mod Ready
 pub mod Securing
-pub use Rattle.par_placed.proofs as par_placed
+pub use Rattle.par_check_span_laws.proofs as par_check_span_laws
 pub use Rattle.par_typing.proofs as par_typing

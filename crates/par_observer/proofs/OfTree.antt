@@ -13,10 +13,10 @@ use Rattle.par_lexer.specs.Spans.{IsLaid, Stands}
 use Rattle.par_tree.specs.Plain.{Source}
 use Rattle.par_parser.specs.Sentence as syntax
 use Rattle.par_typed.specs.declared.refusal.Refusal.{Refusal}
-use Rattle.par_places.specs.Law.{BeginWithin}
-use Rattle.par_places.specs.Within.{IsWithin}
-use Rattle.par_places.specs.Broken.{AreBrokenWithin}
-use Rattle.par_places.proofs.Trees.{trees_lie}
+use Rattle.par_span_laws.specs.Law.{BeginWithin}
+use Rattle.par_span_laws.specs.Within.{IsWithin}
+use Rattle.par_span_laws.specs.Broken.{AreBrokenWithin}
+use Rattle.par_span_laws.proofs.Trees.{trees_lie}
 use Rattle.par_observer.specs.declared.error.JudgeError.{JudgeError}
 use Rattle.par_observer.specs.declared.error.JudgeError.TheVariants.{Refused, Memory}
 use Rattle.par_observer.specs.Passes.{tree_faults}

@@ -6,8 +6,8 @@ use Rattle.par_typed.specs.First.{IsFirst, IsAnswer, first_of, in_passes}
 use Rattle.par_typed.proofs.First.{answered, first_stops, answer_passes_on}
 use Rattle.par_resolved.specs.Resolved.{table_of}
 use Rattle.par_table.specs.par_faults.Faults.{all_faults}
-use Rattle.par_types.specs.Program.{type_faults}
-use Rattle.par_types.specs.Inferred.{all_inferred}
+use Rattle.par_type_rules.specs.Program.{type_faults}
+use Rattle.par_type_rules.specs.Inferred.{all_inferred}
 use Rattle.par_observer.specs.Passes.{typing_faults, typed_faults, tree_faults}
 
 -- a rule on names or a limit comes first

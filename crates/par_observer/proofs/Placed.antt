@@ -2,12 +2,12 @@
 use Rattle.std.proofs.Common.{◌≤◌, subst}
 use Rattle.par_typed.specs.declared.refusal.Refusal.{Refusal}
 use Rattle.par_typed.specs.declared.table.Table.{Table}
-use Rattle.par_rules.specs.Declares.{declares}
-use Rattle.par_checks.specs.Verdict.{Fails}
-use Rattle.par_secure.specs.par_verdict.Judged.{IsFirstBroken}
+use Rattle.par_flow_laws.specs.Declares.{declares}
+use Rattle.par_check_laws.specs.Verdict.{Fails}
+use Rattle.par_secure_laws.specs.par_verdict.Judged.{IsFirstBroken}
 use Rattle.par_typing.specs.Typed.{written}
 use Rattle.par_observer.specs.Trees.{bodies_of}
-use Rattle.par_placed.proofs.Law.{checks_lie}
+use Rattle.par_check_span_laws.proofs.Law.{checks_lie}
 use Rattle.par_observer.proofs.Highest.{lowest_told, told_are_closed}
 use Rattle.std.proofs.Common.{ℕ, List, [], ◌∷◌}
 use Rattle.std.specs.List.{AllByRecursion}
@@ -15,14 +15,14 @@ use Rattle.par_tree.specs.declared.decl.FieldDecl.{FieldDecl}
 use Rattle.par_tree.specs.Plain as plain
 use Rattle.par_tree.specs.Plain.{Source, Declaration}
 use Rattle.par_resolved.specs.Resolved.{table_of}
-use Rattle.par_places.specs.Within.{IsWithin, FieldIn, DeclarationIn}
-use Rattle.par_places.specs.Broken.{AreBrokenWithin}
-use Rattle.par_places.proofs.Broken.{join, there, passes_within}
+use Rattle.par_span_laws.specs.Within.{IsWithin, FieldIn, DeclarationIn}
+use Rattle.par_span_laws.specs.Broken.{AreBrokenWithin}
+use Rattle.par_span_laws.proofs.Broken.{join, there, passes_within}
 use Rattle.par_table.specs.par_faults.Faults.{all_faults}
 use Rattle.par_table.proofs.par_faults.Places.{all_within}
-use Rattle.par_types.specs.Program.{type_faults}
-use Rattle.par_types.specs.Inferred.{fields_inferred, declaration_inferred, all_inferred}
-use Rattle.par_types.proofs.Places.{types_broken_within}
+use Rattle.par_type_rules.specs.Program.{type_faults}
+use Rattle.par_type_rules.specs.Inferred.{fields_inferred, declaration_inferred, all_inferred}
+use Rattle.par_type_rules.proofs.Places.{types_broken_within}
 use Rattle.par_observer.specs.Passes.{typed_faults, tree_faults}
 
 fields_in : (m : ℕ) (fs : List FieldDecl) → AllByRecursion (FieldIn m) fs

@@ -12,9 +12,9 @@ use Rattle.par_lexer.specs.Tokens.{HasTokens}
 use Rattle.par_lexer.specs.Spans.{IsLaid}
 use Rattle.par_tree.specs.Plain.{Source}
 use Rattle.par_parser.specs.Sentence as syntax
-use Rattle.par_places.specs.Within.{IsWithin}
-use Rattle.par_places.proofs.Trees.{trees_lie}
-use Rattle.par_placed.proofs.Law.{checks_lie}
+use Rattle.par_span_laws.specs.Within.{IsWithin}
+use Rattle.par_span_laws.proofs.Trees.{trees_lie}
+use Rattle.par_check_span_laws.proofs.Law.{checks_lie}
 use Rattle.par_typed.specs.declared.table.ClassInfo.{ClassInfo}
 use Rattle.par_typed.specs.declared.table.Table.{Table}
 use Rattle.par_typed.specs.declared.program.Typed.{Typed}
@@ -25,10 +25,10 @@ use Rattle.par_resolved.specs.Resolved.{table_of}
 use Rattle.par_typing.specs.Typed.{written}
 use Rattle.par_typing.proofs.Limits.{limits_kept}
 use Rattle.par_typing.proofs.Tables.{few_table}
-use Rattle.par_secure.specs.par_well_typed.WellTyped.{IsWellTyped}
-use Rattle.par_declared.specs.Declared.{HasFewFields, IsWellDeclared}
-use Rattle.par_checks.specs.Asked.{Check}
-use Rattle.par_checks.specs.Checks.{checks}
+use Rattle.par_secure_laws.specs.par_typed_laws.WellTyped.{IsWellTyped}
+use Rattle.par_table_laws.specs.Declared.{HasFewFields, IsWellDeclared}
+use Rattle.par_check_laws.specs.Asked.{Check}
+use Rattle.par_check_laws.specs.Checks.{checks}
 use Rattle.par_observer.specs.declared.error.JudgeError.{JudgeError}
 use Rattle.par_observer.specs.Trees.{bodies_of, IsTypedTree, IsReady, ChecksLie}
 use Rattle.par_observer.specs.Judgements.{IsTypedAs}

@@ -2,12 +2,12 @@
 use Rattle.std.proofs.Common.{List, Result, Ok, Err}
 use Rattle.std.specs.Result.{IfOk}
 use Rattle.par_typed.specs.declared.program.Typed.{Typed}
-use Rattle.par_rules.specs.Lattice.{numbers}
-use Rattle.par_rules.specs.Facts.{Facts}
-use Rattle.par_secure.specs.par_verdict.Accepted.{IsAcceptedBy}
+use Rattle.par_flow_laws.specs.Lattice.{numbers}
+use Rattle.par_flow_laws.specs.Facts.{Facts}
+use Rattle.par_secure_laws.specs.par_verdict.Accepted.{IsAcceptedBy}
 use Rattle.par_secrecy.specs.Secure.{Secure}
 use Rattle.par_alike.specs.Subject.{subject}
-use Rattle.par_secure.proofs.Secure.{accepted_is_secure}
+use Rattle.par_secure_laws.proofs.Secure.{accepted_is_secure}
 use Rattle.par_observer.specs.declared.error.JudgeError.{JudgeError}
 use Rattle.par_observer.specs.Trees.{IsWellFormed}
 

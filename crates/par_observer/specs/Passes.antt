@@ -5,8 +5,8 @@ use Rattle.par_typed.specs.declared.refusal.Refusal.{Refusal}
 use Rattle.par_typed.specs.First.{in_passes}
 use Rattle.par_resolved.specs.Resolved.{table_of}
 use Rattle.par_table.specs.par_faults.Faults.{all_faults}
-use Rattle.par_types.specs.Program.{type_faults}
-use Rattle.par_types.specs.Inferred.{all_inferred}
+use Rattle.par_type_rules.specs.Program.{type_faults}
+use Rattle.par_type_rules.specs.Inferred.{all_inferred}
 
 -- rules on names, limits, and where these are kept, rules on types
 abbrev pub typing_faults : Source → List Refusal

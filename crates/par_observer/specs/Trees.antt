@@ -8,17 +8,17 @@ use Rattle.par_typed.specs.First.{IsFirst}
 use Rattle.par_typed.specs.Shown.{bodies}
 use Rattle.par_resolved.specs.Resolved.{table_of}
 use Rattle.par_table.specs.par_faults.Faults.{all_faults}
-use Rattle.par_placed.specs.par_annotate.Bodies.{typed_program}
+use Rattle.par_check_span_laws.specs.par_annotation_laws.Bodies.{typed_program}
 use Rattle.par_typed.specs.Plain.{Body}
 use Rattle.par_typing.specs.Typed.{IsTyped, written}
-use Rattle.par_secure.specs.par_well_typed.WellTyped.{IsWellTyped}
-use Rattle.par_declared.specs.Births.{AreFieldsWritten}
-use Rattle.par_declared.specs.Declared.{HasFewFields, IsWellDeclared}
-use Rattle.par_checks.specs.Asked.{Check}
-use Rattle.par_checks.specs.Checks.{checks}
-use Rattle.par_checks.specs.Verdict.{IsAccepted}
-use Rattle.par_secure.specs.par_verdict.Accepted.{IsOrderlyBody, MOST_BODIES}
-use Rattle.par_secure.specs.par_verdict.Judged.{IsFirstBroken}
+use Rattle.par_secure_laws.specs.par_typed_laws.WellTyped.{IsWellTyped}
+use Rattle.par_table_laws.specs.Births.{AreFieldsWritten}
+use Rattle.par_table_laws.specs.Declared.{HasFewFields, IsWellDeclared}
+use Rattle.par_check_laws.specs.Asked.{Check}
+use Rattle.par_check_laws.specs.Checks.{checks}
+use Rattle.par_check_laws.specs.Verdict.{IsAccepted}
+use Rattle.par_secure_laws.specs.par_verdict.Accepted.{IsOrderlyBody, MOST_BODIES}
+use Rattle.par_secure_laws.specs.par_verdict.Judged.{IsFirstBroken}
 use Rattle.par_observer.specs.declared.error.JudgeError.{JudgeError}
 use Rattle.par_observer.specs.declared.error.JudgeError.TheVariants.{Refused, Memory}
 use Rattle.par_observer.specs.Passes.{typing_faults, tree_faults}

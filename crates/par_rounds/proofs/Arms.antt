@@ -2,17 +2,19 @@
 use Rattle.std.proofs.Common.{◌≡◌, ℕ, Bool, Option, Some, None, List, [], ◌∷◌, ◌++◌, refl, sym, ap}
 use Rattle.std.proofs.Common.{◌∙◌, subst}
 use Rattle.par_bits.specs.Sets.{Set, has, none, union}
-use Rattle.par_rules.specs.Lattice.{numbers}
-use Rattle.par_rules.specs.Kinds.{Kind, normal, absorbed, Absorber}
-use Rattle.par_rules.specs.Facts.{Fact}
-use Rattle.par_rules.specs.Rules.{From, Worth, Node, node, Rules, Done, Part, Test, Heads, Leaves}
-use Rattle.par_rules.specs.Rules.{Worths, spot, way, worth}
-use Rattle.par_pass.specs.par_except.declared.way.Way as code_way
-use Rattle.par_pass.specs.par_except.Seen.{may_see}
-use Rattle.par_pass.specs.Exits.{Way, Exit, all, at, leaving, leave, restored}
-use Rattle.par_pass.specs.Pass as plain
-use Rattle.par_pass.specs.Pass.{HeadWays, Event, Row, nothing, fact, visited, ended, into, pass}
-use Rattle.par_pass.specs.Pass.{pass_all}
+use Rattle.par_flow_laws.specs.Lattice.{numbers}
+use Rattle.par_flow_laws.specs.Kinds.{Kind, normal, absorbed, Absorber}
+use Rattle.par_flow_laws.specs.Facts.{Fact}
+use Rattle.par_flow_laws.specs.Rules.{From, Worth, Node, node, Rules, Done, Part, Test, Heads}
+use Rattle.par_flow_laws.specs.Rules.{Leaves}
+use Rattle.par_flow_laws.specs.Rules.{Worths, spot, way, worth}
+use Rattle.par_pass_laws.specs.par_except.declared.way.Way as code_way
+use Rattle.par_pass_laws.specs.par_except.Seen.{may_see}
+use Rattle.par_pass_laws.specs.Exits.{Way, Exit, all, at, leaving, leave, restored}
+use Rattle.par_pass_laws.specs.Pass as plain
+use Rattle.par_pass_laws.specs.Pass.{HeadWays, Event, Row, nothing, fact, visited, ended, into}
+use Rattle.par_pass_laws.specs.Pass.{pass}
+use Rattle.par_pass_laws.specs.Pass.{pass_all}
 use Rattle.par_rounds.specs.declared.exits.Exit as code_exit
 use Rattle.par_rounds.specs.declared.notes.Notes.{Notes}
 use Rattle.par_rounds.specs.declared.pass.Found.{Found}

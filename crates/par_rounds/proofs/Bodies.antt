@@ -7,26 +7,27 @@ use Rattle.std.proofs.lemmas.List.Elements.{All-head, All-tail}
 use Rattle.par_bits.specs.Sets.{none, adding}
 use Rattle.par_typed.specs.declared.table.Table.{Table}
 use Rattle.par_typed.specs.Plain.{Body}
-use Rattle.par_rules.specs.Lattice.{Lattice, numbers, policies, unseen}
-use Rattle.par_rules.specs.Facts.{Facts}
-use Rattle.par_rules.specs.Declares.{Declares, Method, declares}
-use Rattle.par_rules.specs.Rules.{Node, node, Rules, Done, Part, Test, Heads, Leaves, Worths, spot}
-use Rattle.par_rules.specs.Body.{sta}
-use Rattle.par_rules.specs.Closed.{IsClosed, first, arriving, locals as entering}
-use Rattle.par_rules.specs.Numbered.{next, next_by, IsNumbered, AreNumbered}
-use Rattle.par_rules.specs.Ranges.{MOST, IsInRange, AreInRange}
-use Rattle.par_pass.specs.par_except.Weight.{IsSmall}
-use Rattle.par_pass.specs.Exits.{Way}
-use Rattle.par_pass.specs.Pass.{pass}
-use Rattle.par_pass.specs.Low.{Stands, AreHeadsLow}
-use Rattle.par_pass.specs.Written.{table}
-use Rattle.par_pass.specs.Result as result
-use Rattle.par_pass.specs.Result.{AreLeast}
-use Rattle.par_pass.specs.Seens.{seen_as}
-use Rattle.par_pass.specs.Possible.{HasPossibleExits}
-use Rattle.par_pass.proofs.Instances.{among, seen, stands, alone}
-use Rattle.par_pass.proofs.Points.{next_above}
-use Rattle.par_pass.proofs.Tables.{round_low, table_low, table_closed, table_possible, exact}
+use Rattle.par_flow_laws.specs.Lattice.{Lattice, numbers, policies, unseen}
+use Rattle.par_flow_laws.specs.Facts.{Facts}
+use Rattle.par_flow_laws.specs.Declares.{Declares, Method, declares}
+use Rattle.par_flow_laws.specs.Rules.{Node, node, Rules, Done, Part, Test, Heads, Leaves, Worths}
+use Rattle.par_flow_laws.specs.Rules.{spot}
+use Rattle.par_flow_laws.specs.Body.{sta}
+use Rattle.par_flow_laws.specs.Closed.{IsClosed, first, arriving, locals as entering}
+use Rattle.par_flow_laws.specs.Numbered.{next, next_by, IsNumbered, AreNumbered}
+use Rattle.par_flow_laws.specs.Ranges.{MOST, IsInRange, AreInRange}
+use Rattle.par_pass_laws.specs.par_except.Weight.{IsSmall}
+use Rattle.par_pass_laws.specs.Exits.{Way}
+use Rattle.par_pass_laws.specs.Pass.{pass}
+use Rattle.par_pass_laws.specs.Low.{Stands, AreHeadsLow}
+use Rattle.par_pass_laws.specs.Written.{table}
+use Rattle.par_pass_laws.specs.Result as result
+use Rattle.par_pass_laws.specs.Result.{AreLeast}
+use Rattle.par_pass_laws.specs.Seens.{seen_as}
+use Rattle.par_pass_laws.specs.Possible.{HasPossibleExits}
+use Rattle.par_pass_laws.proofs.Instances.{among, seen, stands, alone}
+use Rattle.par_pass_laws.proofs.Points.{next_above}
+use Rattle.par_pass_laws.proofs.Tables.{round_low, table_low, table_closed, table_possible, exact}
 use Rattle.par_rounds.specs.declared.fact.Fact.{Fact}
 use Rattle.par_rounds.specs.Seen.{seen_facts}
 use Rattle.par_rounds.specs.Took.{MayBeSmall}

@@ -2,11 +2,11 @@
 use Rattle.std.proofs.Common.{◌≡◌, ℕ, suc, ◌<◌, true, false, Option, Some, None, List, length}
 use Rattle.std.proofs.Common.{sym, ap, ◌∙◌, subst}
 use Rattle.std.proofs.Math.Path.{fun_ext}
-use Rattle.par_rules.specs.Rules.{Node}
-use Rattle.par_pass.specs.par_except.declared.way.Way as code
-use Rattle.par_pass.specs.Exits.{Way}
-use Rattle.par_pass.specs.Pass.{pass}
-use Rattle.par_pass.specs.Written.{blanks, written, AllFit}
+use Rattle.par_flow_laws.specs.Rules.{Node}
+use Rattle.par_pass_laws.specs.par_except.declared.way.Way as code
+use Rattle.par_pass_laws.specs.Exits.{Way}
+use Rattle.par_pass_laws.specs.Pass.{pass}
+use Rattle.par_pass_laws.specs.Written.{blanks, written, AllFit}
 use Rattle.par_rounds.specs.declared.notes.Notes.{Notes}
 use Rattle.par_rounds.specs.Seen.{ways_of, AreHeadsWide}
 use Rattle.par_rounds.specs.Took.{raised, total, AreSmall, MayBeSmall}

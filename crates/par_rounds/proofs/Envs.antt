@@ -6,10 +6,10 @@ use Rattle.std.proofs.Math.Path.{fun_ext}
 use Rattle.std.proofs.lemmas.Bool.{cases_lt}
 use Rattle.std.proofs.lemmas.Bool.Decides.{eqb_tells}
 use Rattle.par_bits.specs.Sets.{Set, has, union, IsWithin}
-use Rattle.par_rules.specs.Lattice.{numbers}
-use Rattle.par_rules.specs.Ways.{Way, assigned, put}
-use Rattle.par_pass.specs.par_except.Seen.{locals}
-use Rattle.par_pass.proofs.par_except.Locals.{locals_get, locals_past}
+use Rattle.par_flow_laws.specs.Lattice.{numbers}
+use Rattle.par_flow_laws.specs.Ways.{Way, assigned, put}
+use Rattle.par_pass_laws.specs.par_except.Seen.{locals}
+use Rattle.par_pass_laws.proofs.par_except.Locals.{locals_get, locals_past}
 
 same_sets : (ps qs : List ℕ) (i x y : ℕ) → i < length ps → length ps ≡ length qs → x ≡ get_or ps i x
     → y ≡ get_or qs i y → IsWithin (has x) (has y) → IsWithin (locals ps i) (locals qs i)

@@ -7,14 +7,14 @@ use Rattle.std.proofs.lemmas.Bool.Decides.{eqb_tells}
 use Rattle.std.proofs.lemmas.List.Elements.{All-push}
 use Rattle.par_bits.specs.Sets.{has}
 use Rattle.par_bits.proofs.Sizes.{size_at_most}
-use Rattle.par_rules.specs.Lattice.{numbers}
-use Rattle.par_rules.specs.Ways.{MayFlow}
-use Rattle.par_pass.specs.par_except.declared.way.Way as code
-use Rattle.par_pass.specs.par_except.Joins.{join, may_join}
-use Rattle.par_pass.specs.par_except.Seen.{seen, may_see, MayHaveLocals}
-use Rattle.par_pass.specs.par_except.Weight.{all_left, weight}
-use Rattle.par_pass.proofs.par_except.Weights.{weight_falls, same_weight_flows}
-use Rattle.par_pass.specs.Exits.{Way}
+use Rattle.par_flow_laws.specs.Lattice.{numbers}
+use Rattle.par_flow_laws.specs.Ways.{MayFlow}
+use Rattle.par_pass_laws.specs.par_except.declared.way.Way as code
+use Rattle.par_pass_laws.specs.par_except.Joins.{join, may_join}
+use Rattle.par_pass_laws.specs.par_except.Seen.{seen, may_see, MayHaveLocals}
+use Rattle.par_pass_laws.specs.par_except.Weight.{all_left, weight}
+use Rattle.par_pass_laws.proofs.par_except.Weights.{weight_falls, same_weight_flows}
+use Rattle.par_pass_laws.specs.Exits.{Way}
 use Rattle.par_rounds.specs.Seen.{ways_of, AreHeadsWide}
 use Rattle.par_rounds.specs.Took.{joined, may_weigh, total, HaveSmallLocks, MayBeSmall}
 

@@ -4,12 +4,12 @@ use Rattle.std.proofs.Common.{length, get_or, set, drop, take, refl, sym, ap, â—
 use Rattle.std.proofs.Common.{add-one}
 use Rattle.std.proofs.Math.Seq.{drop-cons}
 use Rattle.par_bits.specs.Sets.{Set}
-use Rattle.par_rules.specs.Kinds.{Kind, Normal, same}
+use Rattle.par_flow_laws.specs.Kinds.{Kind, Normal, same}
 use Rattle.par_nodes.specs.Seen.{seen_kind}
-use Rattle.par_pass.specs.par_except.Joins.{join}
-use Rattle.par_pass.specs.par_except.Seen.{seen}
-use Rattle.par_pass.specs.Exits as pass
-use Rattle.par_pass.specs.Exits.{add, with_context, set_context}
+use Rattle.par_pass_laws.specs.par_except.Joins.{join}
+use Rattle.par_pass_laws.specs.par_except.Seen.{seen}
+use Rattle.par_pass_laws.specs.Exits as pass
+use Rattle.par_pass_laws.specs.Exits.{add, with_context, set_context}
 use Rattle.par_rounds.specs.declared.exits.Exit.{Exit}
 use Rattle.par_rounds.specs.Places.{IsPlace, HasNoPlace}
 use Rattle.par_rounds.specs.Seen.{seen_exit, seen_exits}

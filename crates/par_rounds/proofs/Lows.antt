@@ -2,16 +2,16 @@
 use Rattle.std.proofs.Common.{ℕ, zero, suc, cond, Option, Some, None, List, [], ◌∷◌, sym, subst}
 use Rattle.std.proofs.Common.{⊎_elim}
 use Rattle.std.proofs.lemmas.Bool.Decides.{eqb_tells}
-use Rattle.par_rules.specs.Lattice.{Lattice}
-use Rattle.par_rules.specs.Ways as rules
-use Rattle.par_rules.specs.Facts.{Facts}
-use Rattle.par_rules.specs.Rules.{Node, Obeys, spot}
-use Rattle.par_pass.specs.par_except.Joins.{may_join}
-use Rattle.par_pass.specs.Exits.{Way}
-use Rattle.par_pass.specs.Pass.{HeadWays, Event, Row, Into, pass}
-use Rattle.par_pass.specs.Low.{Stands, MayFlow, AreLow, AreHeadsLow}
-use Rattle.par_pass.proofs.Under as under
-use Rattle.par_pass.proofs.Least.{pass_low}
+use Rattle.par_flow_laws.specs.Lattice.{Lattice}
+use Rattle.par_flow_laws.specs.Ways as rules
+use Rattle.par_flow_laws.specs.Facts.{Facts}
+use Rattle.par_flow_laws.specs.Rules.{Node, Obeys, spot}
+use Rattle.par_pass_laws.specs.par_except.Joins.{may_join}
+use Rattle.par_pass_laws.specs.Exits.{Way}
+use Rattle.par_pass_laws.specs.Pass.{HeadWays, Event, Row, Into, pass}
+use Rattle.par_pass_laws.specs.Low.{Stands, MayFlow, AreLow, AreHeadsLow}
+use Rattle.par_pass_laws.proofs.Under as under
+use Rattle.par_pass_laws.proofs.Least.{pass_low}
 use Rattle.par_rounds.specs.Took.{joined, raised}
 use Rattle.par_rounds.specs.Rounds.{heads_after}
 

@@ -2,13 +2,14 @@
 use Rattle.std.proofs.Common.{◌≡◌, ℕ, ◌<◌, Option, None, List, [], ◌∷◌, ◌++◌, length, sym, subst}
 use Rattle.std.proofs.Common.{arith}
 use Rattle.std.proofs.lemmas.List.Elements.{All-push}
-use Rattle.par_rules.specs.Kinds.{Kind, Absorber}
-use Rattle.par_rules.specs.Ranges.{IsFromInRange, IsWorthInRange}
-use Rattle.par_rules.specs.Rules.{From, Worth, Node, node, Rules, Part, Test, Heads, Leaves, Worths}
-use Rattle.par_rules.specs.Rules.{spot}
-use Rattle.par_pass.specs.par_except.declared.way.Way.{Way}
-use Rattle.par_pass.specs.par_except.Seen.{HasLocals}
-use Rattle.par_pass.specs.Pass.{Event}
+use Rattle.par_flow_laws.specs.Kinds.{Kind, Absorber}
+use Rattle.par_flow_laws.specs.Ranges.{IsFromInRange, IsWorthInRange}
+use Rattle.par_flow_laws.specs.Rules.{From, Worth, Node, node, Rules, Part, Test, Heads, Leaves}
+use Rattle.par_flow_laws.specs.Rules.{Worths}
+use Rattle.par_flow_laws.specs.Rules.{spot}
+use Rattle.par_pass_laws.specs.par_except.declared.way.Way.{Way}
+use Rattle.par_pass_laws.specs.par_except.Seen.{HasLocals}
+use Rattle.par_pass_laws.specs.Pass.{Event}
 use Rattle.par_rounds.specs.declared.fact.Fact.{Fact}
 use Rattle.par_rounds.specs.declared.notes.Notes.{Notes}
 use Rattle.par_rounds.specs.declared.pass.SoFar.{SoFar}

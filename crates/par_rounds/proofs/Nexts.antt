@@ -1,9 +1,10 @@
 -- The first number behind rules.
 use Rattle.std.proofs.Common.{◌≡◌, ℕ, ◌+◌, sym, ap, ◌∙◌, add-one}
-use Rattle.par_rules.specs.Kinds.{Kind, Absorber}
-use Rattle.par_rules.specs.Rules.{From, Worth, Node, node, Rules, Done, Part, Test, Heads, Leaves}
-use Rattle.par_rules.specs.Rules.{Worths}
-use Rattle.par_rules.specs.Numbered.{next, next_by}
+use Rattle.par_flow_laws.specs.Kinds.{Kind, Absorber}
+use Rattle.par_flow_laws.specs.Rules.{From, Worth, Node, node, Rules, Done, Part, Test, Heads}
+use Rattle.par_flow_laws.specs.Rules.{Leaves}
+use Rattle.par_flow_laws.specs.Rules.{Worths}
+use Rattle.par_flow_laws.specs.Numbered.{next, next_by}
 
 module _ (rules : Rules) (n : ℕ) where
   pub done_next : rules ≡ Done → n ≡ next_by n rules

@@ -8,15 +8,15 @@ use Rattle.std.proofs.lemmas.List.{length-set}
 use Rattle.std.proofs.lemmas.Bool.Decides.{eqb_tells}
 use Rattle.std.proofs.lemmas.List.Elements.{All-set, All-push}
 use Rattle.par_bits.specs.Sets.{Set, IsWithin, union, meet}
-use Rattle.par_rules.specs.Lattice.{numbers}
-use Rattle.par_rules.specs.Facts.{Fact, blank}
-use Rattle.par_rules.specs.Ways.{Flows, MayFlow}
-use Rattle.par_pass.specs.par_except.declared.way.Way as code
-use Rattle.par_pass.specs.par_except.Joins.{join, may_join}
-use Rattle.par_pass.specs.par_except.Seen.{may_see, MayHaveLocals}
-use Rattle.par_pass.specs.Exits.{Way}
-use Rattle.par_pass.specs.Pass.{HeadWays, Row, Into}
-use Rattle.par_pass.specs.Written.{blanks, table}
+use Rattle.par_flow_laws.specs.Lattice.{numbers}
+use Rattle.par_flow_laws.specs.Facts.{Fact, blank}
+use Rattle.par_flow_laws.specs.Ways.{Flows, MayFlow}
+use Rattle.par_pass_laws.specs.par_except.declared.way.Way as code
+use Rattle.par_pass_laws.specs.par_except.Joins.{join, may_join}
+use Rattle.par_pass_laws.specs.par_except.Seen.{may_see, MayHaveLocals}
+use Rattle.par_pass_laws.specs.Exits.{Way}
+use Rattle.par_pass_laws.specs.Pass.{HeadWays, Row, Into}
+use Rattle.par_pass_laws.specs.Written.{blanks, table}
 use Rattle.par_rounds.specs.declared.fact.Fact as code_fact
 use Rattle.par_rounds.specs.declared.notes.Notes.{Notes}
 use Rattle.par_rounds.specs.Seen.{seen_fact, seen_facts, ways_of, AreHeadsWide}

@@ -5,11 +5,11 @@ use Rattle.std.proofs.lemmas.Bool.{eq-eqb}
 use Rattle.std.proofs.Math.Path.{fun_ext}
 use Rattle.std.proofs.lemmas.Bool.Decides.{eqb_tells}
 use Rattle.par_bits.specs.Sets.{has, none, adding}
-use Rattle.par_rules.specs.Lattice.{numbers}
-use Rattle.par_rules.specs.Facts.{Fact, blank}
-use Rattle.par_rules.specs.Ranges.{MOST, AreLocks, IsFromInRange}
-use Rattle.par_rules.specs.Rules.{From, part_at, way, worth}
-use Rattle.par_rules.specs.Ways.{Way, moved, put, assigned, raised, shut, opened}
+use Rattle.par_flow_laws.specs.Lattice.{numbers}
+use Rattle.par_flow_laws.specs.Facts.{Fact, blank}
+use Rattle.par_flow_laws.specs.Ranges.{MOST, AreLocks, IsFromInRange}
+use Rattle.par_flow_laws.specs.Rules.{From, part_at, way, worth}
+use Rattle.par_flow_laws.specs.Ways.{Way, moved, put, assigned, raised, shut, opened}
 use Rattle.par_policy.specs.Numbers.{has as is_among}
 use Rattle.par_nodes.specs.declared.rule.Locks.{Locks}
 use Rattle.par_nodes.specs.declared.rule.Locks.TheVariants.{Kept, Nothing, One, All}
@@ -21,7 +21,7 @@ use Rattle.par_nodes.specs.declared.rule.Worth.{Worth}
 use Rattle.par_nodes.specs.declared.rule.Worth.TheVariants as code_worth
 use Rattle.par_nodes.specs.Seen.{seen_kind, seen_origin, seen_start, seen_worth}
 use Rattle.par_nodes.specs.Seen as step
-use Rattle.par_pass.specs.par_except.Seen.{locals}
+use Rattle.par_pass_laws.specs.par_except.Seen.{locals}
 use Rattle.par_rounds.specs.declared.fact.Fact as code
 use Rattle.par_rounds.specs.Seen.{seen_fact, latest_first}
 use Rattle.par_rounds.specs.Changes.{seen_locks, assigned_by, tested_by, raised_by, shut_by}

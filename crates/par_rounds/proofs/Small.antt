@@ -6,22 +6,26 @@ use Rattle.std.specs.Prelude.{nat_eq}
 use Rattle.std.proofs.lemmas.Bool.{ltb-true, lt-ltb, eqb-true}
 use lib.Dec.{ltb}
 use Rattle.par_bits.specs.Sets.{Set, none, adding, union, IsWithin}
-use Rattle.par_rules.specs.Lattice.{numbers}
-use Rattle.par_rules.specs.Kinds as kind
-use Rattle.par_rules.specs.Kinds.{Kind, Normal}
-use Rattle.par_rules.specs.Ways.{Way, Flows, MayFlow, moved, put, raised, assigned, opened, shut}
-use Rattle.par_rules.specs.Facts.{Fact, Facts}
-use Rattle.par_rules.specs.Ranges.{IsFromInRange, IsWorthInRange}
-use Rattle.par_rules.specs.Rules.{From, Entry, After, Tested, Raised, Opened, Shut, Assigned, Worth}
-use Rattle.par_rules.specs.Rules.{Given, Held, Value}
-use Rattle.par_rules.specs.Rules.{Node, node, Rules, Done, Part, Test, Heads, Leaves, Worths, way}
-use Rattle.par_rules.specs.Rules.{worth, part_at, spot}
-use Rattle.par_rules.specs.Rules.{MayLeave, MayHead, Obeys, ObeysAll}
-use Rattle.par_pass.specs.Pass.{Event, Row, Into, pass}
-use Rattle.par_pass.specs.Low.{Stands, AreLow}
-use Rattle.par_pass.specs.Low as low
-use Rattle.par_pass.proofs.Order.{sub_refl, sub_trans, union_l, union_r, union_least, flows_refl}
-use Rattle.par_pass.proofs.Least.{pass_low}
+use Rattle.par_flow_laws.specs.Lattice.{numbers}
+use Rattle.par_flow_laws.specs.Kinds as kind
+use Rattle.par_flow_laws.specs.Kinds.{Kind, Normal}
+use Rattle.par_flow_laws.specs.Ways.{Way, Flows, MayFlow, moved, put, raised, assigned, opened}
+use Rattle.par_flow_laws.specs.Ways.{shut}
+use Rattle.par_flow_laws.specs.Facts.{Fact, Facts}
+use Rattle.par_flow_laws.specs.Ranges.{IsFromInRange, IsWorthInRange}
+use Rattle.par_flow_laws.specs.Rules.{From, Entry, After, Tested, Raised, Opened, Shut, Assigned}
+use Rattle.par_flow_laws.specs.Rules.{Worth}
+use Rattle.par_flow_laws.specs.Rules.{Given, Held, Value}
+use Rattle.par_flow_laws.specs.Rules.{Node, node, Rules, Done, Part, Test, Heads, Leaves, Worths}
+use Rattle.par_flow_laws.specs.Rules.{way}
+use Rattle.par_flow_laws.specs.Rules.{worth, part_at, spot}
+use Rattle.par_flow_laws.specs.Rules.{MayLeave, MayHead, Obeys, ObeysAll}
+use Rattle.par_pass_laws.specs.Pass.{Event, Row, Into, pass}
+use Rattle.par_pass_laws.specs.Low.{Stands, AreLow}
+use Rattle.par_pass_laws.specs.Low as low
+use Rattle.par_pass_laws.proofs.Order.{sub_refl, sub_trans, union_l, union_r, union_least}
+use Rattle.par_pass_laws.proofs.Order.{flows_refl}
+use Rattle.par_pass_laws.proofs.Least.{pass_low}
 use Rattle.par_rounds.specs.Took.{MayBeSmall, AreSmall}
 use Rattle.par_rounds.specs.Passes.{IsPassable, ArePassable}
 use Rattle.par_rounds.specs.Rounds.{heads_after}

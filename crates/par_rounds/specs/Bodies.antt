@@ -2,15 +2,15 @@
 use Rattle.std.specs.Prelude.{List}
 use Rattle.par_typed.specs.declared.table.Table.{Table}
 use Rattle.par_typed.specs.Plain.{Body}
-use Rattle.par_rules.specs.Lattice.{Seen, numbers, policies, unseen}
-use Rattle.par_rules.specs.Facts.{Facts}
-use Rattle.par_rules.specs.Declares.{declares}
-use Rattle.par_rules.specs.Body.{sta}
-use Rattle.par_rules.specs.Closed.{IsClosed}
-use Rattle.par_pass.specs.Seens.{seen_as}
-use Rattle.par_pass.specs.Possible.{HasPossibleExits}
-use Rattle.par_pass.specs.Result.{AreLeast, AreExact}
-use Rattle.par_pass.proofs.Instances.{among, seen, stands, alone}
+use Rattle.par_flow_laws.specs.Lattice.{Seen, numbers, policies, unseen}
+use Rattle.par_flow_laws.specs.Facts.{Facts}
+use Rattle.par_flow_laws.specs.Declares.{declares}
+use Rattle.par_flow_laws.specs.Body.{sta}
+use Rattle.par_flow_laws.specs.Closed.{IsClosed}
+use Rattle.par_pass_laws.specs.Seens.{seen_as}
+use Rattle.par_pass_laws.specs.Possible.{HasPossibleExits}
+use Rattle.par_pass_laws.specs.Result.{AreLeast, AreExact}
+use Rattle.par_pass_laws.proofs.Instances.{among, seen, stands, alone}
 
 -- closed facts, at or below all others: over sets of policy numbers, over policies by who sees
 -- them, whichever policies have the numbers, and over locks alone. A completion that is not

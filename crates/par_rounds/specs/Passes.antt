@@ -1,12 +1,13 @@
 -- What a pass that runs needs, and what it gives.
 use Rattle.std.specs.Prelude.{◌≡◌, ◌<◌, ℕ, Option, Some, None, List, length}
 use Rattle.par_bits.specs.Sets.{has}
-use Rattle.par_rules.specs.Ranges.{IsFromInRange, IsWorthInRange}
-use Rattle.par_rules.specs.Rules.{Node, node, Rules, Done, Part, Test, Heads, Leaves, Worths, spot}
-use Rattle.par_pass.specs.par_except.declared.way.Way.{Way}
-use Rattle.par_pass.specs.par_except.Seen.{HasLocals}
-use Rattle.par_pass.specs.Pass as plain
-use Rattle.par_pass.specs.Pass.{Event}
+use Rattle.par_flow_laws.specs.Ranges.{IsFromInRange, IsWorthInRange}
+use Rattle.par_flow_laws.specs.Rules.{Node, node, Rules, Done, Part, Test, Heads, Leaves, Worths}
+use Rattle.par_flow_laws.specs.Rules.{spot}
+use Rattle.par_pass_laws.specs.par_except.declared.way.Way.{Way}
+use Rattle.par_pass_laws.specs.par_except.Seen.{HasLocals}
+use Rattle.par_pass_laws.specs.Pass as plain
+use Rattle.par_pass_laws.specs.Pass.{Event}
 use Rattle.par_rounds.specs.declared.notes.Notes.{Notes}
 use Rattle.par_rounds.specs.declared.pass.Found.{Found}
 use Rattle.par_rounds.specs.declared.pass.SoFar.{SoFar}

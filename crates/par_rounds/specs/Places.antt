@@ -1,7 +1,7 @@
 -- Where a list of exits has one of a kind.
 use Rattle.std.specs.Prelude.{◌≡◌, ℕ, zero, suc, false, true, List, [], ◌∷◌}
-use Rattle.par_rules.specs.Kinds.{Kind, same}
-use Rattle.par_pass.specs.Exits.{Exit}
+use Rattle.par_flow_laws.specs.Kinds.{Kind, same}
+use Rattle.par_pass_laws.specs.Exits.{Exit}
 
 abbrev pub HasNoPlace : Kind → List Exit → Type 0
 HasNoPlace k [] = Unit {0}

@@ -1,10 +1,10 @@
 -- Rounds of passes, and what the last one leaves.
 use Rattle.std.specs.Prelude.{◌≡◌, ◌<◌, ℕ, zero, suc, true, false, Option, None, List, length}
-use Rattle.par_rules.specs.Rules.{Node}
-use Rattle.par_pass.specs.par_except.declared.way.Way as code
-use Rattle.par_pass.specs.Exits.{Way}
-use Rattle.par_pass.specs.Pass.{HeadWays, Event, pass}
-use Rattle.par_pass.specs.Written.{blanks, written, AllFit}
+use Rattle.par_flow_laws.specs.Rules.{Node}
+use Rattle.par_pass_laws.specs.par_except.declared.way.Way as code
+use Rattle.par_pass_laws.specs.Exits.{Way}
+use Rattle.par_pass_laws.specs.Pass.{HeadWays, Event, pass}
+use Rattle.par_pass_laws.specs.Written.{blanks, written, AllFit}
 use Rattle.par_rounds.specs.declared.fact.Fact.{Fact}
 use Rattle.par_rounds.specs.declared.notes.Notes.{Notes}
 use Rattle.par_rounds.specs.Seen.{seen_facts, ways_of, AreHeadsWide, AreRowsWide}

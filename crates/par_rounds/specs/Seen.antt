@@ -1,14 +1,14 @@
 -- What the code keeps of exits and of facts, as a pass speaks of them.
 use Rattle.std.specs.Prelude.{ℕ, All, Option, None, List, [], ◌∷◌, slice_index_or}
 use Rattle.par_bits.specs.Sets.{has}
-use Rattle.par_rules.specs.Lattice.{numbers}
-use Rattle.par_rules.specs.Facts as rules
+use Rattle.par_flow_laws.specs.Lattice.{numbers}
+use Rattle.par_flow_laws.specs.Facts as rules
 use Rattle.par_nodes.specs.Seen.{seen_kind}
-use Rattle.par_pass.specs.par_except.declared.way.Way.{Way}
-use Rattle.par_pass.specs.par_except.Seen.{may_see, seen, HasLocals, MayHaveLocals}
-use Rattle.par_pass.specs.Exits as pass
-use Rattle.par_pass.specs.Exits.{at}
-use Rattle.par_pass.specs.Pass.{HeadWays}
+use Rattle.par_pass_laws.specs.par_except.declared.way.Way.{Way}
+use Rattle.par_pass_laws.specs.par_except.Seen.{may_see, seen, HasLocals, MayHaveLocals}
+use Rattle.par_pass_laws.specs.Exits as pass
+use Rattle.par_pass_laws.specs.Exits.{at}
+use Rattle.par_pass_laws.specs.Pass.{HeadWays}
 use Rattle.par_rounds.specs.declared.exits.Exit.{Exit}
 use Rattle.par_rounds.specs.declared.fact.Fact.{Fact}
 

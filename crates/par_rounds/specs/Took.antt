@@ -2,12 +2,12 @@
 use Rattle.std.specs.Prelude.{◌≡◌, ◌<◌, ◌≤◌, ◌+◌, ◌*◌, ℕ, suc, true, false, cond, nat_eq, Option}
 use Rattle.std.specs.Prelude.{Some, None, List, [], ◌∷◌, length}
 use Rattle.par_bits.specs.Sets.{has}
-use Rattle.par_pass.specs.par_except.declared.way.Way as code
-use Rattle.par_pass.specs.par_except.Joins.{may_join}
-use Rattle.par_pass.specs.par_except.Weight.{IsSmall, weight}
-use Rattle.par_pass.specs.Exits.{Way}
-use Rattle.par_pass.specs.Pass.{HeadWays, Event, Row, Into}
-use Rattle.par_pass.specs.Written.{written, AllFit}
+use Rattle.par_pass_laws.specs.par_except.declared.way.Way as code
+use Rattle.par_pass_laws.specs.par_except.Joins.{may_join}
+use Rattle.par_pass_laws.specs.par_except.Weight.{IsSmall, weight}
+use Rattle.par_pass_laws.specs.Exits.{Way}
+use Rattle.par_pass_laws.specs.Pass.{HeadWays, Event, Row, Into}
+use Rattle.par_pass_laws.specs.Written.{written, AllFit}
 use Rattle.par_rounds.specs.declared.notes.Notes.{Notes}
 use Rattle.par_rounds.specs.Seen.{seen_facts, ways_of, AreHeadsWide, AreRowsWide}
 

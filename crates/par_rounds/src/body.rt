@@ -1,12 +1,12 @@
 // The facts of a body.
 ghost use Rattle.std.specs.Prelude.{◌≡◌, Some, IfOk, length};
 ghost use Rattle.par_typed.specs.Shown.{body as shown};
-ghost use Rattle.par_rules.specs.Body.{sta};
-ghost use Rattle.par_rules.specs.Declares.{declares, method_of};
-ghost use Rattle.par_rules.specs.Numbered.{next, next_by};
-ghost use Rattle.par_rules.specs.Ranges.{IsOrderly};
+ghost use Rattle.par_flow_laws.specs.Body.{sta};
+ghost use Rattle.par_flow_laws.specs.Declares.{declares, method_of};
+ghost use Rattle.par_flow_laws.specs.Numbered.{next, next_by};
+ghost use Rattle.par_flow_laws.specs.Ranges.{IsOrderly};
 ghost use Rattle.par_nodes.specs.Seen.{seen_node, seen_rules};
-ghost use Rattle.par_pass.specs.Written.{table as by_point};
+ghost use Rattle.par_pass_laws.specs.Written.{table as by_point};
 ghost use Rattle.par_rounds.specs.Seen.{seen_facts, AreRowsWide};
 ghost use Rattle.par_rounds.specs.Bodies.{AreLeastClosed};
 

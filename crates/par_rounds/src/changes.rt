@@ -3,11 +3,12 @@ ghost use Rattle.std.specs.Prelude.{◌≡◌, ◌<◌, ℕ, [], IfOk, IsSome, I
 ghost use Rattle.std.specs.Option.{option_copied};
 ghost use Rattle.par_policy.specs.Numbers.{has as is_among};
 ghost use Rattle.par_bits.specs.Sets.{has, union, none};
-ghost use Rattle.par_rules.specs.Lattice.{numbers};
-ghost use Rattle.par_rules.specs.Ranges.{AreLocks, IsFromInRange, IsWorthInRange};
-ghost use Rattle.par_rules.specs.Rules.{way as way_from, worth as worth_of};
+ghost use Rattle.par_flow_laws.specs.Lattice.{numbers};
+ghost use Rattle.par_flow_laws.specs.Ranges.{AreLocks, IsFromInRange, IsWorthInRange};
+ghost use Rattle.par_flow_laws.specs.Rules.{way as way_from, worth as worth_of};
 ghost use Rattle.par_nodes.specs.Seen.{seen_origin, seen_start, seen_worth};
-ghost use Rattle.par_pass.specs.par_except.Seen.{locals, may_see, seen, HasLocals, MayHaveLocals};
+ghost use Rattle.par_pass_laws.specs.par_except.Seen.{locals, may_see, seen, HasLocals};
+ghost use Rattle.par_pass_laws.specs.par_except.Seen.{MayHaveLocals};
 ghost use Rattle.par_rounds.specs.Seen.{latest_first, AreFactsWide};
 ghost use Rattle.par_rounds.specs.Changes.{assigned_by, tested_by, raised_by, shut_by, opened_by};
 ghost use Rattle.par_rounds.specs.Changes.{seen_locks, may_have, HaveRange, HasLocal, HasPolicy};
@@ -19,7 +20,7 @@ use par_atoms::Atoms;
 use par_base::memory::NoMemory;
 use par_bits::Bits;
 use par_nodes::rule::{Locks, Origin, Start, Worth};
-use par_pass::par_except::Way;
+use par_pass_laws::par_except::Way;
 use par_policy::Lockset;
 use std::alloc::Global;
 

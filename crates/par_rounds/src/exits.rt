@@ -2,11 +2,12 @@
 ghost use Rattle.std.specs.Prelude.{◌≡◌, ℕ, OnOk, IfOk, MatchOption, length, [], ◌∷◌};
 ghost use Rattle.std.specs.Option.{option_copied};
 ghost use Rattle.par_bits.specs.Sets.{has};
-ghost use Rattle.par_rules.specs.Kinds.{absorbed};
+ghost use Rattle.par_flow_laws.specs.Kinds.{absorbed};
 ghost use Rattle.par_nodes.specs.Seen.{seen_absorber, seen_kind};
-ghost use Rattle.par_pass.specs.par_except.Joins.{join};
-ghost use Rattle.par_pass.specs.par_except.Seen.{may_see, seen, HasLocals, MayHaveLocals};
-ghost use Rattle.par_pass.specs.Exits.{add, all, at, contexts, leaving, restored, with_context};
+ghost use Rattle.par_pass_laws.specs.par_except.Joins.{join};
+ghost use Rattle.par_pass_laws.specs.par_except.Seen.{may_see, seen, HasLocals, MayHaveLocals};
+ghost use Rattle.par_pass_laws.specs.Exits.{add, all, at, contexts, leaving, restored};
+ghost use Rattle.par_pass_laws.specs.Exits.{with_context};
 ghost use Rattle.par_rounds.specs.Seen.{seen_exit, seen_exits, AreWide};
 ghost use Rattle.par_rounds.specs.Places.{IsPlace, HasNoPlace};
 

@@ -2,11 +2,11 @@
 ghost use Rattle.std.specs.Prelude.{◌≡◌, ℕ, [], IfOk};
 ghost use Rattle.std.specs.Option.{option_copied};
 ghost use Rattle.par_bits.specs.Sets.{has};
-ghost use Rattle.par_rules.specs.Lattice.{numbers};
-ghost use Rattle.par_rules.specs.Rules.{part_at};
+ghost use Rattle.par_flow_laws.specs.Lattice.{numbers};
+ghost use Rattle.par_flow_laws.specs.Rules.{part_at};
 ghost use Rattle.par_nodes.specs.Seen.{seen_kind};
-ghost use Rattle.par_pass.specs.par_except.Seen.{may_see, MayHaveLocals};
-ghost use Rattle.par_pass.specs.Written.{table as by_point};
+ghost use Rattle.par_pass_laws.specs.par_except.Seen.{may_see, MayHaveLocals};
+ghost use Rattle.par_pass_laws.specs.Written.{table as by_point};
 ghost use Rattle.par_rounds.specs.Seen.{latest_first, seen_facts, AreFactsWide};
 
 use crate::exits::{Exit, way_of};

@@ -2,17 +2,17 @@
 ghost use Rattle.std.specs.Prelude.{◌≡◌, ◌<◌, ◌≤◌, All, Some, IfOk, length};
 ghost use Rattle.par_policy.specs.Numbers.{has as is_among};
 ghost use Rattle.par_bits.specs.Sets.{has};
-ghost use Rattle.par_rules.specs.Lattice.{numbers};
-ghost use Rattle.par_rules.specs.Declares.{method_of, params_of};
-ghost use Rattle.par_rules.specs.Closed.{arriving, first, locals as entering};
-ghost use Rattle.par_rules.specs.Ranges.{AreLocks, MOST, arrivals};
-ghost use Rattle.par_pass.specs.par_except.Seen.{locals, seen};
+ghost use Rattle.par_flow_laws.specs.Lattice.{numbers};
+ghost use Rattle.par_flow_laws.specs.Declares.{method_of, params_of};
+ghost use Rattle.par_flow_laws.specs.Closed.{arriving, first, locals as entering};
+ghost use Rattle.par_flow_laws.specs.Ranges.{AreLocks, MOST, arrivals};
+ghost use Rattle.par_pass_laws.specs.par_except.Seen.{locals, seen};
 
 use crate::changes::all_locks;
 use par_atoms::Atoms;
 use par_base::list::List;
 use par_base::memory::NoMemory;
-use par_pass::par_except::Way;
+use par_pass_laws::par_except::Way;
 use par_typed::table::{MethodInfo, ParamInfo};
 use std::alloc::Global;
 

@@ -1,12 +1,12 @@
 // What a pass notes.
 ghost use Rattle.std.specs.Prelude.{◌≡◌, ◌<◌, ℕ, false, [], ◌∷◌, OnOk, IfOk, length};
 ghost use Rattle.par_bits.specs.Sets.{has};
-ghost use Rattle.par_rules.specs.Lattice.{numbers};
-ghost use Rattle.par_rules.specs.Facts.{blank};
-ghost use Rattle.par_pass.specs.par_except.Seen.{may_see, seen, HasLocals, MayHaveLocals};
-ghost use Rattle.par_pass.specs.Exits.{at};
-ghost use Rattle.par_pass.specs.Pass.{Row, Into};
-ghost use Rattle.par_pass.specs.Written.{blanks};
+ghost use Rattle.par_flow_laws.specs.Lattice.{numbers};
+ghost use Rattle.par_flow_laws.specs.Facts.{blank};
+ghost use Rattle.par_pass_laws.specs.par_except.Seen.{may_see, seen, HasLocals, MayHaveLocals};
+ghost use Rattle.par_pass_laws.specs.Exits.{at};
+ghost use Rattle.par_pass_laws.specs.Pass.{Row, Into};
+ghost use Rattle.par_pass_laws.specs.Written.{blanks};
 ghost use Rattle.par_rounds.specs.Seen.{seen_exits, seen_fact, seen_facts, AreHeadsWide};
 ghost use Rattle.par_rounds.specs.Seen.{AreRowsWide, AreWide, IsRowWide};
 ghost use Rattle.par_rounds.specs.Took.{HaveSmallLocks, Took};

@@ -1,15 +1,15 @@
 // One pass over a node.
 ghost use Rattle.std.specs.Prelude.{◌≡◌, ℕ, [], ◌∷◌, ◌++◌, List, OnOk, IfOk, length};
 ghost use Rattle.par_bits.specs.Sets.{has, none};
-ghost use Rattle.par_rules.specs.Kinds.{absorbed};
-ghost use Rattle.par_rules.specs.Lattice.{numbers};
-ghost use Rattle.par_rules.specs.Ranges.{IsFromInRange};
-ghost use Rattle.par_rules.specs.Rules.{spot, way as way_from};
+ghost use Rattle.par_flow_laws.specs.Kinds.{absorbed};
+ghost use Rattle.par_flow_laws.specs.Lattice.{numbers};
+ghost use Rattle.par_flow_laws.specs.Ranges.{IsFromInRange};
+ghost use Rattle.par_flow_laws.specs.Rules.{spot, way as way_from};
 ghost use Rattle.par_nodes.specs.Seen.{seen_absorber, seen_kind, seen_node, seen_origin};
 ghost use Rattle.par_nodes.specs.Seen.{seen_rules};
-ghost use Rattle.par_pass.specs.par_except.Seen.{may_see, seen, HasLocals, MayHaveLocals};
-ghost use Rattle.par_pass.specs.Exits.{all, leave as left, leaving};
-ghost use Rattle.par_pass.specs.Pass.{Event, ended, into, pass, pass_all, visited};
+ghost use Rattle.par_pass_laws.specs.par_except.Seen.{may_see, seen, HasLocals, MayHaveLocals};
+ghost use Rattle.par_pass_laws.specs.Exits.{all, leave as left, leaving};
+ghost use Rattle.par_pass_laws.specs.Pass.{Event, ended, into, pass, pass_all, visited};
 ghost use Rattle.par_rounds.specs.Seen.{latest_first, seen_exits, seen_fact, ways_of};
 ghost use Rattle.par_rounds.specs.Seen.{AreWide, AreHeadsWide, AreFactsWide};
 ghost use Rattle.par_rounds.specs.Took.{Took};

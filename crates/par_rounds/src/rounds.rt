@@ -1,9 +1,9 @@
 // Rounds of passes, until one raises no head.
 ghost use Rattle.std.specs.Prelude.{◌≡◌, ℕ, IfOk, length};
 ghost use Rattle.par_nodes.specs.Seen.{seen_node};
-ghost use Rattle.par_pass.specs.par_except.Seen.{seen};
-ghost use Rattle.par_pass.specs.Pass.{pass};
-ghost use Rattle.par_pass.specs.Written.{AllFit};
+ghost use Rattle.par_pass_laws.specs.par_except.Seen.{seen};
+ghost use Rattle.par_pass_laws.specs.Pass.{pass};
+ghost use Rattle.par_pass_laws.specs.Written.{AllFit};
 ghost use Rattle.par_rounds.specs.Seen.{ways_of, AreHeadsWide, AreRowsWide};
 ghost use Rattle.par_rounds.specs.Took.{MayBeSmall};
 ghost use Rattle.par_rounds.specs.Passes.{IsPassable};

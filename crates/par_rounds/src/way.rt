@@ -1,17 +1,17 @@
 // A way that shares the policies of its locals with others.
 ghost use Rattle.std.specs.Prelude.{◌≡◌, ◌↔◌, ℕ, IsTrue, IfOk, length};
 ghost use Rattle.par_bits.specs.Sets.{has, union};
-ghost use Rattle.par_rules.specs.Lattice.{numbers};
-ghost use Rattle.par_rules.specs.Ways.{raised};
-ghost use Rattle.par_pass.specs.par_except.Joins.{join};
-ghost use Rattle.par_pass.specs.par_except.Seen.{locals, seen};
+ghost use Rattle.par_flow_laws.specs.Lattice.{numbers};
+ghost use Rattle.par_flow_laws.specs.Ways.{raised};
+ghost use Rattle.par_pass_laws.specs.par_except.Joins.{join};
+ghost use Rattle.par_pass_laws.specs.par_except.Seen.{locals, seen};
 
 use crate::env;
 use par_atoms::Atoms;
 use par_base::memory::NoMemory;
 use par_bits::Bits;
 use par_envs::Env;
-use par_pass::par_except::Way;
+use par_pass_laws::par_except::Way;
 use std::alloc::Global;
 use std::marker::Model;
 use std::rc::Rc;
@@ -26,7 +26,7 @@ pub struct SharedWay {
 }
 
 impl Model for SharedWay {
-    ghost use Rattle.par_pass.specs.par_except.declared.way.Way.{Way as Known};
+    ghost use Rattle.par_pass_laws.specs.par_except.declared.way.Way.{Way as Known};
 
     ghost Value = { Known };
 

@@ -1,9 +1,9 @@
 // When one way flows into another.
 ghost use Rattle.std.specs.Prelude.{◌≡◌, ◌↔◌, ℕ, IsTrue, IfOk, length};
-ghost use Rattle.par_rules.specs.Lattice.{numbers};
-ghost use Rattle.par_rules.specs.Ways.{Flows, MayFlow};
-ghost use Rattle.par_pass.specs.par_except.Joins.{may_join};
-ghost use Rattle.par_pass.specs.par_except.Seen.{may_see, seen, MayHaveLocals};
+ghost use Rattle.par_flow_laws.specs.Lattice.{numbers};
+ghost use Rattle.par_flow_laws.specs.Ways.{Flows, MayFlow};
+ghost use Rattle.par_pass_laws.specs.par_except.Joins.{may_join};
+ghost use Rattle.par_pass_laws.specs.par_except.Seen.{may_see, seen, MayHaveLocals};
 
 use crate::env;
 use crate::way::SharedWay;

@@ -3,13 +3,13 @@ use Rattle.std.proofs.Common.{◌≡◌, ◌∷◌, ◌++◌, ap, ◌∙◌, Res
 use Rattle.par_grammar.specs.Grammar.{builds}
 use Rattle.par_grammar.specs.Derivation.{Input}
 use Rattle.par_grammar.proofs.Run.{run}
-use Rattle.par_policies.specs.par_reader.declared.error.ParseError.{ParseError}
-use Rattle.par_policies.proofs.par_reader.Alternatives.{continued}
+use Rattle.par_policy_reader.specs.par_reader.declared.error.ParseError.{ParseError}
+use Rattle.par_policy_reader.proofs.par_reader.Alternatives.{continued}
 use Rattle.par_tree.specs.Grammar.{Symbols, Builders}
 use Rattle.par_tree.specs.Values.{Values, paragon, built}
 use Rattle.par_tree.proofs.Founded.{founded}
 use Rattle.par_tree.proofs.Rules.{run_built}
-use Rattle.par_policies.specs.par_language.Reads.{Reads}
+use Rattle.par_policy_reader.specs.par_language_laws.Reads.{Reads}
 
 pub behind : {A : Type 0} (b : Builders) (ys : Symbols) {old : Values}
     (mid : Values) {show : A → Values} {i j : Input} {r : Result A ParseError}

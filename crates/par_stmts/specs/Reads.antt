@@ -5,8 +5,8 @@ use Rattle.par_lexer.specs.declared.sign.TheConstants as sign
 use Rattle.par_grammar.specs.declared.sort.Sort.{Sort}
 use Rattle.par_grammar.specs.declared.sort.Sort.TheVariants as sort
 use Rattle.par_grammar.specs.Sorts.{same}
-use Rattle.par_policies.specs.par_reader.declared.error.ParseError.{ParseError}
-use Rattle.par_policies.specs.par_reader.declared.error.ParseError.TheVariants.{Memory}
+use Rattle.par_policy_reader.specs.par_reader.declared.error.ParseError.{ParseError}
+use Rattle.par_policy_reader.specs.par_reader.declared.error.ParseError.TheVariants.{Memory}
 use Rattle.par_tree.specs.declared.expr.Expr.{Expr}
 use Rattle.par_tree.specs.declared.stmt.Stmt.{Stmt}
 use Rattle.par_tree.specs.declared.stmt.Block.{Block}

@@ -3,19 +3,19 @@
 ghost use Rattle.std.specs.Prelude.{◌≡◌, ◌<◌, ◌≤◌, [], ◌∷◌, length, OnOk};
 ghost use Rattle.par_grammar.specs.Grammar as symbol;
 ghost use Rattle.par_lexer.specs.declared.sign.TheConstants as signs;
-ghost use Rattle.par_policies.specs.par_reader.Reads.{input};
+ghost use Rattle.par_policy_reader.specs.par_reader.Reads.{input};
 ghost use Rattle.par_tree.specs.Grammar as g;
-ghost use Rattle.par_policies.specs.par_language.Reads.{Reads};
+ghost use Rattle.par_policy_reader.specs.par_language_laws.Reads.{Reads};
 ghost use Rattle.par_exprs.specs.Exprs.{tree};
-ghost use Rattle.par_policies.specs.Reads.{a_lock};
+ghost use Rattle.par_policy_reader.specs.Reads.{a_lock};
 
 use par_exprs::expr::expr;
 use par_grammar::sort::Sort;
 use par_lexer::sign;
-use par_policies::lock::lock;
-use par_policies::par_language::Paragon;
-use par_policies::par_reader::cursor::Cursor;
-use par_policies::par_reader::error::ParseError;
+use par_policy_reader::lock::lock;
+use par_policy_reader::par_language_laws::Paragon;
+use par_policy_reader::par_reader::cursor::Cursor;
+use par_policy_reader::par_reader::error::ParseError;
 use par_tree::expr::Expr;
 use par_tree::policy::LockTree;
 use std::alloc::Global;

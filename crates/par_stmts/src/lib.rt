@@ -13,5 +13,5 @@ pub mod make;
 pub mod simple;
 pub mod stmt;
 
-pub use par_policies;
-pub use par_policies::{par_language, par_reader};
+pub use par_policy_reader;
+pub use par_policy_reader::{par_language_laws, par_reader};

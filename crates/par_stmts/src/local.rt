@@ -3,21 +3,21 @@
 ghost use Rattle.std.specs.Prelude.{◌≡◌, ◌<◌, ◌≤◌, [], ◌∷◌, length, OnOk};
 ghost use Rattle.par_grammar.specs.Grammar as symbol;
 ghost use Rattle.par_lexer.specs.declared.sign.TheConstants as signs;
-ghost use Rattle.par_policies.specs.par_reader.Reads.{input};
+ghost use Rattle.par_policy_reader.specs.par_reader.Reads.{input};
 ghost use Rattle.par_tree.specs.Grammar as g;
 ghost use Rattle.par_tree.specs.Values as built;
-ghost use Rattle.par_policies.specs.par_language.Reads.{Reads};
+ghost use Rattle.par_policy_reader.specs.par_language_laws.Reads.{Reads};
 ghost use Rattle.par_stmts.specs.Reads.{a_stmt};
 
 use crate::make;
 use par_exprs::expr::expr;
 use par_grammar::sort::Sort;
 use par_lexer::sign;
-use par_policies::par_language::Paragon;
-use par_policies::par_reader::cursor::Cursor;
-use par_policies::par_reader::error::ParseError;
-use par_policies::policy::may_policy;
-use par_policies::types::{any_type, may_notnull};
+use par_policy_reader::par_language_laws::Paragon;
+use par_policy_reader::par_reader::cursor::Cursor;
+use par_policy_reader::par_reader::error::ParseError;
+use par_policy_reader::policy::may_policy;
+use par_policy_reader::types::{any_type, may_notnull};
 use par_tree::policy::PolicyExpr;
 use par_tree::stmt::Stmt;
 use par_tree::types::TypeTree;

@@ -2,7 +2,7 @@
 
 ghost use Rattle.std.specs.Prelude.{◌≡◌, false, IfOk, IfErr};
 ghost use Rattle.par_grammar.specs.declared.sort.Sort.TheVariants as sort;
-ghost use Rattle.par_policies.specs.par_reader.Reads.{IsOf};
+ghost use Rattle.par_policy_reader.specs.par_reader.Reads.{IsOf};
 ghost use Rattle.par_tree.specs.Plain as plain;
 ghost use Rattle.par_tree.specs.Shown.{shown, may_shown, does, braces, may_braces, otherwise};
 ghost use Rattle.par_tree.specs.Shown.{all_do, all_catch, handler};
@@ -11,8 +11,8 @@ ghost use Rattle.par_stmts.specs.Reads.{other_of, MakesStmt};
 
 use par_lexer::list::List;
 use par_lexer::token::Token;
-use par_policies::ident::ident;
-use par_policies::par_reader::error::ParseError;
+use par_policy_reader::ident::ident;
+use par_policy_reader::par_reader::error::ParseError;
 use par_tree::expr::Expr;
 use par_tree::policy::{LockTree, PolicyExpr};
 use par_tree::stmt::{Block, CatchTree, LocalDecl, Stmt, StmtKind};

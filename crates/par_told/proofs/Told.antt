@@ -10,10 +10,10 @@ use Rattle.par_policy.proofs.Below.{below_iff}
 use Rattle.par_policy.proofs.Seen.{same_tests}
 use Rattle.par_bits.specs.Sets.{Set}
 use Rattle.par_typed.specs.declared.table.Table.{Table}
-use Rattle.par_rules.specs.Lattice.{IsSeenBelow, joined, seen_by}
-use Rattle.par_pass.specs.Seens.{given_of, join_of, plain}
-use Rattle.par_declared.specs.Declared.{IsWellDeclared}
-use Rattle.par_declared.specs.Inferred.{inferred}
+use Rattle.par_flow_laws.specs.Lattice.{IsSeenBelow, joined, seen_by}
+use Rattle.par_pass_laws.specs.Seens.{given_of, join_of, plain}
+use Rattle.par_table_laws.specs.Declared.{IsWellDeclared}
+use Rattle.par_table_laws.specs.Inferred.{inferred}
 use Rattle.par_filling.specs.par_infer.Printed.{Orders}
 use Rattle.par_filling.proofs.par_infer.Printed.{highest_stand}
 use Rattle.par_filling.proofs.par_infer.Seens.{join_below, join_member, join_order, plain_join}

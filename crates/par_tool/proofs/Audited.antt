@@ -11,9 +11,9 @@ use Rattle.par_policy.proofs.Ordered.{Contains-first, Contains-later}
 use Rattle.par_lexer.specs.declared.token.Token.{Token}
 use Rattle.par_lexer.specs.Spans.{Stands}
 use Rattle.par_lexer.proofs.Laying.{laid}
-use Rattle.par_places.specs.Law.{BeginWithin}
-use Rattle.par_places.specs.Within.{IsWithin}
-use Rattle.par_places.proofs.Trees.{trees_lie}
+use Rattle.par_span_laws.specs.Law.{BeginWithin}
+use Rattle.par_span_laws.specs.Within.{IsWithin}
+use Rattle.par_span_laws.proofs.Trees.{trees_lie}
 use Rattle.par_typed.specs.declared.table.Table.{Table}
 use Rattle.par_typed.specs.declared.program.Typed.{Typed}
 use Rattle.par_typed.specs.Plain.{Body}
@@ -21,14 +21,14 @@ use Rattle.par_typed.specs.Shown.{bodies}
 use Rattle.par_resolved.specs.Resolved.{table_of}
 use Rattle.par_resolved.specs.Numbers.{Numbers}
 use Rattle.par_resolved.specs.Policies.{nothing_known}
-use Rattle.par_audit.proofs.par_well_typed.Entries.{numbers_stay}
+use Rattle.par_audit.proofs.par_typed_laws.Entries.{numbers_stay}
 use Rattle.par_names.specs.Declarations.{actors, policies}
 use Rattle.par_observer.specs.par_typing.Typed.{written}
-use Rattle.par_observer.proofs.par_placed.Law.{checks_lie}
-use Rattle.par_rules.specs.Lattice.{numbers}
-use Rattle.par_rules.specs.Facts.{Facts}
-use Rattle.par_checks.specs.Asked.{Check}
-use Rattle.par_checks.specs.Checks.{checks}
+use Rattle.par_observer.proofs.par_check_span_laws.Law.{checks_lie}
+use Rattle.par_flow_laws.specs.Lattice.{numbers}
+use Rattle.par_flow_laws.specs.Facts.{Facts}
+use Rattle.par_check_laws.specs.Asked.{Check}
+use Rattle.par_check_laws.specs.Checks.{checks}
 use Rattle.par_audit.specs.par_verdict.Accepted.{IsAcceptedBy}
 use Rattle.par_secrecy.proofs.Carried.{shown_files_are_secure}
 use Rattle.par_secrecy.specs.Secure.{Secure}

@@ -15,8 +15,8 @@ use Rattle.par_class.specs.declared.file.MethodFile.{MethodFile}
 use Rattle.par_class.specs.declared.file.ClassFile.{ClassFile}
 use Rattle.par_single.specs.Members.{own_name, is_static, is_method_of}
 use Rattle.par_single.specs.Described.{main_member}
-use Rattle.par_steps.specs.Run.{class_number}
-use Rattle.par_steps.specs.State.{main_place}
+use Rattle.par_step_laws.specs.Run.{class_number}
+use Rattle.par_step_laws.specs.State.{main_place}
 use Rattle.par_loader.specs.Reads.{Text, Classes}
 use Rattle.par_loader.specs.Mentions.{Naming, next_named}
 use Rattle.par_loader.specs.Found as found

@@ -8,12 +8,12 @@ use Rattle.par_io.specs.Saying.{Said}
 use Rattle.par_machine.specs.declared.machine.Machine.{Machine}
 use Rattle.par_machine.specs.Machine.{state_of}
 use Rattle.par_class.specs.declared.file.ClassFile.{ClassFile}
-use Rattle.par_steps.specs.State.{State}
-use Rattle.par_steps.specs.Run.{run, machine_run}
-use Rattle.par_runner.specs.Running.{runs_of}
+use Rattle.par_step_laws.specs.State.{State}
+use Rattle.par_step_laws.specs.Run.{run, machine_run}
+use Rattle.par_run_lines.specs.Running.{runs_of}
 use Rattle.par_values.specs.Ran.{Fine}
 use Rattle.par_typed.specs.declared.table.Table.{Table}
-use Rattle.par_runner.specs.Texts as told
+use Rattle.par_run_lines.specs.Texts as told
 use Rattle.par_trace.specs.Texts as traced
 use Rattle.par_words.specs.declared.words.Which.{Which}
 use Rattle.par_words.specs.declared.words.Unread.{Unread}

@@ -25,27 +25,28 @@ use Rattle.par_single.specs.Members.{own_name}
 use Rattle.par_secrecy.specs.Shows.{Shows}
 use Rattle.par_secrecy.proofs.Carried.{shown_files_are_secure}
 use Rattle.par_alike.specs.Subject.{subject}
-use Rattle.par_steps.specs.Target.{target}
+use Rattle.par_step_laws.specs.Target.{target}
 use Rattle.par_loader.specs.Reads.{Classes, IsSpelled}
 use Rattle.par_loader.specs.Judged.{judged}
 use Rattle.par_loader.proofs.Counting.{rose_since}
 use Rattle.par_code_form.specs.Named.{of_class, class_word}
-use Rattle.par_class_writer.specs.par_class_form.Members.{members}
-use Rattle.par_class_writer.specs.par_class_form.Files.{FIRST_DECLARED, declared_classes, IsFileOf}
-use Rattle.par_class_writer.specs.par_class_form.Files.{IsVersioned}
+use Rattle.par_class_writer.specs.par_compile_laws.Members.{members}
+use Rattle.par_class_writer.specs.par_compile_laws.Files.{FIRST_DECLARED, declared_classes}
+use Rattle.par_class_writer.specs.par_compile_laws.Files.{IsFileOf}
+use Rattle.par_class_writer.specs.par_compile_laws.Files.{IsVersioned}
 use Rattle.par_compile.specs.declared.compiled.CompiledClass.{CompiledClass}
 use Rattle.par_compile.specs.Compiled.{IsCompiledClass, AreCompiled}
 use Rattle.par_class_writer.specs.Written.{SetsBut, AreWritten, FailsAt, IsCutOff}
-use Rattle.par_linkable.specs.par_linked_form.Parts.{AreFilesOf, ArePart, AreFound, IsFoundIn}
-use Rattle.par_linkable.specs.par_linked_form.Linkable.{IsLinkable}
-use Rattle.par_linkable.proofs.par_linked_form.Program.{class-of, number-at}
-use Rattle.par_linkable.proofs.par_linked_form.Texts.{class-is}
-use Rattle.par_linkable.proofs.par_linked_form.Whole.{files_link, files_load}
-use Rattle.par_linkable.proofs.Whole.{well_typed_programs_are_linkable}
-use Rattle.par_files_verified.specs.Laws.{main_class, AreLoadedFor, IsVersionedFile}
-use Rattle.par_files_verified.proofs.Whole.{files_show, files_show_whole}
-use Rattle.par_files_verified.proofs.Whole.{loaded_files_are_framed, loaded_files_are_verified}
-use Rattle.par_files_verified.proofs.All.{all_files_are_verified}
+use Rattle.par_linkable_laws.specs.par_link_laws.Parts.{AreFilesOf, ArePart, AreFound, IsFoundIn}
+use Rattle.par_linkable_laws.specs.par_link_laws.Linkable.{IsLinkable}
+use Rattle.par_linkable_laws.proofs.par_link_laws.Program.{class-of, number-at}
+use Rattle.par_linkable_laws.proofs.par_link_laws.Texts.{class-is}
+use Rattle.par_linkable_laws.proofs.par_link_laws.Whole.{files_link, files_load}
+use Rattle.par_linkable_laws.proofs.Whole.{well_typed_programs_are_linkable}
+use Rattle.par_verified_file_laws.specs.Laws.{main_class, AreLoadedFor, IsVersionedFile}
+use Rattle.par_verified_file_laws.proofs.Whole.{files_show, files_show_whole}
+use Rattle.par_verified_file_laws.proofs.Whole.{loaded_files_are_framed, loaded_files_are_verified}
+use Rattle.par_verified_file_laws.proofs.All.{all_files_are_verified}
 use Rattle.par_observer.specs.Trees.{IsWellFormed}
 use Rattle.par_tool.specs.declared.answer.Answer.TheVariants.{Compiled, WriteFault}
 use Rattle.par_tool.specs.Outside.{Text, MakesAtMost, class_file}

@@ -11,7 +11,7 @@ use Rattle.par_pool.specs.declared.reader.TheConstants.{LONGEST_CLASS}
 use Rattle.par_kinds.specs.declared.frame.MethodFrames.{MethodFrames}
 use Rattle.par_kinds.specs.declared.frame.PlacedFrame.{PlacedFrame}
 use Rattle.par_verify.specs.par_frames.Broken.{AreFrames, AreFramesIf, AreGivenIn, HasFrames}
-use Rattle.par_verify.specs.par_verified.Verified.{AllFrames, AreFramesOf, AreVerified}
+use Rattle.par_verify.specs.par_verify_laws.Verified.{AllFrames, AreFramesOf, AreVerified}
 use Rattle.par_framed_program.specs.Framed.{AreFramed, IsUnframed}
 use Rattle.par_loader.specs.Reads.{Classes, AreOf}
 use Rattle.par_loader.specs.Loaded as loaded

@@ -6,7 +6,7 @@ use Rattle.par_values.specs.declared.inputs.Inputs.{Inputs}
 use Rattle.par_class.specs.declared.file.ClassFile.{ClassFile}
 use Rattle.par_single.specs.Members.{own_name}
 use Rattle.par_link.specs.Inputs.{first_misfit}
-use Rattle.par_steps.specs.State.{start}
+use Rattle.par_step_laws.specs.State.{start}
 use Rattle.par_machine.specs.declared.machine.Machine.{Machine}
 use Rattle.par_machine.specs.Machine.{files_of, state_of, steps_of}
 use Rattle.par_loader.specs.declared.error.Unloaded.{Unloaded}

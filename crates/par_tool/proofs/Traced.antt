@@ -13,7 +13,7 @@ use Rattle.par_observer.specs.Trees.{bodies_of}
 use Rattle.par_values.specs.declared.inputs.Inputs.{Inputs}
 use Rattle.par_typed.specs.declared.program.Typed.{Typed}
 use Rattle.par_secrecy.specs.Runs.{Witnessed, Run}
-use Rattle.par_runs.specs.Source.{run_of, source}
+use Rattle.par_run_laws.specs.Source.{run_of, source}
 use Rattle.par_meaning.specs.Onward.{witnessed}
 use Rattle.par_meaning.specs.Whole.{as_run}
 use Rattle.par_meaning.specs.declared.run.SourceRun.{SourceRun}

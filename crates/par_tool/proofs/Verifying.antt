@@ -6,8 +6,8 @@ use Rattle.std.specs.Prelude.{Bool, true, false}
 use Rattle.par_io.specs.Causes.{FolderCounts, Makes, Files}
 use Rattle.par_class.specs.declared.file.ClassFile.{ClassFile}
 use Rattle.par_link.specs.Linked as link
-use Rattle.par_verify.specs.par_verified.Verified.{AllFrames, AreFramesOf, IsUnverified}
-use Rattle.par_verify.proofs.par_verified.Never.{verified_programs_are_never_bad}
+use Rattle.par_verify.specs.par_verify_laws.Verified.{AllFrames, AreFramesOf, IsUnverified}
+use Rattle.par_verify.proofs.par_verify_laws.Never.{verified_programs_are_never_bad}
 use Rattle.par_framed_program.specs.Framed.{Framed}
 use Rattle.par_loader.specs.declared.error.Unloaded.{Unloaded}
 use Rattle.par_loader.specs.declared.error.Unloaded.TheVariants as un

@@ -22,8 +22,8 @@ use Rattle.par_secrecy.specs.Target.{Target, fitting, FitsFiles}
 use Rattle.par_secrecy.specs.Shows.{IsFine, shown_run}
 use Rattle.par_secrecy.proofs.Carried.{fitting_same, fits_program}
 use Rattle.par_alike.specs.Subject.{subject}
-use Rattle.par_runs.specs.Source as runs
-use Rattle.par_runner.specs.Texts as told
+use Rattle.par_run_laws.specs.Source as runs
+use Rattle.par_run_lines.specs.Texts as told
 use Rattle.par_inputs.specs.Lines.{lines_of}
 use Rattle.par_inputs.specs.Rules.{entries, IsRight, IsEntry}
 use Rattle.par_inputs.specs.declared.read.TheConstants.{LONGEST_INPUTS}
@@ -31,8 +31,8 @@ use Rattle.par_inputs.proofs.RightEntries.{All-entries, IsOnce-right}
 use Rattle.par_pool.proofs.Positions.{position-none}
 use Rattle.par_class.specs.declared.file.ClassFile.{ClassFile}
 use Rattle.par_link.specs.Inputs.{has_input, first_misfit}
-use Rattle.par_steps.specs.Target.{target}
-use Rattle.par_steps.specs.Run.{machine_run}
+use Rattle.par_step_laws.specs.Target.{target}
+use Rattle.par_step_laws.specs.Run.{machine_run}
 use Rattle.par_loader.specs.Reads.{Classes, AreOf}
 use Rattle.par_loader.specs.Loaded.{Loaded, Load, whole}
 use Rattle.par_loader.specs.Judged.{judged}
@@ -41,7 +41,7 @@ use Rattle.par_framed_program.specs.Framed.{AreFramed, IsUnframed}
 use Rattle.par_tree.specs.Plain.{Source}
 use Rattle.par_typed.specs.declared.program.Typed.{Typed}
 use Rattle.par_compile.specs.declared.compiled.CompiledClass.{CompiledClass}
-use Rattle.par_files_verified.specs.Laws.{main_class}
+use Rattle.par_verified_file_laws.specs.Laws.{main_class}
 use Rattle.par_words.specs.declared.words.Which.{Which}
 use Rattle.par_words.specs.Words as wanted
 use Rattle.par_words.specs.Words.{Wanted, Check, Compile, Trace, Sample, Audit, Infer, Verify}

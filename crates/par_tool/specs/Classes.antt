@@ -15,8 +15,8 @@ use Rattle.par_loader.specs.Begun.{AreCoded, BeginsMain}
 use Rattle.par_framed_program.specs.Framed.{AreFramed, IsUnframed}
 use Rattle.par_machine.specs.declared.machine.Machine.{Machine}
 use Rattle.par_machine.specs.Machine.{files_of, state_of, steps_of}
-use Rattle.par_steps.specs.State.{start}
-use Rattle.par_steps.specs.Run.{class_number, machine_run}
+use Rattle.par_step_laws.specs.State.{start}
+use Rattle.par_step_laws.specs.Run.{class_number, machine_run}
 use Rattle.par_inputs.specs.declared.read.TheConstants.{LONGEST_INPUTS}
 use Rattle.par_tool.specs.declared.answer.Answer.{Answer}
 use Rattle.par_tool.specs.declared.answer.Answer.TheVariants.{Absent, ReadFault, TooLong, BadClass}

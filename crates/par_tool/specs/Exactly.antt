@@ -6,8 +6,8 @@ use Rattle.par_class.specs.declared.file.ClassFile.{ClassFile}
 use Rattle.par_inputs.specs.Lines.{lines_of}
 use Rattle.par_inputs.specs.Rules.{entries, IsRight}
 use Rattle.par_link.specs.Inputs.{first_misfit}
-use Rattle.par_steps.specs.Run.{machine_run}
-use Rattle.par_runner.specs.Texts as told
+use Rattle.par_step_laws.specs.Run.{machine_run}
+use Rattle.par_run_lines.specs.Texts as told
 use Rattle.par_words.specs.Words.{Wanted, Check, Compile, Trace, Sample, Audit, Infer, Verify}
 use Rattle.par_words.specs.Words.{Run}
 use Rattle.par_sample.specs.Source as sampled
@@ -21,7 +21,7 @@ use Rattle.par_typed.specs.declared.refusal.Refusal.{Refusal}
 use Rattle.par_observer.specs.Passes.{typing_faults}
 use Rattle.par_observer.specs.Trees.{bodies_of, BreaksTyping}
 use Rattle.par_observer.specs.Judgements.{IsAcceptedSource, IsTreeOf, BreaksAs}
-use Rattle.par_inferred.specs.par_infer.Filling.{Filling, IsAccepted}
+use Rattle.par_program_filling.specs.par_infer.Filling.{Filling, IsAccepted}
 use Rattle.par_loader.specs.Reads.{Classes, AreOf}
 use Rattle.par_loader.specs.Loaded as loaded
 use Rattle.par_loader.specs.Loaded.{Loaded}

@@ -15,18 +15,18 @@ use Rattle.par_secrecy.specs.Target.{Target, fitting}
 use Rattle.par_secrecy.specs.Shows.{Shows, shown_run}
 use Rattle.par_secrecy.specs.SecureFiles.{SecureFiles}
 use Rattle.par_alike.specs.Subject.{subject}
-use Rattle.par_runs.specs.Source as runs
+use Rattle.par_run_laws.specs.Source as runs
 use Rattle.par_erase.specs.Erased.{erased_table, erased_bodies}
-use Rattle.par_steps.specs.Target.{target}
+use Rattle.par_step_laws.specs.Target.{target}
 use Rattle.par_loader.specs.Reads.{Classes}
 use Rattle.par_loader.specs.Loaded.{whole}
 use Rattle.par_loader.specs.Judged.{judged}
 use Rattle.par_framed_program.specs.Framed.{AreFramed}
-use Rattle.par_verify.specs.par_verified.Verified.{AllFrames, AreFramesOf, AreVerified}
+use Rattle.par_verify.specs.par_verify_laws.Verified.{AllFrames, AreFramesOf, AreVerified}
 use Rattle.par_compile.specs.declared.compiled.CompiledClass.{CompiledClass}
 use Rattle.par_compile.specs.Compiled.{AreCompiled}
 use Rattle.par_class_writer.specs.Written.{SetsBut, FailsAt, StopsBehind}
-use Rattle.par_files_verified.specs.Laws.{main_class, AreAllVerified}
+use Rattle.par_verified_file_laws.specs.Laws.{main_class, AreAllVerified}
 use Rattle.par_typed.specs.declared.program.Typed.{Typed}
 use Rattle.par_typed.specs.declared.refusal.Refusal.{Refusal}
 use Rattle.par_typed.specs.Shown.{bodies}

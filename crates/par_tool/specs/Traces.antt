@@ -15,7 +15,7 @@ use Rattle.par_observer.specs.Trees.{bodies_of, IsAcceptedTree, IsProgramOf}
 use Rattle.par_secrecy.specs.Runs.{Run}
 use Rattle.par_secrecy.specs.Secure.{Secure}
 use Rattle.par_alike.specs.Subject.{subject}
-use Rattle.par_runs.specs.Source.{run_of}
+use Rattle.par_run_laws.specs.Source.{run_of}
 use Rattle.par_trace.specs.Channels.{first_misfit}
 use Rattle.par_trace.specs.Texts as told
 use Rattle.par_tool.specs.declared.answer.Answer.{Answer}

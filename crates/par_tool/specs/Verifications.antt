@@ -5,10 +5,10 @@ use Rattle.par_io.specs.Causes.{FolderCounts, Makes, Files}
 use Rattle.par_values.specs.declared.inputs.Inputs.{Inputs}
 use Rattle.par_class.specs.declared.file.ClassFile.{ClassFile}
 use Rattle.par_single.specs.Members.{own_name}
-use Rattle.par_steps.specs.Run.{machine_run}
-use Rattle.par_verify.specs.par_sound.Laws.{IsFine}
-use Rattle.par_verify.specs.par_verified.Verified.{AllFrames, AreFramesOf, AreVerified}
-use Rattle.par_verify.specs.par_verified.Verified.{IsUnverified}
+use Rattle.par_step_laws.specs.Run.{machine_run}
+use Rattle.par_verify.specs.par_sound_laws.Laws.{IsFine}
+use Rattle.par_verify.specs.par_verify_laws.Verified.{AllFrames, AreFramesOf, AreVerified}
+use Rattle.par_verify.specs.par_verify_laws.Verified.{IsUnverified}
 use Rattle.par_framed_program.specs.Framed.{IsUnframed}
 use Rattle.par_loader.specs.declared.error.Unloaded.TheVariants as unloaded
 use Rattle.par_tool.specs.declared.answer.Answer.{Answer}

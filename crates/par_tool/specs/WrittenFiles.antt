@@ -8,8 +8,8 @@ use Rattle.par_values.specs.declared.run.Ending.TheVariants.{Stopped}
 use Rattle.par_values.specs.Ran.{Fine}
 use Rattle.par_secrecy.specs.Runs.{Run}
 use Rattle.par_secrecy.specs.Shows.{shown_run}
-use Rattle.par_runs.specs.Source as runs
-use Rattle.par_runner.specs.Texts as told
+use Rattle.par_run_laws.specs.Source as runs
+use Rattle.par_run_lines.specs.Texts as told
 use Rattle.par_inputs.specs.Lines.{lines_of}
 use Rattle.par_inputs.specs.Rules.{entries, IsRight}
 use Rattle.par_inputs.specs.declared.read.TheConstants.{LONGEST_INPUTS}
@@ -20,7 +20,7 @@ use Rattle.par_loader.specs.Loaded.{whole}
 use Rattle.par_loader.specs.Judged.{judged}
 use Rattle.par_typed.specs.declared.program.Typed.{Typed}
 use Rattle.par_compile.specs.declared.compiled.CompiledClass.{CompiledClass}
-use Rattle.par_files_verified.specs.Laws.{main_class}
+use Rattle.par_verified_file_laws.specs.Laws.{main_class}
 use Rattle.par_words.specs.Words as wanted
 use Rattle.par_words.specs.Words.{Wanted}
 use Rattle.par_tool.specs.Outside.{Text, IsThere, class_file}

@@ -3,7 +3,7 @@
 ghost use Rattle.std.specs.Prelude.{◌≡◌, ◌≢◌, ℕ, IsTrue};
 ghost use Rattle.par_io.specs.Saying.{Said};
 ghost use Rattle.par_values.specs.Ran.{Fine};
-ghost use Rattle.par_runner.specs.Texts as told;
+ghost use Rattle.par_run_lines.specs.Texts as told;
 ghost use Rattle.par_trace.specs.Texts.{run_of, lines};
 ghost use Rattle.par_tool.specs.Answers.{Scene, Ends, Concludes, BreaksOff};
 ghost use Rattle.par_tool.specs.Exactly.{IsExact, IsSaidBy};
@@ -23,7 +23,7 @@ use crate::sources::{check, compile_file};
 use crate::traces::{Traced, trace_source};
 use crate::verifications::verify_class;
 use par_io::{Folder, Sink};
-use par_runner::tell_run;
+use par_run_lines::tell_run;
 use par_trace::tell_source;
 use par_words::{Request, Which, read_words};
 use std::alloc::Global;

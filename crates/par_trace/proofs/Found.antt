@@ -5,7 +5,7 @@ use Rattle.std.specs.Str.{bytes_eq}
 use Rattle.indexmap.specs.IndexMap.{get}
 use Rattle.par_values.specs.declared.inputs.ChannelInput.{ChannelInput}
 use Rattle.par_secrecy.specs.Subject.{is_of}
-use Rattle.par_runs.specs.Names.{Name, Member}
+use Rattle.par_run_laws.specs.Names.{Name, Member}
 use Rattle.par_index.specs.declared.firsts.Firsts.{Firsts}
 use Rattle.par_index.specs.Firsts.{AreFirst}
 use Rattle.par_index.proofs.Places.{position-is_some, any-map}

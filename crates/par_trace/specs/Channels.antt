@@ -6,7 +6,7 @@ use Rattle.par_typed.specs.declared.table.ClassInfo.{ClassInfo}
 use Rattle.par_typed.specs.declared.table.Table.{Table}
 use Rattle.par_values.specs.declared.inputs.ChannelInput.{ChannelInput}
 use Rattle.par_secrecy.specs.Subject.{is_of}
-use Rattle.par_runs.specs.Names.{Name, Member}
+use Rattle.par_run_laws.specs.Names.{Name, Member}
 
 -- the input channels among those of a class
 abbrev pub inputs_of : Name → List ChannelInfo → List Member

@@ -1,7 +1,7 @@
 -- What channels are found by.
 use Rattle.std.specs.Prelude.{Bool, ◌&&◌}
 use Rattle.std.specs.Str.{bytes_eq}
-use Rattle.par_runs.specs.Names.{Member}
+use Rattle.par_run_laws.specs.Names.{Member}
 use Rattle.par_trace.specs.declared.channels.Key.{Key}
 
 -- the channel that a key is that of

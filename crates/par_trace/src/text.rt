@@ -3,11 +3,11 @@
 ghost use Rattle.std.specs.Prelude.{◌≡◌, ◌++◌, map, IfOk, OnOk};
 ghost use Rattle.std.specs.List.{join_with_byte};
 ghost use Rattle.par_meaning.specs.Onward.{witnessed};
-ghost use Rattle.par_runner.specs.Texts.{line};
+ghost use Rattle.par_run_lines.specs.Texts.{line};
 ghost use Rattle.par_trace.specs.Texts as spec;
 
 use par_meaning::SourceEvent;
-use par_runner::{NoMemory, add_event};
+use par_run_lines::{NoMemory, add_event};
 use par_typed::table::Table;
 use std::alloc::Global;
 

@@ -15,27 +15,27 @@ use Rattle.par_scope.specs.Home.{Home}
 use Rattle.par_scope.specs.Members.{any_value, value_of}
 use Rattle.par_scope.specs.Meaning.{type_of, called_on, receiver_of, selected, called, arity}
 use Rattle.par_scope.specs.Meaning.{param_at}
-use Rattle.par_types.specs.Fits.{is_void, operand, suits}
-use Rattle.par_types.specs.Exprs.{is_number, unless_number, member_fault, count_fault}
-use Rattle.par_types.specs.Exprs.{is_known}
-use Rattle.par_types.specs.Exprs.{how_many, misfit, expr_faults, receiver_faults}
-use Rattle.par_types.specs.Exprs.{args_faults}
-use Rattle.par_types.specs.Exprs.{value_faults}
-use Rattle.par_types.specs.Stmts.{stmt_place, type_fault, throw_fault, test_faults}
-use Rattle.par_types.specs.Stmts.{slot_of}
-use Rattle.par_types.specs.Stmts.{target_slot, result_slot, local_faults}
-use Rattle.par_types.specs.Stmts.{assign_faults}
-use Rattle.par_types.specs.Stmts.{result_faults, declares, stmt_faults, braces_faults}
-use Rattle.par_types.specs.Stmts.{may_braces_faults, else_faults, stmts_faults}
-use Rattle.par_types.specs.Stmts.{catches_faults}
-use Rattle.par_types.specs.Stmts.{handler_faults}
-use Rattle.par_annotated.specs.par_annotate.Exprs.{number_of}
-use Rattle.par_annotated.specs.Ints.{one_unless, no_ints, may_no_ints, args_no_ints, stmt_no_ints}
-use Rattle.par_annotated.specs.Ints.{braces_no_ints, may_braces_no_ints, else_no_ints, all_no_ints}
-use Rattle.par_annotated.specs.Ints.{catches_no_ints, handler_no_ints}
-use Rattle.par_sources.specs.Numbers.{too_great, may_too_great, args_too_great, stmt_too_great}
-use Rattle.par_sources.specs.Numbers.{braces_too_great, may_braces_too_great, else_too_great}
-use Rattle.par_sources.specs.Numbers.{all_too_great, catches_too_great, handler_too_great}
+use Rattle.par_type_rules.specs.Fits.{is_void, operand, suits}
+use Rattle.par_type_rules.specs.Exprs.{is_number, unless_number, member_fault, count_fault}
+use Rattle.par_type_rules.specs.Exprs.{is_known}
+use Rattle.par_type_rules.specs.Exprs.{how_many, misfit, expr_faults, receiver_faults}
+use Rattle.par_type_rules.specs.Exprs.{args_faults}
+use Rattle.par_type_rules.specs.Exprs.{value_faults}
+use Rattle.par_type_rules.specs.Stmts.{stmt_place, type_fault, throw_fault, test_faults}
+use Rattle.par_type_rules.specs.Stmts.{slot_of}
+use Rattle.par_type_rules.specs.Stmts.{target_slot, result_slot, local_faults}
+use Rattle.par_type_rules.specs.Stmts.{assign_faults}
+use Rattle.par_type_rules.specs.Stmts.{result_faults, declares, stmt_faults, braces_faults}
+use Rattle.par_type_rules.specs.Stmts.{may_braces_faults, else_faults, stmts_faults}
+use Rattle.par_type_rules.specs.Stmts.{catches_faults}
+use Rattle.par_type_rules.specs.Stmts.{handler_faults}
+use Rattle.par_annotation.specs.par_annotation_laws.Exprs.{number_of}
+use Rattle.par_annotation.specs.Ints.{one_unless, no_ints, may_no_ints, args_no_ints, stmt_no_ints}
+use Rattle.par_annotation.specs.Ints.{braces_no_ints, may_braces_no_ints, else_no_ints, all_no_ints}
+use Rattle.par_annotation.specs.Ints.{catches_no_ints, handler_no_ints}
+use Rattle.par_source_laws.specs.Numbers.{too_great, may_too_great, args_too_great, stmt_too_great}
+use Rattle.par_source_laws.specs.Numbers.{braces_too_great, may_braces_too_great, else_too_great}
+use Rattle.par_source_laws.specs.Numbers.{all_too_great, catches_too_great, handler_too_great}
 
 -- ---- parts
 

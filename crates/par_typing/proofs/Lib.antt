@@ -6,4 +6,4 @@ pub mod Small
 pub mod Tables
 pub mod Written
 pub mod WellTyped
-pub use Rattle.par_tables.proofs as par_tables
+pub use Rattle.par_source_table_laws.proofs as par_source_table_laws

@@ -5,9 +5,11 @@ use Rattle.par_tree.specs.Plain.{Sta, Stas, Braces, In, MayBraces, Else, Catches
 use Rattle.par_tree.specs.Plain.{Handler, On}
 use Rattle.par_tree.specs.Nodes.{stmt_nodes, braces_nodes, may_braces_nodes, else_nodes, all_nodes}
 use Rattle.par_tree.specs.Nodes.{catch_nodes, handler_nodes}
-use Rattle.par_annotated.specs.par_annotate.Stmts.{locals_in, braces_locals, may_braces_locals}
-use Rattle.par_annotated.specs.par_annotate.Stmts.{else_locals}
-use Rattle.par_annotated.specs.par_annotate.Stmts.{all_locals, catches_locals, handler_locals}
+use Rattle.par_annotation.specs.par_annotation_laws.Stmts.{locals_in, braces_locals}
+use Rattle.par_annotation.specs.par_annotation_laws.Stmts.{may_braces_locals}
+use Rattle.par_annotation.specs.par_annotation_laws.Stmts.{else_locals}
+use Rattle.par_annotation.specs.par_annotation_laws.Stmts.{all_locals, catches_locals}
+use Rattle.par_annotation.specs.par_annotation_laws.Stmts.{handler_locals}
 
 mutual
   unfolding locals_in stmt_nodes

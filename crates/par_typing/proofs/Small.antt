@@ -7,16 +7,16 @@ use Rattle.par_names.specs.Declarations.{classes_in}
 use Rattle.par_scope.specs.Names.{Names}
 use Rattle.par_scope.specs.Locals.{no_locals}
 use Rattle.par_scope.specs.Home.{Home, class_named, result_written}
-use Rattle.par_types.specs.Stmts.{braces_faults}
-use Rattle.par_types.specs.Methods.{with_params, params_faults, throws_faults}
-use Rattle.par_types.specs.Methods.{fields_faults}
-use Rattle.par_types.specs.Methods.{result_fault, end_fault, home_of, body_faults}
-use Rattle.par_types.specs.Methods.{method_faults}
-use Rattle.par_types.specs.Methods.{methods_faults, class_faults}
-use Rattle.par_types.specs.Program.{declaration_faults, declarations_faults}
-use Rattle.par_tables.specs.par_declarations.Limits.{class_limits, method_limits}
-use Rattle.par_annotated.specs.Small.{IsSmall, AreSmall, IsSmallClass, IsSmallSource}
-use Rattle.par_sources.specs.Numbers.{HasNumbers, SourceHasNumbers}
+use Rattle.par_type_rules.specs.Stmts.{braces_faults}
+use Rattle.par_type_rules.specs.Methods.{with_params, params_faults, throws_faults}
+use Rattle.par_type_rules.specs.Methods.{fields_faults}
+use Rattle.par_type_rules.specs.Methods.{result_fault, end_fault, home_of, body_faults}
+use Rattle.par_type_rules.specs.Methods.{method_faults}
+use Rattle.par_type_rules.specs.Methods.{methods_faults, class_faults}
+use Rattle.par_type_rules.specs.Program.{declaration_faults, declarations_faults}
+use Rattle.par_source_table_laws.specs.par_declarations.Limits.{class_limits, method_limits}
+use Rattle.par_annotation.specs.Small.{IsSmall, AreSmall, IsSmallClass, IsSmallSource}
+use Rattle.par_source_laws.specs.Numbers.{HasNumbers, SourceHasNumbers}
 use Rattle.par_typing.proofs.Ints.{left_none, right_none, braces_ints}
 use Rattle.par_typing.proofs.Locals.{braces_few}
 use Rattle.par_typing.proofs.Limits.{MethodIsWithin, method_within, class_within}

@@ -4,16 +4,16 @@ use Rattle.par_lexer.specs.declared.cut.TheConstants.{LONGEST_SOURCE}
 use Rattle.par_tree.specs.Plain.{Source}
 use Rattle.par_typed.specs.declared.table.Table.{Table}
 use Rattle.par_typed.specs.Plain.{Body}
-use Rattle.par_types.specs.Program.{type_faults}
-use Rattle.par_annotated.specs.par_annotate.Bodies.{typed_program}
-use Rattle.par_sources.specs.Order.{IsInOrder}
-use Rattle.par_sources.specs.Sizes.{source_texts}
+use Rattle.par_type_rules.specs.Program.{type_faults}
+use Rattle.par_annotation.specs.par_annotation_laws.Bodies.{typed_program}
+use Rattle.par_source_laws.specs.Order.{IsInOrder}
+use Rattle.par_source_laws.specs.Sizes.{source_texts}
 use Rattle.par_resolved.specs.Resolved.{table_of}
-use Rattle.par_tables.specs.par_faults.Faults.{all_faults}
-use Rattle.par_tables.specs.par_well_typed.WellTyped.{IsWellTyped}
-use Rattle.par_tables.proofs.par_well_typed.Whole.{sources_are_well_typed}
-use Rattle.par_declared.specs.Declared.{IsWellDeclared}
-use Rattle.par_tables.proofs.Whole as tables
+use Rattle.par_source_table_laws.specs.par_faults.Faults.{all_faults}
+use Rattle.par_source_table_laws.specs.par_typed_laws.WellTyped.{IsWellTyped}
+use Rattle.par_source_table_laws.proofs.par_typed_laws.Whole.{sources_are_well_typed}
+use Rattle.par_table_laws.specs.Declared.{IsWellDeclared}
+use Rattle.par_source_table_laws.proofs.Whole as tables
 use Rattle.par_typing.specs.Typed.{written}
 
 pub well_typed : (table : Table) (source : Source) (found : List Body) → all_faults source ≡ []

@@ -9,7 +9,7 @@ use Rattle.par_index.proofs.Places.{position-from}
 use Rattle.par_policy.specs.declared.clauses.Clause.{Clause}
 use Rattle.par_tree.specs.declared.decl.FieldDecl.{FieldDecl}
 use Rattle.par_tree.specs.Plain.{Source}
-use Rattle.par_annotated.specs.par_annotate.Stmts.{Written}
+use Rattle.par_annotation.specs.par_annotation_laws.Stmts.{Written}
 use Rattle.par_resolved.specs.declared.entries.Entry.{Entry}
 use Rattle.par_resolved.specs.declared.known.Known as code
 use Rattle.par_resolved.specs.Seen.{known_seen}
@@ -24,7 +24,7 @@ use Rattle.par_resolved.specs.Numbered.{shared_policies}
 use Rattle.par_resolved.specs.Numbered.{policy_number}
 use Rattle.par_resolved.specs.Written as said
 use Rattle.par_resolved.specs.Resolved.{table_of}
-use Rattle.par_annotated.specs.Numbers.{written_in}
+use Rattle.par_annotation.specs.Numbers.{written_in}
 use Rattle.par_typing.specs.Typed.{written}
 
 -- ---- the first place in front of others that stand there already

@@ -1,6 +1,6 @@
 ghost use Rattle.std.specs.Prelude.{◌≡◌, ◌<◌, ◌+◌, [], drop, length, IfSome, IfNone};
 ghost use Rattle.std.specs.Option.{option_map};
-ghost use Rattle.par_handlers.specs.par_steps.Handlers.{caught, handler_in};
+ghost use Rattle.par_handlers.specs.par_step_laws.Handlers.{caught, handler_in};
 ghost use Rattle.par_handlers.specs.Standing.{standing};
 ghost use Rattle.par_stack.specs.Frames.{running, with_running, left_with};
 ghost use Rattle.par_unwinding.specs.Shown.{frames_of};

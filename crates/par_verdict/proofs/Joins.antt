@@ -11,9 +11,9 @@ use Rattle.par_policy.specs.Sees.{sees}
 use Rattle.par_bits.specs.Sets.{Set, has, none, adding}
 use Rattle.par_atoms.specs.Atoms.{members}
 use Rattle.par_order.specs.Rows.{AreBelowAt}
-use Rattle.par_asked.proofs.par_pass.Along.{joined_given}
-use Rattle.par_asked.specs.par_rules.Lattice.{Seen, IsSeenBelow, joined, seen_by}
-use Rattle.par_asked.specs.par_checks.Keeps.{IsSeenBelowAt, locks_in}
+use Rattle.par_asked.proofs.par_pass_laws.Along.{joined_given}
+use Rattle.par_asked.specs.par_flow_laws.Lattice.{Seen, IsSeenBelow, joined, seen_by}
+use Rattle.par_asked.specs.par_check_laws.Keeps.{IsSeenBelowAt, locks_in}
 
 -- who sees a join sees each of its policies
 one_of_joined : (table : List (List Clause)) (s : Set) (actor : ℕ) (locks : List ℕ)

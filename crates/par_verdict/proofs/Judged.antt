@@ -14,15 +14,15 @@ use Rattle.par_typed.specs.declared.program.TBody.{TBody}
 use Rattle.par_typed.specs.declared.program.Typed.{Typed}
 use Rattle.par_typed.specs.Shown.{bodies}
 use Rattle.par_typed.specs.Plain.{Body}
-use Rattle.par_asked.specs.par_rules.Lattice.{numbers}
-use Rattle.par_asked.specs.par_rules.Facts.{Facts}
-use Rattle.par_asked.specs.par_rules.Declares.{declares}
-use Rattle.par_asked.proofs.par_pass.Along.{closed_along, stand_for}
-use Rattle.par_asked.specs.par_checks.Asked.{Check}
-use Rattle.par_asked.specs.par_checks.Checks.{checks}
-use Rattle.par_asked.specs.par_checks.Verdict.{among, KeepsNumbered, IsAccepted, IsBroken}
-use Rattle.par_asked.proofs.par_checks.Kept.{keep_accept, meant, kept}
-use Rattle.par_asked.proofs.par_checks.Failed.{fail_refuse}
+use Rattle.par_asked.specs.par_flow_laws.Lattice.{numbers}
+use Rattle.par_asked.specs.par_flow_laws.Facts.{Facts}
+use Rattle.par_asked.specs.par_flow_laws.Declares.{declares}
+use Rattle.par_asked.proofs.par_pass_laws.Along.{closed_along, stand_for}
+use Rattle.par_asked.specs.par_check_laws.Asked.{Check}
+use Rattle.par_asked.specs.par_check_laws.Checks.{checks}
+use Rattle.par_asked.specs.par_check_laws.Verdict.{among, KeepsNumbered, IsAccepted, IsBroken}
+use Rattle.par_asked.proofs.par_check_laws.Kept.{keep_accept, meant, kept}
+use Rattle.par_asked.proofs.par_check_laws.Failed.{fail_refuse}
 use Rattle.par_verdict.specs.Told.{AreBroken, AreAllBroken}
 use Rattle.par_verdict.specs.Judged.{AreRight, AreAllRight, IsVerdict}
 use Rattle.par_verdict.specs.Accepted.{MOST_BODIES, AreKept, AreAllKept}

@@ -1,15 +1,15 @@
 -- A rule is kept where its condition holds of what is known at its spot.
 use Rattle.std.proofs.Common.{◌≡◌, ◌↔◌, Option, Some, None, sym, subst}
 use Rattle.par_typed.specs.declared.table.Table.{Table}
-use Rattle.par_asked.specs.par_rules.Lattice.{numbers, joined}
-use Rattle.par_asked.specs.par_rules.Ways.{Way}
-use Rattle.par_asked.specs.par_rules.Facts.{Facts}
-use Rattle.par_asked.specs.par_rules.Rules.{Holds}
-use Rattle.par_asked.specs.par_checks.Asked.{Condition, Open, Released, Worth, Joined, Context}
-use Rattle.par_asked.specs.par_checks.Asked.{Effect, Among}
-use Rattle.par_asked.specs.par_checks.Asked.{Never}
-use Rattle.par_asked.specs.par_checks.Keeps.{Satisfies}
-use Rattle.par_asked.specs.par_checks.Verdict.{given, KeepsNumbered}
+use Rattle.par_asked.specs.par_flow_laws.Lattice.{numbers, joined}
+use Rattle.par_asked.specs.par_flow_laws.Ways.{Way}
+use Rattle.par_asked.specs.par_flow_laws.Facts.{Facts}
+use Rattle.par_asked.specs.par_flow_laws.Rules.{Holds}
+use Rattle.par_asked.specs.par_check_laws.Asked.{Condition, Open, Released, Worth, Joined, Context}
+use Rattle.par_asked.specs.par_check_laws.Asked.{Effect, Among}
+use Rattle.par_asked.specs.par_check_laws.Asked.{Never}
+use Rattle.par_asked.specs.par_check_laws.Keeps.{Satisfies}
+use Rattle.par_asked.specs.par_check_laws.Verdict.{given, KeepsNumbered}
 use Rattle.par_asked.specs.declared.check.Check.{Check}
 use Rattle.par_asked.specs.Seen.{seen_check, seen_condition}
 use Rattle.par_verdict.specs.declared.known.Known.{Known}

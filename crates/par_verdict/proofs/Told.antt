@@ -9,11 +9,11 @@ use Rattle.par_typed.specs.First.{when, broken, first_of}
 use Rattle.par_typed.specs.Plain.{Body}
 use Rattle.par_typed.specs.Shown.{body, bodies}
 use Rattle.par_typed.proofs.First.{first_of_append, first_of_none}
-use Rattle.par_asked.specs.par_rules.Lattice.{numbers}
-use Rattle.par_asked.specs.par_rules.Facts.{Facts}
-use Rattle.par_asked.specs.par_checks.Asked.{Check}
-use Rattle.par_asked.specs.par_checks.Checks.{checks}
-use Rattle.par_asked.specs.par_checks.Verdict.{KeepsNumbered}
+use Rattle.par_asked.specs.par_flow_laws.Lattice.{numbers}
+use Rattle.par_asked.specs.par_flow_laws.Facts.{Facts}
+use Rattle.par_asked.specs.par_check_laws.Asked.{Check}
+use Rattle.par_asked.specs.par_check_laws.Checks.{checks}
+use Rattle.par_asked.specs.par_check_laws.Verdict.{KeepsNumbered}
 use Rattle.par_asked.specs.declared.check.Check as code
 use Rattle.par_asked.specs.Seen.{seen_check, seen_checks}
 use Rattle.par_asked.proofs.Left.{left_more, left_none}

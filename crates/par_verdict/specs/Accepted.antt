@@ -7,13 +7,13 @@ use Rattle.par_typed.specs.declared.table.MethodInfo.{MethodInfo}
 use Rattle.par_typed.specs.declared.program.Typed.{Typed}
 use Rattle.par_typed.specs.Plain.{Body}
 use Rattle.par_typed.specs.Shown.{bodies}
-use Rattle.par_asked.specs.par_rules.Lattice.{numbers}
-use Rattle.par_asked.specs.par_rules.Facts.{Facts}
-use Rattle.par_asked.specs.par_rules.Declares.{declares}
-use Rattle.par_asked.specs.par_rules.Ranges.{IsOrderly}
-use Rattle.par_asked.specs.par_checks.Asked.{Check}
-use Rattle.par_asked.specs.par_checks.Checks.{checks}
-use Rattle.par_asked.specs.par_checks.Verdict.{KeepsNumbered}
+use Rattle.par_asked.specs.par_flow_laws.Lattice.{numbers}
+use Rattle.par_asked.specs.par_flow_laws.Facts.{Facts}
+use Rattle.par_asked.specs.par_flow_laws.Declares.{declares}
+use Rattle.par_asked.specs.par_flow_laws.Ranges.{IsOrderly}
+use Rattle.par_asked.specs.par_check_laws.Asked.{Check}
+use Rattle.par_asked.specs.par_check_laws.Checks.{checks}
+use Rattle.par_asked.specs.par_check_laws.Verdict.{KeepsNumbered}
 use Rattle.par_verdict.specs.Judged.{AreRight, AreAllRight, IsFirstBroken}
 use Rattle.par_verdict.specs.declared.error.CheckError.{CheckError}
 use Rattle.par_verdict.specs.declared.error.CheckError.TheVariants.{Broken, Memory}

@@ -4,16 +4,16 @@ use Rattle.par_typed.specs.declared.table.Table.{Table}
 use Rattle.par_typed.specs.declared.refusal.Refusal.{Refusal}
 use Rattle.par_typed.specs.First.{broken, comes_before}
 use Rattle.par_typed.specs.Plain.{Body}
-use Rattle.par_asked.specs.par_rules.Lattice.{Seen, numbers}
-use Rattle.par_asked.specs.par_rules.Facts.{Facts}
-use Rattle.par_asked.specs.par_rules.Declares.{declares}
-use Rattle.par_asked.specs.par_rules.Body.{sta}
-use Rattle.par_asked.specs.par_rules.Closed.{IsClosed}
-use Rattle.par_asked.specs.par_pass.Seens.{seen_as}
-use Rattle.par_asked.specs.par_pass.Possible.{HasPossibleExits}
-use Rattle.par_asked.specs.par_pass.Result.{AreLeast}
-use Rattle.par_asked.proofs.par_pass.Instances.{seen, stands}
-use Rattle.par_asked.specs.par_checks.Verdict.{among, IsAccepted, IsBroken}
+use Rattle.par_asked.specs.par_flow_laws.Lattice.{Seen, numbers}
+use Rattle.par_asked.specs.par_flow_laws.Facts.{Facts}
+use Rattle.par_asked.specs.par_flow_laws.Declares.{declares}
+use Rattle.par_asked.specs.par_flow_laws.Body.{sta}
+use Rattle.par_asked.specs.par_flow_laws.Closed.{IsClosed}
+use Rattle.par_asked.specs.par_pass_laws.Seens.{seen_as}
+use Rattle.par_asked.specs.par_pass_laws.Possible.{HasPossibleExits}
+use Rattle.par_asked.specs.par_pass_laws.Result.{AreLeast}
+use Rattle.par_asked.proofs.par_pass_laws.Instances.{seen, stands}
+use Rattle.par_asked.specs.par_check_laws.Verdict.{among, IsAccepted, IsBroken}
 
 -- the facts are closed, and at or below all others that are, whichever policies have the numbers; a
 -- completion that is not possible has no exit

@@ -1,9 +1,9 @@
 -- What is known at a spot.
 use Rattle.std.specs.Prelude.{ℕ, Option, Some, None, List, [], ◌∷◌, map}
-use Rattle.par_asked.specs.par_rules.Lattice.{numbers}
-use Rattle.par_asked.specs.par_rules.Kinds.{Normal}
-use Rattle.par_asked.specs.par_rules.Facts.{Facts}
-use Rattle.par_asked.specs.par_rules.Rules.{way}
+use Rattle.par_asked.specs.par_flow_laws.Lattice.{numbers}
+use Rattle.par_asked.specs.par_flow_laws.Kinds.{Normal}
+use Rattle.par_asked.specs.par_flow_laws.Facts.{Facts}
+use Rattle.par_asked.specs.par_flow_laws.Rules.{way}
 use Rattle.par_asked.specs.declared.check.Way.{Way}
 use Rattle.par_asked.specs.Seen.{seen_spot}
 use Rattle.par_verdict.specs.Standing.{Standing, standing}

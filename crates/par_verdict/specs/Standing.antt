@@ -2,14 +2,14 @@
 use Rattle.std.specs.Prelude.{Option, Some, None}
 use Rattle.par_bits.specs.Sets.{Set, has, none, union}
 use Rattle.par_typed.specs.declared.table.Table.{Table}
-use Rattle.par_asked.specs.par_rules.Lattice.{numbers, joined}
-use Rattle.par_asked.specs.par_rules.Ways.{Way}
-use Rattle.par_asked.specs.par_rules.Facts.{Facts}
-use Rattle.par_asked.specs.par_checks.Asked.{Condition, Open, Released, Worth, Joined, Context}
-use Rattle.par_asked.specs.par_checks.Asked.{Effect, Among}
-use Rattle.par_asked.specs.par_checks.Asked.{Never}
-use Rattle.par_asked.specs.par_checks.Keeps.{Satisfies}
-use Rattle.par_asked.specs.par_checks.Verdict.{given}
+use Rattle.par_asked.specs.par_flow_laws.Lattice.{numbers, joined}
+use Rattle.par_asked.specs.par_flow_laws.Ways.{Way}
+use Rattle.par_asked.specs.par_flow_laws.Facts.{Facts}
+use Rattle.par_asked.specs.par_check_laws.Asked.{Condition, Open, Released, Worth, Joined, Context}
+use Rattle.par_asked.specs.par_check_laws.Asked.{Effect, Among}
+use Rattle.par_asked.specs.par_check_laws.Asked.{Never}
+use Rattle.par_asked.specs.par_check_laws.Keeps.{Satisfies}
+use Rattle.par_asked.specs.par_check_laws.Verdict.{given}
 use Rattle.par_verdict.specs.declared.known.Known.{Known}
 
 pub record Standing : Type 0 where

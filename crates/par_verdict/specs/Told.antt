@@ -4,11 +4,11 @@ use Rattle.par_typed.specs.declared.table.Table.{Table}
 use Rattle.par_typed.specs.declared.refusal.Refusal.{Refusal}
 use Rattle.par_typed.specs.First.{when, broken}
 use Rattle.par_typed.specs.Plain.{Body}
-use Rattle.par_asked.specs.par_rules.Lattice.{numbers}
-use Rattle.par_asked.specs.par_rules.Facts.{Facts}
-use Rattle.par_asked.specs.par_checks.Asked.{Check}
-use Rattle.par_asked.specs.par_checks.Checks.{checks}
-use Rattle.par_asked.specs.par_checks.Verdict.{KeepsNumbered}
+use Rattle.par_asked.specs.par_flow_laws.Lattice.{numbers}
+use Rattle.par_asked.specs.par_flow_laws.Facts.{Facts}
+use Rattle.par_asked.specs.par_check_laws.Asked.{Check}
+use Rattle.par_asked.specs.par_check_laws.Checks.{checks}
+use Rattle.par_asked.specs.par_check_laws.Verdict.{KeepsNumbered}
 
 -- these are the broken rules of the list, each told at its place
 unfoldable pub AreBroken : (Check → Type 0) → List Check → List Refusal → Type 0

@@ -4,8 +4,8 @@ ghost use Rattle.std.specs.Prelude.{◌≡◌, ◌≤◌, List as Items, length,
 ghost use Rattle.par_typed.specs.declared.refusal.Refusal.{Refusal as Told};
 ghost use Rattle.par_typed.specs.First.{first_of, IsAnswer};
 ghost use Rattle.par_typed.specs.Shown as shown;
-ghost use Rattle.par_asked.specs.par_checks.Checks.{checks};
-ghost use Rattle.par_asked.specs.par_checks.Verdict.{KeepsNumbered};
+ghost use Rattle.par_asked.specs.par_check_laws.Checks.{checks};
+ghost use Rattle.par_asked.specs.par_check_laws.Verdict.{KeepsNumbered};
 ghost use Rattle.par_asked.specs.Seen.{seen_checks};
 ghost use Rattle.par_verdict.specs.Judged.{AreAllRight, IsVerdict};
 ghost use Rattle.par_verdict.specs.Told.{AreBroken, AreAllBroken};

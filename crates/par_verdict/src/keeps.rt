@@ -2,9 +2,9 @@
 
 ghost use Rattle.std.specs.Prelude.{◌≡◌, ◌≤◌, ◌↔◌, length, slice_get, IfOk, IsTrue};
 ghost use Rattle.par_bits.specs.Sets.{has};
-ghost use Rattle.par_asked.specs.par_rules.Lattice.{IsSeenBelow, joined, seen_by};
+ghost use Rattle.par_asked.specs.par_flow_laws.Lattice.{IsSeenBelow, joined, seen_by};
 ghost use Rattle.par_asked.specs.Seen.{seen_check, seen_condition};
-ghost use Rattle.par_asked.specs.par_checks.Verdict.{KeepsNumbered};
+ghost use Rattle.par_asked.specs.par_check_laws.Verdict.{KeepsNumbered};
 ghost use Rattle.par_verdict.specs.Standing.{Meets, stand, value_of};
 
 use crate::known::{Known, KnownFacts};

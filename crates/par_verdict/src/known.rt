@@ -2,8 +2,8 @@
 
 ghost use Rattle.std.specs.Prelude.{◌≡◌};
 ghost use Rattle.par_bits.specs.Sets.{has};
-ghost use Rattle.par_asked.specs.par_rules.Lattice.{numbers};
-ghost use Rattle.par_asked.specs.par_rules.Facts.{Facts};
+ghost use Rattle.par_asked.specs.par_flow_laws.Lattice.{numbers};
+ghost use Rattle.par_asked.specs.par_flow_laws.Facts.{Facts};
 ghost use Rattle.par_nodes.specs.Seen.{seen_kind};
 ghost use Rattle.par_verdict.specs.Standing.{standing, stands};
 

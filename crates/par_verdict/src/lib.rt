@@ -19,6 +19,6 @@ pub use error::CheckError;
 pub use first::first_broken;
 pub use keeps::{is_met, value_of};
 pub use par_asked;
-pub use par_asked::par_checks;
+pub use par_asked::par_check_laws;
 pub use policies::Policies;
 pub use ways::known_at;

@@ -2,7 +2,7 @@
 
 ghost use Rattle.std.specs.Prelude.{◌≡◌, slice_get};
 ghost use Rattle.par_bits.specs.Sets.{has};
-ghost use Rattle.par_asked.specs.par_checks.Checks.{points_past};
+ghost use Rattle.par_asked.specs.par_check_laws.Checks.{points_past};
 ghost use Rattle.par_typed.specs.Shown.{all_shown};
 ghost use Rattle.par_verdict.specs.Standing.{heightened, stands};
 ghost use Rattle.par_verdict.specs.Spots.{at_spot, behind, listed};

@@ -6,7 +6,7 @@ use Rattle.std.proofs.lemmas.Bool.{cases_lt}
 use Rattle.std.proofs.lemmas.Option.{slice_get_past}
 use Rattle.par_class.specs.declared.file.ClassFile.{ClassFile}
 use Rattle.par_kinds.specs.Linked.{coded_at}
-use Rattle.par_verified.specs.Verified.{AllFrames, AreVerified, IsVerified}
+use Rattle.par_verify_laws.specs.Verified.{AllFrames, AreVerified, IsVerified}
 use Rattle.par_verify.specs.Answers.{IsFirstIn, Passes, VerifiedTo}
 use Rattle.par_verify.proofs.Methods.{not-listed, not-there}
 

@@ -8,18 +8,19 @@ use Rattle.par_class.specs.declared.file.CodeAttr.{CodeAttr}
 use Rattle.par_class.specs.declared.file.ClassFile.{ClassFile}
 use Rattle.par_values.specs.declared.kind.Kind.{Kind}
 use Rattle.par_values.specs.Areas.{Name}
-use Rattle.par_steps.specs.Methods.{method_code}
+use Rattle.par_step_laws.specs.Methods.{method_code}
 use Rattle.par_kinds.specs.Kinds.{KFrame}
 use Rattle.par_kinds.specs.Acts.{Act}
 use Rattle.par_kinds.specs.Fits.{Given}
 use Rattle.par_kinds.specs.Linked.{exception_names, act_at, caught_kind, first_frame, result_of}
 use Rattle.par_kinds.specs.Shapes.{act_of, shape_at}
-use Rattle.par_verified.specs.par_passes.Passes.{Table, Judged, frame_at, frames_as_told}
-use Rattle.par_verified.proofs.par_passes.Least.{frames_as_told_are_least}
-use Rattle.par_verified.proofs.par_linked_frames.Shaped.{acts_agree}
+use Rattle.par_verify_laws.specs.par_frame_pass_laws.Passes.{Table, Judged, frame_at}
+use Rattle.par_verify_laws.specs.par_frame_pass_laws.Passes.{frames_as_told}
+use Rattle.par_verify_laws.proofs.par_frame_pass_laws.Least.{frames_as_told_are_least}
+use Rattle.par_verify_laws.proofs.par_linked_frame_laws.Shaped.{acts_agree}
 use Rattle.par_kinds.specs.declared.frame.PlacedFrame.{PlacedFrame}
-use Rattle.par_verified.specs.par_frames.Broken.{IsPlacedIn}
-use Rattle.par_verified.specs.Verified.{AllFrames, FitsMethod, frames_in}
+use Rattle.par_verify_laws.specs.par_frames.Broken.{IsPlacedIn}
+use Rattle.par_verify_laws.specs.Verified.{AllFrames, FitsMethod, frames_in}
 use Rattle.par_verify.specs.Answers.{Says}
 use Rattle.par_verify.specs.Starts.{told_of}
 use Rattle.par_verify.proofs.Telling.{told-within}

@@ -6,4 +6,4 @@ pub mod Naming
 pub mod Padding
 pub mod Starting
 pub mod Telling
-pub use Rattle.par_verified.proofs as par_verified
+pub use Rattle.par_verify_laws.proofs as par_verify_laws

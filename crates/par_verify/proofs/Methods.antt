@@ -10,9 +10,9 @@ use Rattle.par_class.specs.declared.file.ClassFile.{ClassFile}
 use Rattle.par_values.specs.Areas.{Name, class_named, name_or_none}
 use Rattle.par_single.specs.Members.{own_name, text_at, is_static}
 use Rattle.par_single.specs.Links.{signature_said}
-use Rattle.par_steps.specs.Classes.{class_names}
-use Rattle.par_steps.specs.Methods.{method_file, method_code, method_descriptor, methods_of}
-use Rattle.par_steps.specs.Methods.{pool_of, class_pool, code_in, code_or_none, descriptor_in}
+use Rattle.par_step_laws.specs.Classes.{class_names}
+use Rattle.par_step_laws.specs.Methods.{method_file, method_code, method_descriptor, methods_of}
+use Rattle.par_step_laws.specs.Methods.{pool_of, class_pool, code_in, code_or_none, descriptor_in}
 use Rattle.par_kinds.specs.Linked.{coded_at, coded_in, static_in, first_frame, given_to, result_of}
 use Rattle.par_kinds.specs.Linked.{taken_by}
 use Rattle.par_link.specs.Linked.{AreLinked}

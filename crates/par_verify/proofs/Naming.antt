@@ -11,7 +11,7 @@ use Rattle.std.proofs.lemmas.Option.{slice_get-get_or}
 use Rattle.par_class.specs.declared.file.ClassFile.{ClassFile}
 use Rattle.par_values.specs.Areas.{Name, class_named}
 use Rattle.par_single.specs.Members.{own_name}
-use Rattle.par_steps.specs.Classes.{class_names, exceptions_from, is_exception}
+use Rattle.par_step_laws.specs.Classes.{class_names, exceptions_from, is_exception}
 use Rattle.par_kinds.specs.Linked.{exception_names}
 use Rattle.par_verify.specs.Starts.{named_in}
 use Rattle.par_verify.proofs.Methods.{class-name, two}

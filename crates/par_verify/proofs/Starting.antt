@@ -13,8 +13,8 @@ use Rattle.par_kinds.specs.Fits.{Given}
 use Rattle.par_kinds.specs.Told.{as_met, told}
 use Rattle.par_frame_steps.specs.declared.frame.PlaceFrame.{PlaceFrame}
 use Rattle.par_frame_passes.specs.Tables.{table_of}
-use Rattle.par_verified.specs.par_passes.Passes.{Table, from_start, start_table}
-use Rattle.par_verified.specs.Verified.{whole}
+use Rattle.par_verify_laws.specs.par_frame_pass_laws.Passes.{Table, from_start, start_table}
+use Rattle.par_verify_laws.specs.Verified.{whole}
 use Rattle.par_verify.specs.Starts.{told_of}
 pub use Rattle.par_frame_passes.proofs.Puts.{put_there, put_nowhere}
 

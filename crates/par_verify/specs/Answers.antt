@@ -5,7 +5,7 @@ use Rattle.std.specs.List.{slice_get}
 use Rattle.par_class.specs.declared.file.MethodFile.{MethodFile}
 use Rattle.par_class.specs.declared.file.ClassFile.{ClassFile}
 use Rattle.par_kinds.specs.Linked.{coded_at}
-use Rattle.par_verified.specs.Verified.{AllFrames, IsVerified, AreVerified, IsUnverified}
+use Rattle.par_verify_laws.specs.Verified.{AllFrames, IsVerified, AreVerified, IsUnverified}
 use Rattle.par_verify.specs.declared.error.VerifyError.{VerifyError}
 use Rattle.par_verify.specs.declared.error.VerifyError.TheVariants as error
 

@@ -1,5 +1,5 @@
 pub mod Answers
 pub mod Starts
-pub use Rattle.par_verified.specs.par_frames as par_frames
-pub use Rattle.par_verified.specs.par_sound as par_sound
-pub use Rattle.par_verified.specs as par_verified
+pub use Rattle.par_verify_laws.specs.par_frames as par_frames
+pub use Rattle.par_verify_laws.specs.par_sound_laws as par_sound_laws
+pub use Rattle.par_verify_laws.specs as par_verify_laws

@@ -8,13 +8,13 @@ use Rattle.par_class.specs.declared.file.ClassFile.{ClassFile}
 use Rattle.par_values.specs.declared.kind.Kind.{Kind}
 use Rattle.par_values.specs.Areas.{Name}
 use Rattle.par_single.specs.Members.{own_name}
-use Rattle.par_steps.specs.Classes.{is_exception}
+use Rattle.par_step_laws.specs.Classes.{is_exception}
 use Rattle.par_kinds.specs.Kinds.{KFrame, vkind}
 use Rattle.par_kinds.specs.Linked.{padded}
 use Rattle.par_kinds.specs.Fits.{Given}
 use Rattle.par_kinds.specs.Told.{told}
-use Rattle.par_verified.specs.par_passes.Passes.{is_sized}
-use Rattle.par_verified.specs.Verified.{whole}
+use Rattle.par_verify_laws.specs.par_frame_pass_laws.Passes.{is_sized}
+use Rattle.par_verify_laws.specs.Verified.{whole}
 
 -- of code with so many locals
 abbrev pub told_of : ℕ → List PlacedFrame → Given

@@ -1,7 +1,7 @@
 //! The frames from which the passes start.
 
 ghost use Rattle.std.specs.Prelude.{◌≡◌, Some, None, replicate, slice_set, IfOk};
-ghost use Rattle.par_verified.specs.par_passes.Passes.{from_start, start_table};
+ghost use Rattle.par_verify_laws.specs.par_frame_pass_laws.Passes.{from_start, start_table};
 ghost use Rattle.par_frame_steps.specs.Marks.{frame_of};
 ghost use Rattle.par_frame_passes.specs.Tables.{table_of};
 ghost use Rattle.par_verify.specs.Starts.{told_of};

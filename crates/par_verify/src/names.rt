@@ -1,7 +1,7 @@
 //! The names of the exception classes.
 
 ghost use Rattle.std.specs.Prelude.{◌≡◌, ◌++◌, IfOk};
-ghost use Rattle.par_steps.specs.Classes.{is_exception};
+ghost use Rattle.par_step_laws.specs.Classes.{is_exception};
 ghost use Rattle.par_kinds.specs.Linked.{exception_names};
 ghost use Rattle.par_frame_steps.specs.Marks.{names};
 ghost use Rattle.par_verify.specs.Starts.{named_in};

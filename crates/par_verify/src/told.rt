@@ -4,7 +4,7 @@ ghost use Rattle.std.specs.Prelude.{◌≡◌, IfOk};
 ghost use Rattle.std.specs.Option.{option_map};
 ghost use Rattle.par_kinds.specs.Told.{as_met};
 ghost use Rattle.par_frame_steps.specs.Marks.{kind_of, kinds_of, frame_of};
-ghost use Rattle.par_verified.specs.Verified.{whole};
+ghost use Rattle.par_verify_laws.specs.Verified.{whole};
 ghost use Rattle.par_verify.specs.Starts.{told_of};
 
 use par_base::memory::NoMemory;

@@ -3,7 +3,7 @@
 ghost use Rattle.std.specs.Prelude.{◌≡◌, ◌<◌, IfOk, Some, length, slice_get};
 ghost use Rattle.par_kinds.specs.Linked.{exception_names};
 ghost use Rattle.par_frame_steps.specs.Marks.{names};
-ghost use Rattle.par_verified.specs.Verified.{AreFramesOf, frames_in};
+ghost use Rattle.par_verify_laws.specs.Verified.{AreFramesOf, frames_in};
 ghost use Rattle.par_verify.specs.Answers.{IsMethod, IsFirstIn, Says, Passes, Verified};
 
 use crate::error::VerifyError;

@@ -3,9 +3,7 @@ use Rattle.par_actions.proofs.Shapes.{two_there, wrong_second_reference, wrong_f
 use Rattle.par_actions.proofs.Shapes.{two_references}
 use Rattle.par_actions.proofs.operands.last_references.Goals as goal
 use Rattle.par_actions.proofs.operands.last_references.Goals.{then-is_int-via-then-is_int}
-use Rattle.par_actions.proofs.operands.last_references.Goals.{
-  then-is_int-via-else-is_int+then-is_int-2,
-}
+use Rattle.par_actions.proofs.operands.last_references.Goals.{then-is_int-via-else-is_int+then-is_int-2}
 
 pub returns-then-is_int : goal.returns-then-is_int
 returns-then-is_int c =

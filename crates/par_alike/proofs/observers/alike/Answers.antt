@@ -1,6 +1,6 @@
 use Rattle.std.proofs.Common.{◌↔◌, subst, sym}
 use Rattle.std.specs.Prelude.{IsTrue, Bool}
-use Rattle.par_runs.specs.par_secrecy.Shown.{Alike}
+use Rattle.par_run_laws.specs.par_secrecy.Shown.{Alike}
 use Rattle.par_alike.specs.Subject.{subject}
 use Rattle.par_alike.specs.Tests.{observer}
 use Rattle.par_alike.proofs.Telling.{alike_iff}

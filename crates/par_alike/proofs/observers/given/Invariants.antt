@@ -1,5 +1,5 @@
 use Rattle.std.proofs.Common.{◌≡◌, drop}
-use Rattle.par_runs.specs.par_secrecy.Subject.{given}
+use Rattle.par_run_laws.specs.par_secrecy.Subject.{given}
 use Rattle.par_alike.proofs.observers.given.Given as goal
 
 -- the lines so far are not for this channel

@@ -1,6 +1,6 @@
 use Rattle.std.proofs.Common.{◌≡◌, ◌++◌, drop}
 use Rattle.par_typed.specs.Shown.{all_shown}
-use Rattle.par_checks.specs.Checks.{args_checks}
+use Rattle.par_check_laws.specs.Checks.{args_checks}
 use Rattle.par_asked.specs.Seen.{seen_checks, own, table}
 use Rattle.par_asked.proofs.expr.+exp.Given as goal
 

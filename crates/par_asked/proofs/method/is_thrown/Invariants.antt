@@ -1,6 +1,6 @@
 use Rattle.std.proofs.Common.{◌≡◌, drop}
-use Rattle.par_nodes.specs.par_rules.Declares.{throws_of}
-use Rattle.par_checks.specs.Checks.{is_thrown}
+use Rattle.par_nodes.specs.par_flow_laws.Declares.{throws_of}
+use Rattle.par_check_laws.specs.Checks.{is_thrown}
 use Rattle.par_asked.proofs.method.is_thrown.Given as goal
 
 abbrev pub invariant-loop-throw : goal.invariant-loop-throw

@@ -1,6 +1,6 @@
 use Rattle.std.proofs.Common.{◌≡◌, ◌++◌, drop}
 use Rattle.par_typed.specs.Shown.{all_do, all_catch}
-use Rattle.par_checks.specs.Checks.{stas_checks, catches_checks}
+use Rattle.par_check_laws.specs.Checks.{stas_checks, catches_checks}
 use Rattle.par_asked.specs.Seen.{seen_checks, own, table}
 use Rattle.par_asked.proofs.stmt.+stmt.Given as goal
 

@@ -6,7 +6,7 @@ use Rattle.par_policy.specs.declared.clauses.Clause.{Clause}
 use Rattle.par_typed.specs.declared.program.Typed.{Typed}
 use Rattle.par_typed.specs.declared.program.TBody.{TBody}
 use Rattle.par_typed.specs.Shown.{body}
-use Rattle.par_checks.specs.Checks.{checks}
+use Rattle.par_check_laws.specs.Checks.{checks}
 use Rattle.par_check.specs.par_flow.Table.{facts_in}
 use Rattle.par_audit.specs.Release.{releases}
 use Rattle.par_audit.proofs.Listed.{body_noted}

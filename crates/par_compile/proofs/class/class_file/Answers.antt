@@ -4,7 +4,7 @@ use Rattle.par_pool.specs.declared.constant.Constant.{Constant}
 use Rattle.par_pool.specs.Entries.{IsClassAt}
 use Rattle.par_pool.specs.Spelling.{IsText}
 use Rattle.par_class.specs.declared.file.ClassFile.{ClassFile}
-use Rattle.par_class_form.specs.Files.{IsFieldOf}
+use Rattle.par_compile_laws.specs.Files.{IsFieldOf}
 use Rattle.par_erase.specs.declared.program.PlainField.{PlainField}
 use Rattle.par_erase.specs.Shown.{field_info, table_of}
 use Rattle.par_compile.specs.declared.draft.Draft.{Draft}

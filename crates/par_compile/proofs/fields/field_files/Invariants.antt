@@ -1,7 +1,7 @@
 use Rattle.std.proofs.Common.{◌+◌, ◌*◌, ◌≤◌, length, map, take}
 use Rattle.std.specs.List.{AllZip}
 use Rattle.par_erase.specs.Shown.{field_info, table_of}
-use Rattle.par_class_form.specs.Files.{IsFieldOf}
+use Rattle.par_compile_laws.specs.Files.{IsFieldOf}
 use Rattle.par_compile.specs.Growing.{Stays, Grows, IsOfFields}
 use Rattle.par_compile.proofs.fields.field_files.Given as goal
 

@@ -2,7 +2,7 @@ use Rattle.std.proofs.Common.{List, ℕ, codes, subst}
 use Rattle.par_pool.specs.declared.constant.Constant.TheVariants.{Method}
 use Rattle.par_pool.specs.Entries.{IsMethodAt}
 use Rattle.par_pool.specs.Growth.{Adds, IsMemberPart}
-use Rattle.par_class_form.specs.Members.{above}
+use Rattle.par_compile_laws.specs.Members.{above}
 use Rattle.par_compile.proofs.Growing.{super_grows, member_stays}
 use Rattle.par_compile.proofs.initializer.super_initializer.Goals as goal
 

@@ -1,6 +1,6 @@
 use Rattle.std.proofs.Common.{[], ◌∷◌, map, true, false}
 use Rattle.par_erase.specs.Shown.{class_info}
-use Rattle.par_class_form.specs.Members.{initializer}
+use Rattle.par_compile_laws.specs.Members.{initializer}
 use Rattle.par_compile.specs.Own.{channel_in}
 use Rattle.par_compile.proofs.Gathered.{members_put, members_room}
 use Rattle.par_compile.proofs.methods.put_members.Goals as goal

@@ -2,7 +2,7 @@ use Rattle.std.proofs.Common.{◌≡◌, ℕ, ◌+◌, length, map, Some}
 use Rattle.std.specs.Prelude.{slice_get}
 use Rattle.par_typed.specs.declared.table.ClassInfo.{ClassInfo}
 use Rattle.par_erase.specs.Shown.{class_info, table_of, bodies_of}
-use Rattle.par_class_form.specs.Files.{FIRST_DECLARED}
+use Rattle.par_compile_laws.specs.Files.{FIRST_DECLARED}
 use Rattle.par_compile.specs.declared.compiled.CompiledClass.{CompiledClass}
 use Rattle.par_compile.specs.Compiled.{IsCompiledClass}
 use Rattle.par_compile.proofs.program.compile_plain.Given as goal

@@ -3,10 +3,10 @@ use Rattle.std.specs.Prelude.{nat_lt}
 use Rattle.std.proofs.lemmas.Bool.Decides.{nat_tests}
 use Rattle.par_lexer.specs.declared.cut.TheConstants.{LONGEST_SOURCE}
 use Rattle.par_tree.specs.Shown.{source}
-use Rattle.par_places.specs.Law.{ComesToTree}
-use Rattle.par_sources.proofs.Numbers.{trees_have_numbers}
-use Rattle.par_sources.proofs.Order.{trees_are_in_order}
-use Rattle.par_sources.proofs.Short.{trees_are_short}
+use Rattle.par_span_laws.specs.Law.{ComesToTree}
+use Rattle.par_source_laws.proofs.Numbers.{trees_have_numbers}
+use Rattle.par_source_laws.proofs.Order.{trees_are_in_order}
+use Rattle.par_source_laws.proofs.Short.{trees_are_short}
 use Rattle.par_compile_calls.proofs.sources.typed.Goals as goal
 
 at_most : (n m : ℕ) → (m < n → ⊥) → n ≤ m

@@ -4,8 +4,8 @@ use Rattle.std.specs.List.{AllByRecursion}
 use Rattle.par_typed.specs.declared.table.FieldInfo.{FieldInfo}
 use Rattle.par_typed.specs.declared.table.ClassInfo.{ClassInfo}
 use Rattle.par_asked.proofs.Left.{left_more}
-use Rattle.par_declared.specs.Inferred.{inferred_among, inferred_in}
-use Rattle.par_declared.specs.Declared.{HasFewFields}
+use Rattle.par_table_laws.specs.Inferred.{inferred_among, inferred_in}
+use Rattle.par_table_laws.specs.Declared.{HasFewFields}
 use Rattle.par_filling.specs.Filled.{filled_among, filled_in}
 use Rattle.par_filling.proofs.Born.{class_inside, classes_inside}
 use Rattle.par_filling.proofs.Filled.{fills_on}

@@ -1,8 +1,8 @@
 use Rattle.std.proofs.Common.{◌≡◌, ℕ, ◌<◌, ◌++◌, drop, length}
 use Rattle.std.specs.Prelude.{IsTrue}
 use Rattle.std.specs.List.{AllByRecursion}
-use Rattle.par_declared.specs.Inferred.{inferred_in}
-use Rattle.par_declared.specs.Declared.{HasFewFields}
+use Rattle.par_table_laws.specs.Inferred.{inferred_in}
+use Rattle.par_table_laws.specs.Declared.{HasFewFields}
 use Rattle.par_filling.specs.Filled.{filled_in}
 use Rattle.par_filling.proofs.filling.fill.Given as goal
 

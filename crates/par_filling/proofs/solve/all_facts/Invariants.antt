@@ -2,8 +2,8 @@ use Rattle.std.proofs.Common.{◌≡◌, List, ◌++◌, length, drop}
 use Rattle.std.specs.Prelude.{map}
 use Rattle.std.specs.List.{AllByRecursion}
 use Rattle.par_typed.specs.Shown.{bodies}
-use Rattle.par_rules.specs.Lattice.{numbers}
-use Rattle.par_rules.specs.Facts.{Facts}
+use Rattle.par_flow_laws.specs.Lattice.{numbers}
+use Rattle.par_flow_laws.specs.Facts.{Facts}
 use Rattle.par_verdict.specs.Judged.{AreAllRight}
 use Rattle.par_verdict.specs.Accepted.{IsOrderlyBody}
 use Rattle.par_filling.proofs.solve.all_facts.Given as goal

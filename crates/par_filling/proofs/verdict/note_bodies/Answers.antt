@@ -2,9 +2,9 @@ use Rattle.std.proofs.Common.{List, ◌∷◌, map, length, drop, ◌+◌, ◌<�
 use Rattle.par_typed.specs.declared.table.Table.{Table}
 use Rattle.par_typed.specs.Plain.{Body}
 use Rattle.par_typed.specs.Shown.{body, bodies}
-use Rattle.par_rules.specs.Lattice.{numbers}
-use Rattle.par_rules.specs.Facts.{Facts}
-use Rattle.par_infer.specs.par_checks.Checks.{checks}
+use Rattle.par_flow_laws.specs.Lattice.{numbers}
+use Rattle.par_flow_laws.specs.Facts.{Facts}
+use Rattle.par_infer.specs.par_check_laws.Checks.{checks}
 use Rattle.par_reached.specs.Reached.{set_at}
 use Rattle.par_verdict.specs.Told.{AreBroken}
 use Rattle.par_verdict.proofs.Told.{Goes, Noted, bodies_left, no_bodies_left, facts_left}

@@ -1,6 +1,6 @@
 use Rattle.std.proofs.Common.{sym, ap, ◌∙◌, subst, ◌∷◌, [], ◌++◌, inl, inr, ⊎_elim}
-use Rattle.par_rules.specs.Kinds.{Throw}
-use Rattle.par_locks.specs.par_pass.Exits.{at}
+use Rattle.par_flow_laws.specs.Kinds.{Throw}
+use Rattle.par_locks.specs.par_pass_laws.Exits.{at}
 use Rattle.par_envs.specs.Numbered.{envs}
 use Rattle.par_rounds.specs.Seen.{seen_exit}
 use Rattle.par_flow.specs.Kept.{thrown, AddsOnly, AreOnce, MayShow, Throws}

@@ -1,7 +1,7 @@
 use Rattle.std.proofs.Common.{sym, subst, take}
-use Rattle.par_rules.specs.Kinds.{Throw}
+use Rattle.par_flow_laws.specs.Kinds.{Throw}
 use Rattle.par_locks.specs.par_except.Seen.{HasLocals}
-use Rattle.par_locks.specs.par_pass.Exits.{at}
+use Rattle.par_locks.specs.par_pass_laws.Exits.{at}
 use Rattle.par_envs.specs.Numbered.{envs}
 use Rattle.par_rounds.specs.Seen.{seen_exits}
 use Rattle.par_flow.specs.Kept.{thrown, MayShow, Throws}

@@ -1,6 +1,6 @@
 use Rattle.std.proofs.Common.{List, Option, Bool, false, get_or, map, is_some, sym, ap, subst}
 use Rattle.std.proofs.Common.{◌∙◌}
-use Rattle.par_passes.specs.Passes.{frame_at}
+use Rattle.par_frame_pass_laws.specs.Passes.{frame_at}
 use Rattle.par_frame_steps.specs.declared.frame.PlaceFrame.{PlaceFrame}
 use Rattle.par_frame_passes.specs.Methods.{exc_of, act_in, handler_in, code_in}
 use Rattle.par_frame_passes.specs.Sweeps.{Kept}

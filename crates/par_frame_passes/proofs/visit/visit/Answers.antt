@@ -1,7 +1,7 @@
 use Rattle.std.proofs.Common.{◌≡◌, ◌+◌, ◌-◌, List, Some, Ok, sym, ap, subst, ◌∙◌, arith}
 use Rattle.par_instr.specs.Decoding.{decoded_at}
 use Rattle.par_class.specs.declared.file.Catch.{Catch}
-use Rattle.par_passes.specs.Passes.{frame_at, handled}
+use Rattle.par_frame_pass_laws.specs.Passes.{frame_at, handled}
 use Rattle.par_frame_steps.specs.Marks.{frame_of, flow_of}
 use Rattle.par_frame_passes.specs.Methods.{exc_of, act_in, handler_in, code_in, fixed_at}
 use Rattle.par_frame_passes.specs.Sweeps.{Visited, Went}

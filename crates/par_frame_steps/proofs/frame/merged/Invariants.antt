@@ -1,5 +1,5 @@
 use Rattle.std.proofs.Common.{◌≡◌, ◌++◌, drop}
-use Rattle.par_passes.specs.Passes.{merge_all}
+use Rattle.par_frame_pass_laws.specs.Passes.{merge_all}
 use Rattle.par_frame_steps.specs.Marks.{names, kinds_of}
 use Rattle.par_frame_steps.proofs.frame.merged.Given as goal
 

@@ -1,5 +1,5 @@
 use Rattle.std.proofs.Common.{◌≡◌, ℕ, true, false, drop, get_or}
-use Rattle.par_steps.specs.Handlers.{takes, first_handler}
+use Rattle.par_step_laws.specs.Handlers.{takes, first_handler}
 use Rattle.par_handlers.specs.Standing.{standing, class_takes}
 use Rattle.par_handlers.proofs.catches.first.Given as goal
 

@@ -1,5 +1,5 @@
 use Rattle.std.proofs.Common.{◌≡◌, take}
-use Rattle.par_placed_frames.specs.Framed.{kinds_of}
+use Rattle.par_frame_laws.specs.Framed.{kinds_of}
 use Rattle.par_label_frames.proofs.kinds.kinds_of.Given as goal
 
 abbrev pub invariant-loop-slot : goal.invariant-loop-slot

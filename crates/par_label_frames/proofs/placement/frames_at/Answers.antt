@@ -1,6 +1,6 @@
 use Rattle.std.proofs.Common.{◌∙◌, arith}
 use Rattle.std.specs.Prelude.{slice_index}
-use Rattle.par_placed_frames.specs.Framed.{frame_of}
+use Rattle.par_frame_laws.specs.Framed.{frame_of}
 use Rattle.par_label_frames.proofs.Joining.{added_more, all_added}
 use Rattle.par_label_frames.proofs.placement.frames_at.Goals as goal
 

@@ -1,7 +1,7 @@
 use Rattle.std.proofs.Common.{ap, sym, ◌∙◌, Some, None}
 use Rattle.par_values.specs.declared.run.Event.TheVariants.{Born}
 use Rattle.par_values.specs.Areas.{Name}
-use Rattle.par_method_area.specs.par_steps.Classes.{class_names}
+use Rattle.par_method_area.specs.par_step_laws.Classes.{class_names}
 use Rattle.par_machine.specs.Site.{named_by}
 use Rattle.par_machine.proofs.Named.{made_known, made_unknown, class_at}
 use Rattle.par_machine.proofs.events.born_event.Goals as goal

@@ -1,5 +1,5 @@
 use Rattle.std.proofs.Common.{ap, sym, ◌∙◌, Bool, if◌then◌else◌}
-use Rattle.par_runs.specs.Tasks.{looped, fine}
+use Rattle.par_run_laws.specs.Tasks.{looped, fine}
 use Rattle.par_typed.specs.Shown.{shown, does}
 use Rattle.par_meaning.specs.Work.{loops, performs}
 use Rattle.par_meaning.proofs.accept.turn.Goals as goal

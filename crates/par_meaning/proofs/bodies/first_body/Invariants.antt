@@ -1,6 +1,6 @@
 use Rattle.std.proofs.Common.{◌≡◌, drop}
 use Rattle.par_typed.specs.Shown.{bodies}
-use Rattle.par_runs.specs.Names.{body_of}
+use Rattle.par_run_laws.specs.Names.{body_of}
 use Rattle.par_meaning.proofs.bodies.first_body.Given as goal
 
 abbrev pub invariant-loop-body : goal.invariant-loop-body

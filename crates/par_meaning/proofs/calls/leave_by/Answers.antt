@@ -1,5 +1,5 @@
 use Rattle.std.proofs.Common.{ap, ◌∙◌}
-use Rattle.par_runs.specs.Tasks.{nothing}
+use Rattle.par_run_laws.specs.Tasks.{nothing}
 use Rattle.par_meaning.specs.declared.work.Completion.TheVariants.{Abrupt}
 use Rattle.par_meaning.specs.Frame.{held, left_by}
 use Rattle.par_meaning.specs.Onward.{behind, state_of}

@@ -1,5 +1,5 @@
 use Rattle.std.proofs.Common.{◌≡◌, ◌+◌, codes, drop}
-use Rattle.par_runs.specs.Names.{place_of}
+use Rattle.par_run_laws.specs.Names.{place_of}
 use Rattle.par_meaning.proofs.names.main_place.Given as goal
 
 abbrev pub invariant-loop-place : goal.invariant-loop-place

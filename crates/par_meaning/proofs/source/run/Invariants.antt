@@ -1,5 +1,5 @@
 use Rattle.std.proofs.Common.{◌≡◌, ◌-◌}
-use Rattle.par_runs.specs.Source.{source}
+use Rattle.par_run_laws.specs.Source.{source}
 use Rattle.par_meaning.specs.Onward.{setting}
 use Rattle.par_meaning.specs.Whole.{whole}
 use Rattle.par_meaning.proofs.source.run.Given as goal

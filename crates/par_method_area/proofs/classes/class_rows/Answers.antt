@@ -1,8 +1,8 @@
 use Rattle.std.proofs.Common.{◌≡◌, ℕ, ◌+◌, ◌<◌, List, [], length, map, take, get_or, sym, ap, subst}
 use Rattle.std.proofs.Common.{◌∙◌, arith}
 use Rattle.par_class.specs.declared.file.ClassFile.{ClassFile}
-use Rattle.par_steps.specs.par_link.Conditions.{IsSmall}
-use Rattle.par_steps.specs.Fields.{is_shared}
+use Rattle.par_step_laws.specs.par_link.Conditions.{IsSmall}
+use Rattle.par_step_laws.specs.Fields.{is_shared}
 use Rattle.par_method_area.specs.declared.classes.ClassRow.{ClassRow}
 use Rattle.par_method_area.specs.Classes.{IsClassRow, IsFileRow, lines_in, file_lines}
 use Rattle.par_method_area.specs.Rows.{AreRows}

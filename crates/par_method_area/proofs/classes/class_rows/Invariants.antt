@@ -1,5 +1,5 @@
 use Rattle.std.proofs.Common.{◌≡◌, length, map, take}
-use Rattle.par_steps.specs.Fields.{class_statics}
+use Rattle.par_step_laws.specs.Fields.{class_statics}
 use Rattle.par_method_area.specs.Classes.{IsClassRow, lines_in, line_rows}
 use Rattle.par_method_area.specs.Rows.{AreRows}
 use Rattle.par_method_area.proofs.classes.class_rows.Given as goal

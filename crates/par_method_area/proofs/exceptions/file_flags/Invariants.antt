@@ -1,5 +1,5 @@
 use Rattle.std.proofs.Common.{◌≡◌, map, take}
-use Rattle.par_steps.specs.Classes.{is_exception}
+use Rattle.par_step_laws.specs.Classes.{is_exception}
 use Rattle.par_method_area.proofs.exceptions.file_flags.Given as goal
 
 abbrev pub invariant-loop-file : goal.invariant-loop-file

@@ -1,7 +1,7 @@
 use Rattle.std.proofs.Common.{◌≡◌, ◌+◌, ◌<◌, if◌then◌else◌, not, List, length, take, get_or, sym}
 use Rattle.std.proofs.Common.{ap, subst, ◌∙◌, arith}
 use Rattle.par_class.specs.declared.file.FieldFile.{FieldFile}
-use Rattle.par_steps.specs.Fields.{is_shared, is_own, many_of}
+use Rattle.par_step_laws.specs.Fields.{is_shared, is_own, many_of}
 use Rattle.par_actions.specs.declared.fields.Field.{Field}
 use Rattle.par_method_area.specs.Fields.{IsFieldRow, row_behind}
 use Rattle.par_method_area.specs.Rows.{AreRows}

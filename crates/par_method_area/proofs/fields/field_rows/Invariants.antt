@@ -1,5 +1,5 @@
 use Rattle.std.proofs.Common.{◌≡◌, ◌+◌, take}
-use Rattle.par_steps.specs.Fields.{is_shared, is_own, many_of}
+use Rattle.par_step_laws.specs.Fields.{is_shared, is_own, many_of}
 use Rattle.par_method_area.specs.Fields.{IsFieldRow}
 use Rattle.par_method_area.specs.Rows.{AreRows}
 use Rattle.par_method_area.proofs.fields.field_rows.Given as goal

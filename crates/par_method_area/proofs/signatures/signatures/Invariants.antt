@@ -1,5 +1,5 @@
 use Rattle.std.proofs.Common.{◌≡◌, map, take}
-use Rattle.par_steps.specs.par_link.Placed.{pool_texts}
+use Rattle.par_step_laws.specs.par_link.Placed.{pool_texts}
 use Rattle.par_method_area.specs.Signatures.{told, said_by}
 use Rattle.par_method_area.proofs.signatures.signatures.Given as goal
 

@@ -1,5 +1,5 @@
 use Rattle.std.proofs.Common.{◌++◌, sym, ap, ◌∙◌}
-use Rattle.par_steps.specs.Fields.{first_statics}
+use Rattle.par_step_laws.specs.Fields.{first_statics}
 use Rattle.par_method_area.proofs.Counts.{statics-none, statics-more}
 use Rattle.par_method_area.proofs.statics.class_statics.Goals as goal
 

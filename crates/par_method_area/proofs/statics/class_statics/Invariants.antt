@@ -1,5 +1,5 @@
 use Rattle.std.proofs.Common.{◌≡◌, take}
-use Rattle.par_steps.specs.Fields.{class_statics}
+use Rattle.par_step_laws.specs.Fields.{class_statics}
 use Rattle.par_method_area.proofs.statics.class_statics.Given as goal
 
 abbrev pub invariant-loop-file : goal.invariant-loop-file

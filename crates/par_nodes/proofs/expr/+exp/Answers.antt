@@ -1,7 +1,7 @@
 use Rattle.std.proofs.Common.{rules, sym}
 use Rattle.std.proofs.lemmas.Result.{IfOk-weaker}
 use Rattle.par_typed.specs.Shown.{mark_of}
-use Rattle.par_rules.specs.Declares.{declares}
+use Rattle.par_flow_laws.specs.Declares.{declares}
 use Rattle.par_nodes.specs.Seen.{seen_rules, seen_origin, seen_start}
 use Rattle.par_nodes.proofs.Rows.{args_next, args_none}
 use Rattle.par_nodes.proofs.Expressions.{int_made, bool_made, nullary_made, new_made}

@@ -1,10 +1,10 @@
 use Rattle.std.proofs.Common.{rules, ap, ◌∙◌, drop, length}
 use Rattle.std.proofs.lemmas.Result.{IfOk-weaker}
-use Rattle.par_rules.specs.Declares.{declares}
-use Rattle.par_rules.specs.Rules.{Entry}
+use Rattle.par_flow_laws.specs.Declares.{declares}
+use Rattle.par_flow_laws.specs.Rules.{Entry}
 use Rattle.par_nodes.specs.Seen.{seen_rules, seen_node, seen_origin, seen_start}
 use Rattle.par_typed.specs.Shown.{all_do}
-use Rattle.par_rules.specs.Body.{stas}
+use Rattle.par_flow_laws.specs.Body.{stas}
 use Rattle.par_nodes.proofs.Branches.{stas_none, stas_next, catches_none, catches_next}
 use Rattle.par_nodes.proofs.Statements.{block_made, if_made, while_made, try_made, return_made}
 use Rattle.par_nodes.proofs.Statements.{break_made, continue_made, throw_made, open_made}

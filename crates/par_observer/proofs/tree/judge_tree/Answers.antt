@@ -1,8 +1,8 @@
 use Rattle.std.proofs.Common.{arith}
 use Rattle.par_tree.specs.Shown.{source as tree_of_program}
-use Rattle.par_sources.proofs.Numbers.{trees_have_numbers}
-use Rattle.par_sources.proofs.Order.{trees_are_in_order}
-use Rattle.par_sources.proofs.Short.{trees_are_short}
+use Rattle.par_source_laws.proofs.Numbers.{trees_have_numbers}
+use Rattle.par_source_laws.proofs.Order.{trees_are_in_order}
+use Rattle.par_source_laws.proofs.Short.{trees_are_short}
 use Rattle.par_observer.proofs.OfTree.{refused_of_tree}
 use Rattle.par_observer.proofs.tree.judge_tree.Goals as goal
 

@@ -1,12 +1,12 @@
 use Rattle.std.proofs.Common.{◌≡◌, ◌≤◌, Some, length, subst, sym, ap, ◌∙◌, arith, All, ◌<◌}
 use Rattle.par_typed.specs.Shown.{body as shown}
-use Rattle.par_rules.specs.Lattice.{numbers}
-use Rattle.par_rules.specs.Closed.{first}
-use Rattle.par_rules.specs.Declares.{declares, method_of}
-use Rattle.par_rules.specs.Numbered.{IsNumbered, next}
-use Rattle.par_rules.specs.Ranges.{AreLocks, IsInRange, MOST}
+use Rattle.par_flow_laws.specs.Lattice.{numbers}
+use Rattle.par_flow_laws.specs.Closed.{first}
+use Rattle.par_flow_laws.specs.Declares.{declares, method_of}
+use Rattle.par_flow_laws.specs.Numbered.{IsNumbered, next}
+use Rattle.par_flow_laws.specs.Ranges.{AreLocks, IsInRange, MOST}
 use Rattle.par_nodes.specs.Seen.{seen_node}
-use Rattle.par_pass.specs.par_except.Seen.{seen}
+use Rattle.par_pass_laws.specs.par_except.Seen.{seen}
 use Rattle.par_rounds.specs.Passes.{IsPassable}
 use Rattle.par_rounds.specs.Rounds.{IsSettled}
 use Rattle.par_rounds.specs.Seen.{AreRowsWide}

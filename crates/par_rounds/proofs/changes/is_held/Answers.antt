@@ -1,7 +1,7 @@
 use Rattle.std.proofs.Common.{ap, sym, ◌∙◌, rules}
 use Rattle.par_bits.specs.Sets.{has}
-use Rattle.par_pass.specs.par_except.Seen.{locals}
-use Rattle.par_pass.proofs.par_except.Locals.{locals_get}
+use Rattle.par_pass_laws.specs.par_except.Seen.{locals}
+use Rattle.par_pass_laws.proofs.par_except.Locals.{locals_get}
 use Rattle.par_rounds.proofs.Envs.{same_members}
 use Rattle.par_rounds.proofs.changes.is_held.Goals as goal
 

@@ -1,5 +1,5 @@
 use Rattle.std.proofs.Common.{◌∙◌, Some, []}
-use Rattle.par_pass.specs.par_except.Seen.{seen}
+use Rattle.par_pass_laws.specs.par_except.Seen.{seen}
 use Rattle.par_rounds.specs.Seen.{latest_first}
 use Rattle.par_rounds.proofs.Parts.{starts_entry, starts_after}
 use Rattle.par_rounds.proofs.changes.start_of.Goals as goal

@@ -1,5 +1,5 @@
 use Rattle.std.proofs.Common.{ap, sym, ◌∙◌, Some, []}
-use Rattle.par_pass.specs.par_except.Seen.{seen}
+use Rattle.par_pass_laws.specs.par_except.Seen.{seen}
 use Rattle.par_rounds.specs.Seen.{latest_first}
 use Rattle.par_rounds.proofs.Parts.{origin_some, origin_none}
 use Rattle.par_rounds.proofs.changes.way_at.Goals as goal

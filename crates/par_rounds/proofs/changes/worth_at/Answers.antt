@@ -1,7 +1,7 @@
 use Rattle.std.proofs.Common.{ap, sym, ◌∙◌, Some, [], rules}
 use Rattle.par_bits.specs.Sets.{has, adding}
-use Rattle.par_pass.specs.par_except.Seen.{seen, locals}
-use Rattle.par_pass.proofs.par_except.Locals.{locals_get}
+use Rattle.par_pass_laws.specs.par_except.Seen.{seen, locals}
+use Rattle.par_pass_laws.proofs.par_except.Locals.{locals_get}
 use Rattle.par_rounds.specs.Seen.{latest_first}
 use Rattle.par_rounds.proofs.Parts.{given_worth, value_worth, held_worth}
 use Rattle.par_rounds.proofs.changes.worth_at.Goals as goal

@@ -1,5 +1,5 @@
 use Rattle.std.proofs.Common.{◌≡◌, ◌<◌, length, rules, subst, ◌∙◌}
-use Rattle.par_pass.proofs.par_except.Locals.{push_joined, all_joined}
+use Rattle.par_pass_laws.proofs.par_except.Locals.{push_joined, all_joined}
 use Rattle.par_rounds.proofs.env.join.Goals as goal
 
 pub loop-place-preserved : goal.loop-place-preserved

@@ -1,6 +1,6 @@
 use Rattle.std.proofs.Common.{◌≡◌, ℕ, ◌<◌, length}
 use Rattle.par_bits.specs.Sets.{union}
-use Rattle.par_pass.specs.par_except.Seen.{locals}
+use Rattle.par_pass_laws.specs.par_except.Seen.{locals}
 use Rattle.par_rounds.proofs.env.join.Given as goal
 
 abbrev pub invariant-loop-place : goal.invariant-loop-place

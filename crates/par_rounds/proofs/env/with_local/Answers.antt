@@ -1,5 +1,5 @@
 use Rattle.std.proofs.Common.{ap, ◌∙◌, set}
-use Rattle.par_pass.specs.par_except.Seen.{locals}
+use Rattle.par_pass_laws.specs.par_except.Seen.{locals}
 use Rattle.par_rounds.proofs.Parts.{set_put}
 use Rattle.par_rounds.proofs.env.with_local.Goals as goal
 

@@ -1,7 +1,7 @@
 use Rattle.std.proofs.Common.{◌≡◌, sym, arith, ap, ◌∙◌, subst, length}
 use Rattle.par_nodes.specs.Seen.{seen_kind}
-use Rattle.par_pass.specs.par_except.Joins.{join}
-use Rattle.par_pass.specs.par_except.Seen.{seen}
+use Rattle.par_pass_laws.specs.par_except.Joins.{join}
+use Rattle.par_pass_laws.specs.par_except.Seen.{seen}
 use Rattle.par_rounds.specs.Places.{IsPlace, HasNoPlace}
 use Rattle.par_rounds.specs.Seen.{seen_exits, AreWide}
 use Rattle.par_rounds.proofs.Lists.{no_place_add, place_add, place_within, same_read}

@@ -1,6 +1,6 @@
 use Rattle.std.proofs.Common.{◌≡◌, drop}
 use Rattle.par_bits.specs.Sets.{has}
-use Rattle.par_pass.specs.Exits.{contexts}
+use Rattle.par_pass_laws.specs.Exits.{contexts}
 use Rattle.par_rounds.specs.Seen.{seen_exits}
 use Rattle.par_rounds.proofs.exits.context_of.Given as goal
 

@@ -1,5 +1,5 @@
 use Rattle.std.proofs.Common.{◌≡◌, sym, subst, length}
-use Rattle.par_pass.specs.par_except.Seen.{HasLocals}
+use Rattle.par_pass_laws.specs.par_except.Seen.{HasLocals}
 use Rattle.par_rounds.specs.Seen.{AreWide}
 use Rattle.par_rounds.proofs.exits.gather.Goals as goal
 

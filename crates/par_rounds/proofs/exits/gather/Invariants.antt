@@ -1,7 +1,7 @@
 use Rattle.std.proofs.Common.{◌≡◌, ℕ, drop}
-use Rattle.par_rules.specs.Kinds.{absorbed}
+use Rattle.par_flow_laws.specs.Kinds.{absorbed}
 use Rattle.par_nodes.specs.Seen.{seen_absorber}
-use Rattle.par_pass.specs.Exits.{all, leaving}
+use Rattle.par_pass_laws.specs.Exits.{all, leaving}
 use Rattle.par_rounds.specs.Seen.{seen_exits, AreWide}
 use Rattle.par_rounds.proofs.exits.gather.Given as goal
 

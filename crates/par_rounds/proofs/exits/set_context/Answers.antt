@@ -2,7 +2,7 @@ use Rattle.std.proofs.Common.{◌≡◌, ◌∙◌, sym, ap, arith, subst, get_o
 use Rattle.std.proofs.lemmas.List.Elements.{All-set}
 use Rattle.par_bits.specs.Sets.{has}
 use Rattle.par_nodes.specs.Seen.{seen_kind}
-use Rattle.par_pass.specs.par_except.Seen.{seen, HasLocals}
+use Rattle.par_pass_laws.specs.par_except.Seen.{seen, HasLocals}
 use Rattle.par_rounds.specs.Seen.{AreWide}
 use Rattle.par_rounds.proofs.Lists.{half_set, half_keep}
 use Rattle.par_rounds.proofs.exits.set_context.Goals as goal

@@ -1,6 +1,6 @@
 use Rattle.std.proofs.Common.{◌≡◌, ℕ}
 use Rattle.par_bits.specs.Sets.{has}
-use Rattle.par_pass.specs.Exits.{with_context}
+use Rattle.par_pass_laws.specs.Exits.{with_context}
 use Rattle.par_rounds.specs.Seen.{seen_exits, AreWide}
 use Rattle.par_rounds.proofs.Lists.{half}
 use Rattle.par_rounds.proofs.exits.set_context.Given as goal

@@ -1,5 +1,5 @@
 use Rattle.std.proofs.Common.{arith, ap, sym, ◌∙◌}
-use Rattle.par_pass.specs.par_except.Seen.{may_see}
+use Rattle.par_pass_laws.specs.par_except.Seen.{may_see}
 use Rattle.par_rounds.proofs.Noted.{row_at, row_past}
 use Rattle.par_rounds.proofs.fact.entry_at.Goals as goal
 

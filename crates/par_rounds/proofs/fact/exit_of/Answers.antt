@@ -1,6 +1,6 @@
 use Rattle.std.proofs.Common.{arith, ap, sym, subst, ◌∙◌, ◌-◌, length, []}
 use Rattle.par_nodes.specs.Seen.{seen_kind}
-use Rattle.par_pass.specs.Exits.{at}
+use Rattle.par_pass_laws.specs.Exits.{at}
 use Rattle.par_rounds.specs.Seen.{seen_exits, AreWide}
 use Rattle.par_rounds.proofs.Parts.{latest_at, latest_past}
 use Rattle.par_rounds.proofs.fact.exit_of.Goals as goal

@@ -1,8 +1,8 @@
 use Rattle.std.proofs.Common.{◌≡◌, ℕ, ◌<◌, length}
-use Rattle.par_rules.specs.Lattice.{numbers}
-use Rattle.par_rules.specs.Declares.{params_of}
-use Rattle.par_rules.specs.Closed.{locals as entering}
-use Rattle.par_pass.specs.par_except.Seen.{locals}
+use Rattle.par_flow_laws.specs.Lattice.{numbers}
+use Rattle.par_flow_laws.specs.Declares.{params_of}
+use Rattle.par_flow_laws.specs.Closed.{locals as entering}
+use Rattle.par_pass_laws.specs.par_except.Seen.{locals}
 use Rattle.par_rounds.proofs.first.first_env.Given as goal
 
 abbrev pub invariant-loop-local : goal.invariant-loop-local

@@ -1,5 +1,5 @@
 use Rattle.std.proofs.Common.{◌≡◌, ℕ}
-use Rattle.par_pass.specs.Written.{blanks}
+use Rattle.par_pass_laws.specs.Written.{blanks}
 use Rattle.par_rounds.specs.Seen.{seen_facts, AreRowsWide}
 use Rattle.par_rounds.proofs.notes.no_rows.Given as goal
 

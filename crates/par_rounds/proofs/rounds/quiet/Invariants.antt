@@ -1,6 +1,6 @@
 use Rattle.std.proofs.Common.{length}
 use Rattle.par_nodes.specs.Seen.{seen_node}
-use Rattle.par_pass.specs.par_except.Seen.{seen}
+use Rattle.par_pass_laws.specs.par_except.Seen.{seen}
 use Rattle.par_rounds.specs.Took.{total}
 use Rattle.par_rounds.specs.Rounds.{AreAfter}
 use Rattle.par_rounds.proofs.rounds.quiet.Given as goal

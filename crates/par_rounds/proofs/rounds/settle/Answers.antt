@@ -1,8 +1,8 @@
 use Rattle.std.proofs.Common.{length, subst, sym}
 use Rattle.std.proofs.lemmas.Bool.{not-true}
 use Rattle.par_nodes.specs.Seen.{seen_node}
-use Rattle.par_pass.specs.par_except.Seen.{seen}
-use Rattle.par_pass.specs.Pass.{pass}
+use Rattle.par_pass_laws.specs.par_except.Seen.{seen}
+use Rattle.par_pass_laws.specs.Pass.{pass}
 use Rattle.par_rounds.specs.Seen.{ways_of, AreHeadsWide}
 use Rattle.par_rounds.specs.Rounds.{IsRound}
 use Rattle.par_rounds.proofs.Ends.{first_after, first_settled}

@@ -1,5 +1,5 @@
 use Rattle.std.proofs.Common.{◌∙◌, ◌∷◌, [], sym, ap}
-use Rattle.par_policies.proofs.par_reader.Alternatives.{opens, refuses}
+use Rattle.par_policy_reader.proofs.par_reader.Alternatives.{opens, refuses}
 use Rattle.par_tree.specs.Grammar as g
 use Rattle.par_tree.specs.Shown.{shown}
 use Rattle.par_tree.specs.Values.{paragon, exp}

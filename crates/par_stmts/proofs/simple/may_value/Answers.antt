@@ -1,5 +1,5 @@
 use Rattle.std.proofs.Common.{◌∙◌, sym, refl}
-use Rattle.par_policies.proofs.par_reader.Alternatives.{opens, building}
+use Rattle.par_policy_reader.proofs.par_reader.Alternatives.{opens, building}
 use Rattle.par_tree.specs.Grammar as g
 use Rattle.par_tree.specs.Values.{paragon}
 use Rattle.par_tree.proofs.Founded.{founded}

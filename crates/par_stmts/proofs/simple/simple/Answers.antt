@@ -1,5 +1,5 @@
 use Rattle.std.proofs.Common.{◌∙◌, sym}
-use Rattle.par_policies.proofs.par_reader.Alternatives.{opens, refuses}
+use Rattle.par_policy_reader.proofs.par_reader.Alternatives.{opens, refuses}
 use Rattle.par_tree.specs.Values.{paragon}
 use Rattle.par_tree.proofs.Founded.{founded}
 use Rattle.par_stmts.proofs.simple.simple.Goals as goal

@@ -1,10 +1,11 @@
 use Rattle.std.proofs.Common.{◌∙◌, ◌∷◌, [], sym, ap, arith, refl}
 use Rattle.par_grammar.specs.Grammar as symbol
 use Rattle.par_grammar.proofs.Run.{run}
-use Rattle.par_policies.specs.par_reader.Reads.{input}
-use Rattle.par_policies.proofs.par_reader.Alternatives.{opens, refuses, building, keeping, again}
-use Rattle.par_policies.proofs.par_reader.Alternatives.{fails_again}
-use Rattle.par_policies.proofs.par_reader.Alternatives.{handed, continued}
+use Rattle.par_policy_reader.specs.par_reader.Reads.{input}
+use Rattle.par_policy_reader.proofs.par_reader.Alternatives.{opens, refuses, building, keeping}
+use Rattle.par_policy_reader.proofs.par_reader.Alternatives.{again}
+use Rattle.par_policy_reader.proofs.par_reader.Alternatives.{fails_again}
+use Rattle.par_policy_reader.proofs.par_reader.Alternatives.{handed, continued}
 use Rattle.par_tree.specs.Grammar as g
 use Rattle.par_tree.specs.Shown.{all_do, all_catch}
 use Rattle.par_tree.specs.Values.{paragon, stas, catches}

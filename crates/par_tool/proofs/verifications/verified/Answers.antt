@@ -1,5 +1,5 @@
 use Rattle.par_tool.specs.Failures.{IsFailure, failure_of}
-use Rattle.par_verify.specs.par_verified.Verified.{AllFrames, AreFramesOf}
+use Rattle.par_verify.specs.par_verify_laws.Verified.{AllFrames, AreFramesOf}
 use Rattle.par_tool.specs.Verifications.{IsUnverifiable}
 use Rattle.par_tool.proofs.Loads.{handed}
 use Rattle.par_tool.proofs.Verifying.{unframed, unfit_so}

@@ -1,7 +1,7 @@
 use Rattle.std.proofs.Common.{sym, subst}
 use Rattle.par_tree.specs.Shown.{source}
 use Rattle.par_scope.specs.Names.{IsFewTable}
-use Rattle.par_types.specs.Program.{type_faults}
+use Rattle.par_type_rules.specs.Program.{type_faults}
 use Rattle.par_typing.proofs.First.{answers}
 use Rattle.par_typing.proofs.Limits.{limits_kept}
 use Rattle.par_typing.proofs.Tables.{few_table}

@@ -2,7 +2,7 @@ use Rattle.std.proofs.Common.{subst}
 use Rattle.par_tree.specs.Shown.{source}
 use Rattle.par_typed.specs.First.{IsAnswer}
 use Rattle.par_typed.specs.Shown.{bodies}
-use Rattle.par_types.specs.Program.{type_faults}
+use Rattle.par_type_rules.specs.Program.{type_faults}
 use Rattle.par_typing.proofs.WellTyped.{well_typed, well_declared}
 use Rattle.par_typing.proofs.program.type_program.Goals as goal
 

@@ -2,8 +2,8 @@ use Rattle.std.proofs.Common.{◌≡◌, List, ◌++◌, length, drop}
 use Rattle.std.specs.Prelude.{map}
 use Rattle.std.specs.List.{AllByRecursion}
 use Rattle.par_typed.specs.Shown.{bodies}
-use Rattle.par_asked.specs.par_rules.Lattice.{numbers}
-use Rattle.par_asked.specs.par_rules.Facts.{Facts}
+use Rattle.par_asked.specs.par_flow_laws.Lattice.{numbers}
+use Rattle.par_asked.specs.par_flow_laws.Facts.{Facts}
 use Rattle.par_verdict.specs.Judged.{AreAllRight}
 use Rattle.par_verdict.specs.Accepted.{IsOrderlyBody}
 use Rattle.par_verdict.proofs.accepted.all_facts.Given as goal

@@ -2,10 +2,10 @@ use Rattle.std.proofs.Common.{List, ◌∷◌, map, length, drop, ◌+◌, ◌<�
 use Rattle.par_typed.specs.declared.table.Table.{Table}
 use Rattle.par_typed.specs.Plain.{Body}
 use Rattle.par_typed.specs.Shown.{body, bodies}
-use Rattle.par_asked.specs.par_rules.Lattice.{numbers}
-use Rattle.par_asked.specs.par_rules.Facts.{Facts}
-use Rattle.par_asked.specs.par_checks.Checks.{checks}
-use Rattle.par_asked.specs.par_checks.Verdict.{KeepsNumbered}
+use Rattle.par_asked.specs.par_flow_laws.Lattice.{numbers}
+use Rattle.par_asked.specs.par_flow_laws.Facts.{Facts}
+use Rattle.par_asked.specs.par_check_laws.Checks.{checks}
+use Rattle.par_asked.specs.par_check_laws.Verdict.{KeepsNumbered}
 use Rattle.par_verdict.specs.Told.{AreBroken, AreAllBroken}
 use Rattle.par_verdict.proofs.Told.{Goes, Noted, starts, goes_on_all, ends_all, bodies_left}
 use Rattle.par_verdict.proofs.Told.{no_bodies_left, facts_left}

@@ -1,8 +1,8 @@
 use Rattle.std.proofs.Common.{◌↔◌, List, drop, ◌+◌, refl, subst, ◌∙◌}
 use Rattle.std.specs.Prelude.{IsTrue}
 use Rattle.par_typed.specs.declared.table.Table.{Table}
-use Rattle.par_asked.specs.par_checks.Asked.{Check}
-use Rattle.par_asked.specs.par_checks.Verdict.{KeepsNumbered}
+use Rattle.par_asked.specs.par_check_laws.Asked.{Check}
+use Rattle.par_asked.specs.par_check_laws.Verdict.{KeepsNumbered}
 use Rattle.par_asked.specs.Seen.{seen_check, seen_checks}
 use Rattle.par_verdict.specs.Told.{AreBroken}
 use Rattle.par_verdict.proofs.Told.{Goes, starts, goes_on, ends, checks_left, no_checks_left}

@@ -1,5 +1,5 @@
 use Rattle.std.proofs.Common.{◌≡◌, drop}
-use Rattle.par_asked.specs.par_checks.Verdict.{KeepsNumbered}
+use Rattle.par_asked.specs.par_check_laws.Verdict.{KeepsNumbered}
 use Rattle.par_asked.specs.Seen.{seen_checks}
 use Rattle.par_verdict.specs.Told.{AreBroken}
 use Rattle.par_verdict.proofs.Told.{Goes}

@@ -1,5 +1,5 @@
 use Rattle.std.proofs.Common.{Some, set, sym, ap, ◌∙◌}
-use Rattle.par_verified.specs.par_passes.Passes.{start_table}
+use Rattle.par_verify_laws.specs.par_frame_pass_laws.Passes.{start_table}
 use Rattle.par_frame_steps.specs.Marks.{frame_of}
 use Rattle.par_verify.specs.Starts.{told_of}
 use Rattle.par_verify.proofs.Starting.{first_put}

@@ -1,5 +1,5 @@
 use Rattle.std.proofs.Common.{◌≡◌, ◌-◌, length, drop}
-use Rattle.par_verified.specs.par_passes.Passes.{start_table}
+use Rattle.par_verify_laws.specs.par_frame_pass_laws.Passes.{start_table}
 use Rattle.par_frame_passes.specs.Tables.{table_of}
 use Rattle.par_verify.specs.Starts.{told_of}
 use Rattle.par_verify.proofs.begun.told_table.Given as goal

@@ -7,7 +7,7 @@ use Rattle.par_single.specs.Members.{own_name, text_at, is_static}
 use Rattle.par_single.specs.Links.{signature_said}
 use Rattle.par_kinds.specs.Linked.{given_to}
 use Rattle.par_frame_steps.specs.Marks.{names, frame_of}
-use Rattle.par_verified.specs.par_frames.Broken.{IsPlacedIn}
+use Rattle.par_verify_laws.specs.par_frames.Broken.{IsPlacedIn}
 use Rattle.par_verify.specs.Starts.{frame_with}
 use Rattle.par_verify.proofs.Methods as method
 use Rattle.par_verify.proofs.Telling.{all-placed, told-within}

@@ -1,6 +1,6 @@
 use Rattle.std.proofs.Common.{◌≡◌, ℕ, ◌<◌, true}
 use Rattle.par_kinds.specs.Linked.{coded_at}
-use Rattle.par_verified.specs.Verified.{IsVerified}
+use Rattle.par_verify_laws.specs.Verified.{IsVerified}
 use Rattle.par_verify.proofs.verifier.verify.Given as goal
 
 -- the files before are verified

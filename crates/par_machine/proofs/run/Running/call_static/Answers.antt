@@ -3,9 +3,9 @@ use Rattle.std.proofs.lemmas.Result.{IfOk-weaker}
 use Rattle.par_instr.specs.declared.instr.Instr.TheVariants.{Invokestatic}
 use Rattle.par_method_area.specs.par_link.Linked.{named_at}
 use Rattle.par_values.specs.Operations.{InvokeStatic, Misnamed, of_method}
-use Rattle.par_method_area.specs.par_steps.Classes.{class_names}
-use Rattle.par_method_area.specs.par_steps.Links.{link_at}
-use Rattle.par_method_area.specs.par_steps.Step.{called_on_object, is_misreceived}
+use Rattle.par_method_area.specs.par_step_laws.Classes.{class_names}
+use Rattle.par_method_area.specs.par_step_laws.Links.{link_at}
+use Rattle.par_method_area.specs.par_step_laws.Step.{called_on_object, is_misreceived}
 use Rattle.par_machine.specs.Instructions.{is_branch}
 use Rattle.par_machine.specs.Running.{here}
 use Rattle.par_machine.specs.Site.{areas_at, spot_of}

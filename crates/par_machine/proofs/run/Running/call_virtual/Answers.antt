@@ -5,8 +5,8 @@ use Rattle.par_method_area.specs.par_link.Linked.{named_at}
 use Rattle.par_values.specs.Areas.{operand}
 use Rattle.par_values.specs.declared.kind.Kind.TheVariants.{Anything}
 use Rattle.par_values.specs.Operations.{InvokeVirtual, Misnamed, of_method}
-use Rattle.par_method_area.specs.par_steps.Classes.{class_names, exceptions}
-use Rattle.par_method_area.specs.par_steps.Links.{link_at}
+use Rattle.par_method_area.specs.par_step_laws.Classes.{class_names, exceptions}
+use Rattle.par_method_area.specs.par_step_laws.Links.{link_at}
 use Rattle.par_method_area.specs.par_actions.Calls.{is_misreceived}
 use Rattle.par_machine.specs.Instructions.{is_branch}
 use Rattle.par_machine.specs.Site.{areas_at, spot_of}

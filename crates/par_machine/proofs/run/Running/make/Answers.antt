@@ -2,8 +2,8 @@ use Rattle.std.proofs.Common.{[], refl, ap, subst, ◌∙◌, ◌<◌, arith}
 use Rattle.std.proofs.lemmas.Result.{IfOk-weaker}
 use Rattle.par_instr.specs.declared.instr.Instr.TheVariants.{New}
 use Rattle.par_values.specs.Operations.{of_class}
-use Rattle.par_method_area.specs.par_steps.Classes.{class_names}
-use Rattle.par_method_area.specs.par_steps.Links.{link_at}
+use Rattle.par_method_area.specs.par_step_laws.Classes.{class_names}
+use Rattle.par_method_area.specs.par_step_laws.Links.{link_at}
 use Rattle.par_machine.specs.Instructions.{is_branch}
 use Rattle.par_machine.specs.Objects.{count_classes}
 use Rattle.par_machine.specs.Site.{areas_at, spot_of}

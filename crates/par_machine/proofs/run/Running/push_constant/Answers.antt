@@ -3,9 +3,9 @@ use Rattle.std.proofs.Common.{of_z, w32}
 use Rattle.par_instr.specs.declared.instr.Instr.{Instr}
 use Rattle.par_instr.specs.declared.instr.Instr.TheVariants.{Ldc, LdcW}
 use Rattle.par_values.specs.Operations.{Push, operation, constant}
-use Rattle.par_method_area.specs.par_steps.Classes.{class_names}
-use Rattle.par_method_area.specs.par_steps.Links.{link_at}
-use Rattle.par_method_area.specs.par_steps.Step.{called_on_object}
+use Rattle.par_method_area.specs.par_step_laws.Classes.{class_names}
+use Rattle.par_method_area.specs.par_step_laws.Links.{link_at}
+use Rattle.par_method_area.specs.par_step_laws.Step.{called_on_object}
 use Rattle.par_method_area.specs.par_actions.Done.{Comes}
 use Rattle.par_machine.specs.Instructions.{is_branch}
 use Rattle.par_machine.specs.Site.{areas_at, spot_of, IsPerformed}

@@ -1,8 +1,8 @@
 use Rattle.std.proofs.Common.{[], refl, ap, ◌∙◌}
 use Rattle.par_instr.specs.declared.instr.Instr.TheVariants.{Getstatic}
 use Rattle.par_values.specs.Operations.{GetStatic, Misnamed, of_field}
-use Rattle.par_method_area.specs.par_steps.Classes.{class_names}
-use Rattle.par_method_area.specs.par_steps.Links.{link_at}
+use Rattle.par_method_area.specs.par_step_laws.Classes.{class_names}
+use Rattle.par_method_area.specs.par_step_laws.Links.{link_at}
 use Rattle.par_machine.specs.Instructions.{is_branch}
 use Rattle.par_machine.specs.Site.{areas_at, spot_of}
 use Rattle.par_machine.proofs.Asked.{at_instr, field_known, field_unknown}

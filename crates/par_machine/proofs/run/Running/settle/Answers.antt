@@ -1,7 +1,7 @@
 use Rattle.std.proofs.Common.{◌≡◌, ◌+◌, pos, ◌+ℤ◌, true, length, refl, sym, ap, subst, ◌∙◌, rules}
 use Rattle.std.proofs.Common.{to_z, of_z, w16, arith}
 use Rattle.par_stack.specs.Frames.{with_running, at_offset}
-use Rattle.par_method_area.specs.par_steps.Step.{offset}
+use Rattle.par_method_area.specs.par_step_laws.Step.{offset}
 use Rattle.par_method_area.specs.par_actions.declared.done.Done.{Done}
 use Rattle.par_method_area.specs.par_actions.declared.done.Done.TheVariants as done
 use Rattle.par_starts.specs.Standing.{reach_of}

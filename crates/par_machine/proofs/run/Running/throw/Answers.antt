@@ -2,8 +2,8 @@ use Rattle.std.proofs.Common.{◌≡◌, ◌<◌, true, false, ◌∷◌, subst,
 use Rattle.std.proofs.lemmas.Bool.{false≢true}
 use Rattle.par_values.specs.declared.value.MVal.TheVariants.{Ref}
 use Rattle.par_values.specs.Reasons.{is_of}
-use Rattle.par_method_area.specs.par_steps.Classes.{exceptions}
-use Rattle.par_method_area.specs.par_steps.Handlers.{caught}
+use Rattle.par_method_area.specs.par_step_laws.Classes.{exceptions}
+use Rattle.par_method_area.specs.par_step_laws.Handlers.{caught}
 use Rattle.par_stack.specs.Frames.{running}
 use Rattle.par_unwinding.specs.Landing.{Lands}
 use Rattle.par_machine.specs.Frames.{are_sound}

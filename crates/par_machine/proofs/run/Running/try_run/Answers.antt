@@ -1,6 +1,6 @@
 use Rattle.std.proofs.Common.{◌≡◌, pos, ◌+ℤ◌, ap, ◌∙◌, rules, to_z, of_z, w16, arith}
 use Rattle.par_stack.specs.Frames.{with_running, at_offset}
-use Rattle.par_method_area.specs.par_steps.Step.{offset}
+use Rattle.par_method_area.specs.par_step_laws.Step.{offset}
 use Rattle.par_starts.specs.Standing.{reach_of}
 use Rattle.par_machine.proofs.QuietSteps.{tried_not, tried_goes, tried_jumps}
 use Rattle.par_machine.proofs.run.Running.try_run.Goals as goal

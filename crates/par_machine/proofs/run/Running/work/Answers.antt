@@ -1,6 +1,6 @@
 use Rattle.std.proofs.Common.{refl}
-use Rattle.par_method_area.specs.par_steps.Classes.{class_names}
-use Rattle.par_method_area.specs.par_steps.Links.{link_at}
+use Rattle.par_method_area.specs.par_step_laws.Classes.{class_names}
+use Rattle.par_method_area.specs.par_step_laws.Links.{link_at}
 use Rattle.par_machine.specs.Running.{here}
 use Rattle.par_machine.specs.Site.{areas_at, spot_of, operation_at}
 use Rattle.par_machine.proofs.Coming.{is_at}

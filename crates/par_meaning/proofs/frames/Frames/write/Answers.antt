@@ -1,6 +1,6 @@
 use Rattle.std.proofs.Common.{ap, ◌∙◌, ◌<◌, drop, sym, subst}
 use Rattle.std.proofs.lemmas.List.{drop-set-add}
-use Rattle.par_runs.specs.State.{put}
+use Rattle.par_run_laws.specs.State.{put}
 use Rattle.par_meaning.specs.Frame.{Frame, held}
 use Rattle.par_meaning.proofs.Locals.{set_held}
 use Rattle.std.proofs.Common.{length}

@@ -1,6 +1,6 @@
 use Rattle.std.proofs.Common.{ap, sym, ◌∙◌, subst, List, ℕ}
 use Rattle.par_policy.specs.Numbers.{Gains}
-use Rattle.par_runs.proofs.Locks.{closed_is, closed_again}
+use Rattle.par_run_laws.proofs.Locks.{closed_is, closed_again}
 use Rattle.par_meaning.specs.Stored.{holds}
 use Rattle.par_meaning.proofs.store.Store.close.Goals as goal
 

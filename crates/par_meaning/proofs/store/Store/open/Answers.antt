@@ -1,6 +1,6 @@
 use Rattle.std.proofs.Common.{rules, ap, List, ℕ}
 use Rattle.std.specs.Prelude.{IsTrue}
-use Rattle.par_runs.proofs.Locks.{opened_is, opened_again}
+use Rattle.par_run_laws.proofs.Locks.{opened_is, opened_again}
 use Rattle.par_meaning.specs.Stored.{holds}
 use Rattle.par_meaning.proofs.store.Store.open.Goals as goal
 

@@ -1,7 +1,7 @@
 use Rattle.std.proofs.Common.{◌+◌, Some, length, sym, subst, ap, ◌∙◌, codes, arith}
-use Rattle.par_steps.specs.par_link.declared.entry.Builtin.{Builtin}
-use Rattle.par_steps.specs.Classes.{class_names}
-use Rattle.par_steps.specs.Links.{builtin_class}
+use Rattle.par_step_laws.specs.par_link.declared.entry.Builtin.{Builtin}
+use Rattle.par_step_laws.specs.Classes.{class_names}
+use Rattle.par_step_laws.specs.Links.{builtin_class}
 use Rattle.par_method_area.specs.Area.{Area}
 use Rattle.par_method_area.specs.Known.{KnowsClass}
 use Rattle.par_method_area.proofs.Making.{unmade-found, exception-found}

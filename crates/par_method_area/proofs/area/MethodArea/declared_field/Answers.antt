@@ -1,6 +1,6 @@
 use Rattle.std.proofs.Common.{Some, None, false, sym, subst, slice_get}
-use Rattle.par_steps.specs.Classes.{class_names}
-use Rattle.par_steps.specs.Links.{field_in}
+use Rattle.par_step_laws.specs.Classes.{class_names}
+use Rattle.par_step_laws.specs.Links.{field_in}
 use Rattle.par_actions.specs.declared.fit.Fit.TheVariants as fit
 use Rattle.par_method_area.specs.Area.{Area}
 use Rattle.par_method_area.specs.Known.{KnowsField}

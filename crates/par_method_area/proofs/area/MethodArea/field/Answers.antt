@@ -1,8 +1,8 @@
 use Rattle.std.proofs.Common.{◌≡◌, Some, subst, ap, ◌∙◌}
-use Rattle.par_steps.specs.par_link.declared.entry.Named.TheVariants as named
-use Rattle.par_steps.specs.par_link.Linked.{named_at}
+use Rattle.par_step_laws.specs.par_link.declared.entry.Named.TheVariants as named
+use Rattle.par_step_laws.specs.par_link.Linked.{named_at}
 use Rattle.par_values.specs.declared.link.Link.{Link}
-use Rattle.par_steps.specs.Classes.{class_names}
+use Rattle.par_step_laws.specs.Classes.{class_names}
 use Rattle.par_method_area.specs.Area.{Area}
 use Rattle.par_method_area.specs.Known.{KnowsField}
 use Rattle.par_method_area.proofs.Linking.{linked}

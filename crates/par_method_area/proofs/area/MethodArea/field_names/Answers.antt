@@ -1,6 +1,6 @@
 use Rattle.std.proofs.Common.{ap, subst, ◌∙◌, slice_get}
 use Rattle.par_single.specs.Members.{text_at}
-use Rattle.par_steps.specs.Links.{field_in}
+use Rattle.par_step_laws.specs.Links.{field_in}
 use Rattle.par_method_area.specs.Area.{Area}
 use Rattle.par_method_area.specs.Known.{KnowsNames}
 use Rattle.par_method_area.proofs.Named.{field-named}

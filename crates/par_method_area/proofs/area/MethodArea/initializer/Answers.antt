@@ -1,10 +1,10 @@
 use Rattle.std.proofs.Common.{◌+◌, Some, sym, subst, ap, refl, ◌∙◌, slice_get, codes}
-use Rattle.par_steps.specs.par_link.declared.entry.Named.TheVariants as named
-use Rattle.par_steps.specs.par_link.declared.entry.Builtin.{Builtin}
-use Rattle.par_steps.specs.par_link.declared.entry.Builtin.TheVariants as builtin
+use Rattle.par_step_laws.specs.par_link.declared.entry.Named.TheVariants as named
+use Rattle.par_step_laws.specs.par_link.declared.entry.Builtin.{Builtin}
+use Rattle.par_step_laws.specs.par_link.declared.entry.Builtin.TheVariants as builtin
 use Rattle.par_values.specs.declared.kind.Kind.TheVariants.{Object, AnyObject}
-use Rattle.par_steps.specs.Classes.{class_names}
-use Rattle.par_steps.specs.Links.{builtin_initializer}
+use Rattle.par_step_laws.specs.Classes.{class_names}
+use Rattle.par_step_laws.specs.Links.{builtin_initializer}
 use Rattle.par_actions.specs.declared.fit.Fit.{Fit}
 use Rattle.par_actions.specs.Fits.{Takes}
 use Rattle.par_method_area.specs.Area.{Area, area_of}
@@ -12,7 +12,7 @@ use Rattle.par_method_area.specs.Known.{KnowsMethod}
 use Rattle.par_method_area.proofs.Taking.{takes, takes-own}
 use Rattle.par_method_area.proofs.Calling.{initializer-found}
 use Rattle.par_method_area.proofs.Numbered.{arithmetic-at, null-at}
-use Rattle.par_steps.proofs.par_link.Faultless.{names-apart}
+use Rattle.par_step_laws.proofs.par_link.Faultless.{names-apart}
 use Rattle.par_method_area.proofs.area.MethodArea.initializer.Goals as goal
 
 pub returns-in-Object : goal.returns-in-Object

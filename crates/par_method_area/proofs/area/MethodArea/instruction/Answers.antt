@@ -1,6 +1,6 @@
 use Rattle.std.proofs.Common.{sym, subst}
 use Rattle.par_starts.specs.Standing.{KnowsStanding}
-use Rattle.par_steps.specs.Methods.{method_code}
+use Rattle.par_step_laws.specs.Methods.{method_code}
 use Rattle.par_method_area.proofs.Standing.{class_missing, method_missing, standing_found, moved}
 use Rattle.par_method_area.proofs.area.MethodArea.instruction.Goals as goal
 

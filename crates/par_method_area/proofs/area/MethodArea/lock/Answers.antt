@@ -1,12 +1,12 @@
 use Rattle.std.proofs.Common.{◌+◌, ◌-◌, Some, true, length, subst, ap, ◌∙◌, arith}
-use Rattle.par_steps.specs.Classes.{class_names}
-use Rattle.par_steps.specs.Links.{lock_link}
+use Rattle.par_step_laws.specs.Classes.{class_names}
+use Rattle.par_step_laws.specs.Links.{lock_link}
 use Rattle.par_actions.specs.declared.fit.Fit.TheVariants as fit
 use Rattle.par_method_area.specs.Area.{Area}
 use Rattle.par_method_area.specs.Known.{KnowsField}
 use Rattle.par_method_area.proofs.Placed.{lock-found}
 use Rattle.par_method_area.proofs.Counts.{all-count, statics-few}
-use Rattle.par_steps.proofs.par_link.Faultless.{small}
+use Rattle.par_step_laws.proofs.par_link.Faultless.{small}
 use Rattle.par_method_area.proofs.area.MethodArea.lock.Goals as goal
 
 pub overflow_cast-result : goal.overflow_cast-result

@@ -1,9 +1,9 @@
 use Rattle.std.proofs.Common.{None, refl, sym, ap, ◌∙◌, subst}
 use Rattle.std.specs.Prelude.{IsTrue}
-use Rattle.par_rules.specs.Lattice.{numbers}
-use Rattle.par_rules.specs.Ways.{MayFlow}
-use Rattle.par_pass.specs.par_except.Joins.{may_join}
-use Rattle.par_pass.specs.par_except.Seen.{may_see}
+use Rattle.par_flow_laws.specs.Lattice.{numbers}
+use Rattle.par_flow_laws.specs.Ways.{MayFlow}
+use Rattle.par_pass_laws.specs.par_except.Joins.{may_join}
+use Rattle.par_pass_laws.specs.par_except.Seen.{may_see}
 use Rattle.par_rounds.specs.Seen.{ways_of}
 use Rattle.par_rounds.specs.Took.{HaveSmallLocks}
 use Rattle.par_rounds.proofs.Heads.{read_none}

@@ -1,5 +1,0 @@
-use Rattle.par_checks.proofs.Kept.{keep_accept}
-use Rattle.par_checks.proofs.laws.closed_facts_that_keep_accept.Goals as goal
-
-pub returns : goal.returns
-returns c = keep_accept

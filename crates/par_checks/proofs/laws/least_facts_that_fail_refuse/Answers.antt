@@ -1,5 +1,0 @@
-use Rattle.par_checks.proofs.Failed.{fail_refuse}
-use Rattle.par_checks.proofs.laws.least_facts_that_fail_refuse.Goals as goal
-
-pub returns : goal.returns
-returns c = fail_refuse

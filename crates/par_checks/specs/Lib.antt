@@ -1,6 +1,0 @@
-pub mod Asked
-pub mod Checks
-pub mod Keeps
-pub mod Verdict
-pub mod Laws
-pub use Rattle.par_pass.specs as par_pass

@@ -1,5 +1,0 @@
-use Rattle.par_coded.proofs.ItsLocks.{code_uses_its_locks}
-use Rattle.par_coded.proofs.laws.code_uses_its_locks.Goals as goal
-
-pub returns : goal.returns
-returns c = code_uses_its_locks

@@ -1,5 +1,0 @@
-use Rattle.par_coded.proofs.Whole as proved
-use Rattle.par_coded.proofs.laws.erased_bodies_complete.Goals as goal
-
-pub returns : goal.returns
-returns c = proved.erased_bodies_complete

@@ -1,5 +1,0 @@
-use Rattle.par_coded.proofs.Whole as proved
-use Rattle.par_coded.proofs.laws.well_typed_bodies_are_coded.Goals as goal
-
-pub returns : goal.returns
-returns c = proved.well_typed_bodies_are_coded

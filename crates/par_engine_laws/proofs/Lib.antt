@@ -1,0 +1,3 @@
+pub mod Bridge
+pub use Rattle.par_step_laws.proofs as par_step_laws
+pub use Rattle.par_step_laws.proofs.par_link as par_link

@@ -1,5 +1,0 @@
-use Rattle.par_files_verified.proofs.Whole.{loaded_files_are_verified}
-use Rattle.par_files_verified.proofs.laws.loaded_files_are_verified.Goals as goal
-
-pub returns : goal.returns
-returns c = loaded_files_are_verified

@@ -1,5 +1,0 @@
-use Rattle.par_framed_files.proofs.Whole.{loaded_files_are_framed}
-use Rattle.par_framed_files.proofs.laws.loaded_files_are_framed.Goals as goal
-
-pub returns : goal.returns
-returns c = loaded_files_are_framed

@@ -1,0 +1,6 @@
+pub mod Walks
+pub mod Signs
+pub mod Tells
+pub mod Fits
+pub use Rattle.par_agreement_laws.specs as par_agreement_laws
+pub use Rattle.par_frame_laws.specs as par_frame_laws

@@ -1,1 +1,0 @@
-pub use Rattle.par_agreeing.proofs as par_agreeing

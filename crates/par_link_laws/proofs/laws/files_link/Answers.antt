@@ -1,0 +1,5 @@
+use Rattle.par_link_laws.proofs.Whole as whole
+use Rattle.par_link_laws.proofs.laws.files_link.Goals as goal
+
+pub returns : goal.returns
+returns c = whole.files_link

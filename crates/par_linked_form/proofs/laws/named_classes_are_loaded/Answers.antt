@@ -1,5 +1,0 @@
-use Rattle.par_linked_form.proofs.ClassesRead as reads
-use Rattle.par_linked_form.proofs.laws.named_classes_are_loaded.Goals as goal
-
-pub returns : goal.returns
-returns c = reads.named_classes_are_loaded

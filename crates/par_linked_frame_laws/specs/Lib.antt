@@ -1,0 +1,2 @@
+pub mod Laws
+pub use Rattle.par_sound_laws.specs as par_sound_laws

@@ -1,5 +1,0 @@
-use Rattle.par_passes.proofs.Least as least
-use Rattle.par_passes.proofs.laws.least_frames_are_least.Goals as goal
-
-pub returns : goal.returns
-returns c = least.least_frames_are_least

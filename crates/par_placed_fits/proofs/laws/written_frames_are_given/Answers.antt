@@ -1,5 +1,0 @@
-use Rattle.par_placed_fits.proofs.Written.{written_frames_are_given}
-use Rattle.par_placed_fits.proofs.laws.written_frames_are_given.Goals as goal
-
-pub returns : goal.returns
-returns c = written_frames_are_given

@@ -1,5 +1,0 @@
-use Rattle.par_places.proofs.Trees.{trees_lie}
-use Rattle.par_places.proofs.trees_lie_within.Goals as goal
-
-pub returns : goal.returns
-returns c = trees_lie

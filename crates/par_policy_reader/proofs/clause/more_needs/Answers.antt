@@ -1,0 +1,38 @@
+use Rattle.std.proofs.Common.{◌∙◌, ◌∷◌, [], arith, refl, sym}
+use Rattle.par_grammar.specs.Grammar as symbol
+use Rattle.par_grammar.specs.declared.sort.Sort.TheVariants as sort
+use Rattle.par_lexer.specs.declared.sign.TheConstants as signs
+use Rattle.par_language_laws.specs.par_reader.Reads.{input}
+use Rattle.par_language_laws.proofs.par_reader.Alternatives.{again, continued, fails_again, handed}
+use Rattle.par_language_laws.proofs.par_reader.Alternatives.{keeping, opens}
+use Rattle.par_tree.specs.Grammar as g
+use Rattle.par_tree.specs.Values.{paragon}
+use Rattle.par_tree.proofs.Founded.{founded}
+use Rattle.par_policy_reader.specs.Reads as reads
+use Rattle.par_policy_reader.proofs.clause.more_needs.Goals as goal
+
+abbrev part : g.Symbols
+part = symbol.token (sort.Sign signs.COMMA) ∷ symbol.name g.Lock ∷ symbol.builds g.NextLock ∷ []
+
+pub returns-in_err-found-clause-read : goal.returns-in_err-found-clause-read
+returns-in_err-found-clause-read c =
+    handed paragon founded (symbol.name g.MoreNeeds ∷ []) (reads.the_locks c.more.found)
+    (input c.more.cursor) c.from_residual.ensures.1 c.more.invariant.leads
+    (fails_again paragon founded g.MoreNeeds part (reads.the_locks c.more.found)
+    (rw (sym c.sees.ensures ∙ c.more-test.true)) c.in_err-found.ensures.read)
+
+pub more-preserved : goal.more-preserved
+more-preserved c = record {
+  leads =
+      λ s vs. c.more.invariant.leads s vs
+      ∙ again paragon founded g.MoreNeeds part (reads.the_locks c.more.found)
+      (rw (sym c.sees.ensures ∙ c.more-test.true)) c.in_ok-found.ensures.read s vs;
+  shorter = omega (arith, c.in_ok-found.ensures.shorter);
+}
+
+pub returns-clause-read : goal.returns-clause-read
+returns-clause-read c =
+    continued paragon founded (symbol.name g.MoreNeeds ∷ [])
+    (reads.the_locks c.more.found) c.more.invariant.leads
+    (opens paragon founded (rw (sym c.sees.ensures ∙ c.more-test.false))
+    (keeping paragon founded (λ vs. refl)))

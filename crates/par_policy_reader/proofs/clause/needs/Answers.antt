@@ -1,0 +1,17 @@
+use Rattle.std.proofs.Common.{◌∙◌, ◌∷◌, ap, sym}
+use Rattle.par_language_laws.proofs.par_reader.Alternatives.{building, opens}
+use Rattle.par_tree.specs.Grammar as g
+use Rattle.par_tree.specs.Values as value
+use Rattle.par_tree.specs.Values.{paragon}
+use Rattle.par_tree.proofs.Founded.{founded}
+use Rattle.par_policy_reader.proofs.clause.needs.Goals as goal
+
+pub returns-then-sees-clause-read : goal.returns-then-sees-clause-read
+returns-then-sees-clause-read c =
+    opens paragon founded (rw (sym c.sees.ensures ∙ c.if-sees.true)) c.some_needs.ensures.read
+
+pub returns-else-sees-clause-read : goal.returns-else-sees-clause-read
+returns-else-sees-clause-read c =
+    opens paragon founded (rw (sym c.sees.ensures ∙ c.if-sees.false))
+    (building paragon founded g.NoLocks
+    (λ vs. ap (λ found. value.needs found ∷ vs) (sym c.new.ensures)))

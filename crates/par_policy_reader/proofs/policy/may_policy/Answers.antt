@@ -1,0 +1,15 @@
+use Rattle.std.proofs.Common.{◌∙◌, refl, sym}
+use Rattle.par_language_laws.proofs.par_reader.Alternatives.{building, opens}
+use Rattle.par_tree.specs.Grammar as g
+use Rattle.par_tree.specs.Values.{paragon}
+use Rattle.par_tree.proofs.Founded.{founded}
+use Rattle.par_policy_reader.proofs.policy.may_policy.Goals as goal
+
+pub returns-then-sees-clause-read : goal.returns-then-sees-clause-read
+returns-then-sees-clause-read c =
+    opens paragon founded (rw (sym c.sees.ensures ∙ c.if-sees.true)) c.marked_policy.ensures.read
+
+pub returns-else-sees-clause-read : goal.returns-else-sees-clause-read
+returns-else-sees-clause-read c =
+    opens paragon founded (rw (sym c.sees.ensures ∙ c.if-sees.false))
+    (building paragon founded g.NoPolicy (λ vs. refl))

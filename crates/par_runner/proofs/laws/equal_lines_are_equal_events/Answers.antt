@@ -1,5 +1,0 @@
-use Rattle.par_runner.proofs.Lines as lines
-use Rattle.par_runner.proofs.laws.equal_lines_are_equal_events.Goals as goal
-
-pub returns : goal.returns
-returns c = lines.equal_lines_are_equal_events

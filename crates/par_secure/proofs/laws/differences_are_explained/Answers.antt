@@ -1,5 +1,0 @@
-use Rattle.par_secure.proofs.Secure.{differences_explained}
-use Rattle.par_secure.proofs.laws.differences_are_explained.Goals as goal
-
-pub returns : goal.returns
-returns c = differences_explained

@@ -1,5 +1,0 @@
-use Rattle.par_shows.proofs.Whole as whole
-use Rattle.par_shows.proofs.laws.labelled_code_shows.Goals as goal
-
-pub returns : goal.returns
-returns c = whole.labelled_code_shows

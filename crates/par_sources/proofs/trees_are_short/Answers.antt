@@ -1,5 +1,0 @@
-use Rattle.par_sources.proofs.Short as short
-use Rattle.par_sources.proofs.trees_are_short.Goals as goal
-
-pub returns : goal.returns
-returns c = short.trees_are_short

@@ -1,5 +1,0 @@
-use Rattle.par_sources.proofs.Numbers as numbers
-use Rattle.par_sources.proofs.trees_have_numbers.Goals as goal
-
-pub returns : goal.returns
-returns c = numbers.trees_have_numbers

@@ -1,0 +1,5 @@
+use Rattle.par_typed_laws.proofs.Whole as whole
+use Rattle.par_typed_laws.proofs.laws.methods_take_few.Goals as goal
+
+pub returns : goal.returns
+returns c = whole.methods_take_few

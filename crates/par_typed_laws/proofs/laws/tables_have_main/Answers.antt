@@ -1,0 +1,5 @@
+use Rattle.par_typed_laws.proofs.Whole as whole
+use Rattle.par_typed_laws.proofs.laws.tables_have_main.Goals as goal
+
+pub returns : goal.returns
+returns c = whole.tables_have_main

@@ -1,5 +1,0 @@
-use Rattle.par_verified.proofs.Never as never
-use Rattle.par_verified.proofs.laws.verified_programs_are_never_bad.Goals as goal
-
-pub returns : goal.returns
-returns c = never.verified_programs_are_never_bad

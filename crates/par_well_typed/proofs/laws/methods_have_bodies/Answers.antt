@@ -1,5 +1,0 @@
-use Rattle.par_well_typed.proofs.Whole as whole
-use Rattle.par_well_typed.proofs.laws.methods_have_bodies.Goals as goal
-
-pub returns : goal.returns
-returns c = whole.methods_have_bodies

@@ -1,5 +1,0 @@
-use Rattle.par_well_typed.proofs.Whole as whole
-use Rattle.par_well_typed.proofs.laws.such_bodies_are_orderly.Goals as goal
-
-pub returns : goal.returns
-returns c = whole.such_bodies_are_orderly

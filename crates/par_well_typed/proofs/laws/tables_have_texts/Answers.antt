@@ -1,5 +1,0 @@
-use Rattle.par_well_typed.proofs.Whole as whole
-use Rattle.par_well_typed.proofs.laws.tables_have_texts.Goals as goal
-
-pub returns : goal.returns
-returns c = whole.tables_have_texts
