@@ -32,7 +32,6 @@ pub use fields::{Field, get_static, put_static};
 pub use fit::{Fit, accepts};
 pub use objects::{get_field, put_field};
 pub use operators::{Operator, combine, increase, negate};
-pub use par_lines;
 pub use values::{
     copy, discard, load_number, load_object, push_null, push_number, store_number, store_object,
 };

@@ -15,7 +15,4 @@ mod targets;
 mod written;
 
 pub use bodies::type_bodies;
-pub use par_annotation_laws;
-pub use par_annotation_laws::par_type_rules;
-pub use par_resolved;
 pub use written::Numbering;

@@ -4,6 +4,3 @@
 //! and a point for each node, and a node for each `this` that is not written. It says nothing of
 //! sources that break a rule: there the tree is whatever its parts make of it.
 #![tactic(auto)]
-
-pub use par_type_rules;
-pub use par_type_rules::par_scope;

@@ -11,8 +11,3 @@ pub mod check;
 mod expr;
 mod method;
 mod stmt;
-
-pub use par_check_laws;
-pub use par_check_laws::par_pass_laws;
-pub use par_nodes;
-pub use par_nodes::{par_flow_laws, par_typed};

@@ -8,4 +8,3 @@
 mod laws;
 
 pub use laws::{closed_facts_that_keep_accept, least_facts_that_fail_refuse};
-pub use par_pass_laws;

@@ -12,7 +12,3 @@ pub mod opcode;
 
 pub use item::Item;
 pub use labelled::{Handler, LabelFrame, Labelled, Slot};
-pub use par_completes;
-pub use par_completes::par_typed;
-pub use par_values;
-pub use par_values::par_instr;

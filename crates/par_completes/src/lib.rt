@@ -10,6 +10,5 @@ mod completion;
 
 pub use break_inside::breaks;
 pub use completion::{block_completes, completes};
-pub use par_tree;
 pub use par_typed;
-pub use par_typed::{par_lexer, par_policy};
+pub use par_typed::par_lexer;

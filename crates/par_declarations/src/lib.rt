@@ -19,7 +19,3 @@ mod rule;
 
 pub use counts::{check_counts, check_declared};
 pub use names::first_broken_name;
-pub use par_names;
-pub use par_names::par_span_laws;
-pub use par_parser;
-pub use par_tree;

@@ -13,7 +13,5 @@ mod ways;
 
 pub use absorb::{absorb_loop, absorb_throw};
 pub use merge::join;
-pub use par_flow_laws;
-pub use par_flow_laws::{par_lexer, par_policy, par_typed};
 pub use way::{Way, raise};
 pub use ways::Ways;

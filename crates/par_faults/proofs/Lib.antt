@@ -6,3 +6,4 @@ pub mod Written
 pub mod Counted
 pub mod Policies
 pub mod Places
+pub use Rattle.par_limits.proofs.par_resolved as par_resolved

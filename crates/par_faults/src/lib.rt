@@ -9,7 +9,3 @@ mod laws;
 
 pub use faults::first_fault;
 pub use laws::faults_lie_within;
-pub use par_declarations;
-pub use par_declarations::par_parser;
-pub use par_limits;
-pub use par_limits::par_resolved;

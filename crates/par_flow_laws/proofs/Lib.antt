@@ -1,0 +1,1 @@
+pub use Rattle.par_typed.proofs as par_typed

@@ -6,5 +6,4 @@
 //! joins. How facts are found, and what they are compared with, is no matter of this crate.
 #![tactic(auto)]
 
-pub use par_typed;
-pub use par_typed::{par_base, par_lexer, par_policy};
+pub use par_typed::{par_base, par_policy};

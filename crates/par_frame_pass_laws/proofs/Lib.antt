@@ -5,3 +5,4 @@ pub mod Still
 pub mod Ending
 pub mod Least
 pub mod Example
+pub use Rattle.par_kinds.proofs as par_kinds

@@ -9,5 +9,3 @@
 mod laws;
 
 pub use laws::{frames_as_told_are_least, least_frames_are_least, merges_are_least};
-pub use par_kinds;
-pub use par_kinds::par_step_laws;

@@ -17,6 +17,4 @@ mod pool_classes;
 pub use attribute::write_frames;
 pub use error::{FrameError, KindName};
 pub use laws::written_kinds_are_read;
-pub use par_kinds;
 pub use par_kinds::frame::{Frame, MethodFrames, PlacedFrame, VKind};
-pub use par_kinds::{par_link, par_step_laws};

@@ -8,5 +8,4 @@
 mod catches;
 
 pub use catches::handler;
-pub use par_step_laws;
 pub use par_step_laws::par_link;

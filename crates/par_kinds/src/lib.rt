@@ -9,5 +9,3 @@
 pub mod frame;
 
 pub use frame::{Frame, MethodFrames, PlacedFrame, VKind};
-pub use par_step_laws;
-pub use par_step_laws::{par_class, par_link, par_policy, par_single, par_values};

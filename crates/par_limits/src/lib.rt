@@ -15,7 +15,5 @@ mod same;
 
 pub use listed::entries;
 pub use par_resolved;
-pub use par_typed;
-pub use par_typed::par_policy;
 pub use policies::first_fault;
 pub use same::same_policy;

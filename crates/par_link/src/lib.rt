@@ -34,5 +34,4 @@ pub use error::LinkError;
 pub use fit::inputs_fit;
 pub use linked::Linked;
 pub use linker::link;
-pub use par_single;
-pub use par_single::{par_class, par_pool};
+pub use par_single::par_pool;

@@ -25,5 +25,3 @@ mod start;
 mod step;
 mod throws;
 pub mod turn;
-
-pub use par_method_area::par_step_laws;

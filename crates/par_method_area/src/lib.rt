@@ -26,5 +26,4 @@ mod told;
 pub use area::MethodArea;
 pub use known::{Code, MemberNames, NamedField};
 pub use par_actions;
-pub use par_step_laws;
 pub use par_step_laws::par_link;

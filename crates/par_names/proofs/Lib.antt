@@ -9,3 +9,4 @@ pub mod StmtForms
 pub mod Scopes
 pub mod Left
 pub mod Places
+pub use Rattle.par_span_laws.proofs as par_span_laws

@@ -23,8 +23,6 @@ pub use doubles::check_doubles;
 pub use lookup::{ClassNames, Classes, Locks};
 pub use named::{Named, index, index_of, push_ids, push_named};
 pub use par_index;
-pub use par_span_laws;
-pub use par_span_laws::{par_grammar, par_tree, par_typed};
 pub use policy::{
     check_class, check_lock, check_locks, check_may_policy, check_policy, check_result, check_type,
 };

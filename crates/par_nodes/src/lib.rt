@@ -15,6 +15,3 @@ mod make;
 pub mod possible;
 pub mod rule;
 pub mod stmt;
-
-pub use par_flow_laws;
-pub use par_flow_laws::par_typed;

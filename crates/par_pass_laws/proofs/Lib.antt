@@ -10,3 +10,4 @@ pub mod Possible
 pub mod Tables
 pub mod Along
 pub mod Rows
+pub use Rattle.par_except.proofs.par_policy as par_policy

@@ -6,4 +6,3 @@
 #![tactic(auto)]
 
 pub use par_except;
-pub use par_except::{par_flow_laws, par_policy, par_typed};

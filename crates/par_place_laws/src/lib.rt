@@ -5,8 +5,3 @@
 //! code has such a form, and what the pool needs for it. The crate writes no code: that is done in
 //! a crate above.
 #![tactic(auto)]
-
-pub use par_class;
-pub use par_class::par_pool;
-pub use par_code_form;
-pub use par_code_form::par_values;

@@ -10,5 +10,3 @@ pub mod cursor;
 pub mod error;
 pub mod language;
 pub mod limit;
-
-pub use par_grammar;

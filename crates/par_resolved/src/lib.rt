@@ -23,4 +23,3 @@ pub mod written;
 
 pub use par_base::memory::NoMemory;
 pub use par_names;
-pub use par_names::par_tree;

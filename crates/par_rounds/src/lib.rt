@@ -23,8 +23,5 @@ pub use body::{facts_of_body, next};
 pub use exits::Exit;
 pub use fact::{Fact, entry_at, exit_at, value_at};
 pub use first::first_way;
-pub use par_nodes;
-pub use par_pass_laws;
-pub use par_pass_laws::par_except;
 pub use rounds::settle;
 pub use way::SharedWay;

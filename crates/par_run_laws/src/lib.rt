@@ -9,6 +9,3 @@
 mod laws;
 
 pub use laws::{deeper_runs_extend, source_runs_extend};
-pub use par_secrecy;
-pub use par_secrecy::par_values;
-pub use par_typed;

@@ -5,3 +5,4 @@ pub mod Examples
 pub mod FileExamples
 pub mod Carried
 pub mod Fitting
+pub use Rattle.par_policy.proofs as par_policy

@@ -13,6 +13,3 @@ pub use files::shown_files_are_secure;
 pub use laws::{
     alike_is_reflexive, alike_is_symmetric, alike_is_transitive, fitting_gives_the_same,
 };
-pub use par_policy;
-pub use par_values;
-pub use par_values::{par_base, par_instr};

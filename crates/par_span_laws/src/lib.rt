@@ -11,7 +11,3 @@ ghost use Rattle.par_span_laws.specs.Law.{TreesLieWithin};
 pub fn trees_lie_within()
     ensures { TreesLieWithin }
 {}
-
-pub use par_tree;
-pub use par_tree::par_grammar;
-pub use par_typed;

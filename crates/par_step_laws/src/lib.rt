@@ -11,6 +11,4 @@ mod laws;
 
 pub use laws::{more_instructions_extend, own_fields_stand_apart, static_fields_stand_apart};
 pub use par_link;
-pub use par_link::{par_class, par_pool, par_single};
-pub use par_secrecy;
-pub use par_secrecy::{par_base, par_instr, par_policy, par_values};
+pub use par_link::par_pool;

@@ -12,5 +12,3 @@ pub mod nodes;
 pub mod policy;
 pub mod stmt;
 pub mod types;
-
-pub use par_grammar;

@@ -14,7 +14,4 @@ mod program;
 mod stmts;
 
 pub use inferred::first_inferred;
-pub use par_completes::par_typed;
-pub use par_scope;
-pub use par_tree;
 pub use program::check_bodies;

@@ -15,4 +15,3 @@ pub mod ty;
 pub use par_lexer;
 pub use par_lexer::par_base;
 pub use par_policy;
-pub use par_policy::par_bits;

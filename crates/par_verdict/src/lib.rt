@@ -18,7 +18,5 @@ pub use accepted::{Accepted, FindsFacts, check};
 pub use error::CheckError;
 pub use first::first_broken;
 pub use keeps::{is_met, value_of};
-pub use par_asked;
-pub use par_asked::par_check_laws;
 pub use policies::Policies;
 pub use ways::known_at;
