@@ -3,7 +3,7 @@
 use par_faults::first_fault;
 use par_lexer::lex;
 use par_parser::parse;
-use par_typed::refusal::Refusal;
+use par_refusals::refusal::Refusal;
 use par_worked::expect;
 use std::alloc::Global;
 use std::rt::HostRuntime;

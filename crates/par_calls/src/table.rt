@@ -4,8 +4,8 @@ use par_lexer::lex;
 use par_lexer::name::Name;
 use par_parser::parse;
 use par_policy::{Clause, Policy};
+use par_refusals::refusal::Refusal;
 use par_table::{NameError, build};
-use par_typed::refusal::Refusal;
 use par_typed::table::{
     ChannelInfo, ClassInfo, FieldInfo, GroundLock, MethodInfo, ParamInfo, Table, ThrowInfo, birth,
 };

@@ -1,9 +1,9 @@
 -- What stands before a body is gone over in three parts.
 use Rattle.std.proofs.Common.{◌≡◌, Option, sym, ap, ◌∙◌}
 use Rattle.par_tree.specs.Plain.{Method}
-use Rattle.par_typed.specs.declared.refusal.Refusal.{Refusal}
-use Rattle.par_typed.specs.First.{first_of}
-use Rattle.par_typed.proofs.First.{first_of_append}
+use Rattle.par_refusals.specs.declared.refusal.Refusal.{Refusal}
+use Rattle.par_refusals.specs.First.{first_of}
+use Rattle.par_refusals.proofs.First.{first_of_append}
 use Rattle.par_names.specs.Policies.{View}
 use Rattle.par_names.specs.Methods.{head_faults}
 use Rattle.par_declarations.specs.Heads.{signature_faults, mark_faults, thrown_faults}

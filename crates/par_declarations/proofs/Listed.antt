@@ -12,9 +12,9 @@ use Rattle.par_tree.specs.Plain.{Class, Declaration, Source}
 use Rattle.par_tree.specs.Shown.{methods, class_of}
 use Rattle.std.specs.Borrow.{Bor}
 use Rattle.par_tree.specs.declared.decl.ClassDecl.{ClassDecl}
-use Rattle.par_typed.specs.declared.refusal.Refusal.{Refusal}
-use Rattle.par_typed.specs.First.{first_of}
-use Rattle.par_typed.proofs.First.{first_of_append}
+use Rattle.par_refusals.specs.declared.refusal.Refusal.{Refusal}
+use Rattle.par_refusals.specs.First.{first_of}
+use Rattle.par_refusals.proofs.First.{first_of_append}
 use Rattle.par_names.specs.Declarations.{builtins, policies, policies_in}
 use Rattle.par_names.specs.Policies.{View}
 use Rattle.par_names.specs.Program.{view_behind, declaration_faults, declarations_faults}

@@ -4,9 +4,9 @@ use Rattle.std.proofs.Common.{length, get_or, take, drop, map, refl, sym, ap, â—
 use Rattle.std.proofs.lemmas.Grind.{common_steps}
 use Rattle.std.proofs.lemmas.List.{append_assoc, drop-map, take-map}
 use Rattle.std.proofs.lemmas.Option.{slice_get_past, slice_get-get_or}
-use Rattle.par_typed.specs.declared.refusal.Refusal.{Refusal}
-use Rattle.par_typed.specs.First.{exceeded, first_of, in_passes}
-use Rattle.par_typed.proofs.First.{first_of_none, passes_on, stops}
+use Rattle.par_refusals.specs.declared.refusal.Refusal.{Refusal}
+use Rattle.par_refusals.specs.First.{exceeded, first_of, in_passes}
+use Rattle.par_refusals.proofs.First.{first_of_none, passes_on, stops}
 use Rattle.par_declarations.specs.declared.limit.Limit.{Limit}
 use Rattle.par_declarations.specs.Limits.{told, one_too_many, earlier, in_order}
 

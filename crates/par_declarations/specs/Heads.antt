@@ -2,8 +2,8 @@
 use Rattle.std.specs.Prelude.{true, List, ◌++◌, flat_map, map}
 use Rattle.par_tree.specs.declared.policy.PolicyExpr.{PolicyExpr}
 use Rattle.par_tree.specs.Plain.{Method}
-use Rattle.par_typed.specs.declared.refusal.Refusal.{Refusal}
-use Rattle.par_typed.specs.First.{when, broken}
+use Rattle.par_refusals.specs.declared.refusal.Refusal.{Refusal}
+use Rattle.par_refusals.specs.First.{when, broken}
 use Rattle.par_names.specs.Declarations.{doubles}
 use Rattle.par_names.specs.Policies.{View, policy_faults, may_policy_faults, lock_faults}
 use Rattle.par_names.specs.Policies.{result_fault}

@@ -7,8 +7,8 @@ use Rattle.par_tree.specs.declared.decl.LockDecl.{LockDecl}
 use Rattle.par_tree.specs.Nodes.{method_nodes}
 use Rattle.par_tree.specs.Plain.{Class, Method, Source}
 use Rattle.par_names.specs.Declarations.{actors, locks, declared_classes}
-use Rattle.par_typed.specs.declared.refusal.Refusal.{Refusal}
-use Rattle.par_typed.specs.First.{when, exceeded, in_passes}
+use Rattle.par_refusals.specs.declared.refusal.Refusal.{Refusal}
+use Rattle.par_refusals.specs.First.{when, exceeded, in_passes}
 use Rattle.par_declarations.specs.declared.limit.Limit.{Limit}
 use Rattle.par_declarations.specs.declared.limit.TheConstants.{ACTORS, LOCKS, CLASSES, MEMBERS}
 use Rattle.par_declarations.specs.declared.limit.TheConstants.{METHODS, NODES, CLASS_NODES, PARAMS}

@@ -3,8 +3,8 @@ use Rattle.std.specs.Prelude.{Bool, true, List, codes}
 use Rattle.std.specs.List.{filter}
 use Rattle.std.specs.Str.{bytes_eq}
 use Rattle.par_tree.specs.Plain.{Method}
-use Rattle.par_typed.specs.declared.refusal.Refusal.{Refusal}
-use Rattle.par_typed.specs.First.{when, broken}
+use Rattle.par_refusals.specs.declared.refusal.Refusal.{Refusal}
+use Rattle.par_refusals.specs.First.{when, broken}
 
 abbrev pub is_main : Method → Bool
 is_main m = bytes_eq m.id.name (codes "main")

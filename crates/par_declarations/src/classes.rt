@@ -2,7 +2,7 @@
 
 ghost use Rattle.std.specs.Prelude.{◌≡◌, OnOk};
 ghost use Rattle.par_tree.specs.Shown.{class_of};
-ghost use Rattle.par_typed.specs.First.{first_of};
+ghost use Rattle.par_refusals.specs.First.{first_of};
 ghost use Rattle.par_names.specs.Declarations.{doubles};
 ghost use Rattle.par_names.specs.Members.{callee_ids};
 ghost use Rattle.par_names.specs.Methods.{class_faults};
@@ -12,8 +12,8 @@ use crate::members::{check_channels, check_fields, check_items};
 use crate::methods::check_methods;
 use par_lexer::memory::NoMemory;
 use par_names::{ClassNames, View, check_doubles, check_may_policy, push_ids};
+use par_refusals::refusal::Findings;
 use par_tree::decl::ClassDecl;
-use par_typed::refusal::Findings;
 use std::alloc::Global;
 
 // Channels and methods have one set of names.

@@ -7,7 +7,7 @@ ghost use Rattle.par_tree.specs.Shown as tree;
 ghost use Rattle.par_tree.specs.Shown.{all_declared, class_of, source};
 ghost use Rattle.par_parser.specs.Bodies.{method_size, methods_size, source_size};
 ghost use Rattle.par_names.specs.Declarations.{classes_in, locks};
-ghost use Rattle.par_typed.specs.First.{first_of, in_passes};
+ghost use Rattle.par_refusals.specs.First.{first_of, in_passes};
 ghost use Rattle.par_declarations.specs.Limits.{one_too_many, locks_limit, declared_limits};
 ghost use Rattle.par_declarations.specs.Limits.{method_limits, class_limits, count_faults};
 
@@ -18,12 +18,12 @@ use crate::locals::locals;
 use crate::locks::check_locks;
 use crate::places::{actor_places, check_places, class_places, member_places, method_places};
 use par_lexer::memory::NoMemory;
+use par_refusals::refusal::Findings;
 use par_tree::decl::{ClassDecl, Decl, MethodDecl, Program};
 use par_tree::nodes::nodes;
-use par_typed::refusal::Findings;
 use std::alloc::Global;
 
-#[tactic(auto, using(par_typed::proofs::First::firsts))]
+#[tactic(auto, using(par_refusals::proofs::First::firsts))]
 fn check_method(method: &MethodDecl, findings: &mut Findings)
     requires { method_size (tree.method method.now) < 2 ^ 32 }
     ensures { findings.new ≡ first_of findings.old (method_limits (tree.method method.now)) }
@@ -34,7 +34,7 @@ fn check_method(method: &MethodDecl, findings: &mut Findings)
     expect_within(LOCALS, locals(method), at, findings);
 }
 
-#[tactic(auto, using(par_typed::proofs::First::firsts))]
+#[tactic(auto, using(par_refusals::proofs::First::firsts))]
 fn check_methods(methods: &[MethodDecl], findings: &mut Findings)
     requires { methods_size (tree.methods methods.now) < 2 ^ 32 }
     ensures { findings.new
@@ -57,7 +57,7 @@ fn all_nodes(methods: &[MethodDecl]) -> u32
     count
 }
 
-#[tactic(auto, using(par_typed::proofs::First::firsts))]
+#[tactic(auto, using(par_refusals::proofs::First::firsts))]
 fn check_class(alloc: Global, class: &ClassDecl, findings: &mut Findings) -> Result<(), NoMemory>
     requires { methods_size (tree.methods class.now.methods) < 2 ^ 32 }
     ensures { OnOk result (findings.new
@@ -73,7 +73,7 @@ fn check_class(alloc: Global, class: &ClassDecl, findings: &mut Findings) -> Res
     Ok(())
 }
 
-#[tactic(auto, using(par_typed::proofs::First::firsts))]
+#[tactic(auto, using(par_refusals::proofs::First::firsts))]
 fn check_classes(alloc: Global, decls: &[Decl], findings: &mut Findings) -> Result<(), NoMemory>
     requires { source_size (all_declared decls.now) < 2 ^ 32 }
     ensures { OnOk result (findings.new ≡ first_of findings.old
@@ -114,7 +114,7 @@ pub fn check_declared(
 }
 
 /// Notes the limits of what is counted that a program exceeds.
-#[tactic(auto, using(par_typed::proofs::First::firsts))]
+#[tactic(auto, using(par_refusals::proofs::First::firsts))]
 pub fn check_counts(
     alloc: Global,
     program: &Program,

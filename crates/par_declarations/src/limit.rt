@@ -1,10 +1,10 @@
 //! The limits that are counted.
 
 ghost use Rattle.std.specs.Prelude.{◌≡◌};
-ghost use Rattle.par_typed.specs.First.{first_of};
+ghost use Rattle.par_refusals.specs.First.{first_of};
 ghost use Rattle.par_declarations.specs.Limits.{over};
 
-use par_typed::refusal::Findings;
+use par_refusals::refusal::Findings;
 
 /// A limit: the number that it is told by, and the most that there may be.
 #[derive(Clone, Copy)]

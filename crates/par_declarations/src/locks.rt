@@ -3,12 +3,12 @@
 ghost use Rattle.std.specs.Prelude.{◌≡◌, ◌≤◌, ◌+◌};
 ghost use Rattle.par_tree.specs.Shown.{all_declared};
 ghost use Rattle.par_names.specs.Declarations.{locks};
-ghost use Rattle.par_typed.specs.First.{first_of};
+ghost use Rattle.par_refusals.specs.First.{first_of};
 ghost use Rattle.par_declarations.specs.Limits as limit;
 
 use crate::limit::LOCKS;
+use par_refusals::refusal::Findings;
 use par_tree::decl::{Decl, LockDecl};
-use par_typed::refusal::Findings;
 
 // How many locks a declaration has, or the most that can be told.
 fn ground(actors: u32, lock: &LockDecl) -> u32

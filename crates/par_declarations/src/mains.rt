@@ -3,14 +3,14 @@
 ghost use Rattle.std.specs.Prelude.{◌≡◌, ◌++◌, map, flat_map, drop, OnOk, IfOk};
 ghost use Rattle.par_tree.specs.Shown as tree;
 ghost use Rattle.par_tree.specs.Shown.{source};
-ghost use Rattle.par_typed.specs.First.{first_of};
+ghost use Rattle.par_refusals.specs.First.{first_of};
 ghost use Rattle.par_names.specs.Program.{mains, main_fault, mains_faults};
 ghost use Rattle.par_declarations.specs.Mains.{is_main, mains_in, second_main};
 
 use crate::rule::WRONG_MAIN;
 use par_lexer::memory::NoMemory;
+use par_refusals::refusal::Findings;
 use par_tree::decl::{Decl, MethodDecl, Program};
-use par_typed::refusal::Findings;
 use std::alloc::Global;
 
 fn is_main(method: &MethodDecl) -> bool

@@ -1,7 +1,7 @@
 //! The rules on names in fields, channels, parameters and throws.
 
 ghost use Rattle.std.specs.Prelude.{◌≡◌, map, flat_map, drop, OnOk};
-ghost use Rattle.par_typed.specs.First.{first_of};
+ghost use Rattle.par_refusals.specs.First.{first_of};
 ghost use Rattle.par_names.specs.Declarations.{doubles};
 ghost use Rattle.par_names.specs.Policies.{policy_faults};
 ghost use Rattle.par_names.specs.Methods.{inferred_fault, field_faults, channel_faults};
@@ -15,9 +15,9 @@ use par_lexer::memory::NoMemory;
 use par_names::{
     Named, View, check_class, check_doubles, check_may_policy, check_policy, check_type, push_ids,
 };
+use par_refusals::refusal::Findings;
 use par_tree::decl::{ChannelDecl, FieldDecl, ParamDecl, ThrowDecl};
 use par_tree::policy::PolicyExpr;
-use par_typed::refusal::Findings;
 use std::alloc::Global;
 
 /// Notes each of these before which another one has its name.

@@ -2,7 +2,7 @@
 
 ghost use Rattle.std.specs.Prelude.{◌≡◌, flat_map, OnOk};
 ghost use Rattle.par_tree.specs.Shown as tree;
-ghost use Rattle.par_typed.specs.First.{first_of};
+ghost use Rattle.par_refusals.specs.First.{first_of};
 ghost use Rattle.par_names.specs.Methods.{head_faults, method_faults};
 ghost use Rattle.par_declarations.specs.Heads.{signature_faults, mark_faults, thrown_faults};
 ghost use Rattle.par_names.specs.Seen.{seen, class_seen};
@@ -10,8 +10,8 @@ ghost use Rattle.par_names.specs.Seen.{seen, class_seen};
 use crate::members::{check_effects, check_items, check_params, check_policies, check_throws};
 use par_lexer::memory::NoMemory;
 use par_names::{ClassNames, Home, View, check_body, check_locks, check_may_policy, check_result};
+use par_refusals::refusal::Findings;
 use par_tree::decl::MethodDecl;
-use par_typed::refusal::Findings;
 use std::alloc::Global;
 
 #[tactic(auto, using(par_names::proofs::Noted::note))]
@@ -100,7 +100,7 @@ fn check_method(
 }
 
 /// Notes the broken rules of methods of a class.
-#[tactic(auto, using(par_typed::proofs::First::firsts))]
+#[tactic(auto, using(par_refusals::proofs::First::firsts))]
 pub fn check_methods(
     alloc: Global,
     view: &View<'_>,

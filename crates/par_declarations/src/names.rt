@@ -2,7 +2,7 @@
 
 ghost use Rattle.std.specs.Prelude.{◌≡◌, ◌≤◌, [], None, length, map, OnOk, IfOk};
 ghost use Rattle.par_tree.specs.Shown.{source, class_of, declared};
-ghost use Rattle.par_typed.specs.First.{first_of};
+ghost use Rattle.par_refusals.specs.First.{first_of};
 ghost use Rattle.par_names.specs.Declarations as names;
 ghost use Rattle.par_names.specs.Declarations.{doubles, policies_in};
 ghost use Rattle.par_names.specs.Program.{program_doubles, declaration_faults};
@@ -16,8 +16,8 @@ use par_names::{
     Declared, Named, View, actors, builtin_classes, check_doubles, check_may_policy, check_policy,
     classes, locks, policies, push_named,
 };
+use par_refusals::refusal::{Findings, Refusal};
 use par_tree::decl::{ClassDecl, Decl, Program};
-use par_typed::refusal::{Findings, Refusal};
 use std::alloc::Global;
 
 // Notes each of these, which stand apart, before which another one has its name.

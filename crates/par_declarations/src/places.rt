@@ -3,15 +3,15 @@
 ghost use Rattle.std.specs.Prelude.{◌≡◌, ◌<◌, ◌≤◌, ◌++◌, length, map, slice_get, OnOk, IfOk};
 ghost use Rattle.par_tree.specs.Shown.{all_declared, class_of};
 ghost use Rattle.par_tree.specs.Shown as tree;
-ghost use Rattle.par_typed.specs.First.{first_of};
+ghost use Rattle.par_refusals.specs.First.{first_of};
 ghost use Rattle.par_declarations.specs.Limits.{one_too_many};
 ghost use Rattle.par_declarations.specs.Limits as place;
 
 use crate::limit::Limit;
 use par_lexer::memory::NoMemory;
+use par_refusals::refusal::{Findings, LIMIT_RULE, Refusal};
 use par_tree::decl::{ChannelDecl, ClassDecl, Decl, MethodDecl};
 use par_tree::ident::Ident;
-use par_typed::refusal::{Findings, LIMIT_RULE, Refusal};
 use std::alloc::Global;
 
 fn place(places: &[u32], number: usize) -> Option<u32>

@@ -4,7 +4,7 @@ use Rattle.std.specs.List.{AllByRecursion}
 use Rattle.par_tree.specs.declared.decl.LockDecl.{LockDecl}
 use Rattle.par_tree.specs.Plain as plain
 use Rattle.par_tree.specs.Plain.{Method, Class, Declaration, Source}
-use Rattle.par_typed.specs.declared.refusal.Refusal.{Refusal}
+use Rattle.par_refusals.specs.declared.refusal.Refusal.{Refusal}
 use Rattle.par_declarations.specs.par_names.Declarations.{actors_in, locks_in, classes_in, actors}
 use Rattle.par_declarations.specs.par_names.Declarations.{locks}
 use Rattle.par_declarations.specs.par_names.Declarations.{declared_classes}

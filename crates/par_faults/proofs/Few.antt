@@ -9,9 +9,9 @@ use Rattle.std.proofs.lemmas.Bool.{leb-true}
 use Rattle.std.proofs.lemmas.Bool.Decides.{nat_tests}
 use Rattle.par_tree.specs.declared.decl.LockDecl.{LockDecl}
 use Rattle.par_tree.specs.Plain.{Source}
-use Rattle.par_typed.specs.declared.refusal.Refusal.{Refusal}
-use Rattle.par_typed.specs.First.{when, in_passes, first_of, IsAnswer}
-use Rattle.par_typed.proofs.First.{answered}
+use Rattle.par_refusals.specs.declared.refusal.Refusal.{Refusal}
+use Rattle.par_refusals.specs.First.{when, in_passes, first_of, IsAnswer}
+use Rattle.par_refusals.proofs.First.{answered}
 use Rattle.par_declarations.specs.par_names.Declarations.{actors, locks}
 use Rattle.par_declarations.specs.declared.limit.Limit.{Limit}
 use Rattle.par_declarations.specs.declared.limit.TheConstants.{ACTORS, LOCKS}

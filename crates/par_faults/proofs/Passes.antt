@@ -1,10 +1,10 @@
 -- One pass after the other.
 use Rattle.std.proofs.Common.{◌≡◌, List, [], ◌∷◌, Option, Some, None, sym, ap, ◌∙◌, subst, IfOk}
 use Rattle.std.specs.Prelude.{Result, Ok, Err}
-use Rattle.par_typed.specs.declared.refusal.Refusal.{Refusal}
-use Rattle.par_typed.specs.First.{first_of, in_passes, IsAnswer, IsFirst}
-use Rattle.par_typed.proofs.First.{answered, first_of_none, first_stops}
-use Rattle.par_typed.proofs.First.{answer_passes_on}
+use Rattle.par_refusals.specs.declared.refusal.Refusal.{Refusal}
+use Rattle.par_refusals.specs.First.{first_of, in_passes, IsAnswer, IsFirst}
+use Rattle.par_refusals.proofs.First.{answered, first_of_none, first_stops}
+use Rattle.par_refusals.proofs.First.{answer_passes_on}
 use Rattle.par_faults.specs.Faults.{where_none}
 use Rattle.par_faults.proofs.Few.{none_is_nothing}
 

@@ -1,6 +1,6 @@
 -- Rules on names and limits are broken at places of the tree, or at its beginning.
 use Rattle.std.proofs.Common.{ℕ, List, [], ◌∷◌}
-use Rattle.par_typed.specs.declared.refusal.Refusal.{Refusal}
+use Rattle.par_refusals.specs.declared.refusal.Refusal.{Refusal}
 use Rattle.par_declarations.proofs.par_span_laws.Broken.{Within, join, passes_within}
 use Rattle.par_declarations.proofs.par_names.Places.{names_broken_within}
 use Rattle.par_declarations.specs.Limits.{declared_limits, count_faults}

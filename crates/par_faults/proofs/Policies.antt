@@ -5,7 +5,7 @@ use Rattle.std.specs.List.{AllByRecursion, flat_map, list_any}
 use Rattle.par_limits.specs.par_policy.declared.clauses.Clause.{Clause}
 use Rattle.par_tree.specs.declared.policy.PolicyExpr.{PolicyExpr}
 use Rattle.par_tree.specs.Plain.{Class, Source}
-use Rattle.par_typed.specs.declared.refusal.Refusal.{Refusal}
+use Rattle.par_refusals.specs.declared.refusal.Refusal.{Refusal}
 use Rattle.par_declarations.specs.par_names.Declarations.{locks, lock_named}
 use Rattle.par_declarations.specs.par_span_laws.Within.{IdentIn, LockIn, PolicyIn, FieldIn, ClassIn}
 use Rattle.par_declarations.specs.par_span_laws.Within.{IsWithin}

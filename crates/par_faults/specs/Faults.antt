@@ -1,8 +1,8 @@
 -- All that is broken of the rules on names and of the limits.
 use Rattle.std.specs.Prelude.{List, [], ◌∷◌, ◌++◌}
 use Rattle.par_tree.specs.Plain.{Source}
-use Rattle.par_typed.specs.declared.refusal.Refusal.{Refusal}
-use Rattle.par_typed.specs.First.{in_passes}
+use Rattle.par_refusals.specs.declared.refusal.Refusal.{Refusal}
+use Rattle.par_refusals.specs.First.{in_passes}
 use Rattle.par_declarations.specs.par_names.Program.{name_faults}
 use Rattle.par_limits.specs.par_resolved.Sizes.{all_literal_faults}
 use Rattle.par_limits.specs.par_resolved.Limits.{policy_faults}

@@ -4,7 +4,7 @@ ghost use Rattle.std.specs.Prelude.{◌≡◌, ◌≤◌, None, IfOk, OnOk};
 ghost use Rattle.par_lexer.specs.declared.cut.TheConstants.{LONGEST_SOURCE};
 ghost use Rattle.par_tree.specs.Shown.{source};
 ghost use Rattle.par_declarations.specs.par_parser.Bodies.{source_size};
-ghost use Rattle.par_typed.specs.First.{first_of, IsAnswer};
+ghost use Rattle.par_refusals.specs.First.{first_of, IsAnswer};
 ghost use Rattle.par_declarations.specs.Limits.{declared_limits};
 ghost use Rattle.par_limits.specs.par_resolved.Limits.{policy_faults};
 ghost use Rattle.par_limits.specs.par_resolved.Sizes.{all_literal_faults};
@@ -14,8 +14,8 @@ use par_declarations::{check_counts, check_declared, first_broken_name};
 use par_limits::par_resolved::NoMemory;
 use par_limits::par_resolved::literals::first_literal;
 use par_limits::par_resolved::written::written;
+use par_refusals::refusal::{Findings, Refusal};
 use par_tree::decl::Program;
-use par_typed::refusal::{Findings, Refusal};
 use std::alloc::Global;
 
 // The first limit of actors and locks that is exceeded.
@@ -69,7 +69,7 @@ fn check_policies(alloc: Global, program: &Program, findings: &mut Findings) -> 
     Ok(())
 }
 
-#[tactic(auto, using(par_typed::proofs::First::firsts))]
+#[tactic(auto, using(par_refusals::proofs::First::firsts))]
 fn first_limit(alloc: Global, program: &Program) -> Result<Option<Refusal>, NoMemory>
     requires { source_size (source program.now) ≤ LONGEST_SOURCE }
     ensures { IfOk result (λ first.

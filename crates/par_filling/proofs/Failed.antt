@@ -9,10 +9,10 @@ use Rattle.par_policy.proofs.Ordered.{Contains-nil, Contains-cons_cases, Contain
 use Rattle.par_policy.proofs.Ordered.{Contains-later}
 use Rattle.par_bits.specs.Sets.{Set}
 use Rattle.par_typed.specs.declared.table.Table.{Table}
-use Rattle.par_typed.specs.declared.refusal.Refusal.{Refusal}
-use Rattle.par_typed.specs.First.{broken, comes_before, when, first_of, IsAnswer}
+use Rattle.par_refusals.specs.declared.refusal.Refusal.{Refusal}
+use Rattle.par_refusals.specs.First.{broken, comes_before, when, first_of, IsAnswer}
 use Rattle.par_typed.specs.Plain.{Body}
-use Rattle.par_typed.proofs.First.{first_of_append, first_of_none}
+use Rattle.par_refusals.proofs.First.{first_of_append, first_of_none}
 use Rattle.par_flow_laws.specs.Lattice.{numbers}
 use Rattle.par_flow_laws.specs.Facts.{Facts}
 use Rattle.par_infer.specs.par_check_laws.Asked.{Check}

@@ -4,7 +4,7 @@ ghost use Rattle.std.specs.Prelude.{◌≡◌};
 ghost use Rattle.par_filling.specs.declared.error.InferError.TheVariants.{Memory};
 
 use par_base::memory::NoMemory;
-use par_typed::refusal::Refusal;
+use par_refusals::refusal::Refusal;
 use thiserror::Error;
 
 /// Why no policies are found.

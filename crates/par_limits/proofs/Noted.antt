@@ -6,9 +6,9 @@ use Rattle.std.specs.List.{flat_map}
 use Rattle.par_tree.specs.declared.decl.ClassDecl.{ClassDecl}
 use Rattle.par_tree.specs.Plain.{Class}
 use Rattle.par_tree.specs.Shown.{class_of}
-use Rattle.par_typed.specs.declared.refusal.Refusal.{Refusal}
-use Rattle.par_typed.specs.First.{first_of}
-use Rattle.par_typed.proofs.First.{first_of_none, first_of_append}
+use Rattle.par_refusals.specs.declared.refusal.Refusal.{Refusal}
+use Rattle.par_refusals.specs.First.{first_of}
+use Rattle.par_refusals.proofs.First.{first_of_none, first_of_append}
 use Rattle.par_resolved.specs.Gathered.{classes_of}
 use Rattle.par_resolved.proofs.Loops.{drop_more, none_left}
 

@@ -3,9 +3,9 @@ use Rattle.std.proofs.Common.{◌≡◌, List, [], ◌∷◌, ◌++◌, Option, 
 use Rattle.std.specs.List.{flat_map}
 use Rattle.par_tree.specs.Plain.{Source}
 use Rattle.par_tree.specs.declared.policy.PolicyExpr.{PolicyExpr}
-use Rattle.par_typed.specs.declared.refusal.Refusal.{Refusal}
-use Rattle.par_typed.specs.First.{first_of, in_passes, IsAnswer}
-use Rattle.par_typed.proofs.First.{answered, passes_on, stops, first_of_none, first_of_append}
+use Rattle.par_refusals.specs.declared.refusal.Refusal.{Refusal}
+use Rattle.par_refusals.specs.First.{first_of, in_passes, IsAnswer}
+use Rattle.par_refusals.proofs.First.{answered, passes_on, stops, first_of_none, first_of_append}
 use Rattle.par_resolved.specs.Policies.{Known, known}
 use Rattle.par_resolved.specs.Written.{written}
 use Rattle.par_resolved.specs.Sizes.{expression_faults, all_join_faults, literal_faults}

@@ -1,14 +1,14 @@
 // The first policy that is one too many.
 ghost use Rattle.std.specs.Prelude.{◌≡◌, ◌++◌, map, flat_map, slice_get, OnOk};
-ghost use Rattle.par_typed.specs.First.{first_of};
+ghost use Rattle.par_refusals.specs.First.{first_of};
 ghost use Rattle.par_resolved.specs.Gathered.{all_of, classes_of};
 ghost use Rattle.par_limits.specs.Places.{inferred_places, places_of, many_at};
 
+use par_refusals::refusal::{Findings, LIMIT_RULE, Refusal};
 use par_resolved::NoMemory;
 use par_resolved::entries::Entry;
 use par_resolved::limits::{MOST_POLICIES, POLICY_LIMIT};
 use par_tree::decl::{ClassDecl, FieldDecl};
-use par_typed::refusal::{Findings, LIMIT_RULE, Refusal};
 use std::alloc::Global;
 
 #[tactic(auto, using(par_resolved::proofs::Pushes::pushes))]
@@ -45,7 +45,7 @@ fn push_entries(places: &mut Vec<u32>, entries: &[&Entry]) -> Result<(), NoMemor
     Ok(())
 }
 
-#[tactic(auto, using(par_typed::proofs::First::tests), unfolding(crate::specs::Places::many_at))]
+#[tactic(auto, using(par_refusals::proofs::First::tests), unfolding(crate::specs::Places::many_at))]
 fn note_many(place: Option<u32>, findings: &mut Findings)
     ensures { findings.new ≡ first_of findings.old (many_at place) }
 {

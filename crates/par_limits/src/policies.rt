@@ -1,7 +1,7 @@
 // The first limit of policies that a program exceeds.
 ghost use Rattle.std.specs.Prelude.{◌≡◌, None, flat_map, slice_get, IfOk, OnOk};
 ghost use Rattle.par_tree.specs.Shown.{source};
-ghost use Rattle.par_typed.specs.First.{first_of, in_passes};
+ghost use Rattle.par_refusals.specs.First.{first_of, in_passes};
 ghost use Rattle.par_resolved.specs.Few.{HasFew};
 ghost use Rattle.par_resolved.specs.Policies.{known};
 ghost use Rattle.par_resolved.specs.Sizes.{all_join_faults};
@@ -15,6 +15,7 @@ ghost use Rattle.par_resolved.specs.Limits.{one_too_many, table_faults, policy_f
 use crate::distinct::distinct;
 use crate::listed::entries;
 use crate::many::check_many;
+use par_refusals::refusal::{Findings, Refusal};
 use par_resolved::NoMemory;
 use par_resolved::births::check_birth;
 use par_resolved::declared::classes;
@@ -25,7 +26,6 @@ use par_resolved::scope::{first_join, known};
 use par_resolved::written::written;
 use par_tree::decl::{ClassDecl, Program};
 use par_tree::policy::PolicyExpr;
-use par_typed::refusal::{Findings, Refusal};
 use std::alloc::Global;
 
 fn check_policies(
@@ -66,7 +66,7 @@ fn check_births(
 }
 
 // The first fault of the table, where every policy expression is within its limits.
-#[tactic(auto, using(par_typed::proofs::First::firsts))]
+#[tactic(auto, using(par_refusals::proofs::First::firsts))]
 fn first_of_table(
     alloc: Global,
     known: &Known<'_>,

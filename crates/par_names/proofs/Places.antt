@@ -26,7 +26,7 @@ use Rattle.par_tree.specs.Plain.{Else, Catches}
 use Rattle.par_tree.specs.Plain.{Catch, NoCatch, Handler, On, Local, Method, Class}
 use Rattle.par_tree.specs.Plain.{Declaration}
 use Rattle.par_tree.specs.Plain.{Source, place}
-use Rattle.par_typed.specs.declared.refusal.Refusal.{Refusal}
+use Rattle.par_refusals.specs.declared.refusal.Refusal.{Refusal}
 use Rattle.par_span_laws.specs.Within.{IdentIn, AreIn, TypeIn, ResultIn, LockIn, LocksIn, ClauseIn}
 use Rattle.par_span_laws.specs.Within.{TermIn, PolicyIn, MayPolicyIn, ExpIn, MayExpIn, ExpsIn}
 use Rattle.par_span_laws.specs.Within.{LocalIn}
@@ -53,7 +53,7 @@ use Rattle.par_names.specs.Program.{declaration_faults, declarations_faults, mai
 use Rattle.par_names.specs.Program.{mains_faults, program_doubles, name_faults}
 use Rattle.par_span_laws.proofs.Built.{place_in}
 use Rattle.par_span_laws.proofs.Broken.{both, each, mapped, filtered, behind_first}
-use Rattle.par_typed.specs.First.{when}
+use Rattle.par_refusals.specs.First.{when}
 use Rattle.par_span_laws.proofs.Broken as broken
 use Rattle.par_names.specs.Places.{NamesAreBrokenWithin}
 

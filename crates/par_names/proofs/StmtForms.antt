@@ -12,7 +12,7 @@ use Rattle.par_tree.specs.Plain.{Else, NoElse, Otherwise, Stas, End, Then, Catch
 use Rattle.par_tree.specs.Plain.{NoCatch, Catch}
 use Rattle.par_tree.specs.Plain.{Handler, On}
 use Rattle.par_tree.proofs.Shown.{shows, doings}
-use Rattle.par_typed.proofs.First.{firsts}
+use Rattle.par_refusals.proofs.First.{firsts}
 use Rattle.par_names.specs.Declarations.{doubles}
 use Rattle.par_names.specs.Policies.{View, lock_faults, class_fault}
 use Rattle.par_names.specs.Exprs.{Home, expr_faults, value_faults}

@@ -8,8 +8,8 @@ use Rattle.par_tree.specs.declared.decl.LockDecl.{LockDecl}
 use Rattle.par_tree.specs.declared.decl.PolicyDecl.{PolicyDecl}
 use Rattle.par_tree.specs.Plain.{Class, Declaration, Source, Actors, Lock, Policy}
 use Rattle.par_tree.specs.Plain.{Declared}
-use Rattle.par_typed.specs.declared.refusal.Refusal.{Refusal}
-use Rattle.par_typed.specs.First.{when, broken}
+use Rattle.par_refusals.specs.declared.refusal.Refusal.{Refusal}
+use Rattle.par_refusals.specs.First.{when, broken}
 
 -- ---- declarations of each kind
 

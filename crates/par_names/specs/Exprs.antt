@@ -9,8 +9,8 @@ use Rattle.par_tree.specs.Plain.{Call, Neg}
 use Rattle.par_tree.specs.Plain.{Not, Binary}
 use Rattle.par_tree.specs.Plain.{Exps, NoExps, More, MayExp, Absent, Present, Class}
 use Rattle.par_tree.specs.Plain.{place}
-use Rattle.par_typed.specs.declared.refusal.Refusal.{Refusal}
-use Rattle.par_typed.specs.First.{when, broken}
+use Rattle.par_refusals.specs.declared.refusal.Refusal.{Refusal}
+use Rattle.par_refusals.specs.First.{when, broken}
 use Rattle.par_names.specs.Declarations.{class_named}
 use Rattle.par_names.specs.Members.{selected_named, callee_named, is_static}
 use Rattle.par_names.specs.Policies.{View, class_fault}

@@ -7,8 +7,8 @@ use Rattle.par_tree.specs.declared.decl.ChannelDecl.{ChannelDecl}
 use Rattle.par_tree.specs.declared.decl.ParamDecl.{ParamDecl}
 use Rattle.par_tree.specs.declared.decl.ThrowDecl.{ThrowDecl}
 use Rattle.par_tree.specs.Plain.{Class, Method}
-use Rattle.par_typed.specs.declared.refusal.Refusal.{Refusal}
-use Rattle.par_typed.specs.First.{when, broken}
+use Rattle.par_refusals.specs.declared.refusal.Refusal.{Refusal}
+use Rattle.par_refusals.specs.First.{when, broken}
 use Rattle.par_names.specs.Declarations.{doubles}
 use Rattle.par_names.specs.Members.{callee_ids}
 use Rattle.par_names.specs.Policies.{View, policy_faults, may_policy_faults, lock_faults}

@@ -14,8 +14,8 @@ use Rattle.par_tree.specs.declared.policy.PolicyTerm.TheVariants.{Top}
 use Rattle.par_tree.specs.declared.policy.PolicyExpr.{PolicyExpr}
 use Rattle.par_tree.specs.declared.decl.LockDecl.{LockDecl}
 use Rattle.par_tree.specs.Plain.{Class}
-use Rattle.par_typed.specs.declared.refusal.Refusal.{Refusal}
-use Rattle.par_typed.specs.First.{when, broken}
+use Rattle.par_refusals.specs.declared.refusal.Refusal.{Refusal}
+use Rattle.par_refusals.specs.First.{when, broken}
 use Rattle.par_names.specs.Declarations.{lock_named, class_named}
 
 -- What a place of the source sees: all actors, locks and classes of the program, and the policies

@@ -6,8 +6,8 @@ use Rattle.std.specs.List.{filter}
 use Rattle.std.specs.Str.{bytes_eq}
 use Rattle.par_tree.specs.Plain.{Method, Declaration, Source, Actors, Lock, Policy}
 use Rattle.par_tree.specs.Plain.{Declared}
-use Rattle.par_typed.specs.declared.refusal.Refusal.{Refusal}
-use Rattle.par_typed.specs.First.{when, broken}
+use Rattle.par_refusals.specs.declared.refusal.Refusal.{Refusal}
+use Rattle.par_refusals.specs.First.{when, broken}
 use Rattle.par_names.specs.Declarations.{actors, locks, policies, policies_in, classes, doubles}
 use Rattle.par_names.specs.Policies.{View, policy_faults, may_policy_faults}
 use Rattle.par_names.specs.Methods.{class_faults}

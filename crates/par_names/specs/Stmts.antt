@@ -11,8 +11,8 @@ use Rattle.par_tree.specs.Plain.{Local}
 use Rattle.par_tree.specs.Plain.{Else, NoElse, Otherwise, Stas, End, Then, Catches}
 use Rattle.par_tree.specs.Plain.{NoCatch, Catch}
 use Rattle.par_tree.specs.Plain.{Handler, On}
-use Rattle.par_typed.specs.declared.refusal.Refusal.{Refusal}
-use Rattle.par_typed.specs.First.{when, broken}
+use Rattle.par_refusals.specs.declared.refusal.Refusal.{Refusal}
+use Rattle.par_refusals.specs.First.{when, broken}
 use Rattle.par_names.specs.Declarations.{doubles}
 use Rattle.par_names.specs.Policies.{View, lock_faults, may_policy_faults, class_fault, type_fault}
 use Rattle.par_names.specs.Exprs.{Home, expr_faults, value_faults}

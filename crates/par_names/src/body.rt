@@ -5,7 +5,7 @@ ghost use Rattle.par_tree.specs.Shown as tree;
 ghost use Rattle.par_tree.specs.Shown.{does, braces, otherwise, may_braces, all_do};
 ghost use Rattle.par_tree.specs.Shown.{all_catch};
 ghost use Rattle.par_tree.specs.Shown.{handler, shown};
-ghost use Rattle.par_typed.specs.First.{first_of};
+ghost use Rattle.par_refusals.specs.First.{first_of};
 ghost use Rattle.par_names.specs.Declarations.{doubles};
 ghost use Rattle.par_names.specs.Exprs.{expr_faults};
 ghost use Rattle.par_names.specs.Stmts.{taken_fault, local_faults, declares, all_caught};
@@ -20,11 +20,11 @@ use crate::rule::SECOND_NAME;
 use crate::scope::Scope;
 use crate::view::{Home, View};
 use par_index::par_base::memory::NoMemory;
+use par_refusals::refusal::Findings;
 use par_tree::decl::ParamDecl;
 use par_tree::expr::Expr;
 use par_tree::ident::Ident;
 use par_tree::stmt::{Block, CatchTree, LocalDecl, Stmt, StmtKind};
-use par_typed::refusal::Findings;
 use std::alloc::Global;
 
 /// Notes the broken rules of a body, in all of which its parameters are in scope.

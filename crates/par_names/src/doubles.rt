@@ -1,15 +1,15 @@
 //! Names that are declared twice.
 
 ghost use Rattle.std.specs.Prelude.{◌≡◌, map, IfOk, OnOk};
-ghost use Rattle.par_typed.specs.First.{first_of};
+ghost use Rattle.par_refusals.specs.First.{first_of};
 ghost use Rattle.par_names.specs.Declarations.{doubles};
 ghost use Rattle.par_names.specs.Earliest.{is_below, place_of, AreEarliest, IsNoted};
 
 use crate::rule::SECOND_NAME;
 use indexmap::IndexMap;
 use par_index::par_base::memory::NoMemory;
+use par_refusals::refusal::Findings;
 use par_tree::ident::Ident;
-use par_typed::refusal::Findings;
 use std::alloc::Global;
 
 /// The least place of each name.

@@ -3,7 +3,7 @@
 ghost use Rattle.std.specs.Prelude.{◌≡◌};
 ghost use Rattle.std.specs.Option.{option_copied};
 ghost use Rattle.par_tree.specs.Shown.{shown, may_shown, receiver, all_shown};
-ghost use Rattle.par_typed.specs.First.{first_of};
+ghost use Rattle.par_refusals.specs.First.{first_of};
 ghost use Rattle.par_names.specs.Declarations.{class_named};
 ghost use Rattle.par_names.specs.Members as members;
 ghost use Rattle.par_names.specs.Exprs.{own_fault, name_fault, class_before, static_fault};
@@ -15,9 +15,9 @@ use crate::rule::UNKNOWN_NAME;
 use crate::scope::Scope;
 use crate::view::{Home, View};
 use par_index::par_base::name::Name;
+use par_refusals::refusal::Findings;
 use par_tree::expr::{Expr, ExprKind};
 use par_tree::ident::Ident;
-use par_typed::refusal::Findings;
 
 // A member of the own class, which a static method has only where it is static.
 #[tactic(auto, using(crate::proofs::Noted::note), unfolding(crate::specs::Exprs::own_fault))]

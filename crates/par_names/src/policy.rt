@@ -2,7 +2,7 @@
 
 ghost use Rattle.std.specs.Prelude.{◌≡◌};
 ghost use Rattle.std.specs.List.{flat_map};
-ghost use Rattle.par_typed.specs.First.{first_of};
+ghost use Rattle.par_refusals.specs.First.{first_of};
 ghost use Rattle.par_names.specs.Policies.{actor_fault, arity_fault, lock_faults, clause_faults};
 ghost use Rattle.par_names.specs.Policies.{term_faults, policy_faults, may_policy_faults};
 ghost use Rattle.par_names.specs.Policies.{named_fault, class_fault, type_fault, result_fault};
@@ -11,10 +11,10 @@ ghost use Rattle.par_names.specs.Seen.{seen};
 
 use crate::rule::{OTHER_ARITY, UNKNOWN_ACTOR, UNKNOWN_NAME};
 use crate::view::View;
+use par_refusals::refusal::Findings;
 use par_tree::ident::Ident;
 use par_tree::policy::{ClauseTree, LockTree, PolicyExpr, PolicyTerm};
 use par_tree::types::TypeTree;
-use par_typed::refusal::Findings;
 
 fn check_actor(view: &View<'_>, actor: &Ident, findings: &mut Findings)
     ensures { findings.new ≡ first_of findings.old (actor_fault (seen view.now) actor.now) }

@@ -13,10 +13,10 @@ use Rattle.par_parser.specs.Sentence.{IsSentence, HasFault}
 use Rattle.par_tree.specs.Plain.{Source}
 use Rattle.par_tree.specs.Values as whole
 use Rattle.par_policy.proofs.Ordered.{Contains-nil}
-use Rattle.par_typed.specs.declared.refusal.Refusal.{Refusal}
+use Rattle.par_refusals.specs.declared.refusal.Refusal.{Refusal}
 use Rattle.par_typed.specs.declared.table.Table.{Table}
 use Rattle.par_typed.specs.declared.program.Typed.{Typed}
-use Rattle.par_typed.proofs.First.{answer_passes_on}
+use Rattle.par_refusals.proofs.First.{answer_passes_on}
 use Rattle.par_typed.specs.Plain.{Body}
 use Rattle.par_resolved.specs.Resolved.{table_of}
 use Rattle.par_table.specs.par_faults.Faults.{all_faults}

@@ -11,7 +11,7 @@ use Rattle.par_typed.specs.declared.table.ClassInfo.{ClassInfo}
 use Rattle.par_typed.specs.declared.table.Table.{Table}
 use Rattle.par_typed.specs.Plain.{Body}
 use Rattle.par_typed.specs.Shown.{bodies}
-use Rattle.par_typed.specs.First.{first_of}
+use Rattle.par_refusals.specs.First.{first_of}
 use Rattle.par_type_rules.specs.Inferred.{all_inferred}
 use Rattle.par_table.proofs.par_faults.Few.{none_is_nothing}
 use Rattle.par_secure_laws.specs.par_typed_laws.WellTyped.{IsWellTyped}

@@ -12,7 +12,7 @@ use Rattle.par_lexer.specs.Tokens.{HasTokens}
 use Rattle.par_lexer.specs.Spans.{IsLaid, Stands}
 use Rattle.par_tree.specs.Plain.{Source}
 use Rattle.par_parser.specs.Sentence as syntax
-use Rattle.par_typed.specs.declared.refusal.Refusal.{Refusal}
+use Rattle.par_refusals.specs.declared.refusal.Refusal.{Refusal}
 use Rattle.par_span_laws.specs.Law.{BeginWithin}
 use Rattle.par_span_laws.specs.Within.{IsWithin}
 use Rattle.par_span_laws.specs.Broken.{AreBrokenWithin}

@@ -1,9 +1,9 @@
 -- The first broken rule of all passes over a tree, from those of each pass.
 use Rattle.std.proofs.Common.{◌≡◌, List, [], ◌∷◌, Option, Some, None, refl, sym, subst}
 use Rattle.par_tree.specs.Plain.{Source}
-use Rattle.par_typed.specs.declared.refusal.Refusal.{Refusal}
-use Rattle.par_typed.specs.First.{IsFirst, IsAnswer, first_of, in_passes}
-use Rattle.par_typed.proofs.First.{answered, first_stops, answer_passes_on}
+use Rattle.par_refusals.specs.declared.refusal.Refusal.{Refusal}
+use Rattle.par_refusals.specs.First.{IsFirst, IsAnswer, first_of, in_passes}
+use Rattle.par_refusals.proofs.First.{answered, first_stops, answer_passes_on}
 use Rattle.par_resolved.specs.Resolved.{table_of}
 use Rattle.par_table.specs.par_faults.Faults.{all_faults}
 use Rattle.par_type_rules.specs.Program.{type_faults}

@@ -1,6 +1,6 @@
 -- What is broken in a tree is broken at places of the tree, or at its beginning.
 use Rattle.std.proofs.Common.{◌≤◌, subst}
-use Rattle.par_typed.specs.declared.refusal.Refusal.{Refusal}
+use Rattle.par_refusals.specs.declared.refusal.Refusal.{Refusal}
 use Rattle.par_typed.specs.declared.table.Table.{Table}
 use Rattle.par_flow_laws.specs.Declares.{declares}
 use Rattle.par_check_laws.specs.Verdict.{Fails}

@@ -15,8 +15,8 @@ use Rattle.par_lexer.proofs.Refusals.{broken_within}
 use Rattle.par_grammar.specs.Derivation.{Fault}
 use Rattle.par_tree.specs.Plain.{Source}
 use Rattle.par_parser.specs.Sentence.{HasFault, rule_of, before, place_of}
-use Rattle.par_typed.specs.declared.refusal.Refusal.{Refusal}
-use Rattle.par_typed.specs.First.{broken}
+use Rattle.par_refusals.specs.declared.refusal.Refusal.{Refusal}
+use Rattle.par_refusals.specs.First.{broken}
 use Rattle.par_observer.specs.declared.error.JudgeError.{JudgeError}
 use Rattle.par_observer.specs.declared.error.JudgeError.TheVariants as judged
 use Rattle.par_observer.specs.Judgements.{IsFaultOf, BreaksAs, IsBrokenAs, IsStoppedAs, IsUnread}

@@ -7,8 +7,8 @@ use Rattle.par_lexer.specs.declared.cut.TheConstants.{LONGEST_SOURCE}
 use Rattle.par_lexer.specs.Tokens.{HasTokens, LexBroken}
 use Rattle.par_tree.specs.Plain.{Source}
 use Rattle.par_parser.specs.Sentence as syntax
-use Rattle.par_typed.specs.declared.refusal.Refusal.{Refusal}
-use Rattle.par_typed.specs.First.{broken}
+use Rattle.par_refusals.specs.declared.refusal.Refusal.{Refusal}
+use Rattle.par_refusals.specs.First.{broken}
 use Rattle.par_typed.specs.declared.program.Typed.{Typed}
 use Rattle.par_observer.specs.declared.error.JudgeError.{JudgeError}
 use Rattle.par_observer.specs.declared.error.JudgeError.TheVariants.{Refused, Memory}

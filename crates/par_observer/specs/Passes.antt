@@ -1,8 +1,8 @@
 -- The passes over the tree of a source.
 use Rattle.std.specs.Prelude.{List}
 use Rattle.par_tree.specs.Plain.{Source}
-use Rattle.par_typed.specs.declared.refusal.Refusal.{Refusal}
-use Rattle.par_typed.specs.First.{in_passes}
+use Rattle.par_refusals.specs.declared.refusal.Refusal.{Refusal}
+use Rattle.par_refusals.specs.First.{in_passes}
 use Rattle.par_resolved.specs.Resolved.{table_of}
 use Rattle.par_table.specs.par_faults.Faults.{all_faults}
 use Rattle.par_type_rules.specs.Program.{type_faults}

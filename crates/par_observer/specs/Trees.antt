@@ -3,8 +3,8 @@ use Rattle.std.specs.Prelude.{◌≡◌, ℕ, ◌≤◌, List, [], Contains, len
 use Rattle.std.specs.List.{AllByRecursion}
 use Rattle.par_tree.specs.Plain.{Source}
 use Rattle.par_typed.specs.declared.program.Typed.{Typed}
-use Rattle.par_typed.specs.declared.refusal.Refusal.{Refusal}
-use Rattle.par_typed.specs.First.{IsFirst}
+use Rattle.par_refusals.specs.declared.refusal.Refusal.{Refusal}
+use Rattle.par_refusals.specs.First.{IsFirst}
 use Rattle.par_typed.specs.Shown.{bodies}
 use Rattle.par_resolved.specs.Resolved.{table_of}
 use Rattle.par_table.specs.par_faults.Faults.{all_faults}

@@ -1,9 +1,9 @@
 ghost use Rattle.std.specs.Prelude.{◌≡◌};
-ghost use Rattle.par_typed.specs.First.{broken};
+ghost use Rattle.par_refusals.specs.First.{broken};
 ghost use Rattle.par_observer.specs.declared.error.JudgeError.TheVariants.{Memory};
 
 use par_lexer::memory::NoMemory;
-use par_typed::refusal::Refusal;
+use par_refusals::refusal::Refusal;
 use thiserror::Error;
 
 /// Why a source is not accepted.

@@ -15,8 +15,8 @@ use crate::sentence::{read_sentence, tokens_of};
 use crate::tree::{judge_tree, type_tree};
 use par_check::Accepted;
 use par_lexer::LONGEST_SOURCE;
+use par_refusals::refusal::Refusal;
 use par_typed::program::Typed;
-use par_typed::refusal::Refusal;
 use std::alloc::Global;
 
 /// The rule on the length of a source.

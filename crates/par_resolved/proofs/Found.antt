@@ -4,9 +4,9 @@ use Rattle.std.proofs.Common.{length, drop, get_or, Option, Some, None, refl, sy
 use Rattle.std.specs.Prelude.{find}
 use Rattle.std.specs.Borrow.{Bor}
 use Rattle.std.specs.List.{flat_map}
-use Rattle.par_typed.specs.declared.refusal.Refusal.{Refusal}
-use Rattle.par_typed.specs.First.{first_of}
-use Rattle.par_typed.proofs.First.{first_of_none, first_of_append}
+use Rattle.par_refusals.specs.declared.refusal.Refusal.{Refusal}
+use Rattle.par_refusals.specs.First.{first_of}
+use Rattle.par_refusals.proofs.First.{first_of_none, first_of_append}
 use Rattle.par_resolved.specs.Gathered.{all_of}
 use Rattle.par_resolved.proofs.Loops.{drop_more, none_left}
 

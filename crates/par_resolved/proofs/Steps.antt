@@ -2,7 +2,7 @@
 use Rattle.std.proofs.Common.{◌≡◌, ℕ, true, false, List, [], ◌∷◌, ◌++◌, map, Option, Some, None}
 use Rattle.std.proofs.Common.{refl, sym, ap, ◌∙◌}
 use Rattle.par_typed.specs.par_policy.declared.clauses.Clause.{Clause}
-use Rattle.par_typed.proofs.First.{first_of_none}
+use Rattle.par_refusals.proofs.First.{first_of_none}
 use Rattle.par_resolved.specs.Sets.{joined}
 use Rattle.par_resolved.specs.Policies.{all_some, and_more, fits, join_with, join_of}
 use Rattle.par_resolved.specs.Sizes.{form_faults, steps_faults, join_faults}

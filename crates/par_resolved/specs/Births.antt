@@ -6,8 +6,8 @@ use Rattle.par_typed.specs.par_policy.Sees.{sees}
 use Rattle.par_tree.specs.declared.policy.PolicyExpr.{PolicyExpr}
 use Rattle.par_tree.specs.declared.decl.FieldDecl.{FieldDecl}
 use Rattle.par_tree.specs.Plain.{Class}
-use Rattle.par_typed.specs.declared.refusal.Refusal.{Refusal}
-use Rattle.par_typed.specs.First.{when, broken}
+use Rattle.par_refusals.specs.declared.refusal.Refusal.{Refusal}
+use Rattle.par_refusals.specs.First.{when, broken}
 use Rattle.par_resolved.specs.Sets.{met}
 use Rattle.par_resolved.specs.Policies.{Known, bottom, policy_of}
 use Rattle.par_resolved.specs.Sizes.{form_faults}

@@ -1,8 +1,8 @@
 -- The limits of policies, and the rule on birth policies.
 use Rattle.std.specs.Prelude.{List, [], ◌∷◌, ◌++◌, ◌+◌, flat_map, slice_get, Option, None, Some}
 use Rattle.par_tree.specs.Plain.{Source}
-use Rattle.par_typed.specs.declared.refusal.Refusal.{Refusal}
-use Rattle.par_typed.specs.First.{exceeded, in_passes}
+use Rattle.par_refusals.specs.declared.refusal.Refusal.{Refusal}
+use Rattle.par_refusals.specs.First.{exceeded, in_passes}
 use Rattle.par_resolved.specs.declared.limits.TheConstants.{MOST_POLICIES}
 use Rattle.par_resolved.specs.Policies.{Known, known}
 use Rattle.par_resolved.specs.Sizes.{all_literal_faults, all_join_faults}

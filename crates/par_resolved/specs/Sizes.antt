@@ -7,8 +7,8 @@ use Rattle.par_tree.specs.declared.policy.PolicyTerm.TheVariants.{Clauses, Named
 use Rattle.par_tree.specs.declared.policy.PolicyTerm.TheVariants.{Top}
 use Rattle.par_tree.specs.declared.policy.PolicyExpr.{PolicyExpr}
 use Rattle.par_tree.specs.Plain.{Source}
-use Rattle.par_typed.specs.declared.refusal.Refusal.{Refusal}
-use Rattle.par_typed.specs.First.{exceeded}
+use Rattle.par_refusals.specs.declared.refusal.Refusal.{Refusal}
+use Rattle.par_refusals.specs.First.{exceeded}
 use Rattle.par_resolved.specs.declared.limits.TheConstants.{CLAUSE_LIMIT, MOST_CLAUSES, LOCK_LIMIT}
 use Rattle.par_resolved.specs.declared.limits.TheConstants.{MOST_LOCKS}
 use Rattle.par_resolved.specs.Sets.{joined}

@@ -2,7 +2,7 @@
 ghost use Rattle.std.specs.Prelude.{◌≡◌, map, fold, IfOk, OnOk};
 ghost use Rattle.std.specs.List.{list_all};
 ghost use Rattle.par_tree.specs.Shown.{class_of};
-ghost use Rattle.par_typed.specs.First.{first_of};
+ghost use Rattle.par_refusals.specs.First.{first_of};
 ghost use Rattle.par_resolved.specs.Sets.{met};
 ghost use Rattle.par_resolved.specs.Births.{part_policies, meet_of, birth_policy, is_below};
 ghost use Rattle.par_resolved.specs.Births.{birth_faults};
@@ -13,10 +13,10 @@ use crate::joins::note_form;
 use crate::known::{Known, bottom};
 use crate::limits::BIRTH_RULE;
 use par_base::memory::NoMemory;
+use par_refusals::refusal::Findings;
 use par_tree::decl::{ClassDecl, FieldDecl};
 use par_tree::policy::PolicyExpr;
 use par_typed::par_policy::Policy;
-use par_typed::refusal::Findings;
 use std::alloc::Global;
 
 /// The policies of the fields of an object that are not inferred.

@@ -1,7 +1,7 @@
 // Joins from the left, within the limits of a policy.
 ghost use Rattle.std.specs.Prelude.{◌≡◌, nat_le, nat_lt, find, map, length, IfOk, OnOk, Some};
 ghost use Rattle.std.specs.List.{list_all};
-ghost use Rattle.par_typed.specs.First.{first_of};
+ghost use Rattle.par_refusals.specs.First.{first_of};
 ghost use Rattle.par_resolved.specs.Policies.{fits, join_with, join_of};
 ghost use Rattle.par_resolved.specs.Sizes.{exceeded_by, form_faults, steps_faults, join_faults};
 
@@ -9,8 +9,8 @@ use crate::forms::joined;
 use crate::known::top;
 use crate::limits::{CLAUSE_LIMIT, LOCK_LIMIT, MOST_CLAUSES, MOST_LOCKS};
 use par_base::memory::NoMemory;
+use par_refusals::refusal::{Findings, LIMIT_RULE, Refusal};
 use par_typed::par_policy::{Clause, Policy};
-use par_typed::refusal::{Findings, LIMIT_RULE, Refusal};
 use std::alloc::Global;
 
 /// Whether a policy is within the limits of clauses and of their locks.
@@ -30,7 +30,7 @@ fn have_few_locks(clauses: &[Clause]) -> bool
 }
 
 /// Notes that a limit is exceeded by this count, if there is one.
-#[tactic(auto, using(par_typed::proofs::First::notes), unfolding(crate::specs::Sizes::exceeded_by))]
+#[tactic(auto, using(par_refusals::proofs::First::notes), unfolding(crate::specs::Sizes::exceeded_by))]
 pub fn note_exceeded(limit: u8, at: u32, count: Option<usize>, findings: &mut Findings)
     ensures { findings.new ≡ first_of findings.old (exceeded_by limit at count) }
 {
@@ -54,7 +54,7 @@ fn too_many_locks(clauses: &[Clause]) -> Option<usize>
 }
 
 /// Notes the limits that a normal form exceeds at this place.
-#[tactic(auto, using(par_typed::proofs::First::firsts))]
+#[tactic(auto, using(par_refusals::proofs::First::firsts))]
 pub fn note_form(at: u32, policy: &Policy, findings: &mut Findings)
     ensures { findings.new ≡ first_of findings.old (form_faults at policy.now) }
 {

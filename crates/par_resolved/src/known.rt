@@ -9,7 +9,7 @@ ghost use Rattle.par_resolved.specs.Policies.{value_at, value_of, policy_of};
 ghost use Rattle.par_resolved.specs.Births.{policy_or_bottom};
 ghost use Rattle.par_resolved.specs.Sizes.{expression_faults};
 ghost use Rattle.par_resolved.specs.Seen.{seen, known_seen};
-ghost use Rattle.par_typed.specs.First.{first_of};
+ghost use Rattle.par_refusals.specs.First.{first_of};
 
 use crate::forms::form;
 use crate::joins::join_all;
@@ -17,9 +17,9 @@ use crate::numbers::Numbers;
 use par_base::memory::NoMemory;
 use par_base::name::Name;
 use par_names::par_index::NameIndex;
+use par_refusals::refusal::Findings;
 use par_tree::policy::{ClauseTree, LockTree, PolicyExpr, PolicyTerm};
 use par_typed::par_policy::{Clause, Lockset, Policy};
-use par_typed::refusal::Findings;
 use std::alloc::Global;
 
 /// What a policy expression is read by: numbers, the names of all declared policies, and what the

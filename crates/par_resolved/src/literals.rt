@@ -1,13 +1,13 @@
 // Limits of the literals of policy expressions.
 ghost use Rattle.std.specs.Prelude.{◌≡◌, nat_lt, map, flat_map, find, length, None};
-ghost use Rattle.par_typed.specs.First.{first_of};
+ghost use Rattle.par_refusals.specs.First.{first_of};
 ghost use Rattle.par_resolved.specs.Sizes.{literal_sizes, literal_locks, literal_faults};
 ghost use Rattle.par_resolved.specs.Gathered.{all_of};
 
 use crate::joins::note_exceeded;
 use crate::limits::{CLAUSE_LIMIT, LOCK_LIMIT, MOST_CLAUSES, MOST_LOCKS};
+use par_refusals::refusal::{Findings, Refusal};
 use par_tree::policy::{ClauseTree, PolicyExpr, PolicyTerm};
-use par_typed::refusal::{Findings, Refusal};
 
 /// The first limit that a literal of these exceeds, as it is written.
 pub fn first_literal(exprs: &[&PolicyExpr]) -> Option<Refusal>
@@ -20,7 +20,7 @@ pub fn first_literal(exprs: &[&PolicyExpr]) -> Option<Refusal>
     findings.first()
 }
 
-#[tactic(auto, using(par_typed::proofs::First::firsts))]
+#[tactic(auto, using(par_refusals::proofs::First::firsts))]
 fn check_literals(e: &PolicyExpr, findings: &mut Findings)
     ensures { findings.new ≡ first_of findings.old (literal_faults e.now) }
 {

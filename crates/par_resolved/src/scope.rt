@@ -1,7 +1,7 @@
 // What is known of a whole program.
 ghost use Rattle.std.specs.Prelude.{◌≡◌, None, flat_map, IfOk, OnOk};
 ghost use Rattle.par_tree.specs.Shown.{source};
-ghost use Rattle.par_typed.specs.First.{first_of};
+ghost use Rattle.par_refusals.specs.First.{first_of};
 ghost use Rattle.par_resolved.specs.Few.{HasFew};
 ghost use Rattle.par_resolved.specs.Policies.{known, known_behind};
 ghost use Rattle.par_resolved.specs.Sizes.{expression_faults};
@@ -13,9 +13,9 @@ use crate::known::Known;
 use crate::numbers::Numbers;
 use par_base::memory::NoMemory;
 use par_names::par_index::NameIndex;
+use par_refusals::refusal::{Findings, Refusal};
 use par_tree::decl::{PolicyDecl, Program};
 use par_tree::policy::PolicyExpr;
-use par_typed::refusal::{Findings, Refusal};
 use std::alloc::Global;
 
 /// What is known of a program, all declared policies read.

@@ -10,8 +10,8 @@ use Rattle.std.proofs.lemmas.Slice.Eq.{bytes_eq-Decides}
 use Rattle.par_tree.specs.declared.ident.Ident.{Ident}
 use Rattle.par_tree.specs.declared.decl.FieldDecl.{FieldDecl}
 use Rattle.par_tree.specs.Plain.{Class, Source}
-use Rattle.par_typed.specs.declared.refusal.Refusal.{Refusal}
-use Rattle.par_typed.specs.First.{when}
+use Rattle.par_refusals.specs.declared.refusal.Refusal.{Refusal}
+use Rattle.par_refusals.specs.First.{when}
 use Rattle.par_names.specs.Declarations.{actors, locks, policies, declared_classes, classes}
 use Rattle.par_names.specs.Declarations.{has_earlier, double_fault, doubles}
 use Rattle.par_names.specs.Members.{callee_ids}

@@ -5,8 +5,8 @@ use Rattle.std.specs.List.{AllByRecursion}
 use Rattle.par_tree.specs.declared.decl.FieldDecl.{FieldDecl}
 use Rattle.par_tree.specs.Plain as plain
 use Rattle.par_tree.specs.Plain.{Class, Declaration, Source}
-use Rattle.par_typed.specs.declared.refusal.Refusal.{Refusal}
-use Rattle.par_typed.specs.First.{when}
+use Rattle.par_refusals.specs.declared.refusal.Refusal.{Refusal}
+use Rattle.par_refusals.specs.First.{when}
 use Rattle.par_names.specs.Declarations.{classes_in, declared_classes}
 use Rattle.par_typed_laws.specs.par_type_rules.Inferred.{fields_inferred, declaration_inferred}
 use Rattle.par_typed_laws.specs.par_type_rules.Inferred.{all_inferred}

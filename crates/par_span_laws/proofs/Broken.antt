@@ -1,8 +1,8 @@
 -- Rules that are broken within a bound.
 use Rattle.std.proofs.Common.{ℕ, ◌≤◌, Bool, true, false, cond, List, [], ◌∷◌, ◌++◌, map, drop}
 use Rattle.std.specs.List.{AllByRecursion, flat_map, filter}
-use Rattle.par_typed.specs.declared.refusal.Refusal.{Refusal}
-use Rattle.par_typed.specs.First.{when, in_passes}
+use Rattle.par_refusals.specs.declared.refusal.Refusal.{Refusal}
+use Rattle.par_refusals.specs.First.{when, in_passes}
 use Rattle.par_span_laws.specs.Broken.{AreBrokenWithin}
 
 pub both : {A : Type 0} (P : A → Type 0) (xs ys : List A) → AllByRecursion P xs

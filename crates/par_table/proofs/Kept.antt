@@ -14,9 +14,9 @@ use Rattle.par_tree.specs.Plain as plain
 use Rattle.par_tree.specs.Plain.{Method, Declaration, Source}
 use Rattle.par_faults.specs.par_parser.Bodies.{method_size, methods_size, declaration_size}
 use Rattle.par_faults.specs.par_parser.Bodies.{source_size}
-use Rattle.par_typed.specs.declared.refusal.Refusal.{Refusal}
-use Rattle.par_typed.specs.First.{in_passes, first_of}
-use Rattle.par_typed.proofs.First.{first_of_none}
+use Rattle.par_refusals.specs.declared.refusal.Refusal.{Refusal}
+use Rattle.par_refusals.specs.First.{in_passes, first_of}
+use Rattle.par_refusals.proofs.First.{first_of_none}
 use Rattle.par_names.specs.Declarations.{builtins, classes_in, classes, declared_classes}
 use Rattle.par_names.specs.Program.{name_faults}
 use Rattle.par_faults.specs.par_declarations.declared.limit.Limit.{Limit}

@@ -1,8 +1,8 @@
 ghost use Rattle.std.specs.Prelude.{◌≡◌};
 ghost use Rattle.par_table.specs.declared.error.NameError.TheVariants.{Memory};
 
+use par_refusals::refusal::Refusal;
 use par_resolved::NoMemory;
-use par_typed::refusal::Refusal;
 use thiserror::Error;
 
 /// Why a program has no table.

@@ -1,6 +1,6 @@
 -- What is told of inferred policies.
 use Rattle.std.proofs.Common.{◌≡◌, ℕ, ◌≤◌, List, sym, subst, ap}
-use Rattle.par_typed.specs.declared.refusal.Refusal.{Refusal}
+use Rattle.par_refusals.specs.declared.refusal.Refusal.{Refusal}
 use Rattle.par_typed.specs.declared.program.Typed.{Typed}
 use Rattle.par_typed.specs.Shown.{bodies}
 use Rattle.par_reached.specs.Reached.{set_at}

@@ -3,7 +3,7 @@ use Rattle.std.proofs.Common.{ℕ, ◌≤◌, List, length, arith, refl}
 use Rattle.par_lexer.specs.declared.cut.TheConstants.{LONGEST_SOURCE}
 use Rattle.par_lexer.specs.Places.{line_at, column_at}
 use Rattle.par_tree.specs.Plain.{Source}
-use Rattle.par_typed.specs.declared.refusal.Refusal.{Refusal}
+use Rattle.par_refusals.specs.declared.refusal.Refusal.{Refusal}
 use Rattle.par_observer.specs.Judgements.{IsRefusedAs, IsBrokenAs, too_long, breaks}
 use Rattle.par_tool.specs.Sources.{IsRefusedFor}
 

@@ -17,7 +17,7 @@ use Rattle.par_pool.specs.declared.reader.TheConstants.{LONGEST_CLASS}
 use Rattle.par_values.specs.Ran.{Fine}
 use Rattle.par_tree.specs.Plain.{Source}
 use Rattle.par_resolved.specs.Resolved.{table_of}
-use Rattle.par_typed.specs.declared.refusal.Refusal.{Refusal}
+use Rattle.par_refusals.specs.declared.refusal.Refusal.{Refusal}
 use Rattle.par_observer.specs.Passes.{typing_faults}
 use Rattle.par_observer.specs.Trees.{bodies_of, BreaksTyping}
 use Rattle.par_observer.specs.Judgements.{IsAcceptedSource, IsTreeOf, BreaksAs}

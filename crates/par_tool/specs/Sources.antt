@@ -28,7 +28,7 @@ use Rattle.par_compile.specs.Compiled.{AreCompiled}
 use Rattle.par_class_writer.specs.Written.{SetsBut, FailsAt, StopsBehind}
 use Rattle.par_verified_file_laws.specs.Laws.{main_class, AreAllVerified}
 use Rattle.par_typed.specs.declared.program.Typed.{Typed}
-use Rattle.par_typed.specs.declared.refusal.Refusal.{Refusal}
+use Rattle.par_refusals.specs.declared.refusal.Refusal.{Refusal}
 use Rattle.par_typed.specs.Shown.{bodies}
 use Rattle.par_observer.specs.Judgements.{Breaks, IsAcceptedAs}
 use Rattle.par_tool.specs.declared.answer.Answer.{Answer}

@@ -1,7 +1,7 @@
 -- The status and the line of each answer.
 use Rattle.std.specs.Prelude.{ℕ, Bool, true, false, nat_eq, if◌then◌else◌, List, ◌++◌, codes}
 use Rattle.std.specs.Fmt.{decimal}
-use Rattle.par_typed.specs.declared.refusal.TheConstants.{LIMIT_RULE}
+use Rattle.par_refusals.specs.declared.refusal.TheConstants.{LIMIT_RULE}
 use Rattle.par_tool.specs.declared.answer.Answer.{Answer}
 use Rattle.par_sample.specs.Summary.{summary_line}
 use Rattle.par_tool.specs.declared.answer.Answer.TheVariants.{Accepted, Compiled, Sampled}

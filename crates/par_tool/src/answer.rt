@@ -8,8 +8,8 @@ ghost use Rattle.par_tool.specs.Texts.{status, text, is_fault};
 
 use par_io::Sink;
 use par_lexer::name::{Name, text_of};
+use par_refusals::refusal::LIMIT_RULE;
 use par_sample::Summary;
-use par_typed::refusal::LIMIT_RULE;
 use std::alloc::{AllocError, Global};
 
 /// An answer of one line. A run is told by the lines of its events and its ending; want of memory

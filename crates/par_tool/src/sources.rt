@@ -22,8 +22,8 @@ use par_io::{Folder, WriteFail};
 use par_lexer::list::List;
 use par_lexer::{LONGEST_SOURCE, place_of};
 use par_observer::{JudgeError, judge};
+use par_refusals::refusal::Refusal;
 use par_typed::program::Typed;
-use par_typed::refusal::Refusal;
 use std::alloc::Global;
 
 /// What a source is accepted as.

@@ -11,9 +11,9 @@ use Rattle.par_tree.specs.Plain.{Exps, NoExps, More, MayExp, Absent, Present}
 use Rattle.par_tree.specs.Shown.{all_shown}
 use Rattle.par_tree.proofs.Shown.{shows, shown_place}
 use Rattle.par_completes.specs.par_typed.declared.ty.Ty.TheVariants as ty
-use Rattle.par_completes.specs.par_typed.declared.refusal.Refusal.{Refusal}
-use Rattle.par_completes.specs.par_typed.First.{when, broken}
-use Rattle.par_completes.proofs.par_typed.First.{firsts}
+use Rattle.par_refusals.specs.declared.refusal.Refusal.{Refusal}
+use Rattle.par_refusals.specs.First.{when, broken}
+use Rattle.par_refusals.proofs.First.{firsts}
 use Rattle.par_scope.specs.declared.meaning.Callee.{Callee}
 use Rattle.par_scope.specs.Locals.{Scope}
 use Rattle.par_scope.specs.Home.{Home}

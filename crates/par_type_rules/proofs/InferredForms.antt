@@ -5,8 +5,8 @@ use Rattle.par_tree.specs.declared.decl.LockDecl.{LockDecl}
 use Rattle.par_tree.specs.declared.decl.PolicyDecl.{PolicyDecl}
 use Rattle.par_tree.specs.declared.decl.FieldDecl.{FieldDecl}
 use Rattle.par_tree.specs.Plain.{Class, Declaration, Source, Actors, Lock, Policy, Declared}
-use Rattle.par_completes.specs.par_typed.First.{when, broken}
-use Rattle.par_completes.proofs.par_typed.First.{firsts}
+use Rattle.par_refusals.specs.First.{when, broken}
+use Rattle.par_refusals.proofs.First.{firsts}
 use Rattle.par_type_rules.specs.Inferred.{fields_inferred, declaration_inferred, all_inferred}
 
 pub fields_inferred_end :

@@ -13,7 +13,7 @@ use Rattle.par_tree.specs.declared.decl.Decl.{Decl}
 use Rattle.par_tree.specs.Plain.{Method, Class, Declaration, Actors, Lock, Policy, Declared}
 use Rattle.par_tree.specs.Shown as tree
 use Rattle.par_completes.specs.par_typed.declared.table.Table.{Table}
-use Rattle.par_completes.proofs.par_typed.First.{firsts}
+use Rattle.par_refusals.proofs.First.{firsts}
 use Rattle.par_completes.proofs.Left.{left_more, left_none}
 use Rattle.par_scope.specs.Names.{Names}
 use Rattle.par_scope.specs.Locals.{Scope, declared}

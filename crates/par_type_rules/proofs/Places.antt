@@ -14,8 +14,8 @@ use Rattle.par_tree.specs.Plain.{Catch, NoCatch, Handler, On, Local, Method, Dec
 use Rattle.par_tree.specs.Plain.{place}
 use Rattle.par_completes.specs.par_typed.declared.ty.Ty.{Ty}
 use Rattle.par_completes.specs.par_typed.declared.table.Table.{Table}
-use Rattle.par_completes.specs.par_typed.declared.refusal.Refusal.{Refusal}
-use Rattle.par_completes.specs.par_typed.First.{when, broken}
+use Rattle.par_refusals.specs.declared.refusal.Refusal.{Refusal}
+use Rattle.par_refusals.specs.First.{when, broken}
 use Rattle.par_span_laws.specs.Within.{IdentIn, TypeIn, ResultIn, ExpIn, MayExpIn, ExpsIn, LocalIn}
 use Rattle.par_span_laws.specs.Within.{StaIn, BracesIn, MayBracesIn, ElseIn, StasIn, CatchesIn}
 use Rattle.par_span_laws.specs.Within.{HandlerIn, FieldIn, ParamIn, ThrowIn, MethodIn, ClassIn}

@@ -15,8 +15,8 @@ use Rattle.par_tree.specs.Plain.{Handler, On}
 use Rattle.par_tree.specs.Plain as plain
 use Rattle.par_tree.specs.Shown.{does_at}
 use Rattle.par_tree.proofs.Shown.{doings, shows}
-use Rattle.par_completes.specs.par_typed.First.{when, broken}
-use Rattle.par_completes.proofs.par_typed.First.{firsts}
+use Rattle.par_refusals.specs.First.{when, broken}
+use Rattle.par_refusals.proofs.First.{firsts}
 use Rattle.par_completes.specs.Completes.{completes}
 use Rattle.par_scope.specs.Locals.{Scope, declared}
 use Rattle.par_scope.specs.Home.{Home}

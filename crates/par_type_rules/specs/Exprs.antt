@@ -8,8 +8,8 @@ use Rattle.par_tree.specs.Plain.{Not, Binary}
 use Rattle.par_tree.specs.Plain.{Exps, NoExps, More, MayExp, Absent, Present, place}
 use Rattle.par_completes.specs.par_typed.declared.ty.Ty.{Ty}
 use Rattle.par_completes.specs.par_typed.declared.ty.Ty.TheVariants as ty
-use Rattle.par_completes.specs.par_typed.declared.refusal.Refusal.{Refusal}
-use Rattle.par_completes.specs.par_typed.First.{when, broken}
+use Rattle.par_refusals.specs.declared.refusal.Refusal.{Refusal}
+use Rattle.par_refusals.specs.First.{when, broken}
 use Rattle.par_scope.specs.declared.locals.Slot.{Slot}
 use Rattle.par_scope.specs.declared.meaning.Receiver.{Receiver}
 use Rattle.par_scope.specs.declared.meaning.Receiver.TheVariants.{Own, Class, Object}

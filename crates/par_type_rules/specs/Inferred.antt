@@ -2,8 +2,8 @@
 use Rattle.std.specs.Prelude.{not, List, [], ◌∷◌, ◌++◌}
 use Rattle.par_tree.specs.declared.decl.FieldDecl.{FieldDecl}
 use Rattle.par_tree.specs.Plain.{Declaration, Source, Actors, Lock, Policy, Declared}
-use Rattle.par_completes.specs.par_typed.declared.refusal.Refusal.{Refusal}
-use Rattle.par_completes.specs.par_typed.First.{when, broken}
+use Rattle.par_refusals.specs.declared.refusal.Refusal.{Refusal}
+use Rattle.par_refusals.specs.First.{when, broken}
 
 -- 109: an inferred field, at its name
 unfoldable pub fields_inferred : List FieldDecl → List Refusal

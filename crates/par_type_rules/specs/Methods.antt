@@ -9,8 +9,8 @@ use Rattle.par_tree.specs.Plain.{Method, Class}
 use Rattle.par_completes.specs.par_typed.declared.ty.Ty.{Ty}
 use Rattle.par_completes.specs.par_typed.declared.ty.Ty.TheVariants as ty
 use Rattle.par_completes.specs.par_typed.declared.table.Table.{Table}
-use Rattle.par_completes.specs.par_typed.declared.refusal.Refusal.{Refusal}
-use Rattle.par_completes.specs.par_typed.First.{when, broken}
+use Rattle.par_refusals.specs.declared.refusal.Refusal.{Refusal}
+use Rattle.par_refusals.specs.First.{when, broken}
 use Rattle.par_completes.specs.Completes.{braces_complete}
 use Rattle.par_scope.specs.declared.locals.Slot.{Slot}
 use Rattle.par_scope.specs.Names.{Names}

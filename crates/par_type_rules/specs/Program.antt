@@ -2,7 +2,7 @@
 use Rattle.std.specs.Prelude.{List, [], ◌∷◌, ◌++◌}
 use Rattle.par_tree.specs.Plain.{Declaration, Source, Actors, Lock, Policy, Declared}
 use Rattle.par_completes.specs.par_typed.declared.table.Table.{Table}
-use Rattle.par_completes.specs.par_typed.declared.refusal.Refusal.{Refusal}
+use Rattle.par_refusals.specs.declared.refusal.Refusal.{Refusal}
 use Rattle.par_scope.specs.Names.{Names, names_of}
 use Rattle.par_scope.specs.Home.{class_named}
 use Rattle.par_type_rules.specs.Methods.{class_faults}

@@ -14,8 +14,8 @@ use Rattle.par_tree.specs.Plain.{Handler, On}
 use Rattle.par_tree.specs.Plain as plain
 use Rattle.par_completes.specs.par_typed.declared.ty.Ty.{Ty}
 use Rattle.par_completes.specs.par_typed.declared.ty.Ty.TheVariants as ty
-use Rattle.par_completes.specs.par_typed.declared.refusal.Refusal.{Refusal}
-use Rattle.par_completes.specs.par_typed.First.{when, broken}
+use Rattle.par_refusals.specs.declared.refusal.Refusal.{Refusal}
+use Rattle.par_refusals.specs.First.{when, broken}
 use Rattle.par_completes.specs.Completes.{completes}
 use Rattle.par_scope.specs.declared.locals.Slot.{Slot}
 use Rattle.par_scope.specs.Locals.{Scope, declared, local_named, is_notnull}

@@ -3,15 +3,15 @@
 ghost use Rattle.std.specs.Prelude.{◌≡◌, length, Some};
 ghost use Rattle.par_tree.specs.Shown.{shown, receiver, all_shown};
 ghost use Rattle.par_completes.specs.par_typed.declared.ty.Ty.TheVariants as ty;
-ghost use Rattle.par_completes.specs.par_typed.First.{first_of};
+ghost use Rattle.par_refusals.specs.First.{first_of};
 ghost use Rattle.par_scope.specs.Home.{seen, class_named, class_type};
 ghost use Rattle.par_scope.specs.Members.{value_of};
 ghost use Rattle.par_scope.specs.Meaning.{type_of, called_on};
 ghost use Rattle.par_type_rules.specs.Exprs as is;
 
 use crate::fits::{any_value, are_alike, operand, suits, value_of};
-use par_completes::par_typed::refusal::Findings;
 use par_completes::par_typed::ty::Ty;
+use par_refusals::refusal::Findings;
 use par_scope::home::{Home, class_type};
 use par_scope::locals::{Locals, Slot};
 use par_scope::meaning::{

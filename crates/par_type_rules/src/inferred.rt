@@ -2,11 +2,11 @@
 
 ghost use Rattle.std.specs.Prelude.{◌≡◌, None};
 ghost use Rattle.par_tree.specs.Shown.{declared, all_declared, source};
-ghost use Rattle.par_completes.specs.par_typed.First.{first_of};
+ghost use Rattle.par_refusals.specs.First.{first_of};
 ghost use Rattle.par_type_rules.specs.Inferred.{fields_inferred, declaration_inferred};
 ghost use Rattle.par_type_rules.specs.Inferred.{all_inferred};
 
-use par_completes::par_typed::refusal::{Findings, Refusal};
+use par_refusals::refusal::{Findings, Refusal};
 use par_tree::decl::{Decl, FieldDecl, Program};
 
 #[tactic(auto, using(crate::proofs::InferredForms::finds))]
@@ -38,7 +38,7 @@ fn note_decls(decls: &[Decl], findings: &mut Findings)
 }
 
 /// The first field of a program whose policy is left to be inferred, if there is one.
-#[tactic(auto, using(par_completes::proofs::par_typed::First::firsts))]
+#[tactic(auto, using(par_refusals::proofs::First::firsts))]
 pub fn first_inferred(program: &Program) -> Option<Refusal>
     ensures { result ≡ first_of None (all_inferred (source program.now)) }
 {

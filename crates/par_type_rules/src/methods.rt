@@ -2,7 +2,7 @@
 
 ghost use Rattle.std.specs.Prelude.{◌≡◌, OnOk};
 ghost use Rattle.par_tree.specs.Shown.{method, methods, class_of};
-ghost use Rattle.par_completes.specs.par_typed.First.{first_of};
+ghost use Rattle.par_refusals.specs.First.{first_of};
 ghost use Rattle.par_scope.specs.Home.{seen};
 ghost use Rattle.par_type_rules.specs.Methods as is;
 
@@ -10,8 +10,8 @@ use crate::fits::is_void;
 use crate::stmts::{check_block, check_thrown, check_type};
 use par_base::memory::NoMemory;
 use par_completes::block_completes;
-use par_completes::par_typed::refusal::Findings;
 use par_completes::par_typed::table::Table;
+use par_refusals::refusal::Findings;
 use par_scope::home::{Home, result_written, type_written};
 use par_scope::index::TableIndex;
 use par_scope::locals::{Locals, Slot};

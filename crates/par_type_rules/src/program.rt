@@ -2,15 +2,15 @@
 
 ghost use Rattle.std.specs.Prelude.{◌≡◌, None, OnOk, IfOk};
 ghost use Rattle.par_tree.specs.Shown.{declared, all_declared, source};
-ghost use Rattle.par_completes.specs.par_typed.First.{first_of};
+ghost use Rattle.par_refusals.specs.First.{first_of};
 ghost use Rattle.par_scope.specs.Names.{IsFewTable};
 ghost use Rattle.par_type_rules.specs.Program.{declaration_faults, declarations_faults};
 ghost use Rattle.par_type_rules.specs.Program.{type_faults};
 
 use crate::methods::check_class;
 use par_base::memory::NoMemory;
-use par_completes::par_typed::refusal::{Findings, Refusal};
 use par_completes::par_typed::table::Table;
+use par_refusals::refusal::{Findings, Refusal};
 use par_scope::index::TableIndex;
 use par_tree::decl::{Decl, Program};
 use std::alloc::Global;
@@ -55,7 +55,7 @@ fn check_decls(
 
 /// The first broken rule on types of a program, whose table this is: the one at the least place,
 /// and there the least rule.
-#[tactic(auto, using(par_completes::proofs::par_typed::First::firsts))]
+#[tactic(auto, using(par_refusals::proofs::First::firsts))]
 pub fn check_bodies(
     alloc: Global,
     table: &Table,

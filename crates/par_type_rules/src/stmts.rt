@@ -3,7 +3,7 @@
 ghost use Rattle.std.specs.Prelude.{◌≡◌, ◌++◌, true, take, length, OnOk};
 ghost use Rattle.par_tree.specs.Shown.{shown, may_shown, does, braces, otherwise, may_braces};
 ghost use Rattle.par_tree.specs.Shown.{all_do, all_catch, handler, local};
-ghost use Rattle.par_completes.specs.par_typed.First.{first_of};
+ghost use Rattle.par_refusals.specs.First.{first_of};
 ghost use Rattle.par_scope.specs.Home.{seen};
 ghost use Rattle.par_scope.specs.Locals.{declared};
 ghost use Rattle.par_type_rules.specs.Exprs.{expr_faults};
@@ -14,8 +14,8 @@ use crate::exprs::{check_expr, check_no_exception, check_value};
 use crate::fits::{any_value, is_void, value_of};
 use par_base::memory::NoMemory;
 use par_completes::completes;
-use par_completes::par_typed::refusal::Findings;
 use par_completes::par_typed::ty::Ty;
+use par_refusals::refusal::Findings;
 use par_scope::home::{Home, type_written};
 use par_scope::locals::{Locals, Slot};
 use par_scope::members::is_exception;

@@ -1,13 +1,11 @@
 //! A program whose names have become numbers and whose expressions have types.
 //!
-//! The crate has the table of a program, its typed tree with the same as plain data for
-//! definitions, and the refusal of a source with the order by which one broken rule comes before
-//! another. It resolves no name and checks no type: that is done in the crates above.
+//! The crate has the table of a program, and its typed tree with the same as plain data for
+//! definitions. It resolves no name and checks no type: that is done in the crates above.
 #![tactic(auto)]
 
 pub mod expr;
 pub mod program;
-pub mod refusal;
 pub mod stmt;
 pub mod table;
 pub mod ty;

@@ -12,7 +12,7 @@ use Rattle.par_body_laws.specs.par_tree.declared.types.TypeTree.{TypeTree}
 use Rattle.par_body_laws.specs.par_tree.Plain.{Class, Method, Source}
 use Rattle.par_flow_laws.specs.par_typed.declared.ty.Ty.TheVariants as ty
 use Rattle.par_flow_laws.specs.par_typed.declared.table.MethodInfo.{MethodInfo}
-use Rattle.par_flow_laws.specs.par_typed.First.{when, broken}
+use Rattle.par_refusals.specs.First.{when, broken}
 use Rattle.par_source_laws.specs.par_names.Declarations.{classes}
 use Rattle.par_source_laws.specs.par_names.Program.{program_doubles, declarations_faults, mains}
 use Rattle.par_source_laws.specs.par_names.Program.{main_fault}

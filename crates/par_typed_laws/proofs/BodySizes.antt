@@ -16,8 +16,8 @@ use Rattle.par_body_laws.specs.par_tree.Plain.{On}
 use Rattle.par_body_laws.specs.par_tree.Plain as plain
 use Rattle.par_body_laws.specs.par_tree.Nodes as source
 use Rattle.par_flow_laws.specs.par_typed.declared.table.Table.{Table}
-use Rattle.par_flow_laws.specs.par_typed.declared.refusal.Refusal.{Refusal}
-use Rattle.par_flow_laws.specs.par_typed.First.{when, broken}
+use Rattle.par_refusals.specs.declared.refusal.Refusal.{Refusal}
+use Rattle.par_refusals.specs.First.{when, broken}
 use Rattle.par_flow_laws.specs.par_typed.Plain.{TExp}
 use Rattle.par_flow_laws.specs.par_typed.Nodes.{nodes, stmt_nodes}
 use Rattle.par_annotation_laws.specs.par_scope.declared.members.Place.{Place}

@@ -17,7 +17,7 @@ use Rattle.par_body_laws.specs.par_tree.Plain.{On}
 use Rattle.par_body_laws.specs.par_tree.Plain as plain
 use Rattle.par_flow_laws.specs.par_typed.declared.ty.Ty.{Ty}
 use Rattle.par_flow_laws.specs.par_typed.declared.table.Table.{Table}
-use Rattle.par_flow_laws.specs.par_typed.First.{when, broken}
+use Rattle.par_refusals.specs.First.{when, broken}
 use Rattle.par_source_laws.specs.par_names.Exprs as names
 use Rattle.par_source_laws.specs.par_names.Declarations.{classes, doubles}
 use Rattle.par_source_laws.specs.par_names.Policies.{View, class_fault, lock_faults}

@@ -21,7 +21,7 @@ use Rattle.par_flow_laws.specs.par_typed.declared.table.ChannelInfo.{ChannelInfo
 use Rattle.par_flow_laws.specs.par_typed.declared.table.ParamInfo.{ParamInfo}
 use Rattle.par_flow_laws.specs.par_typed.declared.table.MethodInfo.{MethodInfo}
 use Rattle.par_flow_laws.specs.par_typed.declared.table.Table.{Table}
-use Rattle.par_flow_laws.specs.par_typed.First.{when, broken}
+use Rattle.par_refusals.specs.First.{when, broken}
 use Rattle.par_flow_laws.specs.par_typed.Plain as typed
 use Rattle.par_flow_laws.specs.par_typed.Plain.{Mark, TExp, MayTExp, TExps, mark}
 use Rattle.par_flow_laws.specs.par_typed.Nodes.{nodes, may_nodes}

@@ -23,7 +23,7 @@ use Rattle.par_flow_laws.specs.par_typed.declared.ty.Ty.{Ty}
 use Rattle.par_flow_laws.specs.par_typed.declared.ty.Ty.TheVariants as ty
 use Rattle.par_flow_laws.specs.par_typed.declared.table.FieldInfo.{FieldInfo}
 use Rattle.par_flow_laws.specs.par_typed.declared.table.Table.{Table}
-use Rattle.par_flow_laws.specs.par_typed.First.{when, broken}
+use Rattle.par_refusals.specs.First.{when, broken}
 use Rattle.par_flow_laws.specs.par_typed.Plain.{TExp, mark}
 use Rattle.par_source_laws.specs.par_names.Exprs as names
 use Rattle.par_source_laws.specs.par_names.Declarations.{classes, doubles}

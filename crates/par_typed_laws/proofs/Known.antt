@@ -18,7 +18,7 @@ use Rattle.par_flow_laws.specs.par_typed.declared.table.FieldInfo.{FieldInfo}
 use Rattle.par_flow_laws.specs.par_typed.declared.table.ChannelInfo.{ChannelInfo}
 use Rattle.par_flow_laws.specs.par_typed.declared.table.MethodInfo.{MethodInfo}
 use Rattle.par_flow_laws.specs.par_typed.declared.table.Table.{Table}
-use Rattle.par_flow_laws.specs.par_typed.First.{when}
+use Rattle.par_refusals.specs.First.{when}
 use Rattle.par_source_laws.specs.par_names.Exprs as names
 use Rattle.par_source_laws.specs.par_names.Declarations as declarations
 use Rattle.par_source_laws.specs.par_names.Declarations.{classes}

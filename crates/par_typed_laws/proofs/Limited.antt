@@ -11,7 +11,7 @@ use Rattle.par_body_laws.specs.par_tree.Nodes.{method_nodes}
 use Rattle.par_body_laws.specs.par_tree.Plain.{Class, Method, Source}
 use Rattle.par_flow_laws.specs.par_typed.declared.table.ClassInfo.{ClassInfo}
 use Rattle.par_flow_laws.specs.par_typed.declared.table.MethodInfo.{MethodInfo}
-use Rattle.par_flow_laws.specs.par_typed.First.{when}
+use Rattle.par_refusals.specs.First.{when}
 use Rattle.par_source_laws.specs.par_names.Declarations.{builtin, builtins, declared_classes}
 use Rattle.par_faults.specs.par_resolved.Resolved.{Resolved, resolved, field_infos, channel_info}
 use Rattle.par_faults.specs.par_resolved.Resolved.{param_info}

@@ -18,8 +18,8 @@ use Rattle.par_flow_laws.specs.par_typed.declared.table.ChannelInfo.{ChannelInfo
 use Rattle.par_flow_laws.specs.par_typed.declared.table.MethodInfo.{MethodInfo}
 use Rattle.par_flow_laws.specs.par_typed.declared.table.ClassInfo.{ClassInfo}
 use Rattle.par_flow_laws.specs.par_typed.declared.table.Table.{Table}
-use Rattle.par_flow_laws.specs.par_typed.declared.refusal.Refusal.{Refusal}
-use Rattle.par_flow_laws.specs.par_typed.First.{when, broken}
+use Rattle.par_refusals.specs.declared.refusal.Refusal.{Refusal}
+use Rattle.par_refusals.specs.First.{when, broken}
 use Rattle.par_flow_laws.specs.par_typed.Plain as typed
 use Rattle.par_flow_laws.specs.par_typed.Plain.{Mark, TExp, MayTExp, TExps}
 use Rattle.par_flow_laws.specs.par_typed.Nodes.{may_nodes}

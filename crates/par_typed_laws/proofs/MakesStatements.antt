@@ -19,8 +19,8 @@ use Rattle.par_body_laws.specs.par_tree.Plain as plain
 use Rattle.par_flow_laws.specs.par_typed.declared.ty.Ty.{Ty}
 use Rattle.par_flow_laws.specs.par_typed.declared.table.FieldInfo.{FieldInfo}
 use Rattle.par_flow_laws.specs.par_typed.declared.table.Table.{Table}
-use Rattle.par_flow_laws.specs.par_typed.declared.refusal.Refusal.{Refusal}
-use Rattle.par_flow_laws.specs.par_typed.First.{when, broken}
+use Rattle.par_refusals.specs.declared.refusal.Refusal.{Refusal}
+use Rattle.par_refusals.specs.First.{when, broken}
 use Rattle.par_flow_laws.specs.par_typed.Plain.{TExp}
 use Rattle.par_source_laws.specs.par_names.Exprs as names
 use Rattle.par_source_laws.specs.par_names.Declarations.{doubles}

@@ -20,7 +20,7 @@ use Rattle.par_flow_laws.specs.par_typed.declared.table.Table.{Table}
 use Rattle.par_flow_laws.specs.par_typed.Plain as typed
 use Rattle.par_flow_laws.specs.par_typed.Plain.{Mark, TExp, MayTExp, TExps, mark}
 use Rattle.par_flow_laws.specs.par_typed.Nodes.{nodes, may_nodes}
-use Rattle.par_flow_laws.specs.par_typed.declared.refusal.Refusal.{Refusal}
+use Rattle.par_refusals.specs.declared.refusal.Refusal.{Refusal}
 use Rattle.par_annotation_laws.specs.par_scope.declared.members.Place.{Place}
 use Rattle.par_annotation_laws.specs.par_scope.declared.meaning.Receiver.{Receiver}
 use Rattle.par_annotation_laws.specs.par_scope.declared.meaning.Receiver.TheVariants.{Own, Class}

@@ -24,7 +24,7 @@ use Rattle.par_flow_laws.specs.par_typed.declared.ty.Ty.TheVariants as ty
 use Rattle.par_flow_laws.specs.par_typed.declared.table.FieldInfo.{FieldInfo}
 use Rattle.par_flow_laws.specs.par_typed.declared.table.ClassInfo.{ClassInfo}
 use Rattle.par_flow_laws.specs.par_typed.declared.table.Table.{Table}
-use Rattle.par_flow_laws.specs.par_typed.declared.refusal.Refusal.{Refusal}
+use Rattle.par_refusals.specs.declared.refusal.Refusal.{Refusal}
 use Rattle.par_flow_laws.specs.par_typed.Plain.{TExp, Body, mark}
 use Rattle.par_annotation_laws.specs.par_scope.declared.members.Place.{Place}
 use Rattle.par_annotation_laws.specs.par_scope.declared.meaning.Receiver as meaning
@@ -37,7 +37,7 @@ use Rattle.par_annotation_laws.specs.par_scope.Members.{class_is_exception}
 use Rattle.par_annotation_laws.specs.par_scope.Members.{any_value}
 use Rattle.par_annotation_laws.specs.par_scope.Meaning.{selected, type_of, receiver_of}
 use Rattle.par_body_laws.specs.par_completes.Completes.{completes}
-use Rattle.par_flow_laws.specs.par_typed.First.{when, broken}
+use Rattle.par_refusals.specs.First.{when, broken}
 use Rattle.par_annotation_laws.specs.par_type_rules.Fits.{is_void}
 use Rattle.par_annotation_laws.specs.par_type_rules.Exprs.{expr_faults, misfit, value_faults}
 use Rattle.par_annotation_laws.specs.par_type_rules.Stmts as types

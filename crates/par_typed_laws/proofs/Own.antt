@@ -14,7 +14,7 @@ use Rattle.par_flow_laws.specs.par_typed.declared.ty.Ty.{Ty}
 use Rattle.par_flow_laws.specs.par_typed.declared.table.FieldInfo.{FieldInfo}
 use Rattle.par_flow_laws.specs.par_typed.declared.table.MethodInfo.{MethodInfo}
 use Rattle.par_flow_laws.specs.par_typed.declared.table.Table.{Table}
-use Rattle.par_flow_laws.specs.par_typed.First.{when}
+use Rattle.par_refusals.specs.First.{when}
 use Rattle.par_source_laws.specs.par_names.Exprs.{own_fault}
 use Rattle.par_source_laws.specs.par_names.Members.{static_of, selected_named, callee_named}
 use Rattle.par_source_laws.specs.par_names.Members.{earlier_callee}

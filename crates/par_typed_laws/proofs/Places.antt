@@ -9,7 +9,7 @@ use Rattle.std.proofs.lemmas.Bool.Decides.{nat_tests}
 use Rattle.std.proofs.lemmas.Slice.Eq.{bytes_eq-Decides}
 use Rattle.par_index.proofs.Places.{position-from}
 use Rattle.par_body_laws.specs.par_tree.declared.ident.Ident.{Ident}
-use Rattle.par_flow_laws.specs.par_typed.First.{when, broken}
+use Rattle.par_refusals.specs.First.{when, broken}
 use Rattle.par_source_laws.specs.par_names.Declarations.{has_earlier, double_fault, doubles}
 use Rattle.par_source_laws.specs.Order.{Ascend}
 use Rattle.par_typed_laws.proofs.Lists.{none_of, each_is}

@@ -18,7 +18,7 @@ use Rattle.par_body_laws.specs.par_tree.Plain.{Class, Method, Declaration, Sourc
 use Rattle.par_flow_laws.specs.par_typed.declared.ty.Ty.{Ty}
 use Rattle.par_flow_laws.specs.par_typed.declared.ty.Ty.TheVariants as ty
 use Rattle.par_flow_laws.specs.par_typed.declared.table.Table.{Table}
-use Rattle.par_flow_laws.specs.par_typed.First.{when, broken}
+use Rattle.par_refusals.specs.First.{when, broken}
 use Rattle.par_flow_laws.specs.par_typed.Plain.{TExp}
 use Rattle.par_body_laws.specs.par_completes.Completes.{completes, braces_complete}
 use Rattle.par_body_laws.specs.par_completes.Typed as ends

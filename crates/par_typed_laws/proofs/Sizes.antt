@@ -10,7 +10,7 @@ use Rattle.par_body_laws.specs.par_tree.Plain.{Exps, NoExps, More, MayExp, Absen
 use Rattle.par_body_laws.specs.par_tree.Nodes as source
 use Rattle.par_flow_laws.specs.par_typed.declared.ty.Ty.TheVariants as ty
 use Rattle.par_flow_laws.specs.par_typed.declared.table.ChannelInfo.{ChannelInfo}
-use Rattle.par_flow_laws.specs.par_typed.declared.refusal.Refusal.{Refusal}
+use Rattle.par_refusals.specs.declared.refusal.Refusal.{Refusal}
 use Rattle.par_flow_laws.specs.par_typed.Plain as typed
 use Rattle.par_flow_laws.specs.par_typed.Plain.{Mark, TExp, MayTExp, TExps}
 use Rattle.par_flow_laws.specs.par_typed.Nodes.{nodes, may_nodes}

@@ -12,9 +12,9 @@ use Rattle.par_body_laws.specs.par_tree.declared.policy.LockTree.{LockTree}
 use Rattle.par_body_laws.specs.par_tree.declared.decl.LockDecl.{LockDecl}
 use Rattle.par_body_laws.specs.par_tree.Plain as plain
 use Rattle.par_body_laws.specs.par_tree.Plain.{Class, Method, Declaration, Source}
-use Rattle.par_flow_laws.specs.par_typed.declared.refusal.Refusal.{Refusal}
-use Rattle.par_flow_laws.specs.par_typed.First.{when, in_passes, first_of}
-use Rattle.par_flow_laws.proofs.par_typed.First.{first_of_none}
+use Rattle.par_refusals.specs.declared.refusal.Refusal.{Refusal}
+use Rattle.par_refusals.specs.First.{when, in_passes, first_of}
+use Rattle.par_refusals.proofs.First.{first_of_none}
 use Rattle.par_source_laws.specs.par_names.Declarations.{actors, locks, classes_in}
 use Rattle.par_source_laws.specs.par_names.Declarations.{declared_classes}
 use Rattle.par_source_laws.specs.par_names.Declarations.{lock_named}

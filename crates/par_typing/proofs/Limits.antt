@@ -9,9 +9,9 @@ use Rattle.std.proofs.lemmas.List.{length-map}
 use Rattle.std.proofs.lemmas.Option.{slice_get-get_or}
 use Rattle.par_tree.specs.Nodes.{method_nodes}
 use Rattle.par_tree.specs.Plain.{Method, Class, Source}
-use Rattle.par_typed.specs.declared.refusal.Refusal.{Refusal}
-use Rattle.par_typed.specs.First.{when, in_passes, first_of}
-use Rattle.par_typed.proofs.First.{first_of_none}
+use Rattle.par_refusals.specs.declared.refusal.Refusal.{Refusal}
+use Rattle.par_refusals.specs.First.{when, in_passes, first_of}
+use Rattle.par_refusals.proofs.First.{first_of_none}
 use Rattle.par_names.specs.Program.{name_faults}
 use Rattle.par_names.specs.Declarations.{declared_classes}
 use Rattle.par_resolved.specs.declared.entries.Entry.{Entry}

@@ -3,8 +3,8 @@ use Rattle.std.specs.Prelude.{◌≡◌, [], List}
 use Rattle.par_tree.specs.Plain.{Source}
 use Rattle.par_typed.specs.declared.program.Typed.{Typed}
 use Rattle.par_typed.specs.declared.table.Table.{Table}
-use Rattle.par_typed.specs.declared.refusal.Refusal.{Refusal}
-use Rattle.par_typed.specs.First.{IsFirst}
+use Rattle.par_refusals.specs.declared.refusal.Refusal.{Refusal}
+use Rattle.par_refusals.specs.First.{IsFirst}
 use Rattle.par_typed.specs.Shown.{bodies}
 use Rattle.par_type_rules.specs.Program.{type_faults}
 use Rattle.par_annotation.specs.par_annotation_laws.Stmts.{Written}

@@ -2,7 +2,7 @@ ghost use Rattle.std.specs.Prelude.{◌≡◌};
 ghost use Rattle.par_typing.specs.declared.error.TypeError.TheVariants.{Memory};
 
 use par_lexer::memory::NoMemory;
-use par_typed::refusal::Refusal;
+use par_refusals::refusal::Refusal;
 use std::alloc::{AllocError, AllocFailed};
 use thiserror::Error;
 

@@ -4,11 +4,11 @@ use Rattle.std.proofs.Common.{length, get_or, drop, refl, sym, ap, subst, ◌∙
 use Rattle.std.specs.Prelude.{IsTrue, map}
 use Rattle.par_typed.specs.declared.table.Table.{Table}
 use Rattle.par_typed.specs.declared.program.TBody.{TBody}
-use Rattle.par_typed.specs.declared.refusal.Refusal.{Refusal}
-use Rattle.par_typed.specs.First.{when, broken, first_of}
+use Rattle.par_refusals.specs.declared.refusal.Refusal.{Refusal}
+use Rattle.par_refusals.specs.First.{when, broken, first_of}
 use Rattle.par_typed.specs.Plain.{Body}
 use Rattle.par_typed.specs.Shown.{body, bodies}
-use Rattle.par_typed.proofs.First.{first_of_append, first_of_none}
+use Rattle.par_refusals.proofs.First.{first_of_append, first_of_none}
 use Rattle.par_asked.specs.par_flow_laws.Lattice.{numbers}
 use Rattle.par_asked.specs.par_flow_laws.Facts.{Facts}
 use Rattle.par_asked.specs.par_check_laws.Asked.{Check}

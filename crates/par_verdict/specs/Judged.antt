@@ -1,8 +1,8 @@
 -- The verdict on the bodies of a program.
 use Rattle.std.specs.Prelude.{◌≡◌, ℕ, false, Option, Some, None, List, [], ◌∷◌, Contains}
 use Rattle.par_typed.specs.declared.table.Table.{Table}
-use Rattle.par_typed.specs.declared.refusal.Refusal.{Refusal}
-use Rattle.par_typed.specs.First.{broken, comes_before}
+use Rattle.par_refusals.specs.declared.refusal.Refusal.{Refusal}
+use Rattle.par_refusals.specs.First.{broken, comes_before}
 use Rattle.par_typed.specs.Plain.{Body}
 use Rattle.par_asked.specs.par_flow_laws.Lattice.{Seen, numbers}
 use Rattle.par_asked.specs.par_flow_laws.Facts.{Facts}

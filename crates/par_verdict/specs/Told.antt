@@ -1,8 +1,8 @@
 -- The broken rules of a list, and of the bodies of a program.
 use Rattle.std.specs.Prelude.{◌≡◌, ◌↔◌, Bool, not, IsTrue, List, [], ◌∷◌, ◌++◌}
 use Rattle.par_typed.specs.declared.table.Table.{Table}
-use Rattle.par_typed.specs.declared.refusal.Refusal.{Refusal}
-use Rattle.par_typed.specs.First.{when, broken}
+use Rattle.par_refusals.specs.declared.refusal.Refusal.{Refusal}
+use Rattle.par_refusals.specs.First.{when, broken}
 use Rattle.par_typed.specs.Plain.{Body}
 use Rattle.par_asked.specs.par_flow_laws.Lattice.{numbers}
 use Rattle.par_asked.specs.par_flow_laws.Facts.{Facts}

@@ -4,7 +4,7 @@ ghost use Rattle.std.specs.Prelude.{◌≡◌};
 ghost use Rattle.par_verdict.specs.declared.error.CheckError.TheVariants.{Memory};
 
 use par_base::memory::NoMemory;
-use par_typed::refusal::Refusal;
+use par_refusals::refusal::Refusal;
 use thiserror::Error;
 
 /// Why a program is not accepted.

@@ -1,8 +1,8 @@
 //! The first broken rule of a program.
 
 ghost use Rattle.std.specs.Prelude.{◌≡◌, ◌≤◌, List as Items, length, map, IfOk, OnOk};
-ghost use Rattle.par_typed.specs.declared.refusal.Refusal.{Refusal as Told};
-ghost use Rattle.par_typed.specs.First.{first_of, IsAnswer};
+ghost use Rattle.par_refusals.specs.declared.refusal.Refusal.{Refusal as Told};
+ghost use Rattle.par_refusals.specs.First.{first_of, IsAnswer};
 ghost use Rattle.par_typed.specs.Shown as shown;
 ghost use Rattle.par_asked.specs.par_check_laws.Checks.{checks};
 ghost use Rattle.par_asked.specs.par_check_laws.Verdict.{KeepsNumbered};
@@ -16,8 +16,8 @@ use crate::policies::Policies;
 use par_asked::body::checks_of;
 use par_asked::check::Check;
 use par_base::memory::NoMemory;
+use par_refusals::refusal::{Findings, Refusal};
 use par_typed::program::TBody;
-use par_typed::refusal::{Findings, Refusal};
 use par_typed::table::Table;
 use std::alloc::Global;
 

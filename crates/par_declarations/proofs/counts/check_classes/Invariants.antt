@@ -1,7 +1,7 @@
 use Rattle.std.proofs.Common.{◌≡◌, ◌<◌, ◌^◌, drop, flat_map}
 use Rattle.par_tree.specs.Shown.{all_declared}
 use Rattle.par_names.specs.Declarations.{classes_in}
-use Rattle.par_typed.specs.First.{first_of}
+use Rattle.par_refusals.specs.First.{first_of}
 use Rattle.par_declarations.specs.Limits.{class_limits}
 use Rattle.par_parser.specs.Bodies.{source_size}
 use Rattle.par_declarations.proofs.counts.check_classes.Given as goal

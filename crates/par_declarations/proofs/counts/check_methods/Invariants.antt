@@ -1,6 +1,6 @@
 use Rattle.std.proofs.Common.{◌≡◌, ◌<◌, ◌^◌, drop, flat_map}
 use Rattle.par_tree.specs.Shown.{methods}
-use Rattle.par_typed.specs.First.{first_of}
+use Rattle.par_refusals.specs.First.{first_of}
 use Rattle.par_declarations.specs.Limits.{method_limits}
 use Rattle.par_parser.specs.Bodies.{methods_size}
 use Rattle.par_declarations.proofs.counts.check_methods.Given as goal

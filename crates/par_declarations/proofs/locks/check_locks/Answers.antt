@@ -1,7 +1,7 @@
 use Rattle.std.proofs.Common.{arith, ◌+◌, drop}
 use Rattle.par_tree.specs.Shown.{all_declared}
 use Rattle.par_names.specs.Declarations.{locks}
-use Rattle.par_typed.proofs.First.{firsts}
+use Rattle.par_refusals.proofs.First.{firsts}
 use Rattle.par_declarations.specs.Limits.{ground}
 use Rattle.par_declarations.proofs.Lists.{left_more, left_none}
 use Rattle.par_declarations.proofs.Locked.{locked, past, too_much}

@@ -1,7 +1,7 @@
 use Rattle.std.proofs.Common.{◌≡◌, ◌≤◌, drop}
 use Rattle.par_tree.specs.Shown.{all_declared}
 use Rattle.par_names.specs.Declarations.{locks}
-use Rattle.par_typed.specs.First.{first_of}
+use Rattle.par_refusals.specs.First.{first_of}
 use Rattle.par_declarations.specs.Limits.{locks_limit}
 use Rattle.par_declarations.specs.declared.limit.TheConstants.{LOCKS}
 use Rattle.par_declarations.proofs.locks.check_locks.Given as goal

@@ -1,7 +1,7 @@
 use Rattle.std.proofs.Common.{◌≡◌, take, map}
 use Rattle.std.specs.List.{flat_map}
 use Rattle.par_tree.specs.Shown.{method}
-use Rattle.par_typed.specs.First.{first_of}
+use Rattle.par_refusals.specs.First.{first_of}
 use Rattle.par_declarations.specs.Mains.{second_main}
 use Rattle.par_declarations.proofs.mains.refuse_each.Given as goal
 

@@ -1,5 +1,5 @@
 use Rattle.std.proofs.Common.{arith}
-use Rattle.par_typed.proofs.First.{firsts}
+use Rattle.par_refusals.proofs.First.{firsts}
 use Rattle.par_declarations.proofs.Lists.{left_more, left_none}
 use Rattle.par_declarations.proofs.methods.check_methods.Goals as goal
 

@@ -1,7 +1,7 @@
 use Rattle.std.proofs.Common.{◌≡◌, drop}
 use Rattle.std.specs.List.{flat_map}
 use Rattle.par_tree.specs.Shown.{methods}
-use Rattle.par_typed.specs.First.{first_of}
+use Rattle.par_refusals.specs.First.{first_of}
 use Rattle.par_names.specs.Methods.{method_faults}
 use Rattle.par_names.specs.Seen.{seen, class_seen}
 use Rattle.par_declarations.proofs.methods.check_methods.Given as goal

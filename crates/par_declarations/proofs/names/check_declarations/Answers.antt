@@ -2,8 +2,8 @@ use Rattle.std.proofs.Common.{◌≡◌, ◌+◌, [], ◌∷◌, map, drop, take
 use Rattle.par_index.specs.Texts.{texts}
 use Rattle.par_tree.specs.declared.decl.Decl.{Decl}
 use Rattle.par_tree.specs.Shown.{source, declared, all_declared}
-use Rattle.par_typed.specs.First.{first_of}
-use Rattle.par_typed.proofs.First.{first_of_none}
+use Rattle.par_refusals.specs.First.{first_of}
+use Rattle.par_refusals.proofs.First.{first_of_none}
 use Rattle.par_names.specs.Declarations.{policies}
 use Rattle.par_names.specs.Program.{declarations_faults}
 use Rattle.par_names.specs.Seen.{seen}

@@ -1,7 +1,7 @@
 use Rattle.std.proofs.Common.{◌≡◌, ◌≤◌, [], drop, take, map}
 use Rattle.par_index.specs.Texts.{texts}
 use Rattle.par_tree.specs.Shown.{all_declared, source}
-use Rattle.par_typed.specs.First.{first_of}
+use Rattle.par_refusals.specs.First.{first_of}
 use Rattle.par_names.specs.Declarations.{policies}
 use Rattle.par_names.specs.Program.{declarations_faults}
 use Rattle.par_declarations.proofs.names.check_declarations.Given as goal

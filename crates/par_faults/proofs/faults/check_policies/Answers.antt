@@ -1,6 +1,6 @@
 use Rattle.std.proofs.Common.{sym, ◌∙◌}
 use Rattle.par_tree.specs.Shown.{source}
-use Rattle.par_typed.proofs.First.{noted}
+use Rattle.par_refusals.proofs.First.{noted}
 use Rattle.par_faults.specs.Faults.{policies_faults}
 use Rattle.par_faults.proofs.Joined.{noted_first, noted_none}
 use Rattle.par_faults.proofs.faults.check_policies.Goals as goal

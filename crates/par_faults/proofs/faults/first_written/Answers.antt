@@ -1,6 +1,6 @@
 use Rattle.std.proofs.Common.{ap, ◌∙◌}
 use Rattle.std.specs.List.{flat_map}
-use Rattle.par_typed.specs.First.{first_of}
+use Rattle.par_refusals.specs.First.{first_of}
 use Rattle.par_limits.specs.par_resolved.Gathered.{all_of}
 use Rattle.par_limits.specs.par_resolved.Sizes.{literal_faults}
 use Rattle.std.proofs.Common.{None}

@@ -1,8 +1,8 @@
 use Rattle.std.proofs.Common.{map, subst, sym, ◌∙◌, ap}
 use Rattle.par_typed.specs.declared.table.Table.{Table}
-use Rattle.par_typed.specs.First.{IsAnswer, first_of}
+use Rattle.par_refusals.specs.First.{IsAnswer, first_of}
 use Rattle.par_typed.specs.Shown.{bodies}
-use Rattle.par_typed.proofs.First.{answered}
+use Rattle.par_refusals.proofs.First.{answered}
 use Rattle.par_reached.specs.Reached.{set_at}
 use Rattle.par_filling.specs.Judged.{AreAllFailed}
 use Rattle.par_filling.proofs.Failed.{judged}

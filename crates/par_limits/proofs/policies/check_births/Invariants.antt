@@ -1,6 +1,6 @@
 use Rattle.std.proofs.Common.{◌≡◌, drop}
 use Rattle.std.specs.List.{flat_map}
-use Rattle.par_typed.specs.First.{first_of}
+use Rattle.par_refusals.specs.First.{first_of}
 use Rattle.par_resolved.specs.Births.{birth_faults}
 use Rattle.par_resolved.specs.Seen.{known_seen}
 use Rattle.par_resolved.specs.Gathered.{classes_of}

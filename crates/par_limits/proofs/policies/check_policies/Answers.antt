@@ -1,6 +1,6 @@
 use Rattle.std.proofs.Common.{◌≡◌, ◌+◌, take, ap, ◌∙◌, subst, OnOk}
 use Rattle.par_tree.specs.Shown.{source}
-use Rattle.par_typed.specs.First.{first_of}
+use Rattle.par_refusals.specs.First.{first_of}
 use Rattle.par_resolved.specs.declared.limits.TheConstants.{MOST_POLICIES}
 use Rattle.par_resolved.specs.Seen.{known_seen}
 use Rattle.par_resolved.specs.Gathered.{all_of, classes_of}

@@ -1,6 +1,6 @@
 use Rattle.std.proofs.Common.{◌≡◌, drop, take, length}
 use Rattle.par_tree.specs.Shown.{all_do, all_catch}
-use Rattle.par_typed.specs.First.{first_of}
+use Rattle.par_refusals.specs.First.{first_of}
 use Rattle.par_names.specs.Seen.{seen, home_seen}
 use Rattle.par_names.specs.Stmts.{stmts_faults, catches_faults}
 use Rattle.par_names.proofs.body.+stmt.Given as goal

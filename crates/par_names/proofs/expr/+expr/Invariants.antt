@@ -1,6 +1,6 @@
 use Rattle.std.proofs.Common.{◌≡◌, drop}
 use Rattle.par_tree.specs.Shown.{all_shown}
-use Rattle.par_typed.specs.First.{first_of}
+use Rattle.par_refusals.specs.First.{first_of}
 use Rattle.par_names.specs.Seen.{seen, home_seen}
 use Rattle.par_names.specs.Exprs.{args_faults}
 use Rattle.par_names.proofs.expr.+expr.Given as goal

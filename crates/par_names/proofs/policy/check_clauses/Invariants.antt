@@ -1,6 +1,6 @@
 use Rattle.std.proofs.Common.{◌≡◌, take}
 use Rattle.std.specs.List.{flat_map}
-use Rattle.par_typed.specs.First.{first_of}
+use Rattle.par_refusals.specs.First.{first_of}
 use Rattle.par_names.specs.Policies.{clause_faults}
 use Rattle.par_names.specs.Seen.{seen}
 use Rattle.par_names.proofs.policy.check_clauses.Given as goal

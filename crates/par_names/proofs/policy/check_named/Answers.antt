@@ -1,6 +1,6 @@
 use Rattle.std.proofs.Common.{◌≡◌, ap, sym, ◌∙◌, not, Some, None}
 use Rattle.par_index.specs.Texts.{has, texts}
-use Rattle.par_typed.specs.First.{first_of, when, broken}
+use Rattle.par_refusals.specs.First.{first_of, when, broken}
 use Rattle.par_names.specs.Seen.{seen}
 use Rattle.par_names.proofs.Behind.{in_first}
 use Rattle.par_names.proofs.policy.check_named.Goals.{in-None, in-Some}

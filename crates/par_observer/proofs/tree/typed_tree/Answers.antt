@@ -1,6 +1,6 @@
 use Rattle.par_tree.specs.Shown.{source as tree_of_program}
 use Rattle.par_typed.specs.declared.table.Table.{Table}
-use Rattle.par_typed.specs.First.{IsFirst}
+use Rattle.par_refusals.specs.First.{IsFirst}
 use Rattle.std.proofs.Common.{subst}
 use Rattle.par_type_rules.specs.Program.{type_faults}
 use Rattle.par_observer.proofs.Passing.{types_stop}

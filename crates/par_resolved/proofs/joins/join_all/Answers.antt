@@ -1,8 +1,8 @@
 use Rattle.std.proofs.Common.{◌≡◌, ◌∙◌, ◌∷◌, ap, sym, subst, Some, IfOk, OnOk, List, length, take}
 use Rattle.std.proofs.Common.{drop, ◌-◌}
 use Rattle.par_typed.specs.par_policy.declared.clauses.Clause.{Clause}
-use Rattle.par_typed.specs.First.{first_of}
-use Rattle.par_typed.proofs.First.{first_of_none}
+use Rattle.par_refusals.specs.First.{first_of}
+use Rattle.par_refusals.proofs.First.{first_of_none}
 use Rattle.par_resolved.specs.Policies.{join_of}
 use Rattle.par_resolved.specs.Sizes.{join_faults}
 use Rattle.par_resolved.proofs.Loops.{empty, parted}

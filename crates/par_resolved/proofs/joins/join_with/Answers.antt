@@ -1,6 +1,6 @@
 use Rattle.std.proofs.Common.{◌∙◌, ap, sym}
-use Rattle.par_typed.specs.First.{first_of}
-use Rattle.par_typed.proofs.First.{first_of_none}
+use Rattle.par_refusals.specs.First.{first_of}
+use Rattle.par_refusals.proofs.First.{first_of_none}
 use Rattle.par_resolved.specs.Sizes.{form_faults}
 use Rattle.par_resolved.proofs.Loops.{drop_more, none_left}
 use Rattle.par_resolved.proofs.Steps.{value_stops, value_goes_on, value_done, faults_stop}

@@ -1,6 +1,6 @@
 use Rattle.std.proofs.Common.{◌≡◌, None, drop}
 use Rattle.std.specs.List.{flat_map}
-use Rattle.par_typed.specs.First.{first_of}
+use Rattle.par_refusals.specs.First.{first_of}
 use Rattle.par_resolved.specs.Sizes.{literal_faults}
 use Rattle.par_resolved.specs.Gathered.{all_of}
 use Rattle.par_resolved.proofs.literals.first_literal.Given as goal

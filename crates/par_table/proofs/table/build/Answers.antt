@@ -1,6 +1,6 @@
 use Rattle.std.proofs.Common.{subst}
 use Rattle.par_tree.specs.Shown.{source}
-use Rattle.par_typed.specs.First.{IsAnswer}
+use Rattle.par_refusals.specs.First.{IsAnswer}
 use Rattle.par_faults.specs.Faults.{all_faults}
 use Rattle.par_table.proofs.Kept.{fits}
 use Rattle.par_table.proofs.table.build.Goals as goal

@@ -1,6 +1,6 @@
 use Rattle.std.proofs.Common.{◌≡◌, drop}
 use Rattle.par_tree.specs.Shown.{all_declared}
-use Rattle.par_completes.specs.par_typed.First.{first_of}
+use Rattle.par_refusals.specs.First.{first_of}
 use Rattle.par_type_rules.specs.Inferred.{all_inferred}
 use Rattle.par_type_rules.proofs.inferred.note_decls.Given as goal
 

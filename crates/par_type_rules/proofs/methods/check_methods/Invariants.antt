@@ -1,6 +1,6 @@
 use Rattle.std.proofs.Common.{◌≡◌, drop}
 use Rattle.par_tree.specs.Shown.{methods}
-use Rattle.par_completes.specs.par_typed.First.{first_of}
+use Rattle.par_refusals.specs.First.{first_of}
 use Rattle.par_type_rules.specs.Methods.{methods_faults}
 use Rattle.par_type_rules.proofs.methods.check_methods.Given as goal
 

@@ -1,5 +1,5 @@
 use Rattle.std.proofs.Common.{◌≡◌, drop}
-use Rattle.par_completes.specs.par_typed.First.{first_of}
+use Rattle.par_refusals.specs.First.{first_of}
 use Rattle.par_scope.specs.Home.{seen}
 use Rattle.par_type_rules.specs.Methods.{throws_faults}
 use Rattle.par_type_rules.proofs.methods.check_throws.Given as goal

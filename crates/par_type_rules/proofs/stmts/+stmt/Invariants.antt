@@ -1,6 +1,6 @@
 use Rattle.std.proofs.Common.{◌≡◌, drop, true}
 use Rattle.par_tree.specs.Shown.{all_do, all_catch}
-use Rattle.par_completes.specs.par_typed.First.{first_of}
+use Rattle.par_refusals.specs.First.{first_of}
 use Rattle.par_scope.specs.Home.{seen}
 use Rattle.par_type_rules.specs.Kept.{IsKept}
 use Rattle.par_type_rules.specs.Stmts.{stmts_faults, catches_faults}

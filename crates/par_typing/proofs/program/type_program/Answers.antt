@@ -1,6 +1,6 @@
 use Rattle.std.proofs.Common.{subst}
 use Rattle.par_tree.specs.Shown.{source}
-use Rattle.par_typed.specs.First.{IsAnswer}
+use Rattle.par_refusals.specs.First.{IsAnswer}
 use Rattle.par_typed.specs.Shown.{bodies}
 use Rattle.par_type_rules.specs.Program.{type_faults}
 use Rattle.par_typing.proofs.WellTyped.{well_typed, well_declared}

@@ -1,7 +1,7 @@
 use Rattle.std.proofs.Common.{◌≡◌, [], ap, subst, ◌∙◌}
 use Rattle.std.specs.Prelude.{map}
 use Rattle.std.proofs.lemmas.List.{length-map}
-use Rattle.par_typed.specs.First.{IsAnswer}
+use Rattle.par_refusals.specs.First.{IsAnswer}
 use Rattle.par_verdict.specs.Accepted.{IsAcceptedBy}
 use Rattle.par_verdict.proofs.Judged.{accepted_by}
 use Rattle.par_verdict.proofs.accepted.check.Goals as goal

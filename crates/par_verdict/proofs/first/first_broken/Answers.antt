@@ -1,8 +1,8 @@
 use Rattle.std.proofs.Common.{map, subst, sym, ◌∙◌, ap}
 use Rattle.par_typed.specs.declared.table.Table.{Table}
-use Rattle.par_typed.specs.First.{IsAnswer, first_of}
+use Rattle.par_refusals.specs.First.{IsAnswer, first_of}
 use Rattle.par_typed.specs.Shown.{bodies}
-use Rattle.par_typed.proofs.First.{answered}
+use Rattle.par_refusals.proofs.First.{answered}
 use Rattle.par_verdict.specs.Told.{AreAllBroken}
 use Rattle.par_verdict.proofs.Judged.{judged}
 use Rattle.par_verdict.proofs.first.first_broken.Goals as goal

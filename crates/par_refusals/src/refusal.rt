@@ -1,7 +1,7 @@
 //! Why a source is refused, and which of several broken rules is told.
 
 ghost use Rattle.std.specs.Prelude.{◌≡◌, [], ◌∷◌, not, None};
-ghost use Rattle.par_typed.specs.First.{comes_before, first_of, when, broken, exceeded};
+ghost use Rattle.par_refusals.specs.First.{comes_before, first_of, when, broken, exceeded};
 
 use std::marker::Model;
 
@@ -27,7 +27,7 @@ pub struct Findings {
 
 impl Model for Findings {
     ghost use Rattle.std.specs.Prelude.{Option};
-    ghost use Rattle.par_typed.specs.declared.refusal.Refusal.{Refusal};
+    ghost use Rattle.par_refusals.specs.declared.refusal.Refusal.{Refusal};
 
     ghost Value = { Option Refusal };
 

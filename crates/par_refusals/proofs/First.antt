@@ -1,16 +1,19 @@
 -- Laws of the first broken rule.
 use Rattle.std.proofs.Common.{◌≡◌, ◌++◌, List, [], ◌∷◌, Option, Some, None, Bool, true, false, not}
-use Rattle.std.proofs.Common.{refl, sym, subst, arith, ⊎_elim}
+use Rattle.std.proofs.Common.{Contains, refl, sym, subst, arith, ⊎_elim}
 use Rattle.std.specs.Prelude.{fold, cond}
 use Rattle.std.proofs.lemmas.List.Sums.{fold-append}
 use Rattle.std.proofs.lemmas.List.Elements.{All-nil, All-cons, All-head, All-tail}
 use Rattle.std.proofs.lemmas.List.Elements.{Contains-push, Contains-append_left}
 use Rattle.std.proofs.lemmas.List.Elements.{Contains-append_right, Contains-append_cases}
 use Rattle.std.proofs.lemmas.Bool.Decides.{nat_tests}
-use Rattle.par_policy.proofs.Ordered.{Contains-nil}
-use Rattle.par_typed.specs.declared.refusal.Refusal.{Refusal}
-use Rattle.par_typed.specs.First.{comes_before, earlier, first_of, in_passes, when, IsAnswer}
-use Rattle.par_typed.specs.First.{IsFirst}
+use Rattle.par_refusals.specs.declared.refusal.Refusal.{Refusal}
+use Rattle.par_refusals.specs.First.{comes_before, earlier, first_of, in_passes, when, IsAnswer}
+use Rattle.par_refusals.specs.First.{IsFirst}
+
+-- no rule is among none
+none_among : (f : Refusal) → Contains [] f → ⊥
+none_among f (k, short, at) = omega arith
 
 -- nothing more is broken
 pub first_of_none : (o : Option Refusal) → first_of o [] ≡ o
@@ -134,7 +137,7 @@ answered (f ∷ fs) = let k = keeps f fs in subst (IsAnswer (f ∷ fs)) (sym k.i
 -- where the first pass finds something, its first rule is the first of both passes
 pub first_stops : (fs gs : List Refusal) (f : Refusal) → IsFirst fs f → IsFirst (in_passes fs gs) f
 unfolding in_passes
-first_stops [] gs f h = absurd (Contains-nil f h.among)
+first_stops [] gs f h = absurd (none_among f h.among)
 first_stops (g ∷ fs) gs f h = h
 
 -- where it finds nothing, the answer of the second is that of both

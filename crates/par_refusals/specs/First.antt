@@ -2,8 +2,8 @@
 use Rattle.std.specs.Prelude.{◌≡◌, ℕ, Bool, true, false, ◌||◌, ◌&&◌, nat_lt, nat_eq, if◌then◌else◌}
 use Rattle.std.specs.Prelude.{List, [], ◌∷◌, Option, Some, None, fold}
 use Rattle.std.specs.List.{Contains, All}
-use Rattle.par_typed.specs.declared.refusal.Refusal.{Refusal}
-use Rattle.par_typed.specs.declared.refusal.TheConstants.{LIMIT_RULE}
+use Rattle.par_refusals.specs.declared.refusal.Refusal.{Refusal}
+use Rattle.par_refusals.specs.declared.refusal.TheConstants.{LIMIT_RULE}
 
 -- by place, then by rule, then by limit
 abbrev pub comes_before : Refusal → Refusal → Bool
