@@ -3,7 +3,7 @@ use Rattle.std.proofs.Common.{◌≡◌, ℕ, ◌≤◌, List, [], ◌∷◌, �
 use Rattle.std.proofs.Common.{◌∙◌}
 use Rattle.std.proofs.lemmas.List.{append_assoc, take_all}
 use Rattle.std.specs.List.{flat_map}
-use Rattle.par_run_lines.specs.Texts.{Text}
+use Rattle.par_event_lines.specs.Texts.{Text}
 use Rattle.par_filling_lines.specs.Texts.{joined_by}
 
 each_behind : {A : Type 0} (between : Text) (text : A → Text) (xs : List A)

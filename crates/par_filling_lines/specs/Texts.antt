@@ -7,7 +7,7 @@ use Rattle.par_policy.specs.declared.clauses.Clause.{Clause}
 use Rattle.par_bits.specs.Sets.{has}
 use Rattle.par_typed.specs.declared.table.FieldInfo.{FieldInfo}
 use Rattle.par_typed.specs.declared.table.Table.{Table}
-use Rattle.par_run_lines.specs.Texts.{Text}
+use Rattle.par_event_lines.specs.Texts.{Text}
 use Rattle.par_trace.specs.Texts.{actor_text, lock_text}
 use Rattle.par_filling.specs.declared.filling.FilledField.{FilledField}
 use Rattle.par_told.specs.Told.{told_numbers}

@@ -4,8 +4,8 @@ ghost use Rattle.std.specs.Prelude.{◌≡◌, ◌≤◌, IfOk, length, map};
 ghost use Rattle.par_filling_lines.specs.Texts as spec;
 
 use crate::text::add_join;
+use par_base::memory::NoMemory;
 use par_filling::FilledField;
-use par_run_lines::NoMemory;
 use par_told::told_numbers;
 use par_typed::table::{FieldInfo, Table};
 use std::alloc::Global;

@@ -3,8 +3,8 @@
 ghost use Rattle.std.specs.Prelude.{◌≡◌, ◌++◌, OnOk};
 ghost use Rattle.par_filling_lines.specs.Texts as spec;
 
+use par_base::memory::NoMemory;
 use par_policy::{Clause, Policy};
-use par_run_lines::NoMemory;
 use par_trace::{actor_name, add_lock};
 use par_typed::table::Table;
 

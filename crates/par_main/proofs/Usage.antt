@@ -9,7 +9,7 @@ use Rattle.par_values.specs.declared.run.Ending.TheVariants.{End, Uncaught, Stop
 use Rattle.par_words.specs.declared.words.Which.{Which}
 use Rattle.par_words.specs.Words.{Wanted, Check, Compile, Trace, Sample, Audit, Infer, Verify}
 use Rattle.par_words.specs.Words.{Run, Asks}
-use Rattle.par_tool.specs.par_run_lines.Texts as told
+use Rattle.par_tool.specs.par_event_lines.Texts as told
 use Rattle.par_tool.specs.declared.answer.Answer.{Answer}
 use Rattle.par_tool.specs.declared.answer.Answer.TheVariants.{Accepted, Compiled, Sampled}
 use Rattle.par_tool.specs.declared.answer.Answer.TheVariants.{Verified}

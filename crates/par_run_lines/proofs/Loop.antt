@@ -8,20 +8,20 @@ use Rattle.par_values.specs.Ran.{Ran, ended, stopped}
 use Rattle.par_machine.specs.declared.machine.Machine.{Machine}
 use Rattle.par_machine.specs.Machine.{files_of, state_of, steps_of}
 use Rattle.par_machine.specs.Quiet as quiet
-use Rattle.par_run_lines.specs.declared.puts.Closing.{Closing}
-use Rattle.par_run_lines.specs.declared.puts.Untold.{Untold}
-use Rattle.par_run_lines.specs.declared.puts.Untold.TheVariants.{Fault, Memory}
-use Rattle.par_run_lines.specs.Texts.{Text, lines, status}
-use Rattle.par_run_lines.specs.Outcome.{outcome}
+use Rattle.par_event_lines.specs.declared.puts.Closing.{Closing}
+use Rattle.par_event_lines.specs.declared.puts.Untold.{Untold}
+use Rattle.par_event_lines.specs.declared.puts.Untold.TheVariants.{Fault, Memory}
+use Rattle.par_event_lines.specs.Texts.{Text, lines, status}
+use Rattle.par_event_lines.specs.Outcome.{outcome}
 use Rattle.par_run_lines.specs.Running.{runs_of}
-use Rattle.par_run_lines.specs.Progress.{IsUnderWay}
-use Rattle.par_run_lines.specs.Telling.{GoesOn, silently, happened, ClosesBy, IsUntoldTurn}
-use Rattle.par_run_lines.specs.Telling.{IsTold, IsCutOff, Closes, closed, unclosed}
-use Rattle.par_run_lines.specs.Telling.{status_of_untold}
+use Rattle.par_event_lines.specs.Progress.{IsUnderWay}
+use Rattle.par_event_lines.specs.Telling.{GoesOn, silently, happened, ClosesBy, IsUntoldTurn}
+use Rattle.par_event_lines.specs.Telling.{IsTold, IsCutOff, Closes, closed, unclosed}
+use Rattle.par_event_lines.specs.Telling.{status_of_untold}
 use Rattle.par_run_lines.proofs.Steps.{silent_runs}
-use Rattle.par_run_lines.proofs.UnderWay.{begun, goes_on, happens, unput, cut_short, first_lines}
-use Rattle.par_run_lines.proofs.UnderWay.{ends}
-use Rattle.par_run_lines.proofs.UnderWay.{ends_short}
+use Rattle.par_event_lines.proofs.UnderWay.{begun, goes_on, happens, unput, cut_short, first_lines}
+use Rattle.par_event_lines.proofs.UnderWay.{ends}
+use Rattle.par_event_lines.proofs.UnderWay.{ends_short}
 
 -- Of so many instructions this many are left.
 pub record IsTelling (alone : Bool) (first : Machine) (steps left : ℕ) (m : Machine)

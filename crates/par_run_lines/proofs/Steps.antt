@@ -16,11 +16,11 @@ use Rattle.par_machine.specs.par_step_laws.Step.{Turn, turn}
 use Rattle.par_machine.specs.par_step_laws.Run.{run, followed}
 use Rattle.par_base.specs.declared.memory.NoMemory.{NoMemory}
 use Rattle.par_run_lines.specs.declared.step.Moved.{Moved}
-use Rattle.par_run_lines.specs.declared.puts.Untold.{Untold}
-use Rattle.par_run_lines.specs.declared.puts.Untold.TheVariants.{Fault, Memory}
-use Rattle.par_run_lines.specs.Texts.{Text, line, event_text}
+use Rattle.par_event_lines.specs.declared.puts.Untold.{Untold}
+use Rattle.par_event_lines.specs.declared.puts.Untold.TheVariants.{Fault, Memory}
+use Rattle.par_event_lines.specs.Texts.{Text, line, event_text}
 use Rattle.par_run_lines.specs.Running.{runs_of, Moves}
-use Rattle.par_run_lines.specs.Telling.{IsUntold, IsUntoldTurn}
+use Rattle.par_event_lines.specs.Telling.{IsUntold, IsUntoldTurn}
 
 -- what holds of a result for each number holds for all of them
 each_ok : {A E : Type 0} (r : Result A E) (P : ℕ → A → Type 0) → ((n : ℕ) → IfOk r (P n))

@@ -1,6 +1,2 @@
-pub mod Texts
-pub mod Laws
-pub mod Outcome
 pub mod Running
-pub mod Progress
-pub mod Telling
+pub use Rattle.par_event_lines.specs as par_event_lines

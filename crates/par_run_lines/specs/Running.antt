@@ -6,7 +6,7 @@ use Rattle.par_machine.specs.Machine.{files_of, state_of}
 use Rattle.par_machine.specs.par_step_laws.Run.{run}
 use Rattle.par_run_lines.specs.declared.step.Moved.{Moved}
 use Rattle.par_run_lines.specs.declared.step.Moved.TheVariants.{Silent, Happened, Closed}
-use Rattle.par_run_lines.specs.Outcome.{outcome}
+use Rattle.par_event_lines.specs.Outcome.{outcome}
 
 -- the run from where a machine stands, of at most so many instructions
 abbrev pub runs_of : Machine → ℕ → Ran

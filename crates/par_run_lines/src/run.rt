@@ -4,12 +4,13 @@ ghost use Rattle.std.specs.Prelude.{◌≡◌, ◌≢◌, ◌<◌, ◌≤◌, �
 ghost use Rattle.par_io.specs.Saying.{Said};
 ghost use Rattle.par_machine.specs.Machine.{steps_of};
 ghost use Rattle.par_run_lines.specs.Running.{runs_of};
-ghost use Rattle.par_run_lines.specs.Texts.{lines, status};
-ghost use Rattle.par_run_lines.specs.Telling.{GoesOn, ClosesBy, IsUntoldTurn, PutsAreTold, IsTold};
-ghost use Rattle.par_run_lines.specs.Telling.{IsCutOff, Closes};
+ghost use Rattle.par_event_lines.specs.Texts.{lines, status};
+ghost use Rattle.par_event_lines.specs.Telling.{GoesOn, ClosesBy, IsUntoldTurn, PutsAreTold};
+ghost use Rattle.par_event_lines.specs.Telling.{IsTold};
+ghost use Rattle.par_event_lines.specs.Telling.{IsCutOff, Closes};
 
-use crate::puts::{Closing, Untold, put_closing, put_event, status_of, untold_status};
 use crate::step::{MOST_STEPS, Moved, step};
+use par_event_lines::{Closing, Untold, put_closing, put_event, status_of, untold_status};
 use par_io::Sink;
 use par_machine::machine::Machine;
 use par_values::run::Ending;

@@ -9,8 +9,8 @@ ghost use Rattle.par_machine.specs.Machine.{steps_of};
 ghost use Rattle.par_machine.specs.Turn.{IsTurn};
 ghost use Rattle.par_run_lines.specs.Running.{runs_of, Moves};
 
-use crate::puts::Closing;
 use par_base::memory::NoMemory;
+use par_event_lines::Closing;
 use par_machine::machine::Machine;
 use par_machine::turn::{Stuck, Turn};
 use par_values::run::Event;

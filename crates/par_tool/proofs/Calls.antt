@@ -13,7 +13,7 @@ use Rattle.par_step_laws.specs.Run.{run, machine_run}
 use Rattle.par_run_lines.specs.Running.{runs_of}
 use Rattle.par_values.specs.Ran.{Fine}
 use Rattle.par_typed.specs.declared.table.Table.{Table}
-use Rattle.par_run_lines.specs.Texts as told
+use Rattle.par_event_lines.specs.Texts as told
 use Rattle.par_trace.specs.Texts as traced
 use Rattle.par_words.specs.declared.words.Which.{Which}
 use Rattle.par_words.specs.declared.words.Unread.{Unread}

@@ -8,7 +8,7 @@ use Rattle.par_tree.specs.Plain.{Source}
 use Rattle.par_secrecy.specs.Runs as source
 use Rattle.par_resolved.specs.Resolved.{table_of}
 use Rattle.par_trace.specs.Texts as traced
-use Rattle.par_run_lines.specs.Texts as told
+use Rattle.par_event_lines.specs.Texts as told
 use Rattle.par_words.specs.declared.words.Which.{Which}
 use Rattle.par_words.specs.Commands.{Text}
 use Rattle.par_words.specs.Words.{Wanted, Check, Compile, Trace, Sample, Audit, Infer, Verify}

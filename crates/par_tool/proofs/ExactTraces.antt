@@ -11,7 +11,7 @@ use Rattle.par_tree.specs.Plain.{Source}
 use Rattle.par_values.specs.declared.inputs.ChannelInput.{ChannelInput}
 use Rattle.par_values.specs.Ran.{Fine}
 use Rattle.par_secrecy.specs.Runs.{Run}
-use Rattle.par_run_lines.specs.Texts as told
+use Rattle.par_event_lines.specs.Texts as told
 use Rattle.par_observer.specs.Judgements.{IsAcceptedSource, IsTreeOf}
 use Rattle.par_observer.proofs.Clashes.{one_tree}
 use Rattle.par_tool.specs.declared.answer.Answer.{Answer}

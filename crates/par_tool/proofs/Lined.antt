@@ -6,9 +6,9 @@ use Rattle.std.proofs.lemmas.List.{map-append}
 use Rattle.std.specs.declared.alloc.Global.{Global}
 use Rattle.std.specs.Prelude.{IsTrue, Vec}
 use Rattle.par_io.specs.Causes.{SinkCounts, raised, appended}
-use Rattle.par_run_lines.specs.declared.puts.Untold.{Untold}
-use Rattle.par_run_lines.specs.Texts.{Text}
-use Rattle.par_run_lines.specs.Telling.{IsUntold, IsCutOff}
+use Rattle.par_event_lines.specs.declared.puts.Untold.{Untold}
+use Rattle.par_event_lines.specs.Texts.{Text}
+use Rattle.par_event_lines.specs.Telling.{IsUntold, IsCutOff}
 use Rattle.par_trace.specs.Puts.{ArePut}
 use Rattle.par_trace.proofs.Puts.{put-more, cut-next}
 use Rattle.par_trace.proofs.Told.{IsTelling}

@@ -23,7 +23,7 @@ use Rattle.par_secrecy.specs.Shows.{IsFine, shown_run}
 use Rattle.par_secrecy.proofs.Carried.{fitting_same, fits_program}
 use Rattle.par_alike.specs.Subject.{subject}
 use Rattle.par_run_laws.specs.Source as runs
-use Rattle.par_run_lines.specs.Texts as told
+use Rattle.par_event_lines.specs.Texts as told
 use Rattle.par_inputs.specs.Lines.{lines_of}
 use Rattle.par_inputs.specs.Rules.{entries, IsRight, IsEntry}
 use Rattle.par_inputs.specs.declared.read.TheConstants.{LONGEST_INPUTS}

@@ -7,7 +7,7 @@ use Rattle.par_inputs.specs.Lines.{lines_of}
 use Rattle.par_inputs.specs.Rules.{entries, IsRight}
 use Rattle.par_link.specs.Inputs.{first_misfit}
 use Rattle.par_step_laws.specs.Run.{machine_run}
-use Rattle.par_run_lines.specs.Texts as told
+use Rattle.par_event_lines.specs.Texts as told
 use Rattle.par_words.specs.Words.{Wanted, Check, Compile, Trace, Sample, Audit, Infer, Verify}
 use Rattle.par_words.specs.Words.{Run}
 use Rattle.par_sample.specs.Source as sampled

@@ -9,7 +9,7 @@ use Rattle.par_values.specs.Ran.{Fine}
 use Rattle.par_secrecy.specs.Runs.{Run}
 use Rattle.par_secrecy.specs.Shows.{shown_run}
 use Rattle.par_run_laws.specs.Source as runs
-use Rattle.par_run_lines.specs.Texts as told
+use Rattle.par_event_lines.specs.Texts as told
 use Rattle.par_inputs.specs.Lines.{lines_of}
 use Rattle.par_inputs.specs.Rules.{entries, IsRight}
 use Rattle.par_inputs.specs.declared.read.TheConstants.{LONGEST_INPUTS}

@@ -2,12 +2,12 @@
 
 ghost use Rattle.std.specs.Prelude.{◌≡◌, ◌≢◌, IsTrue, IfErr, OnOk};
 ghost use Rattle.par_io.specs.Saying.{Said};
-ghost use Rattle.par_run_lines.specs.Telling.{IsCutOff, PutsAreTold};
+ghost use Rattle.par_event_lines.specs.Telling.{IsCutOff, PutsAreTold};
 ghost use Rattle.par_trace.specs.Puts.{ArePut};
 ghost use Rattle.par_tool.specs.Lines.{texts_of};
 
+use par_event_lines::{Untold, put_line, untold_status};
 use par_io::Sink;
-use par_run_lines::{Untold, put_line, untold_status};
 
 /// Puts lines, each by one put.
 fn put_lines<S: Sink>(lines: &[Vec<u8>], out: &mut S) -> Result<(), Untold>

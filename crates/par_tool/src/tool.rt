@@ -3,7 +3,7 @@
 ghost use Rattle.std.specs.Prelude.{◌≡◌, ◌≢◌, ℕ, IsTrue};
 ghost use Rattle.par_io.specs.Saying.{Said};
 ghost use Rattle.par_values.specs.Ran.{Fine};
-ghost use Rattle.par_run_lines.specs.Texts as told;
+ghost use Rattle.par_event_lines.specs.Texts as told;
 ghost use Rattle.par_trace.specs.Texts.{run_of, lines};
 ghost use Rattle.par_tool.specs.Answers.{Scene, Ends, Concludes, BreaksOff};
 ghost use Rattle.par_tool.specs.Exactly.{IsExact, IsSaidBy};

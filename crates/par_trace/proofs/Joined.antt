@@ -2,7 +2,7 @@
 use Rattle.std.proofs.Common.{◌≡◌, ℕ, ◌≤◌, List, [], ◌∷◌, ◌++◌, length, map, take, sym, ap, ◌∙◌}
 use Rattle.std.proofs.lemmas.List.{append-nil, append_assoc, take_all}
 use Rattle.std.specs.List.{flat_map, join_with_byte}
-use Rattle.par_run_lines.specs.Texts.{Text}
+use Rattle.par_event_lines.specs.Texts.{Text}
 
 -- the first, and then each other one behind a byte
 pub joined-first : {A : Type 0} (byte : ℕ) (text : A → Text) (x : A) (xs : List A)

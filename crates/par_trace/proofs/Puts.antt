@@ -5,10 +5,10 @@ use Rattle.std.specs.List.{concat}
 use Rattle.std.proofs.lemmas.List.{append-nil, append_assoc}
 use Rattle.std.proofs.lemmas.List.Folds.{concat-append}
 use Rattle.par_io.specs.Causes.{SinkCounts, Rose, raised, raised_by, appended, AppendsFront}
-use Rattle.par_run_lines.specs.declared.puts.Untold.{Untold}
-use Rattle.par_run_lines.specs.declared.puts.Untold.TheVariants.{Fault, Memory}
-use Rattle.par_run_lines.specs.Texts.{Text}
-use Rattle.par_run_lines.specs.Telling.{IsUntold, IsCutOff}
+use Rattle.par_event_lines.specs.declared.puts.Untold.{Untold}
+use Rattle.par_event_lines.specs.declared.puts.Untold.TheVariants.{Fault, Memory}
+use Rattle.par_event_lines.specs.Texts.{Text}
+use Rattle.par_event_lines.specs.Telling.{IsUntold, IsCutOff}
 use Rattle.par_trace.specs.Puts.{ArePut}
 
 appended-appended : (old : Option Text) (a b : Text)

@@ -9,10 +9,10 @@ use Rattle.par_io.specs.Saying.{Said, whole, cut, unsaid}
 use Rattle.par_typed.specs.declared.table.Table.{Table}
 use Rattle.par_meaning.specs.declared.run.SourceEvent.{SourceEvent}
 use Rattle.par_meaning.specs.Onward.{witnessed}
-use Rattle.par_run_lines.specs.declared.puts.Untold.{Untold}
-use Rattle.par_run_lines.specs.declared.puts.Untold.TheVariants.{Fault, Memory}
-use Rattle.par_run_lines.specs.Texts.{Text, line}
-use Rattle.par_run_lines.specs.Telling.{IsUntold, IsCutOff, status_of_untold}
+use Rattle.par_event_lines.specs.declared.puts.Untold.{Untold}
+use Rattle.par_event_lines.specs.declared.puts.Untold.TheVariants.{Fault, Memory}
+use Rattle.par_event_lines.specs.Texts.{Text, line}
+use Rattle.par_event_lines.specs.Telling.{IsUntold, IsCutOff, status_of_untold}
 use Rattle.par_trace.specs.Puts.{ArePut}
 use Rattle.par_trace.specs.Texts.{witnessed_text, event_lines}
 use Rattle.par_trace.proofs.Puts.{put-more, cut-next}

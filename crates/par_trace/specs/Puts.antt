@@ -2,7 +2,7 @@
 use Rattle.std.specs.Prelude.{◌≡◌, List, Option, length}
 use Rattle.std.specs.List.{concat}
 use Rattle.par_io.specs.Causes.{SinkCounts, raised_by, appended}
-use Rattle.par_run_lines.specs.Texts.{Text}
+use Rattle.par_event_lines.specs.Texts.{Text}
 
 -- each line is put by one put, and no more is put
 pub record ArePut (lines : List Text) (old new : Option Text) (before after : SinkCounts)

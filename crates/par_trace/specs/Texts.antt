@@ -9,7 +9,7 @@ use Rattle.par_values.specs.Ran.{Fine}
 use Rattle.par_secrecy.specs.Runs.{Witnessed, Run}
 use Rattle.par_meaning.specs.declared.run.SourceRun.{SourceRun}
 use Rattle.par_meaning.specs.Onward.{witnessed}
-use Rattle.par_run_lines.specs.Texts.{Text, event_text, ending_text, line}
+use Rattle.par_event_lines.specs.Texts.{Text, event_text, ending_text, line}
 
 -- the run that is handed in
 abbrev pub run_of : SourceRun → Run

@@ -5,15 +5,15 @@ ghost use Rattle.par_io.specs.Causes.{raised, appended};
 ghost use Rattle.par_io.specs.Saying.{Said};
 ghost use Rattle.par_values.specs.Ran.{Fine};
 ghost use Rattle.par_meaning.specs.Onward.{witnessed};
-ghost use Rattle.par_run_lines.specs.Telling.{IsUntold, IsCutOff, PutsAreTold};
-ghost use Rattle.par_run_lines.specs.Texts.{line, ending_text, status};
+ghost use Rattle.par_event_lines.specs.Telling.{IsUntold, IsCutOff, PutsAreTold};
+ghost use Rattle.par_event_lines.specs.Texts.{line, ending_text, status};
 ghost use Rattle.par_trace.specs.Puts.{ArePut};
 ghost use Rattle.par_trace.specs.Texts.{run_of, witnessed_text, event_lines, lines};
 
 use crate::text::event_line;
+use par_event_lines::{Untold, ending_line, put_line, untold_status};
 use par_io::Sink;
 use par_meaning::{SourceEvent, SourceRun};
-use par_run_lines::{Untold, ending_line, put_line, untold_status};
 use par_typed::table::Table;
 use par_values::run::Ending;
 use std::alloc::Global;

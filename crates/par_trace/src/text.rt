@@ -3,11 +3,12 @@
 ghost use Rattle.std.specs.Prelude.{◌≡◌, ◌++◌, map, IfOk, OnOk};
 ghost use Rattle.std.specs.List.{join_with_byte};
 ghost use Rattle.par_meaning.specs.Onward.{witnessed};
-ghost use Rattle.par_run_lines.specs.Texts.{line};
+ghost use Rattle.par_event_lines.specs.Texts.{line};
 ghost use Rattle.par_trace.specs.Texts as spec;
 
+use par_base::memory::NoMemory;
+use par_event_lines::add_event;
 use par_meaning::SourceEvent;
-use par_run_lines::{NoMemory, add_event};
 use par_typed::table::Table;
 use std::alloc::Global;
 

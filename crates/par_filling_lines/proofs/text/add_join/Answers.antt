@@ -1,6 +1,6 @@
 use Rattle.std.proofs.Common.{◌++◌, ◌∷◌, ℕ, List, refl, sym, ap, ◌∙◌, arith}
 use Rattle.std.specs.Prelude.{codes}
-use Rattle.par_run_lines.specs.Texts.{Text}
+use Rattle.par_event_lines.specs.Texts.{Text}
 use Rattle.par_filling_lines.specs.Texts.{policy_text, join_text}
 use Rattle.par_filling_lines.proofs.Joined.{joined-all}
 use Rattle.par_filling_lines.proofs.text.add_join.Goals as goal

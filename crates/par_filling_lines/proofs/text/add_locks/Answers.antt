@@ -1,7 +1,7 @@
 use Rattle.std.proofs.Common.{◌++◌, ◌∷◌, ℕ, List, map, refl, sym, ap, ◌∙◌, arith}
 use Rattle.std.specs.Prelude.{codes}
 use Rattle.std.proofs.lemmas.List.{append_assoc}
-use Rattle.par_run_lines.specs.Texts.{Text}
+use Rattle.par_event_lines.specs.Texts.{Text}
 use Rattle.par_trace.specs.Texts.{lock_text}
 use Rattle.par_filling_lines.specs.Texts.{joined_by, locks_text}
 use Rattle.par_filling_lines.proofs.Joined.{joined-all}

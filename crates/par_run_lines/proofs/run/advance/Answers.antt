@@ -1,5 +1,5 @@
 use Rattle.par_run_lines.specs.Running.{runs_of}
-use Rattle.par_run_lines.specs.Telling.{happened}
+use Rattle.par_event_lines.specs.Telling.{happened}
 use Rattle.par_run_lines.proofs.Steps.{untold_event}
 use Rattle.par_run_lines.proofs.run.advance.Goals as goal
 

@@ -1,4 +1,4 @@
-use Rattle.par_run_lines.specs.Telling.{unclosed}
+use Rattle.par_event_lines.specs.Telling.{unclosed}
 use Rattle.par_run_lines.proofs.run.close.Goals as goal
 
 pub returns-in-Err-clause-closes : goal.returns-in-Err-clause-closes

@@ -1,5 +1,5 @@
 use Rattle.std.proofs.Common.{◌<◌, length, arith}
-use Rattle.par_run_lines.specs.Telling.{IsCutOff}
+use Rattle.par_event_lines.specs.Telling.{IsCutOff}
 use Rattle.par_trace.proofs.Told.{handed}
 use Rattle.par_tool.specs.Lines.{texts_of}
 use Rattle.par_tool.proofs.Lined.{lines-more, lines-cut}

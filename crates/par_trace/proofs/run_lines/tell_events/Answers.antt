@@ -1,5 +1,5 @@
 use Rattle.std.proofs.Common.{◌<◌, length, arith}
-use Rattle.par_run_lines.specs.Telling.{IsCutOff}
+use Rattle.par_event_lines.specs.Telling.{IsCutOff}
 use Rattle.par_trace.proofs.Told.{told, tells-more, tells-cut, handed}
 use Rattle.par_trace.proofs.run_lines.tell_events.Goals as goal
 

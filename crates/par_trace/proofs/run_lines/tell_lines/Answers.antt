@@ -1,8 +1,8 @@
 use Rattle.std.proofs.Common.{◌∷◌, [], List, subst}
 use Rattle.par_values.specs.Ran.{Fine}
 use Rattle.par_meaning.specs.declared.run.SourceEvent.{SourceEvent}
-use Rattle.par_run_lines.specs.Texts.{Text, line, ending_text}
-use Rattle.par_run_lines.specs.Telling.{IsCutOff}
+use Rattle.par_event_lines.specs.Texts.{Text, line, ending_text}
+use Rattle.par_event_lines.specs.Telling.{IsCutOff}
 use Rattle.par_trace.specs.Puts.{ArePut}
 use Rattle.par_trace.specs.Texts.{run_of, lines}
 use Rattle.par_trace.proofs.Puts.{cut-longer}

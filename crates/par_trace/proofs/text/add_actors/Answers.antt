@@ -1,6 +1,6 @@
 use Rattle.std.proofs.Common.{◌++◌, ap, ◌∙◌, arith}
 use Rattle.par_trace.specs.Texts.{actor_text}
-use Rattle.par_run_lines.specs.Texts.{Text}
+use Rattle.par_event_lines.specs.Texts.{Text}
 use Rattle.par_trace.proofs.Joined.{joined-all}
 use Rattle.par_trace.proofs.text.add_actors.Goals as goal
 

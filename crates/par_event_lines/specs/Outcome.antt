@@ -1,7 +1,7 @@
 -- How a run closes.
 use Rattle.par_values.specs.Ran.{Outcome, Fine, BadCode}
-use Rattle.par_run_lines.specs.declared.puts.Closing.{Closing}
-use Rattle.par_run_lines.specs.declared.puts.Closing.TheVariants as closing
+use Rattle.par_event_lines.specs.declared.puts.Closing.{Closing}
+use Rattle.par_event_lines.specs.declared.puts.Closing.TheVariants as closing
 
 abbrev pub outcome : Closing → Outcome
 outcome (closing.Ended ending) = Fine ending

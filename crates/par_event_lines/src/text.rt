@@ -3,8 +3,8 @@
 ghost use Rattle.std.specs.Prelude.{◌≡◌, ◌++◌, ◌∷◌, [], IfOk, OnOk, codes};
 ghost use Rattle.std.specs.Fmt.{decimal, signed_decimal};
 ghost use Rattle.par_values.specs.Ran.{Fine, BadCode};
-ghost use Rattle.par_run_lines.specs.Texts as spec;
-ghost use Rattle.par_run_lines.specs.Texts.{line};
+ghost use Rattle.par_event_lines.specs.Texts as spec;
+ghost use Rattle.par_event_lines.specs.Texts.{line};
 
 use par_base::memory::NoMemory;
 use par_base::name::Name;

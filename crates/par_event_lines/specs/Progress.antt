@@ -4,7 +4,7 @@ use Rattle.std.specs.List.{concat}
 use Rattle.par_io.specs.Causes.{appended, raised_by}
 use Rattle.par_values.specs.declared.run.Event.{Event}
 use Rattle.par_values.specs.Ran.{Ran}
-use Rattle.par_run_lines.specs.Texts.{Text, line, event_text}
+use Rattle.par_event_lines.specs.Texts.{Text, line, event_text}
 
 -- events first, and then a run
 abbrev pub after : List Event → Ran → Ran

@@ -4,12 +4,12 @@ use Rattle.par_io.specs.Causes.{SinkCounts, Rose, raised, appended, AppendsFront
 use Rattle.par_io.specs.Saying.{IsCut, IsLeftOff}
 use Rattle.par_values.specs.declared.run.Event.{Event}
 use Rattle.par_values.specs.Ran.{Ran, ended, with_event}
-use Rattle.par_run_lines.specs.declared.puts.Untold.{Untold}
-use Rattle.par_run_lines.specs.declared.puts.Untold.TheVariants.{Fault, Memory}
-use Rattle.par_run_lines.specs.declared.puts.Closing.{Closing}
-use Rattle.par_run_lines.specs.Texts.{Text, line, event_text, ending_text, status}
-use Rattle.par_run_lines.specs.Outcome.{outcome}
-use Rattle.par_run_lines.specs.Progress.{IsUnderWay}
+use Rattle.par_event_lines.specs.declared.puts.Untold.{Untold}
+use Rattle.par_event_lines.specs.declared.puts.Untold.TheVariants.{Fault, Memory}
+use Rattle.par_event_lines.specs.declared.puts.Closing.{Closing}
+use Rattle.par_event_lines.specs.Texts.{Text, line, event_text, ending_text, status}
+use Rattle.par_event_lines.specs.Outcome.{outcome}
+use Rattle.par_event_lines.specs.Progress.{IsUnderWay}
 
 -- what a line that is not put whole leaves: a front of it where the put failed, and else nothing
 abbrev pub IsUntold : Text → (old new : Option Text) → (before after : SinkCounts) → Untold → Type 0

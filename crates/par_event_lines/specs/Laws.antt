@@ -6,7 +6,7 @@ use Rattle.par_values.specs.declared.run.Val.{Val}
 use Rattle.par_values.specs.declared.run.Val.TheVariants.{Int, Null, Ref}
 use Rattle.par_values.specs.declared.run.Event.{Event}
 use Rattle.par_values.specs.declared.run.Event.TheVariants.{Out, Set, Put, Born}
-use Rattle.par_run_lines.specs.Texts.{event_text, line}
+use Rattle.par_event_lines.specs.Texts.{event_text, line}
 
 -- a class has a name, and numbers are of 32 bits
 abbrev pub IsValue : Val → Type 0

@@ -12,10 +12,10 @@ use Rattle.par_values.specs.declared.run.Val.{Val}
 use Rattle.par_values.specs.declared.run.Val.TheVariants.{Int, Null, Ref}
 use Rattle.par_values.specs.declared.run.Event.{Event}
 use Rattle.par_values.specs.declared.run.Event.TheVariants.{Out, Set, Put, Born}
-use Rattle.par_run_lines.specs.Texts.{Text, object_text, value_text, event_text}
-use Rattle.par_run_lines.specs.Laws.{IsValue, IsEvent, EqualLinesAreEqualEvents}
-use Rattle.par_run_lines.proofs.Cut.{Lacks, cut, not_lacked, name_lacks, no_digit, decimal_lacks}
-use Rattle.par_run_lines.proofs.Cut.{short_mag, signed_lacks}
+use Rattle.par_event_lines.specs.Texts.{Text, object_text, value_text, event_text}
+use Rattle.par_event_lines.specs.Laws.{IsValue, IsEvent, EqualLinesAreEqualEvents}
+use Rattle.par_event_lines.proofs.Cut.{Lacks, cut, not_lacked, name_lacks, no_digit, decimal_lacks}
+use Rattle.par_event_lines.proofs.Cut.{short_mag, signed_lacks}
 
 -- a member and what stands behind it
 member_parts : (class name class' name' rest more : Text) → IsName class → IsName name

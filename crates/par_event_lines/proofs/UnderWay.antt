@@ -9,8 +9,8 @@ use Rattle.par_io.proofs.Appending.{appended-nothing}
 use Rattle.par_io.specs.Saying.{IsCut, IsLeftOff, Said, whole}
 use Rattle.par_values.specs.declared.run.Event.{Event}
 use Rattle.par_values.specs.Ran.{Ran, Outcome, ended, with_event}
-use Rattle.par_run_lines.specs.Texts.{Text, line, event_text, ending_text, lines, status}
-use Rattle.par_run_lines.specs.Progress.{after, event_lines, IsUnderWay}
+use Rattle.par_event_lines.specs.Texts.{Text, line, event_text, ending_text, lines, status}
+use Rattle.par_event_lines.specs.Progress.{after, event_lines, IsUnderWay}
 
 -- ---- lists and what is held
 

@@ -2,10 +2,10 @@
 
 ghost use Rattle.std.specs.Prelude.{◌≡◌, ◌≤◌, IsTrue, OnOk, IfOk, IfErr};
 ghost use Rattle.par_io.specs.Causes.{raised, appended};
-ghost use Rattle.par_run_lines.specs.Telling.{IsUntold, PutsAreTold, status_of_untold};
-ghost use Rattle.par_run_lines.specs.Outcome.{outcome};
-ghost use Rattle.par_run_lines.specs.Texts.{line, event_text, ending_text, status};
-ghost use Rattle.par_run_lines.specs.declared.puts.Untold.TheVariants.{Memory};
+ghost use Rattle.par_event_lines.specs.Telling.{IsUntold, PutsAreTold, status_of_untold};
+ghost use Rattle.par_event_lines.specs.Outcome.{outcome};
+ghost use Rattle.par_event_lines.specs.Texts.{line, event_text, ending_text, status};
+ghost use Rattle.par_event_lines.specs.declared.puts.Untold.TheVariants.{Memory};
 
 use crate::text::{add_event_line, bad_code_line, ending_line};
 use par_base::list::List;
