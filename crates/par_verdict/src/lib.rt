@@ -12,6 +12,7 @@ mod keeps;
 pub mod known;
 mod locks;
 mod policies;
+mod program;
 mod ways;
 
 pub use accepted::{Accepted, FindsFacts, check};
@@ -21,4 +22,5 @@ pub use keeps::{is_met, value_of};
 pub use par_asked;
 pub use par_asked::par_checks;
 pub use policies::Policies;
+pub use program::judge;
 pub use ways::known_at;
