@@ -4,13 +4,16 @@ use Rattle.std.proofs.Common.{sym}
 use Rattle.std.specs.Prelude.{Contains}
 use Rattle.std.specs.List.{AllByRecursion}
 use Rattle.std.specs.Prelude.{IsErrAnd}
-use Rattle.std.specs.Result.{IfErr}
+use Rattle.std.specs.Result.{IfErr, IfOk}
 use Rattle.std.proofs.lemmas.List.Elements.{recursion_from_All, All-from_recursion, All-contains}
 use Rattle.par_lexer.specs.declared.token.Token.{Token}
 use Rattle.par_lexer.specs.declared.cut.TheConstants.{LONGEST_SOURCE}
 use Rattle.par_lexer.specs.Tokens.{HasTokens}
 use Rattle.par_lexer.specs.Spans.{IsLaid, Stands}
 use Rattle.par_tree.specs.Plain.{Source}
+use Rattle.par_tree.specs.Shown.{source as tree_of_program}
+use Rattle.par_tree.specs.declared.decl.Program.{Program}
+use Rattle.par_parser.specs.Bodies.{source_size}
 use Rattle.par_parser.specs.Sentence as syntax
 use Rattle.par_refusals.specs.declared.refusal.Refusal.{Refusal}
 use Rattle.par_span_laws.specs.Law.{BeginWithin}
@@ -23,7 +26,7 @@ use Rattle.par_observer.specs.Passes.{tree_faults}
 use Rattle.par_observer.specs.Trees.{IsTreeRefused, IsTreeUntyped, BreaksRule, BreaksTyping}
 use Rattle.par_observer.specs.Trees.{has_fault, has_flow}
 use Rattle.par_observer.specs.Judgements.{IsTreeOf, IsStoppedAs, IsRefused, IsUntyped, has_tree}
-use Rattle.par_observer.specs.Judgements.{breaks}
+use Rattle.par_observer.specs.Judgements.{IsReadAs, breaks}
 use Rattle.par_observer.proofs.Passing.{typing_stops}
 use Rattle.par_observer.proofs.Placed.{tree_within, flow_within}
 
@@ -40,6 +43,16 @@ pub begin_in : (source : List ℕ) (tokens : List Token) → IsLaid source token
     → BeginWithin (length source) tokens
 begin_in source tokens laid =
     begin source tokens (recursion_from_All (Stands source) tokens laid.stand)
+
+-- what is read of the tokens of a source is read of the source
+pub read_so : (source : List ℕ) (tokens : List Token) (r : Result Program JudgeError)
+    → HasTokens source tokens → IsLaid source tokens
+    → IfOk r (λ tree. syntax.HasTree tokens (tree_of_program tree))
+    → IfOk r (λ tree. source_size (tree_of_program tree) ≤ length tokens)
+    → IfOk r (λ tree. IsReadAs source (tree_of_program tree))
+read_so source tokens (Ok tree) cut laid derived size =
+    record { tokens = tokens; cut = cut; laid = laid; derived = derived; size = size }
+read_so source tokens (Err e) cut laid derived size = tt
 
 -- what is among some refusals is broken where they are
 among_in : (m : ℕ) (fs : List Refusal) (f : Refusal) → AreBrokenWithin m fs → Contains fs f
@@ -132,3 +145,9 @@ pub untyped_handed : {A : Type 0} (tree : Source) (r : Result A JudgeError) (e :
 untyped_handed tree (Ok a) e is h = tt
 untyped_handed tree (Err x) e is h =
     untyped_refused tree x (subst (IsTreeUntyped tree) (sym is) h)
+
+-- the same of why it is refused
+pub tree_refused_handed : {A : Type 0} (tree : Source) (r : Result A JudgeError) (e : JudgeError)
+    → IsErrAnd r (λ x. x ≡ e) → IsTreeRefused tree e → IfErr r (IsTreeRefused tree)
+tree_refused_handed tree (Ok a) e is h = tt
+tree_refused_handed tree (Err x) e is h = subst (IsTreeRefused tree) (sym is) h

@@ -4,8 +4,10 @@ use Rattle.par_lexer.specs.declared.token.Token.{Token}
 use Rattle.par_lexer.specs.declared.token.LexError.{LexError}
 use Rattle.par_lexer.specs.declared.token.LexError.TheVariants as lexical
 use Rattle.par_lexer.specs.declared.cut.TheConstants.{LONGEST_SOURCE}
+use Rattle.par_lexer.specs.Spans.{IsLaid}
 use Rattle.par_lexer.specs.Tokens.{HasTokens, LexBroken}
 use Rattle.par_tree.specs.Plain.{Source}
+use Rattle.par_parser.specs.Bodies.{source_size}
 use Rattle.par_parser.specs.Sentence as syntax
 use Rattle.par_refusals.specs.declared.refusal.Refusal.{Refusal}
 use Rattle.par_refusals.specs.First.{broken}
@@ -36,6 +38,15 @@ pub record IsTreeOf (source : List ℕ) (tree : Source) : Type 0 where
   pub tokens : Tokens
   pub cut : HasTokens source tokens
   pub derived : syntax.HasTree tokens tree
+
+-- The same, as it is read: each token lies in the source behind the one before, and the tree is no
+-- larger than its tokens are many.
+pub record IsReadAs (source : List ℕ) (tree : Source) : Type 0 where
+  pub tokens : Tokens
+  pub cut : HasTokens source tokens
+  pub laid : IsLaid source tokens
+  pub derived : syntax.HasTree tokens tree
+  pub size : source_size tree ≤ length tokens
 
 -- What a source that is not too long is refused by: it has no tokens, or they are no sentence
 -- within the nesting, or its tree is refused so.

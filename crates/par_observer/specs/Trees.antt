@@ -17,7 +17,9 @@ use Rattle.par_table_laws.specs.Declared.{HasFewFields, IsWellDeclared}
 use Rattle.par_check_laws.specs.Asked.{Check}
 use Rattle.par_check_laws.specs.Checks.{checks}
 use Rattle.par_check_laws.specs.Verdict.{IsAccepted}
-use Rattle.par_secure_laws.specs.par_verdict.Accepted.{IsOrderlyBody, MOST_BODIES}
+use Rattle.par_flow_laws.specs.Lattice.{numbers}
+use Rattle.par_flow_laws.specs.Facts.{Facts}
+use Rattle.par_secure_laws.specs.par_verdict.Accepted.{IsAcceptedBy, IsOrderlyBody, MOST_BODIES}
 use Rattle.par_secure_laws.specs.par_verdict.Judged.{IsFirstBroken}
 use Rattle.par_observer.specs.declared.error.JudgeError.{JudgeError}
 use Rattle.par_observer.specs.declared.error.JudgeError.TheVariants.{Refused, Memory}
@@ -88,6 +90,17 @@ IsTreeRefused tree Memory = Unit {0}
 pub record IsTypedTree (tree : Source) (typed : Typed) : Type 0 where
   pub right : all_faults tree ≡ []
   pub typed_is : IsTyped (table_of tree) tree typed
+
+-- the tree has a typed program and keeps all rules up to those on flows, and each of its fields has
+-- a policy
+pub record IsCompleteTree (tree : Source) (typed : Typed) : Type 0 where
+  pub typed_is : IsTypedTree tree typed
+  pub faultless : tree_faults tree ≡ []
+  pub formed : IsWellFormed typed
+
+-- there are closed and least facts of its bodies, and they keep all rules on flows
+abbrev pub IsKeptBySome : Typed → Type 0
+IsKeptBySome typed = (facts : List (Facts numbers)) × IsAcceptedBy typed facts
 
 -- the first broken rule on flows, or want of memory
 abbrev pub IsFlowRefused : Typed → JudgeError → Type 0

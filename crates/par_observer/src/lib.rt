@@ -12,4 +12,4 @@ mod verdict;
 
 pub use error::JudgeError;
 pub use par_alike::alike;
-pub use verdict::{judge, typed_of};
+pub use verdict::{judge, program_of, typed_of};

@@ -7,7 +7,7 @@ ghost use Rattle.par_tree.specs.Shown.{source as tree_of_program};
 ghost use Rattle.par_parser.specs.Bodies.{source_size};
 ghost use Rattle.par_parser.specs.Sentence.{place_of};
 ghost use Rattle.par_parser.specs.Sentence as syntax;
-ghost use Rattle.par_observer.specs.Judgements.{IsUnread};
+ghost use Rattle.par_observer.specs.Judgements.{IsReadAs, IsUnread};
 
 use crate::error::{JudgeError, broken};
 use par_lexer::list::List;
@@ -32,7 +32,7 @@ const SYNTAX: u16 = 10;
 const TOO_DEEP: u16 = 11;
 
 /// The tokens of a source, or why it has none.
-pub(crate) fn tokens_of(alloc: Global, source: &[u8]) -> Result<List<Token>, JudgeError>
+fn tokens_of(alloc: Global, source: &[u8]) -> Result<List<Token>, JudgeError>
     requires { length source.now ≤ LONGEST_SOURCE }
     ensures exact { IfOk result (HasTokens source.now) }
     ensures laid { IfOk result (IsLaid source.now) }
@@ -51,12 +51,18 @@ pub(crate) fn tokens_of(alloc: Global, source: &[u8]) -> Result<List<Token>, Jud
     }
 }
 
+/// The tree of a source, or why it has none. Its tokens are dropped.
+pub(crate) fn read_tree(alloc: Global, source: &[u8]) -> Result<Tree, JudgeError>
+    requires { length source.now ≤ LONGEST_SOURCE }
+    ensures read { IfOk result (λ tree. IsReadAs source.now (tree_of_program tree)) }
+    ensures unread { IfErr result (IsUnread source.now) }
+{
+    let tokens = tokens_of(alloc, source)?;
+    read_sentence(alloc, source, tokens.as_slice())
+}
+
 /// The tree of the tokens of a source, or why they are no sentence.
-pub(crate) fn read_sentence(
-    alloc: Global,
-    source: &[u8],
-    tokens: &[Token],
-) -> Result<Tree, JudgeError>
+fn read_sentence(alloc: Global, source: &[u8], tokens: &[Token]) -> Result<Tree, JudgeError>
     requires short { length source.now ≤ LONGEST_SOURCE }
     requires cut { HasTokens source.now tokens.now }
     requires laid { IsLaid source.now tokens.now }

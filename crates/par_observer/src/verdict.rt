@@ -7,12 +7,12 @@ ghost use Rattle.par_secrecy.specs.Secure.{Secure};
 ghost use Rattle.par_alike.specs.Subject.{subject};
 ghost use Rattle.par_observer.specs.Judgements.{IsAcceptedAs, IsRefused, IsTypedAs, IsUntyped};
 ghost use Rattle.par_observer.specs.Judgements.{IsStoppedAs, overlong};
-ghost use Rattle.par_observer.specs.Trees.{IsWellFormed, IsReady, ChecksLie};
+ghost use Rattle.par_observer.specs.Trees.{IsKeptBySome, IsWellFormed, IsReady, ChecksLie};
 ghost use Rattle.par_observer.specs.Trees.{BreaksRule, BreaksTyping};
 
 use crate::error::JudgeError;
-use crate::sentence::{read_sentence, tokens_of};
-use crate::tree::{judge_tree, type_tree};
+use crate::sentence::read_tree;
+use crate::tree::{judge_tree, program_tree, type_tree};
 use par_check::Accepted;
 use par_lexer::LONGEST_SOURCE;
 use par_refusals::refusal::Refusal;
@@ -50,10 +50,34 @@ fn judge_short(alloc: Global, source: &[u8]) -> Result<Accepted, JudgeError>
         IsAcceptedBy accepted.typed (map facts_in accepted.facts)) }
     ensures refused { IfErr result (IsStoppedAs BreaksRule source.now) }
 {
-    let tokens = tokens_of(alloc, source)?;
-    let tokens = tokens.as_slice();
-    let tree = read_sentence(alloc, source, tokens)?;
-    judge_tree(alloc, source, tokens, &tree)
+    let tree = read_tree(alloc, source)?;
+    judge_tree(alloc, source, tree)
+}
+
+/// Reads a source and looks whether it keeps all rules, as `judge` does, and gives its program
+/// alone: the facts of a body are dropped once they are asked.
+pub fn program_of(alloc: Global, source: &[u8]) -> Result<Typed, JudgeError>
+    ensures accepted { IfOk result (IsAcceptedAs source.now) }
+    ensures well_formed { IfOk result IsWellFormed }
+    ensures secure { IfOk result (λ typed. Secure (subject typed)) }
+    ensures refused { IfErr result (IsRefused source.now) }
+{
+    if source.len() > LONGEST_SOURCE {
+        return Err(JudgeError::Refused(overlong(source.len())));
+    }
+    program_short(alloc, source)
+}
+
+/// The program of a source that is not too long, if it is accepted.
+fn program_short(alloc: Global, source: &[u8]) -> Result<Typed, JudgeError>
+    requires { length source.now ≤ LONGEST_SOURCE }
+    ensures accepted { IfOk result (IsAcceptedAs source.now) }
+    ensures well_formed { IfOk result IsWellFormed }
+    ensures kept { IfOk result IsKeptBySome }
+    ensures refused { IfErr result (IsStoppedAs BreaksRule source.now) }
+{
+    let tree = read_tree(alloc, source)?;
+    program_tree(alloc, source, tree)
 }
 
 /// Reads a source, and runs the passes up to types: its length, its tokens, its sentence, its
@@ -80,10 +104,8 @@ fn type_short(alloc: Global, source: &[u8]) -> Result<Typed, JudgeError>
     ensures placed { IfOk result (ChecksLie (length source.now)) }
     ensures refused { IfErr result (IsStoppedAs BreaksTyping source.now) }
 {
-    let tokens = tokens_of(alloc, source)?;
-    let tokens = tokens.as_slice();
-    let tree = read_sentence(alloc, source, tokens)?;
-    type_tree(alloc, source, tokens, &tree)
+    let tree = read_tree(alloc, source)?;
+    type_tree(alloc, source, tree)
 }
 
 /// The refusal of a source of this length.

@@ -1,6 +1,6 @@
 -- The broken rules of least facts are those that all closed facts break.
 use Rattle.std.proofs.Common.{◌≡◌, ◌≤◌, ℕ, Bool, true, false, not, Option, Some, None, List, []}
-use Rattle.std.proofs.Common.{◌∷◌, ◌++◌, length, refl, sym, subst, ◌∙◌, ⊎_elim}
+use Rattle.std.proofs.Common.{◌∷◌, ◌++◌, suc, length, refl, sym, ap, subst, ◌∙◌, ⊎_elim}
 use Rattle.std.specs.Prelude.{Contains, IsTrue}
 use Rattle.std.proofs.lemmas.Bool.{false≢true}
 use Rattle.std.proofs.lemmas.List.Elements.{All-contains, Contains-append_cases}
@@ -23,7 +23,8 @@ use Rattle.par_asked.specs.par_check_laws.Checks.{checks}
 use Rattle.par_asked.specs.par_check_laws.Verdict.{among, KeepsNumbered, IsAccepted, IsBroken}
 use Rattle.par_asked.proofs.par_check_laws.Kept.{keep_accept, meant, kept}
 use Rattle.par_asked.proofs.par_check_laws.Failed.{fail_refuse}
-use Rattle.par_verdict.specs.Told.{AreBroken, AreAllBroken}
+use Rattle.par_refusals.proofs.First.{answered}
+use Rattle.par_verdict.specs.Told.{AreBroken, AreAllBroken, HaveTold}
 use Rattle.par_verdict.specs.Judged.{AreRight, AreAllRight, IsVerdict}
 use Rattle.par_verdict.specs.Accepted.{MOST_BODIES, AreKept, AreAllKept}
 use Rattle.par_verdict.specs.Accepted.{IsAcceptedBy}
@@ -247,6 +248,45 @@ accepted_by typed bs fs gs told same alike few many right breaks none =
       kept = all_kept typed.table (bodies typed.bodies) gs told
           here right none;
     }
+
+-- what is told of a program, where nothing was noted before
+pub told_so : (table t : Table) (bs cs : List TBody) (old new o : Option Refusal) → t ≡ table
+    → cs ≡ bs → old ≡ None → o ≡ new → HaveTold t (bodies cs) old new
+    → HaveTold table (bodies bs) None o
+told_so table t bs cs old new o tables same none is told =
+    subst (λ (x : Table). HaveTold x (bodies bs) None o) tables
+    (subst (λ (xs : List TBody). HaveTold t (bodies xs) None o) same
+    (subst (λ x. HaveTold t (bodies cs) x o) none
+    (subst (HaveTold t (bodies cs) old) (sym is) told)))
+
+-- what is told of all bodies is the verdict
+pub verdict_told : (table : Table) (bs : List Body) (o : Option Refusal) → HaveTold table bs None o
+    → IsVerdict table bs o
+verdict_told table bs o told =
+    judged table bs told.facts told.told o told.are
+    (subst (IsAnswer told.told) (sym told.is) (answered told.told)) told.right
+
+as_many : (bs : List TBody) → length (bodies bs) ≡ length bs
+as_many [] = refl
+as_many (b ∷ bs) = ap suc (as_many bs)
+
+-- and where that is nothing, some facts keep all rules
+pub kept_by_some : (typed : Typed) (o : Option Refusal) → length typed.bodies ≤ MOST_BODIES
+    → HaveTold typed.table (bodies typed.bodies) None o → o ≡ None
+    → (fs : List (Facts numbers)) × IsAcceptedBy typed fs
+kept_by_some typed o few told none =
+    let silent : told.told ≡ [] =
+    subst (IsAnswer told.told) (sym told.is ∙ none) (answered told.told) in (
+      told.facts,
+      record {
+        few = few;
+        many = told.many ∙ as_many typed.bodies;
+        right = told.right;
+        kept =
+            all_kept typed.table (bodies typed.bodies) told.facts told.told told.are told.right
+            silent;
+      },
+    )
 
 body_kept : (table : Table) (bs : List Body) (fs : List (Facts numbers)) → AreAllRight table bs fs
     → AreAllKept table bs fs → (b : Body) → Contains bs b

@@ -1,5 +1,6 @@
 -- Broken rules noted one after the other.
-use Rattle.std.proofs.Common.{◌≡◌, ◌↔◌, ℕ, ◌+◌, ◌<◌, ◌≤◌, Bool, not, Option, List, [], ◌∷◌, ◌++◌}
+use Rattle.std.proofs.Common.{◌≡◌, ◌↔◌, ℕ, suc, ◌+◌, ◌<◌, ◌≤◌, Bool, not, Option, List, [], ◌∷◌}
+use Rattle.std.proofs.Common.{◌++◌}
 use Rattle.std.proofs.Common.{length, get_or, drop, refl, sym, ap, subst, ◌∙◌}
 use Rattle.std.specs.Prelude.{IsTrue, map}
 use Rattle.par_typed.specs.declared.table.Table.{Table}
@@ -17,7 +18,8 @@ use Rattle.par_asked.specs.par_check_laws.Verdict.{KeepsNumbered}
 use Rattle.par_asked.specs.declared.check.Check as code
 use Rattle.par_asked.specs.Seen.{seen_check, seen_checks}
 use Rattle.par_asked.proofs.Left.{left_more, left_none}
-use Rattle.par_verdict.specs.Told.{AreBroken, AreAllBroken}
+use Rattle.par_verdict.specs.Judged.{AreAllRight}
+use Rattle.par_verdict.specs.Told.{AreBroken, AreAllBroken, HasTold, HaveTold}
 
 -- what is noted of a list
 pub record Noted (Told : List Refusal → Type 0) (old now : Option Refusal) : Type 0 where
@@ -92,3 +94,32 @@ pub facts_left : {F : Type 0} (facts : F → Facts numbers) (fs : List F) (i : �
     → i < length fs → f ≡ get_or fs i f
     → map facts (drop i fs) ≡ facts f ∷ map facts (drop (i + 1) fs)
 facts_left facts fs i f lt is = ap (map facts) (left_more fs i f lt is)
+
+-- with facts of the bodies that are left, and what is broken of them, all is told
+abbrev pub Tells : Table → List Body → List Body → Option Refusal → Option Refusal → Type 0
+Tells table all left old now =
+    (fs : List (Facts numbers)) (rest : List Refusal) → length fs ≡ length left
+    → AreAllRight table left fs → AreAllBroken table left fs rest
+    → HaveTold table all old (first_of now rest)
+
+pub tells_first : (table : Table) (bs : List Body) (o : Option Refusal) → Tells table bs bs o o
+tells_first table bs o fs rest many right broken =
+    record { facts = fs; many = many; right = right; told = rest; are = broken; is = refl }
+
+-- one body more
+pub tells_on : (table : Table) (all : List Body) (b : Body) (bs : List Body)
+    (old now new : Option Refusal) → HasTold table b now new
+    → Tells table all (b ∷ bs) old now → Tells table all bs old new
+unfolding AreAllBroken
+tells_on table all b bs old now new own tells fs rest many right broken =
+    let told = tells (own.facts ∷ fs) (own.told ++ rest) (ap suc many) (own.right, right)
+    (own.told, own.are, (rest, broken, refl)) in
+    subst (HaveTold table all old)
+    (first_of_append now own.told rest ∙ ap (λ o. first_of o rest) (sym own.is)) told
+
+-- none is left
+pub tells_all : (table : Table) (all : List Body) (old now : Option Refusal)
+    → Tells table all [] old now → HaveTold table all old now
+unfolding AreAllBroken
+tells_all table all old now tells =
+    subst (HaveTold table all old) (first_of_none now) (tells [] [] refl tt refl)

@@ -40,8 +40,8 @@ fn note_broken<F: KnownFacts>(
     Ok(())
 }
 
-// Notes the broken rules of a body.
-fn note_body<F: KnownFacts>(
+/// Notes the broken rules of a body.
+pub(crate) fn note_body<F: KnownFacts>(
     alloc: Global,
     facts: &F,
     policies: &mut Policies<'_>,

@@ -12,6 +12,7 @@ mod keeps;
 pub mod known;
 mod locks;
 mod policies;
+mod program;
 mod ways;
 
 pub use accepted::{Accepted, FindsFacts, check};
@@ -19,4 +20,5 @@ pub use error::CheckError;
 pub use first::first_broken;
 pub use keeps::{is_met, value_of};
 pub use policies::Policies;
+pub use program::judge;
 pub use ways::known_at;

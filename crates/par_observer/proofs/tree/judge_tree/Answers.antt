@@ -8,24 +8,25 @@ use Rattle.par_observer.proofs.tree.judge_tree.Goals as goal
 
 pub passes-requires-clause-numbers : goal.passes-requires-clause-numbers
 passes-requires-clause-numbers c =
-    trees_have_numbers c.args.source.now c.args.tokens.now (tree_of_program c.args.tree.now)
-    c.requires.cut c.requires.sentence
+    trees_have_numbers c.args.source.now c.requires.read.tokens (tree_of_program c.args.tree)
+    c.requires.read.cut c.requires.read.derived
 
 pub passes-requires-clause-order : goal.passes-requires-clause-order
 passes-requires-clause-order c =
-    trees_are_in_order c.args.source.now c.args.tokens.now (tree_of_program c.args.tree.now)
-    c.requires.laid c.requires.sentence
+    trees_are_in_order c.args.source.now c.requires.read.tokens (tree_of_program c.args.tree)
+    c.requires.read.laid c.requires.read.derived
 
 pub passes-requires-clause-texts : goal.passes-requires-clause-texts
 passes-requires-clause-texts c =
     let covered =
-    trees_are_short c.args.source.now c.args.tokens.now (tree_of_program c.args.tree.now)
-    c.requires.cut c.requires.sentence in
+    trees_are_short c.args.source.now c.requires.read.tokens (tree_of_program c.args.tree)
+    c.requires.read.cut c.requires.read.derived in
     let short = c.requires.short in
     omega (arith, covered, short)
 
 pub returns-clause-refused : goal.returns-clause-refused
 returns-clause-refused c =
-    refused_of_tree c.args.source.now c.args.tokens.now (tree_of_program c.args.tree.now)
-    c.passes.result c.requires.short c.requires.cut c.requires.laid c.requires.sentence
+    refused_of_tree c.args.source.now c.requires.read.tokens (tree_of_program c.args.tree)
+    c.passes.result c.requires.short c.requires.read.cut c.requires.read.laid
+    c.requires.read.derived
     c.passes.ensures.refused
