@@ -1,3 +1,4 @@
+pub mod Quotients
 pub mod Reasons
 pub mod Shapes
 pub mod Keeping

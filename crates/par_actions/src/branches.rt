@@ -15,7 +15,7 @@ use crate::operands::{
     Number, Numbers, Reference, References, last_number, last_numbers, last_reference,
     last_references,
 };
-use par_arith::compares;
+use crate::tests::compares;
 use par_stack::Stack;
 use par_values::value::MVal;
 

@@ -9,6 +9,7 @@
 #![tactic(auto)]
 
 pub mod births;
+mod bits;
 mod branches;
 pub mod callee;
 mod calls;
@@ -19,6 +20,8 @@ pub mod fit;
 mod objects;
 mod operands;
 mod operators;
+mod sums;
+mod tests;
 mod values;
 mod wrong_indices;
 
