@@ -4,10 +4,10 @@ use Rattle.std.proofs.Common.{None, slice_get, refl, ap, ◌∙◌, arith}
 use Rattle.std.specs.Option.{option_map}
 use Rattle.std.proofs.lemmas.Option.{same_Some}
 use Rattle.par_class.specs.declared.file.ClassFile.{ClassFile}
-use Rattle.par_handlers.specs.par_step_laws.Handlers.{handler_in, caught, caught_by}
+use Rattle.par_step_laws.specs.Handlers.{handler_in, caught, caught_by}
 use Rattle.par_stack.specs.declared.point.Point.{Point}
 use Rattle.par_stack.specs.Frames.{Frame, running}
-use Rattle.par_handlers.specs.Standing.{standing}
+use Rattle.par_unwinding.specs.Standing.{standing}
 use Rattle.par_unwinding.specs.Shown.{frame_of, frames_of}
 use Rattle.par_unwinding.specs.Landing.{gone_on}
 

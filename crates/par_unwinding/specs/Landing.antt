@@ -1,7 +1,7 @@
 -- Where an exception goes, and what it leaves.
 use Rattle.std.specs.Prelude.{◌≡◌, ℕ, ◌<◌, List, drop, length}
 use Rattle.par_class.specs.declared.file.ClassFile.{ClassFile}
-use Rattle.par_handlers.specs.par_step_laws.Handlers.{caught}
+use Rattle.par_step_laws.specs.Handlers.{caught}
 use Rattle.par_stack.specs.Frames.{Frame, running, with_running, at_offset}
 use Rattle.par_unwinding.specs.Shown.{frames_of}
 use Rattle.par_unwinding.specs.declared.landings.Landing.{Landing}

@@ -1,6 +1,6 @@
 -- The frames of a stack as the steps of a program see them.
 use Rattle.std.specs.Prelude.{List, map}
-use Rattle.par_handlers.specs.par_step_laws.State.{Frame}
+use Rattle.par_step_laws.specs.State.{Frame}
 use Rattle.par_stack.specs.Frames as stack
 
 abbrev pub frame_of : stack.Frame → Frame

@@ -1,14 +1,14 @@
 ghost use Rattle.std.specs.Prelude.{◌≡◌, ◌<◌, ◌+◌, [], drop, length, IfSome, IfNone};
 ghost use Rattle.std.specs.Option.{option_map};
-ghost use Rattle.par_handlers.specs.par_step_laws.Handlers.{caught, handler_in};
-ghost use Rattle.par_handlers.specs.Standing.{standing};
+ghost use Rattle.par_step_laws.specs.Handlers.{caught, handler_in};
+ghost use Rattle.par_unwinding.specs.Standing.{standing};
 ghost use Rattle.par_stack.specs.Frames.{running, with_running, left_with};
 ghost use Rattle.par_unwinding.specs.Shown.{frames_of};
 ghost use Rattle.par_unwinding.specs.Landing.{Lands, gone_on};
 
-use par_handlers::handler;
-use par_handlers::par_link::Linked;
+use crate::catches::handler;
 use par_stack::{Point, Stack};
+use par_step_laws::par_link::Linked;
 use par_values::value::MVal;
 
 /// Where an exception goes.

@@ -1,5 +1,5 @@
 use Rattle.std.proofs.Common.{◌≡◌, drop}
-use Rattle.par_handlers.specs.par_step_laws.Handlers.{caught}
+use Rattle.par_step_laws.specs.Handlers.{caught}
 use Rattle.par_unwinding.specs.Shown.{frames_of}
 use Rattle.par_unwinding.proofs.landings.landing_of.Given as goal
 

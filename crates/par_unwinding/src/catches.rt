@@ -1,7 +1,7 @@
 ghost use Rattle.std.specs.Prelude.{◌≡◌, ℕ, ◌≤◌, true, false, Some, slice_set, slice_index_or};
 ghost use Rattle.par_step_laws.specs.Handlers.{builtin_takes, named_takes, covers, takes};
 ghost use Rattle.par_step_laws.specs.Handlers.{first_handler, handler_in};
-ghost use Rattle.par_handlers.specs.Standing.{standing, class_takes};
+ghost use Rattle.par_unwinding.specs.Standing.{standing, class_takes};
 
 use par_class::file::Catch;
 use par_step_laws::par_link::{Builtin, Linked, Named};

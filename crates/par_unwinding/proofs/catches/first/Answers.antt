@@ -1,13 +1,13 @@
 use Rattle.std.proofs.Common.{◌≡◌, ℕ, List, Bool, true, false, get_or, refl, sym, ap, ◌∙◌, arith}
 use Rattle.par_class.specs.declared.file.Catch.{Catch}
-use Rattle.par_handlers.specs.Standing.{class_takes}
-use Rattle.par_handlers.proofs.First.{passed, found, over, both, not-first, not-last}
-use Rattle.par_handlers.proofs.First.{marked-anew}
-use Rattle.par_handlers.proofs.catches.first.Goals as goal
-use Rattle.par_handlers.proofs.catches.first.Goals.{else-covers}
-use Rattle.par_handlers.proofs.catches.first.Goals.{then-covers+then-not-is_refused+else-is_class_taken}
-use Rattle.par_handlers.proofs.catches.first.Goals.{else-covers-via-then-covers+else-not-is_refused}
-use Rattle.par_handlers.proofs.catches.first.Goals.{else-covers-via-else-covers}
+use Rattle.par_unwinding.specs.Standing.{class_takes}
+use Rattle.par_unwinding.proofs.First.{passed, found, over, both, not-first, not-last}
+use Rattle.par_unwinding.proofs.First.{marked-anew}
+use Rattle.par_unwinding.proofs.catches.first.Goals as goal
+use Rattle.par_unwinding.proofs.catches.first.Goals.{else-covers}
+use Rattle.par_unwinding.proofs.catches.first.Goals.{then-covers+then-not-is_refused+else-is_class_taken}
+use Rattle.par_unwinding.proofs.catches.first.Goals.{else-covers-via-then-covers+else-not-is_refused}
+use Rattle.par_unwinding.proofs.catches.first.Goals.{else-covers-via-else-covers}
 
 none : Catch
 none = record { start = 0; end = 0; handler = 0; class = 0 }

@@ -1,7 +1,7 @@
 use Rattle.std.proofs.Common.{◌≡◌, ℕ, true, false, drop, get_or}
 use Rattle.par_step_laws.specs.Handlers.{takes, first_handler}
-use Rattle.par_handlers.specs.Standing.{standing, class_takes}
-use Rattle.par_handlers.proofs.catches.first.Given as goal
+use Rattle.par_unwinding.specs.Standing.{standing, class_takes}
+use Rattle.par_unwinding.proofs.catches.first.Given as goal
 
 -- no handler so far takes it, and what is marked refuses
 abbrev pub invariant-loop-catch : goal.invariant-loop-catch
