@@ -84,6 +84,21 @@ def nested_loops(part):
     return of_code(code + b"\xb1", 1, 255, int(30 * part)), VERIFY
 
 
+def loops_around_objects(part):
+    """Loops as deep around 252 locals that hand on their objects: each way round all of them tells
+    of one local more that it has objects of several classes."""
+    other = [long_class.utf8("java/lang/NullPointerException"), b"\x07\0\x08"]
+    code = b"".join(b"\xbb\0\x02\x3a" + bytes([n]) for n in range(252))
+    heads = range(len(code), len(code) + 2 * int(2000 * part), 2)
+    code += b"\x03\x57" * len(heads)
+    code += b"".join(bytes([0x19, n, 0x3a, n + 1]) for n in reversed(range(251)))
+    code += b"\xbb\0\x09\x3a\0"
+    for head in reversed(heads):
+        code += b"\x03"
+        code += b"\x99" + struct.pack(">h", head - len(code))
+    return of_code(code + b"\xb1", 1, 252, 1, other), VERIFY
+
+
 def operands_on_operands(part):
     """Methods that push 65,534 operands."""
     return of_code(b"\x01" * 65534 + b"\xb1", 65534, 0, int(15 * part)), VERIFY
@@ -106,6 +121,19 @@ def handlers_around(part):
     code = b"\x03\x57" * ((many - 3) // 2) + b"\xb1"
     handlers = struct.pack(">HHHH", 0, len(code), len(code), 0) * many
     return {"Long": file_of([], [main(code + b"\x57\xb1", 1, 255, handlers)])}, VERIFY
+
+
+def arguments_shared(part):
+    """Methods of version 51 that share one long descriptor."""
+    names = [long_class.utf8(f"m{n:05}") for n in range(int(24000 * part))]
+    shared = int(60000 * part)
+    body = struct.pack(">HHI", 0, shared, 1) + b"\xb1\0\0\0\0"
+    methods = [
+        struct.pack(">HHHHHI", 0x0009, 9 + n, 8, 1, 5, len(body)) + body for n in range(len(names))
+    ]
+    entries = [long_class.utf8("(" + "I" * shared + ")V"), *names]
+    file = file_of(entries, [main(b"\xb1", 0, 0), *methods])
+    return {"Long": file[:6] + b"\0\x33" + file[8:]}, RUN
 
 
 def throws_past(part, named):
@@ -145,8 +173,10 @@ FILES = {
     "65,000 constants that share a text of 65,000 bytes": one_long_text,
     "128 files that name each other's members": files_that_name_each_other,
     "methods of 65,535 bytes of code": long_code,
+    "24,000 methods that share 60,000 arguments": arguments_shared,
     "252 locals that hand on objects, verified": objects_handed_on,
     "loops 5,300 deep with 255 locals, verified": nested_loops,
+    "loops 2,000 deep around locals that hand on objects, verified": loops_around_objects,
     "65,534 operands on one another, verified": operands_on_operands,
     "30,000 frames of 30,000 locals that are told, verified": frames_told,
     "65,535 handlers around all code, verified": handlers_around,
