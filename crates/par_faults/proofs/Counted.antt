@@ -5,20 +5,20 @@ use Rattle.par_tree.specs.declared.decl.LockDecl.{LockDecl}
 use Rattle.par_tree.specs.Plain as plain
 use Rattle.par_tree.specs.Plain.{Method, Class, Declaration, Source}
 use Rattle.par_refusals.specs.declared.refusal.Refusal.{Refusal}
-use Rattle.par_declarations.specs.par_names.Declarations.{actors_in, locks_in, classes_in, actors}
-use Rattle.par_declarations.specs.par_names.Declarations.{locks}
-use Rattle.par_declarations.specs.par_names.Declarations.{declared_classes}
-use Rattle.par_declarations.specs.par_span_laws.Within.{IdentIn, AreIn, FieldIn, ChannelIn}
-use Rattle.par_declarations.specs.par_span_laws.Within.{MethodIn}
-use Rattle.par_declarations.specs.par_span_laws.Within.{ClassIn}
-use Rattle.par_declarations.specs.par_span_laws.Within.{LockDeclIn, DeclarationIn, IsWithin}
-use Rattle.par_declarations.proofs.par_span_laws.Broken as broken
-use Rattle.par_declarations.proofs.par_span_laws.Broken.{both, each, mapped}
-use Rattle.par_declarations.specs.declared.limit.Limit.{Limit}
-use Rattle.par_declarations.specs.Limits.{told, one_too_many, actor_places, class_places, earlier}
-use Rattle.par_declarations.specs.Limits.{in_order, member_places, ground, locks_limit}
-use Rattle.par_declarations.specs.Limits.{declared_limits, over, method_limits, class_limits}
-use Rattle.par_declarations.specs.Limits.{count_faults}
+use Rattle.par_faults.specs.par_names.Declarations.{actors_in, locks_in, classes_in, actors}
+use Rattle.par_faults.specs.par_names.Declarations.{locks}
+use Rattle.par_faults.specs.par_names.Declarations.{declared_classes}
+use Rattle.par_faults.specs.par_span_laws.Within.{IdentIn, AreIn, FieldIn, ChannelIn}
+use Rattle.par_faults.specs.par_span_laws.Within.{MethodIn}
+use Rattle.par_faults.specs.par_span_laws.Within.{ClassIn}
+use Rattle.par_faults.specs.par_span_laws.Within.{LockDeclIn, DeclarationIn, IsWithin}
+use Rattle.par_faults.proofs.par_span_laws.Broken as broken
+use Rattle.par_faults.proofs.par_span_laws.Broken.{both, each, mapped}
+use Rattle.par_faults.specs.declared.limit.Limit.{Limit}
+use Rattle.par_faults.specs.Limits.{told, one_too_many, actor_places, class_places, earlier}
+use Rattle.par_faults.specs.Limits.{in_order, member_places, ground, locks_limit}
+use Rattle.par_faults.specs.Limits.{declared_limits, over, method_limits, class_limits}
+use Rattle.par_faults.specs.Limits.{count_faults}
 use Rattle.par_faults.proofs.Kept.{May, got, taken, dropped}
 
 module _ (m : ℕ) where

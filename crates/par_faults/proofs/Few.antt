@@ -12,11 +12,11 @@ use Rattle.par_tree.specs.Plain.{Source}
 use Rattle.par_refusals.specs.declared.refusal.Refusal.{Refusal}
 use Rattle.par_refusals.specs.First.{when, in_passes, first_of, IsAnswer}
 use Rattle.par_refusals.proofs.First.{answered}
-use Rattle.par_declarations.specs.par_names.Declarations.{actors, locks}
-use Rattle.par_declarations.specs.declared.limit.Limit.{Limit}
-use Rattle.par_declarations.specs.declared.limit.TheConstants.{ACTORS, LOCKS}
-use Rattle.par_declarations.specs.Limits.{told, one_too_many, actor_places, ground, lock_limit}
-use Rattle.par_declarations.specs.Limits.{locks_limit, declared_limits}
+use Rattle.par_faults.specs.par_names.Declarations.{actors, locks}
+use Rattle.par_faults.specs.declared.limit.Limit.{Limit}
+use Rattle.par_faults.specs.declared.limit.TheConstants.{ACTORS, LOCKS}
+use Rattle.par_faults.specs.Limits.{told, one_too_many, actor_places, ground, lock_limit}
+use Rattle.par_faults.specs.Limits.{locks_limit, declared_limits}
 use Rattle.par_limits.specs.par_resolved.Few.{HasFew}
 use Rattle.par_limits.specs.par_resolved.Numbers.{ground_count}
 

@@ -6,11 +6,11 @@ use Rattle.par_limits.specs.par_policy.declared.clauses.Clause.{Clause}
 use Rattle.par_tree.specs.declared.policy.PolicyExpr.{PolicyExpr}
 use Rattle.par_tree.specs.Plain.{Class, Source}
 use Rattle.par_refusals.specs.declared.refusal.Refusal.{Refusal}
-use Rattle.par_declarations.specs.par_names.Declarations.{locks, lock_named}
-use Rattle.par_declarations.specs.par_span_laws.Within.{IdentIn, LockIn, PolicyIn, FieldIn, ClassIn}
-use Rattle.par_declarations.specs.par_span_laws.Within.{IsWithin}
-use Rattle.par_declarations.proofs.par_span_laws.Broken as broken
-use Rattle.par_declarations.proofs.par_span_laws.Broken.{both, each, mapped, filtered}
+use Rattle.par_faults.specs.par_names.Declarations.{locks, lock_named}
+use Rattle.par_faults.specs.par_span_laws.Within.{IdentIn, LockIn, PolicyIn, FieldIn, ClassIn}
+use Rattle.par_faults.specs.par_span_laws.Within.{IsWithin}
+use Rattle.par_faults.proofs.par_span_laws.Broken as broken
+use Rattle.par_faults.proofs.par_span_laws.Broken.{both, each, mapped, filtered}
 use Rattle.par_limits.specs.par_resolved.Sets.{joined}
 use Rattle.par_limits.specs.par_resolved.Policies.{Known, known, term_values, fits}
 use Rattle.par_limits.specs.par_resolved.Written.{written, queried}

@@ -8,15 +8,15 @@ use Rattle.par_tree.specs.Plain as plain
 use Rattle.par_tree.specs.Plain.{Sta, Stas, Braces, In, MayBraces, Else, Catches}
 use Rattle.par_tree.specs.Plain.{Catch, NoCatch}
 use Rattle.par_tree.specs.Plain.{Handler, On, Method, Class, Declaration, Source}
-use Rattle.par_declarations.specs.par_span_laws.Within.{LockIn, PolicyIn, MayPolicyIn, StaIn}
-use Rattle.par_declarations.specs.par_span_laws.Within.{BracesIn}
-use Rattle.par_declarations.specs.par_span_laws.Within.{MayBracesIn}
-use Rattle.par_declarations.specs.par_span_laws.Within.{ElseIn, StasIn, CatchesIn, HandlerIn}
-use Rattle.par_declarations.specs.par_span_laws.Within.{FieldIn}
-use Rattle.par_declarations.specs.par_span_laws.Within.{ChannelIn}
-use Rattle.par_declarations.specs.par_span_laws.Within.{ParamIn, ThrowIn, MethodIn, ClassIn}
-use Rattle.par_declarations.specs.par_span_laws.Within.{DeclarationIn, IsWithin}
-use Rattle.par_declarations.proofs.par_span_laws.Broken.{both, each, mapped}
+use Rattle.par_faults.specs.par_span_laws.Within.{LockIn, PolicyIn, MayPolicyIn, StaIn}
+use Rattle.par_faults.specs.par_span_laws.Within.{BracesIn}
+use Rattle.par_faults.specs.par_span_laws.Within.{MayBracesIn}
+use Rattle.par_faults.specs.par_span_laws.Within.{ElseIn, StasIn, CatchesIn, HandlerIn}
+use Rattle.par_faults.specs.par_span_laws.Within.{FieldIn}
+use Rattle.par_faults.specs.par_span_laws.Within.{ChannelIn}
+use Rattle.par_faults.specs.par_span_laws.Within.{ParamIn, ThrowIn, MethodIn, ClassIn}
+use Rattle.par_faults.specs.par_span_laws.Within.{DeclarationIn, IsWithin}
+use Rattle.par_faults.proofs.par_span_laws.Broken.{both, each, mapped}
 use Rattle.par_limits.specs.par_resolved.Statements.{inside, in_braces, in_may_braces, in_else}
 use Rattle.par_limits.specs.par_resolved.Statements.{in_all}
 use Rattle.par_limits.specs.par_resolved.Statements.{in_catches, in_handler}

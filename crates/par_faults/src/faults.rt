@@ -3,14 +3,14 @@
 ghost use Rattle.std.specs.Prelude.{◌≡◌, ◌≤◌, None, IfOk, OnOk};
 ghost use Rattle.par_lexer.specs.declared.cut.TheConstants.{LONGEST_SOURCE};
 ghost use Rattle.par_tree.specs.Shown.{source};
-ghost use Rattle.par_declarations.specs.par_parser.Bodies.{source_size};
+ghost use Rattle.par_faults.specs.par_parser.Bodies.{source_size};
 ghost use Rattle.par_refusals.specs.First.{first_of, IsAnswer};
-ghost use Rattle.par_declarations.specs.Limits.{declared_limits};
+ghost use Rattle.par_faults.specs.Limits.{declared_limits};
 ghost use Rattle.par_limits.specs.par_resolved.Limits.{policy_faults};
 ghost use Rattle.par_limits.specs.par_resolved.Sizes.{all_literal_faults};
 ghost use Rattle.par_faults.specs.Faults.{where_none, policies_faults, limit_faults, all_faults};
 
-use par_declarations::{check_counts, check_declared, first_broken_name};
+use crate::{check_counts, check_declared, first_broken_name};
 use par_limits::par_resolved::NoMemory;
 use par_limits::par_resolved::literals::first_literal;
 use par_limits::par_resolved::written::written;

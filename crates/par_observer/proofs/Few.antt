@@ -12,7 +12,7 @@ use Rattle.par_typed.specs.Shown.{bodies}
 use Rattle.par_scope.specs.Names.{Names, names_of}
 use Rattle.par_scope.specs.Home.{class_named}
 use Rattle.par_names.specs.Declarations.{classes_in, declared_classes}
-use Rattle.par_table.specs.par_declarations.Limits.{class_limits}
+use Rattle.par_table.specs.par_faults.Limits.{class_limits}
 use Rattle.par_check_span_laws.specs.par_annotation_laws.Stmts.{Written}
 use Rattle.par_check_span_laws.specs.par_annotation_laws.Bodies.{typed_methods, typed_class}
 use Rattle.par_check_span_laws.specs.par_annotation_laws.Bodies.{typed_declaration}

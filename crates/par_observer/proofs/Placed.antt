@@ -19,7 +19,7 @@ use Rattle.par_span_laws.specs.Within.{IsWithin, FieldIn, DeclarationIn}
 use Rattle.par_span_laws.specs.Broken.{AreBrokenWithin}
 use Rattle.par_span_laws.proofs.Broken.{join, there, passes_within}
 use Rattle.par_table.specs.par_faults.Faults.{all_faults}
-use Rattle.par_table.proofs.par_faults.Places.{all_within}
+use Rattle.par_table.proofs.par_faults.FaultPlaces.{all_within}
 use Rattle.par_type_rules.specs.Program.{type_faults}
 use Rattle.par_type_rules.specs.Inferred.{fields_inferred, declaration_inferred, all_inferred}
 use Rattle.par_type_rules.proofs.Places.{types_broken_within}

@@ -1,4 +1,3 @@
 pub mod Laws
-pub use Rattle.par_typed_laws.specs.par_declarations as par_declarations
 pub use Rattle.par_typed_laws.specs.par_faults as par_faults
 pub use Rattle.par_typed_laws.specs as par_typed_laws

@@ -19,11 +19,11 @@ use Rattle.par_refusals.specs.First.{in_passes, first_of}
 use Rattle.par_refusals.proofs.First.{first_of_none}
 use Rattle.par_names.specs.Declarations.{builtins, classes_in, classes, declared_classes}
 use Rattle.par_names.specs.Program.{name_faults}
-use Rattle.par_faults.specs.par_declarations.declared.limit.Limit.{Limit}
-use Rattle.par_faults.specs.par_declarations.declared.limit.TheConstants.{CLASSES}
-use Rattle.par_faults.specs.par_declarations.Limits.{told, one_too_many, class_places}
-use Rattle.par_faults.specs.par_declarations.Limits.{declared_limits}
-use Rattle.par_faults.specs.par_declarations.Limits.{count_faults}
+use Rattle.par_faults.specs.declared.limit.Limit.{Limit}
+use Rattle.par_faults.specs.declared.limit.TheConstants.{CLASSES}
+use Rattle.par_faults.specs.Limits.{told, one_too_many, class_places}
+use Rattle.par_faults.specs.Limits.{declared_limits}
+use Rattle.par_faults.specs.Limits.{count_faults}
 use Rattle.par_resolved.specs.declared.limits.TheConstants.{MOST_POLICIES}
 use Rattle.par_resolved.specs.declared.entries.Entry.{Entry}
 use Rattle.par_resolved.specs.Policies.{known}

@@ -1,5 +1,4 @@
 pub mod Room
 pub mod Parts
 pub mod Seen
-pub use Rattle.par_faults.specs.par_declarations as par_declarations
 pub use Rattle.par_faults.specs as par_faults

@@ -16,17 +16,17 @@ use Rattle.par_source_laws.specs.par_names.Declarations.{builtin, builtins, decl
 use Rattle.par_faults.specs.par_resolved.Resolved.{Resolved, resolved, field_infos, channel_info}
 use Rattle.par_faults.specs.par_resolved.Resolved.{param_info}
 use Rattle.par_faults.specs.par_resolved.Resolved.{method_info, class_info, class_infos, table_of}
-use Rattle.par_faults.specs.par_declarations.declared.limit.Limit.{Limit}
-use Rattle.par_faults.specs.par_declarations.declared.limit.TheConstants.{NODES, PARAMS, LOCALS}
-use Rattle.par_faults.specs.par_declarations.declared.limit.TheConstants.{MEMBERS}
-use Rattle.par_faults.specs.par_declarations.declared.limit.TheConstants.{METHODS, CLASS_NODES}
-use Rattle.par_faults.specs.par_declarations.declared.limit.TheConstants.{CLASSES}
-use Rattle.par_faults.specs.par_declarations.Limits.{told, one_too_many, in_order, earlier}
-use Rattle.par_faults.specs.par_declarations.Limits.{member_places}
-use Rattle.par_faults.specs.par_declarations.Limits.{over, method_limits, class_limits}
-use Rattle.par_faults.specs.par_declarations.Limits.{declared_limits}
-use Rattle.par_faults.specs.par_declarations.Limits.{class_places}
-use Rattle.par_faults.specs.par_declarations.Locals.{method_locals}
+use Rattle.par_faults.specs.declared.limit.Limit.{Limit}
+use Rattle.par_faults.specs.declared.limit.TheConstants.{NODES, PARAMS, LOCALS}
+use Rattle.par_faults.specs.declared.limit.TheConstants.{MEMBERS}
+use Rattle.par_faults.specs.declared.limit.TheConstants.{METHODS, CLASS_NODES}
+use Rattle.par_faults.specs.declared.limit.TheConstants.{CLASSES}
+use Rattle.par_faults.specs.Limits.{told, one_too_many, in_order, earlier}
+use Rattle.par_faults.specs.Limits.{member_places}
+use Rattle.par_faults.specs.Limits.{over, method_limits, class_limits}
+use Rattle.par_faults.specs.Limits.{declared_limits}
+use Rattle.par_faults.specs.Limits.{class_places}
+use Rattle.par_faults.specs.Locals.{method_locals}
 use Rattle.par_faults.specs.Faults.{all_faults}
 use Rattle.par_typed_laws.specs.Limits.{TakesFew, HaveFewParams, HasFewParams, IsLimitedClass}
 use Rattle.par_typed_laws.specs.Limits.{HasFewMembers, HasFewClasses}

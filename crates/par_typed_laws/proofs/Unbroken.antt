@@ -35,10 +35,10 @@ use Rattle.par_faults.specs.par_resolved.Numbers.{place_in_family}
 use Rattle.par_faults.specs.par_resolved.Limits as resolved
 use Rattle.par_faults.specs.par_resolved.Sizes.{all_literal_faults, all_join_faults}
 use Rattle.par_faults.specs.par_resolved.Policies.{known}
-use Rattle.par_faults.specs.par_declarations.Limits.{declared_limits, one_too_many, class_places}
-use Rattle.par_faults.specs.par_declarations.Limits.{class_limits}
-use Rattle.par_faults.specs.par_declarations.Limits.{count_faults}
-use Rattle.par_faults.specs.par_declarations.declared.limit.TheConstants.{CLASSES}
+use Rattle.par_faults.specs.Limits.{declared_limits, one_too_many, class_places}
+use Rattle.par_faults.specs.Limits.{class_limits}
+use Rattle.par_faults.specs.Limits.{count_faults}
+use Rattle.par_faults.specs.declared.limit.TheConstants.{CLASSES}
 use Rattle.par_faults.specs.Faults.{where_none, policies_faults, limit_faults, all_faults}
 use Rattle.par_faults.proofs.Few.{has_few}
 use Rattle.par_typed_laws.proofs.Lists.{none_left, none_right, none_of, of_parts, all_mapped}

@@ -16,7 +16,6 @@ pub mod Typed
 pub mod Laws
 pub use Rattle.par_body_laws.specs as par_body_laws
 pub use Rattle.par_body_laws.specs.par_completes as par_completes
-pub use Rattle.par_faults.specs.par_declarations as par_declarations
 pub use Rattle.par_faults.specs as par_faults
 pub use Rattle.par_faults.specs.par_resolved as par_resolved
 pub use Rattle.par_annotation_laws.specs.par_type_rules as par_type_rules

@@ -22,20 +22,20 @@ use Rattle.par_resolved.specs.Births.{birth_faults}
 use Rattle.par_resolved.specs.Numbered.{numbered, declared}
 use Rattle.par_resolved.specs.Policies.{known}
 use Rattle.par_resolved.specs.Sizes.{all_literal_faults, all_join_faults}
-use Rattle.par_source_table_laws.specs.par_declarations.declared.limit.Limit.{Limit}
-use Rattle.par_source_table_laws.specs.par_declarations.declared.limit.TheConstants.{CLASSES}
-use Rattle.par_source_table_laws.specs.par_declarations.declared.limit.TheConstants.{MEMBERS}
-use Rattle.par_source_table_laws.specs.par_declarations.declared.limit.TheConstants.{METHODS}
-use Rattle.par_source_table_laws.specs.par_declarations.declared.limit.TheConstants.{NODES}
-use Rattle.par_source_table_laws.specs.par_declarations.declared.limit.TheConstants.{CLASS_NODES}
-use Rattle.par_source_table_laws.specs.par_declarations.declared.limit.TheConstants.{PARAMS}
-use Rattle.par_source_table_laws.specs.par_declarations.declared.limit.TheConstants.{LOCALS}
-use Rattle.par_source_table_laws.specs.par_declarations.Limits.{told, one_too_many, class_places}
-use Rattle.par_source_table_laws.specs.par_declarations.Limits.{member_places, over}
-use Rattle.par_source_table_laws.specs.par_declarations.Limits.{declared_limits, class_limits}
-use Rattle.par_source_table_laws.specs.par_declarations.Limits.{method_limits}
-use Rattle.par_source_table_laws.specs.par_declarations.Limits.{count_faults}
-use Rattle.par_source_table_laws.specs.par_declarations.Locals.{method_locals}
+use Rattle.par_source_table_laws.specs.par_faults.declared.limit.Limit.{Limit}
+use Rattle.par_source_table_laws.specs.par_faults.declared.limit.TheConstants.{CLASSES}
+use Rattle.par_source_table_laws.specs.par_faults.declared.limit.TheConstants.{MEMBERS}
+use Rattle.par_source_table_laws.specs.par_faults.declared.limit.TheConstants.{METHODS}
+use Rattle.par_source_table_laws.specs.par_faults.declared.limit.TheConstants.{NODES}
+use Rattle.par_source_table_laws.specs.par_faults.declared.limit.TheConstants.{CLASS_NODES}
+use Rattle.par_source_table_laws.specs.par_faults.declared.limit.TheConstants.{PARAMS}
+use Rattle.par_source_table_laws.specs.par_faults.declared.limit.TheConstants.{LOCALS}
+use Rattle.par_source_table_laws.specs.par_faults.Limits.{told, one_too_many, class_places}
+use Rattle.par_source_table_laws.specs.par_faults.Limits.{member_places, over}
+use Rattle.par_source_table_laws.specs.par_faults.Limits.{declared_limits, class_limits}
+use Rattle.par_source_table_laws.specs.par_faults.Limits.{method_limits}
+use Rattle.par_source_table_laws.specs.par_faults.Limits.{count_faults}
+use Rattle.par_source_table_laws.specs.par_faults.Locals.{method_locals}
 use Rattle.par_source_table_laws.specs.par_faults.Faults.{where_none, policies_faults, limit_faults}
 use Rattle.par_source_table_laws.specs.par_faults.Faults.{all_faults}
 use Rattle.par_source_table_laws.proofs.par_faults.Few as faults

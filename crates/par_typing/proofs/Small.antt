@@ -14,7 +14,7 @@ use Rattle.par_type_rules.specs.Methods.{result_fault, end_fault, home_of, body_
 use Rattle.par_type_rules.specs.Methods.{method_faults}
 use Rattle.par_type_rules.specs.Methods.{methods_faults, class_faults}
 use Rattle.par_type_rules.specs.Program.{declaration_faults, declarations_faults}
-use Rattle.par_source_table_laws.specs.par_declarations.Limits.{class_limits, method_limits}
+use Rattle.par_source_table_laws.specs.par_faults.Limits.{class_limits, method_limits}
 use Rattle.par_annotation.specs.Small.{IsSmall, AreSmall, IsSmallClass, IsSmallSource}
 use Rattle.par_source_laws.specs.Numbers.{HasNumbers, SourceHasNumbers}
 use Rattle.par_typing.proofs.Ints.{left_none, right_none, braces_ints}

@@ -14,8 +14,8 @@ use Rattle.par_resolved.specs.Numbered.{numbered}
 use Rattle.par_resolved.specs.Resolved.{Resolved, resolved, field_infos, channel_info}
 use Rattle.par_resolved.specs.Resolved.{method_info}
 use Rattle.par_resolved.specs.Resolved.{class_info, class_infos, table_of}
-use Rattle.par_source_table_laws.specs.par_declarations.Limits.{in_order, earlier, member_places}
-use Rattle.par_source_table_laws.specs.par_declarations.Limits.{class_limits}
+use Rattle.par_source_table_laws.specs.par_faults.Limits.{in_order, earlier, member_places}
+use Rattle.par_source_table_laws.specs.par_faults.Limits.{class_limits}
 use Rattle.par_typing.proofs.Limits.{IsWithinLimits, ClassIsWithin, class_within}
 
 -- none of two lists in order is lost

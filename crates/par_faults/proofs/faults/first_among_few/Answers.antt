@@ -1,6 +1,6 @@
 use Rattle.std.proofs.Common.{◌≡◌, sym, ◌∙◌, subst, IfOk}
 use Rattle.par_tree.specs.Shown.{source}
-use Rattle.par_declarations.specs.Limits.{declared_limits}
+use Rattle.par_faults.specs.Limits.{declared_limits}
 use Rattle.par_limits.specs.par_resolved.Limits.{policy_faults}
 use Rattle.par_faults.proofs.Few.{has_few}
 use Rattle.par_faults.proofs.Passes.{where_passed, where_stopped}

@@ -1,6 +1,6 @@
 use Rattle.std.proofs.Common.{sym, ◌∙◌}
 use Rattle.par_tree.specs.Shown.{source}
-use Rattle.par_declarations.specs.par_names.Program.{name_faults}
+use Rattle.par_faults.specs.par_names.Program.{name_faults}
 use Rattle.par_faults.specs.Faults.{limit_faults}
 use Rattle.par_faults.proofs.Passes.{passed, stopped}
 use Rattle.par_faults.proofs.faults.first_fault.Goals as goal

@@ -1,8 +1,0 @@
-pub mod Locals
-pub mod Limits
-pub mod Heads
-pub mod Mains
-pub use Rattle.par_names.specs as par_names
-pub use Rattle.par_parser.specs as par_parser
-pub use Rattle.par_names.specs.par_span_laws as par_span_laws
-pub use Rattle.par_tree.specs as par_tree

@@ -1,0 +1,9 @@
+use Rattle.std.proofs.Common.{◌≡◌, ◌++◌, drop}
+use Rattle.par_tree.specs.Shown.{all_declared}
+use Rattle.par_faults.specs.Limits as place
+use Rattle.par_faults.proofs.places.class_places.Given as goal
+
+abbrev pub invariant-loop-decl : goal.invariant-loop-decl
+invariant-loop-decl l =
+    l.places.items ++ place.class_places (all_declared (drop l.decl-index l.decls))
+    ≡ place.class_places (all_declared l.decls)
