@@ -25,12 +25,12 @@ const BEST: usize = 0;
 
 const BOUND: u64 = 1000;
 
-fn line(alloc: Global, channel: &[u8], bid: i32) -> Result<ChannelInput, Fail> {
+fn line(alloc: Global, channel: Name, bid: i32) -> Result<ChannelInput, Fail> {
     let mut numbers = List::new(alloc);
     numbers.push(bid)?;
     Ok(ChannelInput {
         class: Name::new(alloc, b"Auction")?,
-        channel: Name::new(alloc, channel)?,
+        channel,
         numbers,
     })
 }
@@ -38,8 +38,8 @@ fn line(alloc: Global, channel: &[u8], bid: i32) -> Result<ChannelInput, Fail> {
 // Alice bids 30, and bob bids this.
 fn bids(alloc: Global, of_bob: i32) -> Result<Inputs, Fail> {
     let mut channels = List::new(alloc);
-    channels.push(line(alloc, b"aliceBids", 30)?)?;
-    channels.push(line(alloc, b"bobBids", of_bob)?)?;
+    channels.push(line(alloc, Name::new(alloc, b"aliceBids")?, 30)?)?;
+    channels.push(line(alloc, Name::new(alloc, b"bobBids")?, of_bob)?)?;
     Ok(Inputs { channels })
 }
 

@@ -7,7 +7,7 @@ ghost use Rattle.par_tool.specs.Samples.{Sampled};
 
 use crate::answer::Answer;
 use crate::reads::Failure;
-use crate::sources::{accepted, class_files};
+use crate::sources::{class_files, program};
 use par_sample::sample;
 use par_summary::summary_of;
 use std::alloc::Global;
@@ -18,9 +18,8 @@ pub fn make_sample(alloc: Global, number: u64) -> Result<Answer, Failure>
     ensures failed { IfErr result (IsFailure (Sampled number)) }
 {
     let source = sample(alloc, number)?;
-    let accepted = accepted(alloc, source.as_slice())?;
-    let typed = accepted.typed();
-    let classes = class_files(alloc, typed)?;
+    let typed = program(alloc, source.as_slice())?;
+    let classes = class_files(alloc, &typed)?;
     let files = classes.len() as u32;
     Ok(Answer::Sampled(summary_of(number, &typed.table, files)))
 }

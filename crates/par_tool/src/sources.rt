@@ -6,6 +6,7 @@ ghost use Rattle.std.specs.Str.{bytes_eq};
 ghost use Rattle.par_io.specs.Causes.{Makes, NoneFalls};
 ghost use Rattle.par_audit.specs.par_verdict.Accepted.{IsAcceptedBy};
 ghost use Rattle.par_program_filling.specs.par_flow.Table.{facts_in};
+ghost use Rattle.par_observer.specs.Judgements.{IsRefused};
 ghost use Rattle.par_observer.specs.Trees.{IsWellFormed};
 ghost use Rattle.par_tool.specs.Failures.{IsFailure, FaultsAreTold};
 ghost use Rattle.par_tool.specs.Outside.{Text, MakesAtMost};
@@ -21,7 +22,7 @@ use par_compile::{CompiledClass, compile};
 use par_io::{Folder, WriteFail};
 use par_lexer::list::List;
 use par_lexer::{LONGEST_SOURCE, place_of};
-use par_observer::{JudgeError, judge};
+use par_observer::{JudgeError, judge, program_of};
 use par_refusals::refusal::Refusal;
 use par_typed::program::Typed;
 use std::alloc::Global;
@@ -37,10 +38,32 @@ pub fn accepted(alloc: Global, source: &[u8]) -> Result<Accepted, Failure>
 {
     match judge(alloc, source) {
         Ok(accepted) => Ok(accepted),
-        Err(error) => match error {
-            JudgeError::Refused(refusal) => Err(Failure::Answered(refused(source, refusal))),
-            JudgeError::Memory => Err(Failure::Memory),
-        },
+        Err(error) => Err(unaccepted(source, error)),
+    }
+}
+
+/// The program of a source that is accepted, whose facts are not kept.
+pub fn program(alloc: Global, source: &[u8]) -> Result<Typed, Failure>
+    requires { length source.now ≤ LONGEST_SOURCE }
+    ensures accepted { IfOk result (IsSecureAs source.now) }
+    ensures well_formed { IfOk result IsWellFormed }
+    ensures failed { IfErr result (IsFailure (IsUnaccepted source.now)) }
+{
+    match program_of(alloc, source) {
+        Ok(typed) => Ok(typed),
+        Err(error) => Err(unaccepted(source, error)),
+    }
+}
+
+/// Why a source is not accepted, as it is told.
+fn unaccepted(source: &[u8], error: JudgeError) -> Failure
+    requires short { length source.now ≤ LONGEST_SOURCE }
+    requires refused { IsRefused source.now error }
+    ensures { IsFailure (IsUnaccepted source.now) result }
+{
+    match error {
+        JudgeError::Refused(refusal) => Failure::Answered(refused(source, refusal)),
+        JudgeError::Memory => Failure::Memory,
     }
 }
 
@@ -60,25 +83,25 @@ pub fn refused(source: &[u8], refusal: Refusal) -> Answer
     }
 }
 
-/// What the source in a file is accepted as.
-pub fn accepted_source<F: Folder>(
+/// The program of the source in a file, if it is accepted.
+pub fn program_source<F: Folder>(
     alloc: Global,
     folder: &mut F,
     file: &str,
-) -> Result<Accepted, Failure>
+) -> Result<Typed, Failure>
     ensures kept { F.files folder.new ≡ F.files folder.old }
     ensures counted { Makes 1 0 (F.counts folder.old) (F.counts folder.new) }
     ensures none_falls { NoneFalls (F.counts folder.old) (F.counts folder.new) }
     ensures faults_are_told { IsTrue F.counts_faults_alone →
         FaultsAreTold result (F.counts folder.old).faults (F.counts folder.new).faults }
-    ensures accepted { IfOk result (λ accepted.
-        ReadSource (F.files folder.old) file.now (λ source. IsSecureAs source accepted.typed)) }
-    ensures well_formed { IfOk result (λ accepted. IsWellFormed accepted.typed) }
+    ensures accepted { IfOk result (λ typed.
+        ReadSource (F.files folder.old) file.now (λ source. IsSecureAs source typed)) }
+    ensures well_formed { IfOk result IsWellFormed }
     ensures failed { IfErr result (IsFailure (Rejected (F.files folder.old)
         (F.counts folder.old) (F.counts folder.new) file.now)) }
 {
     let source = read(alloc, folder, file, LONGEST_SOURCE as u64)?;
-    accepted(alloc, source.as_slice())
+    program(alloc, source.as_slice())
 }
 
 /// Checks the source in a file.
@@ -92,7 +115,7 @@ pub fn check<F: Folder>(alloc: Global, folder: &mut F, file: &str) -> Result<Ans
     ensures failed { IfErr result (IsFailure (Checked (F.files folder.old)
         (F.counts folder.old) (F.counts folder.new) file.now)) }
 {
-    accepted_source(alloc, folder, file)?;
+    program_source(alloc, folder, file)?;
     Ok(Answer::Accepted)
 }
 
@@ -122,8 +145,8 @@ pub fn compile_file<F: Folder>(alloc: Global, folder: &mut F, file: &str) -> Res
         (F.counts folder.old) (F.counts folder.new) file.now
         × MakesAtMost 1 MOST_FILES (F.counts folder.old) (F.counts folder.new)) }
 {
-    let accepted = accepted_source(alloc, folder, file)?;
-    let classes = class_files(alloc, accepted.typed())?;
+    let typed = program_source(alloc, folder, file)?;
+    let classes = class_files(alloc, &typed)?;
     match write_classes(alloc, folder, classes.as_slice()) {
         Ok(()) => Ok(Answer::Compiled(classes.len() as u32)),
         Err(WriteFail::Failed) => Err(Failure::Answered(Answer::WriteFault)),

@@ -97,12 +97,12 @@ pub fn tool<F: Folder, S: Sink>(
 /// Tells of the run of a source.
 fn tell_trace<S: Sink>(alloc: Global, traced: &Traced, out: &mut S) -> u8
     ensures said { let run = run_of traced.now.run in
-        Said (told.status (Fine run.ending)) (lines traced.now.accepted.typed.table run) result
+        Said (told.status (Fine run.ending)) (lines traced.now.typed.table run) result
         (S.held out.old) (S.held out.new) (S.counts out.old) (S.counts out.new) }
     ensures failed_puts_are_told { IsTrue S.counts_faults_alone →
         result ≢ 6 → (S.counts out.new).faults ≡ (S.counts out.old).faults }
 {
-    tell_source(alloc, &traced.accepted.typed().table, &traced.run, out)
+    tell_source(alloc, &traced.typed.table, &traced.run, out)
 }
 
 /// Says what a job came to.

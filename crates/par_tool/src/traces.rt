@@ -10,21 +10,21 @@ ghost use Rattle.par_tool.specs.Traces.{IsTraced, LacksMemory, Untraced};
 
 use crate::answer::Answer;
 use crate::reads::{Failure, read};
-use crate::sources::accepted_source;
-use par_check::Accepted;
+use crate::sources::program_source;
 use par_inputs::error::BadInput;
 use par_inputs::{LONGEST_INPUTS, line_of_entry, read_inputs};
 use par_io::Folder;
 use par_meaning::{SourceRun, run_source};
 use par_trace::inputs_fit;
+use par_typed::program::Typed;
 use par_typed::table::Table;
 use par_values::inputs::Inputs;
 use std::alloc::Global;
 
-/// An accepted source, and a run of it.
+/// The program of an accepted source, and a run of it.
 #[derive(Drop)]
 pub struct Traced {
-    pub accepted: Accepted,
+    pub typed: Typed,
     pub run: SourceRun,
 }
 
@@ -72,17 +72,17 @@ pub fn trace_source<F: Folder>(
     ensures faults_are_told { IsTrue F.counts_faults_alone →
         FaultsAreTold result (F.counts folder.old).faults (F.counts folder.new).faults }
     ensures traced { IfOk result (λ traced. IsTraced (F.files folder.old) file.now name.now bound
-        traced.accepted.typed.table traced.run) }
+        traced.typed.table traced.run) }
     ensures failed { IfErr result (IsFailure (Untraced (F.files folder.old)
         (F.counts folder.old) (F.counts folder.new) file.now name.now)) }
     ensures memory { IfErr result (λ e. e ≡ Failure.Memory →
         LacksMemory (F.files folder.old) (F.counts folder.old) (F.counts folder.new)
         file.now name.now) }
 {
-    let accepted = accepted_source(alloc, folder, file)?;
-    let inputs = inputs(alloc, folder, &accepted.typed().table, name)?;
-    match run_source(alloc, accepted.typed(), &inputs, u64::from(bound)) {
-        Ok(run) => Ok(Traced { accepted, run }),
+    let typed = program_source(alloc, folder, file)?;
+    let inputs = inputs(alloc, folder, &typed.table, name)?;
+    match run_source(alloc, &typed, &inputs, u64::from(bound)) {
+        Ok(run) => Ok(Traced { typed, run }),
         Err(_) => Err(Failure::Memory),
     }
 }

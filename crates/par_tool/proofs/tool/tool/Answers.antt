@@ -67,7 +67,7 @@ pub returns-in-Ok-trace_source-clause-ends : goal.returns-in-Ok-trace_source-cla
 returns-in-Ok-trace_source-clause-ends g c =
     let asks = rw c.in-Trace.is at c.in-Ok.ensures in
     trace_ends _ _ _ _ _ _ _ _ c.in-Trace.file.now c.in-Trace.inputs.now c.in-Trace.bound
-    c.in-Ok-trace_source.traced.accepted.typed.table c.in-Ok-trace_source.traced.run asks
+    c.in-Ok-trace_source.traced.typed.table c.in-Ok-trace_source.traced.run asks
     c.in-Ok-trace_source.ensures.counted c.in-Ok-trace_source.ensures.kept
     c.in-Ok-trace_source.ensures.traced c.tell_trace.ensures.said
 

@@ -8,29 +8,27 @@ pub returns-in_err-inputs-clause-memory : goal.returns-in_err-inputs-clause-memo
 returns-in_err-inputs-clause-memory g c =
     let files : Option Files = g.F.Folder.files c.args.folder.now in
     let before : FolderCounts = g.F.Folder.counts c.args.folder.now in
-    let between : FolderCounts = g.F.Folder.counts c.accepted_source.new.folder in
+    let between : FolderCounts = g.F.Folder.counts c.program_source.new.folder in
     let after : FolderCounts = g.F.Folder.counts c.inputs.new.folder in
     on_memory c.from_residual-in_err-inputs.result
     (source_stands files before after c.args.file.now c.args.name.now
-    c.in_ok-accepted.accepted.typed c.in_ok-accepted.ensures.accepted
-    (two_reads before between after c.accepted_source.ensures.counted c.inputs.ensures.counted))
+    c.in_ok-typed.typed c.in_ok-typed.ensures.accepted
+    (two_reads before between after c.program_source.ensures.counted c.inputs.ensures.counted))
 
 pub returns-in-Ok-clause-traced : goal.returns-in-Ok-clause-traced
 returns-in-Ok-clause-traced g c =
     let files : Option Files = g.F.Folder.files c.args.folder.now in
-    let given = rw c.accepted_source.ensures.kept at c.in_ok-inputs.ensures.given in
-    let own = rw c.typed.ensures at given in
-    let run = rw c.typed-2.ensures at c.in-Ok.ensures in
+    let given = rw c.program_source.ensures.kept at c.in_ok-inputs.ensures.given in
     traced files c.args.file.now c.args.name.now c.args.bound c.from.result
-    c.in_ok-accepted.accepted.typed c.in-Ok.run' c.in_ok-inputs.inputs c.from.ensures
-    c.in_ok-accepted.ensures.accepted own run
+    c.in_ok-typed.typed c.in-Ok.run' c.in_ok-inputs.inputs c.from.ensures
+    c.in_ok-typed.ensures.accepted given c.in-Ok.ensures
 
 pub returns-in-Err-clause-memory : goal.returns-in-Err-clause-memory
 returns-in-Err-clause-memory g c =
     let files : Option Files = g.F.Folder.files c.args.folder.now in
     let before : FolderCounts = g.F.Folder.counts c.args.folder.now in
-    let between : FolderCounts = g.F.Folder.counts c.accepted_source.new.folder in
+    let between : FolderCounts = g.F.Folder.counts c.program_source.new.folder in
     let after : FolderCounts = g.F.Folder.counts c.inputs.new.folder in
     λ is. source_stands files before after c.args.file.now c.args.name.now
-    c.in_ok-accepted.accepted.typed c.in_ok-accepted.ensures.accepted
-    (two_reads before between after c.accepted_source.ensures.counted c.inputs.ensures.counted)
+    c.in_ok-typed.typed c.in_ok-typed.ensures.accepted
+    (two_reads before between after c.program_source.ensures.counted c.inputs.ensures.counted)
