@@ -1,5 +1,4 @@
 pub mod Release
 pub mod SecureFor
 pub mod Laws
-pub use Rattle.par_secure_laws.specs.par_verdict as par_verdict
 pub use Rattle.par_secure_laws.specs.par_typed_laws as par_typed_laws

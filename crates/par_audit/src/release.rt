@@ -13,10 +13,10 @@ use par_asked::check::{Check, Condition};
 use par_base::list::List;
 use par_base::memory::NoMemory;
 use par_check::Accepted;
+use par_flow::known::KnownFacts;
 use par_released::Releases;
 use par_typed::program::TBody;
 use par_typed::table::Table;
-use par_verdict::known::KnownFacts;
 use std::alloc::Global;
 
 /// A release: the rule that it is listed under, and its place.

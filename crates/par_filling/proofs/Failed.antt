@@ -17,9 +17,9 @@ use Rattle.par_flow_laws.specs.Lattice.{numbers}
 use Rattle.par_flow_laws.specs.Facts.{Facts}
 use Rattle.par_infer.specs.par_check_laws.Asked.{Check}
 use Rattle.par_infer.specs.par_check_laws.Checks.{checks}
-use Rattle.par_verdict.specs.Judged.{AreRight, AreAllRight}
-use Rattle.par_verdict.specs.Told.{AreBroken}
-use Rattle.par_verdict.proofs.Told.{Goes, Noted}
+use Rattle.par_check.specs.Judged.{AreRight, AreAllRight}
+use Rattle.par_check.specs.Told.{AreBroken}
+use Rattle.par_check.proofs.Told.{Goes, Noted}
 use Rattle.par_infer.specs.Laws.{AreAll, KeepOthers, KeepsOther, KeepsReplaced, is_bound}
 use Rattle.par_infer.proofs.Choices.{by_cases}
 use Rattle.par_filling.specs.Judged.{AreAllFailed, IsJudged}

@@ -7,7 +7,7 @@ use Rattle.par_typed.specs.Plain.{Body}
 use Rattle.par_flow_laws.specs.Lattice.{numbers}
 use Rattle.par_flow_laws.specs.Facts.{Facts}
 use Rattle.par_infer.specs.par_check_laws.Checks.{checks}
-use Rattle.par_verdict.specs.Told.{AreBroken}
+use Rattle.par_check.specs.Told.{AreBroken}
 use Rattle.par_infer.specs.Laws.{AreAll, KeepOthers, KeepsOther}
 use Rattle.par_infer.specs.First.{IsFirstFailed}
 

@@ -9,10 +9,10 @@ ghost use Rattle.par_filling.specs.Least.{HaveFewEffects};
 
 use par_atoms::Atoms;
 use par_base::memory::NoMemory;
+use par_flow::known::KnownFacts;
 use par_infer::note_body;
 use par_typed::program::TBody;
 use par_typed::table::Table;
-use par_verdict::known::KnownFacts;
 use std::alloc::Global;
 
 /// Notes what the rules on bodies, each over its facts, ask the policies of inferred numbers to be

@@ -13,10 +13,10 @@ use crate::births::note_births;
 use crate::bodies::note_bodies;
 use par_atoms::Atoms;
 use par_base::memory::NoMemory;
+use par_flow::known::KnownFacts;
 use par_reached::reach;
 use par_typed::program::TBody;
 use par_typed::table::Table;
-use par_verdict::known::KnownFacts;
 use std::alloc::Global;
 
 /// The least sets that meet the bounds of inferred numbers, from empty ones.

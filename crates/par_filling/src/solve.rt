@@ -7,8 +7,8 @@ ghost use Rattle.par_table_laws.specs.Declared.{HasFewFields, IsWellDeclared};
 ghost use Rattle.par_table_laws.specs.Inferred.{inferred};
 ghost use Rattle.par_reached.specs.Reached.{AreLeastSets, set_at};
 ghost use Rattle.par_typed.specs.Shown as shown;
-ghost use Rattle.par_verdict.specs.Judged.{AreAllRight};
-ghost use Rattle.par_verdict.specs.Accepted.{IsOrderlyBody};
+ghost use Rattle.par_check.specs.Judged.{AreAllRight};
+ghost use Rattle.par_rounds.specs.Orderly.{IsOrderlyBody};
 ghost use Rattle.par_infer.specs.Bounds.{bounds};
 ghost use Rattle.par_filling.specs.Inferred.{IsInferred, IsRefused};
 ghost use Rattle.par_filling.specs.Judged.{IsJudged};
@@ -18,13 +18,12 @@ use crate::filling::{Filling, fill};
 use crate::least::least_sets;
 use crate::verdict::first_failed;
 use par_atoms::Atoms;
-use par_base::list::List;
 use par_base::memory::NoMemory;
+use par_check::all_facts;
+use par_flow::known::KnownFacts;
 use par_infer::inferred_numbers;
 use par_refusals::refusal::Refusal;
 use par_typed::program::Typed;
-use par_verdict::FindsFacts;
-use par_verdict::known::KnownFacts;
 use std::alloc::Global;
 
 const POLICIES: usize = 256;
@@ -35,20 +34,6 @@ fn no_sets() -> [Atoms; POLICIES]
     ensures empty { (i n : ℕ) → set_at result i n ≡ false }
 {
     [Atoms::empty(); POLICIES]
-}
-
-// The facts of all bodies.
-fn all_facts<F: FindsFacts>(alloc: Global, typed: &Typed) -> Result<List<F>, NoMemory>
-    requires { AllByRecursion (IsOrderlyBody typed.now.table) (shown.bodies typed.now.bodies) }
-    ensures many { IfOk result (λ fs. length fs ≡ length typed.now.bodies) }
-    ensures right { IfOk result (λ fs.
-        AreAllRight typed.now.table (shown.bodies typed.now.bodies) (map F.facts fs)) }
-{
-    let mut facts = List::new(alloc);
-    for body in typed.bodies.as_slice() {
-        facts.push(F::facts_of(alloc, &typed.table, body)?)?;
-    }
-    Ok(facts)
 }
 
 // The least sets that meet the bounds, and the first other rule that fails with them.
@@ -84,7 +69,7 @@ fn decide<F: KnownFacts>(
 /// The least policies for the inferred fields of a program with which it is accepted: those of each
 /// accepted filling are above them, field by field. A refusal comes exactly where no filling is
 /// accepted.
-pub fn infer_fields<F: FindsFacts>(alloc: Global, typed: &Typed) -> Result<Filling, InferError>
+pub fn infer_fields(alloc: Global, typed: &Typed) -> Result<Filling, InferError>
     requires policies { length typed.now.table.policies ≤ 256 }
     requires classes { length typed.now.table.classes ≤ 65536 }
     requires fields { AllByRecursion HasFewFields typed.now.table.classes }
@@ -94,7 +79,7 @@ pub fn infer_fields<F: FindsFacts>(alloc: Global, typed: &Typed) -> Result<Filli
     ensures filled { IfOk result (λ filling. IsInferred typed.now filling.fields) }
     ensures refused { IfErr result (IsRefused typed.now) }
 {
-    let facts: List<F> = all_facts(alloc, typed)?;
+    let facts = all_facts(alloc, typed)?;
     let numbers = inferred_numbers(&typed.table);
     let mut sets = no_sets();
     match decide(alloc, facts.as_slice(), typed, &numbers, &mut sets)? {

@@ -9,20 +9,20 @@ ghost use Rattle.par_refusals.specs.declared.refusal.Refusal.{Refusal as Told};
 ghost use Rattle.par_refusals.specs.First.{first_of};
 ghost use Rattle.par_typed.specs.Shown as shown;
 ghost use Rattle.par_infer.specs.par_check_laws.Checks.{checks};
-ghost use Rattle.par_verdict.specs.Judged.{AreAllRight};
-ghost use Rattle.par_verdict.specs.Told.{AreBroken};
+ghost use Rattle.par_check.specs.Judged.{AreAllRight};
+ghost use Rattle.par_check.specs.Told.{AreBroken};
 ghost use Rattle.par_infer.specs.Laws.{KeepsOther};
 ghost use Rattle.par_filling.specs.Judged.{AreAllFailed, IsJudged};
 
 use par_asked::body::checks_of;
 use par_atoms::Atoms;
 use par_base::memory::NoMemory;
+use par_check::Policies;
+use par_flow::known::KnownFacts;
 use par_infer::note_failed;
 use par_refusals::refusal::{Findings, Refusal};
 use par_typed::program::TBody;
 use par_typed::table::Table;
-use par_verdict::Policies;
-use par_verdict::known::KnownFacts;
 use std::alloc::Global;
 
 // Notes the other rules on a body that fail with these sets in place of inferred numbers.

@@ -1,4 +1,5 @@
+pub mod Standing
 pub mod Kept
 pub mod Statements
 pub mod Table
-pub use Rattle.par_locks.specs.par_verdict as par_verdict
+pub use Rattle.par_rounds.specs as par_rounds

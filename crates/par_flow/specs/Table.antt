@@ -11,8 +11,8 @@ use Rattle.par_flow_laws.specs.Kinds.{Kind}
 use Rattle.par_flow_laws.specs.Facts.{Fact, Facts, blank}
 use Rattle.par_envs.specs.Numbered.{envs, AreDifferent}
 use Rattle.par_rounds.specs.Bodies.{AreLeastClosed}
-use Rattle.par_verdict.specs.Standing.{Standing}
-use Rattle.par_locks.specs.Locals.{locals_in}
+use Rattle.par_flow.specs.Standing.{Standing}
+use Rattle.par_rounds.specs.Orderly.{locals_in}
 use Rattle.par_flow.specs.declared.kept.KeptWay.{KeptWay}
 use Rattle.par_flow.specs.declared.kept.KeptWays.{KeptWays}
 use Rattle.par_flow.specs.declared.table.Row.{Row}
@@ -95,7 +95,7 @@ abbrev pub IsNamedAt : ℕ → Option Row → Type 0
 IsNamedAt n None = ⊥
 IsNamedAt n (Some r) = IsNamedIn n r
 
--- what a verdict asks of a way, if there is one
+-- what is asked of a way, if there is one
 abbrev pub stood : Option KeptWay → Option Standing
 stood None = None
 stood (Some k) = Some (record { context = has k.context; locks = has k.locks })

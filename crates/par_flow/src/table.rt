@@ -9,8 +9,8 @@ ghost use Rattle.par_typed.specs.Shown as shown;
 ghost use Rattle.par_envs.specs.Numbered.{AreFound, Extends, envs};
 ghost use Rattle.par_locks.specs.par_except.Seen.{may_see, MayHaveLocals};
 ghost use Rattle.par_rounds.specs.Seen.{seen_fact, seen_facts, AreRowsWide, IsRowWide};
-ghost use Rattle.par_verdict.specs.Accepted.{IsOrderlyBody};
-ghost use Rattle.par_verdict.specs.Standing.{stands};
+ghost use Rattle.par_rounds.specs.Orderly.{IsOrderlyBody};
+ghost use Rattle.par_flow.specs.Standing.{stands};
 ghost use Rattle.par_locks.specs.Open.{open_at, AreOpenOf};
 ghost use Rattle.par_flow.specs.Kept.{AddsOnly, AreLong};
 ghost use Rattle.par_flow.specs.Table.{entry_at, envs_in, exits_at, facts_in, flags, row_at};
@@ -19,18 +19,17 @@ ghost use Rattle.par_flow.specs.Table.{AllShow, IsNamedAt, IsNamedIn, IsTableOf,
 
 use crate::keep::{keep_exits, may_keep};
 use crate::kept::{KeptWay, KeptWays, exit_of};
+use crate::known::{Known, KnownFacts};
 use crate::same::are_same;
 use crate::statements::list_points;
 use par_atoms::Atoms;
 use par_base::memory::NoMemory;
 use par_envs::Envs;
-use par_locks::{LockFacts, body_at, rows_of};
+use par_locks::LockFacts;
 use par_nodes::rule::Kind;
-use par_rounds::{Fact, SharedWay};
+use par_rounds::{Fact, SharedWay, body_at, rows_of};
 use par_typed::program::{TBody, Typed};
 use par_typed::table::Table;
-use par_verdict::FindsFacts;
-use par_verdict::known::{Known, KnownFacts};
 use std::alloc::Global;
 use std::rc::Rc;
 
@@ -206,8 +205,8 @@ fn flags_of(alloc: Global, points: usize, listed: &[u32]) -> Result<Vec<bool>, N
     Ok(flags)
 }
 
-// The table of a body.
-fn table_of(alloc: Global, table: &Table, body: &TBody) -> Result<FactTable, NoMemory>
+/// The least facts of a body of the table, kept by points.
+pub fn table_of(alloc: Global, table: &Table, body: &TBody) -> Result<FactTable, NoMemory>
     requires { IsOrderlyBody table.now (shown.body body.now) }
     ensures { IfOk result (λ t. IsTableOf table.now (shown.body body.now) t) }
 {
@@ -240,7 +239,7 @@ pub fn facts_of(
     Ok(table)
 }
 
-// What a verdict asks of a way, if there is one.
+// What is asked of a way, if there is one.
 fn known(way: Option<KeptWay>) -> Option<Known>
     ensures { stands result ≡ stood way }
 {
@@ -275,12 +274,5 @@ impl KnownFacts for FactTable {
             None => Atoms::empty(),
             Some(row) => row.value,
         }
-    }
-}
-
-impl FindsFacts for FactTable {
-    fn facts_of(alloc: Global, table: &Table, body: &TBody) -> Result<FactTable, NoMemory> {
-        let table = table_of(alloc, table, body)?;
-        Ok(table)
     }
 }

@@ -7,10 +7,10 @@ use Rattle.par_typed.specs.declared.table.ClassInfo.{ClassInfo}
 use Rattle.par_typed.specs.Plain.{Body}
 use Rattle.par_body_laws.specs.Members as members
 use Rattle.par_typed_laws.specs.Orderly as well
-use Rattle.par_verdict.specs.Accepted as verdict
-use Rattle.par_verdict.specs.Accepted.{IsOrderlyBody}
+use Rattle.par_rounds.specs.Orderly as rounds
+use Rattle.par_rounds.specs.Orderly.{IsOrderlyBody}
 
-same_methods : (o : Option ClassInfo) → verdict.methods_in o ≡ members.methods_in o
+same_methods : (o : Option ClassInfo) → rounds.methods_in o ≡ members.methods_in o
 same_methods None = refl
 same_methods (Some class) = refl
 

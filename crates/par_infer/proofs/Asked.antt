@@ -10,16 +10,17 @@ use Rattle.par_bits.specs.Sets.{Set, has, none}
 use Rattle.par_flow_laws.specs.Lattice.{numbers}
 use Rattle.par_flow_laws.specs.Ways.{Way}
 use Rattle.par_flow_laws.specs.Facts.{Facts}
-use Rattle.par_verdict.specs.par_check_laws.Asked.{Condition, Open, Released, Worth, Joined}
-use Rattle.par_verdict.specs.par_check_laws.Asked.{Context}
-use Rattle.par_verdict.specs.par_check_laws.Asked.{Effect, Among}
-use Rattle.par_verdict.specs.par_check_laws.Asked as asked
-use Rattle.par_verdict.specs.par_check_laws.Asked.{Never}
+use Rattle.par_check.specs.par_check_laws.Asked.{Condition, Open, Released, Worth, Joined}
+use Rattle.par_check.specs.par_check_laws.Asked.{Context}
+use Rattle.par_check.specs.par_check_laws.Asked.{Effect, Among}
+use Rattle.par_check.specs.par_check_laws.Asked as asked
+use Rattle.par_check.specs.par_check_laws.Asked.{Never}
 use Rattle.par_asked.specs.declared.check.Check.{Check}
 use Rattle.par_asked.specs.Seen.{seen_check, seen_condition}
-use Rattle.par_verdict.specs.declared.known.Known.{Known}
-use Rattle.par_verdict.specs.Standing.{Standing, standing, stands, value_of}
-use Rattle.par_verdict.specs.Spots.{at_spot}
+use Rattle.par_flow.specs.declared.known.Known.{Known}
+use Rattle.par_flow.specs.Standing.{Standing, standing, stands}
+use Rattle.par_check.specs.Meets.{value_of}
+use Rattle.par_check.specs.Spots.{at_spot}
 use Rattle.par_reached.specs.Reached.{set_at}
 use Rattle.par_infer.specs.Keeps.{limit}
 use Rattle.par_infer.specs.Bounds.{compared_at, is_at}

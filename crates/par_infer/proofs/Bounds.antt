@@ -13,12 +13,12 @@ use Rattle.par_flow_laws.specs.Lattice.{Seen, numbers, IsSeenBelow}
 use Rattle.par_flow_laws.specs.Ways.{Way}
 use Rattle.par_flow_laws.specs.Facts.{Facts}
 use Rattle.par_flow_laws.specs.Rules.{way, Holds}
-use Rattle.par_verdict.specs.par_check_laws.Asked.{Condition, Open, Released, Worth, Joined}
-use Rattle.par_verdict.specs.par_check_laws.Asked.{Context}
-use Rattle.par_verdict.specs.par_check_laws.Asked.{Effect, Among}
-use Rattle.par_verdict.specs.par_check_laws.Asked.{Never, Check}
+use Rattle.par_check.specs.par_check_laws.Asked.{Condition, Open, Released, Worth, Joined}
+use Rattle.par_check.specs.par_check_laws.Asked.{Context}
+use Rattle.par_check.specs.par_check_laws.Asked.{Effect, Among}
+use Rattle.par_check.specs.par_check_laws.Asked.{Never, Check}
 use Rattle.par_pass_laws.specs.Seens.{given_of, join_of}
-use Rattle.par_verdict.specs.par_check_laws.Keeps.{Satisfies, Keeps}
+use Rattle.par_check.specs.par_check_laws.Keeps.{Satisfies, Keeps}
 use Rattle.par_infer.specs.Keeps.{unopened, strict, limit}
 use Rattle.par_infer.specs.Bounds.{compared, compared_at, is_at, asked_above, all_above, born_above}
 use Rattle.par_infer.specs.Bounds.{births_above}

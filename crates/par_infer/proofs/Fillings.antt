@@ -16,13 +16,13 @@ use Rattle.par_flow_laws.specs.Declares.{declares}
 use Rattle.par_flow_laws.specs.Closed.{IsClosed}
 use Rattle.par_pass_laws.proofs.Instances.{in_either}
 use Rattle.par_pass_laws.proofs.Along.{closed_along}
-use Rattle.par_verdict.specs.par_check_laws.Asked.{Check}
-use Rattle.par_verdict.specs.par_check_laws.Checks.{checks}
-use Rattle.par_verdict.proofs.par_check_laws.Monotone.{joined_more}
+use Rattle.par_check.specs.par_check_laws.Asked.{Check}
+use Rattle.par_check.specs.par_check_laws.Checks.{checks}
+use Rattle.par_check.proofs.par_check_laws.Monotone.{joined_more}
 use Rattle.par_reached.specs.Reached.{AreLeastSets, Reaches, Straight, Through}
 use Rattle.par_pass_laws.specs.Seens.{given_of, join_of, seen_as, plain}
 use Rattle.par_infer.specs.Seens.{IsPolicy}
-use Rattle.par_verdict.specs.par_check_laws.Keeps.{Keeps}
+use Rattle.par_check.specs.par_check_laws.Keeps.{Keeps}
 use Rattle.par_infer.specs.Keeps.{limit, strict}
 use Rattle.par_table_laws.specs.Inferred.{inferred, inferred_among, inferred_in}
 use Rattle.par_infer.specs.Bounds.{bounds, replaced}
@@ -30,7 +30,7 @@ use Rattle.par_infer.specs.Bounds.{bodies_above, births_above, all_above}
 use Rattle.par_infer.specs.Bounds.{is_at}
 use Rattle.par_infer.specs.Filling.{Filling, with_filling, ArePolicies, AreBirthsBelow, IsAccepted}
 use Rattle.par_infer.specs.Filling.{IsFillingBelow, join_filling, IsBodyAccepted}
-use Rattle.par_verdict.specs.Judged.{AreRight, AreAllRight}
+use Rattle.par_check.specs.Judged.{AreRight, AreAllRight}
 use Rattle.par_infer.proofs.Effects.{AreApart, apart}
 use Rattle.par_infer.specs.Laws.{AreAll, KeepOthers, KeepsReplaced, MeetsBounds}
 use Rattle.par_infer.specs.Laws.{is_bound, is_in, LeastSetsAreBelow, KeptSetsAreAccepted}

@@ -11,16 +11,16 @@ use Rattle.par_flow_laws.specs.Lattice.{numbers}
 use Rattle.par_flow_laws.specs.Facts.{Facts}
 use Rattle.par_flow_laws.specs.Declares.{declares}
 use Rattle.par_pass_laws.proofs.Along.{closed_along}
-use Rattle.par_verdict.specs.par_check_laws.Asked.{Check}
-use Rattle.par_verdict.specs.par_check_laws.Checks.{checks}
+use Rattle.par_check.specs.par_check_laws.Asked.{Check}
+use Rattle.par_check.specs.par_check_laws.Checks.{checks}
 use Rattle.par_reached.specs.Reached.{AreLeastSets}
 use Rattle.par_pass_laws.specs.Seens.{given_of, seen_as, join_of}
-use Rattle.par_verdict.specs.par_check_laws.Keeps.{Keeps}
+use Rattle.par_check.specs.par_check_laws.Keeps.{Keeps}
 use Rattle.par_infer.specs.Keeps.{strict}
 use Rattle.par_table_laws.specs.Inferred.{inferred}
 use Rattle.par_infer.specs.Bounds.{bounds, replaced}
 use Rattle.par_infer.specs.Filling.{Filling, with_filling, join_filling}
-use Rattle.par_verdict.specs.Judged.{AreRight}
+use Rattle.par_check.specs.Judged.{AreRight}
 use Rattle.par_infer.proofs.Effects.{AreApart, apart}
 use Rattle.par_infer.specs.Laws.{AreAll, KeepsReplaced, is_bound}
 use Rattle.par_infer.specs.First.{IsBrokenAlways, IsFirstFailed}

@@ -14,14 +14,14 @@ use Rattle.par_pass_laws.proofs.Order.{sub_trans, union_l, union_r}
 use Rattle.std.proofs.lemmas.Bool.{and_from}
 use Rattle.par_pass_laws.proofs.Along.{as_way, as_may, as_facts, as_all, way_lower}
 use Rattle.par_pass_laws.proofs.Under.{AreAllLow, way_low}
-use Rattle.par_verdict.specs.par_check_laws.Asked.{Condition, Open, Released, Worth, Joined}
-use Rattle.par_verdict.specs.par_check_laws.Asked.{Context}
-use Rattle.par_verdict.specs.par_check_laws.Asked.{Effect, Among}
-use Rattle.par_verdict.specs.par_check_laws.Asked.{Never, Check}
-use Rattle.par_verdict.proofs.par_check_laws.Monotone.{more_open}
+use Rattle.par_check.specs.par_check_laws.Asked.{Condition, Open, Released, Worth, Joined}
+use Rattle.par_check.specs.par_check_laws.Asked.{Context}
+use Rattle.par_check.specs.par_check_laws.Asked.{Effect, Among}
+use Rattle.par_check.specs.par_check_laws.Asked.{Never, Check}
+use Rattle.par_check.proofs.par_check_laws.Monotone.{more_open}
 use Rattle.par_pass_laws.specs.Seens.{given_of, join_of, seen_as}
 use Rattle.par_infer.specs.Seens.{IsPolicy}
-use Rattle.par_verdict.specs.par_check_laws.Keeps.{Satisfies, Keeps}
+use Rattle.par_check.specs.par_check_laws.Keeps.{Satisfies, Keeps}
 use Rattle.par_infer.proofs.Seens.{join_order, join_more, join_below}
 use Rattle.par_pass_laws.proofs.Instances.{stands}
 use Rattle.par_infer.proofs.Instances.{stand_for}

@@ -10,13 +10,13 @@ use Rattle.par_flow_laws.specs.Lattice.{Seen, numbers, IsSeenBelow, joined, seen
 use Rattle.par_flow_laws.specs.Ways.{Way}
 use Rattle.par_flow_laws.specs.Facts.{Facts}
 use Rattle.par_flow_laws.specs.Rules.{way, Holds}
-use Rattle.par_verdict.specs.par_check_laws.Asked.{Condition, Open, Released, Worth, Joined}
-use Rattle.par_verdict.specs.par_check_laws.Asked.{Context}
-use Rattle.par_verdict.specs.par_check_laws.Asked.{Effect, Among}
-use Rattle.par_verdict.specs.par_check_laws.Asked.{Never, Check}
+use Rattle.par_check.specs.par_check_laws.Asked.{Condition, Open, Released, Worth, Joined}
+use Rattle.par_check.specs.par_check_laws.Asked.{Context}
+use Rattle.par_check.specs.par_check_laws.Asked.{Effect, Among}
+use Rattle.par_check.specs.par_check_laws.Asked.{Never, Check}
 use Rattle.par_pass_laws.specs.Seens.{given_of, join_of, plain}
 use Rattle.par_infer.specs.Seens.{filled}
-use Rattle.par_verdict.specs.par_check_laws.Keeps.{Satisfies, Keeps}
+use Rattle.par_check.specs.par_check_laws.Keeps.{Satisfies, Keeps}
 use Rattle.par_infer.specs.Keeps.{unopened, strict, limit}
 use Rattle.par_infer.specs.Bounds.{any_below, replaced}
 use Rattle.par_infer.specs.Laws.{is_in}

@@ -10,19 +10,20 @@ use Rattle.par_flow_laws.specs.Ways.{Way}
 use Rattle.par_flow_laws.specs.Facts.{Facts}
 use Rattle.par_flow_laws.specs.Rules.{Holds}
 use Rattle.par_table_laws.specs.Inferred.{inferred}
-use Rattle.par_verdict.specs.par_check_laws.Asked.{Condition, Open, Released, Worth, Joined}
-use Rattle.par_verdict.specs.par_check_laws.Asked.{Context}
-use Rattle.par_verdict.specs.par_check_laws.Asked.{Effect, Among}
-use Rattle.par_verdict.specs.par_check_laws.Asked.{Never}
-use Rattle.par_verdict.specs.par_check_laws.Keeps.{Satisfies, Keeps}
-use Rattle.par_verdict.specs.par_check_laws.Verdict.{given}
+use Rattle.par_check.specs.par_check_laws.Asked.{Condition, Open, Released, Worth, Joined}
+use Rattle.par_check.specs.par_check_laws.Asked.{Context}
+use Rattle.par_check.specs.par_check_laws.Asked.{Effect, Among}
+use Rattle.par_check.specs.par_check_laws.Asked.{Never}
+use Rattle.par_check.specs.par_check_laws.Keeps.{Satisfies, Keeps}
+use Rattle.par_check.specs.par_check_laws.Verdict.{given}
 use Rattle.par_asked.specs.declared.check.Check.{Check}
 use Rattle.par_asked.specs.Seen.{seen_check, seen_condition}
-use Rattle.par_verdict.specs.declared.known.Known.{Known}
-use Rattle.par_verdict.specs.Standing.{Standing, standing, stand, stands, value_of, Meets}
-use Rattle.par_verdict.specs.Spots.{at_spot}
+use Rattle.par_flow.specs.declared.known.Known.{Known}
+use Rattle.par_flow.specs.Standing.{Standing, standing, stand, stands}
+use Rattle.par_check.specs.Meets.{value_of, Meets}
+use Rattle.par_check.specs.Spots.{at_spot}
 use Rattle.par_infer.specs.Bounds.{any_below, replaced}
-use Rattle.par_verdict.specs.par_check_laws.Asked as asked
+use Rattle.par_check.specs.par_check_laws.Asked as asked
 use Rattle.par_infer.specs.Keeps.{limit}
 use Rattle.par_infer.specs.Laws.{is_in, KeepsOther, KeepsReplaced}
 

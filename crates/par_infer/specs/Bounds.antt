@@ -10,11 +10,11 @@ use Rattle.par_flow_laws.specs.Lattice.{numbers}
 use Rattle.par_flow_laws.specs.Ways.{Way}
 use Rattle.par_flow_laws.specs.Facts.{Facts}
 use Rattle.par_flow_laws.specs.Rules.{way}
-use Rattle.par_verdict.specs.par_check_laws.Asked.{Condition, Open, Released, Worth, Joined}
-use Rattle.par_verdict.specs.par_check_laws.Asked.{Context}
-use Rattle.par_verdict.specs.par_check_laws.Asked.{Effect, Among}
-use Rattle.par_verdict.specs.par_check_laws.Asked.{Never, Check}
-use Rattle.par_verdict.specs.par_check_laws.Checks.{checks}
+use Rattle.par_check.specs.par_check_laws.Asked.{Condition, Open, Released, Worth, Joined}
+use Rattle.par_check.specs.par_check_laws.Asked.{Context}
+use Rattle.par_check.specs.par_check_laws.Asked.{Effect, Among}
+use Rattle.par_check.specs.par_check_laws.Asked.{Never, Check}
+use Rattle.par_check.specs.par_check_laws.Checks.{checks}
 use Rattle.par_infer.specs.Keeps.{limit}
 
 -- ---- bounds

@@ -4,10 +4,10 @@ use Rattle.par_bits.specs.Sets.{Set, none, adding, union}
 use Rattle.par_flow_laws.specs.Lattice.{numbers}
 use Rattle.par_flow_laws.specs.Facts.{Facts}
 use Rattle.par_flow_laws.specs.Rules.{way}
-use Rattle.par_verdict.specs.par_check_laws.Asked.{Condition, Open, Released, Worth, Joined}
-use Rattle.par_verdict.specs.par_check_laws.Asked.{Context}
-use Rattle.par_verdict.specs.par_check_laws.Asked.{Effect, Among}
-use Rattle.par_verdict.specs.par_check_laws.Asked.{Never, Check}
+use Rattle.par_check.specs.par_check_laws.Asked.{Condition, Open, Released, Worth, Joined}
+use Rattle.par_check.specs.par_check_laws.Asked.{Context}
+use Rattle.par_check.specs.par_check_laws.Asked.{Effect, Among}
+use Rattle.par_check.specs.par_check_laws.Asked.{Never, Check}
 use Rattle.par_reached.specs.Reached.{set_at}
 use Rattle.par_infer.specs.Bounds.{compared_at}
 

@@ -9,11 +9,11 @@ use Rattle.par_flow_laws.specs.Lattice.{Seen, IsSeenBelow, joined}
 use Rattle.par_flow_laws.specs.Facts.{Facts}
 use Rattle.par_flow_laws.specs.Declares.{declares}
 use Rattle.par_flow_laws.specs.Closed.{IsClosed}
-use Rattle.par_verdict.specs.par_check_laws.Asked.{Check}
-use Rattle.par_verdict.specs.par_check_laws.Checks.{checks}
+use Rattle.par_check.specs.par_check_laws.Asked.{Check}
+use Rattle.par_check.specs.par_check_laws.Checks.{checks}
 use Rattle.par_pass_laws.specs.Seens.{seen_as, given_of}
 use Rattle.par_infer.specs.Seens.{filled, IsPolicy}
-use Rattle.par_verdict.specs.par_check_laws.Keeps.{Keeps}
+use Rattle.par_check.specs.par_check_laws.Keeps.{Keeps}
 use Rattle.par_infer.specs.Keeps.{strict}
 use Rattle.par_table_laws.specs.Inferred.{inferred}
 

@@ -9,12 +9,12 @@ use Rattle.par_flow_laws.specs.Lattice.{numbers}
 use Rattle.par_flow_laws.specs.Facts.{Facts}
 use Rattle.par_flow_laws.specs.Declares.{declares}
 use Rattle.par_flow_laws.specs.Closed.{IsClosed}
-use Rattle.par_verdict.specs.par_check_laws.Asked.{Check}
-use Rattle.par_verdict.specs.par_check_laws.Checks.{checks}
-use Rattle.par_verdict.specs.Judged.{AreRight, AreAllRight}
+use Rattle.par_check.specs.par_check_laws.Asked.{Check}
+use Rattle.par_check.specs.par_check_laws.Checks.{checks}
+use Rattle.par_check.specs.Judged.{AreRight, AreAllRight}
 use Rattle.par_reached.specs.Reached.{AreLeastSets}
 use Rattle.par_pass_laws.specs.Seens.{given_of, seen_as}
-use Rattle.par_verdict.specs.par_check_laws.Keeps.{Keeps}
+use Rattle.par_check.specs.par_check_laws.Keeps.{Keeps}
 use Rattle.par_infer.specs.Keeps.{strict}
 use Rattle.par_table_laws.specs.Inferred.{inferred, AreOfFields}
 use Rattle.par_infer.specs.Bounds.{bounds}

@@ -1,10 +1,10 @@
 -- Rules on inferred fields.
 use Rattle.std.specs.Prelude.{ℕ, cond, Option, Some, None}
 use Rattle.par_bits.specs.Sets.{Set}
-use Rattle.par_verdict.specs.par_check_laws.Asked.{Condition, Open, Released, Worth, Joined}
-use Rattle.par_verdict.specs.par_check_laws.Asked.{Context}
-use Rattle.par_verdict.specs.par_check_laws.Asked.{Effect, Among}
-use Rattle.par_verdict.specs.par_check_laws.Asked.{Never, Check}
+use Rattle.par_check.specs.par_check_laws.Asked.{Condition, Open, Released, Worth, Joined}
+use Rattle.par_check.specs.par_check_laws.Asked.{Context}
+use Rattle.par_check.specs.par_check_laws.Asked.{Effect, Among}
+use Rattle.par_check.specs.par_check_laws.Asked.{Never, Check}
 
 -- at an inferred field a value is written as if no lock were open
 abbrev pub unopened : Set → Condition → Condition

@@ -6,4 +6,4 @@ pub mod Filling
 pub mod Laws
 pub mod Printed
 pub mod First
-pub use Rattle.par_verdict.specs.par_check_laws as par_check_laws
+pub use Rattle.par_check.specs.par_check_laws as par_check_laws

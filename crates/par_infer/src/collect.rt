@@ -3,7 +3,7 @@
 ghost use Rattle.std.specs.Prelude.{◌≡◌, ◌<◌, ◌≤◌, ℕ, IsTrue, OnOk, length};
 ghost use Rattle.par_bits.specs.Sets.{has};
 ghost use Rattle.par_typed.specs.Shown as shown;
-ghost use Rattle.par_verdict.specs.par_check_laws.Checks.{checks as all_checks};
+ghost use Rattle.par_check.specs.par_check_laws.Checks.{checks as all_checks};
 ghost use Rattle.par_asked.specs.Seen.{seen_check, seen_checks, seen_condition};
 ghost use Rattle.par_infer.specs.Keeps as keeps;
 ghost use Rattle.par_infer.specs.Bounds.{all_above, asked_above};
@@ -14,10 +14,10 @@ use par_asked::body::checks_of;
 use par_asked::check::{Check, Condition};
 use par_atoms::Atoms;
 use par_base::memory::NoMemory;
+use par_check::{known_at, value_of};
+use par_flow::known::{Known, KnownFacts};
 use par_typed::program::TBody;
 use par_typed::table::Table;
-use par_verdict::known::{Known, KnownFacts};
-use par_verdict::{known_at, value_of};
 use std::alloc::Global;
 
 const POLICIES: u16 = 256;

@@ -8,7 +8,7 @@ ghost use Rattle.par_reached.specs.Reached.{set_at};
 ghost use Rattle.par_refusals.specs.declared.refusal.Refusal.{Refusal as Told};
 ghost use Rattle.par_refusals.specs.First.{first_of};
 ghost use Rattle.par_asked.specs.Seen.{seen_check, seen_checks};
-ghost use Rattle.par_verdict.specs.Told.{AreBroken};
+ghost use Rattle.par_check.specs.Told.{AreBroken};
 ghost use Rattle.par_infer.specs.Bounds.{replaced};
 ghost use Rattle.par_infer.specs.Keeps.{limit};
 ghost use Rattle.par_infer.specs.Laws.{is_in, KeepsOther, KeepsReplaced};
@@ -18,9 +18,9 @@ use crate::sets::replace;
 use par_asked::check::Check;
 use par_atoms::Atoms;
 use par_base::memory::NoMemory;
+use par_check::{Policies, is_met, known_at, value_of};
+use par_flow::known::{Known, KnownFacts};
 use par_refusals::refusal::Findings;
-use par_verdict::known::{Known, KnownFacts};
-use par_verdict::{Policies, is_met, known_at, value_of};
 
 // What is known at a spot, with the inferred numbers of its context replaced.
 fn replace_known(known: &Known, numbers: &Atoms, sets: &[Atoms]) -> Known

@@ -1,11 +1,6 @@
--- Locks by points, and the bodies of a program by numbers.
-use Rattle.std.proofs.Common.{◌≡◌, ℕ, zero, suc, ◌<◌, Option, Some, None, List, [], ◌∷◌, length}
-use Rattle.std.proofs.Common.{get_or, refl, sym, ap, ◌∙◌, subst, arith}
-use Rattle.std.specs.Prelude.{map, slice_get}
-use Rattle.std.specs.List.{AllByRecursion}
-use Rattle.par_typed.specs.declared.program.TBody.{TBody}
-use Rattle.par_typed.specs.Plain.{Body}
-use Rattle.par_typed.specs.Shown.{body, bodies}
+-- Locks by points.
+use Rattle.std.proofs.Common.{◌≡◌, ℕ, zero, suc, Option, None, List, [], ◌∷◌, get_or, refl}
+use Rattle.std.specs.Prelude.{map}
 use Rattle.par_bits.specs.Sets.{Set}
 use Rattle.par_flow_laws.specs.Lattice.{numbers}
 use Rattle.par_flow_laws.specs.Facts.{blank}
@@ -29,19 +24,3 @@ rows_entered (l ∷ ls) (f ∷ fs) e zero =
 rows_entered (l ∷ ls) (f ∷ fs) e (suc p) =
     rows_entered ls fs (let g : may_have l ∷ map may_have ls ≡ entered f ∷ map entered fs = e in cc)
     p
-
--- the body of the number is that of the list
-pub body_at : (bs : List TBody) (n : ℕ) (t : TBody) → n < length bs → t ≡ get_or bs n t
-    → slice_get (bodies bs) n ≡ Some (body t)
-body_at [] n t h e = absurd (omega (arith, h))
-body_at (b ∷ bs) zero t h e = ap (λ x. Some (body x)) (sym e)
-body_at (b ∷ bs) (suc n) t h e = body_at bs n t (omega (arith, h)) e
-
-pub all_at : (P : Body → Type 0) (bs : List Body) (n : ℕ) (b : Body) → AllByRecursion P bs
-    → slice_get bs n ≡ Some b → P b
-all_at P [] n b h e = absurd (let g : None ≡ Some b = e in cc)
-all_at P (x ∷ bs) zero b h e = let g : Some x ≡ Some b = e in let s : x ≡ b = cc in subst P s h.0
-all_at P (x ∷ bs) (suc n) b h e = all_at P bs n b h.1 e
-
-pub same_body : (o : Option Body) (d b : Body) → o ≡ Some d → o ≡ Some b → d ≡ b
-same_body o d b e f = let g : Some d ≡ Some b = sym e ∙ f in cc

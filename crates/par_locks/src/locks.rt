@@ -7,13 +7,12 @@ ghost use Rattle.par_typed.specs.Shown as shown;
 ghost use Rattle.par_rounds.specs.par_except.Seen.{may_see};
 ghost use Rattle.par_rounds.specs.par_pass_laws.Written.{table as by_point};
 ghost use Rattle.par_rounds.specs.Seen.{seen_facts};
-ghost use Rattle.par_verdict.specs.Accepted.{IsOrderlyBody};
+ghost use Rattle.par_rounds.specs.Orderly.{IsOrderlyBody};
 ghost use Rattle.par_locks.specs.Open.{entering, may_have, open_at, AreOpenOf};
 
-use crate::body::{body_at, rows_of};
 use par_base::memory::NoMemory;
 use par_bits::Bits;
-use par_rounds::Fact;
+use par_rounds::{Fact, body_at, rows_of};
 use par_typed::program::Typed;
 use std::alloc::Global;
 

@@ -24,9 +24,9 @@ use Rattle.par_typing.proofs.Limits.{limits_kept}
 use Rattle.par_typing.proofs.Tables.{few_table}
 use Rattle.par_body_laws.specs.Members as members
 use Rattle.par_secure_laws.specs.par_typed_laws.Orderly as well
-use Rattle.par_secure_laws.specs.par_verdict.Accepted as verdict
-use Rattle.par_secure_laws.specs.par_verdict.Accepted.{IsOrderlyBody}
-use Rattle.par_secure_laws.specs.par_verdict.Judged.{IsVerdict, IsFirstBroken}
+use Rattle.par_check.specs.par_rounds.Orderly as rounds
+use Rattle.par_check.specs.par_rounds.Orderly.{IsOrderlyBody}
+use Rattle.par_check.specs.Judged.{IsVerdict, IsFirstBroken}
 use Rattle.par_observer.specs.declared.error.JudgeError.{JudgeError}
 use Rattle.par_observer.specs.declared.error.JudgeError.TheVariants.{Refused, Memory}
 use Rattle.par_observer.specs.Passes.{tree_faults}
@@ -108,7 +108,7 @@ refused_handed tree typed (Ok a) e is faultless same first = tt
 refused_handed tree typed (Err x) e is faultless same first =
     refuses_so tree typed x is faultless (subst (IsFlowRefused typed) (sym same) first)
 
-same_methods : (o : Option ClassInfo) → verdict.methods_in o ≡ members.methods_in o
+same_methods : (o : Option ClassInfo) → rounds.methods_in o ≡ members.methods_in o
 same_methods None = refl
 same_methods (Some class) = refl
 

@@ -4,7 +4,7 @@ use Rattle.par_refusals.specs.declared.refusal.Refusal.{Refusal}
 use Rattle.par_typed.specs.declared.table.Table.{Table}
 use Rattle.par_flow_laws.specs.Declares.{declares}
 use Rattle.par_check_laws.specs.Verdict.{Fails}
-use Rattle.par_secure_laws.specs.par_verdict.Judged.{IsFirstBroken}
+use Rattle.par_check.specs.Judged.{IsFirstBroken}
 use Rattle.par_typing.specs.Typed.{written}
 use Rattle.par_observer.specs.Trees.{bodies_of}
 use Rattle.par_check_span_laws.proofs.Law.{checks_lie}

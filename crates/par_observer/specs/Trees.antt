@@ -19,8 +19,9 @@ use Rattle.par_check_laws.specs.Checks.{checks}
 use Rattle.par_check_laws.specs.Verdict.{IsAccepted}
 use Rattle.par_flow_laws.specs.Lattice.{numbers}
 use Rattle.par_flow_laws.specs.Facts.{Facts}
-use Rattle.par_secure_laws.specs.par_verdict.Accepted.{IsAcceptedBy, IsOrderlyBody, MOST_BODIES}
-use Rattle.par_secure_laws.specs.par_verdict.Judged.{IsFirstBroken}
+use Rattle.par_check.specs.par_rounds.Orderly.{IsOrderlyBody}
+use Rattle.par_check.specs.Accepted.{IsAcceptedBy, MOST_BODIES}
+use Rattle.par_check.specs.Judged.{IsFirstBroken}
 use Rattle.par_observer.specs.declared.error.JudgeError.{JudgeError}
 use Rattle.par_observer.specs.declared.error.JudgeError.TheVariants.{Refused, Memory}
 use Rattle.par_observer.specs.Passes.{typing_faults, tree_faults}

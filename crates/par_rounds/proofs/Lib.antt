@@ -13,4 +13,6 @@ pub mod Locks
 pub mod Needs
 pub mod Ends
 pub mod Bodies
+pub mod Methods
+pub mod Program
 pub mod Nexts

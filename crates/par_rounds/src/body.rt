@@ -1,7 +1,7 @@
 // The facts of a body.
-ghost use Rattle.std.specs.Prelude.{◌≡◌, Some, IfOk, length};
-ghost use Rattle.par_typed.specs.Shown.{body as shown};
-ghost use Rattle.par_flow_laws.specs.Body.{sta};
+ghost use Rattle.std.specs.Prelude.{◌≡◌, ◌<◌, Some, IfOk, length, slice_get};
+ghost use Rattle.std.specs.Option.{option_copied};
+ghost use Rattle.par_typed.specs.Shown as shown;
 ghost use Rattle.par_flow_laws.specs.Declares.{declares, method_of};
 ghost use Rattle.par_flow_laws.specs.Numbered.{next, next_by};
 ghost use Rattle.par_flow_laws.specs.Ranges.{IsOrderly};
@@ -9,14 +9,16 @@ ghost use Rattle.par_nodes.specs.Seen.{seen_node, seen_rules};
 ghost use Rattle.par_pass_laws.specs.Written.{table as by_point};
 ghost use Rattle.par_rounds.specs.Seen.{seen_facts, AreRowsWide};
 ghost use Rattle.par_rounds.specs.Bodies.{AreLeastClosed};
+ghost use Rattle.par_rounds.specs.Orderly.{locals_in, methods_in, IsOrderlyBody};
 
 use crate::fact::Fact;
 use crate::first::first_way;
 use crate::rounds::settle;
 use crate::way::SharedWay;
 use par_base::memory::NoMemory;
+use par_nodes::body::body_node;
 use par_nodes::rule::{Node, Rules};
-use par_typed::program::TBody;
+use par_typed::program::{TBody, Typed};
 use par_typed::table::{MethodInfo, Table};
 use std::alloc::Global;
 
@@ -42,26 +44,53 @@ fn next_by(rules: &Rules, from: usize) -> usize
     }
 }
 
-/// The least facts of a body of the table, by points, from its rules and its method.
-pub fn facts_of_body(
-    alloc: Global,
-    table: &Table,
-    body: &TBody,
-    node: &Node,
-    method: &MethodInfo,
-) -> Result<Vec<Fact>, NoMemory>
-    requires node { seen_node node.now ≡ sta (declares table.now) (shown body.now).body }
-    requires method { method_of (Some method.now)
-        ≡ (declares table.now).method body.now.class body.now.method }
-    requires orderly { IsOrderly (declares table.now) (length method.now.locals) (shown body.now) }
-    ensures facts { IfOk result
-        (λ rows. AreLeastClosed table.now (shown body.now) (by_point (seen_facts rows.items))) }
-    ensures locals { IfOk result (λ rows. AreRowsWide (length method.now.locals) rows.items) }
+fn method_at(table: &Table, class: u16, method: u16) -> Option<&MethodInfo>
+    ensures { option_copied result
+        ≡ slice_get (methods_in (slice_get table.now.classes class)) method }
 {
-    let _table = table;
-    let _body = body;
+    match table.classes.get(usize::from(class)) {
+        None => None,
+        Some(class) => class.methods.get(usize::from(method)),
+    }
+}
+
+// The method of a body that is one of the table's.
+fn method_of<'a>(table: &'a Table, body: &TBody) -> &'a MethodInfo
+    requires { IsOrderlyBody table.now (shown.body body.now) }
+    ensures method { method_of (Some result.now)
+        ≡ (declares table.now).method body.now.class body.now.method }
+    ensures orderly { IsOrderly (declares table.now) (length result.now.locals)
+        (shown.body body.now) }
+    ensures locals { length result.now.locals ≡ locals_in table.now (shown.body body.now) }
+{
+    match method_at(table, body.class, body.method) {
+        Some(method) => method,
+        None => unreachable!(),
+    }
+}
+
+/// The body of a number.
+pub fn body_at(typed: &Typed, body: u16) -> &TBody
+    requires { body < length typed.now.bodies }
+    ensures { slice_get (shown.bodies typed.now.bodies) body ≡ Some (shown.body result.now) }
+{
+    let bodies = typed.bodies.as_slice();
+    let place = usize::from(body);
+    &bodies[place]
+}
+
+/// The least facts of a body of the table, by points.
+pub fn rows_of(alloc: Global, table: &Table, body: &TBody) -> Result<Vec<Fact>, NoMemory>
+    requires { IsOrderlyBody table.now (shown.body body.now) }
+    ensures facts { IfOk result (λ rows. AreLeastClosed table.now (shown.body body.now)
+        (by_point (seen_facts rows.items))) }
+    ensures locals { IfOk result
+        (λ rows. AreRowsWide (locals_in table.now (shown.body body.now)) rows.items) }
+{
+    let method = method_of(table, body);
+    let node = body_node(alloc, table, body)?;
     let first = first_way(alloc, method)?;
     let way = SharedWay::new(alloc, first)?;
-    let rows = settle(alloc, node, &way, next(node))?;
+    let rows = settle(alloc, &node, &way, next(&node))?;
     Ok(rows)
 }

@@ -19,7 +19,7 @@ mod rounds;
 mod way;
 mod ways;
 
-pub use body::{facts_of_body, next};
+pub use body::{body_at, next, rows_of};
 pub use exits::Exit;
 pub use fact::{Fact, entry_at, exit_at, value_at};
 pub use first::first_way;

@@ -1,4 +1,3 @@
 pub mod Explained
 pub mod Laws
-pub use Rattle.par_verdict.specs as par_verdict
 pub use Rattle.par_typed_laws.specs as par_typed_laws

@@ -2,7 +2,7 @@ use Rattle.std.proofs.Common.{◌≡◌, ℕ, true, false, ◌+◌, List, ◌∷
 use Rattle.std.proofs.lemmas.List.{append-nil}
 use Rattle.par_check_laws.specs.Asked.{Check}
 use Rattle.par_asked.specs.Seen.{seen_check, seen_checks}
-use Rattle.par_verdict.proofs.Told.{checks_left, no_checks_left}
+use Rattle.par_check.proofs.Told.{checks_left, no_checks_left}
 use Rattle.par_policy.specs.declared.clauses.Clause.{Clause}
 use Rattle.par_audit.specs.Release.{is_release, releases}
 use Rattle.par_audit.proofs.Listed.{noted, passed}

@@ -2,7 +2,8 @@ use Rattle.std.proofs.Common.{◌≡◌, List, map, subst, sym}
 use Rattle.par_typed.specs.declared.table.ClassInfo.{ClassInfo}
 use Rattle.par_typed.specs.Shown.{bodies}
 use Rattle.par_reached.specs.Reached.{set_at}
-use Rattle.par_verdict.specs.Judged.{AreAllRight}
+use Rattle.par_flow.specs.Table.{facts_in}
+use Rattle.par_check.specs.Judged.{AreAllRight}
 use Rattle.par_infer.specs.First.{IsFirstFailed}
 use Rattle.par_infer.proofs.First.{first_always}
 use Rattle.par_filling.specs.Filled.{filled_in}
@@ -11,8 +12,8 @@ use Rattle.par_filling.proofs.Whole.{least_accepted}
 use Rattle.par_filling.proofs.solve.infer_fields.Goals as goal
 
 pub returns-in-Some-clause-refused : goal.returns-in-Some-clause-refused
-returns-in-Some-clause-refused g c =
-    let F = g.F.KnownFacts.facts in
+returns-in-Some-clause-refused c =
+    let F = facts_in in
     let t = c.args.typed.now.table in
     let bs = bodies c.args.typed.now.bodies in
     let fs = map F c.as_slice.result.now in
@@ -39,8 +40,8 @@ returns-in-Some-clause-refused g c =
     }
 
 pub returns-clause-filled : goal.returns-clause-filled
-returns-clause-filled g c =
-    let F = g.F.KnownFacts.facts in
+returns-clause-filled c =
+    let F = facts_in in
     let t = c.args.typed.now.table in
     let bs = bodies c.args.typed.now.bodies in
     let fs = map F c.as_slice.result.now in

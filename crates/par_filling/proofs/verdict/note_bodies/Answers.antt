@@ -6,8 +6,8 @@ use Rattle.par_flow_laws.specs.Lattice.{numbers}
 use Rattle.par_flow_laws.specs.Facts.{Facts}
 use Rattle.par_infer.specs.par_check_laws.Checks.{checks}
 use Rattle.par_reached.specs.Reached.{set_at}
-use Rattle.par_verdict.specs.Told.{AreBroken}
-use Rattle.par_verdict.proofs.Told.{Goes, Noted, bodies_left, no_bodies_left, facts_left}
+use Rattle.par_check.specs.Told.{AreBroken}
+use Rattle.par_check.proofs.Told.{Goes, Noted, bodies_left, no_bodies_left, facts_left}
 use Rattle.par_infer.specs.Laws.{KeepsOther}
 use Rattle.par_filling.specs.Judged.{AreAllFailed}
 use Rattle.par_filling.proofs.Failed.{goes_on_all, ends_all}

@@ -2,7 +2,7 @@ use Rattle.std.proofs.Common.{◌≡◌, drop}
 use Rattle.std.specs.Prelude.{map}
 use Rattle.par_typed.specs.Shown.{bodies}
 use Rattle.par_reached.specs.Reached.{set_at}
-use Rattle.par_verdict.proofs.Told.{Goes}
+use Rattle.par_check.proofs.Told.{Goes}
 use Rattle.par_filling.specs.Judged.{AreAllFailed}
 use Rattle.par_filling.proofs.verdict.note_bodies.Given as goal
 

@@ -1,6 +1,6 @@
 use Rattle.std.proofs.Common.{arith}
-use Rattle.par_locks.proofs.par_asked.Left.{stmts_left, no_stmts_left, catches_left}
-use Rattle.par_locks.proofs.par_asked.Left.{no_catches_left}
+use Rattle.par_asked.proofs.Left.{stmts_left, no_stmts_left, catches_left}
+use Rattle.par_asked.proofs.Left.{no_catches_left}
 use Rattle.par_flow.proofs.Points.{statements}
 use Rattle.par_flow.proofs.statements.+list_points.Goals as goal
 

@@ -1,7 +1,7 @@
 use Rattle.std.proofs.Common.{◌+◌, drop, subst, ap}
 use Rattle.par_bits.specs.Sets.{has}
 use Rattle.par_asked.specs.Seen.{seen_check, seen_checks}
-use Rattle.par_verdict.proofs.Told.{checks_left, no_checks_left}
+use Rattle.par_check.proofs.Told.{checks_left, no_checks_left}
 use Rattle.par_infer.specs.Bounds.{all_above, asked_above}
 use Rattle.par_infer.proofs.Asked.{Adds, adds_on, adds_end, first_small, rest_small}
 use Rattle.par_infer.proofs.collect.note_bounds.Goals as goal

@@ -4,10 +4,10 @@ use Rattle.par_bits.specs.Sets.{has}
 use Rattle.par_typed.specs.declared.table.Table.{Table}
 use Rattle.par_table_laws.specs.Inferred.{inferred}
 use Rattle.par_reached.specs.Reached.{set_at}
-use Rattle.par_verdict.specs.par_check_laws.Asked.{Check}
+use Rattle.par_check.specs.par_check_laws.Asked.{Check}
 use Rattle.par_asked.specs.Seen.{seen_check, seen_checks}
-use Rattle.par_verdict.specs.Told.{AreBroken}
-use Rattle.par_verdict.proofs.Told.{Goes, starts, goes_on, ends, checks_left, no_checks_left}
+use Rattle.par_check.specs.Told.{AreBroken}
+use Rattle.par_check.proofs.Told.{Goes, starts, goes_on, ends, checks_left, no_checks_left}
 use Rattle.par_infer.specs.Laws.{KeepsOther}
 use Rattle.par_infer.proofs.keeps.note_failed.Goals as goal
 

@@ -1,8 +1,8 @@
 use Rattle.std.proofs.Common.{◌≡◌, drop}
 use Rattle.par_reached.specs.Reached.{set_at}
 use Rattle.par_asked.specs.Seen.{seen_checks}
-use Rattle.par_verdict.specs.Told.{AreBroken}
-use Rattle.par_verdict.proofs.Told.{Goes}
+use Rattle.par_check.specs.Told.{AreBroken}
+use Rattle.par_check.proofs.Told.{Goes}
 use Rattle.par_infer.specs.Laws.{KeepsOther}
 use Rattle.par_infer.proofs.keeps.note_failed.Given as goal
 

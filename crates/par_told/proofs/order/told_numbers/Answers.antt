@@ -2,7 +2,7 @@ use Rattle.std.proofs.Common.{ℕ, sym, ap, ◌∙◌}
 use Rattle.std.specs.Prelude.{Vec}
 use Rattle.std.specs.declared.alloc.Global.{Global}
 use Rattle.par_bits.specs.Sets.{has}
-use Rattle.par_order.proofs.Ranges.{member_more, no_more}
+use Rattle.par_check.proofs.Ranges.{member_more, no_more}
 use Rattle.par_told.specs.Told.{told}
 use Rattle.par_told.proofs.order.told_numbers.Goals.{then-is_told+in_ok-push, else-is_told}
 use Rattle.par_told.proofs.order.told_numbers.Goals as goal

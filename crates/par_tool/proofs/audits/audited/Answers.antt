@@ -1,6 +1,6 @@
 use Rattle.std.proofs.Common.{map, ◌∙◌, sym}
 use Rattle.par_typed.specs.declared.program.Typed.{Typed}
-use Rattle.par_program_filling.specs.par_flow.Table.{facts_in}
+use Rattle.par_check.specs.par_flow.Table.{facts_in}
 use Rattle.par_tool.proofs.Audited.{few_actors, few_classes, releases_within, secure_for}
 use Rattle.par_tool.proofs.audits.audited.Goals as goal
 

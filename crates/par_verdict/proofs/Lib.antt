@@ -1,9 +1,0 @@
-pub mod Spots
-pub mod Joins
-pub mod LockSets
-pub mod Kept
-pub mod Meeting
-pub mod Told
-pub mod Judged
-pub use Rattle.par_asked.proofs as par_asked
-pub use Rattle.par_asked.proofs.par_check_laws as par_check_laws

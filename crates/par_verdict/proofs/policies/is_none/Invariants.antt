@@ -1,8 +1,0 @@
-use Rattle.std.proofs.Common.{ℕ, ◌<◌}
-use Rattle.std.specs.Prelude.{IsTrue}
-use Rattle.par_bits.specs.Sets.{has}
-use Rattle.par_verdict.proofs.policies.is_none.Given as goal
-
--- none so far
-abbrev pub invariant-loop-number : goal.invariant-loop-number
-invariant-loop-number l = (n : ℕ) → n < l.number → IsTrue (has l.set n) → ⊥
