@@ -1,3 +1,6 @@
+pub mod Joins
+pub mod Released
+pub mod Rows
 pub mod Releases
 pub mod Files
 pub mod Listed

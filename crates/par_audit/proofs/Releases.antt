@@ -23,7 +23,7 @@ use Rattle.par_alike.specs.Subject.{policy_at, subject}
 use Rattle.par_secure_laws.specs.Explained.{IsPair, Here, Later, Explains, IsExplained}
 use Rattle.par_secure_laws.proofs.Secure.{differences_explained}
 use Rattle.par_audit.specs.declared.release.Release.{Release}
-use Rattle.par_released.specs.Released.{IsReleased, is_released}
+use Rattle.par_audit.specs.Released.{IsReleased, is_released}
 use Rattle.par_audit.specs.Release.{as_release, is_release}
 use Rattle.par_audit.specs.Release.{all_releases}
 use Rattle.par_audit.specs.SecureFor.{SecureFor}

@@ -15,7 +15,7 @@ use Rattle.par_secrecy.specs.Target.{Target}
 use Rattle.par_secrecy.specs.Shows.{Shows}
 use Rattle.par_secrecy.specs.SecureFiles.{SecureFiles}
 use Rattle.par_alike.specs.Subject.{subject}
-use Rattle.par_released.specs.Released.{IsReleased, is_released}
+use Rattle.par_audit.specs.Released.{IsReleased, is_released}
 use Rattle.par_audit.specs.Release.{all_releases}
 use Rattle.par_audit.specs.SecureFor.{SecureFor, SecureFilesFor}
 

@@ -1,3 +1,5 @@
+pub mod Released
+pub mod Rows
 pub mod Release
 pub mod SecureFor
 pub mod Laws

@@ -9,7 +9,7 @@ use Rattle.par_flow_laws.specs.Facts.{Facts}
 use Rattle.par_check_laws.specs.Asked.{Condition, Released, Check}
 use Rattle.par_check_laws.specs.Checks.{checks}
 use Rattle.par_alike.specs.Subject.{policy_at}
-use Rattle.par_released.specs.Released.{is_released}
+use Rattle.par_audit.specs.Released.{is_released}
 use Rattle.par_audit.specs.declared.release.Release.{Release}
 
 abbrev pub as_release : Check → Release

@@ -8,13 +8,13 @@ ghost use Rattle.par_check.specs.par_flow.Table.{facts_in};
 ghost use Rattle.par_audit.specs.Release as all;
 ghost use Rattle.par_audit.specs.Release.{is_release, all_releases, AreReleases};
 
+use crate::known::Releases;
 use par_asked::body::checks_of;
 use par_asked::check::{Check, Condition};
 use par_base::list::List;
 use par_base::memory::NoMemory;
 use par_check::Accepted;
 use par_flow::known::KnownFacts;
-use par_released::Releases;
 use par_typed::program::TBody;
 use par_typed::table::Table;
 use std::alloc::Global;

@@ -5,7 +5,7 @@ use Rattle.std.specs.List.{list_any}
 use Rattle.par_policy.specs.declared.clauses.Clause.{Clause}
 use Rattle.par_policy.specs.Sees.{sees}
 use Rattle.par_bits.specs.Sets.{has}
-use Rattle.par_released.specs.declared.row.Row.{Row}
+use Rattle.par_audit.specs.declared.row.Row.{Row}
 
 -- the actor does not see the policy with the locks of some clause of its own
 abbrev pub is_one_released : List Clause → List Clause → ℕ → Bool

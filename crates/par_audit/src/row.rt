@@ -2,8 +2,8 @@
 
 ghost use Rattle.std.specs.Prelude.{◌≡◌, ◌<◌, ◌≤◌, [], length, slice_index_or};
 ghost use Rattle.par_bits.specs.Sets.{has, none};
-ghost use Rattle.par_released.specs.Rows.{is_one_released, IsRow};
-ghost use Rattle.par_released.specs.Released.{is_released};
+ghost use Rattle.par_audit.specs.Rows.{is_one_released, IsRow};
+ghost use Rattle.par_audit.specs.Released.{is_released};
 
 use par_atoms::Atoms;
 use par_policy::{Policy, sees};

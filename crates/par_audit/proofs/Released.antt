@@ -9,9 +9,9 @@ use Rattle.par_policy.specs.declared.clauses.Clause.{Clause}
 use Rattle.par_policy.specs.Sees.{sees}
 use Rattle.par_bits.specs.Sets.{Set}
 use Rattle.par_flow_laws.specs.Lattice.{joined}
-use Rattle.par_released.specs.Released.{is_released}
-use Rattle.par_released.specs.Rows.{is_one_released}
-use Rattle.par_released.proofs.Joins.{one_of_joined, joined_of_all}
+use Rattle.par_audit.specs.Released.{is_released}
+use Rattle.par_audit.specs.Rows.{is_one_released}
+use Rattle.par_audit.proofs.Joins.{one_of_joined, joined_of_all}
 
 not_asked : (own seen : Bool) → (own && not seen) ≡ false → IsTrue own → IsTrue seen
 not_asked true true is held = refl

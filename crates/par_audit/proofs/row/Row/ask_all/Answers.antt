@@ -1,7 +1,7 @@
 use Rattle.std.proofs.Common.{sym, ◌∙◌, arith}
 use Rattle.par_bits.specs.Sets.{has}
-use Rattle.par_released.proofs.Released.{where_one, where_none}
-use Rattle.par_released.proofs.row.Row.ask_all.Goals as goal
+use Rattle.par_audit.proofs.Released.{where_one, where_none}
+use Rattle.par_audit.proofs.row.Row.ask_all.Goals as goal
 
 pub returns-then-ask-clause-released : goal.returns-then-ask-clause-released
 returns-then-ask-clause-released c =

@@ -2,7 +2,7 @@
 
 ghost use Rattle.std.specs.Prelude.{◌≡◌, ◌<◌, ◌≤◌, [], length, slice_index_or, IfOk};
 ghost use Rattle.par_bits.specs.Sets.{has};
-ghost use Rattle.par_released.specs.Released.{is_released};
+ghost use Rattle.par_audit.specs.Released.{is_released};
 
 use crate::row::Row;
 use par_atoms::Atoms;
@@ -22,7 +22,7 @@ pub struct Releases<'a> {
 impl<'a> Model for Releases<'a> {
     ghost use Rattle.std.specs.Prelude.{List, ℕ};
     ghost use Rattle.par_policy.specs.declared.clauses.Clause.{Clause};
-    ghost use Rattle.par_released.specs.Rows.{AreRows};
+    ghost use Rattle.par_audit.specs.Rows.{AreRows};
 
     ghost Value = { List (List Clause) × ℕ };
 

@@ -1,8 +1,8 @@
 use Rattle.std.proofs.Common.{◌≡◌, ℕ, ◌<◌, false, [], get_or}
 use Rattle.std.specs.Prelude.{IsTrue}
 use Rattle.par_bits.specs.Sets.{has}
-use Rattle.par_released.specs.Rows.{is_one_released, IsRow}
-use Rattle.par_released.proofs.row.Row.ask_all.Given as goal
+use Rattle.par_audit.specs.Rows.{is_one_released, IsRow}
+use Rattle.par_audit.proofs.row.Row.ask_all.Given as goal
 
 -- the row is right, and no policy so far is released
 abbrev pub invariant-loop-number : goal.invariant-loop-number

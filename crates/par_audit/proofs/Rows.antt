@@ -9,8 +9,8 @@ use Rattle.std.proofs.lemmas.Grind.{get_or-set_at}
 use Rattle.std.proofs.lemmas.List.Elements.{All-get_or}
 use Rattle.par_policy.specs.declared.clauses.Clause.{Clause}
 use Rattle.par_bits.specs.Sets.{has, none}
-use Rattle.par_released.specs.declared.row.Row.{Row}
-use Rattle.par_released.specs.Rows.{IsRow, AreRows}
+use Rattle.par_audit.specs.declared.row.Row.{Row}
+use Rattle.par_audit.specs.Rows.{IsRow, AreRows}
 
 abbrev pub IsUnknown : Row → Type 0
 IsUnknown row = (has row.released ≡ none) × (has row.kept ≡ none)

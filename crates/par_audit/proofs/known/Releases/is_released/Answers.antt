@@ -1,10 +1,10 @@
 use Rattle.std.proofs.Common.{◌≡◌, ℕ, ◌<◌, false, List, [], length, get_or, sym, ap, subst, ◌∙◌}
 use Rattle.par_policy.specs.declared.clauses.Clause.{Clause}
 use Rattle.par_bits.specs.Sets.{has}
-use Rattle.par_released.specs.Rows.{IsRow}
-use Rattle.par_released.specs.Released.{is_released}
-use Rattle.par_released.proofs.Released.{where_none}
-use Rattle.par_released.proofs.releases.Releases.is_released.Goals as goal
+use Rattle.par_audit.specs.Rows.{IsRow}
+use Rattle.par_audit.specs.Released.{is_released}
+use Rattle.par_audit.proofs.Released.{where_none}
+use Rattle.par_audit.proofs.known.Releases.is_released.Goals as goal
 
 -- no policy of the set is released, by what is known
 pub returns-then-within-clause-released : goal.returns-then-within-clause-released
