@@ -9,7 +9,7 @@ use Rattle.par_typed.specs.declared.table.FieldInfo.{FieldInfo}
 use Rattle.par_typed.specs.declared.table.Table.{Table}
 use Rattle.par_event_lines.specs.Texts.{Text}
 use Rattle.par_trace.specs.Texts.{actor_text, lock_text}
-use Rattle.par_filling.specs.declared.filling.FilledField.{FilledField}
+use Rattle.par_infer.specs.declared.filling.FilledField.{FilledField}
 use Rattle.par_told.specs.Told.{told_numbers}
 
 -- texts with another between each two

@@ -5,7 +5,7 @@ ghost use Rattle.par_filling_lines.specs.Texts as spec;
 
 use crate::text::add_join;
 use par_base::memory::NoMemory;
-use par_filling::FilledField;
+use par_infer::FilledField;
 use par_told::told_numbers;
 use par_typed::table::{FieldInfo, Table};
 use std::alloc::Global;

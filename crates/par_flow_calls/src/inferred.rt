@@ -5,7 +5,7 @@ ghost use Rattle.std.specs.List.{AllByRecursion};
 ghost use Rattle.par_table_laws.specs.Declared.{HasFewFields};
 
 use crate::typed_trees::typed;
-use par_filling::{Filling, InferError, infer};
+use par_infer::{Filling, InferError, infer};
 use par_typed::program::Typed;
 use par_typed::table::ClassInfo;
 use par_worked::expect;

@@ -3,8 +3,8 @@ use Rattle.std.proofs.Common.{◌≡◌, ℕ, suc, ◌+◌, ◌<◌, Bool, true,
 use Rattle.std.proofs.Common.{ap}
 use Rattle.std.proofs.Common.{subst, ◌∙◌, arith}
 use Rattle.par_bits.specs.Sets.{Set}
-use Rattle.par_filling.specs.par_infer.Bounds.{any_below}
-use Rattle.par_filling.proofs.par_infer.Replaced.{any_in}
+use Rattle.par_infer.specs.Bounds.{any_below}
+use Rattle.par_infer.proofs.Replaced.{any_in}
 
 pub none_more : (p : Set) (n : ℕ) → any_below n p ≡ false → p n ≡ false
     → any_below (n + 1) p ≡ false

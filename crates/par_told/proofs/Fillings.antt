@@ -18,10 +18,10 @@ use Rattle.par_check_laws.specs.Checks.{checks}
 use Rattle.par_check_laws.specs.Keeps.{Keeps}
 use Rattle.par_pass_laws.specs.Seens.{seen_as, given_of}
 use Rattle.par_table_laws.specs.Inferred.{inferred}
-use Rattle.par_filling.specs.par_infer.Seens.{filled, IsPolicy}
-use Rattle.par_filling.specs.par_infer.Keeps.{strict}
-use Rattle.par_filling.specs.par_infer.Filling.{Filling, with_filling, IsAccepted, IsBodyAccepted}
-use Rattle.par_filling.specs.par_infer.Filling.{join_filling}
+use Rattle.par_infer.specs.Seens.{filled, IsPolicy}
+use Rattle.par_infer.specs.Keeps.{strict}
+use Rattle.par_infer.specs.Filling.{Filling, with_filling, IsAccepted, IsBodyAccepted}
+use Rattle.par_infer.specs.Filling.{join_filling}
 use Rattle.par_told.specs.Told.{told}
 use Rattle.par_told.specs.Laws.{ToldIsLeast}
 use Rattle.par_told.proofs.Told.{told_member, told_stands}

@@ -3,9 +3,9 @@ use Rattle.std.proofs.Common.{◌≡◌, ℕ, ◌+◌, ◌<◌, Bool, true, fals
 use Rattle.std.proofs.Common.{subst, add-one}
 use Rattle.par_policy.specs.declared.clauses.Clause.{Clause}
 use Rattle.par_bits.specs.Sets.{Set}
-use Rattle.par_filling.specs.par_infer.Bounds.{any_below}
-use Rattle.par_filling.specs.par_infer.Printed.{above}
-use Rattle.par_filling.proofs.par_infer.Replaced.{any_in}
+use Rattle.par_infer.specs.Bounds.{any_below}
+use Rattle.par_infer.specs.Printed.{above}
+use Rattle.par_infer.proofs.Replaced.{any_in}
 use Rattle.par_told.specs.Told.{is_below, having, none_above, told}
 
 any_more : (k : ℕ) (p : Set) → not (any_below k p) ≡ true → p k ≡ false

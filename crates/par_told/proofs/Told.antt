@@ -14,9 +14,9 @@ use Rattle.par_flow_laws.specs.Lattice.{IsSeenBelow, joined, seen_by}
 use Rattle.par_pass_laws.specs.Seens.{given_of, join_of, plain}
 use Rattle.par_table_laws.specs.Declared.{IsWellDeclared}
 use Rattle.par_table_laws.specs.Inferred.{inferred}
-use Rattle.par_filling.specs.par_infer.Printed.{Orders}
-use Rattle.par_filling.proofs.par_infer.Printed.{highest_stand}
-use Rattle.par_filling.proofs.par_infer.Seens.{join_below, join_member, join_order, plain_join}
+use Rattle.par_infer.specs.Printed.{Orders}
+use Rattle.par_infer.proofs.Printed.{highest_stand}
+use Rattle.par_infer.proofs.Seens.{join_below, join_member, join_order, plain_join}
 use Rattle.par_told.specs.Told.{is_below, having, none_above, told}
 use Rattle.par_told.proofs.Shared.{one_number, not_below}
 

@@ -4,7 +4,7 @@ use Rattle.par_bits.specs.Sets.{Set}
 use Rattle.par_typed.specs.declared.table.Table.{Table}
 use Rattle.par_typed.specs.Plain.{Body}
 use Rattle.par_table_laws.specs.Declared.{IsWellDeclared}
-use Rattle.par_filling.specs.Inferred.{AreLeastAccepted}
+use Rattle.par_infer.specs.Inferred.{AreLeastAccepted}
 use Rattle.par_told.specs.Told.{told}
 
 -- where the joins of some sets are the least accepted filling, those of what is told of them are

@@ -4,8 +4,8 @@ use Rattle.std.specs.List.{list_all, filter, range_with_len}
 use Rattle.par_policy.specs.declared.clauses.Clause.{Clause}
 use Rattle.par_policy.specs.Sees.{sees}
 use Rattle.par_bits.specs.Sets.{Set}
-use Rattle.par_filling.specs.par_infer.Bounds.{any_below}
-use Rattle.par_filling.specs.par_infer.Printed.{above}
+use Rattle.par_infer.specs.Bounds.{any_below}
+use Rattle.par_infer.specs.Printed.{above}
 
 module _ (policies : List (List Clause)) where
   -- whether the policy of the first number is below that of the second

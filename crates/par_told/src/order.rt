@@ -4,7 +4,7 @@ ghost use Rattle.std.specs.Prelude.{◌≡◌, ◌<◌, ◌≤◌, ◌&&◌, nat
 ghost use Rattle.std.specs.List.{list_all};
 ghost use Rattle.par_bits.specs.Sets.{has};
 ghost use Rattle.par_policy.specs.Sees.{sees};
-ghost use Rattle.par_filling.specs.par_infer.Printed.{above};
+ghost use Rattle.par_infer.specs.Printed.{above};
 ghost use Rattle.par_told.specs.Told as spec;
 ghost use Rattle.par_told.specs.Told.{having, is_below};
 

@@ -14,7 +14,7 @@ use Rattle.par_observer.specs.Passes.{typing_faults}
 use Rattle.par_observer.specs.Trees.{bodies_of, BreaksTyping}
 use Rattle.par_observer.specs.Judgements.{IsTreeOf, IsTypedAs, BreaksAs}
 use Rattle.par_observer.proofs.Clashes.{one_tree, typed_or_broken, typed_keeps}
-use Rattle.par_filling.specs.par_infer.Filling.{Filling, IsAccepted, join_filling}
+use Rattle.par_infer.specs.Filling.{Filling, IsAccepted, join_filling}
 use Rattle.par_reached.specs.Reached.{set_at}
 use Rattle.par_filling_lines.specs.par_told.Told.{told}
 use Rattle.par_tool.specs.declared.answer.Answer.{Answer}

@@ -6,8 +6,8 @@ use Rattle.par_typed.specs.Shown.{bodies}
 use Rattle.par_reached.specs.Reached.{set_at}
 use Rattle.par_observer.specs.Trees.{IsReady, ChecksLie}
 use Rattle.par_observer.specs.Judgements.{IsTypedAs}
-use Rattle.par_filling.specs.declared.filling.FilledField.{FilledField}
-use Rattle.par_filling.specs.Inferred.{IsInferred, IsBrokenFirst}
+use Rattle.par_infer.specs.declared.filling.FilledField.{FilledField}
+use Rattle.par_infer.specs.Inferred.{IsInferred, IsBrokenFirst}
 use Rattle.par_filling_lines.specs.Texts.{filling_lines}
 use Rattle.par_filling_lines.proofs.par_told.Fillings.{told_least}
 use Rattle.par_tool.specs.Outside.{Text}

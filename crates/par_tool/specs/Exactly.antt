@@ -21,7 +21,7 @@ use Rattle.par_refusals.specs.declared.refusal.Refusal.{Refusal}
 use Rattle.par_observer.specs.Passes.{typing_faults}
 use Rattle.par_observer.specs.Trees.{bodies_of, BreaksTyping}
 use Rattle.par_observer.specs.Judgements.{IsAcceptedSource, IsTreeOf, BreaksAs}
-use Rattle.par_filling.specs.par_infer.Filling.{Filling, IsAccepted}
+use Rattle.par_infer.specs.Filling.{Filling, IsAccepted}
 use Rattle.par_loader.specs.Reads.{Classes, AreOf}
 use Rattle.par_loader.specs.Loaded as loaded
 use Rattle.par_loader.specs.Loaded.{Loaded}

@@ -10,12 +10,12 @@ use Rattle.par_flow_laws.specs.Facts.{Facts}
 use Rattle.par_table_laws.specs.Inferred.{inferred}
 use Rattle.par_reached.specs.Reached.{AreLeastSets, set_at}
 use Rattle.par_check.specs.Judged.{AreAllRight}
-use Rattle.par_filling.specs.par_infer.Bounds.{bounds}
+use Rattle.par_infer.specs.Bounds.{bounds}
 use Rattle.par_observer.specs.Trees.{BreaksTyping}
 use Rattle.par_observer.specs.Judgements.{BreaksAs, IsTypedAs}
-use Rattle.par_filling.specs.declared.filling.FilledField.{FilledField}
-use Rattle.par_filling.specs.Filled.{filled_in}
-use Rattle.par_filling.specs.Inferred.{AreLeastAccepted, IsBrokenFirst}
+use Rattle.par_infer.specs.declared.filling.FilledField.{FilledField}
+use Rattle.par_infer.specs.Filled.{filled_in}
+use Rattle.par_infer.specs.Inferred.{AreLeastAccepted, IsBrokenFirst}
 use Rattle.par_filling_lines.specs.par_told.Told.{told}
 use Rattle.par_filling_lines.specs.Texts.{filling_lines}
 use Rattle.par_tool.specs.declared.answer.Answer.{Answer}

@@ -3,7 +3,7 @@
 
 ghost use Rattle.std.specs.Prelude.{◌≡◌, ◌≤◌, IsTrue, IfOk, IfErr, length};
 ghost use Rattle.par_io.specs.Causes.{Makes};
-ghost use Rattle.par_filling.specs.Inferred.{IsInferred};
+ghost use Rattle.par_infer.specs.Inferred.{IsInferred};
 ghost use Rattle.par_observer.specs.Judgements.{IsTypedAs};
 ghost use Rattle.par_observer.specs.Trees.{IsReady, ChecksLie};
 ghost use Rattle.par_tool.specs.Failures.{IsFailure, FaultsAreTold};
@@ -12,7 +12,7 @@ ghost use Rattle.par_tool.specs.Lines.{texts_of};
 
 use crate::reads::{Failure, read};
 use crate::sources::refused;
-use par_filling::{Filling, InferError, infer_fields};
+use par_infer::{Filling, InferError, infer_fields};
 use par_filling_lines::filling_lines;
 use par_io::Folder;
 use par_lexer::LONGEST_SOURCE;

@@ -1,5 +1,5 @@
 use Rattle.std.proofs.Common.{subst, sym}
-use Rattle.par_filling.specs.Inferred.{IsBrokenFirst}
+use Rattle.par_infer.specs.Inferred.{IsBrokenFirst}
 use Rattle.par_tool.specs.Inferences.{IsUnfilled, IsUnfilledBy, is_unfilled}
 use Rattle.par_tool.proofs.Inferred.{broken_within}
 use Rattle.par_tool.proofs.Refusals.{refused_for}

@@ -1,6 +1,0 @@
-use Rattle.par_filling.proofs.Whole.{few_effects}
-use Rattle.par_filling.proofs.solve.decide.Goals as goal
-
-pub least_sets-requires-clause-effects : goal.least_sets-requires-clause-effects
-least_sets-requires-clause-effects g c =
-    few_effects c.args.typed.now.table c.requires.declared c.requires.policies
