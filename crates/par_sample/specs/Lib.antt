@@ -1,3 +1,4 @@
 pub mod Numbers
 pub mod Source
 pub mod Summary
+pub mod Counted

@@ -6,7 +6,7 @@ use Rattle.std.proofs.lemmas.List.{length-map, length-take}
 use Rattle.par_typed.specs.declared.table.ClassInfo.{ClassInfo}
 use Rattle.par_typed.specs.declared.table.Table.{Table}
 use Rattle.par_sample.specs.Source.{source}
-use Rattle.par_summary.specs.Counted.{BUILT_IN_CLASSES, IsSmallClass}
+use Rattle.par_sample.specs.Counted.{BUILT_IN_CLASSES, IsSmallClass}
 use Rattle.par_audit.specs.par_typed_laws.Limits.{IsLimitedClass}
 use Rattle.par_audit.specs.par_typed_laws.Signatures.{kind_of, HasBuiltIns}
 use Rattle.par_tool.specs.declared.answer.Answer.TheVariants.{Refused}

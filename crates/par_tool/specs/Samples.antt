@@ -2,7 +2,7 @@
 use Rattle.std.specs.Prelude.{◌≡◌, ℕ, List, length}
 use Rattle.par_sample.specs.Source.{source}
 use Rattle.par_sample.specs.declared.summary.Summary.{Summary}
-use Rattle.par_summary.specs.Counted.{summary_of}
+use Rattle.par_sample.specs.Counted.{summary_of}
 use Rattle.par_typed.specs.declared.program.Typed.{Typed}
 use Rattle.par_compile.specs.declared.compiled.CompiledClass.{CompiledClass}
 use Rattle.par_tool.specs.declared.answer.Answer.{Answer}

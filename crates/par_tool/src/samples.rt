@@ -9,7 +9,7 @@ use crate::answer::Answer;
 use crate::reads::Failure;
 use crate::sources::{class_files, program};
 use par_sample::sample;
-use par_summary::summary_of;
+use par_sample::summary_of;
 use std::alloc::Global;
 
 /// Makes the sample of a number.

@@ -1,6 +1,6 @@
 use Rattle.std.proofs.Common.{◌≡◌, ◌∙◌, ap, subst}
 use Rattle.par_sample.specs.Source.{source}
-use Rattle.par_summary.specs.Counted.{summary_of}
+use Rattle.par_sample.specs.Counted.{summary_of}
 use Rattle.par_tool.specs.Outside.{Text}
 use Rattle.par_tool.specs.Sources.{IsSecureAs}
 use Rattle.par_tool.specs.Samples.{Sampled}

@@ -1,7 +1,7 @@
 use Rattle.std.proofs.Common.{◌≡◌, ◌+◌, drop}
 use Rattle.std.specs.List.{sum_by}
-use Rattle.par_summary.specs.Counted.{class_nodes}
-use Rattle.par_summary.proofs.counts.nodes_of.Given as goal
+use Rattle.par_sample.specs.Counted.{class_nodes}
+use Rattle.par_sample.proofs.counts.nodes_of.Given as goal
 
 abbrev pub invariant-loop-method : goal.invariant-loop-method
 invariant-loop-method l =

@@ -1,6 +1,6 @@
 use Rattle.std.proofs.Common.{◌≡◌, ◌+◌, drop}
-use Rattle.par_summary.specs.Counted.{method_count}
-use Rattle.par_summary.proofs.counts.methods_in.Given as goal
+use Rattle.par_sample.specs.Counted.{method_count}
+use Rattle.par_sample.proofs.counts.methods_in.Given as goal
 
 abbrev pub invariant-loop-class : goal.invariant-loop-class
 invariant-loop-class l =

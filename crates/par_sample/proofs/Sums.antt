@@ -4,8 +4,8 @@ use Rattle.std.proofs.Common.{ap, arith}
 use Rattle.std.specs.List.{AllByRecursion, sum_by}
 use Rattle.std.proofs.lemmas.List.Sums.{sum_by-cons, sum_by-drop_more}
 use Rattle.par_typed.specs.declared.table.ClassInfo.{ClassInfo}
-use Rattle.par_summary.specs.Counted.{IsSmallClass, MOST_METHODS, MOST_NODES, class_nodes}
-use Rattle.par_summary.specs.Counted.{method_count, node_count}
+use Rattle.par_sample.specs.Counted.{IsSmallClass, MOST_METHODS, MOST_NODES, class_nodes}
+use Rattle.par_sample.specs.Counted.{method_count, node_count}
 
 most_by : {A : Type 0} (f : A → ℕ) (most : ℕ) (xs : List A) → AllByRecursion (λ x. f x ≤ most) xs
     → sum_by f xs ≤ most * length xs

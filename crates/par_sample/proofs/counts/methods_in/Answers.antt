@@ -1,6 +1,6 @@
 use Rattle.std.proofs.Common.{length, arith}
-use Rattle.par_summary.proofs.Sums.{most_methods, more-below}
-use Rattle.par_summary.proofs.counts.methods_in.Goals as goal
+use Rattle.par_sample.proofs.Sums.{most_methods, more-below}
+use Rattle.par_sample.proofs.counts.methods_in.Goals as goal
 
 pub overflow_add-methods : goal.overflow_add-methods
 overflow_add-methods c =

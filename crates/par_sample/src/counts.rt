@@ -2,11 +2,11 @@
 
 ghost use Rattle.std.specs.Prelude.{◌≡◌, ◌≤◌, length};
 ghost use Rattle.std.specs.List.{AllByRecursion};
-ghost use Rattle.par_summary.specs.Counted as counted;
-ghost use Rattle.par_summary.specs.Counted.{BUILT_IN_CLASSES, MOST_CLASSES, IsSmallClass};
-ghost use Rattle.par_summary.specs.Counted.{class_nodes, node_count, method_count};
+ghost use Rattle.par_sample.specs.Counted as counted;
+ghost use Rattle.par_sample.specs.Counted.{BUILT_IN_CLASSES, MOST_CLASSES, IsSmallClass};
+ghost use Rattle.par_sample.specs.Counted.{class_nodes, node_count, method_count};
 
-use par_sample::Summary;
+use crate::summary::Summary;
 use par_typed::table::{ClassInfo, Table};
 
 // The classes that every program has come first.

@@ -1,7 +1,7 @@
 use Rattle.std.proofs.Common.{arith}
-use Rattle.par_summary.specs.Counted.{class_nodes}
-use Rattle.par_summary.proofs.Sums.{most_nodes, more-below}
-use Rattle.par_summary.proofs.counts.nodes_in.Goals as goal
+use Rattle.par_sample.specs.Counted.{class_nodes}
+use Rattle.par_sample.proofs.Sums.{most_nodes, more-below}
+use Rattle.par_sample.proofs.counts.nodes_in.Goals as goal
 
 pub overflow_add-nodes : goal.overflow_add-nodes
 overflow_add-nodes c =
