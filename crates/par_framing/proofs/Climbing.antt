@@ -18,9 +18,9 @@ use Rattle.par_place.specs.par_place_laws.Placeable.{MOST_BYTES}
 use Rattle.par_place.specs.par_place_laws.Framed.{AreFramesPlaceable}
 use Rattle.par_place.specs.Offsets.{AreSmall}
 use Rattle.par_place.proofs.Sizes.{offset_is}
-use Rattle.par_label_frames.specs.par_frame_laws.Framed.{placed_at, frame_at, frame_of, before}
-use Rattle.par_label_frames.specs.par_frame_laws.Framed.{last_ones}
-use Rattle.par_label_frames.specs.par_frame_laws.Framed.{frames_with}
+use Rattle.par_framing.specs.par_frame_laws.Framed.{placed_at, frame_at, frame_of, before}
+use Rattle.par_framing.specs.par_frame_laws.Framed.{last_ones}
+use Rattle.par_framing.specs.par_frame_laws.Framed.{frames_with}
 use Rattle.par_framing.specs.Added.{HasLabelOffsets}
 use Rattle.par_framing.proofs.Written.{frame_once}
 

@@ -1,6 +1,8 @@
+pub mod Joining
+pub mod Firsts
 pub mod Written
 pub mod Climbing
 pub mod Kept
 pub mod Tables
 pub mod Whole
-pub use Rattle.par_label_frames.proofs.par_frames as par_frames
+pub use Rattle.par_frame_laws.proofs.par_frames as par_frames

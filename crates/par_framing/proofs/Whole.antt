@@ -14,9 +14,9 @@ use Rattle.par_place.specs.par_place_laws.Named.{Names, IsConstantOf, entry_coun
 use Rattle.par_place.specs.par_place_laws.Placed.{IsPlaced}
 use Rattle.par_place.specs.par_place_laws.Framed.{AreFramesPlaceable}
 use Rattle.par_place.specs.Labels.{IsPlacedAt}
-use Rattle.par_label_frames.specs.par_frame_laws.Framed.{frames_with, AreAttributes}
-use Rattle.par_label_frames.specs.par_frame_laws.Framed.{IsPlacedWith, frame_classes}
-use Rattle.par_label_frames.specs.par_frame_laws.Framed.{classes_with, entries_with}
+use Rattle.par_framing.specs.par_frame_laws.Framed.{frames_with, AreAttributes}
+use Rattle.par_framing.specs.par_frame_laws.Framed.{IsPlacedWith, frame_classes}
+use Rattle.par_framing.specs.par_frame_laws.Framed.{classes_with, entries_with}
 use Rattle.par_framing.specs.Added.{HasLabelOffsets, spare_with}
 use Rattle.par_framing.proofs.Kept.{HasParts, placed_kept, room_behind}
 use Rattle.par_framing.proofs.Written.{frames_same}

@@ -24,13 +24,13 @@ use Rattle.par_place.specs.par_place_laws.Placed.{offset_of}
 use Rattle.par_place.specs.par_place_laws.Placeable.{StandsOnce}
 use Rattle.par_place.specs.par_place_laws.Framed.{FitsFrame, AreFramesPlaceable}
 use Rattle.par_place.specs.Offsets.{HasOffsets}
-use Rattle.par_label_frames.specs.par_frame_laws.Framed.{kind_of, placed, placed_at, frame_at}
-use Rattle.par_label_frames.specs.par_frame_laws.Framed.{frame_of, before}
-use Rattle.par_label_frames.specs.par_frame_laws.Framed.{last_ones, frames_with, frames_of}
-use Rattle.par_label_frames.specs.par_frame_laws.Framed.{classes_in}
-use Rattle.par_label_frames.specs.par_frame_laws.Framed.{frame_classes}
-use Rattle.par_label_frames.specs.Joined.{HasLabel}
-use Rattle.par_label_frames.proofs.Firsts.{label_is, frame_has}
+use Rattle.par_framing.specs.par_frame_laws.Framed.{kind_of, placed, placed_at, frame_at}
+use Rattle.par_framing.specs.par_frame_laws.Framed.{frame_of, before}
+use Rattle.par_framing.specs.par_frame_laws.Framed.{last_ones, frames_with, frames_of}
+use Rattle.par_framing.specs.par_frame_laws.Framed.{classes_in}
+use Rattle.par_framing.specs.par_frame_laws.Framed.{frame_classes}
+use Rattle.par_framing.specs.Joined.{HasLabel}
+use Rattle.par_framing.proofs.Firsts.{label_is, frame_has}
 use Rattle.par_framing.specs.Added.{HasLabelOffsets}
 
 -- ---- the frames are the same where the offsets of their labels are

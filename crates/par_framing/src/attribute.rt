@@ -7,17 +7,18 @@ ghost use Rattle.par_class.specs.Spelling.{FitsAttribute, AllFit};
 ghost use Rattle.par_frames.specs.Names.{classes_named};
 ghost use Rattle.par_frames.specs.Room.{HasRoom, IsShort, Ascend, offsets, SPARE};
 ghost use Rattle.par_place.specs.par_place_laws.Framed.{AreFramesPlaceable};
-ghost use Rattle.par_label_frames.specs.par_frame_laws.Framed.{AreAttributes, frames_with};
-ghost use Rattle.par_label_frames.specs.par_frame_laws.Framed.{frame_classes};
+ghost use Rattle.par_framing.specs.par_frame_laws.Framed.{AreAttributes, frames_with};
+ghost use Rattle.par_framing.specs.par_frame_laws.Framed.{frame_classes};
 ghost use Rattle.par_framing.specs.Added.{AddsTable, AreSized, HasLabelOffsets};
 
+use crate::kinds::kinds_of;
+use crate::offsets::frames_at;
 use par_base::list::List;
 use par_base::memory::NoMemory;
 use par_class::Attribute;
 use par_code_form::Labelled;
 use par_frames::write_frames;
 use par_kinds::frame::{MethodFrames, PlacedFrame};
-use par_label_frames::{frames_at, kinds_of};
 use par_pool::PoolBuilder;
 use std::alloc::Global;
 

@@ -7,8 +7,8 @@ ghost use Rattle.par_class.specs.Spelling.{FitsCode};
 ghost use Rattle.par_frames.specs.Room.{HasRoom};
 ghost use Rattle.par_place.specs.par_place_laws.Placeable.{IsPlaceable};
 ghost use Rattle.par_place.specs.par_place_laws.Framed.{AreFramesPlaceable};
-ghost use Rattle.par_label_frames.specs.par_frame_laws.Framed.{IsPlacedWith, classes_with};
-ghost use Rattle.par_label_frames.specs.par_frame_laws.Framed.{entries_with};
+ghost use Rattle.par_framing.specs.par_frame_laws.Framed.{IsPlacedWith, classes_with};
+ghost use Rattle.par_framing.specs.par_frame_laws.Framed.{entries_with};
 ghost use Rattle.par_framing.specs.Added.{AddsConstants, AreSized, spare_with};
 
 use crate::attribute::attributes_of;

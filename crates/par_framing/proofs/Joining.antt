@@ -10,7 +10,7 @@ use Rattle.par_code_form.specs.declared.item.Item.{Item}
 use Rattle.par_code_form.specs.declared.labelled.LabelFrame.{LabelFrame}
 use Rattle.par_code_form.specs.declared.labelled.Labelled.{Labelled}
 use Rattle.par_frame_laws.specs.Framed.{before, last_ones, frame_of, frames_with}
-use Rattle.par_label_frames.specs.Joined.{last_at, ends_at, joined_behind, joined, added}
+use Rattle.par_framing.specs.Joined.{last_at, ends_at, joined_behind, joined, added}
 
 -- ---- a list that is cut, or is not
 

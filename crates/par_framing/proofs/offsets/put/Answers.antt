@@ -1,5 +1,5 @@
-use Rattle.par_label_frames.proofs.Joining.{replaced, pushed}
-use Rattle.par_label_frames.proofs.placement.put.Goals as goal
+use Rattle.par_framing.proofs.Joining.{replaced, pushed}
+use Rattle.par_framing.proofs.offsets.put.Goals as goal
 
 pub returns-then-ends_at : goal.returns-then-ends_at
 returns-then-ends_at c =

@@ -1,6 +1,6 @@
 use Rattle.std.proofs.Common.{arith}
-use Rattle.par_label_frames.proofs.Joining.{last_is}
-use Rattle.par_label_frames.proofs.placement.ends_at.Goals as goal
+use Rattle.par_framing.proofs.Joining.{last_is}
+use Rattle.par_framing.proofs.offsets.ends_at.Goals as goal
 
 pub returns-in-len1-up : goal.returns-in-len1-up
 returns-in-len1-up c =

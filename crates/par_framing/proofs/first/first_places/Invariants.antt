@@ -1,5 +1,5 @@
-use Rattle.par_label_frames.proofs.Firsts.{Marked}
-use Rattle.par_label_frames.proofs.first.first_places.Given as goal
+use Rattle.par_framing.proofs.Firsts.{Marked}
+use Rattle.par_framing.proofs.first.first_places.Given as goal
 
 -- the labels of the frames from this place on are marked
 abbrev pub invariant-loop-place : goal.invariant-loop-place

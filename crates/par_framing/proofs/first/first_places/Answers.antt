@@ -1,6 +1,6 @@
 use Rattle.std.proofs.Common.{refl}
-use Rattle.par_label_frames.proofs.Firsts.{marked_none, marked_back}
-use Rattle.par_label_frames.proofs.first.first_places.Goals as goal
+use Rattle.par_framing.proofs.Firsts.{marked_none, marked_back}
+use Rattle.par_framing.proofs.first.first_places.Goals as goal
 
 pub loop-place-init : goal.loop-place-init
 loop-place-init c = marked_none _ _ _ refl c.new-places.ensures.items

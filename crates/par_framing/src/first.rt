@@ -2,7 +2,7 @@
 
 ghost use Rattle.std.specs.Prelude.{◌≡◌, ◌≢◌, ℕ, None, Some, get_or, length, IfOk, OnOk};
 ghost use Rattle.std.specs.Prelude.{MatchOption};
-ghost use Rattle.par_label_frames.specs.First.{AreFirst, item_frame};
+ghost use Rattle.par_framing.specs.First.{AreFirst, item_frame};
 
 use par_base::memory::NoMemory;
 use par_code_form::{Item, LabelFrame};

@@ -1,8 +1,8 @@
 use Rattle.std.proofs.Common.{◌∙◌, arith}
 use Rattle.std.specs.Prelude.{slice_index}
 use Rattle.par_frame_laws.specs.Framed.{frame_of}
-use Rattle.par_label_frames.proofs.Joining.{added_more, all_added}
-use Rattle.par_label_frames.proofs.placement.frames_at.Goals as goal
+use Rattle.par_framing.proofs.Joining.{added_more, all_added}
+use Rattle.par_framing.proofs.offsets.frames_at.Goals as goal
 
 pub loop-item-preserved : goal.loop-item-preserved
 loop-item-preserved c =

@@ -12,8 +12,8 @@ use Rattle.par_code_form.specs.declared.item.Item.TheVariants.{Label, Op, Const,
 use Rattle.par_code_form.specs.declared.item.Item.TheVariants.{ClassOp, LockOp}
 use Rattle.par_code_form.specs.declared.labelled.LabelFrame.{LabelFrame}
 use Rattle.par_frame_laws.specs.Framed.{placed, placed_at, frame_at, frame_of}
-use Rattle.par_label_frames.specs.First.{AreFirst, item_frame}
-use Rattle.par_label_frames.specs.Joined.{HasLabel}
+use Rattle.par_framing.specs.First.{AreFirst, item_frame}
+use Rattle.par_framing.specs.Joined.{HasLabel}
 
 -- ---- what is found
 

@@ -2,9 +2,9 @@
 
 ghost use Rattle.std.specs.Prelude.{◌≡◌, ◌-◌, ◌++◌, ◌∷◌, [], take, slice_index, All, IfOk, OnOk};
 ghost use Rattle.std.specs.Vec.{vec_len};
-ghost use Rattle.par_label_frames.specs.First.{AreFirst};
-ghost use Rattle.par_label_frames.specs.Joined as joined;
-ghost use Rattle.par_label_frames.specs.Joined.{added, joined, HasLabel};
+ghost use Rattle.par_framing.specs.First.{AreFirst};
+ghost use Rattle.par_framing.specs.Joined as joined;
+ghost use Rattle.par_framing.specs.Joined.{added, joined, HasLabel};
 ghost use Rattle.par_frame_laws.specs.Framed as spec;
 ghost use Rattle.par_frame_laws.specs.Framed.{frames_with};
 
