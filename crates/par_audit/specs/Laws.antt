@@ -9,7 +9,7 @@ use Rattle.par_flow_laws.specs.Facts.{Facts}
 use Rattle.par_table_laws.specs.Births.{AreFieldsWritten}
 use Rattle.par_table_laws.specs.Declared.{IsWellDeclared}
 use Rattle.par_secure_laws.specs.par_typed_laws.WellTyped.{IsWellTyped}
-use Rattle.par_check.specs.Accepted.{IsAcceptedBy}
+use Rattle.par_check_laws.specs.Accepted.{IsAcceptedBy}
 use Rattle.par_secrecy.specs.Subject.{Subject}
 use Rattle.par_secrecy.specs.Target.{Target}
 use Rattle.par_secrecy.specs.Shows.{Shows}

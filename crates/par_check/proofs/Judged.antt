@@ -25,9 +25,11 @@ use Rattle.par_asked.proofs.par_check_laws.Kept.{keep_accept, meant, kept}
 use Rattle.par_asked.proofs.par_check_laws.Failed.{fail_refuse}
 use Rattle.par_refusals.proofs.First.{answered}
 use Rattle.par_check.specs.Told.{AreBroken, AreAllBroken, HaveTold}
-use Rattle.par_check.specs.Judged.{AreRight, AreAllRight, IsVerdict}
-use Rattle.par_check.specs.Accepted.{MOST_BODIES, AreKept, AreAllKept}
-use Rattle.par_check.specs.Accepted.{IsAcceptedBy}
+use Rattle.par_asked.specs.par_check_laws.Right.{AreRight, AreAllRight}
+use Rattle.par_check.specs.Judged.{IsVerdict}
+use Rattle.par_asked.specs.par_check_laws.Accepted.{MOST_BODIES, AreAllKept}
+use Rattle.par_check.specs.Accepted.{AreKept}
+use Rattle.par_asked.specs.par_check_laws.Accepted.{IsAcceptedBy}
 
 -- ---- one list of rules
 

@@ -18,7 +18,7 @@ use Rattle.par_asked.specs.par_check_laws.Verdict.{KeepsNumbered}
 use Rattle.par_asked.specs.declared.check.Check as code
 use Rattle.par_asked.specs.Seen.{seen_check, seen_checks}
 use Rattle.par_asked.proofs.Left.{left_more, left_none}
-use Rattle.par_check.specs.Judged.{AreAllRight}
+use Rattle.par_asked.specs.par_check_laws.Right.{AreAllRight}
 use Rattle.par_check.specs.Told.{AreBroken, AreAllBroken, HasTold, HaveTold}
 
 -- what is noted of a list

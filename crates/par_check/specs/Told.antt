@@ -9,7 +9,7 @@ use Rattle.par_asked.specs.par_flow_laws.Facts.{Facts}
 use Rattle.par_asked.specs.par_check_laws.Asked.{Check}
 use Rattle.par_asked.specs.par_check_laws.Checks.{checks}
 use Rattle.par_asked.specs.par_check_laws.Verdict.{KeepsNumbered}
-use Rattle.par_check.specs.Judged.{AreRight, AreAllRight}
+use Rattle.par_asked.specs.par_check_laws.Right.{AreRight, AreAllRight}
 
 -- these are the broken rules of the list, each told at its place
 unfoldable pub AreBroken : (Check → Type 0) → List Check → List Refusal → Type 0

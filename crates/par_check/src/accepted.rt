@@ -5,8 +5,10 @@ ghost use Rattle.std.specs.List.{AllByRecursion};
 ghost use Rattle.par_typed.specs.Shown as shown;
 ghost use Rattle.par_rounds.specs.Orderly.{IsOrderlyBody};
 ghost use Rattle.par_flow.specs.Table.{facts_in};
-ghost use Rattle.par_check.specs.Judged.{AreAllRight, AreRight, IsVerdict};
-ghost use Rattle.par_check.specs.Accepted.{IsAcceptedBy, IsRefused, MOST_BODIES};
+ghost use Rattle.par_asked.specs.par_check_laws.Right.{AreAllRight, AreRight};
+ghost use Rattle.par_check.specs.Judged.{IsVerdict};
+ghost use Rattle.par_asked.specs.par_check_laws.Accepted.{IsAcceptedBy, MOST_BODIES};
+ghost use Rattle.par_check.specs.Accepted.{IsRefused};
 
 use crate::error::CheckError;
 use crate::first::first_broken;

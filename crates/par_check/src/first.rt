@@ -7,7 +7,8 @@ ghost use Rattle.par_typed.specs.Shown as shown;
 ghost use Rattle.par_asked.specs.par_check_laws.Checks.{checks};
 ghost use Rattle.par_asked.specs.par_check_laws.Verdict.{KeepsNumbered};
 ghost use Rattle.par_asked.specs.Seen.{seen_checks};
-ghost use Rattle.par_check.specs.Judged.{AreAllRight, IsVerdict};
+ghost use Rattle.par_asked.specs.par_check_laws.Right.{AreAllRight};
+ghost use Rattle.par_check.specs.Judged.{IsVerdict};
 ghost use Rattle.par_check.specs.Told.{AreBroken, AreAllBroken};
 
 use crate::keeps::keeps;

@@ -17,7 +17,7 @@ use Rattle.par_flow_laws.specs.Lattice.{numbers}
 use Rattle.par_flow_laws.specs.Facts.{Facts}
 use Rattle.par_infer.specs.par_check_laws.Asked.{Check}
 use Rattle.par_infer.specs.par_check_laws.Checks.{checks}
-use Rattle.par_check.specs.Judged.{AreRight, AreAllRight}
+use Rattle.par_check.specs.par_check_laws.Right.{AreRight, AreAllRight}
 use Rattle.par_check.specs.Told.{AreBroken}
 use Rattle.par_check.proofs.Told.{Goes, Noted}
 use Rattle.par_infer.specs.Laws.{AreAll, KeepOthers, KeepsOther, KeepsReplaced, is_bound}

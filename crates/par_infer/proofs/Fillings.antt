@@ -30,7 +30,7 @@ use Rattle.par_infer.specs.Bounds.{bodies_above, births_above, all_above}
 use Rattle.par_infer.specs.Bounds.{is_at}
 use Rattle.par_infer.specs.Filling.{Filling, with_filling, ArePolicies, AreBirthsBelow, IsAccepted}
 use Rattle.par_infer.specs.Filling.{IsFillingBelow, join_filling, IsBodyAccepted}
-use Rattle.par_check.specs.Judged.{AreRight, AreAllRight}
+use Rattle.par_check.specs.par_check_laws.Right.{AreRight, AreAllRight}
 use Rattle.par_infer.proofs.Effects.{AreApart, apart}
 use Rattle.par_infer.specs.Laws.{AreAll, KeepOthers, KeepsReplaced, MeetsBounds}
 use Rattle.par_infer.specs.Laws.{is_bound, is_in, LeastSetsAreBelow, KeptSetsAreAccepted}

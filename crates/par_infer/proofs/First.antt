@@ -20,7 +20,7 @@ use Rattle.par_infer.specs.Keeps.{strict}
 use Rattle.par_table_laws.specs.Inferred.{inferred}
 use Rattle.par_infer.specs.Bounds.{bounds, replaced}
 use Rattle.par_infer.specs.Filling.{Filling, with_filling, join_filling}
-use Rattle.par_check.specs.Judged.{AreRight}
+use Rattle.par_check.specs.par_check_laws.Right.{AreRight}
 use Rattle.par_infer.proofs.Effects.{AreApart, apart}
 use Rattle.par_infer.specs.Laws.{AreAll, KeepsReplaced, is_bound}
 use Rattle.par_infer.specs.First.{IsBrokenAlways, IsFirstFailed}

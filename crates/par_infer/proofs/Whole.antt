@@ -15,7 +15,7 @@ use Rattle.par_table_laws.specs.Declared.{IsWellDeclared}
 use Rattle.par_table_laws.specs.Inferred.{inferred}
 use Rattle.par_table_laws.specs.Policies.{ClassShares, MethodShares}
 use Rattle.par_reached.specs.Reached.{AreLeastSets}
-use Rattle.par_check.specs.Judged.{AreAllRight}
+use Rattle.par_check.specs.par_check_laws.Right.{AreAllRight}
 use Rattle.par_infer.specs.Bounds.{bounds}
 use Rattle.par_infer.specs.Laws.{AreAll, KeepOthers}
 use Rattle.par_infer.proofs.Reached.{reached_least}

@@ -13,7 +13,7 @@ use Rattle.par_table_laws.specs.Inferred.{inferred}
 use Rattle.par_reached.specs.Reached.{AreLeastSets, set_at}
 use Rattle.par_infer.specs.par_check_laws.Asked.{Check}
 use Rattle.par_infer.specs.par_check_laws.Checks.{checks}
-use Rattle.par_check.specs.Judged.{AreAllRight}
+use Rattle.par_check.specs.par_check_laws.Right.{AreAllRight}
 use Rattle.par_infer.specs.Bounds.{bounds}
 use Rattle.par_infer.specs.Filling.{Filling, IsAccepted, IsFillingBelow, join_filling}
 use Rattle.par_infer.specs.First.{IsFirstAlways}

@@ -11,7 +11,7 @@ use Rattle.par_flow_laws.specs.Closed.{IsClosed}
 use Rattle.par_check.specs.par_check_laws.Asked.{Check}
 use Rattle.par_check.specs.par_check_laws.Checks.{checks}
 use Rattle.par_check.specs.par_check_laws.Verdict.{given}
-use Rattle.par_check.specs.Judged.{AreRight, AreAllRight}
+use Rattle.par_check.specs.par_check_laws.Right.{AreRight, AreAllRight}
 use Rattle.par_reached.specs.Reached.{AreLeastSets}
 use Rattle.par_pass_laws.specs.Seens.{given_of, seen_as, join_of}
 use Rattle.par_check.specs.par_check_laws.Keeps.{Keeps}

@@ -9,7 +9,7 @@ ghost use Rattle.par_refusals.specs.declared.refusal.Refusal.{Refusal as Told};
 ghost use Rattle.par_refusals.specs.First.{first_of};
 ghost use Rattle.par_typed.specs.Shown as shown;
 ghost use Rattle.par_infer.specs.par_check_laws.Checks.{checks};
-ghost use Rattle.par_check.specs.Judged.{AreAllRight};
+ghost use Rattle.par_check.specs.par_check_laws.Right.{AreAllRight};
 ghost use Rattle.par_check.specs.Told.{AreBroken};
 ghost use Rattle.par_infer.specs.Laws.{KeepsOther};
 ghost use Rattle.par_infer.specs.Judged.{AreAllFailed, IsJudged};

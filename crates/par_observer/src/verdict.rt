@@ -2,7 +2,7 @@
 
 ghost use Rattle.std.specs.Prelude.{◌≡◌, ◌≤◌, ◌<◌, IfOk, IfErr, length, map};
 ghost use Rattle.par_check.specs.par_flow.Table.{facts_in};
-ghost use Rattle.par_check.specs.Accepted.{IsAcceptedBy};
+ghost use Rattle.par_check_laws.specs.Accepted.{IsAcceptedBy};
 ghost use Rattle.par_secrecy.specs.Secure.{Secure};
 ghost use Rattle.par_alike.specs.Subject.{subject};
 ghost use Rattle.par_observer.specs.Judgements.{IsAcceptedAs, IsRefused, IsTypedAs, IsUntyped};

@@ -23,8 +23,8 @@ use Rattle.par_body_laws.specs.Proper.{IsProper}
 use Rattle.par_table_laws.specs.Births.{AreFieldsWritten}
 use Rattle.par_table_laws.specs.Declared.{IsWellDeclared}
 use Rattle.par_typed_laws.specs.WellTyped.{IsWellTyped}
-use Rattle.par_check.specs.Judged.{AreAllRight}
-use Rattle.par_check.specs.Accepted.{AreAllKept, IsAcceptedBy}
+use Rattle.par_check_laws.specs.Right.{AreAllRight}
+use Rattle.par_check_laws.specs.Accepted.{AreAllKept, IsAcceptedBy}
 use Rattle.par_secrecy.specs.Runs.{Witnessed}
 use Rattle.par_secrecy.specs.Shown.{Observer, sees}
 use Rattle.par_secrecy.specs.Secure.{Secure}

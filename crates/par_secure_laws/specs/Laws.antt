@@ -7,7 +7,7 @@ use Rattle.par_flow_laws.specs.Facts.{Facts}
 use Rattle.par_table_laws.specs.Births.{AreFieldsWritten}
 use Rattle.par_table_laws.specs.Declared.{IsWellDeclared}
 use Rattle.par_typed_laws.specs.WellTyped.{IsWellTyped}
-use Rattle.par_check.specs.Accepted.{IsAcceptedBy}
+use Rattle.par_check_laws.specs.Accepted.{IsAcceptedBy}
 use Rattle.par_secrecy.specs.Secure.{Secure}
 use Rattle.par_in_step_laws.specs.par_alike.Subject.{subject}
 use Rattle.par_secure_laws.specs.Explained.{Explains, IsExplained}

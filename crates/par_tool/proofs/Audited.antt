@@ -29,7 +29,7 @@ use Rattle.par_flow_laws.specs.Lattice.{numbers}
 use Rattle.par_flow_laws.specs.Facts.{Facts}
 use Rattle.par_check_laws.specs.Asked.{Check}
 use Rattle.par_check_laws.specs.Checks.{checks}
-use Rattle.par_check.specs.Accepted.{IsAcceptedBy}
+use Rattle.par_check_laws.specs.Accepted.{IsAcceptedBy}
 use Rattle.par_secrecy.proofs.Carried.{shown_files_are_secure}
 use Rattle.par_secrecy.specs.Secure.{Secure}
 use Rattle.par_alike.specs.Subject.{subject}

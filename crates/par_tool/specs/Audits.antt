@@ -10,7 +10,7 @@ use Rattle.par_typed.specs.declared.program.Typed.{Typed}
 use Rattle.par_typed.specs.Shown.{bodies}
 use Rattle.par_flow_laws.specs.Lattice.{numbers}
 use Rattle.par_flow_laws.specs.Facts.{Facts}
-use Rattle.par_check.specs.Accepted.{IsAcceptedBy}
+use Rattle.par_check_laws.specs.Accepted.{IsAcceptedBy}
 use Rattle.par_secrecy.specs.Subject.{Subject}
 use Rattle.par_secrecy.specs.Target.{Target}
 use Rattle.par_secrecy.specs.Shows.{Shows}

@@ -9,7 +9,7 @@ use Rattle.par_flow_laws.specs.Lattice.{numbers}
 use Rattle.par_flow_laws.specs.Facts.{Facts}
 use Rattle.par_table_laws.specs.Inferred.{inferred}
 use Rattle.par_reached.specs.Reached.{AreLeastSets, set_at}
-use Rattle.par_check.specs.Judged.{AreAllRight}
+use Rattle.par_check_laws.specs.Right.{AreAllRight}
 use Rattle.par_infer.specs.Bounds.{bounds}
 use Rattle.par_observer.specs.Trees.{BreaksTyping}
 use Rattle.par_observer.specs.Judgements.{BreaksAs, IsTypedAs}

@@ -4,7 +4,7 @@ ghost use Rattle.std.specs.Prelude.{◌≡◌, ◌≤◌, IsTrue, IfOk, IfErr, l
 ghost use Rattle.std.specs.List.{IsDistinct};
 ghost use Rattle.std.specs.Str.{bytes_eq};
 ghost use Rattle.par_io.specs.Causes.{Makes, NoneFalls};
-ghost use Rattle.par_check.specs.Accepted.{IsAcceptedBy};
+ghost use Rattle.par_check_laws.specs.Accepted.{IsAcceptedBy};
 ghost use Rattle.par_check.specs.par_flow.Table.{facts_in};
 ghost use Rattle.par_observer.specs.Judgements.{IsRefused};
 ghost use Rattle.par_observer.specs.Trees.{IsWellFormed};

@@ -7,7 +7,7 @@ use Rattle.par_typed.specs.Shown.{bodies}
 use Rattle.par_asked.specs.par_flow_laws.Lattice.{numbers}
 use Rattle.par_asked.specs.par_flow_laws.Facts.{Facts}
 use Rattle.par_flow.specs.Table.{facts_in}
-use Rattle.par_check.specs.Judged.{AreAllRight}
+use Rattle.par_asked.specs.par_check_laws.Right.{AreAllRight}
 use Rattle.par_check.proofs.Told.{no_bodies_left}
 use Rattle.par_check.proofs.accepted.all_facts.Goals as goal
 

@@ -3,7 +3,7 @@ use Rattle.std.specs.Prelude.{map}
 use Rattle.std.proofs.lemmas.List.{length-map}
 use Rattle.par_refusals.specs.First.{IsAnswer}
 use Rattle.par_flow.specs.Table.{facts_in}
-use Rattle.par_check.specs.Accepted.{IsAcceptedBy}
+use Rattle.par_asked.specs.par_check_laws.Accepted.{IsAcceptedBy}
 use Rattle.par_check.proofs.Judged.{accepted_by}
 use Rattle.par_check.proofs.accepted.check.Goals as goal
 

@@ -3,7 +3,7 @@ use Rattle.par_typed.specs.declared.table.ClassInfo.{ClassInfo}
 use Rattle.par_typed.specs.Shown.{bodies}
 use Rattle.par_reached.specs.Reached.{set_at}
 use Rattle.par_flow.specs.Table.{facts_in}
-use Rattle.par_check.specs.Judged.{AreAllRight}
+use Rattle.par_check.specs.par_check_laws.Right.{AreAllRight}
 use Rattle.par_infer.specs.First.{IsFirstFailed}
 use Rattle.par_infer.proofs.First.{first_always}
 use Rattle.par_infer.specs.Filled.{filled_in}
