@@ -85,18 +85,18 @@ def nested_loops(part):
 
 
 def loops_around_objects(part):
-    """Loops as deep around 252 locals that hand on their objects: each way round all of them tells
-    of one local more that it has objects of several classes."""
+    """Loops 5,200 deep around 252 locals that hand on their objects: each way round all of them
+    tells of one local more that it has objects of several classes."""
     other = [long_class.utf8("java/lang/NullPointerException"), b"\x07\0\x08"]
     code = b"".join(b"\xbb\0\x02\x3a" + bytes([n]) for n in range(252))
-    heads = range(len(code), len(code) + 2 * int(2000 * part), 2)
+    heads = range(len(code), len(code) + 2 * 5200, 2)
     code += b"\x03\x57" * len(heads)
     code += b"".join(bytes([0x19, n, 0x3a, n + 1]) for n in reversed(range(251)))
     code += b"\xbb\0\x09\x3a\0"
     for head in reversed(heads):
         code += b"\x03"
         code += b"\x99" + struct.pack(">h", head - len(code))
-    return of_code(code + b"\xb1", 1, 252, 1, other), VERIFY
+    return of_code(code + b"\xb1", 1, 252, int(30 * part), other), VERIFY
 
 
 def operands_on_operands(part):
@@ -176,7 +176,7 @@ FILES = {
     "24,000 methods that share 60,000 arguments": arguments_shared,
     "252 locals that hand on objects, verified": objects_handed_on,
     "loops 5,300 deep with 255 locals, verified": nested_loops,
-    "loops 2,000 deep around locals that hand on objects, verified": loops_around_objects,
+    "loops 5,200 deep around locals that hand on objects, verified": loops_around_objects,
     "65,534 operands on one another, verified": operands_on_operands,
     "30,000 frames of 30,000 locals that are told, verified": frames_told,
     "65,535 handlers around all code, verified": handlers_around,
