@@ -96,9 +96,11 @@ impl<'f> Sketch<'_, 'f> {
         many: usize,
     ) -> Result<Vec<PlaceKind<'f>>, NoMemory> {
         let mut kinds = vec![in alloc; PlaceKind::Top; many]?;
-        for (nth, kind) in kinds.as_mut_slice().iter_mut().enumerate() {
+        for nth in 0..many {
             let small = before.kind(from.saturating_add(nth));
-            *kind = self.classes.kind(small);
+            if nth < kinds.len() {
+                kinds[nth] = self.classes.kind(small);
+            }
         }
         Ok(kinds)
     }
