@@ -99,6 +99,23 @@ def loops_around_objects(part):
     return of_code(code + b"\xb1", 1, 252, int(30 * part), other), VERIFY
 
 
+def kinds_that_rise(part):
+    """Jumps back to one another before and behind code that sets 252 locals to another kind, so
+    that each of them rises as often as it can before each jump."""
+    other = [long_class.utf8("java/lang/NullPointerException"), b"\x07\0\x08"]
+    other += [long_class.utf8("java/lang/ArithmeticException"), b"\x07\0\x0a"]
+    code = b"".join(b"\x01\x3a" + bytes([n]) for n in range(252))
+    back = len(code)
+    for made in (b"\xbb\0\x09\x3a", b"\xbb\0\x0b\x3a", b"\xbb\0\x02\x3a", b"\x03\x36"):
+        for _ in range(3700):
+            code += b"\x03\x99" + struct.pack(">h", back - len(code) - 1)
+            back = len(code) - 4
+        code += b"".join(made + bytes([n]) for n in range(252))
+        code += b"\x03\x99" + struct.pack(">h", back - len(code) - 1)
+        back = len(code) - 4
+    return of_code(code + b"\xb1", 1, 252, int(15 * part), other), VERIFY
+
+
 def operands_on_operands(part):
     """Methods that push 65,534 operands."""
     return of_code(b"\x01" * 65534 + b"\xb1", 65534, 0, int(15 * part)), VERIFY
@@ -177,6 +194,7 @@ FILES = {
     "252 locals that hand on objects, verified": objects_handed_on,
     "loops 5,300 deep with 255 locals, verified": nested_loops,
     "loops 5,200 deep around locals that hand on objects, verified": loops_around_objects,
+    "kinds that rise as often as they can, verified": kinds_that_rise,
     "65,534 operands on one another, verified": operands_on_operands,
     "30,000 frames of 30,000 locals that are told, verified": frames_told,
     "65,535 handlers around all code, verified": handlers_around,
