@@ -119,7 +119,7 @@ module _ (m : ℕ) where
   pub counts_in : (source : Source) → IsWithin m source → Within (count_faults source)
   counts_in source h =
       let classes = classes_are_in source h in
-      join _ _ (join _ _ (declared_in source h)
-      (many_in _ (class_places source)
-      (mapped (ClassIn m) In _ (declared_classes source) (λ c h. h.id) classes)))
-      (each (ClassIn m) P _ (declared_classes source) class_in classes)
+      join _ _ (declared_in source h)
+      (join _ _ (many_in _ (class_places source)
+      (mapped (ClassIn m) In _ (declared_classes source) (λ c h. h.id) classes))
+      (each (ClassIn m) P _ (declared_classes source) class_in classes))

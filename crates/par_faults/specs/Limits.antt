@@ -95,7 +95,10 @@ class_limits class =
 
 -- ---- all
 
+-- of the classes that are declared, and in them
+abbrev pub class_counts : Source → List Refusal
+class_counts source =
+    one_too_many CLASSES (class_places source) ++ flat_map class_limits (declared_classes source)
+
 abbrev pub count_faults : Source → List Refusal
-count_faults source =
-    declared_limits source ++ one_too_many CLASSES (class_places source)
-    ++ flat_map class_limits (declared_classes source)
+count_faults source = declared_limits source ++ class_counts source
