@@ -12,7 +12,7 @@ ghost use Rattle.par_resolved.specs.Numbered.{numbered, declared};
 ghost use Rattle.par_resolved.specs.Births.{birth_faults};
 ghost use Rattle.par_resolved.specs.Limits.{one_too_many, table_faults, policy_faults};
 
-use crate::distinct::distinct;
+use crate::distinct::distinct_entries;
 use crate::listed::entries;
 use crate::many::check_many;
 use par_refusals::refusal::{Findings, Refusal};
@@ -44,7 +44,7 @@ fn check_policies(
         MOST_POLICIES))) }
 {
     let entries = entries(alloc, known, program, exprs, classes)?;
-    let distinct = distinct(alloc, entries.as_slice())?;
+    let distinct = distinct_entries(alloc, entries.as_slice())?;
     check_many(alloc, distinct.as_slice(), classes, findings)
 }
 
