@@ -15,10 +15,6 @@ pub record MakesAtMost (reads writes : ℕ) (before after : FolderCounts) : Type
   pub few_writes : written ≤ writes
   pub makes : Makes read written before after
 
--- the file of a class
-abbrev pub class_file : Text → Text
-class_file name = name ++ codes ".class"
-
 -- The file was read: it has at most so many bytes, and where the folder tells its files, they are
 -- these.
 pub record WasRead (files : Option Files) (limit : ℕ) (file bytes : Text) : Type 0 where
