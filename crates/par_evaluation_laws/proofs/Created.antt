@@ -289,7 +289,8 @@ module _ (ctx : Setting) where
       }) ops) ∷ fs) (state_with hs a)) g
   back_with k c d p x xs o a ops v hs l g le h f r =
       subst (λ (z : steps.Frame).
-      N k d (Silent (state_with (record z { operands = v ∷ ops } ∷ fs) a)) g) (sym (past_is env labelled mname cls mth fs p x xs o (with (record a { locals = l })
+      N k d (Silent (state_with (record z { operands = v ∷ ops } ∷ fs) a)) g)
+      (sym (past_is env labelled mname cls mth fs p x xs o (with (record a { locals = l })
       ops) h f))
       (next_rule Mach k k c d _ g (omega arith) le r)
 

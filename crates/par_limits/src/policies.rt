@@ -8,7 +8,8 @@ ghost use Rattle.par_resolved.specs.Sizes.{all_join_faults};
 ghost use Rattle.par_resolved.specs.Seen.{known_seen};
 ghost use Rattle.par_resolved.specs.Gathered.{all_of, classes_of};
 ghost use Rattle.par_resolved.specs.Written as said;
-ghost use Rattle.par_resolved.specs.Numbered.{numbered, declared};
+ghost use Rattle.par_resolved.specs.Numbered.{numbered};
+ghost use Rattle.par_resolved.specs.par_names.Declarations.{declared_classes};
 ghost use Rattle.par_resolved.specs.Births.{birth_faults};
 ghost use Rattle.par_resolved.specs.Limits.{one_too_many, table_faults, policy_faults};
 
@@ -37,7 +38,7 @@ fn check_policies(
     findings: &mut Findings,
 ) -> Result<(), NoMemory>
     requires written { all_of exprs.now ≡ said.written (source program.now) }
-    requires declared { classes_of classes.now ≡ declared (source program.now) }
+    requires declared { classes_of classes.now ≡ declared_classes (source program.now) }
     ensures { OnOk result (findings.new
         ≡ first_of findings.old
         (one_too_many (slice_get (numbered (known_seen known.now) (source program.now))

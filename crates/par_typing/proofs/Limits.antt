@@ -19,7 +19,7 @@ use Rattle.par_resolved.specs.Few.{HasFew}
 use Rattle.par_resolved.specs.Limits as policies
 use Rattle.par_resolved.specs.Limits.{policy_faults, table_faults}
 use Rattle.par_resolved.specs.Births.{birth_faults}
-use Rattle.par_resolved.specs.Numbered.{numbered, declared}
+use Rattle.par_resolved.specs.Numbered.{numbered}
 use Rattle.par_resolved.specs.Policies.{known}
 use Rattle.par_resolved.specs.Sizes.{all_literal_faults, all_join_faults}
 use Rattle.par_source_table_laws.specs.par_faults.declared.limit.Limit.{Limit}
@@ -118,7 +118,7 @@ limits_kept source h =
     declared_kept) in
     let of_table = later_pass (all_join_faults k source) (table_faults k source) joins in
     let one_more = left_none (policies.one_too_many (slice_get (numbered k source) 256))
-    (flat_map (λ c. birth_faults k c c.birth) (declared source)) of_table in
+    (flat_map (λ c. birth_faults k c c.birth) (declared_classes source)) of_table in
     record {
       few = faults.has_few source (sym (ap (first_of None) declared_kept ∙ first_of_none None));
       few_classes =
