@@ -21,7 +21,8 @@ use Rattle.par_values.specs.Effects.{Effect, Goes, Happens, called, called_on, t
 use Rattle.par_values.specs.Reasons.{Spot, all_fit, throws, falls, is_crowded, least_from, reason}
 use Rattle.par_stack.specs.Frames.{Frame, running, with_running, pushed, popped, entered}
 use Rattle.par_stack.specs.Frames.{last_operands}
-use Rattle.par_lines.specs.Lines.{Channel, channels_of, left_at, taken_at, AreLeft}
+use Rattle.par_lines.specs.par_secrecy.Subject.{numbers_at}
+use Rattle.par_lines.specs.Lines.{Channel, channels_of, taken_at, AreLeft}
 use Rattle.par_lines.proofs.Given.{left_there, left_less}
 use Rattle.par_actions.specs.declared.fit.Fit.{Fit}
 use Rattle.par_actions.specs.declared.callee.Target.{Target}
@@ -174,7 +175,7 @@ module _ (program : Areas) (f : Frame) (many : ℕ) where
       pub inputs : InputLists
       pub lists : AreLeft (taken_at line lines) inputs
       pub does : e ≡ Goes (areas_in (with_inputs inputs program)
-          (pushed (Int (next (left_at line lines))) (popped many f)))
+          (pushed (Int (next (numbers_at line lines))) (popped many f)))
 
     pub input_called : (t : Named) (line : Option ℕ) → IsTarget (channels_of lines) t (Input line)
         → TakesNumber line (called many t (areas_in program f))
@@ -236,7 +237,7 @@ module _ (classes : List Name) (spot : Spot) (o : Operation) (program : Areas)
         (called many (target_of o) (areas_in program (running old))) program new after
 
     pub input_target : (line : Option ℕ) (n : ℤ) → target ≡ Input line
-        → n ≡ next (left_at line lines)
+        → n ≡ next (numbers_at line lines)
         → after ≡ taken_at line lines
         → new ≡ with_running (pushed (Int n)) (with_running (popped many) old) → Came done.Goes
     input_target line n at number taken is_new =

@@ -35,7 +35,8 @@ use Rattle.par_evaluation_laws.specs.par_agreement_laws.Laid.{Layout, Meth, move
 use Rattle.par_evaluation_laws.specs.par_agreement_laws.Laid.{given_types}
 use Rattle.par_evaluation_laws.specs.par_agreement_laws.Agreement.{Lays, Fine}
 use Rattle.par_evaluation_laws.proofs.par_agreement_laws.Kept.{entered_fit}
-use Rattle.par_evaluation_laws.specs.Programs.{Inits, Coded, framed, callee, first_set, given_kind}
+use Rattle.par_evaluation_laws.specs.Programs.{Inits, Coded, callee, first_set, given_kind}
+use Rattle.par_step_laws.specs.Step.{state_with}
 use Rattle.par_code_laws.proofs.Labels.{body_distinct}
 use Rattle.par_evaluation_laws.proofs.Parts.{Setting, Enters, Back, AllTyped, with}
 use Rattle.par_code_laws.proofs.Stmts.{stmt_ok}
@@ -191,7 +192,7 @@ module _ (env : Naming) (labelled : ℕ → ℕ → Labelled) (mname : ℕ → �
               depth;
           inits = inits;
         } in
-        subst (λ o. Matches Mach k (d + 2) (turn Mach (framed (callee Mach (lay.number c)
+        subst (λ o. Matches Mach k (d + 2) (turn Mach (state_with (callee Mach (lay.number c)
         (lay.method_at c i) me.many mvs ∷ gs) a)) (within t (method t bodies depth)
         (suc depth) o rest1 s1)) (sym co.body_is)
         (subst (λ (q : ℕ). Matches Mach k (d + 2)

@@ -25,7 +25,7 @@ use Rattle.par_run_laws.specs.State.{State}
 use Rattle.par_run_laws.specs.Tasks.{Normal, Thrown, Rests}
 use Rattle.par_run_laws.specs.Meaning.{Calls}
 use Rattle.par_agreement_laws.specs.par_step_laws.State as steps
-use Rattle.par_agreement_laws.specs.par_step_laws.Step.{Turn}
+use Rattle.par_agreement_laws.specs.par_step_laws.Step.{Turn, Silent, thrown_to, state_with}
 use Rattle.par_agreement_laws.specs.par_engine_laws.Engine.{Program, turn}
 use Rattle.par_agreement_laws.specs.par_engine_laws.Engine as gen
 use Rattle.par_agreement_laws.specs.par_code_form.declared.item.Item.{Item}
@@ -61,7 +61,6 @@ use Rattle.par_values.specs.Effects.{ThrowsObject, called, called_on, arguments}
 use Rattle.par_values.specs.Reasons.{is_of}
 use Rattle.par_values.specs.Operations.{InvokeSpecial, InvokeVirtual, Copy, Leave}
 use Rattle.par_values.specs.Areas.{first_locals}
-use Rattle.par_agreement_laws.specs.par_step_laws.Step.{Silent, thrown_to}
 use Rattle.par_run_laws.specs.State.{restored, entered}
 use Rattle.par_run_laws.specs.Tasks.{leave}
 use Rattle.par_run_laws.specs.Meaning.{calls as calls_of}
@@ -80,7 +79,7 @@ use Rattle.par_agreement_laws.proofs.Kept.{left_fit}
 use Rattle.par_agreement_laws.proofs.Pushed.{pushed, pushed_taken, pushed_left, pushed_before}
 use Rattle.par_agreement_laws.proofs.Pushed.{pushed_length, EachFits, pushed_fit, each_length}
 use Rattle.par_agreement_laws.specs.par_code_form.Code.{initializer as init_item, initializer_code}
-use Rattle.par_evaluation_laws.specs.Programs.{Init, Inits, framed, callee}
+use Rattle.par_evaluation_laws.specs.Programs.{Init, Inits, callee}
 use Rattle.par_evaluation_laws.proofs.Parts.{AllTyped}
 
 pub fits_one : (b : Bool) → b ≡ true → (b && true) ≡ true
@@ -194,9 +193,10 @@ module _ (ctx : Setting) where
       → ((b : Areas) → gen.is_misreceived Mach wants (with b (value.Ref (lay.number cl) n ∷ [])) ≡
       false)
       → N k c (gen.returned Mach (frame env labelled mname cls mth fs p (with a ops) ∷ fs)
-      (framed [] a)) g
-      → N k e (turn Mach (framed (callee Mach (lay.number cl) there 1 (value.Ref (lay.number cl) n
-      ∷ []) ∷ frame env labelled mname cls mth fs p (with a ops) ∷ fs) a)) g
+      (state_with [] a)) g
+      → N k e (turn Mach (state_with (callee Mach (lay.number cl) there 1
+      (value.Ref (lay.number cl) n ∷ []) ∷ frame env labelled mname cls mth fs p (with a ops)
+      ∷ fs) a)) g
   unfolding effect
   init_runs k c e there p cl n xs a ops g above wants le init link_is wants_is well r =
       let D = labelled (lay.number cl) there in
@@ -272,9 +272,9 @@ module _ (ctx : Setting) where
       → N k d (gen.returned Mach (frame env labelled mname cls mth fs p (with (record a {
         locals =
             l;
-      }) ops) ∷ fs) (framed hs a)) g
+      }) ops) ∷ fs) (state_with hs a)) g
   back_here k c d p x xs o a ops hs l g le h f r =
-      subst (λ z. N k d (Silent (framed (z ∷ fs) a)) g)
+      subst (λ z. N k d (Silent (state_with (z ∷ fs) a)) g)
       (sym (past_is env labelled mname cls mth fs p x xs o (with (record a { locals = l }) ops)
       h f))
       (next_rule Mach k k c d _ g (omega arith) le r)
@@ -286,10 +286,11 @@ module _ (ctx : Setting) where
       → N k c (pos_of (skip xs (suc p)) (record a { locals = l }) (v ∷ ops)) g
       → N k d (gen.returned_with Mach v (frame env labelled mname cls mth fs p (with (record a {
         locals = l;
-      }) ops) ∷ fs) (framed hs a)) g
+      }) ops) ∷ fs) (state_with hs a)) g
   back_with k c d p x xs o a ops v hs l g le h f r =
-      subst (λ (z : steps.Frame). N k d (Silent (framed (record z { operands = v ∷ ops } ∷ fs) a))
-      g) (sym (past_is env labelled mname cls mth fs p x xs o (with (record a { locals = l })
+      subst (λ (z : steps.Frame).
+      N k d (Silent (state_with (record z { operands = v ∷ ops } ∷ fs) a)) g)
+      (sym (past_is env labelled mname cls mth fs p x xs o (with (record a { locals = l })
       ops) h f))
       (next_rule Mach k k c d _ g (omega arith) le r)
 
@@ -364,8 +365,8 @@ module _ (ctx : Setting) where
           (omega arith) h (the_link (Some there) e) r)))
         where
           run_of : Known cl → N k (c + 1) (gen.returned Mach (frame env labelled mname cls mth fs p
-              (with a ops) ∷ fs) (framed [] a)) g
-              → N k (c + 4) (turn Mach (framed (callee Mach (lay.number cl) there 1 (value.Ref
+              (with a ops) ∷ fs) (state_with [] a)) g
+              → N k (c + 4) (turn Mach (state_with (callee Mach (lay.number cl) there 1 (value.Ref
               (lay.number cl) n ∷ []) ∷ frame env labelled mname cls mth fs p (with a ops) ∷
               fs) a)) g
           run_of (inl m) z = init_runs k (c + 1)

@@ -1,5 +1,6 @@
 -- The code of an expression shows its run.
-use Rattle.par_evaluation_laws.specs.Programs.{Inits, framed, callee}
+use Rattle.par_evaluation_laws.specs.Programs.{Inits, callee}
+use Rattle.par_agreement_laws.specs.par_step_laws.Step.{state_with, Turn, thrown_to}
 use Rattle.par_agreement_laws.specs.Laid.{HasMethod, IsThrown}
 use Rattle.std.proofs.Common.{◌≡◌, ℕ, suc, ◌+◌, ◌≤◌, ◌<◌, Bool, true, false, not, List, [], ◌∷◌}
 use Rattle.std.proofs.Common.{length, Some, refl, ap, sym, ◌∙◌, subst, arith}
@@ -25,7 +26,6 @@ use Rattle.par_run_laws.specs.Tasks.{follow}
 use Rattle.par_run_laws.specs.Meaning.{Calls, eval}
 use Rattle.par_run_laws.specs.Values.{truth}
 use Rattle.par_agreement_laws.specs.par_step_laws.State as steps
-use Rattle.par_agreement_laws.specs.par_step_laws.Step.{Turn}
 use Rattle.par_agreement_laws.specs.par_engine_laws.Engine.{Program, turn}
 use Rattle.par_agreement_laws.specs.par_engine_laws.Engine as gen
 use Rattle.par_agreement_laws.specs.par_code_form.declared.item.Item.{Item}
@@ -50,7 +50,6 @@ use Rattle.par_agreement_laws.proofs.Values.{kind_in, load_is}
 use Rattle.par_values.specs.Reasons.{holds}
 use Rattle.std.proofs.Common.{map}
 use Rattle.par_values.specs.Areas.{first_locals}
-use Rattle.par_agreement_laws.specs.par_step_laws.Step.{thrown_to}
 use Rattle.par_run_laws.specs.State.{restored, entered}
 use Rattle.par_run_laws.specs.Tasks.{leave}
 use Rattle.par_agreement_laws.specs.Laid.{Meth, given_types}
@@ -90,13 +89,14 @@ module _ (env : Naming) (labelled : ℕ → ℕ → Labelled) (mname : ℕ → �
     pub nothing_back : (hs : List steps.Frame) (set : List ℕ) (s' : State) (a : Areas)
         → me.result ≡ ty.Void
         → Fine env w lay t me.types me.many s.births set s' a
-        → Matches (P env labelled mname) k d (gen.returned (P env labelled mname) gs (framed hs a))
+        → Matches (P env labelled mname) k d
+        (gen.returned (P env labelled mname) gs (state_with hs a))
         (rest Normal s'.result (restored s.locals s.result s'))
     pub value_back : (hs : List steps.Frame) (set : List ℕ) (v : MVal) (s' : State) (a : Areas)
         → (me.result ≡ ty.Void → ⊥)
         → HasType lay s'.births me.result v → Fine env w lay t me.types me.many s.births set s' a
         → Matches (P env labelled mname) k d (gen.returned_with (P env labelled mname)
-        (moved lay v) gs (framed hs a)) (rest Normal v (restored s.locals s.result s'))
+        (moved lay v) gs (state_with hs a)) (rest Normal v (restored s.locals s.result s'))
     pub thrown_back : (x n : ℕ) (set : List ℕ) (s' : State) (a : Areas) → IsThrown lay x
         → Fine env w lay t me.types me.many s.births set s' a
         → Matches (P env labelled mname) k d (thrown_to env.names (value.Ref (lay.number x) n)
@@ -113,7 +113,7 @@ module _ (env : Naming) (labelled : ℕ → ℕ → Labelled) (mname : ℕ → �
       → Fine env w lay t tys many base set s a
       → Back k d gs me s rest
       → Matches (P env labelled mname) k (d + 2) (turn (P env labelled mname)
-      (framed (callee (P env labelled mname) (lay.number c)
+      (state_with (callee (P env labelled mname) (lay.number c)
       (lay.method_at c i) me.many (map (moved lay) vs) ∷ gs) a))
       (run c i (leave s.locals s.result rest) (entered vs s))
 

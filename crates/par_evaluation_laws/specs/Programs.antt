@@ -12,6 +12,7 @@ use Rattle.par_values.specs.declared.value.MVal.{MVal}
 use Rattle.par_values.specs.Areas.{Name, Areas, first_locals}
 use Rattle.par_run_laws.specs.Names.{body_of, main_of}
 use Rattle.par_agreement_laws.specs.par_step_laws.State.{Frame, State, entered}
+use Rattle.par_agreement_laws.specs.par_step_laws.Step.{state_with}
 use Rattle.par_agreement_laws.specs.par_engine_laws.Engine.{Program}
 use Rattle.par_agreement_laws.specs.par_code_form.Code.{Words, is_void, body_code, body_handlers}
 use Rattle.par_agreement_laws.specs.par_code_form.Code.{initializer_code}
@@ -22,11 +23,6 @@ use Rattle.par_agreement_laws.specs.Laid.{kind_of}
 use Rattle.par_agreement_laws.specs.Agreement.{Lays}
 
 -- ---- frames
-
--- a state with these frames
-abbrev pub framed : List Frame → Areas → State
-framed frames a =
-    record { frames = frames; statics = a.statics; objects = a.objects; inputs = a.inputs }
 
 -- the frame of a called method
 abbrev pub callee : Program → (class method many : ℕ) → List MVal → Frame
@@ -89,4 +85,4 @@ pub record IsCompiled (env : Naming) (labelled : ℕ → ℕ → Labelled) (w : 
 
 -- before the first instruction of `main`, which has so many locals
 abbrev pub begins : Program → (class method many : ℕ) → Areas → State
-begins p class method many a = framed (callee p class method many [] ∷ []) a
+begins p class method many a = state_with (callee p class method many [] ∷ []) a

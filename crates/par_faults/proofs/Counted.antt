@@ -15,8 +15,9 @@ use Rattle.par_faults.specs.par_span_laws.Within.{LockDeclIn, DeclarationIn, IsW
 use Rattle.par_faults.proofs.par_span_laws.Broken as broken
 use Rattle.par_faults.proofs.par_span_laws.Broken.{both, each, mapped}
 use Rattle.par_faults.specs.declared.limit.Limit.{Limit}
+use Rattle.par_limits.specs.par_resolved.Numbers.{ground_count}
 use Rattle.par_faults.specs.Limits.{told, one_too_many, actor_places, class_places, earlier}
-use Rattle.par_faults.specs.Limits.{in_order, member_places, ground, locks_limit}
+use Rattle.par_faults.specs.Limits.{in_order, member_places, locks_limit}
 use Rattle.par_faults.specs.Limits.{declared_limits, over, method_limits, class_limits}
 use Rattle.par_faults.specs.Limits.{count_faults}
 use Rattle.par_faults.proofs.Kept.{May, got, taken, dropped}
@@ -79,7 +80,7 @@ module _ (m : ℕ) where
   unfolding locks_limit
   locks_limit_in n sum [] h = tt
   locks_limit_in n sum (l ∷ ls) h =
-      join _ _ (broken.there m _ _ h.0.0) (locks_limit_in n (sum + ground n l) ls h.1)
+      join _ _ (broken.there m _ _ h.0.0) (locks_limit_in n (sum + ground_count n l) ls h.1)
 
   pub actors_are_in : (source : Source) → IsWithin m source → AreIn m (actors source)
   actors_are_in source h = each (DeclarationIn m) (IdentIn m) _ source actors_within h
@@ -119,7 +120,7 @@ module _ (m : ℕ) where
   pub counts_in : (source : Source) → IsWithin m source → Within (count_faults source)
   counts_in source h =
       let classes = classes_are_in source h in
-      join _ _ (join _ _ (declared_in source h)
-      (many_in _ (class_places source)
-      (mapped (ClassIn m) In _ (declared_classes source) (λ c h. h.id) classes)))
-      (each (ClassIn m) P _ (declared_classes source) class_in classes)
+      join _ _ (declared_in source h)
+      (join _ _ (many_in _ (class_places source)
+      (mapped (ClassIn m) In _ (declared_classes source) (λ c h. h.id) classes))
+      (each (ClassIn m) P _ (declared_classes source) class_in classes))

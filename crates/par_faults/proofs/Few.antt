@@ -15,7 +15,7 @@ use Rattle.par_refusals.proofs.First.{answered}
 use Rattle.par_faults.specs.par_names.Declarations.{actors, locks}
 use Rattle.par_faults.specs.declared.limit.Limit.{Limit}
 use Rattle.par_faults.specs.declared.limit.TheConstants.{ACTORS, LOCKS}
-use Rattle.par_faults.specs.Limits.{told, one_too_many, actor_places, ground, lock_limit}
+use Rattle.par_faults.specs.Limits.{told, one_too_many, actor_places, lock_limit}
 use Rattle.par_faults.specs.Limits.{locks_limit, declared_limits}
 use Rattle.par_limits.specs.par_resolved.Few.{HasFew}
 use Rattle.par_limits.specs.par_resolved.Numbers.{ground_count}
@@ -79,10 +79,11 @@ unfolding locks_limit
 few_locks_from n sum [] le h = omega (arith, le)
 few_locks_from n sum (l ∷ ls) le h =
     let one = not_one _ _ (left_none (lock_limit n sum l) _ h) in
-    let next = kept sum (sum + ground n l) LOCKS.most one le in
-    let rest = few_locks_from n (sum + ground n l) ls next (right_none (lock_limit n sum l) _ h) in
+    let next = kept sum (sum + ground_count n l) LOCKS.most one le in
+    let rest =
+    few_locks_from n (sum + ground_count n l) ls next (right_none (lock_limit n sum l) _ h) in
     subst (λ k. sum + k ≤ LOCKS.most) (sym (sum_by-cons (ground_count n) l ls))
-    (grouped sum (ground n l) (sum_by (ground_count n) ls) LOCKS.most rest)
+    (grouped sum (ground_count n l) (sum_by (ground_count n) ls) LOCKS.most rest)
 
 pub has_few : (source : Source) → None ≡ first_of None (declared_limits source) → HasFew source
 has_few source h =

@@ -23,7 +23,8 @@ use Rattle.par_limits.specs.par_resolved.Births.{birth_policy, birth_faults}
 use Rattle.par_limits.specs.par_resolved.declared.entries.Entry.{Entry}
 use Rattle.par_limits.specs.par_resolved.Numbered.{same_policy, has_no_policy, written_entry}
 use Rattle.par_limits.specs.par_resolved.Numbered.{query_entries}
-use Rattle.par_limits.specs.par_resolved.Numbered.{with_entry, by_place, declared, birth_entry}
+use Rattle.par_limits.specs.par_resolved.Numbered.{with_entry, by_place, birth_entry}
+use Rattle.par_names.specs.Declarations.{declared_classes}
 use Rattle.par_limits.specs.par_resolved.Numbered.{entries}
 use Rattle.par_limits.specs.par_resolved.Numbered.{with_new, inferred_fields, inferred_entry}
 use Rattle.par_limits.specs.par_resolved.Numbered.{numbered}
@@ -116,7 +117,7 @@ module _ (m : ℕ) where
       both E _ _ (mapped (PolicyIn m) E (written_entry k) (written source) (λ e h. h.0)
       (written_in m source h)) (queries_in source h) in
       let births =
-      mapped (ClassIn m) E (birth_entry k) (declared source) (λ c h. h.id)
+      mapped (ClassIn m) E (birth_entry k) (declared_classes source) (λ c h. h.id)
       (classes_are_in m source h) in
       (omega arith, both E _ _ (by_place_in _ placed) births)
 
@@ -124,7 +125,7 @@ module _ (m : ℕ) where
       → AllByRecursion (FieldIn m) (inferred_fields source)
   inferred_in source h =
       filtered (FieldIn m) (λ f. f.inferred) _
-      (each (ClassIn m) (FieldIn m) (λ c. c.fields) (declared source) (λ c h. h.fields)
+      (each (ClassIn m) (FieldIn m) (λ c. c.fields) (declared_classes source) (λ c h. h.fields)
       (classes_are_in m source h))
 
   numbered_in : (k : Known) (source : Source) → IsWithin m source → Entries (numbered k source)
@@ -149,7 +150,7 @@ module _ (m : ℕ) where
   table_in : (k : Known) (source : Source) → IsWithin m source → Within (table_faults k source)
   table_in k source h =
       join _ _ (many_in _ (got E (numbered k source) _ (numbered_in k source h)))
-      (each (ClassIn m) P _ (declared source) (λ c h. birth_in k c c.birth h.id)
+      (each (ClassIn m) P _ (declared_classes source) (λ c h. birth_in k c c.birth h.id)
       (classes_are_in m source h))
 
   pub literals_in : (source : Source) → IsWithin m source → Within (all_literal_faults source)

@@ -7,6 +7,7 @@ use Rattle.par_tree.specs.declared.decl.LockDecl.{LockDecl}
 use Rattle.par_tree.specs.Nodes.{method_nodes}
 use Rattle.par_tree.specs.Plain.{Class, Method, Source}
 use Rattle.par_names.specs.Declarations.{actors, locks, declared_classes}
+use Rattle.par_limits.specs.par_resolved.Numbers.{ground_count}
 use Rattle.par_refusals.specs.declared.refusal.Refusal.{Refusal}
 use Rattle.par_refusals.specs.First.{when, exceeded, in_passes}
 use Rattle.par_faults.specs.declared.limit.Limit.{Limit}
@@ -49,10 +50,6 @@ member_places class = in_order (map (λ f. f.id.at) class.fields) (map (λ c. c.
 
 -- ---- the limit on locks
 
--- a family of k actors has (number of actors) to the k locks
-abbrev pub ground : ℕ → LockDecl → ℕ
-ground actors lock = actors ^ lock.arity
-
 -- a count, or the most that a refusal can tell
 abbrev pub tellable : ℕ → ℕ
 tellable count = min count (2 ^ 32 - 1)
@@ -60,14 +57,14 @@ tellable count = min count (2 ^ 32 - 1)
 -- the lock with which the sum first exceeds
 abbrev pub lock_limit : ℕ → ℕ → LockDecl → List Refusal
 lock_limit actors sum lock =
-    when (nat_le sum LOCKS.most && not (nat_le (sum + ground actors lock) LOCKS.most))
-    (exceeded LOCKS.number (tellable (sum + ground actors lock)) lock.id.at)
+    when (nat_le sum LOCKS.most && not (nat_le (sum + ground_count actors lock) LOCKS.most))
+    (exceeded LOCKS.number (tellable (sum + ground_count actors lock)) lock.id.at)
 
 -- the locks behind others, of which there are this many
 unfoldable pub locks_limit : ℕ → ℕ → List LockDecl → List Refusal
 locks_limit actors sum [] = []
 locks_limit actors sum (lock ∷ locks) =
-    lock_limit actors sum lock ++ locks_limit actors (sum + ground actors lock) locks
+    lock_limit actors sum lock ++ locks_limit actors (sum + ground_count actors lock) locks
 
 -- the locks count only where the actors are within their limit
 abbrev pub declared_limits : Source → List Refusal
@@ -95,7 +92,10 @@ class_limits class =
 
 -- ---- all
 
+-- of the classes that are declared, and in them
+abbrev pub class_counts : Source → List Refusal
+class_counts source =
+    one_too_many CLASSES (class_places source) ++ flat_map class_limits (declared_classes source)
+
 abbrev pub count_faults : Source → List Refusal
-count_faults source =
-    declared_limits source ++ one_too_many CLASSES (class_places source)
-    ++ flat_map class_limits (declared_classes source)
+count_faults source = declared_limits source ++ class_counts source

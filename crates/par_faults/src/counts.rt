@@ -9,7 +9,7 @@ ghost use Rattle.par_parser.specs.Bodies.{method_size, methods_size, source_size
 ghost use Rattle.par_names.specs.Declarations.{classes_in, locks};
 ghost use Rattle.par_refusals.specs.First.{first_of, in_passes};
 ghost use Rattle.par_faults.specs.Limits.{one_too_many, locks_limit, declared_limits};
-ghost use Rattle.par_faults.specs.Limits.{method_limits, class_limits, count_faults};
+ghost use Rattle.par_faults.specs.Limits.{method_limits, class_limits, class_counts};
 
 use crate::limit::{
     ACTORS, CLASS_NODES, CLASSES, LOCALS, MEMBERS, METHODS, NODES, PARAMS, expect_within,
@@ -99,33 +99,33 @@ fn check_actors(places: &[u32], decls: &[Decl], findings: &mut Findings)
     }
 }
 
-/// Notes the limits of actors and of locks that these declarations exceed.
+/// Notes the limits of actors and of locks that a program exceeds.
 pub fn check_declared(
     alloc: Global,
-    decls: &[Decl],
+    program: &Program,
     findings: &mut Findings,
 ) -> Result<(), NoMemory>
     ensures { OnOk result (findings.new
-        ≡ first_of findings.old (declared_limits (all_declared decls.now))) }
+        ≡ first_of findings.old (declared_limits (source program.now))) }
 {
+    let decls = program.decls.as_slice();
     let actors = actor_places(alloc, decls)?;
     check_actors(actors.as_slice(), decls, findings);
     Ok(())
 }
 
-/// Notes the limits of what is counted that a program exceeds.
+/// Notes the limits of classes, and of what is counted in them, that a program exceeds.
 #[tactic(auto, using(par_refusals::proofs::First::firsts))]
-pub fn check_counts(
+pub fn check_class_counts(
     alloc: Global,
     program: &Program,
     findings: &mut Findings,
 ) -> Result<(), NoMemory>
     requires { source_size (source program.now) ≤ LONGEST_SOURCE }
     ensures { OnOk result (findings.new
-        ≡ first_of findings.old (count_faults (source program.now))) }
+        ≡ first_of findings.old (class_counts (source program.now))) }
 {
     let decls = program.decls.as_slice();
-    check_declared(alloc, decls, findings)?;
     let classes = class_places(alloc, decls)?;
     check_places(CLASSES, classes.as_slice(), findings);
     check_classes(alloc, decls, findings)

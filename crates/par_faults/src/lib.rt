@@ -19,7 +19,7 @@ mod names;
 mod places;
 mod rule;
 
-pub use counts::{check_counts, check_declared};
+pub use counts::{check_class_counts, check_declared};
 pub use faults::first_fault;
 pub use laws::faults_lie_within;
 pub use names::first_broken_name;

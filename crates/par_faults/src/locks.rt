@@ -4,6 +4,7 @@ ghost use Rattle.std.specs.Prelude.{◌≡◌, ◌≤◌, ◌+◌};
 ghost use Rattle.par_tree.specs.Shown.{all_declared};
 ghost use Rattle.par_names.specs.Declarations.{locks};
 ghost use Rattle.par_refusals.specs.First.{first_of};
+ghost use Rattle.par_limits.specs.par_resolved.Numbers.{ground_count};
 ghost use Rattle.par_faults.specs.Limits as limit;
 
 use crate::limit::LOCKS;
@@ -12,7 +13,7 @@ use par_tree::decl::{Decl, LockDecl};
 
 // How many locks a declaration has, or the most that can be told.
 fn ground(actors: u32, lock: &LockDecl) -> u32
-    ensures { result ≡ limit.tellable (limit.ground actors lock.now) }
+    ensures { result ≡ limit.tellable (ground_count actors lock.now) }
 {
     match actors.checked_pow(u32::from(lock.arity)) {
         None => u32::MAX,
@@ -23,7 +24,7 @@ fn ground(actors: u32, lock: &LockDecl) -> u32
 // The locks up to this one, or the most that can be told.
 fn check_lock(actors: u32, before: u32, lock: &LockDecl, findings: &mut Findings) -> u32
     requires { before ≤ LOCKS.most }
-    ensures sum { result ≡ limit.tellable (before + limit.ground actors lock.now) }
+    ensures sum { result ≡ limit.tellable (before + ground_count actors lock.now) }
     ensures found { findings.new
         ≡ first_of findings.old (limit.lock_limit actors before lock.now) }
 {

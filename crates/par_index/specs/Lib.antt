@@ -1,4 +1,5 @@
 pub mod Firsts
 pub mod Texts
 pub mod Placed
+pub mod Stacked
 pub use Rattle.par_base.specs as par_base

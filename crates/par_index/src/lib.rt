@@ -7,7 +7,9 @@
 
 mod firsts;
 mod names;
+mod stack;
 
 pub use firsts::Firsts;
 pub use names::NameIndex;
 pub use par_base;
+pub use stack::NameStack;

@@ -11,7 +11,8 @@ use Rattle.par_tree.specs.declared.decl.FieldDecl.{FieldDecl}
 use Rattle.par_tree.specs.Plain.{Class, Source}
 use Rattle.par_resolved.specs.declared.entries.Entry.{Entry}
 use Rattle.par_resolved.specs.Policies.{Known}
-use Rattle.par_resolved.specs.Numbered.{inferred_entry, declared, entries, distinct, numbered}
+use Rattle.par_resolved.specs.Numbered.{inferred_entry, entries, distinct, numbered}
+use Rattle.par_resolved.specs.par_names.Declarations.{declared_classes}
 use Rattle.par_resolved.specs.declared.limits.TheConstants.{MOST_POLICIES}
 use Rattle.par_resolved.specs.Limits.{one_too_many}
 use Rattle.par_limits.specs.Places.{inferred_places, places_of, many_at}
@@ -61,7 +62,7 @@ many m k es cs =
 
 -- of a whole program
 pub counted_all : (k : Known) (s : Source) (es : List Entry) (cs : List Class)
-    → es ≡ take (MOST_POLICIES + 1) (distinct (entries k s)) → cs ≡ declared s
+    → es ≡ take (MOST_POLICIES + 1) (distinct (entries k s)) → cs ≡ declared_classes s
     → many_at (slice_get (places_of es cs) MOST_POLICIES)
     ≡ one_too_many (slice_get (numbered k s) MOST_POLICIES)
 counted_all k s es cs those all =
@@ -69,4 +70,4 @@ counted_all k s es cs those all =
     ∙ ap
     (λ x. many_at (slice_get (places_of (take (MOST_POLICIES + 1) (distinct (entries k s))) x)
     MOST_POLICIES)) all
-    ∙ many MOST_POLICIES k (distinct (entries k s)) (declared s)
+    ∙ many MOST_POLICIES k (distinct (entries k s)) (declared_classes s)

@@ -27,7 +27,7 @@ fn push_new<'a>(found: &mut Vec<&'a Entry>, entry: &'a Entry) -> Result<(), NoMe
 
 /// Each of these whose policy is not that of an earlier one, up to the first that is one too many.
 /// So no entry is compared with more than there may be.
-pub fn distinct<'a>(alloc: Global, entries: &'a [Entry]) -> Result<Vec<&'a Entry>, NoMemory>
+pub fn distinct_entries<'a>(alloc: Global, entries: &'a [Entry]) -> Result<Vec<&'a Entry>, NoMemory>
     ensures { IfOk result (λ found.
         all_of found.items ≡ take (MOST_POLICIES + 1) (distinct entries.now)) }
 {

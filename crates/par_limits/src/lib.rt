@@ -2,8 +2,8 @@
 //!
 //! The crate lists the policies of a program in the order in which its table numbers them, finds
 //! the first that is one too many, and tells the first limit or birth policy that is broken. The
-//! crate that makes the table takes the list from here. No names are read: those are looked at
-//! before, and so are the limits of actors and of locks.
+//! crate that makes the table takes the list from here, and the distinct ones of it. No names are
+//! read: those are looked at before, and so are the limits of actors and of locks.
 #![tactic(auto)]
 
 mod asked;
@@ -13,6 +13,7 @@ mod many;
 mod policies;
 mod same;
 
+pub use distinct::distinct_entries;
 pub use listed::entries;
 pub use par_resolved;
 pub use policies::first_fault;

@@ -4,7 +4,8 @@ ghost use Rattle.par_tree.specs.Shown.{source};
 ghost use Rattle.par_resolved.specs.Seen.{known_seen};
 ghost use Rattle.par_resolved.specs.Gathered.{all_of, classes_of};
 ghost use Rattle.par_resolved.specs.Written as said;
-ghost use Rattle.par_resolved.specs.Numbered.{query_entries, birth_entry, declared, entries};
+ghost use Rattle.par_resolved.specs.Numbered.{query_entries, birth_entry, entries};
+ghost use Rattle.par_resolved.specs.par_names.Declarations.{declared_classes};
 ghost use Rattle.par_limits.specs.Listed.{by_place_entries};
 
 use crate::asked::push_asked;
@@ -78,7 +79,7 @@ pub fn entries(
     classes: &[&ClassDecl],
 ) -> Result<Vec<Entry>, NoMemory>
     requires written { all_of exprs.now ≡ said.written (source program.now) }
-    requires declared { classes_of classes.now ≡ declared (source program.now) }
+    requires declared { classes_of classes.now ≡ declared_classes (source program.now) }
     ensures { IfOk result (λ found.
         found.items ≡ entries (known_seen known.now) (source program.now)) }
 {

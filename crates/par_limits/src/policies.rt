@@ -8,11 +8,12 @@ ghost use Rattle.par_resolved.specs.Sizes.{all_join_faults};
 ghost use Rattle.par_resolved.specs.Seen.{known_seen};
 ghost use Rattle.par_resolved.specs.Gathered.{all_of, classes_of};
 ghost use Rattle.par_resolved.specs.Written as said;
-ghost use Rattle.par_resolved.specs.Numbered.{numbered, declared};
+ghost use Rattle.par_resolved.specs.Numbered.{numbered};
+ghost use Rattle.par_resolved.specs.par_names.Declarations.{declared_classes};
 ghost use Rattle.par_resolved.specs.Births.{birth_faults};
 ghost use Rattle.par_resolved.specs.Limits.{one_too_many, table_faults, policy_faults};
 
-use crate::distinct::distinct;
+use crate::distinct::distinct_entries;
 use crate::listed::entries;
 use crate::many::check_many;
 use par_refusals::refusal::{Findings, Refusal};
@@ -37,14 +38,14 @@ fn check_policies(
     findings: &mut Findings,
 ) -> Result<(), NoMemory>
     requires written { all_of exprs.now ≡ said.written (source program.now) }
-    requires declared { classes_of classes.now ≡ declared (source program.now) }
+    requires declared { classes_of classes.now ≡ declared_classes (source program.now) }
     ensures { OnOk result (findings.new
         ≡ first_of findings.old
         (one_too_many (slice_get (numbered (known_seen known.now) (source program.now))
         MOST_POLICIES))) }
 {
     let entries = entries(alloc, known, program, exprs, classes)?;
-    let distinct = distinct(alloc, entries.as_slice())?;
+    let distinct = distinct_entries(alloc, entries.as_slice())?;
     check_many(alloc, distinct.as_slice(), classes, findings)
 }
 

@@ -1,51 +1,20 @@
 -- What lines give to channels.
-use Rattle.std.proofs.Common.{◌≡◌, ℕ, suc, Bool, true, false, cond, if◌then◌else◌, ◌&&◌, nat_lt, ℤ}
-use Rattle.std.proofs.Common.{List, [], ◌∷◌, length, Option, Some, None, slice_get, refl, sym, ap}
-use Rattle.std.proofs.Common.{◌∙◌, arith}
-use Rattle.std.proofs.lemmas.Bool.{lt-ltb, and_parts}
-use Rattle.std.proofs.lemmas.Bool.Decides.{nat_tests}
+use Rattle.std.proofs.Common.{◌≡◌, ℕ, suc, Bool, true, false, if◌then◌else◌, ◌&&◌, ℤ}
+use Rattle.std.proofs.Common.{List, [], ◌∷◌, Option, Some, None, slice_get, refl, sym, ap}
+use Rattle.std.proofs.Common.{◌∙◌}
+use Rattle.std.proofs.lemmas.Bool.{and_parts}
 use Rattle.std.proofs.lemmas.Slice.Eq.{bytes_eq-Decides}
-use Rattle.std.specs.List.{position, position_or_len}
+use Rattle.std.specs.List.{position}
 use Rattle.std.specs.Option.{option_map}
 use Rattle.std.specs.Str.{bytes_eq}
 use Rattle.par_values.specs.declared.inputs.ChannelInput.{ChannelInput}
 use Rattle.par_values.specs.Areas.{Name, InputLists, left, taken_from}
-use Rattle.par_secrecy.specs.Subject.{given, is_of}
-use Rattle.par_lines.specs.Lines.{channel_of, channels_of, is_channel, line_of, left_at, taken_at}
-use Rattle.par_lines.specs.Lines.{with_line, AreLeft}
-
--- ---- the first place
-
-shifted : (n m : ℕ) → nat_lt (suc n) (suc m) ≡ nat_lt n m
-shifted n m = grind (arith, nat_tests)
-
-module _ {A : Type 0} (test : A → Bool) (x : A) (xs : List A) where
-  first_passes : test x ≡ true → position test (x ∷ xs) ≡ Some 0
-  first_passes passes =
-      let place : position_or_len test (x ∷ xs) ≡ 0 = rw passes refl in
-      ap (λ (n : ℕ). cond (nat_lt n (length (x ∷ xs))) (Some n) None) place
-      ∙ ap (λ (b : Bool). cond b (Some 0) None) (lt-ltb 0 (length (x ∷ xs)) (omega arith))
-
-  first_fails : test x ≡ false → position test (x ∷ xs) ≡ option_map suc (position test xs)
-  first_fails fails =
-      let place : position_or_len test (x ∷ xs) ≡ suc (position_or_len test xs) =
-      rw fails (omega arith) in
-      ap (λ (n : ℕ). cond (nat_lt n (length (x ∷ xs))) (Some n) None) place
-      ∙ ap (λ (b : Bool). cond b (Some (suc (position_or_len test xs))) None)
-      (shifted (position_or_len test xs) (length xs))
-      ∙ in_case (nat_lt (position_or_len test xs) (length xs))
-    where
-      in_case : (b : Bool) → cond b (Some (suc (position_or_len test xs))) None
-          ≡ option_map suc (cond b (Some (position_or_len test xs)) None)
-      in_case true = refl
-      in_case false = refl
+use Rattle.par_secrecy.specs.Subject.{given, is_of, numbers_at}
+use Rattle.par_secrecy.proofs.Given.{first_passes, first_fails, given_first}
+use Rattle.par_lines.specs.Lines.{channel_of, channels_of, is_channel, line_of, taken_at, with_line}
+use Rattle.par_lines.specs.Lines.{AreLeft}
 
 -- ---- the line of a channel
-
-at_place : (place : Option ℕ) (line : ChannelInput) (lines : List ChannelInput)
-    → left_at (option_map suc place) (line ∷ lines) ≡ left_at place lines
-at_place None line lines = refl
-at_place (Some place) line lines = refl
 
 taken_later : (place : Option ℕ) (line : ChannelInput) (lines : List ChannelInput)
     → taken_at (option_map suc place) (line ∷ lines) ≡ line ∷ taken_at place lines
@@ -58,24 +27,26 @@ taken_later (Some place) line lines = in_case (slice_get lines place) refl
     in_case (Some l) is = refl
 
 module _ (class name : Name) where
+  line_place : (lines : List ChannelInput)
+      → position (is_of class name) lines ≡ line_of (channels_of lines) class name
+  line_place [] = refl
+  line_place (line ∷ lines) = in_case (is_of class name line) refl
+    where
+      in_case : (b : Bool) → is_of class name line ≡ b → position (is_of class name) (line ∷ lines)
+          ≡ line_of (channels_of (line ∷ lines)) class name
+      in_case true is =
+          first_passes (is_of class name) line lines is
+          ∙ sym (first_passes (is_channel class name) (channel_of line) (channels_of lines) is)
+      in_case false is =
+          first_fails (is_of class name) line lines is ∙ ap (option_map suc) (line_place lines)
+          ∙ sym (first_fails (is_channel class name) (channel_of line) (channels_of lines) is)
+
   -- the first line of a channel gives what the channel has
   pub given_there : (lines : List ChannelInput)
-      → given lines class name ≡ left_at (line_of (channels_of lines) class name) lines
-  given_there [] = refl
-  given_there (line ∷ lines) = in_case (is_of class name line) (given_there lines) refl
-    where
-      in_case : (b : Bool) → given lines class name
-          ≡ left_at (line_of (channels_of lines) class name) lines → is_of class name line ≡ b
-          → (if b then line.numbers else given lines class name)
-          ≡ left_at (line_of (channels_of (line ∷ lines)) class name) (line ∷ lines)
-      in_case true later is =
-          ap (λ (place : Option ℕ). left_at place (line ∷ lines))
-          (sym (first_passes (is_channel class name) (channel_of line) (channels_of lines) is))
-      in_case false later is =
-          later
-          ∙ sym (at_place (line_of (channels_of lines) class name) line lines)
-          ∙ ap (λ (place : Option ℕ). left_at place (line ∷ lines))
-          (sym (first_fails (is_channel class name) (channel_of line) (channels_of lines) is))
+      → given lines class name ≡ numbers_at (line_of (channels_of lines) class name) lines
+  given_there lines =
+      given_first class name (is_of class name) (λ line. refl) lines
+      ∙ ap (λ (place : Option ℕ). numbers_at place lines) (line_place lines)
 
   -- whether a channel is this one
   abbrev here : Name → Name → Bool
@@ -155,7 +126,7 @@ module _ (class name : Name) where
           ∙ behind (here c n) (is_of c n line) refl refl is
 
   module _ (lines : List ChannelInput) (inputs : InputLists) (are : AreLeft lines inputs) where
-    pub left_there : inputs class name ≡ left_at (line_of (channels_of lines) class name) lines
+    pub left_there : inputs class name ≡ numbers_at (line_of (channels_of lines) class name) lines
     left_there = are class name ∙ given_there lines
 
     pub left_less : AreLeft (taken_at (line_of (channels_of lines) class name) lines)

@@ -6,7 +6,8 @@ use Rattle.std.proofs.lemmas.List.{drop_all}
 use Rattle.std.proofs.lemmas.Option.{get_or_from_slice_get}
 use Rattle.par_values.specs.declared.inputs.ChannelInput.{ChannelInput}
 use Rattle.par_values.specs.Areas.{next, left}
-use Rattle.par_lines.specs.Lines.{Channel, channel_of, channels_of, without_first, left_of, left_at}
+use Rattle.par_secrecy.specs.Subject.{numbers_at}
+use Rattle.par_lines.specs.Lines.{Channel, channel_of, channels_of, without_first, left_of}
 use Rattle.par_lines.specs.Lines.{taken_at, with_line}
 
 -- ---- the numbers of one line
@@ -92,7 +93,7 @@ module _ (lines : List ChannelInput) (taken : List ℕ) (place many : ℕ) (line
       (line_there lines taken place many line is so)
 
   pub number_there : (number : ℤ) → slice_get line.numbers many ≡ Some number
-      → number ≡ next (left_at (Some place) (left_of lines taken))
+      → number ≡ next (numbers_at (Some place) (left_of lines taken))
   number_there number there =
       rw (line_there lines taken place many line is so)
       (sym (next_number many line.numbers
@@ -112,7 +113,7 @@ module _ (lines : List ChannelInput) (taken : List ℕ) (place many : ℕ) (line
     spent : length line.numbers ≤ many
     spent = behind line.numbers many none
 
-    pub spent_zero : pos 0 ≡ next (left_at (Some place) (left_of lines taken))
+    pub spent_zero : pos 0 ≡ next (numbers_at (Some place) (left_of lines taken))
     spent_zero =
         rw (line_there lines taken place many line is so)
         (ap next (sym (drop_all many line.numbers spent)))

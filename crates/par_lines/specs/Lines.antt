@@ -1,5 +1,5 @@
 -- What the lines of the input channels have left.
-use Rattle.std.specs.Prelude.{◌≡◌, ℕ, Bool, ◌&&◌, ℤ, List, [], ◌∷◌, map, Option, Some, None}
+use Rattle.std.specs.Prelude.{◌≡◌, ℕ, Bool, ◌&&◌, List, [], ◌∷◌, map, Option, Some, None}
 use Rattle.std.specs.Prelude.{slice_get, slice_set, drop}
 use Rattle.std.specs.List.{position}
 use Rattle.std.specs.Str.{bytes_eq}
@@ -34,16 +34,6 @@ unfoldable pub left_of : List ChannelInput → List ℕ → List ChannelInput
 left_of [] taken = []
 left_of (line ∷ lines) [] = line ∷ lines
 left_of (line ∷ lines) (many ∷ taken) = without_first many line ∷ left_of lines taken
-
--- the numbers of a line, none where there is no line
-abbrev pub numbers_of : Option ChannelInput → List ℤ
-numbers_of None = []
-numbers_of (Some line) = line.numbers
-
--- the numbers that the line at a place has left
-abbrev pub left_at : Option ℕ → List ChannelInput → List ℤ
-left_at None lines = []
-left_at (Some place) lines = numbers_of (slice_get lines place)
 
 -- the lines with this one at a place, where there is one
 abbrev pub with_line : ℕ → Option ChannelInput → List ChannelInput → List ChannelInput

@@ -1,6 +1,7 @@
 ghost use Rattle.std.specs.Prelude.{◌≡◌, ◌<◌, slice_get, IfOk, OnSome};
 ghost use Rattle.par_values.specs.Areas.{next};
-ghost use Rattle.par_lines.specs.Lines.{left_at, taken_at};
+ghost use Rattle.par_secrecy.specs.Subject.{numbers_at};
+ghost use Rattle.par_lines.specs.Lines.{taken_at};
 
 use par_base::list::List;
 use par_base::memory::NoMemory;
@@ -43,7 +44,7 @@ impl Lines {
 
     /// Takes the next number of the line at a place: 0 where it is spent or there is no line.
     pub fn next(&mut self, line: Option<usize>) -> i32
-        ensures number { result ≡ next (left_at line self.old) }
+        ensures number { result ≡ next (numbers_at line self.old) }
         ensures left { self.new ≡ taken_at line self.old }
     {
         let Some(place) = line else {

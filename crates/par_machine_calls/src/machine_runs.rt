@@ -248,13 +248,18 @@ fn code_goes_on(rt: HostRuntime) -> Result<(), Fail> {
     Ok(())
 }
 
-const CHANNELS: &[(&str, &[u8], Option<u32>)] = &[
+const CHANNELS: &[(&str, &[u8], Option<usize>)] = &[
     ("an input fits", b"ask", None),
     ("an output does not", b"show", Some(0)),
 ];
 
 // Whether an input for this channel of the class fits.
-fn fits(alloc: Global, linked: &Linked, channel: &[u8], unfit: Option<u32>) -> Result<bool, Fail> {
+fn fits(
+    alloc: Global,
+    linked: &Linked,
+    channel: &[u8],
+    unfit: Option<usize>,
+) -> Result<bool, Fail> {
     if !Name::is_name(channel) {
         return Ok(false);
     }

@@ -1,38 +1,24 @@
 -- What the lines give to a channel is found by its place, and by its numbers.
-use Rattle.std.proofs.Common.{◌≡◌, ℕ, ℤ, suc, ◌+◌, Bool, true, false, cond, if◌then◌else◌, ◌&&◌}
-use Rattle.std.proofs.Common.{List, [], ◌∷◌, Option, Some, None, refl, ap, sym, ◌∙◌, subst, arith}
+use Rattle.std.proofs.Common.{◌≡◌, ℕ, ℤ, Bool, ◌&&◌}
+use Rattle.std.proofs.Common.{List, [], Option, Some, None, refl, ap, sym, ◌∙◌}
 use Rattle.std.specs.Prelude.{slice_get}
 use Rattle.std.specs.Option.{option_map}
 use Rattle.std.specs.Borrow.{Bor}
-use Rattle.std.specs.List.{position, position_from}
+use Rattle.std.specs.List.{position}
 use Rattle.std.specs.Str.{bytes_eq}
 use Rattle.std.proofs.lemmas.Option.{slice_get-map}
-use Rattle.par_index.proofs.Places.{position-from, position-map}
+use Rattle.par_index.proofs.Places.{position-map}
 use Rattle.par_typed.specs.declared.table.ChannelInfo.{ChannelInfo}
 use Rattle.par_typed.specs.declared.table.ClassInfo.{ClassInfo}
 use Rattle.par_values.specs.Areas.{list_or_none}
 use Rattle.par_values.specs.declared.inputs.ChannelInput.{ChannelInput}
-use Rattle.par_secrecy.specs.Subject.{given}
+use Rattle.par_secrecy.specs.Subject.{given, numbers_of, numbers_at}
 use Rattle.par_secrecy.proofs.Carried.{bytes_swapped}
+use Rattle.par_secrecy.proofs.Given.{given_first}
 use Rattle.par_run_laws.specs.Names.{Name, channel_of, channel_member}
 use Rattle.par_run_laws.specs.Source.{given_to}
-use Rattle.par_meaning.specs.Lined.{Names, same_names, is_line, numbers_of, row_of, rows_of}
+use Rattle.par_meaning.specs.Lined.{Names, same_names, is_line, row_of, rows_of}
 use Rattle.par_meaning.specs.Lined.{row_shown, rows_shown, named, names_of, names_shown, shown_of}
-
--- numbers are those of the line at this place, where places are counted from i on
-abbrev IsAt : List ℤ → List ChannelInput → ℕ → Option ℕ → Type 0
-IsAt ns lines i None = ns ≡ []
-IsAt ns lines i (Some k) = (j : ℕ) × (k ≡ i + j) × (ns ≡ numbers_of (slice_get lines j))
-
-step : (line : ChannelInput) (lines : List ChannelInput) (i : ℕ) (here : Bool) (ns : List ℤ)
-    (o : Option ℕ)
-    → IsAt ns lines (i + 1) o
-    → IsAt (if here then line.numbers else ns) (line ∷ lines) i (cond here (Some i) o)
-step line lines i true ns o later = (0, omega arith, refl)
-step line lines i false ns None later = later
-step line lines i false ns (Some k) later =
-    let same = later.1 in let next : k ≡ i + suc later.0 = omega (arith, same) in
-    (suc later.0, next, later.2)
 
 module _ (class channel : Name) where
   either_way : (line : ChannelInput) → is_line class channel line
@@ -41,35 +27,21 @@ module _ (class channel : Name) where
       ap (λ b. b && bytes_eq channel line.channel) (bytes_swapped class line.class)
       ∙ ap (λ b. bytes_eq line.class class && b) (bytes_swapped channel line.channel)
 
-  found : (lines : List ChannelInput) (i : ℕ)
-      → IsAt (given lines class channel) lines i (position_from (is_line class channel) i lines)
-  found [] i = refl
-  found (line ∷ lines) i =
-      let rest = position_from (is_line class channel) (i + 1) lines in
-      let here = is_line class channel line in
-      subst (λ (k : Bool). IsAt (if k then line.numbers else given lines class channel)
-      (line ∷ lines) i (cond here (Some i) rest))
-      (either_way line)
-      (step line lines i here (given lines class channel) rest (found lines (i + 1)))
-
-  found_first : (lines : List ChannelInput) (o : Option ℕ) → o
-      ≡ position (is_line class channel) lines
-      → IsAt (given lines class channel) lines 0 o
-  found_first lines o is =
-      subst (IsAt (given lines class channel) lines 0)
-      (sym (is ∙ position-from (is_line class channel) lines)) (found lines 0)
+  at_first : (lines : List ChannelInput) (place : Option ℕ)
+      → place ≡ position (is_line class channel) lines
+      → given lines class channel ≡ numbers_at place lines
+  at_first lines place is =
+      given_first class channel (is_line class channel) either_way lines
+      ∙ ap (λ (place : Option ℕ). numbers_at place lines) (sym is)
 
   pub no_line : (lines : List ChannelInput) → None ≡ position (is_line class channel) lines
       → given lines class channel ≡ []
-  no_line lines is = found_first lines None is
+  no_line lines is = at_first lines None is
 
   pub line_there : (lines : List ChannelInput) (k : ℕ) → Some k
       ≡ position (is_line class channel) lines
       → given lines class channel ≡ numbers_of (slice_get lines k)
-  line_there lines k is =
-      let here = found_first lines (Some k) is in
-      let zero_more : here.0 ≡ k = let at = here.1 in omega (arith, at) in
-      here.2 ∙ ap (λ n. numbers_of (slice_get lines n)) zero_more
+  line_there lines k is = at_first lines (Some k) is
 
 module _ (lines : List ChannelInput) where
   in_row : (class : Name) (channels : List ChannelInfo) (k : ℕ)

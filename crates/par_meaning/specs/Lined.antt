@@ -1,5 +1,5 @@
 -- What the lines give to the input channels, by numbers.
-use Rattle.std.specs.Prelude.{◌≡◌, ℤ, Bool, ◌&&◌, List, [], map, Option, Some, None}
+use Rattle.std.specs.Prelude.{◌≡◌, ℤ, Bool, ◌&&◌, List, map}
 use Rattle.std.specs.Borrow.{Bor}
 use Rattle.std.specs.List.{position}
 use Rattle.std.specs.Str.{bytes_eq}
@@ -41,11 +41,6 @@ row_shown row = map (λ numbers. numbers.now) row
 
 abbrev pub rows_shown : List (List (Bor (List ℤ))) → List (List (List ℤ))
 rows_shown rows = map row_shown rows
-
--- the numbers of a line, none where there is no line
-abbrev pub numbers_of : Option ChannelInput → List ℤ
-numbers_of None = []
-numbers_of (Some line) = line.numbers
 
 abbrev pub names_of : ChannelInput → Name × Name
 names_of line = (line.class, line.channel)

@@ -1,10 +1,9 @@
 //! What the input channels are given.
 
 ghost use Rattle.std.specs.Prelude.{◌≡◌, slice_get, IfOk};
-ghost use Rattle.par_secrecy.specs.Subject.{given};
+ghost use Rattle.par_secrecy.specs.Subject.{given, numbers_of};
 ghost use Rattle.par_values.specs.Areas.{list_or_none};
-ghost use Rattle.par_meaning.specs.Lined.{AreLines, numbers_of, row_of, row_shown, rows_of};
-ghost use Rattle.par_meaning.specs.Lined.{rows_shown};
+ghost use Rattle.par_meaning.specs.Lined.{AreLines, row_of, row_shown, rows_of, rows_shown};
 
 use par_base::list::List;
 use par_base::memory::NoMemory;

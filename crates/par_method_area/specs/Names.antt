@@ -1,15 +1,11 @@
 -- The names of classes and their numbers.
-use Rattle.std.specs.Prelude.{◌≡◌, ℕ, ◌<◌, ◌^◌, List, length, map}
+use Rattle.std.specs.Prelude.{◌≡◌, ℕ, ◌<◌, ◌^◌, List, length}
 use Rattle.std.specs.Borrow.{Bor}
 use Rattle.std.specs.List.{position}
 use Rattle.std.specs.Str.{bytes_eq}
 use Rattle.indexmap.specs.IndexMap.{get}
 use Rattle.par_index.specs.declared.firsts.Firsts.{Firsts}
-use Rattle.par_index.specs.Texts.{same_text}
-
--- names as they are read
-abbrev pub texts : List (Bor (List ℕ)) → List (List ℕ)
-texts names = map (λ name. name.now) names
+use Rattle.par_index.specs.Texts.{same_text, texts}
 
 -- each name has its first place among these, of which there are few
 pub record AreNumbered (names : List (Bor (List ℕ))) (firsts : Firsts (Bor (List ℕ))) : Type 0 where

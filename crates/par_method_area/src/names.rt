@@ -7,8 +7,8 @@ ghost use Rattle.std.specs.Str.{bytes_eq};
 ghost use Rattle.par_single.specs.Descriptors.{kind_of};
 ghost use Rattle.par_single.specs.Members.{own_names};
 ghost use Rattle.par_step_laws.specs.Classes.{class_names};
+ghost use Rattle.par_index.specs.Texts.{texts};
 ghost use Rattle.par_method_area.specs.Fits.{fit_at, fit_or_any, gives_of};
-ghost use Rattle.par_method_area.specs.Names.{texts};
 
 use par_actions::{Fit, Gives};
 use par_base::memory::NoMemory;
@@ -37,7 +37,8 @@ impl<'f> Model for ClassNumbers<'f> {
 
     ghost Value = { List (List ℕ) };
 
-    ghost use Rattle.par_method_area.specs.Names.{texts, AreNumbered};
+    ghost use Rattle.par_index.specs.Texts.{texts};
+    ghost use Rattle.par_method_area.specs.Names.{AreNumbered};
 
     ghost view = { λ numbers. texts numbers.names.items };
 

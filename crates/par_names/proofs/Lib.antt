@@ -6,7 +6,6 @@ pub mod Behind
 pub mod Pushed
 pub mod ExprForms
 pub mod StmtForms
-pub mod Scopes
 pub mod Left
 pub mod Places
 pub use Rattle.par_span_laws.proofs as par_span_laws

@@ -8,7 +8,6 @@ pub mod Program
 pub mod Indexed
 pub mod Seen
 pub mod Earliest
-pub mod Scoped
 pub mod Places
 pub use Rattle.par_span_laws.specs.par_grammar as par_grammar
 pub use Rattle.par_index.specs as par_index

@@ -17,8 +17,8 @@ use crate::doubles::check_doubles;
 use crate::expr::{check_expr, check_value};
 use crate::policy::{check_class, check_lock, check_may_policy, check_type};
 use crate::rule::SECOND_NAME;
-use crate::scope::Scope;
 use crate::view::{Home, View};
+use par_index::NameStack;
 use par_index::par_base::memory::NoMemory;
 use par_refusals::refusal::Findings;
 use par_tree::decl::ParamDecl;
@@ -39,22 +39,22 @@ pub fn check_body<'a>(
     ensures { OnOk result (findings.new ≡ first_of findings.old (braces_faults (seen view.now)
         (home_seen home.now) (map (λ param. param.id.name) params.now) (braces body.now))) }
 {
-    let mut scope = Scope::new(alloc);
+    let mut scope = NameStack::new(alloc);
     declare_params(&mut scope, params)?;
     check_block(alloc, view, home, &mut scope, body, findings)
 }
 
-fn declare_params<'a>(scope: &mut Scope<'a>, params: &'a [ParamDecl]) -> Result<(), NoMemory>
+fn declare_params<'a>(scope: &mut NameStack<'a>, params: &'a [ParamDecl]) -> Result<(), NoMemory>
     ensures { OnOk result (scope.new ≡ scope.old ++ map (λ param. param.id.name) params.now) }
 {
     for param in params {
-        scope.declare(&param.id.name)?;
+        scope.push(&param.id.name)?;
     }
     Ok(())
 }
 
 #[tactic(auto, using(crate::proofs::Noted::note))]
-fn check_taken(scope: &Scope<'_>, id: &Ident, findings: &mut Findings)
+fn check_taken(scope: &NameStack<'_>, id: &Ident, findings: &mut Findings)
     ensures { findings.new ≡ first_of findings.old (taken_fault scope.now id.now) }
 {
     let is_taken = scope.has(&id.name);
@@ -65,7 +65,7 @@ fn check_taken(scope: &Scope<'_>, id: &Ident, findings: &mut Findings)
 fn check_local<'a>(
     view: &View<'_>,
     home: &Home<'_>,
-    scope: &mut Scope<'a>,
+    scope: &mut NameStack<'a>,
     local: &'a LocalDecl,
     findings: &mut Findings,
 ) -> Result<(), NoMemory>
@@ -77,7 +77,7 @@ fn check_local<'a>(
     check_type(view, &local.ty, findings);
     check_expr(view, home, scope, &local.value, findings);
     check_taken(scope, &local.id, findings);
-    scope.declare(&local.id.name)
+    scope.push(&local.id.name)
 }
 
 fn check_caught(
@@ -99,7 +99,7 @@ fn check_caught(
 fn check_both(
     view: &View<'_>,
     home: &Home<'_>,
-    scope: &Scope<'_>,
+    scope: &NameStack<'_>,
     one: &Expr,
     other: &Expr,
     findings: &mut Findings,
@@ -118,7 +118,7 @@ fn check_stmt<'a>(
     alloc: Global,
     view: &View<'_>,
     home: &Home<'_>,
-    scope: &mut Scope<'a>,
+    scope: &mut NameStack<'a>,
     s: &'a Stmt,
     findings: &mut Findings,
 ) -> Result<(), NoMemory>
@@ -161,7 +161,7 @@ fn check_arm<'a>(
     alloc: Global,
     view: &View<'_>,
     home: &Home<'_>,
-    scope: &mut Scope<'a>,
+    scope: &mut NameStack<'a>,
     block: &'a Block,
     test: &Expr,
     findings: &mut Findings,
@@ -182,7 +182,7 @@ fn check_block<'a>(
     alloc: Global,
     view: &View<'_>,
     home: &Home<'_>,
-    scope: &mut Scope<'a>,
+    scope: &mut NameStack<'a>,
     block: &'a Block,
     findings: &mut Findings,
 ) -> Result<(), NoMemory>
@@ -192,7 +192,7 @@ fn check_block<'a>(
 {
     let outside = scope.len();
     check_stmts(alloc, view, home, scope, block.stmts.as_slice(), findings)?;
-    scope.leave(outside);
+    scope.truncate(outside);
     Ok(())
 }
 
@@ -202,7 +202,7 @@ fn check_else<'a>(
     alloc: Global,
     view: &View<'_>,
     home: &Home<'_>,
-    scope: &mut Scope<'a>,
+    scope: &mut NameStack<'a>,
     other: &'a Option<Box<Stmt>>,
     findings: &mut Findings,
 ) -> Result<(), NoMemory>
@@ -215,7 +215,7 @@ fn check_else<'a>(
         Some(s) => {
             let outside = scope.len();
             check_stmt(alloc, view, home, scope, s, findings)?;
-            scope.leave(outside);
+            scope.truncate(outside);
             Ok(())
         }
     }
@@ -227,7 +227,7 @@ fn check_else_block<'a>(
     alloc: Global,
     view: &View<'_>,
     home: &Home<'_>,
-    scope: &mut Scope<'a>,
+    scope: &mut NameStack<'a>,
     other: &'a Option<Block>,
     findings: &mut Findings,
 ) -> Result<(), NoMemory>
@@ -247,7 +247,7 @@ fn check_stmts<'a>(
     alloc: Global,
     view: &View<'_>,
     home: &Home<'_>,
-    scope: &mut Scope<'a>,
+    scope: &mut NameStack<'a>,
     stmts: &'a [Stmt],
     findings: &mut Findings,
 ) -> Result<(), NoMemory>
@@ -267,7 +267,7 @@ fn check_catches<'a>(
     alloc: Global,
     view: &View<'_>,
     home: &Home<'_>,
-    scope: &mut Scope<'a>,
+    scope: &mut NameStack<'a>,
     catches: &'a [CatchTree],
     findings: &mut Findings,
 ) -> Result<(), NoMemory>
@@ -288,7 +288,7 @@ fn check_catch<'a>(
     alloc: Global,
     view: &View<'_>,
     home: &Home<'_>,
-    scope: &mut Scope<'a>,
+    scope: &mut NameStack<'a>,
     catch: &'a CatchTree,
     findings: &mut Findings,
 ) -> Result<(), NoMemory>

@@ -12,8 +12,8 @@ ghost use Rattle.par_names.specs.Seen.{seen, home_seen};
 
 use crate::policy::check_class;
 use crate::rule::UNKNOWN_NAME;
-use crate::scope::Scope;
 use crate::view::{Home, View};
+use par_index::NameStack;
 use par_index::par_base::name::Name;
 use par_refusals::refusal::Findings;
 use par_tree::expr::{Expr, ExprKind};
@@ -34,7 +34,7 @@ fn check_own(in_static: bool, member: Option<bool>, at: u32, findings: &mut Find
 }
 
 #[tactic(auto, using(crate::proofs::Noted::note))]
-fn check_name(home: &Home<'_>, scope: &Scope<'_>, name: &Name, at: u32, findings: &mut Findings)
+fn check_name(home: &Home<'_>, scope: &NameStack<'_>, name: &Name, at: u32, findings: &mut Findings)
     ensures { findings.new ≡ first_of findings.old
         (name_fault (home_seen home.now) scope.now name.now at) }
 {
@@ -46,7 +46,7 @@ fn check_name(home: &Home<'_>, scope: &Scope<'_>, name: &Name, at: u32, findings
 
 // Before a member a simple name that is no local and no field is a class.
 #[tactic(auto, using(crate::proofs::ExprForms::form), unfolding(crate::specs::Exprs::class_before))]
-fn class_before<'e>(home: &Home<'_>, scope: &Scope<'_>, e: &'e Expr) -> Option<&'e Name>
+fn class_before<'e>(home: &Home<'_>, scope: &NameStack<'_>, e: &'e Expr) -> Option<&'e Name>
     ensures { option_copied result ≡ class_before (home_seen home.now) scope.now (shown e.now) }
 {
     match &e.kind {
@@ -127,7 +127,7 @@ fn check_static_callee(
 pub fn check_expr(
     view: &View<'_>,
     home: &Home<'_>,
-    scope: &Scope<'_>,
+    scope: &NameStack<'_>,
     e: &Expr,
     findings: &mut Findings,
 )
@@ -162,7 +162,7 @@ pub fn check_expr(
 fn check_callee(
     view: &View<'_>,
     home: &Home<'_>,
-    scope: &Scope<'_>,
+    scope: &NameStack<'_>,
     of: &Option<Box<Expr>>,
     method: &Ident,
     findings: &mut Findings,
@@ -187,7 +187,7 @@ fn check_callee(
 fn check_args(
     view: &View<'_>,
     home: &Home<'_>,
-    scope: &Scope<'_>,
+    scope: &NameStack<'_>,
     args: &[Expr],
     findings: &mut Findings,
 )
@@ -204,7 +204,7 @@ fn check_args(
 pub fn check_value(
     view: &View<'_>,
     home: &Home<'_>,
-    scope: &Scope<'_>,
+    scope: &NameStack<'_>,
     value: &Option<Expr>,
     findings: &mut Findings,
 )

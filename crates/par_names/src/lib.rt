@@ -14,7 +14,6 @@ mod lookup;
 mod named;
 mod policy;
 mod rule;
-mod scope;
 mod view;
 
 pub use body::check_body;

@@ -10,7 +10,7 @@ use Rattle.par_tree.specs.declared.policy.PolicyExpr.{PolicyExpr}
 use Rattle.par_tree.specs.declared.decl.LockDecl.{LockDecl}
 use Rattle.par_tree.specs.declared.decl.FieldDecl.{FieldDecl}
 use Rattle.par_tree.specs.Plain.{Class, Source}
-use Rattle.par_names.specs.Declarations.{locks, lock_named, classes_in}
+use Rattle.par_names.specs.Declarations.{locks, lock_named, declared_classes}
 use Rattle.par_resolved.specs.declared.entries.Entry.{Entry}
 use Rattle.par_resolved.specs.Policies.{Known, bottom, policy_of}
 use Rattle.par_resolved.specs.Written.{written, queried}
@@ -53,9 +53,6 @@ by_place (e ∷ es) = with_entry e (by_place es)
 
 -- ---- all, in the order of the table
 
-abbrev pub declared : Source → List Class
-declared source = flat_map classes_in source
-
 abbrev pub birth_entry : Known → Class → Entry
 birth_entry k c = record { at = c.id.at; policy = birth_policy k c.birth c.fields }
 
@@ -64,7 +61,7 @@ abbrev pub entries : Known → Source → List Entry
 entries k source =
     record { at = 0; policy = bottom k.numbers }
     ∷ by_place (map (written_entry k) (written source) ++ query_entries source)
-    ++ map (birth_entry k) (declared source)
+    ++ map (birth_entry k) (declared_classes source)
 
 -- one more, unless its policy is there
 abbrev pub with_new : List Entry → Entry → List Entry
@@ -77,7 +74,8 @@ distinct es = fold with_new [] es
 -- ---- inferred fields, each with an entry of its own
 
 abbrev pub inferred_fields : Source → List FieldDecl
-inferred_fields source = filter (λ f. f.inferred) (flat_map (λ c. c.fields) (declared source))
+inferred_fields source =
+    filter (λ f. f.inferred) (flat_map (λ c. c.fields) (declared_classes source))
 
 abbrev pub inferred_entry : Known → FieldDecl → Entry
 inferred_entry k f = record { at = f.id.at; policy = bottom k.numbers }

@@ -4,7 +4,7 @@ ghost use Rattle.par_tree.specs.Shown.{source, class_of};
 ghost use Rattle.par_names.specs.par_index.Texts.{texts};
 ghost use Rattle.par_names.specs.Declarations as names;
 ghost use Rattle.par_resolved.specs.Gathered.{all_of, classes_of};
-ghost use Rattle.par_resolved.specs.Numbered.{declared};
+ghost use Rattle.par_names.specs.Declarations.{declared_classes};
 
 use par_base::memory::NoMemory;
 use par_tree::decl::{ClassDecl, Decl, LockDecl, PolicyDecl, Program};
@@ -71,7 +71,8 @@ pub fn policies(alloc: Global, program: &Program) -> Result<Vec<&PolicyDecl>, No
 /// The declared classes.
 #[tactic(auto, using(crate::proofs::Pushes::pushes))]
 pub fn classes(alloc: Global, program: &Program) -> Result<Vec<&ClassDecl>, NoMemory>
-    ensures { IfOk result (λ found. classes_of found.items ≡ declared (source program.now)) }
+    ensures { IfOk result (λ found.
+        classes_of found.items ≡ declared_classes (source program.now)) }
 {
     let mut found = Vec::new(alloc);
     for decl in program.decls.as_slice() {

@@ -1,4 +1,3 @@
 pub mod Few
 pub mod Forms
 pub mod Numbers
-pub mod Stacked

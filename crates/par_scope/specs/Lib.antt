@@ -1,4 +1,3 @@
-pub mod Found
 pub mod Names
 pub mod Indexed
 pub mod Locals

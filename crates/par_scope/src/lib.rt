@@ -11,4 +11,3 @@ pub mod locals;
 pub mod meaning;
 mod member_index;
 pub mod members;
-mod stack;

@@ -4,9 +4,9 @@ ghost use Rattle.std.specs.Prelude.{◌≡◌, take, length, OnOk};
 ghost use Rattle.par_scope.specs.Names.{number_in};
 ghost use Rattle.par_scope.specs.Locals.{no_locals, declared, local_named};
 
-use crate::stack::NameStack;
 use par_base::memory::NoMemory;
 use par_base::name::Name;
+use par_index::NameStack;
 use par_typed::ty::Ty;
 use std::alloc::Global;
 use std::marker::Model;
@@ -29,17 +29,16 @@ pub struct Locals<'a> {
 
 impl<'a> Model for Locals<'a> {
     ghost use Rattle.std.specs.Prelude.{◌≡◌, length};
-    ghost use Rattle.par_index.specs.Texts.{texts};
     ghost use Rattle.par_scope.specs.Locals.{Scope};
 
     ghost Value = { Scope };
 
     ghost view = { λ scope. record {
-      names = texts scope.names.names.items;
+      names = scope.names;
       slots = scope.slots.items;
     } };
 
-    ghost invariant = { λ scope. length scope.names.names.items ≡ length scope.slots.items };
+    ghost invariant = { λ scope. length scope.names ≡ length scope.slots.items };
 }
 
 impl<'a> Locals<'a> {

@@ -4,5 +4,6 @@ pub mod Seeing
 pub mod Examples
 pub mod FileExamples
 pub mod Carried
+pub mod Given
 pub mod Fitting
 pub use Rattle.par_policy.proofs as par_policy

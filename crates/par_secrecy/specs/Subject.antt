@@ -1,6 +1,6 @@
 -- What is watched: the runs of a program, and its declared policies.
 use Rattle.std.specs.Prelude.{◌≡◌, ℕ, Bool, ◌&&◌, if◌then◌else◌, List, [], ◌∷◌, ℤ, FitsSigned, All}
-use Rattle.std.specs.Prelude.{IsTrue, false}
+use Rattle.std.specs.Prelude.{IsTrue, false, Option, Some, None, slice_get}
 use Rattle.std.specs.List.{AllPairs, list_any}
 use Rattle.std.specs.Int.{w32}
 use Rattle.std.specs.Str.{bytes_eq}
@@ -40,6 +40,16 @@ abbrev pub given : List ChannelInput → Name → Name → List ℤ
 given [] class name = []
 given (line ∷ lines) class name =
     if is_of class name line then line.numbers else given lines class name
+
+-- the numbers of a line, none where there is no line
+abbrev pub numbers_of : Option ChannelInput → List ℤ
+numbers_of None = []
+numbers_of (Some line) = line.numbers
+
+-- the numbers of the line at a place
+abbrev pub numbers_at : Option ℕ → List ChannelInput → List ℤ
+numbers_at None lines = []
+numbers_at (Some place) lines = numbers_of (slice_get lines place)
 
 -- The inputs name only input channels of the subject, each once, and hold numbers of 32 bits alone.
 pub record Fits (subject : Subject) (inputs : Inputs) : Type 0 where

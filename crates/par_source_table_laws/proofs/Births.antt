@@ -23,7 +23,7 @@ use Rattle.par_typed_laws.specs.par_resolved.Written.{method_policies}
 use Rattle.par_typed_laws.specs.par_resolved.Births.{policy_or_bottom, is_known_part, part_policies}
 use Rattle.par_typed_laws.specs.par_resolved.Births.{meet_of}
 use Rattle.par_typed_laws.specs.par_resolved.Births.{birth_policy, is_below, birth_faults}
-use Rattle.par_typed_laws.specs.par_resolved.Numbered.{declared, numbered}
+use Rattle.par_typed_laws.specs.par_resolved.Numbered.{numbered}
 use Rattle.par_typed_laws.specs.par_resolved.Limits.{one_too_many}
 use Rattle.par_typed_laws.specs.par_resolved.Resolved.{Resolved, resolved, field_infos, may_number}
 use Rattle.par_typed_laws.specs.par_resolved.Resolved.{class_info}
@@ -182,13 +182,13 @@ module _ (source : Source) where
 
 pub births_below : BirthsAreBelow
 births_below source none =
-    let faults = none_of (λ c. birth_faults (known source) c c.birth) (declared source)
+    let faults = none_of (λ c. birth_faults (known source) c c.birth) (declared_classes source)
     (none_right (one_too_many (slice_get (numbered (known source) source) MOST_POLICIES)) _
     (table_kept source none)) in (
       tt,
       (
         tt,
-        classes_below source _ _ (declared source) faults (births_stand source)
+        classes_below source _ _ (declared_classes source) faults (births_stand source)
             (of_classes (IsWritten source) source (written_stand source)),
       ),
     )

@@ -24,7 +24,8 @@ use Rattle.par_typed_laws.specs.par_resolved.Written.{written}
 use Rattle.par_typed_laws.specs.par_resolved.Births.{birth_policy, policy_or_bottom}
 use Rattle.par_typed_laws.specs.par_resolved.Numbered.{same_clause, same_policy, written_entry}
 use Rattle.par_typed_laws.specs.par_resolved.Numbered.{query_entries}
-use Rattle.par_typed_laws.specs.par_resolved.Numbered.{with_entry, by_place, declared, birth_entry}
+use Rattle.par_typed_laws.specs.par_resolved.Numbered.{with_entry, by_place, birth_entry}
+use Rattle.par_names.specs.Declarations.{declared_classes}
 use Rattle.par_typed_laws.specs.par_resolved.Numbered.{entries}
 use Rattle.par_typed_laws.specs.par_resolved.Numbered.{with_new, distinct, inferred_fields}
 use Rattle.par_typed_laws.specs.par_resolved.Numbered.{inferred_entry}
@@ -162,7 +163,7 @@ module _ (source : Source) where
   placed = map (written_entry k) (written source) ++ query_entries source
 
   abbrev births : List Entry
-  births = map (birth_entry k) (declared source)
+  births = map (birth_entry k) (declared_classes source)
 
   pub policies_are : (table_of source).policies
       ≡ shared_policies k source ++ policies_of (map (inferred_entry k) (inferred_fields source))
@@ -196,9 +197,10 @@ module _ (source : Source) where
         stand (e ∷ es) h = (entry_stands (policy_of k e) h.0, stand es h.1)
 
   pub births_stand : AllByRecursion (λ c. Stands source (birth_policy k c.birth c.fields))
-      (declared source)
+      (declared_classes source)
   births_stand =
-      stand (declared source) (all_unmapped HasEntry (birth_entry k) (declared source)
+      stand (declared_classes source)
+      (all_unmapped HasEntry (birth_entry k) (declared_classes source)
       (all_right HasEntry (by_place placed) births behind_first)) where
         stand : (cs : List Class) → AllByRecursion (λ c. HasEntry (birth_entry k c)) cs
             → AllByRecursion (λ c. Stands source (birth_policy k c.birth c.fields)) cs

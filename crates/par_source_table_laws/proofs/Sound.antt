@@ -37,7 +37,8 @@ use Rattle.par_typed_laws.specs.par_resolved.Written.{method_policies}
 use Rattle.par_typed_laws.specs.par_resolved.declared.entries.Entry.{Entry}
 use Rattle.par_typed_laws.specs.par_resolved.Numbered.{same_policy, has_no_policy, written_entry}
 use Rattle.par_typed_laws.specs.par_resolved.Numbered.{query_entries}
-use Rattle.par_typed_laws.specs.par_resolved.Numbered.{with_entry, by_place, declared, birth_entry}
+use Rattle.par_typed_laws.specs.par_resolved.Numbered.{with_entry, by_place, birth_entry}
+use Rattle.par_names.specs.Declarations.{declared_classes}
 use Rattle.par_typed_laws.specs.par_resolved.Numbered.{entries}
 use Rattle.par_typed_laws.specs.par_resolved.Numbered.{with_new, distinct, inferred_fields}
 use Rattle.par_typed_laws.specs.par_resolved.Numbered.{inferred_entry}
@@ -329,13 +330,13 @@ module _ (source : Source) where
         let known = all_known know in (
           bottom_sound k known,
           of_both Good (by_place (map (written_entry k) (written source) ++ query_entries source))
-              (map (birth_entry k) (declared source))
+              (map (birth_entry k) (declared_classes source))
               (in_places _ (of_both Good (map (written_entry k) (written source))
               (query_entries source)
               (all_mapped (Knows source) Good (written_entry k) (written source)
               (policy_sound k known) know) queries_good))
               (all_mapped (λ c. AllByRecursion (Knows source) (class_policies c)) Good
-              (birth_entry k) (declared source) (birth_sound k known)
+              (birth_entry k) (declared_classes source) (birth_sound k known)
               (of_classes (Knows source) source know)),
         )
 

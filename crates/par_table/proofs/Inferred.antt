@@ -8,9 +8,9 @@ use Rattle.std.proofs.lemmas.List.Elements.{filter-append}
 use Rattle.std.proofs.lemmas.List.Sums.{sum_by-cons, length-filter}
 use Rattle.par_tree.specs.declared.decl.FieldDecl.{FieldDecl}
 use Rattle.par_tree.specs.Plain.{Class, Source}
-use Rattle.par_names.specs.Declarations.{classes}
+use Rattle.par_names.specs.Declarations.{classes, declared_classes}
 use Rattle.par_resolved.specs.Policies.{Known}
-use Rattle.par_resolved.specs.Numbered.{declared, entries, distinct, inferred_fields}
+use Rattle.par_resolved.specs.Numbered.{entries, distinct, inferred_fields}
 use Rattle.par_resolved.specs.Numbered.{inferred_entry, numbered, shared_policies}
 use Rattle.par_table.specs.Room.{inferred_count}
 use Rattle.par_table.specs.Parts.{inferred_policy, inferred_policies}
@@ -37,7 +37,7 @@ pub all_numbered : (k : Known) (s : Source) → map (λ e. e.policy) (numbered k
 all_numbered k s =
     map-append (λ e. e.policy) (distinct (entries k s)) (map (inferred_entry k) (inferred_fields s))
     ∙ ap (λ ps. shared_policies k s ++ ps)
-    (of_fields k (inferred_fields s) ∙ of_classes k (declared s))
+    (of_fields k (inferred_fields s) ∙ of_classes k (declared_classes s))
 
 counted : (k : Known) (cs : List Class)
     → length (flat_map (λ c. inferred_policies k c.fields) cs) ≡ sum_by inferred_count cs

@@ -22,8 +22,7 @@ use Rattle.par_names.specs.Program.{name_faults}
 use Rattle.par_faults.specs.declared.limit.Limit.{Limit}
 use Rattle.par_faults.specs.declared.limit.TheConstants.{CLASSES}
 use Rattle.par_faults.specs.Limits.{told, one_too_many, class_places}
-use Rattle.par_faults.specs.Limits.{declared_limits}
-use Rattle.par_faults.specs.Limits.{count_faults}
+use Rattle.par_faults.specs.Limits.{declared_limits, class_counts, count_faults}
 use Rattle.par_resolved.specs.declared.limits.TheConstants.{MOST_POLICIES}
 use Rattle.par_resolved.specs.declared.entries.Entry.{Entry}
 use Rattle.par_resolved.specs.Policies.{known}
@@ -132,9 +131,9 @@ pub fits : (s : Source) → all_faults s ≡ [] → source_size s ≤ LONGEST_SO
 fits s none small =
     let limits : limit_faults s ≡ [] = later_pass (name_faults s) (limit_faults s) none in
     let counts : count_faults s ≡ [] = left_none (count_faults s) (policies_faults s) limits in
-    let declared_only =
-    left_none (declared_limits s ++ one_too_many CLASSES (class_places s)) _ counts in
-    let declared_first : declared_limits s ≡ [] = left_none (declared_limits s) _ declared_only in
+    let declared_first : declared_limits s ≡ [] =
+    left_none (declared_limits s) (class_counts s) counts in
+    let of_classes : class_counts s ≡ [] = right_none (declared_limits s) _ counts in
     let written : where_none (declared_limits s) (policy_faults s) ≡ [] =
     later_pass (all_literal_faults s) _ (right_none (count_faults s) (policies_faults s) limits) in
     let of_policies : policy_faults s ≡ [] =
@@ -146,6 +145,6 @@ fits s none small =
           has_few s
           (sym (subst (λ fs. first_of None fs ≡ None) (sym declared_first) (first_of_none None)));
       few_policies = few_policies (numbered (known s) s) (left_none _ _ of_table);
-      few_classes = omega (arith, few_classes s (right_none (declared_limits s) _ declared_only));
+      few_classes = omega (arith, few_classes s (left_none _ _ of_classes));
       few_nodes = omega (arith, all_nodes s, small);
     }

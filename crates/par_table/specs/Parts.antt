@@ -1,8 +1,7 @@
 -- Parts of a table, as they are made one after the other.
-use Rattle.std.specs.Prelude.{ℕ, ◌+◌, Bool, ◌||◌, if◌then◌else◌, List, [], ◌∷◌, ◌++◌, map, filter}
+use Rattle.std.specs.Prelude.{ℕ, ◌+◌, Bool, ◌||◌, if◌then◌else◌, List, map, filter}
 use Rattle.std.specs.Prelude.{Some, None}
 use Rattle.std.specs.Option.{is_some}
-use Rattle.std.specs.List.{list_any}
 use Rattle.par_policy.specs.declared.clauses.Clause.{Clause}
 use Rattle.par_policy.specs.Numbers.{has}
 use Rattle.par_tree.specs.declared.decl.LockDecl.{LockDecl}
@@ -10,12 +9,6 @@ use Rattle.par_tree.specs.declared.decl.FieldDecl.{FieldDecl}
 use Rattle.par_typed.specs.declared.table.GroundLock.{GroundLock}
 use Rattle.par_resolved.specs.Numbers.{place_in_family}
 use Rattle.par_resolved.specs.Policies.{Known, bottom}
-use Rattle.par_resolved.specs.Numbered.{same_policy}
-
--- one more policy, unless it is there
-abbrev pub with_policy : List (List Clause) → List Clause → List (List Clause)
-with_policy policies p =
-    if list_any (same_policy p) policies then policies else policies ++ p ∷ []
 
 -- an inferred policy begins as `bottom`
 abbrev pub inferred_policy : Known → FieldDecl → List Clause

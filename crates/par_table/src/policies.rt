@@ -1,14 +1,15 @@
 //! The policies of a table, each once.
 
-ghost use Rattle.std.specs.Prelude.{◌≡◌, ◌++◌, map, flat_map, IfOk, OnOk};
+ghost use Rattle.std.specs.Prelude.{◌≡◌, ◌≤◌, ◌++◌, length, map, flat_map, IfOk, OnOk};
 ghost use Rattle.std.specs.List.{position};
 ghost use Rattle.par_tree.specs.Shown.{source};
 ghost use Rattle.par_resolved.specs.Seen.{known_seen};
-ghost use Rattle.par_resolved.specs.Gathered.{classes_of};
-ghost use Rattle.par_resolved.specs.Numbered.{same_policy, distinct, shared_policies};
-ghost use Rattle.par_table.specs.Parts.{with_policy, inferred_policies};
+ghost use Rattle.par_resolved.specs.declared.limits.TheConstants.{MOST_POLICIES};
+ghost use Rattle.par_resolved.specs.Gathered.{all_of, classes_of};
+ghost use Rattle.par_resolved.specs.Numbered.{same_policy, numbered, shared_policies};
+ghost use Rattle.par_table.specs.Parts.{inferred_policies};
 
-use par_limits::{entries, same_policy};
+use par_limits::{distinct_entries, entries, same_policy};
 use par_policy::Policy;
 use par_resolved::NoMemory;
 use par_resolved::declared::classes;
@@ -25,23 +26,14 @@ pub fn place_of(policies: &[Policy], policy: &Policy) -> Option<usize>
     policies.iter().position(|other| same_policy(policy, other))
 }
 
-fn push_distinct(found: &mut Vec<Policy>, policy: &Policy) -> Result<(), NoMemory>
-    ensures { OnOk result (found.new.items ≡ with_policy found.old.items policy.now) }
-{
-    if place_of(found.as_slice(), policy).is_some() {
-        return Ok(());
-    }
-    found.push(policy.clone()?)?;
-    Ok(())
-}
-
-fn distinct(alloc: Global, entries: &[Entry]) -> Result<Vec<Policy>, NoMemory>
-    ensures { IfOk result (λ found.
-        found.items ≡ map (λ e. e.policy) (distinct entries.now)) }
+// The policies of these entries.
+#[tactic(auto, using(par_resolved::proofs::Pushes::pushes))]
+fn policies_of(alloc: Global, entries: &[&Entry]) -> Result<Vec<Policy>, NoMemory>
+    ensures { IfOk result (λ found. found.items ≡ map (λ e. e.policy) (all_of entries.now)) }
 {
     let mut found = Vec::new(alloc);
     for entry in entries {
-        push_distinct(&mut found, &entry.policy)?;
+        found.push(entry.policy.clone()?)?;
     }
     Ok(found)
 }
@@ -52,13 +44,15 @@ pub fn shared_policies(
     known: &Known<'_>,
     program: &Program,
 ) -> Result<Vec<Policy>, NoMemory>
+    requires { length (numbered (known_seen known.now) (source program.now)) ≤ MOST_POLICIES }
     ensures { IfOk result (λ found.
         found.items ≡ shared_policies (known_seen known.now) (source program.now)) }
 {
     let exprs = written(alloc, program)?;
     let classes = classes(alloc, program)?;
     let entries = entries(alloc, known, program, exprs.as_slice(), classes.as_slice())?;
-    distinct(alloc, entries.as_slice())
+    let distinct = distinct_entries(alloc, entries.as_slice())?;
+    policies_of(alloc, distinct.as_slice())
 }
 
 #[tactic(auto, using(par_resolved::proofs::Pushes::pushes))]

@@ -26,7 +26,7 @@ use Rattle.par_secrecy.specs.Shows.{Shows}
 use Rattle.par_secrecy.proofs.Carried.{shown_files_are_secure}
 use Rattle.par_alike.specs.Subject.{subject}
 use Rattle.par_step_laws.specs.Target.{target}
-use Rattle.par_loader.specs.Reads.{Classes, IsSpelled}
+use Rattle.par_loader.specs.Reads.{Classes, IsSpelled, class_file}
 use Rattle.par_loader.specs.Judged.{judged}
 use Rattle.par_loader.proofs.Counting.{rose_since}
 use Rattle.par_code_form.specs.Named.{of_class, class_word}
@@ -49,7 +49,7 @@ use Rattle.par_verified_file_laws.proofs.Whole.{loaded_files_are_framed, loaded_
 use Rattle.par_verified_file_laws.proofs.All.{all_files_are_verified}
 use Rattle.par_observer.specs.Trees.{IsWellFormed}
 use Rattle.par_tool.specs.declared.answer.Answer.TheVariants.{Compiled, WriteFault}
-use Rattle.par_tool.specs.Outside.{Text, MakesAtMost, class_file}
+use Rattle.par_tool.specs.Outside.{Text, MakesAtMost}
 use Rattle.par_tool.specs.Sources.{IsSecureAs, RunsAsProgram, LinkTogether, AreClassesOf}
 use Rattle.par_tool.specs.Sources.{MOST_FILES, ReadSource, CompiledSo, StopsThere, IsCutShort}
 use Rattle.par_tool.proofs.Spending.{read_and_writes, read_and_few}

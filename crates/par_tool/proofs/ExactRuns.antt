@@ -23,8 +23,8 @@ use Rattle.par_tool.specs.declared.answer.Answer.TheVariants.{Absent, ReadFault,
 use Rattle.par_tool.specs.declared.answer.Answer.TheVariants.{TooLong, BadClass}
 use Rattle.par_tool.specs.declared.answer.Answer.TheVariants.{BadInputs, NoActor}
 use Rattle.par_tool.specs.Texts.{status}
-use Rattle.par_tool.specs.Outside.{Text, NotRead, IsThere, IsMissing, IsOverlong, class_file}
-use Rattle.par_loader.specs.Reads.{Classes, AreOf}
+use Rattle.par_tool.specs.Outside.{Text, NotRead, IsThere, IsMissing, IsOverlong}
+use Rattle.par_loader.specs.Reads.{class_file, Classes, AreOf}
 use Rattle.par_loader.specs.Found as found
 use Rattle.par_loader.specs.Loaded as loaded
 use Rattle.par_loader.specs.Loaded.{Loaded, Load, main_step}

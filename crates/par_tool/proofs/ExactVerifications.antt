@@ -13,7 +13,7 @@ use Rattle.par_kinds.specs.declared.frame.PlacedFrame.{PlacedFrame}
 use Rattle.par_verify.specs.par_frames.Broken.{AreFrames, AreFramesIf, AreGivenIn, HasFrames}
 use Rattle.par_verify.specs.par_verify_laws.Verified.{AllFrames, AreFramesOf, AreVerified}
 use Rattle.par_framed_program.specs.Framed.{AreFramed, IsUnframed}
-use Rattle.par_loader.specs.Reads.{Classes, AreOf}
+use Rattle.par_loader.specs.Reads.{Classes, AreOf, class_file}
 use Rattle.par_loader.specs.Loaded as loaded
 use Rattle.par_loader.specs.Loaded.{Loaded, Load}
 use Rattle.par_loader.specs.Judged.{judged}
@@ -22,7 +22,7 @@ use Rattle.par_tool.specs.declared.answer.Answer.{Answer}
 use Rattle.par_tool.specs.declared.answer.Answer.TheVariants.{Verified, Absent, ReadFault, TooLong}
 use Rattle.par_tool.specs.declared.answer.Answer.TheVariants.{BadClass}
 use Rattle.par_tool.specs.Texts.{status}
-use Rattle.par_tool.specs.Outside.{Text, IsThere, class_file}
+use Rattle.par_tool.specs.Outside.{Text, IsThere}
 use Rattle.par_tool.specs.Classes.{ends_so, AreLinked}
 use Rattle.par_tool.specs.Verifications.{AreFit, IsUnverifiable, VerifiedSo}
 use Rattle.par_tool.specs.Exactly.{IsSaidBy, IsStatus, TellsVerification, TellsVerified}

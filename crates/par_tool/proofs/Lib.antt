@@ -1,7 +1,6 @@
 pub mod Statuses
 pub mod Beginning
 pub mod Loads
-pub mod Misfits
 pub mod Linked
 pub mod Inputs
 pub mod ExactSources
@@ -22,7 +21,6 @@ pub mod Counted
 pub mod Refusals
 pub mod Traced
 pub mod Calls
-pub mod Few
 pub mod Saying
 pub mod Faults
 pub mod Spending

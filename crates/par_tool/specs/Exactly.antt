@@ -22,12 +22,12 @@ use Rattle.par_observer.specs.Passes.{typing_faults}
 use Rattle.par_observer.specs.Trees.{bodies_of, BreaksTyping}
 use Rattle.par_observer.specs.Judgements.{IsAcceptedSource, IsTreeOf, BreaksAs}
 use Rattle.par_infer.specs.Filling.{Filling, IsAccepted}
-use Rattle.par_loader.specs.Reads.{Classes, AreOf}
+use Rattle.par_loader.specs.Reads.{Classes, AreOf, class_file}
 use Rattle.par_loader.specs.Loaded as loaded
 use Rattle.par_loader.specs.Loaded.{Loaded}
 use Rattle.par_loader.specs.Judged.{judged}
 use Rattle.par_framed_program.specs.Framed.{AreFramed, IsUnframed}
-use Rattle.par_tool.specs.Outside.{Text, IsThere, IsMissing, IsOverlong, class_file}
+use Rattle.par_tool.specs.Outside.{Text, IsThere, IsMissing, IsOverlong}
 use Rattle.par_tool.specs.Sources.{IsBroken}
 use Rattle.par_tool.specs.Given.{IsBad}
 use Rattle.par_tool.specs.Traces.{misfits, source_run}

@@ -1,5 +1,5 @@
 -- What a call sees of files, how often it asks for one, and why a file was not had.
-use Rattle.std.specs.Prelude.{◌≡◌, ℕ, ◌<◌, ◌≤◌, List, ◌++◌, length, Option, Some, None, codes}
+use Rattle.std.specs.Prelude.{◌≡◌, ℕ, ◌<◌, ◌≤◌, List, length, Option, Some, None}
 use Rattle.par_io.specs.Causes.{FolderCounts, Makes, Rose, Files, Told}
 use Rattle.par_tool.specs.declared.answer.Answer.{Answer}
 use Rattle.par_tool.specs.declared.answer.Answer.TheVariants.{Absent, ReadFault, TooLong}
@@ -14,10 +14,6 @@ pub record MakesAtMost (reads writes : ℕ) (before after : FolderCounts) : Type
   pub few_reads : read ≤ reads
   pub few_writes : written ≤ writes
   pub makes : Makes read written before after
-
--- the file of a class
-abbrev pub class_file : Text → Text
-class_file name = name ++ codes ".class"
 
 -- The file was read: it has at most so many bytes, and where the folder tells its files, they are
 -- these.

@@ -18,7 +18,7 @@ use Rattle.par_alike.specs.Subject.{subject}
 use Rattle.par_run_laws.specs.Source as runs
 use Rattle.par_erase.specs.Erased.{erased_table, erased_bodies}
 use Rattle.par_step_laws.specs.Target.{target}
-use Rattle.par_loader.specs.Reads.{Classes}
+use Rattle.par_loader.specs.Reads.{Classes, class_file}
 use Rattle.par_loader.specs.Loaded.{whole}
 use Rattle.par_loader.specs.Judged.{judged}
 use Rattle.par_framed_program.specs.Framed.{AreFramed}
@@ -34,7 +34,7 @@ use Rattle.par_observer.specs.Judgements.{Breaks, IsAcceptedAs}
 use Rattle.par_tool.specs.declared.answer.Answer.{Answer}
 use Rattle.par_tool.specs.declared.answer.Answer.TheVariants.{Accepted, Compiled, Refused}
 use Rattle.par_tool.specs.declared.answer.Answer.TheVariants.{WriteFault}
-use Rattle.par_tool.specs.Outside.{Text, WasRead, NotRead, class_file}
+use Rattle.par_tool.specs.Outside.{Text, WasRead, NotRead}
 
 -- The source is refused, for some reason, by this rule at the place that has this line and this
 -- column, with this limit and this count; the end of the source may be that place.

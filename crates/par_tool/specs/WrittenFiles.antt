@@ -15,7 +15,7 @@ use Rattle.par_inputs.specs.Rules.{entries, IsRight}
 use Rattle.par_inputs.specs.declared.read.TheConstants.{LONGEST_INPUTS}
 use Rattle.par_class.specs.declared.file.ClassFile.{ClassFile}
 use Rattle.par_link.specs.Inputs.{first_misfit}
-use Rattle.par_loader.specs.Reads.{Classes, AreOf}
+use Rattle.par_loader.specs.Reads.{Classes, AreOf, class_file}
 use Rattle.par_loader.specs.Loaded.{whole}
 use Rattle.par_loader.specs.Judged.{judged}
 use Rattle.par_typed.specs.declared.program.Typed.{Typed}
@@ -23,7 +23,7 @@ use Rattle.par_compile.specs.declared.compiled.CompiledClass.{CompiledClass}
 use Rattle.par_verified_file_laws.specs.Laws.{main_class}
 use Rattle.par_words.specs.Words as wanted
 use Rattle.par_words.specs.Words.{Wanted}
-use Rattle.par_tool.specs.Outside.{Text, IsThere, class_file}
+use Rattle.par_tool.specs.Outside.{Text, IsThere}
 use Rattle.par_tool.specs.Sources.{AreClassesOf}
 use Rattle.par_tool.specs.Exactly.{IsSaidBy}
 

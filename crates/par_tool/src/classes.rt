@@ -47,7 +47,7 @@ fn inputs<F: Folder>(
     match inputs_fit(linked, &inputs) {
         None => Ok(inputs),
         Some(place) => {
-            let line = line_of_entry(text.as_slice(), place as usize);
+            let line = line_of_entry(text.as_slice(), place);
             Err(Failure::Answered(Answer::BadInputs(line)))
         }
     }

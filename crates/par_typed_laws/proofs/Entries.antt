@@ -28,7 +28,8 @@ use Rattle.par_faults.specs.par_resolved.Policies.{value_of, policy_of}
 use Rattle.par_faults.specs.par_resolved.Statements.{in_braces}
 use Rattle.par_faults.specs.par_resolved.Written.{stmt_types}
 use Rattle.par_faults.specs.par_resolved.Births.{birth_policy}
-use Rattle.par_faults.specs.par_resolved.Numbered.{declared, shared_policies}
+use Rattle.par_faults.specs.par_resolved.Numbered.{shared_policies}
+use Rattle.par_source_laws.specs.par_names.Declarations.{declared_classes}
 use Rattle.par_faults.specs.par_resolved.Resolved.{Resolved, resolved, number_of, may_number}
 use Rattle.par_faults.specs.par_resolved.Resolved.{expression_number, lock_policy, ground_lock}
 use Rattle.par_faults.specs.par_resolved.Resolved.{family}
@@ -357,7 +358,8 @@ tables_are_in_range source ordered none =
     let infos : length (class_infos r 0 (length r.policies) (classes source)) ≡ length
     (classes source) =
     length-class_infos r 0 (length r.policies) (classes source) in
-    let fields_same : inferred_in (classes source) ≡ inferred_in (declared source) = omega arith in
+    let fields_same : inferred_in (classes source) ≡ inferred_in (declared_classes source) =
+    omega arith in
     let locks_few = (few source none).few_locks in
     let grounds : length (ground_locks r source) ≡ unbroken.ground_locks source =
     ground_count_is source ordered.arities in

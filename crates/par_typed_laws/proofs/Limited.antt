@@ -24,8 +24,7 @@ use Rattle.par_faults.specs.declared.limit.TheConstants.{CLASSES}
 use Rattle.par_faults.specs.Limits.{told, one_too_many, in_order, earlier}
 use Rattle.par_faults.specs.Limits.{member_places}
 use Rattle.par_faults.specs.Limits.{over, method_limits, class_limits}
-use Rattle.par_faults.specs.Limits.{declared_limits}
-use Rattle.par_faults.specs.Limits.{class_places}
+use Rattle.par_faults.specs.Limits.{declared_limits, class_places, class_counts}
 use Rattle.par_faults.specs.Locals.{method_locals}
 use Rattle.par_faults.specs.Faults.{all_faults}
 use Rattle.par_typed_laws.specs.Limits.{TakesFew, HaveFewParams, HasFewParams, IsLimitedClass}
@@ -171,11 +170,10 @@ module _ (source : Source) (none : all_faults source ≡ []) where
   pub tables_have_few_classes : HasFewClasses (table_of source)
   tables_have_few_classes =
       let all = builtins ++ declared_classes source in
-      let front = declared_limits source ++ one_too_many CLASSES (class_places source) in
       let each = flat_map class_limits (declared_classes source) in
       let few = at_most CLASSES (class_places source)
-      (none_right (declared_limits source) (one_too_many CLASSES (class_places source))
-      (none_left front each (counts_kept source none))) in
+      (none_left (one_too_many CLASSES (class_places source)) each
+      (none_right (declared_limits source) (class_counts source) (counts_kept source none))) in
       let declared = length-map (declared_classes source) (λ c. c.id.at) in
       let infos : length (table_of source).classes ≡ length all =
       many_classes (resolved source) 0 _ all in

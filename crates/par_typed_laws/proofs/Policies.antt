@@ -18,7 +18,8 @@ use Rattle.par_faults.specs.par_resolved.declared.limits.TheConstants.{MOST_POLI
 use Rattle.par_faults.specs.par_resolved.Policies.{known, policy_of}
 use Rattle.par_faults.specs.par_resolved.Numbered.{with_new, distinct, entries, same_policy}
 use Rattle.par_faults.specs.par_resolved.Numbered.{numbered}
-use Rattle.par_faults.specs.par_resolved.Numbered.{declared, inferred_fields, inferred_entry}
+use Rattle.par_faults.specs.par_resolved.Numbered.{inferred_fields, inferred_entry}
+use Rattle.par_source_laws.specs.par_names.Declarations.{declared_classes}
 use Rattle.par_faults.specs.par_resolved.Numbered.{shared_policies}
 use Rattle.par_faults.specs.par_resolved.Limits.{one_too_many, table_faults}
 use Rattle.par_faults.specs.par_resolved.Resolved.{resolved, number_of, may_number}
@@ -83,7 +84,7 @@ inferred_of (c ∷ cs) =
 -- the policies of the table: the distinct ones, and one for each inferred field
 pub length-numbered : (source : Source)
     → length (map (λ e. e.policy) (numbered (known source) source)) ≡ length
-    (shared_policies (known source) source) + inferred_in (declared source)
+    (shared_policies (known source) source) + inferred_in (declared_classes source)
 length-numbered source =
     length-map (numbered (known source) source) (λ e. e.policy)
     ∙ length-append (distinct (entries (known source) source)) (map (inferred_entry (known source))
@@ -92,7 +93,7 @@ length-numbered source =
     (sym (length-map (distinct (entries (known source) source)) (λ e. e.policy)))
     ∙ ap (λ n. length (shared_policies (known source) source) + n)
     (length-map (inferred_fields source) (inferred_entry (known source)) ∙ inferred_of
-    (declared source))
+    (declared_classes source))
 
 -- ---- the limit
 

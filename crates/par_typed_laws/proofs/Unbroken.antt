@@ -35,9 +35,7 @@ use Rattle.par_faults.specs.par_resolved.Numbers.{place_in_family}
 use Rattle.par_faults.specs.par_resolved.Limits as resolved
 use Rattle.par_faults.specs.par_resolved.Sizes.{all_literal_faults, all_join_faults}
 use Rattle.par_faults.specs.par_resolved.Policies.{known}
-use Rattle.par_faults.specs.Limits.{declared_limits, one_too_many, class_places}
-use Rattle.par_faults.specs.Limits.{class_limits}
-use Rattle.par_faults.specs.Limits.{count_faults}
+use Rattle.par_faults.specs.Limits.{declared_limits, class_counts, count_faults}
 use Rattle.par_faults.specs.declared.limit.TheConstants.{CLASSES}
 use Rattle.par_faults.specs.Faults.{where_none, policies_faults, limit_faults, all_faults}
 use Rattle.par_faults.proofs.Few.{has_few}
@@ -81,8 +79,7 @@ module _ (source : Source) (none : all_faults source ≡ []) where
 
   pub few_declared : declared_limits source ≡ []
   few_declared =
-      none_left (declared_limits source) (one_too_many CLASSES (class_places source))
-      (none_left _ (flat_map class_limits (declared_classes source)) counts_kept)
+      none_left (declared_limits source) (class_counts source) counts_kept
 
   pub policies_kept : resolved.policy_faults source ≡ []
   policies_kept =

@@ -19,7 +19,7 @@ use Rattle.par_resolved.specs.Few.{HasFew}
 use Rattle.par_resolved.specs.Limits as policies
 use Rattle.par_resolved.specs.Limits.{policy_faults, table_faults}
 use Rattle.par_resolved.specs.Births.{birth_faults}
-use Rattle.par_resolved.specs.Numbered.{numbered, declared}
+use Rattle.par_resolved.specs.Numbered.{numbered}
 use Rattle.par_resolved.specs.Policies.{known}
 use Rattle.par_resolved.specs.Sizes.{all_literal_faults, all_join_faults}
 use Rattle.par_source_table_laws.specs.par_faults.declared.limit.Limit.{Limit}
@@ -34,7 +34,7 @@ use Rattle.par_source_table_laws.specs.par_faults.Limits.{told, one_too_many, cl
 use Rattle.par_source_table_laws.specs.par_faults.Limits.{member_places, over}
 use Rattle.par_source_table_laws.specs.par_faults.Limits.{declared_limits, class_limits}
 use Rattle.par_source_table_laws.specs.par_faults.Limits.{method_limits}
-use Rattle.par_source_table_laws.specs.par_faults.Limits.{count_faults}
+use Rattle.par_source_table_laws.specs.par_faults.Limits.{class_counts, count_faults}
 use Rattle.par_source_table_laws.specs.par_faults.Locals.{method_locals}
 use Rattle.par_source_table_laws.specs.par_faults.Faults.{where_none, policies_faults, limit_faults}
 use Rattle.par_source_table_laws.specs.par_faults.Faults.{all_faults}
@@ -104,12 +104,11 @@ pub limits_kept : (source : Source) → all_faults source ≡ [] → IsWithinLim
 limits_kept source h =
     let limits = later_pass (name_faults source) (limit_faults source) h in
     let counts = left_none (count_faults source) (policies_faults source) limits in
-    let front = left_none (declared_limits source ++ one_too_many CLASSES (class_places source))
-    (flat_map class_limits (declared_classes source)) counts in
-    let declared_kept = left_none (declared_limits source)
-    (one_too_many CLASSES (class_places source)) front in
+    let declared_kept = left_none (declared_limits source) (class_counts source) counts in
+    let of_classes = right_none (declared_limits source) (class_counts source) counts in
     let classes_kept : length (class_places source) ≤ 128 = few_of CLASSES (class_places source)
-    (right_none (declared_limits source) (one_too_many CLASSES (class_places source)) front) in
+    (left_none (one_too_many CLASSES (class_places source))
+    (flat_map class_limits (declared_classes source)) of_classes) in
     let rest = later_pass (all_literal_faults source) (where_none (declared_limits source)
     (policy_faults source)) (right_none (count_faults source) (policies_faults source) limits)
     in
@@ -119,15 +118,15 @@ limits_kept source h =
     declared_kept) in
     let of_table = later_pass (all_join_faults k source) (table_faults k source) joins in
     let one_more = left_none (policies.one_too_many (slice_get (numbered k source) 256))
-    (flat_map (λ c. birth_faults k c c.birth) (declared source)) of_table in
+    (flat_map (λ c. birth_faults k c c.birth) (declared_classes source)) of_table in
     record {
       few = faults.has_few source (sym (ap (first_of None) declared_kept ∙ first_of_none None));
       few_classes =
           subst (λ n. n ≤ 128) (length-map (declared_classes source) (λ c. c.id.at)) classes_kept;
       class_limits_kept =
           each class_limits (declared_classes source)
-          (right_none (declared_limits source ++ one_too_many CLASSES (class_places source))
-          (flat_map class_limits (declared_classes source)) counts);
+          (right_none (one_too_many CLASSES (class_places source))
+          (flat_map class_limits (declared_classes source)) of_classes);
       few_policies =
           few (numbered k source) (record { at = 0; policy = [] }) 256 (none_more _ one_more);
     }

@@ -17,7 +17,8 @@ use Rattle.par_resolved.specs.Numbers.{lock_number}
 use Rattle.par_resolved.specs.Policies.{Known, known, bottom, policy_of}
 use Rattle.par_resolved.specs.Numbered.{same_policy, by_place, written_entry}
 use Rattle.par_resolved.specs.Numbered.{query_entries}
-use Rattle.par_resolved.specs.Numbered.{birth_entry, declared, entries, with_new}
+use Rattle.par_resolved.specs.Numbered.{birth_entry, entries, with_new}
+use Rattle.par_names.specs.Declarations.{declared_classes}
 use Rattle.par_resolved.specs.Numbered.{distinct}
 use Rattle.par_resolved.specs.Numbered.{inferred_fields, inferred_entry}
 use Rattle.par_resolved.specs.Numbered.{shared_policies}
@@ -112,7 +113,7 @@ number_same source p =
     in
     number_in_front p first (distinct (entries k source))
     (map (inferred_entry k) (inferred_fields source))
-    (begins first (by_places ++ map (birth_entry k) (declared source)))
+    (begins first (by_places ++ map (birth_entry k) (declared_classes source)))
     (all_bottom k (inferred_fields source))
 
 abbrev by_known : Known → List (List Clause) → Written

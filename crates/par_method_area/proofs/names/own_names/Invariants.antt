@@ -1,6 +1,6 @@
 use Rattle.std.proofs.Common.{◌≡◌, take}
 use Rattle.par_single.specs.Members.{own_names}
-use Rattle.par_method_area.specs.Names.{texts}
+use Rattle.par_index.specs.Texts.{texts}
 use Rattle.par_method_area.proofs.names.own_names.Given as goal
 
 abbrev pub invariant-loop-file : goal.invariant-loop-file

@@ -4,7 +4,7 @@ use Rattle.std.specs.Str.{bytes_eq}
 use Rattle.std.specs.List.{position}
 use Rattle.std.proofs.lemmas.List.{length-map}
 use Rattle.par_index.proofs.Places.{position-within}
-use Rattle.par_method_area.specs.Names.{texts}
+use Rattle.par_index.specs.Texts.{texts}
 use Rattle.par_method_area.proofs.names.ClassNumbers.number.Goals as goal
 
 pub overflow_cast-result : goal.overflow_cast-result

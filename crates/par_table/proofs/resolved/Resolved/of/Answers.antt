@@ -1,4 +1,4 @@
-use Rattle.std.proofs.Common.{◌≡◌, ◌∙◌, ap, ℕ, List, map, length, arith}
+use Rattle.std.proofs.Common.{◌≡◌, ◌≤◌, ◌∙◌, ap, sym, subst, ℕ, List, map, length, arith}
 use Rattle.std.proofs.lemmas.List.{length-map}
 use Rattle.par_policy.specs.declared.clauses.Clause.{Clause}
 use Rattle.par_index.specs.Texts.{texts}
@@ -6,10 +6,17 @@ use Rattle.par_tree.specs.Plain.{Class}
 use Rattle.par_tree.specs.Shown.{source}
 use Rattle.par_names.specs.Declarations.{classes}
 use Rattle.par_resolved.specs.Policies.{Known, known}
-use Rattle.par_resolved.specs.Numbered.{shared_policies}
+use Rattle.par_resolved.specs.declared.limits.TheConstants.{MOST_POLICIES}
+use Rattle.par_resolved.specs.Numbered.{numbered, shared_policies}
 use Rattle.par_resolved.specs.Resolved.{Resolved}
 use Rattle.par_table.proofs.Inferred.{numbered_count}
 use Rattle.par_table.proofs.resolved.Resolved.of.Goals as goal
+
+pub shared_policies-requires : goal.shared_policies-requires
+shared_policies-requires c =
+    let s = source c.args.program.now in
+    subst (λ k. length (numbered k s) ≤ MOST_POLICIES) (sym c.in_ok-known.ensures)
+    c.requires.room.few_policies
 
 pub invariant_of-result : goal.invariant_of-result
 invariant_of-result c =

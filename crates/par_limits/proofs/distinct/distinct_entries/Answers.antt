@@ -1,6 +1,6 @@
 use Rattle.par_resolved.specs.declared.limits.TheConstants.{MOST_POLICIES}
 use Rattle.par_limits.proofs.Within.{distinct_more}
-use Rattle.par_limits.proofs.distinct.distinct.Goals as goal
+use Rattle.par_limits.proofs.distinct.distinct_entries.Goals as goal
 
 pub loop-entry-preserved : goal.loop-entry-preserved
 loop-entry-preserved c =

@@ -7,17 +7,17 @@ use Rattle.std.specs.List.{position}
 use Rattle.std.specs.Str.{bytes_eq}
 use Rattle.indexmap.specs.IndexMap.{get_by}
 use Rattle.par_index.specs.Texts.{has, texts}
-use Rattle.par_names.proofs.Scopes.{again, before, new, Keeps}
-use Rattle.par_names.proofs.scope.Scope.declare.Goals.{then-not-has+in_ok-insert, else-not-has}
-use Rattle.par_names.proofs.scope.Scope.declare.Goals as goal
+use Rattle.par_index.proofs.Stacked.{again, before, new, Keeps}
+use Rattle.par_index.proofs.stack.NameStack.push.Goals.{then-not-has+in_ok-insert, else-not-has}
+use Rattle.par_index.proofs.stack.NameStack.push.Goals as goal
 
 pub invariant_of-self-in_err-push : goal.invariant_of-self-in_err-push
 invariant_of-self-in_err-push c =
     let x = c.args.name.now in
     let names = texts c.self.inside.names.items in
-    let kept = λ (n : List ℕ). get_by (λ key. bytes_eq n key.now) c.self.inside.places in
+    let kept = λ (n : List ℕ). get_by (λ key. bytes_eq n key.now) c.self.inside.firsts in
     let after =
-    λ (n : List ℕ). get_by (λ key. bytes_eq n key.now) c.if-not-has.self-inside.places in
+    λ (n : List ℕ). get_by (λ key. bytes_eq n key.now) c.if-not-has.self-inside.firsts in
     let keeps : Keeps names kept = record { first = c.self.invariant } in
     let known = ap (λ ns. has ns x) c.self.view_is ∙ sym c.has.ensures in
     let holds = λ (ns : List (List ℕ)). (name : List ℕ) → has ns name ≡ true
@@ -27,7 +27,7 @@ invariant_of-self-in_err-push c =
           let many : w.len.result ≡ length names =
           w.len.ensures ∙ grind (arith, common_steps) in
           let put = λ (name : List ℕ).
-          ap (λ s. get_by (λ key. bytes_eq name key.now) s.places) w.self-inside-is
+          ap (λ s. get_by (λ key. bytes_eq name key.now) s.firsts) w.self-inside-is
           ∙ w.in_ok-insert.ensures.updates.0 (record w.bytes.result { now = name })
           ∙ ap (λ n. cond (bytes_eq n name) (Some w.len.result) (kept name)) w.bytes.ensures.bytes
           ∙ ap (λ k. cond (bytes_eq x name) (Some k) (kept name)) many in
@@ -37,7 +37,7 @@ invariant_of-self-in_err-push c =
           (before names kept after x keeps (known ∙ w.if-not-has.true) put).first
       | else-not-has w ↦
           let still =
-          λ (name : List ℕ). ap (λ s. get_by (λ key. bytes_eq name key.now) s.places)
+          λ (name : List ℕ). ap (λ s. get_by (λ key. bytes_eq name key.now) s.firsts)
           w.self-inside-is in
           subst holds
           (sym (ap texts c.in_err-push.ensures.items
@@ -49,9 +49,9 @@ pub invariant_of-self-2 : goal.invariant_of-self-2
 invariant_of-self-2 c =
     let x = c.args.name.now in
     let names = texts c.self.inside.names.items in
-    let kept = λ (n : List ℕ). get_by (λ key. bytes_eq n key.now) c.self.inside.places in
+    let kept = λ (n : List ℕ). get_by (λ key. bytes_eq n key.now) c.self.inside.firsts in
     let after =
-    λ (n : List ℕ). get_by (λ key. bytes_eq n key.now) c.if-not-has.self-inside.places in
+    λ (n : List ℕ). get_by (λ key. bytes_eq n key.now) c.if-not-has.self-inside.firsts in
     let keeps : Keeps names kept = record { first = c.self.invariant } in
     let known = ap (λ ns. has ns x) c.self.view_is ∙ sym c.has.ensures in
     let holds = λ (ns : List (List ℕ)). (name : List ℕ) → has ns name ≡ true
@@ -67,7 +67,7 @@ invariant_of-self-2 c =
           let many : w.len.result ≡ length names =
           w.len.ensures ∙ grind (arith, common_steps) in
           let put = λ (name : List ℕ).
-          ap (λ s. get_by (λ key. bytes_eq name key.now) s.places) w.self-inside-is
+          ap (λ s. get_by (λ key. bytes_eq name key.now) s.firsts) w.self-inside-is
           ∙ w.in_ok-insert.ensures.updates.0 (record w.bytes.result { now = name })
           ∙ ap (λ n. cond (bytes_eq n name) (Some w.len.result) (kept name)) w.bytes.ensures.bytes
           ∙ ap (λ k. cond (bytes_eq x name) (Some k) (kept name)) many in
@@ -77,7 +77,7 @@ invariant_of-self-2 c =
           (new names kept after x keeps (known ∙ w.if-not-has.true) put).first
       | else-not-has w ↦
           let still =
-          λ (name : List ℕ). ap (λ s. get_by (λ key. bytes_eq name key.now) s.places)
+          λ (name : List ℕ). ap (λ s. get_by (λ key. bytes_eq name key.now) s.firsts)
           w.self-inside-is in
           subst holds
           (sym (ap texts c.in_ok-push.ensures.items

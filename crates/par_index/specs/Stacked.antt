@@ -1,19 +1,16 @@
--- How names in scope are found.
+-- Names that come and go, found by their first places.
 use Rattle.std.specs.Prelude.{◌≡◌, ℕ, Bool, true, false, List, Option, Some, None, slice_get}
-use Rattle.std.specs.Borrow.{Bor}
 use Rattle.std.specs.List.{position}
 use Rattle.std.specs.Str.{bytes_eq}
-use Rattle.indexmap.specs.IndexMap.{IndexMap, get}
-use Rattle.par_index.specs.Texts.{texts, same_text}
+use Rattle.indexmap.specs.IndexMap.{get_by}
+use Rattle.par_index.specs.Texts.{has, texts}
+use Rattle.par_index.specs.declared.stack.NameStack.TheInside.{Inside}
 
--- a name that a tree holds
-abbrev pub Text : Type 0
-Text = Bor (List ℕ)
-
--- each name that is there is kept with its first place
-pub record AreFound {S : Type 0} (names : List Text) (firsts : IndexMap Text ℕ S) : Type 0 where
-  pub places : (name : Text) (i : ℕ)
-      → position (bytes_eq name.now) (texts names) ≡ Some i → get same_text firsts name ≡ Some i
+-- A name that is there has its first place. What is kept of another name does not matter.
+abbrev pub KeepsPlaces : Inside → Type 0
+KeepsPlaces stack = (name : List ℕ) → has (texts stack.names.items) name ≡ true
+    → get_by (λ key. bytes_eq name key.now) stack.firsts
+    ≡ position (bytes_eq name) (texts stack.names.items)
 
 abbrev pub when_same : Bool → ℕ → Option ℕ
 when_same true place = Some place

@@ -1,40 +1,48 @@
--- Names in scope, found by their first places.
-use Rattle.std.proofs.Common.{◌≡◌, ℕ, zero, suc, ◌+◌, Bool, true, false, cond, ◌||◌, List, [], ◌∷◌}
+-- The names of a stack, found by their first places, as they come and go.
+use Rattle.std.proofs.Common.{◌≡◌, ℕ, ◌+◌, Bool, true, false, cond, ◌||◌, List, [], ◌∷◌}
 use Rattle.std.proofs.Common.{◌++◌, length, take, drop, Option, Some, None, is_some, refl, sym, ap}
 use Rattle.std.proofs.Common.{◌∙◌}
 use Rattle.std.specs.Prelude.{slice_get}
 use Rattle.std.specs.Option.{option_or}
-use Rattle.std.specs.List.{list_any, find, position, position_from}
+use Rattle.std.specs.List.{list_any, position, position_from}
 use Rattle.std.specs.Str.{bytes_eq}
 use Rattle.std.proofs.lemmas.List.{take-append-drop}
-use Rattle.std.proofs.lemmas.List.Folds.{list_any-append}
+use Rattle.std.proofs.lemmas.List.Folds.{list_any-append, list_any_at}
+use Rattle.std.proofs.lemmas.List.Quantifiers.{position-Some}
 use Rattle.std.proofs.lemmas.Slice.Eq.{bytes_eq-Decides}
-use Rattle.par_index.proofs.Places.{position-from, position-push, position-is_some, position-within}
-use Rattle.std.proofs.lemmas.Option.{slice_get-get_or}
+use Rattle.std.proofs.lemmas.Option.{slice_get-get_or, slice_get_within, get_or_from_slice_get}
 use Rattle.par_index.specs.Texts.{has}
-use Rattle.par_names.specs.Scoped.{is_text}
-use Rattle.par_names.proofs.Lookups.{find-place, at}
+use Rattle.par_index.specs.Stacked.{standing, standing_here, when_same}
+use Rattle.par_index.proofs.Places.{position-from, position-push, position-is_some}
 
-find-passes : {A : Type 0} (p : A → Bool) (xs : List A) (x : A) → find p xs ≡ Some x → p x ≡ true
-find-passes p [] x e = absurd (cc e)
-find-passes p (y ∷ xs) x e = in_case (p y) refl e (find-passes p xs x) where
-  in_case : (b : Bool) → p y ≡ b → cond b (Some y) (find p xs) ≡ Some x
-      → (find p xs ≡ Some x → p x ≡ true) → p x ≡ true
-  in_case true is e later = let same : y ≡ x = cc e in ap p (sym same) ∙ is
-  in_case false is e later = later e
+-- ---- a place counts where the name stands there
 
-none-passes : {A : Type 0} (p : A → Bool) (xs : List A) (i : ℕ) (x : A) → list_any p xs ≡ false
-    → slice_get xs i ≡ Some x → p x ≡ false
-none-passes p [] i x none e = absurd (cc e)
-none-passes p (y ∷ xs) zero x none e = in_case (p y) refl none where
-  in_case : (b : Bool) → p y ≡ b → (b || list_any p xs) ≡ false → p x ≡ false
-  in_case true is none = absurd (cc none)
-  in_case false is none = let same : y ≡ x = cc e in ap p (sym same) ∙ is
-none-passes p (y ∷ xs) (suc i) x none e = in_case (p y) none (λ h. none-passes p xs i x h e) where
-  in_case : (b : Bool) → (b || list_any p xs) ≡ false → (list_any p xs ≡ false → p x ≡ false)
-      → p x ≡ false
-  in_case true none later = absurd (cc none)
-  in_case false none later = later none
+standing_at : (ts : List (List ℕ)) (i : ℕ) (name : List ℕ) → position (bytes_eq name) ts ≡ Some i
+    → standing ts i name ≡ Some i
+standing_at ts i name is =
+    let found = position-Some (bytes_eq name) ts i [] is in
+    ap (λ o. standing_here o i name) (slice_get-get_or ts i [] found.0)
+    ∙ ap (λ b. when_same b i) found.1
+
+standing_not : (ts : List (List ℕ)) (p : ℕ) (name : List ℕ) → position (bytes_eq name) ts ≡ None
+    → standing ts p name ≡ None
+standing_not ts p name is = in_case (slice_get ts p) refl where
+  in_same : (other : List ℕ) → slice_get ts p ≡ Some other → (b : Bool) → bytes_eq name other ≡ b
+      → when_same b p ≡ None
+  in_same other at false e = refl
+  in_same other at true e =
+      let there : list_any (bytes_eq name) ts ≡ true =
+      list_any_at (bytes_eq name) ts p other (slice_get_within ts p other at)
+      (ap (bytes_eq name) (get_or_from_slice_get ts p other other at) ∙ e) in
+      let not_there : false ≡ list_any (bytes_eq name) ts =
+      ap is_some (sym is) ∙ position-is_some (bytes_eq name) ts in
+      absurd (cc (there, not_there))
+
+  in_case : (o : Option (List ℕ)) → slice_get ts p ≡ o → standing_here o p name ≡ None
+  in_case None at = refl
+  in_case (Some other) at = in_same other at (bytes_eq name other) refl
+
+-- ---- more names and fewer
 
 from-front : {A : Type 0} (p : A → Bool) (k : ℕ) (xs ys : List A) → list_any p xs ≡ true
     → position_from p k (xs ++ ys) ≡ position_from p k xs
@@ -57,7 +65,7 @@ or-true : (b c : Bool) → b ≡ true → (b || c) ≡ true
 or-true true c h = refl
 or-true false c h = absurd (cc h)
 
--- what is kept of the names in scope
+-- what is kept of the names
 pub record Keeps (names : List (List ℕ)) (kept : List ℕ → Option ℕ) : Type 0 where
   pub first : (name : List ℕ) → has names name ≡ true → kept name ≡ position (bytes_eq name) names
 
@@ -66,7 +74,7 @@ module _ (names : List (List ℕ)) (kept : List ℕ → Option ℕ) (keeps : Kee
   has-position : has names name ≡ is_some (position (bytes_eq name) names)
   has-position = sym (position-is_some (bytes_eq name) names)
 
-  -- nothing is kept of a name that is not in scope
+  -- nothing is kept of a name that is not there
   pub none_kept : kept name ≡ None → has names name ≡ false
   none_kept none = in_case (has names name) refl where
     in_case : (b : Bool) → has names name ≡ b → b ≡ false
@@ -74,25 +82,27 @@ module _ (names : List (List ℕ)) (kept : List ℕ → Option ℕ) (keeps : Kee
         sym e ∙ has-position ∙ ap is_some (sym (keeps.first name e) ∙ none)
     in_case false e = refl
 
-  -- whether the name at its place is the one
-  pub kept_at : (i : ℕ) (o : Option (List ℕ)) → kept name ≡ Some i → slice_get names i ≡ o
-      → is_text o name ≡ has names name
-  unfolding is_text
-  kept_at i o is item = in_case (has names name) refl o item where
-    place : has names name ≡ true → position (bytes_eq name) names ≡ Some i
-    place e = sym (keeps.first name e) ∙ is
+  no_place : has names name ≡ false → position (bytes_eq name) names ≡ None
+  no_place none = in_case (position (bytes_eq name) names) (sym has-position ∙ none) where
+    in_case : (o : Option ℕ) → is_some o ≡ false → o ≡ None
+    in_case None e = refl
+    in_case (Some i) e = absurd (cc e)
 
-    in_case : (b : Bool) → has names name ≡ b → (o : Option (List ℕ)) → slice_get names i ≡ o
-        → is_text o name ≡ b
-    in_case true e None item =
-        let within = position-within (bytes_eq name) names i (place e) in
-        let some = slice_get-get_or names i [] within in
-        absurd (cc (some, item))
-    in_case true e (Some x) item =
-        find-passes (bytes_eq name) names x
-        (find-place (bytes_eq name) names ∙ ap (at names) (place e) ∙ item)
-    in_case false e None item = refl
-    in_case false e (Some x) item = none-passes (bytes_eq name) names i x e item
+  -- where nothing is kept of it, it has no place
+  pub none_placed : kept name ≡ None → None ≡ position (bytes_eq name) names
+  none_placed none = sym (no_place (none_kept none))
+
+  -- where a place is kept of it, that is its place if it stands there
+  pub kept_placed : (i : ℕ) → kept name ≡ Some i
+      → standing names i name ≡ position (bytes_eq name) names
+  kept_placed i is = in_case (has names name) refl where
+    in_case : (b : Bool) → has names name ≡ b
+        → standing names i name ≡ position (bytes_eq name) names
+    in_case true e =
+        let place : position (bytes_eq name) names ≡ Some i = sym (keeps.first name e) ∙ is in
+        standing_at names i name place ∙ sym place
+    in_case false e =
+        standing_not names i name (no_place e) ∙ sym (no_place e)
 
 -- the first names keep their places
 pub left : (n : ℕ) (names : List (List ℕ)) (kept : List ℕ → Option ℕ) → Keeps names kept
@@ -118,7 +128,7 @@ last-is names x name =
     or-false true = refl
     or-false false = refl
 
--- a name that is in scope changes no place
+-- a name that is there changes no place
 pub again : (names : List (List ℕ)) (kept : List ℕ → Option ℕ) (x : List ℕ) → Keeps names kept
     → has names x ≡ true → Keeps (names ++ x ∷ []) kept
 again names kept x keeps old = record {
