@@ -121,6 +121,17 @@ def operands_on_operands(part):
     return of_code(b"\x01" * 65534 + b"\xb1", 65534, 0, int(15 * part)), VERIFY
 
 
+def branches_under_operands(part):
+    """Branches to offsets ahead, each under all operands, so that as many frames are kept at once
+    as there are branches."""
+    operands, branches = int(30000 * part), int(5900 * part)
+    code = b"\x01" * operands
+    goals = operands + 4 * branches
+    for n in range(branches):
+        code += b"\x03\x99" + struct.pack(">h", goals + 2 * n - len(code) - 1)
+    return of_code(code + b"\x03\x57" * branches + b"\xb1", operands + 2, 0, 1), VERIFY
+
+
 def frames_told(part):
     """Frames that are told of every second offset, each with all locals of the first one."""
     many = int(30000 * part)
@@ -196,6 +207,7 @@ FILES = {
     "loops 5,200 deep around locals that hand on objects, verified": loops_around_objects,
     "kinds that rise as often as they can, verified": kinds_that_rise,
     "65,534 operands on one another, verified": operands_on_operands,
+    "5,900 branches under 30,000 operands, verified": branches_under_operands,
     "30,000 frames of 30,000 locals that are told, verified": frames_told,
     "65,535 handlers around all code, verified": handlers_around,
     "100,000 steps that throw past 65,000 handlers": throws_past_handlers,
