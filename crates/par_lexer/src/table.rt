@@ -81,13 +81,30 @@ pub const SIGNS: [(u8, &[u8]); 31] = [
     (sign::XOR, b"^"),
 ];
 
+// Whether both texts are the same. Most differ in their lengths.
+fn is_same(one: &[u8], other: &[u8]) -> bool
+    ensures { result ≡ bytes_eq one.now other.now }
+{
+    one.len() == other.len() && one == other
+}
+
+// Whether the bytes begin with the text. Most differ in their first byte.
+fn begins(bytes: &[u8], text: &[u8]) -> bool
+    ensures { result ≡ begins text.now bytes.now }
+{
+    if !text.is_empty() && !bytes.is_empty() && bytes[0] != text[0] {
+        return false;
+    }
+    bytes.starts_with(text)
+}
+
 // The number of the first row with exactly this text.
 fn number_of(table: &[(u8, &[u8])], text: &[u8]) -> Option<u8>
     ensures { result
         ≡ option_map (λ row. row.0) (find (λ row. bytes_eq row.1 text.now) (rows table.now)) }
 {
     for (number, spelling) in table {
-        if *spelling == text {
+        if is_same(spelling, text) {
             return Some(*number);
         }
     }
@@ -100,7 +117,7 @@ fn first_begun(table: &[(u8, &[u8])], bytes: &[u8]) -> Option<(u8, usize)>
         result ≡ option_map (λ row. (row.0, length row.1)) first }
 {
     for (number, spelling) in table {
-        if bytes.starts_with(*spelling) {
+        if begins(bytes, spelling) {
             return Some((*number, spelling.len()));
         }
     }

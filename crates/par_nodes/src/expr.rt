@@ -132,6 +132,7 @@ fn given<'a>(alloc: Global, policy: u16) -> Result<Draft<'a>, NoMemory>
 }
 
 // Behind the object of a field comes what is known of the field.
+#[inline(never)]
 fn selected<'a>(alloc: Global, of: &TExpr, policy: u16) -> Result<Draft<'a>, NoMemory>
     ensures { IfOk result (λ r. seen_rules r.rules
         ≡ body.null_test (shown of.now) body.tested (plain.goes_on body.past
@@ -163,6 +164,7 @@ fn operands<'a>(alloc: Global) -> Result<Draft<'a>, NoMemory>
 }
 
 // Behind both operands comes what the operator makes of them.
+#[inline(never)]
 fn combined<'a>(alloc: Global, op: BinOp, right: &TExpr) -> Result<Draft<'a>, NoMemory>
     ensures { IfOk result (λ r. seen_rules r.rules
         ≡ body.divides op (shown right.now) (body.skips op (plain.goes_on body.past
@@ -193,6 +195,7 @@ pub(crate) fn operand<'a>(
 
 // The arguments, of which the first is entered from the way.
 #[cycle(exp)]
+#[inline(never)]
 fn args<'a>(
     alloc: Global,
     table: &'a Table,
@@ -227,6 +230,7 @@ fn call_start(of: &Option<Box<TExpr>>) -> Start
 
 // What a call does behind its arguments.
 #[tactic(auto, using(crate::proofs::Rows::past_is, crate::proofs::Rows::count_is))]
+#[inline(never)]
 fn call_does<'a>(
     alloc: Global,
     table: &'a Table,
@@ -261,6 +265,7 @@ fn call_does<'a>(
 
 // Behind the receiver, if there is one.
 #[cycle(exp)]
+#[inline(never)]
 fn behind<'a>(
     alloc: Global,
     table: &'a Table,

@@ -80,6 +80,7 @@ fn caught(alloc: Global, catches: &[TCatch]) -> Result<List<u16>, NoMemory>
 
 // A completion from the entering way.
 #[tactic(auto, using(crate::proofs::Forms::forms))]
+#[inline(never)]
 fn completes<'a>(alloc: Global, kind: Kind) -> Result<Draft<'a>, NoMemory>
     ensures { IfOk result (λ r. seen_rules r.rules
         ≡ plain.Leaves plain.Entry (seen_kind kind) plain.Done) }
@@ -107,6 +108,7 @@ fn returns<'a>(
 }
 
 // Without `else` the way goes on.
+#[inline(never)]
 fn goes_first<'a>(
     alloc: Global,
     other: &Option<Box<TStmt>>,
@@ -226,6 +228,7 @@ fn writes<'a>(
 }
 
 // A lock is opened.
+#[inline(never)]
 fn opens<'a>(alloc: Global, lock: u16) -> Result<Draft<'a>, NoMemory>
     ensures { IfOk result (λ r. seen_rules r.rules
         ≡ plain.goes_on (plain.Opened (adding none lock) plain.Entry) plain.Done) }
@@ -240,6 +243,7 @@ fn opens<'a>(alloc: Global, lock: u16) -> Result<Draft<'a>, NoMemory>
 }
 
 // A lock is closed.
+#[inline(never)]
 fn shuts<'a>(alloc: Global, lock: u16) -> Result<Draft<'a>, NoMemory>
     ensures { IfOk result (λ r. seen_rules r.rules
         ≡ plain.goes_on (plain.Shut (adding none lock) plain.Entry) plain.Done) }

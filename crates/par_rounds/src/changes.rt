@@ -5,7 +5,8 @@ ghost use Rattle.par_policy.specs.Numbers.{has as is_among};
 ghost use Rattle.par_bits.specs.Sets.{has, union, none};
 ghost use Rattle.par_flow_laws.specs.Lattice.{numbers};
 ghost use Rattle.par_flow_laws.specs.Ranges.{AreLocks, IsFromInRange, IsWorthInRange};
-ghost use Rattle.par_flow_laws.specs.Rules.{way as way_from, worth as worth_of};
+ghost use Rattle.par_flow_laws.specs.Rules.{part_at, way as way_from, worth as worth_of};
+ghost use Rattle.par_flow_laws.specs.Ways.{assigned as written};
 ghost use Rattle.par_nodes.specs.Seen.{seen_origin, seen_start, seen_worth};
 ghost use Rattle.par_pass_laws.specs.par_except.Seen.{locals, may_see, seen, HasLocals};
 ghost use Rattle.par_pass_laws.specs.par_except.Seen.{MayHaveLocals};
@@ -68,7 +69,34 @@ fn is_held(way: &SharedWay, local: u16, policy: &Atoms) -> bool
     held.within(policy) && policy.within(&held)
 }
 
-// The way behind the assignment, which has the same list where that changes nothing.
+// The way behind a write of the local, which has the same list where that changes nothing.
+#[inline(never)]
+fn set_local(
+    alloc: Global,
+    way: &SharedWay,
+    parts: &[Fact],
+    local: u16,
+    part: usize,
+) -> Result<SharedWay, NoMemory>
+    requires { local < length way.now.env }
+    ensures way { IfOk result (λ w. seen w ≡ written numbers local
+        (part_at numbers (latest_first parts.now []) part).value (seen way.now)) }
+    ensures locals { IfOk result (λ w. length w.env ≡ length way.now.env) }
+{
+    let policy = value_of(parts, part).union(&way.context());
+    if is_held(way, local, &policy) {
+        return way.share();
+    }
+    let env = env::with_local(alloc, way.env(), local, policy)?;
+    let assigned = Way {
+        context: way.context(),
+        env,
+        locks: way.locks(),
+    };
+    SharedWay::new(alloc, assigned)
+}
+
+// The way behind the assignment, if there is one.
 fn assigned(
     alloc: Global,
     way: &SharedWay,
@@ -82,19 +110,7 @@ fn assigned(
 {
     match change {
         None => way.share(),
-        Some((local, part)) => {
-            let policy = value_of(parts, part).union(&way.context());
-            if is_held(way, local, &policy) {
-                return way.share();
-            }
-            let env = env::with_local(alloc, way.env(), local, policy)?;
-            let assigned = Way {
-                context: way.context(),
-                env,
-                locks: way.locks(),
-            };
-            SharedWay::new(alloc, assigned)
-        }
+        Some((local, part)) => set_local(alloc, way, parts, local, part),
     }
 }
 

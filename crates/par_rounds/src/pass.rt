@@ -85,6 +85,7 @@ fn take(
 }
 
 // The head way of a loop, by the point of its test.
+#[inline(never)]
 fn head_at(heads: &[Option<SharedWay>], point: u32) -> Result<Option<SharedWay>, NoMemory>
     ensures way { IfOk result (λ o. may_see o ≡ ways_of heads.now point) }
     ensures locals { IfOk result (λ o. (n : ℕ) → AreHeadsWide n heads.now → MayHaveLocals n o) }
@@ -123,6 +124,7 @@ fn flow(
 }
 
 // The way leaves the node.
+#[inline(never)]
 fn leave(
     alloc: Global,
     way: &SharedWay,
