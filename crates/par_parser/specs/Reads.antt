@@ -9,10 +9,12 @@ use Rattle.par_tree.specs.declared.types.TypeTree.{TypeTree}
 use Rattle.par_tree.specs.Shown as tree
 use Rattle.par_tree.specs.Values as value
 use Rattle.par_tree.specs.Values.{Values, tok, flag, may_whole, typed, gives, many, param, listed}
-use Rattle.par_tree.specs.Values.{says, members, decl, source}
+use Rattle.par_tree.specs.Values.{says, braces, members, decl, source}
 use Rattle.par_parser.specs.declared.effect.Effects.{Effects}
 use Rattle.par_parser.specs.declared.member.Front.{Front}
+use Rattle.par_parser.specs.declared.member.Inferred.{Inferred}
 use Rattle.par_parser.specs.declared.member.Members.{Members}
+use Rattle.par_parser.specs.declared.method.Tail.{Tail}
 
 -- effects, and the value that they are
 abbrev pub effects_of : Effects → value.Effects
@@ -49,6 +51,14 @@ a_typed x t f = tok x ∷ typed t ∷ flag f.is_static ∷ may_whole f.policy �
 abbrev pub a_head : Token → Option TypeTree → Front → Values
 a_head x r f = tok x ∷ gives r ∷ flag f.is_static ∷ may_whole f.policy ∷ []
 
+-- a name that is kept
+abbrev pub a_name : Bor Token → Values
+a_name x = tok x.now ∷ []
+
+-- what stands before the name of a field whose policy is inferred
+abbrev pub an_inferred : Inferred → Values
+an_inferred f = typed f.ty ∷ flag f.is_static ∷ []
+
 -- the name of a method without a result
 abbrev pub a_void : Bor Token → Values
 a_void x = tok x.now ∷ gives None ∷ []
@@ -58,6 +68,10 @@ a_param p = param p ∷ []
 
 abbrev pub the_params : List ParamDecl → Values
 the_params ps = listed ps ∷ []
+
+-- what stands behind the name of a method
+abbrev pub a_tail : Tail → Values
+a_tail t = braces (tree.braces t.body) ∷ says (effects_of t.effects) ∷ listed t.params ∷ []
 
 abbrev pub an_arity : ℕ → Values
 an_arity n = many n ∷ []

@@ -9,9 +9,9 @@ ghost use Rattle.par_lexer.specs.declared.word.TheConstants as words;
 ghost use Rattle.par_stmts.specs.par_reader.Reads.{IsOf, input};
 ghost use Rattle.par_tree.specs.Grammar as g;
 ghost use Rattle.par_tree.specs.Values.{tok};
-ghost use Rattle.par_parser.specs.Reads.{a_decl};
+ghost use Rattle.par_parser.specs.Reads.{a_decl, the_members};
 
-use crate::member::all_members;
+use crate::member::{Members, all_members};
 use par_grammar::sort::Sort;
 use par_lexer::list::List;
 use par_lexer::token::Token;
@@ -83,6 +83,19 @@ fn exception(
     }))
 }
 
+fn members_in_braces(alloc: Global, cursor: &mut Cursor<'_, Paragon>) -> Result<Members, ParseError>
+    ensures read { Reads
+        (symbol.token (sort.Sign signs.LEFT_BRACE) ∷ symbol.name g.Members
+        ∷ symbol.token (sort.Sign signs.RIGHT_BRACE) ∷ [])
+        [] the_members (input cursor.old) result (input cursor.new) }
+    ensures shorter { OnOk result (length cursor.new.left.now < length cursor.old.left.now) }
+{
+    cursor.take(Sort::Sign(sign::LEFT_BRACE))?;
+    let members = all_members(alloc, cursor)?;
+    cursor.take(Sort::Sign(sign::RIGHT_BRACE))?;
+    Ok(members)
+}
+
 #[tactic(auto, using(par_tree::proofs::Rules::run_built))]
 fn class_body(
     alloc: Global,
@@ -98,9 +111,7 @@ fn class_body(
     ensures shorter { OnOk result (length cursor.new.left.now < length cursor.old.left.now) }
 {
     let birth = may_policy(alloc, cursor)?;
-    cursor.take(Sort::Sign(sign::LEFT_BRACE))?;
-    let members = all_members(alloc, cursor)?;
-    cursor.take(Sort::Sign(sign::RIGHT_BRACE))?;
+    let members = members_in_braces(alloc, cursor)?;
     let id = ident(alloc, name)?;
     Ok(Decl::Class(ClassDecl {
         id,

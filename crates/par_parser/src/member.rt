@@ -10,7 +10,8 @@ ghost use Rattle.par_stmts.specs.par_policy_reader.Reads.{a_flag, may_be_policy}
 ghost use Rattle.par_stmts.specs.par_reader.Reads.{IsOf, input};
 ghost use Rattle.par_tree.specs.Grammar as g;
 ghost use Rattle.par_tree.specs.Values as value;
-ghost use Rattle.par_parser.specs.Reads.{a_front, a_typed, a_void, members_of, the_members};
+ghost use Rattle.par_parser.specs.Reads.{a_front, a_name, a_typed, a_void, an_inferred};
+ghost use Rattle.par_parser.specs.Reads.{members_of, the_members};
 
 use crate::method::method;
 use par_grammar::sort::Sort;
@@ -41,6 +42,13 @@ pub struct Members {
 pub struct Front {
     pub policy: Option<PolicyExpr>,
     pub is_static: bool,
+}
+
+/// What stands before the name of a field whose policy is inferred.
+#[derive(Drop)]
+pub struct Inferred {
+    pub is_static: bool,
+    pub ty: TypeTree,
 }
 
 fn no_members(alloc: Global) -> Members
@@ -125,6 +133,32 @@ fn marked_member(
     }
 }
 
+/// A field whose policy is inferred, from its `_` up to its name.
+fn inferred_front(alloc: Global, cursor: &mut Cursor<'_, Paragon>) -> Result<Inferred, ParseError>
+    ensures read { Reads
+        (symbol.token (sort.Word words.UNDERSCORE) ∷ symbol.name g.MayStatic
+        ∷ symbol.name g.AnyType ∷ [])
+        [] an_inferred (input cursor.old) result (input cursor.new) }
+    ensures shorter { OnOk result (length cursor.new.left.now < length cursor.old.left.now) }
+{
+    cursor.take(Sort::Word(word::UNDERSCORE))?;
+    let is_static = may_static(cursor)?;
+    let ty = any_type(alloc, cursor)?;
+    Ok(Inferred { is_static, ty })
+}
+
+/// The name of a field, with the semicolon behind it.
+fn last_name<'a>(cursor: &mut Cursor<'a, Paragon>) -> Result<&'a Token, ParseError>
+    ensures read { Reads (symbol.kept sort.Name ∷ symbol.token (sort.Sign signs.SEMICOLON) ∷ [])
+        [] a_name (input cursor.old) result (input cursor.new) }
+    ensures sort { IfOk result (λ token. IsOf sort.Name token.now) }
+    ensures shorter { OnOk result (length cursor.new.left.now < length cursor.old.left.now) }
+{
+    let name = cursor.keep(Sort::Name)?;
+    cursor.take(Sort::Sign(sign::SEMICOLON))?;
+    Ok(name)
+}
+
 #[tactic(auto, using(par_tree::proofs::Rules::run_built))]
 fn inferred_field(
     alloc: Global,
@@ -138,16 +172,13 @@ fn inferred_field(
         (the_members found) the_members (input cursor.old) result (input cursor.new) }
     ensures shorter { OnOk result (length cursor.new.left.now < length cursor.old.left.now) }
 {
-    cursor.take(Sort::Word(word::UNDERSCORE))?;
-    let is_static = may_static(cursor)?;
-    let ty = any_type(alloc, cursor)?;
-    let name = cursor.keep(Sort::Name)?;
-    cursor.take(Sort::Sign(sign::SEMICOLON))?;
+    let front = inferred_front(alloc, cursor)?;
+    let name = last_name(cursor)?;
     let id = ident(alloc, name)?;
     found.fields.push(FieldDecl {
         id,
-        is_static,
-        ty,
+        is_static: front.is_static,
+        ty: front.ty,
         policy: None,
         inferred: true,
     })?;
@@ -189,6 +220,26 @@ fn plain_member(
     }
 }
 
+/// The name of an input channel, with all that stands around it.
+fn input_name<'a>(cursor: &mut Cursor<'a, Paragon>) -> Result<&'a Token, ParseError>
+    ensures read { Reads
+        (symbol.token (sort.Word words.INPUT) ∷ symbol.token (sort.Word words.INT)
+        ∷ symbol.kept sort.Name ∷ symbol.token (sort.Sign signs.LEFT_PAREN)
+        ∷ symbol.token (sort.Sign signs.RIGHT_PAREN) ∷ symbol.token (sort.Sign signs.SEMICOLON)
+        ∷ [])
+        [] a_name (input cursor.old) result (input cursor.new) }
+    ensures sort { IfOk result (λ token. IsOf sort.Name token.now) }
+    ensures shorter { OnOk result (length cursor.new.left.now < length cursor.old.left.now) }
+{
+    cursor.take(Sort::Word(word::INPUT))?;
+    cursor.take(Sort::Word(word::INT))?;
+    let name = cursor.keep(Sort::Name)?;
+    cursor.take(Sort::Sign(sign::LEFT_PAREN))?;
+    cursor.take(Sort::Sign(sign::RIGHT_PAREN))?;
+    cursor.take(Sort::Sign(sign::SEMICOLON))?;
+    Ok(name)
+}
+
 #[tactic(auto, using(par_tree::proofs::Rules::run_built))]
 fn input_channel(
     alloc: Global,
@@ -205,12 +256,7 @@ fn input_channel(
         (input cursor.old) result (input cursor.new) }
     ensures shorter { OnOk result (length cursor.new.left.now < length cursor.old.left.now) }
 {
-    cursor.take(Sort::Word(word::INPUT))?;
-    cursor.take(Sort::Word(word::INT))?;
-    let name = cursor.keep(Sort::Name)?;
-    cursor.take(Sort::Sign(sign::LEFT_PAREN))?;
-    cursor.take(Sort::Sign(sign::RIGHT_PAREN))?;
-    cursor.take(Sort::Sign(sign::SEMICOLON))?;
+    let name = input_name(cursor)?;
     let id = ident(alloc, name)?;
     found.channels.push(ChannelDecl {
         id,
@@ -218,6 +264,29 @@ fn input_channel(
         policy,
     })?;
     Ok(found)
+}
+
+/// The name of an output channel, with all that stands around it.
+fn output_name<'a>(cursor: &mut Cursor<'a, Paragon>) -> Result<&'a Token, ParseError>
+    ensures read { Reads
+        (symbol.token (sort.Word words.OUTPUT) ∷ symbol.token (sort.Word words.VOID)
+        ∷ symbol.kept sort.Name ∷ symbol.token (sort.Sign signs.LEFT_PAREN)
+        ∷ symbol.token (sort.Word words.INT) ∷ symbol.token sort.Name
+        ∷ symbol.token (sort.Sign signs.RIGHT_PAREN) ∷ symbol.token (sort.Sign signs.SEMICOLON)
+        ∷ [])
+        [] a_name (input cursor.old) result (input cursor.new) }
+    ensures sort { IfOk result (λ token. IsOf sort.Name token.now) }
+    ensures shorter { OnOk result (length cursor.new.left.now < length cursor.old.left.now) }
+{
+    cursor.take(Sort::Word(word::OUTPUT))?;
+    cursor.take(Sort::Word(word::VOID))?;
+    let name = cursor.keep(Sort::Name)?;
+    cursor.take(Sort::Sign(sign::LEFT_PAREN))?;
+    cursor.take(Sort::Word(word::INT))?;
+    cursor.take(Sort::Name)?;
+    cursor.take(Sort::Sign(sign::RIGHT_PAREN))?;
+    cursor.take(Sort::Sign(sign::SEMICOLON))?;
+    Ok(name)
 }
 
 #[tactic(auto, using(par_tree::proofs::Rules::run_built))]
@@ -237,14 +306,7 @@ fn output_channel(
         (input cursor.old) result (input cursor.new) }
     ensures shorter { OnOk result (length cursor.new.left.now < length cursor.old.left.now) }
 {
-    cursor.take(Sort::Word(word::OUTPUT))?;
-    cursor.take(Sort::Word(word::VOID))?;
-    let name = cursor.keep(Sort::Name)?;
-    cursor.take(Sort::Sign(sign::LEFT_PAREN))?;
-    cursor.take(Sort::Word(word::INT))?;
-    cursor.take(Sort::Name)?;
-    cursor.take(Sort::Sign(sign::RIGHT_PAREN))?;
-    cursor.take(Sort::Sign(sign::SEMICOLON))?;
+    let name = output_name(cursor)?;
     let id = ident(alloc, name)?;
     found.channels.push(ChannelDecl {
         id,

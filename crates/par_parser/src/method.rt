@@ -7,9 +7,9 @@ ghost use Rattle.par_stmts.specs.par_language_laws.Reads.{Reads};
 ghost use Rattle.par_lexer.specs.declared.sign.TheConstants as signs;
 ghost use Rattle.par_stmts.specs.par_reader.Reads.{IsOf, input};
 ghost use Rattle.par_tree.specs.Grammar as g;
-ghost use Rattle.par_parser.specs.Reads.{a_head, a_param, the_members, the_params};
+ghost use Rattle.par_parser.specs.Reads.{a_head, a_param, a_tail, the_members, the_params};
 
-use crate::effect::all_effects;
+use crate::effect::{Effects, all_effects};
 use crate::member::{Front, Members};
 use par_grammar::sort::Sort;
 use par_lexer::list::List;
@@ -23,8 +23,17 @@ use par_stmts::par_reader::cursor::Cursor;
 use par_stmts::par_reader::error::ParseError;
 use par_stmts::stmt::block;
 use par_tree::decl::{MethodDecl, ParamDecl};
+use par_tree::stmt::Block;
 use par_tree::types::TypeTree;
 use std::alloc::Global;
+
+/// The parameters, the effects and the body of a method.
+#[derive(Drop)]
+pub struct Tail {
+    pub params: List<ParamDecl>,
+    pub effects: Effects,
+    pub body: Block,
+}
 
 /// A method from its parameters on.
 #[tactic(auto, using(crate::proofs::Lists::a_method))]
@@ -42,26 +51,57 @@ pub fn method(
         (input cursor.old) result (input cursor.new) }
     ensures shorter { OnOk result (length cursor.new.left.now < length cursor.old.left.now) }
 {
-    cursor.take(Sort::Sign(sign::LEFT_PAREN))?;
-    let params = params(alloc, cursor)?;
-    cursor.take(Sort::Sign(sign::RIGHT_PAREN))?;
-    let effects = all_effects(alloc, cursor)?;
-    let body = block(alloc, cursor)?;
+    let tail = tail(alloc, cursor)?;
     let id = ident(alloc, name)?;
     found.methods.push(MethodDecl {
         id,
         is_static: front.is_static,
         result: result_type,
         policy: front.policy,
-        params,
-        effects: effects.writes,
-        expects: effects.expects,
-        opens: effects.opens,
-        closes: effects.closes,
-        throws: effects.throws,
-        body,
+        params: tail.params,
+        effects: tail.effects.writes,
+        expects: tail.effects.expects,
+        opens: tail.effects.opens,
+        closes: tail.effects.closes,
+        throws: tail.effects.throws,
+        body: tail.body,
     })?;
     Ok(found)
+}
+
+/// What stands behind the name of a method.
+fn tail(alloc: Global, cursor: &mut Cursor<'_, Paragon>) -> Result<Tail, ParseError>
+    ensures read { Reads
+        (symbol.token (sort.Sign signs.LEFT_PAREN) ∷ symbol.name g.Params
+        ∷ symbol.token (sort.Sign signs.RIGHT_PAREN) ∷ symbol.name g.Effects
+        ∷ symbol.name g.Block ∷ [])
+        [] a_tail (input cursor.old) result (input cursor.new) }
+    ensures shorter { OnOk result (length cursor.new.left.now < length cursor.old.left.now) }
+{
+    let params = params_in_parens(alloc, cursor)?;
+    let effects = all_effects(alloc, cursor)?;
+    let body = block(alloc, cursor)?;
+    Ok(Tail {
+        params,
+        effects,
+        body,
+    })
+}
+
+fn params_in_parens(
+    alloc: Global,
+    cursor: &mut Cursor<'_, Paragon>,
+) -> Result<List<ParamDecl>, ParseError>
+    ensures read { Reads
+        (symbol.token (sort.Sign signs.LEFT_PAREN) ∷ symbol.name g.Params
+        ∷ symbol.token (sort.Sign signs.RIGHT_PAREN) ∷ [])
+        [] the_params (input cursor.old) result (input cursor.new) }
+    ensures shorter { OnOk result (length cursor.new.left.now < length cursor.old.left.now) }
+{
+    cursor.take(Sort::Sign(sign::LEFT_PAREN))?;
+    let params = params(alloc, cursor)?;
+    cursor.take(Sort::Sign(sign::RIGHT_PAREN))?;
+    Ok(params)
 }
 
 fn params(alloc: Global, cursor: &mut Cursor<'_, Paragon>) -> Result<List<ParamDecl>, ParseError>
