@@ -2,6 +2,7 @@ mod Parted
 mod Repeated
 mod Counted
 mod Tables
+mod Taking
 mod Meeting
 mod Placing
 mod Saying

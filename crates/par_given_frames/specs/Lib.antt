@@ -1,5 +1,6 @@
 pub mod Reads
 pub mod Sizes
+pub mod Takes
 pub mod Met
 pub mod Named
 pub mod Before

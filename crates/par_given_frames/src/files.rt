@@ -9,6 +9,7 @@ ghost use Rattle.par_given_frames.specs.Answers.{IsFirstBroken, FramesOf};
 
 use crate::error::Unread;
 use crate::methods::{has_frames, method_frames};
+use crate::takes::argument_counts;
 use par_base::list::List;
 use par_base::memory::NoMemory;
 use par_class::file::ClassFile;
@@ -25,8 +26,9 @@ pub fn first_unframed(alloc: Global, file: &ClassFile) -> Result<Option<u32>, No
     ensures { IfOk result (λ method. IsFirstBroken file.now method) }
 {
     let methods = file.methods.as_slice();
+    let counts = argument_counts(alloc, file.pool.entries.as_slice())?;
     for place in 0..methods.len() {
-        if !has_frames(alloc, file, &methods[place])? {
+        if !has_frames(alloc, counts.as_slice(), file, &methods[place])? {
             return Ok(Some(place as u32));
         }
     }
@@ -41,9 +43,10 @@ pub fn frames_of(alloc: Global, file: &ClassFile) -> Result<List<MethodFrames>, 
     ensures { FramesOf file.now result }
 {
     let methods = file.methods.as_slice();
+    let counts = argument_counts(alloc, file.pool.entries.as_slice())?;
     let mut frames = List::new(alloc);
     for place in 0..methods.len() {
-        match method_frames(alloc, file, &methods[place]) {
+        match method_frames(alloc, counts.as_slice(), file, &methods[place]) {
             Ok(of_method) => frames.push(of_method)?,
             Err(Unread::Refused) => {
                 return Err(FrameError::Broken {

@@ -15,6 +15,7 @@ mod laws;
 mod methods;
 mod needed;
 mod sizes;
+mod takes;
 
 pub use files::{UNFRAMED, first_unframed, frames_of};
 pub use laws::written_frames_are_read;

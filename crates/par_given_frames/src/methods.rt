@@ -14,12 +14,14 @@ ghost use Rattle.par_given_frames.specs.Reads.{Gives};
 ghost use Rattle.par_given_frames.specs.Named as named;
 ghost use Rattle.par_given_frames.specs.Named.{AreNamed, GivesFrames};
 ghost use Rattle.par_given_frames.specs.Answers.{AnswersFor, AreRight};
+ghost use Rattle.par_given_frames.specs.Takes.{AreCounts};
 
 use crate::error::Unread;
 use crate::form_reader::forms_in;
 use crate::frames::{frames_said, start_of};
 use crate::needed::are_met;
 use crate::sizes::place_all;
+use crate::takes::many_given;
 use par_base::list::List;
 use par_base::memory::NoMemory;
 use par_class::file::{Attribute, ClassFile, CodeAttr, MethodFile};
@@ -27,8 +29,6 @@ use par_frame_forms::FrameForm;
 use par_kinds::frame::{MethodFrames, PlacedFrame};
 use par_pool::constant::Constant;
 use par_pool::kind::entry;
-use par_single::descriptor::method_signature;
-use par_single::member::{is_static, text_at};
 use par_starts::Starts;
 use std::alloc::Global;
 
@@ -74,23 +74,6 @@ fn forms_given(
     Ok(List::new(alloc))
 }
 
-/// The number of the receiver and the arguments of a method.
-fn many_given(alloc: Global, file: &ClassFile, m: &MethodFile) -> Result<usize, NoMemory>
-    ensures many { IfOk result (λ many. many ≡ length (given.start_of file.now m.now)) }
-    ensures few { IfOk result (λ many. many < 2 ^ 63) }
-{
-    let descriptor = text_at(file.pool.entries.as_slice(), m.descriptor);
-    let arguments = match method_signature(alloc, descriptor)? {
-        Some(signature) => signature.takes.as_slice().len(),
-        None => 0,
-    };
-    Ok(if is_static(m.access) {
-        arguments
-    } else {
-        arguments + 1
-    })
-}
-
 /// Whether all forms say frames that stand where they may, and all needed offsets have one.
 fn are_right(
     flags: &mut [bool],
@@ -112,11 +95,13 @@ fn are_right(
 /// Whether the attributes of code give frames.
 fn gives_frames(
     alloc: Global,
+    counts: &[usize],
     file: &ClassFile,
     m: &MethodFile,
     code: &CodeAttr,
 ) -> Result<bool, NoMemory>
-    requires { length code.now.code ≤ 65535 }
+    requires short { length code.now.code ≤ 65535 }
+    requires counted { AreCounts file.now.pool.entries counts.now }
     ensures { IfOk result (λ gives. IsTrue gives ↔ GivesFrames file.now m.now code.now) }
 {
     let entries = file.pool.entries.as_slice();
@@ -128,7 +113,7 @@ fn gives_frames(
     let bytes = code.code.as_slice();
     let starts = Starts::of(alloc, bytes)?;
     let mut flags = vec![in alloc; false; bytes.len()]?;
-    let listed = many_given(alloc, file, m)?;
+    let listed = many_given(counts, m);
     Ok(are_right(
         flags.as_mut_slice(),
         &starts,
@@ -140,15 +125,21 @@ fn gives_frames(
 }
 
 /// Whether a method has frames, of which none is kept.
-pub(crate) fn has_frames(alloc: Global, file: &ClassFile, m: &MethodFile) -> Result<bool, NoMemory>
-    requires { IsTrue (is_short m.now.code) }
+pub(crate) fn has_frames(
+    alloc: Global,
+    counts: &[usize],
+    file: &ClassFile,
+    m: &MethodFile,
+) -> Result<bool, NoMemory>
+    requires short { IsTrue (is_short m.now.code) }
+    requires counted { AreCounts file.now.pool.entries counts.now }
     ensures { IfOk result (λ has. IsTrue has ↔ HasFrames file.now m.now) }
 {
     if file.major != FRAMED {
         return Ok(true);
     }
     match &m.code {
-        Some(code) => gives_frames(alloc, file, m, code),
+        Some(code) => gives_frames(alloc, counts, file, m, code),
         None => Ok(true),
     }
 }
@@ -174,10 +165,12 @@ fn given_frames(
 /// The frames of a method.
 pub(crate) fn method_frames(
     alloc: Global,
+    counts: &[usize],
     file: &ClassFile,
     m: &MethodFile,
 ) -> Result<MethodFrames, Unread>
     requires short { IsTrue (is_short m.now.code) }
+    requires counted { AreCounts file.now.pool.entries counts.now }
     requires own { IsName (members.own_name file.now) }
     requires named { AreNamed file.now.pool.entries }
     ensures { AnswersFor file.now m.now result }
@@ -187,7 +180,7 @@ pub(crate) fn method_frames(
             at: List::new(alloc),
         });
     }
-    if !has_frames(alloc, file, m)? {
+    if !has_frames(alloc, counts, file, m)? {
         return Err(Unread::Refused);
     }
     match &m.code {

@@ -150,10 +150,9 @@ catches_next d b cs p c r g m f i h q w a x y =
     ∙ sym (ap (λ l. catches d b (all_catch l) (p - 1)) (drop_at cs p c i h q)))
 
 -- from where a catch is entered, by what its block can throw
-pub start_is : (b : Node) (class before : ℕ) (js xs : List code.Kind) (t u : Bool)
-    → among js ≡ can b → xs ≡ js → t ≡ among xs (kinds.Throw class) → t ≡ u
+pub start_is : (b : Node) (class before : ℕ) (js : List code.Kind) (t u : Bool)
+    → among js ≡ can b → t ≡ among js (kinds.Throw class) → t ≡ u
     → cond u (After before (kinds.Throw class)) Entry ≡ catch_start b class before
-start_is b class before js xs t u e x f h =
-    let g : u ≡ can b (kinds.Throw class) = sym h ∙ f ∙ ap (λ l. among l (kinds.Throw class)) x
-    ∙ ap (λ k. k (kinds.Throw class)) e in
+start_is b class before js t u e f h =
+    let g : u ≡ can b (kinds.Throw class) = sym h ∙ f ∙ ap (λ k. k (kinds.Throw class)) e in
     ap (λ y. cond y (After before (kinds.Throw class)) Entry) g

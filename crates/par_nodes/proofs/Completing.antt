@@ -26,6 +26,7 @@ use Rattle.par_nodes.proofs.Forms.{seen_worths}
 use Rattle.par_nodes.specs.Seen.{seen_absorber, seen_worth, seen_node, seen_rules}
 use Rattle.par_nodes.specs.Seen.{seen_kind, seen_start, seen_origin, assigned, tested, raised, shut}
 use Rattle.par_nodes.specs.Seen.{opened}
+use Rattle.par_nodes.specs.Listed.{listed}
 use Rattle.par_nodes.specs.Possible.{among, either, if_so, apart, cans, parts_can}
 
 or_false : (a : Bool) → (a || false) ≡ a
@@ -173,6 +174,31 @@ left a j f e = fun_ext (λ k. by_case k (same j k) refl) where
       let g : absorbed a k ≡ false = ap (absorbed a) (sym (same_true j k h)) ∙ e in
       sym (ap (λ b. f k || (same j k && not b)) g ∙ ap (λ b. f k || b) (and_true (same j k)))
   by_case k false h = ap (λ b. f k || b) (h ∙ sym (ap (λ b. b && not (absorbed a k)) h))
+
+-- one of the completions is the normal one, or one of the others
+pub listed_has : (b : Bool) (js : List code.Kind) (k : Kind)
+    → among (listed b js) k ≡ ((b && same Normal k) || among js k)
+listed_has true js k = refl
+listed_has false js k = refl
+
+-- another completion is there from now on
+pub other_added : (b : Bool) (js ks : List code.Kind) (k : Kind)
+    → among ks ≡ either (among js) (same k)
+    → among (listed b ks) ≡ either (among (listed b js)) (same k)
+other_added true js ks k e =
+    ap (λ f. either (same Normal) f) e
+    ∙ fun_ext (λ j. sym (or_assoc (same Normal j) (among js j) (same k j)))
+other_added false js ks k e = e
+
+-- the normal completion of a part, and the others
+pub part_kept : (a : Absorber) (b : Bool) (js xs : List code.Kind) (k0 k1 k2 : Kind → Bool)
+    → b ≡ true → xs ≡ js → k1 ≡ either k0 (apart a (same Normal))
+    → k2 ≡ either k1 (apart a (among xs)) → k2 ≡ either k0 (apart a (among (listed b js)))
+part_kept a b js xs k0 k1 k2 t x g h =
+    h ∙ ap (λ f. either f (apart a (among xs))) g
+    ∙ ap (λ l. either (either k0 (apart a (same Normal))) (apart a (among l))) x
+    ∙ fun_ext (λ k. keep_step (k0 k) (same Normal k) (among js k) (not (absorbed a k)))
+    ∙ sym (ap (λ c. either k0 (apart a (among (listed c js)))) t)
 
 -- one more of those that were found
 pub kept_next : (a : Absorber) (js : List code.Kind) (i : ℕ) (d : code.Kind)
@@ -349,20 +375,19 @@ worths_told rs w q m is v =
     ∙ sym (ap (λ y. parts_can (seen_rules y)) v)
 
 -- a part that is added, where it is entered
-pub part_added : (found rest parts more_parts : List (List code.Kind)) (js xs : List code.Kind)
+pub part_added : (found rest parts more_parts : List (List code.Kind)) (js : List code.Kind)
     (a : Absorber) (k0 k1 : Kind → Bool) (b : Bool)
     → ((f : Kind → Bool) (fs : List (Kind → Bool)) → cans found [] ≡ f ∷ fs → among js ≡ if_so b f)
     → ((f : Kind → Bool) (fs : List (Kind → Bool)) → cans found [] ≡ f ∷ fs → cans rest [] ≡ fs)
-    → xs ≡ js → k1 ≡ either k0 (apart a (among xs)) → more_parts ≡ parts ++ js ∷ []
+    → k1 ≡ either k0 (apart a (among js)) → more_parts ≡ parts ++ js ∷ []
     → (f : Kind → Bool) (fs : List (Kind → Bool)) → cans found [] ≡ f ∷ fs
     → (cans rest [] ≡ fs) × (cans more_parts [] ≡ if_so b f ∷ cans parts [])
     × (k1 ≡ either k0 (apart a (if_so b f)))
-part_added found rest parts more_parts js xs a k0 k1 b told left x g p f fs h = (
+part_added found rest parts more_parts js a k0 k1 b told left g p f fs h = (
   left f fs h,
   ap (λ l. cans l []) p ∙ cans_push parts js []
       ∙ ap (λ y. y ∷ cans parts []) (told f fs h),
-  g ∙ ap (λ y. either k0 (apart a (among y))) x
-      ∙ ap (λ y. either k0 (apart a y)) (told f fs h),
+  g ∙ ap (λ y. either k0 (apart a y)) (told f fs h),
 )
 
 pub part_made : (rs : tree.Rules) (o : Origin) (a : tree_absorber.Absorber)

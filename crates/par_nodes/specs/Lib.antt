@@ -1,4 +1,5 @@
 pub mod Seen
+pub mod Listed
 pub mod Possible
 pub mod Starts
 pub use Rattle.par_flow_laws.specs as par_flow_laws

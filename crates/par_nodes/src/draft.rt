@@ -5,9 +5,9 @@ ghost use Rattle.par_flow_laws.specs.Rules as plain;
 ghost use Rattle.par_nodes.specs.Seen.{seen_node, seen_rules};
 ghost use Rattle.par_nodes.specs.Possible.{among, cans, parts_can};
 
+use crate::kinds::Kinds;
 use crate::possible::completions;
-use crate::rule::{Kind, Node, Rules};
-use par_base::list::List;
+use crate::rule::{Node, Rules};
 use par_base::memory::NoMemory;
 use std::alloc::Global;
 
@@ -15,7 +15,7 @@ use std::alloc::Global;
 #[derive(Drop)]
 pub struct Known<'a> {
     pub node: Node<'a>,
-    pub kinds: List<Kind>,
+    pub kinds: Kinds,
     ghost known: { among kinds ≡ plain.can (seen_node node) },
 }
 
@@ -23,7 +23,7 @@ pub struct Known<'a> {
 #[derive(Drop)]
 pub struct Draft<'a> {
     pub rules: Rules<'a>,
-    pub found: Vec<List<Kind>>,
+    pub found: Vec<Kinds>,
     ghost told: { cans found.items [] ≡ parts_can (seen_rules rules) },
 }
 

@@ -11,6 +11,7 @@ mod call;
 pub mod declared;
 pub mod draft;
 pub mod expr;
+pub mod kinds;
 mod make;
 pub mod possible;
 pub mod rule;

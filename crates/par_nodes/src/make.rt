@@ -9,8 +9,8 @@ ghost use Rattle.par_nodes.specs.Seen.{seen_absorber, seen_kind, seen_node, seen
 ghost use Rattle.par_nodes.specs.Seen.{seen_rules, seen_worth};
 
 use crate::draft::{Draft, Known};
+use crate::kinds::Kinds;
 use crate::rule::{Absorber, Kind, Locks, Node, Origin, Rules, Start, Worth};
-use par_base::list::List;
 use par_base::memory::NoMemory;
 use std::alloc::Global;
 
@@ -60,7 +60,7 @@ pub fn done<'a>(alloc: Global) -> Draft<'a>
 struct Boxes<'a> {
     node: Box<Node<'a>>,
     more: Box<Rules<'a>>,
-    found: Vec<List<Kind>>,
+    found: Vec<Kinds>,
     ghost told: { cans found.items [] ≡ plain.can (seen_node node.value)
         ∷ parts_can (seen_rules more.value) },
 }

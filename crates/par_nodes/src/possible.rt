@@ -7,6 +7,7 @@ ghost use Rattle.par_flow_laws.specs.Rules as plain;
 ghost use Rattle.par_nodes.specs.Seen.{seen_absorber, seen_kind, seen_origin, seen_rules};
 ghost use Rattle.par_nodes.specs.Possible.{among, apart, cans, either, if_so, parts_can};
 
+use crate::kinds::Kinds;
 use crate::rule::{Absorber, Kind, Origin, Rules, Start};
 use par_base::list::List;
 use par_base::memory::NoMemory;
@@ -77,61 +78,26 @@ pub fn takes(absorber: &Absorber, kind: Kind) -> bool
     }
 }
 
-// One more completion, which is held once.
-fn add(kinds: &mut List<Kind>, kind: Kind) -> Result<(), NoMemory>
-    ensures { OnOk result (among kinds.new ≡ either (among kinds.old)
-        (flow.same (seen_kind kind))) }
-{
-    if among(kinds.as_slice(), kind) {
-        return Ok(());
-    }
-    kinds.push(kind)?;
-    Ok(())
-}
-
-// One more completion, unless it is absorbed.
-fn keep(kinds: &mut List<Kind>, absorber: &Absorber, kind: Kind) -> Result<(), NoMemory>
-    ensures { OnOk result (among kinds.new ≡ either (among kinds.old)
-        (apart (seen_absorber absorber.now) (flow.same (seen_kind kind)))) }
-{
-    if takes(absorber, kind) {
-        return Ok(());
-    }
-    add(kinds, kind)?;
-    Ok(())
-}
-
-// Those that are not absorbed.
-fn keep_all(kinds: &mut List<Kind>, absorber: &Absorber, found: &[Kind]) -> Result<(), NoMemory>
-    ensures { OnOk result (among kinds.new ≡ either (among kinds.old)
-        (apart (seen_absorber absorber.now) (among found.now))) }
-{
-    for kind in found {
-        keep(kinds, absorber, *kind)?;
-    }
-    Ok(())
-}
-
 // A way that leaves, where it is there.
-fn leaves(kinds: &mut List<Kind>, comes: bool, kind: Kind) -> Result<(), NoMemory>
+fn leaves(kinds: &mut Kinds, comes: bool, kind: Kind) -> Result<(), NoMemory>
     ensures { OnOk result (among kinds.new ≡ either (among kinds.old)
         (if_so comes (flow.same (seen_kind kind)))) }
 {
     if comes {
-        add(kinds, kind)?;
+        kinds.add(kind)?;
     }
     Ok(())
 }
 
 // Whether the way is there, where the node is reached.
-fn comes(from: &Origin, parts: &[List<Kind>]) -> bool
+fn comes(from: &Origin, parts: &[Kinds]) -> bool
     ensures { result ≡ plain.comes (cans parts.now []) (seen_origin from.now) }
 {
     match from.start {
         Start::Entry => true,
         Start::After(part, kind) => {
             if part < parts.len() {
-                among(parts[parts.len() - 1 - part].as_slice(), kind)
+                parts[parts.len() - 1 - part].has(kind)
             } else {
                 false
             }
@@ -140,15 +106,15 @@ fn comes(from: &Origin, parts: &[List<Kind>]) -> bool
 }
 
 // The completions of the next part, where it is entered.
-fn entered(alloc: Global, found: &mut Vec<List<Kind>>, comes: bool) -> List<Kind>
+fn entered(alloc: Global, found: &mut Vec<Kinds>, comes: bool) -> Kinds
     ensures told { (f : flow.Kind → Bool) (fs : Items (flow.Kind → Bool))
         → cans found.old.items [] ≡ f ∷ fs → among result ≡ if_so comes f }
     ensures left { (f : flow.Kind → Bool) (fs : Items (flow.Kind → Bool))
         → cans found.old.items [] ≡ f ∷ fs → cans found.new.items [] ≡ fs }
 {
     match found.pop() {
-        None => List::new(alloc),
-        Some(kinds) => { if comes { kinds } else { List::new(alloc) } }
+        None => Kinds::new(alloc),
+        Some(kinds) => { if comes { kinds } else { Kinds::new(alloc) } }
     }
 }
 
@@ -157,9 +123,9 @@ fn add_part(
     alloc: Global,
     absorber: &Absorber,
     comes: bool,
-    found: &mut Vec<List<Kind>>,
-    parts: &mut List<List<Kind>>,
-    kinds: &mut List<Kind>,
+    found: &mut Vec<Kinds>,
+    parts: &mut List<Kinds>,
+    kinds: &mut Kinds,
 ) -> Result<(), NoMemory>
     ensures { OnOk result ((f : flow.Kind → Bool) (fs : Items (flow.Kind → Bool))
         → cans found.old.items [] ≡ f ∷ fs
@@ -169,7 +135,7 @@ fn add_part(
         (apart (seen_absorber absorber.now) (if_so comes f)))) }
 {
     let part = entered(alloc, found, comes);
-    keep_all(kinds, absorber, part.as_slice())?;
+    kinds.keep_part(absorber, &part)?;
     parts.push(part)?;
     Ok(())
 }
@@ -178,9 +144,9 @@ fn add_part(
 fn add_rules(
     alloc: Global,
     rules: &Rules,
-    found: &mut Vec<List<Kind>>,
-    parts: &mut List<List<Kind>>,
-    kinds: &mut List<Kind>,
+    found: &mut Vec<Kinds>,
+    parts: &mut List<Kinds>,
+    kinds: &mut Kinds,
 ) -> Result<(), NoMemory>
     ensures { OnOk result (cans found.old.items [] ≡ parts_can (seen_rules rules.now)
         → among kinds.new ≡ either (among kinds.old)
@@ -209,16 +175,12 @@ fn add_rules(
 
 /// The completions that are possible by these rules, of whose parts they are known. The first part
 /// comes last.
-pub fn completions(
-    alloc: Global,
-    rules: &Rules,
-    mut found: Vec<List<Kind>>,
-) -> Result<List<Kind>, NoMemory>
+pub fn completions(alloc: Global, rules: &Rules, mut found: Vec<Kinds>) -> Result<Kinds, NoMemory>
     requires { cans found.items [] ≡ parts_can (seen_rules rules.now) }
     ensures { IfOk result (λ kinds. among kinds ≡ plain.can_by [] (seen_rules rules.now)) }
 {
     let mut parts = List::new(alloc);
-    let mut kinds = List::new(alloc);
+    let mut kinds = Kinds::new(alloc);
     add_rules(alloc, rules, &mut found, &mut parts, &mut kinds)?;
     Ok(kinds)
 }

@@ -15,7 +15,6 @@ use crate::declared;
 use crate::draft::{Draft, Known};
 use crate::expr::{exp, null_test, operand, start_at};
 use crate::make::{self, ENTRY, PAST, TESTED};
-use crate::possible::among;
 use crate::rule::{Absorber, Kind, Locks, Origin, Start};
 use par_base::list::List;
 use par_base::memory::NoMemory;
@@ -367,7 +366,7 @@ fn catch_start(block: &Known, class: u16, before: usize) -> Start
     ensures { seen_start result ≡ catch_start (seen_node block.now.node) class before }
 {
     let thrown = Kind::Throw(class);
-    if among(block.kinds.as_slice(), thrown) {
+    if block.kinds.has(thrown) {
         Start::After(before, thrown)
     } else {
         Start::Entry

@@ -12,7 +12,7 @@ use Rattle.par_asked.specs.par_flow_laws.Closed.{IsClosed}
 use Rattle.par_asked.specs.par_pass_laws.Seens.{seen_as}
 use Rattle.par_asked.specs.par_pass_laws.Possible.{HasPossibleExits}
 use Rattle.par_asked.specs.par_pass_laws.Result.{AreLeast}
-use Rattle.par_asked.proofs.par_pass_laws.Instances.{seen, stands}
+use Rattle.par_pass_laws.proofs.Instances.{seen, stands}
 use Rattle.par_asked.specs.par_check_laws.Verdict.{among, IsAccepted, IsBroken}
 
 -- the facts are closed, and at or below all others that are, whichever policies have the numbers; a

@@ -1,14 +1,13 @@
-use Rattle.std.proofs.Common.{rules, arith, ap, sym, ◌∙◌, ◌-◌, length, []}
+use Rattle.std.proofs.Common.{rules, arith, sym, ◌∙◌, ◌-◌, length, []}
 use Rattle.par_nodes.specs.Seen.{seen_kind}
-use Rattle.par_nodes.specs.Possible.{among, cans}
+use Rattle.par_nodes.specs.Possible.{cans}
 use Rattle.par_nodes.proofs.Completing.{comes_entry, comes_after, cans_at, cans_past}
 use Rattle.par_nodes.proofs.possible.comes.Goals as goal
 
 pub returns-then-part-parts : goal.returns-then-part-parts
 returns-then-part-parts c =
     let parts = c.args.parts.now in let n = c.in-After.part in let k = seen_kind c.in-After.kind in
-    c.among.ensures ∙ ap (λ l. among l k) c.as_slice.ensures
-    ∙ sym (comes_after (cans parts []) c.args.from.now n c.in-After.kind c.in-After.is
+    c.has.ensures ∙ sym (comes_after (cans parts []) c.args.from.now n c.in-After.kind c.in-After.is
     ∙ cans_at parts [] n (length parts - 1 - n) k c.index-parts-parts.result (omega arith)
     (search rules))
 

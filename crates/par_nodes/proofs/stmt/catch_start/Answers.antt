@@ -3,14 +3,12 @@ use Rattle.par_nodes.specs.Seen.{seen_node}
 use Rattle.par_nodes.proofs.Branches.{start_is}
 use Rattle.par_nodes.proofs.stmt.catch_start.Goals as goal
 
-pub returns-then-among : goal.returns-then-among
-returns-then-among c =
+pub returns-then-has : goal.returns-then-has
+returns-then-has c =
     start_is (seen_node c.args.block.now.node) c.args.class c.args.before c.args.block.now.kinds
-    c.as_slice.result.now c.among.result true
-    c.args.block.now.known c.as_slice.ensures c.among.ensures c.if-among.true
+    c.has.result true c.args.block.now.known c.has.ensures c.if-has.true
 
-pub returns-else-among : goal.returns-else-among
-returns-else-among c =
+pub returns-else-has : goal.returns-else-has
+returns-else-has c =
     start_is (seen_node c.args.block.now.node) c.args.class c.args.before c.args.block.now.kinds
-    c.as_slice.result.now c.among.result false
-    c.args.block.now.known c.as_slice.ensures c.among.ensures c.if-among.false
+    c.has.result false c.args.block.now.known c.has.ensures c.if-has.false

@@ -2,7 +2,7 @@ use Rattle.std.proofs.Common.{ap, sym, ◌∙◌}
 use Rattle.par_nodes.specs.Seen.{seen_kind}
 use Rattle.par_nodes.specs.Possible.{among}
 use Rattle.par_nodes.proofs.Completing.{held, pushed}
-use Rattle.par_nodes.proofs.possible.add.Goals as goal
+use Rattle.par_nodes.proofs.kinds.hold.Goals as goal
 
 pub returns-then-among : goal.returns-then-among
 returns-then-among c =
