@@ -85,18 +85,35 @@ def nested_loops(part):
 
 
 def loops_around_objects(part):
-    """Loops as deep around 252 locals that hand on their objects: each way round all of them tells
-    of one local more that it has objects of several classes."""
+    """Loops 5,200 deep around 252 locals that hand on their objects: each way round all of them
+    tells of one local more that it has objects of several classes."""
     other = [long_class.utf8("java/lang/NullPointerException"), b"\x07\0\x08"]
     code = b"".join(b"\xbb\0\x02\x3a" + bytes([n]) for n in range(252))
-    heads = range(len(code), len(code) + 2 * int(2000 * part), 2)
+    heads = range(len(code), len(code) + 2 * 5200, 2)
     code += b"\x03\x57" * len(heads)
     code += b"".join(bytes([0x19, n, 0x3a, n + 1]) for n in reversed(range(251)))
     code += b"\xbb\0\x09\x3a\0"
     for head in reversed(heads):
         code += b"\x03"
         code += b"\x99" + struct.pack(">h", head - len(code))
-    return of_code(code + b"\xb1", 1, 252, 1, other), VERIFY
+    return of_code(code + b"\xb1", 1, 252, int(30 * part), other), VERIFY
+
+
+def kinds_that_rise(part):
+    """Jumps back to one another before and behind code that sets 252 locals to another kind, so
+    that each of them rises as often as it can before each jump."""
+    other = [long_class.utf8("java/lang/NullPointerException"), b"\x07\0\x08"]
+    other += [long_class.utf8("java/lang/ArithmeticException"), b"\x07\0\x0a"]
+    code = b"".join(b"\x01\x3a" + bytes([n]) for n in range(252))
+    back = len(code)
+    for made in (b"\xbb\0\x09\x3a", b"\xbb\0\x0b\x3a", b"\xbb\0\x02\x3a", b"\x03\x36"):
+        for _ in range(3700):
+            code += b"\x03\x99" + struct.pack(">h", back - len(code) - 1)
+            back = len(code) - 4
+        code += b"".join(made + bytes([n]) for n in range(252))
+        code += b"\x03\x99" + struct.pack(">h", back - len(code) - 1)
+        back = len(code) - 4
+    return of_code(code + b"\xb1", 1, 252, int(15 * part), other), VERIFY
 
 
 def operands_on_operands(part):
@@ -176,7 +193,8 @@ FILES = {
     "24,000 methods that share 60,000 arguments": arguments_shared,
     "252 locals that hand on objects, verified": objects_handed_on,
     "loops 5,300 deep with 255 locals, verified": nested_loops,
-    "loops 2,000 deep around locals that hand on objects, verified": loops_around_objects,
+    "loops 5,200 deep around locals that hand on objects, verified": loops_around_objects,
+    "kinds that rise as often as they can, verified": kinds_that_rise,
     "65,534 operands on one another, verified": operands_on_operands,
     "30,000 frames of 30,000 locals that are told, verified": frames_told,
     "65,535 handlers around all code, verified": handlers_around,

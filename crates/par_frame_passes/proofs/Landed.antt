@@ -1,10 +1,10 @@
 -- A way that is landed in a table that is kept.
-use Rattle.std.proofs.Common.{◌≡◌, ℕ, ℤ, zero, suc, pos, negsuc, ◌==◌, ◌⊎◌, inl, inr, ⊎_elim, Bool}
+use Rattle.std.proofs.Common.{◌≡◌, ℕ, ℤ, suc, pos, negsuc, ◌==◌, ⊎_elim, Bool}
 use Rattle.std.proofs.Common.{true, false, not, ◌&&◌, ◌||◌, cond, List, [], ◌∷◌, length, set}
-use Rattle.std.proofs.Common.{is_some, Some, None, Option, Result, Ok, refl, sym, ap, subst, ◌∙◌}
-use Rattle.std.proofs.Common.{arith, ◌<◌, ◌≤◌, length-set}
+use Rattle.std.proofs.Common.{is_some, Some, None, Option, Ok, refl, sym, ap, subst, ◌∙◌}
+use Rattle.std.proofs.Common.{arith, ◌<◌, length-set}
 use Rattle.std.specs.Prelude.{nat_le}
-use Rattle.std.proofs.lemmas.Bool.{eqb-true, eq-eqb, le-leb, leb-true}
+use Rattle.std.proofs.lemmas.Bool.{eqb-true, eq-eqb, le-leb}
 use Rattle.par_instr.specs.declared.instr.Instr.{Instr}
 use Rattle.par_class.specs.declared.file.Catch.{Catch}
 use Rattle.par_class.specs.declared.file.CodeAttr.{CodeAttr}
@@ -13,18 +13,18 @@ use Rattle.par_single.specs.Walk.{starts_at}
 use Rattle.par_frame_moves.specs.par_kinds.declared.frame.VKind.{VKind}
 use Rattle.par_frame_moves.specs.par_kinds.Kinds.{KFrame, Both, Into, FrameInto, Each}
 use Rattle.par_frame_moves.specs.par_kinds.Acts.{Act}
-use Rattle.par_frame_moves.specs.par_kinds.Fits.{Given, Fitting}
+use Rattle.par_frame_moves.specs.par_kinds.Fits.{Given}
 use Rattle.par_frame_moves.proofs.par_kinds.Lists.{both-length}
 use Rattle.par_frame_pass_laws.specs.Passes.{Table, frame_at, Way, Step, landed, landed_at}
 use Rattle.par_frame_pass_laws.specs.Passes.{land_to, land}
 use Rattle.par_frame_pass_laws.specs.Passes.{all_into, frame_into, merge_all, merge_frames}
 use Rattle.par_frame_pass_laws.specs.Passes.{same_lengths}
-use Rattle.par_frame_pass_laws.specs.Passes.{is_sized, Below}
+use Rattle.par_frame_pass_laws.specs.Passes.{is_sized}
 use Rattle.par_frame_pass_laws.proofs.Lower.{all-below, below-all, below-both, frame-below}
 use Rattle.par_frame_pass_laws.proofs.Lower.{below-frame}
 use Rattle.par_frame_pass_laws.proofs.Lower.{frame-least, all_both, both_all, below-same}
 use Rattle.par_frame_pass_laws.proofs.Ending.{starts-within}
-use Rattle.par_frame_passes.specs.Sweeps.{Calm, Fits, Never, Met, Meets, Kept, Went}
+use Rattle.par_frame_passes.specs.Sweeps.{Calm, Fits, Met, Meets, Kept, Went}
 use Rattle.par_frame_passes.specs.Tables.{NewAt}
 use Rattle.par_frame_passes.specs.declared.course.Course.{Course}
 use Rattle.par_frame_passes.specs.declared.course.Course.TheVariants as course

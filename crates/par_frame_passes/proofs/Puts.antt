@@ -1,6 +1,6 @@
 -- A frame that is kept, or taken.
 use Rattle.std.proofs.Common.{◌≡◌, ℕ, zero, suc, ◌<◌, ◌≤◌, List, [], ◌∷◌, Option, Some, None}
-use Rattle.std.proofs.Common.{length, set, get_or, refl, sym, subst, ap, arith}
+use Rattle.std.proofs.Common.{length, set, get_or, refl, sym, subst, arith}
 use Rattle.std.proofs.lemmas.List.{map-set, set_past, length-map}
 use Rattle.std.specs.Option.{option_map}
 use Rattle.par_frame_moves.specs.par_kinds.Kinds.{KFrame}

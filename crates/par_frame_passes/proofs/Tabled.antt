@@ -1,7 +1,7 @@
 -- Tables of frames of which one is put or taken.
-use Rattle.std.proofs.Common.{◌≡◌, ℕ, zero, suc, ◌<◌, ◌≤◌, ◌⊎◌, inl, inr, ⊎_elim, Option, Some}
+use Rattle.std.proofs.Common.{◌≡◌, ℕ, zero, suc, ◌<◌, ◌⊎◌, inl, inr, ⊎_elim, Option, Some}
 use Rattle.std.proofs.Common.{None}
-use Rattle.std.proofs.Common.{List, [], ◌∷◌, length, set, refl, sym, ap, subst, ◌∙◌, arith}
+use Rattle.std.proofs.Common.{[], ◌∷◌, length, set, refl, ap, arith}
 use Rattle.par_frame_moves.specs.par_kinds.Kinds.{KFrame}
 use Rattle.par_frame_pass_laws.specs.Passes.{Table, frame_at}
 

@@ -1,10 +1,10 @@
 -- One instruction of a table that is kept, and all of them.
-use Rattle.std.proofs.Common.{◌≡◌, ℕ, ℤ, zero, suc, pos, ◌+◌, ◌<◌, ◌≤◌, ◌==◌, ◌⊎◌, inl, inr, ⊎_elim}
-use Rattle.std.proofs.Common.{Bool, true, false, ◌&&◌, cond, List, [], ◌∷◌, ◌++◌, length, set}
-use Rattle.std.proofs.Common.{is_some, Some, None, Option, Result, Ok, refl, sym, ap, subst, ◌∙◌}
-use Rattle.std.proofs.Common.{arith, length-set, slice_index_or}
+use Rattle.std.proofs.Common.{◌≡◌, ℕ, ℤ, suc, ◌+◌, ◌≤◌, ◌==◌, ⊎_elim}
+use Rattle.std.proofs.Common.{Bool, true, false, ◌&&◌, cond, List, [], ◌∷◌, ◌++◌, length}
+use Rattle.std.proofs.Common.{is_some, Some, None, Ok, refl, sym, ap, subst, ◌∙◌}
+use Rattle.std.proofs.Common.{arith, length-set}
 use Rattle.std.specs.Prelude.{nat_le}
-use Rattle.std.proofs.lemmas.Bool.{eqb-true, leb-true, leb-false, le-leb, cases_lt}
+use Rattle.std.proofs.lemmas.Bool.{eqb-true, leb-true, le-leb, cases_lt}
 use Rattle.par_instr.specs.declared.instr.Instr.{Instr}
 use Rattle.par_instr.specs.Decoding.{Decoded, decoded_at}
 use Rattle.par_class.specs.declared.file.Catch.{Catch}
@@ -14,19 +14,19 @@ use Rattle.par_single.specs.Walk.{starts_at}
 use Rattle.par_frame_moves.specs.par_kinds.declared.frame.VKind.{VKind}
 use Rattle.par_frame_moves.specs.par_kinds.Kinds.{KFrame, Both, Into, FrameInto, Each}
 use Rattle.par_frame_moves.specs.par_kinds.Acts.{Act, ActFits, Flow, left_by, next_offsets}
-use Rattle.par_frame_moves.specs.par_kinds.Fits.{Given, around, GoesTo, CatchFits, FitsAt, Fitting}
+use Rattle.par_frame_moves.specs.par_kinds.Fits.{Given, around, GoesTo, CatchFits, FitsAt}
 use Rattle.par_frame_moves.proofs.par_kinds.Lists.{each-append, each-more}
 use Rattle.par_frame_pass_laws.specs.Passes.{Table, frame_at, Way, onward, handled, act_fits}
 use Rattle.par_frame_pass_laws.specs.Passes.{is_sized}
 use Rattle.par_frame_pass_laws.proofs.Lower.{frame-then, below-then, below-same, act-below}
 use Rattle.par_frame_pass_laws.proofs.Lower.{left-below}
 use Rattle.par_frame_pass_laws.proofs.Lower.{act-decided, decided-act, all_both}
-use Rattle.par_frame_passes.specs.Sweeps.{Calm, Fits, Never, Met, Meets, Kept, Went, Swept, Visited}
+use Rattle.par_frame_passes.specs.Sweeps.{Calm, Fits, Met, Meets, Kept, Went, Swept, Visited}
 use Rattle.par_frame_passes.specs.Sweeps.{Settles}
 use Rattle.par_frame_passes.specs.Tables.{Taken, taken_by, joined}
 use Rattle.par_frame_passes.specs.declared.course.Course.{Course}
 use Rattle.par_frame_passes.specs.declared.course.Course.TheVariants as course
-use Rattle.par_frame_passes.proofs.Tabled.{put-others, put-found, taken-gone, found-inside}
+use Rattle.par_frame_passes.proofs.Tabled.{put-others, put-found, found-inside}
 use Rattle.par_frame_passes.proofs.Ways.{went-then, each-first, each-last}
 
 module _ (exc : List Name) (act : Instr → Act) (handler_kind : Catch → VKind) (code : CodeAttr)

@@ -1,7 +1,7 @@
 -- Ways that are gone one after another.
 use Rattle.std.proofs.Common.{◌≡◌, ℕ, ◌<◌, ◌≤◌, ◌+◌, Bool, true, false, cond, List, [], ◌∷◌, ◌++◌}
-use Rattle.std.proofs.Common.{length, take, get_or, ℤ, Some, Option, Result, Ok, refl, sym, ap}
-use Rattle.std.proofs.Common.{subst, ◌∙◌, arith}
+use Rattle.std.proofs.Common.{length, take, get_or, ℤ, Result, Ok, refl, sym, ap}
+use Rattle.std.proofs.Common.{subst, ◌∙◌}
 use Rattle.std.proofs.lemmas.List.{take_more, take_all, append-nil}
 use Rattle.par_base.specs.declared.memory.NoMemory.{NoMemory}
 use Rattle.par_instr.specs.declared.instr.Instr.{Instr}
@@ -14,7 +14,7 @@ use Rattle.par_frame_moves.specs.par_kinds.Acts.{Act}
 use Rattle.par_frame_moves.specs.par_kinds.Fits.{Given, around}
 use Rattle.par_frame_moves.proofs.par_kinds.Lists.{each-append, each-more}
 use Rattle.par_frame_pass_laws.specs.Passes.{Table, Way, frame_at, onward, handled}
-use Rattle.par_frame_passes.specs.Sweeps.{Calm, Fits, Never, Met, Meets, Kept, Went}
+use Rattle.par_frame_passes.specs.Sweeps.{Calm, Met, Meets, Went}
 use Rattle.par_frame_passes.specs.Tables.{taken_by, joined}
 use Rattle.par_frame_passes.specs.declared.course.Course.{Course}
 use Rattle.par_frame_passes.specs.declared.course.Course.TheVariants as course

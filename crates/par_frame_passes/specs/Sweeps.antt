@@ -1,5 +1,5 @@
 -- Frames that are kept while code is gone through, below all frames that fit.
-use Rattle.std.specs.Prelude.{◌≡◌, ℕ, suc, ◌<◌, ◌≤◌, pos, Bool, true, false, List, length, Option}
+use Rattle.std.specs.Prelude.{◌≡◌, ℕ, suc, ◌<◌, ◌≤◌, pos, Bool, true, false, List, length}
 use Rattle.std.specs.Prelude.{Some, Result, Ok, Err}
 use Rattle.par_base.specs.declared.memory.NoMemory.{NoMemory}
 use Rattle.par_instr.specs.declared.instr.Instr.{Instr}

@@ -1,14 +1,16 @@
 //! What straight code makes of any frame: which places it sets, and to what.
 
+use crate::classes::Classes;
+use crate::small_kind::SmallKind;
 use par_base::memory::NoMemory;
+use par_frame_steps::Act;
 use par_frame_steps::act::Leaves;
-use par_frame_steps::{Act, PlaceKind};
 use std::alloc::Global;
 
 /// What a place holds behind the code.
 #[derive(Clone, Copy)]
-pub(crate) enum Held<'f> {
-    Kind(PlaceKind<'f>),
+pub(crate) enum Held {
+    Kind(SmallKind),
     /// What a local held before it.
     Local(u8),
     /// What an operand held before it, 0 for the one that was pushed last.
@@ -17,24 +19,24 @@ pub(crate) enum Held<'f> {
 
 /// A local that is set.
 #[derive(Clone, Copy)]
-pub(crate) struct Change<'f> {
+pub(crate) struct Change {
     pub(crate) local: u8,
-    pub(crate) to: Held<'f>,
+    pub(crate) to: Held,
 }
 
 /// What code makes of a frame.
 #[derive(Drop)]
-pub(crate) struct Effect<'f> {
-    pub(crate) changes: Vec<Change<'f>>,
+pub(crate) struct Effect {
+    pub(crate) changes: Vec<Change>,
     /// How many operands it takes of those that were there.
     pub(crate) taken: usize,
     /// What it pushes then, the last at the end.
-    pub(crate) pushed: Vec<Held<'f>>,
+    pub(crate) pushed: Vec<Held>,
 }
 
-impl<'f> Effect<'f> {
+impl Effect {
     /// That of no code.
-    pub(crate) fn of_nothing(alloc: Global) -> Effect<'f> {
+    pub(crate) fn of_nothing(alloc: Global) -> Effect {
         Effect {
             changes: Vec::new(alloc),
             taken: 0,
@@ -42,8 +44,18 @@ impl<'f> Effect<'f> {
         }
     }
 
+    /// Whether it sets a local.
+    pub(crate) fn sets(&self, place: usize) -> bool {
+        for change in self.changes.as_slice() {
+            if usize::from(change.local) == place {
+                return true;
+            }
+        }
+        false
+    }
+
     /// What a local holds behind the code so far.
-    fn local(&self, local: u8) -> Held<'f> {
+    fn local(&self, local: u8) -> Held {
         for change in self.changes.as_slice() {
             if change.local == local {
                 return change.to;
@@ -53,7 +65,7 @@ impl<'f> Effect<'f> {
     }
 
     /// Sets a local.
-    fn set(&mut self, local: u8, to: Held<'f>) -> Result<(), NoMemory> {
+    fn set(&mut self, local: u8, to: Held) -> Result<(), NoMemory> {
         for change in self.changes.as_mut_slice() {
             if change.local == local {
                 change.to = to;
@@ -65,7 +77,7 @@ impl<'f> Effect<'f> {
     }
 
     /// Takes an operand.
-    fn pop(&mut self) -> Held<'f> {
+    fn pop(&mut self) -> Held {
         if let Some(held) = self.pushed.pop() {
             return held;
         }
@@ -75,9 +87,9 @@ impl<'f> Effect<'f> {
     }
 
     /// Takes so many operands, and gives the first of them.
-    fn pop_all(&mut self, many: usize) -> Held<'f> {
+    fn pop_all(&mut self, many: usize) -> Held {
         if many == 0 {
-            return Held::Kind(PlaceKind::Top);
+            return Held::Kind(SmallKind::Top);
         }
         let first = self.pop();
         for _other in 1..many {
@@ -87,10 +99,17 @@ impl<'f> Effect<'f> {
     }
 
     /// Goes on by an instruction.
-    pub(crate) fn follow(&mut self, act: &Act<'f>) -> Result<(), NoMemory> {
+    pub(crate) fn follow<'f>(
+        &mut self,
+        classes: &mut Classes<'_, 'f>,
+        act: &Act<'f>,
+    ) -> Result<(), NoMemory> {
         let top = self.pop_all(act.takes.len());
         match act.leaves {
-            Leaves::Gives(Some(kind)) => self.pushed.push(Held::Kind(kind))?,
+            Leaves::Gives(Some(kind)) => {
+                let kind = classes.small(kind)?;
+                self.pushed.push(Held::Kind(kind))?;
+            }
             Leaves::Gives(None) => {}
             Leaves::Loads(x) => {
                 let held = self.local(x);

@@ -1,27 +1,28 @@
 //! Frames that a method may have where its code goes back.
 //!
 //! Nothing is promised of them: they are told to the way through the code, which looks at them as
-//! at all frames that are told. So they are found fast, by pieces of code in place of instructions.
+//! at all frames that are told. So they are found fast: a kind that rises before a piece of code
+//! goes on by itself, and no other place is looked at again.
 
 ghost use Rattle.std.specs.Prelude.{◌≤◌, length};
 ghost use Rattle.par_frame_passes.specs.Methods.{code_in};
 
 use crate::back::{back_offsets, is_marked};
-use crate::goes::is_around;
+use crate::before::Before;
+use crate::classes::Classes;
+use crate::facts::Facts;
 use crate::method::Method;
-use crate::piece::{Goals, Piece, heads, piece_at};
-use crate::places::Places;
+use crate::spots::{Spot, spots};
 use crate::table::kept;
 use par_base::memory::NoMemory;
-use par_frame_acts::caught;
-use par_frame_steps::PlaceFrame;
+use par_frame_steps::{PlaceFrame, PlaceKind};
 use std::alloc::Global;
 
-/// How many places are looked at for each byte of code, before nothing is guessed.
-const PATIENCE: usize = 400;
+/// How much is looked at for each byte of code, before nothing is guessed.
+const PATIENCE: usize = 4096;
 
-/// How often all pieces are gone through.
-const MOST_ROUNDS: usize = 65536;
+/// Locals that instructions can name.
+const NAMED: usize = 256;
 
 /// A frame that is guessed of an offset.
 #[derive(Drop)]
@@ -30,212 +31,95 @@ pub(crate) struct Guess<'f> {
     pub(crate) frame: PlaceFrame<'f>,
 }
 
-/// A piece, and what a frame holds before it, where one comes there.
+/// The pieces of a method, and what is known before them.
 #[derive(Drop)]
-struct Spot<'f> {
-    piece: Piece<'f>,
-    places: Option<Places<'f>>,
-    /// A frame is told that does not rise.
-    is_fixed: bool,
-    /// Its frame rose, and did not go on yet.
-    is_due: bool,
+struct Sketch<'m, 'f> {
+    classes: Classes<'m, 'f>,
+    spots: Vec<Spot>,
+    facts: Facts,
 }
 
-/// What became of all pieces.
-#[derive(Clone, Copy)]
-struct Round {
-    /// How many places were looked at.
-    places: usize,
-    rose: bool,
+/// How many locals a frame lists: those that instructions name or that are told.
+fn listed(method: &Method, table: &[Option<PlaceFrame>]) -> usize {
+    let mut many = NAMED.min(method.code.max_locals as usize);
+    for frame in table {
+        if let Some(frame) = frame {
+            many = many.max(frame.locals.len());
+        }
+    }
+    many
 }
 
-/// The pieces of a method.
-#[derive(Drop)]
-struct Sketch<'f> {
-    spots: Vec<Spot<'f>>,
-    /// The number of the piece of an offset.
-    numbers: Vec<Option<usize>>,
-}
-
-/// A piece before which a frame stands, if one is told.
-fn begun<'f>(
+/// The pieces of a method, none where its code is not whole or they have too many ways.
+fn sketched<'m, 'f>(
     alloc: Global,
-    told: Option<&PlaceFrame<'f>>,
-    piece: Piece<'f>,
-) -> Result<Spot<'f>, NoMemory> {
-    let places = match told {
-        Some(frame) => Some(Places::of_frame(alloc, frame)?),
-        None => None,
-    };
-    let is_told = places.is_some();
-    Ok(Spot {
-        piece,
-        places,
-        is_fixed: is_told,
-        is_due: is_told,
-    })
-}
-
-/// The pieces of a method, none where its code is not whole.
-fn sketched<'f>(
-    alloc: Global,
-    method: &Method<'_, 'f>,
+    method: &Method<'m, 'f>,
     table: &[Option<PlaceFrame<'f>>],
-) -> Result<Option<Sketch<'f>>, NoMemory>
+) -> Result<Option<Sketch<'m, 'f>>, NoMemory>
     requires { length (code_in method.now).code ≤ 65535 }
 {
-    let heads = heads(alloc, method, table)?;
-    let mut spots = Vec::new(alloc);
-    let mut numbers = Vec::new(alloc);
-    for at in 0..method.code.code.len() {
-        if is_marked(&heads, at) {
-            let Some(piece) = piece_at(alloc, method, &heads, at)? else {
-                return Ok(None);
-            };
-            numbers.push(Some(spots.len()))?;
-            spots.push(begun(alloc, kept(table, at), piece)?)?;
-        } else {
-            numbers.push(None)?;
-        }
-    }
-    Ok(Some(Sketch { spots, numbers }))
-}
-
-/// Lets places come before a piece.
-fn come<'f>(
-    alloc: Global,
-    exceptions: &[&[u8]],
-    spot: &mut Spot<'f>,
-    places: &Places<'f>,
-) -> Result<(), NoMemory> {
-    if spot.is_fixed {
-        return Ok(());
-    }
-    match &mut spot.places {
-        Some(kept) => {
-            if kept.rise(exceptions, places) {
-                spot.is_due = true;
-            }
-        }
-        None => {
-            spot.places = Some(places.copied(alloc)?);
-            spot.is_due = true;
-        }
-    }
-    Ok(())
-}
-
-/// What goes on from a piece.
-#[derive(Drop)]
-struct Going<'f> {
-    at: u32,
-    before: Places<'f>,
-    behind: Places<'f>,
-    goals: Goals,
-}
-
-/// What goes on from a piece, if its frame rose.
-fn gone<'f>(alloc: Global, spot: &mut Spot<'f>) -> Result<Option<Going<'f>>, NoMemory> {
-    if !spot.is_due {
-        return Ok(None);
-    }
-    spot.is_due = false;
-    let Some(places) = &spot.places else {
+    let mut classes = Classes::new(alloc, method.exceptions);
+    let Some(spots) = spots(alloc, method, table, &mut classes)? else {
         return Ok(None);
     };
-    Ok(Some(Going {
-        at: spot.piece.at,
-        before: places.copied(alloc)?,
-        behind: places.behind(alloc, &spot.piece.effect)?,
-        goals: spot.piece.goals,
+    let facts = Facts::of_nothing(alloc, &spots, listed(method, table))?;
+    Ok(Some(Sketch {
+        classes,
+        spots,
+        facts,
     }))
 }
 
-impl<'f> Sketch<'f> {
-    /// Lets places come to an offset.
-    fn come_to(
+impl<'f> Sketch<'_, 'f> {
+    /// Lets the frames that are told stand, and all go on from them until nothing rises: whether
+    /// that was soon.
+    fn settle(
         &mut self,
         alloc: Global,
-        method: &Method<'_, 'f>,
-        at: usize,
-        places: &Places<'f>,
-    ) -> Result<(), NoMemory> {
-        let Some(Some(number)) = self.numbers.get(at) else {
-            return Ok(());
-        };
-        match self.spots.get_mut(*number) {
-            Some(spot) => come(alloc, method.exceptions, spot, places),
-            None => Ok(()),
-        }
-    }
-
-    /// Lets places go on to the handlers that are around them.
-    fn throw(
-        &mut self,
-        alloc: Global,
-        method: &Method<'_, 'f>,
-        going: &Going<'f>,
-    ) -> Result<(), NoMemory> {
-        for catch in method.code.catches.as_slice() {
-            if is_around(going.at, catch) {
-                let kind = caught(method.linked, method.class, catch);
-                let places = going.before.caught(alloc, kind)?;
-                self.come_to(alloc, method, catch.handler as usize, &places)?;
+        table: &[Option<PlaceFrame<'f>>],
+        patience: usize,
+    ) -> Result<bool, NoMemory> {
+        for (number, spot) in self.spots.as_slice().iter().enumerate() {
+            if let Some(frame) = kept(table, spot.at as usize) {
+                self.facts.tell(alloc, &mut self.classes, number, frame)?;
             }
         }
-        Ok(())
+        self.facts.settle(alloc, &self.spots, patience)
     }
 
-    /// Lets the frame of a piece go on, if it rose: how many places were looked at.
-    fn go_on(
-        &mut self,
+    /// The kinds of some places.
+    fn kinds(
+        &self,
         alloc: Global,
-        method: &Method<'_, 'f>,
-        number: usize,
-    ) -> Result<usize, NoMemory> {
-        let Some(spot) = self.spots.get_mut(number) else {
-            return Ok(1);
-        };
-        let Some(going) = gone(alloc, spot)? else {
-            return Ok(1);
-        };
-        self.throw(alloc, method, &going)?;
-        if let Some(to) = going.goals.ahead {
-            self.come_to(alloc, method, to, &going.behind)?;
-        }
-        if let Some(to) = going.goals.aside {
-            self.come_to(alloc, method, to, &going.behind)?;
-        }
-        let ways = method.code.catches.len().saturating_add(2);
-        Ok(going.behind.count().saturating_mul(ways).max(2))
-    }
-
-    /// Lets each frame that rose go on: how many places were looked at, and whether one rose.
-    fn round(&mut self, alloc: Global, method: &Method<'_, 'f>) -> Result<Round, NoMemory> {
-        let mut places: usize = 0;
-        let mut rose = false;
-        for number in 0..self.spots.len() {
-            let looked = self.go_on(alloc, method, number)?;
-            places = places.saturating_add(looked);
-            rose = rose || looked > 1;
-        }
-        Ok(Round { places, rose })
-    }
-
-    /// Lets frames go on until none rises: whether that was soon.
-    fn settle(&mut self, alloc: Global, method: &Method<'_, 'f>) -> Result<bool, NoMemory> {
-        let mut left = method.code.code.len().saturating_mul(PATIENCE);
-        for _round in 0..MOST_ROUNDS {
-            let round = self.round(alloc, method)?;
-            if !round.rose {
-                return Ok(true);
+        before: &Before,
+        from: usize,
+        many: usize,
+    ) -> Result<Vec<PlaceKind<'f>>, NoMemory> {
+        let mut kinds = vec![in alloc; PlaceKind::Top; many]?;
+        for nth in 0..many {
+            let small = before.kind(from.saturating_add(nth));
+            if nth < kinds.len() {
+                kinds[nth] = self.classes.kind(small);
             }
-            let Some(rest) = left.checked_sub(round.places) else {
-                return Ok(false);
-            };
-            left = rest;
         }
-        Ok(false)
+        Ok(kinds)
+    }
+
+    /// The frame of what is known before a piece.
+    fn frame(
+        &self,
+        alloc: Global,
+        before: &Before,
+        many: usize,
+    ) -> Result<PlaceFrame<'f>, NoMemory> {
+        let locals = self.kinds(alloc, before, 0, self.facts.locals)?;
+        let mut stack = self.kinds(alloc, before, self.facts.locals, before.operands())?;
+        stack.as_mut_slice().reverse();
+        Ok(PlaceFrame {
+            many,
+            locals,
+            stack,
+        })
     }
 
     /// The frames of some offsets, but those that are told.
@@ -246,12 +130,11 @@ impl<'f> Sketch<'f> {
         wanted: &[bool],
     ) -> Result<Vec<Guess<'f>>, NoMemory> {
         let mut frames = Vec::new(alloc);
-        for spot in self.spots.as_slice() {
-            let at = spot.piece.at;
-            if is_marked(wanted, at as usize) && !spot.is_fixed {
-                if let Some(places) = &spot.places {
-                    let frame = places.frame(alloc, many)?;
-                    frames.push(Guess { at, frame })?;
+        for (number, spot) in self.spots.as_slice().iter().enumerate() {
+            if is_marked(wanted, spot.at as usize) && !spot.is_told {
+                if let Some(before) = self.facts.before(number) {
+                    let frame = self.frame(alloc, before, many)?;
+                    frames.push(Guess { at: spot.at, frame })?;
                 }
             }
         }
@@ -285,7 +168,8 @@ pub(crate) fn guessed<'f>(
     let Some(mut sketch) = sketched(alloc, method, table)? else {
         return Ok(Vec::new(alloc));
     };
-    if !sketch.settle(alloc, method)? {
+    let patience = method.code.code.len().saturating_mul(PATIENCE);
+    if !sketch.settle(alloc, table, patience)? {
         return Ok(Vec::new(alloc));
     }
     sketch.frames(alloc, method.code.max_locals as usize, &back)

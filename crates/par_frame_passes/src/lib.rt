@@ -7,8 +7,11 @@
 #![tactic(auto)]
 
 mod back;
+mod before;
+mod classes;
 mod course;
 mod effect;
+mod facts;
 mod fixpoint;
 mod goes;
 mod guess;
@@ -16,7 +19,8 @@ mod landings;
 mod method;
 mod outcome;
 mod piece;
-mod places;
+mod small_kind;
+mod spots;
 mod table;
 mod told_frames;
 mod visit;

@@ -4,8 +4,10 @@ ghost use Rattle.std.specs.Prelude.{◌≤◌, length};
 ghost use Rattle.par_frame_passes.specs.Methods.{code_in};
 
 use crate::back::{is_marked, mark};
+use crate::classes::Classes;
 use crate::effect::Effect;
 use crate::method::Method;
+use crate::table::kept;
 use par_base::memory::NoMemory;
 use par_class::file::Catch;
 use par_frame_acts::act;
@@ -23,9 +25,8 @@ pub(crate) struct Goals {
 
 /// A piece of code.
 #[derive(Drop)]
-pub(crate) struct Piece<'f> {
-    pub(crate) at: u32,
-    pub(crate) effect: Effect<'f>,
+pub(crate) struct Piece {
+    pub(crate) effect: Effect,
     pub(crate) goals: Goals,
 }
 
@@ -81,15 +82,6 @@ fn mark_handlers(catches: &[Catch], heads: &mut [bool]) {
     }
 }
 
-/// Marks where frames stand.
-fn mark_frames(table: &[Option<PlaceFrame>], heads: &mut [bool]) {
-    for (at, frame) in table.iter().enumerate() {
-        if frame.is_some() {
-            mark(heads, at);
-        }
-    }
-}
-
 /// Of each offset whether a piece begins there, where these frames stand.
 pub(crate) fn heads(
     alloc: Global,
@@ -101,9 +93,11 @@ pub(crate) fn heads(
     let bytes = method.code.code.as_slice();
     let catches = method.code.catches.as_slice();
     let mut heads = vec![in alloc; false; bytes.len()]?;
-    mark_frames(table, &mut heads);
     mark_handlers(catches, &mut heads);
     for at in 0..bytes.len() {
+        if kept(table, at).is_some() {
+            mark(&mut heads, at);
+        }
         if method.starts.has(at as u32) {
             mark_ends(bytes, !catches.is_empty(), &mut heads, at);
         }
@@ -135,12 +129,13 @@ fn goals_of(heads: &[bool], flow: Flow, at: usize, next: usize) -> Option<Goals>
 }
 
 /// The piece that begins at an offset, if its code is whole.
-pub(crate) fn piece_at<'f>(
+pub(crate) fn piece_at<'m, 'f>(
     alloc: Global,
-    method: &Method<'_, 'f>,
+    method: &Method<'m, 'f>,
     heads: &[bool],
+    classes: &mut Classes<'m, 'f>,
     from: usize,
-) -> Result<Option<Piece<'f>>, NoMemory>
+) -> Result<Option<Piece>, NoMemory>
     requires within { from ≤ length (code_in method.now).code }
     requires small { length (code_in method.now).code ≤ 65535 }
 {
@@ -152,13 +147,9 @@ pub(crate) fn piece_at<'f>(
             return Ok(None);
         };
         let act = act(alloc, method.linked, method.class, method.gives, instr)?;
-        effect.follow(&act)?;
+        effect.follow(classes, &act)?;
         if let Some(goals) = goals_of(heads, act.flow, at, next) {
-            return Ok(Some(Piece {
-                at: from as u32,
-                effect,
-                goals,
-            }));
+            return Ok(Some(Piece { effect, goals }));
         }
         at = next;
     }
