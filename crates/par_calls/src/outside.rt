@@ -38,14 +38,19 @@ fn holds(folder: &MemFolder, name: &str, bytes: &[u8]) -> bool {
     folder.get(name) == Some(bytes)
 }
 
-// A folder whose file was added twice, and whose fourth read and second write fail.
-fn folder_of_one(alloc: Global) -> Result<MemFolder, NoMemory> {
-    let mut folder = MemFolder::new(alloc);
+// Adds a file twice, and has the fourth read and the second write fail.
+fn set_up(folder: &mut MemFolder) -> Result<(), NoMemory> {
     folder.add("a", b"one")?;
     folder.add("a", b"three")?;
     folder.fail_read(4)?;
     folder.fail_write(2, 9)?;
     folder.fail_write(2, 2)?;
+    Ok(())
+}
+
+fn folder_of_one(alloc: Global) -> Result<MemFolder, NoMemory> {
+    let mut folder = MemFolder::new(alloc);
+    set_up(&mut folder)?;
     Ok(folder)
 }
 
@@ -63,17 +68,23 @@ fn check_faults(alloc: Global, folder: &mut MemFolder) -> Result<(), Fail> {
     Ok(())
 }
 
+fn check_reads(alloc: Global, folder: &mut MemFolder) -> Result<(), Fail> {
+    let is_read = reads(alloc, folder, "a", 5, b"three");
+    expect(is_read, "a file of 5 bytes")?;
+    check_faults(alloc, folder)
+}
+
+fn check_writes(alloc: Global, folder: &mut MemFolder) -> Result<(), Fail> {
+    expect(writes_once(alloc, folder), "the second write")?;
+    expect(holds(folder, "b", b"fi"), "two bytes are left")?;
+    expect(holds(folder, "a", b"three"), "the other file is kept")
+}
+
 #[test]
 fn a_folder_in_memory_reads_and_writes(rt: HostRuntime) -> Result<(), Fail> {
     let mut folder = folder_of_one(rt.alloc())?;
-    expect(
-        reads(rt.alloc(), &mut folder, "a", 5, b"three"),
-        "a file of 5 bytes",
-    )?;
-    check_faults(rt.alloc(), &mut folder)?;
-    expect(writes_once(rt.alloc(), &mut folder), "the second write")?;
-    expect(holds(&folder, "b", b"fi"), "two bytes are left")?;
-    expect(holds(&folder, "a", b"three"), "the other file is kept")
+    check_reads(rt.alloc(), &mut folder)?;
+    check_writes(rt.alloc(), &mut folder)
 }
 
 fn puts(sink: &mut MemSink, bytes: &[u8], is_taken: bool, held: &[u8]) -> bool {
@@ -81,16 +92,17 @@ fn puts(sink: &mut MemSink, bytes: &[u8], is_taken: bool, held: &[u8]) -> bool {
     is_put == is_taken && sink.bytes() == held
 }
 
+fn check_puts(sink: &mut MemSink) -> Result<(), Fail> {
+    expect(puts(sink, b"ab", true, b"ab"), "the first put")?;
+    expect(puts(sink, b"cd", false, b"abc"), "the put that fails")?;
+    expect(puts(sink, b"def", false, b"abcde"), "the put without room")
+}
+
 #[test]
 fn a_sink_in_memory_keeps_what_fits(rt: HostRuntime) -> Result<(), Fail> {
     let mut sink = MemSink::new(rt.alloc(), 5)?;
     sink.fail_put(2, 1);
-    expect(puts(&mut sink, b"ab", true, b"ab"), "the first put")?;
-    expect(puts(&mut sink, b"cd", false, b"abc"), "the put that fails")?;
-    expect(
-        puts(&mut sink, b"def", false, b"abcde"),
-        "the put without room",
-    )
+    check_puts(&mut sink)
 }
 
 // Whether no file of this name is there, and it is read once it was written.
@@ -166,21 +178,32 @@ fn keeps_all<F: Folder>(alloc: Global, folder: &mut F, name: &str, bytes: &[u8])
 // The first bytes of a class file.
 const CLASS_FILE: &[u8] = b"\xca\xfe\xba\xbe\x00\x00\x00\x34";
 
+// What is written over the long file.
+const SHORTER: &[(&str, &[u8])] = &[
+    ("a shorter one over it", CLASS_FILE),
+    ("the same once more", CLASS_FILE),
+    ("an empty one over it", b""),
+];
+
+fn check_shorter(rt: &HostRuntime, name: &str) -> Result<(), Fail> {
+    let mut folder = HostFolder::new(rt);
+    for (row, bytes) in SHORTER {
+        expect(keeps_all(rt.alloc(), &mut folder, name, bytes), row)?;
+    }
+    fs::remove_file(rt, name)?;
+    Ok(())
+}
+
+fn keeps_long(rt: &HostRuntime, name: &str) -> Result<bool, NoMemory> {
+    let long = long_file(rt.alloc())?;
+    let mut folder = HostFolder::new(rt);
+    Ok(keeps_all(rt.alloc(), &mut folder, name, long.as_slice()))
+}
+
 #[test]
 fn the_system_keeps_files_whole(rt: HostRuntime) -> Result<(), Fail> {
-    let alloc = rt.alloc();
     let name = own_name(&rt, ".class")?;
-    let name = name.as_str();
-    let long = long_file(alloc)?;
-    let mut folder = HostFolder::new(&rt);
-    for (row, bytes) in [
-        ("a file of 20,001 bytes", long.as_slice()),
-        ("a shorter one over it", CLASS_FILE),
-        ("the same once more", CLASS_FILE),
-        ("an empty one over it", b""),
-    ] {
-        expect(keeps_all(alloc, &mut folder, name, bytes), row)?;
-    }
-    fs::remove_file(&rt, name)?;
-    Ok(())
+    let is_kept = keeps_long(&rt, name.as_str())?;
+    expect(is_kept, "a file of 20,001 bytes")?;
+    check_shorter(&rt, name.as_str())
 }

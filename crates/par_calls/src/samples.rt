@@ -23,16 +23,15 @@ const SAMPLES: &[(&str, u64, usize, u64)] = &[
     ),
 ];
 
+fn is_sample(text: &[u8], length: usize, sum: u64) -> bool {
+    text.starts_with(b"actor alice, bob;\n") && text.len() == length && checksum(text) == sum
+}
+
 #[test]
 fn samples_are_those_of_a_script(rt: HostRuntime) -> Result<(), Fail> {
     for (row, number, length, sum) in SAMPLES {
         let text = sample(rt.alloc(), *number)?;
-        expect(
-            text.as_slice().starts_with(b"actor alice, bob;\n"),
-            "the first line",
-        )?;
-        expect(text.len() == *length, row)?;
-        expect(checksum(text.as_slice()) == *sum, row)?;
+        expect(is_sample(text.as_slice(), *length, *sum), row)?;
     }
     Ok(())
 }

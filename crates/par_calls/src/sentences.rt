@@ -125,15 +125,23 @@ fn are_statements(stmts: &[Stmt]) -> bool {
         && matches!(&back.kind, StmtKind::Return(None))
 }
 
-#[test]
-fn a_source_of_each_form_is_read(rt: HostRuntime) -> Result<(), Fail> {
-    let tokens = tokens_of(rt.alloc(), SHOP)?;
-    let program = parse(rt.alloc(), tokens.as_slice())?;
-    let Some(class) = class_of(&program) else {
+fn program(alloc: Global, source: &[u8]) -> Result<Program, Fail> {
+    let tokens = tokens_of(alloc, source)?;
+    Ok(parse(alloc, tokens.as_slice())?)
+}
+
+fn check_program(program: &Program) -> Result<(), Fail> {
+    let Some(class) = class_of(program) else {
         return Err(Fail::new("six declarations"));
     };
     expect(has_members(class), "two fields and two channels")?;
     expect(is_main(class), "two methods")
+}
+
+#[test]
+fn a_source_of_each_form_is_read(rt: HostRuntime) -> Result<(), Fail> {
+    let program = program(rt.alloc(), SHOP)?;
+    check_program(&program)
 }
 
 // Sources that are no sentences, with the error.
@@ -193,9 +201,8 @@ fn an_expression_is_read(rt: HostRuntime) -> Result<(), Fail> {
     if tokens.len() < 2 {
         return Err(Fail::new("few tokens"));
     }
-    let read = parse_expr(rt.alloc(), tokens.as_slice(), 2, 3)?;
-    let (read, next, nesting) = read;
-    expect(is_sum(&read), "a sum with a product in it")?;
-    expect(next == 10, "the semicolon is next")?;
-    expect(nesting == 6, "three more count")
+    let (read, next, nesting) = parse_expr(rt.alloc(), tokens.as_slice(), 2, 3)?;
+    // The semicolon is next, and three more count.
+    let is_so = is_sum(&read) && next == 10 && nesting == 6;
+    expect(is_so, "a sum with a product in it")
 }

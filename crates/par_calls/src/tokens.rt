@@ -41,10 +41,19 @@ fn has_one(trees: &List<Tree>) -> bool {
     trees.len() == 1 && trees.get(0).is_some() && trees.get(1).is_none()
 }
 
+fn leaf(alloc: Global) -> Result<Tree, Fail> {
+    named_tree(alloc, b"leaf", List::new(alloc))
+}
+
+fn leaves(alloc: Global) -> Result<List<Tree>, Fail> {
+    let mut leaves = List::wrap(Vec::new(alloc));
+    leaves.push(leaf(alloc)?)?;
+    Ok(leaves)
+}
+
 #[test]
 fn a_tree_holds_lists_of_trees(rt: HostRuntime) -> Result<(), Fail> {
-    let mut below = List::wrap(Vec::new(rt.alloc()));
-    below.push(named_tree(rt.alloc(), b"leaf", List::new(rt.alloc()))?)?;
+    let below = leaves(rt.alloc())?;
     expect(has_one(&below), "a list has what was pushed")?;
     let root = named_tree(rt.alloc(), b"root", below)?;
     expect(
@@ -148,19 +157,21 @@ fn has_no_token(alloc: Global, source: &[u8]) -> Result<bool, LexError> {
     Ok(lex(alloc, source)?.len() == 0)
 }
 
+fn check_blanks(alloc: Global, source: &mut Vec<u8>) -> Result<(), Fail> {
+    expect(has_no_token(alloc, source.as_slice())?, "262144 blanks")?;
+    source.push(b'#')?;
+    let fault = LexError::SourceTooLong(262_145);
+    expect(has_fault(alloc, source.as_slice(), &fault), "a byte more")
+}
+
 #[test]
 fn a_source_may_have_262144_bytes(rt: HostRuntime) -> Result<(), Fail> {
     let mut source = vec![in rt.alloc(); b' '; 262_144]?;
-    expect(
-        has_no_token(rt.alloc(), source.as_slice())?,
-        "262144 blanks",
-    )?;
-    source.push(b'#')?;
-    let fault = LexError::SourceTooLong(262_145);
-    expect(
-        has_fault(rt.alloc(), source.as_slice(), &fault),
-        "a byte more",
-    )?;
+    check_blanks(rt.alloc(), &mut source)
+}
+
+#[test]
+fn a_source_may_have_no_byte(rt: HostRuntime) -> Result<(), Fail> {
     expect(has_no_token(rt.alloc(), b"")?, "no byte")
 }
 

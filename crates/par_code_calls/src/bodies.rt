@@ -1,7 +1,7 @@
 //! What code small bodies have, over the trees that the reader and the typing give, with ample
 //! memory.
 
-use par_code::{Item, LabelFrame, Labelled, Slot, code_of};
+use par_code::{Handler, Item, LabelFrame, Labelled, Slot, code_of};
 use par_code_form::opcode::{
     GETFIELD, GETSTATIC, GOTO, IF_ACMPEQ, IF_ACMPNE, IF_ICMPEQ, IFEQ, IFNE, INVOKESPECIAL,
     INVOKESTATIC, INVOKEVIRTUAL, NEW, PUTFIELD, PUTSTATIC,
@@ -18,7 +18,7 @@ use std::alloc::Global;
 use std::rt::HostRuntime;
 use std::test::Fail;
 
-// What stands around the body of `main`.
+// What stands before the body of `main`.
 pub const BEFORE: &[u8] = b"lock Paid;
 class Bad extends Exception { }
 class Item { int f; Item me() { return this; } int take(int n) { return n; } }
@@ -30,7 +30,7 @@ class Shop {
   static void main() {
 ";
 
-pub const BEHIND: &[u8] = b"
+const BEHIND: &[u8] = b"
   }
 }
 ";
@@ -124,12 +124,16 @@ pub fn typed(alloc: Global, source: &[u8]) -> Result<Typed, Fail> {
     Ok(typed)
 }
 
-pub fn program(alloc: Global, body: &[u8]) -> Result<Plain, Fail> {
-    let mut source = Vec::new(alloc);
-    source.extend_from_slice(BEFORE)?;
+/// The program whose source has this text in the method `main`, which stands last in it.
+pub fn with_main(alloc: Global, before: &[u8], body: &[u8]) -> Result<Typed, Fail> {
+    let mut source = Vec::from_slice(alloc, before)?;
     source.extend_from_slice(body)?;
     source.extend_from_slice(BEHIND)?;
-    let typed = typed(alloc, source.as_slice())?;
+    typed(alloc, source.as_slice())
+}
+
+fn program(alloc: Global, body: &[u8]) -> Result<Plain, Fail> {
+    let typed = with_main(alloc, BEFORE, body)?;
     Ok(erase(alloc, &typed)?)
 }
 
@@ -592,12 +596,16 @@ const ROWS: &[Row] = &[
     },
 ];
 
+fn check_code(code: &Labelled, row: &Row) -> Result<(), Fail> {
+    expect(code.max_stack == row.most, "the most operands")?;
+    expect(are_items(code.items.as_slice(), row.items), "the items")
+}
+
 #[test]
 fn bodies_have_these_items(rt: HostRuntime) -> Result<(), Fail> {
     for row in ROWS {
         let code = code(rt.alloc(), row.body)?;
-        expect(code.max_stack == row.most, "the most operands")?;
-        expect(are_items(code.items.as_slice(), row.items), "the items")?;
+        check_code(&code, row)?;
     }
     Ok(())
 }
@@ -626,68 +634,69 @@ fn are_locals(frame: &LabelFrame, ints: usize) -> bool {
     true
 }
 
+fn has_handler(handlers: &[Handler]) -> bool {
+    let [handler] = handlers else {
+        return false;
+    };
+    let range = handler.from == 0 && handler.to == 1 && handler.goes == 3;
+    range && handler.class.bytes() == b"Bad".as_slice()
+}
+
+// The exception lies at the catch, and no operand behind the try.
+fn are_frames(frames: &[LabelFrame]) -> bool {
+    let [caught, again, behind] = frames else {
+        return false;
+    };
+    let of_catch = caught.label == 3 && are_locals(caught, 1) && caught.stack.len() == 1;
+    let of_loop = again.label == 4 && are_locals(again, 2);
+    let of_end = behind.label == 2 && are_locals(behind, 1) && behind.stack.len() == 0;
+    of_catch && of_loop && of_end
+}
+
+fn check_caught(code: &Labelled) -> Result<(), Fail> {
+    expect(code.max_locals == 2, "the locals")?;
+    expect(code.start.as_slice().is_empty(), "the start")?;
+    expect(has_handler(code.handlers.as_slice()), "the handler")?;
+    expect(are_frames(code.frames.as_slice()), "the frames")
+}
+
 #[test]
 fn a_catch_has_a_handler_and_a_frame(rt: HostRuntime) -> Result<(), Fail> {
     let code = code(rt.alloc(), CAUGHT)?;
-    expect(code.max_locals == 2, "the locals")?;
-    expect(code.start.as_slice().is_empty(), "the start")?;
-    let [handler] = code.handlers.as_slice() else {
-        return Err(Fail::new("the handlers"));
+    check_caught(&code)
+}
+
+const TAKEN: &[Wanted] = &[Wanted::Op(Instr::IloadShort(1)), Wanted::Op(Instr::Ireturn)];
+
+// An Item and a number.
+fn is_start(start: &[Slot]) -> bool {
+    let [receiver, number] = start else {
+        return false;
     };
-    expect(
-        handler.from == 0 && handler.to == 1 && handler.goes == 3,
-        "the range",
-    )?;
-    expect(handler.class.bytes() == b"Bad".as_slice(), "the class")?;
-    let [caught, again, behind] = code.frames.as_slice() else {
-        return Err(Fail::new("the frames"));
-    };
-    expect(
-        caught.label == 3 && are_locals(caught, 1),
-        "the locals of the catch",
-    )?;
-    expect(caught.stack.as_slice().len() == 1, "the exception")?;
-    expect(
-        again.label == 4 && are_locals(again, 2),
-        "the frame of the loop",
-    )?;
-    expect(
-        behind.label == 2 && are_locals(behind, 1),
-        "the frame behind the try",
-    )?;
-    expect(
-        behind.stack.as_slice().is_empty(),
-        "the operands behind the try",
-    )
+    match receiver {
+        Slot::Class(class) => is_int(number) && class.bytes() == b"Item".as_slice(),
+        _ => false,
+    }
+}
+
+fn check_take(code: &Labelled) -> Result<(), Fail> {
+    expect(are_items(code.items.as_slice(), TAKEN), "the items")?;
+    expect(code.max_locals == 2 && code.max_stack == 1, "the sizes")?;
+    expect(is_start(code.start.as_slice()), "the start")
 }
 
 #[test]
 fn a_receiver_is_the_first_local(rt: HostRuntime) -> Result<(), Fail> {
     let plain = program(rt.alloc(), b"")?;
     let code = code_of(rt.alloc(), &plain, ITEM, TAKE)?;
-    let wanted = [Wanted::Op(Instr::IloadShort(1)), Wanted::Op(Instr::Ireturn)];
-    expect(
-        are_items(code.items.as_slice(), wanted.as_slice()),
-        "the items",
-    )?;
-    expect(code.max_locals == 2 && code.max_stack == 1, "the sizes")?;
-    let [receiver, number] = code.start.as_slice() else {
-        return Err(Fail::new("the start"));
-    };
-    expect(is_int(number), "the argument")?;
-    match receiver {
-        Slot::Class(class) => expect(class.bytes() == b"Item".as_slice(), "the receiver"),
-        _ => Err(Fail::new("the receiver")),
-    }
+    check_take(&code)
 }
 
 const NESTED: &[u8] =
     b"try { try { shut(); } catch (Bad a) { got = 1; } } catch (Bad b) { got = 2; }";
 
-#[test]
-fn handlers_of_an_inner_try_come_first(rt: HostRuntime) -> Result<(), Fail> {
-    let code = code(rt.alloc(), NESTED)?;
-    let [inner, outer] = code.handlers.as_slice() else {
+fn check_nested(handlers: &[Handler]) -> Result<(), Fail> {
+    let [inner, outer] = handlers else {
         return Err(Fail::new("the handlers"));
     };
     expect(
@@ -698,6 +707,12 @@ fn handlers_of_an_inner_try_come_first(rt: HostRuntime) -> Result<(), Fail> {
         outer.from == 0 && outer.to == 1 && outer.goes == 7,
         "the outer one",
     )
+}
+
+#[test]
+fn handlers_of_an_inner_try_come_first(rt: HostRuntime) -> Result<(), Fail> {
+    let code = code(rt.alloc(), NESTED)?;
+    check_nested(code.handlers.as_slice())
 }
 
 // A body, and the labels of its frames.

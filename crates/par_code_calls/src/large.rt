@@ -1,6 +1,6 @@
 //! The code of the largest methods: as many nodes and as many locals as a method may have.
 
-use crate::bodies::{BEFORE, BEHIND, MAIN, RETURN, SET, SHOP, Wanted, is_item, typed};
+use crate::bodies::{BEFORE, MAIN, RETURN, SET, SHOP, Wanted, is_item, with_main};
 use par_code::{Item, Labelled, code_of};
 use par_erase::erase;
 use par_instr::Instr;
@@ -61,14 +61,6 @@ fn nodes(typed: &Typed) -> u32 {
     }
 }
 
-fn whole(alloc: Global, body: &[u8]) -> Result<Typed, Fail> {
-    let mut source = Vec::new(alloc);
-    source.extend_from_slice(BEFORE)?;
-    source.extend_from_slice(body)?;
-    source.extend_from_slice(BEHIND)?;
-    typed(alloc, source.as_slice())
-}
-
 fn code(alloc: Global, typed: &Typed) -> Result<Labelled, Fail> {
     let plain = erase(alloc, typed)?;
     Ok(code_of(alloc, &plain, SHOP, MAIN)?)
@@ -103,19 +95,21 @@ fn are_set(items: &[Item]) -> bool {
     true
 }
 
-fn with_locals(alloc: Global) -> Result<Typed, Fail> {
-    let mut body = Vec::new(alloc);
-    push_hundred(b'1', &mut body)?;
-    push_hundred(b'2', &mut body)?;
+fn push_locals(body: &mut Vec<u8>) -> Result<(), Fail> {
+    push_hundred(b'1', body)?;
+    push_hundred(b'2', body)?;
     body.extend_from_slice(b"got = a299;")?;
-    whole(alloc, body.as_slice())
+    Ok(())
 }
 
-#[test]
-fn two_hundred_locals_have_their_places(rt: HostRuntime) -> Result<(), Fail> {
-    let alloc = rt.alloc();
-    let typed = with_locals(alloc)?;
-    let code = code(alloc, &typed)?;
+fn with_locals(alloc: Global) -> Result<Labelled, Fail> {
+    let mut body = Vec::new(alloc);
+    push_locals(&mut body)?;
+    let typed = with_main(alloc, BEFORE, body.as_slice())?;
+    code(alloc, &typed)
+}
+
+fn check_locals(code: &Labelled) -> Result<(), Fail> {
     let items = code.items.as_slice();
     expect(code.max_locals == 200, "the locals")?;
     expect(code.max_stack == 1, "the operands")?;
@@ -124,6 +118,12 @@ fn two_hundred_locals_have_their_places(rt: HostRuntime) -> Result<(), Fail> {
         && stands(items, 401, SET)
         && stands(items, 402, RETURN);
     expect(last, "the last local is read")
+}
+
+#[test]
+fn two_hundred_locals_have_their_places(rt: HostRuntime) -> Result<(), Fail> {
+    let code = with_locals(rt.alloc())?;
+    check_locals(&code)
 }
 
 // What is counted of code.
@@ -172,32 +172,35 @@ fn has_counts(code: &Labelled, wanted: &Counts) -> bool {
         && code.frames.len() == wanted.frames
 }
 
+// Whether a program has as many nodes as it may have, and code with these counts and so many
+// locals.
+fn is_full(alloc: Global, typed: &Typed, wanted: &Counts, locals: u16) -> Result<bool, Fail> {
+    let code = code(alloc, typed)?;
+    let sizes = code.max_stack == 1 && code.max_locals == locals;
+    Ok(nodes(typed) == NODES && has_counts(&code, wanted) && sizes)
+}
+
 // A body of 1 node, 666 assignments of 3 and a block of 1.
 fn with_assignments(alloc: Global) -> Result<Typed, Fail> {
     let mut body = Vec::new(alloc);
     push_times(b"got = 1;\n", 666, &mut body)?;
     body.extend_from_slice(b"{ }")?;
-    whole(alloc, body.as_slice())
+    with_main(alloc, BEFORE, body.as_slice())
 }
+
+const OF_ASSIGNMENTS: Counts = Counts {
+    items: 1_333,
+    labels: 0,
+    bytes: 2_665,
+    handlers: 0,
+    frames: 0,
+};
 
 #[test]
 fn the_longest_row_of_assignments(rt: HostRuntime) -> Result<(), Fail> {
-    let alloc = rt.alloc();
-    let typed = with_assignments(alloc)?;
-    expect(nodes(&typed) == NODES, "the nodes of assignments")?;
-    let code = code(alloc, &typed)?;
-    let wanted = Counts {
-        items: 1_333,
-        labels: 0,
-        bytes: 2_665,
-        handlers: 0,
-        frames: 0,
-    };
-    expect(has_counts(&code, &wanted), "the code of assignments")?;
-    expect(
-        code.max_stack == 1 && code.max_locals == 0,
-        "the sizes of assignments",
-    )
+    let typed = with_assignments(rt.alloc())?;
+    let full = is_full(rt.alloc(), &typed, &OF_ASSIGNMENTS, 0)?;
+    expect(full, "the code of assignments")
 }
 
 // A declaration of 1 node, an assignment of 2, and below each some signs and a `true`.
@@ -218,30 +221,29 @@ fn push_all_turned(statements: u32, source: &mut Vec<u8>) -> Result<(), Fail> {
 // Of all nodes `!` has the most items, the most labels and the most frames. The nodes are 1 of the
 // body, 62, 30 times 63, and 47: 1,904 signs with 6 items and 8 bytes each, 32 numbers that are
 // stored, and a return.
+fn push_signs(body: &mut Vec<u8>) -> Result<(), Fail> {
+    push_turned(b"boolean b = ", 60, body)?;
+    push_all_turned(30, body)?;
+    push_turned(b"b = ", 44, body)
+}
+
 fn with_signs(alloc: Global) -> Result<Typed, Fail> {
     let mut body = Vec::new(alloc);
-    push_turned(b"boolean b = ", 60, &mut body)?;
-    push_all_turned(30, &mut body)?;
-    push_turned(b"b = ", 44, &mut body)?;
-    whole(alloc, body.as_slice())
+    push_signs(&mut body)?;
+    with_main(alloc, BEFORE, body.as_slice())
 }
+
+const OF_SIGNS: Counts = Counts {
+    items: 11_489,
+    labels: 3_808,
+    bytes: 15_297,
+    handlers: 0,
+    frames: 3_808,
+};
 
 #[test]
 fn the_most_labels(rt: HostRuntime) -> Result<(), Fail> {
-    let alloc = rt.alloc();
-    let typed = with_signs(alloc)?;
-    expect(nodes(&typed) == NODES, "the nodes of signs")?;
-    let code = code(alloc, &typed)?;
-    let wanted = Counts {
-        items: 11_489,
-        labels: 3_808,
-        bytes: 15_297,
-        handlers: 0,
-        frames: 3_808,
-    };
-    expect(has_counts(&code, &wanted), "the code of signs")?;
-    expect(
-        code.max_stack == 1 && code.max_locals == 1,
-        "the sizes of signs",
-    )
+    let typed = with_signs(rt.alloc())?;
+    let full = is_full(rt.alloc(), &typed, &OF_SIGNS, 1)?;
+    expect(full, "the code of signs")
 }

@@ -1,7 +1,7 @@
 //! Handlers and labels of a `try` that stands in another one or in a loop.
 
 use crate::bodies::{GET, IF_ICMPLT, KEY, RETURN, SET, SHUT, Wanted, are_items, code, have_labels};
-use par_code::Handler;
+use par_code::{Handler, Labelled};
 use par_code_form::opcode::{GOTO, IF_ICMPEQ, IFEQ};
 use par_instr::Instr;
 use par_worked::expect;
@@ -207,22 +207,26 @@ fn are_handlers(handlers: &[Handler], wanted: &[Caught]) -> bool {
     true
 }
 
+fn check_code(code: &Labelled, row: &Row) -> Result<(), Fail> {
+    expect(
+        are_items(code.items.as_slice(), row.items),
+        "the items of a nested try",
+    )?;
+    expect(
+        are_handlers(code.handlers.as_slice(), row.handlers),
+        "the handlers of a nested try",
+    )?;
+    expect(
+        have_labels(code.frames.as_slice(), row.labels),
+        "the frames of a nested try",
+    )
+}
+
 #[test]
 fn nested_handlers_stand_in_their_order(rt: HostRuntime) -> Result<(), Fail> {
     for row in ROWS {
         let code = code(rt.alloc(), row.body)?;
-        expect(
-            are_items(code.items.as_slice(), row.items),
-            "the items of a nested try",
-        )?;
-        expect(
-            are_handlers(code.handlers.as_slice(), row.handlers),
-            "the handlers of a nested try",
-        )?;
-        expect(
-            have_labels(code.frames.as_slice(), row.labels),
-            "the frames of a nested try",
-        )?;
+        check_code(&code, row)?;
     }
     Ok(())
 }

@@ -35,26 +35,35 @@ pub struct State {
     is_over: bool,
 }
 
-fn begin(alloc: Global, code: &Labelled, keys: &[i32]) -> Result<State, Fail> {
-    let mut locals = Vec::new(alloc);
-    locals.resize(usize::from(code.max_locals), Value::Unset)?;
-    let mut are_open = Vec::new(alloc);
-    are_open.resize(LOCKS, false)?;
-    // The next one comes last.
-    let mut waiting = Vec::new(alloc);
-    for key in keys.iter().rev() {
-        waiting.push(*key)?;
-    }
-    Ok(State {
+fn empty(alloc: Global) -> State {
+    State {
         place: 0,
         operands: Vec::new(alloc),
-        locals,
+        locals: Vec::new(alloc),
         field: 0,
-        are_open,
-        keys: waiting,
+        are_open: Vec::new(alloc),
+        keys: Vec::new(alloc),
         shown: Vec::new(alloc),
         is_over: false,
-    })
+    }
+}
+
+fn fill(state: &mut State, code: &Labelled, keys: &[i32]) -> Result<(), Fail> {
+    state
+        .locals
+        .resize(usize::from(code.max_locals), Value::Unset)?;
+    state.are_open.resize(LOCKS, false)?;
+    // The next one comes last.
+    for key in keys.iter().rev() {
+        state.keys.push(*key)?;
+    }
+    Ok(())
+}
+
+fn begin(alloc: Global, code: &Labelled, keys: &[i32]) -> Result<State, Fail> {
+    let mut state = empty(alloc);
+    fill(&mut state, code, keys)?;
+    Ok(state)
 }
 
 impl State {
@@ -126,14 +135,24 @@ fn takes(code: &Labelled, handler: &Handler, made_at: usize, place: usize) -> Re
     }
 }
 
-// The first handler that takes it has it as its one operand.
+// A handler has what it takes as its one operand.
+fn enter(
+    code: &Labelled,
+    handler: &Handler,
+    made_at: usize,
+    state: &mut State,
+) -> Result<(), Fail> {
+    state.operands.clear();
+    state.push(code, Value::Object(made_at))?;
+    state.place = place_of(code, handler.goes)?;
+    Ok(())
+}
+
+// The first handler that takes it has it.
 fn throw(code: &Labelled, made_at: usize, state: &mut State) -> Result<(), Fail> {
     for handler in code.handlers.as_slice() {
         if takes(code, handler, made_at, state.place)? {
-            state.operands.clear();
-            state.push(code, Value::Object(made_at))?;
-            state.place = place_of(code, handler.goes)?;
-            return Ok(());
+            return enter(code, handler, made_at, state);
         }
     }
     Err(Fail::new("no handler"))
@@ -148,37 +167,49 @@ fn combined(instr: Instr, first: i32, second: i32) -> Result<i32, Fail> {
     }
 }
 
+fn combine(code: &Labelled, instr: Instr, state: &mut State) -> Result<(), Fail> {
+    let second = state.pop_number()?;
+    let first = state.pop_number()?;
+    let number = combined(instr, first, second)?;
+    state.push(code, Value::Number(number))
+}
+
+fn drop_operand(state: &mut State) -> Result<(), Fail> {
+    state.pop()?;
+    Ok(())
+}
+
+fn double(code: &Labelled, state: &mut State) -> Result<(), Fail> {
+    let value = state.pop()?;
+    state.push(code, value)?;
+    state.push(code, value)
+}
+
+fn negate(code: &Labelled, state: &mut State) -> Result<(), Fail> {
+    let number = state.pop_number()?;
+    state.push(code, Value::Number(number.wrapping_neg()))
+}
+
+fn throw_operand(code: &Labelled, state: &mut State) -> Result<(), Fail> {
+    match state.pop()? {
+        Value::Object(made_at) => throw(code, made_at, state),
+        Value::Unset | Value::Number(_) => Err(Fail::new("no object")),
+    }
+}
+
 fn operate(code: &Labelled, instr: Instr, state: &mut State) -> Result<(), Fail> {
     match instr {
         Instr::IloadShort(local) | Instr::Iload(local) => state.push_local(code, local),
         Instr::IstoreShort(local) | Instr::Istore(local) => state.pop_local(local),
-        Instr::Pop => {
-            state.pop()?;
-            Ok(())
-        }
-        Instr::Dup => {
-            let value = state.pop()?;
-            state.push(code, value)?;
-            state.push(code, value)
-        }
-        Instr::Ineg => {
-            let number = state.pop_number()?;
-            state.push(code, Value::Number(number.wrapping_neg()))
-        }
-        Instr::Athrow => match state.pop()? {
-            Value::Object(made_at) => throw(code, made_at, state),
-            Value::Unset | Value::Number(_) => Err(Fail::new("no object")),
-        },
+        Instr::Pop => drop_operand(state),
+        Instr::Dup => double(code, state),
+        Instr::Ineg => negate(code, state),
+        Instr::Athrow => throw_operand(code, state),
         Instr::Return => {
             state.is_over = true;
             Ok(())
         }
-        _ => {
-            let second = state.pop_number()?;
-            let first = state.pop_number()?;
-            let number = combined(instr, first, second)?;
-            state.push(code, Value::Number(number))
-        }
+        _ => combine(code, instr, state),
     }
 }
 
@@ -207,6 +238,13 @@ fn is_taken(opcode: u8, state: &mut State) -> Result<bool, Fail> {
     is_so(opcode, first, second)
 }
 
+fn branch(code: &Labelled, opcode: u8, label: u32, state: &mut State) -> Result<(), Fail> {
+    if is_taken(opcode, state)? {
+        state.place = place_of(code, label)?;
+    }
+    Ok(())
+}
+
 fn call(code: &Labelled, name: &[u8], state: &mut State) -> Result<(), Fail> {
     if name == b"show".as_slice() {
         let number = state.pop_number()?;
@@ -232,10 +270,7 @@ fn work_on(code: &Labelled, opcode: u8, name: &[u8], state: &mut State) -> Resul
             state.field = state.pop_number()?;
             Ok(())
         }
-        INVOKESPECIAL => {
-            state.pop()?;
-            Ok(())
-        }
+        INVOKESPECIAL => drop_operand(state),
         INVOKESTATIC => call(code, name, state),
         _ => Err(Fail::new("another opcode")),
     }
@@ -267,12 +302,7 @@ fn step(code: &Labelled, state: &mut State) -> Result<(), Fail> {
         Some(Item::Label(_)) => Ok(()),
         Some(Item::Op(instr)) => operate(code, *instr, state),
         Some(Item::Const(number)) => state.push(code, Value::Number(*number)),
-        Some(Item::Jump(opcode, label)) => {
-            if is_taken(*opcode, state)? {
-                state.place = place_of(code, *label)?;
-            }
-            Ok(())
-        }
+        Some(Item::Jump(opcode, label)) => branch(code, *opcode, *label, state),
         Some(Item::Member(opcode, _, name, _)) => work_on(code, *opcode, name.as_slice(), state),
         Some(Item::ClassOp(_, _)) => state.push(code, Value::Object(place)),
         Some(Item::LockOp(PUTSTATIC, lock)) => set_lock(*lock, state),

@@ -1,10 +1,9 @@
 //! What the labelled code of small bodies puts out where it runs.
 
-use crate::bodies::typed;
+use crate::bodies::with_main;
 use crate::runner::run;
 use par_code::{Labelled, code_of};
-use par_erase::erase;
-use par_typed::program::Typed;
+use par_erase::{Plain, erase};
 use par_worked::expect;
 use std::alloc::Global;
 use std::rt::HostRuntime;
@@ -20,11 +19,6 @@ class Shop {
   output void show(int v);
   static int got;
   static void main() {
-";
-
-const BEHIND: &[u8] = b"
-  }
-}
 ";
 
 const SHOP: u16 = 5;
@@ -136,17 +130,13 @@ const ROWS: &[Row] = &[
     },
 ];
 
-fn program(alloc: Global, body: &[u8]) -> Result<Typed, Fail> {
-    let mut source = Vec::new(alloc);
-    source.extend_from_slice(BEFORE)?;
-    source.extend_from_slice(body)?;
-    source.extend_from_slice(BEHIND)?;
-    typed(alloc, source.as_slice())
+fn program(alloc: Global, body: &[u8]) -> Result<Plain, Fail> {
+    let typed = with_main(alloc, BEFORE, body)?;
+    Ok(erase(alloc, &typed)?)
 }
 
 fn code(alloc: Global, body: &[u8]) -> Result<Labelled, Fail> {
-    let typed = program(alloc, body)?;
-    let plain = erase(alloc, &typed)?;
+    let plain = program(alloc, body)?;
     Ok(code_of(alloc, &plain, SHOP, MAIN)?)
 }
 

@@ -1,6 +1,7 @@
 //! What the files of a program hold, and what they do not hold.
 
-use crate::sources::{bytes_at, file_at, files_of};
+use crate::sources::{bytes_at, file_at, files_of, first_file};
+use par_compile::CompiledClass;
 use par_pool::Constant;
 use par_worked::expect;
 use std::alloc::Global;
@@ -32,17 +33,30 @@ class Shop {
 // The files are those of the three classes, and of so many methods.
 const METHODS: &[usize] = &[1, 3, 5];
 
-#[test]
-fn files_of_a_program_are_read(rt: HostRuntime) -> Result<(), Fail> {
-    let alloc = rt.alloc();
-    let files = files_of(alloc, SOURCE)?;
+// Whether the file at a place has the version 51 and so many methods.
+fn has_methods(
+    alloc: Global,
+    files: &[CompiledClass],
+    place: usize,
+    count: usize,
+) -> Result<bool, Fail> {
+    let read = file_at(alloc, files, place)?;
+    Ok(read.major == 51 && read.methods.len() == count)
+}
+
+fn check_files(alloc: Global, files: &[CompiledClass]) -> Result<(), Fail> {
     expect(files.len() == METHODS.len(), "a file for each class")?;
     for (place, count) in METHODS.iter().enumerate() {
-        let read = file_at(alloc, files.as_slice(), place)?;
-        expect(read.major == 51, "the version")?;
-        expect(read.methods.len() == *count, "the methods")?;
+        let is_so = has_methods(alloc, files, place, *count)?;
+        expect(is_so, "the version and the methods")?;
     }
     Ok(())
+}
+
+#[test]
+fn files_of_a_program_are_read(rt: HostRuntime) -> Result<(), Fail> {
+    let files = files_of(rt.alloc(), SOURCE)?;
+    check_files(rt.alloc(), files.as_slice())
 }
 
 // Two sources that differ in policies and locks alone.
@@ -82,15 +96,20 @@ fn is_secret(constant: &Constant) -> bool {
     spells(constant, b"alice") || spells(constant, b"bob") || spells(constant, b"Paid")
 }
 
+fn has_secret(constants: &[Constant]) -> bool {
+    for constant in constants {
+        if is_secret(constant) {
+            return true;
+        }
+    }
+    false
+}
+
 #[test]
 fn no_entry_spells_an_actor_or_a_lock(rt: HostRuntime) -> Result<(), Fail> {
-    let alloc = rt.alloc();
-    let files = files_of(alloc, GUARDED)?;
-    let read = file_at(alloc, files.as_slice(), 0)?;
-    for constant in read.pool.entries.as_slice() {
-        expect(!is_secret(constant), "an actor or a lock")?;
-    }
-    Ok(())
+    let read = first_file(rt.alloc(), GUARDED)?;
+    let secret = has_secret(read.pool.entries.as_slice());
+    expect(!secret, "an actor or a lock")
 }
 
 // Whether the first file of a source is that of the guarded one.

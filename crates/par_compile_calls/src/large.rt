@@ -1,23 +1,30 @@
 //! The most classes that a program may have, and code about as long as a method may have.
 
-use crate::sources::{file_at, files_of};
+use crate::sources::{files_of, first_file};
 use par_class::ClassFile;
 use par_compile::CompiledClass;
+use par_lexer::list::List;
 use par_worked::expect;
 use std::alloc::Global;
 use std::rt::HostRuntime;
 use std::test::Fail;
 
-// 128 classes, of which the first and the last have names of their own.
-fn many(alloc: Global) -> Result<Vec<u8>, Fail> {
-    let mut source = Vec::from_slice(alloc, b"class Shop { static void main() { } }\n")?;
+fn put_classes(source: &mut Vec<u8>) -> Result<(), Fail> {
+    source.extend_from_slice(b"class Shop { static void main() { } }\n")?;
     for first in b"abcdefg" {
         for second in b"abcdefghijklmnopqr" {
-            put_class(&mut source, *first, *second)?;
+            put_class(source, *first, *second)?;
         }
     }
     source.extend_from_slice(b"class Last { }\n")?;
-    Ok(source)
+    Ok(())
+}
+
+// 128 classes, of which the first and the last have names of their own.
+fn many(alloc: Global) -> Result<List<CompiledClass>, Fail> {
+    let mut source = Vec::new(alloc);
+    put_classes(&mut source)?;
+    files_of(alloc, source.as_slice())
 }
 
 fn put_class(source: &mut Vec<u8>, first: u8, second: u8) -> Result<(), Fail> {
@@ -34,27 +41,29 @@ fn expect_name(files: &[CompiledClass], place: usize, name: &[u8]) -> Result<(),
     }
 }
 
+fn check_names(files: &[CompiledClass]) -> Result<(), Fail> {
+    expect(files.len() == 128, "128 files")?;
+    expect_name(files, 0, b"Shop")?;
+    expect_name(files, 1, b"Kaa")?;
+    expect_name(files, 127, b"Last")
+}
+
 #[test]
 fn each_of_128_classes_has_a_file(rt: HostRuntime) -> Result<(), Fail> {
-    let alloc = rt.alloc();
-    let source = many(alloc)?;
-    let files = files_of(alloc, source.as_slice())?;
-    expect(files.len() == 128, "128 files")?;
-    expect_name(files.as_slice(), 0, b"Shop")?;
-    expect_name(files.as_slice(), 1, b"Kaa")?;
-    expect_name(files.as_slice(), 127, b"Last")
+    let files = many(rt.alloc())?;
+    check_names(files.as_slice())
 }
 
 // A loop of 31 statements, each of which turns a value 60 times: 1,929 nodes, most of which have
 // as much code as any node has.
-fn long(alloc: Global) -> Result<Vec<u8>, Fail> {
-    let mut source = Vec::from_slice(alloc, b"class Shop { static void main() {")?;
+fn put_loop(source: &mut Vec<u8>) -> Result<(), Fail> {
+    source.extend_from_slice(b"class Shop { static void main() {")?;
     source.extend_from_slice(b"boolean b = false; while (b) {\n")?;
     for _ in 0..31u32 {
-        put_turns(&mut source)?;
+        put_turns(source)?;
     }
     source.extend_from_slice(b"} } }\n")?;
-    Ok(source)
+    Ok(())
 }
 
 fn put_turns(source: &mut Vec<u8>) -> Result<(), Fail> {
@@ -68,21 +77,21 @@ fn put_turns(source: &mut Vec<u8>) -> Result<(), Fail> {
 
 // Each turn has 8 bytes, and each statement two more.
 fn long_file(alloc: Global) -> Result<ClassFile, Fail> {
-    let source = long(alloc)?;
-    let files = files_of(alloc, source.as_slice())?;
-    file_at(alloc, files.as_slice(), 0)
+    let mut source = Vec::new(alloc);
+    put_loop(&mut source)?;
+    first_file(alloc, source.as_slice())
 }
 
-#[test]
-fn long_code_branches_far(rt: HostRuntime) -> Result<(), Fail> {
-    let shop = long_file(rt.alloc())?;
-    let Some(method) = shop.methods.get(1) else {
-        return Err(Fail::new("no method behind the initializer"));
-    };
-    let Some(attribute) = &method.code else {
-        return Err(Fail::new("a method without code"));
-    };
-    let code = attribute.code.as_slice();
+// The code of the method behind the initializer.
+fn second_code(file: &ClassFile) -> Option<&[u8]> {
+    let method = file.methods.get(1)?;
+    match &method.code {
+        Some(attribute) => Some(attribute.code.as_slice()),
+        None => None,
+    }
+}
+
+fn check_branches(code: &[u8]) -> Result<(), Fail> {
     expect(code.len() == 14_952, "the bytes of the code")?;
     let out = Some([0x99u8, 0x3a, 0x64].as_slice());
     expect(code.get(3..6) == out, "out of the loop, by 14,948 bytes")?;
@@ -91,4 +100,13 @@ fn long_code_branches_far(rt: HostRuntime) -> Result<(), Fail> {
         code.get(14_948..14_951) == again,
         "again, by 14,946 bytes back",
     )
+}
+
+#[test]
+fn long_code_branches_far(rt: HostRuntime) -> Result<(), Fail> {
+    let shop = long_file(rt.alloc())?;
+    match second_code(&shop) {
+        Some(code) => check_branches(code),
+        None => Err(Fail::new("a method without code")),
+    }
 }

@@ -2,7 +2,7 @@
 
 ghost use Rattle.std.specs.Prelude.{◌<◌, length};
 
-use crate::sources::{file_at, files_of};
+use crate::sources::first_file;
 use par_class::ClassFile;
 use par_worked::expect;
 use std::alloc::Global;
@@ -68,11 +68,6 @@ fn last_code(file: &ClassFile) -> Result<&[u8], Fail> {
     }
 }
 
-fn first_file(alloc: Global, source: &[u8]) -> Result<ClassFile, Fail> {
-    let files = files_of(alloc, source)?;
-    file_at(alloc, files.as_slice(), 0)
-}
-
 fn with_body(alloc: Global, body: &[u8]) -> Result<ClassFile, Fail> {
     let mut source = Vec::from_slice(alloc, BEFORE)?;
     source.extend_from_slice(body)?;
@@ -80,34 +75,46 @@ fn with_body(alloc: Global, body: &[u8]) -> Result<ClassFile, Fail> {
     first_file(alloc, source.as_slice())
 }
 
-fn begins(alloc: Global, row: &Row) -> Result<(), Fail> {
-    let file = with_body(alloc, row.body)?;
-    let code = last_code(&file)?;
-    expect(code.get(..row.begins.len()) == Some(row.begins), "the code")
+fn begins(file: &ClassFile, bytes: &[u8]) -> Result<(), Fail> {
+    let code = last_code(file)?;
+    expect(code.get(..bytes.len()) == Some(bytes), "the code")
 }
 
 #[test]
 fn numbers_and_locals_have_short_forms(rt: HostRuntime) -> Result<(), Fail> {
     for row in ROWS {
-        begins(rt.alloc(), row)?;
+        let file = with_body(rt.alloc(), row.body)?;
+        begins(&file, row.begins)?;
+    }
+    Ok(())
+}
+
+const DIGITS: &[u8] = b"0123456789";
+
+fn put_show(source: &mut Vec<u8>, digits: &[u8]) -> Result<(), Fail> {
+    source.extend_from_slice(b"show(100")?;
+    source.extend_from_slice(digits)?;
+    source.extend_from_slice(b");\n")?;
+    Ok(())
+}
+
+fn put_hundred(source: &mut Vec<u8>, first: u8) -> Result<(), Fail> {
+    for second in DIGITS {
+        for third in DIGITS {
+            put_show(source, &[first, *second, *third])?;
+        }
     }
     Ok(())
 }
 
 // Three hundred different numbers beyond 16 bits, put out one after the other.
-fn many_numbers(alloc: Global) -> Result<Vec<u8>, Fail> {
-    let mut source = Vec::from_slice(alloc, BEFORE)?;
+fn put_numbers(source: &mut Vec<u8>) -> Result<(), Fail> {
+    source.extend_from_slice(BEFORE)?;
     for first in b"123" {
-        for second in b"0123456789" {
-            for third in b"0123456789" {
-                source.extend_from_slice(b"show(100")?;
-                source.extend_from_slice(&[*first, *second, *third])?;
-                source.extend_from_slice(b");\n")?;
-            }
-        }
+        put_hundred(source, *first)?;
     }
     source.extend_from_slice(BEHIND)?;
-    Ok(source)
+    Ok(())
 }
 
 // Whether these bytes stand in the code one behind the other.
@@ -118,14 +125,19 @@ fn contains(code: &[u8], bytes: &[u8]) -> bool
 }
 
 fn of_many_numbers(alloc: Global) -> Result<ClassFile, Fail> {
-    let source = many_numbers(alloc)?;
+    let mut source = Vec::new(alloc);
+    put_numbers(&mut source)?;
     first_file(alloc, source.as_slice())
+}
+
+fn check_indices(file: &ClassFile) -> Result<(), Fail> {
+    let code = last_code(file)?;
+    expect(contains(code, &[0x12, 0xff, 0xb8]), "ldc at 255")?;
+    expect(contains(code, &[0x13, 0x01, 0x00, 0xb8]), "ldc_w at 256")
 }
 
 #[test]
 fn an_index_beyond_255_takes_two_bytes(rt: HostRuntime) -> Result<(), Fail> {
     let file = of_many_numbers(rt.alloc())?;
-    let code = last_code(&file)?;
-    expect(contains(code, &[0x12, 0xff, 0xb8]), "ldc at 255")?;
-    expect(contains(code, &[0x13, 0x01, 0x00, 0xb8]), "ldc_w at 256")
+    check_indices(&file)
 }

@@ -44,6 +44,12 @@ pub fn bytes_at(files: &[CompiledClass], place: usize) -> Result<&[u8], Fail> {
     }
 }
 
+/// The first file of a source, read again.
+pub fn first_file(alloc: Global, source: &[u8]) -> Result<ClassFile, Fail> {
+    let files = files_of(alloc, source)?;
+    file_at(alloc, files.as_slice(), 0)
+}
+
 /// The file at a place, read again.
 pub fn file_at(alloc: Global, files: &[CompiledClass], place: usize) -> Result<ClassFile, Fail> {
     let bytes = bytes_at(files, place)?;

@@ -2,6 +2,8 @@
 
 use crate::sources::{bytes_at, file_at, files_of};
 use par_class::LONGEST_CLASS;
+use par_compile::CompiledClass;
+use par_lexer::list::List;
 use par_worked::expect;
 use std::alloc::Global;
 use std::rt::HostRuntime;
@@ -21,31 +23,40 @@ const BEHIND: &[u8] = b"
 }
 ";
 
-#[test]
-fn a_file_begins_with_its_version(rt: HostRuntime) -> Result<(), Fail> {
-    let alloc = rt.alloc();
+fn with_body(alloc: Global, body: &[u8]) -> Result<Vec<u8>, Fail> {
     let mut source = Vec::from_slice(alloc, SHOP)?;
-    source.extend_from_slice(b"open Paid; show(key());")?;
+    source.extend_from_slice(body)?;
     source.extend_from_slice(BEHIND)?;
-    let files = files_of(alloc, source.as_slice())?;
-    let bytes = bytes_at(files.as_slice(), 0)?;
+    Ok(source)
+}
+
+fn files_with_body(alloc: Global, body: &[u8]) -> Result<List<CompiledClass>, Fail> {
+    let source = with_body(alloc, body)?;
+    files_of(alloc, source.as_slice())
+}
+
+fn check_version(files: &[CompiledClass]) -> Result<(), Fail> {
+    let bytes = bytes_at(files, 0)?;
     expect(
         bytes.get(6..8) == Some([0x00, 0x33].as_slice()),
         "51 at offset 6",
     )
 }
 
+#[test]
+fn a_file_begins_with_its_version(rt: HostRuntime) -> Result<(), Fail> {
+    let files = files_with_body(rt.alloc(), b"open Paid; show(key());")?;
+    check_version(files.as_slice())
+}
+
+const PARAMETERS: &[u8] = b"int n, boolean b1, boolean b2, boolean b3, boolean b4, boolean b5, \
+    boolean b6, boolean b7, boolean b8, boolean b9, boolean b10, boolean b11, boolean b12, \
+    boolean b13, boolean b14, boolean b15";
+
 // A class of four methods of 200 locals, each of which calls a method of 16 arguments 33 times.
 fn put_big(source: &mut Vec<u8>) -> Result<(), Fail> {
-    source.extend_from_slice(b"class Big { static void f(int n")?;
-    for digit in b"123456789" {
-        source.extend_from_slice(b", boolean b")?;
-        source.push(*digit)?;
-    }
-    for digit in b"012345" {
-        source.extend_from_slice(b", boolean b1")?;
-        source.push(*digit)?;
-    }
+    source.extend_from_slice(b"class Big { static void f(")?;
+    source.extend_from_slice(PARAMETERS)?;
     source.extend_from_slice(b") { }\n")?;
     for digit in b"1234" {
         put_method(source, *digit)?;
@@ -58,16 +69,21 @@ fn put_method(source: &mut Vec<u8>, digit: u8) -> Result<(), Fail> {
     source.extend_from_slice(b"static void g")?;
     source.push(digit)?;
     source.extend_from_slice(b"() {\n")?;
+    put_locals(source)?;
+    for _ in 0..33u32 {
+        put_call(source)?;
+    }
+    source.extend_from_slice(b"}\n")?;
+    Ok(())
+}
+
+fn put_locals(source: &mut Vec<u8>) -> Result<(), Fail> {
     for letter in b"abcdefghij" {
         for tens in b"0123456789" {
             put_local(source, *letter, *tens, b'a')?;
             put_local(source, *letter, *tens, b'b')?;
         }
     }
-    for _ in 0..33u32 {
-        put_call(source)?;
-    }
-    source.extend_from_slice(b"}\n")?;
     Ok(())
 }
 
@@ -87,48 +103,64 @@ fn put_call(source: &mut Vec<u8>) -> Result<(), Fail> {
     Ok(())
 }
 
-// A small class, and one of many frames.
-fn big_source(alloc: Global) -> Result<Vec<u8>, Fail> {
-    let mut source = Vec::from_slice(alloc, SHOP)?;
-    source.extend_from_slice(b"Big.g1();")?;
-    source.extend_from_slice(BEHIND)?;
+// The files of a small class and of one of many frames.
+fn small_and_big(alloc: Global) -> Result<List<CompiledClass>, Fail> {
+    let mut source = with_body(alloc, b"Big.g1();")?;
     put_big(&mut source)?;
-    Ok(source)
+    files_of(alloc, source.as_slice())
+}
+
+fn version_at(alloc: Global, files: &[CompiledClass], place: usize) -> Result<u16, Fail> {
+    let read = file_at(alloc, files, place)?;
+    Ok(read.major)
+}
+
+fn are_short(files: &[CompiledClass]) -> bool {
+    files.iter().all(|file| file.bytes.len() <= LONGEST_CLASS)
+}
+
+fn check_versions(alloc: Global, files: &[CompiledClass]) -> Result<(), Fail> {
+    expect(files.len() == 2, "two files")?;
+    let small = version_at(alloc, files, 0)?;
+    expect(small == 51, "the version of the small class")?;
+    let large = version_at(alloc, files, 1)?;
+    expect(large == 49, "the version of the large class")?;
+    expect(are_short(files), "short files")
 }
 
 #[test]
 fn a_class_of_many_frames_has_none(rt: HostRuntime) -> Result<(), Fail> {
-    let alloc = rt.alloc();
-    let source = big_source(alloc)?;
-    let files = files_of(alloc, source.as_slice())?;
-    expect(files.len() == 2, "two files")?;
-    let small = file_at(alloc, files.as_slice(), 0)?.major;
-    expect(small == 51, "the version of the small class")?;
-    let large = file_at(alloc, files.as_slice(), 1)?.major;
-    expect(large == 49, "the version of the large class")?;
-    let are_short = files
-        .as_slice()
-        .iter()
-        .all(|file| file.bytes.len() <= LONGEST_CLASS);
-    expect(are_short, "short files")
+    let files = small_and_big(rt.alloc())?;
+    check_versions(rt.alloc(), files.as_slice())
 }
 
-// A class of four methods with nearly as many nodes as there may be, and most of them objects.
-fn crowded(alloc: Global) -> Result<Vec<u8>, Fail> {
-    let mut source = Vec::new(alloc);
+// A method with nearly as many nodes as it may have, most of them objects.
+fn put_crowd(source: &mut Vec<u8>, name: u8) -> Result<(), Fail> {
+    source.extend_from_slice(b"static void ")?;
+    source.push(name)?;
+    source.extend_from_slice(b"() {")?;
+    for _ in 0..110u32 {
+        put_objects(source)?;
+    }
+    source.extend_from_slice(b"}\n")?;
+    Ok(())
+}
+
+// A class of four such methods.
+fn put_crowded(source: &mut Vec<u8>) -> Result<(), Fail> {
     source.extend_from_slice(b"class A { } class Big { static void f(A a, A b, A c, A d, A e")?;
     source.extend_from_slice(b", A g, A h, A i, A j, A k, A l, A m, A n, A o, A p, A q) { }\n")?;
     for name in b"wxyz" {
-        source.extend_from_slice(b"static void ")?;
-        source.push(*name)?;
-        source.extend_from_slice(b"() {")?;
-        for _ in 0..110u32 {
-            put_objects(&mut source)?;
-        }
-        source.extend_from_slice(b"}\n")?;
+        put_crowd(source, *name)?;
     }
     source.extend_from_slice(b"} class Shop { static void main() { Big.w(); } }")?;
-    Ok(source)
+    Ok(())
+}
+
+fn crowded(alloc: Global) -> Result<List<CompiledClass>, Fail> {
+    let mut source = Vec::new(alloc);
+    put_crowded(&mut source)?;
+    files_of(alloc, source.as_slice())
 }
 
 fn put_objects(source: &mut Vec<u8>) -> Result<(), Fail> {
@@ -140,12 +172,14 @@ fn put_objects(source: &mut Vec<u8>) -> Result<(), Fail> {
     Ok(())
 }
 
+fn check_crowded(alloc: Global, files: &[CompiledClass]) -> Result<(), Fail> {
+    expect(files.len() == 3, "three files")?;
+    let big = file_at(alloc, files, 1)?;
+    expect(big.methods.len() == 6, "the methods")
+}
+
 #[test]
 fn a_crowded_class_has_a_file(rt: HostRuntime) -> Result<(), Fail> {
-    let alloc = rt.alloc();
-    let source = crowded(alloc)?;
-    let files = files_of(alloc, source.as_slice())?;
-    expect(files.len() == 3, "three files")?;
-    let big = file_at(alloc, files.as_slice(), 1)?;
-    expect(big.methods.len() == 6, "the methods")
+    let files = crowded(rt.alloc())?;
+    check_crowded(rt.alloc(), files.as_slice())
 }

@@ -29,81 +29,143 @@ fn is_refused(
     Ok((status, out.bytes()) == (12, line.as_bytes()))
 }
 
-/// Whether each shorter file of a class is told with its length, and a longer one with its place.
-// Whether each beginning of the file is told to be cut off.
+/// A program, one of its class files, and the class.
+struct Written {
+    name: &'static str,
+    lines: Lines,
+    file: &'static str,
+    class: &'static str,
+}
+
+const WRITTEN: &[Written] = &[
+    Written {
+        name: "a file alone",
+        lines: ONE_CLASS,
+        file: "Shop.class",
+        class: "Shop",
+    },
+    Written {
+        name: "the file of main",
+        lines: TWO_CLASSES,
+        file: "Shop.class",
+        class: "Shop",
+    },
+    Written {
+        name: "a file that main names",
+        lines: TWO_CLASSES,
+        file: "Item.class",
+        class: "Item",
+    },
+];
+
+/// Whether the class is refused so once its file has these bytes.
+fn is_refused_as(
+    alloc: Global,
+    folder: &mut MemFolder,
+    row: &Written,
+    bytes: &[u8],
+    told: (u8, usize),
+) -> Result<bool, NoMemory> {
+    folder.add(row.file, bytes)?;
+    is_refused(alloc, folder, row.class, told.0, told.1)
+}
+
+/// Whether each beginning of the file is told to be cut off.
 fn beginnings_are_told(
     alloc: Global,
     folder: &mut MemFolder,
-    file: (&str, &[u8]),
-    class: &str,
+    row: &Written,
+    bytes: &[u8],
 ) -> Result<bool, NoMemory> {
-    let (name, bytes) = file;
     for length in 0..bytes.len() {
-        folder.add(name, &bytes[..length])?;
-        if !is_refused(alloc, folder, class, 32, length)? {
+        if !is_refused_as(alloc, folder, row, &bytes[..length], (32, length))? {
             return Ok(false);
         }
     }
     Ok(bytes.len() > 100)
 }
 
-fn lengths_are_told(alloc: Global, lines: Lines, class: &str) -> Result<bool, NoMemory> {
-    let mut folder = class_files(alloc, lines)?;
-    let name = format!(in alloc; "{class}.class")?;
-    let mut whole = bytes_of(alloc, &folder, name.as_str())?;
-    let length = whole.len();
-    let are_told = beginnings_are_told(
-        alloc,
-        &mut folder,
-        (name.as_str(), whole.as_slice()),
-        class,
-    )?;
-    whole.push(0)?;
-    folder.add(name.as_str(), whole.as_slice())?;
-    Ok(are_told && is_refused(alloc, &mut folder, class, 35, length)?)
-}
-
-const WRITTEN: &[(&str, Lines, &str)] = &[
-    ("a file alone", ONE_CLASS, "Shop"),
-    ("the file of main", TWO_CLASSES, "Shop"),
-    ("a file that main names", TWO_CLASSES, "Item"),
-];
-
-#[test]
-fn files_of_each_other_length_are_refused(rt: HostRuntime) -> Result<(), Fail> {
-    for (name, lines, class) in WRITTEN {
-        expect(lengths_are_told(rt.alloc(), lines, class)?, name)?;
-    }
-    Ok(())
-}
-
-/// As many bytes as a class file may have.
-const LONGEST: usize = 1_048_576;
-
-/// Whether a file of a class that is filled up to the longest that is read is told with the first
-/// byte too many, and a longer one as too long.
+/// The bytes up to a length, filled with zeros.
 fn longer_by(alloc: Global, bytes: &[u8], length: usize) -> Result<Vec<u8>, NoMemory> {
     let mut long = bytes.to_vec(alloc)?;
     long.resize(length, 0)?;
     Ok(long)
 }
 
-fn longest_are_told(alloc: Global, lines: Lines, class: &str) -> Result<bool, NoMemory> {
-    let mut folder = class_files(alloc, lines)?;
-    let name = format!(in alloc; "{class}.class")?;
-    let whole = bytes_of(alloc, &folder, name.as_str())?;
-    let longest = longer_by(alloc, whole.as_slice(), LONGEST)?;
-    folder.add(name.as_str(), longest.as_slice())?;
-    let is_told = is_refused(alloc, &mut folder, class, 35, whole.len())?;
-    let longer = longer_by(alloc, longest.as_slice(), LONGEST + 1)?;
-    folder.add(name.as_str(), longer.as_slice())?;
-    Ok(is_told && answers(alloc, RUN, &mut folder, ("too long\n", 8))?)
+/// Whether a file that is filled up to a length is told with the first byte too many.
+fn longer_is_told(
+    alloc: Global,
+    folder: &mut MemFolder,
+    row: &Written,
+    bytes: &[u8],
+    length: usize,
+) -> Result<bool, NoMemory> {
+    let long = longer_by(alloc, bytes, length)?;
+    is_refused_as(alloc, folder, row, long.as_slice(), (35, bytes.len()))
+}
+
+/// Whether each shorter file of a class is told with its length, and a longer one with its place.
+fn lengths_are_told(
+    alloc: Global,
+    folder: &mut MemFolder,
+    row: &Written,
+    whole: &[u8],
+) -> Result<bool, NoMemory> {
+    let are_told = beginnings_are_told(alloc, folder, row, whole)?;
+    let length = whole.len().saturating_add(1);
+    Ok(are_told && longer_is_told(alloc, folder, row, whole, length)?)
+}
+
+/// As many bytes as a class file may have.
+const LONGEST: usize = 1_048_576;
+
+/// Whether a file of one byte more than may be read is told to be too long.
+fn too_long_is_told(
+    alloc: Global,
+    folder: &mut MemFolder,
+    row: &Written,
+    whole: &[u8],
+) -> Result<bool, NoMemory> {
+    let longer = longer_by(alloc, whole, LONGEST + 1)?;
+    folder.add(row.file, longer.as_slice())?;
+    answers(alloc, RUN, folder, ("too long\n", 8))
+}
+
+/// Whether a file of a class that is filled up to the longest that is read is told with the first
+/// byte too many, and a longer one as too long.
+fn longest_are_told(
+    alloc: Global,
+    folder: &mut MemFolder,
+    row: &Written,
+    whole: &[u8],
+) -> Result<bool, NoMemory> {
+    let is_told = longer_is_told(alloc, folder, row, whole, LONGEST)?;
+    Ok(is_told && too_long_is_told(alloc, folder, row, whole)?)
+}
+
+/// Each test asks this of a folder with the class files and of the bytes of the file.
+fn row_holds(alloc: Global, row: &Written, is_longest: bool) -> Result<bool, NoMemory> {
+    let mut folder = class_files(alloc, row.lines)?;
+    let whole = bytes_of(alloc, &folder, row.file)?;
+    if is_longest {
+        longest_are_told(alloc, &mut folder, row, whole.as_slice())
+    } else {
+        lengths_are_told(alloc, &mut folder, row, whole.as_slice())
+    }
+}
+
+#[test]
+fn files_of_each_other_length_are_refused(rt: HostRuntime) -> Result<(), Fail> {
+    for row in WRITTEN {
+        expect(row_holds(rt.alloc(), row, false)?, row.name)?;
+    }
+    Ok(())
 }
 
 #[test]
 fn files_of_the_longest_length_are_read(rt: HostRuntime) -> Result<(), Fail> {
-    for (name, lines, class) in WRITTEN {
-        expect(longest_are_told(rt.alloc(), lines, class)?, name)?;
+    for row in WRITTEN {
+        expect(row_holds(rt.alloc(), row, true)?, row.name)?;
     }
     Ok(())
 }
@@ -150,9 +212,7 @@ fn is_named(status: u8, told: &[u8]) -> bool {
     }
 }
 
-/// Whether the class file is told of in one of these ways, and has no bad code where both files are
-/// verified.
-// Whether what the call of a run puts and answers is one of the named answers, and its status.
+/// The status of a run whose answer is one of the named ones.
 fn status_of_run(alloc: Global, folder: &mut MemFolder) -> Result<Option<u8>, NoMemory> {
     let mut told = MemSink::new(alloc, 1000)?;
     let ran = call(alloc, RUN, folder, &mut told)?;
@@ -164,6 +224,8 @@ fn status_of_verifier(alloc: Global, folder: &mut MemFolder) -> Result<u8, NoMem
     Ok(call(alloc, VERIFY, folder, &mut out)?)
 }
 
+/// Whether the class file is told of in one of these ways, and has no bad code where both files are
+/// verified.
 fn is_answered(alloc: Global, folder: &mut MemFolder, item: &[u8]) -> Result<bool, NoMemory> {
     folder.add("Item.class", item)?;
     let ran = status_of_run(alloc, folder)?;
@@ -190,20 +252,29 @@ fn changes(byte: u8) -> [u8; 10] {
     ]
 }
 
-fn changes_are_told(alloc: Global) -> Result<bool, NoMemory> {
-    let mut folder = class_files(alloc, TWO_CLASSES)?;
-    let mut item = bytes_of(alloc, &folder, "Item.class")?;
+/// Whether each change of each byte is answered.
+fn all_are_answered(
+    alloc: Global,
+    folder: &mut MemFolder,
+    item: &mut [u8],
+) -> Result<bool, NoMemory> {
     for place in 0..item.len() {
         let byte = item[place];
         for changed in changes(byte) {
             item[place] = changed;
-            if !is_answered(alloc, &mut folder, item.as_slice())? {
+            if !is_answered(alloc, folder, item)? {
                 return Ok(false);
             }
         }
         item[place] = byte;
     }
     Ok(item.len() > 100)
+}
+
+fn changes_are_told(alloc: Global) -> Result<bool, NoMemory> {
+    let mut folder = class_files(alloc, TWO_CLASSES)?;
+    let mut item = bytes_of(alloc, &folder, "Item.class")?;
+    all_are_answered(alloc, &mut folder, item.as_mut_slice())
 }
 
 #[test]
@@ -215,24 +286,29 @@ fn each_byte_may_be_changed(rt: HostRuntime) -> Result<(), Fail> {
 /// of the constant that names the class in the first, as `javap` tells it of the file.
 const NOT_ITEM: Answer = ("bad class Shop 40 17\n", 12);
 
-/// A folder with a class file of main and none that it names.
-fn without_item(alloc: Global) -> Result<MemFolder, NoMemory> {
+/// The class file of main.
+fn shop_alone(alloc: Global) -> Result<Vec<u8>, NoMemory> {
     let written = class_files(alloc, TWO_CLASSES)?;
-    let shop = bytes_of(alloc, &written, "Shop.class")?;
+    Ok(bytes_of(alloc, &written, "Shop.class")?)
+}
+
+/// A folder with the class file of main and none that it names.
+fn folder_of_shop(alloc: Global, shop: &[u8]) -> Result<MemFolder, NoMemory> {
     let mut folder = MemFolder::new(alloc);
-    folder.add("Shop.class", shop.as_slice())?;
+    folder.add("Shop.class", shop)?;
     folder.add("in.txt", b"")?;
     Ok(folder)
 }
 
 fn absent_item_is_told(alloc: Global) -> Result<bool, NoMemory> {
-    let mut folder = without_item(alloc)?;
+    let shop = shop_alone(alloc)?;
+    let mut folder = folder_of_shop(alloc, shop.as_slice())?;
     answers(alloc, RUN, &mut folder, NOT_ITEM)
 }
 
 fn other_item_is_told(alloc: Global) -> Result<bool, NoMemory> {
-    let mut folder = without_item(alloc)?;
-    let shop = bytes_of(alloc, &folder, "Shop.class")?;
+    let shop = shop_alone(alloc)?;
+    let mut folder = folder_of_shop(alloc, shop.as_slice())?;
     folder.add("Item.class", shop.as_slice())?;
     answers(alloc, RUN, &mut folder, NOT_ITEM)
 }

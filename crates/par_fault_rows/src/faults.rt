@@ -114,11 +114,22 @@ fn are_left(folder: &MemFolder, whole: &MemFolder, write: u64, keep: u64) -> boo
     })
 }
 
-fn write_holds(alloc: Global, write: u64, keep: u64, answer: Answer) -> Result<bool, NoMemory> {
-    let whole = class_files(alloc, THREE_CLASSES)?;
+/// What is left where that write fails, and whether that is told so.
+fn cut_off(
+    alloc: Global,
+    write: u64,
+    keep: u64,
+    answer: Answer,
+) -> Result<(MemFolder, bool), NoMemory> {
     let mut folder = older(alloc)?;
     folder.fail_write(write, keep)?;
     let is_told = answers(alloc, COMPILE, &mut folder, answer)?;
+    Ok((folder, is_told))
+}
+
+fn write_holds(alloc: Global, write: u64, keep: u64, answer: Answer) -> Result<bool, NoMemory> {
+    let (folder, is_told) = cut_off(alloc, write, keep, answer)?;
+    let whole = class_files(alloc, THREE_CLASSES)?;
     Ok(is_told && are_left(&folder, &whole, write, keep))
 }
 
@@ -134,11 +145,16 @@ fn each_write_may_fail(rt: HostRuntime) -> Result<(), Fail> {
     Ok(())
 }
 
-/// The line of a fault may not be put in its turn.
-fn fault_is_cut(alloc: Global, read: u64, write: u64, held: &[u8]) -> Result<bool, NoMemory> {
+fn failing(alloc: Global, read: u64, write: u64) -> Result<MemFolder, NoMemory> {
     let mut folder = older(alloc)?;
     folder.fail_read(read)?;
     folder.fail_write(write, 5)?;
+    Ok(folder)
+}
+
+/// The line of a fault may not be put in its turn.
+fn fault_is_cut(alloc: Global, read: u64, write: u64, held: &[u8]) -> Result<bool, NoMemory> {
+    let mut folder = failing(alloc, read, write)?;
     let mut out = MemSink::new(alloc, 100)?;
     out.fail_put(1, 5);
     let status = call(alloc, COMPILE, &mut folder, &mut out)?;

@@ -120,18 +120,26 @@ const SAMPLE: Form = (
     false,
 );
 
-/// The folder that a command finds: all sources, and for the runner class files.
-fn folder_for(alloc: Global, command: &str) -> Result<MemFolder, NoMemory> {
-    let mut folder = if command.starts_with("paragonc") {
-        source(alloc, THREE_CLASSES)?
+fn first_folder(alloc: Global, command: &str) -> Result<MemFolder, NoMemory> {
+    if command.starts_with("paragonc") {
+        source(alloc, THREE_CLASSES)
     } else {
-        class_files(alloc, THREE_CLASSES)?
-    };
+        class_files(alloc, THREE_CLASSES)
+    }
+}
+
+fn add_sources(alloc: Global, folder: &mut MemFolder) -> Result<(), NoMemory> {
     for (name, lines) in SOURCES {
         let source = with_lines(alloc, lines)?;
         folder.add(name, source.as_bytes())?;
     }
-    folder.add("Cut.class", b"\xca\xfe\xba")?;
+    folder.add("Cut.class", b"\xca\xfe\xba")
+}
+
+/// The folder that a command finds: all sources, and for the runner class files.
+fn folder_for(alloc: Global, command: &str) -> Result<MemFolder, NoMemory> {
+    let mut folder = first_folder(alloc, command)?;
+    add_sources(alloc, &mut folder)?;
     Ok(folder)
 }
 

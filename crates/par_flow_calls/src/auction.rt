@@ -1,5 +1,6 @@
 //! What two runs of the auction show to a bidder who cannot tell their inputs apart.
 
+use crate::keys::numbers;
 use crate::typed_trees::typed;
 use par_alike::alike;
 use par_lexer::list::List;
@@ -26,20 +27,27 @@ const BEST: usize = 0;
 const BOUND: u64 = 1000;
 
 fn line(alloc: Global, channel: Name, bid: i32) -> Result<ChannelInput, Fail> {
-    let mut numbers = List::new(alloc);
-    numbers.push(bid)?;
+    let class = Name::new(alloc, b"Auction")?;
     Ok(ChannelInput {
-        class: Name::new(alloc, b"Auction")?,
+        class,
         channel,
-        numbers,
+        numbers: numbers(alloc, &[bid])?,
     })
+}
+
+fn line_of_alice(alloc: Global, bid: i32) -> Result<ChannelInput, Fail> {
+    line(alloc, Name::new(alloc, b"aliceBids")?, bid)
+}
+
+fn line_of_bob(alloc: Global, bid: i32) -> Result<ChannelInput, Fail> {
+    line(alloc, Name::new(alloc, b"bobBids")?, bid)
 }
 
 // Alice bids 30, and bob bids this.
 fn bids(alloc: Global, of_bob: i32) -> Result<Inputs, Fail> {
     let mut channels = List::new(alloc);
-    channels.push(line(alloc, Name::new(alloc, b"aliceBids")?, 30)?)?;
-    channels.push(line(alloc, Name::new(alloc, b"bobBids")?, of_bob)?)?;
+    channels.push(line_of_alice(alloc, 30)?)?;
+    channels.push(line_of_bob(alloc, of_bob)?)?;
     Ok(Inputs { channels })
 }
 
@@ -87,21 +95,28 @@ fn are_alike(alloc: Global, program: &Typed) -> Result<bool, Fail> {
     Ok(alike(&low, &high, program, ALICE, &Lockset::new(alloc)))
 }
 
+// The prices of both runs.
+const PRICES: &[(&str, i32)] = &[
+    ("the first price comes while Done is open", 45),
+    ("the second price differs while Done is open", 50),
+];
+
+fn check_prices(alloc: Global, program: &Typed) -> Result<(), Fail> {
+    for (row, price) in PRICES {
+        expect(run_begins_with(alloc, program, *price, *price)?, row)?;
+    }
+    Ok(())
+}
+
+fn check_alice(alloc: Global, program: &Typed) -> Result<(), Fail> {
+    expect(are_alike(alloc, program)?, "they are alike for alice")?;
+    let is_shown = is_price_shown(program, &Lockset::new(alloc));
+    expect(is_shown, "alice sees the price")
+}
+
 #[test]
 fn bids_that_alice_cannot_tell_apart_show_once_both_are_done(rt: HostRuntime) -> Result<(), Fail> {
-    let alloc = rt.alloc();
-    let program = typed(alloc, AUCTION)?;
-    expect(are_alike(alloc, &program)?, "they are alike for alice")?;
-    expect(
-        is_price_shown(&program, &Lockset::new(alloc)),
-        "alice sees the price",
-    )?;
-    expect(
-        run_begins_with(alloc, &program, 45, 45)?,
-        "the first price comes while Done is open",
-    )?;
-    expect(
-        run_begins_with(alloc, &program, 50, 50)?,
-        "the second price differs while Done is open",
-    )
+    let program = typed(rt.alloc(), AUCTION)?;
+    check_alice(rt.alloc(), &program)?;
+    check_prices(rt.alloc(), &program)
 }

@@ -30,13 +30,18 @@ struct Row {
     point: u32,
 }
 
-fn source_of(alloc: Global, row: &Row) -> Result<Vec<u8>, Fail> {
-    let mut source = Vec::from_slice(alloc, HEAD)?;
+fn put_main(row: &Row, source: &mut Vec<u8>) -> Result<(), Fail> {
     source.extend_from_slice(row.marks)?;
     source.extend_from_slice(b"{\n")?;
     source.extend_from_slice(row.body)?;
     source.extend_from_slice(b"\n}\n")?;
     source.extend_from_slice(row.behind)?;
+    Ok(())
+}
+
+fn source_of(alloc: Global, row: &Row) -> Result<Vec<u8>, Fail> {
+    let mut source = Vec::from_slice(alloc, HEAD)?;
+    put_main(row, &mut source)?;
     Ok(source)
 }
 
@@ -115,14 +120,18 @@ const OPEN: &[(Row, bool)] = &[
     ),
 ];
 
+// Whether the lock is told to be open there, as it is kept to be.
+fn has_paid(known: &Known, point: u32) -> Option<bool> {
+    let open = known.locks.at(point).map(|locks| locks.has(PAID));
+    let kept = known.facts.entry(point).map(|way| way.locks.has(PAID));
+    if open == kept { open } else { None }
+}
+
 #[test]
 fn locks_at_show(rt: HostRuntime) -> Result<(), Fail> {
     for (row, is_open) in OPEN {
         let known = known_in(rt.alloc(), row)?;
-        let open = known.locks.at(row.point).map(|locks| locks.has(PAID));
-        expect(open == Some(*is_open), row.name)?;
-        let kept = known.facts.entry(row.point).map(|way| way.locks.has(PAID));
-        expect(kept == Some(*is_open), row.name)?;
+        expect(has_paid(&known, row.point) == Some(*is_open), row.name)?;
     }
     Ok(())
 }
@@ -150,15 +159,16 @@ const VALUES: &[(Row, bool)] = &[
     ),
 ];
 
+fn has_low_value(known: &Known, point: u32) -> Option<bool> {
+    let value = known.facts.value(point)?;
+    Some(is_low(&known.table, value))
+}
+
 #[test]
 fn values_of_locals(rt: HostRuntime) -> Result<(), Fail> {
     for (row, low) in VALUES {
         let known = known_in(rt.alloc(), row)?;
-        let value = known.facts.value(row.point);
-        expect(
-            value.map(|set| is_low(&known.table, set)) == Some(*low),
-            row.name,
-        )?;
+        expect(has_low_value(&known, row.point) == Some(*low), row.name)?;
     }
     Ok(())
 }
@@ -202,18 +212,26 @@ fn contexts_at_show(rt: HostRuntime) -> Result<(), Fail> {
 
 const LOOPS: usize = 60;
 
+fn put_times(part: &[u8], source: &mut Vec<u8>) -> Result<(), Fail> {
+    for _ in 0..LOOPS {
+        source.extend_from_slice(part)?;
+    }
+    Ok(())
+}
+
+fn put_nested(source: &mut Vec<u8>) -> Result<(), Fail> {
+    source.extend_from_slice(b"{\n")?;
+    put_times(b"while (got > 0) { ", source)?;
+    source.extend_from_slice(b"got = 0;")?;
+    put_times(b" }", source)?;
+    source.extend_from_slice(b"\n}\n}\n")?;
+    Ok(())
+}
+
 // As many loops in one another, and an assignment in the innermost.
 fn nested(alloc: Global) -> Result<Vec<u8>, Fail> {
     let mut source = Vec::from_slice(alloc, HEAD)?;
-    source.extend_from_slice(b"{\n")?;
-    for _ in 0..LOOPS {
-        source.extend_from_slice(b"while (got > 0) { ")?;
-    }
-    source.extend_from_slice(b"got = 0;")?;
-    for _ in 0..LOOPS {
-        source.extend_from_slice(b" }")?;
-    }
-    source.extend_from_slice(b"\n}\n}\n")?;
+    put_nested(&mut source)?;
     Ok(source)
 }
 
@@ -268,16 +286,22 @@ fn is_silent(facts: &FactTable, point: u32) -> bool {
     facts.entry(point).is_none() && facts.value(point).is_none() && facts.exits(point).is_none()
 }
 
+fn check_points(known: &Known) -> Result<(), Fail> {
+    expect(is_reached(&known.facts), "reached points")?;
+    expect(is_silent(&known.facts, 8), "no such point")?;
+    expect(known.locks.at(8).is_none(), "no such point has locks")
+}
+
+fn check_environments(facts: &FactTable) -> Result<(), Fail> {
+    expect(environments_are_kept_once(facts), "environments")?;
+    let one_local = facts.env(0).is_some_and(|env| env.len() == 1);
+    expect(one_local, "of one local")?;
+    expect(facts.env(2).is_none(), "no third environment")
+}
+
 #[test]
 fn points_and_environments(rt: HostRuntime) -> Result<(), Fail> {
     let known = known_in(rt.alloc(), &LOWERED)?;
-    expect(is_reached(&known.facts), "reached points")?;
-    expect(is_silent(&known.facts, 8), "no such point")?;
-    expect(known.locks.at(8).is_none(), "no such point has locks")?;
-    expect(environments_are_kept_once(&known.facts), "environments")?;
-    expect(
-        known.facts.env(0).is_some_and(|env| env.len() == 1),
-        "of one local",
-    )?;
-    expect(known.facts.env(2).is_none(), "no third environment")
+    check_points(&known)?;
+    check_environments(&known.facts)
 }

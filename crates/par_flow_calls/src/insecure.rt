@@ -1,14 +1,12 @@
 //! Programs that an observer learns a secret from. The rules on flows refuse each of them, and each
 //! would be accepted if one rule were laxer.
 
-use crate::typed_trees::typed;
+use crate::keys::keys;
+use crate::typed_trees::with_main;
 use par_alike::alike;
-use par_lexer::list::List;
-use par_lexer::name::Name;
 use par_meaning::{SourceEvent, SourceRun, run_source};
 use par_policy::Lockset;
 use par_typed::program::Typed;
-use par_values::inputs::{ChannelInput, Inputs};
 use par_values::run::{Event, Val};
 use par_worked::expect;
 use std::alloc::Global;
@@ -27,40 +25,11 @@ class Shop {
   static void main() {
 ";
 
-const BEHIND: &[u8] = b"
-  }
-}
-";
-
 const BOB: u8 = 1;
 
 const PAID: u16 = 0;
 
 const BOUND: u64 = 1000;
-
-fn program(alloc: Global, body: &[u8]) -> Result<Typed, Fail> {
-    let mut source = Vec::new(alloc);
-    source.extend_from_slice(BEFORE)?;
-    source.extend_from_slice(body)?;
-    source.extend_from_slice(BEHIND)?;
-    typed(alloc, source.as_slice())
-}
-
-fn key_line(alloc: Global, number: i32) -> Result<ChannelInput, Fail> {
-    let mut numbers = List::new(alloc);
-    numbers.push(number)?;
-    Ok(ChannelInput {
-        class: Name::new(alloc, b"Shop")?,
-        channel: Name::new(alloc, b"key")?,
-        numbers,
-    })
-}
-
-fn key(alloc: Global, number: i32) -> Result<Inputs, Fail> {
-    let mut channels = List::new(alloc);
-    channels.push(key_line(alloc, number)?)?;
-    Ok(Inputs { channels })
-}
 
 // What a run tells at a place: the number that is shown or written there, while Paid is not open.
 fn told_by(seen: &SourceEvent) -> Option<i32> {
@@ -131,29 +100,29 @@ const ROWS: &[Row] = &[
 
 // What the run on a key tells at a place.
 fn told_of(alloc: Global, program: &Typed, number: i32, place: usize) -> Result<Option<i32>, Fail> {
-    let inputs = key(alloc, number)?;
+    let inputs = keys(alloc, &[number])?;
     let run = run_source(alloc, program, &inputs, BOUND)?;
     Ok(told(&run, place))
 }
 
-fn are_alike(alloc: Global, program: &Typed, keys: (i32, i32)) -> Result<bool, Fail> {
-    let one = key(alloc, keys.0)?;
-    let other = key(alloc, keys.1)?;
+fn are_alike(alloc: Global, program: &Typed, pair: (i32, i32)) -> Result<bool, Fail> {
+    let one = keys(alloc, &[pair.0])?;
+    let other = keys(alloc, &[pair.1])?;
     Ok(alike(&one, &other, program, BOB, &Lockset::new(alloc)))
 }
 
-fn tells_apart(alloc: Global, row: &Row) -> Result<bool, Fail> {
-    let program = program(alloc, row.body)?;
-    let first = told_of(alloc, &program, row.keys.0, row.place)?;
-    let second = told_of(alloc, &program, row.keys.1, row.place)?;
+fn tells_apart(alloc: Global, program: &Typed, row: &Row) -> Result<bool, Fail> {
+    let first = told_of(alloc, program, row.keys.0, row.place)?;
+    let second = told_of(alloc, program, row.keys.1, row.place)?;
     let differ = first == Some(row.tell.0) && second == Some(row.tell.1);
-    Ok(differ && are_alike(alloc, &program, row.keys)?)
+    Ok(differ && are_alike(alloc, program, row.keys)?)
 }
 
 #[test]
 fn laxer_rules_let_bob_learn_the_key(rt: HostRuntime) -> Result<(), Fail> {
     for row in ROWS {
-        expect(tells_apart(rt.alloc(), row)?, row.name)?;
+        let program = with_main(rt.alloc(), BEFORE, row.body)?;
+        expect(tells_apart(rt.alloc(), &program, row)?, row.name)?;
     }
     Ok(())
 }

@@ -12,6 +12,8 @@ mod inferred;
 #[cfg(test)]
 mod insecure;
 #[cfg(test)]
+mod keys;
+#[cfg(test)]
 mod observers;
 #[cfg(test)]
 mod releases;

@@ -1,12 +1,12 @@
 //! Which inputs of a typed program an observer cannot tell apart.
 
+use crate::keys::keys;
 use crate::typed_trees::typed;
 use par_alike::alike;
 use par_lexer::list::List;
-use par_lexer::name::Name;
 use par_policy::Lockset;
 use par_typed::program::Typed;
-use par_values::inputs::{ChannelInput, Inputs};
+use par_values::inputs::Inputs;
 use par_worked::expect;
 use std::alloc::Global;
 use std::rt::HostRuntime;
@@ -27,23 +27,14 @@ const BOB: u8 = 1;
 
 const PAID: u16 = 0;
 
-fn line(alloc: Global, number: i32) -> Result<ChannelInput, Fail> {
-    let mut numbers = List::new(alloc);
-    numbers.push(number)?;
-    Ok(ChannelInput {
-        class: Name::new(alloc, b"Shop")?,
-        channel: Name::new(alloc, b"key")?,
-        numbers,
-    })
-}
-
 // Inputs whose one line gives this number to the channel, or that have no line.
 fn key(alloc: Global, number: Option<i32>) -> Result<Inputs, Fail> {
-    let mut channels = List::new(alloc);
-    if let Some(number) = number {
-        channels.push(line(alloc, number)?)?;
+    match number {
+        Some(number) => keys(alloc, &[number]),
+        None => Ok(Inputs {
+            channels: List::new(alloc),
+        }),
     }
-    Ok(Inputs { channels })
 }
 
 fn lock_set(alloc: Global, open: &[u16]) -> Result<Lockset, Fail> {

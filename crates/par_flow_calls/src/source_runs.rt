@@ -1,18 +1,15 @@
 //! Runs of programs, over the trees that the reader and the typing give, with ample memory.
 
-use crate::typed_trees::typed;
-use par_lexer::list::List;
-use par_lexer::name::Name;
+use crate::keys::keys;
+use crate::typed_trees::with_main;
 use par_meaning::{SourceEvent, SourceRun, run_source};
-use par_typed::program::Typed;
-use par_values::inputs::{ChannelInput, Inputs};
 use par_values::run::{Ending, Event, Val};
 use par_worked::expect;
 use std::alloc::Global;
 use std::rt::HostRuntime;
 use std::test::Fail;
 
-// What stands around the body of `main`.
+// What stands before the body of `main`.
 const BEFORE: &[u8] = b"lock Paid;
 class Bad extends Exception { }
 class Item { int f; Item me() { return this; } int take(int n) { return n; } }
@@ -28,42 +25,11 @@ class Shop {
   static void main() {
 ";
 
-const BEHIND: &[u8] = b"
-  }
-}
-";
-
 const PAID: u16 = 0;
 
-fn program(alloc: Global, body: &[u8]) -> Result<Typed, Fail> {
-    let mut source = Vec::new(alloc);
-    source.extend_from_slice(BEFORE)?;
-    source.extend_from_slice(body)?;
-    source.extend_from_slice(BEHIND)?;
-    typed(alloc, source.as_slice())
-}
-
-fn key_line(alloc: Global, given: &[i32]) -> Result<ChannelInput, Fail> {
-    let mut numbers = List::new(alloc);
-    for number in given {
-        numbers.push(*number)?;
-    }
-    Ok(ChannelInput {
-        class: Name::new(alloc, b"Shop")?,
-        channel: Name::new(alloc, b"key")?,
-        numbers,
-    })
-}
-
-fn inputs(alloc: Global, given: &[i32]) -> Result<Inputs, Fail> {
-    let mut channels = List::new(alloc);
-    channels.push(key_line(alloc, given)?)?;
-    Ok(Inputs { channels })
-}
-
 fn run(alloc: Global, body: &[u8], given: &[i32], bound: u64) -> Result<SourceRun, Fail> {
-    let program = program(alloc, body)?;
-    let inputs = inputs(alloc, given)?;
+    let program = with_main(alloc, BEFORE, body)?;
+    let inputs = keys(alloc, given)?;
     Ok(run_source(alloc, &program, &inputs, bound)?)
 }
 
@@ -268,13 +234,13 @@ const STEPS: &[(&[u8], u64)] = &[
 
 // Whether the run ends with so many steps, and not with one step less.
 fn takes(alloc: Global, body: &[u8], steps: u64) -> Result<bool, Fail> {
-    let whole = run(alloc, body, &[], steps)?;
-    let cut = run(alloc, body, &[], steps.saturating_sub(1))?;
-    Ok(!is_stopped(&whole) && is_stopped(&cut))
+    let is_cut = is_stopped(alloc, body, steps.saturating_sub(1))?;
+    Ok(is_cut && !is_stopped(alloc, body, steps)?)
 }
 
-fn is_stopped(run: &SourceRun) -> bool {
-    matches!(run.ending, Ending::Stopped)
+fn is_stopped(alloc: Global, body: &[u8], steps: u64) -> Result<bool, Fail> {
+    let run = run(alloc, body, &[], steps)?;
+    Ok(matches!(run.ending, Ending::Stopped))
 }
 
 #[test]

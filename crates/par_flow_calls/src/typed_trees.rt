@@ -36,6 +36,14 @@ pub(crate) fn typed(alloc: Global, source: &[u8]) -> Result<Typed, Fail>
     Ok(typed)
 }
 
+/// The program whose source has this text in the method `main`, which stands last in it.
+pub(crate) fn with_main(alloc: Global, before: &[u8], body: &[u8]) -> Result<Typed, Fail> {
+    let mut source = Vec::from_slice(alloc, before)?;
+    source.extend_from_slice(body)?;
+    source.extend_from_slice(b"\n  }\n}\n")?;
+    typed(alloc, source.as_slice())
+}
+
 // ---- single nodes
 
 // The place and the point of a node.

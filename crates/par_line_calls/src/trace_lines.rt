@@ -43,11 +43,16 @@ fn shop(alloc: Global) -> Result<Name, Fail> {
     Ok(Name::new(alloc, b"Shop")?)
 }
 
-fn with_locks(alloc: Global, event: Event, open: &[u16]) -> Result<SourceEvent, Fail> {
+fn lock_set(alloc: Global, open: &[u16]) -> Result<Lockset, Fail> {
     let mut locks = Lockset::new(alloc);
     for lock in open {
         locks.insert(*lock)?;
     }
+    Ok(locks)
+}
+
+fn with_locks(alloc: Global, event: Event, open: &[u16]) -> Result<SourceEvent, Fail> {
+    let locks = lock_set(alloc, open)?;
     Ok(SourceEvent { event, locks })
 }
 
@@ -59,36 +64,54 @@ fn set(alloc: Global) -> Result<Event, Fail> {
     Ok(Event::Set(shop(alloc)?, Name::new(alloc, b"last")?, Val::Int(7)))
 }
 
-fn run(alloc: Global) -> Result<SourceRun, Fail> {
-    let mut events = List::new(alloc);
+fn put_events(alloc: Global, events: &mut List<SourceEvent>) -> Result<(), Fail> {
     events.push(with_locks(alloc, shown(alloc)?, &[6, 3, 0])?)?;
     events.push(with_locks(alloc, set(alloc)?, &[])?)?;
+    Ok(())
+}
+
+fn run(alloc: Global) -> Result<SourceRun, Fail> {
+    let mut events = List::new(alloc);
+    put_events(alloc, &mut events)?;
     Ok(SourceRun {
         events,
         ending: Ending::Stopped,
     })
 }
 
+// Whether no step is left, and the lines are those of the run.
+fn is_told(alloc: Global, table: &Table, run: &SourceRun) -> Result<bool, Fail> {
+    let mut sink = MemSink::new(alloc, 200)?;
+    let status = tell_source(alloc, table, run, &mut sink);
+    Ok(status == 11 && sink.bytes() == LINES)
+}
+
 #[test]
 fn each_event_has_its_locks(rt: HostRuntime) -> Result<(), Fail> {
     let table = table(rt.alloc(), SHOP)?;
     let run = run(rt.alloc())?;
-    let mut sink = MemSink::new(rt.alloc(), 200)?;
-    let status = tell_source(rt.alloc(), &table, &run, &mut sink);
-    expect(status == 11, "no step is left")?;
-    expect(sink.bytes() == LINES, "the lines of the run")
+    expect(is_told(rt.alloc(), &table, &run)?, "the lines of the run")
 }
 
-fn line(alloc: Global, channel: &[u8]) -> Result<Inputs, Fail> {
+fn name_of(alloc: Global, channel: &[u8]) -> Result<Name, Fail> {
     if !Name::is_name(channel) {
         return Err(Fail::new("a channel has a name"));
     }
-    let mut channels = List::new(alloc);
-    channels.push(ChannelInput {
+    Ok(Name::new(alloc, channel)?)
+}
+
+fn line(alloc: Global, channel: &[u8]) -> Result<ChannelInput, Fail> {
+    let channel = name_of(alloc, channel)?;
+    Ok(ChannelInput {
         class: shop(alloc)?,
-        channel: Name::new(alloc, channel)?,
+        channel,
         numbers: List::new(alloc),
-    })?;
+    })
+}
+
+fn inputs(alloc: Global, channel: &[u8]) -> Result<Inputs, Fail> {
+    let mut channels = List::new(alloc);
+    channels.push(line(alloc, channel)?)?;
     Ok(Inputs { channels })
 }
 
@@ -98,12 +121,20 @@ const CHANNELS: &[(&str, &[u8], Option<usize>)] = &[
     ("a field", b"last", Some(0)),
 ];
 
+fn fits(alloc: Global, table: &Table, channel: &[u8], place: Option<usize>) -> Result<bool, Fail> {
+    let inputs = inputs(alloc, channel)?;
+    Ok(inputs_fit(alloc, table, &inputs)? == place)
+}
+
+fn check_channels(alloc: Global, table: &Table) -> Result<(), Fail> {
+    for (name, channel, place) in CHANNELS {
+        expect(fits(alloc, table, channel, *place)?, name)?;
+    }
+    Ok(())
+}
+
 #[test]
 fn lines_name_input_channels(rt: HostRuntime) -> Result<(), Fail> {
     let table = table(rt.alloc(), SHOP)?;
-    for (name, channel, place) in CHANNELS {
-        let inputs = line(rt.alloc(), channel)?;
-        expect(inputs_fit(rt.alloc(), &table, &inputs)? == *place, name)?;
-    }
-    Ok(())
+    check_channels(rt.alloc(), &table)
 }

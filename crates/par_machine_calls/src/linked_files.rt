@@ -18,12 +18,16 @@ fn has_methods(linked: &Linked, place: u16, many: Option<usize>) -> bool {
     }
 }
 
+fn check_files(linked: &Linked) -> Result<(), Fail> {
+    expect(linked.files().len() == 1, "one file")?;
+    expect(has_methods(linked, 0, Some(2)), "its methods")?;
+    expect(has_methods(linked, 1, None), "no second file")
+}
+
 #[test]
 fn files_are_kept_by_their_places(rt: HostRuntime) -> Result<(), Fail> {
     let linked = linked(rt.alloc(), SHOP)?;
-    expect(linked.files().len() == 1, "one file")?;
-    expect(has_methods(&linked, 0, Some(2)), "its methods")?;
-    expect(has_methods(&linked, 1, None), "no second file")
+    check_files(&linked)
 }
 
 const NAMES: &[(&str, u16, Named)] = &[

@@ -1,4 +1,5 @@
-ghost use Rattle.std.specs.Prelude.{◌≡◌, IfOk};
+ghost use Rattle.std.specs.Prelude.{◌≡◌, IfOk, IsTrue};
+ghost use Rattle.par_loader.specs.Judged.{begins};
 ghost use Rattle.par_machine.specs.Machine.{steps_of};
 
 use crate::linked::linked;
@@ -68,35 +69,58 @@ const RUNS: &[(&str, &[u8], &[i32], Option<(u32, u8)>)] = &[
     ("no return", b"\x03\xb3\0\x0b", &[], Some((1, 5))),
 ];
 
-// The bytes of `Shop` with this code of `main`.
-fn bytes_with(alloc: Global, code: &[u8]) -> Result<Vec<u8>, Fail> {
-    let mut bytes = Vec::from_slice(alloc, HEAD)?;
+fn put_code(bytes: &mut Vec<u8>, code: &[u8]) -> Result<(), Fail> {
     let many = code.len().min(200) as u8;
     bytes.extend_from_slice(&[many + 12, 0, 2, 0, 1, 0, 0, 0, many])?;
     bytes.extend_from_slice(code)?;
     bytes.extend_from_slice(TAIL)?;
+    Ok(())
+}
+
+// The bytes of `Shop` with this code of `main`.
+fn bytes_with(alloc: Global, code: &[u8]) -> Result<Vec<u8>, Fail> {
+    let mut bytes = Vec::from_slice(alloc, HEAD)?;
+    put_code(&mut bytes, code)?;
     Ok(bytes)
 }
 
-// The number 7 for a channel of `Shop`.
-fn inputs(alloc: Global, channel: Name) -> Result<Inputs, Fail> {
+// `Shop` with this code of `main`, where it links.
+fn linked_with(alloc: Global, code: &[u8]) -> Result<Linked, Fail>
+    ensures { IfOk result (λ linked. IsTrue (begins linked)) }
+{
+    let bytes = bytes_with(alloc, code)?;
+    linked(alloc, bytes.as_slice())
+}
+
+// A line that gives the number 7 to a channel of `Shop`.
+fn line(alloc: Global, channel: Name) -> Result<ChannelInput, Fail> {
+    let class = Name::new(alloc, b"Shop")?;
     let mut numbers = List::new(alloc);
     numbers.push(7)?;
-    let mut channels = List::new(alloc);
-    channels.push(ChannelInput {
-        class: Name::new(alloc, b"Shop")?,
+    Ok(ChannelInput {
+        class,
         channel,
         numbers,
-    })?;
+    })
+}
+
+fn inputs(alloc: Global, channel: Name) -> Result<Inputs, Fail> {
+    let line = line(alloc, channel)?;
+    let mut channels = List::new(alloc);
+    channels.push(line)?;
     Ok(Inputs { channels })
 }
 
-// A machine for these bytes, where they are a class file that links.
-fn machine(alloc: Global, bytes: &[u8]) -> Result<Machine, Fail>
+fn asked(alloc: Global) -> Result<Inputs, Fail> {
+    inputs(alloc, Name::new(alloc, b"ask")?)
+}
+
+// A machine for `Shop` with this code of `main`, where it links.
+fn machine(alloc: Global, code: &[u8]) -> Result<Machine, Fail>
     ensures { IfOk result (λ machine. steps_of machine ≡ 0) }
 {
-    let linked = linked(alloc, bytes)?;
-    let inputs = inputs(alloc, Name::new(alloc, b"ask")?)?;
+    let inputs = asked(alloc)?;
+    let linked = linked_with(alloc, code)?;
     Ok(machine_places::machine(alloc, linked, inputs)?)
 }
 
@@ -112,6 +136,13 @@ fn number_of(event: &Event) -> Option<i32> {
     }
 }
 
+fn note(event: &Event, numbers: &mut Vec<i32>) -> Result<(), Fail> {
+    match number_of(event) {
+        Some(number) => Ok(numbers.push(number)?),
+        None => Err(Fail::new("an event has a number")),
+    }
+}
+
 // Runs to the end, and answers where bad code is met.
 fn run(machine: &mut Machine, numbers: &mut Vec<i32>) -> Result<Option<(u32, u8)>, Fail>
     requires { steps_of machine.old ≡ 0 }
@@ -119,9 +150,7 @@ fn run(machine: &mut Machine, numbers: &mut Vec<i32>) -> Result<Option<(u32, u8)
     for _step in 0..MOST {
         match machine.step() {
             Ok(Turn::Silent) => {}
-            Ok(Turn::Happened(event)) => {
-                numbers.push(number_of(&event).ok_or("an event has a number")?)?;
-            }
+            Ok(Turn::Happened(event)) => note(&event, numbers)?,
             Ok(Turn::Ended(Ending::End)) => return Ok(None),
             Err(Stuck::BadCode { offset, reason, .. }) => return Ok(Some((offset, reason))),
             _ => return Err(Fail::from("the run ends")),
@@ -137,8 +166,7 @@ fn code_makes(
     expected: &[i32],
     bad: Option<(u32, u8)>,
 ) -> Result<bool, Fail> {
-    let bytes = bytes_with(alloc, code)?;
-    let mut machine = machine(alloc, bytes.as_slice())?;
+    let mut machine = machine(alloc, code)?;
     let mut numbers = Vec::new(alloc);
     let met = run(&mut machine, &mut numbers)?;
     Ok(met == bad && numbers.as_slice() == expected)
@@ -234,8 +262,7 @@ fn code_goes(
     many: u32,
     places: &[Option<MVal>],
 ) -> Result<bool, Fail> {
-    let bytes = bytes_with(alloc, code)?;
-    let mut machine = machine(alloc, bytes.as_slice())?;
+    let mut machine = machine(alloc, code)?;
     let went = machine.go_on(most.min(MOST));
     Ok(went == many && machine.places() == places)
 }
@@ -267,12 +294,15 @@ fn fits(
     Ok(inputs_fit(linked, &inputs) == unfit)
 }
 
-#[test]
-fn channels_are_looked_for(rt: HostRuntime) -> Result<(), Fail> {
-    let bytes = bytes_with(rt.alloc(), b"\xb1")?;
-    let linked = linked(rt.alloc(), bytes.as_slice())?;
+fn check_channels(alloc: Global, linked: &Linked) -> Result<(), Fail> {
     for (name, channel, unfit) in CHANNELS {
-        expect(fits(rt.alloc(), &linked, channel, *unfit)?, name)?;
+        expect(fits(alloc, linked, channel, *unfit)?, name)?;
     }
     Ok(())
+}
+
+#[test]
+fn channels_are_looked_for(rt: HostRuntime) -> Result<(), Fail> {
+    let linked = linked_with(rt.alloc(), b"\xb1")?;
+    check_channels(rt.alloc(), &linked)
 }

@@ -9,10 +9,14 @@ use par_worked::expect;
 use std::alloc::Global;
 use std::test::Fail;
 
+fn folder_with_body(alloc: Global, body: &str) -> Result<MemFolder, NoMemory> {
+    let source = with_body(alloc, body)?;
+    folder_of(alloc, source.as_str())
+}
+
 /// Whether an older file is replaced by one with the magic number and the version 51.0.
 fn is_replaced(alloc: Global) -> Result<bool, NoMemory> {
-    let source = with_body(alloc, SHOWS_KEY)?;
-    let mut folder = folder_of(alloc, source.as_str())?;
+    let mut folder = folder_with_body(alloc, SHOWS_KEY)?;
     folder.add("Shop.class", b"an older file")?;
     let is_told = answers(alloc, "paragonc shop.par", &mut folder, COMPILED)?;
     Ok(is_told && begins(&folder, b"\xCA\xFE\xBA\xBE\0\0\0\x33"))
@@ -40,8 +44,7 @@ const OTHERS: &[(&str, Answer)] = &[
 ];
 
 fn has_none(alloc: Global, body: &str, answer: Answer) -> Result<bool, NoMemory> {
-    let source = with_body(alloc, body)?;
-    let mut folder = folder_of(alloc, source.as_str())?;
+    let mut folder = folder_with_body(alloc, body)?;
     let is_told = answers(alloc, "paragonc shop.par", &mut folder, answer)?;
     Ok(is_told && folder.get("Shop.class").is_none())
 }
@@ -72,12 +75,18 @@ fn spells_the_channel_alone(file: &[u8]) -> bool {
         && !stands_in(b"Paid", file)
 }
 
+fn is_spelled_alone(alloc: Global) -> Result<bool, NoMemory> {
+    let source = with_body(alloc, SHOWS_KEY)?;
+    let folder = compiled(alloc, source.as_str(), KEY_42)?;
+    match folder.get("Shop.class") {
+        Some(file) => Ok(spells_the_channel_alone(file)),
+        None => Ok(false),
+    }
+}
+
 #[test]
 fn no_actor_and_no_lock_is_named(rt: HostRuntime) -> Result<(), Fail> {
-    let source = with_body(rt.alloc(), SHOWS_KEY)?;
-    let folder = compiled(rt.alloc(), source.as_str(), KEY_42)?;
-    let file = folder.get("Shop.class").ok_or("the file is written")?;
-    expect(spells_the_channel_alone(file), "the channel alone is named")
+    expect(is_spelled_alone(rt.alloc())?, "the channel alone is named")
 }
 
 /// Sources that differ in policies and locks alone have one class file.
@@ -209,10 +218,14 @@ const WRITES: &[(&str, u64, bool)] = &[
     ("the second write fails", 2, true),
 ];
 
+fn folder_with_box(alloc: Global) -> Result<MemFolder, NoMemory> {
+    let source = with_line(alloc, 2, WITH_A_BOX)?;
+    folder_of(alloc, source.as_str())
+}
+
 /// Whether the class file before the one that fails is whole, and the one behind it was not made.
 fn is_cut_off(alloc: Global, call: u64, first: bool) -> Result<bool, NoMemory> {
-    let source = with_line(alloc, 2, WITH_A_BOX)?;
-    let mut folder = folder_of(alloc, source.as_str())?;
+    let mut folder = folder_with_box(alloc)?;
     folder.fail_write(call, 0)?;
     let fault = ("write fault\n", 5);
     let is_told = answers(alloc, "paragonc shop.par", &mut folder, fault)?;

@@ -28,33 +28,51 @@ const JUMP: [u8; 5] = [0xa7, 0, 4, 0xb1, 0xb1];
 /// Zeros that are pushed and popped, and a return.
 const STRAIGHT: [u8; 5] = [3, 87, 3, 87, 0xb1];
 
-/// The class file of A in this version, whose method has this code with these tables of frames.
-// The tables of frames, each as an attribute.
-fn attributes_of(alloc: Global, tables: &[&[u8]]) -> Result<Vec<u8>, NoMemory> {
-    let mut attributes = Vec::new(alloc);
+// How many bytes the tables of frames have, as attributes.
+fn length_of(tables: &[&[u8]]) -> usize {
+    let mut length: usize = 0;
     for table in tables {
-        attributes.extend_from_slice(&[0, 8, 0, 0, 0, table.len().min(255) as u8])?;
-        attributes.extend_from_slice(table)?;
+        length = length.saturating_add(table.len()).saturating_add(6);
     }
-    Ok(attributes)
+    length
 }
 
+// Puts the tables of frames, each as an attribute.
+fn put_tables(file: &mut Vec<u8>, tables: &[&[u8]]) -> Result<(), NoMemory> {
+    file.extend_from_slice(&[0, 0, 0, tables.len().min(255) as u8])?;
+    for table in tables {
+        file.extend_from_slice(&[0, 8, 0, 0, 0, table.len().min(255) as u8])?;
+        file.extend_from_slice(table)?;
+    }
+    Ok(())
+}
+
+// Puts what stands behind the version, up to the code.
+fn put_front(file: &mut Vec<u8>, tables: &[&[u8]]) -> Result<(), NoMemory> {
+    let length = length_of(tables).min(200) as u8 + 17;
+    file.extend_from_slice(BEHIND_VERSION)?;
+    file.extend_from_slice(&[0, 0, 0, length])?;
+    file.extend_from_slice(CODE_FRONT)?;
+    Ok(())
+}
+
+fn put_all(file: &mut Vec<u8>, code: [u8; 5], tables: &[&[u8]]) -> Result<(), NoMemory> {
+    put_front(file, tables)?;
+    file.extend_from_slice(&code)?;
+    put_tables(file, tables)?;
+    file.extend_from_slice(&[0, 0])?;
+    Ok(())
+}
+
+/// The class file of A in this version, whose method has this code with these tables of frames.
 fn class_a(
     alloc: Global,
     version: u8,
     code: [u8; 5],
     tables: &[&[u8]],
 ) -> Result<Vec<u8>, NoMemory> {
-    let attributes = attributes_of(alloc, tables)?;
-    let length = attributes.len().min(200) as u8 + 17;
     let mut file = [0xca, 0xfe, 0xba, 0xbe, 0, 0, 0, version].to_vec(alloc)?;
-    file.extend_from_slice(BEHIND_VERSION)?;
-    file.extend_from_slice(&[0, 0, 0, length])?;
-    file.extend_from_slice(CODE_FRONT)?;
-    file.extend_from_slice(&code)?;
-    file.extend_from_slice(&[0, 0, 0, tables.len().min(255) as u8])?;
-    file.extend_from_slice(attributes.as_slice())?;
-    file.extend_from_slice(&[0, 0])?;
+    put_all(&mut file, code, tables)?;
     Ok(file)
 }
 

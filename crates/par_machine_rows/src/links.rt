@@ -1,5 +1,6 @@
 //! Class files that the runner takes apart, loads and links, and what it tells of them.
 
+use crate::hand_made::files_run_as;
 use par_io::{MemFolder, NoMemory};
 use par_row_calls::{Answer, answers};
 use par_worked::expect;
@@ -162,10 +163,8 @@ fn is_told(
     answer: Answer,
 ) -> Result<bool, NoMemory> {
     let bytes = changed(alloc, SHOP, one, other)?;
-    let mut folder = MemFolder::new(alloc);
-    folder.add("Shop.class", bytes.as_slice())?;
-    folder.add("in.txt", b"")?;
-    answers(alloc, "paragon Shop in.txt 1000", &mut folder, answer)
+    let files = [("Shop.class", bytes.as_slice())];
+    files_run_as(alloc, &files, "paragon Shop in.txt 1000", answer)
 }
 
 #[test]
@@ -227,15 +226,6 @@ const BANKS: &[(&str, usize, (usize, u8), Answer)] = &[
     ),
 ];
 
-fn folder_of_bank(alloc: Global, bank: &[u8]) -> Result<MemFolder, NoMemory> {
-    let shop = naming_bank(alloc)?;
-    let mut folder = MemFolder::new(alloc);
-    folder.add("Shop.class", shop.as_slice())?;
-    folder.add("Bank.class", bank)?;
-    folder.add("in.txt", b"")?;
-    Ok(folder)
-}
-
 fn bank_is_told(
     alloc: Global,
     length: usize,
@@ -244,8 +234,12 @@ fn bank_is_told(
 ) -> Result<bool, NoMemory> {
     let mut bank = changed(alloc, BANK, change, change)?;
     bank.truncate(length);
-    let mut folder = folder_of_bank(alloc, bank.as_slice())?;
-    answers(alloc, "paragon Shop in.txt 1000", &mut folder, answer)
+    let shop = naming_bank(alloc)?;
+    let files = [
+        ("Shop.class", shop.as_slice()),
+        ("Bank.class", bank.as_slice()),
+    ];
+    files_run_as(alloc, &files, "paragon Shop in.txt 1000", answer)
 }
 
 #[test]
@@ -318,17 +312,21 @@ fn add_link(alloc: Global, folder: &mut MemFolder, number: u8, next: u8) -> Resu
     folder.add(name.as_str(), bytes.as_slice())
 }
 
-fn chain_is_told(alloc: Global, length: u8, answer: Answer) -> Result<bool, NoMemory> {
-    let mut folder = MemFolder::new(alloc);
+fn add_chain(alloc: Global, folder: &mut MemFolder, length: u8) -> Result<(), NoMemory> {
     for number in 0..length {
         let next = if number < length - 1 {
             number + 1
         } else {
             number
         };
-        add_link(alloc, &mut folder, number, next)?;
+        add_link(alloc, folder, number, next)?;
     }
-    folder.add("in.txt", b"")?;
+    folder.add("in.txt", b"")
+}
+
+fn chain_is_told(alloc: Global, length: u8, answer: Answer) -> Result<bool, NoMemory> {
+    let mut folder = MemFolder::new(alloc);
+    add_chain(alloc, &mut folder, length)?;
     answers(alloc, "paragon C000 in.txt 1000", &mut folder, answer)
 }
 

@@ -346,8 +346,7 @@ const INPUTS: &[(&str, &str, Answer)] = &[
 ];
 
 fn asks_as(alloc: Global, inputs: &str, answer: Answer) -> Result<bool, NoMemory> {
-    let shop = with_code(alloc, SHOP, plain(1, ASKS))?;
-    let mut folder = folder_of(alloc, shop.as_slice(), inputs)?;
+    let mut folder = folder_of_asks(alloc, inputs)?;
     answers(alloc, "paragon Shop in.txt 1000", &mut folder, answer)
 }
 
@@ -359,10 +358,15 @@ fn inputs_of_linked_classes_are_read(rt: HostRuntime) -> Result<(), Fail> {
     Ok(())
 }
 
+/// A folder with the class files of ASKS and an input file.
+fn folder_of_asks(alloc: Global, inputs: &str) -> Result<MemFolder, NoMemory> {
+    let shop = with_code(alloc, SHOP, plain(1, ASKS))?;
+    folder_of(alloc, shop.as_slice(), inputs)
+}
+
 /// Whether two bytes of its second line are held where that put fails, and nothing behind them.
 fn cut_is_held(alloc: Global) -> Result<bool, NoMemory> {
-    let shop = with_code(alloc, SHOP, plain(1, ASKS))?;
-    let mut folder = folder_of(alloc, shop.as_slice(), "")?;
+    let mut folder = folder_of_asks(alloc, "")?;
     let mut out = MemSink::new(alloc, 100)?;
     out.fail_put(2, 2);
     let status = call(alloc, "paragon Shop in.txt 1000", &mut folder, &mut out)?;
@@ -374,11 +378,16 @@ fn a_failed_put_leaves_a_front(rt: HostRuntime) -> Result<(), Fail> {
     expect(cut_is_held(rt.alloc())?, "the second put fails")
 }
 
-fn no_inputs_are_told(alloc: Global) -> Result<bool, NoMemory> {
+fn without_inputs(alloc: Global) -> Result<MemFolder, NoMemory> {
     let shop = with_code(alloc, SHOP, plain(1, ASKS))?;
     let mut folder = MemFolder::new(alloc);
     folder.add("Shop.class", shop.as_slice())?;
     folder.add("Bad.class", BAD)?;
+    Ok(folder)
+}
+
+fn no_inputs_are_told(alloc: Global) -> Result<bool, NoMemory> {
+    let mut folder = without_inputs(alloc)?;
     answers(
         alloc,
         "paragon Shop in.txt 1000",

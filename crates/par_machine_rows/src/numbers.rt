@@ -1,9 +1,9 @@
 //! Class files made by hand that reckon with numbers and branch on them. Another Java
 //! virtual machine gave the same numbers.
 
-use crate::hand_made::{Code, folder_with, with_code};
+use crate::hand_made::{Code, files_run_as, with_code};
 use par_io::NoMemory;
-use par_row_calls::{Answer, answers};
+use par_row_calls::Answer;
 use par_worked::expect;
 use std::alloc::Global;
 use std::test::Fail;
@@ -219,8 +219,8 @@ fn code_runs_as(alloc: Global, bytes: &[u8], answer: Answer) -> Result<bool, NoM
         handlers: &[],
     };
     let shop = with_code(alloc, SHOP, code)?;
-    let mut folder = folder_with(alloc, &[("Shop.class", shop.as_slice())], "")?;
-    answers(alloc, "paragon Shop in.txt 1000", &mut folder, answer)
+    let files = [("Shop.class", shop.as_slice())];
+    files_run_as(alloc, &files, "paragon Shop in.txt 1000", answer)
 }
 
 #[test]

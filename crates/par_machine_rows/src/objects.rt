@@ -1,8 +1,8 @@
 //! Class files made by hand that make objects and ask for their fields and methods.
 
-use crate::hand_made::{Code, folder_with, with_code};
+use crate::hand_made::{Code, files_run_as, with_code};
 use par_io::NoMemory;
-use par_row_calls::{Answer, answers};
+use par_row_calls::Answer;
 use par_worked::expect;
 use std::alloc::Global;
 use std::test::Fail;
@@ -193,8 +193,7 @@ fn code_runs_as(alloc: Global, bytes: &[u8], answer: Answer) -> Result<bool, NoM
         ("Bill.class", BILL),
         ("Bad.class", BAD),
     ];
-    let mut folder = folder_with(alloc, &files, "")?;
-    answers(alloc, "paragon Shop in.txt 1000", &mut folder, answer)
+    files_run_as(alloc, &files, "paragon Shop in.txt 1000", answer)
 }
 
 #[test]

@@ -1,8 +1,9 @@
 //! A class file made by hand, whose `main` has eight bytes of code: each reason why an instruction
 //! cannot be run, and null where an object has to be.
 
-use par_io::{MemFolder, NoMemory};
-use par_row_calls::{Answer, answers};
+use crate::hand_made::files_run_as;
+use par_io::NoMemory;
+use par_row_calls::Answer;
 use par_worked::expect;
 use std::alloc::Global;
 use std::test::Fail;
@@ -78,10 +79,8 @@ fn shop_of(alloc: Global, code: &[u8]) -> Result<Vec<u8>, NoMemory> {
 
 fn code_runs_as(alloc: Global, code: &[u8], answer: Answer) -> Result<bool, NoMemory> {
     let file = shop_of(alloc, code)?;
-    let mut folder = MemFolder::new(alloc);
-    folder.add("Shop.class", file.as_slice())?;
-    folder.add("in.txt", b"")?;
-    answers(alloc, "paragon Shop in.txt 100", &mut folder, answer)
+    let files = [("Shop.class", file.as_slice())];
+    files_run_as(alloc, &files, "paragon Shop in.txt 100", answer)
 }
 
 #[test]

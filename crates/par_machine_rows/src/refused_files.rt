@@ -1,7 +1,8 @@
 //! Class files that the runner refuses, with the number and the value that it tells of each.
 
+use crate::hand_made::files_run_as;
 use par_io::{MemFolder, NoMemory};
-use par_row_calls::{Answer, KEY_42, SHOWS_KEY, answers, compiled, with_body};
+use par_row_calls::{Answer, KEY_42, SHOWS_KEY, compiled, with_body};
 use par_worked::expect;
 use std::alloc::{AllocError, Global};
 use std::test::Fail;
@@ -14,10 +15,7 @@ fn is_told(
     bytes: &[u8],
     answer: Answer,
 ) -> Result<bool, NoMemory> {
-    let mut folder = MemFolder::new(alloc);
-    folder.add(name, bytes)?;
-    folder.add("in.txt", b"")?;
-    answers(alloc, command, &mut folder, answer)
+    files_run_as(alloc, &[(name, bytes)], command, answer)
 }
 
 fn is_told_of_shop(alloc: Global, bytes: &[u8], answer: Answer) -> Result<bool, NoMemory> {
@@ -132,18 +130,34 @@ const CHANGES_OF_A: &[(usize, u8, Answer)] = &[
     (7, 52, ("bad class A 31 52\n", 12)),
 ];
 
+fn change_of_a_is_told(
+    alloc: Global,
+    place: usize,
+    byte: u8,
+    answer: Answer,
+) -> Result<bool, NoMemory> {
+    let changed = with_byte(alloc, A, place, byte)?;
+    is_told_of_a(alloc, changed.as_slice(), answer)
+}
+
 #[test]
 fn files_without_members_are_told(rt: HostRuntime) -> Result<(), Fail> {
     for (place, byte, answer) in CHANGES_OF_A {
-        let changed = with_byte(rt.alloc(), A, *place, *byte)?;
-        expect(
-            is_told_of_a(rt.alloc(), changed.as_slice(), *answer)?,
-            answer.0,
-        )?;
+        let is_told = change_of_a_is_told(rt.alloc(), *place, *byte, *answer)?;
+        expect(is_told, answer.0)?;
     }
-    let more = with_more(rt.alloc(), A)?;
-    let answer = ("bad class A 35 53\n", 12);
-    expect(is_told_of_a(rt.alloc(), more.as_slice(), answer)?, answer.0)
+    Ok(())
+}
+
+fn more_of_a_is_told(alloc: Global, answer: Answer) -> Result<bool, NoMemory> {
+    let more = with_more(alloc, A)?;
+    is_told_of_a(alloc, more.as_slice(), answer)
+}
+
+#[test]
+fn a_longer_file_without_members_is_told(rt: HostRuntime) -> Result<(), Fail> {
+    let is_told = more_of_a_is_told(rt.alloc(), ("bad class A 35 53\n", 12))?;
+    expect(is_told, "one byte more")
 }
 
 /// A class Shop, whose `main` pushes a 0 and returns. Its last constant names the class itself.
@@ -164,14 +178,21 @@ const CHANGES_OF_SHOP: &[(usize, u8, Answer)] = &[
     (64, 5, ("bad class Shop 40 8\n", 12)),
 ];
 
+fn change_of_shop_is_told(
+    alloc: Global,
+    place: usize,
+    byte: u8,
+    answer: Answer,
+) -> Result<bool, NoMemory> {
+    let changed = with_byte(alloc, SHOP, place, byte)?;
+    is_told_of_shop(alloc, changed.as_slice(), answer)
+}
+
 #[test]
 fn files_that_do_not_link_are_told(rt: HostRuntime) -> Result<(), Fail> {
     for (place, byte, answer) in CHANGES_OF_SHOP {
-        let changed = with_byte(rt.alloc(), SHOP, *place, *byte)?;
-        expect(
-            is_told_of_shop(rt.alloc(), changed.as_slice(), *answer)?,
-            answer.0,
-        )?;
+        let is_told = change_of_shop_is_told(rt.alloc(), *place, *byte, *answer)?;
+        expect(is_told, answer.0)?;
     }
     Ok(())
 }

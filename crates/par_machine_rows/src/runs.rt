@@ -1,5 +1,6 @@
 //! Runs of class files that were compiled, on input files.
 
+use crate::hand_made::files_run_as;
 use par_io::{MemFolder, NoMemory};
 use par_row_calls::{Answer, KEY_42, Row, SHOWS_KEY, answers, check_rows, compiled, with_line};
 use par_worked::expect;
@@ -244,10 +245,7 @@ const CODES: &[(&str, &[u8], Answer)] = &[
 
 /// Whether a class file `Shop` is run with this answer.
 fn runs_as(alloc: Global, file: &[u8], answer: Answer) -> Result<bool, NoMemory> {
-    let mut folder = MemFolder::new(alloc);
-    folder.add("Shop.class", file)?;
-    folder.add("in.txt", b"")?;
-    answers(alloc, RUN, &mut folder, answer)
+    files_run_as(alloc, &[("Shop.class", file)], RUN, answer)
 }
 
 fn code_runs_as(alloc: Global, code: &[u8], answer: Answer) -> Result<bool, NoMemory> {

@@ -1,6 +1,6 @@
 //! Class files that are verified: some are compiled, most have a `main` that is made by hand.
 
-use crate::hand_made::{Code, Handler, folder_with, with_code};
+use crate::hand_made::{Code, Handler, files_run_as, with_code};
 use par_io::NoMemory;
 use par_row_calls::{Answer, KEY_42, answers, compiled, with_lines};
 use par_worked::expect;
@@ -132,8 +132,7 @@ fn row_holds(alloc: Global, row: &Row) -> Result<bool, NoMemory> {
         handlers: row.4,
     };
     let shop = with_code(alloc, SHOP, code)?;
-    let mut folder = folder_with(alloc, &[("Shop.class", shop.as_slice())], "")?;
-    answers(alloc, VERIFY, &mut folder, row.5)
+    files_run_as(alloc, &[("Shop.class", shop.as_slice())], VERIFY, row.5)
 }
 
 #[test]

@@ -230,10 +230,17 @@ fn policy_sets(rt: HostRuntime) -> Result<(), Fail> {
     Ok(())
 }
 
+// Puts what alice sees by these locks behind a table.
+fn put(table: &mut Vec<Policy>, alloc: Global, locks: &'static [u16]) -> Result<(), NoMemory> {
+    let policy = policy(alloc, &[(ALICE, locks)])?;
+    table.push(policy)?;
+    Ok(())
+}
+
 pub fn paid_and_gold(alloc: Global) -> Result<Vec<Policy>, NoMemory> {
     let mut table = Vec::new(alloc);
-    table.push(policy(alloc, &[(ALICE, &[PAID])])?)?;
-    table.push(policy(alloc, &[(ALICE, &[GOLD])])?)?;
+    put(&mut table, alloc, &[PAID])?;
+    put(&mut table, alloc, &[GOLD])?;
     Ok(table)
 }
 

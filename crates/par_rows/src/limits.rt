@@ -558,11 +558,16 @@ fn folder_of_numbers(alloc: Global, many: u32) -> Result<MemFolder, NoMemory> {
     compiled(alloc, source.as_str(), KEY_42)
 }
 
-fn shows_numbers(alloc: Global, many: u32) -> Result<bool, NoMemory> {
+fn run_of_numbers(alloc: Global, many: u32) -> Result<(u8, MemSink), NoMemory> {
     let mut folder = folder_of_numbers(alloc, many)?;
-    let lines = repeated(alloc, &[("out Shop.show 40000#\n", many), ("end\n", 1)])?;
     let mut out = MemSink::new(alloc, 20_000)?;
     let status = call(alloc, "paragon Shop in.txt 2000", &mut folder, &mut out)?;
+    Ok((status, out))
+}
+
+fn shows_numbers(alloc: Global, many: u32) -> Result<bool, NoMemory> {
+    let (status, out) = run_of_numbers(alloc, many)?;
+    let lines = repeated(alloc, &[("out Shop.show 40000#\n", many), ("end\n", 1)])?;
     Ok((status, out.bytes()) == (0, lines.as_bytes()))
 }
 
@@ -607,17 +612,28 @@ fn push_locks(alloc: Global, source: &mut String, set: u32) -> Result<(), AllocE
     Ok(())
 }
 
-/// A field for each set of the locks `l0` to `l7` but the empty one, which alice needs, and the
-/// rest of the class on the line behind them.
-fn with_policies(alloc: Global, rest: &str) -> Result<String, AllocError> {
-    let mut source = String::from_str(alloc, "actor alice, bob; ")?;
-    push_repeated(alloc, &mut source, "lock l#; ", 8)?;
+/// A field that alice needs the locks of a set for.
+fn push_field(alloc: Global, source: &mut String, set: u32) -> Result<(), AllocError> {
+    source.push_str("?{alice:")?;
+    push_locks(alloc, source, set)?;
+    push_numbered(alloc, source, "} static int f#;\n", set)
+}
+
+fn push_fields(alloc: Global, source: &mut String) -> Result<(), AllocError> {
+    source.push_str("actor alice, bob; ")?;
+    push_repeated(alloc, source, "lock l#; ", 8)?;
     source.push_str("class Shop {\n")?;
     for set in 1..256u32 {
-        source.push_str("?{alice:")?;
-        push_locks(alloc, &mut source, set)?;
-        push_numbered(alloc, &mut source, "} static int f#;\n", set)?;
+        push_field(alloc, source, set)?;
     }
+    Ok(())
+}
+
+/// A field for each set of the locks `l0` to `l7` but the empty one, and the rest of the class on
+/// the line behind them.
+fn with_policies(alloc: Global, rest: &str) -> Result<String, AllocError> {
+    let mut source = String::new(alloc);
+    push_fields(alloc, &mut source)?;
     source.push_str(rest)?;
     Ok(source)
 }
