@@ -12,8 +12,8 @@ ghost use Rattle.par_tool.specs.Lines.{texts_of};
 
 use crate::reads::{Failure, read};
 use crate::sources::refused;
-use par_infer::{Filling, InferError, infer_fields};
 use par_filling_lines::filling_lines;
+use par_infer::{Filling, InferError, infer_fields};
 use par_io::Folder;
 use par_lexer::LONGEST_SOURCE;
 use par_observer::{JudgeError, typed_of};

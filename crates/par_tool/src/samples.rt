@@ -8,8 +8,7 @@ ghost use Rattle.par_tool.specs.Samples.{Sampled};
 use crate::answer::Answer;
 use crate::reads::Failure;
 use crate::sources::{class_files, program};
-use par_sample::sample;
-use par_sample::summary_of;
+use par_sample::{sample, summary_of};
 use std::alloc::Global;
 
 /// Makes the sample of a number.
