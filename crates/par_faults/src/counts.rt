@@ -99,16 +99,15 @@ fn check_actors(places: &[u32], decls: &[Decl], findings: &mut Findings)
     }
 }
 
-/// Notes the limits of actors and of locks that a program exceeds.
+/// Notes the limits of actors and of locks that these declarations exceed.
 pub fn check_declared(
     alloc: Global,
-    program: &Program,
+    decls: &[Decl],
     findings: &mut Findings,
 ) -> Result<(), NoMemory>
     ensures { OnOk result (findings.new
-        ≡ first_of findings.old (declared_limits (source program.now))) }
+        ≡ first_of findings.old (declared_limits (all_declared decls.now))) }
 {
-    let decls = program.decls.as_slice();
     let actors = actor_places(alloc, decls)?;
     check_actors(actors.as_slice(), decls, findings);
     Ok(())

@@ -83,7 +83,7 @@ fn first_limit(alloc: Global, program: &Program) -> Result<Option<Refusal>, NoMe
         first ≡ first_of None (limit_faults (source program.now))) }
 {
     let mut findings = Findings::new();
-    check_declared(alloc, program, &mut findings)?;
+    check_declared(alloc, program.decls.as_slice(), &mut findings)?;
     let declared = findings.first();
     check_class_counts(alloc, program, &mut findings)?;
     check_policies(alloc, program, declared, &mut findings)?;
