@@ -30,15 +30,17 @@ module _ (class name : Name) where
   line_place : (lines : List ChannelInput)
       → position (is_of class name) lines ≡ line_of (channels_of lines) class name
   line_place [] = refl
-  line_place (line ∷ lines) = in_case (is_of class name line) refl
+  line_place (line ∷ lines) = in_case (is_of class name line) (line_place lines) refl
     where
-      in_case : (b : Bool) → is_of class name line ≡ b → position (is_of class name) (line ∷ lines)
+      in_case : (b : Bool)
+          → position (is_of class name) lines ≡ line_of (channels_of lines) class name
+          → is_of class name line ≡ b → position (is_of class name) (line ∷ lines)
           ≡ line_of (channels_of (line ∷ lines)) class name
-      in_case true is =
+      in_case true later is =
           first_passes (is_of class name) line lines is
           ∙ sym (first_passes (is_channel class name) (channel_of line) (channels_of lines) is)
-      in_case false is =
-          first_fails (is_of class name) line lines is ∙ ap (option_map suc) (line_place lines)
+      in_case false later is =
+          first_fails (is_of class name) line lines is ∙ ap (option_map suc) later
           ∙ sym (first_fails (is_channel class name) (channel_of line) (channels_of lines) is)
 
   -- the first line of a channel gives what the channel has
