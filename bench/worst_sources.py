@@ -126,9 +126,8 @@ def one_join(most):
     return padded(front + "*P" * ((most - len(front) - 5) // 2) + ";", most)
 
 
-def many_joins(most):
-    """Two policies, none of which is below the other, joined over and over."""
-    front = widest() + f"class A{{{MAIN}}}"
+def joined_over(front, most):
+    """Policies that are each the join of P and Q."""
     made, size = [front], len(front)
     while True:
         text = f"policy R{len(made)}=P*Q;"
@@ -136,6 +135,26 @@ def many_joins(most):
             return padded("".join(made), most)
         made.append(text)
         size += len(text)
+
+
+def many_joins(most):
+    """Two policies, none of which is below the other, joined over and over."""
+    return joined_over(widest() + f"class A{{{MAIN}}}", most)
+
+
+def late(own, others):
+    """A policy of 31 clauses of 15 locks, one of them of its own, and of one of two locks more that
+    each clause of the join of two such policies has."""
+    common = LOCKS[200:213]
+    clauses = [[lock, *common, own] for lock in others] + [[*common, *LOCKS[254:]]]
+    return "{" + ";".join("a:" + ",".join(clause) for clause in clauses) + "}"
+
+
+def late_joins(most):
+    """Two policies joined over and over, of whose joined clauses the last one covers all."""
+    front = "actor a;" + "".join(f"lock {lock};" for lock in LOCKS)
+    front += f"policy P={late(LOCKS[254], LOCKS[2:33])};policy Q={late(LOCKS[255], LOCKS[40:71])};"
+    return joined_over(front + f"class A{{{MAIN}}}", most)
 
 
 def births(most):
@@ -285,6 +304,7 @@ SOURCES = {
     "calls with 16 arguments": (CHECK, arguments),
     "one policy joined with itself": (CHECK, one_join),
     "two policies joined over and over": (CHECK, many_joins),
+    "two whose last joined clause covers all": (CHECK, late_joins),
     "birth policies": (CHECK, births),
     "200 locals handed on in a loop": (CHECK, handed_on),
     "the same in 60 nested loops": (CHECK, nested_loops),
