@@ -14,6 +14,7 @@ mod numbers;
 mod open;
 mod order;
 mod policies;
+mod products;
 
 pub use clauses::{Clause, clause_leq};
 pub use joins::PolicySet;
