@@ -1,5 +1,5 @@
 -- Pairs of clauses that stand for their joins, in groups.
-use Rattle.std.specs.Prelude.{◌≡◌, ℕ, Bool, false, ◌&&◌, ◌||◌, List, Vec}
+use Rattle.std.specs.Prelude.{◌≡◌, ℕ, Bool, false, ◌&&◌, ◌||◌, List, Vec, IsTrue}
 use Rattle.std.specs.List.{list_any}
 use Rattle.std.specs.declared.alloc.Global.{Global}
 use Rattle.par_policy.specs.declared.clauses.Clause.{Clause}
@@ -36,7 +36,8 @@ GainsOne old new product =
 
 -- the new groups are seen by exactly those that see the old ones, or that this clause allows and
 -- that see the others
-abbrev pub GainsEach : List (Vec Product Global) → List (Vec Product Global) → Clause → List Clause → Type 0
+abbrev pub GainsEach :
+    List (Vec Product Global) → List (Vec Product Global) → Clause → List Clause → Type 0
 GainsEach old new clause others =
     (actor : ℕ) (locks : List ℕ)
     → sees_groups new actor locks ≡
@@ -52,3 +53,15 @@ GainsProducts old new products =
 abbrev pub AreSeen : List Clause → List (Vec Product Global) → Type 0
 AreSeen clauses groups =
     (actor : ℕ) (locks : List ℕ) → sees clauses actor locks ≡ sees_groups groups actor locks
+
+-- the new clauses are seen by those alone that see the old ones, or that a product allows
+abbrev pub GainsSome : List Clause → List Clause → List Product → Type 0
+GainsSome old new products =
+    (actor : ℕ) (locks : List ℕ) → IsTrue (sees new actor locks)
+    → IsTrue (sees old actor locks || sees_products products actor locks)
+
+-- the clauses are seen by those alone that a product of these groups allows
+abbrev pub AreSeenIn : List Clause → List (Vec Product Global) → Type 0
+AreSeenIn clauses groups =
+    (actor : ℕ) (locks : List ℕ) → IsTrue (sees clauses actor locks)
+    → IsTrue (sees_groups groups actor locks)

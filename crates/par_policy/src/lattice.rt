@@ -1,10 +1,11 @@
 // Join and meet of policies, and policies specialised to open locks.
-ghost use Rattle.std.specs.Prelude.{◌≡◌, IfOk, OnOk};
+ghost use Rattle.std.specs.Prelude.{◌≡◌, ◌≤◌, length, IfOk, OnOk};
 ghost use Rattle.par_policy.specs.Lattice.{IsJoin, IsMeet, IsSpecialised};
 ghost use Rattle.par_policy.specs.Lattice.{AllowsBoth, AllowsWith, GainsBoth};
-ghost use Rattle.par_policy.specs.Products.{AreSeen, GainsProducts};
+ghost use Rattle.par_policy.specs.Products.{AreSeen, AreSeenIn, GainsProducts, GainsSome};
 ghost use Rattle.par_policy.specs.Normal.{IsNormal};
 ghost use Rattle.par_policy.specs.Numbers.{IsAscending, IsUnion};
+ghost use Rattle.par_policy.specs.Order.{IsBelow};
 ghost use Rattle.par_policy.specs.Sees.{sees_at};
 
 use crate::clauses::Clause;
@@ -28,21 +29,65 @@ pub fn join(alloc: Global, p: &Policy, q: &Policy) -> Result<Policy, NoMemory>
         return p.share();
     }
     let products = products_of(alloc, p.clauses(), q.clauses())?;
-    let kept = products_kept(alloc, products.as_slice())?;
+    let kept = front_kept(alloc, products.as_slice(), usize::MAX)?;
     Policy::of_normal(alloc, kept)
 }
 
-// The joins of these clauses, those of fewest locks first: a clause is covered only by one of
-// fewer locks or by its equal, so nothing that is kept is dropped again.
-fn products_kept(alloc: Global, groups: &[Vec<Product<'_>>]) -> Result<Vec<Clause>, NoMemory>
-    ensures seen { IfOk result (λ kept. AreSeen kept.items groups.now) }
+/// The join of the two where it has at most so many clauses. Else a policy of more clauses, which
+/// is above both: those of the join that have the fewest locks.
+pub fn join_front(alloc: Global, p: &Policy, q: &Policy, most: usize) -> Result<Policy, NoMemory>
+    ensures above { IfOk result (λ r. IsBelow p.now r × IsBelow q.now r) }
+    ensures whole { IfOk result (λ r. length r ≤ most → IsJoin r p.now q.now) }
+    ensures normal { IfOk result (λ r. IsNormal r) }
+{
+    let products = products_of(alloc, p.clauses(), q.clauses())?;
+    let kept = front_kept(alloc, products.as_slice(), most)?;
+    Policy::of_normal(alloc, kept)
+}
+
+// The joins of these clauses, up to the first that makes them more than so many. Those of fewest
+// locks come first: a clause is covered only by one of fewer locks or by its equal, so nothing that
+// is kept is dropped again.
+fn front_kept(
+    alloc: Global,
+    groups: &[Vec<Product<'_>>],
+    most: usize,
+) -> Result<Vec<Clause>, NoMemory>
+    ensures only { IfOk result (λ kept. AreSeenIn kept.items groups.now) }
+    ensures whole { IfOk result (λ kept.
+        length kept.items ≤ most → AreSeen kept.items groups.now) }
     ensures normal { IfOk result (λ kept. IsNormal kept.items) }
 {
     let mut kept = Vec::new(alloc);
     for products in groups {
-        keep_products(&mut kept, alloc, products.as_slice())?;
+        keep_front(&mut kept, alloc, products.as_slice(), most)?;
+        if kept.len() > most {
+            return Ok(kept);
+        }
     }
     Ok(kept)
+}
+
+// Keeps the joins of these clauses, up to the first that makes them more than so many.
+fn keep_front(
+    kept: &mut Vec<Clause>,
+    alloc: Global,
+    products: &[Product<'_>],
+    most: usize,
+) -> Result<(), NoMemory>
+    requires { IsNormal kept.old.items }
+    ensures normal { OnOk result (IsNormal kept.new.items) }
+    ensures only { OnOk result (GainsSome kept.old.items kept.new.items products.now) }
+    ensures whole { OnOk result (length kept.new.items ≤ most →
+        GainsProducts kept.old.items kept.new.items products.now) }
+{
+    for product in products {
+        keep_both(kept, alloc, product.one, product.other)?;
+        if kept.len() > most {
+            return Ok(());
+        }
+    }
+    Ok(())
 }
 
 /// The most restrictive policy that each of the two is at least as restrictive as.
@@ -73,22 +118,6 @@ pub fn special(alloc: Global, p: &Policy, locks: &Lockset) -> Result<Policy, NoM
         keep(&mut kept, &rest)?;
     }
     Policy::of_normal(alloc, kept)
-}
-
-// Keeps the joins of these clauses.
-fn keep_products(
-    kept: &mut Vec<Clause>,
-    alloc: Global,
-    products: &[Product<'_>],
-) -> Result<(), NoMemory>
-    requires { IsNormal kept.old.items }
-    ensures normal { OnOk result (IsNormal kept.new.items) }
-    ensures seen { OnOk result (GainsProducts kept.old.items kept.new.items products.now) }
-{
-    for product in products {
-        keep_both(kept, alloc, product.one, product.other)?;
-    }
-    Ok(())
 }
 
 // Keeps the join of the two clauses, which is made only where they have the same actor and none
