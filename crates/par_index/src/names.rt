@@ -5,6 +5,7 @@ ghost use Rattle.par_index.specs.Texts.{texts, has};
 ghost use Rattle.par_index.specs.Placed.{ArePlaced};
 
 use crate::firsts::Firsts;
+use crate::search::{FEW, search};
 use par_base::memory::NoMemory;
 use par_base::name::Name;
 use std::alloc::Global;
@@ -37,6 +38,11 @@ impl<'a> NameIndex<'a> {
     pub fn place(&self, name: &Name) -> Option<usize>
         ensures { result ≡ position (bytes_eq name.now) (texts self.now.names.items) }
     {
-        self.firsts.place(&name.bytes())
+        let names = self.names.as_slice();
+        if names.len() <= FEW {
+            search(names, name)
+        } else {
+            self.firsts.place(&name.bytes())
+        }
     }
 }
