@@ -1,8 +1,10 @@
-ghost use Rattle.std.specs.Prelude.{◌≡◌, IfOk};
+ghost use Rattle.std.specs.Prelude.{◌≡◌, ◌<◌, length, IfOk};
 ghost use Rattle.std.specs.List.{position};
 ghost use Rattle.std.specs.Str.{bytes_eq};
-ghost use Rattle.par_index.specs.Texts.{texts, has};
+ghost use Rattle.par_index.specs.Texts.{texts, same_text, has};
+ghost use Rattle.par_index.specs.Firsts.{AreFirst};
 ghost use Rattle.par_index.specs.Placed.{ArePlaced};
+ghost use Rattle.par_index.specs.declared.search.TheConstants.{FEW};
 
 use crate::firsts::Firsts;
 use crate::search::{FEW, search};
@@ -14,8 +16,21 @@ use std::alloc::Global;
 #[derive(Drop)]
 pub struct NameIndex<'a> {
     names: Vec<&'a [u8]>,
+    /// Where each name stands first, if there are many. A few names are searched.
     firsts: Firsts<&'a [u8]>,
-    ghost placed: { ArePlaced names.items firsts },
+    ghost placed: { FEW < length names.items → ArePlaced names.items firsts },
+}
+
+// Where each name stands first, if there are many.
+fn places<'a>(alloc: Global, names: &[&'a [u8]]) -> Result<Firsts<&'a [u8]>, NoMemory>
+    ensures { IfOk result (λ firsts.
+        FEW < length names.now → AreFirst same_text names.now firsts) }
+{
+    if names.len() <= FEW {
+        Firsts::of(alloc, &[])
+    } else {
+        Firsts::of(alloc, names)
+    }
 }
 
 impl<'a> NameIndex<'a> {
@@ -23,7 +38,7 @@ impl<'a> NameIndex<'a> {
     pub fn of(alloc: Global, names: Vec<&'a [u8]>) -> Result<NameIndex<'a>, NoMemory>
         ensures { IfOk result (λ index. texts index.names.items ≡ texts names.entry.items) }
     {
-        let firsts = Firsts::of(alloc, names.as_slice())?;
+        let firsts = places(alloc, names.as_slice())?;
         Ok(NameIndex { names, firsts })
     }
 
