@@ -51,7 +51,7 @@ use Rattle.par_annotation_laws.specs.Bodies.{first_number, no_frame, with_params
 use Rattle.par_annotation_laws.specs.Bodies.{typed_methods, typed_class, typed_declaration}
 use Rattle.par_annotation_laws.specs.Bodies.{typed_declarations}
 use Rattle.par_source_laws.specs.Order.{Ascend, IsInOrder}
-use Rattle.par_body_laws.specs.Members.{method_at}
+use Rattle.par_flow_laws.specs.par_typed.Members.{method_at}
 use Rattle.par_body_laws.specs.Uses.{StaUses, ElseUses, StasUse, CatchesUse}
 use Rattle.par_typed_laws.specs.Typed.{written_in, bodies_of}
 use Rattle.par_typed_laws.proofs.Lists.{of_both}

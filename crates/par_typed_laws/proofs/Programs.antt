@@ -55,8 +55,8 @@ use Rattle.par_annotation_laws.proofs.Laws.{points_count}
 use Rattle.par_source_laws.specs.Order.{Ascend, IsInOrder}
 use Rattle.par_typed_laws.specs.Numbers.{StaInRange}
 use Rattle.par_typed_laws.specs.Typed.{written_in, bodies_of}
-use Rattle.par_body_laws.specs.Members as bodies
-use Rattle.par_body_laws.specs.Members.{method_at}
+use Rattle.par_flow_laws.specs.par_typed.Members as bodies
+use Rattle.par_flow_laws.specs.par_typed.Members.{method_at}
 use Rattle.par_body_laws.specs.Locals.{arrivals, set_by_call}
 use Rattle.par_typed_laws.specs.Orderly.{HasMethod}
 use Rattle.par_typed_laws.proofs.Lists.{none_left, none_right, of_both, each_is}

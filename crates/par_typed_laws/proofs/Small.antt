@@ -28,7 +28,7 @@ use Rattle.par_annotation_laws.specs.Stmts.{Written}
 use Rattle.par_annotation_laws.specs.Bodies.{typed_methods, typed_class, typed_declaration}
 use Rattle.par_annotation_laws.specs.Bodies.{typed_declarations}
 use Rattle.par_faults.specs.Faults.{all_faults}
-use Rattle.par_body_laws.specs.Members.{method_at}
+use Rattle.par_flow_laws.specs.par_typed.Members.{method_at}
 use Rattle.par_typed_laws.specs.Sizes.{IsSmallBody}
 use Rattle.par_source_laws.specs.Order.{Ascend, IsInOrder}
 use Rattle.par_typed_laws.specs.Typed.{written_in, bodies_of}
