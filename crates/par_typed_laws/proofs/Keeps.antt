@@ -43,8 +43,10 @@ use Rattle.par_annotation_laws.specs.Exprs.{own_this, typed_exp}
 use Rattle.par_annotation_laws.specs.Stmts.{Written, Target, Nowhere, ToLocal, ToStatic, ToField}
 use Rattle.par_annotation_laws.specs.Stmts.{target}
 use Rattle.par_annotation_laws.specs.Stmts.{target_nodes, assignment, own_target, name_target}
-use Rattle.par_annotation_laws.specs.Stmts.{selected_target, behind, locals_in, braces_locals}
-use Rattle.par_annotation_laws.specs.Stmts.{handler_locals, typed_sta, typed_braces}
+use Rattle.par_annotation_laws.specs.Stmts.{selected_target, behind}
+use Rattle.par_annotation_laws.specs.par_scope.Own.{locals_in, braces_locals}
+use Rattle.par_annotation_laws.specs.Stmts.{typed_sta, typed_braces}
+use Rattle.par_annotation_laws.specs.par_scope.Own.{handler_locals}
 use Rattle.par_annotation_laws.specs.Stmts.{typed_may_braces}
 use Rattle.par_annotation_laws.specs.Stmts.{typed_else, typed_stas, typed_catches}
 use Rattle.par_annotation_laws.specs.Bodies.{first_number, no_frame, with_params, typed_body}

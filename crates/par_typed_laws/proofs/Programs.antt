@@ -25,9 +25,9 @@ use Rattle.par_faults.specs.par_resolved.Statements.{inside, in_braces, in_may_b
 use Rattle.par_faults.specs.par_resolved.Statements.{in_all}
 use Rattle.par_faults.specs.par_resolved.Statements.{in_catches, in_handler}
 use Rattle.par_faults.specs.par_resolved.Written.{stmt_types}
-use Rattle.par_annotation_laws.specs.Stmts.{locals_in, braces_locals, may_braces_locals}
-use Rattle.par_annotation_laws.specs.Stmts.{else_locals}
-use Rattle.par_annotation_laws.specs.Stmts.{all_locals, catches_locals, handler_locals}
+use Rattle.par_annotation_laws.specs.par_scope.Own.{locals_in, braces_locals, may_braces_locals}
+use Rattle.par_annotation_laws.specs.par_scope.Own.{else_locals}
+use Rattle.par_annotation_laws.specs.par_scope.Own.{all_locals, catches_locals, handler_locals}
 use Rattle.par_flow_laws.specs.par_typed.declared.table.Table.{Table}
 use Rattle.par_source_laws.specs.par_names.Declarations.{classes, builtins, declared_classes}
 use Rattle.par_source_laws.specs.par_names.Declarations.{classes_in, doubles}

@@ -48,7 +48,8 @@ use Rattle.par_annotation_laws.specs.par_type_rules.Program.{type_faults}
 use Rattle.par_annotation_laws.specs.Frames.{Frame, further}
 use Rattle.par_annotation_laws.specs.Stmts.{Written, Target, Nowhere, ToLocal, ToStatic, ToField}
 use Rattle.par_annotation_laws.specs.Stmts.{target}
-use Rattle.par_annotation_laws.specs.Stmts.{assignment, behind, braces_locals, handler_locals}
+use Rattle.par_annotation_laws.specs.Stmts.{assignment, behind}
+use Rattle.par_annotation_laws.specs.par_scope.Own.{braces_locals, handler_locals}
 use Rattle.par_annotation_laws.specs.Stmts.{typed_sta, typed_braces, typed_may_braces, typed_else}
 use Rattle.par_annotation_laws.specs.Stmts.{typed_stas, typed_catches}
 use Rattle.par_annotation_laws.specs.Bodies.{no_frame, with_params, typed_body, typed_methods}

@@ -13,7 +13,7 @@ use Rattle.par_source_laws.specs.par_names.Declarations.{classes_in}
 use Rattle.par_source_laws.specs.par_names.Program.{name_faults}
 use Rattle.par_faults.specs.declared.limit.TheConstants.{NODES, PARAMS, LOCALS}
 use Rattle.par_faults.specs.Limits.{over, method_limits, class_limits}
-use Rattle.par_faults.specs.Locals.{method_locals}
+use Rattle.par_annotation_laws.specs.par_scope.Own.{method_locals}
 use Rattle.par_annotation_laws.specs.par_scope.Names.{names_of}
 use Rattle.par_annotation_laws.specs.par_scope.Home.{class_named}
 use Rattle.par_annotation_laws.specs.par_type_rules.Methods.{home_of, fields_faults, method_faults}
