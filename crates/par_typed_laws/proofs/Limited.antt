@@ -25,7 +25,7 @@ use Rattle.par_faults.specs.Limits.{told, one_too_many, in_order, earlier}
 use Rattle.par_faults.specs.Limits.{member_places}
 use Rattle.par_faults.specs.Limits.{over, method_limits, class_limits}
 use Rattle.par_faults.specs.Limits.{declared_limits, class_places, class_counts}
-use Rattle.par_faults.specs.Locals.{method_locals}
+use Rattle.par_annotation_laws.specs.par_scope.Own.{method_locals}
 use Rattle.par_faults.specs.Faults.{all_faults}
 use Rattle.par_typed_laws.specs.Limits.{TakesFew, HaveFewParams, HasFewParams, IsLimitedClass}
 use Rattle.par_typed_laws.specs.Limits.{HasFewMembers, HasFewClasses}

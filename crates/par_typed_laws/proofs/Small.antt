@@ -14,7 +14,7 @@ use Rattle.par_source_laws.specs.par_names.Program.{name_faults}
 use Rattle.par_faults.specs.declared.limit.TheConstants.{CLASSES, NODES, PARAMS, LOCALS}
 use Rattle.par_faults.specs.Limits.{over, method_limits, class_limits, one_too_many}
 use Rattle.par_faults.specs.Limits.{declared_limits, class_places, class_counts}
-use Rattle.par_faults.specs.Locals.{method_locals}
+use Rattle.par_annotation_laws.specs.par_scope.Own.{method_locals}
 use Rattle.par_annotation_laws.specs.par_scope.Names.{names_of}
 use Rattle.par_annotation_laws.specs.par_scope.Home.{class_named}
 use Rattle.par_annotation_laws.specs.par_type_rules.Methods.{home_of, fields_faults, method_faults}
@@ -29,7 +29,7 @@ use Rattle.par_annotation_laws.specs.Stmts.{Written}
 use Rattle.par_annotation_laws.specs.Bodies.{typed_methods, typed_class, typed_declaration}
 use Rattle.par_annotation_laws.specs.Bodies.{typed_declarations}
 use Rattle.par_faults.specs.Faults.{all_faults}
-use Rattle.par_body_laws.specs.Members.{method_at}
+use Rattle.par_flow_laws.specs.par_typed.Members.{method_at}
 use Rattle.par_typed_laws.specs.Sizes.{IsSmallBody}
 use Rattle.par_source_laws.specs.Order.{Ascend, IsInOrder}
 use Rattle.par_typed_laws.specs.Typed.{written_in, bodies_of}
