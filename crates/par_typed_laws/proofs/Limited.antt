@@ -150,9 +150,10 @@ builtin_limits name = refl
 module _ (source : Source) (none : all_faults source ≡ []) where
   limits : AllByRecursion (λ c. class_limits c ≡ []) (builtins ++ declared_classes source)
   limits =
+      let each = flat_map class_limits (declared_classes source) in
       let declared = none_of class_limits (declared_classes source)
-      (none_right _ (flat_map class_limits (declared_classes source))
-      (counts_kept source none)) in (
+      (none_right (one_too_many CLASSES (class_places source)) each
+      (none_right (declared_limits source) (class_counts source) (counts_kept source none))) in (
         builtin_limits (codes "ArithmeticException"),
         (builtin_limits (codes "NullPointerException"), declared),
       )
