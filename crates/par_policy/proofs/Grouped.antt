@@ -1,12 +1,16 @@
 -- One more product in a group.
 use Rattle.std.proofs.Common.{take, subst, ⊎_elim, ◌+◌, sym}
-use Rattle.std.specs.Prelude.{IsTrue}
+use Rattle.std.specs.Prelude.{IsTrue, nat_eq, ◌&&◌}
 use Rattle.std.proofs.lemmas.Bool.{or_cases, or_left, or_right, false≢true}
+use Rattle.std.proofs.lemmas.Bool.{and_parts, and_from, eqb-true}
 use Rattle.std.proofs.lemmas.List.Folds.{list_any_more, list_any_at}
 use Rattle.par_policy.specs.declared.clauses.Clause.{Clause}
-use Rattle.par_policy.specs.Sees.{sees}
+use Rattle.par_policy.specs.Sees.{sees, allows}
+use Rattle.par_policy.specs.Numbers.{within}
+use Rattle.par_policy.proofs.Seen.{sees_more, same_tests}
 use Rattle.par_policy.specs.Lattice.{GainsBoth}
 use Rattle.par_policy.specs.Products.{GainsProducts, GainsSome, AreSeen, AreSeenIn}
+use Rattle.par_policy.specs.Products.{GainsEach, sees_groups}
 use Rattle.std.proofs.Common.{◌≡◌, ℕ, zero, suc, ◌<◌, Bool, true, false, ◌||◌, List, [], ◌∷◌}
 use Rattle.std.proofs.Common.{◌++◌, length, get_or, slice_set, refl, ap, ◌∙◌, arith, Vec}
 use Rattle.std.specs.List.{list_any}
@@ -51,6 +55,30 @@ gains-put groups i old new product inside is pushed actor locks =
     any_grows (λ g. sees_products g.items actor locks) groups i old new (allowed product) inside is
     (ap (list_any allowed) pushed ∙ list_any-append allowed old.items (product ∷ [])
     ∙ ap (λ b. sees_products old.items actor locks || b) (or_none (allowed product)))
+
+-- whom a clause allows that the policy sees as an observer, sees the policy
+sees-from_allowed : (q : List Clause) (c : Clause) (actor : ℕ) (locks : List ℕ)
+    → IsTrue (sees q c.actor c.locks) → IsTrue (allows actor locks c) → IsTrue (sees q actor locks)
+sees-from_allowed q c actor locks seen allowed =
+    let both = and_parts (nat_eq c.actor actor) (within c.locks locks) allowed in
+    subst (λ a. IsTrue (sees q a locks)) (eqb-true c.actor actor both.0)
+    (sees_more q c.actor c.locks locks both.1 seen)
+
+-- such a clause is its own join with the policy
+pub gains-seen : (old new : List (Vec Product Global)) (q : List Clause) (product : Product)
+    → IsTrue (sees q product.one.now.actor product.one.now.locks)
+    → product.other.now ≡ product.one.now → GainsOne old new product
+    → GainsEach old new product.one.now q
+gains-seen old new q product seen same gains actor locks =
+    let one = allows actor locks product.one.now in
+    let other = sees q actor locks in
+    gains actor locks
+    ∙ ap (λ b. sees_groups old actor locks || b)
+    (ap (λ d. one && allows actor locks d) same
+    ∙ same_tests (one && one) (one && other)
+    (λ h. and_from one other (and_parts one one h).0
+    (sees-from_allowed q product.one.now actor locks seen (and_parts one one h).0))
+    (λ h. let first = (and_parts one other h).0 in and_from one one first first))
 
 -- what some of the first elements pass, some element passes
 any_front : {X : Type 0} (p : X → Bool) (xs : List X) (i : ℕ) → IsTrue (list_any p (take i xs))

@@ -28,7 +28,7 @@ pub fn join(alloc: Global, p: &Policy, q: &Policy) -> Result<Policy, NoMemory>
     if leq(q, p) {
         return p.share();
     }
-    let products = products_of(alloc, p.clauses(), q.clauses())?;
+    let products = products_of(alloc, p, q)?;
     let kept = front_kept(alloc, products.as_slice(), usize::MAX)?;
     Policy::of_normal(alloc, kept)
 }
@@ -40,7 +40,22 @@ pub fn join_front(alloc: Global, p: &Policy, q: &Policy, most: usize) -> Result<
     ensures whole { IfOk result (λ r. length r ≤ most → IsJoin r p.now q.now) }
     ensures normal { IfOk result (λ r. IsNormal r) }
 {
-    let products = products_of(alloc, p.clauses(), q.clauses())?;
+    if leq(p, q) {
+        return q.share();
+    }
+    if leq(q, p) {
+        return p.share();
+    }
+    front_of(alloc, p, q, most)
+}
+
+// The same, of the joins of all clauses.
+fn front_of(alloc: Global, p: &Policy, q: &Policy, most: usize) -> Result<Policy, NoMemory>
+    ensures above { IfOk result (λ r. IsBelow p.now r × IsBelow q.now r) }
+    ensures whole { IfOk result (λ r. length r ≤ most → IsJoin r p.now q.now) }
+    ensures normal { IfOk result (λ r. IsNormal r) }
+{
+    let products = products_of(alloc, p, q)?;
     let kept = front_kept(alloc, products.as_slice(), most)?;
     Policy::of_normal(alloc, kept)
 }

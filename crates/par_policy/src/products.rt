@@ -3,6 +3,8 @@ ghost use Rattle.std.specs.Prelude.{◌≡◌, length, IfOk, OnOk};
 ghost use Rattle.par_policy.specs.Products.{AreProducts, GainsOne, GainsEach, sees_none};
 
 use crate::clauses::Clause;
+use crate::order::sees;
+use crate::policies::Policy;
 use par_base::memory::NoMemory;
 use std::alloc::Global;
 
@@ -16,17 +18,17 @@ pub(crate) struct Product<'a> {
     pub(crate) other: &'a Clause,
 }
 
-/// Each clause of the first policy with each of the second, in groups by the number of their locks.
+/// The joins of the clauses of the two policies, in groups by the number of their locks.
 pub(crate) fn products_of<'a>(
     alloc: Global,
-    p: &'a [Clause],
-    q: &'a [Clause],
+    p: &'a Policy,
+    q: &'a Policy,
 ) -> Result<Vec<Vec<Product<'a>>>, NoMemory>
     ensures { IfOk result (λ groups. AreProducts groups.items p.now q.now) }
 {
     let mut groups = empty_groups(alloc)?;
-    for clause in p {
-        put_each(&mut groups, clause, q)?;
+    for clause in p.clauses() {
+        put_joins(&mut groups, clause, q)?;
     }
     Ok(groups)
 }
@@ -40,6 +42,30 @@ fn empty_groups<'a>(alloc: Global) -> Result<Vec<Vec<Product<'a>>>, NoMemory>
         groups.push(Vec::new(alloc))?;
     }
     Ok(groups)
+}
+
+// Puts the joins of this clause with the policy: the clause itself where the policy is seen by whom
+// the clause allows.
+fn put_joins<'a>(
+    groups: &mut Vec<Vec<Product<'a>>>,
+    clause: &'a Clause,
+    policy: &'a Policy,
+) -> Result<(), NoMemory>
+    requires { length groups.old.items ≡ GROUPS }
+    ensures count { length groups.new.items ≡ GROUPS }
+    ensures seen { OnOk result (GainsEach groups.old.items groups.new.items clause.now policy.now) }
+{
+    if sees(policy, clause.actor, &clause.locks) {
+        put_product(
+            groups,
+            Product {
+                one: clause,
+                other: clause,
+            },
+        )
+    } else {
+        put_each(groups, clause, policy.clauses())
+    }
 }
 
 // Puts this clause with each of the others.
