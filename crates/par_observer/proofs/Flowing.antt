@@ -18,7 +18,7 @@ use Rattle.par_table_laws.specs.Declared.{IsWellDeclared}
 use Rattle.par_typing.proofs.par_source_table_laws.Written.{fields_are_written}
 use Rattle.par_resolved.specs.Resolved.{table_of}
 use Rattle.par_scope.specs.Names.{IsFewTable}
-use Rattle.par_typing.proofs.Limits.{limits_kept}
+use Rattle.par_table.proofs.par_faults.Within.{limits_kept}
 use Rattle.par_typing.proofs.Tables.{few_table}
 use Rattle.par_typed.specs.Members as members
 use Rattle.par_check.specs.Judged.{IsVerdict, IsFirstBroken}

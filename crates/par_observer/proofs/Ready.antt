@@ -23,7 +23,7 @@ use Rattle.par_typed.specs.Shown.{bodies}
 use Rattle.par_scope.specs.Names.{IsFewMembers, IsFewTable, member_names}
 use Rattle.par_resolved.specs.Resolved.{table_of}
 use Rattle.par_typing.specs.Typed.{written}
-use Rattle.par_typing.proofs.Limits.{limits_kept}
+use Rattle.par_table.proofs.par_faults.Within.{limits_kept}
 use Rattle.par_typing.proofs.Tables.{few_table}
 use Rattle.par_secure_laws.specs.par_typed_laws.WellTyped.{IsWellTyped}
 use Rattle.par_table_laws.specs.Declared.{HasFewFields, IsWellDeclared}

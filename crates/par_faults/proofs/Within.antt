@@ -14,32 +14,39 @@ use Rattle.par_refusals.specs.First.{when, in_passes, first_of}
 use Rattle.par_refusals.proofs.First.{first_of_none}
 use Rattle.par_names.specs.Program.{name_faults}
 use Rattle.par_names.specs.Declarations.{declared_classes}
-use Rattle.par_resolved.specs.declared.entries.Entry.{Entry}
-use Rattle.par_resolved.specs.Few.{HasFew}
-use Rattle.par_resolved.specs.Limits as policies
-use Rattle.par_resolved.specs.Limits.{policy_faults, table_faults}
-use Rattle.par_resolved.specs.Births.{birth_faults}
-use Rattle.par_resolved.specs.Numbered.{numbered}
-use Rattle.par_resolved.specs.Policies.{known}
-use Rattle.par_resolved.specs.Sizes.{all_literal_faults, all_join_faults}
-use Rattle.par_source_table_laws.specs.par_faults.declared.limit.Limit.{Limit}
-use Rattle.par_source_table_laws.specs.par_faults.declared.limit.TheConstants.{CLASSES}
-use Rattle.par_source_table_laws.specs.par_faults.declared.limit.TheConstants.{MEMBERS}
-use Rattle.par_source_table_laws.specs.par_faults.declared.limit.TheConstants.{METHODS}
-use Rattle.par_source_table_laws.specs.par_faults.declared.limit.TheConstants.{NODES}
-use Rattle.par_source_table_laws.specs.par_faults.declared.limit.TheConstants.{CLASS_NODES}
-use Rattle.par_source_table_laws.specs.par_faults.declared.limit.TheConstants.{PARAMS}
-use Rattle.par_source_table_laws.specs.par_faults.declared.limit.TheConstants.{LOCALS}
-use Rattle.par_source_table_laws.specs.par_faults.Limits.{told, one_too_many, class_places}
-use Rattle.par_source_table_laws.specs.par_faults.Limits.{member_places, over}
-use Rattle.par_source_table_laws.specs.par_faults.Limits.{declared_limits, class_limits}
-use Rattle.par_source_table_laws.specs.par_faults.Limits.{method_limits}
-use Rattle.par_source_table_laws.specs.par_faults.Limits.{class_counts, count_faults}
+use Rattle.par_limits.specs.par_resolved.declared.entries.Entry.{Entry}
+use Rattle.par_limits.specs.par_resolved.Few.{HasFew}
+use Rattle.par_limits.specs.par_resolved.Limits as policies
+use Rattle.par_limits.specs.par_resolved.Limits.{policy_faults, table_faults}
+use Rattle.par_limits.specs.par_resolved.Births.{birth_faults}
+use Rattle.par_limits.specs.par_resolved.Numbered.{numbered}
+use Rattle.par_limits.specs.par_resolved.Policies.{known}
+use Rattle.par_limits.specs.par_resolved.Sizes.{all_literal_faults, all_join_faults}
+use Rattle.par_faults.specs.declared.limit.Limit.{Limit}
+use Rattle.par_faults.specs.declared.limit.TheConstants.{CLASSES}
+use Rattle.par_faults.specs.declared.limit.TheConstants.{MEMBERS}
+use Rattle.par_faults.specs.declared.limit.TheConstants.{METHODS}
+use Rattle.par_faults.specs.declared.limit.TheConstants.{NODES}
+use Rattle.par_faults.specs.declared.limit.TheConstants.{CLASS_NODES}
+use Rattle.par_faults.specs.declared.limit.TheConstants.{PARAMS}
+use Rattle.par_faults.specs.declared.limit.TheConstants.{LOCALS}
+use Rattle.par_faults.specs.Limits.{told, one_too_many, class_places}
+use Rattle.par_faults.specs.Limits.{member_places, over}
+use Rattle.par_faults.specs.Limits.{declared_limits, class_limits}
+use Rattle.par_faults.specs.Limits.{method_limits}
+use Rattle.par_faults.specs.Limits.{class_counts, count_faults}
 use Rattle.par_scope.specs.Own.{method_locals}
-use Rattle.par_source_table_laws.specs.par_faults.Faults.{where_none, policies_faults, limit_faults}
-use Rattle.par_source_table_laws.specs.par_faults.Faults.{all_faults}
-use Rattle.par_source_table_laws.proofs.par_faults.Few as faults
-use Rattle.par_typing.proofs.Ints.{left_none, right_none}
+use Rattle.par_faults.specs.Faults.{where_none, policies_faults, limit_faults}
+use Rattle.par_faults.specs.Faults.{all_faults}
+use Rattle.par_faults.proofs.Few as faults
+
+pub left_none : (fs gs : List Refusal) → fs ++ gs ≡ [] → fs ≡ []
+left_none [] gs h = refl
+left_none (f ∷ fs) gs h = absurd (cc h)
+
+pub right_none : (fs gs : List Refusal) → fs ++ gs ≡ [] → gs ≡ []
+right_none [] gs h = h
+right_none (f ∷ fs) gs h = absurd (cc h)
 
 later_pass : (fs gs : List Refusal) → in_passes fs gs ≡ [] → gs ≡ []
 unfolding in_passes
@@ -136,6 +143,7 @@ limits_kept source h =
 pub record ClassIsWithin (class : Class) : Type 0 where
   pub members : length (member_places class) ≤ 256
   pub methods : length class.methods ≤ 128
+  pub nodes : sum_by method_nodes class.methods ≤ 8000
   pub each_method : AllByRecursion (λ m. method_limits m ≡ []) class.methods
 
 pub class_within : (class : Class) → class_limits class ≡ [] → ClassIsWithin class
@@ -153,6 +161,9 @@ class_within class h =
           few_of MEMBERS (member_places class)
           (left_none one two (left_none (one ++ two) three front));
       methods = subst (λ n. n ≤ 128) (length-map class.methods (λ m. m.id.at)) places;
+      nodes =
+          under CLASS_NODES (sum_by method_nodes class.methods) class.id.at
+          (right_none (one ++ two) three front);
       each_method = each method_limits class.methods (right_none (one ++ two ++ three) four h);
     }
 
