@@ -33,7 +33,7 @@ use Rattle.par_observer.specs.declared.error.JudgeError.{JudgeError}
 use Rattle.par_observer.specs.Trees.{bodies_of, IsTypedTree, IsReady, ChecksLie}
 use Rattle.par_observer.specs.Judgements.{IsTypedAs}
 use Rattle.par_observer.proofs.Few.{few_bodies}
-use Rattle.par_observer.proofs.Flowing.{few_classes, orderly_bodies}
+use Rattle.par_observer.proofs.Flowing.{few_classes}
 use Rattle.par_observer.proofs.OfTree.{begin_in}
 
 few_of : (cs : List ClassInfo) → AllByRecursion IsFewMembers (map member_names cs)
@@ -65,7 +65,7 @@ ready tree (Ok typed) is well declared = record {
   few_classes = few_classes tree typed is;
   few_fields = few_fields tree typed is;
   few_bodies = few_bodies tree typed is;
-  orderly = orderly_bodies typed.table (bodies typed.bodies) well.orderly;
+  orderly = well.orderly;
 }
 ready tree (Err e) is well declared = tt
 

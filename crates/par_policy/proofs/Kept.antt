@@ -2,7 +2,7 @@
 use Rattle.std.proofs.Common.{◌≡◌, ◌≢◌, ℕ, ◌<◌, ◌≤◌, Bool, true, false, not, ◌||◌, List, [], ◌∷◌}
 use Rattle.std.proofs.Common.{◌++◌, length, take, drop, get_or, All, refl, sym, ap, ◌∙◌, subst, inl}
 use Rattle.std.proofs.Common.{inr, ⊎_elim, arith}
-use Rattle.std.specs.Prelude.{IsTrue, ◌&&◌, nat_eq}
+use Rattle.std.specs.Prelude.{IsTrue}
 use Rattle.std.specs.List.{list_any, filter, insert, AllWithin, HoldsAt}
 use Rattle.std.specs.Ordering.{nat_cmp, ordering_then, ordering_reverse}
 use Rattle.std.specs.declared.cmp.Ordering.{Ordering}
@@ -11,8 +11,8 @@ use Rattle.std.specs.Cmp.Lexicographic.{slice_cmp}
 use Rattle.std.specs.Cmp.{IsTotalOrder}
 use Rattle.std.proofs.lemmas.Cmp.{ranked, nat_cmp_total, nat_list_cmp_total, then_total, on_total}
 use Rattle.std.proofs.lemmas.Bool.{or_cases, or_left, or_right, false≢true, cond_both, cases_order}
-use Rattle.std.proofs.lemmas.Bool.{not-true, not-false, both_ways, or_parts, and_from, and_parts}
-use Rattle.std.proofs.lemmas.Bool.{eq-eqb, eqb-true}
+use Rattle.std.proofs.lemmas.Bool.{not-true, not-false, both_ways, or_parts, and_from}
+use Rattle.std.proofs.lemmas.Bool.{eq-eqb}
 use Rattle.std.proofs.lemmas.Map.Lookups.{exact_bytes}
 use Rattle.std.proofs.lemmas.List.{take-append-drop}
 use Rattle.std.proofs.lemmas.List.Folds.{list_any-append}
@@ -22,10 +22,9 @@ use Rattle.std.proofs.lemmas.List.Elements.{All-drop, All-filter, filter_passes}
 use Rattle.par_policy.specs.declared.clauses.Clause.{Clause}
 use Rattle.par_policy.specs.Numbers.{IsAscending, within}
 use Rattle.par_policy.specs.Sees.{allows, sees, IsSeenAlike}
-use Rattle.par_policy.specs.Lattice.{GainsJoined}
 use Rattle.par_policy.specs.Normal.{IsNormal, clause_cmp, covers}
 use Rattle.par_policy.proofs.Inserted.{AllPairs-insert}
-use Rattle.par_policy.proofs.Seen.{allows_by_cover, within_itself, same_tests, sees_more}
+use Rattle.par_policy.proofs.Seen.{allows_by_cover, within_itself, same_tests}
 
 pub clause_cmp_total : IsTotalOrder clause_cmp
 clause_cmp_total =
@@ -230,23 +229,3 @@ alike-kept p n c actor locks =
     (λ h. ⊎_elim (λ by_old. sees-from_left p c actor locks by_old)
     (λ by_new. or_left new rest by_new) (or_cases old new h))
     ∙ sym (sees_push p c actor locks)
-
--- whom a clause allows that the policy sees as an observer, sees the policy
-sees-from_allowed : (q : List Clause) (c : Clause) (actor : ℕ) (locks : List ℕ)
-    → IsTrue (sees q c.actor c.locks) → IsTrue (allows actor locks c) → IsTrue (sees q actor locks)
-sees-from_allowed q c actor locks seen allowed =
-    let both = and_parts (nat_eq c.actor actor) (within c.locks locks) allowed in
-    subst (λ a. IsTrue (sees q a locks)) (eqb-true c.actor actor both.0)
-    (sees_more q c.actor c.locks locks both.1 seen)
-
--- such a clause is its own join with the policy
-pub gains-seen : (old new q : List Clause) (c : Clause) → IsTrue (sees q c.actor c.locks)
-    → IsSeenAlike new (old ++ c ∷ []) → GainsJoined old new c q
-gains-seen old new q c seen alike actor locks =
-    let one = allows actor locks c in
-    let other = sees q actor locks in
-    alike actor locks ∙ sees_push old c actor locks
-    ∙ ap (λ b. sees old actor locks || b)
-    (same_tests one (one && other)
-    (λ h. and_from one other h (sees-from_allowed q c actor locks seen h))
-    (λ h. (and_parts one other h).0))

@@ -9,3 +9,4 @@ pub mod Filtered
 pub mod Antisymmetry
 pub mod Joined
 pub mod Allowed
+pub mod Grouped

@@ -37,11 +37,3 @@ GainsBoth old new c d =
     (actor : ℕ) (locks : List ℕ)
     → sees new actor locks ≡
     (sees old actor locks || (allows actor locks c && allows actor locks d))
-
--- the new clauses are seen by exactly those that see the old ones, or that this clause allows and
--- that see the others
-abbrev pub GainsJoined : List Clause → List Clause → Clause → List Clause → Type 0
-GainsJoined old new clause others =
-    (actor : ℕ) (locks : List ℕ)
-    → sees new actor locks ≡
-    (sees old actor locks || (allows actor locks clause && sees others actor locks))

@@ -5,4 +5,5 @@ pub mod Order
 pub mod Lattice
 pub mod Normal
 pub mod Laws
+pub mod Products
 pub use Rattle.par_bits.specs as par_bits

@@ -1,16 +1,19 @@
 // Join and meet of policies, and policies specialised to open locks.
-ghost use Rattle.std.specs.Prelude.{◌≡◌, IfOk, OnOk};
+ghost use Rattle.std.specs.Prelude.{◌≡◌, ◌≤◌, length, IfOk, OnOk};
 ghost use Rattle.par_policy.specs.Lattice.{IsJoin, IsMeet, IsSpecialised};
-ghost use Rattle.par_policy.specs.Lattice.{AllowsBoth, AllowsWith, GainsBoth, GainsJoined};
+ghost use Rattle.par_policy.specs.Lattice.{AllowsBoth, AllowsWith, GainsBoth};
+ghost use Rattle.par_policy.specs.Products.{AreSeen, AreSeenIn, GainsProducts, GainsSome};
 ghost use Rattle.par_policy.specs.Normal.{IsNormal};
 ghost use Rattle.par_policy.specs.Numbers.{IsAscending, IsUnion};
+ghost use Rattle.par_policy.specs.Order.{IsBelow};
 ghost use Rattle.par_policy.specs.Sees.{sees_at};
 
-use crate::clauses::{Clause, allows_at};
-use crate::locks::Lockset;
+use crate::clauses::Clause;
+use crate::locks::{Lockset, bits_of_either};
 use crate::normal::{keep, keep_all, put};
-use crate::order::{leq, sees};
+use crate::order::leq;
 use crate::policies::Policy;
+use crate::products::{Product, products_of};
 use par_base::memory::NoMemory;
 use std::alloc::Global;
 
@@ -25,11 +28,66 @@ pub fn join(alloc: Global, p: &Policy, q: &Policy) -> Result<Policy, NoMemory>
     if leq(q, p) {
         return p.share();
     }
-    let mut kept = Vec::new(alloc);
-    for clause in p.clauses() {
-        keep_join(&mut kept, alloc, clause, q)?;
-    }
+    let products = products_of(alloc, p.clauses(), q.clauses())?;
+    let kept = front_kept(alloc, products.as_slice(), usize::MAX)?;
     Policy::of_normal(alloc, kept)
+}
+
+/// The join of the two where it has at most so many clauses. Else a policy of more clauses, which
+/// is above both: those of the join that have the fewest locks.
+pub fn join_front(alloc: Global, p: &Policy, q: &Policy, most: usize) -> Result<Policy, NoMemory>
+    ensures above { IfOk result (λ r. IsBelow p.now r × IsBelow q.now r) }
+    ensures whole { IfOk result (λ r. length r ≤ most → IsJoin r p.now q.now) }
+    ensures normal { IfOk result (λ r. IsNormal r) }
+{
+    let products = products_of(alloc, p.clauses(), q.clauses())?;
+    let kept = front_kept(alloc, products.as_slice(), most)?;
+    Policy::of_normal(alloc, kept)
+}
+
+// The joins of these clauses, up to the first that makes them more than so many. Those of fewest
+// locks come first: a clause is covered only by one of fewer locks or by its equal, so nothing that
+// is kept is dropped again.
+fn front_kept(
+    alloc: Global,
+    groups: &[Vec<Product<'_>>],
+    most: usize,
+) -> Result<Vec<Clause>, NoMemory>
+    ensures only { IfOk result (λ kept. AreSeenIn kept.items groups.now) }
+    ensures whole { IfOk result (λ kept.
+        length kept.items ≤ most → AreSeen kept.items groups.now) }
+    ensures normal { IfOk result (λ kept. IsNormal kept.items) }
+{
+    let mut kept = Vec::new(alloc);
+    for products in groups {
+        keep_front(&mut kept, alloc, products.as_slice(), most)?;
+        if kept.len() > most {
+            return Ok(kept);
+        }
+    }
+    Ok(kept)
+}
+
+// Keeps the joins of these clauses, up to the first that makes them more than so many.
+fn keep_front(
+    kept: &mut Vec<Clause>,
+    alloc: Global,
+    products: &[Product<'_>],
+    most: usize,
+) -> Result<(), NoMemory>
+    requires { IsNormal kept.old.items }
+    ensures normal { OnOk result (IsNormal kept.new.items) }
+    ensures only { OnOk result (GainsSome kept.old.items kept.new.items products.now) }
+    ensures whole { OnOk result (length kept.new.items ≤ most →
+        GainsProducts kept.old.items kept.new.items products.now) }
+{
+    for product in products {
+        keep_both(kept, alloc, product.one, product.other)?;
+        if kept.len() > most {
+            return Ok(());
+        }
+    }
+    Ok(())
 }
 
 /// The most restrictive policy that each of the two is at least as restrictive as.
@@ -62,56 +120,21 @@ pub fn special(alloc: Global, p: &Policy, locks: &Lockset) -> Result<Policy, NoM
     Policy::of_normal(alloc, kept)
 }
 
-// Keeps the join of this clause with the policy: the clause itself where the policy is seen by whom
-// the clause allows.
-fn keep_join(
-    kept: &mut Vec<Clause>,
-    alloc: Global,
-    clause: &Clause,
-    policy: &Policy,
-) -> Result<(), NoMemory>
-    requires { IsNormal kept.old.items }
-    ensures normal { OnOk result (IsNormal kept.new.items) }
-    ensures seen { OnOk result (GainsJoined kept.old.items kept.new.items clause.now policy.now) }
-{
-    if sees(policy, clause.actor, &clause.locks) {
-        keep(kept, clause)
-    } else {
-        keep_joined(kept, alloc, clause, policy.clauses())
-    }
-}
-
-// Keeps the join of this clause with each of the others that has its actor.
-fn keep_joined(
-    kept: &mut Vec<Clause>,
-    alloc: Global,
-    clause: &Clause,
-    others: &[Clause],
-) -> Result<(), NoMemory>
-    requires { IsNormal kept.old.items }
-    ensures normal { OnOk result (IsNormal kept.new.items) }
-    ensures seen { OnOk result (GainsJoined kept.old.items kept.new.items clause.now others.now) }
-{
-    for other in others {
-        if clause.actor == other.actor {
-            keep_both(kept, alloc, clause, other)?;
-        }
-    }
-    Ok(())
-}
-
-// Keeps the join of the two clauses, which is made only where none that is kept covers it.
+// Keeps the join of the two clauses, which is made only where they have the same actor and none
+// that is kept covers it.
 fn keep_both(
     kept: &mut Vec<Clause>,
     alloc: Global,
     clause: &Clause,
     other: &Clause,
 ) -> Result<(), NoMemory>
-    requires same { clause.now.actor ≡ other.now.actor }
-    requires normal { IsNormal kept.old.items }
+    requires { IsNormal kept.old.items }
     ensures normal { OnOk result (IsNormal kept.new.items) }
     ensures seen { OnOk result (GainsBoth kept.old.items kept.new.items clause.now other.now) }
 {
+    if clause.actor != other.actor {
+        return Ok(());
+    }
     if is_covered_by_both(kept, clause, other) {
         return Ok(());
     }
@@ -124,7 +147,17 @@ fn is_covered_by_both(kept: &[Clause], clause: &Clause, other: &Clause) -> bool
     ensures { result
         ≡ sees_at kept.now other.now.locks clause.now.actor clause.now.locks }
 {
-    kept.iter().any(|held| allows_at(held, &other.locks, clause.actor, &clause.locks))
+    let marks = bits_of_either(&clause.locks, &other.locks);
+    for held in kept {
+        if held.actor == clause.actor
+            && held
+                .locks
+                .within_marked(&clause.locks, &other.locks, &marks)
+        {
+            return true;
+        }
+    }
+    false
 }
 
 // The clause with the locks of the other one too.

@@ -14,10 +14,11 @@ mod numbers;
 mod open;
 mod order;
 mod policies;
+mod products;
 
 pub use clauses::{Clause, clause_leq};
 pub use joins::PolicySet;
-pub use lattice::{join, meet, special};
+pub use lattice::{join, join_front, meet, special};
 pub use laws::{
     join_is_least_upper_bound, meet_is_greatest_lower_bound, open_locks_lower,
     order_is_antisymmetric, order_is_reflexive, order_is_transitive, specialised_is_below,

@@ -93,9 +93,22 @@ impl Lockset {
     pub(crate) fn within_both<L: OpenLocks>(&self, one: &Lockset, opened: &L) -> bool
         ensures { result ≡ within self.now (one.now ++ L.locks opened.now) }
     {
+        self.within_marked(one, opened, &bits_of_either(one, opened))
+    }
+
+    // The same, where the bits of both are at hand.
+    pub(crate) fn within_marked<L: OpenLocks>(
+        &self,
+        one: &Lockset,
+        opened: &L,
+        marks: &Option<Bits<4>>,
+    ) -> bool
+        requires { AreMarks marks.now (one.now ++ L.locks opened.now) }
+        ensures { result ≡ within self.now (one.now ++ L.locks opened.now) }
+    {
         if let Some(bits) = self.bits {
-            if let Some(all) = bits_of_either(one, opened) {
-                return bits.within(&all);
+            if let Some(all) = marks {
+                return bits.within(all);
             }
         }
         self.each_within_both(one, opened)
@@ -130,6 +143,14 @@ impl Lockset {
     {
         let locks = self.locks.union(alloc, &other.locks)?;
         Ok(Lockset::of(locks))
+    }
+
+    // How many locks are in one of the sets, which is exact where both are kept as bits.
+    pub(crate) fn count_of_either(&self, other: &Lockset) -> usize {
+        match bits_of_either(self, other) {
+            Some(bits) => bits.count() as usize,
+            None => self.as_slice().len().max(other.as_slice().len()),
+        }
     }
 
     /// The locks of this set that are not in the other one.
@@ -194,7 +215,7 @@ fn bits_of(numbers: &[u16]) -> Option<Bits<4>>
 }
 
 // The locks of the set and those that are open, where both are kept as bits.
-fn bits_of_either<L: OpenLocks>(one: &Lockset, opened: &L) -> Option<Bits<4>>
+pub(crate) fn bits_of_either<L: OpenLocks>(one: &Lockset, opened: &L) -> Option<Bits<4>>
     ensures { AreMarks result (one.now ++ L.locks opened.now) }
 {
     if let Some(bits) = one.bits {

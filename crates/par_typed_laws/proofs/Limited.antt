@@ -25,7 +25,7 @@ use Rattle.par_faults.specs.Limits.{told, one_too_many, in_order, earlier}
 use Rattle.par_faults.specs.Limits.{member_places}
 use Rattle.par_faults.specs.Limits.{over, method_limits, class_limits}
 use Rattle.par_faults.specs.Limits.{declared_limits, class_places, class_counts}
-use Rattle.par_faults.specs.Locals.{method_locals}
+use Rattle.par_annotation_laws.specs.par_scope.Own.{method_locals}
 use Rattle.par_faults.specs.Faults.{all_faults}
 use Rattle.par_typed_laws.specs.Limits.{TakesFew, HaveFewParams, HasFewParams, IsLimitedClass}
 use Rattle.par_typed_laws.specs.Limits.{HasFewMembers, HasFewClasses}
@@ -150,9 +150,10 @@ builtin_limits name = refl
 module _ (source : Source) (none : all_faults source ≡ []) where
   limits : AllByRecursion (λ c. class_limits c ≡ []) (builtins ++ declared_classes source)
   limits =
+      let each = flat_map class_limits (declared_classes source) in
       let declared = none_of class_limits (declared_classes source)
-      (none_right _ (flat_map class_limits (declared_classes source))
-      (counts_kept source none)) in (
+      (none_right (one_too_many CLASSES (class_places source)) each
+      (none_right (declared_limits source) (class_counts source) (counts_kept source none))) in (
         builtin_limits (codes "ArithmeticException"),
         (builtin_limits (codes "NullPointerException"), declared),
       )

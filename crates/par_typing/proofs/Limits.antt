@@ -35,7 +35,7 @@ use Rattle.par_source_table_laws.specs.par_faults.Limits.{member_places, over}
 use Rattle.par_source_table_laws.specs.par_faults.Limits.{declared_limits, class_limits}
 use Rattle.par_source_table_laws.specs.par_faults.Limits.{method_limits}
 use Rattle.par_source_table_laws.specs.par_faults.Limits.{class_counts, count_faults}
-use Rattle.par_source_table_laws.specs.par_faults.Locals.{method_locals}
+use Rattle.par_scope.specs.Own.{method_locals}
 use Rattle.par_source_table_laws.specs.par_faults.Faults.{where_none, policies_faults, limit_faults}
 use Rattle.par_source_table_laws.specs.par_faults.Faults.{all_faults}
 use Rattle.par_source_table_laws.proofs.par_faults.Few as faults

@@ -7,7 +7,8 @@ pub returns-then-is_covered_by_both-clause-seen : goal.returns-then-is_covered_b
 returns-then-is_covered_by_both-clause-seen c =
     let p = c.args.kept.now.items in let one = c.args.clause.now in let other = c.args.other.now in
     let covered : sees_at p other.locks one.actor one.locks ≡ true = search rules in
-    gains-covered p one other c.requires.same covered
+    let same : one.actor ≡ other.actor = search rules in
+    gains-covered p one other same covered
 
 pub put-requires-clause-uncovered : goal.put-requires-clause-uncovered
 put-requires-clause-uncovered c =

@@ -1,4 +1,4 @@
--- How many locals a method declares.
+-- The own locals of a statement and of a method: how many it declares.
 use Rattle.std.specs.Prelude.{ℕ, ◌+◌}
 use Rattle.par_tree.specs.Plain.{Sta, Block, If, While, Try, Return, Break, Continue, Throw, Open}
 use Rattle.par_tree.specs.Plain.{Close}
@@ -12,7 +12,7 @@ unfoldable mutual
   locals_in (Block b at) = braces_locals b
   locals_in (If e b o at) = braces_locals b + else_locals o
   locals_in (While e b at) = braces_locals b
-  locals_in (Try b cs at) = braces_locals b + catch_locals cs
+  locals_in (Try b cs at) = braces_locals b + catches_locals cs
   locals_in (Return e at) = 0
   locals_in (Break at) = 0
   locals_in (Continue at) = 0
@@ -39,9 +39,9 @@ unfoldable mutual
   all_locals End = 0
   all_locals (Then s ss) = locals_in s + all_locals ss
 
-  pub catch_locals : Catches → ℕ
-  catch_locals NoCatch = 0
-  catch_locals (Catch c cs) = handler_locals c + catch_locals cs
+  pub catches_locals : Catches → ℕ
+  catches_locals NoCatch = 0
+  catches_locals (Catch c cs) = handler_locals c + catches_locals cs
 
   -- the name of what is caught is no local
   pub handler_locals : Handler → ℕ
