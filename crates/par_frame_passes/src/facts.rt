@@ -73,15 +73,12 @@ impl Facts {
         if self.kinds > MOST_KINDS {
             return Ok(());
         }
-        let operands = frame.stack.len();
-        let places = self.locals.saturating_add(operands);
+        let places = self.locals.saturating_add(frame.stack.len());
         let mut before = Before::unset(alloc, self.locals, places)?;
         for place in 0..places {
             let kind = match place.checked_sub(self.locals) {
                 None => frame.locals.get(place),
-                Some(below) => frame
-                    .stack
-                    .get(operands.saturating_sub(below.saturating_add(1))),
+                Some(below) => frame.stack.get(below),
             };
             let kind = match kind {
                 Some(kind) => classes.small(*kind)?,

@@ -113,8 +113,7 @@ impl<'f> Sketch<'_, 'f> {
         many: usize,
     ) -> Result<PlaceFrame<'f>, NoMemory> {
         let locals = self.kinds(alloc, before, 0, self.facts.locals)?;
-        let mut stack = self.kinds(alloc, before, self.facts.locals, before.operands())?;
-        stack.as_mut_slice().reverse();
+        let stack = self.kinds(alloc, before, self.facts.locals, before.operands())?;
         Ok(PlaceFrame {
             many,
             locals,
