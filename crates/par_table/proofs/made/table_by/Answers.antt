@@ -12,13 +12,13 @@ use Rattle.par_resolved.specs.Resolved.{resolved, ground_locks, class_infos, has
 use Rattle.par_table.specs.Room.{HaveRoom}
 use Rattle.par_table.proofs.Rooms.{have_room}
 use Rattle.par_table.proofs.Whole.{known_numbers, put_together}
-use Rattle.par_table.proofs.made.table_of.Goals as goal
+use Rattle.par_table.proofs.made.table_by.Goals as goal
 
 pub ground_locks-requires : goal.ground_locks-requires
 ground_locks-requires c =
     let s = source c.args.program.now in
     let count =
-    ap (λ r. length r.known.numbers.actors) c.in_ok-resolved.ensures
+    ap (λ r. length r.known.numbers.actors) c.requires.made
     ∙ ap (λ n. length n.actors) (known_numbers s)
     ∙ length-map (actors s) (λ (a : Ident). a.name) in
     subst (λ n. sum_by (ground_count n) (locks s) ≤ MOST_GROUND_LOCKS)
@@ -28,14 +28,14 @@ pub class_infos-requires : goal.class_infos-requires
 class_infos-requires c =
     let s = source c.args.program.now in
     let first =
-    c.policy_count-first.ensures ∙ ap (λ r. length r.policies) c.in_ok-resolved.ensures in
+    c.policy_count-first.ensures ∙ ap (λ r. length r.policies) c.requires.made in
     subst (HaveRoom c.policy_count-first.result) (sym c.requires.classes)
     (have_room s c.policy_count-first.result c.requires.room first)
 
 pub returns : goal.returns
 returns c =
     let s = source c.args.program.now in
-    let same = c.in_ok-resolved.ensures in
+    let same = c.requires.made in
     let given = classes_of c.args.classes.now in
     let first = c.policy_count-first.ensures ∙ ap (λ r. length r.policies) same in
     let infos =
