@@ -1,11 +1,9 @@
 //! What is known before all pieces, which goes on from each before which it rose until none rises.
 
-use crate::before::Before;
-use crate::classes::Classes;
-use crate::small_kind::SmallKind;
 use crate::spots::{Spot, Way};
 use par_base::memory::NoMemory;
 use par_frame_steps::PlaceFrame;
+use par_small_kinds::{Before, Classes, SmallKind};
 use std::alloc::Global;
 
 /// How many kinds are kept, before nothing is guessed.

@@ -105,7 +105,7 @@ impl<'f> PlaceFrame<'f> {
 
     /// Whether its locals fit into those of another.
     #[tactic(auto, using(crate::proofs::Padded::padded_into, crate::proofs::Padded::padded_differ))]
-    fn locals_fit_into(&self, exceptions: &[&[u8]], other: &PlaceFrame) -> bool
+    pub fn locals_fit_into(&self, exceptions: &[&[u8]], other: &PlaceFrame) -> bool
         ensures { result
             ≡ all_into (names exceptions.now) (locals_of self.now) (locals_of other.now) }
     {

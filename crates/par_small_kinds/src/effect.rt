@@ -9,7 +9,7 @@ use std::alloc::Global;
 
 /// What a place holds behind the code.
 #[derive(Clone, Copy)]
-pub(crate) enum Held {
+pub enum Held {
     Kind(SmallKind),
     /// What a local held before it.
     Local(u8),
@@ -19,24 +19,24 @@ pub(crate) enum Held {
 
 /// A local that is set.
 #[derive(Clone, Copy)]
-pub(crate) struct Change {
-    pub(crate) local: u8,
-    pub(crate) to: Held,
+pub struct Change {
+    pub local: u8,
+    pub to: Held,
 }
 
 /// What code makes of a frame.
 #[derive(Drop)]
-pub(crate) struct Effect {
-    pub(crate) changes: Vec<Change>,
+pub struct Effect {
+    pub changes: Vec<Change>,
     /// How many operands it takes of those that were there.
-    pub(crate) taken: usize,
+    pub taken: usize,
     /// What it pushes then, the last at the end.
-    pub(crate) pushed: Vec<Held>,
+    pub pushed: Vec<Held>,
 }
 
 impl Effect {
     /// That of no code.
-    pub(crate) fn of_nothing(alloc: Global) -> Effect {
+    pub fn of_nothing(alloc: Global) -> Effect {
         Effect {
             changes: Vec::new(alloc),
             taken: 0,
@@ -45,7 +45,7 @@ impl Effect {
     }
 
     /// Whether it sets a local.
-    pub(crate) fn sets(&self, place: usize) -> bool {
+    pub fn sets(&self, place: usize) -> bool {
         for change in self.changes.as_slice() {
             if usize::from(change.local) == place {
                 return true;
@@ -99,7 +99,7 @@ impl Effect {
     }
 
     /// Goes on by an instruction.
-    pub(crate) fn follow<'f>(
+    pub fn follow<'f>(
         &mut self,
         classes: &mut Classes<'_, 'f>,
         act: &Act<'f>,

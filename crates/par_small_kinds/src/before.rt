@@ -12,7 +12,7 @@ const COPIED: usize = 16;
 /// The kinds of locals before a piece, and behind them those of operands, the last that was pushed
 /// at the end.
 #[derive(Drop)]
-pub(crate) struct Before {
+pub struct Before {
     locals: usize,
     kinds: Vec<SmallKind>,
     /// No place went on yet.
@@ -23,7 +23,7 @@ pub(crate) struct Before {
 
 impl Before {
     /// Nothing of so many places, which begin with so many locals.
-    pub(crate) fn unset(alloc: Global, locals: usize, places: usize) -> Result<Before, NoMemory> {
+    pub fn unset(alloc: Global, locals: usize, places: usize) -> Result<Before, NoMemory> {
         Ok(Before {
             locals,
             kinds: vec![in alloc; SmallKind::Unset; places]?,
@@ -33,12 +33,12 @@ impl Before {
     }
 
     /// How many operands there are.
-    pub(crate) fn operands(&self) -> usize {
+    pub fn operands(&self) -> usize {
         self.kinds.len().saturating_sub(self.locals)
     }
 
     /// The kind of a place.
-    pub(crate) fn kind(&self, place: usize) -> SmallKind {
+    pub fn kind(&self, place: usize) -> SmallKind {
         match self.kinds.get(place) {
             Some(kind) => *kind,
             None => SmallKind::Unset,
@@ -46,7 +46,7 @@ impl Before {
     }
 
     /// How many places are to go on.
-    pub(crate) fn due(&self) -> usize {
+    pub fn due(&self) -> usize {
         if self.is_new {
             return self.kinds.len();
         }
@@ -65,7 +65,7 @@ impl Before {
     }
 
     /// Lets a kind come to a place.
-    pub(crate) fn come(&mut self, place: usize, kind: SmallKind) -> Result<(), NoMemory> {
+    pub fn come(&mut self, place: usize, kind: SmallKind) -> Result<(), NoMemory> {
         let Some(kept) = self.kinds.get_mut(place) else {
             return Ok(());
         };
@@ -80,7 +80,7 @@ impl Before {
     }
 
     /// What is known, with the places that are to go on, which do so now.
-    pub(crate) fn taken(&mut self, alloc: Global) -> Result<Before, NoMemory> {
+    pub fn taken(&mut self, alloc: Global) -> Result<Before, NoMemory> {
         let mut kinds = Vec::new(alloc);
         kinds.extend_from_slice(&self.kinds)?;
         Ok(Before {
@@ -104,7 +104,7 @@ impl Before {
     }
 
     /// How much is looked at where what rose goes on by such an effect.
-    pub(crate) fn work(&self, effect: &Effect) -> usize {
+    pub fn work(&self, effect: &Effect) -> usize {
         let sets = effect.changes.len().saturating_add(effect.pushed.len());
         let each = self.due().saturating_add(1);
         each.saturating_mul(sets.saturating_add(1))
@@ -164,7 +164,7 @@ impl Before {
     }
 
     /// Lets come what goes on by an effect, or to a handler that catches such a kind.
-    pub(crate) fn follow(
+    pub fn follow(
         &mut self,
         from: &Before,
         effect: &Effect,
@@ -185,7 +185,7 @@ impl Before {
     }
 
     /// What is known before a piece to which code comes first from the one behind this.
-    pub(crate) fn behind(
+    pub fn behind(
         &self,
         alloc: Global,
         effect: &Effect,

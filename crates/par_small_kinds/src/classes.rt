@@ -9,7 +9,7 @@ use std::collections::BTreeMap;
 
 /// The classes that were named so far.
 #[derive(Drop)]
-pub(crate) struct Classes<'m, 'f> {
+pub struct Classes<'m, 'f> {
     /// The names of the classes of exceptions.
     exceptions: &'m [&'f [u8]],
     numbers: BTreeMap<&'f [u8], u32>,
@@ -19,7 +19,7 @@ pub(crate) struct Classes<'m, 'f> {
 
 impl<'m, 'f> Classes<'m, 'f> {
     /// None, where exceptions have these names.
-    pub(crate) fn new(alloc: Global, exceptions: &'m [&'f [u8]]) -> Classes<'m, 'f> {
+    pub fn new(alloc: Global, exceptions: &'m [&'f [u8]]) -> Classes<'m, 'f> {
         Classes {
             exceptions,
             numbers: BTreeMap::new(alloc),
@@ -41,7 +41,7 @@ impl<'m, 'f> Classes<'m, 'f> {
     }
 
     /// A kind in few bytes.
-    pub(crate) fn small(&mut self, kind: PlaceKind<'f>) -> Result<SmallKind, NoMemory> {
+    pub fn small(&mut self, kind: PlaceKind<'f>) -> Result<SmallKind, NoMemory> {
         match kind {
             PlaceKind::Top => Ok(SmallKind::Top),
             PlaceKind::Int => Ok(SmallKind::Int),
@@ -56,7 +56,7 @@ impl<'m, 'f> Classes<'m, 'f> {
     }
 
     /// A kind with the name of its class.
-    pub(crate) fn kind(&self, small: SmallKind) -> PlaceKind<'f> {
+    pub fn kind(&self, small: SmallKind) -> PlaceKind<'f> {
         let number = match small {
             SmallKind::Unset => return PlaceKind::Top,
             SmallKind::Int => return PlaceKind::Int,

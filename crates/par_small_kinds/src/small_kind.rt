@@ -2,7 +2,7 @@
 
 /// What kind of value a place holds, each class by a number.
 #[derive(Clone, Copy)]
-pub(crate) enum SmallKind {
+pub enum SmallKind {
     /// No value came there yet.
     Unset,
     Int,
@@ -42,7 +42,7 @@ impl SmallKind {
     }
 
     /// Whether it fits into another.
-    pub(crate) fn fits_into(self, other: SmallKind) -> bool {
+    pub fn fits_into(self, other: SmallKind) -> bool {
         match (other, self) {
             (_, SmallKind::Unset) => true,
             (SmallKind::Unset, _) => false,
@@ -58,7 +58,7 @@ impl SmallKind {
     }
 
     /// The least kind into which both fit.
-    pub(crate) fn joined(self, other: SmallKind) -> SmallKind {
+    pub fn joined(self, other: SmallKind) -> SmallKind {
         if self.fits_into(other) {
             return other;
         }
