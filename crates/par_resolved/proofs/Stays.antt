@@ -1,6 +1,7 @@
 -- A join has each clause that is settled.
 use Rattle.std.proofs.Common.{◌≡◌, ℕ, ◌<◌, ◌≤◌, Bool, true, false, not, ◌||◌, ◌&&◌, List, [], ◌∷◌}
-use Rattle.std.proofs.Common.{◌++◌, length, get_or, All, Contains, refl, sym, ap, subst, ⊎_elim, arith}
+use Rattle.std.proofs.Common.{◌++◌, length, get_or, All, Contains}
+use Rattle.std.proofs.Common.{refl, sym, ap, subst, ⊎_elim, arith}
 use Rattle.std.proofs.Common.{None}
 use Rattle.std.specs.Prelude.{IsTrue, nat_eq, nat_le}
 use Rattle.std.specs.List.{list_any, list_all}
@@ -19,7 +20,8 @@ use Rattle.par_typed.specs.par_policy.Order.{IsBelow}
 use Rattle.par_typed.specs.par_policy.Normal.{covers, IsNormal}
 use Rattle.par_typed.specs.par_policy.Lattice.{IsJoin}
 use Rattle.par_typed.proofs.par_policy.Members.{All-from_within, within-from_All}
-use Rattle.par_typed.proofs.par_policy.Seen.{covers_itself, allows_by_cover, within-trans, same_tests}
+use Rattle.par_typed.proofs.par_policy.Seen.{covers_itself, allows_by_cover}
+use Rattle.par_typed.proofs.par_policy.Seen.{within-trans, same_tests}
 use Rattle.par_resolved.specs.declared.limits.TheConstants.{MOST_CLAUSES, MOST_LOCKS}
 use Rattle.par_resolved.specs.Sets.{joined}
 use Rattle.par_resolved.specs.Policies.{fits, within_limits}
