@@ -1,5 +1,7 @@
 pub mod NumberSets
 pub mod Normal
+pub mod Stays
+pub mod Later
 pub mod Loops
 pub mod Steps
 pub mod Made

@@ -257,3 +257,10 @@ pub normal_sets : (cs : List Clause) → normal (map with_lock_set cs) ≡ norma
 normal_sets cs =
     one_normal (normal (map with_lock_set cs)) cs (normal_is (map with_lock_set cs))
     (λ actor locks. normal_alike (map with_lock_set cs) actor locks ∙ sees_sets cs actor locks)
+
+pub joined_is : (p q : List Clause) → IsNormal (joined p q)
+joined_is p q = normal_is (flat_map (with_locks_of q) p)
+
+pub joined_join : (p q : List Clause) → IsJoin (joined p q) p q
+joined_join p q actor locks =
+    normal_alike (flat_map (with_locks_of q) p) actor locks ∙ sees_pairs p q actor locks

@@ -1,10 +1,13 @@
 -- Joins from the left, step by step, and policies that are all there.
 use Rattle.std.proofs.Common.{◌≡◌, ℕ, true, false, List, [], ◌∷◌, ◌++◌, map, Option, Some, None}
-use Rattle.std.proofs.Common.{refl, sym, ap, ◌∙◌}
+use Rattle.std.proofs.Common.{refl, sym, ap, ◌∙◌, Bool}
+use Rattle.std.specs.Prelude.{if◌then◌else◌}
 use Rattle.par_typed.specs.par_policy.declared.clauses.Clause.{Clause}
+use Rattle.std.proofs.lemmas.Option.{same_Some}
 use Rattle.par_refusals.proofs.First.{first_of_none}
 use Rattle.par_resolved.specs.Sets.{joined}
-use Rattle.par_resolved.specs.Policies.{all_some, and_more, fits, join_with, join_of}
+use Rattle.par_resolved.specs.Policies.{all_some, and_more, fits, within_limits, join_with}
+use Rattle.par_resolved.specs.Policies.{join_of}
 use Rattle.par_resolved.specs.Sizes.{form_faults, steps_faults, join_faults}
 
 pub all_some_none : all_some [] ≡ Some []
@@ -144,3 +147,20 @@ pub faults_done : (at : ℕ) (p first : List Clause) (xs others : List (List Cla
     → steps_faults at p xs ≡ steps_faults at first others
     → steps_faults at first others ≡ []
 faults_done at p first xs others left so = sym so ∙ ap (steps_faults at p) left ∙ steps_done at p
+
+-- ---- joins within the limits
+
+pub one_fits : (j r : List Clause) → Some r ≡ within_limits j → (r ≡ j) × (fits j ≡ true)
+one_fits j r h = in_case (fits j) refl h
+  where
+    in_case : (b : Bool) → fits j ≡ b → Some r ≡ (if b then Some j else None)
+        → (r ≡ j) × (fits j ≡ true)
+    in_case true is same = (same_Some r j same, is)
+    in_case false is same = absurd (cc same)
+
+pub none_fits : (j : List Clause) → None ≡ within_limits j → fits j ≡ false
+none_fits j h = in_case (fits j) refl h
+  where
+    in_case : (b : Bool) → fits j ≡ b → None ≡ (if b then Some j else None) → fits j ≡ false
+    in_case true is same = absurd (cc same)
+    in_case false is same = is

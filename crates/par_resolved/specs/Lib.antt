@@ -7,6 +7,7 @@ pub mod Statements
 pub mod Gathered
 pub mod Written
 pub mod Sizes
+pub mod Settled
 pub mod Births
 pub mod Numbered
 pub mod Limits

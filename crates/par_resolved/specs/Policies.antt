@@ -64,6 +64,10 @@ term_values k terms = all_some (map (term_value k) terms)
 abbrev pub fits : List Clause → Bool
 fits p = nat_le (length p) MOST_CLAUSES && list_all (λ c. nat_le (length c.locks) MOST_LOCKS) p
 
+-- the policy, where it fits
+abbrev pub within_limits : List Clause → Option (List Clause)
+within_limits p = if fits p then Some p else None
+
 -- joined with each of these in turn, as long as the joins fit
 unfoldable pub join_with : List Clause → List (List Clause) → Option (List Clause)
 join_with p [] = Some p

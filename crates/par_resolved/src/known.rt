@@ -12,7 +12,7 @@ ghost use Rattle.par_resolved.specs.Seen.{seen, known_seen};
 ghost use Rattle.par_refusals.specs.First.{first_of};
 
 use crate::forms::form;
-use crate::joins::join_all;
+use crate::joins::{join_all, note_joins};
 use crate::numbers::Numbers;
 use par_base::memory::NoMemory;
 use par_base::name::Name;
@@ -151,21 +151,31 @@ impl<'a> Known<'a> {
         Ok(Some(found))
     }
 
-    /// What an expression comes to. Limits that its joins exceed are noted.
+    /// What an expression comes to.
     #[tactic(auto, using(crate::proofs::Steps::joined_terms))]
-    pub fn value_of(
+    pub fn value_of(&self, alloc: Global, e: &PolicyExpr) -> Result<Option<Policy>, NoMemory>
+        ensures { IfOk result (λ p. p ≡ value_of (known_seen self.now) e.now) }
+    {
+        match self.terms(alloc, e.terms.as_slice())? {
+            None => Ok(None),
+            Some(policies) => join_all(alloc, policies.as_slice()),
+        }
+    }
+
+    /// Notes the limits that the joins of an expression exceed.
+    #[tactic(auto, using(crate::proofs::Steps::joined_terms))]
+    pub fn note_faults(
         &self,
         alloc: Global,
         e: &PolicyExpr,
         findings: &mut Findings,
-    ) -> Result<Option<Policy>, NoMemory>
-        ensures value { IfOk result (λ p. p ≡ value_of (known_seen self.now) e.now) }
-        ensures found { OnOk result (findings.new
+    ) -> Result<(), NoMemory>
+        ensures { OnOk result (findings.new
             ≡ first_of findings.old (expression_faults (known_seen self.now) e.now)) }
     {
         match self.terms(alloc, e.terms.as_slice())? {
-            None => Ok(None),
-            Some(policies) => join_all(alloc, e.at, policies.as_slice(), findings),
+            None => Ok(()),
+            Some(policies) => note_joins(alloc, e.at, policies.as_slice(), findings),
         }
     }
 
@@ -173,8 +183,7 @@ impl<'a> Known<'a> {
     pub fn policy_of(&self, alloc: Global, e: &PolicyExpr) -> Result<Policy, NoMemory>
         ensures { IfOk result (λ p. p ≡ policy_of (known_seen self.now) e.now) }
     {
-        let mut unread = Findings::new();
-        match self.value_of(alloc, e, &mut unread)? {
+        match self.value_of(alloc, e)? {
             None => top(alloc),
             Some(policy) => Ok(policy),
         }

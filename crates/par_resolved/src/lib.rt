@@ -17,6 +17,7 @@ pub mod literals;
 pub mod numbers;
 pub mod queried;
 pub mod scope;
+mod settled;
 mod statements;
 pub mod types;
 pub mod written;

@@ -47,11 +47,32 @@ fn read_declared(
         ≡ known_behind (known_seen known.old) (all_of decls.now)) }
 {
     for decl in decls {
-        let mut unread = Findings::new();
-        let value = known.value_of(alloc, &decl.policy, &mut unread)?;
+        let value = known.value_of(alloc, &decl.policy)?;
         known.values.push(value)?;
     }
     Ok(())
+}
+
+// Notes the limits that the joins of an expression exceed. What a join has that exceeds one is
+// counted only where no limit is exceeded before it.
+fn note_first(
+    alloc: Global,
+    known: &Known<'_>,
+    e: &PolicyExpr,
+    findings: &mut Findings,
+) -> Result<(), NoMemory>
+    ensures { OnOk result (findings.new
+        ≡ first_of findings.old (expression_faults (known_seen known.now) e.now)) }
+{
+    if let Some(first) = findings.first() {
+        if first.at < e.at {
+            return Ok(());
+        }
+    }
+    if let Some(_) = known.value_of(alloc, e)? {
+        return Ok(());
+    }
+    known.note_faults(alloc, e, findings)
 }
 
 /// The first limit that a join of these exceeds.
@@ -66,7 +87,7 @@ pub fn first_join(
 {
     let mut findings = Findings::new();
     for e in exprs {
-        let _ = known.value_of(alloc, e, &mut findings)?;
+        note_first(alloc, known, e, &mut findings)?;
     }
     Ok(findings.first())
 }

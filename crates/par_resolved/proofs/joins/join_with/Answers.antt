@@ -1,57 +1,29 @@
-use Rattle.std.proofs.Common.{◌∙◌, ap, sym}
-use Rattle.par_refusals.specs.First.{first_of}
-use Rattle.par_refusals.proofs.First.{first_of_none}
-use Rattle.par_resolved.specs.Sizes.{form_faults}
+use Rattle.std.proofs.Common.{◌∙◌, ap, sym, refl}
+use Rattle.par_resolved.specs.Sets.{joined}
+use Rattle.par_resolved.specs.Policies.{fits}
 use Rattle.par_resolved.proofs.Loops.{drop_more, none_left}
-use Rattle.par_resolved.proofs.Steps.{value_stops, value_goes_on, value_done, faults_stop}
-use Rattle.par_resolved.proofs.Steps.{faults_go_on, faults_done}
+use Rattle.par_resolved.proofs.Steps.{value_stops, value_goes_on, value_done, one_fits, none_fits}
 use Rattle.par_resolved.proofs.joins.join_with.Goals as goal
 
-pub returns-then-not-fits-clause-value : goal.returns-then-not-fits-clause-value
-returns-then-not-fits-clause-value c =
+pub returns-in-None : goal.returns-in-None
+returns-in-None c =
     let left =
     drop_more c.args.others.now c.loop-other.other-index c.other-item.result c.loop-other-test.true
     c.other-item.is in
-    value_stops _ _ _ _ _ _ _ left c.in_ok-policy.ensures
-    (sym c.fits.ensures ∙ c.if-not-fits.true) c.loop-other.invariant.value
-
-pub returns-then-not-fits-clause-found : goal.returns-then-not-fits-clause-found
-returns-then-not-fits-clause-found c =
-    let left =
-    drop_more c.args.others.now c.loop-other.other-index c.other-item.result c.loop-other-test.true
-    c.other-item.is in
-    c.note_form.ensures ∙ ap (λ o. first_of o (form_faults c.args.at c.in_ok-policy.policy))
-    c.loop-other.invariant.kept
-    ∙ ap (first_of c.args.findings.now)
-    (faults_stop c.args.at _ _ _ _ _ _ _ left c.in_ok-policy.ensures
-    (sym c.fits.ensures ∙ c.if-not-fits.true) c.loop-other.invariant.found)
+    let join = joined c.loop-other.policy c.other-item.result in
+    let large = none_fits join (sym c.in-None.is ∙ c.in_ok-join_within_limits.ensures) in
+    value_stops _ _ _ _ _ _ _ left refl large c.loop-other.invariant
 
 pub loop-other-preserved : goal.loop-other-preserved
 loop-other-preserved c =
     let left =
     drop_more c.args.others.now c.loop-other.other-index c.other-item.result c.loop-other-test.true
     c.other-item.is in
-    let small = sym c.fits.ensures ∙ c.if-not-fits.false in
-    record {
-      value =
-          value_goes_on _ _ _ _ _ _ _ left c.in_ok-policy.ensures small
-          c.loop-other.invariant.value;
-      found =
-          faults_go_on c.args.at _ _ _ _ _ _ _ left c.in_ok-policy.ensures small
-          c.loop-other.invariant.found;
-      kept = c.loop-other.invariant.kept;
-    }
+    let join = joined c.loop-other.policy c.other-item.result in
+    let small = one_fits join _ (sym c.in-Some.is ∙ c.in_ok-join_within_limits.ensures) in
+    value_goes_on _ _ _ _ _ _ _ left small.0 (ap fits small.0 ∙ small.1) c.loop-other.invariant
 
-pub returns-clause-value : goal.returns-clause-value
-returns-clause-value c =
+pub returns : goal.returns
+returns c =
     value_done _ _ _ _ (none_left c.args.others.now c.loop-other.other-index
-    c.loop-other-test.false) c.loop-other.invariant.value
-
-pub returns-clause-found : goal.returns-clause-found
-returns-clause-found c =
-    let none =
-    faults_done c.args.at _ _ _ _
-    (none_left c.args.others.now c.loop-other.other-index c.loop-other-test.false)
-    c.loop-other.invariant.found in
-    c.loop-other.invariant.kept ∙ sym (first_of_none c.args.findings.now)
-    ∙ ap (first_of c.args.findings.now) (sym none)
+    c.loop-other-test.false) c.loop-other.invariant

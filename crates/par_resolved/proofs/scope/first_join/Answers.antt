@@ -7,8 +7,8 @@ use Rattle.par_resolved.proofs.scope.first_join.Goals as goal
 pub loop-e-preserved : goal.loop-e-preserved
 loop-e-preserved c =
     note_more (expression_faults (known_seen c.args.known.now)) c.args.exprs.now c.loop-e.e-index
-    c.e-item.result c.loop-e.findings c.value_of.new.findings _ c.loop-e-test.true c.e-item.is
-    c.in_ok-value_of.ensures.found c.loop-e.invariant
+    c.e-item.result c.loop-e.findings c.note_first.new.findings _ c.loop-e-test.true c.e-item.is
+    c.in_ok-note_first.ensures c.loop-e.invariant
 
 pub returns : goal.returns
 returns c =

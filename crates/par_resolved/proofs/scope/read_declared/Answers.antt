@@ -19,7 +19,7 @@ loop-decl-preserved c =
     read_more c.args.decls.now c.loop-decl.decl-index c.decl-item.result
     (known_seen c.loop-decl.known)
     (with c.push.new.self.items) _ c.loop-decl-test.true c.decl-item.is
-    (ap with (c.in_ok-push.ensures.items ∙ ap behind c.in_ok-value.ensures.value))
+    (ap with (c.in_ok-push.ensures.items ∙ ap behind c.in_ok-value.ensures))
     c.loop-decl.invariant
 
 pub returns : goal.returns
