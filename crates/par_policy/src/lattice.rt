@@ -9,7 +9,7 @@ ghost use Rattle.par_policy.specs.Order.{IsBelow};
 ghost use Rattle.par_policy.specs.Sees.{sees_at};
 
 use crate::clauses::Clause;
-use crate::locks::{Lockset, bits_of_either};
+use crate::locks::Lockset;
 use crate::normal::{keep, keep_all, put};
 use crate::order::leq;
 use crate::policies::Policy;
@@ -162,7 +162,7 @@ fn is_covered_by_both(kept: &[Clause], clause: &Clause, other: &Clause) -> bool
     ensures { result
         ≡ sees_at kept.now other.now.locks clause.now.actor clause.now.locks }
 {
-    let marks = bits_of_either(&clause.locks, &other.locks);
+    let marks = clause.locks.bits_of_both(&other.locks);
     for held in kept {
         if held.actor == clause.actor
             && held

@@ -147,10 +147,24 @@ impl Lockset {
 
     // How many locks are in one of the sets, which is exact where both are kept as bits.
     pub(crate) fn count_of_either(&self, other: &Lockset) -> usize {
-        match bits_of_either(self, other) {
-            Some(bits) => bits.count() as usize,
-            None => self.as_slice().len().max(other.as_slice().len()),
+        if let Some(bits) = &self.bits {
+            if let Some(more) = &other.bits {
+                return bits.union(more).count() as usize;
+            }
         }
+        self.as_slice().len().max(other.as_slice().len())
+    }
+
+    // The locks that are in one of the sets, where both are kept as bits.
+    pub(crate) fn bits_of_both(&self, other: &Lockset) -> Option<Bits<4>>
+        ensures { AreMarks result (self.now ++ other.now) }
+    {
+        if let Some(bits) = &self.bits {
+            if let Some(more) = &other.bits {
+                return Some(bits.union(more));
+            }
+        }
+        None
     }
 
     /// The locks of this set that are not in the other one.
@@ -215,7 +229,7 @@ fn bits_of(numbers: &[u16]) -> Option<Bits<4>>
 }
 
 // The locks of the set and those that are open, where both are kept as bits.
-pub(crate) fn bits_of_either<L: OpenLocks>(one: &Lockset, opened: &L) -> Option<Bits<4>>
+fn bits_of_either<L: OpenLocks>(one: &Lockset, opened: &L) -> Option<Bits<4>>
     ensures { AreMarks result (one.now ++ L.locks opened.now) }
 {
     if let Some(bits) = one.bits {
