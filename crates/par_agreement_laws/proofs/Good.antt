@@ -31,7 +31,8 @@ use Rattle.par_run_laws.specs.State.{State, put, set_local, set_static, with_obj
 use Rattle.par_run_laws.specs.Names as names
 use Rattle.par_match_laws.specs.Labelled.{Naming}
 use Rattle.par_match_laws.specs.par_code_form.Code.{Words, is_number}
-use Rattle.par_agreement_laws.specs.Laid.{Layout, moved, HasType, IsSet, kind_of}
+use Rattle.par_agreement_laws.specs.Laid.{Layout, moved, HasType, kind_of}
+use Rattle.par_body_laws.specs.Locals.{IsSet}
 
 abbrev pub Grows : State → State → Type 0
 Grows s u = (c : ℕ) → s.births c ≤ u.births c

@@ -22,7 +22,8 @@ use Rattle.par_run_laws.specs.State.{restored}
 use Rattle.par_run_laws.specs.Values.{truth}
 use Rattle.par_match_laws.specs.par_code_form.Code.{Words}
 use Rattle.par_match_laws.specs.Labelled.{Naming}
-use Rattle.par_agreement_laws.specs.Laid.{Layout, moved, HasType, IsSet}
+use Rattle.par_agreement_laws.specs.Laid.{Layout, moved, HasType}
+use Rattle.par_body_laws.specs.Locals.{IsSet}
 use Rattle.par_agreement_laws.specs.Agreement.{Lays, Fine}
 use Rattle.par_agreement_laws.proofs.Good.{typed_on, get_set, get_beside, put_here, put_beside}
 

@@ -33,7 +33,7 @@ use Rattle.par_run_laws.specs.Names as names
 use Rattle.par_match_laws.specs.Labelled.{Naming}
 use Rattle.par_match_laws.specs.par_code_form.Code.{Words, is_void}
 use Rattle.par_agreement_laws.specs.Laid.{Layout, Meth, OfValues, given_types, moved, HasType}
-use Rattle.par_agreement_laws.specs.Laid.{IsSet}
+use Rattle.par_body_laws.specs.Locals.{IsSet}
 use Rattle.par_agreement_laws.specs.Laid.{kind_of}
 
 -- an initializer

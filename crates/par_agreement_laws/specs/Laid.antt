@@ -1,7 +1,7 @@
 -- Where a program's classes and members stand in a machine, and what is asked of typed code.
 use Rattle.std.specs.Prelude.{◌≡◌, ℕ, suc, ◌≤◌, ◌<◌, ◌⊎◌, Bool, true, false, List, [], ◌∷◌, IsTrue}
 use Rattle.std.specs.Prelude.{Option, Some, if◌then◌else◌}
-use Rattle.par_policy.specs.Numbers.{has}
+use Rattle.par_body_laws.specs.Locals.{IsSet}
 use Rattle.par_run_laws.specs.par_typed.declared.ty.Ty.{Ty}
 use Rattle.par_run_laws.specs.par_typed.declared.ty.Ty.TheVariants as ty
 use Rattle.par_run_laws.specs.par_typed.Plain.{mark, TExp, Int, Boolean, Null, This, New, Local}
@@ -100,9 +100,6 @@ module _ (lay : Layout) where
   HasType b ty.Null value.Null = Unit {0}
   HasType b ty.Null (value.Ref c n) = ⊥
   HasType b ty.Void v = Unit {0}
-
-abbrev pub IsSet : List ℕ → ℕ → Type 0
-IsSet set x = IsTrue (has set x)
 
 abbrev pub OfShape : Shape → ℕ → ℕ → Ty → Ty → Ty → Type 0
 OfShape (Calculates o i) room below a b r = (a ≡ ty.Int) × (b ≡ ty.Int) × (r ≡ ty.Int)

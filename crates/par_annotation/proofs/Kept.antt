@@ -10,7 +10,8 @@ use Rattle.par_scope.specs.Locals.{Scope}
 use Rattle.par_scope.specs.Home.{Home}
 use Rattle.par_annotation_laws.specs.par_type_rules.Stmts.{slot_of}
 use Rattle.par_annotation_laws.specs.Frames.{Frame, Var, further}
-use Rattle.par_annotation_laws.specs.Stmts.{Written, may_policy, behind, locals_in}
+use Rattle.par_annotation_laws.specs.Stmts.{Written, may_policy, behind}
+use Rattle.par_scope.specs.Own.{locals_in}
 use Rattle.par_annotation.specs.declared.frame.Var as code
 use Rattle.par_annotation.specs.Seen.{var_seen}
 use Rattle.par_annotation.specs.Keeps.{Keeps}

@@ -20,10 +20,11 @@ use Rattle.par_annotation_laws.specs.Frames.{Frame, with_local, further}
 use Rattle.par_annotation_laws.specs.Exprs.{numbered, typed_exp, typed_may}
 use Rattle.par_annotation_laws.specs.Stmts.{Written, may_policy, target, target_nodes, assignment}
 use Rattle.par_annotation_laws.specs.Stmts.{behind}
-use Rattle.par_annotation_laws.specs.Stmts.{locals_in, braces_locals, may_braces_locals}
-use Rattle.par_annotation_laws.specs.Stmts.{else_locals}
-use Rattle.par_annotation_laws.specs.Stmts.{all_locals}
-use Rattle.par_annotation_laws.specs.Stmts.{catches_locals, handler_locals, typed_sta, typed_braces}
+use Rattle.par_scope.specs.Own.{locals_in, braces_locals, may_braces_locals}
+use Rattle.par_scope.specs.Own.{else_locals}
+use Rattle.par_scope.specs.Own.{all_locals}
+use Rattle.par_annotation_laws.specs.Stmts.{typed_sta, typed_braces}
+use Rattle.par_scope.specs.Own.{catches_locals, handler_locals}
 use Rattle.par_annotation_laws.specs.Stmts.{typed_may_braces, typed_else, typed_stas, typed_catches}
 use Rattle.par_annotation_laws.specs.Stmts.{typed_handler, caught}
 use Rattle.par_annotation.specs.Ints.{no_ints, may_no_ints, stmt_no_ints, braces_no_ints}

@@ -5,7 +5,7 @@ use Rattle.par_tree.specs.Plain.{Method, Class, Declaration, Source, Actors, Loc
 use Rattle.par_tree.specs.Nodes.{braces_nodes}
 use Rattle.par_scope.specs.Names.{Names}
 use Rattle.par_scope.specs.Home.{class_named}
-use Rattle.par_annotation_laws.specs.Stmts.{braces_locals}
+use Rattle.par_scope.specs.Own.{braces_locals}
 use Rattle.par_annotation.specs.Ints.{braces_no_ints}
 
 pub record IsSmall (m : Method) : Type 0 where

@@ -188,6 +188,24 @@ fn type_decls(
     Ok(())
 }
 
+#[tactic(auto, using(crate::proofs::BodyForms::typed_bodies))]
+fn type_all(
+    alloc: Global,
+    table: &Table,
+    names: &TableIndex<'_>,
+    numbering: &Numbering<'_>,
+    decls: &[Decl],
+) -> Result<List<TBody>, NoMemory>
+    requires { IsSmallSource names.now (tree.all_declared decls.now) }
+    ensures { IfOk result (λ found. bodies found
+        ≡ is.typed_declarations (written_by numbering.now) table.now names.now
+        (tree.all_declared decls.now)) }
+{
+    let mut found = List::new(alloc);
+    type_decls(alloc, table, names, numbering, decls, &mut found)?;
+    Ok(found)
+}
+
 /// The typed bodies of all methods of a program, in the order of the source.
 #[tactic(auto, using(crate::proofs::BodyForms::typed_bodies))]
 pub fn type_bodies(
@@ -202,8 +220,5 @@ pub fn type_bodies(
         ≡ is.typed_program (written_by numbering.now) table.now (tree.source program.now)) }
 {
     let names = TableIndex::of(alloc, table)?;
-    let mut found = List::new(alloc);
-    let decls = program.decls.as_slice();
-    type_decls(alloc, table, &names, numbering, decls, &mut found)?;
-    Ok(found)
+    type_all(alloc, table, &names, numbering, program.decls.as_slice())
 }

@@ -14,6 +14,7 @@ ghost use Rattle.par_annotation_laws.specs.par_type_rules.Stmts.{slot_of};
 ghost use Rattle.par_annotation_laws.specs.Frames.{further};
 ghost use Rattle.par_annotation_laws.specs.Exprs.{numbered, typed_exp, typed_may};
 ghost use Rattle.par_annotation_laws.specs.Stmts as is;
+ghost use Rattle.par_scope.specs.Own as own;
 ghost use Rattle.par_annotation.specs.Ints as no;
 ghost use Rattle.par_annotation.specs.Keeps.{Keeps};
 ghost use Rattle.par_annotation.specs.Seen.{frame_seen};
@@ -235,7 +236,7 @@ fn type_stmt<'a>(
     stmt: &'a Stmt,
 ) -> Result<TStmt, NoMemory>
     requires room { next.old + 2 * tree_nodes.stmt_nodes (tree.does stmt.now) < 2 ^ 32 }
-    requires locals { frame.old.next + is.locals_in (tree.does stmt.now) < 2 ^ 16 }
+    requires locals { frame.old.next + own.locals_in (tree.does stmt.now) < 2 ^ 16 }
     requires ints { no.stmt_no_ints (tree.does stmt.now) ≡ 0 }
     ensures made { IfOk result (λ t. typed.does t
         ≡ is.typed_sta (written_by numbering.now) (seen home.now) (frame_seen frame.old)
@@ -293,7 +294,7 @@ fn type_if<'a>(
 ) -> Result<TStmt, NoMemory>
     requires is { stmt.now.kind ≡ form.If test.now body.now other.now }
     requires room { next.old + 2 * tree_nodes.stmt_nodes (tree.does stmt.now) < 2 ^ 32 }
-    requires locals { frame.old.next + is.locals_in (tree.does stmt.now) < 2 ^ 16 }
+    requires locals { frame.old.next + own.locals_in (tree.does stmt.now) < 2 ^ 16 }
     requires ints { no.stmt_no_ints (tree.does stmt.now) ≡ 0 }
     ensures made { IfOk result (λ t. typed.does t
         ≡ is.typed_sta (written_by numbering.now) (seen home.now) (frame_seen frame.old)
@@ -333,7 +334,7 @@ fn type_while<'a>(
 ) -> Result<TStmt, NoMemory>
     requires is { stmt.now.kind ≡ form.While test.now body.now }
     requires room { next.old + 2 * tree_nodes.stmt_nodes (tree.does stmt.now) < 2 ^ 32 }
-    requires locals { frame.old.next + is.locals_in (tree.does stmt.now) < 2 ^ 16 }
+    requires locals { frame.old.next + own.locals_in (tree.does stmt.now) < 2 ^ 16 }
     requires ints { no.stmt_no_ints (tree.does stmt.now) ≡ 0 }
     ensures made { IfOk result (λ t. typed.does t
         ≡ is.typed_sta (written_by numbering.now) (seen home.now) (frame_seen frame.old)
@@ -372,7 +373,7 @@ fn type_try<'a>(
 ) -> Result<TStmt, NoMemory>
     requires is { stmt.now.kind ≡ form.Try body.now catches.now }
     requires room { next.old + 2 * tree_nodes.stmt_nodes (tree.does stmt.now) < 2 ^ 32 }
-    requires locals { frame.old.next + is.locals_in (tree.does stmt.now) < 2 ^ 16 }
+    requires locals { frame.old.next + own.locals_in (tree.does stmt.now) < 2 ^ 16 }
     requires ints { no.stmt_no_ints (tree.does stmt.now) ≡ 0 }
     ensures made { IfOk result (λ t. typed.does t
         ≡ is.typed_sta (written_by numbering.now) (seen home.now) (frame_seen frame.old)
@@ -413,7 +414,7 @@ fn type_when<'a>(
 ) -> Result<TStmt, NoMemory>
     requires is { stmt.now.kind ≡ form.When lock.now body.now other.now }
     requires room { next.old + 2 * tree_nodes.stmt_nodes (tree.does stmt.now) < 2 ^ 32 }
-    requires locals { frame.old.next + is.locals_in (tree.does stmt.now) < 2 ^ 16 }
+    requires locals { frame.old.next + own.locals_in (tree.does stmt.now) < 2 ^ 16 }
     requires ints { no.stmt_no_ints (tree.does stmt.now) ≡ 0 }
     ensures made { IfOk result (λ t. typed.does t
         ≡ is.typed_sta (written_by numbering.now) (seen home.now) (frame_seen frame.old)
@@ -450,13 +451,13 @@ fn type_else<'a>(
     other: &'a Option<Box<Stmt>>,
 ) -> Result<Option<Box<TStmt>>, NoMemory>
     requires room { next.old + 2 * tree_nodes.else_nodes (tree.otherwise other.now) < 2 ^ 32 }
-    requires locals { frame.old.next + is.else_locals (tree.otherwise other.now) < 2 ^ 16 }
+    requires locals { frame.old.next + own.else_locals (tree.otherwise other.now) < 2 ^ 16 }
     requires ints { no.else_no_ints (tree.otherwise other.now) ≡ 0 }
     ensures made { IfOk result (λ o. typed.otherwise o
         ≡ is.typed_else (written_by numbering.now) (seen home.now) (frame_seen frame.old)
         next.old (tree.otherwise other.now)) }
     ensures behind { OnOk result (frame_seen frame.new
-        ≡ further (frame_seen frame.old) (is.else_locals (tree.otherwise other.now))) }
+        ≡ further (frame_seen frame.old) (own.else_locals (tree.otherwise other.now))) }
     ensures counted { IfOk result (λ o.
         next.new ≡ next.old + count.else_nodes (typed.otherwise o)) }
     ensures small { OnOk result (
@@ -489,13 +490,13 @@ fn type_may_block<'a>(
 ) -> Result<Option<Box<TStmt>>, NoMemory>
     requires room { next.old + 2 * tree_nodes.may_braces_nodes (tree.may_braces other.now)
         < 2 ^ 32 }
-    requires locals { frame.old.next + is.may_braces_locals (tree.may_braces other.now) < 2 ^ 16 }
+    requires locals { frame.old.next + own.may_braces_locals (tree.may_braces other.now) < 2 ^ 16 }
     requires ints { no.may_braces_no_ints (tree.may_braces other.now) ≡ 0 }
     ensures made { IfOk result (λ o. typed.otherwise o
         ≡ is.typed_may_braces (written_by numbering.now) (seen home.now) (frame_seen frame.old)
         next.old (tree.may_braces other.now)) }
     ensures behind { OnOk result (frame_seen frame.new
-        ≡ further (frame_seen frame.old) (is.may_braces_locals (tree.may_braces other.now))) }
+        ≡ further (frame_seen frame.old) (own.may_braces_locals (tree.may_braces other.now))) }
     ensures counted { IfOk result (λ o.
         next.new ≡ next.old + count.else_nodes (typed.otherwise o)) }
     ensures small { OnOk result (
@@ -524,13 +525,13 @@ pub(crate) fn type_block<'a>(
     block: &'a Block,
 ) -> Result<TStmt, NoMemory>
     requires room { next.old + 2 * tree_nodes.braces_nodes (tree.braces block.now) < 2 ^ 32 }
-    requires locals { frame.old.next + is.braces_locals (tree.braces block.now) < 2 ^ 16 }
+    requires locals { frame.old.next + own.braces_locals (tree.braces block.now) < 2 ^ 16 }
     requires ints { no.braces_no_ints (tree.braces block.now) ≡ 0 }
     ensures made { IfOk result (λ t. typed.does t
         ≡ is.typed_braces (written_by numbering.now) (seen home.now) (frame_seen frame.old)
         next.old (tree.braces block.now)) }
     ensures behind { OnOk result (frame_seen frame.new
-        ≡ further (frame_seen frame.old) (is.braces_locals (tree.braces block.now))) }
+        ≡ further (frame_seen frame.old) (own.braces_locals (tree.braces block.now))) }
     ensures counted { IfOk result (λ t.
         next.new ≡ next.old + count.stmt_nodes (typed.does t)) }
     ensures small { OnOk result (
@@ -563,13 +564,13 @@ fn type_stmts<'a>(
     stmts: &'a [Stmt],
 ) -> Result<List<TStmt>, NoMemory>
     requires room { next.old + 2 * tree_nodes.all_nodes (tree.all_do stmts.now) < 2 ^ 32 }
-    requires locals { frame.old.next + is.all_locals (tree.all_do stmts.now) < 2 ^ 16 }
+    requires locals { frame.old.next + own.all_locals (tree.all_do stmts.now) < 2 ^ 16 }
     requires ints { no.all_no_ints (tree.all_do stmts.now) ≡ 0 }
     ensures made { IfOk result (λ ts. typed.all_do ts
         ≡ is.typed_stas (written_by numbering.now) (seen home.now) (frame_seen frame.old)
         next.old (tree.all_do stmts.now)) }
     ensures kept { OnOk result (Keeps (frame_seen frame.old)
-        (is.all_locals (tree.all_do stmts.now)) (frame_seen frame.new)) }
+        (own.all_locals (tree.all_do stmts.now)) (frame_seen frame.new)) }
     ensures counted { IfOk result (λ ts.
         next.new ≡ next.old + count.all_nodes (typed.all_do ts)) }
     ensures small { OnOk result (
@@ -595,13 +596,13 @@ fn type_catches<'a>(
     catches: &'a [CatchTree],
 ) -> Result<List<TCatch>, NoMemory>
     requires room { next.old + 2 * tree_nodes.catch_nodes (tree.all_catch catches.now) < 2 ^ 32 }
-    requires locals { frame.old.next + is.catches_locals (tree.all_catch catches.now) < 2 ^ 16 }
+    requires locals { frame.old.next + own.catches_locals (tree.all_catch catches.now) < 2 ^ 16 }
     requires ints { no.catches_no_ints (tree.all_catch catches.now) ≡ 0 }
     ensures made { IfOk result (λ ts. typed.all_catch ts
         ≡ is.typed_catches (written_by numbering.now) (seen home.now) (frame_seen frame.old)
         next.old (tree.all_catch catches.now)) }
     ensures behind { OnOk result (frame_seen frame.new
-        ≡ further (frame_seen frame.old) (is.catches_locals (tree.all_catch catches.now))) }
+        ≡ further (frame_seen frame.old) (own.catches_locals (tree.all_catch catches.now))) }
     ensures counted { IfOk result (λ ts.
         next.new ≡ next.old + count.catch_nodes (typed.all_catch ts)) }
     ensures small { OnOk result (
@@ -628,13 +629,13 @@ fn type_handler<'a>(
     catch: &'a CatchTree,
 ) -> Result<TStmt, NoMemory>
     requires room { next.old + 2 * tree_nodes.handler_nodes (tree.handler catch.now) < 2 ^ 32 }
-    requires locals { frame.old.next + is.handler_locals (tree.handler catch.now) < 2 ^ 16 }
+    requires locals { frame.old.next + own.handler_locals (tree.handler catch.now) < 2 ^ 16 }
     requires ints { no.handler_no_ints (tree.handler catch.now) ≡ 0 }
     ensures made { IfOk result (λ t. typed.does t
         ≡ is.typed_handler (written_by numbering.now) (seen home.now) (frame_seen frame.old)
         next.old (tree.handler catch.now)) }
     ensures behind { OnOk result (frame_seen frame.new
-        ≡ further (frame_seen frame.old) (is.handler_locals (tree.handler catch.now))) }
+        ≡ further (frame_seen frame.old) (own.handler_locals (tree.handler catch.now))) }
     ensures counted { IfOk result (λ t.
         next.new ≡ next.old + count.stmt_nodes (typed.does t)) }
     ensures small { OnOk result (

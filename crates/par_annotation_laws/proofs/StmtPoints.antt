@@ -31,7 +31,7 @@ use Rattle.par_annotation_laws.specs.Stmts.{own_target, field_target, name_targe
 use Rattle.par_annotation_laws.specs.Stmts.{behind}
 use Rattle.par_annotation_laws.specs.Stmts.{typed_sta, typed_braces, typed_may_braces, typed_else}
 use Rattle.par_annotation_laws.specs.Stmts.{typed_stas, typed_catches, typed_handler}
-use Rattle.par_annotation_laws.specs.Stmts.{braces_locals, handler_locals}
+use Rattle.par_type_rules.specs.par_scope.Own.{braces_locals, handler_locals}
 use Rattle.par_annotation_laws.specs.Points.{count_from, points, stmt_points, else_points}
 use Rattle.par_annotation_laws.specs.Points.{all_points}
 use Rattle.par_annotation_laws.specs.Points.{catch_points}

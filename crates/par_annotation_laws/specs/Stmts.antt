@@ -20,6 +20,7 @@ use Rattle.par_type_rules.specs.par_typed.Nodes.{nodes, stmt_nodes}
 use Rattle.par_type_rules.specs.par_scope.declared.members.Place.{Place}
 use Rattle.par_type_rules.specs.par_scope.declared.meaning.Receiver.{Receiver}
 use Rattle.par_type_rules.specs.par_scope.declared.meaning.Receiver.TheVariants.{Own, Class, Object}
+use Rattle.par_type_rules.specs.par_scope.Own.{locals_in, braces_locals, handler_locals}
 use Rattle.par_type_rules.specs.par_scope.Home.{Home, class_named}
 use Rattle.par_type_rules.specs.par_scope.Members.{field_at, field_is_static}
 use Rattle.par_type_rules.specs.par_scope.Meaning.{type_of, receiver_of, selected}
@@ -35,47 +36,6 @@ pub record Written : Type 0 where
 abbrev pub may_policy : Written → Option PolicyExpr → Option ℕ
 may_policy w None = None
 may_policy w (Some policy) = Some (w.policy policy)
-
--- ---- how many locals a statement declares
-
-unfoldable mutual
-  pub locals_in : Sta → ℕ
-  locals_in (Block b at) = braces_locals b
-  locals_in (If e b o at) = braces_locals b + else_locals o
-  locals_in (While e b at) = braces_locals b
-  locals_in (Try b cs at) = braces_locals b + catches_locals cs
-  locals_in (Return e at) = 0
-  locals_in (Break at) = 0
-  locals_in (Continue at) = 0
-  locals_in (Throw class at) = 0
-  locals_in (Open lock at) = 0
-  locals_in (Close lock at) = 0
-  locals_in (Declare local at) = 1
-  locals_in (Assign target value at) = 0
-  locals_in (Do call at) = 0
-  locals_in (When lock b o at) = braces_locals b + may_braces_locals o
-
-  pub braces_locals : Braces → ℕ
-  braces_locals (In ss at) = all_locals ss
-
-  pub may_braces_locals : MayBraces → ℕ
-  may_braces_locals NoBraces = 0
-  may_braces_locals (plain.Some b) = braces_locals b
-
-  pub else_locals : Else → ℕ
-  else_locals NoElse = 0
-  else_locals (Otherwise s) = locals_in s
-
-  pub all_locals : Stas → ℕ
-  all_locals End = 0
-  all_locals (Then s ss) = locals_in s + all_locals ss
-
-  pub catches_locals : Catches → ℕ
-  catches_locals NoCatch = 0
-  catches_locals (Catch c cs) = handler_locals c + catches_locals cs
-
-  pub handler_locals : Handler → ℕ
-  handler_locals (On class name b) = braces_locals b
 
 -- behind a statement: its own local is in scope, those of its blocks have left
 unfoldable pub behind : Written → Home → Sta → Frame → Frame

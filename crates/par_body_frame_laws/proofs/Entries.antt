@@ -19,13 +19,14 @@ use Rattle.par_code_form.specs.Code.{shape_labels}
 use Rattle.par_code_form.specs.Frames.{Types, scope_behind}
 use Rattle.par_frame_pass_laws.specs.par_kinds.declared.frame.VKind.{VKind}
 use Rattle.par_frame_pass_laws.specs.par_kinds.Kinds.{KFrame}
-use Rattle.par_label_kind_laws.specs.Walks.{Sign, begins, behind_label, lands}
+use Rattle.par_label_kind_laws.specs.Walks.{Sign, behind_label, lands}
+use Rattle.par_label_kind_laws.specs.par_match_laws.Labelled.{is_there}
 use Rattle.par_label_kind_laws.specs.Signs.{Marked, framed, frame_if, kinds, signs, all_signs}
 use Rattle.par_body_frame_laws.proofs.Exprs.{load_begins}
 use Rattle.par_body_frame_laws.proofs.Rest.{loop_rest, sta_rest}
 
 -- where an instruction comes first nothing changes
-begins_lands : (at : ℕ → Sign) (xs : List Item) (k : KFrame) → begins xs ≡ true
+begins_lands : (at : ℕ → Sign) (xs : List Item) (k : KFrame) → is_there xs ≡ true
     → lands at xs (Some k) ≡ Some k
 unfolding lands
 begins_lands at [] k b = absurd (cc b)
@@ -119,7 +120,7 @@ empty_scope declared (SetField o c f e at p) scope h = refl
 empty_scope declared (Eval e at p) scope h = refl
 empty_scope declared (When l s o at p) scope h = refl
 
-jumps_first : (b : Bool) (l : ℕ) (xs : List Item) → b ≡ true → begins (goes_on b l xs) ≡ true
+jumps_first : (b : Bool) (l : ℕ) (xs : List Item) → b ≡ true → is_there (goes_on b l xs) ≡ true
 jumps_first true l xs h = refl
 jumps_first false l xs h = absurd (cc h)
 
@@ -127,7 +128,7 @@ module _ (w : Words) where
   mutual
     unfolding expr_code
 
-    expr_begins : (e : TExp) (n : ℕ) (xs : List Item) → begins (expr_code w e n xs) ≡ true
+    expr_begins : (e : TExp) (n : ℕ) (xs : List Item) → is_there (expr_code w e n xs) ≡ true
     expr_begins (Int v m) n xs = refl
     expr_begins (Boolean true m) n xs = refl
     expr_begins (Boolean false m) n xs = refl
@@ -145,8 +146,8 @@ module _ (w : Words) where
     expr_begins (Not e m) n xs = expr_begins e (n + 2) _
     expr_begins (Binary op a b m) n xs = expr_begins a (n + shape_labels (shape_of op a)) _
 
-    args_begins : (es : TExps) (n : ℕ) (xs : List Item) → begins xs ≡ true
-        → begins (args_code w es n xs) ≡ true
+    args_begins : (es : TExps) (n : ℕ) (xs : List Item) → is_there xs ≡ true
+        → is_there (args_code w es n xs) ≡ true
     args_begins NoExps n xs h = h
     args_begins (More e es) n xs h = expr_begins e n _
 

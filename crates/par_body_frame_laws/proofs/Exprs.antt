@@ -30,10 +30,12 @@ use Rattle.par_frame_pass_laws.specs.par_kinds.declared.frame.VKind.TheVariants.
 use Rattle.par_frame_pass_laws.specs.par_kinds.Kinds.{KFrame, Front, accepts, kind_at, top_or}
 use Rattle.par_frame_pass_laws.specs.par_kinds.Acts.{Act, Accepts, Gives, Branches}
 use Rattle.par_frame_pass_laws.specs.par_kinds.Acts as also
-use Rattle.par_label_kind_laws.specs.par_agreement_laws.Laid.{Layout, IsMade, IsThrown, IsSet}
+use Rattle.par_label_kind_laws.specs.par_agreement_laws.Laid.{Layout, IsMade, IsThrown}
+use Rattle.par_label_kind_laws.specs.par_body_laws.Locals.{IsSet}
 use Rattle.par_label_kind_laws.specs.par_agreement_laws.Laid.{Typed, TypedArgs, OfShape, kind_of}
 use Rattle.par_label_kind_laws.specs.par_agreement_laws.Laid.{below_second}
-use Rattle.par_label_kind_laws.specs.Walks.{Sign, Guard, begins, Onto, Walks}
+use Rattle.par_label_kind_laws.specs.Walks.{Sign, Guard, Onto, Walks}
+use Rattle.par_label_kind_laws.specs.par_match_laws.Labelled.{is_there}
 use Rattle.par_label_kind_laws.specs.Signs.{Marked, framed, kind, test_signs, shape_signs}
 use Rattle.par_label_kind_laws.specs.Signs.{pushed}
 use Rattle.par_label_kind_laws.specs.Signs.{pushed_receiver, pushed_first, expr_signs, may_signs}
@@ -106,9 +108,9 @@ pub either : {X : Type 0} (P : X → Type 0) (b : Bool) (x y : X) → P x → P 
 either P true x y p q = p
 either P false x y p q = q
 
-pub load_begins : (t : Ty) (x : ℕ) (xs : List Item) → begins (load t x ∷ xs) ≡ true
+pub load_begins : (t : Ty) (x : ℕ) (xs : List Item) → is_there (load t x ∷ xs) ≡ true
 load_begins t x xs =
-    let P : Item → Type 0 = λ i. begins (i ∷ xs) ≡ true in
+    let P : Item → Type 0 = λ i. is_there (i ∷ xs) ≡ true in
     either P (is_number t) _ _ (either P (nat_le x 3) _ _ refl refl)
     (either P (nat_le x 3) _ _ refl refl)
 
@@ -352,7 +354,7 @@ module _ (exc : List Name) (act : Item → Act) (at : ℕ → Sign) (many room :
     call : (x : Item) (xs : List Item) (us : List Ty) (es : TExps) (set : List ℕ)
         (ks : List Kind) (under stack : List VKind) (r t : Ty)
         → act x ≡ giving (reverse (map (kind_of w) us) ++ ks) (results w r)
-        → begins (x ∷ xs) ≡ true → TypedArgs lay tys many room set (length under) us es
+        → is_there (x ∷ xs) ≡ true → TypedArgs lay tys many room set (length under) us es
         → length under ≤ room → Front Accepts ks under → drop (length ks) under ≡ stack
         → t ≡ r → Walk xs guards (Some (framed locals (results w t ++ stack)))
         → Walk (x ∷ xs) guards (Some (framed locals (laid_of w es under)))

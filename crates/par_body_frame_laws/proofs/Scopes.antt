@@ -18,7 +18,8 @@ use Rattle.par_code_form.specs.Frames.{Types, declared_type, with_local, scope_b
 use Rattle.par_frame_pass_laws.specs.par_kinds.declared.frame.VKind.{VKind}
 use Rattle.par_frame_pass_laws.specs.par_kinds.declared.frame.VKind.TheVariants.{Top as ATop}
 use Rattle.par_frame_pass_laws.specs.par_kinds.Kinds.{Into, Both, into}
-use Rattle.par_label_kind_laws.specs.par_agreement_laws.Laid.{Layout, IsSet, TypedS, behind}
+use Rattle.par_label_kind_laws.specs.par_agreement_laws.Laid.{Layout, TypedS, behind}
+use Rattle.par_label_kind_laws.specs.par_body_laws.Locals.{IsSet}
 use Rattle.par_label_kind_laws.proofs.par_agreement_laws.Good.{get_set, get_beside}
 use Rattle.par_frame_pass_laws.proofs.par_kinds.Lists.{both-set, both-length}
 use Rattle.par_frame_pass_laws.proofs.Merging.{into-same}

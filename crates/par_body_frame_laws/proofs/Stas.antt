@@ -38,7 +38,8 @@ use Rattle.par_frame_pass_laws.proofs.Merging.{into-same}
 use Rattle.par_label_kind_laws.specs.par_agreement_laws.Laid.{Layout, Typed, TypedS, TypedElse}
 use Rattle.par_label_kind_laws.specs.par_agreement_laws.Laid.{TypedAll}
 use Rattle.par_label_kind_laws.specs.par_agreement_laws.Laid.{TypedCatches, behind, kind_of}
-use Rattle.par_label_kind_laws.specs.Walks.{Sign, Plain, Opens, Closes, Catches, Guard, begins}
+use Rattle.par_label_kind_laws.specs.Walks.{Sign, Plain, Opens, Closes, Catches, Guard}
+use Rattle.par_label_kind_laws.specs.par_match_laws.Labelled.{is_there}
 use Rattle.par_label_kind_laws.specs.Walks.{Onto}
 use Rattle.par_label_kind_laws.specs.Walks.{Walks}
 use Rattle.par_label_kind_laws.specs.Signs.{Marked, framed, frame_if, kind, kinds}
@@ -60,14 +61,14 @@ use Rattle.par_body_frame_laws.proofs.Exprs.{either, has_room, of_value, object}
 use Rattle.par_body_frame_laws.proofs.Exprs.{expr_walks, expr_rest}
 use Rattle.par_body_frame_laws.specs.Reached.{Reached, ElseReached, AllReached, CatchesReached}
 
-store_begins : (t : Ty) (x : ℕ) (xs : List Item) → begins (store t x ∷ xs) ≡ true
+store_begins : (t : Ty) (x : ℕ) (xs : List Item) → is_there (store t x ∷ xs) ≡ true
 store_begins t x xs =
-    let P : Item → Type 0 = λ i. begins (i ∷ xs) ≡ true in
+    let P : Item → Type 0 = λ i. is_there (i ∷ xs) ≡ true in
     either P (is_number t) _ _ (either P (nat_le x 3) _ _ refl refl)
     (either P (nat_le x 3) _ _ refl refl)
 
-give_begins : (t : Ty) (xs : List Item) → begins (give_back t ∷ xs) ≡ true
-give_begins t xs = either (λ i. begins (i ∷ xs) ≡ true) (is_number t) _ _ refl refl
+give_begins : (t : Ty) (xs : List Item) → is_there (give_back t ∷ xs) ≡ true
+give_begins t xs = either (λ i. is_there (i ∷ xs) ≡ true) (is_number t) _ _ refl refl
 
 or_true : (a : Bool) → (a || true) ≡ true
 or_true true = refl

@@ -24,7 +24,8 @@ use Rattle.par_frame_pass_laws.proofs.par_kinds.Lists.{both-length}
 use Rattle.par_frame_pass_laws.proofs.Lower.{below-same, below-then, frame-then, act-below}
 use Rattle.par_frame_pass_laws.proofs.Lower.{left-below}
 use Rattle.par_label_kind_laws.specs.Walks.{Plain, Sign, Guard, opened}
-use Rattle.par_label_kind_laws.specs.Walks.{Plays, begins, behind_label, behind_flow, left, goal}
+use Rattle.par_label_kind_laws.specs.Walks.{Plays, behind_label, behind_flow, left, goal}
+use Rattle.par_label_kind_laws.specs.par_match_laws.Labelled.{is_there}
 use Rattle.par_label_kind_laws.specs.Walks.{Onto, To, Meets, Branching, Does, Walks}
 use Rattle.par_label_kind_laws.specs.Signs.{framed, frame_if}
 use Rattle.par_label_kind_laws.specs.Tells.{acting, giving}
@@ -147,7 +148,7 @@ module _ (exc : List Name) (act : Item → Act) (at : ℕ → Sign) (many room :
   -- ---- instructions
 
   pub step : (x : Item) (xs : List Item) (guards : List Guard) (k : KFrame)
-      → begins (x ∷ xs) ≡ true → Does exc act at many room x guards k
+      → is_there (x ∷ xs) ≡ true → Does exc act at many room x guards k
       → Walk xs guards (behind_flow (act x).flow (left (act x) k)) → Walk (x ∷ xs) guards (Some k)
   unfolding Walks
   step (Label n) xs guards k b d w = absurd (cc b)
@@ -170,7 +171,7 @@ module _ (exc : List Name) (act : Item → Act) (at : ℕ → Sign) (many room :
 
   -- an instruction whose act is known
   pub acts : (x : Item) (xs : List Item) (guards : List Guard) (k : KFrame) (a : Act)
-      → act x ≡ a → begins (x ∷ xs) ≡ true → Within k.locals guards → length k.stack ≤ room
+      → act x ≡ a → is_there (x ∷ xs) ≡ true → Within k.locals guards → length k.stack ≤ room
       → ActFits exc a k → Branching exc act at many room a.flow x (left a k)
       → Walk xs guards (behind_flow a.flow (left a k)) → Walk (x ∷ xs) guards (Some k)
   acts x xs guards k a is b i few fits goes w =
@@ -189,7 +190,7 @@ module _ (exc : List Name) (act : Item → Act) (at : ℕ → Sign) (many room :
   module _ (guards : List Guard) (locals : List VKind) (i : Within locals guards) where
     -- takes some operands and leaves others
     pub gives : (x : Item) (xs : List Item) (stack : List VKind) (ks : List Kind)
-        (vs : List VKind) → act x ≡ giving ks vs → begins (x ∷ xs) ≡ true → length stack ≤ room
+        (vs : List VKind) → act x ≡ giving ks vs → is_there (x ∷ xs) ≡ true → length stack ≤ room
         → Front Accepts ks stack
         → Walk xs guards (Some (framed locals (vs ++ drop (length ks) stack)))
         → Walk (x ∷ xs) guards (Some (framed locals stack))
@@ -199,7 +200,7 @@ module _ (exc : List Name) (act : Item → Act) (at : ℕ → Sign) (many room :
         (record { right = refl; takes = front; also = tt }) tt w
 
     pub loads : (x : Item) (xs : List Item) (stack : List VKind) (l : ℕ) (ask : Kind) (k : VKind)
-        → act x ≡ acting [] (Local l ask) (Loads l) Onward → begins (x ∷ xs) ≡ true
+        → act x ≡ acting [] (Local l ask) (Loads l) Onward → is_there (x ∷ xs) ≡ true
         → length stack ≤ room → kind_at locals l ≡ k → accepts ask k ≡ true
         → Walk xs guards (Some (framed locals (k ∷ stack)))
         → Walk (x ∷ xs) guards (Some (framed locals stack))
@@ -217,7 +218,7 @@ module _ (exc : List Name) (act : Item → Act) (at : ℕ → Sign) (many room :
 
     pub copies : (x : Item) (xs : List Item) (v : VKind) (stack : List VKind)
         → act x ≡ acting (kind.Anything ∷ []) also.Nothing Copies Onward
-        → begins (x ∷ xs) ≡ true → suc (length stack) ≤ room
+        → is_there (x ∷ xs) ≡ true → suc (length stack) ≤ room
         → Walk xs guards (Some (framed locals (v ∷ v ∷ stack)))
         → Walk (x ∷ xs) guards (Some (framed locals (v ∷ stack)))
     unfolding left_by accepts
@@ -227,7 +228,7 @@ module _ (exc : List Name) (act : Item → Act) (at : ℕ → Sign) (many room :
         (record { right = refl; takes = (refl, tt); also = tt }) tt w
 
     pub stores : (x : Item) (xs : List Item) (v : VKind) (l : ℕ) (ask : Kind)
-        → act x ≡ acting (ask ∷ []) (InRange l) (Stores l) Onward → begins (x ∷ xs) ≡ true
+        → act x ≡ acting (ask ∷ []) (InRange l) (Stores l) Onward → is_there (x ∷ xs) ≡ true
         → 1 ≤ room → accepts ask v ≡ true → l < length locals
         → Walk xs guards (Some (framed (slice_set locals l v) []))
         → Walk (x ∷ xs) guards (Some (framed locals (v ∷ [])))
@@ -261,7 +262,7 @@ module _ (exc : List Name) (act : Item → Act) (at : ℕ → Sign) (many room :
 
     -- behind it nothing lies
     pub ends : (x : Item) (xs : List Item) (stack : List VKind) (ks : List Kind) (asks : Also)
-        → act x ≡ acting ks asks (Gives []) Nowhere → begins (x ∷ xs) ≡ true
+        → act x ≡ acting ks asks (Gives []) Nowhere → is_there (x ∷ xs) ≡ true
         → length stack ≤ room → Front Accepts ks stack → AlsoFits exc asks (framed locals stack)
         → Walk xs guards None → Walk (x ∷ xs) guards (Some (framed locals stack))
     unfolding left_by

@@ -18,12 +18,13 @@ use Rattle.par_frame_pass_laws.specs.par_kinds.Kinds.{into, accepts}
 use Rattle.par_label_kind_laws.specs.par_agreement_laws.Laid.{kind_of}
 use Rattle.par_label_kind_laws.specs.par_agreement_laws.Laid as laid
 use Rattle.par_label_kind_laws.specs.Signs.{kind}
-use Rattle.par_label_kind_laws.specs.Tells.{asked, results, IsDeclared}
+use Rattle.par_label_kind_laws.specs.Tells.{asked, results}
+use Rattle.par_label_kind_laws.specs.par_body_laws.Types.{IsValue}
 
 pub same_name : (name : Name) → bytes_eq name name ≡ true
 same_name name = (bytes_eq-Decides name name).1 refl
 
-pub declared_value : (t : Ty) → IsDeclared t → t ≡ ty.Void → ⊥
+pub declared_value : (t : Ty) → IsValue t → t ≡ ty.Void → ⊥
 declared_value ty.Int d is = absurd (cc is)
 declared_value ty.Boolean d is = absurd (cc is)
 declared_value (ty.Class c) d is = absurd (cc is)

@@ -15,7 +15,8 @@ use Rattle.par_code_form.specs.Method.{labelled, first_scope}
 use Rattle.par_code_form.specs.Operands.{top}
 use Rattle.par_frame_pass_laws.specs.par_kinds.Kinds.{KFrame}
 use Rattle.par_frame_pass_laws.specs.par_kinds.Acts.{Act}
-use Rattle.par_label_kind_laws.specs.par_agreement_laws.Laid.{Layout, IsSet, TypedS}
+use Rattle.par_label_kind_laws.specs.par_agreement_laws.Laid.{Layout, TypedS}
+use Rattle.par_label_kind_laws.specs.par_body_laws.Locals.{IsSet}
 use Rattle.par_label_kind_laws.specs.Walks.{Sign}
 use Rattle.par_label_kind_laws.specs.Fits.{Fits}
 use Rattle.par_label_kind_laws.specs.Signs.{framed, kinds}

@@ -12,7 +12,7 @@ use Rattle.par_completes.specs.par_typed.declared.table.ClassInfo.{ClassInfo}
 use Rattle.par_completes.specs.par_typed.declared.table.Table.{Table}
 use Rattle.par_completes.specs.par_typed.Plain.{Mark, mark, TExp, MayTExp, Absent, Present, TExps}
 use Rattle.par_completes.specs.par_typed.Plain.{NoExps, More}
-use Rattle.par_body_laws.specs.Members.{field_at, channel_at, method_at}
+use Rattle.par_completes.specs.par_typed.Members.{field_at, channel_at, method_at}
 use Rattle.par_body_laws.specs.Locals.{IsSet}
 use Rattle.par_body_laws.specs.Types.{IsMarked, Is, IsValue, IsResult, Accepts, IsGiven}
 

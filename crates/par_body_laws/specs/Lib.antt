@@ -1,4 +1,3 @@
-pub mod Members
 pub mod Locals
 pub mod Types
 pub mod Names

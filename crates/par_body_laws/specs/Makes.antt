@@ -15,7 +15,7 @@ use Rattle.par_completes.specs.par_typed.Plain.{Close, SetLocal, SetStatic, SetF
 use Rattle.par_completes.specs.par_typed.Plain.{MayTSta, NoElse}
 use Rattle.par_completes.specs.par_typed.Plain.{Otherwise, TStas, End, Then, TCatches, NoCatch}
 use Rattle.par_completes.specs.par_typed.Plain.{Catch, Body}
-use Rattle.par_body_laws.specs.Members.{method_at}
+use Rattle.par_completes.specs.par_typed.Members.{method_at}
 
 abbrev pub IsOrdinary : Option ClassInfo → Type 0
 IsOrdinary None = ⊥

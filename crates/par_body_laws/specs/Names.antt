@@ -18,8 +18,8 @@ use Rattle.par_completes.specs.par_typed.Plain.{Close, SetLocal, SetStatic, SetF
 use Rattle.par_completes.specs.par_typed.Plain.{MayTSta, NoElse}
 use Rattle.par_completes.specs.par_typed.Plain.{Otherwise, TStas, End, Then, TCatches, NoCatch}
 use Rattle.par_completes.specs.par_typed.Plain.{Catch}
-use Rattle.par_body_laws.specs.Members.{IsClass}
-use Rattle.par_body_laws.specs.Members.{field_at, channel_at, method_at}
+use Rattle.par_completes.specs.par_typed.Members.{IsClass}
+use Rattle.par_completes.specs.par_typed.Members.{field_at, channel_at, method_at}
 
 -- ---- what a number should name
 

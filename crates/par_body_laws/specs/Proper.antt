@@ -17,7 +17,7 @@ use Rattle.par_completes.specs.par_typed.Plain.{MayTSta, NoElse}
 use Rattle.par_completes.specs.par_typed.Plain.{Otherwise, TStas, End, Then, TCatches, NoCatch}
 use Rattle.par_completes.specs.par_typed.Plain.{Catch, Body}
 use Rattle.par_completes.specs.Typed.{completes}
-use Rattle.par_body_laws.specs.Members.{method_at}
+use Rattle.par_completes.specs.par_typed.Members.{method_at}
 use Rattle.par_body_laws.specs.Locals.{arriving, arriving_sure, BeginsWith, set_by_call, behind}
 use Rattle.par_body_laws.specs.Types.{IsMarked, Is, IsValue, IsResult, IsEnded, Operates}
 use Rattle.par_body_laws.specs.Forms.{Setting, IsThis, IsNew, ReadsLocal, ReadsField, UsesChannel}

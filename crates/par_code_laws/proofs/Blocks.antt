@@ -25,7 +25,8 @@ use Rattle.par_code_form.specs.Code.{handlers, all_handlers}
 use Rattle.par_code_laws.proofs.Handlers.{outside, all_outside}
 use Rattle.par_evaluation_laws.proofs.Parts.{Setting}
 use Rattle.par_code_form.specs.Code.{Words, Loop, labels, code, all_code}
-use Rattle.par_evaluation_laws.specs.par_agreement_laws.Laid.{Layout, IsSet, TypedS, TypedAll}
+use Rattle.par_evaluation_laws.specs.par_agreement_laws.Laid.{Layout, TypedS, TypedAll}
+use Rattle.par_evaluation_laws.specs.par_body_laws.Locals.{IsSet}
 use Rattle.par_evaluation_laws.specs.par_agreement_laws.Laid.{behind}
 use Rattle.par_code_laws.proofs.Spans.{grows, all_grows, all_lives, ends}
 use Rattle.par_evaluation_laws.proofs.Parts.{M, at, Fit, wider}

@@ -54,7 +54,8 @@ use Rattle.par_code_form.specs.Code.{goes_on}
 use Rattle.par_code_form.specs.Code.{handlers}
 use Rattle.par_evaluation_laws.proofs.Parts.{Setting, Enters, fails}
 use Rattle.par_code_form.specs.Code.{Words, Loop, is_void, expr_code, code}
-use Rattle.par_evaluation_laws.specs.par_agreement_laws.Laid.{Layout, moved, HasType, IsSet, Typed}
+use Rattle.par_evaluation_laws.specs.par_agreement_laws.Laid.{Layout, moved, HasType, Typed}
+use Rattle.par_evaluation_laws.specs.par_body_laws.Locals.{IsSet}
 use Rattle.par_evaluation_laws.specs.par_agreement_laws.Laid.{TypedS}
 use Rattle.par_evaluation_laws.specs.par_agreement_laws.Laid.{behind, Accepts}
 use Rattle.par_evaluation_laws.proofs.par_agreement_laws.Good.{fit_less}

@@ -31,7 +31,8 @@ use Rattle.par_evaluation_laws.specs.par_match_laws.Labelled.{Labelled, Naming, 
 use Rattle.par_evaluation_laws.proofs.par_match_laws.Rules.{Matches, weaken, stopped_rule}
 use Rattle.par_evaluation_laws.proofs.par_match_laws.Steps.{Lives, Here, IsSound, P, here}
 use Rattle.par_evaluation_laws.proofs.par_match_laws.Steps.{leaves_turn}
-use Rattle.par_evaluation_laws.specs.par_agreement_laws.Laid.{Layout, Meth, moved, HasType, IsSet}
+use Rattle.par_evaluation_laws.specs.par_agreement_laws.Laid.{Layout, Meth, moved, HasType}
+use Rattle.par_evaluation_laws.specs.par_body_laws.Locals.{IsSet}
 use Rattle.par_evaluation_laws.specs.par_agreement_laws.Laid.{given_types}
 use Rattle.par_evaluation_laws.specs.par_agreement_laws.Agreement.{Lays, Fine}
 use Rattle.par_evaluation_laws.proofs.par_agreement_laws.Kept.{entered_fit}

@@ -18,7 +18,7 @@ use Rattle.par_typed.specs.declared.table.ClassInfo.{ClassInfo}
 use Rattle.par_typed.specs.declared.table.MethodInfo.{MethodInfo}
 use Rattle.par_typed.specs.declared.table.Table.{Table}
 use Rattle.par_typed.specs.Plain.{Body}
-use Rattle.par_body_laws.specs.Members.{methods_in, method_at}
+use Rattle.par_typed.specs.Members.{methods_in, method_at}
 use Rattle.par_run_laws.specs.Names.{body_of}
 use Rattle.par_placeable_laws.specs.par_typed_laws.Limits.{TakesFew, HaveFewParams, IsLimitedClass}
 use Rattle.par_placeable_laws.specs.par_typed_laws.Sizes.{IsSmallOf, IsSmallBody}

@@ -19,7 +19,8 @@ use Rattle.par_typed.specs.declared.table.ChannelInfo.{ChannelInfo}
 use Rattle.par_erase.specs.Shown.{Name, inputs_of_class}
 use Rattle.par_erase.specs.Asked.{Locks}
 use Rattle.par_erase.specs.Erased.{nothing, first_body, handed, classes_bodies, erased_sta}
-use Rattle.par_erase.specs.Erased.{inputs_among, channels_of}
+use Rattle.par_erase.specs.Erased.{inputs_among}
+use Rattle.par_typed.specs.Members.{channels_in as channels_of}
 use Rattle.par_erase.proofs.ExprForms.{left_more, left_none}
 use Rattle.par_erase.proofs.StmtForms.{erases}
 use Rattle.par_erase.proofs.Copies.{copies, none_behind, more_behind}

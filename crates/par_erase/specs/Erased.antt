@@ -1,13 +1,14 @@
 -- What is left of a typed program without policies, places, points and the locks that no `when`
 -- asks for.
 use Rattle.std.specs.Prelude.{ℕ, ◌+◌, Bool, true, false, not, if◌then◌else◌, List, [], ◌∷◌, ◌++◌}
-use Rattle.std.specs.Prelude.{Option, Some, None, map, length, take, drop, slice_get, count_by}
+use Rattle.std.specs.Prelude.{None, map, length, take, drop, slice_get, count_by}
 use Rattle.par_typed.specs.declared.table.ChannelInfo.{ChannelInfo}
 use Rattle.par_typed.specs.declared.table.ClassInfo.{ClassInfo}
 use Rattle.par_typed.specs.declared.table.FieldInfo.{FieldInfo}
 use Rattle.par_typed.specs.declared.table.MethodInfo.{MethodInfo}
 use Rattle.par_typed.specs.declared.table.ParamInfo.{ParamInfo}
 use Rattle.par_typed.specs.declared.table.Table.{Table}
+use Rattle.par_typed.specs.Members.{channels_in as channels_of}
 use Rattle.par_typed.specs.Plain.{Mark, TExp, Int, Boolean, Null, This, New, Local, Static, Field}
 use Rattle.par_typed.specs.Plain.{Input, Output, Call, Neg, Not, Binary}
 use Rattle.par_typed.specs.Plain.{MayTExp, Absent, Present, TExps, NoExps, More}
@@ -75,10 +76,6 @@ erased_table t = record {
   classes = map erased_class t.classes;
   main = t.main;
 }
-
-abbrev pub channels_of : Option ClassInfo → List ChannelInfo
-channels_of None = []
-channels_of (Some class) = class.channels
 
 abbrev pub nothing : TSta
 nothing = Block End 0 0

@@ -5,10 +5,11 @@ ghost use Rattle.std.specs.List.{AllByRecursion};
 ghost use Rattle.par_base.specs.Names.{IsName};
 ghost use Rattle.par_typed.specs.par_policy.Numbers.{has};
 ghost use Rattle.par_typed.specs.Shown.{bodies};
-ghost use Rattle.par_erase.specs.Shown.{does, method_info, class_info, own_bodies};
+ghost use Rattle.par_erase.specs.Shown.{does, method_info, param_info, class_info, own_bodies};
 ghost use Rattle.par_erase.specs.Named.{IsNamed, AreNamed};
 ghost use Rattle.par_erase.specs.Shown.{class_bodies, table_of, bodies_of};
-ghost use Rattle.par_erase.specs.Erased.{inputs_in, inputs_among, erased_method, erased_class};
+ghost use Rattle.par_erase.specs.Erased.{inputs_in, inputs_among, erased_param};
+ghost use Rattle.par_erase.specs.Erased.{erased_method, erased_class};
 ghost use Rattle.par_erase.specs.Erased.{erased_table, erased_bodies, first_body, handed};
 ghost use Rattle.par_erase.specs.Erased.{classes_bodies};
 
@@ -19,9 +20,11 @@ use crate::stmt::PStmt;
 use crate::stmts::erase_stmt;
 use par_base::list::List;
 use par_base::memory::NoMemory;
+use par_base::name::Name;
 use par_typed::par_policy::Lockset;
 use par_typed::program::{TBody, Typed};
 use par_typed::table::{ClassInfo, MethodInfo, Table};
+use par_typed::ty::Ty;
 use std::alloc::Global;
 
 // What is left of the body at this place; where none is, nothing is done.
@@ -42,17 +45,40 @@ fn erase_body(
     }
 }
 
+// What a method has beside its body.
+#[derive(Drop)]
+struct Head {
+    name: Name,
+    params: List<Ty>,
+    locals: List<Ty>,
+}
+
+fn erase_head(alloc: Global, method: &MethodInfo) -> Result<Head, NoMemory>
+    ensures name { IfOk result (λ h. h.name ≡ method.now.name) }
+    ensures named { IfOk result (λ h. IsName h.name) }
+    ensures params { IfOk result (λ h.
+        map param_info h.params ≡ map erased_param method.now.params) }
+    ensures locals { IfOk result (λ h. h.locals ≡ method.now.locals) }
+{
+    Ok(Head {
+        name: copy_name(alloc, &method.name)?,
+        params: erase_params(alloc, method.params.as_slice())?,
+        locals: copy_types(alloc, method.locals.as_slice())?,
+    })
+}
+
 fn erase_method(alloc: Global, method: &MethodInfo, body: PStmt) -> Result<PlainMethod, NoMemory>
     ensures info { IfOk result (λ m. method_info m ≡ erased_method method.now) }
     ensures named { IfOk result (λ m. IsName m.name) }
     ensures body { IfOk result (λ m. m.body ≡ body) }
 {
+    let head = erase_head(alloc, method)?;
     Ok(PlainMethod {
-        name: copy_name(alloc, &method.name)?,
+        name: head.name,
         is_static: method.is_static,
         result: method.result,
-        params: erase_params(alloc, method.params.as_slice())?,
-        locals: copy_types(alloc, method.locals.as_slice())?,
+        params: head.params,
+        locals: head.locals,
         body,
     })
 }

@@ -8,7 +8,7 @@ use Rattle.std.proofs.lemmas.Option.{slice_get-map}
 use Rattle.par_typed.specs.declared.table.ChannelInfo.{ChannelInfo}
 use Rattle.par_typed.specs.declared.table.ClassInfo.{ClassInfo}
 use Rattle.par_typed.specs.declared.table.Table.{Table}
-use Rattle.par_body_laws.specs.Members.{channel_at, channels_in}
+use Rattle.par_typed.specs.Members.{channel_at, channels_in}
 use Rattle.par_run_laws.specs.Names.{Name, channel_member, channel_of, channel_named}
 use Rattle.par_erase.specs.Shown.{channel_info}
 use Rattle.par_erase.specs.Erased.{erased_table, erased_class, erased_channels, inputs_among}

@@ -12,7 +12,7 @@ use Rattle.par_values.specs.declared.value.MVal.{MVal}
 use Rattle.par_values.specs.declared.value.MVal.TheVariants as value
 use Rattle.par_values.specs.Areas.{number_of, value_or_null}
 use Rattle.par_values.specs.Arithmetic.{negated}
-use Rattle.par_body_laws.specs.Members.{method_at}
+use Rattle.par_typed.specs.Members.{method_at}
 use Rattle.par_body_laws.specs.Locals.{IsSet, arriving_sure}
 use Rattle.par_body_laws.specs.Forms.{Setting, IsReceiver, AreArguments}
 use Rattle.par_body_laws.specs.Proper.{ExpIsProper, MayExpIsProper, ExpsAreProper}

@@ -12,7 +12,7 @@ use Rattle.par_typed.specs.declared.table.MethodInfo.{MethodInfo}
 use Rattle.par_typed.specs.declared.table.ParamInfo.{ParamInfo}
 use Rattle.par_typed.specs.declared.table.Table.{Table}
 use Rattle.par_typed.specs.Plain.{TSta, Body}
-use Rattle.par_body_laws.specs.Members.{method_at}
+use Rattle.par_typed.specs.Members.{method_at}
 use Rattle.par_body_laws.specs.Locals.{arrivals, set_by_call, arriving_sure, BeginsWith}
 use Rattle.par_body_laws.specs.Forms.{Setting}
 use Rattle.par_body_laws.specs.Proper.{IsProperOf, IsProper}

@@ -14,7 +14,7 @@ use Rattle.par_values.specs.declared.value.MVal.TheVariants as value
 use Rattle.par_values.specs.Areas.{value_or_null, next, left}
 use Rattle.par_secrecy.specs.Runs.{Run}
 use Rattle.par_secrecy.specs.Secure.{events}
-use Rattle.par_body_laws.specs.Members.{channel_at}
+use Rattle.par_typed.specs.Members.{channel_at}
 use Rattle.par_run_laws.specs.State.{State, put, set_local, set_result, set_static, set_field}
 use Rattle.par_run_laws.specs.State.{with_object, take_input, opened, closed, open_lock, close_lock}
 use Rattle.par_run_laws.specs.State.{entered, restored}

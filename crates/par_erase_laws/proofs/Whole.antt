@@ -13,7 +13,7 @@ use Rattle.par_values.specs.declared.value.MVal.{MVal}
 use Rattle.par_secrecy.specs.Runs.{Run}
 use Rattle.par_secrecy.specs.Secure.{events}
 use Rattle.par_secrecy.specs.Shows.{shown_run}
-use Rattle.par_body_laws.specs.Members.{methods_in}
+use Rattle.par_typed.specs.Members.{methods_in}
 use Rattle.par_body_laws.specs.Locals.{arriving_sure}
 use Rattle.par_typed_laws.specs.Beginning.{mains, IsMainOf}
 use Rattle.par_typed_laws.specs.WellTyped.{IsWellTyped}

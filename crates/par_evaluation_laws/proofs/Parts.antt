@@ -36,7 +36,8 @@ use Rattle.par_agreement_laws.specs.par_match_laws.Labelled.{found}
 use Rattle.par_agreement_laws.specs.par_match_laws.Labelled.{silent, stands}
 use Rattle.par_agreement_laws.specs.par_code_form.Code.{Words, is_number, is_void, test_code}
 use Rattle.par_agreement_laws.specs.par_code_form.Code.{expr_code}
-use Rattle.par_agreement_laws.specs.Laid.{Layout, moved, HasType, IsSet, Typed}
+use Rattle.par_agreement_laws.specs.Laid.{Layout, moved, HasType, Typed}
+use Rattle.par_agreement_laws.specs.par_body_laws.Locals.{IsSet}
 use Rattle.par_agreement_laws.proofs.par_match_laws.Rules.{Told, Matches, spend_rule, spent}
 use Rattle.par_agreement_laws.proofs.par_match_laws.Steps.{Lives, Here, next, Distinct, IsSound, P}
 use Rattle.par_agreement_laws.proofs.par_match_laws.Steps.{here}

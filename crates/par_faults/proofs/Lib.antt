@@ -7,6 +7,7 @@ pub mod Listed
 pub mod Headed
 pub mod Joined
 pub mod Few
+pub mod Within
 pub mod Passes
 pub mod Kept
 pub mod Written

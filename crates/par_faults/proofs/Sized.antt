@@ -8,9 +8,9 @@ use Rattle.par_tree.specs.Plain.{Declare, Assign, Do, When, Braces, In, MayBrace
 use Rattle.par_tree.specs.Plain.{Method}
 use Rattle.par_tree.specs.Plain.{Else, NoElse, Otherwise, Stas, End, Then, Catches, NoCatch, Catch}
 use Rattle.par_tree.specs.Plain.{Handler, On}
-use Rattle.par_faults.specs.Locals.{locals_in, braces_locals, may_braces_locals}
-use Rattle.par_faults.specs.Locals.{else_locals, all_locals, catch_locals, handler_locals}
-use Rattle.par_faults.specs.Locals.{method_locals}
+use Rattle.par_scope.specs.Own.{locals_in, braces_locals, may_braces_locals}
+use Rattle.par_scope.specs.Own.{else_locals, all_locals, catches_locals, handler_locals}
+use Rattle.par_scope.specs.Own.{method_locals}
 
 mutual
   unfolding locals_in stmt_nodes
@@ -31,7 +31,7 @@ mutual
   stmt_few (Do call at) = omega arith
   stmt_few (When lock b o at) = omega (arith, braces_few b, may_few o)
 
-  braces_few : (b : Braces) → braces_locals b ≤ braces_nodes b
+  pub braces_few : (b : Braces) → braces_locals b ≤ braces_nodes b
   braces_few (In ss at) = omega (arith, all_few ss)
 
   may_few : (o : MayBraces) → may_braces_locals o ≤ may_braces_nodes o
@@ -46,7 +46,7 @@ mutual
   all_few End = omega arith
   all_few (Then s ss) = omega (arith, stmt_few s, all_few ss)
 
-  catches_few : (cs : Catches) → catch_locals cs ≤ catch_nodes cs
+  catches_few : (cs : Catches) → catches_locals cs ≤ catch_nodes cs
   catches_few NoCatch = omega arith
   catches_few (Catch c cs) = omega (arith, handler_few c, catches_few cs)
 

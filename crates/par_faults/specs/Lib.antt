@@ -1,4 +1,3 @@
-pub mod Locals
 pub mod Limits
 pub mod Heads
 pub mod Mains

@@ -14,7 +14,7 @@ use Rattle.par_faults.specs.declared.limit.Limit.{Limit}
 use Rattle.par_faults.specs.declared.limit.TheConstants.{ACTORS, LOCKS, CLASSES, MEMBERS}
 use Rattle.par_faults.specs.declared.limit.TheConstants.{METHODS, NODES, CLASS_NODES, PARAMS}
 use Rattle.par_faults.specs.declared.limit.TheConstants.{LOCALS}
-use Rattle.par_faults.specs.Locals.{method_locals}
+use Rattle.par_scope.specs.Own.{method_locals}
 
 -- ---- limits on names: the one too many is told
 

@@ -4,7 +4,7 @@ ghost use Rattle.std.specs.Prelude.{◌≡◌, ◌<◌, ◌^◌};
 ghost use Rattle.par_tree.specs.Shown.{does, braces, otherwise, may_braces, all_do, all_catch};
 ghost use Rattle.par_tree.specs.Shown.{handler};
 ghost use Rattle.par_tree.specs.Shown as tree;
-ghost use Rattle.par_faults.specs.Locals as count;
+ghost use Rattle.par_scope.specs.Own as count;
 
 use par_tree::decl::MethodDecl;
 use par_tree::stmt::{Block, CatchTree, Stmt, StmtKind};
@@ -18,7 +18,7 @@ pub fn locals(method: &MethodDecl) -> u32
 }
 
 #[cycle(stmt)]
-#[tactic(auto, using(par_tree::proofs::Shown::doings), unfolding(crate::specs::Locals::locals_in))]
+#[tactic(auto, using(par_tree::proofs::Shown::doings), unfolding(par_scope::specs::Own::locals_in))]
 fn in_block(block: &Block) -> u32
     requires { count.braces_locals (braces block.now) < 2 ^ 32 }
     ensures { result ≡ count.braces_locals (braces block.now) }
@@ -27,7 +27,7 @@ fn in_block(block: &Block) -> u32
 }
 
 #[cycle(stmt)]
-#[tactic(auto, using(par_tree::proofs::Shown::doings), unfolding(crate::specs::Locals::locals_in))]
+#[tactic(auto, using(par_tree::proofs::Shown::doings), unfolding(par_scope::specs::Own::locals_in))]
 fn in_stmts(stmts: &[Stmt]) -> u32
     requires { count.all_locals (all_do stmts.now) < 2 ^ 32 }
     ensures { result ≡ count.all_locals (all_do stmts.now) }
@@ -40,7 +40,7 @@ fn in_stmts(stmts: &[Stmt]) -> u32
 }
 
 #[cycle(stmt)]
-#[tactic(auto, using(par_tree::proofs::Shown::doings), unfolding(crate::specs::Locals::locals_in))]
+#[tactic(auto, using(par_tree::proofs::Shown::doings), unfolding(par_scope::specs::Own::locals_in))]
 fn in_stmt(stmt: &Stmt) -> u32
     requires { count.locals_in (does stmt.now) < 2 ^ 32 }
     ensures { result ≡ count.locals_in (does stmt.now) }
@@ -63,7 +63,7 @@ fn in_stmt(stmt: &Stmt) -> u32
 }
 
 #[cycle(stmt)]
-#[tactic(auto, using(par_tree::proofs::Shown::doings), unfolding(crate::specs::Locals::locals_in))]
+#[tactic(auto, using(par_tree::proofs::Shown::doings), unfolding(par_scope::specs::Own::locals_in))]
 fn in_else(other: &Option<Box<Stmt>>) -> u32
     requires { count.else_locals (otherwise other.now) < 2 ^ 32 }
     ensures { result ≡ count.else_locals (otherwise other.now) }
@@ -75,7 +75,7 @@ fn in_else(other: &Option<Box<Stmt>>) -> u32
 }
 
 #[cycle(stmt)]
-#[tactic(auto, using(par_tree::proofs::Shown::doings), unfolding(crate::specs::Locals::locals_in))]
+#[tactic(auto, using(par_tree::proofs::Shown::doings), unfolding(par_scope::specs::Own::locals_in))]
 fn in_else_block(other: &Option<Block>) -> u32
     requires { count.may_braces_locals (may_braces other.now) < 2 ^ 32 }
     ensures { result ≡ count.may_braces_locals (may_braces other.now) }
@@ -87,10 +87,10 @@ fn in_else_block(other: &Option<Block>) -> u32
 }
 
 #[cycle(stmt)]
-#[tactic(auto, using(par_tree::proofs::Shown::doings), unfolding(crate::specs::Locals::locals_in))]
+#[tactic(auto, using(par_tree::proofs::Shown::doings), unfolding(par_scope::specs::Own::locals_in))]
 fn in_catches(catches: &[CatchTree]) -> u32
-    requires { count.catch_locals (all_catch catches.now) < 2 ^ 32 }
-    ensures { result ≡ count.catch_locals (all_catch catches.now) }
+    requires { count.catches_locals (all_catch catches.now) < 2 ^ 32 }
+    ensures { result ≡ count.catches_locals (all_catch catches.now) }
 {
     let mut locals = 0;
     for catch in catches {
@@ -100,7 +100,7 @@ fn in_catches(catches: &[CatchTree]) -> u32
 }
 
 #[cycle(stmt)]
-#[tactic(auto, using(par_tree::proofs::Shown::doings), unfolding(crate::specs::Locals::locals_in))]
+#[tactic(auto, using(par_tree::proofs::Shown::doings), unfolding(par_scope::specs::Own::locals_in))]
 fn in_catch(catch: &CatchTree) -> u32
     requires { count.handler_locals (handler catch.now) < 2 ^ 32 }
     ensures { result ≡ count.handler_locals (handler catch.now) }

@@ -125,16 +125,43 @@ fn check_declarations(
     Ok(())
 }
 
-/// The first broken rule on names of a program.
+// Notes the broken rules on names of a program, of which all this is declared.
 #[tactic(auto, using(par_names::proofs::Noted::note))]
+fn check_names(
+    alloc: Global,
+    builtins: &[ClassDecl],
+    all: &Declared<'_>,
+    program: &Program,
+    findings: &mut Findings,
+) -> Result<(), NoMemory>
+    requires builtins { map class_of builtins.now ≡ names.builtins }
+    requires shown { ShowsProgram names.builtins (source program.now) all.now }
+    ensures { OnOk result (findings.new
+        ≡ first_of findings.old (name_faults (source program.now))) }
+{
+    check_second(alloc, builtins, program, findings)?;
+    check_declarations(alloc, all, program, findings)?;
+    check_mains(alloc, program, findings)
+}
+
+fn first_broken(
+    alloc: Global,
+    builtins: &[ClassDecl],
+    program: &Program,
+) -> Result<Option<Refusal>, NoMemory>
+    requires { map class_of builtins.now ≡ names.builtins }
+    ensures { IfOk result (λ first. first ≡ first_of None (name_faults (source program.now))) }
+{
+    let all = Declared::of(alloc, builtins, program)?;
+    let mut findings = Findings::new();
+    check_names(alloc, builtins, &all, program, &mut findings)?;
+    Ok(findings.first())
+}
+
+/// The first broken rule on names of a program.
 pub fn first_broken_name(alloc: Global, program: &Program) -> Result<Option<Refusal>, NoMemory>
     ensures { IfOk result (λ first. first ≡ first_of None (name_faults (source program.now))) }
 {
-    let mut findings = Findings::new();
     let builtins = builtin_classes(alloc)?;
-    let all = Declared::of(alloc, builtins.as_slice(), program)?;
-    check_second(alloc, builtins.as_slice(), program, &mut findings)?;
-    check_declarations(alloc, &all, program, &mut findings)?;
-    check_mains(alloc, program, &mut findings)?;
-    Ok(findings.first())
+    first_broken(alloc, builtins.as_slice(), program)
 }

@@ -7,7 +7,7 @@ use Rattle.par_typed.specs.declared.table.ClassInfo.{ClassInfo}
 use Rattle.par_typed.specs.declared.table.MethodInfo.{MethodInfo}
 use Rattle.par_typed.specs.declared.table.Table.{Table}
 use Rattle.par_typed.specs.Plain.{TSta, Body}
-use Rattle.par_body_laws.specs.Members.{methods_in, method_at}
+use Rattle.par_typed.specs.Members.{methods_in, method_at}
 use Rattle.par_file_run_laws.specs.par_typed_laws.Control.{IsControlled}
 use Rattle.par_erase.specs.Asked.{Locks, asked_in}
 use Rattle.par_erase.specs.Erased.{erased_table, erased_sta, erased_bodies}

@@ -50,12 +50,12 @@ use Rattle.par_body_frame_laws.specs.par_kinds.Linked.{result_of, taken_by, stat
 use Rattle.par_body_frame_laws.specs.par_kinds.Linked.{given_to}
 use Rattle.par_body_frame_laws.specs.par_kinds.Linked.{arguments_of}
 use Rattle.par_body_frame_laws.specs.par_label_kind_laws.Signs.{kind, kinds}
-use Rattle.par_body_frame_laws.specs.par_label_kind_laws.Tells.{IsDeclared}
+use Rattle.par_body_laws.specs.Types.{IsValue}
 use Rattle.par_item_act_laws.specs.Laws.{AreDescribed}
 
 -- ---- types
 
-value_declared : (table : Table) (t : Ty) → IsValueType table t → IsDeclared t
+value_declared : (table : Table) (t : Ty) → IsValueType table t → IsValue t
 value_declared table ty.Int h = tt
 value_declared table ty.Boolean h = tt
 value_declared table (ty.Class c) h = tt
@@ -98,9 +98,9 @@ module _ (table : Table) (bodies : List Body) (files : List ClassFile)
   w = words_of table
 
   field_declared : (c n : ℕ) (s : Stands table bodies files c n) (f : ℕ) (shared : Bool) (u : Ty)
-      → FieldIn s.class f shared u → IsDeclared u
+      → FieldIn s.class f shared u → IsValue u
   field_declared c n s f shared u is =
-      subst IsDeclared is.type
+      subst IsValue is.type
       (value_declared table is.info.ty
       ((known.classes c s.class s.there).fields f is.info is.has))
 

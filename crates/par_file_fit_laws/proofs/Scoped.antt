@@ -14,7 +14,8 @@ use Rattle.par_typed.specs.Plain.{TSta}
 use Rattle.par_code_form.specs.Code.{Words}
 use Rattle.par_code_form.specs.Frames.{Types}
 use Rattle.par_code_form.specs.Method.{first_scope, set_by_call}
-use Rattle.par_body_frame_laws.specs.par_agreement_laws.Laid.{IsSet, given_types}
+use Rattle.par_body_frame_laws.specs.par_agreement_laws.Laid.{given_types}
+use Rattle.par_body_laws.specs.Locals.{IsSet}
 use Rattle.par_item_act_laws.specs.par_evaluation_laws.Programs.{first_set}
 use Rattle.par_file_run_laws.specs.par_source_code_laws.Methods.{meth, local_type}
 use Rattle.par_body_frame_laws.specs.par_kinds.declared.frame.VKind.{VKind}

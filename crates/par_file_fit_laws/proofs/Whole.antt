@@ -26,7 +26,7 @@ use Rattle.par_code_form.specs.Code.{Words}
 use Rattle.par_code_form.specs.Named.{class_word, words_of}
 use Rattle.par_place_laws.specs.Placed.{offset_of, IsPlaced}
 use Rattle.par_body_frame_laws.specs.par_agreement_laws.Laid.{Layout, IsThrown}
-use Rattle.par_file_run_laws.specs.par_source_code_laws.Methods.{is_exception}
+use Rattle.par_typed.specs.Members.{class_is_exception}
 use Rattle.par_file_run_laws.specs.par_compile_laws.Files.{FIRST_DECLARED, IsMethodOf}
 use Rattle.par_file_run_laws.specs.par_compile_laws.Members.{Member, channel, method, methods_from}
 use Rattle.par_file_run_laws.specs.par_compile_laws.Members.{members}
@@ -115,9 +115,9 @@ module _ (t : Table) (all : List Body) (files : List ClassFile) (are : AreLoaded
       listed exception =
           let thrown : IsThrown lay c =
           ap (λ (o : Option ℕ).
-          (is_some o || nat_lt c FIRST_DECLARED) && is_exception (slice_get plain.classes c))
+          (is_some o || nat_lt c FIRST_DECLARED) && class_is_exception (slice_get plain.classes c))
           s.placed
-          ∙ ap is_exception s.there ∙ exception in
+          ∙ ap class_is_exception s.there ∙ exception in
           (named_items_tell files w lay plain (compiled parts t all files are).lays
           (described plain plain_bodies files its_known (compiled parts t all files are))
           ty.Void).thrown c thrown

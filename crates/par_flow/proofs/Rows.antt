@@ -21,7 +21,7 @@ use Rattle.par_rounds.specs.declared.exits.Exit.{Exit}
 use Rattle.par_rounds.specs.declared.fact.Fact as code
 use Rattle.par_rounds.specs.Seen.{seen_exit, seen_exits, seen_fact, seen_facts}
 use Rattle.par_rounds.specs.Bodies.{AreLeastClosed}
-use Rattle.par_rounds.specs.Orderly.{locals_in}
+use Rattle.par_flow_laws.specs.Orderly.{locals_in}
 use Rattle.par_flow.specs.declared.kept.KeptWay.{KeptWay}
 use Rattle.par_flow.specs.declared.kept.KeptWays.{KeptWays}
 use Rattle.par_flow.specs.declared.table.Row.{Row}

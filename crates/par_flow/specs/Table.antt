@@ -12,7 +12,7 @@ use Rattle.par_flow_laws.specs.Facts.{Fact, Facts, blank}
 use Rattle.par_envs.specs.Numbered.{envs, AreDifferent}
 use Rattle.par_rounds.specs.Bodies.{AreLeastClosed}
 use Rattle.par_flow.specs.Standing.{Standing}
-use Rattle.par_rounds.specs.Orderly.{locals_in}
+use Rattle.par_flow_laws.specs.Orderly.{locals_in}
 use Rattle.par_flow.specs.declared.kept.KeptWay.{KeptWay}
 use Rattle.par_flow.specs.declared.kept.KeptWays.{KeptWays}
 use Rattle.par_flow.specs.declared.table.Row.{Row}

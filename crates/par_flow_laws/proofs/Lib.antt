@@ -1,1 +1,2 @@
+pub mod Methods
 pub use Rattle.par_typed.proofs as par_typed

@@ -2,9 +2,9 @@
 
 ghost use Rattle.std.specs.Prelude.{◌≡◌, List as Items};
 ghost use Rattle.par_values.specs.Areas.{Name};
-ghost use Rattle.par_kinds.specs.Kinds.{accepts, kind_at};
+ghost use Rattle.par_kinds.specs.Kinds.{accepts};
 ghost use Rattle.par_frame_steps.specs.par_frame_pass_laws.Passes.{takes_fit, also_fits, act_fits};
-ghost use Rattle.par_frame_steps.specs.Marks.{kind_of, kinds_of, frame_of};
+ghost use Rattle.par_frame_steps.specs.Marks.{kind_of, operands_of, frame_of};
 ghost use Rattle.par_frame_moves.specs.declared.brief.Takes.TheVariants as takes;
 ghost use Rattle.par_frame_moves.specs.Briefs.{want_of, takes_of, also_of, act_of};
 
@@ -25,55 +25,35 @@ impl Want {
     }
 }
 
-/// The kind of a place, where those that are not listed hold anything.
-fn kind_at<'f>(kinds: &[PlaceKind<'f>], place: usize) -> PlaceKind<'f>
-    ensures { kind_of result ≡ kind_at (kinds_of kinds.entry.now) place }
+/// Whether the operand that was pushed last is of a kind.
+fn one_fits(want: Want, stack: &[PlaceKind]) -> bool
+    ensures { result ≡ takes_fit (takes_of (takes.One want)) (operands_of stack.now) }
 {
-    match kinds.get(place) {
-        Some(kind) => *kind,
-        None => PlaceKind::Top,
+    match stack.split_last() {
+        Some((kind, _)) => want.accepts(*kind),
+        None => false,
     }
 }
 
-/// The kind of a local.
-#[tactic(auto, using(par_frame_steps::proofs::Padded::padded_at))]
-pub(crate) fn local<'f>(frame: &PlaceFrame<'f>, local: u8) -> PlaceKind<'f>
-    ensures { kind_of result ≡ kind_at (frame_of frame.entry.now).locals local }
+/// Whether the two operands that were pushed last are.
+fn two_fit(want: Want, stack: &[PlaceKind]) -> bool
+    ensures { result ≡ takes_fit (takes_of (takes.Two want)) (operands_of stack.now) }
 {
-    kind_at(&frame.locals, local as usize)
-}
-
-/// The kind of the operand that was pushed last.
-pub(crate) fn operand<'f>(frame: &PlaceFrame<'f>) -> PlaceKind<'f>
-    ensures { kind_of result ≡ kind_at (frame_of frame.entry.now).stack 0 }
-{
-    kind_at(&frame.stack, 0)
-}
-
-/// Whether an operand of a kind comes first.
-#[tactic(auto)]
-fn one_fits(want: Want, stack: &[PlaceKind]) -> bool
-    ensures { result ≡ takes_fit (takes_of (takes.One want)) (kinds_of stack.now) }
-{
-    match stack.split_first() {
-        Some((kind, _)) => want.accepts(*kind),
+    match stack.split_last() {
+        Some((kind, rest)) => want.accepts(*kind) && one_fits(want, rest),
         None => false,
     }
 }
 
 impl Takes {
     /// Whether operands of these kinds can be taken.
-    #[tactic(auto)]
     fn fits(self, stack: &[PlaceKind]) -> bool
-        ensures { result ≡ takes_fit (takes_of self) (kinds_of stack.now) }
+        ensures { result ≡ takes_fit (takes_of self) (operands_of stack.now) }
     {
         match self {
             Takes::Nothing => true,
             Takes::One(want) => one_fits(want, stack),
-            Takes::Two(want) => match stack.split_first() {
-                Some((kind, rest)) => want.accepts(*kind) && one_fits(want, rest),
-                None => false,
-            },
+            Takes::Two(want) => two_fit(want, stack),
         }
     }
 }
@@ -85,8 +65,8 @@ impl Work {
             result ≡ also_fits exceptions (also_of self) (frame_of frame.now) }
     {
         match self {
-            Work::Load(x, want) => want.accepts(local(frame, x)),
-            Work::Increase(x) => local(frame, x).is_int(),
+            Work::Load(x, want) => want.accepts(frame.local(x)),
+            Work::Increase(x) => frame.local(x).is_int(),
             Work::Store(x) => (x as usize) < frame.places(),
             _ => true,
         }

@@ -1,5 +1,6 @@
 pub mod Landed
 pub mod Puts
+pub mod Sparing
 pub mod Tabled
 pub mod Told
 pub mod Visits

@@ -46,7 +46,7 @@ module _ (exc : List Name) (act : Instr → Act) (handler_kind : Catch → VKind
         (λ h. ⊎_elim (λ put. absurd (cc (put.1))) (λ there. there)
         (put-found t at n None k (ap (λ r. frame_at r n) (sym h.1) ∙ e))) is
 
-    taken-others : (n : ℕ) → (n ≡ at → ⊥) → frame_at s n ≡ frame_at t n
+    pub taken-others : (n : ℕ) → (n ≡ at → ⊥) → frame_at s n ≡ frame_at t n
     taken-others n other =
         ⊎_elim (λ same. ap (λ r. frame_at r n) same)
         (λ h. ap (λ r. frame_at r n) h.1 ∙ put-others t at n None other) is
@@ -141,7 +141,7 @@ module _ (exc : List Name) (act : Instr → Act) (handler_kind : Catch → VKind
         onward-met u k l tos below each.1,
       )
 
-  handled-met : (u : Given) (at : ℕ) (k l : KFrame) (cs : List Catch) → FrameInto exc k l
+  pub handled-met : (u : Given) (at : ℕ) (k l : KFrame) (cs : List Catch) → FrameInto exc k l
       → Each (λ c. around at c ≡ true → CatchFits exc act handler_kind code u l c) cs
       → Each (Met exc act handler_kind code start u)
       (handled exc act handler_kind code start at k cs)
@@ -185,7 +185,7 @@ module _ (exc : List Name) (act : Instr → Act) (handler_kind : Catch → VKind
         met-onward u k tos each.1,
       )
 
-  met-handled : (u : Given) (at : ℕ) (k : KFrame) (cs : List Catch)
+  pub met-handled : (u : Given) (at : ℕ) (k : KFrame) (cs : List Catch)
       → Each (Met exc act handler_kind code start u)
       (handled exc act handler_kind code start at k cs)
       → Each (λ c. around at c ≡ true → CatchFits exc act handler_kind code u k c) cs
@@ -398,6 +398,44 @@ module _ (exc : List Name) (act : Instr → Act) (handler_kind : Catch → VKind
           (subst (λ (g : Flow). Went exc act handler_kind code start at
           (onward exc act handler_kind code start l (next_offsets g at d.size))
           q (Ok b) r) is_flow other)))
+
+      abbrev On : List Way → Table → Course → Table → Type 0
+      On ws t c s = Went exc act handler_kind code start at ws t (Ok c) s
+
+      -- what the handlers make of a table holds of what the instruction makes of it, if it stays
+      -- where a table is calm
+      pub visited-then : (l : KFrame) → l ≡ left → (f : Flow) → f ≡ (act d.instr).flow
+          → (q r : Table) (a b : Course) → joined a b ≡ course.Calm → On aside s a q
+          → On (onward exc act handler_kind code start l (next_offsets f at d.size)) q b r
+          → KeptIn t → (P : Table → Type 0)
+          → (a ≡ course.Calm → KeptIn s → Each (Meets exc act handler_kind code start) aside → P q)
+          → (Calm at q r → P q → P r) → P r
+      visited-then l is_left f is_flow q r course.Refused b calm one other kept P made on =
+          absurd (cc calm)
+      visited-then l is_left f is_flow q r (course.Rises n) course.Refused calm one other kept P
+          made on = absurd (cc calm)
+      visited-then l is_left f is_flow q r (course.Rises n) course.Calm calm one other kept P
+          made on = absurd (cc calm)
+      visited-then l is_left f is_flow q r (course.Rises n) (course.Rises m) calm one other kept P
+          made on = absurd (cc calm)
+      visited-then l is_left f is_flow q r course.Calm b calm one other kept P made on =
+          let from = taken-kept fixed at t s is fixes kept in
+          let aside_meets =
+          each-first (Meets exc act handler_kind code start) aside ahead (meets kept) in
+          let ahead_meets =
+          each-last (Meets exc act handler_kind code start) aside ahead (meets kept) in
+          let first = one from aside_meets in
+          let then : On ahead q course.Calm r =
+          subst (λ (j : KFrame). On
+          (onward exc act handler_kind code start j (next_offsets (act d.instr).flow at d.size))
+          q course.Calm r) is_left
+          (subst (λ (g : Flow). On
+          (onward exc act handler_kind code start l (next_offsets g at d.size))
+          q course.Calm r) is_flow
+          (subst (λ (c : Course). On
+          (onward exc act handler_kind code start l (next_offsets f at d.size)) q c r) calm other))
+          in
+          on (then first.0 ahead_meets).1 (made refl from aside_meets)
 
   -- ---- all instructions
 

@@ -1,4 +1,5 @@
 pub mod Methods
+pub mod Sparing
 pub mod Sweeps
 pub mod Tables
 pub mod Telling

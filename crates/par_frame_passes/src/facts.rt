@@ -1,11 +1,9 @@
 //! What is known before all pieces, which goes on from each before which it rose until none rises.
 
-use crate::before::Before;
-use crate::classes::Classes;
-use crate::small_kind::SmallKind;
 use crate::spots::{Spot, Way};
 use par_base::memory::NoMemory;
 use par_frame_steps::PlaceFrame;
+use par_small_kinds::{Before, Classes, SmallKind};
 use std::alloc::Global;
 
 /// How many kinds are kept, before nothing is guessed.
@@ -73,15 +71,12 @@ impl Facts {
         if self.kinds > MOST_KINDS {
             return Ok(());
         }
-        let operands = frame.stack.len();
-        let places = self.locals.saturating_add(operands);
+        let places = self.locals.saturating_add(frame.stack.len());
         let mut before = Before::unset(alloc, self.locals, places)?;
         for place in 0..places {
             let kind = match place.checked_sub(self.locals) {
                 None => frame.locals.get(place),
-                Some(below) => frame
-                    .stack
-                    .get(operands.saturating_sub(below.saturating_add(1))),
+                Some(below) => frame.stack.get(below),
             };
             let kind = match kind {
                 Some(kind) => classes.small(*kind)?,

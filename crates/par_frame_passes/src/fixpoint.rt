@@ -11,6 +11,7 @@ use crate::back::{back_offsets, is_marked, mark};
 use crate::course::Course;
 use crate::guess::guessed;
 use crate::method::Method;
+use crate::spared::{begun_offsets, forget};
 use crate::told_frames::{standing, told};
 use crate::visit::visit;
 use par_base::memory::NoMemory;
@@ -33,6 +34,8 @@ fn least<'f>(
         (code_in method.now) start found) }
 {
     let mut back = back_offsets(alloc, method)?;
+    let begun = begun_offsets(alloc, method)?;
+    let mut spared: Option<PlaceFrame<'f>> = None;
     let mut at = 0;
     let mut again = false;
     // Frames rise seldom enough: the steps never come to an end.
@@ -43,13 +46,16 @@ fn least<'f>(
             }
             at = 0;
             again = false;
+            spared = None;
         } else {
-            match visit(alloc, method, table, at, is_marked(&back, at))? {
+            forget(&mut spared, is_marked(&begun, at));
+            match visit(alloc, method, table, &mut spared, at, is_marked(&back, at))? {
                 Course::Refused => return Ok(false),
                 Course::Calm => at += 1,
                 Course::Rises(to) => {
                     mark(&mut back, to);
                     again = true;
+                    spared = None;
                     at = to.min(at + 1);
                 }
             }

@@ -8,14 +8,13 @@ ghost use Rattle.std.specs.Prelude.{◌≤◌, length};
 ghost use Rattle.par_frame_passes.specs.Methods.{code_in};
 
 use crate::back::{back_offsets, is_marked};
-use crate::before::Before;
-use crate::classes::Classes;
 use crate::facts::Facts;
 use crate::method::Method;
 use crate::spots::{Spot, spots};
 use crate::table::kept;
 use par_base::memory::NoMemory;
 use par_frame_steps::{PlaceFrame, PlaceKind};
+use par_small_kinds::{Before, Classes};
 use std::alloc::Global;
 
 /// How much is looked at for each byte of code, before nothing is guessed.
@@ -113,8 +112,7 @@ impl<'f> Sketch<'_, 'f> {
         many: usize,
     ) -> Result<PlaceFrame<'f>, NoMemory> {
         let locals = self.kinds(alloc, before, 0, self.facts.locals)?;
-        let mut stack = self.kinds(alloc, before, self.facts.locals, before.operands())?;
-        stack.as_mut_slice().reverse();
+        let stack = self.kinds(alloc, before, self.facts.locals, before.operands())?;
         Ok(PlaceFrame {
             many,
             locals,

@@ -68,7 +68,7 @@ fn anew<'f>(method: &Method<'_, 'f>, at: u32, way: PlaceWay<'f>) -> Landing<'f>
 {
     let fits = method.starts.has(at)
         && way.frame.places() == method.code.max_locals as usize
-        && way.frame.stack.len() <= method.code.max_stack as usize;
+        && way.frame.operands() <= method.code.max_stack as usize;
     if !fits {
         return Landing::Refused;
     }

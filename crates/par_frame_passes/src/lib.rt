@@ -7,10 +7,7 @@
 #![tactic(auto)]
 
 mod back;
-mod before;
-mod classes;
 mod course;
-mod effect;
 mod facts;
 mod fixpoint;
 mod goes;
@@ -19,7 +16,7 @@ mod landings;
 mod method;
 mod outcome;
 mod piece;
-mod small_kind;
+mod spared;
 mod spots;
 mod table;
 mod told_frames;

@@ -70,7 +70,8 @@ fn left_by_act<'f>(
     if !act.fits(method.exceptions, &frame) {
         return Ok(None);
     }
-    let frame = act.left(alloc, &frame)?;
+    let mut frame = frame;
+    act.leave(alloc, &mut frame)?;
     let flow = act.flow;
     Ok(Some(Left { frame, flow }))
 }

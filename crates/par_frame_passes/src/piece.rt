@@ -4,8 +4,6 @@ ghost use Rattle.std.specs.Prelude.{◌≤◌, length};
 ghost use Rattle.par_frame_passes.specs.Methods.{code_in};
 
 use crate::back::{is_marked, mark};
-use crate::classes::Classes;
-use crate::effect::Effect;
 use crate::method::Method;
 use crate::table::kept;
 use par_base::memory::NoMemory;
@@ -13,6 +11,7 @@ use par_class::file::Catch;
 use par_frame_acts::act;
 use par_frame_steps::{Flow, PlaceFrame};
 use par_instr::{Instr, decode};
+use par_small_kinds::{Classes, Effect};
 use par_starts::distance;
 use std::alloc::Global;
 

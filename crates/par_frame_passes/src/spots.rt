@@ -4,17 +4,15 @@ ghost use Rattle.std.specs.Prelude.{◌≤◌, length};
 ghost use Rattle.par_frame_passes.specs.Methods.{code_in};
 
 use crate::back::is_marked;
-use crate::classes::Classes;
-use crate::effect::Effect;
 use crate::goes::is_around;
 use crate::method::Method;
 use crate::piece::{Goals, heads, piece_at};
-use crate::small_kind::SmallKind;
 use crate::table::kept;
 use par_base::memory::NoMemory;
 use par_class::file::Catch;
 use par_frame_acts::caught;
 use par_frame_steps::PlaceFrame;
+use par_small_kinds::{Classes, Effect, SmallKind};
 use std::alloc::Global;
 
 /// How many ways are kept, before nothing is guessed.

@@ -23,7 +23,7 @@ fn is_filled(method: &Method, frame: &PlaceFrame) -> bool
         && nat_le (length (frame_of frame.now).stack) (code_in method.now).max_stack) }
 {
     frame.places() == method.code.max_locals as usize
-        && frame.stack.len() <= method.code.max_stack as usize
+        && frame.operands() <= method.code.max_stack as usize
 }
 
 /// Whether a frame can stand at an offset.

@@ -1,5 +1,5 @@
 pub mod Into
 pub mod Lists
-pub mod Left
 pub mod Padded
+pub mod Turned
 pub use Rattle.par_frame_pass_laws.proofs.par_kinds as par_kinds

@@ -8,26 +8,12 @@ use Rattle.std.proofs.lemmas.Bool.{and_parts}
 use Rattle.par_values.specs.Areas.{Name}
 use Rattle.par_kinds.specs.declared.frame.VKind.{VKind}
 use Rattle.par_kinds.specs.declared.frame.VKind.TheVariants as kind
-use Rattle.par_kinds.specs.Kinds.{into, accepts, kind_at}
-use Rattle.par_frame_pass_laws.specs.Passes.{all_into, merge_all, takes_fit}
+use Rattle.par_kinds.specs.Kinds.{into, kind_at}
+use Rattle.par_frame_pass_laws.specs.Passes.{all_into, merge_all}
 use Rattle.par_frame_steps.specs.declared.kind.PlaceKind.{PlaceKind}
-use Rattle.par_frame_steps.specs.declared.act.Asked.{Asked}
-use Rattle.par_frame_steps.specs.Marks.{kind_of, kinds_of, asked_of}
+use Rattle.par_frame_steps.specs.Marks.{kind_of, kinds_of}
 use Rattle.par_frame_steps.specs.Listed.{listed_into}
 use Rattle.par_frame_steps.proofs.Padded.{merge_none}
-
-and-false : (b : Bool) → (b && false) ≡ false
-and-false true = refl
-and-false false = refl
-
--- of too few operands none are taken
-pub takes-few : (qs : List Asked) (ks : List PlaceKind) → length ks < length qs
-    → takes_fit (map asked_of qs) (kinds_of ks) ≡ false
-takes-few [] ks few = absurd (omega (arith, few))
-takes-few (q ∷ qs) [] few = refl
-takes-few (q ∷ qs) (k ∷ ks) few =
-    ap (λ b. accepts (asked_of q) (kind_of k) && b) (takes-few qs ks (omega (arith, few)))
-    ∙ and-false (accepts (asked_of q) (kind_of k))
 
 -- lists of other lengths fit nowhere
 pub all-many : (exc : List Name) (ks ls : List PlaceKind)

@@ -1,5 +1,5 @@
 -- The kinds, frames and acts that a verifier keeps, as those that they stand for.
-use Rattle.std.specs.Prelude.{ℕ, List, [], ◌∷◌, Option, Some, None, map}
+use Rattle.std.specs.Prelude.{ℕ, List, [], ◌∷◌, Option, Some, None, map, reverse}
 use Rattle.std.specs.Borrow.{Bor}
 use Rattle.par_values.specs.Areas.{Name}
 use Rattle.par_values.specs.declared.kind.Kind.{Kind}
@@ -40,8 +40,12 @@ kinds_of kinds = map kind_of kinds
 abbrev pub locals_of : PlaceFrame → List VKind
 locals_of f = padded f.many (kinds_of f.locals.items)
 
+-- the operand that was pushed last stands last
+abbrev pub operands_of : List PlaceKind → List VKind
+operands_of kinds = reverse (kinds_of kinds)
+
 abbrev pub frame_of : PlaceFrame → KFrame
-frame_of f = record { locals = locals_of f; stack = kinds_of f.stack.items }
+frame_of f = record { locals = locals_of f; stack = operands_of f.stack.items }
 
 -- ---- acts
 

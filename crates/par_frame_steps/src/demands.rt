@@ -1,9 +1,9 @@
 //! Whether an instruction can be run on every frame of some kinds.
 
-ghost use Rattle.std.specs.Prelude.{◌≡◌, map};
+ghost use Rattle.std.specs.Prelude.{◌≡◌, ◌-◌, [], ◌∷◌, length, take, map};
 ghost use Rattle.par_kinds.specs.Kinds.{accepts, kind_at};
 ghost use Rattle.par_frame_pass_laws.specs.Passes.{takes_fit, also_fits, act_fits};
-ghost use Rattle.par_frame_steps.specs.Marks.{names, kind_of, kinds_of, frame_of};
+ghost use Rattle.par_frame_steps.specs.Marks.{names, kind_of, operands_of, frame_of};
 ghost use Rattle.par_frame_steps.specs.Marks.{asked_of, also_of, act_of};
 
 use crate::act::{Act, Also, Asked};
@@ -23,36 +23,55 @@ impl Asked<'_> {
             Asked::Anything => true,
         }
     }
+
+    /// Whether the operand that was pushed last is one that is asked for.
+    fn accepts_last(self, stack: &[PlaceKind]) -> bool
+        ensures { result ≡ takes_fit (asked_of self.entry ∷ []) (operands_of stack.now) }
+    {
+        match stack.split_last() {
+            Some((kind, _)) => self.accepts(*kind),
+            None => false,
+        }
+    }
 }
 
 impl<'f> PlaceFrame<'f> {
     /// The kind of a local.
     #[tactic(auto, using(crate::proofs::Padded::padded_at))]
-    pub(crate) fn local(&self, local: u8) -> PlaceKind<'f>
+    pub fn local(&self, local: u8) -> PlaceKind<'f>
         ensures { kind_of result ≡ kind_at (frame_of self.now).locals local }
     {
         kind_at(&self.locals, local as usize)
     }
 
     /// The kind of the operand that was pushed last.
-    pub(crate) fn operand(&self) -> PlaceKind<'f>
+    pub fn operand(&self) -> PlaceKind<'f>
         ensures { kind_of result ≡ kind_at (frame_of self.now).stack 0 }
     {
-        kind_at(&self.stack, 0)
+        match self.stack.split_last() {
+            Some((kind, _)) => *kind,
+            None => PlaceKind::Top,
+        }
     }
 }
 
-/// Whether operands of these kinds can be taken.
-fn takes_fit(takes: &[Asked], stack: &[PlaceKind]) -> bool
-    ensures { result ≡ takes_fit (map asked_of takes.now) (kinds_of stack.now) }
+/// The operands below the one that was pushed last.
+fn below<'s, 'f>(stack: &'s [PlaceKind<'f>]) -> &'s [PlaceKind<'f>]
+    ensures { result.now ≡ take (length stack.entry.now - 1) stack.entry.now }
 {
-    if stack.len() < takes.len() {
-        return false;
-    }
-    for (place, asked) in takes.iter().enumerate() {
-        if !asked.accepts(stack[place]) {
+    &stack[..stack.len().saturating_sub(1)]
+}
+
+/// Whether operands of these kinds can be taken, of which the last pushed stands last.
+fn takes_fit(takes: &[Asked], stack: &[PlaceKind]) -> bool
+    ensures { result ≡ takes_fit (map asked_of takes.now) (operands_of stack.now) }
+{
+    let mut rest = stack;
+    for asked in takes {
+        if !asked.accepts_last(rest) {
             return false;
         }
+        rest = below(rest);
     }
     true
 }

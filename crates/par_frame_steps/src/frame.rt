@@ -5,13 +5,14 @@ ghost use Rattle.par_frame_pass_laws.specs.Passes.{all_into, merge_all, frame_in
 ghost use Rattle.par_kinds.specs.Kinds.{kind_at};
 ghost use Rattle.par_frame_pass_laws.specs.Passes.{same_lengths};
 ghost use Rattle.par_frame_steps.specs.Listed.{listed_into};
-ghost use Rattle.par_frame_steps.specs.Marks.{names, kind_of, kinds_of, locals_of, frame_of};
+ghost use Rattle.par_frame_steps.specs.Marks.{names, kind_of, kinds_of, operands_of, locals_of};
+ghost use Rattle.par_frame_steps.specs.Marks.{frame_of};
 
 use crate::kind::PlaceKind;
 use par_base::memory::NoMemory;
 use std::alloc::Global;
 
-/// What locals and operands hold; the operand that was pushed last comes first. Locals that are not
+/// What locals and operands hold; the operand that was pushed last stands last. Locals that are not
 /// listed hold anything, so that a frame takes no memory for them.
 #[derive(Drop)]
 pub struct PlaceFrame<'f> {
@@ -104,7 +105,7 @@ impl<'f> PlaceFrame<'f> {
 
     /// Whether its locals fit into those of another.
     #[tactic(auto, using(crate::proofs::Padded::padded_into, crate::proofs::Padded::padded_differ))]
-    fn locals_fit_into(&self, exceptions: &[&[u8]], other: &PlaceFrame) -> bool
+    pub fn locals_fit_into(&self, exceptions: &[&[u8]], other: &PlaceFrame) -> bool
         ensures { result
             ≡ all_into (names exceptions.now) (locals_of self.now) (locals_of other.now) }
     {
@@ -114,18 +115,27 @@ impl<'f> PlaceFrame<'f> {
         listed_into(exceptions, &self.locals, &other.locals)
     }
 
+    /// How many operands there are.
+    #[tactic(auto, using(crate::proofs::Turned::operands_many))]
+    pub fn operands(&self) -> usize
+        ensures { result ≡ length (frame_of self.now).stack }
+    {
+        self.stack.len()
+    }
+
     /// Whether it fits into another.
     pub fn fits_into(&self, exceptions: &[&[u8]], other: &PlaceFrame) -> bool
         ensures { result
             ≡ frame_into (names exceptions.now) (frame_of self.now) (frame_of other.now) }
     {
-        self.locals_fit_into(exceptions, other) && all_into(exceptions, &self.stack, &other.stack)
+        self.locals_fit_into(exceptions, other) && self.operands_fit_into(exceptions, other)
     }
 
     /// Whether its operands fit into those of another.
+    #[tactic(auto, using(crate::proofs::Turned::turned_into))]
     pub fn operands_fit_into(&self, exceptions: &[&[u8]], other: &PlaceFrame) -> bool
-        ensures { result ≡ all_into (names exceptions.now) (kinds_of self.now.stack.items)
-            (kinds_of other.now.stack.items) }
+        ensures { result ≡ all_into (names exceptions.now) (frame_of self.now).stack
+            (frame_of other.now).stack }
     {
         all_into(exceptions, &self.stack, &other.stack)
     }
@@ -134,7 +144,22 @@ impl<'f> PlaceFrame<'f> {
     pub fn has_lengths_of(&self, other: &PlaceFrame) -> bool
         ensures { result ≡ same_lengths (frame_of self.now) (frame_of other.now) }
     {
-        self.places() == other.places() && self.stack.len() == other.stack.len()
+        self.places() == other.places() && self.operands() == other.operands()
+    }
+
+    /// The least kinds into which the operands of both fit, of as many.
+    fn merged_operands(
+        &self,
+        alloc: Global,
+        exceptions: &[&[u8]],
+        other: &PlaceFrame<'f>,
+    ) -> Result<Vec<PlaceKind<'f>>, NoMemory>
+        requires { length (frame_of self.now).stack ≡ length (frame_of other.now).stack }
+        ensures { IfOk result (λ all. operands_of all.items
+            ≡ merge_all (names exceptions.now) (frame_of self.now).stack
+            (frame_of other.now).stack) }
+    {
+        merged(alloc, exceptions, &self.stack, &other.stack)
     }
 
     /// The least frame into which both fit, where both have as many locals and operands.
@@ -152,7 +177,7 @@ impl<'f> PlaceFrame<'f> {
         Ok(PlaceFrame {
             many: self.places(),
             locals: merged(alloc, exceptions, &self.locals, &other.locals)?,
-            stack: merged(alloc, exceptions, &self.stack, &other.stack)?,
+            stack: self.merged_operands(alloc, exceptions, other)?,
         })
     }
 

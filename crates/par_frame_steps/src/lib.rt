@@ -6,6 +6,7 @@
 #![tactic(auto)]
 
 pub mod act;
+mod changes;
 mod demands;
 pub mod frame;
 pub mod kind;

@@ -10,7 +10,7 @@ use Rattle.par_typed.specs.declared.table.ClassInfo.{ClassInfo}
 use Rattle.par_typed.specs.declared.table.MethodInfo.{MethodInfo}
 use Rattle.par_typed.specs.declared.table.Table.{Table}
 use Rattle.par_typed.specs.Plain.{TSta, Body}
-use Rattle.par_body_laws.specs.Members.{method_at}
+use Rattle.par_typed.specs.Members.{method_at}
 use Rattle.par_body_laws.specs.Proper.{IsProper}
 use Rattle.par_needed_frame_laws.specs.par_typed_laws.Control.{StaReached, IsControlled}
 use Rattle.par_needed_frame_laws.specs.par_typed_laws.WellTyped.{IsWellTyped}

@@ -12,7 +12,7 @@ use Rattle.par_typed.specs.declared.table.ClassInfo.{ClassInfo}
 use Rattle.par_typed.specs.declared.table.MethodInfo.{MethodInfo}
 use Rattle.par_typed.specs.declared.table.Table.{Table}
 use Rattle.par_typed.specs.Plain.{TSta, Body}
-use Rattle.par_body_laws.specs.Members.{methods_in, method_at}
+use Rattle.par_typed.specs.Members.{methods_in, method_at}
 use Rattle.par_body_laws.specs.Locals.{BeginsWith, arriving}
 use Rattle.par_run_laws.specs.Names.{body_of}
 use Rattle.par_erase.specs.Erased.{erased_table, erased_bodies, erased_method}

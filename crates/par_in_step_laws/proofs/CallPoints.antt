@@ -12,7 +12,7 @@ use Rattle.par_flow_laws.specs.Declares.{Thrown as DThrown, method_of, methods_o
 use Rattle.par_typed.specs.declared.table.ParamInfo.{ParamInfo}
 use Rattle.par_flow_laws.specs.Closed as closed
 use Rattle.par_values.specs.Areas.{value_or_null}
-use Rattle.par_body_laws.specs.Members.{method_at, methods_in}
+use Rattle.par_typed.specs.Members.{method_at, methods_in}
 use Rattle.par_body_laws.specs.Names.{is_present, IsCalled}
 use Rattle.par_two_run_laws.specs.Watched.{IsThere}
 use Rattle.par_body_laws.specs.Names.{how_many}

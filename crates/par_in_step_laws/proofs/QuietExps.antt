@@ -4,7 +4,7 @@ use Rattle.std.specs.Prelude.{IsTrue}
 use Rattle.par_flow_laws.specs.Kinds as kind
 use Rattle.par_flow_laws.specs.Kinds.{Kind}
 use Rattle.par_flow_laws.specs.Facts.{Facts}
-use Rattle.par_body_laws.specs.Members.{method_at}
+use Rattle.par_typed.specs.Members.{method_at}
 use Rattle.par_body_laws.specs.Names.{ExpsName}
 use Rattle.par_body_laws.specs.Makes.{ExpsMake}
 use Rattle.par_flow_laws.specs.Rules as rules

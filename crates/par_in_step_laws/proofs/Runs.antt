@@ -5,7 +5,7 @@ use Rattle.par_bits.specs.Sets.{none}
 use Rattle.par_flow_laws.specs.Ways.{MayFlow}
 use Rattle.par_flow_laws.specs.Facts.{Facts}
 use Rattle.par_flow_laws.specs.Closed as closed
-use Rattle.par_body_laws.specs.Members.{method_at}
+use Rattle.par_typed.specs.Members.{method_at}
 use Rattle.par_two_run_laws.specs.Watched.{IsThere}
 use Rattle.par_flow_laws.specs.Declares.{Method}
 use Rattle.par_flow_laws.specs.Rules as rules
@@ -28,7 +28,7 @@ use Rattle.par_in_step_laws.proofs.Needs.{StaReady}
 use Rattle.par_body_laws.specs.Makes.{StaMakes}
 use Rattle.par_secrecy.specs.Runs.{Witnessed}
 use Rattle.par_run_laws.specs.Names.{channel_named}
-use Rattle.par_body_laws.specs.Members.{channel_at}
+use Rattle.par_typed.specs.Members.{channel_at}
 use Rattle.par_body_laws.specs.Names.{IsChannel}
 use Rattle.par_two_run_laws.proofs.Lists.{agree_nil, agree_at}
 use Rattle.par_two_run_laws.proofs.States.{Watch, Agrees, Any, Explained, Frame, Opened, Sees}

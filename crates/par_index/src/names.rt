@@ -1,10 +1,13 @@
-ghost use Rattle.std.specs.Prelude.{◌≡◌, IfOk};
+ghost use Rattle.std.specs.Prelude.{◌≡◌, ◌<◌, length, IfOk};
 ghost use Rattle.std.specs.List.{position};
 ghost use Rattle.std.specs.Str.{bytes_eq};
-ghost use Rattle.par_index.specs.Texts.{texts, has};
+ghost use Rattle.par_index.specs.Texts.{texts, same_text, has};
+ghost use Rattle.par_index.specs.Firsts.{AreFirst};
 ghost use Rattle.par_index.specs.Placed.{ArePlaced};
+ghost use Rattle.par_index.specs.declared.search.TheConstants.{FEW};
 
 use crate::firsts::Firsts;
+use crate::search::{FEW, search};
 use par_base::memory::NoMemory;
 use par_base::name::Name;
 use std::alloc::Global;
@@ -13,8 +16,21 @@ use std::alloc::Global;
 #[derive(Drop)]
 pub struct NameIndex<'a> {
     names: Vec<&'a [u8]>,
+    /// Where each name stands first, if there are many. A few names are searched.
     firsts: Firsts<&'a [u8]>,
-    ghost placed: { ArePlaced names.items firsts },
+    ghost placed: { FEW < length names.items → ArePlaced names.items firsts },
+}
+
+// Where each name stands first, if there are many.
+fn places<'a>(alloc: Global, names: &[&'a [u8]]) -> Result<Firsts<&'a [u8]>, NoMemory>
+    ensures { IfOk result (λ firsts.
+        FEW < length names.now → AreFirst same_text names.now firsts) }
+{
+    if names.len() <= FEW {
+        Firsts::of(alloc, &[])
+    } else {
+        Firsts::of(alloc, names)
+    }
 }
 
 impl<'a> NameIndex<'a> {
@@ -22,7 +38,7 @@ impl<'a> NameIndex<'a> {
     pub fn of(alloc: Global, names: Vec<&'a [u8]>) -> Result<NameIndex<'a>, NoMemory>
         ensures { IfOk result (λ index. texts index.names.items ≡ texts names.entry.items) }
     {
-        let firsts = Firsts::of(alloc, names.as_slice())?;
+        let firsts = places(alloc, names.as_slice())?;
         Ok(NameIndex { names, firsts })
     }
 
@@ -37,6 +53,11 @@ impl<'a> NameIndex<'a> {
     pub fn place(&self, name: &Name) -> Option<usize>
         ensures { result ≡ position (bytes_eq name.now) (texts self.now.names.items) }
     {
-        self.firsts.place(&name.bytes())
+        let names = self.names.as_slice();
+        if names.len() <= FEW {
+            search(names, name)
+        } else {
+            self.firsts.place(&name.bytes())
+        }
     }
 }

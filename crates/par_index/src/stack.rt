@@ -4,6 +4,7 @@ ghost use Rattle.std.specs.Str.{bytes_eq};
 ghost use Rattle.par_index.specs.Texts.{has, texts};
 ghost use Rattle.par_index.specs.Stacked.{standing};
 
+use crate::search::{FEW, search};
 use indexmap::IndexMap;
 use par_base::memory::NoMemory;
 use par_base::name::Name;
@@ -62,9 +63,13 @@ impl<'a> NameStack<'a> {
     pub fn place(&self, name: &Name) -> Option<usize>
         ensures { result ≡ position (bytes_eq name.now) self.now }
     {
+        let names = self.names.as_slice();
+        if names.len() <= FEW {
+            return search(names, name);
+        }
         match self.firsts.get(&name.bytes()) {
             None => None,
-            Some(place) => standing(self.names.as_slice(), *place, name),
+            Some(place) => standing(names, *place, name),
         }
     }
 

@@ -8,7 +8,7 @@ ghost use Rattle.par_table_laws.specs.Inferred.{inferred};
 ghost use Rattle.par_reached.specs.Reached.{AreLeastSets, set_at};
 ghost use Rattle.par_typed.specs.Shown as shown;
 ghost use Rattle.par_check.specs.par_check_laws.Right.{AreAllRight};
-ghost use Rattle.par_rounds.specs.Orderly.{IsOrderlyBody};
+ghost use Rattle.par_flow_laws.specs.Orderly.{IsOrderlyBody};
 ghost use Rattle.par_infer.specs.Bounds.{bounds};
 ghost use Rattle.par_infer.specs.Inferred.{IsInferred, IsRefused};
 ghost use Rattle.par_infer.specs.Judged.{IsJudged};

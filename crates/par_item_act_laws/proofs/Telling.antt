@@ -61,13 +61,14 @@ use Rattle.par_placed_fit_laws.specs.par_kinds.Linked.{acted, also_received, kin
 use Rattle.par_placed_fit_laws.specs.par_kinds.Linked.{results_of}
 use Rattle.par_placed_fit_laws.specs.par_kinds.Linked.{exception_names}
 use Rattle.par_placed_fit_laws.specs.par_label_kind_laws.Signs as signs
-use Rattle.par_placed_fit_laws.specs.par_label_kind_laws.Tells.{IsDeclared, acting, giving, results}
+use Rattle.par_placed_fit_laws.specs.par_label_kind_laws.Tells.{acting, giving, results}
+use Rattle.par_evaluation_laws.specs.par_body_laws.Types.{IsValue}
 use Rattle.par_item_act_laws.specs.Acts.{item_act}
 use Rattle.par_item_act_laws.specs.Laws.{AreDescribed, NamedItemsTell}
 
 -- ---- kinds
 
-declared_kind : (w : Words) (t : Ty) → IsDeclared t → vkind (kind_of w t) ≡ signs.kind w t
+declared_kind : (w : Words) (t : Ty) → IsValue t → vkind (kind_of w t) ≡ signs.kind w t
 declared_kind w ty.Int h = refl
 declared_kind w ty.Boolean h = refl
 declared_kind w (ty.Class c) h = refl

@@ -22,7 +22,8 @@ use Rattle.par_evaluation_laws.specs.par_agreement_laws.Laid.{IsMade, IsThrown}
 use Rattle.par_evaluation_laws.specs.par_agreement_laws.Agreement.{Lays}
 use Rattle.par_evaluation_laws.specs.Programs.{given_kind}
 use Rattle.par_placed_fit_laws.specs.par_kinds.Linked.{acted, named_by, result_of, exception_names}
-use Rattle.par_placed_fit_laws.specs.par_label_kind_laws.Tells.{IsDeclared, Tells}
+use Rattle.par_placed_fit_laws.specs.par_label_kind_laws.Tells.{Tells}
+use Rattle.par_evaluation_laws.specs.par_body_laws.Types.{IsValue}
 use Rattle.par_placed_fit_laws.specs.Given.{aimed}
 use Rattle.par_item_act_laws.specs.Acts.{item_act}
 
@@ -37,8 +38,8 @@ ItemsActAsPlaced =
 
 -- fields have types of values, and methods give what their descriptors say
 pub record AreDescribed (files : List ClassFile) (w : Words) (lay : Layout) : Type 0 where
-  pub static_declared : (c f : ℕ) (u : Ty) → HasStatic lay c f u → IsDeclared u
-  pub own_declared : (c f : ℕ) (u : Ty) → HasOwn lay c f u → IsDeclared u
+  pub static_declared : (c f : ℕ) (u : Ty) → HasStatic lay c f u → IsValue u
+  pub own_declared : (c f : ℕ) (u : Ty) → HasOwn lay c f u → IsValue u
   pub given : (c i : ℕ) (me : Meth) → HasMethod lay c i me
       → result_of files (lay.number c) (lay.method_at c i) ≡ given_kind w me.result
   pub result : (c i : ℕ) (me : Meth) → HasMethod lay c i me → me.result ≡ ty.Null → ⊥

@@ -33,6 +33,7 @@ use Rattle.par_frame_laws.specs.par_kinds.Acts.{Nowhere}
 use Rattle.par_frame_laws.specs.par_kinds.Acts as also
 use Rattle.par_agreement_laws.specs.Laid.{Layout, Meth, HasMethod, HasStatic, HasOwn, IsMade}
 use Rattle.par_agreement_laws.specs.Laid.{IsThrown}
+use Rattle.par_agreement_laws.specs.par_body_laws.Types.{IsValue}
 use Rattle.par_agreement_laws.specs.Laid.{IsInput, IsOutput, IsLock, kind_of}
 use Rattle.par_label_kind_laws.specs.Signs as signs
 
@@ -51,14 +52,6 @@ asked t = if is_number t then kind.Number else kind.AnyObject
 -- what a result of a type leaves
 abbrev pub results : Words → Ty → List VKind
 results w t = if is_void t then [] else signs.kind w t ∷ []
-
--- a class or a number, but neither null nor nothing
-abbrev pub IsDeclared : Ty → Type 0
-IsDeclared ty.Int = Unit {0}
-IsDeclared ty.Boolean = Unit {0}
-IsDeclared (ty.Class c) = Unit {0}
-IsDeclared ty.Null = ⊥
-IsDeclared ty.Void = ⊥
 
 -- of a method that gives that, where the exceptions have these names
 pub record Tells (exc : List Name) (act : Item → Act) (w : Words) (lay : Layout) (result : Ty)
@@ -130,5 +123,5 @@ pub record Tells (exc : List Name) (act : Item → Act) (w : Words) (lay : Layou
       → act (LockOp PUTSTATIC l) ≡ giving (kind.Number ∷ []) []
   pub thrown : (c : ℕ) → IsThrown lay c → is_in exc (w.class c) ≡ true
   -- what members hold
-  pub static_declared : (c f : ℕ) (u : Ty) → HasStatic lay c f u → IsDeclared u
-  pub own_declared : (c f : ℕ) (u : Ty) → HasOwn lay c f u → IsDeclared u
+  pub static_declared : (c f : ℕ) (u : Ty) → HasStatic lay c f u → IsValue u
+  pub own_declared : (c f : ℕ) (u : Ty) → HasOwn lay c f u → IsValue u

@@ -1,5 +1,5 @@
 -- Frames of kinds that fit labelled code, item by item.
-use Rattle.std.specs.Prelude.{◌≡◌, ℕ, ◌≤◌, Bool, true, false, List, [], ◌∷◌, drop, length}
+use Rattle.std.specs.Prelude.{◌≡◌, ℕ, ◌≤◌, true, List, [], ◌∷◌, drop, length}
 use Rattle.std.specs.Prelude.{Option, Some, None}
 use Rattle.par_values.specs.Areas.{Name}
 use Rattle.par_code_form.specs.declared.item.Item.{Item}
@@ -10,6 +10,7 @@ use Rattle.par_frame_laws.specs.par_kinds.declared.frame.VKind.TheVariants.{Obje
 use Rattle.par_frame_laws.specs.par_kinds.Kinds.{KFrame, Into, Both, Each, FrameInto}
 use Rattle.par_frame_laws.specs.par_kinds.Acts.{Act, ActFits, Flow, Onward, Jumps, Branches}
 use Rattle.par_frame_laws.specs.par_kinds.Acts.{Nowhere, left_by}
+use Rattle.par_agreement_laws.specs.par_match_laws.Labelled.{is_there}
 
 -- what a label is to the handlers of code
 pub data Role : Type 0 where
@@ -43,17 +44,12 @@ abbrev pub EndsAt : ℕ → List Guard → Type 0
 EndsAt l [] = ⊥
 EndsAt l (g ∷ guards) = g.to ≡ l
 
-abbrev pub begins : List Item → Bool
-begins [] = false
-begins (Label l ∷ items) = false
-begins (item ∷ items) = true
-
 -- a range ends where it is said to, and an instruction is the first of a handler
 abbrev pub Plays : Role → ℕ → List Item → List Guard → Type 0
 Plays Plain l items guards = Unit {0}
 Plays (Opens to locals) l items guards = Unit {0}
 Plays Closes l items guards = EndsAt l guards
-Plays Catches l items guards = begins items ≡ true
+Plays Catches l items guards = is_there items ≡ true
 
 -- what lies behind a label
 abbrev pub behind_label : Option KFrame → Option KFrame → Option KFrame

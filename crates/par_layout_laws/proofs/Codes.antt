@@ -14,7 +14,7 @@ use Rattle.par_typed.specs.declared.table.ClassInfo.{ClassInfo}
 use Rattle.par_typed.specs.declared.table.MethodInfo.{MethodInfo}
 use Rattle.par_typed.specs.declared.table.Table.{Table}
 use Rattle.par_typed.specs.Plain.{TSta, Body}
-use Rattle.par_body_laws.specs.Members.{channels_in, methods_in}
+use Rattle.par_typed.specs.Members.{channels_in, methods_in}
 use Rattle.par_class.specs.declared.file.ClassFile.{ClassFile}
 use Rattle.par_values.specs.Areas.{Name}
 use Rattle.par_run_laws.specs.Names.{body_of, main_of}
@@ -40,7 +40,8 @@ use Rattle.par_descriptor_laws.specs.Laws as said
 use Rattle.par_descriptor_laws.proofs.Described.{methods_are_described}
 use Rattle.par_compile_laws.specs.Members.{Member, above, members, methods_from, channel, method}
 use Rattle.par_compile_laws.specs.Members as form
-use Rattle.par_source_code_laws.specs.Methods.{meth, may_meth, meth_at, IsCodeOf, is_exception}
+use Rattle.par_source_code_laws.specs.Methods.{meth, may_meth, meth_at, IsCodeOf}
+use Rattle.par_typed.specs.Members.{class_is_exception}
 use Rattle.par_layout_laws.specs.Layout.{file_place, is_loaded, number_of, layout_of}
 use Rattle.par_layout_laws.specs.Code.{class_of, code_or_none, code_of, members_of, members_in}
 use Rattle.par_layout_laws.specs.Code.{code_at, labelled_of}
@@ -266,7 +267,7 @@ module _ (table : Table) (bodies : List Body) (files : List ClassFile)
         let found = here table bodies files known x
         (chosen (is_loaded files table x) (Some 0) at placed).0 in
         init-at table bodies files known x found.0 found.1 at true
-        (ap is_exception (sym found.1.there)
+        (ap class_is_exception (sym found.1.there)
         ∙ thrown-exception table bodies files known x thrown) placed;
   }
 

@@ -11,8 +11,8 @@ use Rattle.par_base.specs.Names.{IsName}
 use Rattle.par_typed.specs.declared.table.ClassInfo.{ClassInfo}
 use Rattle.par_typed.specs.declared.table.Table.{Table}
 use Rattle.par_typed.specs.Plain.{TSta, Body}
-use Rattle.par_body_laws.specs.Members.{fields_in, channels_in, methods_in, field_at, channel_at}
-use Rattle.par_body_laws.specs.Members.{method_at}
+use Rattle.par_typed.specs.Members.{fields_in, channels_in, methods_in, field_at, channel_at}
+use Rattle.par_typed.specs.Members.{method_at}
 use Rattle.par_pool.specs.Entries.{IsClassAt}
 use Rattle.par_class.specs.declared.file.Catch.{Catch}
 use Rattle.par_class.specs.declared.file.ClassFile.{ClassFile}
@@ -39,7 +39,8 @@ use Rattle.par_source_code_laws.specs.Named.{Named, Made, Raised, OfClass, OfObj
 use Rattle.par_source_code_laws.specs.Named.{Calls}
 use Rattle.par_source_code_laws.specs.Named.{Uses, EachInSta}
 use Rattle.par_source_code_laws.specs.Items.{ItemPasses, HandlerPasses, NamedPasses}
-use Rattle.par_source_code_laws.specs.Methods.{may_meth, meth_at, is_ordinary, is_exception}
+use Rattle.par_source_code_laws.specs.Methods.{may_meth, meth_at, is_ordinary}
+use Rattle.par_typed.specs.Members.{class_is_exception}
 use Rattle.par_source_code_laws.specs.Methods.{static_type}
 use Rattle.par_source_code_laws.specs.Methods.{own_type, is_input, is_output, IsLaid}
 use Rattle.par_source_code_laws.proofs.Items.{code_names_each}
@@ -231,7 +232,7 @@ module _ (table : Table) (bodies : List Body) (files : List ClassFile)
       both (is_loaded files table c) (is_ordinary (slice_get table.classes c))
       (where-early c _ (not-ordinary c) pass)
   laid-each (Raised c) pass =
-      let exception = is_exception (slice_get table.classes c) in
+      let exception = class_is_exception (slice_get table.classes c) in
       let loaded = is_loaded files table c in
       ⊎_elim
       (λ is. ap (λ (b : Bool). (b || nat_lt c 2) && exception) is)

@@ -10,15 +10,16 @@ use Rattle.par_typed.specs.declared.table.FieldInfo.{FieldInfo}
 use Rattle.par_typed.specs.declared.table.MethodInfo.{MethodInfo}
 use Rattle.par_typed.specs.declared.table.Table.{Table}
 use Rattle.par_typed.specs.Plain.{TSta, Body}
-use Rattle.par_body_laws.specs.Members.{fields_in, channels_in, methods_in, field_at, channel_at}
-use Rattle.par_body_laws.specs.Members.{method_at}
+use Rattle.par_typed.specs.Members.{fields_in, channels_in, methods_in, field_at, channel_at}
+use Rattle.par_typed.specs.Members.{method_at}
 use Rattle.par_class.specs.declared.file.ClassFile.{ClassFile}
 use Rattle.par_run_laws.specs.Names.{body_of}
 use Rattle.par_source_code_laws.specs.par_agreement_laws.Laid.{Meth, IsMade, IsThrown, HasStatic}
 use Rattle.par_source_code_laws.specs.par_agreement_laws.Laid.{HasOwn, IsInput}
 use Rattle.par_source_code_laws.specs.par_agreement_laws.Laid.{IsOutput}
 use Rattle.par_source_code_laws.specs.par_agreement_laws.Laid.{HasMethod}
-use Rattle.par_source_code_laws.specs.Methods.{meth, may_meth, meth_at, is_ordinary, is_exception}
+use Rattle.par_source_code_laws.specs.Methods.{meth, may_meth, meth_at, is_ordinary}
+use Rattle.par_typed.specs.Members.{class_is_exception}
 use Rattle.par_source_code_laws.specs.Methods.{static_type}
 use Rattle.par_source_code_laws.specs.Methods.{own_type, is_input, is_output}
 use Rattle.par_layout_laws.specs.Layout.{file_place, is_loaded, layout_of}
@@ -87,7 +88,7 @@ method-in-class bodies class c i me (Some info) (Some body) has body_is is =
     record { info = info; body = body; has = has; body_is = body_is; is = same }
 
 -- an exception is no other class
-both-kinds : (o : Option ClassInfo) → is_ordinary o ≡ true → is_exception o ≡ true → ⊥
+both-kinds : (o : Option ClassInfo) → is_ordinary o ≡ true → class_is_exception o ≡ true → ⊥
 both-kinds None ordinary exception = absurd (cc ordinary)
 both-kinds (Some class) ordinary exception =
     absurd (cc (sym exception ∙ not-true class.exception ordinary))
@@ -116,8 +117,8 @@ module _ (table : Table) (bodies : List Body) (files : List ClassFile)
   ordinary-class c n s is = not-true s.class.exception (ap is_ordinary (sym s.there) ∙ is)
 
   pub thrown-exception : (x : ℕ) → IsThrown (layout_of files table bodies) x
-      → is_exception (slice_get table.classes x) ≡ true
-  thrown-exception x is = (and_parts _ (is_exception (slice_get table.classes x)) is).1
+      → class_is_exception (slice_get table.classes x) ≡ true
+  thrown-exception x is = (and_parts _ (class_is_exception (slice_get table.classes x)) is).1
 
   early-raised : (x : ℕ) → x < 2 → Raised table files x
   early-raised zero early = raised-first table bodies files known
@@ -129,10 +130,10 @@ module _ (table : Table) (bodies : List Body) (files : List ClassFile)
       ⊎_elim
       (λ loaded. let at = here x loaded in
       raised table bodies files known x at.0 at.1
-      (ap is_exception (sym at.1.there) ∙ thrown-exception x is))
+      (ap class_is_exception (sym at.1.there) ∙ thrown-exception x is))
       (λ early. early-raised x (ltb-true x 2 early))
       (or_cases (is_loaded files table x) _
-      (and_parts _ (is_exception (slice_get table.classes x)) is).0)
+      (and_parts _ (class_is_exception (slice_get table.classes x)) is).0)
 
   pub not-both : (c x : ℕ) → IsMade (layout_of files table bodies) c
       → IsThrown (layout_of files table bodies) x → c ≡ x → ⊥

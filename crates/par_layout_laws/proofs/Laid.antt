@@ -42,7 +42,7 @@ use Rattle.par_source_code_laws.specs.par_agreement_laws.Laid.{HasType}
 use Rattle.par_source_code_laws.specs.par_agreement_laws.Laid as laid
 use Rattle.par_source_code_laws.specs.par_agreement_laws.Agreement.{Lays, initializer, init_target}
 use Rattle.par_descriptor_laws.specs.Laws.{IsValueType}
-use Rattle.par_source_code_laws.specs.Methods.{is_exception}
+use Rattle.par_typed.specs.Members.{class_is_exception}
 use Rattle.par_layout_laws.specs.Layout.{is_loaded, number_of, spot, layout_of}
 use Rattle.par_layout_laws.proofs.Lists.{mapped-at, same-item}
 use Rattle.par_layout_laws.proofs.Texts.{text-itself, unlike, no-name}
@@ -354,8 +354,8 @@ module _ (table : Table) (bodies : List Body) (files : List ClassFile)
   early-thrown : (x : ℕ) (class : ClassInfo) → slice_get table.classes x ≡ Some class
       → class.exception ≡ true → nat_lt x 2 ≡ true → IsThrown lay x
   early-thrown x class there exception early =
-      and_from _ (is_exception (slice_get table.classes x))
-      (or_right (is_loaded files table x) _ early) (ap is_exception there ∙ exception)
+      and_from _ (class_is_exception (slice_get table.classes x))
+      (or_right (is_loaded files table x) _ early) (ap class_is_exception there ∙ exception)
 
   made-linked : (c n : ℕ) (s : Stands table bodies files c n) → s.class.exception ≡ false
       → class_of_name files (class_word table c) ≡ link.Class (record {

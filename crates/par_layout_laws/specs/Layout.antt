@@ -4,7 +4,7 @@ use Rattle.std.specs.Prelude.{Option, Some, None, length, is_some, slice_get}
 use Rattle.std.specs.Option.{unwrap_or}
 use Rattle.par_typed.specs.declared.table.Table.{Table}
 use Rattle.par_typed.specs.Plain.{Body}
-use Rattle.par_body_laws.specs.Members.{channels_in, field_at, channel_at}
+use Rattle.par_typed.specs.Members.{channels_in, field_at, channel_at}
 use Rattle.par_class.specs.declared.file.ClassFile.{ClassFile}
 use Rattle.par_class.specs.declared.file.FieldFile.{FieldFile}
 use Rattle.par_naming_laws.specs.par_link.Named.{class_place}
@@ -12,7 +12,8 @@ use Rattle.par_naming_laws.specs.par_step_laws.Fields.{field_place, lock_place}
 use Rattle.par_code_form.specs.Named.{class_word}
 use Rattle.par_source_code_laws.specs.par_agreement_laws.Laid.{Layout}
 use Rattle.par_compile_laws.specs.Files.{FIRST_DECLARED}
-use Rattle.par_source_code_laws.specs.Methods.{meth_at, is_ordinary, is_exception, static_type}
+use Rattle.par_source_code_laws.specs.Methods.{meth_at, is_ordinary, static_type}
+use Rattle.par_typed.specs.Members.{class_is_exception}
 use Rattle.par_source_code_laws.specs.Methods.{own_type}
 use Rattle.par_source_code_laws.specs.Methods.{is_input, is_output}
 
@@ -65,7 +66,7 @@ module _ (files : List ClassFile) (table : Table) where
     init_at = init_place;
     is_made = λ c. is_loaded c && is_ordinary (slice_get table.classes c);
     is_thrown = λ c. (is_loaded c || nat_lt c FIRST_DECLARED)
-        && is_exception (slice_get table.classes c);
+        && class_is_exception (slice_get table.classes c);
     static = λ c f. if_loaded c (static_type (field_at table c f));
     own = λ c f. if_loaded c (own_type (field_at table c f));
     is_input = λ c k. is_loaded c && is_input (channel_at table c k);

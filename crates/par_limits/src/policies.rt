@@ -3,6 +3,7 @@ ghost use Rattle.std.specs.Prelude.{◌≡◌, None, flat_map, slice_get, IfOk, 
 ghost use Rattle.par_tree.specs.Shown.{source};
 ghost use Rattle.par_refusals.specs.First.{first_of, in_passes};
 ghost use Rattle.par_resolved.specs.Few.{HasFew};
+ghost use Rattle.par_resolved.specs.Policies as policies;
 ghost use Rattle.par_resolved.specs.Policies.{known};
 ghost use Rattle.par_resolved.specs.Sizes.{all_join_faults};
 ghost use Rattle.par_resolved.specs.Seen.{known_seen};
@@ -92,7 +93,27 @@ fn first_of_table(
     Ok(findings.first())
 }
 
-// The first fault where every literal is within its limits.
+// The first fault where every literal is within its limits, by what is known of the program.
+fn first_by(
+    alloc: Global,
+    known: &Known<'_>,
+    program: &Program,
+    exprs: &[&PolicyExpr],
+) -> Result<Option<Refusal>, NoMemory>
+    requires seen { known_seen known.now ≡ policies.known (source program.now) }
+    requires written { all_of exprs.now ≡ said.written (source program.now) }
+    ensures { IfOk result (λ first.
+        first ≡ first_of None
+        (in_passes
+        (all_join_faults (policies.known (source program.now)) (source program.now))
+        (table_faults (policies.known (source program.now)) (source program.now)))) }
+{
+    match first_join(alloc, known, exprs)? {
+        None => first_of_table(alloc, known, program, exprs),
+        Some(first) => Ok(Some(first)),
+    }
+}
+
 fn first_known(
     alloc: Global,
     program: &Program,
@@ -106,10 +127,7 @@ fn first_known(
         (table_faults (known (source program.now)) (source program.now)))) }
 {
     let known = known(alloc, program)?;
-    match first_join(alloc, &known, exprs)? {
-        None => first_of_table(alloc, &known, program, exprs),
-        Some(first) => Ok(Some(first)),
-    }
+    first_by(alloc, &known, program, exprs)
 }
 
 /// The first limit of policies that a program exceeds, or the first birth policy that is not below

@@ -16,7 +16,7 @@ use Rattle.par_typed.specs.Plain.{Close, SetLocal, SetStatic, SetField, Eval, Wh
 use Rattle.par_typed.specs.Plain.{MayTSta, NoElse, Otherwise, TStas, End, Then, TCatches, NoCatch}
 use Rattle.par_typed.specs.Plain.{Catch}
 use Rattle.par_completes.specs.Typed.{completes, is_true}
-use Rattle.par_body_laws.specs.Members.{IsClass, fields_in, channels_in, methods_in}
+use Rattle.par_typed.specs.Members.{IsClass, fields_in, channels_in, methods_in}
 use Rattle.par_instr.specs.declared.instr.Instr.TheVariants.{IloadShort, Iload, AloadShort, Aload}
 use Rattle.par_instr.specs.declared.instr.Instr.TheVariants.{IstoreShort, Istore, AstoreShort}
 use Rattle.par_instr.specs.declared.instr.Instr.TheVariants.{Astore, Ireturn, Areturn}

@@ -16,7 +16,7 @@ use Rattle.par_typed.specs.declared.table.MethodInfo.{MethodInfo}
 use Rattle.par_typed.specs.declared.table.Table.{Table}
 use Rattle.par_typed.specs.Plain.{TSta, Body}
 use Rattle.par_table_laws.specs.Names.{HasOwnNames}
-use Rattle.par_body_laws.specs.Members.{IsClass, fields_in, channels_in, methods_in}
+use Rattle.par_typed.specs.Members.{IsClass, fields_in, channels_in, methods_in}
 use Rattle.par_base.specs.Names.{IsName}
 use Rattle.par_typed.specs.declared.ty.Ty.{Ty}
 use Rattle.par_typed.specs.declared.ty.Ty.TheVariants as ty

@@ -9,7 +9,7 @@ use Rattle.std.specs.Str.{bytes_eq}
 use Rattle.par_typed.specs.declared.table.ClassInfo.{ClassInfo}
 use Rattle.par_typed.specs.declared.table.Table.{Table}
 use Rattle.par_typed.specs.Plain.{Body}
-use Rattle.par_body_laws.specs.Members.{IsClass}
+use Rattle.par_typed.specs.Members.{IsClass}
 use Rattle.par_class.specs.declared.file.ClassFile.{ClassFile}
 use Rattle.par_descriptor_laws.specs.par_single.Descriptors.{Text}
 use Rattle.par_descriptor_laws.specs.par_single.Members.{own_name, own_names}

@@ -14,7 +14,7 @@ use Rattle.par_typed.specs.Plain.{TSta, Block, If, While, Try, Return, Break, Co
 use Rattle.par_typed.specs.Plain.{Close, SetLocal, SetStatic, SetField, Eval, When}
 use Rattle.par_typed.specs.Plain.{MayTSta, NoElse, Otherwise, TStas, End, Then, TCatches, NoCatch}
 use Rattle.par_typed.specs.Plain.{Catch}
-use Rattle.par_body_laws.specs.Members.{IsClass, field_at, channel_at, method_at}
+use Rattle.par_typed.specs.Members.{IsClass, field_at, channel_at, method_at}
 
 module _ (table : Table) where
   -- a type whose class is one of the program

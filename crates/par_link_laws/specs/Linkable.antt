@@ -12,7 +12,7 @@ use Rattle.par_typed.specs.declared.table.FieldInfo.{FieldInfo}
 use Rattle.par_typed.specs.declared.table.MethodInfo.{MethodInfo}
 use Rattle.par_typed.specs.declared.table.Table.{Table}
 use Rattle.par_typed.specs.Plain.{TSta, Body}
-use Rattle.par_body_laws.specs.Members.{IsClass, field_at, channel_at, method_at}
+use Rattle.par_typed.specs.Members.{IsClass, field_at, channel_at, method_at}
 use Rattle.par_table_laws.specs.Names.{AreNamesApart}
 use Rattle.par_values.specs.Areas.{Name}
 use Rattle.par_compile_laws.specs.par_run_laws.Names.{body_of}

@@ -21,7 +21,7 @@ use Rattle.par_typed.specs.Plain.{Close, SetLocal, SetStatic, SetField, Eval, Wh
 use Rattle.par_typed.specs.Plain.{MayTSta, NoElse, Otherwise, TStas, End, Then, TCatches, NoCatch}
 use Rattle.par_typed.specs.Plain.{Catch}
 use Rattle.par_completes.specs.Typed.{completes}
-use Rattle.par_body_laws.specs.Members.{IsClass, fields_in, methods_in, field_at, method_at}
+use Rattle.par_typed.specs.Members.{IsClass, fields_in, methods_in, field_at, method_at}
 use Rattle.par_body_laws.specs.Locals.{behind}
 use Rattle.par_body_laws.specs.Types.{Operates}
 use Rattle.par_body_laws.specs.Forms.{Setting}

@@ -14,7 +14,7 @@ use Rattle.par_typed.specs.declared.table.FieldInfo.{FieldInfo}
 use Rattle.par_typed.specs.declared.table.MethodInfo.{MethodInfo}
 use Rattle.par_typed.specs.declared.table.ParamInfo.{ParamInfo}
 use Rattle.par_typed.specs.declared.table.Table.{Table}
-use Rattle.par_body_laws.specs.Members.{methods_in}
+use Rattle.par_typed.specs.Members.{methods_in}
 use Rattle.par_body_laws.specs.Makes.{IsOrdinary}
 use Rattle.par_table_laws.specs.Names.{HasOwnNames, AreNamesApart}
 use Rattle.par_source_code_laws.specs.par_typed_laws.Beginning.{mains, IsMainOf}

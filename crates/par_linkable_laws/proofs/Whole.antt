@@ -8,7 +8,7 @@ use Rattle.par_typed.specs.declared.table.MethodInfo.{MethodInfo}
 use Rattle.par_typed.specs.declared.table.Table.{Table}
 use Rattle.par_typed.specs.Plain.{TSta, Body}
 use Rattle.par_body_laws.specs.Locals.{set_by_call}
-use Rattle.par_body_laws.specs.Members.{method_at}
+use Rattle.par_typed.specs.Members.{method_at}
 use Rattle.par_body_laws.specs.Proper.{IsProper, IsProperOf}
 use Rattle.par_run_laws.specs.Names.{body_of}
 use Rattle.par_erase.specs.Asked.{Locks, asked_in}

@@ -61,9 +61,11 @@ use Rattle.par_single.specs.declared.descriptor.Signature.{Signature}
 use Rattle.par_single.specs.Descriptors.{method_signature}
 use Rattle.par_single.specs.Descriptors as said
 use Rattle.par_sound_laws.specs.par_kinds.Linked.{coded_in, static_in}
-use Rattle.par_sound_laws.specs.States.{kinds_in, static_kinds, all_shared, shared_kinds}
+use Rattle.par_sound_laws.specs.States.{static_kinds, all_shared, shared_kinds}
+use Rattle.par_sound_laws.specs.par_step_laws.Fields.{kinds_in}
 use Rattle.par_sound_laws.specs.States.{class_kinds}
-use Rattle.par_linked_frame_laws.specs.Laws.{AreCoded, LinkedFilesAreRight}
+use Rattle.par_linked_frame_laws.specs.Laws.{LinkedFilesAreRight}
+use Rattle.par_loader.specs.Begun.{AreCoded}
 use Rattle.par_sound_laws.specs.Right.{AreRight, LinkRight, ClassRight, CodeRight, TargetRight}
 use Rattle.par_sound_laws.specs.par_kinds.Kinds.{Each}
 use Rattle.par_sound_laws.proofs.par_link.Faultless.{names-apart, method-right}

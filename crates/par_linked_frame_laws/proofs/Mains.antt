@@ -30,7 +30,8 @@ use Rattle.par_sound_laws.specs.par_step_laws.Methods.{methods_of as methods_at}
 use Rattle.par_sound_laws.specs.par_step_laws.State.{main_place}
 use Rattle.par_sound_laws.specs.par_kinds.Linked.{static_in, coded_in}
 use Rattle.par_sound_laws.specs.Laws.{MainRight, IsMain}
-use Rattle.par_linked_frame_laws.specs.Laws.{AreCoded, is_main, MainsAreRight}
+use Rattle.par_linked_frame_laws.specs.Laws.{is_main, MainsAreRight}
+use Rattle.par_loader.specs.Begun.{AreCoded}
 use Rattle.par_linked_frame_laws.specs.Laws.{FramesKeepFromBadCode}
 use Rattle.par_linked_frame_laws.specs.Laws.{FramesKeepProgramsFromBadCode}
 use Rattle.par_sound_laws.proofs.Whole.{fitting_files_are_never_bad}

@@ -1,11 +1,11 @@
 -- What frames are at linked class files, and what follows where they fit.
-use Rattle.std.specs.Prelude.{◌≡◌, ℕ, false, ◌&&◌, Bool, List, [], Some, IsTrue, is_some, slice_get}
+use Rattle.std.specs.Prelude.{◌≡◌, ℕ, ◌&&◌, Bool, List, [], Some, IsTrue, slice_get}
 use Rattle.std.specs.List.{list_any}
 use Rattle.par_instr.specs.declared.instr.Instr.{Instr}
 use Rattle.par_class.specs.declared.file.Catch.{Catch}
 use Rattle.par_class.specs.declared.file.MethodFile.{MethodFile}
 use Rattle.par_class.specs.declared.file.ClassFile.{ClassFile}
-use Rattle.par_class.specs.Spelling.{is_native}
+use Rattle.par_loader.specs.Begun.{AreCoded}
 use Rattle.par_values.specs.declared.inputs.Inputs.{Inputs}
 use Rattle.par_values.specs.Areas.{Name}
 use Rattle.par_sound_laws.specs.par_link.Linked.{AreLinked}
@@ -19,12 +19,6 @@ use Rattle.par_sound_laws.specs.par_kinds.Shapes.{act_of, shape_in, fields_in, m
 use Rattle.par_sound_laws.specs.par_kinds.Shapes.{caught_in}
 use Rattle.par_sound_laws.specs.Right.{AreRight}
 use Rattle.par_sound_laws.specs.Laws.{IsFine, MainRight}
-
--- each method of these files that is not native has code
-abbrev pub AreCoded : List ClassFile → Type 0
-AreCoded files =
-    (class place : ℕ) (file : ClassFile) (m : MethodFile) → slice_get files class ≡ Some file
-    → slice_get file.methods place ≡ Some m → is_native m.access ≡ false → IsTrue (is_some m.code)
 
 -- the links of linked files say what is so
 abbrev pub LinkedFilesAreRight : Type 0

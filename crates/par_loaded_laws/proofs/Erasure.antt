@@ -6,7 +6,7 @@ use Rattle.std.proofs.lemmas.List.{length-map}
 use Rattle.par_typed.specs.declared.table.ClassInfo.{ClassInfo}
 use Rattle.par_typed.specs.declared.table.MethodInfo.{MethodInfo}
 use Rattle.par_typed.specs.declared.table.Table.{Table}
-use Rattle.par_body_laws.specs.Members.{methods_in}
+use Rattle.par_typed.specs.Members.{methods_in}
 use Rattle.par_body_laws.specs.Locals.{arrivals}
 use Rattle.par_layout_laws.specs.par_typed_laws.Signatures.{kind_of, HasBuiltIns, AreSigned}
 use Rattle.par_layout_laws.specs.par_typed_laws.Signatures.{HasSignatures}

@@ -15,7 +15,7 @@ use Rattle.par_typed.specs.declared.table.MethodInfo.{MethodInfo}
 use Rattle.par_typed.specs.declared.table.ParamInfo.{ParamInfo}
 use Rattle.par_typed.specs.declared.table.Table.{Table}
 use Rattle.par_typed.specs.Plain.{TSta, Body}
-use Rattle.par_body_laws.specs.Members.{methods_in, method_at}
+use Rattle.par_typed.specs.Members.{methods_in, method_at}
 use Rattle.par_table_laws.specs.Names.{HasOwnNames}
 use Rattle.par_class.specs.declared.file.ClassFile.{ClassFile}
 use Rattle.par_run_laws.specs.Names.{body_of}

@@ -4,7 +4,7 @@ use Rattle.par_typed.specs.declared.table.ClassInfo.{ClassInfo}
 use Rattle.par_typed.specs.declared.table.MethodInfo.{MethodInfo}
 use Rattle.par_typed.specs.declared.table.Table.{Table}
 use Rattle.par_typed.specs.Plain.{Body}
-use Rattle.par_body_laws.specs.Members.{method_at}
+use Rattle.par_typed.specs.Members.{method_at}
 use Rattle.par_body_laws.specs.Locals.{arrivals}
 use Rattle.par_class.specs.declared.file.ClassFile.{ClassFile}
 use Rattle.par_layout_laws.specs.par_typed_laws.Signatures.{HasBuiltIns, AreSigned}

@@ -2,10 +2,11 @@
 use Rattle.std.specs.Prelude.{◌≡◌, ℕ, Option, Some, None, slice_index_or}
 use Rattle.par_typed.specs.declared.table.Table.{Table}
 use Rattle.par_typed.specs.Plain.{Body}
-use Rattle.par_bits.specs.Sets.{Set, has}
+use Rattle.par_bits.specs.Sets.{Set}
 use Rattle.par_flow_laws.specs.Lattice.{numbers}
 use Rattle.par_flow_laws.specs.Ways.{Way}
 use Rattle.par_flow_laws.specs.Facts.{Facts}
+use Rattle.par_rounds.specs.Changes.{may_have}
 use Rattle.par_rounds.specs.Bodies.{AreLeastClosed}
 use Rattle.par_locks.specs.declared.locks.LockFacts.{LockFacts}
 
@@ -13,10 +14,6 @@ use Rattle.par_locks.specs.declared.locks.LockFacts.{LockFacts}
 abbrev pub entering : Option (Way numbers) → Option Set
 entering None = None
 entering (Some w) = Some w.locks
-
-abbrev pub may_have : Option ℕ → Option Set
-may_have None = None
-may_have (Some kept) = Some (has kept)
 
 -- those that are kept for the point
 abbrev pub open_at : LockFacts → ℕ → Option Set

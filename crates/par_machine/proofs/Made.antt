@@ -46,7 +46,8 @@ use Rattle.par_method_area.specs.par_actions.Done.{IsDone, ComesTo, Keeps, is_st
 use Rattle.par_method_area.specs.par_actions.Objects.{IsClass, Creates}
 use Rattle.par_method_area.proofs.par_actions.Bearing.{born_shown}
 use Rattle.par_method_area.specs.Area.{Area}
-use Rattle.par_machine.specs.Objects.{count_classes, kinds_in, width, AreObjects}
+use Rattle.par_machine.specs.Objects.{count_classes, width, AreObjects}
+use Rattle.par_method_area.specs.par_step_laws.Fields.{kinds_in}
 use Rattle.par_machine.specs.Running.{IsSound}
 use Rattle.par_machine.specs.Site.{areas_at, operation_at, does, spot_of, against, IsThere, IsCome}
 use Rattle.par_machine.specs.Site.{IsKnown, IsPerformed}

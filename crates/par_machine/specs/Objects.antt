@@ -1,12 +1,10 @@
 -- The objects of a heap as a program with so many classes has them.
-use Rattle.std.specs.Prelude.{◌≡◌, ℕ, zero, suc, ◌+◌, ◌≤◌, List, [], ◌∷◌, length, Option, Some}
-use Rattle.std.specs.Prelude.{None, slice_get}
+use Rattle.std.specs.Prelude.{◌≡◌, ℕ, zero, suc, ◌+◌, ◌≤◌, List, [], ◌∷◌, length, slice_get}
 use Rattle.std.specs.List.{All}
 use Rattle.par_class.specs.declared.file.ClassFile.{ClassFile}
-use Rattle.par_values.specs.declared.kind.Kind.{Kind}
 use Rattle.par_values.specs.Areas.{Objects}
 use Rattle.par_heap.specs.Heap as heap
-use Rattle.par_method_area.specs.par_step_laws.Fields.{object_kinds}
+use Rattle.par_method_area.specs.par_step_laws.Fields.{kinds_in}
 
 unfoldable pub objects_in : ℕ → heap.Objects → Objects
 objects_in zero held = []
@@ -17,11 +15,7 @@ objects_in (suc many) (objects ∷ held) = objects ∷ objects_in many held
 abbrev pub count_classes : List ClassFile → ℕ
 count_classes files = length files + 2
 
--- the kinds of the fields of an object of a class; those two have none
-abbrev pub kinds_in : Option ClassFile → List Kind
-kinds_in None = []
-kinds_in (Some file) = object_kinds file
-
+-- how many fields an object of a class has; one of those two has none
 abbrev pub width : List ClassFile → ℕ → ℕ
 width files class = length (kinds_in (slice_get files class))
 

@@ -1,7 +1,10 @@
 -- Completions in lists.
 use Rattle.std.proofs.Common.{◌≡◌, ℕ, zero, suc, ◌+◌, ◌-◌, ◌<◌, ◌≤◌, Bool, true, false, ◌||◌, ◌&&◌}
 use Rattle.std.proofs.Common.{not, Option, Some, None, List, [], ◌∷◌, ◌++◌, length, get_or, drop}
-use Rattle.std.proofs.Common.{drop-cons, add-one, refl, sym, ap, ◌∙◌, arith}
+use Rattle.std.proofs.Common.{set, take, map, drop-cons, take-suc, take_all, get_or-set_same}
+use Rattle.std.proofs.Common.{add-one}
+use Rattle.std.proofs.Common.{refl, sym, ap, ◌∙◌, arith}
+use Rattle.std.proofs.lemmas.List.{drop-set, take-set}
 use Rattle.std.proofs.lemmas.Bool.{eqb-true}
 use Rattle.std.proofs.Math.Path.{fun_ext}
 use Rattle.par_flow_laws.specs.Kinds.{Kind, Normal, Return, Break, Continue, Throw, same, Absorber}
@@ -21,13 +24,15 @@ use Rattle.par_nodes.specs.declared.rule.Worth as tree_worth
 use Rattle.par_nodes.specs.declared.rule.Node as tree_node
 use Rattle.par_nodes.specs.declared.rule.Rules as tree
 use Rattle.par_nodes.specs.declared.rule.Rules.TheVariants as rule
+use Rattle.par_nodes.proofs.Rows.{drop_all}
 use Rattle.par_nodes.proofs.Forms.{seen_done, seen_part, seen_test, seen_heads, seen_leaves}
 use Rattle.par_nodes.proofs.Forms.{seen_worths}
 use Rattle.par_nodes.specs.Seen.{seen_absorber, seen_worth, seen_node, seen_rules}
 use Rattle.par_nodes.specs.Seen.{seen_kind, seen_start, seen_origin, assigned, tested, raised, shut}
 use Rattle.par_nodes.specs.Seen.{opened}
 use Rattle.par_nodes.specs.Listed.{listed}
-use Rattle.par_nodes.specs.Possible.{among, either, if_so, apart, cans, parts_can}
+use Rattle.par_nodes.specs.Possible.{among, either, if_so, apart, cans, coming, passed}
+use Rattle.par_nodes.specs.Possible.{parts_can}
 
 or_false : (a : Bool) → (a || false) ≡ a
 or_false true = refl
@@ -55,32 +60,35 @@ cans_push : (parts : List (List code.Kind)) (js : List code.Kind) (fs : List (Ki
 cans_push [] js fs = refl
 cans_push (x ∷ parts) js fs = cans_push parts js (among x ∷ fs)
 
-cans_behind : (parts : List (List code.Kind)) (fs : List (Kind → Bool)) (n m : ℕ) (k : Kind)
-    → n ≡ length parts + m → part_can (cans parts fs) n k ≡ part_can fs m k
-cans_behind [] fs n m k e = let g : n ≡ m = omega (arith, e) in ap (λ i. part_can fs i k) g
-cans_behind (x ∷ parts) fs n m k e =
-    let g : n ≡ length parts + suc m = omega (arith, e) in
-    cans_behind parts (among x ∷ fs) n (suc m) k g
+-- a part that is passed, and none behind the first one
+pub passed_at : (parts : List (List code.Kind)) (place n i : ℕ) (k : Kind) (js : List code.Kind)
+    → i ≡ place + n → i < length parts → js ≡ get_or parts i js
+    → part_can (passed place parts) n k ≡ among js k
+passed_at [] place n i k js e h q = absurd (omega (arith, h))
+passed_at (x ∷ parts) zero zero zero k js e h q = ap (λ l. among l k) (sym q)
+passed_at (x ∷ parts) zero zero (suc i) k js e h q = absurd (omega (arith, e))
+passed_at (x ∷ parts) zero (suc n) zero k js e h q = absurd (omega (arith, e))
+passed_at (x ∷ parts) zero (suc n) (suc i) k js e h q =
+    passed_at parts zero n i k js (omega (arith, e)) (omega (arith, h)) q
+passed_at (x ∷ parts) (suc place) n zero k js e h q = absurd (omega (arith, e))
+passed_at (x ∷ parts) (suc place) n (suc i) k js e h q =
+    passed_at parts place n i k js (omega (arith, e)) (omega (arith, h)) q
 
--- the parts before, the latest first
-pub cans_at : (parts : List (List code.Kind)) (fs : List (Kind → Bool)) (n i : ℕ) (k : Kind)
-    (js : List code.Kind) → n + i + 1 ≡ length parts → js ≡ get_or parts i js
-    → part_can (cans parts fs) n k ≡ among js k
-cans_at [] fs n i k js e q = absurd (omega (arith, e))
-cans_at (x ∷ parts) fs n zero k js e q =
-    let g : n ≡ length parts + 0 = omega (arith, e) in
-    cans_behind parts (among x ∷ fs) n 0 k g ∙ ap (λ l. among l k) (sym q)
-cans_at (x ∷ parts) fs n (suc i) k js e q =
-    let g : n + i + 1 ≡ length parts = omega (arith, e) in cans_at parts (among x ∷ fs) n i k js g q
+pub passed_past : (parts : List (List code.Kind)) (place n : ℕ) (k : Kind)
+    → length parts ≤ place + n → part_can (passed place parts) n k ≡ false
+passed_past [] zero n k h = refl
+passed_past [] (suc place) n k h = refl
+passed_past (x ∷ parts) zero zero k h = absurd (omega (arith, h))
+passed_past (x ∷ parts) zero (suc n) k h = passed_past parts zero n k (omega (arith, h))
+passed_past (x ∷ parts) (suc place) n k h = passed_past parts place n k (omega (arith, h))
 
--- no part is behind the first one
-pub cans_past : (parts : List (List code.Kind)) (n : ℕ) (k : Kind) → length parts < n + 1
-    → part_can (cans parts []) n k ≡ false
-cans_past parts n k h =
-    let g : n ≡ length parts + (n - length parts) = omega (arith, h) in
-    cans_behind parts [] n (n - length parts) k g ∙ nothing (n - length parts) k where
-      nothing : (m : ℕ) (k : Kind) → part_can [] m k ≡ false
-      nothing m k = refl
+-- the next part is the last of those that come
+coming_more : (parts : List (List code.Kind)) (place : ℕ) (js : List code.Kind)
+    → place < length parts
+    → coming (suc place) parts ≡ among (get_or parts place js) ∷ coming place parts
+coming_more parts place js h =
+    ap (λ l. cans l []) (take-suc parts place js h)
+    ∙ cans_push (take place parts) (get_or parts place js) []
 
 comes_opened : (fs : List (Kind → Bool)) (l : Locks) (f : From) → comes fs (opened l f) ≡ comes fs f
 unfolding comes
@@ -275,17 +283,15 @@ unfolding can
 node_step p r = refl
 
 pub leaves_made : (rs : tree.Rules) (o : Origin) (j : code.Kind) (q : Box tree.Rules Global)
-    (parts slice : List (List code.Kind)) (m : tree.Rules) (k0 k1 k2 : Kind → Bool) (reached : Bool)
-    → rs ≡ rule.Leaves o j q → slice ≡ parts → reached ≡ comes (cans slice []) (seen_origin o)
+    (fs : List (Kind → Bool)) (m : tree.Rules) (k0 k1 k2 : Kind → Bool) (reached : Bool)
+    → rs ≡ rule.Leaves o j q → reached ≡ comes fs (seen_origin o)
     → k1 ≡ either k0 (if_so reached (same (seen_kind j))) → m ≡ q.value
-    → k2 ≡ either k1 (can_by (cans parts []) (seen_rules m))
-    → k2 ≡ either k0 (can_by (cans parts []) (seen_rules rs))
-leaves_made rs o j q parts slice m k0 k1 k2 reached is s e g v h =
-    leaves_step (cans parts []) (seen_origin o) (seen_kind j) (seen_rules q.value) k0 k1 k2 reached
-    (e ∙ ap (λ l. comes (cans l []) (seen_origin o)) s) g
-    (h ∙ ap (λ y. either k1 (can_by (cans parts []) (seen_rules y))) v)
-    ∙ sym (ap (λ r. either k0 (can_by (cans parts []) (seen_rules r))) is
-    ∙ ap (λ r. either k0 (can_by (cans parts []) r)) (seen_leaves o j q))
+    → k2 ≡ either k1 (can_by fs (seen_rules m)) → k2 ≡ either k0 (can_by fs (seen_rules rs))
+leaves_made rs o j q fs m k0 k1 k2 reached is e g v h =
+    leaves_step fs (seen_origin o) (seen_kind j) (seen_rules q.value) k0 k1 k2 reached e g
+    (h ∙ ap (λ y. either k1 (can_by fs (seen_rules y))) v)
+    ∙ sym (ap (λ r. either k0 (can_by fs (seen_rules r))) is
+    ∙ ap (λ r. either k0 (can_by fs r)) (seen_leaves o j q))
 
 pub done_made : (rs : tree.Rules) (fs : List (Kind → Bool)) (k0 : Kind → Bool) → rs ≡ rule.Done
     → k0 ≡ either k0 (can_by fs (seen_rules rs))
@@ -313,14 +319,6 @@ worths_made rs w q fs m k0 k2 is v h =
     ∙ ap (λ r. either k0 (can_by fs r)) (seen_worths w q)
     ∙ ap (either k0) (worths_step fs (seen_worth w) (seen_rules q.value)))
 
--- from no completions and no parts on
-pub rules_made : (r : Rules) (ks ks0 : List code.Kind) (parts : List (List code.Kind)) → ks0 ≡ []
-    → parts ≡ []
-    → among ks ≡ either (among ks0) (can_by (cans parts []) r) → among ks ≡ can_by [] r
-rules_made r ks ks0 parts f g e =
-    e ∙ ap (λ l. either (among l) (can_by (cans parts []) r)) f
-    ∙ ap (λ l. either (among []) (can_by (cans l []) r)) g
-
 -- one that is there already
 pub held : (j : Kind) (f : Kind → Bool) → f j ≡ true → f ≡ either f (same j)
 held j f e = fun_ext (λ k. by_case k (same j k) refl) where
@@ -328,19 +326,6 @@ held j f e = fun_ext (λ k. by_case k (same j k) refl) where
   by_case k true h =
       let g : f k ≡ true = ap f (sym (same_true j k h)) ∙ e in g ∙ sym (ap (λ b. b || same j k) g)
   by_case k false h = sym (ap (λ b. f k || b) h ∙ or_false (f k))
-
--- the completions of the next part are the last ones
-pub popped : (old new : List (List code.Kind)) (js : List code.Kind) (f : Kind → Bool)
-    (fs : List (Kind → Bool))
-    → old ≡ new ++ js ∷ [] → cans old [] ≡ f ∷ fs → (among js ≡ f) × (cans new [] ≡ fs)
-popped old new js f fs g h =
-    let e : among js ∷ cans new [] ≡ f ∷ fs = sym (ap (λ l. cans l []) g ∙ cans_push new js [])
-    ∙ h in (cc, cc)
-
-pub not_popped : (old : List (List code.Kind)) (f : Kind → Bool) (fs : List (Kind → Bool))
-    → length old ≡ 0 → cans old [] ≡ f ∷ fs → ⊥
-not_popped [] f fs e h = cc
-not_popped (x ∷ xs) f fs e h = omega (arith, e)
 
 -- a part's completions in front of those behind it
 pub boxed_told : (b : Box tree_node.Node Global) (q : Box tree.Rules Global)
@@ -374,43 +359,87 @@ worths_told rs w q m is v =
     ap (λ r. parts_can (seen_rules r)) is ∙ ap parts_can (seen_worths w q)
     ∙ sym (ap (λ y. parts_can (seen_rules y)) v)
 
--- a part that is added, where it is entered
-pub part_added : (found rest parts more_parts : List (List code.Kind)) (js : List code.Kind)
-    (a : Absorber) (k0 k1 : Kind → Bool) (b : Bool)
-    → ((f : Kind → Bool) (fs : List (Kind → Bool)) → cans found [] ≡ f ∷ fs → among js ≡ if_so b f)
-    → ((f : Kind → Bool) (fs : List (Kind → Bool)) → cans found [] ≡ f ∷ fs → cans rest [] ≡ fs)
-    → k1 ≡ either k0 (apart a (among js)) → more_parts ≡ parts ++ js ∷ []
-    → (f : Kind → Bool) (fs : List (Kind → Bool)) → cans found [] ≡ f ∷ fs
-    → (cans rest [] ≡ fs) × (cans more_parts [] ≡ if_so b f ∷ cans parts [])
+-- the next part is passed: where it is not entered, it completes in no way
+pub entered_told : (old new : List (List code.Kind)) (place : ℕ) (js : List code.Kind) (b : Bool)
+    → place < length old → (b ≡ true → new ≡ old) → (b ≡ false → new ≡ set old place [])
+    → js ≡ get_or new place js → (f : Kind → Bool) (fs : List (Kind → Bool))
+    → coming (suc place) old ≡ f ∷ fs
+    → (coming place new ≡ fs) × (passed place new ≡ if_so b f ∷ passed (suc place) old)
+    × (among js ≡ if_so b f)
+entered_told old new place js true h kept cut q f fs e =
+    let is : among (get_or old place js) ∷ coming place old ≡ f ∷ fs =
+    sym (coming_more old place js h) ∙ e in
+    let same : new ≡ old = kept refl in
+    let held : among js ≡ f = ap among (q ∙ ap (λ l. get_or l place js) same) ∙ cc in (
+      ap (coming place) same ∙ cc,
+      ap (passed place) same ∙ ap (map among) (drop-cons old place js h)
+          ∙ ap (λ g. g ∷ passed (suc place) old) cc,
+      held,
+    )
+entered_told old new place js false h kept cut q f fs e =
+    let is : among (get_or old place js) ∷ coming place old ≡ f ∷ fs =
+    sym (coming_more old place js h) ∙ e in
+    let less : new ≡ set old place [] = cut refl in (
+      ap (coming place) less ∙ ap (λ l. cans l []) (take-set old place []) ∙ cc,
+      ap (passed place) less ∙ ap (map among) (drop-set old place [] h)
+          ∙ ap (λ n. among [] ∷ passed n old) (add-one place),
+      ap among (q ∙ ap (λ l. get_or l place js) less ∙ get_or-set_same old place [] js h),
+    )
+
+pub pass_told : (old new : List (List code.Kind)) (left place : ℕ) (js : List code.Kind)
+    (a : Absorber) (k0 k1 : Kind → Bool) (b : Bool) → suc place ≡ left → left ≤ length old
+    → (b ≡ true → new ≡ old) → (b ≡ false → new ≡ set old place [])
+    → js ≡ get_or new place js → k1 ≡ either k0 (apart a (among js))
+    → (f : Kind → Bool) (fs : List (Kind → Bool)) → coming left old ≡ f ∷ fs
+    → (coming place new ≡ fs) × (passed place new ≡ if_so b f ∷ passed left old)
     × (k1 ≡ either k0 (apart a (if_so b f)))
-part_added found rest parts more_parts js a k0 k1 b told left g p f fs h = (
-  left f fs h,
-  ap (λ l. cans l []) p ∙ cans_push parts js []
-      ∙ ap (λ y. y ∷ cans parts []) (told f fs h),
-  g ∙ ap (λ y. either k0 (apart a y)) (told f fs h),
-)
+pass_told old new left place js a k0 k1 b s h kept cut q g f fs e =
+    let t = entered_told old new place js b (omega (arith, s, h)) kept cut q f fs
+    (ap (λ n. coming n old) s ∙ e) in (
+      t.0,
+      t.1 ∙ ap (λ n. if_so b f ∷ passed n old) s,
+      g ∙ ap (λ y. either k0 (apart a y)) t.2,
+    )
+
+-- no part comes before the first place
+pub none_left : (parts : List (List code.Kind)) (left : ℕ) (f : Kind → Bool)
+    (fs : List (Kind → Bool)) → left ≡ 0 → coming left parts ≡ f ∷ fs → ⊥
+none_left parts left f fs z e =
+    let h : coming 0 parts ≡ f ∷ fs = ap (λ n. coming n parts) (sym z) ∙ e in cc
+
+-- from no completions and no part passed on
+pub rules_all : (r : Rules) (ks ks0 : List code.Kind) (found slice : List (List code.Kind))
+    (left : ℕ) → ks0 ≡ [] → slice ≡ found → left ≡ length found → cans found [] ≡ parts_can r
+    → (coming left slice ≡ parts_can r
+    → among ks ≡ either (among ks0) (can_by (passed left slice) r))
+    → among ks ≡ can_by [] r
+rules_all r ks ks0 found slice left z s l h more =
+    more (ap (coming left) s ∙ ap (λ n. coming n found) l
+    ∙ ap (λ x. cans x []) (take_all (length found) found (omega arith)) ∙ h)
+    ∙ ap (λ x. either (among x) (can_by (passed left slice) r)) z
+    ∙ ap (λ x. either (among []) (can_by x r)) (ap (passed left) s
+    ∙ ap (λ n. passed n found) l ∙ ap (map among) (drop_all found))
 
 pub part_made : (rs : tree.Rules) (o : Origin) (a : tree_absorber.Absorber)
     (b : Box tree_node.Node Global) (q : Box tree.Rules Global)
-    (found rest more_fs : List (Kind → Bool)) (parts slice : List (List code.Kind))
-    (m : tree.Rules) (k0 k1 k2 : Kind → Bool) (reached : Bool)
-    → rs ≡ rule.Part o a b q → slice ≡ parts → reached ≡ comes (cans slice []) (seen_origin o)
+    (found rest fs more_fs : List (Kind → Bool)) (m : tree.Rules) (k0 k1 k2 : Kind → Bool)
+    (reached : Bool)
+    → rs ≡ rule.Part o a b q → reached ≡ comes fs (seen_origin o)
     → ((f : Kind → Bool) (gs : List (Kind → Bool)) → found ≡ f ∷ gs
-    → (rest ≡ gs) × (more_fs ≡ if_so reached f ∷ cans parts [])
+    → (rest ≡ gs) × (more_fs ≡ if_so reached f ∷ fs)
     × (k1 ≡ either k0 (apart (seen_absorber a) (if_so reached f))))
     → m ≡ q.value
     → (rest ≡ parts_can (seen_rules m) → k2 ≡ either k1 (can_by more_fs (seen_rules m)))
-    → found ≡ parts_can (seen_rules rs) → k2 ≡ either k0 (can_by (cans parts []) (seen_rules rs))
-part_made rs o a b q found rest more_fs parts slice m k0 k1 k2 reached is s e added v more h =
+    → found ≡ parts_can (seen_rules rs) → k2 ≡ either k0 (can_by fs (seen_rules rs))
+part_made rs o a b q found rest fs more_fs m k0 k1 k2 reached is e added v more h =
     let e0 : found ≡ can (seen_node b.value) ∷ parts_can (seen_rules q.value) = h
     ∙ ap (λ r. parts_can (seen_rules r)) is ∙ ap parts_can (seen_part o a b q) in
-    part_step (cans parts []) more_fs (seen_origin o) (seen_absorber a) (seen_node b.value)
-    (seen_rules q.value) k0 k1 k2 reached (e ∙ ap (λ l. comes (cans l []) (seen_origin o)) s)
-    (added _ _ e0).1 (added _ _ e0).2
+    part_step fs more_fs (seen_origin o) (seen_absorber a) (seen_node b.value)
+    (seen_rules q.value) k0 k1 k2 reached e (added _ _ e0).1 (added _ _ e0).2
     (more ((added _ _ e0).0 ∙ sym (ap (λ y. parts_can (seen_rules y)) v))
     ∙ ap (λ y. either k1 (can_by more_fs (seen_rules y))) v)
-    ∙ sym (ap (λ r. either k0 (can_by (cans parts []) (seen_rules r))) is
-    ∙ ap (λ r. either k0 (can_by (cans parts []) r)) (seen_part o a b q))
+    ∙ sym (ap (λ r. either k0 (can_by fs (seen_rules r))) is
+    ∙ ap (λ r. either k0 (can_by fs r)) (seen_part o a b q))
 
 pub test_made : (rs : tree.Rules) (b : Box tree_node.Node Global) (q : Box tree.Rules Global)
     (found rest fs more_fs : List (Kind → Bool)) (m : tree.Rules) (k0 k1 k2 : Kind → Bool)

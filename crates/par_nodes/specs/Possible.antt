@@ -1,5 +1,5 @@
 -- Completions in lists.
-use Rattle.std.specs.Prelude.{Bool, false, ◌||◌, ◌&&◌, not, List, [], ◌∷◌}
+use Rattle.std.specs.Prelude.{ℕ, Bool, false, ◌||◌, ◌&&◌, not, List, [], ◌∷◌, map, take, drop}
 use Rattle.par_flow_laws.specs.Kinds.{Kind, same, Absorber, absorbed}
 use Rattle.par_flow_laws.specs.Rules.{Rules, Done, Part, Test, Heads, Leaves, Worths, can}
 use Rattle.par_nodes.specs.declared.rule.Kind as code
@@ -26,6 +26,14 @@ apart a f k = f k && not (absorbed a k)
 abbrev pub cans : List (List code.Kind) → List (Kind → Bool) → List (Kind → Bool)
 cans [] fs = fs
 cans (js ∷ parts) fs = cans parts (among js ∷ fs)
+
+-- what can be of the parts before the place, of which the next comes last
+abbrev pub coming : ℕ → List (List code.Kind) → List (Kind → Bool)
+coming place parts = cans (take place parts) []
+
+-- what can be of those from the place on
+abbrev pub passed : ℕ → List (List code.Kind) → List (Kind → Bool)
+passed place parts = map among (drop place parts)
 
 -- the completions of the parts of rules, in their order
 abbrev pub parts_can : Rules → List (Kind → Bool)

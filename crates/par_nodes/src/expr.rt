@@ -132,7 +132,6 @@ fn given<'a>(alloc: Global, policy: u16) -> Result<Draft<'a>, NoMemory>
 }
 
 // Behind the object of a field comes what is known of the field.
-#[inline(never)]
 fn selected<'a>(alloc: Global, of: &TExpr, policy: u16) -> Result<Draft<'a>, NoMemory>
     ensures { IfOk result (λ r. seen_rules r.rules
         ≡ body.null_test (shown of.now) body.tested (plain.goes_on body.past
@@ -164,7 +163,6 @@ fn operands<'a>(alloc: Global) -> Result<Draft<'a>, NoMemory>
 }
 
 // Behind both operands comes what the operator makes of them.
-#[inline(never)]
 fn combined<'a>(alloc: Global, op: BinOp, right: &TExpr) -> Result<Draft<'a>, NoMemory>
     ensures { IfOk result (λ r. seen_rules r.rules
         ≡ body.divides op (shown right.now) (body.skips op (plain.goes_on body.past
@@ -195,7 +193,6 @@ pub(crate) fn operand<'a>(
 
 // The arguments, of which the first is entered from the way.
 #[cycle(exp)]
-#[inline(never)]
 fn args<'a>(
     alloc: Global,
     table: &'a Table,
@@ -230,7 +227,6 @@ fn call_start(of: &Option<Box<TExpr>>) -> Start
 
 // What a call does behind its arguments.
 #[tactic(auto, using(crate::proofs::Rows::past_is, crate::proofs::Rows::count_is))]
-#[inline(never)]
 fn call_does<'a>(
     alloc: Global,
     table: &'a Table,
@@ -265,7 +261,6 @@ fn call_does<'a>(
 
 // Behind the receiver, if there is one.
 #[cycle(exp)]
-#[inline(never)]
 fn behind<'a>(
     alloc: Global,
     table: &'a Table,
@@ -279,6 +274,86 @@ fn behind<'a>(
         None => Ok(more),
         Some(of) => operand(alloc, table, ENTRY, of, more),
     }
+}
+
+// A field of an object.
+#[cycle(exp)]
+#[inline(never)]
+fn selects<'a>(
+    alloc: Global,
+    table: &'a Table,
+    of: &TExpr,
+    policy: u16,
+) -> Result<Draft<'a>, NoMemory>
+    ensures { IfOk result (λ r. seen_rules r.rules
+        ≡ plain.Part plain.Entry Next (body.exp (declares table.now) (shown of.now))
+        (body.null_test (shown of.now) body.tested (plain.goes_on body.past
+        (plain.Worths (plain.Value 0) (plain.Worths (plain.Given policy) plain.Done))))) }
+{
+    let rest = selected(alloc, of, policy)?;
+    operand(alloc, table, ENTRY, of, rest)
+}
+
+// A value that is put out.
+#[cycle(exp)]
+#[inline(never)]
+fn puts<'a>(alloc: Global, table: &'a Table, value: &TExpr) -> Result<Draft<'a>, NoMemory>
+    ensures { IfOk result (λ r. seen_rules r.rules
+        ≡ plain.Part plain.Entry Next (body.exp (declares table.now) (shown value.now))
+        (plain.goes_on body.past plain.Done)) }
+{
+    let rest = make::ends(alloc, PAST)?;
+    operand(alloc, table, ENTRY, value, rest)
+}
+
+// The arguments of a call, and what it does behind them.
+#[cycle(exp)]
+#[inline(never)]
+fn passes<'a>(
+    alloc: Global,
+    table: &'a Table,
+    class: u16,
+    method: u16,
+    arguments: &[TExpr],
+    of: &Option<Box<TExpr>>,
+) -> Result<Draft<'a>, NoMemory>
+    ensures { IfOk result (λ r. seen_rules r.rules
+        ≡ body.args (declares table.now) (call_start (receiver of.now)) (all_shown arguments.now)
+        (call_does (declares table.now) ((declares table.now).method class method)
+        (receiver of.now) (all_shown arguments.now))) }
+{
+    let does = call_does(alloc, table, class, method, of, arguments)?;
+    args(alloc, table, call_start(of), arguments, does)
+}
+
+// An operator with one operand.
+#[cycle(exp)]
+#[inline(never)]
+fn operates<'a>(alloc: Global, table: &'a Table, of: &TExpr) -> Result<Draft<'a>, NoMemory>
+    ensures { IfOk result (λ r. seen_rules r.rules
+        ≡ plain.Part plain.Entry Next (body.exp (declares table.now) (shown of.now))
+        (plain.goes_on body.past (plain.Worths (plain.Value 0) plain.Done))) }
+{
+    let rest = valued(alloc)?;
+    operand(alloc, table, ENTRY, of, rest)
+}
+
+// The second operand, and what the operator makes of both.
+#[cycle(exp)]
+#[inline(never)]
+fn combines<'a>(
+    alloc: Global,
+    table: &'a Table,
+    op: BinOp,
+    right: &TExpr,
+) -> Result<Draft<'a>, NoMemory>
+    ensures { IfOk result (λ r. seen_rules r.rules
+        ≡ plain.Part (body.second op) Next (body.exp (declares table.now) (shown right.now))
+        (body.divides op (shown right.now) (body.skips op (plain.goes_on body.past
+        (plain.Worths (plain.Value 1) (plain.Worths (plain.Value 0) plain.Done)))))) }
+{
+    let rest = combined(alloc, op, right)?;
+    operand(alloc, table, second(op), right, rest)
 }
 
 /// The node of an expression.
@@ -307,26 +382,16 @@ fn rules_of<'a>(alloc: Global, table: &'a Table, e: &TExpr) -> Result<Draft<'a>,
             given(alloc, declared::channel(table, *class, *channel))
         }
         TExprKind::Field(of, class, field) => {
-            let rest = selected(alloc, of, declared::field(table, *class, *field))?;
-            operand(alloc, table, ENTRY, of, rest)
+            selects(alloc, table, of, declared::field(table, *class, *field))
         }
-        TExprKind::Output(_, _, value) => {
-            let rest = make::ends(alloc, PAST)?;
-            operand(alloc, table, ENTRY, value, rest)
-        }
+        TExprKind::Output(_, _, value) => puts(alloc, table, value),
         TExprKind::Call(class, method, of, arguments) => {
-            let arguments = arguments.as_slice();
-            let does = call_does(alloc, table, *class, *method, of, arguments)?;
-            let all = args(alloc, table, call_start(of), arguments, does)?;
+            let all = passes(alloc, table, *class, *method, arguments.as_slice(), of)?;
             behind(alloc, table, of, all)
         }
-        TExprKind::Neg(of) | TExprKind::Not(of) => {
-            let rest = valued(alloc)?;
-            operand(alloc, table, ENTRY, of, rest)
-        }
+        TExprKind::Neg(of) | TExprKind::Not(of) => operates(alloc, table, of),
         TExprKind::Binary(op, left, right) => {
-            let rest = combined(alloc, *op, right)?;
-            let last = operand(alloc, table, second(*op), right, rest)?;
+            let last = combines(alloc, table, *op, right)?;
             operand(alloc, table, ENTRY, left, last)
         }
     }

@@ -1,15 +1,16 @@
 //! Which completions of a node are possible.
 
-ghost use Rattle.std.specs.Prelude.{◌≡◌, Bool, IfOk, OnOk, [], ◌∷◌, List as Items};
+ghost use Rattle.std.specs.Prelude.{◌≡◌, ◌<◌, ◌≤◌, Bool, true, false, IfOk, OnOk, [], ◌∷◌};
+ghost use Rattle.std.specs.Prelude.{List as Items, length, slice_set};
 ghost use Rattle.par_flow_laws.specs.par_policy.Numbers.{has};
 ghost use Rattle.par_flow_laws.specs.Kinds as flow;
 ghost use Rattle.par_flow_laws.specs.Rules as plain;
 ghost use Rattle.par_nodes.specs.Seen.{seen_absorber, seen_kind, seen_origin, seen_rules};
-ghost use Rattle.par_nodes.specs.Possible.{among, apart, cans, either, if_so, parts_can};
+ghost use Rattle.par_nodes.specs.Possible.{among, apart, cans, coming, either, if_so, parts_can};
+ghost use Rattle.par_nodes.specs.Possible.{passed};
 
 use crate::kinds::Kinds;
 use crate::rule::{Absorber, Kind, Origin, Rules, Start};
-use par_base::list::List;
 use par_base::memory::NoMemory;
 use std::alloc::Global;
 
@@ -89,15 +90,17 @@ fn leaves(kinds: &mut Kinds, comes: bool, kind: Kind) -> Result<(), NoMemory>
     Ok(())
 }
 
-// Whether the way is there, where the node is reached.
-fn comes(from: &Origin, parts: &[Kinds]) -> bool
-    ensures { result ≡ plain.comes (cans parts.now []) (seen_origin from.now) }
+// Whether the way is there, where the node is reached. The parts before stand from the place on,
+// the latest first.
+fn comes(from: &Origin, parts: &[Kinds], left: usize) -> bool
+    requires { left ≤ length parts.now }
+    ensures { result ≡ plain.comes (passed left parts.now) (seen_origin from.now) }
 {
     match from.start {
         Start::Entry => true,
         Start::After(part, kind) => {
-            if part < parts.len() {
-                parts[parts.len() - 1 - part].has(kind)
+            if part < parts.len() - left {
+                parts[left + part].has(kind)
             } else {
                 false
             }
@@ -105,71 +108,78 @@ fn comes(from: &Origin, parts: &[Kinds]) -> bool
     }
 }
 
-// The completions of the next part, where it is entered.
-fn entered(alloc: Global, found: &mut Vec<Kinds>, comes: bool) -> Kinds
-    ensures told { (f : flow.Kind → Bool) (fs : Items (flow.Kind → Bool))
-        → cans found.old.items [] ≡ f ∷ fs → among result ≡ if_so comes f }
-    ensures left { (f : flow.Kind → Bool) (fs : Items (flow.Kind → Bool))
-        → cans found.old.items [] ≡ f ∷ fs → cans found.new.items [] ≡ fs }
+// A part that is not entered completes in no way.
+fn enter(alloc: Global, parts: &mut [Kinds], place: usize, comes: bool)
+    requires { place < length parts.old }
+    ensures size { length parts.new ≡ length parts.old }
+    ensures kept { comes ≡ true → parts.new ≡ parts.old }
+    ensures cut { comes ≡ false → parts.new ≡ slice_set parts.old place [] }
 {
-    match found.pop() {
-        None => Kinds::new(alloc),
-        Some(kinds) => { if comes { kinds } else { Kinds::new(alloc) } }
+    if !comes {
+        parts[place] = Kinds::new(alloc);
     }
 }
 
-// The next part, where it is entered, and those of its completions that are not absorbed.
-fn add_part(
+// Passes the next part, where there is one, which is the last of so many that are left. Gives how
+// many are left then.
+fn pass_part(
     alloc: Global,
     absorber: &Absorber,
     comes: bool,
-    found: &mut Vec<Kinds>,
-    parts: &mut List<Kinds>,
+    parts: &mut [Kinds],
+    left: usize,
     kinds: &mut Kinds,
-) -> Result<(), NoMemory>
-    ensures { OnOk result ((f : flow.Kind → Bool) (fs : Items (flow.Kind → Bool))
-        → cans found.old.items [] ≡ f ∷ fs
-        → (cans found.new.items [] ≡ fs)
-        × (cans parts.new [] ≡ if_so comes f ∷ cans parts.old [])
+) -> Result<usize, NoMemory>
+    requires { left ≤ length parts.old }
+    ensures left { IfOk result (λ rest. rest ≤ length parts.new) }
+    ensures passed { IfOk result (λ rest. (f : flow.Kind → Bool) (fs : Items (flow.Kind → Bool))
+        → coming left parts.old ≡ f ∷ fs
+        → (coming rest parts.new ≡ fs)
+        × (passed rest parts.new ≡ if_so comes f ∷ passed left parts.old)
         × (among kinds.new ≡ either (among kinds.old)
         (apart (seen_absorber absorber.now) (if_so comes f)))) }
 {
-    let part = entered(alloc, found, comes);
-    kinds.keep_part(absorber, &part)?;
-    parts.push(part)?;
-    Ok(())
+    if left == 0 {
+        return Ok(0);
+    }
+    let place = left - 1;
+    enter(alloc, parts, place, comes);
+    kinds.keep_part(absorber, &parts[place])?;
+    Ok(place)
 }
 
-// The completions that rules add, of whose parts they are known.
+// The completions that rules add, of whose parts they are known: those that are left come before
+// the place, the next one last, and those that are passed behind it, the latest first.
 fn add_rules(
     alloc: Global,
     rules: &Rules,
-    found: &mut Vec<Kinds>,
-    parts: &mut List<Kinds>,
+    parts: &mut [Kinds],
+    left: usize,
     kinds: &mut Kinds,
 ) -> Result<(), NoMemory>
-    ensures { OnOk result (cans found.old.items [] ≡ parts_can (seen_rules rules.now)
+    requires { left ≤ length parts.old }
+    ensures { OnOk result (coming left parts.old ≡ parts_can (seen_rules rules.now)
         → among kinds.new ≡ either (among kinds.old)
-        (plain.can_by (cans parts.old []) (seen_rules rules.now))) }
+        (plain.can_by (passed left parts.old) (seen_rules rules.now))) }
 {
     match rules {
         Rules::Done => Ok(()),
         Rules::Part(from, absorber, _, more) => {
-            let reached = comes(from, parts.as_slice());
-            add_part(alloc, absorber, reached, found, parts, kinds)?;
-            add_rules(alloc, more, found, parts, kinds)
+            let reached = comes(from, parts, left);
+            let rest = pass_part(alloc, absorber, reached, parts, left, kinds)?;
+            add_rules(alloc, more, parts, rest, kinds)
         }
         Rules::Test(_, more) => {
-            add_part(alloc, &Absorber::Next, true, found, parts, kinds)?;
-            add_rules(alloc, more, found, parts, kinds)
+            let rest = pass_part(alloc, &Absorber::Next, true, parts, left, kinds)?;
+            add_rules(alloc, more, parts, rest, kinds)
         }
         Rules::Leaves(from, kind, more) => {
-            let reached = comes(from, parts.as_slice());
+            let reached = comes(from, parts, left);
             leaves(kinds, reached, *kind)?;
-            add_rules(alloc, more, found, parts, kinds)
+            add_rules(alloc, more, parts, left, kinds)
         }
-        Rules::Heads(_, more) => add_rules(alloc, more, found, parts, kinds),
-        Rules::Worths(_, more) => add_rules(alloc, more, found, parts, kinds),
+        Rules::Heads(_, more) => add_rules(alloc, more, parts, left, kinds),
+        Rules::Worths(_, more) => add_rules(alloc, more, parts, left, kinds),
     }
 }
 
@@ -179,8 +189,8 @@ pub fn completions(alloc: Global, rules: &Rules, mut found: Vec<Kinds>) -> Resul
     requires { cans found.items [] ≡ parts_can (seen_rules rules.now) }
     ensures { IfOk result (λ kinds. among kinds ≡ plain.can_by [] (seen_rules rules.now)) }
 {
-    let mut parts = List::new(alloc);
     let mut kinds = Kinds::new(alloc);
-    add_rules(alloc, rules, &mut found, &mut parts, &mut kinds)?;
+    let left = found.len();
+    add_rules(alloc, rules, found.as_mut_slice(), left, &mut kinds)?;
     Ok(kinds)
 }

@@ -19,7 +19,7 @@ use Rattle.par_check_span_laws.specs.par_annotation_laws.Bodies.{typed_declarati
 use Rattle.par_check_span_laws.specs.par_annotation_laws.Bodies.{typed_declarations}
 use Rattle.par_resolved.specs.Resolved.{table_of}
 use Rattle.par_typing.specs.Typed.{written}
-use Rattle.par_typing.proofs.Limits.{limits_kept, class_within}
+use Rattle.par_table.proofs.par_faults.Within.{limits_kept, class_within}
 use Rattle.par_check_laws.specs.Accepted.{MOST_BODIES}
 use Rattle.par_observer.specs.Trees.{IsTypedTree}
 

@@ -1,13 +1,11 @@
 -- From a typed tree and the verdict on its flows to what is said of the tree.
-use Rattle.std.proofs.Common.{◌≡◌, ◌≤◌, List, [], ◌∷◌, Option, Some, None, Result, Ok, Err}
-use Rattle.std.proofs.Common.{length, sym, subst, arith, refl, ap, ◌∙◌}
-use Rattle.std.specs.Prelude.{slice_get, IsErrAnd}
+use Rattle.std.proofs.Common.{◌≡◌, ◌≤◌, List, [], None, Result, Ok, Err}
+use Rattle.std.proofs.Common.{length, sym, subst, arith}
+use Rattle.std.specs.Prelude.{IsErrAnd}
 use Rattle.std.proofs.lemmas.List.{length-map}
-use Rattle.std.specs.List.{AllByRecursion}
 use Rattle.std.specs.Result.{IfOk, IfErr}
 use Rattle.par_tree.specs.Plain.{Source}
 use Rattle.par_typed.specs.declared.program.Typed.{Typed}
-use Rattle.par_typed.specs.declared.table.ClassInfo.{ClassInfo}
 use Rattle.par_typed.specs.declared.table.Table.{Table}
 use Rattle.par_typed.specs.Plain.{Body}
 use Rattle.par_typed.specs.Shown.{bodies}
@@ -20,12 +18,9 @@ use Rattle.par_table_laws.specs.Declared.{IsWellDeclared}
 use Rattle.par_typing.proofs.par_source_table_laws.Written.{fields_are_written}
 use Rattle.par_resolved.specs.Resolved.{table_of}
 use Rattle.par_scope.specs.Names.{IsFewTable}
-use Rattle.par_typing.proofs.Limits.{limits_kept}
+use Rattle.par_table.proofs.par_faults.Within.{limits_kept}
 use Rattle.par_typing.proofs.Tables.{few_table}
-use Rattle.par_body_laws.specs.Members as members
-use Rattle.par_secure_laws.specs.par_typed_laws.Orderly as well
-use Rattle.par_check.specs.par_rounds.Orderly as rounds
-use Rattle.par_check.specs.par_rounds.Orderly.{IsOrderlyBody}
+use Rattle.par_typed.specs.Members as members
 use Rattle.par_check.specs.Judged.{IsVerdict, IsFirstBroken}
 use Rattle.par_observer.specs.declared.error.JudgeError.{JudgeError}
 use Rattle.par_observer.specs.declared.error.JudgeError.TheVariants.{Refused, Memory}
@@ -108,28 +103,7 @@ refused_handed tree typed (Ok a) e is faultless same first = tt
 refused_handed tree typed (Err x) e is faultless same first =
     refuses_so tree typed x is faultless (subst (IsFlowRefused typed) (sym same) first)
 
-same_methods : (o : Option ClassInfo) → rounds.methods_in o ≡ members.methods_in o
-same_methods None = refl
-same_methods (Some class) = refl
-
-orderly_so : (table : Table) (b : Body) → well.IsOrderlyBody table b → IsOrderlyBody table b
-orderly_so table b h = (
-  h.0,
-  record {
-    method =
-        ap (λ ms. slice_get ms b.method) (same_methods (slice_get table.classes b.class))
-        ∙ h.1.method;
-    orderly = h.1.orderly;
-  },
-)
-
--- bodies are as the verdict needs them
-pub orderly_bodies : (table : Table) (bs : List Body)
-    → AllByRecursion (well.IsOrderlyBody table) bs → AllByRecursion (IsOrderlyBody table) bs
-orderly_bodies table [] h = tt
-orderly_bodies table (b ∷ bs) h = (orderly_so table b h.0, orderly_bodies table bs h.1)
-
--- and there are few classes
+-- there are few classes
 pub few_classes : (tree : Source) (typed : Typed) → IsTypedTree tree typed
     → length typed.table.classes ≤ 65536
 few_classes tree typed is =

@@ -10,3 +10,4 @@ pub mod Ready
 pub mod Securing
 pub use Rattle.par_check_span_laws.proofs as par_check_span_laws
 pub use Rattle.par_typing.proofs as par_typing
+pub use Rattle.par_table.proofs.par_faults as par_faults

@@ -23,7 +23,7 @@ use Rattle.par_typed.specs.Shown.{bodies}
 use Rattle.par_scope.specs.Names.{IsFewMembers, IsFewTable, member_names}
 use Rattle.par_resolved.specs.Resolved.{table_of}
 use Rattle.par_typing.specs.Typed.{written}
-use Rattle.par_typing.proofs.Limits.{limits_kept}
+use Rattle.par_table.proofs.par_faults.Within.{limits_kept}
 use Rattle.par_typing.proofs.Tables.{few_table}
 use Rattle.par_secure_laws.specs.par_typed_laws.WellTyped.{IsWellTyped}
 use Rattle.par_table_laws.specs.Declared.{HasFewFields, IsWellDeclared}
@@ -33,7 +33,7 @@ use Rattle.par_observer.specs.declared.error.JudgeError.{JudgeError}
 use Rattle.par_observer.specs.Trees.{bodies_of, IsTypedTree, IsReady, ChecksLie}
 use Rattle.par_observer.specs.Judgements.{IsTypedAs}
 use Rattle.par_observer.proofs.Few.{few_bodies}
-use Rattle.par_observer.proofs.Flowing.{few_classes, orderly_bodies}
+use Rattle.par_observer.proofs.Flowing.{few_classes}
 use Rattle.par_observer.proofs.OfTree.{begin_in}
 
 few_of : (cs : List ClassInfo) → AllByRecursion IsFewMembers (map member_names cs)
@@ -65,7 +65,7 @@ ready tree (Ok typed) is well declared = record {
   few_classes = few_classes tree typed is;
   few_fields = few_fields tree typed is;
   few_bodies = few_bodies tree typed is;
-  orderly = orderly_bodies typed.table (bodies typed.bodies) well.orderly;
+  orderly = well.orderly;
 }
 ready tree (Err e) is well declared = tt
 

@@ -19,7 +19,7 @@ use Rattle.par_check_laws.specs.Checks.{checks}
 use Rattle.par_check_laws.specs.Verdict.{IsAccepted}
 use Rattle.par_flow_laws.specs.Lattice.{numbers}
 use Rattle.par_flow_laws.specs.Facts.{Facts}
-use Rattle.par_check.specs.par_rounds.Orderly.{IsOrderlyBody}
+use Rattle.par_flow_laws.specs.Orderly.{IsOrderlyBody}
 use Rattle.par_check_laws.specs.Accepted.{IsAcceptedBy, MOST_BODIES}
 use Rattle.par_check.specs.Judged.{IsFirstBroken}
 use Rattle.par_observer.specs.declared.error.JudgeError.{JudgeError}

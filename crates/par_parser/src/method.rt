@@ -51,7 +51,7 @@ pub fn method(
         (input cursor.old) result (input cursor.new) }
     ensures shorter { OnOk result (length cursor.new.left.now < length cursor.old.left.now) }
 {
-    let tail = tail(alloc, cursor)?;
+    let tail = tail_of(alloc, cursor)?;
     let id = ident(alloc, name)?;
     found.methods.push(MethodDecl {
         id,
@@ -70,7 +70,7 @@ pub fn method(
 }
 
 /// What stands behind the name of a method.
-fn tail(alloc: Global, cursor: &mut Cursor<'_, Paragon>) -> Result<Tail, ParseError>
+fn tail_of(alloc: Global, cursor: &mut Cursor<'_, Paragon>) -> Result<Tail, ParseError>
     ensures read { Reads
         (symbol.token (sort.Sign signs.LEFT_PAREN) ∷ symbol.name g.Params
         ∷ symbol.token (sort.Sign signs.RIGHT_PAREN) ∷ symbol.name g.Effects

@@ -8,7 +8,7 @@ use Rattle.par_typed.specs.declared.table.Table.{Table}
 use Rattle.par_typed.specs.Plain.{Body}
 use Rattle.par_typed_laws.specs.par_body_laws.Forms.{Setting}
 use Rattle.par_typed_laws.specs.par_body_laws.Locals.{set_by_call}
-use Rattle.par_typed_laws.specs.par_body_laws.Members.{method_at}
+use Rattle.par_typed.specs.Members.{method_at}
 use Rattle.par_typed_laws.specs.par_body_laws.Proper.{IsProper, IsProperOf}
 use Rattle.par_place_laws.specs.par_code_form.Code.{Words}
 use Rattle.par_place_laws.specs.par_code_form.Method.{labelled, first_scope}

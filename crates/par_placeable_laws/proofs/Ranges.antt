@@ -21,7 +21,7 @@ use Rattle.par_typed.specs.Plain.{Close, SetLocal, SetStatic, SetField, Eval, Wh
 use Rattle.par_typed.specs.Plain.{MayTSta, NoElse, Otherwise, TStas, End, Then, TCatches, NoCatch}
 use Rattle.par_typed.specs.Plain.{Catch}
 use Rattle.par_typed_laws.specs.par_completes.Typed.{completes}
-use Rattle.par_typed_laws.specs.par_body_laws.Members.{fields_in, methods_in}
+use Rattle.par_typed.specs.Members.{fields_in, methods_in}
 use Rattle.par_typed_laws.specs.par_body_laws.Types.{Operates}
 use Rattle.par_typed_laws.specs.par_body_laws.Forms.{Setting}
 use Rattle.par_typed_laws.specs.par_body_laws.Locals.{behind}

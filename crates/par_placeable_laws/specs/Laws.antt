@@ -4,7 +4,7 @@ use Rattle.std.specs.List.{AllByRecursion}
 use Rattle.par_typed.specs.declared.table.MethodInfo.{MethodInfo}
 use Rattle.par_typed.specs.declared.table.Table.{Table}
 use Rattle.par_typed.specs.Plain.{Body}
-use Rattle.par_typed_laws.specs.par_body_laws.Members.{method_at}
+use Rattle.par_typed.specs.Members.{method_at}
 use Rattle.par_place_laws.specs.par_code_form.declared.labelled.Labelled.{Labelled}
 use Rattle.par_place_laws.specs.par_code_form.Code.{Words}
 use Rattle.par_place_laws.specs.par_code_form.Method.{labelled}

@@ -17,7 +17,8 @@ use Rattle.par_frame_pass_laws.specs.par_kinds.Acts.{Act}
 use Rattle.par_frame_pass_laws.proofs.Lower.{below-same, frame-then}
 use Rattle.par_label_kind_laws.specs.Walks.{Sign, Role, Plain, Opens, Closes, Catches, Guard}
 use Rattle.par_label_kind_laws.specs.Walks.{behind_label, behind_flow, left}
-use Rattle.par_label_kind_laws.specs.Walks.{opened, begins, Plays, Meets, Does}
+use Rattle.par_label_kind_laws.specs.Walks.{opened, Plays, Meets, Does}
+use Rattle.par_label_kind_laws.specs.par_match_laws.Labelled.{is_there}
 use Rattle.par_label_kind_laws.specs.Walks.{Walks}
 use Rattle.par_placed_fit_laws.specs.Given.{behind_act, given_from}
 
@@ -166,19 +167,19 @@ module _ (exc : List Name) (act : Item → Act) (at : ℕ → Sign) (many room :
       pub into_ : FrameInto exc k frame
       pub same : exact ≡ true → frame ≡ k
 
-    not_begun : (l : ℕ) (xs : List Item) → begins (Label l ∷ xs) ≡ true → ⊥
+    not_begun : (l : ℕ) (xs : List Item) → is_there (Label l ∷ xs) ≡ true → ⊥
     not_begun l xs h = absurd (cc h)
 
     pub arrives : (xs : List Item) (ns : List ℕ) (from : ℕ) (guards : List Guard) (k : KFrame)
         → length xs ≡ length ns → Walk xs guards (Some k) → Agrees xs ns from (Some k)
-        → Lies (begins xs) k from
+        → Lies (is_there xs) k from
     arrives [] ns from guards k long w agrees = absurd (no_walk guards k w)
     arrives (x ∷ xs) [] from guards k long w agrees = absurd (omega (arith, long))
     arrives (x ∷ xs) (n ∷ ns) from guards k long w agrees =
         split
         (λ y. Walks exc act at many room (y ∷ xs) guards (Some k)
         → ((o : ℕ) → from ≤ o → G o ≡ given_from at act (y ∷ xs) (n ∷ ns) from (Some k) o)
-        → Lies (begins (y ∷ xs)) k from)
+        → Lies (is_there (y ∷ xs)) k from)
         (λ l v a. let parts = label_walks l xs guards (Some k) v in
         let more : length xs ≡ length ns = omega (arith, long) in
         passed l (at l).frame k parts.0 xs ns from (opened (at l).role guards)
@@ -196,11 +197,11 @@ module _ (exc : List Name) (act : Item → Act) (at : ℕ → Sign) (many room :
             (guards : List Guard)
             → ((k : KFrame) → Walks exc act at many room xs guards (Some k)
             → ((o : ℕ) → from ≤ o → G o ≡ given_from at act xs ns from (Some k) o)
-            → Lies (begins xs) k from)
+            → Lies (is_there xs) k from)
             → Walks exc act at many room xs guards (behind_label f (Some k))
             → ((o : ℕ) → from ≤ o
             → G o ≡ given_from at act xs ns from (behind_label f (Some k)) o)
-            → Lies (begins (Label l ∷ xs)) k from
+            → Lies (is_there (Label l ∷ xs)) k from
         passed l None k meets xs ns from guards rest u b =
             let r = rest k u b in
             record {
@@ -226,7 +227,7 @@ module _ (exc : List Name) (act : Item → Act) (at : ℕ → Sign) (many room :
     catches Catches = true
 
     caught_begins : (r : Role) (l : ℕ) (xs : List Item) (guards : List Guard)
-        → Plays r l xs guards → catches r ≡ true → begins xs ≡ true
+        → Plays r l xs guards → catches r ≡ true → is_there xs ≡ true
     caught_begins Plain l xs guards p c = absurd (cc c)
     caught_begins (Opens to locals) l xs guards p c = absurd (cc c)
     caught_begins Closes l xs guards p c = absurd (cc c)

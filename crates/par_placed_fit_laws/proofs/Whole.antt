@@ -40,7 +40,8 @@ use Rattle.par_frame_pass_laws.specs.par_kinds.Fits.{around, GoesTo, CatchFits, 
 use Rattle.par_frame_pass_laws.proofs.Lower.{below-then, frame-then}
 use Rattle.par_label_kind_laws.specs.Walks.{Sign, Guard, behind_label, behind_flow, left, opened}
 use Rattle.par_label_kind_laws.specs.Walks.{goal}
-use Rattle.par_label_kind_laws.specs.Walks.{begins, To, Onto, Branching, Does, IsHandled}
+use Rattle.par_label_kind_laws.specs.Walks.{To, Onto, Branching, Does, IsHandled}
+use Rattle.par_label_kind_laws.specs.par_match_laws.Labelled.{is_there}
 use Rattle.par_label_kind_laws.specs.Fits.{Fits}
 use Rattle.par_placed_fit_laws.specs.Given.{aim, aimed, behind_act, given_from}
 use Rattle.par_placed_fit_laws.specs.Laws.{Means}
@@ -238,7 +239,7 @@ module _ (exc : List Name) (act : Item → Act) (at : ℕ → Sign) (code : Labe
             guards = guards;
             does = d.0;
             next = λ g lies.
-                loose (begins xs) g (from + size y n)
+                loose (is_there xs) g (from + size y n)
                 (arrives exc act at many room G xs ms (from + size y n) guards g
                 (omega (arith, l))
                 (subst (λ (r : Option KFrame). Walk exc act at many room xs guards r) lies d.1)

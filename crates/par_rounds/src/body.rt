@@ -9,7 +9,8 @@ ghost use Rattle.par_nodes.specs.Seen.{seen_node, seen_rules};
 ghost use Rattle.par_pass_laws.specs.Written.{table as by_point};
 ghost use Rattle.par_rounds.specs.Seen.{seen_facts, AreRowsWide};
 ghost use Rattle.par_rounds.specs.Bodies.{AreLeastClosed};
-ghost use Rattle.par_rounds.specs.Orderly.{locals_in, methods_in, IsOrderlyBody};
+ghost use Rattle.par_flow_laws.specs.Orderly.{locals_in, IsOrderlyBody};
+ghost use Rattle.par_typed.specs.Members.{methods_in};
 
 use crate::fact::Fact;
 use crate::first::first_way;

@@ -8,6 +8,7 @@ ghost use Rattle.par_flow_laws.specs.Ranges.{AreLocks, IsFromInRange, IsWorthInR
 ghost use Rattle.par_flow_laws.specs.Rules.{part_at, way as way_from, worth as worth_of};
 ghost use Rattle.par_flow_laws.specs.Ways.{assigned as written};
 ghost use Rattle.par_nodes.specs.Seen.{seen_origin, seen_start, seen_worth};
+ghost use Rattle.par_nodes.specs.declared.rule.Locks.TheVariants.{Kept};
 ghost use Rattle.par_pass_laws.specs.par_except.Seen.{locals, may_see, seen, HasLocals};
 ghost use Rattle.par_pass_laws.specs.par_except.Seen.{MayHaveLocals};
 ghost use Rattle.par_rounds.specs.Seen.{latest_first, AreFactsWide};
@@ -153,6 +154,8 @@ fn open(way: &mut SharedWay, locks: Locks)
     }
 }
 
+// The way that starts there, step by step.
+#[inline(never)]
 fn changed(
     alloc: Global,
     start: &SharedWay,
@@ -174,6 +177,31 @@ fn changed(
     Ok(way)
 }
 
+fn is_kept(locks: Locks) -> bool
+    ensures { IsTrue result → locks.entry ≡ Kept }
+{
+    match locks {
+        Locks::Kept => true,
+        Locks::Nothing | Locks::One(_) | Locks::All(_) => false,
+    }
+}
+
+// Whether a way stays as it starts, as most ways do.
+fn is_plain(from: &Origin) -> bool
+    ensures { IsTrue result → seen_origin from.now ≡ seen_start from.now.start }
+{
+    match from.assigned {
+        Some(_) => false,
+        None => match from.tested {
+            Some(_) => false,
+            None => match from.raised {
+                Some(_) => false,
+                None => is_kept(from.shut) && is_kept(from.opened),
+            },
+        },
+    }
+}
+
 /// The way at a node that this way enters, behind these parts.
 pub fn way_at(
     alloc: Global,
@@ -189,7 +217,12 @@ pub fn way_at(
 {
     match start_of(way, parts, from.start) {
         None => Ok(None),
-        Some(start) => Ok(Some(changed(alloc, start, parts, from)?)),
+        Some(start) => {
+            if is_plain(from) {
+                return Ok(Some(start.share()?));
+            }
+            Ok(Some(changed(alloc, start, parts, from)?))
+        }
     }
 }
 

@@ -7,36 +7,20 @@ use Rattle.par_typed.specs.declared.table.FieldInfo.{FieldInfo}
 use Rattle.par_typed.specs.declared.table.ChannelInfo.{ChannelInfo}
 use Rattle.par_typed.specs.declared.table.ParamInfo.{ParamInfo}
 use Rattle.par_typed.specs.declared.table.MethodInfo.{MethodInfo}
-use Rattle.par_typed.specs.declared.table.ClassInfo.{ClassInfo}
 use Rattle.par_typed.specs.declared.table.Table.{Table}
+use Rattle.par_typed.specs.Members.{fields_in, channels_in, methods_in, class_is_exception}
 use Rattle.par_scope.specs.declared.locals.Slot.{Slot}
 use Rattle.par_scope.specs.declared.members.Place.{Place}
 
-abbrev pub class_fields : Option ClassInfo → List FieldInfo
-class_fields None = []
-class_fields (Some class) = class.fields
-
-abbrev pub class_channels : Option ClassInfo → List ChannelInfo
-class_channels None = []
-class_channels (Some class) = class.channels
-
-abbrev pub class_methods : Option ClassInfo → List MethodInfo
-class_methods None = []
-class_methods (Some class) = class.methods
-
 -- a member by the number of its class and its own number there
 abbrev pub field_at : Table → Place → Option FieldInfo
-field_at table p = slice_get (class_fields (slice_get table.classes p.class)) p.number
+field_at table p = slice_get (fields_in (slice_get table.classes p.class)) p.number
 
 abbrev pub channel_at : Table → Place → Option ChannelInfo
-channel_at table p = slice_get (class_channels (slice_get table.classes p.class)) p.number
+channel_at table p = slice_get (channels_in (slice_get table.classes p.class)) p.number
 
 abbrev pub method_at : Table → Place → Option MethodInfo
-method_at table p = slice_get (class_methods (slice_get table.classes p.class)) p.number
-
-abbrev pub class_is_exception : Option ClassInfo → Bool
-class_is_exception None = false
-class_is_exception (Some class) = class.exception
+method_at table p = slice_get (methods_in (slice_get table.classes p.class)) p.number
 
 -- the class of this number is an exception class
 unfoldable pub is_exception : Table → Option ℕ → Bool

@@ -23,7 +23,7 @@ use Rattle.par_run_laws.specs.Names.{channel_named, channel_of, channel_member, 
 use Rattle.par_run_laws.specs.Names.{main_in}
 use Rattle.par_run_laws.specs.Source.{given_to}
 use Rattle.par_in_step_laws.specs.par_alike.Subject.{input_of, inputs_in, input_channels, subject}
-use Rattle.par_body_laws.specs.Members.{method_at, methods_in, channel_at, channels_in}
+use Rattle.par_typed.specs.Members.{method_at, methods_in, channel_at, channels_in}
 use Rattle.par_body_laws.specs.Names.{IsChannel}
 use Rattle.par_in_step_laws.specs.par_two_run_laws.Watched.{IsThere}
 use Rattle.par_in_step_laws.proofs.par_two_run_laws.States.{Watch, Sees, declared}

@@ -34,7 +34,7 @@ use Rattle.par_check_laws.specs.Checks.{others}
 use Rattle.par_check_laws.specs.Verdict.{KeepsNumbered}
 use Rattle.par_secrecy.specs.Shown.{Observer}
 use Rattle.par_run_laws.specs.Names.{body_of}
-use Rattle.par_body_laws.specs.Members.{methods_in, method_at}
+use Rattle.par_typed.specs.Members.{methods_in, method_at}
 use Rattle.par_body_laws.specs.Locals.{set_by_call}
 use Rattle.par_body_laws.specs.Forms.{Setting, AsksLock}
 use Rattle.par_body_laws.specs.Uses.{IsNotThis}

@@ -24,7 +24,7 @@ use Rattle.par_run_laws.specs.Names.{Name, Member, channel_named, field_named, m
 use Rattle.par_run_laws.specs.Values.{shown_value, shown_object}
 use Rattle.par_in_step_laws.specs.par_alike.Subject.{event_policy, policy_at, channel_policy}
 use Rattle.par_in_step_laws.specs.par_alike.Subject.{field_policy, of_class}
-use Rattle.par_body_laws.specs.Members.{field_at}
+use Rattle.par_typed.specs.Members.{field_at}
 use Rattle.par_body_laws.specs.Names.{IsField}
 use Rattle.par_in_step_laws.proofs.par_two_run_laws.States.{Watch, HasPolicy, IsMade, Sees}
 use Rattle.par_in_step_laws.proofs.par_two_run_laws.States.{declared}

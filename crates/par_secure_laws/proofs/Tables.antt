@@ -25,7 +25,7 @@ use Rattle.par_run_laws.specs.Names.{field_named, field_of, field_member, made_n
 use Rattle.par_run_laws.specs.Names.{class_named, class_name}
 use Rattle.par_in_step_laws.specs.par_alike.Subject.{policy_at, policy_or_none, channel_policy}
 use Rattle.par_in_step_laws.specs.par_alike.Subject.{field_policy, of_class}
-use Rattle.par_body_laws.specs.Members.{method_at, methods_in, field_at, fields_in}
+use Rattle.par_typed.specs.Members.{method_at, methods_in, field_at, fields_in}
 use Rattle.par_body_laws.specs.Names.{IsField}
 use Rattle.par_in_step_laws.proofs.par_two_run_laws.Leaves.{Throws, first_of, later_of}
 

@@ -42,7 +42,8 @@ use Rattle.par_kinds.specs.Fits.{FitsAt, GoesTo}
 use Rattle.par_kinds.specs.Linked.{AllGiven, AllFit, exception_names, result_of, first_frame}
 use Rattle.par_kinds.specs.Linked.{kinds_given, act_at, caught_kind}
 use Rattle.par_sound_laws.specs.States.{Live, Good, HeapFits, Runs, Below, FramesFit, StateFits}
-use Rattle.par_sound_laws.specs.States.{TurnFits, Takes, Keeps, class_kinds, kinds_in}
+use Rattle.par_sound_laws.specs.States.{TurnFits, Takes, Keeps, class_kinds}
+use Rattle.par_kinds.specs.par_step_laws.Fields.{kinds_in}
 use Rattle.par_sound_laws.specs.Right.{AreRight}
 use Rattle.par_sound_laws.specs.Laws.{StatesStayFit}
 use Rattle.par_sound_laws.proofs.Values.{good-into}

@@ -10,7 +10,7 @@ use Rattle.par_values.specs.declared.kind.Kind.TheVariants.{Number, Object}
 use Rattle.par_values.specs.Areas.{Objects, fits, list_or_none}
 use Rattle.par_values.specs.Reasons.{is_of}
 use Rattle.par_kinds.specs.par_step_laws.Classes.{class_names, exceptions}
-use Rattle.par_kinds.specs.par_step_laws.Fields.{is_shared, kind_of, object_kinds}
+use Rattle.par_kinds.specs.par_step_laws.Fields.{is_shared, kind_of, kinds_in}
 use Rattle.par_kinds.specs.par_step_laws.State.{Frame, State}
 use Rattle.par_kinds.specs.par_step_laws.Step.{Turn, Silent, Shows, Ends, IsBad, past}
 use Rattle.par_kinds.specs.declared.frame.VKind.{VKind}
@@ -64,10 +64,6 @@ all_shared (file ∷ files) = shared_kinds file ++ all_shared files
 -- the kinds of all static fields, those of the locks behind them
 abbrev pub static_kinds : List ClassFile → List Kind
 static_kinds files = all_shared files ++ replicate 256 Number
-
-abbrev pub kinds_in : Option ClassFile → List Kind
-kinds_in None = []
-kinds_in (Some file) = object_kinds file
 
 -- the kinds of the fields of an object of a class
 abbrev pub class_kinds : List ClassFile → ℕ → List Kind

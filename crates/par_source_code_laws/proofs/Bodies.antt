@@ -11,7 +11,7 @@ use Rattle.par_typed.specs.declared.table.ClassInfo.{ClassInfo}
 use Rattle.par_typed.specs.declared.table.MethodInfo.{MethodInfo}
 use Rattle.par_typed.specs.declared.table.Table.{Table}
 use Rattle.par_typed.specs.Plain.{TSta, Body}
-use Rattle.par_typed_laws.specs.par_body_laws.Members.{methods_in, method_at}
+use Rattle.par_typed.specs.Members.{methods_in, method_at}
 use Rattle.par_typed_laws.specs.Bodied.{Spot, spot_of, methods_from}
 use Rattle.par_evaluation_laws.specs.par_run_laws.Names.{body_of}
 use Rattle.par_erase.specs.Shown.{numbered}

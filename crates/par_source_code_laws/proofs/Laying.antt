@@ -6,7 +6,7 @@ use Rattle.par_typed.specs.declared.table.ChannelInfo.{ChannelInfo}
 use Rattle.par_typed.specs.declared.table.MethodInfo.{MethodInfo}
 use Rattle.par_typed.specs.declared.table.ClassInfo.{ClassInfo}
 use Rattle.par_typed.specs.declared.table.Table.{Table}
-use Rattle.par_typed_laws.specs.par_body_laws.Members.{field_at, channel_at, method_at}
+use Rattle.par_typed.specs.Members.{field_at, channel_at, method_at}
 use Rattle.par_erase.specs.Erased.{inputs_in, input_place, output_place}
 use Rattle.par_evaluation_laws.specs.par_agreement_laws.Laid.{Layout, Meth, HasMethod, HasOwn}
 use Rattle.par_evaluation_laws.specs.par_agreement_laws.Laid.{HasStatic}

@@ -10,7 +10,7 @@ use Rattle.par_typed.specs.declared.ty.Ty.TheVariants as ty
 use Rattle.par_typed.specs.declared.table.ClassInfo.{ClassInfo}
 use Rattle.par_typed.specs.declared.table.MethodInfo.{MethodInfo}
 use Rattle.par_typed.specs.declared.table.ParamInfo.{ParamInfo}
-use Rattle.par_typed_laws.specs.par_body_laws.Members.{methods_in, method_at}
+use Rattle.par_typed.specs.Members.{methods_in, method_at}
 use Rattle.par_typed_laws.specs.Beginning.{mains}
 use Rattle.par_evaluation_laws.specs.par_run_laws.Names.{place_of, main_in, main_of}
 use Rattle.par_erase.specs.Erased.{erased_class, erased_method, erased_param, erased_table}

@@ -13,12 +13,12 @@ use Rattle.par_typed.specs.declared.table.FieldInfo.{FieldInfo}
 use Rattle.par_typed.specs.declared.table.MethodInfo.{MethodInfo}
 use Rattle.par_typed.specs.declared.table.ParamInfo.{ParamInfo}
 use Rattle.par_typed.specs.declared.table.Table.{Table}
-use Rattle.par_typed_laws.specs.par_body_laws.Members.{fields_in, channels_in, methods_in}
-use Rattle.par_typed_laws.specs.par_body_laws.Members.{field_at, channel_at, method_at}
+use Rattle.par_typed.specs.Members.{fields_in, channels_in, methods_in}
+use Rattle.par_typed.specs.Members.{field_at, channel_at, method_at}
 use Rattle.par_erase.specs.Shown.{channel_info}
 use Rattle.par_erase.specs.Erased.{erased_table, erased_class, erased_field, erased_method}
 use Rattle.par_erase.specs.Erased.{erased_param, erased_channels, inputs_among, outputs_among}
-use Rattle.par_erase.specs.Erased.{channels_of, inputs_in, input_place, output_place}
+use Rattle.par_erase.specs.Erased.{inputs_in, input_place, output_place}
 
 -- ---- lists
 
@@ -150,7 +150,7 @@ method_in (Some class) i info h =
 input_in : (o : Option ClassInfo) (k : ℕ) (info : ChannelInfo)
     → slice_get (channels_in o) k ≡ Some info → info.is_input ≡ true
     → slice_get (channels_in (option_map erased_class o))
-    (count_by (λ channel. channel.is_input) (take k (channels_of o)))
+    (count_by (λ channel. channel.is_input) (take k (channels_in o)))
     ≡ Some (channel_info true info.name)
 input_in None k info h is = absurd (cc)
 input_in (Some class) k info h is = input_of class.channels k info h is
@@ -158,8 +158,8 @@ input_in (Some class) k info h is = input_of class.channels k info h is
 output_in : (o : Option ClassInfo) (k : ℕ) (info : ChannelInfo)
     → slice_get (channels_in o) k ≡ Some info → info.is_input ≡ false
     → slice_get (channels_in (option_map erased_class o))
-    (count_by (λ channel. channel.is_input) (channels_of o)
-    + count_by (λ channel. not channel.is_input) (take k (channels_of o)))
+    (count_by (λ channel. channel.is_input) (channels_in o)
+    + count_by (λ channel. not channel.is_input) (take k (channels_in o)))
     ≡ Some (channel_info false info.name)
 output_in None k info h is = absurd (cc)
 output_in (Some class) k info h is = output_of class.channels k info h is

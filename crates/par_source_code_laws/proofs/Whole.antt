@@ -13,7 +13,7 @@ use Rattle.par_typed.specs.declared.table.MethodInfo.{MethodInfo}
 use Rattle.par_typed.specs.declared.table.Table.{Table}
 use Rattle.par_typed.specs.Plain.{TSta, Body}
 use Rattle.par_typed_laws.specs.par_completes.Typed.{completes}
-use Rattle.par_typed_laws.specs.par_body_laws.Members.{method_at}
+use Rattle.par_typed.specs.Members.{method_at}
 use Rattle.par_typed_laws.specs.par_body_laws.Locals.{BeginsWith, arriving, arrivals}
 use Rattle.par_typed_laws.specs.par_body_laws.Forms.{Setting}
 use Rattle.par_typed_laws.specs.par_body_laws.Proper.{IsProper, IsProperOf}
@@ -27,7 +27,8 @@ use Rattle.par_evaluation_laws.specs.par_agreement_laws.Laid.{Layout, Meth, give
 use Rattle.par_evaluation_laws.specs.Programs.{Coded, first_set}
 use Rattle.par_source_code_laws.specs.Named.{EachInSta}
 use Rattle.par_source_code_laws.specs.Methods.{meth, may_meth, local_type, IsLaid, IsCodeOf}
-use Rattle.par_source_code_laws.specs.Methods.{is_ordinary, is_exception, static_type, own_type}
+use Rattle.par_source_code_laws.specs.Methods.{is_ordinary, static_type, own_type}
+use Rattle.par_typed.specs.Members.{class_is_exception}
 use Rattle.par_source_code_laws.specs.Methods.{is_input}
 use Rattle.par_source_code_laws.specs.Methods.{is_output}
 use Rattle.par_source_code_laws.specs.Laws.{WellTypedBodiesAreCoded, ErasedBodiesComplete}
@@ -67,7 +68,7 @@ module _ (t : Table) (bodies : List Body) (lay : Layout) where
     made = λ c info there ordinary is.
         is ∙ ap is_ordinary (class_erased t c info there) ∙ ap not ordinary;
     raised = λ c info there exception is.
-        is ∙ ap is_exception (class_erased t c info there) ∙ exception;
+        is ∙ ap class_is_exception (class_erased t c info there) ∙ exception;
     static = λ c f info there kind is.
         is ∙ ap static_type (field_erased t c f info there)
         ∙ ap (λ b. if b then Some info.ty else None) kind;

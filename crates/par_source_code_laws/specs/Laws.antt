@@ -5,7 +5,7 @@ use Rattle.par_typed.specs.declared.ty.Ty.TheVariants as ty
 use Rattle.par_typed.specs.declared.table.MethodInfo.{MethodInfo}
 use Rattle.par_typed.specs.declared.table.Table.{Table}
 use Rattle.par_typed.specs.Plain.{TSta, Body}
-use Rattle.par_typed_laws.specs.par_body_laws.Members.{method_at}
+use Rattle.par_typed.specs.Members.{method_at}
 use Rattle.par_typed_laws.specs.par_body_laws.Proper.{IsProper}
 use Rattle.par_typed_laws.specs.par_completes.Typed.{completes}
 use Rattle.par_erase.specs.Asked.{Locks, asked_in}

@@ -10,7 +10,7 @@ use Rattle.par_typed.specs.declared.table.MethodInfo.{MethodInfo}
 use Rattle.par_typed.specs.declared.table.ClassInfo.{ClassInfo}
 use Rattle.par_typed.specs.declared.table.Table.{Table}
 use Rattle.par_typed.specs.Plain.{TSta, Body}
-use Rattle.par_typed_laws.specs.par_body_laws.Members.{field_at, channel_at, method_at}
+use Rattle.par_typed.specs.Members.{class_is_exception, field_at, channel_at, method_at}
 use Rattle.par_evaluation_laws.specs.par_run_laws.Names.{body_of}
 use Rattle.par_evaluation_laws.specs.par_code_form.Code.{Words, body_code, body_handlers}
 use Rattle.par_evaluation_laws.specs.par_code_form.Operands.{top}
@@ -53,10 +53,6 @@ abbrev pub is_ordinary : Option ClassInfo → Bool
 is_ordinary None = false
 is_ordinary (Some class) = not class.exception
 
-abbrev pub is_exception : Option ClassInfo → Bool
-is_exception None = false
-is_exception (Some class) = class.exception
-
 -- the type of a field of a class, and of one of objects
 abbrev pub static_type : Option FieldInfo → Option Ty
 static_type None = None
@@ -79,7 +75,8 @@ is_output (Some channel) = not channel.is_input
 -- the layout says of it what the program does; it need say nothing of what nobody names
 abbrev pub IsLaid : Layout → Table → List Body → Named → Type 0
 IsLaid lay table bodies (Made c) = lay.is_made c ≡ is_ordinary (slice_get table.classes c)
-IsLaid lay table bodies (Raised c) = lay.is_thrown c ≡ is_exception (slice_get table.classes c)
+IsLaid lay table bodies (Raised c) =
+    lay.is_thrown c ≡ class_is_exception (slice_get table.classes c)
 IsLaid lay table bodies (OfClass c f) = lay.static c f ≡ static_type (field_at table c f)
 IsLaid lay table bodies (OfObject c f) = lay.own c f ≡ own_type (field_at table c f)
 IsLaid lay table bodies (Reads c k) = lay.is_input c k ≡ is_input (channel_at table c k)

@@ -1,7 +1,7 @@
 -- Where the fields of a program stand: the static ones of all classes in one row, behind them a
 -- field for each lock, and those of an object in a row of its own.
 use Rattle.std.specs.Prelude.{ℕ, ◌+◌, Bool, not, if◌then◌else◌, pos, List, [], ◌∷◌, ◌++◌, length}
-use Rattle.std.specs.Prelude.{map, take, replicate}
+use Rattle.std.specs.Prelude.{map, take, replicate, Option, Some, None}
 use Rattle.std.specs.List.{filter}
 use Rattle.par_link.specs.par_pool.declared.constant.Constant.{Constant}
 use Rattle.par_link.specs.par_class.declared.file.FieldFile.{FieldFile}
@@ -26,6 +26,11 @@ kind_of entries f = kind_said (text_at entries f.descriptor)
 -- the kinds of the fields of an object
 abbrev pub object_kinds : ClassFile → List Kind
 object_kinds file = map (kind_of file.pool.entries) (filter is_own file.fields)
+
+-- none where there is no such class
+abbrev pub kinds_in : Option ClassFile → List Kind
+kinds_in None = []
+kinds_in (Some file) = object_kinds file
 
 -- the static fields of a class before they are written
 abbrev pub first_statics : ClassFile → List MVal

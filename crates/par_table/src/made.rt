@@ -61,6 +61,28 @@ fn all_policies(
     Ok(List::wrap(found))
 }
 
+// The table of a program of which all this is known.
+fn table_by(
+    alloc: Global,
+    resolved: &Resolved<'_>,
+    program: &Program,
+    classes: &[&ClassDecl],
+) -> Result<Table, NoMemory>
+    requires room { FitsTable (source program.now) }
+    requires made { resolved_seen resolved.now ≡ made.resolved (source program.now) }
+    requires classes { classes_of classes.now ≡ names.classes (source program.now) }
+    ensures { IfOk result (λ table. table ≡ table_of (source program.now)) }
+{
+    let first = resolved.policy_count();
+    Ok(Table {
+        actors: actor_names(alloc, program)?,
+        locks: ground_locks(alloc, resolved, program)?,
+        policies: all_policies(alloc, resolved, program, classes)?,
+        classes: class_infos(alloc, resolved, first, classes)?,
+        main: main_number(classes),
+    })
+}
+
 // These are the classes of the program.
 fn table_of(alloc: Global, program: &Program, classes: &[&ClassDecl]) -> Result<Table, NoMemory>
     requires room { FitsTable (source program.now) }
@@ -68,14 +90,7 @@ fn table_of(alloc: Global, program: &Program, classes: &[&ClassDecl]) -> Result<
     ensures { IfOk result (λ table. table ≡ table_of (source program.now)) }
 {
     let resolved = Resolved::of(alloc, program, classes)?;
-    let first = resolved.policy_count();
-    Ok(Table {
-        actors: actor_names(alloc, program)?,
-        locks: ground_locks(alloc, &resolved, program)?,
-        policies: all_policies(alloc, &resolved, program, classes)?,
-        classes: class_infos(alloc, &resolved, first, classes)?,
-        main: main_number(classes),
-    })
+    table_by(alloc, &resolved, program, classes)
 }
 
 /// The table of a program whose parts have numbers.

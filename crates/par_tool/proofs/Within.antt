@@ -9,7 +9,7 @@ use Rattle.par_names.specs.Declarations.{builtins, classes, declared_classes}
 use Rattle.par_resolved.specs.Resolved.{Resolved, resolved, class_infos, table_of}
 use Rattle.par_observer.specs.par_faults.Faults.{all_faults}
 use Rattle.par_audit.proofs.par_typed_laws.Unbroken.{first_pass}
-use Rattle.par_observer.proofs.par_typing.Limits.{IsWithinLimits, limits_kept}
+use Rattle.par_observer.proofs.par_faults.Within.{IsWithinLimits, limits_kept}
 use Rattle.par_observer.specs.Passes.{typed_faults}
 use Rattle.par_observer.specs.Judgements.{IsAcceptedAs}
 use Rattle.par_tool.specs.Outside.{Text}

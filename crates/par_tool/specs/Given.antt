@@ -9,6 +9,7 @@ use Rattle.par_inputs.specs.Places.{line_of_entry}
 use Rattle.par_inputs.specs.declared.read.TheConstants.{LONGEST_INPUTS}
 use Rattle.par_tool.specs.declared.answer.Answer.{Answer}
 use Rattle.par_tool.specs.declared.answer.Answer.TheVariants.{BadInputs}
+use Rattle.par_tool.specs.declared.input_file.InputFile.{InputFile}
 use Rattle.par_tool.specs.Outside.{Text, WasRead, NotRead}
 
 -- the place of the first of some entries that has no channel
@@ -27,6 +28,12 @@ pub record IsMisfit (misfits : Misfits) (text : Text) (number : ℕ) : Type 0 wh
 pub data IsBad (misfits : Misfits) (text : Text) (number : ℕ) : Type 0 where
   broken : IsFirstBroken text number → IsBad misfits text number
   misfit : IsMisfit misfits text number → IsBad misfits text number
+
+-- the input file was read, and these are its text and its inputs
+pub record IsGiven (files : Option Files) (name : Text) (file : InputFile) : Type 0 where
+  pub read : WasRead files LONGEST_INPUTS name file.text.items
+  pub right : IsRight file.text.items
+  pub entries_are : file.inputs.channels ≡ entries (lines_of file.text.items)
 
 -- the input file was read, and these are its inputs, all of which have channels
 pub record AreInputs (misfits : Misfits) (files : Option Files) (name : Text) (inputs : Inputs)

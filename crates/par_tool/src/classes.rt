@@ -9,11 +9,9 @@ ghost use Rattle.par_tool.specs.Given.{AreInputs, IsUngiven};
 ghost use Rattle.par_tool.specs.Classes.{NotRun, LacksMemory, Starts};
 ghost use Rattle.par_tool.specs.Failures.{IsFailure, FaultsAreTold};
 
-use crate::answer::Answer;
-use crate::reads::{Failure, read};
+use crate::input_file::{InputFile, bad_entry, input_file};
+use crate::reads::Failure;
 use par_framed_program::framed;
-use par_inputs::error::BadInput;
-use par_inputs::{LONGEST_INPUTS, line_of_entry, read_inputs};
 use par_io::Folder;
 use par_link::{Linked, inputs_fit};
 use par_loader::{linked_program, main_file};
@@ -38,18 +36,10 @@ fn inputs<F: Folder>(
     ensures failed { IfErr result (IsFailure (IsUngiven (first_misfit linked.now)
         (F.files folder.old) (F.counts folder.old) (F.counts folder.new) name.now)) }
 {
-    let text = read(alloc, folder, name, LONGEST_INPUTS as u64)?;
-    let inputs = match read_inputs(alloc, text.as_slice()) {
-        Ok(inputs) => inputs,
-        Err(BadInput::Line(line)) => return Err(Failure::Answered(Answer::BadInputs(line))),
-        Err(BadInput::Memory) => return Err(Failure::Memory),
-    };
+    let InputFile { text, inputs } = input_file(alloc, folder, name)?;
     match inputs_fit(linked, &inputs) {
         None => Ok(inputs),
-        Some(place) => {
-            let line = line_of_entry(text.as_slice(), place);
-            Err(Failure::Answered(Answer::BadInputs(line)))
-        }
+        Some(place) => Err(bad_entry(text.as_slice(), place)),
     }
 }
 

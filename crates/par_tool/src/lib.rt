@@ -9,6 +9,7 @@ pub mod answer;
 mod audits;
 mod classes;
 mod inferences;
+mod input_file;
 mod lines;
 mod reads;
 mod samples;

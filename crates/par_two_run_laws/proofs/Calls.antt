@@ -8,7 +8,7 @@ use Rattle.par_flow_laws.specs.Ways.{Flows, Lands, MayFlow, MayLand, MayRaise}
 use Rattle.par_flow_laws.specs.Closed as closed
 use Rattle.par_values.specs.Areas.{value_or_null}
 use Rattle.par_alike.specs.par_run_laws.Tasks.{leave, enter}
-use Rattle.par_body_laws.specs.Members.{method_at}
+use Rattle.par_typed.specs.Members.{method_at}
 use Rattle.par_two_run_laws.specs.Watched.{IsThere}
 use Rattle.par_flow_laws.specs.Declares.{Method}
 use Rattle.par_alike.specs.par_run_laws.Meaning.{Calls}

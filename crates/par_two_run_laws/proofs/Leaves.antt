@@ -15,7 +15,7 @@ use Rattle.par_alike.specs.par_run_laws.Values.{shown_value}
 use Rattle.par_alike.specs.par_run_laws.Meaning.{inputs}
 use Rattle.par_alike.specs.par_run_laws.Tasks.{Normal, Task, nothing, read, named, NULL_POINTER}
 use Rattle.par_alike.specs.par_run_laws.Tasks.{ARITHMETIC}
-use Rattle.par_body_laws.specs.Members.{field_at, channel_at}
+use Rattle.par_typed.specs.Members.{field_at, channel_at}
 use Rattle.par_body_laws.specs.Names.{IsField, IsChannel}
 use Rattle.par_two_run_laws.proofs.States.{Watch, BodyFlowsTo, Exits, Frame, HasPolicy, IsMade}
 use Rattle.par_two_run_laws.proofs.States.{Keeps}

@@ -27,7 +27,7 @@ use Rattle.par_alike.specs.Subject.{event_policy, policy_at}
 use Rattle.par_two_run_laws.specs.Watched.{watched}
 use Rattle.par_body_laws.specs.Names.{IsField}
 use Rattle.par_check_laws.specs.Checks.{lock_written}
-use Rattle.par_body_laws.specs.Members.{field_at, channel_at}
+use Rattle.par_typed.specs.Members.{field_at, channel_at}
 use Rattle.par_body_laws.specs.Names.{IsChannel}
 use Rattle.par_check_laws.proofs.par_pass_laws.Along.{and_l}
 use Rattle.par_two_run_laws.proofs.Lists.{Agree, agree_swap}

@@ -19,7 +19,7 @@ use Rattle.par_typed.specs.declared.table.ClassInfo.{ClassInfo}
 use Rattle.par_alike.specs.par_run_laws.Values.{shown_value, object_number}
 use Rattle.par_alike.specs.par_run_laws.Meaning.{outputs, born, writes_static, writes_field}
 use Rattle.par_alike.specs.par_run_laws.Tasks.{Normal, nothing}
-use Rattle.par_body_laws.specs.Members.{field_at}
+use Rattle.par_typed.specs.Members.{field_at}
 use Rattle.par_body_laws.specs.Names.{IsField}
 use Rattle.par_two_run_laws.proofs.Leaves.{Level, Sound, keeps_level, like_level, step_named}
 use Rattle.par_two_run_laws.proofs.Leaves.{tail_named}

@@ -1,5 +1,6 @@
 pub mod Birth
 pub mod Nodes
+pub mod Members
 pub mod Plain
 pub mod Shown
 pub use Rattle.par_policy.specs.par_bits as par_bits

@@ -22,7 +22,7 @@ use Rattle.par_faults.specs.par_resolved.Resolved.{Resolved, resolved, param_inf
 use Rattle.par_faults.specs.par_resolved.Resolved.{method_info}
 use Rattle.par_faults.specs.par_resolved.Resolved.{class_infos, has_main, table_of}
 use Rattle.par_source_laws.specs.Order.{IsInOrder}
-use Rattle.par_body_laws.specs.Members.{methods_in}
+use Rattle.par_flow_laws.specs.par_typed.Members.{methods_in}
 use Rattle.par_typed_laws.specs.Beginning as table
 use Rattle.par_typed_laws.specs.Beginning.{HasMain}
 use Rattle.par_typed_laws.proofs.Lists.{none_left, none_right}

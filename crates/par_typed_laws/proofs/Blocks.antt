@@ -20,7 +20,7 @@ use Rattle.par_annotation_laws.specs.Exprs.{typed_exp}
 use Rattle.par_annotation_laws.specs.Stmts.{Written, Target, Nowhere, ToLocal, ToStatic, ToField}
 use Rattle.par_annotation_laws.specs.Stmts.{target}
 use Rattle.par_annotation_laws.specs.Stmts.{target_nodes, assignment, behind}
-use Rattle.par_annotation_laws.specs.Stmts.{braces_locals, handler_locals}
+use Rattle.par_annotation_laws.specs.par_scope.Own.{braces_locals, handler_locals}
 use Rattle.par_annotation_laws.specs.Stmts.{typed_sta, typed_braces, typed_may_braces, typed_else}
 use Rattle.par_annotation_laws.specs.Stmts.{typed_stas, typed_catches, typed_handler}
 use Rattle.par_annotation_laws.specs.Bodies.{no_frame, with_params, typed_methods}

@@ -61,9 +61,9 @@ use Rattle.par_annotation_laws.specs.Stmts.{ToField, target, target_nodes, assig
 use Rattle.par_annotation_laws.specs.Stmts.{own_target, name_target, selected_target, behind}
 use Rattle.par_annotation_laws.specs.Stmts.{typed_sta, typed_braces, typed_may_braces, typed_else}
 use Rattle.par_annotation_laws.specs.Stmts.{typed_stas, typed_catches, typed_handler}
-use Rattle.par_annotation_laws.specs.Stmts.{locals_in, braces_locals, may_braces_locals}
-use Rattle.par_annotation_laws.specs.Stmts.{else_locals}
-use Rattle.par_annotation_laws.specs.Stmts.{all_locals, catches_locals, handler_locals}
+use Rattle.par_annotation_laws.specs.par_scope.Own.{locals_in, braces_locals, may_braces_locals}
+use Rattle.par_annotation_laws.specs.par_scope.Own.{else_locals}
+use Rattle.par_annotation_laws.specs.par_scope.Own.{all_locals, catches_locals, handler_locals}
 use Rattle.par_typed_laws.specs.Tables.{IsLock, MayBePolicy}
 use Rattle.par_typed_laws.specs.Numbers.{ExpReads, MayExpRead, ExpsRead, StaInRange, ElseInRange}
 use Rattle.par_typed_laws.specs.Numbers.{StasInRange, CatchesInRange}

@@ -40,7 +40,8 @@ use Rattle.par_annotation_laws.specs.Exprs.{selection, callee_on, by_way, throug
 use Rattle.par_annotation_laws.specs.Exprs.{typed_may, typed_args, mark_of}
 use Rattle.par_annotation_laws.specs.Stmts.{Written, Target, Nowhere, ToLocal, ToStatic, ToField}
 use Rattle.par_annotation_laws.specs.Stmts.{target}
-use Rattle.par_annotation_laws.specs.Stmts.{assignment, behind, braces_locals, handler_locals}
+use Rattle.par_annotation_laws.specs.Stmts.{assignment, behind}
+use Rattle.par_annotation_laws.specs.par_scope.Own.{braces_locals, handler_locals}
 use Rattle.par_annotation_laws.specs.Stmts.{typed_sta, typed_braces, typed_may_braces, typed_else}
 use Rattle.par_annotation_laws.specs.Stmts.{typed_stas, typed_catches}
 

@@ -38,7 +38,7 @@ use Rattle.par_faults.specs.par_resolved.Resolved.{field_infos, channel_info, pa
 use Rattle.par_faults.specs.par_resolved.Resolved.{throw_info, lock_set}
 use Rattle.par_faults.specs.par_resolved.Resolved.{this_type, local_types, method_info, class_info}
 use Rattle.par_faults.specs.par_resolved.Resolved.{class_infos, has_main, table_of}
-use Rattle.par_body_laws.specs.Members.{IsClass}
+use Rattle.par_flow_laws.specs.par_typed.Members.{IsClass}
 use Rattle.par_typed_laws.specs.Tables.{IsPolicy, IsLock, MayBePolicy, AreLocks, IsType}
 use Rattle.par_body_laws.specs.Locals.{arrivals}
 use Rattle.par_typed_laws.specs.Tables.{FieldInRange, ChannelInRange, ParamInRange}

@@ -49,7 +49,7 @@ use Rattle.par_faults.specs.par_resolved.Statements.{in_braces}
 use Rattle.par_faults.specs.par_resolved.Written.{stmt_types}
 use Rattle.par_faults.specs.Faults.{all_faults}
 use Rattle.par_source_laws.specs.Order.{Ascend, IsInOrder}
-use Rattle.par_body_laws.specs.Members.{method_at}
+use Rattle.par_flow_laws.specs.par_typed.Members.{method_at}
 use Rattle.par_body_laws.specs.Locals.{arriving, arriving_sure, BeginsWith}
 use Rattle.par_typed_laws.specs.Fits.{StaFits, ValuesFit}
 use Rattle.par_typed_laws.specs.Typed.{written_in, bodies_of}

@@ -43,15 +43,17 @@ use Rattle.par_annotation_laws.specs.Exprs.{own_this, typed_exp}
 use Rattle.par_annotation_laws.specs.Stmts.{Written, Target, Nowhere, ToLocal, ToStatic, ToField}
 use Rattle.par_annotation_laws.specs.Stmts.{target}
 use Rattle.par_annotation_laws.specs.Stmts.{target_nodes, assignment, own_target, name_target}
-use Rattle.par_annotation_laws.specs.Stmts.{selected_target, behind, locals_in, braces_locals}
-use Rattle.par_annotation_laws.specs.Stmts.{handler_locals, typed_sta, typed_braces}
+use Rattle.par_annotation_laws.specs.Stmts.{selected_target, behind}
+use Rattle.par_annotation_laws.specs.par_scope.Own.{locals_in, braces_locals}
+use Rattle.par_annotation_laws.specs.Stmts.{typed_sta, typed_braces}
+use Rattle.par_annotation_laws.specs.par_scope.Own.{handler_locals}
 use Rattle.par_annotation_laws.specs.Stmts.{typed_may_braces}
 use Rattle.par_annotation_laws.specs.Stmts.{typed_else, typed_stas, typed_catches}
 use Rattle.par_annotation_laws.specs.Bodies.{first_number, no_frame, with_params, typed_body}
 use Rattle.par_annotation_laws.specs.Bodies.{typed_methods, typed_class, typed_declaration}
 use Rattle.par_annotation_laws.specs.Bodies.{typed_declarations}
 use Rattle.par_source_laws.specs.Order.{Ascend, IsInOrder}
-use Rattle.par_body_laws.specs.Members.{method_at}
+use Rattle.par_flow_laws.specs.par_typed.Members.{method_at}
 use Rattle.par_body_laws.specs.Uses.{StaUses, ElseUses, StasUse, CatchesUse}
 use Rattle.par_typed_laws.specs.Typed.{written_in, bodies_of}
 use Rattle.par_typed_laws.proofs.Lists.{of_both}

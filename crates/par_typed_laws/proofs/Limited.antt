@@ -1,9 +1,8 @@
 -- Each class of the table of a source is within the limits.
-use Rattle.std.proofs.Common.{◌≡◌, ℕ, zero, suc, ◌+◌, ◌≤◌, List, [], ◌∷◌, ◌++◌, map, length, take}
-use Rattle.std.proofs.Common.{drop, Option, Some, None, refl, sym, ap, ◌∙◌, subst, arith}
-use Rattle.std.specs.Prelude.{flat_map, slice_get, nat_le, if◌then◌else◌, count_by, codes}
+use Rattle.std.proofs.Common.{◌≡◌, ℕ, suc, ◌+◌, ◌≤◌, List, [], ◌∷◌, ◌++◌, map, length, take}
+use Rattle.std.proofs.Common.{drop, refl, sym, ap, ◌∙◌, subst, arith}
+use Rattle.std.specs.Prelude.{if◌then◌else◌, count_by, codes}
 use Rattle.std.specs.List.{AllByRecursion, sum_by}
-use Rattle.std.proofs.lemmas.Bool.{leb-true}
 use Rattle.std.proofs.lemmas.List.{length-map, length-append, length-take, length-drop}
 use Rattle.std.proofs.lemmas.List.Sums.{sum_by-cons}
 use Rattle.par_body_laws.specs.par_tree.declared.decl.FieldDecl.{FieldDecl}
@@ -16,41 +15,14 @@ use Rattle.par_source_laws.specs.par_names.Declarations.{builtin, builtins, decl
 use Rattle.par_faults.specs.par_resolved.Resolved.{Resolved, resolved, field_infos, channel_info}
 use Rattle.par_faults.specs.par_resolved.Resolved.{param_info}
 use Rattle.par_faults.specs.par_resolved.Resolved.{method_info, class_info, class_infos, table_of}
-use Rattle.par_faults.specs.declared.limit.Limit.{Limit}
-use Rattle.par_faults.specs.declared.limit.TheConstants.{NODES, PARAMS, LOCALS}
-use Rattle.par_faults.specs.declared.limit.TheConstants.{MEMBERS}
-use Rattle.par_faults.specs.declared.limit.TheConstants.{METHODS, CLASS_NODES}
-use Rattle.par_faults.specs.declared.limit.TheConstants.{CLASSES}
-use Rattle.par_faults.specs.Limits.{told, one_too_many, in_order, earlier}
+use Rattle.par_faults.specs.Limits.{told, in_order, earlier}
 use Rattle.par_faults.specs.Limits.{member_places}
-use Rattle.par_faults.specs.Limits.{over, method_limits, class_limits}
-use Rattle.par_faults.specs.Limits.{declared_limits, class_places, class_counts}
-use Rattle.par_faults.specs.Locals.{method_locals}
+use Rattle.par_faults.specs.Limits.{method_limits, class_limits}
 use Rattle.par_faults.specs.Faults.{all_faults}
+use Rattle.par_faults.proofs.Within.{limits_kept, class_within, method_within}
 use Rattle.par_typed_laws.specs.Limits.{TakesFew, HaveFewParams, HasFewParams, IsLimitedClass}
 use Rattle.par_typed_laws.specs.Limits.{HasFewMembers, HasFewClasses}
-use Rattle.par_typed_laws.proofs.Lists.{none_left, none_right, none_of, all_mapped}
-use Rattle.par_typed_laws.proofs.Unbroken.{is_kept, counts_kept}
-
--- ---- counts
-
-told_none : (limit : Limit) (o : Option ℕ) → told limit o ≡ [] → o ≡ None
-unfolding told
-told_none limit None h = refl
-told_none limit (Some at) h = absurd (cc h)
-
-none_behind : (xs : List ℕ) (i : ℕ) → slice_get xs i ≡ None → length xs ≤ i
-none_behind [] i h = omega arith
-none_behind (x ∷ xs) zero h = absurd (cc h)
-none_behind (x ∷ xs) (suc i) h = let rest = none_behind xs i h in omega (arith, rest)
-
-at_most : (limit : Limit) (places : List ℕ) → one_too_many limit places ≡ []
-    → length places ≤ limit.most
-at_most limit places none =
-    none_behind places limit.most (told_none limit (slice_get places limit.most) none)
-
-not_over : (limit : Limit) (count at : ℕ) → over limit count at ≡ [] → count ≤ limit.most
-not_over limit count at none = leb-true _ _ (is_kept (nat_le count limit.most) _ none)
+use Rattle.par_typed_laws.proofs.Lists.{all_mapped}
 
 -- ---- a class
 
@@ -83,47 +55,32 @@ module _ (r : Resolved) where
   few_params : (class : ℕ) (m : Method) → method_limits m ≡ []
       → TakesFew (method_info r class m)
   few_params class m none =
-      subst (λ n. n ≤ 16) (sym (length-map m.params (param_info r)))
-      (not_over PARAMS (length m.params) m.id.at
-      (none_right (over NODES (method_nodes m) m.id.at) _
-      (none_left _ (over LOCALS (method_locals m) m.id.at) none)))
+      subst (λ n. n ≤ 16) (sym (length-map m.params (param_info r))) (method_within m none).params
 
   limited_class : (class next : ℕ) (c : Class) → class_limits c ≡ []
       → IsLimitedClass (class_info r class next c)
   limited_class class next c none =
-      let members = one_too_many MEMBERS (member_places c) in
-      let methods = one_too_many METHODS (map (λ m. m.id.at) c.methods) in
-      let nodes = over CLASS_NODES (sum_by method_nodes c.methods) c.id.at in
-      let each = flat_map method_limits c.methods in
-      let front = none_left (members ++ methods ++ nodes) each none in
-      let counted = none_left (members ++ methods) nodes front in
-      let places = at_most MEMBERS (member_places c) (none_left members methods counted) in
-      let listed = at_most METHODS (map (λ m. m.id.at) c.methods)
-      (none_right members methods counted) in
+      let within = class_within c none in
+      let places : length (member_places c) ≤ 256 = within.members in
+      let listed : length c.methods ≤ 128 = within.methods in
       let both = ordered (map (λ f. f.id.at) c.fields) (map (λ h. h.id.at) c.channels) in
       let field_places = length-map c.fields (λ f. f.id.at) in
       let channel_places = length-map c.channels (λ h. h.id.at) in
-      let method_places = length-map c.methods (λ m. m.id.at) in
       let fields = many_fields next c.fields in
       let channels = length-map c.channels (channel_info r) in
       let infos = length-map c.methods (method_info r class) in
       record {
         members =
             omega (arith, places, both, field_places, channel_places, fields, channels);
-        methods = omega (arith, listed, method_places, infos);
-        nodes =
-            subst (λ n. n ≤ 8000) (sym (same_nodes class c.methods))
-            (not_over CLASS_NODES (sum_by method_nodes c.methods) c.id.at
-            (none_right (members ++ methods) nodes front));
+        methods = omega (arith, listed, infos);
+        nodes = subst (λ n. n ≤ 8000) (sym (same_nodes class c.methods)) within.nodes;
       }
 
   have_few_params : (class next : ℕ) (c : Class) → class_limits c ≡ []
       → HaveFewParams (class_info r class next c)
   have_few_params class next c none =
       all_mapped (λ m. method_limits m ≡ []) TakesFew (method_info r class) c.methods
-      (few_params class)
-      (none_of method_limits c.methods
-      (none_right _ (flat_map method_limits c.methods) none))
+      (few_params class) (class_within c none).each_method
 
   -- what holds of each class that exceeds no limit
   each_class : (Q : ClassInfo → Type 0)
@@ -150,9 +107,7 @@ builtin_limits name = refl
 module _ (source : Source) (none : all_faults source ≡ []) where
   limits : AllByRecursion (λ c. class_limits c ≡ []) (builtins ++ declared_classes source)
   limits =
-      let declared = none_of class_limits (declared_classes source)
-      (none_right _ (flat_map class_limits (declared_classes source))
-      (counts_kept source none)) in (
+      let declared = (limits_kept source none).class_limits_kept in (
         builtin_limits (codes "ArithmeticException"),
         (builtin_limits (codes "NullPointerException"), declared),
       )
@@ -170,12 +125,8 @@ module _ (source : Source) (none : all_faults source ≡ []) where
   pub tables_have_few_classes : HasFewClasses (table_of source)
   tables_have_few_classes =
       let all = builtins ++ declared_classes source in
-      let each = flat_map class_limits (declared_classes source) in
-      let few = at_most CLASSES (class_places source)
-      (none_left (one_too_many CLASSES (class_places source)) each
-      (none_right (declared_limits source) (class_counts source) (counts_kept source none))) in
-      let declared = length-map (declared_classes source) (λ c. c.id.at) in
+      let few : length (declared_classes source) ≤ 128 = (limits_kept source none).few_classes in
       let infos : length (table_of source).classes ≡ length all =
       many_classes (resolved source) 0 _ all in
       let whole = length-append builtins (declared_classes source) in
-      omega (arith, few, declared, infos, whole)
+      omega (arith, few, infos, whole)

@@ -39,7 +39,7 @@ use Rattle.par_annotation_laws.specs.par_scope.Home.{Home, class_named}
 use Rattle.par_annotation_laws.specs.par_scope.Members.{field_at, channel_at, method_at}
 use Rattle.par_annotation_laws.specs.par_scope.Members.{field_is_static}
 use Rattle.par_annotation_laws.specs.par_scope.Members.{method_is_static, is_exception}
-use Rattle.par_annotation_laws.specs.par_scope.Members.{class_is_exception}
+use Rattle.par_flow_laws.specs.par_typed.Members.{class_is_exception}
 use Rattle.par_annotation_laws.specs.par_scope.Members.{any_value}
 use Rattle.par_annotation_laws.specs.par_scope.Meaning.{type_of, called_on, receiver_of, selected}
 use Rattle.par_annotation_laws.specs.par_scope.Meaning.{called}

@@ -56,7 +56,7 @@ use Rattle.par_annotation_laws.specs.Exprs.{own_this, typed_exp, typed_may}
 use Rattle.par_annotation_laws.specs.Stmts.{Written, may_policy, Target, Nowhere, ToLocal, ToStatic}
 use Rattle.par_annotation_laws.specs.Stmts.{ToField, target, target_nodes, assignment}
 use Rattle.par_annotation_laws.specs.Stmts.{own_target, name_target, selected_target, behind}
-use Rattle.par_annotation_laws.specs.Stmts.{braces_locals, handler_locals}
+use Rattle.par_annotation_laws.specs.par_scope.Own.{braces_locals, handler_locals}
 use Rattle.par_annotation_laws.specs.Stmts.{typed_sta, typed_braces, typed_may_braces, typed_else}
 use Rattle.par_annotation_laws.specs.Stmts.{typed_stas, typed_catches}
 use Rattle.par_annotation_laws.specs.Bodies.{with_params}

@@ -23,7 +23,6 @@ use Rattle.par_annotation_laws.specs.par_scope.Names.{names_of, member_names, nu
 use Rattle.par_annotation_laws.specs.par_scope.Names.{channels_in}
 use Rattle.par_annotation_laws.specs.par_scope.Names.{methods_in}
 use Rattle.par_annotation_laws.specs.par_scope.Home.{Home}
-use Rattle.par_annotation_laws.specs.par_scope.Members.{class_fields, class_channels, class_methods}
 use Rattle.par_annotation_laws.specs.par_scope.Members.{field_at}
 use Rattle.par_annotation_laws.specs.par_scope.Members.{channel_at, method_at, field_is_static}
 use Rattle.par_annotation_laws.specs.par_scope.Members.{method_is_static}
@@ -35,7 +34,7 @@ use Rattle.par_annotation_laws.specs.par_scope.Meaning.{when_it_does, static_cal
 use Rattle.par_annotation_laws.specs.par_scope.Meaning.{called}
 use Rattle.par_index.proofs.Places.{position-within}
 use Rattle.par_annotation_laws.specs.par_type_rules.Methods.{home_of}
-use Rattle.par_body_laws.specs.Members as m
+use Rattle.par_flow_laws.specs.par_typed.Members as m
 use Rattle.par_body_laws.specs.Names.{IsField}
 use Rattle.par_typed_laws.proofs.Ranges.{MayBe}
 
@@ -75,19 +74,19 @@ module _ (table : Table) where
 
   field_number : (o : Option ClassInfo) (name : List ℕ) (k : ℕ)
       → number_in (fields_in (option_map member_names o)) name ≡ Some k
-      → IsThere (slice_get (class_fields o) k)
+      → IsThere (slice_get (m.fields_in o) k)
   field_number None name k is = absurd (cc is)
   field_number (Some c) name k is = numbered_there (λ f. f.name) c.fields name k is
 
   channel_number : (o : Option ClassInfo) (name : List ℕ) (k : ℕ)
       → number_in (channels_in (option_map member_names o)) name ≡ Some k
-      → IsThere (slice_get (class_channels o) k)
+      → IsThere (slice_get (m.channels_in o) k)
   channel_number None name k is = absurd (cc is)
   channel_number (Some c) name k is = numbered_there (λ f. f.name) c.channels name k is
 
   method_number : (o : Option ClassInfo) (name : List ℕ) (k : ℕ)
       → number_in (methods_in (option_map member_names o)) name ≡ Some k
-      → IsThere (slice_get (class_methods o) k)
+      → IsThere (slice_get (m.methods_in o) k)
   method_number None name k is = absurd (cc is)
   method_number (Some c) name k is = numbered_there (λ f. f.name) c.methods name k is
 

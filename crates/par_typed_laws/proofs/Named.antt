@@ -53,7 +53,7 @@ use Rattle.par_annotation_laws.specs.Exprs.{number_of, selection, own_receiver, 
 use Rattle.par_annotation_laws.specs.Exprs.{callee_on, first, by_way, through, call, typed_exp}
 use Rattle.par_annotation_laws.specs.Exprs.{typed_may}
 use Rattle.par_annotation_laws.specs.Exprs.{typed_args, mark_of}
-use Rattle.par_body_laws.specs.Members.{IsClass}
+use Rattle.par_flow_laws.specs.par_typed.Members.{IsClass}
 use Rattle.par_body_laws.specs.Names.{IsField, IsChannel, IsCalled, IsObject, MayBeObject}
 use Rattle.par_body_laws.specs.Names.{is_present, how_many, ExpNames, MayExpNames, ExpsName}
 use Rattle.par_typed_laws.proofs.Lists.{none_left, none_right}

@@ -33,7 +33,7 @@ use Rattle.par_annotation_laws.specs.par_scope.Names.{names_of}
 use Rattle.par_annotation_laws.specs.par_scope.Locals.{Scope, no_locals}
 use Rattle.par_annotation_laws.specs.par_scope.Home.{Home, class_named, result_written}
 use Rattle.par_annotation_laws.specs.par_scope.Members.{field_at, field_is_static, is_exception}
-use Rattle.par_annotation_laws.specs.par_scope.Members.{class_is_exception}
+use Rattle.par_flow_laws.specs.par_typed.Members.{class_is_exception}
 use Rattle.par_annotation_laws.specs.par_scope.Members.{any_value}
 use Rattle.par_annotation_laws.specs.par_scope.Meaning.{selected, type_of, receiver_of}
 use Rattle.par_body_laws.specs.par_completes.Completes.{completes}
@@ -63,12 +63,12 @@ use Rattle.par_annotation_laws.specs.Stmts.{Written, Target, Nowhere, ToLocal, T
 use Rattle.par_annotation_laws.specs.Stmts.{target}
 use Rattle.par_annotation_laws.specs.Stmts.{target_nodes, assignment}
 use Rattle.par_annotation_laws.specs.Stmts.{own_target, name_target, selected_target, behind}
-use Rattle.par_annotation_laws.specs.Stmts.{braces_locals, handler_locals}
+use Rattle.par_annotation_laws.specs.par_scope.Own.{braces_locals, handler_locals}
 use Rattle.par_annotation_laws.specs.Stmts.{typed_sta, typed_braces, typed_may_braces, typed_else}
 use Rattle.par_annotation_laws.specs.Stmts.{typed_stas, typed_catches}
 use Rattle.par_annotation_laws.specs.Bodies.{no_frame, with_params, typed_method, typed_methods}
 use Rattle.par_annotation_laws.specs.Bodies.{typed_class, typed_declaration, typed_declarations}
-use Rattle.par_body_laws.specs.Members as m
+use Rattle.par_flow_laws.specs.par_typed.Members as m
 use Rattle.par_body_laws.specs.Names.{IsField, IsException, IsObject, ExpNames, MayExpNames}
 use Rattle.par_body_laws.specs.Names.{StaNames, ElseNames, StasName, CatchesName}
 use Rattle.par_typed_laws.proofs.Lists.{none_left, none_right, of_both}

@@ -7,29 +7,20 @@ use Rattle.par_flow_laws.specs.par_typed.declared.table.MethodInfo.{MethodInfo}
 use Rattle.par_flow_laws.specs.par_typed.declared.table.ClassInfo.{ClassInfo}
 use Rattle.par_flow_laws.specs.par_typed.declared.table.Table.{Table}
 use Rattle.par_flow_laws.specs.par_typed.Plain.{Body}
-use Rattle.par_flow_laws.specs.Declares.{declares, methods_of, method_of, params_of}
+use Rattle.par_flow_laws.specs.Declares.{declares, method_of, params_of}
 use Rattle.par_flow_laws.specs.Ranges as rules
 use Rattle.par_flow_laws.specs.Ranges.{IsOrderly}
 use Rattle.par_typed_laws.specs.Tables.{IsInRange, ClassInRange, MethodInRange}
-use Rattle.par_body_laws.specs.Members.{methods_in, method_at}
-use Rattle.par_typed_laws.specs.Orderly.{IsBodyOf, HasMethod, IsOrderlyBody}
+use Rattle.par_flow_laws.specs.par_typed.Members.{methods_in, method_at}
+use Rattle.par_typed_laws.specs.Orderly.{IsBodyOf, HasMethod}
+use Rattle.par_flow_laws.specs.Orderly.{IsOrderlyBody}
+use Rattle.par_flow_laws.proofs.Methods.{method_known}
 use Rattle.par_typed_laws.proofs.Numbered.{numbered}
 use Rattle.par_typed_laws.proofs.Ranges.{MayBe, at_place, MethodWithin, declared_within, sta_within}
 
 length-params_of : (ps : List ParamInfo) → length (params_of ps) ≡ length ps
 length-params_of [] = refl
 length-params_of (p ∷ ps) = ap suc (length-params_of ps)
-
--- the method that the rules know is that of the table
-in_class : (o : Option ClassInfo) (k : ℕ) (m : MethodInfo) → slice_get (methods_in o) k ≡ Some m
-    → methods_of o k ≡ method_of (Some m)
-in_class None k m is = absurd (cc is)
-in_class (Some c) k m is = ap method_of is
-
-pub method_known : (table : Table) (class k : ℕ) (m : MethodInfo) → method_at table class k ≡ Some m
-    → (declares table).method class k ≡ method_of (Some m)
-unfolding declares
-method_known table class k m is = in_class (slice_get table.classes class) k m is
 
 class_has : (table : Table) (o : Option ClassInfo) (k : ℕ) (m : MethodInfo)
     → MayBe (ClassInRange table) o → slice_get (methods_in o) k ≡ Some m → MethodInRange table m

@@ -28,7 +28,8 @@ use Rattle.par_annotation_laws.specs.par_scope.Names.{names_of, member_names, nu
 use Rattle.par_annotation_laws.specs.par_scope.Names.{channels_in}
 use Rattle.par_annotation_laws.specs.par_scope.Names.{methods_in}
 use Rattle.par_annotation_laws.specs.par_scope.Home.{Home}
-use Rattle.par_annotation_laws.specs.par_scope.Members.{class_fields, class_methods, field_at}
+use Rattle.par_annotation_laws.specs.par_scope.Members.{field_at}
+use Rattle.par_flow_laws.specs.par_typed.Members as m
 use Rattle.par_annotation_laws.specs.par_scope.Members.{method_at}
 use Rattle.par_annotation_laws.specs.par_scope.Meaning.{placed, field_in, selected}
 use Rattle.par_annotation_laws.specs.par_scope.Meaning.{channel_or_method}
@@ -107,7 +108,7 @@ module _ (source : Source) (class n : ℕ) (c : Class) (result : Option Ty) wher
     field_by None = refl
     field_by (Some k) =
         statics-field_infos r n c.fields k
-        ∙ ap (λ o. field_static (slice_get (class_fields o) k)) (sym stands)
+        ∙ ap (λ o. field_static (slice_get (m.fields_in o) k)) (sym stands)
 
     -- a simple name is that of the same field
     pub own_static : (x : List ℕ) → selected_named c x ≡ static_at (selected h Own x)
@@ -158,7 +159,7 @@ module _ (source : Source) (class n : ℕ) (c : Class) (result : Option Ty) wher
         ap (λ o. earlier_callee o (method_named c x)) channel
         ∙ ap (earlier_callee None) method ∙ statics-methods r class (slice_get c.methods k)
         ∙ ap method_static (sym (slice_get-map (method_info r class) c.methods k))
-        ∙ ap (λ o. method_static (slice_get (class_methods o) k)) (sym stands)
+        ∙ ap (λ o. method_static (slice_get (m.methods_in o) k)) (sym stands)
 
     pub own_callee : (x : List ℕ) → IsAsStatic x (called h Own x)
     unfolding called callee_in

@@ -25,9 +25,9 @@ use Rattle.par_faults.specs.par_resolved.Statements.{inside, in_braces, in_may_b
 use Rattle.par_faults.specs.par_resolved.Statements.{in_all}
 use Rattle.par_faults.specs.par_resolved.Statements.{in_catches, in_handler}
 use Rattle.par_faults.specs.par_resolved.Written.{stmt_types}
-use Rattle.par_annotation_laws.specs.Stmts.{locals_in, braces_locals, may_braces_locals}
-use Rattle.par_annotation_laws.specs.Stmts.{else_locals}
-use Rattle.par_annotation_laws.specs.Stmts.{all_locals, catches_locals, handler_locals}
+use Rattle.par_annotation_laws.specs.par_scope.Own.{locals_in, braces_locals, may_braces_locals}
+use Rattle.par_annotation_laws.specs.par_scope.Own.{else_locals}
+use Rattle.par_annotation_laws.specs.par_scope.Own.{all_locals, catches_locals, handler_locals}
 use Rattle.par_flow_laws.specs.par_typed.declared.table.Table.{Table}
 use Rattle.par_source_laws.specs.par_names.Declarations.{classes, builtins, declared_classes}
 use Rattle.par_source_laws.specs.par_names.Declarations.{classes_in, doubles}
@@ -55,8 +55,8 @@ use Rattle.par_annotation_laws.proofs.Laws.{points_count}
 use Rattle.par_source_laws.specs.Order.{Ascend, IsInOrder}
 use Rattle.par_typed_laws.specs.Numbers.{StaInRange}
 use Rattle.par_typed_laws.specs.Typed.{written_in, bodies_of}
-use Rattle.par_body_laws.specs.Members as bodies
-use Rattle.par_body_laws.specs.Members.{method_at}
+use Rattle.par_flow_laws.specs.par_typed.Members as bodies
+use Rattle.par_flow_laws.specs.par_typed.Members.{method_at}
 use Rattle.par_body_laws.specs.Locals.{arrivals, set_by_call}
 use Rattle.par_typed_laws.specs.Orderly.{HasMethod}
 use Rattle.par_typed_laws.proofs.Lists.{none_left, none_right, of_both, each_is}

@@ -31,7 +31,8 @@ use Rattle.par_flow_laws.specs.par_typed.Plain.{Body}
 use Rattle.par_annotation_laws.specs.par_scope.Meaning.{op_type}
 use Rattle.par_annotation_laws.specs.par_type_rules.Fits.{operand}
 use Rattle.par_body_laws.specs.par_completes.Typed.{completes}
-use Rattle.par_body_laws.specs.Members.{fields_in, methods_in, field_at, channel_at, method_at}
+use Rattle.par_flow_laws.specs.par_typed.Members.{fields_in, methods_in}
+use Rattle.par_flow_laws.specs.par_typed.Members.{field_at, channel_at, method_at}
 use Rattle.par_body_laws.specs.Locals.{arriving, arriving_sure, BeginsWith, set_by_call, IsSet}
 use Rattle.par_body_laws.specs.Locals.{behind}
 use Rattle.par_body_laws.specs.Types.{IsMarked, IsValue, IsResult, Accepts, IsGiven, AreCompared}

@@ -48,7 +48,8 @@ use Rattle.par_annotation_laws.specs.par_type_rules.Program.{type_faults}
 use Rattle.par_annotation_laws.specs.Frames.{Frame, further}
 use Rattle.par_annotation_laws.specs.Stmts.{Written, Target, Nowhere, ToLocal, ToStatic, ToField}
 use Rattle.par_annotation_laws.specs.Stmts.{target}
-use Rattle.par_annotation_laws.specs.Stmts.{assignment, behind, braces_locals, handler_locals}
+use Rattle.par_annotation_laws.specs.Stmts.{assignment, behind}
+use Rattle.par_annotation_laws.specs.par_scope.Own.{braces_locals, handler_locals}
 use Rattle.par_annotation_laws.specs.Stmts.{typed_sta, typed_braces, typed_may_braces, typed_else}
 use Rattle.par_annotation_laws.specs.Stmts.{typed_stas, typed_catches}
 use Rattle.par_annotation_laws.specs.Bodies.{no_frame, with_params, typed_body, typed_methods}
@@ -59,7 +60,7 @@ use Rattle.par_faults.specs.par_resolved.Resolved.{Resolved, resolved, class_inf
 use Rattle.par_faults.specs.par_resolved.Resolved.{table_of}
 use Rattle.par_faults.specs.Faults.{all_faults}
 use Rattle.par_source_laws.specs.Order.{Ascend, IsInOrder}
-use Rattle.par_body_laws.specs.Members.{method_at}
+use Rattle.par_flow_laws.specs.par_typed.Members.{method_at}
 use Rattle.par_typed_laws.specs.Control.{StaReached, ElseReached, AllReached, CatchesReached}
 use Rattle.par_body_laws.specs.Types.{IsEnded}
 use Rattle.par_typed_laws.specs.Control.{IsControlled}

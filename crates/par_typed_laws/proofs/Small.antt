@@ -11,9 +11,10 @@ use Rattle.par_flow_laws.specs.par_typed.declared.table.Table.{Table}
 use Rattle.par_source_laws.specs.par_names.Declarations.{classes, builtins, declared_classes}
 use Rattle.par_source_laws.specs.par_names.Declarations.{classes_in}
 use Rattle.par_source_laws.specs.par_names.Program.{name_faults}
-use Rattle.par_faults.specs.declared.limit.TheConstants.{NODES, PARAMS, LOCALS}
-use Rattle.par_faults.specs.Limits.{over, method_limits, class_limits}
-use Rattle.par_faults.specs.Locals.{method_locals}
+use Rattle.par_faults.specs.declared.limit.TheConstants.{CLASSES, NODES, PARAMS, LOCALS}
+use Rattle.par_faults.specs.Limits.{over, method_limits, class_limits, one_too_many}
+use Rattle.par_faults.specs.Limits.{declared_limits, class_places, class_counts}
+use Rattle.par_annotation_laws.specs.par_scope.Own.{method_locals}
 use Rattle.par_annotation_laws.specs.par_scope.Names.{names_of}
 use Rattle.par_annotation_laws.specs.par_scope.Home.{class_named}
 use Rattle.par_annotation_laws.specs.par_type_rules.Methods.{home_of, fields_faults, method_faults}
@@ -28,7 +29,7 @@ use Rattle.par_annotation_laws.specs.Stmts.{Written}
 use Rattle.par_annotation_laws.specs.Bodies.{typed_methods, typed_class, typed_declaration}
 use Rattle.par_annotation_laws.specs.Bodies.{typed_declarations}
 use Rattle.par_faults.specs.Faults.{all_faults}
-use Rattle.par_body_laws.specs.Members.{method_at}
+use Rattle.par_flow_laws.specs.par_typed.Members.{method_at}
 use Rattle.par_typed_laws.specs.Sizes.{IsSmallBody}
 use Rattle.par_source_laws.specs.Order.{Ascend, IsInOrder}
 use Rattle.par_typed_laws.specs.Typed.{written_in, bodies_of}
@@ -68,7 +69,9 @@ module _ (source : Source) (ordered : IsInOrder source) (none : all_faults sourc
       each_is (λ c. class_limits c ≡ []) AreLimited (declared_classes source)
       (λ c is. none_of method_limits c.methods (none_right _ (flat_map method_limits c.methods) is))
       (none_of class_limits (declared_classes source)
-      (none_right _ (flat_map class_limits (declared_classes source)) (counts_kept source none)))
+      (none_right (one_too_many CLASSES (class_places source))
+      (flat_map class_limits (declared_classes source))
+      (none_right (declared_limits source) (class_counts source) (counts_kept source none))))
 
   small : (class n : ℕ) (c : Class) (before ms : List Method)
       → slice_get t.classes class ≡ Some (class_info r class n c)

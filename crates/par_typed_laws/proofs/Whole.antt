@@ -10,7 +10,8 @@ use Rattle.par_typed_laws.specs.Laws.{TablesHaveTexts, TablesHaveBuiltIns, Table
 use Rattle.par_typed_laws.specs.Laws.{TablesHaveMain, MethodsHaveBodies, SourcesAreWellTyped}
 use Rattle.par_typed_laws.specs.Laws.{BodiesHaveBlocks, MethodsTakeFew, ClassesHaveFewMembers}
 use Rattle.par_typed_laws.specs.Laws.{TablesHaveFewClasses}
-use Rattle.par_typed_laws.specs.Orderly.{HasMethod, IsOrderlyBody}
+use Rattle.par_typed_laws.specs.Orderly.{HasMethod}
+use Rattle.par_flow_laws.specs.Orderly.{IsOrderlyBody}
 use Rattle.par_typed_laws.specs.Typed.{bodies_of, written_in}
 use Rattle.par_typed_laws.proofs.Lists.{each_is}
 use Rattle.par_typed_laws.proofs.NamedStatements.{declarations_named}

@@ -4,7 +4,7 @@ use Rattle.std.specs.Str.{bytes_eq}
 use Rattle.par_flow_laws.specs.par_typed.declared.ty.Ty.TheVariants as ty
 use Rattle.par_flow_laws.specs.par_typed.declared.table.MethodInfo.{MethodInfo}
 use Rattle.par_flow_laws.specs.par_typed.declared.table.Table.{Table}
-use Rattle.par_body_laws.specs.Members.{methods_in}
+use Rattle.par_flow_laws.specs.par_typed.Members.{methods_in}
 
 -- those of the methods that are named `main`
 abbrev pub mains : List MethodInfo → List MethodInfo

@@ -12,7 +12,7 @@ use Rattle.par_flow_laws.specs.par_typed.Plain.{Otherwise, TStas, End, Then, TCa
 use Rattle.par_flow_laws.specs.par_typed.Plain.{Catch}
 use Rattle.par_flow_laws.specs.par_typed.Plain.{Body}
 use Rattle.par_body_laws.specs.par_completes.Typed.{completes}
-use Rattle.par_body_laws.specs.Members.{method_at}
+use Rattle.par_flow_laws.specs.par_typed.Members.{method_at}
 use Rattle.par_body_laws.specs.Types.{IsEnded}
 
 -- all that stands in a statement, in a loop or in none

@@ -24,7 +24,7 @@ use Rattle.par_flow_laws.specs.par_typed.Plain.{Catch}
 use Rattle.par_flow_laws.specs.par_typed.Plain.{Body}
 use Rattle.par_annotation_laws.specs.par_scope.Meaning.{op_type}
 use Rattle.par_annotation_laws.specs.par_type_rules.Fits.{operand}
-use Rattle.par_body_laws.specs.Members.{method_at, field_at}
+use Rattle.par_flow_laws.specs.par_typed.Members.{method_at, field_at}
 use Rattle.par_body_laws.specs.Locals.{arriving, arriving_sure, BeginsWith}
 use Rattle.par_body_laws.specs.Types.{IsMarked, Is}
 

@@ -10,7 +10,8 @@ use Rattle.par_annotation_laws.specs.par_type_rules.Program.{type_faults}
 use Rattle.par_faults.specs.Faults.{all_faults}
 use Rattle.par_body_laws.specs.Proper.{IsProper}
 use Rattle.par_typed_laws.specs.Tables.{IsInRange}
-use Rattle.par_typed_laws.specs.Orderly.{HasMethod, IsOrderlyBody}
+use Rattle.par_typed_laws.specs.Orderly.{HasMethod}
+use Rattle.par_flow_laws.specs.Orderly.{IsOrderlyBody}
 use Rattle.par_typed_laws.specs.WellTyped.{NamesMembers, CatchesInBlocks, IsWellTyped}
 use Rattle.par_typed_laws.specs.Limits.{HasFewParams, HasFewMembers, HasFewClasses}
 use Rattle.par_body_laws.specs.Makes.{MakesObjects}

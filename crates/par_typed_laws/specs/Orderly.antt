@@ -5,10 +5,8 @@ use Rattle.par_flow_laws.specs.par_typed.declared.table.Table.{Table}
 use Rattle.par_flow_laws.specs.par_typed.Plain.{Body}
 use Rattle.par_flow_laws.specs.par_typed.Nodes.{stmt_nodes}
 use Rattle.par_annotation_laws.specs.Points.{count_from, stmt_points}
-use Rattle.par_flow_laws.specs.Declares.{declares}
-use Rattle.par_flow_laws.specs.Ranges.{IsOrderly}
 use Rattle.par_typed_laws.specs.Numbers.{StaInRange}
-use Rattle.par_body_laws.specs.Members.{method_at}
+use Rattle.par_flow_laws.specs.par_typed.Members.{method_at}
 use Rattle.par_body_laws.specs.Locals.{set_by_call}
 use Rattle.par_typed_laws.specs.SetFirst.{SetsFirst}
 
@@ -23,11 +21,3 @@ pub record IsBodyOf (table : Table) (b : Body) (m : MethodInfo) : Type 0 where
 
 abbrev pub HasMethod : Table → Body → Type 0
 HasMethod table b = (m : MethodInfo) × IsBodyOf table b m
-
--- the body of a method is orderly over the locals of that method
-pub record IsOrderlyOf (table : Table) (b : Body) (m : MethodInfo) : Type 0 where
-  pub method : method_at table b.class b.method ≡ Some m
-  pub orderly : IsOrderly (declares table) (length m.locals) b
-
-abbrev pub IsOrderlyBody : Table → Body → Type 0
-IsOrderlyBody table b = (m : MethodInfo) × IsOrderlyOf table b m

@@ -15,7 +15,7 @@ use Rattle.par_flow_laws.specs.par_typed.Plain.{MayTSta, NoElse}
 use Rattle.par_flow_laws.specs.par_typed.Plain.{Otherwise, TStas, End, Then, TCatches, NoCatch}
 use Rattle.par_flow_laws.specs.par_typed.Plain.{Catch}
 use Rattle.par_flow_laws.specs.par_typed.Plain.{Body}
-use Rattle.par_body_laws.specs.Members.{method_at}
+use Rattle.par_flow_laws.specs.par_typed.Members.{method_at}
 
 -- ---- the nodes of a body, where a `this` that is a receiver is not counted
 

@@ -11,7 +11,7 @@ use Rattle.par_flow_laws.specs.par_typed.declared.table.ThrowInfo.{ThrowInfo}
 use Rattle.par_flow_laws.specs.par_typed.declared.table.MethodInfo.{MethodInfo}
 use Rattle.par_flow_laws.specs.par_typed.declared.table.ClassInfo.{ClassInfo}
 use Rattle.par_flow_laws.specs.par_typed.declared.table.Table.{Table}
-use Rattle.par_body_laws.specs.Members.{IsClass}
+use Rattle.par_flow_laws.specs.par_typed.Members.{IsClass}
 use Rattle.par_body_laws.specs.Locals.{arrivals}
 
 -- how many policies a table has at most, and how many ground locks

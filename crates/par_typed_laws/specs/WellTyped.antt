@@ -6,7 +6,8 @@ use Rattle.par_flow_laws.specs.par_typed.declared.table.Table.{Table}
 use Rattle.par_flow_laws.specs.par_typed.Plain.{Body}
 use Rattle.par_body_laws.specs.Proper.{IsProper}
 use Rattle.par_typed_laws.specs.Tables.{IsInRange}
-use Rattle.par_typed_laws.specs.Orderly.{HasMethod, IsOrderlyBody}
+use Rattle.par_typed_laws.specs.Orderly.{HasMethod}
+use Rattle.par_flow_laws.specs.Orderly.{IsOrderlyBody}
 use Rattle.par_body_laws.specs.Names.{StaNames}
 use Rattle.par_body_laws.specs.Makes.{MakesObjects}
 use Rattle.par_typed_laws.specs.Fits.{ValuesFit}

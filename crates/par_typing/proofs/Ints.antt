@@ -1,5 +1,5 @@
 -- Where no rule on types is broken, numbers are ints where they stand.
-use Rattle.std.proofs.Common.{◌≡◌, ℕ, ◌+◌, Bool, true, false, not, nat_lt, List, [], ◌∷◌, ◌++◌}
+use Rattle.std.proofs.Common.{◌≡◌, ℕ, ◌+◌, Bool, true, false, not, nat_lt, [], ◌++◌}
 use Rattle.std.proofs.Common.{refl, arith}
 use Rattle.std.specs.Option.{is_some}
 use Rattle.par_tree.specs.Plain as plain
@@ -8,6 +8,7 @@ use Rattle.par_tree.specs.Plain.{Catch, NoCatch, Handler, On, Local}
 use Rattle.par_typed.specs.declared.ty.Ty.TheVariants as ty
 use Rattle.par_refusals.specs.declared.refusal.Refusal.{Refusal}
 use Rattle.par_refusals.specs.First.{when, broken}
+use Rattle.par_source_table_laws.proofs.par_faults.Within.{left_none, right_none}
 use Rattle.par_completes.specs.Completes.{completes}
 use Rattle.par_scope.specs.declared.meaning.Callee.{Callee}
 use Rattle.par_scope.specs.Locals.{Scope}
@@ -38,14 +39,6 @@ use Rattle.par_source_laws.specs.Numbers.{braces_too_great, may_braces_too_great
 use Rattle.par_source_laws.specs.Numbers.{all_too_great, catches_too_great, handler_too_great}
 
 -- ---- parts
-
-pub left_none : (fs gs : List Refusal) → fs ++ gs ≡ [] → fs ≡ []
-left_none [] gs h = refl
-left_none (f ∷ fs) gs h = absurd (cc h)
-
-pub right_none : (fs gs : List Refusal) → fs ++ gs ≡ [] → gs ≡ []
-right_none [] gs h = h
-right_none (f ∷ fs) gs h = absurd (cc h)
 
 left_zero : (m n : ℕ) → m + n ≡ 0 → m ≡ 0
 left_zero m n h = omega (arith, h)

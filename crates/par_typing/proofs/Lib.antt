@@ -1,7 +1,5 @@
 pub mod First
 pub mod Ints
-pub mod Locals
-pub mod Limits
 pub mod Small
 pub mod Tables
 pub mod Written

@@ -17,9 +17,11 @@ use Rattle.par_type_rules.specs.Program.{declaration_faults, declarations_faults
 use Rattle.par_source_table_laws.specs.par_faults.Limits.{class_limits, method_limits}
 use Rattle.par_annotation.specs.Small.{IsSmall, AreSmall, IsSmallClass, IsSmallSource}
 use Rattle.par_source_laws.specs.Numbers.{HasNumbers, SourceHasNumbers}
-use Rattle.par_typing.proofs.Ints.{left_none, right_none, braces_ints}
-use Rattle.par_typing.proofs.Locals.{braces_few}
-use Rattle.par_typing.proofs.Limits.{MethodIsWithin, method_within, class_within}
+use Rattle.par_typing.proofs.Ints.{braces_ints}
+use Rattle.par_source_table_laws.proofs.par_faults.Sized.{braces_few}
+use Rattle.par_source_table_laws.proofs.par_faults.Within.{left_none, right_none}
+use Rattle.par_source_table_laws.proofs.par_faults.Within.{MethodIsWithin, method_within}
+use Rattle.par_source_table_laws.proofs.par_faults.Within.{class_within}
 
 small_method : (home : Home) (m : Method) → MethodIsWithin m → HasNumbers m
     → body_faults home m ≡ [] → IsSmall m

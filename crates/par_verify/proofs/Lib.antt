@@ -3,7 +3,6 @@ pub mod Deciding
 pub mod Judged
 pub mod Methods
 pub mod Naming
-pub mod Padding
 pub mod Starting
 pub mod Telling
 pub use Rattle.par_verify_laws.proofs as par_verify_laws

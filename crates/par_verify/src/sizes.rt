@@ -19,7 +19,7 @@ fn is_sized(method: &Method, at: u32, frame: &PlaceFrame) -> bool
 {
     method.starts.has(at)
         && frame.places() == method.code.max_locals as usize
-        && frame.stack.len() <= method.code.max_stack as usize
+        && frame.operands() <= method.code.max_stack as usize
 }
 
 /// Whether the frame of an offset does, where it has one.

@@ -37,13 +37,11 @@ fn kinds_told(alloc: Global, kinds: &[VKind]) -> Result<Vec<PlaceKind>, NoMemory
 }
 
 /// A frame that is told of code with so many locals.
-#[tactic(auto, using(crate::proofs::Padding::turned))]
 pub(crate) fn frame_told(alloc: Global, many: u16, frame: &Frame) -> Result<PlaceFrame, NoMemory>
     ensures { IfOk result (λ met. frame_of met ≡ whole many (as_met frame.now)) }
 {
     let locals = kinds_told(alloc, frame.locals.as_slice())?;
-    let mut stack = kinds_told(alloc, frame.stack.as_slice())?;
-    stack.reverse();
+    let stack = kinds_told(alloc, frame.stack.as_slice())?;
     Ok(PlaceFrame {
         many: many as usize,
         locals,

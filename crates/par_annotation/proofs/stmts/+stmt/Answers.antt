@@ -3,7 +3,7 @@ use Rattle.par_tree.specs.declared.stmt.StmtKind.TheViews.{the_lemmas}
 use Rattle.par_tree.specs.Shown.{does, braces, all_do}
 use Rattle.par_completes.proofs.Left.{does_more, does_end, catch_more, catch_end}
 use Rattle.par_scope.specs.Home.{seen}
-use Rattle.par_annotation_laws.specs.Stmts.{locals_in, all_locals}
+use Rattle.par_scope.specs.Own.{locals_in, all_locals}
 use Rattle.par_annotation.specs.Keeps.{Keeps}
 use Rattle.par_annotation.specs.Seen.{frame_seen}
 use Rattle.par_annotation.specs.Numbers.{written_by}

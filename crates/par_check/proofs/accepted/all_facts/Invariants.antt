@@ -6,7 +6,7 @@ use Rattle.par_asked.specs.par_flow_laws.Lattice.{numbers}
 use Rattle.par_asked.specs.par_flow_laws.Facts.{Facts}
 use Rattle.par_flow.specs.Table.{facts_in}
 use Rattle.par_asked.specs.par_check_laws.Right.{AreAllRight}
-use Rattle.par_rounds.specs.Orderly.{IsOrderlyBody}
+use Rattle.par_flow_laws.specs.Orderly.{IsOrderlyBody}
 use Rattle.par_check.proofs.accepted.all_facts.Given as goal
 
 -- with facts of the bodies that are left, these are facts of all

@@ -1,7 +1,7 @@
 use Rattle.std.proofs.Common.{rules, arith}
 use Rattle.par_tree.specs.declared.stmt.StmtKind.TheViews.{the_lemmas}
 use Rattle.par_tree.proofs.Shown.{doings}
-use Rattle.par_faults.specs.Locals.{locals_in}
+use Rattle.par_scope.specs.Own.{locals_in}
 use Rattle.par_faults.proofs.locals.+stmt.Goals as goal
 
 pub in_block-in_stmts-requires : goal.in_block-in_stmts-requires

@@ -1,6 +1,6 @@
 use Rattle.std.proofs.Common.{◌≡◌, ◌+◌, drop}
 use Rattle.par_tree.specs.Shown.{all_do, all_catch}
-use Rattle.par_faults.specs.Locals.{all_locals, catch_locals}
+use Rattle.par_scope.specs.Own.{all_locals, catches_locals}
 use Rattle.par_faults.proofs.locals.+stmt.Given as goal
 
 -- counted so far, with those of the statements that are left
@@ -11,5 +11,5 @@ invariant-in_stmts-loop-stmt l =
 -- counted so far, with those of the catches that are left
 abbrev pub invariant-in_catches-loop-catch : goal.invariant-in_catches-loop-catch
 invariant-in_catches-loop-catch l =
-    l.locals + catch_locals (all_catch (drop l.catch-index l.catches))
-    ≡ catch_locals (all_catch l.catches)
+    l.locals + catches_locals (all_catch (drop l.catch-index l.catches))
+    ≡ catches_locals (all_catch l.catches)

@@ -7,8 +7,6 @@ use Rattle.par_span_laws.specs.Law.{ComesToTree}
 use Rattle.par_source_laws.proofs.Numbers.{trees_have_numbers}
 use Rattle.par_source_laws.proofs.Order.{trees_are_in_order}
 use Rattle.par_source_laws.proofs.Short.{trees_are_short}
-use Rattle.par_typed.specs.Shown.{bodies}
-use Rattle.par_flow_calls.proofs.Orderly.{all_orderly}
 use Rattle.par_flow_calls.proofs.typed_trees.typed.Goals as goal
 
 at_most : (n m : ℕ) → (m < n → ⊥) → n ≤ m
@@ -40,6 +38,4 @@ type_program-requires-clause-texts c =
     omega (arith, covered, short)
 
 pub returns-clause-orderly : goal.returns-clause-orderly
-returns-clause-orderly c =
-    let made = c.in_ok-typed in
-    all_orderly made.typed.table (bodies made.typed.bodies) made.ensures.well_typed.orderly
+returns-clause-orderly c = c.in_ok-typed.ensures.well_typed.orderly

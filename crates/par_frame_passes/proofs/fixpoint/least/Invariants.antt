@@ -1,17 +1,23 @@
 use Rattle.std.proofs.Common.{◌≡◌, false}
+use Rattle.std.specs.Option.{option_map}
 use Rattle.par_frame_moves.specs.par_kinds.Fits.{Given}
+use Rattle.par_frame_steps.specs.Marks.{frame_of}
 use Rattle.par_frame_passes.specs.Methods.{exc_of, act_in, handler_in, code_in, IsToldOf}
+use Rattle.par_frame_passes.specs.Sparing.{SparesBehind}
 use Rattle.par_frame_passes.specs.Sweeps.{Kept, Swept}
 use Rattle.par_frame_passes.specs.Tables.{table_of}
 use Rattle.par_frame_passes.proofs.fixpoint.least.Given as goal
 
--- the table is kept, and where nothing rose on this way so far it was gone through
+-- The table is kept, and where nothing rose on this way so far it was gone through. The handlers
+-- around the offset before have met the frame that is spared.
 abbrev pub invariant-loop-step : goal.invariant-loop-step
 invariant-loop-step l =
     (start : Given) → IsToldOf l.method start →
     Kept (exc_of l.method) (act_in l.method) (handler_in l.method) (code_in l.method) start
     (table_of l.initial.table) →
-    Kept (exc_of l.method) (act_in l.method) (handler_in l.method) (code_in l.method) start
+    (Kept (exc_of l.method) (act_in l.method) (handler_in l.method) (code_in l.method) start
     (table_of l.table)
     × (l.again ≡ false → Swept (exc_of l.method) (act_in l.method) (handler_in l.method)
-    (code_in l.method) start (table_of l.table) l.at)
+    (code_in l.method) start (table_of l.table) l.at))
+    × SparesBehind (exc_of l.method) (act_in l.method) (handler_in l.method) (code_in l.method)
+    l.at (table_of l.table) (option_map frame_of l.spared)

@@ -1,12 +1,16 @@
-use Rattle.std.proofs.Common.{rules, sym}
+use Rattle.std.proofs.Common.{rules, refl, sym}
 use Rattle.std.proofs.lemmas.Result.{IfOk-weaker}
-use Rattle.par_typed.specs.Shown.{mark_of}
+use Rattle.par_typed.specs.Shown.{all_shown, mark_of, receiver, shown}
 use Rattle.par_flow_laws.specs.Declares.{declares}
-use Rattle.par_nodes.specs.Seen.{seen_rules, seen_origin, seen_start}
+use Rattle.par_flow_laws.specs.Rules.{Done, goes_on}
+use Rattle.par_flow_laws.specs.Body.{past, second}
+use Rattle.par_nodes.specs.Seen.{seen_rules, seen_start}
+use Rattle.par_nodes.specs.Starts.{call_does, call_start}
 use Rattle.par_nodes.proofs.Rows.{args_next, args_none}
 use Rattle.par_nodes.proofs.Expressions.{int_made, bool_made, nullary_made, new_made}
 use Rattle.par_nodes.proofs.Expressions.{local_made, static_made, input_made, field_made}
 use Rattle.par_nodes.proofs.Expressions.{output_made, call_made, unary_made, binary_made}
+use Rattle.par_nodes.proofs.Expressions.{selected, valued, combined}
 use Rattle.par_nodes.proofs.expr.+exp.Goals as goal
 
 pub args-loop-place-init : goal.args-loop-place-init
@@ -77,57 +81,59 @@ rules_of-returns-in-Input t c =
     c.in-Input.channel c.channel.result (seen_rules r.rules) c.in-Input.is c.channel.ensures)
     c.given-in-Input.ensures
 
-pub rules_of-returns-in_ok-rest-in-Field : goal.rules_of-returns-in_ok-rest-in-Field
-rules_of-returns-in_ok-rest-in-Field t c =
+pub rules_of-returns-in-Field : goal.rules_of-returns-in-Field
+rules_of-returns-in-Field t c =
     let e = c.args.e.now in
-    IfOk-weaker c.operand.result _ _
+    let of = c.deref.result.now in
+    IfOk-weaker c.selects.result _ _
     (λ r. field_made (declares c.args.table.now) e.kind (mark_of e) c.in-Field.of
-    c.in-Field.class c.in-Field.field c.field-in-Field.result c.deref-in-Field.result.now
-    c.deref.result.now (seen_rules r.rules) (seen_rules c.in_ok-rest-in-Field.rest.rules)
-    c.in-Field.is c.field-in-Field.ensures c.deref.ensures c.in_ok-rest-in-Field.ensures
-    c.deref-in-Field.ensures)
-    c.operand.ensures
+    c.in-Field.class c.in-Field.field c.field-in-Field.result of of (seen_rules r.rules)
+    (selected (shown of) c.field-in-Field.result) c.in-Field.is c.field-in-Field.ensures
+    c.deref.ensures refl c.deref.ensures)
+    c.selects.ensures
 
-pub rules_of-returns-in_ok-rest-in-Output : goal.rules_of-returns-in_ok-rest-in-Output
-rules_of-returns-in_ok-rest-in-Output t c =
+pub rules_of-returns-in-Output : goal.rules_of-returns-in-Output
+rules_of-returns-in-Output t c =
     let e = c.args.e.now in
-    IfOk-weaker c.operand-in-Output.result _ _
+    IfOk-weaker c.puts.result _ _
     (λ r. output_made (declares c.args.table.now) e.kind (mark_of e) _ _
     c.in-Output.value c.deref-in-Output.result.now (seen_rules r.rules)
-    (seen_rules c.in_ok-rest-in-Output.rest.rules) c.in-Output.is c.in_ok-rest-in-Output.ensures
-    c.deref-in-Output.ensures)
-    c.operand-in-Output.ensures
+    (goes_on past Done) c.in-Output.is refl c.deref-in-Output.ensures)
+    c.puts.ensures
 
 pub rules_of-returns-in_ok-all-in-Call : goal.rules_of-returns-in_ok-all-in-Call
 rules_of-returns-in_ok-all-in-Call t c =
     let e = c.args.e.now in
+    let d = declares c.args.table.now in
+    let of = c.in-Call.of in
+    let es = c.as_slice.result.now in
+    let does = call_does d (d.method c.in-Call.class c.in-Call.method) (receiver of)
+    (all_shown es) in
     IfOk-weaker c.behind.result _ _
-    (λ r. call_made (declares c.args.table.now) e.kind (mark_of e) c.in-Call.class
-    c.in-Call.method c.in-Call.of c.in-Call.arguments c.as_slice-arguments.result.now
-    (seen_rules r.rules) (seen_rules c.in_ok-all-in-Call.all.rules)
-    (seen_rules c.in_ok-does-in-Call.does.rules) (seen_start c.call_start.result)
-    c.in-Call.is c.as_slice-arguments.ensures c.in_ok-does-in-Call.ensures
-    c.call_start.ensures c.in_ok-all-in-Call.ensures)
+    (λ r. call_made d e.kind (mark_of e) c.in-Call.class
+    c.in-Call.method of c.in-Call.arguments es (seen_rules r.rules)
+    (seen_rules c.in_ok-all-in-Call.all.rules) does (call_start (receiver of))
+    c.in-Call.is c.as_slice.ensures refl refl c.in_ok-all-in-Call.ensures)
     c.behind.ensures
 
-pub rules_of-returns-in_ok-rest-in-Neg : goal.rules_of-returns-in_ok-rest-in-Neg
-rules_of-returns-in_ok-rest-in-Neg t c =
+pub rules_of-returns-in-Neg : goal.rules_of-returns-in-Neg
+rules_of-returns-in-Neg t c =
     let e = c.args.e.now in
-    IfOk-weaker c.operand-in-Neg.result _ _
+    IfOk-weaker c.operates.result _ _
     (λ r. unary_made (declares c.args.table.now) e.kind (mark_of e) c.in-Neg.of
-    c.deref-in-Neg.result.now (seen_rules r.rules) (seen_rules c.in_ok-rest-in-Neg.rest.rules)
-    c.in-Neg.is c.in_ok-rest-in-Neg.ensures c.deref-in-Neg.ensures)
-    c.operand-in-Neg.ensures
+    c.deref-in-Neg.result.now (seen_rules r.rules) valued c.in-Neg.is refl
+    c.deref-in-Neg.ensures)
+    c.operates.ensures
 
 pub rules_of-returns-in_ok-last-in-Binary : goal.rules_of-returns-in_ok-last-in-Binary
 rules_of-returns-in_ok-last-in-Binary t c =
     let e = c.args.e.now in
-    IfOk-weaker c.operand-in-Binary-2.result _ _
-    (λ r. binary_made (declares c.args.table.now) e.kind (mark_of e) c.in-Binary.op
-    c.in-Binary.left c.in-Binary.right c.deref-in-Binary-3.result.now
-    c.deref-in-Binary-2.result.now c.deref-in-Binary.result.now (seen_origin c.second.result)
+    let op = c.in-Binary.op in
+    let right = c.deref-in-Binary.result.now in
+    IfOk-weaker c.operand.result _ _
+    (λ r. binary_made (declares c.args.table.now) e.kind (mark_of e) op
+    c.in-Binary.left c.in-Binary.right c.deref-in-Binary-2.result.now right right (second op)
     (seen_rules r.rules) (seen_rules c.in_ok-last-in-Binary.last.rules)
-    (seen_rules c.in_ok-rest-in-Binary.rest.rules) c.in-Binary.is c.deref-in-Binary.ensures
-    c.in_ok-rest-in-Binary.ensures c.second.ensures c.deref-in-Binary-2.ensures
-    c.in_ok-last-in-Binary.ensures c.deref-in-Binary-3.ensures)
-    c.operand-in-Binary-2.ensures
+    (combined op (shown right)) c.in-Binary.is c.deref-in-Binary.ensures refl refl
+    c.deref-in-Binary.ensures c.in_ok-last-in-Binary.ensures c.deref-in-Binary-2.ensures)
+    c.operand.ensures

@@ -1,33 +1,36 @@
-use Rattle.std.proofs.Common.{[], ◌∙◌}
+use Rattle.std.proofs.Common.{◌∙◌}
 use Rattle.std.proofs.lemmas.Result.{on_ok_weaker}
-use Rattle.par_nodes.specs.Possible.{among, cans}
+use Rattle.par_nodes.specs.Possible.{among, coming, passed}
 use Rattle.par_nodes.proofs.Completing.{part_made, test_made, leaves_made, done_made, heads_made}
 use Rattle.par_nodes.proofs.Completing.{worths_made, leaves_told, heads_told, worths_told}
 use Rattle.par_nodes.proofs.possible.+add_rules.Goals as goal
 
 pub returns-in-Done : goal.returns-in-Done
 returns-in-Done t c =
-    λ h. done_made c.args.rules.now (cans c.args.parts.now []) (among c.args.kinds.now) c.in-Done.is
+    λ h. done_made c.args.rules.now (passed c.args.left c.args.parts.now)
+    (among c.args.kinds.now) c.in-Done.is
 
-pub returns-in_ok-add_part-in-Part : goal.returns-in_ok-add_part-in-Part
-returns-in_ok-add_part-in-Part t c =
+pub returns-in_ok-rest-in-Part : goal.returns-in_ok-rest-in-Part
+returns-in_ok-rest-in-Part t c =
+    let rest = c.in_ok-rest-in-Part.rest in
     on_ok_weaker c.add_rules.result
     (part_made c.args.rules.now c.in-Part.from c.in-Part.absorber _ c.in-Part.more
-    (cans c.args.found.now.items []) (cans c.add_part.new.found.items [])
-    (cans c.add_part.new.parts []) c.args.parts.now c.as_slice.result.now c.deref.result.now
-    (among c.args.kinds.now) (among c.add_part.new.kinds) (among c.add_rules.new.kinds)
-    c.comes-reached.result c.in-Part.is c.as_slice.ensures c.comes-reached.ensures
-    c.in_ok-add_part-in-Part.ensures c.deref.ensures)
+    (coming c.args.left c.args.parts.now) (coming rest c.pass_part.new.parts)
+    (passed c.args.left c.args.parts.now) (passed rest c.pass_part.new.parts)
+    c.deref.result.now (among c.args.kinds.now) (among c.pass_part.new.kinds)
+    (among c.add_rules.new.kinds) c.comes-reached.result c.in-Part.is c.comes-reached.ensures
+    c.in_ok-rest-in-Part.ensures.passed c.deref.ensures)
     c.add_rules.ensures
 
-pub returns-in_ok-add_part-in-Test : goal.returns-in_ok-add_part-in-Test
-returns-in_ok-add_part-in-Test t c =
+pub returns-in_ok-rest-in-Test : goal.returns-in_ok-rest-in-Test
+returns-in_ok-rest-in-Test t c =
+    let rest = c.in_ok-rest-in-Test.rest in
     on_ok_weaker c.add_rules-in-Test.result
-    (test_made c.args.rules.now _ c.in-Test.more (cans c.args.found.now.items [])
-    (cans c.add_part-in-Test.new.found.items []) (cans c.args.parts.now [])
-    (cans c.add_part-in-Test.new.parts []) c.deref-in-Test.result.now
-    (among c.args.kinds.now) (among c.add_part-in-Test.new.kinds)
-    (among c.add_rules-in-Test.new.kinds) c.in-Test.is c.in_ok-add_part-in-Test.ensures
+    (test_made c.args.rules.now _ c.in-Test.more (coming c.args.left c.args.parts.now)
+    (coming rest c.pass_part-in-Test.new.parts) (passed c.args.left c.args.parts.now)
+    (passed rest c.pass_part-in-Test.new.parts) c.deref-in-Test.result.now
+    (among c.args.kinds.now) (among c.pass_part-in-Test.new.kinds)
+    (among c.add_rules-in-Test.new.kinds) c.in-Test.is c.in_ok-rest-in-Test.ensures.passed
     c.deref-in-Test.ensures)
     c.add_rules-in-Test.ensures
 
@@ -35,10 +38,9 @@ pub returns-in_ok-leaves-in-Leaves : goal.returns-in_ok-leaves-in-Leaves
 returns-in_ok-leaves-in-Leaves t c =
     on_ok_weaker c.add_rules-in-Leaves.result
     (λ more h. leaves_made c.args.rules.now c.in-Leaves.from c.in-Leaves.kind c.in-Leaves.more
-    c.args.parts.now c.as_slice-in-Leaves.result.now c.deref-in-Leaves.result.now
+    (passed c.args.left c.args.parts.now) c.deref-in-Leaves.result.now
     (among c.args.kinds.now) (among c.leaves.new.kinds) (among c.add_rules-in-Leaves.new.kinds)
-    c.comes-reached-in-Leaves.result
-    c.in-Leaves.is c.as_slice-in-Leaves.ensures c.comes-reached-in-Leaves.ensures
+    c.comes-reached-in-Leaves.result c.in-Leaves.is c.comes-reached-in-Leaves.ensures
     c.in_ok-leaves-in-Leaves.ensures c.deref-in-Leaves.ensures
     (more (h ∙ leaves_told _ _ _ _ _ c.in-Leaves.is c.deref-in-Leaves.ensures)))
     c.add_rules-in-Leaves.ensures
@@ -46,7 +48,7 @@ returns-in_ok-leaves-in-Leaves t c =
 pub returns-in-Heads : goal.returns-in-Heads
 returns-in-Heads t c =
     on_ok_weaker c.add_rules-in-Heads.result
-    (λ more h. heads_made c.args.rules.now _ c.in-Heads.more (cans c.args.parts.now [])
+    (λ more h. heads_made c.args.rules.now _ c.in-Heads.more (passed c.args.left c.args.parts.now)
     c.deref-in-Heads.result.now (among c.args.kinds.now) (among c.add_rules-in-Heads.new.kinds)
     c.in-Heads.is c.deref-in-Heads.ensures
     (more (h ∙ heads_told _ _ _ _ c.in-Heads.is c.deref-in-Heads.ensures)))
@@ -55,8 +57,8 @@ returns-in-Heads t c =
 pub returns-in-Worths : goal.returns-in-Worths
 returns-in-Worths t c =
     on_ok_weaker c.add_rules-in-Worths.result
-    (λ more h. worths_made c.args.rules.now _ c.in-Worths.more (cans c.args.parts.now [])
-    c.deref-in-Worths.result.now (among c.args.kinds.now) (among c.add_rules-in-Worths.new.kinds)
-    c.in-Worths.is c.deref-in-Worths.ensures
+    (λ more h. worths_made c.args.rules.now _ c.in-Worths.more
+    (passed c.args.left c.args.parts.now) c.deref-in-Worths.result.now (among c.args.kinds.now)
+    (among c.add_rules-in-Worths.new.kinds) c.in-Worths.is c.deref-in-Worths.ensures
     (more (h ∙ worths_told _ _ _ _ c.in-Worths.is c.deref-in-Worths.ensures)))
     c.add_rules-in-Worths.ensures

@@ -1,8 +1,7 @@
 use Rattle.par_tree.specs.Shown.{source as tree_of_program}
-use Rattle.par_typed.specs.Shown.{bodies}
 use Rattle.par_observer.proofs.Few.{few_bodies}
 use Rattle.par_observer.proofs.OfTree.{tree_refused_handed}
-use Rattle.par_observer.proofs.Flowing.{accepts, refuses, orderly_bodies, few_classes}
+use Rattle.par_observer.proofs.Flowing.{accepts, refuses, few_classes}
 use Rattle.par_observer.proofs.Flowing.{stays_formed}
 use Rattle.par_observer.proofs.tree.passes.Goals as goal
 
@@ -21,9 +20,7 @@ flows-requires-clause-few c =
     c.in_ok-typed.ensures.complete.typed_is
 
 pub flows-requires-clause-orderly : goal.flows-requires-clause-orderly
-flows-requires-clause-orderly c =
-    orderly_bodies c.in_ok-typed.typed.table (bodies c.in_ok-typed.typed.bodies)
-    c.in_ok-typed.ensures.complete.formed.typed_well.orderly
+flows-requires-clause-orderly c = c.in_ok-typed.ensures.complete.formed.typed_well.orderly
 
 pub returns-clause-accepted : goal.returns-clause-accepted
 returns-clause-accepted c =

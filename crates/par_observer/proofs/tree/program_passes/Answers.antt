@@ -1,9 +1,7 @@
 use Rattle.par_tree.specs.Shown.{source as tree_of_program}
-use Rattle.par_typed.specs.Shown.{bodies}
 use Rattle.par_observer.proofs.Few.{few_bodies}
 use Rattle.par_observer.proofs.OfTree.{tree_refused_handed}
-use Rattle.par_observer.proofs.Flowing.{accepts_program, refused_handed, orderly_bodies}
-use Rattle.par_observer.proofs.Flowing.{few_classes}
+use Rattle.par_observer.proofs.Flowing.{accepts_program, refused_handed, few_classes}
 use Rattle.par_observer.proofs.tree.program_passes.Goals as goal
 
 pub keep_flows-requires-clause-policies : goal.keep_flows-requires-clause-policies
@@ -21,9 +19,7 @@ keep_flows-requires-clause-few c =
     c.in_ok-typed.ensures.complete.typed_is
 
 pub keep_flows-requires-clause-orderly : goal.keep_flows-requires-clause-orderly
-keep_flows-requires-clause-orderly c =
-    orderly_bodies c.in_ok-typed.typed.table (bodies c.in_ok-typed.typed.bodies)
-    c.in_ok-typed.ensures.complete.formed.typed_well.orderly
+keep_flows-requires-clause-orderly c = c.in_ok-typed.ensures.complete.formed.typed_well.orderly
 
 pub returns-clause-accepted : goal.returns-clause-accepted
 returns-clause-accepted c =

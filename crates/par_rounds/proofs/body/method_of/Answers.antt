@@ -1,13 +1,14 @@
 use Rattle.std.proofs.Common.{sym, ap}
 use Rattle.par_typed.specs.Shown as shown
-use Rattle.par_rounds.specs.Orderly.{locals_of}
-use Rattle.par_rounds.proofs.Methods.{declared, orderly}
+use Rattle.par_flow_laws.specs.Orderly.{locals_of}
+use Rattle.par_flow_laws.proofs.Methods.{method_known}
+use Rattle.par_rounds.proofs.Methods.{orderly}
 use Rattle.par_rounds.proofs.body.method_of.Goals as goal
 
 pub returns-clause-method : goal.returns-clause-method
 returns-clause-method c =
-    declared c.args.table.now (shown.body c.args.body.now) c.in-Some.method.now
-    (sym (rw c.in-Some.is at c.method_at.ensures))
+    sym (method_known c.args.table.now c.args.body.now.class c.args.body.now.method
+    c.in-Some.method.now (sym (rw c.in-Some.is at c.method_at.ensures)))
 
 pub returns-clause-orderly : goal.returns-clause-orderly
 returns-clause-orderly c =

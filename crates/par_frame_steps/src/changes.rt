@@ -1,0 +1,82 @@
+//! A frame that is changed where it stands.
+
+ghost use Rattle.std.specs.Prelude.{◌≡◌, ◌∷◌, ◌++◌, drop, slice_set, replicate, IfOk};
+ghost use Rattle.par_frame_steps.specs.Marks.{kind_of, kinds_of, frame_of};
+ghost use Rattle.par_frame_steps.specs.Listed.{with_place};
+ghost use Rattle.par_frame_steps.specs.declared.kind.PlaceKind.TheVariants as place;
+
+use crate::frame::PlaceFrame;
+use crate::kind::PlaceKind;
+use par_base::memory::NoMemory;
+use std::alloc::Global;
+
+/// Lists so many kinds more, each of which holds anything.
+fn list<'f>(alloc: Global, kinds: &mut Vec<PlaceKind<'f>>, rest: usize) -> Result<(), NoMemory>
+    ensures { IfOk result (λ done. kinds.new.items
+        ≡ kinds.old.items ++ replicate rest place.Top) }
+{
+    if rest == 0 {
+        return Ok(());
+    }
+    let tops = vec![in alloc; PlaceKind::Top; rest]?;
+    kinds.extend_from_slice(tops.as_slice())?;
+    Ok(())
+}
+
+/// Sets the kind of a place, where those before it are listed.
+#[tactic(auto, using(crate::proofs::Padded::listed_set))]
+fn set_kind<'f>(
+    alloc: Global,
+    kinds: &mut Vec<PlaceKind<'f>>,
+    local: u8,
+    kind: PlaceKind<'f>,
+) -> Result<(), NoMemory>
+    ensures { IfOk result (λ done. kinds_of kinds.new.items
+        ≡ with_place (kinds_of kinds.old.items) local (kind_of kind.entry)) }
+{
+    let place = local as usize;
+    let rest = (place + 1).saturating_sub(kinds.len());
+    list(alloc, kinds, rest)?;
+    kinds[place] = kind;
+    Ok(())
+}
+
+impl<'f> PlaceFrame<'f> {
+    /// Pushes an operand.
+    #[tactic(auto, using(crate::proofs::Turned::last_first))]
+    pub fn push(&mut self, kind: PlaceKind<'f>) -> Result<(), NoMemory>
+        ensures { IfOk result (λ done. frame_of self.new ≡ record {
+          locals = (frame_of self.old).locals;
+          stack = kind_of kind.entry ∷ (frame_of self.old).stack;
+        }) }
+    {
+        self.stack.push(kind)?;
+        Ok(())
+    }
+
+    /// Takes so many operands, all where there are fewer.
+    #[tactic(auto, using(crate::proofs::Turned::turned_take))]
+    pub fn take(&mut self, many: usize)
+        ensures { frame_of self.new ≡ record {
+          locals = (frame_of self.old).locals;
+          stack = drop many (frame_of self.old).stack;
+        } }
+    {
+        let left = self.stack.len().saturating_sub(many);
+        self.stack.truncate(left);
+    }
+
+    /// Sets a local, where there is such a one.
+    #[tactic(auto, using(crate::proofs::Padded::padded_set, crate::proofs::Padded::padded_past))]
+    pub fn set(&mut self, alloc: Global, local: u8, kind: PlaceKind<'f>) -> Result<(), NoMemory>
+        ensures { IfOk result (λ done. frame_of self.new ≡ record {
+          locals = slice_set (frame_of self.old).locals local (kind_of kind.entry);
+          stack = (frame_of self.old).stack;
+        }) }
+    {
+        if local as usize >= self.places() {
+            return Ok(());
+        }
+        set_kind(alloc, &mut self.locals, local, kind)
+    }
+}

@@ -1,0 +1,75 @@
+//! The classes that kinds name, each by a number.
+
+use crate::small_kind::SmallKind;
+use par_base::memory::NoMemory;
+use par_frame_steps::PlaceKind;
+use par_frame_steps::kind::is_in;
+use std::alloc::Global;
+use std::collections::BTreeMap;
+
+/// The classes that were named so far.
+#[derive(Drop)]
+pub struct Classes<'m, 'f> {
+    /// The names of the classes of exceptions.
+    exceptions: &'m [&'f [u8]],
+    numbers: BTreeMap<&'f [u8], u32>,
+    /// The name of each number.
+    names: Vec<&'f [u8]>,
+}
+
+impl<'m, 'f> Classes<'m, 'f> {
+    /// None, where exceptions have these names.
+    pub fn new(alloc: Global, exceptions: &'m [&'f [u8]]) -> Classes<'m, 'f> {
+        Classes {
+            exceptions,
+            numbers: BTreeMap::new(alloc),
+            names: Vec::new(alloc),
+        }
+    }
+
+    /// The number of a class, from now on.
+    fn number(&mut self, name: &'f [u8]) -> Result<u32, NoMemory> {
+        if let Some(number) = self.numbers.get(name) {
+            return Ok(*number);
+        }
+        let Ok(number) = u32::try_from(self.names.len()) else {
+            return Err(NoMemory);
+        };
+        self.names.push(name)?;
+        self.numbers.insert(name, number)?;
+        Ok(number)
+    }
+
+    /// A kind in few bytes.
+    pub fn small(&mut self, kind: PlaceKind<'f>) -> Result<SmallKind, NoMemory> {
+        match kind {
+            PlaceKind::Top => Ok(SmallKind::Top),
+            PlaceKind::Int => Ok(SmallKind::Int),
+            PlaceKind::Null => Ok(SmallKind::Null),
+            PlaceKind::Object(name) if is_in(self.exceptions, name) => {
+                Ok(SmallKind::Exception(self.number(name)?))
+            }
+            PlaceKind::Object(name) => Ok(SmallKind::Object(self.number(name)?)),
+            PlaceKind::Base(true) => Ok(SmallKind::AnyException),
+            PlaceKind::Base(false) => Ok(SmallKind::AnyObject),
+        }
+    }
+
+    /// A kind with the name of its class.
+    pub fn kind(&self, small: SmallKind) -> PlaceKind<'f> {
+        let number = match small {
+            SmallKind::Unset => return PlaceKind::Top,
+            SmallKind::Int => return PlaceKind::Int,
+            SmallKind::Null => return PlaceKind::Null,
+            SmallKind::Exception(number) => number,
+            SmallKind::Object(number) => number,
+            SmallKind::AnyException => return PlaceKind::Base(true),
+            SmallKind::AnyObject => return PlaceKind::Base(false),
+            SmallKind::Top => return PlaceKind::Top,
+        };
+        match self.names.get(number as usize) {
+            Some(name) => PlaceKind::Object(name),
+            None => PlaceKind::Top,
+        }
+    }
+}

@@ -1,0 +1,15 @@
+//! Kinds of places in few bytes, and what straight code makes of them.
+//!
+//! Frames are guessed from these. Nothing is promised of a guess, which is looked at as each frame
+//! that is told is, so that no contract here says which kinds come out. The crate knows no method.
+#![tactic(auto)]
+
+mod before;
+mod classes;
+mod effect;
+mod small_kind;
+
+pub use before::Before;
+pub use classes::Classes;
+pub use effect::{Change, Effect, Held};
+pub use small_kind::SmallKind;
