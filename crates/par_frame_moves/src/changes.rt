@@ -11,16 +11,16 @@ use par_frame_steps::{PlaceFrame, PlaceKind};
 use std::alloc::Global;
 
 /// Takes operands.
-fn take(frame: &mut PlaceFrame, takes: Takes)
-    ensures { frame_of frame.new ≡ record {
+fn take(alloc: Global, frame: &mut PlaceFrame, takes: Takes) -> Result<(), NoMemory>
+    ensures { IfOk result (λ done. frame_of frame.new ≡ record {
       locals = (frame_of frame.old).locals;
       stack = drop (length (takes_of takes)) (frame_of frame.old).stack;
-    } }
+    }) }
 {
     match takes {
-        Takes::Nothing => {}
-        Takes::One(_) => frame.take(1),
-        Takes::Two(_) => frame.take(2),
+        Takes::Nothing => Ok(()),
+        Takes::One(_) => frame.take(alloc, 1),
+        Takes::Two(_) => frame.take(alloc, 2),
     }
 }
 
@@ -32,19 +32,19 @@ impl Brief {
             (length (act_of self.now).takes) (frame_of frame.old)) }
     {
         let top = frame.operand();
-        take(frame, self.takes);
+        take(alloc, frame, self.takes)?;
         match self.work {
             Work::Nothing => Ok(()),
-            Work::PushNumber => frame.push(PlaceKind::Int),
-            Work::PushNull => frame.push(PlaceKind::Null),
+            Work::PushNumber => frame.push(alloc, PlaceKind::Int),
+            Work::PushNull => frame.push(alloc, PlaceKind::Null),
             Work::Load(x, _) => {
                 let kind = frame.local(x);
-                frame.push(kind)
+                frame.push(alloc, kind)
             }
             Work::Increase(_) => Ok(()),
             Work::Copy => {
-                frame.push(top)?;
-                frame.push(top)
+                frame.push(alloc, top)?;
+                frame.push(alloc, top)
             }
             Work::Store(x) => frame.set(alloc, x, top),
         }

@@ -1,6 +1,6 @@
 //! Whether an instruction can be run on every frame of some kinds.
 
-ghost use Rattle.std.specs.Prelude.{◌≡◌, List as Items};
+ghost use Rattle.std.specs.Prelude.{◌≡◌, drop, List as Items};
 ghost use Rattle.par_values.specs.Areas.{Name};
 ghost use Rattle.par_kinds.specs.Kinds.{accepts};
 ghost use Rattle.par_frame_steps.specs.par_frame_pass_laws.Passes.{takes_fit, also_fits, act_fits};
@@ -9,7 +9,7 @@ ghost use Rattle.par_frame_moves.specs.declared.brief.Takes.TheVariants as takes
 ghost use Rattle.par_frame_moves.specs.Briefs.{want_of, takes_of, also_of, act_of};
 
 use crate::brief::{Brief, Takes, Want, Work};
-use par_frame_steps::{PlaceFrame, PlaceKind};
+use par_frame_steps::{Pile, PlaceFrame, PlaceKind};
 
 impl Want {
     /// Whether each value of a kind is one that is asked for.
@@ -25,34 +25,31 @@ impl Want {
     }
 }
 
-/// Whether the operand that was pushed last is of a kind.
-fn one_fits(want: Want, stack: &[PlaceKind]) -> bool
-    ensures { result ≡ takes_fit (takes_of (takes.One want)) (operands_of stack.now) }
+/// Whether the operand that stands so far below the one that was pushed last is of a kind.
+fn one_fits(want: Want, stack: &Pile, depth: usize) -> bool
+    ensures { result ≡ takes_fit (takes_of (takes.One want)) (drop depth (operands_of stack.now)) }
 {
-    match stack.split_last() {
-        Some((kind, _)) => want.accepts(*kind),
+    match stack.below(depth) {
+        Some(kind) => want.accepts(kind),
         None => false,
     }
 }
 
 /// Whether the two operands that were pushed last are.
-fn two_fit(want: Want, stack: &[PlaceKind]) -> bool
+fn two_fit(want: Want, stack: &Pile) -> bool
     ensures { result ≡ takes_fit (takes_of (takes.Two want)) (operands_of stack.now) }
 {
-    match stack.split_last() {
-        Some((kind, rest)) => want.accepts(*kind) && one_fits(want, rest),
-        None => false,
-    }
+    one_fits(want, stack, 0) && one_fits(want, stack, 1)
 }
 
 impl Takes {
     /// Whether operands of these kinds can be taken.
-    fn fits(self, stack: &[PlaceKind]) -> bool
+    fn fits(self, stack: &Pile) -> bool
         ensures { result ≡ takes_fit (takes_of self) (operands_of stack.now) }
     {
         match self {
             Takes::Nothing => true,
-            Takes::One(want) => one_fits(want, stack),
+            Takes::One(want) => one_fits(want, stack, 0),
             Takes::Two(want) => two_fit(want, stack),
         }
     }

@@ -75,11 +75,11 @@ impl Facts {
         let mut before = Before::unset(alloc, self.locals, places)?;
         for place in 0..places {
             let kind = match place.checked_sub(self.locals) {
-                None => frame.locals.get(place),
+                None => frame.locals.get(place).copied(),
                 Some(below) => frame.stack.get(below),
             };
             let kind = match kind {
-                Some(kind) => classes.small(*kind)?,
+                Some(kind) => classes.small(kind)?,
                 None => SmallKind::Top,
             };
             before.come(place, kind)?;

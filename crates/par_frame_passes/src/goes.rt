@@ -16,7 +16,7 @@ use par_base::memory::NoMemory;
 use par_class::file::Catch;
 use par_frame_acts::caught;
 use par_frame_steps::frame::copied;
-use par_frame_steps::{Flow, PlaceFrame};
+use par_frame_steps::{Flow, Pile, PlaceFrame};
 use std::alloc::Global;
 
 /// Lets a frame go on where code goes on from an offset, of an instruction before another offset.
@@ -85,8 +85,8 @@ fn handle<'f>(
         (taken_by (handler_in method.now) (frame_of frame.now) catch.now ∷ [])
         (table_of table.old) result (table_of table.new) }
 {
-    let mut stack = Vec::new(alloc);
-    stack.push(caught(method.linked, method.class, catch))?;
+    let mut stack = Pile::new(alloc);
+    stack.push(alloc, caught(method.linked, method.class, catch))?;
     let frame = PlaceFrame {
         many: frame.many,
         locals: copied(alloc, &frame.locals)?,

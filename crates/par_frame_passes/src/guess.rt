@@ -13,7 +13,7 @@ use crate::method::Method;
 use crate::spots::{Spot, spots};
 use crate::table::kept;
 use par_base::memory::NoMemory;
-use par_frame_steps::{PlaceFrame, PlaceKind};
+use par_frame_steps::{Pile, PlaceFrame, PlaceKind};
 use par_small_kinds::{Before, Classes};
 use std::alloc::Global;
 
@@ -112,7 +112,8 @@ impl<'f> Sketch<'_, 'f> {
         many: usize,
     ) -> Result<PlaceFrame<'f>, NoMemory> {
         let locals = self.kinds(alloc, before, 0, self.facts.locals)?;
-        let stack = self.kinds(alloc, before, self.facts.locals, before.operands())?;
+        let operands = self.kinds(alloc, before, self.facts.locals, before.operands())?;
+        let stack = Pile::of(alloc, &operands)?;
         Ok(PlaceFrame {
             many,
             locals,

@@ -19,8 +19,8 @@ use crate::goes::go_to_handlers;
 use crate::method::Method;
 use par_base::memory::NoMemory;
 use par_class::file::Catch;
-use par_frame_steps::PlaceFrame;
 use par_frame_steps::frame::copied;
+use par_frame_steps::{Pile, PlaceFrame};
 use std::alloc::Global;
 
 /// Marks where handlers begin, and where what they handle does.
@@ -60,7 +60,7 @@ fn bare<'f>(alloc: Global, frame: &PlaceFrame<'f>) -> Result<PlaceFrame<'f>, NoM
     Ok(PlaceFrame {
         many: frame.many,
         locals: copied(alloc, &frame.locals)?,
-        stack: Vec::new(alloc),
+        stack: Pile::new(alloc),
     })
 }
 

@@ -1,5 +1,6 @@
 pub mod Into
 pub mod Lists
 pub mod Padded
+pub mod Piled
 pub mod Turned
 pub use Rattle.par_frame_pass_laws.proofs.par_kinds as par_kinds

@@ -1,6 +1,6 @@
 -- Lists of kinds, item by item.
 use Rattle.std.proofs.Common.{◌≡◌, ℕ, zero, suc, ◌+◌, ◌<◌, ◌≤◌, true, false, ◌&&◌, List, []}
-use Rattle.std.proofs.Common.{◌∷◌, ◌++◌, length, map, drop, get_or, refl, sym, ap, subst, ◌∙◌}
+use Rattle.std.proofs.Common.{◌∷◌, ◌++◌, length, drop, get_or, refl, sym, ap, subst, ◌∙◌}
 use Rattle.std.proofs.Common.{arith, Bool}
 use Rattle.std.proofs.lemmas.List.{get_or-map, length-map, append-nil, drop_all}
 use Rattle.std.proofs.Math.Seq.{drop-nil}

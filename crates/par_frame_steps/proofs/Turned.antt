@@ -1,14 +1,18 @@
 -- Operands, of which the last pushed stands last, seen from the last on.
-use Rattle.std.proofs.Common.{◌≡◌, ℕ, ◌+◌, ◌-◌, ◌<◌, ◌≤◌, Bool, true, false, ◌&&◌, List, []}
-use Rattle.std.proofs.Common.{◌∷◌, ◌++◌, length, map, take, drop, refl, sym, ap, ◌∙◌, arith, inl, inr}
+use Rattle.std.proofs.Common.{◌≡◌, ℕ, zero, suc, ◌+◌, ◌-◌, ◌<◌, ◌≤◌, Bool, true, false, ◌&&◌}
+use Rattle.std.proofs.Common.{List, [], ◌∷◌, ◌++◌, Some, None, length, map, take, drop, refl, sym, ap, ◌∙◌, arith, inl, inr}
 use Rattle.std.proofs.Common.{reverse, get_or}
+use Rattle.std.specs.List.{slice_get, drop-map}
 use Rattle.std.proofs.lemmas.List.{reverse-append, length-reverse, length-map, take-append-drop}
 use Rattle.std.proofs.lemmas.List.{map-append, length-drop, drop_all, drop_at, drop_more, take-map}
+use Rattle.std.proofs.lemmas.List.{drop-drop}
+use Rattle.std.proofs.lemmas.Option.{same_Some}
 use Rattle.std.proofs.lemmas.Bool.{cases_lt, cases_eq}
 use Rattle.par_values.specs.Areas.{Name}
 use Rattle.par_values.specs.declared.kind.Kind.{Kind}
 use Rattle.par_kinds.specs.declared.frame.VKind.{VKind}
-use Rattle.par_kinds.specs.Kinds.{into, accepts}
+use Rattle.par_kinds.specs.declared.frame.VKind.TheVariants as kind
+use Rattle.par_kinds.specs.Kinds.{into, accepts, kind_at}
 use Rattle.par_frame_pass_laws.specs.Passes.{merge, all_into, merge_all, takes_fit}
 use Rattle.par_frame_steps.specs.declared.kind.PlaceKind.{PlaceKind}
 use Rattle.par_frame_steps.specs.declared.act.Asked.{Asked}
@@ -46,20 +50,74 @@ reverse-take {A} xs n =
           ∙ ap (λ (ys : List A). drop n (reverse ys)) (take-append-drop left xs)
     ]
 
-pub turned_take : (ks : List PlaceKind) (n left : ℕ) → left ≡ length ks - n
-    → operands_of (take left ks) ≡ drop n (operands_of ks)
-turned_take ks n left is =
-    let size : left ≡ length (kinds_of ks) - n =
-    is ∙ ap (λ (m : ℕ). m - n) (sym (length-map ks kind_of)) in
+pub turned_take : (ks : List PlaceKind) (n : ℕ)
+    → operands_of (take (length ks - n) ks) ≡ drop n (operands_of ks)
+turned_take ks n =
     ap (λ (vs : List VKind). reverse vs)
-    (sym (take-map kind_of left ks) ∙ ap (λ (m : ℕ). take m (kinds_of ks)) size)
+    (sym (take-map kind_of (length ks - n) ks)
+    ∙ ap (λ (m : ℕ). take (m - n) (kinds_of ks)) (sym (length-map ks kind_of)))
     ∙ reverse-take (kinds_of ks) n
 
 -- ---- one is asked about
 
+reverse-more : {A : Type 0} (x : A) (xs : List A) → reverse (x ∷ xs) ≡ reverse xs ++ x ∷ []
+reverse-more x xs = reverse-append (x ∷ []) xs
+
+turned-map : (ks : List PlaceKind) → operands_of ks ≡ kinds_of (reverse ks)
+turned-map [] = refl
+turned-map (k ∷ ks) =
+    reverse-more (kind_of k) (kinds_of ks)
+    ∙ ap (λ (vs : List VKind). vs ++ kind_of k ∷ []) (turned-map ks)
+    ∙ sym (map-append kind_of (reverse ks) (k ∷ []))
+    ∙ ap (λ (ls : List PlaceKind). kinds_of ls) (sym (reverse-more k ks))
+
+-- what stands behind so many kinds
+behind-none : (ks : List PlaceKind) (n : ℕ) → slice_get ks n ≡ None → kinds_of (drop n ks) ≡ []
+behind-none [] zero e = refl
+behind-none [] (suc n) e = refl
+behind-none (k ∷ ks) zero e = absurd (cc e)
+behind-none (k ∷ ks) (suc n) e = behind-none ks n e
+
+behind-some : (ks : List PlaceKind) (n : ℕ) (k : PlaceKind) → slice_get ks n ≡ Some k
+    → kinds_of (drop n ks) ≡ kind_of k ∷ kinds_of (drop (suc n) ks)
+behind-some [] n k e = absurd (cc e)
+behind-some (l ∷ ks) zero k e =
+    ap (λ (m : PlaceKind). kind_of m ∷ kinds_of ks) (same_Some l k e)
+behind-some (l ∷ ks) (suc n) k e = behind-some ks n k e
+
+turned-drop : (ks : List PlaceKind) (n : ℕ)
+    → drop n (operands_of ks) ≡ kinds_of (drop n (reverse ks))
+turned-drop ks n =
+    ap (λ (vs : List VKind). drop n vs) (turned-map ks) ∙ drop-map kind_of n (reverse ks)
+
+-- the one that stands so far below the last, if there is one
+pub none_below : (q : Kind) (ks : List PlaceKind) (n : ℕ) → slice_get (reverse ks) n ≡ None
+    → takes_fit (q ∷ []) (drop n (operands_of ks)) ≡ false
+none_below q ks n e =
+    ap (λ (vs : List VKind). takes_fit (q ∷ []) vs)
+    (turned-drop ks n ∙ behind-none (reverse ks) n e)
+
 and-true : (b : Bool) → (b && true) ≡ b
 and-true true = refl
 and-true false = refl
+
+pub one_below : (q : Kind) (ks : List PlaceKind) (n : ℕ) (k : PlaceKind)
+    → slice_get (reverse ks) n ≡ Some k
+    → takes_fit (q ∷ []) (drop n (operands_of ks)) ≡ accepts q (kind_of k)
+one_below q ks n k e =
+    ap (λ (vs : List VKind). takes_fit (q ∷ []) vs)
+    (turned-drop ks n ∙ behind-some (reverse ks) n k e)
+    ∙ and-true (accepts q (kind_of k))
+
+pub none_last : (ks : List PlaceKind) → slice_get (reverse ks) 0 ≡ None
+    → kind_at (operands_of ks) 0 ≡ kind.Top
+none_last ks e =
+    ap (λ (vs : List VKind). kind_at vs 0) (turned-drop ks 0 ∙ behind-none (reverse ks) 0 e)
+
+pub one_last : (ks : List PlaceKind) (k : PlaceKind) → slice_get (reverse ks) 0 ≡ Some k
+    → kind_at (operands_of ks) 0 ≡ kind_of k
+one_last ks k e =
+    ap (λ (vs : List VKind). kind_at vs 0) (turned-drop ks 0 ∙ behind-some (reverse ks) 0 k e)
 
 -- one is taken, and then those that are left
 first-too : (q : Kind) (qs : List Kind) (vs : List VKind)
@@ -70,35 +128,32 @@ first-too q qs (v ∷ vs) =
 
 module _ (qs : List Asked) (i : ℕ) (d : Asked) (ks : List PlaceKind) (b x : Bool)
     (inside : i < length qs)
-    (so_far : takes_fit (map asked_of (drop i qs)) (operands_of ks) ≡ x)
-    (found : b ≡ takes_fit (asked_of (get_or qs i d) ∷ []) (operands_of ks)) where
-  both : (b && takes_fit (map asked_of (drop (i + 1) qs)) (drop 1 (operands_of ks))) ≡ x
+    (so_far : takes_fit (map asked_of (drop i qs)) (drop i (operands_of ks)) ≡ x)
+    (found : b ≡ takes_fit (asked_of (get_or qs i d) ∷ []) (drop i (operands_of ks))) where
+  both : (b && takes_fit (map asked_of (drop (i + 1) qs)) (drop (i + 1) (operands_of ks))) ≡ x
   both =
-      ap (λ (c : Bool). c
-      && takes_fit (map asked_of (drop (i + 1) qs)) (drop 1 (operands_of ks))) found
+      ap (λ (vs : List VKind). b && takes_fit (map asked_of (drop (i + 1) qs)) vs)
+      (sym (drop-drop 1 i (operands_of ks)))
+      ∙ ap (λ (c : Bool). c
+      && takes_fit (map asked_of (drop (i + 1) qs)) (drop 1 (drop i (operands_of ks)))) found
       ∙ sym (first-too (asked_of (get_or qs i d)) (map asked_of (drop (i + 1) qs))
-      (operands_of ks))
-      ∙ ap (λ (rest : List Asked). takes_fit (map asked_of rest) (operands_of ks))
+      (drop i (operands_of ks)))
+      ∙ ap (λ (rest : List Asked). takes_fit (map asked_of rest) (drop i (operands_of ks)))
       (sym (drop_more qs i d inside))
       ∙ so_far
 
   pub not_taken : b ≡ false → false ≡ x
   not_taken unfit =
       sym (ap (λ (c : Bool). c
-      && takes_fit (map asked_of (drop (i + 1) qs)) (drop 1 (operands_of ks))) unfit) ∙ both
+      && takes_fit (map asked_of (drop (i + 1) qs)) (drop (i + 1) (operands_of ks))) unfit) ∙ both
 
-  pub one_taken : (below : List PlaceKind) → below ≡ take (length ks - 1) ks
-      → b ≡ true → takes_fit (map asked_of (drop (i + 1) qs)) (operands_of below) ≡ x
-  one_taken below is fits =
-      ap (λ (vs : List VKind). takes_fit (map asked_of (drop (i + 1) qs)) vs)
-      (ap (λ (ls : List PlaceKind). operands_of ls) is ∙ turned_take ks 1 (length ks - 1) refl)
-      ∙ sym (ap (λ (c : Bool). c
-      && takes_fit (map asked_of (drop (i + 1) qs)) (drop 1 (operands_of ks))) fits) ∙ both
+  pub one_taken : b ≡ true
+      → takes_fit (map asked_of (drop (i + 1) qs)) (drop (i + 1) (operands_of ks)) ≡ x
+  one_taken fits =
+      sym (ap (λ (c : Bool). c
+      && takes_fit (map asked_of (drop (i + 1) qs)) (drop (i + 1) (operands_of ks))) fits) ∙ both
 
 -- ---- as many
-
-reverse-more : {A : Type 0} (x : A) (xs : List A) → reverse (x ∷ xs) ≡ reverse xs ++ x ∷ []
-reverse-more x xs = reverse-append (x ∷ []) xs
 
 swapped : (a b c : Bool) → (a && (b && c)) ≡ (b && (a && c))
 swapped true b c = refl

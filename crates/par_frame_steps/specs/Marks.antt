@@ -45,7 +45,7 @@ abbrev pub operands_of : List PlaceKind → List VKind
 operands_of kinds = reverse (kinds_of kinds)
 
 abbrev pub frame_of : PlaceFrame → KFrame
-frame_of f = record { locals = locals_of f; stack = operands_of f.stack.items }
+frame_of f = record { locals = locals_of f; stack = operands_of f.stack }
 
 -- ---- acts
 

@@ -44,26 +44,24 @@ fn set_kind<'f>(
 impl<'f> PlaceFrame<'f> {
     /// Pushes an operand.
     #[tactic(auto, using(crate::proofs::Turned::last_first))]
-    pub fn push(&mut self, kind: PlaceKind<'f>) -> Result<(), NoMemory>
+    pub fn push(&mut self, alloc: Global, kind: PlaceKind<'f>) -> Result<(), NoMemory>
         ensures { IfOk result (λ done. frame_of self.new ≡ record {
           locals = (frame_of self.old).locals;
           stack = kind_of kind.entry ∷ (frame_of self.old).stack;
         }) }
     {
-        self.stack.push(kind)?;
-        Ok(())
+        self.stack.push(alloc, kind)
     }
 
     /// Takes so many operands, all where there are fewer.
     #[tactic(auto, using(crate::proofs::Turned::turned_take))]
-    pub fn take(&mut self, many: usize)
-        ensures { frame_of self.new ≡ record {
+    pub fn take(&mut self, alloc: Global, many: usize) -> Result<(), NoMemory>
+        ensures { IfOk result (λ done. frame_of self.new ≡ record {
           locals = (frame_of self.old).locals;
           stack = drop many (frame_of self.old).stack;
-        } }
+        }) }
     {
-        let left = self.stack.len().saturating_sub(many);
-        self.stack.truncate(left);
+        self.stack.take(alloc, many)
     }
 
     /// Sets a local, where there is such a one.

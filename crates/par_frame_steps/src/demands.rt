@@ -1,6 +1,6 @@
 //! Whether an instruction can be run on every frame of some kinds.
 
-ghost use Rattle.std.specs.Prelude.{◌≡◌, ◌-◌, [], ◌∷◌, length, take, map};
+ghost use Rattle.std.specs.Prelude.{◌≡◌, [], ◌∷◌, drop, map};
 ghost use Rattle.par_kinds.specs.Kinds.{accepts, kind_at};
 ghost use Rattle.par_frame_pass_laws.specs.Passes.{takes_fit, also_fits, act_fits};
 ghost use Rattle.par_frame_steps.specs.Marks.{names, kind_of, operands_of, frame_of};
@@ -9,6 +9,7 @@ ghost use Rattle.par_frame_steps.specs.Marks.{asked_of, also_of, act_of};
 use crate::act::{Act, Also, Asked};
 use crate::frame::{PlaceFrame, kind_at};
 use crate::kind::PlaceKind;
+use crate::pile::Pile;
 
 impl Asked<'_> {
     /// Whether each value of a kind is one that is asked for.
@@ -24,12 +25,13 @@ impl Asked<'_> {
         }
     }
 
-    /// Whether the operand that was pushed last is one that is asked for.
-    fn accepts_last(self, stack: &[PlaceKind]) -> bool
-        ensures { result ≡ takes_fit (asked_of self.entry ∷ []) (operands_of stack.now) }
+    /// Whether the operand that stands so far below the one that was pushed last is asked for.
+    fn accepts_below(self, stack: &Pile, depth: usize) -> bool
+        ensures { result ≡ takes_fit (asked_of self.entry ∷ [])
+            (drop depth (operands_of stack.now)) }
     {
-        match stack.split_last() {
-            Some((kind, _)) => self.accepts(*kind),
+        match stack.below(depth) {
+            Some(kind) => self.accepts(kind),
             None => false,
         }
     }
@@ -48,30 +50,21 @@ impl<'f> PlaceFrame<'f> {
     pub fn operand(&self) -> PlaceKind<'f>
         ensures { kind_of result ≡ kind_at (frame_of self.now).stack 0 }
     {
-        match self.stack.split_last() {
-            Some((kind, _)) => *kind,
+        match self.stack.below(0) {
+            Some(kind) => kind,
             None => PlaceKind::Top,
         }
     }
 }
 
-/// The operands below the one that was pushed last.
-fn below<'s, 'f>(stack: &'s [PlaceKind<'f>]) -> &'s [PlaceKind<'f>]
-    ensures { result.now ≡ take (length stack.entry.now - 1) stack.entry.now }
-{
-    &stack[..stack.len().saturating_sub(1)]
-}
-
 /// Whether operands of these kinds can be taken, of which the last pushed stands last.
-fn takes_fit(takes: &[Asked], stack: &[PlaceKind]) -> bool
+fn takes_fit(takes: &[Asked], stack: &Pile) -> bool
     ensures { result ≡ takes_fit (map asked_of takes.now) (operands_of stack.now) }
 {
-    let mut rest = stack;
-    for asked in takes {
-        if !asked.accepts_last(rest) {
+    for (depth, asked) in takes.iter().enumerate() {
+        if !asked.accepts_below(stack, depth) {
             return false;
         }
-        rest = below(rest);
     }
     true
 }

@@ -9,6 +9,7 @@ ghost use Rattle.par_frame_steps.specs.Marks.{names, kind_of, kinds_of, operands
 ghost use Rattle.par_frame_steps.specs.Marks.{frame_of};
 
 use crate::kind::PlaceKind;
+use crate::pile::Pile;
 use par_base::memory::NoMemory;
 use std::alloc::Global;
 
@@ -19,7 +20,7 @@ pub struct PlaceFrame<'f> {
     /// How many locals there are, where no more are listed.
     pub many: usize,
     pub locals: Vec<PlaceKind<'f>>,
-    pub stack: Vec<PlaceKind<'f>>,
+    pub stack: Pile<'f>,
 }
 
 /// Whether each kind fits into the one at its place, of as many.
@@ -38,7 +39,7 @@ pub(crate) fn all_into(exceptions: &[&[u8]], kinds: &[PlaceKind], others: &[Plac
 }
 
 /// The least kind into which both fit, of each place that both list.
-fn merged<'f>(
+pub(crate) fn merged<'f>(
     alloc: Global,
     exceptions: &[&[u8]],
     kinds: &[PlaceKind<'f>],
@@ -137,7 +138,7 @@ impl<'f> PlaceFrame<'f> {
         ensures { result ≡ all_into (names exceptions.now) (frame_of self.now).stack
             (frame_of other.now).stack }
     {
-        all_into(exceptions, &self.stack, &other.stack)
+        self.stack.fits_into(exceptions, &other.stack)
     }
 
     /// Whether another has as many locals and operands.
@@ -153,13 +154,13 @@ impl<'f> PlaceFrame<'f> {
         alloc: Global,
         exceptions: &[&[u8]],
         other: &PlaceFrame<'f>,
-    ) -> Result<Vec<PlaceKind<'f>>, NoMemory>
+    ) -> Result<Pile<'f>, NoMemory>
         requires { length (frame_of self.now).stack ≡ length (frame_of other.now).stack }
-        ensures { IfOk result (λ all. operands_of all.items
+        ensures { IfOk result (λ pile. operands_of pile
             ≡ merge_all (names exceptions.now) (frame_of self.now).stack
             (frame_of other.now).stack) }
     {
-        merged(alloc, exceptions, &self.stack, &other.stack)
+        self.stack.merged(alloc, exceptions, &other.stack)
     }
 
     /// The least frame into which both fit, where both have as many locals and operands.
@@ -188,7 +189,7 @@ impl<'f> PlaceFrame<'f> {
         Ok(PlaceFrame {
             many: self.many,
             locals: copied(alloc, &self.locals)?,
-            stack: copied(alloc, &self.stack)?,
+            stack: self.stack.copied(alloc)?,
         })
     }
 }

@@ -11,7 +11,9 @@ mod demands;
 pub mod frame;
 pub mod kind;
 mod outcome;
+pub mod pile;
 
 pub use act::{Act, Also, Asked, Flow, Leaves};
 pub use frame::PlaceFrame;
 pub use kind::PlaceKind;
+pub use pile::Pile;

@@ -11,14 +11,18 @@ use par_base::memory::NoMemory;
 use std::alloc::Global;
 
 /// Pushes an operand, where it is something.
-fn give<'f>(frame: &mut PlaceFrame<'f>, kind: Option<PlaceKind<'f>>) -> Result<(), NoMemory>
+fn give<'f>(
+    alloc: Global,
+    frame: &mut PlaceFrame<'f>,
+    kind: Option<PlaceKind<'f>>,
+) -> Result<(), NoMemory>
     ensures { IfOk result (λ done. frame_of frame.new ≡ record {
       locals = (frame_of frame.old).locals;
       stack = given kind.entry ++ (frame_of frame.old).stack;
     }) }
 {
     match kind {
-        Some(kind) => frame.push(kind),
+        Some(kind) => frame.push(alloc, kind),
         None => Ok(()),
     }
 }
@@ -35,16 +39,16 @@ fn leave_by<'f>(
         frame_of frame.new ≡ left_by (leaves_of leaves.entry) many (frame_of frame.old)) }
 {
     let top = frame.operand();
-    frame.take(many);
+    frame.take(alloc, many)?;
     match leaves {
-        Leaves::Gives(kind) => give(frame, kind),
+        Leaves::Gives(kind) => give(alloc, frame, kind),
         Leaves::Loads(local) => {
             let kind = frame.local(local);
-            frame.push(kind)
+            frame.push(alloc, kind)
         }
         Leaves::Copies => {
-            frame.push(top)?;
-            frame.push(top)
+            frame.push(alloc, top)?;
+            frame.push(alloc, top)
         }
         Leaves::Stores(local) => frame.set(alloc, local, top),
     }

@@ -90,7 +90,8 @@ each_within (c ∷ cs) h = (class_within c h.0, each_within cs h.1)
 -- the classes that every program has have no members
 builtin_within : (name : List ℕ) → ClassIsWithin (builtin name)
 unfolding in_order
-builtin_within name = record { members = omega arith; methods = omega arith; each_method = tt }
+builtin_within name =
+    record { members = omega arith; methods = omega arith; nodes = omega arith; each_method = tt }
 
 all_within : (source : Source) → IsWithinLimits source
     → AllByRecursion ClassIsWithin (classes source)

@@ -10,7 +10,7 @@ ghost use Rattle.par_frame_steps.specs.Marks.{frame_of};
 
 use par_base::memory::NoMemory;
 use par_frame_acts::{arguments_at, asked_kind};
-use par_frame_steps::{Asked, PlaceFrame, PlaceKind};
+use par_frame_steps::{Asked, Pile, PlaceFrame, PlaceKind};
 use std::alloc::Global;
 
 /// Kinds, and behind them those of what is asked for.
@@ -61,6 +61,6 @@ pub(crate) fn first_frame<'f>(
     Ok(PlaceFrame {
         many: many as usize,
         locals: arguments(alloc, is_static, class, descriptor)?,
-        stack: Vec::new(alloc),
+        stack: Pile::new(alloc),
     })
 }

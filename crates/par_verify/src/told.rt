@@ -8,7 +8,7 @@ ghost use Rattle.par_verify_laws.specs.Verified.{whole};
 ghost use Rattle.par_verify.specs.Starts.{told_of};
 
 use par_base::memory::NoMemory;
-use par_frame_steps::{PlaceFrame, PlaceKind};
+use par_frame_steps::{Pile, PlaceFrame, PlaceKind};
 use par_kinds::{Frame, PlacedFrame, VKind};
 use std::alloc::Global;
 
@@ -42,6 +42,7 @@ pub(crate) fn frame_told(alloc: Global, many: u16, frame: &Frame) -> Result<Plac
 {
     let locals = kinds_told(alloc, frame.locals.as_slice())?;
     let stack = kinds_told(alloc, frame.stack.as_slice())?;
+    let stack = Pile::of(alloc, &stack)?;
     Ok(PlaceFrame {
         many: many as usize,
         locals,

@@ -1,14 +1,14 @@
 use Rattle.par_frame_steps.proofs.Turned.{not_taken, one_taken}
 use Rattle.par_frame_steps.proofs.demands.takes_fit.Goals as goal
 
-pub returns-then-not-accepts_last : goal.returns-then-not-accepts_last
-returns-then-not-accepts_last c =
-    not_taken c.args.takes.now c.loop-asked.asked-index _ c.loop-asked.rest.now
-    c.accepts_last.result _ c.loop-asked-test.true c.loop-asked.invariant c.accepts_last.ensures
-    c.if-not-accepts_last.true
+pub returns-then-not-accepts_below : goal.returns-then-not-accepts_below
+returns-then-not-accepts_below c =
+    not_taken c.args.takes.now c.loop-depth.depth _ c.args.stack.now
+    c.accepts_below.result _ c.loop-depth-test.true c.loop-depth.invariant
+    c.accepts_below.ensures c.if-not-accepts_below.true
 
-pub loop-asked-preserved : goal.loop-asked-preserved
-loop-asked-preserved c =
-    one_taken c.args.takes.now c.loop-asked.asked-index _ c.loop-asked.rest.now
-    c.accepts_last.result _ c.loop-asked-test.true c.loop-asked.invariant c.accepts_last.ensures
-    c.below-rest.result.now c.below-rest.ensures c.if-not-accepts_last.false
+pub loop-depth-preserved : goal.loop-depth-preserved
+loop-depth-preserved c =
+    one_taken c.args.takes.now c.loop-depth.depth _ c.args.stack.now
+    c.accepts_below.result _ c.loop-depth-test.true c.loop-depth.invariant
+    c.accepts_below.ensures c.if-not-accepts_below.false

@@ -4,7 +4,7 @@ use Rattle.par_frame_steps.specs.Marks.{asked_of, operands_of}
 use Rattle.par_frame_steps.proofs.demands.takes_fit.Given as goal
 
 -- what is left decides
-abbrev pub invariant-loop-asked : goal.invariant-loop-asked
-invariant-loop-asked l =
-    takes_fit (map asked_of (drop l.asked-index l.takes)) (operands_of l.rest)
+abbrev pub invariant-loop-depth : goal.invariant-loop-depth
+invariant-loop-depth l =
+    takes_fit (map asked_of (drop l.depth l.takes)) (drop l.depth (operands_of l.stack))
     ≡ takes_fit (map asked_of l.takes) (operands_of l.stack)

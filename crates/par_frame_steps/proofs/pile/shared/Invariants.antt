@@ -1,0 +1,6 @@
+use Rattle.std.proofs.Common.{◌≡◌, take}
+use Rattle.par_frame_steps.proofs.pile.shared.Given as goal
+
+-- those so far
+abbrev pub invariant-loop-piece : goal.invariant-loop-piece
+invariant-loop-piece l = l.all.items ≡ take l.piece-index l.pieces

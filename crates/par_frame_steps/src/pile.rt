@@ -1,0 +1,288 @@
+//! Kinds on one another, of which copies share all but the last ones.
+
+ghost use Rattle.std.specs.Prelude.{◌≡◌, ◌-◌, ◌≤◌, [], ◌∷◌, ◌++◌, length, take, reverse, IfOk};
+ghost use Rattle.std.specs.List.{slice_get};
+ghost use Rattle.par_frame_pass_laws.specs.Passes.{all_into, merge_all};
+ghost use Rattle.par_frame_steps.specs.Marks.{names, kinds_of};
+ghost use Rattle.par_frame_steps.specs.Piled.{joined, AreWhole};
+
+use crate::frame::{all_into, copied, merged};
+use crate::kind::PlaceKind;
+use par_base::memory::NoMemory;
+use std::alloc::Global;
+use std::marker::Model;
+use std::rc::Rc;
+
+/// How many kinds a piece has.
+pub const PIECE: usize = 256;
+
+/// How many pieces there are at most, which are more than code can fill.
+pub const MOST_PIECES: usize = 65_536;
+
+/// The kind at a place, if there is one.
+fn at<'f>(kinds: &[PlaceKind<'f>], place: usize) -> Option<PlaceKind<'f>>
+    ensures { result ≡ slice_get kinds.entry.now place }
+{
+    kinds.get(place).copied()
+}
+
+/// Kinds that copies share.
+#[derive(Drop)]
+pub(crate) struct Piece<'f> {
+    kinds: Rc<Vec<PlaceKind<'f>>>,
+}
+
+impl<'f> Model for Piece<'f> {
+    ghost use Rattle.std.specs.Prelude.{List};
+    ghost use Rattle.par_frame_steps.specs.declared.kind.PlaceKind.{PlaceKind};
+
+    ghost Value = { List PlaceKind };
+
+    ghost view = { λ p. p.kinds.value.items };
+}
+
+impl<'f> Piece<'f> {
+    /// A piece of these kinds.
+    fn of(alloc: Global, kinds: Vec<PlaceKind<'f>>) -> Result<Piece<'f>, NoMemory>
+        ensures { IfOk result (λ piece. piece ≡ kinds.entry.items) }
+    {
+        let kinds = Rc::new(alloc, kinds)?;
+        Ok(Piece { kinds })
+    }
+
+    /// Its kinds.
+    fn kinds(&self) -> &[PlaceKind<'f>]
+        ensures { result.now ≡ self.now }
+    {
+        self.kinds.as_slice()
+    }
+
+    /// The piece once more.
+    fn share(&self) -> Result<Piece<'f>, NoMemory>
+        ensures { IfOk result (λ piece. piece ≡ self.now) }
+    {
+        let kinds = self.kinds.clone()?;
+        Ok(Piece { kinds })
+    }
+
+    /// The least kinds into which both fit, of as many. Where one fits into the other, that is it.
+    fn merged(
+        &self,
+        alloc: Global,
+        exceptions: &[&[u8]],
+        other: &Piece<'f>,
+    ) -> Result<Piece<'f>, NoMemory>
+        ensures { IfOk result (λ piece. kinds_of piece
+            ≡ merge_all (names exceptions.now) (kinds_of self.now) (kinds_of other.now)) }
+    {
+        if all_into(exceptions, self.kinds(), other.kinds()) {
+            return other.share();
+        }
+        let kinds = merged(alloc, exceptions, self.kinds(), other.kinds())?;
+        Piece::of(alloc, kinds)
+    }
+}
+
+/// Whether each piece fits into the one at its place, of as many.
+fn pieces_into(exceptions: &[&[u8]], pieces: &[Piece], others: &[Piece]) -> bool
+    requires many { length pieces.now ≡ length others.now }
+    requires whole { AreWhole pieces.now }
+    requires others { AreWhole others.now }
+    ensures { result ≡ all_into (names exceptions.now) (kinds_of (joined pieces.now))
+        (kinds_of (joined others.now)) }
+{
+    for (place, piece) in pieces.iter().enumerate() {
+        if !all_into(exceptions, piece.kinds(), others[place].kinds()) {
+            return false;
+        }
+    }
+    true
+}
+
+/// The same pieces once more.
+fn shared<'f>(alloc: Global, pieces: &[Piece<'f>]) -> Result<Vec<Piece<'f>>, NoMemory>
+    ensures { IfOk result (λ all. all.items ≡ pieces.entry.now) }
+{
+    let mut all = Vec::new(alloc);
+    for piece in pieces {
+        all.push(piece.share()?)?;
+    }
+    Ok(all)
+}
+
+/// The least pieces into which both fit, of as many.
+fn merged_pieces<'f>(
+    alloc: Global,
+    exceptions: &[&[u8]],
+    pieces: &[Piece<'f>],
+    others: &[Piece<'f>],
+) -> Result<Vec<Piece<'f>>, NoMemory>
+    requires many { length pieces.now ≡ length others.now }
+    requires whole { AreWhole pieces.now }
+    requires others { AreWhole others.now }
+    ensures many { IfOk result (λ all. length all.items ≡ length pieces.entry.now) }
+    ensures whole { IfOk result (λ all. AreWhole all.items) }
+    ensures least { IfOk result (λ all. kinds_of (joined all.items)
+        ≡ merge_all (names exceptions.now) (kinds_of (joined pieces.entry.now))
+        (kinds_of (joined others.entry.now))) }
+{
+    let mut all = Vec::new(alloc);
+    for (place, piece) in pieces.iter().enumerate() {
+        all.push(piece.merged(alloc, exceptions, &others[place])?)?;
+    }
+    Ok(all)
+}
+
+/// Kinds on one another. Copies share those that stand below the last ones. Contracts see all of
+/// them, of which the one that was pushed last stands last.
+#[derive(Drop)]
+pub struct Pile<'f> {
+    pieces: Vec<Piece<'f>>,
+    rest: Vec<PlaceKind<'f>>,
+}
+
+impl<'f> Model for Pile<'f> {
+    ghost use Rattle.std.specs.Prelude.{List, ◌++◌};
+    ghost use Rattle.par_frame_steps.specs.declared.kind.PlaceKind.{PlaceKind};
+    ghost use Rattle.par_frame_steps.specs.Piled.{joined, IsPiled};
+
+    ghost Value = { List PlaceKind };
+
+    ghost view = { λ p. joined p.pieces.items ++ p.rest.items };
+
+    ghost invariant = { λ p. IsPiled p.pieces.items p.rest.items };
+}
+
+impl<'f> Pile<'f> {
+    /// No kinds.
+    pub fn new(alloc: Global) -> Pile<'f>
+        ensures { result ≡ [] }
+    {
+        Pile {
+            pieces: Vec::new(alloc),
+            rest: Vec::new(alloc),
+        }
+    }
+
+    /// These kinds, of which the last was pushed last.
+    pub fn of(alloc: Global, kinds: &[PlaceKind<'f>]) -> Result<Pile<'f>, NoMemory>
+        ensures { IfOk result (λ pile. pile ≡ kinds.entry.now) }
+    {
+        let mut pile = Pile::new(alloc);
+        for kind in kinds {
+            pile.push(alloc, *kind)?;
+        }
+        Ok(pile)
+    }
+
+    /// How many kinds there are.
+    pub fn len(&self) -> usize
+        ensures { result ≡ length self.now }
+    {
+        self.pieces.len() * PIECE + self.rest.len()
+    }
+
+    /// The kind at a place, counted from the one that was pushed first.
+    pub fn get(&self, place: usize) -> Option<PlaceKind<'f>>
+        ensures { result ≡ slice_get self.now place }
+    {
+        match self.pieces.get(place / PIECE) {
+            Some(piece) => at(piece.kinds(), place % PIECE),
+            None => at(&self.rest, place - self.pieces.len() * PIECE),
+        }
+    }
+
+    /// The kind that stands so far below the one that was pushed last.
+    pub fn below(&self, depth: usize) -> Option<PlaceKind<'f>>
+        ensures { result ≡ slice_get (reverse self.now) depth }
+    {
+        let many = self.len();
+        if depth >= many {
+            return None;
+        }
+        self.get(many - 1 - depth)
+    }
+
+    /// Pushes a kind.
+    pub fn push(&mut self, alloc: Global, kind: PlaceKind<'f>) -> Result<(), NoMemory>
+        ensures { IfOk result (λ done. self.new ≡ self.old ++ kind.entry ∷ []) }
+    {
+        if self.rest.len() < PIECE {
+            self.rest.push(kind)?;
+            return Ok(());
+        }
+        if self.pieces.len() >= MOST_PIECES {
+            return Err(NoMemory);
+        }
+        let mut rest = Vec::new(alloc);
+        rest.push(kind)?;
+        let piece = Piece::of(alloc, copied(alloc, &self.rest)?)?;
+        self.pieces.push(piece)?;
+        self.rest = rest;
+        Ok(())
+    }
+
+    /// Takes the kind that was pushed last, if there is one.
+    fn pop(&mut self, alloc: Global) -> Result<(), NoMemory>
+        ensures { IfOk result (λ done. self.new ≡ take (length self.old - 1) self.old) }
+    {
+        if self.rest.len() > 1 {
+            self.rest.pop();
+            return Ok(());
+        }
+        match self.pieces.pop() {
+            Some(piece) => self.rest = copied(alloc, piece.kinds())?,
+            None => self.rest.clear(),
+        }
+        Ok(())
+    }
+
+    /// Takes so many kinds, all where there are fewer.
+    pub fn take(&mut self, alloc: Global, many: usize) -> Result<(), NoMemory>
+        ensures { IfOk result (λ done. self.new ≡ take (length self.old - many) self.old) }
+    {
+        for _kind in 0..many {
+            self.pop(alloc)?;
+        }
+        Ok(())
+    }
+
+    /// A copy.
+    pub fn copied(&self, alloc: Global) -> Result<Pile<'f>, NoMemory>
+        ensures { IfOk result (λ pile. pile ≡ self.now) }
+    {
+        Ok(Pile {
+            pieces: shared(alloc, &self.pieces)?,
+            rest: copied(alloc, &self.rest)?,
+        })
+    }
+
+    /// Whether each kind fits into the one at its place, of as many.
+    pub fn fits_into(&self, exceptions: &[&[u8]], other: &Pile) -> bool
+        ensures { result
+            ≡ all_into (names exceptions.now) (kinds_of self.now) (kinds_of other.now) }
+    {
+        if self.pieces.len() != other.pieces.len() {
+            return false;
+        }
+        pieces_into(exceptions, &self.pieces, &other.pieces)
+            && all_into(exceptions, &self.rest, &other.rest)
+    }
+
+    /// The least kinds into which both fit, of as many.
+    pub fn merged(
+        &self,
+        alloc: Global,
+        exceptions: &[&[u8]],
+        other: &Pile<'f>,
+    ) -> Result<Pile<'f>, NoMemory>
+        requires { length self.now ≡ length other.now }
+        ensures { IfOk result (λ pile. kinds_of pile
+            ≡ merge_all (names exceptions.now) (kinds_of self.now) (kinds_of other.now)) }
+    {
+        Ok(Pile {
+            pieces: merged_pieces(alloc, exceptions, &self.pieces, &other.pieces)?,
+            rest: merged(alloc, exceptions, &self.rest, &other.rest)?,
+        })
+    }
+}
