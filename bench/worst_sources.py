@@ -4,6 +4,8 @@ Each function takes the number of bytes and gives a source of so many: methods o
 nodes, four to a class, as far as they fit, and a comment. `SOURCES` has them under their names,
 each with the flags of paragonc that it is made for.
 """
+import itertools
+
 import inferred
 import reading
 import verdicts
@@ -157,6 +159,51 @@ def late_joins(most):
     return joined_over(front + f"class A{{{MAIN}}}", most)
 
 
+def single_locks(locks):
+    """A policy of a clause of one lock for each of these."""
+    return "{" + ";".join(f"a:{lock}" for lock in locks) + "}"
+
+
+def wide_joins(most):
+    """Two policies joined over and over, of whose joined clauses none covers another."""
+    front = "actor a;" + "".join(f"lock {lock};" for lock in LOCKS)
+    front += f"policy P={single_locks(LOCKS[:31])};policy Q={single_locks(LOCKS[40:71])};"
+    return joined_over(front + f"class A{{{MAIN}}}", most)
+
+
+def field_joins(most):
+    """The policies of `late_joins`, joined for one field after another."""
+    front = "actor a;" + "".join(f"lock {lock};" for lock in LOCKS)
+    front += f"policy P={late(LOCKS[254], LOCKS[2:33])};policy Q={late(LOCKS[255], LOCKS[40:71])};"
+    made, field = [front + f"class A{{{MAIN}"], 0
+    size = len(made[0])
+    while True:
+        text = f"}}class B{field // 256}{{" if field % 256 == 0 else ""
+        text += f"?P*Q int f{field % 256};"
+        if size + len(text) + 5 > most:
+            return padded("".join(made) + "}", most)
+        made.append(text)
+        size += len(text)
+        field += 1
+
+
+def ordered_joins(most):
+    """Fifteen policies that are all joined, in ever new orders; 32 clauses stay at each step."""
+    made = ["actor a;" + "".join(f"lock {lock};" for lock in LOCKS) + f"class A{{{MAIN}}}"]
+    names = "BCDEFGHIJKLMNOP"
+    for name, own in zip(names, LOCKS[40:]):
+        clauses = ";".join(f"a:{lock},{own}" for lock in LOCKS[:32])
+        made.append(f"policy {name}={{{clauses}}};")
+    size = len("".join(made))
+    for order in itertools.permutations(names):
+        text = f"policy R{len(made)}={'*'.join(order)};"
+        if size + len(text) + 4 > most:
+            break
+        made.append(text)
+        size += len(text)
+    return padded("".join(made), most)
+
+
 def births(most):
     """Classes whose birth policies are the meets of those of their fields."""
     made = [widest() + f"class A{{{MAIN}}}"]
@@ -305,6 +352,9 @@ SOURCES = {
     "one policy joined with itself": (CHECK, one_join),
     "two policies joined over and over": (CHECK, many_joins),
     "two whose last joined clause covers all": (CHECK, late_joins),
+    "the same, for fields": (CHECK, field_joins),
+    "two whose joined clauses are 961": (CHECK, wide_joins),
+    "15 policies joined in many orders": (CHECK, ordered_joins),
     "birth policies": (CHECK, births),
     "200 locals handed on in a loop": (CHECK, handed_on),
     "the same in 60 nested loops": (CHECK, nested_loops),

@@ -1,5 +1,5 @@
 -- Which inputs fit class files.
-use Rattle.std.specs.Prelude.{ℕ, Bool, not, ◌&&◌, List, Option, codes}
+use Rattle.std.specs.Prelude.{ℕ, Bool, not, ◌&&◌, nat_le, if◌then◌else◌, List, Option, codes}
 use Rattle.std.specs.List.{list_any, position}
 use Rattle.std.specs.Str.{bytes_eq}
 use Rattle.par_single.specs.par_pool.declared.constant.Constant.{Constant}
@@ -31,3 +31,7 @@ has_input files class name = list_any (has_input_in class name) files
 -- the place of the first line whose channel none of the files has
 abbrev pub first_misfit : List ClassFile → List ChannelInput → Option ℕ
 first_misfit files lines = position (λ line. not (has_input files line.class line.channel)) lines
+
+-- a place as a number of 32 bits: the last of these where it is greater
+abbrev pub told_place : ℕ → ℕ
+told_place place = if nat_le place 4294967295 then place else 4294967295

@@ -53,14 +53,14 @@ fn indices_name_places(rt: HostRuntime) -> Result<(), Fail> {
     Ok(())
 }
 
-const LINES: &[(&[u8], Option<usize>)] = &[
+const LINES: &[(&[u8], Option<u32>)] = &[
     (b"", None),
     (b"Shop.key: 1\n", None),
     (b"Shop.main: 1\n", Some(0)),
     (b"Shop.key: 1\nBank.key: 2\n", Some(1)),
 ];
 
-fn fits(alloc: Global, linked: &Linked, lines: &[u8], place: Option<usize>) -> bool {
+fn fits(alloc: Global, linked: &Linked, lines: &[u8], place: Option<u32>) -> bool {
     if lines.len() > 100 {
         return false;
     }

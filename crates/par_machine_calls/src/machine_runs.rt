@@ -275,7 +275,7 @@ fn code_goes_on(rt: HostRuntime) -> Result<(), Fail> {
     Ok(())
 }
 
-const CHANNELS: &[(&str, &[u8], Option<usize>)] = &[
+const CHANNELS: &[(&str, &[u8], Option<u32>)] = &[
     ("an input fits", b"ask", None),
     ("an output does not", b"show", Some(0)),
 ];
@@ -285,7 +285,7 @@ fn fits(
     alloc: Global,
     linked: &Linked,
     channel: &[u8],
-    unfit: Option<usize>,
+    unfit: Option<u32>,
 ) -> Result<bool, Fail> {
     if !Name::is_name(channel) {
         return Ok(false);

@@ -72,7 +72,7 @@ impl Before {
         if kind.fits_into(*kept) {
             return Ok(());
         }
-        *kept = kept.joined(kind);
+        *kept = kept.risen_by(kind);
         if !self.is_new {
             self.risen.push(place)?;
         }
@@ -130,17 +130,36 @@ impl Before {
         }
     }
 
-    /// Lets come what an effect leaves where it is.
-    fn keep(&mut self, from: &Before, effect: &Effect) -> Result<(), NoMemory> {
+    /// Lets come what an effect leaves where it is, of a piece from which nothing went on yet.
+    fn keep_all(&mut self, from: &Before, effect: &Effect) -> Result<(), NoMemory> {
         let left = from.left_by(effect);
         let sets_none = effect.changes.is_empty();
-        for nth in 0..from.due() {
-            let place = from.due_at(nth);
+        for (place, kind) in from.kinds.as_slice().iter().enumerate() {
             if place < left && (sets_none || !effect.sets(place)) {
-                self.come(place, from.kind(place))?;
+                self.come(place, *kind)?;
             }
         }
         Ok(())
+    }
+
+    /// Lets come what an effect leaves where it is, of the places that rose.
+    fn keep_risen(&mut self, from: &Before, effect: &Effect) -> Result<(), NoMemory> {
+        let left = from.left_by(effect);
+        let sets_none = effect.changes.is_empty();
+        for place in from.risen.as_slice() {
+            if *place < left && (sets_none || !effect.sets(*place)) {
+                self.come(*place, from.kind(*place))?;
+            }
+        }
+        Ok(())
+    }
+
+    /// Lets come what an effect leaves where it is.
+    fn keep(&mut self, from: &Before, effect: &Effect) -> Result<(), NoMemory> {
+        if from.is_new {
+            return self.keep_all(from, effect);
+        }
+        self.keep_risen(from, effect)
     }
 
     /// Lets come what an effect sets locals to.

@@ -57,13 +57,10 @@ impl SmallKind {
         }
     }
 
-    /// The least kind into which both fit.
-    pub fn joined(self, other: SmallKind) -> SmallKind {
+    /// The least kind into which it and one that does not fit into it do.
+    pub fn risen_by(self, other: SmallKind) -> SmallKind {
         if self.fits_into(other) {
             return other;
-        }
-        if other.fits_into(self) {
-            return self;
         }
         if self.is_throwable() && other.is_throwable() {
             return SmallKind::AnyException;

@@ -39,7 +39,7 @@ fn inputs<F: Folder>(
     let InputFile { text, inputs } = input_file(alloc, folder, name)?;
     match inputs_fit(linked, &inputs) {
         None => Ok(inputs),
-        Some(place) => Err(bad_entry(text.as_slice(), place)),
+        Some(place) => Err(bad_entry(text.as_slice(), place as usize)),
     }
 }
 
