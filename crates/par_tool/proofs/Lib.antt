@@ -3,6 +3,8 @@ pub mod Beginning
 pub mod Loads
 pub mod Linked
 pub mod Inputs
+pub mod Few
+pub mod Misfits
 pub mod ExactSources
 pub mod ExactTraces
 pub mod ExactSamples
