@@ -281,12 +281,7 @@ const CHANNELS: &[(&str, &[u8], Option<u32>)] = &[
 ];
 
 // Whether an input for this channel of the class fits.
-fn fits(
-    alloc: Global,
-    linked: &Linked,
-    channel: &[u8],
-    unfit: Option<u32>,
-) -> Result<bool, Fail> {
+fn fits(alloc: Global, linked: &Linked, channel: &[u8], unfit: Option<u32>) -> Result<bool, Fail> {
     if !Name::is_name(channel) {
         return Ok(false);
     }
