@@ -135,6 +135,17 @@ fn again<'a>(alloc: Global) -> Result<Draft<'a>, NoMemory>
     make::heads(alloc, PAST, continued)
 }
 
+// The block of a loop, with what stands behind it.
+fn looped<'a>(alloc: Global, block: Known<'a>) -> Result<Draft<'a>, NoMemory>
+    ensures { IfOk result (λ r. seen_rules r.rules
+        ≡ plain.Part body.tested kinds.Loop (seen_node block.entry.node)
+        (plain.Heads body.past (plain.Heads (plain.After 0 kinds.Continue)
+        (plain.goes_on (plain.After 0 kinds.Break) plain.Done)))) }
+{
+    let behind = again(alloc)?;
+    make::part(alloc, TESTED, Absorber::Loop, block, behind)
+}
+
 // A loop, whose block with what stands behind it is given.
 #[inline(never)]
 fn repeats<'a>(
@@ -330,18 +341,25 @@ fn step<'a>(
     make::then(alloc, from, node, behind)
 }
 
-// The block of a loop, with what stands behind it.
+// A loop, whose block stands behind its test.
 #[cycle(sta)]
 #[inline(never)]
-fn looped<'a>(alloc: Global, table: &'a Table, block: &TStmt) -> Result<Draft<'a>, NoMemory>
+fn loops<'a>(
+    alloc: Global,
+    table: &'a Table,
+    block: &TStmt,
+    test: &TExpr,
+) -> Result<Draft<'a>, NoMemory>
     ensures { IfOk result (λ r. seen_rules r.rules
-        ≡ plain.Part body.tested kinds.Loop (body.sta (declares table.now) (does block.now))
+        ≡ plain.Test (body.exp (declares table.now) (shown test.now)) (plain.Heads plain.Entry
+        (body.if_not (body.is_forever (shown test.now)) (plain.goes_on body.past)
+        (plain.Part body.tested kinds.Loop (body.sta (declares table.now) (does block.now))
         (plain.Heads body.past (plain.Heads (plain.After 0 kinds.Continue)
-        (plain.goes_on (plain.After 0 kinds.Break) plain.Done)))) }
+        (plain.goes_on (plain.After 0 kinds.Break) plain.Done))))))) }
 {
-    let behind = again(alloc)?;
     let node = sta(alloc, table, block)?;
-    make::part(alloc, TESTED, Absorber::Loop, node, behind)
+    let part = looped(alloc, node)?;
+    repeats(alloc, table, test, part)
 }
 
 // Statements one after the other.
@@ -441,6 +459,46 @@ fn else_rules<'a>(
     }
 }
 
+// A test, and the branch behind it, before what stands behind that.
+#[cycle(sta)]
+#[inline(never)]
+fn chooses<'a>(
+    alloc: Global,
+    table: &'a Table,
+    block: &TStmt,
+    test: &TExpr,
+    other: &Option<Box<TStmt>>,
+    rest: Draft<'a>,
+) -> Result<Draft<'a>, NoMemory>
+    ensures { IfOk result (λ r. seen_rules r.rules
+        ≡ plain.Part plain.Entry kinds.Next (body.exp (declares table.now) (shown test.now))
+        (goes_first (otherwise other.now) body.past (plain.Part body.tested kinds.Next
+        (body.sta (declares table.now) (does block.now)) (seen_rules rest.entry.rules)))) }
+{
+    let both = step(alloc, table, TESTED, block, rest)?;
+    decides(alloc, table, test, other, both)
+}
+
+// The branch of an open lock, before what stands behind it.
+#[cycle(sta)]
+#[inline(never)]
+fn opened<'a>(
+    alloc: Global,
+    table: &'a Table,
+    from: Origin<'a>,
+    block: &TStmt,
+    other: &Option<Box<TStmt>>,
+    rest: Draft<'a>,
+) -> Result<Draft<'a>, NoMemory>
+    ensures { IfOk result (λ r. seen_rules r.rules
+        ≡ goes_first (otherwise other.now) plain.Entry (plain.Part (seen_origin from.entry)
+        kinds.Next (body.sta (declares table.now) (does block.now))
+        (seen_rules rest.entry.rules))) }
+{
+    let both = step(alloc, table, from, block, rest)?;
+    goes_first(alloc, other, ENTRY, both)
+}
+
 /// The node of a statement.
 #[cycle(sta)]
 pub fn sta<'a>(alloc: Global, table: &'a Table, stmt: &TStmt) -> Result<Known<'a>, NoMemory>
@@ -460,13 +518,9 @@ fn rules_of<'a>(alloc: Global, table: &'a Table, stmt: &TStmt) -> Result<Draft<'
         TStmtKind::Block(stmts) => stas(alloc, table, stmts.as_slice()),
         TStmtKind::If(test, block, other) => {
             let rest = else_rules(alloc, table, other, OTHERWISE)?;
-            let both = step(alloc, table, TESTED, block, rest)?;
-            decides(alloc, table, test, other, both)
+            chooses(alloc, table, block, test, other, rest)
         }
-        TStmtKind::While(test, block) => {
-            let part = looped(alloc, table, block)?;
-            repeats(alloc, table, test, part)
-        }
+        TStmtKind::While(test, block) => loops(alloc, table, block, test),
         TStmtKind::Try(block, clauses) => {
             let node = sta(alloc, table, block)?;
             tries(alloc, table, clauses.as_slice(), node)
@@ -484,8 +538,7 @@ fn rules_of<'a>(alloc: Global, table: &'a Table, stmt: &TStmt) -> Result<Draft<'
         TStmtKind::When(lock, block, other) => {
             let policy = declared::lock(table, *lock);
             let rest = else_rules(alloc, table, other, asked(policy))?;
-            let both = step(alloc, table, held(*lock, policy), block, rest)?;
-            goes_first(alloc, other, ENTRY, both)
+            opened(alloc, table, held(*lock, policy), block, other, rest)
         }
     }
 }

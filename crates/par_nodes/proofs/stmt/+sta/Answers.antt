@@ -1,12 +1,14 @@
-use Rattle.std.proofs.Common.{rules, ap, ◌∙◌, drop, length}
+use Rattle.std.proofs.Common.{rules, refl, ap, ◌∙◌, drop, length}
 use Rattle.std.proofs.lemmas.Result.{IfOk-weaker}
 use Rattle.par_flow_laws.specs.Declares.{declares}
-use Rattle.par_flow_laws.specs.Rules.{Entry}
+use Rattle.par_flow_laws.specs.Kinds.{Next}
+use Rattle.par_flow_laws.specs.Rules.{Entry, Part}
 use Rattle.par_nodes.specs.Seen.{seen_rules, seen_node, seen_origin, seen_start}
-use Rattle.par_typed.specs.Shown.{all_do}
-use Rattle.par_flow_laws.specs.Body.{stas}
+use Rattle.par_typed.specs.Shown.{all_do, does}
+use Rattle.par_flow_laws.specs.Body.{sta, stas, tested}
 use Rattle.par_nodes.proofs.Branches.{stas_none, stas_next, catches_none, catches_next}
-use Rattle.par_nodes.proofs.Statements.{block_made, if_made, while_made, try_made, return_made}
+use Rattle.par_nodes.proofs.Statements.{block_made, if_made, while_made, looped, try_made}
+use Rattle.par_nodes.proofs.Statements.{return_made}
 use Rattle.par_nodes.proofs.Statements.{break_made, continue_made, throw_made, open_made}
 use Rattle.par_nodes.proofs.Statements.{close_made, set_local_made, set_static_made}
 use Rattle.par_nodes.proofs.Statements.{set_field_made, eval_made, when_made}
@@ -49,25 +51,27 @@ rules_of-returns-in-Block t c =
     c.as_slice.result.now (seen_rules r.rules) c.in-Block.is c.as_slice.ensures)
     c.stas.ensures
 
-pub rules_of-returns-in_ok-both-in-If : goal.rules_of-returns-in_ok-both-in-If
-rules_of-returns-in_ok-both-in-If t c =
+pub rules_of-returns-in_ok-rest-in-If : goal.rules_of-returns-in_ok-rest-in-If
+rules_of-returns-in_ok-rest-in-If t c =
     let s = c.args.stmt.now in
-    IfOk-weaker c.decides.result _ _
-    (λ r. if_made (declares c.args.table.now) s.kind s.at s.point c.in-If.test c.in-If.block
-    c.in-If.other c.deref.result.now (seen_rules r.rules) (seen_rules c.in_ok-both-in-If.both.rules)
-    (seen_rules c.in_ok-rest-in-If.rest.rules) c.in-If.is c.in_ok-rest-in-If.ensures
-    c.deref.ensures c.in_ok-both-in-If.ensures)
-    c.decides.ensures
+    let d = declares c.args.table.now in
+    let block = c.deref.result.now in
+    let rest = seen_rules c.in_ok-rest-in-If.rest.rules in
+    IfOk-weaker c.chooses.result _ _
+    (λ r. if_made d s.kind s.at s.point c.in-If.test c.in-If.block c.in-If.other block
+    (seen_rules r.rules) (Part tested Next (sta d (does block)) rest) rest c.in-If.is
+    c.in_ok-rest-in-If.ensures c.deref.ensures refl)
+    c.chooses.ensures
 
-pub rules_of-returns-in_ok-part-in-While : goal.rules_of-returns-in_ok-part-in-While
-rules_of-returns-in_ok-part-in-While t c =
+pub rules_of-returns-in-While : goal.rules_of-returns-in-While
+rules_of-returns-in-While t c =
     let s = c.args.stmt.now in
-    IfOk-weaker c.repeats.result _ _
-    (λ r. while_made (declares c.args.table.now) s.kind s.at s.point c.in-While.test
-    c.in-While.block c.deref-in-While.result.now (seen_rules r.rules)
-    (seen_rules c.in_ok-part-in-While.part.rules) c.in-While.is c.deref-in-While.ensures
-    c.in_ok-part-in-While.ensures)
-    c.repeats.ensures
+    let d = declares c.args.table.now in
+    let block = c.deref-in-While.result.now in
+    IfOk-weaker c.loops.result _ _
+    (λ r. while_made d s.kind s.at s.point c.in-While.test c.in-While.block block
+    (seen_rules r.rules) (looped d (does block)) c.in-While.is c.deref-in-While.ensures refl)
+    c.loops.ensures
 
 pub rules_of-returns-in_ok-node-in-Try : goal.rules_of-returns-in_ok-node-in-Try
 rules_of-returns-in_ok-node-in-Try t c =
@@ -159,14 +163,16 @@ rules_of-returns-in-Eval t c =
     (seen_rules r.rules) c.in-Eval.is)
     c.evaluates-in-Eval.ensures
 
-pub rules_of-returns-in_ok-both-in-When : goal.rules_of-returns-in_ok-both-in-When
-rules_of-returns-in_ok-both-in-When t c =
+pub rules_of-returns-in_ok-rest-in-When : goal.rules_of-returns-in_ok-rest-in-When
+rules_of-returns-in_ok-rest-in-When t c =
     let s = c.args.stmt.now in
-    IfOk-weaker c.goes_first.result _ _
-    (λ r. when_made (declares c.args.table.now) s.kind s.at s.point c.in-When.lock
-    c.lock-policy.result c.in-When.block c.in-When.other c.deref-in-When.result.now
-    (seen_origin c.asked.result) (seen_origin c.held.result) (seen_rules r.rules)
-    (seen_rules c.in_ok-both-in-When.both.rules) (seen_rules c.in_ok-rest-in-When.rest.rules)
-    c.in-When.is c.lock-policy.ensures c.asked.ensures c.in_ok-rest-in-When.ensures
-    c.held.ensures c.deref-in-When.ensures c.in_ok-both-in-When.ensures)
-    c.goes_first.ensures
+    let d = declares c.args.table.now in
+    let block = c.deref-in-When.result.now in
+    let from = seen_origin c.held.result in
+    let rest = seen_rules c.in_ok-rest-in-When.rest.rules in
+    IfOk-weaker c.opened.result _ _
+    (λ r. when_made d s.kind s.at s.point c.in-When.lock c.lock-policy.result c.in-When.block
+    c.in-When.other block (seen_origin c.asked.result) from (seen_rules r.rules)
+    (Part from Next (sta d (does block)) rest) rest c.in-When.is c.lock-policy.ensures
+    c.asked.ensures c.in_ok-rest-in-When.ensures c.held.ensures c.deref-in-When.ensures refl)
+    c.opened.ensures
