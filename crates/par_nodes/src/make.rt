@@ -174,12 +174,36 @@ pub fn goes_on<'a>(alloc: Global, from: Origin<'a>, more: Draft<'a>) -> Result<D
     leaves(alloc, from, Kind::Normal, more)
 }
 
-/// Nothing comes behind that.
-pub fn ends<'a>(alloc: Global, from: Origin<'a>) -> Result<Draft<'a>, NoMemory>
-    ensures { IfOk result (λ r. seen_rules r.rules
-        ≡ plain.Leaves (seen_origin from.entry) kinds.Normal plain.Done) }
+/// The way leaves the node, and nothing comes behind that.
+#[tactic(auto, using(crate::proofs::Forms::forms))]
+pub fn completes<'a>(alloc: Global, from: Origin<'a>, kind: Kind) -> Draft<'a>
+    ensures { seen_rules result.rules
+        ≡ plain.Leaves (seen_origin from.entry) (seen_kind kind) plain.Done }
 {
-    goes_on(alloc, from, done(alloc))
+    Draft {
+        rules: Rules::Ends(from, kind),
+        found: Vec::new(alloc),
+    }
+}
+
+/// The way goes on, and nothing comes behind that.
+pub fn ends<'a>(alloc: Global, from: Origin<'a>) -> Draft<'a>
+    ensures { seen_rules result.rules
+        ≡ plain.Leaves (seen_origin from.entry) kinds.Normal plain.Done }
+{
+    completes(alloc, from, Kind::Normal)
+}
+
+/// The way goes on, and the value is that and nothing else.
+#[tactic(auto, using(crate::proofs::Forms::forms))]
+pub fn gives<'a>(alloc: Global, from: Origin<'a>, worth: Worth) -> Draft<'a>
+    ensures { seen_rules result.rules ≡ plain.Leaves (seen_origin from.entry) kinds.Normal
+        (plain.Worths (seen_worth worth) plain.Done) }
+{
+    Draft {
+        rules: Rules::Gives(from, worth),
+        found: Vec::new(alloc),
+    }
 }
 
 /// The value is at least that.
@@ -202,13 +226,4 @@ pub fn worth<'a>(alloc: Global, worth: Worth) -> Result<Draft<'a>, NoMemory>
         ≡ plain.Worths (seen_worth worth) plain.Done) }
 {
     worths(alloc, worth, done(alloc))
-}
-
-/// The way goes on, and the value is that.
-pub fn gives<'a>(alloc: Global, worth: Worth) -> Result<Draft<'a>, NoMemory>
-    ensures { IfOk result (λ r. seen_rules r.rules ≡ plain.Leaves plain.Entry kinds.Normal
-        (plain.Worths (seen_worth worth) plain.Done)) }
-{
-    let value = self::worth(alloc, worth)?;
-    goes_on(alloc, ENTRY, value)
 }

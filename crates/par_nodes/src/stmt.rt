@@ -78,16 +78,6 @@ fn caught(alloc: Global, catches: &[TCatch]) -> Result<List<u16>, NoMemory>
     Ok(classes)
 }
 
-// A completion from the entering way.
-#[tactic(auto, using(crate::proofs::Forms::forms))]
-#[inline(never)]
-fn completes<'a>(alloc: Global, kind: Kind) -> Result<Draft<'a>, NoMemory>
-    ensures { IfOk result (λ r. seen_rules r.rules
-        ≡ plain.Leaves plain.Entry (seen_kind kind) plain.Done) }
-{
-    make::leaves(alloc, ENTRY, kind, make::done(alloc))
-}
-
 // A return, with its value before it.
 #[tactic(auto, using(crate::proofs::Forms::forms))]
 fn returns<'a>(
@@ -99,9 +89,9 @@ fn returns<'a>(
         ≡ behind_value (declares table.now) (may_shown value.now)) }
 {
     match value {
-        None => completes(alloc, Kind::Return),
+        None => Ok(make::completes(alloc, ENTRY, Kind::Return)),
         Some(value) => {
-            let leaves = make::leaves(alloc, PAST, Kind::Return, make::done(alloc))?;
+            let leaves = make::completes(alloc, PAST, Kind::Return);
             operand(alloc, table, ENTRY, value, leaves)
         }
     }
@@ -130,7 +120,7 @@ fn again<'a>(alloc: Global) -> Result<Draft<'a>, NoMemory>
         (plain.Heads (plain.After 0 kinds.Continue)
         (plain.goes_on (plain.After 0 kinds.Break) plain.Done))) }
 {
-    let broken = make::ends(alloc, BROKEN)?;
+    let broken = make::ends(alloc, BROKEN);
     let continued = make::heads(alloc, CONTINUED, broken)?;
     make::heads(alloc, PAST, continued)
 }
@@ -195,7 +185,7 @@ fn assigns<'a>(
             assigned: Some((local, 0)),
             ..PAST
         },
-    )?;
+    );
     operand(alloc, table, ENTRY, value, goes)
 }
 
@@ -206,8 +196,7 @@ fn evaluates<'a>(alloc: Global, table: &'a Table, e: &TExpr) -> Result<Draft<'a>
         ≡ plain.Part plain.Entry kinds.Next (body.exp (declares table.now) (shown e.now))
         (plain.goes_on body.past plain.Done)) }
 {
-    let goes = make::ends(alloc, PAST)?;
-    operand(alloc, table, ENTRY, e, goes)
+    operand(alloc, table, ENTRY, e, make::ends(alloc, PAST))
 }
 
 // A write of a field of an object.
@@ -224,7 +213,7 @@ fn writes<'a>(
         (body.null_test (shown of.now) (plain.Tested 1 body.past)
         (plain.goes_on body.past plain.Done)))) }
 {
-    let goes = make::ends(alloc, PAST)?;
+    let goes = make::ends(alloc, PAST);
     let tested = null_test(
         alloc,
         of,
@@ -240,9 +229,9 @@ fn writes<'a>(
 
 // A lock is opened.
 #[inline(never)]
-fn opens<'a>(alloc: Global, lock: u16) -> Result<Draft<'a>, NoMemory>
-    ensures { IfOk result (λ r. seen_rules r.rules
-        ≡ plain.goes_on (plain.Opened (adding none lock) plain.Entry) plain.Done) }
+fn opens<'a>(alloc: Global, lock: u16) -> Draft<'a>
+    ensures { seen_rules result.rules
+        ≡ plain.goes_on (plain.Opened (adding none lock) plain.Entry) plain.Done }
 {
     make::ends(
         alloc,
@@ -255,9 +244,9 @@ fn opens<'a>(alloc: Global, lock: u16) -> Result<Draft<'a>, NoMemory>
 
 // A lock is closed.
 #[inline(never)]
-fn shuts<'a>(alloc: Global, lock: u16) -> Result<Draft<'a>, NoMemory>
-    ensures { IfOk result (λ r. seen_rules r.rules
-        ≡ plain.goes_on (plain.Shut (adding none lock) plain.Entry) plain.Done) }
+fn shuts<'a>(alloc: Global, lock: u16) -> Draft<'a>
+    ensures { seen_rules result.rules
+        ≡ plain.goes_on (plain.Shut (adding none lock) plain.Entry) plain.Done }
 {
     make::ends(
         alloc,
@@ -372,7 +361,7 @@ fn stas<'a>(alloc: Global, table: &'a Table, stmts: &[TStmt]) -> Result<Draft<'a
         start: start_at(stmts.len(), Start::Entry),
         ..ENTRY
     };
-    let mut rules = make::ends(alloc, last)?;
+    let mut rules = make::ends(alloc, last);
     for place in (0..stmts.len()).rev() {
         let from = Origin {
             start: start_at(place, Start::Entry),
@@ -406,7 +395,7 @@ fn catches<'a>(
     ensures { IfOk result (λ r. seen_rules r.rules ≡ plain.goes_on body.past
         (body.catches (declares table.now) (seen_node block.now.node) (all_catch catches.now) 0)) }
 {
-    let mut rules = make::ends(alloc, PAST)?;
+    let mut rules = make::ends(alloc, PAST);
     for place in (0..catches.len()).rev() {
         let catch = &catches[place];
         let from = Origin {
@@ -450,9 +439,9 @@ fn else_rules<'a>(
         (else_rules (declares table.now) (otherwise other.now) (seen_origin from.entry))) }
 {
     match other {
-        None => make::ends(alloc, PAST),
+        None => Ok(make::ends(alloc, PAST)),
         Some(stmt) => {
-            let goes = make::ends(alloc, PAST)?;
+            let goes = make::ends(alloc, PAST);
             let rest = step(alloc, table, from, stmt, goes)?;
             make::goes_on(alloc, PAST, rest)
         }
@@ -526,11 +515,11 @@ fn rules_of<'a>(alloc: Global, table: &'a Table, stmt: &TStmt) -> Result<Draft<'
             tries(alloc, table, clauses.as_slice(), node)
         }
         TStmtKind::Return(value) => returns(alloc, table, value),
-        TStmtKind::Break => completes(alloc, Kind::Break),
-        TStmtKind::Continue => completes(alloc, Kind::Continue),
-        TStmtKind::Throw(class) => completes(alloc, Kind::Throw(*class)),
-        TStmtKind::OpenLock(lock) => opens(alloc, *lock),
-        TStmtKind::CloseLock(lock) => shuts(alloc, *lock),
+        TStmtKind::Break => Ok(make::completes(alloc, ENTRY, Kind::Break)),
+        TStmtKind::Continue => Ok(make::completes(alloc, ENTRY, Kind::Continue)),
+        TStmtKind::Throw(class) => Ok(make::completes(alloc, ENTRY, Kind::Throw(*class))),
+        TStmtKind::OpenLock(lock) => Ok(opens(alloc, *lock)),
+        TStmtKind::CloseLock(lock) => Ok(shuts(alloc, *lock)),
         TStmtKind::SetLocal(local, _, value) => assigns(alloc, table, *local, value),
         TStmtKind::SetStatic(_, _, value) => evaluates(alloc, table, value),
         TStmtKind::SetField(of, _, _, value) => writes(alloc, table, of, value),

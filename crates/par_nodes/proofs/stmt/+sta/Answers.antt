@@ -18,30 +18,30 @@ pub stas-loop-place-init : goal.stas-loop-place-init
 stas-loop-place-init t c =
     let d = declares c.args.table.now in
     let ss = c.args.stmts.now in
-    stas_none d (seen_start c.start_at.result) ss (seen_rules c.in_ok-rules.rules.rules)
-    c.in_ok-rules.ensures
+    stas_none d (seen_start c.start_at.result) ss (seen_rules c.ends-rules.result.rules)
+    c.ends-rules.ensures
     ∙ ap (λ f. stas d f (all_do (drop (length ss) ss))) c.start_at.ensures
 
 pub catches-loop-place-init : goal.catches-loop-place-init
 catches-loop-place-init t c =
     catches_none (declares c.args.table.now) (seen_node c.args.block.now.node)
-    c.args.catches.now _ (seen_rules c.in_ok-rules.rules.rules) c.in_ok-rules.ensures
+    c.args.catches.now _ (seen_rules c.ends-rules.result.rules) c.ends-rules.ensures
 
 pub stas-loop-place-preserved : goal.stas-loop-place-preserved
 stas-loop-place-preserved t c =
     stas_next (declares c.args.table.now) Entry c.args.stmts.now c.loop-place.place
     c.index-stmts-place.result
-    (seen_rules c.in_ok-rules-2.rules.rules) (seen_rules c.loop-place.rules.rules)
+    (seen_rules c.in_ok-rules.rules.rules) (seen_rules c.loop-place.rules.rules)
     (seen_start c.start_at-in-loop-place.result) (search rules) (search rules) (search rules)
-    c.in_ok-rules-2.ensures c.start_at-in-loop-place.ensures c.loop-place.invariant
+    c.in_ok-rules.ensures c.start_at-in-loop-place.ensures c.loop-place.invariant
 
 pub catches-loop-place-preserved : goal.catches-loop-place-preserved
 catches-loop-place-preserved t c =
     catches_next (declares c.args.table.now) (seen_node c.args.block.now.node) c.args.catches.now
-    c.loop-place.place c.index-catches-place.result (seen_rules c.in_ok-rules-2.rules.rules)
+    c.loop-place.place c.index-catches-place.result (seen_rules c.in_ok-rules.rules.rules)
     (seen_rules c.loop-place.rules.rules) (seen_rules c.in_ok-entered.entered.rules)
     (seen_start c.catch_start.result) (search rules) (search rules) (search rules)
-    c.in_ok-rules-2.ensures c.in_ok-entered.ensures c.catch_start.ensures c.loop-place.invariant
+    c.in_ok-rules.ensures c.in_ok-entered.ensures c.catch_start.ensures c.loop-place.invariant
 
 pub rules_of-returns-in-Block : goal.rules_of-returns-in-Block
 rules_of-returns-in-Block t c =
@@ -94,42 +94,32 @@ rules_of-returns-in-Return t c =
 pub rules_of-returns-in-Break : goal.rules_of-returns-in-Break
 rules_of-returns-in-Break t c =
     let s = c.args.stmt.now in
-    IfOk-weaker c.completes.result _ _
-    (λ r. break_made (declares c.args.table.now) s.kind s.at s.point (seen_rules r.rules)
-    c.in-Break.is)
-    c.completes.ensures
+    break_made (declares c.args.table.now) s.kind s.at s.point
+    (seen_rules c.completes.result.rules) c.in-Break.is c.completes.ensures
 
 pub rules_of-returns-in-Continue : goal.rules_of-returns-in-Continue
 rules_of-returns-in-Continue t c =
     let s = c.args.stmt.now in
-    IfOk-weaker c.completes-in-Continue.result _ _
-    (λ r. continue_made (declares c.args.table.now) s.kind s.at s.point (seen_rules r.rules)
-    c.in-Continue.is)
-    c.completes-in-Continue.ensures
+    continue_made (declares c.args.table.now) s.kind s.at s.point
+    (seen_rules c.completes-in-Continue.result.rules) c.in-Continue.is c.completes-in-Continue.ensures
 
 pub rules_of-returns-in-Throw : goal.rules_of-returns-in-Throw
 rules_of-returns-in-Throw t c =
     let s = c.args.stmt.now in
-    IfOk-weaker c.completes-in-Throw.result _ _
-    (λ r. throw_made (declares c.args.table.now) s.kind s.at s.point c.in-Throw.class
-    (seen_rules r.rules) c.in-Throw.is)
-    c.completes-in-Throw.ensures
+    throw_made (declares c.args.table.now) s.kind s.at s.point c.in-Throw.class
+    (seen_rules c.completes-in-Throw.result.rules) c.in-Throw.is c.completes-in-Throw.ensures
 
 pub rules_of-returns-in-OpenLock : goal.rules_of-returns-in-OpenLock
 rules_of-returns-in-OpenLock t c =
     let s = c.args.stmt.now in
-    IfOk-weaker c.opens.result _ _
-    (λ r. open_made (declares c.args.table.now) s.kind s.at s.point c.in-OpenLock.lock
-    (seen_rules r.rules) c.in-OpenLock.is)
-    c.opens.ensures
+    open_made (declares c.args.table.now) s.kind s.at s.point c.in-OpenLock.lock
+    (seen_rules c.opens.result.rules) c.in-OpenLock.is c.opens.ensures
 
 pub rules_of-returns-in-CloseLock : goal.rules_of-returns-in-CloseLock
 rules_of-returns-in-CloseLock t c =
     let s = c.args.stmt.now in
-    IfOk-weaker c.shuts.result _ _
-    (λ r. close_made (declares c.args.table.now) s.kind s.at s.point c.in-CloseLock.lock
-    (seen_rules r.rules) c.in-CloseLock.is)
-    c.shuts.ensures
+    close_made (declares c.args.table.now) s.kind s.at s.point c.in-CloseLock.lock
+    (seen_rules c.shuts.result.rules) c.in-CloseLock.is c.shuts.ensures
 
 pub rules_of-returns-in-SetLocal : goal.rules_of-returns-in-SetLocal
 rules_of-returns-in-SetLocal t c =
