@@ -157,6 +157,37 @@ module _ (h : HeadWays) (w : Way) (so to : SoFar) (r : Found) where
       (found_as _ _ _ _ _ _ ev (ap (λ xs. seen_exits xs.items) ex) refl))
       (ih l m t))
 
+-- the way leaves, and that is all
+pub ends_arm : (h : HeadWays) (w : Way) (so to : SoFar) (rules : Rules) (from : From) (k : Kind)
+    (m0 : Notes) → rules ≡ Leaves from k Done → to.head ≡ so.head → to.parts ≡ so.parts
+    → to.found.value ≡ so.found.value
+    → seen_exits to.found.exits.items
+    ≡ all (leave (way numbers (Some w) (latest_first so.parts.items []) from) k)
+    (seen_exits so.found.exits.items)
+    → AreWide m0.locals to.found.exits.items → GoesOn h rules w so m0 to.found m0
+ends_arm h w so to rules from k m0 is eh ep ev ex wide =
+    leaves_arm h w so to to.found rules from k Done m0 m0 is eh ep ev ex
+    (done_goes h Done w to m0 refl
+    (λ m e. subst (λ n. AreWide n to.found.exits.items) e wide))
+
+-- the way leaves, and the node has a value
+pub gives_arm : (h : HeadWays) (w : Way) (so left to : SoFar) (rules : Rules) (from : From)
+    (k : Kind) (v : Worth) (m0 : Notes) → rules ≡ Leaves from k (Worths v Done)
+    → left.head ≡ so.head → left.parts ≡ so.parts → left.found.value ≡ so.found.value
+    → seen_exits left.found.exits.items
+    ≡ all (leave (way numbers (Some w) (latest_first so.parts.items []) from) k)
+    (seen_exits so.found.exits.items)
+    → AreWide m0.locals left.found.exits.items → to.head ≡ left.head → to.parts ≡ left.parts
+    → has to.found.value ≡ union (has left.found.value)
+    (worth numbers (Some w) (latest_first left.parts.items []) v)
+    → to.found.exits ≡ left.found.exits → GoesOn h rules w so m0 to.found m0
+gives_arm h w so left to rules from k v m0 is eh ep ev ex wide fh fp fv fx =
+    leaves_arm h w so left to.found rules from k (Worths v Done) m0 m0 is eh ep ev ex
+    (worths_arm h w left to to.found (Worths v Done) v Done m0 m0 refl fh fp fv fx
+    (done_goes h Done w to m0 refl
+    (λ m e. subst (λ n. AreWide n to.found.exits.items) e
+    (subst (λ xs. AreWide m0.locals xs.items) (sym fx) wide))))
+
 pub heads_arm : (h : HeadWays) (w : Way) (so : SoFar) (r : Found) (rules : Rules) (from : From)
     (more : Rules) (m0 m1 m2 : Notes)
     → rules ≡ Heads from more → Took

@@ -276,5 +276,15 @@ fn pass_rules(
             pass_rules(alloc, more, way, heads, so, notes)?;
             Ok(())
         }
+        Rules::Ends(from, kind) => {
+            leave(alloc, way, from, *kind, so)?;
+            Ok(())
+        }
+        Rules::Gives(from, worth) => {
+            leave(alloc, way, from, Kind::Normal, so)?;
+            let worth = worth_at(way, &so.parts, *worth);
+            so.found.value = so.found.value.union(&worth);
+            Ok(())
+        }
     }
 }

@@ -1,21 +1,23 @@
 -- Each rule takes the code one step on, and what it needs stays true.
 use Rattle.std.proofs.Common.{Some, None, [], length, refl, sym, ap, ◌∙◌, subst, rules}
 use Rattle.par_nodes.specs.declared.rule.Rules.TheViews.{the_lemmas}
+use Rattle.par_flow_laws.specs.Kinds.{Normal}
 use Rattle.par_flow_laws.specs.Lattice.{numbers}
 use Rattle.par_flow_laws.specs.Ranges.{IsFromInRange, IsWorthInRange}
-use Rattle.par_flow_laws.specs.Rules.{way, worth as worth_of}
+use Rattle.par_flow_laws.specs.Rules.{way, worth as worth_of, Done, Worths}
 use Rattle.par_nodes.specs.Seen.{seen_kind, seen_origin, seen_worth, seen_absorber, seen_rules}
 use Rattle.par_nodes.specs.Seen.{seen_node}
 use Rattle.par_pass_laws.specs.par_except.Seen.{seen, HasLocals, MayHaveLocals}
 use Rattle.par_bits.specs.Sets.{has, union}
 use Rattle.par_rounds.specs.Seen.{latest_first, ways_of, AreWide}
 use Rattle.par_rounds.proofs.Trees.{is_done, is_part, is_test, is_heads, is_leaves, is_worths}
+use Rattle.par_rounds.proofs.Trees.{is_ends, is_gives}
 use Rattle.par_rounds.proofs.Events.{took_none}
 use Rattle.par_rounds.proofs.Needs.{part_needs, test_needs, heads_needs, leaves_needs, worths_needs}
 use Rattle.par_rounds.proofs.Needs.{node_needs, ready_after, rules_after, so_after, so_still}
 use Rattle.par_rounds.proofs.Needs.{so_first}
 use Rattle.par_rounds.proofs.Arms.{done_goes, part_arm, test_arm, heads_arm, leaves_arm, worths_arm}
-use Rattle.par_rounds.proofs.Arms.{node_goes}
+use Rattle.par_rounds.proofs.Arms.{node_goes, ends_arm, gives_arm}
 use Rattle.par_rounds.proofs.pass.+pass.Goals as goal
 
 pub pass-pass_rules-requires : goal.pass-pass_rules-requires
@@ -306,3 +308,56 @@ pass_rules-returns-in_ok-pass_rules-in-Worths t c =
     (λ z. worth_of numbers (Some (seen c.args.way.now)) (latest_first z [])
     (seen_worth c.in-Worths.worth)) c.deref-in-Worths.ensures.value))
     refl c.in_ok-pass_rules-in-Worths.ensures
+
+pub pass_rules-leave-requires-in-Ends-clause-range
+    : goal.pass_rules-leave-requires-in-Ends-clause-range
+pass_rules-leave-requires-in-Ends-clause-range t c =
+    let n = c.args.notes.now in
+    subst (λ k. IsFromInRange k (seen_origin c.in-Ends.from)) (sym c.requires.ready.way)
+    (leaves_needs n.locals (length n.heads.items) (seen_rules c.args.rules.now)
+    (seen_origin c.in-Ends.from) (seen_kind c.in-Ends.kind) Done
+    (is_ends c.args.rules.now c.in-Ends.from c.in-Ends.kind c.in-Ends.is) c.requires.rules).0
+
+pub pass_rules-leave-requires-in-Gives-clause-range
+    : goal.pass_rules-leave-requires-in-Gives-clause-range
+pass_rules-leave-requires-in-Gives-clause-range t c =
+    let n = c.args.notes.now in
+    subst (λ k. IsFromInRange k (seen_origin c.in-Gives.from)) (sym c.requires.ready.way)
+    (leaves_needs n.locals (length n.heads.items) (seen_rules c.args.rules.now)
+    (seen_origin c.in-Gives.from) Normal (Worths (seen_worth c.in-Gives.worth) Done)
+    (is_gives c.args.rules.now c.in-Gives.from c.in-Gives.worth c.in-Gives.is) c.requires.rules).0
+
+pub pass_rules-worth_at-worth-requires-in-Gives : goal.pass_rules-worth_at-worth-requires-in-Gives
+pass_rules-worth_at-worth-requires-in-Gives t c =
+    let n = c.args.notes.now in
+    let more = Worths (seen_worth c.in-Gives.worth) Done in
+    subst (λ k. IsWorthInRange k (seen_worth c.in-Gives.worth)) (sym c.requires.ready.way)
+    (worths_needs n.locals (length n.heads.items) more (seen_worth c.in-Gives.worth) Done refl
+    (leaves_needs n.locals (length n.heads.items) (seen_rules c.args.rules.now)
+    (seen_origin c.in-Gives.from) Normal more
+    (is_gives c.args.rules.now c.in-Gives.from c.in-Gives.worth c.in-Gives.is)
+    c.requires.rules).1).0
+
+pub pass_rules-returns-in_ok-leave-in-Ends : goal.pass_rules-returns-in_ok-leave-in-Ends
+pass_rules-returns-in_ok-leave-in-Ends t c =
+    let u = c.in_ok-leave-in-Ends.ensures in let to = c.leave-in-Ends.new.so in
+    ends_arm (ways_of c.args.heads.now) (seen c.args.way.now) c.args.so.now to
+    (seen_rules c.args.rules.now) (seen_origin c.in-Ends.from) (seen_kind c.in-Ends.kind)
+    c.args.notes.now (is_ends c.args.rules.now c.in-Ends.from c.in-Ends.kind c.in-Ends.is)
+    u.head u.parts u.value u.exits
+    (subst (λ k. AreWide k to.found.exits.items) c.requires.ready.way u.locals)
+
+pub pass_rules-returns-in_ok-leave-in-Gives : goal.pass_rules-returns-in_ok-leave-in-Gives
+pass_rules-returns-in_ok-leave-in-Gives t c =
+    let u = c.in_ok-leave-in-Gives.ensures in let left = c.leave-in-Gives.new.so in
+    let v = has left.found.value in
+    gives_arm (ways_of c.args.heads.now) (seen c.args.way.now) c.args.so.now left _
+    (seen_rules c.args.rules.now) (seen_origin c.in-Gives.from) Normal
+    (seen_worth c.in-Gives.worth) c.args.notes.now
+    (is_gives c.args.rules.now c.in-Gives.from c.in-Gives.worth c.in-Gives.is)
+    u.head u.parts u.value u.exits
+    (subst (λ k. AreWide k left.found.exits.items) c.requires.ready.way u.locals) refl refl
+    (c.union-so-in-Gives.ensures ∙ ap (union v)
+    (c.worth_at-worth-in-Gives.ensures ∙ ap
+    (λ z. worth_of numbers (Some (seen c.args.way.now)) (latest_first z [])
+    (seen_worth c.in-Gives.worth)) c.deref-in-Gives.ensures.value)) refl
