@@ -29,6 +29,13 @@ pub seen_gives : (o : Origin) (v : Worth)
 unfolding seen_rules
 seen_gives o v = refl
 
+pub seen_joins : (o : Origin) (v u : Worth)
+    → seen_rules (rule.Joins o v u)
+    ≡ plain.Leaves (seen_origin o) kinds.Normal
+    (plain.Worths (seen_worth v) (plain.Worths (seen_worth u) plain.Done))
+unfolding seen_rules
+seen_joins o v u = refl
+
 pub seen_part : (o : Origin) (a : Absorber) (n : Box Node Global) (more : Box Rules Global)
     → seen_rules (rule.Part o a n more)
     ≡ plain.Part (seen_origin o) (seen_absorber a) (seen_node n.value) (seen_rules more.value)
@@ -60,6 +67,7 @@ pub ruleset forms = (
   seen_done,
   seen_ends,
   seen_gives,
+  seen_joins,
   seen_part,
   seen_test,
   seen_heads,

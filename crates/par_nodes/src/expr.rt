@@ -137,20 +137,16 @@ fn selected<'a>(alloc: Global, of: &TExpr, policy: u16) -> Result<Draft<'a>, NoM
         ≡ body.null_test (shown of.now) body.tested (plain.goes_on body.past
         (plain.Worths (plain.Value 0) (plain.Worths (plain.Given policy) plain.Done)))) }
 {
-    let own = make::worth(alloc, Worth::Given(policy))?;
-    let value = make::worths(alloc, Worth::Value(0), own)?;
-    let goes = make::goes_on(alloc, PAST, value)?;
+    let goes = make::joins(alloc, PAST, Worth::Value(0), Worth::Given(policy));
     null_test(alloc, of, TESTED, goes)
 }
 
 // The values of both operands.
-fn operands<'a>(alloc: Global) -> Result<Draft<'a>, NoMemory>
-    ensures { IfOk result (λ r. seen_rules r.rules ≡ plain.goes_on body.past
-        (plain.Worths (plain.Value 1) (plain.Worths (plain.Value 0) plain.Done))) }
+fn operands<'a>(alloc: Global) -> Draft<'a>
+    ensures { seen_rules result.rules ≡ plain.goes_on body.past
+        (plain.Worths (plain.Value 1) (plain.Worths (plain.Value 0) plain.Done)) }
 {
-    let last = make::worth(alloc, Worth::Value(0))?;
-    let both = make::worths(alloc, Worth::Value(1), last)?;
-    make::goes_on(alloc, PAST, both)
+    make::joins(alloc, PAST, Worth::Value(1), Worth::Value(0))
 }
 
 // Behind both operands comes what the operator makes of them.
@@ -159,8 +155,7 @@ fn combined<'a>(alloc: Global, op: BinOp, right: &TExpr) -> Result<Draft<'a>, No
         ≡ body.divides op (shown right.now) (body.skips op (plain.goes_on body.past
         (plain.Worths (plain.Value 1) (plain.Worths (plain.Value 0) plain.Done))))) }
 {
-    let values = operands(alloc)?;
-    let skipped = skips(alloc, op, values)?;
+    let skipped = skips(alloc, op, operands(alloc))?;
     divides(alloc, op, right, skipped)
 }
 

@@ -206,6 +206,18 @@ pub fn gives<'a>(alloc: Global, from: Origin<'a>, worth: Worth) -> Draft<'a>
     }
 }
 
+/// The way goes on, and the value joins both and nothing else.
+#[tactic(auto, using(crate::proofs::Forms::forms))]
+pub fn joins<'a>(alloc: Global, from: Origin<'a>, one: Worth, other: Worth) -> Draft<'a>
+    ensures { seen_rules result.rules ≡ plain.Leaves (seen_origin from.entry) kinds.Normal
+        (plain.Worths (seen_worth one) (plain.Worths (seen_worth other) plain.Done)) }
+{
+    Draft {
+        rules: Rules::Joins(from, one, other),
+        found: Vec::new(alloc),
+    }
+}
+
 /// The value is at least that.
 #[tactic(auto, using(crate::proofs::Forms::forms))]
 pub fn worths<'a>(alloc: Global, worth: Worth, more: Draft<'a>) -> Result<Draft<'a>, NoMemory>
@@ -218,12 +230,4 @@ pub fn worths<'a>(alloc: Global, worth: Worth, more: Draft<'a>) -> Result<Draft<
         rules: Rules::Worths(worth, more),
         found,
     })
-}
-
-/// A value that is that and nothing else.
-pub fn worth<'a>(alloc: Global, worth: Worth) -> Result<Draft<'a>, NoMemory>
-    ensures { IfOk result (λ r. seen_rules r.rules
-        ≡ plain.Worths (seen_worth worth) plain.Done) }
-{
-    worths(alloc, worth, done(alloc))
 }

@@ -79,6 +79,8 @@ pub enum Rules<'a> {
     Ends(Origin<'a>, Kind),
     /// The way goes on behind the node, whose value is that, and that is all.
     Gives(Origin<'a>, Worth),
+    /// The same with a value that joins both.
+    Joins(Origin<'a>, Worth, Worth),
     Part(Origin<'a>, Absorber, Box<Node<'a>>, Box<Rules<'a>>),
     Test(Box<Node<'a>>, Box<Rules<'a>>),
     Heads(Origin<'a>, Box<Rules<'a>>),

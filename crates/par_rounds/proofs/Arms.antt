@@ -170,6 +170,18 @@ ends_arm h w so to rules from k m0 is eh ep ev ex wide =
     (done_goes h Done w to m0 refl
     (λ m e. subst (λ n. AreWide n to.found.exits.items) e wide))
 
+-- the last part of the value
+pub last_arm : (h : HeadWays) (w : Way) (so to : SoFar) (v : Worth) (m0 : Notes)
+    → AreWide m0.locals so.found.exits.items → to.head ≡ so.head → to.parts ≡ so.parts
+    → has to.found.value ≡ union (has so.found.value)
+    (worth numbers (Some w) (latest_first so.parts.items []) v)
+    → to.found.exits ≡ so.found.exits → GoesOn h (Worths v Done) w so m0 to.found m0
+last_arm h w so to v m0 wide eh ep ev ex =
+    worths_arm h w so to to.found (Worths v Done) v Done m0 m0 refl eh ep ev ex
+    (done_goes h Done w to m0 refl
+    (λ m e. subst (λ n. AreWide n to.found.exits.items) e
+    (subst (λ xs. AreWide m0.locals xs.items) (sym ex) wide)))
+
 -- the way leaves, and the node has a value
 pub gives_arm : (h : HeadWays) (w : Way) (so left to : SoFar) (rules : Rules) (from : From)
     (k : Kind) (v : Worth) (m0 : Notes) → rules ≡ Leaves from k (Worths v Done)
@@ -183,10 +195,28 @@ pub gives_arm : (h : HeadWays) (w : Way) (so left to : SoFar) (rules : Rules) (f
     → to.found.exits ≡ left.found.exits → GoesOn h rules w so m0 to.found m0
 gives_arm h w so left to rules from k v m0 is eh ep ev ex wide fh fp fv fx =
     leaves_arm h w so left to.found rules from k (Worths v Done) m0 m0 is eh ep ev ex
-    (worths_arm h w left to to.found (Worths v Done) v Done m0 m0 refl fh fp fv fx
-    (done_goes h Done w to m0 refl
-    (λ m e. subst (λ n. AreWide n to.found.exits.items) e
-    (subst (λ xs. AreWide m0.locals xs.items) (sym fx) wide))))
+    (last_arm h w left to v m0 wide fh fp fv fx)
+
+-- the way leaves, and the value of the node joins two
+pub joins_arm : (h : HeadWays) (w : Way) (so left half to : SoFar) (rules : Rules) (from : From)
+    (k : Kind) (v u : Worth) (m0 : Notes) → rules ≡ Leaves from k (Worths v (Worths u Done))
+    → left.head ≡ so.head → left.parts ≡ so.parts → left.found.value ≡ so.found.value
+    → seen_exits left.found.exits.items
+    ≡ all (leave (way numbers (Some w) (latest_first so.parts.items []) from) k)
+    (seen_exits so.found.exits.items)
+    → AreWide m0.locals left.found.exits.items → half.head ≡ left.head → half.parts ≡ left.parts
+    → has half.found.value ≡ union (has left.found.value)
+    (worth numbers (Some w) (latest_first left.parts.items []) v)
+    → half.found.exits ≡ left.found.exits → to.head ≡ half.head → to.parts ≡ half.parts
+    → has to.found.value ≡ union (has half.found.value)
+    (worth numbers (Some w) (latest_first half.parts.items []) u)
+    → to.found.exits ≡ half.found.exits → GoesOn h rules w so m0 to.found m0
+joins_arm h w so left half to rules from k v u m0 is eh ep ev ex wide fh fp fv fx gh gp gv gx =
+    leaves_arm h w so left to.found rules from k (Worths v (Worths u Done)) m0 m0 is eh ep ev ex
+    (worths_arm h w left half to.found (Worths v (Worths u Done)) v (Worths u Done) m0 m0 refl
+    fh fp fv fx
+    (last_arm h w half to u m0 (subst (λ xs. AreWide m0.locals xs.items) (sym fx) wide)
+    gh gp gv gx))
 
 pub heads_arm : (h : HeadWays) (w : Way) (so : SoFar) (r : Found) (rules : Rules) (from : From)
     (more : Rules) (m0 m1 m2 : Notes)

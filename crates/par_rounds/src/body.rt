@@ -44,6 +44,7 @@ fn next_by(rules: &Rules, from: usize) -> usize
         Rules::Worths(_, more) => next_by(more, from),
         Rules::Ends(_, _) => from,
         Rules::Gives(_, _) => from,
+        Rules::Joins(_, _, _) => from,
     }
 }
 

@@ -286,5 +286,13 @@ fn pass_rules(
             so.found.value = so.found.value.union(&worth);
             Ok(())
         }
+        Rules::Joins(from, one, other) => {
+            leave(alloc, way, from, Kind::Normal, so)?;
+            let one = worth_at(way, &so.parts, *one);
+            so.found.value = so.found.value.union(&one);
+            let other = worth_at(way, &so.parts, *other);
+            so.found.value = so.found.value.union(&other);
+            Ok(())
+        }
     }
 }

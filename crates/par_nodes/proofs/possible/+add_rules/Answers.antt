@@ -2,8 +2,8 @@ use Rattle.std.proofs.Common.{◌∙◌}
 use Rattle.std.proofs.lemmas.Result.{on_ok_weaker}
 use Rattle.par_nodes.specs.Possible.{among, coming, passed}
 use Rattle.par_nodes.proofs.Completing.{part_made, test_made, leaves_made, done_made, heads_made}
-use Rattle.par_nodes.proofs.Completing.{ends_made, gives_made, worths_made, leaves_told}
-use Rattle.par_nodes.proofs.Completing.{heads_told, worths_told}
+use Rattle.par_nodes.proofs.Completing.{ends_made, gives_made, joins_made, worths_made}
+use Rattle.par_nodes.proofs.Completing.{leaves_told, heads_told, worths_told}
 use Rattle.par_nodes.proofs.possible.+add_rules.Goals as goal
 
 pub returns-in-Done : goal.returns-in-Done
@@ -27,6 +27,15 @@ returns-in-Gives t c =
     (among c.leaves-in-Gives.new.kinds) c.comes-in-Gives.result c.in-Gives.is
     c.comes-in-Gives.ensures kept)
     c.leaves-in-Gives.ensures
+
+pub returns-in-Joins : goal.returns-in-Joins
+returns-in-Joins t c =
+    on_ok_weaker c.leaves-in-Joins.result
+    (λ kept h. joins_made c.args.rules.now c.in-Joins.from _ _
+    (passed c.args.left c.args.parts.now) (among c.args.kinds.now)
+    (among c.leaves-in-Joins.new.kinds) c.comes-in-Joins.result c.in-Joins.is
+    c.comes-in-Joins.ensures kept)
+    c.leaves-in-Joins.ensures
 
 pub returns-in_ok-rest-in-Part : goal.returns-in_ok-rest-in-Part
 returns-in_ok-rest-in-Part t c =

@@ -11,13 +11,13 @@ use Rattle.par_pass_laws.specs.par_except.Seen.{seen, HasLocals, MayHaveLocals}
 use Rattle.par_bits.specs.Sets.{has, union}
 use Rattle.par_rounds.specs.Seen.{latest_first, ways_of, AreWide}
 use Rattle.par_rounds.proofs.Trees.{is_done, is_part, is_test, is_heads, is_leaves, is_worths}
-use Rattle.par_rounds.proofs.Trees.{is_ends, is_gives}
+use Rattle.par_rounds.proofs.Trees.{is_ends, is_gives, is_joins}
 use Rattle.par_rounds.proofs.Events.{took_none}
 use Rattle.par_rounds.proofs.Needs.{part_needs, test_needs, heads_needs, leaves_needs, worths_needs}
 use Rattle.par_rounds.proofs.Needs.{node_needs, ready_after, rules_after, so_after, so_still}
 use Rattle.par_rounds.proofs.Needs.{so_first}
 use Rattle.par_rounds.proofs.Arms.{done_goes, part_arm, test_arm, heads_arm, leaves_arm, worths_arm}
-use Rattle.par_rounds.proofs.Arms.{node_goes, ends_arm, gives_arm}
+use Rattle.par_rounds.proofs.Arms.{node_goes, ends_arm, gives_arm, joins_arm}
 use Rattle.par_rounds.proofs.pass.+pass.Goals as goal
 
 pub pass-pass_rules-requires : goal.pass-pass_rules-requires
@@ -361,3 +361,60 @@ pass_rules-returns-in_ok-leave-in-Gives t c =
     (c.worth_at-worth-in-Gives.ensures ∙ ap
     (λ z. worth_of numbers (Some (seen c.args.way.now)) (latest_first z [])
     (seen_worth c.in-Gives.worth)) c.deref-in-Gives.ensures.value)) refl
+
+pub pass_rules-leave-requires-in-Joins-clause-range
+    : goal.pass_rules-leave-requires-in-Joins-clause-range
+pass_rules-leave-requires-in-Joins-clause-range t c =
+    let n = c.args.notes.now in let j = c.in-Joins in
+    subst (λ k. IsFromInRange k (seen_origin j.from)) (sym c.requires.ready.way)
+    (leaves_needs n.locals (length n.heads.items) (seen_rules c.args.rules.now)
+    (seen_origin j.from) Normal (Worths (seen_worth j.one) (Worths (seen_worth j.other) Done))
+    (is_joins c.args.rules.now j.from j.one j.other j.is) c.requires.rules).0
+
+pub pass_rules-worth_at-one-requires : goal.pass_rules-worth_at-one-requires
+pass_rules-worth_at-one-requires t c =
+    let n = c.args.notes.now in let j = c.in-Joins in
+    let last = Worths (seen_worth j.other) Done in
+    let more = Worths (seen_worth j.one) last in
+    subst (λ k. IsWorthInRange k (seen_worth j.one)) (sym c.requires.ready.way)
+    (worths_needs n.locals (length n.heads.items) more (seen_worth j.one) last refl
+    (leaves_needs n.locals (length n.heads.items) (seen_rules c.args.rules.now)
+    (seen_origin j.from) Normal more (is_joins c.args.rules.now j.from j.one j.other j.is)
+    c.requires.rules).1).0
+
+pub pass_rules-worth_at-other-requires : goal.pass_rules-worth_at-other-requires
+pass_rules-worth_at-other-requires t c =
+    let n = c.args.notes.now in let j = c.in-Joins in
+    let last = Worths (seen_worth j.other) Done in
+    let more = Worths (seen_worth j.one) last in
+    subst (λ k. IsWorthInRange k (seen_worth j.other)) (sym c.requires.ready.way)
+    (worths_needs n.locals (length n.heads.items) last (seen_worth j.other) Done refl
+    (worths_needs n.locals (length n.heads.items) more (seen_worth j.one) last refl
+    (leaves_needs n.locals (length n.heads.items) (seen_rules c.args.rules.now)
+    (seen_origin j.from) Normal more (is_joins c.args.rules.now j.from j.one j.other j.is)
+    c.requires.rules).1).1).0
+
+pub pass_rules-returns-in_ok-leave-in-Joins : goal.pass_rules-returns-in_ok-leave-in-Joins
+pass_rules-returns-in_ok-leave-in-Joins t c =
+    let u = c.in_ok-leave-in-Joins.ensures in let left = c.leave-in-Joins.new.so in
+    let j = c.in-Joins in let v = has left.found.value in
+    let w = seen c.args.way.now in
+    joins_arm (ways_of c.args.heads.now) w c.args.so.now left
+    (record {
+      head = left.head;
+      parts = left.parts;
+      found = record { value = c.union-so-in-Joins.result; exits = left.found.exits };
+    }) _
+    (seen_rules c.args.rules.now) (seen_origin j.from) Normal (seen_worth j.one)
+    (seen_worth j.other) c.args.notes.now
+    (is_joins c.args.rules.now j.from j.one j.other j.is)
+    u.head u.parts u.value u.exits
+    (subst (λ k. AreWide k left.found.exits.items) c.requires.ready.way u.locals) refl refl
+    (c.union-so-in-Joins.ensures ∙ ap (union v)
+    (c.worth_at-one.ensures ∙ ap
+    (λ z. worth_of numbers (Some w) (latest_first z []) (seen_worth j.one))
+    c.deref-in-Joins.ensures.value)) refl refl refl
+    (c.union-so-in-Joins-2.ensures ∙ ap (union (has c.union-so-in-Joins.result))
+    (c.worth_at-other.ensures ∙ ap
+    (λ z. worth_of numbers (Some w) (latest_first z []) (seen_worth j.other))
+    c.deref-in-Joins-2.ensures.value)) refl
