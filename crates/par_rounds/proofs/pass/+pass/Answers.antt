@@ -1,7 +1,7 @@
 -- Each rule takes the code one step on, and what it needs stays true.
 use Rattle.std.proofs.Common.{Some, None, [], length, refl, sym, ap, ◌∙◌, subst, rules}
 use Rattle.par_nodes.specs.declared.rule.Rules.TheViews.{the_lemmas}
-use Rattle.par_flow_laws.specs.Kinds.{Normal}
+use Rattle.par_flow_laws.specs.Kinds.{Normal, normal, absorbed}
 use Rattle.par_flow_laws.specs.Lattice.{numbers}
 use Rattle.par_flow_laws.specs.Ranges.{IsFromInRange, IsWorthInRange}
 use Rattle.par_flow_laws.specs.Rules.{way, worth as worth_of, Done, Worths}
@@ -17,6 +17,7 @@ use Rattle.par_rounds.proofs.Needs.{part_needs, test_needs, heads_needs, leaves_
 use Rattle.par_rounds.proofs.Needs.{node_needs, ready_after, rules_after, so_after, so_still}
 use Rattle.par_rounds.proofs.Needs.{so_first}
 use Rattle.par_rounds.proofs.Arms.{done_goes, part_arm, test_arm, heads_arm, leaves_arm, worths_arm}
+use Rattle.par_rounds.proofs.Arms.{took_part}
 use Rattle.par_rounds.proofs.Arms.{node_goes, ends_arm, gives_arm, joins_arm}
 use Rattle.par_rounds.proofs.pass.+pass.Goals as goal
 
@@ -51,92 +52,118 @@ pass-returns t c =
     c.args.notes.now c.pass_rules.new.notes c.finish.new.notes refl c.new.ensures.items
     c.nothing.ensures.value c.nothing.ensures.exits c.in_ok-pass_rules.ensures c.in_ok-found.ensures
 
-pub pass_rules-way_at-requires-clause-range : goal.pass_rules-way_at-requires-clause-range
-pass_rules-way_at-requires-clause-range t c =
-    let n = c.args.notes.now in
-    subst (λ k. IsFromInRange k (seen_origin c.in-Part.from)) (sym c.requires.ready.way)
-    (part_needs n.locals (length n.heads.items) (seen_rules c.args.rules.now)
-    (seen_origin c.in-Part.from) (seen_absorber c.in-Part.absorber) (seen_node c.in-Part.part.value)
-    (seen_rules c.in-Part.more.value)
-    (is_part c.args.rules.now c.in-Part.from c.in-Part.absorber c.in-Part.part c.in-Part.more
-    c.in-Part.part.value c.in-Part.more.value c.in-Part.is refl refl) c.requires.rules).0
+pub pass_part-way_at-requires-clause-range : goal.pass_part-way_at-requires-clause-range
+pass_part-way_at-requires-clause-range t c =
+    subst (λ k. IsFromInRange k (seen_origin c.args.from.now)) (sym c.requires.ready.way)
+    c.requires.range
 
-pub pass_rules-visit-requires : goal.pass_rules-visit-requires
-pass_rules-visit-requires t c =
-    let n = c.args.notes.now in (
+pub pass_part-visit-requires : goal.pass_part-visit-requires
+pass_part-visit-requires t c = (
+  search (rules, the_lemmas),
+  (
+    subst (λ k. MayHaveLocals k c.in_ok-entry.entry) c.requires.ready.way
+        c.in_ok-entry.ensures.locals,
+    ((c.requires.ready.heads, c.requires.ready.noted), c.requires.node),
+  ),
+)
+
+pub pass_part-returns-clause-took : goal.pass_part-returns-clause-took
+pass_part-returns-clause-took t c =
+    let w = seen c.args.way.now in let f = seen_origin c.args.from.now in
+    let u = c.in_ok-take.ensures in let q = c.in_ok-found.ensures in
+    took_part (ways_of c.args.heads.now) (absorbed (seen_absorber c.args.absorber.now))
+    (way numbers (Some w) (latest_first c.args.so.now.parts.items []) f) (seen_node c.args.part.now)
+    c.args.so.now c.take.new.so c.in_ok-entry.entry c.in_ok-found.found c.args.notes.now
+    c.visit.new.notes
+    (c.in_ok-entry.ensures.way
+    ∙ ap (λ z. way numbers (Some w) (latest_first z []) f) c.deref.ensures.value)
+    q u.parts u.value u.exits
+    (u.locals c.args.notes.now.locals c.requires.so_far.exits q.wide)
+
+pub pass_test-visit-requires : goal.pass_test-visit-requires
+pass_test-visit-requires t c = (
+  search (rules, the_lemmas),
+  (
+    c.in_ok-entry.ensures.locals c.args.notes.now.locals c.requires.heads.0,
+    (c.requires.heads, c.requires.node),
+  ),
+)
+
+pub pass_test-returns-clause-took : goal.pass_test-returns-clause-took
+pass_test-returns-clause-took t c =
+    let u = c.in_ok-take.ensures in let q = c.in_ok-found.ensures in
+    let h = ways_of c.args.heads.now in
+    took_part h normal (h c.args.part.now.point) (seen_node c.args.part.now) c.args.so.now
+    (record {
+      head = Some c.args.part.now.point;
+      parts = c.take.new.so.parts;
+      found = c.take.new.so.found;
+    }) c.in_ok-entry.entry c.in_ok-found.found c.args.notes.now c.visit.new.notes
+    c.in_ok-entry.ensures.way q u.parts u.value u.exits
+    (u.locals c.args.notes.now.locals c.requires.so_far.exits q.wide)
+
+pub pass_rules-pass_part-requires : goal.pass_rules-pass_part-requires
+pass_rules-pass_part-requires t c =
+    let n = c.args.notes.now in let p = c.in-Part in
+    let q =
+    part_needs n.locals (length n.heads.items) (seen_rules c.args.rules.now) (seen_origin p.from)
+    (seen_absorber p.absorber) (seen_node c.deref.result.now) (seen_rules p.more.value)
+    (is_part c.args.rules.now p.from p.absorber p.part p.more c.deref.result.now p.more.value p.is
+    c.deref.ensures refl) c.requires.rules in (
       search (rules, the_lemmas),
-      (
-        subst (λ k. MayHaveLocals k c.in_ok-entry-in-Part.entry) c.requires.ready.way
-            c.in_ok-entry-in-Part.ensures.locals,
-        (
-          (c.requires.ready.heads, c.requires.ready.noted),
-          (part_needs n.locals (length n.heads.items) (seen_rules c.args.rules.now)
-              (seen_origin c.in-Part.from) (seen_absorber c.in-Part.absorber)
-              (seen_node c.deref-in-Part.result.now) (seen_rules c.in-Part.more.value)
-              (is_part c.args.rules.now c.in-Part.from c.in-Part.absorber c.in-Part.part
-              c.in-Part.more c.deref-in-Part.result.now c.in-Part.more.value c.in-Part.is
-              c.deref-in-Part.ensures refl) c.requires.rules).1,
-        ),
-      ),
+      (c.requires.ready, (c.requires.so_far, (q.0, q.1))),
     )
 
 pub pass_rules-pass_rules-requires : goal.pass_rules-pass_rules-requires
 pass_rules-pass_rules-requires t c =
-    let n = c.args.notes.now in let m = c.visit.new.notes in
-    let f = c.in_ok-found-in-Part.ensures in let s = c.requires.so_far in (
+    let n = c.args.notes.now in let m = c.pass_part.new.notes in let p = c.in-Part in
+    let u = c.in_ok-pass_part-in-Part.ensures in let f = u.took.passed in let s = c.requires.so_far in (
       search (rules, the_lemmas),
       (
         ready_after n m _ f.noted c.args.way.now c.args.heads.now c.requires.ready,
         (
-          so_after n m _ f.noted c.args.so.now c.take.new.so c.args.so.now.head _ s s.head f.wide
-              c.in_ok-take-in-Part.ensures.head c.in_ok-take-in-Part.ensures.parts
-              (c.in_ok-take-in-Part.ensures.locals n.locals s.exits f.wide),
-          rules_after n m _ f.noted (seen_rules c.deref-in-Part-2.result.now)
+          so_after n m _ f.noted c.args.so.now c.pass_part.new.so c.args.so.now.head _ s s.head
+              f.wide u.head u.took.parts u.took.wide,
+          rules_after n m _ f.noted (seen_rules c.deref-in-Part.result.now)
               (part_needs n.locals (length n.heads.items) (seen_rules c.args.rules.now)
-              (seen_origin c.in-Part.from) (seen_absorber c.in-Part.absorber)
-              (seen_node c.in-Part.part.value) (seen_rules c.deref-in-Part-2.result.now)
-              (is_part c.args.rules.now c.in-Part.from c.in-Part.absorber c.in-Part.part
-              c.in-Part.more c.in-Part.part.value c.deref-in-Part-2.result.now c.in-Part.is refl
-              c.deref-in-Part-2.ensures) c.requires.rules).2,
+              (seen_origin p.from) (seen_absorber p.absorber) (seen_node p.part.value)
+              (seen_rules c.deref-in-Part.result.now)
+              (is_part c.args.rules.now p.from p.absorber p.part p.more p.part.value
+              c.deref-in-Part.result.now p.is refl c.deref-in-Part.ensures) c.requires.rules).2,
         ),
       ),
     )
 
-pub pass_rules-visit-requires-in-Test : goal.pass_rules-visit-requires-in-Test
-pass_rules-visit-requires-in-Test t c =
-    let n = c.args.notes.now in (
+pub pass_rules-pass_test-requires : goal.pass_rules-pass_test-requires
+pass_rules-pass_test-requires t c =
+    let n = c.args.notes.now in let p = c.in-Test in
+    let q =
+    test_needs n.locals (length n.heads.items) (seen_rules c.args.rules.now)
+    (seen_node c.deref-in-Test.result.now) (seen_rules p.more.value)
+    (is_test c.args.rules.now p.part p.more c.deref-in-Test.result.now p.more.value p.is
+    c.deref-in-Test.ensures refl) c.requires.rules in (
       search (rules, the_lemmas),
-      (
-        c.in_ok-entry-in-Test.ensures.locals n.locals c.requires.ready.heads,
-        (
-          (c.requires.ready.heads, c.requires.ready.noted),
-          (test_needs n.locals (length n.heads.items) (seen_rules c.args.rules.now)
-              (seen_node c.deref-in-Test-2.result.now) (seen_rules c.in-Test.more.value)
-              (is_test c.args.rules.now c.in-Test.part c.in-Test.more c.deref-in-Test-2.result.now
-              c.in-Test.more.value c.in-Test.is c.deref-in-Test-2.ensures refl) c.requires.rules).1,
-        ),
-      ),
+      ((c.requires.ready.heads, c.requires.ready.noted), (c.requires.so_far, q.1)),
     )
 
 pub pass_rules-pass_rules-requires-in-Test : goal.pass_rules-pass_rules-requires-in-Test
 pass_rules-pass_rules-requires-in-Test t c =
-    let n = c.args.notes.now in let m = c.visit-in-Test.new.notes in
-    let f = c.in_ok-found-in-Test.ensures in let s = c.requires.so_far in
+    let n = c.args.notes.now in let m = c.pass_test.new.notes in let p = c.in-Test in
+    let u = c.in_ok-pass_test-in-Test.ensures in let f = u.took.passed in let s = c.requires.so_far in
     let q =
     test_needs n.locals (length n.heads.items) (seen_rules c.args.rules.now)
-    (seen_node c.deref-in-Test-3.result.now) (seen_rules c.deref-in-Test-4.result.now)
-    (is_test c.args.rules.now c.in-Test.part c.in-Test.more c.deref-in-Test-3.result.now
-    c.deref-in-Test-4.result.now c.in-Test.is c.deref-in-Test-3.ensures c.deref-in-Test-4.ensures)
+    (seen_node c.deref-in-Test.result.now) (seen_rules c.deref-in-Test-2.result.now)
+    (is_test c.args.rules.now p.part p.more c.deref-in-Test.result.now
+    c.deref-in-Test-2.result.now p.is c.deref-in-Test.ensures c.deref-in-Test-2.ensures)
     c.requires.rules in (
       search (rules, the_lemmas),
       (
         ready_after n m _ f.noted c.args.way.now c.args.heads.now c.requires.ready,
         (
-          so_after n m _ f.noted c.args.so.now _
-              (Some c.deref-in-Test-3.result.now.point) _ s q.0 f.wide refl
-              c.in_ok-take-in-Test.ensures.parts
-              (c.in_ok-take-in-Test.ensures.locals n.locals s.exits f.wide),
-          rules_after n m _ f.noted (seen_rules c.deref-in-Test-4.result.now) q.2,
+          so_after n m _ f.noted c.args.so.now c.pass_test.new.so
+              (Some c.deref-in-Test.result.now.point) _ s q.0 f.wide u.head u.took.parts
+              u.took.wide,
+          rules_after n m _ f.noted (seen_rules c.deref-in-Test-2.result.now) q.2,
         ),
       ),
     )
@@ -231,41 +258,26 @@ pass_rules-returns-in-Done t c =
 
 pub pass_rules-returns-in_ok-pass_rules-in-Part : goal.pass_rules-returns-in_ok-pass_rules-in-Part
 pass_rules-returns-in_ok-pass_rules-in-Part t c =
-    let u = c.in_ok-take-in-Part.ensures in
+    let u = c.in_ok-pass_part-in-Part.ensures in let k = u.took in let p = c.in-Part in
     part_arm (ways_of c.args.heads.now)
-    (seen c.args.way.now) c.args.so.now c.take.new.so c.pass_rules.new.so.found
-    (seen_rules c.args.rules.now) (seen_origin c.in-Part.from) (seen_absorber c.in-Part.absorber)
-    (seen_node c.deref-in-Part.result.now)
-    (seen_rules c.deref-in-Part-2.result.now) c.in_ok-entry-in-Part.entry
-    c.in_ok-found-in-Part.found c.args.notes.now c.visit.new.notes c.pass_rules.new.notes
-    (is_part c.args.rules.now c.in-Part.from c.in-Part.absorber c.in-Part.part c.in-Part.more
-    c.deref-in-Part.result.now c.deref-in-Part-2.result.now c.in-Part.is c.deref-in-Part.ensures
-    c.deref-in-Part-2.ensures)
-    (c.in_ok-entry-in-Part.ensures.way
-    ∙ ap (λ z. way numbers (Some (seen c.args.way.now)) (latest_first z [])
-    (seen_origin c.in-Part.from)) c.deref.ensures.value)
-    c.in_ok-found-in-Part.ensures u.head u.parts u.value u.exits c.in_ok-pass_rules-in-Part.ensures
+    (seen c.args.way.now) c.args.so.now c.pass_part.new.so c.pass_rules.new.so.found
+    (seen_rules c.args.rules.now) (seen_origin p.from) (seen_absorber p.absorber)
+    (seen_node c.deref.result.now) (seen_rules c.deref-in-Part.result.now) k.entry k.found
+    c.args.notes.now c.pass_part.new.notes c.pass_rules.new.notes
+    (is_part c.args.rules.now p.from p.absorber p.part p.more c.deref.result.now
+    c.deref-in-Part.result.now p.is c.deref.ensures c.deref-in-Part.ensures)
+    k.enters k.passed u.head k.parts k.value k.exits c.in_ok-pass_rules-in-Part.ensures
 
 pub pass_rules-returns-in_ok-pass_rules-in-Test : goal.pass_rules-returns-in_ok-pass_rules-in-Test
 pass_rules-returns-in_ok-pass_rules-in-Test t c =
-    let u = c.in_ok-take-in-Test.ensures in let h = ways_of c.args.heads.now in
-    test_arm h (seen c.args.way.now) c.args.so.now
-    (record {
-      head = Some c.deref-in-Test-3.result.now.point;
-      parts = c.take-in-Test.new.so.parts;
-      found = c.take-in-Test.new.so.found;
-    }) c.pass_rules-in-Test.new.so.found (seen_rules c.args.rules.now)
-    (seen_node c.deref-in-Test-2.result.now)
-    (seen_rules c.deref-in-Test-4.result.now) c.in_ok-entry-in-Test.entry
-    c.in_ok-found-in-Test.found c.args.notes.now c.visit-in-Test.new.notes
-    c.pass_rules-in-Test.new.notes
-    (is_test c.args.rules.now c.in-Test.part c.in-Test.more c.deref-in-Test-2.result.now
-    c.deref-in-Test-4.result.now c.in-Test.is c.deref-in-Test-2.ensures c.deref-in-Test-4.ensures)
-    (c.in_ok-entry-in-Test.ensures.way
-    ∙ ap (λ z. h z.point) (c.deref-in-Test.ensures ∙ sym c.deref-in-Test-2.ensures))
-    c.in_ok-found-in-Test.ensures
-    (ap (λ z. Some z.point) (c.deref-in-Test-3.ensures ∙ sym c.deref-in-Test-2.ensures)) u.parts
-    u.value u.exits c.in_ok-pass_rules-in-Test.ensures
+    let u = c.in_ok-pass_test-in-Test.ensures in let k = u.took in let p = c.in-Test in
+    test_arm (ways_of c.args.heads.now) (seen c.args.way.now) c.args.so.now c.pass_test.new.so
+    c.pass_rules-in-Test.new.so.found (seen_rules c.args.rules.now)
+    (seen_node c.deref-in-Test.result.now) (seen_rules c.deref-in-Test-2.result.now) k.entry
+    k.found c.args.notes.now c.pass_test.new.notes c.pass_rules-in-Test.new.notes
+    (is_test c.args.rules.now p.part p.more c.deref-in-Test.result.now
+    c.deref-in-Test-2.result.now p.is c.deref-in-Test.ensures c.deref-in-Test-2.ensures)
+    k.enters k.passed u.head k.parts k.value k.exits c.in_ok-pass_rules-in-Test.ensures
 
 pub pass_rules-returns-in_ok-pass_rules-in-Heads : goal.pass_rules-returns-in_ok-pass_rules-in-Heads
 pass_rules-returns-in_ok-pass_rules-in-Heads t c =
