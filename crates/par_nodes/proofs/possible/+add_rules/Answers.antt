@@ -66,7 +66,8 @@ returns-in_ok-leaves-in-Leaves t c =
     on_ok_weaker c.add_rules-in-Leaves.result
     (λ more h. leaves_made c.args.rules.now c.in-Leaves.from c.in-Leaves.kind c.in-Leaves.more
     (passed c.args.left c.args.parts.now) c.deref-in-Leaves.result.now
-    (among c.args.kinds.now) (among c.leaves-in-Leaves.new.kinds) (among c.add_rules-in-Leaves.new.kinds)
+    (among c.args.kinds.now) (among c.leaves-in-Leaves.new.kinds)
+    (among c.add_rules-in-Leaves.new.kinds)
     c.comes-reached-in-Leaves.result c.in-Leaves.is c.comes-reached-in-Leaves.ensures
     c.in_ok-leaves-in-Leaves.ensures c.deref-in-Leaves.ensures
     (more (h ∙ leaves_told _ _ _ _ _ c.in-Leaves.is c.deref-in-Leaves.ensures)))

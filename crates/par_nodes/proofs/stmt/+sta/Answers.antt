@@ -101,7 +101,8 @@ pub rules_of-returns-in-Continue : goal.rules_of-returns-in-Continue
 rules_of-returns-in-Continue t c =
     let s = c.args.stmt.now in
     continue_made (declares c.args.table.now) s.kind s.at s.point
-    (seen_rules c.completes-in-Continue.result.rules) c.in-Continue.is c.completes-in-Continue.ensures
+    (seen_rules c.completes-in-Continue.result.rules) c.in-Continue.is
+    c.completes-in-Continue.ensures
 
 pub rules_of-returns-in-Throw : goal.rules_of-returns-in-Throw
 rules_of-returns-in-Throw t c =
