@@ -46,7 +46,7 @@ pub record Passed (r : Found) (q : plain.Found) (m n : Notes) : Type 0 where
 
 -- a part that this way enters has been passed: what was found in it, and what it adds
 pub record TookPart (absorbs : Kind → Bool) (o : Option plain_exits.Way) (q : plain.Found)
-  (so to : SoFar) (m n : Notes) : Type 0 where
+    (so to : SoFar) (m n : Notes) : Type 0 where
   pub entry : Option Way
   pub found : Found
   pub enters : may_see entry ≡ o

@@ -117,7 +117,8 @@ pass_rules-pass_part-requires t c =
 pub pass_rules-pass_rules-requires : goal.pass_rules-pass_rules-requires
 pass_rules-pass_rules-requires t c =
     let n = c.args.notes.now in let m = c.pass_part.new.notes in let p = c.in-Part in
-    let u = c.in_ok-pass_part-in-Part.ensures in let f = u.took.passed in let s = c.requires.so_far in (
+    let u = c.in_ok-pass_part-in-Part.ensures in let f = u.took.passed in
+    let s = c.requires.so_far in (
       search (rules, the_lemmas),
       (
         ready_after n m _ f.noted c.args.way.now c.args.heads.now c.requires.ready,
@@ -149,7 +150,8 @@ pass_rules-pass_test-requires t c =
 pub pass_rules-pass_rules-requires-in-Test : goal.pass_rules-pass_rules-requires-in-Test
 pass_rules-pass_rules-requires-in-Test t c =
     let n = c.args.notes.now in let m = c.pass_test.new.notes in let p = c.in-Test in
-    let u = c.in_ok-pass_test-in-Test.ensures in let f = u.took.passed in let s = c.requires.so_far in
+    let u = c.in_ok-pass_test-in-Test.ensures in let f = u.took.passed in
+    let s = c.requires.so_far in
     let q =
     test_needs n.locals (length n.heads.items) (seen_rules c.args.rules.now)
     (seen_node c.deref-in-Test.result.now) (seen_rules c.deref-in-Test-2.result.now)
