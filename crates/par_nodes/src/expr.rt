@@ -344,7 +344,8 @@ fn combines<'a>(
 /// The node of an expression.
 #[cycle(exp)]
 pub fn exp<'a>(alloc: Global, table: &'a Table, e: &TExpr) -> Result<Known<'a>, NoMemory>
-    ensures { IfOk result (λ n. seen_node n.node ≡ body.exp (declares table.now) (shown e.now)) }
+    ensures { IfOk result (λ n. seen_node n.node.value
+        ≡ body.exp (declares table.now) (shown e.now)) }
 {
     let rules = rules_of(alloc, table, e)?;
     let node = rules.node(alloc, e.point)?;

@@ -65,26 +65,14 @@ struct Boxes<'a> {
         ∷ parts_can (seen_rules more.value) },
 }
 
-fn in_boxes<'a>(
-    alloc: Global,
-    node: Node<'a>,
-    rules: Rules<'a>,
-) -> Result<(Box<Node<'a>>, Box<Rules<'a>>), NoMemory>
-    ensures { IfOk result (λ b. (b.0.value ≡ node.entry) × (b.1.value ≡ rules.entry)) }
-{
-    let node = Box::new(alloc, node)?;
-    let more = Box::new(alloc, rules)?;
-    Ok((node, more))
-}
-
 fn boxed<'a>(alloc: Global, part: Known<'a>, more: Draft<'a>) -> Result<Boxes<'a>, NoMemory>
-    ensures { IfOk result (λ b. (b.node.value ≡ part.entry.node)
+    ensures { IfOk result (λ b. (b.node.value ≡ part.entry.node.value)
         × (b.more.value ≡ more.entry.rules)) }
 {
     let Known { node, kinds } = part;
     let Draft { rules, mut found } = more;
     found.push(kinds)?;
-    let (node, more) = in_boxes(alloc, node, rules)?;
+    let more = Box::new(alloc, rules)?;
     Ok(Boxes { node, more, found })
 }
 
@@ -98,7 +86,7 @@ pub fn part<'a>(
     more: Draft<'a>,
 ) -> Result<Draft<'a>, NoMemory>
     ensures { IfOk result (λ r. seen_rules r.rules ≡ plain.Part (seen_origin from.entry)
-        (seen_absorber absorber) (seen_node part.entry.node) (seen_rules more.entry.rules)) }
+        (seen_absorber absorber) (seen_node part.entry.node.value) (seen_rules more.entry.rules)) }
 {
     let Boxes { node, more, found } = boxed(alloc, part, more)?;
     Ok(Draft {
@@ -115,7 +103,7 @@ pub fn then<'a>(
     more: Draft<'a>,
 ) -> Result<Draft<'a>, NoMemory>
     ensures { IfOk result (λ r. seen_rules r.rules ≡ plain.Part (seen_origin from.entry)
-        kinds.Next (seen_node part.entry.node) (seen_rules more.entry.rules)) }
+        kinds.Next (seen_node part.entry.node.value) (seen_rules more.entry.rules)) }
 {
     self::part(alloc, from, Absorber::Next, part, more)
 }
@@ -124,7 +112,7 @@ pub fn then<'a>(
 #[tactic(auto, using(crate::proofs::Forms::forms))]
 pub fn test<'a>(alloc: Global, part: Known<'a>, more: Draft<'a>) -> Result<Draft<'a>, NoMemory>
     ensures { IfOk result (λ r. seen_rules r.rules
-        ≡ plain.Test (seen_node part.entry.node) (seen_rules more.entry.rules)) }
+        ≡ plain.Test (seen_node part.entry.node.value) (seen_rules more.entry.rules)) }
 {
     let Boxes { node, more, found } = boxed(alloc, part, more)?;
     Ok(Draft {

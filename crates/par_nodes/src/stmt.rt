@@ -128,7 +128,7 @@ fn again<'a>(alloc: Global) -> Result<Draft<'a>, NoMemory>
 // The block of a loop, with what stands behind it.
 fn looped<'a>(alloc: Global, block: Known<'a>) -> Result<Draft<'a>, NoMemory>
     ensures { IfOk result (λ r. seen_rules r.rules
-        ≡ plain.Part body.tested kinds.Loop (seen_node block.entry.node)
+        ≡ plain.Part body.tested kinds.Loop (seen_node block.entry.node.value)
         (plain.Heads body.past (plain.Heads (plain.After 0 kinds.Continue)
         (plain.goes_on (plain.After 0 kinds.Break) plain.Done)))) }
 {
@@ -306,7 +306,7 @@ fn guarded<'a>(
 ) -> Result<Draft<'a>, NoMemory>
     ensures { IfOk result (λ r. seen_rules r.rules
         ≡ plain.Part plain.Entry (kinds.Catches (body.caught (all_catch clauses.now)))
-        (seen_node block.entry.node) (seen_rules handled.entry.rules)) }
+        (seen_node block.entry.node.value) (seen_rules handled.entry.rules)) }
 {
     let classes = caught(alloc, clauses)?;
     make::part(alloc, ENTRY, Absorber::Catches(classes), block, handled)
@@ -374,7 +374,7 @@ fn stas<'a>(alloc: Global, table: &'a Table, stmts: &[TStmt]) -> Result<Draft<'a
 
 // From where a catch of the class is entered, behind as many others.
 fn catch_start(block: &Known, class: u16, before: usize) -> Start
-    ensures { seen_start result ≡ catch_start (seen_node block.now.node) class before }
+    ensures { seen_start result ≡ catch_start (seen_node block.now.node.value) class before }
 {
     let thrown = Kind::Throw(class);
     if block.kinds.has(thrown) {
@@ -393,7 +393,8 @@ fn catches<'a>(
     block: &Known,
 ) -> Result<Draft<'a>, NoMemory>
     ensures { IfOk result (λ r. seen_rules r.rules ≡ plain.goes_on body.past
-        (body.catches (declares table.now) (seen_node block.now.node) (all_catch catches.now) 0)) }
+        (body.catches (declares table.now) (seen_node block.now.node.value)
+        (all_catch catches.now) 0)) }
 {
     let mut rules = make::ends(alloc, PAST);
     for place in (0..catches.len()).rev() {
@@ -419,8 +420,9 @@ fn tries<'a>(
 ) -> Result<Draft<'a>, NoMemory>
     ensures { IfOk result (λ r. seen_rules r.rules
         ≡ plain.Part plain.Entry (kinds.Catches (body.caught (all_catch clauses.now)))
-        (seen_node block.entry.node) (plain.goes_on body.past (body.catches (declares table.now)
-        (seen_node block.entry.node) (all_catch clauses.now) 0))) }
+        (seen_node block.entry.node.value) (plain.goes_on body.past
+        (body.catches (declares table.now) (seen_node block.entry.node.value)
+        (all_catch clauses.now) 0))) }
 {
     let handled = catches(alloc, table, clauses, &block)?;
     guarded(alloc, clauses, block, handled)
@@ -491,7 +493,8 @@ fn opened<'a>(
 /// The node of a statement.
 #[cycle(sta)]
 pub fn sta<'a>(alloc: Global, table: &'a Table, stmt: &TStmt) -> Result<Known<'a>, NoMemory>
-    ensures { IfOk result (λ n. seen_node n.node ≡ body.sta (declares table.now) (does stmt.now)) }
+    ensures { IfOk result (λ n. seen_node n.node.value
+        ≡ body.sta (declares table.now) (does stmt.now)) }
 {
     let rules = rules_of(alloc, table, stmt)?;
     let node = rules.node(alloc, stmt.point)?;

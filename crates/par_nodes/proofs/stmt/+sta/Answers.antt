@@ -24,7 +24,7 @@ stas-loop-place-init t c =
 
 pub catches-loop-place-init : goal.catches-loop-place-init
 catches-loop-place-init t c =
-    catches_none (declares c.args.table.now) (seen_node c.args.block.now.node)
+    catches_none (declares c.args.table.now) (seen_node c.args.block.now.node.value)
     c.args.catches.now _ (seen_rules c.ends-rules.result.rules) c.ends-rules.ensures
 
 pub stas-loop-place-preserved : goal.stas-loop-place-preserved
@@ -37,9 +37,9 @@ stas-loop-place-preserved t c =
 
 pub catches-loop-place-preserved : goal.catches-loop-place-preserved
 catches-loop-place-preserved t c =
-    catches_next (declares c.args.table.now) (seen_node c.args.block.now.node) c.args.catches.now
-    c.loop-place.place c.index-catches-place.result (seen_rules c.in_ok-rules.rules.rules)
-    (seen_rules c.loop-place.rules.rules) (seen_rules c.in_ok-entered.entered.rules)
+    catches_next (declares c.args.table.now) (seen_node c.args.block.now.node.value)
+    c.args.catches.now c.loop-place.place c.index-catches-place.result
+    (seen_rules c.in_ok-rules.rules.rules) (seen_rules c.loop-place.rules.rules) (seen_rules c.in_ok-entered.entered.rules)
     (seen_start c.catch_start.result) (search rules) (search rules) (search rules)
     c.in_ok-rules.ensures c.in_ok-entered.ensures c.catch_start.ensures c.loop-place.invariant
 
@@ -79,7 +79,7 @@ rules_of-returns-in_ok-node-in-Try t c =
     IfOk-weaker c.tries.result _ _
     (λ r. try_made (declares c.args.table.now) s.kind s.at s.point c.in-Try.block
     c.in-Try.clauses c.as_slice-in-Try.result.now c.deref-in-Try.result.now (seen_rules r.rules)
-    (seen_node c.in_ok-node-in-Try.node.node) c.in-Try.is c.deref-in-Try.ensures
+    (seen_node c.in_ok-node-in-Try.node.node.value) c.in-Try.is c.deref-in-Try.ensures
     c.in_ok-node-in-Try.ensures c.as_slice-in-Try.ensures)
     c.tries.ensures
 
