@@ -39,7 +39,8 @@ pub catches-loop-place-preserved : goal.catches-loop-place-preserved
 catches-loop-place-preserved t c =
     catches_next (declares c.args.table.now) (seen_node c.args.block.now.node.value)
     c.args.catches.now c.loop-place.place c.index-catches-place.result
-    (seen_rules c.in_ok-rules.rules.rules) (seen_rules c.loop-place.rules.rules) (seen_rules c.in_ok-entered.entered.rules)
+    (seen_rules c.in_ok-rules.rules.rules) (seen_rules c.loop-place.rules.rules)
+    (seen_rules c.in_ok-entered.entered.rules)
     (seen_start c.catch_start.result) (search rules) (search rules) (search rules)
     c.in_ok-rules.ensures c.in_ok-entered.ensures c.catch_start.ensures c.loop-place.invariant
 
