@@ -26,7 +26,7 @@ use Rattle.par_nodes.specs.declared.rule.Rules as tree
 use Rattle.par_nodes.specs.declared.rule.Rules.TheVariants as rule
 use Rattle.par_nodes.proofs.Rows.{drop_all}
 use Rattle.par_nodes.proofs.Forms.{seen_done, seen_part, seen_test, seen_heads, seen_leaves}
-use Rattle.par_nodes.proofs.Forms.{seen_worths}
+use Rattle.par_nodes.proofs.Forms.{seen_worths, seen_ends, seen_gives, seen_joins}
 use Rattle.par_nodes.specs.Seen.{seen_absorber, seen_worth, seen_node, seen_rules}
 use Rattle.par_nodes.specs.Seen.{seen_kind, seen_start, seen_origin, assigned, tested, raised, shut}
 use Rattle.par_nodes.specs.Seen.{opened}
@@ -298,6 +298,38 @@ pub done_made : (rs : tree.Rules) (fs : List (Kind → Bool)) (k0 : Kind → Boo
 done_made rs fs k0 is =
     done_step fs k0 ∙ sym (ap (λ r. either k0 (can_by fs (seen_rules r))) is
     ∙ ap (λ r. either k0 (can_by fs r)) seen_done)
+
+pub ends_made : (rs : tree.Rules) (o : Origin) (j : code.Kind) (fs : List (Kind → Bool))
+    (k0 k1 : Kind → Bool) (reached : Bool)
+    → rs ≡ rule.Ends o j → reached ≡ comes fs (seen_origin o)
+    → k1 ≡ either k0 (if_so reached (same (seen_kind j)))
+    → k1 ≡ either k0 (can_by fs (seen_rules rs))
+ends_made rs o j fs k0 k1 reached is e g =
+    leaves_step fs (seen_origin o) (seen_kind j) Done k0 k1 k1 reached e g (done_step fs k1)
+    ∙ sym (ap (λ r. either k0 (can_by fs (seen_rules r))) is
+    ∙ ap (λ r. either k0 (can_by fs r)) (seen_ends o j))
+
+pub gives_made : (rs : tree.Rules) (o : Origin) (w : tree_worth.Worth) (fs : List (Kind → Bool))
+    (k0 k1 : Kind → Bool) (reached : Bool)
+    → rs ≡ rule.Gives o w → reached ≡ comes fs (seen_origin o)
+    → k1 ≡ either k0 (if_so reached (same Normal)) → k1 ≡ either k0 (can_by fs (seen_rules rs))
+gives_made rs o w fs k0 k1 reached is e g =
+    leaves_step fs (seen_origin o) Normal (Worths (seen_worth w) Done) k0 k1 k1 reached e g
+    (done_step fs k1 ∙ sym (ap (either k1) (worths_step fs (seen_worth w) Done)))
+    ∙ sym (ap (λ r. either k0 (can_by fs (seen_rules r))) is
+    ∙ ap (λ r. either k0 (can_by fs r)) (seen_gives o w))
+
+pub joins_made : (rs : tree.Rules) (o : Origin) (w v : tree_worth.Worth)
+    (fs : List (Kind → Bool)) (k0 k1 : Kind → Bool) (reached : Bool)
+    → rs ≡ rule.Joins o w v → reached ≡ comes fs (seen_origin o)
+    → k1 ≡ either k0 (if_so reached (same Normal)) → k1 ≡ either k0 (can_by fs (seen_rules rs))
+joins_made rs o w v fs k0 k1 reached is e g =
+    let last = Worths (seen_worth v) Done in
+    leaves_step fs (seen_origin o) Normal (Worths (seen_worth w) last) k0 k1 k1 reached e g
+    (done_step fs k1 ∙ sym (ap (either k1)
+    (worths_step fs (seen_worth w) last ∙ worths_step fs (seen_worth v) Done)))
+    ∙ sym (ap (λ r. either k0 (can_by fs (seen_rules r))) is
+    ∙ ap (λ r. either k0 (can_by fs r)) (seen_joins o w v))
 
 pub heads_made : (rs : tree.Rules) (o : Origin) (q : Box tree.Rules Global)
     (fs : List (Kind → Bool)) (m : tree.Rules) (k0 k2 : Kind → Bool)

@@ -2,6 +2,7 @@
 use Rattle.std.proofs.Common.{◌≡◌, refl}
 use Rattle.std.specs.declared.boxed.Box.{Box}
 use Rattle.std.specs.declared.alloc.Global.{Global}
+use Rattle.par_flow_laws.specs.Kinds as kinds
 use Rattle.par_flow_laws.specs.Rules as plain
 use Rattle.par_nodes.specs.declared.rule.Kind.{Kind}
 use Rattle.par_nodes.specs.declared.rule.Origin.{Origin}
@@ -16,6 +17,24 @@ use Rattle.par_nodes.specs.Seen.{seen_node}
 pub seen_done : seen_rules rule.Done ≡ plain.Done
 unfolding seen_rules
 seen_done = refl
+
+pub seen_ends : (o : Origin) (k : Kind)
+    → seen_rules (rule.Ends o k) ≡ plain.Leaves (seen_origin o) (seen_kind k) plain.Done
+unfolding seen_rules
+seen_ends o k = refl
+
+pub seen_gives : (o : Origin) (v : Worth)
+    → seen_rules (rule.Gives o v)
+    ≡ plain.Leaves (seen_origin o) kinds.Normal (plain.Worths (seen_worth v) plain.Done)
+unfolding seen_rules
+seen_gives o v = refl
+
+pub seen_joins : (o : Origin) (v u : Worth)
+    → seen_rules (rule.Joins o v u)
+    ≡ plain.Leaves (seen_origin o) kinds.Normal
+    (plain.Worths (seen_worth v) (plain.Worths (seen_worth u) plain.Done))
+unfolding seen_rules
+seen_joins o v u = refl
 
 pub seen_part : (o : Origin) (a : Absorber) (n : Box Node Global) (more : Box Rules Global)
     → seen_rules (rule.Part o a n more)
@@ -44,4 +63,14 @@ pub seen_worths : (v : Worth) (more : Box Rules Global)
 unfolding seen_rules
 seen_worths v more = refl
 
-pub ruleset forms = (seen_done, seen_part, seen_test, seen_heads, seen_leaves, seen_worths)
+pub ruleset forms = (
+  seen_done,
+  seen_ends,
+  seen_gives,
+  seen_joins,
+  seen_part,
+  seen_test,
+  seen_heads,
+  seen_leaves,
+  seen_worths,
+)

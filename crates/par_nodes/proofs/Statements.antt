@@ -55,19 +55,20 @@ if_made d k a p e b o s r both rest is z q y u =
     (y ∙ ap (λ m. Part tested Next (sta d (does m)) rest) q
     ∙ ap (Part tested Next (sta d (does b.value))) z))
 
-pub while_made : (d : Declares) (k : TStmtKind) (a p : ℕ) (e : TExpr) (b : Box TStmt Global)
-    (s : TStmt) (r part : Rules) → k ≡ stmt.While e b → s ≡ b.value
-    → part ≡ Part tested Loop (sta d (does s)) (Heads past (Heads (After 0 kinds.Continue)
+-- the block of a loop, with what stands behind it
+abbrev pub looped : Declares → TSta → Rules
+looped d s = Part tested Loop (sta d s) (Heads past (Heads (After 0 kinds.Continue)
     (goes_on (After 0 kinds.Break) Done)))
+
+pub while_made : (d : Declares) (k : TStmtKind) (a p : ℕ) (e : TExpr) (b : Box TStmt Global)
+    (s : TStmt) (r part : Rules) → k ≡ stmt.While e b → s ≡ b.value → part ≡ looped d (does s)
     → r ≡ Test (exp d (shown e)) (Heads Entry (if_not (is_forever (shown e)) (goes_on past) part))
     → node p r ≡ sta d (does_at k a p)
 while_made d k a p e b s r part is q y u =
-    let tail : Rules = Heads past (Heads (After 0 kinds.Continue)
-    (goes_on (After 0 kinds.Break) Done)) in
     made d k (stmt.While e b) a p _ r _ is (does_while e b a p)
     (while_is d (shown e) (does b.value) a p)
     (u ∙ ap (λ m. Test (exp d (shown e)) (Heads Entry (if_not (is_forever (shown e)) (goes_on past)
-    m))) (y ∙ ap (λ m. Part tested Loop (sta d (does m)) tail) q))
+    m))) (y ∙ ap (λ m. looped d (does m)) q))
 
 pub try_made : (d : Declares) (k : TStmtKind) (a p : ℕ) (b : Box TStmt Global)
     (cs xs : List TCatch) (s : TStmt) (r : Rules) (n : Node)

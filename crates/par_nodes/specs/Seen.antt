@@ -71,6 +71,11 @@ seen_absorber (absorber.Catches classes) = kinds.Catches classes
 
 unfoldable pub seen_rules : code.Rules → plain.Rules
 seen_rules rule.Done = plain.Done
+seen_rules (rule.Ends o k) = plain.Leaves (seen_origin o) (seen_kind k) plain.Done
+seen_rules (rule.Gives o v) = plain.goes_on (seen_origin o) (plain.Worths (seen_worth v) plain.Done)
+seen_rules (rule.Joins o v u) =
+    plain.goes_on (seen_origin o)
+    (plain.Worths (seen_worth v) (plain.Worths (seen_worth u) plain.Done))
 seen_rules (code.Part' o a p point rules q more) =
     plain.Part (seen_origin o) (seen_absorber a) (plain.node point (seen_rules rules))
     (seen_rules more)

@@ -18,5 +18,5 @@ pub fn body_node<'a>(alloc: Global, table: &'a Table, body: &TBody) -> Result<No
     ensures { IfOk result (λ n. seen_node n ≡ sta (declares table.now) (does body.now.body)) }
 {
     let known = stmt::sta(alloc, table, &body.body)?;
-    Ok(known.node)
+    Ok(Box::into_inner(known.node))
 }

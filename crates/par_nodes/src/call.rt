@@ -101,9 +101,8 @@ fn does<'a>(
         ≡ called (declares table.now) (method_of (Some method.now))
         (tested stand.receiver (seen_start stand.start))) }
 {
-    let value = make::worth(alloc, Worth::Given(method.policy))?;
     let from = stand.origin(None, Locks::All(&method.closes), Locks::All(&method.opens));
-    let goes = make::goes_on(alloc, from, value)?;
+    let goes = make::gives(alloc, from, Worth::Given(method.policy));
     thrown(alloc, table, stand, method, goes)
 }
 
@@ -121,9 +120,8 @@ pub fn called<'a>(
 {
     match declared::method(table, class, method) {
         None => {
-            let value = make::worth(alloc, Worth::Given(0))?;
             let from = stand.origin(None, Locks::Nothing, Locks::Nothing);
-            make::goes_on(alloc, from, value)
+            Ok(make::gives(alloc, from, Worth::Given(0)))
         }
         Some(method) => does(alloc, table, stand, method),
     }

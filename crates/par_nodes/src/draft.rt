@@ -11,12 +11,13 @@ use crate::rule::{Node, Rules};
 use par_base::memory::NoMemory;
 use std::alloc::Global;
 
-/// A node with the completions that are possible where it is reached.
+/// A node with the completions that are possible where it is reached. It stands in the box in which
+/// it becomes a part.
 #[derive(Drop)]
 pub struct Known<'a> {
-    pub node: Node<'a>,
+    pub node: Box<Node<'a>>,
     pub kinds: Kinds,
-    ghost known: { among kinds ≡ plain.can (seen_node node) },
+    ghost known: { among kinds ≡ plain.can (seen_node node.value) },
 }
 
 /// Rules with the completions of their parts, of which the first comes last.
@@ -31,12 +32,12 @@ impl<'a> Draft<'a> {
     /// The node of these rules.
     #[tactic(auto, using(crate::proofs::Completing::node_step))]
     pub fn node(self, alloc: Global, point: u32) -> Result<Known<'a>, NoMemory>
-        ensures { IfOk result (λ k. seen_node k.node
+        ensures { IfOk result (λ k. seen_node k.node.value
             ≡ plain.node point (seen_rules self.entry.rules)) }
     {
         let Draft { rules, found } = self;
         let kinds = completions(alloc, &rules, found)?;
-        let node = Node { point, rules };
+        let node = Box::new(alloc, Node { point, rules })?;
         Ok(Known { node, kinds })
     }
 }

@@ -124,11 +124,11 @@ pub(crate) fn start_at(place: usize, from: Start) -> Start
 }
 
 // A value of that policy.
-fn given<'a>(alloc: Global, policy: u16) -> Result<Draft<'a>, NoMemory>
-    ensures { IfOk result (λ r. seen_rules r.rules ≡ plain.goes_on plain.Entry
-        (plain.Worths (plain.Given policy) plain.Done)) }
+fn given<'a>(alloc: Global, policy: u16) -> Draft<'a>
+    ensures { seen_rules result.rules ≡ plain.goes_on plain.Entry
+        (plain.Worths (plain.Given policy) plain.Done) }
 {
-    make::gives(alloc, Worth::Given(policy))
+    make::gives(alloc, ENTRY, Worth::Given(policy))
 }
 
 // Behind the object of a field comes what is known of the field.
@@ -137,29 +137,16 @@ fn selected<'a>(alloc: Global, of: &TExpr, policy: u16) -> Result<Draft<'a>, NoM
         ≡ body.null_test (shown of.now) body.tested (plain.goes_on body.past
         (plain.Worths (plain.Value 0) (plain.Worths (plain.Given policy) plain.Done)))) }
 {
-    let own = make::worth(alloc, Worth::Given(policy))?;
-    let value = make::worths(alloc, Worth::Value(0), own)?;
-    let goes = make::goes_on(alloc, PAST, value)?;
+    let goes = make::joins(alloc, PAST, Worth::Value(0), Worth::Given(policy));
     null_test(alloc, of, TESTED, goes)
 }
 
-// The value of the only operand.
-fn valued<'a>(alloc: Global) -> Result<Draft<'a>, NoMemory>
-    ensures { IfOk result (λ r. seen_rules r.rules
-        ≡ plain.goes_on body.past (plain.Worths (plain.Value 0) plain.Done)) }
-{
-    let value = make::worth(alloc, Worth::Value(0))?;
-    make::goes_on(alloc, PAST, value)
-}
-
 // The values of both operands.
-fn operands<'a>(alloc: Global) -> Result<Draft<'a>, NoMemory>
-    ensures { IfOk result (λ r. seen_rules r.rules ≡ plain.goes_on body.past
-        (plain.Worths (plain.Value 1) (plain.Worths (plain.Value 0) plain.Done))) }
+fn operands<'a>(alloc: Global) -> Draft<'a>
+    ensures { seen_rules result.rules ≡ plain.goes_on body.past
+        (plain.Worths (plain.Value 1) (plain.Worths (plain.Value 0) plain.Done)) }
 {
-    let last = make::worth(alloc, Worth::Value(0))?;
-    let both = make::worths(alloc, Worth::Value(1), last)?;
-    make::goes_on(alloc, PAST, both)
+    make::joins(alloc, PAST, Worth::Value(1), Worth::Value(0))
 }
 
 // Behind both operands comes what the operator makes of them.
@@ -168,8 +155,7 @@ fn combined<'a>(alloc: Global, op: BinOp, right: &TExpr) -> Result<Draft<'a>, No
         ≡ body.divides op (shown right.now) (body.skips op (plain.goes_on body.past
         (plain.Worths (plain.Value 1) (plain.Worths (plain.Value 0) plain.Done))))) }
 {
-    let values = operands(alloc)?;
-    let skipped = skips(alloc, op, values)?;
+    let skipped = skips(alloc, op, operands(alloc))?;
     divides(alloc, op, right, skipped)
 }
 
@@ -302,8 +288,7 @@ fn puts<'a>(alloc: Global, table: &'a Table, value: &TExpr) -> Result<Draft<'a>,
         ≡ plain.Part plain.Entry Next (body.exp (declares table.now) (shown value.now))
         (plain.goes_on body.past plain.Done)) }
 {
-    let rest = make::ends(alloc, PAST)?;
-    operand(alloc, table, ENTRY, value, rest)
+    operand(alloc, table, ENTRY, value, make::ends(alloc, PAST))
 }
 
 // The arguments of a call, and what it does behind them.
@@ -334,7 +319,7 @@ fn operates<'a>(alloc: Global, table: &'a Table, of: &TExpr) -> Result<Draft<'a>
         ≡ plain.Part plain.Entry Next (body.exp (declares table.now) (shown of.now))
         (plain.goes_on body.past (plain.Worths (plain.Value 0) plain.Done))) }
 {
-    let rest = valued(alloc)?;
+    let rest = make::gives(alloc, PAST, Worth::Value(0));
     operand(alloc, table, ENTRY, of, rest)
 }
 
@@ -359,7 +344,8 @@ fn combines<'a>(
 /// The node of an expression.
 #[cycle(exp)]
 pub fn exp<'a>(alloc: Global, table: &'a Table, e: &TExpr) -> Result<Known<'a>, NoMemory>
-    ensures { IfOk result (λ n. seen_node n.node ≡ body.exp (declares table.now) (shown e.now)) }
+    ensures { IfOk result (λ n. seen_node n.node.value
+        ≡ body.exp (declares table.now) (shown e.now)) }
 {
     let rules = rules_of(alloc, table, e)?;
     let node = rules.node(alloc, e.point)?;
@@ -372,14 +358,14 @@ fn rules_of<'a>(alloc: Global, table: &'a Table, e: &TExpr) -> Result<Draft<'a>,
         ≡ body.exp (declares table.now) (shown e.now)) }
 {
     match &e.kind {
-        TExprKind::Int(_) => make::ends(alloc, ENTRY),
-        TExprKind::Bool(_) => make::ends(alloc, ENTRY),
-        TExprKind::Null | TExprKind::This => make::ends(alloc, ENTRY),
-        TExprKind::New(class) => given(alloc, declared::birth(table, *class)),
-        TExprKind::Local(local) => make::gives(alloc, Worth::Held(*local)),
-        TExprKind::Static(class, field) => given(alloc, declared::field(table, *class, *field)),
+        TExprKind::Int(_) => Ok(make::ends(alloc, ENTRY)),
+        TExprKind::Bool(_) => Ok(make::ends(alloc, ENTRY)),
+        TExprKind::Null | TExprKind::This => Ok(make::ends(alloc, ENTRY)),
+        TExprKind::New(class) => Ok(given(alloc, declared::birth(table, *class))),
+        TExprKind::Local(local) => Ok(make::gives(alloc, ENTRY, Worth::Held(*local))),
+        TExprKind::Static(class, field) => Ok(given(alloc, declared::field(table, *class, *field))),
         TExprKind::Input(class, channel) => {
-            given(alloc, declared::channel(table, *class, *channel))
+            Ok(given(alloc, declared::channel(table, *class, *channel)))
         }
         TExprKind::Field(of, class, field) => {
             selects(alloc, table, of, declared::field(table, *class, *field))

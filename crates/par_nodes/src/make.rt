@@ -65,26 +65,14 @@ struct Boxes<'a> {
         ∷ parts_can (seen_rules more.value) },
 }
 
-fn in_boxes<'a>(
-    alloc: Global,
-    node: Node<'a>,
-    rules: Rules<'a>,
-) -> Result<(Box<Node<'a>>, Box<Rules<'a>>), NoMemory>
-    ensures { IfOk result (λ b. (b.0.value ≡ node.entry) × (b.1.value ≡ rules.entry)) }
-{
-    let node = Box::new(alloc, node)?;
-    let more = Box::new(alloc, rules)?;
-    Ok((node, more))
-}
-
 fn boxed<'a>(alloc: Global, part: Known<'a>, more: Draft<'a>) -> Result<Boxes<'a>, NoMemory>
-    ensures { IfOk result (λ b. (b.node.value ≡ part.entry.node)
+    ensures { IfOk result (λ b. (b.node.value ≡ part.entry.node.value)
         × (b.more.value ≡ more.entry.rules)) }
 {
     let Known { node, kinds } = part;
     let Draft { rules, mut found } = more;
     found.push(kinds)?;
-    let (node, more) = in_boxes(alloc, node, rules)?;
+    let more = Box::new(alloc, rules)?;
     Ok(Boxes { node, more, found })
 }
 
@@ -98,7 +86,7 @@ pub fn part<'a>(
     more: Draft<'a>,
 ) -> Result<Draft<'a>, NoMemory>
     ensures { IfOk result (λ r. seen_rules r.rules ≡ plain.Part (seen_origin from.entry)
-        (seen_absorber absorber) (seen_node part.entry.node) (seen_rules more.entry.rules)) }
+        (seen_absorber absorber) (seen_node part.entry.node.value) (seen_rules more.entry.rules)) }
 {
     let Boxes { node, more, found } = boxed(alloc, part, more)?;
     Ok(Draft {
@@ -115,7 +103,7 @@ pub fn then<'a>(
     more: Draft<'a>,
 ) -> Result<Draft<'a>, NoMemory>
     ensures { IfOk result (λ r. seen_rules r.rules ≡ plain.Part (seen_origin from.entry)
-        kinds.Next (seen_node part.entry.node) (seen_rules more.entry.rules)) }
+        kinds.Next (seen_node part.entry.node.value) (seen_rules more.entry.rules)) }
 {
     self::part(alloc, from, Absorber::Next, part, more)
 }
@@ -124,7 +112,7 @@ pub fn then<'a>(
 #[tactic(auto, using(crate::proofs::Forms::forms))]
 pub fn test<'a>(alloc: Global, part: Known<'a>, more: Draft<'a>) -> Result<Draft<'a>, NoMemory>
     ensures { IfOk result (λ r. seen_rules r.rules
-        ≡ plain.Test (seen_node part.entry.node) (seen_rules more.entry.rules)) }
+        ≡ plain.Test (seen_node part.entry.node.value) (seen_rules more.entry.rules)) }
 {
     let Boxes { node, more, found } = boxed(alloc, part, more)?;
     Ok(Draft {
@@ -174,12 +162,48 @@ pub fn goes_on<'a>(alloc: Global, from: Origin<'a>, more: Draft<'a>) -> Result<D
     leaves(alloc, from, Kind::Normal, more)
 }
 
-/// Nothing comes behind that.
-pub fn ends<'a>(alloc: Global, from: Origin<'a>) -> Result<Draft<'a>, NoMemory>
-    ensures { IfOk result (λ r. seen_rules r.rules
-        ≡ plain.Leaves (seen_origin from.entry) kinds.Normal plain.Done) }
+/// The way leaves the node, and nothing comes behind that.
+#[tactic(auto, using(crate::proofs::Forms::forms))]
+pub fn completes<'a>(alloc: Global, from: Origin<'a>, kind: Kind) -> Draft<'a>
+    ensures { seen_rules result.rules
+        ≡ plain.Leaves (seen_origin from.entry) (seen_kind kind) plain.Done }
 {
-    goes_on(alloc, from, done(alloc))
+    Draft {
+        rules: Rules::Ends(from, kind),
+        found: Vec::new(alloc),
+    }
+}
+
+/// The way goes on, and nothing comes behind that.
+pub fn ends<'a>(alloc: Global, from: Origin<'a>) -> Draft<'a>
+    ensures { seen_rules result.rules
+        ≡ plain.Leaves (seen_origin from.entry) kinds.Normal plain.Done }
+{
+    completes(alloc, from, Kind::Normal)
+}
+
+/// The way goes on, and the value is that and nothing else.
+#[tactic(auto, using(crate::proofs::Forms::forms))]
+pub fn gives<'a>(alloc: Global, from: Origin<'a>, worth: Worth) -> Draft<'a>
+    ensures { seen_rules result.rules ≡ plain.Leaves (seen_origin from.entry) kinds.Normal
+        (plain.Worths (seen_worth worth) plain.Done) }
+{
+    Draft {
+        rules: Rules::Gives(from, worth),
+        found: Vec::new(alloc),
+    }
+}
+
+/// The way goes on, and the value joins both and nothing else.
+#[tactic(auto, using(crate::proofs::Forms::forms))]
+pub fn joins<'a>(alloc: Global, from: Origin<'a>, one: Worth, other: Worth) -> Draft<'a>
+    ensures { seen_rules result.rules ≡ plain.Leaves (seen_origin from.entry) kinds.Normal
+        (plain.Worths (seen_worth one) (plain.Worths (seen_worth other) plain.Done)) }
+{
+    Draft {
+        rules: Rules::Joins(from, one, other),
+        found: Vec::new(alloc),
+    }
 }
 
 /// The value is at least that.
@@ -194,21 +218,4 @@ pub fn worths<'a>(alloc: Global, worth: Worth, more: Draft<'a>) -> Result<Draft<
         rules: Rules::Worths(worth, more),
         found,
     })
-}
-
-/// A value that is that and nothing else.
-pub fn worth<'a>(alloc: Global, worth: Worth) -> Result<Draft<'a>, NoMemory>
-    ensures { IfOk result (λ r. seen_rules r.rules
-        ≡ plain.Worths (seen_worth worth) plain.Done) }
-{
-    worths(alloc, worth, done(alloc))
-}
-
-/// The way goes on, and the value is that.
-pub fn gives<'a>(alloc: Global, worth: Worth) -> Result<Draft<'a>, NoMemory>
-    ensures { IfOk result (λ r. seen_rules r.rules ≡ plain.Leaves plain.Entry kinds.Normal
-        (plain.Worths (seen_worth worth) plain.Done)) }
-{
-    let value = self::worth(alloc, worth)?;
-    goes_on(alloc, ENTRY, value)
 }

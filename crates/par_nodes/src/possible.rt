@@ -164,6 +164,9 @@ fn add_rules(
 {
     match rules {
         Rules::Done => Ok(()),
+        Rules::Ends(from, kind) => leaves(kinds, comes(from, parts, left), *kind),
+        Rules::Gives(from, _) => leaves(kinds, comes(from, parts, left), Kind::Normal),
+        Rules::Joins(from, _, _) => leaves(kinds, comes(from, parts, left), Kind::Normal),
         Rules::Part(from, absorber, _, more) => {
             let reached = comes(from, parts, left);
             let rest = pass_part(alloc, absorber, reached, parts, left, kinds)?;

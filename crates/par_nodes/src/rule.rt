@@ -75,6 +75,12 @@ pub struct Node<'a> {
 #[cycle(rules)]
 pub enum Rules<'a> {
     Done,
+    /// The way leaves the node, and that is all.
+    Ends(Origin<'a>, Kind),
+    /// The way goes on behind the node, whose value is that, and that is all.
+    Gives(Origin<'a>, Worth),
+    /// The same with a value that joins both.
+    Joins(Origin<'a>, Worth, Worth),
     Part(Origin<'a>, Absorber, Box<Node<'a>>, Box<Rules<'a>>),
     Test(Box<Node<'a>>, Box<Rules<'a>>),
     Heads(Origin<'a>, Box<Rules<'a>>),

@@ -78,16 +78,6 @@ fn caught(alloc: Global, catches: &[TCatch]) -> Result<List<u16>, NoMemory>
     Ok(classes)
 }
 
-// A completion from the entering way.
-#[tactic(auto, using(crate::proofs::Forms::forms))]
-#[inline(never)]
-fn completes<'a>(alloc: Global, kind: Kind) -> Result<Draft<'a>, NoMemory>
-    ensures { IfOk result (λ r. seen_rules r.rules
-        ≡ plain.Leaves plain.Entry (seen_kind kind) plain.Done) }
-{
-    make::leaves(alloc, ENTRY, kind, make::done(alloc))
-}
-
 // A return, with its value before it.
 #[tactic(auto, using(crate::proofs::Forms::forms))]
 fn returns<'a>(
@@ -99,9 +89,9 @@ fn returns<'a>(
         ≡ behind_value (declares table.now) (may_shown value.now)) }
 {
     match value {
-        None => completes(alloc, Kind::Return),
+        None => Ok(make::completes(alloc, ENTRY, Kind::Return)),
         Some(value) => {
-            let leaves = make::leaves(alloc, PAST, Kind::Return, make::done(alloc))?;
+            let leaves = make::completes(alloc, PAST, Kind::Return);
             operand(alloc, table, ENTRY, value, leaves)
         }
     }
@@ -130,9 +120,20 @@ fn again<'a>(alloc: Global) -> Result<Draft<'a>, NoMemory>
         (plain.Heads (plain.After 0 kinds.Continue)
         (plain.goes_on (plain.After 0 kinds.Break) plain.Done))) }
 {
-    let broken = make::ends(alloc, BROKEN)?;
+    let broken = make::ends(alloc, BROKEN);
     let continued = make::heads(alloc, CONTINUED, broken)?;
     make::heads(alloc, PAST, continued)
+}
+
+// The block of a loop, with what stands behind it.
+fn looped<'a>(alloc: Global, block: Known<'a>) -> Result<Draft<'a>, NoMemory>
+    ensures { IfOk result (λ r. seen_rules r.rules
+        ≡ plain.Part body.tested kinds.Loop (seen_node block.entry.node.value)
+        (plain.Heads body.past (plain.Heads (plain.After 0 kinds.Continue)
+        (plain.goes_on (plain.After 0 kinds.Break) plain.Done)))) }
+{
+    let behind = again(alloc)?;
+    make::part(alloc, TESTED, Absorber::Loop, block, behind)
 }
 
 // A loop, whose block with what stands behind it is given.
@@ -184,7 +185,7 @@ fn assigns<'a>(
             assigned: Some((local, 0)),
             ..PAST
         },
-    )?;
+    );
     operand(alloc, table, ENTRY, value, goes)
 }
 
@@ -195,8 +196,7 @@ fn evaluates<'a>(alloc: Global, table: &'a Table, e: &TExpr) -> Result<Draft<'a>
         ≡ plain.Part plain.Entry kinds.Next (body.exp (declares table.now) (shown e.now))
         (plain.goes_on body.past plain.Done)) }
 {
-    let goes = make::ends(alloc, PAST)?;
-    operand(alloc, table, ENTRY, e, goes)
+    operand(alloc, table, ENTRY, e, make::ends(alloc, PAST))
 }
 
 // A write of a field of an object.
@@ -213,7 +213,7 @@ fn writes<'a>(
         (body.null_test (shown of.now) (plain.Tested 1 body.past)
         (plain.goes_on body.past plain.Done)))) }
 {
-    let goes = make::ends(alloc, PAST)?;
+    let goes = make::ends(alloc, PAST);
     let tested = null_test(
         alloc,
         of,
@@ -229,9 +229,9 @@ fn writes<'a>(
 
 // A lock is opened.
 #[inline(never)]
-fn opens<'a>(alloc: Global, lock: u16) -> Result<Draft<'a>, NoMemory>
-    ensures { IfOk result (λ r. seen_rules r.rules
-        ≡ plain.goes_on (plain.Opened (adding none lock) plain.Entry) plain.Done) }
+fn opens<'a>(alloc: Global, lock: u16) -> Draft<'a>
+    ensures { seen_rules result.rules
+        ≡ plain.goes_on (plain.Opened (adding none lock) plain.Entry) plain.Done }
 {
     make::ends(
         alloc,
@@ -244,9 +244,9 @@ fn opens<'a>(alloc: Global, lock: u16) -> Result<Draft<'a>, NoMemory>
 
 // A lock is closed.
 #[inline(never)]
-fn shuts<'a>(alloc: Global, lock: u16) -> Result<Draft<'a>, NoMemory>
-    ensures { IfOk result (λ r. seen_rules r.rules
-        ≡ plain.goes_on (plain.Shut (adding none lock) plain.Entry) plain.Done) }
+fn shuts<'a>(alloc: Global, lock: u16) -> Draft<'a>
+    ensures { seen_rules result.rules
+        ≡ plain.goes_on (plain.Shut (adding none lock) plain.Entry) plain.Done }
 {
     make::ends(
         alloc,
@@ -306,7 +306,7 @@ fn guarded<'a>(
 ) -> Result<Draft<'a>, NoMemory>
     ensures { IfOk result (λ r. seen_rules r.rules
         ≡ plain.Part plain.Entry (kinds.Catches (body.caught (all_catch clauses.now)))
-        (seen_node block.entry.node) (seen_rules handled.entry.rules)) }
+        (seen_node block.entry.node.value) (seen_rules handled.entry.rules)) }
 {
     let classes = caught(alloc, clauses)?;
     make::part(alloc, ENTRY, Absorber::Catches(classes), block, handled)
@@ -330,18 +330,25 @@ fn step<'a>(
     make::then(alloc, from, node, behind)
 }
 
-// The block of a loop, with what stands behind it.
+// A loop, whose block stands behind its test.
 #[cycle(sta)]
 #[inline(never)]
-fn looped<'a>(alloc: Global, table: &'a Table, block: &TStmt) -> Result<Draft<'a>, NoMemory>
+fn loops<'a>(
+    alloc: Global,
+    table: &'a Table,
+    block: &TStmt,
+    test: &TExpr,
+) -> Result<Draft<'a>, NoMemory>
     ensures { IfOk result (λ r. seen_rules r.rules
-        ≡ plain.Part body.tested kinds.Loop (body.sta (declares table.now) (does block.now))
+        ≡ plain.Test (body.exp (declares table.now) (shown test.now)) (plain.Heads plain.Entry
+        (body.if_not (body.is_forever (shown test.now)) (plain.goes_on body.past)
+        (plain.Part body.tested kinds.Loop (body.sta (declares table.now) (does block.now))
         (plain.Heads body.past (plain.Heads (plain.After 0 kinds.Continue)
-        (plain.goes_on (plain.After 0 kinds.Break) plain.Done)))) }
+        (plain.goes_on (plain.After 0 kinds.Break) plain.Done))))))) }
 {
-    let behind = again(alloc)?;
     let node = sta(alloc, table, block)?;
-    make::part(alloc, TESTED, Absorber::Loop, node, behind)
+    let part = looped(alloc, node)?;
+    repeats(alloc, table, test, part)
 }
 
 // Statements one after the other.
@@ -354,7 +361,7 @@ fn stas<'a>(alloc: Global, table: &'a Table, stmts: &[TStmt]) -> Result<Draft<'a
         start: start_at(stmts.len(), Start::Entry),
         ..ENTRY
     };
-    let mut rules = make::ends(alloc, last)?;
+    let mut rules = make::ends(alloc, last);
     for place in (0..stmts.len()).rev() {
         let from = Origin {
             start: start_at(place, Start::Entry),
@@ -367,7 +374,7 @@ fn stas<'a>(alloc: Global, table: &'a Table, stmts: &[TStmt]) -> Result<Draft<'a
 
 // From where a catch of the class is entered, behind as many others.
 fn catch_start(block: &Known, class: u16, before: usize) -> Start
-    ensures { seen_start result ≡ catch_start (seen_node block.now.node) class before }
+    ensures { seen_start result ≡ catch_start (seen_node block.now.node.value) class before }
 {
     let thrown = Kind::Throw(class);
     if block.kinds.has(thrown) {
@@ -386,9 +393,10 @@ fn catches<'a>(
     block: &Known,
 ) -> Result<Draft<'a>, NoMemory>
     ensures { IfOk result (λ r. seen_rules r.rules ≡ plain.goes_on body.past
-        (body.catches (declares table.now) (seen_node block.now.node) (all_catch catches.now) 0)) }
+        (body.catches (declares table.now) (seen_node block.now.node.value)
+        (all_catch catches.now) 0)) }
 {
-    let mut rules = make::ends(alloc, PAST)?;
+    let mut rules = make::ends(alloc, PAST);
     for place in (0..catches.len()).rev() {
         let catch = &catches[place];
         let from = Origin {
@@ -412,8 +420,9 @@ fn tries<'a>(
 ) -> Result<Draft<'a>, NoMemory>
     ensures { IfOk result (λ r. seen_rules r.rules
         ≡ plain.Part plain.Entry (kinds.Catches (body.caught (all_catch clauses.now)))
-        (seen_node block.entry.node) (plain.goes_on body.past (body.catches (declares table.now)
-        (seen_node block.entry.node) (all_catch clauses.now) 0))) }
+        (seen_node block.entry.node.value) (plain.goes_on body.past
+        (body.catches (declares table.now) (seen_node block.entry.node.value)
+        (all_catch clauses.now) 0))) }
 {
     let handled = catches(alloc, table, clauses, &block)?;
     guarded(alloc, clauses, block, handled)
@@ -432,19 +441,60 @@ fn else_rules<'a>(
         (else_rules (declares table.now) (otherwise other.now) (seen_origin from.entry))) }
 {
     match other {
-        None => make::ends(alloc, PAST),
+        None => Ok(make::ends(alloc, PAST)),
         Some(stmt) => {
-            let goes = make::ends(alloc, PAST)?;
+            let goes = make::ends(alloc, PAST);
             let rest = step(alloc, table, from, stmt, goes)?;
             make::goes_on(alloc, PAST, rest)
         }
     }
 }
 
+// A test, and the branch behind it, before what stands behind that.
+#[cycle(sta)]
+#[inline(never)]
+fn chooses<'a>(
+    alloc: Global,
+    table: &'a Table,
+    block: &TStmt,
+    test: &TExpr,
+    other: &Option<Box<TStmt>>,
+    rest: Draft<'a>,
+) -> Result<Draft<'a>, NoMemory>
+    ensures { IfOk result (λ r. seen_rules r.rules
+        ≡ plain.Part plain.Entry kinds.Next (body.exp (declares table.now) (shown test.now))
+        (goes_first (otherwise other.now) body.past (plain.Part body.tested kinds.Next
+        (body.sta (declares table.now) (does block.now)) (seen_rules rest.entry.rules)))) }
+{
+    let both = step(alloc, table, TESTED, block, rest)?;
+    decides(alloc, table, test, other, both)
+}
+
+// The branch of an open lock, before what stands behind it.
+#[cycle(sta)]
+#[inline(never)]
+fn opened<'a>(
+    alloc: Global,
+    table: &'a Table,
+    from: Origin<'a>,
+    block: &TStmt,
+    other: &Option<Box<TStmt>>,
+    rest: Draft<'a>,
+) -> Result<Draft<'a>, NoMemory>
+    ensures { IfOk result (λ r. seen_rules r.rules
+        ≡ goes_first (otherwise other.now) plain.Entry (plain.Part (seen_origin from.entry)
+        kinds.Next (body.sta (declares table.now) (does block.now))
+        (seen_rules rest.entry.rules))) }
+{
+    let both = step(alloc, table, from, block, rest)?;
+    goes_first(alloc, other, ENTRY, both)
+}
+
 /// The node of a statement.
 #[cycle(sta)]
 pub fn sta<'a>(alloc: Global, table: &'a Table, stmt: &TStmt) -> Result<Known<'a>, NoMemory>
-    ensures { IfOk result (λ n. seen_node n.node ≡ body.sta (declares table.now) (does stmt.now)) }
+    ensures { IfOk result (λ n. seen_node n.node.value
+        ≡ body.sta (declares table.now) (does stmt.now)) }
 {
     let rules = rules_of(alloc, table, stmt)?;
     let node = rules.node(alloc, stmt.point)?;
@@ -460,23 +510,19 @@ fn rules_of<'a>(alloc: Global, table: &'a Table, stmt: &TStmt) -> Result<Draft<'
         TStmtKind::Block(stmts) => stas(alloc, table, stmts.as_slice()),
         TStmtKind::If(test, block, other) => {
             let rest = else_rules(alloc, table, other, OTHERWISE)?;
-            let both = step(alloc, table, TESTED, block, rest)?;
-            decides(alloc, table, test, other, both)
+            chooses(alloc, table, block, test, other, rest)
         }
-        TStmtKind::While(test, block) => {
-            let part = looped(alloc, table, block)?;
-            repeats(alloc, table, test, part)
-        }
+        TStmtKind::While(test, block) => loops(alloc, table, block, test),
         TStmtKind::Try(block, clauses) => {
             let node = sta(alloc, table, block)?;
             tries(alloc, table, clauses.as_slice(), node)
         }
         TStmtKind::Return(value) => returns(alloc, table, value),
-        TStmtKind::Break => completes(alloc, Kind::Break),
-        TStmtKind::Continue => completes(alloc, Kind::Continue),
-        TStmtKind::Throw(class) => completes(alloc, Kind::Throw(*class)),
-        TStmtKind::OpenLock(lock) => opens(alloc, *lock),
-        TStmtKind::CloseLock(lock) => shuts(alloc, *lock),
+        TStmtKind::Break => Ok(make::completes(alloc, ENTRY, Kind::Break)),
+        TStmtKind::Continue => Ok(make::completes(alloc, ENTRY, Kind::Continue)),
+        TStmtKind::Throw(class) => Ok(make::completes(alloc, ENTRY, Kind::Throw(*class))),
+        TStmtKind::OpenLock(lock) => Ok(opens(alloc, *lock)),
+        TStmtKind::CloseLock(lock) => Ok(shuts(alloc, *lock)),
         TStmtKind::SetLocal(local, _, value) => assigns(alloc, table, *local, value),
         TStmtKind::SetStatic(_, _, value) => evaluates(alloc, table, value),
         TStmtKind::SetField(of, _, _, value) => writes(alloc, table, of, value),
@@ -484,8 +530,7 @@ fn rules_of<'a>(alloc: Global, table: &'a Table, stmt: &TStmt) -> Result<Draft<'
         TStmtKind::When(lock, block, other) => {
             let policy = declared::lock(table, *lock);
             let rest = else_rules(alloc, table, other, asked(policy))?;
-            let both = step(alloc, table, held(*lock, policy), block, rest)?;
-            goes_first(alloc, other, ENTRY, both)
+            opened(alloc, table, held(*lock, policy), block, other, rest)
         }
     }
 }

@@ -21,7 +21,7 @@ use Rattle.par_rounds.specs.declared.pass.Found.{Found}
 use Rattle.par_rounds.specs.declared.pass.SoFar.{SoFar}
 use Rattle.par_rounds.specs.Seen.{seen_exits, latest_first, AreWide}
 use Rattle.par_rounds.specs.Took.{Took}
-use Rattle.par_rounds.specs.Passes.{found_of, Passed}
+use Rattle.par_rounds.specs.Passes.{found_of, Passed, TookPart}
 use Rattle.par_rounds.proofs.Events.{then, took_none}
 use Rattle.par_rounds.proofs.Parts.{latest_push}
 
@@ -39,6 +39,28 @@ pass_as : (h : HeadWays) (more : Rules) (w : Way) (a b : Option ℕ) (fs gs : Li
     (r s : plain.Found) → a ≡ b → fs ≡ gs → r ≡ s
     → pass_all h more w a fs r ≡ pass_all h more w b gs s
 pass_as h more w a b fs gs r s e f g = cc
+
+-- a part that was passed, with the way that enters it seen as the rules see it
+pub took_part : (h : HeadWays) (absorbs : Kind → Bool) (o : Option Way) (n : Node) (so to : SoFar)
+    (entry : Option code_way.Way) (found : Found) (m0 m1 : Notes) → may_see entry ≡ o
+    → Passed found (visited (may_see entry) (spot n) (pass h n)) m0 m1
+    → to.parts.items ≡ so.parts.items
+    ++ record { entry = entry; value = found.value; exits = found.exits } ∷ []
+    → to.found.value ≡ so.found.value
+    → seen_exits to.found.exits.items
+    ≡ all (leaving absorbs (seen_exits found.exits.items)) (seen_exits so.found.exits.items)
+    → AreWide m0.locals to.found.exits.items
+    → TookPart absorbs o (visited o (spot n) (pass h n)) so to m0 m1
+took_part h absorbs o n so to entry found m0 m1 eo p ep ev ex wide = record {
+  entry = entry;
+  found = found;
+  enters = eo;
+  passed = subst (λ z. Passed found (visited z (spot n) (pass h n)) m0 m1) eo p;
+  parts = ep;
+  value = ev;
+  exits = ex;
+  wide = wide;
+}
 
 -- what goes on to be, from any events before
 abbrev pub GoesOn : HeadWays → Rules → Way → SoFar → Notes → Found → Notes → Type 0
@@ -89,7 +111,8 @@ module _ (h : HeadWays) (w : Way) (so to : SoFar) (r : Found) where
       (entry : Option code_way.Way) (found : Found) (m0 m1 m2 : Notes)
       → rules ≡ Part from a n more
       → may_see entry ≡ way numbers (Some w) (latest_first so.parts.items []) from
-      → Passed found (visited (may_see entry) (spot n) (pass h n)) m0 m1 → to.head ≡ so.head
+      → (let o = way numbers (Some w) (latest_first so.parts.items []) from in
+      Passed found (visited o (spot n) (pass h n)) m0 m1) → to.head ≡ so.head
       → to.parts.items ≡ so.parts.items
       ++ record { entry = entry; value = found.value; exits = found.exits } ∷ []
       → to.found.value ≡ so.found.value
@@ -103,12 +126,12 @@ module _ (h : HeadWays) (w : Way) (so to : SoFar) (r : Found) where
       (λ z. Passed r (pass_all h z w so.head (latest_first so.parts.items []) (found_of so.found l))
       m m2) (sym is)
       (part_goes more (absorbed a) so.head o entry found (visited o (spot n) (pass h n)) m0 m1 m2 eo
-      (subst (λ z. Passed found (visited z (spot n) (pass h n)) m0 m1) eo p) eh ep ev ex ih l m t)
+      p eh ep ev ex ih l m t)
 
   pub test_arm : (rules : Rules) (n : Node) (more : Rules) (entry : Option code_way.Way)
       (found : Found) (m0 m1 m2 : Notes)
       → rules ≡ Test n more → may_see entry ≡ h (spot n)
-      → Passed found (visited (may_see entry) (spot n) (pass h n)) m0 m1 → to.head ≡ Some (spot n)
+      → Passed found (visited (h (spot n)) (spot n) (pass h n)) m0 m1 → to.head ≡ Some (spot n)
       → to.parts.items ≡ so.parts.items
       ++ record { entry = entry; value = found.value; exits = found.exits } ∷ []
       → to.found.value ≡ so.found.value
@@ -122,8 +145,7 @@ module _ (h : HeadWays) (w : Way) (so to : SoFar) (r : Found) where
       (λ z. Passed r (pass_all h z w so.head (latest_first so.parts.items []) (found_of so.found l))
       m m2) (sym is)
       (part_goes more normal (Some (spot n)) o entry found
-      (visited o (spot n) (pass h n)) m0 m1 m2 eo
-      (subst (λ z. Passed found (visited z (spot n) (pass h n)) m0 m1) eo p) eh ep ev ex ih l m t)
+      (visited o (spot n) (pass h n)) m0 m1 m2 eo p eh ep ev ex ih l m t)
 
   pub leaves_arm : (rules : Rules) (from : From) (k : Kind) (more : Rules) (m0 m2 : Notes)
       → rules ≡ Leaves from k more → to.head ≡ so.head → to.parts ≡ so.parts
@@ -156,6 +178,67 @@ module _ (h : HeadWays) (w : Way) (so to : SoFar) (r : Found) where
       (pass_as h more w to.head so.head _ _ _ _ eh (ap (λ ps. latest_first ps.items []) ep)
       (found_as _ _ _ _ _ _ ev (ap (λ xs. seen_exits xs.items) ex) refl))
       (ih l m t))
+
+-- the way leaves, and that is all
+pub ends_arm : (h : HeadWays) (w : Way) (so to : SoFar) (rules : Rules) (from : From) (k : Kind)
+    (m0 : Notes) → rules ≡ Leaves from k Done → to.head ≡ so.head → to.parts ≡ so.parts
+    → to.found.value ≡ so.found.value
+    → seen_exits to.found.exits.items
+    ≡ all (leave (way numbers (Some w) (latest_first so.parts.items []) from) k)
+    (seen_exits so.found.exits.items)
+    → AreWide m0.locals to.found.exits.items → GoesOn h rules w so m0 to.found m0
+ends_arm h w so to rules from k m0 is eh ep ev ex wide =
+    leaves_arm h w so to to.found rules from k Done m0 m0 is eh ep ev ex
+    (done_goes h Done w to m0 refl
+    (λ m e. subst (λ n. AreWide n to.found.exits.items) e wide))
+
+-- the last part of the value
+pub last_arm : (h : HeadWays) (w : Way) (so to : SoFar) (v : Worth) (m0 : Notes)
+    → AreWide m0.locals so.found.exits.items → to.head ≡ so.head → to.parts ≡ so.parts
+    → has to.found.value ≡ union (has so.found.value)
+    (worth numbers (Some w) (latest_first so.parts.items []) v)
+    → to.found.exits ≡ so.found.exits → GoesOn h (Worths v Done) w so m0 to.found m0
+last_arm h w so to v m0 wide eh ep ev ex =
+    worths_arm h w so to to.found (Worths v Done) v Done m0 m0 refl eh ep ev ex
+    (done_goes h Done w to m0 refl
+    (λ m e. subst (λ n. AreWide n to.found.exits.items) e
+    (subst (λ xs. AreWide m0.locals xs.items) (sym ex) wide)))
+
+-- the way leaves, and the node has a value
+pub gives_arm : (h : HeadWays) (w : Way) (so left to : SoFar) (rules : Rules) (from : From)
+    (k : Kind) (v : Worth) (m0 : Notes) → rules ≡ Leaves from k (Worths v Done)
+    → left.head ≡ so.head → left.parts ≡ so.parts → left.found.value ≡ so.found.value
+    → seen_exits left.found.exits.items
+    ≡ all (leave (way numbers (Some w) (latest_first so.parts.items []) from) k)
+    (seen_exits so.found.exits.items)
+    → AreWide m0.locals left.found.exits.items → to.head ≡ left.head → to.parts ≡ left.parts
+    → has to.found.value ≡ union (has left.found.value)
+    (worth numbers (Some w) (latest_first left.parts.items []) v)
+    → to.found.exits ≡ left.found.exits → GoesOn h rules w so m0 to.found m0
+gives_arm h w so left to rules from k v m0 is eh ep ev ex wide fh fp fv fx =
+    leaves_arm h w so left to.found rules from k (Worths v Done) m0 m0 is eh ep ev ex
+    (last_arm h w left to v m0 wide fh fp fv fx)
+
+-- the way leaves, and the value of the node joins two
+pub joins_arm : (h : HeadWays) (w : Way) (so left half to : SoFar) (rules : Rules) (from : From)
+    (k : Kind) (v u : Worth) (m0 : Notes) → rules ≡ Leaves from k (Worths v (Worths u Done))
+    → left.head ≡ so.head → left.parts ≡ so.parts → left.found.value ≡ so.found.value
+    → seen_exits left.found.exits.items
+    ≡ all (leave (way numbers (Some w) (latest_first so.parts.items []) from) k)
+    (seen_exits so.found.exits.items)
+    → AreWide m0.locals left.found.exits.items → half.head ≡ left.head → half.parts ≡ left.parts
+    → has half.found.value ≡ union (has left.found.value)
+    (worth numbers (Some w) (latest_first left.parts.items []) v)
+    → half.found.exits ≡ left.found.exits → to.head ≡ half.head → to.parts ≡ half.parts
+    → has to.found.value ≡ union (has half.found.value)
+    (worth numbers (Some w) (latest_first half.parts.items []) u)
+    → to.found.exits ≡ half.found.exits → GoesOn h rules w so m0 to.found m0
+joins_arm h w so left half to rules from k v u m0 is eh ep ev ex wide fh fp fv fx gh gp gv gx =
+    leaves_arm h w so left to.found rules from k (Worths v (Worths u Done)) m0 m0 is eh ep ev ex
+    (worths_arm h w left half to.found (Worths v (Worths u Done)) v (Worths u Done) m0 m0 refl
+    fh fp fv fx
+    (last_arm h w half to u m0 (subst (λ xs. AreWide m0.locals xs.items) (sym fx) wide)
+    gh gp gv gx))
 
 pub heads_arm : (h : HeadWays) (w : Way) (so : SoFar) (r : Found) (rules : Rules) (from : From)
     (more : Rules) (m0 m1 m2 : Notes)

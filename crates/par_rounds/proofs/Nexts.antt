@@ -11,6 +11,20 @@ module _ (rules : Rules) (n : ℕ) where
   unfolding next_by
   done_next e = sym (ap (next_by n) e)
 
+  pub ends_next : (from : From) (k : Kind) → rules ≡ Leaves from k Done → n ≡ next_by n rules
+  unfolding next_by
+  ends_next from k e = sym (ap (next_by n) e)
+
+  pub gives_next : (from : From) (k : Kind) (v : Worth) → rules ≡ Leaves from k (Worths v Done)
+      → n ≡ next_by n rules
+  unfolding next_by
+  gives_next from k v e = sym (ap (next_by n) e)
+
+  pub joins_next : (from : From) (k : Kind) (v u : Worth)
+      → rules ≡ Leaves from k (Worths v (Worths u Done)) → n ≡ next_by n rules
+  unfolding next_by
+  joins_next from k v u e = sym (ap (next_by n) e)
+
   pub part_next : (from : From) (a : Absorber) (part : Node) (more : Rules) (r : ℕ)
       → rules ≡ Part from a part more → r ≡ next_by (next part) more → r ≡ next_by n rules
   unfolding next_by

@@ -2,6 +2,7 @@
 use Rattle.std.proofs.Common.{◌≡◌, ap, sym, ◌∙◌}
 use Rattle.std.specs.declared.boxed.Box.{Box}
 use Rattle.std.specs.declared.alloc.Global.{Global}
+use Rattle.par_flow_laws.specs.Kinds.{Normal}
 use Rattle.par_flow_laws.specs.Rules as plain
 use Rattle.par_nodes.specs.declared.rule.Kind.{Kind}
 use Rattle.par_nodes.specs.declared.rule.Origin.{Origin}
@@ -13,10 +14,25 @@ use Rattle.par_nodes.specs.declared.rule.Rules.TheVariants as rule
 use Rattle.par_nodes.specs.Seen.{seen_kind, seen_origin, seen_worth, seen_absorber, seen_rules}
 use Rattle.par_nodes.specs.Seen.{seen_node}
 use Rattle.par_nodes.proofs.Forms.{seen_done, seen_part, seen_test, seen_heads, seen_leaves}
-use Rattle.par_nodes.proofs.Forms.{seen_worths}
+use Rattle.par_nodes.proofs.Forms.{seen_worths, seen_ends, seen_gives, seen_joins}
 
 pub is_done : (rs : Rules) → rs ≡ rule.Done → seen_rules rs ≡ plain.Done
 is_done rs is = ap seen_rules is ∙ seen_done
+
+pub is_ends : (rs : Rules) (o : Origin) (k : Kind) → rs ≡ rule.Ends o k
+    → seen_rules rs ≡ plain.Leaves (seen_origin o) (seen_kind k) plain.Done
+is_ends rs o k is = ap seen_rules is ∙ seen_ends o k
+
+pub is_gives : (rs : Rules) (o : Origin) (v : Worth) → rs ≡ rule.Gives o v
+    → seen_rules rs
+    ≡ plain.Leaves (seen_origin o) Normal (plain.Worths (seen_worth v) plain.Done)
+is_gives rs o v is = ap seen_rules is ∙ seen_gives o v
+
+pub is_joins : (rs : Rules) (o : Origin) (v u : Worth) → rs ≡ rule.Joins o v u
+    → seen_rules rs
+    ≡ plain.Leaves (seen_origin o) Normal
+    (plain.Worths (seen_worth v) (plain.Worths (seen_worth u) plain.Done))
+is_joins rs o v u is = ap seen_rules is ∙ seen_joins o v u
 
 pub is_part : (rs : Rules) (o : Origin) (a : Absorber) (b : Box Node Global) (q : Box Rules Global)
     (n : Node) (m : Rules) → rs ≡ rule.Part o a b q → n ≡ b.value → m ≡ q.value

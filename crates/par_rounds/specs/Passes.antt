@@ -1,11 +1,15 @@
 -- What a pass that runs needs, and what it gives.
-use Rattle.std.specs.Prelude.{◌≡◌, ◌<◌, ℕ, Option, Some, None, List, length}
+use Rattle.std.specs.Prelude.{◌≡◌, ◌<◌, ℕ, Bool, Option, Some, None, List, [], ◌∷◌}
+use Rattle.std.specs.Prelude.{◌++◌, length}
 use Rattle.par_bits.specs.Sets.{has}
+use Rattle.par_flow_laws.specs.Kinds.{Kind}
 use Rattle.par_flow_laws.specs.Ranges.{IsFromInRange, IsWorthInRange}
 use Rattle.par_flow_laws.specs.Rules.{Node, node, Rules, Done, Part, Test, Heads, Leaves, Worths}
 use Rattle.par_flow_laws.specs.Rules.{spot}
 use Rattle.par_pass_laws.specs.par_except.declared.way.Way.{Way}
-use Rattle.par_pass_laws.specs.par_except.Seen.{HasLocals}
+use Rattle.par_pass_laws.specs.par_except.Seen.{may_see, HasLocals}
+use Rattle.par_pass_laws.specs.Exits as plain_exits
+use Rattle.par_pass_laws.specs.Exits.{all, leaving}
 use Rattle.par_pass_laws.specs.Pass as plain
 use Rattle.par_pass_laws.specs.Pass.{Event}
 use Rattle.par_rounds.specs.declared.notes.Notes.{Notes}
@@ -39,6 +43,20 @@ pub record Passed (r : Found) (q : plain.Found) (m n : Notes) : Type 0 where
   pub exits : seen_exits r.exits.items ≡ q.exits
   pub wide : AreWide m.locals r.exits.items
   pub noted : Took q.events m n
+
+-- a part that this way enters has been passed: what was found in it, and what it adds
+pub record TookPart (absorbs : Kind → Bool) (o : Option plain_exits.Way) (q : plain.Found)
+    (so to : SoFar) (m n : Notes) : Type 0 where
+  pub entry : Option Way
+  pub found : Found
+  pub enters : may_see entry ≡ o
+  pub passed : Passed found q m n
+  pub parts : to.parts.items
+      ≡ so.parts.items ++ record { entry = entry; value = found.value; exits = found.exits } ∷ []
+  pub value : to.found.value ≡ so.found.value
+  pub exits : seen_exits to.found.exits.items
+      ≡ all (leaving absorbs (seen_exits found.exits.items)) (seen_exits so.found.exits.items)
+  pub wide : AreWide m.locals to.found.exits.items
 
 -- all ways keep policies for as many locals
 pub record IsReady (w : Way) (hs : List (Option Way)) (n : Notes) : Type 0 where

@@ -42,6 +42,9 @@ fn next_by(rules: &Rules, from: usize) -> usize
         Rules::Heads(_, more) => next_by(more, from),
         Rules::Leaves(_, _, more) => next_by(more, from),
         Rules::Worths(_, more) => next_by(more, from),
+        Rules::Ends(_, _) => from,
+        Rules::Gives(_, _) => from,
+        Rules::Joins(_, _, _) => from,
     }
 }
 

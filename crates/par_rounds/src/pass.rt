@@ -1,7 +1,7 @@
 // One pass over a node.
 ghost use Rattle.std.specs.Prelude.{◌≡◌, ℕ, [], ◌∷◌, ◌++◌, List, OnOk, IfOk, length};
 ghost use Rattle.par_bits.specs.Sets.{has, none};
-ghost use Rattle.par_flow_laws.specs.Kinds.{absorbed};
+ghost use Rattle.par_flow_laws.specs.Kinds.{absorbed, normal};
 ghost use Rattle.par_flow_laws.specs.Lattice.{numbers};
 ghost use Rattle.par_flow_laws.specs.Ranges.{IsFromInRange};
 ghost use Rattle.par_flow_laws.specs.Rules.{spot, way as way_from};
@@ -14,7 +14,8 @@ ghost use Rattle.par_rounds.specs.Seen.{latest_first, seen_exits, seen_fact, way
 ghost use Rattle.par_rounds.specs.Seen.{AreWide, AreHeadsWide, AreFactsWide};
 ghost use Rattle.par_rounds.specs.Took.{Took};
 ghost use Rattle.par_rounds.specs.declared.notes.Notes.{Notes as Noted};
-ghost use Rattle.par_rounds.specs.Passes.{found_of, Passed, IsReady, IsSoFar, IsHeadInRange};
+ghost use Rattle.par_rounds.specs.Passes.{found_of, Passed, TookPart, IsReady, IsSoFar};
+ghost use Rattle.par_rounds.specs.Passes.{IsHeadInRange};
 ghost use Rattle.par_rounds.specs.Passes.{IsPassable, ArePassable};
 
 use crate::changes::{way_at, worth_at};
@@ -224,6 +225,63 @@ fn visit(
     }
 }
 
+// Goes through the next part, which is entered from there.
+#[cycle(pass)]
+#[inline(never)]
+fn pass_part(
+    alloc: Global,
+    part: &Node,
+    from: &Origin,
+    absorber: &Absorber,
+    way: &SharedWay,
+    heads: &[Option<SharedWay>],
+    so: &mut SoFar,
+    notes: &mut Notes,
+) -> Result<(), NoMemory>
+    requires ready { IsReady way.now heads.now notes.old }
+    requires so_far { IsSoFar notes.old so.old }
+    requires range { IsFromInRange notes.old.locals (seen_origin from.now) }
+    requires node { IsPassable notes.old.locals (length notes.old.heads.items)
+        (seen_node part.now) }
+    ensures head { OnOk result (so.new.head ≡ so.old.head) }
+    ensures took { OnOk result (let o = way_from numbers (Some (seen way.now))
+        (latest_first so.old.parts.items []) (seen_origin from.now) in
+        TookPart (absorbed (seen_absorber absorber.now)) o (visited o (spot (seen_node part.now))
+        (pass (ways_of heads.now) (seen_node part.now))) so.old so.new notes.old notes.new) }
+{
+    let entry = way_at(alloc, way, &so.parts, from)?;
+    let found = visit(alloc, part, &entry, heads, notes)?;
+    take(alloc, so, entry, found, absorber)?;
+    Ok(())
+}
+
+// Goes through the test of a loop, which is entered from the head of the loop.
+#[cycle(pass)]
+#[inline(never)]
+fn pass_test(
+    alloc: Global,
+    part: &Node,
+    heads: &[Option<SharedWay>],
+    so: &mut SoFar,
+    notes: &mut Notes,
+) -> Result<(), NoMemory>
+    requires heads { AreHeadsWide notes.old.locals heads.now
+        × AreHeadsWide notes.old.locals notes.old.heads.items }
+    requires so_far { IsSoFar notes.old so.old }
+    requires node { IsPassable notes.old.locals (length notes.old.heads.items)
+        (seen_node part.now) }
+    ensures head { OnOk result (so.new.head ≡ Some (spot (seen_node part.now))) }
+    ensures took { OnOk result (let o = ways_of heads.now (spot (seen_node part.now)) in
+        TookPart normal o (visited o (spot (seen_node part.now))
+        (pass (ways_of heads.now) (seen_node part.now))) so.old so.new notes.old notes.new) }
+{
+    let entry = head_at(heads, part.point)?;
+    let found = visit(alloc, part, &entry, heads, notes)?;
+    take(alloc, so, entry, found, &Absorber::Next)?;
+    so.head = Some(part.point);
+    Ok(())
+}
+
 // Goes through rules, one after the other.
 #[cycle(pass)]
 fn pass_rules(
@@ -246,17 +304,12 @@ fn pass_rules(
     match rules {
         Rules::Done => Ok(()),
         Rules::Part(from, absorber, part, more) => {
-            let entry = way_at(alloc, way, &so.parts, from)?;
-            let found = visit(alloc, part, &entry, heads, notes)?;
-            take(alloc, so, entry, found, absorber)?;
+            pass_part(alloc, part, from, absorber, way, heads, so, notes)?;
             pass_rules(alloc, more, way, heads, so, notes)?;
             Ok(())
         }
         Rules::Test(part, more) => {
-            let entry = head_at(heads, part.point)?;
-            let found = visit(alloc, part, &entry, heads, notes)?;
-            take(alloc, so, entry, found, &Absorber::Next)?;
-            so.head = Some(part.point);
+            pass_test(alloc, part, heads, so, notes)?;
             pass_rules(alloc, more, way, heads, so, notes)?;
             Ok(())
         }
@@ -274,6 +327,24 @@ fn pass_rules(
             let worth = worth_at(way, &so.parts, *worth);
             so.found.value = so.found.value.union(&worth);
             pass_rules(alloc, more, way, heads, so, notes)?;
+            Ok(())
+        }
+        Rules::Ends(from, kind) => {
+            leave(alloc, way, from, *kind, so)?;
+            Ok(())
+        }
+        Rules::Gives(from, worth) => {
+            leave(alloc, way, from, Kind::Normal, so)?;
+            let worth = worth_at(way, &so.parts, *worth);
+            so.found.value = so.found.value.union(&worth);
+            Ok(())
+        }
+        Rules::Joins(from, one, other) => {
+            leave(alloc, way, from, Kind::Normal, so)?;
+            let one = worth_at(way, &so.parts, *one);
+            so.found.value = so.found.value.union(&one);
+            let other = worth_at(way, &so.parts, *other);
+            so.found.value = so.found.value.union(&other);
             Ok(())
         }
     }

@@ -28,58 +28,46 @@ args-loop-place-preserved t c =
 pub rules_of-returns-in-Int : goal.rules_of-returns-in-Int
 rules_of-returns-in-Int t c =
     let e = c.args.e.now in
-    IfOk-weaker c.ends.result _ _
-    (λ r. int_made (declares c.args.table.now) e.kind (mark_of e) _ (seen_rules r.rules)
-    c.in-Int.is)
-    c.ends.ensures
+    int_made (declares c.args.table.now) e.kind (mark_of e) _ (seen_rules c.ends.result.rules)
+    c.in-Int.is c.ends.ensures
 
 pub rules_of-returns-in-Bool : goal.rules_of-returns-in-Bool
 rules_of-returns-in-Bool t c =
     let e = c.args.e.now in
-    IfOk-weaker c.ends-in-Bool.result _ _
-    (λ r. bool_made (declares c.args.table.now) e.kind (mark_of e) _ (seen_rules r.rules)
-    c.in-Bool.is)
-    c.ends-in-Bool.ensures
+    bool_made (declares c.args.table.now) e.kind (mark_of e) _
+    (seen_rules c.ends-in-Bool.result.rules) c.in-Bool.is c.ends-in-Bool.ensures
 
 pub rules_of-returns-in-Null : goal.rules_of-returns-in-Null
 rules_of-returns-in-Null t c =
     let e = c.args.e.now in
-    IfOk-weaker c.ends-in-Null.result _ _
-    (λ r. nullary_made (declares c.args.table.now) e.kind (mark_of e) (seen_rules r.rules)
-    c.in-Null.is)
-    c.ends-in-Null.ensures
+    nullary_made (declares c.args.table.now) e.kind (mark_of e)
+    (seen_rules c.ends-in-Null.result.rules) c.in-Null.is c.ends-in-Null.ensures
 
 pub rules_of-returns-in-New : goal.rules_of-returns-in-New
 rules_of-returns-in-New t c =
     let e = c.args.e.now in
-    IfOk-weaker c.given.result _ _
-    (λ r. new_made (declares c.args.table.now) e.kind (mark_of e) c.in-New.class
-    c.birth.result (seen_rules r.rules) c.in-New.is c.birth.ensures)
-    c.given.ensures
+    new_made (declares c.args.table.now) e.kind (mark_of e) c.in-New.class
+    c.birth.result (seen_rules c.given.result.rules) c.in-New.is c.birth.ensures c.given.ensures
 
 pub rules_of-returns-in-Local : goal.rules_of-returns-in-Local
 rules_of-returns-in-Local t c =
     let e = c.args.e.now in
-    IfOk-weaker c.gives.result _ _
-    (λ r. local_made (declares c.args.table.now) e.kind (mark_of e) c.in-Local.local
-    (seen_rules r.rules) c.in-Local.is)
-    c.gives.ensures
+    local_made (declares c.args.table.now) e.kind (mark_of e) c.in-Local.local
+    (seen_rules c.gives.result.rules) c.in-Local.is c.gives.ensures
 
 pub rules_of-returns-in-Static : goal.rules_of-returns-in-Static
 rules_of-returns-in-Static t c =
     let e = c.args.e.now in
-    IfOk-weaker c.given-in-Static.result _ _
-    (λ r. static_made (declares c.args.table.now) e.kind (mark_of e) c.in-Static.class
-    c.in-Static.field c.field.result (seen_rules r.rules) c.in-Static.is c.field.ensures)
-    c.given-in-Static.ensures
+    static_made (declares c.args.table.now) e.kind (mark_of e) c.in-Static.class
+    c.in-Static.field c.field.result (seen_rules c.given-in-Static.result.rules) c.in-Static.is
+    c.field.ensures c.given-in-Static.ensures
 
 pub rules_of-returns-in-Input : goal.rules_of-returns-in-Input
 rules_of-returns-in-Input t c =
     let e = c.args.e.now in
-    IfOk-weaker c.given-in-Input.result _ _
-    (λ r. input_made (declares c.args.table.now) e.kind (mark_of e) c.in-Input.class
-    c.in-Input.channel c.channel.result (seen_rules r.rules) c.in-Input.is c.channel.ensures)
-    c.given-in-Input.ensures
+    input_made (declares c.args.table.now) e.kind (mark_of e) c.in-Input.class
+    c.in-Input.channel c.channel.result (seen_rules c.given-in-Input.result.rules) c.in-Input.is
+    c.channel.ensures c.given-in-Input.ensures
 
 pub rules_of-returns-in-Field : goal.rules_of-returns-in-Field
 rules_of-returns-in-Field t c =

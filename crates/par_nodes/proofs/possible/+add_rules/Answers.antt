@@ -2,13 +2,40 @@ use Rattle.std.proofs.Common.{◌∙◌}
 use Rattle.std.proofs.lemmas.Result.{on_ok_weaker}
 use Rattle.par_nodes.specs.Possible.{among, coming, passed}
 use Rattle.par_nodes.proofs.Completing.{part_made, test_made, leaves_made, done_made, heads_made}
-use Rattle.par_nodes.proofs.Completing.{worths_made, leaves_told, heads_told, worths_told}
+use Rattle.par_nodes.proofs.Completing.{ends_made, gives_made, joins_made, worths_made}
+use Rattle.par_nodes.proofs.Completing.{leaves_told, heads_told, worths_told}
 use Rattle.par_nodes.proofs.possible.+add_rules.Goals as goal
 
 pub returns-in-Done : goal.returns-in-Done
 returns-in-Done t c =
     λ h. done_made c.args.rules.now (passed c.args.left c.args.parts.now)
     (among c.args.kinds.now) c.in-Done.is
+
+pub returns-in-Ends : goal.returns-in-Ends
+returns-in-Ends t c =
+    on_ok_weaker c.leaves.result
+    (λ kept h. ends_made c.args.rules.now c.in-Ends.from c.in-Ends.kind
+    (passed c.args.left c.args.parts.now) (among c.args.kinds.now) (among c.leaves.new.kinds)
+    c.comes.result c.in-Ends.is c.comes.ensures kept)
+    c.leaves.ensures
+
+pub returns-in-Gives : goal.returns-in-Gives
+returns-in-Gives t c =
+    on_ok_weaker c.leaves-in-Gives.result
+    (λ kept h. gives_made c.args.rules.now c.in-Gives.from _
+    (passed c.args.left c.args.parts.now) (among c.args.kinds.now)
+    (among c.leaves-in-Gives.new.kinds) c.comes-in-Gives.result c.in-Gives.is
+    c.comes-in-Gives.ensures kept)
+    c.leaves-in-Gives.ensures
+
+pub returns-in-Joins : goal.returns-in-Joins
+returns-in-Joins t c =
+    on_ok_weaker c.leaves-in-Joins.result
+    (λ kept h. joins_made c.args.rules.now c.in-Joins.from _ _
+    (passed c.args.left c.args.parts.now) (among c.args.kinds.now)
+    (among c.leaves-in-Joins.new.kinds) c.comes-in-Joins.result c.in-Joins.is
+    c.comes-in-Joins.ensures kept)
+    c.leaves-in-Joins.ensures
 
 pub returns-in_ok-rest-in-Part : goal.returns-in_ok-rest-in-Part
 returns-in_ok-rest-in-Part t c =
@@ -39,7 +66,8 @@ returns-in_ok-leaves-in-Leaves t c =
     on_ok_weaker c.add_rules-in-Leaves.result
     (λ more h. leaves_made c.args.rules.now c.in-Leaves.from c.in-Leaves.kind c.in-Leaves.more
     (passed c.args.left c.args.parts.now) c.deref-in-Leaves.result.now
-    (among c.args.kinds.now) (among c.leaves.new.kinds) (among c.add_rules-in-Leaves.new.kinds)
+    (among c.args.kinds.now) (among c.leaves-in-Leaves.new.kinds)
+    (among c.add_rules-in-Leaves.new.kinds)
     c.comes-reached-in-Leaves.result c.in-Leaves.is c.comes-reached-in-Leaves.ensures
     c.in_ok-leaves-in-Leaves.ensures c.deref-in-Leaves.ensures
     (more (h ∙ leaves_told _ _ _ _ _ c.in-Leaves.is c.deref-in-Leaves.ensures)))

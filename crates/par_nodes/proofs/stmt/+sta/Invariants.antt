@@ -15,5 +15,5 @@ invariant-stas-loop-place l =
 abbrev pub invariant-catches-loop-place : goal.invariant-catches-loop-place
 invariant-catches-loop-place l =
     seen_rules l.rules.rules
-    ≡ goes_on past (catches (declares l.table) (seen_node l.block.node)
+    ≡ goes_on past (catches (declares l.table) (seen_node l.block.node.value)
     (all_catch (drop l.place l.catches)) l.place)

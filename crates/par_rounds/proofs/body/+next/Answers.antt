@@ -1,10 +1,13 @@
 use Rattle.std.proofs.Common.{ap, ◌∙◌}
+use Rattle.par_flow_laws.specs.Kinds.{Normal}
 use Rattle.par_flow_laws.specs.Numbered.{next_by}
 use Rattle.par_nodes.specs.Seen.{seen_kind, seen_origin, seen_worth, seen_absorber, seen_rules}
 use Rattle.par_nodes.specs.Seen.{seen_node}
 use Rattle.par_rounds.proofs.Trees.{is_done, is_part, is_test, is_heads, is_leaves, is_worths}
+use Rattle.par_rounds.proofs.Trees.{is_ends, is_gives, is_joins}
 use Rattle.par_rounds.proofs.Nexts.{node_next, done_next, part_next, test_next, heads_next}
-use Rattle.par_rounds.proofs.Nexts.{leaves_next, worths_next}
+use Rattle.par_rounds.proofs.Nexts.{leaves_next, worths_next, ends_next, gives_next}
+use Rattle.par_rounds.proofs.Nexts.{joins_next}
 use Rattle.par_rounds.proofs.body.+next.Goals as goal
 
 pub next-returns : goal.next-returns
@@ -57,3 +60,22 @@ next_by-returns-in-Worths t c =
     (seen_rules c.deref-in-Worths.result.now) c.next_by-in-Worths.result
     (is_worths c.args.rules.now c.in-Worths.field-0 c.in-Worths.more c.deref-in-Worths.result.now
     c.in-Worths.is c.deref-in-Worths.ensures) c.next_by-in-Worths.ensures
+
+pub next_by-returns-in-Ends : goal.next_by-returns-in-Ends
+next_by-returns-in-Ends t c =
+    ends_next (seen_rules c.args.rules.now) c.args.from (seen_origin c.in-Ends.field-0)
+    (seen_kind c.in-Ends.field-1)
+    (is_ends c.args.rules.now c.in-Ends.field-0 c.in-Ends.field-1 c.in-Ends.is)
+
+pub next_by-returns-in-Gives : goal.next_by-returns-in-Gives
+next_by-returns-in-Gives t c =
+    gives_next (seen_rules c.args.rules.now) c.args.from (seen_origin c.in-Gives.field-0) Normal
+    (seen_worth c.in-Gives.field-1)
+    (is_gives c.args.rules.now c.in-Gives.field-0 c.in-Gives.field-1 c.in-Gives.is)
+
+pub next_by-returns-in-Joins : goal.next_by-returns-in-Joins
+next_by-returns-in-Joins t c =
+    let j = c.in-Joins in
+    joins_next (seen_rules c.args.rules.now) c.args.from (seen_origin j.field-0) Normal
+    (seen_worth j.field-1) (seen_worth j.field-2)
+    (is_joins c.args.rules.now j.field-0 j.field-1 j.field-2 j.is)
