@@ -8,6 +8,7 @@ pub mod Gathered
 pub mod Written
 pub mod Sizes
 pub mod Settled
+pub mod Nearest
 pub mod Births
 pub mod Numbered
 pub mod Limits

@@ -14,6 +14,7 @@ mod joins;
 pub mod known;
 pub mod limits;
 pub mod literals;
+mod near;
 pub mod numbers;
 pub mod queried;
 pub mod scope;
