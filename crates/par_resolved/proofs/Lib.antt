@@ -5,6 +5,7 @@ pub mod Nearest
 pub mod Later
 pub mod Loops
 pub mod Steps
+pub mod Earlier
 pub mod Made
 pub mod Gathers
 pub mod Pushes

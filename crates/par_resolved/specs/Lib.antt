@@ -1,8 +1,10 @@
 pub mod Sets
 pub mod Few
+pub mod SeenNumbers
 pub mod Seen
 pub mod Numbers
 pub mod Policies
+pub mod Read
 pub mod Statements
 pub mod Gathered
 pub mod Written

@@ -17,6 +17,7 @@ pub mod literals;
 mod near;
 pub mod numbers;
 pub mod queried;
+mod read;
 pub mod scope;
 mod settled;
 mod statements;

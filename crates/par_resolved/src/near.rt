@@ -29,11 +29,7 @@ pub(crate) fn near_join(alloc: Global, p: &Policy, q: &Policy) -> Result<Option<
 }
 
 // Each clause with the locks of the nearest one.
-fn near_clauses(
-    alloc: Global,
-    p: &[Clause],
-    q: &[Clause],
-) -> Result<Option<Vec<Clause>>, NoMemory>
+fn near_clauses(alloc: Global, p: &[Clause], q: &[Clause]) -> Result<Option<Vec<Clause>>, NoMemory>
     ensures { IfOk result (λ found. IfSome found (λ made. IsJoin made.items p.now q.now)) }
 {
     let mut made = Vec::new(alloc);
@@ -72,9 +68,7 @@ fn nearest<'a>(clause: &Clause, others: &'a [Clause]) -> Option<&'a Clause>
 fn is_nearest(near: &Clause, clause: &Clause, others: &[Clause]) -> bool
     ensures { result ≡ list_all (is_near clause.now near.now) others.now }
 {
-    others
-        .iter()
-        .all(|other| other.actor != clause.actor || has_only_locks_of(near, clause, other))
+    others.iter().all(|other| other.actor != clause.actor || has_only_locks_of(near, clause, other))
 }
 
 // The only one of the other clauses that may be the nearest.

@@ -37,6 +37,7 @@ fn covers(one: &Clause, clause: &Clause) -> bool
 }
 
 // Whether each lock of the clause is in one of the two others.
+#[inline(always)]
 pub(crate) fn has_only_locks_of(clause: &Clause, one: &Clause, other: &Clause) -> bool
     ensures { result ≡ within clause.now.locks (one.now.locks ++ other.now.locks) }
 {
@@ -49,6 +50,7 @@ pub(crate) fn has_only_locks_of(clause: &Clause, one: &Clause, other: &Clause) -
 }
 
 // The locks of both clauses, where they are kept as bits.
+#[inline(always)]
 pub(crate) fn bits_of_both(one: &Clause, other: &Clause) -> Option<Bits<4>>
     ensures { AreMarks result (one.now.locks ++ other.now.locks) }
 {
