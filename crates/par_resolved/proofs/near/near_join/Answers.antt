@@ -1,4 +1,4 @@
-use Rattle.std.proofs.Common.{◌≡◌, rules}
+use Rattle.std.proofs.Common.{rules}
 use Rattle.par_typed.specs.par_policy.Lattice.{IsJoin}
 use Rattle.par_typed.specs.par_policy.Sees.{IsSeenAlike}
 use Rattle.par_resolved.proofs.Nearest.{alike_join}

@@ -1,4 +1,4 @@
-use Rattle.std.proofs.Common.{sym, subst}
+use Rattle.std.proofs.Common.{subst}
 use Rattle.std.specs.Prelude.{IsTrue}
 use Rattle.par_resolved.proofs.Earlier.{same_names}
 use Rattle.par_resolved.proofs.read.is_same.Goals as goal
