@@ -1,9 +1,11 @@
 pub mod NumberSets
 pub mod Normal
 pub mod Stays
+pub mod Nearest
 pub mod Later
 pub mod Loops
 pub mod Steps
+pub mod Earlier
 pub mod Made
 pub mod Gathers
 pub mod Pushes

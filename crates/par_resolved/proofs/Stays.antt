@@ -31,11 +31,11 @@ use Rattle.par_resolved.specs.Settled.{settled, settled_beside}
 -- ---- one clause
 
 -- what is not so, or so with more, is so with more where it is so
-with_more : (a b : Bool) → IsTrue (not a || b) → IsTrue a → IsTrue b
+pub with_more : (a b : Bool) → IsTrue (not a || b) → IsTrue a → IsTrue b
 with_more true b h k = h
 with_more false b h k = absurd (false≢true k)
 
-within_both : (xs ys zs : List ℕ) → IsTrue (within xs zs) → IsTrue (within ys zs)
+pub within_both : (xs ys zs : List ℕ) → IsTrue (within xs zs) → IsTrue (within ys zs)
     → IsTrue (within (xs ++ ys) zs)
 within_both xs ys zs h k =
     within-from_All (xs ++ ys) zs

@@ -1,13 +1,16 @@
 pub mod Sets
 pub mod Few
+pub mod SeenNumbers
 pub mod Seen
 pub mod Numbers
 pub mod Policies
+pub mod Read
 pub mod Statements
 pub mod Gathered
 pub mod Written
 pub mod Sizes
 pub mod Settled
+pub mod Nearest
 pub mod Births
 pub mod Numbered
 pub mod Limits

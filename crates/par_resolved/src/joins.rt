@@ -9,6 +9,7 @@ ghost use Rattle.par_resolved.specs.Sizes.{exceeded_by, form_faults, steps_fault
 use crate::forms::{front, joined};
 use crate::known::top;
 use crate::limits::{CLAUSE_LIMIT, LOCK_LIMIT, MOST_CLAUSES, MOST_LOCKS};
+use crate::near::near_join;
 use crate::settled::are_settled;
 use par_base::memory::NoMemory;
 use par_refusals::refusal::{Findings, LIMIT_RULE, Refusal};
@@ -78,10 +79,14 @@ fn within_limits(policy: Policy) -> Option<Policy>
 }
 
 // The join of the two, where it is within the limits. A join of too many clauses is left as soon as
-// it has too many that stay in it.
+// it has too many that stay in it, and where each clause of one policy has a nearest one of the
+// other, no others are joined.
 fn join_within_limits(alloc: Global, p: &Policy, q: &Policy) -> Result<Option<Policy>, NoMemory>
     ensures { IfOk result (λ r. r ≡ within_limits (joined p.now q.now)) }
 {
+    if let Some(join) = near_join(alloc, p, q)? {
+        return Ok(within_limits(join));
+    }
     let policy = front(alloc, p, q)?;
     if policy.clauses().len() <= MOST_CLAUSES {
         return Ok(within_limits(policy));

@@ -1,19 +1,21 @@
 // What policy expressions come to.
-ghost use Rattle.std.specs.Prelude.{◌≡◌, [], IfOk, OnOk, Some, map, option_map};
+ghost use Rattle.std.specs.Prelude.{◌≡◌, [], IfOk, IfSome, OnOk, Some, map, option_map};
 ghost use Rattle.std.specs.List.{position};
 ghost use Rattle.std.specs.Str.{bytes_eq};
 ghost use Rattle.par_resolved.specs.Sets.{set_of, with_lock_set, normal};
 ghost use Rattle.par_resolved.specs.Numbers.{lock_number};
 ghost use Rattle.par_resolved.specs.Policies.{clause_of, bottom, term_value, term_values};
-ghost use Rattle.par_resolved.specs.Policies.{value_at, value_of, policy_of};
+ghost use Rattle.par_resolved.specs.Policies.{value_at, value_of, policy_of, with_value};
+ghost use Rattle.par_resolved.specs.Read.{AreRead, known_by};
 ghost use Rattle.par_resolved.specs.Births.{policy_or_bottom};
 ghost use Rattle.par_resolved.specs.Sizes.{expression_faults};
-ghost use Rattle.par_resolved.specs.Seen.{seen, known_seen};
+ghost use Rattle.par_resolved.specs.SeenNumbers.{seen};
 ghost use Rattle.par_refusals.specs.First.{first_of};
 
 use crate::forms::form;
 use crate::joins::{join_all, note_joins};
 use crate::numbers::Numbers;
+use crate::read::{Read, are_same, push_read};
 use par_base::memory::NoMemory;
 use par_base::name::Name;
 use par_names::par_index::NameIndex;
@@ -29,6 +31,8 @@ pub struct Known<'a> {
     pub numbers: Numbers<'a>,
     pub names: NameIndex<'a>,
     pub values: Vec<Option<Policy>>,
+    read: Vec<Read<'a>>,
+    ghost told: { AreRead (known_by numbers names values.items) read.items },
 }
 
 /// The numbers of these locks.
@@ -89,6 +93,8 @@ pub fn top(alloc: Global) -> Result<Policy, NoMemory>
 }
 
 impl<'a> Known<'a> {
+    ghost use Rattle.par_resolved.specs.Seen.{known_seen};
+
     // What the declared policy of this name comes to.
     fn named(&self, name: &Name) -> Result<Option<Policy>, NoMemory>
         ensures { IfOk result (λ p.
@@ -151,9 +157,72 @@ impl<'a> Known<'a> {
         Ok(Some(found))
     }
 
-    /// What an expression comes to.
-    #[tactic(auto, using(crate::proofs::Steps::joined_terms))]
+    /// What is known where no declared policy is read yet.
+    pub(crate) fn nothing(alloc: Global, numbers: Numbers<'a>, names: NameIndex<'a>) -> Known<'a>
+        ensures { known_seen result ≡ known_by numbers.entry names.entry [] }
+    {
+        Known {
+            numbers,
+            names,
+            values: Vec::new(alloc),
+            read: Vec::new(alloc),
+        }
+    }
+
+    /// What is known once the next declared policy is read, which comes to this.
+    pub(crate) fn with_value(
+        self,
+        expr: &'a PolicyExpr,
+        value: Option<Policy>,
+    ) -> Result<Known<'a>, NoMemory>
+        requires { value ≡ value_of (known_seen self) expr.now }
+        ensures { IfOk result (λ k.
+            known_seen k ≡ with_value (known_seen self.entry) value) }
+    {
+        let Known {
+            numbers,
+            names,
+            mut values,
+            mut read,
+        } = self;
+        push_read(&mut read, expr, &value)?;
+        values.push(value)?;
+        Ok(Known {
+            numbers,
+            names,
+            values,
+            read,
+        })
+    }
+
+    // What an expression comes to that says the same as the declared one at its place.
+    fn read_before(&self, e: &PolicyExpr) -> Option<&Policy>
+        ensures { IfSome result (λ p. value_of (known_seen self.now) e.now ≡ Some p.now) }
+    {
+        let found = self.read.binary_search_by_key(&e.at, |read| read.expr.at);
+        let read = self.read.get(found.ok()?)?;
+        if are_same(read.expr.terms.as_slice(), e.terms.as_slice()) {
+            return Some(&read.policy);
+        }
+        None
+    }
+
+    /// What an expression comes to. That of a declared policy which was read is not worked out
+    /// again.
     pub fn value_of(&self, alloc: Global, e: &PolicyExpr) -> Result<Option<Policy>, NoMemory>
+        ensures { IfOk result (λ p. p ≡ value_of (known_seen self.now) e.now) }
+    {
+        match self.read_before(e) {
+            None => self.worked_out(alloc, e),
+            Some(policy) => {
+                let policy = policy.clone()?;
+                Ok(Some(policy))
+            }
+        }
+    }
+
+    #[tactic(auto, using(crate::proofs::Steps::joined_terms))]
+    fn worked_out(&self, alloc: Global, e: &PolicyExpr) -> Result<Option<Policy>, NoMemory>
         ensures { IfOk result (λ p. p ≡ value_of (known_seen self.now) e.now) }
     {
         match self.terms(alloc, e.terms.as_slice())? {

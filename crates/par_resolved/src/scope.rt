@@ -3,7 +3,7 @@ ghost use Rattle.std.specs.Prelude.{◌≡◌, None, flat_map, IfOk, OnOk};
 ghost use Rattle.par_tree.specs.Shown.{source};
 ghost use Rattle.par_refusals.specs.First.{first_of};
 ghost use Rattle.par_resolved.specs.Few.{HasFew};
-ghost use Rattle.par_resolved.specs.Policies.{known, known_behind};
+ghost use Rattle.par_resolved.specs.Policies.{known, known_behind, with_value, value_of};
 ghost use Rattle.par_resolved.specs.Sizes.{expression_faults};
 ghost use Rattle.par_resolved.specs.Seen.{known_seen};
 ghost use Rattle.par_resolved.specs.Gathered.{all_of};
@@ -27,30 +27,39 @@ pub fn known(alloc: Global, program: &Program) -> Result<Known<'_>, NoMemory>
     let decls = policies(alloc, program)?;
     let names = policy_names(alloc, decls.as_slice())?;
     let names = NameIndex::of(alloc, names)?;
-    let mut known = Known {
-        numbers,
-        names,
-        values: Vec::new(alloc),
-    };
-    read_declared(alloc, &mut known, decls.as_slice())?;
-    Ok(known)
+    let known = Known::nothing(alloc, numbers, names);
+    read_declared(alloc, known, decls.as_slice())
 }
 
 // Reads these declarations, each by what is known behind those before it.
 #[tactic(auto, using(crate::proofs::Behind::behinds))]
-fn read_declared(
+fn read_declared<'a>(
     alloc: Global,
-    known: &mut Known<'_>,
-    decls: &[&PolicyDecl],
-) -> Result<(), NoMemory>
-    ensures { OnOk result (known_seen known.new
-        ≡ known_behind (known_seen known.old) (all_of decls.now)) }
+    known: Known<'a>,
+    decls: &[&'a PolicyDecl],
+) -> Result<Known<'a>, NoMemory>
+    ensures { IfOk result (λ k.
+        known_seen k ≡ known_behind (known_seen known.entry) (all_of decls.now)) }
 {
+    let mut read = known;
     for decl in decls {
-        let value = known.value_of(alloc, &decl.policy)?;
-        known.values.push(value)?;
+        read = with_declared(alloc, read, decl)?;
     }
-    Ok(())
+    Ok(read)
+}
+
+fn with_declared<'a>(
+    alloc: Global,
+    known: Known<'a>,
+    decl: &'a PolicyDecl,
+) -> Result<Known<'a>, NoMemory>
+    ensures { IfOk result (λ k.
+        known_seen k
+        ≡ with_value (known_seen known.entry)
+        (value_of (known_seen known.entry) decl.now.policy)) }
+{
+    let value = known.value_of(alloc, &decl.policy)?;
+    known.with_value(&decl.policy, value)
 }
 
 // Notes the limits that the joins of an expression exceed. What a join has that exceeds one is

@@ -7,5 +7,5 @@ use Rattle.par_resolved.proofs.scope.read_declared.Given as goal
 -- what is left is read by what is known so far
 abbrev pub invariant-loop-decl : goal.invariant-loop-decl
 invariant-loop-decl l =
-    known_behind (known_seen l.known) (all_of (drop l.decl-index l.decls))
+    known_behind (known_seen l.read) (all_of (drop l.decl-index l.decls))
     ≡ known_behind (known_seen l.fn.known) (all_of l.decls)

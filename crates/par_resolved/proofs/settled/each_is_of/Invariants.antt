@@ -1,6 +1,6 @@
 use Rattle.std.proofs.Common.{◌≡◌, true, take, ◌++◌}
 use Rattle.par_typed.specs.par_policy.Numbers.{within}
-use Rattle.par_resolved.proofs.settled.has_only_locks_of.Given as goal
+use Rattle.par_resolved.proofs.settled.each_is_of.Given as goal
 
 abbrev pub invariant-loop-lock : goal.invariant-loop-lock
 invariant-loop-lock l =
