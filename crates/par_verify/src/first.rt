@@ -58,9 +58,10 @@ pub(crate) fn first_frame<'f>(
     ensures { IfOk result (λ first. frame_of first ≡ frame_with many
         (given_to is_static class.entry.now (signature_said descriptor.entry.now).takes)) }
 {
+    let locals = arguments(alloc, is_static, class, descriptor)?;
     Ok(PlaceFrame {
         many: many as usize,
-        locals: arguments(alloc, is_static, class, descriptor)?,
+        locals: Pile::of(alloc, &locals)?,
         stack: Pile::new(alloc),
     })
 }

@@ -42,11 +42,10 @@ pub(crate) fn frame_told(alloc: Global, many: u16, frame: &Frame) -> Result<Plac
 {
     let locals = kinds_told(alloc, frame.locals.as_slice())?;
     let stack = kinds_told(alloc, frame.stack.as_slice())?;
-    let stack = Pile::of(alloc, &stack)?;
     Ok(PlaceFrame {
         many: many as usize,
-        locals,
-        stack,
+        locals: Pile::of(alloc, &locals)?,
+        stack: Pile::of(alloc, &stack)?,
     })
 }
 
