@@ -75,7 +75,7 @@ impl Facts {
         let mut before = Before::unset(alloc, self.locals, places)?;
         for place in 0..places {
             let kind = match place.checked_sub(self.locals) {
-                None => frame.locals.get(place).copied(),
+                None => frame.locals.get(place),
                 Some(below) => frame.stack.get(below),
             };
             let kind = match kind {

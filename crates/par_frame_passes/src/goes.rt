@@ -15,7 +15,6 @@ use crate::method::Method;
 use par_base::memory::NoMemory;
 use par_class::file::Catch;
 use par_frame_acts::caught;
-use par_frame_steps::frame::copied;
 use par_frame_steps::{Flow, Pile, PlaceFrame};
 use std::alloc::Global;
 
@@ -89,7 +88,7 @@ fn handle<'f>(
     stack.push(alloc, caught(method.linked, method.class, catch))?;
     let frame = PlaceFrame {
         many: frame.many,
-        locals: copied(alloc, &frame.locals)?,
+        locals: frame.locals.copied(alloc)?,
         stack,
     };
     let to = i32::from(catch.handler);

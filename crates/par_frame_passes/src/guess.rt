@@ -111,7 +111,8 @@ impl<'f> Sketch<'_, 'f> {
         before: &Before,
         many: usize,
     ) -> Result<PlaceFrame<'f>, NoMemory> {
-        let locals = self.kinds(alloc, before, 0, self.facts.locals)?;
+        let listed = self.kinds(alloc, before, 0, self.facts.locals)?;
+        let locals = Pile::of(alloc, &listed)?;
         let operands = self.kinds(alloc, before, self.facts.locals, before.operands())?;
         let stack = Pile::of(alloc, &operands)?;
         Ok(PlaceFrame {

@@ -19,7 +19,6 @@ use crate::goes::go_to_handlers;
 use crate::method::Method;
 use par_base::memory::NoMemory;
 use par_class::file::Catch;
-use par_frame_steps::frame::copied;
 use par_frame_steps::{Pile, PlaceFrame};
 use std::alloc::Global;
 
@@ -59,7 +58,7 @@ fn bare<'f>(alloc: Global, frame: &PlaceFrame<'f>) -> Result<PlaceFrame<'f>, NoM
 {
     Ok(PlaceFrame {
         many: frame.many,
-        locals: copied(alloc, &frame.locals)?,
+        locals: frame.locals.copied(alloc)?,
         stack: Pile::new(alloc),
     })
 }

@@ -38,7 +38,7 @@ kinds_of kinds = map kind_of kinds
 
 -- locals that are not listed hold anything
 abbrev pub locals_of : PlaceFrame → List VKind
-locals_of f = padded f.many (kinds_of f.locals.items)
+locals_of f = padded f.many (kinds_of f.locals)
 
 -- the operand that was pushed last stands last
 abbrev pub operands_of : List PlaceKind → List VKind

@@ -7,19 +7,17 @@ ghost use Rattle.par_frame_steps.specs.declared.kind.PlaceKind.TheVariants as pl
 
 use crate::frame::PlaceFrame;
 use crate::kind::PlaceKind;
+use crate::pile::Pile;
 use par_base::memory::NoMemory;
 use std::alloc::Global;
 
 /// Lists so many kinds more, each of which holds anything.
-fn list<'f>(alloc: Global, kinds: &mut Vec<PlaceKind<'f>>, rest: usize) -> Result<(), NoMemory>
-    ensures { IfOk result (λ done. kinds.new.items
-        ≡ kinds.old.items ++ replicate rest place.Top) }
+fn list(alloc: Global, kinds: &mut Pile, rest: usize) -> Result<(), NoMemory>
+    ensures { IfOk result (λ done. kinds.new ≡ kinds.old ++ replicate rest place.Top) }
 {
-    if rest == 0 {
-        return Ok(());
+    for _kind in 0..rest {
+        kinds.push(alloc, PlaceKind::Top)?;
     }
-    let tops = vec![in alloc; PlaceKind::Top; rest]?;
-    kinds.extend_from_slice(tops.as_slice())?;
     Ok(())
 }
 
@@ -27,18 +25,16 @@ fn list<'f>(alloc: Global, kinds: &mut Vec<PlaceKind<'f>>, rest: usize) -> Resul
 #[tactic(auto, using(crate::proofs::Padded::listed_set))]
 fn set_kind<'f>(
     alloc: Global,
-    kinds: &mut Vec<PlaceKind<'f>>,
+    kinds: &mut Pile<'f>,
     local: u8,
     kind: PlaceKind<'f>,
 ) -> Result<(), NoMemory>
-    ensures { IfOk result (λ done. kinds_of kinds.new.items
-        ≡ with_place (kinds_of kinds.old.items) local (kind_of kind.entry)) }
+    ensures { IfOk result (λ done. kinds_of kinds.new
+        ≡ with_place (kinds_of kinds.old) local (kind_of kind.entry)) }
 {
-    let place = local as usize;
-    let rest = (place + 1).saturating_sub(kinds.len());
+    let rest = (local as usize + 1).saturating_sub(kinds.len());
     list(alloc, kinds, rest)?;
-    kinds[place] = kind;
-    Ok(())
+    kinds.set(alloc, local, kind)
 }
 
 impl<'f> PlaceFrame<'f> {

@@ -7,7 +7,7 @@ ghost use Rattle.par_frame_steps.specs.Marks.{names, kind_of, operands_of, frame
 ghost use Rattle.par_frame_steps.specs.Marks.{asked_of, also_of, act_of};
 
 use crate::act::{Act, Also, Asked};
-use crate::frame::{PlaceFrame, kind_at};
+use crate::frame::PlaceFrame;
 use crate::kind::PlaceKind;
 use crate::pile::Pile;
 
@@ -43,7 +43,7 @@ impl<'f> PlaceFrame<'f> {
     pub fn local(&self, local: u8) -> PlaceKind<'f>
         ensures { kind_of result ≡ kind_at (frame_of self.now).locals local }
     {
-        kind_at(&self.locals, local as usize)
+        self.locals.kind_at(local as usize)
     }
 
     /// The kind of the operand that was pushed last.

@@ -19,7 +19,7 @@ use std::alloc::Global;
 pub struct PlaceFrame<'f> {
     /// How many locals there are, where no more are listed.
     pub many: usize,
-    pub locals: Vec<PlaceKind<'f>>,
+    pub locals: Pile<'f>,
     pub stack: Pile<'f>,
 }
 
@@ -60,7 +60,7 @@ pub(crate) fn merged<'f>(
 }
 
 /// A copy of kinds.
-pub fn copied<'f>(alloc: Global, kinds: &[PlaceKind<'f>]) -> Result<Vec<PlaceKind<'f>>, NoMemory>
+pub(crate) fn copied<'f>(alloc: Global, kinds: &[PlaceKind<'f>]) -> Result<Vec<PlaceKind<'f>>, NoMemory>
     ensures { IfOk result (λ all. all.items ≡ kinds.entry.now) }
 {
     let mut all = Vec::new(alloc);
@@ -69,7 +69,7 @@ pub fn copied<'f>(alloc: Global, kinds: &[PlaceKind<'f>]) -> Result<Vec<PlaceKin
 }
 
 /// The kind of a place, where those that are not listed hold anything.
-pub(crate) fn kind_at<'f>(kinds: &[PlaceKind<'f>], place: usize) -> PlaceKind<'f>
+fn kind_at<'f>(kinds: &[PlaceKind<'f>], place: usize) -> PlaceKind<'f>
     ensures { kind_of result ≡ kind_at (kinds_of kinds.entry.now) place }
 {
     match kinds.get(place) {
@@ -79,7 +79,7 @@ pub(crate) fn kind_at<'f>(kinds: &[PlaceKind<'f>], place: usize) -> PlaceKind<'f
 }
 
 /// Whether each kind fits into the one at its place that is listed.
-fn listed_into(exceptions: &[&[u8]], kinds: &[PlaceKind], others: &[PlaceKind]) -> bool
+pub(crate) fn listed_into(exceptions: &[&[u8]], kinds: &[PlaceKind], others: &[PlaceKind]) -> bool
     ensures { result
         ≡ listed_into (names exceptions.now) (kinds_of kinds.now) (kinds_of others.now) }
 {
@@ -113,7 +113,7 @@ impl<'f> PlaceFrame<'f> {
         if self.places() != other.places() {
             return false;
         }
-        listed_into(exceptions, &self.locals, &other.locals)
+        self.locals.listed_into(exceptions, &other.locals)
     }
 
     /// How many operands there are.
@@ -163,6 +163,22 @@ impl<'f> PlaceFrame<'f> {
         self.stack.merged(alloc, exceptions, &other.stack)
     }
 
+    /// The least kinds into which the locals of both fit, of each that both list.
+    fn merged_locals(
+        &self,
+        alloc: Global,
+        exceptions: &[&[u8]],
+        other: &PlaceFrame<'f>,
+    ) -> Result<Pile<'f>, NoMemory>
+        ensures { IfOk result (λ pile. kinds_of pile ≡ merge_all (names exceptions.now)
+            (kinds_of self.now.locals) (kinds_of other.now.locals)) }
+    {
+        if self.locals.len() == other.locals.len() {
+            return self.locals.merged(alloc, exceptions, &other.locals);
+        }
+        self.locals.listed_merged(alloc, exceptions, &other.locals)
+    }
+
     /// The least frame into which both fit, where both have as many locals and operands.
     #[tactic(auto, using(crate::proofs::Padded::padded_merged))]
     pub fn merged(
@@ -177,7 +193,7 @@ impl<'f> PlaceFrame<'f> {
     {
         Ok(PlaceFrame {
             many: self.places(),
-            locals: merged(alloc, exceptions, &self.locals, &other.locals)?,
+            locals: self.merged_locals(alloc, exceptions, other)?,
             stack: self.merged_operands(alloc, exceptions, other)?,
         })
     }
@@ -188,7 +204,7 @@ impl<'f> PlaceFrame<'f> {
     {
         Ok(PlaceFrame {
             many: self.many,
-            locals: copied(alloc, &self.locals)?,
+            locals: self.locals.copied(alloc)?,
             stack: self.stack.copied(alloc)?,
         })
     }

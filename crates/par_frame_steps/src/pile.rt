@@ -1,12 +1,15 @@
 //! Kinds on one another, of which copies share all but the last ones.
 
-ghost use Rattle.std.specs.Prelude.{◌≡◌, ◌-◌, ◌≤◌, [], ◌∷◌, ◌++◌, length, take, reverse, IfOk};
+ghost use Rattle.std.specs.Prelude.{◌≡◌, ◌-◌, ◌*◌, ◌<◌, ◌≤◌, [], ◌∷◌, ◌++◌, length, take, drop};
+ghost use Rattle.std.specs.Prelude.{reverse, slice_set, IfOk};
 ghost use Rattle.std.specs.List.{slice_get};
 ghost use Rattle.par_frame_pass_laws.specs.Passes.{all_into, merge_all};
-ghost use Rattle.par_frame_steps.specs.Marks.{names, kinds_of};
+ghost use Rattle.par_kinds.specs.Kinds.{kind_at};
+ghost use Rattle.par_frame_steps.specs.Listed.{listed_into};
+ghost use Rattle.par_frame_steps.specs.Marks.{names, kind_of, kinds_of};
 ghost use Rattle.par_frame_steps.specs.Piled.{joined, AreWhole};
 
-use crate::frame::{all_into, copied, merged};
+use crate::frame::{all_into, copied, listed_into, merged};
 use crate::kind::PlaceKind;
 use par_base::memory::NoMemory;
 use std::alloc::Global;
@@ -63,6 +66,17 @@ impl<'f> Piece<'f> {
     {
         let kinds = self.kinds.clone()?;
         Ok(Piece { kinds })
+    }
+
+    /// Sets a kind, for this copy alone.
+    fn set(&mut self, alloc: Global, place: usize, kind: PlaceKind<'f>) -> Result<(), NoMemory>
+        requires { place < length self.old }
+        ensures { IfOk result (λ done. self.new ≡ slice_set self.old place kind.entry) }
+    {
+        let mut kinds = copied(alloc, self.kinds())?;
+        kinds[place] = kind;
+        self.kinds = Rc::new(alloc, kinds)?;
+        Ok(())
     }
 
     /// The least kinds into which both fit, of as many. Where one fits into the other, that is it.
@@ -222,6 +236,24 @@ impl<'f> Pile<'f> {
         Ok(())
     }
 
+    /// Sets one of the first kinds.
+    pub(crate) fn set(
+        &mut self,
+        alloc: Global,
+        place: u8,
+        kind: PlaceKind<'f>,
+    ) -> Result<(), NoMemory>
+        requires { place < length self.old }
+        ensures { IfOk result (λ done. self.new ≡ slice_set self.old place kind.entry) }
+    {
+        let place = place as usize;
+        if self.pieces.is_empty() {
+            self.rest[place] = kind;
+            return Ok(());
+        }
+        self.pieces[0].set(alloc, place, kind)
+    }
+
     /// Takes the kind that was pushed last, if there is one.
     fn pop(&mut self, alloc: Global) -> Result<(), NoMemory>
         ensures { IfOk result (λ done. self.new ≡ take (length self.old - 1) self.old) }
@@ -284,5 +316,72 @@ impl<'f> Pile<'f> {
             pieces: merged_pieces(alloc, exceptions, &self.pieces, &other.pieces)?,
             rest: merged(alloc, exceptions, &self.rest, &other.rest)?,
         })
+    }
+
+    /// The kinds of one piece, or those behind all pieces.
+    fn part(&self, place: usize) -> &[PlaceKind<'f>]
+        ensures { result.now ≡ take PIECE (drop (place * PIECE) self.now) }
+    {
+        match self.pieces.get(place) {
+            Some(piece) => piece.kinds(),
+            None if place == self.pieces.len() => &self.rest,
+            None => &[],
+        }
+    }
+
+    /// How many parts there are.
+    fn parts(&self) -> usize
+        ensures { length self.now ≤ result * PIECE }
+    {
+        self.pieces.len() + 1
+    }
+
+    /// Its first kinds, of so many.
+    fn first(&self, alloc: Global, many: usize) -> Result<Pile<'f>, NoMemory>
+        ensures { IfOk result (λ pile. pile ≡ take many self.now) }
+    {
+        let mut first = self.copied(alloc)?;
+        let behind = self.len().saturating_sub(many);
+        first.take(alloc, behind)?;
+        Ok(first)
+    }
+
+    /// The kind at a place, where those that are not listed hold anything.
+    pub(crate) fn kind_at(&self, place: usize) -> PlaceKind<'f>
+        ensures { kind_of result ≡ kind_at (kinds_of self.now) place }
+    {
+        match self.get(place) {
+            Some(kind) => kind,
+            None => PlaceKind::Top,
+        }
+    }
+
+    /// Whether each kind fits into the one at its place that is listed.
+    pub(crate) fn listed_into(&self, exceptions: &[&[u8]], other: &Pile) -> bool
+        ensures { result
+            ≡ listed_into (names exceptions.now) (kinds_of self.now) (kinds_of other.now) }
+    {
+        for place in 0..other.parts() {
+            if !listed_into(exceptions, self.part(place), other.part(place)) {
+                return false;
+            }
+        }
+        true
+    }
+
+    /// The least kinds into which both fit, of each place that both list.
+    pub(crate) fn listed_merged(
+        &self,
+        alloc: Global,
+        exceptions: &[&[u8]],
+        other: &Pile<'f>,
+    ) -> Result<Pile<'f>, NoMemory>
+        ensures { IfOk result (λ pile. kinds_of pile
+            ≡ merge_all (names exceptions.now) (kinds_of self.now) (kinds_of other.now)) }
+    {
+        let many = self.len().min(other.len());
+        let one = self.first(alloc, many)?;
+        let other = other.first(alloc, many)?;
+        one.merged(alloc, exceptions, &other)
     }
 }

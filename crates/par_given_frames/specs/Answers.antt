@@ -10,6 +10,7 @@ use Rattle.par_kinds.specs.declared.frame.MethodFrames.{MethodFrames}
 use Rattle.par_frames.specs.declared.error.FrameError.{FrameError}
 use Rattle.par_frames.specs.declared.error.FrameError.TheVariants as error
 use Rattle.par_frames.specs.Needed.{IsNeeded}
+use Rattle.par_frames.specs.Given.{frames_said, start_of}
 use Rattle.par_frames.specs.Broken.{AreFrames, HasFrames, IsBroken}
 use Rattle.par_given_frames.specs.Sizes.{placed, framed}
 use Rattle.par_given_frames.specs.Met.{told_at}
@@ -39,3 +40,9 @@ abbrev pub FramesOf : ClassFile → Result (List MethodFrames) FrameError → Ty
 FramesOf file (Ok fs) = AllZip (AreFrames file) file.methods fs
 FramesOf file (Err (error.Broken number method)) = IsBroken file number method
 FramesOf file (Err error.Memory) = Unit {0}
+
+-- forms say the frames of a method, if it has frames
+abbrev pub AreFormsOf : ClassFile → MethodFile → List FrameForm → Type 0
+AreFormsOf file m forms =
+    (frames : MethodFrames) → AreFrames file m frames
+    → frames_said file.pool.entries 0 (start_of file m) forms ≡ Some frames.at

@@ -1,7 +1,7 @@
 //! The frames of a method.
 
 ghost use Rattle.std.specs.Prelude.{◌≡◌, ◌↔◌, ℕ, ◌≤◌, ◌<◌, ◌^◌, false, length, replicate, IsTrue};
-ghost use Rattle.std.specs.Prelude.{slice_index_or, IfOk};
+ghost use Rattle.std.specs.Prelude.{slice_index_or, IfOk, IfSome};
 ghost use Rattle.std.specs.List.{list_any};
 ghost use Rattle.par_base.specs.Names.{IsName};
 ghost use Rattle.par_single.specs.Members as members;
@@ -13,7 +13,7 @@ ghost use Rattle.par_frames.specs.Broken.{HasFrames};
 ghost use Rattle.par_given_frames.specs.Reads.{Gives};
 ghost use Rattle.par_given_frames.specs.Named as named;
 ghost use Rattle.par_given_frames.specs.Named.{AreNamed, GivesFrames};
-ghost use Rattle.par_given_frames.specs.Answers.{AnswersFor, AreRight};
+ghost use Rattle.par_given_frames.specs.Answers.{AnswersFor, AreRight, AreFormsOf};
 ghost use Rattle.par_given_frames.specs.Takes.{AreCounts};
 
 use crate::error::Unread;
@@ -191,5 +191,45 @@ pub(crate) fn method_frames(
         None => Ok(MethodFrames {
             at: List::new(alloc),
         }),
+    }
+}
+
+/// The forms that attributes of code spell, none where they spell no list of forms.
+fn spelled_forms(
+    alloc: Global,
+    entries: &[Constant],
+    attributes: &[Attribute],
+) -> Result<List<FrameForm>, NoMemory>
+    ensures spelled { IfOk result (λ forms.
+        IfSome (named.forms_given entries.now attributes.now) (λ given. forms ≡ given)) }
+    ensures few { IfOk result (λ forms. length forms < 2 ^ 16) }
+{
+    match forms_given(alloc, entries, attributes) {
+        Ok(forms) => Ok(forms),
+        Err(Unread::Refused) => Ok(List::new(alloc)),
+        Err(Unread::Memory) => Err(NoMemory),
+    }
+}
+
+/// The forms of the frames of a method, which take no more memory than its attributes. Where it
+/// has no frames, nothing is said of them.
+pub fn method_forms(
+    alloc: Global,
+    file: &ClassFile,
+    m: &MethodFile,
+) -> Result<List<FrameForm>, NoMemory>
+    ensures say { IfOk result (AreFormsOf file.now m.now) }
+    ensures few { IfOk result (λ forms. length forms < 2 ^ 16) }
+{
+    if file.major != FRAMED {
+        return Ok(List::new(alloc));
+    }
+    match &m.code {
+        Some(code) => spelled_forms(
+            alloc,
+            file.pool.entries.as_slice(),
+            code.attributes.as_slice(),
+        ),
+        None => Ok(List::new(alloc)),
     }
 }

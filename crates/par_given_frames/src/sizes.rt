@@ -72,7 +72,7 @@ fn stack_counted(entries: &[Constant], form: &FrameForm) -> Option<usize>
 }
 
 /// How far a frame is from the offset behind the one before.
-pub(crate) fn delta(form: &FrameForm) -> u16
+pub fn delta(form: &FrameForm) -> u16
     ensures { result ≡ (says [] form.now).delta }
 {
     match form {
