@@ -12,6 +12,7 @@ use par_base::memory::NoMemory;
 use std::alloc::Global;
 
 /// Lists so many kinds more, each of which holds anything.
+#[tactic(auto, using(crate::proofs::Parts::tops_more))]
 fn list(alloc: Global, kinds: &mut Pile, rest: usize) -> Result<(), NoMemory>
     ensures { IfOk result (λ done. kinds.new ≡ kinds.old ++ replicate rest place.Top) }
 {

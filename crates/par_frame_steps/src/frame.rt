@@ -60,7 +60,10 @@ pub(crate) fn merged<'f>(
 }
 
 /// A copy of kinds.
-pub(crate) fn copied<'f>(alloc: Global, kinds: &[PlaceKind<'f>]) -> Result<Vec<PlaceKind<'f>>, NoMemory>
+pub(crate) fn copied<'f>(
+    alloc: Global,
+    kinds: &[PlaceKind<'f>],
+) -> Result<Vec<PlaceKind<'f>>, NoMemory>
     ensures { IfOk result (λ all. all.items ≡ kinds.entry.now) }
 {
     let mut all = Vec::new(alloc);

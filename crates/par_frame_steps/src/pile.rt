@@ -71,7 +71,8 @@ impl<'f> Piece<'f> {
     /// Sets a kind, for this copy alone.
     fn set(&mut self, alloc: Global, place: usize, kind: PlaceKind<'f>) -> Result<(), NoMemory>
         requires { place < length self.old }
-        ensures { IfOk result (λ done. self.new ≡ slice_set self.old place kind.entry) }
+        ensures set { IfOk result (λ done. self.new ≡ slice_set self.old place kind.entry) }
+        ensures many { length self.new ≡ length self.old }
     {
         let mut kinds = copied(alloc, self.kinds())?;
         kinds[place] = kind;
@@ -251,7 +252,8 @@ impl<'f> Pile<'f> {
             self.rest[place] = kind;
             return Ok(());
         }
-        self.pieces[0].set(alloc, place, kind)
+        self.pieces[0].set(alloc, place, kind)?;
+        Ok(())
     }
 
     /// Takes the kind that was pushed last, if there is one.
@@ -322,11 +324,13 @@ impl<'f> Pile<'f> {
     fn part(&self, place: usize) -> &[PlaceKind<'f>]
         ensures { result.now ≡ take PIECE (drop (place * PIECE) self.now) }
     {
-        match self.pieces.get(place) {
-            Some(piece) => piece.kinds(),
-            None if place == self.pieces.len() => &self.rest,
-            None => &[],
+        if place < self.pieces.len() {
+            return self.pieces[place].kinds();
         }
+        if place > self.pieces.len() {
+            return &[];
+        }
+        self.rest.as_slice()
     }
 
     /// How many parts there are.
@@ -337,6 +341,7 @@ impl<'f> Pile<'f> {
     }
 
     /// Its first kinds, of so many.
+    #[tactic(auto, using(crate::proofs::Parts::first_many))]
     fn first(&self, alloc: Global, many: usize) -> Result<Pile<'f>, NoMemory>
         ensures { IfOk result (λ pile. pile ≡ take many self.now) }
     {
@@ -379,9 +384,8 @@ impl<'f> Pile<'f> {
         ensures { IfOk result (λ pile. kinds_of pile
             ≡ merge_all (names exceptions.now) (kinds_of self.now) (kinds_of other.now)) }
     {
-        let many = self.len().min(other.len());
-        let one = self.first(alloc, many)?;
-        let other = other.first(alloc, many)?;
+        let one = self.first(alloc, other.len())?;
+        let other = other.first(alloc, self.len())?;
         one.merged(alloc, exceptions, &other)
     }
 }

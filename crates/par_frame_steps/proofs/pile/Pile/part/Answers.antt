@@ -1,0 +1,43 @@
+use Rattle.std.proofs.Common.{◌≡◌, ℕ, ◌*◌, ◌++◌, ◌∙◌, ◌<◌, List, length, take, drop, ap, arith}
+use Rattle.par_frame_steps.specs.declared.kind.PlaceKind.{PlaceKind}
+use Rattle.par_frame_steps.specs.declared.pile.TheConstants.{PIECE}
+use Rattle.par_frame_steps.specs.Piled.{joined}
+use Rattle.par_frame_steps.proofs.Parts.{part_piece, part_rest, part_none}
+use Rattle.par_frame_steps.proofs.pile.Pile.part.Goals as goal
+
+pub returns-then-place-len : goal.returns-then-place-len
+returns-then-place-len c =
+    let pieces = c.self.inside.pieces in
+    let inside : c.args.place < length pieces.items =
+    omega (arith, c.if-place-len.true, c.len.ensures, pieces.ok.0) in
+    c.kinds.ensures
+    ∙ part_piece pieces.items c.self.inside.rest.items c.args.place c.index.result.now
+    c.self.invariant.whole inside c.index.ensures
+    ∙ ap (λ (ks : List PlaceKind). take PIECE (drop (c.args.place * PIECE) ks)) c.self.view_is
+
+pub returns-then-place-len-2 : goal.returns-then-place-len-2
+returns-then-place-len-2 c =
+    let pieces = c.self.inside.pieces in
+    let past : length pieces.items < c.args.place =
+    omega (arith, c.if-place-len-2.true, c.len-2.ensures, pieces.ok.0) in
+    part_none pieces.items c.self.inside.rest.items c.args.place c.self.invariant.whole
+    c.self.invariant.short past
+    ∙ ap (λ (ks : List PlaceKind). take PIECE (drop (c.args.place * PIECE) ks)) c.self.view_is
+
+pub returns : goal.returns
+returns c =
+    let pieces = c.self.inside.pieces in
+    let rest = c.self.inside.rest in
+    let many : length pieces.items ≡ c.args.place =
+    omega (
+      arith,
+      c.if-place-len.false,
+      c.if-place-len-2.false,
+      c.len.ensures,
+      c.len-2.ensures,
+      pieces.ok.0,
+    ) in
+    c.as_slice.ensures.value
+    ∙ part_rest pieces.items rest.items c.self.invariant.whole c.self.invariant.short
+    ∙ ap (λ (n : ℕ). take PIECE (drop (n * PIECE) (joined pieces.items ++ rest.items))) many
+    ∙ ap (λ (ks : List PlaceKind). take PIECE (drop (c.args.place * PIECE) ks)) c.self.view_is
