@@ -12,7 +12,7 @@ use Rattle.par_verify.specs.par_verify_laws.Verified.{AllFrames, AreFramesOf, Is
 use Rattle.par_verify.proofs.par_verify_laws.Never.{verified_programs_are_never_bad}
 use Rattle.par_verify.specs.par_frames.par_kinds.declared.frame.MethodFrames.{MethodFrames}
 use Rattle.par_verify.specs.par_frames.Broken.{AreFrames, HasFrames}
-use Rattle.par_framed_program.specs.Framed.{Framed, AreFramed}
+use Rattle.par_framed_program.specs.Framed.{AreFramed}
 use Rattle.par_loader.specs.declared.error.Unloaded.{Unloaded}
 use Rattle.par_loader.specs.declared.error.Unloaded.TheVariants as un
 use Rattle.par_loader.specs.Begun.{AreCoded, BeginsMain}
@@ -95,17 +95,6 @@ none_untold (Err (Answered a)) before after same = in_case (is_fault a) where
   in_case : (b : Bool) → OnFalse b (after ≡ before)
   in_case true = tt
   in_case false = same
-
--- ---- methods without frames
-
--- what is told where frames are wanting
-pub unframed : {A : Type 0} (P : A → Type 0) (all : List ClassFile) (e : Unloaded)
-    → Framed P all (Err e) → IsFailure (IsUnverifiable all) (failure_of e)
-unframed P all (un.BadClass class number value) is = inl is
-unframed P all un.Memory is = tt
-unframed P all un.Absent is = absurd is
-unframed P all un.TooLong is = absurd is
-unframed P all un.Failed is = absurd is
 
 -- ---- methods with frames
 
