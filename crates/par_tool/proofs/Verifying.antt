@@ -1,14 +1,18 @@
 -- From how class files are loaded and linked to what their verification comes to.
-use Rattle.std.proofs.Common.{◌≡◌, ℕ, suc, List, IfOk, IfErr, Option, Result, Ok, Err}
-use Rattle.std.proofs.Common.{sym, subst, inl, inr}
+use Rattle.std.proofs.Common.{◌≡◌, ℕ, suc, List, [], ◌∷◌, IfOk, IfErr, Option, Some, Result, Ok}
+use Rattle.std.proofs.Common.{Err, refl, sym, subst, inl, inr}
 use Rattle.std.specs.Bool.{OnFalse}
+use Rattle.std.specs.List.{slice_get, AllZip}
 use Rattle.std.specs.Prelude.{Bool, true, false}
 use Rattle.par_io.specs.Causes.{FolderCounts, Makes, Files}
+use Rattle.par_class.specs.declared.file.MethodFile.{MethodFile}
 use Rattle.par_class.specs.declared.file.ClassFile.{ClassFile}
 use Rattle.par_link.specs.Linked as link
 use Rattle.par_verify.specs.par_verify_laws.Verified.{AllFrames, AreFramesOf, IsUnverified}
 use Rattle.par_verify.proofs.par_verify_laws.Never.{verified_programs_are_never_bad}
-use Rattle.par_framed_program.specs.Framed.{Framed}
+use Rattle.par_verify.specs.par_frames.par_kinds.declared.frame.MethodFrames.{MethodFrames}
+use Rattle.par_verify.specs.par_frames.Broken.{AreFrames, HasFrames}
+use Rattle.par_framed_program.specs.Framed.{AreFramed}
 use Rattle.par_loader.specs.declared.error.Unloaded.{Unloaded}
 use Rattle.par_loader.specs.declared.error.Unloaded.TheVariants as un
 use Rattle.par_loader.specs.Begun.{AreCoded, BeginsMain}
@@ -92,16 +96,26 @@ none_untold (Err (Answered a)) before after same = in_case (is_fault a) where
   in_case true = tt
   in_case false = same
 
--- ---- methods without frames
+-- ---- methods with frames
 
--- what is told where frames are wanting
-pub unframed : {A : Type 0} (P : A → Type 0) (all : List ClassFile) (e : Unloaded)
-    → Framed P all (Err e) → IsFailure (IsUnverifiable all) (failure_of e)
-unframed P all (un.BadClass class number value) is = inl is
-unframed P all un.Memory is = tt
-unframed P all un.Absent is = absurd is
-unframed P all un.TooLong is = absurd is
-unframed P all un.Failed is = absurd is
+-- the frames of methods that have some
+methods_frames : (file : ClassFile) (ms : List MethodFile)
+    → ((place : ℕ) (m : MethodFile) → slice_get ms place ≡ Some m → HasFrames file m)
+    → (of_file : List MethodFrames) × AllZip (AreFrames file) ms of_file
+methods_frames file [] has = ([], tt)
+methods_frames file (m ∷ ms) has =
+    let first = has 0 m refl in
+    let rest = methods_frames file ms (λ place. has (suc place)) in
+    (first.0 ∷ rest.0, (first.1, rest.1))
+
+-- those of files, where all their methods do
+pub frames_there : (files : List ClassFile) → AreFramed files
+    → (all : AllFrames) × AreFramesOf files all
+frames_there [] framed = ([], tt)
+frames_there (file ∷ files) framed =
+    let first = methods_frames file file.methods (framed 0 file refl) in
+    let rest = frames_there files (λ class. framed (suc class)) in
+    (first.0 ∷ rest.0, (first.1, rest.1))
 
 -- ---- a method that no frames fit
 

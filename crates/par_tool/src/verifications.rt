@@ -10,13 +10,13 @@ ghost use Rattle.par_tool.specs.Verifications.{IsAnsweredFor, IsUnfit, IsUnverif
 
 use crate::answer::Answer;
 use crate::reads::Failure;
-use par_framed_program::program_frames;
+use par_framed_program::framed;
 use par_io::Folder;
 use par_lexer::name::Name;
 use par_link::Linked;
 use par_loader::{linked_program, main_file};
 use par_single::member::own_name;
-use par_verify::{VerifyError, verify};
+use par_verify::{VerifyError, verify_linked};
 use std::alloc::Global;
 
 /// The number of a class with a method that no frames fit.
@@ -46,8 +46,8 @@ fn verified(alloc: Global, linked: &Linked) -> Result<Answer, Failure>
     ensures verified { IfOk result (IsAnsweredFor linked.now) }
     ensures failed { IfErr result (IsFailure (IsUnverifiable linked.now)) }
 {
-    let frames = program_frames(alloc, linked)?;
-    match verify(alloc, linked, &frames) {
+    framed(alloc, linked)?;
+    match verify_linked(alloc, linked) {
         Ok(()) => Ok(Answer::Verified(u32::from(linked.count()))),
         Err(error) => match error {
             VerifyError::Broken { class, method } => Err(unfit(alloc, linked, class, method)),

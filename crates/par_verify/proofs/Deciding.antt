@@ -15,14 +15,15 @@ use Rattle.par_kinds.specs.Fits.{Given}
 use Rattle.par_kinds.specs.Linked.{exception_names, act_at, caught_kind, first_frame, result_of}
 use Rattle.par_kinds.specs.Shapes.{act_of, shape_at}
 use Rattle.par_verify_laws.specs.par_frame_pass_laws.Passes.{Table, Judged, frame_at}
-use Rattle.par_verify_laws.specs.par_frame_pass_laws.Passes.{frames_as_told}
+use Rattle.par_verify_laws.specs.par_frame_pass_laws.Passes.{frames_as_told, start_table}
 use Rattle.par_verify_laws.proofs.par_frame_pass_laws.Least.{frames_as_told_are_least}
 use Rattle.par_verify_laws.proofs.par_linked_frame_laws.Shaped.{acts_agree}
 use Rattle.par_kinds.specs.declared.frame.PlacedFrame.{PlacedFrame}
+use Rattle.par_kinds.specs.declared.frame.MethodFrames.{MethodFrames}
 use Rattle.par_verify_laws.specs.par_frames.Broken.{IsPlacedIn}
 use Rattle.par_verify_laws.specs.Verified.{AllFrames, FitsMethod, frames_in}
 use Rattle.par_verify.specs.Answers.{Says}
-use Rattle.par_verify.specs.Starts.{told_of}
+use Rattle.par_verify.specs.Starts.{told_of, IsJudged}
 use Rattle.par_verify.proofs.Telling.{told-within}
 
 module _ (files : List ClassFile) (all : AllFrames) (class place : ℕ) where
@@ -38,7 +39,7 @@ module _ (files : List ClassFile) (all : AllFrames) (class place : ℕ) where
       frames_as_told exc act (caught_kind files class) code first told
 
   -- what is found by what the code of the verifier knows
-  pub says : (exc : List Name) (gives : Option Kind) (code : CodeAttr) (first : KFrame)
+  says : (exc : List Name) (gives : Option Kind) (code : CodeAttr) (first : KFrame)
       (fs : List PlacedFrame) (b : Bool)
       → exc ≡ exception_names files → gives ≡ result_of files class place
       → method_code files class place ≡ code → first ≡ first_frame files class place
@@ -77,3 +78,19 @@ module _ (files : List ClassFile) (all : AllFrames) (class place : ℕ) where
       (caught_kind files class) real (first_frame files class place)
       (told_of real.max_locals us) inside)
       b (found ∙ ap is_some same)
+
+  -- what is judged of the frames that a method tells
+  pub judged-says : (exc : List Name) (gives : Option Kind) (code : CodeAttr) (first : KFrame)
+      (table : Table) (frames : MethodFrames) (b : Bool)
+      → exc ≡ exception_names files → gives ≡ result_of files class place
+      → method_code files class place ≡ code → first ≡ first_frame files class place
+      → frames_in all class place ≡ frames.at → All (IsPlacedIn code) frames.at
+      → table ≡ start_table (told_of code.max_locals frames.at) 0 code.code
+      → IsJudged exc (act_of gives (shape_at files class)) (caught_kind files class) code first
+      table b
+      → Says files all class place b
+  judged-says exc gives code first table frames b excs gave coded begun are placed told judged =
+      says exc gives code first frames.at b excs gave coded begun (sym are)
+      (subst (All (IsPlacedIn code)) (sym are) placed)
+      (judged (told_of code.max_locals frames.at) told
+      (told-within code.max_locals code frames.at placed))

@@ -2,7 +2,7 @@
 use Rattle.std.proofs.Common.{◌≡◌, ℕ, zero, suc, ◌+◌, ◌*◌, ◌<◌, ◌≤◌, Bool, true, false, ◌&&◌, cond}
 use Rattle.std.proofs.Common.{List, [], ◌∷◌, length, map, Option, Some, None, is_some, refl, sym}
 use Rattle.std.proofs.Common.{ap, subst}
-use Rattle.std.proofs.Common.{◌∙◌, arith, slice_index_or}
+use Rattle.std.proofs.Common.{◌∙◌, arith, slice_index_or, get_or}
 use Rattle.std.proofs.lemmas.List.{length-map}
 use Rattle.std.proofs.lemmas.Bool.{and_parts}
 use Rattle.std.specs.Option.{option_map}
@@ -32,6 +32,7 @@ use Rattle.par_frame_passes.specs.Methods.{IsToldOf}
 use Rattle.par_frame_passes.specs.Sweeps.{Fits, Kept, Settles}
 use Rattle.par_frame_passes.proofs.Tabled.{found-inside}
 use Rattle.par_frame_passes.specs.Tables.{table_of}
+use Rattle.par_frame_passes.proofs.Puts.{found_there}
 
 start-long : (g : Given) (bytes : List ℕ) (from : ℕ)
     → length (start_table g from bytes) ≡ length bytes
@@ -77,6 +78,19 @@ pub table-long : (t : List (Option PlaceFrame)) (g : Given) (bytes : List ℕ)
     → table_of t ≡ start_table g 0 bytes → length t ≡ length bytes
 table-long t g bytes is =
     sym (length-map t (option_map frame_of)) ∙ ap length is ∙ start-long g bytes 0
+
+-- what is told of the first offset
+pub first-held : (told : Given) (bytes : List ℕ) (t : Table) → starts_at bytes 0 ≡ true
+    → t ≡ start_table told 0 bytes → frame_at t 0 ≡ told 0
+first-held told bytes t begins is =
+    ap (λ u. frame_at u 0) is ∙ start-held told bytes 0 0 (starts-within bytes 0 0 begins)
+
+pub told-first : (t : List (Option PlaceFrame)) (o : Option PlaceFrame) (told : Given)
+    (bytes : List ℕ) → 0 < length t → o ≡ get_or t 0 o → starts_at bytes 0 ≡ true
+    → table_of t ≡ start_table told 0 bytes → option_map frame_of o ≡ told 0
+told-first t o told bytes inside is begins same =
+    ap (option_map frame_of) is ∙ found_there t 0 o inside
+    ∙ first-held told bytes (table_of t) begins same
 
 -- ---- which frames stay
 
@@ -193,6 +207,24 @@ module _ (exc : List Name) (act : Instr → Act) (handler : Catch → VKind) (co
         (settles (subst (Kept exc act handler code start) (sym (same ∙ is))
         (kept-begun from_start)))
         ∙ ap (λ v. is_some (least_from exc act handler code start v)) (sym is)
+
+  -- where no instruction starts at the first offset none is found
+  pub unbegun : (first : KFrame) (told : Given) → starts_at code.code 0 ≡ false
+      → false ≡ is_some (frames_as_told exc act handler code first told)
+  unbegun first told none =
+      sym (ap (λ c. is_some (cond (c && begins_as exc first (told 0))
+      (least_from exc act handler code (from_start first told)
+      (start_table (from_start first told) 0 code.code)) None)) none)
+
+  -- nor where another frame is told of it
+  pub misbegun : (first : KFrame) (told : Given) → starts_at code.code 0 ≡ true
+      → begins_as exc first (told 0) ≡ false
+      → false ≡ is_some (frames_as_told exc act handler code first told)
+  misbegun first told starts other =
+      let neither : starts_at code.code 0 && begins_as exc first (told 0) ≡ false =
+      ap (λ c. c && begins_as exc first (told 0)) starts ∙ other in
+      sym (ap (λ c. is_some (cond c (least_from exc act handler code (from_start first told)
+      (start_table (from_start first told) 0 code.code)) None)) neither)
 
   pub judged : (first : KFrame) (told : Given) (t : Table) (b : Bool)
       → starts_at code.code 0 ≡ true → begins_as exc first (told 0) ≡ true

@@ -19,7 +19,7 @@ use Rattle.par_verify.specs.Starts.{told_of}
 pub use Rattle.par_frame_passes.proofs.Puts.{put_there, put_nowhere}
 
 -- frames that are the same from an offset on
-start-same : (g h : Given) (bytes : List ℕ) (from : ℕ)
+pub start-same : (g h : Given) (bytes : List ℕ) (from : ℕ)
     → ((at : ℕ) → from ≤ at → g at ≡ h at) → start_table g from bytes ≡ start_table h from bytes
 start-same g h [] from same = refl
 start-same g h (op ∷ bytes) from same =
@@ -56,27 +56,8 @@ pub one_none : (n : ℕ) (t u : List (Option PlaceFrame)) → t ≡ replicate n 
 one_none n t u is more =
     more ∙ ap (λ x. x ++ None ∷ []) is ∙ replicate-append-replicate n 1 None
 
--- at first none is told
-pub none_put : (many : ℕ) (frames : List PlacedFrame) (bytes : List ℕ)
-    (t : List (Option PlaceFrame)) → t ≡ replicate (length bytes) None
-    → table_of t ≡ start_table (told_of many (drop (length frames - 0) frames)) 0 bytes
-none_put many frames bytes t is =
-    let past : length frames ≤ length frames - 0 = omega arith in
-    ap table_of is ∙ none-told many bytes 0
-    ∙ ap (λ fs. start_table (told_of many fs) 0 bytes)
-    (sym (drop_all (length frames - 0) frames past))
-
--- in the end all are
-pub all_put : (many : ℕ) (frames : List PlacedFrame) (bytes : List ℕ) (n : ℕ) (t : Table)
-    → length frames ≤ n
-    → t ≡ start_table (told_of many (drop (length frames - n) frames)) 0 bytes
-    → t ≡ start_table (told_of many frames) 0 bytes
-all_put many frames bytes n t past is =
-    let none : length frames - n ≡ 0 = omega (arith, past) in
-    is ∙ ap (λ k. start_table (told_of many (drop k frames)) 0 bytes) none
-
 -- one frame more is told, before the others
-told-put : (many : ℕ) (f : PlacedFrame) (fs : List PlacedFrame) (bytes : List ℕ)
+pub told-put : (many : ℕ) (f : PlacedFrame) (fs : List PlacedFrame) (bytes : List ℕ)
     → start_table (told_of many (f ∷ fs)) 0 bytes
     ≡ set (start_table (told_of many fs) 0 bytes) f.offset (Some (whole many (as_met f.frame)))
 told-put many f fs bytes =
@@ -96,28 +77,6 @@ told-put many f fs bytes =
         ≡ option_map (whole many) (told fs to)
     away to true is other = absurd (other (sym (eqb-true f.offset to is)))
     away to false is other = refl
-
--- the last of those that are left is put in its place
-pub told_more : (many : ℕ) (frames : List PlacedFrame) (bytes : List ℕ) (done : ℕ) (f : PlacedFrame)
-    (t u : Table) → done < length frames
-    → get_or frames (length frames - 1 - done) f ≡ f
-    → t ≡ start_table (told_of many (drop (length frames - done) frames)) 0 bytes
-    → u ≡ set t f.offset (Some (whole many (as_met f.frame)))
-    → u ≡ start_table (told_of many (drop (length frames - (done + 1)) frames)) 0 bytes
-told_more many frames bytes done f t u left is so_far put =
-    let place : ℕ = length frames - 1 - done in
-    let next : length frames - (done + 1) ≡ place = omega (arith, left) in
-    let behind : length frames - done ≡ suc place = omega (arith, left) in
-    let inside : place < length frames = omega (arith, left) in
-    let rest : drop (length frames - (done + 1)) frames
-    ≡ f ∷ drop (length frames - done) frames =
-    ap (λ n. drop n frames) next ∙ drop-cons frames place f inside
-    ∙ ap (λ g. g ∷ drop (suc place) frames) is
-    ∙ ap (λ n. f ∷ drop n frames) (sym behind) in
-    put
-    ∙ ap (λ v. set v f.offset (Some (whole many (as_met f.frame)))) so_far
-    ∙ sym (told-put many f (drop (length frames - done) frames) bytes)
-    ∙ ap (λ fs. start_table (told_of many fs) 0 bytes) (sym rest)
 
 -- the frame of a call is put at the first offset
 pub first_put : (first : KFrame) (given : Given) (bytes : List ℕ)

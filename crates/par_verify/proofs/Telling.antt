@@ -70,15 +70,23 @@ placed-if true file m code fs is given =
 placed-if false file m code fs is none =
     subst (All (IsPlacedIn code)) (sym none) (All-nil (IsPlacedIn code))
 
--- the frames that are told of a method are in their places
-pub all-placed : (files : List ClassFile) (all : AllFrames) (class place : ℕ) (file : ClassFile)
-    (m : MethodFile) (code : CodeAttr) → AreFramesOf files all → IsMethod files class file place m
-    → m.code ≡ Some code → All (IsPlacedIn code) (frames_in all class place)
-all-placed files all class place file m code framed at is =
+-- the frames of a method among those of all
+pub frames-of : (files : List ClassFile) (all : AllFrames) (class place : ℕ) (file : ClassFile)
+    (m : MethodFile) → AreFramesOf files all → IsMethod files class file place m
+    → (of_method : MethodFrames) × (frames_in all class place ≡ of_method.at)
+    × AreFrames file m of_method
+frames-of files all class place file m framed at =
     let of_file = beside (λ file frames. AllZip (AreFrames file) file.methods frames) files all
     class file framed at.listed in
-    let of_method = beside (AreFrames file) file.methods of_file.0 place m of_file.2 at.there in
-    subst (All (IsPlacedIn code))
-    (sym (ap (λ o. frames_told (slice_get (methods_told o) place)) of_file.1
-    ∙ ap frames_told of_method.1))
-    (placed-if (file.major == 51) file m code of_method.0 is of_method.2)
+    let of_method = beside (AreFrames file) file.methods of_file.0 place m of_file.2 at.there in (
+      of_method.0,
+      ap (λ o. frames_told (slice_get (methods_told o) place)) of_file.1
+          ∙ ap frames_told of_method.1,
+      of_method.2,
+    )
+
+-- the frames that are told of a method are in their places
+pub all-placed : (file : ClassFile) (m : MethodFile) (code : CodeAttr) (frames : MethodFrames)
+    → AreFrames file m frames → m.code ≡ Some code → All (IsPlacedIn code) frames.at
+all-placed file m code frames are is =
+    placed-if (file.major == 51) file m code frames is are

@@ -5,9 +5,18 @@ use Rattle.std.specs.List.{slice_get}
 use Rattle.par_class.specs.declared.file.MethodFile.{MethodFile}
 use Rattle.par_class.specs.declared.file.ClassFile.{ClassFile}
 use Rattle.par_kinds.specs.Linked.{coded_at}
-use Rattle.par_verify_laws.specs.Verified.{AllFrames, IsVerified, AreVerified, IsUnverified}
+use Rattle.par_verify_laws.specs.Verified.{AllFrames, AreFramesOf, IsVerified, AreVerified}
+use Rattle.par_verify_laws.specs.Verified.{IsUnverified}
 use Rattle.par_verify.specs.declared.error.VerifyError.{VerifyError}
 use Rattle.par_verify.specs.declared.error.VerifyError.TheVariants as error
+
+-- each method of files has its frames
+abbrev pub HaveFrames : List ClassFile → Type 0
+HaveFrames files = (all : AllFrames) × AreFramesOf files all
+
+-- this holds of the frames of files
+abbrev pub OfFrames : List ClassFile → (AllFrames → Type 0) → Type 0
+OfFrames files P = (all : AllFrames) → AreFramesOf files all → P all
 
 -- a method of a file of a program
 pub record IsMethod (files : List ClassFile) (class : ℕ) (file : ClassFile) (place : ℕ)

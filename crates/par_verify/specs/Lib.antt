@@ -1,4 +1,5 @@
 pub mod Answers
+pub mod Said
 pub mod Starts
 pub use Rattle.par_verify_laws.specs.par_frames as par_frames
 pub use Rattle.par_verify_laws.specs.par_sound_laws as par_sound_laws

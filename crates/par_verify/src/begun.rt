@@ -1,16 +1,21 @@
 //! The frames from which the passes start.
 
-ghost use Rattle.std.specs.Prelude.{◌≡◌, Some, None, replicate, slice_set, IfOk};
-ghost use Rattle.par_verify_laws.specs.par_frame_pass_laws.Passes.{from_start, start_table};
-ghost use Rattle.par_frame_steps.specs.Marks.{frame_of};
+ghost use Rattle.std.specs.Prelude.{◌≡◌, ◌<◌, ◌^◌, Some, None, replicate, slice_set, length};
+ghost use Rattle.std.specs.Prelude.{IfOk, IfSome};
+ghost use Rattle.par_verify_laws.specs.par_frame_pass_laws.Passes.{start_table};
+ghost use Rattle.par_frame_steps.specs.Marks.{kinds_of, frame_of};
 ghost use Rattle.par_frame_passes.specs.Tables.{table_of};
+ghost use Rattle.par_given_frames.specs.par_frames.Given.{frames_said};
 ghost use Rattle.par_verify.specs.Starts.{told_of};
 
-use crate::told::frame_told;
+use crate::told::{frame_said, locals_said};
 use par_base::memory::NoMemory;
+use par_class::file::CodeAttr;
+use par_class::par_pool::constant::Constant;
+use par_frame_forms::FrameForm;
 use par_frame_passes::Table;
-use par_frame_steps::PlaceFrame;
-use par_kinds::PlacedFrame;
+use par_frame_steps::{Pile, PlaceFrame};
+use par_given_frames::delta;
 use std::alloc::Global;
 
 /// No frame for any of so many offsets.
@@ -27,8 +32,9 @@ fn no_frames<'f>(alloc: Global, len: usize) -> Result<Table<'f>, NoMemory>
 
 /// Keeps a frame for an offset of the table.
 #[tactic(auto, using(crate::proofs::Starting::put_there, crate::proofs::Starting::put_nowhere))]
-fn keep<'f>(table: &mut Table<'f>, at: usize, frame: PlaceFrame<'f>)
-    ensures { table_of table.new.items
+pub(crate) fn keep<'f>(table: &mut Table<'f>, at: usize, frame: PlaceFrame<'f>)
+    ensures many { length table.new.items ≡ length table.old.items }
+    ensures kept { table_of table.new.items
         ≡ slice_set (table_of table.old.items) at (Some (frame_of frame.entry)) }
 {
     if at >= table.len() {
@@ -37,41 +43,31 @@ fn keep<'f>(table: &mut Table<'f>, at: usize, frame: PlaceFrame<'f>)
     table[at] = Some(frame);
 }
 
-/// The frames that are told, by the offsets of code with so many locals.
-#[tactic(auto, using(crate::proofs::Starting::none_put, crate::proofs::Starting::all_put))]
-fn told_table<'f>(
+/// The frames that forms say of code, by its offsets, where the first form lists its locals behind
+/// these. Frames share the locals that they list.
+pub(crate) fn told_table<'f>(
     alloc: Global,
-    many: u16,
-    frames: &'f [PlacedFrame],
-    code: &[u8],
+    entries: &'f [Constant],
+    code: &CodeAttr,
+    start: Pile<'f>,
+    forms: &[FrameForm],
 ) -> Result<Table<'f>, NoMemory>
-    ensures { IfOk result (λ table.
-        table_of table.items ≡ start_table (told_of many frames.entry.now) 0 code.now) }
+    requires few { length forms.now < 2 ^ 16 }
+    ensures many { IfOk result (λ table. length table.items ≡ length code.now.code) }
+    ensures told { IfOk result (λ table.
+        IfSome (frames_said entries.entry.now 0 (kinds_of start.entry) forms.now)
+        (λ frames. table_of table.items
+        ≡ start_table (told_of code.now.max_locals frames) 0 code.now.code)) }
 {
-    let mut table = no_frames(alloc, code.len())?;
-    // Of two frames of one offset the first is told: it is put there last.
-    for done in 0..frames.len() {
-        let placed = &frames[frames.len() - 1 - done];
-        let frame = frame_told(alloc, many, &placed.frame)?;
-        keep(&mut table, placed.offset as usize, frame);
+    let mut table = no_frames(alloc, code.code.len())?;
+    let mut listed = start;
+    let mut from: u32 = 0;
+    for form in forms {
+        listed = locals_said(alloc, entries, listed, form)?;
+        let frame = frame_said(alloc, entries, code.max_locals, &listed, form)?;
+        let at = from + u32::from(delta(form));
+        keep(&mut table, at as usize, frame);
+        from = at + 1;
     }
-    Ok(table)
-}
-
-/// The frames from which the passes start, by the offsets of code with so many locals.
-#[tactic(auto, using(crate::proofs::Starting::first_put))]
-pub(crate) fn start_table<'f>(
-    alloc: Global,
-    first: &PlaceFrame<'f>,
-    many: u16,
-    frames: &'f [PlacedFrame],
-    code: &[u8],
-) -> Result<Table<'f>, NoMemory>
-    ensures { IfOk result (λ table. table_of table.items ≡ start_table
-        (from_start (frame_of first.now) (told_of many frames.entry.now)) 0 code.now) }
-{
-    let mut table = told_table(alloc, many, frames, code)?;
-    let first = first.copied(alloc)?;
-    keep(&mut table, 0, first);
     Ok(table)
 }

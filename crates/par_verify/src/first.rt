@@ -55,7 +55,9 @@ pub(crate) fn first_frame<'f>(
     class: &'f [u8],
     descriptor: &'f [u8],
 ) -> Result<PlaceFrame<'f>, NoMemory>
-    ensures { IfOk result (λ first. frame_of first ≡ frame_with many
+    ensures frame { IfOk result (λ first. frame_of first ≡ frame_with many
+        (given_to is_static class.entry.now (signature_said descriptor.entry.now).takes)) }
+    ensures listed { IfOk result (λ first. kinds_of first.locals ≡ map vkind
         (given_to is_static class.entry.now (signature_said descriptor.entry.now).takes)) }
 {
     let locals = arguments(alloc, is_static, class, descriptor)?;

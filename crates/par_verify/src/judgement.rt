@@ -7,22 +7,19 @@ ghost use Rattle.par_kinds.specs.Linked.{caught_kind};
 ghost use Rattle.par_kinds.specs.Shapes as shapes;
 ghost use Rattle.par_kinds.specs.Shapes.{shape_at};
 ghost use Rattle.par_kinds.specs.Fits.{Given};
-ghost use Rattle.par_verify_laws.specs.par_frame_pass_laws.Passes.{begins_as, frames_as_told};
-ghost use Rattle.par_verify_laws.specs.par_frame_pass_laws.Passes.{least_from};
-ghost use Rattle.par_verify_laws.specs.par_frame_pass_laws.Passes.{start_table};
+ghost use Rattle.par_verify_laws.specs.par_frame_pass_laws.Passes.{begins_as};
+ghost use Rattle.par_verify_laws.specs.par_frame_pass_laws.Passes.{least_from, start_table};
 ghost use Rattle.par_frame_steps.specs.Marks.{names, frame_of};
 ghost use Rattle.par_frame_passes.specs.Methods.{exc_of, act_in, handler_in, code_in, IsToldOf};
 ghost use Rattle.par_frame_passes.specs.Tables.{table_of};
-ghost use Rattle.par_verify.specs.Starts.{told_of};
+ghost use Rattle.par_verify.specs.Starts.{IsJudged};
 
-use crate::begun::start_table;
+use crate::begun::keep;
 use crate::sizes::are_sized;
-use crate::told::told_at;
 use par_base::memory::NoMemory;
 use par_class::file::CodeAttr;
 use par_frame_passes::{Method, Table, passes};
 use par_frame_steps::PlaceFrame;
-use par_kinds::PlacedFrame;
 use par_link::Linked;
 use par_single::descriptor::Said;
 use par_starts::Starts;
@@ -50,7 +47,7 @@ fn fixed(alloc: Global, table: &[Option<PlaceFrame>]) -> Result<Vec<bool>, NoMem
 }
 
 /// Whether what is told of offset 0 is the frame of a call.
-fn begins_as(exceptions: &[&[u8]], first: &PlaceFrame, told: &Option<PlaceFrame>) -> bool
+fn begins(exceptions: &[&[u8]], first: &PlaceFrame, told: &Option<PlaceFrame>) -> bool
     ensures { result ≡ begins_as (names exceptions.now) (frame_of first.now)
         (option_map frame_of told.now) }
 {
@@ -85,28 +82,24 @@ fn settle<'f>(
 pub(crate) fn judge<'f>(
     alloc: Global,
     site: Site<'_, 'f>,
-    first: &PlaceFrame<'f>,
-    frames: &'f [PlacedFrame],
+    first: PlaceFrame<'f>,
+    told: Table<'f>,
 ) -> Result<bool, NoMemory>
     requires small { length site.code.now.code ≤ 65535 }
-    requires within { (at : ℕ) (k : KFrame) →
-        told_of site.code.now.max_locals frames.now at ≡ Some k →
-        at < length site.code.now.code }
-    ensures { IfOk result (λ found. found ≡ is_some (frames_as_told
-        (names site.entry.exceptions.now)
+    requires many { length told.items ≡ length site.code.now.code }
+    ensures { IfOk result (IsJudged (names site.entry.exceptions.now)
         (shapes.act_of (option_map kind_of site.entry.gives)
         (shape_at site.entry.linked.now site.entry.class))
         (caught_kind site.entry.linked.now site.entry.class) site.entry.code.now
-        (frame_of first.now)
-        (told_of site.entry.code.now.max_locals frames.entry.now))) }
+        (frame_of first.entry) (table_of told.entry.items)) }
 {
     let code = site.code;
     let starts = Starts::of(alloc, code.code.as_slice())?;
-    let told = told_at(alloc, code.max_locals, frames, 0)?;
-    if !starts.has(0) || !begins_as(site.exceptions, first, &told) {
+    if !starts.has(0) || !begins(site.exceptions, &first, &told[0]) {
         return Ok(false);
     }
-    let table = start_table(alloc, first, code.max_locals, frames, code.code.as_slice())?;
+    let mut table = told;
+    keep(&mut table, 0, first);
     let fixed = fixed(alloc, &table)?;
     let method = Method {
         linked: site.linked,

@@ -15,4 +15,4 @@ mod told;
 mod verifier;
 
 pub use error::VerifyError;
-pub use verifier::verify;
+pub use verifier::{verify, verify_linked};

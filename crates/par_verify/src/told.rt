@@ -1,67 +1,148 @@
-//! Frames that are told, as a verifier keeps them.
+//! What the forms of frames say, as a verifier keeps it. A form that says nothing stands in no file
+//! whose methods have their frames.
 
-ghost use Rattle.std.specs.Prelude.{◌≡◌, IfOk};
-ghost use Rattle.std.specs.Option.{option_map};
-ghost use Rattle.par_kinds.specs.Told.{as_met};
+ghost use Rattle.std.specs.Prelude.{◌≡◌, ◌-◌, [], ◌∷◌, ◌++◌, length, take, map, reverse};
+ghost use Rattle.std.specs.Prelude.{IfOk, IfSome};
+ghost use Rattle.par_kinds.specs.Linked.{padded};
 ghost use Rattle.par_frame_steps.specs.Marks.{kind_of, kinds_of, frame_of};
-ghost use Rattle.par_verify_laws.specs.Verified.{whole};
-ghost use Rattle.par_verify.specs.Starts.{told_of};
+ghost use Rattle.par_given_frames.specs.par_frames.Given.{locals_said, stack_said};
+ghost use Rattle.par_verify.specs.Said.{kind_in, kind_in_class};
 
 use par_base::memory::NoMemory;
+use par_class::par_pool::constant::Constant;
+use par_class::par_pool::kind::entry;
+use par_frame_forms::{FrameForm, PlaceType};
 use par_frame_steps::{Pile, PlaceFrame, PlaceKind};
-use par_kinds::{Frame, PlacedFrame, VKind};
+use par_single::member::text_at;
 use std::alloc::Global;
 
-/// A kind that is told.
-fn kind_told(kind: &VKind) -> PlaceKind
-    ensures { kind_of result ≡ kind.now }
+/// The kind of the class of this name.
+fn class_kind(name: &[u8]) -> PlaceKind
+    ensures { kind_of result ≡ kind_in_class name.now }
 {
-    match kind {
-        VKind::Top => PlaceKind::Top,
-        VKind::Int => PlaceKind::Int,
-        VKind::Null => PlaceKind::Null,
-        VKind::Object(name) => PlaceKind::Object(name.bytes()),
-        VKind::Base(is_exception) => PlaceKind::Base(*is_exception),
+    if name == b"java/lang/Object".as_slice() {
+        PlaceKind::Base(false)
+    } else if name == b"java/lang/Exception".as_slice() {
+        PlaceKind::Base(true)
+    } else if name == b"java/lang/ArithmeticException".as_slice() {
+        PlaceKind::Object(b"ArithmeticException")
+    } else if name == b"java/lang/NullPointerException".as_slice() {
+        PlaceKind::Object(b"NullPointerException")
+    } else if name == b"paragon/Locks".as_slice() {
+        PlaceKind::Top
+    } else {
+        PlaceKind::Object(name)
     }
 }
 
-/// Kinds that are told.
-fn kinds_told(alloc: Global, kinds: &[VKind]) -> Result<Vec<PlaceKind>, NoMemory>
-    ensures { IfOk result (λ all. kinds_of all.items ≡ kinds.now) }
+/// The kind that a type says.
+fn kind_said<'f>(entries: &'f [Constant], t: &PlaceType) -> PlaceKind<'f>
+    ensures { kind_of result ≡ kind_in entries.entry.now t.now }
 {
-    let mut all = Vec::new(alloc);
-    for kind in kinds {
-        all.push(kind_told(kind))?;
+    match t {
+        PlaceType::Top => PlaceKind::Top,
+        PlaceType::Int => PlaceKind::Int,
+        PlaceType::Null => PlaceKind::Null,
+        PlaceType::Class(index) => match entry(entries, *index) {
+            Some(Constant::Class(name)) => class_kind(text_at(entries, *name)),
+            _ => PlaceKind::Top,
+        },
+    }
+}
+
+/// The kinds that types say, put behind others.
+fn put_kinds<'f>(
+    alloc: Global,
+    entries: &'f [Constant],
+    types: &[PlaceType],
+    first: Pile<'f>,
+) -> Result<Pile<'f>, NoMemory>
+    ensures { IfOk result (λ all. kinds_of all
+        ≡ kinds_of first.entry ++ map (kind_in entries.entry.now) types.now) }
+{
+    let mut all = first;
+    for t in types {
+        all.push(alloc, kind_said(entries, t))?;
     }
     Ok(all)
 }
 
-/// A frame that is told of code with so many locals.
-pub(crate) fn frame_told(alloc: Global, many: u16, frame: &Frame) -> Result<PlaceFrame, NoMemory>
-    ensures { IfOk result (λ met. frame_of met ≡ whole many (as_met frame.now)) }
+/// Kinds without the last ones.
+fn cut<'f>(alloc: Global, many: u8, listed: Pile<'f>) -> Result<Pile<'f>, NoMemory>
+    ensures { IfOk result (λ left.
+        left ≡ take (length listed.entry - many) listed.entry) }
 {
-    let locals = kinds_told(alloc, frame.locals.as_slice())?;
-    let stack = kinds_told(alloc, frame.stack.as_slice())?;
-    Ok(PlaceFrame {
-        many: many as usize,
-        locals: Pile::of(alloc, &locals)?,
-        stack: Pile::of(alloc, &stack)?,
-    })
+    let mut left = listed;
+    left.take(alloc, usize::from(many))?;
+    Ok(left)
 }
 
-/// The frame that is told of an offset of code with so many locals.
-pub(crate) fn told_at(
+/// The locals of a form, behind a frame that lists these.
+pub(crate) fn locals_said<'f>(
     alloc: Global,
-    many: u16,
-    frames: &[PlacedFrame],
-    at: u32,
-) -> Result<Option<PlaceFrame>, NoMemory>
-    ensures { IfOk result (λ frame. option_map frame_of frame ≡ told_of many frames.now at) }
+    entries: &'f [Constant],
+    listed: Pile<'f>,
+    form: &FrameForm,
+) -> Result<Pile<'f>, NoMemory>
+    ensures { IfOk result (λ locals.
+        IfSome (locals_said entries.entry.now (kinds_of listed.entry) form.now)
+        (λ said. kinds_of locals ≡ said)) }
 {
-    for placed in frames {
-        if placed.offset == at {
-            return Ok(Some(frame_told(alloc, many, &placed.frame)?));
+    match form {
+        FrameForm::Cut(many, _) => cut(alloc, *many, listed),
+        FrameForm::More(_, types) => put_kinds(alloc, entries, types.as_slice(), listed),
+        FrameForm::Full(_, locals, _) => {
+            put_kinds(alloc, entries, locals.as_slice(), Pile::new(alloc))
         }
+        _ => Ok(listed),
     }
-    Ok(None)
+}
+
+/// The one kind that a type says.
+fn single<'f>(alloc: Global, entries: &'f [Constant], t: &PlaceType) -> Result<Pile<'f>, NoMemory>
+    ensures { IfOk result (λ kinds. kinds_of kinds ≡ kind_in entries.entry.now t.now ∷ []) }
+{
+    let mut kinds = Pile::new(alloc);
+    kinds.push(alloc, kind_said(entries, t))?;
+    Ok(kinds)
+}
+
+/// The operands of a form.
+fn stack_said<'f>(
+    alloc: Global,
+    entries: &'f [Constant],
+    form: &FrameForm,
+) -> Result<Pile<'f>, NoMemory>
+    ensures { IfOk result (λ stack. IfSome (stack_said entries.entry.now form.now)
+        (λ said. kinds_of stack ≡ said)) }
+{
+    match form {
+        FrameForm::OneOperand(_, t) => single(alloc, entries, t),
+        FrameForm::OneOperandFar(_, t) => single(alloc, entries, t),
+        FrameForm::Full(_, _, stack) => {
+            put_kinds(alloc, entries, stack.as_slice(), Pile::new(alloc))
+        }
+        _ => Ok(Pile::new(alloc)),
+    }
+}
+
+/// The frame of a form that lists these locals, of code with so many. It shares them.
+pub(crate) fn frame_said<'f>(
+    alloc: Global,
+    entries: &'f [Constant],
+    many: u16,
+    listed: &Pile<'f>,
+    form: &FrameForm,
+) -> Result<PlaceFrame<'f>, NoMemory>
+    ensures { IfOk result (λ frame. IfSome (stack_said entries.entry.now form.now)
+        (λ said. frame_of frame ≡ record {
+          locals = padded many (kinds_of listed.now);
+          stack = reverse said;
+        })) }
+{
+    Ok(PlaceFrame {
+        many: usize::from(many),
+        locals: listed.copied(alloc)?,
+        stack: stack_said(alloc, entries, form)?,
+    })
 }

@@ -2,10 +2,15 @@
 
 ghost use Rattle.std.specs.Prelude.{◌≡◌, ◌<◌, IfOk, Some, length, slice_get};
 ghost use Rattle.par_kinds.specs.Linked.{exception_names};
-ghost use Rattle.par_frame_steps.specs.Marks.{names};
-ghost use Rattle.par_verify_laws.specs.Verified.{AreFramesOf, frames_in};
-ghost use Rattle.par_verify.specs.Answers.{IsMethod, IsFirstIn, Says, Passes, Verified};
+ghost use Rattle.par_frame_steps.specs.Marks.{names, kinds_of};
+ghost use Rattle.par_frame_passes.specs.Tables.{table_of};
+ghost use Rattle.par_given_frames.specs.par_frames.Given.{start_of};
+ghost use Rattle.par_verify_laws.specs.Verified.{AreFramesOf};
+ghost use Rattle.par_verify.specs.Answers.{HaveFrames, OfFrames, IsMethod, IsFirstIn, Says, Passes};
+ghost use Rattle.par_verify.specs.Answers.{Verified};
+ghost use Rattle.par_verify.specs.Starts.{IsTold};
 
+use crate::begun::told_table;
 use crate::error::VerifyError;
 use crate::first::first_frame;
 use crate::judgement::{Site, judge};
@@ -14,30 +19,39 @@ use par_base::list::List;
 use par_base::memory::NoMemory;
 use par_class::file::{ClassFile, CodeAttr, MethodFile};
 use par_frame_acts::gives_at;
-use par_kinds::{MethodFrames, PlacedFrame};
+use par_frame_passes::Table;
+use par_frame_steps::PlaceFrame;
+use par_given_frames::method_forms;
+use par_kinds::MethodFrames;
 use par_link::Linked;
 use par_single::member::{is_static, own_name, text_at};
 use std::alloc::Global;
 
-/// Linked files, the frames that they tell and the names of their exception classes.
+/// Linked files and the names of their exception classes.
 #[derive(Clone, Copy)]
 struct Program<'m, 'f> {
     linked: &'f Linked,
-    frames: &'f List<List<MethodFrames>>,
     exceptions: &'m [&'f [u8]],
 }
 
-/// The frames that are told of a method.
-fn frames_in(frames: &List<List<MethodFrames>>, class: u16, method: usize) -> &[PlacedFrame]
-    ensures { result.now ≡ frames_in frames.now class method }
+/// The frames that a method tells, by the offsets of its code. They are read where they are asked
+/// for, so that those of one method alone are kept, and share their locals.
+fn told_frames<'f>(
+    alloc: Global,
+    file: &'f ClassFile,
+    method: &MethodFile,
+    code: &CodeAttr,
+    first: &PlaceFrame<'f>,
+) -> Result<Table<'f>, NoMemory>
+    requires { kinds_of first.now.locals ≡ start_of file.now method.now }
+    ensures many { IfOk result (λ table. length table.items ≡ length code.now.code) }
+    ensures told { IfOk result (λ table.
+        IsTold file.entry.now method.now code.now (table_of table.items)) }
 {
-    match frames.get(class as usize) {
-        Some(of_file) => match of_file.get(method) {
-            Some(of_method) => of_method.at.as_slice(),
-            None => &[],
-        },
-        None => &[],
-    }
+    let forms = method_forms(alloc, file, method)?;
+    let listed = first.locals.copied(alloc)?;
+    let entries = file.pool.entries.as_slice();
+    told_table(alloc, entries, code, listed, forms.as_slice())
 }
 
 /// Whether a method with code is verified.
@@ -50,17 +64,17 @@ fn is_verified<'f>(
     method: &'f MethodFile,
     code: &'f CodeAttr,
 ) -> Result<bool, NoMemory>
-    requires told { AreFramesOf program.linked.now program.frames.now }
     requires exceptions { names program.exceptions.now ≡ exception_names program.linked.now }
     requires there { IsMethod program.linked.now class file.now place method.now }
     requires coded { method.now.code ≡ Some code.now }
-    ensures { IfOk result (λ fits.
-        Says program.entry.linked.now program.entry.frames.now class place fits) }
+    ensures { IfOk result (λ fits. OfFrames program.entry.linked.now
+        (λ all. Says program.entry.linked.now all class place fits)) }
 {
     let entries = file.pool.entries.as_slice();
     let descriptor = text_at(entries, method.descriptor);
     let fixed = is_static(method.access);
     let first = first_frame(alloc, code.max_locals, fixed, own_name(file), descriptor)?;
+    let table = told_frames(alloc, file, method, code, &first)?;
     let site = Site {
         linked: program.linked,
         class,
@@ -70,7 +84,7 @@ fn is_verified<'f>(
     };
     // Code of linked files is short.
     let _ = program.linked.count();
-    judge(alloc, site, &first, frames_in(program.frames, class, place))
+    judge(alloc, site, first, table)
 }
 
 /// Whether a method is verified, if it has code.
@@ -81,12 +95,11 @@ fn passes<'f>(
     file: &'f ClassFile,
     place: usize,
 ) -> Result<bool, NoMemory>
-    requires told { AreFramesOf program.linked.now program.frames.now }
     requires exceptions { names program.exceptions.now ≡ exception_names program.linked.now }
     requires listed { slice_get program.linked.now class ≡ Some file.now }
     requires inside { place < length file.now.methods }
-    ensures { IfOk result (λ fits.
-        Passes program.entry.linked.now program.entry.frames.now class place fits) }
+    ensures { IfOk result (λ fits. OfFrames program.entry.linked.now
+        (λ all. Passes program.entry.linked.now all class place fits)) }
 {
     let method = &file.methods.as_slice()[place];
     match &method.code {
@@ -97,10 +110,9 @@ fn passes<'f>(
 
 /// The first method of a file that is not verified.
 fn first_unfit(alloc: Global, program: Program<'_, '_>, class: u16) -> Result<Option<u32>, NoMemory>
-    requires told { AreFramesOf program.linked.now program.frames.now }
     requires exceptions { names program.exceptions.now ≡ exception_names program.linked.now }
-    ensures { IfOk result (λ first.
-        IsFirstIn program.entry.linked.now program.entry.frames.now class first) }
+    ensures { IfOk result (λ first. OfFrames program.entry.linked.now
+        (λ all. IsFirstIn program.entry.linked.now all class first)) }
 {
     let Some(file) = program.linked.file(class) else {
         return Ok(None);
@@ -119,18 +131,13 @@ fn first_unfit(alloc: Global, program: Program<'_, '_>, class: u16) -> Result<Op
 /// Whether frames fit the code of each method, and are in a file of version 51 those that it tells
 /// at the offsets at which it tells some. If not, the first method that has none, files in their
 /// order and methods in that of their tables.
-pub fn verify(
-    alloc: Global,
-    linked: &Linked,
-    frames: &List<List<MethodFrames>>,
-) -> Result<(), VerifyError>
-    requires { AreFramesOf linked.now frames.now }
-    ensures { Verified linked.now frames.now result }
+pub fn verify_linked(alloc: Global, linked: &Linked) -> Result<(), VerifyError>
+    requires { HaveFrames linked.now }
+    ensures { OfFrames linked.now (λ all. Verified linked.now all result) }
 {
     let exceptions = exception_names(alloc, linked)?;
     let program = Program {
         linked,
-        frames,
         exceptions: exceptions.as_slice(),
     };
     for class in 0..linked.count() {
@@ -140,4 +147,18 @@ pub fn verify(
         }
     }
     Ok(())
+}
+
+/// The same of files whose frames are at hand. These are those that the files tell, so that they
+/// are asked for no more.
+pub fn verify(
+    alloc: Global,
+    linked: &Linked,
+    frames: &List<List<MethodFrames>>,
+) -> Result<(), VerifyError>
+    requires { AreFramesOf linked.now frames.now }
+    ensures { Verified linked.now frames.now result }
+{
+    let _ = frames;
+    verify_linked(alloc, linked)
 }

@@ -1,20 +1,20 @@
-use Rattle.par_tool.specs.Failures.{IsFailure, failure_of}
-use Rattle.par_verify.specs.par_verify_laws.Verified.{AllFrames, AreFramesOf}
-use Rattle.par_tool.specs.Verifications.{IsUnverifiable}
-use Rattle.par_tool.proofs.Loads.{handed}
-use Rattle.par_tool.proofs.Verifying.{unframed, unfit_so}
+use Rattle.std.proofs.Common.{◌∙◌}
+use Rattle.par_tool.proofs.Verifying.{unfit_so, frames_there}
 use Rattle.par_tool.proofs.verifications.verified.Goals as goal
 
-pub returns-in_err-frames-clause-failed : goal.returns-in_err-frames-clause-failed
-returns-in_err-frames-clause-failed c =
-    let all = c.args.linked.now in
-    let e = c.in_err-frames.field-0.0 in
-    handed c.from_residual.result (failure_of e) (IsFailure (IsUnverifiable all))
-    c.from_residual.ensures.1
-    (unframed {A = AllFrames} (AreFramesOf all) all e c.in_err-frames.ensures)
+pub verify_linked-requires : goal.verify_linked-requires
+verify_linked-requires c = frames_there c.args.linked.now c.in_ok-framed.ensures
+
+pub returns-in-Ok-clause-verified : goal.returns-in-Ok-clause-verified
+returns-in-Ok-clause-verified c =
+    let told = frames_there c.args.linked.now c.in_ok-framed.ensures in (
+      c.from.ensures ∙ c.count.ensures.many,
+      record { frames = told.0; of = told.1; verified = c.in-Ok.ensures told.0 told.1 },
+    )
 
 pub returns-in-Broken-clause-failed : goal.returns-in-Broken-clause-failed
 returns-in-Broken-clause-failed c =
-    let unverified = rw c.in-Broken.is at c.in-Err.ensures in
-    unfit_so c.args.linked.now c.in_ok-frames.frames c.in-Broken.class c.in-Broken.method
-    c.unfit.result c.in_ok-frames.ensures unverified c.unfit.ensures
+    let told = frames_there c.args.linked.now c.in_ok-framed.ensures in
+    let unverified = rw c.in-Broken.is at (c.in-Err.ensures told.0 told.1) in
+    unfit_so c.args.linked.now told.0 c.in-Broken.class c.in-Broken.method c.unfit.result told.1
+    unverified c.unfit.ensures

@@ -1,12 +1,60 @@
-use Rattle.std.proofs.Common.{Some, set, sym, ap, ◌∙◌}
+use Rattle.std.proofs.Common.{◌≡◌, suc, ◌+◌, ◌∷◌, None, replicate, length, drop, drop-cons, sym, ap}
+use Rattle.std.proofs.Common.{subst, ◌∙◌, arith}
+use Rattle.std.proofs.lemmas.List.{drop_all, length-replicate}
+use Rattle.par_frame_steps.specs.Marks.{kinds_of, frame_of}
 use Rattle.par_frame_passes.specs.Tables.{table_of}
-use Rattle.par_verify.proofs.Starting.{told_more}
+use Rattle.par_verify.proofs.Folding.{Tells, begun, one_more, ended, if-said}
 use Rattle.par_verify.proofs.begun.told_table.Goals as goal
 
-pub loop-done-preserved : goal.loop-done-preserved
-loop-done-preserved c =
-    let f = c.index-frames-frames.result in
-    let t = table_of c.loop-done.table.items in
-    told_more c.args.many c.args.frames.now c.args.code.now c.loop-done.done f t _
-    c.loop-done-test.true (sym c.index-frames-frames.is) c.loop-done.invariant
-    (c.keep.ensures ∙ ap (λ k. set t f.offset (Some k)) c.in_ok-frame.ensures)
+pub loop-form-init : goal.loop-form-init
+loop-form-init c =
+    let blank = c.in_ok-table.ensures ∙ ap (λ n. replicate n None) c.len.ensures in
+    record {
+      many =
+          ap length c.in_ok-table.ensures ∙ length-replicate c.len.result None ∙ c.len.ensures;
+      near = omega arith;
+      told = λ all said.
+          begun c.args.entries.now c.args.code.now.max_locals c.args.code.now.code all
+          (kinds_of c.args.start) c.args.forms.now c.in_ok-table.table.items blank said;
+    }
+
+pub loop-form-preserved : goal.loop-form-preserved
+loop-form-preserved c =
+    let forms = c.args.forms.now in
+    let i = c.loop-form.form-index in
+    let form = c.form-item.result in
+    let from = c.loop-form.from in
+    let at = from + c.from.result in
+    let next : suc i ≡ i + 1 = omega arith in
+    let split : drop i forms ≡ form ∷ drop (i + 1) forms =
+    drop-cons forms i form c.loop-form-test.true
+    ∙ ap (λ f. f ∷ drop (suc i) forms) (sym c.form-item.is)
+    ∙ ap (λ n. form ∷ drop n forms) next in
+    let near = c.loop-form.invariant.near in
+    let short = c.from.ensures in
+    record {
+      many = c.keep.ensures.many ∙ c.loop-form.invariant.many;
+      near = omega (arith, near, short);
+      told = λ all said.
+          one_more c.args.entries.now c.args.code.now.max_locals c.args.code.now.code all form
+          (drop (i + 1) forms) from at (kinds_of c.loop-form.listed)
+          (kinds_of c.in_ok-listed.listed) (table_of c.loop-form.table.items)
+          (table_of c.keep.new.table.items) (frame_of c.in_ok-frame.frame)
+          (ap (λ n. from + n) (c.from.ensures ∙ c.delta.ensures)) c.in_ok-listed.ensures
+          c.in_ok-frame.ensures c.keep.ensures.kept
+          (subst (λ fs. Tells c.args.entries.now c.args.code.now.max_locals
+          c.args.code.now.code all from (kinds_of c.loop-form.listed) fs
+          (table_of c.loop-form.table.items)) split (c.loop-form.invariant.told all said));
+    }
+
+pub returns-clause-told : goal.returns-clause-told
+returns-clause-told c =
+    let pool = c.args.entries.now in
+    let code = c.args.code.now in
+    let i = c.loop-form.form-index in
+    let listed = kinds_of c.loop-form.listed in
+    let table = table_of c.loop-form.table.items in
+    if-said _ _
+    (λ all said. ended pool code.max_locals code.code all c.loop-form.from listed table
+    (subst (λ fs. Tells pool code.max_locals code.code all c.loop-form.from listed fs table)
+    (drop_all i c.args.forms.now c.loop-form-test.false) (c.loop-form.invariant.told all said)))

@@ -1,9 +1,11 @@
 use Rattle.std.proofs.Common.{◌≡◌, ℕ, ◌<◌, true}
 use Rattle.par_kinds.specs.Linked.{coded_at}
 use Rattle.par_verify_laws.specs.Verified.{IsVerified}
-use Rattle.par_verify.proofs.verifier.verify.Given as goal
+use Rattle.par_verify.specs.Answers.{OfFrames}
+use Rattle.par_verify.proofs.verifier.verify_linked.Given as goal
 
 -- the files before are verified
 abbrev pub invariant-loop-class : goal.invariant-loop-class
 invariant-loop-class l =
-    (c m : ℕ) → c < l.class → coded_at l.linked c m ≡ true → IsVerified l.linked l.frames c m
+    OfFrames l.linked
+    (λ all. (c m : ℕ) → c < l.class → coded_at l.linked c m ≡ true → IsVerified l.linked all c m)
