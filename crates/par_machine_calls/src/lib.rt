@@ -1,6 +1,6 @@
-//! Public calls of the machine, of what it knows of classes, and of what loads and links class
-//! files for it, each run once with ample memory. The crate is tests alone, and nothing stands on
-//! it.
+//! Public calls of the machine, of what it knows of classes, and of what loads, links and verifies
+//! class files for it, each run once with ample memory. The crate is tests alone, and nothing
+//! stands on it.
 #![tactic(auto)]
 
 #[cfg(test)]
@@ -15,3 +15,5 @@ mod machine_places;
 mod machine_runs;
 #[cfg(test)]
 mod method_areas;
+#[cfg(test)]
+mod verified_files;
