@@ -9,6 +9,7 @@ pub mod Long
 pub mod Bodies
 pub mod Laid
 pub mod Files
+pub mod Chosen
 pub mod Each
 pub mod Initializers
 pub mod Gathered

@@ -1,6 +1,6 @@
 -- The file of a class, before anything is said of the numbers of classes.
 use Rattle.std.specs.Prelude.{◌≡◌, ℕ, ◌<◌, ◌≤◌, ◌^◌, nat_lt, Bool, true, false, List, [], length}
-use Rattle.std.specs.Prelude.{Option, Some, None, codes}
+use Rattle.std.specs.Prelude.{Option, Some, None, Result, Ok, Err, codes}
 use Rattle.std.specs.List.{All, AllZip, list_any}
 use Rattle.par_typed.specs.declared.table.ClassInfo.{ClassInfo}
 use Rattle.par_typed.specs.declared.table.Table.{Table}
@@ -56,6 +56,20 @@ pub record IsOwnBytes (table : Table) (class : ClassInfo) (ms : List Member) (by
   pub frames : Bool
   pub is : IsShortFile frames table class ms bytes
   pub unframed : frames ≡ false → IsLongFile true table class ms
+
+-- what comes behind what is made with frames: what is made without them where that is nothing
+abbrev pub Follows : {E : Type 0} → (Bool → Result (Option (List ℕ)) E → Type 0)
+    → Result (Option (List ℕ)) E → Result (Option (List ℕ)) E → Type 0
+Follows makes (Err e) result = result ≡ Err e
+Follows makes (Ok None) result = makes false result
+Follows makes (Ok (Some bytes)) result = result ≡ Ok (Some bytes)
+
+-- what is made with frames, or where that is nothing what is made without them
+pub record IsFirstMade {E : Type 0} (makes : Bool → Result (Option (List ℕ)) E → Type 0)
+    (result : Result (Option (List ℕ)) E) : Type 0 where
+  pub first : Result (Option (List ℕ)) E
+  pub made : makes true first
+  pub follows : Follows makes first result
 
 -- ---- attributes that are longer than a class file may be
 

@@ -5,7 +5,7 @@ ghost use Rattle.std.specs.List.{list_any};
 ghost use Rattle.par_erase.specs.Shown.{class_info, table_of};
 ghost use Rattle.par_compile.specs.Own.{AreNamed, IsReady, own_members};
 ghost use Rattle.par_compile.specs.Whole as whole;
-ghost use Rattle.par_compile.specs.Whole.{IsShortFile, IsLongFile, IsOwnBytes};
+ghost use Rattle.par_compile.specs.Whole.{IsShortFile, IsLongFile, IsOwnBytes, IsFirstMade};
 
 use crate::class::class_file;
 use par_base::list::List;
@@ -67,6 +67,21 @@ fn file_bytes(
     Ok(Some(bytes))
 }
 
+/// What is made with frames, or without them where nothing is made with them.
+///
+/// It cannot give up: no error can be made here but by what makes.
+fn with_or_without<E: Drop, F: Fn(bool) -> Result<Option<List<u8>>, E>>(
+    make: F,
+) -> Result<Option<List<u8>>, E>
+    requires { F.IsAlwaysCallable make }
+    ensures { IsFirstMade (F.post make) result }
+{
+    if let Some(bytes) = make(true)? {
+        return Ok(Some(bytes));
+    }
+    make(false)
+}
+
 /// The bytes of the file of a class: with frames where these are few enough to be read again.
 ///
 /// A file that is too long even without frames is not handed out. That the limits of sources leave
@@ -77,10 +92,8 @@ pub fn class_bytes(alloc: Global, plain: &Plain, class: &PlainClass) -> Result<L
     ensures { IfOk result (IsOwnBytes (table_of plain.now) (class_info class.now)
         (own_members plain.now class.now)) }
 {
-    if let Some(bytes) = file_bytes(alloc, plain, class, true)? {
-        return Ok(bytes);
-    }
-    match file_bytes(alloc, plain, class, false)? {
+    let made = with_or_without(|frames| file_bytes(alloc, plain, class, frames))?;
+    match made {
         None => Err(NoMemory),
         Some(bytes) => Ok(bytes),
     }
