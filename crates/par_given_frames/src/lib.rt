@@ -2,8 +2,8 @@
 //! first method that has none (number 46).
 //!
 //! `first_unframed` looks at the frames alone: what it keeps are their forms and where they stand.
-//! `frames_of` also gives their kinds, and `method_forms` of one method what its frames are said by.
-//! What is written as frames is read as these frames again.
+//! `frames_of` also gives their kinds, and `method_forms` of one method what its frames are said
+//! by. What is written as frames is read as these frames again.
 //! Whether frames fit the code is not asked here.
 #![tactic(auto)]
 
