@@ -2,6 +2,7 @@ pub mod NumberSets
 pub mod Normal
 pub mod Stays
 pub mod Nearest
+pub mod Added
 pub mod Later
 pub mod Loops
 pub mod Steps

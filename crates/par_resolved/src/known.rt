@@ -15,7 +15,7 @@ ghost use Rattle.par_refusals.specs.First.{first_of};
 use crate::forms::form;
 use crate::joins::{join_all, note_joins};
 use crate::numbers::Numbers;
-use crate::read::{Read, are_same, push_read};
+use crate::read::{Read, are_same, joins_by_place, push_read};
 use par_base::memory::NoMemory;
 use par_base::name::Name;
 use par_names::par_index::NameIndex;
@@ -195,7 +195,45 @@ impl<'a> Known<'a> {
         })
     }
 
-    // What an expression comes to that says the same as the declared one at its place.
+    /// The same, by which no join among these expressions is worked out again, up to the first that
+    /// exceeds a limit.
+    pub fn with_joins(self, alloc: Global, exprs: &[&'a PolicyExpr]) -> Result<Known<'a>, NoMemory>
+        ensures { IfOk result (λ k. known_seen k ≡ known_seen self.entry) }
+    {
+        let joins = joins_by_place(alloc, exprs)?;
+        let read = self.read_all(alloc, joins.as_slice())?;
+        let Known {
+            numbers,
+            names,
+            values,
+            read: _,
+        } = self;
+        Ok(Known {
+            numbers,
+            names,
+            values,
+            read,
+        })
+    }
+
+    // What these come to, up to the first that exceeds a limit.
+    fn read_all(&self, alloc: Global, exprs: &[&'a PolicyExpr]) -> Result<Vec<Read<'a>>, NoMemory>
+        ensures { IfOk result (λ read. AreRead (known_seen self.now) read.items) }
+    {
+        let mut read = Vec::new(alloc);
+        for expr in exprs {
+            match self.value_of(alloc, expr)? {
+                None => return Ok(read),
+                Some(policy) => read.push(Read {
+                    expr: *expr,
+                    policy,
+                })?,
+            }
+        }
+        Ok(read)
+    }
+
+    // What an expression comes to that says the same as the one read at its place.
     fn read_before(&self, e: &PolicyExpr) -> Option<&Policy>
         ensures { IfSome result (λ p. value_of (known_seen self.now) e.now ≡ Some p.now) }
     {
@@ -207,8 +245,7 @@ impl<'a> Known<'a> {
         None
     }
 
-    /// What an expression comes to. That of a declared policy which was read is not worked out
-    /// again.
+    /// What an expression comes to. One that was read is not worked out again.
     pub fn value_of(&self, alloc: Global, e: &PolicyExpr) -> Result<Option<Policy>, NoMemory>
         ensures { IfOk result (λ p. p ≡ value_of (known_seen self.now) e.now) }
     {

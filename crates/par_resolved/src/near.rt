@@ -1,13 +1,15 @@
 // Joins of policies where each clause of one has a nearest clause of the other: one that adds no
 // lock but those that each of them adds.
-ghost use Rattle.std.specs.Prelude.{◌≡◌, Contains, IfOk, IfSome};
+ghost use Rattle.std.specs.Prelude.{◌≡◌, ◌++◌, Contains, IfOk, IfSome};
 ghost use Rattle.std.specs.List.{list_all};
 ghost use Rattle.par_typed.specs.par_policy.Lattice.{AllowsBoth, IsJoin};
-ghost use Rattle.par_resolved.specs.Nearest.{is_near, IsNearest};
+ghost use Rattle.par_typed.specs.par_policy.Numbers.{within};
+ghost use Rattle.par_resolved.specs.Nearest.{is_near, IsAdded, IsNearest};
 ghost use Rattle.par_resolved.specs.Sets.{joined};
 
 use crate::settled::{bits_of_both, has_only_locks_of};
 use par_base::memory::NoMemory;
+use par_typed::par_policy::par_bits::Bits;
 use par_typed::par_policy::{Clause, OpenLocks, Policy, leq};
 use std::alloc::Global;
 
@@ -68,7 +70,48 @@ fn nearest<'a>(clause: &Clause, others: &'a [Clause]) -> Option<&'a Clause>
 fn is_nearest(near: &Clause, clause: &Clause, others: &[Clause]) -> bool
     ensures { result ≡ list_all (is_near clause.now near.now) others.now }
 {
+    match added_bits(near, clause) {
+        None => each_adds_more(near, clause, others),
+        Some(added) => each_has(&added, near, clause, others),
+    }
+}
+
+fn each_adds_more(near: &Clause, clause: &Clause, others: &[Clause]) -> bool
+    ensures { result ≡ list_all (is_near clause.now near.now) others.now }
+{
     others.iter().all(|other| other.actor != clause.actor || has_only_locks_of(near, clause, other))
+}
+
+// The locks that the near one adds to the clause, where they are kept as bits.
+fn added_bits(near: &Clause, clause: &Clause) -> Option<Bits<4>>
+    ensures { IfSome result (IsAdded near.now clause.now) }
+{
+    let bits = near.locks.as_bits()?;
+    let own = clause.locks.as_bits()?;
+    Some(bits.minus(&own))
+}
+
+// The same by what the near one adds, which each other one of its actor has.
+fn each_has(added: &Bits<4>, near: &Clause, clause: &Clause, others: &[Clause]) -> bool
+    requires { IsAdded near.now clause.now added.now }
+    ensures { result ≡ list_all (is_near clause.now near.now) others.now }
+{
+    for other in others {
+        if other.actor == clause.actor && !has_added(added, near, clause, other) {
+            return false;
+        }
+    }
+    true
+}
+
+fn has_added(added: &Bits<4>, near: &Clause, clause: &Clause, other: &Clause) -> bool
+    requires { IsAdded near.now clause.now added.now }
+    ensures { result ≡ within near.now.locks (clause.now.locks ++ other.now.locks) }
+{
+    match other.locks.as_bits() {
+        None => has_only_locks_of(near, clause, other),
+        Some(bits) => added.within(&bits),
+    }
 }
 
 // The only one of the other clauses that may be the nearest.

@@ -8,6 +8,7 @@ use par_base::memory::NoMemory;
 use par_base::name::Name;
 use par_tree::policy::{PolicyExpr, PolicyTerm};
 use par_typed::par_policy::Policy;
+use std::alloc::Global;
 
 /// An expression, and the policy that it comes to.
 #[derive(Drop)]
@@ -32,6 +33,21 @@ pub(crate) fn push_read<'a>(
             Ok(())
         }
     }
+}
+
+/// The joins among these, in the order of their places.
+pub(crate) fn joins_by_place<'a>(
+    alloc: Global,
+    exprs: &[&'a PolicyExpr],
+) -> Result<Vec<&'a PolicyExpr>, NoMemory> {
+    let mut joins = Vec::new(alloc);
+    for expr in exprs {
+        if expr.terms.len() > 1 {
+            joins.push(*expr)?;
+        }
+    }
+    joins.sort_by_key(|expr| expr.at)?;
+    Ok(joins)
 }
 
 /// Whether the terms of two expressions are the same, and none of them is written out.
