@@ -121,26 +121,52 @@ def operands_on_operands(part):
     return of_code(b"\x01" * 65534 + b"\xb1", 65534, 0, int(15 * part)), VERIFY
 
 
-def branches_under_operands(part):
+def under_operands(pushed, branches):
     """Branches to offsets ahead, each under all operands, so that as many frames are kept at once
-    as there are branches."""
-    operands, branches = int(30000 * part), int(5900 * part)
-    code = b"\x01" * operands
-    goals = operands + 4 * branches
+    as there are branches; behind code that pushes operands, a byte each."""
+    code = pushed
+    goals = len(pushed) + 4 * branches
     for n in range(branches):
         code += b"\x03\x99" + struct.pack(">h", goals + 2 * n - len(code) - 1)
-    return of_code(code + b"\x03\x57" * branches + b"\xb1", operands + 2, 0, 1), VERIFY
+    return code + b"\x03\x57" * branches + b"\xb1"
+
+
+def branches_under_operands(part):
+    """A method of branches under operands."""
+    operands = int(30000 * part)
+    return of_code(under_operands(b"\x01" * operands, int(5900 * part)), operands + 2, 0, 1), VERIFY
+
+
+def methods_of_branches(part):
+    """Methods of branches under operands, as many as fit."""
+    code = under_operands(b"\x01" * 30000, 5900)
+    return of_code(code, 30002, 0, int(15 * part)), VERIFY
+
+
+def of_frames(locals_, code, frames, later, methods):
+    """Methods of version 51 with that code and so many frames: one of all locals of the third byte,
+    of which nothing is known, and behind it what is written of the later ones."""
+    table = struct.pack(">HBHH", frames, 255, 2, locals_) + b"\0" * (locals_ + 2) + later
+    body = struct.pack(">HHI", 1, locals_, len(code)) + code + b"\0\0"
+    body += b"\0\1" + struct.pack(">HI", 8, len(table)) + table
+    names = [long_class.utf8(f"m{n:05}") for n in range(methods)]
+    made = [struct.pack(">HHHHHI", 9, 9 + n, 7, 1, 5, len(body)) + body for n in range(methods)]
+    file = file_of([long_class.utf8("StackMapTable"), *names], [main(b"\xb1", 0, 0), *made])
+    return {"Long": file[:6] + b"\0\x33" + file[8:]}, VERIFY
 
 
 def frames_told(part):
     """Frames that are told of every second offset, each with all locals of the first one."""
     many = int(30000 * part)
-    table = struct.pack(">HBHH", many, 255, 2, many) + b"\0" * (many + 2) + b"\1" * (many - 1)
-    body = struct.pack(">HHI", 1, many, 2 * many + 1) + b"\x03\x57" * many + b"\xb1\0\0"
-    body += b"\0\1" + struct.pack(">HI", 8, len(table)) + table
-    method = struct.pack(">HHHHHI", 0x0009, 6, 7, 1, 5, len(body)) + body
-    file = file_of([long_class.utf8("StackMapTable")], [method])
-    return {"Long": file[:6] + b"\0\x33" + file[8:]}, VERIFY
+    return of_frames(many, b"\x03\x57" * many + b"\xb1", many, b"\1" * (many - 1), 1)
+
+
+def all_frames_told(part):
+    """Methods in which a frame is told of each offset, with as many locals and as many kinds behind
+    whole pieces of a pile as can be; as many as fit."""
+    pairs = 32766
+    code = b"\x03\x57" * (pairs + 1) + b"\xb1"
+    return of_frames(65471, code, 2 * pairs + 1, b"\x40\1\0" * pairs, int(4 * part))
 
 
 def handlers_around(part):
@@ -208,7 +234,9 @@ FILES = {
     "kinds that rise as often as they can, verified": kinds_that_rise,
     "65,534 operands on one another, verified": operands_on_operands,
     "5,900 branches under 30,000 operands, verified": branches_under_operands,
+    "15 methods of 5,900 branches under 30,000 operands, verified": methods_of_branches,
     "30,000 frames of 30,000 locals that are told, verified": frames_told,
+    "4 methods of 65,533 frames of 65,471 locals that are told, verified": all_frames_told,
     "65,535 handlers around all code, verified": handlers_around,
     "100,000 steps that throw past 65,000 handlers": throws_past_handlers,
     "the same, which name two constants by turns": throws_past_two_names,

@@ -1,9 +1,10 @@
 //! What is known before all pieces, which goes on from each before which it rose until none rises.
 
+use crate::due::Due;
 use crate::spots::{Spot, Way};
 use par_base::memory::NoMemory;
 use par_frame_steps::PlaceFrame;
-use par_small_kinds::{Before, Classes, SmallKind};
+use par_small_kinds::{Before, Classes, Effect, SmallKind};
 use std::alloc::Global;
 
 /// How many kinds are kept, before nothing is guessed.
@@ -16,9 +17,49 @@ pub(crate) struct Facts {
     pub(crate) locals: usize,
     befores: Vec<Option<Before>>,
     /// The pieces to which code comes, or before which something rose, and that are to go on.
-    due: Vec<usize>,
+    due: Due,
     /// How many kinds are kept.
     kinds: usize,
+}
+
+/// Lets what rose before a piece go on by a way.
+fn follow(before: &mut Before, effect: &Effect, from: &Before, way: Way, bits: usize) {
+    match way.caught {
+        Some(caught) => before.catch(from, caught, bits),
+        None => before.follow(from, effect, bits),
+    }
+}
+
+/// Whether a piece goes on to itself.
+fn comes_back(spot: &Spot, number: usize) -> bool {
+    for way in spot.ways.as_slice() {
+        if way.to == number {
+            return true;
+        }
+    }
+    false
+}
+
+/// Lets what rose before a piece come back to it, when it went on to all others.
+fn go_round(
+    alloc: Global,
+    spot: &Spot,
+    before: &mut Before,
+    number: usize,
+    bits: usize,
+) -> Result<(), NoMemory> {
+    if !comes_back(spot, number) {
+        before.rest();
+        return Ok(());
+    }
+    let from = before.copied(alloc)?;
+    before.rest();
+    for way in spot.ways.as_slice() {
+        if way.to == number {
+            follow(before, &spot.effect, &from, *way, bits);
+        }
+    }
+    Ok(())
 }
 
 impl Facts {
@@ -35,7 +76,7 @@ impl Facts {
         Ok(Facts {
             locals,
             befores,
-            due: Vec::new(alloc),
+            due: Due::none(alloc, spots)?,
             kinds: 0,
         })
     }
@@ -48,16 +89,31 @@ impl Facts {
         }
     }
 
-    /// Lets this stand before a piece to which code comes first.
-    fn stand(&mut self, number: usize, before: Before) -> Result<(), NoMemory> {
+    /// What is known before a piece, which is put back when it went on.
+    fn moved(&mut self, number: usize) -> Option<Before> {
+        match self.befores.get_mut(number) {
+            Some(place) => place.take(),
+            None => None,
+        }
+    }
+
+    /// Puts back what is known before a piece.
+    fn put(&mut self, number: usize, before: Before) {
         let Some(place) = self.befores.get_mut(number) else {
-            return Ok(());
+            return;
         };
+        let is_due = before.is_due();
+        *place = Some(before);
+        if is_due {
+            self.due.add(number);
+        }
+    }
+
+    /// Lets this stand before a piece to which code comes first.
+    fn stand(&mut self, number: usize, before: Before) {
         let places = self.locals.saturating_add(before.operands());
         self.kinds = self.kinds.saturating_add(places);
-        *place = Some(before);
-        self.due.push(number)?;
-        Ok(())
+        self.put(number, before);
     }
 
     /// Lets the frame that is told of a piece stand before it.
@@ -82,42 +138,61 @@ impl Facts {
                 Some(kind) => classes.small(kind)?,
                 None => SmallKind::Top,
             };
-            before.come(place, kind)?;
+            before.hold(place, kind);
         }
-        self.stand(number, before)
+        self.stand(number, before);
+        Ok(())
     }
 
-    /// Lets what rose before a piece go on by a way.
-    fn go(&mut self, alloc: Global, spot: &Spot, from: &Before, way: Way) -> Result<(), NoMemory> {
+    /// Lets what rose before a piece go on by a way to another.
+    fn go(
+        &mut self,
+        alloc: Global,
+        effect: &Effect,
+        from: &Before,
+        way: Way,
+        bits: usize,
+    ) -> Result<(), NoMemory> {
         let Some(Some(before)) = self.befores.get_mut(way.to) else {
             if self.kinds > MOST_KINDS {
                 return Ok(());
             }
-            let before = from.behind(alloc, &spot.effect, way.caught)?;
-            return self.stand(way.to, before);
+            let before = from.behind(alloc, effect, way.caught, bits)?;
+            self.stand(way.to, before);
+            return Ok(());
         };
-        let was_due = before.due() > 0;
-        before.follow(from, &spot.effect, way.caught)?;
-        if !was_due && before.due() > 0 {
-            self.due.push(way.to)?;
+        let was_due = before.is_due();
+        follow(before, effect, from, way, bits);
+        if !was_due && before.is_due() {
+            self.due.add(way.to);
         }
         Ok(())
     }
 
-    /// Lets what rose before a piece go on: how much was looked at.
-    fn go_on(&mut self, alloc: Global, spots: &[Spot], number: usize) -> Result<usize, NoMemory> {
+    /// Lets what rose before a piece go on by all its ways: how much was looked at.
+    fn go_on(
+        &mut self,
+        alloc: Global,
+        spots: &[Spot],
+        number: usize,
+        bits: usize,
+    ) -> Result<usize, NoMemory> {
         let Some(spot) = spots.get(number) else {
             return Ok(1);
         };
-        let Some(Some(before)) = self.befores.get_mut(number) else {
+        let Some(mut from) = self.moved(number) else {
             return Ok(1);
         };
-        let from = before.taken(alloc)?;
         for way in spot.ways.as_slice() {
-            self.go(alloc, spot, &from, *way)?;
+            if way.to != number {
+                self.go(alloc, &spot.effect, &from, *way, bits)?;
+            }
         }
         let ways = spot.ways.len().saturating_add(1);
-        Ok(from.work(&spot.effect).saturating_mul(ways))
+        let looked = from.work(&spot.effect).saturating_mul(ways);
+        go_round(alloc, spot, &mut from, number, bits)?;
+        self.put(number, from);
+        Ok(looked)
     }
 
     /// Lets all go on until nothing rises: whether that was soon.
@@ -125,14 +200,15 @@ impl Facts {
         &mut self,
         alloc: Global,
         spots: &[Spot],
+        bits: usize,
         patience: usize,
     ) -> Result<bool, NoMemory> {
         let mut left = patience;
         for _step in 0..patience {
-            let Some(number) = self.due.pop() else {
+            let Some(number) = self.due.next() else {
                 return Ok(self.kinds <= MOST_KINDS);
             };
-            let looked = self.go_on(alloc, spots, number)?;
+            let looked = self.go_on(alloc, spots, number, bits)?;
             let Some(rest) = left.checked_sub(looked) else {
                 return Ok(false);
             };

@@ -83,7 +83,8 @@ impl<'f> Sketch<'_, 'f> {
                 self.facts.tell(alloc, &mut self.classes, number, frame)?;
             }
         }
-        self.facts.settle(alloc, &self.spots, patience)
+        let bits = self.classes.bits();
+        self.facts.settle(alloc, &self.spots, bits, patience)
     }
 
     /// The kinds of some places.
@@ -122,7 +123,8 @@ impl<'f> Sketch<'_, 'f> {
         })
     }
 
-    /// The frames of some offsets, but those that are told.
+    /// The frames of some offsets, but those that are told. Where the same is known as of the
+    /// frame before it, one shares its kinds.
     fn frames(
         &self,
         alloc: Global,
@@ -130,15 +132,38 @@ impl<'f> Sketch<'_, 'f> {
         wanted: &[bool],
     ) -> Result<Vec<Guess<'f>>, NoMemory> {
         let mut frames = Vec::new(alloc);
+        let mut last: Option<&Before> = None;
         for (number, spot) in self.spots.as_slice().iter().enumerate() {
             if is_marked(wanted, spot.at as usize) && !spot.is_told {
                 if let Some(before) = self.facts.before(number) {
-                    let frame = self.frame(alloc, before, many)?;
+                    let frame = match like(&frames, last, before) {
+                        Some(frame) => frame.copied(alloc)?,
+                        None => self.frame(alloc, before, many)?,
+                    };
                     frames.push(Guess { at: spot.at, frame })?;
+                    last = Some(before);
                 }
             }
         }
         Ok(frames)
+    }
+}
+
+/// The last frame, if it is that of what is known.
+fn like<'g, 'f>(
+    frames: &'g [Guess<'f>],
+    last: Option<&Before>,
+    before: &Before,
+) -> Option<&'g PlaceFrame<'f>> {
+    let Some(last) = last else {
+        return None;
+    };
+    if !last.is_like(before) {
+        return None;
+    }
+    match frames.last() {
+        Some(guess) => Some(&guess.frame),
+        None => None,
     }
 }
 

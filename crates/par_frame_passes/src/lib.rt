@@ -8,12 +8,14 @@
 
 mod back;
 mod course;
+mod due;
 mod facts;
 mod fixpoint;
 mod goes;
 mod guess;
 mod landings;
 mod method;
+mod ordered;
 mod outcome;
 mod piece;
 mod spared;

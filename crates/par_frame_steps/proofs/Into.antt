@@ -1,5 +1,6 @@
 -- What fits into a kind, by the questions that instructions ask.
-use Rattle.std.proofs.Common.{◌≡◌, true, false, List, refl}
+use Rattle.std.proofs.Common.{◌≡◌, true, false, List, [], refl, sym, ap}
+use Rattle.std.specs.Cmp.Lexicographic.{same_text}
 use Rattle.par_values.specs.Areas.{Name}
 use Rattle.par_values.specs.declared.kind.Kind.TheVariants as asked
 use Rattle.par_kinds.specs.declared.frame.VKind.{VKind}
@@ -59,3 +60,43 @@ into-any exc (Base true) = refl
 into-any exc (Base false) = refl
 
 pub ruleset into_is = (into-top, into-int, into-null, into-object, into-exception, into-any)
+
+-- what fits into one another is the same, of no exceptions
+pub into_both : (k l : VKind) → into [] k l ≡ true → into [] l k ≡ true → k ≡ l
+unfolding into
+into_both Top Top e f = refl
+into_both Int Int e f = refl
+into_both Null Null e f = refl
+into_both (Object m) (Object n) e f = ap (λ (name : Name). Object name) (same_text m n (sym e))
+into_both (Base true) (Base true) e f = refl
+into_both (Base false) (Base false) e f = refl
+into_both Top Int e f = absurd (cc e)
+into_both Top Null e f = absurd (cc e)
+into_both Top (Object n) e f = absurd (cc e)
+into_both Top (Base true) e f = absurd (cc e)
+into_both Top (Base false) e f = absurd (cc e)
+into_both Int Top e f = absurd (cc f)
+into_both Int Null e f = absurd (cc e)
+into_both Int (Object n) e f = absurd (cc e)
+into_both Int (Base true) e f = absurd (cc e)
+into_both Int (Base false) e f = absurd (cc e)
+into_both Null Top e f = absurd (cc f)
+into_both Null Int e f = absurd (cc e)
+into_both Null (Object n) e f = absurd (cc f)
+into_both Null (Base true) e f = absurd (cc f)
+into_both Null (Base false) e f = absurd (cc f)
+into_both (Object m) Top e f = absurd (cc f)
+into_both (Object m) Int e f = absurd (cc e)
+into_both (Object m) Null e f = absurd (cc e)
+into_both (Object m) (Base true) e f = absurd (cc e)
+into_both (Object m) (Base false) e f = absurd (cc f)
+into_both (Base true) Top e f = absurd (cc f)
+into_both (Base true) Int e f = absurd (cc e)
+into_both (Base true) Null e f = absurd (cc e)
+into_both (Base true) (Object n) e f = absurd (cc e)
+into_both (Base true) (Base false) e f = absurd (cc f)
+into_both (Base false) Top e f = absurd (cc f)
+into_both (Base false) Int e f = absurd (cc e)
+into_both (Base false) Null e f = absurd (cc e)
+into_both (Base false) (Object n) e f = absurd (cc e)
+into_both (Base false) (Base true) e f = absurd (cc e)

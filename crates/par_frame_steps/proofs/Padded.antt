@@ -96,7 +96,7 @@ module _ (exc : List Name) where
   merge_none [] = refl
   merge_none (k ∷ ks) = refl
 
-  top-left : (l : VKind) → merge exc kind.Top l ≡ kind.Top
+  pub top-left : (l : VKind) → merge exc kind.Top l ≡ kind.Top
   unfolding into
   top-left kind.Top = refl
   top-left kind.Int = refl
@@ -105,7 +105,7 @@ module _ (exc : List Name) where
   top-left (kind.Base true) = refl
   top-left (kind.Base false) = refl
 
-  top-right : (k : VKind) → merge exc k kind.Top ≡ kind.Top
+  pub top-right : (k : VKind) → merge exc k kind.Top ≡ kind.Top
   unfolding into
   top-right k = refl
 

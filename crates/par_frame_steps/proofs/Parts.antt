@@ -1,11 +1,15 @@
 -- Kinds in parts: whole pieces, and what stands behind them.
-use Rattle.std.proofs.Common.{◌≡◌, ℕ, zero, suc, ◌+◌, ◌-◌, ◌*◌, ◌<◌, ◌≤◌, Bool, true, false}
-use Rattle.std.proofs.Common.{◌&&◌, List, [], ◌∷◌, ◌++◌, Some, None, length, take, drop, set}
+use Rattle.std.proofs.Common.{◌≡◌, ℕ, zero, suc, ◌+◌, ◌-◌, ◌*◌, ◌/◌, ◌<◌, ◌≤◌, Bool, true}
+use Rattle.std.proofs.Common.{false, ◌&&◌, List, [], ◌∷◌, ◌++◌, Some, None, length, take, drop, set}
 use Rattle.std.proofs.Common.{replicate, get_or, refl, sym, ap, ◌∙◌, arith, append_assoc, inl, inr}
 use Rattle.std.specs.List.{slice_get}
 use Rattle.std.proofs.lemmas.Bool.{cases_lt}
-use Rattle.std.proofs.lemmas.List.{length-append, set-append_left, take_at, take_all, drop_at}
+use Rattle.std.proofs.lemmas.List.{length-append, length-set, set-append_left}
+use Rattle.std.proofs.lemmas.List.{set-append_right, take_at, take_all, drop_at}
 use Rattle.std.proofs.lemmas.List.{drop-drop, drop_all, replicate-append-replicate}
+use Rattle.std.proofs.lemmas.List.{drop-take, take-append-drop, length-take-le, length-drop}
+use Rattle.std.proofs.Math.Seq.{take-append-add}
+use Rattle.std.proofs.lemmas.Nat.{div-add-mod'}
 use Rattle.std.proofs.lemmas.Option.{same_Some}
 use Rattle.par_values.specs.Areas.{Name}
 use Rattle.par_kinds.specs.declared.frame.VKind.TheVariants as kind
@@ -22,36 +26,71 @@ use Rattle.par_frame_steps.proofs.Piled.{many_joined, many_piled}
 abbrev Kinds : Type 0
 Kinds = List PlaceKind
 
--- ---- one kind is set in the first piece
+-- ---- one kind is set
 
-pub first_set : (ps : List Kinds) (rest q p : Kinds) (x : ℕ) (k : PlaceKind) → AreWhole ps
-    → 0 < length ps → x < PIECE → q ≡ get_or ps 0 q → p ≡ set q x k
-    → joined (set ps 0 p) ++ rest ≡ set (joined ps ++ rest) x k
-first_set [] rest q p x k whole some inside first made = absurd (omega (arith, some))
-first_set (r ∷ ps) rest q p x k whole some inside first made =
+pub piece_set : (ps : List Kinds) (rest q p d : Kinds) (i x : ℕ) (k : PlaceKind) → AreWhole ps
+    → i < length ps → x < PIECE → q ≡ get_or ps i d → p ≡ set q x k
+    → joined (set ps i p) ++ rest ≡ set (joined ps ++ rest) (i * PIECE + x) k
+piece_set [] rest q p d i x k whole some inside there made = absurd (omega (arith, some))
+piece_set (r ∷ ps) rest q p d zero x k whole some inside there made =
     let size = whole.0 in
     let within : x < length r = omega (arith, inside, size) in
     let before : x < length (r ++ joined ps) =
     omega (arith, within, length-append r (joined ps)) in
-    ap (λ (ks : Kinds). (ks ++ joined ps) ++ rest) (made ∙ ap (λ (ks : Kinds). set ks x k) first)
+    let none : x ≡ 0 * PIECE + x = omega arith in
+    ap (λ (ks : Kinds). (ks ++ joined ps) ++ rest) (made ∙ ap (λ (ks : Kinds). set ks x k) there)
     ∙ ap (λ (ks : Kinds). ks ++ rest) (sym (set-append_left r (joined ps) x k within))
     ∙ sym (set-append_left (r ++ joined ps) rest x k before)
+    ∙ ap (λ (n : ℕ). set ((r ++ joined ps) ++ rest) n k) none
+piece_set (r ∷ ps) rest q p d (suc i) x k whole some inside there made =
+    let size = whole.0 in
+    let behind : PIECE ≤ suc i * PIECE + x = omega arith in
+    let left : i * PIECE + x ≡ suc i * PIECE + x - PIECE = omega arith in
+    append_assoc r (joined (set ps i p)) rest
+    ∙ ap (λ (ks : Kinds). r ++ ks)
+    (piece_set ps rest q p d i x k whole.1 (omega (arith, some)) inside there made
+    ∙ ap (λ (n : ℕ). set (joined ps ++ rest) n k) left)
+    ∙ sym (set-append_right r (joined ps ++ rest) PIECE (suc i * PIECE + x) k size behind)
+    ∙ ap (λ (ks : Kinds). set ks (suc i * PIECE + x) k) (sym (append_assoc r (joined ps) rest))
 
-pub first_size : (ps : List Kinds) (q : Kinds) → AreWhole ps → 0 < length ps → q ≡ get_or ps 0 q
-    → length q ≡ PIECE
-first_size [] q whole some first = absurd (omega (arith, some))
-first_size (r ∷ ps) q whole some first = ap (λ (ks : Kinds). length ks) first ∙ whole.0
+pub piece_size : (ps : List Kinds) (d : Kinds) (i : ℕ) → AreWhole ps → i < length ps
+    → length (get_or ps i d) ≡ PIECE
+piece_size [] d i whole some = absurd (omega (arith, some))
+piece_size (r ∷ ps) d zero whole some = whole.0
+piece_size (r ∷ ps) d (suc i) whole some = piece_size ps d i whole.1 (omega (arith, some))
 
-pub set_piled : (ps : List Kinds) (rest q p : Kinds) → IsPiled ps rest → 0 < length ps
-    → q ≡ get_or ps 0 q → length p ≡ length q → IsPiled (set ps 0 p) rest
-set_piled [] rest q p is some first size = absurd (omega (arith, some))
-set_piled (r ∷ ps) rest q p is some first size =
-    let whole = is.whole in
+whole-set : (ps : List Kinds) (p : Kinds) (i : ℕ) → AreWhole ps → length p ≡ PIECE
+    → AreWhole (set ps i p)
+whole-set [] p i whole size = tt
+whole-set (r ∷ ps) p zero whole size = (size, whole.1)
+whole-set (r ∷ ps) p (suc i) whole size = (whole.0, whole-set ps p i whole.1 size)
+
+pub set_piled : (ps : List Kinds) (rest p d : Kinds) (i : ℕ) → IsPiled ps rest → i < length ps
+    → length p ≡ length (get_or ps i d) → IsPiled (set ps i p) rest
+set_piled ps rest p d i is some size =
+    let few = is.few in
     record {
-      whole = (size ∙ ap (λ (ks : Kinds). length ks) first ∙ whole.0, whole.1);
-      few = is.few;
+      whole = whole-set ps p i is.whole (size ∙ piece_size ps d i is.whole some);
+      few = omega (arith, few, length-set ps i p);
       short = is.short;
-      behind = is.behind;
+      behind = λ any. is.behind (omega (arith, any, length-set ps i p));
+    }
+
+pub rest_set : (ps : List Kinds) (rest : Kinds) (x : ℕ) (k : PlaceKind) → AreWhole ps
+    → length ps * PIECE ≤ x
+    → joined ps ++ set rest (x - length ps * PIECE) k ≡ set (joined ps ++ rest) x k
+rest_set ps rest x k whole past =
+    sym (set-append_right (joined ps) rest (length ps * PIECE) x k (many_joined ps whole) past)
+
+pub rest_piled : (ps : List Kinds) (rest : Kinds) (x : ℕ) (k : PlaceKind) → IsPiled ps rest
+    → IsPiled ps (set rest x k)
+rest_piled ps rest x k is =
+    let short = is.short in
+    record {
+      whole = is.whole;
+      few = is.few;
+      short = omega (arith, short, length-set rest x k);
+      behind = λ some. let any = is.behind some in omega (arith, any, length-set rest x k);
     }
 
 -- ---- what stands at a part's place
@@ -86,15 +125,108 @@ part_none ps rest i whole short past =
     sym (ap (λ (ks : Kinds). take PIECE ks)
     (drop_all (i * PIECE) (joined ps ++ rest) (omega (arith, all, short, past))))
 
--- those that are left where so many at most are
-pub first_many : (xs : Kinds) (n : ℕ) → take (length xs - (length xs - n)) xs ≡ take n xs
-first_many xs n =
-    elim (cases_lt (length xs) n) [
-      | inl few ↦
-          take_all (length xs - (length xs - n)) xs (omega (arith, few))
-          ∙ sym (take_all n xs (omega (arith, few)))
-      | inr many ↦ ap (λ (m : ℕ). take m xs) (omega (arith, many))
-    ]
+-- ---- the first ones
+
+first-pieces : (ps : List Kinds) (rest : Kinds) (w : ℕ) → AreWhole ps → w ≤ length ps
+    → joined (take w ps) ≡ take (w * PIECE) (joined ps ++ rest)
+first-pieces ps rest zero whole few = refl
+first-pieces [] rest (suc w) whole few = absurd (omega (arith, few))
+first-pieces (p ∷ ps) rest (suc w) whole few =
+    let size = whole.0 in
+    let more : length p + w * PIECE ≡ suc w * PIECE = omega (arith, size) in
+    ap (λ (ks : Kinds). p ++ ks) (first-pieces ps rest w whole.1 (omega (arith, few)))
+    ∙ sym (take-append-add p (joined ps ++ rest) (w * PIECE))
+    ∙ ap (λ (n : ℕ). take n (p ++ (joined ps ++ rest))) more
+    ∙ ap (λ (ks : Kinds). take (suc w * PIECE) ks) (sym (append_assoc p (joined ps) rest))
+
+first-whole : (ps : List Kinds) (w : ℕ) → AreWhole ps → AreWhole (take w ps)
+first-whole ps zero whole = tt
+first-whole [] (suc w) whole = tt
+first-whole (p ∷ ps) (suc w) whole = (whole.0, first-whole ps w whole.1)
+
+take-take : (m n : ℕ) (xs : Kinds) → m ≤ n → take m (take n xs) ≡ take m xs
+take-take zero n xs le = refl
+take-take (suc m) zero xs le = absurd (omega (arith, le))
+take-take (suc m) (suc n) [] le = refl
+take-take (suc m) (suc n) (x ∷ xs) le =
+    ap (λ (ys : Kinds). x ∷ ys) (take-take m n xs (omega (arith, le)))
+
+take-more : (m n : ℕ) (xs : Kinds) → take m xs ++ take n (drop m xs) ≡ take (m + n) xs
+take-more m n xs =
+    ap (λ (ys : Kinds). take m xs ++ ys) (sym (drop-take m n xs))
+    ∙ ap (λ (ys : Kinds). ys ++ drop m (take (m + n) xs))
+    (sym (take-take m (m + n) xs (omega arith)))
+    ∙ take-append-drop m (take (m + n) xs)
+
+-- pieces, and some of what stands in the part behind them
+module _ (ps : List Kinds) (rest q : Kinds) (w n : ℕ) (is : IsPiled ps rest) (few : w ≤ length ps)
+    (short : n ≤ PIECE) where
+  pub first_all : (xs : Kinds) (m : ℕ) → joined ps ++ rest ≡ xs
+      → q ≡ take PIECE (drop (w * PIECE) xs) → w * PIECE + n ≡ m
+      → joined (take w ps) ++ take n q ≡ take m xs
+  first_all xs m view part many =
+      ap (λ (ks : Kinds). ks ++ take n q)
+      (first-pieces ps rest w is.whole few ∙ ap (λ (ks : Kinds). take (w * PIECE) ks) view)
+      ∙ ap (λ (ks : Kinds). take (w * PIECE) xs ++ ks)
+      (ap (λ (ks : Kinds). take n ks) part ∙ take-take n PIECE (drop (w * PIECE) xs) short)
+      ∙ take-more (w * PIECE) n xs
+      ∙ ap (λ (o : ℕ). take o xs) many
+
+  pub first_piled : (0 < w → 0 < n) → n ≤ length q → IsPiled (take w ps) (take n q)
+  first_piled some inside =
+      let all = is.few in
+      let pieces = length-take-le w ps few in
+      let kinds = length-take-le n q inside in
+      record {
+        whole = first-whole ps w is.whole;
+        few = omega (arith, all, few, pieces);
+        short = omega (arith, kinds, short);
+        behind = λ any. let more = some (omega (arith, any, pieces)) in omega (arith, more, kinds);
+      }
+
+-- the first ones, of which some stand behind the pieces
+module _ (ps : List Kinds) (rest xs : Kinds) (m s : ℕ) (is : IsPiled ps rest)
+    (view : joined ps ++ rest ≡ xs) (few : m < length xs) (less : s ≡ m - 1) where
+  all : length ps * PIECE + length rest ≡ length xs
+  all = sym (many_piled ps rest is.whole) ∙ ap (λ (ks : Kinds). length ks) view
+
+  pub first_few : s / PIECE ≤ length ps
+  first_few =
+      let short = is.short in omega (arith, few, less, all, short, div-add-mod' s PIECE)
+
+  pub first_short : m - s / PIECE * PIECE ≤ PIECE
+  first_short = omega (arith, less, div-add-mod' s PIECE)
+
+  some : 0 < s / PIECE → 0 < m - s / PIECE * PIECE
+  some any = omega (arith, any, less, div-add-mod' s PIECE)
+
+  sum : s / PIECE * PIECE + (m - s / PIECE * PIECE) ≡ m
+  sum = omega (arith, less, div-add-mod' s PIECE)
+
+  module _ (q : Kinds) (part : q ≡ take PIECE (drop (s / PIECE * PIECE) xs)) where
+    pub first_inside : m - s / PIECE * PIECE ≤ length q
+    first_inside =
+        let behind = length-drop (s / PIECE * PIECE) xs in
+        let size = ap (λ (ks : Kinds). length ks) part in
+        elim (cases_lt (length (drop (s / PIECE * PIECE) xs)) PIECE) [
+          | inl short ↦
+              let whole = ap (λ (ks : Kinds). length ks)
+              (take_all PIECE (drop (s / PIECE * PIECE) xs) (omega (arith, short))) in
+              omega (arith, size, whole, behind, few)
+          | inr long ↦
+              let whole = length-take-le PIECE (drop (s / PIECE * PIECE) xs) long in
+              omega (arith, size, whole, first_short)
+        ]
+
+    pub first_is : joined (take (s / PIECE) ps) ++ take (m - s / PIECE * PIECE) q ≡ take m xs
+    first_is =
+        first_all ps rest q (s / PIECE) (m - s / PIECE * PIECE) is first_few first_short xs m view
+        part sum
+
+    pub first_are : IsPiled (take (s / PIECE) ps) (take (m - s / PIECE * PIECE) q)
+    first_are =
+        first_piled ps rest q (s / PIECE) (m - s / PIECE * PIECE) is first_few first_short some
+        first_inside
 
 -- ---- one of those that are listed
 

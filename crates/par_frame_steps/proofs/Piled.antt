@@ -114,6 +114,15 @@ opened-piled ps p rest is =
       behind = λ some. omega (arith, size);
     }
 
+-- the last piece and those before it
+pub last_piece : (ps : List Kinds) (n : ℕ) (p : Kinds) → length ps ≡ suc n → p ≡ get_or ps n p
+    → take n ps ++ p ∷ [] ≡ ps
+last_piece [] n p many is = absurd (omega (arith, many))
+last_piece (q ∷ []) zero p many is = ap (λ (r : Kinds). r ∷ []) is
+last_piece (q ∷ r ∷ ps) zero p many is = absurd (omega (arith, many))
+last_piece (q ∷ ps) (suc n) p many is =
+    ap (λ (qs : List Kinds). q ∷ qs) (last_piece ps n p (omega (arith, many)) is)
+
 -- one more is gone of those that are left
 pub taken_more : (xs : Kinds) (i : ℕ)
     → take (length (take (length xs - i) xs) - 1) (take (length xs - i) xs)

@@ -1,5 +1,6 @@
 pub mod Listed
 pub mod Marks
+pub mod Numbered
 pub mod Piled
 pub use Rattle.par_frame_pass_laws.specs.par_kinds as par_kinds
 pub use Rattle.par_frame_pass_laws.specs as par_frame_pass_laws

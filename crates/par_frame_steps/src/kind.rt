@@ -1,6 +1,6 @@
 //! Kinds of values, each class by its name where that stands.
 
-ghost use Rattle.std.specs.Prelude.{◌≡◌, []};
+ghost use Rattle.std.specs.Prelude.{◌≡◌, [], IsTrue};
 ghost use Rattle.par_kinds.specs.Kinds.{is_in, into, throwable, exceptional, accepts};
 ghost use Rattle.par_kinds.specs.declared.frame.VKind.TheVariants as kind;
 ghost use Rattle.par_values.specs.declared.kind.Kind.TheVariants as asked;
@@ -107,6 +107,14 @@ impl<'f> PlaceKind<'f> {
             PlaceKind::Object(name) => self.is_of(name),
             PlaceKind::Base(is_exception) => self.is_below(exceptions, is_exception),
         }
+    }
+
+    /// Whether it is another one, where both fit into one another of whichever exceptions.
+    #[tactic(auto, using(crate::proofs::Into::into_both))]
+    pub(crate) fn is_same(self, other: PlaceKind) -> bool
+        ensures { IsTrue result → kind_of self.entry ≡ kind_of other.entry }
+    {
+        self.fits_into(&[], other) && other.fits_into(&[], self)
     }
 
     /// Whether it is null alone.

@@ -8,9 +8,12 @@
 pub mod act;
 mod changes;
 mod demands;
+mod few;
 pub mod frame;
 pub mod kind;
 mod outcome;
+mod piece;
+mod pieces;
 pub mod pile;
 
 pub use act::{Act, Also, Asked, Flow, Leaves};

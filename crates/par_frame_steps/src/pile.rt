@@ -11,10 +11,11 @@ ghost use Rattle.par_frame_steps.specs.Piled.{joined, AreWhole};
 
 use crate::frame::{all_into, copied, listed_into, merged};
 use crate::kind::PlaceKind;
+use crate::piece::Piece;
+use crate::pieces::Pieces;
 use par_base::memory::NoMemory;
 use std::alloc::Global;
 use std::marker::Model;
-use std::rc::Rc;
 
 /// How many kinds a piece has.
 pub const PIECE: usize = 256;
@@ -29,75 +30,6 @@ fn at<'f>(kinds: &[PlaceKind<'f>], place: usize) -> Option<PlaceKind<'f>>
     kinds.get(place).copied()
 }
 
-/// Kinds that copies share.
-#[derive(Drop)]
-pub(crate) struct Piece<'f> {
-    kinds: Rc<Vec<PlaceKind<'f>>>,
-}
-
-impl<'f> Model for Piece<'f> {
-    ghost use Rattle.std.specs.Prelude.{List};
-    ghost use Rattle.par_frame_steps.specs.declared.kind.PlaceKind.{PlaceKind};
-
-    ghost Value = { List PlaceKind };
-
-    ghost view = { λ p. p.kinds.value.items };
-}
-
-impl<'f> Piece<'f> {
-    /// A piece of these kinds.
-    fn of(alloc: Global, kinds: Vec<PlaceKind<'f>>) -> Result<Piece<'f>, NoMemory>
-        ensures { IfOk result (λ piece. piece ≡ kinds.entry.items) }
-    {
-        let kinds = Rc::new(alloc, kinds)?;
-        Ok(Piece { kinds })
-    }
-
-    /// Its kinds.
-    fn kinds(&self) -> &[PlaceKind<'f>]
-        ensures { result.now ≡ self.now }
-    {
-        self.kinds.as_slice()
-    }
-
-    /// The piece once more.
-    fn share(&self) -> Result<Piece<'f>, NoMemory>
-        ensures { IfOk result (λ piece. piece ≡ self.now) }
-    {
-        let kinds = self.kinds.clone()?;
-        Ok(Piece { kinds })
-    }
-
-    /// Sets a kind, for this copy alone.
-    fn set(&mut self, alloc: Global, place: usize, kind: PlaceKind<'f>) -> Result<(), NoMemory>
-        requires { place < length self.old }
-        ensures set { IfOk result (λ done. self.new ≡ slice_set self.old place kind.entry) }
-        ensures many { length self.new ≡ length self.old }
-    {
-        let mut kinds = copied(alloc, self.kinds())?;
-        kinds[place] = kind;
-        self.kinds = Rc::new(alloc, kinds)?;
-        Ok(())
-    }
-
-    /// The least kinds into which both fit, of as many. Where one fits into the other, that is it.
-    fn merged(
-        &self,
-        alloc: Global,
-        exceptions: &[&[u8]],
-        other: &Piece<'f>,
-    ) -> Result<Piece<'f>, NoMemory>
-        ensures { IfOk result (λ piece. kinds_of piece
-            ≡ merge_all (names exceptions.now) (kinds_of self.now) (kinds_of other.now)) }
-    {
-        if all_into(exceptions, self.kinds(), other.kinds()) {
-            return other.share();
-        }
-        let kinds = merged(alloc, exceptions, self.kinds(), other.kinds())?;
-        Piece::of(alloc, kinds)
-    }
-}
-
 /// Whether each piece fits into the one at its place, of as many.
 fn pieces_into(exceptions: &[&[u8]], pieces: &[Piece], others: &[Piece]) -> bool
     requires many { length pieces.now ≡ length others.now }
@@ -107,22 +39,11 @@ fn pieces_into(exceptions: &[&[u8]], pieces: &[Piece], others: &[Piece]) -> bool
         (kinds_of (joined others.now)) }
 {
     for (place, piece) in pieces.iter().enumerate() {
-        if !all_into(exceptions, piece.kinds(), others[place].kinds()) {
+        if !piece.fits_into(exceptions, &others[place]) {
             return false;
         }
     }
     true
-}
-
-/// The same pieces once more.
-fn shared<'f>(alloc: Global, pieces: &[Piece<'f>]) -> Result<Vec<Piece<'f>>, NoMemory>
-    ensures { IfOk result (λ all. all.items ≡ pieces.entry.now) }
-{
-    let mut all = Vec::new(alloc);
-    for piece in pieces {
-        all.push(piece.share()?)?;
-    }
-    Ok(all)
 }
 
 /// The least pieces into which both fit, of as many.
@@ -152,7 +73,7 @@ fn merged_pieces<'f>(
 /// them, of which the one that was pushed last stands last.
 #[derive(Drop)]
 pub struct Pile<'f> {
-    pieces: Vec<Piece<'f>>,
+    pieces: Pieces<'f>,
     rest: Vec<PlaceKind<'f>>,
 }
 
@@ -163,9 +84,9 @@ impl<'f> Model for Pile<'f> {
 
     ghost Value = { List PlaceKind };
 
-    ghost view = { λ p. joined p.pieces.items ++ p.rest.items };
+    ghost view = { λ p. joined p.pieces ++ p.rest.items };
 
-    ghost invariant = { λ p. IsPiled p.pieces.items p.rest.items };
+    ghost invariant = { λ p. IsPiled p.pieces p.rest.items };
 }
 
 impl<'f> Pile<'f> {
@@ -174,7 +95,7 @@ impl<'f> Pile<'f> {
         ensures { result ≡ [] }
     {
         Pile {
-            pieces: Vec::new(alloc),
+            pieces: Pieces::new(),
             rest: Vec::new(alloc),
         }
     }
@@ -201,7 +122,7 @@ impl<'f> Pile<'f> {
     pub fn get(&self, place: usize) -> Option<PlaceKind<'f>>
         ensures { result ≡ slice_get self.now place }
     {
-        match self.pieces.get(place / PIECE) {
+        match self.pieces.as_slice().get(place / PIECE) {
             Some(piece) => at(piece.kinds(), place % PIECE),
             None => at(&self.rest, place - self.pieces.len() * PIECE),
         }
@@ -232,7 +153,8 @@ impl<'f> Pile<'f> {
         let mut rest = Vec::new(alloc);
         rest.push(kind)?;
         let piece = Piece::of(alloc, copied(alloc, &self.rest)?)?;
-        self.pieces.push(piece)?;
+        let pieces = self.pieces.and(alloc, piece)?;
+        self.pieces.change_to(pieces);
         self.rest = rest;
         Ok(())
     }
@@ -248,11 +170,13 @@ impl<'f> Pile<'f> {
         ensures { IfOk result (λ done. self.new ≡ slice_set self.old place kind.entry) }
     {
         let place = place as usize;
-        if self.pieces.is_empty() {
-            self.rest[place] = kind;
+        let whole = self.pieces.len() * PIECE;
+        if place >= whole {
+            self.rest[place - whole] = kind;
             return Ok(());
         }
-        self.pieces[0].set(alloc, place, kind)?;
+        let pieces = self.pieces.with(alloc, place / PIECE, place % PIECE, kind)?;
+        self.pieces.change_to(pieces);
         Ok(())
     }
 
@@ -264,10 +188,15 @@ impl<'f> Pile<'f> {
             self.rest.pop();
             return Ok(());
         }
-        match self.pieces.pop() {
-            Some(piece) => self.rest = copied(alloc, piece.kinds())?,
-            None => self.rest.clear(),
+        let many = self.pieces.len();
+        if many == 0 {
+            self.rest.clear();
+            return Ok(());
         }
+        let rest = copied(alloc, self.pieces.as_slice()[many - 1].kinds())?;
+        let pieces = self.pieces.first(alloc, many - 1)?;
+        self.pieces.change_to(pieces);
+        self.rest = rest;
         Ok(())
     }
 
@@ -286,7 +215,7 @@ impl<'f> Pile<'f> {
         ensures { IfOk result (λ pile. pile ≡ self.now) }
     {
         Ok(Pile {
-            pieces: shared(alloc, &self.pieces)?,
+            pieces: self.pieces.share()?,
             rest: copied(alloc, &self.rest)?,
         })
     }
@@ -299,7 +228,7 @@ impl<'f> Pile<'f> {
         if self.pieces.len() != other.pieces.len() {
             return false;
         }
-        pieces_into(exceptions, &self.pieces, &other.pieces)
+        pieces_into(exceptions, self.pieces.as_slice(), other.pieces.as_slice())
             && all_into(exceptions, &self.rest, &other.rest)
     }
 
@@ -314,8 +243,10 @@ impl<'f> Pile<'f> {
         ensures { IfOk result (λ pile. kinds_of pile
             ≡ merge_all (names exceptions.now) (kinds_of self.now) (kinds_of other.now)) }
     {
+        let (mine, its) = (self.pieces.as_slice(), other.pieces.as_slice());
+        let pieces = merged_pieces(alloc, exceptions, mine, its)?;
         Ok(Pile {
-            pieces: merged_pieces(alloc, exceptions, &self.pieces, &other.pieces)?,
+            pieces: Pieces::of(alloc, pieces)?,
             rest: merged(alloc, exceptions, &self.rest, &other.rest)?,
         })
     }
@@ -325,12 +256,25 @@ impl<'f> Pile<'f> {
         ensures { result.now ≡ take PIECE (drop (place * PIECE) self.now) }
     {
         if place < self.pieces.len() {
-            return self.pieces[place].kinds();
+            return self.pieces.as_slice()[place].kinds();
         }
         if place > self.pieces.len() {
             return &[];
         }
         self.rest.as_slice()
+    }
+
+    /// Whether each kind of a part fits into the one at its place that is listed.
+    fn part_into(&self, exceptions: &[&[u8]], other: &Pile, place: usize) -> bool
+        ensures { result ≡ listed_into (names exceptions.now)
+            (kinds_of (take PIECE (drop (place * PIECE) self.now)))
+            (kinds_of (take PIECE (drop (place * PIECE) other.now))) }
+    {
+        if place < self.pieces.len() && place < other.pieces.len() {
+            let (mine, its) = (self.pieces.as_slice(), other.pieces.as_slice());
+            return mine[place].listed_into(exceptions, &its[place]);
+        }
+        listed_into(exceptions, self.part(place), other.part(place))
     }
 
     /// How many parts there are.
@@ -341,14 +285,18 @@ impl<'f> Pile<'f> {
     }
 
     /// Its first kinds, of so many.
-    #[tactic(auto, using(crate::proofs::Parts::first_many))]
     fn first(&self, alloc: Global, many: usize) -> Result<Pile<'f>, NoMemory>
         ensures { IfOk result (λ pile. pile ≡ take many self.now) }
     {
-        let mut first = self.copied(alloc)?;
-        let behind = self.len().saturating_sub(many);
-        first.take(alloc, behind)?;
-        Ok(first)
+        if many >= self.len() {
+            return self.copied(alloc);
+        }
+        let whole = many.saturating_sub(1) / PIECE;
+        let behind = many - whole * PIECE;
+        Ok(Pile {
+            pieces: self.pieces.first(alloc, whole)?,
+            rest: copied(alloc, &self.part(whole)[..behind])?,
+        })
     }
 
     /// The kind at a place, where those that are not listed hold anything.
@@ -367,7 +315,7 @@ impl<'f> Pile<'f> {
             ≡ listed_into (names exceptions.now) (kinds_of self.now) (kinds_of other.now) }
     {
         for place in 0..other.parts() {
-            if !listed_into(exceptions, self.part(place), other.part(place)) {
+            if !self.part_into(exceptions, other, place) {
                 return false;
             }
         }

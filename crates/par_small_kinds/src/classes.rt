@@ -12,7 +12,7 @@ use std::collections::BTreeMap;
 pub struct Classes<'m, 'f> {
     /// The names of the classes of exceptions.
     exceptions: &'m [&'f [u8]],
-    numbers: BTreeMap<&'f [u8], u32>,
+    numbers: BTreeMap<&'f [u8], u16>,
     /// The name of each number.
     names: Vec<&'f [u8]>,
 }
@@ -27,17 +27,34 @@ impl<'m, 'f> Classes<'m, 'f> {
         }
     }
 
-    /// The number of a class, from now on.
-    fn number(&mut self, name: &'f [u8]) -> Result<u32, NoMemory> {
+    /// How many bits the greatest number has.
+    pub fn bits(&self) -> usize {
+        let greatest = self.names.len().saturating_sub(1);
+        usize::BITS.saturating_sub(greatest.leading_zeros()) as usize
+    }
+
+    /// The number of a class, from now on; none where there are too many.
+    fn number(&mut self, name: &'f [u8]) -> Result<Option<u16>, NoMemory> {
         if let Some(number) = self.numbers.get(name) {
-            return Ok(*number);
+            return Ok(Some(*number));
         }
-        let Ok(number) = u32::try_from(self.names.len()) else {
-            return Err(NoMemory);
+        let Ok(number) = u16::try_from(self.names.len()) else {
+            return Ok(None);
         };
         self.names.push(name)?;
         self.numbers.insert(name, number)?;
-        Ok(number)
+        Ok(Some(number))
+    }
+
+    /// The kind of an object of a class.
+    fn object(&mut self, name: &'f [u8]) -> Result<SmallKind, NoMemory> {
+        let Some(number) = self.number(name)? else {
+            return Ok(SmallKind::Top);
+        };
+        if is_in(self.exceptions, name) {
+            return Ok(SmallKind::Exception(number));
+        }
+        Ok(SmallKind::Object(number))
     }
 
     /// A kind in few bytes.
@@ -46,10 +63,7 @@ impl<'m, 'f> Classes<'m, 'f> {
             PlaceKind::Top => Ok(SmallKind::Top),
             PlaceKind::Int => Ok(SmallKind::Int),
             PlaceKind::Null => Ok(SmallKind::Null),
-            PlaceKind::Object(name) if is_in(self.exceptions, name) => {
-                Ok(SmallKind::Exception(self.number(name)?))
-            }
-            PlaceKind::Object(name) => Ok(SmallKind::Object(self.number(name)?)),
+            PlaceKind::Object(name) => self.object(name),
             PlaceKind::Base(true) => Ok(SmallKind::AnyException),
             PlaceKind::Base(false) => Ok(SmallKind::AnyObject),
         }
@@ -67,7 +81,7 @@ impl<'m, 'f> Classes<'m, 'f> {
             SmallKind::AnyObject => return PlaceKind::Base(false),
             SmallKind::Top => return PlaceKind::Top,
         };
-        match self.names.get(number as usize) {
+        match self.names.get(usize::from(number)) {
             Some(name) => PlaceKind::Object(name),
             None => PlaceKind::Top,
         }

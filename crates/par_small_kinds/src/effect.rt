@@ -1,11 +1,15 @@
 //! What straight code makes of any frame: which places it sets, and to what.
 
 use crate::classes::Classes;
+use crate::kinds::{PLACES, bit_of};
 use crate::small_kind::SmallKind;
 use par_base::memory::NoMemory;
 use par_frame_steps::Act;
 use par_frame_steps::act::Leaves;
 use std::alloc::Global;
+
+/// How many words have a bit for each local that is set.
+const WORDS: usize = 4;
 
 /// What a place holds behind the code.
 #[derive(Clone, Copy)]
@@ -28,6 +32,8 @@ pub struct Change {
 #[derive(Drop)]
 pub struct Effect {
     pub changes: Vec<Change>,
+    /// A bit for each local that is set.
+    sets: [u64; WORDS],
     /// How many operands it takes of those that were there.
     pub taken: usize,
     /// What it pushes then, the last at the end.
@@ -39,23 +45,36 @@ impl Effect {
     pub fn of_nothing(alloc: Global) -> Effect {
         Effect {
             changes: Vec::new(alloc),
+            sets: [0; WORDS],
             taken: 0,
             pushed: Vec::new(alloc),
         }
     }
 
-    /// Whether it sets a local.
-    pub fn sets(&self, place: usize) -> bool {
-        for change in self.changes.as_slice() {
-            if usize::from(change.local) == place {
-                return true;
-            }
+    /// Whether it leaves each frame as it is.
+    pub(crate) fn is_nothing(&self) -> bool {
+        self.changes.is_empty() && self.taken == 0 && self.pushed.is_empty()
+    }
+
+    /// Of the places in a word those that are no local that is set.
+    pub(crate) fn kept(&self, word: usize) -> u64 {
+        match self.sets.get(word) {
+            Some(sets) => !*sets,
+            None => u64::MAX,
         }
-        false
+    }
+
+    /// Whether it sets a local.
+    fn sets(&self, local: u8) -> bool {
+        let place = usize::from(local);
+        self.kept(place / PLACES) & bit_of(place) == 0
     }
 
     /// What a local holds behind the code so far.
     fn local(&self, local: u8) -> Held {
+        if !self.sets(local) {
+            return Held::Local(local);
+        }
         for change in self.changes.as_slice() {
             if change.local == local {
                 return change.to;
@@ -64,14 +83,24 @@ impl Effect {
         Held::Local(local)
     }
 
-    /// Sets a local.
-    fn set(&mut self, local: u8, to: Held) -> Result<(), NoMemory> {
+    /// Sets a local that is set already.
+    fn reset(&mut self, local: u8, to: Held) {
         for change in self.changes.as_mut_slice() {
             if change.local == local {
                 change.to = to;
-                return Ok(());
+                return;
             }
         }
+    }
+
+    /// Sets a local.
+    fn set(&mut self, local: u8, to: Held) -> Result<(), NoMemory> {
+        if self.sets(local) {
+            self.reset(local, to);
+            return Ok(());
+        }
+        let place = usize::from(local);
+        self.sets[place / PLACES] |= bit_of(place);
         self.changes.push(Change { local, to })?;
         Ok(())
     }

@@ -1,4 +1,4 @@
-//! Kinds of places in few bytes, and what straight code makes of them.
+//! Kinds of places in few bits, and what straight code makes of them.
 //!
 //! Frames are guessed from these. Nothing is promised of a guess, which is looked at as each frame
 //! that is told is, so that no contract here says which kinds come out. The crate knows no method.
@@ -7,6 +7,7 @@
 mod before;
 mod classes;
 mod effect;
+mod kinds;
 mod small_kind;
 
 pub use before::Before;

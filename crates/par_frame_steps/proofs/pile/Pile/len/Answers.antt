@@ -8,7 +8,7 @@ pub returns : goal.returns
 returns c =
     let pieces = c.self.inside.pieces in
     let rest = c.self.inside.rest in
-    let many = many_piled pieces.items rest.items c.self.invariant.whole in
-    let all : c.len.result * 256 + c.len-2.result ≡ length (joined pieces.items ++ rest.items) =
-    omega (arith, many, c.len.ensures, c.len-2.ensures, pieces.ok.0, rest.ok.0) in
+    let many = many_piled pieces rest.items c.self.invariant.whole in
+    let all : c.len.result * 256 + c.len-2.result ≡ length (joined pieces ++ rest.items) =
+    omega (arith, many, c.len.ensures, c.len-2.ensures, rest.ok.0) in
     all ∙ ap (λ (ks : List PlaceKind). length ks) c.self.view_is

@@ -6,32 +6,33 @@ pub merged_pieces-requires-clause-many : goal.merged_pieces-requires-clause-many
 merged_pieces-requires-clause-many c =
     let one = c.self.inside in
     let other = c.other.inside in
-    rw (c.deref.ensures.value, c.deref-2.ensures.value) (pieces_same (names c.args.exceptions.now) one.pieces.items other.pieces.items one.rest.items
-    other.rest.items c.args.self.now c.args.other.now c.self.invariant c.other.invariant
-    c.self.view_is c.other.view_is c.requires)
+    rw (c.as_slice-mine.ensures, c.as_slice-its.ensures) (pieces_same
+    (names c.args.exceptions.now) one.pieces other.pieces one.rest.items other.rest.items
+    c.args.self.now c.args.other.now c.self.invariant c.other.invariant c.self.view_is
+    c.other.view_is c.requires)
 
 pub invariant_of-result : goal.invariant_of-result
 invariant_of-result c =
     let one = c.self.inside in
     let other = c.other.inside in
-    let is = c.in_ok-merged_pieces.ensures in
-    let many = rw c.deref.ensures.value at is.many in
-    let least = rw (c.deref.ensures.value, c.deref-2.ensures.value) at is.least in
-    let rest = rw (c.deref-3.ensures.value, c.deref-4.ensures.value) at c.in_ok-merged.ensures in
-    merged_piled (names c.args.exceptions.now) one.pieces.items other.pieces.items one.rest.items
-    other.rest.items c.args.self.now c.args.other.now c.self.invariant c.other.invariant
-    c.self.view_is c.other.view_is c.requires
-    c.in_ok-merged_pieces.field-0.items c.in_ok-merged.field-0.items many is.whole least rest
+    let is = c.in_ok-pieces.ensures in
+    let many = rw c.as_slice-mine.ensures at is.many in
+    let least = rw (c.as_slice-mine.ensures, c.as_slice-its.ensures) at is.least in
+    let rest = rw (c.deref.ensures.value, c.deref-2.ensures.value) at c.in_ok-merged.ensures in
+    rw c.in_ok-of.ensures (merged_piled (names c.args.exceptions.now) one.pieces other.pieces
+    one.rest.items other.rest.items c.args.self.now c.args.other.now c.self.invariant
+    c.other.invariant c.self.view_is c.other.view_is c.requires c.in_ok-pieces.pieces.items
+    c.in_ok-merged.field-0.items many is.whole least rest)
 
 pub returns : goal.returns
 returns c =
     let one = c.self.inside in
     let other = c.other.inside in
-    let is = c.in_ok-merged_pieces.ensures in
-    let many = rw c.deref.ensures.value at is.many in
-    let least = rw (c.deref.ensures.value, c.deref-2.ensures.value) at is.least in
-    let rest = rw (c.deref-3.ensures.value, c.deref-4.ensures.value) at c.in_ok-merged.ensures in
-    merged_all (names c.args.exceptions.now) one.pieces.items other.pieces.items one.rest.items
-    other.rest.items c.args.self.now c.args.other.now c.self.invariant c.other.invariant
-    c.self.view_is c.other.view_is c.requires
-    c.in_ok-merged_pieces.field-0.items c.in_ok-merged.field-0.items many is.whole least rest
+    let is = c.in_ok-pieces.ensures in
+    let many = rw c.as_slice-mine.ensures at is.many in
+    let least = rw (c.as_slice-mine.ensures, c.as_slice-its.ensures) at is.least in
+    let rest = rw (c.deref.ensures.value, c.deref-2.ensures.value) at c.in_ok-merged.ensures in
+    rw c.in_ok-of.ensures (merged_all (names c.args.exceptions.now) one.pieces other.pieces
+    one.rest.items other.rest.items c.args.self.now c.args.other.now c.self.invariant
+    c.other.invariant c.self.view_is c.other.view_is c.requires c.in_ok-pieces.pieces.items
+    c.in_ok-merged.field-0.items many is.whole least rest)

@@ -9,7 +9,7 @@ returns c =
     let pieces = c.self.inside.pieces in
     let rest = c.self.inside.rest in
     let short = c.self.invariant.short in
-    let all : length pieces.items * PIECE + length rest.items ≡ length c.args.self.now =
-    sym (many_piled pieces.items rest.items c.self.invariant.whole)
+    let all : length pieces * PIECE + length rest.items ≡ length c.args.self.now =
+    sym (many_piled pieces rest.items c.self.invariant.whole)
     ∙ ap (λ (ks : List PlaceKind). length ks) c.self.view_is in
-    omega (arith, all, short, c.len.ensures, pieces.ok.0)
+    omega (arith, all, short, c.len.ensures)

@@ -1,5 +1,5 @@
 use Rattle.std.proofs.Common.{◌≡◌, take}
-use Rattle.par_frame_steps.proofs.pile.shared.Given as goal
+use Rattle.par_frame_steps.proofs.pieces.shared.Given as goal
 
 -- those so far
 abbrev pub invariant-loop-piece : goal.invariant-loop-piece

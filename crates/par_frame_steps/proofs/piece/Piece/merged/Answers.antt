@@ -2,12 +2,11 @@ use Rattle.std.proofs.Common.{◌∙◌, sym, ap}
 use Rattle.std.proofs.lemmas.Result.{IfOk-weaker}
 use Rattle.par_frame_steps.specs.Marks.{names, kinds_of}
 use Rattle.par_frame_steps.proofs.Piled.{merge_into}
-use Rattle.par_frame_steps.proofs.pile.Piece.merged.Goals as goal
+use Rattle.par_frame_steps.proofs.piece.Piece.merged.Goals as goal
 
-pub returns-then-all_into : goal.returns-then-all_into
-returns-then-all_into c =
-    let fits =
-    rw (c.kinds.ensures, c.kinds-2.ensures) at (sym c.all_into.ensures ∙ c.if-all_into.true) in
+pub returns-then-fits_into : goal.returns-then-fits_into
+returns-then-fits_into c =
+    let fits = sym c.fits_into.ensures ∙ c.if-fits_into.true in
     IfOk-weaker c.share.result _ _
     (λ piece is. ap (λ ks. kinds_of ks) is
     ∙ merge_into (names c.args.exceptions.now) c.args.self.now c.args.other.now fits)

@@ -1,0 +1,198 @@
+//! Pieces of piles, which copies share.
+
+ghost use Rattle.std.specs.Prelude.{◌≡◌, ◌<◌, length, slice_set, IsTrue, IfOk};
+ghost use Rattle.par_frame_pass_laws.specs.Passes.{all_into, merge_all};
+ghost use Rattle.par_frame_steps.specs.Listed.{listed_into};
+ghost use Rattle.par_frame_steps.specs.Marks.{names, kinds_of};
+
+use crate::few::FewKinds;
+use crate::frame::{all_into, copied, listed_into, merged};
+use crate::kind::PlaceKind;
+use par_base::memory::NoMemory;
+use std::alloc::Global;
+use std::marker::Model;
+use std::rc::Rc;
+
+/// Kinds, and the same once more where few of them are different. Contracts see the kinds.
+#[derive(Drop)]
+struct Kept<'f> {
+    kinds: Vec<PlaceKind<'f>>,
+    few: FewKinds<'f>,
+}
+
+impl<'f> Model for Kept<'f> {
+    ghost use Rattle.std.specs.Prelude.{◌≡◌, ◌<◌, List, length};
+    ghost use Rattle.par_frame_steps.specs.declared.kind.PlaceKind.{PlaceKind};
+    ghost use Rattle.par_frame_steps.specs.Marks.{kinds_of};
+
+    ghost Value = { List PlaceKind };
+
+    ghost view = { λ k. k.kinds.items };
+
+    ghost invariant = { λ k. 0 < length k.few → k.few ≡ kinds_of k.kinds.items };
+}
+
+impl<'f> Kept<'f> {
+    /// These kinds.
+    fn of(alloc: Global, kinds: Vec<PlaceKind<'f>>) -> Result<Kept<'f>, NoMemory>
+        ensures { IfOk result (λ kept. kept ≡ kinds.entry.items) }
+    {
+        let few = FewKinds::of(alloc, &kinds)?;
+        Ok(Kept { kinds, few })
+    }
+
+    /// The kinds.
+    fn kinds(&self) -> &[PlaceKind<'f>]
+        ensures { result.now ≡ self.now }
+    {
+        self.kinds.as_slice()
+    }
+
+    /// The kinds, one of which is set.
+    fn with(&self, alloc: Global, place: usize, kind: PlaceKind<'f>) -> Result<Kept<'f>, NoMemory>
+        requires { place < length self.now }
+        ensures { IfOk result (λ kept. kept ≡ slice_set self.now place kind.entry) }
+    {
+        let mut kinds = copied(alloc, &self.kinds)?;
+        kinds[place] = kind;
+        Ok(Kept {
+            kinds,
+            few: FewKinds::new(alloc),
+        })
+    }
+
+    /// Whether each kind fits into the one at its place, of as many.
+    fn fits_into(&self, exceptions: &[&[u8]], other: &Kept) -> bool
+        ensures { result
+            ≡ all_into (names exceptions.now) (kinds_of self.now) (kinds_of other.now) }
+    {
+        if self.fits_at_once(exceptions, other) {
+            return true;
+        }
+        all_into(exceptions, &self.kinds, &other.kinds)
+    }
+
+    /// Whether it is seen without a look at each kind that all fit.
+    fn fits_at_once(&self, exceptions: &[&[u8]], other: &Kept) -> bool
+        ensures { IsTrue result → IsTrue
+            (all_into (names exceptions.now) (kinds_of self.now) (kinds_of other.now)) }
+    {
+        !self.few.is_empty() && !other.few.is_empty() && self.few.fits_into(exceptions, &other.few)
+    }
+
+    /// Whether each kind fits into the one at its place that is listed.
+    fn listed_into(&self, exceptions: &[&[u8]], other: &Kept) -> bool
+        ensures { result
+            ≡ listed_into (names exceptions.now) (kinds_of self.now) (kinds_of other.now) }
+    {
+        if self.fits_at_once(exceptions, other) {
+            return true;
+        }
+        listed_into(exceptions, &self.kinds, &other.kinds)
+    }
+
+    /// The least kinds into which both fit, of each place that both list.
+    fn merged(
+        &self,
+        alloc: Global,
+        exceptions: &[&[u8]],
+        other: &Kept<'f>,
+    ) -> Result<Kept<'f>, NoMemory>
+        ensures { IfOk result (λ kept. kinds_of kept
+            ≡ merge_all (names exceptions.now) (kinds_of self.now) (kinds_of other.now)) }
+    {
+        Ok(Kept {
+            kinds: merged(alloc, exceptions, &self.kinds, &other.kinds)?,
+            few: self.few.merged(alloc, exceptions, &other.few)?,
+        })
+    }
+}
+
+/// Kinds that copies share.
+#[derive(Drop)]
+pub(crate) struct Piece<'f> {
+    kept: Rc<Kept<'f>>,
+}
+
+impl<'f> Model for Piece<'f> {
+    ghost use Rattle.std.specs.Prelude.{List};
+    ghost use Rattle.par_frame_steps.specs.declared.kind.PlaceKind.{PlaceKind};
+
+    ghost Value = { List PlaceKind };
+
+    ghost view = { λ p. p.kept.value };
+}
+
+impl<'f> Piece<'f> {
+    /// A piece of these kinds.
+    pub(crate) fn of(alloc: Global, kinds: Vec<PlaceKind<'f>>) -> Result<Piece<'f>, NoMemory>
+        ensures { IfOk result (λ piece. piece ≡ kinds.entry.items) }
+    {
+        let kept = Rc::new(alloc, Kept::of(alloc, kinds)?)?;
+        Ok(Piece { kept })
+    }
+
+    /// Its kinds.
+    pub(crate) fn kinds(&self) -> &[PlaceKind<'f>]
+        ensures { result.now ≡ self.now }
+    {
+        self.kept.kinds()
+    }
+
+    /// The piece once more.
+    pub(crate) fn share(&self) -> Result<Piece<'f>, NoMemory>
+        ensures { IfOk result (λ piece. piece ≡ self.now) }
+    {
+        let kept = self.kept.clone()?;
+        Ok(Piece { kept })
+    }
+
+    /// Sets a kind, for this copy alone.
+    pub(crate) fn set(
+        &mut self,
+        alloc: Global,
+        place: usize,
+        kind: PlaceKind<'f>,
+    ) -> Result<(), NoMemory>
+        requires { place < length self.old }
+        ensures set { IfOk result (λ done. self.new ≡ slice_set self.old place kind.entry) }
+        ensures many { length self.new ≡ length self.old }
+    {
+        let kept = self.kept.with(alloc, place, kind)?;
+        self.kept = Rc::new(alloc, kept)?;
+        Ok(())
+    }
+
+    /// Whether each kind fits into the one at its place, of as many.
+    pub(crate) fn fits_into(&self, exceptions: &[&[u8]], other: &Piece) -> bool
+        ensures { result
+            ≡ all_into (names exceptions.now) (kinds_of self.now) (kinds_of other.now) }
+    {
+        self.kept.fits_into(exceptions, &other.kept)
+    }
+
+    /// Whether each kind fits into the one at its place that is listed.
+    pub(crate) fn listed_into(&self, exceptions: &[&[u8]], other: &Piece) -> bool
+        ensures { result
+            ≡ listed_into (names exceptions.now) (kinds_of self.now) (kinds_of other.now) }
+    {
+        self.kept.listed_into(exceptions, &other.kept)
+    }
+
+    /// The least kinds into which both fit, of as many. Where one fits into the other, that is it.
+    pub(crate) fn merged(
+        &self,
+        alloc: Global,
+        exceptions: &[&[u8]],
+        other: &Piece<'f>,
+    ) -> Result<Piece<'f>, NoMemory>
+        ensures { IfOk result (λ piece. kinds_of piece
+            ≡ merge_all (names exceptions.now) (kinds_of self.now) (kinds_of other.now)) }
+    {
+        if self.fits_into(exceptions, other) {
+            return other.share();
+        }
+        let kept = Rc::new(alloc, self.kept.merged(alloc, exceptions, &other.kept)?)?;
+        Ok(Piece { kept })
+    }
+}
