@@ -39,9 +39,9 @@ answer : (fs gs : List Refusal) (o : Option Refusal) → None ≡ first_of None 
 answer fs gs o h is =
     answer_passes_on fs gs o (none_is_nothing fs h) (subst (IsAnswer gs) (sym is) (answered gs))
 
--- where the first pass finds nothing, the second one answers, if it does
-pub passed : {E : Type 0} (fs gs : List Refusal) (r : Result (Option Refusal) E)
-    → None ≡ first_of None fs
-    → IfOk r (λ o. o ≡ first_of None gs) → IfOk r (IsAnswer (in_passes fs gs))
-passed fs gs (Ok o) h is = answer fs gs o h is
-passed fs gs (Err e) h is = tt
+-- where the first pass finds nothing, the first fault of the second one answers, if it does
+pub passed : {A E : Type 0} (first : A → Option Refusal) (fs gs : List Refusal) (r : Result A E)
+    → None ≡ first_of None fs → IfOk r (λ found. first found ≡ first_of None gs)
+    → IfOk r (λ found. IsAnswer (in_passes fs gs) (first found))
+passed first fs gs (Ok found) h is = answer fs gs (first found) h is
+passed first fs gs (Err e) h is = tt

@@ -3,7 +3,7 @@ use Rattle.std.specs.Prelude.{List, [], ◌∷◌, ◌++◌}
 use Rattle.par_tree.specs.Plain.{Source}
 use Rattle.par_refusals.specs.declared.refusal.Refusal.{Refusal}
 use Rattle.par_refusals.specs.First.{in_passes}
-use Rattle.par_faults.specs.par_names.Program.{name_faults}
+use Rattle.par_names.specs.Program.{name_faults}
 use Rattle.par_limits.specs.par_resolved.Sizes.{all_literal_faults}
 use Rattle.par_limits.specs.par_resolved.Limits.{policy_faults}
 use Rattle.par_faults.specs.Limits.{declared_limits, count_faults}

@@ -20,6 +20,6 @@ mod places;
 mod rule;
 
 pub use counts::{check_class_counts, check_declared};
-pub use faults::first_fault;
+pub use faults::{first_fault, look};
 pub use laws::faults_lie_within;
 pub use names::first_broken_name;

@@ -1,5 +1,5 @@
 // The first limit of policies that a program exceeds.
-ghost use Rattle.std.specs.Prelude.{◌≡◌, None, flat_map, slice_get, IfOk, OnOk};
+ghost use Rattle.std.specs.Prelude.{◌≡◌, None, flat_map, slice_get, IfOk, IfSome, OnOk};
 ghost use Rattle.par_tree.specs.Shown.{source};
 ghost use Rattle.par_refusals.specs.First.{first_of, in_passes};
 ghost use Rattle.par_resolved.specs.Few.{HasFew};
@@ -17,6 +17,7 @@ ghost use Rattle.par_resolved.specs.Limits.{one_too_many, table_faults, policy_f
 use crate::distinct::distinct_entries;
 use crate::listed::entries;
 use crate::many::check_many;
+use crate::outcome::Outcome;
 use par_refusals::refusal::{Findings, Refusal};
 use par_resolved::NoMemory;
 use par_resolved::births::check_birth;
@@ -114,32 +115,42 @@ fn first_by(
     }
 }
 
-fn first_known(
+// The first fault where every literal is within its limits, and what is known of the program.
+fn look_by_names<'a>(
     alloc: Global,
-    program: &Program,
-    exprs: &[&PolicyExpr],
-) -> Result<Option<Refusal>, NoMemory>
+    program: &'a Program,
+    exprs: &[&'a PolicyExpr],
+) -> Result<Outcome<'a>, NoMemory>
     requires few { HasFew (source program.now) }
     requires written { all_of exprs.now ≡ said.written (source program.now) }
-    ensures { IfOk result (λ first.
-        first ≡ first_of None
+    ensures first { IfOk result (λ found.
+        found.first ≡ first_of None
         (in_passes (all_join_faults (known (source program.now)) (source program.now))
         (table_faults (known (source program.now)) (source program.now)))) }
+    ensures known { IfOk result (λ found.
+        IfSome found.known (λ k. known_seen k ≡ policies.known (source program.now))) }
 {
-    let known = known(alloc, program)?;
-    first_by(alloc, &known, program, exprs)
+    let known = known(alloc, program)?.with_joins(alloc, exprs)?;
+    let first = first_by(alloc, &known, program, exprs)?;
+    Ok(Outcome {
+        first,
+        known: Some(known),
+    })
 }
 
-/// The first limit of policies that a program exceeds, or the first birth policy that is not below
-/// the policies of fields, where there is one.
-pub fn first_fault(alloc: Global, program: &Program) -> Result<Option<Refusal>, NoMemory>
+/// Looks at the limits of policies, and at birth policies where they are written: the first limit
+/// that is exceeded or birth policy that is not below the policies of fields. What is known of the
+/// program is worked out where no limit is exceeded by a policy that is written out.
+pub fn look(alloc: Global, program: &Program) -> Result<Outcome<'_>, NoMemory>
     requires { HasFew (source program.now) }
-    ensures { IfOk result (λ first.
-        first ≡ first_of None (policy_faults (source program.now))) }
+    ensures first { IfOk result (λ found.
+        found.first ≡ first_of None (policy_faults (source program.now))) }
+    ensures known { IfOk result (λ found.
+        IfSome found.known (λ k. known_seen k ≡ policies.known (source program.now))) }
 {
     let exprs = written(alloc, program)?;
     match first_literal(exprs.as_slice()) {
-        None => first_known(alloc, program, exprs.as_slice()),
-        Some(first) => Ok(Some(first)),
+        None => look_by_names(alloc, program, exprs.as_slice()),
+        Some(first) => Ok(Outcome::fault(first)),
     }
 }

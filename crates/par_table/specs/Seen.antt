@@ -6,7 +6,7 @@ use Rattle.par_table.specs.declared.resolved.Resolved as code
 
 abbrev pub resolved_seen : code.Resolved → Resolved
 resolved_seen r = record {
-  known = known_seen r.known;
+  known = known_seen r.known.now;
   classes = texts r.classes.names.items;
   policies = r.policies.items;
 }

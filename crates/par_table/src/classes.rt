@@ -27,7 +27,7 @@ fn birth_number(alloc: Global, resolved: &Resolved<'_>, decl: &ClassDecl) -> Res
         n ≡ (info.class_info (resolved_seen resolved.now) 0 0 (class_of decl.now)).birth) }
 {
     let fields = decl.fields.as_slice();
-    let birth = birth_policy(alloc, &resolved.known, &decl.birth, fields)?;
+    let birth = birth_policy(alloc, resolved.known, &decl.birth, fields)?;
     Ok(resolved.number_of(&birth))
 }
 

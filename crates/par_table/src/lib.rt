@@ -16,4 +16,4 @@ mod resolved;
 mod table;
 
 pub use error::NameError;
-pub use table::build;
+pub use table::{Built, build, build_known};

@@ -4,7 +4,9 @@ ghost use Rattle.std.specs.Prelude.{◌≡◌, map, IfOk};
 ghost use Rattle.par_tree.specs.Shown.{source};
 ghost use Rattle.par_names.specs.Declarations as names;
 ghost use Rattle.par_resolved.specs.Gathered.{all_of, classes_of};
+ghost use Rattle.par_resolved.specs.Policies as policies;
 ghost use Rattle.par_resolved.specs.Policies.{known};
+ghost use Rattle.par_resolved.specs.Seen.{known_seen};
 ghost use Rattle.par_resolved.specs.Numbered.{numbered};
 ghost use Rattle.par_resolved.specs.Resolved as made;
 ghost use Rattle.par_resolved.specs.Resolved.{table_of};
@@ -20,6 +22,7 @@ use par_lexer::name::Name;
 use par_names::{actors, builtin_classes, classes};
 use par_policy::Policy;
 use par_resolved::NoMemory;
+use par_resolved::known::Known;
 use par_tree::decl::{ClassDecl, Program};
 use par_tree::ident::Ident;
 use par_typed::table::Table;
@@ -57,7 +60,7 @@ fn all_policies(
         ≡ map (λ e. e.policy) (numbered (known (source program.now)) (source program.now))) }
 {
     let mut found = copies(alloc, resolved.policies())?;
-    push_inferred(alloc, &mut found, &resolved.known, classes)?;
+    push_inferred(alloc, &mut found, resolved.known, classes)?;
     Ok(List::wrap(found))
 }
 
@@ -84,21 +87,28 @@ fn table_by(
 }
 
 // These are the classes of the program.
-fn table_of(alloc: Global, program: &Program, classes: &[&ClassDecl]) -> Result<Table, NoMemory>
+fn table_of(
+    alloc: Global,
+    known: &Known<'_>,
+    program: &Program,
+    classes: &[&ClassDecl],
+) -> Result<Table, NoMemory>
     requires room { FitsTable (source program.now) }
+    requires known { known_seen known.now ≡ policies.known (source program.now) }
     requires classes { classes_of classes.now ≡ names.classes (source program.now) }
     ensures { IfOk result (λ table. table ≡ table_of (source program.now)) }
 {
-    let resolved = Resolved::of(alloc, program, classes)?;
+    let resolved = Resolved::of(alloc, known, program, classes)?;
     table_by(alloc, &resolved, program, classes)
 }
 
-/// The table of a program whose parts have numbers.
-pub fn make(alloc: Global, program: &Program) -> Result<Table, NoMemory>
-    requires { FitsTable (source program.now) }
+/// The table of a program whose parts have numbers, by what is known of it.
+pub fn make(alloc: Global, known: &Known<'_>, program: &Program) -> Result<Table, NoMemory>
+    requires room { FitsTable (source program.now) }
+    requires known { known_seen known.now ≡ policies.known (source program.now) }
     ensures { IfOk result (λ table. table ≡ table_of (source program.now)) }
 {
     let builtins = builtin_classes(alloc)?;
     let classes = classes(alloc, builtins.as_slice(), program)?;
-    table_of(alloc, program, classes.as_slice())
+    table_of(alloc, known, program, classes.as_slice())
 }

@@ -9,6 +9,8 @@ ghost use Rattle.par_resolved.specs.declared.limits.TheConstants.{MOST_POLICIES}
 ghost use Rattle.par_resolved.specs.Gathered.{classes_of};
 ghost use Rattle.par_resolved.specs.Numbers as numbers;
 ghost use Rattle.par_resolved.specs.Numbered.{policy_number};
+ghost use Rattle.par_resolved.specs.Policies as policies;
+ghost use Rattle.par_resolved.specs.Seen.{known_seen};
 ghost use Rattle.par_table.specs.Room.{FitsTable, AreFew};
 
 use crate::policies::{place_of, shared_policies};
@@ -16,7 +18,6 @@ use par_index::NameIndex;
 use par_lexer::name::Name;
 use par_policy::Policy;
 use par_resolved::known::Known;
-use par_resolved::scope::known;
 use par_resolved::{NoMemory, types};
 use par_tree::decl::{ClassDecl, Program};
 use par_tree::policy::PolicyExpr;
@@ -27,7 +28,7 @@ use std::alloc::Global;
 /// What is known of a program, the names of its classes, and the policies that have numbers.
 #[derive(Drop)]
 pub struct Resolved<'a> {
-    pub known: Known<'a>,
+    pub known: &'a Known<'a>,
     classes: NameIndex<'a>,
     policies: Vec<Policy>,
     ghost few: { AreFew classes policies.items },
@@ -65,15 +66,16 @@ impl<'a> Resolved<'a> {
     /// What the table of a program is made by, where these are its classes.
     pub fn of(
         alloc: Global,
+        known: &'a Known<'a>,
         program: &'a Program,
         classes: &[&'a ClassDecl],
     ) -> Result<Resolved<'a>, NoMemory>
         requires room { FitsTable (source program.now) }
+        requires known { known_seen known.now ≡ policies.known (source program.now) }
         requires classes { classes_of classes.now ≡ names.classes (source program.now) }
         ensures { IfOk result (λ r. resolved_seen r ≡ resolved (source program.now)) }
     {
-        let known = known(alloc, program)?;
-        let policies = shared_policies(alloc, &known, program)?;
+        let policies = shared_policies(alloc, known, program)?;
         let names = class_names(alloc, classes)?;
         let classes = NameIndex::of(alloc, names)?;
         Ok(Resolved {

@@ -5,7 +5,7 @@ use Rattle.par_table.proofs.locks.push_family.Goals as goal
 
 pub push_chosen-requires-clause-few : goal.push_chosen-requires-clause-few
 push_chosen-requires-clause-few c =
-    let few = c.args.resolved.now.known.numbers.few in
+    let few = c.args.resolved.now.known.now.numbers.few in
     omega (arith, few.counted, few.few_actors, c.actor_count-count.ensures)
 
 pub returns : goal.returns

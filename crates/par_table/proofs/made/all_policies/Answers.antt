@@ -18,7 +18,7 @@ returns c =
     λ k cs. flat_map (λ c. inferred_policies k c.fields) cs in
     let shared =
     c.in_ok-found.ensures ∙ c.policies.ensures ∙ ap (λ r. r.policies) c.requires.made in
-    let there = known_seen c.args.resolved.now.known in
+    let there = known_seen c.args.resolved.now.known.now in
     let classes = classes_of c.args.classes.now in
     c.wrap.ensures ∙ c.in_ok-push_inferred.ensures ∙ ap (λ ps. ps ++ inferred there classes) shared
     ∙ ap (λ r. shared_policies (known s) s ++ inferred r.known classes) c.requires.made

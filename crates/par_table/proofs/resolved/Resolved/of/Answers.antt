@@ -15,7 +15,7 @@ use Rattle.par_table.proofs.resolved.Resolved.of.Goals as goal
 pub shared_policies-requires : goal.shared_policies-requires
 shared_policies-requires c =
     let s = source c.args.program.now in
-    subst (λ k. length (numbered k s) ≤ MOST_POLICIES) (sym c.in_ok-known.ensures)
+    subst (λ k. length (numbered k s) ≤ MOST_POLICIES) (sym c.requires.known)
     c.requires.room.few_policies
 
 pub invariant_of-result : goal.invariant_of-result
@@ -27,7 +27,7 @@ invariant_of-result c =
     let all : length (texts c.in_ok-classes.classes.names.items) ≡ length (classes s) =
     ap length named ∙ length-map (classes s) (λ (c : Class). c.id.name) in
     let shared : length c.in_ok-policies.policies.items ≡ length (shared_policies (known s) s) =
-    ap length (c.in_ok-policies.ensures ∙ ap (λ k. shared_policies k s) c.in_ok-known.ensures) in
+    ap length (c.in_ok-policies.ensures ∙ ap (λ k. shared_policies k s) c.requires.known) in
     record {
       few = record {
         few_classes = omega (arith, all, c.requires.room.few_classes);
@@ -43,8 +43,8 @@ returns c =
     λ k c p. record { known = k; classes = c; policies = p } in
     let named = c.in_ok-classes.ensures ∙ c.in_ok-names.ensures
     ∙ ap (map (λ (c : Class). c.id.name)) c.requires.classes in
-    let shared = c.in_ok-policies.ensures ∙ ap (λ k. shared_policies k s) c.in_ok-known.ensures in
+    let shared = c.in_ok-policies.ensures ∙ ap (λ k. shared_policies k s) c.requires.known in
     ap (λ k. made k (texts c.in_ok-classes.classes.names.items) c.in_ok-policies.policies.items)
-    c.in_ok-known.ensures
+    c.requires.known
     ∙ ap (λ n. made (known s) n c.in_ok-policies.policies.items) named
     ∙ ap (λ p. made (known s) (map (λ (c : Class). c.id.name) (classes s)) p) shared
