@@ -1,5 +1,5 @@
 -- From how class files are loaded and linked to what their verification comes to.
-use Rattle.std.proofs.Common.{◌≡◌, ℕ, suc, List, [], ◌∷◌, IfOk, IfErr, Option, Some, Result, Ok}
+use Rattle.std.proofs.Common.{◌≡◌, ℕ, suc, ◌<◌, length, List, [], ◌∷◌, IfOk, IfErr, Option, Some, Result, Ok}
 use Rattle.std.proofs.Common.{Err, refl, sym, subst, inl, inr}
 use Rattle.std.specs.Bool.{OnFalse}
 use Rattle.std.specs.List.{slice_get, AllZip}
@@ -12,6 +12,12 @@ use Rattle.par_verify.specs.par_verify_laws.Verified.{AllFrames, AreFramesOf, Is
 use Rattle.par_verify.proofs.par_verify_laws.Never.{verified_programs_are_never_bad}
 use Rattle.par_verify.specs.par_frames.par_kinds.declared.frame.MethodFrames.{MethodFrames}
 use Rattle.par_verify.specs.par_frames.Broken.{AreFrames, HasFrames}
+use Rattle.par_verify.specs.Answers.{Verified as Verdict}
+use Rattle.par_verify.specs.Told.{Tells}
+use Rattle.par_verify.specs.declared.error.Unfit.{Unfit}
+use Rattle.par_verify.specs.declared.error.VerifyError.{VerifyError}
+use Rattle.par_verify.specs.declared.error.VerifyError.TheVariants as error
+use Rattle.par_verify.proofs.Methods.{class_there}
 use Rattle.par_framed_program.specs.Framed.{AreFramed}
 use Rattle.par_loader.specs.declared.error.Unloaded.{Unloaded}
 use Rattle.par_loader.specs.declared.error.Unloaded.TheVariants as un
@@ -25,8 +31,9 @@ use Rattle.par_tool.specs.Failures.{IsFailure, FaultsAreTold, failure_of}
 use Rattle.par_tool.specs.Texts.{is_fault}
 use Rattle.par_tool.specs.Outside.{Text}
 use Rattle.par_tool.specs.Classes.{IsUnlinked, AreLinked}
-use Rattle.par_tool.specs.Verifications.{AreFit, AreNeverBad, IsAnsweredFor, IsUnfit}
-use Rattle.par_tool.specs.Verifications.{IsUnverifiable, VerifiedSo}
+use Rattle.par_tool.specs.declared.verifications.TheConstants.{UNFIT}
+use Rattle.par_tool.specs.Verifications.{AreFit, AreNeverBad, IsAnsweredFor, IsNameAt}
+use Rattle.par_tool.specs.Verifications.{IsUnverifiable, IsUnverifiedBy, VerifiedSo}
 use Rattle.par_tool.proofs.Loads.{one_more, linked_reads}
 
 -- files whose methods frames fit come to no bad code
@@ -119,20 +126,43 @@ frames_there (file ∷ files) framed =
 
 -- ---- a method that no frames fit
 
-pub unfit_so : (all : List ClassFile) (frames : AllFrames) (place method : ℕ) (f : Failure)
-    → AreFramesOf all frames → IsUnverified all frames place method
-    → IsFailure (IsUnfit all place method) f → IsFailure (IsUnverifiable all) f
-unfit_so all frames place method (Answered (BadClass class number value)) of unfit
-    (file, there, own, number_is, value_is) =
-    inr (record {
-      frames = frames;
-      of = of;
-      place = place;
-      unfit = subst (λ v. IsUnverified all frames place v) (sym value_is) unfit;
-      file = file;
-      there = there;
-      own = own;
-      number_is = number_is;
-    })
-unfit_so all frames place method (Answered _) of unfit is = absurd is
-unfit_so all frames place method Memory of unfit is = tt
+-- what the error of a verification says of the frames that the files have
+pub unverified_by : (all : List ClassFile) (frames : AllFrames) (e : VerifyError)
+    → AreFramesOf all frames → Verdict {A = ℕ} all frames (Err e) → IsUnverifiedBy all e
+unverified_by all frames (error.Broken class method) of unverified = (frames, of, unverified)
+unverified_by all frames error.Memory of unverified = tt
+
+-- the method that an error tells
+module _ (all : List ClassFile) (unfit : Unfit) where
+  abbrev pub IsFirst : Type 0
+  IsFirst =
+      (frames : AllFrames) × AreFramesOf all frames
+      × IsUnverified all frames unfit.class unfit.method
+
+  pub first_told : (e : VerifyError) → IsUnverifiedBy all e → Tells e (Ok unfit) → IsFirst
+  first_told (error.Broken class method) (frames, of, unverified) is = (
+    frames,
+    of,
+    subst (λ c. IsUnverified all frames c unfit.method) (sym is.0)
+        (subst (λ m. IsUnverified all frames class m) (sym is.1) unverified),
+  )
+  first_told error.Memory by is = absurd is
+
+  -- it stands in one of the files
+  pub first_there : IsFirst → unfit.class < length all
+  first_there (frames, of, unverified) =
+      class_there all unfit.class unfit.method unverified.coded
+
+pub first_so : (all : List ClassFile) (unfit : Unfit) (class : Text) → IsFirst all unfit
+    → IsNameAt all unfit.class class
+    → IsUnverifiable all (BadClass class UNFIT unfit.method)
+first_so all unfit class (frames, of, unverified) (file, there, own) = inr (record {
+  frames = frames;
+  of = of;
+  place = unfit.class;
+  unfit = unverified;
+  file = file;
+  there = there;
+  own = own;
+  number_is = refl;
+})

@@ -1,5 +1,5 @@
 -- What is said of the policies that are inferred for sources.
-use Rattle.std.specs.Prelude.{◌≡◌, ℕ, List, Option}
+use Rattle.std.specs.Prelude.{◌≡◌, ℕ, ◌≤◌, List, length, Option}
 use Rattle.par_io.specs.Causes.{FolderCounts, Files}
 use Rattle.par_lexer.specs.declared.cut.TheConstants.{LONGEST_SOURCE}
 use Rattle.par_typed.specs.declared.program.Typed.{Typed}
@@ -14,14 +14,18 @@ use Rattle.par_infer.specs.Bounds.{bounds}
 use Rattle.par_observer.specs.Trees.{BreaksTyping}
 use Rattle.par_observer.specs.Judgements.{BreaksAs, IsTypedAs}
 use Rattle.par_infer.specs.declared.filling.FilledField.{FilledField}
+use Rattle.par_infer.specs.declared.error.InferError.{InferError}
+use Rattle.par_infer.specs.declared.error.InferError.TheVariants as inferred_as
 use Rattle.par_infer.specs.Filled.{filled_in}
 use Rattle.par_infer.specs.Inferred.{AreLeastAccepted, IsBrokenFirst}
 use Rattle.par_filling_lines.specs.par_told.Told.{told}
 use Rattle.par_filling_lines.specs.Texts.{filling_lines}
 use Rattle.par_tool.specs.declared.answer.Answer.{Answer}
 use Rattle.par_tool.specs.declared.answer.Answer.TheVariants.{Refused}
+use Rattle.par_tool.specs.declared.reads.Failure.{Failure}
+use Rattle.par_tool.specs.declared.reads.Failure.TheVariants.{Answered, Memory}
 use Rattle.par_tool.specs.Outside.{Text, NotRead}
-use Rattle.par_tool.specs.Sources.{IsRefusedFor, ReadSource}
+use Rattle.par_tool.specs.Sources.{IsRefusedFor, ReadSource, refused_at}
 
 -- These are the lines of the inferred fields of a source. Their sets are the least ones that meet
 -- the bounds over closed and least facts of the bodies. For each field its line tells the policies
@@ -52,6 +56,16 @@ abbrev pub IsUnfilled : Text → Answer → Type 0
 IsUnfilled source (Refused rule line column limit count) =
     IsRefusedFor (IsUnfilledBy source) source rule line column limit count
 IsUnfilled source _ = ⊥
+
+-- a rule that no policies keep stands in the source, or behind its last byte
+abbrev pub BreaksWithin : Text → InferError → Type 0
+BreaksWithin source (inferred_as.Broken f) = f.at ≤ length source
+BreaksWithin source inferred_as.Memory = Unit {0}
+
+-- what is answered where no policies are found
+abbrev pub unfilled : Text → InferError → Failure
+unfilled source (inferred_as.Broken f) = Answered (refused_at source f)
+unfilled source inferred_as.Memory = Memory
 
 -- the source in a file was read, and these are its lines
 abbrev pub IsFillingOf : Option Files → (file : Text) → List Text → Type 0

@@ -31,9 +31,13 @@ use Rattle.par_typed.specs.declared.program.Typed.{Typed}
 use Rattle.par_refusals.specs.declared.refusal.Refusal.{Refusal}
 use Rattle.par_typed.specs.Shown.{bodies}
 use Rattle.par_observer.specs.Judgements.{Breaks, IsAcceptedAs}
+use Rattle.par_observer.specs.declared.error.JudgeError.{JudgeError}
+use Rattle.par_observer.specs.declared.error.JudgeError.TheVariants as judged_as
 use Rattle.par_tool.specs.declared.answer.Answer.{Answer}
 use Rattle.par_tool.specs.declared.answer.Answer.TheVariants.{Accepted, Compiled, Refused}
 use Rattle.par_tool.specs.declared.answer.Answer.TheVariants.{WriteFault}
+use Rattle.par_tool.specs.declared.reads.Failure.{Failure}
+use Rattle.par_tool.specs.declared.reads.Failure.TheVariants.{Answered, Memory}
 use Rattle.par_tool.specs.Outside.{Text, WasRead, NotRead}
 
 -- The source is refused, for some reason, by this rule at the place that has this line and this
@@ -52,6 +56,16 @@ pub record IsRefusedFor (Why : Refusal → Type 0) (source : Text)
 -- what is answered to a refusal
 abbrev pub refused_at : Text → Refusal → Answer
 refused_at source f = Refused f.rule (line_at source f.at) (column_at source f.at) f.limit f.count
+
+-- a source is refused at a place in it, or behind its last byte
+abbrev pub RefusesWithin : Text → JudgeError → Type 0
+RefusesWithin source (judged_as.Refused f) = f.at ≤ length source
+RefusesWithin source judged_as.Memory = Unit {0}
+
+-- what is answered where a source is not accepted
+abbrev pub unaccepted : Text → JudgeError → Failure
+unaccepted source (judged_as.Refused f) = Answered (refused_at source f)
+unaccepted source judged_as.Memory = Memory
 
 -- a rule is broken
 abbrev pub IsBroken : Text → (rule line column limit count : ℕ) → Type 0

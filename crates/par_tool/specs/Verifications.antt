@@ -9,6 +9,8 @@ use Rattle.par_step_laws.specs.Run.{machine_run}
 use Rattle.par_verify.specs.par_sound_laws.Laws.{IsFine}
 use Rattle.par_verify.specs.par_verify_laws.Verified.{AllFrames, AreFramesOf, AreVerified}
 use Rattle.par_verify.specs.par_verify_laws.Verified.{IsUnverified}
+use Rattle.par_verify.specs.declared.error.VerifyError.{VerifyError}
+use Rattle.par_verify.specs.declared.error.VerifyError.TheVariants as error
 use Rattle.par_framed_program.specs.Framed.{IsUnframed}
 use Rattle.par_loader.specs.declared.error.Unloaded.TheVariants as unloaded
 use Rattle.par_tool.specs.declared.answer.Answer.{Answer}
@@ -29,12 +31,16 @@ pub record AreFit (all : List ClassFile) : Type 0 where
 abbrev pub AreNeverBad : Text → List ClassFile → Type 0
 AreNeverBad main all = (inputs : Inputs) (m : ℕ) → IsFine (machine_run all main inputs m).ending
 
--- the answer tells of the class at a place of the list, and of a method that no frames fit
-abbrev pub IsUnfit : List ClassFile → (place method : ℕ) → Answer → Type 0
-IsUnfit all place method (BadClass class number value) =
+-- this is the name of the class at a place of the list
+abbrev pub IsNameAt : List ClassFile → (place : ℕ) → Text → Type 0
+IsNameAt all place class =
     (file : ClassFile) × (slice_get all place ≡ Some file) × (own_name file ≡ class)
-    × (number ≡ UNFIT) × (value ≡ method)
-IsUnfit all place method answer = ⊥
+
+-- why files are not verified that have the frames that they need; memory may be wanting
+abbrev pub IsUnverifiedBy : List ClassFile → VerifyError → Type 0
+IsUnverifiedBy all (error.Broken class method) =
+    (frames : AllFrames) × AreFramesOf all frames × IsUnverified all frames class method
+IsUnverifiedBy all error.Memory = Unit {0}
 
 -- a method of the class of this name is the first that no frames fit, files in list order
 pub record IsFirstUnfit (all : List ClassFile) (class : Text) (number value : ℕ) : Type 0 where

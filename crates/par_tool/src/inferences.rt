@@ -8,15 +8,17 @@ ghost use Rattle.par_observer.specs.Judgements.{IsTypedAs};
 ghost use Rattle.par_observer.specs.Trees.{IsReady, ChecksLie};
 ghost use Rattle.par_tool.specs.Failures.{IsFailure, FaultsAreTold};
 ghost use Rattle.par_tool.specs.Inferences.{IsFilledAs, IsFillingOf, IsUnfilled, Unfilled};
+ghost use Rattle.par_tool.specs.Inferences.{BreaksWithin};
+ghost use Rattle.par_tool.specs.Inferences as spec;
 ghost use Rattle.par_tool.specs.Lines.{texts_of};
 
 use crate::reads::{Failure, read};
-use crate::sources::refused;
+use crate::sources::{refused, unaccepted};
 use par_filling_lines::filling_lines;
 use par_infer::{Filling, InferError, infer_fields};
 use par_io::Folder;
 use par_lexer::LONGEST_SOURCE;
-use par_observer::{JudgeError, typed_of};
+use par_observer::typed_of;
 use par_typed::program::Typed;
 use std::alloc::Global;
 
@@ -30,10 +32,7 @@ fn typed(alloc: Global, source: &[u8]) -> Result<Typed, Failure>
 {
     match typed_of(alloc, source) {
         Ok(typed) => Ok(typed),
-        Err(error) => match error {
-            JudgeError::Refused(refusal) => Err(Failure::Answered(refused(source, refusal))),
-            JudgeError::Memory => Err(Failure::Memory),
-        },
+        Err(error) => Err(unaccepted(source, error)),
     }
 }
 
@@ -49,10 +48,19 @@ fn filled(alloc: Global, source: &[u8], typed: &Typed) -> Result<Filling, Failur
 {
     match infer_fields(alloc, typed) {
         Ok(filling) => Ok(filling),
-        Err(error) => match error {
-            InferError::Broken(refusal) => Err(Failure::Answered(refused(source, refusal))),
-            InferError::Memory => Err(Failure::Memory),
-        },
+        Err(error) => Err(unfilled(source, error)),
+    }
+}
+
+/// Why no policies are found for a source, as it is told.
+fn unfilled(source: &[u8], error: InferError) -> Failure
+    requires within { BreaksWithin source.now error }
+    requires short { length source.now ≤ LONGEST_SOURCE }
+    ensures { result ≡ spec.unfilled source.now error }
+{
+    match error {
+        InferError::Broken(refusal) => Failure::Answered(refused(source, refusal)),
+        InferError::Memory => Failure::Memory,
     }
 }
 

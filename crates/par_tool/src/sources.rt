@@ -6,12 +6,13 @@ ghost use Rattle.std.specs.Str.{bytes_eq};
 ghost use Rattle.par_io.specs.Causes.{Makes, NoneFalls};
 ghost use Rattle.par_check_laws.specs.Accepted.{IsAcceptedBy};
 ghost use Rattle.par_check.specs.par_flow.Table.{facts_in};
-ghost use Rattle.par_observer.specs.Judgements.{IsRefused};
 ghost use Rattle.par_observer.specs.Trees.{IsWellFormed};
 ghost use Rattle.par_tool.specs.Failures.{IsFailure, FaultsAreTold};
 ghost use Rattle.par_tool.specs.Outside.{Text, MakesAtMost};
 ghost use Rattle.par_tool.specs.Sources.{IsSecureAs, ReadSource, Rejected, Checked, AreClassesOf};
 ghost use Rattle.par_tool.specs.Sources.{CompiledSo, IsCutShort, IsUnaccepted, refused_at};
+ghost use Rattle.par_tool.specs.Sources.{RefusesWithin};
+ghost use Rattle.par_tool.specs.Sources as spec;
 ghost use Rattle.par_tool.specs.Sources.{MOST_FILES};
 
 use crate::answer::Answer;
@@ -55,11 +56,11 @@ pub fn program(alloc: Global, source: &[u8]) -> Result<Typed, Failure>
     }
 }
 
-/// Why a source is not accepted, as it is told.
-fn unaccepted(source: &[u8], error: JudgeError) -> Failure
+/// Why a source is not accepted, or has no typed program, as it is told.
+pub fn unaccepted(source: &[u8], error: JudgeError) -> Failure
+    requires within { RefusesWithin source.now error }
     requires short { length source.now ≤ LONGEST_SOURCE }
-    requires refused { IsRefused source.now error }
-    ensures { IsFailure (IsUnaccepted source.now) result }
+    ensures { result ≡ spec.unaccepted source.now error }
 {
     match error {
         JudgeError::Refused(refusal) => Failure::Answered(refused(source, refusal)),

@@ -1,17 +1,19 @@
 //! What is done to verify a class: its class files are read and linked, and frames are sought for
 //! each of their methods. No input file is read.
 
-ghost use Rattle.std.specs.Prelude.{◌≡◌, IsTrue, IfOk, IfErr, Some};
+ghost use Rattle.std.specs.Prelude.{◌≡◌, ◌<◌, IsTrue, IfOk, IfErr, length};
 ghost use Rattle.par_lexer.specs.par_base.Names.{IsName};
 ghost use Rattle.par_loader.specs.declared.error.Unloaded.TheVariants as unloaded;
 ghost use Rattle.par_tool.specs.Classes.{IsUnlinked};
 ghost use Rattle.par_tool.specs.Failures.{IsFailure, FaultsAreTold};
-ghost use Rattle.par_tool.specs.Verifications.{IsAnsweredFor, IsUnfit, IsUnverifiable, VerifiedSo};
+ghost use Rattle.par_tool.specs.Verifications.{IsAnsweredFor, IsUnverifiable, VerifiedSo};
+ghost use Rattle.par_tool.specs.Verifications.{IsNameAt, IsUnverifiedBy};
 
 use crate::answer::Answer;
 use crate::reads::Failure;
 use par_framed_program::framed;
 use par_io::Folder;
+use par_lexer::memory::NoMemory;
 use par_lexer::name::Name;
 use par_link::Linked;
 use par_loader::{linked_program, main_file};
@@ -22,23 +24,31 @@ use std::alloc::Global;
 /// The number of a class with a method that no frames fit.
 pub const UNFIT: u16 = 47;
 
-/// What is told of the class at a place of the list, whose method at a place of its table is the
-/// first that no frames fit.
-fn unfit(alloc: Global, linked: &Linked, class: u16, method: u32) -> Failure
-    ensures { IsFailure (IsUnfit linked.now class method) result }
+/// The name of the class at a place of the list.
+fn class_name(alloc: Global, linked: &Linked, class: u16) -> Result<Name, NoMemory>
+    requires { class < length linked.now }
+    ensures { IfOk result (IsNameAt linked.now class) }
 {
     let _ = linked.count();
     let Some(file) = linked.file(class) else {
-        return Failure::Memory;
+        unreachable!();
     };
-    match Name::new(alloc, own_name(file)) {
-        Ok(class) => Failure::Answered(Answer::BadClass {
-            class,
-            number: UNFIT,
-            value: method,
-        }),
-        Err(_) => Failure::Memory,
-    }
+    Name::new(alloc, own_name(file))
+}
+
+/// What is told of linked files that are not verified: the class of the first method that no frames
+/// fit, and the place of the method in its table.
+fn unverified(alloc: Global, linked: &Linked, error: VerifyError) -> Result<Answer, NoMemory>
+    requires { IsUnverifiedBy linked.now error }
+    ensures { IfOk result (IsUnverifiable linked.now) }
+{
+    let unfit = error.unfit()?;
+    let class = class_name(alloc, linked, unfit.class)?;
+    Ok(Answer::BadClass {
+        class,
+        number: UNFIT,
+        value: unfit.method,
+    })
 }
 
 /// Verifies linked class files: how many there are.
@@ -49,10 +59,7 @@ fn verified(alloc: Global, linked: &Linked) -> Result<Answer, Failure>
     framed(alloc, linked)?;
     match verify_linked(alloc, linked) {
         Ok(()) => Ok(Answer::Verified(u32::from(linked.count()))),
-        Err(error) => match error {
-            VerifyError::Broken { class, method } => Err(unfit(alloc, linked, class, method)),
-            VerifyError::Memory => Err(Failure::Memory),
-        },
+        Err(error) => Err(Failure::Answered(unverified(alloc, linked, error)?)),
     }
 }
 

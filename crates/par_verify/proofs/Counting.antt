@@ -1,13 +1,16 @@
 -- The methods of files, one after another.
 use Rattle.std.proofs.Common.{◌≡◌, ℕ, ◌+◌, ◌<◌, ◌≤◌, Bool, true, false, List, length, Option, Some}
-use Rattle.std.proofs.Common.{None, sym, subst, ◌∙◌, arith, ⊎_elim, ◌⊎◌}
+use Rattle.std.proofs.Common.{None, Result, Ok, Err, sym, subst, ◌∙◌, arith, ⊎_elim, ◌⊎◌}
 use Rattle.std.specs.List.{slice_get}
 use Rattle.std.proofs.lemmas.Bool.{cases_lt}
 use Rattle.std.proofs.lemmas.Option.{slice_get_past}
 use Rattle.par_class.specs.declared.file.ClassFile.{ClassFile}
 use Rattle.par_kinds.specs.Linked.{coded_at}
 use Rattle.par_verify_laws.specs.Verified.{AllFrames, AreVerified, IsVerified}
-use Rattle.par_verify.specs.Answers.{IsFirstIn, Passes, VerifiedTo}
+use Rattle.par_verify.specs.Answers.{IsFirstIn, Passes, VerifiedTo, Verified}
+use Rattle.par_verify.specs.Told.{IsFirst, IsVerdictOn}
+use Rattle.par_verify.specs.declared.error.Unfit.{Unfit}
+use Rattle.par_verify.specs.declared.error.VerifyError.{VerifyError}
 use Rattle.par_verify.proofs.Methods.{not-listed, not-there}
 
 module _ (files : List ClassFile) (all : AllFrames) where
@@ -66,3 +69,11 @@ module _ (files : List ClassFile) (all : AllFrames) where
       (λ late. never c m
       (not-listed files c m (slice_get_past files c (omega (arith, late, past)))) coded)
       (cases_lt c class)
+
+  -- ---- the verdict
+
+  pub verdict_so : {A : Type 0} (first : Option Unfit) (r : Result A VerifyError)
+      → IsFirst files all first → IsVerdictOn first r → Verified files all r
+  verdict_so None (Ok done) are is = are
+  verdict_so None (Err e) are is = absurd (cc is)
+  verdict_so (Some unfit) r one is = subst (Verified files all) (sym is) one

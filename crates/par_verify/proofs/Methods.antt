@@ -1,8 +1,9 @@
 -- What linked files say of one of their methods.
-use Rattle.std.proofs.Common.{◌≡◌, ℕ, zero, suc, ◌+◌, ◌≤◌, Bool, true, false, List, [], ◌∷◌, ◌++◌}
-use Rattle.std.proofs.Common.{length}
+use Rattle.std.proofs.Common.{◌≡◌, ℕ, zero, suc, ◌+◌, ◌<◌, ◌≤◌, Bool, true, false, List, [], ◌∷◌, ◌++◌}
+use Rattle.std.proofs.Common.{length, ⊎_elim, ◌⊎◌}
 use Rattle.std.proofs.Common.{map, Some, None, is_some, sym, ap, ◌∙◌, codes}
-use Rattle.std.proofs.lemmas.Bool.{and_parts, leb-true}
+use Rattle.std.proofs.lemmas.Bool.{and_parts, leb-true, cases_lt}
+use Rattle.std.proofs.lemmas.Option.{slice_get_past}
 use Rattle.std.specs.List.{slice_get, list_all}
 use Rattle.par_class.specs.declared.file.CodeAttr.{CodeAttr}
 use Rattle.par_class.specs.declared.file.MethodFile.{MethodFile}
@@ -50,6 +51,16 @@ pub not-there : (files : List ClassFile) (class place : ℕ) (file : ClassFile)
     → coded_at files class place ≡ false
 not-there files class place file listed none =
     ap (λ o. coded_in (slice_get (methods_of o) place)) listed ∙ ap coded_in none
+
+-- a method with code stands in one of the files
+pub class_there : (files : List ClassFile) (class place : ℕ) → coded_at files class place ≡ true
+    → class < length files
+class_there files class place coded =
+    ⊎_elim (λ there. there)
+    (λ past. let both : false ≡ true =
+    sym (not-listed files class place (slice_get_past files class past)) ∙ coded in
+    absurd (cc both))
+    (cases_lt class (length files))
 
 all-at : {A : Type 0} (p : A → Bool) (xs : List A) (n : ℕ) (x : A) → list_all p xs ≡ true
     → slice_get xs n ≡ Some x → p x ≡ true

@@ -1,6 +1,7 @@
 pub mod Answers
 pub mod Said
 pub mod Starts
+pub mod Told
 pub use Rattle.par_verify_laws.specs.par_frames as par_frames
 pub use Rattle.par_verify_laws.specs.par_sound_laws as par_sound_laws
 pub use Rattle.par_verify_laws.specs as par_verify_laws

@@ -14,5 +14,5 @@ mod sizes;
 mod told;
 mod verifier;
 
-pub use error::VerifyError;
+pub use error::{Unfit, VerifyError};
 pub use verifier::{verify, verify_linked};

@@ -9,9 +9,10 @@ ghost use Rattle.par_verify_laws.specs.Verified.{AreFramesOf};
 ghost use Rattle.par_verify.specs.Answers.{HaveFrames, OfFrames, IsMethod, IsFirstIn, Says, Passes};
 ghost use Rattle.par_verify.specs.Answers.{Verified};
 ghost use Rattle.par_verify.specs.Starts.{IsTold};
+ghost use Rattle.par_verify.specs.Told.{IsFirst, IsVerdictOn};
 
 use crate::begun::told_table;
-use crate::error::VerifyError;
+use crate::error::{Unfit, VerifyError};
 use crate::first::first_frame;
 use crate::judgement::{Site, judge};
 use crate::names::exception_names;
@@ -128,12 +129,10 @@ fn first_unfit(alloc: Global, program: Program<'_, '_>, class: u16) -> Result<Op
     Ok(None)
 }
 
-/// Whether frames fit the code of each method, and are in a file of version 51 those that it tells
-/// at the offsets at which it tells some. If not, the first method that has none, files in their
-/// order and methods in that of their tables.
-pub fn verify_linked(alloc: Global, linked: &Linked) -> Result<(), VerifyError>
-    requires { HaveFrames linked.now }
-    ensures { OfFrames linked.now (λ all. Verified linked.now all result) }
+/// The first method of linked files that is not verified, files in their order and methods in that
+/// of their tables.
+fn first_misfit(alloc: Global, linked: &Linked) -> Result<Option<Unfit>, NoMemory>
+    ensures { IfOk result (λ first. OfFrames linked.now (λ all. IsFirst linked.now all first)) }
 {
     let exceptions = exception_names(alloc, linked)?;
     let program = Program {
@@ -143,10 +142,31 @@ pub fn verify_linked(alloc: Global, linked: &Linked) -> Result<(), VerifyError>
     for class in 0..linked.count() {
         let first = first_unfit(alloc, program, class)?;
         if let Some(method) = first {
-            return Err(VerifyError::Broken { class, method });
+            return Ok(Some(Unfit { class, method }));
         }
     }
-    Ok(())
+    Ok(None)
+}
+
+/// What is answered where this is the first method that is not verified.
+fn verdict(first: Option<Unfit>) -> Result<(), VerifyError>
+    ensures { IsVerdictOn first result }
+{
+    match first {
+        Some(Unfit { class, method }) => Err(VerifyError::Broken { class, method }),
+        None => Ok(()),
+    }
+}
+
+/// Whether frames fit the code of each method, and are in a file of version 51 those that it tells
+/// at the offsets at which it tells some. If not, the first method that has none, files in their
+/// order and methods in that of their tables.
+pub fn verify_linked(alloc: Global, linked: &Linked) -> Result<(), VerifyError>
+    requires { HaveFrames linked.now }
+    ensures { OfFrames linked.now (λ all. Verified linked.now all result) }
+{
+    let first = first_misfit(alloc, linked)?;
+    verdict(first)
 }
 
 /// The same of files whose frames are at hand. These are those that the files tell, so that they

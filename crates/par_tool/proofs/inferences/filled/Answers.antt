@@ -1,8 +1,4 @@
-use Rattle.std.proofs.Common.{subst, sym}
-use Rattle.par_infer.specs.Inferred.{IsBrokenFirst}
-use Rattle.par_tool.specs.Inferences.{IsUnfilled, IsUnfilledBy, is_unfilled}
-use Rattle.par_tool.proofs.Inferred.{broken_within}
-use Rattle.par_tool.proofs.Refusals.{refused_for}
+use Rattle.par_tool.proofs.Inferred.{breaks_within, told_unfilled}
 use Rattle.par_tool.proofs.inferences.filled.Goals as goal
 
 pub infer_fields-requires-clause-policies : goal.infer_fields-requires-clause-policies
@@ -20,17 +16,11 @@ infer_fields-requires-clause-orderly c = c.requires.ready.orderly
 pub infer_fields-requires-clause-declared : goal.infer_fields-requires-clause-declared
 infer_fields-requires-clause-declared c = c.requires.ready.declared_well
 
-pub refused-requires-clause-within : goal.refused-requires-clause-within
-refused-requires-clause-within c =
-    let broken : IsBrokenFirst c.args.typed.now c.in-Broken.refusal =
-    rw c.in-Broken.is at c.in-Err.ensures.refused in
-    broken_within _ c.args.typed.now c.in-Broken.refusal c.requires.placed broken
+pub unfilled-requires-clause-within : goal.unfilled-requires-clause-within
+unfilled-requires-clause-within c =
+    breaks_within c.args.source.now c.args.typed.now c.requires.placed _ c.in-Err.ensures.refused
 
-pub returns-in-Broken-clause-failed : goal.returns-in-Broken-clause-failed
-returns-in-Broken-clause-failed c =
-    let broken : IsBrokenFirst c.args.typed.now c.in-Broken.refusal =
-    rw c.in-Broken.is at c.in-Err.ensures.refused in
-    subst (IsUnfilled c.args.source.now) (sym c.refused.ensures)
-    (refused_for (IsUnfilledBy c.args.source.now) c.args.source.now c.in-Broken.refusal
-    (is_unfilled c.args.typed.now c.requires.typed broken)
-    (broken_within _ c.args.typed.now c.in-Broken.refusal c.requires.placed broken))
+pub returns-in-Err-clause-failed : goal.returns-in-Err-clause-failed
+returns-in-Err-clause-failed c =
+    told_unfilled c.args.source.now c.args.typed.now c.requires.placed _ _ c.requires.typed
+    c.in-Err.ensures.refused c.unfilled.ensures

@@ -1,5 +1,5 @@
 use Rattle.std.proofs.Common.{◌∙◌}
-use Rattle.par_tool.proofs.Verifying.{unfit_so, frames_there}
+use Rattle.par_tool.proofs.Verifying.{unverified_by, frames_there}
 use Rattle.par_tool.proofs.verifications.verified.Goals as goal
 
 pub verify_linked-requires : goal.verify_linked-requires
@@ -12,9 +12,7 @@ returns-in-Ok-clause-verified c =
       record { frames = told.0; of = told.1; verified = c.in-Ok.ensures told.0 told.1 },
     )
 
-pub returns-in-Broken-clause-failed : goal.returns-in-Broken-clause-failed
-returns-in-Broken-clause-failed c =
+pub unverified-requires : goal.unverified-requires
+unverified-requires c =
     let told = frames_there c.args.linked.now c.in_ok-framed.ensures in
-    let unverified = rw c.in-Broken.is at (c.in-Err.ensures told.0 told.1) in
-    unfit_so c.args.linked.now told.0 c.in-Broken.class c.in-Broken.method c.unfit.result told.1
-    unverified c.unfit.ensures
+    unverified_by c.args.linked.now told.0 _ told.1 (c.in-Err.ensures told.0 told.1)
