@@ -7,6 +7,9 @@ pub mod Lows
 pub mod Small
 pub mod Trees
 pub mod Arms
+pub mod Alone
+pub mod Walks
+pub mod Blocks
 pub mod Firsts
 pub mod Envs
 pub mod Locks
