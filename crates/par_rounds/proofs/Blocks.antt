@@ -1,6 +1,6 @@
 -- Statements one after the other.
-use Rattle.std.proofs.Common.{◌≡◌, ℕ, zero, suc, ◌+◌, ◌<◌, Some, Option, List, [], ◌∷◌, length, get_or, drop}
-use Rattle.std.proofs.Common.{refl, sym, ap, ◌∙◌, subst, arith, add-one}
+use Rattle.std.proofs.Common.{◌≡◌, ℕ, zero, suc, ◌+◌, ◌<◌, Some, Option, List, [], ◌∷◌, length}
+use Rattle.std.proofs.Common.{get_or, drop, refl, sym, ap, ◌∙◌, subst, arith, add-one}
 use Rattle.par_typed.specs.declared.stmt.TStmt.{TStmt}
 use Rattle.par_typed.specs.Shown.{does, all_do}
 use Rattle.par_flow_laws.specs.Lattice.{numbers}

@@ -10,6 +10,7 @@ pub mod Arms
 pub mod Alone
 pub mod Walks
 pub mod Blocks
+pub mod Leads
 pub mod Firsts
 pub mod Envs
 pub mod Locks

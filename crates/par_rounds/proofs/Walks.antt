@@ -5,12 +5,12 @@ use Rattle.par_bits.specs.Sets.{has, none}
 use Rattle.par_typed.specs.Plain as typed
 use Rattle.par_typed.specs.Plain.{TExp, TSta, mark, point}
 use Rattle.par_flow_laws.specs.Lattice.{numbers}
-use Rattle.par_flow_laws.specs.Kinds.{Kind, Absorber, absorbed}
+use Rattle.par_flow_laws.specs.Kinds.{Kind, Absorber, absorbed, normal}
 use Rattle.par_flow_laws.specs.Declares.{Declares}
 use Rattle.par_flow_laws.specs.Facts.{blank}
 use Rattle.par_flow_laws.specs.Ranges.{IsWorthInRange}
-use Rattle.par_flow_laws.specs.Rules.{From, Entry, Worth, Node, node, Rules, Done, Part, Worths, goes_on}
-use Rattle.par_flow_laws.specs.Rules.{spot, way}
+use Rattle.par_flow_laws.specs.Rules.{From, Entry, Worth, Node, node, Rules, Done, Part, Worths}
+use Rattle.par_flow_laws.specs.Rules.{goes_on, spot, way}
 use Rattle.par_flow_laws.specs.Body.{exp, sta}
 use Rattle.par_pass_laws.specs.par_except.declared.way.Way as code_way
 use Rattle.par_pass_laws.specs.Exits.{Way}
@@ -88,6 +88,14 @@ pub record Behind (w : code_way.Way) (hs : List (Option code_way.Way)) (m n : No
   pub so_far : IsSoFar n so
   pub rules : (rs : Rules) → ArePassable m.locals (length m.heads.items) rs
       → ArePassable n.locals (length n.heads.items) rs
+  pub nodes : (k : Node) → IsPassable m.locals (length m.heads.items) k
+      → IsPassable n.locals (length n.heads.items) k
+
+pub node_after : (m n : Notes) (l : List Event) → Took l m n → (k : Node)
+    → IsPassable m.locals (length m.heads.items) k → IsPassable n.locals (length n.heads.items) k
+node_after m n l t k h =
+    subst (λ j. IsPassable n.locals j k) (sym t.size)
+    (subst (λ j. IsPassable j (length m.heads.items) k) (sym t.locals) h)
 
 pub behind : (absorbs : Kind → Bool) (o : Option Way) (q : plain.Found) (w : code_way.Way)
     (hs : List (Option code_way.Way)) (so to : SoFar) (m n : Notes) → TookPart absorbs o q so to m n
@@ -98,6 +106,20 @@ behind absorbs o q w hs so to m n k eh r s =
       so_far =
           so_after m n q.events t so to so.head _ s s.head k.passed.wide eh k.parts k.wide;
       rules = rules_after m n q.events t;
+      nodes = node_after m n q.events t;
+    }
+
+-- the same behind the test of a loop
+pub behind_test : (o : Option Way) (q : plain.Found) (w : code_way.Way)
+    (hs : List (Option code_way.Way)) (so to : SoFar) (m n : Notes) (test : ℕ)
+    → TookPart normal o q so to m n → to.head ≡ Some test → test < length m.heads.items
+    → IsReady w hs m → IsSoFar m so → Behind w hs m n to
+behind_test o q w hs so to m n test k eh g r s =
+    let t = k.passed.noted in record {
+      ready = ready_after m n q.events t w hs r;
+      so_far = so_after m n q.events t so to (Some test) _ s g k.passed.wide eh k.parts k.wide;
+      rules = rules_after m n q.events t;
+      nodes = node_after m n q.events t;
     }
 
 -- what the rules behind a part need

@@ -24,10 +24,9 @@ use crate::pass::{Found, SoFar, finish, pass_rules, take};
 use crate::way::SharedWay;
 use par_atoms::Atoms;
 use par_base::memory::NoMemory;
-use par_nodes::declared;
-use par_nodes::expr as rules;
 use par_nodes::make::{ENTRY, PAST};
-use par_nodes::rule::{Absorber, Origin, Rules, Worth};
+use par_nodes::rule::{Absorber, Kind, Origin, Rules, Worth};
+use par_nodes::{declared, expr as rules};
 use par_typed::expr::{TExpr, TExprKind};
 use par_typed::table::Table;
 use std::alloc::Global;
@@ -68,7 +67,10 @@ fn simple_value(table: &Table, e: &TExpr, way: &SharedWay) -> Option<Atoms>
             Some(alone(way, Worth::Given(declared::field(table, *class, *field))))
         }
         TExprKind::Input(class, channel) => {
-            Some(alone(way, Worth::Given(declared::channel(table, *class, *channel))))
+            Some(alone(
+                way,
+                Worth::Given(declared::channel(table, *class, *channel)),
+            ))
         }
         TExprKind::Field(_, _, _)
         | TExprKind::Output(_, _, _)
@@ -169,9 +171,30 @@ fn parts(
         }
         TExprKind::Binary(op, left, right) => {
             operand(alloc, table, left, &ENTRY, way, heads, so, notes)?;
-            operand(alloc, table, right, &rules::second(*op), way, heads, so, notes)?;
+            operand(
+                alloc,
+                table,
+                right,
+                &rules::second(*op),
+                way,
+                heads,
+                so,
+                notes,
+            )?;
             let rest = rules::combined(alloc, *op, right)?;
             pass_rules(alloc, &rest.rules, way, heads, so, notes)?;
+            Ok(())
+        }
+        TExprKind::Field(of, class, field) => {
+            operand(alloc, table, of, &ENTRY, way, heads, so, notes)?;
+            let rest = rules::selected(alloc, of, declared::field(table, *class, *field))?;
+            pass_rules(alloc, &rest.rules, way, heads, so, notes)?;
+            Ok(())
+        }
+        TExprKind::Output(_, _, value) => {
+            operand(alloc, table, value, &ENTRY, way, heads, so, notes)?;
+            let rest = Rules::Ends(PAST, Kind::Normal);
+            pass_rules(alloc, &rest, way, heads, so, notes)?;
             Ok(())
         }
         _ => {
@@ -213,9 +236,9 @@ pub fn operand(
     Ok(())
 }
 
-// The same where it may not be reached.
+/// The same where it may not be reached.
 #[cycle(exp)]
-fn visit(
+pub fn visit(
     alloc: Global,
     table: &Table,
     e: &TExpr,

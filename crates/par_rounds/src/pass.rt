@@ -103,9 +103,9 @@ pub fn take(
     Ok(())
 }
 
-// The head way of a loop, by the point of its test.
+/// The head way of a loop, by the point of its test.
 #[inline(never)]
-fn head_at(heads: &[Option<SharedWay>], point: u32) -> Result<Option<SharedWay>, NoMemory>
+pub fn head_at(heads: &[Option<SharedWay>], point: u32) -> Result<Option<SharedWay>, NoMemory>
     ensures way { IfOk result (λ o. may_see o ≡ ways_of heads.now point) }
     ensures locals { IfOk result (λ o. (n : ℕ) → AreHeadsWide n heads.now → MayHaveLocals n o) }
 {
@@ -118,8 +118,8 @@ fn head_at(heads: &[Option<SharedWay>], point: u32) -> Result<Option<SharedWay>,
     }
 }
 
-// The way flows into the head of the loop, if there is one.
-fn flow(
+/// The way flows into the head of the loop, if there is one.
+pub fn flow(
     alloc: Global,
     way: &SharedWay,
     from: &Origin,
@@ -142,9 +142,9 @@ fn flow(
     }
 }
 
-// The way leaves the node.
+/// The way leaves the node.
 #[inline(never)]
-fn leave(
+pub fn leave(
     alloc: Global,
     way: &SharedWay,
     from: &Origin,

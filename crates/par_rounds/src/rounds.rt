@@ -30,9 +30,11 @@ fn round(
     points: usize,
 ) -> Result<Notes, NoMemory>
     requires heads { AreHeadsWide (length way.now.env) heads.now }
-    requires node { IsPassable (length way.now.env) (length heads.now) (sta (declares table.now) (does stmt.now)) }
+    requires node { IsPassable (length way.now.env) (length heads.now)
+        (sta (declares table.now) (does stmt.now)) }
     ensures { IfOk result (λ notes. IsRound (length way.now.env) points heads.now
-        (pass (ways_of heads.now) (sta (declares table.now) (does stmt.now)) (seen way.now)).events notes) }
+        (pass (ways_of heads.now) (sta (declares table.now) (does stmt.now)) (seen way.now)).events
+        notes) }
 {
     let mut notes = Notes::new(alloc, way.env().len(), heads, points)?;
     let found = stmt::sta(alloc, table, stmt, way, heads, &mut notes)?;
@@ -61,14 +63,16 @@ fn quiet(
     points: usize,
     first: Vec<Option<SharedWay>>,
 ) -> Result<Vec<Option<SharedWay>>, NoMemory>
-    requires node { IsPassable (length way.now.env) points (sta (declares table.now) (does stmt.now)) }
+    requires node { IsPassable (length way.now.env) points
+        (sta (declares table.now) (does stmt.now)) }
     requires small { MayBeSmall (Some (seen way.now)) }
     requires after { AreAfter (length way.now.env) points
         (sta (declares table.now) (does stmt.now)) (seen way.now) first.items }
     ensures after { IfOk result (λ heads. AreAfter (length way.now.env) points
         (sta (declares table.now) (does stmt.now)) (seen way.now) heads.items) }
     ensures fits { IfOk result (λ heads. AllFit (ways_of heads.items)
-        (pass (ways_of heads.items) (sta (declares table.now) (does stmt.now)) (seen way.now)).events) }
+        (pass (ways_of heads.items) (sta (declares table.now) (does stmt.now))
+        (seen way.now)).events) }
 {
     let mut heads = first;
     loop {
@@ -89,10 +93,12 @@ pub fn settle(
     way: &SharedWay,
     points: usize,
 ) -> Result<Vec<Fact>, NoMemory>
-    requires node { IsPassable (length way.now.env) points (sta (declares table.now) (does stmt.now)) }
+    requires node { IsPassable (length way.now.env) points
+        (sta (declares table.now) (does stmt.now)) }
     requires small { MayBeSmall (Some (seen way.now)) }
     ensures rows { IfOk result
-        (λ rows. IsSettled (sta (declares table.now) (does stmt.now)) (seen way.now) points rows.items) }
+        (λ rows. IsSettled (sta (declares table.now) (does stmt.now)) (seen way.now) points
+        rows.items) }
     ensures locals { IfOk result (λ rows. AreRowsWide (length way.now.env) rows.items) }
 {
     let unreached = no_heads(alloc, points)?;

@@ -1,32 +1,111 @@
 // One pass over a statement.
 ghost use Rattle.std.specs.Prelude.{◌≡◌, [], OnOk, IfOk, Some, length};
-ghost use Rattle.par_typed.specs.Shown.{all_do, does};
+ghost use Rattle.par_nodes.specs.Starts.{else_rules, goes_first};
+ghost use Rattle.par_typed.specs.Shown.{all_do, does, otherwise, shown};
 ghost use Rattle.par_flow_laws.specs.Body as body;
 ghost use Rattle.par_flow_laws.specs.Declares.{declares};
-ghost use Rattle.par_flow_laws.specs.Kinds.{absorbed};
+ghost use Rattle.par_flow_laws.specs.Kinds.{absorbed, normal};
 ghost use Rattle.par_flow_laws.specs.Lattice.{numbers};
 ghost use Rattle.par_flow_laws.specs.Ranges.{IsFromInRange};
-ghost use Rattle.par_flow_laws.specs.Rules.{Entry, spot, way as way_from};
+ghost use Rattle.par_flow_laws.specs.Rules.{Entry, goes_on, spot, way as way_from};
+ghost use Rattle.par_flow_laws.specs.Rules.{Rules as Listed};
 ghost use Rattle.par_nodes.specs.Seen.{seen_absorber, seen_origin};
 ghost use Rattle.par_pass_laws.specs.par_except.Seen.{may_see, seen, MayHaveLocals};
-ghost use Rattle.par_pass_laws.specs.Pass.{pass, visited};
-ghost use Rattle.par_rounds.specs.Seen.{latest_first, ways_of, AreHeadsWide};
+ghost use Rattle.par_pass_laws.specs.Pass.{HeadWays, pass, visited};
+ghost use Rattle.par_rounds.specs.Seen.{latest_first, ways_of, AreFactsWide, AreHeadsWide, AreWide};
+ghost use Rattle.par_rounds.specs.declared.notes.Notes.{Notes as Noted};
+ghost use Rattle.par_rounds.specs.declared.pass.Found.{Found as Taken};
 ghost use Rattle.par_rounds.specs.Passes.{within, GoesOn, Passed, TookPart};
 ghost use Rattle.par_rounds.specs.Passes.{IsPassable, ArePassable, IsReady, IsSoFar};
 
 use crate::changes::way_at;
-use crate::expr::operand;
+use crate::expr::{operand, visit as visit_test};
 use crate::notes::Notes;
-use crate::pass::{Found, SoFar, finish, pass_rules, take};
+use crate::pass::{Found, SoFar, finish, flow, head_at, leave, pass_rules, take};
 use crate::way::SharedWay;
 use par_base::memory::NoMemory;
 use par_nodes::expr::start_at;
-use par_nodes::make::{ENTRY, PAST};
+use par_nodes::make::{ENTRY, PAST, TESTED};
 use par_nodes::rule::{Absorber, Kind, Origin, Rules, Start};
 use par_nodes::stmt as rules;
+use par_typed::expr::TExpr;
 use par_typed::stmt::{TStmt, TStmtKind};
 use par_typed::table::Table;
 use std::alloc::Global;
+
+// Without `else` the way goes on.
+fn goes_first(
+    alloc: Global,
+    way: &SharedWay,
+    other: &Option<Box<TStmt>>,
+    from: &Origin,
+    so: &mut SoFar,
+) -> Result<(), NoMemory>
+    requires parts { AreFactsWide (length way.now.env) so.old.parts.items }
+    requires exits { AreWide (length way.now.env) so.old.found.exits.items }
+    requires range { IsFromInRange (length way.now.env) (seen_origin from.now) }
+    ensures head { OnOk result (so.new.head ≡ so.old.head) }
+    ensures parts { OnOk result (so.new.parts ≡ so.old.parts) }
+    ensures locals { OnOk result (AreWide (length way.now.env) so.new.found.exits.items) }
+    ensures goes { OnOk result ((h : HeadWays) (more : Listed) (m : Noted) (r : Taken) (o : Noted)
+        → GoesOn h more (seen way.now) so.new m r o
+        → GoesOn h (goes_first (otherwise other.now) (seen_origin from.now) more) (seen way.now)
+        so.old m r o) }
+{
+    match other {
+        None => {
+            leave(alloc, way, from, Kind::Normal, so)?;
+            Ok(())
+        }
+        Some(_) => Ok(()),
+    }
+}
+
+// The way behind the test of a loop goes on, unless the loop has no end.
+fn unless(alloc: Global, way: &SharedWay, forever: bool, so: &mut SoFar) -> Result<(), NoMemory>
+    requires parts { AreFactsWide (length way.now.env) so.old.parts.items }
+    requires exits { AreWide (length way.now.env) so.old.found.exits.items }
+    ensures head { OnOk result (so.new.head ≡ so.old.head) }
+    ensures parts { OnOk result (so.new.parts ≡ so.old.parts) }
+    ensures locals { OnOk result (AreWide (length way.now.env) so.new.found.exits.items) }
+    ensures goes { OnOk result ((h : HeadWays) (more : Listed) (m : Noted) (r : Taken) (o : Noted)
+        → GoesOn h more (seen way.now) so.new m r o
+        → GoesOn h (body.if_not forever (goes_on body.past) more) (seen way.now) so.old m r o) }
+{
+    if forever {
+        return Ok(());
+    }
+    leave(alloc, way, &PAST, Kind::Normal, so)?;
+    Ok(())
+}
+
+// The test of a loop, which is entered from the head of the loop.
+fn loop_test(
+    alloc: Global,
+    table: &Table,
+    test: &TExpr,
+    heads: &[Option<SharedWay>],
+    so: &mut SoFar,
+    notes: &mut Notes,
+) -> Result<(), NoMemory>
+    requires heads { AreHeadsWide notes.old.locals heads.now
+        × AreHeadsWide notes.old.locals notes.old.heads.items }
+    requires so_far { IsSoFar notes.old so.old }
+    requires node { IsPassable notes.old.locals (length notes.old.heads.items)
+        (body.exp (declares table.now) (shown test.now)) }
+    ensures head { OnOk result
+        (so.new.head ≡ Some (spot (body.exp (declares table.now) (shown test.now)))) }
+    ensures took { OnOk result (let n = body.exp (declares table.now) (shown test.now) in
+        let o = ways_of heads.now (spot n) in
+        TookPart normal o (visited o (spot n) (pass (ways_of heads.now) n))
+        so.old so.new notes.old notes.new) }
+{
+    let entry = head_at(heads, test.point)?;
+    let found = visit_test(alloc, table, test, &entry, heads, notes)?;
+    take(alloc, so, entry, found, &Absorber::Next)?;
+    so.head = Some(test.point);
+    Ok(())
+}
 
 /// Goes through a statement that the way enters, with the heads of loops as they stand.
 #[cycle(sta)]
@@ -97,9 +176,96 @@ fn parts(
             pass_rules(alloc, &rest, way, heads, so, notes)?;
             Ok(())
         }
+        TStmtKind::If(test, block, other) => {
+            operand(alloc, table, test, &ENTRY, way, heads, so, notes)?;
+            goes_first(alloc, way, other, &PAST, so)?;
+            step(
+                alloc,
+                table,
+                block,
+                &TESTED,
+                &Absorber::Next,
+                way,
+                heads,
+                so,
+                notes,
+            )?;
+            leave(alloc, way, &PAST, Kind::Normal, so)?;
+            otherwise(
+                alloc,
+                table,
+                other,
+                &rules::OTHERWISE,
+                way,
+                heads,
+                so,
+                notes,
+            )?;
+            Ok(())
+        }
+        TStmtKind::While(test, block) => {
+            loop_test(alloc, table, test, heads, so, notes)?;
+            flow(alloc, way, &ENTRY, so, notes)?;
+            unless(alloc, way, rules::is_forever(test), so)?;
+            step(
+                alloc,
+                table,
+                block,
+                &TESTED,
+                &Absorber::Loop,
+                way,
+                heads,
+                so,
+                notes,
+            )?;
+            let rest = rules::again(alloc)?;
+            pass_rules(alloc, &rest.rules, way, heads, so, notes)?;
+            Ok(())
+        }
         _ => {
             let known = rules::sta(alloc, table, stmt)?;
             pass_rules(alloc, &known.node.rules, way, heads, so, notes)?;
+            Ok(())
+        }
+    }
+}
+
+// What stands behind `else`.
+#[cycle(sta)]
+fn otherwise(
+    alloc: Global,
+    table: &Table,
+    other: &Option<Box<TStmt>>,
+    from: &Origin,
+    way: &SharedWay,
+    heads: &[Option<SharedWay>],
+    so: &mut SoFar,
+    notes: &mut Notes,
+) -> Result<(), NoMemory>
+    requires ready { IsReady way.now heads.now notes.old }
+    requires so_far { IsSoFar notes.old so.old }
+    requires rules { ArePassable notes.old.locals (length notes.old.heads.items)
+        (else_rules (declares table.now) (otherwise other.now) (seen_origin from.now)) }
+    ensures { OnOk result (GoesOn (ways_of heads.now)
+        (else_rules (declares table.now) (otherwise other.now) (seen_origin from.now))
+        (seen way.now) so.old notes.old so.new.found notes.new) }
+{
+    match other {
+        None => Ok(()),
+        Some(stmt) => {
+            step(
+                alloc,
+                table,
+                stmt,
+                from,
+                &Absorber::Next,
+                way,
+                heads,
+                so,
+                notes,
+            )?;
+            let rest = Rules::Ends(PAST, Kind::Normal);
+            pass_rules(alloc, &rest, way, heads, so, notes)?;
             Ok(())
         }
     }
@@ -129,7 +295,17 @@ fn block(
             start: start_at(place, Start::Entry),
             ..ENTRY
         };
-        step(alloc, table, stmt, &from, &Absorber::Next, way, heads, so, notes)?;
+        step(
+            alloc,
+            table,
+            stmt,
+            &from,
+            &Absorber::Next,
+            way,
+            heads,
+            so,
+            notes,
+        )?;
     }
     let last = Origin {
         start: start_at(stmts.len(), Start::Entry),

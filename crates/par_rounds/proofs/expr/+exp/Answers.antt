@@ -4,14 +4,15 @@ use Rattle.par_typed.specs.declared.expr.TExprKind.TheViews.{the_lemmas}
 use Rattle.par_bits.specs.Sets.{has}
 use Rattle.par_typed.specs.Shown.{shown, mark_of}
 use Rattle.par_typed.proofs.Shown.{shown_mark}
-use Rattle.par_flow_laws.specs.Body.{exp, second}
+use Rattle.par_flow_laws.specs.Body.{exp, past, second}
 use Rattle.par_flow_laws.specs.Declares.{declares}
 use Rattle.par_flow_laws.specs.Kinds.{Next, absorbed}
 use Rattle.par_flow_laws.specs.Lattice.{numbers}
-use Rattle.par_flow_laws.specs.Rules.{Entry, Part, Rules, spot, way}
+use Rattle.par_flow_laws.specs.Rules.{Entry, Done, Part, Rules, goes_on, spot, way}
 use Rattle.par_nodes.specs.Seen.{seen_origin, seen_rules}
-use Rattle.par_nodes.proofs.Forms.{seen_gives}
-use Rattle.par_nodes.proofs.Expressions.{unary_made, binary_made, valued, combined}
+use Rattle.par_nodes.proofs.Forms.{seen_ends, seen_gives}
+use Rattle.par_nodes.proofs.Expressions.{field_made, output_made, unary_made, binary_made}
+use Rattle.par_nodes.proofs.Expressions.{selected, valued, combined}
 use Rattle.par_pass_laws.specs.par_except.Seen.{may_see, seen, HasLocals}
 use Rattle.par_pass_laws.specs.Pass.{visited, pass}
 use Rattle.par_rounds.specs.Seen.{latest_first, ways_of, AreWide}
@@ -19,8 +20,8 @@ use Rattle.par_rounds.specs.Passes.{within, GoesOn, ArePassable}
 use Rattle.par_rounds.proofs.Arms.{took_part}
 use Rattle.par_rounds.proofs.Events.{took_none}
 use Rattle.par_rounds.proofs.Needs.{so_first, part_needs}
-use Rattle.par_rounds.proofs.Walks.{exp_spot, within_needs, behind, part_walks, node_walks}
-use Rattle.par_rounds.proofs.Walks.{visited_none}
+use Rattle.par_rounds.proofs.Walks.{exp_spot, within_needs, behind, behind_needs, part_walks}
+use Rattle.par_rounds.proofs.Walks.{node_walks, visited_none}
 use Rattle.par_rounds.proofs.expr.+exp.Goals as goal
 
 pub compound-parts-requires : goal.compound-parts-requires
@@ -229,3 +230,89 @@ parts-returns-in_ok-pass_rules-in-Neg t c =
     u.head u.took
     (subst (λ (k : Rules). GoesOn h k w c.operand-in-Neg.new.so m to.so.found to.notes)
     (seen_gives _ _) c.in_ok-pass_rules-in-Neg.ensures)
+
+pub parts-operand-requires-in-Output : goal.parts-operand-requires-in-Output
+parts-operand-requires-in-Output t c =
+    let n = c.args.notes.now in let e = c.args.e.now in let d = declares c.args.table.now in
+    let b = c.in-Output in let x = c.deref-in-Output.result.now in
+    let q =
+    part_needs n.locals (length n.heads.items) (within (exp d (shown e))) Entry Next
+    (exp d (shown x)) _
+    (sym (ap within (output_made d e.kind (mark_of e) b.field-0 b.field-1 b.value x _
+    (goes_on past Done) b.is refl c.deref-in-Output.ensures refl))) c.requires.rules in (
+      search (rules, the_lemmas),
+      (c.requires.ready, (c.requires.so_far, (q.0, q.1))),
+    )
+
+pub parts-pass_rules-requires-in-Output-clause-rules
+    : goal.parts-pass_rules-requires-in-Output-clause-rules
+parts-pass_rules-requires-in-Output-clause-rules t c =
+    let n = c.args.notes.now in let e = c.args.e.now in let d = declares c.args.table.now in
+    let b = c.in-Output in let x = c.deref-in-Output.result.now in
+    let m = c.operand-in-Output.new.notes in let u = c.in_ok-operand-in-Output.ensures in
+    subst (ArePassable m.locals (length m.heads.items)) (sym (seen_ends _ _))
+    (behind_needs (absorbed Next) _ _ c.args.way.now c.args.heads.now c.args.so.now
+    c.operand-in-Output.new.so n m (within (exp d (shown e))) Entry Next (exp d (shown x)) _
+    (sym (ap within (output_made d e.kind (mark_of e) b.field-0 b.field-1 b.value x _
+    (goes_on past Done) b.is refl c.deref-in-Output.ensures refl))) u.took u.head
+    c.requires.ready c.requires.so_far c.requires.rules)
+
+pub parts-returns-in_ok-pass_rules-in-Output : goal.parts-returns-in_ok-pass_rules-in-Output
+parts-returns-in_ok-pass_rules-in-Output t c =
+    let n = c.args.notes.now in let e = c.args.e.now in let d = declares c.args.table.now in
+    let b = c.in-Output in let x = c.deref-in-Output.result.now in
+    let m = c.operand-in-Output.new.notes in let u = c.in_ok-operand-in-Output.ensures in
+    let h = ways_of c.args.heads.now in let w = seen c.args.way.now in
+    let to = c.pass_rules-in-Output.new in
+    part_walks h w Next Entry (exp d (shown x)) (within (exp d (shown e))) _ c.args.so.now
+    c.operand-in-Output.new.so to.so.found n m to.notes
+    (sym (ap within (output_made d e.kind (mark_of e) b.field-0 b.field-1 b.value x _
+    (goes_on past Done) b.is refl c.deref-in-Output.ensures refl))) u.head u.took
+    (subst (λ (k : Rules). GoesOn h k w c.operand-in-Output.new.so m to.so.found to.notes)
+    (seen_ends _ _) c.in_ok-pass_rules-in-Output.ensures)
+
+pub parts-operand-requires-in-Field : goal.parts-operand-requires-in-Field
+parts-operand-requires-in-Field t c =
+    let n = c.args.notes.now in let e = c.args.e.now in let d = declares c.args.table.now in
+    let b = c.in-Field in let x = c.deref-in-Field.result.now in
+    let q =
+    part_needs n.locals (length n.heads.items) (within (exp d (shown e))) Entry Next
+    (exp d (shown x)) _
+    (sym (ap within (field_made d e.kind (mark_of e) b.of b.class b.field
+    (d.field b.class b.field) x x _
+    (selected (shown x) (d.field b.class b.field)) b.is refl c.deref-in-Field.ensures refl
+    c.deref-in-Field.ensures refl))) c.requires.rules in (
+      search (rules, the_lemmas),
+      (c.requires.ready, (c.requires.so_far, (q.0, q.1))),
+    )
+
+pub parts-pass_rules-requires-in-Field-clause-rules
+    : goal.parts-pass_rules-requires-in-Field-clause-rules
+parts-pass_rules-requires-in-Field-clause-rules t c =
+    let n = c.args.notes.now in let e = c.args.e.now in let d = declares c.args.table.now in
+    let b = c.in-Field in let x = c.deref-in-Field.result.now in
+    let m = c.operand-in-Field.new.notes in let u = c.in_ok-operand-in-Field.ensures in
+    subst (ArePassable m.locals (length m.heads.items)) (sym c.in_ok-rest-in-Field.ensures)
+    (behind_needs (absorbed Next) _ _ c.args.way.now c.args.heads.now c.args.so.now
+    c.operand-in-Field.new.so n m (within (exp d (shown e))) Entry Next (exp d (shown x)) _
+    (sym (ap within (field_made d e.kind (mark_of e) b.of b.class b.field c.field.result x
+    c.deref-in-Field-2.result.now _
+    (selected (shown c.deref-in-Field-2.result.now) c.field.result) b.is c.field.ensures
+    c.deref-in-Field-2.ensures refl c.deref-in-Field.ensures refl))) u.took u.head
+    c.requires.ready c.requires.so_far c.requires.rules)
+
+pub parts-returns-in_ok-pass_rules-in-Field : goal.parts-returns-in_ok-pass_rules-in-Field
+parts-returns-in_ok-pass_rules-in-Field t c =
+    let n = c.args.notes.now in let e = c.args.e.now in let d = declares c.args.table.now in
+    let b = c.in-Field in let x = c.deref-in-Field.result.now in
+    let m = c.operand-in-Field.new.notes in let u = c.in_ok-operand-in-Field.ensures in
+    let h = ways_of c.args.heads.now in let w = seen c.args.way.now in
+    let to = c.pass_rules-in-Field.new in
+    part_walks h w Next Entry (exp d (shown x)) (within (exp d (shown e))) _ c.args.so.now
+    c.operand-in-Field.new.so to.so.found n m to.notes
+    (sym (ap within (field_made d e.kind (mark_of e) b.of b.class b.field c.field.result x
+    c.deref-in-Field-2.result.now _
+    (selected (shown c.deref-in-Field-2.result.now) c.field.result) b.is c.field.ensures
+    c.deref-in-Field-2.ensures refl c.deref-in-Field.ensures refl))) u.head u.took
+    (subst (λ (k : Rules). GoesOn h k w c.operand-in-Field.new.so m to.so.found to.notes)
+    c.in_ok-rest-in-Field.ensures c.in_ok-pass_rules-in-Field.ensures)

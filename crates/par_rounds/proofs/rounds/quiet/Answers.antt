@@ -12,7 +12,8 @@ use Rattle.par_rounds.proofs.rounds.quiet.Goals as goal
 
 pub loop-heads-smaller : goal.loop-heads-smaller
 loop-heads-smaller c =
-    let k = length c.args.way.now.env in let n = sta (declares c.args.table.now) (does c.args.stmt.now) in
+    let k = length c.args.way.now.env in
+    let n = sta (declares c.args.table.now) (does c.args.stmt.now) in
     let w = seen c.args.way.now in
     after_falls k c.args.points n w c.loop-heads.heads.items c.loop-heads.invariant 0
     c.in_ok-notes.notes
@@ -22,7 +23,8 @@ loop-heads-smaller c =
 
 pub loop-heads-preserved : goal.loop-heads-preserved
 loop-heads-preserved c =
-    let k = length c.args.way.now.env in let n = sta (declares c.args.table.now) (does c.args.stmt.now) in
+    let k = length c.args.way.now.env in
+    let n = sta (declares c.args.table.now) (does c.args.stmt.now) in
     let w = seen c.args.way.now in
     after_next k c.args.points n w c.loop-heads.heads.items c.loop-heads.invariant 0
     c.in_ok-notes.notes

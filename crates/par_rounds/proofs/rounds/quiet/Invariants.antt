@@ -9,7 +9,8 @@ use Rattle.par_rounds.proofs.rounds.quiet.Given as goal
 
 abbrev pub invariant-loop-heads : goal.invariant-loop-heads
 invariant-loop-heads l =
-    AreAfter (length l.way.env) l.points (sta (declares l.table) (does l.stmt)) (seen l.way) l.heads.items
+    AreAfter (length l.way.env) l.points (sta (declares l.table) (does l.stmt)) (seen l.way)
+    l.heads.items
 
 abbrev pub decreases-loop-heads : goal.decreases-loop-heads
 decreases-loop-heads l = total (length l.way.env) l.heads.items

@@ -17,7 +17,8 @@ round-requires-clause-heads c =
 
 pub returns-then-not-first-clause-rows : goal.returns-then-not-first-clause-rows
 returns-then-not-first-clause-rows c =
-    let k = length c.args.way.now.env in let n = sta (declares c.args.table.now) (does c.args.stmt.now) in
+    let k = length c.args.way.now.env in
+    let n = sta (declares c.args.table.now) (does c.args.stmt.now) in
     let w = seen c.args.way.now in let u = c.in_ok-unreached.ensures in
     let first = c.in_ok-first.first in
     first_settled k c.args.points n w c.in_ok-unreached.unreached.items u.way (u.locals k) u.size
@@ -28,7 +29,8 @@ returns-then-not-first-clause-rows c =
 
 pub quiet-requires-clause-after : goal.quiet-requires-clause-after
 quiet-requires-clause-after c =
-    let k = length c.args.way.now.env in let n = sta (declares c.args.table.now) (does c.args.stmt.now) in
+    let k = length c.args.way.now.env in
+    let n = sta (declares c.args.table.now) (does c.args.stmt.now) in
     let w = seen c.args.way.now in let u = c.in_ok-unreached.ensures in
     let first = c.in_ok-first.first in
     first_after k c.args.points n w c.in_ok-unreached.unreached.items u.way (u.locals k) u.size
