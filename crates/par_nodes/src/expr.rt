@@ -48,7 +48,7 @@ fn is_sure(e: &TExpr) -> bool
 
 /// The way throws NullPointerException, unless the object is never null.
 #[tactic(auto, using(par_typed::proofs::Shown::shown_mark))]
-pub(crate) fn null_test<'a>(
+pub fn null_test<'a>(
     alloc: Global,
     of: &TExpr,
     from: Origin<'a>,
@@ -86,8 +86,8 @@ fn divides<'a>(
     }
 }
 
-// From where the second operand is entered.
-fn second(op: BinOp) -> Origin<'static>
+/// From where the second operand is entered.
+pub fn second(op: BinOp) -> Origin<'static>
     ensures { seen_origin result ≡ body.second op }
 {
     match op {
@@ -113,7 +113,7 @@ fn skips<'a>(alloc: Global, op: BinOp, more: Draft<'a>) -> Result<Draft<'a>, NoM
 }
 
 /// From where the part at the place is entered.
-pub(crate) fn start_at(place: usize, from: Start) -> Start
+pub fn start_at(place: usize, from: Start) -> Start
     ensures { seen_start result ≡ start_at place (seen_start from) }
 {
     if place == 0 {
@@ -131,8 +131,8 @@ fn given<'a>(alloc: Global, policy: u16) -> Draft<'a>
     make::gives(alloc, ENTRY, Worth::Given(policy))
 }
 
-// Behind the object of a field comes what is known of the field.
-fn selected<'a>(alloc: Global, of: &TExpr, policy: u16) -> Result<Draft<'a>, NoMemory>
+/// Behind the object of a field comes what is known of the field.
+pub fn selected<'a>(alloc: Global, of: &TExpr, policy: u16) -> Result<Draft<'a>, NoMemory>
     ensures { IfOk result (λ r. seen_rules r.rules
         ≡ body.null_test (shown of.now) body.tested (plain.goes_on body.past
         (plain.Worths (plain.Value 0) (plain.Worths (plain.Given policy) plain.Done)))) }
@@ -149,8 +149,8 @@ fn operands<'a>(alloc: Global) -> Draft<'a>
     make::joins(alloc, PAST, Worth::Value(1), Worth::Value(0))
 }
 
-// Behind both operands comes what the operator makes of them.
-fn combined<'a>(alloc: Global, op: BinOp, right: &TExpr) -> Result<Draft<'a>, NoMemory>
+/// Behind both operands comes what the operator makes of them.
+pub fn combined<'a>(alloc: Global, op: BinOp, right: &TExpr) -> Result<Draft<'a>, NoMemory>
     ensures { IfOk result (λ r. seen_rules r.rules
         ≡ body.divides op (shown right.now) (body.skips op (plain.goes_on body.past
         (plain.Worths (plain.Value 1) (plain.Worths (plain.Value 0) plain.Done))))) }
@@ -201,8 +201,8 @@ fn args<'a>(
     Ok(rules)
 }
 
-// From where the first argument is entered.
-fn call_start(of: &Option<Box<TExpr>>) -> Start
+/// From where the first argument is entered.
+pub fn call_start(of: &Option<Box<TExpr>>) -> Start
     ensures { seen_start result ≡ call_start (receiver of.now) }
 {
     match of {
@@ -211,9 +211,9 @@ fn call_start(of: &Option<Box<TExpr>>) -> Start
     }
 }
 
-// What a call does behind its arguments.
+/// What a call does behind its arguments.
 #[tactic(auto, using(crate::proofs::Rows::past_is, crate::proofs::Rows::count_is))]
-fn call_does<'a>(
+pub fn call_does<'a>(
     alloc: Global,
     table: &'a Table,
     class: u16,

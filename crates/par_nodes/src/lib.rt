@@ -12,7 +12,7 @@ pub mod declared;
 pub mod draft;
 pub mod expr;
 pub mod kinds;
-mod make;
+pub mod make;
 pub mod possible;
 pub mod rule;
 pub mod stmt;

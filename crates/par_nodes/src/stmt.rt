@@ -23,8 +23,8 @@ use par_typed::stmt::{TCatch, TStmt, TStmtKind};
 use par_typed::table::Table;
 use std::alloc::Global;
 
-// The way behind the test, where what stands behind `else` is done.
-const OTHERWISE: Origin<'static> = Origin {
+/// The way behind the test, where what stands behind `else` is done.
+pub const OTHERWISE: Origin<'static> = Origin {
     start: Start::After(1, Kind::Normal),
     assigned: None,
     tested: Some(1),
@@ -44,9 +44,9 @@ const CONTINUED: Origin<'static> = Origin {
     ..PAST
 };
 
-// The test of a loop that is left by `break` alone.
+/// The test of a loop that is left by `break` alone.
 #[tactic(auto, using(par_typed::proofs::Shown::shows))]
-fn is_forever(e: &TExpr) -> bool
+pub fn is_forever(e: &TExpr) -> bool
     ensures { result ≡ body.is_forever (shown e.now) }
 {
     match &e.kind {
@@ -114,8 +114,8 @@ fn goes_first<'a>(
     }
 }
 
-// Behind the block of a loop comes the test, but for `break`.
-fn again<'a>(alloc: Global) -> Result<Draft<'a>, NoMemory>
+/// Behind the block of a loop comes the test, but for `break`.
+pub fn again<'a>(alloc: Global) -> Result<Draft<'a>, NoMemory>
     ensures { IfOk result (λ r. seen_rules r.rules ≡ plain.Heads body.past
         (plain.Heads (plain.After 0 kinds.Continue)
         (plain.goes_on (plain.After 0 kinds.Break) plain.Done))) }
@@ -274,8 +274,8 @@ fn decides<'a>(
     operand(alloc, table, ENTRY, test, behind)
 }
 
-// The way on which it is known whether a lock with this policy is open.
-fn asked(policy: u16) -> Origin<'static>
+/// The way on which it is known whether a lock with this policy is open.
+pub fn asked(policy: u16) -> Origin<'static>
     ensures { seen_origin result ≡ plain.Raised policy plain.Entry }
 {
     Origin {
@@ -284,8 +284,8 @@ fn asked(policy: u16) -> Origin<'static>
     }
 }
 
-// The way on which a lock with this policy is known to be open.
-fn held(lock: u16, policy: u16) -> Origin<'static>
+/// The way on which a lock with this policy is known to be open.
+pub fn held(lock: u16, policy: u16) -> Origin<'static>
     ensures { seen_origin result
         ≡ plain.Opened (adding none lock) (plain.Raised policy plain.Entry) }
 {

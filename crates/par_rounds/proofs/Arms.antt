@@ -21,7 +21,7 @@ use Rattle.par_rounds.specs.declared.pass.Found.{Found}
 use Rattle.par_rounds.specs.declared.pass.SoFar.{SoFar}
 use Rattle.par_rounds.specs.Seen.{seen_exits, latest_first, AreWide}
 use Rattle.par_rounds.specs.Took.{Took}
-use Rattle.par_rounds.specs.Passes.{found_of, Passed, TookPart}
+use Rattle.par_rounds.specs.Passes.{found_of, GoesOn, Passed, TookPart}
 use Rattle.par_rounds.proofs.Events.{then, took_none}
 use Rattle.par_rounds.proofs.Parts.{latest_push}
 
@@ -61,13 +61,6 @@ took_part h absorbs o n so to entry found m0 m1 eo p ep ev ex wide = record {
   exits = ex;
   wide = wide;
 }
-
--- what goes on to be, from any events before
-abbrev pub GoesOn : HeadWays → Rules → Way → SoFar → Notes → Found → Notes → Type 0
-GoesOn h rules w so n r o =
-    (l : List Event) (m : Notes) → Took l m n
-    → Passed r (pass_all h rules w so.head (latest_first so.parts.items []) (found_of so.found l)) m
-    o
 
 pub done_goes : (h : HeadWays) (rules : Rules) (w : Way) (so : SoFar) (n : Notes) → rules ≡ Done
     → ((m : Notes) → n.locals ≡ m.locals → AreWide m.locals so.found.exits.items)

@@ -7,6 +7,10 @@ pub mod Lows
 pub mod Small
 pub mod Trees
 pub mod Arms
+pub mod Alone
+pub mod Walks
+pub mod Blocks
+pub mod Leads
 pub mod Firsts
 pub mod Envs
 pub mod Locks

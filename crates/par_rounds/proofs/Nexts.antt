@@ -1,10 +1,19 @@
 -- The first number behind rules.
-use Rattle.std.proofs.Common.{◌≡◌, ℕ, ◌+◌, sym, ap, ◌∙◌, add-one}
+use Rattle.std.proofs.Common.{◌≡◌, ℕ, suc, ◌+◌, ◌-◌, Some, None, List, [], ◌∷◌, length, refl, sym}
+use Rattle.std.proofs.Common.{ap, ◌∙◌, subst, arith, add-one}
+use Rattle.std.specs.Prelude.{slice_get}
+use Rattle.par_typed.specs.declared.stmt.TStmt.{TStmt}
+use Rattle.par_typed.specs.declared.stmt.TStmtKind.{TStmtKind}
+use Rattle.par_typed.specs.declared.stmt.TStmtKind.TheVariants as stmt
+use Rattle.par_typed.specs.Shown.{does, does_at, all_do}
+use Rattle.par_flow_laws.specs.Declares.{Declares}
 use Rattle.par_flow_laws.specs.Kinds.{Kind, Absorber}
 use Rattle.par_flow_laws.specs.Rules.{From, Worth, Node, node, Rules, Done, Part, Test, Heads}
-use Rattle.par_flow_laws.specs.Rules.{Leaves}
+use Rattle.par_flow_laws.specs.Rules.{Entry, Leaves}
 use Rattle.par_flow_laws.specs.Rules.{Worths}
+use Rattle.par_flow_laws.specs.Body.{past, sta, stas}
 use Rattle.par_flow_laws.specs.Numbered.{next, next_by}
+use Rattle.par_nodes.proofs.Statements.{block_made}
 
 module _ (rules : Rules) (n : ℕ) where
   pub done_next : rules ≡ Done → n ≡ next_by n rules
@@ -53,3 +62,24 @@ module _ (rules : Rules) (n : ℕ) where
 pub node_next : (p r : ℕ) (rules : Rules) → r ≡ next_by (p + 1) rules → r ≡ next (node p rules)
 unfolding next
 node_next p r rules e = e ∙ ap (λ k. next_by k rules) (add-one p)
+
+-- behind the last of some statements
+last_next : (d : Declares) (f : From) (ss : List TStmt) (s : TStmt) (n : ℕ)
+    → slice_get ss (length ss - 1) ≡ Some s
+    → next (sta d (does s)) ≡ next_by n (stas d f (all_do ss))
+unfolding stas next_by
+last_next d f [] s n e = absurd (let g : None ≡ Some s = e in cc)
+last_next d f (x ∷ []) s n e =
+    let g : Some x ≡ Some s = e in let i : s ≡ x = cc in ap (λ z. next (sta d (does z))) i
+last_next d f (x ∷ y ∷ ss) s n e =
+    let i : length (x ∷ y ∷ ss) - 1 ≡ suc (length (y ∷ ss) - 1) = omega arith in
+    last_next d past (y ∷ ss) s (next (sta d (does x)))
+    (subst (λ k. slice_get (x ∷ y ∷ ss) k ≡ Some s) i e)
+
+pub block_next : (d : Declares) (k : TStmtKind) (a p : ℕ) (ss xs : List TStmt) (s : TStmt) (r : ℕ)
+    → k ≡ stmt.Block ss → xs ≡ ss → slice_get xs (length xs - 1) ≡ Some s
+    → r ≡ next (sta d (does s)) → r ≡ next (sta d (does_at k a p))
+unfolding next
+block_next d k a p ss xs s r is x e u =
+    u ∙ last_next d Entry xs s (suc p) e
+    ∙ ap next (block_made d k a p ss xs (stas d Entry (all_do xs)) is x refl)

@@ -1,21 +1,26 @@
 -- What a pass that runs needs, and what it gives.
 use Rattle.std.specs.Prelude.{◌≡◌, ◌<◌, ℕ, Bool, Option, Some, None, List, [], ◌∷◌}
-use Rattle.std.specs.Prelude.{◌++◌, length}
-use Rattle.par_bits.specs.Sets.{has}
-use Rattle.par_flow_laws.specs.Kinds.{Kind}
+use Rattle.std.specs.Prelude.{◌++◌, drop, length}
+use Rattle.par_bits.specs.Sets.{Set, has}
+use Rattle.par_flow_laws.specs.Kinds.{Kind, Normal}
 use Rattle.par_flow_laws.specs.Ranges.{IsFromInRange, IsWorthInRange}
 use Rattle.par_flow_laws.specs.Rules.{Node, node, Rules, Done, Part, Test, Heads, Leaves, Worths}
-use Rattle.par_flow_laws.specs.Rules.{spot}
+use Rattle.par_flow_laws.specs.Rules.{Entry, spot}
+use Rattle.par_flow_laws.specs.Body.{stas}
+use Rattle.par_flow_laws.specs.Declares.{Declares}
+use Rattle.par_typed.specs.declared.stmt.TStmt.{TStmt}
+use Rattle.par_typed.specs.Shown.{all_do}
+use Rattle.par_nodes.specs.Starts.{start_at}
 use Rattle.par_pass_laws.specs.par_except.declared.way.Way.{Way}
-use Rattle.par_pass_laws.specs.par_except.Seen.{may_see, HasLocals}
+use Rattle.par_pass_laws.specs.par_except.Seen.{may_see, seen, HasLocals}
 use Rattle.par_pass_laws.specs.Exits as plain_exits
-use Rattle.par_pass_laws.specs.Exits.{all, leaving}
+use Rattle.par_pass_laws.specs.Exits.{all, at, leaving, one}
 use Rattle.par_pass_laws.specs.Pass as plain
-use Rattle.par_pass_laws.specs.Pass.{Event}
+use Rattle.par_pass_laws.specs.Pass.{HeadWays, Event, Row}
 use Rattle.par_rounds.specs.declared.notes.Notes.{Notes}
 use Rattle.par_rounds.specs.declared.pass.Found.{Found}
 use Rattle.par_rounds.specs.declared.pass.SoFar.{SoFar}
-use Rattle.par_rounds.specs.Seen.{seen_exits, AreWide, AreFactsWide, AreHeadsWide}
+use Rattle.par_rounds.specs.Seen.{seen_exits, latest_first, AreWide, AreFactsWide, AreHeadsWide}
 use Rattle.par_rounds.specs.Took.{Took}
 
 module _ (locals points : ℕ) where
@@ -43,6 +48,27 @@ pub record Passed (r : Found) (q : plain.Found) (m n : Notes) : Type 0 where
   pub exits : seen_exits r.exits.items ≡ q.exits
   pub wide : AreWide m.locals r.exits.items
   pub noted : Took q.events m n
+
+-- the rules of a node
+abbrev pub within : Node → Rules
+within (node p rules) = rules
+
+-- the code goes on to find that by these rules, from any events before
+abbrev pub GoesOn : HeadWays → Rules → plain_exits.Way → SoFar → Notes → Found → Notes → Type 0
+GoesOn h rules w so n r o =
+    (l : List Event) (m : Notes) → Took l m n
+    → Passed r
+    (plain.pass_all h rules w so.head (latest_first so.parts.items []) (found_of so.found l)) m o
+
+-- a node that is left as it is entered, with that value
+abbrev pub left_as : ℕ → Set → plain_exits.Way → plain.Found
+left_as p value w =
+    let xs = one Normal w in
+    record {
+      value = value;
+      exits = xs;
+      events = Row p (record { entry = Some w; value = value; exit = at xs }) ∷ [];
+    }
 
 -- a part that this way enters has been passed: what was found in it, and what it adds
 pub record TookPart (absorbs : Kind → Bool) (o : Option plain_exits.Way) (q : plain.Found)
@@ -72,3 +98,14 @@ pub record IsSoFar (notes : Notes) (so : SoFar) : Type 0 where
   pub head : IsHeadInRange (length notes.heads.items) so.head
   pub parts : AreFactsWide notes.locals so.parts.items
   pub exits : AreWide notes.locals so.found.exits.items
+
+-- the statements before the place have been passed, and the others follow
+pub record IsAlong (d : Declares) (h : HeadWays) (w : Way) (hs : List (Option Way))
+    (ss : List TStmt) (place : ℕ) (first so : SoFar) (m n : Notes) : Type 0 where
+  pub ready : IsReady w hs n
+  pub so_far : IsSoFar n so
+  pub rules : ArePassable n.locals (length n.heads.items)
+      (stas d (start_at place Entry) (all_do (drop place ss)))
+  pub goes : (r : Found) (o : Notes)
+      → GoesOn h (stas d (start_at place Entry) (all_do (drop place ss))) (seen w) so n r o
+      → GoesOn h (stas d Entry (all_do ss)) (seen w) first m r o

@@ -3,9 +3,7 @@ ghost use Rattle.std.specs.Prelude.{◌≡◌, ◌<◌, Some, IfOk, length, slic
 ghost use Rattle.std.specs.Option.{option_copied};
 ghost use Rattle.par_typed.specs.Shown as shown;
 ghost use Rattle.par_flow_laws.specs.Declares.{declares, method_of};
-ghost use Rattle.par_flow_laws.specs.Numbered.{next, next_by};
 ghost use Rattle.par_flow_laws.specs.Ranges.{IsOrderly};
-ghost use Rattle.par_nodes.specs.Seen.{seen_node, seen_rules};
 ghost use Rattle.par_pass_laws.specs.Written.{table as by_point};
 ghost use Rattle.par_rounds.specs.Seen.{seen_facts, AreRowsWide};
 ghost use Rattle.par_rounds.specs.Bodies.{AreLeastClosed};
@@ -14,39 +12,13 @@ ghost use Rattle.par_typed.specs.Members.{methods_in};
 
 use crate::fact::Fact;
 use crate::first::first_way;
+use crate::next::points_of;
 use crate::rounds::settle;
 use crate::way::SharedWay;
 use par_base::memory::NoMemory;
-use par_nodes::body::body_node;
-use par_nodes::rule::{Node, Rules};
 use par_typed::program::{TBody, Typed};
 use par_typed::table::{MethodInfo, Table};
 use std::alloc::Global;
-
-/// The first number behind the points of the node.
-#[cycle(next)]
-pub fn next(node: &Node) -> usize
-    ensures { result ≡ next (seen_node node.now) }
-{
-    next_by(&node.rules, node.point as usize + 1)
-}
-
-#[cycle(next)]
-fn next_by(rules: &Rules, from: usize) -> usize
-    ensures { result ≡ next_by from (seen_rules rules.now) }
-{
-    match rules {
-        Rules::Done => from,
-        Rules::Part(_, _, part, more) => next_by(more, next(part)),
-        Rules::Test(part, more) => next_by(more, next(part)),
-        Rules::Heads(_, more) => next_by(more, from),
-        Rules::Leaves(_, _, more) => next_by(more, from),
-        Rules::Worths(_, more) => next_by(more, from),
-        Rules::Ends(_, _) => from,
-        Rules::Gives(_, _) => from,
-        Rules::Joins(_, _, _) => from,
-    }
-}
 
 fn method_at(table: &Table, class: u16, method: u16) -> Option<&MethodInfo>
     ensures { option_copied result
@@ -92,9 +64,9 @@ pub fn rows_of(alloc: Global, table: &Table, body: &TBody) -> Result<Vec<Fact>, 
         (λ rows. AreRowsWide (locals_in table.now (shown.body body.now)) rows.items) }
 {
     let method = method_of(table, body);
-    let node = body_node(alloc, table, body)?;
     let first = first_way(alloc, method)?;
     let way = SharedWay::new(alloc, first)?;
-    let rows = settle(alloc, &node, &way, next(&node))?;
+    let points = points_of(alloc, table, &body.body)?;
+    let rows = settle(alloc, table, &body.body, &way, points)?;
     Ok(rows)
 }

@@ -4,6 +4,7 @@ ghost use Rattle.std.specs.Option.{option_copied};
 ghost use Rattle.par_bits.specs.Sets.{has};
 ghost use Rattle.par_flow_laws.specs.Kinds.{absorbed};
 ghost use Rattle.par_nodes.specs.Seen.{seen_absorber, seen_kind};
+ghost use Rattle.par_nodes.specs.declared.rule.Kind.TheVariants.{Normal};
 ghost use Rattle.par_pass_laws.specs.par_except.Joins.{join};
 ghost use Rattle.par_pass_laws.specs.par_except.Seen.{may_see, seen, HasLocals, MayHaveLocals};
 ghost use Rattle.par_pass_laws.specs.Exits.{add, all, at, contexts, leaving, restored};
@@ -179,6 +180,19 @@ pub fn restore(exits: &mut Vec<Exit>, way: &SharedWay)
 {
     let context = context_of(exits, way.context());
     set_context(exits, context);
+}
+
+/// The way as the only exit, which is the normal one.
+pub fn only(alloc: Global, way: &SharedWay) -> Result<Vec<Exit>, NoMemory>
+    ensures { IfOk result (λ exits. exits.items ≡ record { kind = Normal; way = way.now } ∷ []) }
+{
+    let mut exits = Vec::with_capacity(alloc, 1)?;
+    let way = way.share()?;
+    exits.push(Exit {
+        kind: Kind::Normal,
+        way,
+    })?;
+    Ok(exits)
 }
 
 /// A copy of all exits.

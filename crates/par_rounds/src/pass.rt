@@ -1,12 +1,13 @@
 // One pass over a node.
-ghost use Rattle.std.specs.Prelude.{◌≡◌, ℕ, [], ◌∷◌, ◌++◌, List, OnOk, IfOk, length};
-ghost use Rattle.par_bits.specs.Sets.{has, none};
+ghost use Rattle.std.specs.Prelude.{◌≡◌, ℕ, [], ◌∷◌, ◌++◌, List, OnOk, IfOk, None, length};
+ghost use Rattle.par_bits.specs.Sets.{has, none, union};
 ghost use Rattle.par_flow_laws.specs.Kinds.{absorbed, normal};
 ghost use Rattle.par_flow_laws.specs.Lattice.{numbers};
-ghost use Rattle.par_flow_laws.specs.Ranges.{IsFromInRange};
+ghost use Rattle.par_flow_laws.specs.Ranges.{IsFromInRange, IsWorthInRange};
 ghost use Rattle.par_flow_laws.specs.Rules.{spot, way as way_from};
+ghost use Rattle.par_flow_laws.specs.Rules.{worth as worth_of};
 ghost use Rattle.par_nodes.specs.Seen.{seen_absorber, seen_kind, seen_node, seen_origin};
-ghost use Rattle.par_nodes.specs.Seen.{seen_rules};
+ghost use Rattle.par_nodes.specs.Seen.{seen_rules, seen_worth};
 ghost use Rattle.par_pass_laws.specs.par_except.Seen.{may_see, seen, HasLocals, MayHaveLocals};
 ghost use Rattle.par_pass_laws.specs.Exits.{all, leave as left, leaving};
 ghost use Rattle.par_pass_laws.specs.Pass.{Event, ended, into, pass, pass_all, visited};
@@ -26,7 +27,7 @@ use crate::way::SharedWay;
 use crate::ways::may_share;
 use par_atoms::Atoms;
 use par_base::memory::NoMemory;
-use par_nodes::rule::{Absorber, Kind, Node, Origin, Rules};
+use par_nodes::rule::{Absorber, Kind, Node, Origin, Rules, Worth};
 use std::alloc::Global;
 
 /// The value of a node, and its exits.
@@ -37,7 +38,8 @@ pub struct Found {
 }
 
 impl Found {
-    fn nothing(alloc: Global) -> Found
+    /// Nothing is found yet.
+    pub fn nothing(alloc: Global) -> Found
         ensures value { has result.value ≡ none }
         ensures exits { result.exits.items ≡ [] }
     {
@@ -57,8 +59,24 @@ pub struct SoFar {
     pub found: Found,
 }
 
-// A part that the way entered. Its exits are exits of the node, unless they are absorbed.
-fn take(
+impl SoFar {
+    /// Nothing has been passed.
+    pub fn new(alloc: Global) -> SoFar
+        ensures head { result.head ≡ None }
+        ensures parts { result.parts.items ≡ [] }
+        ensures value { has result.found.value ≡ none }
+        ensures exits { result.found.exits.items ≡ [] }
+    {
+        SoFar {
+            head: None,
+            parts: Vec::new(alloc),
+            found: Found::nothing(alloc),
+        }
+    }
+}
+
+/// A part that the way entered. Its exits are exits of the node, unless they are absorbed.
+pub fn take(
     alloc: Global,
     so: &mut SoFar,
     entry: Option<SharedWay>,
@@ -85,9 +103,9 @@ fn take(
     Ok(())
 }
 
-// The head way of a loop, by the point of its test.
+/// The head way of a loop, by the point of its test.
 #[inline(never)]
-fn head_at(heads: &[Option<SharedWay>], point: u32) -> Result<Option<SharedWay>, NoMemory>
+pub fn head_at(heads: &[Option<SharedWay>], point: u32) -> Result<Option<SharedWay>, NoMemory>
     ensures way { IfOk result (λ o. may_see o ≡ ways_of heads.now point) }
     ensures locals { IfOk result (λ o. (n : ℕ) → AreHeadsWide n heads.now → MayHaveLocals n o) }
 {
@@ -100,8 +118,8 @@ fn head_at(heads: &[Option<SharedWay>], point: u32) -> Result<Option<SharedWay>,
     }
 }
 
-// The way flows into the head of the loop, if there is one.
-fn flow(
+/// The way flows into the head of the loop, if there is one.
+pub fn flow(
     alloc: Global,
     way: &SharedWay,
     from: &Origin,
@@ -124,9 +142,9 @@ fn flow(
     }
 }
 
-// The way leaves the node.
+/// The way leaves the node.
 #[inline(never)]
-fn leave(
+pub fn leave(
     alloc: Global,
     way: &SharedWay,
     from: &Origin,
@@ -150,8 +168,22 @@ fn leave(
     }
 }
 
-// The end of a node: its normal exit gets its context, and its fact is noted.
-fn finish(
+// The value of the node is at least that.
+fn add_worth(way: &SharedWay, worth: Worth, so: &mut SoFar)
+    requires { IsWorthInRange (length way.now.env) (seen_worth worth) }
+    ensures head { so.new.head ≡ so.old.head }
+    ensures parts { so.new.parts ≡ so.old.parts }
+    ensures value { has so.new.found.value ≡ union (has so.old.found.value)
+        (worth_of numbers (Some (seen way.now)) (latest_first so.old.parts.items [])
+        (seen_worth worth)) }
+    ensures exits { so.new.found.exits ≡ so.old.found.exits }
+{
+    let added = worth_at(way, &so.parts, worth);
+    so.found.value = so.found.value.union(&added);
+}
+
+/// The end of a node: its normal exit gets its context, and its fact is noted.
+pub fn finish(
     alloc: Global,
     point: u32,
     way: &SharedWay,
@@ -171,9 +203,9 @@ fn finish(
     Ok(Found { value, exits })
 }
 
-/// Goes through a node that the way enters, with the heads of loops as they stand.
+// Goes through a node that the way enters, with the heads of loops as they stand.
 #[cycle(pass)]
-pub fn pass(
+fn pass(
     alloc: Global,
     node: &Node,
     way: &SharedWay,
@@ -186,11 +218,7 @@ pub fn pass(
     ensures { IfOk result (λ r. Passed r
         (pass (ways_of heads.now) (seen_node node.now) (seen way.now)) notes.old notes.new) }
 {
-    let mut so = SoFar {
-        head: None,
-        parts: Vec::new(alloc),
-        found: Found::nothing(alloc),
-    };
+    let mut so = SoFar::new(alloc);
     pass_rules(alloc, &node.rules, way, heads, &mut so, notes)?;
     let found = finish(alloc, node.point, way, so.found, notes)?;
     Ok(found)
@@ -282,9 +310,9 @@ fn pass_test(
     Ok(())
 }
 
-// Goes through rules, one after the other.
+/// Goes through rules, one after the other.
 #[cycle(pass)]
-fn pass_rules(
+pub fn pass_rules(
     alloc: Global,
     rules: &Rules,
     way: &SharedWay,
@@ -315,19 +343,15 @@ fn pass_rules(
         }
         Rules::Heads(from, more) => {
             flow(alloc, way, from, so, notes)?;
-            pass_rules(alloc, more, way, heads, so, notes)?;
-            Ok(())
+            pass_rules(alloc, more, way, heads, so, notes)
         }
         Rules::Leaves(from, kind, more) => {
             leave(alloc, way, from, *kind, so)?;
-            pass_rules(alloc, more, way, heads, so, notes)?;
-            Ok(())
+            pass_rules(alloc, more, way, heads, so, notes)
         }
         Rules::Worths(worth, more) => {
-            let worth = worth_at(way, &so.parts, *worth);
-            so.found.value = so.found.value.union(&worth);
-            pass_rules(alloc, more, way, heads, so, notes)?;
-            Ok(())
+            add_worth(way, *worth, so);
+            pass_rules(alloc, more, way, heads, so, notes)
         }
         Rules::Ends(from, kind) => {
             leave(alloc, way, from, *kind, so)?;
@@ -335,16 +359,13 @@ fn pass_rules(
         }
         Rules::Gives(from, worth) => {
             leave(alloc, way, from, Kind::Normal, so)?;
-            let worth = worth_at(way, &so.parts, *worth);
-            so.found.value = so.found.value.union(&worth);
+            add_worth(way, *worth, so);
             Ok(())
         }
         Rules::Joins(from, one, other) => {
             leave(alloc, way, from, Kind::Normal, so)?;
-            let one = worth_at(way, &so.parts, *one);
-            so.found.value = so.found.value.union(&one);
-            let other = worth_at(way, &so.parts, *other);
-            so.found.value = so.found.value.union(&other);
+            add_worth(way, *one, so);
+            add_worth(way, *other, so);
             Ok(())
         }
     }

@@ -1,11 +1,11 @@
 use Rattle.std.proofs.Common.{◌≡◌, ◌≤◌, Some, length, subst, sym, ap, ◌∙◌, arith, All, ◌<◌}
-use Rattle.par_typed.specs.Shown.{body as shown}
+use Rattle.par_typed.specs.Shown.{body as shown, does}
+use Rattle.par_flow_laws.specs.Body.{sta}
 use Rattle.par_flow_laws.specs.Lattice.{numbers}
 use Rattle.par_flow_laws.specs.Closed.{first}
 use Rattle.par_flow_laws.specs.Declares.{declares, method_of}
-use Rattle.par_flow_laws.specs.Numbered.{IsNumbered, next}
-use Rattle.par_flow_laws.specs.Ranges.{AreLocks, IsInRange, MOST}
-use Rattle.par_nodes.specs.Seen.{seen_node}
+use Rattle.par_flow_laws.specs.Numbered.{next}
+use Rattle.par_flow_laws.specs.Ranges.{AreLocks, MOST}
 use Rattle.par_pass_laws.specs.par_except.Seen.{seen}
 use Rattle.par_rounds.specs.Passes.{IsPassable}
 use Rattle.par_rounds.specs.Rounds.{IsSettled}
@@ -21,14 +21,14 @@ first_way-requires-clause-expects c =
 
 pub settle-requires-clause-node : goal.settle-requires-clause-node
 settle-requires-clause-node c =
-    let n = seen_node c.in_ok-node.node in let e = c.next.ensures in
+    let n = sta (declares c.args.table.now) (does c.args.body.now.body) in
+    let e = c.in_ok-points.ensures in
     let k = length c.method_of-method.result.now.locals in
-    let is = c.in_ok-node.ensures in let orderly = c.method_of-method.ensures.orderly in
-    subst (λ k. IsPassable k c.next.result n)
+    let p = c.in_ok-points.points in
+    let orderly = c.method_of-method.ensures.orderly in
+    subst (λ k. IsPassable k p n)
     (sym (ap (λ w. length w.env) c.in_ok-way.ensures ∙ c.in_ok-first.ensures.locals))
-    (passable k c.next.result n 0
-    (subst (IsNumbered 0) (sym is) orderly.numbered) (omega (arith, e))
-    (subst (IsInRange k) (sym is) orderly.in_range))
+    (passable k p n 0 orderly.numbered (omega (arith, e)) orderly.in_range)
 
 pub settle-requires-clause-small : goal.settle-requires-clause-small
 settle-requires-clause-small c =
@@ -39,18 +39,15 @@ settle-requires-clause-small c =
 
 pub returns-clause-facts : goal.returns-clause-facts
 returns-clause-facts c =
-    let t = c.args.table.now in let b = shown c.args.body.now in let e = c.next.ensures in
-    let is = c.in_ok-node.ensures in
+    let t = c.args.table.now in let b = shown c.args.body.now in let e = c.in_ok-points.ensures in
+    let p = c.in_ok-points.points in
     let w : seen c.in_ok-way.way ≡ first numbers ((declares t).method b.class b.method) =
     ap seen c.in_ok-way.ensures ∙ c.in_ok-first.ensures.way
     ∙ ap (first numbers) c.method_of-method.ensures.method in
-    rows_least t b c.next.result c.in_ok-rows.rows.items
-    (subst (λ n. IsSettled n (first numbers ((declares t).method b.class b.method)) c.next.result
-    c.in_ok-rows.rows.items) is
-    (subst (λ v. IsSettled (seen_node c.in_ok-node.node) v c.next.result c.in_ok-rows.rows.items) w
-    c.in_ok-rows.ensures.rows))
-    c.method_of-method.ensures.orderly.numbered
-    (subst (λ n. next n ≤ c.next.result) is (omega (arith, e)))
+    rows_least t b p c.in_ok-rows.rows.items
+    (subst (λ v. IsSettled (sta (declares t) b.body) v p c.in_ok-rows.rows.items) w
+    c.in_ok-rows.ensures.rows)
+    c.method_of-method.ensures.orderly.numbered (omega (arith, e))
 
 pub returns-clause-locals : goal.returns-clause-locals
 returns-clause-locals c =

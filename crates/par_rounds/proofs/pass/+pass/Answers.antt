@@ -1,5 +1,6 @@
 -- Each rule takes the code one step on, and what it needs stays true.
 use Rattle.std.proofs.Common.{Some, None, [], length, refl, sym, ap, ◌∙◌, subst, rules}
+use Rattle.std.proofs.lemmas.Result.{IfOk-weaker}
 use Rattle.par_nodes.specs.declared.rule.Rules.TheViews.{the_lemmas}
 use Rattle.par_flow_laws.specs.Kinds.{Normal, normal, absorbed}
 use Rattle.par_flow_laws.specs.Lattice.{numbers}
@@ -27,7 +28,8 @@ pass-pass_rules-requires t c = (
   (
     c.requires.ready,
     (
-      so_first c.args.notes.now _ refl c.new.ensures.items c.nothing.ensures.exits,
+      so_first c.args.notes.now _ c.new-so.ensures.head c.new-so.ensures.parts
+          c.new-so.ensures.exits,
       node_needs c.args.notes.now.locals (length c.args.notes.now.heads.items) c.args.node.now.point
           (seen_rules c.args.node.now.rules) c.requires.node,
     ),
@@ -47,10 +49,11 @@ pass-finish-requires-clause-exits t c =
 pub pass-returns : goal.pass-returns
 pass-returns t c =
     node_goes (ways_of c.args.heads.now) c.args.node.now.point (seen_rules c.args.node.now.rules)
-    (seen c.args.way.now) (record { head = None; parts = c.new.result; found = c.nothing.result })
+    (seen c.args.way.now) c.new-so.result
     c.pass_rules.new.so.found c.in_ok-found.found
-    c.args.notes.now c.pass_rules.new.notes c.finish.new.notes refl c.new.ensures.items
-    c.nothing.ensures.value c.nothing.ensures.exits c.in_ok-pass_rules.ensures c.in_ok-found.ensures
+    c.args.notes.now c.pass_rules.new.notes c.finish.new.notes c.new-so.ensures.head
+    c.new-so.ensures.parts c.new-so.ensures.value c.new-so.ensures.exits
+    c.in_ok-pass_rules.ensures c.in_ok-found.ensures
 
 pub pass_part-way_at-requires-clause-range : goal.pass_part-way_at-requires-clause-range
 pass_part-way_at-requires-clause-range t c =
@@ -226,8 +229,8 @@ pass_rules-pass_rules-requires-in-Leaves t c =
       ),
     )
 
-pub pass_rules-worth_at-worth-requires : goal.pass_rules-worth_at-worth-requires
-pass_rules-worth_at-worth-requires t c =
+pub pass_rules-add_worth-requires : goal.pass_rules-add_worth-requires
+pass_rules-add_worth-requires t c =
     let n = c.args.notes.now in
     subst (λ k. IsWorthInRange k (seen_worth c.in-Worths.worth)) (sym c.requires.ready.way)
     (worths_needs n.locals (length n.heads.items) (seen_rules c.args.rules.now)
@@ -237,16 +240,17 @@ pass_rules-worth_at-worth-requires t c =
 
 pub pass_rules-pass_rules-requires-in-Worths : goal.pass_rules-pass_rules-requires-in-Worths
 pass_rules-pass_rules-requires-in-Worths t c =
-    let n = c.args.notes.now in let s = c.requires.so_far in (
+    let n = c.args.notes.now in let s = c.requires.so_far in let u = c.add_worth.ensures in (
       search (rules, the_lemmas),
       (
         c.requires.ready,
         (
-          so_still n n [] (took_none n) c.args.so.now _ s refl refl s.exits,
+          so_still n n [] (took_none n) c.args.so.now c.add_worth.new.so s u.head u.parts
+              (subst (λ xs. AreWide n.locals xs.items) (sym u.exits) s.exits),
           (worths_needs n.locals (length n.heads.items) (seen_rules c.args.rules.now)
-              (seen_worth c.in-Worths.worth) (seen_rules c.deref-in-Worths-2.result.now)
+              (seen_worth c.in-Worths.worth) (seen_rules c.deref-in-Worths.result.now)
               (is_worths c.args.rules.now c.in-Worths.worth c.in-Worths.more
-              c.deref-in-Worths-2.result.now c.in-Worths.is c.deref-in-Worths-2.ensures)
+              c.deref-in-Worths.result.now c.in-Worths.is c.deref-in-Worths.ensures)
               c.requires.rules).1,
         ),
       ),
@@ -281,47 +285,46 @@ pass_rules-returns-in_ok-pass_rules-in-Test t c =
     c.deref-in-Test-2.result.now p.is c.deref-in-Test.ensures c.deref-in-Test-2.ensures)
     k.enters k.passed u.head k.parts k.value k.exits c.in_ok-pass_rules-in-Test.ensures
 
-pub pass_rules-returns-in_ok-pass_rules-in-Heads : goal.pass_rules-returns-in_ok-pass_rules-in-Heads
-pass_rules-returns-in_ok-pass_rules-in-Heads t c =
-    heads_arm (ways_of c.args.heads.now)
+pub pass_rules-returns-in_ok-flow-in-Heads : goal.pass_rules-returns-in_ok-flow-in-Heads
+pass_rules-returns-in_ok-flow-in-Heads t c =
+    IfOk-weaker c.pass_rules-in-Heads.result _ _
+    (λ _. heads_arm (ways_of c.args.heads.now)
     (seen c.args.way.now) c.args.so.now c.pass_rules-in-Heads.new.so.found
     (seen_rules c.args.rules.now) (seen_origin c.in-Heads.from)
     (seen_rules c.deref-in-Heads.result.now)
     c.args.notes.now c.flow.new.notes c.pass_rules-in-Heads.new.notes
     (is_heads c.args.rules.now c.in-Heads.from c.in-Heads.more c.deref-in-Heads.result.now
     c.in-Heads.is c.deref-in-Heads.ensures)
-    c.in_ok-flow-in-Heads.ensures c.in_ok-pass_rules-in-Heads.ensures
+    c.in_ok-flow-in-Heads.ensures)
+    c.pass_rules-in-Heads.ensures
 
-pub pass_rules-returns-in_ok-pass_rules-in-Leaves
-    : goal.pass_rules-returns-in_ok-pass_rules-in-Leaves
-pass_rules-returns-in_ok-pass_rules-in-Leaves t c =
+pub pass_rules-returns-in_ok-leave-in-Leaves : goal.pass_rules-returns-in_ok-leave-in-Leaves
+pass_rules-returns-in_ok-leave-in-Leaves t c =
     let u = c.in_ok-leave-in-Leaves.ensures in
-    leaves_arm (ways_of c.args.heads.now)
+    IfOk-weaker c.pass_rules-in-Leaves.result _ _
+    (λ _. leaves_arm (ways_of c.args.heads.now)
     (seen c.args.way.now) c.args.so.now c.leave.new.so c.pass_rules-in-Leaves.new.so.found
     (seen_rules c.args.rules.now) (seen_origin c.in-Leaves.from) (seen_kind c.in-Leaves.kind)
     (seen_rules c.deref-in-Leaves.result.now)
     c.args.notes.now c.pass_rules-in-Leaves.new.notes
     (is_leaves c.args.rules.now c.in-Leaves.from c.in-Leaves.kind c.in-Leaves.more
     c.deref-in-Leaves.result.now c.in-Leaves.is c.deref-in-Leaves.ensures)
-    u.head u.parts u.value u.exits c.in_ok-pass_rules-in-Leaves.ensures
+    u.head u.parts u.value u.exits)
+    c.pass_rules-in-Leaves.ensures
 
-pub pass_rules-returns-in_ok-pass_rules-in-Worths
-    : goal.pass_rules-returns-in_ok-pass_rules-in-Worths
-pass_rules-returns-in_ok-pass_rules-in-Worths t c =
-    let v = has c.args.so.now.found.value in
-    worths_arm (ways_of c.args.heads.now)
-    (seen c.args.way.now) c.args.so.now _ c.pass_rules-in-Worths.new.so.found
+pub pass_rules-returns-in-Worths : goal.pass_rules-returns-in-Worths
+pass_rules-returns-in-Worths t c =
+    let u = c.add_worth.ensures in
+    IfOk-weaker c.pass_rules-in-Worths.result _ _
+    (λ _. worths_arm (ways_of c.args.heads.now)
+    (seen c.args.way.now) c.args.so.now c.add_worth.new.so c.pass_rules-in-Worths.new.so.found
     (seen_rules c.args.rules.now) (seen_worth c.in-Worths.worth)
-    (seen_rules c.deref-in-Worths-2.result.now)
+    (seen_rules c.deref-in-Worths.result.now)
     c.args.notes.now c.pass_rules-in-Worths.new.notes
-    (is_worths c.args.rules.now c.in-Worths.worth c.in-Worths.more c.deref-in-Worths-2.result.now
-    c.in-Worths.is c.deref-in-Worths-2.ensures)
-    refl refl
-    (c.union-so.ensures ∙ ap (union v)
-    (c.worth_at-worth.ensures ∙ ap
-    (λ z. worth_of numbers (Some (seen c.args.way.now)) (latest_first z [])
-    (seen_worth c.in-Worths.worth)) c.deref-in-Worths.ensures.value))
-    refl c.in_ok-pass_rules-in-Worths.ensures
+    (is_worths c.args.rules.now c.in-Worths.worth c.in-Worths.more c.deref-in-Worths.result.now
+    c.in-Worths.is c.deref-in-Worths.ensures)
+    u.head u.parts u.value u.exits)
+    c.pass_rules-in-Worths.ensures
 
 pub pass_rules-leave-requires-in-Ends-clause-range
     : goal.pass_rules-leave-requires-in-Ends-clause-range
@@ -341,8 +344,8 @@ pass_rules-leave-requires-in-Gives-clause-range t c =
     (seen_origin c.in-Gives.from) Normal (Worths (seen_worth c.in-Gives.worth) Done)
     (is_gives c.args.rules.now c.in-Gives.from c.in-Gives.worth c.in-Gives.is) c.requires.rules).0
 
-pub pass_rules-worth_at-worth-requires-in-Gives : goal.pass_rules-worth_at-worth-requires-in-Gives
-pass_rules-worth_at-worth-requires-in-Gives t c =
+pub pass_rules-add_worth-requires-in-Gives : goal.pass_rules-add_worth-requires-in-Gives
+pass_rules-add_worth-requires-in-Gives t c =
     let n = c.args.notes.now in
     let more = Worths (seen_worth c.in-Gives.worth) Done in
     subst (λ k. IsWorthInRange k (seen_worth c.in-Gives.worth)) (sym c.requires.ready.way)
@@ -364,17 +367,15 @@ pass_rules-returns-in_ok-leave-in-Ends t c =
 pub pass_rules-returns-in_ok-leave-in-Gives : goal.pass_rules-returns-in_ok-leave-in-Gives
 pass_rules-returns-in_ok-leave-in-Gives t c =
     let u = c.in_ok-leave-in-Gives.ensures in let left = c.leave-in-Gives.new.so in
-    let v = has left.found.value in
-    gives_arm (ways_of c.args.heads.now) (seen c.args.way.now) c.args.so.now left _
+    let v = c.add_worth-in-Gives.ensures in
+    gives_arm (ways_of c.args.heads.now) (seen c.args.way.now) c.args.so.now left
+    c.add_worth-in-Gives.new.so
     (seen_rules c.args.rules.now) (seen_origin c.in-Gives.from) Normal
     (seen_worth c.in-Gives.worth) c.args.notes.now
     (is_gives c.args.rules.now c.in-Gives.from c.in-Gives.worth c.in-Gives.is)
     u.head u.parts u.value u.exits
-    (subst (λ k. AreWide k left.found.exits.items) c.requires.ready.way u.locals) refl refl
-    (c.union-so-in-Gives.ensures ∙ ap (union v)
-    (c.worth_at-worth-in-Gives.ensures ∙ ap
-    (λ z. worth_of numbers (Some (seen c.args.way.now)) (latest_first z [])
-    (seen_worth c.in-Gives.worth)) c.deref-in-Gives.ensures.value)) refl
+    (subst (λ k. AreWide k left.found.exits.items) c.requires.ready.way u.locals)
+    v.head v.parts v.value v.exits
 
 pub pass_rules-leave-requires-in-Joins-clause-range
     : goal.pass_rules-leave-requires-in-Joins-clause-range
@@ -385,8 +386,8 @@ pass_rules-leave-requires-in-Joins-clause-range t c =
     (seen_origin j.from) Normal (Worths (seen_worth j.one) (Worths (seen_worth j.other) Done))
     (is_joins c.args.rules.now j.from j.one j.other j.is) c.requires.rules).0
 
-pub pass_rules-worth_at-one-requires : goal.pass_rules-worth_at-one-requires
-pass_rules-worth_at-one-requires t c =
+pub pass_rules-add_worth-requires-in-Joins : goal.pass_rules-add_worth-requires-in-Joins
+pass_rules-add_worth-requires-in-Joins t c =
     let n = c.args.notes.now in let j = c.in-Joins in
     let last = Worths (seen_worth j.other) Done in
     let more = Worths (seen_worth j.one) last in
@@ -396,8 +397,8 @@ pass_rules-worth_at-one-requires t c =
     (seen_origin j.from) Normal more (is_joins c.args.rules.now j.from j.one j.other j.is)
     c.requires.rules).1).0
 
-pub pass_rules-worth_at-other-requires : goal.pass_rules-worth_at-other-requires
-pass_rules-worth_at-other-requires t c =
+pub pass_rules-add_worth-requires-in-Joins-2 : goal.pass_rules-add_worth-requires-in-Joins-2
+pass_rules-add_worth-requires-in-Joins-2 t c =
     let n = c.args.notes.now in let j = c.in-Joins in
     let last = Worths (seen_worth j.other) Done in
     let more = Worths (seen_worth j.one) last in
@@ -411,24 +412,13 @@ pass_rules-worth_at-other-requires t c =
 pub pass_rules-returns-in_ok-leave-in-Joins : goal.pass_rules-returns-in_ok-leave-in-Joins
 pass_rules-returns-in_ok-leave-in-Joins t c =
     let u = c.in_ok-leave-in-Joins.ensures in let left = c.leave-in-Joins.new.so in
-    let j = c.in-Joins in let v = has left.found.value in
-    let w = seen c.args.way.now in
-    joins_arm (ways_of c.args.heads.now) w c.args.so.now left
-    (record {
-      head = left.head;
-      parts = left.parts;
-      found = record { value = c.union-so-in-Joins.result; exits = left.found.exits };
-    }) _
+    let j = c.in-Joins in let v = c.add_worth-in-Joins.ensures in
+    let x = c.add_worth-in-Joins-2.ensures in
+    joins_arm (ways_of c.args.heads.now) (seen c.args.way.now) c.args.so.now left
+    c.add_worth-in-Joins.new.so c.add_worth-in-Joins-2.new.so
     (seen_rules c.args.rules.now) (seen_origin j.from) Normal (seen_worth j.one)
     (seen_worth j.other) c.args.notes.now
     (is_joins c.args.rules.now j.from j.one j.other j.is)
     u.head u.parts u.value u.exits
-    (subst (λ k. AreWide k left.found.exits.items) c.requires.ready.way u.locals) refl refl
-    (c.union-so-in-Joins.ensures ∙ ap (union v)
-    (c.worth_at-one.ensures ∙ ap
-    (λ z. worth_of numbers (Some w) (latest_first z []) (seen_worth j.one))
-    c.deref-in-Joins.ensures.value)) refl refl refl
-    (c.union-so-in-Joins-2.ensures ∙ ap (union (has c.union-so-in-Joins.result))
-    (c.worth_at-other.ensures ∙ ap
-    (λ z. worth_of numbers (Some w) (latest_first z []) (seen_worth j.other))
-    c.deref-in-Joins-2.ensures.value)) refl
+    (subst (λ k. AreWide k left.found.exits.items) c.requires.ready.way u.locals)
+    v.head v.parts v.value v.exits x.head x.parts x.value x.exits

@@ -1,6 +1,8 @@
 use Rattle.std.proofs.Common.{length, subst}
 use Rattle.std.proofs.lemmas.Bool.{not-false}
-use Rattle.par_nodes.specs.Seen.{seen_node}
+use Rattle.par_typed.specs.Shown.{does}
+use Rattle.par_flow_laws.specs.Body.{sta}
+use Rattle.par_flow_laws.specs.Declares.{declares}
 use Rattle.par_pass_laws.specs.par_except.Seen.{seen}
 use Rattle.par_pass_laws.specs.Pass.{pass}
 use Rattle.par_rounds.specs.Seen.{ways_of}
@@ -10,7 +12,8 @@ use Rattle.par_rounds.proofs.rounds.quiet.Goals as goal
 
 pub loop-heads-smaller : goal.loop-heads-smaller
 loop-heads-smaller c =
-    let k = length c.args.way.now.env in let n = seen_node c.args.node.now in
+    let k = length c.args.way.now.env in
+    let n = sta (declares c.args.table.now) (does c.args.stmt.now) in
     let w = seen c.args.way.now in
     after_falls k c.args.points n w c.loop-heads.heads.items c.loop-heads.invariant 0
     c.in_ok-notes.notes
@@ -20,7 +23,8 @@ loop-heads-smaller c =
 
 pub loop-heads-preserved : goal.loop-heads-preserved
 loop-heads-preserved c =
-    let k = length c.args.way.now.env in let n = seen_node c.args.node.now in
+    let k = length c.args.way.now.env in
+    let n = sta (declares c.args.table.now) (does c.args.stmt.now) in
     let w = seen c.args.way.now in
     after_next k c.args.points n w c.loop-heads.heads.items c.loop-heads.invariant 0
     c.in_ok-notes.notes

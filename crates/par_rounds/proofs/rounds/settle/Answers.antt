@@ -1,6 +1,8 @@
 use Rattle.std.proofs.Common.{length, subst, sym}
 use Rattle.std.proofs.lemmas.Bool.{not-true}
-use Rattle.par_nodes.specs.Seen.{seen_node}
+use Rattle.par_typed.specs.Shown.{does}
+use Rattle.par_flow_laws.specs.Body.{sta}
+use Rattle.par_flow_laws.specs.Declares.{declares}
 use Rattle.par_pass_laws.specs.par_except.Seen.{seen}
 use Rattle.par_pass_laws.specs.Pass.{pass}
 use Rattle.par_rounds.specs.Seen.{ways_of, AreHeadsWide}
@@ -15,7 +17,8 @@ round-requires-clause-heads c =
 
 pub returns-then-not-first-clause-rows : goal.returns-then-not-first-clause-rows
 returns-then-not-first-clause-rows c =
-    let k = length c.args.way.now.env in let n = seen_node c.args.node.now in
+    let k = length c.args.way.now.env in
+    let n = sta (declares c.args.table.now) (does c.args.stmt.now) in
     let w = seen c.args.way.now in let u = c.in_ok-unreached.ensures in
     let first = c.in_ok-first.first in
     first_settled k c.args.points n w c.in_ok-unreached.unreached.items u.way (u.locals k) u.size
@@ -26,7 +29,8 @@ returns-then-not-first-clause-rows c =
 
 pub quiet-requires-clause-after : goal.quiet-requires-clause-after
 quiet-requires-clause-after c =
-    let k = length c.args.way.now.env in let n = seen_node c.args.node.now in
+    let k = length c.args.way.now.env in
+    let n = sta (declares c.args.table.now) (does c.args.stmt.now) in
     let w = seen c.args.way.now in let u = c.in_ok-unreached.ensures in
     let first = c.in_ok-first.first in
     first_after k c.args.points n w c.in_ok-unreached.unreached.items u.way (u.locals k) u.size

@@ -8,7 +8,7 @@ use Rattle.par_rounds.proofs.Trees.{is_ends, is_gives, is_joins}
 use Rattle.par_rounds.proofs.Nexts.{node_next, done_next, part_next, test_next, heads_next}
 use Rattle.par_rounds.proofs.Nexts.{leaves_next, worths_next, ends_next, gives_next}
 use Rattle.par_rounds.proofs.Nexts.{joins_next}
-use Rattle.par_rounds.proofs.body.+next.Goals as goal
+use Rattle.par_rounds.proofs.next.+next.Goals as goal
 
 pub next-returns : goal.next-returns
 next-returns t c =
