@@ -84,36 +84,53 @@ def nested_loops(part):
     return of_code(code + b"\xb1", 1, 255, int(30 * part)), VERIFY
 
 
-def loops_around_objects(part):
+def around_objects(part, order):
     """Loops 5,200 deep around 252 locals that hand on their objects: each way round all of them
-    tells of one local more that it has objects of several classes."""
+    tells of one local more that it has objects of several classes. Code goes back to their heads
+    in that order."""
     other = [long_class.utf8("java/lang/NullPointerException"), b"\x07\0\x08"]
     code = b"".join(b"\xbb\0\x02\x3a" + bytes([n]) for n in range(252))
     heads = range(len(code), len(code) + 2 * 5200, 2)
     code += b"\x03\x57" * len(heads)
     code += b"".join(bytes([0x19, n, 0x3a, n + 1]) for n in reversed(range(251)))
     code += b"\xbb\0\x09\x3a\0"
-    for head in reversed(heads):
+    for head in order(heads):
         code += b"\x03"
         code += b"\x99" + struct.pack(">h", head - len(code))
     return of_code(code + b"\xb1", 1, 252, int(30 * part), other), VERIFY
 
 
-def kinds_that_rise(part):
+def loops_around_objects(part):
+    return around_objects(part, reversed)
+
+
+def loops_that_cross(part):
+    return around_objects(part, list)
+
+
+def rising(part, jumps, together):
     """Jumps back to one another before and behind code that sets 252 locals to another kind, so
-    that each of them rises as often as it can before each jump."""
+    many of them together, so that each of them rises as often as it can before each jump."""
     other = [long_class.utf8("java/lang/NullPointerException"), b"\x07\0\x08"]
     other += [long_class.utf8("java/lang/ArithmeticException"), b"\x07\0\x0a"]
     code = b"".join(b"\x01\x3a" + bytes([n]) for n in range(252))
     back = len(code)
     for made in (b"\xbb\0\x09\x3a", b"\xbb\0\x0b\x3a", b"\xbb\0\x02\x3a", b"\x03\x36"):
-        for _ in range(3700):
-            code += b"\x03\x99" + struct.pack(">h", back - len(code) - 1)
+        sets = [made + bytes([n]) for n in range(252)]
+        pieces = [b""] * jumps
+        pieces += [b"".join(sets[n : n + together]) for n in range(0, 252, together)]
+        for piece in pieces:
+            code += piece + b"\x03\x99" + struct.pack(">h", back - len(code) - len(piece) - 1)
             back = len(code) - 4
-        code += b"".join(made + bytes([n]) for n in range(252))
-        code += b"\x03\x99" + struct.pack(">h", back - len(code) - 1)
-        back = len(code) - 4
     return of_code(code + b"\xb1", 1, 252, int(15 * part), other), VERIFY
+
+
+def kinds_that_rise(part):
+    return rising(part, 3700, 252)
+
+
+def kinds_that_rise_apart(part):
+    return rising(part, 2900, 1)
 
 
 def operands_on_operands(part):
@@ -231,7 +248,9 @@ FILES = {
     "252 locals that hand on objects, verified": objects_handed_on,
     "loops 5,300 deep with 255 locals, verified": nested_loops,
     "loops 5,200 deep around locals that hand on objects, verified": loops_around_objects,
+    "loops that cross around locals that hand on objects, verified": loops_that_cross,
     "kinds that rise as often as they can, verified": kinds_that_rise,
+    "kinds that rise one after the other, verified": kinds_that_rise_apart,
     "65,534 operands on one another, verified": operands_on_operands,
     "5,900 branches under 30,000 operands, verified": branches_under_operands,
     "15 methods of 5,900 branches under 30,000 operands, verified": methods_of_branches,

@@ -1,5 +1,6 @@
 -- The frames that are kept of a method, and what becomes of them.
-use Rattle.std.specs.Prelude.{◌≡◌, ℕ, ◌<◌, ℤ, pos, Bool, true, false, if◌then◌else◌, nat_lt, ◌⊎◌}
+use Rattle.std.specs.Prelude.{◌≡◌, ℕ, suc, ◌<◌, ℤ, pos, Bool, true, false, if◌then◌else◌, nat_lt}
+use Rattle.std.specs.Prelude.{◌⊎◌}
 use Rattle.std.specs.Prelude.{List, [], ◌∷◌, length, map, slice_set, Option, Some, None, Result}
 use Rattle.std.specs.Prelude.{Ok, Err}
 use Rattle.std.specs.Option.{option_map}
@@ -62,6 +63,22 @@ joined course.Calm b = b
 joined (course.Rises m) course.Refused = course.Refused
 joined (course.Rises m) course.Calm = course.Rises m
 joined (course.Rises m) (course.Rises n) = course.Rises (if nat_lt n m then n else m)
+
+-- where the way goes on behind an offset: back to a frame that rose, which stays from then on
+abbrev pub next_after : Course → ℕ → ℕ
+next_after course.Refused at = at
+next_after course.Calm at = suc at
+next_after (course.Rises to) at = if nat_lt (suc at) to then suc at else to
+
+abbrev pub rose_after : Course → Bool → Bool
+rose_after course.Refused again = again
+rose_after course.Calm again = again
+rose_after (course.Rises to) again = true
+
+abbrev pub marks_after : Course → List Bool → List Bool
+marks_after course.Refused marks = marks
+marks_after course.Calm marks = marks
+marks_after (course.Rises to) marks = slice_set marks to true
 
 -- what an act leaves of a frame, where it fits
 abbrev pub IsLeft : List Name → Act → KFrame → Option Left → Type 0

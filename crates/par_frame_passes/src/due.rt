@@ -27,6 +27,8 @@ pub(crate) struct Due {
     floors: Vec<usize>,
     /// The places of those that are to go on.
     places: Ordered,
+    /// None of these places is behind this one.
+    top: usize,
     /// The place of the one that went on last.
     at: usize,
     goes_ahead: bool,
@@ -113,6 +115,7 @@ impl Due {
             ranks,
             floors,
             places: Ordered::none(alloc, spots.len())?,
+            top: 0,
             at: 0,
             goes_ahead: true,
         })
@@ -122,6 +125,7 @@ impl Due {
     pub(crate) fn add(&mut self, number: usize) {
         let rank = number_at(&self.ranks, number);
         self.places.add(rank);
+        self.top = rank.max(self.top);
     }
 
     /// The place that goes on next, where this is the last one.
@@ -151,7 +155,8 @@ impl Due {
 
     /// The piece that goes on next, which is left out, if there is one.
     pub(crate) fn next(&mut self) -> Option<usize> {
-        let last = self.places.last(self.order.len())?;
+        let last = self.places.last(self.top.saturating_add(1))?;
+        self.top = last;
         let place = self.chosen(last);
         self.places.remove(place);
         self.at = place;

@@ -7,11 +7,12 @@ ghost use Rattle.par_frame_passes.specs.Methods.{exc_of, act_in, handler_in, cod
 ghost use Rattle.par_frame_passes.specs.Sweeps.{Kept, Settles};
 ghost use Rattle.par_frame_passes.specs.Tables.{table_of};
 
-use crate::back::{back_offsets, is_marked, mark};
+use crate::back::is_marked;
 use crate::course::Course;
 use crate::guess::guessed;
 use crate::method::Method;
 use crate::spared::{begun_offsets, forget};
+use crate::sweep::Sweep;
 use crate::told_frames::{standing, told};
 use crate::visit::visit;
 use par_base::memory::NoMemory;
@@ -33,31 +34,26 @@ fn least<'f>(
         Settles (exc_of method.now) (act_in method.now) (handler_in method.now)
         (code_in method.now) start found) }
 {
-    let mut back = back_offsets(alloc, method)?;
+    let mut sweep = Sweep::new(alloc, method)?;
     let begun = begun_offsets(alloc, method)?;
     let mut spared: Option<PlaceFrame<'f>> = None;
-    let mut at = 0;
-    let mut again = false;
     // Frames rise seldom enough: the steps never come to an end.
-    for _step in 0..u64::MAX {
+    'steps: while sweep.has_steps() {
+        let at = sweep.at();
         if at >= method.code.code.len() {
-            if !again {
+            if !sweep.rose() {
                 return Ok(true);
             }
-            at = 0;
-            again = false;
+            sweep.begin_again();
             spared = None;
         } else {
             forget(&mut spared, is_marked(&begun, at));
-            match visit(alloc, method, table, &mut spared, at, is_marked(&back, at))? {
+            let course = visit(alloc, method, table, &mut spared, at, sweep.stays())?;
+            sweep.go_on(course);
+            match course {
                 Course::Refused => return Ok(false),
-                Course::Calm => at += 1,
-                Course::Rises(to) => {
-                    mark(&mut back, to);
-                    again = true;
-                    spared = None;
-                    at = to.min(at + 1);
-                }
+                Course::Calm => {}
+                Course::Rises(_) => spared = None,
             }
         }
     }

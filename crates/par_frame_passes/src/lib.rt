@@ -20,6 +20,7 @@ mod outcome;
 mod piece;
 mod spared;
 mod spots;
+mod sweep;
 mod table;
 mod told_frames;
 mod visit;

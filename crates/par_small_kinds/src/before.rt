@@ -187,16 +187,14 @@ impl Before {
     /// Lets what rose of so many places come, but those locals that an effect sets.
     fn keep(&mut self, from: &Before, places: usize, effect: Option<&Effect>, bits: usize) {
         let mut rose = 0;
-        for (nth, block) in self.blocks.iter_mut().enumerate() {
-            let Some(other) = from.blocks.get(nth) else {
-                break;
-            };
-            let kept = match effect {
-                Some(effect) => other.risen & effect.kept(nth),
-                None => other.risen,
-            };
-            if kept != 0 {
-                let kept = kept & bits_below(places, nth.saturating_mul(PLACES));
+        for (nth, other) in from.blocks.iter().enumerate() {
+            if other.risen != 0 && nth < self.blocks.len() {
+                let below = bits_below(places, nth.saturating_mul(PLACES));
+                let kept = match effect {
+                    Some(effect) => other.risen & below & effect.kept(nth),
+                    None => other.risen & below,
+                };
+                let block = &mut self.blocks[nth];
                 let risen = block.kinds.come(&other.kinds, kept, bits);
                 block.risen |= risen;
                 rose |= risen;
@@ -228,6 +226,10 @@ impl Before {
 
     /// Lets come what goes on by an effect, where classes have numbers of so many bits.
     pub fn follow(&mut self, from: &Before, effect: &Effect, bits: usize) {
+        if effect.is_nothing() {
+            self.keep(from, from.places, None, bits);
+            return;
+        }
         let left = from.left_by(effect);
         self.keep(from, left, Some(effect), bits);
         self.set(from, effect, bits);

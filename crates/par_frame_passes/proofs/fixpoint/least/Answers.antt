@@ -1,99 +1,108 @@
-use Rattle.std.proofs.Common.{false, get_or, ap, arith, refl, ◌∙◌}
+use Rattle.std.proofs.Common.{◌≡◌, ◌+◌, ◌<◌, false, length, get_or, ap, arith, refl, sym, ◌∙◌}
+use Rattle.std.proofs.Common.{add-one}
 use Rattle.std.specs.Option.{option_map}
 use Rattle.par_frame_steps.specs.Marks.{frame_of}
 use Rattle.par_frame_passes.specs.Methods.{exc_of, act_in, handler_in, code_in}
 use Rattle.par_frame_passes.specs.Tables.{table_of}
 use Rattle.par_frame_passes.proofs.Sparing.{spares-here, spares-on, spares-none}
-use Rattle.par_frame_passes.proofs.Visits.{swept-none, swept-all, gone-anew, gone-calm, gone-back}
+use Rattle.par_frame_passes.proofs.Visits.{swept-all, gone-anew, gone-calm, gone-back}
 use Rattle.par_frame_passes.proofs.fixpoint.least.Goals as goal
-use Rattle.par_frame_passes.proofs.fixpoint.least.Goals.{then-at-len+else-not-again}
-use Rattle.par_frame_passes.proofs.fixpoint.least.Goals.{else-at-len+in_ok-visit+in-Calm}
-use Rattle.par_frame_passes.proofs.fixpoint.least.Goals.{else-at-len+in_ok-visit+in-Rises}
 
-pub loop-step-init : goal.loop-step-init
-loop-step-init c =
+pub steps-init : goal.steps-init
+steps-init c =
     let m = c.args.method.now in
     λ start told kept. (
-      (
-        kept,
-        λ none. swept-none (exc_of m) (act_in m) (handler_in m) (code_in m) start
-            (table_of c.args.table.now),
-      ),
+      gone-anew (exc_of m) (act_in m) (handler_in m) (code_in m) start
+          (table_of c.args.table.now) _ c.in_ok-sweep.sweep.again c.in_ok-sweep.sweep.at refl
+          c.in_ok-sweep.ensures.at kept,
       tt,
     )
 
-pub returns-then-not-again : goal.returns-then-not-again
-returns-then-not-again c =
+pub returns-then-not-rose : goal.returns-then-not-rose
+returns-then-not-rose c =
     let m = c.args.method.now in
     λ start first told begins kept.
-    let gone = (c.loop-step.invariant start told kept).0 in
-    swept-all (exc_of m) (act_in m) (handler_in m) (code_in m) start (table_of c.loop-step.table)
-    c.loop-step.at first begins gone.0 (omega (arith, c.if-at-len.true, c.len.ensures))
-    (gone.1 c.if-not-again.true)
+    let gone = (c.steps.invariant start told kept).0 in
+    swept-all (exc_of m) (act_in m) (handler_in m) (code_in m) start
+    (table_of c.steps.table) c.steps.sweep.at first begins gone.0
+    (omega (arith, c.if-at-len.true, c.len.ensures, c.at-at.ensures))
+    (gone.1 (sym c.rose.ensures ∙ c.if-not-rose.true))
+
+pub steps-preserved-then-at-len : goal.steps-preserved-then-at-len
+steps-preserved-then-at-len c =
+    let m = c.args.method.now in
+    λ start told kept. (
+      gone-anew (exc_of m) (act_in m) (handler_in m) (code_in m) start
+          (table_of c.steps.table) _ c.begin_again.new.self.again c.begin_again.new.self.at
+          refl c.begin_again.ensures.at (c.steps.invariant start told kept).0.0,
+      tt,
+    )
 
 pub returns-in-Refused : goal.returns-in-Refused
 returns-in-Refused c =
     let m = c.args.method.now in
-    let visited = rw c.in-Refused.is at c.in_ok-visit.ensures.visited in
+    let placed = rw c.in-Refused.is at c.in_ok-course.ensures.visited in
+    let visited = rw c.at-at.ensures at placed in
     λ start first told begins kept.
-    let before = c.loop-step.invariant start told kept in
+    let before = c.steps.invariant start told kept in
     visited start told
-    (spares-here (exc_of m) (act_in m) (handler_in m) (code_in m) c.loop-step.at
-    (table_of c.loop-step.table) (option_map frame_of c.loop-step.spared) _ _ _ _
-    c.in_ok-begun.ensures (omega (arith, c.if-at-len.false, c.len.ensures))
-    (c.is_marked.ensures ∙ ap (λ marks. get_or marks c.loop-step.at false) c.deref.ensures.value)
+    (spares-here (exc_of m) (act_in m) (handler_in m) (code_in m) c.steps.sweep.at
+    (table_of c.steps.table) (option_map frame_of c.steps.spared) _ _ _ _
+    c.in_ok-begun.ensures (omega (arith, c.if-at-len.false, c.len.ensures, c.at-at.ensures))
+    (c.is_marked.ensures
+    ∙ (ap (λ marks. get_or marks c.at-at.result false) c.deref.ensures.value
+    ∙ ap (λ n. get_or c.in_ok-begun.begun.items n false) c.at-at.ensures))
     c.forget.ensures before.1)
     before.0.0
 
-pub loop-step-preserved : goal.loop-step-preserved
-loop-step-preserved c =
+pub steps-preserved-in-Calm : goal.steps-preserved-in-Calm
+steps-preserved-in-Calm c =
     let m = c.args.method.now in
-    elim c.if-at-len.branch [
-      | then-at-len+else-not-again w ↦
-          λ start told kept. (
-            gone-anew (exc_of m) (act_in m) (handler_in m) (code_in m) start
-                (table_of c.loop-step.table) _ _ _ (ap table_of w.table-is) w.at-is
-                (c.loop-step.invariant start told kept).0.0,
-            spares-none (exc_of m) (act_in m) (handler_in m) (code_in m) _ _ _
-                (ap (option_map frame_of) w.spared-is),
-          )
-      | else-at-len+in_ok-visit+in-Calm w ↦
-          let visited = rw w.in-Calm.is at w.in_ok-visit.ensures.visited in
-          let spared = rw w.in-Calm.is at w.in_ok-visit.ensures.spared in
-          λ start told kept.
-          let before = c.loop-step.invariant start told kept in
-          let here =
-          spares-here (exc_of m) (act_in m) (handler_in m) (code_in m) c.loop-step.at
-          (table_of c.loop-step.table) (option_map frame_of c.loop-step.spared) _ _ _ _
-          c.in_ok-begun.ensures (omega (arith, w.if-at-len.false, c.len.ensures))
-          (w.is_marked.ensures
-          ∙ ap (λ marks. get_or marks c.loop-step.at false) w.deref.ensures.value)
-          w.forget.ensures before.1 in (
-            gone-calm (exc_of m) (act_in m) (handler_in m) (code_in m) start
-                (table_of c.loop-step.table) (table_of w.visit.new.table) _ c.loop-step.again _
-                c.loop-step.at _
-                (visited start told here) (ap table_of w.table-is) w.again-is w.at-is before.0,
-            spares-on (exc_of m) (act_in m) (handler_in m) (code_in m) c.loop-step.at _
-                (table_of w.visit.new.table) _ (option_map frame_of w.visit.new.spared) _
-                (ap table_of w.table-is) (ap (option_map frame_of) w.spared-is) w.at-is
-                (spared start told here before.0.0 refl),
-          )
-      | else-at-len+in_ok-visit+in-Rises w ↦
-          let visited = rw w.in-Rises.is at w.in_ok-visit.ensures.visited in
-          λ start told kept.
-          let before = c.loop-step.invariant start told kept in
-          let here =
-          spares-here (exc_of m) (act_in m) (handler_in m) (code_in m) c.loop-step.at
-          (table_of c.loop-step.table) (option_map frame_of c.loop-step.spared) _ _ _ _
-          c.in_ok-begun.ensures (omega (arith, w.if-at-len.false, c.len.ensures))
-          (w.is_marked.ensures
-          ∙ ap (λ marks. get_or marks c.loop-step.at false) w.deref.ensures.value)
-          w.forget.ensures before.1 in (
-            gone-back (exc_of m) (act_in m) (handler_in m) (code_in m) start
-                (table_of c.loop-step.table) (table_of w.visit.new.table) _ c.loop-step.again _
-                c.loop-step.at _ 0
-                (visited start told here) (ap table_of w.table-is) w.again-is before.0,
-            spares-none (exc_of m) (act_in m) (handler_in m) (code_in m) _ _ _
-                (ap (option_map frame_of) w.spared-is),
-          )
-    ]
+    let inside : c.steps.sweep.at < length (code_in m).code =
+    omega (arith, c.if-at-len.false, c.len.ensures, c.at-at.ensures) in
+    let next : c.go_on.new.self.at ≡ c.steps.sweep.at + 1 =
+    rw c.in-Calm.is at c.go_on.ensures.at ∙ sym (add-one c.steps.sweep.at) in
+    let placed = rw c.in-Calm.is at c.in_ok-course.ensures.visited in
+    let visited = rw c.at-at.ensures at placed in
+    let apart = rw c.in-Calm.is at c.in_ok-course.ensures.spared in
+    let spared = rw c.at-at.ensures at apart in
+    λ start told kept.
+    let before = c.steps.invariant start told kept in
+    let here =
+    spares-here (exc_of m) (act_in m) (handler_in m) (code_in m) c.steps.sweep.at
+    (table_of c.steps.table) (option_map frame_of c.steps.spared) _ _ _ _
+    c.in_ok-begun.ensures inside
+    (c.is_marked.ensures
+    ∙ (ap (λ marks. get_or marks c.at-at.result false) c.deref.ensures.value
+    ∙ ap (λ n. get_or c.in_ok-begun.begun.items n false) c.at-at.ensures))
+    c.forget.ensures before.1 in (
+      gone-calm (exc_of m) (act_in m) (handler_in m) (code_in m) start
+          (table_of c.steps.table) (table_of c.visit.new.table) _ c.steps.sweep.again _
+          c.steps.sweep.at _ (visited start told here) refl
+          (rw c.in-Calm.is at c.go_on.ensures.again) next before.0,
+      spares-on (exc_of m) (act_in m) (handler_in m) (code_in m) c.steps.sweep.at _
+          (table_of c.visit.new.table) _ (option_map frame_of c.visit.new.spared) _ refl refl
+          next (spared start told here before.0.0 refl),
+    )
+
+pub steps-preserved : goal.steps-preserved
+steps-preserved c =
+    let m = c.args.method.now in
+    let placed = rw c.in-Rises.is at c.in_ok-course.ensures.visited in
+    let visited = rw c.at-at.ensures at placed in
+    λ start told kept.
+    let before = c.steps.invariant start told kept in
+    let here =
+    spares-here (exc_of m) (act_in m) (handler_in m) (code_in m) c.steps.sweep.at
+    (table_of c.steps.table) (option_map frame_of c.steps.spared) _ _ _ _
+    c.in_ok-begun.ensures (omega (arith, c.if-at-len.false, c.len.ensures, c.at-at.ensures))
+    (c.is_marked.ensures
+    ∙ (ap (λ marks. get_or marks c.at-at.result false) c.deref.ensures.value
+    ∙ ap (λ n. get_or c.in_ok-begun.begun.items n false) c.at-at.ensures))
+    c.forget.ensures before.1 in (
+      gone-back (exc_of m) (act_in m) (handler_in m) (code_in m) start
+          (table_of c.steps.table) (table_of c.visit.new.table) _ c.steps.sweep.again _
+          c.steps.sweep.at _ 0 (visited start told here) refl
+          (rw c.in-Rises.is at c.go_on.ensures.again) before.0,
+      tt,
+    )

@@ -10,14 +10,18 @@ use Rattle.par_frame_passes.proofs.fixpoint.least.Given as goal
 
 -- The table is kept, and where nothing rose on this way so far it was gone through. The handlers
 -- around the offset before have met the frame that is spared.
-abbrev pub invariant-loop-step : goal.invariant-loop-step
-invariant-loop-step l =
+abbrev pub invariant-steps : goal.invariant-steps
+invariant-steps l =
     (start : Given) → IsToldOf l.method start →
     Kept (exc_of l.method) (act_in l.method) (handler_in l.method) (code_in l.method) start
     (table_of l.initial.table) →
     (Kept (exc_of l.method) (act_in l.method) (handler_in l.method) (code_in l.method) start
     (table_of l.table)
-    × (l.again ≡ false → Swept (exc_of l.method) (act_in l.method) (handler_in l.method)
-    (code_in l.method) start (table_of l.table) l.at))
+    × (l.sweep.again ≡ false → Swept (exc_of l.method) (act_in l.method) (handler_in l.method)
+    (code_in l.method) start (table_of l.table) l.sweep.at))
     × SparesBehind (exc_of l.method) (act_in l.method) (handler_in l.method) (code_in l.method)
-    l.at (table_of l.table) (option_map frame_of l.spared)
+    l.sweep.at (table_of l.table) (option_map frame_of l.spared)
+
+-- each step is counted
+abbrev pub decreases-steps : goal.decreases-steps
+decreases-steps l = l.sweep.left
