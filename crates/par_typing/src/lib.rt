@@ -9,4 +9,4 @@ mod error;
 mod program;
 
 pub use error::TypeError;
-pub use program::type_program;
+pub use program::{type_known, type_program};

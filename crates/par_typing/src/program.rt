@@ -46,8 +46,10 @@ fn known_of(alloc: Global, program: &Program) -> Result<Known<'_>, NoMemory>
 fn bodies_of<'a>(
     alloc: Global,
     table: &'a Table,
+    known: Known<'a>,
     program: &'a Program,
 ) -> Result<List<TBody>, NoMemory>
+    requires known { known_seen known ≡ policies.known (source program.now) }
     requires named { all_faults (source program.now) ≡ [] }
     requires tabled { table.now ≡ table_of (source program.now) }
     requires numbers { SourceHasNumbers (source program.now) }
@@ -55,7 +57,6 @@ fn bodies_of<'a>(
     ensures { IfOk result (λ found. bodies found
         ≡ typed_program (written (source program.now)) table.now (source program.now)) }
 {
-    let known = known_of(alloc, program)?;
     let numbering = Numbering::of(known, table.policies.as_slice());
     type_bodies(alloc, table, program, &numbering)
 }
@@ -73,9 +74,15 @@ fn first_broken(
     check_bodies(alloc, table, program)
 }
 
-/// The typed program over this table, exactly where no rule on types is broken. It is well typed,
-/// and its table is well declared. A refusal drops the table.
-pub fn type_program(alloc: Global, table: Table, program: &Program) -> Result<Typed, TypeError>
+/// The typed program over this table, exactly where no rule on types is broken, by what is known of
+/// the program. It is well typed, and its table is well declared. A refusal drops the table.
+pub fn type_known(
+    alloc: Global,
+    table: Table,
+    known: Known<'_>,
+    program: &Program,
+) -> Result<Typed, TypeError>
+    requires known { known_seen known ≡ policies.known (source program.now) }
     requires named { all_faults (source program.now) ≡ [] }
     requires tabled { table ≡ table_of (source program.now) }
     requires numbers { SourceHasNumbers (source program.now) }
@@ -89,8 +96,24 @@ pub fn type_program(alloc: Global, table: Table, program: &Program) -> Result<Ty
     match first_broken(alloc, &table, program)? {
         Some(refusal) => Err(TypeError::Broken(refusal)),
         None => {
-            let bodies = bodies_of(alloc, &table, program)?;
+            let bodies = bodies_of(alloc, &table, known, program)?;
             Ok(Typed { table, bodies })
         }
     }
+}
+
+/// The same, where nothing is known of the program yet.
+pub fn type_program(alloc: Global, table: Table, program: &Program) -> Result<Typed, TypeError>
+    requires named { all_faults (source program.now) ≡ [] }
+    requires tabled { table ≡ table_of (source program.now) }
+    requires numbers { SourceHasNumbers (source program.now) }
+    requires ordered { IsInOrder (source program.now) }
+    requires texts { source_texts (source program.now) ≤ LONGEST_SOURCE }
+    ensures typed { IfOk result (IsTyped table (source program.now)) }
+    ensures well_typed { IfOk result (λ typed. IsWellTyped typed.table (bodies typed.bodies)) }
+    ensures well_declared { IfOk result (λ typed. IsWellDeclared typed.table) }
+    ensures refused { IfErr result (IsRefused (type_faults table (source program.now))) }
+{
+    let known = known_of(alloc, program)?;
+    type_known(alloc, table, known, program)
 }

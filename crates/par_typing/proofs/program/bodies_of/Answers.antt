@@ -37,8 +37,8 @@ type_bodies-requires c =
 pub returns : goal.returns
 returns c =
     let policies = c.as_slice.ensures ∙ ap (λ t. t.policies) c.requires.tabled in
-    let numbered = c.of-numbering.ensures ∙ written_is c.in_ok-known.known c.as_slice.result.now
-    (source c.args.program.now) c.in_ok-known.ensures policies in
+    let numbered = c.of-numbering.ensures ∙ written_is c.args.known c.as_slice.result.now
+    (source c.args.program.now) c.requires.known policies in
     subst
     (λ w. IfOk c.type_bodies.result (IsMadeBy c.args.table.now (source c.args.program.now) w))
     numbered c.type_bodies.ensures
