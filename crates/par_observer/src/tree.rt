@@ -4,7 +4,9 @@ ghost use Rattle.std.specs.Prelude.{◌≡◌, ◌≤◌, [], None, IfOk, IfErr,
 ghost use Rattle.std.specs.List.{AllByRecursion};
 ghost use Rattle.par_tree.specs.Shown.{source as tree_of_program};
 ghost use Rattle.par_parser.specs.Bodies.{source_size};
+ghost use Rattle.par_resolved.specs.Policies.{known};
 ghost use Rattle.par_resolved.specs.Resolved.{table_of};
+ghost use Rattle.par_resolved.specs.Seen.{known_seen};
 ghost use Rattle.par_table.specs.par_faults.Faults.{all_faults};
 ghost use Rattle.par_source_laws.specs.Numbers.{SourceHasNumbers};
 ghost use Rattle.par_source_laws.specs.Order.{IsInOrder};
@@ -26,12 +28,11 @@ ghost use Rattle.par_check.specs.par_flow.Table.{facts_in};
 use crate::error::JudgeError;
 use par_check::{Accepted, CheckError, check, verdict};
 use par_lexer::LONGEST_SOURCE;
-use par_table::{NameError, build};
+use par_table::{Built, NameError, build_known};
 use par_tree::decl::Program as Tree;
 use par_type_rules::first_inferred;
 use par_typed::program::Typed;
-use par_typed::table::Table;
-use par_typing::{TypeError, type_program};
+use par_typing::{TypeError, type_known};
 use std::alloc::Global;
 
 /// What is said of a source with this tree.
@@ -170,8 +171,8 @@ fn typed_tree(alloc: Global, tree: &Tree) -> Result<Typed, JudgeError>
     ensures well_declared { IfOk result (λ typed. IsWellDeclared typed.table) }
     ensures refused { IfErr result (IsTreeUntyped (tree_of_program tree.now)) }
 {
-    let table = table_of(alloc, tree)?;
-    match type_program(alloc, table, tree) {
+    let Built { table, known } = built_of(alloc, tree)?;
+    match type_known(alloc, table, known, tree) {
         Ok(typed) => Ok(typed),
         Err(error) => match error {
             TypeError::Broken(refusal) => Err(JudgeError::Refused(refusal)),
@@ -180,15 +181,17 @@ fn typed_tree(alloc: Global, tree: &Tree) -> Result<Typed, JudgeError>
     }
 }
 
-/// The table of a tree that breaks no rule on names and exceeds no limit.
-fn table_of(alloc: Global, tree: &Tree) -> Result<Table, JudgeError>
+/// The table of a tree that breaks no rule on names and exceeds no limit, and what is known of it.
+fn built_of(alloc: Global, tree: &Tree) -> Result<Built<'_>, JudgeError>
     requires { source_size (tree_of_program tree.now) ≤ LONGEST_SOURCE }
-    ensures right { IfOk result (λ table. all_faults (tree_of_program tree.now) ≡ []) }
-    ensures table { IfOk result (λ table. table ≡ table_of (tree_of_program tree.now)) }
+    ensures right { OnOk result (all_faults (tree_of_program tree.now) ≡ []) }
+    ensures table { IfOk result (λ built. built.table ≡ table_of (tree_of_program tree.now)) }
+    ensures known { IfOk result (λ built.
+        known_seen built.known ≡ known (tree_of_program tree.now)) }
     ensures refused { IfErr result (IsTreeUntyped (tree_of_program tree.now)) }
 {
-    match build(alloc, tree) {
-        Ok(table) => Ok(table),
+    match build_known(alloc, tree) {
+        Ok(built) => Ok(built),
         Err(error) => match error {
             NameError::Broken(refusal) => Err(JudgeError::Refused(refusal)),
             NameError::Memory => Err(JudgeError::Memory),

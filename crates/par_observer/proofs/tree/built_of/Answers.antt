@@ -1,7 +1,7 @@
 use Rattle.std.proofs.Common.{Err, ap}
 use Rattle.par_tree.specs.Shown.{source as tree_of_program}
 use Rattle.par_observer.proofs.Passing.{names_stop}
-use Rattle.par_observer.proofs.tree.table_of.Goals as goal
+use Rattle.par_observer.proofs.tree.built_of.Goals as goal
 
 pub returns-in-Broken-clause-refused : goal.returns-in-Broken-clause-refused
 returns-in-Broken-clause-refused c =
