@@ -10,7 +10,6 @@ ghost use Rattle.par_tool.specs.Given.{Misfits, IsGiven, IsUngiven};
 
 use crate::answer::Answer;
 use crate::reads::{Failure, read};
-use par_inputs::error::BadInput;
 use par_inputs::{LONGEST_INPUTS, line_of_entry, read_inputs};
 use par_io::Folder;
 use par_values::inputs::Inputs;
@@ -41,8 +40,7 @@ pub fn input_file<F: Folder>(
     let text = read(alloc, folder, name, LONGEST_INPUTS as u64)?;
     match read_inputs(alloc, text.as_slice()) {
         Ok(inputs) => Ok(InputFile { text, inputs }),
-        Err(BadInput::Line(line)) => Err(Failure::Answered(Answer::BadInputs(line))),
-        Err(BadInput::Memory) => Err(Failure::Memory),
+        Err(bad) => Err(Failure::from(bad)),
     }
 }
 

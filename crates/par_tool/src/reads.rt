@@ -3,10 +3,12 @@
 ghost use Rattle.std.specs.Prelude.{◌≡◌, ◌≤◌, IsTrue, IfOk, IfErr, length};
 ghost use Rattle.par_io.specs.Causes.{Makes, NoneFalls};
 ghost use Rattle.par_tool.specs.Outside.{WasRead, NotRead};
-ghost use Rattle.par_tool.specs.Failures.{IsFailure, FaultsAreTold, failure_of, failure_for};
+ghost use Rattle.par_tool.specs.Failures.{IsFailure, FaultsAreTold};
+ghost use Rattle.par_tool.specs.Failures.{failure_by, failure_for, failure_in, failure_of};
 ghost use Rattle.par_tool.specs.declared.reads.Failure.TheVariants.{Memory};
 
 use crate::answer::Answer;
+use par_inputs::error::BadInput;
 use par_io::{Folder, ReadFail};
 use par_lexer::memory::NoMemory;
 use par_loader::Unloaded;
@@ -35,6 +37,30 @@ impl From<AllocError> for Failure {
 
     fn from(_: AllocError) -> Failure {
         Failure::Memory
+    }
+}
+
+impl From<ReadFail> for Failure {
+    ghost from_gives = { λ fail e. e ≡ failure_by fail };
+
+    fn from(fail: ReadFail) -> Failure {
+        match fail {
+            ReadFail::Absent => Failure::Answered(Answer::Absent),
+            ReadFail::TooLong => Failure::Answered(Answer::TooLong),
+            ReadFail::Failed => Failure::Answered(Answer::ReadFault),
+            ReadFail::Memory => Failure::Memory,
+        }
+    }
+}
+
+impl From<BadInput> for Failure {
+    ghost from_gives = { λ bad e. e ≡ failure_in bad };
+
+    fn from(bad: BadInput) -> Failure {
+        match bad {
+            BadInput::Line(line) => Failure::Answered(Answer::BadInputs(line)),
+            BadInput::Memory => Failure::Memory,
+        }
     }
 }
 
@@ -90,9 +116,6 @@ pub fn read<F: Folder>(
 {
     match folder.read(alloc, name, limit) {
         Ok(bytes) => Ok(bytes),
-        Err(ReadFail::Absent) => Err(Failure::Answered(Answer::Absent)),
-        Err(ReadFail::TooLong) => Err(Failure::Answered(Answer::TooLong)),
-        Err(ReadFail::Failed) => Err(Failure::Answered(Answer::ReadFault)),
-        Err(ReadFail::Memory) => Err(Failure::Memory),
+        Err(fail) => Err(Failure::from(fail)),
     }
 }
