@@ -11,6 +11,7 @@ pub mod Alone
 pub mod Walks
 pub mod Blocks
 pub mod Leads
+pub mod Calls
 pub mod Firsts
 pub mod Envs
 pub mod Locks

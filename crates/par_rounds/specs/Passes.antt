@@ -5,11 +5,12 @@ use Rattle.par_bits.specs.Sets.{Set, has}
 use Rattle.par_flow_laws.specs.Kinds.{Kind, Normal}
 use Rattle.par_flow_laws.specs.Ranges.{IsFromInRange, IsWorthInRange}
 use Rattle.par_flow_laws.specs.Rules.{Node, node, Rules, Done, Part, Test, Heads, Leaves, Worths}
-use Rattle.par_flow_laws.specs.Rules.{Entry, spot}
-use Rattle.par_flow_laws.specs.Body.{stas}
+use Rattle.par_flow_laws.specs.Rules.{From, Entry, spot}
+use Rattle.par_flow_laws.specs.Body.{args, stas}
 use Rattle.par_flow_laws.specs.Declares.{Declares}
 use Rattle.par_typed.specs.declared.stmt.TStmt.{TStmt}
-use Rattle.par_typed.specs.Shown.{all_do}
+use Rattle.par_typed.specs.Shown.{all_do, all_shown}
+use Rattle.par_typed.specs.declared.expr.TExpr.{TExpr}
 use Rattle.par_nodes.specs.Starts.{start_at}
 use Rattle.par_pass_laws.specs.par_except.declared.way.Way.{Way}
 use Rattle.par_pass_laws.specs.par_except.Seen.{may_see, seen, HasLocals}
@@ -109,3 +110,27 @@ pub record IsAlong (d : Declares) (h : HeadWays) (w : Way) (hs : List (Option Wa
   pub goes : (r : Found) (o : Notes)
       → GoesOn h (stas d (start_at place Entry) (all_do (drop place ss))) (seen w) so n r o
       → GoesOn h (stas d Entry (all_do ss)) (seen w) first m r o
+
+-- what has been passed by these rules leads on to what follows them
+pub record IsLed (h : HeadWays) (w : Way) (hs : List (Option Way)) (f : Rules → Rules)
+    (so to : SoFar) (m n : Notes) : Type 0 where
+  pub ready : IsReady w hs n
+  pub so_far : IsSoFar n to
+  pub rules : (rs : Rules) → ArePassable m.locals (length m.heads.items) rs
+      → ArePassable n.locals (length n.heads.items) rs
+  pub goes : (more : Rules) (r : Found) (o : Notes) → GoesOn h more (seen w) to n r o
+      → GoesOn h (f more) (seen w) so m r o
+
+-- the arguments before the place have been passed, and the others follow
+pub record AreArgsAlong (d : Declares) (h : HeadWays) (w : Way) (hs : List (Option Way)) (from : From)
+    (es : List TExpr) (place : ℕ) (first so : SoFar) (m n : Notes) : Type 0 where
+  pub ready : IsReady w hs n
+  pub so_far : IsSoFar n so
+  pub same : (rs : Rules) → ArePassable m.locals (length m.heads.items) rs
+      → ArePassable n.locals (length n.heads.items) rs
+  pub last : Rules
+  pub needs : ArePassable n.locals (length n.heads.items)
+      (args d (start_at place from) (all_shown (drop place es)) last)
+  pub goes : (more : Rules) (r : Found) (o : Notes)
+      → GoesOn h (args d (start_at place from) (all_shown (drop place es)) more) (seen w) so n r o
+      → GoesOn h (args d from (all_shown es) more) (seen w) first m r o

@@ -1,20 +1,21 @@
 // One pass over an expression.
 ghost use Rattle.std.specs.Prelude.{◌≡◌, ℕ, [], OnOk, IfOk, IfSome, Some, length};
 ghost use Rattle.par_bits.specs.Sets.{has};
-ghost use Rattle.par_typed.specs.Shown.{shown};
+ghost use Rattle.par_typed.specs.Shown.{all_shown, receiver, shown};
 ghost use Rattle.par_flow_laws.specs.Body as body;
 ghost use Rattle.par_flow_laws.specs.Declares.{declares};
 ghost use Rattle.par_flow_laws.specs.Kinds.{absorbed, Next};
 ghost use Rattle.par_flow_laws.specs.Lattice.{numbers};
 ghost use Rattle.par_flow_laws.specs.Ranges.{IsFromInRange, IsWorthInRange};
 ghost use Rattle.par_flow_laws.specs.Rules.{node, Entry, Done, Worths, goes_on, spot};
-ghost use Rattle.par_flow_laws.specs.Rules.{way as way_from};
-ghost use Rattle.par_nodes.specs.Seen.{seen_origin, seen_worth};
+ghost use Rattle.par_flow_laws.specs.Rules.{Rules as Listed, way as way_from};
+ghost use Rattle.par_nodes.specs.Seen.{seen_origin, seen_start, seen_worth};
+ghost use Rattle.par_nodes.specs.Starts.{behind};
 ghost use Rattle.par_pass_laws.specs.par_except.Seen.{may_see, seen, HasLocals, MayHaveLocals};
 ghost use Rattle.par_pass_laws.specs.Exits.{Way};
 ghost use Rattle.par_pass_laws.specs.Pass.{HeadWays, pass, visited};
 ghost use Rattle.par_rounds.specs.Seen.{latest_first, ways_of, AreHeadsWide};
-ghost use Rattle.par_rounds.specs.Passes.{left_as, within, GoesOn, Passed, TookPart};
+ghost use Rattle.par_rounds.specs.Passes.{left_as, within, GoesOn, IsLed, Passed, TookPart};
 ghost use Rattle.par_rounds.specs.Passes.{IsPassable, ArePassable, IsReady, IsSoFar};
 
 use crate::changes::{way_at, worth_at};
@@ -25,7 +26,7 @@ use crate::way::SharedWay;
 use par_atoms::Atoms;
 use par_base::memory::NoMemory;
 use par_nodes::make::{ENTRY, PAST};
-use par_nodes::rule::{Absorber, Kind, Origin, Rules, Worth};
+use par_nodes::rule::{Absorber, Kind, Origin, Rules, Start, Worth};
 use par_nodes::{declared, expr as rules};
 use par_typed::expr::{TExpr, TExprKind};
 use par_typed::table::Table;
@@ -197,12 +198,87 @@ fn parts(
             pass_rules(alloc, &rest, way, heads, so, notes)?;
             Ok(())
         }
+        TExprKind::Call(class, method, of, arguments) => {
+            receiver(alloc, table, of, way, heads, so, notes)?;
+            let arguments = arguments.as_slice();
+            args(
+                alloc,
+                table,
+                rules::call_start(of),
+                arguments,
+                way,
+                heads,
+                so,
+                notes,
+            )?;
+            let rest = rules::call_does(alloc, table, *class, *method, of, arguments)?;
+            pass_rules(alloc, &rest.rules, way, heads, so, notes)?;
+            Ok(())
+        }
         _ => {
             let known = rules::exp(alloc, table, e)?;
             pass_rules(alloc, &known.node.rules, way, heads, so, notes)?;
             Ok(())
         }
     }
+}
+
+// The receiver of a call, if it has one.
+#[cycle(exp)]
+fn receiver(
+    alloc: Global,
+    table: &Table,
+    of: &Option<Box<TExpr>>,
+    way: &SharedWay,
+    heads: &[Option<SharedWay>],
+    so: &mut SoFar,
+    notes: &mut Notes,
+) -> Result<(), NoMemory>
+    requires ready { IsReady way.now heads.now notes.old }
+    requires so_far { IsSoFar notes.old so.old }
+    requires rules { (more : Listed) × ArePassable notes.old.locals (length notes.old.heads.items)
+        (behind (declares table.now) (receiver of.now) more) }
+    ensures { OnOk result (IsLed (ways_of heads.now) way.now heads.now
+        (behind (declares table.now) (receiver of.now)) so.old so.new notes.old notes.new) }
+{
+    match of {
+        None => Ok(()),
+        Some(of) => {
+            operand(alloc, table, of, &ENTRY, way, heads, so, notes)?;
+            Ok(())
+        }
+    }
+}
+
+// The arguments of a call, of which the first is entered from there.
+#[cycle(exp)]
+fn args(
+    alloc: Global,
+    table: &Table,
+    from: Start,
+    arguments: &[TExpr],
+    way: &SharedWay,
+    heads: &[Option<SharedWay>],
+    so: &mut SoFar,
+    notes: &mut Notes,
+) -> Result<(), NoMemory>
+    requires ready { IsReady way.now heads.now notes.old }
+    requires so_far { IsSoFar notes.old so.old }
+    requires start { IsFromInRange notes.old.locals (seen_start from) }
+    requires rules { (more : Listed) × ArePassable notes.old.locals (length notes.old.heads.items)
+        (body.args (declares table.now) (seen_start from) (all_shown arguments.now) more) }
+    ensures { OnOk result (IsLed (ways_of heads.now) way.now heads.now
+        (body.args (declares table.now) (seen_start from) (all_shown arguments.now))
+        so.old so.new notes.old notes.new) }
+{
+    for (place, argument) in arguments.iter().enumerate() {
+        let from = Origin {
+            start: rules::start_at(place, from),
+            ..ENTRY
+        };
+        operand(alloc, table, argument, &from, way, heads, so, notes)?;
+    }
+    Ok(())
 }
 
 /// Goes through a part that is an expression and is entered from there.

@@ -4,12 +4,13 @@ ghost use Rattle.par_nodes.specs.Starts.{else_rules, goes_first};
 ghost use Rattle.par_typed.specs.Shown.{all_do, does, otherwise, shown};
 ghost use Rattle.par_flow_laws.specs.Body as body;
 ghost use Rattle.par_flow_laws.specs.Declares.{declares};
-ghost use Rattle.par_flow_laws.specs.Kinds.{absorbed, normal};
+ghost use Rattle.par_flow_laws.specs.Kinds.{absorbed, normal, Next};
 ghost use Rattle.par_flow_laws.specs.Lattice.{numbers};
 ghost use Rattle.par_flow_laws.specs.Ranges.{IsFromInRange};
-ghost use Rattle.par_flow_laws.specs.Rules.{Entry, goes_on, spot, way as way_from};
+ghost use Rattle.par_flow_laws.specs.Rules.{Entry, Done, Part, goes_on, spot};
+ghost use Rattle.par_flow_laws.specs.Rules.{way as way_from};
 ghost use Rattle.par_flow_laws.specs.Rules.{Rules as Listed};
-ghost use Rattle.par_nodes.specs.Seen.{seen_absorber, seen_origin};
+ghost use Rattle.par_nodes.specs.Seen.{seen_absorber, seen_origin, assigned as written};
 ghost use Rattle.par_pass_laws.specs.par_except.Seen.{may_see, seen, MayHaveLocals};
 ghost use Rattle.par_pass_laws.specs.Pass.{HeadWays, pass, visited};
 ghost use Rattle.par_rounds.specs.Seen.{latest_first, ways_of, AreFactsWide, AreHeadsWide, AreWide};
@@ -32,6 +33,34 @@ use par_typed::expr::TExpr;
 use par_typed::stmt::{TStmt, TStmtKind};
 use par_typed::table::Table;
 use std::alloc::Global;
+
+// An expression, whose value may go into a local, and nothing else.
+fn ends(
+    alloc: Global,
+    table: &Table,
+    value: &TExpr,
+    assigned: Option<(u16, usize)>,
+    way: &SharedWay,
+    heads: &[Option<SharedWay>],
+    so: &mut SoFar,
+    notes: &mut Notes,
+) -> Result<(), NoMemory>
+    requires ready { IsReady way.now heads.now notes.old }
+    requires so_far { IsSoFar notes.old so.old }
+    requires rules { ArePassable notes.old.locals (length notes.old.heads.items)
+        (Part Entry Next (body.exp (declares table.now) (shown value.now))
+        (goes_on (written assigned body.past) Done)) }
+    ensures { OnOk result (GoesOn (ways_of heads.now)
+        (Part Entry Next (body.exp (declares table.now) (shown value.now))
+        (goes_on (written assigned body.past) Done))
+        (seen way.now) so.old notes.old so.new.found notes.new) }
+{
+    operand(alloc, table, value, &ENTRY, way, heads, so, notes)?;
+    let from = Origin { assigned, ..PAST };
+    let rest = Rules::Ends(from, Kind::Normal);
+    pass_rules(alloc, &rest, way, heads, so, notes)?;
+    Ok(())
+}
 
 // Without `else` the way goes on.
 fn goes_first(
@@ -155,25 +184,24 @@ fn parts(
             Ok(())
         }
         TStmtKind::SetLocal(local, _, value) => {
-            operand(alloc, table, value, &ENTRY, way, heads, so, notes)?;
-            let from = Origin {
-                assigned: Some((*local, 0)),
-                ..PAST
-            };
-            let rest = Rules::Ends(from, Kind::Normal);
-            pass_rules(alloc, &rest, way, heads, so, notes)?;
+            ends(
+                alloc,
+                table,
+                value,
+                Some((*local, 0)),
+                way,
+                heads,
+                so,
+                notes,
+            )?;
             Ok(())
         }
         TStmtKind::SetStatic(_, _, value) => {
-            operand(alloc, table, value, &ENTRY, way, heads, so, notes)?;
-            let rest = Rules::Ends(PAST, Kind::Normal);
-            pass_rules(alloc, &rest, way, heads, so, notes)?;
+            ends(alloc, table, value, None, way, heads, so, notes)?;
             Ok(())
         }
         TStmtKind::Eval(value) => {
-            operand(alloc, table, value, &ENTRY, way, heads, so, notes)?;
-            let rest = Rules::Ends(PAST, Kind::Normal);
-            pass_rules(alloc, &rest, way, heads, so, notes)?;
+            ends(alloc, table, value, None, way, heads, so, notes)?;
             Ok(())
         }
         TStmtKind::If(test, block, other) => {

@@ -1,23 +1,29 @@
 -- An expression is passed as its rules say, part by part.
-use Rattle.std.proofs.Common.{[], ◌∷◌, ◌≡◌, Some, None, length, refl, sym, ap, ◌∙◌, subst, rules}
+use Rattle.std.proofs.Common.{[], ◌∷◌, ◌≡◌, Some, None, length, refl, sym, ap, ◌∙◌, subst, rules, arith}
 use Rattle.par_typed.specs.declared.expr.TExprKind.TheViews.{the_lemmas}
 use Rattle.par_bits.specs.Sets.{has}
-use Rattle.par_typed.specs.Shown.{shown, mark_of}
+use Rattle.par_typed.specs.Shown.{all_shown, receiver, shown, mark_of}
 use Rattle.par_typed.proofs.Shown.{shown_mark}
-use Rattle.par_flow_laws.specs.Body.{exp, past, second}
+use Rattle.par_flow_laws.specs.Body.{args, exp, past, second}
 use Rattle.par_flow_laws.specs.Declares.{declares}
 use Rattle.par_flow_laws.specs.Kinds.{Next, absorbed}
 use Rattle.par_flow_laws.specs.Lattice.{numbers}
 use Rattle.par_flow_laws.specs.Rules.{Entry, Done, Part, Rules, goes_on, spot, way}
-use Rattle.par_nodes.specs.Seen.{seen_origin, seen_rules}
+use Rattle.par_nodes.specs.Seen.{seen_origin, seen_rules, seen_start}
+use Rattle.par_nodes.specs.Starts.{call_does, call_start}
+use Rattle.par_nodes.specs.Starts.{behind as behind_of}
+use Rattle.par_flow_laws.specs.Ranges.{IsFromInRange}
 use Rattle.par_nodes.proofs.Forms.{seen_ends, seen_gives}
-use Rattle.par_nodes.proofs.Expressions.{field_made, output_made, unary_made, binary_made}
+use Rattle.par_nodes.proofs.Expressions.{field_made, output_made, call_made, unary_made}
+use Rattle.par_nodes.proofs.Expressions.{binary_made}
 use Rattle.par_nodes.proofs.Expressions.{selected, valued, combined}
 use Rattle.par_pass_laws.specs.par_except.Seen.{may_see, seen, HasLocals}
 use Rattle.par_pass_laws.specs.Pass.{visited, pass}
 use Rattle.par_rounds.specs.Seen.{latest_first, ways_of, AreWide}
 use Rattle.par_rounds.specs.Passes.{within, GoesOn, ArePassable}
 use Rattle.par_rounds.proofs.Arms.{took_part}
+use Rattle.par_rounds.proofs.Calls.{start_in_range, arg_needs, arg_next, args_led, none_led, some_is}
+use Rattle.par_rounds.proofs.Calls.{some_led, behind_needs_of, args_needs_of, call_range}
 use Rattle.par_rounds.proofs.Events.{took_none}
 use Rattle.par_rounds.proofs.Needs.{so_first, part_needs}
 use Rattle.par_rounds.proofs.Walks.{exp_spot, within_needs, behind, behind_needs, part_walks}
@@ -316,3 +322,166 @@ parts-returns-in_ok-pass_rules-in-Field t c =
     c.deref-in-Field-2.ensures refl c.deref-in-Field.ensures refl))) u.head u.took
     (subst (λ (k : Rules). GoesOn h k w c.operand-in-Field.new.so m to.so.found to.notes)
     c.in_ok-rest-in-Field.ensures c.in_ok-pass_rules-in-Field.ensures)
+
+pub receiver-returns-in-None : goal.receiver-returns-in-None
+receiver-returns-in-None t c =
+    none_led (declares c.args.table.now) (ways_of c.args.heads.now) c.args.way.now c.args.heads.now
+    c.args.of.now c.args.so.now c.args.notes.now c.in-None.is c.requires.ready c.requires.so_far
+
+pub receiver-operand-requires : goal.receiver-operand-requires
+receiver-operand-requires t c =
+    let n = c.args.notes.now in let d = declares c.args.table.now in let x = c.deref.result.now in
+    let q =
+    part_needs n.locals (length n.heads.items)
+    (behind_of d (receiver c.args.of.now) c.requires.rules.0) Entry Next (exp d (shown x))
+    c.requires.rules.0
+    (some_is d c.args.of.now c.in-Some.of x c.requires.rules.0 c.in-Some.is c.deref.ensures)
+    c.requires.rules.1 in (
+      search (rules, the_lemmas),
+      (c.requires.ready, (c.requires.so_far, (q.0, q.1))),
+    )
+
+pub receiver-returns-in_ok-operand-in-Some : goal.receiver-returns-in_ok-operand-in-Some
+receiver-returns-in_ok-operand-in-Some t c =
+    let d = declares c.args.table.now in let u = c.in_ok-operand-in-Some.ensures in
+    some_led d (ways_of c.args.heads.now) c.args.way.now c.args.heads.now c.args.of.now
+    c.in-Some.of c.deref.result.now c.args.so.now c.operand.new.so c.args.notes.now
+    c.operand.new.notes c.in-Some.is c.deref.ensures u.head u.took c.requires.ready
+    c.requires.so_far
+
+pub args-loop-place-init : goal.args-loop-place-init
+args-loop-place-init t c =
+    record {
+      ready = c.requires.ready;
+      so_far = c.requires.so_far;
+      same = λ rs x. x;
+      last = c.requires.rules.0;
+      needs = c.requires.rules.1;
+      goes = λ more r o x. x;
+    }
+
+pub args-operand-requires : goal.args-operand-requires
+args-operand-requires t c =
+    let a = c.loop-place.invariant in let p = c.loop-place.place in
+    let e = c.index-arguments-place.result in let f = seen_start c.args.from in (
+      search (rules, the_lemmas),
+      (
+        a.ready,
+        (
+          a.so_far,
+          (
+            start_in_range c.loop-place.notes.locals p (seen_start c.start_at.result) f
+                c.start_at.ensures
+                (subst (λ k. IsFromInRange k f) (a.ready.way) (subst (λ k. IsFromInRange k f) (sym c.requires.ready.way) c.requires.start)),
+            arg_needs (declares c.args.table.now) (ways_of c.args.heads.now) c.args.way.now
+                c.args.heads.now f c.args.arguments.now c.args.so.now c.loop-place.so
+                c.args.notes.now c.loop-place.notes p e (search rules) (search rules) a,
+          ),
+        ),
+      ),
+    )
+
+pub args-loop-place-preserved : goal.args-loop-place-preserved
+args-loop-place-preserved t c =
+    arg_next (declares c.args.table.now) (ways_of c.args.heads.now) c.args.way.now
+    c.args.heads.now (seen_start c.args.from) c.args.arguments.now c.args.so.now c.loop-place.so
+    c.args.notes.now c.loop-place.notes c.loop-place.place c.index-arguments-place.result
+    (seen_start c.start_at.result) c.operand.new.so c.operand.new.notes (search rules)
+    (search rules) c.start_at.ensures c.loop-place.invariant c.in_ok-operand.ensures.head
+    c.in_ok-operand.ensures.took
+
+pub args-returns : goal.args-returns
+args-returns t c =
+    args_led (declares c.args.table.now) (ways_of c.args.heads.now) c.args.way.now
+    c.args.heads.now (seen_start c.args.from) c.args.arguments.now c.args.so.now c.loop-place.so
+    c.args.notes.now c.loop-place.notes c.loop-place.place (omega arith) c.loop-place.invariant
+
+pub parts-receiver-requires : goal.parts-receiver-requires
+parts-receiver-requires t c =
+    let n = c.args.notes.now in let e = c.args.e.now in let d = declares c.args.table.now in
+    let b = c.in-Call in let o = receiver b.of in let es = all_shown b.arguments in
+    let last = call_does d (d.method b.class b.method) o es in
+    let most = args d (call_start o) es last in
+    let h =
+    subst (ArePassable n.locals (length n.heads.items))
+    (sym (ap within (call_made d e.kind (mark_of e) b.class b.method b.of b.arguments
+    b.arguments _ most last (call_start o) b.is refl refl refl refl refl)))
+    c.requires.rules in (
+      search (rules, the_lemmas),
+      (c.requires.ready, (c.requires.so_far, (most, h))),
+    )
+
+pub parts-args-requires : goal.parts-args-requires
+parts-args-requires t c =
+    let n = c.args.notes.now in let e = c.args.e.now in let d = declares c.args.table.now in
+    let b = c.in-Call in let o = receiver b.of in let es = all_shown c.as_slice-arguments.result.now in
+    let last = call_does d (d.method b.class b.method) o es in
+    let most = args d (call_start o) es last in
+    let h =
+    subst (ArePassable n.locals (length n.heads.items))
+    (sym (ap within (call_made d e.kind (mark_of e) b.class b.method b.of b.arguments
+    c.as_slice-arguments.result.now _ most last (call_start o) b.is c.as_slice-arguments.ensures refl refl refl refl)))
+    c.requires.rules in
+    let k = c.in_ok-receiver-in-Call.ensures in let m = c.receiver.new.notes in
+    let g =
+    behind_needs_of d n.locals (length n.heads.items) o most h in (
+      search (rules, the_lemmas),
+      (
+        k.ready,
+        (
+          k.so_far,
+          (
+            subst (IsFromInRange m.locals) (sym c.call_start.ensures) (call_range m.locals o),
+            (
+              last,
+              subst (λ f. ArePassable m.locals (length m.heads.items) (args d f es last))
+                  (sym c.call_start.ensures) (k.rules most g),
+            ),
+          ),
+        ),
+      ),
+    )
+
+pub parts-pass_rules-requires-in-Call-clause-ready : goal.parts-pass_rules-requires-in-Call-clause-ready
+parts-pass_rules-requires-in-Call-clause-ready t c =
+    c.in_ok-args-in-Call.ensures.ready
+
+pub parts-pass_rules-requires-in-Call-clause-so_far : goal.parts-pass_rules-requires-in-Call-clause-so_far
+parts-pass_rules-requires-in-Call-clause-so_far t c =
+    c.in_ok-args-in-Call.ensures.so_far
+
+pub parts-pass_rules-requires-in-Call-clause-rules : goal.parts-pass_rules-requires-in-Call-clause-rules
+parts-pass_rules-requires-in-Call-clause-rules t c =
+    let n = c.args.notes.now in let e = c.args.e.now in let d = declares c.args.table.now in
+    let b = c.in-Call in let o = receiver b.of in let es = all_shown c.as_slice-arguments.result.now in
+    let last = call_does d (d.method b.class b.method) o es in
+    let most = args d (call_start o) es last in
+    let h =
+    subst (ArePassable n.locals (length n.heads.items))
+    (sym (ap within (call_made d e.kind (mark_of e) b.class b.method b.of b.arguments
+    c.as_slice-arguments.result.now _ most last (call_start o) b.is c.as_slice-arguments.ensures refl refl refl refl)))
+    c.requires.rules in
+    let k = c.in_ok-receiver-in-Call.ensures in let j = c.in_ok-args-in-Call.ensures in
+    let m = c.args-in-Call.new.notes in
+    let g = behind_needs_of d n.locals (length n.heads.items) o most h in
+    let y = args_needs_of d n.locals (length n.heads.items) (call_start o) es last g in
+    subst (ArePassable m.locals (length m.heads.items)) (sym c.in_ok-rest-in-Call.ensures)
+    (j.rules last (k.rules last y))
+
+pub parts-returns-in_ok-pass_rules-in-Call : goal.parts-returns-in_ok-pass_rules-in-Call
+parts-returns-in_ok-pass_rules-in-Call t c =
+    let e = c.args.e.now in let d = declares c.args.table.now in
+    let b = c.in-Call in let o = receiver b.of in let es = all_shown c.as_slice-arguments.result.now in
+    let last = call_does d (d.method b.class b.method) o es in
+    let f = seen_start c.call_start.result in
+    let most = args d f es last in
+    let h = ways_of c.args.heads.now in let w = seen c.args.way.now in
+    let to = c.pass_rules-in-Call.new in
+    subst (λ (k : Rules). GoesOn h k w c.args.so.now c.args.notes.now to.so.found to.notes)
+    (ap within (call_made d e.kind (mark_of e) b.class b.method b.of b.arguments
+    c.as_slice-arguments.result.now _ most last f b.is c.as_slice-arguments.ensures refl c.call_start.ensures refl
+    refl))
+    (c.in_ok-receiver-in-Call.ensures.goes most to.so.found to.notes
+    (c.in_ok-args-in-Call.ensures.goes last to.so.found to.notes
+    (subst (λ (k : Rules). GoesOn h k w c.args-in-Call.new.so c.args-in-Call.new.notes to.so.found
+    to.notes) c.in_ok-rest-in-Call.ensures c.in_ok-pass_rules-in-Call.ensures)))

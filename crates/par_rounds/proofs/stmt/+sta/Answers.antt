@@ -70,140 +70,54 @@ step-returns-clause-took t c =
     q u.parts u.value u.exits
     (u.locals c.args.notes.now.locals c.requires.so_far.exits q.wide)
 
-pub parts-operand-requires-clause-range : goal.parts-operand-requires-clause-range
-parts-operand-requires-clause-range t c =
+pub parts-ends-requires-clause-rules : goal.parts-ends-requires-clause-rules
+parts-ends-requires-clause-rules t c =
     let n = c.args.notes.now in let s = c.args.stmt.now in let d = declares c.args.table.now in
     let b = c.in-SetLocal in
-    (part_needs n.locals (length n.heads.items) (within (sta d (does s))) Entry Next
-    (exp d (shown b.value)) (goes_on (Assigned b.local 0 past) Done)
-    (sym (ap within (set_local_made d s.kind s.at s.point b.local b.field-1 b.value _ b.is
-    refl))) c.requires.rules).0
+    subst (ArePassable n.locals (length n.heads.items))
+    (sym (ap within (set_local_made d s.kind s.at s.point b.local b.field-1 b.value _
+    b.is refl))) c.requires.rules
 
-pub parts-operand-requires-clause-node : goal.parts-operand-requires-clause-node
-parts-operand-requires-clause-node t c =
+pub parts-returns-in_ok-ends-in-SetLocal : goal.parts-returns-in_ok-ends-in-SetLocal
+parts-returns-in_ok-ends-in-SetLocal t c =
     let n = c.args.notes.now in let s = c.args.stmt.now in let d = declares c.args.table.now in
-    let b = c.in-SetLocal in
-    (part_needs n.locals (length n.heads.items) (within (sta d (does s))) Entry Next
-    (exp d (shown b.value)) (goes_on (Assigned b.local 0 past) Done)
-    (sym (ap within (set_local_made d s.kind s.at s.point b.local b.field-1 b.value _ b.is
-    refl))) c.requires.rules).1
-
-pub parts-pass_rules-requires-clause-rules
-    : goal.parts-pass_rules-requires-clause-rules
-parts-pass_rules-requires-clause-rules t c =
-    let n = c.args.notes.now in let s = c.args.stmt.now in let d = declares c.args.table.now in
-    let b = c.in-SetLocal in let m = c.operand.new.notes in
-    let u = c.in_ok-operand-in-SetLocal.ensures in
-    subst (ArePassable m.locals (length m.heads.items)) (sym (seen_ends _ _))
-    (behind_needs (absorbed Next) _ _ c.args.way.now c.args.heads.now c.args.so.now
-    c.operand.new.so n m (within (sta d (does s))) Entry Next (exp d (shown b.value))
-    (goes_on (Assigned b.local 0 past) Done)
-    (sym (ap within (set_local_made d s.kind s.at s.point b.local b.field-1 b.value _ b.is
-    refl))) u.took u.head c.requires.ready c.requires.so_far c.requires.rules)
-
-pub parts-returns-in_ok-pass_rules-in-SetLocal : goal.parts-returns-in_ok-pass_rules-in-SetLocal
-parts-returns-in_ok-pass_rules-in-SetLocal t c =
-    let n = c.args.notes.now in let s = c.args.stmt.now in let d = declares c.args.table.now in
-    let b = c.in-SetLocal in let m = c.operand.new.notes in
-    let u = c.in_ok-operand-in-SetLocal.ensures in
+    let b = c.in-SetLocal in let to = c.ends.new in
     let h = ways_of c.args.heads.now in let w = seen c.args.way.now in
-    let to = c.pass_rules.new in
-    part_walks h w Next Entry (exp d (shown b.value)) (within (sta d (does s)))
-    (goes_on (Assigned b.local 0 past) Done)
-    c.args.so.now c.operand.new.so to.so.found n m to.notes
-    (sym (ap within (set_local_made d s.kind s.at s.point b.local b.field-1 b.value _ b.is
-    refl))) u.head u.took
-    (subst (λ (k : Rules). GoesOn h k w c.operand.new.so m to.so.found to.notes)
-    (seen_ends _ _) c.in_ok-pass_rules-in-SetLocal.ensures)
+    subst (λ (k : Rules). GoesOn h k w c.args.so.now n to.so.found to.notes)
+    (ap within (set_local_made d s.kind s.at s.point b.local b.field-1 b.value _
+    b.is refl)) c.in_ok-ends-in-SetLocal.ensures
 
-pub parts-operand-requires-in-SetStatic-clause-range
-    : goal.parts-operand-requires-in-SetStatic-clause-range
-parts-operand-requires-in-SetStatic-clause-range t c =
+pub parts-ends-requires-in-SetStatic-clause-rules : goal.parts-ends-requires-in-SetStatic-clause-rules
+parts-ends-requires-in-SetStatic-clause-rules t c =
     let n = c.args.notes.now in let s = c.args.stmt.now in let d = declares c.args.table.now in
     let b = c.in-SetStatic in
-    (part_needs n.locals (length n.heads.items) (within (sta d (does s))) Entry Next
-    (exp d (shown b.value)) (goes_on past Done)
-    (sym (ap within (set_static_made d s.kind s.at s.point b.field-0 b.field-1 b.value _ b.is
-    refl))) c.requires.rules).0
+    subst (ArePassable n.locals (length n.heads.items))
+    (sym (ap within (set_static_made d s.kind s.at s.point b.field-0 b.field-1 b.value _
+    b.is refl))) c.requires.rules
 
-pub parts-operand-requires-in-SetStatic-clause-node
-    : goal.parts-operand-requires-in-SetStatic-clause-node
-parts-operand-requires-in-SetStatic-clause-node t c =
+pub parts-returns-in_ok-ends-in-SetStatic : goal.parts-returns-in_ok-ends-in-SetStatic
+parts-returns-in_ok-ends-in-SetStatic t c =
     let n = c.args.notes.now in let s = c.args.stmt.now in let d = declares c.args.table.now in
-    let b = c.in-SetStatic in
-    (part_needs n.locals (length n.heads.items) (within (sta d (does s))) Entry Next
-    (exp d (shown b.value)) (goes_on past Done)
-    (sym (ap within (set_static_made d s.kind s.at s.point b.field-0 b.field-1 b.value _ b.is
-    refl))) c.requires.rules).1
-
-pub parts-pass_rules-requires-in-SetStatic-clause-rules
-    : goal.parts-pass_rules-requires-in-SetStatic-clause-rules
-parts-pass_rules-requires-in-SetStatic-clause-rules t c =
-    let n = c.args.notes.now in let s = c.args.stmt.now in let d = declares c.args.table.now in
-    let b = c.in-SetStatic in let m = c.operand-in-SetStatic.new.notes in
-    let u = c.in_ok-operand-in-SetStatic.ensures in
-    subst (ArePassable m.locals (length m.heads.items)) (sym (seen_ends _ _))
-    (behind_needs (absorbed Next) _ _ c.args.way.now c.args.heads.now c.args.so.now
-    c.operand-in-SetStatic.new.so n m (within (sta d (does s))) Entry Next (exp d (shown b.value))
-    (goes_on past Done)
-    (sym (ap within (set_static_made d s.kind s.at s.point b.field-0 b.field-1 b.value _ b.is
-    refl))) u.took u.head c.requires.ready c.requires.so_far c.requires.rules)
-
-pub parts-returns-in_ok-pass_rules-in-SetStatic : goal.parts-returns-in_ok-pass_rules-in-SetStatic
-parts-returns-in_ok-pass_rules-in-SetStatic t c =
-    let n = c.args.notes.now in let s = c.args.stmt.now in let d = declares c.args.table.now in
-    let b = c.in-SetStatic in let m = c.operand-in-SetStatic.new.notes in
-    let u = c.in_ok-operand-in-SetStatic.ensures in
+    let b = c.in-SetStatic in let to = c.ends-in-SetStatic.new in
     let h = ways_of c.args.heads.now in let w = seen c.args.way.now in
-    let to = c.pass_rules-in-SetStatic.new in
-    part_walks h w Next Entry (exp d (shown b.value)) (within (sta d (does s))) (goes_on past Done)
-    c.args.so.now c.operand-in-SetStatic.new.so to.so.found n m to.notes
-    (sym (ap within (set_static_made d s.kind s.at s.point b.field-0 b.field-1 b.value _ b.is
-    refl))) u.head u.took
-    (subst (λ (k : Rules). GoesOn h k w c.operand-in-SetStatic.new.so m to.so.found to.notes)
-    (seen_ends _ _) c.in_ok-pass_rules-in-SetStatic.ensures)
+    subst (λ (k : Rules). GoesOn h k w c.args.so.now n to.so.found to.notes)
+    (ap within (set_static_made d s.kind s.at s.point b.field-0 b.field-1 b.value _
+    b.is refl)) c.in_ok-ends-in-SetStatic.ensures
 
-pub parts-operand-requires-in-Eval-clause-range : goal.parts-operand-requires-in-Eval-clause-range
-parts-operand-requires-in-Eval-clause-range t c =
+pub parts-ends-requires-in-Eval-clause-rules : goal.parts-ends-requires-in-Eval-clause-rules
+parts-ends-requires-in-Eval-clause-rules t c =
     let n = c.args.notes.now in let s = c.args.stmt.now in let d = declares c.args.table.now in
     let b = c.in-Eval in
-    (part_needs n.locals (length n.heads.items) (within (sta d (does s))) Entry Next
-    (exp d (shown b.value)) (goes_on past Done)
-    (sym (ap within (eval_made d s.kind s.at s.point b.value _ b.is refl))) c.requires.rules).0
+    subst (ArePassable n.locals (length n.heads.items))
+    (sym (ap within (eval_made d s.kind s.at s.point b.value _ b.is refl))) c.requires.rules
 
-pub parts-operand-requires-in-Eval-clause-node : goal.parts-operand-requires-in-Eval-clause-node
-parts-operand-requires-in-Eval-clause-node t c =
+pub parts-returns-in_ok-ends-in-Eval : goal.parts-returns-in_ok-ends-in-Eval
+parts-returns-in_ok-ends-in-Eval t c =
     let n = c.args.notes.now in let s = c.args.stmt.now in let d = declares c.args.table.now in
-    let b = c.in-Eval in
-    (part_needs n.locals (length n.heads.items) (within (sta d (does s))) Entry Next
-    (exp d (shown b.value)) (goes_on past Done)
-    (sym (ap within (eval_made d s.kind s.at s.point b.value _ b.is refl))) c.requires.rules).1
-
-pub parts-pass_rules-requires-in-Eval-clause-rules
-    : goal.parts-pass_rules-requires-in-Eval-clause-rules
-parts-pass_rules-requires-in-Eval-clause-rules t c =
-    let n = c.args.notes.now in let s = c.args.stmt.now in let d = declares c.args.table.now in
-    let b = c.in-Eval in let m = c.operand-in-Eval.new.notes in
-    let u = c.in_ok-operand-in-Eval.ensures in
-    subst (ArePassable m.locals (length m.heads.items)) (sym (seen_ends _ _))
-    (behind_needs (absorbed Next) _ _ c.args.way.now c.args.heads.now c.args.so.now
-    c.operand-in-Eval.new.so n m (within (sta d (does s))) Entry Next (exp d (shown b.value))
-    (goes_on past Done)
-    (sym (ap within (eval_made d s.kind s.at s.point b.value _ b.is refl))) u.took u.head
-    c.requires.ready c.requires.so_far c.requires.rules)
-
-pub parts-returns-in_ok-pass_rules-in-Eval : goal.parts-returns-in_ok-pass_rules-in-Eval
-parts-returns-in_ok-pass_rules-in-Eval t c =
-    let n = c.args.notes.now in let s = c.args.stmt.now in let d = declares c.args.table.now in
-    let b = c.in-Eval in let m = c.operand-in-Eval.new.notes in
-    let u = c.in_ok-operand-in-Eval.ensures in
+    let b = c.in-Eval in let to = c.ends-in-Eval.new in
     let h = ways_of c.args.heads.now in let w = seen c.args.way.now in
-    let to = c.pass_rules-in-Eval.new in
-    part_walks h w Next Entry (exp d (shown b.value)) (within (sta d (does s))) (goes_on past Done)
-    c.args.so.now c.operand-in-Eval.new.so to.so.found n m to.notes
-    (sym (ap within (eval_made d s.kind s.at s.point b.value _ b.is refl))) u.head u.took
-    (subst (λ (k : Rules). GoesOn h k w c.operand-in-Eval.new.so m to.so.found to.notes)
-    (seen_ends _ _) c.in_ok-pass_rules-in-Eval.ensures)
+    subst (λ (k : Rules). GoesOn h k w c.args.so.now n to.so.found to.notes)
+    (ap within (eval_made d s.kind s.at s.point b.value _ b.is refl)) c.in_ok-ends-in-Eval.ensures
 
 pub parts-block-requires : goal.parts-block-requires
 parts-block-requires t c =
@@ -295,12 +209,12 @@ visit-returns-in-None t c =
     (sta_spot d (does s) ∙ does_point s.kind s.at s.point)
     c.nothing.ensures.value c.nothing.ensures.exits c.blank.ensures
 
-pub parts-operand-requires-in-If-clause-range : goal.parts-operand-requires-in-If-clause-range
-parts-operand-requires-in-If-clause-range t c =
+pub parts-operand-requires-clause-range : goal.parts-operand-requires-clause-range
+parts-operand-requires-clause-range t c =
     entry_range c.args.notes.now.locals
 
-pub parts-operand-requires-in-If-clause-node : goal.parts-operand-requires-in-If-clause-node
-parts-operand-requires-in-If-clause-node t c =
+pub parts-operand-requires-clause-node : goal.parts-operand-requires-clause-node
+parts-operand-requires-clause-node t c =
     let n = c.args.notes.now in let s = c.args.stmt.now in let d = declares c.args.table.now in
     let b = c.in-If in let v = c.args.way.now in let hs = c.args.heads.now in
     let q =
@@ -314,20 +228,20 @@ parts-operand-requires-in-If-clause-node t c =
 pub parts-goes_first-requires-clause-parts : goal.parts-goes_first-requires-clause-parts
 parts-goes_first-requires-clause-parts t c =
     let n = c.args.notes.now in let v = c.args.way.now in let hs = c.args.heads.now in
-    let m = c.operand-in-If.new.notes in let u = c.in_ok-operand-in-If.ensures in
+    let m = c.operand.new.notes in let u = c.in_ok-operand-in-If.ensures in
     let k =
-    behind (absorbed Next) _ _ v hs c.args.so.now c.operand-in-If.new.so n m u.took u.head
+    behind (absorbed Next) _ _ v hs c.args.so.now c.operand.new.so n m u.took u.head
     c.requires.ready c.requires.so_far in
-    parts_wide v hs c.operand-in-If.new.so c.operand-in-If.new.so m m k.ready k.so_far
+    parts_wide v hs c.operand.new.so c.operand.new.so m m k.ready k.so_far
 
 pub parts-goes_first-requires-clause-exits : goal.parts-goes_first-requires-clause-exits
 parts-goes_first-requires-clause-exits t c =
     let n = c.args.notes.now in let v = c.args.way.now in let hs = c.args.heads.now in
-    let m = c.operand-in-If.new.notes in let u = c.in_ok-operand-in-If.ensures in
+    let m = c.operand.new.notes in let u = c.in_ok-operand-in-If.ensures in
     let k =
-    behind (absorbed Next) _ _ v hs c.args.so.now c.operand-in-If.new.so n m u.took u.head
+    behind (absorbed Next) _ _ v hs c.args.so.now c.operand.new.so n m u.took u.head
     c.requires.ready c.requires.so_far in
-    exits_wide v hs c.operand-in-If.new.so c.operand-in-If.new.so m m k.ready k.so_far
+    exits_wide v hs c.operand.new.so c.operand.new.so m m k.ready k.so_far
 
 pub parts-goes_first-requires-clause-range : goal.parts-goes_first-requires-clause-range
 parts-goes_first-requires-clause-range t c =
@@ -343,13 +257,13 @@ parts-step-requires t c =
     (within (sta d (does s)))
     (sym (ap within (if_made d s.kind s.at s.point b.test b.block b.other b.block.value _ _ _ b.is
     refl refl refl refl))) c.requires.rules in
-    let m = c.operand-in-If.new.notes in let u = c.in_ok-operand-in-If.ensures in
+    let m = c.operand.new.notes in let u = c.in_ok-operand-in-If.ensures in
     let k =
-    behind (absorbed Next) _ _ v hs c.args.so.now c.operand-in-If.new.so n m u.took u.head
+    behind (absorbed Next) _ _ v hs c.args.so.now c.operand.new.so n m u.took u.head
     c.requires.ready c.requires.so_far in
     let x = c.in_ok-goes_first-in-If.ensures in
     let i =
-    behind_leave v hs c.operand-in-If.new.so c.goes_first.new.so m m k.ready k.so_far x.head
+    behind_leave v hs c.operand.new.so c.goes_first.new.so m m k.ready k.so_far x.head
     x.parts x.locals in (
       search (rules, the_lemmas),
       (
@@ -368,13 +282,13 @@ parts-step-requires t c =
 pub parts-leave-requires-clause-parts : goal.parts-leave-requires-clause-parts
 parts-leave-requires-clause-parts t c =
     let n = c.args.notes.now in let v = c.args.way.now in let hs = c.args.heads.now in
-    let m = c.operand-in-If.new.notes in let u = c.in_ok-operand-in-If.ensures in
+    let m = c.operand.new.notes in let u = c.in_ok-operand-in-If.ensures in
     let k =
-    behind (absorbed Next) _ _ v hs c.args.so.now c.operand-in-If.new.so n m u.took u.head
+    behind (absorbed Next) _ _ v hs c.args.so.now c.operand.new.so n m u.took u.head
     c.requires.ready c.requires.so_far in
     let x = c.in_ok-goes_first-in-If.ensures in
     let i =
-    behind_leave v hs c.operand-in-If.new.so c.goes_first.new.so m m k.ready k.so_far x.head
+    behind_leave v hs c.operand.new.so c.goes_first.new.so m m k.ready k.so_far x.head
     x.parts x.locals in
     let y = c.in_ok-step-in-If.ensures in let o = c.step.new.notes in
     let j =
@@ -385,13 +299,13 @@ parts-leave-requires-clause-parts t c =
 pub parts-leave-requires-clause-exits : goal.parts-leave-requires-clause-exits
 parts-leave-requires-clause-exits t c =
     let n = c.args.notes.now in let v = c.args.way.now in let hs = c.args.heads.now in
-    let m = c.operand-in-If.new.notes in let u = c.in_ok-operand-in-If.ensures in
+    let m = c.operand.new.notes in let u = c.in_ok-operand-in-If.ensures in
     let k =
-    behind (absorbed Next) _ _ v hs c.args.so.now c.operand-in-If.new.so n m u.took u.head
+    behind (absorbed Next) _ _ v hs c.args.so.now c.operand.new.so n m u.took u.head
     c.requires.ready c.requires.so_far in
     let x = c.in_ok-goes_first-in-If.ensures in
     let i =
-    behind_leave v hs c.operand-in-If.new.so c.goes_first.new.so m m k.ready k.so_far x.head
+    behind_leave v hs c.operand.new.so c.goes_first.new.so m m k.ready k.so_far x.head
     x.parts x.locals in
     let y = c.in_ok-step-in-If.ensures in let o = c.step.new.notes in
     let j =
@@ -413,13 +327,13 @@ parts-otherwise-requires t c =
     (within (sta d (does s)))
     (sym (ap within (if_made d s.kind s.at s.point b.test b.block b.other b.block.value _ _ _ b.is
     refl refl refl refl))) c.requires.rules in
-    let m = c.operand-in-If.new.notes in let u = c.in_ok-operand-in-If.ensures in
+    let m = c.operand.new.notes in let u = c.in_ok-operand-in-If.ensures in
     let k =
-    behind (absorbed Next) _ _ v hs c.args.so.now c.operand-in-If.new.so n m u.took u.head
+    behind (absorbed Next) _ _ v hs c.args.so.now c.operand.new.so n m u.took u.head
     c.requires.ready c.requires.so_far in
     let x = c.in_ok-goes_first-in-If.ensures in
     let i =
-    behind_leave v hs c.operand-in-If.new.so c.goes_first.new.so m m k.ready k.so_far x.head
+    behind_leave v hs c.operand.new.so c.goes_first.new.so m m k.ready k.so_far x.head
     x.parts x.locals in
     let y = c.in_ok-step-in-If.ensures in let o = c.step.new.notes in
     let j =
@@ -435,7 +349,7 @@ parts-otherwise-requires t c =
 pub parts-returns-in_ok-otherwise-in-If : goal.parts-returns-in_ok-otherwise-in-If
 parts-returns-in_ok-otherwise-in-If t c =
     let n = c.args.notes.now in let s = c.args.stmt.now in let d = declares c.args.table.now in
-    let b = c.in-If in let m = c.operand-in-If.new.notes in let o = c.step.new.notes in
+    let b = c.in-If in let m = c.operand.new.notes in let o = c.step.new.notes in
     let u = c.in_ok-operand-in-If.ensures in let x = c.in_ok-goes_first-in-If.ensures in
     let y = c.in_ok-step-in-If.ensures in let z = c.in_ok-leave-in-If.ensures in
     let h = ways_of c.args.heads.now in let w = seen c.args.way.now in
@@ -444,7 +358,7 @@ parts-returns-in_ok-otherwise-in-If t c =
     let rest = goes_on past last in
     let both = Part tested Next block rest in
     part_walks h w Next Entry (exp d (shown b.test)) (within (sta d (does s)))
-    (goes_first (otherwise b.other) past both) c.args.so.now c.operand-in-If.new.so to.so.found n m
+    (goes_first (otherwise b.other) past both) c.args.so.now c.operand.new.so to.so.found n m
     to.notes
     (sym (ap within (if_made d s.kind s.at s.point b.test b.block b.other c.deref.result.now _ both
     rest b.is refl c.deref.ensures refl refl)))
@@ -621,9 +535,9 @@ parts-step-requires-in-While t c =
       ),
     )
 
-pub parts-pass_rules-requires-in-While-clause-ready
-    : goal.parts-pass_rules-requires-in-While-clause-ready
-parts-pass_rules-requires-in-While-clause-ready t c =
+pub parts-pass_rules-requires-clause-ready
+    : goal.parts-pass_rules-requires-clause-ready
+parts-pass_rules-requires-clause-ready t c =
     let n = c.args.notes.now in let s = c.args.stmt.now in let d = declares c.args.table.now in
     let b = c.in-While in let v = c.args.way.now in let hs = c.args.heads.now in
     let q =
@@ -649,9 +563,9 @@ parts-pass_rules-requires-in-While-clause-ready t c =
     j.ready j.so_far in
     a.ready
 
-pub parts-pass_rules-requires-in-While-clause-so_far
-    : goal.parts-pass_rules-requires-in-While-clause-so_far
-parts-pass_rules-requires-in-While-clause-so_far t c =
+pub parts-pass_rules-requires-clause-so_far
+    : goal.parts-pass_rules-requires-clause-so_far
+parts-pass_rules-requires-clause-so_far t c =
     let n = c.args.notes.now in let s = c.args.stmt.now in let d = declares c.args.table.now in
     let b = c.in-While in let v = c.args.way.now in let hs = c.args.heads.now in
     let q =
@@ -677,9 +591,9 @@ parts-pass_rules-requires-in-While-clause-so_far t c =
     j.ready j.so_far in
     a.so_far
 
-pub parts-pass_rules-requires-in-While-clause-rules
-    : goal.parts-pass_rules-requires-in-While-clause-rules
-parts-pass_rules-requires-in-While-clause-rules t c =
+pub parts-pass_rules-requires-clause-rules
+    : goal.parts-pass_rules-requires-clause-rules
+parts-pass_rules-requires-clause-rules t c =
     let n = c.args.notes.now in let s = c.args.stmt.now in let d = declares c.args.table.now in
     let b = c.in-While in let v = c.args.way.now in let hs = c.args.heads.now in
     let q =
@@ -714,7 +628,7 @@ parts-returns-in_ok-pass_rules-in-While t c =
     let u = c.in_ok-loop_test-in-While.ensures in let g = u.took in
     let x = c.in_ok-unless-in-While.ensures in let y = c.in_ok-step-in-While.ensures in
     let h = ways_of c.args.heads.now in let w = seen c.args.way.now in
-    let to = c.pass_rules-in-While.new in
+    let to = c.pass_rules.new in
     let block = sta d (does c.deref-in-While.result.now) in
     let part = Part tested Loop block again in
     let more = if_not (is_forever (shown b.test)) (goes_on past) part in
