@@ -1,10 +1,11 @@
-//! The facts of a tree of rules, found in rounds.
+//! The facts of a body, found in rounds.
 //!
-//! A pass goes over the whole tree once, from the head ways of its loops as they stand, and raises
-//! the heads of the next pass. The first one keeps rows, which are the facts where it raises no
-//! head. Behind it only heads last from round to round. Where a round raises none, one more from
-//! the same heads gives the rows. This crate knows no program: it is given the tree and the way
-//! that enters it.
+//! A pass goes over the whole typed body once, from the head ways of its loops as they stand, and
+//! raises the heads of the next pass. The first one keeps rows, which are the facts where it raises
+//! no head. Behind it only heads last from round to round. Where a round raises none, one more from
+//! the same heads gives the rows. Most parts are passed where they stand in the typed tree. The
+//! rules of par_nodes are made for what is rare, and for `try`, whose catches are entered from what
+//! its block can throw.
 #![tactic(auto)]
 
 mod body;
