@@ -9,6 +9,7 @@ ghost use Rattle.par_frame_passes.specs.Methods.{code_in};
 
 use crate::back::{back_offsets, is_marked};
 use crate::facts::Facts;
+use crate::likes::{join, likes};
 use crate::method::Method;
 use crate::spots::{Spot, spots};
 use crate::table::kept;
@@ -35,6 +36,8 @@ pub(crate) struct Guess<'f> {
 struct Sketch<'m, 'f> {
     classes: Classes<'m, 'f>,
     spots: Vec<Spot>,
+    /// Of each piece the one that goes on for it.
+    likes: Vec<usize>,
     facts: Facts,
 }
 
@@ -58,13 +61,16 @@ fn sketched<'m, 'f>(
     requires { length (code_in method.now).code ≤ 65535 }
 {
     let mut classes = Classes::new(alloc, method.exceptions);
-    let Some(spots) = spots(alloc, method, table, &mut classes)? else {
+    let Some(mut spots) = spots(alloc, method, table, &mut classes)? else {
         return Ok(None);
     };
+    let likes = likes(alloc, &spots)?;
+    join(alloc, &mut spots, &likes)?;
     let facts = Facts::of_nothing(alloc, &spots, listed(method, table))?;
     Ok(Some(Sketch {
         classes,
         spots,
+        likes,
         facts,
     }))
 }
@@ -85,6 +91,14 @@ impl<'f> Sketch<'_, 'f> {
         }
         let bits = self.classes.bits();
         self.facts.settle(alloc, &self.spots, bits, patience)
+    }
+
+    /// What is known before a piece, if code comes there.
+    fn before(&self, number: usize) -> Option<&Before> {
+        match self.likes.get(number) {
+            Some(like) => self.facts.before(*like),
+            None => None,
+        }
     }
 
     /// The kinds of some places.
@@ -135,7 +149,7 @@ impl<'f> Sketch<'_, 'f> {
         let mut last: Option<&Before> = None;
         for (number, spot) in self.spots.as_slice().iter().enumerate() {
             if is_marked(wanted, spot.at as usize) && !spot.is_told {
-                if let Some(before) = self.facts.before(number) {
+                if let Some(before) = self.before(number) {
                     let frame = match like(&frames, last, before) {
                         Some(frame) => frame.copied(alloc)?,
                         None => self.frame(alloc, before, many)?,

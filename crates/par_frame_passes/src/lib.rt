@@ -14,6 +14,7 @@ mod fixpoint;
 mod goes;
 mod guess;
 mod landings;
+mod likes;
 mod method;
 mod ordered;
 mod outcome;
