@@ -160,6 +160,23 @@ def methods_of_branches(part):
     return of_code(code, 30002, 0, int(15 * part)), VERIFY
 
 
+def methods_of_kinds(part):
+    """Methods of branches under operands, of which each 256 have nine kinds: seven classes, int and
+    null; as many as fit."""
+    names = [f"C{n:03}" for n in range(7)]
+    entries = []
+    for name in names:
+        entries += [long_class.utf8(name), b"\x07" + struct.pack(">H", 8 + len(entries))]
+    made = b"".join(struct.pack(">BHBB", 0xBB, 9 + 2 * n, 0x3A, n) for n in range(7))
+    seldom = bytes([0x19, 4, 0x19, 5, 0x19, 6])
+    often = bytes([0x2A, 0x2B, 0x2C, 0x2D, 0x01, 0x03]) * 43
+    code = under_operands(made + (seldom + often[:253]) * 116, 5800)
+    files = of_code(code, 116 * 256 + 2, 7, int(15 * part), entries)
+    small = file_of([], [main(b"\xb1", 0, 0)])
+    files.update((name, small.replace(b"Long", name.encode())) for name in names)
+    return files, VERIFY
+
+
 def of_frames(locals_, code, frames, later, methods):
     """Methods of version 51 with that code and so many frames: one of all locals of the third byte,
     of which nothing is known, and behind it what is written of the later ones."""
@@ -254,6 +271,7 @@ FILES = {
     "65,534 operands on one another, verified": operands_on_operands,
     "5,900 branches under 30,000 operands, verified": branches_under_operands,
     "15 methods of 5,900 branches under 30,000 operands, verified": methods_of_branches,
+    "the same, under 29,696 operands, nine kinds in each 256, verified": methods_of_kinds,
     "30,000 frames of 30,000 locals that are told, verified": frames_told,
     "4 methods of 65,533 frames of 65,471 locals that are told, verified": all_frames_told,
     "65,535 handlers around all code, verified": handlers_around,
