@@ -5,6 +5,7 @@ nodes, four to a class, as far as they fit, and a comment. `SOURCES` has them un
 each with the flags of paragonc that it is made for.
 """
 import itertools
+from functools import partial
 
 import inferred
 import reading
@@ -171,15 +172,15 @@ def wide_joins(most):
     return joined_over(front + f"class A{{{MAIN}}}", most)
 
 
-def field_joins(most):
-    """The policies of `late_joins`, joined for one field after another."""
+def field_joins(most, written=""):
+    """The policies of `late_joins`, joined for one field after another, with a written term."""
     front = "actor a;" + "".join(f"lock {lock};" for lock in LOCKS)
     front += f"policy P={late(LOCKS[254], LOCKS[2:33])};policy Q={late(LOCKS[255], LOCKS[40:71])};"
     made, field = [front + f"class A{{{MAIN}"], 0
     size = len(made[0])
     while True:
         text = f"}}class B{field // 256}{{" if field % 256 == 0 else ""
-        text += f"?P*Q int f{field % 256};"
+        text += f"?P*Q{written} int f{field % 256};"
         if size + len(text) + 5 > most:
             return padded("".join(made) + "}", most)
         made.append(text)
@@ -187,8 +188,9 @@ def field_joins(most):
         field += 1
 
 
-def ordered_joins(most):
-    """Fifteen policies that are all joined, in ever new orders; 32 clauses stay at each step."""
+def ordered_joins(most, written=""):
+    """Fifteen policies that are all joined, in ever new orders, and with a written term; 32 clauses
+    stay at each step."""
     made = ["actor a;" + "".join(f"lock {lock};" for lock in LOCKS) + f"class A{{{MAIN}}}"]
     names = "BCDEFGHIJKLMNOP"
     for name, own in zip(names, LOCKS[40:]):
@@ -196,7 +198,7 @@ def ordered_joins(most):
         made.append(f"policy {name}={{{clauses}}};")
     size = len("".join(made))
     for order in itertools.permutations(names):
-        text = f"policy R{len(made)}={'*'.join(order)};"
+        text = f"policy R{len(made)}={'*'.join(order)}{written};"
         if size + len(text) + 4 > most:
             break
         made.append(text)
@@ -353,8 +355,10 @@ SOURCES = {
     "two policies joined over and over": (CHECK, many_joins),
     "two whose last joined clause covers all": (CHECK, late_joins),
     "the same, for fields": (CHECK, field_joins),
+    "for fields, with a written term": (CHECK, partial(field_joins, written="*{a:}")),
     "two whose joined clauses are 961": (CHECK, wide_joins),
     "15 policies joined in many orders": (CHECK, ordered_joins),
+    "15 policies joined with a written term": (CHECK, partial(ordered_joins, written="*{a:}")),
     "birth policies": (CHECK, births),
     "200 locals handed on in a loop": (CHECK, handed_on),
     "the same in 60 nested loops": (CHECK, nested_loops),
