@@ -173,7 +173,7 @@ def wide_joins(most):
 
 
 def field_joins(most, written=""):
-    """The policies of `late_joins`, joined for one field after another, with a written term."""
+    """The policies of `late_joins`, joined for one field after another, with what is written."""
     front = "actor a;" + "".join(f"lock {lock};" for lock in LOCKS)
     front += f"policy P={late(LOCKS[254], LOCKS[2:33])};policy Q={late(LOCKS[255], LOCKS[40:71])};"
     made, field = [front + f"class A{{{MAIN}"], 0
@@ -189,7 +189,7 @@ def field_joins(most, written=""):
 
 
 def ordered_joins(most, written=""):
-    """Fifteen policies that are all joined, in ever new orders, and with a written term; 32 clauses
+    """Fifteen policies that are all joined, in ever new orders, with what is written; 32 clauses
     stay at each step."""
     made = ["actor a;" + "".join(f"lock {lock};" for lock in LOCKS) + f"class A{{{MAIN}}}"]
     names = "BCDEFGHIJKLMNOP"
