@@ -9,8 +9,6 @@ pub mod Steps
 pub mod Earlier
 pub mod Alike
 pub mod Made
-pub mod Gathers
-pub mod Pushes
 pub mod Found
 pub mod Counted
 pub mod Behind

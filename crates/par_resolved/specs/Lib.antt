@@ -6,9 +6,6 @@ pub mod Numbers
 pub mod Policies
 pub mod Read
 pub mod Same
-pub mod Statements
-pub mod Gathered
-pub mod Written
 pub mod Sizes
 pub mod Settled
 pub mod Nearest
