@@ -14,15 +14,12 @@ ghost use Rattle.par_nodes.specs.Starts.{behind};
 ghost use Rattle.par_pass_laws.specs.par_except.Seen.{may_see, seen, HasLocals, MayHaveLocals};
 ghost use Rattle.par_pass_laws.specs.Exits.{Way};
 ghost use Rattle.par_pass_laws.specs.Pass.{HeadWays, pass, visited};
-ghost use Rattle.par_rounds.specs.Seen.{latest_first, ways_of, AreHeadsWide};
+ghost use Rattle.par_ways.specs.Seen.{latest_first, ways_of, AreHeadsWide};
 ghost use Rattle.par_rounds.specs.Passes.{left_as, within, GoesOn, IsLed, Passed, TookPart};
 ghost use Rattle.par_rounds.specs.Passes.{IsPassable, ArePassable, IsReady, IsSoFar};
 
-use crate::changes::{way_at, worth_at};
-use crate::exits;
 use crate::notes::Notes;
 use crate::pass::{Found, SoFar, finish, pass_rules, take};
-use crate::way::SharedWay;
 use par_atoms::Atoms;
 use par_base::memory::NoMemory;
 use par_nodes::make::{ENTRY, PAST};
@@ -30,6 +27,9 @@ use par_nodes::rule::{Absorber, Kind, Origin, Rules, Start, Worth};
 use par_nodes::{declared, expr as rules};
 use par_typed::expr::{TExpr, TExprKind};
 use par_typed::table::Table;
+use par_ways::changes::{way_at, worth_at};
+use par_ways::exits;
+use par_ways::way::SharedWay;
 use std::alloc::Global;
 
 // The value of a node that has none.

@@ -13,17 +13,15 @@ ghost use Rattle.par_flow_laws.specs.Rules.{Rules as Listed};
 ghost use Rattle.par_nodes.specs.Seen.{seen_absorber, seen_origin, assigned as written};
 ghost use Rattle.par_pass_laws.specs.par_except.Seen.{may_see, seen, MayHaveLocals};
 ghost use Rattle.par_pass_laws.specs.Pass.{HeadWays, pass, visited};
-ghost use Rattle.par_rounds.specs.Seen.{latest_first, ways_of, AreFactsWide, AreHeadsWide, AreWide};
+ghost use Rattle.par_ways.specs.Seen.{latest_first, ways_of, AreFactsWide, AreHeadsWide, AreWide};
 ghost use Rattle.par_rounds.specs.declared.notes.Notes.{Notes as Noted};
 ghost use Rattle.par_rounds.specs.declared.pass.Found.{Found as Taken};
 ghost use Rattle.par_rounds.specs.Passes.{within, GoesOn, Passed, TookPart};
 ghost use Rattle.par_rounds.specs.Passes.{IsPassable, ArePassable, IsReady, IsSoFar};
 
-use crate::changes::way_at;
 use crate::expr::{operand, visit as visit_test};
 use crate::notes::Notes;
 use crate::pass::{Found, SoFar, finish, flow, head_at, leave, pass_rules, take};
-use crate::way::SharedWay;
 use par_base::memory::NoMemory;
 use par_nodes::expr::start_at;
 use par_nodes::make::{ENTRY, PAST, TESTED};
@@ -32,6 +30,8 @@ use par_nodes::stmt as rules;
 use par_typed::expr::TExpr;
 use par_typed::stmt::{TStmt, TStmtKind};
 use par_typed::table::Table;
+use par_ways::changes::way_at;
+use par_ways::way::SharedWay;
 use std::alloc::Global;
 
 // An expression, whose value may go into a local, and nothing else.

@@ -1,7 +1,6 @@
 -- An expression is passed as its rules say, part by part.
-use Rattle.std.proofs.Common.{[], ◌∷◌, ◌≡◌, Some, None, length, refl, sym, ap, ◌∙◌, subst, rules, arith}
+use Rattle.std.proofs.Common.{[], Some, length, refl, sym, ap, ◌∙◌, subst, rules, arith}
 use Rattle.par_typed.specs.declared.expr.TExprKind.TheViews.{the_lemmas}
-use Rattle.par_bits.specs.Sets.{has}
 use Rattle.par_typed.specs.Shown.{all_shown, receiver, shown, mark_of}
 use Rattle.par_typed.proofs.Shown.{shown_mark}
 use Rattle.par_flow_laws.specs.Body.{args, exp, past, second}
@@ -9,7 +8,7 @@ use Rattle.par_flow_laws.specs.Declares.{declares}
 use Rattle.par_flow_laws.specs.Kinds.{Next, absorbed}
 use Rattle.par_flow_laws.specs.Lattice.{numbers}
 use Rattle.par_flow_laws.specs.Rules.{Entry, Done, Part, Rules, goes_on, spot, way}
-use Rattle.par_nodes.specs.Seen.{seen_origin, seen_rules, seen_start}
+use Rattle.par_nodes.specs.Seen.{seen_origin, seen_start}
 use Rattle.par_nodes.specs.Starts.{call_does, call_start}
 use Rattle.par_nodes.specs.Starts.{behind as behind_of}
 use Rattle.par_flow_laws.specs.Ranges.{IsFromInRange}
@@ -18,8 +17,7 @@ use Rattle.par_nodes.proofs.Expressions.{field_made, output_made, call_made, una
 use Rattle.par_nodes.proofs.Expressions.{binary_made}
 use Rattle.par_nodes.proofs.Expressions.{selected, valued, combined}
 use Rattle.par_pass_laws.specs.par_except.Seen.{may_see, seen, HasLocals}
-use Rattle.par_pass_laws.specs.Pass.{visited, pass}
-use Rattle.par_rounds.specs.Seen.{latest_first, ways_of, AreWide}
+use Rattle.par_ways.specs.Seen.{latest_first, ways_of, AreWide}
 use Rattle.par_rounds.specs.Passes.{within, GoesOn, ArePassable}
 use Rattle.par_rounds.proofs.Arms.{took_part}
 use Rattle.par_rounds.proofs.Calls.{start_in_range, arg_needs, arg_next, args_led, none_led, some_is}

@@ -1,7 +1,6 @@
 -- A statement is passed as its rules say, part by part.
 use Rattle.std.proofs.Common.{[], Some, length, refl, sym, ap, ◌∙◌, subst, rules, arith}
 use Rattle.par_typed.specs.declared.stmt.TStmtKind.TheViews.{the_lemmas}
-use Rattle.par_bits.specs.Sets.{has}
 use Rattle.par_typed.specs.Shown.{does, otherwise, shown}
 use Rattle.par_typed.specs.declared.stmt.TStmt.{TStmt}
 use Rattle.par_typed.proofs.Shown.{does_point}
@@ -9,7 +8,7 @@ use Rattle.par_flow_laws.specs.Body.{exp, past, tested, sta, if_not, is_forever}
 use Rattle.par_flow_laws.specs.Declares.{declares}
 use Rattle.par_flow_laws.specs.Kinds.{Next, Loop, Normal, absorbed}
 use Rattle.par_flow_laws.specs.Lattice.{numbers}
-use Rattle.par_flow_laws.specs.Rules.{Entry, After, Tested, Assigned, Rules, Done, Part, Heads}
+use Rattle.par_flow_laws.specs.Rules.{Entry, After, Tested, Rules, Done, Part, Heads}
 use Rattle.par_flow_laws.specs.Rules.{goes_on, spot, way}
 use Rattle.par_nodes.specs.Starts.{goes_first, else_rules}
 use Rattle.par_nodes.specs.Seen.{seen_absorber, seen_origin, seen_start}
@@ -17,8 +16,7 @@ use Rattle.par_nodes.proofs.Forms.{seen_ends}
 use Rattle.par_nodes.proofs.Statements.{block_made, if_made, while_made, set_local_made}
 use Rattle.par_nodes.proofs.Statements.{set_static_made, eval_made}
 use Rattle.par_pass_laws.specs.par_except.Seen.{may_see, seen, HasLocals}
-use Rattle.par_pass_laws.specs.Pass.{visited, pass}
-use Rattle.par_rounds.specs.Seen.{latest_first, ways_of, AreWide}
+use Rattle.par_ways.specs.Seen.{latest_first, ways_of, AreWide}
 use Rattle.par_rounds.specs.Passes.{within, GoesOn, IsPassable, ArePassable}
 use Rattle.par_rounds.proofs.Arms.{took_part, done_goes, test_arm, heads_arm, leaves_arm}
 use Rattle.par_rounds.proofs.Blocks.{along_needs, along_next, start_range, stas_end}
