@@ -8,7 +8,7 @@ use Rattle.par_tree.specs.declared.policy.PolicyTerm.TheVariants.{Clauses, Named
 use Rattle.par_tree.specs.declared.policy.PolicyExpr.{PolicyExpr}
 use Rattle.par_resolved.specs.declared.read.Read.{Read}
 use Rattle.par_resolved.specs.Policies.{Known, value_at, term_value, term_values, and_more}
-use Rattle.par_resolved.specs.Policies.{all_some, join_of, value_of, with_value}
+use Rattle.par_resolved.specs.Policies.{join_of, value_of, with_value}
 use Rattle.par_resolved.specs.Read.{AreRead, StillRead}
 use Rattle.par_resolved.proofs.Steps.{all_some_more, nothing_joined}
 
