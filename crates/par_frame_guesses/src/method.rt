@@ -1,3 +1,5 @@
+//! A method, as its frames are looked for.
+
 ghost use Rattle.std.specs.Prelude.{◌≡◌, false, slice_index_or};
 
 use par_class::file::CodeAttr;
@@ -24,7 +26,7 @@ pub struct Method<'m, 'f> {
 
 impl Method<'_, '_> {
     /// Whether the frame of an offset stays as it is.
-    pub(crate) fn is_fixed(&self, at: usize) -> bool
+    pub fn is_fixed(&self, at: usize) -> bool
         ensures { result ≡ slice_index_or self.now.fixed.now at false }
     {
         match self.fixed.get(at) {

@@ -1,13 +1,13 @@
 //! The pieces of a method, and where each goes on.
 
 ghost use Rattle.std.specs.Prelude.{◌≤◌, length};
-ghost use Rattle.par_frame_passes.specs.Methods.{code_in};
+ghost use Rattle.par_frame_guesses.specs.Methods.{code_in};
 
 use crate::back::is_marked;
-use crate::goes::is_around;
+use crate::frames::kept;
+use crate::handler::is_around;
 use crate::method::Method;
 use crate::piece::{Goals, heads, piece_at};
-use crate::table::kept;
 use par_base::memory::NoMemory;
 use par_class::file::Catch;
 use par_frame_acts::caught;

@@ -1,7 +1,7 @@
 //! The offsets to which code goes back: only their frames are needed twice.
 
 ghost use Rattle.std.specs.Prelude.{◌≡◌, ◌≤◌, true, false, length, slice_set, slice_index_or};
-ghost use Rattle.par_frame_passes.specs.Methods.{code_in};
+ghost use Rattle.par_frame_guesses.specs.Methods.{code_in};
 
 use crate::method::Method;
 use par_base::memory::NoMemory;
@@ -10,7 +10,7 @@ use par_starts::distance;
 use std::alloc::Global;
 
 /// Marks an offset, if it is one of those that are told apart.
-pub(crate) fn mark(marks: &mut [bool], at: usize)
+pub fn mark(marks: &mut [bool], at: usize)
     ensures { marks.new ≡ slice_set marks.old at true }
 {
     if at < marks.len() {
@@ -19,7 +19,7 @@ pub(crate) fn mark(marks: &mut [bool], at: usize)
 }
 
 /// Whether an offset is marked.
-pub(crate) fn is_marked(marks: &[bool], at: usize) -> bool
+pub fn is_marked(marks: &[bool], at: usize) -> bool
     ensures { result ≡ slice_index_or marks.now at false }
 {
     match marks.get(at) {
@@ -42,7 +42,7 @@ fn mark_goal(bytes: &[u8], marks: &mut [bool], at: usize)
 }
 
 /// Of each offset whether a jump of the code goes back to it.
-pub(crate) fn back_offsets(alloc: Global, method: &Method) -> Result<Vec<bool>, NoMemory>
+pub fn back_offsets(alloc: Global, method: &Method) -> Result<Vec<bool>, NoMemory>
     requires { length (code_in method.now).code ≤ 65535 }
 {
     let bytes = method.code.code.as_slice();

@@ -1,11 +1,11 @@
 //! Code in pieces: each goes straight on to its end.
 
 ghost use Rattle.std.specs.Prelude.{◌≤◌, length};
-ghost use Rattle.par_frame_passes.specs.Methods.{code_in};
+ghost use Rattle.par_frame_guesses.specs.Methods.{code_in};
 
 use crate::back::{is_marked, mark};
+use crate::frames::kept;
 use crate::method::Method;
-use crate::table::kept;
 use par_base::memory::NoMemory;
 use par_class::file::Catch;
 use par_frame_acts::act;

@@ -5,14 +5,14 @@
 //! goes on by itself, and no other place is looked at again.
 
 ghost use Rattle.std.specs.Prelude.{◌≤◌, length};
-ghost use Rattle.par_frame_passes.specs.Methods.{code_in};
+ghost use Rattle.par_frame_guesses.specs.Methods.{code_in};
 
 use crate::back::{back_offsets, is_marked};
 use crate::facts::Facts;
+use crate::frames::kept;
 use crate::likes::{join, likes};
 use crate::method::Method;
 use crate::spots::{Spot, spots};
-use crate::table::kept;
 use par_base::memory::NoMemory;
 use par_frame_steps::{Pile, PlaceFrame, PlaceKind};
 use par_small_kinds::{Before, Classes};
@@ -26,9 +26,9 @@ const NAMED: usize = 256;
 
 /// A frame that is guessed of an offset.
 #[derive(Drop)]
-pub(crate) struct Guess<'f> {
-    pub(crate) at: u32,
-    pub(crate) frame: PlaceFrame<'f>,
+pub struct Guess<'f> {
+    pub at: u32,
+    pub frame: PlaceFrame<'f>,
 }
 
 /// The pieces of a method, and what is known before them.
@@ -193,7 +193,7 @@ fn is_guessable(method: &Method, back: &[bool]) -> bool {
 
 /// Frames for the offsets to which code goes back, from those that stand; none where they are not
 /// found soon.
-pub(crate) fn guessed<'f>(
+pub fn guessed<'f>(
     alloc: Global,
     method: &Method<'_, 'f>,
     table: &[Option<PlaceFrame<'f>>],

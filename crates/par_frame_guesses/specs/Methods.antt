@@ -7,14 +7,14 @@ use Rattle.par_class.specs.declared.file.CodeAttr.{CodeAttr}
 use Rattle.par_values.specs.Areas.{Name}
 use Rattle.par_single.specs.Descriptors.{kind_of}
 use Rattle.par_single.specs.Walk.{starts_at}
-use Rattle.par_frame_moves.specs.par_kinds.declared.frame.VKind.{VKind}
-use Rattle.par_frame_moves.specs.par_kinds.Acts.{Act}
-use Rattle.par_frame_moves.specs.par_kinds.Fits.{Given}
-use Rattle.par_frame_moves.specs.par_kinds.Linked.{caught_kind}
-use Rattle.par_frame_moves.specs.par_kinds.Shapes as shapes
-use Rattle.par_frame_moves.specs.par_kinds.Shapes.{shape_at}
+use Rattle.par_frame_steps.specs.par_kinds.declared.frame.VKind.{VKind}
+use Rattle.par_frame_steps.specs.par_kinds.Acts.{Act}
+use Rattle.par_frame_steps.specs.par_kinds.Fits.{Given}
+use Rattle.par_frame_steps.specs.par_kinds.Linked.{caught_kind}
+use Rattle.par_frame_steps.specs.par_kinds.Shapes as shapes
+use Rattle.par_frame_steps.specs.par_kinds.Shapes.{shape_at}
 use Rattle.par_frame_steps.specs.Marks.{names}
-use Rattle.par_frame_passes.specs.declared.method.Method.{Method}
+use Rattle.par_frame_guesses.specs.declared.method.Method.{Method}
 
 abbrev pub exc_of : Method → List Name
 exc_of m = names m.exceptions.now
