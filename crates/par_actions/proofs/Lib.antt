@@ -1,4 +1,3 @@
-pub mod Quotients
 pub mod Reasons
 pub mod Shapes
 pub mod Keeping

@@ -9,7 +9,6 @@
 #![tactic(auto)]
 
 pub mod births;
-mod bits;
 mod branches;
 pub mod callee;
 mod calls;
@@ -20,7 +19,6 @@ pub mod fit;
 mod objects;
 mod operands;
 mod operators;
-mod sums;
 mod tests;
 mod values;
 mod wrong_indices;

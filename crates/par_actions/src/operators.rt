@@ -9,10 +9,12 @@ ghost use Rattle.par_values.specs.Reasons.{Spot};
 ghost use Rattle.par_actions.specs.Combining.{operator_of};
 ghost use Rattle.par_actions.specs.Done.{IsAt, Comes, Keeps, is_still};
 
-use crate::bits::{and, or, shift_left, shift_right, shift_right_unsigned, xor};
 use crate::done::Done;
 use crate::operands::{Number, Numbers, last_number, last_numbers, local_number};
-use crate::sums::{minus, negated, plus, quotient, remainder, times};
+use par_arithmetic::{
+    and, minus, negated, or, plus, quotient, remainder, shift_left, shift_right,
+    shift_right_unsigned, times, xor,
+};
 use par_stack::Stack;
 use par_values::value::MVal;
 

@@ -1,6 +1,10 @@
 //! What code small bodies have, over the trees that the reader and the typing give, with ample
 //! memory.
 
+ghost use Rattle.std.specs.Prelude.{IfOk};
+ghost use Rattle.par_typed.specs.Shown.{bodies};
+ghost use Rattle.par_typed_laws.specs.WellTyped.{IsWellTyped};
+
 use par_code::{Handler, Item, LabelFrame, Labelled, Slot, code_of};
 use par_code_form::opcode::{
     GETFIELD, GETSTATIC, GOTO, IF_ACMPEQ, IF_ACMPNE, IF_ICMPEQ, IFEQ, IFNE, INVOKESPECIAL,
@@ -113,7 +117,10 @@ pub fn are_items(items: &[Item], wanted: &[Wanted]) -> bool {
     true
 }
 
-pub fn typed(alloc: Global, source: &[u8]) -> Result<Typed, Fail> {
+/// The typed program of a source.
+pub fn typed(alloc: Global, source: &[u8]) -> Result<Typed, Fail>
+    ensures { IfOk result (λ typed. IsWellTyped typed.table (bodies typed.bodies)) }
+{
     let tokens = lex(alloc, source)?;
     if tokens.len() > 262_144 {
         return Err(Fail::new("too many tokens"));

@@ -13,14 +13,23 @@ use std::test::Fail;
 
 const BAD: u16 = 5;
 
+// The policies of two locals.
+fn locals(alloc: Global, first: u16, second: u16) -> Result<List<Atoms>, NoMemory>
+    requires { (first < 256) × (second < 256) }
+    ensures { IfOk result (λ env. length env ≡ 2) }
+{
+    let mut env = List::new(alloc);
+    env.push(Atoms::empty().with(first))?;
+    env.push(Atoms::empty().with(second))?;
+    Ok(env)
+}
+
 // A way by a policy of its context, one of each local, and a lock.
 fn way(alloc: Global, context: u16, first: u16, second: u16, lock: u32) -> Result<Way, NoMemory>
     requires { (context < 256) × (first < 256) × (second < 256) × (lock < 256) }
     ensures { IfOk result (λ w. length w.env ≡ 2) }
 {
-    let mut env = List::new(alloc);
-    env.push(Atoms::empty().with(first))?;
-    env.push(Atoms::empty().with(second))?;
+    let env = locals(alloc, first, second)?;
     Ok(Way {
         context: Atoms::empty().with(context),
         env,
@@ -58,50 +67,115 @@ fn ways(alloc: Global, policy: u16, lock: u32) -> Result<Ways, NoMemory>
     Ok(ways)
 }
 
-// The policies of its context and of its first local, and the locks of a way.
-fn is_way(way: &Way, context: &[u16], first: &[u16], locks: &[u32]) -> bool {
-    let local = way.env.get(0);
-    has_all(&way.context, context)
-        && local.is_some_and(|set| has_all(set, first))
-        && (0..256).all(|lock| way.locks.has(lock) == locks.contains(&lock))
+// What a way is to have: the policies of its context and of its first local, and its locks.
+struct Wanted {
+    context: &'static [u16],
+    first: &'static [u16],
+    locks: &'static [u32],
 }
 
-fn has_all(set: &Atoms, policies: &[u16]) -> bool {
+fn has_policies(set: &Atoms, policies: &[u16]) -> bool {
     (0..256).all(|policy| set.has(policy) == policies.contains(&policy))
+}
+
+fn has_locks(set: &Bits<4>, locks: &[u32]) -> bool {
+    (0..256).all(|lock| set.has(lock) == locks.contains(&lock))
+}
+
+fn is_way(way: &Way, wanted: &Wanted) -> bool {
+    match way.env.get(0) {
+        Some(local) => {
+            has_policies(&way.context, wanted.context)
+                && has_policies(local, wanted.first)
+                && has_locks(&way.locks, wanted.locks)
+        }
+        None => false,
+    }
+}
+
+fn is_exit(exit: &Option<Way>, wanted: &Wanted) -> bool {
+    match exit {
+        Some(way) => is_way(way, wanted),
+        None => false,
+    }
+}
+
+// Whether one class is thrown, by this way.
+fn is_thrown(ways: &Ways, wanted: &Wanted) -> bool {
+    match ways.throws.get(0) {
+        Some(throw) => ways.throws.len() == 1 && throw.0 == BAD && is_way(&throw.1, wanted),
+        None => false,
+    }
+}
+
+const JOINED: Wanted = Wanted {
+    context: &[10, 20],
+    first: &[1],
+    locks: &[0],
+};
+
+const JOINED_THROW: Wanted = Wanted {
+    context: &[13, 23],
+    first: &[10, 20],
+    locks: &[0],
+};
+
+fn are_joined(both: &Ways) -> bool {
+    is_exit(&both.normal, &JOINED) && is_thrown(both, &JOINED_THROW) && both.ret.is_none()
 }
 
 fn joins(alloc: Global) -> Result<bool, NoMemory> {
     let one = ways(alloc, 10, 3)?;
     let other = ways(alloc, 20, 4)?;
     let both = join(alloc, &one, &other)?;
-    let normal = both
-        .normal
-        .as_ref()
-        .is_some_and(|way| is_way(way, &[10, 20], &[1], &[0]));
-    let thrown = both.throws.get(0).is_some_and(|throw| throw.0 == BAD
-        && is_way(&throw.1, &[13, 23], &[10, 20], &[0]));
-    Ok(normal && thrown && both.ret.is_none() && both.throws.len() == 1)
+    Ok(are_joined(&both))
 }
+
+const RAISED: Wanted = Wanted {
+    context: &[7, 10],
+    first: &[1],
+    locks: &[0, 3],
+};
 
 fn raises(alloc: Global) -> Result<bool, NoMemory> {
     let low = way(alloc, 10, 1, 2, 3)?;
     let high = raise(alloc, &low, &Atoms::empty().with(7))?;
-    Ok(is_way(&high, &[7, 10], &[1], &[0, 3]))
+    Ok(is_way(&high, &RAISED))
 }
+
+const THROWN: Wanted = Wanted {
+    context: &[13],
+    first: &[10],
+    locks: &[0, 3],
+};
 
 fn absorbs_throw(alloc: Global) -> Result<bool, NoMemory> {
     let all = ways(alloc, 10, 3)?;
     let (way, rest) = absorb_throw(alloc, &all, BAD)?;
-    let taken = way.is_some_and(|way| is_way(&way, &[13], &[10], &[0, 3]));
-    Ok(taken && rest.throws.len() == 0 && rest.brk.is_some())
+    Ok(is_exit(&way, &THROWN) && rest.throws.len() == 0 && rest.brk.is_some())
+}
+
+const BROKEN: Wanted = Wanted {
+    context: &[11],
+    first: &[1],
+    locks: &[0, 3],
+};
+
+const CONTINUED: Wanted = Wanted {
+    context: &[12],
+    first: &[1],
+    locks: &[0, 3],
+};
+
+// Whether neither a break nor a continue is left, and one class is thrown.
+fn are_absorbed(rest: &Ways) -> bool {
+    rest.brk.is_none() && rest.cont.is_none() && rest.throws.len() == 1
 }
 
 fn absorbs_loop(alloc: Global) -> Result<bool, NoMemory> {
     let all = ways(alloc, 10, 3)?;
     let (brk, cont, rest) = absorb_loop(alloc, &all)?;
-    let brk = brk.is_some_and(|way| is_way(&way, &[11], &[1], &[0, 3]));
-    let cont = cont.is_some_and(|way| is_way(&way, &[12], &[1], &[0, 3]));
-    Ok(brk && cont && rest.brk.is_none() && rest.cont.is_none() && rest.throws.len() == 1)
+    Ok(is_exit(&brk, &BROKEN) && is_exit(&cont, &CONTINUED) && are_absorbed(&rest))
 }
 
 #[test]

@@ -7,6 +7,7 @@ ghost use Rattle.par_policy_reader.specs.par_reader.Reads.{input};
 ghost use Rattle.par_tree.specs.Grammar as g;
 ghost use Rattle.par_tree.specs.Values as built;
 ghost use Rattle.par_policy_reader.specs.par_language_laws.Reads.{Reads};
+ghost use Rattle.par_exprs.specs.Exprs.{tree};
 ghost use Rattle.par_stmts.specs.Reads.{a_stmt};
 
 use crate::make;
@@ -18,6 +19,7 @@ use par_policy_reader::par_reader::cursor::Cursor;
 use par_policy_reader::par_reader::error::ParseError;
 use par_policy_reader::policy::may_policy;
 use par_policy_reader::types::{any_type, may_notnull};
+use par_tree::expr::Expr;
 use par_tree::policy::PolicyExpr;
 use par_tree::stmt::Stmt;
 use par_tree::types::TypeTree;
@@ -64,6 +66,20 @@ pub fn typed_local(alloc: Global, cursor: &mut Cursor<'_, Paragon>) -> Result<St
     local_tail(alloc, cursor, None, false, ty)
 }
 
+/// The first value of a local.
+fn first_value(alloc: Global, cursor: &mut Cursor<'_, Paragon>) -> Result<Expr, ParseError>
+    ensures read { Reads
+        (g.sign_ signs.ASSIGN ∷ symbol.restarts ∷ g.expr ∷ g.sign_ signs.SEMICOLON ∷ [])
+        [] tree (input cursor.old) result (input cursor.new) }
+    ensures shorter { OnOk result (length cursor.new.left.now < length cursor.old.left.now) }
+{
+    cursor.take(Sort::Sign(sign::ASSIGN))?;
+    cursor.restart();
+    let value = expr(alloc, cursor)?;
+    cursor.take(Sort::Sign(sign::SEMICOLON))?;
+    Ok(value)
+}
+
 /// The name of a local, and its first value.
 #[tactic(auto, using(par_tree::proofs::Rules::run_built, par_tree::proofs::Rules::local_opens))]
 fn local_tail(
@@ -80,9 +96,6 @@ fn local_tail(
     ensures shorter { OnOk result (length cursor.new.left.now < length cursor.old.left.now) }
 {
     let name = cursor.keep(Sort::Name)?;
-    cursor.take(Sort::Sign(sign::ASSIGN))?;
-    cursor.restart();
-    let value = expr(alloc, cursor)?;
-    cursor.take(Sort::Sign(sign::SEMICOLON))?;
+    let value = first_value(alloc, cursor)?;
     make::local(alloc, name, ty, policy, notnull, value)
 }

@@ -20,7 +20,6 @@ use par_tree::types::TypeTree;
 use std::alloc::Global;
 
 /// Statements in braces, at the first of these.
-#[tactic(auto, using(par_tree::proofs::Shown::doings))]
 pub fn block(brace: &Token, stmts: List<Stmt>) -> Block
     ensures { braces result ≡ plain.In (all_do stmts) brace.now.from }
 {
@@ -31,7 +30,7 @@ pub fn block(brace: &Token, stmts: List<Stmt>) -> Block
 }
 
 /// A block that is a statement, at its brace.
-#[tactic(auto, using(par_tree::proofs::Shown::doings))]
+#[tactic(auto, using(par_tree::proofs::Shown::does_block, par_tree::proofs::Shown::braces_is))]
 pub fn block_stmt(body: Block) -> Stmt
     ensures { does result ≡ built.as_stmt (braces body) }
 {
@@ -57,7 +56,7 @@ fn boxed(alloc: Global, other: Option<Stmt>) -> Result<Option<Box<Stmt>>, ParseE
 }
 
 /// An `if`, at its word, with what stands behind `else`.
-#[tactic(auto, using(par_tree::proofs::Shown::doings))]
+#[tactic(auto, using(par_tree::proofs::Shown::does_if))]
 pub fn if_stmt(
     alloc: Global,
     word: &Token,
@@ -76,7 +75,7 @@ pub fn if_stmt(
 }
 
 /// A `while`, at its word.
-#[tactic(auto, using(par_tree::proofs::Shown::doings))]
+#[tactic(auto, using(par_tree::proofs::Shown::does_while))]
 pub fn while_stmt(word: &Token, test: Expr, body: Block) -> Stmt
     ensures { does result ≡ plain.While (shown test) (braces body) word.now.from }
 {
@@ -87,7 +86,7 @@ pub fn while_stmt(word: &Token, test: Expr, body: Block) -> Stmt
 }
 
 /// A `when`, at its word, with the block behind `else`.
-#[tactic(auto, using(par_tree::proofs::Shown::doings))]
+#[tactic(auto, using(par_tree::proofs::Shown::does_when))]
 pub fn when_stmt(word: &Token, lock: LockTree, body: Block, other: Option<Block>) -> Stmt
     ensures { does result ≡ plain.When lock (braces body) (may_braces other) word.now.from }
 {
@@ -98,7 +97,7 @@ pub fn when_stmt(word: &Token, lock: LockTree, body: Block, other: Option<Block>
 }
 
 /// A `try`, at its word, with its catches.
-#[tactic(auto, using(par_tree::proofs::Shown::doings))]
+#[tactic(auto, using(par_tree::proofs::Shown::does_try))]
 pub fn try_stmt(word: &Token, body: Block, catches: List<CatchTree>) -> Stmt
     ensures { does result ≡ plain.Try (braces body) (all_catch catches) word.now.from }
 {
@@ -109,7 +108,6 @@ pub fn try_stmt(word: &Token, body: Block, catches: List<CatchTree>) -> Stmt
 }
 
 /// What is done where a class is thrown.
-#[tactic(auto, using(par_tree::proofs::Shown::doings))]
 pub fn catch(
     alloc: Global,
     class: &Token,
@@ -128,7 +126,7 @@ pub fn catch(
 }
 
 /// A `return`, at its word, of a value or of none.
-#[tactic(auto, using(par_tree::proofs::Shown::doings))]
+#[tactic(auto, using(par_tree::proofs::Shown::does_return))]
 pub fn return_stmt(word: &Token, value: Option<Expr>) -> Stmt
     ensures { does result ≡ plain.Return (may_shown value) word.now.from }
 {
@@ -139,7 +137,7 @@ pub fn return_stmt(word: &Token, value: Option<Expr>) -> Stmt
 }
 
 /// A `break`, at its word.
-#[tactic(auto, using(par_tree::proofs::Shown::doings))]
+#[tactic(auto, using(par_tree::proofs::Shown::does_break))]
 pub fn break_stmt(word: &Token) -> Stmt
     ensures { does result ≡ plain.Break word.now.from }
 {
@@ -150,7 +148,7 @@ pub fn break_stmt(word: &Token) -> Stmt
 }
 
 /// A `continue`, at its word.
-#[tactic(auto, using(par_tree::proofs::Shown::doings))]
+#[tactic(auto, using(par_tree::proofs::Shown::does_continue))]
 pub fn continue_stmt(word: &Token) -> Stmt
     ensures { does result ≡ plain.Continue word.now.from }
 {
@@ -161,7 +159,7 @@ pub fn continue_stmt(word: &Token) -> Stmt
 }
 
 /// A `throw` of a new object of a class, at its word.
-#[tactic(auto, using(par_tree::proofs::Shown::doings))]
+#[tactic(auto, using(par_tree::proofs::Shown::does_throw))]
 pub fn throw_stmt(alloc: Global, word: &Token, class: &Token) -> Result<Stmt, ParseError>
     requires { IsOf sort.Name class.now }
     ensures { MakesStmt (plain.Throw (built.ident class.now) word.now.from) result }
@@ -174,7 +172,7 @@ pub fn throw_stmt(alloc: Global, word: &Token, class: &Token) -> Result<Stmt, Pa
 }
 
 /// The opening of a lock, at its word.
-#[tactic(auto, using(par_tree::proofs::Shown::doings))]
+#[tactic(auto, using(par_tree::proofs::Shown::does_open))]
 pub fn open_stmt(word: &Token, lock: LockTree) -> Stmt
     ensures { does result ≡ plain.Open lock word.now.from }
 {
@@ -185,7 +183,7 @@ pub fn open_stmt(word: &Token, lock: LockTree) -> Stmt
 }
 
 /// The closing of a lock, at its word.
-#[tactic(auto, using(par_tree::proofs::Shown::doings))]
+#[tactic(auto, using(par_tree::proofs::Shown::does_close))]
 pub fn close_stmt(word: &Token, lock: LockTree) -> Stmt
     ensures { does result ≡ plain.Close lock word.now.from }
 {
@@ -196,7 +194,7 @@ pub fn close_stmt(word: &Token, lock: LockTree) -> Stmt
 }
 
 /// A local, declared at its name.
-#[tactic(auto, using(par_tree::proofs::Shown::doings))]
+#[tactic(auto, using(par_tree::proofs::Shown::does_local))]
 pub fn local(
     alloc: Global,
     name: &Token,
@@ -240,7 +238,7 @@ pub fn class_local(
 }
 
 /// An assignment, at the place of its target.
-#[tactic(auto, using(par_tree::proofs::Shown::doings, par_tree::proofs::Shown::shown_place))]
+#[tactic(auto, using(par_tree::proofs::Shown::does_assign, par_tree::proofs::Shown::shown_place))]
 pub fn assignment(target: Expr, value: Expr) -> Stmt
     ensures { does result ≡ plain.Assign (shown target) (shown value) (plain.place (shown target)) }
 {
@@ -252,7 +250,7 @@ pub fn assignment(target: Expr, value: Expr) -> Stmt
 }
 
 /// A call that is a statement, at the place of the call.
-#[tactic(auto, using(par_tree::proofs::Shown::doings, par_tree::proofs::Shown::shown_place))]
+#[tactic(auto, using(par_tree::proofs::Shown::does_call, par_tree::proofs::Shown::shown_place))]
 pub fn call_stmt(call: Expr) -> Stmt
     ensures { does result ≡ plain.Do (shown call) (plain.place (shown call)) }
 {

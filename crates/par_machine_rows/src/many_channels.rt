@@ -1,6 +1,6 @@
 //! A class with 32,768 channels, and an input file with a line for each.
 
-use crate::programs::RUN;
+use crate::hostile_programs::RUN;
 use par_io::{MemFolder, NoMemory};
 use par_row_calls::{Answer, answers};
 use par_worked::expect;

@@ -1,6 +1,6 @@
 //! Input files that are not right, and those at the border of what is read.
 
-use crate::programs::{ONE_CLASS, RUN, class_files};
+use crate::hostile_programs::{ONE_CLASS, RUN, class_files};
 use par_io::NoMemory;
 use par_row_calls::{Answer, answers};
 use par_worked::expect;

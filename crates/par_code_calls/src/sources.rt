@@ -1,33 +1,11 @@
 //! Sources of tests, and their files.
 
-ghost use Rattle.std.specs.Prelude.{IfOk};
-ghost use Rattle.par_typed.specs.Shown.{bodies};
-ghost use Rattle.par_typed_laws.specs.WellTyped.{IsWellTyped};
-
+use crate::bodies::typed;
 use par_class::{ClassFile, LONGEST_CLASS, read_class};
 use par_compile::{CompiledClass, compile};
-use par_lexer::lex;
 use par_lexer::list::List;
-use par_parser::parse;
-use par_table::build;
-use par_typed::program::Typed;
-use par_typing::type_program;
 use std::alloc::Global;
 use std::test::Fail;
-
-/// The typed program of a source.
-fn typed(alloc: Global, source: &[u8]) -> Result<Typed, Fail>
-    ensures { IfOk result (λ typed. IsWellTyped typed.table (bodies typed.bodies)) }
-{
-    let tokens = lex(alloc, source)?;
-    if tokens.len() > 262_144 {
-        return Err(Fail::new("too many tokens"));
-    }
-    let program = parse(alloc, tokens.as_slice())?;
-    let table = build(alloc, &program)?;
-    let typed = type_program(alloc, table, &program)?;
-    Ok(typed)
-}
 
 /// The class files of a source.
 pub fn files_of(alloc: Global, source: &[u8]) -> Result<List<CompiledClass>, Fail> {

@@ -1,6 +1,6 @@
 //! Puts that fail, each in turn, in each form of words and of each answer.
 
-use crate::programs::{EVENTS, RUN, THREE_CLASSES, VERIFY, class_files, source};
+use crate::hostile_programs::{EVENTS, RUN, THREE_CLASSES, VERIFY, class_files, source};
 use par_io::{MemFolder, MemSink, NoMemory};
 use par_row_calls::{ACCEPTED, Answer, Lines, call, with_lines};
 use par_worked::expect;

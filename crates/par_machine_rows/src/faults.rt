@@ -1,6 +1,6 @@
 //! Reads and writes that fail, each in turn.
 
-use crate::programs::{EVENTS, RUN, THREE_CLASSES, VERIFY, class_files, source};
+use crate::hostile_programs::{EVENTS, RUN, THREE_CLASSES, VERIFY, class_files, source};
 use par_io::{MemFolder, MemSink, NoMemory};
 use par_row_calls::{Answer, answers, call};
 use par_worked::expect;

@@ -1,7 +1,7 @@
 use Rattle.std.proofs.Common.{ℤ, ap, ◌∙◌}
 use Rattle.std.specs.Int.{w32, int_wrapping_neg}
 use Rattle.std.proofs.lemmas.Int.{to_z-of_z, wrapping_neg_is}
-use Rattle.par_actions.proofs.sums.negated.Goals as goal
+use Rattle.par_arithmetic.proofs.sums.negated.Goals as goal
 
 pub returns : goal.returns
 returns c =

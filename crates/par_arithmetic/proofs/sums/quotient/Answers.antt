@@ -1,8 +1,8 @@
 use Rattle.std.proofs.Common.{◌∙◌}
 use Rattle.std.specs.Int.{w32}
 use Rattle.std.proofs.lemmas.Int.{to_z-of_z}
-use Rattle.par_actions.proofs.Quotients.{wrapped}
-use Rattle.par_actions.proofs.sums.quotient.Goals as goal
+use Rattle.par_arithmetic.proofs.Quotients.{wrapped}
+use Rattle.par_arithmetic.proofs.sums.quotient.Goals as goal
 
 pub returns-clause-some : goal.returns-clause-some
 returns-clause-some c =

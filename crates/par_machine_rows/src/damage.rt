@@ -1,6 +1,6 @@
 //! Class files that are cut at each length, lengthened, changed at each byte, or absent.
 
-use crate::programs::{EVENTS, ONE_CLASS, RUN, TWO_CLASSES, VERIFY, class_files};
+use crate::hostile_programs::{EVENTS, ONE_CLASS, RUN, TWO_CLASSES, VERIFY, class_files};
 use par_io::{MemFolder, MemSink, NoMemory};
 use par_row_calls::{Answer, Lines, answers, call};
 use par_worked::expect;
