@@ -5,6 +5,7 @@ pub mod Seen
 pub mod Numbers
 pub mod Policies
 pub mod Read
+pub mod Same
 pub mod Statements
 pub mod Gathered
 pub mod Written

@@ -18,6 +18,7 @@ mod near;
 pub mod numbers;
 pub mod queried;
 mod read;
+mod same;
 pub mod scope;
 mod settled;
 mod statements;
