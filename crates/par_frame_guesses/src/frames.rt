@@ -8,7 +8,7 @@ ghost use Rattle.par_frame_guesses.specs.Frames.{table_of};
 
 use par_frame_steps::PlaceFrame;
 
-/// The frame of an offset.
+/// The frame of an offset, if one stands there.
 #[tactic(auto, unfolding(par_frame_pass_laws::specs::Passes::frame_at))]
 pub fn kept<'t, 'f>(table: &'t [Option<PlaceFrame<'f>>], at: usize) -> Option<&'t PlaceFrame<'f>>
     ensures { option_map (λ frame. frame_of frame.now) result
