@@ -169,13 +169,24 @@ pub no_bodies_left : (bs : List TBody) (i : ℕ) → length bs ≤ i
     → asked_in (typed.bodies (drop i bs)) ≡ none
 no_bodies_left bs i le = ap (λ xs. asked_in (typed.bodies xs)) (left_none bs i le)
 
-pub ruleset gathers = (
-  typed_doings,
+-- locks that are asked for, put together
+pub ruleset joins = (
   either_assoc,
   either_none,
   none_either,
   none_has,
   gained,
+)
+
+-- what stands behind `else`, or nothing
+pub ruleset elses = (else_none, else_some, joins)
+
+-- one statement or one catch of a row
+pub ruleset rows = (all_end, all_then, catches_none, catches_some, joins)
+
+-- each kind of statement
+pub ruleset gathers = (
+  typed_doings,
   asks_block,
   asks_if,
   asks_while,
@@ -191,10 +202,5 @@ pub ruleset gathers = (
   asks_set_field,
   asks_eval,
   asks_when,
-  else_none,
-  else_some,
-  all_end,
-  all_then,
-  catches_none,
-  catches_some,
+  joins,
 )

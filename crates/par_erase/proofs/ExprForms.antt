@@ -140,6 +140,19 @@ pub no_args_left : (es : List TExpr) (i : ℕ) → length es ≤ i
     → typed.all_shown (drop i es) ≡ NoExps
 no_args_left es i le = ap typed.all_shown (left_none es i le)
 
+-- a receiver or a value, or none
+pub ruleset receiver_forms = (erased_absent, erased_present)
+
+-- one argument of a row
+pub ruleset arg_forms = (
+  erased_none,
+  erased_more,
+  args_before_none,
+  args_before_with,
+  args_before_end,
+)
+
+-- each kind of expression
 pub ruleset erases = (
   shows,
   typed_shows,
@@ -157,11 +170,4 @@ pub ruleset erases = (
   erased_neg,
   erased_not,
   erased_binary,
-  erased_absent,
-  erased_present,
-  erased_none,
-  erased_more,
-  args_before_none,
-  args_before_with,
-  args_before_end,
 )

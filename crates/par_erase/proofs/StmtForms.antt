@@ -190,6 +190,24 @@ pub no_catches_left : (cs : List TCatch) (i : ℕ) → length cs ≤ i
     → typed.all_catch (drop i cs) ≡ NoCatch
 no_catches_left cs i le = ap typed.all_catch (left_none cs i le)
 
+-- what stands behind `else`, or nothing
+pub ruleset else_forms = (erased_no_else, erased_otherwise)
+
+-- one statement or one catch of a row
+pub ruleset row_forms = (
+  erased_end,
+  erased_then,
+  erased_no_catch,
+  erased_catch,
+  stas_before_none,
+  stas_before_with,
+  stas_before_end,
+  catches_before_none,
+  catches_before_with,
+  catches_before_end,
+)
+
+-- each kind of statement
 pub ruleset erases = (
   doings,
   typed_doings,
@@ -208,17 +226,5 @@ pub ruleset erases = (
   erased_set_field,
   erased_eval,
   erased_when,
-  erased_no_else,
-  erased_otherwise,
-  erased_end,
-  erased_then,
-  erased_no_catch,
-  erased_catch,
   lock_set_is,
-  stas_before_none,
-  stas_before_with,
-  stas_before_end,
-  catches_before_none,
-  catches_before_with,
-  catches_before_end,
 )

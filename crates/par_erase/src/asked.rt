@@ -24,7 +24,7 @@ pub fn asked_in(alloc: Global, bodies: &[TBody]) -> Result<Lockset, NoMemory>
     Ok(found)
 }
 
-#[tactic(auto, using(crate::proofs::Asks::gathers))]
+#[tactic(auto, using(crate::proofs::Asks::joins))]
 fn add(found: &mut Lockset, lock: u16) -> Result<(), NoMemory>
     ensures { OnOk result (has found.new ≡ either (has found.old) (only lock)) }
 {
@@ -70,7 +70,7 @@ fn gather(found: &mut Lockset, stmt: &TStmt) -> Result<(), NoMemory>
 }
 
 #[cycle(asked)]
-#[tactic(auto, using(crate::proofs::Asks::gathers))]
+#[tactic(auto, using(crate::proofs::Asks::elses))]
 fn gather_else(found: &mut Lockset, other: &Option<Box<TStmt>>) -> Result<(), NoMemory>
     ensures { OnOk result (has found.new
         ≡ either (has found.old) (else_asks (typed.otherwise other.now))) }
@@ -82,7 +82,7 @@ fn gather_else(found: &mut Lockset, other: &Option<Box<TStmt>>) -> Result<(), No
 }
 
 #[cycle(asked)]
-#[tactic(auto, using(crate::proofs::Asks::gathers))]
+#[tactic(auto, using(crate::proofs::Asks::rows))]
 fn gather_all(found: &mut Lockset, stmts: &[TStmt]) -> Result<(), NoMemory>
     ensures { OnOk result (has found.new
         ≡ either (has found.old) (all_ask (typed.all_do stmts.now))) }
@@ -94,7 +94,7 @@ fn gather_all(found: &mut Lockset, stmts: &[TStmt]) -> Result<(), NoMemory>
 }
 
 #[cycle(asked)]
-#[tactic(auto, using(crate::proofs::Asks::gathers))]
+#[tactic(auto, using(crate::proofs::Asks::rows))]
 fn gather_catches(found: &mut Lockset, catches: &[TCatch]) -> Result<(), NoMemory>
     ensures { OnOk result (has found.new
         ≡ either (has found.old) (catches_ask (typed.all_catch catches.now))) }

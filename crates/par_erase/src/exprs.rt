@@ -83,7 +83,7 @@ fn erase_boxed(alloc: Global, table: &Table, expr: &TExpr) -> Result<Box<PExpr>,
 }
 
 #[cycle(expr)]
-#[tactic(auto, using(crate::proofs::ExprForms::erases))]
+#[tactic(auto, using(crate::proofs::ExprForms::receiver_forms))]
 fn erase_receiver(
     alloc: Global,
     table: &Table,
@@ -102,7 +102,7 @@ fn erase_receiver(
 }
 
 #[cycle(expr)]
-#[tactic(auto, using(crate::proofs::ExprForms::erases))]
+#[tactic(auto, using(crate::proofs::ExprForms::arg_forms))]
 fn erase_args(alloc: Global, table: &Table, args: &[TExpr]) -> Result<List<PExpr>, NoMemory>
     ensures { IfOk result (λ es. plain.all_shown (inputs_in table.now) es
         ≡ erased_args table.now (typed.all_shown args.now)) }

@@ -19,7 +19,7 @@ use par_typed::table::Table;
 use std::alloc::Global;
 
 /// The value behind `return`, if one is written.
-#[tactic(auto, using(crate::proofs::ExprForms::erases))]
+#[tactic(auto, using(crate::proofs::ExprForms::receiver_forms))]
 fn erase_value(
     alloc: Global,
     table: &Table,
@@ -133,7 +133,7 @@ fn erase_boxed(
 }
 
 #[cycle(stmt)]
-#[tactic(auto, using(crate::proofs::StmtForms::erases))]
+#[tactic(auto, using(crate::proofs::StmtForms::else_forms))]
 fn erase_else(
     alloc: Global,
     table: &Table,
@@ -153,7 +153,7 @@ fn erase_else(
 }
 
 #[cycle(stmt)]
-#[tactic(auto, using(crate::proofs::StmtForms::erases))]
+#[tactic(auto, using(crate::proofs::StmtForms::row_forms))]
 fn erase_stmts(
     alloc: Global,
     table: &Table,
@@ -172,7 +172,7 @@ fn erase_stmts(
 }
 
 #[cycle(stmt)]
-#[tactic(auto, using(crate::proofs::StmtForms::erases))]
+#[tactic(auto, using(crate::proofs::StmtForms::row_forms))]
 fn erase_catches(
     alloc: Global,
     table: &Table,

@@ -3,7 +3,7 @@
 
 ghost use Rattle.std.specs.Prelude.{◌≡◌, ◌<◌, ◌^◌, [], ◌++◌, map, length, Some, IfOk, OnOk};
 ghost use Rattle.std.specs.Prelude.{is_some};
-ghost use Rattle.std.specs.List.{All};
+ghost use Rattle.std.specs.List.{All, flat_map};
 ghost use Rattle.par_index.specs.Texts.{texts};
 ghost use Rattle.par_single.specs.Descriptors.{method_signature};
 ghost use Rattle.par_single.specs.Members.{text_of, text_at};
@@ -90,15 +90,24 @@ fn put_texts<'f>(all: &mut Vec<&'f [u8]>, entries: &'f [Constant]) -> Result<(),
     Ok(())
 }
 
-/// The text without bytes, and those of the constant pools of some files, one pool behind the
-/// other.
+/// Puts the texts of the constant pools of some files behind others, one pool behind the other.
+fn put_all_texts<'f>(all: &mut Vec<&'f [u8]>, files: &'f [ClassFile]) -> Result<(), NoMemory>
+    ensures { OnOk result (texts all.new.items
+        ≡ texts all.old.items ++ flat_map (λ file. texts_in file.pool.entries) files.now) }
+{
+    for file in files {
+        put_texts(all, file.pool.entries.as_slice())?;
+    }
+    Ok(())
+}
+
+/// The text without bytes, and those of the constant pools of some files.
 fn all_texts(alloc: Global, files: &[ClassFile]) -> Result<Vec<&[u8]>, NoMemory>
     ensures { IfOk result (λ all. texts all.items ≡ all_texts files.now) }
 {
-    let mut all = vec![in alloc; [].as_slice()]?;
-    for file in files {
-        put_texts(&mut all, file.pool.entries.as_slice())?;
-    }
+    let mut all = Vec::new(alloc);
+    all.push([].as_slice())?;
+    put_all_texts(&mut all, files)?;
     Ok(all)
 }
 

@@ -116,6 +116,12 @@ pub class_member : (v : View) (named : Class → List ℕ → Option Bool) (clas
 unfolding member_faults
 class_member v named class at member fs = refl
 
+-- one argument of a row
+pub ruleset arg_forms = (in_no_args, in_more_args, firsts)
+
+-- a value, or none
+pub ruleset value_forms = (in_no_value, in_value, firsts)
+
 pub ruleset form = (
   in_int,
   in_true,

@@ -11,7 +11,7 @@ use Rattle.par_tree.specs.Plain.{NoBraces, Some}
 use Rattle.par_tree.specs.Plain.{Else, NoElse, Otherwise, Stas, End, Then, Catches}
 use Rattle.par_tree.specs.Plain.{NoCatch, Catch}
 use Rattle.par_tree.specs.Plain.{Handler, On}
-use Rattle.par_tree.proofs.Shown.{shows, doings}
+use Rattle.par_tree.proofs.Shown.{braces_is, handler_is, doings}
 use Rattle.par_refusals.proofs.First.{firsts}
 use Rattle.par_names.specs.Declarations.{doubles}
 use Rattle.par_names.specs.Policies.{View, lock_faults, class_fault}
@@ -139,6 +139,23 @@ module _ (v : View) (home : Home) (ls : List (List ℕ)) where
   unfolding handler_faults
   in_on class name b = refl
 
+-- the parts of a statement
+pub ruleset part_forms = (
+  in_braces,
+  in_no_braces,
+  in_some_braces,
+  in_no_else,
+  in_else,
+  in_on,
+  braces_is,
+  handler_is,
+  firsts,
+)
+
+-- one statement or one catch of a row
+pub ruleset row_forms = (in_end, in_then, in_no_catch, in_catch, firsts)
+
+-- each kind of statement
 pub ruleset stmts = (
   in_block,
   in_if,
@@ -154,17 +171,6 @@ pub ruleset stmts = (
   in_assign,
   in_do,
   in_when,
-  in_braces,
-  in_no_braces,
-  in_some_braces,
-  in_no_else,
-  in_else,
-  in_end,
-  in_then,
-  in_no_catch,
-  in_catch,
-  in_on,
-  shows,
   doings,
   firsts,
 )

@@ -156,7 +156,7 @@ fn check_stmt<'a>(
 
 // A block, and the test before it.
 #[cycle(stmt)]
-#[tactic(auto, using(crate::proofs::StmtForms::stmts))]
+#[tactic(auto, using(crate::proofs::StmtForms::part_forms))]
 fn check_arm<'a>(
     alloc: Global,
     view: &View<'_>,
@@ -177,7 +177,7 @@ fn check_arm<'a>(
 
 // The locals of a block leave the scope behind it.
 #[cycle(stmt)]
-#[tactic(auto, using(crate::proofs::StmtForms::stmts))]
+#[tactic(auto, using(crate::proofs::StmtForms::part_forms))]
 fn check_block<'a>(
     alloc: Global,
     view: &View<'_>,
@@ -197,7 +197,7 @@ fn check_block<'a>(
 }
 
 #[cycle(stmt)]
-#[tactic(auto, using(crate::proofs::StmtForms::stmts))]
+#[tactic(auto, using(crate::proofs::StmtForms::part_forms))]
 fn check_else<'a>(
     alloc: Global,
     view: &View<'_>,
@@ -222,7 +222,7 @@ fn check_else<'a>(
 }
 
 #[cycle(stmt)]
-#[tactic(auto, using(crate::proofs::StmtForms::stmts))]
+#[tactic(auto, using(crate::proofs::StmtForms::part_forms))]
 fn check_else_block<'a>(
     alloc: Global,
     view: &View<'_>,
@@ -242,7 +242,7 @@ fn check_else_block<'a>(
 }
 
 #[cycle(stmt)]
-#[tactic(auto, using(crate::proofs::StmtForms::stmts))]
+#[tactic(auto, using(crate::proofs::StmtForms::row_forms))]
 fn check_stmts<'a>(
     alloc: Global,
     view: &View<'_>,
@@ -262,7 +262,7 @@ fn check_stmts<'a>(
 }
 
 #[cycle(stmt)]
-#[tactic(auto, using(crate::proofs::StmtForms::stmts))]
+#[tactic(auto, using(crate::proofs::StmtForms::row_forms))]
 fn check_catches<'a>(
     alloc: Global,
     view: &View<'_>,
@@ -283,7 +283,7 @@ fn check_catches<'a>(
 
 // What a catch calls the caught object is in no scope.
 #[cycle(stmt)]
-#[tactic(auto, using(crate::proofs::StmtForms::stmts))]
+#[tactic(auto, using(crate::proofs::StmtForms::part_forms))]
 fn check_catch<'a>(
     alloc: Global,
     view: &View<'_>,

@@ -183,7 +183,7 @@ fn check_callee(
 }
 
 #[cycle(expr)]
-#[tactic(auto, using(crate::proofs::ExprForms::form))]
+#[tactic(auto, using(crate::proofs::ExprForms::arg_forms))]
 fn check_args(
     view: &View<'_>,
     home: &Home<'_>,
@@ -200,7 +200,7 @@ fn check_args(
 }
 
 /// Notes the broken rules of a value, where there is one.
-#[tactic(auto, using(crate::proofs::ExprForms::form))]
+#[tactic(auto, using(crate::proofs::ExprForms::value_forms))]
 pub fn check_value(
     view: &View<'_>,
     home: &Home<'_>,

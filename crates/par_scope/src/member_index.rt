@@ -49,6 +49,30 @@ fn method_names<'a>(alloc: Global, methods: &'a [MethodInfo]) -> Result<Vec<&'a 
     Ok(names)
 }
 
+fn fields_by_name<'a>(alloc: Global, fields: &'a [FieldInfo]) -> Result<NameIndex<'a>, NoMemory>
+    ensures { IfOk result (λ index. texts index.names.items ≡ map (λ f. f.name) fields.now) }
+{
+    let names = field_names(alloc, fields)?;
+    NameIndex::of(alloc, names)
+}
+
+fn channels_by_name<'a>(
+    alloc: Global,
+    channels: &'a [ChannelInfo],
+) -> Result<NameIndex<'a>, NoMemory>
+    ensures { IfOk result (λ index. texts index.names.items ≡ map (λ c. c.name) channels.now) }
+{
+    let names = channel_names(alloc, channels)?;
+    NameIndex::of(alloc, names)
+}
+
+fn methods_by_name<'a>(alloc: Global, methods: &'a [MethodInfo]) -> Result<NameIndex<'a>, NoMemory>
+    ensures { IfOk result (λ index. texts index.names.items ≡ map (λ m. m.name) methods.now) }
+{
+    let names = method_names(alloc, methods)?;
+    NameIndex::of(alloc, names)
+}
+
 /// The names of the members of this class.
 pub(crate) fn members_of_class<'a>(
     alloc: Global,
@@ -56,12 +80,9 @@ pub(crate) fn members_of_class<'a>(
 ) -> Result<MemberIndex<'a>, NoMemory>
     ensures { IfOk result (λ index. members_indexed index ≡ member_names class.now) }
 {
-    let fields = field_names(alloc, class.fields.as_slice())?;
-    let channels = channel_names(alloc, class.channels.as_slice())?;
-    let methods = method_names(alloc, class.methods.as_slice())?;
     Ok(MemberIndex {
-        fields: NameIndex::of(alloc, fields)?,
-        channels: NameIndex::of(alloc, channels)?,
-        methods: NameIndex::of(alloc, methods)?,
+        fields: fields_by_name(alloc, class.fields.as_slice())?,
+        channels: channels_by_name(alloc, class.channels.as_slice())?,
+        methods: methods_by_name(alloc, class.methods.as_slice())?,
     })
 }

@@ -14,7 +14,7 @@ use Rattle.par_tree.specs.Plain.{Else, NoElse, Otherwise, Stas, End, Then, Catch
 use Rattle.par_tree.specs.Plain.{Handler, On}
 use Rattle.par_tree.specs.Plain as plain
 use Rattle.par_tree.specs.Shown.{does_at}
-use Rattle.par_tree.proofs.Shown.{doings, shows}
+use Rattle.par_tree.proofs.Shown.{braces_is, handler_is, doings}
 use Rattle.par_refusals.specs.First.{when, broken}
 use Rattle.par_refusals.proofs.First.{firsts}
 use Rattle.par_completes.specs.Completes.{completes}
@@ -285,6 +285,30 @@ does_place (stmt.Assign target value) at = refl
 does_place (stmt.Call e) at = refl
 does_place (stmt.When' lock b o) at = refl
 
+-- the parts of a statement
+pub ruleset part_forms = (
+  braces_faults_in,
+  may_braces_faults_nobraces,
+  may_braces_faults_some,
+  else_faults_noelse,
+  else_faults_otherwise,
+  handler_faults_on,
+  braces_is,
+  handler_is,
+  firsts,
+)
+
+-- one statement or one catch of a row
+pub ruleset row_forms = (
+  stmts_faults_end,
+  stmts_faults_then,
+  catches_faults_nocatch,
+  catches_faults_catch,
+  does_place,
+  firsts,
+)
+
+-- each kind of statement
 pub ruleset found_in = (
   declares_block,
   declares_if,
@@ -314,18 +338,6 @@ pub ruleset found_in = (
   stmt_faults_assign,
   stmt_faults_do,
   stmt_faults_when,
-  braces_faults_in,
-  may_braces_faults_nobraces,
-  may_braces_faults_some,
-  else_faults_noelse,
-  else_faults_otherwise,
-  stmts_faults_end,
-  stmts_faults_then,
-  catches_faults_nocatch,
-  catches_faults_catch,
-  handler_faults_on,
-  does_place,
-  shows,
   doings,
   firsts,
 )

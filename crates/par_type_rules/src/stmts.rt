@@ -206,7 +206,7 @@ fn check_stmt<'a>(
 
 /// Notes the broken rules of a block, and of the test before it.
 #[cycle(stmt)]
-#[tactic(auto, using(crate::proofs::StmtForms::found_in))]
+#[tactic(auto, using(crate::proofs::StmtForms::part_forms))]
 fn check_arm<'a>(
     home: &Home<'_>,
     looped: bool,
@@ -226,7 +226,7 @@ fn check_arm<'a>(
 }
 
 #[cycle(stmt)]
-#[tactic(auto, using(crate::proofs::StmtForms::found_in))]
+#[tactic(auto, using(crate::proofs::StmtForms::part_forms))]
 fn check_else<'a>(
     home: &Home<'_>,
     looped: bool,
@@ -251,7 +251,7 @@ fn check_else<'a>(
 }
 
 #[cycle(stmt)]
-#[tactic(auto, using(crate::proofs::StmtForms::found_in))]
+#[tactic(auto, using(crate::proofs::StmtForms::part_forms))]
 fn check_may_block<'a>(
     home: &Home<'_>,
     looped: bool,
@@ -272,7 +272,7 @@ fn check_may_block<'a>(
 
 /// Notes the broken rules of a block, behind which its locals have left the scope.
 #[cycle(stmt)]
-#[tactic(auto, using(crate::proofs::StmtForms::found_in))]
+#[tactic(auto, using(crate::proofs::StmtForms::part_forms))]
 pub(crate) fn check_block<'a>(
     home: &Home<'_>,
     looped: bool,
@@ -292,7 +292,7 @@ pub(crate) fn check_block<'a>(
 }
 
 #[cycle(stmt)]
-#[tactic(auto, using(crate::proofs::StmtForms::found_in))]
+#[tactic(auto, using(crate::proofs::StmtForms::row_forms))]
 fn check_stmts<'a>(
     home: &Home<'_>,
     looped: bool,
@@ -315,7 +315,7 @@ fn check_stmts<'a>(
 }
 
 #[cycle(stmt)]
-#[tactic(auto, using(crate::proofs::StmtForms::found_in))]
+#[tactic(auto, using(crate::proofs::StmtForms::row_forms))]
 fn check_catches<'a>(
     home: &Home<'_>,
     looped: bool,
@@ -335,7 +335,7 @@ fn check_catches<'a>(
 }
 
 #[cycle(stmt)]
-#[tactic(auto, using(crate::proofs::StmtForms::found_in))]
+#[tactic(auto, using(crate::proofs::StmtForms::part_forms))]
 fn check_catch<'a>(
     home: &Home<'_>,
     looped: bool,

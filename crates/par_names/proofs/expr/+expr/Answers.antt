@@ -1,7 +1,7 @@
 use Rattle.std.proofs.Common.{sym, ap, ◌∙◌, arith}
 use Rattle.std.specs.Option.{option_copied}
 use Rattle.par_tree.proofs.Shown.{shown_place}
-use Rattle.par_names.proofs.ExprForms.{form}
+use Rattle.par_names.proofs.ExprForms.{arg_forms, form}
 use Rattle.par_names.proofs.Left.{more_args, no_args}
 use Rattle.par_names.proofs.expr.+expr.Goals as goal
 
@@ -10,11 +10,11 @@ check_args-loop-arg-preserved t c =
     let more =
     more_args c.args.args.now c.loop-arg.arg-index c.arg-item.result c.loop-arg-test.true
     c.arg-item.is in
-    grind (arith, form)
+    grind (arith, arg_forms)
 
 pub check_args-returns : goal.check_args-returns
 check_args-returns t c = let none =
-    no_args c.args.args.now c.loop-arg.arg-index c.loop-arg-test.false in grind (arith, form)
+    no_args c.args.args.now c.loop-arg.arg-index c.loop-arg-test.false in grind (arith, arg_forms)
 
 pub check_callee-returns-in-Some-class_before : goal.check_callee-returns-in-Some-class_before
 check_callee-returns-in-Some-class_before t c =
