@@ -8,7 +8,7 @@ ghost use Rattle.par_flow_laws.specs.Declares.{declares};
 ghost use Rattle.par_flow_laws.specs.Kinds as kinds;
 ghost use Rattle.par_flow_laws.specs.Rules as plain;
 ghost use Rattle.par_flow_laws.specs.Body as body;
-ghost use Rattle.par_nodes.specs.Seen.{seen_kind, seen_node, seen_origin, seen_rules, seen_start};
+ghost use Rattle.par_nodes.specs.Seen.{seen_node, seen_origin, seen_rules, seen_start};
 ghost use Rattle.par_nodes.specs.Starts.{behind_value, catch_start, else_rules, goes_first};
 
 use crate::declared;
