@@ -13,7 +13,7 @@ use Rattle.par_faults.proofs.par_span_laws.Broken as broken
 use Rattle.par_faults.proofs.par_span_laws.Broken.{both, each, mapped, filtered}
 use Rattle.par_limits.specs.par_resolved.Sets.{joined}
 use Rattle.par_limits.specs.par_resolved.Policies.{Known, known, term_values, fits}
-use Rattle.par_limits.specs.par_resolved.Written.{written, queried}
+use Rattle.par_parts.specs.Written.{written, queried}
 use Rattle.par_limits.specs.par_resolved.Sizes.{exceeded_by, literal_sizes, literal_locks}
 use Rattle.par_limits.specs.par_resolved.Sizes.{size_faults}
 use Rattle.par_limits.specs.par_resolved.Sizes.{form_faults, literal_faults, all_literal_faults}

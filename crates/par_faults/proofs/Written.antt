@@ -17,13 +17,13 @@ use Rattle.par_faults.specs.par_span_laws.Within.{ChannelIn}
 use Rattle.par_faults.specs.par_span_laws.Within.{ParamIn, ThrowIn, MethodIn, ClassIn}
 use Rattle.par_faults.specs.par_span_laws.Within.{DeclarationIn, IsWithin}
 use Rattle.par_faults.proofs.par_span_laws.Broken.{both, each, mapped}
-use Rattle.par_limits.specs.par_resolved.Statements.{inside, in_braces, in_may_braces, in_else}
-use Rattle.par_limits.specs.par_resolved.Statements.{in_all}
-use Rattle.par_limits.specs.par_resolved.Statements.{in_catches, in_handler}
-use Rattle.par_limits.specs.par_resolved.Written.{stmt_policies, stmt_queries, method_policies}
-use Rattle.par_limits.specs.par_resolved.Written.{class_policies}
-use Rattle.par_limits.specs.par_resolved.Written.{declaration_policies, written, method_queries}
-use Rattle.par_limits.specs.par_resolved.Written.{declaration_queries, queried}
+use Rattle.par_parts.specs.Statements.{inside, in_braces, in_may_braces, in_else}
+use Rattle.par_parts.specs.Statements.{in_all}
+use Rattle.par_parts.specs.Statements.{in_catches, in_handler}
+use Rattle.par_parts.specs.Written.{stmt_policies, stmt_queries, method_policies}
+use Rattle.par_parts.specs.Written.{class_policies}
+use Rattle.par_parts.specs.Written.{declaration_policies, written, method_queries}
+use Rattle.par_parts.specs.Written.{declaration_queries, queried}
 
 module _ (m : ℕ) where
   abbrev Stmts : List Sta → Type 0

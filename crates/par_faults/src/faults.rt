@@ -18,7 +18,7 @@ use par_limits::Outcome;
 use par_limits::par_resolved::NoMemory;
 use par_limits::par_resolved::known::Known;
 use par_limits::par_resolved::literals::first_literal;
-use par_limits::par_resolved::written::written;
+use par_parts::written::written;
 use par_refusals::refusal::{Findings, Refusal};
 use par_tree::decl::Program;
 use std::alloc::Global;

@@ -17,9 +17,9 @@ use Rattle.par_flow_laws.specs.Facts.{Fact, blank}
 use Rattle.par_locks.specs.par_pass_laws.Written.{table as by_point}
 use Rattle.par_envs.specs.Numbered.{Extends, AreFound}
 use Rattle.par_envs.proofs.Found.{different}
-use Rattle.par_rounds.specs.declared.exits.Exit.{Exit}
-use Rattle.par_rounds.specs.declared.fact.Fact as code
-use Rattle.par_rounds.specs.Seen.{seen_exit, seen_exits, seen_fact, seen_facts}
+use Rattle.par_rounds.specs.par_ways.declared.exits.Exit.{Exit}
+use Rattle.par_rounds.specs.par_ways.declared.fact.Fact as code
+use Rattle.par_rounds.specs.par_ways.Seen.{seen_exit, seen_exits, seen_fact, seen_facts}
 use Rattle.par_rounds.specs.Bodies.{AreLeastClosed}
 use Rattle.par_flow_laws.specs.Orderly.{locals_in}
 use Rattle.par_flow.specs.declared.kept.KeptWay.{KeptWay}

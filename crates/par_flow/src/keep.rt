@@ -8,7 +8,7 @@ ghost use Rattle.par_nodes.specs.Seen.{seen_kind};
 ghost use Rattle.par_locks.specs.par_except.Seen.{may_see, seen, HasLocals, MayHaveLocals};
 ghost use Rattle.par_locks.specs.par_pass_laws.Exits.{at, Exit as Left};
 ghost use Rattle.par_envs.specs.Numbered.{AreFound, Extends, envs};
-ghost use Rattle.par_rounds.specs.Seen.{seen_exit, seen_exits, AreWide};
+ghost use Rattle.par_rounds.specs.par_ways.Seen.{seen_exit, seen_exits, AreWide};
 ghost use Rattle.par_flow.specs.Kept.{exit_of, AddsOnly, AreLong, AreOnce, HasEnv, Leaves};
 ghost use Rattle.par_flow.specs.Kept.{MayShow, ShowThrows, ShowsWay, Throws};
 

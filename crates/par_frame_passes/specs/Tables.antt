@@ -1,9 +1,8 @@
 -- The frames that are kept of a method, and what becomes of them.
 use Rattle.std.specs.Prelude.{◌≡◌, ℕ, suc, ◌<◌, ℤ, pos, Bool, true, false, if◌then◌else◌, nat_lt}
 use Rattle.std.specs.Prelude.{◌⊎◌}
-use Rattle.std.specs.Prelude.{List, [], ◌∷◌, length, map, slice_set, Option, Some, None, Result}
+use Rattle.std.specs.Prelude.{List, [], ◌∷◌, length, slice_set, Option, Some, None, Result}
 use Rattle.std.specs.Prelude.{Ok, Err}
-use Rattle.std.specs.Option.{option_map}
 use Rattle.par_base.specs.declared.memory.NoMemory.{NoMemory}
 use Rattle.par_class.specs.declared.file.Catch.{Catch}
 use Rattle.par_frame_moves.specs.par_kinds.declared.frame.VKind.{VKind}
@@ -11,17 +10,14 @@ use Rattle.par_values.specs.Areas.{Name}
 use Rattle.par_frame_moves.specs.par_kinds.Kinds.{KFrame}
 use Rattle.par_frame_moves.specs.par_kinds.Acts.{Act, left_by}
 use Rattle.par_frame_pass_laws.specs.Passes.{Table, Way, Step, frame_at, act_fits}
-use Rattle.par_frame_steps.specs.declared.frame.PlaceFrame.{PlaceFrame}
 use Rattle.par_frame_steps.specs.Marks.{frame_of, flow_of}
+pub use Rattle.par_frame_guesses.specs.Frames.{table_of}
 use Rattle.par_frame_passes.specs.declared.course.Course.{Course}
 use Rattle.par_frame_passes.specs.declared.course.Course.TheVariants as course
 use Rattle.par_frame_passes.specs.declared.outcome.Left.{Left}
 use Rattle.par_frame_passes.specs.declared.landings.PlaceWay.{PlaceWay}
 use Rattle.par_frame_passes.specs.declared.landings.Landing.{Landing}
 use Rattle.par_frame_passes.specs.declared.landings.Landing.TheVariants as landing
-
-abbrev pub table_of : List (Option PlaceFrame) → Table
-table_of t = map (option_map frame_of) t
 
 abbrev pub way_of : PlaceWay → Way
 way_of w = record { to = w.to; frame = frame_of w.frame; exact = w.exact }

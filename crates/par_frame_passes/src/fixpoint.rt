@@ -3,19 +3,17 @@
 ghost use Rattle.std.specs.Prelude.{◌≡◌, ◌≤◌, true, length, Some, IfOk};
 ghost use Rattle.par_frame_moves.specs.par_kinds.Kinds.{KFrame};
 ghost use Rattle.par_frame_moves.specs.par_kinds.Fits.{Given};
-ghost use Rattle.par_frame_passes.specs.Methods.{exc_of, act_in, handler_in, code_in, IsToldOf};
+ghost use Rattle.par_frame_guesses.specs.Methods.{exc_of, act_in, handler_in, code_in, IsToldOf};
 ghost use Rattle.par_frame_passes.specs.Sweeps.{Kept, Settles};
 ghost use Rattle.par_frame_passes.specs.Tables.{table_of};
 
-use crate::back::is_marked;
 use crate::course::Course;
-use crate::guess::guessed;
-use crate::method::Method;
 use crate::spared::{begun_offsets, forget};
 use crate::sweep::Sweep;
 use crate::told_frames::{standing, told};
 use crate::visit::visit;
 use par_base::memory::NoMemory;
+use par_frame_guesses::{Method, guessed, is_marked};
 use par_frame_steps::PlaceFrame;
 use std::alloc::Global;
 

@@ -2,19 +2,19 @@
 
 ghost use Rattle.std.specs.Prelude.{◌≡◌, ℕ, ◌+◌, ◌≤◌, false, [], ◌∷◌};
 ghost use Rattle.par_frame_moves.specs.par_kinds.Acts.{next_offsets};
-ghost use Rattle.par_frame_moves.specs.par_kinds.Fits.{Given, around};
+ghost use Rattle.par_frame_moves.specs.par_kinds.Fits.{Given};
 ghost use Rattle.par_frame_pass_laws.specs.Passes.{onward, handled};
 ghost use Rattle.par_frame_steps.specs.Marks.{frame_of, flow_of};
-ghost use Rattle.par_frame_passes.specs.Methods.{exc_of, act_in, handler_in, code_in, IsToldOf};
+ghost use Rattle.par_frame_guesses.specs.Methods.{exc_of, act_in, handler_in, code_in, IsToldOf};
 ghost use Rattle.par_frame_passes.specs.Sweeps.{Went};
 ghost use Rattle.par_frame_passes.specs.Tables.{table_of, taken_by};
 
 use crate::course::Course;
 use crate::landings::arrive;
-use crate::method::Method;
 use par_base::memory::NoMemory;
 use par_class::file::Catch;
 use par_frame_acts::caught;
+use par_frame_guesses::{Method, is_around};
 use par_frame_steps::{Flow, Pile, PlaceFrame};
 use std::alloc::Global;
 
@@ -119,11 +119,4 @@ pub(crate) fn go_to_handlers<'f>(
         }
     }
     Ok(course)
-}
-
-/// Whether a handler is around an offset.
-pub(crate) fn is_around(at: u32, catch: &Catch) -> bool
-    ensures { result ≡ around at catch.now }
-{
-    u32::from(catch.start) <= at && at < u32::from(catch.end)
 }

@@ -5,14 +5,14 @@ ghost use Rattle.par_frame_moves.specs.par_kinds.Fits.{Given};
 ghost use Rattle.par_frame_pass_laws.specs.Passes.{Table as Frames, frame_at, landed};
 ghost use Rattle.par_frame_pass_laws.specs.Passes.{landed_at, land};
 ghost use Rattle.par_frame_steps.specs.Marks.{frame_of};
-ghost use Rattle.par_frame_passes.specs.Methods.{exc_of, act_in, handler_in, code_in, IsToldOf};
+ghost use Rattle.par_frame_guesses.specs.Methods.{exc_of, act_in, handler_in, code_in, IsToldOf};
 ghost use Rattle.par_frame_passes.specs.Tables.{table_of, way_of, landed_in, Comes};
 ghost use Rattle.par_frame_passes.specs.Sweeps.{Went};
 
 use crate::course::Course;
-use crate::method::Method;
-use crate::table::{is_new, kept, put};
+use crate::table::{is_new, put};
 use par_base::memory::NoMemory;
+use par_frame_guesses::{Method, kept};
 use par_frame_steps::PlaceFrame;
 use std::alloc::Global;
 

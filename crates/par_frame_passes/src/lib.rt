@@ -6,26 +6,17 @@
 //! whether frames fit it, and knows nothing of the order of methods and files.
 #![tactic(auto)]
 
-mod back;
 mod course;
-mod due;
-mod facts;
 mod fixpoint;
 mod goes;
-mod guess;
 mod landings;
-mod likes;
-mod method;
-mod ordered;
 mod outcome;
-mod piece;
 mod spared;
-mod spots;
 mod sweep;
 mod table;
 mod told_frames;
 mod visit;
 
 pub use fixpoint::passes;
-pub use method::Method;
+pub use par_frame_guesses::Method;
 pub use table::Table;

@@ -4,12 +4,12 @@ ghost use Rattle.std.specs.Prelude.{List as Items, IfOk};
 ghost use Rattle.par_values.specs.Areas.{Name};
 ghost use Rattle.par_frame_steps.specs.Marks.{frame_of};
 ghost use Rattle.par_frame_moves.specs.Briefs.{act_of};
-ghost use Rattle.par_frame_passes.specs.Methods.{exc_of, act_in};
+ghost use Rattle.par_frame_guesses.specs.Methods.{exc_of, act_in};
 ghost use Rattle.par_frame_passes.specs.Tables.{IsLeft};
 
-use crate::method::Method;
 use par_base::memory::NoMemory;
 use par_frame_acts::act;
+use par_frame_guesses::Method;
 use par_frame_moves::{Brief, in_brief};
 use par_frame_steps::{Flow, PlaceFrame};
 use par_instr::Instr;

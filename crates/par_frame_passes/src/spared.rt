@@ -7,18 +7,17 @@ ghost use Rattle.par_frame_moves.specs.par_kinds.Fits.{Given};
 ghost use Rattle.par_frame_pass_laws.specs.Passes.{handled};
 ghost use Rattle.par_frame_moves.specs.par_kinds.Kinds.{Each};
 ghost use Rattle.par_frame_steps.specs.Marks.{frame_of};
-ghost use Rattle.par_frame_passes.specs.Methods.{exc_of, act_in, handler_in, code_in, IsToldOf};
+ghost use Rattle.par_frame_guesses.specs.Methods.{exc_of, act_in, handler_in, code_in, IsToldOf};
 ghost use Rattle.par_frame_passes.specs.Sparing.{AreMarked, IsBelow, Spares};
 ghost use Rattle.par_frame_passes.specs.Sweeps.{Kept, Meets, Went};
 ghost use Rattle.par_frame_passes.specs.Tables.{table_of};
 ghost use Rattle.par_frame_passes.specs.declared.course.Course.TheVariants as course;
 
-use crate::back::mark;
 use crate::course::Course;
 use crate::goes::go_to_handlers;
-use crate::method::Method;
 use par_base::memory::NoMemory;
 use par_class::file::Catch;
+use par_frame_guesses::{Method, mark};
 use par_frame_steps::{Pile, PlaceFrame};
 use std::alloc::Global;
 

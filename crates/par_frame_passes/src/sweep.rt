@@ -2,13 +2,12 @@
 
 ghost use Rattle.std.specs.Prelude.{◌≡◌, ◌<◌, ◌≤◌, ◌+◌, ◌^◌, true, false, nat_lt, length};
 ghost use Rattle.std.specs.Prelude.{slice_index_or, IfOk};
-ghost use Rattle.par_frame_passes.specs.Methods.{code_in};
+ghost use Rattle.par_frame_guesses.specs.Methods.{code_in};
 ghost use Rattle.par_frame_passes.specs.Tables.{next_after, rose_after, marks_after};
 
-use crate::back::{back_offsets, is_marked, mark};
 use crate::course::Course;
-use crate::method::Method;
 use par_base::memory::NoMemory;
+use par_frame_guesses::{Method, back_offsets, is_marked, mark};
 use std::alloc::Global;
 
 /// A way through code, after which another one follows where something rose.

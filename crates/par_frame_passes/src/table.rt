@@ -1,34 +1,19 @@
 //! The frames that are kept, by their offsets.
 
-ghost use Rattle.std.specs.Prelude.{◌≡◌, ◌≤◌, slice_set, Some, IfOk};
+ghost use Rattle.std.specs.Prelude.{◌≡◌, slice_set, Some, IfOk};
 ghost use Rattle.std.specs.Option.{option_map};
 ghost use Rattle.par_frame_pass_laws.specs.Passes.{frame_at};
 ghost use Rattle.par_frame_steps.specs.Marks.{frame_of};
-ghost use Rattle.par_frame_passes.specs.Methods.{fixed_at};
+ghost use Rattle.par_frame_guesses.specs.Methods.{fixed_at};
 ghost use Rattle.par_frame_passes.specs.Tables.{table_of, Taken, NewAt};
 
-use crate::method::Method;
 use par_base::memory::NoMemory;
+use par_frame_guesses::{Method, kept};
 use par_frame_steps::PlaceFrame;
 use std::alloc::Global;
 
 /// A frame for each offset that has one.
 pub type Table<'f> = Vec<Option<PlaceFrame<'f>>>;
-
-/// The frame of an offset.
-#[tactic(auto, unfolding(par_frame_pass_laws::specs::Passes::frame_at))]
-pub(crate) fn kept<'t, 'f>(
-    table: &'t [Option<PlaceFrame<'f>>],
-    at: usize,
-) -> Option<&'t PlaceFrame<'f>>
-    ensures { option_map (λ frame. frame_of frame.now) result
-        ≡ frame_at (table_of table.entry.now) at }
-{
-    match table.get(at) {
-        Some(Some(frame)) => Some(frame),
-        _ => None,
-    }
-}
 
 /// A copy of the frame of an offset.
 fn copied<'f>(

@@ -6,14 +6,13 @@ ghost use Rattle.std.specs.Option.{option_map};
 ghost use Rattle.par_frame_moves.specs.par_kinds.Fits.{Given};
 ghost use Rattle.par_frame_pass_laws.specs.Passes.{frame_at, is_sized};
 ghost use Rattle.par_frame_steps.specs.Marks.{frame_of};
-ghost use Rattle.par_frame_passes.specs.Methods.{code_in, IsToldOf};
+ghost use Rattle.par_frame_guesses.specs.Methods.{code_in, IsToldOf};
 ghost use Rattle.par_frame_passes.specs.Tables.{table_of};
 ghost use Rattle.par_frame_passes.specs.Telling.{Tells};
 
-use crate::guess::Guess;
-use crate::method::Method;
-use crate::table::{Table, kept};
+use crate::table::Table;
 use par_base::memory::NoMemory;
+use par_frame_guesses::{Guess, Method, kept};
 use par_frame_steps::PlaceFrame;
 use std::alloc::Global;
 

@@ -4,7 +4,7 @@ ghost use Rattle.std.specs.Prelude.{◌≡◌, ◌≤◌, ◌<◌, length, Ok};
 ghost use Rattle.std.specs.Option.{option_map};
 ghost use Rattle.par_frame_moves.specs.par_kinds.Fits.{Given};
 ghost use Rattle.par_frame_steps.specs.Marks.{frame_of};
-ghost use Rattle.par_frame_passes.specs.Methods.{exc_of, act_in, handler_in, code_in, IsToldOf};
+ghost use Rattle.par_frame_guesses.specs.Methods.{exc_of, act_in, handler_in, code_in, IsToldOf};
 ghost use Rattle.par_frame_passes.specs.Sparing.{Spares, SparesApart};
 ghost use Rattle.par_frame_passes.specs.Sweeps.{Kept, Visited};
 ghost use Rattle.par_frame_passes.specs.Tables.{table_of};
@@ -12,11 +12,11 @@ ghost use Rattle.par_frame_passes.specs.declared.course.Course.TheVariants as co
 
 use crate::course::Course;
 use crate::goes::go_on;
-use crate::method::Method;
 use crate::outcome::leave;
 use crate::spared::meet_handlers;
 use crate::table::taken;
 use par_base::memory::NoMemory;
+use par_frame_guesses::Method;
 use par_frame_steps::PlaceFrame;
 use par_instr::decode;
 use std::alloc::Global;

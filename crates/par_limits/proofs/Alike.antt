@@ -5,7 +5,7 @@ use Rattle.std.specs.List.{list_any}
 use Rattle.std.specs.Borrow.{Bor}
 use Rattle.par_typed.specs.par_policy.declared.clauses.Clause.{Clause}
 use Rattle.par_resolved.specs.Numbered.{same_clause, same_policy}
-use Rattle.par_resolved.specs.Gathered.{all_of}
+use Rattle.par_parts.specs.Gathered.{all_of}
 use Rattle.par_resolved.proofs.Loops.{drop_more, none_left}
 
 and_false : (b : Bool) → (b && false) ≡ false

@@ -9,7 +9,7 @@ use Rattle.par_tree.specs.Shown.{class_of}
 use Rattle.par_refusals.specs.declared.refusal.Refusal.{Refusal}
 use Rattle.par_refusals.specs.First.{first_of}
 use Rattle.par_refusals.proofs.First.{first_of_none, first_of_append}
-use Rattle.par_resolved.specs.Gathered.{classes_of}
+use Rattle.par_parts.specs.Gathered.{classes_of}
 use Rattle.par_resolved.proofs.Loops.{drop_more, none_left}
 
 pub note_class : (f : Class → List Refusal) (xs : List (Bor ClassDecl)) (i : ℕ) (r : Bor ClassDecl)

@@ -7,7 +7,7 @@ use Rattle.par_tree.specs.declared.policy.PolicyExpr.{PolicyExpr}
 use Rattle.par_tree.specs.Plain.{Source}
 use Rattle.par_resolved.specs.declared.entries.Entry.{Entry}
 use Rattle.par_resolved.specs.Policies.{Known, bottom}
-use Rattle.par_resolved.specs.Written.{written}
+use Rattle.par_parts.specs.Written.{written}
 use Rattle.par_resolved.specs.Numbered.{written_entry, query_entries, with_entry, by_place}
 use Rattle.par_limits.specs.Listed.{by_place_entries}
 

@@ -7,7 +7,7 @@ use Rattle.par_refusals.specs.declared.refusal.Refusal.{Refusal}
 use Rattle.par_refusals.specs.First.{first_of, in_passes, IsAnswer}
 use Rattle.par_refusals.proofs.First.{answered, passes_on, stops, first_of_none, first_of_append}
 use Rattle.par_resolved.specs.Policies.{Known, known}
-use Rattle.par_resolved.specs.Written.{written}
+use Rattle.par_parts.specs.Written.{written}
 use Rattle.par_resolved.specs.Sizes.{expression_faults, all_join_faults, literal_faults}
 use Rattle.par_resolved.specs.Sizes.{all_literal_faults}
 use Rattle.par_resolved.specs.Limits.{table_faults}

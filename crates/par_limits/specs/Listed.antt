@@ -3,7 +3,7 @@ use Rattle.std.specs.Prelude.{List, ◌∷◌, ◌++◌, map}
 use Rattle.par_tree.specs.Plain.{Source}
 use Rattle.par_resolved.specs.declared.entries.Entry.{Entry}
 use Rattle.par_resolved.specs.Policies.{Known, bottom}
-use Rattle.par_resolved.specs.Written.{written}
+use Rattle.par_parts.specs.Written.{written}
 use Rattle.par_resolved.specs.Numbered.{written_entry, query_entries, by_place}
 
 -- `bottom`, and what is written by place

@@ -2,7 +2,7 @@
 ghost use Rattle.std.specs.Prelude.{◌≡◌, ◌++◌, map, OnOk};
 ghost use Rattle.std.specs.Option.{option_copied};
 ghost use Rattle.par_resolved.specs.Numbered.{has_no_policy};
-ghost use Rattle.par_resolved.specs.Gathered.{all_of};
+ghost use Rattle.par_parts.specs.Gathered.{all_of};
 ghost use Rattle.par_limits.specs.Asked.{asked_entries};
 
 use par_resolved::NoMemory;
@@ -23,7 +23,7 @@ fn has_no_policy(lock: Option<&LockDecl>) -> bool
 }
 
 /// Pushes an entry for each of these queries whose lock has no written policy.
-#[tactic(auto, using(par_resolved::proofs::Pushes::pushes))]
+#[tactic(auto, using(par_parts::proofs::Pushes::pushes))]
 pub fn push_asked(
     alloc: Global,
     found: &mut Vec<Entry>,

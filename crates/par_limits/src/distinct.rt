@@ -1,7 +1,7 @@
 // The distinct policies of a program.
 ghost use Rattle.std.specs.Prelude.{◌≡◌, ◌+◌, take, IfOk, OnOk};
 ghost use Rattle.par_resolved.specs.Numbered.{distinct};
-ghost use Rattle.par_resolved.specs.Gathered.{all_of};
+ghost use Rattle.par_parts.specs.Gathered.{all_of};
 ghost use Rattle.par_limits.specs.Within.{with_new_within};
 
 use crate::same::is_there;

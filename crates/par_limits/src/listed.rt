@@ -2,20 +2,20 @@
 ghost use Rattle.std.specs.Prelude.{◌≡◌, ◌++◌, map, IfOk, OnOk};
 ghost use Rattle.par_tree.specs.Shown.{source};
 ghost use Rattle.par_resolved.specs.Seen.{known_seen};
-ghost use Rattle.par_resolved.specs.Gathered.{all_of, classes_of};
-ghost use Rattle.par_resolved.specs.Written as said;
+ghost use Rattle.par_parts.specs.Gathered.{all_of, classes_of};
+ghost use Rattle.par_parts.specs.Written as said;
 ghost use Rattle.par_resolved.specs.Numbered.{query_entries, birth_entry, entries};
 ghost use Rattle.par_resolved.specs.par_names.Declarations.{declared_classes};
 ghost use Rattle.par_limits.specs.Listed.{by_place_entries};
 
 use crate::asked::push_asked;
+use par_parts::queried::queried;
 use par_resolved::NoMemory;
 use par_resolved::births::birth_policy;
 use par_resolved::declared::locks;
 use par_resolved::entries::{Entry, push_written, sort_entries};
 use par_resolved::known::{Known, bottom};
 use par_resolved::par_names::Locks;
-use par_resolved::queried::queried;
 use par_tree::decl::{ClassDecl, Program};
 use par_tree::policy::PolicyExpr;
 use std::alloc::Global;

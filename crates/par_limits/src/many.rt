@@ -1,7 +1,7 @@
 // The first policy that is one too many.
 ghost use Rattle.std.specs.Prelude.{◌≡◌, ◌++◌, map, flat_map, slice_get, OnOk};
 ghost use Rattle.par_refusals.specs.First.{first_of};
-ghost use Rattle.par_resolved.specs.Gathered.{all_of, classes_of};
+ghost use Rattle.par_parts.specs.Gathered.{all_of, classes_of};
 ghost use Rattle.par_limits.specs.Places.{inferred_places, places_of, many_at};
 
 use par_refusals::refusal::{Findings, LIMIT_RULE, Refusal};
@@ -11,7 +11,7 @@ use par_resolved::limits::{MOST_POLICIES, POLICY_LIMIT};
 use par_tree::decl::{ClassDecl, FieldDecl};
 use std::alloc::Global;
 
-#[tactic(auto, using(par_resolved::proofs::Pushes::pushes))]
+#[tactic(auto, using(par_parts::proofs::Pushes::pushes))]
 fn push_inferred(places: &mut Vec<u32>, fields: &[FieldDecl]) -> Result<(), NoMemory>
     ensures { OnOk result (places.new.items ≡ places.old.items ++ inferred_places fields.now) }
 {
@@ -23,7 +23,7 @@ fn push_inferred(places: &mut Vec<u32>, fields: &[FieldDecl]) -> Result<(), NoMe
     Ok(())
 }
 
-#[tactic(auto, using(par_resolved::proofs::Pushes::pushes))]
+#[tactic(auto, using(par_parts::proofs::Pushes::pushes))]
 fn push_fields(places: &mut Vec<u32>, classes: &[&ClassDecl]) -> Result<(), NoMemory>
     ensures { OnOk result (places.new.items
         ≡ places.old.items ++ flat_map (λ c. inferred_places c.fields) (classes_of classes.now)) }
@@ -34,7 +34,7 @@ fn push_fields(places: &mut Vec<u32>, classes: &[&ClassDecl]) -> Result<(), NoMe
     Ok(())
 }
 
-#[tactic(auto, using(par_resolved::proofs::Pushes::pushes))]
+#[tactic(auto, using(par_parts::proofs::Pushes::pushes))]
 fn push_entries(places: &mut Vec<u32>, entries: &[&Entry]) -> Result<(), NoMemory>
     ensures { OnOk result (places.new.items
         ≡ places.old.items ++ map (λ e. e.at) (all_of entries.now)) }

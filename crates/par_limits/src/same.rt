@@ -2,7 +2,7 @@
 ghost use Rattle.std.specs.Prelude.{◌≡◌};
 ghost use Rattle.std.specs.List.{list_any};
 ghost use Rattle.par_resolved.specs.Numbered.{same_clause, same_policy};
-ghost use Rattle.par_resolved.specs.Gathered.{all_of};
+ghost use Rattle.par_parts.specs.Gathered.{all_of};
 
 use par_resolved::entries::Entry;
 use par_typed::par_policy::{Clause, Policy};

@@ -5,10 +5,10 @@ use Rattle.par_bits.specs.Sets.{Set}
 use Rattle.par_flow_laws.specs.Lattice.{numbers}
 use Rattle.par_flow_laws.specs.Facts.{blank}
 use Rattle.par_rounds.specs.par_except.Seen.{may_see}
-use Rattle.par_rounds.specs.declared.fact.Fact.{Fact}
-use Rattle.par_rounds.specs.Seen.{seen_facts}
+use Rattle.par_rounds.specs.par_ways.declared.fact.Fact.{Fact}
+use Rattle.par_rounds.specs.par_ways.Seen.{seen_facts}
 use Rattle.par_locks.specs.Open.{entering}
-use Rattle.par_rounds.specs.Changes.{may_have}
+use Rattle.par_rounds.specs.par_ways.Changes.{may_have}
 
 abbrev pub entered : Fact → Option Set
 entered f = entering (may_see f.entry)

@@ -6,7 +6,7 @@ use Rattle.par_bits.specs.Sets.{Set}
 use Rattle.par_flow_laws.specs.Lattice.{numbers}
 use Rattle.par_flow_laws.specs.Ways.{Way}
 use Rattle.par_flow_laws.specs.Facts.{Facts}
-use Rattle.par_rounds.specs.Changes.{may_have}
+use Rattle.par_rounds.specs.par_ways.Changes.{may_have}
 use Rattle.par_rounds.specs.Bodies.{AreLeastClosed}
 use Rattle.par_locks.specs.declared.locks.LockFacts.{LockFacts}
 

@@ -6,7 +6,6 @@
 //! It finds no facts: passes over the tree do.
 #![tactic(auto)]
 
-pub mod body;
 mod call;
 pub mod declared;
 pub mod draft;

@@ -9,8 +9,9 @@ use Rattle.par_typed.specs.par_policy.declared.clauses.Clause.{Clause}
 use Rattle.par_typed.specs.par_policy.par_bits.Sets as bits
 use Rattle.par_typed.specs.par_policy.Numbers.{has, within}
 use Rattle.par_typed.proofs.par_policy.Marks.{Mark}
-use Rattle.par_typed.proofs.par_policy.Members.{Contains-from_has, has-from_Contains, All-from_within}
-use Rattle.par_typed.proofs.par_policy.Members.{within-from_All, All-from_members}
+use Rattle.par_typed.proofs.par_policy.Members.{Contains-from_has, has-from_Contains}
+use Rattle.par_typed.proofs.par_policy.Members.{All-from_within, within-from_All}
+use Rattle.par_typed.proofs.par_policy.Members.{All-from_members}
 use Rattle.par_typed.proofs.par_policy.Seen.{same_tests}
 use Rattle.par_resolved.specs.Nearest.{IsAdded}
 

@@ -4,7 +4,7 @@ use Rattle.std.proofs.Common.{ap, ◌∙◌}
 use Rattle.std.specs.Borrow.{Bor}
 use Rattle.par_tree.specs.declared.decl.PolicyDecl.{PolicyDecl}
 use Rattle.par_resolved.specs.Policies.{Known, known_behind, with_value, value_of}
-use Rattle.par_resolved.specs.Gathered.{all_of}
+use Rattle.par_parts.specs.Gathered.{all_of}
 use Rattle.par_resolved.proofs.Loops.{drop_more, none_left}
 
 pub behind_none : (k : Known) → known_behind k [] ≡ k

@@ -6,7 +6,7 @@ use Rattle.std.proofs.lemmas.List.Elements.{All-nil, All-cons}
 use Rattle.std.proofs.lemmas.List.Sums.{sum_by-cons}
 use Rattle.par_tree.specs.declared.decl.LockDecl.{LockDecl}
 use Rattle.par_resolved.specs.Numbers.{ground_count, firsts_from}
-use Rattle.par_resolved.specs.Gathered.{all_of}
+use Rattle.par_parts.specs.Gathered.{all_of}
 use Rattle.par_resolved.proofs.Loops.{drop_more}
 
 pub firsts_small : (n first most : ℕ) (locks : List LockDecl)

@@ -1,22 +1,16 @@
 -- What was read stays as it is where more is read.
-use Rattle.std.proofs.Common.{◌≡◌, ℕ, zero, suc, ◌+◌, ◌<◌, ◌≤◌, List, [], ◌∷◌, ◌++◌, map, take}
-use Rattle.std.proofs.Common.{length, get_or, Option, Some, None, refl, sym, ap, ◌∙◌, subst}
-use Rattle.std.specs.Prelude.{IsTrue, position}
-use Rattle.std.proofs.lemmas.List.{take_all}
-use Rattle.std.proofs.lemmas.Slice.Eq.{bytes_eq-Decides}
-use Rattle.std.specs.Str.{bytes_eq}
+use Rattle.std.proofs.Common.{◌≡◌, ℕ, zero, suc, List, [], ◌∷◌, ◌++◌, map, Option, Some, None}
+use Rattle.std.proofs.Common.{refl, sym, ap, ◌∙◌, subst}
 use Rattle.std.proofs.lemmas.List.Elements.{All-weaker, All-append, All-cons, All-nil}
 use Rattle.par_typed.specs.par_policy.declared.clauses.Clause.{Clause}
 use Rattle.par_tree.specs.declared.policy.PolicyTerm.{PolicyTerm}
 use Rattle.par_tree.specs.declared.policy.PolicyTerm.TheVariants.{Clauses, Named, Bottom, Top}
 use Rattle.par_tree.specs.declared.policy.PolicyExpr.{PolicyExpr}
-use Rattle.par_tree.specs.declared.ident.Ident.{Ident}
 use Rattle.par_resolved.specs.declared.read.Read.{Read}
 use Rattle.par_resolved.specs.Policies.{Known, value_at, term_value, term_values, and_more}
-use Rattle.par_resolved.specs.Policies.{all_some, join_of, value_of, with_value}
+use Rattle.par_resolved.specs.Policies.{join_of, value_of, with_value}
 use Rattle.par_resolved.specs.Read.{AreRead, StillRead}
 use Rattle.par_resolved.proofs.Steps.{all_some_more, nothing_joined}
-use Rattle.par_resolved.proofs.Loops.{map_more}
 
 place_stays : (values : List (Option (List Clause))) (x : Option (List Clause)) (place : ℕ)
     (p : List Clause) → value_at values (Some place) ≡ Some p
@@ -88,47 +82,3 @@ one_more old new r e is same k all so =
     (All-cons (λ s. value_of more s.expr.now ≡ Some s.policy) r []
     (ap (value_of more) same ∙ value_stays k (Some r.policy) e r.policy (sym so))
     (All-nil (λ s. value_of more s.expr.now ≡ Some s.policy))))
-
--- ---- expressions that say the same
-
-named_alike : (k : Known) (a b : Ident) → a.name ≡ b.name
-    → term_value k (Named a) ≡ term_value k (Named b)
-unfolding term_value
-named_alike k a b same = ap (λ n. value_at k.values (position (bytes_eq n) k.names)) same
-
--- the same name names the same
-pub same_names : (one other : PolicyTerm) (a b : Ident) → one ≡ Named a → other ≡ Named b
-    → IsTrue (bytes_eq a.name b.name) → (k : Known) → term_value k one ≡ term_value k other
-same_names one other a b is also same k =
-    ap (term_value k) is ∙ named_alike k a b ((bytes_eq-Decides a.name b.name).0 same)
-    ∙ sym (ap (term_value k) also)
-
--- so far they come to the same
-abbrev pub AreSoFar : List PolicyTerm → List PolicyTerm → ℕ → Type 0
-AreSoFar one other i =
-    (k : Known) → map (term_value k) (take i one) ≡ map (term_value k) (take i other)
-
-pub terms_more : (one other : List PolicyTerm) (i : ℕ) (x y : PolicyTerm) → i < length one
-    → i < length other → x ≡ get_or one i x → y ≡ get_or other i y → AreSoFar one other i
-    → ((k : Known) → term_value k x ≡ term_value k y) → AreSoFar one other (i + 1)
-terms_more one other i x y inside within is also so same k =
-    let f = term_value k in
-    map_more f one i x inside is
-    ∙ ap (λ vs. vs ++ f x ∷ []) (so k)
-    ∙ ap (λ v. map f (take i other) ++ v ∷ []) (same k)
-    ∙ sym (map_more f other i y within also)
-
-pub terms_whole : (one other : List PolicyTerm) (i : ℕ) → length one ≤ i
-    → length one ≡ length other → AreSoFar one other i → (k : Known)
-    → term_values k one ≡ term_values k other
-terms_whole one other i past same so k =
-    let f = term_value k in
-    ap all_some
-    (ap (map f) (sym (take_all i one past)) ∙ so k
-    ∙ ap (map f) (take_all i other (subst (λ n. n ≤ i) same past)))
-
--- an expression of the same terms comes to the same
-pub same_value : (k : Known) (e read : PolicyExpr) (p : List Clause)
-    → ((l : Known) → term_values l read.terms ≡ term_values l e.terms)
-    → value_of k read ≡ Some p → value_of k e ≡ Some p
-same_value k e read p same is = sym (ap join_of (same k)) ∙ is

@@ -7,7 +7,7 @@ use Rattle.std.specs.List.{flat_map}
 use Rattle.par_refusals.specs.declared.refusal.Refusal.{Refusal}
 use Rattle.par_refusals.specs.First.{first_of}
 use Rattle.par_refusals.proofs.First.{first_of_none, first_of_append}
-use Rattle.par_resolved.specs.Gathered.{all_of}
+use Rattle.par_parts.specs.Gathered.{all_of}
 use Rattle.par_resolved.proofs.Loops.{drop_more, none_left}
 
 pub find_later : {A : Type 0} (p : A → Bool) (xs ys : List A) → find p xs ≡ None

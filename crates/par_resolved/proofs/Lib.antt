@@ -7,9 +7,8 @@ pub mod Later
 pub mod Loops
 pub mod Steps
 pub mod Earlier
+pub mod Alike
 pub mod Made
-pub mod Gathers
-pub mod Pushes
 pub mod Found
 pub mod Counted
 pub mod Behind

@@ -5,9 +5,7 @@ pub mod Seen
 pub mod Numbers
 pub mod Policies
 pub mod Read
-pub mod Statements
-pub mod Gathered
-pub mod Written
+pub mod Same
 pub mod Sizes
 pub mod Settled
 pub mod Nearest

@@ -13,7 +13,7 @@ use Rattle.par_tree.specs.Plain.{Class, Source}
 use Rattle.par_names.specs.Declarations.{locks, lock_named, declared_classes}
 use Rattle.par_resolved.specs.declared.entries.Entry.{Entry}
 use Rattle.par_resolved.specs.Policies.{Known, bottom, policy_of}
-use Rattle.par_resolved.specs.Written.{written, queried}
+use Rattle.par_parts.specs.Written.{written, queried}
 use Rattle.par_resolved.specs.Births.{birth_policy}
 
 -- ---- equal policies

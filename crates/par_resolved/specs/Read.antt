@@ -1,14 +1,13 @@
 -- Declared policies that were read.
-use Rattle.std.specs.Prelude.{◌≡◌, Bool, IsTrue, List, All, Option, Some}
+use Rattle.std.specs.Prelude.{◌≡◌, List, All, Option, Some}
 use Rattle.par_names.specs.par_index.declared.names.NameIndex.{NameIndex}
 use Rattle.par_names.specs.par_index.Texts.{texts}
 use Rattle.par_typed.specs.par_policy.declared.clauses.Clause.{Clause}
-use Rattle.par_tree.specs.declared.policy.PolicyTerm.{PolicyTerm}
 use Rattle.par_tree.specs.declared.policy.PolicyExpr.{PolicyExpr}
 use Rattle.par_resolved.specs.declared.numbers.Numbers as code
 use Rattle.par_resolved.specs.declared.read.Read.{Read}
 use Rattle.par_resolved.specs.SeenNumbers.{seen}
-use Rattle.par_resolved.specs.Policies.{Known, term_value, term_values, value_of, with_value}
+use Rattle.par_resolved.specs.Policies.{Known, value_of, with_value}
 
 -- what is known by these numbers, names and values
 abbrev pub known_by : code.Numbers → NameIndex → List (Option (List Clause)) → Known
@@ -26,12 +25,3 @@ AreRead k read = All (λ r. value_of k r.expr.now ≡ Some r.policy) read
 abbrev pub StillRead : List Read → List Read → PolicyExpr → Option (List Clause) → Type 0
 StillRead old new e value =
     (k : Known) → AreRead k old → value ≡ value_of k e → AreRead (with_value k value) new
-
--- ---- expressions that say the same
-
--- where the test passes, the terms come to the same, whatever is known
-abbrev pub IsSameTerm : Bool → PolicyTerm → PolicyTerm → Type 0
-IsSameTerm test one other = IsTrue test → (k : Known) → term_value k one ≡ term_value k other
-
-abbrev pub AreSameTerms : Bool → List PolicyTerm → List PolicyTerm → Type 0
-AreSameTerms test one other = IsTrue test → (k : Known) → term_values k one ≡ term_values k other

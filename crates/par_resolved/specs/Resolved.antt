@@ -29,8 +29,8 @@ use Rattle.par_resolved.specs.Sets.{set_of}
 use Rattle.par_resolved.specs.Numbers.{Numbers, number, lock_number, type_of, result_of}
 use Rattle.par_resolved.specs.Numbers.{ground_count, choices, place_in_family}
 use Rattle.par_resolved.specs.Policies.{Known, known, policy_of}
-use Rattle.par_resolved.specs.Statements.{in_braces}
-use Rattle.par_resolved.specs.Written.{stmt_types, queried}
+use Rattle.par_parts.specs.Statements.{in_braces}
+use Rattle.par_parts.specs.Written.{stmt_types, queried}
 use Rattle.par_resolved.specs.Births.{birth_policy}
 use Rattle.par_resolved.specs.Numbered.{numbered, shared_policies, policy_number}
 

@@ -13,7 +13,7 @@ use Rattle.par_resolved.specs.declared.limits.TheConstants.{CLAUSE_LIMIT, MOST_C
 use Rattle.par_resolved.specs.declared.limits.TheConstants.{MOST_LOCKS}
 use Rattle.par_resolved.specs.Sets.{joined}
 use Rattle.par_resolved.specs.Policies.{Known, term_values, fits}
-use Rattle.par_resolved.specs.Written.{written}
+use Rattle.par_parts.specs.Written.{written}
 
 -- a limit that is exceeded, with this count, or with the most that a refusal can tell
 unfoldable pub exceeded_by : ℕ → ℕ → Option ℕ → List Refusal

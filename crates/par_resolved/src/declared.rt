@@ -3,7 +3,7 @@ ghost use Rattle.std.specs.Prelude.{◌≡◌, ◌++◌, map, IfOk, OnOk};
 ghost use Rattle.par_tree.specs.Shown.{source, class_of};
 ghost use Rattle.par_names.specs.par_index.Texts.{texts};
 ghost use Rattle.par_names.specs.Declarations as names;
-ghost use Rattle.par_resolved.specs.Gathered.{all_of, classes_of};
+ghost use Rattle.par_parts.specs.Gathered.{all_of, classes_of};
 ghost use Rattle.par_names.specs.Declarations.{declared_classes};
 
 use par_base::memory::NoMemory;
@@ -12,7 +12,7 @@ use par_tree::ident::Ident;
 use std::alloc::Global;
 
 /// The names of the declared actors.
-#[tactic(auto, using(crate::proofs::Pushes::pushes))]
+#[tactic(auto, using(par_parts::proofs::Pushes::pushes))]
 pub fn actor_names(alloc: Global, program: &Program) -> Result<Vec<&[u8]>, NoMemory>
     ensures { IfOk result (λ found.
         texts found.items ≡ map (λ a. a.name) (names.actors (source program.now))) }
@@ -27,7 +27,7 @@ pub fn actor_names(alloc: Global, program: &Program) -> Result<Vec<&[u8]>, NoMem
     Ok(found)
 }
 
-#[tactic(auto, using(crate::proofs::Pushes::pushes))]
+#[tactic(auto, using(par_parts::proofs::Pushes::pushes))]
 fn push_names<'a>(found: &mut Vec<&'a [u8]>, ids: &'a [Ident]) -> Result<(), NoMemory>
     ensures { OnOk result (texts found.new.items
         ≡ texts found.old.items ++ map (λ a. a.name) ids.now) }
@@ -39,7 +39,7 @@ fn push_names<'a>(found: &mut Vec<&'a [u8]>, ids: &'a [Ident]) -> Result<(), NoM
 }
 
 /// The declared locks.
-#[tactic(auto, using(crate::proofs::Pushes::pushes))]
+#[tactic(auto, using(par_parts::proofs::Pushes::pushes))]
 pub fn locks(alloc: Global, program: &Program) -> Result<Vec<&LockDecl>, NoMemory>
     ensures { IfOk result (λ found. all_of found.items ≡ names.locks (source program.now)) }
 {
@@ -54,7 +54,7 @@ pub fn locks(alloc: Global, program: &Program) -> Result<Vec<&LockDecl>, NoMemor
 }
 
 /// The declared policies.
-#[tactic(auto, using(crate::proofs::Pushes::pushes))]
+#[tactic(auto, using(par_parts::proofs::Pushes::pushes))]
 pub fn policies(alloc: Global, program: &Program) -> Result<Vec<&PolicyDecl>, NoMemory>
     ensures { IfOk result (λ found. all_of found.items ≡ names.policies (source program.now)) }
 {
@@ -69,7 +69,7 @@ pub fn policies(alloc: Global, program: &Program) -> Result<Vec<&PolicyDecl>, No
 }
 
 /// The declared classes.
-#[tactic(auto, using(crate::proofs::Pushes::pushes))]
+#[tactic(auto, using(par_parts::proofs::Pushes::pushes))]
 pub fn classes(alloc: Global, program: &Program) -> Result<Vec<&ClassDecl>, NoMemory>
     ensures { IfOk result (λ found.
         classes_of found.items ≡ declared_classes (source program.now)) }
@@ -85,7 +85,7 @@ pub fn classes(alloc: Global, program: &Program) -> Result<Vec<&ClassDecl>, NoMe
 }
 
 /// Their names.
-#[tactic(auto, using(crate::proofs::Pushes::pushes))]
+#[tactic(auto, using(par_parts::proofs::Pushes::pushes))]
 pub fn lock_names<'a>(alloc: Global, decls: &[&'a LockDecl]) -> Result<Vec<&'a [u8]>, NoMemory>
     ensures { IfOk result (λ found. texts found.items ≡ map (λ l. l.id.name) (all_of decls.now)) }
 {
@@ -97,7 +97,7 @@ pub fn lock_names<'a>(alloc: Global, decls: &[&'a LockDecl]) -> Result<Vec<&'a [
 }
 
 /// Their names.
-#[tactic(auto, using(crate::proofs::Pushes::pushes))]
+#[tactic(auto, using(par_parts::proofs::Pushes::pushes))]
 pub fn policy_names<'a>(alloc: Global, decls: &[&'a PolicyDecl]) -> Result<Vec<&'a [u8]>, NoMemory>
     ensures { IfOk result (λ found. texts found.items ≡ map (λ d. d.id.name) (all_of decls.now)) }
 {

@@ -1,6 +1,6 @@
 // The policies of a table, by the places where they are counted.
 ghost use Rattle.std.specs.Prelude.{◌≡◌, ◌++◌, map, OnOk};
-ghost use Rattle.par_resolved.specs.Gathered.{all_of};
+ghost use Rattle.par_parts.specs.Gathered.{all_of};
 ghost use Rattle.par_resolved.specs.Seen.{known_seen};
 ghost use Rattle.par_resolved.specs.Numbered.{written_entry, by_place};
 
@@ -18,7 +18,7 @@ pub struct Entry {
 }
 
 /// Pushes the entries of these expressions.
-#[tactic(auto, using(crate::proofs::Pushes::pushes))]
+#[tactic(auto, using(par_parts::proofs::Pushes::pushes))]
 pub fn push_written(
     alloc: Global,
     found: &mut Vec<Entry>,

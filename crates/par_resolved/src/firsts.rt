@@ -1,7 +1,7 @@
 // The numbers of the first ground locks of declarations.
 ghost use Rattle.std.specs.Prelude.{◌≡◌, ◌≤◌, ◌^◌, All, sum_by, IfOk};
 ghost use Rattle.par_resolved.specs.Numbers.{ground_count, firsts_from};
-ghost use Rattle.par_resolved.specs.Gathered.{all_of};
+ghost use Rattle.par_parts.specs.Gathered.{all_of};
 
 use crate::limits::MOST_GROUND_LOCKS;
 use par_base::memory::NoMemory;

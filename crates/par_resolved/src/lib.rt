@@ -16,13 +16,11 @@ pub mod limits;
 pub mod literals;
 mod near;
 pub mod numbers;
-pub mod queried;
 mod read;
+mod same;
 pub mod scope;
 mod settled;
-mod statements;
 pub mod types;
-pub mod written;
 
 pub use par_base::memory::NoMemory;
 pub use par_names;

@@ -6,7 +6,7 @@ ghost use Rattle.par_resolved.specs.Few.{HasFew};
 ghost use Rattle.par_resolved.specs.Policies.{known, known_behind, with_value, value_of};
 ghost use Rattle.par_resolved.specs.Sizes.{expression_faults};
 ghost use Rattle.par_resolved.specs.Seen.{known_seen};
-ghost use Rattle.par_resolved.specs.Gathered.{all_of};
+ghost use Rattle.par_parts.specs.Gathered.{all_of};
 
 use crate::declared::{policies, policy_names};
 use crate::known::Known;

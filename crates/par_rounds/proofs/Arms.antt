@@ -15,15 +15,15 @@ use Rattle.par_pass_laws.specs.Pass as plain
 use Rattle.par_pass_laws.specs.Pass.{HeadWays, Event, Row, nothing, fact, visited, ended, into}
 use Rattle.par_pass_laws.specs.Pass.{pass}
 use Rattle.par_pass_laws.specs.Pass.{pass_all}
-use Rattle.par_rounds.specs.declared.exits.Exit as code_exit
+use Rattle.par_ways.specs.declared.exits.Exit as code_exit
 use Rattle.par_rounds.specs.declared.notes.Notes.{Notes}
 use Rattle.par_rounds.specs.declared.pass.Found.{Found}
 use Rattle.par_rounds.specs.declared.pass.SoFar.{SoFar}
-use Rattle.par_rounds.specs.Seen.{seen_exits, latest_first, AreWide}
+use Rattle.par_ways.specs.Seen.{seen_exits, latest_first, AreWide}
 use Rattle.par_rounds.specs.Took.{Took}
 use Rattle.par_rounds.specs.Passes.{found_of, GoesOn, Passed, TookPart}
 use Rattle.par_rounds.proofs.Events.{then, took_none}
-use Rattle.par_rounds.proofs.Parts.{latest_push}
+use Rattle.par_ways.proofs.Parts.{latest_push}
 
 found_as : (v u : Set) (xs ys : List Exit) (l k : List Event) → v ≡ u → xs ≡ ys → l ≡ k
     → (let r : plain.Found = record { value = v; exits = xs; events = l } in r)

@@ -7,18 +7,17 @@ use Rattle.par_flow_laws.specs.Lattice.{numbers}
 use Rattle.par_flow_laws.specs.Kinds.{Next, absorbed}
 use Rattle.par_flow_laws.specs.Declares.{Declares}
 use Rattle.par_flow_laws.specs.Ranges.{IsFromInRange}
-use Rattle.par_flow_laws.specs.Rules.{From, Entry, Rules, Done, Part, goes_on, spot, way}
-use Rattle.par_flow_laws.specs.Body.{past, sta, stas}
+use Rattle.par_flow_laws.specs.Rules.{From, Entry, Done, Part, goes_on, spot, way}
+use Rattle.par_flow_laws.specs.Body.{sta, stas}
 use Rattle.par_nodes.specs.Starts.{start_at}
 use Rattle.par_nodes.proofs.Branches.{stas_none}
 use Rattle.par_pass_laws.specs.par_except.declared.way.Way as code_way
 use Rattle.par_pass_laws.specs.par_except.Seen.{seen}
 use Rattle.par_pass_laws.specs.Pass.{HeadWays, pass, visited}
 use Rattle.par_rounds.specs.declared.notes.Notes.{Notes}
-use Rattle.par_rounds.specs.declared.pass.Found.{Found}
 use Rattle.par_rounds.specs.declared.pass.SoFar.{SoFar}
-use Rattle.par_rounds.specs.Seen.{latest_first}
-use Rattle.par_rounds.specs.Passes.{GoesOn, TookPart, IsPassable, ArePassable, IsReady, IsSoFar}
+use Rattle.par_ways.specs.Seen.{latest_first}
+use Rattle.par_rounds.specs.Passes.{TookPart, IsPassable}
 use Rattle.par_rounds.specs.Passes.{IsAlong}
 use Rattle.par_rounds.proofs.Needs.{part_needs}
 use Rattle.par_rounds.proofs.Walks.{behind, part_walks}

@@ -28,8 +28,8 @@ use Rattle.par_pass_laws.specs.Possible.{HasPossibleExits}
 use Rattle.par_pass_laws.proofs.Instances.{among, seen, stands, alone}
 use Rattle.par_pass_laws.proofs.Points.{next_above}
 use Rattle.par_pass_laws.proofs.Tables.{round_low, table_low, table_closed, table_possible, exact}
-use Rattle.par_rounds.specs.declared.fact.Fact.{Fact}
-use Rattle.par_rounds.specs.Seen.{seen_facts}
+use Rattle.par_ways.specs.declared.fact.Fact.{Fact}
+use Rattle.par_ways.specs.Seen.{seen_facts}
 use Rattle.par_rounds.specs.Took.{MayBeSmall}
 use Rattle.par_rounds.specs.Passes.{IsPassable, ArePassable}
 use Rattle.par_rounds.specs.Rounds.{heads_after, IsSettled}

@@ -1,6 +1,6 @@
 -- The parts of a call.
-use Rattle.std.proofs.Common.{◌≡◌, ℕ, zero, suc, ◌+◌, ◌<◌, ◌≤◌, Some, None, Option, List, [], ◌∷◌, length}
-use Rattle.std.proofs.Common.{get_or, drop, refl, sym, ap, ◌∙◌, subst, arith, add-one}
+use Rattle.std.proofs.Common.{◌≡◌, ℕ, zero, suc, ◌+◌, ◌<◌, Some, None, Option, List, []}
+use Rattle.std.proofs.Common.{◌∷◌, length, get_or, drop, refl, sym, ap, ◌∙◌, subst, arith, add-one}
 use Rattle.std.specs.declared.boxed.Box.{Box}
 use Rattle.std.specs.declared.alloc.Global.{Global}
 use Rattle.par_typed.specs.declared.expr.TExpr.{TExpr}
@@ -17,9 +17,8 @@ use Rattle.par_pass_laws.specs.par_except.declared.way.Way as code_way
 use Rattle.par_pass_laws.specs.par_except.Seen.{seen}
 use Rattle.par_pass_laws.specs.Pass.{HeadWays, pass, visited}
 use Rattle.par_rounds.specs.declared.notes.Notes.{Notes}
-use Rattle.par_rounds.specs.declared.pass.Found.{Found}
 use Rattle.par_rounds.specs.declared.pass.SoFar.{SoFar}
-use Rattle.par_rounds.specs.Seen.{latest_first}
+use Rattle.par_ways.specs.Seen.{latest_first}
 use Rattle.par_rounds.specs.Passes.{GoesOn, TookPart, IsPassable, ArePassable, IsReady, IsSoFar}
 use Rattle.par_rounds.specs.Passes.{IsLed, AreArgsAlong}
 use Rattle.par_rounds.proofs.Needs.{part_needs}

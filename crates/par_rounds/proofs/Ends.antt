@@ -8,7 +8,7 @@ use Rattle.par_pass_laws.specs.Exits.{Way}
 use Rattle.par_pass_laws.specs.Pass.{pass}
 use Rattle.par_pass_laws.specs.Written.{blanks, written, AllFit}
 use Rattle.par_rounds.specs.declared.notes.Notes.{Notes}
-use Rattle.par_rounds.specs.Seen.{ways_of, AreHeadsWide}
+use Rattle.par_ways.specs.Seen.{ways_of, AreHeadsWide}
 use Rattle.par_rounds.specs.Took.{raised, total, AreSmall, MayBeSmall}
 use Rattle.par_rounds.specs.Passes.{IsPassable}
 use Rattle.par_rounds.specs.Rounds.{heads_after, AreAfter, IsRound, IsSettled}

@@ -6,7 +6,7 @@ use Rattle.par_flow_laws.specs.Facts.{Fact}
 use Rattle.par_pass_laws.specs.Pass.{HeadWays, Event, Row, Into}
 use Rattle.par_pass_laws.specs.Written.{written, AllFit}
 use Rattle.par_rounds.specs.declared.notes.Notes.{Notes}
-use Rattle.par_rounds.specs.Seen.{seen_facts, ways_of, AreHeadsWide, AreRowsWide}
+use Rattle.par_ways.specs.Seen.{seen_facts, ways_of, AreHeadsWide, AreRowsWide}
 use Rattle.par_rounds.specs.Took.{joined, raised, total, AreSmall, Took}
 
 raised_both : (h : HeadWays) (l k : List Event) → raised h (l ++ k) ≡ raised (raised h l) k

@@ -15,7 +15,7 @@ use Rattle.par_pass_laws.specs.par_except.Seen.{seen, may_see, MayHaveLocals}
 use Rattle.par_pass_laws.specs.par_except.Weight.{all_left, weight}
 use Rattle.par_pass_laws.proofs.par_except.Weights.{weight_falls, same_weight_flows}
 use Rattle.par_pass_laws.specs.Exits.{Way}
-use Rattle.par_rounds.specs.Seen.{ways_of, AreHeadsWide}
+use Rattle.par_ways.specs.Seen.{ways_of, AreHeadsWide}
 use Rattle.par_rounds.specs.Took.{joined, may_weigh, total, HaveSmallLocks, MayBeSmall}
 
 pub read_none : (xs : List (Option code.Way)) (i : ℕ) (x : Option code.Way) → i < length xs

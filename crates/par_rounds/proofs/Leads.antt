@@ -3,17 +3,16 @@ use Rattle.std.proofs.Common.{◌≡◌, ◌<◌, ℕ, Bool, true, false, Option
 use Rattle.std.proofs.Common.{refl, sym, ap, ◌∙◌, subst}
 use Rattle.std.specs.declared.boxed.Box.{Box}
 use Rattle.std.specs.declared.alloc.Global.{Global}
-use Rattle.par_bits.specs.Sets.{has}
 use Rattle.par_typed.specs.Plain.{MayTSta, NoElse, Otherwise}
 use Rattle.par_typed.specs.declared.stmt.TStmt.{TStmt}
 use Rattle.par_typed.specs.Shown.{does, otherwise}
 use Rattle.par_flow_laws.specs.Lattice.{numbers}
-use Rattle.par_flow_laws.specs.Kinds.{Kind, Normal, Break, Continue, Next, Loop}
+use Rattle.par_flow_laws.specs.Kinds.{Normal, Break, Continue, Next, Loop}
 use Rattle.par_flow_laws.specs.Ranges.{IsFromInRange}
 use Rattle.par_flow_laws.specs.Rules.{From, Entry, After, Node, Rules, Done, Part, Test, Heads}
 use Rattle.par_flow_laws.specs.Rules.{goes_on, spot, way}
 use Rattle.par_flow_laws.specs.Declares.{Declares}
-use Rattle.par_flow_laws.specs.Body.{past, tested, if_not, is_forever, exp, sta}
+use Rattle.par_flow_laws.specs.Body.{past, tested, if_not, sta}
 use Rattle.par_nodes.specs.Starts.{goes_first, else_rules}
 use Rattle.par_pass_laws.specs.par_except.declared.way.Way as code_way
 use Rattle.par_pass_laws.specs.Exits.{Way, all, leave}
@@ -21,7 +20,7 @@ use Rattle.par_pass_laws.specs.Pass.{HeadWays, Event}
 use Rattle.par_rounds.specs.declared.notes.Notes.{Notes}
 use Rattle.par_rounds.specs.declared.pass.Found.{Found}
 use Rattle.par_rounds.specs.declared.pass.SoFar.{SoFar}
-use Rattle.par_rounds.specs.Seen.{seen_exits, latest_first, AreWide, AreFactsWide}
+use Rattle.par_ways.specs.Seen.{seen_exits, latest_first, AreWide, AreFactsWide}
 use Rattle.par_rounds.specs.Took.{Took}
 use Rattle.par_rounds.specs.Passes.{GoesOn, IsPassable, ArePassable, IsReady, IsSoFar}
 use Rattle.par_rounds.proofs.Arms.{leaves_arm}

@@ -1,5 +1,3 @@
-pub mod Lists
-pub mod Parts
 pub mod Events
 pub mod Heads
 pub mod Noted
@@ -12,9 +10,6 @@ pub mod Walks
 pub mod Blocks
 pub mod Leads
 pub mod Calls
-pub mod Firsts
-pub mod Envs
-pub mod Locks
 pub mod Needs
 pub mod Ends
 pub mod Bodies

@@ -10,10 +10,10 @@ use Rattle.par_flow_laws.specs.Rules.{spot}
 use Rattle.par_pass_laws.specs.par_except.declared.way.Way.{Way}
 use Rattle.par_pass_laws.specs.par_except.Seen.{HasLocals}
 use Rattle.par_pass_laws.specs.Pass.{Event}
-use Rattle.par_rounds.specs.declared.fact.Fact.{Fact}
+use Rattle.par_ways.specs.declared.fact.Fact.{Fact}
 use Rattle.par_rounds.specs.declared.notes.Notes.{Notes}
 use Rattle.par_rounds.specs.declared.pass.SoFar.{SoFar}
-use Rattle.par_rounds.specs.Seen.{AreWide, AreFactsWide, AreHeadsWide}
+use Rattle.par_ways.specs.Seen.{AreWide, AreFactsWide, AreHeadsWide}
 use Rattle.par_rounds.specs.Took.{Took}
 use Rattle.par_rounds.specs.Passes.{IsPassable, ArePassable, IsReady, IsSoFar, IsHeadInRange}
 

@@ -16,11 +16,11 @@ use Rattle.par_pass_laws.specs.par_except.Joins.{join, may_join}
 use Rattle.par_pass_laws.specs.par_except.Seen.{may_see, MayHaveLocals}
 use Rattle.par_pass_laws.specs.Exits.{Way}
 use Rattle.par_pass_laws.specs.Pass.{HeadWays, Row, Into}
-use Rattle.par_pass_laws.specs.Written.{blanks, table}
-use Rattle.par_rounds.specs.declared.fact.Fact as code_fact
+use Rattle.par_pass_laws.specs.Written.{blanks}
+use Rattle.par_ways.specs.declared.fact.Fact as code_fact
 use Rattle.par_rounds.specs.declared.notes.Notes.{Notes}
-use Rattle.par_rounds.specs.Seen.{seen_fact, seen_facts, ways_of, AreHeadsWide}
-use Rattle.par_rounds.specs.Seen.{IsRowWide, AreRowsWide}
+use Rattle.par_ways.specs.Seen.{seen_fact, seen_facts, ways_of, AreHeadsWide}
+use Rattle.par_ways.specs.Seen.{IsRowWide, AreRowsWide}
 use Rattle.par_rounds.specs.Took.{joined, total, HaveSmallLocks, AreSmall, Took}
 use Rattle.par_rounds.proofs.Heads.{heads_set, head_falls, total_falls}
 
@@ -165,16 +165,3 @@ push_wide xs ys f e w h n =
 pub read_wide : (n : ℕ) (xs : List (Option code.Way)) (i : ℕ) (x : Option code.Way) → i < length xs
     → x ≡ get_or xs i x → AreHeadsWide n xs → MayHaveLocals n x
 read_wide n xs i x h e w = subst (MayHaveLocals n) (sym e) (w i x h)
-
--- rows by points
-pub row_at : (rows : List code_fact.Fact) (p : ℕ) (d : code_fact.Fact) → p < length rows
-    → table (seen_facts rows) p ≡ seen_fact (get_or rows p d)
-row_at [] p d h = absurd (omega (arith, h))
-row_at (f ∷ rows) zero d h = refl
-row_at (f ∷ rows) (suc p) d h = row_at rows p d (omega (arith, h))
-
-pub row_past : (rows : List code_fact.Fact) (p : ℕ) → length rows ≤ p
-    → table (seen_facts rows) p ≡ blank numbers
-row_past [] p h = refl
-row_past (f ∷ rows) zero h = absurd (omega (arith, h))
-row_past (f ∷ rows) (suc p) h = row_past rows p (omega (arith, h))

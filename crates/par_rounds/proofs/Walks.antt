@@ -1,6 +1,6 @@
 -- Parts that are passed where they stand in the typed tree.
 use Rattle.std.proofs.Common.{◌≡◌, ℕ, ◌<◌, Bool, Some, None, List, Option, [], ◌∷◌, length, refl}
-use Rattle.std.proofs.Common.{sym, ap, ◌∙◌, subst, arith}
+use Rattle.std.proofs.Common.{sym, ap, subst, arith}
 use Rattle.par_bits.specs.Sets.{has, none}
 use Rattle.par_typed.specs.Plain as typed
 use Rattle.par_typed.specs.Plain.{TExp, TSta, mark, point}
@@ -19,7 +19,7 @@ use Rattle.par_pass_laws.specs.Pass.{HeadWays, Event, Row, ended, pass, visited}
 use Rattle.par_rounds.specs.declared.notes.Notes.{Notes}
 use Rattle.par_rounds.specs.declared.pass.Found.{Found}
 use Rattle.par_rounds.specs.declared.pass.SoFar.{SoFar}
-use Rattle.par_rounds.specs.Seen.{seen_exits, latest_first, AreWide}
+use Rattle.par_ways.specs.Seen.{seen_exits, latest_first, AreWide}
 use Rattle.par_rounds.specs.Took.{Took}
 use Rattle.par_rounds.specs.Passes.{found_of, within, GoesOn, Passed, TookPart}
 use Rattle.par_rounds.specs.Passes.{IsPassable, ArePassable, IsReady, IsSoFar}

@@ -1,6 +1,3 @@
-pub mod Seen
-pub mod Places
-pub mod Changes
 pub mod Took
 pub mod Passes
 pub mod Rounds
@@ -8,3 +5,4 @@ pub mod Bodies
 pub use Rattle.par_pass_laws.specs.par_except as par_except
 pub use Rattle.par_nodes.specs as par_nodes
 pub use Rattle.par_pass_laws.specs as par_pass_laws
+pub use Rattle.par_ways.specs as par_ways

@@ -21,7 +21,7 @@ use Rattle.par_pass_laws.specs.Pass.{HeadWays, Event, Row}
 use Rattle.par_rounds.specs.declared.notes.Notes.{Notes}
 use Rattle.par_rounds.specs.declared.pass.Found.{Found}
 use Rattle.par_rounds.specs.declared.pass.SoFar.{SoFar}
-use Rattle.par_rounds.specs.Seen.{seen_exits, latest_first, AreWide, AreFactsWide, AreHeadsWide}
+use Rattle.par_ways.specs.Seen.{seen_exits, latest_first, AreWide, AreFactsWide, AreHeadsWide}
 use Rattle.par_rounds.specs.Took.{Took}
 
 module _ (locals points : ℕ) where
@@ -122,8 +122,8 @@ pub record IsLed (h : HeadWays) (w : Way) (hs : List (Option Way)) (f : Rules �
       → GoesOn h (f more) (seen w) so m r o
 
 -- the arguments before the place have been passed, and the others follow
-pub record AreArgsAlong (d : Declares) (h : HeadWays) (w : Way) (hs : List (Option Way)) (from : From)
-    (es : List TExpr) (place : ℕ) (first so : SoFar) (m n : Notes) : Type 0 where
+pub record AreArgsAlong (d : Declares) (h : HeadWays) (w : Way) (hs : List (Option Way))
+    (from : From) (es : List TExpr) (place : ℕ) (first so : SoFar) (m n : Notes) : Type 0 where
   pub ready : IsReady w hs n
   pub so_far : IsSoFar n so
   pub same : (rs : Rules) → ArePassable m.locals (length m.heads.items) rs

@@ -5,9 +5,9 @@ use Rattle.par_pass_laws.specs.par_except.declared.way.Way as code
 use Rattle.par_pass_laws.specs.Exits.{Way}
 use Rattle.par_pass_laws.specs.Pass.{HeadWays, Event, pass}
 use Rattle.par_pass_laws.specs.Written.{blanks, written, AllFit}
-use Rattle.par_rounds.specs.declared.fact.Fact.{Fact}
+use Rattle.par_ways.specs.declared.fact.Fact.{Fact}
 use Rattle.par_rounds.specs.declared.notes.Notes.{Notes}
-use Rattle.par_rounds.specs.Seen.{seen_facts, ways_of, AreHeadsWide, AreRowsWide}
+use Rattle.par_ways.specs.Seen.{seen_facts, ways_of, AreHeadsWide, AreRowsWide}
 use Rattle.par_rounds.specs.Took.{raised, total, AreSmall}
 
 -- the heads after so many rounds: at first none is reached

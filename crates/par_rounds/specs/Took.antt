@@ -9,7 +9,7 @@ use Rattle.par_pass_laws.specs.Exits.{Way}
 use Rattle.par_pass_laws.specs.Pass.{HeadWays, Event, Row, Into}
 use Rattle.par_pass_laws.specs.Written.{written, AllFit}
 use Rattle.par_rounds.specs.declared.notes.Notes.{Notes}
-use Rattle.par_rounds.specs.Seen.{seen_facts, ways_of, AreHeadsWide, AreRowsWide}
+use Rattle.par_ways.specs.Seen.{seen_facts, ways_of, AreHeadsWide, AreRowsWide}
 
 abbrev pub joined : HeadWays → ℕ → Option Way → HeadWays
 joined h p o i = cond (nat_eq i p) (may_join (h i) o) (h i)

@@ -5,19 +5,19 @@ ghost use Rattle.par_typed.specs.Shown as shown;
 ghost use Rattle.par_flow_laws.specs.Declares.{declares, method_of};
 ghost use Rattle.par_flow_laws.specs.Ranges.{IsOrderly};
 ghost use Rattle.par_pass_laws.specs.Written.{table as by_point};
-ghost use Rattle.par_rounds.specs.Seen.{seen_facts, AreRowsWide};
+ghost use Rattle.par_ways.specs.Seen.{seen_facts, AreRowsWide};
 ghost use Rattle.par_rounds.specs.Bodies.{AreLeastClosed};
 ghost use Rattle.par_flow_laws.specs.Orderly.{locals_in, IsOrderlyBody};
 ghost use Rattle.par_typed.specs.Members.{methods_in};
 
-use crate::fact::Fact;
-use crate::first::first_way;
 use crate::next::points_of;
 use crate::rounds::settle;
-use crate::way::SharedWay;
 use par_base::memory::NoMemory;
 use par_typed::program::{TBody, Typed};
 use par_typed::table::{MethodInfo, Table};
+use par_ways::fact::Fact;
+use par_ways::first::first_way;
+use par_ways::way::SharedWay;
 use std::alloc::Global;
 
 fn method_at(table: &Table, class: u16, method: u16) -> Option<&MethodInfo>

@@ -14,15 +14,12 @@ ghost use Rattle.par_nodes.specs.Starts.{behind};
 ghost use Rattle.par_pass_laws.specs.par_except.Seen.{may_see, seen, HasLocals, MayHaveLocals};
 ghost use Rattle.par_pass_laws.specs.Exits.{Way};
 ghost use Rattle.par_pass_laws.specs.Pass.{HeadWays, pass, visited};
-ghost use Rattle.par_rounds.specs.Seen.{latest_first, ways_of, AreHeadsWide};
+ghost use Rattle.par_ways.specs.Seen.{latest_first, ways_of, AreHeadsWide};
 ghost use Rattle.par_rounds.specs.Passes.{left_as, within, GoesOn, IsLed, Passed, TookPart};
 ghost use Rattle.par_rounds.specs.Passes.{IsPassable, ArePassable, IsReady, IsSoFar};
 
-use crate::changes::{way_at, worth_at};
-use crate::exits;
 use crate::notes::Notes;
 use crate::pass::{Found, SoFar, finish, pass_rules, take};
-use crate::way::SharedWay;
 use par_atoms::Atoms;
 use par_base::memory::NoMemory;
 use par_nodes::make::{ENTRY, PAST};
@@ -30,6 +27,9 @@ use par_nodes::rule::{Absorber, Kind, Origin, Rules, Start, Worth};
 use par_nodes::{declared, expr as rules};
 use par_typed::expr::{TExpr, TExprKind};
 use par_typed::table::Table;
+use par_ways::changes::{way_at, worth_at};
+use par_ways::exits;
+use par_ways::way::SharedWay;
 use std::alloc::Global;
 
 // The value of a node that has none.
@@ -170,6 +170,45 @@ fn parts(
             pass_rules(alloc, &rest, way, heads, so, notes)?;
             Ok(())
         }
+        TExprKind::Field(of, class, field) => {
+            operand(alloc, table, of, &ENTRY, way, heads, so, notes)?;
+            let rest = rules::selected(alloc, of, declared::field(table, *class, *field))?;
+            pass_rules(alloc, &rest.rules, way, heads, so, notes)?;
+            Ok(())
+        }
+        TExprKind::Output(_, _, value) => {
+            operand(alloc, table, value, &ENTRY, way, heads, so, notes)?;
+            let rest = Rules::Ends(PAST, Kind::Normal);
+            pass_rules(alloc, &rest, way, heads, so, notes)?;
+            Ok(())
+        }
+        TExprKind::Binary(_, _, _) => binary(alloc, table, e, way, heads, so, notes),
+        TExprKind::Call(_, _, _, _) => call(alloc, table, e, way, heads, so, notes),
+        _ => by_rules(alloc, table, e, way, heads, so, notes),
+    }
+}
+
+// Two operands, and what the operator makes of them.
+#[cycle(exp)]
+#[inline(never)]
+fn binary(
+    alloc: Global,
+    table: &Table,
+    e: &TExpr,
+    way: &SharedWay,
+    heads: &[Option<SharedWay>],
+    so: &mut SoFar,
+    notes: &mut Notes,
+) -> Result<(), NoMemory>
+    requires ready { IsReady way.now heads.now notes.old }
+    requires so_far { IsSoFar notes.old so.old }
+    requires rules { ArePassable notes.old.locals (length notes.old.heads.items)
+        (within (body.exp (declares table.now) (shown e.now))) }
+    ensures { OnOk result (GoesOn (ways_of heads.now)
+        (within (body.exp (declares table.now) (shown e.now))) (seen way.now)
+        so.old notes.old so.new.found notes.new) }
+{
+    match &e.kind {
         TExprKind::Binary(op, left, right) => {
             operand(alloc, table, left, &ENTRY, way, heads, so, notes)?;
             operand(
@@ -186,18 +225,31 @@ fn parts(
             pass_rules(alloc, &rest.rules, way, heads, so, notes)?;
             Ok(())
         }
-        TExprKind::Field(of, class, field) => {
-            operand(alloc, table, of, &ENTRY, way, heads, so, notes)?;
-            let rest = rules::selected(alloc, of, declared::field(table, *class, *field))?;
-            pass_rules(alloc, &rest.rules, way, heads, so, notes)?;
-            Ok(())
-        }
-        TExprKind::Output(_, _, value) => {
-            operand(alloc, table, value, &ENTRY, way, heads, so, notes)?;
-            let rest = Rules::Ends(PAST, Kind::Normal);
-            pass_rules(alloc, &rest, way, heads, so, notes)?;
-            Ok(())
-        }
+        _ => by_rules(alloc, table, e, way, heads, so, notes),
+    }
+}
+
+// A call: its receiver, its arguments, and what it does.
+#[cycle(exp)]
+#[inline(never)]
+fn call(
+    alloc: Global,
+    table: &Table,
+    e: &TExpr,
+    way: &SharedWay,
+    heads: &[Option<SharedWay>],
+    so: &mut SoFar,
+    notes: &mut Notes,
+) -> Result<(), NoMemory>
+    requires ready { IsReady way.now heads.now notes.old }
+    requires so_far { IsSoFar notes.old so.old }
+    requires rules { ArePassable notes.old.locals (length notes.old.heads.items)
+        (within (body.exp (declares table.now) (shown e.now))) }
+    ensures { OnOk result (GoesOn (ways_of heads.now)
+        (within (body.exp (declares table.now) (shown e.now))) (seen way.now)
+        so.old notes.old so.new.found notes.new) }
+{
+    match &e.kind {
         TExprKind::Call(class, method, of, arguments) => {
             receiver(alloc, table, of, way, heads, so, notes)?;
             let arguments = arguments.as_slice();
@@ -215,12 +267,31 @@ fn parts(
             pass_rules(alloc, &rest.rules, way, heads, so, notes)?;
             Ok(())
         }
-        _ => {
-            let known = rules::exp(alloc, table, e)?;
-            pass_rules(alloc, &known.node.rules, way, heads, so, notes)?;
-            Ok(())
-        }
+        _ => by_rules(alloc, table, e, way, heads, so, notes),
     }
+}
+
+// Goes by the rules of the expression, whatever it is.
+fn by_rules(
+    alloc: Global,
+    table: &Table,
+    e: &TExpr,
+    way: &SharedWay,
+    heads: &[Option<SharedWay>],
+    so: &mut SoFar,
+    notes: &mut Notes,
+) -> Result<(), NoMemory>
+    requires ready { IsReady way.now heads.now notes.old }
+    requires so_far { IsSoFar notes.old so.old }
+    requires rules { ArePassable notes.old.locals (length notes.old.heads.items)
+        (within (body.exp (declares table.now) (shown e.now))) }
+    ensures { OnOk result (GoesOn (ways_of heads.now)
+        (within (body.exp (declares table.now) (shown e.now))) (seen way.now)
+        so.old notes.old so.new.found notes.new) }
+{
+    let known = rules::exp(alloc, table, e)?;
+    pass_rules(alloc, &known.node.rules, way, heads, so, notes)?;
+    Ok(())
 }
 
 // The receiver of a call, if it has one.

@@ -9,23 +9,15 @@
 #![tactic(auto)]
 
 mod body;
-mod changes;
-mod env;
-mod exits;
 mod expr;
-mod fact;
-mod first;
 mod next;
 mod notes;
 mod pass;
 mod rounds;
 mod stmt;
-mod way;
-mod ways;
 
 pub use body::{body_at, rows_of};
-pub use exits::Exit;
-pub use fact::{Fact, entry_at, exit_at, value_at};
-pub use first::first_way;
+pub use par_ways::exits::Exit;
+pub use par_ways::fact::{Fact, entry_at, exit_at, value_at};
+pub use par_ways::way::SharedWay;
 pub use rounds::settle;
-pub use way::SharedWay;

@@ -7,16 +7,16 @@ ghost use Rattle.par_pass_laws.specs.par_except.Seen.{may_see, seen, HasLocals, 
 ghost use Rattle.par_pass_laws.specs.Exits.{at};
 ghost use Rattle.par_pass_laws.specs.Pass.{Row, Into};
 ghost use Rattle.par_pass_laws.specs.Written.{blanks};
-ghost use Rattle.par_rounds.specs.Seen.{seen_exits, seen_fact, seen_facts, AreHeadsWide};
-ghost use Rattle.par_rounds.specs.Seen.{AreRowsWide, AreWide, IsRowWide};
+ghost use Rattle.par_ways.specs.Seen.{seen_exits, seen_fact, seen_facts, AreHeadsWide};
+ghost use Rattle.par_ways.specs.Seen.{AreRowsWide, AreWide, IsRowWide};
 ghost use Rattle.par_rounds.specs.Took.{HaveSmallLocks, Took};
 
-use crate::exits::{self, Exit};
-use crate::fact::Fact;
-use crate::way::SharedWay;
-use crate::ways::{may_flow, may_join, may_share};
 use par_atoms::Atoms;
 use par_base::memory::NoMemory;
+use par_ways::exits::{self, Exit};
+use par_ways::fact::Fact;
+use par_ways::way::SharedWay;
+use par_ways::ways::{may_flow, may_join, may_share};
 use std::alloc::Global;
 
 /// The head ways of the next pass, whether one of them rose, and the facts of points, where there

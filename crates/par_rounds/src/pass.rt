@@ -11,23 +11,22 @@ ghost use Rattle.par_nodes.specs.Seen.{seen_rules, seen_worth};
 ghost use Rattle.par_pass_laws.specs.par_except.Seen.{may_see, seen, HasLocals, MayHaveLocals};
 ghost use Rattle.par_pass_laws.specs.Exits.{all, leave as left, leaving};
 ghost use Rattle.par_pass_laws.specs.Pass.{Event, ended, into, pass, pass_all, visited};
-ghost use Rattle.par_rounds.specs.Seen.{latest_first, seen_exits, seen_fact, ways_of};
-ghost use Rattle.par_rounds.specs.Seen.{AreWide, AreHeadsWide, AreFactsWide};
+ghost use Rattle.par_ways.specs.Seen.{latest_first, seen_exits, ways_of};
+ghost use Rattle.par_ways.specs.Seen.{AreWide, AreHeadsWide, AreFactsWide};
 ghost use Rattle.par_rounds.specs.Took.{Took};
 ghost use Rattle.par_rounds.specs.declared.notes.Notes.{Notes as Noted};
 ghost use Rattle.par_rounds.specs.Passes.{found_of, Passed, TookPart, IsReady, IsSoFar};
-ghost use Rattle.par_rounds.specs.Passes.{IsHeadInRange};
 ghost use Rattle.par_rounds.specs.Passes.{IsPassable, ArePassable};
 
-use crate::changes::{way_at, worth_at};
-use crate::exits::{Exit, add, gather, restore};
-use crate::fact::Fact;
 use crate::notes::Notes;
-use crate::way::SharedWay;
-use crate::ways::may_share;
 use par_atoms::Atoms;
 use par_base::memory::NoMemory;
 use par_nodes::rule::{Absorber, Kind, Node, Origin, Rules, Worth};
+use par_ways::changes::{way_at, worth_at};
+use par_ways::exits::{Exit, add, gather, restore};
+use par_ways::fact::Fact;
+use par_ways::way::SharedWay;
+use par_ways::ways::may_share;
 use std::alloc::Global;
 
 /// The value of a node, and its exits.

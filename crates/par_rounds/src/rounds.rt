@@ -6,18 +6,18 @@ ghost use Rattle.par_flow_laws.specs.Declares.{declares};
 ghost use Rattle.par_pass_laws.specs.par_except.Seen.{seen};
 ghost use Rattle.par_pass_laws.specs.Pass.{pass};
 ghost use Rattle.par_pass_laws.specs.Written.{AllFit};
-ghost use Rattle.par_rounds.specs.Seen.{ways_of, AreHeadsWide, AreRowsWide};
+ghost use Rattle.par_ways.specs.Seen.{ways_of, AreHeadsWide, AreRowsWide};
 ghost use Rattle.par_rounds.specs.Took.{MayBeSmall};
 ghost use Rattle.par_rounds.specs.Passes.{IsPassable};
 ghost use Rattle.par_rounds.specs.Rounds.{AreAfter, IsRound, IsSettled};
 
-use crate::fact::Fact;
 use crate::notes::Notes;
 use crate::stmt;
-use crate::way::SharedWay;
 use par_base::memory::NoMemory;
 use par_typed::stmt::TStmt;
 use par_typed::table::Table;
+use par_ways::fact::Fact;
+use par_ways::way::SharedWay;
 use std::alloc::Global;
 
 // One pass from the start. Facts are kept of so many points.

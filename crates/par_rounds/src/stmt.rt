@@ -13,17 +13,15 @@ ghost use Rattle.par_flow_laws.specs.Rules.{Rules as Listed};
 ghost use Rattle.par_nodes.specs.Seen.{seen_absorber, seen_origin, assigned as written};
 ghost use Rattle.par_pass_laws.specs.par_except.Seen.{may_see, seen, MayHaveLocals};
 ghost use Rattle.par_pass_laws.specs.Pass.{HeadWays, pass, visited};
-ghost use Rattle.par_rounds.specs.Seen.{latest_first, ways_of, AreFactsWide, AreHeadsWide, AreWide};
+ghost use Rattle.par_ways.specs.Seen.{latest_first, ways_of, AreFactsWide, AreHeadsWide, AreWide};
 ghost use Rattle.par_rounds.specs.declared.notes.Notes.{Notes as Noted};
 ghost use Rattle.par_rounds.specs.declared.pass.Found.{Found as Taken};
 ghost use Rattle.par_rounds.specs.Passes.{within, GoesOn, Passed, TookPart};
 ghost use Rattle.par_rounds.specs.Passes.{IsPassable, ArePassable, IsReady, IsSoFar};
 
-use crate::changes::way_at;
 use crate::expr::{operand, visit as visit_test};
 use crate::notes::Notes;
 use crate::pass::{Found, SoFar, finish, flow, head_at, leave, pass_rules, take};
-use crate::way::SharedWay;
 use par_base::memory::NoMemory;
 use par_nodes::expr::start_at;
 use par_nodes::make::{ENTRY, PAST, TESTED};
@@ -32,6 +30,8 @@ use par_nodes::stmt as rules;
 use par_typed::expr::TExpr;
 use par_typed::stmt::{TStmt, TStmtKind};
 use par_typed::table::Table;
+use par_ways::changes::way_at;
+use par_ways::way::SharedWay;
 use std::alloc::Global;
 
 // An expression, whose value may go into a local, and nothing else.
@@ -204,6 +204,33 @@ fn parts(
             ends(alloc, table, value, None, way, heads, so, notes)?;
             Ok(())
         }
+        TStmtKind::If(_, _, _) => branch(alloc, table, stmt, way, heads, so, notes),
+        TStmtKind::While(_, _) => repeat(alloc, table, stmt, way, heads, so, notes),
+        _ => by_rules(alloc, table, stmt, way, heads, so, notes),
+    }
+}
+
+// A test, and what stands behind each of its values.
+#[cycle(sta)]
+#[inline(never)]
+fn branch(
+    alloc: Global,
+    table: &Table,
+    stmt: &TStmt,
+    way: &SharedWay,
+    heads: &[Option<SharedWay>],
+    so: &mut SoFar,
+    notes: &mut Notes,
+) -> Result<(), NoMemory>
+    requires ready { IsReady way.now heads.now notes.old }
+    requires so_far { IsSoFar notes.old so.old }
+    requires rules { ArePassable notes.old.locals (length notes.old.heads.items)
+        (within (body.sta (declares table.now) (does stmt.now))) }
+    ensures { OnOk result (GoesOn (ways_of heads.now)
+        (within (body.sta (declares table.now) (does stmt.now))) (seen way.now)
+        so.old notes.old so.new.found notes.new) }
+{
+    match &stmt.kind {
         TStmtKind::If(test, block, other) => {
             operand(alloc, table, test, &ENTRY, way, heads, so, notes)?;
             goes_first(alloc, way, other, &PAST, so)?;
@@ -231,6 +258,31 @@ fn parts(
             )?;
             Ok(())
         }
+        _ => by_rules(alloc, table, stmt, way, heads, so, notes),
+    }
+}
+
+// A loop: its test, its block, and the way back.
+#[cycle(sta)]
+#[inline(never)]
+fn repeat(
+    alloc: Global,
+    table: &Table,
+    stmt: &TStmt,
+    way: &SharedWay,
+    heads: &[Option<SharedWay>],
+    so: &mut SoFar,
+    notes: &mut Notes,
+) -> Result<(), NoMemory>
+    requires ready { IsReady way.now heads.now notes.old }
+    requires so_far { IsSoFar notes.old so.old }
+    requires rules { ArePassable notes.old.locals (length notes.old.heads.items)
+        (within (body.sta (declares table.now) (does stmt.now))) }
+    ensures { OnOk result (GoesOn (ways_of heads.now)
+        (within (body.sta (declares table.now) (does stmt.now))) (seen way.now)
+        so.old notes.old so.new.found notes.new) }
+{
+    match &stmt.kind {
         TStmtKind::While(test, block) => {
             loop_test(alloc, table, test, heads, so, notes)?;
             flow(alloc, way, &ENTRY, so, notes)?;
@@ -250,12 +302,31 @@ fn parts(
             pass_rules(alloc, &rest.rules, way, heads, so, notes)?;
             Ok(())
         }
-        _ => {
-            let known = rules::sta(alloc, table, stmt)?;
-            pass_rules(alloc, &known.node.rules, way, heads, so, notes)?;
-            Ok(())
-        }
+        _ => by_rules(alloc, table, stmt, way, heads, so, notes),
     }
+}
+
+// Goes by the rules of the statement, whatever it is.
+fn by_rules(
+    alloc: Global,
+    table: &Table,
+    stmt: &TStmt,
+    way: &SharedWay,
+    heads: &[Option<SharedWay>],
+    so: &mut SoFar,
+    notes: &mut Notes,
+) -> Result<(), NoMemory>
+    requires ready { IsReady way.now heads.now notes.old }
+    requires so_far { IsSoFar notes.old so.old }
+    requires rules { ArePassable notes.old.locals (length notes.old.heads.items)
+        (within (body.sta (declares table.now) (does stmt.now))) }
+    ensures { OnOk result (GoesOn (ways_of heads.now)
+        (within (body.sta (declares table.now) (does stmt.now))) (seen way.now)
+        so.old notes.old so.new.found notes.new) }
+{
+    let known = rules::sta(alloc, table, stmt)?;
+    pass_rules(alloc, &known.node.rules, way, heads, so, notes)?;
+    Ok(())
 }
 
 // What stands behind `else`.

@@ -27,12 +27,12 @@ use Rattle.par_names.specs.Methods.{effect_faults, throw_faults, head_faults, me
 use Rattle.par_names.specs.Methods.{class_faults}
 use Rattle.par_names.specs.Program.{view_behind, declaration_faults}
 use Rattle.par_typed_laws.specs.par_resolved.Numbers.{numbers, actor_number}
-use Rattle.par_typed_laws.specs.par_resolved.Statements.{inside, in_braces, in_may_braces, in_else}
-use Rattle.par_typed_laws.specs.par_resolved.Statements.{in_all}
-use Rattle.par_typed_laws.specs.par_resolved.Statements.{in_catches, in_handler}
-use Rattle.par_typed_laws.specs.par_resolved.Written.{stmt_policies, method_policies}
-use Rattle.par_typed_laws.specs.par_resolved.Written.{class_policies}
-use Rattle.par_typed_laws.specs.par_resolved.Written.{declaration_policies, written}
+use Rattle.par_parts.specs.Statements.{inside, in_braces, in_may_braces, in_else}
+use Rattle.par_parts.specs.Statements.{in_all}
+use Rattle.par_parts.specs.Statements.{in_catches, in_handler}
+use Rattle.par_parts.specs.Written.{stmt_policies, method_policies}
+use Rattle.par_parts.specs.Written.{class_policies}
+use Rattle.par_parts.specs.Written.{declaration_policies, written}
 use Rattle.par_typed_laws.proofs.Lists.{none_left, none_right, none_of, each_is, all_mapped}
 use Rattle.par_typed_laws.proofs.Lists.{of_both, of_parts}
 use Rattle.par_typed_laws.proofs.Unbroken.{actor_within, IsKept}

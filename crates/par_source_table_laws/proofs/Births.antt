@@ -18,8 +18,8 @@ use Rattle.par_typed.specs.declared.table.Table.{Table}
 use Rattle.par_names.specs.Declarations.{classes_in, declared_classes}
 use Rattle.par_typed_laws.specs.par_resolved.Sets.{met}
 use Rattle.par_typed_laws.specs.par_resolved.Policies.{Known, known, bottom, policy_of}
-use Rattle.par_typed_laws.specs.par_resolved.Written.{written, declaration_policies, class_policies}
-use Rattle.par_typed_laws.specs.par_resolved.Written.{method_policies}
+use Rattle.par_parts.specs.Written.{written, declaration_policies, class_policies}
+use Rattle.par_parts.specs.Written.{method_policies}
 use Rattle.par_typed_laws.specs.par_resolved.Births.{policy_or_bottom, is_known_part, part_policies}
 use Rattle.par_typed_laws.specs.par_resolved.Births.{meet_of}
 use Rattle.par_typed_laws.specs.par_resolved.Births.{birth_policy, is_below, birth_faults}

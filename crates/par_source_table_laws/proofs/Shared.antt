@@ -20,7 +20,7 @@ use Rattle.par_tree.specs.declared.policy.PolicyExpr.{PolicyExpr}
 use Rattle.par_tree.specs.Plain.{Class, Source}
 use Rattle.par_typed_laws.specs.par_resolved.declared.entries.Entry.{Entry}
 use Rattle.par_typed_laws.specs.par_resolved.Policies.{Known, known, bottom, policy_of}
-use Rattle.par_typed_laws.specs.par_resolved.Written.{written}
+use Rattle.par_parts.specs.Written.{written}
 use Rattle.par_typed_laws.specs.par_resolved.Births.{birth_policy, policy_or_bottom}
 use Rattle.par_typed_laws.specs.par_resolved.Numbered.{same_clause, same_policy, written_entry}
 use Rattle.par_typed_laws.specs.par_resolved.Numbered.{query_entries}

@@ -31,9 +31,9 @@ use Rattle.par_typed_laws.specs.par_resolved.Policies.{nothing_known, known}
 use Rattle.par_typed_laws.specs.par_resolved.Births.{policy_or_bottom, is_known_part, part_policies}
 use Rattle.par_typed_laws.specs.par_resolved.Births.{meet_of}
 use Rattle.par_typed_laws.specs.par_resolved.Births.{birth_policy}
-use Rattle.par_typed_laws.specs.par_resolved.Written.{written, queried, declaration_policies}
-use Rattle.par_typed_laws.specs.par_resolved.Written.{class_policies}
-use Rattle.par_typed_laws.specs.par_resolved.Written.{method_policies}
+use Rattle.par_parts.specs.Written.{written, queried, declaration_policies}
+use Rattle.par_parts.specs.Written.{class_policies}
+use Rattle.par_parts.specs.Written.{method_policies}
 use Rattle.par_typed_laws.specs.par_resolved.declared.entries.Entry.{Entry}
 use Rattle.par_typed_laws.specs.par_resolved.Numbered.{same_policy, has_no_policy, written_entry}
 use Rattle.par_typed_laws.specs.par_resolved.Numbered.{query_entries}

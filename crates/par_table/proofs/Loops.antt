@@ -15,7 +15,7 @@ use Rattle.par_tree.specs.Shown.{class_of, method, methods}
 use Rattle.par_typed.specs.declared.table.GroundLock.{GroundLock}
 use Rattle.par_typed.specs.declared.table.FieldInfo.{FieldInfo}
 use Rattle.par_typed.specs.declared.table.ClassInfo.{ClassInfo}
-use Rattle.par_resolved.specs.Gathered.{all_of, classes_of}
+use Rattle.par_parts.specs.Gathered.{all_of, classes_of}
 use Rattle.par_resolved.specs.Numbers.{ground_count}
 use Rattle.par_resolved.specs.Resolved.{Resolved, family, ground_locks_from, field_info}
 use Rattle.par_resolved.specs.Resolved.{field_infos, class_info, class_infos}

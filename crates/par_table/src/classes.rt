@@ -6,7 +6,7 @@ ghost use Rattle.std.specs.Str.{bytes_eq};
 ghost use Rattle.par_tree.specs.Shown as tree;
 ghost use Rattle.par_tree.specs.Shown.{class_of};
 ghost use Rattle.par_resolved.specs.declared.limits.TheConstants.{MOST_POLICIES};
-ghost use Rattle.par_resolved.specs.Gathered.{classes_of};
+ghost use Rattle.par_parts.specs.Gathered.{classes_of};
 ghost use Rattle.par_resolved.specs.Resolved as info;
 ghost use Rattle.par_table.specs.Room.{inferred_count, class_nodes, HaveRoom};
 ghost use Rattle.par_table.specs.Seen.{resolved_seen};

@@ -105,7 +105,7 @@ fn channel_info(
 }
 
 /// The channels of a class.
-#[tactic(auto, using(par_resolved::proofs::Pushes::pushes))]
+#[tactic(auto, using(par_parts::proofs::Pushes::pushes))]
 pub fn channel_infos(
     alloc: Global,
     resolved: &Resolved<'_>,

@@ -3,7 +3,7 @@
 ghost use Rattle.std.specs.Prelude.{◌≡◌, map, IfOk};
 ghost use Rattle.par_tree.specs.Shown.{source};
 ghost use Rattle.par_names.specs.Declarations as names;
-ghost use Rattle.par_resolved.specs.Gathered.{all_of, classes_of};
+ghost use Rattle.par_parts.specs.Gathered.{all_of, classes_of};
 ghost use Rattle.par_resolved.specs.Policies as policies;
 ghost use Rattle.par_resolved.specs.Policies.{known};
 ghost use Rattle.par_resolved.specs.Seen.{known_seen};
@@ -28,7 +28,7 @@ use par_tree::ident::Ident;
 use par_typed::table::Table;
 use std::alloc::Global;
 
-#[tactic(auto, using(par_resolved::proofs::Pushes::pushes))]
+#[tactic(auto, using(par_parts::proofs::Pushes::pushes))]
 fn names_of(alloc: Global, ids: &[&Ident]) -> Result<List<Name>, NoMemory>
     ensures { IfOk result (λ found. found ≡ map (λ a. a.name) (all_of ids.now)) }
 {

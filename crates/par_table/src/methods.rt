@@ -3,7 +3,7 @@
 ghost use Rattle.std.specs.Prelude.{◌≡◌, ◌<◌, ◌^◌, ◌++◌, map, sum_by, IfOk, OnOk};
 ghost use Rattle.par_tree.specs.Shown as tree;
 ghost use Rattle.par_tree.specs.Nodes.{method_nodes};
-ghost use Rattle.par_resolved.specs.Gathered.{all_of};
+ghost use Rattle.par_parts.specs.Gathered.{all_of};
 ghost use Rattle.par_resolved.specs.Numbers.{type_of};
 ghost use Rattle.par_resolved.specs.Resolved as info;
 ghost use Rattle.par_table.specs.Seen.{resolved_seen};
@@ -11,10 +11,10 @@ ghost use Rattle.par_table.specs.Seen.{resolved_seen};
 use crate::resolved::Resolved;
 use par_lexer::list::List;
 use par_lexer::name::Name;
+use par_parts::types::declared_types;
 use par_policy::Lockset;
 use par_resolved::NoMemory;
 use par_resolved::known::lock_set;
-use par_resolved::types::declared_types;
 use par_tree::decl::{MethodDecl, ParamDecl, ThrowDecl};
 use par_tree::nodes::nodes;
 use par_tree::types::TypeTree;
@@ -37,7 +37,7 @@ fn param_info(
     })
 }
 
-#[tactic(auto, using(par_resolved::proofs::Pushes::pushes))]
+#[tactic(auto, using(par_parts::proofs::Pushes::pushes))]
 fn param_infos(
     alloc: Global,
     resolved: &Resolved<'_>,
@@ -67,7 +67,7 @@ fn throw_info(
     })
 }
 
-#[tactic(auto, using(par_resolved::proofs::Pushes::pushes))]
+#[tactic(auto, using(par_parts::proofs::Pushes::pushes))]
 fn throw_infos(
     alloc: Global,
     resolved: &Resolved<'_>,
@@ -95,7 +95,7 @@ fn this_type(alloc: Global, class: u16, is_static: bool) -> Result<List<Ty>, NoM
     Ok(types)
 }
 
-#[tactic(auto, using(par_resolved::proofs::Pushes::pushes))]
+#[tactic(auto, using(par_parts::proofs::Pushes::pushes))]
 fn push_params(
     types: &mut List<Ty>,
     resolved: &Resolved<'_>,
@@ -110,7 +110,7 @@ fn push_params(
     Ok(())
 }
 
-#[tactic(auto, using(par_resolved::proofs::Pushes::pushes))]
+#[tactic(auto, using(par_parts::proofs::Pushes::pushes))]
 fn push_types(
     types: &mut List<Ty>,
     resolved: &Resolved<'_>,

@@ -5,17 +5,17 @@ ghost use Rattle.std.specs.List.{position};
 ghost use Rattle.par_tree.specs.Shown.{source};
 ghost use Rattle.par_resolved.specs.Seen.{known_seen};
 ghost use Rattle.par_resolved.specs.declared.limits.TheConstants.{MOST_POLICIES};
-ghost use Rattle.par_resolved.specs.Gathered.{all_of, classes_of};
+ghost use Rattle.par_parts.specs.Gathered.{all_of, classes_of};
 ghost use Rattle.par_resolved.specs.Numbered.{same_policy, numbered, shared_policies};
 ghost use Rattle.par_table.specs.Parts.{inferred_policies};
 
 use par_limits::{distinct_entries, entries, same_policy};
+use par_parts::written::written;
 use par_policy::Policy;
 use par_resolved::NoMemory;
 use par_resolved::declared::classes;
 use par_resolved::entries::Entry;
 use par_resolved::known::{Known, bottom};
-use par_resolved::written::written;
 use par_tree::decl::{ClassDecl, FieldDecl, Program};
 use std::alloc::Global;
 
@@ -27,7 +27,7 @@ pub fn place_of(policies: &[Policy], policy: &Policy) -> Option<usize>
 }
 
 // The policies of these entries.
-#[tactic(auto, using(par_resolved::proofs::Pushes::pushes))]
+#[tactic(auto, using(par_parts::proofs::Pushes::pushes))]
 fn policies_of(alloc: Global, entries: &[&Entry]) -> Result<Vec<Policy>, NoMemory>
     ensures { IfOk result (λ found. found.items ≡ map (λ e. e.policy) (all_of entries.now)) }
 {
@@ -55,7 +55,7 @@ pub fn shared_policies(
     policies_of(alloc, distinct.as_slice())
 }
 
-#[tactic(auto, using(par_resolved::proofs::Pushes::pushes))]
+#[tactic(auto, using(par_parts::proofs::Pushes::pushes))]
 fn push_bottoms(
     alloc: Global,
     found: &mut Vec<Policy>,
@@ -74,7 +74,7 @@ fn push_bottoms(
 }
 
 /// These policies, once more.
-#[tactic(auto, using(par_resolved::proofs::Pushes::pushes))]
+#[tactic(auto, using(par_parts::proofs::Pushes::pushes))]
 pub fn copies(alloc: Global, policies: &[Policy]) -> Result<Vec<Policy>, NoMemory>
     ensures { IfOk result (λ made. made.items ≡ policies.now) }
 {
@@ -86,7 +86,7 @@ pub fn copies(alloc: Global, policies: &[Policy]) -> Result<Vec<Policy>, NoMemor
 }
 
 /// Pushes what the inferred fields of these classes begin as.
-#[tactic(auto, using(par_resolved::proofs::Pushes::pushes))]
+#[tactic(auto, using(par_parts::proofs::Pushes::pushes))]
 pub fn push_inferred(
     alloc: Global,
     found: &mut Vec<Policy>,

@@ -6,7 +6,7 @@ ghost use Rattle.par_index.specs.Texts.{texts};
 ghost use Rattle.par_tree.specs.Shown.{source};
 ghost use Rattle.par_names.specs.Declarations as names;
 ghost use Rattle.par_resolved.specs.declared.limits.TheConstants.{MOST_POLICIES};
-ghost use Rattle.par_resolved.specs.Gathered.{classes_of};
+ghost use Rattle.par_parts.specs.Gathered.{classes_of};
 ghost use Rattle.par_resolved.specs.Numbers as numbers;
 ghost use Rattle.par_resolved.specs.Numbered.{policy_number};
 ghost use Rattle.par_resolved.specs.Policies as policies;
@@ -34,7 +34,7 @@ pub struct Resolved<'a> {
     ghost few: { AreFew classes policies.items },
 }
 
-#[tactic(auto, using(par_resolved::proofs::Pushes::pushes))]
+#[tactic(auto, using(par_parts::proofs::Pushes::pushes))]
 fn class_names<'a>(alloc: Global, decls: &[&'a ClassDecl]) -> Result<Vec<&'a [u8]>, NoMemory>
     ensures { IfOk result (λ found.
         texts found.items ≡ map (λ c. c.id.name) (classes_of decls.now)) }

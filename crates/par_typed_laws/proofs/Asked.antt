@@ -18,7 +18,7 @@ use Rattle.par_source_laws.specs.par_names.Declarations.{locks}
 use Rattle.par_faults.specs.par_resolved.Numbers.{lock_number, ground_count, choices}
 use Rattle.par_faults.specs.par_resolved.Numbers.{place_in_family}
 use Rattle.par_faults.specs.par_resolved.Policies.{known}
-use Rattle.par_faults.specs.par_resolved.Written.{queried}
+use Rattle.par_parts.specs.Written.{queried}
 use Rattle.par_faults.specs.par_resolved.Resolved.{Resolved, resolved, number_of, expression_number}
 use Rattle.par_faults.specs.par_resolved.Resolved.{lock_policy, ground_lock, family}
 use Rattle.par_faults.specs.par_resolved.Resolved.{ground_locks_from}

@@ -43,10 +43,10 @@ use Rattle.par_annotation_laws.specs.Exprs.{numbered}
 use Rattle.par_faults.specs.par_resolved.Numbers as numbers
 use Rattle.par_faults.specs.par_resolved.Numbers.{number}
 use Rattle.par_faults.specs.par_resolved.Resolved.{Resolved, resolved, table_of}
-use Rattle.par_faults.specs.par_resolved.Statements.{inside, in_braces, in_may_braces, in_else}
-use Rattle.par_faults.specs.par_resolved.Statements.{in_all}
-use Rattle.par_faults.specs.par_resolved.Statements.{in_catches}
-use Rattle.par_faults.specs.par_resolved.Written.{stmt_types}
+use Rattle.par_parts.specs.Statements.{inside, in_braces, in_may_braces, in_else}
+use Rattle.par_parts.specs.Statements.{in_all}
+use Rattle.par_parts.specs.Statements.{in_catches}
+use Rattle.par_parts.specs.Written.{stmt_types}
 use Rattle.par_body_laws.specs.Makes.{IsOrdinary}
 use Rattle.par_typed_laws.specs.Signatures.{IsValueType}
 use Rattle.par_typed_laws.proofs.Lists.{none_left, none_right, of_both}

@@ -25,8 +25,8 @@ use Rattle.par_faults.specs.par_resolved.Numbers.{ground_count, choices, place_i
 use Rattle.par_faults.specs.par_resolved.Policies.{Known, known, nothing_known, known_behind}
 use Rattle.par_faults.specs.par_resolved.Policies.{with_value}
 use Rattle.par_faults.specs.par_resolved.Policies.{value_of, policy_of}
-use Rattle.par_faults.specs.par_resolved.Statements.{in_braces}
-use Rattle.par_faults.specs.par_resolved.Written.{stmt_types}
+use Rattle.par_parts.specs.Statements.{in_braces}
+use Rattle.par_parts.specs.Written.{stmt_types}
 use Rattle.par_faults.specs.par_resolved.Births.{birth_policy}
 use Rattle.par_faults.specs.par_resolved.Numbered.{shared_policies}
 use Rattle.par_source_laws.specs.par_names.Declarations.{declared_classes}

@@ -45,8 +45,8 @@ use Rattle.par_faults.specs.par_resolved.Numbers.{type_of, result_of}
 use Rattle.par_faults.specs.par_resolved.Resolved.{Resolved, resolved, class_info, method_info}
 use Rattle.par_faults.specs.par_resolved.Resolved.{param_info}
 use Rattle.par_faults.specs.par_resolved.Resolved.{this_type, local_types, table_of}
-use Rattle.par_faults.specs.par_resolved.Statements.{in_braces}
-use Rattle.par_faults.specs.par_resolved.Written.{stmt_types}
+use Rattle.par_parts.specs.Statements.{in_braces}
+use Rattle.par_parts.specs.Written.{stmt_types}
 use Rattle.par_faults.specs.Faults.{all_faults}
 use Rattle.par_source_laws.specs.Order.{Ascend, IsInOrder}
 use Rattle.par_flow_laws.specs.par_typed.Members.{method_at}

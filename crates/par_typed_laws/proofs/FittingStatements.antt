@@ -70,10 +70,10 @@ use Rattle.par_annotation_laws.specs.Stmts.{typed_sta, typed_braces, typed_may_b
 use Rattle.par_annotation_laws.specs.Stmts.{typed_stas, typed_catches}
 use Rattle.par_faults.specs.par_resolved.Numbers as numbers
 use Rattle.par_faults.specs.par_resolved.Resolved.{resolved, class_info, table_of}
-use Rattle.par_faults.specs.par_resolved.Statements.{inside, in_braces, in_may_braces, in_else}
-use Rattle.par_faults.specs.par_resolved.Statements.{in_all}
-use Rattle.par_faults.specs.par_resolved.Statements.{in_catches}
-use Rattle.par_faults.specs.par_resolved.Written.{stmt_types}
+use Rattle.par_parts.specs.Statements.{inside, in_braces, in_may_braces, in_else}
+use Rattle.par_parts.specs.Statements.{in_all}
+use Rattle.par_parts.specs.Statements.{in_catches}
+use Rattle.par_parts.specs.Written.{stmt_types}
 use Rattle.par_typed_laws.specs.Fits.{Fits, IsSure, LocalTakes, FieldTakes, IsReturned, ExpFits}
 use Rattle.par_typed_laws.specs.Fits.{MayExpFits, StaFits, ElseFits, StasFit, CatchesFit}
 use Rattle.par_typed_laws.proofs.Lists.{none_left, none_right}

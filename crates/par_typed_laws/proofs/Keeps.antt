@@ -32,10 +32,10 @@ use Rattle.par_annotation_laws.specs.par_scope.Home.{Home, class_named, result_w
 use Rattle.par_annotation_laws.specs.par_scope.Members.{field_at, field_is_static}
 use Rattle.par_annotation_laws.specs.par_scope.Meaning.{type_of, receiver_of, selected}
 use Rattle.par_annotation_laws.specs.par_type_rules.Methods.{home_of, param_slot}
-use Rattle.par_faults.specs.par_resolved.Statements.{inside, in_braces, in_may_braces, in_else}
-use Rattle.par_faults.specs.par_resolved.Statements.{in_all}
-use Rattle.par_faults.specs.par_resolved.Statements.{in_catches}
-use Rattle.par_faults.specs.par_resolved.Written.{stmt_queries, method_queries, declaration_queries}
+use Rattle.par_parts.specs.Statements.{inside, in_braces, in_may_braces, in_else}
+use Rattle.par_parts.specs.Statements.{in_all}
+use Rattle.par_parts.specs.Statements.{in_catches}
+use Rattle.par_parts.specs.Written.{stmt_queries, method_queries, declaration_queries}
 use Rattle.par_faults.specs.par_resolved.Resolved.{Resolved, resolved, class_info, method_info}
 use Rattle.par_faults.specs.par_resolved.Resolved.{table_of}
 use Rattle.par_annotation_laws.specs.Frames.{Frame, Var, var_at, var_named, with_local, further}

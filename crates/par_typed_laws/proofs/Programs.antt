@@ -21,10 +21,10 @@ use Rattle.par_body_laws.specs.par_tree.Plain.{NoCatch, Catch}
 use Rattle.par_body_laws.specs.par_tree.Plain.{Handler, On}
 use Rattle.par_body_laws.specs.par_tree.Plain as plain
 use Rattle.par_body_laws.specs.par_tree.Plain.{Class, Method, Declaration, Source}
-use Rattle.par_faults.specs.par_resolved.Statements.{inside, in_braces, in_may_braces, in_else}
-use Rattle.par_faults.specs.par_resolved.Statements.{in_all}
-use Rattle.par_faults.specs.par_resolved.Statements.{in_catches, in_handler}
-use Rattle.par_faults.specs.par_resolved.Written.{stmt_types}
+use Rattle.par_parts.specs.Statements.{inside, in_braces, in_may_braces, in_else}
+use Rattle.par_parts.specs.Statements.{in_all}
+use Rattle.par_parts.specs.Statements.{in_catches, in_handler}
+use Rattle.par_parts.specs.Written.{stmt_types}
 use Rattle.par_annotation_laws.specs.par_scope.Own.{locals_in, braces_locals, may_braces_locals}
 use Rattle.par_annotation_laws.specs.par_scope.Own.{else_locals}
 use Rattle.par_annotation_laws.specs.par_scope.Own.{all_locals, catches_locals, handler_locals}

@@ -41,8 +41,8 @@ use Rattle.par_faults.specs.par_resolved.Resolved.{param_info}
 use Rattle.par_faults.specs.par_resolved.Resolved.{throw_info, this_type, local_types, method_info}
 use Rattle.par_faults.specs.par_resolved.Resolved.{class_info}
 use Rattle.par_faults.specs.par_resolved.Resolved.{class_infos, table_of}
-use Rattle.par_faults.specs.par_resolved.Statements.{in_braces}
-use Rattle.par_faults.specs.par_resolved.Written.{stmt_types}
+use Rattle.par_parts.specs.Statements.{in_braces}
+use Rattle.par_parts.specs.Written.{stmt_types}
 use Rattle.par_faults.specs.Faults.{all_faults}
 use Rattle.par_source_laws.specs.Order.{IsBare, IsInOrder}
 use Rattle.par_body_laws.specs.Makes.{IsOrdinary}

@@ -23,7 +23,7 @@ use Rattle.par_resolved.specs.Numbered.{distinct}
 use Rattle.par_resolved.specs.Numbered.{inferred_fields, inferred_entry}
 use Rattle.par_resolved.specs.Numbered.{shared_policies}
 use Rattle.par_resolved.specs.Numbered.{policy_number}
-use Rattle.par_resolved.specs.Written as said
+use Rattle.par_parts.specs.Written as said
 use Rattle.par_resolved.specs.Resolved.{table_of}
 use Rattle.par_annotation.specs.Numbers.{written_in}
 use Rattle.par_typing.specs.Typed.{written}

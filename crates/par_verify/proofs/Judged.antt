@@ -27,8 +27,8 @@ use Rattle.par_verify_laws.proofs.par_frame_pass_laws.Least.{least_judged}
 use Rattle.par_verify_laws.proofs.par_frame_pass_laws.Ending.{starts-within}
 use Rattle.par_frame_steps.specs.declared.frame.PlaceFrame.{PlaceFrame}
 use Rattle.par_frame_steps.specs.Marks.{frame_of}
-use Rattle.par_frame_passes.specs.declared.method.Method.{Method}
-use Rattle.par_frame_passes.specs.Methods.{IsToldOf}
+use Rattle.par_frame_passes.specs.par_frame_guesses.declared.method.Method.{Method}
+use Rattle.par_frame_passes.specs.par_frame_guesses.Methods.{IsToldOf}
 use Rattle.par_frame_passes.specs.Sweeps.{Fits, Kept, Settles}
 use Rattle.par_frame_passes.proofs.Tabled.{found-inside}
 use Rattle.par_frame_passes.specs.Tables.{table_of}

@@ -10,7 +10,8 @@ ghost use Rattle.par_kinds.specs.Fits.{Given};
 ghost use Rattle.par_verify_laws.specs.par_frame_pass_laws.Passes.{begins_as};
 ghost use Rattle.par_verify_laws.specs.par_frame_pass_laws.Passes.{least_from, start_table};
 ghost use Rattle.par_frame_steps.specs.Marks.{names, frame_of};
-ghost use Rattle.par_frame_passes.specs.Methods.{exc_of, act_in, handler_in, code_in, IsToldOf};
+ghost use Rattle.par_frame_passes.specs.par_frame_guesses.Methods.{exc_of, act_in, handler_in};
+ghost use Rattle.par_frame_passes.specs.par_frame_guesses.Methods.{code_in, IsToldOf};
 ghost use Rattle.par_frame_passes.specs.Tables.{table_of};
 ghost use Rattle.par_verify.specs.Starts.{IsJudged};
 

@@ -5,7 +5,7 @@ ghost use Rattle.std.specs.Option.{option_map};
 ghost use Rattle.par_kinds.specs.Fits.{Given};
 ghost use Rattle.par_verify_laws.specs.par_frame_pass_laws.Passes.{is_sized, are_sized};
 ghost use Rattle.par_frame_steps.specs.Marks.{frame_of};
-ghost use Rattle.par_frame_passes.specs.Methods.{code_in, IsToldOf};
+ghost use Rattle.par_frame_passes.specs.par_frame_guesses.Methods.{code_in, IsToldOf};
 ghost use Rattle.par_frame_passes.specs.Tables.{table_of};
 ghost use Rattle.par_verify.specs.Starts.{is_right};
 

@@ -2,7 +2,7 @@ use Rattle.std.proofs.Common.{subst}
 use Rattle.par_typed.specs.declared.table.Table.{Table}
 use Rattle.par_typed.specs.Shown.{body}
 use Rattle.par_rounds.specs.par_pass_laws.Written.{table as by_point}
-use Rattle.par_rounds.specs.Seen.{seen_facts}
+use Rattle.par_rounds.specs.par_ways.Seen.{seen_facts}
 use Rattle.par_asked.specs.par_check_laws.Right.{AreRight}
 use Rattle.par_check.proofs.Right.{least_right}
 use Rattle.par_check.proofs.program.note_found.Goals as goal

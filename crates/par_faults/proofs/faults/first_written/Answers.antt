@@ -1,7 +1,7 @@
 use Rattle.std.proofs.Common.{ap, ◌∙◌}
 use Rattle.std.specs.List.{flat_map}
 use Rattle.par_refusals.specs.First.{first_of}
-use Rattle.par_limits.specs.par_resolved.Gathered.{all_of}
+use Rattle.par_parts.specs.Gathered.{all_of}
 use Rattle.par_limits.specs.par_resolved.Sizes.{literal_faults}
 use Rattle.std.proofs.Common.{None}
 use Rattle.par_faults.proofs.faults.first_written.Goals as goal

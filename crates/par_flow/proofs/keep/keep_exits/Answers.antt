@@ -1,5 +1,5 @@
 use Rattle.par_envs.specs.Numbered.{envs, Extends}
-use Rattle.par_rounds.specs.Seen.{seen_exits}
+use Rattle.par_rounds.specs.par_ways.Seen.{seen_exits}
 use Rattle.par_flow.proofs.Ways.{all_exits, extends_all, may_still}
 use Rattle.par_flow.proofs.Used.{exits_add}
 use Rattle.par_flow.proofs.keep.keep_exits.Goals as goal

@@ -2,7 +2,7 @@ use Rattle.std.proofs.Common.{sym, ap, ◌∙◌, subst, ◌∷◌, [], ◌++◌
 use Rattle.par_flow_laws.specs.Kinds.{Throw}
 use Rattle.par_locks.specs.par_pass_laws.Exits.{at}
 use Rattle.par_envs.specs.Numbered.{envs}
-use Rattle.par_rounds.specs.Seen.{seen_exit}
+use Rattle.par_rounds.specs.par_ways.Seen.{seen_exit}
 use Rattle.par_flow.specs.Kept.{thrown, AddsOnly, AreOnce, MayShow, Throws}
 use Rattle.par_flow.proofs.Ways.{none_of, once_more, some_of, throws_same, throws_held, throws_more}
 use Rattle.par_flow.proofs.Used.{throws_still, throws_last}

@@ -3,7 +3,7 @@ use Rattle.par_flow_laws.specs.Kinds.{Throw}
 use Rattle.par_locks.specs.par_except.Seen.{HasLocals}
 use Rattle.par_locks.specs.par_pass_laws.Exits.{at}
 use Rattle.par_envs.specs.Numbered.{envs}
-use Rattle.par_rounds.specs.Seen.{seen_exits}
+use Rattle.par_rounds.specs.par_ways.Seen.{seen_exits}
 use Rattle.par_flow.specs.Kept.{thrown, MayShow, Throws}
 use Rattle.par_flow.proofs.Ways.{extends_all}
 use Rattle.par_flow.proofs.Rows.{exits_more}

@@ -1,6 +1,6 @@
 use Rattle.std.proofs.Common.{ℕ, take}
 use Rattle.par_envs.specs.Numbered.{envs, AreFound, Extends}
-use Rattle.par_rounds.specs.Seen.{seen_exits, AreWide}
+use Rattle.par_rounds.specs.par_ways.Seen.{seen_exits, AreWide}
 use Rattle.par_flow.specs.Kept.{AddsOnly, AreLong, AreOnce, ShowThrows, Throws}
 use Rattle.par_flow.proofs.keep.keep_throws.Given as goal
 

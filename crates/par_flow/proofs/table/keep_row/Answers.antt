@@ -1,6 +1,6 @@
 use Rattle.std.proofs.Common.{sym, subst}
 use Rattle.par_envs.specs.Numbered.{envs}
-use Rattle.par_rounds.specs.Seen.{AreWide}
+use Rattle.par_rounds.specs.par_ways.Seen.{AreWide}
 use Rattle.par_flow.specs.Kept.{AddsOnly, Leaves}
 use Rattle.par_flow.proofs.Used.{row_adds}
 use Rattle.par_flow.proofs.table.keep_row.Goals as goal

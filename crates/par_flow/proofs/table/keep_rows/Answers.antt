@@ -1,6 +1,6 @@
 use Rattle.std.proofs.Common.{◌<◌, false, length, refl, sym, subst, arith}
 use Rattle.par_envs.specs.Numbered.{envs}
-use Rattle.par_rounds.specs.Seen.{IsRowWide}
+use Rattle.par_rounds.specs.par_ways.Seen.{IsRowWide}
 use Rattle.par_flow.proofs.Rows.{all_more, facts_more, flags_more}
 use Rattle.par_flow.proofs.Used.{used_more}
 use Rattle.par_flow.proofs.table.keep_rows.Goals as goal

@@ -1,7 +1,7 @@
 use Rattle.std.proofs.Common.{◌≡◌, ℕ, ◌<◌, length, take}
 use Rattle.std.specs.Prelude.{slice_get}
 use Rattle.par_envs.specs.Numbered.{envs, AreFound}
-use Rattle.par_rounds.specs.Seen.{seen_facts, AreRowsWide}
+use Rattle.par_rounds.specs.par_ways.Seen.{seen_facts, AreRowsWide}
 use Rattle.par_flow.specs.Kept.{AreLong}
 use Rattle.par_flow.specs.Table.{flags, AllShow, IsNamedAt}
 use Rattle.par_flow.proofs.table.keep_rows.Given as goal

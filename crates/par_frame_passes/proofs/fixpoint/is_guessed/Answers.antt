@@ -2,7 +2,7 @@ use Rattle.std.proofs.Common.{List, Option, Bool, false, get_or, map, is_some, s
 use Rattle.std.proofs.Common.{◌∙◌}
 use Rattle.par_frame_pass_laws.specs.Passes.{frame_at}
 use Rattle.par_frame_steps.specs.declared.frame.PlaceFrame.{PlaceFrame}
-use Rattle.par_frame_passes.specs.Methods.{exc_of, act_in, handler_in, code_in}
+use Rattle.par_frame_guesses.specs.Methods.{exc_of, act_in, handler_in, code_in}
 use Rattle.par_frame_passes.specs.Sweeps.{Kept}
 use Rattle.par_frame_passes.specs.Tables.{table_of}
 use Rattle.par_frame_passes.proofs.Told.{marks-of, told-kept, told-first, told-settles}

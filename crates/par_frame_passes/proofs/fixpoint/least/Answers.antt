@@ -2,7 +2,7 @@ use Rattle.std.proofs.Common.{◌≡◌, ◌+◌, ◌<◌, false, length, get_or
 use Rattle.std.proofs.Common.{add-one}
 use Rattle.std.specs.Option.{option_map}
 use Rattle.par_frame_steps.specs.Marks.{frame_of}
-use Rattle.par_frame_passes.specs.Methods.{exc_of, act_in, handler_in, code_in}
+use Rattle.par_frame_guesses.specs.Methods.{exc_of, act_in, handler_in, code_in}
 use Rattle.par_frame_passes.specs.Tables.{table_of}
 use Rattle.par_frame_passes.proofs.Sparing.{spares-here, spares-on, spares-none}
 use Rattle.par_frame_passes.proofs.Visits.{swept-all, gone-anew, gone-calm, gone-back}

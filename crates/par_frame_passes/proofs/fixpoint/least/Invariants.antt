@@ -2,7 +2,7 @@ use Rattle.std.proofs.Common.{◌≡◌, false}
 use Rattle.std.specs.Option.{option_map}
 use Rattle.par_frame_moves.specs.par_kinds.Fits.{Given}
 use Rattle.par_frame_steps.specs.Marks.{frame_of}
-use Rattle.par_frame_passes.specs.Methods.{exc_of, act_in, handler_in, code_in, IsToldOf}
+use Rattle.par_frame_guesses.specs.Methods.{exc_of, act_in, handler_in, code_in, IsToldOf}
 use Rattle.par_frame_passes.specs.Sparing.{SparesBehind}
 use Rattle.par_frame_passes.specs.Sweeps.{Kept, Swept}
 use Rattle.par_frame_passes.specs.Tables.{table_of}

@@ -1,6 +1,6 @@
 use Rattle.std.proofs.Common.{sym, ap, ◌∙◌}
 use Rattle.par_frame_steps.specs.Marks.{frame_of}
-use Rattle.par_frame_passes.specs.Methods.{exc_of, act_in, handler_in, code_in}
+use Rattle.par_frame_guesses.specs.Methods.{exc_of, act_in, handler_in, code_in}
 use Rattle.par_frame_passes.specs.Tables.{table_of}
 use Rattle.par_frame_passes.proofs.Ways.{handlers-begun, handler-taken, handler-passed}
 use Rattle.par_frame_passes.proofs.Ways.{went-moved}

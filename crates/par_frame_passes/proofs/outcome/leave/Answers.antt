@@ -4,7 +4,7 @@ use Rattle.par_single.specs.Descriptors.{kind_of}
 use Rattle.par_frame_moves.specs.par_kinds.Acts.{Act}
 use Rattle.par_frame_moves.specs.par_kinds.Shapes.{shape_at}
 use Rattle.par_frame_steps.specs.Marks.{frame_of}
-use Rattle.par_frame_passes.specs.Methods.{exc_of}
+use Rattle.par_frame_guesses.specs.Methods.{exc_of}
 use Rattle.par_frame_passes.specs.Tables.{IsLeft}
 use Rattle.par_frame_passes.proofs.outcome.leave.Goals as goal
 

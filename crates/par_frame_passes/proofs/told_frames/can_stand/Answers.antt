@@ -1,7 +1,7 @@
 use Rattle.std.proofs.Common.{Bool, ◌==◌, ◌&&◌, length, sym, ap, ◌∙◌}
 use Rattle.std.specs.Prelude.{nat_le}
 use Rattle.par_frame_steps.specs.Marks.{frame_of}
-use Rattle.par_frame_passes.specs.Methods.{code_in}
+use Rattle.par_frame_guesses.specs.Methods.{code_in}
 use Rattle.par_frame_passes.proofs.told_frames.can_stand.Goals as goal
 
 pub returns-then-not-has : goal.returns-then-not-has

@@ -1,6 +1,6 @@
 use Rattle.std.proofs.Common.{sym, ◌∙◌}
 use Rattle.par_frame_steps.specs.Marks.{frame_of}
-use Rattle.par_frame_passes.specs.Methods.{code_in}
+use Rattle.par_frame_guesses.specs.Methods.{code_in}
 use Rattle.par_frame_passes.specs.Tables.{table_of}
 use Rattle.par_frame_passes.proofs.Told.{tells-one}
 use Rattle.par_frame_passes.proofs.told_frames.tell.Goals as goal

@@ -1,4 +1,4 @@
-use Rattle.par_frame_passes.specs.Methods.{code_in}
+use Rattle.par_frame_guesses.specs.Methods.{code_in}
 use Rattle.par_frame_passes.specs.Tables.{table_of}
 use Rattle.par_frame_passes.proofs.Told.{tells-none, tells-then}
 use Rattle.par_frame_passes.proofs.told_frames.told.Goals as goal

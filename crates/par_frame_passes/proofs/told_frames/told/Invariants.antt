@@ -1,5 +1,5 @@
 use Rattle.par_frame_moves.specs.par_kinds.Fits.{Given}
-use Rattle.par_frame_passes.specs.Methods.{code_in, IsToldOf}
+use Rattle.par_frame_guesses.specs.Methods.{code_in, IsToldOf}
 use Rattle.par_frame_passes.specs.Tables.{table_of}
 use Rattle.par_frame_passes.specs.Telling.{Tells}
 use Rattle.par_frame_passes.proofs.told_frames.told.Given as goal

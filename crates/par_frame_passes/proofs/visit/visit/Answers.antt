@@ -3,7 +3,7 @@ use Rattle.std.specs.Option.{option_map}
 use Rattle.par_instr.specs.Decoding.{decoded_at}
 use Rattle.par_frame_pass_laws.specs.Passes.{frame_at}
 use Rattle.par_frame_steps.specs.Marks.{frame_of, flow_of}
-use Rattle.par_frame_passes.specs.Methods.{exc_of, act_in, handler_in, code_in, fixed_at}
+use Rattle.par_frame_guesses.specs.Methods.{exc_of, act_in, handler_in, code_in, fixed_at}
 use Rattle.par_frame_passes.specs.Sparing.{Spares}
 use Rattle.par_frame_passes.specs.Sweeps.{Visited}
 use Rattle.par_frame_passes.specs.Tables.{table_of}

@@ -1,5 +1,5 @@
 use Rattle.std.proofs.Common.{◌≡◌, ◌++◌, drop, map}
-use Rattle.par_resolved.specs.Gathered.{all_of}
+use Rattle.par_parts.specs.Gathered.{all_of}
 use Rattle.par_limits.specs.Asked.{asked_entries}
 use Rattle.par_limits.proofs.asked.push_asked.Given as goal
 

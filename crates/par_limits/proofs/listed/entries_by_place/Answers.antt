@@ -1,7 +1,7 @@
 use Rattle.std.proofs.Common.{[], ◌++◌, ◌∷◌, ap, ◌∙◌}
 use Rattle.par_tree.specs.Shown.{source}
 use Rattle.par_resolved.specs.Seen.{known_seen}
-use Rattle.par_resolved.specs.Gathered.{all_of}
+use Rattle.par_parts.specs.Gathered.{all_of}
 use Rattle.par_limits.proofs.Orders.{listed, at_start}
 use Rattle.par_limits.proofs.listed.entries_by_place.Goals as goal
 

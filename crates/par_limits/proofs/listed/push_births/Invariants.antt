@@ -1,6 +1,6 @@
 use Rattle.std.proofs.Common.{◌≡◌, ◌++◌, drop, map}
 use Rattle.par_resolved.specs.Seen.{known_seen}
-use Rattle.par_resolved.specs.Gathered.{classes_of}
+use Rattle.par_parts.specs.Gathered.{classes_of}
 use Rattle.par_resolved.specs.Numbered.{birth_entry}
 use Rattle.par_limits.proofs.listed.push_births.Given as goal
 

@@ -1,5 +1,5 @@
 use Rattle.std.proofs.Common.{◌≡◌, ◌++◌, drop, map}
-use Rattle.par_resolved.specs.Gathered.{all_of}
+use Rattle.par_parts.specs.Gathered.{all_of}
 use Rattle.par_limits.proofs.many.push_entries.Given as goal
 
 -- those found so far, and those of what is left

@@ -1,6 +1,6 @@
 use Rattle.std.proofs.Common.{◌≡◌, ◌++◌, drop}
 use Rattle.std.specs.List.{flat_map}
-use Rattle.par_resolved.specs.Gathered.{classes_of}
+use Rattle.par_parts.specs.Gathered.{classes_of}
 use Rattle.par_limits.specs.Places.{inferred_places}
 use Rattle.par_limits.proofs.many.push_fields.Given as goal
 

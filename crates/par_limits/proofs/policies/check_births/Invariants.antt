@@ -3,7 +3,7 @@ use Rattle.std.specs.List.{flat_map}
 use Rattle.par_refusals.specs.First.{first_of}
 use Rattle.par_resolved.specs.Births.{birth_faults}
 use Rattle.par_resolved.specs.Seen.{known_seen}
-use Rattle.par_resolved.specs.Gathered.{classes_of}
+use Rattle.par_parts.specs.Gathered.{classes_of}
 use Rattle.par_limits.proofs.policies.check_births.Given as goal
 
 -- the first found so far, with those of what is left

@@ -3,7 +3,7 @@ use Rattle.par_tree.specs.Shown.{source}
 use Rattle.par_refusals.specs.First.{first_of}
 use Rattle.par_resolved.specs.declared.limits.TheConstants.{MOST_POLICIES}
 use Rattle.par_resolved.specs.Seen.{known_seen}
-use Rattle.par_resolved.specs.Gathered.{all_of, classes_of}
+use Rattle.par_parts.specs.Gathered.{all_of, classes_of}
 use Rattle.par_resolved.specs.Numbered.{distinct}
 use Rattle.par_limits.proofs.Counts.{counted_all}
 use Rattle.par_limits.proofs.policies.check_policies.Goals as goal

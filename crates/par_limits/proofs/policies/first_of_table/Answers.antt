@@ -2,7 +2,7 @@ use Rattle.std.proofs.Common.{ap, ◌∙◌}
 use Rattle.std.specs.List.{flat_map}
 use Rattle.par_resolved.specs.Births.{birth_faults}
 use Rattle.par_resolved.specs.Seen.{known_seen}
-use Rattle.par_resolved.specs.Gathered.{classes_of}
+use Rattle.par_parts.specs.Gathered.{classes_of}
 use Rattle.par_limits.proofs.Passes.{both}
 use Rattle.par_limits.proofs.policies.first_of_table.Goals as goal
 

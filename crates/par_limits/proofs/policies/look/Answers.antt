@@ -1,6 +1,6 @@
 use Rattle.std.proofs.Common.{◌≡◌, ap, ◌∙◌, subst, IfOk}
 use Rattle.par_tree.specs.Shown.{source}
-use Rattle.par_resolved.specs.Gathered.{all_of}
+use Rattle.par_parts.specs.Gathered.{all_of}
 use Rattle.par_limits.proofs.Passes.{literals_passed, literals_stopped}
 use Rattle.par_limits.proofs.policies.look.Goals as goal
 

@@ -1,6 +1,6 @@
 use Rattle.std.proofs.Common.{◌≡◌, take}
 use Rattle.std.specs.Prelude.{map}
-use Rattle.par_rounds.specs.Changes.{may_have}
+use Rattle.par_rounds.specs.par_ways.Changes.{may_have}
 use Rattle.par_locks.proofs.Open.{entered}
 use Rattle.par_locks.proofs.locks.all_entering.Given as goal
 

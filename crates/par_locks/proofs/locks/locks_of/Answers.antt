@@ -1,7 +1,7 @@
 use Rattle.std.proofs.Common.{◌≡◌, ap, ◌∙◌, subst}
 use Rattle.par_typed.specs.Shown.{body, bodies}
 use Rattle.par_rounds.specs.par_pass_laws.Written.{table as by_point}
-use Rattle.par_rounds.specs.Seen.{seen_facts}
+use Rattle.par_rounds.specs.par_ways.Seen.{seen_facts}
 use Rattle.par_rounds.specs.Bodies.{AreLeastClosed}
 use Rattle.par_flow_laws.specs.Orderly.{IsOrderlyBody}
 use Rattle.par_locks.specs.Open.{entering}

@@ -1,7 +1,7 @@
 use Rattle.std.proofs.Common.{◌≡◌, ◌++◌, drop}
 use Rattle.par_tree.specs.Shown.{all_declared}
 use Rattle.par_names.specs.Declarations.{declared_classes}
-use Rattle.par_resolved.specs.Gathered.{classes_of}
+use Rattle.par_parts.specs.Gathered.{classes_of}
 use Rattle.par_resolved.proofs.declared.classes.Given as goal
 
 -- those found so far, and those of what is left

@@ -1,7 +1,7 @@
 use Rattle.std.proofs.Common.{◌≡◌, ◌++◌, drop}
 use Rattle.par_tree.specs.Shown.{all_declared}
 use Rattle.par_names.specs.Declarations.{policies}
-use Rattle.par_resolved.specs.Gathered.{all_of}
+use Rattle.par_parts.specs.Gathered.{all_of}
 use Rattle.par_resolved.proofs.declared.policies.Given as goal
 
 -- those found so far, and those of what is left

@@ -1,5 +1,5 @@
 use Rattle.std.proofs.Common.{◌≡◌, ◌++◌, drop, map}
-use Rattle.par_resolved.specs.Gathered.{all_of}
+use Rattle.par_parts.specs.Gathered.{all_of}
 use Rattle.par_resolved.specs.Numbered.{written_entry}
 use Rattle.par_resolved.specs.Seen.{known_seen}
 use Rattle.par_resolved.proofs.entries.push_written.Given as goal

@@ -2,7 +2,7 @@ use Rattle.std.proofs.Common.{◌≡◌, ◌+◌, ◌≤◌, ◌∙◌, ◌++◌
 use Rattle.std.proofs.Common.{append-nil}
 use Rattle.par_resolved.specs.declared.limits.TheConstants.{MOST_GROUND_LOCKS}
 use Rattle.par_resolved.specs.Numbers.{ground_count, firsts_from}
-use Rattle.par_resolved.specs.Gathered.{all_of}
+use Rattle.par_parts.specs.Gathered.{all_of}
 use Rattle.par_resolved.proofs.Loops.{none_left}
 use Rattle.par_resolved.proofs.Counted.{firsts_small}
 use Rattle.par_resolved.proofs.firsts.firsts.Goals as goal

@@ -1,6 +1,6 @@
 use Rattle.std.proofs.Common.{◌≡◌, ◌+◌, ◌++◌, drop, sum_by}
 use Rattle.par_resolved.specs.Numbers.{ground_count, firsts_from}
-use Rattle.par_resolved.specs.Gathered.{all_of}
+use Rattle.par_parts.specs.Gathered.{all_of}
 use Rattle.par_resolved.proofs.firsts.firsts.Given as goal
 
 -- those found so far, and those of what is left

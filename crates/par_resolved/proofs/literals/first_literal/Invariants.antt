@@ -2,7 +2,7 @@ use Rattle.std.proofs.Common.{◌≡◌, None, drop}
 use Rattle.std.specs.List.{flat_map}
 use Rattle.par_refusals.specs.First.{first_of}
 use Rattle.par_resolved.specs.Sizes.{literal_faults}
-use Rattle.par_resolved.specs.Gathered.{all_of}
+use Rattle.par_parts.specs.Gathered.{all_of}
 use Rattle.par_resolved.proofs.literals.first_literal.Given as goal
 
 -- the first found so far, with those of what is left

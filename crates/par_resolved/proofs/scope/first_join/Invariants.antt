@@ -3,7 +3,7 @@ use Rattle.std.specs.List.{flat_map}
 use Rattle.par_refusals.specs.First.{first_of}
 use Rattle.par_resolved.specs.Sizes.{expression_faults}
 use Rattle.par_resolved.specs.Seen.{known_seen}
-use Rattle.par_resolved.specs.Gathered.{all_of}
+use Rattle.par_parts.specs.Gathered.{all_of}
 use Rattle.par_resolved.proofs.scope.first_join.Given as goal
 
 -- the first found so far, with those of what is left

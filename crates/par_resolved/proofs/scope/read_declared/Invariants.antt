@@ -1,7 +1,7 @@
 use Rattle.std.proofs.Common.{◌≡◌, drop}
 use Rattle.par_resolved.specs.Policies.{known_behind}
 use Rattle.par_resolved.specs.Seen.{known_seen}
-use Rattle.par_resolved.specs.Gathered.{all_of}
+use Rattle.par_parts.specs.Gathered.{all_of}
 use Rattle.par_resolved.proofs.scope.read_declared.Given as goal
 
 -- what is left is read by what is known so far

@@ -1,15 +1,14 @@
-use Rattle.std.proofs.Common.{◌≡◌, ◌≤◌, Some, length, subst, sym, ap, ◌∙◌, arith, All, ◌<◌}
+use Rattle.std.proofs.Common.{◌≡◌, Some, length, subst, sym, ap, ◌∙◌, arith, All, ◌<◌}
 use Rattle.par_typed.specs.Shown.{body as shown, does}
 use Rattle.par_flow_laws.specs.Body.{sta}
 use Rattle.par_flow_laws.specs.Lattice.{numbers}
 use Rattle.par_flow_laws.specs.Closed.{first}
 use Rattle.par_flow_laws.specs.Declares.{declares, method_of}
-use Rattle.par_flow_laws.specs.Numbered.{next}
 use Rattle.par_flow_laws.specs.Ranges.{AreLocks, MOST}
 use Rattle.par_pass_laws.specs.par_except.Seen.{seen}
 use Rattle.par_rounds.specs.Passes.{IsPassable}
 use Rattle.par_rounds.specs.Rounds.{IsSettled}
-use Rattle.par_rounds.specs.Seen.{AreRowsWide}
+use Rattle.par_ways.specs.Seen.{AreRowsWide}
 use Rattle.par_rounds.specs.Took.{MayBeSmall}
 use Rattle.par_rounds.proofs.Bodies.{passable, first_small, rows_least}
 use Rattle.par_rounds.proofs.body.rows_of.Goals as goal

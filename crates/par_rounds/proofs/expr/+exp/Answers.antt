@@ -1,7 +1,6 @@
 -- An expression is passed as its rules say, part by part.
-use Rattle.std.proofs.Common.{[], ◌∷◌, ◌≡◌, Some, None, length, refl, sym, ap, ◌∙◌, subst, rules, arith}
+use Rattle.std.proofs.Common.{[], Some, length, refl, sym, ap, ◌∙◌, subst, rules, arith}
 use Rattle.par_typed.specs.declared.expr.TExprKind.TheViews.{the_lemmas}
-use Rattle.par_bits.specs.Sets.{has}
 use Rattle.par_typed.specs.Shown.{all_shown, receiver, shown, mark_of}
 use Rattle.par_typed.proofs.Shown.{shown_mark}
 use Rattle.par_flow_laws.specs.Body.{args, exp, past, second}
@@ -9,7 +8,7 @@ use Rattle.par_flow_laws.specs.Declares.{declares}
 use Rattle.par_flow_laws.specs.Kinds.{Next, absorbed}
 use Rattle.par_flow_laws.specs.Lattice.{numbers}
 use Rattle.par_flow_laws.specs.Rules.{Entry, Done, Part, Rules, goes_on, spot, way}
-use Rattle.par_nodes.specs.Seen.{seen_origin, seen_rules, seen_start}
+use Rattle.par_nodes.specs.Seen.{seen_origin, seen_start}
 use Rattle.par_nodes.specs.Starts.{call_does, call_start}
 use Rattle.par_nodes.specs.Starts.{behind as behind_of}
 use Rattle.par_flow_laws.specs.Ranges.{IsFromInRange}
@@ -18,12 +17,11 @@ use Rattle.par_nodes.proofs.Expressions.{field_made, output_made, call_made, una
 use Rattle.par_nodes.proofs.Expressions.{binary_made}
 use Rattle.par_nodes.proofs.Expressions.{selected, valued, combined}
 use Rattle.par_pass_laws.specs.par_except.Seen.{may_see, seen, HasLocals}
-use Rattle.par_pass_laws.specs.Pass.{visited, pass}
-use Rattle.par_rounds.specs.Seen.{latest_first, ways_of, AreWide}
+use Rattle.par_ways.specs.Seen.{latest_first, ways_of, AreWide}
 use Rattle.par_rounds.specs.Passes.{within, GoesOn, ArePassable}
 use Rattle.par_rounds.proofs.Arms.{took_part}
-use Rattle.par_rounds.proofs.Calls.{start_in_range, arg_needs, arg_next, args_led, none_led, some_is}
-use Rattle.par_rounds.proofs.Calls.{some_led, behind_needs_of, args_needs_of, call_range}
+use Rattle.par_rounds.proofs.Calls.{start_in_range, arg_needs, arg_next, args_led, none_led}
+use Rattle.par_rounds.proofs.Calls.{some_is, some_led, behind_needs_of, args_needs_of, call_range}
 use Rattle.par_rounds.proofs.Events.{took_none}
 use Rattle.par_rounds.proofs.Needs.{so_first, part_needs}
 use Rattle.par_rounds.proofs.Walks.{exp_spot, within_needs, behind, behind_needs, part_walks}
@@ -88,8 +86,8 @@ visit-returns-in-None t c =
     (exp_spot d (shown e) ∙ ap (λ m. m.point) (shown_mark e.kind (mark_of e)))
     c.nothing.ensures.value c.nothing.ensures.exits c.blank.ensures
 
-pub parts-operand-requires : goal.parts-operand-requires
-parts-operand-requires t c =
+pub binary-operand-requires : goal.binary-operand-requires
+binary-operand-requires t c =
     let n = c.args.notes.now in let e = c.args.e.now in let d = declares c.args.table.now in
     let b = c.in-Binary in
     let q =
@@ -103,8 +101,8 @@ parts-operand-requires t c =
       (c.requires.ready, (c.requires.so_far, (q.0, q.1))),
     )
 
-pub parts-operand-requires-in-Binary : goal.parts-operand-requires-in-Binary
-parts-operand-requires-in-Binary t c =
+pub binary-operand-requires-in-Binary : goal.binary-operand-requires-in-Binary
+binary-operand-requires-in-Binary t c =
     let n = c.args.notes.now in let e = c.args.e.now in let d = declares c.args.table.now in
     let b = c.in-Binary in let m = c.operand.new.notes in
     let u = c.in_ok-operand-in-Binary.ensures in
@@ -129,8 +127,8 @@ parts-operand-requires-in-Binary t c =
       (k.ready, (k.so_far, (p.0, p.1))),
     )
 
-pub parts-pass_rules-requires-clause-so_far : goal.parts-pass_rules-requires-clause-so_far
-parts-pass_rules-requires-clause-so_far t c =
+pub binary-pass_rules-requires-clause-so_far : goal.binary-pass_rules-requires-clause-so_far
+binary-pass_rules-requires-clause-so_far t c =
     let n = c.args.notes.now in let m = c.operand.new.notes in
     let u = c.in_ok-operand-in-Binary.ensures in let v = c.in_ok-operand-in-Binary-2.ensures in
     let k =
@@ -141,8 +139,8 @@ parts-pass_rules-requires-clause-so_far t c =
     c.operand-in-Binary.new.so m c.operand-in-Binary.new.notes v.took v.head k.ready k.so_far in
     j.so_far
 
-pub parts-pass_rules-requires-clause-rules : goal.parts-pass_rules-requires-clause-rules
-parts-pass_rules-requires-clause-rules t c =
+pub binary-pass_rules-requires-clause-rules : goal.binary-pass_rules-requires-clause-rules
+binary-pass_rules-requires-clause-rules t c =
     let n = c.args.notes.now in let e = c.args.e.now in let d = declares c.args.table.now in
     let b = c.in-Binary in let m = c.operand.new.notes in let o = c.operand-in-Binary.new.notes in
     let u = c.in_ok-operand-in-Binary.ensures in let v = c.in_ok-operand-in-Binary-2.ensures in
@@ -199,8 +197,8 @@ parts-pass_rules-requires-in-Neg-clause-rules t c =
     c.operand-in-Neg.new.so n m u.took u.head c.requires.ready c.requires.so_far in
     subst (ArePassable m.locals (length m.heads.items)) (sym (seen_gives _ _)) (k.rules valued q.2)
 
-pub parts-returns-in_ok-pass_rules-in-Binary : goal.parts-returns-in_ok-pass_rules-in-Binary
-parts-returns-in_ok-pass_rules-in-Binary t c =
+pub binary-returns-in_ok-pass_rules-in-Binary : goal.binary-returns-in_ok-pass_rules-in-Binary
+binary-returns-in_ok-pass_rules-in-Binary t c =
     let n = c.args.notes.now in let e = c.args.e.now in let d = declares c.args.table.now in
     let b = c.in-Binary in let m = c.operand.new.notes in let o = c.operand-in-Binary.new.notes in
     let u = c.in_ok-operand-in-Binary.ensures in let v = c.in_ok-operand-in-Binary-2.ensures in
@@ -277,50 +275,50 @@ parts-returns-in_ok-pass_rules-in-Output t c =
     (subst (λ (k : Rules). GoesOn h k w c.operand-in-Output.new.so m to.so.found to.notes)
     (seen_ends _ _) c.in_ok-pass_rules-in-Output.ensures)
 
-pub parts-operand-requires-in-Field : goal.parts-operand-requires-in-Field
-parts-operand-requires-in-Field t c =
+pub parts-operand-requires : goal.parts-operand-requires
+parts-operand-requires t c =
     let n = c.args.notes.now in let e = c.args.e.now in let d = declares c.args.table.now in
-    let b = c.in-Field in let x = c.deref-in-Field.result.now in
+    let b = c.in-Field in let x = c.deref.result.now in
     let q =
     part_needs n.locals (length n.heads.items) (within (exp d (shown e))) Entry Next
     (exp d (shown x)) _
     (sym (ap within (field_made d e.kind (mark_of e) b.of b.class b.field
     (d.field b.class b.field) x x _
-    (selected (shown x) (d.field b.class b.field)) b.is refl c.deref-in-Field.ensures refl
-    c.deref-in-Field.ensures refl))) c.requires.rules in (
+    (selected (shown x) (d.field b.class b.field)) b.is refl c.deref.ensures refl
+    c.deref.ensures refl))) c.requires.rules in (
       search (rules, the_lemmas),
       (c.requires.ready, (c.requires.so_far, (q.0, q.1))),
     )
 
-pub parts-pass_rules-requires-in-Field-clause-rules
-    : goal.parts-pass_rules-requires-in-Field-clause-rules
-parts-pass_rules-requires-in-Field-clause-rules t c =
+pub parts-pass_rules-requires-clause-rules
+    : goal.parts-pass_rules-requires-clause-rules
+parts-pass_rules-requires-clause-rules t c =
     let n = c.args.notes.now in let e = c.args.e.now in let d = declares c.args.table.now in
-    let b = c.in-Field in let x = c.deref-in-Field.result.now in
-    let m = c.operand-in-Field.new.notes in let u = c.in_ok-operand-in-Field.ensures in
+    let b = c.in-Field in let x = c.deref.result.now in
+    let m = c.operand.new.notes in let u = c.in_ok-operand-in-Field.ensures in
     subst (ArePassable m.locals (length m.heads.items)) (sym c.in_ok-rest-in-Field.ensures)
     (behind_needs (absorbed Next) _ _ c.args.way.now c.args.heads.now c.args.so.now
-    c.operand-in-Field.new.so n m (within (exp d (shown e))) Entry Next (exp d (shown x)) _
+    c.operand.new.so n m (within (exp d (shown e))) Entry Next (exp d (shown x)) _
     (sym (ap within (field_made d e.kind (mark_of e) b.of b.class b.field c.field.result x
-    c.deref-in-Field-2.result.now _
-    (selected (shown c.deref-in-Field-2.result.now) c.field.result) b.is c.field.ensures
-    c.deref-in-Field-2.ensures refl c.deref-in-Field.ensures refl))) u.took u.head
+    c.deref-in-Field.result.now _
+    (selected (shown c.deref-in-Field.result.now) c.field.result) b.is c.field.ensures
+    c.deref-in-Field.ensures refl c.deref.ensures refl))) u.took u.head
     c.requires.ready c.requires.so_far c.requires.rules)
 
 pub parts-returns-in_ok-pass_rules-in-Field : goal.parts-returns-in_ok-pass_rules-in-Field
 parts-returns-in_ok-pass_rules-in-Field t c =
     let n = c.args.notes.now in let e = c.args.e.now in let d = declares c.args.table.now in
-    let b = c.in-Field in let x = c.deref-in-Field.result.now in
-    let m = c.operand-in-Field.new.notes in let u = c.in_ok-operand-in-Field.ensures in
+    let b = c.in-Field in let x = c.deref.result.now in
+    let m = c.operand.new.notes in let u = c.in_ok-operand-in-Field.ensures in
     let h = ways_of c.args.heads.now in let w = seen c.args.way.now in
-    let to = c.pass_rules-in-Field.new in
+    let to = c.pass_rules.new in
     part_walks h w Next Entry (exp d (shown x)) (within (exp d (shown e))) _ c.args.so.now
-    c.operand-in-Field.new.so to.so.found n m to.notes
+    c.operand.new.so to.so.found n m to.notes
     (sym (ap within (field_made d e.kind (mark_of e) b.of b.class b.field c.field.result x
-    c.deref-in-Field-2.result.now _
-    (selected (shown c.deref-in-Field-2.result.now) c.field.result) b.is c.field.ensures
-    c.deref-in-Field-2.ensures refl c.deref-in-Field.ensures refl))) u.head u.took
-    (subst (λ (k : Rules). GoesOn h k w c.operand-in-Field.new.so m to.so.found to.notes)
+    c.deref-in-Field.result.now _
+    (selected (shown c.deref-in-Field.result.now) c.field.result) b.is c.field.ensures
+    c.deref-in-Field.ensures refl c.deref.ensures refl))) u.head u.took
+    (subst (λ (k : Rules). GoesOn h k w c.operand.new.so m to.so.found to.notes)
     c.in_ok-rest-in-Field.ensures c.in_ok-pass_rules-in-Field.ensures)
 
 pub receiver-returns-in-None : goal.receiver-returns-in-None
@@ -372,7 +370,8 @@ args-operand-requires t c =
           (
             start_in_range c.loop-place.notes.locals p (seen_start c.start_at.result) f
                 c.start_at.ensures
-                (subst (λ k. IsFromInRange k f) (a.ready.way) (subst (λ k. IsFromInRange k f) (sym c.requires.ready.way) c.requires.start)),
+                (subst (λ k. IsFromInRange k f) a.ready.way
+                (subst (λ k. IsFromInRange k f) (sym c.requires.ready.way) c.requires.start)),
             arg_needs (declares c.args.table.now) (ways_of c.args.heads.now) c.args.way.now
                 c.args.heads.now f c.args.arguments.now c.args.so.now c.loop-place.so
                 c.args.notes.now c.loop-place.notes p e (search rules) (search rules) a,
@@ -396,8 +395,8 @@ args-returns t c =
     c.args.heads.now (seen_start c.args.from) c.args.arguments.now c.args.so.now c.loop-place.so
     c.args.notes.now c.loop-place.notes c.loop-place.place (omega arith) c.loop-place.invariant
 
-pub parts-receiver-requires : goal.parts-receiver-requires
-parts-receiver-requires t c =
+pub call-receiver-requires : goal.call-receiver-requires
+call-receiver-requires t c =
     let n = c.args.notes.now in let e = c.args.e.now in let d = declares c.args.table.now in
     let b = c.in-Call in let o = receiver b.of in let es = all_shown b.arguments in
     let last = call_does d (d.method b.class b.method) o es in
@@ -411,16 +410,18 @@ parts-receiver-requires t c =
       (c.requires.ready, (c.requires.so_far, (most, h))),
     )
 
-pub parts-args-requires : goal.parts-args-requires
-parts-args-requires t c =
+pub call-args-requires : goal.call-args-requires
+call-args-requires t c =
     let n = c.args.notes.now in let e = c.args.e.now in let d = declares c.args.table.now in
-    let b = c.in-Call in let o = receiver b.of in let es = all_shown c.as_slice-arguments.result.now in
+    let b = c.in-Call in let o = receiver b.of in
+    let es = all_shown c.as_slice-arguments.result.now in
     let last = call_does d (d.method b.class b.method) o es in
     let most = args d (call_start o) es last in
     let h =
     subst (ArePassable n.locals (length n.heads.items))
     (sym (ap within (call_made d e.kind (mark_of e) b.class b.method b.of b.arguments
-    c.as_slice-arguments.result.now _ most last (call_start o) b.is c.as_slice-arguments.ensures refl refl refl refl)))
+    c.as_slice-arguments.result.now _ most last (call_start o) b.is c.as_slice-arguments.ensures
+    refl refl refl refl)))
     c.requires.rules in
     let k = c.in_ok-receiver-in-Call.ensures in let m = c.receiver.new.notes in
     let g =
@@ -442,24 +443,26 @@ parts-args-requires t c =
       ),
     )
 
-pub parts-pass_rules-requires-in-Call-clause-ready : goal.parts-pass_rules-requires-in-Call-clause-ready
-parts-pass_rules-requires-in-Call-clause-ready t c =
+pub call-pass_rules-requires-clause-ready : goal.call-pass_rules-requires-clause-ready
+call-pass_rules-requires-clause-ready t c =
     c.in_ok-args-in-Call.ensures.ready
 
-pub parts-pass_rules-requires-in-Call-clause-so_far : goal.parts-pass_rules-requires-in-Call-clause-so_far
-parts-pass_rules-requires-in-Call-clause-so_far t c =
+pub call-pass_rules-requires-clause-so_far : goal.call-pass_rules-requires-clause-so_far
+call-pass_rules-requires-clause-so_far t c =
     c.in_ok-args-in-Call.ensures.so_far
 
-pub parts-pass_rules-requires-in-Call-clause-rules : goal.parts-pass_rules-requires-in-Call-clause-rules
-parts-pass_rules-requires-in-Call-clause-rules t c =
+pub call-pass_rules-requires-clause-rules : goal.call-pass_rules-requires-clause-rules
+call-pass_rules-requires-clause-rules t c =
     let n = c.args.notes.now in let e = c.args.e.now in let d = declares c.args.table.now in
-    let b = c.in-Call in let o = receiver b.of in let es = all_shown c.as_slice-arguments.result.now in
+    let b = c.in-Call in let o = receiver b.of in
+    let es = all_shown c.as_slice-arguments.result.now in
     let last = call_does d (d.method b.class b.method) o es in
     let most = args d (call_start o) es last in
     let h =
     subst (ArePassable n.locals (length n.heads.items))
     (sym (ap within (call_made d e.kind (mark_of e) b.class b.method b.of b.arguments
-    c.as_slice-arguments.result.now _ most last (call_start o) b.is c.as_slice-arguments.ensures refl refl refl refl)))
+    c.as_slice-arguments.result.now _ most last (call_start o) b.is c.as_slice-arguments.ensures
+    refl refl refl refl)))
     c.requires.rules in
     let k = c.in_ok-receiver-in-Call.ensures in let j = c.in_ok-args-in-Call.ensures in
     let m = c.args-in-Call.new.notes in
@@ -468,19 +471,20 @@ parts-pass_rules-requires-in-Call-clause-rules t c =
     subst (ArePassable m.locals (length m.heads.items)) (sym c.in_ok-rest-in-Call.ensures)
     (j.rules last (k.rules last y))
 
-pub parts-returns-in_ok-pass_rules-in-Call : goal.parts-returns-in_ok-pass_rules-in-Call
-parts-returns-in_ok-pass_rules-in-Call t c =
+pub call-returns-in_ok-pass_rules-in-Call : goal.call-returns-in_ok-pass_rules-in-Call
+call-returns-in_ok-pass_rules-in-Call t c =
     let e = c.args.e.now in let d = declares c.args.table.now in
-    let b = c.in-Call in let o = receiver b.of in let es = all_shown c.as_slice-arguments.result.now in
+    let b = c.in-Call in let o = receiver b.of in
+    let es = all_shown c.as_slice-arguments.result.now in
     let last = call_does d (d.method b.class b.method) o es in
     let f = seen_start c.call_start.result in
     let most = args d f es last in
     let h = ways_of c.args.heads.now in let w = seen c.args.way.now in
-    let to = c.pass_rules-in-Call.new in
+    let to = c.pass_rules.new in
     subst (λ (k : Rules). GoesOn h k w c.args.so.now c.args.notes.now to.so.found to.notes)
     (ap within (call_made d e.kind (mark_of e) b.class b.method b.of b.arguments
-    c.as_slice-arguments.result.now _ most last f b.is c.as_slice-arguments.ensures refl c.call_start.ensures refl
-    refl))
+    c.as_slice-arguments.result.now _ most last f b.is c.as_slice-arguments.ensures refl
+    c.call_start.ensures refl refl))
     (c.in_ok-receiver-in-Call.ensures.goes most to.so.found to.notes
     (c.in_ok-args-in-Call.ensures.goes last to.so.found to.notes
     (subst (λ (k : Rules). GoesOn h k w c.args-in-Call.new.so c.args-in-Call.new.notes to.so.found

@@ -1,16 +1,15 @@
 -- Each rule takes the code one step on, and what it needs stays true.
-use Rattle.std.proofs.Common.{Some, None, [], length, refl, sym, ap, ◌∙◌, subst, rules}
+use Rattle.std.proofs.Common.{Some, [], length, refl, sym, ap, ◌∙◌, subst, rules}
 use Rattle.std.proofs.lemmas.Result.{IfOk-weaker}
 use Rattle.par_nodes.specs.declared.rule.Rules.TheViews.{the_lemmas}
 use Rattle.par_flow_laws.specs.Kinds.{Normal, normal, absorbed}
 use Rattle.par_flow_laws.specs.Lattice.{numbers}
 use Rattle.par_flow_laws.specs.Ranges.{IsFromInRange, IsWorthInRange}
-use Rattle.par_flow_laws.specs.Rules.{way, worth as worth_of, Done, Worths}
+use Rattle.par_flow_laws.specs.Rules.{way, Done, Worths}
 use Rattle.par_nodes.specs.Seen.{seen_kind, seen_origin, seen_worth, seen_absorber, seen_rules}
 use Rattle.par_nodes.specs.Seen.{seen_node}
 use Rattle.par_pass_laws.specs.par_except.Seen.{seen, HasLocals, MayHaveLocals}
-use Rattle.par_bits.specs.Sets.{has, union}
-use Rattle.par_rounds.specs.Seen.{latest_first, ways_of, AreWide}
+use Rattle.par_ways.specs.Seen.{latest_first, ways_of, AreWide}
 use Rattle.par_rounds.proofs.Trees.{is_done, is_part, is_test, is_heads, is_leaves, is_worths}
 use Rattle.par_rounds.proofs.Trees.{is_ends, is_gives, is_joins}
 use Rattle.par_rounds.proofs.Events.{took_none}

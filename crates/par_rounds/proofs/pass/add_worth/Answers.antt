@@ -4,7 +4,7 @@ use Rattle.par_flow_laws.specs.Lattice.{numbers}
 use Rattle.par_flow_laws.specs.Rules.{worth}
 use Rattle.par_nodes.specs.Seen.{seen_worth}
 use Rattle.par_pass_laws.specs.par_except.Seen.{seen}
-use Rattle.par_rounds.specs.Seen.{latest_first}
+use Rattle.par_ways.specs.Seen.{latest_first}
 use Rattle.par_rounds.proofs.pass.add_worth.Goals as goal
 
 pub returns-clause-value : goal.returns-clause-value

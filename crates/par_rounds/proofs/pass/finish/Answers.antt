@@ -1,6 +1,6 @@
 use Rattle.std.proofs.Common.{refl, sym, subst}
 use Rattle.par_pass_laws.specs.par_except.Seen.{seen}
-use Rattle.par_rounds.specs.Seen.{AreWide}
+use Rattle.par_ways.specs.Seen.{AreWide}
 use Rattle.par_rounds.proofs.Arms.{finish_goes}
 use Rattle.par_rounds.proofs.pass.finish.Goals as goal
 

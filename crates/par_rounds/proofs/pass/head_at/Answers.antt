@@ -1,7 +1,7 @@
 use Rattle.std.proofs.Common.{arith, ap, sym, ◌∙◌, None}
 use Rattle.std.proofs.lemmas.List.{get_or_past}
 use Rattle.par_pass_laws.specs.par_except.Seen.{may_see}
-use Rattle.par_rounds.specs.Seen.{ways_of}
+use Rattle.par_ways.specs.Seen.{ways_of}
 use Rattle.par_rounds.proofs.Heads.{read_none}
 use Rattle.par_rounds.proofs.pass.head_at.Goals as goal
 

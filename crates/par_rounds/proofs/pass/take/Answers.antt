@@ -1,5 +1,5 @@
 use Rattle.std.proofs.Common.{sym, subst}
-use Rattle.par_rounds.specs.Seen.{AreWide}
+use Rattle.par_ways.specs.Seen.{AreWide}
 use Rattle.par_rounds.proofs.pass.take.Goals as goal
 
 pub returns-clause-locals : goal.returns-clause-locals

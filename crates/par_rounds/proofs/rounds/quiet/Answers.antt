@@ -5,7 +5,7 @@ use Rattle.par_flow_laws.specs.Body.{sta}
 use Rattle.par_flow_laws.specs.Declares.{declares}
 use Rattle.par_pass_laws.specs.par_except.Seen.{seen}
 use Rattle.par_pass_laws.specs.Pass.{pass}
-use Rattle.par_rounds.specs.Seen.{ways_of}
+use Rattle.par_ways.specs.Seen.{ways_of}
 use Rattle.par_rounds.specs.Rounds.{IsRound}
 use Rattle.par_rounds.proofs.Ends.{after_next, after_falls}
 use Rattle.par_rounds.proofs.rounds.quiet.Goals as goal

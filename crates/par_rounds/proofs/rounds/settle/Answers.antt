@@ -5,7 +5,7 @@ use Rattle.par_flow_laws.specs.Body.{sta}
 use Rattle.par_flow_laws.specs.Declares.{declares}
 use Rattle.par_pass_laws.specs.par_except.Seen.{seen}
 use Rattle.par_pass_laws.specs.Pass.{pass}
-use Rattle.par_rounds.specs.Seen.{ways_of, AreHeadsWide}
+use Rattle.par_ways.specs.Seen.{ways_of, AreHeadsWide}
 use Rattle.par_rounds.specs.Rounds.{IsRound}
 use Rattle.par_rounds.proofs.Ends.{first_after, first_settled}
 use Rattle.par_rounds.proofs.rounds.settle.Goals as goal

@@ -1,7 +1,6 @@
 -- A statement is passed as its rules say, part by part.
 use Rattle.std.proofs.Common.{[], Some, length, refl, sym, ap, ◌∙◌, subst, rules, arith}
 use Rattle.par_typed.specs.declared.stmt.TStmtKind.TheViews.{the_lemmas}
-use Rattle.par_bits.specs.Sets.{has}
 use Rattle.par_typed.specs.Shown.{does, otherwise, shown}
 use Rattle.par_typed.specs.declared.stmt.TStmt.{TStmt}
 use Rattle.par_typed.proofs.Shown.{does_point}
@@ -9,7 +8,7 @@ use Rattle.par_flow_laws.specs.Body.{exp, past, tested, sta, if_not, is_forever}
 use Rattle.par_flow_laws.specs.Declares.{declares}
 use Rattle.par_flow_laws.specs.Kinds.{Next, Loop, Normal, absorbed}
 use Rattle.par_flow_laws.specs.Lattice.{numbers}
-use Rattle.par_flow_laws.specs.Rules.{Entry, After, Tested, Assigned, Rules, Done, Part, Heads}
+use Rattle.par_flow_laws.specs.Rules.{Entry, After, Tested, Rules, Done, Part, Heads}
 use Rattle.par_flow_laws.specs.Rules.{goes_on, spot, way}
 use Rattle.par_nodes.specs.Starts.{goes_first, else_rules}
 use Rattle.par_nodes.specs.Seen.{seen_absorber, seen_origin, seen_start}
@@ -17,8 +16,7 @@ use Rattle.par_nodes.proofs.Forms.{seen_ends}
 use Rattle.par_nodes.proofs.Statements.{block_made, if_made, while_made, set_local_made}
 use Rattle.par_nodes.proofs.Statements.{set_static_made, eval_made}
 use Rattle.par_pass_laws.specs.par_except.Seen.{may_see, seen, HasLocals}
-use Rattle.par_pass_laws.specs.Pass.{visited, pass}
-use Rattle.par_rounds.specs.Seen.{latest_first, ways_of, AreWide}
+use Rattle.par_ways.specs.Seen.{latest_first, ways_of, AreWide}
 use Rattle.par_rounds.specs.Passes.{within, GoesOn, IsPassable, ArePassable}
 use Rattle.par_rounds.proofs.Arms.{took_part, done_goes, test_arm, heads_arm, leaves_arm}
 use Rattle.par_rounds.proofs.Blocks.{along_needs, along_next, start_range, stas_end}
@@ -87,7 +85,8 @@ parts-returns-in_ok-ends-in-SetLocal t c =
     (ap within (set_local_made d s.kind s.at s.point b.local b.field-1 b.value _
     b.is refl)) c.in_ok-ends-in-SetLocal.ensures
 
-pub parts-ends-requires-in-SetStatic-clause-rules : goal.parts-ends-requires-in-SetStatic-clause-rules
+pub parts-ends-requires-in-SetStatic-clause-rules
+    : goal.parts-ends-requires-in-SetStatic-clause-rules
 parts-ends-requires-in-SetStatic-clause-rules t c =
     let n = c.args.notes.now in let s = c.args.stmt.now in let d = declares c.args.table.now in
     let b = c.in-SetStatic in
@@ -209,12 +208,12 @@ visit-returns-in-None t c =
     (sta_spot d (does s) ∙ does_point s.kind s.at s.point)
     c.nothing.ensures.value c.nothing.ensures.exits c.blank.ensures
 
-pub parts-operand-requires-clause-range : goal.parts-operand-requires-clause-range
-parts-operand-requires-clause-range t c =
+pub branch-operand-requires-clause-range : goal.branch-operand-requires-clause-range
+branch-operand-requires-clause-range t c =
     entry_range c.args.notes.now.locals
 
-pub parts-operand-requires-clause-node : goal.parts-operand-requires-clause-node
-parts-operand-requires-clause-node t c =
+pub branch-operand-requires-clause-node : goal.branch-operand-requires-clause-node
+branch-operand-requires-clause-node t c =
     let n = c.args.notes.now in let s = c.args.stmt.now in let d = declares c.args.table.now in
     let b = c.in-If in let v = c.args.way.now in let hs = c.args.heads.now in
     let q =
@@ -225,8 +224,8 @@ parts-operand-requires-clause-node t c =
     refl refl refl refl))) c.requires.rules in
     q.test
 
-pub parts-goes_first-requires-clause-parts : goal.parts-goes_first-requires-clause-parts
-parts-goes_first-requires-clause-parts t c =
+pub branch-goes_first-requires-clause-parts : goal.branch-goes_first-requires-clause-parts
+branch-goes_first-requires-clause-parts t c =
     let n = c.args.notes.now in let v = c.args.way.now in let hs = c.args.heads.now in
     let m = c.operand.new.notes in let u = c.in_ok-operand-in-If.ensures in
     let k =
@@ -234,8 +233,8 @@ parts-goes_first-requires-clause-parts t c =
     c.requires.ready c.requires.so_far in
     parts_wide v hs c.operand.new.so c.operand.new.so m m k.ready k.so_far
 
-pub parts-goes_first-requires-clause-exits : goal.parts-goes_first-requires-clause-exits
-parts-goes_first-requires-clause-exits t c =
+pub branch-goes_first-requires-clause-exits : goal.branch-goes_first-requires-clause-exits
+branch-goes_first-requires-clause-exits t c =
     let n = c.args.notes.now in let v = c.args.way.now in let hs = c.args.heads.now in
     let m = c.operand.new.notes in let u = c.in_ok-operand-in-If.ensures in
     let k =
@@ -243,12 +242,12 @@ parts-goes_first-requires-clause-exits t c =
     c.requires.ready c.requires.so_far in
     exits_wide v hs c.operand.new.so c.operand.new.so m m k.ready k.so_far
 
-pub parts-goes_first-requires-clause-range : goal.parts-goes_first-requires-clause-range
-parts-goes_first-requires-clause-range t c =
+pub branch-goes_first-requires-clause-range : goal.branch-goes_first-requires-clause-range
+branch-goes_first-requires-clause-range t c =
     past_range (length c.args.way.now.env)
 
-pub parts-step-requires : goal.parts-step-requires
-parts-step-requires t c =
+pub branch-step-requires : goal.branch-step-requires
+branch-step-requires t c =
     let n = c.args.notes.now in let s = c.args.stmt.now in let d = declares c.args.table.now in
     let b = c.in-If in let v = c.args.way.now in let hs = c.args.heads.now in
     let q =
@@ -279,8 +278,8 @@ parts-step-requires t c =
       ),
     )
 
-pub parts-leave-requires-clause-parts : goal.parts-leave-requires-clause-parts
-parts-leave-requires-clause-parts t c =
+pub branch-leave-requires-clause-parts : goal.branch-leave-requires-clause-parts
+branch-leave-requires-clause-parts t c =
     let n = c.args.notes.now in let v = c.args.way.now in let hs = c.args.heads.now in
     let m = c.operand.new.notes in let u = c.in_ok-operand-in-If.ensures in
     let k =
@@ -296,8 +295,8 @@ parts-leave-requires-clause-parts t c =
     i.ready i.so_far in
     parts_wide v hs c.step.new.so c.step.new.so o o j.ready j.so_far
 
-pub parts-leave-requires-clause-exits : goal.parts-leave-requires-clause-exits
-parts-leave-requires-clause-exits t c =
+pub branch-leave-requires-clause-exits : goal.branch-leave-requires-clause-exits
+branch-leave-requires-clause-exits t c =
     let n = c.args.notes.now in let v = c.args.way.now in let hs = c.args.heads.now in
     let m = c.operand.new.notes in let u = c.in_ok-operand-in-If.ensures in
     let k =
@@ -313,12 +312,12 @@ parts-leave-requires-clause-exits t c =
     i.ready i.so_far in
     exits_wide v hs c.step.new.so c.step.new.so o o j.ready j.so_far
 
-pub parts-leave-requires-clause-range : goal.parts-leave-requires-clause-range
-parts-leave-requires-clause-range t c =
+pub branch-leave-requires-clause-range : goal.branch-leave-requires-clause-range
+branch-leave-requires-clause-range t c =
     past_range (length c.args.way.now.env)
 
-pub parts-otherwise-requires : goal.parts-otherwise-requires
-parts-otherwise-requires t c =
+pub branch-otherwise-requires : goal.branch-otherwise-requires
+branch-otherwise-requires t c =
     let n = c.args.notes.now in let s = c.args.stmt.now in let d = declares c.args.table.now in
     let b = c.in-If in let v = c.args.way.now in let hs = c.args.heads.now in
     let q =
@@ -346,8 +345,8 @@ parts-otherwise-requires t c =
       (a.ready, (a.so_far, j.rules _ (k.rules _ q.rest))),
     )
 
-pub parts-returns-in_ok-otherwise-in-If : goal.parts-returns-in_ok-otherwise-in-If
-parts-returns-in_ok-otherwise-in-If t c =
+pub branch-returns-in_ok-otherwise-in-If : goal.branch-returns-in_ok-otherwise-in-If
+branch-returns-in_ok-otherwise-in-If t c =
     let n = c.args.notes.now in let s = c.args.stmt.now in let d = declares c.args.table.now in
     let b = c.in-If in let m = c.operand.new.notes in let o = c.step.new.notes in
     let u = c.in_ok-operand-in-If.ensures in let x = c.in_ok-goes_first-in-If.ensures in
@@ -417,8 +416,8 @@ otherwise-returns-in_ok-pass_rules-in-Some t c =
     (subst (λ (k : Rules). GoesOn h k w c.step.new.so m to.so.found to.notes) (seen_ends _ _)
     c.in_ok-pass_rules-in-Some.ensures)
 
-pub parts-loop_test-requires-clause-node : goal.parts-loop_test-requires-clause-node
-parts-loop_test-requires-clause-node t c =
+pub repeat-loop_test-requires-clause-node : goal.repeat-loop_test-requires-clause-node
+repeat-loop_test-requires-clause-node t c =
     let n = c.args.notes.now in let s = c.args.stmt.now in let d = declares c.args.table.now in
     let b = c.in-While in let v = c.args.way.now in let hs = c.args.heads.now in
     let q =
@@ -428,8 +427,8 @@ parts-loop_test-requires-clause-node t c =
     refl refl))) c.requires.rules in
     q.test
 
-pub parts-flow-requires-clause-ready : goal.parts-flow-requires-clause-ready
-parts-flow-requires-clause-ready t c =
+pub repeat-flow-requires-clause-ready : goal.repeat-flow-requires-clause-ready
+repeat-flow-requires-clause-ready t c =
     let n = c.args.notes.now in let s = c.args.stmt.now in let d = declares c.args.table.now in
     let b = c.in-While in let v = c.args.way.now in let hs = c.args.heads.now in
     let q =
@@ -443,8 +442,8 @@ parts-flow-requires-clause-ready t c =
     c.requires.ready c.requires.so_far in
     (k.ready.way, k.ready.noted)
 
-pub parts-flow-requires-clause-so_far : goal.parts-flow-requires-clause-so_far
-parts-flow-requires-clause-so_far t c =
+pub repeat-flow-requires-clause-so_far : goal.repeat-flow-requires-clause-so_far
+repeat-flow-requires-clause-so_far t c =
     let n = c.args.notes.now in let s = c.args.stmt.now in let d = declares c.args.table.now in
     let b = c.in-While in let v = c.args.way.now in let hs = c.args.heads.now in
     let q =
@@ -458,12 +457,12 @@ parts-flow-requires-clause-so_far t c =
     c.requires.ready c.requires.so_far in
     k.so_far
 
-pub parts-flow-requires-clause-range : goal.parts-flow-requires-clause-range
-parts-flow-requires-clause-range t c =
+pub repeat-flow-requires-clause-range : goal.repeat-flow-requires-clause-range
+repeat-flow-requires-clause-range t c =
     entry_range c.loop_test.new.notes.locals
 
-pub parts-unless-requires-clause-parts : goal.parts-unless-requires-clause-parts
-parts-unless-requires-clause-parts t c =
+pub repeat-unless-requires-clause-parts : goal.repeat-unless-requires-clause-parts
+repeat-unless-requires-clause-parts t c =
     let n = c.args.notes.now in let s = c.args.stmt.now in let d = declares c.args.table.now in
     let b = c.in-While in let v = c.args.way.now in let hs = c.args.heads.now in
     let q =
@@ -481,8 +480,8 @@ parts-unless-requires-clause-parts t c =
     k.ready k.so_far in
     parts_wide v hs c.loop_test.new.so c.loop_test.new.so f f i.ready i.so_far
 
-pub parts-unless-requires-clause-exits : goal.parts-unless-requires-clause-exits
-parts-unless-requires-clause-exits t c =
+pub repeat-unless-requires-clause-exits : goal.repeat-unless-requires-clause-exits
+repeat-unless-requires-clause-exits t c =
     let n = c.args.notes.now in let s = c.args.stmt.now in let d = declares c.args.table.now in
     let b = c.in-While in let v = c.args.way.now in let hs = c.args.heads.now in
     let q =
@@ -500,8 +499,8 @@ parts-unless-requires-clause-exits t c =
     k.ready k.so_far in
     exits_wide v hs c.loop_test.new.so c.loop_test.new.so f f i.ready i.so_far
 
-pub parts-step-requires-in-While : goal.parts-step-requires-in-While
-parts-step-requires-in-While t c =
+pub repeat-step-requires : goal.repeat-step-requires
+repeat-step-requires t c =
     let n = c.args.notes.now in let s = c.args.stmt.now in let d = declares c.args.table.now in
     let b = c.in-While in let v = c.args.way.now in let hs = c.args.heads.now in
     let q =
@@ -529,15 +528,14 @@ parts-step-requires-in-While t c =
           (
             tested_range f.locals,
             subst (λ (z : TStmt). IsPassable f.locals (length f.heads.items) (sta d (does z)))
-                (sym c.deref-in-While.ensures) (i.nodes _ (k.nodes _ q.block)),
+                (sym c.deref.ensures) (i.nodes _ (k.nodes _ q.block)),
           ),
         ),
       ),
     )
 
-pub parts-pass_rules-requires-clause-ready
-    : goal.parts-pass_rules-requires-clause-ready
-parts-pass_rules-requires-clause-ready t c =
+pub repeat-pass_rules-requires-clause-ready : goal.repeat-pass_rules-requires-clause-ready
+repeat-pass_rules-requires-clause-ready t c =
     let n = c.args.notes.now in let s = c.args.stmt.now in let d = declares c.args.table.now in
     let b = c.in-While in let v = c.args.way.now in let hs = c.args.heads.now in
     let q =
@@ -557,15 +555,14 @@ parts-pass_rules-requires-clause-ready t c =
     let j =
     behind_leave v hs c.loop_test.new.so c.unless.new.so f f i.ready i.so_far x.head x.parts
     x.locals in
-    let y = c.in_ok-step-in-While.ensures in let o = c.step-in-While.new.notes in
+    let y = c.in_ok-step-in-While.ensures in let o = c.step.new.notes in
     let a =
-    behind (absorbed Loop) _ _ v hs c.unless.new.so c.step-in-While.new.so f o y.took y.head
+    behind (absorbed Loop) _ _ v hs c.unless.new.so c.step.new.so f o y.took y.head
     j.ready j.so_far in
     a.ready
 
-pub parts-pass_rules-requires-clause-so_far
-    : goal.parts-pass_rules-requires-clause-so_far
-parts-pass_rules-requires-clause-so_far t c =
+pub repeat-pass_rules-requires-clause-so_far : goal.repeat-pass_rules-requires-clause-so_far
+repeat-pass_rules-requires-clause-so_far t c =
     let n = c.args.notes.now in let s = c.args.stmt.now in let d = declares c.args.table.now in
     let b = c.in-While in let v = c.args.way.now in let hs = c.args.heads.now in
     let q =
@@ -585,15 +582,14 @@ parts-pass_rules-requires-clause-so_far t c =
     let j =
     behind_leave v hs c.loop_test.new.so c.unless.new.so f f i.ready i.so_far x.head x.parts
     x.locals in
-    let y = c.in_ok-step-in-While.ensures in let o = c.step-in-While.new.notes in
+    let y = c.in_ok-step-in-While.ensures in let o = c.step.new.notes in
     let a =
-    behind (absorbed Loop) _ _ v hs c.unless.new.so c.step-in-While.new.so f o y.took y.head
+    behind (absorbed Loop) _ _ v hs c.unless.new.so c.step.new.so f o y.took y.head
     j.ready j.so_far in
     a.so_far
 
-pub parts-pass_rules-requires-clause-rules
-    : goal.parts-pass_rules-requires-clause-rules
-parts-pass_rules-requires-clause-rules t c =
+pub repeat-pass_rules-requires-clause-rules : goal.repeat-pass_rules-requires-clause-rules
+repeat-pass_rules-requires-clause-rules t c =
     let n = c.args.notes.now in let s = c.args.stmt.now in let d = declares c.args.table.now in
     let b = c.in-While in let v = c.args.way.now in let hs = c.args.heads.now in
     let q =
@@ -613,29 +609,29 @@ parts-pass_rules-requires-clause-rules t c =
     let j =
     behind_leave v hs c.loop_test.new.so c.unless.new.so f f i.ready i.so_far x.head x.parts
     x.locals in
-    let y = c.in_ok-step-in-While.ensures in let o = c.step-in-While.new.notes in
+    let y = c.in_ok-step-in-While.ensures in let o = c.step.new.notes in
     let a =
-    behind (absorbed Loop) _ _ v hs c.unless.new.so c.step-in-While.new.so f o y.took y.head
+    behind (absorbed Loop) _ _ v hs c.unless.new.so c.step.new.so f o y.took y.head
     j.ready j.so_far in
     subst (ArePassable o.locals (length o.heads.items)) (sym c.in_ok-rest-in-While.ensures)
     (a.rules again (i.rules again (k.rules again q.rest)))
 
-pub parts-returns-in_ok-pass_rules-in-While : goal.parts-returns-in_ok-pass_rules-in-While
-parts-returns-in_ok-pass_rules-in-While t c =
+pub repeat-returns-in_ok-pass_rules-in-While : goal.repeat-returns-in_ok-pass_rules-in-While
+repeat-returns-in_ok-pass_rules-in-While t c =
     let n = c.args.notes.now in let s = c.args.stmt.now in let d = declares c.args.table.now in
     let b = c.in-While in let m = c.loop_test.new.notes in let f = c.flow.new.notes in
-    let o = c.step-in-While.new.notes in
+    let o = c.step.new.notes in
     let u = c.in_ok-loop_test-in-While.ensures in let g = u.took in
     let x = c.in_ok-unless-in-While.ensures in let y = c.in_ok-step-in-While.ensures in
     let h = ways_of c.args.heads.now in let w = seen c.args.way.now in
     let to = c.pass_rules.new in
-    let block = sta d (does c.deref-in-While.result.now) in
+    let block = sta d (does c.deref.result.now) in
     let part = Part tested Loop block again in
     let more = if_not (is_forever (shown b.test)) (goes_on past) part in
     test_arm h w c.args.so.now c.loop_test.new.so to.so.found (within (sta d (does s)))
     (exp d (shown b.test)) (Heads Entry more) g.entry g.found n m to.notes
-    (sym (ap within (while_made d s.kind s.at s.point b.test b.block c.deref-in-While.result.now _
-    part b.is c.deref-in-While.ensures refl refl)))
+    (sym (ap within (while_made d s.kind s.at s.point b.test b.block c.deref.result.now _
+    part b.is c.deref.ensures refl refl)))
     g.enters g.passed u.head g.parts g.value g.exits
     (heads_arm h w c.loop_test.new.so to.so.found (Heads Entry more) Entry more m f to.notes refl
     c.in_ok-flow-in-While.ensures
@@ -643,7 +639,7 @@ parts-returns-in_ok-pass_rules-in-While t c =
     (λ z. GoesOn h (if_not z (goes_on past) part) w c.loop_test.new.so f to.so.found to.notes)
     c.is_forever.ensures
     (x.goes h part f to.so.found to.notes
-    (part_walks h w Loop tested block part again c.unless.new.so c.step-in-While.new.so
+    (part_walks h w Loop tested block part again c.unless.new.so c.step.new.so
     to.so.found f o to.notes refl y.head y.took
-    (subst (λ (k : Rules). GoesOn h k w c.step-in-While.new.so o to.so.found to.notes)
+    (subst (λ (k : Rules). GoesOn h k w c.step.new.so o to.so.found to.notes)
     c.in_ok-rest-in-While.ensures c.in_ok-pass_rules-in-While.ensures)))))

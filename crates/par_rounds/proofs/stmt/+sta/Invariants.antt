@@ -1,5 +1,5 @@
 use Rattle.par_flow_laws.specs.Declares.{declares}
-use Rattle.par_rounds.specs.Seen.{ways_of}
+use Rattle.par_ways.specs.Seen.{ways_of}
 use Rattle.par_rounds.specs.Passes.{IsAlong}
 use Rattle.par_rounds.proofs.stmt.+sta.Given as goal
 

@@ -7,7 +7,7 @@ use Rattle.par_flow_laws.specs.Rules.{Entry, Rules, Done, Part, goes_on}
 use Rattle.par_nodes.specs.Seen.{assigned}
 use Rattle.par_nodes.proofs.Forms.{seen_ends}
 use Rattle.par_pass_laws.specs.par_except.Seen.{seen}
-use Rattle.par_rounds.specs.Seen.{ways_of}
+use Rattle.par_ways.specs.Seen.{ways_of}
 use Rattle.par_rounds.specs.Passes.{GoesOn, ArePassable}
 use Rattle.par_rounds.proofs.Needs.{part_needs}
 use Rattle.par_rounds.proofs.Walks.{behind_needs, part_walks}

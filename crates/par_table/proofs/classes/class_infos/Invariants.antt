@@ -1,6 +1,6 @@
 use Rattle.std.proofs.Common.{◌≡◌, ◌+◌, ◌≤◌, ◌<◌, ◌^◌, ◌++◌, drop, sum_by}
 use Rattle.par_resolved.specs.declared.limits.TheConstants.{MOST_POLICIES}
-use Rattle.par_resolved.specs.Gathered.{classes_of}
+use Rattle.par_parts.specs.Gathered.{classes_of}
 use Rattle.par_resolved.specs.Resolved.{class_infos}
 use Rattle.par_table.specs.Room.{inferred_count, class_nodes}
 use Rattle.par_table.specs.Seen.{resolved_seen}

@@ -1,7 +1,7 @@
 use Rattle.std.proofs.Common.{◌≡◌, ◌+◌, ◌≤◌, ◌++◌, drop, sum_by, length}
 use Rattle.par_resolved.specs.declared.limits.TheConstants.{MOST_GROUND_LOCKS}
 use Rattle.par_resolved.specs.Numbers.{ground_count}
-use Rattle.par_resolved.specs.Gathered.{all_of}
+use Rattle.par_parts.specs.Gathered.{all_of}
 use Rattle.par_resolved.specs.Resolved.{ground_locks_from}
 use Rattle.par_table.specs.Seen.{resolved_seen}
 use Rattle.par_table.proofs.locks.families.Given as goal

@@ -2,7 +2,7 @@ use Rattle.std.proofs.Common.{◌≡◌, map, ap, subst, ◌∙◌, IfOk}
 use Rattle.par_tree.specs.Shown.{source}
 use Rattle.par_names.specs.Declarations.{locks}
 use Rattle.par_resolved.specs.Sets.{set_of}
-use Rattle.par_resolved.specs.Gathered.{all_of}
+use Rattle.par_parts.specs.Gathered.{all_of}
 use Rattle.par_resolved.specs.Numbers.{lock_number}
 use Rattle.par_resolved.specs.Resolved.{query_numbers, ground_locks_from}
 use Rattle.par_table.specs.Seen.{resolved_seen}

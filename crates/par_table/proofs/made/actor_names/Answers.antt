@@ -1,5 +1,5 @@
 use Rattle.std.proofs.Common.{◌≡◌, map, ap, ◌∙◌, subst, IfOk}
-use Rattle.par_resolved.specs.Gathered.{all_of}
+use Rattle.par_parts.specs.Gathered.{all_of}
 use Rattle.par_table.proofs.made.actor_names.Goals as goal
 
 pub returns : goal.returns

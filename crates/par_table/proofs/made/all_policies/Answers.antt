@@ -3,7 +3,7 @@ use Rattle.std.specs.List.{flat_map}
 use Rattle.par_policy.specs.declared.clauses.Clause.{Clause}
 use Rattle.par_tree.specs.Plain.{Class}
 use Rattle.par_tree.specs.Shown.{source}
-use Rattle.par_resolved.specs.Gathered.{classes_of}
+use Rattle.par_parts.specs.Gathered.{classes_of}
 use Rattle.par_resolved.specs.Seen.{known_seen}
 use Rattle.par_resolved.specs.Policies.{Known, known}
 use Rattle.par_resolved.specs.Numbered.{shared_policies}

@@ -1,5 +1,5 @@
 use Rattle.std.proofs.Common.{◌≡◌, ◌++◌, drop, map}
-use Rattle.par_resolved.specs.Gathered.{all_of}
+use Rattle.par_parts.specs.Gathered.{all_of}
 use Rattle.par_table.proofs.made.names_of.Given as goal
 
 -- those made so far, and those of what is left

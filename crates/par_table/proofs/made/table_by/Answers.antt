@@ -6,7 +6,7 @@ use Rattle.par_tree.specs.declared.ident.Ident.{Ident}
 use Rattle.par_tree.specs.Shown.{source}
 use Rattle.par_names.specs.Declarations.{actors, locks}
 use Rattle.par_resolved.specs.declared.limits.TheConstants.{MOST_GROUND_LOCKS}
-use Rattle.par_resolved.specs.Gathered.{classes_of}
+use Rattle.par_parts.specs.Gathered.{classes_of}
 use Rattle.par_resolved.specs.Numbers.{ground_count}
 use Rattle.par_resolved.specs.Resolved.{resolved, ground_locks, class_infos, has_main}
 use Rattle.par_table.specs.Room.{HaveRoom}

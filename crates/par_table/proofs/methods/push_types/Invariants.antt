@@ -1,6 +1,6 @@
 use Rattle.std.proofs.Common.{◌≡◌, ◌++◌, drop, map}
 use Rattle.par_resolved.specs.Numbers.{type_of}
-use Rattle.par_resolved.specs.Gathered.{all_of}
+use Rattle.par_parts.specs.Gathered.{all_of}
 use Rattle.par_table.specs.Seen.{resolved_seen}
 use Rattle.par_table.proofs.methods.push_types.Given as goal
 

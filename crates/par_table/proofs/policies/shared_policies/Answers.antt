@@ -2,7 +2,7 @@ use Rattle.std.proofs.Common.{◌≡◌, ◌+◌, map, take, ap, subst, ◌∙�
 use Rattle.par_tree.specs.Shown.{source}
 use Rattle.par_resolved.specs.declared.entries.Entry.{Entry}
 use Rattle.par_resolved.specs.declared.limits.TheConstants.{MOST_POLICIES}
-use Rattle.par_resolved.specs.Gathered.{all_of}
+use Rattle.par_parts.specs.Gathered.{all_of}
 use Rattle.par_resolved.specs.Numbered.{distinct, shared_policies}
 use Rattle.par_resolved.specs.Seen.{known_seen}
 use Rattle.par_table.proofs.Distinct.{all_distinct}

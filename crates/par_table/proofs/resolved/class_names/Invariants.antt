@@ -1,6 +1,6 @@
 use Rattle.std.proofs.Common.{◌≡◌, ◌++◌, drop, map}
 use Rattle.par_index.specs.Texts.{texts}
-use Rattle.par_resolved.specs.Gathered.{classes_of}
+use Rattle.par_parts.specs.Gathered.{classes_of}
 use Rattle.par_table.proofs.resolved.class_names.Given as goal
 
 -- those made so far, and those of what is left

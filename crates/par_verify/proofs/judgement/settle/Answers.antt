@@ -1,7 +1,8 @@
 use Rattle.std.proofs.Common.{sym, ap, ◌∙◌}
 use Rattle.std.proofs.lemmas.Result.{IfOk-weaker}
 use Rattle.par_verify_laws.specs.par_frame_pass_laws.Passes.{are_sized}
-use Rattle.par_frame_passes.specs.Methods.{exc_of, act_in, handler_in, code_in}
+use Rattle.par_frame_passes.specs.par_frame_guesses.Methods.{exc_of, act_in, handler_in}
+use Rattle.par_frame_passes.specs.par_frame_guesses.Methods.{code_in}
 use Rattle.par_frame_passes.specs.Tables.{table_of}
 use Rattle.par_verify.proofs.Judged.{unsized, settled}
 use Rattle.par_verify.proofs.judgement.settle.Goals as goal

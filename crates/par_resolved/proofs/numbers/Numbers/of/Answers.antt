@@ -7,7 +7,7 @@ use Rattle.par_names.specs.par_index.Texts.{texts}
 use Rattle.par_tree.specs.Shown.{source}
 use Rattle.par_names.specs.Declarations.{actors, locks}
 use Rattle.par_resolved.specs.Numbers.{Numbers, firsts_from}
-use Rattle.par_resolved.specs.Gathered.{all_of}
+use Rattle.par_parts.specs.Gathered.{all_of}
 use Rattle.par_resolved.proofs.numbers.Numbers.of.Goals as goal
 
 pub invariant_of-result : goal.invariant_of-result

@@ -4,7 +4,7 @@ use Rattle.par_flow_laws.specs.Lattice.{numbers}
 use Rattle.par_flow_laws.specs.Ways.{MayFlow}
 use Rattle.par_pass_laws.specs.par_except.Joins.{may_join}
 use Rattle.par_pass_laws.specs.par_except.Seen.{may_see}
-use Rattle.par_rounds.specs.Seen.{ways_of}
+use Rattle.par_ways.specs.Seen.{ways_of}
 use Rattle.par_rounds.specs.Took.{HaveSmallLocks}
 use Rattle.par_rounds.proofs.Heads.{read_none}
 use Rattle.par_rounds.proofs.Noted.{read_wide, took_rise, took_fit}

@@ -1,6 +1,6 @@
 use Rattle.std.proofs.Common.{refl, rules}
 use Rattle.std.proofs.lemmas.List.Elements.{All-set}
-use Rattle.par_rounds.specs.Seen.{IsRowWide}
+use Rattle.par_ways.specs.Seen.{IsRowWide}
 use Rattle.par_rounds.proofs.Noted.{took_row, facts_set, facts_past}
 use Rattle.par_rounds.proofs.notes.Notes.write.Goals as goal
 

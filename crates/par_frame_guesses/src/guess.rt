@@ -1,0 +1,215 @@
+//! Frames that a method may have where its code goes back.
+//!
+//! Nothing is promised of them: they are told to the way through the code, which looks at them as
+//! at all frames that are told. So they are found fast: a kind that rises before a piece of code
+//! goes on by itself, and no other place is looked at again.
+
+ghost use Rattle.std.specs.Prelude.{◌≤◌, length};
+ghost use Rattle.par_frame_guesses.specs.Methods.{code_in};
+
+use crate::back::{back_offsets, is_marked};
+use crate::facts::Facts;
+use crate::frames::kept;
+use crate::likes::{join, likes};
+use crate::method::Method;
+use crate::spots::{Spot, spots};
+use par_base::memory::NoMemory;
+use par_frame_steps::{Pile, PlaceFrame, PlaceKind};
+use par_small_kinds::{Before, Classes};
+use std::alloc::Global;
+
+/// How much is looked at for each byte of code, before nothing is guessed.
+const PATIENCE: usize = 4096;
+
+/// Locals that instructions can name.
+const NAMED: usize = 256;
+
+/// A frame that is guessed of an offset.
+#[derive(Drop)]
+pub struct Guess<'f> {
+    pub at: u32,
+    pub frame: PlaceFrame<'f>,
+}
+
+/// The pieces of a method, and what is known before them.
+#[derive(Drop)]
+struct Sketch<'m, 'f> {
+    classes: Classes<'m, 'f>,
+    spots: Vec<Spot>,
+    /// Of each piece the one that goes on for it.
+    likes: Vec<usize>,
+    facts: Facts,
+}
+
+/// How many locals a frame lists: those that instructions name or that are told.
+fn listed(method: &Method, table: &[Option<PlaceFrame>]) -> usize {
+    let mut many = NAMED.min(method.code.max_locals as usize);
+    for frame in table {
+        if let Some(frame) = frame {
+            many = many.max(frame.locals.len());
+        }
+    }
+    many
+}
+
+/// The pieces of a method, none where its code is not whole or they have too many ways.
+fn sketched<'m, 'f>(
+    alloc: Global,
+    method: &Method<'m, 'f>,
+    table: &[Option<PlaceFrame<'f>>],
+) -> Result<Option<Sketch<'m, 'f>>, NoMemory>
+    requires { length (code_in method.now).code ≤ 65535 }
+{
+    let mut classes = Classes::new(alloc, method.exceptions);
+    let Some(mut spots) = spots(alloc, method, table, &mut classes)? else {
+        return Ok(None);
+    };
+    let likes = likes(alloc, &spots)?;
+    join(alloc, &mut spots, &likes)?;
+    let facts = Facts::of_nothing(alloc, &spots, listed(method, table))?;
+    Ok(Some(Sketch {
+        classes,
+        spots,
+        likes,
+        facts,
+    }))
+}
+
+impl<'f> Sketch<'_, 'f> {
+    /// Lets the frames that are told stand, and all go on from them until nothing rises: whether
+    /// that was soon.
+    fn settle(
+        &mut self,
+        alloc: Global,
+        table: &[Option<PlaceFrame<'f>>],
+        patience: usize,
+    ) -> Result<bool, NoMemory> {
+        for (number, spot) in self.spots.as_slice().iter().enumerate() {
+            if let Some(frame) = kept(table, spot.at as usize) {
+                self.facts.tell(alloc, &mut self.classes, number, frame)?;
+            }
+        }
+        let bits = self.classes.bits();
+        self.facts.settle(alloc, &self.spots, bits, patience)
+    }
+
+    /// What is known before a piece, if code comes there.
+    fn before(&self, number: usize) -> Option<&Before> {
+        match self.likes.get(number) {
+            Some(like) => self.facts.before(*like),
+            None => None,
+        }
+    }
+
+    /// The kinds of some places.
+    fn kinds(
+        &self,
+        alloc: Global,
+        before: &Before,
+        from: usize,
+        many: usize,
+    ) -> Result<Vec<PlaceKind<'f>>, NoMemory> {
+        let mut kinds = vec![in alloc; PlaceKind::Top; many]?;
+        for nth in 0..many {
+            let small = before.kind(from.saturating_add(nth));
+            if nth < kinds.len() {
+                kinds[nth] = self.classes.kind(small);
+            }
+        }
+        Ok(kinds)
+    }
+
+    /// The frame of what is known before a piece.
+    fn frame(
+        &self,
+        alloc: Global,
+        before: &Before,
+        many: usize,
+    ) -> Result<PlaceFrame<'f>, NoMemory> {
+        let listed = self.kinds(alloc, before, 0, self.facts.locals)?;
+        let locals = Pile::of(alloc, &listed)?;
+        let operands = self.kinds(alloc, before, self.facts.locals, before.operands())?;
+        let stack = Pile::of(alloc, &operands)?;
+        Ok(PlaceFrame {
+            many,
+            locals,
+            stack,
+        })
+    }
+
+    /// The frames of some offsets, but those that are told. Where the same is known as of the
+    /// frame before it, one shares its kinds.
+    fn frames(
+        &self,
+        alloc: Global,
+        many: usize,
+        wanted: &[bool],
+    ) -> Result<Vec<Guess<'f>>, NoMemory> {
+        let mut frames = Vec::new(alloc);
+        let mut last: Option<&Before> = None;
+        for (number, spot) in self.spots.as_slice().iter().enumerate() {
+            if is_marked(wanted, spot.at as usize) && !spot.is_told {
+                if let Some(before) = self.before(number) {
+                    let frame = match like(&frames, last, before) {
+                        Some(frame) => frame.copied(alloc)?,
+                        None => self.frame(alloc, before, many)?,
+                    };
+                    frames.push(Guess { at: spot.at, frame })?;
+                    last = Some(before);
+                }
+            }
+        }
+        Ok(frames)
+    }
+}
+
+/// The last frame, if it is that of what is known.
+fn like<'g, 'f>(
+    frames: &'g [Guess<'f>],
+    last: Option<&Before>,
+    before: &Before,
+) -> Option<&'g PlaceFrame<'f>> {
+    let Some(last) = last else {
+        return None;
+    };
+    if !last.is_like(before) {
+        return None;
+    }
+    match frames.last() {
+        Some(guess) => Some(&guess.frame),
+        None => None,
+    }
+}
+
+/// Whether an offset of these is marked at which the frame does not stay as it is.
+fn is_guessable(method: &Method, back: &[bool]) -> bool {
+    for (at, mark) in back.iter().enumerate() {
+        if *mark && !method.is_fixed(at) {
+            return true;
+        }
+    }
+    false
+}
+
+/// Frames for the offsets to which code goes back, from those that stand; none where they are not
+/// found soon.
+pub fn guessed<'f>(
+    alloc: Global,
+    method: &Method<'_, 'f>,
+    table: &[Option<PlaceFrame<'f>>],
+) -> Result<Vec<Guess<'f>>, NoMemory>
+    requires { length (code_in method.now).code ≤ 65535 }
+{
+    let back = back_offsets(alloc, method)?;
+    if !is_guessable(method, &back) {
+        return Ok(Vec::new(alloc));
+    }
+    let Some(mut sketch) = sketched(alloc, method, table)? else {
+        return Ok(Vec::new(alloc));
+    };
+    let patience = method.code.code.len().saturating_mul(PATIENCE);
+    if !sketch.settle(alloc, table, patience)? {
+        return Ok(Vec::new(alloc));
+    }
+    sketch.frames(alloc, method.code.max_locals as usize, &back)
+}

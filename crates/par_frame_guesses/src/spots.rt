@@ -1,0 +1,195 @@
+//! The pieces of a method, and where each goes on.
+
+ghost use Rattle.std.specs.Prelude.{◌≤◌, length};
+ghost use Rattle.par_frame_guesses.specs.Methods.{code_in};
+
+use crate::back::is_marked;
+use crate::frames::kept;
+use crate::handler::is_around;
+use crate::method::Method;
+use crate::piece::{Goals, heads, piece_at};
+use par_base::memory::NoMemory;
+use par_class::file::Catch;
+use par_frame_acts::caught;
+use par_frame_steps::PlaceFrame;
+use par_small_kinds::{Classes, Effect, SmallKind};
+use std::alloc::Global;
+
+/// How many ways are kept, before nothing is guessed.
+const MOST_WAYS: usize = 1048576;
+
+/// A way on from a piece.
+#[derive(Clone, Copy)]
+pub(crate) struct Way {
+    /// The number of the piece to which it goes.
+    pub(crate) to: usize,
+    /// What is caught there, where that is a handler.
+    pub(crate) caught: Option<SmallKind>,
+}
+
+/// A piece, and where it goes on.
+#[derive(Drop)]
+pub(crate) struct Spot {
+    pub(crate) at: u32,
+    pub(crate) effect: Effect,
+    /// Those to frames that are told are left out: these do not rise.
+    pub(crate) ways: Vec<Way>,
+    pub(crate) is_told: bool,
+}
+
+/// A handler, and the way to it.
+#[derive(Clone, Copy)]
+struct Handler<'c> {
+    catch: &'c Catch,
+    way: Way,
+}
+
+/// The numbers of the pieces, by their offsets, of those before which no frame is told.
+fn free_numbers(
+    alloc: Global,
+    heads: &[bool],
+    table: &[Option<PlaceFrame>],
+) -> Result<Vec<Option<usize>>, NoMemory> {
+    let mut numbers = Vec::new(alloc);
+    let mut next: usize = 0;
+    for (at, head) in heads.iter().enumerate() {
+        let is_free = *head && kept(table, at).is_none();
+        numbers.push(if is_free { Some(next) } else { None })?;
+        if *head {
+            next = next.saturating_add(1);
+        }
+    }
+    Ok(numbers)
+}
+
+/// The way to an offset, where it does not go to a frame that is told.
+fn way_to(numbers: &[Option<usize>], at: usize, caught: Option<SmallKind>) -> Option<Way> {
+    match numbers.get(at) {
+        Some(Some(to)) => Some(Way { to: *to, caught }),
+        _ => None,
+    }
+}
+
+/// The handlers of a method to which there is a way.
+fn handlers<'m, 'f>(
+    alloc: Global,
+    method: &Method<'m, 'f>,
+    numbers: &[Option<usize>],
+    classes: &mut Classes<'m, 'f>,
+) -> Result<Vec<Handler<'f>>, NoMemory> {
+    let mut handlers = Vec::new(alloc);
+    for catch in method.code.catches.as_slice() {
+        let kind = classes.small(caught(method.linked, method.class, catch))?;
+        if let Some(way) = way_to(numbers, catch.handler as usize, Some(kind)) {
+            handlers.push(Handler { catch, way })?;
+        }
+    }
+    Ok(handlers)
+}
+
+/// The ways to some offsets.
+fn ways_to(alloc: Global, numbers: &[Option<usize>], goals: Goals) -> Result<Vec<Way>, NoMemory> {
+    let mut ways = Vec::new(alloc);
+    for goal in [goals.ahead, goals.aside] {
+        let Some(at) = goal else {
+            continue;
+        };
+        if let Some(way) = way_to(numbers, at, None) {
+            ways.push(way)?;
+        }
+    }
+    Ok(ways)
+}
+
+/// Adds the ways to the handlers that are around an offset.
+fn add_throws(ways: &mut Vec<Way>, handlers: &[Handler], at: u32) -> Result<(), NoMemory> {
+    for handler in handlers {
+        if is_around(at, handler.catch) {
+            ways.push(handler.way)?;
+        }
+    }
+    Ok(())
+}
+
+/// Where pieces begin and end.
+#[derive(Drop)]
+struct Outline<'c> {
+    heads: Vec<bool>,
+    numbers: Vec<Option<usize>>,
+    handlers: Vec<Handler<'c>>,
+}
+
+/// Where the pieces of a method begin and end.
+fn outlined<'m, 'f>(
+    alloc: Global,
+    method: &Method<'m, 'f>,
+    table: &[Option<PlaceFrame<'f>>],
+    classes: &mut Classes<'m, 'f>,
+) -> Result<Outline<'f>, NoMemory>
+    requires { length (code_in method.now).code ≤ 65535 }
+{
+    let heads = heads(alloc, method, table)?;
+    let numbers = free_numbers(alloc, &heads, table)?;
+    let handlers = handlers(alloc, method, &numbers, classes)?;
+    Ok(Outline {
+        heads,
+        numbers,
+        handlers,
+    })
+}
+
+impl Outline<'_> {
+    /// The piece that begins at an offset, if its code is whole.
+    fn spot<'m, 'f>(
+        &self,
+        alloc: Global,
+        method: &Method<'m, 'f>,
+        table: &[Option<PlaceFrame<'f>>],
+        classes: &mut Classes<'m, 'f>,
+        at: usize,
+    ) -> Result<Option<Spot>, NoMemory>
+        requires within { at ≤ length (code_in method.now).code }
+        requires small { length (code_in method.now).code ≤ 65535 }
+    {
+        let Some(piece) = piece_at(alloc, method, &self.heads, classes, at)? else {
+            return Ok(None);
+        };
+        let is_told = kept(table, at).is_some();
+        let at = at as u32;
+        let mut ways = ways_to(alloc, &self.numbers, piece.goals)?;
+        add_throws(&mut ways, &self.handlers, at)?;
+        Ok(Some(Spot {
+            at,
+            effect: piece.effect,
+            ways,
+            is_told,
+        }))
+    }
+}
+
+/// The pieces of a method, by their offsets; none where its code is not whole or has too many ways.
+pub(crate) fn spots<'m, 'f>(
+    alloc: Global,
+    method: &Method<'m, 'f>,
+    table: &[Option<PlaceFrame<'f>>],
+    classes: &mut Classes<'m, 'f>,
+) -> Result<Option<Vec<Spot>>, NoMemory>
+    requires { length (code_in method.now).code ≤ 65535 }
+{
+    let outline = outlined(alloc, method, table, classes)?;
+    let mut spots = Vec::new(alloc);
+    let mut ways: usize = 0;
+    for at in 0..method.code.code.len() {
+        if is_marked(&outline.heads, at) {
+            let Some(spot) = outline.spot(alloc, method, table, classes, at)? else {
+                return Ok(None);
+            };
+            ways = ways.saturating_add(spot.ways.len());
+            if ways > MOST_WAYS {
+                return Ok(None);
+            }
+            spots.push(spot)?;
+        }
+    }
+    Ok(Some(spots))
+}

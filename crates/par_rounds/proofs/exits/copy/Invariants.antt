@@ -1,5 +1,0 @@
-use Rattle.std.proofs.Common.{◌≡◌, take}
-use Rattle.par_rounds.proofs.exits.copy.Given as goal
-
-abbrev pub invariant-loop-exit : goal.invariant-loop-exit
-invariant-loop-exit l = l.copies.items ≡ take l.exit-index l.exits
