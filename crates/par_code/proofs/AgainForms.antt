@@ -119,6 +119,13 @@ unfolding does continues
 continues_lock_set i lock true = refl
 continues_lock_set i lock false = refl
 
+-- what stands behind `else`, or nothing
+pub ruleset continuing_else = (continues_else_none, continues_else)
+
+-- one statement or one catch of a row
+pub ruleset continuing_row = (continues_end, continues_then, continues_no_catch, continues_catch)
+
+-- each kind of statement
 pub ruleset continuing = (
   continues_block,
   continues_if,
@@ -135,12 +142,6 @@ pub ruleset continuing = (
   continues_set_field,
   continues_eval,
   continues_when,
-  continues_else_none,
-  continues_else,
-  continues_end,
-  continues_then,
-  continues_no_catch,
-  continues_catch,
   continues_lock_set,
   doings,
 )

@@ -126,6 +126,13 @@ unfolding does breaks
 breaks_lock_set i lock true = refl
 breaks_lock_set i lock false = refl
 
+-- what stands behind `else`, or nothing
+pub ruleset breaking_else = (breaks_else_none, breaks_else)
+
+-- one statement or one catch of a row
+pub ruleset breaking_row = (breaks_end, breaks_then, breaks_no_catch, breaks_catch)
+
+-- each kind of statement
 pub ruleset breaking = (
   breaks_block,
   breaks_if,
@@ -142,12 +149,6 @@ pub ruleset breaking = (
   breaks_set_field,
   breaks_eval,
   breaks_when,
-  breaks_else_none,
-  breaks_else,
-  breaks_end,
-  breaks_then,
-  breaks_no_catch,
-  breaks_catch,
   breaks_lock_set,
   doings,
 )
@@ -331,6 +332,13 @@ pub true_binary : (op : BinOp) (a b : TExp) (m : Mark)
 unfolding is_true
 true_binary op a b m = refl
 
+-- what stands behind `else`, or nothing
+pub ruleset completing_else = (completes_else_none, completes_else)
+
+-- one statement or one catch of a row
+pub ruleset completing_row = (completes_end, completes_then, completes_no_catch, completes_catch)
+
+-- each kind of statement
 pub ruleset completing = (
   completes_block,
   completes_if,
@@ -347,14 +355,12 @@ pub ruleset completing = (
   completes_set_field,
   completes_eval,
   completes_when,
-  completes_else_none,
-  completes_else,
-  completes_end,
-  completes_then,
-  completes_no_catch,
-  completes_catch,
   completes_lock_set,
   doings,
+)
+
+-- each kind of expression
+pub ruleset truths = (
   shows,
   true_int,
   true_boolean,

@@ -32,7 +32,7 @@ pub fn continues(stmt: &PStmt) -> bool
 }
 
 #[cycle(continues)]
-#[tactic(auto, using(crate::proofs::AgainForms::continuing))]
+#[tactic(auto, using(crate::proofs::AgainForms::continuing_else))]
 fn else_continues(other: &Option<Box<PStmt>>) -> bool
     ensures { (i : ℕ → ℕ) → result ≡ flow.else_continues (otherwise i other.now) }
 {
@@ -43,7 +43,7 @@ fn else_continues(other: &Option<Box<PStmt>>) -> bool
 }
 
 #[cycle(continues)]
-#[tactic(auto, using(crate::proofs::AgainForms::continuing))]
+#[tactic(auto, using(crate::proofs::AgainForms::continuing_row))]
 fn some_continue(stmts: &[PStmt]) -> bool
     ensures { (i : ℕ → ℕ) → result ≡ flow.some_continue (all_do i stmts.now) }
 {
@@ -56,7 +56,7 @@ fn some_continue(stmts: &[PStmt]) -> bool
 }
 
 #[cycle(continues)]
-#[tactic(auto, using(crate::proofs::AgainForms::continuing))]
+#[tactic(auto, using(crate::proofs::AgainForms::continuing_row))]
 fn some_catch_continues(catches: &[PCatch]) -> bool
     ensures { (i : ℕ → ℕ) → result ≡ flow.some_catch_continues (all_catch i catches.now) }
 {

@@ -7,7 +7,7 @@ ghost use Rattle.par_erase.specs.Shown.{shown, does, otherwise, all_do, all_catc
 use par_erase::{PCatch, PExpr, PExprKind, PStmt};
 
 /// Whether an expression is the literal `true`.
-#[tactic(auto, using(crate::proofs::WayForms::completing))]
+#[tactic(auto, using(crate::proofs::WayForms::truths))]
 pub fn is_true(expr: &PExpr) -> bool
     ensures { (i : ℕ → ℕ) → result ≡ flow.is_true (shown i expr.now) }
 {
@@ -54,7 +54,7 @@ pub fn breaks(stmt: &PStmt) -> bool
 }
 
 #[cycle(breaks)]
-#[tactic(auto, using(crate::proofs::WayForms::breaking))]
+#[tactic(auto, using(crate::proofs::WayForms::breaking_else))]
 fn else_breaks(other: &Option<Box<PStmt>>) -> bool
     ensures { (i : ℕ → ℕ) → result ≡ flow.else_breaks (otherwise i other.now) }
 {
@@ -65,7 +65,7 @@ fn else_breaks(other: &Option<Box<PStmt>>) -> bool
 }
 
 #[cycle(breaks)]
-#[tactic(auto, using(crate::proofs::WayForms::breaking))]
+#[tactic(auto, using(crate::proofs::WayForms::breaking_row))]
 fn some_break(stmts: &[PStmt]) -> bool
     ensures { (i : ℕ → ℕ) → result ≡ flow.some_break (all_do i stmts.now) }
 {
@@ -78,7 +78,7 @@ fn some_break(stmts: &[PStmt]) -> bool
 }
 
 #[cycle(breaks)]
-#[tactic(auto, using(crate::proofs::WayForms::breaking))]
+#[tactic(auto, using(crate::proofs::WayForms::breaking_row))]
 fn some_catch_breaks(catches: &[PCatch]) -> bool
     ensures { (i : ℕ → ℕ) → result ≡ flow.some_catch_breaks (all_catch i catches.now) }
 {
@@ -112,7 +112,7 @@ pub fn completes(stmt: &PStmt) -> bool
 }
 
 #[cycle(completes)]
-#[tactic(auto, using(crate::proofs::WayForms::completing))]
+#[tactic(auto, using(crate::proofs::WayForms::completing_else))]
 fn else_completes(other: &Option<Box<PStmt>>) -> bool
     ensures { (i : ℕ → ℕ) → result ≡ flow.else_completes (otherwise i other.now) }
 {
@@ -123,7 +123,7 @@ fn else_completes(other: &Option<Box<PStmt>>) -> bool
 }
 
 #[cycle(completes)]
-#[tactic(auto, using(crate::proofs::WayForms::completing))]
+#[tactic(auto, using(crate::proofs::WayForms::completing_row))]
 fn last_completes(stmts: &[PStmt]) -> bool
     ensures { (i : ℕ → ℕ) → result ≡ flow.last_completes true (all_do i stmts.now) }
 {
@@ -135,7 +135,7 @@ fn last_completes(stmts: &[PStmt]) -> bool
 }
 
 #[cycle(completes)]
-#[tactic(auto, using(crate::proofs::WayForms::completing))]
+#[tactic(auto, using(crate::proofs::WayForms::completing_row))]
 fn some_catch_completes(catches: &[PCatch]) -> bool
     ensures { (i : ℕ → ℕ) → result ≡ flow.some_catch_completes (all_catch i catches.now) }
 {

@@ -8,7 +8,7 @@ use Rattle.par_tree.specs.Plain.{Close}
 use Rattle.par_tree.specs.Plain.{Declare, Assign, Do, When, Braces, In, MayBraces, NoBraces, Some}
 use Rattle.par_tree.specs.Plain.{Else, NoElse, Otherwise, Stas, End, Then, Catches, NoCatch, Catch}
 use Rattle.par_tree.specs.Plain.{Handler, On}
-use Rattle.par_tree.proofs.Shown.{doings, shows}
+use Rattle.par_tree.proofs.Shown.{braces_is, handler_is, doings}
 use Rattle.par_completes.specs.Completes.{is_true, breaks, braces_break, may_braces_break}
 use Rattle.par_completes.specs.Completes.{else_breaks, some_break}
 use Rattle.par_completes.specs.Completes.{some_catch_breaks, handler_breaks}
@@ -160,6 +160,27 @@ pub handler_breaks_on : (class : Ident) (name : Ident) (b : Braces) →
 unfolding breaks
 handler_breaks_on class name b = refl
 
+-- the parts of a statement
+pub ruleset breaking_part = (
+  braces_break_in,
+  may_braces_break_nobraces,
+  may_braces_break_some,
+  else_breaks_noelse,
+  else_breaks_otherwise,
+  handler_breaks_on,
+  braces_is,
+  handler_is,
+)
+
+-- one statement or one catch of a row
+pub ruleset breaking_row = (
+  some_break_end,
+  some_break_then,
+  some_catch_breaks_nocatch,
+  some_catch_breaks_catch,
+)
+
+-- each kind of statement
 pub ruleset breaking = (
   breaks_block,
   breaks_if,
@@ -175,18 +196,7 @@ pub ruleset breaking = (
   breaks_assign,
   breaks_do,
   breaks_when,
-  braces_break_in,
-  may_braces_break_nobraces,
-  may_braces_break_some,
-  else_breaks_noelse,
-  else_breaks_otherwise,
-  some_break_end,
-  some_break_then,
-  some_catch_breaks_nocatch,
-  some_catch_breaks_catch,
-  handler_breaks_on,
   doings,
-  shows,
 )
 
 pub completes_block : (b : Braces) (at : ℕ) →
@@ -333,6 +343,27 @@ pub handler_completes_on : (class : Ident) (name : Ident) (b : Braces) →
 unfolding completes
 handler_completes_on class name b = refl
 
+-- the parts of a statement
+pub ruleset completing_part = (
+  braces_complete_in,
+  may_braces_complete_nobraces,
+  may_braces_complete_some,
+  else_completes_noelse,
+  else_completes_otherwise,
+  handler_completes_on,
+  braces_is,
+  handler_is,
+)
+
+-- one statement or one catch of a row
+pub ruleset completing_row = (
+  last_completes_end,
+  last_completes_then,
+  some_catch_completes_nocatch,
+  some_catch_completes_catch,
+)
+
+-- each kind of statement
 pub ruleset completing = (
   completes_block,
   completes_if,
@@ -348,16 +379,5 @@ pub ruleset completing = (
   completes_assign,
   completes_do,
   completes_when,
-  braces_complete_in,
-  may_braces_complete_nobraces,
-  may_braces_complete_some,
-  else_completes_noelse,
-  else_completes_otherwise,
-  last_completes_end,
-  last_completes_then,
-  some_catch_completes_nocatch,
-  some_catch_completes_catch,
-  handler_completes_on,
   doings,
-  shows,
 )

@@ -32,7 +32,7 @@ pub fn breaks(stmt: &Stmt) -> bool
 }
 
 #[cycle(breaks)]
-#[tactic(auto, using(crate::proofs::Forms::breaking))]
+#[tactic(auto, using(crate::proofs::Forms::breaking_part))]
 fn else_breaks(other: &Option<Box<Stmt>>) -> bool
     ensures { result ≡ tree.else_breaks (otherwise other.now) }
 {
@@ -43,7 +43,7 @@ fn else_breaks(other: &Option<Box<Stmt>>) -> bool
 }
 
 #[cycle(breaks)]
-#[tactic(auto, using(crate::proofs::Forms::breaking))]
+#[tactic(auto, using(crate::proofs::Forms::breaking_part))]
 fn may_block_breaks(other: &Option<Block>) -> bool
     ensures { result ≡ tree.may_braces_break (may_braces other.now) }
 {
@@ -54,7 +54,7 @@ fn may_block_breaks(other: &Option<Block>) -> bool
 }
 
 #[cycle(breaks)]
-#[tactic(auto, using(crate::proofs::Forms::breaking))]
+#[tactic(auto, using(crate::proofs::Forms::breaking_part))]
 pub(crate) fn block_breaks(block: &Block) -> bool
     ensures { result ≡ tree.braces_break (braces block.now) }
 {
@@ -62,7 +62,7 @@ pub(crate) fn block_breaks(block: &Block) -> bool
 }
 
 #[cycle(breaks)]
-#[tactic(auto, using(crate::proofs::Forms::breaking))]
+#[tactic(auto, using(crate::proofs::Forms::breaking_row))]
 fn some_break(stmts: &[Stmt]) -> bool
     ensures { result ≡ tree.some_break (all_do stmts.now) }
 {
@@ -75,7 +75,7 @@ fn some_break(stmts: &[Stmt]) -> bool
 }
 
 #[cycle(breaks)]
-#[tactic(auto, using(crate::proofs::Forms::breaking))]
+#[tactic(auto, using(crate::proofs::Forms::breaking_row))]
 fn some_catch_breaks(catches: &[CatchTree]) -> bool
     ensures { result ≡ tree.some_catch_breaks (all_catch catches.now) }
 {
@@ -88,7 +88,7 @@ fn some_catch_breaks(catches: &[CatchTree]) -> bool
 }
 
 #[cycle(breaks)]
-#[tactic(auto, using(crate::proofs::Forms::breaking))]
+#[tactic(auto, using(crate::proofs::Forms::breaking_part))]
 fn catch_breaks(catch: &CatchTree) -> bool
     ensures { result ≡ tree.handler_breaks (handler catch.now) }
 {

@@ -53,7 +53,7 @@ pub fn completes(stmt: &Stmt) -> bool
 }
 
 #[cycle(completes)]
-#[tactic(auto, using(crate::proofs::Forms::completing))]
+#[tactic(auto, using(crate::proofs::Forms::completing_part))]
 fn else_completes(other: &Option<Box<Stmt>>) -> bool
     ensures { result ≡ tree.else_completes (otherwise other.now) }
 {
@@ -64,7 +64,7 @@ fn else_completes(other: &Option<Box<Stmt>>) -> bool
 }
 
 #[cycle(completes)]
-#[tactic(auto, using(crate::proofs::Forms::completing))]
+#[tactic(auto, using(crate::proofs::Forms::completing_part))]
 fn may_block_completes(other: &Option<Block>) -> bool
     ensures { result ≡ tree.may_braces_complete (may_braces other.now) }
 {
@@ -76,7 +76,7 @@ fn may_block_completes(other: &Option<Block>) -> bool
 
 /// Whether the block is empty or its last statement can complete normally.
 #[cycle(completes)]
-#[tactic(auto, using(crate::proofs::Forms::completing))]
+#[tactic(auto, using(crate::proofs::Forms::completing_part))]
 pub fn block_completes(block: &Block) -> bool
     ensures { result ≡ tree.braces_complete (braces block.now) }
 {
@@ -84,7 +84,7 @@ pub fn block_completes(block: &Block) -> bool
 }
 
 #[cycle(completes)]
-#[tactic(auto, using(crate::proofs::Forms::completing))]
+#[tactic(auto, using(crate::proofs::Forms::completing_row))]
 fn last_completes(stmts: &[Stmt]) -> bool
     ensures { result ≡ tree.last_completes true (all_do stmts.now) }
 {
@@ -96,7 +96,7 @@ fn last_completes(stmts: &[Stmt]) -> bool
 }
 
 #[cycle(completes)]
-#[tactic(auto, using(crate::proofs::Forms::completing))]
+#[tactic(auto, using(crate::proofs::Forms::completing_row))]
 fn some_catch_completes(catches: &[CatchTree]) -> bool
     ensures { result ≡ tree.some_catch_completes (all_catch catches.now) }
 {
@@ -109,7 +109,7 @@ fn some_catch_completes(catches: &[CatchTree]) -> bool
 }
 
 #[cycle(completes)]
-#[tactic(auto, using(crate::proofs::Forms::completing))]
+#[tactic(auto, using(crate::proofs::Forms::completing_part))]
 fn catch_completes(catch: &CatchTree) -> bool
     ensures { result ≡ tree.handler_completes (handler catch.now) }
 {

@@ -4,7 +4,7 @@ ghost use Rattle.std.specs.Prelude.{◌≡◌, ◌++◌, map, IfOk, OnOk};
 ghost use Rattle.par_tree.specs.Shown.{source, class_of, declared as shown};
 ghost use Rattle.par_names.specs.Declarations.{actors_in, locks_in, policies_in, classes_in};
 ghost use Rattle.par_names.specs.Declarations as declared;
-ghost use Rattle.par_names.specs.Seen.{classes_seen, ShowsProgram};
+ghost use Rattle.par_names.specs.Seen.{classes_seen, locks_seen, ShowsProgram};
 ghost use Rattle.par_index.specs.Texts.{texts};
 
 use crate::lookup::{ClassNames, Classes, Locks};
@@ -50,7 +50,7 @@ impl<'a> Declared<'a> {
             ShowsProgram (map class_of builtins.now) (source program.now) shown) }
     {
         let actors = actor_index(alloc, program)?;
-        let locks = Locks::of(alloc, locks(alloc, program)?)?;
+        let locks = lock_index(alloc, program)?;
         let policies = policy_index(alloc, program)?;
         let classes = class_index(alloc, builtins, program)?;
         Ok(Declared {
@@ -68,6 +68,13 @@ fn actor_index<'a>(alloc: Global, program: &'a Program) -> Result<NameIndex<'a>,
 {
     let ids = actors(alloc, program)?;
     index(alloc, ids.as_slice())
+}
+
+fn lock_index<'a>(alloc: Global, program: &'a Program) -> Result<Locks<'a>, NoMemory>
+    ensures { IfOk result (λ index. locks_seen index ≡ declared.locks (source program.now)) }
+{
+    let decls = locks(alloc, program)?;
+    Locks::of(alloc, decls)
 }
 
 #[tactic(auto, using(crate::proofs::Lookups::mapped))]

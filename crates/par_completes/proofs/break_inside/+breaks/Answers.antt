@@ -1,5 +1,5 @@
 use Rattle.std.proofs.Common.{arith}
-use Rattle.par_completes.proofs.Forms.{breaking}
+use Rattle.par_completes.proofs.Forms.{breaking_row}
 use Rattle.par_completes.proofs.Left.{does_more, does_end, catch_more, catch_end}
 use Rattle.par_completes.proofs.break_inside.+breaks.Goals as goal
 
@@ -8,35 +8,35 @@ some_break-returns-then-breaks t c =
     let more =
     does_more c.args.stmts.now c.loop-stmt.stmt-index c.stmt-item.result c.loop-stmt-test.true
     c.stmt-item.is in
-    grind (arith, breaking)
+    grind (arith, breaking_row)
 
 pub some_break-loop-stmt-preserved : goal.some_break-loop-stmt-preserved
 some_break-loop-stmt-preserved t c =
     let more =
     does_more c.args.stmts.now c.loop-stmt.stmt-index c.stmt-item.result c.loop-stmt-test.true
     c.stmt-item.is in
-    grind (arith, breaking)
+    grind (arith, breaking_row)
 
 pub some_break-returns : goal.some_break-returns
 some_break-returns t c =
     let none = does_end c.args.stmts.now c.loop-stmt.stmt-index c.loop-stmt-test.false in
-    grind (arith, breaking)
+    grind (arith, breaking_row)
 
 pub some_catch_breaks-returns-then-catch_breaks : goal.some_catch_breaks-returns-then-catch_breaks
 some_catch_breaks-returns-then-catch_breaks t c =
     let more =
     catch_more c.args.catches.now c.loop-catch.catch-index c.catch-item.result
     c.loop-catch-test.true c.catch-item.is in
-    grind (arith, breaking)
+    grind (arith, breaking_row)
 
 pub some_catch_breaks-loop-catch-preserved : goal.some_catch_breaks-loop-catch-preserved
 some_catch_breaks-loop-catch-preserved t c =
     let more =
     catch_more c.args.catches.now c.loop-catch.catch-index c.catch-item.result
     c.loop-catch-test.true c.catch-item.is in
-    grind (arith, breaking)
+    grind (arith, breaking_row)
 
 pub some_catch_breaks-returns : goal.some_catch_breaks-returns
 some_catch_breaks-returns t c =
     let none = catch_end c.args.catches.now c.loop-catch.catch-index c.loop-catch-test.false in
-    grind (arith, breaking)
+    grind (arith, breaking_row)
