@@ -160,21 +160,82 @@ def methods_of_branches(part):
     return of_code(code, 30002, 0, int(15 * part)), VERIFY
 
 
+def among_classes(names, code, room, places, many):
+    """A class with so many methods of that code, whose constants 9, 11 and so on are classes of
+    these names, and a small class of each name."""
+    entries = []
+    for name in names:
+        entries += [long_class.utf8(name), b"\x07" + struct.pack(">H", 8 + len(entries))]
+    files, small = of_code(code, room, places, many, entries), file_of([], [main(b"\xb1", 0, 0)])
+    own = long_class.utf8("Long")
+    files.update((name, small.replace(own, long_class.utf8(name), 1)) for name in names)
+    return files, VERIFY
+
+
+def made_of(many):
+    """Code that makes an object of each of so many classes, a local each."""
+    return b"".join(struct.pack(">BHBB", 0xBB, 9 + 2 * n, 0x3A, n) for n in range(many))
+
+
 def methods_of_kinds(part):
     """Methods of branches under operands, of which each 256 have nine kinds: seven classes, int and
     null; as many as fit."""
     names = [f"C{n:03}" for n in range(7)]
-    entries = []
-    for name in names:
-        entries += [long_class.utf8(name), b"\x07" + struct.pack(">H", 8 + len(entries))]
-    made = b"".join(struct.pack(">BHBB", 0xBB, 9 + 2 * n, 0x3A, n) for n in range(7))
     seldom = bytes([0x19, 4, 0x19, 5, 0x19, 6])
     often = bytes([0x2A, 0x2B, 0x2C, 0x2D, 0x01, 0x03]) * 43
-    code = under_operands(made + (seldom + often[:253]) * 116, 5800)
-    files = of_code(code, 116 * 256 + 2, 7, int(15 * part), entries)
-    small = file_of([], [main(b"\xb1", 0, 0)])
-    files.update((name, small.replace(b"Long", name.encode())) for name in names)
-    return files, VERIFY
+    code = under_operands(made_of(7) + (seldom + often[:253]) * 116, 5800)
+    return among_classes(names, code, 116 * 256 + 2, 7, int(15 * part))
+
+
+def whole_pieces(pieces):
+    """Code that pushes so many times 256 operands, of 129 kinds each: 127 classes, int and null."""
+    seldom = b"".join(bytes([0x19, n]) for n in range(4, 127))
+    often = bytes([0x2A, 0x2B, 0x2C, 0x2D, 0x01, 0x03]) * 23
+    return made_of(127) + (seldom + often[:133]) * pieces
+
+
+def methods_of_classes(part, length):
+    """Methods of branches, each to what is behind it, under operands of which each 256 have as many
+    kinds as can be, classes named by so many bytes; as many as fit."""
+    names = [f"C{n:03}".ljust(length, "x") for n in range(127)]
+    code = whole_pieces(84) + b"\x03\x99\0\x03" * 8000 + b"\xb1"
+    return among_classes(names, code, 84 * 256 + 2, 127, int(15 * part))
+
+
+def short_classes(part):
+    return methods_of_classes(part, 4)
+
+
+def long_classes(part):
+    return methods_of_classes(part, 64)
+
+
+def pushed_and_taken(part):
+    """Methods that push and take an operand by turns on 256 others, of as many kinds as can be, of
+    classes with long names; as many as fit."""
+    names = [f"C{n:03}".ljust(64, "x") for n in range(127)]
+    code = whole_pieces(1) + b"\x03\x57" * 32200 + b"\xb1"
+    return among_classes(names, code, 258, 127, int(15 * part))
+
+
+def ways_that_meet(part):
+    """A method in which two ways push as many operands, kinds of which none fits into that of the
+    other, and then branch to the same offsets."""
+    operands, goals = int(16000 * part), int(3600 * part)
+    one, other = b"\x01\x2a" * (operands // 2), b"\x2a\x01" * (operands // 2)
+    head = made_of(1)
+    second = len(head) + 4 + len(one) + 3
+    first = second + len(other) + 4 * goals + 1
+    ends = first + 4 * goals + 1
+
+    def branches(at):
+        all_ = (b"\x03\x99" + struct.pack(">h", ends + n - (at + 4 * n + 1)) for n in range(goals))
+        return b"".join(all_) + b"\xb1"
+
+    code = head + b"\x03\x99" + struct.pack(">h", second - len(head) - 1) + one
+    code += b"\xa7" + struct.pack(">h", first - len(code)) + other
+    code += branches(len(code)) + branches(first) + b"\xb1" * goals
+    return among_classes(["C000"], code, operands + 2, 1, 1)
 
 
 def of_frames(locals_, code, frames, later, methods):
@@ -272,6 +333,10 @@ FILES = {
     "5,900 branches under 30,000 operands, verified": branches_under_operands,
     "15 methods of 5,900 branches under 30,000 operands, verified": methods_of_branches,
     "the same, under 29,696 operands, nine kinds in each 256, verified": methods_of_kinds,
+    "8,000 branches under 21,504 operands, 129 kinds in each 256, verified": short_classes,
+    "the same, classes named by 64 bytes, verified": long_classes,
+    "483,000 operands pushed on 256 of 129 kinds and taken, verified": pushed_and_taken,
+    "two ways that meet at 3,600 offsets under 16,000 operands, verified": ways_that_meet,
     "30,000 frames of 30,000 locals that are told, verified": frames_told,
     "4 methods of 65,533 frames of 65,471 locals that are told, verified": all_frames_told,
     "65,535 handlers around all code, verified": handlers_around,

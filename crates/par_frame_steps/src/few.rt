@@ -1,112 +1,138 @@
 //! Lists of kinds of which few are different.
 
-ghost use Rattle.std.specs.Prelude.{◌≡◌, ◌==◌, ◌<◌, [], ◌∷◌, ◌++◌, length, IsTrue, IfOk};
-ghost use Rattle.std.specs.Prelude.{IfSome};
-ghost use Rattle.par_frame_pass_laws.specs.Passes.{all_into, merge_all};
-ghost use Rattle.par_kinds.specs.Kinds.{kind_at};
-ghost use Rattle.par_frame_steps.specs.Marks.{names, kind_of, kinds_of};
+ghost use Rattle.std.specs.Prelude.{◌≡◌, length, IsTrue, IfOk, IfSome};
+ghost use Rattle.par_frame_pass_laws.specs.Passes.{all_into};
+ghost use Rattle.par_frame_steps.specs.Marks.{names, kinds_of};
+ghost use Rattle.par_frame_steps.specs.Numbered.{numbered, AreBelow};
 
-use crate::frame::{all_into, copied, merged};
+use crate::different::Different;
 use crate::kind::PlaceKind;
+use crate::lookup::Lookup;
 use par_base::memory::NoMemory;
 use std::alloc::Global;
 use std::marker::Model;
+use std::rc::Rc;
 
-/// How many kinds may be different.
-const MOST_DIFFERENT: u8 = 8;
+/// The places of kinds among different ones, if each is found there. Good guesses make it quick.
+fn numbers_of(
+    alloc: Global,
+    found: &Lookup,
+    guesses: &[u8],
+    kinds: &[PlaceKind],
+) -> Result<Option<Vec<u8>>, NoMemory>
+    ensures same { IfOk result (λ all. IfSome all (λ numbers.
+        numbered found.now numbers.items ≡ kinds_of kinds.now)) }
+    ensures below { IfOk result (λ all. IfSome all (λ numbers.
+        AreBelow (length found.now) numbers.items)) }
+{
+    let mut numbers = Vec::with_capacity(alloc, kinds.len())?;
+    for (place, kind) in kinds.iter().enumerate() {
+        let Some(number) = found.number_of(*kind, guesses.get(place).copied()) else {
+            return Ok(None);
+        };
+        numbers.push(number)?;
+    }
+    Ok(Some(numbers))
+}
+
+/// The different ones of kinds, behind those that were found before, if they are not too many.
+fn found_in<'f>(
+    before: Lookup<'f>,
+    kinds: &[PlaceKind<'f>],
+) -> Result<Option<Lookup<'f>>, NoMemory> {
+    let mut found = before;
+    for kind in kinds {
+        if found.number_of(*kind, None).is_none() && !found.push(*kind)? {
+            return Ok(None);
+        }
+    }
+    Ok(Some(found))
+}
 
 /// Kinds, each told by its place among the different ones, so that lists are compared a byte a
-/// kind. Contracts see which kinds they are.
+/// kind. Other lists may share the different ones. Contracts see which kinds they are.
 #[derive(Drop)]
 pub(crate) struct FewKinds<'f> {
-    different: Vec<PlaceKind<'f>>,
-    numbers: Vec<u8>,
+    different: Rc<Different<'f>>,
+    numbers: Rc<Vec<u8>>,
 }
 
 impl<'f> Model for FewKinds<'f> {
     ghost use Rattle.std.specs.Prelude.{List, length};
     ghost use Rattle.par_kinds.specs.declared.frame.VKind.{VKind};
-    ghost use Rattle.par_frame_steps.specs.Marks.{kinds_of};
     ghost use Rattle.par_frame_steps.specs.Numbered.{numbered, AreBelow};
 
     ghost Value = { List VKind };
 
-    ghost view = { λ f. numbered (kinds_of f.different.items) f.numbers.items };
+    ghost view = { λ f. numbered f.different.value f.numbers.value.items };
 
-    ghost invariant = { λ f. AreBelow (length f.different.items) f.numbers.items };
-}
-
-/// The place of a kind among different ones, if it is one of the first of them.
-fn number_of(different: &[PlaceKind], kind: PlaceKind) -> Option<u8>
-    ensures { IfSome result (λ number. (number < length different.now)
-        × (kind_of kind.entry ≡ kind_at (kinds_of different.now) number)) }
-{
-    for number in 0..MOST_DIFFERENT {
-        let Some(other) = different.get(number as usize) else {
-            return None;
-        };
-        if kind.is_same(*other) {
-            return Some(number);
-        }
-    }
-    None
+    ghost invariant = { λ f. AreBelow (length f.different.value) f.numbers.value.items };
 }
 
 impl<'f> FewKinds<'f> {
-    /// No kinds.
-    pub(crate) fn new(alloc: Global) -> FewKinds<'f>
-        ensures { result ≡ [] }
+    /// These kinds, where each is one of the different ones of a list before.
+    fn shared(
+        alloc: Global,
+        before: &FewKinds<'f>,
+        kinds: &[PlaceKind<'f>],
+    ) -> Result<Option<FewKinds<'f>>, NoMemory>
+        ensures { IfOk result (λ all. IfSome all (λ few. few ≡ kinds_of kinds.entry.now)) }
     {
-        FewKinds {
-            different: Vec::new(alloc),
-            numbers: Vec::new(alloc),
-        }
-    }
-
-    /// Whether there are none.
-    pub(crate) fn is_empty(&self) -> bool
-        ensures { result ≡ (length self.now == 0) }
-    {
-        self.numbers.is_empty()
-    }
-
-    /// Puts a kind behind them, or tells that too many would be different.
-    fn push(&mut self, kind: PlaceKind<'f>) -> Result<bool, NoMemory>
-        ensures { IfOk result (λ done. IsTrue done
-            → self.new ≡ self.old ++ kind_of kind.entry ∷ []) }
-    {
-        let Some(number) = number_of(&self.different, kind) else {
-            return self.push_new(kind);
+        let found = before.different.found();
+        let Some(numbers) = numbers_of(alloc, found, &before.numbers, kinds)? else {
+            return Ok(None);
         };
-        self.numbers.push(number)?;
-        Ok(true)
+        Ok(Some(FewKinds {
+            different: before.different.clone()?,
+            numbers: Rc::new(alloc, numbers)?,
+        }))
     }
 
-    /// Puts a kind behind them that is different from all, or tells that these are too many.
-    fn push_new(&mut self, kind: PlaceKind<'f>) -> Result<bool, NoMemory>
-        ensures { IfOk result (λ done. IsTrue done
-            → self.new ≡ self.old ++ kind_of kind.entry ∷ []) }
+    /// These kinds, where no more are different than are told. Those are looked for behind others.
+    fn behind(
+        alloc: Global,
+        before: Lookup<'f>,
+        kinds: &[PlaceKind<'f>],
+    ) -> Result<Option<FewKinds<'f>>, NoMemory>
+        ensures { IfOk result (λ all. IfSome all (λ few. few ≡ kinds_of kinds.entry.now)) }
     {
-        let number = self.different.len();
-        if number >= MOST_DIFFERENT as usize {
-            return Ok(false);
-        }
-        self.different.push(kind)?;
-        self.numbers.push(number as u8)?;
-        Ok(true)
+        let Some(found) = found_in(before, kinds)? else {
+            return Ok(None);
+        };
+        let Some(numbers) = numbers_of(alloc, &found, &[], kinds)? else {
+            return Ok(None);
+        };
+        let different = Rc::new(alloc, Different::of(alloc, found)?)?;
+        let numbers = Rc::new(alloc, numbers)?;
+        Ok(Some(FewKinds { different, numbers }))
     }
 
-    /// These kinds, or none of them where too many are different.
-    pub(crate) fn of(alloc: Global, kinds: &[PlaceKind<'f>]) -> Result<FewKinds<'f>, NoMemory>
-        ensures { IfOk result (λ few. 0 < length few → few ≡ kinds_of kinds.entry.now) }
+    /// These kinds, where not too many are different. A list that has the same different ones, or
+    /// most of them, makes it quick.
+    pub(crate) fn of(
+        alloc: Global,
+        like: Option<&FewKinds<'f>>,
+        kinds: &[PlaceKind<'f>],
+    ) -> Result<Option<FewKinds<'f>>, NoMemory>
+        ensures { IfOk result (λ all. IfSome all (λ few. few ≡ kinds_of kinds.entry.now)) }
     {
-        let mut few = FewKinds::new(alloc);
-        for kind in kinds {
-            if !few.push(*kind)? {
-                return Ok(FewKinds::new(alloc));
-            }
+        let Some(before) = like else {
+            return FewKinds::behind(alloc, Lookup::new(alloc), kinds);
+        };
+        if let Some(few) = FewKinds::shared(alloc, before, kinds)? {
+            return Ok(Some(few));
         }
-        Ok(few)
+        FewKinds::behind(alloc, before.different.found().copied(alloc)?, kinds)
+    }
+
+    /// The kinds once more.
+    pub(crate) fn share(&self) -> Result<FewKinds<'f>, NoMemory>
+        ensures { IfOk result (λ few. few ≡ self.now) }
+    {
+        Ok(FewKinds {
+            different: self.different.clone()?,
+            numbers: self.numbers.clone()?,
+        })
     }
 
     /// Whether they differ where others differ, and fit into these.
@@ -115,27 +141,6 @@ impl<'f> FewKinds<'f> {
             → IsTrue (all_into (names exceptions.now) self.now other.now) }
     {
         self.numbers.as_slice() == other.numbers.as_slice()
-            && all_into(exceptions, &self.different, &other.different)
-    }
-
-    /// The least kinds into which both fit, or none where they do not differ at the same places.
-    pub(crate) fn merged(
-        &self,
-        alloc: Global,
-        exceptions: &[&[u8]],
-        other: &FewKinds<'f>,
-    ) -> Result<FewKinds<'f>, NoMemory>
-        ensures { IfOk result (λ few. 0 < length few
-            → few ≡ merge_all (names exceptions.now) self.now other.now) }
-    {
-        if self.numbers.as_slice() != other.numbers.as_slice() {
-            return Ok(FewKinds::new(alloc));
-        }
-        let mut numbers = Vec::new(alloc);
-        numbers.extend_from_slice(&self.numbers)?;
-        Ok(FewKinds {
-            different: merged(alloc, exceptions, &self.different, &other.different)?,
-            numbers,
-        })
+            && self.different.fits_into(exceptions, &other.different)
     }
 }

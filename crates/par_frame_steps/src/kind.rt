@@ -109,12 +109,26 @@ impl<'f> PlaceKind<'f> {
         }
     }
 
-    /// Whether it is another one, where both fit into one another of whichever exceptions.
+    /// Whether it is another one: that of the same class, or both fit into one another of whichever
+    /// exceptions.
     #[tactic(auto, using(crate::proofs::Into::into_both))]
     pub(crate) fn is_same(self, other: PlaceKind) -> bool
         ensures { IsTrue result → kind_of self.entry ≡ kind_of other.entry }
     {
-        self.fits_into(&[], other) && other.fits_into(&[], self)
+        match other {
+            PlaceKind::Object(name) => self.is_object(name),
+            _ => self.fits_into(&[], other) && other.fits_into(&[], self),
+        }
+    }
+
+    /// Whether it is that of the objects of the class of this name, and not of null alone.
+    fn is_object(self, name: &[u8]) -> bool
+        ensures { IsTrue result → kind_of self.entry ≡ kind.Object name.now }
+    {
+        match self {
+            PlaceKind::Object(own) => own == name,
+            _ => false,
+        }
     }
 
     /// Whether it is null alone.

@@ -8,13 +8,16 @@
 pub mod act;
 mod changes;
 mod demands;
+mod different;
 mod few;
 pub mod frame;
 pub mod kind;
+mod lookup;
 mod outcome;
 mod piece;
 mod pieces;
 pub mod pile;
+mod spelling;
 
 pub use act::{Act, Also, Asked, Flow, Leaves};
 pub use frame::PlaceFrame;

@@ -17,11 +17,11 @@ use std::rc::Rc;
 #[derive(Drop)]
 struct Kept<'f> {
     kinds: Vec<PlaceKind<'f>>,
-    few: FewKinds<'f>,
+    few: Option<FewKinds<'f>>,
 }
 
 impl<'f> Model for Kept<'f> {
-    ghost use Rattle.std.specs.Prelude.{◌≡◌, ◌<◌, List, length};
+    ghost use Rattle.std.specs.Prelude.{◌≡◌, List, IfSome};
     ghost use Rattle.par_frame_steps.specs.declared.kind.PlaceKind.{PlaceKind};
     ghost use Rattle.par_frame_steps.specs.Marks.{kinds_of};
 
@@ -29,15 +29,19 @@ impl<'f> Model for Kept<'f> {
 
     ghost view = { λ k. k.kinds.items };
 
-    ghost invariant = { λ k. 0 < length k.few → k.few ≡ kinds_of k.kinds.items };
+    ghost invariant = { λ k. IfSome k.few (λ few. few ≡ kinds_of k.kinds.items) };
 }
 
 impl<'f> Kept<'f> {
-    /// These kinds.
-    fn of(alloc: Global, kinds: Vec<PlaceKind<'f>>) -> Result<Kept<'f>, NoMemory>
+    /// These kinds, which may have the different ones of others.
+    fn of(
+        alloc: Global,
+        like: Option<&FewKinds<'f>>,
+        kinds: Vec<PlaceKind<'f>>,
+    ) -> Result<Kept<'f>, NoMemory>
         ensures { IfOk result (λ kept. kept ≡ kinds.entry.items) }
     {
-        let few = FewKinds::of(alloc, &kinds)?;
+        let few = FewKinds::of(alloc, like, &kinds)?;
         Ok(Kept { kinds, few })
     }
 
@@ -55,10 +59,7 @@ impl<'f> Kept<'f> {
     {
         let mut kinds = copied(alloc, &self.kinds)?;
         kinds[place] = kind;
-        Ok(Kept {
-            kinds,
-            few: FewKinds::new(alloc),
-        })
+        Ok(Kept { kinds, few: None })
     }
 
     /// Whether each kind fits into the one at its place, of as many.
@@ -77,7 +78,13 @@ impl<'f> Kept<'f> {
         ensures { IsTrue result → IsTrue
             (all_into (names exceptions.now) (kinds_of self.now) (kinds_of other.now)) }
     {
-        !self.few.is_empty() && !other.few.is_empty() && self.few.fits_into(exceptions, &other.few)
+        let Some(mine) = &self.few else {
+            return false;
+        };
+        let Some(its) = &other.few else {
+            return false;
+        };
+        mine.fits_into(exceptions, its)
     }
 
     /// Whether each kind fits into the one at its place that is listed.
@@ -96,15 +103,17 @@ impl<'f> Kept<'f> {
         &self,
         alloc: Global,
         exceptions: &[&[u8]],
+        like: Option<&FewKinds<'f>>,
         other: &Kept<'f>,
     ) -> Result<Kept<'f>, NoMemory>
         ensures { IfOk result (λ kept. kinds_of kept
             ≡ merge_all (names exceptions.now) (kinds_of self.now) (kinds_of other.now)) }
     {
-        Ok(Kept {
-            kinds: merged(alloc, exceptions, &self.kinds, &other.kinds)?,
-            few: self.few.merged(alloc, exceptions, &other.few)?,
-        })
+        Kept::of(
+            alloc,
+            like,
+            merged(alloc, exceptions, &self.kinds, &other.kinds)?,
+        )
     }
 }
 
@@ -124,11 +133,20 @@ impl<'f> Model for Piece<'f> {
 }
 
 impl<'f> Piece<'f> {
-    /// A piece of these kinds.
-    pub(crate) fn of(alloc: Global, kinds: Vec<PlaceKind<'f>>) -> Result<Piece<'f>, NoMemory>
+    /// How its kinds are told, where few are different.
+    pub(crate) fn few(&self) -> Option<&FewKinds<'f>> {
+        self.kept.few.as_ref()
+    }
+
+    /// A piece of these kinds, which may have the different ones of others.
+    pub(crate) fn of(
+        alloc: Global,
+        like: Option<&FewKinds<'f>>,
+        kinds: Vec<PlaceKind<'f>>,
+    ) -> Result<Piece<'f>, NoMemory>
         ensures { IfOk result (λ piece. piece ≡ kinds.entry.items) }
     {
-        let kept = Rc::new(alloc, Kept::of(alloc, kinds)?)?;
+        let kept = Rc::new(alloc, Kept::of(alloc, like, kinds)?)?;
         Ok(Piece { kept })
     }
 
@@ -179,11 +197,13 @@ impl<'f> Piece<'f> {
         self.kept.listed_into(exceptions, &other.kept)
     }
 
-    /// The least kinds into which both fit, of as many. Where one fits into the other, that is it.
+    /// The least kinds into which both fit, of as many. Where one fits into the other, that is it;
+    /// else it may have the different kinds of another piece.
     pub(crate) fn merged(
         &self,
         alloc: Global,
         exceptions: &[&[u8]],
+        like: Option<&Piece<'f>>,
         other: &Piece<'f>,
     ) -> Result<Piece<'f>, NoMemory>
         ensures { IfOk result (λ piece. kinds_of piece
@@ -192,7 +212,14 @@ impl<'f> Piece<'f> {
         if self.fits_into(exceptions, other) {
             return other.share();
         }
-        let kept = Rc::new(alloc, self.kept.merged(alloc, exceptions, &other.kept)?)?;
+        let few = match like {
+            Some(piece) => piece.few(),
+            None => self.few(),
+        };
+        let kept = Rc::new(
+            alloc,
+            self.kept.merged(alloc, exceptions, few, &other.kept)?,
+        )?;
         Ok(Piece { kept })
     }
 }

@@ -9,6 +9,7 @@ ghost use Rattle.par_frame_steps.specs.Listed.{listed_into};
 ghost use Rattle.par_frame_steps.specs.Marks.{names, kind_of, kinds_of};
 ghost use Rattle.par_frame_steps.specs.Piled.{joined, AreWhole};
 
+use crate::few::FewKinds;
 use crate::frame::{all_into, copied, listed_into, merged};
 use crate::kind::PlaceKind;
 use crate::piece::Piece;
@@ -28,6 +29,14 @@ fn at<'f>(kinds: &[PlaceKind<'f>], place: usize) -> Option<PlaceKind<'f>>
     ensures { result ≡ slice_get kinds.entry.now place }
 {
     kinds.get(place).copied()
+}
+
+/// How kinds are told once more, if they are.
+fn shared<'f>(few: Option<&FewKinds<'f>>) -> Result<Option<FewKinds<'f>>, NoMemory> {
+    match few {
+        Some(few) => Ok(Some(few.share()?)),
+        None => Ok(None),
+    }
 }
 
 /// Whether each piece fits into the one at its place, of as many.
@@ -64,7 +73,8 @@ fn merged_pieces<'f>(
 {
     let mut all = Vec::new(alloc);
     for (place, piece) in pieces.iter().enumerate() {
-        all.push(piece.merged(alloc, exceptions, &others[place])?)?;
+        let least = piece.merged(alloc, exceptions, all.last(), &others[place])?;
+        all.push(least)?;
     }
     Ok(all)
 }
@@ -75,6 +85,8 @@ fn merged_pieces<'f>(
 pub struct Pile<'f> {
     pieces: Pieces<'f>,
     rest: Vec<PlaceKind<'f>>,
+    /// How the piece was told that was taken apart last: the next one may be like it.
+    like: Option<FewKinds<'f>>,
 }
 
 impl<'f> Model for Pile<'f> {
@@ -97,6 +109,7 @@ impl<'f> Pile<'f> {
         Pile {
             pieces: Pieces::new(),
             rest: Vec::new(alloc),
+            like: None,
         }
     }
 
@@ -139,6 +152,22 @@ impl<'f> Pile<'f> {
         self.get(many - 1 - depth)
     }
 
+    /// How the last piece is told.
+    fn last(&self) -> Option<&FewKinds<'f>> {
+        match self.pieces.as_slice().last() {
+            Some(piece) => piece.few(),
+            None => None,
+        }
+    }
+
+    /// How a piece is told that the next one may be like.
+    fn like(&self) -> Option<&FewKinds<'f>> {
+        match &self.like {
+            Some(few) => Some(few),
+            None => self.last(),
+        }
+    }
+
     /// Pushes a kind.
     pub fn push(&mut self, alloc: Global, kind: PlaceKind<'f>) -> Result<(), NoMemory>
         ensures { IfOk result (λ done. self.new ≡ self.old ++ kind.entry ∷ []) }
@@ -152,7 +181,8 @@ impl<'f> Pile<'f> {
         }
         let mut rest = Vec::new(alloc);
         rest.push(kind)?;
-        let piece = Piece::of(alloc, copied(alloc, &self.rest)?)?;
+        let kinds = copied(alloc, &self.rest)?;
+        let piece = Piece::of(alloc, self.like(), kinds)?;
         let pieces = self.pieces.and(alloc, piece)?;
         self.pieces.change_to(pieces);
         self.rest = rest;
@@ -193,10 +223,12 @@ impl<'f> Pile<'f> {
             self.rest.clear();
             return Ok(());
         }
+        let like = shared(self.last())?;
         let rest = copied(alloc, self.pieces.as_slice()[many - 1].kinds())?;
         let pieces = self.pieces.first(alloc, many - 1)?;
         self.pieces.change_to(pieces);
         self.rest = rest;
+        self.like = like;
         Ok(())
     }
 
@@ -217,6 +249,7 @@ impl<'f> Pile<'f> {
         Ok(Pile {
             pieces: self.pieces.share()?,
             rest: copied(alloc, &self.rest)?,
+            like: shared(self.like.as_ref())?,
         })
     }
 
@@ -248,6 +281,7 @@ impl<'f> Pile<'f> {
         Ok(Pile {
             pieces: Pieces::of(alloc, pieces)?,
             rest: merged(alloc, exceptions, &self.rest, &other.rest)?,
+            like: None,
         })
     }
 
@@ -296,6 +330,7 @@ impl<'f> Pile<'f> {
         Ok(Pile {
             pieces: self.pieces.first(alloc, whole)?,
             rest: copied(alloc, &self.part(whole)[..behind])?,
+            like: None,
         })
     }
 

@@ -8,10 +8,11 @@ pub returns-then-eq : goal.returns-then-eq
 returns-then-eq c =
     let one = c.self.inside in
     let other = c.other.inside in
-    let same : one.numbers.items ≡ other.numbers.items =
-    sym c.as_slice.ensures.value ∙ same_text _ _ (sym c.if-eq.true ∙ c.eq.ensures)
-    ∙ c.as_slice-2.ensures.value in
-    let all = rw (c.deref.ensures.value, c.deref-then-eq.ensures.value) at c.all_into.ensures in
-    λ fit. few_fit (names c.args.exceptions.now) one.different.items other.different.items
-    one.numbers.items other.numbers.items c.args.self.now c.args.other.now c.self.view_is
-    c.other.view_is same (sym all ∙ fit)
+    let first = rw c.deref.ensures at c.as_slice.ensures.value in
+    let second = rw c.deref-2.ensures at c.as_slice-2.ensures.value in
+    let same : one.numbers.value.items ≡ other.numbers.value.items =
+    sym first ∙ same_text _ _ (sym c.if-eq.true ∙ c.eq.ensures) ∙ second in
+    let all = rw (c.deref-then-eq.ensures, c.deref-then-eq-2.ensures) at c.fits_into.ensures in
+    λ fit. few_fit (names c.args.exceptions.now) one.different.value other.different.value
+    one.numbers.value.items other.numbers.value.items c.args.self.now c.args.other.now
+    c.self.view_is c.other.view_is same (sym all ∙ fit)

@@ -7,7 +7,7 @@ pub invariant_of-self-2 : goal.invariant_of-self-2
 invariant_of-self-2 c =
     let pieces = c.self.inside.pieces in
     let rest = c.self.inside.rest in
-    let piece = c.in_ok-piece.ensures ∙ c.in_ok-copied.ensures ∙ c.deref.ensures.value in
+    let piece = c.in_ok-piece.ensures ∙ c.in_ok-kinds.ensures ∙ c.deref.ensures.value in
     let first = c.new-rest.ensures.items in
     rw (c.change_to.ensures, c.in_ok-pieces.ensures, c.in_ok-push-2.ensures.items, first, piece)
     (stacked-piled pieces rest.items c.args.kind c.self.invariant
@@ -18,7 +18,7 @@ pub returns : goal.returns
 returns c =
     let pieces = c.self.inside.pieces in
     let rest = c.self.inside.rest in
-    let piece = c.in_ok-piece.ensures ∙ c.in_ok-copied.ensures ∙ c.deref.ensures.value in
+    let piece = c.in_ok-piece.ensures ∙ c.in_ok-kinds.ensures ∙ c.deref.ensures.value in
     let first = c.new-rest.ensures.items in
     rw (c.change_to.ensures, c.in_ok-pieces.ensures, c.in_ok-push-2.ensures.items, first, piece)
     (stacked pieces rest.items c.args.kind
