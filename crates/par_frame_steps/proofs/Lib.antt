@@ -1,5 +1,6 @@
 pub mod Into
 pub mod Lists
+pub mod Merged
 pub mod Numbered
 pub mod Padded
 pub mod Parts

@@ -1,5 +1,6 @@
 pub mod Listed
 pub mod Marks
+pub mod Merged
 pub mod Numbered
 pub mod Piled
 pub mod Spelled

@@ -46,7 +46,7 @@ impl<'f> Different<'f> {
     }
 
     /// Whether it is seen by their bytes that others are the same.
-    fn is_spelled_as(&self, other: &Different) -> bool
+    pub(crate) fn is_spelled_as(&self, other: &Different) -> bool
         ensures { IsTrue result → self.now ≡ other.now }
     {
         let Some(mine) = &self.spelling else {

@@ -135,6 +135,14 @@ impl<'f> FewKinds<'f> {
         })
     }
 
+    /// Whether it is seen by bytes that others are the same.
+    pub(crate) fn is_same(&self, other: &FewKinds) -> bool
+        ensures { IsTrue result → self.now ≡ other.now }
+    {
+        self.numbers.as_slice() == other.numbers.as_slice()
+            && self.different.is_spelled_as(&other.different)
+    }
+
     /// Whether they differ where others differ, and fit into these.
     pub(crate) fn fits_into(&self, exceptions: &[&[u8]], other: &FewKinds) -> bool
         ensures { IsTrue result

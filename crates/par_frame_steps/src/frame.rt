@@ -9,6 +9,7 @@ ghost use Rattle.par_frame_steps.specs.Marks.{names, kind_of, kinds_of, operands
 ghost use Rattle.par_frame_steps.specs.Marks.{frame_of};
 
 use crate::kind::PlaceKind;
+use crate::merges::Merges;
 use crate::pile::Pile;
 use par_base::memory::NoMemory;
 use std::alloc::Global;
@@ -155,6 +156,7 @@ impl<'f> PlaceFrame<'f> {
     fn merged_operands(
         &self,
         alloc: Global,
+        merges: &mut Merges<'f>,
         exceptions: &[&[u8]],
         other: &PlaceFrame<'f>,
     ) -> Result<Pile<'f>, NoMemory>
@@ -163,13 +165,14 @@ impl<'f> PlaceFrame<'f> {
             ≡ merge_all (names exceptions.now) (frame_of self.now).stack
             (frame_of other.now).stack) }
     {
-        self.stack.merged(alloc, exceptions, &other.stack)
+        self.stack.merged(alloc, merges, exceptions, &other.stack)
     }
 
     /// The least kinds into which the locals of both fit, of each that both list.
     fn merged_locals(
         &self,
         alloc: Global,
+        merges: &mut Merges<'f>,
         exceptions: &[&[u8]],
         other: &PlaceFrame<'f>,
     ) -> Result<Pile<'f>, NoMemory>
@@ -177,9 +180,10 @@ impl<'f> PlaceFrame<'f> {
             (kinds_of self.now.locals) (kinds_of other.now.locals)) }
     {
         if self.locals.len() == other.locals.len() {
-            return self.locals.merged(alloc, exceptions, &other.locals);
+            return self.locals.merged(alloc, merges, exceptions, &other.locals);
         }
-        self.locals.listed_merged(alloc, exceptions, &other.locals)
+        self.locals
+            .listed_merged(alloc, merges, exceptions, &other.locals)
     }
 
     /// The least frame into which both fit, where both have as many locals and operands.
@@ -187,6 +191,7 @@ impl<'f> PlaceFrame<'f> {
     pub fn merged(
         &self,
         alloc: Global,
+        merges: &mut Merges<'f>,
         exceptions: &[&[u8]],
         other: &PlaceFrame<'f>,
     ) -> Result<PlaceFrame<'f>, NoMemory>
@@ -196,8 +201,8 @@ impl<'f> PlaceFrame<'f> {
     {
         Ok(PlaceFrame {
             many: self.places(),
-            locals: self.merged_locals(alloc, exceptions, other)?,
-            stack: self.merged_operands(alloc, exceptions, other)?,
+            locals: self.merged_locals(alloc, merges, exceptions, other)?,
+            stack: self.merged_operands(alloc, merges, exceptions, other)?,
         })
     }
 

@@ -1,6 +1,6 @@
 //! Pieces of piles, which copies share.
 
-ghost use Rattle.std.specs.Prelude.{◌≡◌, ◌<◌, length, slice_set, IsTrue, IfOk};
+ghost use Rattle.std.specs.Prelude.{◌≡◌, ◌<◌, [], length, slice_set, IsTrue, IfOk};
 ghost use Rattle.par_frame_pass_laws.specs.Passes.{all_into, merge_all};
 ghost use Rattle.par_frame_steps.specs.Listed.{listed_into};
 ghost use Rattle.par_frame_steps.specs.Marks.{names, kinds_of};
@@ -71,6 +71,19 @@ impl<'f> Kept<'f> {
             return true;
         }
         all_into(exceptions, &self.kinds, &other.kinds)
+    }
+
+    /// Whether it is seen without a look at each kind that others are the same.
+    fn is_same(&self, other: &Kept) -> bool
+        ensures { IsTrue result → kinds_of self.now ≡ kinds_of other.now }
+    {
+        let Some(mine) = &self.few else {
+            return false;
+        };
+        let Some(its) = &other.few else {
+            return false;
+        };
+        mine.is_same(its)
     }
 
     /// Whether it is seen without a look at each kind that all fit.
@@ -150,6 +163,19 @@ impl<'f> Piece<'f> {
         Ok(Piece { kept })
     }
 
+    /// A piece of no kinds.
+    pub(crate) fn empty(alloc: Global) -> Result<Piece<'f>, NoMemory>
+        ensures { IfOk result (λ piece. piece ≡ []) }
+    {
+        let kept = Kept {
+            kinds: Vec::new(alloc),
+            few: None,
+        };
+        Ok(Piece {
+            kept: Rc::new(alloc, kept)?,
+        })
+    }
+
     /// Its kinds.
     pub(crate) fn kinds(&self) -> &[PlaceKind<'f>]
         ensures { result.now ≡ self.now }
@@ -197,8 +223,15 @@ impl<'f> Piece<'f> {
         self.kept.listed_into(exceptions, &other.kept)
     }
 
-    /// The least kinds into which both fit, of as many. Where one fits into the other, that is it;
-    /// else it may have the different kinds of another piece.
+    /// Whether it is seen at once that another one has the same kinds.
+    pub(crate) fn is_same(&self, other: &Piece) -> bool
+        ensures { IsTrue result → kinds_of self.now ≡ kinds_of other.now }
+    {
+        self.kept.is_same(&other.kept)
+    }
+
+    /// The least kinds into which both fit, of as many. It may have the different kinds of another
+    /// piece.
     pub(crate) fn merged(
         &self,
         alloc: Global,
@@ -209,17 +242,13 @@ impl<'f> Piece<'f> {
         ensures { IfOk result (λ piece. kinds_of piece
             ≡ merge_all (names exceptions.now) (kinds_of self.now) (kinds_of other.now)) }
     {
-        if self.fits_into(exceptions, other) {
-            return other.share();
-        }
         let few = match like {
             Some(piece) => piece.few(),
             None => self.few(),
         };
-        let kept = Rc::new(
-            alloc,
-            self.kept.merged(alloc, exceptions, few, &other.kept)?,
-        )?;
-        Ok(Piece { kept })
+        let kept = self.kept.merged(alloc, exceptions, few, &other.kept)?;
+        Ok(Piece {
+            kept: Rc::new(alloc, kept)?,
+        })
     }
 }

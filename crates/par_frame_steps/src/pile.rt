@@ -12,6 +12,7 @@ ghost use Rattle.par_frame_steps.specs.Piled.{joined, AreWhole};
 use crate::few::FewKinds;
 use crate::frame::{all_into, copied, listed_into, merged};
 use crate::kind::PlaceKind;
+use crate::merges::Merges;
 use crate::piece::Piece;
 use crate::pieces::Pieces;
 use par_base::memory::NoMemory;
@@ -58,6 +59,7 @@ fn pieces_into(exceptions: &[&[u8]], pieces: &[Piece], others: &[Piece]) -> bool
 /// The least pieces into which both fit, of as many.
 fn merged_pieces<'f>(
     alloc: Global,
+    merges: &mut Merges<'f>,
     exceptions: &[&[u8]],
     pieces: &[Piece<'f>],
     others: &[Piece<'f>],
@@ -65,6 +67,7 @@ fn merged_pieces<'f>(
     requires many { length pieces.now ≡ length others.now }
     requires whole { AreWhole pieces.now }
     requires others { AreWhole others.now }
+    requires same { merges.old ≡ names exceptions.now }
     ensures many { IfOk result (λ all. length all.items ≡ length pieces.entry.now) }
     ensures whole { IfOk result (λ all. AreWhole all.items) }
     ensures least { IfOk result (λ all. kinds_of (joined all.items)
@@ -73,7 +76,7 @@ fn merged_pieces<'f>(
 {
     let mut all = Vec::new(alloc);
     for (place, piece) in pieces.iter().enumerate() {
-        let least = piece.merged(alloc, exceptions, all.last(), &others[place])?;
+        let least = merges.merged(alloc, exceptions, place, all.last(), piece, &others[place])?;
         all.push(least)?;
     }
     Ok(all)
@@ -269,6 +272,7 @@ impl<'f> Pile<'f> {
     pub fn merged(
         &self,
         alloc: Global,
+        merges: &mut Merges<'f>,
         exceptions: &[&[u8]],
         other: &Pile<'f>,
     ) -> Result<Pile<'f>, NoMemory>
@@ -276,8 +280,9 @@ impl<'f> Pile<'f> {
         ensures { IfOk result (λ pile. kinds_of pile
             ≡ merge_all (names exceptions.now) (kinds_of self.now) (kinds_of other.now)) }
     {
+        merges.begin(alloc, exceptions)?;
         let (mine, its) = (self.pieces.as_slice(), other.pieces.as_slice());
-        let pieces = merged_pieces(alloc, exceptions, mine, its)?;
+        let pieces = merged_pieces(alloc, merges, exceptions, mine, its)?;
         Ok(Pile {
             pieces: Pieces::of(alloc, pieces)?,
             rest: merged(alloc, exceptions, &self.rest, &other.rest)?,
@@ -361,6 +366,7 @@ impl<'f> Pile<'f> {
     pub(crate) fn listed_merged(
         &self,
         alloc: Global,
+        merges: &mut Merges<'f>,
         exceptions: &[&[u8]],
         other: &Pile<'f>,
     ) -> Result<Pile<'f>, NoMemory>
@@ -369,6 +375,6 @@ impl<'f> Pile<'f> {
     {
         let one = self.first(alloc, other.len())?;
         let other = other.first(alloc, self.len())?;
-        one.merged(alloc, exceptions, &other)
+        one.merged(alloc, merges, exceptions, &other)
     }
 }

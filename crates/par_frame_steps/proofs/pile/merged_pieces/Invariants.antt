@@ -8,6 +8,7 @@ use Rattle.par_frame_steps.proofs.pile.merged_pieces.Given as goal
 abbrev pub invariant-loop-place : goal.invariant-loop-place
 invariant-loop-place l =
     (length l.all.items ≡ l.place)
+    × (l.merges ≡ names l.exceptions)
     × AreWhole l.all.items
     × (kinds_of (joined l.all.items)
     ++ merge_all (names l.exceptions) (kinds_of (joined (drop l.place l.pieces)))

@@ -1,0 +1,12 @@
+-- Pieces that were merged before.
+use Rattle.std.specs.Prelude.{◌≡◌, List, [], ◌∷◌}
+use Rattle.par_values.specs.Areas.{Name}
+use Rattle.par_frame_pass_laws.specs.Passes.{merge_all}
+use Rattle.par_frame_steps.specs.declared.merges.Merge.{Merge}
+use Rattle.par_frame_steps.specs.Marks.{kinds_of}
+
+-- each has the least kinds into which those of both pieces fit
+abbrev pub AreMerges : List Name → List Merge → Type 0
+AreMerges exc [] = Unit {0}
+AreMerges exc (m ∷ ms) =
+    (kinds_of m.least ≡ merge_all exc (kinds_of m.one) (kinds_of m.other)) × AreMerges exc ms
