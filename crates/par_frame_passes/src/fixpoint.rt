@@ -14,7 +14,7 @@ use crate::told_frames::{standing, told};
 use crate::visit::visit;
 use par_base::memory::NoMemory;
 use par_frame_guesses::{Method, guessed, is_marked};
-use par_frame_steps::PlaceFrame;
+use par_frame_steps::{Merges, PlaceFrame};
 use std::alloc::Global;
 
 /// Goes through the code, and back to each frame that rises, until nothing does on a whole way:
@@ -35,6 +35,7 @@ fn least<'f>(
     let mut sweep = Sweep::new(alloc, method)?;
     let begun = begun_offsets(alloc, method)?;
     let mut spared: Option<PlaceFrame<'f>> = None;
+    let mut merges = Merges::new(alloc);
     // Frames rise seldom enough: the steps never come to an end.
     'steps: while sweep.has_steps() {
         let at = sweep.at();
@@ -46,7 +47,8 @@ fn least<'f>(
             spared = None;
         } else {
             forget(&mut spared, is_marked(&begun, at));
-            let course = visit(alloc, method, table, &mut spared, at, sweep.stays())?;
+            let stays = sweep.stays();
+            let course = visit(alloc, &mut merges, method, table, &mut spared, at, stays)?;
             sweep.go_on(course);
             match course {
                 Course::Refused => return Ok(false),

@@ -15,12 +15,13 @@ use par_base::memory::NoMemory;
 use par_class::file::Catch;
 use par_frame_acts::caught;
 use par_frame_guesses::{Method, is_around};
-use par_frame_steps::{Flow, Pile, PlaceFrame};
+use par_frame_steps::{Flow, Merges, Pile, PlaceFrame};
 use std::alloc::Global;
 
 /// Lets a frame go on where code goes on from an offset, of an instruction before another offset.
 pub(crate) fn go_on<'f>(
     alloc: Global,
+    merges: &mut Merges<'f>,
     method: &Method<'_, 'f>,
     table: &mut [Option<PlaceFrame<'f>>],
     frame: PlaceFrame<'f>,
@@ -39,12 +40,16 @@ pub(crate) fn go_on<'f>(
         (table_of table.old) result (table_of table.new) }
 {
     match flow {
-        Flow::Onward => go_to(alloc, method, table, frame, next as i32, at),
-        Flow::Jumps(to) => go_to(alloc, method, table, frame, at as i32 + i32::from(to), at),
+        Flow::Onward => go_to(alloc, merges, method, table, frame, next as i32, at),
+        Flow::Jumps(to) => {
+            let to = at as i32 + i32::from(to);
+            go_to(alloc, merges, method, table, frame, to, at)
+        }
         Flow::Branches(to) => {
             let other = frame.copied(alloc)?;
-            let ahead = go_to(alloc, method, table, frame, next as i32, at)?;
-            let aside = go_to(alloc, method, table, other, at as i32 + i32::from(to), at)?;
+            let to = at as i32 + i32::from(to);
+            let ahead = go_to(alloc, merges, method, table, frame, next as i32, at)?;
+            let aside = go_to(alloc, merges, method, table, other, to, at)?;
             Ok(ahead.joined(aside))
         }
         Flow::Nowhere => Ok(Course::Calm),
@@ -54,6 +59,7 @@ pub(crate) fn go_on<'f>(
 /// Lets a frame go on at an offset.
 fn go_to<'f>(
     alloc: Global,
+    merges: &mut Merges<'f>,
     method: &Method<'_, 'f>,
     table: &mut [Option<PlaceFrame<'f>>],
     frame: PlaceFrame<'f>,
@@ -66,12 +72,13 @@ fn go_to<'f>(
         (record { to = to; frame = frame_of frame.entry; exact = false } ∷ [])
         (table_of table.old) result (table_of table.new) }
 {
-    arrive(alloc, method, table, frame, to, false, at as usize)
+    arrive(alloc, merges, method, table, frame, to, false, at as usize)
 }
 
 /// Lets the locals of a frame go on at a handler, with what it takes as the one operand.
 fn handle<'f>(
     alloc: Global,
+    merges: &mut Merges<'f>,
     method: &Method<'_, 'f>,
     table: &mut [Option<PlaceFrame<'f>>],
     frame: &PlaceFrame<'f>,
@@ -92,12 +99,13 @@ fn handle<'f>(
         stack,
     };
     let to = i32::from(catch.handler);
-    arrive(alloc, method, table, frame, to, true, at as usize)
+    arrive(alloc, merges, method, table, frame, to, true, at as usize)
 }
 
 /// Lets the frame of an offset go on at each of some handlers that is around it.
 pub(crate) fn go_to_handlers<'f>(
     alloc: Global,
+    merges: &mut Merges<'f>,
     method: &Method<'_, 'f>,
     table: &mut [Option<PlaceFrame<'f>>],
     frame: &PlaceFrame<'f>,
@@ -114,7 +122,7 @@ pub(crate) fn go_to_handlers<'f>(
     let mut course = Course::Calm;
     for catch in catches {
         if is_around(at, catch) {
-            let then = handle(alloc, method, table, frame, catch, at)?;
+            let then = handle(alloc, merges, method, table, frame, catch, at)?;
             course = course.joined(then);
         }
     }

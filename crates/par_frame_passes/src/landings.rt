@@ -13,7 +13,7 @@ use crate::course::Course;
 use crate::table::{is_new, put};
 use par_base::memory::NoMemory;
 use par_frame_guesses::{Method, kept};
-use par_frame_steps::PlaceFrame;
+use par_frame_steps::{Merges, PlaceFrame};
 use std::alloc::Global;
 
 /// A frame that goes on at an offset, which may be none. At a handler the operand is the exception
@@ -38,6 +38,7 @@ enum Landing<'f> {
 #[tactic(auto, unfolding(par_frame_pass_laws::specs::Passes::landed))]
 fn onto<'f>(
     alloc: Global,
+    merges: &mut Merges<'f>,
     method: &Method<'_, 'f>,
     at: usize,
     way: &PlaceWay<'f>,
@@ -57,7 +58,7 @@ fn onto<'f>(
     if method.is_fixed(at) || !way.frame.has_lengths_of(kept) {
         return Ok(Landing::Refused);
     }
-    Ok(Landing::Rises(way.frame.merged(alloc, method.exceptions, kept)?))
+    Ok(Landing::Rises(way.frame.merged(alloc, merges, method.exceptions, kept)?))
 }
 
 /// What becomes of an offset without a frame.
@@ -78,6 +79,7 @@ fn anew<'f>(method: &Method<'_, 'f>, at: u32, way: PlaceWay<'f>) -> Landing<'f>
 /// What becomes of an offset.
 fn landing_at<'f>(
     alloc: Global,
+    merges: &mut Merges<'f>,
     method: &Method<'_, 'f>,
     table: &[Option<PlaceFrame<'f>>],
     at: u32,
@@ -90,7 +92,7 @@ fn landing_at<'f>(
         (frame_at (table_of table.entry.now) at)) }
 {
     match kept(table, at as usize) {
-        Some(kept) => onto(alloc, method, at as usize, &way, kept),
+        Some(kept) => onto(alloc, merges, method, at as usize, &way, kept),
         None => Ok(anew(method, at, way)),
     }
 }
@@ -98,6 +100,7 @@ fn landing_at<'f>(
 /// Lets a frame go on at an offset: whether one rose, or nothing where no frames fit.
 fn land<'f>(
     alloc: Global,
+    merges: &mut Merges<'f>,
     method: &Method<'_, 'f>,
     table: &mut [Option<PlaceFrame<'f>>],
     way: PlaceWay<'f>,
@@ -111,7 +114,7 @@ fn land<'f>(
         return Ok(None);
     }
     let at = way.to as u32;
-    match landing_at(alloc, method, table, at, way)? {
+    match landing_at(alloc, merges, method, table, at, way)? {
         Landing::Refused => Ok(None),
         Landing::Stays => Ok(Some(false)),
         Landing::Rises(frame) => {
@@ -124,6 +127,7 @@ fn land<'f>(
 /// Lets a frame of the instruction of an offset go on at another, which may be none.
 pub(crate) fn arrive<'f>(
     alloc: Global,
+    merges: &mut Merges<'f>,
     method: &Method<'_, 'f>,
     table: &mut [Option<PlaceFrame<'f>>],
     frame: PlaceFrame<'f>,
@@ -139,7 +143,7 @@ pub(crate) fn arrive<'f>(
 {
     let is_new = is_new(table, to, at);
     let way = PlaceWay { to, frame, exact };
-    let landed = land(alloc, method, table, way)?;
+    let landed = land(alloc, merges, method, table, way)?;
     match landed {
         None => Ok(Course::Refused),
         Some(false) => Ok(Course::Calm),

@@ -18,7 +18,7 @@ use crate::goes::go_to_handlers;
 use par_base::memory::NoMemory;
 use par_class::file::Catch;
 use par_frame_guesses::{Method, mark};
-use par_frame_steps::{Pile, PlaceFrame};
+use par_frame_steps::{Merges, Pile, PlaceFrame};
 use std::alloc::Global;
 
 /// Marks where handlers begin, and where what they handle does.
@@ -76,6 +76,7 @@ fn is_spared(method: &Method, spared: &Option<PlaceFrame>, frame: &PlaceFrame) -
 /// Lets the frame of an offset go on at the handlers around it, but where they have met its locals.
 pub(crate) fn meet_handlers<'f>(
     alloc: Global,
+    merges: &mut Merges<'f>,
     method: &Method<'_, 'f>,
     table: &mut [Option<PlaceFrame<'f>>],
     spared: &mut Option<PlaceFrame<'f>>,
@@ -110,7 +111,7 @@ pub(crate) fn meet_handlers<'f>(
     if is_spared(method, spared, frame) {
         return Ok(Course::Calm);
     }
-    let course = go_to_handlers(alloc, method, table, frame, at, catches)?;
+    let course = go_to_handlers(alloc, merges, method, table, frame, at, catches)?;
     let met = bare(alloc, frame)?;
     *spared = Some(met);
     Ok(course)

@@ -17,13 +17,14 @@ use crate::spared::meet_handlers;
 use crate::table::taken;
 use par_base::memory::NoMemory;
 use par_frame_guesses::Method;
-use par_frame_steps::PlaceFrame;
+use par_frame_steps::{Merges, PlaceFrame};
 use par_instr::decode;
 use std::alloc::Global;
 
 /// Lets the frame of an offset go on, where it has one. It is kept no longer, unless it stays.
 pub(crate) fn visit<'f>(
     alloc: Global,
+    merges: &mut Merges<'f>,
     method: &Method<'_, 'f>,
     table: &mut [Option<PlaceFrame<'f>>],
     spared: &mut Option<PlaceFrame<'f>>,
@@ -52,12 +53,13 @@ pub(crate) fn visit<'f>(
     let Ok((instr, next)) = decode(method.code.code.as_slice(), at) else {
         return Ok(Course::Refused);
     };
-    let aside = meet_handlers(alloc, method, table, spared, &frame, at as u32)?;
+    let aside = meet_handlers(alloc, merges, method, table, spared, &frame, at as u32)?;
     let Some(left) = leave(alloc, method, instr, frame)? else {
         return Ok(Course::Refused);
     };
     let onward = go_on(
         alloc,
+        merges,
         method,
         table,
         left.frame,
