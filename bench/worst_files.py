@@ -238,6 +238,23 @@ def ways_that_meet(part):
     return among_classes(["C000"], code, operands + 2, 1, 1)
 
 
+def ways_below(part):
+    """Methods in which two ways push objects of two classes by turns and meet, so that the frame
+    there is above both; the second one then branches there over and over; as many as fit."""
+    operands, half = 16000, 4150
+    one, other = b"\x2a\x2b" * (operands // 2), b"\x2b\x2a" * (operands // 2)
+    branch, jump = b"\x03\x99", b"\xa7"
+    goal = 4 * half + 3
+
+    def back(ends):
+        return b"".join(branch + struct.pack(">h", ends - 4 * n - 1) for n in range(half))
+
+    code = made_of(2) + branch + struct.pack(">h", operands + 6) + one
+    code += jump + struct.pack(">h", 3 + operands + goal) + other
+    code += back(goal) + jump + b"\0\4\xb1" + back(-1) + b"\xb1"
+    return among_classes(["C000", "C001"], code, operands + 2, 2, int(15 * part))
+
+
 def of_frames(locals_, code, frames, later, methods):
     """Methods of version 51 with that code and so many frames: one of all locals of the third byte,
     of which nothing is known, and behind it what is written of the later ones."""
@@ -337,6 +354,7 @@ FILES = {
     "the same, classes named by 64 bytes, verified": long_classes,
     "483,000 operands pushed on 256 of 129 kinds and taken, verified": pushed_and_taken,
     "two ways that meet at 3,600 offsets under 16,000 operands, verified": ways_that_meet,
+    "124,500 branches under 16,000 operands to a frame above, verified": ways_below,
     "30,000 frames of 30,000 locals that are told, verified": frames_told,
     "4 methods of 65,533 frames of 65,471 locals that are told, verified": all_frames_told,
     "65,535 handlers around all code, verified": handlers_around,
