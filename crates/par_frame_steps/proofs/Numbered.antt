@@ -1,6 +1,8 @@
 -- Kinds, each as its place among kinds of which all are different.
 use Rattle.std.proofs.Common.{◌≡◌, ℕ, zero, suc, ◌<◌, Bool, true, ◌&&◌, List, [], ◌∷◌, ◌++◌}
-use Rattle.std.proofs.Common.{refl, sym, ap, ◌∙◌}
+use Rattle.std.proofs.Common.{◌+◌, take, get_or, length, refl, sym, ap, ◌∙◌}
+use Rattle.std.proofs.Common.{Option, Some, IfSome, subst}
+use Rattle.std.proofs.lemmas.List.{take_more}
 use Rattle.std.proofs.lemmas.Bool.{and_parts}
 use Rattle.par_values.specs.Areas.{Name}
 use Rattle.par_kinds.specs.declared.frame.VKind.{VKind}
@@ -64,6 +66,43 @@ module _ (exc : List Name) where
         ap (λ (vs : List VKind). all_into exc vs ys) (sym one)
         ∙ ap (λ (vs : List VKind). all_into exc (numbered ds ns) vs) (sym both)
         ∙ numbered_into ds es ns fit
+
+  -- one more fits
+  into_more : (xs ys : List VKind) (x y : VKind) → all_into exc xs ys ≡ true
+      → into exc x y ≡ true → all_into exc (xs ++ x ∷ []) (ys ++ y ∷ []) ≡ true
+  into_more [] [] x y e fit = ap (λ (b : Bool). b && true) fit
+  into_more [] (l ∷ ys) x y e fit = absurd (cc e)
+  into_more (k ∷ xs) [] x y e fit = absurd (cc e)
+  into_more (k ∷ xs) (l ∷ ys) x y e fit =
+      let parts = and_parts (into exc k l) (all_into exc xs ys) e in
+      ap (λ (b : Bool). b && all_into exc (xs ++ x ∷ []) (ys ++ y ∷ [])) parts.0
+      ∙ into_more xs ys x y parts.1 fit
+
+  -- what is kept, if it is this one
+  pub kept_fits : {A : Type 0} (F : A → Type 0) (kept : Option A) (p : A) → IfSome kept F
+      → kept ≡ Some p → F p
+  kept_fits F kept p fits is = subst (λ o. IfSome o F) is fits
+
+  -- the kinds of one pair of numbers more fit
+  module _ (ds es : List VKind) (ns os : List ℕ) (i : ℕ) where
+    abbrev pub FitsFor : ℕ → Type 0
+    FitsFor m = all_into exc (numbered ds (take m ns)) (numbered es (take m os)) ≡ true
+
+    pub pair_more : (d e n o : ℕ) → i < length ns → i < length os → n ≡ get_or ns i d
+        → o ≡ get_or os i e → FitsFor i → into exc (kind_at ds n) (kind_at es o) ≡ true
+        → FitsFor (i + 1)
+    pair_more d e n o less fewer one other so_far fit =
+        let mine = ap (λ (ms : List ℕ). numbered ds ms)
+        (take_more ns i d less ∙ ap (λ (m : ℕ). take i ns ++ m ∷ []) (sym one))
+        ∙ number_more ds (take i ns) n (kind_at ds n) refl in
+        let its = ap (λ (ms : List ℕ). numbered es ms)
+        (take_more os i e fewer ∙ ap (λ (m : ℕ). take i os ++ m ∷ []) (sym other))
+        ∙ number_more es (take i os) o (kind_at es o) refl in
+        ap (λ (vs : List VKind). all_into exc vs (numbered es (take (i + 1) os))) mine
+        ∙ ap (λ (vs : List VKind).
+        all_into exc (numbered ds (take i ns) ++ kind_at ds n ∷ []) vs) its
+        ∙ into_more (numbered ds (take i ns)) (numbered es (take i os)) (kind_at ds n)
+        (kind_at es o) so_far fit
 
   -- the same kinds fit
   pub all_same : (ks : List VKind) → all_into exc ks ks ≡ true

@@ -1,11 +1,13 @@
 //! Lists of kinds of which few are different.
 
-ghost use Rattle.std.specs.Prelude.{◌≡◌, length, IsTrue, IfOk, IfSome};
+ghost use Rattle.std.specs.Prelude.{◌≡◌, length, IsTrue, IfOk, Some, IfSome};
 ghost use Rattle.par_frame_pass_laws.specs.Passes.{all_into};
 ghost use Rattle.par_frame_steps.specs.Marks.{names, kinds_of};
 ghost use Rattle.par_frame_steps.specs.Numbered.{numbered, AreBelow};
+ghost use Rattle.par_kinds.specs.Kinds.{into, kind_at};
 
 use crate::different::Different;
+use crate::frame::kind_at;
 use crate::kind::PlaceKind;
 use crate::lookup::Lookup;
 use par_base::memory::NoMemory;
@@ -47,6 +49,64 @@ fn found_in<'f>(
         }
     }
     Ok(Some(found))
+}
+
+/// The numbers of two lists at one place.
+#[derive(Clone, Copy)]
+struct Pair {
+    mine: u8,
+    its: u8,
+}
+
+/// Whether a pair is the one that is kept.
+fn is_kept(kept: Option<Pair>, pair: Pair) -> bool
+    ensures { IsTrue result → kept ≡ Some pair }
+{
+    match kept {
+        Some(own) => own.mine == pair.mine && own.its == pair.its,
+        None => false,
+    }
+}
+
+/// Whether the kind of one number fits into that of the other.
+fn pair_fits(exceptions: &[&[u8]], mine: &[PlaceKind], its: &[PlaceKind], pair: Pair) -> bool
+    ensures { result ≡ into (names exceptions.now) (kind_at (kinds_of mine.now) pair.mine)
+        (kind_at (kinds_of its.now) pair.its) }
+{
+    kind_at(mine, pair.mine as usize).fits_into(exceptions, kind_at(its, pair.its as usize))
+}
+
+/// Whether the kinds of numbers fit into those of others. Pairs of numbers that were seen to fit a
+/// short while ago are not looked at again, as most lists repeat few.
+fn pairs_into(
+    exceptions: &[&[u8]],
+    numbers: &[u8],
+    others: &[u8],
+    mine: &[PlaceKind],
+    its: &[PlaceKind],
+) -> bool
+    ensures { IsTrue result → IsTrue (all_into (names exceptions.now)
+        (numbered (kinds_of mine.now) numbers.now) (numbered (kinds_of its.now) others.now)) }
+{
+    if numbers.len() != others.len() {
+        return false;
+    }
+    let mut last = None;
+    let mut before = None;
+    for (place, number) in numbers.iter().enumerate() {
+        let pair = Pair {
+            mine: *number,
+            its: others[place],
+        };
+        if !is_kept(last, pair) && !is_kept(before, pair) {
+            if !pair_fits(exceptions, mine, its, pair) {
+                return false;
+            }
+            before = last;
+            last = Some(pair);
+        }
+    }
+    true
 }
 
 /// Kinds, each told by its place among the different ones, so that lists are compared a byte a
@@ -143,12 +203,18 @@ impl<'f> FewKinds<'f> {
             && self.different.is_spelled_as(&other.different)
     }
 
-    /// Whether they differ where others differ, and fit into these.
+    /// Whether it is seen by bytes that they fit into others.
     pub(crate) fn fits_into(&self, exceptions: &[&[u8]], other: &FewKinds) -> bool
         ensures { IsTrue result
             → IsTrue (all_into (names exceptions.now) self.now other.now) }
     {
-        self.numbers.as_slice() == other.numbers.as_slice()
-            && self.different.fits_into(exceptions, &other.different)
+        let numbers = self.numbers.as_slice();
+        let others = other.numbers.as_slice();
+        if numbers == others {
+            return self.different.fits_into(exceptions, &other.different);
+        }
+        let mine = self.different.found().kinds();
+        let its = other.different.found().kinds();
+        pairs_into(exceptions, numbers, others, mine, its)
     }
 }

@@ -73,7 +73,7 @@ pub(crate) fn copied<'f>(
 }
 
 /// The kind of a place, where those that are not listed hold anything.
-fn kind_at<'f>(kinds: &[PlaceKind<'f>], place: usize) -> PlaceKind<'f>
+pub(crate) fn kind_at<'f>(kinds: &[PlaceKind<'f>], place: usize) -> PlaceKind<'f>
     ensures { kind_of result ≡ kind_at (kinds_of kinds.entry.now) place }
 {
     match kinds.get(place) {

@@ -8,8 +8,8 @@ pub returns-then-eq : goal.returns-then-eq
 returns-then-eq c =
     let one = c.self.inside in
     let other = c.other.inside in
-    let first = rw c.deref.ensures at c.as_slice.ensures.value in
-    let second = rw c.deref-2.ensures at c.as_slice-2.ensures.value in
+    let first = rw c.deref.ensures at c.as_slice-numbers.ensures.value in
+    let second = rw c.deref-2.ensures at c.as_slice-others.ensures.value in
     let same : one.numbers.value.items ≡ other.numbers.value.items =
     sym first ∙ same_text _ _ (sym c.if-eq.true ∙ c.eq.ensures) ∙ second in
     let all = rw (c.deref-then-eq.ensures, c.deref-then-eq-2.ensures) at c.fits_into.ensures in
