@@ -1,10 +1,6 @@
-pub mod Into
-pub mod Lists
 pub mod Merged
-pub mod Numbered
 pub mod Padded
 pub mod Parts
 pub mod Piled
-pub mod Spelled
 pub mod Turned
 pub use Rattle.par_frame_pass_laws.proofs.par_kinds as par_kinds

@@ -4,7 +4,7 @@ use Rattle.std.proofs.Common.{subst, sym, ap, ◌∙◌, arith}
 use Rattle.par_values.specs.Areas.{Name}
 use Rattle.par_kinds.specs.declared.frame.VKind.{VKind}
 use Rattle.par_frame_pass_laws.specs.Passes.{merge_all}
-use Rattle.par_frame_steps.specs.declared.kind.PlaceKind.{PlaceKind}
+use Rattle.par_place_kinds.specs.declared.kind.PlaceKind.{PlaceKind}
 use Rattle.par_frame_steps.specs.declared.merges.Merge.{Merge}
 use Rattle.par_frame_steps.specs.Marks.{kinds_of}
 use Rattle.par_frame_steps.specs.Merged.{AreMerges}

@@ -13,10 +13,10 @@ use Rattle.par_kinds.specs.declared.frame.VKind.TheVariants as kind
 use Rattle.par_kinds.specs.Kinds.{into, kind_at}
 use Rattle.par_kinds.specs.Linked.{padded}
 use Rattle.par_frame_pass_laws.specs.Passes.{all_into, merge, merge_all}
-use Rattle.par_frame_steps.specs.declared.kind.PlaceKind.{PlaceKind}
-use Rattle.par_frame_steps.specs.declared.kind.PlaceKind.TheVariants as place
+use Rattle.par_place_kinds.specs.declared.kind.PlaceKind.{PlaceKind}
+use Rattle.par_place_kinds.specs.declared.kind.PlaceKind.TheVariants as place
 use Rattle.par_frame_steps.specs.Marks.{kind_of, kinds_of}
-use Rattle.par_frame_steps.specs.Listed.{listed_into, with_place}
+use Rattle.par_place_kinds.specs.Listed.{listed_into, with_place}
 
 -- ---- how many there are
 
@@ -91,10 +91,6 @@ module _ (exc : List Name) where
     in_case false is = refl
 
   -- ---- merging
-
-  pub merge_none : (ks : List VKind) → merge_all exc ks [] ≡ []
-  merge_none [] = refl
-  merge_none (k ∷ ks) = refl
 
   pub top-left : (l : VKind) → merge exc kind.Top l ≡ kind.Top
   unfolding into

@@ -15,10 +15,10 @@ use Rattle.par_values.specs.Areas.{Name}
 use Rattle.par_kinds.specs.declared.frame.VKind.TheVariants as kind
 use Rattle.par_kinds.specs.Kinds.{into, kind_at}
 use Rattle.par_frame_pass_laws.specs.Passes.{merge, merge_all}
-use Rattle.par_frame_steps.specs.declared.kind.PlaceKind.{PlaceKind}
-use Rattle.par_frame_steps.specs.declared.kind.PlaceKind.TheVariants as place
+use Rattle.par_place_kinds.specs.declared.kind.PlaceKind.{PlaceKind}
+use Rattle.par_place_kinds.specs.declared.kind.PlaceKind.TheVariants as place
 use Rattle.par_frame_steps.specs.declared.pile.TheConstants.{PIECE}
-use Rattle.par_frame_steps.specs.Listed.{listed_into}
+use Rattle.par_place_kinds.specs.Listed.{listed_into}
 use Rattle.par_frame_steps.specs.Marks.{kind_of, kinds_of}
 use Rattle.par_frame_steps.specs.Piled.{joined, AreWhole, IsPiled}
 use Rattle.par_frame_steps.proofs.Piled.{many_joined, many_piled}

@@ -14,7 +14,7 @@ use Rattle.par_kinds.specs.declared.frame.VKind.{VKind}
 use Rattle.par_kinds.specs.declared.frame.VKind.TheVariants as kind
 use Rattle.par_kinds.specs.Kinds.{into, accepts, kind_at}
 use Rattle.par_frame_pass_laws.specs.Passes.{merge, all_into, merge_all, takes_fit}
-use Rattle.par_frame_steps.specs.declared.kind.PlaceKind.{PlaceKind}
+use Rattle.par_place_kinds.specs.declared.kind.PlaceKind.{PlaceKind}
 use Rattle.par_frame_steps.specs.declared.act.Asked.{Asked}
 use Rattle.par_frame_steps.specs.Marks.{kind_of, kinds_of, operands_of, asked_of}
 use Rattle.par_frame_steps.proofs.Padded.{padded_differ}

@@ -1,17 +1,13 @@
 -- The kinds, frames and acts that a verifier keeps, as those that they stand for.
-use Rattle.std.specs.Prelude.{ℕ, List, [], ◌∷◌, Option, Some, None, map, reverse}
-use Rattle.std.specs.Borrow.{Bor}
-use Rattle.par_values.specs.Areas.{Name}
+use Rattle.std.specs.Prelude.{List, [], ◌∷◌, Option, Some, None, map, reverse}
 use Rattle.par_values.specs.declared.kind.Kind.{Kind}
 use Rattle.par_values.specs.declared.kind.Kind.TheVariants as asks
 use Rattle.par_kinds.specs.declared.frame.VKind.{VKind}
-use Rattle.par_kinds.specs.declared.frame.VKind.TheVariants.{Top, Int, Null, Object}
-use Rattle.par_kinds.specs.declared.frame.VKind.TheVariants.{Base}
 use Rattle.par_kinds.specs.Kinds.{KFrame}
 use Rattle.par_kinds.specs.Linked.{padded}
 use Rattle.par_kinds.specs.Acts as spec
-use Rattle.par_frame_steps.specs.declared.kind.PlaceKind.{PlaceKind}
-use Rattle.par_frame_steps.specs.declared.kind.PlaceKind.TheVariants as place
+use Rattle.par_place_kinds.specs.declared.kind.PlaceKind.{PlaceKind}
+pub use Rattle.par_place_kinds.specs.Marks.{names, kind_of, kinds_of}
 use Rattle.par_frame_steps.specs.declared.frame.PlaceFrame.{PlaceFrame}
 use Rattle.par_frame_steps.specs.declared.act.Asked.{Asked}
 use Rattle.par_frame_steps.specs.declared.act.Asked.TheVariants as asked
@@ -22,19 +18,6 @@ use Rattle.par_frame_steps.specs.declared.act.Leaves.TheVariants as leaves
 use Rattle.par_frame_steps.specs.declared.act.Flow.{Flow}
 use Rattle.par_frame_steps.specs.declared.act.Flow.TheVariants as flow
 use Rattle.par_frame_steps.specs.declared.act.Act.{Act}
-
-abbrev pub names : List (Bor (List ℕ)) → List Name
-names all = map (λ name. name.now) all
-
-abbrev pub kind_of : PlaceKind → VKind
-kind_of place.Top = Top
-kind_of place.Int = Int
-kind_of place.Null = Null
-kind_of (place.Object name) = Object name.now
-kind_of (place.Base exception) = Base exception
-
-abbrev pub kinds_of : List PlaceKind → List VKind
-kinds_of kinds = map kind_of kinds
 
 -- locals that are not listed hold anything
 abbrev pub locals_of : PlaceFrame → List VKind

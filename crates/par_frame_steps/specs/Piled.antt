@@ -1,7 +1,7 @@
 -- Kinds on one another, in whole pieces and a rest.
 use Rattle.std.specs.Prelude.{◌≡◌, ◌<◌, ◌≤◌, List, [], ◌∷◌, ◌++◌, length, Option, Some, None}
 use Rattle.par_frame_steps.specs.declared.pile.TheConstants.{PIECE, MOST_PIECES}
-use Rattle.par_frame_steps.specs.declared.kind.PlaceKind.{PlaceKind}
+use Rattle.par_place_kinds.specs.declared.kind.PlaceKind.{PlaceKind}
 
 -- none where no list is kept
 abbrev pub listed : {A : Type 0} → Option (List A) → List A

@@ -1,6 +1,6 @@
 //! What an instruction asks of a frame, and what it leaves.
 
-use crate::kind::PlaceKind;
+use par_place_kinds::PlaceKind;
 
 /// What is asked of an operand or of a local.
 #[derive(Clone, Copy)]

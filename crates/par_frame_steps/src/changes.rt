@@ -2,13 +2,13 @@
 
 ghost use Rattle.std.specs.Prelude.{◌≡◌, ◌∷◌, ◌++◌, drop, slice_set, replicate, IfOk};
 ghost use Rattle.par_frame_steps.specs.Marks.{kind_of, kinds_of, frame_of};
-ghost use Rattle.par_frame_steps.specs.Listed.{with_place};
-ghost use Rattle.par_frame_steps.specs.declared.kind.PlaceKind.TheVariants as place;
+ghost use Rattle.par_place_kinds.specs.Listed.{with_place};
+ghost use Rattle.par_place_kinds.specs.declared.kind.PlaceKind.TheVariants as place;
 
 use crate::frame::PlaceFrame;
-use crate::kind::PlaceKind;
 use crate::pile::Pile;
 use par_base::memory::NoMemory;
+use par_place_kinds::PlaceKind;
 use std::alloc::Global;
 
 /// Lists so many kinds more, each of which holds anything.

@@ -8,8 +8,8 @@ ghost use Rattle.par_frame_steps.specs.Marks.{asked_of, also_of, act_of};
 
 use crate::act::{Act, Also, Asked};
 use crate::frame::PlaceFrame;
-use crate::kind::PlaceKind;
 use crate::pile::Pile;
+use par_place_kinds::PlaceKind;
 
 impl Asked<'_> {
     /// Whether each value of a kind is one that is asked for.

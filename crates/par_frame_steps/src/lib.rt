@@ -8,20 +8,14 @@
 pub mod act;
 mod changes;
 mod demands;
-mod different;
-mod few;
 pub mod frame;
-pub mod kind;
-mod lookup;
 mod merges;
 mod outcome;
-mod piece;
 mod pieces;
 pub mod pile;
-mod spelling;
 
 pub use act::{Act, Also, Asked, Flow, Leaves};
 pub use frame::PlaceFrame;
-pub use kind::PlaceKind;
 pub use merges::Merges;
+pub use par_place_kinds::PlaceKind;
 pub use pile::Pile;

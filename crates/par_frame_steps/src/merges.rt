@@ -6,8 +6,8 @@ ghost use Rattle.par_frame_pass_laws.specs.Passes.{merge_all};
 ghost use Rattle.par_frame_steps.specs.Marks.{names, kinds_of};
 ghost use Rattle.par_frame_steps.specs.Merged.{AreMerges};
 
-use crate::piece::Piece;
 use par_base::memory::NoMemory;
+use par_place_kinds::Piece;
 use std::alloc::Global;
 use std::marker::Model;
 

@@ -6,8 +6,8 @@ ghost use Rattle.par_frame_steps.specs.Marks.{frame_of, given, leaves_of, act_of
 
 use crate::act::{Act, Leaves};
 use crate::frame::PlaceFrame;
-use crate::kind::PlaceKind;
 use par_base::memory::NoMemory;
+use par_place_kinds::PlaceKind;
 use std::alloc::Global;
 
 /// Pushes an operand, where it is something.

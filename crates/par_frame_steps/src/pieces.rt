@@ -3,9 +3,8 @@
 ghost use Rattle.std.specs.Prelude.{◌≡◌, ◌<◌, ◌≤◌, [], ◌∷◌, ◌++◌, length, take, slice_set, IfOk};
 ghost use Rattle.std.specs.Prelude.{slice_index_or};
 
-use crate::kind::PlaceKind;
-use crate::piece::Piece;
 use par_base::memory::NoMemory;
+use par_place_kinds::{Piece, PlaceKind};
 use std::alloc::Global;
 use std::marker::Model;
 use std::rc::Rc;
@@ -31,7 +30,7 @@ pub(crate) struct Pieces<'f> {
 impl<'f> Model for Pieces<'f> {
     ghost use Rattle.std.specs.Prelude.{List};
     ghost use Rattle.std.specs.Option.{option_map};
-    ghost use Rattle.par_frame_steps.specs.declared.kind.PlaceKind.{PlaceKind};
+    ghost use Rattle.par_place_kinds.specs.declared.kind.PlaceKind.{PlaceKind};
     ghost use Rattle.par_frame_steps.specs.Piled.{listed};
 
     ghost Value = { List (List PlaceKind) };

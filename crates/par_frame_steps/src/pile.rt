@@ -5,17 +5,15 @@ ghost use Rattle.std.specs.Prelude.{reverse, slice_set, IfOk};
 ghost use Rattle.std.specs.List.{slice_get};
 ghost use Rattle.par_frame_pass_laws.specs.Passes.{all_into, merge_all};
 ghost use Rattle.par_kinds.specs.Kinds.{kind_at};
-ghost use Rattle.par_frame_steps.specs.Listed.{listed_into};
+ghost use Rattle.par_place_kinds.specs.Listed.{listed_into};
 ghost use Rattle.par_frame_steps.specs.Marks.{names, kind_of, kinds_of};
 ghost use Rattle.par_frame_steps.specs.Piled.{joined, AreWhole};
 
-use crate::few::FewKinds;
-use crate::frame::{all_into, copied, listed_into, merged};
-use crate::kind::PlaceKind;
 use crate::merges::Merges;
-use crate::piece::Piece;
 use crate::pieces::Pieces;
 use par_base::memory::NoMemory;
+use par_place_kinds::kinds::{all_into, copied, listed_into, merged};
+use par_place_kinds::{FewKinds, Piece, PlaceKind};
 use std::alloc::Global;
 use std::marker::Model;
 
@@ -94,7 +92,7 @@ pub struct Pile<'f> {
 
 impl<'f> Model for Pile<'f> {
     ghost use Rattle.std.specs.Prelude.{List, ◌++◌};
-    ghost use Rattle.par_frame_steps.specs.declared.kind.PlaceKind.{PlaceKind};
+    ghost use Rattle.par_place_kinds.specs.declared.kind.PlaceKind.{PlaceKind};
     ghost use Rattle.par_frame_steps.specs.Piled.{joined, IsPiled};
 
     ghost Value = { List PlaceKind };

@@ -2,8 +2,8 @@
 
 use crate::small_kind::SmallKind;
 use par_base::memory::NoMemory;
-use par_frame_steps::PlaceKind;
-use par_frame_steps::kind::is_in;
+use par_place_kinds::PlaceKind;
+use par_place_kinds::kind::is_in;
 use std::alloc::Global;
 use std::collections::BTreeMap;
 

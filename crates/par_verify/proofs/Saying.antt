@@ -13,7 +13,7 @@ use Rattle.par_kinds.specs.Linked.{padded}
 use Rattle.par_given_frames.specs.par_frames.Names.{kind_of}
 use Rattle.par_given_frames.specs.par_frames.Given as given
 use Rattle.par_given_frames.specs.par_frames.Given.{on_some}
-use Rattle.par_frame_steps.specs.declared.kind.PlaceKind.{PlaceKind}
+use Rattle.par_frame_steps.specs.par_place_kinds.declared.kind.PlaceKind.{PlaceKind}
 use Rattle.par_frame_steps.specs.Marks.{kinds_of}
 use Rattle.par_frame_steps.specs.Marks.{kind_of as kind_mark}
 use Rattle.par_verify.specs.Said.{kind_in}

@@ -1,5 +1,5 @@
 use Rattle.std.proofs.Common.{◌≡◌, ◌++◌, replicate}
-use Rattle.par_frame_steps.specs.declared.kind.PlaceKind.TheVariants as place
+use Rattle.par_place_kinds.specs.declared.kind.PlaceKind.TheVariants as place
 use Rattle.par_frame_steps.proofs.changes.list.Given as goal
 
 -- so many more are listed

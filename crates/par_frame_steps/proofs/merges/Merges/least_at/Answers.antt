@@ -1,6 +1,6 @@
 use Rattle.std.proofs.Common.{◌∙◌, List, refl, ap, subst, arith}
 use Rattle.par_values.specs.Areas.{Name}
-use Rattle.par_frame_steps.specs.declared.kind.PlaceKind.{PlaceKind}
+use Rattle.par_place_kinds.specs.declared.kind.PlaceKind.{PlaceKind}
 use Rattle.par_frame_steps.specs.Marks.{kinds_of}
 use Rattle.par_frame_steps.specs.Merged.{AreMerges}
 use Rattle.par_frame_steps.proofs.Merged.{kept_least}

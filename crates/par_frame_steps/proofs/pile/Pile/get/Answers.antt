@@ -1,6 +1,6 @@
 use Rattle.std.proofs.Common.{◌≡◌, ℕ, ◌-◌, ◌*◌, ◌%◌, ◌∙◌, List, length, ap}
 use Rattle.std.specs.List.{slice_get}
-use Rattle.par_frame_steps.specs.declared.kind.PlaceKind.{PlaceKind}
+use Rattle.par_place_kinds.specs.declared.kind.PlaceKind.{PlaceKind}
 use Rattle.par_frame_steps.proofs.Piled.{get_piece, get_rest}
 use Rattle.par_frame_steps.proofs.pile.Pile.get.Goals as goal
 

@@ -1,5 +1,5 @@
 use Rattle.std.proofs.Common.{◌≡◌, ◌+◌, ◌*◌, ◌++◌, ◌∙◌, List, length, ap, arith}
-use Rattle.par_frame_steps.specs.declared.kind.PlaceKind.{PlaceKind}
+use Rattle.par_place_kinds.specs.declared.kind.PlaceKind.{PlaceKind}
 use Rattle.par_frame_steps.specs.Piled.{joined}
 use Rattle.par_frame_steps.proofs.Piled.{many_piled}
 use Rattle.par_frame_steps.proofs.pile.Pile.len.Goals as goal

@@ -1,6 +1,6 @@
 use Rattle.std.proofs.Common.{◌≡◌, ◌*◌, drop}
 use Rattle.par_frame_steps.specs.declared.pile.TheConstants.{PIECE}
-use Rattle.par_frame_steps.specs.Listed.{listed_into}
+use Rattle.par_place_kinds.specs.Listed.{listed_into}
 use Rattle.par_frame_steps.specs.Marks.{names, kinds_of}
 use Rattle.par_frame_steps.proofs.pile.Pile.listed_into.Given as goal
 

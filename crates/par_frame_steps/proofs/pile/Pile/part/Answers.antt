@@ -1,5 +1,5 @@
 use Rattle.std.proofs.Common.{◌≡◌, ℕ, ◌*◌, ◌++◌, ◌∙◌, ◌<◌, List, length, take, drop, ap, arith}
-use Rattle.par_frame_steps.specs.declared.kind.PlaceKind.{PlaceKind}
+use Rattle.par_place_kinds.specs.declared.kind.PlaceKind.{PlaceKind}
 use Rattle.par_frame_steps.specs.declared.pile.TheConstants.{PIECE}
 use Rattle.par_frame_steps.specs.Piled.{joined}
 use Rattle.par_frame_steps.proofs.Parts.{part_piece, part_rest, part_none}

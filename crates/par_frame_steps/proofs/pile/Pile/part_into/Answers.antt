@@ -1,7 +1,7 @@
 use Rattle.std.proofs.Common.{◌≡◌, ◌*◌, ◌∙◌, ◌<◌, List, length, take, drop, ap, arith}
-use Rattle.par_frame_steps.specs.declared.kind.PlaceKind.{PlaceKind}
+use Rattle.par_place_kinds.specs.declared.kind.PlaceKind.{PlaceKind}
 use Rattle.par_frame_steps.specs.declared.pile.TheConstants.{PIECE}
-use Rattle.par_frame_steps.specs.Listed.{listed_into}
+use Rattle.par_place_kinds.specs.Listed.{listed_into}
 use Rattle.par_frame_steps.specs.Marks.{names, kinds_of}
 use Rattle.par_frame_steps.proofs.Parts.{part_piece}
 use Rattle.par_frame_steps.proofs.pile.Pile.part_into.Goals as goal

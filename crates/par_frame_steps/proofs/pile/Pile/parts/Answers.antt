@@ -1,5 +1,5 @@
 use Rattle.std.proofs.Common.{◌≡◌, ◌+◌, ◌*◌, ◌∙◌, List, length, ap, sym, arith}
-use Rattle.par_frame_steps.specs.declared.kind.PlaceKind.{PlaceKind}
+use Rattle.par_place_kinds.specs.declared.kind.PlaceKind.{PlaceKind}
 use Rattle.par_frame_steps.specs.declared.pile.TheConstants.{PIECE}
 use Rattle.par_frame_steps.proofs.Piled.{many_piled}
 use Rattle.par_frame_steps.proofs.pile.Pile.parts.Goals as goal

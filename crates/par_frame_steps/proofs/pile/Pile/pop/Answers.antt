@@ -1,6 +1,6 @@
 use Rattle.std.proofs.Common.{◌≡◌, suc, ◌++◌, ◌∙◌, ◌-◌, List, length, take, ap, sym}
 use Rattle.std.proofs.Common.{subst, arith}
-use Rattle.par_frame_steps.specs.declared.kind.PlaceKind.{PlaceKind}
+use Rattle.par_place_kinds.specs.declared.kind.PlaceKind.{PlaceKind}
 use Rattle.par_frame_steps.specs.Piled.{joined, IsPiled}
 use Rattle.par_frame_steps.proofs.Piled.{opened-piled, opened, last_piece}
 use Rattle.par_frame_steps.proofs.pile.Pile.pop.Goals as goal

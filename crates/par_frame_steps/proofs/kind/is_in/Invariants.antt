@@ -1,9 +1,0 @@
-use Rattle.std.proofs.Common.{◌≡◌, drop}
-use Rattle.par_kinds.specs.Kinds.{is_in}
-use Rattle.par_frame_steps.specs.Marks.{names}
-use Rattle.par_frame_steps.proofs.kind.is_in.Given as goal
-
--- what is left decides
-abbrev pub invariant-loop-exception : goal.invariant-loop-exception
-invariant-loop-exception l =
-    is_in (names (drop l.exception-index l.exceptions)) l.name ≡ is_in (names l.exceptions) l.name

@@ -1,0 +1,4 @@
+pub mod Into
+pub mod Lists
+pub mod Numbered
+pub mod Spelled

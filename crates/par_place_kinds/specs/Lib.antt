@@ -1,0 +1,4 @@
+pub mod Listed
+pub mod Marks
+pub mod Numbered
+pub mod Spelled
